@@ -1,0 +1,4 @@
+pub mod Between
+pub mod RunLemmas
+pub mod TickListLemmas
+pub mod UntilLemmas

@@ -1,0 +1,4 @@
+pub mod Operators
+pub mod Runs
+pub mod TickList
+pub mod Ticks

@@ -1,0 +1,22 @@
+-- Ticks are whole numbers. A set of ticks is a test of numbers.
+use Rattle.std.specs.Prelude.{ℕ, ◌+◌, ◌-◌, Bool, ◌&&◌, nat_le, List, filter}
+use Rattle.std.specs.List.{range_with_len, list_any, list_all}
+
+-- whether t is one of lo to hi, both included
+abbrev pub within : ℕ → ℕ → ℕ → Bool
+within lo hi t = nat_le lo t && nat_le t hi
+
+-- the ticks from a up to b, without b
+unfoldable pub between : ℕ → ℕ → List ℕ
+between a b = range_with_len a (b - a)
+
+-- the ticks of lo to hi that pass the test, ascending
+unfoldable pub listed : (ℕ → Bool) → ℕ → ℕ → List ℕ
+listed test lo hi = filter test (between lo (hi + 1))
+
+-- whether some tick of lo to hi passes the test, and whether each does
+unfoldable pub some_in : (ℕ → Bool) → ℕ → ℕ → Bool
+some_in test lo hi = list_any test (between lo (hi + 1))
+
+unfoldable pub all_in : (ℕ → Bool) → ℕ → ℕ → Bool
+all_in test lo hi = list_all test (between lo (hi + 1))
