@@ -1,0 +1,173 @@
+use crate::{Op, Signs, Table, comparisons, key, refusals, reserved_code, symbol, symbols, words};
+
+const OPS: [Op; 6] = [Op::Lt, Op::Le, Op::Eq, Op::Ne, Op::Ge, Op::Gt];
+
+#[test]
+fn every_fixed_text_has_its_place(rt: HostRuntime) {
+    let words = words();
+    let reserved = [
+        ("RETRIEVE", key::RETRIEVE),
+        ("FROM", key::FROM),
+        ("WHERE", key::WHERE),
+        ("TRUE", key::TRUE),
+        ("FALSE", key::FALSE),
+        ("NOT", key::NOT),
+        ("AND", key::AND),
+        ("OR", key::OR),
+        ("UNTIL", key::UNTIL),
+        ("UNTIL_WITHIN", key::UNTIL_WITHIN),
+        ("UNTIL_AFTER", key::UNTIL_AFTER),
+        ("NEXTTIME", key::NEXTTIME),
+        ("EVENTUALLY", key::EVENTUALLY),
+        ("EVENTUALLY_WITHIN", key::EVENTUALLY_WITHIN),
+        ("EVENTUALLY_AFTER", key::EVENTUALLY_AFTER),
+        ("ALWAYS", key::ALWAYS),
+        ("ALWAYS_FOR", key::ALWAYS_FOR),
+        ("INSIDE", key::INSIDE),
+        ("OUTSIDE", key::OUTSIDE),
+        ("DIST", key::DIST),
+        ("WITHIN_SPHERE", key::WITHIN_SPHERE),
+        ("TIME", key::TIME),
+        ("value", key::VALUE),
+        ("updatetime", key::UPDATETIME),
+        ("function", key::FUNCTION),
+        ("class", key::CLASS),
+        ("region", key::REGION),
+        ("insert", key::INSERT),
+        ("update", key::UPDATE),
+        ("remove", key::REMOVE),
+        ("tick", key::TICK),
+        ("ask", key::ASK),
+        ("watch", key::WATCH),
+        ("keep", key::KEEP),
+        ("show", key::SHOW),
+        ("drop", key::DROP),
+        ("list", key::LIST),
+        ("save", key::SAVE),
+        ("import", key::IMPORT),
+        ("export", key::EXPORT),
+        ("quit", key::QUIT),
+        ("point", key::POINT),
+        ("num", key::NUM),
+        ("text", key::TEXT),
+        ("dyn", key::DYN),
+        ("at", key::AT),
+        ("move", key::MOVE),
+        ("rate", key::RATE),
+    ];
+    let mut place: u8 = 0;
+    for (word, code) in reserved {
+        let bytes = word.as_bytes();
+        assert_eq!(rt; code, place, "{word}");
+        assert_eq!(rt; words.code_of(bytes), Some(place), "{word}");
+        assert_eq!(rt; reserved_code(bytes), Some(place), "{word}");
+        assert!(rt; words.word_of(place) == Some(bytes), "{word}");
+        place = place.wrapping_add(1);
+    }
+    assert_eq!(rt; place, 48);
+    for word in [
+        "retrieve",
+        "Rate",
+        "RETRIEV",
+        "RETRIEVED",
+        "ids",
+        "_",
+        "at ",
+        "",
+    ] {
+        assert_eq!(rt; words.code_of(word.as_bytes()), None, "{word}");
+        assert_eq!(rt; reserved_code(word.as_bytes()), None, "{word}");
+    }
+    let symbols = symbols();
+    let signs = [
+        ("(", symbol::OPEN_ROUND),
+        (")", symbol::CLOSE_ROUND),
+        ("[", symbol::OPEN_SQUARE),
+        ("]", symbol::CLOSE_SQUARE),
+        (",", symbol::COMMA),
+        (".", symbol::POINT),
+        ("+", symbol::PLUS),
+        ("-", symbol::MINUS),
+        ("*", symbol::TIMES),
+        ("=", symbol::EQUAL),
+        ("!=", symbol::NOT_EQUAL),
+        ("<=", symbol::AT_MOST),
+        (">=", symbol::AT_LEAST),
+        ("<", symbol::BELOW),
+        (">", symbol::ABOVE),
+        ("<-", symbol::ASSIGN),
+    ];
+    let mut place: u8 = 0;
+    for (sign, code) in signs {
+        assert_eq!(rt; code, place, "{sign}");
+        assert_eq!(rt; symbols.code_of(sign.as_bytes()), Some(code), "{sign}");
+        place = place.wrapping_add(1);
+    }
+    let refusals = refusals();
+    for (name, number) in [
+        ("LineTooLong", 1),
+        ("BadSyntax", 4),
+        ("UnknownName", 7),
+        ("Presence", 14),
+        ("BadFile", 20),
+    ] {
+        assert!(rt; refusals.word_of(number) == Some(name.as_bytes()), "{name}");
+    }
+    assert!(rt; refusals.word_of(0).is_none());
+    assert!(rt; refusals.word_of(21).is_none());
+}
+
+#[test]
+fn a_table_takes_each_row_once(rt: HostRuntime) {
+    let mut table = Table::<2>::new();
+    assert_eq!(rt; table.code_of(b""), None);
+    assert!(rt; table.add(b"", 7));
+    for (word, code) in [("", 8), ("other", 7), ("123456789012345678901", 8)] {
+        assert!(rt; !table.add(word.as_bytes(), code), "{word}");
+    }
+    assert!(rt; table.add(b"12345678901234567890", 255));
+    assert!(rt; !table.add(b"full", 1));
+    assert_eq!(rt; table.code_of(b""), Some(7));
+    assert_eq!(rt; table.code_of(b"12345678901234567890"), Some(255));
+    assert_eq!(rt; table.code_of(b"full"), None);
+    assert!(rt; table.word_of(255) == Some(b"12345678901234567890"));
+    assert!(rt; table.word_of(8).is_none());
+}
+
+#[test]
+fn comparisons_by_the_sign(rt: HostRuntime) {
+    let table = comparisons();
+    let truths = [
+        (true, false, false),
+        (true, true, false),
+        (false, true, false),
+        (true, false, true),
+        (false, true, true),
+        (false, false, true),
+    ];
+    for (op, (negative, none, positive)) in OPS.into_iter().zip(truths) {
+        for (sign, truth) in [(-1, negative), (0, none), (1, positive)] {
+            assert_eq!(rt;
+                table.holds(op.code(), sign),
+                Some(truth),
+                "{op:?} at {sign}"
+            );
+            assert_eq!(rt; op.holds(sign), truth, "{op:?} at {sign}");
+            assert_eq!(rt;
+                op.compares(sign as i128 - 5, -5),
+                truth,
+                "{op:?} at {sign}"
+            );
+        }
+    }
+    assert_eq!(rt; table.holds(6, 0), None);
+    assert!(rt;
+        Signs::new([
+            (3, true, true, true),
+            (4, true, true, true),
+            (3, false, false, false)
+        ])
+        .is_none()
+    );
+    assert!(rt; Signs::new([(3, true, true, true), (4, true, true, true)]).is_some());
+}
