@@ -1,0 +1,6 @@
+pub mod Ring
+pub mod Sizes
+pub mod Convex
+pub mod Halves
+pub mod Extensional
+pub mod Lists

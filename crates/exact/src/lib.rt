@@ -1,0 +1,93 @@
+//! Exact arithmetic on 128-bit signed numbers, one operation a call.
+//!
+//! A nested signed expression leaves a proof with many conversions at once. Code that needs exact products
+//! and sums of 128 bits therefore takes one step a call. Each call says which value it gives and how large
+//! that is, so the premise of the next step follows from the sizes of its parts, by
+//! `grind (arith, steps)` with the set `steps` of `proofs/Sizes.antt`.
+//!
+//! The crate's `proofs/` also has the facts on whole numbers, lists and functions that the crates above
+//! share: equations of polynomials over the integers (`Ring`), sizes of sums and products (`Sizes`),
+//! functions that fall and rise (`Convex`), bisections (`Halves`), tests of lists (`Lists`) and functions
+//! that are equal at each argument (`Extensional`).
+#![tactic(auto)]
+
+ghost use Rattle.std.specs.Prelude.{
+  ◌≡◌,
+  ◌+◌,
+  ◌*◌,
+  ◌^◌,
+  ◌<◌,
+  ◌≤◌,
+  ◌+ℤ◌,
+  ◌-ℤ◌,
+  ◌*ℤ◌,
+  neg_ℤ,
+  unsigned_abs,
+};
+
+/// The product of two numbers, of absolute values whose product is below 2^127.
+#[inline]
+pub fn times(a: i128, b: i128) -> i128
+    requires { unsigned_abs a * unsigned_abs b < 2 ^ 127 }
+    ensures value { result ≡ a *ℤ b }
+    ensures size { unsigned_abs result ≡ unsigned_abs a * unsigned_abs b }
+{
+    a * b
+}
+
+/// The sum of two numbers, of absolute values whose sum is below 2^127.
+#[inline]
+pub fn plus(a: i128, b: i128) -> i128
+    requires { unsigned_abs a + unsigned_abs b < 2 ^ 127 }
+    ensures value { result ≡ a +ℤ b }
+    ensures size { unsigned_abs result ≤ unsigned_abs a + unsigned_abs b }
+{
+    a + b
+}
+
+/// The first number less the second, of absolute values whose sum is below 2^127.
+#[inline]
+pub fn minus(a: i128, b: i128) -> i128
+    requires { unsigned_abs a + unsigned_abs b < 2 ^ 127 }
+    ensures value { result ≡ a -ℤ b }
+    ensures size { unsigned_abs result ≤ unsigned_abs a + unsigned_abs b }
+{
+    a - b
+}
+
+/// The number with the other sign, of an absolute value below 2^127.
+#[inline]
+pub fn negated(a: i128) -> i128
+    requires { unsigned_abs a < 2 ^ 127 }
+    ensures value { result ≡ neg_ℤ a }
+    ensures size { unsigned_abs result ≡ unsigned_abs a }
+{
+    -a
+}
+
+#[cfg(test)]
+mod tests {
+    use super::*;
+    use std::test::Fail;
+
+    #[test]
+    fn each_operation_at_both_signs_and_at_the_limit(rt: HostRuntime) -> Result<(), Fail> {
+        assert_eq!(rt; times(-3, 4), -12);
+        assert_eq!(rt;
+            times(-13043817825332782212, -13043817825332782212),
+            170141183460469231722567801800623612944
+        );
+        assert_eq!(rt; plus(-3, 4), 1);
+        assert_eq!(rt;
+            plus(170141183460469231731687303715884105727, 0),
+            170141183460469231731687303715884105727
+        );
+        assert_eq!(rt; minus(-3, 4), -7);
+        assert_eq!(rt;
+            minus(0, 170141183460469231731687303715884105727),
+            -170141183460469231731687303715884105727
+        );
+        assert_eq!(rt; negated(-7), 7);
+        Ok(())
+    }
+}
