@@ -1,19 +1,8 @@
--- Functions that fall or rise from each number to the next, and so over whole ranges.
-use Rattle.std.proofs.Common.{◌≡◌, ℕ, suc, zero, ◌≤◌, ◌<◌, ⊎_elim, ℤ, ◌≤ℤ◌, ◌<ℤ◌, subst, arith}
+-- What falls or rises from each number to the next does so over whole ranges.
+use Rattle.std.proofs.Common.{◌≡◌, ℕ, suc, zero, ◌+◌, ◌≤◌, ◌<◌, ⊎_elim, ℤ, ◌≤ℤ◌, ◌<ℤ◌, subst, ap, add-one, arith}
 use Rattle.std.proofs.lemmas.Int.{ints}
 use Rattle.std.proofs.lemmas.Bool.{cases_lt}
-
--- f falls, or stays, at each step below n
-abbrev pub FallsTo : (ℕ → ℤ) → ℕ → Type 0
-FallsTo f n = (k : ℕ) → k < n → f (suc k) ≤ℤ f k
-
--- f falls at each step below n, and never stays
-abbrev pub DropsTo : (ℕ → ℤ) → ℕ → Type 0
-DropsTo f n = (k : ℕ) → k < n → f (suc k) <ℤ f k
-
--- f rises, or stays, at each step from m on and below n
-abbrev pub RisesIn : (ℕ → ℤ) → ℕ → ℕ → Type 0
-RisesIn f m n = (k : ℕ) → m ≤ k → k < n → f k ≤ℤ f (suc k)
+use Rattle.exact.specs.Rising.{FallsTo, DropsTo, RisesIn}
 
 at_most_itself : (f : ℕ → ℤ) (i j : ℕ) → i ≡ j → f j ≤ℤ f i
 at_most_itself f i j e = let P : ℕ → Type 0 = λ k. f k ≤ℤ f i in subst P e (omega (arith, ints))
@@ -21,6 +10,7 @@ at_most_itself f i j e = let P : ℕ → Type 0 = λ k. f k ≤ℤ f i in subst 
 pub falls : (f : ℕ → ℤ) (n : ℕ) → FallsTo f n → (i j : ℕ) → i ≤ j → j ≤ n → f j ≤ℤ f i
 falls f n h i zero p q = at_most_itself f i zero (omega arith)
 falls f n h i (suc j) p q =
+    let next = ap f (add-one j) in
     ⊎_elim
     (λ (l : i < suc j). let rest = falls f n h i j (omega arith) (omega arith) in let step = h j (omega arith) in omega (arith, ints))
     (λ (l : suc j ≤ i). at_most_itself f i (suc j) (omega arith))
@@ -29,14 +19,19 @@ falls f n h i (suc j) p q =
 pub rises : (f : ℕ → ℤ) (m n : ℕ) → RisesIn f m n → (i j : ℕ) → m ≤ i → i ≤ j → j ≤ n → f i ≤ℤ f j
 rises f m n h i zero l p q = at_most_itself f zero i (omega arith)
 rises f m n h i (suc j) l p q =
+    let next = ap f (add-one j) in
     ⊎_elim
     (λ (k : i < suc j). let rest = rises f m n h i j l (omega arith) (omega arith) in let step = h j (omega arith) (omega arith) in omega (arith, ints))
     (λ (k : suc j ≤ i). at_most_itself f (suc j) i (omega arith))
     (cases_lt i (suc j))
 
-weaker : (f : ℕ → ℤ) (n : ℕ) → DropsTo f n → FallsTo f n
-weaker f n h k l = let step = h k l in omega (arith, ints)
+pub FallsTo-drops : (f : ℕ → ℤ) (n : ℕ) → DropsTo f n → FallsTo f n
+FallsTo-drops f n h k l = let step = h k l in omega (arith, ints)
 
 pub drops : (f : ℕ → ℤ) (n : ℕ) → DropsTo f n → (i j : ℕ) → i < j → j ≤ n → f j <ℤ f i
 drops f n h i zero p q = absurd (omega arith)
-drops f n h i (suc j) p q = let rest = falls f n (weaker f n h) i j (omega arith) (omega arith) in let step = h j (omega arith) in omega (arith, ints)
+drops f n h i (suc j) p q =
+    let next = ap f (add-one j) in
+    let rest = falls f n (FallsTo-drops f n h) i j (omega arith) (omega arith) in
+    let step = h j (omega arith) in
+    omega (arith, ints)
