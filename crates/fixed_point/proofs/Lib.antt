@@ -1,1 +1,4 @@
+pub mod CanonicalLemmas
+pub mod DecimalLemmas
+pub mod DigitLemmas
 pub mod PaddedBytes

@@ -1,1 +1,4 @@
+pub mod Canonical
+pub mod Decimal
+pub mod Laws
 pub mod Padded

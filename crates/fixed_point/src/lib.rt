@@ -4,10 +4,16 @@
 //! call of this crate takes memory.
 #![tactic(auto)]
 
+pub mod laws;
 mod number;
+mod number_text;
+mod reading;
 mod short_text;
+#[cfg(test)]
+mod tests;
 mod variants;
 
-pub use number::{FIX_LIMIT, Fix, Point, SLOPE_LIMIT, Slope};
+pub use number::{FIX_LIMIT, Fix, Point, READ_LIMIT, SLOPE_LIMIT, Slope};
+pub use number_text::{FIX_TEXT_LIMIT, FixText};
 pub use short_text::{WORD_LIMIT, Word};
 pub use variants::{BoundForm, SubName, UntilForm};

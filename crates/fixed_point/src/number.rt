@@ -1,10 +1,18 @@
 //! Numbers with three decimals, slopes and points.
-ghost use Rattle.std.specs.Prelude.{◌≡◌, ◌≤◌, ◌^◌, unsigned_abs, SomeIff};
+ghost use Rattle.std.specs.Prelude.{◌≡◌, ◌≤◌, unsigned_abs, IfSome, SomeIff};
+ghost use Rattle.fixed_point.specs.Decimal.{thousandths_of};
+ghost use Rattle.fixed_point.specs.Canonical.{fix_text};
 
+use crate::number_text::FixText;
+use crate::reading::read_thousandths;
+use itoa::Buffer;
 use std::marker::Model;
 
 /// The largest size of a `Fix`, in thousandths.
 pub const FIX_LIMIT: u64 = 1_000_000_000_000_000_000;
+
+/// The largest size of a `Fix` that is read from a text, in thousandths.
+pub const READ_LIMIT: u64 = 1_000_000_000_000;
 
 /// The largest size of a `Slope`, in thousandths per tick.
 pub const SLOPE_LIMIT: u64 = 1_000_000;
@@ -49,6 +57,31 @@ impl Fix {
     {
         self.thousandths
     }
+
+    /// The number that the text writes: a `-` or none, from one to ten digits, and a point with from
+    /// one to three decimals or none, as in `-0.5`. None exactly where the text has another form, or
+    /// the number is not within 10^12 thousandths of 0. Zeros in front are allowed, and `-0` is 0.
+    pub fn read(text: &[u8]) -> Option<Fix>
+        ensures value { result ≡ thousandths_of READ_LIMIT text.now }
+        ensures in_range { IfSome result (λ number. unsigned_abs number ≤ READ_LIMIT) }
+    {
+        let thousandths = read_thousandths(text, READ_LIMIT)?;
+        Some(Fix { thousandths })
+    }
+
+    /// The canonical text: a `-` where the number is negative, the whole part without zeros in front,
+    /// and a point with the decimals without zeros at their end where they are not all zeros. `0`,
+    /// `-0.5`, `3.4` and `1000000000` are such texts.
+    #[tactic(auto, using(crate::proofs::CanonicalLemmas::room_for_decimals), unfolding(crate::specs::Canonical::fix_text))]
+    pub fn print(self) -> FixText
+        ensures { result ≡ fix_text self }
+    {
+        let size = self.thousandths.unsigned_abs();
+        let mut text = FixText::of_sign(self.thousandths < 0);
+        text.append(Buffer::new().format(size / 1000).as_bytes());
+        text.append_decimals(size % 1000);
+        text
+    }
 }
 
 /// A change per tick: a count of thousandths per tick from -10^6 to 10^6.
@@ -92,6 +125,16 @@ impl Slope {
         ensures in_range { unsigned_abs self ≤ SLOPE_LIMIT }
     {
         self.thousandths as i64
+    }
+
+    /// The slope that the text writes, in the form of a `Fix`. None exactly where the text has another
+    /// form, or the slope is not within 10^6 thousandths per tick of 0.
+    pub fn read(text: &[u8]) -> Option<Slope>
+        ensures value { result ≡ thousandths_of SLOPE_LIMIT text.now }
+        ensures in_range { IfSome result (λ slope. unsigned_abs slope ≤ SLOPE_LIMIT) }
+    {
+        let thousandths = read_thousandths(text, SLOPE_LIMIT)? as i32;
+        Some(Slope { thousandths })
     }
 }
 

@@ -11,7 +11,8 @@ use std::marker::Model;
 /// The most bytes of a `Word`.
 pub const WORD_LIMIT: usize = 32;
 
-/// A name or a text of at most 32 bytes, which lie in the value itself.
+/// A name or a text of at most 32 bytes, which lie in the value itself. A contract sees it as the list
+/// of its bytes, and two words are equal exactly where these lists are.
 #[derive(Clone, Copy, Debug)]
 pub struct Word {
     // Those past the length are 0, so that a word has one form alone.
@@ -22,16 +23,17 @@ pub struct Word {
 impl Model for Word {
     ghost use Rattle.std.specs.Prelude.{List, ℕ, length};
     ghost use Rattle.fixed_point.specs.Padded.{front, IsPadded, padded, length-front, padded-front};
+    ghost use Rattle.fixed_point.specs.declared.short_text.TheConstants.{WORD_LIMIT};
 
     ghost Value = { List ℕ };
 
     ghost view = { λ a. front a.bytes a.len };
 
-    ghost invariant = { λ a. IsPadded a.bytes a.len };
+    ghost invariant = { λ a. IsPadded WORD_LIMIT a.bytes a.len };
 
-    ghost inverse = { λ text. record { bytes = padded text; len = length text } };
+    ghost inverse = { λ text. record { bytes = padded WORD_LIMIT text; len = length text } };
 
-    ghost inverse_ok = { λ a h i. record { bytes = padded-front a.bytes a.len h i; len = length-front a.bytes a.len h i } };
+    ghost inverse_ok = { λ a h i. record { bytes = padded-front WORD_LIMIT a.bytes a.len h i; len = length-front WORD_LIMIT a.bytes a.len h i } };
 }
 
 impl Word {

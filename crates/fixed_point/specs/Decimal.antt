@@ -1,0 +1,68 @@
+-- Numbers as they are written, with up to three decimals, and the thousandths that they stand for. The byte 45 is `-`, and 46 is the point.
+use Rattle.std.specs.Prelude.{◌≡◌, ℕ, ◌+◌, ◌-◌, ◌*◌, ◌^◌, ◌≤◌, Bool, ◌&&◌, ◌==◌, nat_le, if◌then◌else◌, List, [], ◌∷◌, ◌++◌, length, take, drop, slice_index, Option, Some, None, ℤ, pos, neg_ℤ}
+use Rattle.std.specs.Char.{is_ascii_digit}
+use Rattle.std.specs.List.{prefix_len}
+use Rattle.std.specs.Str.Parse.{AllDigits, digits_value}
+use Rattle.std.specs.Fmt.{sign_text}
+
+infixl 10 ◌>>=◌
+abbrev pub ◌>>=◌ : {A B : Type 0} → Option A → (A → Option B) → Option B
+None >>= f = None
+(Some x) >>= f = f x
+
+-- the digits at the front and what follows them, if there are from one to `most` digits
+abbrev pub digits_at : ℕ → List ℕ → Option (List ℕ × List ℕ)
+digits_at most text =
+    let count = prefix_len is_ascii_digit text in
+    if nat_le 1 count && nat_le count most then Some (take count text, drop count text) else None
+
+-- the thousandths that up to three digits behind a point stand for: `5` is 500, and `05` is 50
+abbrev pub decimals_value : List ℕ → ℕ
+decimals_value digits = digits_value 10 digits * 10 ^ (3 - length digits)
+
+-- the thousandths that stand behind the whole part: nothing, or a point and from one to three digits
+unfoldable pub decimals_of : List ℕ → Option ℕ
+decimals_of [] = Some 0
+decimals_of (byte ∷ rest) = do
+  decimals ← if byte == 46 then digits_at 3 rest else None
+  if length decimals.1 == 0 then Some (decimals_value decimals.0) else None
+
+-- the thousandths of a number without a sign
+unfoldable pub size_of : List ℕ → Option ℕ
+size_of text = do
+  whole ← digits_at 10 text
+  decimals ← decimals_of whole.1
+  Some (1000 * digits_value 10 whole.0 + decimals)
+
+-- a size with its sign
+abbrev pub with_sign : Bool → ℕ → ℤ
+with_sign negative size = if negative then neg_ℤ (pos size) else pos size
+
+-- the thousandths of a number, if they are within `limit` of 0
+unfoldable pub thousandths_of : ℕ → List ℕ → Option ℤ
+thousandths_of limit text =
+    let negative = slice_index text 0 == 45 in
+    do
+      size ← size_of (if negative then drop 1 text else text)
+      if nat_le size limit then Some (with_sign negative size) else None
+
+-- from `least` to `most` digits
+pub record AreDigits (least most : ℕ) (text : List ℕ) : Type 0 where
+  pub digits : AllDigits 10 text
+  pub enough : least ≤ length text
+  pub few : length text ≤ most
+
+-- a point and the decimals, or nothing where there are none
+abbrev pub point_text : List ℕ → List ℕ
+point_text [] = []
+point_text (digit ∷ digits) = 46 ∷ digit ∷ digits
+
+-- The text is a number: a sign or none, from one to ten digits, and a point with from one to three decimals, or none.
+pub record IsDecimal (text : List ℕ) (value : ℤ) : Type 0 where
+  pub negative : Bool
+  pub whole : List ℕ
+  pub decimals : List ℕ
+  pub whole_digits : AreDigits 1 10 whole
+  pub decimal_digits : AreDigits 0 3 decimals
+  pub spelled : text ≡ sign_text negative ++ whole ++ point_text decimals
+  pub valued : value ≡ with_sign negative (1000 * digits_value 10 whole + decimals_value decimals)
