@@ -1,0 +1,72 @@
+-- The effect of one write on the cells of an object.
+use Rattle.std.specs.Prelude.{ℕ, ℤ, pos, ◌≤◌, unsigned_abs, Option, None, Some, List, [], ◌∷◌, ◌++◌, codes, if◌then◌else◌}
+use Rattle.std.specs.List.{fold}
+use Rattle.std.specs.Str.{bytes_eq}
+use Rattle.motion.specs.Function.{Function, level}
+use Rattle.motion.specs.Dynamic.{moved, turned, begun}
+use Rattle.fixed_point.specs.declared.number.Point.{Point}
+use Rattle.motion.specs.declared.vector.TheConstants.{GIVEN_LIMIT}
+use Rattle.motion.specs.declared.cell.AttrKind.{AttrKind}
+use Rattle.motion.specs.declared.cell.Cell.{Cell}
+use Rattle.motion.specs.declared.cell.Given.{Given}
+use Rattle.motion.specs.declared.cell.NamedSet.{NamedSet}
+use Rattle.motion.specs.declared.cell.Place.{Place}
+use Rattle.motion.specs.declared.cell.AttrKind.TheVariants as kinds
+use Rattle.motion.specs.declared.cell.Cell.TheVariants as cells
+use Rattle.motion.specs.declared.cell.Given.TheVariants as givens
+
+-- the cell of a kind that an insert at tick s begins with: 0, the empty text, or at rest at 0
+abbrev pub fresh : ℕ → AttrKind → Cell
+fresh s kinds.Num = cells.Num (pos 0)
+fresh s kinds.Text = cells.Text []
+fresh s kinds.Dyn = cells.Dyn (begun s (pos 0) level)
+
+-- the cell after a write at tick s; what doesn't fit its kind leaves it
+abbrev pub written : ℕ → Cell → Given → Cell
+written s (cells.Num n) (givens.Num new) = cells.Num new
+written s (cells.Text w) (givens.Text new) = cells.Text new
+written s (cells.Dyn v) (givens.Num n) = cells.Dyn (moved s v n)
+written s (cells.Dyn v) (givens.Rate f) = cells.Dyn (turned s v f)
+written s (cells.Dyn v) (givens.Both n f) = cells.Dyn (begun s n f)
+written s cell given = cell
+
+-- the cells after a write to the first attribute of a name, the names in the order of the cells
+abbrev pub set_named : ℕ → List (List ℕ) → List Cell → NamedSet → List Cell
+set_named s [] cells set = cells
+set_named s (name ∷ names) [] set = []
+set_named s (name ∷ names) (cell ∷ cells) set =
+    if bytes_eq name set.name then (written s cell set.given ∷ cells) else (cell ∷ set_named s names cells set)
+
+-- what a place gives for x and y: `at` their values, `move` their legs
+abbrev pub coordinate_sets : List ℕ → Option ℤ → Option Function → List NamedSet
+coordinate_sets name None None = []
+coordinate_sets name (Some n) None = record { name = name; given = givens.Num n } ∷ []
+coordinate_sets name None (Some f) = record { name = name; given = givens.Rate f } ∷ []
+coordinate_sets name (Some n) (Some f) = record { name = name; given = givens.Both n f } ∷ []
+
+abbrev pub place_sets_of : Option Point → Option (Function × Function) → List NamedSet
+place_sets_of None None = []
+place_sets_of (Some p) None = coordinate_sets (codes "x") (Some p.x) None ++ coordinate_sets (codes "y") (Some p.y) None
+place_sets_of None (Some m) = coordinate_sets (codes "x") None (Some m.0) ++ coordinate_sets (codes "y") None (Some m.1)
+place_sets_of (Some p) (Some m) =
+    coordinate_sets (codes "x") (Some p.x) (Some m.0) ++ coordinate_sets (codes "y") (Some p.y) (Some m.1)
+
+abbrev pub place_sets : Place → List NamedSet
+place_sets place = place_sets_of place.at place.moving
+
+-- the cells after a command's writes at tick s, first those of its place and then its settings in their order
+abbrev pub cells_after : ℕ → List (List ℕ) → List Cell → Place → List NamedSet → List Cell
+cells_after s names cells place sets = fold (set_named s names) cells (place_sets place ++ sets)
+
+-- the last write to the cell was at tick s or before
+abbrev pub IsWritten : Cell → ℕ → Type 0
+IsWritten (cells.Num n) s = Unit {0}
+IsWritten (cells.Text w) s = Unit {0}
+IsWritten (cells.Dyn v) s = v.updatetime ≤ s
+
+-- a number that a command gives is within 10^12 thousandths
+abbrev pub IsGiven : Given → Type 0
+IsGiven (givens.Num n) = unsigned_abs n ≤ GIVEN_LIMIT
+IsGiven (givens.Text w) = Unit {0}
+IsGiven (givens.Rate f) = Unit {0}
+IsGiven (givens.Both n f) = unsigned_abs n ≤ GIVEN_LIMIT

@@ -1,0 +1,4 @@
+pub mod Function
+pub mod Padding
+pub mod Dynamic
+pub mod Cells
