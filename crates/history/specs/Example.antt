@@ -1,0 +1,56 @@
+-- A small history, worked out by hand.
+use Rattle.std.specs.Prelude.{◌≡◌, ℕ, pos, negsuc, true, false, Option, None, Some, List, [], ◌∷◌, codes}
+use Rattle.motion.specs.Function.{Function, level}
+use Rattle.motion.specs.Dynamic.{Dynamic}
+use Rattle.motion.specs.declared.cell.Cell.{Cell}
+use Rattle.motion.specs.declared.cell.Cell.TheVariants as cells
+use Rattle.motion.specs.declared.cell.Given.TheVariants as givens
+use Rattle.motion.specs.declared.cell.AttrKind.TheVariants as kinds
+use Rattle.motion.specs.declared.cell.Place.{Place}
+use Rattle.history.specs.Write.{Write, Class, Insert, Update, Remove}
+use Rattle.history.specs.Catalog.{catalog, names}
+use Rattle.history.specs.State.{state}
+
+abbrev pub nowhere : Place
+nowhere = record { at = None; moving = None }
+
+abbrev pub falling : Function
+falling = record { firsts = []; last = negsuc 499 }
+
+-- a tank whose fuel falls, is filled at tick 4 by two updates, is removed at 6, and comes again at 8
+abbrev pub tank_writes : List Write
+tank_writes =
+    Class (codes "tank") 9 false (record { name = codes "fuel"; kind = kinds.Dyn } ∷ [])
+    ∷ Insert 0 (codes "tank") (codes "a") nowhere (record { name = codes "fuel"; given = givens.Both (pos 10000) falling } ∷ [])
+    ∷ Update 4 (codes "a") nowhere (record { name = codes "fuel"; given = givens.Num (pos 50000) } ∷ [])
+    ∷ Update 4 (codes "a") nowhere (record { name = codes "fuel"; given = givens.Num (pos 100000) } ∷ [])
+    ∷ Remove 6 (codes "a")
+    ∷ Insert 8 (codes "tank") (codes "a") nowhere []
+    ∷ []
+
+abbrev pub fuel_at : ℕ → Option (List Cell)
+fuel_at t = state tank_writes (codes "a") t
+
+abbrev pub fuel : Dynamic → Option (List Cell)
+fuel v = Some (cells.Dyn v ∷ [])
+
+-- the states of its ticks, one for each stretch between two writes
+pub record TellsTheTank : Type 0 where
+  pub inserted : fuel_at 3 ≡ fuel (record { value = pos 10000; updatetime = 0; function = falling })
+  pub last_of_the_tick : fuel_at 4 ≡ fuel (record { value = pos 100000; updatetime = 4; function = falling })
+  pub removed : fuel_at 7 ≡ None
+  pub again : fuel_at 8 ≡ fuel (record { value = pos 0; updatetime = 8; function = level })
+  pub stranger : state tank_writes (codes "b") 3 ≡ None
+  pub named_once : names (catalog tank_writes) (codes "tank") ≡ codes "a" ∷ []
+
+-- a point object that is moved: `at` sets where it is, `move` its legs
+abbrev pub car_writes : List Write
+car_writes =
+    Class (codes "car") 100 true []
+    ∷ Insert 0 (codes "car") (codes "c") (record { at = Some (record { x = pos 3000; y = pos 0 }); moving = None }) []
+    ∷ Update 2 (codes "c") (record { at = None; moving = Some (falling, level) }) []
+    ∷ []
+
+pub record TellsTheCar : Type 0 where
+  pub stands : state car_writes (codes "c") 1 ≡ Some (cells.Dyn (record { value = pos 3000; updatetime = 0; function = level }) ∷ cells.Dyn (record { value = pos 0; updatetime = 0; function = level }) ∷ [])
+  pub moves : state car_writes (codes "c") 2 ≡ Some (cells.Dyn (record { value = pos 3000; updatetime = 2; function = falling }) ∷ cells.Dyn (record { value = pos 0; updatetime = 2; function = level }) ∷ [])

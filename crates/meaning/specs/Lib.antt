@@ -1,0 +1,4 @@
+pub mod Value
+pub mod Satisfaction
+pub mod Answer
+pub mod Example
