@@ -1,10 +1,22 @@
 -- Lists of ticks that ascend.
-use Rattle.std.proofs.Common.{◌≡◌, ℕ, ◌+◌, ◌<◌, ◌≤◌, true, ◌||◌, eqb, List, [], ◌∷◌, ◌++◌, arith}
-use Rattle.std.proofs.lemmas.Bool.{or_right}
+use Rattle.std.proofs.Common.{sym, ◌≡◌, ℕ, ◌+◌, ◌<◌, ◌≤◌, true, false, refl, ◌&&◌, ◌||◌, eqb, ltb, length, List, [], ◌∷◌, ◌++◌, ap, ◌∙◌, inl, inr, zero, suc, get_or, Result, Ok, Err, is_ok, IsTrue, ◌↔◌, arith}
+use Rattle.std.proofs.lemmas.Bool.{false≢true, or_right, or_cases, or_from, eqb-true, ne_eqb, cases_eq, cases_lt, cases_order}
 use Rattle.std.proofs.lemmas.Bool.Decides.{nat_tests}
 use Rattle.std.proofs.lemmas.Grind.{common_steps}
 use Rattle.std.proofs.lemmas.List.Folds.{list_any-append}
-use Rattle.tick_set.specs.TickList.{has, IsAscendingFrom}
+use Rattle.std.proofs.lemmas.List.Sorted.{searched}
+use Rattle.std.specs.List.Sorted.{IsBinarySearchResult}
+use Rattle.std.specs.Ordering.{nat_cmp}
+use Rattle.std.specs.Cmp.Lexicographic.{pointwise, bytes_decides}
+use Rattle.tick_set.proofs.Between.{within_parts, within_from}
+use Rattle.tick_set.proofs.RunLemmas.{IsNormalFrom-push, spans_have-append}
+use Rattle.tick_set.specs.declared.operation.SetOperation.{SetOperation}
+use Rattle.tick_set.specs.declared.operation.SetOperation.TheVariants.{Union, Meet, Without}
+use Rattle.tick_set.specs.declared.spans.Span.{Span}
+use Rattle.tick_set.specs.TickList.{has, IsAscending, IsAscendingFrom}
+use Rattle.tick_set.specs.SetOperation.{kept}
+use Rattle.tick_set.specs.Runs.{spans_have, IsNormal}
+use Rattle.tick_set.specs.Ticks.{within}
 
 pub IsAscendingFrom-push : (ticks : List ℕ) (from t : ℕ) → IsAscendingFrom from ticks → ((u : ℕ) → has ticks u ≡ true → u < t) → from ≤ t → t ≤ 1000000000 → IsAscendingFrom from (ticks ++ t ∷ [])
 IsAscendingFrom-push [] from t h above at_least in_range = (at_least, in_range, tt)
@@ -14,3 +26,220 @@ IsAscendingFrom-push (x ∷ ticks) from t h above at_least in_range =
 
 pub has-push : (ticks : List ℕ) (t u : ℕ) → has (ticks ++ t ∷ []) u ≡ (has ticks u || eqb t u)
 has-push ticks t u = grind (arith, common_steps, list_any-append (λ x. eqb x u) ticks (t ∷ []))
+
+-- no tick of the list is below its start
+pub has_below : (ticks : List ℕ) (from u : ℕ) → IsAscendingFrom from ticks → u < from → has ticks u ≡ false
+has_below [] from u h below = refl
+has_below (x ∷ ticks) from u h below = grind (arith, nat_tests, h.0, has_below ticks (x + 1) u h.2)
+
+pub has_in_range : (ticks : List ℕ) (from u : ℕ) → IsAscendingFrom from ticks → has ticks u ≡ true → u ≤ 1000000000
+has_in_range [] from u h e = absurd (false≢true e)
+has_in_range (x ∷ ticks) from u h e = grind (arith, nat_tests, h.1, has_in_range ticks (x + 1) u h.2)
+
+-- where the list begins with t, the ticks behind it are those above t
+pub has_behind : (ticks later : List ℕ) (t u : ℕ) → ticks ≡ t ∷ later → IsAscendingFrom t ticks → has later u ≡ (ltb t u && has ticks u)
+has_behind ticks later t u e h = rw e (grind (arith, nat_tests, has_below later (t + 1) u (rw e at h).2))
+
+-- where it begins with another tick, t is not there
+pub has_not_taken : (ticks later : List ℕ) (t x : ℕ) → ticks ≡ x ∷ later → (x ≡ t → ⊥) → IsAscendingFrom t ticks → (false ≡ has ticks t) × ((u : ℕ) → has ticks u ≡ (ltb t u && has ticks u))
+has_not_taken ticks later t x e ne h =
+    let h' = rw e at h in
+    let begins : IsAscendingFrom (t + 1) (x ∷ later) = (omega (arith, h'.0), h'.1, h'.2) in
+    rw e (sym (has_below (x ∷ later) (t + 1) t begins (omega arith)), λ u. grind (arith, nat_tests, has_below (x ∷ later) (t + 1) u begins))
+
+-- what is settled of the run from first on, with the ticks later behind first: it reaches hi, and rest is left
+pub record RunSoFar (first : ℕ) (later : List ℕ) (hi : ℕ) (rest : List ℕ) : Type 0 where
+  pub ordered : first ≤ hi
+  pub in_range : hi ≤ 1000000000
+  pub ascending : IsAscendingFrom (hi + 1) rest
+  pub ticks : (u : ℕ) → (eqb first u || has later u) ≡ (within first hi u || has rest u)
+  pub len : length rest ≤ length later
+
+-- the ticks of two lists that are settled are in made, and the rest of both is left
+pub record MergedSoFar (operation : SetOperation) (first second made front behind : List ℕ) : Type 0 where
+  pub ascending : IsAscending front × IsAscending behind
+  pub apart : (u v : ℕ) → has made u ≡ true → (has front v || has behind v) ≡ true → u < v
+  pub ticks : (u : ℕ) → kept operation (has first u) (has second u) ≡ (has made u || kept operation (has front u) (has behind u))
+
+-- the ticks of a list that are settled are in made, if they are within lo to hi, and the rest is left
+pub record ClippedSoFar (lo hi : ℕ) (ticks made rest : List ℕ) : Type 0 where
+  pub ascending : IsAscending rest
+  pub apart : (u v : ℕ) → has made u ≡ true → has rest v ≡ true → u < v
+  pub clipped : (u : ℕ) → (within lo hi u && has ticks u) ≡ (has made u || (within lo hi u && has rest u))
+
+-- the ticks of a list that are settled are in spans, and the rest is left
+pub record RunsSoFar (ticks : List ℕ) (spans : List Span) (rest : List ℕ) : Type 0 where
+  pub ascending : IsAscending rest
+  pub normal : IsNormal spans
+  pub apart : (u v : ℕ) → spans_have spans u ≡ true → has rest v ≡ true → u + 2 ≤ v
+  pub all : (u : ℕ) → has ticks u ≡ (spans_have spans u || has rest u)
+
+IsAscendingFrom-weaker : (from low : ℕ) (ticks : List ℕ) → low ≤ from → IsAscendingFrom from ticks → IsAscendingFrom low ticks
+IsAscendingFrom-weaker from low [] l h = tt
+IsAscendingFrom-weaker from low (x ∷ ticks) l h = (omega (arith, h.0), h.1, h.2)
+
+-- later has the ticks of the list above t
+pub record IsAfter (t : ℕ) (ticks later : List ℕ) : Type 0 where
+  pub begins : IsAscendingFrom t ticks
+  pub ascending : IsAscendingFrom (t + 1) later
+  pub others : (u : ℕ) → has later u ≡ (ltb t u && has ticks u)
+
+kept_none : (operation : SetOperation) → kept operation false false ≡ false
+kept_none Union = refl
+kept_none Meet = refl
+kept_none Without = refl
+
+gone : (t : ℕ) (ticks later : List ℕ) → IsAfter t ticks later → has later t ≡ false
+gone t ticks later h = grind (arith, nat_tests, h.others t)
+
+kept_elsewhere : (t : ℕ) (ticks later : List ℕ) → IsAfter t ticks later → (u : ℕ) → (u ≡ t → ⊥) → has later u ≡ has ticks u
+kept_elsewhere t ticks later h u ne = grind (arith, nat_tests, h.others u, has_below ticks t u h.begins)
+
+module _ (operation : SetOperation) (first second made front behind : List ℕ) (t : ℕ) (later_first later_second : List ℕ)
+    (so_far : MergedSoFar operation first second made front behind) (in_first : IsAfter t front later_first) (in_second : IsAfter t behind later_second) where
+  ascending_later : IsAscending later_first × IsAscending later_second
+  ascending_later = (IsAscendingFrom-weaker (t + 1) 0 later_first (omega arith) in_first.ascending, IsAscendingFrom-weaker (t + 1) 0 later_second (omega arith) in_second.ascending)
+
+  pub merged_drops : kept operation (has front t) (has behind t) ≡ false → MergedSoFar operation first second made later_first later_second
+  merged_drops e = record {
+    ascending = ascending_later;
+    apart = λ u v h k. so_far.apart u v h (grind (arith, in_first.others v, in_second.others v));
+    ticks = λ u. so_far.ticks u ∙ ap (λ x. has made u || x) (elim (cases_eq u t) [
+      | inl here ↦ rw here (grind (arith, kept_none operation, gone t front later_first in_first, gone t behind later_second in_second))
+      | inr other ↦ rw (kept_elsewhere t front later_first in_first u other, kept_elsewhere t behind later_second in_second u other)
+    ]);
+  }
+
+  pub merged_keeps : (made' : List ℕ) → ((u : ℕ) → has made' u ≡ (has made u || eqb t u)) → kept operation (has front t) (has behind t) ≡ true → MergedSoFar operation first second made' later_first later_second
+  merged_keeps made' m e = record {
+    ascending = ascending_later;
+    apart = λ u v h k. grind (arith, nat_tests, so_far.apart u v, in_first.others v, in_second.others v, m u);
+    ticks = λ u. so_far.ticks u ∙ elim (cases_eq u t) [
+      | inl here ↦ rw here (grind (arith, nat_tests, m t))
+      | inr other ↦ rw (kept_elsewhere t front later_first in_first u other, kept_elsewhere t behind later_second in_second u other) (grind (arith, nat_tests, m u))
+    ];
+  }
+
+-- a list that begins with t
+pub is_after_first : (ticks later : List ℕ) (t : ℕ) → ticks ≡ t ∷ later → IsAscending ticks → IsAfter t ticks later
+is_after_first ticks later t e h =
+    let h' = rw e at h in
+    let begins : IsAscendingFrom t (t ∷ later) = (omega arith, h'.1, h'.2) in
+    record { begins = rw e begins; ascending = h'.2; others = λ u. has_behind ticks later t u e (rw e begins) }
+
+module _ (lo hi : ℕ) (ticks made rest later : List ℕ) (t : ℕ) (so_far : ClippedSoFar lo hi ticks made rest) (first : rest ≡ t ∷ later) where
+  after : IsAfter t rest later
+  after = is_after_first rest later t first so_far.ascending
+
+  pub clipped_drops : within lo hi t ≡ false → ClippedSoFar lo hi ticks made later
+  clipped_drops e = record {
+    ascending = IsAscendingFrom-weaker (t + 1) 0 later (omega arith) after.ascending;
+    apart = λ u v h k. so_far.apart u v h (grind (arith, after.others v));
+    clipped = λ u. so_far.clipped u ∙ elim (cases_eq u t) [
+      | inl here ↦ rw here (grind (arith, e))
+      | inr other ↦ rw (kept_elsewhere t rest later after u other)
+    ];
+  }
+
+  pub clipped_keeps : (made' : List ℕ) → ((u : ℕ) → has made' u ≡ (has made u || eqb t u)) → within lo hi t ≡ true → ClippedSoFar lo hi ticks made' later
+  clipped_keeps made' m e = record {
+    ascending = IsAscendingFrom-weaker (t + 1) 0 later (omega arith) after.ascending;
+    apart = λ u v h k. grind (arith, nat_tests, so_far.apart u v, after.others v, m u);
+    clipped = λ u. so_far.clipped u ∙ elim (cases_eq u t) [
+      | inl here ↦ rw (here, first) (grind (arith, nat_tests, m t, e))
+      | inr other ↦ rw (kept_elsewhere t rest later after u other) (grind (arith, nat_tests, m u))
+    ];
+  }
+
+module _ (ticks : List ℕ) (spans : List Span) (rest : List ℕ) (s : Span) (after : List ℕ) (so_far : RunsSoFar ticks spans rest)
+    (begins : IsAscendingFrom (s.hi + 2) after) (members : (u : ℕ) → has rest u ≡ (within s.lo s.hi u || has after u)) where
+  first_in_rest : has rest s.lo ≡ true
+  first_in_rest = let order : s.lo ≤ s.hi = s.ordered in grind (arith, members s.lo, within_from s.lo s.hi s.lo)
+
+  apart_run : (u v : ℕ) → within s.lo s.hi u ≡ true → has after v ≡ true → u + 2 ≤ v
+  apart_run u v h k =
+      elim (cases_lt v (s.hi + 2)) [
+        | inl below ↦ absurd (false≢true (sym (has_below after (s.hi + 2) v begins below) ∙ k))
+        | inr at_least ↦ omega (arith, within_parts s.lo s.hi u h)
+      ]
+
+  apart_more : (u v : ℕ) → spans_have (spans ++ s ∷ []) u ≡ true → has after v ≡ true → u + 2 ≤ v
+  apart_more u v h k =
+      elim (or_cases (spans_have spans u) (within s.lo s.hi u) (grind (arith, h, spans_have-append spans (s ∷ []) u))) [
+        | inl before ↦ so_far.apart u v before (grind (arith, members v))
+        | inr here ↦ apart_run u v here k
+      ]
+
+  -- one run more
+  run_added : RunsSoFar ticks (spans ++ s ∷ []) after
+  run_added = record {
+    ascending = IsAscendingFrom-weaker (s.hi + 2) 0 after (omega arith) begins;
+    normal = IsNormalFrom-push spans 0 s so_far.normal (λ t h. so_far.apart t s.lo h first_in_rest) (omega arith);
+    apart = apart_more;
+    all = λ u. grind (arith, so_far.all u, members u, spans_have-append spans (s ∷ []) u);
+  }
+
+pub runs_more : (ticks : List ℕ) (spans : List Span) (rest later : List ℕ) (first : ℕ) (s : Span) (after : List ℕ) → RunsSoFar ticks spans rest → rest ≡ first ∷ later → s.lo ≡ first → IsAscendingFrom (s.hi + 2) after → ((u : ℕ) → (eqb first u || has later u) ≡ (within first s.hi u || has after u)) → RunsSoFar ticks (spans ++ s ∷ []) after
+runs_more ticks spans rest later first s after so_far e lo begins members = run_added ticks spans rest s after so_far begins (λ u. rw (e, lo) (members u))
+
+-- an index and the ticks
+ascending_at_least : (ticks : List ℕ) (from j : ℕ) → IsAscendingFrom from ticks → j < length ticks → from ≤ get_or ticks j 0
+ascending_at_least [] from j h l = absurd (omega arith)
+ascending_at_least (x ∷ ticks) from zero h l = h.0
+ascending_at_least (x ∷ ticks) from (suc j) h l = omega (arith, h.0, ascending_at_least ticks (x + 1) j h.2 (omega arith))
+
+pub ascending_at : (ticks : List ℕ) (from i j : ℕ) → IsAscendingFrom from ticks → i ≤ j → j < length ticks → get_or ticks i 0 ≤ get_or ticks j 0
+ascending_at [] from i j h l k = absurd (omega arith)
+ascending_at (x ∷ ticks) from zero zero h l k = omega arith
+ascending_at (x ∷ ticks) from zero (suc j) h l k = omega (arith, ascending_at_least ticks (x + 1) j h.2 (omega arith))
+ascending_at (x ∷ ticks) from (suc i) zero h l k = absurd (omega arith)
+ascending_at (x ∷ ticks) from (suc i) (suc j) h l k = ascending_at ticks (x + 1) i j h.2 (omega arith) (omega arith)
+
+has_at : (ticks : List ℕ) (k t : ℕ) → k < length ticks → get_or ticks k 0 ≡ t → has ticks t ≡ true
+has_at [] k t l e = absurd (omega arith)
+has_at (x ∷ ticks) zero t l e = grind (arith, nat_tests)
+has_at (x ∷ ticks) (suc k) t l e = or_right (eqb x t) (has ticks t) (has_at ticks k t (omega arith) e)
+
+has_absent : (ticks : List ℕ) (t : ℕ) → ((k : ℕ) → k < length ticks → get_or ticks k 0 ≡ t → ⊥) → has ticks t ≡ false
+has_absent [] t h = refl
+has_absent (x ∷ ticks) t h = or_from (eqb x t) (has ticks t) (ne_eqb x t (h 0 (omega arith))) (has_absent ticks t (λ k l. h (suc k) (omega arith)))
+
+-- a binary search finds the ticks
+pub search_is_has : (ticks : List ℕ) (t : ℕ) (r : Result ℕ ℕ) → IsAscending ticks → IsBinarySearchResult (λ y. nat_cmp y t) ticks r → is_ok r ≡ has ticks t
+search_is_has ticks t (Ok i) h e =
+    let found = searched ticks t (Ok i) e (λ i j l k. ascending_at ticks 0 i j h l k) in
+    sym (has_at ticks i t found.0 found.1)
+search_is_has ticks t (Err i) h e =
+    let gap = searched ticks t (Err i) e (λ i j l k. ascending_at ticks 0 i j h l k) in
+    sym (has_absent ticks t (λ k l s. grind (arith, gap.1 k, gap.2 k)))
+
+none_iff : (ticks : List ℕ) → IsTrue (eqb (length ticks) 0) ↔ ((t : ℕ) → has ticks t ≡ false)
+none_iff [] = (λ _ t. refl, λ _. refl)
+none_iff (x ∷ ticks) = (λ h. absurd (omega (arith, eqb-true _ _ h)), λ h. absurd (false≢true (grind (arith, nat_tests, h x))))
+
+pub none_iff_len : (ticks : List ℕ) (len : ℕ) → len ≡ length ticks → IsTrue (eqb len 0) ↔ ((t : ℕ) → has ticks t ≡ false)
+none_iff_len ticks len e = rw e (none_iff ticks)
+
+same_first : (x y : ℕ) (xs ys : List ℕ) → IsAscendingFrom (x + 1) xs → IsAscendingFrom (y + 1) ys → ((t : ℕ) → has (x ∷ xs) t ≡ has (y ∷ ys) t) → x ≡ y
+same_first x y xs ys h k e =
+    elim (cases_order x y) [
+      | inl same ↦ same
+      | inr (inl less) ↦ absurd (false≢true (grind (arith, nat_tests, e x, has_below ys (y + 1) x k)))
+      | inr (inr more) ↦ absurd (false≢true (grind (arith, nat_tests, e y, has_below xs (x + 1) y h)))
+    ]
+
+-- ascending lists with the same ticks are one list
+pub ascending_same : (xs ys : List ℕ) (from low : ℕ) → IsAscendingFrom from xs → IsAscendingFrom low ys → ((t : ℕ) → has xs t ≡ has ys t) → xs ≡ ys
+ascending_same [] [] from low h k e = refl
+ascending_same [] (y ∷ ys) from low h k e = absurd (false≢true (grind (arith, nat_tests, e y)))
+ascending_same (x ∷ xs) [] from low h k e = absurd (false≢true (grind (arith, nat_tests, e x)))
+ascending_same (x ∷ xs) (y ∷ ys) from low h k e =
+    let same : x ≡ y = same_first x y xs ys h.2 k.2 e in
+    let rest : (t : ℕ) → has xs t ≡ has ys t = λ t. grind (arith, nat_tests, e t, has_below xs (x + 1) t h.2, has_below ys (y + 1) t k.2) in
+    rw (same, ascending_same xs ys (x + 1) (y + 1) h.2 k.2 rest)
+
+-- what `==` on two ascending lists says of their ticks
+pub equal_iff : (xs ys : List ℕ) → IsAscending xs → IsAscending ys → IsTrue (pointwise eqb xs ys) ↔ ((t : ℕ) → has xs t ≡ has ys t)
+equal_iff xs ys h k =
+    let decides = bytes_decides xs ys in
+    (λ e t. ap (λ ticks. has ticks t) (decides.0 e), λ e. decides.1 (ascending_same xs ys 0 0 h k e))

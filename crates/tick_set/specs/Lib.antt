@@ -1,4 +1,5 @@
 pub mod Operators
 pub mod Runs
+pub mod SetOperation
 pub mod TickList
 pub mod Ticks

@@ -5,6 +5,7 @@
 #![tactic(auto)]
 
 mod laws;
+mod operation;
 mod set;
 mod spans;
 mod tick_list;
@@ -12,6 +13,10 @@ mod tick_list;
 pub use laws::{
     runs_are_those_of_the_list, same_ticks_have_the_same_runs, until_holds_where_a_goal_is_led_to,
 };
+pub use operation::SetOperation;
 pub use set::TickSet;
 pub use spans::{LAST_TICK, Span, Window};
 pub use tick_list::TickList;
+
+#[cfg(test)]
+mod tests;

@@ -1,5 +1,5 @@
 //! Windows and spans: ticks without a gap.
-ghost use Rattle.std.specs.Prelude.{◌≡◌, ◌≤◌, ◌↔◌, IsSome, IfSome};
+ghost use Rattle.std.specs.Prelude.{◌≡◌, ◌≤◌, ◌↔◌, IsTrue, IsSome, IfSome};
 ghost use Rattle.tick_set.specs.declared.spans.TheConstants.{LAST_TICK};
 
 /// The last tick; the first is 0.
@@ -21,7 +21,7 @@ impl Window {
         ensures valid { IsSome result ↔ ((lo ≤ hi) × (hi ≤ LAST_TICK)) }
         ensures ends { IfSome result (λ w. (w.lo ≡ lo) × (w.hi ≡ hi)) }
     {
-        if lo <= hi && hi <= LAST_TICK {
+        if is_in_range(lo, hi) {
             Some(Window { lo, hi })
         } else {
             None
@@ -56,10 +56,18 @@ impl Span {
         ensures valid { IsSome result ↔ ((lo ≤ hi) × (hi ≤ LAST_TICK)) }
         ensures ends { IfSome result (λ s. (s.lo ≡ lo) × (s.hi ≡ hi)) }
     {
-        if lo <= hi && hi <= LAST_TICK {
+        if is_in_range(lo, hi) {
             Some(Span { lo, hi })
         } else {
             None
         }
     }
+}
+
+// Whether there is a span from `lo` to `hi`.
+#[inline]
+fn is_in_range(lo: u32, hi: u32) -> bool
+    ensures { IsTrue result ↔ ((lo ≤ hi) × (hi ≤ LAST_TICK)) }
+{
+    lo <= hi && hi <= LAST_TICK
 }
