@@ -1,0 +1,92 @@
+// Standard readers and writers as sources and sinks. They tell nothing of their bytes.
+ghost use Rattle.std.specs.Prelude.{◌≡◌, ◌<◌, ◌≤◌, length, IfSome};
+
+use crate::{Failed, OutFail, Sink, Source};
+use std::io::{Read, Write};
+use std::marker::Model;
+
+/// A reader as a source. Each error of the reader is a fault.
+#[derive(Drop)]
+pub struct StdSource<R> {
+    reader: R,
+    faults: u64,
+}
+
+impl<R> Model for StdSource<R> {
+    ghost use Rattle.std.specs.Prelude.{ℕ};
+
+    ghost Value = { ℕ };
+
+    ghost view = { λ s. s.faults };
+}
+
+impl<R: Read> StdSource<R> {
+    /// A source over the reader, with no fault yet.
+    pub fn new(reader: R) -> StdSource<R>
+        ensures { result ≡ 0 }
+    {
+        StdSource { reader, faults: 0 }
+    }
+}
+
+impl<R: Read> Source for StdSource<R> {
+    ghost faults = { λ s. s };
+
+    fn read(&mut self, buf: &mut [u8]) -> Result<usize, Failed> {
+        match self.reader.read(buf) {
+            Ok(len) => Ok(len),
+            Err(_) => {
+                self.faults = self.faults.saturating_add(1);
+                Err(Failed)
+            }
+        }
+    }
+}
+
+/// A writer as a sink, which is flushed after each write. Each error of the writer is a fault, and so is a write
+/// that takes no byte.
+#[derive(Drop)]
+pub struct StdSink<W> {
+    writer: W,
+    faults: u64,
+}
+
+impl<W> Model for StdSink<W> {
+    ghost use Rattle.std.specs.Prelude.{ℕ};
+
+    ghost Value = { ℕ };
+
+    ghost view = { λ s. s.faults };
+}
+
+impl<W: Write> StdSink<W> {
+    /// A sink over the writer, with no fault yet.
+    pub fn new(writer: W) -> StdSink<W>
+        ensures { result ≡ 0 }
+    {
+        StdSink { writer, faults: 0 }
+    }
+}
+
+impl<W: Write> Sink for StdSink<W> {
+    ghost faults = { λ s. s };
+
+    fn write(&mut self, piece: &[u8]) -> Result<usize, OutFail> {
+        match write_and_flush(&mut self.writer, piece) {
+            Some(len) => Ok(len),
+            None => {
+                self.faults = self.faults.saturating_add(1);
+                Err(OutFail::Failed)
+            }
+        }
+    }
+}
+
+// How many bytes of the piece the writer took. `None` where it took none or failed.
+fn write_and_flush<W: Write>(writer: &mut W, piece: &[u8]) -> Option<usize>
+    ensures { IfSome result (λ n. (0 < n) × (n ≤ length piece.now)) }
+{
+    let len = writer.write(piece).ok()?;
+    writer.flush().ok()?;
+    if len == 0 { None } else { Some(len) }
+}
