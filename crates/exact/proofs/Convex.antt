@@ -1,5 +1,5 @@
 -- What falls or rises from each number to the next does so over whole ranges.
-use Rattle.std.proofs.Common.{◌≡◌, ℕ, suc, zero, ◌+◌, ◌≤◌, ◌<◌, ⊎_elim, ℤ, ◌≤ℤ◌, ◌<ℤ◌, subst, ap, add-one, arith}
+use Rattle.std.proofs.Common.{◌≡◌, ℕ, suc, zero, ◌≤◌, ◌<◌, ⊎_elim, ℤ, ◌≤ℤ◌, ◌<ℤ◌, subst, ap, add-one, arith}
 use Rattle.std.proofs.lemmas.Int.{ints}
 use Rattle.std.proofs.lemmas.Bool.{cases_lt}
 use Rattle.exact.specs.Rising.{FallsTo, DropsTo, RisesIn}
@@ -35,3 +35,11 @@ drops f n h i (suc j) p q =
     let rest = falls f n (FallsTo-drops f n h) i j (omega arith) (omega arith) in
     let step = h j (omega arith) in
     omega (arith, ints)
+
+-- what falls to v and rises from there is least at v
+pub least : (f : ℕ → ℤ) (v n : ℕ) → FallsTo f v → RisesIn f v n → (k : ℕ) → k ≤ n → f v ≤ℤ f k
+least f v n h g k l =
+    ⊎_elim
+    (λ (m : k < v). falls f v h k v (omega arith) (omega arith))
+    (λ (m : v ≤ k). rises f v n g v k (omega arith) m l)
+    (cases_lt k v)
