@@ -1,0 +1,5 @@
+pub mod Cuts
+pub mod Fronts
+pub mod Shapes
+pub mod Spans
+pub mod Steps

@@ -1,0 +1,15 @@
+-- Why a line has no tokens, and what stands then.
+use Rattle.std.specs.Prelude.{◌≡◌, ℕ, List, [], Some, None}
+use Rattle.ftl_lexer.specs.declared.fault.LexFault.{LexFault}
+use Rattle.ftl_lexer.specs.declared.fault.LexFault.TheVariants.{BadToken, NoMemory}
+use Rattle.ftl_lexer.specs.Tokens.{bad_place}
+
+-- the first place at which no token begins; want of memory is told only where there is none
+abbrev pub Explains : List ℕ → LexFault → Type 0
+Explains line (BadToken place) = bad_place line ≡ Some place
+Explains line NoMemory = bad_place line ≡ None
+
+-- the empty line after a bad token, and after want of memory what stood before
+abbrev pub StandsAfter : List ℕ → List ℕ → LexFault → Type 0
+StandsAfter old new (BadToken place) = new ≡ []
+StandsAfter old new NoMemory = new ≡ old

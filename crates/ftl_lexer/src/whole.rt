@@ -1,0 +1,21 @@
+//! The tokens of one line.
+
+ghost use Rattle.std.specs.Prelude.{◌≡◌, ◌≤◌, length, IfOk, IfErr};
+ghost use Rattle.ftl_lexer.specs.Faults.{Explains};
+ghost use Rattle.ftl_lexer.specs.Tokens.{bad_place};
+
+use crate::LexFault;
+use crate::buffer::Tokens;
+use std::alloc::Global;
+
+/// The tokens of a line of at most 16,384 bytes. Answers `BadToken` with the first byte at which no
+/// token begins, also where there is no memory.
+pub fn tokens(alloc: Global, line: &[u8]) -> Result<Tokens, LexFault>
+    requires { length line.now ≤ 16384 }
+    ensures ok { IfOk result (λ t. (t ≡ line.now) × (bad_place line.now ≡ None)) }
+    ensures cause { IfErr result (Explains line.now) }
+{
+    let mut tokens = Tokens::new(alloc);
+    tokens.read(line)?;
+    Ok(tokens)
+}
