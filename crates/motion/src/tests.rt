@@ -1,8 +1,14 @@
+ghost use Rattle.std.specs.Prelude.{◌≡◌, IfOk};
+ghost use Rattle.motion.specs.Cells.{IsGiven};
+
 use super::*;
 use fixed_point::{Fix, Slope, Word};
+use std::process::Abort;
 use std::test::Fail;
 
-fn fix(thousandths: i64) -> Result<Fix, Fail> {
+fn fix(thousandths: i64) -> Result<Fix, Fail>
+    ensures { IfOk result (λ f. f ≡ thousandths) }
+{
     Ok(Fix::of(thousandths).ok_or("a number past its range")?)
 }
 
@@ -75,45 +81,49 @@ fn vectors_move_and_turn(rt: HostRuntime) -> Result<(), Fail> {
     assert_eq!(rt; turned.slope_at(9).raw(), -2000);
     assert_eq!(rt; turned.function().last().raw(), -2000);
     // the largest value, at the last tick, and the least one
-    for sign in [1, -1] {
-        let far = Vector::begun(
-            0,
-            fix(sign * 1_000_000_000_000)?,
-            Legs::steady(slope(sign * 1_000_000)?),
-        );
-        assert_eq!(rt; far.at(1_000_000_000).raw(), sign * 1_001_000_000_000_000);
+    for (value, rate, far) in [
+        (1_000_000_000_000, 1_000_000, 1_001_000_000_000_000),
+        (-1_000_000_000_000, -1_000_000, -1_001_000_000_000_000),
+    ] {
+        let value = fix(value)?;
+        assert!(rt; value.raw().unsigned_abs() <= GIVEN_LIMIT);
+        let vector = Vector::begun(0, value, Legs::steady(slope(rate)?));
+        assert_eq!(rt; vector.at(1_000_000_000).raw(), far);
     }
     Ok(())
+}
+
+// The number at tick 8 of a fresh cell of tick 5 that was written at tick 6, None for a text.
+fn number_after(rt: &impl Abort, kind: AttrKind, given: &Given) -> Option<i64>
+    requires { IsGiven given.now }
+{
+    match &Cell::fresh(kind, 5).written(6, given) {
+        Cell::Num(number) => Some(number.raw()),
+        Cell::Text(_) => None,
+        Cell::Dyn(vector) => {
+            assert!(rt; vector.updatetime() <= 8);
+            Some(vector.at(8).raw())
+        }
+    }
 }
 
 #[test]
 fn cells_take_what_fits_their_kind(rt: HostRuntime) -> Result<(), Fail> {
     let number = Given::Num(fix(3000)?);
+    assert_eq!(rt; number_after(&rt, AttrKind::Num, &number), Some(3000));
+    assert_eq!(rt; number_after(&rt, AttrKind::Text, &number), None);
+    assert_eq!(rt; number_after(&rt, AttrKind::Dyn, &number), Some(3000));
+
     let text = Given::Text(Word::of(b"AB").ok_or("a word")?);
+    assert_eq!(rt; number_after(&rt, AttrKind::Num, &text), Some(0));
+    assert_eq!(rt; number_after(&rt, AttrKind::Text, &text), None);
+    assert_eq!(rt; number_after(&rt, AttrKind::Dyn, &text), Some(0));
+
     let rate = Given::Rate(Legs::steady(slope(500)?));
+    assert_eq!(rt; number_after(&rt, AttrKind::Num, &rate), Some(0));
+    assert_eq!(rt; number_after(&rt, AttrKind::Dyn, &rate), Some(1000));
+
     let both = Given::Both(fix(20_000)?, Legs::steady(slope(500)?));
-    // the number of each cell at tick 8, after a write at tick 6
-    for (kind, given, value) in [
-        (AttrKind::Num, number, Some(3000)),
-        (AttrKind::Num, text, Some(0)),
-        (AttrKind::Num, rate, Some(0)),
-        (AttrKind::Text, number, None),
-        (AttrKind::Text, text, None),
-        (AttrKind::Dyn, number, Some(3000)),
-        (AttrKind::Dyn, text, Some(0)),
-        (AttrKind::Dyn, rate, Some(1000)),
-        (AttrKind::Dyn, both, Some(21_000)),
-    ] {
-        let number = match &Cell::fresh(kind, 5).written(6, &given) {
-            Cell::Num(number) => Some(number.raw()),
-            Cell::Text(_) => None,
-            Cell::Dyn(vector) => {
-                let begun = vector.updatetime();
-                assert!(rt; begun <= 8);
-                Some(vector.at(8).raw())
-            }
-        };
-        assert_eq!(rt; number, value, "{kind:?}");
-    }
+    assert_eq!(rt; number_after(&rt, AttrKind::Dyn, &both), Some(21_000));
     Ok(())
 }
