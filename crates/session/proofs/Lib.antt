@@ -1,0 +1,11 @@
+pub mod Accepted
+pub mod AnswerLemmas
+pub mod Begins
+pub mod ChangeLemmas
+pub mod Digits
+pub mod Journal
+pub mod Lines
+pub mod Objects
+pub mod Pairs
+pub mod RowLemmas
+pub mod StepLemmas

@@ -1,0 +1,5 @@
+use Rattle.session.proofs.StepLemmas.{long_step}
+use Rattle.session.proofs.session.long_lines_step_alike.Goals as goal
+
+pub returns : goal.returns
+returns c = long_step
