@@ -1,6 +1,6 @@
 //! The tokens of a line, kept with the line.
 
-ghost use Rattle.std.specs.Prelude.{◌≡◌, ℕ, ◌≤◌, ◌<◌, ◌+◌, [], length, vec_len, vec_capacity, OnOk, IfErr, IsTrue, ◌↔◌, slice_get, slice_range, option_map, IfSome};
+ghost use Rattle.std.specs.Prelude.{◌≡◌, ℕ, ◌≤◌, ◌<◌, ◌+◌, [], length, vec_len, vec_capacity, OnOk, OnErr, IfErr, IsTrue, ◌↔◌, slice_get, slice_range, option_map, IfSome};
 ghost use Rattle.ftl_lexer.specs.Tokens.{bad_place, tokens_of, texts_of, lexemes};
 ghost use Rattle.ftl_lexer.specs.Cut.{HasForm};
 ghost use Rattle.ftl_lexer.specs.Faults.{Explains, StandsAfter};
@@ -42,6 +42,7 @@ fn make_room(line: &mut Vec<u8>, tokens: &mut Vec<Token>, len: usize) -> Result<
     ensures line { line.new.items ≡ line.old.items }
     ensures tokens { tokens.new.items ≡ tokens.old.items }
     ensures room { OnOk result ((len ≤ vec_capacity line.new) × (len ≤ vec_capacity tokens.new)) }
+    ensures full { OnErr result (0 < len) }
 {
     line.reserve(len.saturating_sub(line.len()))?;
     tokens.reserve(len.saturating_sub(tokens.len()))
