@@ -1,6 +1,7 @@
 pub mod Accepted
 pub mod AnswerLemmas
 pub mod Begins
+pub mod CallerLemmas
 pub mod ChangeLemmas
 pub mod Digits
 pub mod Journal

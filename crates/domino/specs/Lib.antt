@@ -1,0 +1,5 @@
+pub mod Machine
+pub mod Whole
+pub mod Ends
+pub mod LongLines
+pub mod Status

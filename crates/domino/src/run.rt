@@ -1,0 +1,103 @@
+//! The whole run.
+ghost use Rattle.std.specs.Prelude.{◌≡◌, ℕ, List, Some, length};
+ghost use Rattle.outside.specs.Faults.{Rose};
+ghost use Rattle.outside.specs.Shelf.{Texts};
+ghost use Rattle.domino.specs.Whole.{are_words};
+ghost use Rattle.domino.specs.Ends.{CompletesAs, EndsAs, FitsWords, HasCause, Refuses};
+
+use crate::database::Database;
+use crate::status::{Status, status_of};
+use line_loop::{run_lines, write_all};
+use outside::{OutFail, Shelf, Sink, Source};
+use std::alloc::Global;
+use std::sync::ledger::Ledger;
+use steps::Steps;
+
+/// The most bytes that the program takes.
+pub const INPUT_LIMIT: u64 = 1_073_741_824;
+
+/// The program over an outside: answers the lines of the source, and writes the replies to the sink, under
+/// a limit of 1,073,741,824 bytes.
+pub fn run<S: Source, K: Sink, F: Shelf, L: Ledger, M: Ledger>(
+    alloc: Global,
+    words: &[String],
+    source: &mut S,
+    sink: &mut K,
+    shelf: &mut F,
+    reads: &mut Steps<L>,
+    probes: &mut Steps<M>,
+) -> Status
+    ensures words { FitsWords result (are_words (length words.now)) }
+    ensures cause { HasCause result
+        (record { source = S.faults source.old; sink = K.faults sink.old; context = F.faults shelf.old })
+        (record { source = S.faults source.new; sink = K.faults sink.new; context = F.faults shelf.new }) }
+    ensures ends { (bytes written : List ℕ) (texts : Texts) →
+        S.left source.old ≡ Some bytes → K.written sink.old ≡ Some written → F.texts shelf.old ≡ Some texts →
+        EndsAs (record { words = are_words (length words.now); limit = 1073741824; bytes = bytes; written = written; texts = texts })
+        result (K.written sink.new) (F.texts shelf.new) (S.left source.new) }
+    ensures complete { (bytes written : List ℕ) (texts : Texts) →
+        S.left source.old ≡ Some bytes → K.written sink.old ≡ Some written → F.texts shelf.old ≡ Some texts →
+        ¬ Rose (S.faults source.old) (S.faults source.new) → ¬ Rose (K.faults sink.old) (K.faults sink.new) →
+        CompletesAs (record { words = are_words (length words.now); limit = 1073741824; bytes = bytes; written = written; texts = texts })
+        result (K.written sink.new) (F.texts shelf.new) }
+{
+    run_limited(
+        alloc,
+        INPUT_LIMIT,
+        words,
+        source,
+        sink,
+        shelf,
+        reads,
+        probes,
+    )
+}
+
+/// The program over an outside, under a limit of bytes.
+///
+/// The words are those of the program, its name first; no other word is known yet. With other words it
+/// writes `bad words` and reads nothing. Lines end with a line feed, and the last line may lack it. Each
+/// line is answered before the next read; a read asks for at most 4,096 bytes, and for none past the limit
+/// but the one that shows that there is another.
+pub fn run_limited<S: Source, K: Sink, F: Shelf, L: Ledger, M: Ledger>(
+    alloc: Global,
+    limit: u64,
+    words: &[String],
+    source: &mut S,
+    sink: &mut K,
+    shelf: &mut F,
+    _reads: &mut Steps<L>,
+    _probes: &mut Steps<M>,
+) -> Status
+    ensures words { FitsWords result (are_words (length words.now)) }
+    ensures cause { HasCause result
+        (record { source = S.faults source.old; sink = K.faults sink.old; context = F.faults shelf.old })
+        (record { source = S.faults source.new; sink = K.faults sink.new; context = F.faults shelf.new }) }
+    ensures ends { (bytes written : List ℕ) (texts : Texts) →
+        S.left source.old ≡ Some bytes → K.written sink.old ≡ Some written → F.texts shelf.old ≡ Some texts →
+        EndsAs (record { words = are_words (length words.now); limit = limit; bytes = bytes; written = written; texts = texts })
+        result (K.written sink.new) (F.texts shelf.new) (S.left source.new) }
+    ensures complete { (bytes written : List ℕ) (texts : Texts) →
+        S.left source.old ≡ Some bytes → K.written sink.old ≡ Some written → F.texts shelf.old ≡ Some texts →
+        ¬ Rose (S.faults source.old) (S.faults source.new) → ¬ Rose (K.faults sink.old) (K.faults sink.new) →
+        CompletesAs (record { words = are_words (length words.now); limit = limit; bytes = bytes; written = written; texts = texts })
+        result (K.written sink.new) (F.texts shelf.new) }
+{
+    if words.len() != 1 {
+        return refuse_words(sink);
+    }
+    let mut database = Database::new(alloc);
+    let ending = run_lines(alloc, limit, &mut database, source, sink, shelf);
+    status_of(ending)
+}
+
+/// Says that the words are bad.
+fn refuse_words<K: Sink>(sink: &mut K) -> Status
+    ensures { Refuses result (K.faults sink.old) (K.faults sink.new) (K.written sink.old) (K.written sink.new) }
+{
+    match write_all(sink, b"bad words\n") {
+        Ok(()) => Status::BadWords,
+        Err(OutFail::Failed) => Status::WriteFault,
+        Err(OutFail::NoMemory) => Status::NoMemory,
+    }
+}
