@@ -1,5 +1,4 @@
 pub mod Machine
 pub mod Whole
 pub mod Ends
-pub mod LongLines
 pub mod Status

@@ -25,7 +25,6 @@ impl Database {
 
 impl<F: Shelf> Handler<F> for Database {
     ghost use Rattle.domino.specs.Machine.{State, machine, leaves, state_of};
-    ghost use Rattle.domino.specs.LongLines.{long_lines_alike};
 
     ghost State = { State };
 
@@ -56,5 +55,7 @@ impl<F: Shelf> Handler<F> for Database {
         }
     }
 
-    ghost long_lines = { long_lines_alike };
+    fn long_lines_step_alike() {
+        session::long_lines_step_alike();
+    }
 }

@@ -1,7 +1,6 @@
 pub mod Accepted
 pub mod AnswerLemmas
 pub mod Begins
-pub mod CallerLemmas
 pub mod ChangeLemmas
 pub mod Digits
 pub mod Journal

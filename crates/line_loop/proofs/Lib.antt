@@ -1,0 +1,7 @@
+pub mod LinesLemmas
+pub mod MachineLemmas
+pub mod StopLemmas
+pub mod AnswerLemmas
+pub mod PieceLemmas
+pub mod RunLemmas
+pub mod TextLemmas

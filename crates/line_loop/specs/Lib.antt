@@ -1,0 +1,6 @@
+pub mod Lines
+pub mod Machine
+pub mod Run
+pub mod Stop
+pub mod Ending
+pub mod Kept

@@ -1,0 +1,44 @@
+// The code of a line machine.
+ghost use Rattle.std.specs.Prelude.{◌≡◌, ◌<◌, ◌^◌, ℕ, List, Option, Some, length, OnErr};
+ghost use Rattle.outside.specs.Faults.{HasCauseOrNoMemory};
+ghost use Rattle.line_loop.specs.Machine.{Machine, Failures, StepsAlike, Answers};
+
+use outside::OutFail;
+
+/// A line machine in code, with a context that it may use to answer, as a shelf of texts.
+pub trait Handler<C> {
+    /// The states of the machine.
+    ghost State: { Type 0 };
+
+    /// The machine.
+    ghost machine: { Machine State };
+
+    /// The state that the handler and the context tell together. `None` claims nothing.
+    ghost state: { Self → C → Option State };
+
+    /// How often the context failed. It never falls.
+    ghost faults: { C → ℕ };
+
+    /// What a failure on a line may leave of the state before it.
+    ghost leaves: { Failures State };
+
+    ghost LONGEST: { ℕ };
+
+    /// The length in bytes of the longest line whose bytes matter: all longer ones step alike.
+    const LONGEST: u32;
+
+    /// Whether the machine takes no more lines.
+    fn is_done(&self) -> bool
+        ensures { (context : C) (now : State) → state self.now context ≡ Some now → result ≡ machine.done now };
+
+    /// Takes a line without its end: appends the reply to `out` and goes on to the next state. `Failed` is a fault of
+    /// the context, whose count rose.
+    fn answer(&mut self, line: &[u8], context: &mut C, out: &mut Vec<u8>) -> Result<(), OutFail>
+        ensures cause { HasCauseOrNoMemory (faults context.old) (faults context.new) result }
+        ensures step { (before : State) → state self.old context.old ≡ Some before →
+            Answers machine leaves before line.now result out.old.items out.new.items (state self.new context.new) };
+
+    /// Lines longer than `LONGEST` step alike: this is what the contract says, and the call does nothing.
+    fn long_lines_step_alike()
+        ensures { (a b : List ℕ) → LONGEST < length a → LONGEST < length b → StepsAlike machine leaves a b };
+}

@@ -1,0 +1,9 @@
+// What the definitions mean in other words.
+ghost use Rattle.std.specs.Prelude.{◌≡◌, ℕ, List};
+ghost use Rattle.std.specs.Str.Lines.{lines};
+ghost use Rattle.line_loop.specs.Lines.{lines_of};
+
+/// The lines of an input are those that `str::lines` gives of the same bytes as a text.
+pub fn lines_are_those_of_a_text()
+    ensures { (bytes : List ℕ) → lines_of bytes ≡ lines bytes }
+{}
