@@ -10,7 +10,7 @@ use crate::stop::Stop;
 use crate::{Ending, Handler};
 use outside::{OutFail, Sink};
 
-/// Writes all of the bytes, unless a write fails.
+/// Writes all of the bytes, with as many writes as it takes, unless a write fails.
 #[tactic(auto, using(crate::proofs::LinesLemmas::grown))]
 pub fn write_all<K: Sink>(sink: &mut K, bytes: &[u8]) -> Result<(), OutFail>
     ensures cause { HasCauseOrNoMemory (K.faults sink.old) (K.faults sink.new) result }

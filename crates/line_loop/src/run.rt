@@ -44,7 +44,10 @@ pub fn run_lines<C, H: Handler<C>, S: Source, K: Sink>(
     let Ok(mut line) = LineBuffer::new(alloc, H::LONGEST) else {
         return Ending::NoMemory;
     };
-    let mut reply = Vec::new(alloc);
+    // With room for every short reply, so that a refusal takes no memory.
+    let Ok(mut reply) = Vec::with_capacity(alloc, PIECE) else {
+        return Ending::NoMemory;
+    };
     let mut piece = [0u8; PIECE];
     let mut taken = 0;
     'reading: while !handler.is_done() {

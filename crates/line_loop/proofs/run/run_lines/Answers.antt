@@ -11,6 +11,10 @@ use Rattle.line_loop.proofs.run.run_lines.Goals as goal
 pub returns-in_default-clause-ends : goal.returns-in_default-clause-ends
 returns-in_default-clause-ends g c = λ start bytes at told. memory_at_start g.H.Handler.machine g.H.Handler.leaves c.args.limit start bytes _ _ at
 
+pub returns-in_default-with_capacity-clause-ends : goal.returns-in_default-with_capacity-clause-ends
+returns-in_default-with_capacity-clause-ends g c =
+    λ start bytes at told. memory_at_start g.H.Handler.machine g.H.Handler.leaves c.args.limit start bytes _ _ at
+
 pub returns-in-Err-finish-clause-taken : goal.returns-in-Err-finish-clause-taken
 returns-in-Err-finish-clause-taken g c = λ bytes told.
     let so_far = c.reading.invariant.left bytes told in
