@@ -1,7 +1,7 @@
 -- Tests over the ticks between two ticks: what a true answer and a false one say of each tick.
-use Rattle.std.proofs.Common.{◌≡◌, ℕ, zero, suc, ◌+◌, ◌-◌, ◌<◌, ◌≤◌, Bool, true, false, refl, inl, inr, arith}
+use Rattle.std.proofs.Common.{◌≡◌, ℕ, zero, suc, ◌+◌, ◌-◌, ◌<◌, ◌≤◌, Bool, true, false, refl, sym, ◌∙◌, inl, inr, arith}
 use Rattle.std.specs.List.{range_with_len, list_any, list_all}
-use Rattle.std.proofs.lemmas.Bool.{false≢true, or_cases, and_parts, or_left, or_right}
+use Rattle.std.proofs.lemmas.Bool.{false≢true, or_cases, and_parts, or_left, or_right, both_ways, false_from_ne_true}
 use Rattle.std.proofs.lemmas.Bool.Decides.{nat_tests}
 use Rattle.tick_set.specs.Ticks.{within, between, some_in, all_in}
 
@@ -77,3 +77,19 @@ all_in_at p lo hi h u l k = all_between_at p lo (hi + 1) h u l (omega arith)
 pub all_in_from : (p : ℕ → Bool) (lo hi : ℕ) → ((u : ℕ) → lo ≤ u → u ≤ hi → p u ≡ true) → all_in p lo hi ≡ true
 unfolding all_in
 all_in_from p lo hi h = all_between_from p lo (hi + 1) (λ u l k. h u l (omega arith))
+
+-- no tick passes, or one does not
+pub some_in_none : (p : ℕ → Bool) (lo hi : ℕ) → ((u : ℕ) → lo ≤ u → u ≤ hi → p u ≡ false) → some_in p lo hi ≡ false
+some_in_none p lo hi h = false_from_ne_true (some_in p lo hi) (λ e.
+    let s = some_in_found p lo hi e in
+    both_ways (p s.tick) (h s.tick s.from (omega (arith, s.below))) s.passes)
+
+pub all_in_fails : (p : ℕ → Bool) (lo hi u : ℕ) → lo ≤ u → u ≤ hi → p u ≡ false → all_in p lo hi ≡ false
+all_in_fails p lo hi u l k e = false_from_ne_true (all_in p lo hi) (λ h. both_ways (p u) e (all_in_at p lo hi h u l k))
+
+-- tests that agree from lo to hi have one answer
+pub all_in_same : (p q : ℕ → Bool) (lo hi : ℕ) → ((u : ℕ) → lo ≤ u → u ≤ hi → p u ≡ q u) → all_in p lo hi ≡ all_in q lo hi
+all_in_same p q lo hi h =
+    same_test (all_in p lo hi) (all_in q lo hi)
+    (λ e. all_in_from q lo hi (λ u l k. sym (h u l k) ∙ all_in_at p lo hi e u l k))
+    (λ e. all_in_from p lo hi (λ u l k. h u l k ∙ all_in_at q lo hi e u l k))

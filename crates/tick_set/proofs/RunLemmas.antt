@@ -39,7 +39,7 @@ filter_range_agree : (p q : ℕ → Bool) (n a : ℕ) → ((t : ℕ) → a ≤ t
 filter_range_agree p q zero a h = refl
 filter_range_agree p q (suc n) a h = grind (arith, h a (omega arith) (omega arith), filter_range_agree p q n (a + 1) (λ t l k. h t (omega arith) (omega arith)))
 
-IsNormalFrom-weaker : (from low : ℕ) (spans : List Span) → low ≤ from → IsNormalFrom from spans → IsNormalFrom low spans
+pub IsNormalFrom-weaker : (from low : ℕ) (spans : List Span) → low ≤ from → IsNormalFrom from spans → IsNormalFrom low spans
 IsNormalFrom-weaker from low [] l h = tt
 IsNormalFrom-weaker from low (s ∷ rest) l h = (omega (arith, h.0), h.1)
 

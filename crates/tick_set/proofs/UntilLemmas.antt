@@ -1,7 +1,7 @@
 -- UNTIL as "there is a tick u ..", which is what proofs use of it.
-use Rattle.std.proofs.Common.{◌≡◌, ℕ, ◌+◌, Bool, true, ◌&&◌, IsTrue, ◌↔◌, arith}
+use Rattle.std.proofs.Common.{◌≡◌, ℕ, ◌+◌, Bool, true, false, ◌&&◌, IsTrue, ◌↔◌, arith}
 use Rattle.std.specs.List.{list_all}
-use Rattle.std.proofs.lemmas.Bool.{and_parts, and_from}
+use Rattle.std.proofs.lemmas.Bool.{and_parts, and_from, false_from_ne_true}
 use Rattle.tick_set.specs.Ticks.{between}
 use Rattle.tick_set.specs.Operators.{until_in, Leads}
 use Rattle.tick_set.proofs.Between.{any_between_found, any_between_at, all_between_at, all_between_from}
@@ -21,3 +21,6 @@ until_in_from g h lo hi t s =
 
 pub until_in_iff : (g h : ℕ → Bool) (lo hi t : ℕ) → IsTrue (until_in g h lo hi t) ↔ Leads g h lo hi t
 until_in_iff g h lo hi t = (until_in_found g h lo hi t, until_in_from g h lo hi t)
+
+pub until_in_none : (g h : ℕ → Bool) (lo hi t : ℕ) → (Leads g h lo hi t → ⊥) → until_in g h lo hi t ≡ false
+until_in_none g h lo hi t none = false_from_ne_true (until_in g h lo hi t) (λ e. none (until_in_found g h lo hi t e))

@@ -1,10 +1,14 @@
 -- Ticks are whole numbers. A set of ticks is a test of numbers.
-use Rattle.std.specs.Prelude.{ℕ, ◌+◌, ◌-◌, Bool, ◌&&◌, nat_le, List, filter}
+use Rattle.std.specs.Prelude.{◌≡◌, ℕ, ◌+◌, ◌-◌, Bool, true, ◌&&◌, nat_le, List, filter}
 use Rattle.std.specs.List.{range_with_len, list_any, list_all}
 
 -- whether t is one of lo to hi, both included
 abbrev pub within : ℕ → ℕ → ℕ → Bool
 within lo hi t = nat_le lo t && nat_le t hi
+
+-- each tick that passes the test is one of lo to hi
+abbrev pub LiesIn : ℕ → ℕ → (ℕ → Bool) → Type 0
+LiesIn lo hi test = (t : ℕ) → test t ≡ true → within lo hi t ≡ true
 
 -- the ticks from a up to b, without b
 unfoldable pub between : ℕ → ℕ → List ℕ
