@@ -1,0 +1,4 @@
+pub mod ShapeLemmas
+pub mod TickByTick
+pub mod UntilLemmas
+pub mod WindowLemmas
