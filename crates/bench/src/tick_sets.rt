@@ -50,7 +50,11 @@ fn comb(alloc: Global, first: u32, count: u32) -> Result<IntervalSet, AllocError
     }
     let half = count / 2;
     let begun = comb(alloc, first, half)?;
-    let rest = comb(alloc, first.saturating_add(half.saturating_mul(9)), count - half)?;
+    let rest = comb(
+        alloc,
+        first.saturating_add(half.saturating_mul(9)),
+        count - half,
+    )?;
     begun.union(alloc, &rest)
 }
 
