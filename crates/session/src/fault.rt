@@ -1,5 +1,6 @@
 //! The first fault of a line that has one of the forms.
-ghost use Rattle.std.specs.Prelude.{◌≡◌, is_some};
+ghost use Rattle.std.specs.Prelude.{◌≡◌, ℕ, List, is_some};
+ghost use Rattle.motion.specs.Dynamic.{Dynamic};
 ghost use Rattle.history.specs.Catalog.{has_object};
 ghost use Rattle.session.specs.Fault.{attribute_place, is_far, is_full, is_misplaced, is_out_of_range, is_outside, is_unknown, line_fault};
 ghost use Rattle.session.specs.Kept.{kept_catalog};
@@ -21,7 +22,7 @@ pub fn line_fault(class: &Option<OnlyClass>, objects: &Objects, line: &Line) -> 
         Some(Refusal::BadSyntax)
     } else if is_out_of_range(line) {
         Some(Refusal::NumberRange)
-    } else if is_unknown(class, objects, line) {
+    } else if is_unknown(class, line) {
         Some(Refusal::UnknownName)
     } else {
         None
@@ -88,8 +89,8 @@ fn is_far(number: &Option<Fix>) -> bool
     }
 }
 
-fn is_unknown(class: &Option<OnlyClass>, objects: &Objects, line: &Line) -> bool
-    ensures { result ≡ is_unknown (kept_catalog class.now objects.now.entries) line.now }
+fn is_unknown(class: &Option<OnlyClass>, line: &Line) -> bool
+    ensures { (objects : List (List ℕ × Dynamic)) → result ≡ is_unknown (kept_catalog class.now objects) line.now }
 {
     match line {
         Line::Class { .. } => false,
@@ -97,7 +98,7 @@ fn is_unknown(class: &Option<OnlyClass>, objects: &Objects, line: &Line) -> bool
             class: of,
             attribute,
             ..
-        } => !has_attribute(class, objects, of, attribute),
+        } => !has_attribute(class, of, attribute),
         Line::Ask {
             target,
             class: of,
@@ -106,20 +107,15 @@ fn is_unknown(class: &Option<OnlyClass>, objects: &Objects, line: &Line) -> bool
             attribute,
             ..
         } => {
-            !has_attribute(class, objects, of, attribute)
-                || *target != *variable
-                || *subject != *variable
+            !has_attribute(class, of, attribute) || *target != *variable || *subject != *variable
         }
     }
 }
 
-fn has_attribute(
-    class: &Option<OnlyClass>,
-    _objects: &Objects,
-    name: &Word,
-    attribute: &Word,
-) -> bool
-    ensures { result ≡ is_some (attribute_place (kept_catalog class.now _objects.now.entries) name.now attribute.now) }
+/// Whether the class of this name has an attribute of this name, whatever objects there are.
+fn has_attribute(class: &Option<OnlyClass>, name: &Word, attribute: &Word) -> bool
+    ensures { (objects : List (List ℕ × Dynamic)) →
+        result ≡ is_some (attribute_place (kept_catalog class.now objects) name.now attribute.now) }
 {
     match class {
         Some(only) => *name == only.name && *attribute == only.attribute,
