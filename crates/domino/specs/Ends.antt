@@ -72,9 +72,19 @@ pub record IsPart (g : Given) (written : Option (List ℕ)) (texts : Option Text
   pub output : written ≡ Some (g.written ++ take count (whole_of g).output)
   pub texts_stay : texts ≡ Some g.texts
 
+-- No byte past the limit is taken, but for the one that shows that there is another. With bad words none is.
+abbrev pub KeepsLimit : ℕ → List ℕ → Status → Option (List ℕ) → Type 0
+KeepsLimit limit bytes InputLimit left = HasTaken bytes (limit + 1) left
+KeepsLimit limit bytes Done left = StaysWithin limit bytes left
+KeepsLimit limit bytes BadWords left = left ≡ Some bytes
+KeepsLimit limit bytes ReadFault left = StaysWithin limit bytes left
+KeepsLimit limit bytes WriteFault left = StaysWithin limit bytes left
+KeepsLimit limit bytes ShelfFault left = StaysWithin limit bytes left
+KeepsLimit limit bytes NoMemory left = StaysWithin limit bytes left
+
 -- By each status: what was written, and what it says of the input. The shelf isn't asked, so it doesn't fail.
 abbrev pub EndsAs : Given → Status → Option (List ℕ) → Option Texts → Option (List ℕ) → Type 0
-EndsAs g Done written texts left = IsWhole g Done written texts
+EndsAs g Done written texts left = IsWhole g Done written texts × (left ≡ Some [])
 EndsAs g BadWords written texts left = IsWhole g BadWords written texts
 EndsAs g InputLimit written texts left = IsWhole g InputLimit written texts × HasTaken g.bytes (g.limit + 1) left
 EndsAs g ReadFault written texts left = IsReadFault g written texts left

@@ -1,6 +1,5 @@
 -- DOMINO as a line machine: its state is the journal, and the texts of the shelf.
-use Rattle.std.specs.Prelude.{◌≡◌, ℕ, false, List, Option, Some, None}
-use Rattle.outside.specs.declared.fault.OutFail.{OutFail}
+use Rattle.std.specs.Prelude.{◌≡◌, false, List, Option, Some, None}
 use Rattle.outside.specs.declared.fault.OutFail.TheVariants.{Failed, NoMemory}
 use Rattle.outside.specs.Shelf.{Texts}
 use Rattle.line_loop.specs.Machine.{Machine, Failures}

@@ -3,7 +3,7 @@ ghost use Rattle.std.specs.Prelude.{◌≡◌, ℕ, List, Some, length};
 ghost use Rattle.outside.specs.Faults.{Rose};
 ghost use Rattle.outside.specs.Shelf.{Texts};
 ghost use Rattle.domino.specs.Whole.{are_words};
-ghost use Rattle.domino.specs.Ends.{CompletesAs, EndsAs, FitsWords, HasCause, Refuses};
+ghost use Rattle.domino.specs.Ends.{CompletesAs, EndsAs, FitsWords, HasCause, KeepsLimit, Refuses};
 
 use crate::database::Database;
 use crate::status::{Status, status_of};
@@ -31,6 +31,7 @@ pub fn run<S: Source, K: Sink, F: Shelf, L: Ledger, M: Ledger>(
     ensures cause { HasCause result
         (record { source = S.faults source.old; sink = K.faults sink.old; context = F.faults shelf.old })
         (record { source = S.faults source.new; sink = K.faults sink.new; context = F.faults shelf.new }) }
+    ensures taken { (bytes : List ℕ) → S.left source.old ≡ Some bytes → KeepsLimit 1073741824 bytes result (S.left source.new) }
     ensures ends { (bytes written : List ℕ) (texts : Texts) →
         S.left source.old ≡ Some bytes → K.written sink.old ≡ Some written → F.texts shelf.old ≡ Some texts →
         EndsAs (record { words = are_words (length words.now); limit = 1073741824; bytes = bytes; written = written; texts = texts })
@@ -73,6 +74,7 @@ pub fn run_limited<S: Source, K: Sink, F: Shelf, L: Ledger, M: Ledger>(
     ensures cause { HasCause result
         (record { source = S.faults source.old; sink = K.faults sink.old; context = F.faults shelf.old })
         (record { source = S.faults source.new; sink = K.faults sink.new; context = F.faults shelf.new }) }
+    ensures taken { (bytes : List ℕ) → S.left source.old ≡ Some bytes → KeepsLimit limit bytes result (S.left source.new) }
     ensures ends { (bytes written : List ℕ) (texts : Texts) →
         S.left source.old ≡ Some bytes → K.written sink.old ≡ Some written → F.texts shelf.old ≡ Some texts →
         EndsAs (record { words = are_words (length words.now); limit = limit; bytes = bytes; written = written; texts = texts })

@@ -1,11 +1,10 @@
-use Rattle.std.proofs.Common.{◌≡◌, ℕ, true, [], length, Some, List, ap, sym, subst, ◌∙◌, eq-eqb}
-use Rattle.outside.specs.Shelf.{Texts}
+use Rattle.std.proofs.Common.{◌≡◌, true, length, Some, ap, sym, subst, ◌∙◌, eq-eqb}
 use Rattle.line_loop.specs.Stop.{Point, IsAt}
 use Rattle.domino.specs.Machine.{State, state_of}
 use Rattle.domino.specs.Whole.{are_words}
-use Rattle.domino.specs.Ends.{Given, EndsAs}
+use Rattle.domino.specs.Ends.{EndsAs, KeepsLimit}
 use Rattle.domino.specs.declared.status.Status.{Status}
-use Rattle.domino.proofs.EndingLemmas.{empty, good_words_end, loop_completes}
+use Rattle.domino.proofs.EndingLemmas.{empty, good_words_end, loop_completes, loop_taken}
 use Rattle.domino.proofs.run.run_limited.Goals as goal
 
 pub returns-clause-ends : goal.returns-clause-ends
@@ -24,3 +23,8 @@ pub returns-clause-complete : goal.returns-clause-complete
 returns-clause-complete g c bytes written texts left_is written_is texts_is source sink =
     loop_completes _ c.run_lines-ending.result c.status_of.result _ _ _ _ _ c.status_of.ensures c.run_lines-ending.ensures.cause source sink
     (returns-clause-ends g c bytes written texts left_is written_is texts_is)
+
+pub returns-clause-taken : goal.returns-clause-taken
+returns-clause-taken g c bytes left_is =
+    subst (λ (s : Status). KeepsLimit c.args.limit bytes s (g.S.Source.left c.run_lines-ending.new.source)) (sym c.status_of.ensures)
+    (loop_taken c.run_lines-ending.result c.args.limit bytes _ (c.run_lines-ending.ensures.taken bytes left_is))
