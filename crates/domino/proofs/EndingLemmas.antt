@@ -47,11 +47,14 @@ read_to_end left (inr done) = cc
 
 -- with good words the run ends as the read loop does
 loop_ends : (ending : Ending) (limit : ℕ) (bytes written : List ℕ) (texts : Texts) (journal : List Write) (new : Option (List ℕ)) (told : Option Texts) (left : Option (List ℕ)) → loop.EndsAs machine leaves limit (record { state = record { journal = []; texts = texts }; written = written }) bytes ending (state_of journal told) new left → EndsAs (given true limit bytes written texts) (status_of ending) new told left
-loop_ends endings.Done limit bytes written texts journal new told left h = (record {
-  status_is = ap (λ cut. if cut then InputLimit else Done) (sym h.whole);
-  output = h.reached.has_written;
-  texts_stay = texts_stay journal told (empty texts) (heard machine limit (empty texts) bytes) h.reached.in_state;
-}, read_to_end left h.finished)
+loop_ends endings.Done limit bytes written texts journal new told left h = (
+  record {
+    status_is = ap (λ cut. if cut then InputLimit else Done) (sym h.whole);
+    output = h.reached.has_written;
+    texts_stay = texts_stay journal told (empty texts) (heard machine limit (empty texts) bytes) h.reached.in_state;
+  },
+  read_to_end left h.finished,
+)
 loop_ends endings.InputLimit limit bytes written texts journal new told left h = (
   record {
     status_is = ap (λ cut. if cut then InputLimit else Done) (sym h.cut);
