@@ -1,3 +1,5 @@
 pub mod Circle
+pub mod Distance
 pub mod Plane
 pub mod Polygon
+pub mod Region

@@ -1,11 +1,20 @@
-//! The geometry of the plane as definitions alone: distances, sides, convex polygons, and points that fit a
-//! circle. They are over whole thousandths and compute; `specs/` has them, for the contracts of the crates
-//! above. The calls of this crate have no body: the contract of each is what the definitions give for
-//! examples that were worked out by hand.
+//! The geometry of the plane: distances, sides, convex polygons, and points that fit a circle. The
+//! definitions are over whole thousandths and compute; `specs/` has them, for the contracts of the crates
+//! above. `squared_distance` and `cross` compute two of them. The other calls of this crate have no body: the
+//! contract of each is what the definitions give for examples that were worked out by hand.
 #![tactic(auto)]
 
+mod measures;
+
+pub use measures::{cross, squared_distance};
+
+#[cfg(test)]
+mod tests;
+
 ghost use Rattle.std.specs.Prelude.{◌≡◌, pos, negsuc, true, false, [], ◌∷◌};
+ghost use Rattle.case_table.specs.declared.compare.Op.TheVariants.{Lt, Le, Eq, Ne, Ge, Gt};
 ghost use Rattle.geometry.specs.Circle.{fits};
+ghost use Rattle.geometry.specs.Distance.{distance_compares};
 ghost use Rattle.geometry.specs.Plane.{point, cross, squared_distance};
 ghost use Rattle.geometry.specs.Polygon.{is_convex, is_inside};
 
@@ -14,6 +23,24 @@ pub fn distances_and_sides()
     ensures distance { squared_distance (point (pos 1) (pos 1)) (point (negsuc 1) (pos 5)) ≡ pos 25 }
     ensures left { cross (point (pos 0) (pos 0)) (point (pos 4) (pos 0)) (point (pos 4) (pos 3)) ≡ pos 12 }
     ensures right { cross (point (pos 0) (pos 0)) (point (pos 4) (pos 0)) (point (pos 4) (negsuc 2)) ≡ negsuc 11 }
+{}
+
+/// A distance of 5 compares as its square does with that of the constant; each distance is above a negative
+/// constant, also above one with a larger square.
+pub fn distances_and_constants()
+    ensures below { distance_compares Lt (pos 6) (pos 25) ≡ true }
+    ensures not_below { distance_compares Lt (pos 5) (pos 25) ≡ false }
+    ensures at_most { distance_compares Le (pos 5) (pos 25) ≡ true }
+    ensures equal { distance_compares Eq (pos 5) (pos 25) ≡ true }
+    ensures no_root { distance_compares Eq (pos 5) (pos 26) ≡ false }
+    ensures above { distance_compares Gt (pos 5) (pos 26) ≡ true }
+    ensures zero { distance_compares Gt (pos 0) (pos 0) ≡ false }
+    ensures less_than_negative { distance_compares Lt (negsuc 5) (pos 25) ≡ false }
+    ensures at_most_negative { distance_compares Le (negsuc 5) (pos 25) ≡ false }
+    ensures equal_to_negative { distance_compares Eq (negsuc 4) (pos 25) ≡ false }
+    ensures other_than_negative { distance_compares Ne (negsuc 4) (pos 25) ≡ true }
+    ensures at_least_negative { distance_compares Ge (negsuc 5) (pos 25) ≡ true }
+    ensures above_negative { distance_compares Gt (negsuc 5) (pos 25) ≡ true }
 {}
 
 /// A star of five points crosses itself. A square is convex in both directions, also with a vertex in the

@@ -1,16 +1,11 @@
 -- What a history tells, and so what a query may ask of: a list of writes and a store tell it alike.
 use Rattle.std.specs.Prelude.{◌≡◌, ℕ, ◌≤◌, Option, List}
-use Rattle.fixed_point.specs.declared.number.Point.{Point}
+use Rattle.geometry.specs.Region.{Region}
 use Rattle.motion.specs.declared.cell.Cell.{Cell}
 use Rattle.tick_set.specs.declared.spans.TheConstants.{LAST_TICK}
 use Rattle.history.specs.Write.{Write}
 use Rattle.history.specs.Catalog.{Catalog, catalog}
 use Rattle.history.specs.State.{state}
-
--- a region, by its points in the order given
-pub record Region : Type 0 where
-  pub name : List ℕ
-  pub points : List Point
 
 pub record World : Type 0 where
   pub catalog : Catalog
