@@ -1,0 +1,2 @@
+pub mod NearTicks
+pub mod Triples

@@ -1,0 +1,37 @@
+-- The ticks of a window at which moving points are near each other.
+use Rattle.std.specs.Prelude.{ℕ, ◌-◌, ℤ, Bool, true, ◌&&◌, int_le, List, [], ◌∷◌, map}
+use Rattle.std.specs.List.{list_all}
+use Rattle.case_table.specs.declared.compare.Op.{Op}
+use Rattle.fixed_point.specs.declared.number.Point.{Point}
+use Rattle.geometry.specs.Circle.{fits, squared_width}
+use Rattle.geometry.specs.Distance.{distance_compares}
+use Rattle.linear_crossing.specs.Moving.{position_after, distance_after}
+use Rattle.linear_crossing.specs.Relative.{Relative, value_at}
+use Rattle.linear_crossing.specs.declared.quad.Line.{Line}
+use Rattle.tick_set.specs.Ticks.{within}
+use Rattle.tick_set.specs.declared.spans.Window.{Window}
+
+-- the tick t is in the window, and the squared distance there is at most `limit`
+abbrev pub is_near : Relative → ℤ → Window → ℕ → Bool
+is_near m limit w t = within w.lo w.hi t && int_le (value_at m (t - w.lo)) limit
+
+-- the tick t is in the window, and the distance there compares so with c
+abbrev pub distance_holds : Relative → Op → ℤ → Window → ℕ → Bool
+distance_holds m op c w t = within w.lo w.hi t && distance_compares op c (value_at m (t - w.lo))
+
+-- the positions of all motions, k ticks after the window's first
+abbrev pub positions_after : List Line → ℕ → List Point
+positions_after lines k = map (λ l. position_after l k) lines
+
+-- the tick t is in the window, and the positions there fit a circle of radius r
+abbrev pub are_together : ℤ → List Line → Window → ℕ → Bool
+are_together r lines w t = within w.lo w.hi t && fits r (positions_after lines (t - w.lo))
+
+-- each of the other motions is within the diameter of the first one, k ticks after the window's first
+abbrev pub all_near : ℤ → Line → List Line → ℕ → Bool
+all_near r p others k = list_all (λ q. int_le (distance_after p q k) (squared_width r)) others
+
+-- each two of the motions are
+abbrev pub pairs_near : ℤ → List Line → ℕ → Bool
+pairs_near r [] k = true
+pairs_near r (p ∷ later) k = all_near r p later k && pairs_near r later k

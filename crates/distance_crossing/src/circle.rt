@@ -1,0 +1,118 @@
+//! Whether up to four points fit a circle.
+ghost use Rattle.std.specs.Prelude.{◌≡◌, ◌*◌, ◌^◌, ◌≤◌, pos, ◌+ℤ◌, ◌-ℤ◌, ◌*ℤ◌, ◌≤ℤ◌, int_le, unsigned_abs, length};
+ghost use Rattle.geometry.specs.Plane.{square};
+ghost use Rattle.geometry.specs.Circle.{fits, sides_fit, squared_width, three_fit, two_fit};
+
+use exact::{minus, plus, times};
+use fixed_point::{Fix, Point};
+use geometry::{cross, squared_distance};
+
+/// Whether one to four points fit a circle of radius `r`, from 0 to 10^6 thousandths. One point always fits.
+/// Two fit where their distance is at most the diameter. Three fit where their longest side is at most the
+/// diameter, if the angle opposite to it is 90 degrees or more or they are on a line; any others fit where the
+/// circle through all three is small enough. Four fit where each three of them do.
+///
+/// It takes no memory.
+pub fn fits(r: Fix, points: &[Point]) -> bool
+    requires least { pos 0 ≤ℤ r }
+    requires most { r ≤ℤ pos 1000000 }
+    requires count { length points.now ≤ 4 }
+    ensures { result ≡ fits r points.now }
+{
+    match points {
+        [p, q] => two_fit(r, p, q),
+        [p, q, s] => three_fit(r, p, q, s),
+        [p, q, s, u] => {
+            three_fit(r, p, q, s)
+                && three_fit(r, p, q, u)
+                && three_fit(r, p, s, u)
+                && three_fit(r, q, s, u)
+        }
+        _ => true,
+    }
+}
+
+// The square of the diameter of a circle of radius `r`.
+#[inline]
+pub(crate) fn squared_width(r: Fix) -> i128
+    requires least { pos 0 ≤ℤ r }
+    requires most { r ≤ℤ pos 1000000 }
+    ensures value { result ≡ squared_width r }
+    ensures size { unsigned_abs result ≤ 4 * 10 ^ 12 }
+{
+    let radius = i128::from(r.raw());
+    times(4, times(radius, radius))
+}
+
+fn two_fit(r: Fix, p: &Point, q: &Point) -> bool
+    requires least { pos 0 ≤ℤ r }
+    requires most { r ≤ℤ pos 1000000 }
+    ensures { result ≡ two_fit r p.now q.now }
+{
+    squared_distance(*p, *q) <= squared_width(r)
+}
+
+fn three_fit(r: Fix, p: &Point, q: &Point, s: &Point) -> bool
+    requires least { pos 0 ≤ℤ r }
+    requires most { r ≤ℤ pos 1000000 }
+    ensures { result ≡ three_fit r p.now q.now s.now }
+{
+    let a = squared_distance(*p, *q);
+    let b = squared_distance(*q, *s);
+    let c = squared_distance(*s, *p);
+    let area = cross(*p, *q, *s);
+    sides_fit(r, a, b, c, area)
+}
+
+// Whether a triangle fits, by its squared sides and the cross product of two of them. A side longer than the
+// diameter is refused first, also where all angles are sharp: no side is longer than the diameter of the
+// circle through the corners. So no product of what is left is too large.
+fn sides_fit(r: Fix, a: i128, b: i128, c: i128, area: i128) -> bool
+    requires least { pos 0 ≤ℤ r }
+    requires most { r ≤ℤ pos 1000000 }
+    requires a_least { pos 0 ≤ℤ a }
+    requires b_least { pos 0 ≤ℤ b }
+    requires c_least { pos 0 ≤ℤ c }
+    requires a_most { unsigned_abs a ≤ 8 * 10 ^ 36 }
+    requires b_most { unsigned_abs b ≤ 8 * 10 ^ 36 }
+    requires c_most { unsigned_abs c ≤ 8 * 10 ^ 36 }
+    requires a_and_b { unsigned_abs area * unsigned_abs area ≤ unsigned_abs a * unsigned_abs b }
+    requires b_and_c { unsigned_abs area * unsigned_abs area ≤ unsigned_abs b * unsigned_abs c }
+    requires c_and_a { unsigned_abs area * unsigned_abs area ≤ unsigned_abs c * unsigned_abs a }
+    ensures { result ≡ sides_fit r a b c area }
+{
+    let width = squared_width(r);
+    let longest = a.max(b.max(c));
+    if longest > width {
+        return false;
+    }
+    if is_wide(a, b, c, longest) {
+        return true;
+    }
+    corners_fit(width, a, b, c, area)
+}
+
+// Whether the longest of the squared sides is at least the sum of the two others.
+fn is_wide(a: i128, b: i128, c: i128, longest: i128) -> bool
+    requires a_most { unsigned_abs a ≤ 8 * 10 ^ 36 }
+    requires b_most { unsigned_abs b ≤ 8 * 10 ^ 36 }
+    requires c_most { unsigned_abs c ≤ 8 * 10 ^ 36 }
+    requires longest_most { unsigned_abs longest ≤ 8 * 10 ^ 36 }
+    ensures { result ≡ int_le (a +ℤ b +ℤ c -ℤ longest) longest }
+{
+    minus(plus(plus(a, b), c), longest) <= longest
+}
+
+// Whether the circle through the corners of a triangle is small enough, by the squared sides, none of which
+// is longer than the diameter, and the cross product of two of them.
+fn corners_fit(width: i128, a: i128, b: i128, c: i128, area: i128) -> bool
+    requires width_most { unsigned_abs width ≤ 4 * 10 ^ 12 }
+    requires a_most { unsigned_abs a ≤ 4 * 10 ^ 12 }
+    requires b_most { unsigned_abs b ≤ 4 * 10 ^ 12 }
+    requires c_most { unsigned_abs c ≤ 4 * 10 ^ 12 }
+    requires a_and_b { unsigned_abs area * unsigned_abs area ≤ unsigned_abs a * unsigned_abs b }
+    ensures { result ≡ int_le (a *ℤ b *ℤ c) (width *ℤ square area) }
+{
+    let sides = times(times(a, b), c);
+    sides <= times(width, times(area, area))
+}

@@ -1,0 +1,198 @@
+//! The ticks at which the distance of two motions compares with a constant.
+ghost use Rattle.std.specs.Prelude.{◌≡◌, ℕ, ◌+◌, ◌-◌, ◌-ℤ◌, ◌^◌, ◌≤◌, ◌&&◌, true, pos, not, nat_le, nat_lt, unsigned_abs, option_to_list, ◌++◌, IsNone, IfSome, MatchOption};
+ghost use Rattle.std.specs.Ordering.{int_eq};
+ghost use Rattle.linear_crossing.specs.Relative.{value_at};
+ghost use Rattle.linear_crossing.specs.Zones.{IsPairOf, spans_of};
+ghost use Rattle.tick_set.specs.Runs.{IsNormal, IsRuns, spans_have};
+ghost use Rattle.tick_set.specs.Ticks.{within};
+ghost use Rattle.distance_crossing.specs.NearTicks.{distance_holds, is_near};
+ghost use Rattle.distance_crossing.specs.Triples.{IsPacked, IsTripleOf, triple_spans};
+
+use crate::near::{SHORT_WINDOW, WINDOW_LIMIT, within};
+use case_table::Op;
+use exact::times;
+use fixed_point::Fix;
+use linear_crossing::{Pair, Quad};
+use std::sync::ledger::Ledger;
+use steps::Steps;
+use tick_set::{LAST_TICK, Span, Window};
+
+/// Up to three runs of ticks. The empty places come last.
+#[derive(Clone, Copy, Debug, PartialEq, Eq)]
+pub struct Triple {
+    pub first: Option<Span>,
+    pub second: Option<Span>,
+    pub third: Option<Span>,
+}
+
+/// The ticks of the window at which the distance compares so with `c`, as maximal runs in order. `c` is in
+/// thousandths, within 10^12 of 0. Where it is negative, `<`, `<=` and `=` hold nowhere and the others
+/// everywhere.
+///
+/// It takes no memory.
+pub fn compare<M: Ledger>(q: &Quad, op: Op, c: Fix, w: Window, probes: &mut Steps<M>) -> Triple
+    requires length { w.hi - w.lo ≤ WINDOW_LIMIT }
+    requires c_size { unsigned_abs c ≤ 10 ^ 12 }
+    ensures runs { IsTripleOf (distance_holds q.now op c w) result }
+    ensures cost { probes.new ≤ probes.old + 120 }
+    ensures short_cost { w.hi - w.lo ≤ SHORT_WINDOW → probes.new ≤ probes.old + 88 }
+{
+    if c.raw() < 0 {
+        return everywhere(op.holds(1), w);
+    }
+    let root = i128::from(c.raw());
+    let square = times(root, root);
+    match op {
+        Op::Lt => inside(single(nearer(q, square, w, probes))),
+        Op::Le => inside(single(within(q, square, w, probes))),
+        Op::Eq => inside(at_distance(q, square, w, probes)),
+        Op::Ne => outside(w, at_distance(q, square, w, probes)),
+        Op::Ge => outside(w, single(nearer(q, square, w, probes))),
+        Op::Gt => outside(w, single(within(q, square, w, probes))),
+    }
+}
+
+// The whole window or nothing.
+fn everywhere(all: bool, w: Window) -> Triple
+    ensures { IsTripleOf (λ t. within w.lo w.hi t && all) result }
+{
+    let run = if all { Some(w.span()) } else { None };
+    inside(single(run))
+}
+
+// The ticks of the window at which the squared distance is below `square`.
+fn nearer<M: Ledger>(q: &Quad, square: i128, w: Window, probes: &mut Steps<M>) -> Option<Span>
+    requires length { w.hi - w.lo ≤ WINDOW_LIMIT }
+    requires size { unsigned_abs square ≤ 10 ^ 24 }
+    ensures runs { IsRuns (is_near q.now (square -ℤ pos 1) w) (option_to_list result) }
+    ensures cost { probes.new ≤ probes.old + 60 }
+    ensures short_cost { w.hi - w.lo ≤ SHORT_WINDOW → probes.new ≤ probes.old + 44 }
+{
+    within(q, square - 1, w, probes)
+}
+
+// The ticks of the window at which the squared distance is `square`.
+fn at_distance<M: Ledger>(q: &Quad, square: i128, w: Window, probes: &mut Steps<M>) -> Pair
+    requires length { w.hi - w.lo ≤ WINDOW_LIMIT }
+    requires size { unsigned_abs square ≤ 10 ^ 24 }
+    ensures runs { IsPairOf (λ t. within w.lo w.hi t && int_eq (value_at q.now (t - w.lo)) square) result }
+    ensures cost { probes.new ≤ probes.old + 120 }
+    ensures short_cost { w.hi - w.lo ≤ SHORT_WINDOW → probes.new ≤ probes.old + 88 }
+{
+    let at_most = within(q, square, w, probes);
+    let below = nearer(q, square, w, probes);
+    without(at_most, below)
+}
+
+// One run as a pair.
+fn single(run: Option<Span>) -> Pair
+    ensures spans { spans_of result ≡ option_to_list run }
+    ensures in_order { IsNone result.first → IsNone result.second }
+{
+    Pair {
+        first: run,
+        second: None,
+    }
+}
+
+// The ticks of the first span that are not in the second, which has no others.
+fn without(outer: Option<Span>, inner: Option<Span>) -> Pair
+    requires { (t : ℕ) → spans_have (option_to_list inner) t ≡ true → spans_have (option_to_list outer) t ≡ true }
+    ensures { IsPairOf (λ t. spans_have (option_to_list outer) t && not (spans_have (option_to_list inner) t)) result }
+{
+    let Some(whole) = outer else {
+        return single(None);
+    };
+    let (first, next) = gap(whole.lo, inner);
+    let second = stretch(next, whole.hi + 1);
+    if first.is_none() {
+        single(second)
+    } else {
+        Pair { first, second }
+    }
+}
+
+// The ticks of the window that are in neither run of the pair, which has no others.
+fn outside(w: Window, pair: Pair) -> Triple
+    requires normal { IsNormal (spans_of pair) }
+    requires inside { (t : ℕ) → spans_have (spans_of pair) t ≡ true → within w.lo w.hi t ≡ true }
+    ensures { IsTripleOf (λ t. within w.lo w.hi t && not (spans_have (spans_of pair) t)) result }
+{
+    let (first, next) = gap(w.lo, pair.first);
+    let (second, next) = gap(next, pair.second);
+    packed(first, second, stretch(next, w.hi + 1))
+}
+
+// The same runs as a triple.
+fn inside(pair: Pair) -> Triple
+    requires normal { IsNormal (spans_of pair) }
+    requires in_order { IsNone pair.first → IsNone pair.second }
+    ensures { IsTripleOf (spans_have (spans_of pair)) result }
+{
+    Triple {
+        first: pair.first,
+        second: pair.second,
+        third: None,
+    }
+}
+
+// The ticks from `from` up to the run, and the first tick past it; none and `from` where there is no run.
+fn gap(from: u32, run: Option<Span>) -> (Option<Span>, u32)
+    requires in_range { from ≤ LAST_TICK + 1 }
+    requires ahead { IfSome run (λ s. from ≤ s.lo) }
+    ensures next { MatchOption run (result.1 ≡ from) (λ s. result.1 ≡ s.hi + 1) }
+    ensures runs { IsRuns (λ t. nat_le from t && nat_lt t result.1 && not (spans_have (option_to_list run) t)) (option_to_list result.0) }
+{
+    match run {
+        Some(s) => (stretch(from, s.lo), s.hi + 1),
+        None => (None, from),
+    }
+}
+
+// The ticks from `from` up to `until`, without `until`.
+fn stretch(from: u32, until: u32) -> Option<Span>
+    requires { until ≤ LAST_TICK + 1 }
+    ensures { IsRuns (λ t. nat_le from t && nat_lt t until) (option_to_list result) }
+{
+    if from < until {
+        Some(Span {
+            lo: from,
+            hi: until - 1,
+        })
+    } else {
+        None
+    }
+}
+
+// The runs that are there, in their order.
+fn packed(first: Option<Span>, second: Option<Span>, third: Option<Span>) -> Triple
+    ensures spans { triple_spans result ≡ option_to_list first ++ option_to_list second ++ option_to_list third }
+    ensures packed { IsPacked result }
+{
+    if first.is_none() && second.is_none() {
+        return Triple {
+            first: third,
+            second: None,
+            third: None,
+        };
+    }
+    if first.is_none() {
+        return Triple {
+            first: second,
+            second: third,
+            third: None,
+        };
+    }
+    if second.is_none() {
+        return Triple {
+            first,
+            second: third,
+            third: None,
+        };
+    }
+    Triple {
+        first,
+        second,
+        third,
+    }
+}

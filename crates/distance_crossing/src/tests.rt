@@ -1,0 +1,635 @@
+ghost use Rattle.std.specs.Prelude.{◌≡◌, ◌-◌, ◌<◌, ◌≤◌, ◌≤ℤ◌, pos, unsigned_abs, length, All, IfSome};
+ghost use Rattle.linear_crossing.specs.Moving.{IsInReach};
+
+use super::*;
+use case_table::Op;
+use exact::{plus, times};
+use fixed_point::{Fix, Point, Slope};
+use interval_set::IntervalSet;
+use linear_crossing::{COORDINATE_LIMIT, Line, Quad};
+use std::alloc::{AllocError, Global};
+use std::marker::Brand;
+use std::sync::ledger::{Blank, Ledger};
+use std::test::Fail;
+use steps::Steps;
+use tick_set::{Span, TickSet, Window};
+
+const OPS: [Op; 6] = [Op::Lt, Op::Le, Op::Eq, Op::Ne, Op::Ge, Op::Gt];
+
+fn ends(run: Option<Span>) -> Option<(u32, u32)> {
+    run.map(|s| (s.lo, s.hi))
+}
+
+fn covers(run: Option<Span>, t: u32) -> bool {
+    run.is_some_and(|s| s.lo <= t && t <= s.hi)
+}
+
+fn place(x: i64, y: i64) -> Option<Point> {
+    Some(Point {
+        x: Fix::of(x)?,
+        y: Fix::of(y)?,
+    })
+}
+
+fn radius(r: i64) -> Option<Fix>
+    ensures least { IfSome result (λ f. pos 0 ≤ℤ f) }
+    ensures most { IfSome result (λ f. f ≤ℤ pos 1000000) }
+{
+    if r < 0 || r > 1_000_000 {
+        return None;
+    }
+    Fix::of(r)
+}
+
+// A motion from (x, y) by (dx, dy) a tick, where its numbers are in range.
+fn line(x: i64, y: i64, dx: i64, dy: i64) -> Option<Line>
+    ensures { IfSome result IsInReach }
+{
+    if x.unsigned_abs() > COORDINATE_LIMIT || y.unsigned_abs() > COORDINATE_LIMIT {
+        return None;
+    }
+    let at = Point {
+        x: Fix::of(x)?,
+        y: Fix::of(y)?,
+    };
+    let dx = Slope::of(dx)?;
+    let dy = Slope::of(dy)?;
+    Some(Line { at, dx, dy })
+}
+
+fn window(lo: u32, hi: u32) -> Option<Window>
+    ensures { IfSome result (λ w. w.hi - w.lo ≤ WINDOW_LIMIT) }
+{
+    if hi.saturating_sub(lo) > WINDOW_LIMIT {
+        return None;
+    }
+    Window::new(lo, hi)
+}
+
+// The ticks at which two motions are near, with a counter of its own.
+fn near_by<M: Ledger>(blank: Blank, p: &Line, q: &Line, limit: i128, w: Window) -> Option<Span>
+    requires name { blank.name ≡ M.name }
+    requires parts { blank.parts ≡ M.parts }
+    requires some_part { 0 < blank.parts }
+    requires p_in_reach { IsInReach p.now }
+    requires q_in_reach { IsInReach q.now }
+    requires length { w.hi - w.lo ≤ WINDOW_LIMIT }
+{
+    let mut probes: Steps<M> = Steps::new(blank);
+    within(&Quad::between(p, q), limit, w, &mut probes)
+}
+
+fn near(p: &Line, q: &Line, limit: i128, w: Window) -> Option<Span>
+    requires p_in_reach { IsInReach p.now }
+    requires q_in_reach { IsInReach q.now }
+    requires length { w.hi - w.lo ≤ WINDOW_LIMIT }
+{
+    near_by::<Brand>(Blank::new(1), p, q, limit, w)
+}
+
+#[test]
+fn motions_that_meet(rt: HostRuntime) -> Result<(), Fail> {
+    let cases = [
+        (
+            (0, 3000, 1000, 0),
+            (10_000, 0, 0, 0),
+            9_000_000,
+            (0, 20),
+            Some((10, 10)),
+        ),
+        (
+            (500, 3000, 1000, 0),
+            (10_000, 0, 0, 0),
+            9_000_000,
+            (0, 20),
+            None,
+        ),
+        (
+            (0, 3000, 1000, 0),
+            (10_000, 0, 0, 0),
+            8_999_999,
+            (0, 20),
+            None,
+        ),
+        (
+            (0, 3000, 1000, 0),
+            (10_000, 0, 0, 0),
+            10_000_000,
+            (0, 20),
+            Some((9, 11)),
+        ),
+        (
+            (0, 3000, 1000, 0),
+            (10_000, 0, 0, 0),
+            9_999_999,
+            (0, 20),
+            Some((10, 10)),
+        ),
+        ((0, 0, 0, 0), (3, 4, 0, 0), 25, (7, 9), Some((7, 9))),
+        ((0, 0, 0, 0), (3, 4, 0, 0), 24, (7, 9), None),
+        ((0, 0, 1, 0), (5, 0, 0, 0), -1, (0, 9), None),
+        ((0, 0, 1, 0), (5, 0, 0, 0), 1, (100, 104), Some((104, 104))),
+        ((0, 0, 1, 0), (5, 0, 0, 0), 25, (100, 103), Some((100, 103))),
+        ((0, 0, 1, 0), (-5, 0, 0, 0), 36, (3, 9), Some((3, 4))),
+        (
+            (0, 0, 1000, 0),
+            (100_000_000_000, 0, 0, 0),
+            250_000,
+            (900_000_000, 1_000_000_000),
+            Some((1_000_000_000, 1_000_000_000)),
+        ),
+        (
+            (0, 0, 1000, 0),
+            (0, 0, 0, 0),
+            250_000,
+            (900_000_000, 1_000_000_000),
+            Some((900_000_000, 900_000_000)),
+        ),
+    ];
+    for (p, q, limit, w, want) in cases {
+        let p = line(p.0, p.1, p.2, p.3).ok_or("no motion")?;
+        let q = line(q.0, q.1, q.2, q.3).ok_or("no motion")?;
+        let w = window(w.0, w.1).ok_or("no window")?;
+        let found = near(&p, &q, limit, w);
+        assert_eq!(rt; ends(found), want, "at most {limit}");
+    }
+    Ok(())
+}
+
+// The ticks at which the distance compares, with a counter of its own.
+fn compared_by<M: Ledger>(blank: Blank, p: &Line, q: &Line, op: Op, c: Fix, w: Window) -> Triple
+    requires name { blank.name ≡ M.name }
+    requires parts { blank.parts ≡ M.parts }
+    requires some_part { 0 < blank.parts }
+    requires p_in_reach { IsInReach p.now }
+    requires q_in_reach { IsInReach q.now }
+    requires c_size { unsigned_abs c ≤ 1000000000000 }
+    requires length { w.hi - w.lo ≤ WINDOW_LIMIT }
+{
+    let mut probes: Steps<M> = Steps::new(blank);
+    compare(&Quad::between(p, q), op, c, w, &mut probes)
+}
+
+fn compared(p: &Line, q: &Line, op: Op, c: Fix, w: Window) -> Triple
+    requires p_in_reach { IsInReach p.now }
+    requires q_in_reach { IsInReach q.now }
+    requires c_size { unsigned_abs c ≤ 1000000000000 }
+    requires length { w.hi - w.lo ≤ WINDOW_LIMIT }
+{
+    compared_by::<Brand>(Blank::new(1), p, q, op, c, w)
+}
+
+fn constant(c: i64) -> Option<Fix>
+    ensures { IfSome result (λ f. unsigned_abs f ≤ 1000000000000) }
+{
+    if c.unsigned_abs() > 1_000_000_000_000 {
+        return None;
+    }
+    Fix::of(c)
+}
+
+#[test]
+fn distances_that_compare(rt: HostRuntime) -> Result<(), Fail> {
+    let car = (0, 0, 1000, 0);
+    let post = (5000, 0, 0, 0);
+    let far = 1_001_000_000_000_000;
+    let cases = [
+        (
+            car,
+            post,
+            Op::Ne,
+            3000,
+            (0, 10),
+            [Some((0, 1)), Some((3, 7)), Some((9, 10))],
+        ),
+        (
+            car,
+            post,
+            Op::Eq,
+            3000,
+            (0, 10),
+            [Some((2, 2)), Some((8, 8)), None],
+        ),
+        (car, post, Op::Lt, 3000, (0, 10), [Some((3, 7)), None, None]),
+        (car, post, Op::Le, 3000, (0, 10), [Some((2, 8)), None, None]),
+        (
+            car,
+            post,
+            Op::Ge,
+            3000,
+            (0, 10),
+            [Some((0, 2)), Some((8, 10)), None],
+        ),
+        (
+            car,
+            post,
+            Op::Gt,
+            3000,
+            (0, 10),
+            [Some((0, 1)), Some((9, 10)), None],
+        ),
+        (
+            car,
+            post,
+            Op::Ne,
+            3000,
+            (0, 7),
+            [Some((0, 1)), Some((3, 7)), None],
+        ),
+        (car, post, Op::Ne, 5000, (0, 10), [Some((1, 9)), None, None]),
+        (
+            car,
+            post,
+            Op::Ne,
+            2500,
+            (0, 10),
+            [Some((0, 10)), None, None],
+        ),
+        (car, post, Op::Eq, 0, (0, 10), [Some((5, 5)), None, None]),
+        (car, post, Op::Lt, 0, (0, 10), [None, None, None]),
+        (car, post, Op::Lt, -3000, (0, 10), [None, None, None]),
+        (car, post, Op::Le, -3000, (0, 10), [None, None, None]),
+        (car, post, Op::Eq, -3000, (0, 10), [None, None, None]),
+        (
+            car,
+            post,
+            Op::Ne,
+            -3000,
+            (0, 10),
+            [Some((0, 10)), None, None],
+        ),
+        (
+            car,
+            post,
+            Op::Ge,
+            -3000,
+            (0, 10),
+            [Some((0, 10)), None, None],
+        ),
+        (
+            car,
+            post,
+            Op::Gt,
+            -3000,
+            (0, 10),
+            [Some((0, 10)), None, None],
+        ),
+        (car, car, Op::Eq, 0, (5, 6), [Some((5, 6)), None, None]),
+        (
+            car,
+            (1_000_000_000, 0, 0, 0),
+            Op::Le,
+            500,
+            (0, 1_000_000),
+            [Some((1_000_000, 1_000_000)), None, None],
+        ),
+        (
+            car,
+            (100_000_000_000, 0, 0, 0),
+            Op::Le,
+            500,
+            (0, 100_000_000),
+            [Some((100_000_000, 100_000_000)), None, None],
+        ),
+        (
+            (far, far, 1_000_000, 1_000_000),
+            (-far, -far, -1_000_000, -1_000_000),
+            Op::Gt,
+            1_000_000_000_000,
+            (0, 100_000_000),
+            [Some((0, 100_000_000)), None, None],
+        ),
+    ];
+    for (p, q, op, c, w, want) in cases {
+        let p = line(p.0, p.1, p.2, p.3).ok_or("no motion")?;
+        let q = line(q.0, q.1, q.2, q.3).ok_or("no motion")?;
+        let c = constant(c).ok_or("no constant")?;
+        let w = window(w.0, w.1).ok_or("no window")?;
+        let found = compared(&p, &q, op, c, w);
+        assert_eq!(rt; ends(found.first), want[0]);
+        assert_eq!(rt; ends(found.second), want[1]);
+        assert_eq!(rt; ends(found.third), want[2]);
+    }
+    Ok(())
+}
+
+// The next number of a seeded row of numbers.
+fn next(seed: u64) -> u64 {
+    seed.wrapping_mul(6_364_136_223_846_793_005)
+        .wrapping_add(1_442_695_040_888_963_407)
+}
+
+// A number from -64 to 64 of a seed.
+fn drawn(seed: u64) -> i64
+    ensures { unsigned_abs result ≤ 64 }
+{
+    (seed / 65_536 % 129) as i64 - 64
+}
+
+// A coordinate after `k` ticks.
+fn moved(x: i64, dx: i64, k: u32) -> i64
+    requires x_size { unsigned_abs x ≤ 10000 }
+    requires dx_size { unsigned_abs dx ≤ 128 }
+    requires k { k ≤ 200 }
+    ensures { unsigned_abs result ≤ 40000 }
+{
+    x + dx * i64::from(k)
+}
+
+// Whether a point at (x, y) has a distance from the origin that compares so, by the squares.
+fn expected(x: i64, y: i64, op: Op, c: i64) -> bool
+    requires x_size { unsigned_abs x ≤ 40000 }
+    requires y_size { unsigned_abs y ≤ 40000 }
+    requires c_size { unsigned_abs c ≤ 40000 }
+{
+    if c < 0 {
+        return match op {
+            Op::Lt | Op::Le | Op::Eq => false,
+            Op::Ne | Op::Ge | Op::Gt => true,
+        };
+    }
+    op.compares(plus(square(x), square(y)), square(c))
+}
+
+fn square(x: i64) -> i128
+    requires { unsigned_abs x ≤ 40000 }
+    ensures { unsigned_abs result ≤ 1600000000 }
+{
+    let x = i128::from(x);
+    times(x, x)
+}
+
+// Whether the runs are those of a scan over 200 ticks, for a point that moves as another sees it.
+fn agrees(found: Triple, x: i64, y: i64, dx: i64, dy: i64, op: Op, c: i64) -> bool
+    requires x_size { unsigned_abs x ≤ 10000 }
+    requires y_size { unsigned_abs y ≤ 10000 }
+    requires dx_size { unsigned_abs dx ≤ 128 }
+    requires dy_size { unsigned_abs dy ≤ 128 }
+    requires c_size { unsigned_abs c ≤ 40000 }
+{
+    for k in 0..200 {
+        let wanted = expected(moved(x, dx, k), moved(y, dy, k), op, c);
+        let t = 1000 + k;
+        let had = covers(found.first, t) || covers(found.second, t) || covers(found.third, t);
+        if had != wanted {
+            return false;
+        }
+    }
+    true
+}
+
+// Whether all six comparisons agree with a scan. The second motion is seen from the first, which moves too.
+fn all_agree(x: i64, y: i64, dx: i64, dy: i64, c: i64) -> Option<bool>
+    requires x_size { unsigned_abs x ≤ 10000 }
+    requires y_size { unsigned_abs y ≤ 10000 }
+    requires dx_size { unsigned_abs dx ≤ 128 }
+    requires dy_size { unsigned_abs dy ≤ 128 }
+    requires c_size { unsigned_abs c ≤ 40000 }
+{
+    let w = window(1000, 1199)?;
+    let p = line(70, -7, -dx, 5)?;
+    let q = line(70 + x, y - 7, 0, dy + 5)?;
+    let constant = constant(c)?;
+    for op in OPS {
+        if !agrees(compared(&p, &q, op, constant, w), x, y, dx, dy, op, c) {
+            return Some(false);
+        }
+    }
+    Some(true)
+}
+
+// Motions along one line at the distance of some tick, and any motions.
+#[test]
+fn comparisons_agree_with_a_scan(rt: HostRuntime) -> Result<(), Fail> {
+    let mut seed = 1;
+    for _ in 0..30 {
+        seed = next(seed);
+        let x = drawn(seed) * 100;
+        let y = drawn(seed / 5);
+        let dx = drawn(next(seed));
+        let dy = drawn(seed / 7);
+        let c = drawn(seed / 3) * 50;
+        assert_eq!(rt;
+            all_agree(x, 0, dx, 0, moved(x, dx, 50)),
+            Some(true),
+            "from {x} by {dx}"
+        );
+        assert_eq!(rt;
+            all_agree(x, y, dx, dy, c),
+            Some(true),
+            "from {x} {y} by {dx} {dy} at {c}"
+        );
+    }
+    Ok(())
+}
+
+#[test]
+fn points_and_circles(rt: HostRuntime) -> Result<(), Fail> {
+    let far = 1_000_000_000_000_000_000;
+    let cases = [
+        // A right angle: the longest side is the diameter.
+        (2000, [(0, 0), (4000, 0), (2000, 2000)], true),
+        (1999, [(0, 0), (4000, 0), (2000, 2000)], false),
+        // An obtuse angle, also in another order: the circle through the corners is larger.
+        (4, [(0, 0), (8, 0), (4, 1)], true),
+        (4, [(4, 1), (0, 0), (8, 0)], true),
+        (3, [(4, 1), (0, 0), (8, 0)], false),
+        // Sharp angles: the circle through the corners.
+        (3400, [(0, 0), (6000, 0), (3000, 5000)], true),
+        (3399, [(0, 0), (6000, 0), (3000, 5000)], false),
+        (577_351, [(0, 0), (1_000_000, 0), (500_000, 866_025)], true),
+        (577_350, [(0, 0), (1_000_000, 0), (500_000, 866_025)], false),
+        // Sides of exactly the diameter, and longer by little.
+        (
+            1_000_000,
+            [(0, 0), (2_000_000, 0), (1_000_000, 1_732_050)],
+            false,
+        ),
+        (
+            1_000_000,
+            [(0, 0), (2_000_000, 0), (1_000_000, 1_000_000)],
+            true,
+        ),
+        (
+            1_000_000,
+            [(0, 0), (2_000_001, 0), (1_000_000, 1_000_000)],
+            false,
+        ),
+        (
+            1_000_000,
+            [(0, 0), (1_000_000, 1_732_051), (1_000_000, 0)],
+            false,
+        ),
+        // Points on a line, and points given twice.
+        (2, [(0, 0), (4, 0), (1, 0)], true),
+        (1, [(0, 0), (4, 0), (1, 0)], false),
+        (0, [(5, 5), (5, 5), (5, 5)], true),
+        (0, [(5, 5), (5, 5), (5, 6)], false),
+        (1, [(5, 5), (5, 7), (5, 5)], true),
+        // Far apart.
+        (1_000_000, [(far, far), (-far, -far), (far, -far)], false),
+    ];
+    for (r, points, want) in cases {
+        let [p, q, s] = points;
+        let points = [
+            place(p.0, p.1).ok_or("no place")?,
+            place(q.0, q.1).ok_or("no place")?,
+            place(s.0, s.1).ok_or("no place")?,
+        ];
+        let r = radius(r).ok_or("no radius")?;
+        assert_eq!(rt; fits(r, &points), want);
+    }
+    Ok(())
+}
+
+#[test]
+fn one_two_and_four_points(rt: HostRuntime) -> Result<(), Fail> {
+    let square = [(3, 4), (-3, 4), (3, -4), (-3, -4)];
+    let cases = [
+        (0, 1, square, true),
+        (3, 2, square, true),
+        (2, 2, square, false),
+        (5, 4, square, true),
+        (4, 4, square, false),
+        (5, 4, [(0, 6), (3, 4), (3, -4), (-3, -4)], false),
+        (5, 4, [(3, 4), (0, 6), (3, -4), (-3, -4)], false),
+        (5, 4, [(3, 4), (3, -4), (0, 6), (-3, -4)], false),
+        (5, 4, [(3, 4), (3, -4), (-3, -4), (0, 6)], false),
+    ];
+    for (r, count, points, want) in cases {
+        let [p, q, s, u] = points;
+        let points = [
+            place(p.0, p.1).ok_or("no place")?,
+            place(q.0, q.1).ok_or("no place")?,
+            place(s.0, s.1).ok_or("no place")?,
+            place(u.0, u.1).ok_or("no place")?,
+        ];
+        let r = radius(r).ok_or("no radius")?;
+        assert!(rt; count <= 4);
+        assert_eq!(rt; fits(r, &points[..count]), want);
+    }
+    Ok(())
+}
+
+// The ticks at which motions fit, with a counter of its own.
+fn together_by<M: Ledger>(
+    blank: Blank,
+    alloc: Global,
+    r: Fix,
+    lines: &[Line],
+    w: Window,
+) -> Result<IntervalSet, AllocError>
+    requires name { blank.name ≡ M.name }
+    requires parts { blank.parts ≡ M.parts }
+    requires some_part { 0 < blank.parts }
+    requires least { pos 0 ≤ℤ r }
+    requires most { r ≤ℤ pos 1000000 }
+    requires count { length lines.now ≤ 4 }
+    requires in_reach { All IsInReach lines.now }
+    requires length { w.hi - w.lo ≤ WINDOW_LIMIT }
+{
+    let mut probes: Steps<M> = Steps::new(blank);
+    let ticks = sphere_ticks(alloc, r, lines, w, &mut probes)?;
+    Ok(ticks)
+}
+
+fn together(alloc: Global, r: Fix, lines: &[Line], w: Window) -> Result<IntervalSet, AllocError>
+    requires least { pos 0 ≤ℤ r }
+    requires most { r ≤ℤ pos 1000000 }
+    requires count { length lines.now ≤ 4 }
+    requires in_reach { All IsInReach lines.now }
+    requires length { w.hi - w.lo ≤ WINDOW_LIMIT }
+{
+    together_by::<Brand>(Blank::new(1), alloc, r, lines, w)
+}
+
+// The first and last tick of a set of one run.
+fn only_run(set: &IntervalSet) -> Option<(u32, u32)> {
+    match set.spans() {
+        [s] => Some((s.lo, s.hi)),
+        _ => None,
+    }
+}
+
+// A motion as its first position and its way at each tick.
+type Way = (i64, i64, i64, i64);
+
+fn moving(way: Way) -> Option<Line>
+    ensures { IfSome result IsInReach }
+{
+    line(way.0, way.1, way.2, way.3)
+}
+
+// The ticks from 100 to 120 at which up to four motions fit, one run at most.
+fn one_together(alloc: Global, r: i64, p: Way) -> Result<Option<(u32, u32)>, Fail> {
+    let w = window(100, 120).ok_or("no window")?;
+    let r = radius(r).ok_or("no radius")?;
+    let p = moving(p).ok_or("no motion")?;
+    let set = together(alloc, r, &[p], w)?;
+    Ok(only_run(&set))
+}
+
+fn two_together(alloc: Global, r: i64, p: Way, q: Way) -> Result<Option<(u32, u32)>, Fail> {
+    let w = window(100, 120).ok_or("no window")?;
+    let r = radius(r).ok_or("no radius")?;
+    let p = moving(p).ok_or("no motion")?;
+    let q = moving(q).ok_or("no motion")?;
+    let set = together(alloc, r, &[p, q], w)?;
+    Ok(only_run(&set))
+}
+
+fn three_together(
+    alloc: Global,
+    r: i64,
+    p: Way,
+    q: Way,
+    s: Way,
+) -> Result<Option<(u32, u32)>, Fail> {
+    let w = window(100, 120).ok_or("no window")?;
+    let r = radius(r).ok_or("no radius")?;
+    let p = moving(p).ok_or("no motion")?;
+    let q = moving(q).ok_or("no motion")?;
+    let s = moving(s).ok_or("no motion")?;
+    let set = together(alloc, r, &[p, q, s], w)?;
+    Ok(only_run(&set))
+}
+
+fn four_together(
+    alloc: Global,
+    r: i64,
+    p: Way,
+    q: Way,
+    s: Way,
+    u: Way,
+) -> Result<Option<(u32, u32)>, Fail> {
+    let w = window(100, 120).ok_or("no window")?;
+    let r = radius(r).ok_or("no radius")?;
+    let p = moving(p).ok_or("no motion")?;
+    let q = moving(q).ok_or("no motion")?;
+    let s = moving(s).ok_or("no motion")?;
+    let u = moving(u).ok_or("no motion")?;
+    let set = together(alloc, r, &[p, q, s, u], w)?;
+    Ok(only_run(&set))
+}
+
+#[test]
+fn motions_that_come_together(rt: HostRuntime) -> Result<(), Fail> {
+    let alloc = rt.alloc();
+    let car = (2000, -10_000, 0, 1000);
+    let left = (0, 0, 0, 0);
+    let right = (4000, 0, 0, 0);
+    let above = (2000, 2000, 0, 0);
+    // One is always together, two where their distance is at most the diameter.
+    assert_eq!(rt; one_together(alloc, 0, car)?, Some((100, 120)));
+    assert_eq!(rt; two_together(alloc, 2500, car, left)?, Some((106, 114)));
+    // The car is in the circle over the posts where the angle at it is not sharp.
+    for (r, three, four) in [
+        (1999, None, None),
+        (2000, Some((108, 112)), Some((108, 112))),
+        (2500, Some((106, 114)), Some((107, 114))),
+    ] {
+        assert_eq!(rt; three_together(alloc, r, left, car, right)?, three);
+        assert_eq!(rt; four_together(alloc, r, left, car, above, right)?, four);
+    }
+    Ok(())
+}
