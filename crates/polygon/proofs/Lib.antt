@@ -1,0 +1,4 @@
+pub mod EdgeLemmas
+pub mod KeptLemmas
+pub mod NamedLemmas
+pub mod TickLemmas

@@ -1,0 +1,118 @@
+//! Convex polygons.
+ghost use Rattle.std.specs.Prelude.{◌≡◌, length, slice_get, IfOk, OnOk, IfErr, option_to_list};
+ghost use Rattle.geometry.specs.Polygon.{edges, is_inside, turned};
+ghost use Rattle.tick_set.specs.Runs.{IsRuns};
+ghost use Rattle.polygon.specs.Faults.{Explains, IsPolygon};
+ghost use Rattle.polygon.specs.Given.{given, IsKept};
+ghost use Rattle.polygon.specs.Inside.{is_inside_at};
+ghost use Rattle.polygon.specs.declared.fault.PolygonFault.TheVariants.{NoMemory};
+
+use crate::crossing::ticks_within;
+use crate::fault::{LEAST_POINTS, MOST_POINTS, PolygonFault};
+use crate::sides::{end_of_edge, is_counterclockwise, is_within};
+use fixed_point::Point;
+use linear_crossing::Line;
+use std::alloc::Global;
+use std::marker::Model;
+use tick_set::{Span, Window};
+
+/// A closed convex polygon. A contract sees it as the list of its points, in the order in which they were
+/// given.
+#[derive(Debug, Drop)]
+pub struct Polygon {
+    // In counterclockwise order.
+    points: Vec<Point>,
+    // Whether they were given in the other order.
+    reversed: bool,
+}
+
+impl Model for Polygon {
+    ghost use Rattle.std.specs.Prelude.{List};
+    ghost use Rattle.fixed_point.specs.declared.number.Point.{Point};
+    ghost use Rattle.polygon.specs.Given.{given, IsKept};
+
+    ghost Value = { List Point };
+
+    ghost view = { λ a. given a.points.items a.reversed };
+
+    ghost invariant = { λ a. IsKept a.points.items a.reversed };
+}
+
+impl Polygon {
+    /// The polygon of these points, in counterclockwise or in clockwise order. An edge goes from each point to
+    /// the next, and from the last one to the first. The order is counterclockwise where the two ends of each
+    /// edge differ, no edge has a point strictly on its right, and some edge has one strictly on its left; so a
+    /// point may be in the middle of a side.
+    ///
+    /// `TooFew` exactly where there are fewer than [`LEAST_POINTS`], `TooMany` where there are more than
+    /// [`MOST_POINTS`], and `NotConvex` where neither order is counterclockwise.
+    pub fn new(alloc: Global, points: &[Point]) -> Result<Polygon, PolygonFault>
+        ensures ok { IfOk result (λ p. p ≡ points.now) }
+        ensures polygon { OnOk result (IsPolygon points.now) }
+        ensures cause { IfErr result (Explains points.now) }
+    {
+        if points.len() < LEAST_POINTS {
+            return Err(PolygonFault::TooFew);
+        }
+        if points.len() > MOST_POINTS {
+            return Err(PolygonFault::TooMany);
+        }
+        if is_counterclockwise(points) {
+            return keep(alloc, points, false);
+        }
+        let mut backward = [points[0]; MOST_POINTS];
+        let backward = &mut backward[..points.len()];
+        backward.copy_from_slice(points);
+        backward.reverse();
+        if is_counterclockwise(backward) {
+            return keep(alloc, backward, true);
+        }
+        Err(PolygonFault::NotConvex)
+    }
+
+    /// Whether the place is inside the polygon or on its boundary: no edge has it strictly on its right.
+    pub fn has(&self, p: Point) -> bool
+        ensures { result ≡ is_inside self.now p }
+    {
+        is_within(&self.points[0], &self.points, &p)
+    }
+
+    /// The number of points that were given, from 3 to 64.
+    #[inline]
+    pub fn len(&self) -> usize
+        ensures len { result ≡ length self.now }
+        ensures polygon { IsPolygon self.now }
+    {
+        self.points.len()
+    }
+
+    /// The ticks of the window at which the moving point is inside or on the boundary: one span, None exactly
+    /// where there is no such tick. It takes no memory.
+    pub fn inside_ticks(&self, l: &Line, w: Window) -> Option<Span>
+        ensures { IsRuns (is_inside_at self.now l.now w) (option_to_list result) }
+    {
+        ticks_within(&self.points[0], &self.points, l, w)
+    }
+
+    /// The two ends of an edge, in its direction: the edge that begins at point `i`, counted from 0, of the
+    /// points in counterclockwise order. None exactly where there are at most `i` points.
+    pub fn edge(&self, i: usize) -> Option<(Point, Point)>
+        ensures { result ≡ slice_get (edges (turned self.now)) i }
+    {
+        let start = self.points.get(i)?;
+        let end = end_of_edge(&self.points[0], &self.points[i + 1..]);
+        Some((*start, *end))
+    }
+}
+
+// Keeps points that are in counterclockwise order.
+fn keep(alloc: Global, points: &[Point], reversed: bool) -> Result<Polygon, PolygonFault>
+    requires { IsKept points.now reversed }
+    ensures ok { IfOk result (λ p. p ≡ given points.now reversed) }
+    ensures err { IfErr result (λ e. e ≡ NoMemory) }
+{
+    match Vec::from_slice(alloc, points) {
+        Ok(points) => Ok(Polygon { points, reversed }),
+        Err(_) => Err(PolygonFault::NoMemory),
+    }
+}
