@@ -1,2 +1,6 @@
 pub mod Bounds
 pub mod Stored
+pub mod TimelineLemmas
+pub mod LegLemmas
+pub mod CellLemmas
+pub mod PieceLemmas

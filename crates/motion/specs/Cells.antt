@@ -1,9 +1,9 @@
 -- The effect of one write on the cells of an object.
-use Rattle.std.specs.Prelude.{ℕ, ℤ, pos, ◌≤◌, unsigned_abs, Option, None, Some, List, [], ◌∷◌, ◌++◌, codes, if◌then◌else◌}
+use Rattle.std.specs.Prelude.{ℕ, ℤ, zero, suc, pos, ◌≤◌, Bool, false, unsigned_abs, All, Option, None, Some, List, [], ◌∷◌, ◌++◌, codes, if◌then◌else◌}
 use Rattle.std.specs.List.{fold}
 use Rattle.std.specs.Str.{bytes_eq}
 use Rattle.motion.specs.Function.{Function, level}
-use Rattle.motion.specs.Dynamic.{moved, turned, begun}
+use Rattle.motion.specs.Dynamic.{moved, turned, begun, turns_at}
 use Rattle.fixed_point.specs.declared.number.Point.{Point}
 use Rattle.motion.specs.declared.vector.TheConstants.{GIVEN_LIMIT}
 use Rattle.motion.specs.declared.cell.AttrKind.{AttrKind}
@@ -30,12 +30,28 @@ written s (cells.Dyn v) (givens.Rate f) = cells.Dyn (turned s v f)
 written s (cells.Dyn v) (givens.Both n f) = cells.Dyn (begun s n f)
 written s cell given = cell
 
+-- the cells after a write to the one at a place, counted from 0; a place past them leaves all
+abbrev pub set_at : ℕ → List Cell → ℕ → Given → List Cell
+set_at s [] place given = []
+set_at s (cell ∷ cells) zero given = written s cell given ∷ cells
+set_at s (cell ∷ cells) (suc place) given = cell ∷ set_at s cells place given
+
+-- the cells after writes at tick s, in their order
+abbrev pub changed : ℕ → List (ℕ × Given) → List Cell → List Cell
+changed s changes cells = fold (λ now change. set_at s now change.0 change.1) cells changes
+
 -- the cells after a write to the first attribute of a name, the names in the order of the cells
 abbrev pub set_named : ℕ → List (List ℕ) → List Cell → NamedSet → List Cell
 set_named s [] cells set = cells
 set_named s (name ∷ names) [] set = []
 set_named s (name ∷ names) (cell ∷ cells) set =
     if bytes_eq name set.name then (written s cell set.given ∷ cells) else (cell ∷ set_named s names cells set)
+
+-- whether a leg of the cell ends at a tick past its last write
+abbrev pub cell_turns : ℕ → Cell → Bool
+cell_turns t (cells.Num n) = false
+cell_turns t (cells.Text w) = false
+cell_turns t (cells.Dyn v) = turns_at v t
 
 -- what a place gives for x and y: `at` their values, `move` their legs
 abbrev pub coordinate_sets : List ℕ → Option ℤ → Option Function → List NamedSet
@@ -58,11 +74,15 @@ place_sets place = place_sets_of place.at place.moving
 abbrev pub cells_after : ℕ → List (List ℕ) → List Cell → Place → List NamedSet → List Cell
 cells_after s names cells place sets = fold (set_named s names) cells (place_sets place ++ sets)
 
--- the last write to the cell was at tick s or before
+-- A write at tick s or before left the cell: a number as it was given, within 10^12 thousandths, a text, or a vector updated by then.
 abbrev pub IsWritten : Cell → ℕ → Type 0
-IsWritten (cells.Num n) s = Unit {0}
+IsWritten (cells.Num n) s = unsigned_abs n ≤ GIVEN_LIMIT
 IsWritten (cells.Text w) s = Unit {0}
 IsWritten (cells.Dyn v) s = v.updatetime ≤ s
+
+-- each cell was written by tick s
+abbrev pub AreWritten : List Cell → ℕ → Type 0
+AreWritten cells s = All (λ cell. IsWritten cell s) cells
 
 -- a number that a command gives is within 10^12 thousandths
 abbrev pub IsGiven : Given → Type 0

@@ -1,9 +1,9 @@
 -- A dynamic attribute, by its three sub-attributes as in MOST, and what it implies of later ticks.
-use Rattle.std.specs.Prelude.{ℕ, ℤ, ◌+◌, ◌*◌, ◌+ℤ◌, ◌-◌, ◌≤◌, unsigned_abs}
+use Rattle.std.specs.Prelude.{ℕ, ℤ, Bool, ◌+◌, ◌*◌, ◌+ℤ◌, ◌-◌, ◌≤◌, unsigned_abs}
 use Rattle.fixed_point.specs.declared.number.TheConstants.{SLOPE_LIMIT}
 use Rattle.tick_set.specs.declared.spans.TheConstants.{LAST_TICK}
 use Rattle.motion.specs.declared.vector.TheConstants.{GIVEN_LIMIT}
-use Rattle.motion.specs.Function.{Function, rise, rest, slope}
+use Rattle.motion.specs.Function.{Function, rise, rest, slope, leg_ends}
 
 -- the value in thousandths at the tick of the last update, that tick, and how the value moves from it on
 pub record Dynamic : Type 0 where
@@ -18,6 +18,10 @@ value_at v t = v.value +ℤ rise v.function (t - v.updatetime)
 -- the slope in force at a tick from the update on, in thousandths per tick
 abbrev pub slope_at : Dynamic → ℕ → ℤ
 slope_at v t = slope v.function (t - v.updatetime)
+
+-- whether a leg ends at a tick past the update, so that the next leg is in force from then on
+abbrev pub turns_at : Dynamic → ℕ → Bool
+turns_at v t = leg_ends v.function.firsts (t - v.updatetime)
 
 -- The three ways to write it at tick s. A value alone keeps what is left of the legs.
 abbrev pub moved : ℕ → Dynamic → ℤ → Dynamic

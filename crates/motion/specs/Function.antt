@@ -1,5 +1,5 @@
 -- The function of a dynamic attribute: linear legs, one after another. It is 0 at 0.
-use Rattle.std.specs.Prelude.{ℕ, ℤ, pos, ◌+ℤ◌, ◌*ℤ◌, ◌-◌, ◌<◌, nat_lt, nat_le, Bool, ◌&&◌, List, [], ◌∷◌, length, if◌then◌else◌}
+use Rattle.std.specs.Prelude.{◌≡◌, ℕ, ℤ, pos, ◌+ℤ◌, ◌*ℤ◌, ◌-◌, ◌<◌, ◌==◌, nat_lt, nat_le, Bool, true, false, ◌&&◌, ◌||◌, List, [], ◌∷◌, length, if◌then◌else◌}
 use Rattle.std.specs.List.{list_all}
 use Rattle.motion.specs.declared.legs.TheConstants.{MOST_FIRSTS, LONGEST_LEG}
 
@@ -56,3 +56,14 @@ rest f d = record { firsts = legs_rest f.firsts d; last = f.last }
 -- the slope in force d ticks after the function began
 abbrev pub slope : Function → ℕ → ℤ
 slope f d = legs_slope (legs_rest f.firsts d) f.last
+
+-- whether one of such legs ends d ticks after the first began
+abbrev pub leg_ends : List (ℤ × ℕ) → ℕ → Bool
+leg_ends [] d = false
+leg_ends (leg ∷ legs) d = leg.1 == d || (nat_lt leg.1 d && leg_ends legs (d - leg.1))
+
+-- the first tick past t at which the test holds
+pub record IsNextTurn (turns : ℕ → Bool) (t next : ℕ) : Type 0 where
+  pub past : t < next
+  pub at_next : turns next ≡ true
+  pub none : (u : ℕ) → t < u → u < next → turns u ≡ false

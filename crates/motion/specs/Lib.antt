@@ -2,3 +2,5 @@ pub mod Function
 pub mod Padding
 pub mod Dynamic
 pub mod Cells
+pub mod Timeline
+pub mod Pieces

@@ -32,7 +32,8 @@ impl Cell {
     /// The cell of a kind that an insert at tick `now` begins with: 0, the empty text, or at rest at 0.
     pub fn fresh(kind: AttrKind, now: u32) -> Cell
         requires { now ≤ LAST_TICK }
-        ensures { result ≡ fresh now kind }
+        ensures value { result ≡ fresh now kind }
+        ensures written { IsWritten result now }
     {
         match kind {
             AttrKind::Num => Cell::Num(zero()),
@@ -47,7 +48,8 @@ impl Cell {
         requires tick { now ≤ LAST_TICK }
         requires after { IsWritten self.now now }
         requires limits { IsGiven given.now }
-        ensures { result ≡ written now self.now given.now }
+        ensures value { result ≡ written now self.now given.now }
+        ensures written { IsWritten result now }
     {
         match (self, given) {
             (Cell::Num(_), Given::Num(number)) => Cell::Num(*number),

@@ -1,9 +1,9 @@
 //! Functions of several linear legs.
-ghost use Rattle.std.specs.Prelude.{◌≡◌, pos, ◌*ℤ◌, ◌*◌, ◌≤◌, unsigned_abs, [], length, drop, replicate, IsTrue, SomeIff};
+ghost use Rattle.std.specs.Prelude.{◌≡◌, ℕ, pos, ◌*ℤ◌, ◌+◌, ◌*◌, ◌<◌, ◌≤◌, unsigned_abs, false, [], length, drop, replicate, IsTrue, IfNone, IfSome, SomeIff};
 ghost use Rattle.std.specs.List.{list_all};
 ghost use Rattle.fixed_point.specs.declared.number.TheConstants.{SLOPE_LIMIT};
 ghost use Rattle.tick_set.specs.declared.spans.TheConstants.{LAST_TICK};
-ghost use Rattle.motion.specs.Function.{are_firsts, is_length_of, legs_rise, legs_rest, rise, slope, rest, shortened, IsPassed};
+ghost use Rattle.motion.specs.Function.{are_firsts, is_length_of, legs_rise, legs_rest, rise, slope, rest, leg_ends, IsNextTurn, shortened, IsPassed};
 ghost use Rattle.motion.specs.Padding.{padded};
 
 use fixed_point::Slope;
@@ -105,6 +105,19 @@ impl Legs {
             Some(leg) => leg.0,
             None => self.last,
         }
+    }
+
+    /// The first number of ticks past `ticks` after which a leg ends and the next one begins. None where
+    /// the last leg is in force after `ticks` ticks.
+    pub fn next_end(&self, ticks: u32) -> Option<u32>
+        requires { ticks ≤ LAST_TICK }
+        ensures none { IfNone result ((u : ℕ) → ticks < u → leg_ends self.now.firsts u ≡ false) }
+        ensures some { IfSome result (λ end. IsNextTurn (leg_ends self.now.firsts) ticks end) }
+        ensures near { IfSome result (λ end. end ≤ ticks + LONGEST_LEG) }
+    {
+        let (ended, passed) = leg_in_force(self.firsts(), ticks);
+        let leg = self.firsts().get(ended)?;
+        Some(ticks + (leg.1 - passed))
     }
 
     /// What is left of the function after `ticks` ticks.

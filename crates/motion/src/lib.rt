@@ -3,15 +3,27 @@
 //! A dynamic attribute is a value, the tick of its last update and a function that is 0 at 0, as in
 //! MOST. The function is a list of linear legs. Until the next update the attribute at a tick is the
 //! value plus the function of the ticks since the update. All numbers are whole thousandths.
+//!
+//! The timeline of an object keeps what it had from each of its writes on, so that the recorded past
+//! stays. Its pieces are the ticks in which each dynamic attribute moves by one slope.
 #![tactic(auto)]
 
 mod cell;
+mod change;
+mod epoch;
 mod legs;
+mod pieces;
+mod timeline;
 mod vector;
 
 pub use cell::{AttrKind, Cell, Given, NamedSet, Place};
+pub use epoch::Epoch;
 pub use legs::{LONGEST_LEG, Legs, MOST_FIRSTS};
+pub use pieces::Piece;
+pub use timeline::Timeline;
 pub use vector::{GIVEN_LIMIT, Vector};
 
 #[cfg(test)]
 mod tests;
+#[cfg(test)]
+mod timeline_tests;

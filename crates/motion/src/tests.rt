@@ -63,6 +63,32 @@ fn legs_follow_one_another(rt: HostRuntime) -> Result<(), Fail> {
 }
 
 #[test]
+fn legs_end_at_the_first_tick_of_the_next(rt: HostRuntime) -> Result<(), Fail> {
+    let rate = slope(1000)?;
+    // legs that end 3 and 7 ticks after the function began
+    let legs = Legs::of(&[(rate, 3), (slope(0)?, 4)], rate).ok_or("legs")?;
+    for (ticks, end) in [
+        (0, Some(3)),
+        (2, Some(3)),
+        (3, Some(7)),
+        (6, Some(7)),
+        (7, None),
+        (1_000_000_000, None),
+    ] {
+        assert_eq!(rt; legs.next_end(ticks), end, "after {ticks}");
+    }
+    let vector = Vector::begun(5, fix(0)?, legs);
+    for (t, end) in [(5, Some(8)), (8, Some(12)), (12, None)] {
+        assert_eq!(rt; vector.next_end(t), end, "after tick {t}");
+    }
+    // the longest leg, from its first tick and from its last
+    let legs = Legs::of(&[(rate, LONGEST_LEG); 7], rate).ok_or("legs")?;
+    assert_eq!(rt; legs.next_end(0), Some(1_000_000_000));
+    assert_eq!(rt; legs.next_end(1_000_000_000), Some(2_000_000_000));
+    Ok(())
+}
+
+#[test]
 fn vectors_move_and_turn(rt: HostRuntime) -> Result<(), Fail> {
     // 1 a tick for ten ticks; at tick 4 the value alone is set to 100, and the legs go on
     let legs = Legs::of(&[(slope(1000)?, 10)], slope(0)?).ok_or("legs")?;

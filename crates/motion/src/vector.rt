@@ -1,9 +1,10 @@
 //! Dynamic attributes.
-ghost use Rattle.std.specs.Prelude.{◌≡◌, ◌≤◌, ◌+◌, ◌*◌, unsigned_abs};
+ghost use Rattle.std.specs.Prelude.{◌≡◌, ℕ, ◌<◌, ◌≤◌, ◌+◌, ◌*◌, false, IfNone, IfSome, unsigned_abs};
 ghost use Rattle.fixed_point.specs.declared.number.TheConstants.{SLOPE_LIMIT};
 ghost use Rattle.tick_set.specs.declared.spans.TheConstants.{LAST_TICK};
 ghost use Rattle.motion.specs.declared.vector.TheConstants.{GIVEN_LIMIT};
-ghost use Rattle.motion.specs.Dynamic.{begun, moved, turned, value_at, slope_at, IsReachable};
+ghost use Rattle.motion.specs.Dynamic.{begun, moved, turned, value_at, slope_at, turns_at, IsReachable};
+ghost use Rattle.motion.specs.Function.{IsNextTurn};
 
 use crate::legs::Legs;
 use fixed_point::{Fix, Slope};
@@ -91,6 +92,18 @@ impl Vector {
         ensures { result ≡ slope_at self.now t }
     {
         self.function.slope(t - self.updatetime)
+    }
+
+    /// The first tick past `t` at which a leg ends and the next one begins. None where the last leg is in
+    /// force at `t`, which isn't before the update.
+    pub fn next_end(&self, t: u32) -> Option<u32>
+        requires after { self.now.updatetime ≤ t }
+        requires tick { t ≤ LAST_TICK }
+        ensures none { IfNone result ((u : ℕ) → t < u → turns_at self.now u ≡ false) }
+        ensures some { IfSome result (λ end. IsNextTurn (turns_at self.now) t end) }
+    {
+        let end = self.function.next_end(t - self.updatetime)?;
+        Some(self.updatetime + end)
     }
 
     /// The vector after a value alone was written at tick `now`: what is left of the legs stays.

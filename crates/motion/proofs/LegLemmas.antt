@@ -1,0 +1,138 @@
+-- When legs end, and how a value moves between two such ticks.
+use Rattle.std.proofs.Common.{◌≡◌, ℕ, ℤ, pos, suc, ◌+◌, ◌-◌, ◌*ℤ◌, ◌+ℤ◌, ◌<◌, ◌≤◌, true, false, List, [], ◌∷◌, length, drop, drop_of_length-le, get_or, refl, sym, ◌∙◌, ap, arith, inl, inr}
+use Rattle.std.proofs.lemmas.Bool.{cases_lt}
+use Rattle.std.proofs.lemmas.Bool.Decides.{nat_tests}
+use Rattle.std.proofs.lemmas.Int.{ints}
+use Rattle.std.proofs.Math.Seq.{drop-cons}
+use Rattle.motion.specs.Function.{legs_rise, legs_rest, legs_slope, leg_ends, shortened, IsNextTurn}
+
+-- the leg in force ends when what is left of it has passed
+next_of_rest : (legs : List (ℤ × ℕ)) (d : ℕ) (leg : ℤ × ℕ) (more : List (ℤ × ℕ)) → legs_rest legs d ≡ leg ∷ more → IsNextTurn (leg_ends legs) d (d + leg.1)
+next_of_rest [] d leg more is = cc
+next_of_rest (first ∷ legs) d leg more is =
+    elim (cases_lt d first.1) [
+      | inl runs ↦
+          let left : leg.1 ≡ first.1 - d = grind (arith, nat_tests) in
+          record {
+            past = omega arith;
+            at_next = grind (arith, nat_tests);
+            none = λ u past before. grind (arith, nat_tests);
+          }
+      | inr ended ↦
+          let later : IsNextTurn (leg_ends legs) (d - first.1) (d - first.1 + leg.1) = next_of_rest legs (d - first.1) leg more (grind (arith, nat_tests)) in
+          let from_here : d + leg.1 - first.1 ≡ d - first.1 + leg.1 = omega arith in
+          let end : leg_ends legs (d + leg.1 - first.1) ≡ true = rw from_here later.at_next in
+          record {
+            past = omega (arith, later.past);
+            at_next = grind (arith, nat_tests, later.past, end);
+            none = λ u past before. grind (arith, nat_tests, later.none (u - first.1) (omega arith) (omega arith));
+          }
+    ]
+
+-- where none is left, no leg ends later
+none_of_rest : (legs : List (ℤ × ℕ)) (d : ℕ) → legs_rest legs d ≡ [] → (u : ℕ) → d < u → leg_ends legs u ≡ false
+none_of_rest [] d is u past = refl
+none_of_rest (first ∷ legs) d is u past =
+    elim (cases_lt d first.1) [
+      | inl runs ↦ grind (arith, nat_tests)
+      | inr ended ↦
+          let later : leg_ends legs (u - first.1) ≡ false = none_of_rest legs (d - first.1) (grind (arith, nat_tests)) (u - first.1) (omega arith) in
+          grind (arith, nat_tests)
+    ]
+
+-- the same by the place of the leg in force
+pub next_end : (firsts : List (ℤ × ℕ)) (ticks ended passed : ℕ) (leg : ℤ × ℕ) → legs_rest firsts ticks ≡ shortened (drop ended firsts) passed
+    → ended < length firsts → leg ≡ get_or firsts ended leg → IsNextTurn (leg_ends firsts) ticks (ticks + (leg.1 - passed))
+next_end firsts ticks ended passed leg rest within is =
+    let left : drop ended firsts ≡ leg ∷ drop (suc ended) firsts = drop-cons firsts ended leg within ∙ ap (λ x. x ∷ drop (suc ended) firsts) (sym is) in
+    next_of_rest firsts ticks (leg.0, leg.1 - passed) (drop (suc ended) firsts) (rest ∙ ap (λ legs. shortened legs passed) left)
+
+pub no_end : (firsts : List (ℤ × ℕ)) (ticks ended passed : ℕ) → legs_rest firsts ticks ≡ shortened (drop ended firsts) passed
+    → length firsts ≤ ended → (u : ℕ) → ticks < u → leg_ends firsts u ≡ false
+no_end firsts ticks ended passed rest past =
+    none_of_rest firsts ticks (rest ∙ ap (λ legs. shortened legs passed) (drop_of_length-le firsts past))
+
+-- no leg ends past d, up to u
+abbrev pub NoneEnds : List (ℤ × ℕ) → ℕ → ℕ → Type 0
+NoneEnds legs d u = (w : ℕ) → d < w → w ≤ u → leg_ends legs w ≡ false
+
+-- then none of the legs behind the first does
+NoneEnds-later : (first : ℤ × ℕ) (legs : List (ℤ × ℕ)) (d u : ℕ) → first.1 ≤ d → NoneEnds (first ∷ legs) d u → NoneEnds legs (d - first.1) (u - first.1)
+NoneEnds-later first legs d u ended none w past by =
+    let back : w + first.1 - first.1 ≡ w = omega arith in
+    grind (arith, nat_tests, none (w + first.1) (omega arith) (omega arith), back)
+
+-- and the first doesn't
+still_runs : (first : ℤ × ℕ) (legs : List (ℤ × ℕ)) (d u : ℕ) → d < first.1 → NoneEnds (first ∷ legs) d u → u < first.1
+still_runs first legs d u runs none =
+    elim (cases_lt u first.1) [
+      | inl before ↦ before
+      | inr past ↦ let ends : leg_ends (first ∷ legs) first.1 ≡ false = none first.1 runs past in grind (arith, nat_tests)
+    ]
+
+-- the slope in force stays until a leg ends
+pub legs_slope-steady : (legs : List (ℤ × ℕ)) (last : ℤ) (d u : ℕ) → d ≤ u → NoneEnds legs d u → legs_slope (legs_rest legs u) last ≡ legs_slope (legs_rest legs d) last
+legs_slope-steady [] last d u h none = refl
+legs_slope-steady (first ∷ legs) last d u h none =
+    elim (cases_lt d first.1) [
+      | inl runs ↦ let before : u < first.1 = still_runs first legs d u runs none in grind (arith, nat_tests)
+      | inr ended ↦
+          let later : legs_slope (legs_rest legs (u - first.1)) last ≡ legs_slope (legs_rest legs (d - first.1)) last
+          = legs_slope-steady legs last (d - first.1) (u - first.1) (omega arith) (NoneEnds-later first legs d u ended none) in
+          grind (arith, nat_tests)
+    ]
+
+climbed : (k : ℤ) (d w : ℕ) → k *ℤ pos (d + w) ≡ k *ℤ pos d +ℤ k *ℤ pos w
+climbed k d w = omega (arith, ints)
+
+climbed_to : (k : ℤ) (d u : ℕ) → d ≤ u → k *ℤ pos u ≡ k *ℤ pos d +ℤ k *ℤ pos (u - d)
+climbed_to k d u h = let parts : u ≡ d + (u - d) = omega arith in ap (λ n. k *ℤ pos n) parts ∙ climbed k d (u - d)
+
+climbed-zero : (k : ℤ) → k *ℤ pos 0 ≡ pos 0
+climbed-zero k = omega (arith, ints)
+
+legs_rise-zero : (legs : List (ℤ × ℕ)) (last : ℤ) → legs_rise legs last 0 ≡ pos 0
+legs_rise-zero [] last = climbed-zero last
+legs_rise-zero (first ∷ legs) last = grind (arith, nat_tests, climbed-zero first.0)
+
+legs_rise-first : (first : ℤ × ℕ) (legs : List (ℤ × ℕ)) (last : ℤ) (d : ℕ) → d ≤ first.1 → legs_rise (first ∷ legs) last d ≡ first.0 *ℤ pos d
+legs_rise-first first legs last d h = grind (arith, nat_tests)
+
+legs_rest-first : (first : ℤ × ℕ) (legs : List (ℤ × ℕ)) (d : ℕ) → d < first.1 → legs_rest (first ∷ legs) d ≡ (first.0, first.1 - d) ∷ legs
+legs_rest-first first legs d h = grind (arith, nat_tests)
+
+legs_rest-past : (first : ℤ × ℕ) (legs : List (ℤ × ℕ)) (d : ℕ) → first.1 ≤ d → legs_rest (first ∷ legs) d ≡ legs_rest legs (d - first.1)
+legs_rest-past first legs d h = grind (arith, nat_tests)
+
+-- what has risen once the first leg has ended
+legs_rise-past : (first : ℤ × ℕ) (legs : List (ℤ × ℕ)) (last : ℤ) (d : ℕ) → first.1 ≤ d
+    → legs_rise (first ∷ legs) last d ≡ first.0 *ℤ pos first.1 +ℤ legs_rise legs last (d - first.1)
+legs_rise-past first legs last d ended =
+    elim (cases_lt first.1 d) [
+      | inl past ↦ grind (arith, nat_tests)
+      | inr same ↦
+          let now : d - first.1 ≡ 0 = omega arith in
+          let is : d ≡ first.1 = omega arith in
+          let none : legs_rise legs last (d - first.1) ≡ pos 0 = ap (legs_rise legs last) now ∙ legs_rise-zero legs last in
+          let climb : first.0 *ℤ pos d ≡ first.0 *ℤ pos first.1 = ap (λ n. first.0 *ℤ pos n) is in
+          legs_rise-first first legs last d same ∙ omega (arith, ints, none, climb)
+    ]
+
+-- the value moves by the slope in force until a leg ends
+pub legs_rise-steady : (legs : List (ℤ × ℕ)) (last : ℤ) (d u : ℕ) → d ≤ u → NoneEnds legs d u
+    → legs_rise legs last u ≡ legs_rise legs last d +ℤ legs_slope (legs_rest legs d) last *ℤ pos (u - d)
+legs_rise-steady [] last d u h none = climbed_to last d u h
+legs_rise-steady (first ∷ legs) last d u h none =
+    elim (cases_lt d first.1) [
+      | inl runs ↦
+          let before : u < first.1 = still_runs first legs d u runs none in
+          rw (legs_rise-first first legs last u (omega arith), legs_rise-first first legs last d (omega arith), legs_rest-first first legs d runs)
+          (climbed_to first.0 d u h)
+      | inr ended ↦
+          let later : legs_rise legs last (u - first.1) ≡ legs_rise legs last (d - first.1) +ℤ legs_slope (legs_rest legs (d - first.1)) last *ℤ pos (u - first.1 - (d - first.1))
+          = legs_rise-steady legs last (d - first.1) (u - first.1) (omega arith) (NoneEnds-later first legs d u ended none) in
+          let same : u - first.1 - (d - first.1) ≡ u - d = omega arith in
+          let climb = ap (λ n. legs_slope (legs_rest legs (d - first.1)) last *ℤ pos n) same in
+          rw (legs_rise-past first legs last u (omega arith), legs_rise-past first legs last d ended, legs_rest-past first legs d ended)
+          (omega (arith, ints, later, climb))
+    ]

@@ -1,0 +1,30 @@
+use Rattle.std.proofs.Common.{arith, subst, sym}
+use Rattle.std.specs.Prelude.{All}
+use Rattle.std.proofs.lemmas.List.Elements.{All-push}
+use Rattle.motion.specs.Pieces.{IsSteady}
+use Rattle.motion.proofs.PieceLemmas.{ArePiecesTo-none, ArePiecesTo-push, ArePiecesTo-all, some_begun}
+use Rattle.motion.proofs.pieces.pieces_from.Goals as goal
+
+pub cutting-init : goal.cutting-init
+cutting-init c = record {
+  pieces = ArePiecesTo-none c.args.epochs.now c.args.start c.args.last c.new-made.result.items c.new-made.ensures.items;
+  steady = λ k d l. absurd (grind arith);
+  begun = c.begun-count.ensures;
+  some = some_begun c.args.epochs.now c.args.start c.begun-count.result c.requires.some c.requires.begun c.begun-count.ensures;
+}
+
+pub cutting-preserved : goal.cutting-preserved
+cutting-preserved c = record {
+  pieces =
+      rw c.in_ok-push.ensures.items
+      (ArePiecesTo-push c.args.epochs.now c.args.start c.args.last c.cutting.made.items c.cutting.at c.piece_from-piece.result c.cutting.invariant.pieces c.piece_from-piece.ensures.piece);
+  steady =
+      subst (λ pieces. All (IsSteady c.args.epochs.now) pieces) (sym c.in_ok-push.ensures.items)
+      (All-push (IsSteady c.args.epochs.now) c.cutting.made.items c.piece_from-piece.result c.cutting.invariant.steady c.piece_from-piece.ensures.steady);
+  begun = c.begun_next-count.ensures.begun;
+  some = omega (arith, c.cutting.invariant.some, c.begun_next-count.ensures.more);
+}
+
+pub returns-clause-pieces : goal.returns-clause-pieces
+returns-clause-pieces c =
+    ArePiecesTo-all c.args.epochs.now c.args.start c.args.last c.cutting.made.items c.cutting.at c.cutting.invariant.pieces c.cutting-test.false

@@ -1,0 +1,54 @@
+//! Writes to the cells of an epoch.
+ghost use Rattle.std.specs.Prelude.{◌≡◌, ◌≤◌, All, IfOk};
+ghost use Rattle.tick_set.specs.declared.spans.TheConstants.{LAST_TICK};
+ghost use Rattle.motion.specs.Cells.{AreWritten, IsGiven, changed, set_at};
+
+use crate::cell::{Cell, Given};
+use std::alloc::{AllocError, Global};
+use tick_set::LAST_TICK;
+
+/// A copy of these cells after writes at tick `now`, in their order.
+pub fn changed(
+    alloc: Global,
+    now: u32,
+    cells: &[Cell],
+    changes: &[(usize, Given)],
+) -> Result<Vec<Cell>, AllocError>
+    requires tick { now ≤ LAST_TICK }
+    requires after { AreWritten cells.now now }
+    requires given { All (λ change. IsGiven change.1) changes.now }
+    ensures cells { IfOk result (λ v. v.items ≡ changed now changes.now cells.now) }
+    ensures written { IfOk result (λ v. AreWritten v.items now) }
+{
+    let mut made = Vec::from_slice(alloc, cells)?;
+    write(&mut made, now, changes);
+    Ok(made)
+}
+
+/// Writes at tick `now` to these cells, in the order of the changes.
+fn write(cells: &mut [Cell], now: u32, changes: &[(usize, Given)])
+    requires tick { now ≤ LAST_TICK }
+    requires after { AreWritten cells.old now }
+    requires given { All (λ change. IsGiven change.1) changes.now }
+    ensures cells { cells.new ≡ changed now changes.now cells.old }
+    ensures written { AreWritten cells.new now }
+{
+    let mut rest = changes;
+    while let Some((change, later)) = rest.split_first() {
+        set(cells, now, change.0, &change.1);
+        rest = later;
+    }
+}
+
+/// Writes at tick `now` to the cell at a place; a place past the cells leaves all.
+fn set(cells: &mut [Cell], now: u32, place: usize, given: &Given)
+    requires tick { now ≤ LAST_TICK }
+    requires after { AreWritten cells.old now }
+    requires given { IsGiven given.now }
+    ensures cells { cells.new ≡ set_at now cells.old place given.now }
+    ensures written { AreWritten cells.new now }
+{
+    if place < cells.len() {
+        cells[place] = cells[place].written(now, given);
+    }
+}

@@ -1,0 +1,113 @@
+//! Epochs: what an object has from one of its writes to the next.
+ghost use Rattle.std.specs.Prelude.{◌≡◌, ◌≤◌, All, IsTrue, ◌↔◌, IsSome, IfOk, IfSome, slice_get, None, Some};
+ghost use Rattle.std.specs.Option.{option_copied, option_map};
+ghost use Rattle.tick_set.specs.declared.spans.TheConstants.{LAST_TICK};
+ghost use Rattle.motion.specs.Cells.{AreWritten, IsGiven, IsWritten, changed};
+ghost use Rattle.motion.specs.Timeline.{Period, cells_of, IsPeriod};
+
+use crate::cell::{Cell, Given};
+use crate::change::changed;
+use std::alloc::{AllocError, Global};
+use std::marker::Model;
+use tick_set::LAST_TICK;
+
+/// What an object has from a tick on, until it is written again: one cell for each of its attributes,
+/// or nothing where it is absent. It is written once for all writes of its first tick.
+#[derive(Debug, Drop)]
+pub struct Epoch {
+    from: u32,
+    present: bool,
+    cells: Vec<Cell>,
+}
+
+impl Model for Epoch {
+    ghost use Rattle.std.specs.Prelude.{Option, None, Some, if◌then◌else◌};
+    ghost use Rattle.motion.specs.Timeline.{Period, IsEpoch};
+
+    ghost Value = { Period };
+
+    ghost view = { λ e. record { from = e.from; cells = if e.present then (Some e.cells.items) else None } };
+
+    ghost invariant = { λ e. IsEpoch e.from e.present e.cells.items };
+}
+
+impl Epoch {
+    /// The epoch of a present object. Its cells were written by tick `from`.
+    pub(crate) fn of(from: u32, cells: Vec<Cell>) -> Epoch
+        requires tick { from ≤ LAST_TICK }
+        requires written { AreWritten cells.items from }
+        ensures { result ≡ record { from = from; cells = Some cells.items } }
+    {
+        Epoch {
+            from,
+            present: true,
+            cells,
+        }
+    }
+
+    /// The epoch of an absent object. It takes no memory.
+    pub(crate) fn absent(alloc: Global, from: u32) -> Epoch
+        requires { from ≤ LAST_TICK }
+        ensures { result ≡ record { from = from; cells = None } }
+    {
+        Epoch {
+            from,
+            present: false,
+            cells: Vec::new(alloc),
+        }
+    }
+
+    /// The tick at which it begins.
+    #[inline]
+    pub fn from(&self) -> u32
+        ensures value { result ≡ self.now.from }
+        ensures period { IsPeriod self.now }
+    {
+        self.from
+    }
+
+    /// Whether the object is there.
+    #[inline]
+    pub fn is_present(&self) -> bool
+        ensures { IsTrue result ↔ IsSome self.now.cells }
+    {
+        self.present
+    }
+
+    /// The cells in the order of the attributes, none where the object is absent.
+    #[inline]
+    pub fn cells(&self) -> &[Cell]
+        ensures value { result.now ≡ cells_of self.now }
+        ensures written { AreWritten result.now self.now.from }
+    {
+        &self.cells
+    }
+
+    /// The cell of an attribute by its place. None exactly where the object is absent or has no such attribute.
+    #[inline]
+    pub fn cell(&self, a: usize) -> Option<&Cell>
+        ensures value { option_copied result ≡ slice_get (cells_of self.now) a }
+        ensures written { IfSome result (λ cell. IsWritten cell.now self.now.from) }
+    {
+        self.cells.get(a)
+    }
+
+    /// The epoch that writes at tick `now`, which isn't before this one, make of this one.
+    pub(crate) fn changed(
+        &self,
+        alloc: Global,
+        now: u32,
+        changes: &[(usize, Given)],
+    ) -> Result<Epoch, AllocError>
+        requires after { self.now.from ≤ now }
+        requires tick { now ≤ LAST_TICK }
+        requires given { All (λ change. IsGiven change.1) changes.now }
+        ensures { IfOk result (λ e. e ≡ record { from = now; cells = option_map (changed now changes.now) self.now.cells }) }
+    {
+        if !self.present {
+            return Ok(Epoch::absent(alloc, now));
+        }
+        let cells = changed(alloc, now, &self.cells, changes)?;
+        Ok(Epoch::of(now, cells))
+    }
+}

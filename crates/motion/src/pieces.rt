@@ -1,0 +1,142 @@
+//! Pieces: the parts of a window in which each dynamic attribute of an object moves by one slope.
+ghost use Rattle.std.specs.Prelude.{◌≡◌, ◌≤◌, ◌<◌, ◌+◌, ◌⊎◌, All, IfOk, length, slice_index_or};
+ghost use Rattle.std.specs.List.{list_any};
+ghost use Rattle.tick_set.specs.declared.spans.TheConstants.{LAST_TICK};
+ghost use Rattle.motion.specs.Cells.{AreWritten, IsWritten, cell_turns};
+ghost use Rattle.motion.specs.Timeline.{Period, AreBegunUpTo, IsRising};
+ghost use Rattle.motion.specs.Pieces.{ArePieces, ArePiecesFrom, IsFirstOrEnd, IsPiece, IsSteady};
+
+use crate::cell::Cell;
+use crate::epoch::Epoch;
+use std::alloc::{AllocError, Global};
+use tick_set::{LAST_TICK, Span, Window};
+
+/// Ticks in which one epoch is in force, by its place in the timeline counted from 0, and in which each
+/// of its dynamic attributes moves by one slope.
+#[derive(Clone, Copy, Debug, PartialEq, Eq)]
+pub struct Piece {
+    pub span: Span,
+    pub epoch: usize,
+}
+
+/// How many of these epochs begin by tick `t`.
+pub fn begun(epochs: &[Epoch], t: u32) -> usize
+    requires { IsRising epochs.now }
+    ensures { AreBegunUpTo epochs.now t result }
+{
+    epochs.partition_point(|epoch| epoch.from() <= t)
+}
+
+/// The pieces of a window.
+pub fn pieces(alloc: Global, epochs: &[Epoch], w: Window) -> Result<Vec<Piece>, AllocError>
+    requires { IsRising epochs.now }
+    ensures pieces { IfOk result (λ v. ArePieces epochs.now w.lo w.hi v.items) }
+    ensures steady { IfOk result (λ v. All (IsSteady epochs.now) v.items) }
+{
+    match epochs.first() {
+        Some(first) => pieces_from(alloc, epochs, w.lo.max(first.from()), w.hi),
+        None => Ok(Vec::new(alloc)),
+    }
+}
+
+/// The pieces of the ticks from `start`, which isn't before the first epoch, to `last`.
+fn pieces_from(
+    alloc: Global,
+    epochs: &[Epoch],
+    start: u32,
+    last: u32,
+) -> Result<Vec<Piece>, AllocError>
+    requires rising { IsRising epochs.now }
+    requires some { 0 < length epochs.now }
+    requires begun { (d : Period) → (slice_index_or epochs.now 0 d).from ≤ start }
+    requires tick { last ≤ LAST_TICK }
+    ensures pieces { IfOk result (λ v. ArePiecesFrom epochs.now start last v.items) }
+    ensures steady { IfOk result (λ v. All (IsSteady epochs.now) v.items) }
+{
+    let mut made = Vec::new(alloc);
+    let mut at = start;
+    let mut count = begun(epochs, start);
+    'cutting: while at <= last {
+        let piece = piece_from(epochs, count, at, last);
+        made.push(piece)?;
+        count = begun_next(epochs, count, piece.span.hi);
+        at = piece.span.hi + 1;
+    }
+    Ok(made)
+}
+
+/// The piece that begins at tick `at` and ends by `last`. As many epochs as `count` begin by `at`.
+fn piece_from(epochs: &[Epoch], count: usize, at: u32, last: u32) -> Piece
+    requires rising { IsRising epochs.now }
+    requires some { 0 < count }
+    requires begun { AreBegunUpTo epochs.now at count }
+    requires order { at ≤ last }
+    requires tick { last ≤ LAST_TICK }
+    ensures piece { IsPiece epochs.now at last result }
+    ensures steady { IsSteady epochs.now result }
+    ensures begun { AreBegunUpTo epochs.now result.span.hi count }
+{
+    let epoch = &epochs[count - 1];
+    let first = first_turn(epoch.cells(), at, next_begin(epochs, count, last));
+    Piece {
+        span: Span {
+            lo: at,
+            hi: first - 1,
+        },
+        epoch: count - 1,
+    }
+}
+
+/// The tick at which the epoch at a place begins, but at most one past `last`.
+fn next_begin(epochs: &[Epoch], place: usize, last: u32) -> u32
+    requires { last ≤ LAST_TICK }
+    ensures within { result ≤ last + 1 }
+    ensures before { place < length epochs.now → (d : Period) → result ≤ (slice_index_or epochs.now place d).from }
+    ensures reached { result ≡ last + 1 ⊎ ((place < length epochs.now) × ((d : Period) → (slice_index_or epochs.now place d).from ≡ result)) }
+{
+    match epochs.get(place) {
+        Some(next) => next.from().min(last + 1),
+        None => last + 1,
+    }
+}
+
+/// How many epochs begin by the tick past `t`, where as many as `count` begin by `t`.
+fn begun_next(epochs: &[Epoch], count: usize, t: u32) -> usize
+    requires rising { IsRising epochs.now }
+    requires begun { AreBegunUpTo epochs.now t count }
+    requires tick { t ≤ LAST_TICK }
+    ensures begun { AreBegunUpTo epochs.now (t + 1) result }
+    ensures more { count ≤ result }
+{
+    match epochs.get(count) {
+        Some(next) => count + usize::from(next.from() == t + 1),
+        None => count,
+    }
+}
+
+/// The first tick past `at` and before `end` at which a leg of one of these cells ends, else `end`.
+fn first_turn(cells: &[Cell], at: u32, end: u32) -> u32
+    requires written { AreWritten cells.now at }
+    requires tick { at ≤ LAST_TICK }
+    requires order { at < end }
+    ensures { IsFirstOrEnd (λ t. list_any (cell_turns t) cells.now) at end result }
+{
+    let mut first = end;
+    for cell in cells {
+        first = turn(cell, at, first);
+    }
+    first
+}
+
+/// The first tick past `at` and before `end` at which a leg of this cell ends, else `end`.
+fn turn(cell: &Cell, at: u32, end: u32) -> u32
+    requires written { IsWritten cell.now at }
+    requires tick { at ≤ LAST_TICK }
+    requires order { at < end }
+    ensures { IsFirstOrEnd (λ t. cell_turns t cell.now) at end result }
+{
+    match cell {
+        Cell::Dyn(vector) => vector.next_end(at).map_or(end, |tick| tick.min(end)),
+        _ => end,
+    }
+}

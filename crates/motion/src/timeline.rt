@@ -1,0 +1,230 @@
+//! Timelines: the epochs of one object, in the order of time.
+ghost use Rattle.std.specs.Prelude.{◌≡◌, ◌≤◌, ◌<◌, ◌+◌, ◌-◌, ◌&&◌, ℕ, [], ◌∷◌, ◌++◌, IfSome, IfNone, slice_set, length, All, Some, None, IsTrue, ◌↔◌, IfOk, OnOk, OnErr, slice_get, is_some};
+ghost use Rattle.std.specs.List.{list_any};
+ghost use Rattle.std.specs.Option.{option_copied, option_map};
+ghost use Rattle.tick_set.specs.declared.spans.TheConstants.{LAST_TICK};
+ghost use Rattle.tick_set.specs.Ticks.{within};
+ghost use Rattle.motion.specs.Cells.{AreWritten, IsGiven, changed};
+ghost use Rattle.motion.specs.Timeline.{Period, put, period_at, state_at, restored, AreBegunBy, IsRising, IsPeriod, StandsAsLeft, TakesBack};
+ghost use Rattle.motion.specs.Pieces.{ArePieces, IsSteady, pieces_have};
+
+use crate::cell::{Cell, Given};
+use crate::epoch::Epoch;
+use crate::pieces::{Piece, begun, pieces};
+use std::alloc::{AllocError, Global};
+use std::marker::Model;
+use std::mem;
+use tick_set::{LAST_TICK, Window};
+
+/// The epochs of one object, one for each tick at which it was written. They ascend, and the recorded
+/// past stays: a write changes no state before its tick.
+#[derive(Debug, Drop)]
+pub struct Timeline {
+    epochs: Vec<Epoch>,
+}
+
+impl Model for Timeline {
+    ghost use Rattle.std.specs.Prelude.{List};
+    ghost use Rattle.motion.specs.Timeline.{Period, IsRising};
+
+    ghost Value = { List Period };
+
+    ghost view = { λ a. a.epochs.items };
+
+    ghost invariant = { λ a. IsRising a.epochs.items };
+}
+
+impl Timeline {
+    /// The timeline of an object that was never written. It takes no memory.
+    pub fn new(alloc: Global) -> Timeline
+        ensures { result ≡ [] }
+    {
+        Timeline {
+            epochs: Vec::new(alloc),
+        }
+    }
+
+    /// The object has these cells from tick `now` on, which isn't before its last epoch. The answer is
+    /// the epoch that it replaces, one that began at `now`. After an error the timeline is as before.
+    pub fn begin(&mut self, now: u32, cells: &[Cell]) -> Result<Option<Epoch>, AllocError>
+        requires tick { now ≤ LAST_TICK }
+        requires after { AreBegunBy self.old now }
+        requires written { AreWritten cells.now now }
+        ensures ok { OnOk result (self.new ≡ put self.old (record { from = now; cells = Some cells.now })) }
+        ensures replaced { IfOk result (λ replaced. TakesBack self.old self.new replaced) }
+        ensures err { OnErr result (self.new ≡ self.old) }
+    {
+        let kept = Vec::from_slice(*self.epochs.allocator(), cells)?;
+        self.begin_with(now, kept)
+    }
+
+    /// As `begin`, of cells that are handed over and not copied.
+    pub fn begin_with(&mut self, now: u32, cells: Vec<Cell>) -> Result<Option<Epoch>, AllocError>
+        requires tick { now ≤ LAST_TICK }
+        requires after { AreBegunBy self.old now }
+        requires written { AreWritten cells.items now }
+        ensures ok { OnOk result (self.new ≡ put self.old (record { from = now; cells = Some cells.items })) }
+        ensures replaced { IfOk result (λ replaced. TakesBack self.old self.new replaced) }
+        ensures err { OnErr result (self.new ≡ self.old) }
+    {
+        put(&mut self.epochs, Epoch::of(now, cells))
+    }
+
+    /// Writes these values at tick `now` to the cells at these places, in their order. What doesn't fit
+    /// the kind of its cell, and a place past the cells, leaves them. An absent object stays absent.
+    pub fn write(
+        &mut self,
+        now: u32,
+        changes: &[(usize, Given)],
+    ) -> Result<Option<Epoch>, AllocError>
+        requires tick { now ≤ LAST_TICK }
+        requires after { AreBegunBy self.old now }
+        requires given { All (λ change. IsGiven change.1) changes.now }
+        ensures ok { OnOk result
+            (self.new ≡ put self.old (record { from = now; cells = option_map (changed now changes.now) (state_at self.old now) })) }
+        ensures replaced { IfOk result (λ replaced. TakesBack self.old self.new replaced) }
+        ensures err { OnErr result (self.new ≡ self.old) }
+    {
+        let alloc = *self.epochs.allocator();
+        let epoch = match self.epochs.last() {
+            Some(last) => last.changed(alloc, now, changes)?,
+            None => Epoch::absent(alloc, now),
+        };
+        put(&mut self.epochs, epoch)
+    }
+
+    /// The object is absent from tick `now` on, which isn't before its last epoch.
+    pub fn vanish(&mut self, now: u32) -> Result<Option<Epoch>, AllocError>
+        requires tick { now ≤ LAST_TICK }
+        requires after { AreBegunBy self.old now }
+        ensures ok { OnOk result (self.new ≡ put self.old (record { from = now; cells = None })) }
+        ensures replaced { IfOk result (λ replaced. TakesBack self.old self.new replaced) }
+        ensures err { OnErr result (self.new ≡ self.old) }
+    {
+        let alloc = *self.epochs.allocator();
+        put(&mut self.epochs, Epoch::absent(alloc, now))
+    }
+
+    /// Takes a writing call back that answered `replaced`, the timeline standing as that call left it. It
+    /// takes no memory.
+    pub fn take_back(&mut self, replaced: Option<Epoch>)
+        requires { StandsAsLeft self.old replaced }
+        ensures { self.new ≡ restored self.old replaced }
+    {
+        restore(&mut self.epochs, replaced);
+    }
+
+    /// The epoch in force at tick `t`. None exactly where `t` is before the first epoch. It takes no memory.
+    pub fn at(&self, t: u32) -> Option<&Epoch>
+        ensures { option_copied result ≡ period_at self.now t }
+    {
+        let place = begun(&self.epochs, t).checked_sub(1)?;
+        self.epochs.get(place)
+    }
+
+    /// Whether no epoch begins after tick `t`, so that it can be written then.
+    pub fn is_begun_by(&self, t: u32) -> bool
+        ensures { IsTrue result ↔ AreBegunBy self.now t }
+    {
+        match self.epochs.last() {
+            Some(last) => last.from() <= t,
+            None => true,
+        }
+    }
+
+    /// How many epochs there are.
+    #[inline]
+    pub fn len(&self) -> usize
+        ensures { result ≡ length self.now }
+    {
+        self.epochs.len()
+    }
+
+    /// Whether the object was never written.
+    #[inline]
+    pub fn is_empty(&self) -> bool
+        ensures { IsTrue result ↔ (self.now ≡ []) }
+    {
+        self.epochs.is_empty()
+    }
+
+    /// The epoch at a place, counted from 0 in the order of time.
+    #[inline]
+    pub fn epoch(&self, i: usize) -> Option<&Epoch>
+        ensures { option_copied result ≡ slice_get self.now i }
+    {
+        self.epochs.get(i)
+    }
+
+    /// The last epoch, which is in force from its first tick on.
+    #[inline]
+    pub fn last(&self) -> Option<&Epoch>
+        ensures value { option_copied result ≡ slice_get self.now (length self.now - 1) }
+        ensures in_force { (t : ℕ) → AreBegunBy self.now t → option_copied result ≡ period_at self.now t }
+    {
+        self.epochs.last()
+    }
+
+    /// The parts of the window, in order, in each of which one epoch is in force and each dynamic
+    /// attribute moves by one slope. A part ends with the tick before one at which an epoch begins or a
+    /// leg of a dynamic attribute ends. Ticks before the first epoch are in none.
+    pub fn pieces(&self, alloc: Global, w: Window) -> Result<Vec<Piece>, AllocError>
+        ensures pieces { IfOk result (λ v. ArePieces self.now w.lo w.hi v.items) }
+        ensures steady { IfOk result (λ v. All (IsSteady self.now) v.items) }
+        ensures cover { IfOk result
+            (λ v. (t : ℕ) → pieces_have v.items t ≡ (within w.lo w.hi t && is_some (period_at self.now t))) }
+    {
+        pieces(alloc, &self.epochs, w)
+    }
+}
+
+/// Writes an epoch behind the last one, or over it where that begins at the same tick.
+fn put(epochs: &mut Vec<Epoch>, epoch: Epoch) -> Result<Option<Epoch>, AllocError>
+    requires after { AreBegunBy epochs.old.items epoch.from }
+    requires rising { IsRising epochs.old.items }
+    ensures ok { OnOk result (epochs.new.items ≡ put epochs.old.items epoch) }
+    ensures rising { IsRising epochs.new.items }
+    ensures replaced { IfOk result (λ replaced. TakesBack epochs.old.items epochs.new.items replaced) }
+    ensures err { OnErr result (epochs.new.items ≡ epochs.old.items) }
+{
+    match replaced_at(epochs, epoch.from()) {
+        Some(place) => Ok(Some(mem::replace(&mut epochs[place], epoch))),
+        None => {
+            epochs.push(epoch)?;
+            Ok(None)
+        }
+    }
+}
+
+/// The place of the epoch that a write at tick `from` replaces: that of the last one, where it begins then.
+fn replaced_at(epochs: &[Epoch], from: u32) -> Option<usize>
+    requires after { AreBegunBy epochs.now from }
+    requires rising { IsRising epochs.now }
+    ensures within { IfSome result (λ place. place + 1 ≡ length epochs.now) }
+    ensures over { IfSome result (λ place. (p : Period) → p.from ≡ from → put epochs.now p ≡ slice_set epochs.now place p) }
+    ensures behind { IfNone result ((p : Period) → p.from ≡ from → put epochs.now p ≡ epochs.now ++ p ∷ []) }
+{
+    let last = epochs.len().checked_sub(1)?;
+    if epochs[last].from() == from {
+        Some(last)
+    } else {
+        None
+    }
+}
+
+/// Puts the epoch that the last one had replaced in its place, or takes the last one away where there is none.
+fn restore(epochs: &mut Vec<Epoch>, replaced: Option<Epoch>)
+    requires { 0 < length epochs.old.items }
+    ensures { epochs.new.items ≡ restored epochs.old.items replaced }
+{
+    match replaced {
+        Some(before) => {
+            if let Some(last) = epochs.last_mut() {
+                *last = before;
+            }
+        }
+        None => {
+            epochs.pop();
+        }
+    }
+}

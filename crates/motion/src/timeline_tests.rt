@@ -1,0 +1,352 @@
+ghost use Rattle.std.specs.Prelude.{◌≡◌, ◌≤◌, All, IfOk, OnOk, unsigned_abs};
+ghost use Rattle.motion.specs.declared.vector.TheConstants.{GIVEN_LIMIT};
+ghost use Rattle.motion.specs.Cells.{IsGiven};
+
+use super::*;
+use fixed_point::{Fix, Slope};
+use std::alloc::Global;
+use std::process::Abort;
+use std::test::Fail;
+use tick_set::{LAST_TICK, Window};
+
+fn fix(thousandths: i64) -> Result<Fix, Fail>
+    ensures { IfOk result (λ f. f ≡ thousandths) }
+{
+    Ok(Fix::of(thousandths).ok_or("a number past its range")?)
+}
+
+fn slope(thousandths: i64) -> Result<Slope, Fail> {
+    Ok(Slope::of(thousandths).ok_or("a slope past its range")?)
+}
+
+// Legs by their slopes in thousandths and their lengths, and the slope of the last one.
+fn legs(alloc: Global, firsts: &[(i64, u32)], last: i64) -> Result<Legs, Fail> {
+    let mut made = Vec::new(alloc);
+    for first in firsts {
+        made.push((slope(first.0)?, first.1))?;
+    }
+    Ok(Legs::of(&made, slope(last)?).ok_or("legs past their limits")?)
+}
+
+// Writes where the timeline can be written at `now`.
+fn write(
+    rt: &impl Abort,
+    timeline: &mut Timeline,
+    now: u32,
+    changes: &[(usize, Given)],
+) -> Result<Option<Epoch>, Fail>
+    requires { All (λ change. IsGiven change.1) changes.now }
+{
+    assert!(rt; now <= LAST_TICK);
+    assert!(rt; timeline.is_begun_by(now));
+    Ok(timeline.write(now, changes)?)
+}
+
+// An object with a number and a dynamic attribute appears.
+fn appear(rt: &impl Abort, timeline: &mut Timeline, now: u32) -> Result<Option<Epoch>, Fail> {
+    assert!(rt; now <= LAST_TICK);
+    assert!(rt; timeline.is_begun_by(now));
+    let cells = [
+        Cell::fresh(AttrKind::Num, now),
+        Cell::fresh(AttrKind::Dyn, now),
+    ];
+    Ok(timeline.begin(now, &cells)?)
+}
+
+fn vanish(rt: &impl Abort, timeline: &mut Timeline, now: u32) -> Result<Option<Epoch>, Fail> {
+    assert!(rt; now <= LAST_TICK);
+    assert!(rt; timeline.is_begun_by(now));
+    Ok(timeline.vanish(now)?)
+}
+
+// The tick at which an epoch began.
+fn from(replaced: &Option<Epoch>) -> Option<u32> {
+    match replaced {
+        Some(epoch) => Some(epoch.from()),
+        None => None,
+    }
+}
+
+// What an object has at a tick: its number, and the implied value of its dynamic attribute, in thousandths.
+#[derive(Clone, Copy, Debug, PartialEq, Eq)]
+enum Seen {
+    Unborn,
+    Absent,
+    Values(i64, i64),
+}
+
+fn values_at(rt: &impl Abort, timeline: &Timeline, t: u32) -> Seen {
+    let Some(epoch) = timeline.at(t) else {
+        return Seen::Unborn;
+    };
+    match (epoch.cell(0), epoch.cell(1)) {
+        (Some(Cell::Num(number)), Some(Cell::Dyn(vector))) => {
+            assert!(rt; vector.updatetime() <= t && t <= LAST_TICK);
+            Seen::Values(number.raw(), vector.at(t).raw())
+        }
+        _ => Seen::Absent,
+    }
+}
+
+#[test]
+fn a_timeline_keeps_the_recorded_past(rt: HostRuntime) -> Result<(), Fail> {
+    let mut timeline = Timeline::new(rt.alloc());
+    assert!(rt; timeline.is_empty());
+    let both = Given::Both(fix(10_000)?, legs(rt.alloc(), &[], 1000)?);
+    assert_eq!(rt; from(&appear(&rt, &mut timeline, 2)?), None);
+    assert_eq!(rt; from(&write(&rt, &mut timeline, 2, &[(1, both)])?), Some(2));
+    assert_eq!(rt;
+        from(&write(&rt, &mut timeline, 5, &[(0, Given::Num(fix(7000)?))])?),
+        None
+    );
+    assert_eq!(rt;
+        from(&write(&rt, &mut timeline, 5, &[(1, Given::Num(fix(50_000)?))])?),
+        Some(5)
+    );
+    assert_eq!(rt; from(&vanish(&rt, &mut timeline, 8)?), None);
+    assert_eq!(rt;
+        from(&write(&rt, &mut timeline, 9, &[(0, Given::Num(fix(1)?))])?),
+        None
+    );
+    for (t, state) in [
+        (1, Seen::Unborn),
+        (2, Seen::Values(0, 10_000)),
+        (4, Seen::Values(0, 12_000)),
+        (5, Seen::Values(7000, 50_000)),
+        (7, Seen::Values(7000, 52_000)),
+        (8, Seen::Absent),
+        (9, Seen::Absent),
+    ] {
+        assert_eq!(rt; values_at(&rt, &timeline, t), state, "at {t}");
+    }
+    assert_eq!(rt; from(&appear(&rt, &mut timeline, 9)?), Some(9));
+    assert_eq!(rt; values_at(&rt, &timeline, 8), Seen::Absent);
+    assert_eq!(rt; values_at(&rt, &timeline, LAST_TICK), Seen::Values(0, 0));
+    assert_eq!(rt; timeline.len(), 4);
+    Ok(())
+}
+
+#[test]
+fn epochs_stand_in_the_order_of_time(rt: HostRuntime) -> Result<(), Fail> {
+    let mut timeline = Timeline::new(rt.alloc());
+    assert!(rt; timeline.epoch(0).is_none() && timeline.last().is_none());
+    appear(&rt, &mut timeline, 3)?;
+    vanish(&rt, &mut timeline, 7)?;
+    for (place, begins, present, cells) in [(0, 3, true, 2), (1, 7, false, 0)] {
+        let epoch = timeline.epoch(place).ok_or("an epoch")?;
+        assert_eq!(rt; epoch.from(), begins);
+        assert_eq!(rt; epoch.is_present(), present);
+        assert_eq!(rt; epoch.cells().len(), cells);
+        assert_eq!(rt; epoch.cell(2).is_none(), true);
+    }
+    assert_eq!(rt; timeline.last().ok_or("an epoch")?.from(), 7);
+    assert!(rt; timeline.is_begun_by(7) && !timeline.is_begun_by(6));
+    Ok(())
+}
+
+// A write is taken back: the timeline is as before.
+fn written_and_taken_back(
+    rt: &impl Abort,
+    timeline: &mut Timeline,
+    now: u32,
+    changes: &[(usize, Given)],
+) -> Result<(), Fail>
+    requires { All (λ change. IsGiven change.1) changes.now }
+    ensures { OnOk result (timeline.new ≡ timeline.old) }
+{
+    assert!(rt; now <= LAST_TICK);
+    assert!(rt; timeline.is_begun_by(now));
+    let replaced = timeline.write(now, changes)?;
+    timeline.take_back(replaced);
+    Ok(())
+}
+
+#[test]
+fn writes_are_taken_back(rt: HostRuntime) -> Result<(), Fail> {
+    let mut timeline = Timeline::new(rt.alloc());
+    appear(&rt, &mut timeline, 2)?;
+    let number = [(0, Given::Num(fix(7000)?))];
+    for now in [2, 3, LAST_TICK] {
+        written_and_taken_back(&rt, &mut timeline, now, &number)?;
+        assert_eq!(rt; timeline.len(), 1);
+        assert_eq!(rt;
+            values_at(&rt, &timeline, now),
+            Seen::Values(0, 0),
+            "after {now}"
+        );
+    }
+    Ok(())
+}
+
+#[test]
+fn cells_are_written_by_their_places(rt: HostRuntime) -> Result<(), Fail> {
+    let mut timeline = Timeline::new(rt.alloc());
+    appear(&rt, &mut timeline, 0)?;
+    // in their order, the later one of a place stands; what doesn't fit its cell leaves it
+    let changes = [
+        (0, Given::Num(fix(1000)?)),
+        (0, Given::Num(fix(2000)?)),
+        (0, Given::Rate(legs(rt.alloc(), &[], 5000)?)),
+        (2, Given::Num(fix(3000)?)),
+        (1, Given::Rate(legs(rt.alloc(), &[], 1000)?)),
+    ];
+    write(&rt, &mut timeline, 4, &changes)?;
+    for (t, state) in [
+        (3, Seen::Values(0, 0)),
+        (4, Seen::Values(2000, 0)),
+        (6, Seen::Values(2000, 2000)),
+    ] {
+        assert_eq!(rt; values_at(&rt, &timeline, t), state, "at {t}");
+    }
+    Ok(())
+}
+
+// The pieces of a window, each by its first tick, its last and its epoch.
+fn cut(
+    alloc: Global,
+    timeline: &Timeline,
+    lo: u32,
+    hi: u32,
+) -> Result<Vec<(u32, u32, usize)>, Fail> {
+    let w = Window::new(lo, hi).ok_or("a window")?;
+    let mut spans = Vec::new(alloc);
+    for piece in &timeline.pieces(alloc, w)? {
+        spans.push((piece.span.lo, piece.span.hi, piece.epoch))?;
+    }
+    Ok(spans)
+}
+
+#[test]
+fn pieces_end_before_the_next_epoch(rt: HostRuntime) -> Result<(), Fail> {
+    let mut timeline = Timeline::new(rt.alloc());
+    appear(&rt, &mut timeline, 0)?;
+    appear(&rt, &mut timeline, 3)?;
+    let spans = cut(rt.alloc(), &timeline, 0, 5)?;
+    assert_eq!(rt; spans.as_slice(), [(0, 2, 0), (3, 5, 1)].as_slice());
+    let spans = cut(rt.alloc(), &timeline, 3, 3)?;
+    assert_eq!(rt; spans.as_slice(), [(3, 3, 1)].as_slice());
+    let spans = cut(rt.alloc(), &timeline, 1, 2)?;
+    assert_eq!(rt; spans.as_slice(), [(1, 2, 0)].as_slice());
+    Ok(())
+}
+
+// An object whose dynamic attribute has these legs from tick `now` on.
+fn moving(rt: &impl Abort, alloc: Global, now: u32, function: Legs) -> Result<Timeline, Fail> {
+    let mut timeline = Timeline::new(alloc);
+    appear(rt, &mut timeline, now)?;
+    write(rt, &mut timeline, now, &[(1, Given::Rate(function))])?;
+    Ok(timeline)
+}
+
+#[test]
+fn pieces_end_where_a_leg_ends(rt: HostRuntime) -> Result<(), Fail> {
+    // legs that end at ticks 5 and 9
+    let mut timeline = moving(
+        &rt,
+        rt.alloc(),
+        2,
+        legs(rt.alloc(), &[(1000, 3), (2000, 4)], 0)?,
+    )?;
+    let whole = [(2, 4, 0), (5, 8, 0), (9, 12, 0)];
+    let parts = [(4, 4, 0), (5, 8, 0), (9, 9, 0)];
+    for (lo, hi, expected) in [
+        (0, 12, whole.as_slice()),
+        (4, 9, parts.as_slice()),
+        (4, 8, &parts[..2]),
+        (5, 8, &parts[1..2]),
+        (0, 1, &parts[..0]),
+    ] {
+        assert_eq!(rt;
+            cut(rt.alloc(), &timeline, lo, hi)?.as_slice(),
+            expected,
+            "{lo}..{hi}"
+        );
+    }
+    // what is left of the legs stays where a value alone is written, here at the tick before one ends
+    write(&rt, &mut timeline, 8, &[(1, Given::Num(fix(0)?))])?;
+    let spans = cut(rt.alloc(), &timeline, 2, 12)?;
+    assert_eq!(rt;
+        spans.as_slice(),
+        [(2, 4, 0), (5, 7, 0), (8, 8, 1), (9, 12, 1)].as_slice()
+    );
+    // the epoch of an absent object is one piece
+    vanish(&rt, &mut timeline, 9)?;
+    let spans = cut(rt.alloc(), &timeline, 6, 12)?;
+    assert_eq!(rt;
+        spans.as_slice(),
+        [(6, 7, 0), (8, 8, 1), (9, 12, 2)].as_slice()
+    );
+    Ok(())
+}
+
+#[test]
+fn pieces_end_where_a_leg_of_either_attribute_ends(rt: HostRuntime) -> Result<(), Fail> {
+    // legs that end at ticks 5 and 9, and legs that end at ticks 5 and 7
+    let first = Vector::begun(2, fix(0)?, legs(rt.alloc(), &[(1000, 3), (2000, 4)], 0)?);
+    let second = Vector::begun(2, fix(0)?, legs(rt.alloc(), &[(500, 3), (1, 2)], 0)?);
+    let mut timeline = Timeline::new(rt.alloc());
+    let cells = [
+        Cell::Dyn(first),
+        Cell::fresh(AttrKind::Text, 2),
+        Cell::Dyn(second),
+    ];
+    assert!(rt; timeline.begin(2, &cells)?.is_none());
+    let spans = cut(rt.alloc(), &timeline, 0, 10)?;
+    let expected = [(2, 4, 0), (5, 6, 0), (7, 8, 0), (9, 10, 0)];
+    assert_eq!(rt; spans.as_slice(), expected.as_slice());
+    Ok(())
+}
+
+#[test]
+fn pieces_have_their_extremes(rt: HostRuntime) -> Result<(), Fail> {
+    // eight legs, those that end one tick long
+    let timeline = moving(
+        &rt,
+        rt.alloc(),
+        0,
+        legs(rt.alloc(), &[(1_000_000, 1); 7], -1_000_000)?,
+    )?;
+    let spans = cut(rt.alloc(), &timeline, 5, 9)?;
+    assert_eq!(rt;
+        spans.as_slice(),
+        [(5, 5, 0), (6, 6, 0), (7, 9, 0)].as_slice()
+    );
+    // eight legs, those that end 10^9 ticks long
+    let timeline = moving(
+        &rt,
+        rt.alloc(),
+        0,
+        legs(rt.alloc(), &[(1_000_000, LONGEST_LEG); 7], 0)?,
+    )?;
+    let spans = cut(rt.alloc(), &timeline, 0, LAST_TICK)?;
+    let last = (LAST_TICK, LAST_TICK, 0);
+    assert_eq!(rt; spans.as_slice(), [(0, LAST_TICK - 1, 0), last].as_slice());
+    // an object that appears at the last tick
+    let timeline = moving(&rt, rt.alloc(), LAST_TICK, legs(rt.alloc(), &[(1, 1)], 0)?)?;
+    assert_eq!(rt;
+        cut(rt.alloc(), &timeline, 0, LAST_TICK)?.as_slice(),
+        [last].as_slice()
+    );
+    Ok(())
+}
+
+#[test]
+fn an_implied_value_has_its_extremes(rt: HostRuntime) -> Result<(), Fail> {
+    let mut timeline = Timeline::new(rt.alloc());
+    appear(&rt, &mut timeline, 0)?;
+    for (value, rate, far) in [
+        (1_000_000_000_000, 1_000_000, 1_001_000_000_000_000),
+        (-1_000_000_000_000, -1_000_000, -1_001_000_000_000_000),
+    ] {
+        let value = fix(value)?;
+        assert!(rt; value.raw().unsigned_abs() <= GIVEN_LIMIT);
+        write(
+            &rt,
+            &mut timeline,
+            0,
+            &[(1, Given::Both(value, legs(rt.alloc(), &[], rate)?))],
+        )?;
+        assert_eq!(rt; values_at(&rt, &timeline, LAST_TICK), Seen::Values(0, far));
+    }
+    Ok(())
+}
