@@ -102,6 +102,24 @@ CompletesAs g WriteFault written texts = ⊥
 CompletesAs g ShelfFault written texts = ⊥
 CompletesAs g NoMemory written texts = IsPart g written texts
 
+-- what is seen of the outside at one moment: the counts of faults, and what each object tells
+pub record Seen : Type 0 where
+  pub faults : Counts
+  pub left : Option (List ℕ)
+  pub written : Option (List ℕ)
+  pub texts : Option Texts
+
+-- all that a run promises, from the outside before it to that after it
+pub record RunsAs (limit : ℕ) (words : Bool) (before after : Seen) (status : Status) : Type 0 where
+  pub fits : FitsWords status words
+  pub cause : HasCause status before.faults after.faults
+  pub taken : (bytes : List ℕ) → before.left ≡ Some bytes → KeepsLimit limit bytes status after.left
+  pub ends : (bytes written : List ℕ) (texts : Texts) → before.left ≡ Some bytes → before.written ≡ Some written → before.texts ≡ Some texts →
+      EndsAs (record { words = words; limit = limit; bytes = bytes; written = written; texts = texts }) status after.written after.texts after.left
+  pub complete : (bytes written : List ℕ) (texts : Texts) → before.left ≡ Some bytes → before.written ≡ Some written → before.texts ≡ Some texts →
+      ¬ Rose before.faults.source after.faults.source → ¬ Rose before.faults.sink after.faults.sink →
+      CompletesAs (record { words = words; limit = limit; bytes = bytes; written = written; texts = texts }) status after.written after.texts
+
 -- how it ends where the words are bad
 abbrev pub Refuses : Status → ℕ → ℕ → Option (List ℕ) → Option (List ℕ) → Type 0
 Refuses BadWords faults faults' old new = (faults' ≡ faults) × ((written : List ℕ) → old ≡ Some written → new ≡ Some (written ++ bad_words))
