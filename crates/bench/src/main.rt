@@ -1,7 +1,8 @@
-//! Benchmarks of the library crates, one word each: `tick_sets COUNT ROUNDS`. What the calls give goes to
-//! standard output, and the nanoseconds that they take to standard error.
+//! Benchmarks of the library crates, one word each: `tick_sets COUNT ROUNDS` and `geometry COUNT ROUNDS`.
+//! What the calls give goes to standard output, and the nanoseconds that they take to standard error.
 #![tactic(auto)]
 
+mod crossings;
 mod tick_sets;
 
 use anyhow::{Context, Result, bail};
@@ -15,6 +16,7 @@ fn main(rt: HostRuntime) -> Result<()> {
     let count = count.parse::<u32>().context("COUNT")?;
     let rounds = rounds.parse::<u32>().context("ROUNDS")?;
     match word.as_str() {
+        "geometry" => crossings::run(&rt, count, rounds),
         "tick_sets" => tick_sets::run(&rt, count, rounds),
         _ => bail!("no such word"),
     }

@@ -1,0 +1,267 @@
+//! Lines, distances and polygons, on many motions and over a long window.
+ghost use Rattle.std.specs.Prelude.{◌≡◌, ◌-◌, ◌<◌, ◌≤◌, ◌↔◌, IsTrue};
+ghost use Rattle.linear_crossing.specs.Moving.{IsInReach};
+
+use anyhow::Result;
+use case_table::Op;
+use distance_crossing::{WINDOW_LIMIT, within};
+use fixed_point::{Fix, Point, Slope};
+use linear_crossing::{COORDINATE_LIMIT, Line, Quad, solve};
+use polygon::Polygon;
+use std::alloc::{AllocError, Global};
+use std::marker::Brand;
+use std::rt::Clock;
+use std::sync::ledger::{Blank, Ledger};
+use std::time::Instant;
+use steps::Steps;
+use tick_set::{Span, Window};
+
+// The window's last tick. Its first is 0.
+const LAST: u32 = 1_000_000;
+
+// The square of the distance that is asked for.
+const LIMIT: i128 = 160_000_000_000_000_000;
+
+/// Times each call on so many motions, so many rounds.
+pub fn run<R: Print + Eprint + Clock + AllocGlobal>(rt: &R, count: u32, rounds: u32) -> Result<()> {
+    let alloc = rt.alloc();
+    let Some(w) = Window::new(0, LAST) else {
+        return Ok(());
+    };
+    time_solve(rt, count, rounds, w)?;
+    let lines = motions(alloc, count)?;
+    let pairs = pairs(alloc, &lines)?;
+    time_within::<R, Brand>(rt, Blank::new(1), &pairs, rounds, w)?;
+    time_inside(
+        rt,
+        "inside_4",
+        &Polygon::new(alloc, &square(alloc)?)?,
+        &lines,
+        rounds,
+        w,
+    )?;
+    time_inside(
+        rt,
+        "inside_64",
+        &Polygon::new(alloc, &lens(alloc)?)?,
+        &lines,
+        rounds,
+        w,
+    )
+}
+
+fn time_solve<R: Print + Eprint + Clock + AllocGlobal>(
+    rt: &R,
+    count: u32,
+    rounds: u32,
+    w: Window,
+) -> Result<()> {
+    let functions = functions(rt.alloc(), count)?;
+    let mut timer = Timer::begin(rt, rounds, functions.len())?;
+    for _ in 0..rounds {
+        for f in &functions {
+            let pair = solve(i128::from(f.rise), i128::from(f.start), f.op, w);
+            timer.keep(pair.first);
+            timer.keep(pair.second);
+        }
+    }
+    timer.report(rt, "solve")
+}
+
+fn time_within<R: Print + Eprint + Clock, M: Ledger>(
+    rt: &R,
+    blank: Blank,
+    pairs: &[Quad],
+    rounds: u32,
+    w: Window,
+) -> Result<()>
+    requires name { blank.name ≡ M.name }
+    requires parts { blank.parts ≡ M.parts }
+    requires some_part { 0 < blank.parts }
+    requires short { w.hi - w.lo ≤ WINDOW_LIMIT }
+{
+    let mut probes: Steps<M> = Steps::new(blank);
+    let mut timer = Timer::begin(rt, rounds, pairs.len())?;
+    for _ in 0..rounds {
+        for q in pairs {
+            timer.keep(within(q, LIMIT, w, &mut probes));
+        }
+    }
+    timer.report(rt, "within")
+}
+
+fn time_inside<R: Print + Eprint + Clock>(
+    rt: &R,
+    name: &str,
+    polygon: &Polygon,
+    lines: &[Line],
+    rounds: u32,
+    w: Window,
+) -> Result<()> {
+    let mut timer = Timer::begin(rt, rounds, lines.len())?;
+    for _ in 0..rounds {
+        for l in lines {
+            timer.keep(polygon.inside_ticks(l, w));
+        }
+    }
+    timer.report(rt, name)
+}
+
+/// A linear function of the tick and a comparison with 0.
+#[derive(Clone, Copy)]
+struct Function {
+    rise: i64,
+    start: i64,
+    op: Op,
+}
+
+/// The next number of a seeded row of numbers.
+fn next(seed: &mut u64) -> u64 {
+    *seed = seed
+        .wrapping_mul(6_364_136_223_846_793_005)
+        .wrapping_add(1_442_695_040_888_963_407);
+    *seed
+}
+
+/// A number from `-size` to `size`.
+fn spread(seed: &mut u64, size: u32) -> i64 {
+    let width = 2 * u64::from(size) + 1;
+    ((next(seed) >> 20) % width) as i64 - i64::from(size)
+}
+
+fn functions(alloc: Global, count: u32) -> Result<Vec<Function>, AllocError> {
+    let mut seed = 1;
+    let mut functions = Vec::with_capacity(alloc, count as usize)?;
+    for i in 0..count {
+        let op = match i % 6 {
+            0 => Op::Lt,
+            1 => Op::Le,
+            2 => Op::Eq,
+            3 => Op::Ne,
+            4 => Op::Ge,
+            _ => Op::Gt,
+        };
+        let rise = spread(&mut seed, 1_000_000);
+        let start = spread(&mut seed, 1_000_000).wrapping_mul(500_000);
+        functions.push(Function { rise, start, op })?;
+    }
+    Ok(functions)
+}
+
+fn place(x: i64, y: i64) -> Option<Point> {
+    Some(Point {
+        x: Fix::of(x)?,
+        y: Fix::of(y)?,
+    })
+}
+
+fn motions(alloc: Global, count: u32) -> Result<Vec<Line>, AllocError> {
+    let mut seed = 2;
+    let mut lines = Vec::with_capacity(alloc, count as usize)?;
+    for _ in 0..count {
+        let x = spread(&mut seed, 600_000_000);
+        let y = spread(&mut seed, 600_000_000);
+        let dx = spread(&mut seed, 2_000);
+        let dy = spread(&mut seed, 2_000);
+        if let (Some(at), Some(dx), Some(dy)) = (place(x, y), Slope::of(dx), Slope::of(dy)) {
+            lines.push(Line { at, dx, dy })?;
+        }
+    }
+    Ok(lines)
+}
+
+/// Whether the motion begins where a stored one can be.
+fn is_in_reach(l: &Line) -> bool
+    ensures { IsTrue result ↔ IsInReach l.now }
+{
+    l.at.x.raw().unsigned_abs() <= COORDINATE_LIMIT
+        && l.at.y.raw().unsigned_abs() <= COORDINATE_LIMIT
+}
+
+/// Each motion and the next one.
+fn pairs(alloc: Global, lines: &[Line]) -> Result<Vec<Quad>, AllocError> {
+    let mut pairs = Vec::with_capacity(alloc, lines.len())?;
+    for pair in lines.windows(2) {
+        if let [p, q] = pair
+            && is_in_reach(p)
+            && is_in_reach(q)
+        {
+            pairs.push(Quad::between(p, q))?;
+        }
+    }
+    Ok(pairs)
+}
+
+fn square(alloc: Global) -> Result<Vec<Point>, AllocError> {
+    let side = 480_000_000;
+    let mut points = Vec::new(alloc);
+    for (x, y) in [(-side, -side), (side, -side), (side, side), (-side, side)] {
+        if let Some(p) = place(x, y) {
+            points.push(p)?;
+        }
+    }
+    Ok(points)
+}
+
+/// Sixty-four points: two parabolas that meet in two corners.
+fn lens(alloc: Global) -> Result<Vec<Point>, AllocError> {
+    let mut points = Vec::new(alloc);
+    for i in 0..64u32 {
+        let middle = if i < 32 { 16 } else { 48 };
+        let x = i64::from(i).wrapping_sub(middle);
+        let y = 256i64.wrapping_sub(x.wrapping_mul(x));
+        let (x, y) = if i < 32 {
+            (x, y.wrapping_neg())
+        } else {
+            (x.wrapping_neg(), y)
+        };
+        if let Some(p) = place(x.wrapping_mul(30_000_000), y.wrapping_mul(3_000_000)) {
+            points.push(p)?;
+        }
+    }
+    Ok(points)
+}
+
+/// What one call takes and gives.
+#[derive(Drop)]
+struct Timer {
+    begun: Instant,
+    calls: u128,
+    runs: u64,
+    ticks: u64,
+}
+
+impl Timer {
+    fn begin(rt: &impl Clock, rounds: u32, count: usize) -> Result<Timer> {
+        Ok(Timer {
+            begun: Instant::now(rt)?,
+            calls: u128::from(rounds) * count as u128,
+            runs: 0,
+            ticks: 0,
+        })
+    }
+
+    fn keep(&mut self, run: Option<Span>) {
+        if let Some(s) = run {
+            self.runs = self.runs.wrapping_add(1);
+            self.ticks = self.ticks.wrapping_add(u64::from(s.hi - s.lo) + 1);
+        }
+    }
+
+    fn report<R: Print + Eprint + Clock>(self, rt: &R, name: &str) -> Result<()> {
+        let Timer {
+            begun,
+            calls,
+            runs,
+            ticks,
+        } = self;
+        let nanos = begun.elapsed(rt)?.as_nanos();
+        println!(rt; "{name} {runs} runs {ticks} ticks")?;
+        if calls > 0 {
+            let whole = nanos / calls;
+            let tenths = nanos % calls * 10 / calls;
+            eprintln!(rt; "{name} {whole}.{tenths} ns a call")?;
+        }
+        Ok(())
+    }
+}
