@@ -1,0 +1,13 @@
+pub mod Lists
+pub mod CellLemmas
+pub mod ClassLemmas
+pub mod StandLemmas
+pub mod KindLemmas
+pub mod IdLemmas
+pub mod SoundLemmas
+pub mod UndoLemmas
+pub mod EntryLemmas
+pub mod JudgeLemmas
+pub mod WriteLemmas
+pub mod CommandLemmas
+pub mod StoreLemmas

@@ -1,0 +1,50 @@
+-- What the answers of the tables say of a store.
+use Rattle.std.proofs.Common.{◌≡◌, ℕ, ◌<◌, ◌≤◌, Option, None, Some, Result, Ok, Err, List, [], map, length, refl, sym, ap, subst, ◌∙◌, arith}
+use Rattle.std.specs.Prelude.{All, IfOk, IfErr, OnOk, slice_get, option_map, unwrap_or}
+use Rattle.std.specs.Option.{option_map_or}
+use Rattle.std.proofs.lemmas.Option.{slice_get_within}
+use Rattle.history.specs.Write.{Write}
+use Rattle.history.specs.Catalog.{ClassInfo, names}
+use Rattle.object_store.specs.declared.fault.StoreFault.{StoreFault}
+use Rattle.object_store.specs.declared.fault.StoreFault.TheVariants.{NoMemory}
+use Rattle.object_store.specs.declared.objects.Done.{Done}
+use Rattle.object_store.specs.Contents.{StoredObject, Contents, catalog_of, ids_in, object_name}
+use Rattle.object_store.specs.Kept.{IsKept, Writes}
+use Rattle.object_store.specs.Standing.{GrowsBy}
+use Rattle.object_store.specs.Tables.{IsJudged}
+use Rattle.object_store.proofs.IdLemmas.{ids-none, names-ids}
+use Rattle.object_store.proofs.SoundLemmas.{same_class}
+
+pub ok_contents : (r : Result Done StoreFault) (name : List ℕ) (old after : Contents) (ids : List (List ℕ)) (new : Contents) → IfOk r (Writes name old after ids new) → OnOk r (new ≡ after)
+ok_contents (Ok done) name old after ids new writes = writes.contents
+ok_contents (Err e) name old after ids new writes = writes
+
+pub ok_stands : (r : Result Done StoreFault) (fault : Option StoreFault) (name : List ℕ) (old after : Contents) (ids : List (List ℕ)) (new : Contents) (w : Write) → IfOk r (Writes name old after ids new) → IsJudged fault r → (fault ≡ None → GrowsBy old after w) → OnOk r (GrowsBy old new w)
+ok_stands (Ok done) fault name old after ids new w writes judged stands = subst (λ new. GrowsBy old new w) (sym writes.contents) (stands judged)
+ok_stands (Err e) fault name old after ids new w writes judged stands = writes
+
+pub ok_accepted : {T : Type 0} (r : Result T StoreFault) (fault : Option StoreFault) → IsJudged fault r → OnOk r (fault ≡ None)
+ok_accepted (Ok done) fault judged = judged
+ok_accepted (Err e) fault judged = tt
+
+pub err_fault : {T : Type 0} (r : Result T StoreFault) (fault : Option StoreFault) → IsJudged fault r → IfErr r (λ e. e ≡ unwrap_or fault NoMemory)
+err_fault (Ok done) fault judged = tt
+err_fault (Err e) fault judged = judged
+
+pub class_stands : {T : Type 0} (r : Result T StoreFault) (old after new : Contents) (w : Write) → OnOk r (new ≡ after) → GrowsBy old after w → OnOk r (GrowsBy old new w)
+class_stands (Ok x) old after new w is stands = subst (λ new. GrowsBy old new w) (sym is) stands
+class_stands (Err e) old after new w is stands = is
+
+-- the names of a class, by its ids
+pub class_names_are : (s : Contents) (members : List (List ℕ)) (number : ℕ) (k : ClassInfo) → IsKept members s → slice_get s.classes number ≡ Some k → map (object_name s.objects) (ids_in s.objects number) ≡ names (catalog_of s) k.name
+class_names_are s members number k kept there =
+    names-ids k.name number s.classes s.objects
+    (same_class s.classes number k.name kept.sound.classes (slice_get_within s.classes number k there) (ap (λ r. option_map_or (λ (k : ClassInfo). k.name) r []) there))
+    kept.sound.objects.classed
+
+pub no_class : (s : Contents) (members : List (List ℕ)) (number : ℕ) → IsKept members s → length members ≤ number → ids_in s.objects number ≡ []
+no_class s members number kept past = ids-none number s.objects (λ k d l. omega (arith, kept.sound.objects.classed k d l, kept.members.count))
+
+pub ok_tick : (r : Result Done StoreFault) (name : List ℕ) (old after : Contents) (ids : List (List ℕ)) (new : Contents) (now : ℕ) → IfOk r (Writes name old after ids new) → after.last_tick ≡ now → OnOk r (new.last_tick ≡ now)
+ok_tick (Ok done) name old after ids new now writes tick = ap (λ (s : Contents). s.last_tick) writes.contents ∙ tick
+ok_tick (Err e) name old after ids new now writes tick = writes

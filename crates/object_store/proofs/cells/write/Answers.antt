@@ -1,0 +1,13 @@
+use Rattle.std.proofs.Common.{arith, suc}
+use Rattle.std.proofs.lemmas.Grind.{common_steps}
+use Rattle.object_store.proofs.cells.write.Goals as goal
+
+pub loop-change-preserved : goal.loop-change-preserved
+loop-change-preserved c = record {
+  whole = grind (arith, common_steps);
+  written = c.set.ensures.written;
+  given = λ k d l. grind (arith, common_steps, c.loop-change.invariant.given (suc k) d);
+}
+
+pub set-requires-clause-given : goal.set-requires-clause-given
+set-requires-clause-given c = grind (arith, common_steps, c.loop-change.invariant.given 0 c.in-Some.change.now)

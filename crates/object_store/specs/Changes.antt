@@ -1,0 +1,30 @@
+-- What a command writes, by the places of the attributes.
+use Rattle.std.specs.Prelude.{ℕ, ◌≤◌, unsigned_abs, All, IfSome, Option, List, map}
+use Rattle.std.specs.List.{filter_map, position}
+use Rattle.std.specs.Option.{option_map}
+use Rattle.std.specs.Str.{bytes_eq}
+use Rattle.motion.specs.Cells.{fresh, IsGiven}
+use Rattle.motion.specs.declared.vector.TheConstants.{GIVEN_LIMIT}
+use Rattle.motion.specs.declared.cell.Cell.{Cell}
+use Rattle.motion.specs.declared.cell.Given.{Given}
+use Rattle.motion.specs.declared.cell.NamedSet.{NamedSet}
+use Rattle.motion.specs.declared.cell.Place.{Place}
+use Rattle.history.specs.Write.{Attribute}
+
+-- a setting by the place of its attribute, nothing where there is none of its name
+abbrev pub change_of : List Attribute → NamedSet → Option (ℕ × Given)
+change_of attributes set = option_map (λ place. (place, set.given)) (position (λ a. bytes_eq set.name a.name) attributes)
+
+abbrev pub changes_of : List Attribute → List NamedSet → List (ℕ × Given)
+changes_of attributes sets = filter_map (change_of attributes) sets
+
+abbrev pub fresh_cells : ℕ → List Attribute → List Cell
+fresh_cells now attributes = map (λ a. fresh now a.kind) attributes
+
+-- each number that a command gives is within 10^12 thousandths
+pub record AreGiven (place : Place) (sets : List NamedSet) : Type 0 where
+  pub at : IfSome place.at (λ p. (unsigned_abs p.x ≤ GIVEN_LIMIT) × (unsigned_abs p.y ≤ GIVEN_LIMIT))
+  pub settings : All (λ set. IsGiven set.given) sets
+
+abbrev pub AreChanges : List (ℕ × Given) → Type 0
+AreChanges changes = All (λ change. IsGiven change.1) changes

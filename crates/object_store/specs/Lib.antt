@@ -1,0 +1,13 @@
+pub mod Contents
+pub mod Faults
+pub mod Effects
+pub mod Sound
+pub mod Keyed
+pub mod Changes
+pub mod Standing
+pub mod Places
+pub mod Stored
+pub mod Undoing
+pub mod Ids
+pub mod Kept
+pub mod Tables

@@ -1,0 +1,134 @@
+//! What a command writes to the cells of an object.
+ghost use Rattle.std.specs.Prelude.{◌≡◌, ◌<◌, ◌≤◌, ◌++◌, ◌∷◌, [], codes, length, IfOk, OnOk};
+ghost use Rattle.std.specs.Option.{option_map_or};
+ghost use Rattle.motion.specs.Cells.{AreWritten, IsGiven, IsWritten, changed, place_sets, set_at};
+ghost use Rattle.tick_set.specs.declared.spans.TheConstants.{LAST_TICK};
+ghost use Rattle.object_store.specs.Changes.{changes_of, fresh_cells, AreChanges, AreGiven};
+
+use crate::class::Class;
+use crate::names::{x_name, y_name};
+use motion::{Cell, Given, NamedSet, Place};
+use std::alloc::{AllocError, Global};
+use tick_set::LAST_TICK;
+
+/// Writes to the cells at these places, in their order.
+pub type Changes = Vec<(usize, Given)>;
+
+/// Fills the buffer with what a command writes.
+pub fn fill(
+    changes: &mut Changes,
+    class: &Class,
+    place: &Place,
+    sets: &[NamedSet],
+) -> Result<(), AllocError>
+    ensures { OnOk result (changes.new.items ≡ changes_of class.now.attributes (place_sets place.now ++ sets.now)) }
+{
+    changes.clear();
+    if let Some(coordinates) = coordinates(place) {
+        push(changes, class, &coordinates)?;
+    }
+    push(changes, class, sets)?;
+    Ok(())
+}
+
+/// What a place gives for x and y.
+fn coordinates(place: &Place) -> Option<[NamedSet; 2]>
+    ensures { place_sets place.now ≡ option_map_or (λ sets. sets) result [] }
+{
+    match (&place.at, &place.moving) {
+        (None, None) => None,
+        (Some(at), None) => Some(named(Given::Num(at.x), Given::Num(at.y))),
+        (None, Some(moving)) => Some(named(Given::Rate(moving.0), Given::Rate(moving.1))),
+        (Some(at), Some(moving)) => Some(named(
+            Given::Both(at.x, moving.0),
+            Given::Both(at.y, moving.1),
+        )),
+    }
+}
+
+fn named(x: Given, y: Given) -> [NamedSet; 2]
+    ensures { result ≡ record { name = codes "x"; given = x } ∷ record { name = codes "y"; given = y } ∷ [] }
+{
+    [
+        NamedSet {
+            name: x_name(),
+            given: x,
+        },
+        NamedSet {
+            name: y_name(),
+            given: y,
+        },
+    ]
+}
+
+/// Appends these settings, by the places of their attributes.
+fn push(changes: &mut Changes, class: &Class, sets: &[NamedSet]) -> Result<(), AllocError>
+    ensures { OnOk result (changes.new.items ≡ changes.old.items ++ changes_of class.now.attributes sets.now) }
+{
+    let mut rest = sets;
+    while let Some((set, later)) = rest.split_first() {
+        if let Some(place) = class.attr_of(&set.name) {
+            changes.push((place, set.given))?;
+        }
+        rest = later;
+    }
+    Ok(())
+}
+
+/// The cells that an insert at tick `now` begins with, after these writes.
+pub fn inserted(
+    alloc: Global,
+    now: u32,
+    class: &Class,
+    changes: &[(usize, Given)],
+) -> Result<Vec<Cell>, AllocError>
+    requires tick { now ≤ LAST_TICK }
+    requires given { AreChanges changes.now }
+    ensures cells { IfOk result (λ v. v.items ≡ changed now changes.now (fresh_cells now class.now.attributes)) }
+    ensures written { IfOk result (λ v. AreWritten v.items now) }
+{
+    let mut cells = fresh(alloc, now, class)?;
+    write(&mut cells, now, changes);
+    Ok(cells)
+}
+
+/// Writes at tick `now` to these cells, in the order of the changes.
+fn write(cells: &mut [Cell], now: u32, changes: &[(usize, Given)])
+    requires tick { now ≤ LAST_TICK }
+    requires after { AreWritten cells.old now }
+    requires given { AreChanges changes.now }
+    ensures cells { cells.new ≡ changed now changes.now cells.old }
+    ensures written { AreWritten cells.new now }
+{
+    let mut rest = changes;
+    while let Some((change, later)) = rest.split_first() {
+        set(cells, now, change.0, &change.1);
+        rest = later;
+    }
+}
+
+fn fresh(alloc: Global, now: u32, class: &Class) -> Result<Vec<Cell>, AllocError>
+    requires { now ≤ LAST_TICK }
+    ensures cells { IfOk result (λ v. v.items ≡ fresh_cells now class.now.attributes) }
+    ensures written { IfOk result (λ v. AreWritten v.items now) }
+{
+    let attrs = class.attrs();
+    let mut cells = Vec::with_capacity(alloc, attrs.len())?;
+    for attr in attrs {
+        cells.push(Cell::fresh(attr.kind, now))?;
+    }
+    Ok(cells)
+}
+
+/// Writes at tick `now` to the cell at a place; a place past the cells leaves all.
+fn set(cells: &mut [Cell], now: u32, place: usize, given: &Given)
+    requires tick { now ≤ LAST_TICK }
+    requires after { AreWritten cells.old now }
+    requires given { IsGiven given.now }
+    ensures cells { cells.new ≡ set_at now cells.old place given.now }
+    ensures written { AreWritten cells.new now }
+{
+    if place < cells.len() {
+        cells[place] = cells[place].written(now, given);
+    }
+}

@@ -1,0 +1,26 @@
+//! The memory of the database: classes, the names of objects, and the timeline of each object.
+//!
+//! A store is seen as its contents, which tell a world as a list of writes does. Each accepted write
+//! keeps it standing for the writes so far, and can be taken back without memory. A refused one
+//! changes nothing.
+#![tactic(auto)]
+
+mod cells;
+mod class;
+mod fault;
+mod judge;
+mod members;
+mod names;
+mod objects;
+mod schema;
+mod store;
+mod tables;
+
+pub use class::{ATTRIBUTE_LIMIT, AttrDef, CAPACITY_LIMIT, Class};
+pub use fault::StoreFault;
+pub use objects::{Done, ObjectId, Undo};
+pub use schema::{CLASS_LIMIT, ClassId, Schema};
+pub use store::Store;
+
+#[cfg(test)]
+mod tests;

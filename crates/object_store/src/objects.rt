@@ -1,0 +1,229 @@
+//! The objects of a store and their timelines.
+ghost use Rattle.std.specs.Prelude.{◌≡◌, ◌+◌, ◌<◌, ◌≤◌, ◌-◌, ◌^◌, ◌==◌, ◌++◌, ◌∷◌, [], not, true, false, Some, None, All, is_some, length, take, slice_get, vec_len, IfSome, IfOk, OnOk, OnErr};
+ghost use Rattle.std.specs.List.{find, position};
+ghost use Rattle.std.specs.Option.{option_map};
+ghost use Rattle.indexmap.specs.IndexMap.{index_map_len};
+ghost use Rattle.motion.specs.Cells.{AreWritten, changed};
+ghost use Rattle.motion.specs.Timeline.{state_at, AreBegunBy, StandsAsLeft};
+ghost use Rattle.tick_set.specs.declared.spans.TheConstants.{LAST_TICK};
+ghost use Rattle.object_store.specs.Changes.{AreChanges};
+ghost use Rattle.object_store.specs.Contents.{StoredObject, is_named, is_present_at};
+ghost use Rattle.object_store.specs.Stored.{objects_of};
+ghost use Rattle.object_store.specs.Ids.{with_member, without_member};
+ghost use Rattle.object_store.specs.Places.{restored_at, IsPutAt};
+
+use crate::judge::Found;
+use crate::members::Members;
+use fixed_point::Word;
+use indexmap::IndexMap;
+use motion::{Cell, Epoch, Given, Timeline};
+use std::alloc::AllocError;
+use tick_set::LAST_TICK;
+
+/// The number of an object, from 0 in the order of first insertion.
+pub type ObjectId = u32;
+
+/// An object that was ever inserted.
+#[derive(Debug, Drop)]
+pub struct Object {
+    pub class: u32,
+    pub timeline: Timeline,
+}
+
+/// The objects by name; an id is a place.
+pub type Objects = IndexMap<Word, Object>;
+
+/// What a writing call made of its object, by which it can be taken back.
+#[derive(Debug, Drop)]
+pub struct Undo {
+    pub(crate) id: u32,
+    /// The name was new.
+    pub(crate) is_new: bool,
+    /// The epoch that the call replaced, one of the same tick.
+    pub(crate) replaced: Option<Epoch>,
+    /// The tick of the writing call before.
+    pub(crate) last_tick: u32,
+}
+
+/// What an accepted write to an object answers.
+#[derive(Debug, Drop)]
+pub struct Done {
+    /// The object that was written.
+    pub id: ObjectId,
+    /// Takes the write back.
+    pub undo: Undo,
+}
+
+impl Object {
+    /// Whether it has cells at tick `now`, before which it was last written.
+    pub fn is_present(&self, now: u32) -> bool
+        requires { AreBegunBy self.now.timeline now }
+        ensures { result ≡ is_some (state_at self.now.timeline now) }
+    {
+        match self.timeline.last() {
+            Some(epoch) => epoch.is_present(),
+            None => false,
+        }
+    }
+}
+
+/// The object at a place has these cells from tick `now` on.
+pub fn begin_at(
+    objects: &mut Objects,
+    place: usize,
+    now: u32,
+    cells: Vec<Cell>,
+) -> Result<Option<Epoch>, AllocError>
+    requires place { place < index_map_len objects.old }
+    requires tick { now ≤ LAST_TICK }
+    requires after { All (λ o. AreBegunBy o.periods now) (objects_of objects.old.entries) }
+    requires written { AreWritten cells.items now }
+    ensures ok { IfOk result (λ replaced. IsPutAt place (λ _. record { from = now; cells = Some cells.items }) replaced (objects_of objects.old.entries) (objects_of objects.new.entries)) }
+    ensures err { OnErr result (objects_of objects.new.entries ≡ objects_of objects.old.entries) }
+{
+    let object = &mut objects[place];
+    object.timeline.begin_with(now, cells)
+}
+
+/// Writes these values at tick `now` to the object at a place.
+pub fn write_at(
+    objects: &mut Objects,
+    place: usize,
+    now: u32,
+    changes: &[(usize, Given)],
+) -> Result<Option<Epoch>, AllocError>
+    requires place { place < index_map_len objects.old }
+    requires tick { now ≤ LAST_TICK }
+    requires after { All (λ o. AreBegunBy o.periods now) (objects_of objects.old.entries) }
+    requires given { AreChanges changes.now }
+    ensures ok { IfOk result (λ replaced. IsPutAt place (λ periods. record { from = now; cells = option_map (changed now changes.now) (state_at periods now) }) replaced (objects_of objects.old.entries) (objects_of objects.new.entries)) }
+    ensures err { OnErr result (objects_of objects.new.entries ≡ objects_of objects.old.entries) }
+{
+    let object = &mut objects[place];
+    object.timeline.write(now, changes)
+}
+
+/// The object at a place is absent from tick `now` on.
+pub fn vanish_at(objects: &mut Objects, place: usize, now: u32) -> Result<Option<Epoch>, AllocError>
+    requires place { place < index_map_len objects.old }
+    requires tick { now ≤ LAST_TICK }
+    requires after { All (λ o. AreBegunBy o.periods now) (objects_of objects.old.entries) }
+    ensures ok { IfOk result (λ replaced. IsPutAt place (λ _. record { from = now; cells = None }) replaced (objects_of objects.old.entries) (objects_of objects.new.entries)) }
+    ensures err { OnErr result (objects_of objects.new.entries ≡ objects_of objects.old.entries) }
+{
+    let object = &mut objects[place];
+    object.timeline.vanish(now)
+}
+
+/// Takes the last epoch of the object at a place away, or puts the one that it had replaced in its place.
+/// It takes no memory.
+pub fn take_back_at(objects: &mut Objects, place: usize, replaced: Option<Epoch>)
+    requires place { place < index_map_len objects.old }
+    requires left { (o : StoredObject) → slice_get (objects_of objects.old.entries) place ≡ Some o → StandsAsLeft o.periods replaced }
+    ensures { objects_of objects.new.entries ≡ restored_at place replaced (objects_of objects.old.entries) }
+{
+    let object = &mut objects[place];
+    object.timeline.take_back(replaced);
+}
+
+/// The place of the object of a name.
+pub fn place_of(objects: &Objects, name: &Word) -> Option<usize>
+    ensures place { result ≡ position (is_named name.now) (objects_of objects.now.entries) }
+    ensures within { IfSome result (λ place. place < index_map_len objects.now) }
+{
+    objects.get_index_of(name)
+}
+
+/// The object at a place, as an insert into the class `number` finds it.
+pub fn found_at(objects: &Objects, place: usize, number: u32, now: u32) -> Found
+    requires place { place < index_map_len objects.now }
+    requires begun { All (λ o. AreBegunBy o.periods now) (objects_of objects.now.entries) }
+    ensures { IfSome (slice_get (objects_of objects.now.entries) place) (λ o.
+        result ≡ record { elsewhere = not (o.class == number); present = is_present_at now o; past_capacity = false }) }
+{
+    let object = &objects[place];
+    Found {
+        elsewhere: object.class != number,
+        present: object.is_present(now),
+        past_capacity: false,
+    }
+}
+
+/// Enters an object of a new name, and answers its id. After an error nothing has changed.
+pub fn enter(
+    members: &mut Vec<Members>,
+    objects: &mut Objects,
+    number: u32,
+    name: &Word,
+    timeline: Timeline,
+) -> Result<u32, AllocError>
+    requires number { number < vec_len members.old }
+    requires new { find (is_named name.now) (objects_of objects.old.entries) ≡ None }
+    ensures id { IfOk result (λ id. id ≡ length (objects_of objects.old.entries)) }
+    ensures fits { IfOk result (λ id. id + 1 < 2 ^ 32) }
+    ensures objects { OnOk result (objects_of objects.new.entries ≡ objects_of objects.old.entries
+        ++ record { name = name.now; class = number; periods = timeline } ∷ []) }
+    ensures members { IfOk result (λ id. members.new.items ≡ with_member members.old.items number id) }
+    ensures err_objects { OnErr result (objects_of objects.new.entries ≡ objects_of objects.old.entries) }
+    ensures err_members { OnErr result (members.new.items ≡ members.old.items) }
+{
+    // No capacities allow as many objects as 32 bits count.
+    let count = objects.len();
+    if count >= u32::MAX as usize {
+        return Err(AllocError);
+    }
+    let id = count as u32;
+    objects.reserve(1)?;
+    let own = &mut members[number as usize];
+    own.push(id)?;
+    let object = Object {
+        class: number,
+        timeline,
+    };
+    objects.insert(*name, object).unwrap();
+    Ok(id)
+}
+
+/// Takes the last object away, and its id from those of its class. It takes no memory.
+pub fn leave(members: &mut Vec<Members>, objects: &mut Objects)
+    requires some { 0 < index_map_len objects.old }
+    requires classed { All (λ o. o.class < vec_len members.old) (objects_of objects.old.entries) }
+    ensures objects { objects_of objects.new.entries ≡ take (length (objects_of objects.old.entries) - 1) (objects_of objects.old.entries) }
+    ensures members { IfSome (slice_get (objects_of objects.old.entries) (index_map_len objects.old - 1)) (λ o.
+        members.new.items ≡ without_member members.old.items o.class) }
+{
+    let place = objects.len() - 1;
+    let number = objects[place].class;
+    members[number as usize].pop();
+    objects.truncate(place);
+}
+
+/// The answer of a write to an object whose name was known.
+pub fn known(id: u32, replaced: Option<Epoch>, last_tick: u32) -> Done
+    ensures { result ≡ record { id = id; undo = record { id = id; is_new = false; replaced = replaced; last_tick = last_tick } } }
+{
+    Done {
+        id,
+        undo: Undo {
+            id,
+            is_new: false,
+            replaced,
+            last_tick,
+        },
+    }
+}
+
+/// The answer of a write to an object whose name was new.
+pub fn entered(id: u32, last_tick: u32) -> Done
+    ensures { result ≡ record { id = id; undo = record { id = id; is_new = true; replaced = None; last_tick = last_tick } } }
+{
+    Done {
+        id,
+        undo: Undo {
+            id,
+            is_new: true,
+            replaced: None,
+            last_tick,
+        },
+    }
+}

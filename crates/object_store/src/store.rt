@@ -1,0 +1,274 @@
+//! The store.
+ghost use Rattle.std.specs.Prelude.{◌≡◌, ◌+◌, ◌<◌, ◌≤◌, Some, None, false, is_some, length, map, unwrap_or, slice_get, IfOk, IfErr, OnOk, OnErr};
+ghost use Rattle.std.specs.List.{position};
+ghost use Rattle.std.specs.Option.{option_copied, option_map, option_map_or};
+ghost use Rattle.tick_set.specs.declared.spans.TheConstants.{LAST_TICK};
+ghost use Rattle.history.specs.Catalog.{ClassInfo, names};
+ghost use Rattle.history.specs.Write.{Class as ClassWrite, Insert, Update, Remove};
+ghost use Rattle.object_store.specs.declared.fault.StoreFault.TheVariants.{NoMemory};
+ghost use Rattle.object_store.specs.Changes.{AreGiven};
+ghost use Rattle.object_store.specs.Contents.{catalog_of, is_named, is_present_at, ids_in, nothing, object_name, state_of};
+ghost use Rattle.object_store.specs.Effects.{with_class, after_insert, after_update, after_remove};
+ghost use Rattle.object_store.specs.Faults.{class_fault, insert_fault, update_fault, remove_fault};
+ghost use Rattle.object_store.specs.Sound.{IsSound};
+ghost use Rattle.object_store.specs.Standing.{GrowsBy};
+ghost use Rattle.object_store.specs.Undoing.{undone, without_last_class, HasSpareClass, IsRevertible, Undoes};
+
+use crate::class::{ATTRIBUTE_LIMIT, AttrDef, CAPACITY_LIMIT};
+use crate::fault::StoreFault;
+use crate::objects::{Done, ObjectId, Undo, place_of};
+use crate::schema::{ClassId, Schema};
+use crate::tables::Tables;
+use fixed_point::Word;
+use indexmap::IndexMap;
+use motion::{NamedSet, Place, Timeline};
+use std::alloc::Global;
+use std::marker::Model;
+use std::sync::ledger::Ledger;
+use steps::Steps;
+use tick_set::LAST_TICK;
+
+/// Classes, names and timelines. A contract sees the classes in the order of making, the objects in
+/// the order of first insertion, each with the periods of its timeline, and the tick of the last write.
+#[derive(Drop)]
+pub struct Store {
+    tables: Tables,
+}
+
+impl Model for Store {
+    ghost use Rattle.object_store.specs.Contents.{Contents};
+
+    ghost Value = { Contents };
+
+    ghost use Rattle.object_store.specs.Kept.{IsKept};
+    ghost use Rattle.object_store.specs.Tables.{contents_of, ids_of};
+
+    ghost view = { λ a. contents_of a.tables };
+
+    ghost invariant = { λ a. IsKept (ids_of a.tables) (contents_of a.tables) };
+}
+
+impl Store {
+    /// A store without classes. It takes no memory.
+    pub fn new(alloc: Global) -> Store
+        ensures { result ≡ nothing }
+    {
+        Store {
+            tables: Tables {
+                alloc,
+                schema: Schema::new(alloc),
+                members: Vec::new(alloc),
+                objects: IndexMap::new(alloc),
+                last_tick: 0,
+                changes: Vec::new(alloc),
+            },
+        }
+    }
+
+    /// The classes.
+    #[inline]
+    pub fn schema(&self) -> &Schema
+        ensures { result.now ≡ self.now.classes }
+    {
+        &self.tables.schema
+    }
+
+    /// Adds a class of a capacity from 1 to 100,000 and at most 16 written attributes, and answers its
+    /// number. A point class has the dynamic attributes `x` and `y` before those. `NameTaken` comes
+    /// exactly where the name is taken or two attributes have the same name, and else `StoreFull`
+    /// exactly where there are 64 classes. `remove_last_class` takes the class back.
+    pub fn add_class(
+        &mut self,
+        name: Word,
+        capacity: u32,
+        point: bool,
+        attrs: &[AttrDef],
+    ) -> Result<ClassId, StoreFault>
+        requires some { 0 < capacity }
+        requires limit { capacity ≤ CAPACITY_LIMIT }
+        requires few { length attrs.now ≤ ATTRIBUTE_LIMIT }
+
+        ensures ok { OnOk result (self.new ≡ with_class self.old name capacity point attrs.now) }
+        ensures number { IfOk result (λ number. number ≡ length self.old.classes) }
+        ensures stands { OnOk result (GrowsBy self.old self.new (ClassWrite name capacity point attrs.now)) }
+        ensures spare { OnOk result (HasSpareClass self.new) }
+        ensures undo { OnOk result (without_last_class self.new ≡ self.old) }
+
+        ensures accepted { OnOk result (class_fault (catalog_of self.old) name point attrs.now ≡ None) }
+        ensures fault { IfErr result (λ fault. fault ≡ unwrap_or (class_fault (catalog_of self.old) name point attrs.now) NoMemory) }
+        ensures err { OnErr result (self.new ≡ self.old) }
+    {
+        self.tables.add_class(name, capacity, point, attrs)
+    }
+
+    /// Takes the last class away, which has no object. It takes no memory.
+    pub fn remove_last_class(&mut self)
+        requires some { 0 < length self.old.classes }
+        requires spare { HasSpareClass self.old }
+        ensures { self.new ≡ without_last_class self.old }
+    {
+        self.tables.remove_last_class();
+    }
+
+    /// Inserts an object into a class at tick `now`, which isn't before the last write's. What the
+    /// command doesn't name is 0, the empty text, or at rest at 0. A removed object is present again.
+    pub fn insert(
+        &mut self,
+        now: u32,
+        class: &Word,
+        name: &Word,
+        place: &Place,
+        sets: &[NamedSet],
+    ) -> Result<Done, StoreFault>
+        requires tick { now ≤ LAST_TICK }
+        requires after { self.old.last_tick ≤ now }
+        requires given { AreGiven place.now sets.now }
+
+        ensures ok { OnOk result (self.new ≡ after_insert self.old now class.now name.now place.now sets.now) }
+        ensures id { IfOk result (λ done. position (is_named name.now) self.new.objects ≡ Some done.id) }
+        ensures last { OnOk result (self.new.last_tick ≡ now) }
+        ensures stands { OnOk result (GrowsBy self.old self.new (Insert now class.now name.now place.now sets.now)) }
+        ensures undo { IfOk result (λ done. Undoes done.undo self.old self.new) }
+
+        ensures accepted { OnOk result
+            (insert_fault (catalog_of self.old) (is_some (state_of self.old name.now now)) class.now name.now place.now sets.now ≡ None) }
+        ensures fault { IfErr result (λ fault.
+            fault ≡ unwrap_or (insert_fault (catalog_of self.old) (is_some (state_of self.old name.now now)) class.now name.now place.now sets.now) NoMemory) }
+        ensures err { OnErr result (self.new ≡ self.old) }
+    {
+        self.tables.insert(now, class, name, place, sets)
+    }
+
+    /// Updates an object at tick `now`, which isn't before the last write's.
+    pub fn update(
+        &mut self,
+        now: u32,
+        name: &Word,
+        place: &Place,
+        sets: &[NamedSet],
+    ) -> Result<Done, StoreFault>
+        requires tick { now ≤ LAST_TICK }
+        requires after { self.old.last_tick ≤ now }
+        requires given { AreGiven place.now sets.now }
+
+        ensures ok { OnOk result (self.new ≡ after_update self.old now name.now place.now sets.now) }
+        ensures id { IfOk result (λ done. position (is_named name.now) self.new.objects ≡ Some done.id) }
+        ensures last { OnOk result (self.new.last_tick ≡ now) }
+        ensures stands { OnOk result (GrowsBy self.old self.new (Update now name.now place.now sets.now)) }
+        ensures undo { IfOk result (λ done. Undoes done.undo self.old self.new) }
+
+        ensures accepted { OnOk result
+            (update_fault (catalog_of self.old) (is_some (state_of self.old name.now now)) name.now place.now sets.now ≡ None) }
+        ensures fault { IfErr result (λ fault.
+            fault ≡ unwrap_or (update_fault (catalog_of self.old) (is_some (state_of self.old name.now now)) name.now place.now sets.now) NoMemory) }
+        ensures err { OnErr result (self.new ≡ self.old) }
+    {
+        self.tables.update(now, name, place, sets)
+    }
+
+    /// Removes an object at tick `now`, which isn't before the last write's. It keeps its name, its
+    /// class and its past.
+    pub fn remove(&mut self, now: u32, name: &Word) -> Result<Done, StoreFault>
+        requires tick { now ≤ LAST_TICK }
+        requires after { self.old.last_tick ≤ now }
+
+        ensures ok { OnOk result (self.new ≡ after_remove self.old now name.now) }
+        ensures id { IfOk result (λ done. position (is_named name.now) self.new.objects ≡ Some done.id) }
+        ensures last { OnOk result (self.new.last_tick ≡ now) }
+        ensures stands { OnOk result (GrowsBy self.old self.new (Remove now name.now)) }
+        ensures undo { IfOk result (λ done. Undoes done.undo self.old self.new) }
+
+        ensures accepted { OnOk result (remove_fault (catalog_of self.old) (is_some (state_of self.old name.now now)) name.now ≡ None) }
+        ensures fault { IfErr result (λ fault.
+            fault ≡ unwrap_or (remove_fault (catalog_of self.old) (is_some (state_of self.old name.now now)) name.now) NoMemory) }
+        ensures err { OnErr result (self.new ≡ self.old) }
+    {
+        self.tables.remove(now, name)
+    }
+
+    /// Takes a write back, the store standing as that call left it. It takes no memory.
+    pub fn revert(&mut self, undo: Undo)
+        requires { IsRevertible undo self.old }
+        ensures { self.new ≡ undone undo self.old }
+    {
+        self.tables.revert(undo);
+    }
+
+    /// The id of the object of a name. None exactly where the name was never inserted.
+    pub fn id_of(&self, name: &Word) -> Option<ObjectId>
+        ensures { result ≡ position (is_named name.now) self.now.objects }
+    {
+        match place_of(&self.tables.objects, name) {
+            Some(place) => Some(place as u32),
+            None => None,
+        }
+    }
+
+    /// The name of an object. None exactly where there is no such id.
+    pub fn name_of(&self, id: ObjectId) -> Option<&Word>
+        ensures { option_copied result ≡ option_map (λ o. o.name) (slice_get self.now.objects id) }
+    {
+        match self.tables.objects.get_index(id as usize) {
+            Some((name, _)) => Some(name),
+            None => None,
+        }
+    }
+
+    /// The class of an object, which it keeps. None exactly where there is no such id.
+    pub fn class_of(&self, id: ObjectId) -> Option<ClassId>
+        ensures { result ≡ option_map (λ o. o.class) (slice_get self.now.objects id) }
+    {
+        match self.tables.objects.get_index(id as usize) {
+            Some((_, object)) => Some(object.class),
+            None => None,
+        }
+    }
+
+    /// The ids of all objects ever inserted into a class, by first insertion.
+    pub fn class_names(&self, c: ClassId) -> &[ObjectId]
+        ensures ids { result.now ≡ ids_in self.now.objects c }
+        ensures names { (k : ClassInfo) → slice_get self.now.classes c ≡ Some k
+            → map (object_name self.now.objects) result.now ≡ names (catalog_of self.now) k.name }
+    {
+        match self.tables.members.get(c as usize) {
+            Some(members) => members.ids(),
+            None => &[],
+        }
+    }
+
+    /// Whether an object is present after the last write.
+    pub fn present(&self, id: ObjectId) -> bool
+        ensures { result ≡ option_map_or (is_present_at self.now.last_tick) (slice_get self.now.objects id) false }
+    {
+        match self.tables.objects.get_index(id as usize) {
+            Some((_, object)) => object.is_present(self.tables.last_tick),
+            None => false,
+        }
+    }
+
+    /// How many objects were ever inserted.
+    pub fn object_count(&self) -> u32
+        ensures value { result ≡ length self.now.objects }
+        ensures sound { IsSound self.now }
+    {
+        self.tables.objects.len() as u32
+    }
+
+    /// The tick of the last write to an object, 0 before the first. No write may come before it.
+    pub fn last_tick(&self) -> u32
+        ensures { result ≡ self.now.last_tick }
+    {
+        self.tables.last_tick
+    }
+
+    /// The timeline of an object, whose id exists. It takes one step, and is the one way to what an
+    /// object's attributes were, are and will be.
+    pub fn timeline<L: Ledger>(&self, id: ObjectId, reads: &mut Steps<L>) -> &Timeline
+        requires { id < length self.now.objects }
+        ensures timeline { option_map (λ o. o.periods) (slice_get self.now.objects id) ≡ Some result.now }
+        ensures step { reads.new ≡ reads.old + 1 }
+    {
+        reads.step();
+        &self.tables.objects[id as usize].timeline
+    }
+}

@@ -1,0 +1,444 @@
+//! The tables of a store: its classes, and its objects with the ids of each class.
+ghost use Rattle.std.specs.Prelude.{◌≡◌, ◌<◌, ◌≤◌, Some, None, false, true, is_some, nat_le, length, slice_get, IfSome, IfOk, OnOk, OnErr};
+ghost use Rattle.std.specs.List.{find, position};
+ghost use Rattle.std.specs.Str.{bytes_eq};
+ghost use Rattle.motion.specs.Cells.{AreWritten};
+ghost use Rattle.tick_set.specs.declared.spans.TheConstants.{LAST_TICK};
+ghost use Rattle.object_store.specs.Changes.{AreGiven};
+ghost use Rattle.object_store.specs.Contents.{attributes_at, catalog_of, is_named, state_of};
+ghost use Rattle.object_store.specs.Effects.{with_class, with_object, with_period_of, after_insert, after_update, after_remove};
+ghost use Rattle.object_store.specs.Faults.{class_fault, fault_of_class, insert_fault, update_fault, remove_fault};
+ghost use Rattle.object_store.specs.Kept.{HasRoom, IsKept, Writes};
+ghost use Rattle.object_store.specs.Sound.{AreCellsOf};
+ghost use Rattle.object_store.specs.Tables.{contents_of, ids_of, IsJudged, IsUnchanged};
+ghost use Rattle.object_store.specs.Undoing.{undone, without_last_class, HasSpareClass, IsRevertible};
+
+use crate::cells::{Changes, fill, inserted};
+use crate::class::{ATTRIBUTE_LIMIT, AttrDef, CAPACITY_LIMIT, Class, repeats_attribute};
+use crate::fault::StoreFault;
+use crate::judge::{Found, insert_fault, update_fault};
+use crate::members::Members;
+use crate::objects::{
+    Done, Objects, Undo, begin_at, enter, entered, found_at, known, leave, place_of, take_back_at,
+    vanish_at, write_at,
+};
+use crate::schema::{CLASS_LIMIT, ClassId, Schema};
+use fixed_point::Word;
+use motion::{Cell, NamedSet, Place, Timeline};
+use std::alloc::{AllocError, Global};
+use tick_set::LAST_TICK;
+
+#[derive(Drop)]
+pub struct Tables {
+    pub alloc: Global,
+    pub schema: Schema,
+    /// The ids of the objects of each class.
+    pub members: Vec<Members>,
+    pub objects: Objects,
+    /// The tick of the last write to an object.
+    pub last_tick: u32,
+    /// What the last command wrote, kept for its room alone.
+    pub changes: Changes,
+}
+
+impl Tables {
+    /// Adds a class.
+    pub fn add_class(
+        &mut self,
+        name: Word,
+        capacity: u32,
+        point: bool,
+        attrs: &[AttrDef],
+    ) -> Result<ClassId, StoreFault>
+        requires kept { IsKept (ids_of self.old) (contents_of self.old) }
+        requires some { 0 < capacity }
+        requires limit { capacity ≤ CAPACITY_LIMIT }
+        requires few { length attrs.now ≤ ATTRIBUTE_LIMIT }
+        ensures ok { OnOk result (contents_of self.new ≡ with_class (contents_of self.old) name capacity point attrs.now) }
+        ensures kept { OnOk result (IsKept (ids_of self.new) (contents_of self.new)) }
+        ensures number { IfOk result (λ number. number ≡ length (contents_of self.old).classes) }
+        ensures judged { IsJudged (class_fault (catalog_of (contents_of self.old)) name point attrs.now) result }
+        ensures err { OnErr result (IsUnchanged self.old self.new) }
+    {
+        if let Some(fault) = class_fault(&self.schema, &name, point, attrs) {
+            return Err(fault);
+        }
+        let number = self.write_class(name, capacity, point, attrs)?;
+        Ok(number)
+    }
+
+    /// Adds a class that has no fault.
+    fn write_class(
+        &mut self,
+        name: Word,
+        capacity: u32,
+        point: bool,
+        attrs: &[AttrDef],
+    ) -> Result<ClassId, AllocError>
+        requires kept { IsKept (ids_of self.old) (contents_of self.old) }
+        requires some { 0 < capacity }
+        requires limit { capacity ≤ CAPACITY_LIMIT }
+        requires few { length attrs.now ≤ ATTRIBUTE_LIMIT }
+        requires accepted { fault_of_class self.old.schema name point attrs.now ≡ None }
+        ensures ok { OnOk result (contents_of self.new ≡ with_class (contents_of self.old) name capacity point attrs.now) }
+        ensures kept { OnOk result (IsKept (ids_of self.new) (contents_of self.new)) }
+        ensures number { IfOk result (λ number. number ≡ length (contents_of self.old).classes) }
+        ensures err { OnErr result (IsUnchanged self.old self.new) }
+    {
+        let class = Class::new(self.alloc, name, capacity, point, attrs)?;
+        self.members.reserve(1)?;
+        let number = self.schema.add(class)?;
+        self.members.push(Members::new(self.alloc)).unwrap();
+        Ok(number)
+    }
+
+    /// Takes the last class away, which has no object.
+    pub fn remove_last_class(&mut self)
+        requires kept { IsKept (ids_of self.old) (contents_of self.old) }
+        requires some { 0 < length (contents_of self.old).classes }
+        requires spare { HasSpareClass (contents_of self.old) }
+        ensures contents { contents_of self.new ≡ without_last_class (contents_of self.old) }
+        ensures kept { IsKept (ids_of self.new) (contents_of self.new) }
+    {
+        self.schema.remove_last();
+        self.members.pop();
+    }
+
+    /// Inserts an object.
+    pub fn insert(
+        &mut self,
+        now: u32,
+        class: &Word,
+        name: &Word,
+        place: &Place,
+        sets: &[NamedSet],
+    ) -> Result<Done, StoreFault>
+        requires kept { IsKept (ids_of self.old) (contents_of self.old) }
+        requires tick { now ≤ LAST_TICK }
+        requires after { self.old.last_tick ≤ now }
+        requires given { AreGiven place.now sets.now }
+        ensures ok { IfOk result (Writes name.now (contents_of self.old)
+            (after_insert (contents_of self.old) now class.now name.now place.now sets.now) (ids_of self.new) (contents_of self.new)) }
+        ensures judged { IsJudged (insert_fault (catalog_of (contents_of self.old))
+            (is_some (state_of (contents_of self.old) name.now now)) class.now name.now place.now sets.now) result }
+        ensures err { OnErr result (IsUnchanged self.old self.new) }
+    {
+        let Some(number) = self.schema.class_of(class) else {
+            return Err(StoreFault::UnknownName);
+        };
+        let at = place_of(&self.objects, name);
+        if let Some(fault) = self.judge_insert(now, class, number, name, at, place, sets) {
+            return Err(fault);
+        }
+        let done = self.write_insert(now, class, number, name, at, place, sets)?;
+        Ok(done)
+    }
+
+    /// The first fault of an insert into the class `number`, of a name whose place was looked up.
+    fn judge_insert(
+        &self,
+        now: u32,
+        class: &Word,
+        number: u32,
+        name: &Word,
+        at: Option<usize>,
+        place: &Place,
+        sets: &[NamedSet],
+    ) -> Option<StoreFault>
+        requires kept { IsKept (ids_of self.now) (contents_of self.now) }
+        requires after { self.now.last_tick ≤ now }
+        requires class { position (λ k. bytes_eq class.now k.name) self.now.schema ≡ Some number }
+        requires name { at ≡ position (is_named name.now) (contents_of self.now).objects }
+        ensures { result ≡ insert_fault (catalog_of (contents_of self.now))
+            (is_some (state_of (contents_of self.now) name.now now)) class.now name.now place.now sets.now }
+    {
+        let kind = self.schema.class(number).unwrap();
+        match at {
+            Some(at) => {
+                let found = found_at(&self.objects, at, number, now);
+                insert_fault(kind, &found, place, sets)
+            }
+            None => {
+                let found = new_name(&self.members[number as usize], kind);
+                insert_fault(kind, &found, place, sets)
+            }
+        }
+    }
+
+    /// Does an insert that has no fault.
+    fn write_insert(
+        &mut self,
+        now: u32,
+        class: &Word,
+        number: u32,
+        name: &Word,
+        at: Option<usize>,
+        place: &Place,
+        sets: &[NamedSet],
+    ) -> Result<Done, AllocError>
+        requires kept { IsKept (ids_of self.old) (contents_of self.old) }
+        requires tick { now ≤ LAST_TICK }
+        requires after { self.old.last_tick ≤ now }
+        requires given { AreGiven place.now sets.now }
+        requires class { position (λ k. bytes_eq class.now k.name) self.old.schema ≡ Some number }
+        requires name { at ≡ position (is_named name.now) (contents_of self.old).objects }
+        requires accepted { insert_fault (catalog_of (contents_of self.old))
+            (is_some (state_of (contents_of self.old) name.now now)) class.now name.now place.now sets.now ≡ None }
+        ensures ok { IfOk result (Writes name.now (contents_of self.old)
+            (after_insert (contents_of self.old) now class.now name.now place.now sets.now) (ids_of self.new) (contents_of self.new)) }
+        ensures err { OnErr result (IsUnchanged self.old self.new) }
+    {
+        let kind = self.schema.class(number).unwrap();
+        fill(&mut self.changes, kind, place, sets)?;
+        let cells = inserted(self.alloc, now, kind, &self.changes)?;
+        match at {
+            Some(at) => self.begin(now, number, name, at, cells),
+            None => self.enter(now, number, name, cells),
+        }
+    }
+
+    /// The object at a place, which is of the class `number`, has these cells from tick `now` on.
+    fn begin(
+        &mut self,
+        now: u32,
+        number: u32,
+        name: &Word,
+        at: usize,
+        cells: Vec<Cell>,
+    ) -> Result<Done, AllocError>
+        requires kept { IsKept (ids_of self.old) (contents_of self.old) }
+        requires tick { now ≤ LAST_TICK }
+        requires after { self.old.last_tick ≤ now }
+        requires written { AreWritten cells.items now }
+        requires fits { AreCellsOf (attributes_at self.old.schema number) cells.items }
+        requires name { position (is_named name.now) (contents_of self.old).objects ≡ Some at }
+        requires class { IfSome (slice_get (contents_of self.old).objects at) (λ o. o.class ≡ number) }
+        ensures ok { IfOk result (Writes name.now (contents_of self.old)
+            (with_period_of (contents_of self.old) name.now (record { from = now; cells = Some cells.items })) (ids_of self.new) (contents_of self.new)) }
+        ensures err { OnErr result (IsUnchanged self.old self.new) }
+    {
+        let replaced = begin_at(&mut self.objects, at, now, cells)?;
+        let last_tick = self.last_tick;
+        self.last_tick = now;
+        Ok(known(at as u32, replaced, last_tick))
+    }
+
+    /// Enters an object of a new name into the class `number`, with these cells from tick `now` on.
+    fn enter(
+        &mut self,
+        now: u32,
+        number: u32,
+        name: &Word,
+        cells: Vec<Cell>,
+    ) -> Result<Done, AllocError>
+        requires kept { IsKept (ids_of self.old) (contents_of self.old) }
+        requires tick { now ≤ LAST_TICK }
+        requires after { self.old.last_tick ≤ now }
+        requires written { AreWritten cells.items now }
+        requires fits { AreCellsOf (attributes_at self.old.schema number) cells.items }
+        requires name { find (is_named name.now) (contents_of self.old).objects ≡ None }
+        requires room { HasRoom (contents_of self.old) number }
+        ensures ok { IfOk result (Writes name.now (contents_of self.old)
+            (with_object (contents_of self.old) number name.now (record { from = now; cells = Some cells.items })) (ids_of self.new) (contents_of self.new)) }
+        ensures err { OnErr result (IsUnchanged self.old self.new) }
+    {
+        let mut timeline = Timeline::new(self.alloc);
+        timeline.begin_with(now, cells)?;
+        let id = enter(&mut self.members, &mut self.objects, number, name, timeline)?;
+        let last_tick = self.last_tick;
+        self.last_tick = now;
+        Ok(entered(id, last_tick))
+    }
+
+    /// Updates an object.
+    pub fn update(
+        &mut self,
+        now: u32,
+        name: &Word,
+        place: &Place,
+        sets: &[NamedSet],
+    ) -> Result<Done, StoreFault>
+        requires kept { IsKept (ids_of self.old) (contents_of self.old) }
+        requires tick { now ≤ LAST_TICK }
+        requires after { self.old.last_tick ≤ now }
+        requires given { AreGiven place.now sets.now }
+        ensures ok { IfOk result (Writes name.now (contents_of self.old)
+            (after_update (contents_of self.old) now name.now place.now sets.now) (ids_of self.new) (contents_of self.new)) }
+        ensures judged { IsJudged (update_fault (catalog_of (contents_of self.old))
+            (is_some (state_of (contents_of self.old) name.now now)) name.now place.now sets.now) result }
+        ensures err { OnErr result (IsUnchanged self.old self.new) }
+    {
+        let Some(at) = place_of(&self.objects, name) else {
+            return Err(StoreFault::UnknownName);
+        };
+        if let Some(fault) = self.judge_update(now, name, at, place, sets) {
+            return Err(fault);
+        }
+        let done = self.write_update(now, name, at, place, sets)?;
+        Ok(done)
+    }
+
+    /// The first fault of an update of the object at a place.
+    fn judge_update(
+        &self,
+        now: u32,
+        name: &Word,
+        at: usize,
+        place: &Place,
+        sets: &[NamedSet],
+    ) -> Option<StoreFault>
+        requires kept { IsKept (ids_of self.now) (contents_of self.now) }
+        requires after { self.now.last_tick ≤ now }
+        requires name { position (is_named name.now) (contents_of self.now).objects ≡ Some at }
+        ensures { result ≡ update_fault (catalog_of (contents_of self.now))
+            (is_some (state_of (contents_of self.now) name.now now)) name.now place.now sets.now }
+    {
+        let object = &self.objects[at];
+        let kind = self.schema.class(object.class).unwrap();
+        update_fault(kind, object.is_present(now), place, sets)
+    }
+
+    /// Updates the object at a place.
+    fn write_update(
+        &mut self,
+        now: u32,
+        name: &Word,
+        at: usize,
+        place: &Place,
+        sets: &[NamedSet],
+    ) -> Result<Done, AllocError>
+        requires kept { IsKept (ids_of self.old) (contents_of self.old) }
+        requires tick { now ≤ LAST_TICK }
+        requires after { self.old.last_tick ≤ now }
+        requires given { AreGiven place.now sets.now }
+        requires name { position (is_named name.now) (contents_of self.old).objects ≡ Some at }
+        ensures ok { IfOk result (Writes name.now (contents_of self.old)
+            (after_update (contents_of self.old) now name.now place.now sets.now) (ids_of self.new) (contents_of self.new)) }
+        ensures err { OnErr result (IsUnchanged self.old self.new) }
+    {
+        let kind = self.schema.class(self.objects[at].class).unwrap();
+        fill(&mut self.changes, kind, place, sets)?;
+        let replaced = write_at(&mut self.objects, at, now, &self.changes)?;
+        let last_tick = self.last_tick;
+        self.last_tick = now;
+        Ok(known(at as u32, replaced, last_tick))
+    }
+
+    /// Removes an object.
+    pub fn remove(&mut self, now: u32, name: &Word) -> Result<Done, StoreFault>
+        requires kept { IsKept (ids_of self.old) (contents_of self.old) }
+        requires tick { now ≤ LAST_TICK }
+        requires after { self.old.last_tick ≤ now }
+        ensures ok { IfOk result (Writes name.now (contents_of self.old)
+            (after_remove (contents_of self.old) now name.now) (ids_of self.new) (contents_of self.new)) }
+        ensures judged { IsJudged (remove_fault (catalog_of (contents_of self.old)) (is_some (state_of (contents_of self.old) name.now now)) name.now) result }
+        ensures err { OnErr result (IsUnchanged self.old self.new) }
+    {
+        let Some(at) = place_of(&self.objects, name) else {
+            return Err(StoreFault::UnknownName);
+        };
+        if let Some(fault) = self.judge_remove(now, name, at) {
+            return Err(fault);
+        }
+        let done = self.write_remove(now, name, at)?;
+        Ok(done)
+    }
+
+    /// The first fault of a removal of the object at a place.
+    fn judge_remove(&self, now: u32, name: &Word, at: usize) -> Option<StoreFault>
+        requires kept { IsKept (ids_of self.now) (contents_of self.now) }
+        requires after { self.now.last_tick ≤ now }
+        requires name { position (is_named name.now) (contents_of self.now).objects ≡ Some at }
+        ensures { result ≡ remove_fault (catalog_of (contents_of self.now)) (is_some (state_of (contents_of self.now) name.now now)) name.now }
+    {
+        if self.objects[at].is_present(now) {
+            None
+        } else {
+            Some(StoreFault::Presence)
+        }
+    }
+
+    /// Removes the object at a place.
+    fn write_remove(&mut self, now: u32, name: &Word, at: usize) -> Result<Done, AllocError>
+        requires kept { IsKept (ids_of self.old) (contents_of self.old) }
+        requires tick { now ≤ LAST_TICK }
+        requires after { self.old.last_tick ≤ now }
+        requires name { position (is_named name.now) (contents_of self.old).objects ≡ Some at }
+        ensures ok { IfOk result (Writes name.now (contents_of self.old)
+            (after_remove (contents_of self.old) now name.now) (ids_of self.new) (contents_of self.new)) }
+        ensures err { OnErr result (IsUnchanged self.old self.new) }
+    {
+        let replaced = vanish_at(&mut self.objects, at, now)?;
+        let last_tick = self.last_tick;
+        self.last_tick = now;
+        Ok(known(at as u32, replaced, last_tick))
+    }
+
+    /// Takes a write to an object back.
+    pub fn revert(&mut self, undo: Undo)
+        requires kept { IsKept (ids_of self.old) (contents_of self.old) }
+        requires revertible { IsRevertible undo (contents_of self.old) }
+        ensures contents { contents_of self.new ≡ undone undo (contents_of self.old) }
+        ensures kept { IsKept (ids_of self.new) (contents_of self.new) }
+    {
+        if undo.is_new {
+            self.revert_new(undo);
+        } else {
+            self.revert_known(undo);
+        }
+    }
+
+    /// Takes a name that was new away.
+    fn revert_new(&mut self, undo: Undo)
+        requires kept { IsKept (ids_of self.old) (contents_of self.old) }
+        requires revertible { IsRevertible undo (contents_of self.old) }
+        requires new { undo.is_new ≡ true }
+        ensures contents { contents_of self.new ≡ undone undo (contents_of self.old) }
+        ensures kept { IsKept (ids_of self.new) (contents_of self.new) }
+    {
+        leave(&mut self.members, &mut self.objects);
+        self.last_tick = undo.last_tick;
+    }
+
+    /// Puts the timeline of an object back.
+    fn revert_known(&mut self, undo: Undo)
+        requires kept { IsKept (ids_of self.old) (contents_of self.old) }
+        requires revertible { IsRevertible undo (contents_of self.old) }
+        requires known { undo.is_new ≡ false }
+        ensures contents { contents_of self.new ≡ undone undo (contents_of self.old) }
+        ensures kept { IsKept (ids_of self.new) (contents_of self.new) }
+    {
+        let Undo {
+            id,
+            is_new: _,
+            replaced,
+            last_tick,
+        } = undo;
+        take_back_at(&mut self.objects, id as usize, replaced);
+        self.last_tick = last_tick;
+    }
+}
+
+/// What an insert finds of a new name for a class.
+fn new_name(members: &Members, class: &Class) -> Found
+    ensures { result ≡ record { elsewhere = false; present = false; past_capacity = nat_le class.now.capacity (length members.now) } }
+{
+    Found {
+        elsewhere: false,
+        present: false,
+        past_capacity: class.capacity() as usize <= members.ids().len(),
+    }
+}
+
+/// The first fault of a new class.
+fn class_fault(schema: &Schema, name: &Word, point: bool, attrs: &[AttrDef]) -> Option<StoreFault>
+    ensures { result ≡ fault_of_class schema.now name.now point attrs.now }
+{
+    if schema.has(name) || repeats_attribute(point, attrs) {
+        Some(StoreFault::NameTaken)
+    } else if schema.count() as usize >= CLASS_LIMIT {
+        Some(StoreFault::StoreFull)
+    } else {
+        None
+    }
+}
