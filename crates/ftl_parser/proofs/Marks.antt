@@ -1,0 +1,224 @@
+-- The marks of a derivation are those that the tokens alone tell, and its names and texts are those among the tokens.
+use Rattle.std.proofs.Common.{◌≡◌, ℕ, ℤ, Bool, false, List, [], ◌∷◌, ◌++◌, Option, position, IsTrue, refl, sym, ap, ◌∙◌, append_assoc, append-nil}
+use Rattle.std.specs.List.{flat_map}
+use Rattle.std.proofs.lemmas.List.{map-append}
+use Rattle.std.proofs.lemmas.List.Concat.{flat_map-append}
+use Rattle.fixed_point.specs.declared.variants.UntilForm.TheVariants as untils
+use Rattle.ftl_parser.specs.declared.scan.Coming.{Coming}
+use Rattle.ftl_parser.specs.declared.scan.Coming.TheVariants as comings
+use Rattle.ftl_parser.specs.declared.tree.Atom as atom_type
+use Rattle.ftl_parser.specs.declared.tree.Unit as unit_type
+use Rattle.ftl_parser.specs.declared.tree.Signed.{Signed}
+use Rattle.ftl_parser.specs.declared.tree.FromPart.{FromPart}
+use Rattle.ftl_parser.specs.declared.state.Prefix.{Prefix}
+use Rattle.ftl_parser.specs.declared.state.Prefix.TheVariants as prefixes
+use Rattle.ftl_parser.specs.Tree.{Tree, QueryTree}
+use Rattle.ftl_parser.specs.Piece.{Piece, FROM, WHERE, AND, OR, UNTIL, CLOSE, CLOSE_SQUARE, COMMA, PLUS, MINUS, STAR, COMPARISON, NAME, NUMBER}
+use Rattle.ftl_parser.specs.Number.{Ticks, Times, Literal, Radius}
+use Rattle.ftl_parser.specs.Grammar.{SpellsRef, ref_name, ref_attr, ref_part, ref_time, SpellsFactor, factor_number, factor_times, factor_text, factor_ref, SpellsTerm, term_first, term_minus_first, term_plus, term_minus, SpellsNum, num_plain, num_minus, SpellsNames, names_one, names_more, SpellsParts, parts_one, parts_more, SpellsAtom, atom_compare, atom_inside, atom_outside, atom_dist, atom_sphere, Level, Spells, formula_conj, formula_or, conj_chain, conj_and, chain_unary, chain_until, chain_until_within, chain_until_after, unary_prefix, unary_bounded, unary_assign, unary_brackets, unary_truth, unary_atom, SpellsQuery, query, prefixed, term_of}
+use Rattle.ftl_parser.specs.Marks.{unfit, clear, factor_marks, term_marks, num_marks, atom_marks, marks, query_marks, first_unfit}
+use Rattle.ftl_parser.specs.Sizes.{unit_words, term_words, atom_words, words, query_words}
+use Rattle.ftl_parser.specs.Scan.{scan, place_before, piece_words, token_words}
+use Rattle.ftl_parser.proofs.Bodies.{cuts, never}
+
+-- names and references have no numbers
+pub scan-ref : {u : unit_type.Unit} {xs : List Piece} → SpellsRef u xs → (c : Coming) (rest : List Piece) → scan c (xs ++ rest) ≡ clear xs ++ scan comings.Factor rest
+scan-ref ref_name c rest = refl
+scan-ref ref_attr c rest = refl
+scan-ref ref_part c rest = refl
+scan-ref ref_time c rest = refl
+
+-- tokens without numbers at the end of others
+clear-more : (c : Coming) (xs ys rest : List Piece) → scan c (xs ++ (ys ++ rest)) ≡ clear xs ++ (clear ys ++ scan comings.Factor rest) →
+    scan c ((xs ++ ys) ++ rest) ≡ clear (xs ++ ys) ++ scan comings.Factor rest
+clear-more c xs ys rest h =
+    ap (scan c) (append_assoc xs ys rest) ∙ h
+    ∙ sym (ap (λ m. m ++ scan comings.Factor rest) (map-append (λ _. false) xs ys) ∙ append_assoc (clear xs) (clear ys) (scan comings.Factor rest))
+
+pub scan-names : {ns : List (List ℕ)} {xs : List Piece} → SpellsNames ns xs → (c : Coming) (rest : List Piece) → scan c (xs ++ rest) ≡ clear xs ++ scan comings.Factor rest
+scan-names names_one c rest = refl
+scan-names (names_more {xs = xs} n d) c rest = clear-more c xs (COMMA ∷ NAME n ∷ []) rest (scan-names d c (COMMA ∷ NAME n ∷ rest))
+
+pub scan-parts : {ps : List FromPart} {xs : List Piece} → SpellsParts ps xs → (c : Coming) (rest : List Piece) → scan c (xs ++ rest) ≡ clear xs ++ scan comings.Factor rest
+scan-parts parts_one c rest = refl
+scan-parts (parts_more {xs = xs} k v d) c rest = clear-more c xs (COMMA ∷ NAME k ∷ NAME v ∷ []) rest (scan-parts d c (COMMA ∷ NAME k ∷ NAME v ∷ rest))
+
+-- a number that no `*` follows is a literal
+literal-place : (rest : List Piece) → IsTrue (cuts rest) → place_before comings.Factor rest ≡ Literal
+literal-place [] h = refl
+literal-place (STAR ∷ rest) h = never h
+literal-place (p ∷ rest) h = refl
+
+scan-factor : {k : Option ℕ} {u : unit_type.Unit} {xs : List Piece} (d : SpellsFactor k u xs) (rest : List Piece) → IsTrue (cuts rest) →
+    scan comings.Factor (xs ++ rest) ≡ factor_marks d ++ scan comings.Factor rest
+scan-factor (factor_number {n = n}) rest h = ap (λ place. unfit place n ∷ scan comings.Factor rest) (literal-place rest h)
+scan-factor (factor_times {n = n} r) rest h = ap (λ m. unfit Times n ∷ false ∷ m) (scan-ref r comings.Factor rest)
+scan-factor factor_text rest h = refl
+scan-factor (factor_ref r) rest h = scan-ref r comings.Factor rest
+
+-- a token without a mark between two parts
+joined : (m n : List Bool) (xs ys rest : List Piece) (p : Piece) →
+    scan comings.Factor (xs ++ p ∷ (ys ++ rest)) ≡ m ++ scan comings.Factor (p ∷ (ys ++ rest)) →
+    scan comings.Factor (p ∷ (ys ++ rest)) ≡ false ∷ (n ++ scan comings.Factor rest) →
+    scan comings.Factor ((xs ++ p ∷ ys) ++ rest) ≡ (m ++ false ∷ n) ++ scan comings.Factor rest
+joined m n xs ys rest p h k =
+    ap (scan comings.Factor) (append_assoc xs (p ∷ ys) rest) ∙ h ∙ ap (λ t. m ++ t) k ∙ sym (append_assoc m (false ∷ n) (scan comings.Factor rest))
+
+pub scan-term : {fs : List Signed} {xs : List Piece} (d : SpellsTerm fs xs) (rest : List Piece) → IsTrue (cuts rest) →
+    scan comings.Factor (xs ++ rest) ≡ term_marks d ++ scan comings.Factor rest
+scan-term (term_first d) rest h = scan-factor d rest h
+scan-term (term_minus_first d) rest h = ap (λ m. false ∷ m) (scan-factor d rest h)
+scan-term (term_plus {xs = xs} {ys = ys} d e) rest h =
+    joined (term_marks d) (factor_marks e) xs ys rest PLUS (scan-term d (PLUS ∷ (ys ++ rest)) refl) (ap (λ m. false ∷ m) (scan-factor e rest h))
+scan-term (term_minus {xs = xs} {ys = ys} d e) rest h =
+    joined (term_marks d) (factor_marks e) xs ys rest MINUS (scan-term d (MINUS ∷ (ys ++ rest)) refl) (ap (λ m. false ∷ m) (scan-factor e rest h))
+
+pub scan-num : {n : ℤ} {xs : List Piece} (d : SpellsNum n xs) (rest : List Piece) → IsTrue (cuts rest) →
+    scan comings.Factor (xs ++ rest) ≡ num_marks d ++ scan comings.Factor rest
+scan-num (num_plain {n = n}) rest h = ap (λ place. unfit place n ∷ scan comings.Factor rest) (literal-place rest h)
+scan-num (num_minus {n = n}) rest h = ap (λ place. false ∷ unfit place n ∷ scan comings.Factor rest) (literal-place rest h)
+
+pub scan-atom : {a : atom_type.Atom} {xs : List Piece} (d : SpellsAtom a xs) (rest : List Piece) → IsTrue (cuts rest) →
+    scan comings.Factor (xs ++ rest) ≡ atom_marks d ++ scan comings.Factor rest
+scan-atom (atom_compare {op = op} {xs = xs} {ys = ys} d e) rest h =
+    joined (term_marks d) (term_marks e) xs ys rest (COMPARISON op) (scan-term d (COMPARISON op ∷ (ys ++ rest)) refl) (ap (λ m. false ∷ m) (scan-term e rest h))
+scan-atom atom_inside rest h = refl
+scan-atom atom_outside rest h = refl
+scan-atom (atom_dist d) rest h = ap (λ m. false ∷ false ∷ false ∷ false ∷ false ∷ false ∷ false ∷ m) (scan-num d rest h)
+scan-atom (atom_sphere {r = r} {xs = xs} d) rest h =
+    ap (λ m. false ∷ false ∷ unfit Radius r ∷ false ∷ m)
+    (joined (clear xs) [] xs [] rest CLOSE (scan-names d comings.Factor (CLOSE ∷ rest)) refl)
+
+pub scan-formula : {l : Level} {f : Tree} {xs : List Piece} (d : Spells l f xs) (rest : List Piece) → IsTrue (cuts rest) →
+    scan comings.Factor (xs ++ rest) ≡ marks d ++ scan comings.Factor rest
+scan-formula (formula_conj d) rest h = scan-formula d rest h
+scan-formula (formula_or {xs = xs} {ys = ys} d e) rest h =
+    joined (marks d) (marks e) xs ys rest OR (scan-formula d (OR ∷ (ys ++ rest)) refl) (ap (λ m. false ∷ m) (scan-formula e rest h))
+scan-formula (conj_chain d) rest h = scan-formula d rest h
+scan-formula (conj_and {xs = xs} {ys = ys} d e) rest h =
+    joined (marks d) (marks e) xs ys rest AND (scan-formula d (AND ∷ (ys ++ rest)) refl) (ap (λ m. false ∷ m) (scan-formula e rest h))
+scan-formula (chain_unary d) rest h = scan-formula d rest h
+scan-formula (chain_until {xs = xs} {ys = ys} d e) rest h =
+    joined (marks d) (marks e) xs ys rest (UNTIL untils.Plain) (scan-formula d (UNTIL untils.Plain ∷ (ys ++ rest)) refl) (ap (λ m. false ∷ m) (scan-formula e rest h))
+scan-formula (chain_until_within {xs = xs} {ys = ys} c d e) rest h =
+    joined (marks d) (unfit Ticks c ∷ marks e) xs (NUMBER c ∷ ys) rest (UNTIL untils.Within) (scan-formula d (UNTIL untils.Within ∷ NUMBER c ∷ (ys ++ rest)) refl)
+    (ap (λ m. false ∷ unfit Ticks c ∷ m) (scan-formula e rest h))
+scan-formula (chain_until_after {xs = xs} {ys = ys} c d e) rest h =
+    joined (marks d) (unfit Ticks c ∷ marks e) xs (NUMBER c ∷ ys) rest (UNTIL untils.After) (scan-formula d (UNTIL untils.After ∷ NUMBER c ∷ (ys ++ rest)) refl)
+    (ap (λ m. false ∷ unfit Ticks c ∷ m) (scan-formula e rest h))
+scan-formula (unary_prefix d) rest h = ap (λ m. false ∷ m) (scan-formula d rest h)
+scan-formula (unary_bounded {c = c} d) rest h = ap (λ m. false ∷ unfit Ticks c ∷ m) (scan-formula d rest h)
+scan-formula (unary_assign {xs = xs} {ys = ys} t d) rest h =
+    ap (λ m. false ∷ false ∷ false ∷ m)
+    (joined (term_marks t) (marks d) xs ys rest CLOSE_SQUARE (scan-term t (CLOSE_SQUARE ∷ (ys ++ rest)) refl) (ap (λ m. false ∷ m) (scan-formula d rest h)))
+scan-formula (unary_brackets {xs = xs} d) rest h =
+    ap (λ m. false ∷ m) (joined (marks d) [] xs [] rest CLOSE (scan-formula d (CLOSE ∷ rest) refl) refl)
+scan-formula unary_truth rest h = refl
+scan-formula (unary_atom d) rest h = scan-atom d rest h
+
+-- a formula to the end of the tokens
+scan-all : {l : Level} {f : Tree} (xs : List Piece) (d : Spells l f xs) → scan comings.Factor xs ≡ marks d
+scan-all xs d = ap (scan comings.Factor) (sym (append-nil xs)) ∙ scan-formula d [] refl ∙ append-nil (marks d)
+
+-- the marks of a query are those of its tokens
+pub scan-query : {q : QueryTree} {xs : List Piece} (d : SpellsQuery q xs) → scan comings.Factor xs ≡ query_marks d
+scan-query (query {xs = xs} {ys = ys} {zs = zs} names froms d) =
+    ap (λ m. false ∷ m)
+    (scan-names names comings.Factor (FROM ∷ (ys ++ WHERE ∷ zs))
+    ∙ ap (λ m. clear xs ++ false ∷ m) (scan-parts froms comings.Factor (WHERE ∷ zs) ∙ ap (λ m. clear ys ++ false ∷ m) (scan-all zs d)))
+
+-- the first number that doesn't fit is told by the tokens
+pub first_unfit-scan : {q : QueryTree} {xs : List Piece} (d : SpellsQuery q xs) → first_unfit d ≡ position (λ mark. mark) (scan comings.Factor xs)
+first_unfit-scan d = ap (position (λ mark. mark)) (sym (scan-query d))
+
+-- the words of two parts with a token between them that is none
+words-joined : (v w : List (List ℕ)) (xs ys : List Piece) → v ≡ token_words xs → w ≡ token_words ys → v ++ w ≡ token_words (xs ++ ys)
+words-joined v w xs ys h k = ap (λ t. t ++ w) h ∙ ap (λ t. token_words xs ++ t) k ∙ sym (flat_map-append piece_words xs ys)
+
+words-ref : {u : unit_type.Unit} {xs : List Piece} → SpellsRef u xs → unit_words u ≡ token_words xs
+words-ref ref_name = refl
+words-ref ref_attr = refl
+words-ref ref_part = refl
+words-ref ref_time = refl
+
+words-factor : {k : Option ℕ} {u : unit_type.Unit} {xs : List Piece} → SpellsFactor k u xs → unit_words u ≡ token_words xs
+words-factor factor_number = refl
+words-factor (factor_times r) = words-ref r
+words-factor factor_text = refl
+words-factor (factor_ref r) = words-ref r
+
+pub words-term : {fs : List Signed} {xs : List Piece} → SpellsTerm fs xs → term_words (term_of fs) ≡ token_words xs
+words-term (term_first {u = u} d) = append-nil (unit_words u) ∙ words-factor d
+words-term (term_minus_first {u = u} d) = append-nil (unit_words u) ∙ words-factor d
+words-term (term_plus {fs = fs} {xs = xs} {u = u} {ys = ys} d e) =
+    flat_map-append (λ f. unit_words f.unit) fs _
+    ∙ words-joined (term_words (term_of fs)) (unit_words u ++ []) xs (PLUS ∷ ys) (words-term d) (append-nil (unit_words u) ∙ words-factor e)
+words-term (term_minus {fs = fs} {xs = xs} {u = u} {ys = ys} d e) =
+    flat_map-append (λ f. unit_words f.unit) fs _
+    ∙ words-joined (term_words (term_of fs)) (unit_words u ++ []) xs (MINUS ∷ ys) (words-term d) (append-nil (unit_words u) ∙ words-factor e)
+
+words-num : {c : ℤ} {xs : List Piece} → SpellsNum c xs → [] ≡ token_words xs
+words-num num_plain = refl
+words-num num_minus = refl
+
+words-names : {ns : List (List ℕ)} {xs : List Piece} → SpellsNames ns xs → ns ≡ token_words xs
+words-names names_one = refl
+words-names (names_more {ns = ns} {xs = xs} n d) = words-joined ns (n ∷ []) xs (COMMA ∷ NAME n ∷ []) (words-names d) refl
+
+words-parts : {ps : List FromPart} {xs : List Piece} → SpellsParts ps xs → flat_map (λ p. p.class ∷ p.var ∷ []) ps ≡ token_words xs
+words-parts parts_one = refl
+words-parts (parts_more {ps = ps} {xs = xs} c v d) =
+    flat_map-append (λ p. p.class ∷ p.var ∷ []) ps _
+    ∙ words-joined (flat_map (λ (p : FromPart). p.class ∷ p.var ∷ []) ps) (c ∷ v ∷ []) xs (COMMA ∷ NAME c ∷ NAME v ∷ []) (words-parts d) refl
+
+-- the words of tokens before one that has none
+words-ended : (v : List (List ℕ)) (xs : List Piece) (p : Piece) → piece_words p ≡ [] → v ≡ token_words xs → v ≡ token_words (xs ++ p ∷ [])
+words-ended v xs p none h = sym (append-nil v) ∙ words-joined v [] xs (p ∷ []) h (sym (append-nil (piece_words p) ∙ none))
+
+words-atom : {a : atom_type.Atom} {xs : List Piece} → SpellsAtom a xs → atom_words a ≡ token_words xs
+words-atom (atom_compare {fs = fs} {gs = gs} {op = op} {xs = xs} {ys = ys} d e) =
+    words-joined (term_words (term_of fs)) (term_words (term_of gs)) xs (COMPARISON op ∷ ys) (words-term d) (words-term e)
+words-atom atom_inside = refl
+words-atom atom_outside = refl
+words-atom (atom_dist {o = o} {n = n} d) = ap (λ t. o ∷ n ∷ t) (words-num d)
+words-atom (atom_sphere {ns = ns} {xs = xs} d) = words-ended ns xs CLOSE refl (words-names d)
+
+pub words-formula : {l : Level} {f : Tree} {xs : List Piece} → Spells l f xs → words f ≡ token_words xs
+words-formula (formula_conj d) = words-formula d
+words-formula (formula_or {f = f} {g = g} {xs = xs} {ys = ys} d e) = words-joined (words f) (words g) xs (OR ∷ ys) (words-formula d) (words-formula e)
+words-formula (conj_chain d) = words-formula d
+words-formula (conj_and {f = f} {g = g} {xs = xs} {ys = ys} d e) = words-joined (words f) (words g) xs (AND ∷ ys) (words-formula d) (words-formula e)
+words-formula (chain_unary d) = words-formula d
+words-formula (chain_until {f = f} {g = g} {xs = xs} {ys = ys} d e) =
+    words-joined (words f) (words g) xs (UNTIL untils.Plain ∷ ys) (words-formula d) (words-formula e)
+words-formula (chain_until_within {f = f} {g = g} {xs = xs} {ys = ys} c d e) =
+    words-joined (words f) (words g) xs (UNTIL untils.Within ∷ NUMBER c ∷ ys) (words-formula d) (words-formula e)
+words-formula (chain_until_after {f = f} {g = g} {xs = xs} {ys = ys} c d e) =
+    words-joined (words f) (words g) xs (UNTIL untils.After ∷ NUMBER c ∷ ys) (words-formula d) (words-formula e)
+words-formula (unary_prefix {w = w} {f = f} d) = words-prefixed w f ∙ words-formula d
+  where
+    words-prefixed : (w : Prefix) (f : Tree) → words (prefixed w f) ≡ words f
+    words-prefixed prefixes.Not f = refl
+    words-prefixed prefixes.Next f = refl
+    words-prefixed prefixes.Eventually f = refl
+    words-prefixed prefixes.Always f = refl
+words-formula (unary_bounded d) = words-formula d
+words-formula (unary_assign {v = v} {fs = fs} {f = f} {xs = xs} {ys = ys} t d) =
+    ap (λ w. v ∷ w) (words-joined (term_words (term_of fs)) (words f) xs (CLOSE_SQUARE ∷ ys) (words-term t) (words-formula d))
+words-formula (unary_brackets {f = f} {xs = xs} d) = words-ended (words f) xs CLOSE refl (words-formula d)
+words-formula unary_truth = refl
+words-formula (unary_atom d) = words-atom d
+
+-- the names and texts of a query are those among its tokens
+pub words-query : {q : QueryTree} {xs : List Piece} → SpellsQuery q xs → query_words q ≡ token_words xs
+words-query (query {ns = ns} {ps = ps} {f = f} {xs = xs} {ys = ys} {zs = zs} names froms d) =
+    words-joined ns (flat_map (λ (p : FromPart). p.class ∷ p.var ∷ []) ps ++ words f) xs (FROM ∷ (ys ++ WHERE ∷ zs)) (words-names names)
+    (words-joined (flat_map (λ (p : FromPart). p.class ∷ p.var ∷ []) ps) (words f) ys (WHERE ∷ zs) (words-parts froms) (words-formula d))
+
+-- which number is the first that doesn't fit depends on the tokens alone
+pub one_first_unfit : (xs : List Piece) (q r : QueryTree) (d : SpellsQuery q xs) (e : SpellsQuery r xs) → first_unfit d ≡ first_unfit e
+one_first_unfit xs q r d e = first_unfit-scan d ∙ sym (first_unfit-scan e)
+
+-- the same, with the query and the tokens told
+pub first_unfit_scan : (q : QueryTree) (xs : List Piece) (d : SpellsQuery q xs) → first_unfit d ≡ position (λ mark. mark) (scan comings.Factor xs)
+first_unfit_scan q xs d = first_unfit-scan d

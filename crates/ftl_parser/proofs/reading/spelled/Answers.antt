@@ -1,0 +1,9 @@
+use Rattle.std.proofs.Common.{true, sym, ◌∙◌, ap}
+use Rattle.ftl_parser.specs.Views.{state_of}
+use Rattle.ftl_parser.proofs.RunLemmas.{goes-on}
+use Rattle.ftl_parser.proofs.reading.spelled.Goals as goal
+
+pub loop-at-preserved : goal.loop-at-preserved
+loop-at-preserved c =
+    goes-on _ _ _ _ c.loop-at.invariant _ _ c.piece_at.ensures
+    (sym c.in_ok-step.ensures ∙ ap (λ taken. state_of taken c.step.new.kept c.step.new.state) {y = true} (cc c.if-not-branch.false))

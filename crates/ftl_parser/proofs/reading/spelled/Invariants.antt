@@ -1,0 +1,6 @@
+use Rattle.ftl_parser.specs.Views.{kept_view}
+use Rattle.ftl_parser.proofs.RunLemmas.{GoesOn}
+use Rattle.ftl_parser.proofs.reading.spelled.Given as goal
+
+abbrev pub invariant-loop-at : goal.invariant-loop-at
+invariant-loop-at l = GoesOn l.tokens l.from l.at (kept_view l.kept l.state)

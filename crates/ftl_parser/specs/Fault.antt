@@ -1,0 +1,40 @@
+-- What `parse` answers.
+use Rattle.std.specs.Prelude.{◌≡◌, ℕ, ◌+◌, ◌<◌, ◌≤◌, List, ◌++◌, length, take, None, Some}
+use Rattle.ftl_parser.specs.declared.fault.ParseFault.{ParseFault}
+use Rattle.ftl_parser.specs.declared.fault.ParseFault.TheVariants as faults
+use Rattle.ftl_parser.specs.Tree.{QueryTree}
+use Rattle.ftl_parser.specs.Piece.{Piece}
+use Rattle.ftl_parser.specs.Grammar.{SpellsQuery}
+use Rattle.ftl_parser.specs.Marks.{first_unfit}
+use Rattle.ftl_parser.specs.Sizes.{first_too_large}
+
+-- some query begins with these tokens
+abbrev pub Begins : List Piece → Type 0
+Begins tokens = (rest : List Piece) × (q : QueryTree) × SpellsQuery q (tokens ++ rest)
+
+-- the tokens are no query: some query begins with this many of them, and none with more
+pub record IsStuckAt (tokens : List Piece) (place : ℕ) : Type 0 where
+  pub none : (q : QueryTree) → SpellsQuery q tokens → ⊥
+  pub within : place ≤ length tokens
+  pub begins : Begins (take place tokens)
+  pub longest : (n : ℕ) → place < n → n ≤ length tokens → Begins (take n tokens) → ⊥
+
+-- the tokens spell the query, each number fits its place, and no size passes its limit
+pub record Reads (tokens : List Piece) (q : QueryTree) : Type 0 where
+  pub spelled : SpellsQuery q tokens
+  pub fit : first_unfit spelled ≡ None
+  pub small : first_too_large q ≡ None
+
+-- the tokens spell a query, and this is its first number that doesn't fit its place
+pub record HasUnfit (tokens : List Piece) (place : ℕ) : Type 0 where
+  pub q : QueryTree
+  pub spelled : SpellsQuery q tokens
+  pub unfit : first_unfit spelled ≡ Some place
+
+-- why the tokens from a place of the line on are not read
+abbrev pub Explains : ℕ → List Piece → ParseFault → Type 0
+Explains from tokens (faults.BadSyntax place) = (n : ℕ) × (place ≡ from + n) × IsStuckAt tokens n
+Explains from tokens (faults.NumberRange place) = (n : ℕ) × (place ≡ from + n) × HasUnfit tokens n
+Explains from tokens (faults.TooLarge size) =
+    (q : QueryTree) × (d : SpellsQuery q tokens) × (first_unfit d ≡ None) × (first_too_large q ≡ Some size)
+Explains from tokens faults.NoMemory = Unit {0}

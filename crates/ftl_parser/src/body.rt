@@ -1,0 +1,385 @@
+//! A formula, token by token.
+
+ghost use Rattle.std.specs.Prelude.{◌≡◌, List, [], ◌∷◌, ◌++◌, IfOk, option_map};
+ghost use Rattle.ftl_parser.specs.Cut.{cut_piece};
+ghost use Rattle.ftl_parser.specs.Grammar.{term_of};
+ghost use Rattle.ftl_parser.specs.Machine as machine;
+ghost use Rattle.ftl_parser.specs.Machine.{behind, closed, term_ended, wanted, body_step, body_end, reduced, alone, compared, whole};
+ghost use Rattle.ftl_parser.specs.Piece.{UNTIL};
+ghost use Rattle.ftl_parser.specs.Tree as trees;
+ghost use Rattle.ftl_parser.specs.Tree.{view as tree_of};
+ghost use Rattle.ftl_parser.specs.declared.tree.Atom.TheVariants as atoms;
+ghost use Rattle.ftl_parser.specs.Views.{body_of, behind_whole, in_term, taken_of, with_formula, phase_view, piece_view, stack_of};
+
+use crate::factor::{add_whole, lengthen};
+use crate::frame::{Frame, pop, reduced};
+use crate::lists::Factors;
+use crate::measured::Measured;
+use crate::number::{ticks, word};
+use crate::phase::{Phase, spatial_step};
+use crate::piece::Piece;
+use crate::state::{Factor, Pair, Spatial, TermPlace};
+use crate::{Atom, Term};
+use case_table::Op;
+use fixed_point::{BoundForm, UntilForm, Word};
+use std::alloc::{AllocError, Global};
+use std::mem;
+
+// A closing bracket behind a formula.
+fn closed(
+    alloc: Global,
+    stack: &mut Vec<Frame>,
+    phase: &mut Phase,
+    formula: Measured,
+) -> Result<bool, AllocError>
+    ensures { IfOk result (λ taken. body_of taken stack.new.items phase.new ≡ closed (reduced 1 (tree_of formula) (stack_of stack.old.items))) }
+{
+    let formula = reduced(alloc, 1, formula, stack)?;
+    if pop(stack) {
+        *phase = Phase::Have(formula);
+        Ok(true)
+    } else {
+        Ok(false)
+    }
+}
+
+// An until behind a formula.
+fn until(
+    alloc: Global,
+    stack: &mut Vec<Frame>,
+    phase: &mut Phase,
+    form: UntilForm,
+    formula: Measured,
+) -> Result<bool, AllocError>
+    ensures { IfOk result (λ taken. body_of taken stack.new.items phase.new ≡ behind (tree_of formula) (stack_of stack.old.items) (UNTIL form)) }
+{
+    let left = reduced(alloc, 4, formula, stack)?;
+    match form {
+        UntilForm::Plain => {
+            stack.push(Frame::UntilWith(form, 0, left))?;
+            *phase = Phase::Want;
+        }
+        _ => *phase = Phase::Reach(form, left),
+    }
+    Ok(true)
+}
+
+// A token behind a formula.
+fn behind(
+    alloc: Global,
+    stack: &mut Vec<Frame>,
+    phase: &mut Phase,
+    formula: Measured,
+    piece: Piece<'_>,
+) -> Result<bool, AllocError>
+    ensures { IfOk result (λ taken. body_of taken stack.new.items phase.new ≡ behind (tree_of formula) (stack_of stack.old.items) (cut_piece (piece_view piece.entry))) }
+{
+    match piece {
+        Piece::Or => {
+            let left = reduced(alloc, 1, formula, stack)?;
+            stack.push(Frame::OrWith(left))?;
+            *phase = Phase::Want;
+            Ok(true)
+        }
+        Piece::And => {
+            let left = reduced(alloc, 2, formula, stack)?;
+            stack.push(Frame::AndWith(left))?;
+            *phase = Phase::Want;
+            Ok(true)
+        }
+        Piece::Until(form) => until(alloc, stack, phase, form, formula),
+        Piece::Close => closed(alloc, stack, phase, formula),
+        _ => Ok(false),
+    }
+}
+
+fn comparison(left: Term, op: Op, right: Factors) -> Measured
+    ensures { tree_of result ≡ trees.Tree.Atom (atoms.Compare left op (term_of right)) }
+{
+    Measured::atom(Atom::Compare(left, op, Term { factors: right }))
+}
+
+// A token behind a whole term.
+fn term_ended(
+    alloc: Global,
+    stack: &mut Vec<Frame>,
+    phase: &mut Phase,
+    place: TermPlace,
+    factors: Factors,
+    piece: Piece<'_>,
+) -> Result<bool, AllocError>
+    ensures { IfOk result (λ taken. body_of taken stack.new.items phase.new ≡ term_ended (stack_of stack.old.items) place factors (cut_piece (piece_view piece.entry))) }
+{
+    match place {
+        TermPlace::Left => match piece {
+            Piece::Comparison(op) => {
+                let place = TermPlace::Right(Term { factors }, op);
+                *phase = Phase::InTerm(place, Factors::new(alloc), Factor::First);
+                Ok(true)
+            }
+            _ => Ok(false),
+        },
+        TermPlace::Right(left, op) => {
+            behind(alloc, stack, phase, comparison(left, op, factors), piece)
+        }
+        TermPlace::Assigned(name) => match piece {
+            Piece::CloseSquare => {
+                stack.push(Frame::Assigning(name, Term { factors }))?;
+                *phase = Phase::Want;
+                Ok(true)
+            }
+            _ => Ok(false),
+        },
+    }
+}
+
+// A token behind a whole factor, which stands at the end of the others.
+#[inline(never)]
+fn factor_ended(
+    alloc: Global,
+    stack: &mut Vec<Frame>,
+    phase: &mut Phase,
+    piece: Piece<'_>,
+) -> Result<bool, AllocError>
+    ensures { IfOk result (λ taken. body_of taken stack.new.items phase.new ≡ behind_whole (stack_of stack.old.items) (phase_view phase.old) (cut_piece (piece_view piece.entry))) }
+{
+    let Phase::InTerm(_, _, last) = phase else {
+        return Ok(false);
+    };
+    match piece {
+        Piece::Plus => {
+            *last = Factor::Wanted(false);
+            Ok(true)
+        }
+        Piece::Minus => {
+            *last = Factor::Wanted(true);
+            Ok(true)
+        }
+        _ => match mem::replace(phase, Phase::Want) {
+            Phase::InTerm(place, factors, _) => {
+                term_ended(alloc, stack, phase, place, factors, piece)
+            }
+            _ => Ok(false),
+        },
+    }
+}
+
+// A token in a term: it makes the last factor longer, or else comes behind it.
+#[inline(never)]
+fn term_step(
+    alloc: Global,
+    stack: &mut Vec<Frame>,
+    phase: &mut Phase,
+    piece: Piece<'_>,
+) -> Result<bool, AllocError>
+    ensures { IfOk result (λ taken. body_of taken stack.new.items phase.new ≡ in_term (stack_of stack.old.items) (phase_view phase.old) (cut_piece (piece_view piece.entry))) }
+{
+    let Phase::InTerm(_, factors, last) = phase else {
+        return Ok(false);
+    };
+    if lengthen(last, piece) {
+        return Ok(true);
+    }
+    if add_whole(factors, last)? {
+        factor_ended(alloc, stack, phase, piece)
+    } else {
+        Ok(false)
+    }
+}
+
+// The beginning of a formula.
+#[inline(never)]
+fn wanted(
+    alloc: Global,
+    stack: &mut Vec<Frame>,
+    phase: &mut Phase,
+    piece: Piece<'_>,
+) -> Result<bool, AllocError>
+    ensures { IfOk result (λ taken. body_of taken stack.new.items phase.new ≡ wanted (stack_of stack.old.items) (cut_piece (piece_view piece.entry))) }
+{
+    *phase = match piece {
+        Piece::Truth(value) => Phase::Have(Measured::truth(value)),
+        Piece::Prefix(word) => {
+            stack.push(Frame::PrefixedBy(word))?;
+            Phase::Want
+        }
+        Piece::Bounded(form) => Phase::Ticks(form),
+        Piece::OpenSquare => Phase::Variable,
+        Piece::Open => {
+            stack.push(Frame::Bracket)?;
+            Phase::Want
+        }
+        Piece::Inside => Phase::InSpatial(Spatial::PairOpen(Pair::Inside)),
+        Piece::Outside => Phase::InSpatial(Spatial::PairOpen(Pair::Outside)),
+        Piece::Dist => Phase::InSpatial(Spatial::PairOpen(Pair::Dist)),
+        Piece::Sphere => Phase::InSpatial(Spatial::SphereOpen),
+        _ => {
+            *phase = Phase::InTerm(TermPlace::Left, Factors::new(alloc), Factor::First);
+            return term_step(alloc, stack, phase, piece);
+        }
+    };
+    Ok(true)
+}
+
+// A number of ticks behind an until.
+fn reached(
+    stack: &mut Vec<Frame>,
+    phase: &mut Phase,
+    form: UntilForm,
+    left: Measured,
+    piece: Piece<'_>,
+) -> Result<bool, AllocError>
+    ensures { IfOk result (λ taken. body_of taken stack.new.items phase.new ≡ body_step (stack_of stack.old.items) (machine.Reach form (tree_of left)) (cut_piece (piece_view piece.entry))) }
+{
+    match piece {
+        Piece::Number(number) => {
+            stack.push(Frame::UntilWith(form, ticks(number), left))?;
+            *phase = Phase::Want;
+            Ok(true)
+        }
+        _ => Ok(false),
+    }
+}
+
+// A number of ticks behind the word of a bounded form.
+#[inline(never)]
+fn bounded(
+    stack: &mut Vec<Frame>,
+    phase: &mut Phase,
+    form: BoundForm,
+    piece: Piece<'_>,
+) -> Result<bool, AllocError>
+    ensures { IfOk result (λ taken. body_of taken stack.new.items phase.new ≡ body_step (stack_of stack.old.items) (machine.Ticks form) (cut_piece (piece_view piece.entry))) }
+{
+    match piece {
+        Piece::Number(number) => {
+            stack.push(Frame::BoundedBy(form, ticks(number)))?;
+            *phase = Phase::Want;
+            Ok(true)
+        }
+        _ => Ok(false),
+    }
+}
+
+// The name of an assignment.
+#[inline(never)]
+fn variable(phase: &mut Phase, piece: Piece<'_>) -> bool
+    ensures { (s : List machine.Frame) → taken_of result s (phase_view phase.new) ≡ body_step s machine.Variable (cut_piece (piece_view piece.entry)) }
+{
+    match piece {
+        Piece::Name(name) => *phase = Phase::Arrow(word(name)),
+        _ => return false,
+    }
+    true
+}
+
+// The arrow of an assignment.
+#[inline(never)]
+fn arrow(alloc: Global, phase: &mut Phase, name: Word, piece: Piece<'_>) -> bool
+    ensures { (s : List machine.Frame) → taken_of result s (phase_view phase.new) ≡ body_step s (machine.Arrow name) (cut_piece (piece_view piece.entry)) }
+{
+    match piece {
+        Piece::Arrow => {
+            let place = TermPlace::Assigned(name);
+            *phase = Phase::InTerm(place, Factors::new(alloc), Factor::First);
+            true
+        }
+        _ => false,
+    }
+}
+
+// A token behind a formula that is kept with what comes next.
+#[inline(never)]
+fn formula_step(
+    alloc: Global,
+    stack: &mut Vec<Frame>,
+    phase: &mut Phase,
+    piece: Piece<'_>,
+) -> Result<bool, AllocError>
+    ensures { IfOk result (λ taken. body_of taken stack.new.items phase.new ≡ with_formula (stack_of stack.old.items) (phase_view phase.old) (cut_piece (piece_view piece.entry))) }
+{
+    match mem::replace(phase, Phase::Want) {
+        Phase::Have(formula) => behind(alloc, stack, phase, formula, piece),
+        Phase::Reach(form, left) => reached(stack, phase, form, left, piece),
+        _ => Ok(false),
+    }
+}
+
+// A token behind WHERE. Says whether it is taken; what comes next stays where it stands, so that long
+// values aren't moved from token to token.
+pub(crate) fn body_step(
+    alloc: Global,
+    stack: &mut Vec<Frame>,
+    phase: &mut Phase,
+    piece: Piece<'_>,
+) -> Result<bool, AllocError>
+    ensures { IfOk result (λ taken. body_of taken stack.new.items phase.new ≡ body_step (stack_of stack.old.items) (phase_view phase.old) (cut_piece (piece_view piece.entry))) }
+{
+    match phase {
+        Phase::Want => wanted(alloc, stack, phase, piece),
+        Phase::Have(_) | Phase::Reach(..) => formula_step(alloc, stack, phase, piece),
+        Phase::Ticks(form) => {
+            let form = *form;
+            bounded(stack, phase, form, piece)
+        }
+        Phase::Variable => Ok(variable(phase, piece)),
+        Phase::Arrow(name) => {
+            let name = *name;
+            Ok(arrow(alloc, phase, name, piece))
+        }
+        Phase::InTerm(..) => term_step(alloc, stack, phase, piece),
+        Phase::InSpatial(_) => spatial_step(alloc, phase, piece),
+    }
+}
+
+// The formula, where the stack has nothing that waits for another one.
+fn alone(
+    alloc: Global,
+    formula: Measured,
+    stack: &mut Vec<Frame>,
+) -> Result<Option<Measured>, AllocError>
+    ensures { IfOk result (λ r. option_map tree_of r ≡ alone (reduced 1 (tree_of formula) (stack_of stack.old.items))) }
+{
+    let formula = reduced(alloc, 1, formula, stack)?;
+    if pop(stack) {
+        Ok(None)
+    } else {
+        Ok(Some(formula))
+    }
+}
+
+// The formula whose last atom is this comparison, where its last factor is whole.
+fn compared(
+    alloc: Global,
+    stack: &mut Vec<Frame>,
+    left: Term,
+    op: Op,
+    mut factors: Factors,
+    last: &Factor,
+) -> Result<Option<Measured>, AllocError>
+    ensures { IfOk result (λ r. option_map tree_of r ≡ compared (stack_of stack.old.items) left op factors (whole last.now)) }
+{
+    if add_whole(&mut factors, last)? {
+        alone(alloc, comparison(left, op, factors), stack)
+    } else {
+        Ok(None)
+    }
+}
+
+// The formula, where the tokens may end here.
+pub(crate) fn body_end(
+    alloc: Global,
+    stack: &mut Vec<Frame>,
+    phase: Phase,
+) -> Result<Option<Measured>, AllocError>
+    ensures { IfOk result (λ r. option_map tree_of r ≡ body_end (stack_of stack.old.items) (phase_view phase)) }
+{
+    match phase {
+        Phase::Have(formula) => alone(alloc, formula, stack),
+        Phase::InTerm(place, factors, last) => match place {
+            TermPlace::Right(left, op) => compared(alloc, stack, left, op, factors, &last),
+            _ => Ok(None),
+        },
+        _ => Ok(None),
+    }
+}

@@ -1,0 +1,44 @@
+//! What holds of the definitions, and small examples of them, as calls that do nothing.
+
+ghost use Rattle.std.specs.Prelude.{◌≡◌, List};
+ghost use Rattle.ftl_parser.specs.Example.{FindsUnfitNumbers, JudgesSizes, ParsesSmallQueries, StopsAtTheEnd};
+ghost use Rattle.ftl_parser.specs.Grammar.{SpellsQuery};
+ghost use Rattle.ftl_parser.specs.Marks.{first_unfit};
+ghost use Rattle.ftl_parser.specs.Piece.{Piece};
+ghost use Rattle.ftl_parser.specs.Tree.{QueryTree};
+
+/// Doubled brackets leave no trace; AND binds more than OR, an until more than AND, and a unary form
+/// most; AND and OR go to the left and untils to the right.
+#[tactic(auto, unfolding(fixed_point::specs::Decimal::thousandths_of, fixed_point::specs::Decimal::size_of, fixed_point::specs::Decimal::decimals_of))]
+pub fn small_queries_are_parsed()
+    ensures { ParsesSmallQueries }
+{}
+
+/// A query that stops too early begins as one to its end.
+pub fn an_unended_query_stops_at_its_end()
+    ensures { StopsAtTheEnd }
+{}
+
+/// The number of a DIST is at most 10^12 thousandths, with at most three decimals.
+#[tactic(auto, unfolding(fixed_point::specs::Decimal::thousandths_of, fixed_point::specs::Decimal::size_of, fixed_point::specs::Decimal::decimals_of))]
+pub fn numbers_out_of_range_are_found()
+    ensures { FindsUnfitNumbers }
+{}
+
+/// Each size is judged at its limit, and the first one that passes it is told.
+pub fn sizes_are_judged_in_order()
+    ensures { JudgesSizes }
+{}
+
+/// Tokens spell at most one query.
+#[tactic(auto, using(crate::proofs::Drives::one_query))]
+pub fn tokens_spell_at_most_one_query()
+    ensures { (tokens : List Piece) (q r : QueryTree) → SpellsQuery q tokens → SpellsQuery r tokens → q ≡ r }
+{}
+
+/// Which numbers of a query are unfit follows from the tokens alone: two derivations of the same tokens
+/// have the same first number that doesn't fit its place.
+#[tactic(auto, using(crate::proofs::Marks::one_first_unfit))]
+pub fn unfit_numbers_are_those_of_the_tokens()
+    ensures { (tokens : List Piece) (q r : QueryTree) (d : SpellsQuery q tokens) (e : SpellsQuery r tokens) → first_unfit d ≡ first_unfit e }
+{}

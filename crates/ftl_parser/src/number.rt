@@ -1,0 +1,143 @@
+//! Numbers by their places, and words.
+
+ghost use Rattle.std.specs.Prelude.{◌≡◌, ◌≤◌, ◌≤ℤ◌, pos, neg_ℤ, unsigned_abs, IfSome};
+ghost use Rattle.fixed_point.specs.declared.number.TheConstants.{READ_LIMIT};
+ghost use Rattle.fixed_point.specs.Decimal.{thousandths_of};
+ghost use Rattle.ftl_parser.specs.Cut.{cut_word};
+ghost use Rattle.ftl_parser.specs.Number.{whole_of, up_to, literal, radius, ticks, times, fits, Ticks, Times, Literal, Radius};
+
+use fixed_point::{Fix, Slope, WORD_LIMIT, Word};
+
+/// The largest radius, in thousandths.
+pub const RADIUS_LIMIT: u64 = 1_000_000;
+
+/// The most ticks of a bounded form.
+pub const TICKS_LIMIT: u32 = 1_000_000_000;
+
+/// The largest multiplier before `*`.
+pub const TIMES_LIMIT: u32 = 1_000_000;
+
+// The whole number that digits alone stand for, if it is at most `most`.
+#[tactic(auto, using(crate::proofs::DigitLemmas::whole_steps))]
+fn up_to(text: &[u8], most: u32) -> Option<u32>
+    ensures { result ≡ up_to most text.now }
+{
+    let mut value = 0u64;
+    let mut rest = text;
+    while let Some((byte, later)) = rest.split_first() {
+        if !byte.is_ascii_digit() {
+            return None;
+        }
+        value = value * 10 + u64::from(*byte - b'0');
+        if value > u64::from(most) {
+            return None;
+        }
+        rest = later;
+    }
+    Some(value as u32)
+}
+
+/// The whole number that digits alone stand for. None where it is not from `least` to `most`, or where
+/// there is another byte than a digit.
+pub fn whole(text: &[u8], least: u32, most: u32) -> Option<u32>
+    ensures { result ≡ whole_of least most text.now }
+{
+    let value = up_to(text, most)?;
+    if value >= least { Some(value) } else { None }
+}
+
+fn zero() -> Fix
+    ensures { result ≡ pos 0 }
+{
+    Fix::of(0).unwrap()
+}
+
+// A number of ticks; 0 where it is none in its range.
+pub(crate) fn ticks(text: &[u8]) -> u32
+    ensures { result ≡ ticks text.now }
+{
+    whole(text, 0, TICKS_LIMIT).unwrap_or(0)
+}
+
+// A multiplier; 0 where it is none in its range.
+pub(crate) fn times(text: &[u8]) -> u32
+    ensures { result ≡ times text.now }
+{
+    whole(text, 0, TIMES_LIMIT).unwrap_or(0)
+}
+
+// A literal; 0 where it is none in its range.
+pub(crate) fn literal(text: &[u8]) -> Fix
+    ensures value { result ≡ literal text.now }
+    ensures in_range { unsigned_abs result ≤ READ_LIMIT }
+{
+    match Fix::read(text) {
+        Some(number) => number,
+        None => zero(),
+    }
+}
+
+// A radius, if it is one in its range.
+pub(crate) fn read_radius(text: &[u8]) -> Option<Fix>
+    ensures { result ≡ thousandths_of RADIUS_LIMIT text.now }
+{
+    let radius = Slope::read(text)?;
+    Fix::of(radius.raw())
+}
+
+// A radius; 0 where it is none in its range.
+pub(crate) fn radius(text: &[u8]) -> Fix
+    ensures { result ≡ radius text.now }
+{
+    match read_radius(text) {
+        Some(number) => number,
+        None => zero(),
+    }
+}
+
+// The number below 0 of this size.
+pub(crate) fn negated(number: Fix) -> Fix
+    ensures { result ≡ neg_ℤ number }
+{
+    Fix::of(-number.raw()).unwrap()
+}
+
+// Whether a number is one of ticks in their range.
+pub(crate) fn ticks_fit(text: &[u8]) -> bool
+    ensures { result ≡ fits Ticks text.now }
+{
+    whole(text, 0, TICKS_LIMIT).is_some()
+}
+
+// Whether a number is a multiplier in its range.
+pub(crate) fn times_fit(text: &[u8]) -> bool
+    ensures { result ≡ fits Times text.now }
+{
+    whole(text, 0, TIMES_LIMIT).is_some()
+}
+
+// Whether a number is a literal in its range.
+pub(crate) fn literal_fits(text: &[u8]) -> bool
+    ensures { result ≡ fits Literal text.now }
+{
+    Fix::read(text).is_some()
+}
+
+// Whether a number is a radius in its range.
+pub(crate) fn radius_fits(text: &[u8]) -> bool
+    ensures { result ≡ fits Radius text.now }
+{
+    read_radius(text).is_some()
+}
+
+// A name or a text, cut to the bytes that a word has room for.
+#[tactic(auto, using(crate::proofs::CutLemmas::cut_steps))]
+pub(crate) fn word(bytes: &[u8]) -> Word
+    ensures { result ≡ cut_word bytes.now }
+{
+    if bytes.len() <= WORD_LIMIT {
+        return Word::of(bytes).unwrap();
+    }
+    let (front, _) = bytes.split_at(WORD_LIMIT);
+    Word::of(front).unwrap()
+}

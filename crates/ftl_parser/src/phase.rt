@@ -1,0 +1,155 @@
+//! What comes next in a formula.
+
+ghost use Rattle.std.specs.Prelude.{◌≡◌, List, Some, IfOk};
+ghost use Rattle.ftl_parser.specs.Cut.{cut_piece};
+ghost use Rattle.ftl_parser.specs.Machine as machine;
+ghost use Rattle.ftl_parser.specs.Machine.{body_step, spatial_step};
+ghost use Rattle.ftl_parser.specs.Piece.{CLOSE};
+ghost use Rattle.ftl_parser.specs.Tree as trees;
+ghost use Rattle.ftl_parser.specs.declared.state.Spatial.TheVariants as spatials;
+ghost use Rattle.ftl_parser.specs.Views.{phase_view, piece_view, taken_of, HasNames, IsPlain, IsSpatial};
+
+use crate::Atom;
+use crate::lists::{Factors, Names};
+use crate::measured::Measured;
+use crate::number::{literal, negated, radius, word};
+use crate::piece::Piece;
+use crate::state::{Factor, Pair, Spatial, TermPlace};
+use case_table::Op;
+use fixed_point::{BoundForm, Fix, UntilForm, Word};
+use std::alloc::{AllocError, Global};
+use std::mem;
+
+#[derive(Debug, Drop)]
+pub(crate) enum Phase {
+    /// A formula.
+    Want,
+    /// An operator, a closing bracket or the end, behind a formula.
+    Have(Measured),
+    /// The number of ticks of an until, whose left side is there.
+    Reach(UntilForm, Measured),
+    /// The number of ticks of a bounded form.
+    Ticks(BoundForm),
+    /// The name of an assignment.
+    Variable,
+    /// The arrow of an assignment.
+    Arrow(Word),
+    /// What is left of a term, by where it stands, the factors before the last one, and that.
+    InTerm(TermPlace, Factors, Factor),
+    /// What is left of an atom that begins with its word.
+    InSpatial(Spatial),
+}
+
+fn have(atom: Atom) -> Phase
+    ensures { phase_view result ≡ machine.Have (trees.Tree.Atom atom) }
+{
+    Phase::Have(Measured::atom(atom))
+}
+
+// What comes next behind the closing bracket after two names.
+fn pair_closed(pair: Pair, first: Word, second: Word) -> Phase
+    ensures { spatial_step (spatials.PairClose pair first second) CLOSE ≡ Some (phase_view result) }
+{
+    match pair {
+        Pair::Inside => have(Atom::Inside(first, second)),
+        Pair::Outside => have(Atom::Outside(first, second)),
+        Pair::Dist => Phase::InSpatial(Spatial::DistOp(first, second)),
+    }
+}
+
+// A token in an atom that begins with its word, where no names of a circle are read.
+#[inline(never)]
+fn plain_step(alloc: Global, phase: &mut Phase, piece: Piece<'_>) -> bool
+    requires { IsPlain (phase_view phase.old) }
+    ensures { (s : List machine.Frame) → taken_of result s (phase_view phase.new) ≡ body_step s (phase_view phase.old) (cut_piece (piece_view piece.entry)) }
+{
+    let Phase::InSpatial(at) = phase else {
+        return false;
+    };
+    match (&*at, piece) {
+        (Spatial::PairOpen(pair), Piece::Open) => *at = Spatial::PairFirst(*pair),
+        (Spatial::PairFirst(pair), Piece::Name(name)) => {
+            *at = Spatial::PairComma(*pair, word(name))
+        }
+        (Spatial::PairComma(pair, first), Piece::Comma) => {
+            *at = Spatial::PairSecond(*pair, *first)
+        }
+        (Spatial::PairSecond(pair, first), Piece::Name(name)) => {
+            *at = Spatial::PairClose(*pair, *first, word(name))
+        }
+        (Spatial::PairClose(pair, first, second), Piece::Close) => {
+            *phase = pair_closed(*pair, *first, *second)
+        }
+        (Spatial::DistOp(first, second), Piece::Comparison(op)) => {
+            *at = Spatial::DistNum(*first, *second, op)
+        }
+        (Spatial::DistNum(first, second, op), Piece::Number(number)) => {
+            *phase = have(Atom::Dist(*first, *second, *op, literal(number)))
+        }
+        (Spatial::DistNum(first, second, op), Piece::Minus) => {
+            *at = Spatial::DistMinus(*first, *second, *op)
+        }
+        (Spatial::DistMinus(first, second, op), Piece::Number(number)) => {
+            *phase = have(Atom::Dist(*first, *second, *op, negated(literal(number))))
+        }
+        (Spatial::SphereOpen, Piece::Open) => *at = Spatial::SphereRadius,
+        (Spatial::SphereRadius, Piece::Number(number)) => {
+            *at = Spatial::SphereComma(radius(number))
+        }
+        (Spatial::SphereComma(radius), Piece::Comma) => {
+            *at = Spatial::SphereName(*radius, Names::new(alloc))
+        }
+        _ => return false,
+    }
+    true
+}
+
+// A token where names of a circle are read.
+#[inline(never)]
+fn names_step(phase: &mut Phase, piece: Piece<'_>) -> Result<bool, AllocError>
+    requires { HasNames (phase_view phase.old) }
+    ensures { IfOk result (λ taken. (s : List machine.Frame) → taken_of taken s (phase_view phase.new) ≡ body_step s (phase_view phase.old) (cut_piece (piece_view piece.entry))) }
+{
+    let Phase::InSpatial(at) = phase else {
+        return Ok(false);
+    };
+    match mem::replace(at, Spatial::SphereOpen) {
+        Spatial::SphereName(radius, mut names) => match piece {
+            Piece::Name(name) => {
+                names.push(word(name))?;
+                *at = Spatial::SphereNames(radius, names);
+                Ok(true)
+            }
+            _ => Ok(false),
+        },
+        Spatial::SphereNames(radius, names) => match piece {
+            Piece::Comma => {
+                *at = Spatial::SphereName(radius, names);
+                Ok(true)
+            }
+            Piece::Close => {
+                *phase = have(Atom::Sphere(radius, names));
+                Ok(true)
+            }
+            _ => Ok(false),
+        },
+        _ => Ok(false),
+    }
+}
+
+// A token in an atom that begins with its word.
+pub(crate) fn spatial_step(
+    alloc: Global,
+    phase: &mut Phase,
+    piece: Piece<'_>,
+) -> Result<bool, AllocError>
+    requires { IsSpatial (phase_view phase.old) }
+    ensures { IfOk result (λ taken. (s : List machine.Frame) → taken_of taken s (phase_view phase.new) ≡ body_step s (phase_view phase.old) (cut_piece (piece_view piece.entry))) }
+{
+    match phase {
+        Phase::InSpatial(Spatial::SphereName(..) | Spatial::SphereNames(..)) => {
+            names_step(phase, piece)
+        }
+        _ => Ok(plain_step(alloc, phase, piece)),
+    }
+}

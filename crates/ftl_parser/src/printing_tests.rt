@@ -1,0 +1,108 @@
+use crate::{Query, parse, print, print_onto};
+use ftl_lexer::tokens;
+use std::alloc::Global;
+use std::process::Abort;
+use std::test::Fail;
+
+const HEAD: &[u8] = b"RETRIEVE o FROM c o WHERE ";
+
+fn read(rt: &impl Abort, alloc: Global, line: &[u8]) -> Result<Query, Fail> {
+    assert!(rt; line.len() <= 16_384);
+    let tokens = tokens(alloc, line)?;
+    let query = parse(alloc, &tokens, 0)?;
+    Ok(query)
+}
+
+fn behind_head(alloc: Global, formula: &[u8]) -> Result<Vec<u8>, Fail> {
+    let mut line = Vec::from_slice(alloc, HEAD)?;
+    line.extend_from_slice(formula)?;
+    Ok(line)
+}
+
+// Each is read, printed, and read and printed again.
+fn is_printed(rt: &impl Abort, alloc: Global, line: &[u8], text: &[u8]) -> Result<(), Fail> {
+    let printed = print(alloc, &read(rt, alloc, line)?)?;
+    assert!(rt; printed.as_slice() == text, "{line:?}");
+    let again = print(alloc, &read(rt, alloc, text)?)?;
+    assert!(rt; again.as_slice() == text, "{text:?}");
+    Ok(())
+}
+
+fn are_printed(rt: &impl Abort, alloc: Global, formulas: &[(&[u8], &[u8])]) -> Result<(), Fail> {
+    for (formula, text) in formulas {
+        let line = behind_head(alloc, formula)?;
+        let text = behind_head(alloc, text)?;
+        is_printed(rt, alloc, &line, &text)?;
+    }
+    Ok(())
+}
+
+#[test]
+fn formulas_are_printed(rt: HostRuntime) -> Result<(), Fail> {
+    let formulas: [(&[u8], &[u8]); 15] = [
+        (b"((TRUE))", b"TRUE"),
+        (b"FALSE", b"FALSE"),
+        (
+            b"TRUE AND FALSE AND TRUE OR FALSE",
+            b"(((TRUE AND FALSE) AND TRUE) OR FALSE)",
+        ),
+        (b"TRUE OR FALSE AND TRUE", b"(TRUE OR (FALSE AND TRUE))"),
+        (
+            b"TRUE UNTIL FALSE UNTIL_WITHIN 05 TRUE",
+            b"(TRUE UNTIL (FALSE UNTIL_WITHIN 5 TRUE))",
+        ),
+        (b"TRUE UNTIL_AFTER 5 FALSE", b"(TRUE UNTIL_AFTER 5 FALSE)"),
+        (b"NOT(TRUE)", b"NOT TRUE"),
+        (b"NOT(TRUE AND FALSE)", b"NOT (TRUE AND FALSE)"),
+        (b"NEXTTIME\tTRUE", b"NEXTTIME TRUE"),
+        (b"EVENTUALLY ALWAYS TRUE", b"EVENTUALLY ALWAYS TRUE"),
+        (b"EVENTUALLY_WITHIN 5 TRUE", b"EVENTUALLY_WITHIN 5 TRUE"),
+        (b"EVENTUALLY_AFTER 000 TRUE", b"EVENTUALLY_AFTER 0 TRUE"),
+        (b"ALWAYS_FOR 1000000000 TRUE", b"ALWAYS_FOR 1000000000 TRUE"),
+        (
+            b"[v<-o.x]EVENTUALLY_WITHIN 5 o.x>=v+10",
+            b"[v <- o.x] EVENTUALLY_WITHIN 5 o.x >= v + 10",
+        ),
+        (
+            b"[v <- 2*TIME] (v = 1 UNTIL TRUE)",
+            b"[v <- 2 * TIME] (v = 1 UNTIL TRUE)",
+        ),
+    ];
+    are_printed(&rt, rt.alloc(), &formulas)
+}
+
+#[test]
+fn atoms_are_printed(rt: HostRuntime) -> Result<(), Fail> {
+    let formulas: [(&[u8], &[u8]); 14] = [
+        (b"INSIDE ( o , P )", b"INSIDE(o,P)"),
+        (b"OUTSIDE(o,P)", b"OUTSIDE(o,P)"),
+        (b"DIST(o,n)<=3", b"DIST(o,n) <= 3"),
+        (b"DIST(o,n) < -1.10", b"DIST(o,n) < -1.1"),
+        (b"DIST(o,n) > -0", b"DIST(o,n) > 0"),
+        (b"WITHIN_SPHERE(3.400,a,b,c)", b"WITHIN_SPHERE(3.4,a,b,c)"),
+        (b"WITHIN_SPHERE(0.0,a)", b"WITHIN_SPHERE(0,a)"),
+        (
+            b"-0.50+2*o.x.function-o.x.value=- TIME",
+            b"-0.5 + 2 * o.x.function - o.x.value = -TIME",
+        ),
+        (b"o.x.updatetime!=007.250", b"o.x.updatetime != 7.25"),
+        (b"-0=0", b"-0 = 0"),
+        (b"0-0.0 > -0+0", b"0 - 0 > -0 + 0"),
+        (b"-0*o.x < -3", b"-0 * o.x < -3"),
+        (b"o.plate=\"A B\"", b"o.plate = \"A B\""),
+        (b"\"\" >= 1000000000.000", b"\"\" >= 1000000000"),
+    ];
+    are_printed(&rt, rt.alloc(), &formulas)
+}
+
+#[test]
+fn a_query_is_printed_behind_what_stands(rt: HostRuntime) -> Result<(), Fail> {
+    let line = b"RETRIEVE o , n FROM car o , car n WHERE o.x=n.x";
+    let text = b"RETRIEVE o,n FROM car o,car n WHERE o.x = n.x";
+    is_printed(&rt, rt.alloc(), line, text)?;
+    let mut out = Vec::from_slice(rt.alloc(), b"ask 30 ")?;
+    print_onto(&read(&rt, rt.alloc(), line)?, &mut out)?;
+    let expected = b"ask 30 RETRIEVE o,n FROM car o,car n WHERE o.x = n.x";
+    assert!(rt; out.as_slice() == expected.as_slice());
+    Ok(())
+}

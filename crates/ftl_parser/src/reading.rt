@@ -1,0 +1,78 @@
+//! From tokens to a query.
+
+ghost use Rattle.std.specs.Prelude.{◌≡◌, ℕ, IfOk, IfErr};
+ghost use Rattle.ftl_parser.specs.Cut.{cut_pieces};
+ghost use Rattle.ftl_parser.specs.Fault.{Explains, Reads};
+ghost use Rattle.ftl_parser.specs.Parses.{Parses};
+ghost use Rattle.ftl_parser.specs.Piece.{pieces_from};
+ghost use Rattle.ftl_parser.specs.Tree.{query_view};
+
+use crate::head::{Kept, Spelled, State, ended, step};
+use crate::judge::first_too_large;
+use crate::lists::{FromParts, Names};
+use crate::piece::piece_at;
+use crate::scan::{first_unfit, has_long};
+use crate::state::Head;
+use crate::{ParseFault, Query};
+use ftl_lexer::Tokens;
+use std::alloc::{AllocError, Global};
+
+impl From<AllocError> for ParseFault {
+    ghost use Rattle.ftl_parser.specs.declared.fault.ParseFault.TheVariants.{NoMemory};
+
+    ghost from_gives = { λ _ fault. fault ≡ NoMemory };
+
+    fn from(_: AllocError) -> ParseFault {
+        ParseFault::NoMemory
+    }
+}
+
+// The query that the tokens from a place on spell, up to its numbers and sizes.
+#[tactic(auto, using(crate::proofs::RunLemmas::run_steps))]
+fn spelled(alloc: Global, tokens: &Tokens, from: usize) -> Result<Spelled, ParseFault>
+    ensures { Parses from (cut_pieces (pieces_from from tokens.now)) result }
+{
+    let mut kept = Kept {
+        targets: Names::new(alloc),
+        from: FromParts::new(alloc),
+        stack: Vec::new(alloc),
+    };
+    let mut state = State::Heading(Head::Start);
+    for at in from..tokens.len() {
+        if !step(alloc, &mut kept, &mut state, piece_at(tokens, at))? {
+            return Err(ParseFault::BadSyntax(at));
+        }
+    }
+    match ended(alloc, kept, state)? {
+        Some(query) => Ok(query),
+        None => Err(ParseFault::BadSyntax(from.max(tokens.len()))),
+    }
+}
+
+/// The query that the tokens from `from` to the end spell. `BadSyntax` tells the place behind the longest
+/// run of tokens from `from` on with which some query begins; `NumberRange` the first number token out of
+/// the form or range of its place, where the tokens are a query; `TooLarge` the first size in the order of
+/// `Size` that passes its limit, where no number does. Takes time linear in the tokens.
+#[tactic(auto, using(crate::proofs::Judged::judgements))]
+pub fn parse(alloc: Global, tokens: &Tokens, from: usize) -> Result<Query, ParseFault>
+    ensures query { IfOk result (λ q. Reads (pieces_from from tokens.now) (query_view q)) }
+    ensures cause { IfErr result (Explains from (pieces_from from tokens.now)) }
+{
+    let query = spelled(alloc, tokens, from)?;
+    if let Some(place) = first_unfit(tokens, from) {
+        return Err(ParseFault::NumberRange(place));
+    }
+    if let Some(size) = first_too_large(&query, has_long(tokens, from)) {
+        return Err(ParseFault::TooLarge(size));
+    }
+    let Spelled {
+        targets,
+        from,
+        formula,
+    } = query;
+    Ok(Query {
+        targets,
+        from,
+        formula: formula.into_formula(),
+    })
+}
