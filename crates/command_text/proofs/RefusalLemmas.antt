@@ -1,0 +1,30 @@
+-- Each refusal has the name of its number.
+use Rattle.std.proofs.Common.{◌≡◌, Some, refl}
+use Rattle.case_table.specs.Rows.{word_of}
+use Rattle.case_table.specs.Language.{refusal_names}
+use Rattle.command_text.specs.declared.refusal.Refusal.{Refusal}
+use Rattle.command_text.specs.declared.refusal.Refusal.TheVariants as refusals
+use Rattle.command_text.specs.Refusals.{number_of, name_of}
+
+pub each_is_named : (r : Refusal) → word_of refusal_names (number_of r) ≡ Some (name_of r)
+unfolding refusal_names
+each_is_named refusals.LineTooLong = refl
+each_is_named refusals.NotAscii = refl
+each_is_named refusals.BadToken = refl
+each_is_named refusals.BadSyntax = refl
+each_is_named refusals.NumberRange = refl
+each_is_named refusals.TooLarge = refl
+each_is_named refusals.UnknownName = refl
+each_is_named refusals.NameTaken = refl
+each_is_named refusals.WrongKind = refl
+each_is_named refusals.NotConvex = refl
+each_is_named refusals.TermRange = refl
+each_is_named refusals.SpanRange = refl
+each_is_named refusals.ClockEnd = refl
+each_is_named refusals.Presence = refl
+each_is_named refusals.ClassFull = refl
+each_is_named refusals.StoreFull = refl
+each_is_named refusals.BindingLimit = refl
+each_is_named refusals.JournalFull = refl
+each_is_named refusals.NoFile = refl
+each_is_named refusals.BadFile = refl

@@ -1,0 +1,132 @@
+-- Texts that are cut into given tokens, and tokens at their fronts.
+use Rattle.std.proofs.Common.{◌≡◌, ℕ, ◌-◌, List, [], ◌∷◌, ◌++◌, take, length, length-append, append-nil, map, Option, Some, IsTrue, refl, sym, ap, ◌∙◌, arith}
+use Rattle.std.specs.Option.{option_map_or}
+use Rattle.std.proofs.lemmas.List.{take_at}
+use Rattle.case_table.specs.Rows.{code_of}
+use Rattle.case_table.specs.Language.{reserved_words, symbols}
+use Rattle.case_table.specs.declared.symbol.TheConstants.{OPEN_ROUND, CLOSE_ROUND, OPEN_SQUARE, CLOSE_SQUARE, COMMA, MINUS, EQUAL}
+use Rattle.ftl_lexer.specs.declared.kinds.Kind.{Kind}
+use Rattle.ftl_lexer.specs.declared.kinds.Kind.TheVariants as kinds
+use Rattle.ftl_lexer.specs.Forms.{name_len, word_kind}
+use Rattle.ftl_lexer.specs.Cut.{Lexeme, cut, put_before, HasForm, is_word, is_number, has_no_quote, stands_alone}
+use Rattle.ftl_lexer.proofs.Fronts.{cut_word, cut_number, cut_text, quoted_form, cut_symbol, cut_blank}
+use Rattle.ftl_parser.specs.Piece as query
+use Rattle.ftl_parser.specs.Shape.{IsName}
+use Rattle.ftl_parser.proofs.TextTokens.{Ends, nothing_ends}
+use Rattle.command_text.specs.Piece.{Piece, KEY, SIGN, NAME, NUMBER, TEXT, piece_of}
+use Rattle.command_text.specs.Line.{has_other_byte}
+use Rattle.command_text.specs.Shape.{IsAscii}
+use Rattle.command_text.specs.Text.{quoted}
+use Rattle.command_text.proofs.TextAscii.{joined_ascii, inner, form_ascii}
+
+-- the text is cut into these tokens, and has no byte that no line has
+pub record IsCut (bytes : List ℕ) (tokens : List Piece) : Type 0 where
+  pub lexed : List Lexeme
+  pub cut_is : cut 0 bytes ≡ Some lexed
+  pub pieces_are : map (λ t. piece_of t.0 t.1) lexed ≡ tokens
+  pub ascii : IsAscii bytes
+
+pub nothing_is_cut : IsCut [] []
+unfolding cut
+nothing_is_cut = record { lexed = []; cut_is = refl; pieces_are = refl; ascii = refl }
+
+-- the same text and tokens, grouped in another way
+pub regrouped : (x y : List ℕ) (ps qs : List Piece) → x ≡ y → ps ≡ qs → IsCut y qs → IsCut x ps
+regrouped x y ps qs text tokens is = record {
+  lexed = is.lexed;
+  cut_is = ap (cut 0) text ∙ is.cut_is;
+  pieces_are = is.pieces_are ∙ sym tokens;
+  ascii = ap has_other_byte text ∙ is.ascii;
+}
+
+-- a token before others
+put : (kind : Kind) (bytes rest : List ℕ) (ps : List Piece) → cut 0 (bytes ++ rest) ≡ put_before (kind, bytes) (cut 0 rest) → HasForm kind bytes → IsAscii (inner kind bytes) → IsCut rest ps → IsCut (bytes ++ rest) (piece_of kind bytes ∷ ps)
+put kind bytes rest ps front form text is = record {
+  lexed = (kind, bytes) ∷ is.lexed;
+  cut_is = front ∙ ap (put_before (kind, bytes)) is.cut_is;
+  pieces_are = ap (λ (qs : List Piece). piece_of kind bytes ∷ qs) is.pieces_are;
+  ascii = joined_ascii bytes rest (form_ascii kind bytes form text) is.ascii;
+}
+
+pub read_blank : (rest : List ℕ) (ps : List Piece) → IsCut rest ps → IsCut (32 ∷ rest) ps
+read_blank rest ps is = record { lexed = is.lexed; cut_is = cut_blank 32 rest refl ∙ is.cut_is; pieces_are = is.pieces_are; ascii = is.ascii }
+
+pub read_name : (name rest : List ℕ) (ps : List Piece) → IsName name → name_len rest ≡ 0 → IsCut rest ps → IsCut (name ++ rest) (NAME name ∷ ps)
+read_name name rest ps is_name ends is =
+    let kind : word_kind name ≡ kinds.Name = ap (λ (code : Option ℕ). option_map_or (λ c. kinds.Key c) code kinds.Name) is_name.1 in
+    put kinds.Name name rest ps (cut_word name rest is_name.0 ends ∙ ap (λ (k : Kind). put_before (k, name) (cut 0 rest)) kind) is_name refl is
+
+pub read_key : (code : ℕ) (word rest : List ℕ) (ps : List Piece) → IsTrue (is_word word) → code_of reserved_words word ≡ Some code → name_len rest ≡ 0 → IsCut rest ps → IsCut (word ++ rest) (KEY code ∷ ps)
+read_key code word rest ps is_key found ends is =
+    let kind : word_kind word ≡ kinds.Key code = ap (λ (c : Option ℕ). option_map_or (λ d. kinds.Key d) c kinds.Name) found in
+    put (kinds.Key code) word rest ps (cut_word word rest is_key ends ∙ ap (λ (k : Kind). put_before (k, word) (cut 0 rest)) kind) found refl is
+
+pub read_number : (number rest : List ℕ) (ps : List Piece) → IsTrue (is_number number) → Ends rest → IsCut rest ps → IsCut (number ++ rest) (NUMBER number ∷ ps)
+read_number number rest ps is_number ends is =
+    put kinds.Number number rest ps (cut_number number rest is_number ends.digits ends.fraction) is_number refl is
+
+inside : (text : List ℕ) → query.unquoted (quoted text) ≡ text
+inside text =
+    let size : length (quoted text) - 2 ≡ length text = omega (arith, length-append text (34 ∷ [])) in
+    ap (λ (n : ℕ). take n (text ++ 34 ∷ [])) size ∙ take_at text (34 ∷ []) (length text) refl
+
+pub read_text : (text rest : List ℕ) (ps : List Piece) → IsTrue (has_no_quote text) → IsAscii text → IsCut rest ps → IsCut (quoted text ++ rest) (TEXT text ∷ ps)
+read_text text rest ps none ascii is =
+    regrouped (quoted text ++ rest) (quoted text ++ rest) (TEXT text ∷ ps) (TEXT (query.unquoted (quoted text)) ∷ ps) refl (ap (λ (t : List ℕ). TEXT t ∷ ps) (sym (inside text)))
+    (put kinds.Text (quoted text) rest ps (cut_text (quoted text) rest (quoted_form text none)) (quoted_form text none) (ap has_other_byte (inside text) ∙ ascii) is)
+
+pub read_symbol : (code symbol : ℕ) (rest : List ℕ) (ps : List Piece) → IsTrue (stands_alone symbol) → code_of symbols (symbol ∷ []) ≡ Some code → IsCut rest ps → IsCut (symbol ∷ rest) (SIGN code ∷ ps)
+read_symbol code symbol rest ps alone found is = put (kinds.Sym code) (symbol ∷ []) rest ps (cut_symbol symbol rest code alone found) found refl is
+
+-- ---- a part of a text is cut into tokens that are spelled so, whatever of this kind stands behind it
+
+pub record ReadsBefore (Later : List ℕ → Type 0) (part : List ℕ) (Spelled : List Piece → Type 0) : Type 0 where
+  pub tokens : List Piece
+  pub spelled : Spelled tokens
+  pub again : (rest : List ℕ) (ps : List Piece) → Later rest → IsCut rest ps → IsCut (part ++ rest) (tokens ++ ps)
+
+-- a part that ends by itself
+abbrev pub Closes : List ℕ → (List Piece → Type 0) → Type 0
+Closes = ReadsBefore (λ rest. Unit {0})
+
+-- a part that may end with a name or a number
+abbrev pub Reads : List ℕ → (List Piece → Type 0) → Type 0
+Reads = ReadsBefore Ends
+
+pub closed_reads : {part : List ℕ} {Spelled : List Piece → Type 0} → Closes part Spelled → Reads part Spelled
+closed_reads r = record { tokens = r.tokens; spelled = r.spelled; again = λ rest ps ends is. r.again rest ps tt is }
+
+-- nothing stands behind it
+pub read_last : {part : List ℕ} {Spelled : List Piece → Type 0} (r : Reads part Spelled) → IsCut part r.tokens
+read_last {part = part} r =
+    regrouped part (part ++ []) r.tokens (r.tokens ++ []) (sym (append-nil part)) (sym (append-nil r.tokens)) (r.again [] [] nothing_ends nothing_is_cut)
+
+-- ---- symbols
+
+pub read_open : (rest : List ℕ) (ps : List Piece) → IsCut rest ps → IsCut (40 ∷ rest) (SIGN OPEN_ROUND ∷ ps)
+unfolding symbols
+read_open rest ps is = read_symbol OPEN_ROUND 40 rest ps refl refl is
+
+pub read_close : (rest : List ℕ) (ps : List Piece) → IsCut rest ps → IsCut (41 ∷ rest) (SIGN CLOSE_ROUND ∷ ps)
+unfolding symbols
+read_close rest ps is = read_symbol CLOSE_ROUND 41 rest ps refl refl is
+
+pub read_square : (rest : List ℕ) (ps : List Piece) → IsCut rest ps → IsCut (91 ∷ rest) (SIGN OPEN_SQUARE ∷ ps)
+unfolding symbols
+read_square rest ps is = read_symbol OPEN_SQUARE 91 rest ps refl refl is
+
+pub read_square_end : (rest : List ℕ) (ps : List Piece) → IsCut rest ps → IsCut (93 ∷ rest) (SIGN CLOSE_SQUARE ∷ ps)
+unfolding symbols
+read_square_end rest ps is = read_symbol CLOSE_SQUARE 93 rest ps refl refl is
+
+pub read_comma : (rest : List ℕ) (ps : List Piece) → IsCut rest ps → IsCut (44 ∷ rest) (SIGN COMMA ∷ ps)
+unfolding symbols
+read_comma rest ps is = read_symbol COMMA 44 rest ps refl refl is
+
+pub read_minus : (rest : List ℕ) (ps : List Piece) → IsCut rest ps → IsCut (45 ∷ rest) (SIGN MINUS ∷ ps)
+unfolding symbols
+read_minus rest ps is = read_symbol MINUS 45 rest ps refl refl is
+
+pub read_equal : (rest : List ℕ) (ps : List Piece) → IsCut rest ps → IsCut (61 ∷ rest) (SIGN EQUAL ∷ ps)
+unfolding symbols
+read_equal rest ps is = read_symbol EQUAL 61 rest ps refl refl is

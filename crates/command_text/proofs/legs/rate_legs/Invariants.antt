@@ -1,0 +1,14 @@
+use Rattle.std.proofs.Common.{[], length}
+use Rattle.case_table.specs.declared.symbol.TheConstants.{OPEN_SQUARE}
+use Rattle.command_text.specs.Piece.{is_sign}
+use Rattle.command_text.specs.Reading.{begins, rate_leg}
+use Rattle.command_text.specs.Standing.{standing}
+use Rattle.command_text.proofs.ManyLemmas.{Goes}
+use Rattle.command_text.proofs.legs.rate_legs.Given as goal
+
+-- what was read and what is left make the whole
+abbrev pub invariant-legs : goal.invariant-legs
+invariant-legs l = Goes (begins (is_sign OPEN_SQUARE)) rate_leg [] (standing l.tokens l.fn.start) l.firsts.items (standing l.tokens l.at)
+
+abbrev pub decreases-legs : goal.decreases-legs
+decreases-legs l = length (standing l.tokens l.at).rest

@@ -1,0 +1,19 @@
+use Rattle.std.proofs.Common.{refl, sym, ◌∙◌, subst}
+use Rattle.command_text.specs.Standing.{Stops}
+use Rattle.command_text.proofs.Derived.{point_shortens}
+use Rattle.command_text.proofs.ManyLemmas.{goes_on, goes_wrong, all_read}
+use Rattle.command_text.proofs.parts.all_points.Goals as goal
+
+pub points-preserved : goal.points-preserved
+points-preserved c =
+    rw c.in_ok-push.ensures.ok (goes_on _ _ point_shortens _ _ _ _ _ _ c.points.invariant
+    (sym c.begins_sign.ensures ∙ c.points-test.true)
+    (sym c.in-Some.ensures))
+
+pub returns-in_default : goal.returns-in_default
+returns-in_default c =
+    subst (Stops _) (sym c.bad_syntax.ensures)
+    (refl, goes_wrong _ _ _ _ _ _ c.points.invariant (sym c.begins_sign.ensures ∙ c.points-test.true) (sym c.in_default.ensures))
+
+pub returns : goal.returns
+returns c = all_read _ _ _ _ _ c.points.invariant (sym c.begins_sign.ensures ∙ c.points-test.false)

@@ -1,0 +1,13 @@
+use Rattle.std.proofs.Common.{[], length}
+use Rattle.command_text.specs.Piece.{is_name}
+use Rattle.command_text.specs.Reading.{begins, setting}
+use Rattle.command_text.specs.Standing.{standing}
+use Rattle.command_text.proofs.ManyLemmas.{Goes}
+use Rattle.command_text.proofs.settings.settings.Given as goal
+
+-- what was read and what is left make the whole
+abbrev pub invariant-settings : goal.invariant-settings
+invariant-settings l = Goes (begins is_name) setting [] (standing l.tokens l.fn.start) l.sets (standing l.tokens l.at)
+
+abbrev pub decreases-settings : goal.decreases-settings
+decreases-settings l = length (standing l.tokens l.at).rest

@@ -1,0 +1,61 @@
+-- The tokens of which the grammar of commands speaks: reserved words and symbols by their codes, and names, numbers and texts with their bytes.
+use Rattle.std.specs.Prelude.{ℕ, Bool, true, false, ◌==◌, List, map, unwrap_or, slice_get}
+use Rattle.ftl_lexer.specs.declared.kinds.Kind.{Kind}
+use Rattle.ftl_lexer.specs.declared.kinds.Kind.TheVariants as kinds
+use Rattle.ftl_lexer.specs.Tokens.{lexemes}
+use Rattle.ftl_parser.specs.Piece as query
+
+pub data Piece : Type 0 where
+  KEY : ℕ → Piece
+  SIGN : ℕ → Piece
+  NAME : List ℕ → Piece
+  NUMBER : List ℕ → Piece
+  -- a text by what stands between its quotes
+  TEXT : List ℕ → Piece
+
+abbrev pub piece_of : Kind → List ℕ → Piece
+piece_of kinds.Name bytes = NAME bytes
+piece_of kinds.Number bytes = NUMBER bytes
+piece_of kinds.Text bytes = TEXT (query.unquoted bytes)
+piece_of (kinds.Sym code) bytes = SIGN code
+piece_of (kinds.Key code) bytes = KEY code
+
+-- the tokens of a line
+abbrev pub pieces : List ℕ → List Piece
+pieces line = map (λ t. piece_of t.0 t.1) (lexemes line)
+
+-- a token as the grammar of queries has it
+abbrev pub in_query : Piece → query.Piece
+in_query (KEY code) = unwrap_or (slice_get query.words code) query.OTHER
+in_query (SIGN code) = unwrap_or (slice_get query.signs code) query.OTHER
+in_query (NAME bytes) = query.NAME bytes
+in_query (NUMBER bytes) = query.NUMBER bytes
+in_query (TEXT bytes) = query.TEXT bytes
+
+abbrev pub is_key : ℕ → Piece → Bool
+is_key code (KEY k) = k == code
+is_key code (SIGN k) = false
+is_key code (NAME bytes) = false
+is_key code (NUMBER bytes) = false
+is_key code (TEXT bytes) = false
+
+abbrev pub is_sign : ℕ → Piece → Bool
+is_sign code (KEY k) = false
+is_sign code (SIGN k) = k == code
+is_sign code (NAME bytes) = false
+is_sign code (NUMBER bytes) = false
+is_sign code (TEXT bytes) = false
+
+abbrev pub is_name : Piece → Bool
+is_name (KEY k) = false
+is_name (SIGN k) = false
+is_name (NAME bytes) = true
+is_name (NUMBER bytes) = false
+is_name (TEXT bytes) = false
+
+abbrev pub is_text : Piece → Bool
+is_text (KEY k) = false
+is_text (SIGN k) = false
+is_text (NAME bytes) = false
+is_text (NUMBER bytes) = false
+is_text (TEXT bytes) = true

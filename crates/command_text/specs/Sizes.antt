@@ -1,0 +1,30 @@
+-- The sizes of a command that have limits, and what stands for a part that passes its limit. The sizes of a query are the parser's.
+use Rattle.std.specs.Prelude.{ℕ, ℤ, Bool, nat_le, List, [], length, if◌then◌else◌}
+use Rattle.fixed_point.specs.declared.short_text.TheConstants.{WORD_LIMIT}
+use Rattle.motion.specs.declared.legs.TheConstants.{MOST_FIRSTS}
+use Rattle.motion.specs.Function.{Function, are_firsts, level}
+use Rattle.command_text.specs.declared.ranges.TheConstants.{ATTRIBUTE_LIMIT, VERTEX_LIMIT}
+
+-- a name or a text has at most 32 bytes
+abbrev pub is_short : List ℕ → Bool
+is_short word = nat_le (length word) WORD_LIMIT
+
+-- a longer one stands for the empty one
+abbrev pub word_of : List ℕ → List ℕ
+word_of word = if is_short word then word else []
+
+-- at most seven legs before the last one
+abbrev pub are_few_legs : ℕ → Bool
+are_few_legs firsts = nat_le firsts MOST_FIRSTS
+
+-- legs that make no function stand for rest
+abbrev pub function_of : List (ℤ × ℕ) → ℤ → Function
+function_of firsts last = if are_firsts firsts then record { firsts = firsts; last = last } else level
+
+-- a class has at most 16 attributes that are written
+abbrev pub are_few_attributes : ℕ → Bool
+are_few_attributes count = nat_le count ATTRIBUTE_LIMIT
+
+-- a region has at most 64 vertices
+abbrev pub are_few_vertices : ℕ → Bool
+are_few_vertices count = nat_le count VERTEX_LIMIT

@@ -1,0 +1,226 @@
+//! Names, texts and numbers.
+ghost use Rattle.std.specs.Prelude.{◌≡◌, ◌&&◌, [], pos, option_map};
+ghost use Rattle.command_text.specs.Ranges.{Span, Ticks, Capacity, Nearest, radius_in, Value, Rate, Width, signed, signed_in};
+ghost use Rattle.command_text.specs.Sizes.{is_short, word_of};
+ghost use Rattle.command_text.specs.Reading.{name, text, number, whole, radius, minus, signed_number, num};
+ghost use Rattle.command_text.specs.Standing.{standing};
+
+use crate::at::{At, next, noting_fit, noting_small, sign};
+use crate::ranges::{CAPACITY_LIMIT, NEAREST_LIMIT};
+use case_table::symbol;
+use fixed_point::{Fix, Slope, WORD_LIMIT, Word};
+use ftl_lexer::{Kind, Tokens, unquoted};
+use ftl_parser::{TICKS_LIMIT, whole};
+
+/// The word of these bytes; the empty one where there are more than 32.
+#[inline]
+fn word_of(bytes: &[u8]) -> Word
+    ensures { result ≡ word_of bytes.now }
+{
+    match Word::of(bytes) {
+        Some(word) => word,
+        None => empty(),
+    }
+}
+
+fn empty() -> Word
+    ensures { result ≡ [] }
+{
+    Word::of(b"").unwrap()
+}
+
+/// A word that was read, and the place behind it.
+fn noted(bytes: &[u8], at: At) -> (Word, At)
+    ensures word { result.0 ≡ word_of bytes.now }
+    ensures at { result.1 ≡ record { place = at.place; fit = at.fit; small = at.small && is_short bytes.now } }
+{
+    (word_of(bytes), noting_small(at, bytes.len() <= WORD_LIMIT))
+}
+
+#[tactic(auto, unfolding(crate::specs::Reading::name))]
+pub(crate) fn name(tokens: &Tokens, at: At) -> Option<(Word, At)>
+    ensures { option_map (λ r. (r.0, standing tokens.now r.1)) result ≡ name (standing tokens.now at) }
+{
+    let (kind, bytes, behind) = next(tokens, at)?;
+    match kind {
+        Kind::Name => Some(noted(bytes, behind)),
+        _ => None,
+    }
+}
+
+/// A text, without its quotes.
+#[tactic(auto, unfolding(crate::specs::Reading::text))]
+pub(crate) fn text(tokens: &Tokens, at: At) -> Option<(Word, At)>
+    ensures { option_map (λ r. (r.0, standing tokens.now r.1)) result ≡ text (standing tokens.now at) }
+{
+    let (kind, bytes, behind) = next(tokens, at)?;
+    match kind {
+        Kind::Text => Some(noted(unquoted(bytes), behind)),
+        _ => None,
+    }
+}
+
+/// The bytes of a number.
+#[tactic(auto, unfolding(crate::specs::Reading::number))]
+fn number<'a>(tokens: &'a Tokens, at: At) -> Option<(&'a [u8], At)>
+    ensures { option_map (λ r. (r.0.now, standing tokens.now r.1)) result ≡ number (standing tokens.now at) }
+{
+    let (kind, bytes, behind) = next(tokens, at)?;
+    match kind {
+        Kind::Number => Some((bytes, behind)),
+        _ => None,
+    }
+}
+
+/// A number of ticks, 0 among them.
+#[tactic(auto, unfolding(crate::specs::Reading::whole))]
+pub(crate) fn span(tokens: &Tokens, at: At) -> Option<(u32, At)>
+    ensures { option_map (λ r. (r.0, standing tokens.now r.1)) result ≡ whole Span (standing tokens.now at) }
+{
+    let (digits, behind) = number(tokens, at)?;
+    let found = whole(digits, 0, TICKS_LIMIT);
+    Some((found.unwrap_or(0), noting_fit(behind, found.is_some())))
+}
+
+/// A number of ticks, at least 1.
+#[tactic(auto, unfolding(crate::specs::Reading::whole))]
+pub(crate) fn ticks(tokens: &Tokens, at: At) -> Option<(u32, At)>
+    ensures { option_map (λ r. (r.0, standing tokens.now r.1)) result ≡ whole Ticks (standing tokens.now at) }
+{
+    let (digits, behind) = number(tokens, at)?;
+    let found = whole(digits, 1, TICKS_LIMIT);
+    Some((found.unwrap_or(0), noting_fit(behind, found.is_some())))
+}
+
+/// The capacity of a class.
+#[tactic(auto, unfolding(crate::specs::Reading::whole))]
+pub(crate) fn capacity(tokens: &Tokens, at: At) -> Option<(u32, At)>
+    ensures { option_map (λ r. (r.0, standing tokens.now r.1)) result ≡ whole Capacity (standing tokens.now at) }
+{
+    let (digits, behind) = number(tokens, at)?;
+    let found = whole(digits, 1, CAPACITY_LIMIT);
+    Some((found.unwrap_or(0), noting_fit(behind, found.is_some())))
+}
+
+/// How many objects `nearest` looks for.
+#[tactic(auto, unfolding(crate::specs::Reading::whole))]
+pub(crate) fn most_near(tokens: &Tokens, at: At) -> Option<(u32, At)>
+    ensures { option_map (λ r. (r.0, standing tokens.now r.1)) result ≡ whole Nearest (standing tokens.now at) }
+{
+    let (digits, behind) = number(tokens, at)?;
+    let found = whole(digits, 1, NEAREST_LIMIT);
+    Some((found.unwrap_or(0), noting_fit(behind, found.is_some())))
+}
+
+#[inline]
+fn zero() -> Fix
+    ensures { result ≡ pos 0 }
+{
+    Fix::of(0).unwrap()
+}
+
+#[inline]
+fn level() -> Slope
+    ensures { result ≡ pos 0 }
+{
+    Slope::of(0).unwrap()
+}
+
+/// The error of `must` and `may`, if it is in its range.
+fn radius_of(digits: &[u8]) -> Option<Fix>
+    ensures { result ≡ radius_in digits.now }
+{
+    let radius = Slope::read(digits)?;
+    Fix::of(radius.raw())
+}
+
+#[tactic(auto, unfolding(crate::specs::Reading::radius))]
+pub(crate) fn radius(tokens: &Tokens, at: At) -> Option<(Fix, At)>
+    ensures { option_map (λ r. (r.0, standing tokens.now r.1)) result ≡ radius (standing tokens.now at) }
+{
+    let (digits, behind) = number(tokens, at)?;
+    let found = radius_of(digits);
+    Some((found.unwrap_or(zero()), noting_fit(behind, found.is_some())))
+}
+
+/// Whether a `-` comes next, and the place behind it or else the same place.
+#[tactic(auto, unfolding(crate::specs::Reading::minus))]
+fn minus(tokens: &Tokens, at: At) -> (bool, At)
+    ensures { minus (standing tokens.now at) ≡ (result.0, standing tokens.now result.1) }
+{
+    match sign(tokens, at, symbol::MINUS) {
+        Some(behind) => (true, behind),
+        None => (false, at),
+    }
+}
+
+/// Whether a number has a `-`, and its bytes.
+#[tactic(auto, unfolding(crate::specs::Reading::signed_number))]
+fn signed_number<'a>(tokens: &'a Tokens, at: At) -> Option<(bool, &'a [u8], At)>
+    ensures { option_map (λ r. ((r.0, r.1.now), standing tokens.now r.2)) result ≡ signed_number (standing tokens.now at) }
+{
+    let (minus, at) = minus(tokens, at);
+    let (digits, behind) = number(tokens, at)?;
+    Some((minus, digits, behind))
+}
+
+#[inline]
+fn signed(minus: bool, size: Option<Fix>) -> Option<Fix>
+    ensures { result ≡ signed minus size }
+{
+    match size {
+        Some(size) if minus => Fix::of(-size.raw()),
+        _ => size,
+    }
+}
+
+#[inline]
+fn signed_slope(minus: bool, size: Option<Slope>) -> Option<Slope>
+    ensures { result ≡ signed minus size }
+{
+    match size {
+        Some(size) if minus => Slope::of(-size.raw()),
+        _ => size,
+    }
+}
+
+/// A coordinate, a value of an attribute or a bound of `range`.
+#[tactic(auto, unfolding(crate::specs::Reading::num))]
+pub(crate) fn value(tokens: &Tokens, at: At) -> Option<(Fix, At)>
+    ensures { option_map (λ r. (r.0, standing tokens.now r.1)) result ≡ num Value (standing tokens.now at) }
+{
+    let (minus, digits, behind) = signed_number(tokens, at)?;
+    let found = signed(minus, Fix::read(digits));
+    Some((found.unwrap_or(zero()), noting_fit(behind, found.is_some())))
+}
+
+#[tactic(auto, unfolding(crate::specs::Reading::num))]
+pub(crate) fn slope(tokens: &Tokens, at: At) -> Option<(Slope, At)>
+    ensures { option_map (λ r. (r.0, standing tokens.now r.1)) result ≡ num Rate (standing tokens.now at) }
+{
+    let (minus, digits, behind) = signed_number(tokens, at)?;
+    let found = signed_slope(minus, Slope::read(digits));
+    Some((
+        found.unwrap_or(level()),
+        noting_fit(behind, found.is_some()),
+    ))
+}
+
+fn width_of(minus: bool, digits: &[u8]) -> Option<Fix>
+    ensures { result ≡ signed_in Width minus digits.now }
+{
+    match signed(minus, Fix::read(digits)) {
+        Some(width) if width.raw() >= 1 => Some(width),
+        _ => None,
+    }
+}
+
+/// The width of a strip of values.
+#[tactic(auto, unfolding(crate::specs::Reading::num))]
+pub(crate) fn width(tokens: &Tokens, at: At) -> Option<(Fix, At)>
+    ensures { option_map (λ r. (r.0, standing tokens.now r.1)) result ≡ num Width (standing tokens.now at) }
+{
+    let (minus, digits, behind) = signed_number(tokens, at)?;
+    let found = width_of(minus, digits);
+    Some((found.unwrap_or(zero()), noting_fit(behind, found.is_some())))
+}

@@ -1,0 +1,115 @@
+//! Reading lines.
+ghost use Rattle.std.specs.Prelude.{◌≡◌, ◌≤◌, None, length, OnOk, IfOk, IfErr};
+ghost use Rattle.std.specs.List.{list_any};
+ghost use Rattle.command_text.specs.Tree.{command_view};
+ghost use Rattle.command_text.specs.Line.{is_comment, is_ascii, has_other_byte, TellsBadPlace, IsReadLate, ExplainsLate, IsRead, Explains};
+ghost use Rattle.ftl_lexer.specs.Tokens.{bad_place};
+
+use crate::Command;
+use crate::fault::CommandFault;
+use crate::line::command;
+use crate::refusal::Refusal;
+use ftl_lexer::{LexFault, Tokens, bad_token};
+use std::alloc::Global;
+
+/// The most bytes of a line.
+pub const LINE_LIMIT: usize = 4096;
+
+#[inline]
+fn is_ascii(byte: u8) -> bool
+    ensures { result ≡ is_ascii byte }
+{
+    byte == b'\t' || (32 <= byte && byte <= 126)
+}
+
+/// Whether a line has a byte other than a tab and 0x20 to 0x7E.
+fn has_other_byte(line: &[u8]) -> bool
+    ensures { result ≡ has_other_byte line.now }
+{
+    line.iter().any(|byte| !is_ascii(*byte))
+}
+
+/// Whether the first byte of a line that is neither a space nor a tab is `#`.
+fn is_comment(line: &[u8]) -> bool
+    ensures { result ≡ is_comment line.now }
+{
+    let mut rest = line;
+    'blanks: while let Some((byte, later)) = rest.split_first() {
+        if *byte != b' ' && *byte != b'\t' {
+            return *byte == b'#';
+        }
+        rest = later;
+    }
+    false
+}
+
+/// The tokens of a line that isn't a comment, put in place of those of the line before.
+fn cut(tokens: &mut Tokens, line: &[u8]) -> Result<(), CommandFault>
+    requires { length line.now ≤ 16384 }
+    ensures ok { OnOk result ((tokens.new ≡ line.now) × (bad_place line.now ≡ None)) }
+    ensures cause { IfErr result (TellsBadPlace line.now) }
+{
+    match tokens.read(line) {
+        Ok(()) => Ok(()),
+        Err(LexFault::BadToken(_)) => Err(CommandFault::Refused(Refusal::BadToken)),
+        Err(LexFault::NoMemory) => Err(CommandFault::NoMemory),
+    }
+}
+
+/// The command of a line that has no byte too many and none other than a tab and 0x20 to 0x7E.
+#[tactic(auto, using(crate::proofs::LineLemmas::late_steps))]
+fn read_ascii(alloc: Global, tokens: &mut Tokens, line: &[u8]) -> Result<Command, CommandFault>
+    requires { length line.now ≤ 16384 }
+    ensures ok { IfOk result (λ c. IsReadLate line.now (command_view c)) }
+    ensures cause { IfErr result (ExplainsLate line.now) }
+{
+    if is_comment(line) {
+        return Ok(Command::Nothing);
+    }
+    cut(tokens, line)?;
+    command(alloc, tokens)
+}
+
+/// Reads lines one after another, and asks for memory for tokens only where a line is longer than all
+/// before it.
+#[derive(Debug, Drop)]
+pub struct LineReader {
+    alloc: Global,
+    tokens: Tokens,
+}
+
+impl LineReader {
+    /// A reader of lines. Takes no memory.
+    pub fn new(alloc: Global) -> LineReader {
+        LineReader {
+            alloc,
+            tokens: Tokens::new(alloc),
+        }
+    }
+
+    /// Reads a line of at most `limit` bytes: the command that its tokens spell. Refuses it by the first
+    /// of the refusals 1 to 6 that holds; the first three are told without memory.
+    #[tactic(auto, using(crate::proofs::LineLemmas::first_steps))]
+    pub fn read(&mut self, line: &[u8], limit: usize) -> Result<Command, CommandFault>
+        requires { limit ≤ 16384 }
+        ensures ok { IfOk result (λ c. IsRead limit line.now (command_view c)) }
+        ensures cause { IfErr result (Explains limit line.now) }
+    {
+        if line.len() > limit {
+            return Err(CommandFault::Refused(Refusal::LineTooLong));
+        }
+        if has_other_byte(line) {
+            return Err(CommandFault::Refused(Refusal::NotAscii));
+        }
+        read_ascii(self.alloc, &mut self.tokens, line)
+    }
+}
+
+/// Reads one line, as a `LineReader` does.
+pub fn read(alloc: Global, line: &[u8], limit: usize) -> Result<Command, CommandFault>
+    requires { limit ≤ 16384 }
+    ensures ok { IfOk result (λ c. IsRead limit line.now (command_view c)) }
+    ensures cause { IfErr result (Explains limit line.now) }
+{
+    LineReader::new(alloc).read(line, limit)
+}
