@@ -1,0 +1,4 @@
+pub mod CrossLemmas
+pub mod GatherLemmas
+pub mod JoinLemmas
+pub mod NameLemmas

@@ -1,0 +1,16 @@
+//! The ticks of a window at which one object meets a condition: that it is present, or that one of its
+//! attributes compares so with a number.
+//!
+//! No window is walked. Each call goes over the pieces of the object's timeline, in each of which the
+//! object is present or not, and each attribute rests or moves by one slope.
+#![tactic(auto)]
+
+mod condition;
+mod joining;
+mod pieces;
+mod rows;
+
+pub use rows::{attribute_ticks, presence};
+
+#[cfg(test)]
+mod tests;
