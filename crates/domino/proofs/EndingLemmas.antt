@@ -1,9 +1,8 @@
 -- How the read loop ends, said of the whole run.
 use Rattle.std.proofs.Common.{inl, inr, ◌≡◌, ℕ, Bool, true, false, List, [], ◌∷◌, take, Option, None, Some, refl, ap, sym, subst, ◌∙◌, if◌then◌else◌}
-use Rattle.std.specs.Prelude.{◌⊎◌}
 use Rattle.outside.specs.Faults.{Rose}
 use Rattle.outside.specs.Shelf.{Texts}
-use Rattle.history.specs.Write.{Write}
+use Rattle.command_text.specs.Journal.{Accepted}
 use Rattle.line_loop.specs.declared.ending.Ending.{Ending}
 use Rattle.line_loop.specs.declared.ending.Ending.TheVariants as endings
 use Rattle.line_loop.specs.Ending as loop
@@ -12,6 +11,7 @@ use Rattle.line_loop.specs.Machine.{after}
 use Rattle.line_loop.specs.Run.{heard}
 use Rattle.line_loop.specs.Stop.{LacksMemory}
 use Rattle.domino.specs.Machine.{State, machine, leaves, state_of}
+use Rattle.domino.specs.Whole.{empty}
 use Rattle.domino.specs.Ends.{Given, EndsAs, CompletesAs, KeepsLimit, HasCause}
 use Rattle.domino.specs.Status.{status_of}
 use Rattle.domino.specs.declared.status.Status.{Status}
@@ -20,73 +20,70 @@ use Rattle.domino.specs.declared.status.Status.TheVariants.{Done, BadWords, Read
 -- no line changes the texts
 texts_after : (s : State) (lines : List (List ℕ)) → (after machine s lines).texts ≡ s.texts
 texts_after s [] = refl
-texts_after s (line ∷ lines) = texts_after (machine.next s line) lines
+texts_after s (line ∷ lines) =
+    elim s.ended as (λ ended. (if ended then s else after machine (machine.next s line) lines).texts ≡ s.texts) [
+      | true ↦ refl
+      | false ↦ texts_after (machine.next s line) lines
+    ]
 
 -- the texts that a told state tells
-texts_told : (journal : List Write) (told : Option Texts) (s : State) → state_of journal told ≡ Some s → told ≡ Some s.texts
-texts_told journal None s h = cc
-texts_told journal (Some texts) s h = let same : record { journal = journal; texts = texts } ≡ s = cc in ap (λ (s : State). Some s.texts) same
+texts_told : (journal : List Accepted) (ended : Bool) (told : Option Texts) (s : State) → state_of journal ended told ≡ Some s → told ≡ Some s.texts
+texts_told journal ended None s h = cc
+texts_told journal ended (Some texts) s h = let same : record { journal = journal; ended = ended; texts = texts } ≡ s = cc in ap (λ (s : State). Some s.texts) same
 
-texts_stay : (journal : List Write) (told : Option Texts) (s : State) (lines : List (List ℕ)) → state_of journal told ≡ Some (after machine s lines) → told ≡ Some s.texts
-texts_stay journal told s lines h = texts_told journal told (after machine s lines) h ∙ ap Some (texts_after s lines)
+texts_stay : (journal : List Accepted) (ended : Bool) (told : Option Texts) (s : State) (lines : List (List ℕ)) → state_of journal ended told ≡ Some (after machine s lines) → told ≡ Some s.texts
+texts_stay journal ended told s lines h = texts_told journal ended told (after machine s lines) h ∙ ap Some (texts_after s lines)
 
 lacking_is : (now : State) (later : List (List ℕ)) (told : Option State) → LacksMemory machine leaves now later told → told ≡ Some now
 lacking_is now [] told h = h
 lacking_is now (line ∷ lines) told h = elim h [ inl same ↦ same | inr left ↦ left.1 ]
 
-abbrev pub empty : Texts → State
-empty texts = record { journal = []; texts = texts }
-
 abbrev given : Bool → ℕ → List ℕ → List ℕ → Texts → Given
 given words limit bytes written texts = record { words = words; limit = limit; bytes = bytes; written = written; texts = texts }
 
--- the machine is never done, so a whole run has read all bytes
-read_to_end : (left : Option (List ℕ)) → (left ≡ Some []) ⊎ (false ≡ true) → left ≡ Some []
-read_to_end left (inl all) = all
-read_to_end left (inr done) = cc
-
 -- with good words the run ends as the read loop does
-loop_ends : (ending : Ending) (limit : ℕ) (bytes written : List ℕ) (texts : Texts) (journal : List Write) (new : Option (List ℕ)) (told : Option Texts) (left : Option (List ℕ)) → loop.EndsAs machine leaves limit (record { state = record { journal = []; texts = texts }; written = written }) bytes ending (state_of journal told) new left → EndsAs (given true limit bytes written texts) (status_of ending) new told left
-loop_ends endings.Done limit bytes written texts journal new told left h = (
+loop_ends : (ending : Ending) (limit : ℕ) (bytes written : List ℕ) (texts : Texts) (journal : List Accepted) (ended : Bool) (new : Option (List ℕ)) (told : Option Texts) (left : Option (List ℕ)) → loop.EndsAs machine leaves limit (record { state = empty texts; written = written }) bytes ending (state_of journal ended told) new left → EndsAs (given true limit bytes written texts) (status_of ending) new told left
+loop_ends endings.Done limit bytes written texts journal ended new told left h = (
   record {
     status_is = ap (λ cut. if cut then InputLimit else Done) (sym h.whole);
     output = h.reached.has_written;
-    texts_stay = texts_stay journal told (empty texts) (heard machine limit (empty texts) bytes) h.reached.in_state;
+    texts_stay = texts_stay journal ended told (empty texts) (heard machine limit (empty texts) bytes) h.reached.in_state;
   },
-  read_to_end left h.finished,
+  h.finished,
 )
-loop_ends endings.InputLimit limit bytes written texts journal new told left h = (
+loop_ends endings.InputLimit limit bytes written texts journal ended new told left h = (
   record {
     status_is = ap (λ cut. if cut then InputLimit else Done) (sym h.cut);
     output = h.reached.has_written;
-    texts_stay = texts_stay journal told (empty texts) (heard machine limit (empty texts) bytes) h.reached.in_state;
+    texts_stay = texts_stay journal ended told (empty texts) (heard machine limit (empty texts) bytes) h.reached.in_state;
   },
   h.taken,
 )
-loop_ends endings.ReadFault limit bytes written texts journal new told left h = record {
+loop_ends endings.ReadFault limit bytes written texts journal ended new told left h = record {
   count = h.count;
   within = h.within;
   taken = h.taken;
+  going_on = h.going_on;
   output = h.reached.has_written;
-  texts_stay = texts_stay journal told (empty texts) (ended_lines (take h.count bytes)) h.reached.in_state;
+  texts_stay = texts_stay journal ended told (empty texts) (ended_lines (take h.count bytes)) h.reached.in_state;
 }
-loop_ends endings.WriteFault limit bytes written texts journal new told left h = record {
+loop_ends endings.WriteFault limit bytes written texts journal ended new told left h = record {
   count = h.count;
   lacks = h.proper;
   output = h.has_written;
-  texts_stay = texts_stay journal told (empty texts) h.earlier h.in_state;
+  texts_stay = texts_stay journal ended told (empty texts) h.earlier h.in_state;
 }
-loop_ends endings.ContextFault limit bytes written texts journal new told left h = h.failed
-loop_ends endings.NoMemory limit bytes written texts journal new told left h = record {
+loop_ends endings.ContextFault limit bytes written texts journal ended new told left h = h.failed
+loop_ends endings.NoMemory limit bytes written texts journal ended new told left h = record {
   count = h.count;
   output = h.has_written;
-  texts_stay = texts_stay journal told (empty texts) h.earlier (lacking_is (after machine (empty texts) h.earlier) h.later (state_of journal told) h.lacking);
+  texts_stay = texts_stay journal ended told (empty texts) h.earlier (lacking_is (after machine (empty texts) h.earlier) h.later (state_of journal ended told) h.lacking);
 }
 
-pub good_words_end : (words : Bool) (ending : Ending) (limit : ℕ) (bytes written : List ℕ) (texts : Texts) (journal : List Write) (new : Option (List ℕ)) (told : Option Texts) (left : Option (List ℕ)) → words ≡ true → loop.EndsAs machine leaves limit (record { state = record { journal = []; texts = texts }; written = written }) bytes ending (state_of journal told) new left → EndsAs (given words limit bytes written texts) (status_of ending) new told left
-good_words_end words ending limit bytes written texts journal new told left good h =
+pub good_words_end : (words : Bool) (ending : Ending) (limit : ℕ) (bytes written : List ℕ) (texts : Texts) (journal : List Accepted) (ended : Bool) (new : Option (List ℕ)) (told : Option Texts) (left : Option (List ℕ)) → words ≡ true → loop.EndsAs machine leaves limit (record { state = empty texts; written = written }) bytes ending (state_of journal ended told) new left → EndsAs (given words limit bytes written texts) (status_of ending) new told left
+good_words_end words ending limit bytes written texts journal ended new told left good h =
     subst (λ (w : Bool). EndsAs (given w limit bytes written texts) (status_of ending) new told left) (sym good)
-    (loop_ends ending limit bytes written texts journal new told left h)
+    (loop_ends ending limit bytes written texts journal ended new told left h)
 
 -- and its counts rise as those of the loop
 pub loop_cause : (ending : Ending) (old new : loop.Counts) → loop.EndsWithCause ending old new → HasCause (status_of ending) old new

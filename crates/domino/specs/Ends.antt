@@ -1,13 +1,14 @@
 -- How a run may end, where the source, the sink and the shelf tell what they hold.
-use Rattle.std.specs.Prelude.{◌≡◌, ℕ, ◌+◌, ◌<◌, ◌≤◌, Bool, true, false, List, [], ◌++◌, length, take, Option, Some}
+use Rattle.std.specs.Prelude.{◌≡◌, ℕ, ◌+◌, ◌<◌, ◌≤◌, ◌⊎◌, Bool, true, false, List, [], ◌++◌, length, take, Option, Some}
 use Rattle.outside.specs.Faults.{Rose}
 use Rattle.outside.specs.Shelf.{Texts}
 use Rattle.line_loop.specs.Ending.{Counts, HasTaken, StaysWithin}
 use Rattle.line_loop.specs.Lines.{ended_lines}
 use Rattle.line_loop.specs.Machine.{replies}
-use Rattle.domino.specs.Machine.{State, machine}
+use Rattle.line_loop.specs.Run.{heard}
 use Rattle.line_loop.specs.Stop.{WritesPart}
-use Rattle.domino.specs.Whole.{Whole, bad_words, whole}
+use Rattle.domino.specs.Machine.{State, machine}
+use Rattle.domino.specs.Whole.{Whole, bad_words, empty, quits, whole}
 use Rattle.domino.specs.declared.status.Status.{Status}
 use Rattle.domino.specs.declared.status.Status.TheVariants.{Done, BadWords, ReadFault, WriteFault, ShelfFault, NoMemory, InputLimit}
 
@@ -40,10 +41,14 @@ pub record Given : Type 0 where
   pub texts : Texts
 
 abbrev pub start : Given → State
-start g = record { journal = []; texts = g.texts }
+start g = empty g.texts
 
 abbrev pub whole_of : Given → Whole
 whole_of g = whole g.words g.limit (start g) g.bytes
+
+-- one of the lines that are answered is an accepted `quit`
+abbrev pub is_ended : Given → Bool
+is_ended g = quits (start g) (heard machine g.limit (start g) g.bytes)
 
 -- the whole run: its status, all its output, and the texts as they were
 pub record IsWhole (g : Given) (status : Status) (written : Option (List ℕ)) (texts : Option Texts) : Type 0 where
@@ -51,11 +56,12 @@ pub record IsWhole (g : Given) (status : Status) (written : Option (List ℕ)) (
   pub output : written ≡ Some (g.written ++ (whole_of g).output)
   pub texts_stay : texts ≡ Some g.texts
 
--- The replies to the lines that end within the bytes taken were written, and no more.
+-- No `quit` ends within the bytes taken. The replies to the lines that end within them were written, and no more.
 pub record IsReadFault (g : Given) (written : Option (List ℕ)) (texts : Option Texts) (left : Option (List ℕ)) : Type 0 where
   pub count : ℕ
   pub within : count ≤ g.limit
   pub taken : HasTaken g.bytes count left
+  pub going_on : quits (start g) (ended_lines (take count g.bytes)) ≡ false
   pub output : written ≡ Some (g.written ++ replies machine (start g) (ended_lines (take count g.bytes)))
   pub texts_stay : texts ≡ Some g.texts
 
@@ -82,9 +88,10 @@ KeepsLimit limit bytes WriteFault left = StaysWithin limit bytes left
 KeepsLimit limit bytes ShelfFault left = StaysWithin limit bytes left
 KeepsLimit limit bytes NoMemory left = StaysWithin limit bytes left
 
--- By each status: what was written, and what it says of the input. The shelf isn't asked, so it doesn't fail.
+-- By each status: what was written, and what it says of the input. After Done all of it was read, or a `quit` was answered.
+-- The shelf isn't asked, so it doesn't fail.
 abbrev pub EndsAs : Given → Status → Option (List ℕ) → Option Texts → Option (List ℕ) → Type 0
-EndsAs g Done written texts left = IsWhole g Done written texts × (left ≡ Some [])
+EndsAs g Done written texts left = IsWhole g Done written texts × ((left ≡ Some []) ⊎ (is_ended g ≡ true))
 EndsAs g BadWords written texts left = IsWhole g BadWords written texts
 EndsAs g InputLimit written texts left = IsWhole g InputLimit written texts × HasTaken g.bytes (g.limit + 1) left
 EndsAs g ReadFault written texts left = IsReadFault g written texts left

@@ -5,7 +5,7 @@ ghost use Rattle.outside.specs.Shelf.{Texts};
 ghost use Rattle.domino.specs.Whole.{are_words};
 ghost use Rattle.domino.specs.Ends.{CompletesAs, EndsAs, FitsWords, HasCause, KeepsLimit, Refuses};
 
-use crate::database::Database;
+use crate::database::{Counters, Database};
 use crate::status::{Status, status_of};
 use line_loop::{run_lines, write_all};
 use outside::{OutFail, Shelf, Sink, Source};
@@ -58,8 +58,8 @@ pub fn run<S: Source, K: Sink, F: Shelf, L: Ledger, M: Ledger>(
 ///
 /// The words are those of the program, its name first; no other word is known yet. With other words it
 /// writes `bad words` and reads nothing. Lines end with a line feed, and the last line may lack it. Each
-/// line is answered before the next read; a read asks for at most 4,096 bytes, and for none past the limit
-/// but the one that shows that there is another.
+/// line is answered before the next read, and after a `quit` nothing is read. A read asks for at most 4,096
+/// bytes, and for none past the limit but the one that shows that there is another.
 pub fn run_limited<S: Source, K: Sink, F: Shelf, L: Ledger, M: Ledger>(
     alloc: Global,
     limit: u64,
@@ -67,8 +67,8 @@ pub fn run_limited<S: Source, K: Sink, F: Shelf, L: Ledger, M: Ledger>(
     source: &mut S,
     sink: &mut K,
     shelf: &mut F,
-    _reads: &mut Steps<L>,
-    _probes: &mut Steps<M>,
+    reads: &mut Steps<L>,
+    probes: &mut Steps<M>,
 ) -> Status
     ensures words { FitsWords result (are_words (length words.now)) }
     ensures cause { HasCause result
@@ -88,7 +88,7 @@ pub fn run_limited<S: Source, K: Sink, F: Shelf, L: Ledger, M: Ledger>(
     if words.len() != 1 {
         return refuse_words(sink);
     }
-    let mut database = Database::new(alloc);
+    let mut database = Database::new(alloc, Counters { reads, probes });
     let ending = run_lines(alloc, limit, &mut database, source, sink, shelf);
     status_of(ending)
 }

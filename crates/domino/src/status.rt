@@ -7,7 +7,7 @@ use line_loop::Ending;
 /// How a run ends, and with it the program.
 #[derive(Clone, Copy, Debug, PartialEq, Eq)]
 pub enum Status {
-    /// The input was read to its end, and every reply was written.
+    /// The input was read to its end or to a `quit`, and every reply was written.
     Done,
     /// The words of the program are of none of its forms.
     BadWords,

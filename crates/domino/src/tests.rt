@@ -4,6 +4,7 @@ use super::*;
 use outside::{MemSink, MemSource, SureShelf};
 use run::run_limited;
 use std::alloc::AllocError;
+use std::process::Abort;
 use std::test::Fail;
 
 const INPUT: &[u8] =
@@ -90,48 +91,84 @@ fn with_probes<L: Ledger, M: Ledger>(
     Ok((status.code(), Vec::from_slice(alloc, sink.bytes())?))
 }
 
+// The run ends with this status, and has written this.
+fn assert_ends(
+    rt: &impl Abort,
+    alloc: Global,
+    trial: &Trial,
+    status: u8,
+    output: &[u8],
+) -> Result<(), Fail> {
+    let (found, written) = outcome(alloc, trial)?;
+    assert_eq!(rt;
+        found,
+        status,
+        "under {} in pieces of {}",
+        trial.limit, trial.cut
+    );
+    assert_eq!(rt;
+        written.as_slice(),
+        output,
+        "under {} in pieces of {}",
+        trial.limit,
+        trial.cut
+    );
+    Ok(())
+}
+
 #[test]
-fn a_question_is_answered(rt: HostRuntime) -> Result<(), Fail> {
-    let at_once: &[u8] =
-        b"class tank 9 (fuel dyn)\ninsert tank a fuel = 10 rate -0.5\nask 0 RETRIEVE o FROM tank o WHERE o.fuel <= 10\n";
-    let returns: &[u8] =
-        b"class tank 9 (fuel dyn)\r\ninsert tank a fuel = 10 rate -0.5\r\nask 30 RETRIEVE o FROM tank o WHERE o.fuel <= 4";
-    let cases: [(&[u8], &[u8]); 7] = [
+fn lines_are_answered(rt: HostRuntime) -> Result<(), Fail> {
+    let cases: [(&[u8], &[u8]); 9] = [
         (INPUT, OUTPUT),
-        (at_once, b"ok\nok\nnow a : 0..0\nok\n"),
+        (
+            b"class tank 9 (fuel dyn)\r\ninsert tank a fuel = 10 rate -0.5\r\nask 30 RETRIEVE o FROM tank o WHERE o.fuel <= 4",
+            OUTPUT,
+        ),
         (
             b"ask 1 RETRIEVE o FROM tank o WHERE o.fuel <= 4",
             b"refused 7 UnknownName\n",
         ),
-        (returns, OUTPUT),
         (b"", b""),
-        (b"\n", b"refused 4 BadSyntax\n"),
+        (b"# a comment\n\n \t\r\nlist", b"clock 0\nok\n"),
+        (b"\xff\x00\n\r", b"refused 2 NotAscii\nrefused 2 NotAscii\n"),
+        (b"tick 5\nquit\nlist\nquit\n", b"ok\nok\n"),
         (
-            b"\xff\x00\n\r",
-            b"refused 4 BadSyntax\nrefused 4 BadSyntax\n",
+            b"quit now\ntick 5\nlist\r\nquit\r\nlist",
+            b"refused 4 BadSyntax\nok\nclock 5\nok\nok\n",
         ),
+        (b"quit", b"ok\n"),
     ];
     for (input, output) in cases {
-        let (status, written) = outcome(rt.alloc(), &plain_trial(input))?;
-        assert_eq!(rt; status, 0);
-        assert_eq!(rt; written.as_slice(), output, "at {input:?}");
-    }
-    // the last line may lack its line feed, and the pieces do not matter
-    for cut in 1..51 {
-        for input in [INPUT, &INPUT[..INPUT.len() - 1]] {
-            let mut trial = plain_trial(input);
-            trial.cut = cut;
-            let (status, written) = outcome(rt.alloc(), &trial)?;
-            assert_eq!(rt; status, 0);
-            assert_eq!(rt; written.as_slice(), OUTPUT, "cut at {cut}");
-        }
+        assert_ends(&rt, rt.alloc(), &plain_trial(input), 0, output)?;
     }
     Ok(())
 }
 
 #[test]
-fn runs_end_early(rt: HostRuntime) -> Result<(), Fail> {
-    // the words
+fn pieces_do_not_matter(rt: HostRuntime) -> Result<(), Fail> {
+    for cut in 1..51 {
+        let mut trial = plain_trial(INPUT);
+        trial.cut = cut;
+        assert_ends(&rt, rt.alloc(), &trial, 0, OUTPUT)?;
+    }
+    Ok(())
+}
+
+#[test]
+fn lines_have_at_most_4096_bytes(rt: HostRuntime) -> Result<(), Fail> {
+    let comment = vec![in rt.alloc(); b'#'; 4097]?;
+    assert_ends(&rt, rt.alloc(), &plain_trial(&comment[..4096]), 0, b"")?;
+    assert_ends(
+        &rt,
+        rt.alloc(),
+        &plain_trial(&comment),
+        0,
+        b"refused 1 LineTooLong\n",
+    )
+}
+
+#[test]
+fn only_the_name_of_the_program_is_a_good_word(rt: HostRuntime) -> Result<(), Fail> {
     for (words, status, output) in [
         (0, 1, b"bad words\n".as_slice()),
         (1, 0, OUTPUT),
@@ -139,53 +176,61 @@ fn runs_end_early(rt: HostRuntime) -> Result<(), Fail> {
     ] {
         let mut trial = plain_trial(INPUT);
         trial.words = words;
-        let (found, written) = outcome(rt.alloc(), &trial)?;
-        assert_eq!(rt; found, status);
-        assert_eq!(rt; written.as_slice(), output, "with {words} words");
+        assert_ends(&rt, rt.alloc(), &trial, status, output)?;
     }
-    // the limit: an unfinished line has no reply
-    for (limit, status, output) in [
-        (0, 7, b"".as_slice()),
-        (23, 7, b""),
-        (24, 7, b"ok\n"),
-        (INPUT.len() as u64 - 1, 7, b"ok\nok\n"),
-        (INPUT.len() as u64, 0, OUTPUT),
-    ] {
-        let mut trial = plain_trial(INPUT);
+    Ok(())
+}
+
+// A line that didn't end within the limit has no reply.
+#[test]
+fn bytes_past_the_limit_end_a_run(rt: HostRuntime) -> Result<(), Fail> {
+    let cases: [(u64, &[u8], u8, &[u8]); 7] = [
+        (0, INPUT, 7, b""),
+        (23, INPUT, 7, b""),
+        (24, INPUT, 7, b"ok\n"),
+        (INPUT.len() as u64 - 1, INPUT, 7, b"ok\nok\n"),
+        (INPUT.len() as u64, INPUT, 0, OUTPUT),
+        (4, b"quit\nlist\n", 7, b""),
+        (5, b"quit\nlist\n", 0, b"ok\n"),
+    ];
+    for (limit, input, status, output) in cases {
+        let mut trial = plain_trial(input);
         trial.limit = limit;
-        let (found, written) = outcome(rt.alloc(), &trial)?;
-        assert_eq!(rt; found, status);
-        assert_eq!(rt; written.as_slice(), output, "under {limit}");
+        assert_ends(&rt, rt.alloc(), &trial, status, output)?;
     }
-    // reads of 40 bytes: the second read ends the second line
-    for (read, output) in [
-        (1, b"".as_slice()),
-        (2, b"ok\n"),
-        (3, b"ok\nok\n"),
-        (4, OUTPUT),
-    ] {
-        let mut trial = plain_trial(INPUT);
+    Ok(())
+}
+
+// Reads of 40 bytes: the second one ends the second line.
+#[test]
+fn failing_reads_end_a_run(rt: HostRuntime) -> Result<(), Fail> {
+    let cases: [(u64, &[u8], u8, &[u8]); 5] = [
+        (1, INPUT, 3, b""),
+        (2, INPUT, 3, b"ok\n"),
+        (3, INPUT, 3, b"ok\nok\n"),
+        (4, INPUT, 3, OUTPUT),
+        (2, b"quit\n", 0, b"ok\n"),
+    ];
+    for (read, input, status, output) in cases {
+        let mut trial = plain_trial(input);
         trial.cut = 40;
         let reads = [read];
         trial.reads = &reads;
-        let (found, written) = outcome(rt.alloc(), &trial)?;
-        assert_eq!(rt; found, 3);
-        assert_eq!(rt; written.as_slice(), output, "read {read}");
+        assert_ends(&rt, rt.alloc(), &trial, status, output)?;
     }
-    // writes of 2 bytes: `ok` and then a line feed
-    for (write, output) in [
-        (1, b"".as_slice()),
-        (2, b"ok"),
-        (3, b"ok\n"),
-        (4, b"ok\nok"),
-    ] {
+    Ok(())
+}
+
+// Writes of 2 bytes: `ok`, and then a line feed.
+#[test]
+fn failing_writes_end_a_run(rt: HostRuntime) -> Result<(), Fail> {
+    let cases: [(u64, &[u8]); 4] = [(1, b""), (2, b"ok"), (3, b"ok\n"), (4, b"ok\nok")];
+    for (write, output) in cases {
         let mut trial = plain_trial(INPUT);
         trial.cut = 2;
         let writes = [write];
         trial.writes = &writes;
-        let (found, written) = outcome(rt.alloc(), &trial)?;
-        assert_eq!(rt; found, 4);
-        assert_eq!(rt; written.as_slice(), output, "write {write}");
+        assert_ends(&rt, rt.alloc(), &trial, 4, output)?;
     }
     Ok(())
 }

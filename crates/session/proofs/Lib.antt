@@ -1,11 +1,9 @@
-pub mod Accepted
-pub mod AnswerLemmas
+pub mod AttemptLemmas
 pub mod Begins
-pub mod ChangeLemmas
-pub mod Digits
-pub mod Journal
-pub mod Lines
-pub mod Objects
+pub mod CarryLemmas
+pub mod FindingLemmas
+pub mod KeepLemmas
+pub mod ListLemmas
 pub mod Pairs
+pub mod ReadyLemmas
 pub mod RowLemmas
-pub mod StepLemmas

@@ -1,65 +1,127 @@
--- The first fault of a line: the first of the conditions that holds, in the order of their numbers.
-use Rattle.std.specs.Prelude.{ℕ, ℤ, Bool, true, false, ◌||◌, not, nat_le, nat_lt, unsigned_abs, Option, None, Some, List, [], ◌∷◌, length, is_none, if◌then◌else◌}
+-- Why a command that was read is refused: the first of these conditions that holds, in the order of the refusals.
+use Rattle.std.specs.Prelude.{ℕ, ◌+◌, ◌==◌, Bool, true, false, ◌||◌, ◌&&◌, not, nat_le, nat_lt, is_some, is_none, Option, None, Some, option_map, option_and_then, List, [], ◌∷◌, map, length, if◌then◌else◌}
 use Rattle.std.specs.List.{position}
-use Rattle.std.specs.Option.{option_and_then, option_map_or}
+use Rattle.std.specs.Option.{option_map_or}
 use Rattle.std.specs.Str.{bytes_eq}
-use Rattle.tick_set.specs.Ticks.{within}
-use Rattle.motion.specs.declared.vector.TheConstants.{GIVEN_LIMIT}
-use Rattle.history.specs.Catalog.{Catalog, ClassInfo, class_of, has_object, names}
-use Rattle.session.specs.declared.reader.Line.{Line}
-use Rattle.session.specs.declared.reader.Line.TheVariants as lines
-use Rattle.session.specs.declared.refusal.Refusal.{Refusal}
-use Rattle.session.specs.declared.refusal.Refusal.TheVariants as refusals
+use Rattle.fixed_point.specs.declared.number.Point.{Point}
+use Rattle.tick_set.specs.declared.spans.TheConstants.{LAST_TICK}
+use Rattle.motion.specs.declared.cell.AttrKind.{AttrKind}
+use Rattle.motion.specs.declared.cell.AttrKind.TheVariants as kinds
+use Rattle.motion.specs.declared.cell.Place.{Place}
+use Rattle.motion.specs.declared.cell.NamedSet.{NamedSet}
+use Rattle.geometry.specs.Region.{Region, region_number}
+use Rattle.geometry.specs.Polygon.{is_convex}
+use Rattle.polygon.specs.declared.named.TheConstants.{REGION_LIMIT}
+use Rattle.history.specs.Catalog.{Catalog, class_of, attributes_in}
+use Rattle.object_store.specs.declared.fault.StoreFault.{StoreFault}
+use Rattle.object_store.specs.declared.fault.StoreFault.TheVariants as store_faults
+use Rattle.object_store.specs.Faults.{attribute_named, class_fault, insert_fault, update_fault, remove_fault}
+use Rattle.command_text.specs.declared.refusal.Refusal.{Refusal}
+use Rattle.command_text.specs.declared.refusal.Refusal.TheVariants as refusals
+use Rattle.command_text.specs.declared.journal.TheConstants.{MOST_ENTRIES, MOST_BYTES}
+use Rattle.command_text.specs.Line.{first_that_holds, or_else}
+use Rattle.command_text.specs.Text.{text_of}
+use Rattle.command_text.specs.Tree
+use Rattle.command_text.specs.Tree.{CommandTree}
+use Rattle.ftl_parser.specs.Tree.{QueryTree}
+use Rattle.session.specs.declared.question.Question.{Question}
+use Rattle.session.specs.declared.question.TheConstants.{SPAN_LIMIT}
+use Rattle.session.specs.History.{attribute_of}
+use Rattle.session.specs.Question.{question_of}
 
--- the place of an attribute among those of its class
-abbrev pub attribute_place : Catalog → List ℕ → List ℕ → Option ℕ
-attribute_place c class attribute =
-    option_and_then (λ k. position (λ a. bytes_eq attribute a.name) k.attributes) (class_of c class)
+-- a command or a form of query that isn't built yet
+abbrev pub is_gap : CommandTree → Bool
+is_gap (Tree.Ask span q) = is_none (question_of q)
+is_gap (Tree.Watch name span q) = true
+is_gap (Tree.Keep name span q) = true
+is_gap (Tree.Show name) = true
+is_gap (Tree.Drop name) = true
+is_gap (Tree.Save file) = true
+is_gap (Tree.Import class file) = true
+is_gap (Tree.Export class file) = true
+is_gap (Tree.Nearest span k object class) = true
+is_gap (Tree.Must error span q) = true
+is_gap (Tree.May error span q) = true
+is_gap (Tree.Index class attribute width) = true
+is_gap (Tree.Range span class attribute least greatest) = true
+is_gap _ = false
 
-abbrev pub is_full : Catalog → List ℕ → Bool
-is_full c class = option_map_or (λ k. nat_le k.capacity (length (names c class))) (class_of c class) false
+-- the refusal of a fault of the store
+abbrev pub refusal_of : StoreFault → Option Refusal
+refusal_of store_faults.UnknownName = Some refusals.UnknownName
+refusal_of store_faults.NameTaken = Some refusals.NameTaken
+refusal_of store_faults.WrongKind = Some refusals.WrongKind
+refusal_of store_faults.Presence = Some refusals.Presence
+refusal_of store_faults.ClassFull = Some refusals.ClassFull
+refusal_of store_faults.StoreFull = Some refusals.StoreFull
+refusal_of store_faults.NoMemory = None
 
-abbrev pub has_classes : List ClassInfo → Bool
-has_classes [] = false
-has_classes (k ∷ ks) = true
+abbrev pub region_refusal : List Region → List ℕ → List Point → Option Refusal
+region_refusal regions name points = first_that_holds (
+    (refusals.NameTaken, is_some (region_number regions name))
+    ∷ (refusals.NotConvex, not (is_convex points))
+    ∷ (refusals.StoreFull, nat_le REGION_LIMIT (length regions))
+    ∷ [])
 
--- BadSyntax, of a line that has one of the forms: a second class, a name that was inserted already, or one more than the capacity
-abbrev pub is_misplaced : Catalog → Line → Bool
-is_misplaced c (lines.Class name capacity attribute) = has_classes c.classes
-is_misplaced c (lines.Insert class name attribute value slope) = has_object c name || is_full c class
-is_misplaced c (lines.Ask span target class variable subject attribute number) = false
+abbrev pub tick_refusal : ℕ → ℕ → Option Refusal
+tick_refusal now ticks = first_that_holds ((refusals.ClockEnd, nat_lt LAST_TICK (now + ticks)) ∷ [])
 
--- a whole number isn't from lo to hi
-abbrev pub is_outside : ℕ → ℕ → Option ℕ → Bool
-is_outside lo hi None = true
-is_outside lo hi (Some n) = not (within lo hi n)
+-- the kind of the attribute of which a question asks, where its class is known
+abbrev pub kind_asked : Catalog → Question → Option AttrKind
+kind_asked c q = option_map (λ a. a.kind) (attribute_named (attributes_in (class_of c q.class)) q.asked.attribute)
 
--- a number isn't within 10^12 thousandths
-abbrev pub is_far : Option ℤ → Bool
-is_far None = true
-is_far (Some n) = nat_lt GIVEN_LIMIT (unsigned_abs n)
+abbrev pub is_text : AttrKind → Bool
+is_text kinds.Num = false
+is_text kinds.Text = true
+is_text kinds.Dyn = false
 
--- NumberRange: a number is out of the range of its place
-abbrev pub is_out_of_range : Line → Bool
-is_out_of_range (lines.Class name capacity attribute) = is_outside 1 100000 capacity
-is_out_of_range (lines.Insert class name attribute value slope) = is_far value || is_none slope
-is_out_of_range (lines.Ask span target class variable subject attribute number) = is_outside 0 1000000 span || is_far number
+-- the target and the subject are the variable, and its class has the attribute
+abbrev pub names_unknown : Catalog → Question → Bool
+names_unknown c q = not (bytes_eq q.target q.variable) || not (bytes_eq q.asked.subject q.variable) || is_none (kind_asked c q)
 
--- UnknownName: a class or an attribute isn't there, or a name isn't that of the variable
-abbrev pub is_unknown : Catalog → Line → Bool
-is_unknown c (lines.Class name capacity attribute) = false
-is_unknown c (lines.Insert class name attribute value slope) = is_none (attribute_place c class attribute)
-is_unknown c (lines.Ask span target class variable subject attribute number) =
-    is_none (attribute_place c class attribute) || not (bytes_eq target variable) || not (bytes_eq subject variable)
+-- from now to the expiry are at most 100,000,000 ticks, and the clock reaches it
+abbrev pub is_past_span : ℕ → ℕ → Bool
+is_past_span now span = nat_lt SPAN_LIMIT span || nat_lt LAST_TICK (now + span)
 
-abbrev pub line_fault : Catalog → Line → Option Refusal
-line_fault c line =
-    if is_misplaced c line then Some refusals.BadSyntax
-    else if is_out_of_range line then Some refusals.NumberRange
-    else if is_unknown c line then Some refusals.UnknownName
-    else None
+abbrev pub question_refusal : Catalog → ℕ → ℕ → Question → Option Refusal
+question_refusal c now span q = first_that_holds (
+    (refusals.UnknownName, names_unknown c q)
+    ∷ (refusals.WrongKind, option_map_or is_text (kind_asked c q) false)
+    ∷ (refusals.SpanRange, is_past_span now span)
+    ∷ [])
 
--- a line that has none of the forms is BadSyntax
-abbrev pub fault : Catalog → Option Line → Option Refusal
-fault c None = Some refusals.BadSyntax
-fault c (Some line) = line_fault c line
+-- the refusals 7 to 16 of a command, by the classes and names, the regions, the objects that are present and the clock
+abbrev pub fault_among : Catalog → List Region → (List ℕ → Bool) → ℕ → CommandTree → Option Refusal
+fault_among c regions present now (Tree.Class name capacity point attributes) =
+    option_and_then refusal_of (class_fault c name point (map attribute_of attributes))
+fault_among c regions present now (Tree.Region name points) = region_refusal regions name points
+fault_among c regions present now (Tree.Insert class name place sets) =
+    option_and_then refusal_of (insert_fault c (present name) class name place sets)
+fault_among c regions present now (Tree.Update name place sets) =
+    option_and_then refusal_of (update_fault c (present name) name place sets)
+fault_among c regions present now (Tree.Remove name) = option_and_then refusal_of (remove_fault c (present name) name)
+fault_among c regions present now (Tree.Tick ticks) = tick_refusal now ticks
+fault_among c regions present now (Tree.Ask span q) = option_and_then (question_refusal c now span) (question_of q)
+fault_among c regions present now _ = None
+
+-- a command that the journal keeps
+abbrev pub is_kept : CommandTree → Bool
+is_kept (Tree.Class name capacity point attributes) = true
+is_kept (Tree.Region name points) = true
+is_kept (Tree.Insert class name place sets) = true
+is_kept (Tree.Update name place sets) = true
+is_kept (Tree.Remove name) = true
+is_kept (Tree.Tick ticks) = true
+is_kept _ = false
+
+-- one more entry of so many bytes passes the limits of a journal of so many entries and bytes
+abbrev pub passes_limits : ℕ → ℕ → ℕ → Bool
+passes_limits entries bytes line = nat_le MOST_ENTRIES entries || nat_lt MOST_BYTES (bytes + line + 1)
+
+abbrev pub journal_refusal : ℕ → ℕ → CommandTree → Option Refusal
+journal_refusal entries bytes c =
+    first_that_holds ((refusals.JournalFull, is_kept c && passes_limits entries bytes (length (text_of c))) ∷ [])
+
+-- the first refusal of a command that was read
+abbrev pub fault_behind : Bool → Option Refusal → Option Refusal → Option Refusal
+fault_behind gap fault full = if gap then Some refusals.BadSyntax else or_else fault full

@@ -1,9 +1,9 @@
 -- The text of replies.
-use Rattle.std.specs.Prelude.{◌≡◌, ℕ, take, length, nat_le, nat_lt, ◌&&◌, List, [], ◌∷◌, ◌++◌, codes, decimal, if◌then◌else◌}
+use Rattle.std.specs.Prelude.{◌≡◌, ℕ, take, length, nat_le, nat_lt, ◌&&◌, List, [], ◌∷◌, ◌++◌, map, codes, decimal, if◌then◌else◌}
 use Rattle.std.specs.List.{list_any, flat_map}
+use Rattle.geometry.specs.Region.{Region}
+use Rattle.history.specs.Catalog.{Catalog, ClassInfo, names}
 use Rattle.meaning.specs.Answer.{Row}
-use Rattle.session.specs.declared.refusal.Refusal.{Refusal}
-use Rattle.session.specs.declared.refusal.Refusal.TheVariants as refusals
 
 abbrev pub line_feed : List ℕ
 line_feed = 10 ∷ []
@@ -11,17 +11,6 @@ line_feed = 10 ∷ []
 -- the end of an accepted line's reply
 abbrev pub ok_line : List ℕ
 ok_line = codes "ok" ++ line_feed
-
-abbrev pub refusal_number : Refusal → ℕ
-refusal_number refusals.BadSyntax = 4
-refusal_number refusals.NumberRange = 5
-refusal_number refusals.UnknownName = 7
-
--- `refused n Name`
-abbrev pub refusal_text : Refusal → List ℕ
-refusal_text refusals.BadSyntax = codes "refused 4 BadSyntax"
-refusal_text refusals.NumberRange = codes "refused 5 NumberRange"
-refusal_text refusals.UnknownName = codes "refused 7 UnknownName"
 
 -- ` lo..hi`, with the space before it
 abbrev pub run_text : ℕ × ℕ → List ℕ
@@ -40,6 +29,25 @@ row_line now row = time_word now row.runs ++ codes " " ++ row.name ++ codes " :"
 
 abbrev pub rows_text : ℕ → List Row → List ℕ
 rows_text now rows = flat_map (row_line now) rows
+
+-- `clock 7`
+abbrev pub clock_line : ℕ → List ℕ
+clock_line now = codes "clock " ++ decimal now ++ line_feed
+
+-- a word, a name, and a number behind it
+abbrev pub counted : List ℕ → List ℕ → ℕ → List ℕ
+counted word name number = word ++ name ++ codes " " ++ decimal number
+
+-- `class car 2/100`: how many names it ever had, and how many it may have
+abbrev pub class_line : Catalog → ClassInfo → List ℕ
+class_line c k = counted (codes "class ") k.name (length (names c k.name)) ++ codes "/" ++ decimal k.capacity ++ line_feed
+
+-- `region P 4`: how many points it has
+abbrev pub region_line : Region → List ℕ
+region_line r = counted (codes "region ") r.name (length r.points) ++ line_feed
+
+abbrev pub listing : ℕ → Catalog → List Region → List ℕ
+listing now c regions = clock_line now ++ flat_map (class_line c) c.classes ++ flat_map region_line regions
 
 -- what was there still stands in front
 abbrev pub Begins : List ℕ → List ℕ → Type 0

@@ -1,128 +1,149 @@
-//! What an accepted line does.
-ghost use Rattle.std.specs.Prelude.{◌≡◌, ◌++◌, ◌==◌, ◌≤◌, ◌∷◌, None, [], unsigned_abs, IsTrue, OnOk, OnErr};
-ghost use Rattle.std.specs.List.{list_all};
-ghost use Rattle.std.specs.Map.{lookup};
-ghost use Rattle.std.specs.Str.{bytes_eq};
-ghost use Rattle.motion.specs.declared.vector.TheConstants.{GIVEN_LIMIT};
-ghost use Rattle.motion.specs.Dynamic.{begun};
+//! Changes of the database, and how they are taken back.
+ghost use Rattle.std.specs.Prelude.{◌≡◌, ◌<◌, ◌≤◌, true, false, is_some, length, MatchResult};
 ghost use Rattle.tick_set.specs.declared.spans.TheConstants.{LAST_TICK};
-ghost use Rattle.session.specs.Change.{kept_class, kept_objects, kept_reply, steady};
-ghost use Rattle.session.specs.Fault.{line_fault};
-ghost use Rattle.session.specs.Kept.{is_kept, kept_catalog};
-ghost use Rattle.session.specs.Reply.{Begins, ok_line};
-ghost use Rattle.session.specs.Rows.{kept_lines};
+ghost use Rattle.geometry.specs.Polygon.{is_convex};
+ghost use Rattle.geometry.specs.Region.{region_number};
+ghost use Rattle.polygon.specs.declared.fault.TheConstants.{LEAST_POINTS, MOST_POINTS};
+ghost use Rattle.command_text.specs.Tree as Tree;
+ghost use Rattle.command_text.specs.Tree.{command_view};
+ghost use Rattle.session.specs.Fault.{is_kept};
+ghost use Rattle.session.specs.Attempt.{Attempts, IsFlat};
+ghost use Rattle.session.specs.Ready.{IsReady};
+ghost use Rattle.session.specs.Taking.{IsLast, without};
 
-use crate::class::OnlyClass;
-use crate::fault::Objects;
-use crate::reader::Line;
-use crate::rows::push_rows;
-use fixed_point::{Fix, Slope, Word};
-use motion::{Legs, Vector};
-use std::alloc::{AllocError, Global};
-use tick_set::Window;
+use crate::database::Database;
+use crate::objects;
+use crate::stop::Stop;
+use command_text::{Command, Refusal};
+use fixed_point::{Point, Word};
+use object_store::Undo;
+use polygon::{Polygon, PolygonFault, REGION_LIMIT};
+use std::alloc::Global;
+use tick_set::LAST_TICK;
 
-const OK_LINE: &[u8] = b"ok\n";
-
-/// Enters an accepted line and writes its reply. After an error nothing has changed.
-pub fn enter(
-    alloc: Global,
-    class: &mut Option<OnlyClass>,
-    objects: &mut Objects,
-    line: &Line,
-    out: &mut Vec<u8>,
-) -> Result<(), AllocError>
-    requires kept { IsTrue (is_kept class.old objects.old.entries) }
-    requires accepted { line_fault (kept_catalog class.old objects.old.entries) line.now ≡ None }
-    ensures class { OnOk result (class.new ≡ kept_class class.old line.now) }
-    ensures objects { OnOk result (objects.new.entries ≡ kept_objects objects.old.entries line.now) }
-    ensures reply { OnOk result (out.new.items ≡ out.old.items ++ (kept_reply objects.old.entries line.now ++ ok_line)) }
-    ensures err { OnErr result ((class.new ≡ class.old)
-        × (objects.new.entries ≡ objects.old.entries) × (out.new.items ≡ out.old.items)) }
-{
-    let before = out.len();
-    let done = enter_line(alloc, class, objects, line, out);
-    if done.is_err() {
-        out.truncate(before);
-    }
-    done
+/// What a command changed.
+#[derive(Drop)]
+pub(crate) enum Change {
+    /// A class was made.
+    Class,
+    /// A region was made.
+    Region,
+    /// An object was written.
+    Object(Undo),
+    /// The clock moved by so many ticks.
+    Clock(u32),
 }
 
-/// Enters an accepted line and writes its reply. After an error the class and the objects are as before,
-/// and what was written before still stands in front.
-fn enter_line(
-    alloc: Global,
-    class: &mut Option<OnlyClass>,
-    objects: &mut Objects,
-    line: &Line,
-    out: &mut Vec<u8>,
-) -> Result<(), AllocError>
-    requires kept { IsTrue (is_kept class.old objects.old.entries) }
-    requires accepted { line_fault (kept_catalog class.old objects.old.entries) line.now ≡ None }
-    ensures class { OnOk result (class.new ≡ kept_class class.old line.now) }
-    ensures objects { OnOk result (objects.new.entries ≡ kept_objects objects.old.entries line.now) }
-    ensures reply { OnOk result (out.new.items ≡ out.old.items ++ (kept_reply objects.old.entries line.now ++ ok_line)) }
-    ensures err { OnErr result ((class.new ≡ class.old) × (objects.new.entries ≡ objects.old.entries)) }
-    ensures begins { Begins out.old.items out.new.items }
+/// The polygon of these points.
+fn polygon(alloc: Global, points: &[Point]) -> Result<Polygon, Stop>
+    requires least { LEAST_POINTS ≤ length points.now }
+    requires most { length points.now ≤ MOST_POINTS }
+    ensures { MatchResult result (λ p. (p ≡ points.now) × (is_convex points.now ≡ true)) (IsFlat points.now) }
 {
-    match line {
-        Line::Class {
-            name,
-            capacity: Some(capacity),
-            attribute,
-        } => {
-            out.extend_from_slice(OK_LINE)?;
-            *class = Some(OnlyClass {
-                name: *name,
-                capacity: *capacity,
-                attribute: *attribute,
-            });
-            Ok(())
-        }
-        Line::Insert {
-            name,
-            value: Some(value),
-            slope: Some(slope),
-            ..
-        } => {
-            out.extend_from_slice(OK_LINE)?;
-            insert(objects, name, *value, *slope)
-        }
-        Line::Ask {
-            span: Some(span),
-            number: Some(number),
-            ..
-        } => ask(alloc, objects, *span, *number, out),
-        _ => Ok(()),
+    match Polygon::new(alloc, points) {
+        Ok(polygon) => Ok(polygon),
+        Err(PolygonFault::NoMemory) => Err(Stop::NoMemory),
+        Err(_) => Err(Stop::Refused(Refusal::NotConvex)),
     }
 }
 
-/// Inserts an object by a new name, at the tick 0. After an error the objects are as before.
-fn insert(objects: &mut Objects, name: &Word, value: Fix, slope: Slope) -> Result<(), AllocError>
-    requires new { lookup (bytes_eq name.now) objects.old.entries ≡ None }
-    requires given { unsigned_abs value ≤ GIVEN_LIMIT }
-    ensures ok { OnOk result (objects.new.entries ≡ objects.old.entries
-        ++ (name.now, begun 0 value (steady slope)) ∷ []) }
-    ensures err { OnErr result (objects.new.entries ≡ objects.old.entries) }
+/// Adds a region of a new name. A refusal and want of memory change nothing.
+fn add_region(database: &mut Database, name: Word, polygon: Polygon) -> Result<Change, Stop>
+    requires new { is_some (region_number database.old.regions name) ≡ false }
+    requires convex { is_convex polygon ≡ true }
+    requires clock { database.old.store.last_tick ≤ database.old.clock }
+    requires in_range { database.old.clock ≤ LAST_TICK }
+    ensures { Attempts (Tree.Region name polygon) database.old database.new result }
 {
-    let vector = Vector::begun(0, value, Legs::steady(slope));
-    objects.insert(*name, vector)?;
-    Ok(())
+    if database.regions.count() >= REGION_LIMIT {
+        drop(polygon);
+        return Err(Stop::Refused(Refusal::StoreFull));
+    }
+    match database.regions.add(name, polygon) {
+        Ok(()) => Ok(Change::Region),
+        Err(_) => Err(Stop::NoMemory),
+    }
 }
 
-/// Writes the rows of the objects that are at most a number at some tick from 0 to `span`, and `ok`.
-fn ask(
+/// Makes a region. A refusal and want of memory change nothing.
+fn region(
     alloc: Global,
-    objects: &Objects,
-    span: u32,
-    number: Fix,
-    out: &mut Vec<u8>,
-) -> Result<(), AllocError>
-    requires span { span ≤ LAST_TICK }
-    requires start { IsTrue (list_all (λ e. e.1.updatetime == 0) objects.now.entries) }
-    ensures ok { OnOk result (out.new.items ≡ out.old.items ++ (kept_lines number 0 span objects.now.entries ++ ok_line)) }
-    ensures begins { Begins out.old.items out.new.items }
+    database: &mut Database,
+    name: Word,
+    points: &[Point],
+) -> Result<Change, Stop>
+    requires ready { IsReady (Tree.Region name points.now) }
+    requires clock { database.old.store.last_tick ≤ database.old.clock }
+    requires in_range { database.old.clock ≤ LAST_TICK }
+    ensures { Attempts (Tree.Region name points.now) database.old database.new result }
 {
-    push_rows(alloc, objects, number, Window { lo: 0, hi: span }, out)?;
-    out.extend_from_slice(OK_LINE)?;
-    Ok(())
+    if database.regions.number_of(&name).is_some() {
+        return Err(Stop::Refused(Refusal::NameTaken));
+    }
+    match polygon(alloc, points) {
+        Ok(polygon) => add_region(database, name, polygon),
+        Err(stop) => Err(stop),
+    }
+}
+
+/// Moves the clock. A refusal changes nothing.
+fn tick(database: &mut Database, ticks: u32) -> Result<Change, Stop>
+    requires ready { ticks ≤ LAST_TICK }
+    requires clock { database.old.store.last_tick ≤ database.old.clock }
+    requires in_range { database.old.clock ≤ LAST_TICK }
+    ensures { Attempts (Tree.Tick ticks) database.old database.new result }
+{
+    if database.clock + ticks > LAST_TICK {
+        return Err(Stop::Refused(Refusal::ClockEnd));
+    }
+    database.clock += ticks;
+    Ok(Change::Clock(ticks))
+}
+
+/// Carries out a command that the journal keeps. A refusal and want of memory change nothing.
+pub(crate) fn attempt(
+    alloc: Global,
+    database: &mut Database,
+    command: &Command,
+) -> Result<Change, Stop>
+    requires kept { is_kept (command_view command.now) ≡ true }
+    requires ready { IsReady (command_view command.now) }
+    requires clock { database.old.store.last_tick ≤ database.old.clock }
+    requires in_range { database.old.clock ≤ LAST_TICK }
+    ensures { Attempts (command_view command.now) database.old database.new result }
+{
+    match command {
+        Command::Class {
+            name,
+            capacity,
+            point,
+            attrs,
+        } => objects::class(alloc, database, *name, *capacity, *point, attrs),
+        Command::Region { name, points } => region(alloc, database, *name, points.items()),
+        Command::Insert {
+            class,
+            name,
+            place,
+            sets,
+        } => objects::insert(database, class, name, place, sets.items()),
+        Command::Update { name, place, sets } => {
+            objects::update(database, name, place, sets.items())
+        }
+        Command::Remove { name } => objects::remove(database, name),
+        Command::Tick { ticks } => tick(database, *ticks),
+        _ => Err(Stop::NoMemory),
+    }
+}
+
+/// Takes the last change back. It takes no memory.
+pub(crate) fn take_back(database: &mut Database, change: Change)
+    requires { IsLast change database.old }
+    ensures { database.new ≡ without change database.old }
+{
+    match change {
+        Change::Class => database.store.remove_last_class(),
+        Change::Region => database.regions.remove_last(),
+        Change::Object(undo) => database.store.revert(undo),
+        Change::Clock(ticks) => database.clock -= ticks,
+    }
 }

@@ -1,124 +1,142 @@
-//! The first fault of a line that has one of the forms.
-ghost use Rattle.std.specs.Prelude.{◌≡◌, ℕ, List, is_some};
-ghost use Rattle.motion.specs.Dynamic.{Dynamic};
-ghost use Rattle.history.specs.Catalog.{has_object};
-ghost use Rattle.session.specs.Fault.{attribute_place, is_far, is_full, is_misplaced, is_out_of_range, is_outside, is_unknown, line_fault};
-ghost use Rattle.session.specs.Kept.{kept_catalog};
+//! The refusals of a command that was read.
+ghost use Rattle.std.specs.Prelude.{◌≡◌, ◌+◌, ◌≤◌, ◌||◌, not, nat_le, nat_lt, is_none, length};
+ghost use Rattle.std.specs.Str.{bytes_eq};
+ghost use Rattle.tick_set.specs.declared.spans.TheConstants.{LAST_TICK};
+ghost use Rattle.command_text.specs.declared.journal.TheConstants.{MOST_BYTES};
+ghost use Rattle.command_text.specs.Journal.{bytes_of};
+ghost use Rattle.session.specs.Finding.{found, placed};
+ghost use Rattle.object_store.specs.Contents.{catalog_of};
+ghost use Rattle.command_text.specs.Tree.{command_view};
+ghost use Rattle.session.specs.Fault.{is_gap, is_kept, is_past_span, kind_asked, passes_limits, question_refusal};
 
-use crate::class::OnlyClass;
-use crate::reader::Line;
-use crate::refusal::Refusal;
-use fixed_point::{Fix, Word};
-use indexmap::IndexMap;
-use motion::{GIVEN_LIMIT, Vector};
+use crate::question::{Question, SPAN_LIMIT, read_question};
+use command_text::{Command, Journal, MOST_BYTES, MOST_ENTRIES, Refusal};
+use fixed_point::Word;
+use motion::AttrKind;
+use object_store::{Class, ClassId, Store};
+use tick_set::LAST_TICK;
 
-pub type Objects = IndexMap<Word, Vector>;
-
-/// The first fault of the line, None where it is accepted.
-pub fn line_fault(class: &Option<OnlyClass>, objects: &Objects, line: &Line) -> Option<Refusal>
-    ensures { result ≡ line_fault (kept_catalog class.now objects.now.entries) line.now }
+/// Whether a command, or the form of its query, isn't built yet.
+pub(crate) fn is_gap(command: &Command) -> bool
+    ensures { result ≡ is_gap (command_view command.now) }
 {
-    if is_misplaced(class, objects, line) {
-        Some(Refusal::BadSyntax)
-    } else if is_out_of_range(line) {
-        Some(Refusal::NumberRange)
-    } else if is_unknown(class, line) {
+    match command {
+        Command::Nothing | Command::List | Command::Quit => false,
+        Command::Ask { query, .. } => read_question(query).is_none(),
+        _ => !is_kept(command),
+    }
+}
+
+/// Whether the journal keeps a command.
+pub(crate) fn is_kept(command: &Command) -> bool
+    ensures { result ≡ is_kept (command_view command.now) }
+{
+    match command {
+        Command::Class { .. } | Command::Region { .. } | Command::Insert { .. } => true,
+        Command::Update { .. } | Command::Remove { .. } | Command::Tick { .. } => true,
+        _ => false,
+    }
+}
+
+/// Whether one more entry, whose canonical line has so many bytes, passes the limits of a journal.
+pub(crate) fn is_full(journal: &Journal, line: usize) -> bool
+    requires { line ≤ 16384 }
+    ensures { result ≡ passes_limits (length journal.now) (bytes_of journal.now) line }
+{
+    passes(
+        journal.len(),
+        journal.bytes(),
+        line,
+        MOST_ENTRIES,
+        MOST_BYTES,
+    )
+}
+
+/// Whether one more entry passes these limits of entries and bytes.
+pub(crate) fn passes(
+    entries: usize,
+    bytes: u64,
+    line: usize,
+    most_entries: usize,
+    most_bytes: u64,
+) -> bool
+    requires few { line ≤ 16384 }
+    requires short { bytes ≤ MOST_BYTES }
+    ensures { result ≡ (nat_le most_entries entries || nat_lt most_bytes (bytes + line + 1)) }
+{
+    entries >= most_entries || bytes + line as u64 + 1 > most_bytes
+}
+
+/// The place and the kind of an attribute of a class.
+fn placed(name: &Word, class: &Class) -> Option<(usize, AttrKind)>
+    ensures { result ≡ placed name.now class.now }
+{
+    let place = class.attr_of(name)?;
+    let attribute = class.attrs().get(place)?;
+    Some((place, attribute.kind))
+}
+
+/// The number of the class of a question, the place of its attribute and its kind. None where one of them
+/// isn't known.
+pub(crate) fn found(store: &Store, question: &Question) -> Option<(ClassId, (usize, AttrKind))>
+    ensures { result ≡ found store.now.classes question.now }
+{
+    let schema = store.schema();
+    let number = schema.class_of(&question.class)?;
+    let class = schema.class(number)?;
+    let attribute = placed(&question.asked.attribute, class)?;
+    Some((number, attribute))
+}
+
+/// The kind of the attribute that is asked.
+#[tactic(auto, using(crate::proofs::FindingLemmas::kind_steps))]
+fn kind_asked(store: &Store, question: &Question) -> Option<AttrKind>
+    ensures { result ≡ kind_asked (catalog_of store.now) question.now }
+{
+    match found(store, question) {
+        Some((_, (_, kind))) => Some(kind),
+        None => None,
+    }
+}
+
+/// Whether the target or the subject isn't the variable, or the attribute isn't known.
+fn names_unknown(question: &Question, kind: Option<AttrKind>) -> bool
+    ensures { result ≡ (not (bytes_eq question.now.target question.now.variable)
+        || not (bytes_eq question.now.asked.subject question.now.variable) || is_none kind) }
+{
+    question.target != question.variable
+        || question.asked.subject != question.variable
+        || kind.is_none()
+}
+
+/// Whether a span is too long, or reaches past the last tick.
+fn is_past_span(now: u32, span: u32) -> bool
+    requires now { now ≤ LAST_TICK }
+    requires span { span ≤ LAST_TICK }
+    ensures { result ≡ is_past_span now span }
+{
+    span > SPAN_LIMIT || now + span > LAST_TICK
+}
+
+/// The first refusal of a question.
+pub(crate) fn question_refusal(
+    store: &Store,
+    now: u32,
+    span: u32,
+    question: &Question,
+) -> Option<Refusal>
+    requires now { now ≤ LAST_TICK }
+    requires span { span ≤ LAST_TICK }
+    ensures { result ≡ question_refusal (catalog_of store.now) now span question.now }
+{
+    let kind = kind_asked(store, question);
+    if names_unknown(question, kind) {
         Some(Refusal::UnknownName)
+    } else if kind == Some(AttrKind::Text) {
+        Some(Refusal::WrongKind)
+    } else if is_past_span(now, span) {
+        Some(Refusal::SpanRange)
     } else {
         None
-    }
-}
-
-fn is_misplaced(class: &Option<OnlyClass>, objects: &Objects, line: &Line) -> bool
-    ensures { result ≡ is_misplaced (kept_catalog class.now objects.now.entries) line.now }
-{
-    match line {
-        Line::Class { .. } => class.is_some(),
-        Line::Insert {
-            class: of,
-            name,
-            ..
-        } => has_object(class, objects, name) || is_full(class, objects, of),
-        Line::Ask { .. } => false,
-    }
-}
-
-fn has_object(class: &Option<OnlyClass>, objects: &Objects, name: &Word) -> bool
-    ensures { result ≡ has_object (kept_catalog class.now objects.now.entries) name.now }
-{
-    match class {
-        Some(_) => objects.contains_key(name),
-        None => false,
-    }
-}
-
-fn is_full(class: &Option<OnlyClass>, objects: &Objects, name: &Word) -> bool
-    ensures { result ≡ is_full (kept_catalog class.now objects.now.entries) name.now }
-{
-    match class {
-        Some(only) => *name == only.name && objects.len() >= only.capacity as usize,
-        None => false,
-    }
-}
-
-fn is_out_of_range(line: &Line) -> bool
-    ensures { result ≡ is_out_of_range line.now }
-{
-    match line {
-        Line::Class { capacity, .. } => is_outside(1, 100_000, capacity),
-        Line::Insert { value, slope, .. } => is_far(value) || slope.is_none(),
-        Line::Ask { span, number, .. } => is_outside(0, 1_000_000, span) || is_far(number),
-    }
-}
-
-fn is_outside(lo: u32, hi: u32, whole: &Option<u32>) -> bool
-    ensures { result ≡ is_outside lo hi whole.now }
-{
-    match whole {
-        Some(whole) => !(lo <= *whole && *whole <= hi),
-        None => true,
-    }
-}
-
-fn is_far(number: &Option<Fix>) -> bool
-    ensures { result ≡ is_far number.now }
-{
-    match number {
-        Some(number) => number.raw().unsigned_abs() > GIVEN_LIMIT,
-        None => true,
-    }
-}
-
-fn is_unknown(class: &Option<OnlyClass>, line: &Line) -> bool
-    ensures { (objects : List (List ℕ × Dynamic)) → result ≡ is_unknown (kept_catalog class.now objects) line.now }
-{
-    match line {
-        Line::Class { .. } => false,
-        Line::Insert {
-            class: of,
-            attribute,
-            ..
-        } => !has_attribute(class, of, attribute),
-        Line::Ask {
-            target,
-            class: of,
-            variable,
-            subject,
-            attribute,
-            ..
-        } => {
-            !has_attribute(class, of, attribute) || *target != *variable || *subject != *variable
-        }
-    }
-}
-
-/// Whether the class of this name has an attribute of this name, whatever objects there are.
-fn has_attribute(class: &Option<OnlyClass>, name: &Word, attribute: &Word) -> bool
-    ensures { (objects : List (List ℕ × Dynamic)) →
-        result ≡ is_some (attribute_place (kept_catalog class.now objects) name.now attribute.now) }
-{
-    match class {
-        Some(only) => *name == only.name && *attribute == only.attribute,
-        None => false,
     }
 }

@@ -2,7 +2,7 @@
 ghost use Rattle.std.specs.Prelude.{◌≡◌, ℕ, ◌++◌, ◌∷◌, [], codes, decimal, nat_le, nat_lt, ◌&&◌, OnOk, OnErr};
 ghost use Rattle.std.specs.List.{flat_map, list_any};
 ghost use Rattle.tick_set.specs.Runs.{pairs};
-ghost use Rattle.session.specs.Reply.{time_word, run_text, row_line, Begins};
+ghost use Rattle.session.specs.Reply.{ok_line, time_word, run_text, row_line, Begins};
 
 use fixed_point::Word;
 use itoa::Buffer;
@@ -11,7 +11,12 @@ use tick_set::Span;
 
 /// Writes the line of a row, as `later a : 12..30`. After an error what was there still stands in front.
 #[tactic(auto, using(crate::proofs::Begins::begins_through))]
-pub fn push_row(out: &mut Vec<u8>, now: u32, name: &Word, runs: &[Span]) -> Result<(), AllocError>
+pub(crate) fn push_row(
+    out: &mut Vec<u8>,
+    now: u32,
+    name: &Word,
+    runs: &[Span],
+) -> Result<(), AllocError>
     ensures ok { OnOk result (out.new.items ≡ out.old.items
         ++ row_line now (record { name = name.now; runs = pairs runs.now })) }
     ensures begins { Begins out.old.items out.new.items }
@@ -84,4 +89,32 @@ fn push_run(out: &mut Vec<u8>, lo: u32, hi: u32) -> Result<(), AllocError>
     out.extend_from_slice(b"..")?;
     out.extend_from_slice(digits.format(hi).as_bytes())?;
     Ok(())
+}
+
+/// Writes bytes to the end.
+#[tactic(auto, using(crate::proofs::Begins::begins_more))]
+pub(crate) fn push(out: &mut Vec<u8>, bytes: &[u8]) -> Result<(), AllocError>
+    ensures ok { OnOk result (out.new.items ≡ out.old.items ++ bytes.now) }
+    ensures err { OnErr result (out.new.items ≡ out.old.items) }
+    ensures begins { Begins out.old.items out.new.items }
+{
+    out.extend_from_slice(bytes)?;
+    Ok(())
+}
+
+/// Writes a whole number in decimal digits.
+pub(crate) fn push_whole(out: &mut Vec<u8>, number: u64) -> Result<(), AllocError>
+    ensures ok { OnOk result (out.new.items ≡ out.old.items ++ decimal number) }
+    ensures begins { Begins out.old.items out.new.items }
+{
+    push(out, Buffer::new().format(number).as_bytes())
+}
+
+/// Writes the end of an accepted line's reply. After an error nothing has changed.
+pub(crate) fn push_ok(out: &mut Vec<u8>) -> Result<(), AllocError>
+    ensures ok { OnOk result (out.new.items ≡ out.old.items ++ ok_line) }
+    ensures err { OnErr result (out.new.items ≡ out.old.items) }
+    ensures begins { Begins out.old.items out.new.items }
+{
+    push(out, b"ok\n")
 }

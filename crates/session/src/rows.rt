@@ -1,123 +1,97 @@
 //! The rows of an answer.
-ghost use Rattle.std.specs.Prelude.{◌≡◌, ℕ, ◌≤◌, ◌++◌, ◌&&◌, ◌==◌, ◌||◌, ◌<◌, true, slice_get, IsTrue, IfOk, OnOk};
-ghost use Rattle.std.specs.List.{list_all};
-ghost use Rattle.tick_set.specs.declared.spans.TheConstants.{LAST_TICK};
-ghost use Rattle.tick_set.specs.Ticks.{within};
-ghost use Rattle.tick_set.specs.TickList.{has};
+ghost use Rattle.std.specs.Prelude.{◌≡◌, ℕ, ◌+◌, ◌≤◌, ◌<◌, ◌++◌, All, length, OnOk};
+ghost use Rattle.std.specs.List.{flat_map};
 ghost use Rattle.tick_set.specs.Runs.{pairs};
+ghost use Rattle.object_store.specs.Contents.{object_name, tells};
 ghost use Rattle.session.specs.Reply.{Begins};
-ghost use Rattle.session.specs.Rows.{is_at_most, kept_row, kept_line, kept_lines, line_if_any};
+ghost use Rattle.session.specs.Rows.{line_if_any, line_of_id};
 
-use crate::fault::Objects;
+use crate::question::Asked;
 use crate::reply::push_row;
-use fixed_point::{Fix, Word};
-use motion::Vector;
+use atom_rows::attribute_ticks;
+use fixed_point::Word;
+use object_store::{ObjectId, Store};
 use std::alloc::{AllocError, Global};
-use tick_set::{LAST_TICK, Span, TickList, TickSet, Window, runs_are_those_of_the_list};
+use std::sync::ledger::Ledger;
+use steps::Steps;
+use tick_set::{Span, Window, runs_are_those_of_the_list};
 
-/// Writes a line for each object whose value is at most a number at some tick of the window, which
-/// begins now. The line of one object is written before the next one is asked. After an error what was
-/// there still stands in front.
-pub fn push_rows(
+/// What is asked of objects: a comparison, by the place of its attribute, in a window that begins now.
+#[derive(Clone, Copy, Debug)]
+pub(crate) struct Sought {
+    pub place: usize,
+    pub asked: Asked,
+    pub window: Window,
+}
+
+/// Writes a line for each of these objects that has a tick in the answer. It takes one step of `reads`
+/// for each object. After an error what was there still stands in front.
+pub(crate) fn push_rows<L: Ledger>(
     alloc: Global,
-    objects: &Objects,
-    number: Fix,
-    window: Window,
+    store: &Store,
+    ids: &[ObjectId],
+    sought: &Sought,
+    reads: &mut Steps<L>,
     out: &mut Vec<u8>,
 ) -> Result<(), AllocError>
-    requires { IsTrue (list_all (λ e. e.1.updatetime == 0) objects.now.entries) }
-    ensures ok { OnOk result (out.new.items
-        ≡ out.old.items ++ kept_lines number window.lo window.hi objects.now.entries) }
+    requires { All (λ id. id < length store.now.objects) ids.now }
+    ensures ok { OnOk result (out.new.items ≡ out.old.items ++ flat_map (line_of_id store.now sought.now) ids.now) }
     ensures begins { Begins out.old.items out.new.items }
+    ensures least { reads.old ≤ reads.new }
+    ensures most { reads.new ≤ reads.old + length ids.now }
 {
-    for place in 0..objects.len() {
-        push_place(alloc, objects, place, number, window, out)?;
+    let mut rest = ids;
+    'rows: while let Some((id, later)) = rest.split_first() {
+        push_object(alloc, store, *id, sought, reads, out)?;
+        rest = later;
     }
     Ok(())
 }
 
-/// Writes the line of the object at a place, if it has one.
-fn push_place(
+/// Writes the line of an object, if it has a tick in the answer.
+fn push_object<L: Ledger>(
     alloc: Global,
-    objects: &Objects,
-    place: usize,
-    number: Fix,
-    window: Window,
+    store: &Store,
+    id: ObjectId,
+    sought: &Sought,
+    reads: &mut Steps<L>,
     out: &mut Vec<u8>,
 ) -> Result<(), AllocError>
-    requires { IsTrue (list_all (λ e. e.1.updatetime == 0) objects.now.entries) }
-    ensures ok { OnOk result (out.new.items
-        ≡ out.old.items ++ kept_line number window.lo window.hi (slice_get objects.now.entries place)) }
+    requires { id < length store.now.objects }
+    ensures ok { OnOk result (out.new.items ≡ out.old.items ++ line_of_id store.now sought.now id) }
     ensures begins { Begins out.old.items out.new.items }
+    ensures step { reads.new ≡ reads.old + 1 }
 {
-    match objects.get_index(place) {
-        Some((name, vector)) => push_object(alloc, name, vector, number, window, out),
-        None => Ok(()),
-    }
+    let asked = &sought.asked;
+    let ticks = attribute_ticks(
+        alloc,
+        store,
+        id,
+        sought.place,
+        asked.op,
+        asked.number,
+        sought.window,
+        reads,
+    )?;
+    runs_are_those_of_the_list();
+    push_if_any(sought.window.lo, name_of(store, id), ticks.spans(), out)
 }
 
-fn push_object(
-    alloc: Global,
-    name: &Word,
-    vector: &Vector,
-    number: Fix,
-    window: Window,
-    out: &mut Vec<u8>,
-) -> Result<(), AllocError>
-    requires { vector.now.updatetime ≤ window.lo }
-    ensures ok { OnOk result (out.new.items
-        ≡ out.old.items ++ line_if_any window.lo (kept_row number window.lo window.hi (name.now, vector.now))) }
-    ensures begins { Begins out.old.items out.new.items }
+/// The name of an object.
+fn name_of(store: &Store, id: ObjectId) -> &Word
+    requires { id < length store.now.objects }
+    ensures { result.now ≡ object_name store.now.objects id }
 {
-    let ticks = ticks_at_most(alloc, vector, number, window)?;
-    let runs = ticks.runs(alloc)?;
-    runs_are_those_of_the_list();
-    push_if_any(window.lo, name, &runs, out)
+    store.name_of(id).unwrap()
 }
 
 /// Writes the line of a row, unless it has no ticks.
 fn push_if_any(now: u32, name: &Word, runs: &[Span], out: &mut Vec<u8>) -> Result<(), AllocError>
-    ensures ok { OnOk result (out.new.items
-        ≡ out.old.items ++ line_if_any now (record { name = name.now; runs = pairs runs.now })) }
+    ensures ok { OnOk result (out.new.items ≡ out.old.items ++ line_if_any now (record { name = name.now; runs = pairs runs.now })) }
     ensures begins { Begins out.old.items out.new.items }
 {
     match runs {
         [] => Ok(()),
         [_, ..] => push_row(out, now, name, runs),
     }
-}
-
-/// The ticks of the window at which the value is at most a number.
-fn ticks_at_most(
-    alloc: Global,
-    vector: &Vector,
-    number: Fix,
-    window: Window,
-) -> Result<TickList, AllocError>
-    requires { vector.now.updatetime ≤ window.lo }
-    ensures { IfOk result (λ r. (t : ℕ) → has r t ≡ (within window.lo window.hi t && is_at_most number vector.now t)) }
-{
-    let mut ticks = TickList::empty(alloc);
-    for t in window.lo..window.hi + 1 {
-        push_if_at_most(&mut ticks, t, vector, number)?;
-    }
-    Ok(ticks)
-}
-
-/// Adds a tick above all others, if the value is at most a number there.
-fn push_if_at_most(
-    ticks: &mut TickList,
-    t: u32,
-    vector: &Vector,
-    number: Fix,
-) -> Result<(), AllocError>
-    requires above { (u : ℕ) → has ticks.old u ≡ true → u < t }
-    requires tick { t ≤ LAST_TICK }
-    requires begun { vector.now.updatetime ≤ t }
-    ensures { OnOk result ((u : ℕ) → has ticks.new u ≡ (has ticks.old u || (t == u && is_at_most number vector.now u))) }
-{
-    if vector.at(t).raw() > number.raw() {
-        return Ok(());
-    }
-    ticks.push(t)
 }

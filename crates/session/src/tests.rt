@@ -1,178 +1,366 @@
-use super::*;
-use std::alloc::{AllocError, Global};
-use std::test::Fail;
+//! Lines and their replies.
+ghost use Rattle.std.specs.Prelude.{◌≡◌, ◌<◌};
 
-// The replies to these lines, refusals among them, of an empty session.
-fn replies(alloc: Global, lines: &[&[u8]]) -> Result<Vec<u8>, AllocError> {
+use crate::fault::passes;
+use crate::{Next, Session};
+use outside::SureShelf;
+use std::alloc::Global;
+use std::marker::Brand;
+use std::process::Abort;
+use std::str;
+use std::sync::ledger::{Blank, Ledger};
+use std::test::Fail;
+use steps::Steps;
+
+/// The replies of lines to an empty database, one after another. A refused line is answered by its
+/// refusal, and `quit` by `bye` besides.
+fn replies(alloc: Global, lines: &[&[u8]]) -> Result<Vec<u8>, Fail> {
+    with_reads::<Brand>(alloc, lines, Blank::new(1), Blank::new(1))
+}
+
+fn with_reads<L: Ledger>(
+    alloc: Global,
+    lines: &[&[u8]],
+    reads: Blank,
+    probes: Blank,
+) -> Result<Vec<u8>, Fail>
+    requires name { reads.name ≡ L.name }
+    requires parts { reads.parts ≡ L.parts }
+    requires some { 0 < reads.parts }
+    requires one { 0 < probes.parts }
+{
+    let mut reads: Steps<L> = Steps::new(reads);
+    with_probes::<_, Brand>(alloc, lines, &mut reads, probes)
+}
+
+fn with_probes<L: Ledger, M: Ledger>(
+    alloc: Global,
+    lines: &[&[u8]],
+    reads: &mut Steps<L>,
+    probes: Blank,
+) -> Result<Vec<u8>, Fail>
+    requires name { probes.name ≡ M.name }
+    requires parts { probes.parts ≡ M.parts }
+    requires some { 0 < probes.parts }
+{
+    let mut probes: Steps<M> = Steps::new(probes);
     let mut session = Session::new(alloc);
     let mut out = Vec::new(alloc);
     for line in lines {
-        match session.apply(line, &mut out)? {
-            Next::Accepted => {}
-            Next::Refused(refusal) => {
-                out.extend_from_slice(refusal.line())?;
-                out.extend_from_slice(b"\n")?;
-            }
-        }
+        answer(alloc, &mut session, line, reads, &mut probes, &mut out)?;
     }
     Ok(out)
 }
 
-#[test]
-fn questions_are_answered(rt: HostRuntime) -> Result<(), Fail> {
-    let class: &[u8] = b"class tank 9 (fuel dyn)";
-    let insert: &[u8] = b"insert tank a fuel = 10 rate -0.5";
-    let other: &[u8] = b"insert tank b fuel = - 2 rate 1";
-    let cases: [(&[&[u8]], &[u8]); 8] = [
-        (
-            &[
-                class,
-                insert,
-                b"ask 30 RETRIEVE o FROM tank o WHERE o.fuel <= 4",
-            ],
-            b"ok\nok\nlater a : 12..30\nok\n",
-        ),
-        (
-            &[
-                class,
-                insert,
-                b"ask 0 RETRIEVE o FROM tank o WHERE o.fuel <= 10",
-            ],
-            b"ok\nok\nnow a : 0..0\nok\n",
-        ),
-        (
-            &[b"ask 1 RETRIEVE o FROM tank o WHERE o.fuel <= 4"],
-            b"refused 7 UnknownName\n",
-        ),
-        // rows stand in the order of insertion, and objects without a tick have none
-        (
-            &[
-                class,
-                insert,
-                other,
-                b"ask 20 RETRIEVE o FROM tank o WHERE o.fuel <= 4",
-            ],
-            b"ok\nok\nok\nlater a : 12..20\nnow b : 0..6\nok\n",
-        ),
-        (
-            &[
-                class,
-                other,
-                insert,
-                b"ask 5 RETRIEVE o FROM tank o WHERE o.fuel<=-1.5",
-            ],
-            b"ok\nok\nok\nnow b : 0..0\nok\n",
-        ),
-        (
-            &[
-                class,
-                insert,
-                b"ask 5 RETRIEVE o FROM tank o WHERE o.fuel <= 4",
-            ],
-            b"ok\nok\nok\n",
-        ),
-        // what is refused changes nothing
-        (
-            &[class, b"insert tank a fuel = 10 rate 1000.001", insert],
-            b"ok\nrefused 5 NumberRange\nok\n",
-        ),
-        (&[], b""),
-    ];
-    for (lines, text) in cases {
-        let out = replies(rt.alloc(), lines)?;
-        assert_eq!(rt; out.as_slice(), text);
-    }
-    Ok(())
-}
-
-#[test]
-fn faults_are_named(rt: HostRuntime) -> Result<(), Fail> {
-    let syntax: &[u8] = b"ok\nok\nrefused 4 BadSyntax\n";
-    let range: &[u8] = b"ok\nok\nrefused 5 NumberRange\n";
-    let name: &[u8] = b"ok\nok\nrefused 7 UnknownName\n";
-    let cases: [(&[u8], &[u8]); 26] = [
-        (b"", syntax),
-        (b"# a comment", syntax),
-        (b"tick 1", syntax),
-        (b"insert tank b fuel = 1", syntax),
-        (b"insert tank b fuel = 1 rate 1 1", syntax),
-        (b"insert tank b fuel = 1 rate 1 ?", syntax),
-        (b"insert tank class fuel = 1 rate 1", syntax),
-        (b"insert tank b fuel = \"1\" rate 1", syntax),
-        (
-            b"insert tank b2345678901234567890123456789012 fuel = 1 rate 1",
-            b"ok\nok\nrefused 4 BadSyntax\n",
-        ),
-        (
-            b"insert tank b23456789012345678901234567890123 fuel = 1 rate 1",
-            syntax,
-        ),
-        // a second class, a name that was inserted, one more than the capacity
-        (b"class tank 0 (fuel dyn)", syntax),
-        (b"insert boat a fuel = 1 rate 1", syntax),
-        (b"insert tank b fuel = 1 rate 1001", syntax),
-        (b"ask 1.5 RETRIEVE o FROM tank o WHERE o.fuel <= 4", range),
-        (
-            b"ask 1000001 RETRIEVE o FROM tank o WHERE o.fuel <= 4",
-            range,
-        ),
-        (
-            b"ask 00000000001 RETRIEVE o FROM tank o WHERE o.fuel <= 4",
-            b"ok\nok\nok\n",
-        ),
-        (
-            b"ask 1 RETRIEVE o FROM tank o WHERE o.fuel <= 1000000000.001",
-            range,
-        ),
-        (
-            b"ask 1 RETRIEVE o FROM tank o WHERE o.fuel <= 4.0001",
-            range,
-        ),
-        (b"insert boat b fuel = 1 rate 1001", range),
-        (b"insert boat b fuel = 1 rate 1000", name),
-        (b"insert boat b fuel = -1000000000 rate -1000", name),
-        (b"ask 1 RETRIEVE o FROM boat o WHERE o.fuel <= 4", name),
-        (b"ask 1 RETRIEVE o FROM tank o WHERE o.load <= 4", name),
-        (b"ask 1 RETRIEVE n FROM tank o WHERE o.fuel <= 4", name),
-        (b"ask 1 RETRIEVE o FROM tank o WHERE n.fuel <= 4", name),
-        (b"ask 1 RETRIEVE o FROM tank o WHERE o.fuel < 4", syntax),
-    ];
-    for (line, text) in cases {
-        let lines: [&[u8]; 3] = [
-            b"class tank 1 (fuel dyn)",
-            b"insert tank a fuel = 10 rate -0.5",
-            line,
-        ];
-        let out = replies(rt.alloc(), &lines)?;
-        assert_eq!(rt; out.as_slice(), text, "at {line:?}");
-    }
-    for (capacity, text) in [
-        (
-            b"class c 0 (x dyn)".as_slice(),
-            b"refused 5 NumberRange\n".as_slice(),
-        ),
-        (b"class c 1 (x dyn)", b"ok\n"),
-        (b"class c 100000 (x dyn)", b"ok\n"),
-        (b"class c 100001 (x dyn)", b"refused 5 NumberRange\n"),
-    ] {
-        let out = replies(rt.alloc(), &[capacity])?;
-        assert_eq!(rt; out.as_slice(), text, "at {capacity:?}");
-    }
-    Ok(())
-}
-
-#[test]
-fn a_line_has_at_most_4096_bytes(rt: HostRuntime) -> Result<(), Fail> {
-    for (spaces, text) in [
-        (4096 - 17, b"ok\n".as_slice()),
-        (4097 - 17, b"refused 4 BadSyntax\n".as_slice()),
-    ] {
-        let mut line = Vec::from_slice(rt.alloc(), b"class c 1 (x dyn)")?;
-        for _ in 0..spaces {
-            line.push(b' ')?;
+fn answer<L: Ledger, M: Ledger>(
+    alloc: Global,
+    session: &mut Session,
+    line: &[u8],
+    reads: &mut Steps<L>,
+    probes: &mut Steps<M>,
+    out: &mut Vec<u8>,
+) -> Result<(), Fail> {
+    let mut shelf = SureShelf::new(alloc);
+    match session.apply(line, &mut shelf, out, reads, probes) {
+        Ok(Next::Refused(refusal)) => {
+            out.extend_from_slice(refusal.line().bytes())?;
+            out.push(b'\n')?;
         }
-        let out = replies(rt.alloc(), &[line.as_slice()])?;
-        assert_eq!(rt; out.as_slice(), text);
+        Ok(Next::Quit) => out.extend_from_slice(b"bye\n")?,
+        Ok(_) => {}
+        Err(_) => return Err(Fail::from("no memory")),
     }
     Ok(())
+}
+
+/// Lines and the replies to them, one after another.
+struct Row {
+    lines: &'static [&'static [u8]],
+    replies: &'static str,
+}
+
+fn check(rt: &impl Abort, alloc: Global, rows: &[Row]) -> Result<(), Fail> {
+    for row in rows {
+        let out = replies(alloc, row.lines)?;
+        assert_eq!(rt; str::from_utf8(&out)?, row.replies);
+    }
+    Ok(())
+}
+
+#[test]
+fn levels_are_found_when_they_hold(rt: HostRuntime) -> Result<(), Fail> {
+    check(
+        &rt,
+        rt.alloc(),
+        &[
+            Row {
+                lines: &[
+                    b"class tank 9 (fuel dyn)",
+                    b"insert tank a fuel = 10 rate -0.5",
+                    b"ask 30 RETRIEVE o FROM tank o WHERE o.fuel <= 4",
+                    b"ask 11 RETRIEVE o FROM tank o WHERE o.fuel <= 4",
+                    b"ask 30 RETRIEVE o FROM tank o WHERE (o.fuel > 4)",
+                    b"ask 0 RETRIEVE o FROM tank o WHERE o.fuel = 10",
+                ],
+                replies: "ok\nok\nlater a : 12..30\nok\nok\nnow a : 0..11\nok\nnow a : 0..0\nok\n",
+            },
+            Row {
+                lines: &[
+                    b"class tank 9 (fuel dyn)",
+                    b"insert tank a fuel = 10 rate [-1,4] 2",
+                    b"ask 9 RETRIEVE o FROM tank o WHERE o.fuel != 8",
+                    b"tick 4",
+                    b"ask 9 RETRIEVE o FROM tank o WHERE o.fuel >= 10",
+                    b"tick 1",
+                    b"update a fuel rate 0",
+                    b"ask 2 RETRIEVE o FROM tank o WHERE o.fuel < - 1",
+                    b"ask 2 RETRIEVE o FROM tank o WHERE o.fuel = 8",
+                ],
+                replies: "ok\nok\nnow a : 0..1 3..4 6..9\nok\nok\nlater a : 6..13\nok\nok\nok\nok\nnow a : 5..7\nok\n",
+            },
+        ],
+    )
+}
+
+#[test]
+fn an_absent_object_is_in_no_answer(rt: HostRuntime) -> Result<(), Fail> {
+    check(
+        &rt,
+        rt.alloc(),
+        &[Row {
+            lines: &[
+                b"class tank 9 (fuel dyn,n num)",
+                b"insert tank b n = 2",
+                b"insert tank a n = 2",
+                b"ask 3 RETRIEVE o FROM tank o WHERE o.n = 2",
+                b"tick 2",
+                b"remove b",
+                b"ask 3 RETRIEVE o FROM tank o WHERE o.n = 2",
+                b"insert tank b",
+                b"ask 3 RETRIEVE o FROM tank o WHERE o.n < 2",
+            ],
+            replies: "ok\nok\nok\nnow b : 0..3\nnow a : 0..3\nok\nok\nok\nnow a : 2..5\nok\nok\nnow b : 2..5\nok\n",
+        }],
+    )
+}
+
+#[test]
+fn points_have_an_x_and_a_y(rt: HostRuntime) -> Result<(), Fail> {
+    check(
+        &rt,
+        rt.alloc(),
+        &[Row {
+            lines: &[
+                b"class car 5 point",
+                b"insert car a at (3,-1) move [(1,0),2] (0,0.5)",
+                b"ask 9 RETRIEVE o FROM car o WHERE o.x >= 5",
+                b"ask 9 RETRIEVE o FROM car o WHERE o.y >= 0",
+                b"update a at (0,0)",
+                b"ask 9 RETRIEVE o FROM car o WHERE o.x = 2",
+            ],
+            replies: "ok\nok\nlater a : 2..9\nok\nlater a : 4..9\nok\nok\nlater a : 2..9\nok\n",
+        }],
+    )
+}
+
+#[test]
+fn lines_without_a_reply_and_the_end(rt: HostRuntime) -> Result<(), Fail> {
+    check(
+        &rt,
+        rt.alloc(),
+        &[Row {
+            lines: &[b"", b" \t ", b"# list", b"list", b"quit"],
+            replies: "clock 0\nok\nok\nbye\n",
+        }],
+    )
+}
+
+#[test]
+fn what_is_there_is_listed(rt: HostRuntime) -> Result<(), Fail> {
+    check(
+        &rt,
+        rt.alloc(),
+        &[Row {
+            lines: &[
+                b"class car 100 point",
+                b"class tank 1 (fuel dyn)",
+                b"region P (10,-5) (20,-5) (20,5) (10,5)",
+                b"insert car a",
+                b"insert car b",
+                b"remove a",
+                b"tick 1000000000",
+                b"list",
+            ],
+            replies: "ok\nok\nok\nok\nok\nok\nok\nclock 1000000000\nclass car 2/100\nclass tank 0/1\nregion P 4\nok\n",
+        }],
+    )
+}
+
+#[test]
+fn forms_that_are_not_built_are_refused(rt: HostRuntime) -> Result<(), Fail> {
+    check(
+        &rt,
+        rt.alloc(),
+        &[
+            Row {
+                lines: &[
+                    b"class tank 9 (fuel dyn)",
+                    b"watch w 30 RETRIEVE o FROM tank o WHERE o.fuel <= 4",
+                    b"keep w 30 RETRIEVE o FROM tank o WHERE TRUE",
+                    b"show w",
+                    b"drop w",
+                    b"save \"s\"",
+                    b"import tank \"s\"",
+                    b"export tank \"s\"",
+                    b"nearest 1 1 a tank",
+                    b"index tank fuel 1",
+                    b"range 1 tank fuel 1 2",
+                ],
+                replies: "ok\nrefused 4 BadSyntax\nrefused 4 BadSyntax\nrefused 4 BadSyntax\nrefused 4 BadSyntax\nrefused 4 BadSyntax\nrefused 4 BadSyntax\nrefused 4 BadSyntax\nrefused 4 BadSyntax\nrefused 4 BadSyntax\nrefused 4 BadSyntax\n",
+            },
+            Row {
+                lines: &[
+                    b"ask 1 RETRIEVE o FROM c o WHERE TRUE",
+                    b"ask 1 RETRIEVE o FROM c o WHERE 4 >= o.a",
+                    b"ask 1 RETRIEVE o FROM c o WHERE o.a <= 2 * o.a",
+                    b"ask 1 RETRIEVE o FROM c o WHERE - o.a <= 2",
+                    b"ask 1 RETRIEVE o FROM c o WHERE o.a.value <= 2",
+                    b"ask 1 RETRIEVE o,p FROM c o,c p WHERE o.a <= 2",
+                    b"ask 1 RETRIEVE o FROM c o WHERE o.a <= 2000000000000",
+                ],
+                replies: "refused 4 BadSyntax\nrefused 4 BadSyntax\nrefused 4 BadSyntax\nrefused 4 BadSyntax\nrefused 4 BadSyntax\nrefused 4 BadSyntax\nrefused 5 NumberRange\n",
+            },
+        ],
+    )
+}
+
+#[test]
+fn a_question_is_refused_by_its_first_fault(rt: HostRuntime) -> Result<(), Fail> {
+    check(
+        &rt,
+        rt.alloc(),
+        &[Row {
+            lines: &[
+                b"class tank 9 (fuel dyn,plate text)",
+                b"ask 200000000 RETRIEVE o FROM car o WHERE o.fuel <= 4",
+                b"ask 200000000 RETRIEVE p FROM tank o WHERE o.plate <= 4",
+                b"ask 200000000 RETRIEVE o FROM tank o WHERE p.plate <= 4",
+                b"ask 200000000 RETRIEVE o FROM tank o WHERE o.x <= 4",
+                b"ask 200000000 RETRIEVE o FROM tank o WHERE o.plate <= 4",
+                b"ask 100000001 RETRIEVE o FROM tank o WHERE o.fuel <= 4",
+                b"ask 100000000 RETRIEVE o FROM tank o WHERE o.fuel <= 4",
+                b"tick 1000000000",
+                b"ask 1 RETRIEVE o FROM tank o WHERE o.fuel <= 4",
+                b"ask 0 RETRIEVE o FROM tank o WHERE o.fuel <= 4",
+            ],
+            replies: "ok\nrefused 7 UnknownName\nrefused 7 UnknownName\nrefused 7 UnknownName\nrefused 7 UnknownName\nrefused 9 WrongKind\nrefused 12 SpanRange\nok\nok\nrefused 12 SpanRange\nok\n",
+        }],
+    )
+}
+
+#[test]
+fn a_class_or_region_is_refused_by_its_first_fault(rt: HostRuntime) -> Result<(), Fail> {
+    check(
+        &rt,
+        rt.alloc(),
+        &[Row {
+            lines: &[
+                b"class tank 0 tank",
+                b"class tank 0 (abcdefghijklmnopqrstuvwxyz0123456 num)",
+                b"class tank 9 (abcdefghijklmnopqrstuvwxyz0123456 num,a num,a num)",
+                b"class tank 9 (a num,a num)",
+                b"class tank 9 point (x num)",
+                b"class tank 9",
+                b"class tank 8",
+                b"region P (0,0) (1,1) (2,2)",
+                b"region P (0,0) (0,1) (1,0)",
+                b"region P (0,0) (1,1) (2,2)",
+                b"tick 1000000001",
+                b"tick 999999999",
+                b"tick 2",
+            ],
+            replies: "refused 4 BadSyntax\nrefused 5 NumberRange\nrefused 6 TooLarge\nrefused 8 NameTaken\nrefused 8 NameTaken\nok\nrefused 8 NameTaken\nrefused 10 NotConvex\nok\nrefused 8 NameTaken\nrefused 5 NumberRange\nok\nrefused 13 ClockEnd\n",
+        }],
+    )
+}
+
+#[test]
+fn an_insert_is_refused_by_its_first_fault(rt: HostRuntime) -> Result<(), Fail> {
+    check(
+        &rt,
+        rt.alloc(),
+        &[Row {
+            lines: &[
+                b"class tank 1 (fuel dyn,n num,plate text)",
+                b"class car 9 point",
+                b"insert tank a",
+                b"insert boat a x = 1 x = 1",
+                b"insert tank b z = 1 n = 1 n = 1",
+                b"insert car a at (0,0) x = 1",
+                b"insert tank a n = 1 n = \"A\"",
+                b"insert tank a at (0,0)",
+                b"insert tank a plate = 1",
+                b"insert tank a n rate 1",
+                b"insert tank a",
+                b"insert tank b",
+                b"insert car b at (0,0) x = 1",
+                b"insert car b",
+            ],
+            replies: "ok\nok\nok\nrefused 7 UnknownName\nrefused 7 UnknownName\nrefused 8 NameTaken\nrefused 8 NameTaken\nrefused 9 WrongKind\nrefused 9 WrongKind\nrefused 9 WrongKind\nrefused 14 Presence\nrefused 15 ClassFull\nrefused 8 NameTaken\nok\n",
+        }],
+    )
+}
+
+#[test]
+fn an_update_or_removal_is_refused_by_its_first_fault(rt: HostRuntime) -> Result<(), Fail> {
+    check(
+        &rt,
+        rt.alloc(),
+        &[Row {
+            lines: &[
+                b"class tank 2 (fuel dyn,n num)",
+                b"insert tank a",
+                b"update b n = 1 n = 1",
+                b"update a n = 1 n = \"A\"",
+                b"update a n = \"A\"",
+                b"update a",
+                b"remove b",
+                b"remove a",
+                b"update a n = \"A\"",
+                b"update a n = 1",
+                b"remove a",
+                b"insert tank a n = 3",
+                b"ask 0 RETRIEVE o FROM tank o WHERE o.n = 3",
+            ],
+            replies: "ok\nok\nrefused 7 UnknownName\nrefused 8 NameTaken\nrefused 9 WrongKind\nok\nrefused 7 UnknownName\nok\nrefused 9 WrongKind\nrefused 14 Presence\nrefused 14 Presence\nok\nnow a : 0..0\nok\n",
+        }],
+    )
+}
+
+#[test]
+fn a_line_is_refused_before_anything_is_asked(rt: HostRuntime) -> Result<(), Fail> {
+    check(
+        &rt,
+        rt.alloc(),
+        &[Row {
+            lines: &[
+                b"insert \xC3 ?",
+                b"tick ? tick",
+                b"tick 0 0",
+                b"remove remove ?",
+                b"insert tank abcdefghijklmnopqrstuvwxyz0123456 fuel = 10000000000.5",
+                b"remove abcdefghijklmnopqrstuvwxyz0123456",
+                b"# tick 0",
+                b"remove a",
+            ],
+            replies: "refused 2 NotAscii\nrefused 3 BadToken\nrefused 4 BadSyntax\nrefused 3 BadToken\nrefused 5 NumberRange\nrefused 6 TooLarge\nrefused 7 UnknownName\n",
+        }],
+    )
+}
+
+#[test]
+fn a_journal_is_full_of_entries_or_of_bytes(rt: HostRuntime) {
+    assert!(rt; !passes(2, 10, 4, 3, 15));
+    assert!(rt; passes(3, 10, 4, 3, 15));
+    assert!(rt; passes(2, 11, 4, 3, 15));
 }

@@ -1,11 +1,19 @@
-use Rattle.std.proofs.Common.{◌≡◌, ◌++◌, take}
+use Rattle.std.proofs.Common.{◌≡◌, ◌++◌, ◌+◌, ◌≤◌, ◌<◌, length}
+use Rattle.std.specs.Prelude.{All}
+use Rattle.std.specs.List.{flat_map}
 use Rattle.session.specs.Reply.{Begins}
-use Rattle.session.specs.Rows.{kept_lines}
+use Rattle.session.specs.Rows.{line_of_id}
 use Rattle.session.proofs.rows.push_rows.Given as goal
 
--- the lines of the objects that were asked
-abbrev pub invariant-loop-place : goal.invariant-loop-place
-invariant-loop-place l = record {
-  whole : l.out.items ≡ l.fn.out.items ++ kept_lines l.number l.window.lo l.window.hi (take l.place l.objects.entries);
+-- what was written and the lines of the objects that are left make the whole
+abbrev pub invariant-rows : goal.invariant-rows
+invariant-rows g l = record {
+  whole : l.out.items ++ flat_map (line_of_id l.store l.sought) l.rest ≡ l.fn.out.items ++ flat_map (line_of_id l.store l.sought) l.ids;
   begins : Begins l.fn.out.items l.out.items;
+  there : All (λ id. id < length l.store.objects) l.rest;
+  least : l.fn.reads ≤ l.reads;
+  most : l.reads + length l.rest ≤ l.fn.reads + length l.ids;
 }
+
+abbrev pub decreases-rows : goal.decreases-rows
+decreases-rows g l = length l.rest

@@ -1,4 +1,4 @@
-use Rattle.session.proofs.StepLemmas.{long_step}
+use Rattle.session.proofs.CarryLemmas.{long_step}
 use Rattle.session.proofs.session.long_lines_step_alike.Goals as goal
 
 pub returns : goal.returns
