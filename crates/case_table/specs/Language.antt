@@ -1,6 +1,6 @@
 -- The texts that the language fixes. The code of a reserved word or a symbol is its place, from 0; the code of a refusal is its number, from 1.
 use Rattle.std.specs.Prelude.{ℕ, ◌+◌, List, [], ◌∷◌, ◌++◌, codes, Bool, true, ◌&&◌}
-use Rattle.case_table.specs.Rows.{takes}
+use Rattle.case_table.specs.Rows.{has_room_for}
 
 -- each word with its place, counted from n
 abbrev pub numbered : ℕ → List (List ℕ) → List (List ℕ × ℕ)
@@ -10,7 +10,7 @@ numbered n (w ∷ ws) = (w, n) ∷ numbered (n + 1) ws
 -- a table with room for so many rows takes each word in turn, with its place as its code
 abbrev pub each_taken : ℕ → List (List ℕ × ℕ) → ℕ → List (List ℕ) → Bool
 each_taken room rows n [] = true
-each_taken room rows n (w ∷ ws) = takes room rows w n && each_taken room (rows ++ (w, n) ∷ []) (n + 1) ws
+each_taken room rows n (w ∷ ws) = has_room_for room rows w n && each_taken room (rows ++ (w, n) ∷ []) (n + 1) ws
 
 -- the words of queries, the sub-attributes, the commands and the parts of commands
 unfoldable pub reserved_words : List (List ℕ × ℕ)

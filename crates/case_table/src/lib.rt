@@ -6,13 +6,15 @@ mod compare;
 mod fixed;
 pub mod key;
 mod keywords;
+mod laws;
 mod rows;
 pub mod symbol;
 
 pub use compare::{Op, Signs, comparisons};
 pub use fixed::{refusals, symbols, words};
 pub use keywords::reserved_code;
-pub use rows::Table;
+pub use laws::limits_in_numbers;
+pub use rows::{ROW_WORD_LIMIT, Table};
 
 #[cfg(test)]
 mod tests;

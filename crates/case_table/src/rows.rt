@@ -1,37 +1,41 @@
 //! Tables of words with a code each.
 
 ghost use Rattle.std.specs.Prelude.{◌≡◌, ℕ, List, ◌+◌, ◌<◌, ◌≤◌, ◌↔◌, [], ◌∷◌, ◌++◌, Contains, IsTrue, take, if◌then◌else◌, length, option_copied};
-ghost use Rattle.case_table.specs.Rows.{code_of, word_of, takes};
+ghost use Rattle.case_table.specs.Rows.{code_of, word_of, has_room_for};
 
 use std::marker::Model;
 
-// The most bytes of a word.
-const LONGEST: usize = 20;
+/// The most bytes of a word of a `Table`.
+pub const ROW_WORD_LIMIT: usize = 20;
 
 // A word by its first `len` bytes, with its code. The bytes behind the word are 0, so that equal rows
 // have equal fields.
 #[derive(Clone, Copy, Debug)]
 struct Row {
-    bytes: [u8; LONGEST],
+    bytes: [u8; ROW_WORD_LIMIT],
     len: usize,
     code: u8,
 }
 
 impl Model for Row {
     ghost use Rattle.std.specs.Prelude.{ℕ, List, take, length};
-    ghost use Rattle.case_table.specs.Row.{padded, IsPadded};
+    ghost use Rattle.exact.specs.Padded.{padded, IsPadded};
+    ghost use Rattle.exact.proofs.PaddedLemmas.{length-front, padded-front};
+    ghost use Rattle.case_table.specs.declared.rows.TheConstants.{ROW_WORD_LIMIT};
 
     ghost Value = { List ℕ × ℕ };
 
     ghost view = { λ r. (take r.len r.bytes, r.code) };
 
-    ghost invariant = { λ r. IsPadded r.len r.bytes };
+    ghost invariant = { λ r. IsPadded 0 ROW_WORD_LIMIT r.bytes r.len };
 
-    ghost inverse = { λ v. record { bytes = padded v.0; len = length v.0; code = v.1 } };
+    ghost inverse = { λ v. record { bytes = padded 0 ROW_WORD_LIMIT v.0; len = length v.0; code = v.1 } };
 
-    ghost use Rattle.case_table.specs.Padding.{padded-take};
-
-    ghost inverse_ok = { λ a h. padded-take a h };
+    ghost inverse_ok = { λ a h i. record {
+      bytes = padded-front 0 ROW_WORD_LIMIT a.bytes a.len h i;
+      len = length-front 0 ROW_WORD_LIMIT a.bytes a.len h i;
+      code = a.code;
+    } };
 }
 
 impl Row {
@@ -43,10 +47,10 @@ impl Row {
     }
 
     fn of(word: &[u8], code: u8) -> Row
-        requires { length word.now ≤ 20 }
+        requires { length word.now ≤ ROW_WORD_LIMIT }
         ensures { result ≡ (word.now, code) }
     {
-        let mut bytes = [0; LONGEST];
+        let mut bytes = [0; ROW_WORD_LIMIT];
         bytes[..word.len()].copy_from_slice(word);
         Row {
             bytes,
@@ -98,7 +102,7 @@ impl<const N: usize> Table<N> {
     {
         Table {
             rows: [Row {
-                bytes: [0; LONGEST],
+                bytes: [0; ROW_WORD_LIMIT],
                 len: 0,
                 code: 0,
             }; N],
@@ -117,11 +121,11 @@ impl<const N: usize> Table<N> {
     /// Adds a row. Answers false, and leaves the table as it was, exactly where there are `N` rows, the
     /// word has more than 20 bytes, or a row has this word or this code.
     pub fn add(&mut self, word: &[u8], code: u8) -> bool
-        ensures accepted { result ≡ takes N self.old word.now code }
+        ensures accepted { result ≡ has_room_for N self.old word.now code }
         ensures rows { self.new ≡ (if result then self.old ++ (word.now, code) ∷ [] else self.old) }
     {
         if self.len == N
-            || word.len() > LONGEST
+            || word.len() > ROW_WORD_LIMIT
             || self.code_of(word).is_some()
             || self.word_of(code).is_some()
         {

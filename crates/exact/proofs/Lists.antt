@@ -1,8 +1,12 @@
--- Some and each element of a list, where two tests agree on the elements or are each other's negation.
-use Rattle.std.proofs.Common.{◌≡◌, Bool, true, false, not, ◌&&◌, ◌||◌, List, [], ◌∷◌, All, Contains, get_or, refl, ap, ◌∙◌}
+-- Some and each element of a list, where two tests agree on the elements or are each other's negation; and lists of
+-- bytes that are equal.
+use Rattle.std.proofs.Common.{◌≡◌, ℕ, Bool, true, false, not, ◌&&◌, ◌||◌, List, [], ◌∷◌, All, Contains, get_or, refl, ap, ◌∙◌}
+use Rattle.std.specs.Prelude.{bytes_eq}
 use Rattle.std.specs.List.{list_any, list_all}
+use Rattle.std.specs.Cmp.Lexicographic.{nat_list_eq_equiv}
 use Rattle.std.proofs.lemmas.List.Elements.{All-head, All-tail, All-contains, Contains-get_or}
 use Rattle.std.proofs.lemmas.List.Folds.{Any-from_list_any, list_any-from_Any}
+use Rattle.std.proofs.lemmas.Slice.Eq.{bytes_eq-Decides}
 use Rattle.std.proofs.lemmas.List.Sums.{AllPass-from_list_all, list_all-from_AllPass}
 
 pub list_any_agree : {X : Type 0} (p q : X → Bool) (xs : List X) → All (λ x. p x ≡ q x) xs → list_any p xs ≡ list_any q xs
@@ -41,3 +45,10 @@ list_all_gives p xs h x c = All-contains (λ y. p y ≡ true) xs x (AllPass-from
 
 pub list_all_from : {X : Type 0} (p : X → Bool) (xs : List X) → ((x : X) → Contains xs x → p x ≡ true) → list_all p xs ≡ true
 list_all_from p xs h = list_all-from_AllPass p xs (λ k d l. h (get_or xs k d) (Contains-get_or xs k d l))
+
+-- bytes that pass the test of equality are the same, and each list passes it with itself
+pub bytes_eq_true : (a b : List ℕ) → bytes_eq a b ≡ true → a ≡ b
+bytes_eq_true a b h = (bytes_eq-Decides a b).0 h
+
+pub bytes_eq_refl : (a : List ℕ) → bytes_eq a a ≡ true
+bytes_eq_refl a = nat_list_eq_equiv.refl a

@@ -2,7 +2,7 @@
 -- A signed number is read as a difference of two naturals, and so is each sum and product of such. An equation of
 -- polynomials over ℤ is then one over ℕ, where `omega` multiplies out. `same (..) (..) (omega arith)` proves it, with
 -- both sides written out by `part`, `number`, `sum`, `difference`, `product` and `opposite`.
-use Rattle.std.proofs.Common.{◌≡◌, ℕ, ◌+◌, ◌*◌, ◌≤◌, ◌<◌, ℤ, pos, ◌+ℤ◌, ◌-ℤ◌, ◌*ℤ◌, neg_ℤ, ◌≤ℤ◌, ◌<ℤ◌, ap, arith}
+use Rattle.std.proofs.Common.{◌≡◌, ℕ, ◌+◌, ◌*◌, ◌≤◌, ℤ, pos, ◌+ℤ◌, ◌-ℤ◌, ◌*ℤ◌, neg_ℤ, ◌≤ℤ◌, ap, arith}
 use Rattle.std.proofs.lemmas.Int.{ints}
 use borrow.Author.Differences.{up, down, product_is}
 
@@ -51,51 +51,3 @@ same {a} {b} p q h = let k = p.is in let l = q.is in omega (arith, ints)
 
 pub at_most : {a b : ℤ} (p : Parts a) (q : Parts b) → p.more + q.less ≤ q.more + p.less → a ≤ℤ b
 at_most {a} {b} p q h = let k = p.is in let l = q.is in omega (arith, ints)
-
-pub below : {a b : ℤ} (p : Parts a) (q : Parts b) → p.more + q.less < q.more + p.less → a <ℤ b
-below {a} {b} p q h = let k = p.is in let l = q.is in omega (arith, ints)
-
--- ---- the laws that are used by name
-pub *ℤ_comm : (a b : ℤ) → a *ℤ b ≡ b *ℤ a
-*ℤ_comm a b = same (product (part a) (part b)) (product (part b) (part a)) (omega arith)
-
-pub *ℤ_assoc : (a b c : ℤ) → (a *ℤ b) *ℤ c ≡ a *ℤ (b *ℤ c)
-*ℤ_assoc a b c = same (product (product (part a) (part b)) (part c)) (product (part a) (product (part b) (part c))) (omega arith)
-
-pub *ℤ-+ℤ : (a b c : ℤ) → a *ℤ (b +ℤ c) ≡ a *ℤ b +ℤ a *ℤ c
-*ℤ-+ℤ a b c = same (product (part a) (sum (part b) (part c))) (sum (product (part a) (part b)) (product (part a) (part c))) (omega arith)
-
-pub +ℤ-*ℤ : (a b c : ℤ) → (a +ℤ b) *ℤ c ≡ a *ℤ c +ℤ b *ℤ c
-+ℤ-*ℤ a b c = same (product (sum (part a) (part b)) (part c)) (sum (product (part a) (part c)) (product (part b) (part c))) (omega arith)
-
--- the square of a sum
-pub square-sum : (a b : ℤ) → (a +ℤ b) *ℤ (a +ℤ b) ≡ a *ℤ a +ℤ pos 2 *ℤ (a *ℤ b) +ℤ b *ℤ b
-square-sum a b =
-    let s = sum (part a) (part b) in
-    same (product s s) (sum (sum (product (part a) (part a)) (product (number 2) (product (part a) (part b)))) (product (part b) (part b))) (omega arith)
-
--- the square of a coordinate x that moves by v at each of k ticks, by falling powers of k
-pub square-moved : (x v k : ℤ) → (x +ℤ v *ℤ k) *ℤ (x +ℤ v *ℤ k) ≡ ((v *ℤ v) *ℤ k +ℤ pos 2 *ℤ (x *ℤ v)) *ℤ k +ℤ x *ℤ x
-square-moved x v k =
-    let m = sum (part x) (product (part v) (part k)) in
-    same (product m m) (sum (product (sum (product (product (part v) (part v)) (part k)) (product (number 2) (product (part x) (part v)))) (part k)) (product (part x) (part x))) (omega arith)
-
--- the parabola: the squared distance of a moving point from the origin is a k² + b k + c
-pub parabola : (x y v w k : ℤ)
-    → (x +ℤ v *ℤ k) *ℤ (x +ℤ v *ℤ k) +ℤ (y +ℤ w *ℤ k) *ℤ (y +ℤ w *ℤ k)
-    ≡ ((v *ℤ v +ℤ w *ℤ w) *ℤ k +ℤ pos 2 *ℤ (x *ℤ v +ℤ y *ℤ w)) *ℤ k +ℤ (x *ℤ x +ℤ y *ℤ y)
-parabola x y v w k =
-    let p = sum (part x) (product (part v) (part k)) in
-    let q = sum (part y) (product (part w) (part k)) in
-    let a = sum (product (part v) (part v)) (product (part w) (part w)) in
-    let b = product (number 2) (sum (product (part x) (part v)) (product (part y) (part w))) in
-    let c = sum (product (part x) (part x)) (product (part y) (part y)) in
-    same (sum (product p p) (product q q)) (sum (product (sum (product a (part k)) b) (part k)) c) (omega arith)
-
--- from one tick to the next a parabola rises by a (2 k + 1) + b
-pub parabola-step : (a b c k : ℤ)
-    → (a *ℤ (k +ℤ pos 1) +ℤ b) *ℤ (k +ℤ pos 1) +ℤ c ≡ ((a *ℤ k +ℤ b) *ℤ k +ℤ c) +ℤ (a *ℤ (pos 2 *ℤ k +ℤ pos 1) +ℤ b)
-parabola-step a b c k =
-    let j = sum (part k) (number 1) in
-    let curve = λ (i : Parts k). sum (product (sum (product (part a) i) (part b)) i) (part c) in
-    same (sum (product (sum (product (part a) j) (part b)) j) (part c)) (sum (curve (part k)) (sum (product (part a) (sum (product (number 2) (part k)) (number 1))) (part b))) (omega arith)

@@ -5,10 +5,12 @@
 //! that is, so the premise of the next step follows from the sizes of its parts, by
 //! `grind (arith, steps)` with the set `steps` of `proofs/Sizes.antt`.
 //!
-//! The crate's `proofs/` also has the facts on whole numbers, lists and functions that the crates above
-//! share: equations of polynomials over the integers (`Ring`), sizes of sums and products (`Sizes`),
-//! functions that fall and rise (`Convex`), bisections (`Halves`), tests of lists (`Lists`) and functions
-//! that are equal at each argument (`Extensional`).
+//! Its `specs/` has what the crates above define in one way: the first condition that holds (`First`),
+//! items in the front of an array (`Padded`), and functions that fall and rise (`Rising`). Its
+//! `proofs/` has the facts that they share: equations of polynomials over the integers (`Ring`),
+//! functions that fall and rise (`Convex`), bisections (`Halves`), tests of lists and lists of bytes
+//! (`Lists`), functions that are equal at each argument (`Extensional`) and what an array has in its
+//! front (`PaddedLemmas`).
 #![tactic(auto)]
 
 ghost use Rattle.std.specs.Prelude.{

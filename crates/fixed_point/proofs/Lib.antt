@@ -1,4 +1,3 @@
 pub mod CanonicalLemmas
 pub mod DecimalLemmas
 pub mod DigitLemmas
-pub mod PaddedBytes

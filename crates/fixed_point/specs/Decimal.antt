@@ -4,6 +4,7 @@ use Rattle.std.specs.Char.{is_ascii_digit}
 use Rattle.std.specs.List.{prefix_len}
 use Rattle.std.specs.Str.Parse.{AllDigits, digits_value}
 use Rattle.std.specs.Fmt.{sign_text}
+use Rattle.fixed_point.specs.declared.reading.TheConstants.{WHOLE_DIGITS_LIMIT, DECIMALS_LIMIT}
 
 infixl 10 ◌>>=◌
 abbrev pub ◌>>=◌ : {A B : Type 0} → Option A → (A → Option B) → Option B
@@ -18,19 +19,19 @@ digits_at most text =
 
 -- the thousandths that up to three digits behind a point stand for: `5` is 500, and `05` is 50
 abbrev pub decimals_value : List ℕ → ℕ
-decimals_value digits = digits_value 10 digits * 10 ^ (3 - length digits)
+decimals_value digits = digits_value 10 digits * 10 ^ (DECIMALS_LIMIT - length digits)
 
 -- the thousandths that stand behind the whole part: nothing, or a point and from one to three digits
 unfoldable pub decimals_of : List ℕ → Option ℕ
 decimals_of [] = Some 0
 decimals_of (byte ∷ rest) = do
-  decimals ← if byte == 46 then digits_at 3 rest else None
+  decimals ← if byte == 46 then digits_at DECIMALS_LIMIT rest else None
   if length decimals.1 == 0 then Some (decimals_value decimals.0) else None
 
 -- the thousandths of a number without a sign
 unfoldable pub size_of : List ℕ → Option ℕ
 size_of text = do
-  whole ← digits_at 10 text
+  whole ← digits_at WHOLE_DIGITS_LIMIT text
   decimals ← decimals_of whole.1
   Some (1000 * digits_value 10 whole.0 + decimals)
 
@@ -62,7 +63,7 @@ pub record IsDecimal (text : List ℕ) (value : ℤ) : Type 0 where
   pub negative : Bool
   pub whole : List ℕ
   pub decimals : List ℕ
-  pub whole_digits : AreDigits 1 10 whole
-  pub decimal_digits : AreDigits 0 3 decimals
+  pub whole_digits : AreDigits 1 WHOLE_DIGITS_LIMIT whole
+  pub decimal_digits : AreDigits 0 DECIMALS_LIMIT decimals
   pub spelled : text ≡ sign_text negative ++ whole ++ point_text decimals
   pub valued : value ≡ with_sign negative (1000 * digits_value 10 whole + decimals_value decimals)

@@ -1,4 +1,3 @@
 pub mod Canonical
 pub mod Decimal
 pub mod Laws
-pub mod Padded

@@ -4,7 +4,7 @@
 //! call of this crate takes memory.
 #![tactic(auto)]
 
-pub mod laws;
+mod laws;
 mod number;
 mod number_text;
 mod reading;
@@ -13,7 +13,9 @@ mod short_text;
 mod tests;
 mod variants;
 
+pub use laws::{limits_in_numbers, reads_each_decimal, reads_what_is_printed};
 pub use number::{FIX_LIMIT, Fix, Point, READ_LIMIT, SLOPE_LIMIT, Slope};
 pub use number_text::{FIX_TEXT_LIMIT, FixText};
+pub use reading::{DECIMALS_LIMIT, WHOLE_DIGITS_LIMIT};
 pub use short_text::{WORD_LIMIT, Word};
 pub use variants::{BoundForm, SubName, UntilForm};

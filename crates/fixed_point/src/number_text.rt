@@ -18,19 +18,20 @@ pub struct FixText {
 }
 
 impl Model for FixText {
-    ghost use Rattle.std.specs.Prelude.{List, ℕ, length};
-    ghost use Rattle.fixed_point.specs.Padded.{front, IsPadded, padded, length-front, padded-front};
+    ghost use Rattle.std.specs.Prelude.{List, ℕ, length, take};
+    ghost use Rattle.exact.specs.Padded.{IsPadded, padded};
+    ghost use Rattle.exact.proofs.PaddedLemmas.{length-front, padded-front};
     ghost use Rattle.fixed_point.specs.declared.number_text.TheConstants.{FIX_TEXT_LIMIT};
 
     ghost Value = { List ℕ };
 
-    ghost view = { λ a. front a.bytes a.len };
+    ghost view = { λ a. take a.len a.bytes };
 
-    ghost invariant = { λ a. IsPadded FIX_TEXT_LIMIT a.bytes a.len };
+    ghost invariant = { λ a. IsPadded 0 FIX_TEXT_LIMIT a.bytes a.len };
 
-    ghost inverse = { λ text. record { bytes = padded FIX_TEXT_LIMIT text; len = length text } };
+    ghost inverse = { λ text. record { bytes = padded 0 FIX_TEXT_LIMIT text; len = length text } };
 
-    ghost inverse_ok = { λ a h i. record { bytes = padded-front FIX_TEXT_LIMIT a.bytes a.len h i; len = length-front FIX_TEXT_LIMIT a.bytes a.len h i } };
+    ghost inverse_ok = { λ a h i. record { bytes = padded-front 0 FIX_TEXT_LIMIT a.bytes a.len h i; len = length-front 0 FIX_TEXT_LIMIT a.bytes a.len h i } };
 }
 
 impl FixText {

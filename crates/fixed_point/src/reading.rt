@@ -6,6 +6,12 @@ ghost use Rattle.std.specs.List.{prefix_len};
 ghost use Rattle.std.specs.Str.Parse.{digits_value};
 ghost use Rattle.fixed_point.specs.Decimal.{AreDigits, digits_at, decimals_value, decimals_of, size_of, thousandths_of};
 
+/// The most digits of the whole part of a number that is read.
+pub const WHOLE_DIGITS_LIMIT: usize = 10;
+
+/// The most decimals of a number that is read.
+pub const DECIMALS_LIMIT: usize = 3;
+
 // How many digits stand at the front.
 #[tactic(auto, using(std::proofs::lemmas::List::Sums::prefix_len_is))]
 fn digit_count(text: &[u8]) -> usize
@@ -31,7 +37,7 @@ fn split_digits(text: &[u8], most: usize) -> Option<(&[u8], &[u8])>
 // The number that digits write.
 #[tactic(auto, using(crate::proofs::DigitLemmas::number_steps))]
 fn number_of(digits: &[u8]) -> u64
-    requires { AreDigits 0 10 digits.now }
+    requires { AreDigits 0 WHOLE_DIGITS_LIMIT digits.now }
     ensures value { result ≡ digits_value 10 digits.now }
     ensures small { result < 10 ^ length digits.now }
 {
@@ -45,7 +51,7 @@ fn number_of(digits: &[u8]) -> u64
 // The thousandths that up to three digits behind a point stand for.
 #[tactic(auto, using(crate::proofs::DigitLemmas::power_steps))]
 fn value_of_decimals(digits: &[u8]) -> u64
-    requires { AreDigits 1 3 digits.now }
+    requires { AreDigits 1 DECIMALS_LIMIT digits.now }
     ensures value { result ≡ decimals_value digits.now }
     ensures small { result < 1000 }
 {
@@ -69,7 +75,7 @@ fn read_decimals(text: &[u8]) -> Option<u64>
     if *first != b'.' {
         return None;
     }
-    let (decimals, after) = split_digits(rest, 3)?;
+    let (decimals, after) = split_digits(rest, DECIMALS_LIMIT)?;
     if after.is_empty() {
         Some(value_of_decimals(decimals))
     } else {
@@ -83,7 +89,7 @@ fn read_size(text: &[u8]) -> Option<u64>
     ensures value { result ≡ size_of text.now }
     ensures small { IfSome result (λ size. size < 10 ^ 13) }
 {
-    let (whole, rest) = split_digits(text, 10)?;
+    let (whole, rest) = split_digits(text, WHOLE_DIGITS_LIMIT)?;
     let decimals = read_decimals(rest)?;
     Some(1000 * number_of(whole) + decimals)
 }

@@ -21,19 +21,20 @@ pub struct Word {
 }
 
 impl Model for Word {
-    ghost use Rattle.std.specs.Prelude.{List, ℕ, length};
-    ghost use Rattle.fixed_point.specs.Padded.{front, IsPadded, padded, length-front, padded-front};
+    ghost use Rattle.std.specs.Prelude.{List, ℕ, length, take};
+    ghost use Rattle.exact.specs.Padded.{IsPadded, padded};
+    ghost use Rattle.exact.proofs.PaddedLemmas.{length-front, padded-front};
     ghost use Rattle.fixed_point.specs.declared.short_text.TheConstants.{WORD_LIMIT};
 
     ghost Value = { List ℕ };
 
-    ghost view = { λ a. front a.bytes a.len };
+    ghost view = { λ a. take a.len a.bytes };
 
-    ghost invariant = { λ a. IsPadded WORD_LIMIT a.bytes a.len };
+    ghost invariant = { λ a. IsPadded 0 WORD_LIMIT a.bytes a.len };
 
-    ghost inverse = { λ text. record { bytes = padded WORD_LIMIT text; len = length text } };
+    ghost inverse = { λ text. record { bytes = padded 0 WORD_LIMIT text; len = length text } };
 
-    ghost inverse_ok = { λ a h i. record { bytes = padded-front WORD_LIMIT a.bytes a.len h i; len = length-front WORD_LIMIT a.bytes a.len h i } };
+    ghost inverse_ok = { λ a h i. record { bytes = padded-front 0 WORD_LIMIT a.bytes a.len h i; len = length-front 0 WORD_LIMIT a.bytes a.len h i } };
 }
 
 impl Word {

@@ -10,10 +10,13 @@ use crate::{Kind, LexFault, Token};
 use std::alloc::{AllocError, Global};
 use std::marker::Model;
 
+/// The most bytes of a line that is cut into tokens.
+pub const LEXER_LIMIT: usize = 16_384;
+
 // Adds the tokens of a line, up to the first byte at which no token begins, and answers that byte.
 fn fill(tokens: &mut Vec<Token>, line: &[u8]) -> Option<usize>
     requires empty { tokens.old.items ≡ [] }
-    requires short { length line.now ≤ 16384 }
+    requires short { length line.now ≤ LEXER_LIMIT }
     requires room { length line.now ≤ vec_capacity tokens.old }
     ensures bad { result ≡ bad_place line.now }
     ensures tokens { result ≡ None → tokens.new.items ≡ tokens_of line.now }
@@ -69,6 +72,7 @@ pub struct Tokens {
 impl Model for Tokens {
     ghost use Rattle.std.specs.Prelude.{◌≡◌, ◌≤◌, ℕ, List, None, length};
     ghost use Rattle.ftl_lexer.specs.Tokens.{bad_place, tokens_of};
+    ghost use Rattle.ftl_lexer.specs.declared.buffer.TheConstants.{LEXER_LIMIT};
 
     ghost Value = { List ℕ };
 
@@ -76,7 +80,7 @@ impl Model for Tokens {
 
     ghost invariant = { λ t. (t.tokens.items ≡ tokens_of t.line.items)
         × (bad_place t.line.items ≡ None)
-        × (length t.line.items ≤ 16384) };
+        × (length t.line.items ≤ LEXER_LIMIT) };
 }
 
 impl Tokens {
@@ -94,7 +98,7 @@ impl Tokens {
     /// first byte at which no token begins, also where there is no memory; it then holds the empty line.
     /// After `NoMemory` it holds what it held.
     pub fn read(&mut self, line: &[u8]) -> Result<(), LexFault>
-        requires { length line.now ≤ 16384 }
+        requires { length line.now ≤ LEXER_LIMIT }
         ensures ok { OnOk result ((self.new ≡ line.now) × (bad_place line.now ≡ None)) }
         ensures cause { IfErr result (Explains line.now) }
         ensures stands { IfErr result (StandsAfter self.old self.new) }
@@ -122,7 +126,7 @@ impl Tokens {
     pub fn len(&self) -> usize
         ensures value { result ≡ length (tokens_of self.now) }
         ensures read { bad_place self.now ≡ None }
-        ensures short { length self.now ≤ 16384 }
+        ensures short { length self.now ≤ LEXER_LIMIT }
     {
         let _line = &self.line;
         self.tokens.len()

@@ -1,8 +1,9 @@
-//! What holds of the tokens of every line, as calls that do nothing.
+//! What holds of the tokens of every line. Each is a contract with nothing to run.
 
 ghost use Rattle.std.specs.Prelude.{◌≡◌, ℕ, List, [], ◌∷◌, ◌++◌, Some, None, length, IsTrue};
 ghost use Rattle.case_table.specs.Rows.{code_of};
 ghost use Rattle.case_table.specs.Language.{symbols};
+ghost use Rattle.ftl_lexer.specs.declared.buffer.TheConstants.{LEXER_LIMIT};
 ghost use Rattle.ftl_lexer.specs.declared.kinds.Kind.TheVariants.{Number, Text, Sym};
 ghost use Rattle.ftl_lexer.specs.Forms.{is_blank, name_len, digits_len, fraction_len, word_kind};
 ghost use Rattle.ftl_lexer.specs.Tokens.{bad_place, tokens_of, lexemes};
@@ -46,4 +47,9 @@ pub fn written_tokens_are_read_back()
         → code_of symbols (symbol ∷ []) ≡ Some code
         → cut 0 (symbol ∷ rest) ≡ put_before (Sym code, symbol ∷ []) (cut 0 rest) }
     ensures blank { (b : ℕ) (rest : List ℕ) → IsTrue (is_blank b) → cut 0 (b ∷ rest) ≡ cut 0 rest }
+{}
+
+/// The limit of this crate by its number.
+pub fn limits_in_numbers()
+    ensures lexer { LEXER_LIMIT ≡ 16384 }
 {}

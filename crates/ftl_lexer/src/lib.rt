@@ -4,15 +4,19 @@
 mod buffer;
 mod fault;
 mod kinds;
-pub mod laws;
+mod laws;
 mod quotes;
 mod scan;
 mod walk;
 mod whole;
 
-pub use buffer::Tokens;
+pub use buffer::{LEXER_LIMIT, Tokens};
 pub use fault::LexFault;
 pub use kinds::{Kind, Token};
+pub use laws::{
+    cut_gives_the_tokens, limits_in_numbers, spans_ascend, tokens_have_forms,
+    written_tokens_are_read_back,
+};
 pub use quotes::unquoted;
 pub use walk::bad_token;
 pub use whole::tokens;

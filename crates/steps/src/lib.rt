@@ -34,7 +34,10 @@ impl<L: Ledger> Model for Steps<L> {
 impl<L: Ledger> Steps<L> {
     /// A count of no steps, over a new ledger. The ledger must be the one that `L` stands for and have
     /// a part: a caller makes it by `Blank::new(1)`, and picks `L` in its proof.
-    pub fn new(blank: Blank) -> Self
+    ///
+    /// Only `main` and tests have the runtime, so no call below them can count on a counter of its own and
+    /// leave the one that it was given as it is.
+    pub fn new(_runtime: &HostRuntime, blank: Blank) -> Self
         requires name { blank.name ≡ L.name }
         requires parts { blank.parts ≡ L.parts }
         requires some_part { 0 < blank.parts }

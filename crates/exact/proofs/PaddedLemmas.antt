@@ -1,0 +1,41 @@
+-- What is in the front of an array, and the array again.
+use Rattle.std.proofs.Common.{◌≡◌, ℕ, ◌+◌, ◌-◌, ◌≤◌, List, ◌++◌, length, take, drop, replicate, ◌∙◌, ap, sym, arith, length-append, length-drop, length-take-le, take-append-drop}
+use Rattle.std.proofs.lemmas.List.{drop-replicate, length-replicate, drop-drop}
+use Rattle.std.proofs.lemmas.Slice.{drop-put_mid}
+use Rattle.std.proofs.Math.Seq.{drop-append_seam}
+use borrow.Rule.Slice.PartMut.{put_mid}
+use Rattle.exact.specs.Padded.{padded, IsPadded}
+
+pub length-front : {A : Type 0} (filler : A) (room : ℕ) (places : List A) (count : ℕ) → IsPadded filler room places count → length (take count places) ≡ count
+length-front filler room places count p =
+    let short : count ≤ length places = omega (arith, p.fits, p.full) in
+    length-take-le count places short
+
+-- an array is its items and the filler behind them
+pub padded-front : {A : Type 0} (filler : A) (room : ℕ) (places : List A) (count : ℕ) → IsPadded filler room places count → padded filler room (take count places) ≡ places
+padded-front filler room places count p =
+    rw (length-front filler room places count p, ← p.unused) (take-append-drop count places)
+
+-- items over the front of an array of fillers
+pub padded_over : {A : Type 0} (filler : A) (room : ℕ) (items fillers : List A) → length items ≤ room → fillers ≡ replicate room filler → IsPadded filler room (items ++ drop (length items) fillers) (length items)
+padded_over {A} filler room items fillers fits are = record {
+  fits = fits;
+  full = let long : length fillers ≡ room = ap length are ∙ length-replicate {A = A} room filler in omega (arith, length-append {A = A}, length-drop {A = A});
+  unused = drop-append_seam items (drop (length items) fillers) ∙ ap (drop (length items)) are ∙ drop-replicate (length items) room filler;
+}
+
+-- more items behind those that are there
+pub padded_behind : {A : Type 0} (filler : A) (room : ℕ) (places part : List A) (count : ℕ) → IsPadded filler room places count → count + length part ≤ room → IsPadded filler room (put_mid count (count + length part - count) places part) (count + length part)
+padded_behind {A} filler room places part count was fits =
+    let within : count ≤ length places = omega (arith, was.fits, was.full) in
+    let same : length part ≡ count + length part - count = omega arith in
+    record {
+      fits = fits;
+      full = omega (arith, length-append {A = A}, length-drop {A = A}, length-take-le count places within, was.full);
+      unused =
+          drop-put_mid count (count + length part - count) places part (count + length part) (omega arith) within same
+          ∙ sym (drop-drop (length part) count places)
+          ∙ ap (drop (length part)) was.unused
+          ∙ drop-replicate (length part) (room - count) filler
+          ∙ ap (λ n. replicate n filler) (omega arith);
+    }
