@@ -42,6 +42,22 @@ module _ (rest : List Span) (s : Span) (first : Some s ≡ slice_get rest 0) (no
   pub same_inside : s.lo ≤ at → (u : ℕ) → at ≤ u → u < s.hi + 1 → spans_have rest u ≡ spans_have rest at
   same_inside l u from to = rw is (grind (arith, nat_tests, not_past))
 
+  -- its start differs from the ticks before it, and the tick after its end from those in it
+  has_start : spans_have rest s.lo ≡ true
+  has_start = let order : s.lo ≤ s.hi = s.ordered in rw is (grind (arith, nat_tests))
+
+  pub differs_before : at < s.lo → spans_have rest s.lo ≡ spans_have rest at → ⊥
+  differs_before l e =
+      let all : IsNormalFrom s.lo (s ∷ later) = (omega arith, past_first) in
+      let out : spans_have rest at ≡ false = rw is (spans_have-below (s ∷ later) s.lo at all l) in
+      false≢true (sym out ∙ sym e ∙ has_start)
+
+  pub differs_inside : s.lo ≤ at → spans_have rest (s.hi + 1) ≡ spans_have rest at → ⊥
+  differs_inside l e =
+      let out : spans_have rest (s.hi + 1) ≡ false = rw is (grind (arith, nat_tests, spans_have-below later (s.hi + 2) (s.hi + 1) past_first)) in
+      let here : spans_have rest at ≡ true = rw is (grind (arith, nat_tests, not_past)) in
+      false≢true (sym out ∙ e ∙ here)
+
 -- rest is the spans without some that end before a tick
 pub record IsRestFrom (at : ℕ) (spans rest : List Span) : Type 0 where
   pub normal : IsNormal rest

@@ -1,5 +1,5 @@
 //! A walk along the spans of a set: what they say from a tick on.
-ghost use Rattle.std.specs.Prelude.{◌≡◌, ◌≤◌, ◌<◌, ◌+◌, ℕ};
+ghost use Rattle.std.specs.Prelude.{◌≡◌, ◌≢◌, ◌⊎◌, ◌≤◌, ◌<◌, ◌+◌, ℕ};
 ghost use Rattle.tick_set.specs.Runs.{IsNormal, spans_have};
 ghost use Rattle.interval_set.specs.Cursor.{EndsFrom, IsPast};
 
@@ -36,8 +36,8 @@ pub fn holds(rest: &[Span], at: u32) -> bool
     }
 }
 
-/// The first tick after `at` that may differ from it, where no span ends before `at`. It is at most
-/// one past the last tick.
+/// The first tick after `at` that differs from it, where no span ends before `at`. It is one past the last
+/// tick where none differs.
 #[inline]
 pub fn change(rest: &[Span], at: u32) -> u32
     requires normal { IsNormal rest.now }
@@ -45,6 +45,8 @@ pub fn change(rest: &[Span], at: u32) -> u32
     requires in_range { at ≤ LAST_TICK }
     ensures after { at < result }
     ensures in_range { result ≤ LAST_TICK + 1 }
+    ensures first { (result ≡ LAST_TICK + 1)
+        ⊎ (spans_have rest.now result ≢ spans_have rest.now at) }
     ensures same { (u : ℕ) → at ≤ u → u < result → spans_have rest.now u ≡ spans_have rest.now at }
 {
     match rest.first() {

@@ -1,10 +1,11 @@
 //! The fast set of ticks: its maximal runs, kept as spans.
 #![tactic(auto)]
 
-pub mod cursor;
+mod cursor;
 mod set;
 mod sweep;
 
+pub use cursor::past;
 pub use set::IntervalSet;
 
 #[cfg(test)]

@@ -1,6 +1,6 @@
 //! The set as its spans.
 ghost use Rattle.std.specs.Prelude.{◌≡◌};
-ghost use Rattle.tick_set.specs.Runs.{IsNormal, IsRuns, spans_have};
+ghost use Rattle.tick_set.specs.Runs.{IsNormal, spans_have};
 
 use crate::cursor::contains;
 use crate::sweep::swept;
@@ -30,7 +30,7 @@ impl Model for IntervalSet {
 impl IntervalSet {
     /// The set whose maximal runs these are.
     #[inline]
-    pub fn of_runs(runs: Vec<Span>) -> IntervalSet
+    pub fn from_runs(runs: Vec<Span>) -> IntervalSet
         requires { IsNormal runs.items }
         ensures { result ≡ runs.items }
     {
@@ -41,7 +41,7 @@ impl IntervalSet {
     #[inline]
     pub fn spans(&self) -> &[Span]
         ensures value { result.now ≡ self.now }
-        ensures runs { IsRuns (spans_have self.now) result.now }
+        ensures normal { IsNormal result.now }
     {
         &self.spans
     }
@@ -59,6 +59,12 @@ impl TickSet for IntervalSet {
     fn of_span(alloc: Global, s: Span) -> Result<Self, AllocError> {
         Ok(IntervalSet {
             spans: Vec::from_slice(alloc, &[s])?,
+        })
+    }
+
+    fn of_runs(alloc: Global, runs: &[Span]) -> Result<Self, AllocError> {
+        Ok(IntervalSet {
+            spans: Vec::from_slice(alloc, runs)?,
         })
     }
 

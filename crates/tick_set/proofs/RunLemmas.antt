@@ -35,7 +35,7 @@ spans_have-in_range (s ∷ rest) t h =
     ]
 
 -- two tests that agree on a range keep the same ticks of it
-filter_range_agree : (p q : ℕ → Bool) (n a : ℕ) → ((t : ℕ) → a ≤ t → t < a + n → p t ≡ q t) → filter p (range_with_len a n) ≡ filter q (range_with_len a n)
+pub filter_range_agree : (p q : ℕ → Bool) (n a : ℕ) → ((t : ℕ) → a ≤ t → t < a + n → p t ≡ q t) → filter p (range_with_len a n) ≡ filter q (range_with_len a n)
 filter_range_agree p q zero a h = refl
 filter_range_agree p q (suc n) a h = grind (arith, h a (omega arith) (omega arith), filter_range_agree p q n (a + 1) (λ t l k. h t (omega arith) (omega arith)))
 

@@ -1,6 +1,6 @@
 -- Lists of ticks that ascend.
 use Rattle.std.proofs.Common.{sym, ◌≡◌, ℕ, ◌+◌, ◌<◌, ◌≤◌, true, false, refl, ◌&&◌, ◌||◌, eqb, ltb, length, List, [], ◌∷◌, ◌++◌, ap, ◌∙◌, inl, inr, zero, suc, get_or, Result, Ok, Err, is_ok, IsTrue, ◌↔◌, arith}
-use Rattle.std.proofs.lemmas.Bool.{false≢true, or_right, or_cases, or_from, eqb-true, ne_eqb, cases_eq, cases_lt, cases_order}
+use Rattle.std.proofs.lemmas.Bool.{false≢true, or_left, or_right, or_cases, or_from, eqb-true, ne_eqb, cases_eq, cases_lt, cases_order}
 use Rattle.std.proofs.lemmas.Bool.Decides.{nat_tests}
 use Rattle.std.proofs.lemmas.Grind.{common_steps}
 use Rattle.std.proofs.lemmas.List.Folds.{list_any-append}
@@ -9,13 +9,13 @@ use Rattle.std.specs.List.Sorted.{IsBinarySearchResult}
 use Rattle.std.specs.Ordering.{nat_cmp}
 use Rattle.std.specs.Cmp.Lexicographic.{pointwise, bytes_decides}
 use Rattle.tick_set.proofs.Between.{within_parts, within_from}
-use Rattle.tick_set.proofs.RunLemmas.{IsNormalFrom-push, spans_have-append}
+use Rattle.tick_set.proofs.RunLemmas.{IsNormalFrom-push, IsNormalFrom-weaker, spans_have-append, spans_have-below}
 use Rattle.tick_set.specs.declared.operation.SetOperation.{SetOperation}
 use Rattle.tick_set.specs.declared.operation.SetOperation.TheVariants.{Union, Meet, Without}
 use Rattle.tick_set.specs.declared.spans.Span.{Span}
 use Rattle.tick_set.specs.TickList.{has, IsAscending, IsAscendingFrom}
 use Rattle.tick_set.specs.SetOperation.{kept}
-use Rattle.tick_set.specs.Runs.{spans_have, IsNormal}
+use Rattle.tick_set.specs.Runs.{spans_have, IsNormal, IsNormalFrom}
 use Rattle.tick_set.specs.Ticks.{within}
 
 pub IsAscendingFrom-push : (ticks : List ℕ) (from t : ℕ) → IsAscendingFrom from ticks → ((u : ℕ) → has ticks u ≡ true → u < t) → from ≤ t → t ≤ 1000000000 → IsAscendingFrom from (ticks ++ t ∷ [])
@@ -243,3 +243,37 @@ pub equal_iff : (xs ys : List ℕ) → IsAscending xs → IsAscending ys → IsT
 equal_iff xs ys h k =
     let decides = bytes_decides xs ys in
     (λ e t. ap (λ ticks. has ticks t) (decides.0 e), λ e. decides.1 (ascending_same xs ys 0 0 h k e))
+
+-- the ticks of the runs before `rest` are there
+pub record FilledSoFar (runs : List Span) (made : List ℕ) (rest : List Span) : Type 0 where
+  pub normal : IsNormal rest
+  pub before : (t u : ℕ) → has made t ≡ true → spans_have rest u ≡ true → t < u
+  pub ticks : (t : ℕ) → (has made t || spans_have rest t) ≡ spans_have runs t
+
+pub filled_none : (runs : List Span) → IsNormal runs → FilledSoFar runs [] runs
+filled_none runs h = record { normal = h; before = λ t u e k. absurd (false≢true e); ticks = λ t. refl }
+
+module _ (runs : List Span) (made : List ℕ) (rest : List Span) (s : Span) (later : List Span) (so_far : FilledSoFar runs made rest) (begins : rest ≡ s ∷ later) where
+  pub run_above : (t : ℕ) → has made t ≡ true → t < s.lo
+  run_above t e =
+      let order : s.lo ≤ s.hi = s.ordered in
+      so_far.before t s.lo e (rw begins (or_left (within s.lo s.hi s.lo) (spans_have later s.lo) (within_from s.lo s.hi s.lo (omega arith) order)))
+
+  later_normal : IsNormalFrom (s.hi + 2) later
+  later_normal = (rw begins at so_far.normal).1
+
+  pub filled_more : (made' : List ℕ) → ((t : ℕ) → has made' t ≡ (has made t || within s.lo s.hi t)) → FilledSoFar runs made' later
+  filled_more made' more = record {
+    normal = IsNormalFrom-weaker (s.hi + 2) 0 later (omega arith) later_normal;
+    before = λ t u e k.
+        elim (or_cases (has made t) (within s.lo s.hi t) (sym (more t) ∙ e)) [
+          | inl old ↦ so_far.before t u old (rw begins (or_right (within s.lo s.hi u) (spans_have later u) k))
+          | inr here ↦ elim (cases_lt u (s.hi + 2)) [
+            | inl low ↦ absurd (false≢true (sym (spans_have-below later (s.hi + 2) u later_normal low) ∙ k))
+            | inr high ↦ omega (arith, (within_parts s.lo s.hi t here).1, high)
+          ]
+        ];
+    ticks = λ t.
+        let all : (has made t || (within s.lo s.hi t || spans_have later t)) ≡ spans_have runs t = rw begins at (so_far.ticks t) in
+        grind (arith, more t, all);
+  }

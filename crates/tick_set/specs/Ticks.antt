@@ -1,5 +1,5 @@
 -- Ticks are whole numbers. A set of ticks is a test of numbers.
-use Rattle.std.specs.Prelude.{◌≡◌, ℕ, ◌+◌, ◌-◌, Bool, true, ◌&&◌, nat_le, List, filter}
+use Rattle.std.specs.Prelude.{◌≡◌, ℕ, ◌+◌, ◌-◌, ◌≤◌, Bool, true, ◌&&◌, nat_le, List, filter}
 use Rattle.std.specs.List.{range_with_len, list_any, list_all}
 
 -- whether t is one of lo to hi, both included
@@ -9,6 +9,10 @@ within lo hi t = nat_le lo t && nat_le t hi
 -- each tick that passes the test is one of lo to hi
 abbrev pub LiesIn : ℕ → ℕ → (ℕ → Bool) → Type 0
 LiesIn lo hi test = (t : ℕ) → test t ≡ true → within lo hi t ≡ true
+
+-- two tests agree at each tick of lo to hi
+abbrev pub AgreeIn : ℕ → ℕ → (ℕ → Bool) → (ℕ → Bool) → Type 0
+AgreeIn lo hi p q = (t : ℕ) → lo ≤ t → t ≤ hi → p t ≡ q t
 
 -- the ticks from a up to b, without b
 unfoldable pub between : ℕ → ℕ → List ℕ

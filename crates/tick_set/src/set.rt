@@ -1,7 +1,7 @@
 //! What a set of ticks is.
 ghost use Rattle.std.specs.Prelude.{◌≡◌, ◌≤◌, ◌↔◌, ℕ, Bool, true, false, not, ◌&&◌, ◌||◌, IsTrue, IfOk};
 ghost use Rattle.tick_set.specs.Ticks.{within};
-ghost use Rattle.tick_set.specs.Runs.{IsRuns};
+ghost use Rattle.tick_set.specs.Runs.{IsNormal, IsRuns, spans_have};
 
 use crate::{LAST_TICK, Span, Window};
 use std::alloc::{AllocError, Global};
@@ -20,6 +20,11 @@ pub trait TickSet: Drop {
     /// The ticks of one span.
     fn of_span(alloc: Global, s: Span) -> Result<Self, AllocError>
         ensures { IfOk result (λ r. (t : ℕ) → member r t ≡ within s.lo s.hi t) };
+
+    /// The set whose maximal runs these are, ascending.
+    fn of_runs(alloc: Global, runs: &[Span]) -> Result<Self, AllocError>
+        requires { IsNormal runs.now }
+        ensures { IfOk result (λ s. (t : ℕ) → member s t ≡ spans_have runs.now t) };
 
     /// Whether the tick is in the set.
     fn has(&self, t: u32) -> bool

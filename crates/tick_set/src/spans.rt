@@ -5,6 +5,9 @@ ghost use Rattle.tick_set.specs.declared.spans.TheConstants.{LAST_TICK};
 /// The last tick; the first is 0.
 pub const LAST_TICK: u32 = 1_000_000_000;
 
+/// The most ticks from the first to the last of a query's window.
+pub const SPAN_LIMIT: u32 = 100_000_000;
+
 /// The ticks from `lo` to `hi`, both included, that a question is asked of.
 #[derive(Clone, Copy, Debug, PartialEq, Eq)]
 pub struct Window {
@@ -60,6 +63,17 @@ impl Span {
             Some(Span { lo, hi })
         } else {
             None
+        }
+    }
+
+    /// The span as a window.
+    #[inline]
+    pub fn window(self) -> Window
+        ensures { (result.lo ≡ self.lo) × (result.hi ≡ self.hi) }
+    {
+        Window {
+            lo: self.lo,
+            hi: self.hi,
         }
     }
 }

@@ -2,29 +2,17 @@ use super::*;
 use std::alloc::{AllocError, Global};
 use std::test::Fail;
 
-// The set of the ticks of these spans.
-fn set_of<S: TickSet>(alloc: Global, spans: &[(u32, u32)]) -> Result<S, Fail> {
-    let mut set = S::empty(alloc);
-    for (lo, hi) in spans {
-        let span = Span::new(*lo, *hi).ok_or("no such span")?;
-        let ticks = S::of_span(alloc, span)?;
-        set = set.union(alloc, &ticks)?;
-    }
-    Ok(set)
-}
-
-// The runs of a set as pairs.
-fn runs_of<S: TickSet>(alloc: Global, set: &S) -> Result<Vec<(u32, u32)>, AllocError> {
-    let spans = set.runs(alloc)?;
+// The spans as pairs.
+fn pairs_of(alloc: Global, spans: &[Span]) -> Result<Vec<(u32, u32)>, AllocError> {
     let mut pairs = Vec::new(alloc);
-    for s in &spans {
+    for s in spans {
         pairs.push((s.lo, s.hi))?;
     }
     Ok(pairs)
 }
 
-fn window(lo: u32, hi: u32) -> Result<Window, Fail> {
-    Ok(Window::new(lo, hi).ok_or("no such window")?)
+fn span(lo: u32, hi: u32) -> Result<Span, Fail> {
+    Ok(Span::new(lo, hi).ok_or("no such span")?)
 }
 
 #[test]
@@ -46,33 +34,49 @@ fn spans_and_windows_lie_in_range(rt: HostRuntime) {
 }
 
 #[test]
-fn neighbors_are_one_run(rt: HostRuntime) -> Result<(), Fail> {
+fn spans_have_parts(rt: HostRuntime) -> Result<(), Fail> {
+    let early = span(3, 8)?;
+    assert_eq!(rt; early.meet(span(8, 9)?), Some(span(8, 8)?));
+    assert_eq!(rt; early.meet(span(9, 9)?), None);
+    assert_eq!(rt; Span::stretch(3, 9), Some(early));
+    assert_eq!(rt; Span::stretch(9, 9), None);
+    assert_eq!(rt; early.window().span(), early);
+    Ok(())
+}
+
+#[test]
+fn runs_are_built(rt: HostRuntime) -> Result<(), Fail> {
     let alloc = rt.alloc();
-    let first: TickList = set_of(alloc, &[(3, 5)])?;
-    let both = first.union(alloc, &set_of(alloc, &[(6, 9)])?)?;
-    assert_eq!(rt; runs_of(alloc, &both)?.as_slice(), [(3, 9)].as_slice());
+    let mut runs = Runs::new(alloc);
+    runs.append(Some(span(3, 5)?))?;
+    assert_eq!(rt; runs.spans(), [span(3, 5)?].as_slice());
+    runs.clear();
+    runs.append(Some(span(0, 1)?))?;
+    runs.append(None)?;
+    assert_eq!(rt;
+        pairs_of(alloc, &runs.finish())?.as_slice(),
+        [(0, 1)].as_slice()
+    );
     Ok(())
 }
 
 #[test]
 fn sets_are_put_together(rt: HostRuntime) -> Result<(), Fail> {
     let alloc = rt.alloc();
-    let set: TickList = set_of(alloc, &[(0, 4), (8, 9)])?;
-    let other = set_of(alloc, &[(4, 8)])?;
+    let set = TickList::of_span(alloc, span(0, 4)?)?;
+    let other = TickList::of_span(alloc, span(4, 8)?)?;
+    let window = span(3, 8)?.window();
     let table = [
-        ("meet", set.meet(alloc, &other)?, [(4, 4), (8, 8)]),
-        ("without", set.without(alloc, &other)?, [(0, 3), (9, 9)]),
-        (
-            "complement",
-            set.complement(alloc, window(0, 10)?)?,
-            [(5, 7), (10, 10)],
-        ),
-        ("clip", set.clip(alloc, window(3, 8)?)?, [(3, 4), (8, 8)]),
+        ("union", set.union(alloc, &other)?, (0, 8)),
+        ("meet", set.meet(alloc, &other)?, (4, 4)),
+        ("without", set.without(alloc, &other)?, (0, 3)),
+        ("complement", set.complement(alloc, window)?, (5, 8)),
+        ("clip", set.clip(alloc, window)?, (3, 4)),
     ];
     for (name, made, wanted) in &table {
         assert_eq!(rt;
-            runs_of(alloc, made)?.as_slice(),
-            wanted.as_slice(),
+            pairs_of(alloc, &made.runs(alloc)?)?.as_slice(),
+            [*wanted].as_slice(),
             "{name}"
         );
     }
@@ -85,20 +89,9 @@ fn a_set_knows_its_ticks(rt: HostRuntime) -> Result<(), Fail> {
     let mut set = TickList::empty(alloc);
     assert!(rt; set.is_empty());
     set.push(7)?;
-    assert!(rt; !set.is_empty());
+    let same = TickList::of_runs(alloc, &[span(7, 7)?])?;
+    assert!(rt; same.equal(&set));
     let copy = set.copy(alloc)?;
-    assert!(rt; copy.equal(&set));
-    let last: TickList = set_of(alloc, &[(LAST_TICK, LAST_TICK)])?;
-    assert!(rt; !last.equal(&set));
-    let both = set.union(alloc, &last)?;
-    for (t, wanted) in [
-        (0, false),
-        (7, true),
-        (8, false),
-        (LAST_TICK, true),
-        (u32::MAX, false),
-    ] {
-        assert_eq!(rt; both.has(t), wanted, "the tick {t}");
-    }
+    assert!(rt; copy.has(7) && !copy.has(8) && !copy.has(u32::MAX));
     Ok(())
 }

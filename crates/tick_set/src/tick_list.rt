@@ -39,6 +39,17 @@ impl TickList {
         Ok(())
     }
 
+    // Adds the ticks of a span that begins above all that are there.
+    fn push_span(&mut self, s: Span) -> Result<(), AllocError>
+        requires above { (u : ℕ) → has self.old u ≡ true → u < s.lo }
+        ensures { OnOk result ((u : ℕ) → has self.new u ≡ (has self.old u || within s.lo s.hi u)) }
+    {
+        for t in s.lo..=s.hi {
+            self.push(t)?;
+        }
+        Ok(())
+    }
+
     // An empty set with memory for `room` ticks.
     fn with_room(alloc: Global, room: usize) -> Result<TickList, AllocError>
         ensures { IfOk result (λ s. s ≡ []) }
@@ -60,8 +71,16 @@ impl TickSet for TickList {
 
     fn of_span(alloc: Global, s: Span) -> Result<Self, AllocError> {
         let mut made = TickList::with_room(alloc, (s.hi - s.lo) as usize + 1)?;
-        for t in s.lo..=s.hi {
-            made.push(t)?;
+        made.push_span(s)?;
+        Ok(made)
+    }
+
+    fn of_runs(alloc: Global, runs: &[Span]) -> Result<Self, AllocError> {
+        let mut made = TickList::empty(alloc);
+        let mut rest = runs;
+        while let Some((s, later)) = rest.split_first() {
+            made.push_span(*s)?;
+            rest = later;
         }
         Ok(made)
     }

@@ -8,14 +8,15 @@ use interval_set::IntervalSet;
 use std::alloc::{AllocError, Global};
 use tick_set::{LAST_TICK, Span, TickSet, Window};
 
+// `c` is never added to a tick. Where it is subtracted, the difference ends at 0.
 impl Temporal for IntervalSet {
     fn next(&self, alloc: Global, w: Window) -> Result<Self, AllocError> {
-        Ok(IntervalSet::of_runs(moved(alloc, self.spans(), 1, w.lo)?))
+        Ok(IntervalSet::from_runs(moved(alloc, self.spans(), 1, w.lo)?))
     }
 
     fn until(&self, alloc: Global, h: &Self, _w: Window) -> Result<Self, AllocError> {
         // No goal is further off than the last tick.
-        Ok(IntervalSet::of_runs(until_within(alloc, self.spans(), h.spans(), LAST_TICK)?))
+        Ok(IntervalSet::from_runs(until_within(alloc, self.spans(), h.spans(), LAST_TICK)?))
     }
 
     fn until_within(
@@ -25,7 +26,7 @@ impl Temporal for IntervalSet {
         c: u32,
         _w: Window,
     ) -> Result<Self, AllocError> {
-        Ok(IntervalSet::of_runs(until_within(alloc, self.spans(), h.spans(), c)?))
+        Ok(IntervalSet::from_runs(until_within(alloc, self.spans(), h.spans(), c)?))
     }
 
     fn until_after(&self, alloc: Global, h: &Self, c: u32, w: Window) -> Result<Self, AllocError> {
@@ -33,15 +34,15 @@ impl Temporal for IntervalSet {
             return self.until(alloc, h, w);
         }
         // From t on the guard has c ticks, and t + c leads to a goal.
-        let guarded = IntervalSet::of_runs(held(alloc, self.spans(), c - 1, LAST_TICK + 1)?);
+        let guarded = IntervalSet::from_runs(held(alloc, self.spans(), c - 1, LAST_TICK + 1)?);
         let leading = until_within(alloc, self.spans(), h.spans(), LAST_TICK)?;
-        let reached = IntervalSet::of_runs(moved(alloc, &leading, c, w.lo)?);
+        let reached = IntervalSet::from_runs(moved(alloc, &leading, c, w.lo)?);
         let both = guarded.meet(alloc, &reached)?;
         Ok(both)
     }
 
     fn eventually_within(&self, alloc: Global, c: u32, w: Window) -> Result<Self, AllocError> {
-        Ok(IntervalSet::of_runs(until_within(alloc, &[w.span()], self.spans(), c)?))
+        Ok(IntervalSet::from_runs(until_within(alloc, &[w.span()], self.spans(), c)?))
     }
 
     fn eventually_after(&self, alloc: Global, c: u32, w: Window) -> Result<Self, AllocError> {
@@ -57,6 +58,6 @@ impl Temporal for IntervalSet {
     }
 
     fn always_for(&self, alloc: Global, c: u32, w: Window) -> Result<Self, AllocError> {
-        Ok(IntervalSet::of_runs(held(alloc, self.spans(), c, w.hi)?))
+        Ok(IntervalSet::from_runs(held(alloc, self.spans(), c, w.hi)?))
     }
 }

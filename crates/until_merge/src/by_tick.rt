@@ -8,6 +8,7 @@ use crate::Temporal;
 use std::alloc::{AllocError, Global};
 use tick_set::{LAST_TICK, TickList, TickSet, Window};
 
+// `c` is added to a tick only where the sum is at most the window's last tick.
 impl Temporal for TickList {
     fn next(&self, alloc: Global, w: Window) -> Result<Self, AllocError> {
         ticks_where(alloc, w, |t| t < w.hi && self.has(t + 1))

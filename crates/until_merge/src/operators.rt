@@ -13,8 +13,7 @@ use tick_set::{TickSet, Window};
 /// those of its second. It gives the ticks of the window at which the operator holds, where nothing after the
 /// window's last tick counts. It fails only where memory is out.
 ///
-/// `c` is any number of ticks. No call adds it to a tick unless the sum is at most the window's last tick, and
-/// where it is subtracted, the difference ends at 0.
+/// `c` is any number of ticks.
 pub trait Temporal: TickSet {
     /// The ticks whose next one is in the set: NEXTTIME.
     fn next(&self, alloc: Global, w: Window) -> Result<Self, AllocError>

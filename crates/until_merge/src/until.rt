@@ -6,7 +6,7 @@ ghost use Rattle.tick_set.specs.Runs.{IsNormal, spans_have};
 ghost use Rattle.interval_set.specs.Cursor.{EndsFrom};
 ghost use Rattle.until_merge.specs.Start.{IsStart};
 
-use interval_set::cursor::past;
+use interval_set::past;
 use std::alloc::{AllocError, Global};
 use tick_set::{LAST_TICK, Span};
 

@@ -6,4 +6,4 @@ use Rattle.until_merge.proofs.by_span.IntervalSetTemporal.always_for.Goals as go
 pub returns : goal.returns
 returns c = λ t.
     let held = rw c.spans.ensures.value at (c.in_ok-held.ensures.ticks t) in
-    rw c.of_runs.ensures (held ∙ held_within (spans_have c.args.self.now) _ _ c.requires _ t)
+    rw c.from_runs.ensures (held ∙ held_within (spans_have c.args.self.now) _ _ c.requires _ t)

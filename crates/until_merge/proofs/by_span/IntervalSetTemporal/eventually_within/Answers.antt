@@ -6,4 +6,4 @@ use Rattle.until_merge.proofs.by_span.IntervalSetTemporal.eventually_within.Goal
 pub returns : goal.returns
 returns c = λ t.
     let found = rw c.spans.ensures.value at (c.in_ok-until_within.ensures.ticks t) in
-    rw c.of_runs.ensures (found ∙ until_by_window (spans_have c.args.self.now) _ _ c.requires _ (one_span c.span.result _ _ c.span.ensures.0 c.span.ensures.1) _ t)
+    rw c.from_runs.ensures (found ∙ until_by_window (spans_have c.args.self.now) _ _ c.requires _ (one_span c.span.result _ _ c.span.ensures.0 c.span.ensures.1) _ t)

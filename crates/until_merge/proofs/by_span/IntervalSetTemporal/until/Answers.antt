@@ -6,4 +6,4 @@ use Rattle.until_merge.proofs.by_span.IntervalSetTemporal.until.Goals as goal
 pub returns : goal.returns
 returns c = λ t.
     let found = rw (c.spans.ensures.value, c.spans-2.ensures.value) at (c.in_ok-until_within.ensures.ticks t) in
-    rw c.of_runs.ensures (found ∙ until_in_window (spans_have c.args.self.now) (spans_have c.args.h.now) _ _ c.requires.guard c.requires.goal _ t c.args._w.in_range)
+    rw c.from_runs.ensures (found ∙ until_in_window (spans_have c.args.self.now) (spans_have c.args.h.now) _ _ c.requires.guard c.requires.goal _ t c.args._w.in_range)
