@@ -9,7 +9,7 @@ use Rattle.case_table.specs.declared.compare.Op.{Op}
 use Rattle.case_table.specs.declared.compare.Op.TheVariants.{Lt, Le, Eq, Ne, Ge, Gt}
 use Rattle.geometry.specs.Distance.{distance_compares}
 use Rattle.linear_crossing.proofs.Pairs.{pair_by}
-use Rattle.linear_crossing.specs.Relative.{Relative, value_at}
+use Rattle.linear_crossing.specs.Relative.{Relative, squared_distance_at}
 use Rattle.linear_crossing.specs.Zones.{IsPairOf, spans_of}
 use Rattle.linear_crossing.specs.declared.linear.Pair.{Pair}
 use Rattle.tick_set.specs.Runs.{IsRuns, spans_have}
@@ -57,13 +57,13 @@ module _ (m : Relative) (w : Window) (s a b : ℤ) (below at_most : Option Span)
     (g : IsRuns (is_near m a w) (option_to_list below)) (h : IsRuns (is_near m b w) (option_to_list at_most)) where
   pub below_inside : (t : ℕ) → spans_have (option_to_list below) t ≡ true → spans_have (option_to_list at_most) t ≡ true
   below_inside t k =
-      h.ticks t ∙ at_most_less (within w.lo w.hi t) (value_at m (t - w.lo)) a b (omega (arith, ints)) (sym (g.ticks t) ∙ k)
+      h.ticks t ∙ at_most_less (within w.lo w.hi t) (squared_distance_at m (t - w.lo)) a b (omega (arith, ints)) (sym (g.ticks t) ∙ k)
 
   pub at_distance_runs : (x : Pair) → IsPairOf (λ t. spans_have (option_to_list at_most) t && not (spans_have (option_to_list below) t)) x
-      → IsPairOf (λ t. within w.lo w.hi t && int_eq (value_at m (t - w.lo)) s) x
+      → IsPairOf (λ t. within w.lo w.hi t && int_eq (squared_distance_at m (t - w.lo)) s) x
   at_distance_runs x k =
       pair_by _ _ x
-      (λ t. (λ i. h.ticks t i && not (g.ticks t i)) ∙ at_value (within w.lo w.hi t) (value_at m (t - w.lo)) s a b is_below is_at_most) k
+      (λ t. (λ i. h.ticks t i && not (g.ticks t i)) ∙ at_value (within w.lo w.hi t) (squared_distance_at m (t - w.lo)) s a b is_below is_at_most) k
 
 pub near_inside : (m : Relative) (w : Window) (a : ℤ) (run : Option Span) (pair : Pair) → IsRuns (is_near m a w) (option_to_list run) → spans_of pair ≡ option_to_list run
     → (t : ℕ) → spans_have (spans_of pair) t ≡ true → within w.lo w.hi t ≡ true
@@ -73,36 +73,36 @@ near_inside m w a run pair h same t e =
 -- ---- the ticks of each comparison
 module _ (m : Relative) (w : Window) (op : Op) (c s : ℤ) (x : Triple) (positive : pos 0 ≤ℤ c) (is_square : s ≡ c *ℤ c) where
   -- the set that a pair holds, and what is left of the window
-  held : (o : Op) → op ≡ o → (p : ℕ → Bool) → ((t : ℕ) → p t ≡ (within w.lo w.hi t && compares o (value_at m (t - w.lo)) s)) → IsTripleOf p x
+  held : (o : Op) → op ≡ o → (p : ℕ → Bool) → ((t : ℕ) → p t ≡ (within w.lo w.hi t && compares o (squared_distance_at m (t - w.lo)) s)) → IsTripleOf p x
       → IsTripleOf (distance_holds m op c w) x
   held o e p h k =
       let P : Op → Type 0 = λ z. IsTripleOf (distance_holds m z c w) x in
       subst P (sym e)
       (triple_by p (distance_holds m o c w) x k
-      (λ t. h t ∙ ap (λ z. within w.lo w.hi t && z) (sym (compares_squares o c (value_at m (t - w.lo)) s positive is_square))))
+      (λ t. h t ∙ ap (λ z. within w.lo w.hi t && z) (sym (compares_squares o c (squared_distance_at m (t - w.lo)) s positive is_square))))
 
   module _ (a : ℤ) (run : Option Span) (pair : Pair) (h : IsRuns (is_near m a w) (option_to_list run)) (same : spans_of pair ≡ option_to_list run) where
     ticks : (t : ℕ) → spans_have (spans_of pair) t ≡ is_near m a w t
     ticks t = ap (λ spans. spans_have spans t) same ∙ h.ticks t
 
     pub held_Lt : op ≡ Lt → a ≡ s -ℤ pos 1 → IsTripleOf (spans_have (spans_of pair)) x → IsTripleOf (distance_holds m op c w) x
-    held_Lt e d k = held Lt e _ (λ t. ticks t ∙ value_Lt (within w.lo w.hi t) (value_at m (t - w.lo)) s a d) k
+    held_Lt e d k = held Lt e _ (λ t. ticks t ∙ value_Lt (within w.lo w.hi t) (squared_distance_at m (t - w.lo)) s a d) k
 
     pub held_Le : op ≡ Le → a ≡ s → IsTripleOf (spans_have (spans_of pair)) x → IsTripleOf (distance_holds m op c w) x
-    held_Le e d k = held Le e _ (λ t. ticks t ∙ value_Le (within w.lo w.hi t) (value_at m (t - w.lo)) s a d) k
+    held_Le e d k = held Le e _ (λ t. ticks t ∙ value_Le (within w.lo w.hi t) (squared_distance_at m (t - w.lo)) s a d) k
 
     pub held_Ge : op ≡ Ge → a ≡ s -ℤ pos 1 → IsTripleOf (λ t. within w.lo w.hi t && not (spans_have (spans_of pair) t)) x → IsTripleOf (distance_holds m op c w) x
     held_Ge e d k =
-        held Ge e _ (λ t. ap (λ z. within w.lo w.hi t && not z) (ticks t) ∙ value_Ge (within w.lo w.hi t) (value_at m (t - w.lo)) s a d) k
+        held Ge e _ (λ t. ap (λ z. within w.lo w.hi t && not z) (ticks t) ∙ value_Ge (within w.lo w.hi t) (squared_distance_at m (t - w.lo)) s a d) k
 
     pub held_Gt : op ≡ Gt → a ≡ s → IsTripleOf (λ t. within w.lo w.hi t && not (spans_have (spans_of pair) t)) x → IsTripleOf (distance_holds m op c w) x
     held_Gt e d k =
-        held Gt e _ (λ t. ap (λ z. within w.lo w.hi t && not z) (ticks t) ∙ value_Gt (within w.lo w.hi t) (value_at m (t - w.lo)) s a d) k
+        held Gt e _ (λ t. ap (λ z. within w.lo w.hi t && not z) (ticks t) ∙ value_Gt (within w.lo w.hi t) (squared_distance_at m (t - w.lo)) s a d) k
 
-  module _ (a : ℤ) (pair : Pair) (h : IsPairOf (λ t. within w.lo w.hi t && int_eq (value_at m (t - w.lo)) a) pair) where
+  module _ (a : ℤ) (pair : Pair) (h : IsPairOf (λ t. within w.lo w.hi t && int_eq (squared_distance_at m (t - w.lo)) a) pair) where
     pub held_Eq : op ≡ Eq → a ≡ s → IsTripleOf (spans_have (spans_of pair)) x → IsTripleOf (distance_holds m op c w) x
-    held_Eq e d k = held Eq e _ (λ t. h.runs.ticks t ∙ value_Eq (within w.lo w.hi t) (value_at m (t - w.lo)) s a d) k
+    held_Eq e d k = held Eq e _ (λ t. h.runs.ticks t ∙ value_Eq (within w.lo w.hi t) (squared_distance_at m (t - w.lo)) s a d) k
 
     pub held_Ne : op ≡ Ne → a ≡ s → IsTripleOf (λ t. within w.lo w.hi t && not (spans_have (spans_of pair) t)) x → IsTripleOf (distance_holds m op c w) x
     held_Ne e d k =
-        held Ne e _ (λ t. ap (λ z. within w.lo w.hi t && not z) (h.runs.ticks t) ∙ value_Ne (within w.lo w.hi t) (value_at m (t - w.lo)) s a d) k
+        held Ne e _ (λ t. ap (λ z. within w.lo w.hi t && not z) (h.runs.ticks t) ∙ value_Ne (within w.lo w.hi t) (squared_distance_at m (t - w.lo)) s a d) k

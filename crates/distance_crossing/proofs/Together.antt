@@ -4,7 +4,7 @@ use Rattle.std.proofs.lemmas.Bool.{and_parts}
 use Rattle.std.proofs.lemmas.List.Elements.{All-tail}
 use Rattle.geometry.specs.Circle.{fits, squared_width}
 use Rattle.linear_crossing.specs.Moving.{IsInReach, position_after, distance_after}
-use Rattle.linear_crossing.specs.Relative.{Relative, value_at}
+use Rattle.linear_crossing.specs.Relative.{Relative, squared_distance_at}
 use Rattle.linear_crossing.specs.declared.quad.Line.{Line}
 use Rattle.tick_set.specs.Ticks.{within}
 use Rattle.tick_set.specs.Runs.{spans_have}
@@ -24,7 +24,7 @@ met_more met so_far one here this later all e f h = grind (arith, e, f, h)
 module _ (r : ℤ) (w : Window) (met span near : Option Span)
     (both : (t : ℕ) → spans_have (option_to_list met) t ≡ (spans_have (option_to_list span) t && spans_have (option_to_list near) t)) where
   pub all_near_more : (p q : Line) (rest later others : List Line) (m : Relative) (limit : ℤ) → rest ≡ q ∷ later
-      → limit ≡ squared_width r → ((k : ℕ) → value_at m k ≡ distance_after p q k) → ((t : ℕ) → spans_have (option_to_list near) t ≡ is_near m limit w t)
+      → limit ≡ squared_width r → ((k : ℕ) → squared_distance_at m k ≡ distance_after p q k) → ((t : ℕ) → spans_have (option_to_list near) t ≡ is_near m limit w t)
       → ((t : ℕ) → (spans_have (option_to_list span) t && all_near r p rest (t - w.lo)) ≡ (within w.lo w.hi t && all_near r p others (t - w.lo)))
       → (t : ℕ) → (spans_have (option_to_list met) t && all_near r p later (t - w.lo)) ≡ (within w.lo w.hi t && all_near r p others (t - w.lo))
   all_near_more p q rest later others m limit e width value ticks before t =

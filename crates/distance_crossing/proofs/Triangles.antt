@@ -6,6 +6,7 @@ use Rattle.std.proofs.lemmas.Int.{ints, clamps, unsigned_abs-mul}
 use borrow.Author.Differences.{up, down}
 use Rattle.exact.proofs.Ring.{part, sum, difference, product, same}
 use Rattle.fixed_point.specs.declared.number.Point.{Point}
+use Rattle.geometry.proofs.Squares.{square_is}
 use Rattle.geometry.specs.Circle.{two_fit, three_fit, sides_fit, largest, is_wide, squared_width}
 use Rattle.geometry.specs.Plane.{square, squared_distance, cross}
 
@@ -16,10 +17,6 @@ lagrange x y u v =
     let d = sum (product (part x) (part u)) (product (part y) (part v)) in
     same (sum (product c c) (product d d))
     (product (sum (product (part x) (part x)) (product (part y) (part y))) (sum (product (part u) (part u)) (product (part v) (part v)))) (omega arith)
-
-square_is : (x : ℤ) → pos (unsigned_abs (x *ℤ x)) ≡ x *ℤ x
-square_is (pos n) = refl
-square_is (negsuc n) = refl
 
 not_negative : (p : ℤ) → pos (unsigned_abs p) ≡ p → pos 0 ≤ℤ p
 not_negative p e = omega (arith, ints)

@@ -6,18 +6,18 @@ use Rattle.fixed_point.specs.declared.number.Point.{Point}
 use Rattle.geometry.specs.Circle.{fits, squared_width}
 use Rattle.geometry.specs.Distance.{distance_compares}
 use Rattle.linear_crossing.specs.Moving.{position_after, distance_after}
-use Rattle.linear_crossing.specs.Relative.{Relative, value_at}
+use Rattle.linear_crossing.specs.Relative.{Relative, squared_distance_at}
 use Rattle.linear_crossing.specs.declared.quad.Line.{Line}
 use Rattle.tick_set.specs.Ticks.{within}
 use Rattle.tick_set.specs.declared.spans.Window.{Window}
 
 -- the tick t is in the window, and the squared distance there is at most `limit`
 abbrev pub is_near : Relative → ℤ → Window → ℕ → Bool
-is_near m limit w t = within w.lo w.hi t && int_le (value_at m (t - w.lo)) limit
+is_near m limit w t = within w.lo w.hi t && int_le (squared_distance_at m (t - w.lo)) limit
 
 -- the tick t is in the window, and the distance there compares so with c
 abbrev pub distance_holds : Relative → Op → ℤ → Window → ℕ → Bool
-distance_holds m op c w t = within w.lo w.hi t && distance_compares op c (value_at m (t - w.lo))
+distance_holds m op c w t = within w.lo w.hi t && distance_compares op c (squared_distance_at m (t - w.lo))
 
 -- the positions of all motions, k ticks after the window's first
 abbrev pub positions_after : List Line → ℕ → List Point

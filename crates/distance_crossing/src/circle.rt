@@ -5,7 +5,7 @@ ghost use Rattle.geometry.specs.Circle.{fits, sides_fit, squared_width, three_fi
 
 use exact::{minus, plus, times};
 use fixed_point::{Fix, Point};
-use geometry::{cross, squared_distance};
+use geometry::{RADIUS_LIMIT, cross, squared_distance};
 
 /// Whether one to four points fit a circle of radius `r`, from 0 to 10^6 thousandths. One point always fits.
 /// Two fit where their distance is at most the diameter. Three fit where their longest side is at most the
@@ -15,7 +15,7 @@ use geometry::{cross, squared_distance};
 /// It takes no memory.
 pub fn fits(r: Fix, points: &[Point]) -> bool
     requires least { pos 0 ≤ℤ r }
-    requires most { r ≤ℤ pos 1000000 }
+    requires most { r ≤ℤ pos RADIUS_LIMIT }
     requires count { length points.now ≤ 4 }
     ensures { result ≡ fits r points.now }
 {
@@ -36,7 +36,7 @@ pub fn fits(r: Fix, points: &[Point]) -> bool
 #[inline]
 pub(crate) fn squared_width(r: Fix) -> i128
     requires least { pos 0 ≤ℤ r }
-    requires most { r ≤ℤ pos 1000000 }
+    requires most { r ≤ℤ pos RADIUS_LIMIT }
     ensures value { result ≡ squared_width r }
     ensures size { unsigned_abs result ≤ 4 * 10 ^ 12 }
 {
@@ -46,7 +46,7 @@ pub(crate) fn squared_width(r: Fix) -> i128
 
 fn two_fit(r: Fix, p: &Point, q: &Point) -> bool
     requires least { pos 0 ≤ℤ r }
-    requires most { r ≤ℤ pos 1000000 }
+    requires most { r ≤ℤ pos RADIUS_LIMIT }
     ensures { result ≡ two_fit r p.now q.now }
 {
     squared_distance(*p, *q) <= squared_width(r)
@@ -54,7 +54,7 @@ fn two_fit(r: Fix, p: &Point, q: &Point) -> bool
 
 fn three_fit(r: Fix, p: &Point, q: &Point, s: &Point) -> bool
     requires least { pos 0 ≤ℤ r }
-    requires most { r ≤ℤ pos 1000000 }
+    requires most { r ≤ℤ pos RADIUS_LIMIT }
     ensures { result ≡ three_fit r p.now q.now s.now }
 {
     let a = squared_distance(*p, *q);
@@ -69,7 +69,7 @@ fn three_fit(r: Fix, p: &Point, q: &Point, s: &Point) -> bool
 // circle through the corners. So no product of what is left is too large.
 fn sides_fit(r: Fix, a: i128, b: i128, c: i128, area: i128) -> bool
     requires least { pos 0 ≤ℤ r }
-    requires most { r ≤ℤ pos 1000000 }
+    requires most { r ≤ℤ pos RADIUS_LIMIT }
     requires a_least { pos 0 ≤ℤ a }
     requires b_least { pos 0 ≤ℤ b }
     requires c_least { pos 0 ≤ℤ c }

@@ -1,21 +1,21 @@
 //! The ticks at which the distance of two motions compares with a constant.
 ghost use Rattle.std.specs.Prelude.{◌≡◌, ℕ, ◌+◌, ◌-◌, ◌-ℤ◌, ◌^◌, ◌≤◌, ◌&&◌, true, pos, not, nat_le, nat_lt, unsigned_abs, option_to_list, ◌++◌, IsNone, IfSome, MatchOption};
 ghost use Rattle.std.specs.Ordering.{int_eq};
-ghost use Rattle.linear_crossing.specs.Relative.{value_at};
+ghost use Rattle.linear_crossing.specs.Relative.{squared_distance_at};
 ghost use Rattle.linear_crossing.specs.Zones.{IsPairOf, spans_of};
 ghost use Rattle.tick_set.specs.Runs.{IsNormal, IsRuns, spans_have};
 ghost use Rattle.tick_set.specs.Ticks.{within};
 ghost use Rattle.distance_crossing.specs.NearTicks.{distance_holds, is_near};
 ghost use Rattle.distance_crossing.specs.Triples.{IsPacked, IsTripleOf, triple_spans};
 
-use crate::near::{SHORT_WINDOW, WINDOW_LIMIT, within};
+use crate::near::{SHORT_WINDOW, within};
 use case_table::Op;
 use exact::times;
 use fixed_point::Fix;
 use linear_crossing::{Pair, Quad};
 use std::sync::ledger::Ledger;
 use steps::Steps;
-use tick_set::{LAST_TICK, Span, Window};
+use tick_set::{LAST_TICK, SPAN_LIMIT, Span, Window};
 
 /// Up to three runs of ticks. The empty places come last.
 #[derive(Clone, Copy, Debug, PartialEq, Eq)]
@@ -31,7 +31,7 @@ pub struct Triple {
 ///
 /// It takes no memory.
 pub fn compare<M: Ledger>(q: &Quad, op: Op, c: Fix, w: Window, probes: &mut Steps<M>) -> Triple
-    requires length { w.hi - w.lo ≤ WINDOW_LIMIT }
+    requires length { w.hi - w.lo ≤ SPAN_LIMIT }
     requires c_size { unsigned_abs c ≤ 10 ^ 12 }
     ensures runs { IsTripleOf (distance_holds q.now op c w) result }
     ensures cost { probes.new ≤ probes.old + 120 }
@@ -43,12 +43,12 @@ pub fn compare<M: Ledger>(q: &Quad, op: Op, c: Fix, w: Window, probes: &mut Step
     let root = i128::from(c.raw());
     let square = times(root, root);
     match op {
-        Op::Lt => inside(single(nearer(q, square, w, probes))),
-        Op::Le => inside(single(within(q, square, w, probes))),
+        Op::Lt => inside(Pair::single(nearer(q, square, w, probes))),
+        Op::Le => inside(Pair::single(within(q, square, w, probes))),
         Op::Eq => inside(at_distance(q, square, w, probes)),
         Op::Ne => outside(w, at_distance(q, square, w, probes)),
-        Op::Ge => outside(w, single(nearer(q, square, w, probes))),
-        Op::Gt => outside(w, single(within(q, square, w, probes))),
+        Op::Ge => outside(w, Pair::single(nearer(q, square, w, probes))),
+        Op::Gt => outside(w, Pair::single(within(q, square, w, probes))),
     }
 }
 
@@ -57,12 +57,12 @@ fn everywhere(all: bool, w: Window) -> Triple
     ensures { IsTripleOf (λ t. within w.lo w.hi t && all) result }
 {
     let run = if all { Some(w.span()) } else { None };
-    inside(single(run))
+    inside(Pair::single(run))
 }
 
 // The ticks of the window at which the squared distance is below `square`.
 fn nearer<M: Ledger>(q: &Quad, square: i128, w: Window, probes: &mut Steps<M>) -> Option<Span>
-    requires length { w.hi - w.lo ≤ WINDOW_LIMIT }
+    requires length { w.hi - w.lo ≤ SPAN_LIMIT }
     requires size { unsigned_abs square ≤ 10 ^ 24 }
     ensures runs { IsRuns (is_near q.now (square -ℤ pos 1) w) (option_to_list result) }
     ensures cost { probes.new ≤ probes.old + 60 }
@@ -73,9 +73,9 @@ fn nearer<M: Ledger>(q: &Quad, square: i128, w: Window, probes: &mut Steps<M>) -
 
 // The ticks of the window at which the squared distance is `square`.
 fn at_distance<M: Ledger>(q: &Quad, square: i128, w: Window, probes: &mut Steps<M>) -> Pair
-    requires length { w.hi - w.lo ≤ WINDOW_LIMIT }
+    requires length { w.hi - w.lo ≤ SPAN_LIMIT }
     requires size { unsigned_abs square ≤ 10 ^ 24 }
-    ensures runs { IsPairOf (λ t. within w.lo w.hi t && int_eq (value_at q.now (t - w.lo)) square) result }
+    ensures runs { IsPairOf (λ t. within w.lo w.hi t && int_eq (squared_distance_at q.now (t - w.lo)) square) result }
     ensures cost { probes.new ≤ probes.old + 120 }
     ensures short_cost { w.hi - w.lo ≤ SHORT_WINDOW → probes.new ≤ probes.old + 88 }
 {
@@ -84,29 +84,18 @@ fn at_distance<M: Ledger>(q: &Quad, square: i128, w: Window, probes: &mut Steps<
     without(at_most, below)
 }
 
-// One run as a pair.
-fn single(run: Option<Span>) -> Pair
-    ensures spans { spans_of result ≡ option_to_list run }
-    ensures in_order { IsNone result.first → IsNone result.second }
-{
-    Pair {
-        first: run,
-        second: None,
-    }
-}
-
 // The ticks of the first span that are not in the second, which has no others.
 fn without(outer: Option<Span>, inner: Option<Span>) -> Pair
     requires { (t : ℕ) → spans_have (option_to_list inner) t ≡ true → spans_have (option_to_list outer) t ≡ true }
     ensures { IsPairOf (λ t. spans_have (option_to_list outer) t && not (spans_have (option_to_list inner) t)) result }
 {
     let Some(whole) = outer else {
-        return single(None);
+        return Pair::single(None);
     };
     let (first, next) = gap(whole.lo, inner);
     let second = stretch(next, whole.hi + 1);
     if first.is_none() {
-        single(second)
+        Pair::single(second)
     } else {
         Pair { first, second }
     }

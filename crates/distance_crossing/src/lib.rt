@@ -11,7 +11,7 @@ mod sphere;
 
 pub use circle::fits;
 pub use comparison::{Triple, compare};
-pub use near::{SHORT_WINDOW, WINDOW_LIMIT, within};
+pub use near::{SHORT_WINDOW, within};
 pub use sphere::sphere_ticks;
 
 #[cfg(test)]

@@ -1,17 +1,14 @@
 //! The ticks at which two motions are within a distance.
 ghost use Rattle.std.specs.Prelude.{◌≡◌, ℕ, ◌+◌, ◌-◌, ◌^◌, ◌<◌, ◌≤◌, ◌≤ℤ◌, nat_le, int_le, option_to_list};
 ghost use Rattle.exact.specs.Rising.{DropsTo, RisesIn};
-ghost use Rattle.linear_crossing.specs.Relative.{value_at};
+ghost use Rattle.linear_crossing.specs.Relative.{squared_distance_at};
 ghost use Rattle.tick_set.specs.Runs.{IsRuns};
 ghost use Rattle.distance_crossing.specs.NearTicks.{is_near};
 
 use linear_crossing::Quad;
 use std::sync::ledger::Ledger;
 use steps::Steps;
-use tick_set::{Span, Window};
-
-/// The most ticks of a window after its first.
-pub const WINDOW_LIMIT: u32 = 100_000_000;
+use tick_set::{SPAN_LIMIT, Span, Window};
 
 /// The most ticks after its first of a window that takes the smaller number of probes.
 pub const SHORT_WINDOW: u32 = 1_000_000;
@@ -21,7 +18,7 @@ pub const SHORT_WINDOW: u32 = 1_000_000;
 ///
 /// It takes no memory. It probes the least distance, and then bisects on each side of it.
 pub fn within<M: Ledger>(q: &Quad, limit: i128, w: Window, probes: &mut Steps<M>) -> Option<Span>
-    requires { w.hi - w.lo ≤ WINDOW_LIMIT }
+    requires { w.hi - w.lo ≤ SPAN_LIMIT }
     ensures runs { IsRuns (is_near q.now limit w) (option_to_list result) }
     ensures cost { probes.new ≤ probes.old + 60 }
     ensures short_cost { w.hi - w.lo ≤ SHORT_WINDOW → probes.new ≤ probes.old + 44 }
@@ -41,10 +38,10 @@ pub fn within<M: Ledger>(q: &Quad, limit: i128, w: Window, probes: &mut Steps<M>
 
 // The first number at which the value is at most the limit. It falls up to `nearest`, where it is.
 fn first_near<M: Ledger>(q: &Quad, limit: i128, nearest: u32, probes: &mut Steps<M>) -> u32
-    requires falls { DropsTo (value_at q.now) nearest }
-    requires near { value_at q.now nearest ≤ℤ limit }
+    requires falls { DropsTo (squared_distance_at q.now) nearest }
+    requires near { squared_distance_at q.now nearest ≤ℤ limit }
     ensures bound { result ≤ nearest }
-    ensures first { (k : ℕ) → k ≤ nearest → int_le (value_at q.now k) limit ≡ nat_le result k }
+    ensures first { (k : ℕ) → k ≤ nearest → int_le (squared_distance_at q.now k) limit ≡ nat_le result k }
     ensures cost { (n : ℕ) → nearest < 2 ^ n → probes.new ≤ probes.old + n }
 {
     let mut low = 0;
@@ -71,11 +68,11 @@ fn last_near<M: Ledger>(
     probes: &mut Steps<M>,
 ) -> u32
     requires ordered { nearest ≤ last }
-    requires rises { RisesIn (value_at q.now) nearest last }
-    requires near { value_at q.now nearest ≤ℤ limit }
+    requires rises { RisesIn (squared_distance_at q.now) nearest last }
+    requires near { squared_distance_at q.now nearest ≤ℤ limit }
     ensures from { nearest ≤ result }
     ensures bound { result ≤ last }
-    ensures last { (k : ℕ) → nearest ≤ k → k ≤ last → int_le (value_at q.now k) limit ≡ nat_le k result }
+    ensures last { (k : ℕ) → nearest ≤ k → k ≤ last → int_le (squared_distance_at q.now k) limit ≡ nat_le k result }
     ensures cost { (n : ℕ) → last - nearest < 2 ^ n → probes.new ≤ probes.old + n }
 {
     let mut low = nearest;

@@ -7,14 +7,15 @@ ghost use Rattle.tick_set.specs.Runs.{IsNormal, IsRuns, spans_have};
 ghost use Rattle.distance_crossing.specs.NearTicks.{all_near, are_together, pairs_near, positions_after};
 
 use crate::circle::{fits, squared_width};
-use crate::near::{WINDOW_LIMIT, within};
-use fixed_point::{Fix, Point, Slope};
+use crate::near::within;
+use fixed_point::Fix;
+use geometry::RADIUS_LIMIT;
 use interval_set::IntervalSet;
-use linear_crossing::{COORDINATE_LIMIT, Line, Quad};
+use linear_crossing::{Line, Quad};
 use std::alloc::{AllocError, Global};
 use std::sync::ledger::Ledger;
 use steps::Steps;
-use tick_set::{LAST_TICK, Span, TickSet, Window};
+use tick_set::{LAST_TICK, SPAN_LIMIT, Span, TickSet, Window};
 
 /// The ticks of the window at which the positions of one to four motions fit a circle of radius `r`, from 0
 /// to 10^6 thousandths. Each motion begins within [`linear_crossing::COORDINATE_LIMIT`] of 0. It fails only
@@ -30,10 +31,10 @@ pub fn sphere_ticks<M: Ledger>(
     probes: &mut Steps<M>,
 ) -> Result<IntervalSet, AllocError>
     requires least { pos 0 ≤ℤ r }
-    requires most { r ≤ℤ pos 1000000 }
+    requires most { r ≤ℤ pos RADIUS_LIMIT }
     requires count { length lines.now ≤ 4 }
     requires in_reach { All IsInReach lines.now }
-    requires length { w.hi - w.lo ≤ WINDOW_LIMIT }
+    requires length { w.hi - w.lo ≤ SPAN_LIMIT }
     ensures { IfOk result (λ s. (t : ℕ) → spans_have s t ≡ are_together r lines.now w t) }
 {
     let Some(span) = near_pairs(r, lines, w, probes) else {
@@ -44,15 +45,15 @@ pub fn sphere_ticks<M: Ledger>(
         return Ok(ticks);
     }
     let runs = fitting_runs(alloc, r, lines, w, span)?;
-    Ok(IntervalSet::of_runs(runs))
+    Ok(IntervalSet::from_runs(runs))
 }
 
 // The ticks of the window at which each two motions are within the diameter of each other.
 fn near_pairs<M: Ledger>(r: Fix, lines: &[Line], w: Window, probes: &mut Steps<M>) -> Option<Span>
     requires least { pos 0 ≤ℤ r }
-    requires most { r ≤ℤ pos 1000000 }
+    requires most { r ≤ℤ pos RADIUS_LIMIT }
     requires in_reach { All IsInReach lines.now }
-    requires length { w.hi - w.lo ≤ WINDOW_LIMIT }
+    requires length { w.hi - w.lo ≤ SPAN_LIMIT }
     ensures { IsRuns (λ t. within w.lo w.hi t && pairs_near r lines.now (t - w.lo)) (option_to_list result) }
 {
     let mut span = Some(w.span());
@@ -73,10 +74,10 @@ fn all_near<M: Ledger>(
     probes: &mut Steps<M>,
 ) -> Option<Span>
     requires least { pos 0 ≤ℤ r }
-    requires most { r ≤ℤ pos 1000000 }
+    requires most { r ≤ℤ pos RADIUS_LIMIT }
     requires p_in_reach { IsInReach p.now }
     requires others_in_reach { All IsInReach others.now }
-    requires length { w.hi - w.lo ≤ WINDOW_LIMIT }
+    requires length { w.hi - w.lo ≤ SPAN_LIMIT }
     ensures { IsRuns (λ t. within w.lo w.hi t && all_near r p.now others.now (t - w.lo)) (option_to_list result) }
 {
     let width = squared_width(r);
@@ -108,11 +109,11 @@ fn fitting_runs(
     span: Span,
 ) -> Result<Vec<Span>, AllocError>
     requires least { pos 0 ≤ℤ r }
-    requires most { r ≤ℤ pos 1000000 }
+    requires most { r ≤ℤ pos RADIUS_LIMIT }
     requires count { length lines.now ≤ 4 }
     requires in_reach { All IsInReach lines.now }
     requires from { w.lo ≤ span.lo }
-    requires length { span.hi - w.lo ≤ WINDOW_LIMIT }
+    requires length { span.hi - w.lo ≤ SPAN_LIMIT }
     ensures { IfOk result (λ v. IsRuns (λ t. within span.lo span.hi t && fits r (positions_after lines.now (t - w.lo))) v.items) }
 {
     let mut runs = Vec::new(alloc);
@@ -150,46 +151,18 @@ fn close(runs: &mut Vec<Span>, from: u32, until: u32) -> Result<(), AllocError>
 // Whether the positions fit, `k` ticks after the window's first.
 fn all_fit(r: Fix, lines: &[Line], k: u32) -> bool
     requires least { pos 0 ≤ℤ r }
-    requires most { r ≤ℤ pos 1000000 }
+    requires most { r ≤ℤ pos RADIUS_LIMIT }
     requires count { length lines.now ≤ 4 }
     requires in_reach { All IsInReach lines.now }
-    requires k { k ≤ WINDOW_LIMIT }
     ensures { result ≡ fits r (positions_after lines.now k) }
 {
     match lines {
-        [p, q] => fits(r, &[position(p, k), position(q, k)]),
-        [p, q, s] => fits(r, &[position(p, k), position(q, k), position(s, k)]),
+        [p, q] => fits(r, &[p.position(k), q.position(k)]),
+        [p, q, s] => fits(r, &[p.position(k), q.position(k), s.position(k)]),
         [p, q, s, u] => fits(
             r,
-            &[
-                position(p, k),
-                position(q, k),
-                position(s, k),
-                position(u, k),
-            ],
+            &[p.position(k), q.position(k), s.position(k), u.position(k)],
         ),
         _ => true,
     }
-}
-
-// The position `k` ticks after the window's first.
-fn position(l: &Line, k: u32) -> Point
-    requires in_reach { IsInReach l.now }
-    requires k { k ≤ WINDOW_LIMIT }
-    ensures { result ≡ position_after l.now k }
-{
-    Point {
-        x: moved(l.at.x, l.dx, k),
-        y: moved(l.at.y, l.dy, k),
-    }
-}
-
-// A coordinate after `k` ticks.
-fn moved(start: Fix, step: Slope, k: u32) -> Fix
-    requires start { unsigned_abs start ≤ COORDINATE_LIMIT }
-    requires k { k ≤ WINDOW_LIMIT }
-    ensures { result ≡ start +ℤ step *ℤ pos k }
-{
-    let way = step.raw() * i64::from(k);
-    Fix::of(start.raw() + way).unwrap()
 }

@@ -1,10 +1,11 @@
-ghost use Rattle.std.specs.Prelude.{◌≡◌, ◌-◌, ◌<◌, ◌≤◌, ◌≤ℤ◌, pos, unsigned_abs, length, All, IfSome};
+ghost use Rattle.std.specs.Prelude.{◌≡◌, ◌-◌, ◌^◌, ◌<◌, ◌≤◌, ◌≤ℤ◌, pos, unsigned_abs, length, All, IfSome};
 ghost use Rattle.linear_crossing.specs.Moving.{IsInReach};
 
 use super::*;
 use case_table::Op;
 use exact::{plus, times};
 use fixed_point::{Fix, Point, Slope};
+use geometry::RADIUS_LIMIT;
 use interval_set::IntervalSet;
 use linear_crossing::{COORDINATE_LIMIT, Line, Quad};
 use std::alloc::{AllocError, Global};
@@ -12,7 +13,7 @@ use std::marker::Brand;
 use std::sync::ledger::{Blank, Ledger};
 use std::test::Fail;
 use steps::Steps;
-use tick_set::{Span, TickSet, Window};
+use tick_set::{SPAN_LIMIT, Span, TickSet, Window};
 
 const OPS: [Op; 6] = [Op::Lt, Op::Le, Op::Eq, Op::Ne, Op::Ge, Op::Gt];
 
@@ -33,7 +34,7 @@ fn place(x: i64, y: i64) -> Option<Point> {
 
 fn radius(r: i64) -> Option<Fix>
     ensures least { IfSome result (λ f. pos 0 ≤ℤ f) }
-    ensures most { IfSome result (λ f. f ≤ℤ pos 1000000) }
+    ensures most { IfSome result (λ f. f ≤ℤ pos RADIUS_LIMIT) }
 {
     if r < 0 || r > 1_000_000 {
         return None;
@@ -58,33 +59,40 @@ fn line(x: i64, y: i64, dx: i64, dy: i64) -> Option<Line>
 }
 
 fn window(lo: u32, hi: u32) -> Option<Window>
-    ensures { IfSome result (λ w. w.hi - w.lo ≤ WINDOW_LIMIT) }
+    ensures { IfSome result (λ w. w.hi - w.lo ≤ SPAN_LIMIT) }
 {
-    if hi.saturating_sub(lo) > WINDOW_LIMIT {
+    if hi.saturating_sub(lo) > SPAN_LIMIT {
         return None;
     }
     Window::new(lo, hi)
 }
 
 // The ticks at which two motions are near, with a counter of its own.
-fn near_by<M: Ledger>(blank: Blank, p: &Line, q: &Line, limit: i128, w: Window) -> Option<Span>
+fn near_by<M: Ledger>(
+    rt: &HostRuntime,
+    blank: Blank,
+    p: &Line,
+    q: &Line,
+    limit: i128,
+    w: Window,
+) -> Option<Span>
     requires name { blank.name ≡ M.name }
     requires parts { blank.parts ≡ M.parts }
     requires some_part { 0 < blank.parts }
     requires p_in_reach { IsInReach p.now }
     requires q_in_reach { IsInReach q.now }
-    requires length { w.hi - w.lo ≤ WINDOW_LIMIT }
+    requires length { w.hi - w.lo ≤ SPAN_LIMIT }
 {
-    let mut probes: Steps<M> = Steps::new(blank);
+    let mut probes: Steps<M> = Steps::new(rt, blank);
     within(&Quad::between(p, q), limit, w, &mut probes)
 }
 
-fn near(p: &Line, q: &Line, limit: i128, w: Window) -> Option<Span>
+fn near(rt: &HostRuntime, p: &Line, q: &Line, limit: i128, w: Window) -> Option<Span>
     requires p_in_reach { IsInReach p.now }
     requires q_in_reach { IsInReach q.now }
-    requires length { w.hi - w.lo ≤ WINDOW_LIMIT }
+    requires length { w.hi - w.lo ≤ SPAN_LIMIT }
 {
-    near_by::<Brand>(Blank::new(1), p, q, limit, w)
+    near_by::<Brand>(rt, Blank::new(1), p, q, limit, w)
 }
 
 #[test]
@@ -150,37 +158,45 @@ fn motions_that_meet(rt: HostRuntime) -> Result<(), Fail> {
         let p = line(p.0, p.1, p.2, p.3).ok_or("no motion")?;
         let q = line(q.0, q.1, q.2, q.3).ok_or("no motion")?;
         let w = window(w.0, w.1).ok_or("no window")?;
-        let found = near(&p, &q, limit, w);
+        let found = near(&rt, &p, &q, limit, w);
         assert_eq!(rt; ends(found), want, "at most {limit}");
     }
     Ok(())
 }
 
 // The ticks at which the distance compares, with a counter of its own.
-fn compared_by<M: Ledger>(blank: Blank, p: &Line, q: &Line, op: Op, c: Fix, w: Window) -> Triple
+fn compared_by<M: Ledger>(
+    rt: &HostRuntime,
+    blank: Blank,
+    p: &Line,
+    q: &Line,
+    op: Op,
+    c: Fix,
+    w: Window,
+) -> Triple
     requires name { blank.name ≡ M.name }
     requires parts { blank.parts ≡ M.parts }
     requires some_part { 0 < blank.parts }
     requires p_in_reach { IsInReach p.now }
     requires q_in_reach { IsInReach q.now }
-    requires c_size { unsigned_abs c ≤ 1000000000000 }
-    requires length { w.hi - w.lo ≤ WINDOW_LIMIT }
+    requires c_size { unsigned_abs c ≤ 10 ^ 12 }
+    requires length { w.hi - w.lo ≤ SPAN_LIMIT }
 {
-    let mut probes: Steps<M> = Steps::new(blank);
+    let mut probes: Steps<M> = Steps::new(rt, blank);
     compare(&Quad::between(p, q), op, c, w, &mut probes)
 }
 
-fn compared(p: &Line, q: &Line, op: Op, c: Fix, w: Window) -> Triple
+fn compared(rt: &HostRuntime, p: &Line, q: &Line, op: Op, c: Fix, w: Window) -> Triple
     requires p_in_reach { IsInReach p.now }
     requires q_in_reach { IsInReach q.now }
-    requires c_size { unsigned_abs c ≤ 1000000000000 }
-    requires length { w.hi - w.lo ≤ WINDOW_LIMIT }
+    requires c_size { unsigned_abs c ≤ 10 ^ 12 }
+    requires length { w.hi - w.lo ≤ SPAN_LIMIT }
 {
-    compared_by::<Brand>(Blank::new(1), p, q, op, c, w)
+    compared_by::<Brand>(rt, Blank::new(1), p, q, op, c, w)
 }
 
 fn constant(c: i64) -> Option<Fix>
-    ensures { IfSome result (λ f. unsigned_abs f ≤ 1000000000000) }
+    ensures { IfSome result (λ f. unsigned_abs f ≤ 10 ^ 12) }
 {
     if c.unsigned_abs() > 1_000_000_000_000 {
         return None;
@@ -305,7 +321,7 @@ fn distances_that_compare(rt: HostRuntime) -> Result<(), Fail> {
         let q = line(q.0, q.1, q.2, q.3).ok_or("no motion")?;
         let c = constant(c).ok_or("no constant")?;
         let w = window(w.0, w.1).ok_or("no window")?;
-        let found = compared(&p, &q, op, c, w);
+        let found = compared(&rt, &p, &q, op, c, w);
         assert_eq!(rt; ends(found.first), want[0]);
         assert_eq!(rt; ends(found.second), want[1]);
         assert_eq!(rt; ends(found.third), want[2]);
@@ -379,7 +395,7 @@ fn agrees(found: Triple, x: i64, y: i64, dx: i64, dy: i64, op: Op, c: i64) -> bo
 }
 
 // Whether all six comparisons agree with a scan. The second motion is seen from the first, which moves too.
-fn all_agree(x: i64, y: i64, dx: i64, dy: i64, c: i64) -> Option<bool>
+fn all_agree(rt: &HostRuntime, x: i64, y: i64, dx: i64, dy: i64, c: i64) -> Option<bool>
     requires x_size { unsigned_abs x ≤ 10000 }
     requires y_size { unsigned_abs y ≤ 10000 }
     requires dx_size { unsigned_abs dx ≤ 128 }
@@ -391,7 +407,8 @@ fn all_agree(x: i64, y: i64, dx: i64, dy: i64, c: i64) -> Option<bool>
     let q = line(70 + x, y - 7, 0, dy + 5)?;
     let constant = constant(c)?;
     for op in OPS {
-        if !agrees(compared(&p, &q, op, constant, w), x, y, dx, dy, op, c) {
+        let found = compared(rt, &p, &q, op, constant, w);
+        if !agrees(found, x, y, dx, dy, op, c) {
             return Some(false);
         }
     }
@@ -410,12 +427,12 @@ fn comparisons_agree_with_a_scan(rt: HostRuntime) -> Result<(), Fail> {
         let dy = drawn(seed / 7);
         let c = drawn(seed / 3) * 50;
         assert_eq!(rt;
-            all_agree(x, 0, dx, 0, moved(x, dx, 50)),
+            all_agree(&rt, x, 0, dx, 0, moved(x, dx, 50)),
             Some(true),
             "from {x} by {dx}"
         );
         assert_eq!(rt;
-            all_agree(x, y, dx, dy, c),
+            all_agree(&rt, x, y, dx, dy, c),
             Some(true),
             "from {x} {y} by {dx} {dy} at {c}"
         );
@@ -513,6 +530,7 @@ fn one_two_and_four_points(rt: HostRuntime) -> Result<(), Fail> {
 
 // The ticks at which motions fit, with a counter of its own.
 fn together_by<M: Ledger>(
+    rt: &HostRuntime,
     blank: Blank,
     alloc: Global,
     r: Fix,
@@ -523,24 +541,24 @@ fn together_by<M: Ledger>(
     requires parts { blank.parts ≡ M.parts }
     requires some_part { 0 < blank.parts }
     requires least { pos 0 ≤ℤ r }
-    requires most { r ≤ℤ pos 1000000 }
+    requires most { r ≤ℤ pos RADIUS_LIMIT }
     requires count { length lines.now ≤ 4 }
     requires in_reach { All IsInReach lines.now }
-    requires length { w.hi - w.lo ≤ WINDOW_LIMIT }
+    requires length { w.hi - w.lo ≤ SPAN_LIMIT }
 {
-    let mut probes: Steps<M> = Steps::new(blank);
+    let mut probes: Steps<M> = Steps::new(rt, blank);
     let ticks = sphere_ticks(alloc, r, lines, w, &mut probes)?;
     Ok(ticks)
 }
 
-fn together(alloc: Global, r: Fix, lines: &[Line], w: Window) -> Result<IntervalSet, AllocError>
+fn together(rt: &HostRuntime, r: Fix, lines: &[Line], w: Window) -> Result<IntervalSet, AllocError>
     requires least { pos 0 ≤ℤ r }
-    requires most { r ≤ℤ pos 1000000 }
+    requires most { r ≤ℤ pos RADIUS_LIMIT }
     requires count { length lines.now ≤ 4 }
     requires in_reach { All IsInReach lines.now }
-    requires length { w.hi - w.lo ≤ WINDOW_LIMIT }
+    requires length { w.hi - w.lo ≤ SPAN_LIMIT }
 {
-    together_by::<Brand>(Blank::new(1), alloc, r, lines, w)
+    together_by::<Brand>(rt, Blank::new(1), rt.alloc(), r, lines, w)
 }
 
 // The first and last tick of a set of one run.
@@ -561,25 +579,25 @@ fn moving(way: Way) -> Option<Line>
 }
 
 // The ticks from 100 to 120 at which up to four motions fit, one run at most.
-fn one_together(alloc: Global, r: i64, p: Way) -> Result<Option<(u32, u32)>, Fail> {
+fn one_together(rt: &HostRuntime, r: i64, p: Way) -> Result<Option<(u32, u32)>, Fail> {
     let w = window(100, 120).ok_or("no window")?;
     let r = radius(r).ok_or("no radius")?;
     let p = moving(p).ok_or("no motion")?;
-    let set = together(alloc, r, &[p], w)?;
+    let set = together(rt, r, &[p], w)?;
     Ok(only_run(&set))
 }
 
-fn two_together(alloc: Global, r: i64, p: Way, q: Way) -> Result<Option<(u32, u32)>, Fail> {
+fn two_together(rt: &HostRuntime, r: i64, p: Way, q: Way) -> Result<Option<(u32, u32)>, Fail> {
     let w = window(100, 120).ok_or("no window")?;
     let r = radius(r).ok_or("no radius")?;
     let p = moving(p).ok_or("no motion")?;
     let q = moving(q).ok_or("no motion")?;
-    let set = together(alloc, r, &[p, q], w)?;
+    let set = together(rt, r, &[p, q], w)?;
     Ok(only_run(&set))
 }
 
 fn three_together(
-    alloc: Global,
+    rt: &HostRuntime,
     r: i64,
     p: Way,
     q: Way,
@@ -590,12 +608,12 @@ fn three_together(
     let p = moving(p).ok_or("no motion")?;
     let q = moving(q).ok_or("no motion")?;
     let s = moving(s).ok_or("no motion")?;
-    let set = together(alloc, r, &[p, q, s], w)?;
+    let set = together(rt, r, &[p, q, s], w)?;
     Ok(only_run(&set))
 }
 
 fn four_together(
-    alloc: Global,
+    rt: &HostRuntime,
     r: i64,
     p: Way,
     q: Way,
@@ -608,28 +626,27 @@ fn four_together(
     let q = moving(q).ok_or("no motion")?;
     let s = moving(s).ok_or("no motion")?;
     let u = moving(u).ok_or("no motion")?;
-    let set = together(alloc, r, &[p, q, s, u], w)?;
+    let set = together(rt, r, &[p, q, s, u], w)?;
     Ok(only_run(&set))
 }
 
 #[test]
 fn motions_that_come_together(rt: HostRuntime) -> Result<(), Fail> {
-    let alloc = rt.alloc();
     let car = (2000, -10_000, 0, 1000);
     let left = (0, 0, 0, 0);
     let right = (4000, 0, 0, 0);
     let above = (2000, 2000, 0, 0);
     // One is always together, two where their distance is at most the diameter.
-    assert_eq!(rt; one_together(alloc, 0, car)?, Some((100, 120)));
-    assert_eq!(rt; two_together(alloc, 2500, car, left)?, Some((106, 114)));
+    assert_eq!(rt; one_together(&rt, 0, car)?, Some((100, 120)));
+    assert_eq!(rt; two_together(&rt, 2500, car, left)?, Some((106, 114)));
     // The car is in the circle over the posts where the angle at it is not sharp.
     for (r, three, four) in [
         (1999, None, None),
         (2000, Some((108, 112)), Some((108, 112))),
         (2500, Some((106, 114)), Some((107, 114))),
     ] {
-        assert_eq!(rt; three_together(alloc, r, left, car, right)?, three);
-        assert_eq!(rt; four_together(alloc, r, left, car, above, right)?, four);
+        assert_eq!(rt; three_together(&rt, r, left, car, right)?, three);
+        assert_eq!(rt; four_together(&rt, r, left, car, above, right)?, four);
     }
     Ok(())
 }

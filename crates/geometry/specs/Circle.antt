@@ -1,5 +1,5 @@
 -- Points that fit a circle of radius r. Each rule is that of the smallest circle round the points; of four points each three must fit (Helly's theorem in the plane).
-use Rattle.std.specs.Prelude.{ℤ, pos, ◌+ℤ◌, ◌-ℤ◌, ◌*ℤ◌, Bool, true, ◌&&◌, List, [], ◌∷◌, int_le, if◌then◌else◌}
+use Rattle.std.specs.Prelude.{ℤ, pos, ◌+ℤ◌, ◌-ℤ◌, ◌*ℤ◌, Bool, true, false, ◌&&◌, List, [], ◌∷◌, int_le, if◌then◌else◌}
 use Rattle.std.specs.Int.{int_max}
 use Rattle.fixed_point.specs.declared.number.Point.{Point}
 use Rattle.geometry.specs.Plane.{square, squared_distance, cross}
@@ -27,10 +27,11 @@ sides_fit r a b c area =
 abbrev pub three_fit : ℤ → Point → Point → Point → Bool
 three_fit r p q s = sides_fit r (squared_distance p q) (squared_distance q s) (squared_distance s p) (cross p q s)
 
--- one to four points fit a circle of radius r
+-- up to four points fit a circle of radius r; without points there is nothing to fit, and more than four are not judged to
 abbrev pub fits : ℤ → List Point → Bool
 fits r [] = true
 fits r (p ∷ []) = true
 fits r (p ∷ q ∷ []) = two_fit r p q
 fits r (p ∷ q ∷ s ∷ []) = three_fit r p q s
-fits r (p ∷ q ∷ s ∷ u ∷ _) = three_fit r p q s && three_fit r p q u && three_fit r p s u && three_fit r q s u
+fits r (p ∷ q ∷ s ∷ u ∷ []) = three_fit r p q s && three_fit r p q u && three_fit r p s u && three_fit r q s u
+fits r (_ ∷ _ ∷ _ ∷ _ ∷ _ ∷ _) = false

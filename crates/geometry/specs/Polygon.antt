@@ -35,9 +35,9 @@ abbrev pub is_convex : List Point → Bool
 is_convex points = is_counterclockwise points || is_counterclockwise (reverse points)
 
 -- the same points in the direction that is counterclockwise
-abbrev pub turned : List Point → List Point
-turned points = if is_counterclockwise points then points else reverse points
+abbrev pub counterclockwise_points : List Point → List Point
+counterclockwise_points points = if is_counterclockwise points then points else reverse points
 
 -- the point is inside the polygon or on its boundary
 abbrev pub is_inside : List Point → Point → Bool
-is_inside points p = is_within (edges (turned points)) p
+is_inside points p = is_within (edges (counterclockwise_points points)) p

@@ -4,19 +4,28 @@
 //! contract of each is what the definitions give for examples that were worked out by hand.
 #![tactic(auto)]
 
+mod limits;
 mod measures;
 
-pub use measures::{cross, squared_distance};
+pub use limits::{LEAST_VERTICES, RADIUS_LIMIT, VERTEX_LIMIT};
+pub use measures::{apart, cross, squared_distance};
 
 #[cfg(test)]
 mod tests;
 
-ghost use Rattle.std.specs.Prelude.{◌≡◌, pos, negsuc, true, false, [], ◌∷◌};
+ghost use Rattle.std.specs.Prelude.{◌≡◌, ◌^◌, pos, negsuc, true, false, [], ◌∷◌};
 ghost use Rattle.case_table.specs.declared.compare.Op.TheVariants.{Lt, Le, Eq, Ne, Ge, Gt};
 ghost use Rattle.geometry.specs.Circle.{fits};
 ghost use Rattle.geometry.specs.Distance.{distance_compares};
 ghost use Rattle.geometry.specs.Plane.{point, cross, squared_distance};
 ghost use Rattle.geometry.specs.Polygon.{is_convex, is_inside};
+
+/// The limits, in numbers.
+pub fn limits_in_numbers()
+    ensures least_vertices { LEAST_VERTICES ≡ 3 }
+    ensures most_vertices { VERTEX_LIMIT ≡ 64 }
+    ensures radius { RADIUS_LIMIT ≡ 10 ^ 6 }
+{}
 
 /// A distance of 5, and the side of a turn to the left and of one to the right.
 pub fn distances_and_sides()
@@ -72,8 +81,10 @@ pub fn places_in_a_square()
 {}
 
 /// A right angle and a line of points fit where their longest side is a diameter; a triangle of sharp angles
-/// where the circle through its corners is small enough; four points where each three fit.
+/// where the circle through its corners is small enough; four points where each three fit. No points fit any
+/// circle, and five none.
 pub fn points_in_a_circle()
+    ensures none { fits (pos 0) [] ≡ true }
     ensures one { fits (pos 0) (point (pos 7) (pos 7) ∷ []) ≡ true }
     ensures two { fits (pos 2) (point (pos 0) (pos 0) ∷ point (pos 4) (pos 0) ∷ []) ≡ true }
     ensures two_apart { fits (pos 2) (point (pos 0) (pos 0) ∷ point (pos 4) (pos 1) ∷ []) ≡ false }
@@ -85,4 +96,5 @@ pub fn points_in_a_circle()
     ensures sharp_too_wide { fits (pos 3399) (point (pos 0) (pos 0) ∷ point (pos 6000) (pos 0) ∷ point (pos 3000) (pos 5000) ∷ []) ≡ false }
     ensures four { fits (pos 5) (point (pos 3) (pos 4) ∷ point (negsuc 2) (pos 4) ∷ point (pos 3) (negsuc 3) ∷ point (negsuc 2) (negsuc 3) ∷ []) ≡ true }
     ensures four_apart { fits (pos 4) (point (pos 3) (pos 4) ∷ point (negsuc 2) (pos 4) ∷ point (pos 3) (negsuc 3) ∷ point (negsuc 2) (negsuc 3) ∷ []) ≡ false }
+    ensures five { fits (pos 5) (point (pos 3) (pos 4) ∷ point (pos 3) (pos 4) ∷ point (pos 3) (pos 4) ∷ point (pos 3) (pos 4) ∷ point (pos 3) (pos 4) ∷ []) ≡ false }
 {}

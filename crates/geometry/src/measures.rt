@@ -3,7 +3,7 @@ ghost use Rattle.std.specs.Prelude.{◌≡◌, ◌*◌, ◌^◌, ◌≤◌, ◌-
 ghost use Rattle.geometry.specs.Plane.{cross, squared_distance};
 
 use exact::{minus, plus, times};
-use fixed_point::{Fix, Point};
+use fixed_point::{FIX_LIMIT, Fix, Point};
 
 /// The square of the distance of two points, in square thousandths.
 #[inline]
@@ -31,22 +31,22 @@ pub fn cross(p: Point, q: Point, r: Point) -> i128
     minus(along, back)
 }
 
-// The first coordinate less the second.
+/// The first coordinate less the second, in thousandths.
 #[inline]
-fn apart(a: Fix, b: Fix) -> i128
+pub fn apart(a: Fix, b: Fix) -> i64
     ensures value { result ≡ a -ℤ b }
-    ensures size { unsigned_abs result ≤ 2 * 10 ^ 18 }
+    ensures size { unsigned_abs result ≤ 2 * FIX_LIMIT }
 {
-    i128::from(a.raw() - b.raw())
+    a.raw() - b.raw()
 }
 
 // The product of two differences of coordinates.
 #[inline]
-fn product(a: i128, b: i128) -> i128
-    requires a_size { unsigned_abs a ≤ 2 * 10 ^ 18 }
-    requires b_size { unsigned_abs b ≤ 2 * 10 ^ 18 }
+fn product(a: i64, b: i64) -> i128
+    requires a_size { unsigned_abs a ≤ 2 * FIX_LIMIT }
+    requires b_size { unsigned_abs b ≤ 2 * FIX_LIMIT }
     ensures value { result ≡ a *ℤ b }
     ensures size { unsigned_abs result ≤ 4 * 10 ^ 36 }
 {
-    times(a, b)
+    times(i128::from(a), i128::from(b))
 }

@@ -1,11 +1,12 @@
 -- By how much the squared distance changes from one tick to the next, and where that stops being negative.
-use Rattle.std.proofs.Common.{◌≡◌, ℕ, ◌+◌, ◌*◌, ◌<◌, ◌≤◌, ℤ, pos, negsuc, unsigned_abs, refl, ◌+ℤ◌, ◌*ℤ◌, ◌≤ℤ◌, ◌<ℤ◌, nat_le, int_le, sym, ap, ◌∙◌, arith}
+use Rattle.std.proofs.Common.{◌≡◌, ℕ, ◌+◌, ◌*◌, ◌<◌, ◌≤◌, ℤ, pos, unsigned_abs, ◌+ℤ◌, ◌*ℤ◌, ◌≤ℤ◌, ◌<ℤ◌, nat_le, int_le, sym, ap, ◌∙◌, arith}
 use Rattle.std.proofs.lemmas.Bool.Decides.{nat_tests}
 use Rattle.std.proofs.lemmas.Int.{ints}
 use Rattle.exact.specs.Rising.{DropsTo, RisesIn}
 use Rattle.exact.proofs.Ring.{part, number, sum, product, same}
+use Rattle.geometry.proofs.Squares.{square_is}
 use Rattle.geometry.specs.Plane.{square}
-use Rattle.linear_crossing.specs.Relative.{Relative, value_at}
+use Rattle.linear_crossing.specs.Relative.{Relative, squared_distance_at}
 
 -- one coordinate that moves by d
 coordinate_step : (x d k : ℤ) → square (x +ℤ d *ℤ (k +ℤ pos 1)) ≡ square (x +ℤ d *ℤ k) +ℤ (pos 2 *ℤ (d *ℤ d) *ℤ k +ℤ (d *ℤ d +ℤ pos 2 *ℤ (x *ℤ d)))
@@ -36,7 +37,7 @@ growth m = pos 2 *ℤ (m.dx *ℤ m.dx +ℤ m.dy *ℤ m.dy)
 abbrev pub first_change : Relative → ℤ
 first_change m = (m.dx *ℤ m.dx +ℤ m.dy *ℤ m.dy) +ℤ pos 2 *ℤ (m.x *ℤ m.dx +ℤ m.y *ℤ m.dy)
 
-value_step : (m : Relative) (k : ℕ) → value_at m (k + 1) ≡ value_at m k +ℤ (growth m *ℤ pos k +ℤ first_change m)
+value_step : (m : Relative) (k : ℕ) → squared_distance_at m (k + 1) ≡ squared_distance_at m k +ℤ (growth m *ℤ pos k +ℤ first_change m)
 value_step m k =
     (λ i. coordinate_step m.x m.dx (pos k) i +ℤ coordinate_step m.y m.dy (pos k) i)
     ∙ added (square (m.x +ℤ m.dx *ℤ pos k)) (square (m.y +ℤ m.dy *ℤ pos k)) (m.dx *ℤ m.dx) (m.dy *ℤ m.dy) (m.x *ℤ m.dx) (m.y *ℤ m.dy) (pos k)
@@ -46,12 +47,11 @@ pub record IsTurn (m : Relative) (n v : ℕ) : Type 0 where
   pub bound : v ≤ n
   pub turn : (k : ℕ) → k < n → int_le (pos 0) (growth m *ℤ pos k +ℤ first_change m) ≡ nat_le v k
 
-square_is : (x : ℤ) → pos (unsigned_abs (x *ℤ x)) ≡ x *ℤ x
-square_is (pos n) = refl
-square_is (negsuc n) = refl
-
 squares_are : (x y : ℤ) → pos (unsigned_abs (x *ℤ x +ℤ y *ℤ y)) ≡ x *ℤ x +ℤ y *ℤ y
 squares_are x y = let a = square_is x in let b = square_is y in omega (arith, ints)
+
+pub squares_at_least : (x y v : ℤ) → v ≡ x *ℤ x +ℤ y *ℤ y → pos 0 ≤ℤ v
+squares_at_least x y v e = let s = squares_are x y in omega (arith, ints)
 
 -- as it is computed, from the square of the speed s
 pub IsTurn-computed : (m : Relative) (n v r : ℕ) (s b : ℤ) → s ≡ m.dx *ℤ m.dx +ℤ m.dy *ℤ m.dy → r ≡ 2 * unsigned_abs s → b ≡ first_change m → v ≤ n
@@ -67,10 +67,10 @@ fell a b d v k e t l = grind (arith, ints, nat_tests)
 rose : (a b d : ℤ) (v k : ℕ) → a ≡ b +ℤ d → int_le (pos 0) d ≡ nat_le v k → v ≤ k → b ≤ℤ a
 rose a b d v k e t l = grind (arith, ints, nat_tests)
 
-pub drops_to_turn : (m : Relative) (n v : ℕ) → IsTurn m n v → DropsTo (value_at m) v
+pub drops_to_turn : (m : Relative) (n v : ℕ) → IsTurn m n v → DropsTo (squared_distance_at m) v
 drops_to_turn m n v h k l =
-    fell (value_at m (k + 1)) (value_at m k) (growth m *ℤ pos k +ℤ first_change m) v k (value_step m k) (h.turn k (omega (arith, h.bound))) l
+    fell (squared_distance_at m (k + 1)) (squared_distance_at m k) (growth m *ℤ pos k +ℤ first_change m) v k (value_step m k) (h.turn k (omega (arith, h.bound))) l
 
-pub rises_from_turn : (m : Relative) (n v : ℕ) → IsTurn m n v → RisesIn (value_at m) v n
+pub rises_from_turn : (m : Relative) (n v : ℕ) → IsTurn m n v → RisesIn (squared_distance_at m) v n
 rises_from_turn m n v h k l b =
-    rose (value_at m (k + 1)) (value_at m k) (growth m *ℤ pos k +ℤ first_change m) v k (value_step m k) (h.turn k b) l
+    rose (squared_distance_at m (k + 1)) (squared_distance_at m k) (growth m *ℤ pos k +ℤ first_change m) v k (value_step m k) (h.turn k b) l

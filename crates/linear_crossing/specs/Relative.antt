@@ -9,5 +9,5 @@ pub record Relative : Type 0 where
   pub dy : ℤ
 
 -- the squared distance k ticks after the first
-abbrev pub value_at : Relative → ℕ → ℤ
-value_at m k = square (m.x +ℤ m.dx *ℤ pos k) +ℤ square (m.y +ℤ m.dy *ℤ pos k)
+abbrev pub squared_distance_at : Relative → ℕ → ℤ
+squared_distance_at m k = square (m.x +ℤ m.dx *ℤ pos k) +ℤ square (m.y +ℤ m.dy *ℤ pos k)

@@ -5,8 +5,17 @@
 mod linear;
 mod quad;
 
-pub use linear::{Pair, solve};
+ghost use Rattle.std.specs.Prelude.{◌≡◌, ◌*◌, ◌^◌};
+
+pub use linear::{Pair, RISE_LIMIT, START_LIMIT, solve};
 pub use quad::{COORDINATE_LIMIT, Line, Quad};
+
+/// The limits, in numbers.
+pub fn limits_in_numbers()
+    ensures coordinate { COORDINATE_LIMIT ≡ 1001 * 10 ^ 12 }
+    ensures rise { RISE_LIMIT ≡ 4 * 10 ^ 24 }
+    ensures start { START_LIMIT ≡ 10 ^ 37 }
+{}
 
 #[cfg(test)]
 mod tests;

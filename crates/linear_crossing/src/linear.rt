@@ -1,8 +1,8 @@
 //! The ticks at which a linear function compares with 0.
-ghost use Rattle.std.specs.Prelude.{◌≡◌, ℕ, ℤ, ◌+◌, ◌-◌, ◌*◌, ◌^◌, ◌<◌, ◌≤◌, pos, ◌+ℤ◌, ◌*ℤ◌, neg_ℤ, unsigned_abs, nat_le, int_le, ◌&&◌, not, option_to_list};
+ghost use Rattle.std.specs.Prelude.{◌≡◌, ℕ, ℤ, ◌+◌, ◌-◌, ◌*◌, ◌^◌, ◌<◌, ◌≤◌, pos, ◌+ℤ◌, ◌*ℤ◌, neg_ℤ, unsigned_abs, nat_le, int_le, ◌&&◌, not, option_to_list, IsNone};
 ghost use Rattle.case_table.specs.Comparison.{compares};
 ghost use Rattle.tick_set.specs.Runs.{IsRuns};
-ghost use Rattle.linear_crossing.specs.Zones.{solves, is_stretch, IsPairOf};
+ghost use Rattle.linear_crossing.specs.Zones.{solves, is_stretch, spans_of, IsPairOf};
 
 use case_table::Op;
 use exact::negated;
@@ -15,12 +15,32 @@ pub struct Pair {
     pub second: Option<Span>,
 }
 
+impl Pair {
+    /// One run, or none, as a pair.
+    #[inline]
+    pub fn single(run: Option<Span>) -> Pair
+        ensures spans { spans_of result ≡ option_to_list run }
+        ensures in_order { IsNone result.first → IsNone result.second }
+    {
+        Pair {
+            first: run,
+            second: None,
+        }
+    }
+}
+
+/// The largest size of the way at each tick of a function that is solved.
+pub const RISE_LIMIT: u128 = 4_000_000_000_000_000_000_000_000;
+
+/// The largest size of the first value of a function that is solved.
+pub const START_LIMIT: u128 = 10_000_000_000_000_000_000_000_000_000_000_000_000;
+
 /// The ticks t of the window at which `a * (t - w.lo) + b op 0`, as maximal runs in order.
 ///
-/// `a` is within 4 * 10^24 of 0 and `b` within 10^37, which leaves room for the value at each tick.
+/// `a` is within [`RISE_LIMIT`] of 0 and `b` within [`START_LIMIT`], which leaves room for the value at each tick.
 pub fn solve(a: i128, b: i128, op: Op, w: Window) -> Pair
-    requires a_size { unsigned_abs a ≤ 4 * 10 ^ 24 }
-    requires b_size { unsigned_abs b ≤ 10 ^ 37 }
+    requires a_size { unsigned_abs a ≤ RISE_LIMIT }
+    requires b_size { unsigned_abs b ≤ START_LIMIT }
     ensures { IsPairOf (solves a b op w) result }
 {
     if a >= 0 {
@@ -47,14 +67,14 @@ fn mirrored(op: Op) -> Op
 // The same for a function that begins at `start` and rises by `rise` at each tick: it is negative in a
 // first stretch of the window, 0 in a second one and positive in the rest.
 fn rising(rise: u128, start: i128, op: Op, w: Window) -> Pair
-    requires { unsigned_abs start ≤ 10 ^ 37 }
+    requires { unsigned_abs start ≤ START_LIMIT }
     ensures { IsPairOf (solves (pos rise) start op w) result }
 {
     let count = w.hi + 1 - w.lo;
     match op {
-        Op::Lt => single(w, 0, first_reached(rise, start, count)),
-        Op::Le => single(w, 0, first_reached(rise, start - 1, count)),
-        Op::Eq => single(
+        Op::Lt => one_stretch(w, 0, first_reached(rise, start, count)),
+        Op::Le => one_stretch(w, 0, first_reached(rise, start - 1, count)),
+        Op::Eq => one_stretch(
             w,
             first_reached(rise, start, count),
             first_reached(rise, start - 1, count),
@@ -64,8 +84,8 @@ fn rising(rise: u128, start: i128, op: Op, w: Window) -> Pair
             first_reached(rise, start, count),
             first_reached(rise, start - 1, count),
         ),
-        Op::Ge => single(w, first_reached(rise, start, count), count),
-        Op::Gt => single(w, first_reached(rise, start - 1, count), count),
+        Op::Ge => one_stretch(w, first_reached(rise, start, count), count),
+        Op::Gt => one_stretch(w, first_reached(rise, start - 1, count), count),
     }
 }
 
@@ -105,14 +125,11 @@ fn stretch(w: Window, from: u32, until: u32) -> Option<Span>
 }
 
 // One stretch as a pair.
-fn single(w: Window, from: u32, until: u32) -> Pair
+fn one_stretch(w: Window, from: u32, until: u32) -> Pair
     requires { w.lo + until ≤ w.hi + 1 }
     ensures { IsPairOf (is_stretch w.lo from until) result }
 {
-    Pair {
-        first: stretch(w, from, until),
-        second: None,
-    }
+    Pair::single(stretch(w, from, until))
 }
 
 // The ticks of the window outside of a stretch.
@@ -122,7 +139,7 @@ fn both_sides(w: Window, from: u32, until: u32) -> Pair
 {
     let count = w.hi + 1 - w.lo;
     if from >= until {
-        return single(w, 0, count);
+        return one_stretch(w, 0, count);
     }
     let first = stretch(w, 0, from);
     let second = stretch(w, until, count);

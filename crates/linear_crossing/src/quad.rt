@@ -4,7 +4,8 @@ ghost use Rattle.exact.specs.Rising.{DropsTo, RisesIn};
 
 use crate::linear::first_reached;
 use exact::{plus, times};
-use fixed_point::{Fix, Point, Slope};
+use fixed_point::{Fix, Point, SLOPE_LIMIT, Slope};
+use geometry::apart;
 use std::marker::Model;
 use std::sync::ledger::Ledger;
 use steps::Steps;
@@ -21,6 +22,22 @@ pub struct Line {
     pub dy: Slope,
 }
 
+impl Line {
+    ghost use Rattle.linear_crossing.specs.Moving.{IsInReach, position_after};
+
+    /// The position `k` ticks after the window's first. The coordinates of the first position are within
+    /// [`COORDINATE_LIMIT`] of 0.
+    pub fn position(&self, k: u32) -> Point
+        requires { IsInReach self.now }
+        ensures { result ≡ position_after self.now k }
+    {
+        Point {
+            x: coordinate(self.at.x, self.dx, k),
+            y: coordinate(self.at.y, self.dy, k),
+        }
+    }
+}
+
 /// The squared distance of two motions, by the ticks since a window's first. It falls to its least value
 /// and rises from there.
 #[derive(Clone, Copy, Debug)]
@@ -33,28 +50,30 @@ pub struct Quad {
 
 impl Model for Quad {
     ghost use Rattle.std.specs.Prelude.{◌*◌, ◌≤◌, unsigned_abs};
+    ghost use Rattle.fixed_point.specs.declared.number.TheConstants.{SLOPE_LIMIT};
     ghost use Rattle.linear_crossing.specs.Relative.{Relative};
+    ghost use Rattle.linear_crossing.specs.declared.quad.TheConstants.{COORDINATE_LIMIT};
 
     ghost Value = { Relative };
 
     ghost view = { λ q. record { x = q.x; y = q.y; dx = q.dx; dy = q.dy } };
 
-    ghost invariant = { λ q. (unsigned_abs q.x ≤ 2002000000000000) × (unsigned_abs q.y ≤ 2002000000000000)
-        × (unsigned_abs q.dx ≤ 2000000) × (unsigned_abs q.dy ≤ 2000000) };
+    ghost invariant = { λ q. (unsigned_abs q.x ≤ 2 * COORDINATE_LIMIT) × (unsigned_abs q.y ≤ 2 * COORDINATE_LIMIT)
+        × (unsigned_abs q.dx ≤ 2 * SLOPE_LIMIT) × (unsigned_abs q.dy ≤ 2 * SLOPE_LIMIT) };
 
     ghost inverse = { λ m. record { x = m.x; y = m.y; dx = m.dx; dy = m.dy } };
 }
 
 impl Quad {
     ghost use Rattle.linear_crossing.specs.Moving.{distance_after, IsInReach};
-    ghost use Rattle.linear_crossing.specs.Relative.{value_at};
+    ghost use Rattle.linear_crossing.specs.Relative.{squared_distance_at};
 
     /// The squared distance of two motions. The coordinates of their first positions are within
     /// [`COORDINATE_LIMIT`] of 0.
     pub fn between(p: &Line, q: &Line) -> Quad
         requires p_in_reach { IsInReach p.now }
         requires q_in_reach { IsInReach q.now }
-        ensures { (k : ℕ) → value_at result k ≡ distance_after p.now q.now k }
+        ensures { (k : ℕ) → squared_distance_at result k ≡ distance_after p.now q.now k }
     {
         Quad {
             x: apart(q.at.x, p.at.x),
@@ -68,12 +87,14 @@ impl Quad {
     /// step.
     #[inline]
     pub fn at<M: Ledger>(&self, k: u32, probes: &mut Steps<M>) -> i128
-        ensures value { result ≡ value_at self.now k }
+        ensures value { result ≡ squared_distance_at self.now k }
+        ensures size { unsigned_abs result ≤ 8 * 10 ^ 32 }
+        ensures least { pos 0 ≤ℤ result }
         ensures cost { probes.new ≡ probes.old + 1 }
     {
         probes.step();
-        let x = moved(self.x, self.dx, k);
-        let y = moved(self.y, self.dy, k);
+        let x = i128::from(moved(self.x, self.dx, k));
+        let y = i128::from(moved(self.y, self.dy, k));
         plus(times(x, x), times(y, y))
     }
 
@@ -81,10 +102,10 @@ impl Quad {
     /// and does not fall from there on.
     pub fn valley(&self, last: u32) -> u32
         ensures bound { result ≤ last }
-        ensures falls { DropsTo (value_at self.now) result }
-        ensures rises { RisesIn (value_at self.now) result last }
-        ensures least { (k : ℕ) → k ≤ last → value_at self.now result ≤ℤ value_at self.now k }
-        ensures first { (k : ℕ) → k < result → value_at self.now result <ℤ value_at self.now k }
+        ensures falls { DropsTo (squared_distance_at self.now) result }
+        ensures rises { RisesIn (squared_distance_at self.now) result last }
+        ensures least { (k : ℕ) → k ≤ last → squared_distance_at self.now result ≤ℤ squared_distance_at self.now k }
+        ensures first { (k : ℕ) → k < result → squared_distance_at self.now result <ℤ squared_distance_at self.now k }
     {
         let (x, y) = (i128::from(self.x), i128::from(self.y));
         let (dx, dy) = (i128::from(self.dx), i128::from(self.dy));
@@ -95,24 +116,21 @@ impl Quad {
     }
 }
 
-// The first position less the second.
-#[inline]
-fn apart(p: Fix, q: Fix) -> i64
-    requires p_in_reach { unsigned_abs p ≤ COORDINATE_LIMIT }
-    requires q_in_reach { unsigned_abs q ≤ COORDINATE_LIMIT }
-    ensures { result ≡ p -ℤ q }
+// A coordinate after `k` ticks.
+fn coordinate(start: Fix, step: Slope, k: u32) -> Fix
+    requires { unsigned_abs start ≤ COORDINATE_LIMIT }
+    ensures { result ≡ start +ℤ step *ℤ pos k }
 {
-    p.raw() - q.raw()
+    Fix::of(moved(start.raw(), i64::from(step.raw()), k)).unwrap()
 }
 
-// A coordinate after `k` ticks.
+// A difference of coordinates, or a coordinate, after `k` ticks.
 #[inline]
-fn moved(start: i64, step: i64, k: u32) -> i128
-    requires start_size { unsigned_abs start ≤ 2002000000000000 }
-    requires step_size { unsigned_abs step ≤ 2000000 }
+fn moved(start: i64, step: i64, k: u32) -> i64
+    requires start_size { unsigned_abs start ≤ 2 * COORDINATE_LIMIT }
+    requires step_size { unsigned_abs step ≤ 2 * SLOPE_LIMIT }
     ensures value { result ≡ start +ℤ step *ℤ pos k }
     ensures size { unsigned_abs result ≤ 2 * 10 ^ 16 }
 {
-    let way = times(i128::from(step), i128::from(k));
-    plus(i128::from(start), way)
+    start + step * i64::from(k)
 }

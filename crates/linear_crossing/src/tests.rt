@@ -56,8 +56,7 @@ fn lines_and_zero(rt: HostRuntime) -> Result<(), Fail> {
         ),
     ];
     for (a, b, op, last, first, second) in cases {
-        assert!(rt; a.unsigned_abs() <= 4_000_000_000_000_000_000_000_000);
-        assert!(rt; b.unsigned_abs() <= 10_000_000_000_000_000_000_000_000_000_000_000_000);
+        assert!(rt; a.unsigned_abs() <= RISE_LIMIT && b.unsigned_abs() <= START_LIMIT);
         let pair = solve(a, b, op, Window::new(0, last).ok_or("no window")?);
         assert_eq!(rt; ends(pair.first), first, "at {a} {b}");
         assert_eq!(rt; ends(pair.second), second, "at {a} {b}");
@@ -118,13 +117,20 @@ fn line(x: i64, y: i64, dx: i64, dy: i64) -> Option<Line>
     Some(Line { at, dx, dy })
 }
 
+#[test]
+fn positions_after_some_ticks(rt: HostRuntime) -> Result<(), Fail> {
+    let p = line(500, -3000, 1000, -2).ok_or("no motion")?.position(3);
+    assert_eq!(rt; (p.x.raw(), p.y.raw()), (3500, -3006));
+    Ok(())
+}
+
 // The valley and the values at both ends of it.
-fn shape<M: Ledger>(blank: Blank, q: &Quad, last: u32) -> (u32, i128, i128)
+fn shape<M: Ledger>(rt: &HostRuntime, blank: Blank, q: &Quad, last: u32) -> (u32, i128, i128)
     requires name { blank.name ≡ M.name }
     requires parts { blank.parts ≡ M.parts }
     requires some_part { 0 < blank.parts }
 {
-    let mut probes: Steps<M> = Steps::new(blank);
+    let mut probes: Steps<M> = Steps::new(rt, blank);
     (
         q.valley(last),
         q.at(0, &mut probes),
@@ -171,7 +177,7 @@ fn distances_fall_and_rise(rt: HostRuntime) -> Result<(), Fail> {
         let p = line(p.0, p.1, p.2, p.3).ok_or("no motion")?;
         let q = line(q.0, q.1, q.2, q.3).ok_or("no motion")?;
         let quad = Quad::between(&p, &q);
-        assert_eq!(rt; shape::<Brand>(Blank::new(1), &quad, last), want);
+        assert_eq!(rt; shape::<Brand>(&rt, Blank::new(1), &quad, last), want);
     }
     Ok(())
 }

@@ -1,13 +1,13 @@
 -- How a polygon is kept: its points in the direction that is counterclockwise, and whether they were given in the other one.
 use Rattle.std.specs.Prelude.{◌≡◌, Bool, List, reverse, if◌then◌else◌}
 use Rattle.fixed_point.specs.declared.number.Point.{Point}
-use Rattle.geometry.specs.Polygon.{turned}
+use Rattle.geometry.specs.Polygon.{counterclockwise_points}
 use Rattle.polygon.specs.Faults.{IsPolygon}
 
 -- the points in the order in which they were given
 abbrev pub given : List Point → Bool → List Point
 given points reversed = if reversed then reverse points else points
 
-pub record IsKept (points : List Point) (reversed : Bool) : Type 0 where
+pub record IsStoredPolygon (points : List Point) (reversed : Bool) : Type 0 where
   pub polygon : IsPolygon (given points reversed)
-  pub counterclockwise : turned (given points reversed) ≡ points
+  pub counterclockwise : counterclockwise_points (given points reversed) ≡ points

@@ -9,9 +9,9 @@ ghost use Rattle.tick_set.specs.Ticks.{within};
 use crate::sides::end_of_edge;
 use case_table::Op;
 use exact::{minus, times};
-use fixed_point::{Fix, Point, Slope};
-use geometry::cross;
-use linear_crossing::{Line, solve};
+use fixed_point::{FIX_LIMIT, Point, Slope};
+use geometry::{apart, cross};
+use linear_crossing::{Line, RISE_LIMIT, solve};
 use tick_set::{Span, Window};
 
 /// The ticks of the window at which no edge has the moving point strictly on its right. The edges go from
@@ -53,28 +53,19 @@ fn ticks_left_of(start: &Point, end: &Point, l: &Line, w: Window) -> Option<Span
 #[tactic(auto, using(exact::proofs::Sizes::steps))]
 fn climb(start: &Point, end: &Point, l: &Line) -> i128
     ensures value { result ≡ (end.now.x -ℤ start.now.x) *ℤ l.now.dy -ℤ (end.now.y -ℤ start.now.y) *ℤ l.now.dx }
-    ensures size { unsigned_abs result ≤ 4 * 10 ^ 24 }
+    ensures size { unsigned_abs result ≤ RISE_LIMIT }
 {
     let along = swept(apart(end.x, start.x), l.dy);
     let back = swept(apart(end.y, start.y), l.dx);
     minus(along, back)
 }
 
-// The first coordinate less the second.
-#[inline]
-fn apart(a: Fix, b: Fix) -> i128
-    ensures value { result ≡ a -ℤ b }
-    ensures size { unsigned_abs result ≤ 2 * 10 ^ 18 }
-{
-    i128::from(a.raw() - b.raw())
-}
-
 // A way times a slope.
 #[inline]
-fn swept(way: i128, slope: Slope) -> i128
-    requires { unsigned_abs way ≤ 2 * 10 ^ 18 }
+fn swept(way: i64, slope: Slope) -> i128
+    requires { unsigned_abs way ≤ 2 * FIX_LIMIT }
     ensures value { result ≡ way *ℤ slope }
     ensures size { unsigned_abs result ≤ 2 * 10 ^ 24 }
 {
-    times(way, i128::from(slope.raw()))
+    times(i128::from(way), i128::from(slope.raw()))
 }

@@ -2,12 +2,6 @@
 
 use thiserror::Error;
 
-/// The least number of points of a polygon.
-pub const LEAST_POINTS: usize = 3;
-
-/// The greatest number of points of a polygon.
-pub const MOST_POINTS: usize = 64;
-
 /// Why a list of points makes no polygon.
 #[derive(Clone, Copy, Debug, PartialEq, Eq, Error)]
 pub enum PolygonFault {

@@ -9,9 +9,16 @@ mod named;
 mod shape;
 mod sides;
 
-pub use fault::{LEAST_POINTS, MOST_POINTS, PolygonFault};
+ghost use Rattle.std.specs.Prelude.{◌≡◌};
+
+pub use fault::PolygonFault;
 pub use named::{REGION_LIMIT, Regions};
 pub use shape::Polygon;
+
+/// The limit, in numbers.
+pub fn limits_in_numbers()
+    ensures regions { REGION_LIMIT ≡ 1024 }
+{}
 
 #[cfg(test)]
 mod tests;

@@ -1,16 +1,17 @@
 //! Convex polygons.
 ghost use Rattle.std.specs.Prelude.{◌≡◌, length, slice_get, IfOk, OnOk, IfErr, option_to_list};
-ghost use Rattle.geometry.specs.Polygon.{edges, is_inside, turned};
+ghost use Rattle.geometry.specs.Polygon.{edges, is_inside, counterclockwise_points};
 ghost use Rattle.tick_set.specs.Runs.{IsRuns};
 ghost use Rattle.polygon.specs.Faults.{Explains, IsPolygon};
-ghost use Rattle.polygon.specs.Given.{given, IsKept};
+ghost use Rattle.polygon.specs.Given.{given, IsStoredPolygon};
 ghost use Rattle.polygon.specs.Inside.{is_inside_at};
 ghost use Rattle.polygon.specs.declared.fault.PolygonFault.TheVariants.{NoMemory};
 
 use crate::crossing::ticks_within;
-use crate::fault::{LEAST_POINTS, MOST_POINTS, PolygonFault};
+use crate::fault::PolygonFault;
 use crate::sides::{end_of_edge, is_counterclockwise, is_within};
 use fixed_point::Point;
+use geometry::{LEAST_VERTICES, VERTEX_LIMIT};
 use linear_crossing::Line;
 use std::alloc::Global;
 use std::marker::Model;
@@ -29,13 +30,13 @@ pub struct Polygon {
 impl Model for Polygon {
     ghost use Rattle.std.specs.Prelude.{List};
     ghost use Rattle.fixed_point.specs.declared.number.Point.{Point};
-    ghost use Rattle.polygon.specs.Given.{given, IsKept};
+    ghost use Rattle.polygon.specs.Given.{given, IsStoredPolygon};
 
     ghost Value = { List Point };
 
     ghost view = { λ a. given a.points.items a.reversed };
 
-    ghost invariant = { λ a. IsKept a.points.items a.reversed };
+    ghost invariant = { λ a. IsStoredPolygon a.points.items a.reversed };
 }
 
 impl Polygon {
@@ -44,23 +45,23 @@ impl Polygon {
     /// edge differ, no edge has a point strictly on its right, and some edge has one strictly on its left; so a
     /// point may be in the middle of a side.
     ///
-    /// `TooFew` exactly where there are fewer than [`LEAST_POINTS`], `TooMany` where there are more than
-    /// [`MOST_POINTS`], and `NotConvex` where neither order is counterclockwise.
+    /// `TooFew` exactly where there are fewer than [`LEAST_VERTICES`], `TooMany` where there are more than
+    /// [`VERTEX_LIMIT`], and `NotConvex` where neither order is counterclockwise.
     pub fn new(alloc: Global, points: &[Point]) -> Result<Polygon, PolygonFault>
         ensures ok { IfOk result (λ p. p ≡ points.now) }
         ensures polygon { OnOk result (IsPolygon points.now) }
         ensures cause { IfErr result (Explains points.now) }
     {
-        if points.len() < LEAST_POINTS {
+        if points.len() < LEAST_VERTICES {
             return Err(PolygonFault::TooFew);
         }
-        if points.len() > MOST_POINTS {
+        if points.len() > VERTEX_LIMIT {
             return Err(PolygonFault::TooMany);
         }
         if is_counterclockwise(points) {
             return keep(alloc, points, false);
         }
-        let mut backward = [points[0]; MOST_POINTS];
+        let mut backward = [points[0]; VERTEX_LIMIT];
         let backward = &mut backward[..points.len()];
         backward.copy_from_slice(points);
         backward.reverse();
@@ -97,7 +98,7 @@ impl Polygon {
     /// The two ends of an edge, in its direction: the edge that begins at point `i`, counted from 0, of the
     /// points in counterclockwise order. None exactly where there are at most `i` points.
     pub fn edge(&self, i: usize) -> Option<(Point, Point)>
-        ensures { result ≡ slice_get (edges (turned self.now)) i }
+        ensures { result ≡ slice_get (edges (counterclockwise_points self.now)) i }
     {
         let start = self.points.get(i)?;
         let end = end_of_edge(&self.points[0], &self.points[i + 1..]);
@@ -107,7 +108,7 @@ impl Polygon {
 
 // Keeps points that are in counterclockwise order.
 fn keep(alloc: Global, points: &[Point], reversed: bool) -> Result<Polygon, PolygonFault>
-    requires { IsKept points.now reversed }
+    requires { IsStoredPolygon points.now reversed }
     ensures ok { IfOk result (λ p. p ≡ given points.now reversed) }
     ensures err { IfErr result (λ e. e ≡ NoMemory) }
 {

@@ -52,23 +52,6 @@ fn fault_of(alloc: Global, points: &[Point]) -> Option<PolygonFault> {
 }
 
 #[test]
-fn a_star_is_not_convex(rt: HostRuntime) -> Result<(), Fail> {
-    let star = [
-        (0, 10_000),
-        (6_000, -8_000),
-        (-10_000, 3_000),
-        (10_000, 3_000),
-        (-6_000, -8_000),
-    ];
-    let points = places(rt.alloc(), &star)?;
-    assert_eq!(rt;
-        fault_of(rt.alloc(), &points),
-        Some(PolygonFault::NotConvex)
-    );
-    Ok(())
-}
-
-#[test]
 fn four_points(rt: HostRuntime) -> Result<(), Fail> {
     let refused = Some(PolygonFault::NotConvex);
     for (corners, want) in [
@@ -169,20 +152,6 @@ fn motions_through_a_square(rt: HostRuntime) -> Result<(), Fail> {
     ] {
         assert_eq!(rt; run(&square, at, way, 30), want, "from {at:?} by {way:?}");
     }
-    Ok(())
-}
-
-#[test]
-fn a_jump_over_a_square(rt: HostRuntime) -> Result<(), Fail> {
-    let corners = [
-        (16_000, -5_000),
-        (29_000, -5_000),
-        (29_000, 5_000),
-        (16_000, 5_000),
-    ];
-    let square = Polygon::new(rt.alloc(), &places(rt.alloc(), &corners)?)?;
-    assert_eq!(rt; run(&square, (0, 0), (15_000, 0), 30), None);
-    assert_eq!(rt; run(&square, (0, 0), (14_500, 0), 30), Some((2, 2)));
     Ok(())
 }
 

@@ -2,7 +2,7 @@ use Rattle.std.proofs.Common.{◌≡◌, ◌+◌, ◌-◌, ◌&&◌, ℤ, int_le
 use Rattle.std.proofs.lemmas.Int.{ints}
 use mir.Syntax.{w128}
 use mir.Val.{to_z, of_z}
-use Rattle.linear_crossing.specs.Relative.{value_at}
+use Rattle.linear_crossing.specs.Relative.{squared_distance_at}
 use Rattle.tick_set.specs.Runs.{IsRuns}
 use Rattle.tick_set.specs.Ticks.{within}
 use Rattle.tick_set.specs.declared.spans.Span.{Span}
@@ -11,7 +11,7 @@ use Rattle.distance_crossing.proofs.near.within.Goals as goal
 
 pub returns-clause-runs : goal.returns-clause-runs
 returns-clause-runs g c =
-    let f = value_at c.args.q.now in
+    let f = squared_distance_at c.args.q.now in
     let w = c.args.w in
     let found : (s : Span) → s.lo ≡ w.lo + c.first_near-first.result → s.hi ≡ w.lo + c.last_near-end.result
     → IsRuns (λ t. within w.lo w.hi t && int_le (f (t - w.lo)) (to_z w128 (of_z w128 c.args.limit))) (s ∷ [])

@@ -13,4 +13,4 @@ returns-then-lines-le2 g c =
 pub returns : goal.returns
 returns g c =
     span_many c.args.r c.args.lines.now c.args.w c.requires.count c.near_pairs.result c.near_pairs.ensures.ticks c.in-Some.span c.in-Some.is
-    c.of_runs.result c.in_ok-runs.runs.items c.of_runs.ensures c.in_ok-runs.ensures.ticks
+    c.from_runs.result c.in_ok-runs.runs.items c.from_runs.ensures c.in_ok-runs.ensures.ticks

@@ -21,8 +21,8 @@ returns-in-Lt c =
     let n = w.hi + 1 - w.lo in
     let not_negative_fits : SFits w128 (start) = search rules in
     let not_negative : TurnsAt rise (start) n c.first_reached.result = λ k l. grind (arith, to_z-of_z, c.first_reached.ensures.first k l) in
-    for_op rise start c.args.op Lt w c.single.result c.in-Lt.is
-    (zone-Lt rise start w n c.first_reached.result c.single.result (omega arith) (omega arith) not_negative c.single.ensures)
+    for_op rise start c.args.op Lt w c.one_stretch.result c.in-Lt.is
+    (zone-Lt rise start w n c.first_reached.result c.one_stretch.result (omega arith) (omega arith) not_negative c.one_stretch.ensures)
 
 pub returns-in-Le : goal.returns-in-Le
 returns-in-Le c =
@@ -32,8 +32,8 @@ returns-in-Le c =
     let n = w.hi + 1 - w.lo in
     let above_fits : SFits w128 (start -ℤ pos 1) = search rules in
     let above : TurnsAt rise (start -ℤ pos 1) n c.first_reached-in-Le.result = λ k l. grind (arith, to_z-of_z, c.first_reached-in-Le.ensures.first k l) in
-    for_op rise start c.args.op Le w c.single-in-Le.result c.in-Le.is
-    (zone-Le rise start w n c.first_reached-in-Le.result c.single-in-Le.result (omega arith) (omega arith) above c.single-in-Le.ensures)
+    for_op rise start c.args.op Le w c.one_stretch-in-Le.result c.in-Le.is
+    (zone-Le rise start w n c.first_reached-in-Le.result c.one_stretch-in-Le.result (omega arith) (omega arith) above c.one_stretch-in-Le.ensures)
 
 pub returns-in-Eq : goal.returns-in-Eq
 returns-in-Eq c =
@@ -45,8 +45,8 @@ returns-in-Eq c =
     let not_negative : TurnsAt rise (start) n c.first_reached-in-Eq.result = λ k l. grind (arith, to_z-of_z, c.first_reached-in-Eq.ensures.first k l) in
     let above_fits : SFits w128 (start -ℤ pos 1) = search rules in
     let above : TurnsAt rise (start -ℤ pos 1) n c.first_reached-in-Eq-2.result = λ k l. grind (arith, to_z-of_z, c.first_reached-in-Eq-2.ensures.first k l) in
-    for_op rise start c.args.op Eq w c.single-in-Eq.result c.in-Eq.is
-    (zone-Eq rise start w n c.first_reached-in-Eq.result c.first_reached-in-Eq-2.result c.single-in-Eq.result (omega arith) (omega arith) not_negative above c.single-in-Eq.ensures)
+    for_op rise start c.args.op Eq w c.one_stretch-in-Eq.result c.in-Eq.is
+    (zone-Eq rise start w n c.first_reached-in-Eq.result c.first_reached-in-Eq-2.result c.one_stretch-in-Eq.result (omega arith) (omega arith) not_negative above c.one_stretch-in-Eq.ensures)
 
 pub returns-in-Ne : goal.returns-in-Ne
 returns-in-Ne c =
@@ -69,8 +69,8 @@ returns-in-Ge c =
     let n = w.hi + 1 - w.lo in
     let not_negative_fits : SFits w128 (start) = search rules in
     let not_negative : TurnsAt rise (start) n c.first_reached-in-Ge.result = λ k l. grind (arith, to_z-of_z, c.first_reached-in-Ge.ensures.first k l) in
-    for_op rise start c.args.op Ge w c.single-in-Ge.result c.in-Ge.is
-    (zone-Ge rise start w n c.first_reached-in-Ge.result c.single-in-Ge.result (omega arith) not_negative c.single-in-Ge.ensures)
+    for_op rise start c.args.op Ge w c.one_stretch-in-Ge.result c.in-Ge.is
+    (zone-Ge rise start w n c.first_reached-in-Ge.result c.one_stretch-in-Ge.result (omega arith) not_negative c.one_stretch-in-Ge.ensures)
 
 pub returns-in-Gt : goal.returns-in-Gt
 returns-in-Gt c =
@@ -80,5 +80,5 @@ returns-in-Gt c =
     let n = w.hi + 1 - w.lo in
     let above_fits : SFits w128 (start -ℤ pos 1) = search rules in
     let above : TurnsAt rise (start -ℤ pos 1) n c.first_reached-in-Gt.result = λ k l. grind (arith, to_z-of_z, c.first_reached-in-Gt.ensures.first k l) in
-    for_op rise start c.args.op Gt w c.single-in-Gt.result c.in-Gt.is
-    (zone-Gt rise start w n c.first_reached-in-Gt.result c.single-in-Gt.result (omega arith) above c.single-in-Gt.ensures)
+    for_op rise start c.args.op Gt w c.one_stretch-in-Gt.result c.in-Gt.is
+    (zone-Gt rise start w n c.first_reached-in-Gt.result c.one_stretch-in-Gt.result (omega arith) above c.one_stretch-in-Gt.ensures)

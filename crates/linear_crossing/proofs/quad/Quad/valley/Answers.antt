@@ -3,7 +3,7 @@ use Rattle.exact.proofs.Sizes.{steps}
 use mir.Syntax.{w128}
 use mir.Val.{to_z, of_z}
 use Rattle.exact.proofs.Convex.{FallsTo-drops, drops, least}
-use Rattle.linear_crossing.specs.Relative.{value_at}
+use Rattle.linear_crossing.specs.Relative.{squared_distance_at}
 use Rattle.linear_crossing.proofs.Slope.{IsTurn, IsTurn-computed, drops_to_turn, rises_from_turn}
 use Rattle.linear_crossing.proofs.quad.Quad.valley.Goals as goal
 
@@ -41,8 +41,8 @@ returns-clause-rises c = rises_from_turn _ _ _ (turn c)
 
 pub returns-clause-least : goal.returns-clause-least
 returns-clause-least c =
-    let f = value_at c.args.self.now in
+    let f = squared_distance_at c.args.self.now in
     least f _ _ (FallsTo-drops f _ (drops_to_turn _ _ _ (turn c))) (rises_from_turn _ _ _ (turn c))
 
 pub returns-clause-first : goal.returns-clause-first
-returns-clause-first c = λ k l. drops (value_at c.args.self.now) _ (drops_to_turn _ _ _ (turn c)) k _ l (omega arith)
+returns-clause-first c = λ k l. drops (squared_distance_at c.args.self.now) _ (drops_to_turn _ _ _ (turn c)) k _ l (omega arith)
