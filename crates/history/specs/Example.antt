@@ -1,15 +1,16 @@
--- A small history, worked out by hand.
+-- Small histories, worked out by hand.
 use Rattle.std.specs.Prelude.{◌≡◌, ℕ, pos, negsuc, true, false, Option, None, Some, List, [], ◌∷◌, codes}
 use Rattle.motion.specs.Function.{Function, level}
-use Rattle.motion.specs.Dynamic.{Dynamic}
+use Rattle.motion.specs.Dynamic.{Dynamic, value_at}
 use Rattle.motion.specs.declared.cell.Cell.{Cell}
 use Rattle.motion.specs.declared.cell.Cell.TheVariants as cells
 use Rattle.motion.specs.declared.cell.Given.TheVariants as givens
 use Rattle.motion.specs.declared.cell.AttrKind.TheVariants as kinds
 use Rattle.motion.specs.declared.cell.Place.{Place}
 use Rattle.history.specs.Write.{Write, Class, Insert, Update, Remove}
-use Rattle.history.specs.Catalog.{catalog, names}
+use Rattle.history.specs.Catalog.{catalog, ids_of, names}
 use Rattle.history.specs.State.{state}
+use Rattle.history.specs.History.{cells_at, history}
 
 abbrev pub nowhere : Place
 nowhere = record { at = None; moving = None }
@@ -41,7 +42,7 @@ pub record TellsTheTank : Type 0 where
   pub removed : fuel_at 7 ≡ None
   pub again : fuel_at 8 ≡ fuel (record { value = pos 0; updatetime = 8; function = level })
   pub stranger : state tank_writes (codes "b") 3 ≡ None
-  pub named_once : names (catalog tank_writes) (codes "tank") ≡ codes "a" ∷ []
+  pub named_once : names (catalog tank_writes) 0 ≡ codes "a" ∷ []
 
 -- a point object that is moved: `at` sets where it is, `move` its legs
 abbrev pub car_writes : List Write
@@ -52,5 +53,48 @@ car_writes =
     ∷ []
 
 pub record TellsTheCar : Type 0 where
-  pub stands : state car_writes (codes "c") 1 ≡ Some (cells.Dyn (record { value = pos 3000; updatetime = 0; function = level }) ∷ cells.Dyn (record { value = pos 0; updatetime = 0; function = level }) ∷ [])
-  pub moves : state car_writes (codes "c") 2 ≡ Some (cells.Dyn (record { value = pos 3000; updatetime = 2; function = falling }) ∷ cells.Dyn (record { value = pos 0; updatetime = 2; function = level }) ∷ [])
+  pub stands : state car_writes (codes "c") 1 ≡ Some
+      (cells.Dyn (record { value = pos 3000; updatetime = 0; function = level })
+      ∷ cells.Dyn (record { value = pos 0; updatetime = 0; function = level }) ∷ [])
+  pub moves : state car_writes (codes "c") 2 ≡ Some
+      (cells.Dyn (record { value = pos 3000; updatetime = 2; function = falling })
+      ∷ cells.Dyn (record { value = pos 0; updatetime = 2; function = level }) ∷ [])
+
+-- 1 a tick for ten ticks, and then at rest
+abbrev pub halting : Function
+halting = record { firsts = (pos 1000, 10) ∷ []; last = pos 0 }
+
+-- Two vans: `at` with `move`, a leg that ends, a static number, a text, and a setting that no attribute has.
+abbrev pub van_writes : List Write
+van_writes =
+    Class (codes "depot") 1 false []
+    ∷ Class (codes "van") 10 true (record { name = codes "seats"; kind = kinds.Num } ∷ record { name = codes "plate"; kind = kinds.Text } ∷ [])
+    ∷ Insert 0 (codes "van") (codes "a") (record { at = Some (record { x = pos 7000; y = pos 1000 }); moving = Some (halting, falling) })
+    (record { name = codes "seats"; given = givens.Num (pos 3000) } ∷ record { name = codes "plate"; given = givens.Text (codes "AB") } ∷ [])
+    ∷ Insert 2 (codes "van") (codes "b") nowhere (record { name = codes "plate"; given = givens.Text (codes "CD") } ∷ [])
+    ∷ Update 4 (codes "a") (record { at = Some (record { x = pos 100000; y = pos 2000 }); moving = None })
+    (record { name = codes "wheels"; given = givens.Num (pos 6000) } ∷ [])
+    ∷ []
+
+-- the position of a van on its way, from the update on: 6 ticks of the leg are left
+abbrev pub on_the_way : Dynamic
+on_the_way = record { value = pos 100000; updatetime = 4; function = record { firsts = (pos 1000, 6) ∷ []; last = pos 0 } }
+
+pub record TellsTheVans : Type 0 where
+  pub placed : state van_writes (codes "a") 3 ≡ Some
+      (cells.Dyn (record { value = pos 7000; updatetime = 0; function = halting })
+      ∷ cells.Dyn (record { value = pos 1000; updatetime = 0; function = falling })
+      ∷ cells.Num (pos 3000) ∷ cells.Text (codes "AB") ∷ [])
+  pub shifted : state van_writes (codes "a") 4 ≡ Some
+      (cells.Dyn on_the_way ∷ cells.Dyn (record { value = pos 2000; updatetime = 4; function = falling })
+      ∷ cells.Num (pos 3000) ∷ cells.Text (codes "AB") ∷ [])
+  pub leg : value_at on_the_way 9 ≡ pos 105000
+  pub leg_ends : value_at on_the_way 10 ≡ pos 106000
+  pub rests : value_at on_the_way 20 ≡ pos 106000
+  pub not_yet : state van_writes (codes "b") 1 ≡ None
+  pub other : cells_at (history van_writes) 1 4 ≡ Some
+      (cells.Dyn (record { value = pos 0; updatetime = 2; function = level })
+      ∷ cells.Dyn (record { value = pos 0; updatetime = 2; function = level })
+      ∷ cells.Num (pos 0) ∷ cells.Text (codes "CD") ∷ [])
+  pub numbers : ids_of (catalog van_writes) 1 ≡ 0 ∷ 1 ∷ []
+  pub no_third : cells_at (history van_writes) 2 4 ≡ None

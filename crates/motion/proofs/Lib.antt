@@ -4,3 +4,4 @@ pub mod TimelineLemmas
 pub mod LegLemmas
 pub mod CellLemmas
 pub mod PieceLemmas
+pub mod CallerLemmas

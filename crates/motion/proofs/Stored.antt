@@ -27,9 +27,11 @@ pub padded_is_stored : (firsts : List (ℤ × ℕ)) → IsTrue (are_firsts first
 padded_is_stored firsts legs =
     let few : length firsts ≤ 7 = few_firsts firsts legs in
     record {
-      fits = few;
-      full = omega (arith, length-append {A = ℤ × ℕ}, length-replicate {A = ℤ × ℕ});
-      unused = drop-append_seam firsts _;
+      in_front = record {
+        fits = few;
+        full = omega (arith, length-append {A = ℤ × ℕ}, length-replicate {A = ℤ × ℕ});
+        unused = drop-append_seam firsts _;
+      };
       legs = rw (take_padded firsts) legs;
     }
 

@@ -1,11 +1,11 @@
 -- The effect of one write on the cells of an object.
 use Rattle.std.specs.Prelude.{ℕ, ℤ, zero, suc, pos, ◌≤◌, Bool, false, unsigned_abs, All, Option, None, Some, List, [], ◌∷◌, ◌++◌, codes, if◌then◌else◌}
 use Rattle.std.specs.List.{fold}
+use Rattle.std.specs.Option.{option_map}
 use Rattle.std.specs.Str.{bytes_eq}
 use Rattle.motion.specs.Function.{Function, level}
 use Rattle.motion.specs.Dynamic.{moved, turned, begun, turns_at}
-use Rattle.fixed_point.specs.declared.number.Point.{Point}
-use Rattle.motion.specs.declared.vector.TheConstants.{GIVEN_LIMIT}
+use Rattle.fixed_point.specs.declared.number.TheConstants.{READ_LIMIT}
 use Rattle.motion.specs.declared.cell.AttrKind.{AttrKind}
 use Rattle.motion.specs.declared.cell.Cell.{Cell}
 use Rattle.motion.specs.declared.cell.Given.{Given}
@@ -30,11 +30,11 @@ written s (cells.Dyn v) (givens.Rate f) = cells.Dyn (turned s v f)
 written s (cells.Dyn v) (givens.Both n f) = cells.Dyn (begun s n f)
 written s cell given = cell
 
--- the cells after a write to the one at a place, counted from 0; a place past them leaves all
+-- the cells after a write to the one of an index, counted from 0; an index past them leaves all
 abbrev pub set_at : ℕ → List Cell → ℕ → Given → List Cell
-set_at s [] place given = []
+set_at s [] index given = []
 set_at s (cell ∷ cells) zero given = written s cell given ∷ cells
-set_at s (cell ∷ cells) (suc place) given = cell ∷ set_at s cells place given
+set_at s (cell ∷ cells) (suc index) given = cell ∷ set_at s cells index given
 
 -- the cells after writes at tick s, in their order
 abbrev pub changed : ℕ → List (ℕ × Given) → List Cell → List Cell
@@ -53,40 +53,45 @@ cell_turns t (cells.Num n) = false
 cell_turns t (cells.Text w) = false
 cell_turns t (cells.Dyn v) = turns_at v t
 
--- what a place gives for x and y: `at` their values, `move` their legs
-abbrev pub coordinate_sets : List ℕ → Option ℤ → Option Function → List NamedSet
-coordinate_sets name None None = []
-coordinate_sets name (Some n) None = record { name = name; given = givens.Num n } ∷ []
-coordinate_sets name None (Some f) = record { name = name; given = givens.Rate f } ∷ []
-coordinate_sets name (Some n) (Some f) = record { name = name; given = givens.Both n f } ∷ []
+-- what a command gives for a coordinate: `at` its value, `move` its legs
+abbrev pub given_of : Option ℤ → Option Function → Option Given
+given_of None None = None
+given_of (Some n) None = Some (givens.Num n)
+given_of None (Some f) = Some (givens.Rate f)
+given_of (Some n) (Some f) = Some (givens.Both n f)
 
-abbrev pub place_sets_of : Option Point → Option (Function × Function) → List NamedSet
-place_sets_of None None = []
-place_sets_of (Some p) None = coordinate_sets (codes "x") (Some p.x) None ++ coordinate_sets (codes "y") (Some p.y) None
-place_sets_of None (Some m) = coordinate_sets (codes "x") None (Some m.0) ++ coordinate_sets (codes "y") None (Some m.1)
-place_sets_of (Some p) (Some m) =
-    coordinate_sets (codes "x") (Some p.x) (Some m.0) ++ coordinate_sets (codes "y") (Some p.y) (Some m.1)
+-- the setting of an attribute, where something is given for it
+abbrev pub setting_of : List ℕ → Option Given → List NamedSet
+setting_of name None = []
+setting_of name (Some given) = record { name = name; given = given } ∷ []
 
+-- what a place gives for x and y
 abbrev pub place_sets : Place → List NamedSet
-place_sets place = place_sets_of place.at place.moving
+place_sets place =
+    setting_of (codes "x") (given_of (option_map (λ p. p.x) place.at) (option_map (λ m. m.0) place.moving))
+    ++ setting_of (codes "y") (given_of (option_map (λ p. p.y) place.at) (option_map (λ m. m.1) place.moving))
 
 -- the cells after a command's writes at tick s, first those of its place and then its settings in their order
 abbrev pub cells_after : ℕ → List (List ℕ) → List Cell → Place → List NamedSet → List Cell
 cells_after s names cells place sets = fold (set_named s names) cells (place_sets place ++ sets)
 
--- A write at tick s or before left the cell: a number as it was given, within 10^12 thousandths, a text, or a vector updated by then.
-abbrev pub IsWritten : Cell → ℕ → Type 0
-IsWritten (cells.Num n) s = unsigned_abs n ≤ GIVEN_LIMIT
-IsWritten (cells.Text w) s = Unit {0}
-IsWritten (cells.Dyn v) s = v.updatetime ≤ s
+-- A cell as it may stand at tick s: a number as it was given, within 10^12 thousandths, a text, or a
+-- vector updated by then.
+abbrev pub IsCellAt : Cell → ℕ → Type 0
+IsCellAt (cells.Num n) s = unsigned_abs n ≤ READ_LIMIT
+IsCellAt (cells.Text w) s = Unit {0}
+IsCellAt (cells.Dyn v) s = v.updatetime ≤ s
 
--- each cell was written by tick s
-abbrev pub AreWritten : List Cell → ℕ → Type 0
-AreWritten cells s = All (λ cell. IsWritten cell s) cells
+abbrev pub AreCellsAt : List Cell → ℕ → Type 0
+AreCellsAt cells s = All (λ cell. IsCellAt cell s) cells
 
 -- a number that a command gives is within 10^12 thousandths
 abbrev pub IsGiven : Given → Type 0
-IsGiven (givens.Num n) = unsigned_abs n ≤ GIVEN_LIMIT
+IsGiven (givens.Num n) = unsigned_abs n ≤ READ_LIMIT
 IsGiven (givens.Text w) = Unit {0}
 IsGiven (givens.Rate f) = Unit {0}
-IsGiven (givens.Both n f) = unsigned_abs n ≤ GIVEN_LIMIT
+IsGiven (givens.Both n f) = unsigned_abs n ≤ READ_LIMIT
+
+-- changes, each by the index of its cell, have such numbers alone
+abbrev pub AreChanges : List (ℕ × Given) → Type 0
+AreChanges changes = All (λ change. IsGiven change.1) changes

@@ -1,8 +1,7 @@
 -- A dynamic attribute, by its three sub-attributes as in MOST, and what it implies of later ticks.
 use Rattle.std.specs.Prelude.{ℕ, ℤ, Bool, ◌+◌, ◌*◌, ◌+ℤ◌, ◌-◌, ◌≤◌, unsigned_abs}
-use Rattle.fixed_point.specs.declared.number.TheConstants.{SLOPE_LIMIT}
+use Rattle.fixed_point.specs.declared.number.TheConstants.{READ_LIMIT, SLOPE_LIMIT}
 use Rattle.tick_set.specs.declared.spans.TheConstants.{LAST_TICK}
-use Rattle.motion.specs.declared.vector.TheConstants.{GIVEN_LIMIT}
 use Rattle.motion.specs.Function.{Function, rise, rest, slope, leg_ends}
 
 -- the value in thousandths at the tick of the last update, that tick, and how the value moves from it on
@@ -10,6 +9,8 @@ pub record Dynamic : Type 0 where
   pub value : ℤ
   pub updatetime : ℕ
   pub function : Function
+
+-- The three functions of a tick give before the update what they give at it, since `-` ends at 0.
 
 -- the implied value at a tick from the update on, in thousandths
 abbrev pub value_at : Dynamic → ℕ → ℤ
@@ -38,4 +39,4 @@ begun s n f = record { value = n; updatetime = s; function = f }
 -- What updates can lead to: a given value is within 10^12 thousandths, and one that legs began at has moved by at most 10^6 a tick.
 pub record IsReachable (value : ℤ) (updatetime : ℕ) : Type 0 where
   pub tick : updatetime ≤ LAST_TICK
-  pub near : unsigned_abs value ≤ GIVEN_LIMIT + SLOPE_LIMIT * updatetime
+  pub near : unsigned_abs value ≤ READ_LIMIT + SLOPE_LIMIT * updatetime

@@ -2,7 +2,7 @@
 ghost use Rattle.std.specs.Prelude.{◌≡◌, ◌≤◌, pos, []};
 ghost use Rattle.motion.specs.Function.{level};
 ghost use Rattle.tick_set.specs.declared.spans.TheConstants.{LAST_TICK};
-ghost use Rattle.motion.specs.Cells.{fresh, written, IsWritten, IsGiven};
+ghost use Rattle.motion.specs.Cells.{fresh, written, IsCellAt, IsGiven};
 
 use crate::legs::Legs;
 use crate::vector::Vector;
@@ -33,7 +33,7 @@ impl Cell {
     pub fn fresh(kind: AttrKind, now: u32) -> Cell
         requires { now ≤ LAST_TICK }
         ensures value { result ≡ fresh now kind }
-        ensures written { IsWritten result now }
+        ensures written { IsCellAt result now }
     {
         match kind {
             AttrKind::Num => Cell::Num(zero()),
@@ -46,10 +46,10 @@ impl Cell {
     /// leaves it as it is.
     pub fn written(&self, now: u32, given: &Given) -> Cell
         requires tick { now ≤ LAST_TICK }
-        requires after { IsWritten self.now now }
+        requires after { IsCellAt self.now now }
         requires limits { IsGiven given.now }
         ensures value { result ≡ written now self.now given.now }
-        ensures written { IsWritten result now }
+        ensures written { IsCellAt result now }
     {
         match (self, given) {
             (Cell::Num(_), Given::Num(number)) => Cell::Num(*number),

@@ -1,7 +1,7 @@
 //! Writes to the cells of an epoch.
-ghost use Rattle.std.specs.Prelude.{◌≡◌, ◌≤◌, All, IfOk};
+ghost use Rattle.std.specs.Prelude.{◌≡◌, ◌≤◌, IfOk};
 ghost use Rattle.tick_set.specs.declared.spans.TheConstants.{LAST_TICK};
-ghost use Rattle.motion.specs.Cells.{AreWritten, IsGiven, changed, set_at};
+ghost use Rattle.motion.specs.Cells.{AreCellsAt, AreChanges, IsGiven, changed, set_at};
 
 use crate::cell::{Cell, Given};
 use std::alloc::{AllocError, Global};
@@ -15,23 +15,25 @@ pub fn changed(
     changes: &[(usize, Given)],
 ) -> Result<Vec<Cell>, AllocError>
     requires tick { now ≤ LAST_TICK }
-    requires after { AreWritten cells.now now }
-    requires given { All (λ change. IsGiven change.1) changes.now }
+    requires after { AreCellsAt cells.now now }
+    requires given { AreChanges changes.now }
     ensures cells { IfOk result (λ v. v.items ≡ changed now changes.now cells.now) }
-    ensures written { IfOk result (λ v. AreWritten v.items now) }
+    ensures written { IfOk result (λ v. AreCellsAt v.items now) }
 {
     let mut made = Vec::from_slice(alloc, cells)?;
-    write(&mut made, now, changes);
+    write_cells(&mut made, now, changes);
     Ok(made)
 }
 
-/// Writes at tick `now` to these cells, in the order of the changes.
-fn write(cells: &mut [Cell], now: u32, changes: &[(usize, Given)])
+/// Writes at tick `now` to these cells, in the order of the changes, each of which names its cell by its
+/// index. What doesn't fit the kind of its cell, and an index past the cells, leaves them. It takes no
+/// memory.
+pub fn write_cells(cells: &mut [Cell], now: u32, changes: &[(usize, Given)])
     requires tick { now ≤ LAST_TICK }
-    requires after { AreWritten cells.old now }
-    requires given { All (λ change. IsGiven change.1) changes.now }
+    requires after { AreCellsAt cells.old now }
+    requires given { AreChanges changes.now }
     ensures cells { cells.new ≡ changed now changes.now cells.old }
-    ensures written { AreWritten cells.new now }
+    ensures written { AreCellsAt cells.new now }
 {
     let mut rest = changes;
     while let Some((change, later)) = rest.split_first() {
@@ -40,15 +42,15 @@ fn write(cells: &mut [Cell], now: u32, changes: &[(usize, Given)])
     }
 }
 
-/// Writes at tick `now` to the cell at a place; a place past the cells leaves all.
-fn set(cells: &mut [Cell], now: u32, place: usize, given: &Given)
+/// Writes at tick `now` to the cell of an index; an index past the cells leaves all.
+fn set(cells: &mut [Cell], now: u32, index: usize, given: &Given)
     requires tick { now ≤ LAST_TICK }
-    requires after { AreWritten cells.old now }
+    requires after { AreCellsAt cells.old now }
     requires given { IsGiven given.now }
-    ensures cells { cells.new ≡ set_at now cells.old place given.now }
-    ensures written { AreWritten cells.new now }
+    ensures cells { cells.new ≡ set_at now cells.old index given.now }
+    ensures written { AreCellsAt cells.new now }
 {
-    if place < cells.len() {
-        cells[place] = cells[place].written(now, given);
+    if index < cells.len() {
+        cells[index] = cells[index].written(now, given);
     }
 }

@@ -1,9 +1,9 @@
 //! Epochs: what an object has from one of its writes to the next.
-ghost use Rattle.std.specs.Prelude.{◌≡◌, ◌≤◌, All, IsTrue, ◌↔◌, IsSome, IfOk, IfSome, slice_get, None, Some};
+ghost use Rattle.std.specs.Prelude.{◌≡◌, ◌≤◌, IsTrue, ◌↔◌, IsSome, IfOk, IfSome, slice_get, None, Some};
 ghost use Rattle.std.specs.Option.{option_copied, option_map};
 ghost use Rattle.tick_set.specs.declared.spans.TheConstants.{LAST_TICK};
-ghost use Rattle.motion.specs.Cells.{AreWritten, IsGiven, IsWritten, changed};
-ghost use Rattle.motion.specs.Timeline.{Period, cells_of, IsPeriod};
+ghost use Rattle.motion.specs.Cells.{AreCellsAt, AreChanges, IsCellAt, changed};
+ghost use Rattle.motion.specs.Timeline.{Epoch, cells_of, IsEpoch};
 
 use crate::cell::{Cell, Given};
 use crate::change::changed;
@@ -21,21 +21,20 @@ pub struct Epoch {
 }
 
 impl Model for Epoch {
-    ghost use Rattle.std.specs.Prelude.{Option, None, Some, if◌then◌else◌};
-    ghost use Rattle.motion.specs.Timeline.{Period, IsEpoch};
+    ghost use Rattle.motion.specs.Timeline.{Epoch, AreEpochFields, epoch_of};
 
-    ghost Value = { Period };
+    ghost Value = { Epoch };
 
-    ghost view = { λ e. record { from = e.from; cells = if e.present then (Some e.cells.items) else None } };
+    ghost view = { λ e. epoch_of e.from e.present e.cells.items };
 
-    ghost invariant = { λ e. IsEpoch e.from e.present e.cells.items };
+    ghost invariant = { λ e. AreEpochFields e.from e.present e.cells.items };
 }
 
 impl Epoch {
     /// The epoch of a present object. Its cells were written by tick `from`.
     pub(crate) fn of(from: u32, cells: Vec<Cell>) -> Epoch
         requires tick { from ≤ LAST_TICK }
-        requires written { AreWritten cells.items from }
+        requires written { AreCellsAt cells.items from }
         ensures { result ≡ record { from = from; cells = Some cells.items } }
     {
         Epoch {
@@ -61,7 +60,7 @@ impl Epoch {
     #[inline]
     pub fn from(&self) -> u32
         ensures value { result ≡ self.now.from }
-        ensures period { IsPeriod self.now }
+        ensures epoch { IsEpoch self.now }
     {
         self.from
     }
@@ -78,16 +77,16 @@ impl Epoch {
     #[inline]
     pub fn cells(&self) -> &[Cell]
         ensures value { result.now ≡ cells_of self.now }
-        ensures written { AreWritten result.now self.now.from }
+        ensures written { AreCellsAt result.now self.now.from }
     {
         &self.cells
     }
 
-    /// The cell of an attribute by its place. None exactly where the object is absent or has no such attribute.
+    /// The cell of an attribute by its index. None exactly where the object is absent or has no such attribute.
     #[inline]
     pub fn cell(&self, a: usize) -> Option<&Cell>
         ensures value { option_copied result ≡ slice_get (cells_of self.now) a }
-        ensures written { IfSome result (λ cell. IsWritten cell.now self.now.from) }
+        ensures written { IfSome result (λ cell. IsCellAt cell.now self.now.from) }
     {
         self.cells.get(a)
     }
@@ -101,7 +100,7 @@ impl Epoch {
     ) -> Result<Epoch, AllocError>
         requires after { self.now.from ≤ now }
         requires tick { now ≤ LAST_TICK }
-        requires given { All (λ change. IsGiven change.1) changes.now }
+        requires given { AreChanges changes.now }
         ensures { IfOk result (λ e. e ≡ record { from = now; cells = option_map (changed now changes.now) self.now.cells }) }
     {
         if !self.present {

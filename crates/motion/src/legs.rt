@@ -29,7 +29,10 @@ pub struct Legs {
 impl Model for Legs {
     ghost use Rattle.std.specs.Prelude.{take, length};
     ghost use Rattle.motion.specs.Function.{Function};
-    ghost use Rattle.motion.specs.Padding.{IsStored, padded, length-front, padded-front};
+    ghost use Rattle.std.specs.Prelude.{pos};
+    ghost use Rattle.motion.specs.Padding.{IsStored, padded};
+    ghost use Rattle.motion.specs.declared.legs.TheConstants.{MOST_FIRSTS};
+    ghost use Rattle.exact.proofs.PaddedLemmas.{length-front, padded-front};
 
     ghost Value = { Function };
 
@@ -39,7 +42,11 @@ impl Model for Legs {
 
     ghost inverse = { λ f. record { firsts = padded f.firsts; last = f.last; count = length f.firsts } };
 
-    ghost inverse_ok = { λ a h i. record { firsts = padded-front a.firsts a.count h i; last = a.last; count = length-front a.firsts a.count h i } };
+    ghost inverse_ok = { λ a h i. record {
+      firsts = padded-front (pos 0, 0) MOST_FIRSTS a.firsts a.count h.in_front i;
+      last = a.last;
+      count = length-front (pos 0, 0) MOST_FIRSTS a.firsts a.count h.in_front i;
+    } };
 }
 
 impl Legs {

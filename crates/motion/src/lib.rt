@@ -11,17 +11,26 @@
 mod cell;
 mod change;
 mod epoch;
+mod laws;
 mod legs;
+mod limits;
 mod pieces;
 mod timeline;
 mod vector;
 
 pub use cell::{AttrKind, Cell, Given, NamedSet, Place};
+pub use change::write_cells;
 pub use epoch::Epoch;
+pub use laws::{
+    a_value_alone_keeps_the_motion, a_write_changes_no_earlier_state, legs_alone_make_no_jump,
+    limits_in_numbers, the_function_is_0_at_0, the_slope_is_the_change_of_the_value,
+    what_is_left_goes_on,
+};
 pub use legs::{LONGEST_LEG, Legs, MOST_FIRSTS};
+pub use limits::{ATTRIBUTE_LIMIT, CAPACITY_LIMIT};
 pub use pieces::Piece;
 pub use timeline::Timeline;
-pub use vector::{GIVEN_LIMIT, Vector};
+pub use vector::Vector;
 
 #[cfg(test)]
 mod tests;

@@ -2,8 +2,8 @@
 ghost use Rattle.std.specs.Prelude.{◌≡◌, ◌≤◌, ◌<◌, ◌+◌, ◌⊎◌, All, IfOk, length, slice_index_or};
 ghost use Rattle.std.specs.List.{list_any};
 ghost use Rattle.tick_set.specs.declared.spans.TheConstants.{LAST_TICK};
-ghost use Rattle.motion.specs.Cells.{AreWritten, IsWritten, cell_turns};
-ghost use Rattle.motion.specs.Timeline.{Period, AreBegunUpTo, IsRising};
+ghost use Rattle.motion.specs.Cells.{AreCellsAt, IsCellAt, cell_turns};
+ghost use Rattle.motion.specs.Timeline.{Epoch, AreBegunUpTo, IsRising};
 ghost use Rattle.motion.specs.Pieces.{ArePieces, ArePiecesFrom, IsFirstOrEnd, IsPiece, IsSteady};
 
 use crate::cell::Cell;
@@ -11,7 +11,7 @@ use crate::epoch::Epoch;
 use std::alloc::{AllocError, Global};
 use tick_set::{LAST_TICK, Span, Window};
 
-/// Ticks in which one epoch is in force, by its place in the timeline counted from 0, and in which each
+/// Ticks in which one epoch is in force, by its index in the timeline counted from 0, and in which each
 /// of its dynamic attributes moves by one slope.
 #[derive(Clone, Copy, Debug, PartialEq, Eq)]
 pub struct Piece {
@@ -48,7 +48,7 @@ fn pieces_from(
 ) -> Result<Vec<Piece>, AllocError>
     requires rising { IsRising epochs.now }
     requires some { 0 < length epochs.now }
-    requires begun { (d : Period) → (slice_index_or epochs.now 0 d).from ≤ start }
+    requires begun { (d : Epoch) → (slice_index_or epochs.now 0 d).from ≤ start }
     requires tick { last ≤ LAST_TICK }
     ensures pieces { IfOk result (λ v. ArePiecesFrom epochs.now start last v.items) }
     ensures steady { IfOk result (λ v. All (IsSteady epochs.now) v.items) }
@@ -66,7 +66,7 @@ fn pieces_from(
 }
 
 /// The piece that begins at tick `at` and ends by `last`. As many epochs as `count` begin by `at`.
-fn piece_from(epochs: &[Epoch], count: usize, at: u32, last: u32) -> Piece
+pub fn piece_from(epochs: &[Epoch], count: usize, at: u32, last: u32) -> Piece
     requires rising { IsRising epochs.now }
     requires some { 0 < count }
     requires begun { AreBegunUpTo epochs.now at count }
@@ -87,14 +87,15 @@ fn piece_from(epochs: &[Epoch], count: usize, at: u32, last: u32) -> Piece
     }
 }
 
-/// The tick at which the epoch at a place begins, but at most one past `last`.
-fn next_begin(epochs: &[Epoch], place: usize, last: u32) -> u32
+/// The tick at which the epoch of an index begins, but at most one past `last`.
+fn next_begin(epochs: &[Epoch], index: usize, last: u32) -> u32
     requires { last ≤ LAST_TICK }
     ensures within { result ≤ last + 1 }
-    ensures before { place < length epochs.now → (d : Period) → result ≤ (slice_index_or epochs.now place d).from }
-    ensures reached { result ≡ last + 1 ⊎ ((place < length epochs.now) × ((d : Period) → (slice_index_or epochs.now place d).from ≡ result)) }
+    ensures before { index < length epochs.now → (d : Epoch) → result ≤ (slice_index_or epochs.now index d).from }
+    ensures reached { result ≡ last + 1
+        ⊎ ((index < length epochs.now) × ((d : Epoch) → (slice_index_or epochs.now index d).from ≡ result)) }
 {
-    match epochs.get(place) {
+    match epochs.get(index) {
         Some(next) => next.from().min(last + 1),
         None => last + 1,
     }
@@ -116,7 +117,7 @@ fn begun_next(epochs: &[Epoch], count: usize, t: u32) -> usize
 
 /// The first tick past `at` and before `end` at which a leg of one of these cells ends, else `end`.
 fn first_turn(cells: &[Cell], at: u32, end: u32) -> u32
-    requires written { AreWritten cells.now at }
+    requires written { AreCellsAt cells.now at }
     requires tick { at ≤ LAST_TICK }
     requires order { at < end }
     ensures { IsFirstOrEnd (λ t. list_any (cell_turns t) cells.now) at end result }
@@ -130,7 +131,7 @@ fn first_turn(cells: &[Cell], at: u32, end: u32) -> u32
 
 /// The first tick past `at` and before `end` at which a leg of this cell ends, else `end`.
 fn turn(cell: &Cell, at: u32, end: u32) -> u32
-    requires written { IsWritten cell.now at }
+    requires written { IsCellAt cell.now at }
     requires tick { at ≤ LAST_TICK }
     requires order { at < end }
     ensures { IsFirstOrEnd (λ t. cell_turns t cell.now) at end result }

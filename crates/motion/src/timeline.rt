@@ -1,16 +1,16 @@
 //! Timelines: the epochs of one object, in the order of time.
-ghost use Rattle.std.specs.Prelude.{◌≡◌, ◌≤◌, ◌<◌, ◌+◌, ◌-◌, ◌&&◌, ℕ, [], ◌∷◌, ◌++◌, IfSome, IfNone, slice_set, length, All, Some, None, IsTrue, ◌↔◌, IfOk, OnOk, OnErr, slice_get, is_some};
+ghost use Rattle.std.specs.Prelude.{◌≡◌, ◌≤◌, ◌<◌, ◌+◌, ◌-◌, ◌&&◌, ℕ, [], ◌∷◌, ◌++◌, IfSome, IfNone, IsNone, slice_set, length, All, Some, None, IsTrue, ◌↔◌, IfOk, OnOk, OnErr, slice_get, is_some};
 ghost use Rattle.std.specs.List.{list_any};
 ghost use Rattle.std.specs.Option.{option_copied, option_map};
 ghost use Rattle.tick_set.specs.declared.spans.TheConstants.{LAST_TICK};
 ghost use Rattle.tick_set.specs.Ticks.{within};
-ghost use Rattle.motion.specs.Cells.{AreWritten, IsGiven, changed};
-ghost use Rattle.motion.specs.Timeline.{Period, put, period_at, state_at, restored, AreBegunBy, IsRising, IsPeriod, StandsAsLeft, TakesBack};
-ghost use Rattle.motion.specs.Pieces.{ArePieces, IsSteady, pieces_have};
+ghost use Rattle.motion.specs.Cells.{AreCellsAt, AreChanges, changed};
+ghost use Rattle.motion.specs.Timeline.{Epoch, put, epoch_at, state_at, restored, AreBegunBy, IsRising, IsEpoch, StandsAsLeft, TakesBack};
+ghost use Rattle.motion.specs.Pieces.{ArePieces, IsPiece, IsSteady, pieces_have};
 
 use crate::cell::{Cell, Given};
 use crate::epoch::Epoch;
-use crate::pieces::{Piece, begun, pieces};
+use crate::pieces::{Piece, begun, piece_from, pieces};
 use std::alloc::{AllocError, Global};
 use std::marker::Model;
 use std::mem;
@@ -25,9 +25,9 @@ pub struct Timeline {
 
 impl Model for Timeline {
     ghost use Rattle.std.specs.Prelude.{List};
-    ghost use Rattle.motion.specs.Timeline.{Period, IsRising};
+    ghost use Rattle.motion.specs.Timeline.{Epoch, IsRising};
 
-    ghost Value = { List Period };
+    ghost Value = { List Epoch };
 
     ghost view = { λ a. a.epochs.items };
 
@@ -45,12 +45,15 @@ impl Timeline {
     }
 
     /// The object has these cells from tick `now` on, which isn't before its last epoch. The answer is
-    /// the epoch that it replaces, one that began at `now`. After an error the timeline is as before.
+    /// the epoch that it replaces, one that began at `now`, and None where the new one was appended. After
+    /// an error the timeline is as before.
     pub fn begin(&mut self, now: u32, cells: &[Cell]) -> Result<Option<Epoch>, AllocError>
         requires tick { now ≤ LAST_TICK }
         requires after { AreBegunBy self.old now }
-        requires written { AreWritten cells.now now }
+        requires written { AreCellsAt cells.now now }
         ensures ok { OnOk result (self.new ≡ put self.old (record { from = now; cells = Some cells.now })) }
+        ensures appended { IfOk result (λ r. IsNone r
+            ↔ (self.new ≡ self.old ++ record { from = now; cells = Some cells.now } ∷ [])) }
         ensures replaced { IfOk result (λ replaced. TakesBack self.old self.new replaced) }
         ensures err { OnErr result (self.new ≡ self.old) }
     {
@@ -62,16 +65,18 @@ impl Timeline {
     pub fn begin_with(&mut self, now: u32, cells: Vec<Cell>) -> Result<Option<Epoch>, AllocError>
         requires tick { now ≤ LAST_TICK }
         requires after { AreBegunBy self.old now }
-        requires written { AreWritten cells.items now }
+        requires written { AreCellsAt cells.items now }
         ensures ok { OnOk result (self.new ≡ put self.old (record { from = now; cells = Some cells.items })) }
+        ensures appended { IfOk result (λ r. IsNone r
+            ↔ (self.new ≡ self.old ++ record { from = now; cells = Some cells.items } ∷ [])) }
         ensures replaced { IfOk result (λ replaced. TakesBack self.old self.new replaced) }
         ensures err { OnErr result (self.new ≡ self.old) }
     {
         put(&mut self.epochs, Epoch::of(now, cells))
     }
 
-    /// Writes these values at tick `now` to the cells at these places, in their order. What doesn't fit
-    /// the kind of its cell, and a place past the cells, leaves them. An absent object stays absent.
+    /// Writes these values at tick `now` to the cells of these indexes, in their order. What doesn't fit
+    /// the kind of its cell, and an index past the cells, leaves them. An absent object stays absent.
     pub fn write(
         &mut self,
         now: u32,
@@ -79,17 +84,16 @@ impl Timeline {
     ) -> Result<Option<Epoch>, AllocError>
         requires tick { now ≤ LAST_TICK }
         requires after { AreBegunBy self.old now }
-        requires given { All (λ change. IsGiven change.1) changes.now }
+        requires given { AreChanges changes.now }
         ensures ok { OnOk result
             (self.new ≡ put self.old (record { from = now; cells = option_map (changed now changes.now) (state_at self.old now) })) }
+        ensures appended { let cells = option_map (changed now changes.now) (state_at self.old now) in
+            IfOk result (λ r. IsNone r ↔ (self.new ≡ self.old ++ record { from = now; cells = cells } ∷ [])) }
         ensures replaced { IfOk result (λ replaced. TakesBack self.old self.new replaced) }
         ensures err { OnErr result (self.new ≡ self.old) }
     {
         let alloc = *self.epochs.allocator();
-        let epoch = match self.epochs.last() {
-            Some(last) => last.changed(alloc, now, changes)?,
-            None => Epoch::absent(alloc, now),
-        };
+        let epoch = epoch_after(alloc, &self.epochs, now, changes)?;
         put(&mut self.epochs, epoch)
     }
 
@@ -98,6 +102,8 @@ impl Timeline {
         requires tick { now ≤ LAST_TICK }
         requires after { AreBegunBy self.old now }
         ensures ok { OnOk result (self.new ≡ put self.old (record { from = now; cells = None })) }
+        ensures appended { IfOk result (λ r. IsNone r
+            ↔ (self.new ≡ self.old ++ record { from = now; cells = None } ∷ [])) }
         ensures replaced { IfOk result (λ replaced. TakesBack self.old self.new replaced) }
         ensures err { OnErr result (self.new ≡ self.old) }
     {
@@ -116,10 +122,10 @@ impl Timeline {
 
     /// The epoch in force at tick `t`. None exactly where `t` is before the first epoch. It takes no memory.
     pub fn at(&self, t: u32) -> Option<&Epoch>
-        ensures { option_copied result ≡ period_at self.now t }
+        ensures { option_copied result ≡ epoch_at self.now t }
     {
-        let place = begun(&self.epochs, t).checked_sub(1)?;
-        self.epochs.get(place)
+        let index = begun(&self.epochs, t).checked_sub(1)?;
+        self.epochs.get(index)
     }
 
     /// Whether no epoch begins after tick `t`, so that it can be written then.
@@ -148,7 +154,7 @@ impl Timeline {
         self.epochs.is_empty()
     }
 
-    /// The epoch at a place, counted from 0 in the order of time.
+    /// The epoch of an index, counted from 0 in the order of time.
     #[inline]
     pub fn epoch(&self, i: usize) -> Option<&Epoch>
         ensures { option_copied result ≡ slice_get self.now i }
@@ -160,7 +166,7 @@ impl Timeline {
     #[inline]
     pub fn last(&self) -> Option<&Epoch>
         ensures value { option_copied result ≡ slice_get self.now (length self.now - 1) }
-        ensures in_force { (t : ℕ) → AreBegunBy self.now t → option_copied result ≡ period_at self.now t }
+        ensures in_force { (t : ℕ) → AreBegunBy self.now t → option_copied result ≡ epoch_at self.now t }
     {
         self.epochs.last()
     }
@@ -172,23 +178,61 @@ impl Timeline {
         ensures pieces { IfOk result (λ v. ArePieces self.now w.lo w.hi v.items) }
         ensures steady { IfOk result (λ v. All (IsSteady self.now) v.items) }
         ensures cover { IfOk result
-            (λ v. (t : ℕ) → pieces_have v.items t ≡ (within w.lo w.hi t && is_some (period_at self.now t))) }
+            (λ v. (t : ℕ) → pieces_have v.items t ≡ (within w.lo w.hi t && is_some (epoch_at self.now t))) }
     {
         pieces(alloc, &self.epochs, w)
+    }
+
+    /// The piece that begins at tick `at` and ends by tick `last`. None exactly where `at` is before the first
+    /// epoch. It takes no memory.
+    pub fn piece_from(&self, at: u32, last: u32) -> Option<Piece>
+        requires order { at ≤ last }
+        requires tick { last ≤ LAST_TICK }
+        ensures piece { IfSome result (IsPiece self.now at last) }
+        ensures steady { IfSome result (IsSteady self.now) }
+        ensures none { IfNone result (epoch_at self.now at ≡ None) }
+        ensures rising { IsRising self.now }
+    {
+        let count = begun(&self.epochs, at);
+        if count == 0 {
+            return None;
+        }
+        Some(piece_from(&self.epochs, count, at, last))
+    }
+}
+
+/// The epoch that these writes at tick `now` make of the last one.
+fn epoch_after(
+    alloc: Global,
+    epochs: &[Epoch],
+    now: u32,
+    changes: &[(usize, Given)],
+) -> Result<Epoch, AllocError>
+    requires tick { now ≤ LAST_TICK }
+    requires after { AreBegunBy epochs.now now }
+    requires given { AreChanges changes.now }
+    ensures { IfOk result
+        (λ e. e ≡ record { from = now; cells = option_map (changed now changes.now) (state_at epochs.now now) }) }
+{
+    match epochs.last() {
+        Some(last) => last.changed(alloc, now, changes),
+        None => Ok(Epoch::absent(alloc, now)),
     }
 }
 
 /// Writes an epoch behind the last one, or over it where that begins at the same tick.
+#[tactic(auto, using(crate::proofs::TimelineLemmas::set_is_no_push))]
 fn put(epochs: &mut Vec<Epoch>, epoch: Epoch) -> Result<Option<Epoch>, AllocError>
     requires after { AreBegunBy epochs.old.items epoch.from }
     requires rising { IsRising epochs.old.items }
     ensures ok { OnOk result (epochs.new.items ≡ put epochs.old.items epoch) }
+    ensures appended { IfOk result (λ r. IsNone r ↔ (epochs.new.items ≡ epochs.old.items ++ epoch ∷ [])) }
     ensures rising { IsRising epochs.new.items }
     ensures replaced { IfOk result (λ replaced. TakesBack epochs.old.items epochs.new.items replaced) }
     ensures err { OnErr result (epochs.new.items ≡ epochs.old.items) }
 {
     match replaced_at(epochs, epoch.from()) {
-        Some(place) => Ok(Some(mem::replace(&mut epochs[place], epoch))),
+        Some(index) => Ok(Some(mem::replace(&mut epochs[index], epoch))),
         None => {
             epochs.push(epoch)?;
             Ok(None)
@@ -196,13 +240,13 @@ fn put(epochs: &mut Vec<Epoch>, epoch: Epoch) -> Result<Option<Epoch>, AllocErro
     }
 }
 
-/// The place of the epoch that a write at tick `from` replaces: that of the last one, where it begins then.
+/// The index of the epoch that a write at tick `from` replaces: that of the last one, where it begins then.
 fn replaced_at(epochs: &[Epoch], from: u32) -> Option<usize>
     requires after { AreBegunBy epochs.now from }
     requires rising { IsRising epochs.now }
-    ensures within { IfSome result (λ place. place + 1 ≡ length epochs.now) }
-    ensures over { IfSome result (λ place. (p : Period) → p.from ≡ from → put epochs.now p ≡ slice_set epochs.now place p) }
-    ensures behind { IfNone result ((p : Period) → p.from ≡ from → put epochs.now p ≡ epochs.now ++ p ∷ []) }
+    ensures within { IfSome result (λ index. index + 1 ≡ length epochs.now) }
+    ensures over { IfSome result (λ index. (p : Epoch) → p.from ≡ from → put epochs.now p ≡ slice_set epochs.now index p) }
+    ensures behind { IfNone result ((p : Epoch) → p.from ≡ from → put epochs.now p ≡ epochs.now ++ p ∷ []) }
 {
     let last = epochs.len().checked_sub(1)?;
     if epochs[last].from() == from {
@@ -212,7 +256,7 @@ fn replaced_at(epochs: &[Epoch], from: u32) -> Option<usize>
     }
 }
 
-/// Puts the epoch that the last one had replaced in its place, or takes the last one away where there is none.
+/// Puts back the epoch that the last one had replaced, or takes the last one away where there is none.
 fn restore(epochs: &mut Vec<Epoch>, replaced: Option<Epoch>)
     requires { 0 < length epochs.old.items }
     ensures { epochs.new.items ≡ restored epochs.old.items replaced }

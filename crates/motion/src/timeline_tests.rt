@@ -1,5 +1,4 @@
-ghost use Rattle.std.specs.Prelude.{◌≡◌, ◌≤◌, All, IfOk, OnOk, unsigned_abs};
-ghost use Rattle.motion.specs.declared.vector.TheConstants.{GIVEN_LIMIT};
+ghost use Rattle.std.specs.Prelude.{◌≡◌, All, IfOk, OnOk};
 ghost use Rattle.motion.specs.Cells.{IsGiven};
 
 use super::*;
@@ -59,14 +58,6 @@ fn vanish(rt: &impl Abort, timeline: &mut Timeline, now: u32) -> Result<Option<E
     Ok(timeline.vanish(now)?)
 }
 
-// The tick at which an epoch began.
-fn from(replaced: &Option<Epoch>) -> Option<u32> {
-    match replaced {
-        Some(epoch) => Some(epoch.from()),
-        None => None,
-    }
-}
-
 // What an object has at a tick: its number, and the implied value of its dynamic attribute, in thousandths.
 #[derive(Clone, Copy, Debug, PartialEq, Eq)]
 enum Seen {
@@ -91,23 +82,13 @@ fn values_at(rt: &impl Abort, timeline: &Timeline, t: u32) -> Seen {
 #[test]
 fn a_timeline_keeps_the_recorded_past(rt: HostRuntime) -> Result<(), Fail> {
     let mut timeline = Timeline::new(rt.alloc());
-    assert!(rt; timeline.is_empty());
     let both = Given::Both(fix(10_000)?, legs(rt.alloc(), &[], 1000)?);
-    assert_eq!(rt; from(&appear(&rt, &mut timeline, 2)?), None);
-    assert_eq!(rt; from(&write(&rt, &mut timeline, 2, &[(1, both)])?), Some(2));
-    assert_eq!(rt;
-        from(&write(&rt, &mut timeline, 5, &[(0, Given::Num(fix(7000)?))])?),
-        None
-    );
-    assert_eq!(rt;
-        from(&write(&rt, &mut timeline, 5, &[(1, Given::Num(fix(50_000)?))])?),
-        Some(5)
-    );
-    assert_eq!(rt; from(&vanish(&rt, &mut timeline, 8)?), None);
-    assert_eq!(rt;
-        from(&write(&rt, &mut timeline, 9, &[(0, Given::Num(fix(1)?))])?),
-        None
-    );
+    appear(&rt, &mut timeline, 2)?;
+    let replaced = write(&rt, &mut timeline, 2, &[(1, both)])?;
+    assert!(rt; replaced.is_some());
+    let changes = [(0, Given::Num(fix(7000)?)), (1, Given::Num(fix(50_000)?))];
+    assert!(rt; write(&rt, &mut timeline, 5, &changes)?.is_none());
+    assert!(rt; vanish(&rt, &mut timeline, 8)?.is_none());
     for (t, state) in [
         (1, Seen::Unborn),
         (2, Seen::Values(0, 10_000)),
@@ -115,32 +96,9 @@ fn a_timeline_keeps_the_recorded_past(rt: HostRuntime) -> Result<(), Fail> {
         (5, Seen::Values(7000, 50_000)),
         (7, Seen::Values(7000, 52_000)),
         (8, Seen::Absent),
-        (9, Seen::Absent),
     ] {
         assert_eq!(rt; values_at(&rt, &timeline, t), state, "at {t}");
     }
-    assert_eq!(rt; from(&appear(&rt, &mut timeline, 9)?), Some(9));
-    assert_eq!(rt; values_at(&rt, &timeline, 8), Seen::Absent);
-    assert_eq!(rt; values_at(&rt, &timeline, LAST_TICK), Seen::Values(0, 0));
-    assert_eq!(rt; timeline.len(), 4);
-    Ok(())
-}
-
-#[test]
-fn epochs_stand_in_the_order_of_time(rt: HostRuntime) -> Result<(), Fail> {
-    let mut timeline = Timeline::new(rt.alloc());
-    assert!(rt; timeline.epoch(0).is_none() && timeline.last().is_none());
-    appear(&rt, &mut timeline, 3)?;
-    vanish(&rt, &mut timeline, 7)?;
-    for (place, begins, present, cells) in [(0, 3, true, 2), (1, 7, false, 0)] {
-        let epoch = timeline.epoch(place).ok_or("an epoch")?;
-        assert_eq!(rt; epoch.from(), begins);
-        assert_eq!(rt; epoch.is_present(), present);
-        assert_eq!(rt; epoch.cells().len(), cells);
-        assert_eq!(rt; epoch.cell(2).is_none(), true);
-    }
-    assert_eq!(rt; timeline.last().ok_or("an epoch")?.from(), 7);
-    assert!(rt; timeline.is_begun_by(7) && !timeline.is_begun_by(6));
     Ok(())
 }
 
@@ -178,29 +136,6 @@ fn writes_are_taken_back(rt: HostRuntime) -> Result<(), Fail> {
     Ok(())
 }
 
-#[test]
-fn cells_are_written_by_their_places(rt: HostRuntime) -> Result<(), Fail> {
-    let mut timeline = Timeline::new(rt.alloc());
-    appear(&rt, &mut timeline, 0)?;
-    // in their order, the later one of a place stands; what doesn't fit its cell leaves it
-    let changes = [
-        (0, Given::Num(fix(1000)?)),
-        (0, Given::Num(fix(2000)?)),
-        (0, Given::Rate(legs(rt.alloc(), &[], 5000)?)),
-        (2, Given::Num(fix(3000)?)),
-        (1, Given::Rate(legs(rt.alloc(), &[], 1000)?)),
-    ];
-    write(&rt, &mut timeline, 4, &changes)?;
-    for (t, state) in [
-        (3, Seen::Values(0, 0)),
-        (4, Seen::Values(2000, 0)),
-        (6, Seen::Values(2000, 2000)),
-    ] {
-        assert_eq!(rt; values_at(&rt, &timeline, t), state, "at {t}");
-    }
-    Ok(())
-}
-
 // The pieces of a window, each by its first tick, its last and its epoch.
 fn cut(
     alloc: Global,
@@ -214,20 +149,6 @@ fn cut(
         spans.push((piece.span.lo, piece.span.hi, piece.epoch))?;
     }
     Ok(spans)
-}
-
-#[test]
-fn pieces_end_before_the_next_epoch(rt: HostRuntime) -> Result<(), Fail> {
-    let mut timeline = Timeline::new(rt.alloc());
-    appear(&rt, &mut timeline, 0)?;
-    appear(&rt, &mut timeline, 3)?;
-    let spans = cut(rt.alloc(), &timeline, 0, 5)?;
-    assert_eq!(rt; spans.as_slice(), [(0, 2, 0), (3, 5, 1)].as_slice());
-    let spans = cut(rt.alloc(), &timeline, 3, 3)?;
-    assert_eq!(rt; spans.as_slice(), [(3, 3, 1)].as_slice());
-    let spans = cut(rt.alloc(), &timeline, 1, 2)?;
-    assert_eq!(rt; spans.as_slice(), [(1, 2, 0)].as_slice());
-    Ok(())
 }
 
 // An object whose dynamic attribute has these legs from tick `now` on.
@@ -276,77 +197,5 @@ fn pieces_end_where_a_leg_ends(rt: HostRuntime) -> Result<(), Fail> {
         spans.as_slice(),
         [(6, 7, 0), (8, 8, 1), (9, 12, 2)].as_slice()
     );
-    Ok(())
-}
-
-#[test]
-fn pieces_end_where_a_leg_of_either_attribute_ends(rt: HostRuntime) -> Result<(), Fail> {
-    // legs that end at ticks 5 and 9, and legs that end at ticks 5 and 7
-    let first = Vector::begun(2, fix(0)?, legs(rt.alloc(), &[(1000, 3), (2000, 4)], 0)?);
-    let second = Vector::begun(2, fix(0)?, legs(rt.alloc(), &[(500, 3), (1, 2)], 0)?);
-    let mut timeline = Timeline::new(rt.alloc());
-    let cells = [
-        Cell::Dyn(first),
-        Cell::fresh(AttrKind::Text, 2),
-        Cell::Dyn(second),
-    ];
-    assert!(rt; timeline.begin(2, &cells)?.is_none());
-    let spans = cut(rt.alloc(), &timeline, 0, 10)?;
-    let expected = [(2, 4, 0), (5, 6, 0), (7, 8, 0), (9, 10, 0)];
-    assert_eq!(rt; spans.as_slice(), expected.as_slice());
-    Ok(())
-}
-
-#[test]
-fn pieces_have_their_extremes(rt: HostRuntime) -> Result<(), Fail> {
-    // eight legs, those that end one tick long
-    let timeline = moving(
-        &rt,
-        rt.alloc(),
-        0,
-        legs(rt.alloc(), &[(1_000_000, 1); 7], -1_000_000)?,
-    )?;
-    let spans = cut(rt.alloc(), &timeline, 5, 9)?;
-    assert_eq!(rt;
-        spans.as_slice(),
-        [(5, 5, 0), (6, 6, 0), (7, 9, 0)].as_slice()
-    );
-    // eight legs, those that end 10^9 ticks long
-    let timeline = moving(
-        &rt,
-        rt.alloc(),
-        0,
-        legs(rt.alloc(), &[(1_000_000, LONGEST_LEG); 7], 0)?,
-    )?;
-    let spans = cut(rt.alloc(), &timeline, 0, LAST_TICK)?;
-    let last = (LAST_TICK, LAST_TICK, 0);
-    assert_eq!(rt; spans.as_slice(), [(0, LAST_TICK - 1, 0), last].as_slice());
-    // an object that appears at the last tick
-    let timeline = moving(&rt, rt.alloc(), LAST_TICK, legs(rt.alloc(), &[(1, 1)], 0)?)?;
-    assert_eq!(rt;
-        cut(rt.alloc(), &timeline, 0, LAST_TICK)?.as_slice(),
-        [last].as_slice()
-    );
-    Ok(())
-}
-
-#[test]
-fn an_implied_value_has_its_extremes(rt: HostRuntime) -> Result<(), Fail> {
-    let mut timeline = Timeline::new(rt.alloc());
-    appear(&rt, &mut timeline, 0)?;
-    for (value, rate, far) in [
-        (1_000_000_000_000, 1_000_000, 1_001_000_000_000_000),
-        (-1_000_000_000_000, -1_000_000, -1_001_000_000_000_000),
-    ] {
-        let value = fix(value)?;
-        assert!(rt; value.raw().unsigned_abs() <= GIVEN_LIMIT);
-        write(
-            &rt,
-            &mut timeline,
-            0,
-            &[(1, Given::Both(value, legs(rt.alloc(), &[], rate)?))],
-        )?;
-        assert_eq!(rt; values_at(&rt, &timeline, LAST_TICK), Seen::Values(0, far));
-    }
     Ok(())
 }

@@ -1,8 +1,7 @@
 //! Dynamic attributes.
 ghost use Rattle.std.specs.Prelude.{◌≡◌, ℕ, ◌<◌, ◌≤◌, ◌+◌, ◌*◌, false, IfNone, IfSome, unsigned_abs};
-ghost use Rattle.fixed_point.specs.declared.number.TheConstants.{SLOPE_LIMIT};
+ghost use Rattle.fixed_point.specs.declared.number.TheConstants.{READ_LIMIT, SLOPE_LIMIT};
 ghost use Rattle.tick_set.specs.declared.spans.TheConstants.{LAST_TICK};
-ghost use Rattle.motion.specs.declared.vector.TheConstants.{GIVEN_LIMIT};
 ghost use Rattle.motion.specs.Dynamic.{begun, moved, turned, value_at, slope_at, turns_at, IsReachable};
 ghost use Rattle.motion.specs.Function.{IsNextTurn};
 
@@ -10,9 +9,6 @@ use crate::legs::Legs;
 use fixed_point::{Fix, Slope};
 use std::marker::Model;
 use tick_set::LAST_TICK;
-
-/// The largest size of a number that a command gives, in thousandths.
-pub const GIVEN_LIMIT: u64 = 1_000_000_000_000;
 
 /// A dynamic attribute: a value in thousandths, the tick of its last update, and its function from
 /// that tick on. The value is within 10^12 + 10^6 · updatetime of 0, since a given value is within
@@ -37,10 +33,9 @@ impl Model for Vector {
 }
 
 impl Vector {
-    /// A value and legs that begin at tick `now`. The value is within 10^12 thousandths of 0.
+    /// A value and legs that begin at tick `now`. The value is within 10^12 + 10^6 · now thousandths of 0.
     pub fn begun(now: u32, value: Fix, function: Legs) -> Vector
-        requires tick { now ≤ LAST_TICK }
-        requires given { unsigned_abs value ≤ GIVEN_LIMIT }
+        requires { IsReachable value now }
         ensures { result ≡ begun now value function }
     {
         Vector {
@@ -80,7 +75,7 @@ impl Vector {
         requires after { self.now.updatetime ≤ t }
         requires tick { t ≤ LAST_TICK }
         ensures value { result ≡ value_at self.now t }
-        ensures near { unsigned_abs result ≤ GIVEN_LIMIT + SLOPE_LIMIT * t }
+        ensures near { unsigned_abs result ≤ READ_LIMIT + SLOPE_LIMIT * t }
     {
         let risen = self.function.rise(t - self.updatetime);
         Fix::of(self.value.raw() + risen).unwrap()
@@ -106,11 +101,12 @@ impl Vector {
         Some(self.updatetime + end)
     }
 
-    /// The vector after a value alone was written at tick `now`: what is left of the legs stays.
+    /// The vector after a value alone was written at tick `now`: what is left of the legs stays. The
+    /// value is within 10^12 thousandths of 0.
     pub fn moved(&self, now: u32, value: Fix) -> Vector
         requires after { self.now.updatetime ≤ now }
         requires tick { now ≤ LAST_TICK }
-        requires given { unsigned_abs value ≤ GIVEN_LIMIT }
+        requires given { unsigned_abs value ≤ READ_LIMIT }
         ensures { result ≡ moved now self.now value }
     {
         Vector {

@@ -12,22 +12,9 @@ use Rattle.motion.specs.declared.cell.Place.{Place}
 use Rattle.motion.specs.Cells.{fresh, set_at, set_named, written, changed, place_sets, cells_after, IsGiven}
 use Rattle.history.specs.Write.{Attribute}
 use Rattle.history.specs.State.{attribute_names, inserted, updated}
-use Rattle.object_store.specs.Changes.{change_of, changes_of, fresh_cells, AreGiven, AreChanges}
+use Rattle.object_store.specs.Changes.{change_of, changes_of, fresh_cells}
 use Rattle.std.proofs.lemmas.List.{map-append, take_more}
 use Rattle.object_store.proofs.Lists.{place_in, place_is}
-
--- a write at a place that is there
-pub set_at-within : (cells : List Cell) (now place : ℕ) (given : Given) (cell : Cell) → place < length cells → cell ≡ get_or cells place cell
-    → set cells place (written now cell given) ≡ set_at now cells place given
-set_at-within [] now place given cell within is = absurd (omega arith)
-set_at-within (first ∷ cells) now zero given cell within is = ap (λ c. written now c given ∷ cells) is
-set_at-within (first ∷ cells) now (suc place) given cell within is = ap (λ later. first ∷ later) (set_at-within cells now place given cell (omega arith) is)
-
--- and at one that isn't
-pub set_at-past : (cells : List Cell) (now place : ℕ) (given : Given) → length cells ≤ place → cells ≡ set_at now cells place given
-set_at-past [] now place given past = refl
-set_at-past (first ∷ cells) now zero given past = absurd (omega arith)
-set_at-past (first ∷ cells) now (suc place) given past = ap (λ later. first ∷ later) (set_at-past cells now place given (omega arith))
 
 bytes_eq_flip : (a b : List ℕ) → bytes_eq a b ≡ bytes_eq b a
 bytes_eq_flip a b = nat_list_eq_equiv.symm a b

@@ -9,7 +9,7 @@ use Rattle.std.proofs.lemmas.Option.{same_Some, none-some, slice_get-map, slice_
 use Rattle.std.proofs.lemmas.List.{map-append, take-map, length-map, get_or_default}
 use Rattle.indexmap.specs.IndexMap.{IndexMap, set_value_at, insert_entry}
 use Rattle.indexmap.proofs.CallerLemmas.{insert_entry-new}
-use Rattle.motion.specs.Timeline.{Period, put, restored, AreBegunBy, StandsAsLeft, TakesBack}
+use Rattle.motion.specs.Timeline.{Epoch, put, restored, AreBegunBy, StandsAsLeft, TakesBack}
 use Rattle.object_store.specs.declared.objects.Object.{Object}
 use Rattle.object_store.specs.Contents.{StoredObject, is_named}
 use Rattle.object_store.specs.Stored.{stored, objects_of}
@@ -17,68 +17,68 @@ use Rattle.object_store.specs.Ids.{without_member}
 use Rattle.object_store.specs.Places.{at_place, restored_at, IsPutAt}
 use Rattle.object_store.proofs.Lists.{position-map}
 
--- the value at a place, with other periods
-abbrev pub with_timeline : Object → List Period → Object
+-- the value at a place, with other epochs
+abbrev pub with_timeline : Object → List Epoch → Object
 with_timeline v timeline = record { class = v.class; timeline = timeline }
 
-pub set_at_place : (es : List (List ℕ × Object)) (place : ℕ) (v : Object) (timeline : List Period) (change : List Period → List Period) → slice_get (values_of es) place ≡ Some v → timeline ≡ change v.timeline → objects_of (set_value_at es place (with_timeline v timeline)) ≡ at_place place change (objects_of es)
+pub set_at_place : (es : List (List ℕ × Object)) (place : ℕ) (v : Object) (timeline : List Epoch) (change : List Epoch → List Epoch) → slice_get (values_of es) place ≡ Some v → timeline ≡ change v.timeline → objects_of (set_value_at es place (with_timeline v timeline)) ≡ at_place place change (objects_of es)
 set_at_place [] place v timeline change there is = refl
 set_at_place (e ∷ es) zero v timeline change there is =
     let same : e.1 ≡ v = same_Some e.1 v there in
-    ap (λ (ps : List Period). let o : StoredObject = record { name = e.0; class = v.class; periods = ps } in o ∷ objects_of es) is
-    ∙ ap (λ (v : Object). let o : StoredObject = record { name = e.0; class = v.class; periods = change v.timeline } in o ∷ objects_of es) (sym same)
+    ap (λ (ps : List Epoch). let o : StoredObject = record { name = e.0; class = v.class; epochs = ps } in o ∷ objects_of es) is
+    ∙ ap (λ (v : Object). let o : StoredObject = record { name = e.0; class = v.class; epochs = change v.timeline } in o ∷ objects_of es) (sym same)
 set_at_place (e ∷ es) (suc place) v timeline change there is = ap (λ os. stored e ∷ os) (set_at_place es place v timeline change there is)
 
-unchanged : (place : ℕ) (objects : List StoredObject) → at_place place (λ periods. periods) objects ≡ objects
+unchanged : (place : ℕ) (objects : List StoredObject) → at_place place (λ epochs. epochs) objects ≡ objects
 unchanged place [] = refl
 unchanged zero (o ∷ os) = refl
 unchanged (suc place) (o ∷ os) = ap (λ os. o ∷ os) (unchanged place os)
 
 -- the object at a place is that of its value
-object_there : (es : List (List ℕ × Object)) (place : ℕ) (v : Object) (o : StoredObject) → slice_get (values_of es) place ≡ Some v → slice_get (objects_of es) place ≡ Some o → o.periods ≡ v.timeline
+object_there : (es : List (List ℕ × Object)) (place : ℕ) (v : Object) (o : StoredObject) → slice_get (values_of es) place ≡ Some v → slice_get (objects_of es) place ≡ Some o → o.epochs ≡ v.timeline
 object_there [] place v o there at = absurd (none-some v there)
-object_there (e ∷ es) zero v o there at = ap (λ (o : StoredObject). o.periods) (sym (same_Some (stored e) o at)) ∙ ap (λ (v : Object). v.timeline) (same_Some e.1 v there)
+object_there (e ∷ es) zero v o there at = ap (λ (o : StoredObject). o.epochs) (sym (same_Some (stored e) o at)) ∙ ap (λ (v : Object). v.timeline) (same_Some e.1 v there)
 object_there (e ∷ es) (suc place) v o there at = object_there es place v o there at
 
 -- the object at a place, by its value
 pub record ValueAt (objects : List StoredObject) (place : ℕ) (v : Object) : Type 0 where
   pub object : StoredObject
   pub there : slice_get objects place ≡ Some object
-  pub periods : object.periods ≡ v.timeline
+  pub epochs : object.epochs ≡ v.timeline
   pub class : object.class ≡ v.class
 
 pub value_there : (es : List (List ℕ × Object)) (place : ℕ) (v : Object) → slice_get (values_of es) place ≡ Some v → ValueAt (objects_of es) place v
 value_there [] place v there = absurd (none-some v there)
 value_there (e ∷ es) zero v there =
     let same : e.1 ≡ v = same_Some e.1 v there in
-    record { object = stored e; there = refl; periods = ap (λ (v : Object). v.timeline) same; class = ap (λ (v : Object). v.class) same }
+    record { object = stored e; there = refl; epochs = ap (λ (v : Object). v.timeline) same; class = ap (λ (v : Object). v.class) same }
 value_there (e ∷ es) (suc place) v there =
     let rest = value_there es place v there in
-    record { object = rest.object; there = rest.there; periods = rest.periods; class = rest.class }
+    record { object = rest.object; there = rest.there; epochs = rest.epochs; class = rest.class }
 
 -- what holds of all holds at a place
 pub all_at : {X : Type 0} (P : X → Type 0) (xs : List X) (place : ℕ) (x : X) → slice_get xs place ≡ Some x → All P xs → P x
 all_at P xs place x there all = subst P (get_or_from_slice_get xs place x x there) (all place x (slice_get_within xs place x there))
 
--- what holds of the periods of all objects holds of those of a value
-pub value_begun : (es : List (List ℕ × Object)) (place : ℕ) (v : Object) (now : ℕ) → slice_get (values_of es) place ≡ Some v → All (λ (o : StoredObject). AreBegunBy o.periods now) (objects_of es) → AreBegunBy v.timeline now
+-- what holds of the epochs of all objects holds of those of a value
+pub value_begun : (es : List (List ℕ × Object)) (place : ℕ) (v : Object) (now : ℕ) → slice_get (values_of es) place ≡ Some v → All (λ (o : StoredObject). AreBegunBy o.epochs now) (objects_of es) → AreBegunBy v.timeline now
 value_begun es place v now there all =
     let at = value_there es place v there in
-    subst (λ periods. AreBegunBy periods now) at.periods (all_at (λ (o : StoredObject). AreBegunBy o.periods now) (objects_of es) place at.object at.there all)
+    subst (λ epochs. AreBegunBy epochs now) at.epochs (all_at (λ (o : StoredObject). AreBegunBy o.epochs now) (objects_of es) place at.object at.there all)
 
-pub put_ok : (r : Result (Option Period) AllocError) (place : ℕ) (period : List Period → Period) (es : List (List ℕ × Object)) (v : Object) (timeline : List Period) → slice_get (values_of es) place ≡ Some v → OnOk r (timeline ≡ put v.timeline (period v.timeline)) → IfOk r (λ replaced. TakesBack v.timeline timeline replaced)
-    → IfOk r (λ replaced. IsPutAt place period replaced (objects_of es) (objects_of (set_value_at es place (with_timeline v timeline))))
-put_ok (Ok replaced) place period es v timeline there is back = record {
-  written = set_at_place es place v timeline (λ periods. put periods (period periods)) there is;
+pub put_ok : (r : Result (Option Epoch) AllocError) (place : ℕ) (epoch : List Epoch → Epoch) (es : List (List ℕ × Object)) (v : Object) (timeline : List Epoch) → slice_get (values_of es) place ≡ Some v → OnOk r (timeline ≡ put v.timeline (epoch v.timeline)) → IfOk r (λ replaced. TakesBack v.timeline timeline replaced)
+    → IfOk r (λ replaced. IsPutAt place epoch replaced (objects_of es) (objects_of (set_value_at es place (with_timeline v timeline))))
+put_ok (Ok replaced) place epoch es v timeline there is back = record {
+  written = set_at_place es place v timeline (λ epochs. put epochs (epoch epochs)) there is;
   back = λ o at.
-      let same : o.periods ≡ v.timeline = object_there es place v o there at in
-      subst (λ old. TakesBack old (put old (period old)) replaced) (sym same) (subst (λ new. TakesBack v.timeline new replaced) is back);
+      let same : o.epochs ≡ v.timeline = object_there es place v o there at in
+      subst (λ old. TakesBack old (put old (epoch old)) replaced) (sym same) (subst (λ new. TakesBack v.timeline new replaced) is back);
 }
-put_ok (Err error) place period es v timeline there is back = back
+put_ok (Err error) place epoch es v timeline there is back = back
 
-pub put_err : (r : Result (Option Period) AllocError) (place : ℕ) (es : List (List ℕ × Object)) (v : Object) (timeline : List Period) → slice_get (values_of es) place ≡ Some v → OnErr r (timeline ≡ v.timeline) → OnErr r (objects_of (set_value_at es place (with_timeline v timeline)) ≡ objects_of es)
+pub put_err : (r : Result (Option Epoch) AllocError) (place : ℕ) (es : List (List ℕ × Object)) (v : Object) (timeline : List Epoch) → slice_get (values_of es) place ≡ Some v → OnErr r (timeline ≡ v.timeline) → OnErr r (objects_of (set_value_at es place (with_timeline v timeline)) ≡ objects_of es)
 put_err (Ok replaced) place es v timeline there is = is
-put_err (Err error) place es v timeline there is = set_at_place es place v timeline (λ periods. periods) there is ∙ unchanged place (objects_of es)
+put_err (Err error) place es v timeline there is = set_at_place es place v timeline (λ epochs. epochs) there is ∙ unchanged place (objects_of es)
 
 pub on_ok : {T E : Type 0} (r : Result T E) (x : T) (P : Type 0) → r ≡ Ok x → OnOk r P → P
 on_ok r x P is holds = subst (λ r. OnOk r P) is holds

@@ -5,8 +5,8 @@ use Rattle.std.specs.List.{filter, enumerate_from}
 use Rattle.std.specs.Option.{option_map_or}
 use Rattle.std.specs.Str.{bytes_eq}
 use Rattle.std.proofs.lemmas.Bool.Decides.{nat_tests}
-use Rattle.history.specs.Catalog.{ClassInfo, ObjectInfo}
-use Rattle.object_store.specs.Contents.{StoredObject, object_info, class_name, ids_in, object_name}
+use Rattle.history.specs.Catalog.{Catalog, ObjectInfo, ids_of, names}
+use Rattle.object_store.specs.Contents.{StoredObject, Contents, object_info, catalog_of, ids_in, object_name}
 
 abbrev pub ids_from : ℕ → List StoredObject → ℕ → List ℕ
 ids_from start objects number = map (λ (e : ℕ × StoredObject). e.0) (filter (λ (e : ℕ × StoredObject). e.1.class == number) (enumerate_from start objects))
@@ -19,7 +19,7 @@ ids_step true start o rest = refl
 ids_step false start o rest = refl
 
 -- the ids by recursion
-ids-cons : (start : ℕ) (o : StoredObject) (os : List StoredObject) (number : ℕ) → ids_from start (o ∷ os) number ≡ cond (o.class == number) (start ∷ ids_from (start + 1) os number) (ids_from (start + 1) os number)
+pub ids-cons : (start : ℕ) (o : StoredObject) (os : List StoredObject) (number : ℕ) → ids_from start (o ∷ os) number ≡ cond (o.class == number) (start ∷ ids_from (start + 1) os number) (ids_from (start + 1) os number)
 ids-cons start o os number = ids_step (o.class == number) start o (filter (λ (e : ℕ × StoredObject). e.1.class == number) (enumerate_from (start + 1) os))
 
 append_step : (b : Bool) (n : ℕ) (xs ys zs : List ℕ) → xs ≡ ys ++ zs → cond b (n ∷ xs) xs ≡ cond b (n ∷ ys) ys ++ zs
@@ -69,11 +69,29 @@ ids_from-none start number (o ∷ os) all =
 pub ids-none : (number : ℕ) (objects : List StoredObject) → All (λ (o : StoredObject). o.class < number) objects → ids_in objects number ≡ []
 ids-none number objects all = ids_from-none 0 number objects all
 
+-- ---- the ids of a class, as a catalog has them
+
+abbrev ids_told : ℕ → List StoredObject → ℕ → List ℕ
+ids_told start objects number = map (λ (e : ℕ × ObjectInfo). e.0) (filter (λ (e : ℕ × ObjectInfo). e.1.class == number) (enumerate_from start (map object_info objects)))
+
+told_step : (b : Bool) (start : ℕ) (i : ObjectInfo) (rest : List (ℕ × ObjectInfo)) (ids : List ℕ) → map (λ (e : ℕ × ObjectInfo). e.0) rest ≡ ids → map (λ (e : ℕ × ObjectInfo). e.0) (cond b ((start, i) ∷ rest) rest) ≡ cond b (start ∷ ids) ids
+told_step true start i rest ids same = ap (λ ids. start ∷ ids) same
+told_step false start i rest ids same = same
+
+told_from : (start : ℕ) (objects : List StoredObject) (number : ℕ) → ids_told start objects number ≡ ids_from start objects number
+told_from start [] number = refl
+told_from start (o ∷ os) number =
+    told_step (o.class == number) start (object_info o) (filter (λ (e : ℕ × ObjectInfo). e.1.class == number) (enumerate_from (start + 1) (map object_info os))) (ids_from (start + 1) os number) (told_from (start + 1) os number)
+    ∙ sym (ids-cons start o os number)
+
+pub ids-told : (s : Contents) (number : ℕ) → ids_of (catalog_of s) number ≡ ids_in s.objects number
+ids-told s number = told_from 0 s.objects number
+
 -- ---- the names of a class
 
 -- the names of the objects of a class, as a catalog has them
-abbrev names_by : List ℕ → List ClassInfo → List StoredObject → List (List ℕ)
-names_by class classes objects = map (λ (i : ObjectInfo). i.name) (filter (λ (i : ObjectInfo). bytes_eq class i.class) (map (object_info classes) objects))
+abbrev names_by : List StoredObject → ℕ → List (List ℕ)
+names_by objects number = map (λ (i : ObjectInfo). i.name) (filter (λ (i : ObjectInfo). i.class == number) (map object_info objects))
 
 at_front : (front : List StoredObject) (x : StoredObject) (xs : List StoredObject) → object_name (front ++ x ∷ xs) (length front) ≡ x.name
 at_front [] x xs = refl
@@ -87,24 +105,21 @@ infos_step : (b : Bool) (i : ObjectInfo) (is : List ObjectInfo) → map (λ (i :
 infos_step true i is = refl
 infos_step false i is = refl
 
-names_from : (class : List ℕ) (number : ℕ) (classes : List ClassInfo) (front objects : List StoredObject) → ((n : ℕ) → n < length classes → bytes_eq class (class_name classes n) ≡ (n == number)) → All (λ (o : StoredObject). o.class < length classes) objects
-    → map (object_name (front ++ objects)) (ids_from (length front) objects number) ≡ names_by class classes objects
-names_from class number classes front [] same classed = refl
-names_from class number classes front (o ∷ os) same classed =
+names_from : (number : ℕ) (front objects : List StoredObject) → map (object_name (front ++ objects)) (ids_from (length front) objects number) ≡ names_by objects number
+names_from number front [] = refl
+names_from number front (o ∷ os) =
     let all = front ++ o ∷ os in
     let next : front ++ o ∷ os ≡ (front ++ o ∷ []) ++ os = sym (append_assoc front (o ∷ []) os) in
-    let rest : map (object_name all) (ids_from (length front + 1) os number) ≡ names_by class classes os =
+    let rest : map (object_name all) (ids_from (length front + 1) os number) ≡ names_by os number =
     ap (λ (objects : List StoredObject). map (object_name objects) (ids_from (length front + 1) os number)) next
     ∙ ap (λ n. map (object_name ((front ++ o ∷ []) ++ os)) (ids_from n os number)) (omega (arith, length-append front (o ∷ [])))
-    ∙ names_from class number classes (front ++ o ∷ []) os same (λ k d l. classed (suc k) d (omega arith))
+    ∙ names_from number (front ++ o ∷ []) os
     in
     ap (map (object_name all)) (ids-cons (length front) o os number)
     ∙ names_step (o.class == number) (length front) (ids_from (length front + 1) os number) (object_name all)
     ∙ ap (λ r. cond (o.class == number) (object_name all (length front) ∷ r) r) rest
-    ∙ ap (λ n. cond (o.class == number) (n ∷ names_by class classes os) (names_by class classes os)) (at_front front o os)
-    ∙ ap (λ b. cond b (o.name ∷ names_by class classes os) (names_by class classes os)) (sym (same o.class (classed 0 o (omega arith))))
-    ∙ sym (infos_step (bytes_eq class (class_name classes o.class)) (object_info classes o) (filter (λ (i : ObjectInfo). bytes_eq class i.class) (map (object_info classes) os)))
+    ∙ ap (λ n. cond (o.class == number) (n ∷ names_by os number) (names_by os number)) (at_front front o os)
+    ∙ sym (infos_step (o.class == number) (object_info o) (filter (λ (i : ObjectInfo). i.class == number) (map object_info os)))
 
-pub names-ids : (class : List ℕ) (number : ℕ) (classes : List ClassInfo) (objects : List StoredObject) → ((n : ℕ) → n < length classes → bytes_eq class (class_name classes n) ≡ (n == number)) → All (λ (o : StoredObject). o.class < length classes) objects
-    → map (object_name objects) (ids_in objects number) ≡ names_by class classes objects
-names-ids class number classes objects same classed = names_from class number classes [] objects same classed
+pub names-ids : (s : Contents) (number : ℕ) → map (object_name s.objects) (ids_in s.objects number) ≡ names (catalog_of s) number
+names-ids s number = names_from number [] s.objects

@@ -15,10 +15,10 @@ use Rattle.motion.specs.declared.cell.Given.TheVariants as givens
 use Rattle.motion.specs.declared.cell.NamedSet.{NamedSet}
 use Rattle.motion.specs.declared.cell.Place.{Place}
 use Rattle.motion.specs.Cells.{fresh, written, set_named, place_sets}
-use Rattle.motion.specs.Timeline.{Period, put, period_at, state_at}
+use Rattle.motion.specs.Timeline.{Epoch, put, epoch_at, state_at}
 use Rattle.history.specs.Write.{Attribute}
 use Rattle.history.specs.State.{attribute_names, inserted, updated}
-use Rattle.object_store.specs.Sound.{kind_of, AreCellsOf, ArePeriodsOf}
+use Rattle.object_store.specs.Sound.{kind_of, AreCellsOf, AreEpochsOf}
 
 written_kind : (s : ℕ) (cell : Cell) (given : Given) → kind_of (written s cell given) ≡ kind_of cell
 written_kind s (cells.Num n) (givens.Num m) = refl
@@ -65,37 +65,37 @@ AreCellsOf-inserted now attributes place sets =
 AreCellsOf-updated : (now : ℕ) (attributes : List Attribute) (place : Place) (sets : List NamedSet) (cs : List Cell) → AreCellsOf attributes cs → AreCellsOf attributes (updated now attributes place sets cs)
 AreCellsOf-updated now attributes place sets cs fit = kinds-sets now (attribute_names attributes) (place_sets place ++ sets) cs ∙ fit
 
--- the cells of a period, where the object is present
+-- the cells of an epoch, where the object is present
 abbrev pub FitsIn : List Attribute → Option (List Cell) → Type 0
 FitsIn attributes cs = ForSome cs (AreCellsOf attributes)
 
-found_fits : (attributes : List Attribute) (t : ℕ) (periods : List Period) (found : Option Period) → ForSome found (λ p. FitsIn attributes p.cells) → ArePeriodsOf attributes periods → ForSome (fold (λ found p. if nat_le p.from t then Some p else found) found periods) (λ p. FitsIn attributes p.cells)
+found_fits : (attributes : List Attribute) (t : ℕ) (epochs : List Epoch) (found : Option Epoch) → ForSome found (λ p. FitsIn attributes p.cells) → AreEpochsOf attributes epochs → ForSome (fold (λ found p. if nat_le p.from t then Some p else found) found epochs) (λ p. FitsIn attributes p.cells)
 found_fits attributes t [] found fits all = fits
-found_fits attributes t (q ∷ periods) found fits all =
-    found_fits attributes t periods (if nat_le q.from t then Some q else found) (either (nat_le q.from t) q found (all 0 q (omega arith)) fits) (λ k d l. all (suc k) d (omega arith))
+found_fits attributes t (q ∷ epochs) found fits all =
+    found_fits attributes t epochs (if nat_le q.from t then Some q else found) (either (nat_le q.from t) q found (all 0 q (omega arith)) fits) (λ k d l. all (suc k) d (omega arith))
   where
-    either : (b : Bool) (q : Period) (found : Option Period) → FitsIn attributes q.cells → ForSome found (λ p. FitsIn attributes p.cells) → ForSome (if b then Some q else found) (λ p. FitsIn attributes p.cells)
-    either true q found here before p is = subst (λ (p : Period). FitsIn attributes p.cells) (same_Some q p is) here
+    either : (b : Bool) (q : Epoch) (found : Option Epoch) → FitsIn attributes q.cells → ForSome found (λ p. FitsIn attributes p.cells) → ForSome (if b then Some q else found) (λ p. FitsIn attributes p.cells)
+    either true q found here before p is = subst (λ (p : Epoch). FitsIn attributes p.cells) (same_Some q p is) here
     either false q found here before p is = before p is
 
-none_fits : (attributes : List Attribute) → ForSome None (λ (p : Period). FitsIn attributes p.cells)
+none_fits : (attributes : List Attribute) → ForSome None (λ (p : Epoch). FitsIn attributes p.cells)
 none_fits attributes p is = absurd (none-some p is)
 
-state_of_found : (attributes : List Attribute) (found : Option Period) → ForSome found (λ p. FitsIn attributes p.cells) → FitsIn attributes (option_and_then (λ p. p.cells) found)
+state_of_found : (attributes : List Attribute) (found : Option Epoch) → ForSome found (λ p. FitsIn attributes p.cells) → FitsIn attributes (option_and_then (λ p. p.cells) found)
 state_of_found attributes None fits cs is = absurd (none-some cs is)
 state_of_found attributes (Some p) fits cs is = fits p refl cs is
 
--- the state at a tick fits as the periods do
-pub state_fits : (attributes : List Attribute) (periods : List Period) (t : ℕ) → ArePeriodsOf attributes periods → FitsIn attributes (state_at periods t)
-state_fits attributes periods t all = state_of_found attributes (period_at periods t) (found_fits attributes t periods None (none_fits attributes) all)
+-- the state at a tick fits as the epochs do
+pub state_fits : (attributes : List Attribute) (epochs : List Epoch) (t : ℕ) → AreEpochsOf attributes epochs → FitsIn attributes (state_at epochs t)
+state_fits attributes epochs t all = state_of_found attributes (epoch_at epochs t) (found_fits attributes t epochs None (none_fits attributes) all)
 
 pub updated_fits : (now : ℕ) (attributes : List Attribute) (place : Place) (sets : List NamedSet) (before : Option (List Cell)) → FitsIn attributes before → FitsIn attributes (option_map (updated now attributes place sets) before)
 updated_fits now attributes place sets None fits cs is = absurd (none-some cs is)
 updated_fits now attributes place sets (Some old) fits cs is =
     subst (AreCellsOf attributes) (same_Some (updated now attributes place sets old) cs is) (AreCellsOf-updated now attributes place sets old (fits old refl))
 
--- periods go on fitting after one more
-pub put_fits : (attributes : List Attribute) (periods : List Period) (p : Period) → ArePeriodsOf attributes periods → FitsIn attributes p.cells → ArePeriodsOf attributes (put periods p)
-put_fits attributes periods p all fits =
-    All-push (λ (p : Period). FitsIn attributes p.cells) (filter (λ q. nat_lt q.from p.from) periods) p
-    (All-filter (λ q. nat_lt q.from p.from) (λ (p : Period). FitsIn attributes p.cells) periods all) fits
+-- epochs go on fitting after one more
+pub put_fits : (attributes : List Attribute) (epochs : List Epoch) (p : Epoch) → AreEpochsOf attributes epochs → FitsIn attributes p.cells → AreEpochsOf attributes (put epochs p)
+put_fits attributes epochs p all fits =
+    All-push (λ (p : Epoch). FitsIn attributes p.cells) (filter (λ q. nat_lt q.from p.from) epochs) p
+    (All-filter (λ q. nat_lt q.from p.from) (λ (p : Epoch). FitsIn attributes p.cells) epochs all) fits

@@ -11,3 +11,6 @@ pub mod JudgeLemmas
 pub mod WriteLemmas
 pub mod CommandLemmas
 pub mod StoreLemmas
+pub mod NumberLemmas
+pub mod SizeLemmas
+pub mod ChangeLemmas

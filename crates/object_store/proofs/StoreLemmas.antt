@@ -1,19 +1,21 @@
 -- What the answers of the tables say of a store.
 use Rattle.std.proofs.Common.{◌≡◌, ℕ, ◌<◌, ◌≤◌, Option, None, Some, Result, Ok, Err, List, [], map, length, refl, sym, ap, subst, ◌∙◌, arith}
 use Rattle.std.specs.Prelude.{All, IfOk, IfErr, OnOk, slice_get, option_map, unwrap_or}
+use Rattle.std.specs.List.{position}
 use Rattle.std.specs.Option.{option_map_or}
 use Rattle.std.proofs.lemmas.Option.{slice_get_within}
 use Rattle.history.specs.Write.{Write}
-use Rattle.history.specs.Catalog.{ClassInfo, names}
+use Rattle.history.specs.Catalog.{ClassInfo}
+use Rattle.history.specs.History.{ChangesFrom}
 use Rattle.object_store.specs.declared.fault.StoreFault.{StoreFault}
 use Rattle.object_store.specs.declared.fault.StoreFault.TheVariants.{NoMemory}
 use Rattle.object_store.specs.declared.objects.Done.{Done}
-use Rattle.object_store.specs.Contents.{StoredObject, Contents, catalog_of, ids_in, object_name}
+use Rattle.object_store.specs.Contents.{StoredObject, Contents, catalog_of, history_of, ids_in, is_named, object_name}
 use Rattle.object_store.specs.Kept.{IsKept, Writes}
+use Rattle.object_store.specs.Sound.{IsSound}
 use Rattle.object_store.specs.Standing.{GrowsBy}
 use Rattle.object_store.specs.Tables.{IsJudged}
-use Rattle.object_store.proofs.IdLemmas.{ids-none, names-ids}
-use Rattle.object_store.proofs.SoundLemmas.{same_class}
+use Rattle.object_store.proofs.IdLemmas.{ids-none}
 
 pub ok_contents : (r : Result Done StoreFault) (name : List ℕ) (old after : Contents) (ids : List (List ℕ)) (new : Contents) → IfOk r (Writes name old after ids new) → OnOk r (new ≡ after)
 ok_contents (Ok done) name old after ids new writes = writes.contents
@@ -35,16 +37,19 @@ pub class_stands : {T : Type 0} (r : Result T StoreFault) (old after new : Conte
 class_stands (Ok x) old after new w is stands = subst (λ new. GrowsBy old new w) (sym is) stands
 class_stands (Err e) old after new w is stands = is
 
--- the names of a class, by its ids
-pub class_names_are : (s : Contents) (members : List (List ℕ)) (number : ℕ) (k : ClassInfo) → IsKept members s → slice_get s.classes number ≡ Some k → map (object_name s.objects) (ids_in s.objects number) ≡ names (catalog_of s) k.name
-class_names_are s members number k kept there =
-    names-ids k.name number s.classes s.objects
-    (same_class s.classes number k.name kept.sound.classes (slice_get_within s.classes number k there) (ap (λ r. option_map_or (λ (k : ClassInfo). k.name) r []) there))
-    kept.sound.objects.classed
-
+-- a class that is not there has no ids
 pub no_class : (s : Contents) (members : List (List ℕ)) (number : ℕ) → IsKept members s → length members ≤ number → ids_in s.objects number ≡ []
 no_class s members number kept past = ids-none number s.objects (λ k d l. omega (arith, kept.sound.objects.classed k d l, kept.members.count))
 
 pub ok_tick : (r : Result Done StoreFault) (name : List ℕ) (old after : Contents) (ids : List (List ℕ)) (new : Contents) (now : ℕ) → IfOk r (Writes name old after ids new) → after.last_tick ≡ now → OnOk r (new.last_tick ≡ now)
 ok_tick (Ok done) name old after ids new now writes tick = ap (λ (s : Contents). s.last_tick) writes.contents ∙ tick
 ok_tick (Err e) name old after ids new now writes tick = writes
+
+pub ok_changes : (r : Result Done StoreFault) (name : List ℕ) (old after : Contents) (ids : List (List ℕ)) (new : Contents) (now : ℕ) → IfOk r (Writes name old after ids new)
+    → ((id : ℕ) → IsSound after → position (is_named name) after.objects ≡ Some id → ChangesFrom id now (history_of old) (history_of after))
+    → IfOk r (λ done. ChangesFrom done.id now (history_of old) (history_of new))
+ok_changes (Ok done) name old after ids new now writes changes =
+    subst (λ (s : Contents). ChangesFrom done.id now (history_of old) (history_of s)) (sym writes.contents)
+    (changes done.id (subst IsSound writes.contents writes.kept.sound)
+    (subst (λ (s : Contents). position (is_named name) s.objects ≡ Some done.id) writes.contents writes.id))
+ok_changes (Err e) name old after ids new now writes changes = writes

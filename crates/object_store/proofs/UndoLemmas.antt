@@ -4,17 +4,18 @@ use Rattle.std.specs.Prelude.{All, slice_get, option_and_then, option_map}
 use Rattle.std.specs.List.{find, position}
 use Rattle.std.specs.Str.{bytes_eq}
 use Rattle.std.proofs.lemmas.Option.{same_Some, none-some}
-use Rattle.motion.specs.Timeline.{Period, put, restored, TakesBack}
+use Rattle.motion.specs.Timeline.{Epoch, put, restored, TakesBack}
 use Rattle.object_store.specs.Contents.{StoredObject, is_named}
 use Rattle.object_store.specs.Effects.{put_named}
 use Rattle.object_store.specs.Places.{restored_at}
 use Rattle.object_store.proofs.Lists.{place_in, place_is}
 use Rattle.object_store.proofs.IdLemmas.{class_in}
 
-abbrev with_period : Period → StoredObject → StoredObject
-with_period p o = record o { periods = put o.periods p }
+abbrev with_epoch : Epoch → StoredObject → StoredObject
+with_epoch p o = record o { epochs = put o.epochs p }
 
-take_front : {X : Type 0} (xs ys : List X) → take (length xs) (xs ++ ys) ≡ xs
+-- the front of two lists
+pub take_front : {X : Type 0} (xs ys : List X) → take (length xs) (xs ++ ys) ≡ xs
 take_front [] ys = refl
 take_front (x ∷ xs) ys = ap (λ zs. x ∷ zs) (take_front xs ys)
 
@@ -28,12 +29,12 @@ IsFirst name [] place o = ⊥
 IsFirst name (x ∷ xs) zero o = (bytes_eq name x.name ≡ true) × (x ≡ o)
 IsFirst name (x ∷ xs) (suc place) o = (bytes_eq name x.name ≡ false) × IsFirst name xs place o
 
-at_zero : (b : Bool) (r : Option ℕ) → cond b (Some 0) (option_map suc r) ≡ Some 0 → b ≡ true
+pub at_zero : (b : Bool) (r : Option ℕ) → cond b (Some 0) (option_map suc r) ≡ Some 0 → b ≡ true
 at_zero true r first = refl
 at_zero false None first = absurd (none-some 0 first)
 at_zero false (Some n) first = absurd (omega (arith, same_Some (suc n) 0 first))
 
-at_suc : (b : Bool) (r : Option ℕ) (place : ℕ) → cond b (Some 0) (option_map suc r) ≡ Some (suc place) → (b ≡ false) × (r ≡ Some place)
+pub at_suc : (b : Bool) (r : Option ℕ) (place : ℕ) → cond b (Some 0) (option_map suc r) ≡ Some (suc place) → (b ≡ false) × (r ≡ Some place)
 at_suc true r place first = absurd (omega (arith, same_Some 0 (suc place) first))
 at_suc false None place first = absurd (none-some (suc place) first)
 at_suc false (Some n) place first = let same : suc n ≡ suc place = same_Some (suc n) (suc place) first in (refl, ap Some (omega (arith, same)))
@@ -48,27 +49,27 @@ first_in name (x ∷ xs) (suc place) o first there =
 pub first_at : (name : List ℕ) (objects : List StoredObject) (place : ℕ) (o : StoredObject) → position (is_named name) objects ≡ Some place → slice_get objects place ≡ Some o → IsFirst name objects place o
 first_at name objects place o first there = first_in name objects place o (sym (place_is (is_named name) objects) ∙ first) there
 
--- the named object with one more period
-pub put_there : (name : List ℕ) (p : Period) (objects : List StoredObject) (place : ℕ) (o : StoredObject) → IsFirst name objects place o → slice_get (put_named name p objects) place ≡ Some (with_period p o)
+-- the named object with one more epoch
+pub put_there : (name : List ℕ) (p : Epoch) (objects : List StoredObject) (place : ℕ) (o : StoredObject) → IsFirst name objects place o → slice_get (put_named name p objects) place ≡ Some (with_epoch p o)
 put_there name p [] place o first = absurd first
 put_there name p (x ∷ xs) zero o first =
-    ap (λ b. slice_get (if b then (with_period p x ∷ xs) else (x ∷ put_named name p xs)) 0) first.0 ∙ ap (λ o. Some (with_period p o)) first.1
+    ap (λ b. slice_get (if b then (with_epoch p x ∷ xs) else (x ∷ put_named name p xs)) 0) first.0 ∙ ap (λ o. Some (with_epoch p o)) first.1
 put_there name p (x ∷ xs) (suc place) o first =
-    ap (λ b. slice_get (if b then (with_period p x ∷ xs) else (x ∷ put_named name p xs)) (suc place)) first.0 ∙ put_there name p xs place o first.1
+    ap (λ b. slice_get (if b then (with_epoch p x ∷ xs) else (x ∷ put_named name p xs)) (suc place)) first.0 ∙ put_there name p xs place o first.1
 
 -- and without it again
-pub put_back : (name : List ℕ) (p : Period) (replaced : Option Period) (objects : List StoredObject) (place : ℕ) (o : StoredObject) → IsFirst name objects place o → restored (put o.periods p) replaced ≡ o.periods → restored_at place replaced (put_named name p objects) ≡ objects
+pub put_back : (name : List ℕ) (p : Epoch) (replaced : Option Epoch) (objects : List StoredObject) (place : ℕ) (o : StoredObject) → IsFirst name objects place o → restored (put o.epochs p) replaced ≡ o.epochs → restored_at place replaced (put_named name p objects) ≡ objects
 put_back name p replaced [] place o first back = absurd first
 put_back name p replaced (x ∷ xs) zero o first back =
-    let periods : restored (put x.periods p) replaced ≡ x.periods = rw first.1 back in
-    ap (λ b. restored_at 0 replaced (if b then (with_period p x ∷ xs) else (x ∷ put_named name p xs))) first.0
-    ∙ ap (λ ps. let y : StoredObject = record { name = x.name; class = x.class; periods = ps } in y ∷ xs) periods
+    let epochs : restored (put x.epochs p) replaced ≡ x.epochs = rw first.1 back in
+    ap (λ b. restored_at 0 replaced (if b then (with_epoch p x ∷ xs) else (x ∷ put_named name p xs))) first.0
+    ∙ ap (λ ps. let y : StoredObject = record { name = x.name; class = x.class; epochs = ps } in y ∷ xs) epochs
 put_back name p replaced (x ∷ xs) (suc place) o first back =
-    ap (λ b. restored_at (suc place) replaced (if b then (with_period p x ∷ xs) else (x ∷ put_named name p xs))) first.0
+    ap (λ b. restored_at (suc place) replaced (if b then (with_epoch p x ∷ xs) else (x ∷ put_named name p xs))) first.0
     ∙ ap (λ os. x ∷ os) (put_back name p replaced xs place o first.1 back)
 
 -- the classes of the objects stay
-pub classes-restored_at : (place : ℕ) (replaced : Option Period) (objects : List StoredObject) → map class_in (restored_at place replaced objects) ≡ map class_in objects
+pub classes-restored_at : (place : ℕ) (replaced : Option Epoch) (objects : List StoredObject) → map class_in (restored_at place replaced objects) ≡ map class_in objects
 classes-restored_at place replaced [] = refl
 classes-restored_at zero replaced (o ∷ os) = refl
 classes-restored_at (suc place) replaced (o ∷ os) = ap (λ cs. o.class ∷ cs) (classes-restored_at place replaced os)

@@ -11,8 +11,8 @@ use Rattle.std.proofs.Math.Seq.{get_or-append_seam}
 use Rattle.std.proofs.lemmas.List.{length-map, get_or-set_same, get_or-set_other, length-set}
 use Rattle.std.proofs.lemmas.Option.{same_Some, none-some, slice_get_within}
 use Rattle.tick_set.specs.declared.spans.TheConstants.{LAST_TICK}
-use Rattle.motion.specs.Timeline.{Period, put, restored, AreBegunBy, TakesBack}
-use Rattle.motion.proofs.TimelineLemmas.{AreBegunBy-later}
+use Rattle.motion.specs.Timeline.{Epoch, put, restored, AreBegunBy, TakesBack}
+use Rattle.motion.proofs.CallerLemmas.{AreBegunBy-later}
 use Rattle.motion.specs.declared.cell.Cell.{Cell}
 use Rattle.motion.specs.declared.cell.NamedSet.{NamedSet}
 use Rattle.motion.specs.declared.cell.Place.{Place}
@@ -20,8 +20,8 @@ use Rattle.history.specs.Write.{Attribute, Class, Update, Remove}
 use Rattle.history.specs.Catalog.{ClassInfo}
 use Rattle.object_store.specs.declared.objects.Done.{Done}
 use Rattle.object_store.specs.declared.objects.Undo.{Undo}
-use Rattle.object_store.specs.Contents.{StoredObject, Contents, attributes_at, is_named, ids_in}
-use Rattle.object_store.specs.Effects.{put_named, with_period_of, with_object, with_class, after_update, after_remove}
+use Rattle.object_store.specs.Contents.{StoredObject, Contents, attributes_of_number, is_named, ids_in}
+use Rattle.object_store.specs.Effects.{put_named, with_epoch_of, with_object, with_class, after_update, after_remove}
 use Rattle.object_store.specs.Ids.{with_member, without_member}
 use Rattle.object_store.specs.Kept.{IsKept, HasRoom, Writes}
 use Rattle.object_store.specs.Places.{at_place, restored_at, IsPutAt}
@@ -39,34 +39,34 @@ use Rattle.object_store.proofs.UndoLemmas.{IsFirst, first_at, put_there, put_bac
 -- ---- a known name
 
 -- a change of the first object of a name, by its place
-at_first : (name : List ℕ) (change : List Period → List Period) (p : Period) (objects : List StoredObject) (place : ℕ) (o : StoredObject) → IsFirst name objects place o → change o.periods ≡ put o.periods p → at_place place change objects ≡ put_named name p objects
+at_first : (name : List ℕ) (change : List Epoch → List Epoch) (p : Epoch) (objects : List StoredObject) (place : ℕ) (o : StoredObject) → IsFirst name objects place o → change o.epochs ≡ put o.epochs p → at_place place change objects ≡ put_named name p objects
 at_first name change p [] place o first same = absurd first
 at_first name change p (x ∷ xs) zero o first same =
-    let here : change x.periods ≡ put x.periods p = rw first.1 same in
-    let y : List Period → StoredObject = λ ps. record { name = x.name; class = x.class; periods = ps } in
-    ap (λ ps. y ps ∷ xs) here ∙ ap (λ b. if b then (y (put x.periods p) ∷ xs) else (x ∷ put_named name p xs)) (sym first.0)
+    let here : change x.epochs ≡ put x.epochs p = rw first.1 same in
+    let y : List Epoch → StoredObject = λ ps. record { name = x.name; class = x.class; epochs = ps } in
+    ap (λ ps. y ps ∷ xs) here ∙ ap (λ b. if b then (y (put x.epochs p) ∷ xs) else (x ∷ put_named name p xs)) (sym first.0)
 at_first name change p (x ∷ xs) (suc place) o first same =
-    let y : StoredObject = record { name = x.name; class = x.class; periods = put x.periods p } in
+    let y : StoredObject = record { name = x.name; class = x.class; epochs = put x.epochs p } in
     ap (λ os. x ∷ os) (at_first name change p xs place o first.1 same) ∙ ap (λ b. if b then (y ∷ xs) else (x ∷ put_named name p xs)) (sym first.0)
 
 abbrev name_in : StoredObject → List ℕ
 name_in o = o.name
 
 -- a name stands where it stood
-place-put_named : (name : List ℕ) (p : Period) (objects : List StoredObject) → position (is_named name) (put_named name p objects) ≡ position (is_named name) objects
+pub place-put_named : (name : List ℕ) (p : Epoch) (objects : List StoredObject) → position (is_named name) (put_named name p objects) ≡ position (is_named name) objects
 place-put_named name p objects =
     sym (position-map (bytes_eq name) name_in (put_named name p objects))
     ∙ ap (position (bytes_eq name)) (names-put_named name p objects)
     ∙ position-map (bytes_eq name) name_in objects
 
-length-put_named : (name : List ℕ) (p : Period) (objects : List StoredObject) → length (put_named name p objects) ≡ length objects
+length-put_named : (name : List ℕ) (p : Epoch) (objects : List StoredObject) → length (put_named name p objects) ≡ length objects
 length-put_named name p objects = sym (length-map (put_named name p objects) name_in) ∙ ap length (names-put_named name p objects) ∙ length-map objects name_in
 
 -- the answer of a write to a known name
-abbrev pub known_done : ℕ → Option Period → ℕ → Done
+abbrev pub known_done : ℕ → Option Epoch → ℕ → Done
 known_done place replaced last = record { id = place; undo = record { id = place; is_new = false; replaced = replaced; last_tick = last } }
 
-kept_sound : (s : Contents) (members : List (List ℕ)) (name : List ℕ) (p : Period) (o : StoredObject) → IsKept members s → s.last_tick ≤ p.from → p.from ≤ LAST_TICK → find (is_named name) s.objects ≡ Some o → FitsIn (attributes_at s.classes o.class) p.cells → IsKept members (with_period_of s name p)
+kept_sound : (s : Contents) (members : List (List ℕ)) (name : List ℕ) (p : Epoch) (o : StoredObject) → IsKept members s → s.last_tick ≤ p.from → p.from ≤ LAST_TICK → find (is_named name) s.objects ≡ Some o → FitsIn (attributes_of_number s.classes o.class) p.cells → IsKept members (with_epoch_of s name p)
 kept_sound s members name p o kept later tick found fits = record {
   sound = record {
     classes = kept.sound.classes;
@@ -77,38 +77,37 @@ kept_sound s members name p o kept later tick found fits = record {
     count = kept.members.count;
     each = λ n within. kept.members.each n within ∙ sym (ids-same n (put_named name p s.objects) s.objects (classes-put_named name p s.objects));
   };
-  fits = omega (arith, length-put_named name p s.objects, kept.fits);
 }
 
-pub known_writes : (s : Contents) (members : List (List ℕ)) (name : List ℕ) (place : ℕ) (o : StoredObject) (p : Period) (replaced : Option Period) (period : List Period → Period) (objects : List StoredObject) (now : ℕ)
-    → IsKept members s → s.last_tick ≤ now → now ≤ LAST_TICK → position (is_named name) s.objects ≡ Some place → slice_get s.objects place ≡ Some o → FitsIn (attributes_at s.classes o.class) p.cells
-    → IsPutAt place period replaced s.objects objects → period o.periods ≡ p → p.from ≡ now
-    → Writes name s (with_period_of s name p) members (record { classes = s.classes; objects = objects; last_tick = now }) (known_done place replaced s.last_tick)
-known_writes s members name place o p replaced period objects now kept later tick first there fits written is from =
+pub known_writes : (s : Contents) (members : List (List ℕ)) (name : List ℕ) (place : ℕ) (o : StoredObject) (p : Epoch) (replaced : Option Epoch) (epoch : List Epoch → Epoch) (objects : List StoredObject) (now : ℕ)
+    → IsKept members s → s.last_tick ≤ now → now ≤ LAST_TICK → position (is_named name) s.objects ≡ Some place → slice_get s.objects place ≡ Some o → FitsIn (attributes_of_number s.classes o.class) p.cells
+    → IsPutAt place epoch replaced s.objects objects → epoch o.epochs ≡ p → p.from ≡ now
+    → Writes name s (with_epoch_of s name p) members (record { classes = s.classes; objects = objects; last_tick = now }) (known_done place replaced s.last_tick)
+known_writes s members name place o p replaced epoch objects now kept later tick first there fits written is from =
     let at = first_at name s.objects place o first there in
     let found : find (is_named name) s.objects ≡ Some o = find_is (is_named name) s.objects ∙ ap (option_and_then (slice_get s.objects)) first ∙ there in
-    let back : TakesBack o.periods (put o.periods p) replaced = subst (λ q. TakesBack o.periods (put o.periods q) replaced) is (written.back o there) in
+    let back : TakesBack o.epochs (put o.epochs p) replaced = subst (λ q. TakesBack o.epochs (put o.epochs q) replaced) is (written.back o there) in
     let new : objects ≡ put_named name p s.objects =
-    written.written ∙ at_first name (λ periods. put periods (period periods)) p s.objects place o at (ap (put o.periods) is)
+    written.written ∙ at_first name (λ epochs. put epochs (epoch epochs)) p s.objects place o at (ap (put o.epochs) is)
     in
     let undo : Undo = record { id = place; is_new = false; replaced = replaced; last_tick = s.last_tick } in
-    let before : undone undo (with_period_of s name p) ≡ s =
+    let before : undone undo (with_epoch_of s name p) ≡ s =
     ap (λ os. let c : Contents = record { classes = s.classes; objects = os; last_tick = s.last_tick } in c) (put_back name p replaced s.objects place o at back.before)
     in
-    let done : Writes name s (with_period_of s name p) members (with_period_of s name p) (known_done place replaced s.last_tick) = record {
+    let done : Writes name s (with_epoch_of s name p) members (with_epoch_of s name p) (known_done place replaced s.last_tick) = record {
       contents = refl;
       kept = kept_sound s members name p o kept (subst (λ n. s.last_tick ≤ n) (sym from) later) (subst (λ n. n ≤ LAST_TICK) (sym from) tick) found fits;
       id = place-put_named name p s.objects ∙ first;
       undo = record {
         revertible = record {
-          left = (record o { periods = put o.periods p }, put_there name p s.objects place o at, back.stands);
+          left = (record o { epochs = put o.epochs p }, put_there name p s.objects place o at, back.stands);
           sound = subst IsSound (sym before) kept.sound;
         };
         before = before;
       };
     } in
-    let path : with_period_of s name p ≡ record { classes = s.classes; objects = objects; last_tick = now } = λ i. record { classes = s.classes; objects = sym new i; last_tick = from i } in
-    subst (λ (c : Contents). Writes name s (with_period_of s name p) members c (known_done place replaced s.last_tick)) path done
+    let path : with_epoch_of s name p ≡ record { classes = s.classes; objects = objects; last_tick = now } = λ i. record { classes = s.classes; objects = sym new i; last_tick = from i } in
+    subst (λ (c : Contents). Writes name s (with_epoch_of s name p) members c (known_done place replaced s.last_tick)) path done
 
 -- ---- a new name
 
@@ -120,7 +119,8 @@ last_step : {X : Type 0} (b : Bool) (y : X) (rest : Option X) (r : Option ℕ) (
 last_step true y rest r n none later = absurd (none-some y (sym none))
 last_step false y rest r n none later = ap (option_map suc) (later none)
 
-place_last : {X : Type 0} (q : X → Bool) (xs : List X) (x : X) → find q xs ≡ None → q x ≡ true → place_in q (xs ++ x ∷ []) ≡ Some (length xs)
+-- an element that is pushed stands last
+pub place_last : {X : Type 0} (q : X → Bool) (xs : List X) (x : X) → find q xs ≡ None → q x ≡ true → place_in q (xs ++ x ∷ []) ≡ Some (length xs)
 place_last q [] x none passes = ap (λ b. cond b (Some 0) None) passes
 place_last q (y ∷ ys) x none passes =
     last_step (q y) y (find q ys) (place_in q (ys ++ x ∷ [])) (length ys) none (λ later. place_last q ys x later passes)
@@ -161,16 +161,16 @@ members_with members s number o are within class last = record {
       ];
 }
 
-pub entered_writes : (s : Contents) (members : List (List ℕ)) (number : ℕ) (name : List ℕ) (p : Period) (timeline : List Period) (objects : List StoredObject) (new_members : List (List ℕ)) (id now : ℕ)
-    → IsKept members s → s.last_tick ≤ now → now ≤ LAST_TICK → find (is_named name) s.objects ≡ None → HasRoom s number → FitsIn (attributes_at s.classes number) p.cells
-    → objects ≡ s.objects ++ record { name = name; class = number; periods = timeline } ∷ [] → timeline ≡ put [] p → new_members ≡ with_member members number id → id ≡ length s.objects → id + 1 < 2 ^ 32 → p.from ≡ now
+pub entered_writes : (s : Contents) (members : List (List ℕ)) (number : ℕ) (name : List ℕ) (p : Epoch) (timeline : List Epoch) (objects : List StoredObject) (new_members : List (List ℕ)) (id now : ℕ)
+    → IsKept members s → s.last_tick ≤ now → now ≤ LAST_TICK → find (is_named name) s.objects ≡ None → HasRoom s number → FitsIn (attributes_of_number s.classes number) p.cells
+    → objects ≡ s.objects ++ record { name = name; class = number; epochs = timeline } ∷ [] → timeline ≡ put [] p → new_members ≡ with_member members number id → id ≡ length s.objects → p.from ≡ now
     → Writes name s (with_object s number name p) new_members (record { classes = s.classes; objects = objects; last_tick = now }) (entered_done id s.last_tick)
-entered_writes s members number name p timeline objects new_members id now kept later tick new room fits are is with_id id_is id_fits from =
-    let o : StoredObject = record { name = name; class = number; periods = put [] p } in
+entered_writes s members number name p timeline objects new_members id now kept later tick new room fits are is with_id id_is from =
+    let o : StoredObject = record { name = name; class = number; epochs = put [] p } in
     let n : ℕ = length s.objects in
     let k = room_class (slice_get s.classes number) (length (ids_in s.objects number)) room in
     let within : number < length s.classes = slice_get_within s.classes number k.0 k.1 in
-    let named : attributes_at s.classes number ≡ k.0.attributes = ap (λ r. option_map_or (λ (k : ClassInfo). k.attributes) r []) k.1 in
+    let named : attributes_of_number s.classes number ≡ k.0.attributes = ap (λ r. option_map_or (λ (k : ClassInfo). k.attributes) r []) k.1 in
     let here : place_in (is_named name) (s.objects ++ o ∷ []) ≡ Some n = place_last (is_named name) s.objects o new (bytes_eq_refl name) in
     let undo : Undo = record { id = n; is_new = true; replaced = None; last_tick = s.last_tick } in
     let before : undone undo (with_object s number name p) ≡ s =
@@ -187,7 +187,6 @@ entered_writes s members number name p timeline objects new_members id now kept 
           tick = subst (λ n. n ≤ LAST_TICK) (sym from) tick;
         };
         members = members_with members s number o kept.members within refl p.from;
-        fits = omega (arith, length-append s.objects (o ∷ []), id_fits, id_is);
       };
       id = place_is (is_named name) (s.objects ++ o ∷ []) ∙ here;
       undo = record {
@@ -197,7 +196,7 @@ entered_writes s members number name p timeline objects new_members id now kept 
     } in
     let path : with_object s number name p ≡ record { classes = s.classes; objects = objects; last_tick = now } = λ i. record {
       classes = s.classes;
-      objects = (ap (λ ps. s.objects ++ record { name = name; class = number; periods = ps } ∷ []) (sym is) ∙ sym are) i;
+      objects = (ap (λ ps. s.objects ++ record { name = name; class = number; epochs = ps } ∷ []) (sym is) ∙ sym are) i;
       last_tick = from i;
     } in
     let of_new : Writes name s (with_object s number name p) (with_member members number n) (record { classes = s.classes; objects = objects; last_tick = now }) (entered_done n s.last_tick) =
@@ -261,7 +260,6 @@ left_kept undo s members new_members o kept is_new sound there is =
           subst (λ m. AreMembers m left) (sym is)
           (fewer s members (take n s.objects) o undo.last_tick kept.members (split_last s.objects n o (omega arith) there)
           (all_at (λ (o : StoredObject). o.class < length s.classes) s.objects n o there kept.sound.objects.classed));
-      fits = omega (arith, length-take n s.objects, kept.fits);
     } in
     subst (λ (c : Contents). IsKept new_members c) (sym path) kept_left
 
@@ -283,7 +281,6 @@ restored_kept undo s members kept is_new sound =
         count = kept.members.count;
         each = λ n within. kept.members.each n within ∙ sym (ids-same n objects s.objects same);
       };
-      fits = omega (arith, as_long, kept.fits);
     } in
     subst (λ (c : Contents). IsKept members c) (sym path) kept_left
 
@@ -309,8 +306,8 @@ pub if_at : (objects : List StoredObject) (place : ℕ) (o : StoredObject) (P : 
 if_at objects place o P holds there = subst (λ r. IfSome r P) there holds
 
 -- each object can be written at a tick from the last write on
-pub begun_by : (s : Contents) (now : ℕ) → IsSound s → s.last_tick ≤ now → All (λ (o : StoredObject). AreBegunBy o.periods now) s.objects
-begun_by s now sound later = λ k d l. AreBegunBy-later (get_or s.objects k d).periods s.last_tick now later (sound.objects.begun k d l)
+pub begun_by : (s : Contents) (now : ℕ) → IsSound s → s.last_tick ≤ now → All (λ (o : StoredObject). AreBegunBy o.epochs now) s.objects
+begun_by s now sound later = λ k d l. AreBegunBy-later (get_or s.objects k d).epochs s.last_tick now later (sound.objects.begun k d l)
 
 -- ---- a new class
 
@@ -335,7 +332,6 @@ class_kept s members new_members k classes kept sound are is =
                   ∙ sym (ids-none n s.objects (λ j d l. omega (arith, kept.sound.objects.classed j d l)))
             ];
       };
-      fits = kept.fits;
     } in
     subst (λ m. IsKept m (after classes)) (sym is) (subst (λ ks. IsKept (members ++ [] ∷ []) (after ks)) (sym are) kept_after)
 
@@ -348,9 +344,9 @@ stands_update s members now name place sets kept later =
 pub stands_remove : (s : Contents) (now : ℕ) (name : List ℕ) → GrowsBy s (after_remove s now name) (Remove now name)
 stands_remove s now name = grows s (after_remove s now name) (Remove now name) (follows_remove s now name)
 
-pub stands_class : (s : Contents) (members : List (List ℕ)) (name : List ℕ) (capacity : ℕ) (point : Bool) (attributes : List Attribute) → IsKept members s → GrowsBy s (with_class s name capacity point attributes) (Class name capacity point attributes)
-stands_class s members name capacity point attributes kept =
-    grows s (with_class s name capacity point attributes) (Class name capacity point attributes) (follows_class s name capacity point attributes kept.sound.objects.classed)
+pub stands_class : (s : Contents) (name : List ℕ) (capacity : ℕ) (point : Bool) (attributes : List Attribute) → GrowsBy s (with_class s name capacity point attributes) (Class name capacity point attributes)
+stands_class s name capacity point attributes =
+    grows s (with_class s name capacity point attributes) (Class name capacity point attributes) (follows_class s name capacity point attributes)
 
 -- a class that was added can be taken back
 pub spare_class : (s : Contents) (members : List (List ℕ)) (k : ClassInfo) → IsKept members s → without_last_class (record { classes = s.classes ++ k ∷ []; objects = s.objects; last_tick = s.last_tick }) ≡ s

@@ -4,7 +4,7 @@ use Rattle.std.specs.List.{filter_map, position}
 use Rattle.std.specs.Option.{option_map}
 use Rattle.std.specs.Str.{bytes_eq}
 use Rattle.motion.specs.Cells.{fresh, IsGiven}
-use Rattle.motion.specs.declared.vector.TheConstants.{GIVEN_LIMIT}
+use Rattle.fixed_point.specs.declared.number.TheConstants.{READ_LIMIT}
 use Rattle.motion.specs.declared.cell.Cell.{Cell}
 use Rattle.motion.specs.declared.cell.Given.{Given}
 use Rattle.motion.specs.declared.cell.NamedSet.{NamedSet}
@@ -23,8 +23,5 @@ fresh_cells now attributes = map (λ a. fresh now a.kind) attributes
 
 -- each number that a command gives is within 10^12 thousandths
 pub record AreGiven (place : Place) (sets : List NamedSet) : Type 0 where
-  pub at : IfSome place.at (λ p. (unsigned_abs p.x ≤ GIVEN_LIMIT) × (unsigned_abs p.y ≤ GIVEN_LIMIT))
+  pub at : IfSome place.at (λ p. (unsigned_abs p.x ≤ READ_LIMIT) × (unsigned_abs p.y ≤ READ_LIMIT))
   pub settings : All (λ set. IsGiven set.given) sets
-
-abbrev pub AreChanges : List (ℕ × Given) → Type 0
-AreChanges changes = All (λ change. IsGiven change.1) changes

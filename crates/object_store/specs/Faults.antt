@@ -1,8 +1,10 @@
--- The first fault of a writing call. Each condition is a function of the catalog, of whether the object is present, and of what is written.
-use Rattle.std.specs.Prelude.{ℕ, Bool, true, false, ◌&&◌, ◌||◌, not, nat_le, is_some, is_none, Option, Some, None, List, [], ◌∷◌, ◌++◌, length, if◌then◌else◌}
+-- The first fault of a writing call. Each condition is a function of the catalog, of whether the object is present,
+-- and of what is written.
+use Rattle.std.specs.Prelude.{ℕ, ◌==◌, Bool, true, false, ◌&&◌, ◌||◌, not, nat_le, is_some, is_none, Option, Some, None, List, [], ◌∷◌, ◌++◌, length, slice_get}
 use Rattle.std.specs.List.{find, list_any}
 use Rattle.std.specs.Option.{option_and_then, option_map_or}
 use Rattle.std.specs.Str.{bytes_eq}
+use Rattle.exact.specs.First.{first_that_holds}
 use Rattle.motion.specs.Cells.{place_sets}
 use Rattle.motion.specs.declared.cell.AttrKind.{AttrKind}
 use Rattle.motion.specs.declared.cell.AttrKind.TheVariants as kinds
@@ -11,15 +13,10 @@ use Rattle.motion.specs.declared.cell.Given.TheVariants as givens
 use Rattle.motion.specs.declared.cell.NamedSet.{NamedSet}
 use Rattle.motion.specs.declared.cell.Place.{Place}
 use Rattle.history.specs.Write.{Attribute}
-use Rattle.history.specs.Catalog.{Catalog, ClassInfo, class_of, object_of, attributes_in, attributes_of, names}
+use Rattle.history.specs.Catalog.{Catalog, ClassInfo, ObjectInfo, class_of, number_of_class, object_of, attributes_of_class, with_coordinates, names_in}
 use Rattle.object_store.specs.declared.schema.TheConstants.{CLASS_LIMIT}
 use Rattle.object_store.specs.declared.fault.StoreFault.{StoreFault}
 use Rattle.object_store.specs.declared.fault.StoreFault.TheVariants as faults
-
--- the fault of the first condition that holds
-abbrev pub first_of : List (Bool × StoreFault) → Option StoreFault
-first_of [] = None
-first_of (condition ∷ conditions) = if condition.0 then Some condition.1 else first_of conditions
 
 -- some name stands twice
 abbrev pub repeats : {X : Type 0} → (X → List ℕ) → List X → Bool
@@ -66,22 +63,30 @@ is_misplaced class place = is_placed place && not (option_map_or (λ k. k.point)
 
 -- the class of the object of a name
 abbrev pub class_of_object : Catalog → List ℕ → Option ClassInfo
-class_of_object c name = option_and_then (λ o. class_of c o.class) (object_of c name)
+class_of_object c name = option_and_then (λ o. slice_get c.classes o.class) (object_of c name)
+
+-- whether an object is of the class of a name
+abbrev pub is_of_class : Catalog → List ℕ → ObjectInfo → Bool
+is_of_class c class o = option_map_or (λ number. o.class == number) (number_of_class c class) false
 
 -- the name belongs to another class
 abbrev pub is_elsewhere : Catalog → List ℕ → List ℕ → Bool
-is_elsewhere c class name = option_map_or (λ o. not (bytes_eq class o.class)) (object_of c name) false
+is_elsewhere c class name = option_map_or (λ o. not (is_of_class c class o)) (object_of c name) false
 
 -- the name is new, and its class has had as many names as its capacity
 abbrev pub is_past_capacity : Catalog → List ℕ → List ℕ → Bool
 is_past_capacity c class name =
-    is_none (object_of c name) && option_map_or (λ k. nat_le k.capacity (length (names c class))) (class_of c class) false
+    is_none (object_of c name)
+    && option_map_or (λ k. nat_le k.capacity (length (names_in c (number_of_class c class)))) (class_of c class) false
 
 -- the first fault of a new class beside these
 abbrev pub fault_of_class : List ClassInfo → List ℕ → Bool → List Attribute → Option StoreFault
-fault_of_class classes name point attributes = first_of
-    ((is_some (find (λ k. bytes_eq name k.name) classes) || repeats_attribute (attributes_of point attributes), faults.NameTaken)
-    ∷ (nat_le CLASS_LIMIT (length classes), faults.StoreFull)
+fault_of_class classes name point attributes = first_that_holds
+    ((
+      faults.NameTaken,
+      is_some (find (λ k. bytes_eq name k.name) classes) || repeats_attribute (with_coordinates point attributes),
+    )
+    ∷ (faults.StoreFull, nat_le CLASS_LIMIT (length classes))
     ∷ [])
 
 abbrev pub class_fault : Catalog → List ℕ → Bool → List Attribute → Option StoreFault
@@ -89,12 +94,12 @@ class_fault c name point attributes = fault_of_class c.classes name point attrib
 
 -- the first fault of an insert into a class
 abbrev pub fault_of_insert : Option ClassInfo → (elsewhere present past_capacity : Bool) → Place → List NamedSet → Option StoreFault
-fault_of_insert k elsewhere present past_capacity place sets = first_of
-    ((is_none k || has_unknown (attributes_in k) sets, faults.UnknownName)
-    ∷ (elsewhere || repeats_set place sets, faults.NameTaken)
-    ∷ (is_misplaced k place || has_misfit (attributes_in k) sets, faults.WrongKind)
-    ∷ (present, faults.Presence)
-    ∷ (past_capacity, faults.ClassFull)
+fault_of_insert k elsewhere present past_capacity place sets = first_that_holds
+    ((faults.UnknownName, is_none k || has_unknown (attributes_of_class k) sets)
+    ∷ (faults.NameTaken, elsewhere || repeats_set place sets)
+    ∷ (faults.WrongKind, is_misplaced k place || has_misfit (attributes_of_class k) sets)
+    ∷ (faults.Presence, present)
+    ∷ (faults.ClassFull, past_capacity)
     ∷ [])
 
 abbrev pub insert_fault : Catalog → Bool → List ℕ → List ℕ → Place → List NamedSet → Option StoreFault
@@ -103,18 +108,18 @@ insert_fault c present class name place sets =
 
 -- the first fault of an update of an object of a class
 abbrev pub fault_of_update : Option ClassInfo → (present : Bool) → Place → List NamedSet → Option StoreFault
-fault_of_update k present place sets = first_of
-    ((is_none k || has_unknown (attributes_in k) sets, faults.UnknownName)
-    ∷ (repeats_set place sets, faults.NameTaken)
-    ∷ (is_misplaced k place || has_misfit (attributes_in k) sets, faults.WrongKind)
-    ∷ (not present, faults.Presence)
+fault_of_update k present place sets = first_that_holds
+    ((faults.UnknownName, is_none k || has_unknown (attributes_of_class k) sets)
+    ∷ (faults.NameTaken, repeats_set place sets)
+    ∷ (faults.WrongKind, is_misplaced k place || has_misfit (attributes_of_class k) sets)
+    ∷ (faults.Presence, not present)
     ∷ [])
 
 abbrev pub update_fault : Catalog → Bool → List ℕ → Place → List NamedSet → Option StoreFault
 update_fault c present name place sets = fault_of_update (class_of_object c name) present place sets
 
 abbrev pub remove_fault : Catalog → Bool → List ℕ → Option StoreFault
-remove_fault c present name = first_of
-    ((is_none (object_of c name), faults.UnknownName)
-    ∷ (not present, faults.Presence)
+remove_fault c present name = first_that_holds
+    ((faults.UnknownName, is_none (object_of c name))
+    ∷ (faults.Presence, not present)
     ∷ [])

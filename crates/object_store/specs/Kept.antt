@@ -1,16 +1,15 @@
 -- What the tables of a store keep, over the contents that they are seen as.
-use Rattle.std.specs.Prelude.{◌≡◌, ℕ, ◌<◌, ◌≤◌, ◌^◌, Some, IsSomeAnd, List, length, slice_get}
+use Rattle.std.specs.Prelude.{◌≡◌, ℕ, ◌<◌, Some, IsSomeAnd, List, length, slice_get}
 use Rattle.std.specs.List.{position}
 use Rattle.object_store.specs.declared.objects.Done.{Done}
 use Rattle.object_store.specs.Contents.{Contents, is_named, ids_in}
 use Rattle.object_store.specs.Sound.{IsSound, AreMembers}
 use Rattle.object_store.specs.Undoing.{Undoes}
 
--- The contents are sound, and the ids of each class are those of its objects and fit 32 bits.
+-- The contents are sound, and the ids of each class are those of its objects.
 pub record IsKept (ids : List (List ℕ)) (s : Contents) : Type 0 where
   pub sound : IsSound s
   pub members : AreMembers ids s
-  pub fits : length s.objects < 2 ^ 32
 
 -- the class of a number is there, and has had fewer names than its capacity
 abbrev pub HasRoom : Contents → ℕ → Type 0

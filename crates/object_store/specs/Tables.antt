@@ -10,13 +10,13 @@ abbrev pub contents_of : Tables → Contents
 contents_of t = record { classes = t.schema; objects = objects_of t.objects.entries; last_tick = t.last_tick }
 
 -- the ids of each class
-abbrev pub ids_of : Tables → List (List ℕ)
-ids_of t = t.members.items
+abbrev pub members_of : Tables → List (List ℕ)
+members_of t = t.members.items
 
 -- nothing that can be seen has changed
 pub record IsUnchanged (old new : Tables) : Type 0 where
   pub contents : contents_of new ≡ contents_of old
-  pub ids : ids_of new ≡ ids_of old
+  pub ids : members_of new ≡ members_of old
 
 -- A call is accepted where it has no fault, and else refused by the fault, or for want of memory where there is none.
 abbrev pub IsJudged : {T : Type 0} → Option StoreFault → Result T StoreFault → Type 0

@@ -17,7 +17,7 @@ undone undo s = record s {
 abbrev pub IsLeft : Bool → Undo → List StoredObject → Type 0
 IsLeft true undo objects = undo.id + 1 ≡ length objects
 IsLeft false undo objects =
-    (o : StoredObject) × (slice_get objects undo.id ≡ Some o) × StandsAsLeft o.periods undo.replaced
+    (o : StoredObject) × (slice_get objects undo.id ≡ Some o) × StandsAsLeft o.epochs undo.replaced
 
 -- The store stands as the call left it: what the call wrote is the last write to its object, and can be taken back.
 pub record IsRevertible (undo : Undo) (s : Contents) : Type 0 where

@@ -1,13 +1,13 @@
 //! What a command writes to the cells of an object.
 ghost use Rattle.std.specs.Prelude.{◌≡◌, ◌<◌, ◌≤◌, ◌++◌, ◌∷◌, [], codes, length, IfOk, OnOk};
 ghost use Rattle.std.specs.Option.{option_map_or};
-ghost use Rattle.motion.specs.Cells.{AreWritten, IsGiven, IsWritten, changed, place_sets, set_at};
+ghost use Rattle.motion.specs.Cells.{AreCellsAt, AreChanges, changed, place_sets};
 ghost use Rattle.tick_set.specs.declared.spans.TheConstants.{LAST_TICK};
-ghost use Rattle.object_store.specs.Changes.{changes_of, fresh_cells, AreChanges, AreGiven};
+ghost use Rattle.object_store.specs.Changes.{changes_of, fresh_cells};
 
 use crate::class::Class;
 use crate::names::{x_name, y_name};
-use motion::{Cell, Given, NamedSet, Place};
+use motion::{Cell, Given, NamedSet, Place, write_cells};
 use std::alloc::{AllocError, Global};
 use tick_set::LAST_TICK;
 
@@ -85,32 +85,17 @@ pub fn inserted(
     requires tick { now ≤ LAST_TICK }
     requires given { AreChanges changes.now }
     ensures cells { IfOk result (λ v. v.items ≡ changed now changes.now (fresh_cells now class.now.attributes)) }
-    ensures written { IfOk result (λ v. AreWritten v.items now) }
+    ensures written { IfOk result (λ v. AreCellsAt v.items now) }
 {
     let mut cells = fresh(alloc, now, class)?;
-    write(&mut cells, now, changes);
+    write_cells(&mut cells, now, changes);
     Ok(cells)
-}
-
-/// Writes at tick `now` to these cells, in the order of the changes.
-fn write(cells: &mut [Cell], now: u32, changes: &[(usize, Given)])
-    requires tick { now ≤ LAST_TICK }
-    requires after { AreWritten cells.old now }
-    requires given { AreChanges changes.now }
-    ensures cells { cells.new ≡ changed now changes.now cells.old }
-    ensures written { AreWritten cells.new now }
-{
-    let mut rest = changes;
-    while let Some((change, later)) = rest.split_first() {
-        set(cells, now, change.0, &change.1);
-        rest = later;
-    }
 }
 
 fn fresh(alloc: Global, now: u32, class: &Class) -> Result<Vec<Cell>, AllocError>
     requires { now ≤ LAST_TICK }
     ensures cells { IfOk result (λ v. v.items ≡ fresh_cells now class.now.attributes) }
-    ensures written { IfOk result (λ v. AreWritten v.items now) }
+    ensures written { IfOk result (λ v. AreCellsAt v.items now) }
 {
     let attrs = class.attrs();
     let mut cells = Vec::with_capacity(alloc, attrs.len())?;
@@ -118,17 +103,4 @@ fn fresh(alloc: Global, now: u32, class: &Class) -> Result<Vec<Cell>, AllocError
         cells.push(Cell::fresh(attr.kind, now))?;
     }
     Ok(cells)
-}
-
-/// Writes at tick `now` to the cell at a place; a place past the cells leaves all.
-fn set(cells: &mut [Cell], now: u32, place: usize, given: &Given)
-    requires tick { now ≤ LAST_TICK }
-    requires after { AreWritten cells.old now }
-    requires given { IsGiven given.now }
-    ensures cells { cells.new ≡ set_at now cells.old place given.now }
-    ensures written { AreWritten cells.new now }
-{
-    if place < cells.len() {
-        cells[place] = cells[place].written(now, given);
-    }
 }

@@ -3,22 +3,16 @@ ghost use Rattle.std.specs.Prelude.{◌≡◌, ◌+◌, ◌<◌, ◌≤◌, fals
 ghost use Rattle.std.specs.List.{list_any, position};
 ghost use Rattle.std.specs.Option.{option_copied};
 ghost use Rattle.std.specs.Str.{bytes_eq};
-ghost use Rattle.history.specs.Catalog.{attributes_of, position as positions};
+ghost use Rattle.history.specs.Catalog.{with_coordinates, coordinates};
 ghost use Rattle.object_store.specs.Faults.{attribute_named, repeats_attribute};
 ghost use Rattle.object_store.specs.Sound.{IsClass};
 ghost use Rattle.motion.specs.declared.cell.AttrKind.TheVariants.{Dyn};
 
 use crate::names::{x_name, y_name};
 use fixed_point::Word;
-use motion::AttrKind;
+use motion::{ATTRIBUTE_LIMIT, AttrKind, CAPACITY_LIMIT};
 use std::alloc::{AllocError, Global};
 use std::marker::Model;
-
-/// The largest capacity of a class.
-pub const CAPACITY_LIMIT: u32 = 100_000;
-
-/// The most attributes that are written of a class. A point class has two more, `x` and `y`.
-pub const ATTRIBUTE_LIMIT: usize = 16;
 
 /// An attribute of a class.
 #[derive(Clone, Copy, Debug)]
@@ -71,9 +65,9 @@ impl Class {
         requires some { 0 < capacity }
         requires limit { capacity ≤ CAPACITY_LIMIT }
         requires few { length attrs.now ≤ ATTRIBUTE_LIMIT }
-        requires differ { repeats_attribute (attributes_of point attrs.now) ≡ false }
+        requires differ { repeats_attribute (with_coordinates point attrs.now) ≡ false }
         ensures { IfOk result (λ k.
-            k ≡ record { name = name; capacity = capacity; point = point; attributes = attributes_of point attrs.now }) }
+            k ≡ record { name = name; capacity = capacity; point = point; attributes = with_coordinates point attrs.now }) }
     {
         let attrs = all_attributes(alloc, point, attrs)?;
         Ok(Class {
@@ -106,7 +100,7 @@ impl Class {
     #[inline]
     pub fn is_point(&self) -> bool
         ensures value { result ≡ self.now.point }
-        ensures positions { IsTrue result → take 2 self.now.attributes ≡ positions }
+        ensures positions { IsTrue result → take 2 self.now.attributes ≡ coordinates }
     {
         self.point
     }
@@ -138,7 +132,7 @@ impl Class {
 /// These attributes, behind `x` and `y` in a point class.
 fn all_attributes(alloc: Global, point: bool, attrs: &[AttrDef]) -> Result<Vec<AttrDef>, AllocError>
     requires { length attrs.now ≤ ATTRIBUTE_LIMIT }
-    ensures { IfOk result (λ v. v.items ≡ attributes_of point attrs.now) }
+    ensures { IfOk result (λ v. v.items ≡ with_coordinates point attrs.now) }
 {
     let mut all = Vec::with_capacity(alloc, attrs.len() + 2)?;
     if point {
@@ -161,7 +155,7 @@ fn position_attr(name: Word) -> AttrDef
 
 /// Whether a class may not have these written attributes, since a name stands twice.
 pub fn repeats_attribute(point: bool, attrs: &[AttrDef]) -> bool
-    ensures { result ≡ repeats_attribute (attributes_of point attrs.now) }
+    ensures { result ≡ repeats_attribute (with_coordinates point attrs.now) }
 {
     if point && names_attribute(attrs, &x_name()) {
         return true;

@@ -9,6 +9,7 @@ mod cells;
 mod class;
 mod fault;
 mod judge;
+mod laws;
 mod members;
 mod names;
 mod objects;
@@ -16,8 +17,9 @@ mod schema;
 mod store;
 mod tables;
 
-pub use class::{ATTRIBUTE_LIMIT, AttrDef, CAPACITY_LIMIT, Class};
+pub use class::{AttrDef, Class};
 pub use fault::StoreFault;
+pub use laws::limits_in_numbers;
 pub use objects::{Done, ObjectId, Undo};
 pub use schema::{CLASS_LIMIT, ClassId, Schema};
 pub use store::Store;

@@ -1,12 +1,11 @@
 //! The objects of a store and their timelines.
-ghost use Rattle.std.specs.Prelude.{◌≡◌, ◌+◌, ◌<◌, ◌≤◌, ◌-◌, ◌^◌, ◌==◌, ◌++◌, ◌∷◌, [], not, true, false, Some, None, All, is_some, length, take, slice_get, vec_len, IfSome, IfOk, OnOk, OnErr};
+ghost use Rattle.std.specs.Prelude.{◌≡◌, ◌<◌, ◌≤◌, ◌-◌, ◌^◌, ◌==◌, ◌++◌, ◌∷◌, [], not, true, false, Some, None, All, is_some, length, take, slice_get, vec_len, IfSome, IfOk, OnOk, OnErr};
 ghost use Rattle.std.specs.List.{find, position};
 ghost use Rattle.std.specs.Option.{option_map};
 ghost use Rattle.indexmap.specs.IndexMap.{index_map_len};
-ghost use Rattle.motion.specs.Cells.{AreWritten, changed};
+ghost use Rattle.motion.specs.Cells.{AreCellsAt, AreChanges, changed};
 ghost use Rattle.motion.specs.Timeline.{state_at, AreBegunBy, StandsAsLeft};
 ghost use Rattle.tick_set.specs.declared.spans.TheConstants.{LAST_TICK};
-ghost use Rattle.object_store.specs.Changes.{AreChanges};
 ghost use Rattle.object_store.specs.Contents.{StoredObject, is_named, is_present_at};
 ghost use Rattle.object_store.specs.Stored.{objects_of};
 ghost use Rattle.object_store.specs.Ids.{with_member, without_member};
@@ -55,7 +54,7 @@ pub struct Done {
 }
 
 impl Object {
-    /// Whether it has cells at tick `now`, before which it was last written.
+    /// Whether it has cells at tick `now`, by which it was last written.
     pub fn is_present(&self, now: u32) -> bool
         requires { AreBegunBy self.now.timeline now }
         ensures { result ≡ is_some (state_at self.now.timeline now) }
@@ -76,8 +75,8 @@ pub fn begin_at(
 ) -> Result<Option<Epoch>, AllocError>
     requires place { place < index_map_len objects.old }
     requires tick { now ≤ LAST_TICK }
-    requires after { All (λ o. AreBegunBy o.periods now) (objects_of objects.old.entries) }
-    requires written { AreWritten cells.items now }
+    requires after { All (λ o. AreBegunBy o.epochs now) (objects_of objects.old.entries) }
+    requires written { AreCellsAt cells.items now }
     ensures ok { IfOk result (λ replaced. IsPutAt place (λ _. record { from = now; cells = Some cells.items }) replaced (objects_of objects.old.entries) (objects_of objects.new.entries)) }
     ensures err { OnErr result (objects_of objects.new.entries ≡ objects_of objects.old.entries) }
 {
@@ -94,9 +93,9 @@ pub fn write_at(
 ) -> Result<Option<Epoch>, AllocError>
     requires place { place < index_map_len objects.old }
     requires tick { now ≤ LAST_TICK }
-    requires after { All (λ o. AreBegunBy o.periods now) (objects_of objects.old.entries) }
+    requires after { All (λ o. AreBegunBy o.epochs now) (objects_of objects.old.entries) }
     requires given { AreChanges changes.now }
-    ensures ok { IfOk result (λ replaced. IsPutAt place (λ periods. record { from = now; cells = option_map (changed now changes.now) (state_at periods now) }) replaced (objects_of objects.old.entries) (objects_of objects.new.entries)) }
+    ensures ok { IfOk result (λ replaced. IsPutAt place (λ epochs. record { from = now; cells = option_map (changed now changes.now) (state_at epochs now) }) replaced (objects_of objects.old.entries) (objects_of objects.new.entries)) }
     ensures err { OnErr result (objects_of objects.new.entries ≡ objects_of objects.old.entries) }
 {
     let object = &mut objects[place];
@@ -107,7 +106,7 @@ pub fn write_at(
 pub fn vanish_at(objects: &mut Objects, place: usize, now: u32) -> Result<Option<Epoch>, AllocError>
     requires place { place < index_map_len objects.old }
     requires tick { now ≤ LAST_TICK }
-    requires after { All (λ o. AreBegunBy o.periods now) (objects_of objects.old.entries) }
+    requires after { All (λ o. AreBegunBy o.epochs now) (objects_of objects.old.entries) }
     ensures ok { IfOk result (λ replaced. IsPutAt place (λ _. record { from = now; cells = None }) replaced (objects_of objects.old.entries) (objects_of objects.new.entries)) }
     ensures err { OnErr result (objects_of objects.new.entries ≡ objects_of objects.old.entries) }
 {
@@ -119,7 +118,7 @@ pub fn vanish_at(objects: &mut Objects, place: usize, now: u32) -> Result<Option
 /// It takes no memory.
 pub fn take_back_at(objects: &mut Objects, place: usize, replaced: Option<Epoch>)
     requires place { place < index_map_len objects.old }
-    requires left { (o : StoredObject) → slice_get (objects_of objects.old.entries) place ≡ Some o → StandsAsLeft o.periods replaced }
+    requires left { (o : StoredObject) → slice_get (objects_of objects.old.entries) place ≡ Some o → StandsAsLeft o.epochs replaced }
     ensures { objects_of objects.new.entries ≡ restored_at place replaced (objects_of objects.old.entries) }
 {
     let object = &mut objects[place];
@@ -137,7 +136,7 @@ pub fn place_of(objects: &Objects, name: &Word) -> Option<usize>
 /// The object at a place, as an insert into the class `number` finds it.
 pub fn found_at(objects: &Objects, place: usize, number: u32, now: u32) -> Found
     requires place { place < index_map_len objects.now }
-    requires begun { All (λ o. AreBegunBy o.periods now) (objects_of objects.now.entries) }
+    requires begun { All (λ o. AreBegunBy o.epochs now) (objects_of objects.now.entries) }
     ensures { IfSome (slice_get (objects_of objects.now.entries) place) (λ o.
         result ≡ record { elsewhere = not (o.class == number); present = is_present_at now o; past_capacity = false }) }
 {
@@ -159,20 +158,15 @@ pub fn enter(
 ) -> Result<u32, AllocError>
     requires number { number < vec_len members.old }
     requires new { find (is_named name.now) (objects_of objects.old.entries) ≡ None }
+    requires few { length (objects_of objects.old.entries) < 2 ^ 32 }
     ensures id { IfOk result (λ id. id ≡ length (objects_of objects.old.entries)) }
-    ensures fits { IfOk result (λ id. id + 1 < 2 ^ 32) }
     ensures objects { OnOk result (objects_of objects.new.entries ≡ objects_of objects.old.entries
-        ++ record { name = name.now; class = number; periods = timeline } ∷ []) }
+        ++ record { name = name.now; class = number; epochs = timeline } ∷ []) }
     ensures members { IfOk result (λ id. members.new.items ≡ with_member members.old.items number id) }
     ensures err_objects { OnErr result (objects_of objects.new.entries ≡ objects_of objects.old.entries) }
     ensures err_members { OnErr result (members.new.items ≡ members.old.items) }
 {
-    // No capacities allow as many objects as 32 bits count.
-    let count = objects.len();
-    if count >= u32::MAX as usize {
-        return Err(AllocError);
-    }
-    let id = count as u32;
+    let id = objects.len() as u32;
     objects.reserve(1)?;
     let own = &mut members[number as usize];
     own.push(id)?;

@@ -1,27 +1,29 @@
 //! The store.
-ghost use Rattle.std.specs.Prelude.{◌≡◌, ◌+◌, ◌<◌, ◌≤◌, Some, None, false, is_some, length, map, unwrap_or, slice_get, IfOk, IfErr, OnOk, OnErr};
+ghost use Rattle.std.specs.Prelude.{◌≡◌, ◌+◌, ◌<◌, ◌≤◌, ℕ, Some, None, false, is_some, length, map, unwrap_or, slice_get, IfOk, IfErr, OnOk, OnErr};
 ghost use Rattle.std.specs.List.{position};
 ghost use Rattle.std.specs.Option.{option_copied, option_map, option_map_or};
+ghost use Rattle.motion.specs.Timeline.{state_at};
 ghost use Rattle.tick_set.specs.declared.spans.TheConstants.{LAST_TICK};
-ghost use Rattle.history.specs.Catalog.{ClassInfo, names};
+ghost use Rattle.history.specs.Catalog.{ids_of, names};
+ghost use Rattle.history.specs.History.{cells_at, ChangesFrom};
 ghost use Rattle.history.specs.Write.{Class as ClassWrite, Insert, Update, Remove};
 ghost use Rattle.object_store.specs.declared.fault.StoreFault.TheVariants.{NoMemory};
 ghost use Rattle.object_store.specs.Changes.{AreGiven};
-ghost use Rattle.object_store.specs.Contents.{catalog_of, is_named, is_present_at, ids_in, nothing, object_name, state_of};
+ghost use Rattle.object_store.specs.Contents.{catalog_of, is_named, empty_contents, history_of, is_present_at, ids_in, object_name, state_of};
 ghost use Rattle.object_store.specs.Effects.{with_class, after_insert, after_update, after_remove};
 ghost use Rattle.object_store.specs.Faults.{class_fault, insert_fault, update_fault, remove_fault};
 ghost use Rattle.object_store.specs.Sound.{IsSound};
 ghost use Rattle.object_store.specs.Standing.{GrowsBy};
 ghost use Rattle.object_store.specs.Undoing.{undone, without_last_class, HasSpareClass, IsRevertible, Undoes};
 
-use crate::class::{ATTRIBUTE_LIMIT, AttrDef, CAPACITY_LIMIT};
+use crate::class::AttrDef;
 use crate::fault::StoreFault;
 use crate::objects::{Done, ObjectId, Undo, place_of};
 use crate::schema::{ClassId, Schema};
 use crate::tables::Tables;
 use fixed_point::Word;
 use indexmap::IndexMap;
-use motion::{NamedSet, Place, Timeline};
+use motion::{ATTRIBUTE_LIMIT, CAPACITY_LIMIT, NamedSet, Place, Timeline};
 use std::alloc::Global;
 use std::marker::Model;
 use std::sync::ledger::Ledger;
@@ -29,7 +31,7 @@ use steps::Steps;
 use tick_set::LAST_TICK;
 
 /// Classes, names and timelines. A contract sees the classes in the order of making, the objects in
-/// the order of first insertion, each with the periods of its timeline, and the tick of the last write.
+/// the order of first insertion, each with the epochs of its timeline, and the tick of the last write.
 #[derive(Drop)]
 pub struct Store {
     tables: Tables,
@@ -41,17 +43,17 @@ impl Model for Store {
     ghost Value = { Contents };
 
     ghost use Rattle.object_store.specs.Kept.{IsKept};
-    ghost use Rattle.object_store.specs.Tables.{contents_of, ids_of};
+    ghost use Rattle.object_store.specs.Tables.{contents_of, members_of};
 
     ghost view = { λ a. contents_of a.tables };
 
-    ghost invariant = { λ a. IsKept (ids_of a.tables) (contents_of a.tables) };
+    ghost invariant = { λ a. IsKept (members_of a.tables) (contents_of a.tables) };
 }
 
 impl Store {
     /// A store without classes. It takes no memory.
     pub fn new(alloc: Global) -> Store
-        ensures { result ≡ nothing }
+        ensures { result ≡ empty_contents }
     {
         Store {
             tables: Tables {
@@ -128,6 +130,7 @@ impl Store {
         ensures id { IfOk result (λ done. position (is_named name.now) self.new.objects ≡ Some done.id) }
         ensures last { OnOk result (self.new.last_tick ≡ now) }
         ensures stands { OnOk result (GrowsBy self.old self.new (Insert now class.now name.now place.now sets.now)) }
+        ensures changes { IfOk result (λ done. ChangesFrom done.id now (history_of self.old) (history_of self.new)) }
         ensures undo { IfOk result (λ done. Undoes done.undo self.old self.new) }
 
         ensures accepted { OnOk result
@@ -155,6 +158,7 @@ impl Store {
         ensures id { IfOk result (λ done. position (is_named name.now) self.new.objects ≡ Some done.id) }
         ensures last { OnOk result (self.new.last_tick ≡ now) }
         ensures stands { OnOk result (GrowsBy self.old self.new (Update now name.now place.now sets.now)) }
+        ensures changes { IfOk result (λ done. ChangesFrom done.id now (history_of self.old) (history_of self.new)) }
         ensures undo { IfOk result (λ done. Undoes done.undo self.old self.new) }
 
         ensures accepted { OnOk result
@@ -176,6 +180,7 @@ impl Store {
         ensures id { IfOk result (λ done. position (is_named name.now) self.new.objects ≡ Some done.id) }
         ensures last { OnOk result (self.new.last_tick ≡ now) }
         ensures stands { OnOk result (GrowsBy self.old self.new (Remove now name.now)) }
+        ensures changes { IfOk result (λ done. ChangesFrom done.id now (history_of self.old) (history_of self.new)) }
         ensures undo { IfOk result (λ done. Undoes done.undo self.old self.new) }
 
         ensures accepted { OnOk result (remove_fault (catalog_of self.old) (is_some (state_of self.old name.now now)) name.now ≡ None) }
@@ -224,11 +229,12 @@ impl Store {
         }
     }
 
-    /// The ids of all objects ever inserted into a class, by first insertion.
+    /// The ids of all objects ever inserted into a class, by first insertion; empty where there is no such
+    /// class.
     pub fn class_names(&self, c: ClassId) -> &[ObjectId]
         ensures ids { result.now ≡ ids_in self.now.objects c }
-        ensures names { (k : ClassInfo) → slice_get self.now.classes c ≡ Some k
-            → map (object_name self.now.objects) result.now ≡ names (catalog_of self.now) k.name }
+        ensures told { result.now ≡ ids_of (catalog_of self.now) c }
+        ensures names { map (object_name self.now.objects) result.now ≡ names (catalog_of self.now) c }
     {
         match self.tables.members.get(c as usize) {
             Some(members) => members.ids(),
@@ -236,9 +242,10 @@ impl Store {
         }
     }
 
-    /// Whether an object is present after the last write.
+    /// Whether an object is present after the last write, and so from then on.
     pub fn present(&self, id: ObjectId) -> bool
-        ensures { result ≡ option_map_or (is_present_at self.now.last_tick) (slice_get self.now.objects id) false }
+        ensures value { result ≡ option_map_or (is_present_at self.now.last_tick) (slice_get self.now.objects id) false }
+        ensures later { (t : ℕ) → self.now.last_tick ≤ t → result ≡ is_some (cells_at (history_of self.now) id t) }
     {
         match self.tables.objects.get_index(id as usize) {
             Some((_, object)) => object.is_present(self.tables.last_tick),
@@ -265,7 +272,9 @@ impl Store {
     /// object's attributes were, are and will be.
     pub fn timeline<L: Ledger>(&self, id: ObjectId, reads: &mut Steps<L>) -> &Timeline
         requires { id < length self.now.objects }
-        ensures timeline { option_map (λ o. o.periods) (slice_get self.now.objects id) ≡ Some result.now }
+        ensures timeline { option_map (λ o. o.epochs) (slice_get self.now.objects id) ≡ Some result.now }
+        ensures state { (t : ℕ) → cells_at (history_of self.now) id t ≡ state_at result.now t }
+        ensures sound { IsSound self.now }
         ensures step { reads.new ≡ reads.old + 1 }
     {
         reads.step();

@@ -2,19 +2,19 @@
 ghost use Rattle.std.specs.Prelude.{◌≡◌, ◌<◌, ◌≤◌, Some, None, false, true, is_some, nat_le, length, slice_get, IfSome, IfOk, OnOk, OnErr};
 ghost use Rattle.std.specs.List.{find, position};
 ghost use Rattle.std.specs.Str.{bytes_eq};
-ghost use Rattle.motion.specs.Cells.{AreWritten};
+ghost use Rattle.motion.specs.Cells.{AreCellsAt};
 ghost use Rattle.tick_set.specs.declared.spans.TheConstants.{LAST_TICK};
 ghost use Rattle.object_store.specs.Changes.{AreGiven};
-ghost use Rattle.object_store.specs.Contents.{attributes_at, catalog_of, is_named, state_of};
-ghost use Rattle.object_store.specs.Effects.{with_class, with_object, with_period_of, after_insert, after_update, after_remove};
+ghost use Rattle.object_store.specs.Contents.{attributes_of_number, catalog_of, is_named, state_of};
+ghost use Rattle.object_store.specs.Effects.{with_class, with_object, with_epoch_of, after_insert, after_update, after_remove};
 ghost use Rattle.object_store.specs.Faults.{class_fault, fault_of_class, insert_fault, update_fault, remove_fault};
 ghost use Rattle.object_store.specs.Kept.{HasRoom, IsKept, Writes};
 ghost use Rattle.object_store.specs.Sound.{AreCellsOf};
-ghost use Rattle.object_store.specs.Tables.{contents_of, ids_of, IsJudged, IsUnchanged};
+ghost use Rattle.object_store.specs.Tables.{contents_of, members_of, IsJudged, IsUnchanged};
 ghost use Rattle.object_store.specs.Undoing.{undone, without_last_class, HasSpareClass, IsRevertible};
 
 use crate::cells::{Changes, fill, inserted};
-use crate::class::{ATTRIBUTE_LIMIT, AttrDef, CAPACITY_LIMIT, Class, repeats_attribute};
+use crate::class::{AttrDef, Class, repeats_attribute};
 use crate::fault::StoreFault;
 use crate::judge::{Found, insert_fault, update_fault};
 use crate::members::Members;
@@ -24,7 +24,7 @@ use crate::objects::{
 };
 use crate::schema::{CLASS_LIMIT, ClassId, Schema};
 use fixed_point::Word;
-use motion::{Cell, NamedSet, Place, Timeline};
+use motion::{ATTRIBUTE_LIMIT, CAPACITY_LIMIT, Cell, NamedSet, Place, Timeline};
 use std::alloc::{AllocError, Global};
 use tick_set::LAST_TICK;
 
@@ -50,12 +50,12 @@ impl Tables {
         point: bool,
         attrs: &[AttrDef],
     ) -> Result<ClassId, StoreFault>
-        requires kept { IsKept (ids_of self.old) (contents_of self.old) }
+        requires kept { IsKept (members_of self.old) (contents_of self.old) }
         requires some { 0 < capacity }
         requires limit { capacity ≤ CAPACITY_LIMIT }
         requires few { length attrs.now ≤ ATTRIBUTE_LIMIT }
         ensures ok { OnOk result (contents_of self.new ≡ with_class (contents_of self.old) name capacity point attrs.now) }
-        ensures kept { OnOk result (IsKept (ids_of self.new) (contents_of self.new)) }
+        ensures kept { OnOk result (IsKept (members_of self.new) (contents_of self.new)) }
         ensures number { IfOk result (λ number. number ≡ length (contents_of self.old).classes) }
         ensures judged { IsJudged (class_fault (catalog_of (contents_of self.old)) name point attrs.now) result }
         ensures err { OnErr result (IsUnchanged self.old self.new) }
@@ -75,13 +75,13 @@ impl Tables {
         point: bool,
         attrs: &[AttrDef],
     ) -> Result<ClassId, AllocError>
-        requires kept { IsKept (ids_of self.old) (contents_of self.old) }
+        requires kept { IsKept (members_of self.old) (contents_of self.old) }
         requires some { 0 < capacity }
         requires limit { capacity ≤ CAPACITY_LIMIT }
         requires few { length attrs.now ≤ ATTRIBUTE_LIMIT }
         requires accepted { fault_of_class self.old.schema name point attrs.now ≡ None }
         ensures ok { OnOk result (contents_of self.new ≡ with_class (contents_of self.old) name capacity point attrs.now) }
-        ensures kept { OnOk result (IsKept (ids_of self.new) (contents_of self.new)) }
+        ensures kept { OnOk result (IsKept (members_of self.new) (contents_of self.new)) }
         ensures number { IfOk result (λ number. number ≡ length (contents_of self.old).classes) }
         ensures err { OnErr result (IsUnchanged self.old self.new) }
     {
@@ -94,11 +94,11 @@ impl Tables {
 
     /// Takes the last class away, which has no object.
     pub fn remove_last_class(&mut self)
-        requires kept { IsKept (ids_of self.old) (contents_of self.old) }
+        requires kept { IsKept (members_of self.old) (contents_of self.old) }
         requires some { 0 < length (contents_of self.old).classes }
         requires spare { HasSpareClass (contents_of self.old) }
         ensures contents { contents_of self.new ≡ without_last_class (contents_of self.old) }
-        ensures kept { IsKept (ids_of self.new) (contents_of self.new) }
+        ensures kept { IsKept (members_of self.new) (contents_of self.new) }
     {
         self.schema.remove_last();
         self.members.pop();
@@ -113,12 +113,12 @@ impl Tables {
         place: &Place,
         sets: &[NamedSet],
     ) -> Result<Done, StoreFault>
-        requires kept { IsKept (ids_of self.old) (contents_of self.old) }
+        requires kept { IsKept (members_of self.old) (contents_of self.old) }
         requires tick { now ≤ LAST_TICK }
         requires after { self.old.last_tick ≤ now }
         requires given { AreGiven place.now sets.now }
         ensures ok { IfOk result (Writes name.now (contents_of self.old)
-            (after_insert (contents_of self.old) now class.now name.now place.now sets.now) (ids_of self.new) (contents_of self.new)) }
+            (after_insert (contents_of self.old) now class.now name.now place.now sets.now) (members_of self.new) (contents_of self.new)) }
         ensures judged { IsJudged (insert_fault (catalog_of (contents_of self.old))
             (is_some (state_of (contents_of self.old) name.now now)) class.now name.now place.now sets.now) result }
         ensures err { OnErr result (IsUnchanged self.old self.new) }
@@ -145,7 +145,7 @@ impl Tables {
         place: &Place,
         sets: &[NamedSet],
     ) -> Option<StoreFault>
-        requires kept { IsKept (ids_of self.now) (contents_of self.now) }
+        requires kept { IsKept (members_of self.now) (contents_of self.now) }
         requires after { self.now.last_tick ≤ now }
         requires class { position (λ k. bytes_eq class.now k.name) self.now.schema ≡ Some number }
         requires name { at ≡ position (is_named name.now) (contents_of self.now).objects }
@@ -176,7 +176,7 @@ impl Tables {
         place: &Place,
         sets: &[NamedSet],
     ) -> Result<Done, AllocError>
-        requires kept { IsKept (ids_of self.old) (contents_of self.old) }
+        requires kept { IsKept (members_of self.old) (contents_of self.old) }
         requires tick { now ≤ LAST_TICK }
         requires after { self.old.last_tick ≤ now }
         requires given { AreGiven place.now sets.now }
@@ -185,7 +185,7 @@ impl Tables {
         requires accepted { insert_fault (catalog_of (contents_of self.old))
             (is_some (state_of (contents_of self.old) name.now now)) class.now name.now place.now sets.now ≡ None }
         ensures ok { IfOk result (Writes name.now (contents_of self.old)
-            (after_insert (contents_of self.old) now class.now name.now place.now sets.now) (ids_of self.new) (contents_of self.new)) }
+            (after_insert (contents_of self.old) now class.now name.now place.now sets.now) (members_of self.new) (contents_of self.new)) }
         ensures err { OnErr result (IsUnchanged self.old self.new) }
     {
         let kind = self.schema.class(number).unwrap();
@@ -206,15 +206,15 @@ impl Tables {
         at: usize,
         cells: Vec<Cell>,
     ) -> Result<Done, AllocError>
-        requires kept { IsKept (ids_of self.old) (contents_of self.old) }
+        requires kept { IsKept (members_of self.old) (contents_of self.old) }
         requires tick { now ≤ LAST_TICK }
         requires after { self.old.last_tick ≤ now }
-        requires written { AreWritten cells.items now }
-        requires fits { AreCellsOf (attributes_at self.old.schema number) cells.items }
+        requires written { AreCellsAt cells.items now }
+        requires fits { AreCellsOf (attributes_of_number self.old.schema number) cells.items }
         requires name { position (is_named name.now) (contents_of self.old).objects ≡ Some at }
         requires class { IfSome (slice_get (contents_of self.old).objects at) (λ o. o.class ≡ number) }
         ensures ok { IfOk result (Writes name.now (contents_of self.old)
-            (with_period_of (contents_of self.old) name.now (record { from = now; cells = Some cells.items })) (ids_of self.new) (contents_of self.new)) }
+            (with_epoch_of (contents_of self.old) name.now (record { from = now; cells = Some cells.items })) (members_of self.new) (contents_of self.new)) }
         ensures err { OnErr result (IsUnchanged self.old self.new) }
     {
         let replaced = begin_at(&mut self.objects, at, now, cells)?;
@@ -231,15 +231,15 @@ impl Tables {
         name: &Word,
         cells: Vec<Cell>,
     ) -> Result<Done, AllocError>
-        requires kept { IsKept (ids_of self.old) (contents_of self.old) }
+        requires kept { IsKept (members_of self.old) (contents_of self.old) }
         requires tick { now ≤ LAST_TICK }
         requires after { self.old.last_tick ≤ now }
-        requires written { AreWritten cells.items now }
-        requires fits { AreCellsOf (attributes_at self.old.schema number) cells.items }
+        requires written { AreCellsAt cells.items now }
+        requires fits { AreCellsOf (attributes_of_number self.old.schema number) cells.items }
         requires name { find (is_named name.now) (contents_of self.old).objects ≡ None }
         requires room { HasRoom (contents_of self.old) number }
         ensures ok { IfOk result (Writes name.now (contents_of self.old)
-            (with_object (contents_of self.old) number name.now (record { from = now; cells = Some cells.items })) (ids_of self.new) (contents_of self.new)) }
+            (with_object (contents_of self.old) number name.now (record { from = now; cells = Some cells.items })) (members_of self.new) (contents_of self.new)) }
         ensures err { OnErr result (IsUnchanged self.old self.new) }
     {
         let mut timeline = Timeline::new(self.alloc);
@@ -258,12 +258,12 @@ impl Tables {
         place: &Place,
         sets: &[NamedSet],
     ) -> Result<Done, StoreFault>
-        requires kept { IsKept (ids_of self.old) (contents_of self.old) }
+        requires kept { IsKept (members_of self.old) (contents_of self.old) }
         requires tick { now ≤ LAST_TICK }
         requires after { self.old.last_tick ≤ now }
         requires given { AreGiven place.now sets.now }
         ensures ok { IfOk result (Writes name.now (contents_of self.old)
-            (after_update (contents_of self.old) now name.now place.now sets.now) (ids_of self.new) (contents_of self.new)) }
+            (after_update (contents_of self.old) now name.now place.now sets.now) (members_of self.new) (contents_of self.new)) }
         ensures judged { IsJudged (update_fault (catalog_of (contents_of self.old))
             (is_some (state_of (contents_of self.old) name.now now)) name.now place.now sets.now) result }
         ensures err { OnErr result (IsUnchanged self.old self.new) }
@@ -287,7 +287,7 @@ impl Tables {
         place: &Place,
         sets: &[NamedSet],
     ) -> Option<StoreFault>
-        requires kept { IsKept (ids_of self.now) (contents_of self.now) }
+        requires kept { IsKept (members_of self.now) (contents_of self.now) }
         requires after { self.now.last_tick ≤ now }
         requires name { position (is_named name.now) (contents_of self.now).objects ≡ Some at }
         ensures { result ≡ update_fault (catalog_of (contents_of self.now))
@@ -307,13 +307,13 @@ impl Tables {
         place: &Place,
         sets: &[NamedSet],
     ) -> Result<Done, AllocError>
-        requires kept { IsKept (ids_of self.old) (contents_of self.old) }
+        requires kept { IsKept (members_of self.old) (contents_of self.old) }
         requires tick { now ≤ LAST_TICK }
         requires after { self.old.last_tick ≤ now }
         requires given { AreGiven place.now sets.now }
         requires name { position (is_named name.now) (contents_of self.old).objects ≡ Some at }
         ensures ok { IfOk result (Writes name.now (contents_of self.old)
-            (after_update (contents_of self.old) now name.now place.now sets.now) (ids_of self.new) (contents_of self.new)) }
+            (after_update (contents_of self.old) now name.now place.now sets.now) (members_of self.new) (contents_of self.new)) }
         ensures err { OnErr result (IsUnchanged self.old self.new) }
     {
         let kind = self.schema.class(self.objects[at].class).unwrap();
@@ -326,11 +326,11 @@ impl Tables {
 
     /// Removes an object.
     pub fn remove(&mut self, now: u32, name: &Word) -> Result<Done, StoreFault>
-        requires kept { IsKept (ids_of self.old) (contents_of self.old) }
+        requires kept { IsKept (members_of self.old) (contents_of self.old) }
         requires tick { now ≤ LAST_TICK }
         requires after { self.old.last_tick ≤ now }
         ensures ok { IfOk result (Writes name.now (contents_of self.old)
-            (after_remove (contents_of self.old) now name.now) (ids_of self.new) (contents_of self.new)) }
+            (after_remove (contents_of self.old) now name.now) (members_of self.new) (contents_of self.new)) }
         ensures judged { IsJudged (remove_fault (catalog_of (contents_of self.old)) (is_some (state_of (contents_of self.old) name.now now)) name.now) result }
         ensures err { OnErr result (IsUnchanged self.old self.new) }
     {
@@ -346,7 +346,7 @@ impl Tables {
 
     /// The first fault of a removal of the object at a place.
     fn judge_remove(&self, now: u32, name: &Word, at: usize) -> Option<StoreFault>
-        requires kept { IsKept (ids_of self.now) (contents_of self.now) }
+        requires kept { IsKept (members_of self.now) (contents_of self.now) }
         requires after { self.now.last_tick ≤ now }
         requires name { position (is_named name.now) (contents_of self.now).objects ≡ Some at }
         ensures { result ≡ remove_fault (catalog_of (contents_of self.now)) (is_some (state_of (contents_of self.now) name.now now)) name.now }
@@ -360,12 +360,12 @@ impl Tables {
 
     /// Removes the object at a place.
     fn write_remove(&mut self, now: u32, name: &Word, at: usize) -> Result<Done, AllocError>
-        requires kept { IsKept (ids_of self.old) (contents_of self.old) }
+        requires kept { IsKept (members_of self.old) (contents_of self.old) }
         requires tick { now ≤ LAST_TICK }
         requires after { self.old.last_tick ≤ now }
         requires name { position (is_named name.now) (contents_of self.old).objects ≡ Some at }
         ensures ok { IfOk result (Writes name.now (contents_of self.old)
-            (after_remove (contents_of self.old) now name.now) (ids_of self.new) (contents_of self.new)) }
+            (after_remove (contents_of self.old) now name.now) (members_of self.new) (contents_of self.new)) }
         ensures err { OnErr result (IsUnchanged self.old self.new) }
     {
         let replaced = vanish_at(&mut self.objects, at, now)?;
@@ -376,10 +376,10 @@ impl Tables {
 
     /// Takes a write to an object back.
     pub fn revert(&mut self, undo: Undo)
-        requires kept { IsKept (ids_of self.old) (contents_of self.old) }
+        requires kept { IsKept (members_of self.old) (contents_of self.old) }
         requires revertible { IsRevertible undo (contents_of self.old) }
         ensures contents { contents_of self.new ≡ undone undo (contents_of self.old) }
-        ensures kept { IsKept (ids_of self.new) (contents_of self.new) }
+        ensures kept { IsKept (members_of self.new) (contents_of self.new) }
     {
         if undo.is_new {
             self.revert_new(undo);
@@ -390,11 +390,11 @@ impl Tables {
 
     /// Takes a name that was new away.
     fn revert_new(&mut self, undo: Undo)
-        requires kept { IsKept (ids_of self.old) (contents_of self.old) }
+        requires kept { IsKept (members_of self.old) (contents_of self.old) }
         requires revertible { IsRevertible undo (contents_of self.old) }
         requires new { undo.is_new ≡ true }
         ensures contents { contents_of self.new ≡ undone undo (contents_of self.old) }
-        ensures kept { IsKept (ids_of self.new) (contents_of self.new) }
+        ensures kept { IsKept (members_of self.new) (contents_of self.new) }
     {
         leave(&mut self.members, &mut self.objects);
         self.last_tick = undo.last_tick;
@@ -402,11 +402,11 @@ impl Tables {
 
     /// Puts the timeline of an object back.
     fn revert_known(&mut self, undo: Undo)
-        requires kept { IsKept (ids_of self.old) (contents_of self.old) }
+        requires kept { IsKept (members_of self.old) (contents_of self.old) }
         requires revertible { IsRevertible undo (contents_of self.old) }
         requires known { undo.is_new ≡ false }
         ensures contents { contents_of self.new ≡ undone undo (contents_of self.old) }
-        ensures kept { IsKept (ids_of self.new) (contents_of self.new) }
+        ensures kept { IsKept (members_of self.new) (contents_of self.new) }
     {
         let Undo {
             id,

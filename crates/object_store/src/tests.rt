@@ -1,11 +1,13 @@
 ghost use Rattle.std.specs.Prelude.{◌≡◌, ◌<◌, ◌≤◌, All, IfOk, IfSome, unsigned_abs};
-ghost use Rattle.motion.specs.declared.vector.TheConstants.{GIVEN_LIMIT};
+ghost use Rattle.fixed_point.specs.declared.number.TheConstants.{READ_LIMIT};
 ghost use Rattle.motion.specs.Cells.{IsGiven};
 ghost use Rattle.object_store.specs.Undoing.{HasSpareClass, IsRevertible};
 
 use super::*;
 use fixed_point::{Fix, Point, Slope, Word};
-use motion::{AttrKind, Cell, Epoch, Given, Legs, NamedSet, Place};
+use motion::{
+    ATTRIBUTE_LIMIT, AttrKind, CAPACITY_LIMIT, Cell, Epoch, Given, Legs, NamedSet, Place,
+};
 use std::alloc::Global;
 use std::marker::Brand;
 use std::process::Abort;
@@ -20,7 +22,7 @@ fn word(text: &[u8]) -> Result<Word, Fail> {
 
 // A number of thousandths, as a command may give it.
 fn fix(thousandths: i32) -> Result<Fix, Fail>
-    ensures { IfOk result (λ f. unsigned_abs f ≤ GIVEN_LIMIT) }
+    ensures { IfOk result (λ f. unsigned_abs f ≤ READ_LIMIT) }
 {
     Ok(Fix::of(i64::from(thousandths)).ok_or("a number past its range")?)
 }
@@ -91,7 +93,7 @@ fn settings(alloc: Global, rows: &Rows) -> Result<Vec<NamedSet>, Fail>
 }
 
 fn point(at: Option<(i32, i32)>) -> Result<Option<Point>, Fail>
-    ensures { IfOk result (λ at. IfSome at (λ p. (unsigned_abs p.x ≤ GIVEN_LIMIT) × (unsigned_abs p.y ≤ GIVEN_LIMIT))) }
+    ensures { IfOk result (λ at. IfSome at (λ p. (unsigned_abs p.x ≤ READ_LIMIT) × (unsigned_abs p.y ≤ READ_LIMIT))) }
 {
     match at {
         Some((x, y)) => {
@@ -111,7 +113,7 @@ fn rates(moving: Option<(i32, i32)>) -> Result<Option<(Legs, Legs)>, Fail> {
 }
 
 fn place(rows: &Rows) -> Result<Place, Fail>
-    ensures { IfOk result (λ place. IfSome place.at (λ p. (unsigned_abs p.x ≤ GIVEN_LIMIT) × (unsigned_abs p.y ≤ GIVEN_LIMIT))) }
+    ensures { IfOk result (λ place. IfSome place.at (λ p. (unsigned_abs p.x ≤ READ_LIMIT) × (unsigned_abs p.y ≤ READ_LIMIT))) }
 {
     let at = point(rows.at)?;
     let moving = rates(rows.moving)?;
@@ -228,6 +230,7 @@ fn cell_seen(rt: &impl Abort, epoch: &Epoch, place: usize, t: u32) -> Seen {
 
 fn seen_by<L: Ledger>(
     rt: &impl Abort,
+    host: &HostRuntime,
     blank: Blank,
     store: &Store,
     name: &Word,
@@ -238,7 +241,7 @@ fn seen_by<L: Ledger>(
     requires parts { blank.parts ≡ L.parts }
     requires some_part { 0 < blank.parts }
 {
-    let mut reads: Steps<L> = Steps::new(blank);
+    let mut reads: Steps<L> = Steps::new(host, blank);
     let Some(id) = store.id_of(name) else {
         return Seen::Unknown;
     };
@@ -249,13 +252,21 @@ fn seen_by<L: Ledger>(
     }
 }
 
-fn seen_at(rt: &impl Abort, store: &Store, name: &Word, place: usize, t: u32) -> Seen {
-    seen_by::<Brand>(rt, Blank::new(1), store, name, place, t)
+fn seen_at(
+    rt: &impl Abort,
+    host: &HostRuntime,
+    store: &Store,
+    name: &Word,
+    place: usize,
+    t: u32,
+) -> Seen {
+    seen_by::<Brand>(rt, host, Blank::new(1), store, name, place, t)
 }
 
 // What an object has of an attribute at each of these ticks.
 fn sees(
     rt: &impl Abort,
+    host: &HostRuntime,
     store: &Store,
     name: &[u8],
     place: usize,
@@ -263,7 +274,7 @@ fn sees(
 ) -> Result<(), Fail> {
     let name = word(name)?;
     for (t, seen) in rows {
-        let found = seen_at(rt, store, &name, place, *t);
+        let found = seen_at(rt, host, store, &name, place, *t);
         assert_eq!(rt; found, *seen, "at {t}");
     }
     Ok(())
@@ -281,14 +292,14 @@ fn revert(store: &mut Store, written: Result<Done, StoreFault>) -> Result<u32, F
 // A write to the first object is accepted, gives it this fuel at the write's tick, and is taken back.
 fn takes_back(
     rt: &impl Abort,
-    alloc: Global,
+    host: &HostRuntime,
     store: &mut Store,
     write: &Write,
     fuel: Seen,
 ) -> Result<(), Fail> {
     let name = word(write.name)?;
-    let written = written(rt, alloc, store, write)?;
-    let seen = seen_at(rt, store, &name, 2, write.now);
+    let written = written(rt, host.alloc(), store, write)?;
+    let seen = seen_at(rt, host, store, &name, 2, write.now);
     let present = store.present(0);
     let id = revert(store, written)?;
     assert_eq!(rt; id, 0);
@@ -336,45 +347,6 @@ fn tanks_and_cars(rt: &impl Abort, alloc: Global) -> Result<Store, Fail> {
     Ok(store)
 }
 
-// A class of capacity 1.
-#[derive(Clone, Copy)]
-struct Made<'a> {
-    name: &'a [u8],
-    point: bool,
-    attrs: &'a [(&'a [u8], AttrKind)],
-}
-
-fn plain<'a>(name: &'a [u8], attrs: &'a [(&'a [u8], AttrKind)]) -> Made<'a> {
-    Made {
-        name,
-        point: false,
-        attrs,
-    }
-}
-
-fn of_points<'a>(name: &'a [u8], attrs: &'a [(&'a [u8], AttrKind)]) -> Made<'a> {
-    Made {
-        name,
-        point: true,
-        attrs,
-    }
-}
-
-// Each class that is made answers its number, or the fault.
-fn make(
-    rt: &impl Abort,
-    alloc: Global,
-    store: &mut Store,
-    rows: &[(Made, Result<ClassId, StoreFault>)],
-) -> Result<(), Fail> {
-    for (at, (made, answer)) in rows.iter().enumerate() {
-        let attrs = attrs(alloc, made.attrs)?;
-        let number = add_class(rt, store, made.name, 1, made.point, &attrs)?;
-        assert_eq!(rt; number, *answer, "class {at}");
-    }
-    Ok(())
-}
-
 // A store with a point class of as many attributes as a class may have.
 fn wide_class(rt: &impl Abort, alloc: Global) -> Result<Store, Fail> {
     let mut store = Store::new(alloc);
@@ -416,61 +388,6 @@ fn classes_have_their_limits(rt: HostRuntime) -> Result<(), Fail> {
 }
 
 #[test]
-fn classes_are_refused_by_their_names(rt: HostRuntime) -> Result<(), Fail> {
-    let alloc = rt.alloc();
-    let mut store = Store::new(alloc);
-    let taken = Err(StoreFault::NameTaken);
-    let twice = [(b"a".as_slice(), AttrKind::Num), (b"a", AttrKind::Text)];
-    let rows = [
-        (of_points(b"wide", &[]), Ok(0)),
-        (plain(b"wide", &[]), taken),
-        (of_points(b"c", &[(b"x", AttrKind::Num)]), taken),
-        (plain(b"c", &[(b"x", AttrKind::Num)]), Ok(1)),
-        (plain(b"d", &twice), taken),
-    ];
-    make(&rt, alloc, &mut store, &rows)
-}
-
-// Makes classes of no attributes until there are 64.
-fn fill(rt: &impl Abort, store: &mut Store) -> Result<(), Fail> {
-    for n in 2..64u8 {
-        let number = add_class(rt, store, &[b'n', n], 1, false, &[])?;
-        assert_eq!(rt; number, Ok(u32::from(n)));
-    }
-    Ok(())
-}
-
-// Makes the first two classes of a store that is filled.
-fn make_two(rt: &impl Abort, alloc: Global, store: &mut Store) -> Result<(), Fail> {
-    let rows = [
-        (of_points(b"wide", &[]), Ok(0)),
-        (plain(b"c", &[(b"x", AttrKind::Num)]), Ok(1)),
-    ];
-    make(rt, alloc, store, &rows)
-}
-
-#[test]
-fn a_store_takes_64_classes(rt: HostRuntime) -> Result<(), Fail> {
-    let alloc = rt.alloc();
-    let mut store = Store::new(alloc);
-    make_two(&rt, alloc, &mut store)?;
-    fill(&rt, &mut store)?;
-    let taken = Err(StoreFault::NameTaken);
-    let twice = [(b"a".as_slice(), AttrKind::Num), (b"a", AttrKind::Text)];
-    let past = [
-        (plain(b"more", &[]), Err(StoreFault::StoreFull)),
-        (plain(b"wide", &[]), taken),
-        (plain(b"more", &twice), taken),
-    ];
-    make(&rt, alloc, &mut store, &past)?;
-    assert_eq!(rt; store.schema().count(), 64);
-    assert_eq!(rt; store.schema().class_of(&word(b"c")?), Some(1));
-    assert_eq!(rt; store.schema().class_of(&word(b"more")?), None);
-    assert!(rt; store.schema().class(64).is_none());
-    Ok(())
-}
-
-#[test]
 fn a_store_keeps_each_state(rt: HostRuntime) -> Result<(), Fail> {
     let alloc = rt.alloc();
     let mut store = tanks_and_cars(&rt, alloc)?;
@@ -495,11 +412,11 @@ fn a_store_keeps_each_state(rt: HostRuntime) -> Result<(), Fail> {
     let again = [(insert(8, b"tank", b"a", nothing()), Ok(0))];
     answer(&rt, alloc, &mut store, &again)?;
     assert_eq!(rt; store.present(0), true);
-    has_each_state(&rt, &store)
+    has_each_state(&rt, &rt, &store)
 }
 
 // The states of the tank `a` that `a_store_keeps_each_state` makes.
-fn has_each_state(rt: &impl Abort, store: &Store) -> Result<(), Fail> {
+fn has_each_state(rt: &impl Abort, host: &HostRuntime, store: &Store) -> Result<(), Fail> {
     let size = [
         (0, Seen::Number(7000)),
         (3, Seen::Number(7000)),
@@ -509,7 +426,7 @@ fn has_each_state(rt: &impl Abort, store: &Store) -> Result<(), Fail> {
         (8, Seen::Number(0)),
         (900, Seen::Number(0)),
     ];
-    sees(rt, store, b"a", 0, &size)?;
+    sees(rt, host, store, b"a", 0, &size)?;
     let plate = [
         (0, Seen::Text(2)),
         (3, Seen::Text(2)),
@@ -519,7 +436,7 @@ fn has_each_state(rt: &impl Abort, store: &Store) -> Result<(), Fail> {
         (8, Seen::Text(0)),
         (900, Seen::Text(0)),
     ];
-    sees(rt, store, b"a", 1, &plate)?;
+    sees(rt, host, store, b"a", 1, &plate)?;
     let fuel = [
         (0, Seen::Number(10_000)),
         (3, Seen::Number(8500)),
@@ -529,8 +446,8 @@ fn has_each_state(rt: &impl Abort, store: &Store) -> Result<(), Fail> {
         (8, Seen::Number(0)),
         (900, Seen::Number(0)),
     ];
-    sees(rt, store, b"a", 2, &fuel)?;
-    sees(rt, store, b"b", 0, &[(0, Seen::Unknown)])
+    sees(rt, host, store, b"a", 2, &fuel)?;
+    sees(rt, host, store, b"b", 0, &[(0, Seen::Unknown)])
 }
 
 #[test]
@@ -561,7 +478,7 @@ fn positions_are_placed_and_moved(rt: HostRuntime) -> Result<(), Fail> {
         (8, Seen::Number(100)),
         (10, Seen::Number(-1900)),
     ];
-    sees(&rt, &store, b"c", 0, &x)?;
+    sees(&rt, &rt, &store, b"c", 0, &x)?;
     let y = [
         (1, Seen::Unborn),
         (3, Seen::Number(-1000)),
@@ -570,8 +487,8 @@ fn positions_are_placed_and_moved(rt: HostRuntime) -> Result<(), Fail> {
         (8, Seen::Number(0)),
         (10, Seen::Number(0)),
     ];
-    sees(&rt, &store, b"c", 1, &y)?;
-    sees(&rt, &store, b"c", 2, &[(10, Seen::Number(500))])
+    sees(&rt, &rt, &store, b"c", 1, &y)?;
+    sees(&rt, &rt, &store, b"c", 2, &[(10, Seen::Number(500))])
 }
 
 // A store in which the class `tank` is full.
@@ -586,133 +503,23 @@ fn full_tanks(rt: &impl Abort, alloc: Global) -> Result<Store, Fail> {
     Ok(store)
 }
 
-// In these tables each row has the fault that is named and one of a later kind.
-
+// Each fault once, in the order in which they are looked for.
 #[test]
-fn an_insert_needs_its_class_and_attributes(rt: HostRuntime) -> Result<(), Fail> {
+fn an_insert_has_its_first_fault(rt: HostRuntime) -> Result<(), Fail> {
     let twice = sets(&[(b"fuel", Value::Text(b"A")), (b"fuel", Value::Num(1))]);
-    let beside = Rows {
-        at: Some((0, 0)),
-        moving: None,
-        sets: &[(b"x", Value::Num(1))],
-    };
-    let none = Rows {
-        at: Some((0, 0)),
-        moving: None,
-        sets: &[(b"fuel", Value::Num(1)), (b"z", Value::Num(1))],
-    };
-    let unknown = Err(StoreFault::UnknownName);
-    let rows = [
-        (insert(1, b"bus", b"a", twice), unknown),
-        (insert(1, b"tank", b"a", beside), unknown),
-        (insert(1, b"tank", b"a", none), unknown),
-    ];
-    let mut store = full_tanks(&rt, rt.alloc())?;
-    answer(&rt, rt.alloc(), &mut store, &rows)
-}
-
-#[test]
-fn an_insert_names_nothing_twice(rt: HostRuntime) -> Result<(), Fail> {
-    let twice = sets(&[(b"fuel", Value::Text(b"A")), (b"fuel", Value::Num(1))]);
-    let beside = Rows {
-        at: Some((0, 0)),
-        moving: None,
-        sets: &[(b"x", Value::Num(1))],
-    };
-    let taken = Err(StoreFault::NameTaken);
-    let rows = [
-        (insert(1, b"tank", b"a", twice), taken),
-        (insert(1, b"car", b"d", beside), taken),
-        (insert(1, b"car", b"a", nothing()), taken),
-    ];
-    let mut store = full_tanks(&rt, rt.alloc())?;
-    answer(&rt, rt.alloc(), &mut store, &rows)
-}
-
-#[test]
-fn an_insert_fits_its_kinds(rt: HostRuntime) -> Result<(), Fail> {
     let misfit = sets(&[(b"fuel", Value::Text(b"A"))]);
-    let placed = moved(Some((0, 0)), None);
-    let wrong = Err(StoreFault::WrongKind);
+    let full = Err(StoreFault::ClassFull);
     let rows = [
-        (insert(1, b"tank", b"a", misfit), wrong),
-        (insert(1, b"tank", b"d", placed), wrong),
-    ];
-    let mut store = full_tanks(&rt, rt.alloc())?;
-    answer(&rt, rt.alloc(), &mut store, &rows)
-}
-
-#[test]
-fn an_insert_needs_room_for_a_new_name(rt: HostRuntime) -> Result<(), Fail> {
-    // a name that was there isn't a new one
-    let rows = [
+        (insert(1, b"bus", b"a", twice), Err(StoreFault::UnknownName)),
+        (insert(1, b"tank", b"a", twice), Err(StoreFault::NameTaken)),
+        (insert(1, b"tank", b"a", misfit), Err(StoreFault::WrongKind)),
         (
             insert(1, b"tank", b"a", nothing()),
             Err(StoreFault::Presence),
         ),
-        (
-            insert(1, b"tank", b"d", nothing()),
-            Err(StoreFault::ClassFull),
-        ),
-        (remove(1, b"a"), Ok(0)),
-        (insert(1, b"tank", b"a", nothing()), Ok(0)),
+        (insert(1, b"tank", b"d", nothing()), full),
     ];
     let mut store = full_tanks(&rt, rt.alloc())?;
-    answer(&rt, rt.alloc(), &mut store, &rows)?;
-    assert_eq!(rt; store.object_count(), 3);
-    Ok(())
-}
-
-// A store with the tank `a`, which was removed.
-fn removed_tank(rt: &impl Abort, alloc: Global) -> Result<Store, Fail> {
-    let mut store = tanks_and_cars(rt, alloc)?;
-    let rows = [
-        (insert(1, b"tank", b"a", nothing()), Ok(0)),
-        (remove(1, b"a"), Ok(0)),
-    ];
-    answer(rt, alloc, &mut store, &rows)?;
-    Ok(store)
-}
-
-#[test]
-fn an_update_needs_its_object_and_attributes(rt: HostRuntime) -> Result<(), Fail> {
-    let twice = sets(&[(b"size", Value::Rate(1)), (b"size", Value::Num(1))]);
-    let beside = Rows {
-        at: None,
-        moving: Some((0, 0)),
-        sets: &[(b"size", Value::Rate(1)), (b"x", Value::Num(1))],
-    };
-    let rows = [
-        (update(2, b"b", twice), Err(StoreFault::UnknownName)),
-        (update(2, b"a", beside), Err(StoreFault::UnknownName)),
-        (update(2, b"a", twice), Err(StoreFault::NameTaken)),
-    ];
-    let mut store = removed_tank(&rt, rt.alloc())?;
-    answer(&rt, rt.alloc(), &mut store, &rows)
-}
-
-#[test]
-fn an_update_fits_its_kinds(rt: HostRuntime) -> Result<(), Fail> {
-    let rate = sets(&[(b"size", Value::Both(1, 1))]);
-    let number = sets(&[(b"plate", Value::Num(1))]);
-    let wrong = Err(StoreFault::WrongKind);
-    let rows = [
-        (update(2, b"a", rate), wrong),
-        (update(2, b"a", number), wrong),
-        (update(2, b"a", moved(None, Some((0, 0)))), wrong),
-    ];
-    let mut store = removed_tank(&rt, rt.alloc())?;
-    answer(&rt, rt.alloc(), &mut store, &rows)
-}
-
-#[test]
-fn what_is_absent_is_not_written(rt: HostRuntime) -> Result<(), Fail> {
-    let rows = [
-        (update(2, b"a", nothing()), Err(StoreFault::Presence)),
-        (remove(2, b"b"), Err(StoreFault::UnknownName)),
-        (remove(2, b"a"), Err(StoreFault::Presence)),
-    ];
-    let mut store = removed_tank(&rt, rt.alloc())?;
     answer(&rt, rt.alloc(), &mut store, &rows)
 }
 
@@ -759,23 +566,13 @@ fn names_and_ids_belong_together(rt: HostRuntime) -> Result<(), Fail> {
     Ok(())
 }
 
-#[test]
-fn past_the_last_id_is_no_object(rt: HostRuntime) -> Result<(), Fail> {
-    let store = four_objects(&rt, rt.alloc())?;
-    assert_eq!(rt; store.id_of(&word(b"b")?), None);
-    assert!(rt; store.name_of(4).is_none());
-    assert_eq!(rt; store.class_of(4), None);
-    assert_eq!(rt; store.present(4), false);
-    Ok(())
-}
-
 // A new name goes, and its place is free for another.
 #[test]
 fn a_new_name_is_taken_back(rt: HostRuntime) -> Result<(), Fail> {
     let alloc = rt.alloc();
     let mut store = tanks_and_cars(&rt, alloc)?;
     let new = insert(2, b"tank", b"z", nothing());
-    takes_back(&rt, alloc, &mut store, &new, Seen::Number(0))?;
+    takes_back(&rt, &rt, &mut store, &new, Seen::Number(0))?;
     assert_eq!(rt; store.object_count(), 0);
     assert_eq!(rt; store.id_of(&word(b"z")?), None);
     assert_eq!(rt; store.class_names(0).len(), 0);
@@ -784,6 +581,7 @@ fn a_new_name_is_taken_back(rt: HostRuntime) -> Result<(), Fail> {
     let other = [(insert(2, b"tank", b"a", full), Ok(0))];
     answer(&rt, alloc, &mut store, &other)?;
     sees(
+        &rt,
         &rt,
         &store,
         b"a",
@@ -812,30 +610,12 @@ fn updates_are_taken_back(rt: HostRuntime) -> Result<(), Fail> {
     let mut store = fuelled_tank(&rt, alloc)?;
     let filled = sets(&[(b"fuel", Value::Num(50_000))]);
     let later = update(4, b"a", filled);
-    takes_back(&rt, alloc, &mut store, &later, Seen::Number(50_000))?;
+    takes_back(&rt, &rt, &mut store, &later, Seen::Number(50_000))?;
     assert_eq!(rt; store.last_tick(), 2);
-    sees(&rt, &store, b"a", 2, &[(6, Seen::Number(8000))])?;
+    sees(&rt, &rt, &store, b"a", 2, &[(6, Seen::Number(8000))])?;
     let same = update(2, b"a", filled);
-    takes_back(&rt, alloc, &mut store, &same, Seen::Number(50_000))?;
-    sees(&rt, &store, b"a", 2, &[(2, Seen::Number(10_000))])
-}
-
-// A removal, and an insert of a name that was removed.
-#[test]
-fn removals_are_taken_back(rt: HostRuntime) -> Result<(), Fail> {
-    let alloc = rt.alloc();
-    let mut store = fuelled_tank(&rt, alloc)?;
-    let gone = remove(5, b"a");
-    takes_back(&rt, alloc, &mut store, &gone, Seen::Absent)?;
-    assert_eq!(rt; store.present(0), true);
-    answer(&rt, alloc, &mut store, &[(gone, Ok(0))])?;
-    let back = insert(7, b"tank", b"a", nothing());
-    takes_back(&rt, alloc, &mut store, &back, Seen::Number(0))?;
-    assert_eq!(rt; store.present(0), false);
-    let fuel = [(7, Seen::Absent), (4, Seen::Number(9000))];
-    sees(&rt, &store, b"a", 2, &fuel)?;
-    assert_eq!(rt; store.class_names(0), [0].as_slice());
-    Ok(())
+    takes_back(&rt, &rt, &mut store, &same, Seen::Number(50_000))?;
+    sees(&rt, &rt, &store, b"a", 2, &[(2, Seen::Number(10_000))])
 }
 
 // Adds a class of no attributes and takes it back.

@@ -4,4 +4,4 @@ use Rattle.motion.proofs.pieces.next_begin.Goals as goal
 
 pub returns-in-Some-clause-reached : goal.returns-in-Some-clause-reached
 returns-in-Some-clause-reached c =
-    begin_reached c.args.epochs.now c.args.place c.args.last c.min.result c.in-Some.next.now (grind arith) (grind arith) (grind arith)
+    begin_reached c.args.epochs.now c.args.index c.args.last c.min.result c.in-Some.next.now (grind arith) (grind arith) (grind arith)

@@ -1,5 +1,5 @@
 use Rattle.std.proofs.Common.{refl, arith, subst}
-use Rattle.motion.specs.Cells.{AreWritten}
+use Rattle.motion.specs.Cells.{AreCellsAt}
 use Rattle.motion.proofs.PieceLemmas.{cutting, piece_is, steady_is, begun_at}
 use Rattle.motion.proofs.pieces.piece_from.Goals as goal
 
@@ -16,7 +16,7 @@ returns-clause-steady c =
     c.requires.rising c.requires.some c.requires.begun c.index-epochs-count.is c.cells.ensures.value c.next_begin.ensures.before c.next_begin.ensures.reached
     c.first_turn-first.ensures c.next_begin.ensures.within in
     steady_is c.args.epochs.now c.index-epochs-count.result c.args.count c.args.at c.args.last c.next_begin.result c.first_turn-first.result cut _
-    (subst (λ cells. AreWritten cells c.index-epochs-count.result.from) c.cells.ensures.value c.cells.ensures.written) refl (omega arith) refl
+    (subst (λ cells. AreCellsAt cells c.index-epochs-count.result.from) c.cells.ensures.value c.cells.ensures.written) refl (omega arith) refl
 
 pub returns-clause-begun : goal.returns-clause-begun
 returns-clause-begun c =

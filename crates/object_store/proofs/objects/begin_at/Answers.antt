@@ -1,5 +1,5 @@
 use Rattle.std.proofs.Common.{Some, None}
-use Rattle.motion.specs.Timeline.{Period, state_at}
+use Rattle.motion.specs.Timeline.{Epoch, state_at}
 use Rattle.motion.specs.Cells.{changed}
 use Rattle.std.specs.Option.{option_map}
 use Rattle.object_store.proofs.EntryLemmas.{value_begun, put_ok, put_err}
@@ -10,7 +10,7 @@ begin_with-requires-clause-after c = value_begun c.args.objects.now.entries c.ar
 
 pub returns-clause-ok : goal.returns-clause-ok
 returns-clause-ok c =
-    put_ok c.begin_with.result c.args.place (λ _. let p : Period = record { from = c.args.now; cells = Some c.args.cells.items } in p) c.args.objects.now.entries c.index_mut-object.result.now c.begin_with.new.self
+    put_ok c.begin_with.result c.args.place (λ _. let p : Epoch = record { from = c.args.now; cells = Some c.args.cells.items } in p) c.args.objects.now.entries c.index_mut-object.result.now c.begin_with.new.self
     c.index_mut-object.ensures.value c.begin_with.ensures.ok c.begin_with.ensures.replaced
 
 pub returns-clause-err : goal.returns-clause-err

@@ -12,4 +12,4 @@ returns-clause-objects c =
     entered_last c.reserve.new.self c.args.name.now v c.insert.new.self.entries
     (ap (λ es. find (is_named c.args.name.now) (objects_of es)) c.reserve.ensures.entries ∙ c.requires.new)
     (on_ok c.insert.result c.unwrap.result _ c.unwrap.ensures c.insert.ensures.entries)
-    ∙ ap (λ es. objects_of es ++ record { name = c.args.name.now; class = c.args.number; periods = c.args.timeline } ∷ []) c.reserve.ensures.entries
+    ∙ ap (λ es. objects_of es ++ record { name = c.args.name.now; class = c.args.number; epochs = c.args.timeline } ∷ []) c.reserve.ensures.entries

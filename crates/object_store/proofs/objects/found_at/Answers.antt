@@ -14,6 +14,6 @@ pub returns : goal.returns
 returns c =
     let at = value_there c.args.objects.now.entries c.args.place c.index-object.result.now c.index-object.ensures in
     let elsewhere : not (c.index-object.result.now.class == c.args.number) ≡ not (at.object.class == c.args.number) = ap (λ n. not (n == c.args.number)) (sym at.class) in
-    let present : c.is_present.result ≡ is_present_at c.args.now at.object = c.is_present.ensures ∙ ap (λ periods. is_some (state_at periods c.args.now)) (sym at.periods) in
+    let present : c.is_present.result ≡ is_present_at c.args.now at.object = c.is_present.ensures ∙ ap (λ epochs. is_some (state_at epochs c.args.now)) (sym at.epochs) in
     if_there (objects_of c.args.objects.now.entries) c.args.place at.object _ at.there
     (λ i. record { elsewhere = elsewhere i; present = present i; past_capacity = false })

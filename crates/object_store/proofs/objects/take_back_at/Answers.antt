@@ -6,9 +6,9 @@ use Rattle.object_store.proofs.objects.take_back_at.Goals as goal
 pub take_back-requires : goal.take_back-requires
 take_back-requires c =
     let at = value_there c.args.objects.now.entries c.args.place c.index_mut-object.result.now c.index_mut-object.ensures.value in
-    subst (λ periods. StandsAsLeft periods c.args.replaced) at.periods (c.requires.left at.object at.there)
+    subst (λ epochs. StandsAsLeft epochs c.args.replaced) at.epochs (c.requires.left at.object at.there)
 
 pub returns : goal.returns
 returns c =
     set_at_place c.args.objects.now.entries c.args.place c.index_mut-object.result.now c.take_back.new.self
-    (λ periods. restored periods c.args.replaced) c.index_mut-object.ensures.value c.take_back.ensures
+    (λ epochs. restored epochs c.args.replaced) c.index_mut-object.ensures.value c.take_back.ensures

@@ -1,5 +1,5 @@
 use Rattle.std.proofs.Common.{Some, None}
-use Rattle.motion.specs.Timeline.{Period, state_at}
+use Rattle.motion.specs.Timeline.{Epoch, state_at}
 use Rattle.motion.specs.Cells.{changed}
 use Rattle.std.specs.Option.{option_map}
 use Rattle.object_store.proofs.EntryLemmas.{value_begun, put_ok, put_err}
@@ -10,7 +10,7 @@ vanish-requires-clause-after c = value_begun c.args.objects.now.entries c.args.p
 
 pub returns-clause-ok : goal.returns-clause-ok
 returns-clause-ok c =
-    put_ok c.vanish.result c.args.place (λ _. let p : Period = record { from = c.args.now; cells = None } in p) c.args.objects.now.entries c.index_mut-object.result.now c.vanish.new.self
+    put_ok c.vanish.result c.args.place (λ _. let p : Epoch = record { from = c.args.now; cells = None } in p) c.args.objects.now.entries c.index_mut-object.result.now c.vanish.new.self
     c.index_mut-object.ensures.value c.vanish.ensures.ok c.vanish.ensures.replaced
 
 pub returns-clause-err : goal.returns-clause-err

@@ -1,14 +1,16 @@
-use Rattle.std.proofs.Common.{◌≡◌, ◌≤◌, Some, None, false, map, List, refl, ap, sym, subst, ◌∙◌, arith}
+use Rattle.std.proofs.Common.{◌≡◌, ◌≤◌, ℕ, Some, None, false, map, List, refl, ap, sym, subst, ◌∙◌, arith}
 use Rattle.std.specs.Prelude.{is_some, slice_get, option_map}
 use Rattle.std.specs.Option.{option_map_or}
 use Rattle.std.specs.Map.{values_of}
 use Rattle.std.proofs.lemmas.Option.{slice_get-map}
 use Rattle.motion.specs.Timeline.{state_at}
 use Rattle.object_store.specs.declared.objects.Object.{Object}
-use Rattle.object_store.specs.Contents.{StoredObject, Contents, is_present_at}
+use Rattle.history.specs.History.{cells_at}
+use Rattle.object_store.specs.Contents.{StoredObject, Contents, history_of, is_present_at}
 use Rattle.object_store.specs.Stored.{stored}
 use Rattle.object_store.specs.Tables.{contents_of}
 use Rattle.object_store.proofs.EntryLemmas.{value_there, value_begun, value_of_entry}
+use Rattle.object_store.proofs.NumberLemmas.{present_later}
 use Rattle.object_store.proofs.store.Store.present.Goals as goal
 
 pub is_present-requires : goal.is_present-requires
@@ -16,16 +18,36 @@ is_present-requires c =
     value_begun c.self.inside.tables.objects.entries c.args.id c.in-Some.object.now c.self.inside.tables.last_tick
     (value_of_entry c.self.inside.tables.objects.entries c.args.id _ (sym c.in-Some.ensures.entry)) c.self.invariant.sound.objects.begun
 
-pub returns-in-Some : goal.returns-in-Some
-returns-in-Some c =
+pub returns-in-Some-clause-value : goal.returns-in-Some-clause-value
+returns-in-Some-clause-value c =
     let at = value_there c.self.inside.tables.objects.entries c.args.id c.in-Some.object.now (value_of_entry c.self.inside.tables.objects.entries c.args.id _ (sym c.in-Some.ensures.entry)) in
     subst (λ (s : Contents). c.is_present.result ≡ option_map_or (is_present_at s.last_tick) (slice_get s.objects c.args.id) false) c.self.view_is
     (c.is_present.ensures
-    ∙ ap (λ periods. is_some (state_at periods c.self.inside.tables.last_tick)) (sym at.periods)
+    ∙ ap (λ epochs. is_some (state_at epochs c.self.inside.tables.last_tick)) (sym at.epochs)
     ∙ ap (λ r. option_map_or (is_present_at c.self.inside.tables.last_tick) r false) (sym at.there))
 
-pub returns-in-None : goal.returns-in-None
-returns-in-None c =
+pub returns-in-Some-clause-later : goal.returns-in-Some-clause-later
+returns-in-Some-clause-later c =
+    let s : Contents = contents_of c.self.inside.tables in
+    let at = value_there c.self.inside.tables.objects.entries c.args.id c.in-Some.object.now (value_of_entry c.self.inside.tables.objects.entries c.args.id _ (sym c.in-Some.ensures.entry)) in
+    subst (λ (s : Contents). (t : ℕ) → s.last_tick ≤ t → c.is_present.result ≡ is_some (cells_at (history_of s) c.args.id t)) c.self.view_is
+    (λ t later.
+    c.is_present.ensures
+    ∙ ap (λ epochs. is_some (state_at epochs s.last_tick)) (sym at.epochs)
+    ∙ ap (λ r. option_map_or (is_present_at s.last_tick) r false) (sym at.there)
+    ∙ present_later s c.args.id c.self.invariant.sound t later)
+
+pub returns-in-None-clause-value : goal.returns-in-None-clause-value
+returns-in-None-clause-value c =
     subst (λ (s : Contents). false ≡ option_map_or (is_present_at s.last_tick) (slice_get s.objects c.args.id) false) c.self.view_is
     (ap (λ r. option_map_or (is_present_at c.self.inside.tables.last_tick) r false)
     (sym (slice_get-map stored c.self.inside.tables.objects.entries c.args.id ∙ ap (option_map stored) (sym c.in-None.ensures.entry))))
+
+pub returns-in-None-clause-later : goal.returns-in-None-clause-later
+returns-in-None-clause-later c =
+    let s : Contents = contents_of c.self.inside.tables in
+    subst (λ (s : Contents). (t : ℕ) → s.last_tick ≤ t → false ≡ is_some (cells_at (history_of s) c.args.id t)) c.self.view_is
+    (λ t later.
+    ap (λ r. option_map_or (is_present_at s.last_tick) r false)
+    (sym (slice_get-map stored c.self.inside.tables.objects.entries c.args.id ∙ ap (option_map stored) (sym c.in-None.ensures.entry)))
+    ∙ present_later s c.args.id c.self.invariant.sound t later)

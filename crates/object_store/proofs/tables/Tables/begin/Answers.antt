@@ -1,27 +1,32 @@
-use Rattle.std.proofs.Common.{◌≡◌, ℕ, Some, List, refl, sym, subst}
-use Rattle.motion.specs.Timeline.{Period}
+use Rattle.std.proofs.Common.{◌≡◌, ℕ, Some, List, refl, sym, subst, arith}
+use Rattle.motion.specs.Timeline.{Epoch}
 use Rattle.object_store.specs.declared.objects.Done.{Done}
-use Rattle.object_store.specs.Contents.{StoredObject, Contents, attributes_at}
-use Rattle.object_store.specs.Effects.{with_period_of}
+use Rattle.object_store.specs.Contents.{StoredObject, Contents, attributes_of_number}
+use Rattle.object_store.specs.Effects.{with_epoch_of}
 use Rattle.object_store.specs.Kept.{Writes}
 use Rattle.object_store.specs.Sound.{AreCellsOf}
 use Rattle.object_store.specs.Stored.{objects_of}
-use Rattle.object_store.specs.Tables.{contents_of, ids_of}
+use Rattle.object_store.specs.Tables.{contents_of, members_of}
 use Rattle.object_store.proofs.WriteLemmas.{known_writes, known_done, object_at_place, some_fits, if_at}
+use Rattle.object_store.proofs.SizeLemmas.{few_places}
 use Rattle.object_store.proofs.tables.Tables.begin.Goals as goal
 
 pub returns-clause-ok : goal.returns-clause-ok
 returns-clause-ok c =
     let s : Contents = contents_of c.args.self.now in
     let name : List ℕ = c.args.name.now in
-    let p : Period = record { from = c.args.now; cells = Some c.args.cells.items } in
+    let p : Epoch = record { from = c.args.now; cells = Some c.args.cells.items } in
     let after : Contents = record { classes = s.classes; objects = objects_of c.begin_at.new.objects.entries; last_tick = c.args.now } in
     let at = object_at_place name s.objects c.args.at c.requires.name in
     let class = if_at s.objects c.args.at at.0 (λ o. o.class ≡ c.args.number) c.requires.class at.1 in
-    let fits : AreCellsOf (attributes_at s.classes at.0.class) c.args.cells.items =
-    subst (λ number. AreCellsOf (attributes_at s.classes number) c.args.cells.items) (sym class) c.requires.fits
+    let fits : AreCellsOf (attributes_of_number s.classes at.0.class) c.args.cells.items =
+    subst (λ number. AreCellsOf (attributes_of_number s.classes number) c.args.cells.items) (sym class) c.requires.fits
     in
-    subst (λ (done : Done). Writes name s (with_period_of s name p) (ids_of c.args.self.now) after done) (sym c.known.ensures)
-    (known_writes s (ids_of c.args.self.now) name c.args.at at.0 p c.in_ok-replaced.replaced (λ _. p) after.objects c.args.now
-    c.requires.kept c.requires.after c.requires.tick c.requires.name at.1 (some_fits (attributes_at s.classes at.0.class) c.args.cells.items fits)
+    subst (λ (done : Done). Writes name s (with_epoch_of s name p) (members_of c.args.self.now) after done) (sym c.known.ensures)
+    (known_writes s (members_of c.args.self.now) name c.args.at at.0 p c.in_ok-replaced.replaced (λ _. p) after.objects c.args.now
+    c.requires.kept c.requires.after c.requires.tick c.requires.name at.1 (some_fits (attributes_of_number s.classes at.0.class) c.args.cells.items fits)
     c.in_ok-replaced.ensures.ok refl refl)
+
+pub overflow_cast-at : goal.overflow_cast-at
+overflow_cast-at c =
+    omega (arith, few_places (contents_of c.args.self.now) c.args.name.now c.args.at c.requires.kept.sound c.requires.name)

@@ -18,11 +18,11 @@ returns-then-is_present c =
     let s : Contents = contents_of c.args.self.now in
     let at = value_there c.args.self.now.objects.entries c.args.at c.index.result.now c.index.ensures in
     remove_known s c.args.name.now c.args.now at.object true (found_there c.args.name.now s.objects c.args.at at.object c.requires.name at.there)
-    (sym c.if-is_present.true ∙ c.is_present.ensures ∙ ap (λ periods. is_some (state_at periods c.args.now)) (sym at.periods))
+    (sym c.if-is_present.true ∙ c.is_present.ensures ∙ ap (λ epochs. is_some (state_at epochs c.args.now)) (sym at.epochs))
 
 pub returns-else-is_present : goal.returns-else-is_present
 returns-else-is_present c =
     let s : Contents = contents_of c.args.self.now in
     let at = value_there c.args.self.now.objects.entries c.args.at c.index.result.now c.index.ensures in
     remove_known s c.args.name.now c.args.now at.object false (found_there c.args.name.now s.objects c.args.at at.object c.requires.name at.there)
-    (sym c.if-is_present.false ∙ c.is_present.ensures ∙ ap (λ periods. is_some (state_at periods c.args.now)) (sym at.periods))
+    (sym c.if-is_present.false ∙ c.is_present.ensures ∙ ap (λ epochs. is_some (state_at epochs c.args.now)) (sym at.epochs))

@@ -33,6 +33,6 @@ returns c =
     in
     c.update_fault.ensures
     ∙ ap (λ present. fault_of_update (Some k) present c.args.place.now c.args.sets.now)
-    (c.is_present.ensures ∙ ap (λ periods. is_some (state_at periods c.args.now)) (sym at.periods))
-    ∙ judged_update s c.args.name.now at.object k c.requires.kept.sound.classes
+    (c.is_present.ensures ∙ ap (λ epochs. is_some (state_at epochs c.args.now)) (sym at.epochs))
+    ∙ judged_update s c.args.name.now at.object k
     (found_there c.args.name.now s.objects c.args.at at.object c.requires.name at.there) there c.args.now c.args.place.now c.args.sets.now

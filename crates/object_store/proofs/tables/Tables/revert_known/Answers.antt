@@ -3,7 +3,7 @@ use Rattle.object_store.specs.Contents.{StoredObject, Contents}
 use Rattle.object_store.specs.Kept.{IsKept}
 use Rattle.object_store.specs.Places.{restored_at}
 use Rattle.object_store.specs.Stored.{objects_of}
-use Rattle.object_store.specs.Tables.{contents_of, ids_of}
+use Rattle.object_store.specs.Tables.{contents_of, members_of}
 use Rattle.object_store.specs.Undoing.{undone}
 use Rattle.object_store.proofs.WriteLemmas.{restored_kept}
 use Rattle.object_store.proofs.tables.Tables.revert_known.Goals as goal
@@ -16,5 +16,5 @@ returns-clause-kept c =
     ∙ sym (ap (λ b. if b then take (length s.objects - 1) s.objects else restored_at c.args.undo.id c.args.undo.replaced s.objects) c.requires.known)
     in
     let after : List StoredObject → Contents = λ os. record { classes = s.classes; objects = os; last_tick = c.args.undo.last_tick } in
-    subst (λ os. IsKept (ids_of c.args.self.now) (after os)) (sym objects)
-    (restored_kept c.args.undo s (ids_of c.args.self.now) c.requires.kept c.requires.known c.requires.revertible.sound)
+    subst (λ os. IsKept (members_of c.args.self.now) (after os)) (sym objects)
+    (restored_kept c.args.undo s (members_of c.args.self.now) c.requires.kept c.requires.known c.requires.revertible.sound)

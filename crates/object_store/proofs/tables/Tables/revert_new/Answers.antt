@@ -6,7 +6,7 @@ use Rattle.object_store.specs.Ids.{without_member}
 use Rattle.object_store.specs.Kept.{IsKept}
 use Rattle.object_store.specs.Places.{restored_at}
 use Rattle.object_store.specs.Stored.{stored, objects_of}
-use Rattle.object_store.specs.Tables.{contents_of, ids_of}
+use Rattle.object_store.specs.Tables.{contents_of, members_of}
 use Rattle.object_store.specs.Undoing.{undone, IsLeft}
 use Rattle.object_store.proofs.WriteLemmas.{left_kept, exists_at, if_at}
 use Rattle.object_store.proofs.tables.Tables.revert_new.Goals as goal
@@ -18,11 +18,11 @@ returns-clause-kept c =
     let at = exists_at s.objects (length s.objects - 1) (omega (arith, left)) in
     let entries = c.args.self.now.objects.entries in
     let there : slice_get s.objects (length entries - 1) ≡ Some at.0 = ap (λ n. slice_get s.objects (n - 1)) (sym (length-map entries stored)) ∙ at.1 in
-    let members : c.leave.new.members.items ≡ without_member (ids_of c.args.self.now) at.0.class = if_at s.objects (length entries - 1) at.0 _ c.leave.ensures.members there in
+    let members : c.leave.new.members.items ≡ without_member (members_of c.args.self.now) at.0.class = if_at s.objects (length entries - 1) at.0 _ c.leave.ensures.members there in
     let objects : objects_of c.leave.new.objects.entries ≡ (undone c.args.undo s).objects =
     c.leave.ensures.objects
     ∙ sym (ap (λ b. if b then take (length s.objects - 1) s.objects else restored_at c.args.undo.id c.args.undo.replaced s.objects) c.requires.new)
     in
     let after : List StoredObject → Contents = λ os. record { classes = s.classes; objects = os; last_tick = c.args.undo.last_tick } in
     subst (λ os. IsKept c.leave.new.members.items (after os)) (sym objects)
-    (left_kept c.args.undo s (ids_of c.args.self.now) c.leave.new.members.items at.0 c.requires.kept c.requires.new c.requires.revertible.sound at.1 members)
+    (left_kept c.args.undo s (members_of c.args.self.now) c.leave.new.members.items at.0 c.requires.kept c.requires.new c.requires.revertible.sound at.1 members)

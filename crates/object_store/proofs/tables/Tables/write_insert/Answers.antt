@@ -1,18 +1,18 @@
 use Rattle.std.proofs.Common.{◌≡◌, ◌<◌, ℕ, None, Some, List, ◌++◌, length, refl, ap, sym, subst, ◌∙◌}
 use Rattle.std.specs.Prelude.{All, IfOk, IfSome, slice_get, option_map}
-use Rattle.motion.specs.Cells.{changed, place_sets}
-use Rattle.motion.specs.Timeline.{Period, state_at}
+use Rattle.motion.specs.Cells.{AreChanges, changed, place_sets}
+use Rattle.motion.specs.Timeline.{Epoch, state_at}
 use Rattle.motion.specs.declared.cell.Cell.{Cell}
 use Rattle.history.specs.Write.{Attribute}
 use Rattle.history.specs.Catalog.{ClassInfo, object_of}
-use Rattle.history.specs.State.{inserted, updated, attributes_by_object}
+use Rattle.history.specs.State.{inserted, updated, attributes_of_object}
 use Rattle.object_store.specs.declared.objects.Done.{Done}
-use Rattle.object_store.specs.Changes.{changes_of, AreChanges}
-use Rattle.object_store.specs.Contents.{StoredObject, Contents, attributes_at, catalog_of, state_of}
-use Rattle.object_store.specs.Effects.{with_period_of, after_insert}
+use Rattle.object_store.specs.Changes.{changes_of}
+use Rattle.object_store.specs.Contents.{StoredObject, Contents, attributes_of_number, catalog_of, state_of}
+use Rattle.object_store.specs.Effects.{with_epoch_of, after_insert}
 use Rattle.object_store.specs.Kept.{Writes}
 use Rattle.object_store.specs.Stored.{objects_of}
-use Rattle.object_store.specs.Tables.{contents_of, ids_of}
+use Rattle.object_store.specs.Tables.{contents_of, members_of}
 use Rattle.object_store.proofs.CommandLemmas.{class_there, has_class, given_all, given_changes, cells_inserted, inserted_fits, own_class_of, room_for_new, after_known, after_new, found_there, found_nowhere}
 use Rattle.object_store.proofs.JudgeLemmas.{HasClass}
 use Rattle.object_store.proofs.WriteLemmas.{object_at_place}
@@ -31,7 +31,7 @@ begin-requires-clause-fits c =
     let name : List ℕ = c.args.name.now in
     let k : ClassInfo = c.unwrap-kind.result.now in
     let has : HasClass s.classes c.args.class.now c.args.number k =
-    has_class s.classes c.args.class.now c.args.number k c.requires.kept.sound.classes c.requires.class
+    has_class s.classes c.args.class.now c.args.number k c.requires.class
     (class_there c.class.result c.unwrap-kind.result s.classes c.args.number c.class.ensures c.unwrap-kind.ensures)
     in
     let is : c.in_ok-cells.cells.items ≡ inserted c.args.now k.attributes c.args.place.now c.args.sets.now =
@@ -45,13 +45,13 @@ begin-requires-clause-class c =
     let name : List ℕ = c.args.name.now in
     let k : ClassInfo = c.unwrap-kind.result.now in
     let has : HasClass s.classes c.args.class.now c.args.number k =
-    has_class s.classes c.args.class.now c.args.number k c.requires.kept.sound.classes c.requires.class
+    has_class s.classes c.args.class.now c.args.number k c.requires.class
     (class_there c.class.result c.unwrap-kind.result s.classes c.args.number c.class.ensures c.unwrap-kind.ensures)
     in
     let at = object_at_place name s.objects c.in-Some.at (sym c.requires.name ∙ c.in-Some.is) in
     let found = found_there name s.objects c.in-Some.at at.0 (sym c.requires.name ∙ c.in-Some.is) at.1 in
     if_there s.objects c.in-Some.at at.0 _ at.1
-    (own_class_of s c.args.class.now c.args.number k has c.requires.kept.sound.objects.classed name c.args.now c.args.place.now c.args.sets.now c.requires.accepted at.0 found)
+    (own_class_of s c.args.class.now c.args.number k has name c.args.now c.args.place.now c.args.sets.now c.requires.accepted at.0 found)
 
 pub enter-requires-clause-fits : goal.enter-requires-clause-fits
 enter-requires-clause-fits c =
@@ -59,7 +59,7 @@ enter-requires-clause-fits c =
     let name : List ℕ = c.args.name.now in
     let k : ClassInfo = c.unwrap-kind.result.now in
     let has : HasClass s.classes c.args.class.now c.args.number k =
-    has_class s.classes c.args.class.now c.args.number k c.requires.kept.sound.classes c.requires.class
+    has_class s.classes c.args.class.now c.args.number k c.requires.class
     (class_there c.class.result c.unwrap-kind.result s.classes c.args.number c.class.ensures c.unwrap-kind.ensures)
     in
     let is : c.in_ok-cells.cells.items ≡ inserted c.args.now k.attributes c.args.place.now c.args.sets.now =
@@ -78,11 +78,11 @@ enter-requires-clause-room c =
     let name : List ℕ = c.args.name.now in
     let k : ClassInfo = c.unwrap-kind.result.now in
     let has : HasClass s.classes c.args.class.now c.args.number k =
-    has_class s.classes c.args.class.now c.args.number k c.requires.kept.sound.classes c.requires.class
+    has_class s.classes c.args.class.now c.args.number k c.requires.class
     (class_there c.class.result c.unwrap-kind.result s.classes c.args.number c.class.ensures c.unwrap-kind.ensures)
     in
     let new = found_nowhere name s.objects (sym c.requires.name ∙ c.in-None.is) in
-    room_for_new s c.args.class.now c.args.number k has c.requires.kept.sound.objects.classed name c.args.now c.args.place.now c.args.sets.now c.requires.accepted new
+    room_for_new s c.args.class.now c.args.number k has name c.args.now c.args.place.now c.args.sets.now c.requires.accepted new
 
 pub returns-in-Some-clause-ok : goal.returns-in-Some-clause-ok
 returns-in-Some-clause-ok c =
@@ -90,7 +90,7 @@ returns-in-Some-clause-ok c =
     let name : List ℕ = c.args.name.now in
     let k : ClassInfo = c.unwrap-kind.result.now in
     let has : HasClass s.classes c.args.class.now c.args.number k =
-    has_class s.classes c.args.class.now c.args.number k c.requires.kept.sound.classes c.requires.class
+    has_class s.classes c.args.class.now c.args.number k c.requires.class
     (class_there c.class.result c.unwrap-kind.result s.classes c.args.number c.class.ensures c.unwrap-kind.ensures)
     in
     let is : c.in_ok-cells.cells.items ≡ inserted c.args.now k.attributes c.args.place.now c.args.sets.now =
@@ -98,7 +98,7 @@ returns-in-Some-clause-ok c =
     in
     let at = object_at_place name s.objects c.in-Some.at (sym c.requires.name ∙ c.in-Some.is) in
     let found = found_there name s.objects c.in-Some.at at.0 (sym c.requires.name ∙ c.in-Some.is) at.1 in
-    subst (λ after. IfOk c.begin.result (λ (done : Done). Writes name s after (ids_of c.begin.new.self) (contents_of c.begin.new.self) done))
+    subst (λ after. IfOk c.begin.result (λ (done : Done). Writes name s after (members_of c.begin.new.self) (contents_of c.begin.new.self) done))
     (sym (after_known s c.args.class.now c.args.number k has name c.args.now c.args.place.now c.args.sets.now c.in_ok-cells.cells.items is at.0 found)) c.begin.ensures.ok
 
 pub returns-in-None-clause-ok : goal.returns-in-None-clause-ok
@@ -107,12 +107,12 @@ returns-in-None-clause-ok c =
     let name : List ℕ = c.args.name.now in
     let k : ClassInfo = c.unwrap-kind.result.now in
     let has : HasClass s.classes c.args.class.now c.args.number k =
-    has_class s.classes c.args.class.now c.args.number k c.requires.kept.sound.classes c.requires.class
+    has_class s.classes c.args.class.now c.args.number k c.requires.class
     (class_there c.class.result c.unwrap-kind.result s.classes c.args.number c.class.ensures c.unwrap-kind.ensures)
     in
     let is : c.in_ok-cells.cells.items ≡ inserted c.args.now k.attributes c.args.place.now c.args.sets.now =
     cells_inserted c.args.now k.attributes c.args.place.now c.args.sets.now c.deref.result.now c.in_ok-cells.cells.items c.in_ok-cells.ensures.cells (c.deref.ensures.value ∙ c.in_ok-fill.ensures)
     in
     let new = found_nowhere name s.objects (sym c.requires.name ∙ c.in-None.is) in
-    subst (λ after. IfOk c.enter.result (λ (done : Done). Writes name s after (ids_of c.enter.new.self) (contents_of c.enter.new.self) done))
+    subst (λ after. IfOk c.enter.result (λ (done : Done). Writes name s after (members_of c.enter.new.self) (contents_of c.enter.new.self) done))
     (sym (after_new s c.args.class.now c.args.number k has name c.args.now c.args.place.now c.args.sets.now c.in_ok-cells.cells.items is new)) c.enter.ensures.ok

@@ -1,6 +1,6 @@
 use Rattle.std.proofs.Common.{arith, suc}
 use Rattle.std.proofs.lemmas.Grind.{common_steps}
-use Rattle.motion.proofs.change.write.Goals as goal
+use Rattle.motion.proofs.change.write_cells.Goals as goal
 
 pub loop-change-preserved : goal.loop-change-preserved
 loop-change-preserved c = record {
