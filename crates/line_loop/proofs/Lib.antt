@@ -1,7 +1,7 @@
 pub mod LinesLemmas
 pub mod MachineLemmas
 pub mod StopLemmas
-pub mod AnswerLemmas
+pub mod GatherLemmas
 pub mod PieceLemmas
 pub mod RunLemmas
 pub mod TextLemmas

@@ -1,12 +1,12 @@
 -- How the lines of bytes in two parts follow from those of the parts.
-use Rattle.std.proofs.Common.{◌≡◌, ℕ, ◌+◌, ◌<◌, ◌≤◌, List, [], ◌∷◌, ◌++◌, ◌∙◌, ◌==◌, ◌⊎◌, inl, inr, ap, sym, refl, length, take, drop, arith, subst, suc, add-one, append_assoc, min, ◌-◌, if◌then◌else◌, true, false, leb}
+use Rattle.std.proofs.Common.{◌≡◌, ℕ, ◌+◌, ◌<◌, ◌≤◌, List, [], ◌∷◌, ◌++◌, ◌∙◌, ◌==◌, ◌⊎◌, inl, inr, ap, sym, refl, length, take, drop, arith, subst, suc, add-one, append_assoc, min, ◌-◌, if◌then◌else◌, true, false, leb, Option, None, Some, Result, Ok, Err, OnOk, is_err}
 use Rattle.std.proofs.lemmas.Grind.{common_steps}
 use Rattle.std.proofs.lemmas.List.{take_all, take-take, take-append-le, length-take, take_min}
-use Rattle.std.proofs.Math.Seq.{take-append-add, take-add}
+use Rattle.std.proofs.Math.Seq.{take-append-add, take-add, take-nil}
 use Rattle.std.specs.List.{position_or_len}
 use Rattle.std.specs.Str.Lines.{strip_carriage_return}
-use Rattle.line_loop.specs.Lines.{ended_from, open_from}
-use Rattle.line_loop.specs.Kept.{IsKept}
+use Rattle.line_loop.specs.Lines.{ended_from, open_from, last_line}
+use Rattle.line_loop.specs.Kept.{IsKept, kept_part}
 
 le_or_lt : (a b : ℕ) → (a ≤ b) ⊎ (b < a)
 le_or_lt a b = elim (leb a b) as (λ t. leb a b ≡ t → (a ≤ b) ⊎ (b < a)) [ true ↦ λ e. inl (grind (arith, e)) | false ↦ λ e. inr (grind (arith, e)) ] refl
@@ -72,21 +72,23 @@ ended_from-first begun (x ∷ xs) h =
 length-strip : (line : List ℕ) → length line ≤ length (strip_carriage_return line) + 1
 length-strip line = grind (arith, common_steps)
 
-pub kept_ended : (longest : ℕ) (line : List ℕ) → IsKept longest (strip_carriage_return (take (longest + 2) line)) (strip_carriage_return line)
-kept_ended longest line =
+pub kept_ended : (longest : Option ℕ) (line : List ℕ) → IsKept longest (strip_carriage_return (kept_part longest line)) (strip_carriage_return line)
+kept_ended None line = inl refl
+kept_ended (Some longest) line =
     elim (le_or_lt (length line) (longest + 2)) [
       | inl le ↦ inl (ap strip_carriage_return (take_all (longest + 2) line le))
       | inr lt ↦ inr (omega (arith, length-strip line, length-strip (take (longest + 2) line), length-take (longest + 2) line), omega (arith, length-strip line))
     ]
 
-pub kept_unended : (longest : ℕ) (line : List ℕ) → IsKept longest (take (longest + 2) line) line
-kept_unended longest line =
+pub kept_unended : (longest : Option ℕ) (line : List ℕ) → IsKept longest (kept_part longest line) line
+kept_unended None line = inl refl
+kept_unended (Some longest) line =
     elim (le_or_lt (length line) (longest + 2)) [
       | inl le ↦ inl (take_all (longest + 2) line le)
       | inr lt ↦ inr (omega (arith, length-take (longest + 2) line), omega arith)
     ]
 
-pub take-kept : (most : ℕ) (line more : List ℕ) → take most (take most line ++ more) ≡ take most (line ++ more)
+take-kept : (most : ℕ) (line more : List ℕ) → take most (take most line ++ more) ≡ take most (line ++ more)
 take-kept most line more =
     elim (le_or_lt (length line) most) [
       | inl le ↦ ap (λ front. take most (front ++ more)) (take_all most line le)
@@ -95,6 +97,21 @@ take-kept most line more =
           let le' : most ≤ length line = omega arith in
           take-append-le most (take most line) more le ∙ take-take most most line (omega arith) ∙ sym (take-append-le most line more le')
     ]
+
+-- more of a line of which a part was kept
+pub kept_more : (longest : Option ℕ) (line more : List ℕ) → kept_part longest (kept_part longest line ++ more) ≡ kept_part longest (line ++ more)
+kept_more None line more = refl
+kept_more (Some longest) line more = take-kept (longest + 2) line more
+
+pub kept_nil : (longest : Option ℕ) → kept_part longest [] ≡ []
+kept_nil None = refl
+kept_nil (Some longest) = take-nil (longest + 2)
+
+-- where nothing is kept, nothing has come
+pub kept_none : (longest : Option ℕ) (line : List ℕ) → kept_part longest line ≡ [] → line ≡ []
+kept_none None line none = none
+kept_none (Some longest) [] none = refl
+kept_none (Some longest) (x ∷ xs) none = absurd (omega (arith, ap length none, length-take (longest + 2) (x ∷ xs)))
 
 pub extended : (most n : ℕ) (line more : List ℕ) → length line ≤ most → n ≡ min (length more) (most - length line) →
     line ++ take n more ≡ take most (line ++ more)
@@ -110,10 +127,25 @@ grown written bytes at n le =
     append_assoc written (take at bytes) (take n (take (length bytes - at) (drop at bytes)))
     ∙ ap (λ t. written ++ t) (ap (λ t. take at bytes ++ t) (take-take n (length bytes - at) (drop at bytes) le) ∙ sym (take-add at n bytes))
 
--- the kept part of a line that ended, of which a part was kept before
-pub kept_line : (longest most : ℕ) (old xs whole more ended : List ℕ) → most ≡ longest + 2 → old ≡ take most whole → xs ≡ more →
-    ended ≡ strip_carriage_return (take most (old ++ xs)) → IsKept longest ended (strip_carriage_return (whole ++ more))
-kept_line longest most old xs whole more ended is part same ends =
-    let front : take most (old ++ xs) ≡ take (longest + 2) (whole ++ more) =
-    ap (λ l. take most (l ++ xs)) part ∙ take-kept most whole xs ∙ ap (λ n. take n (whole ++ xs)) is ∙ ap (λ l. take (longest + 2) (whole ++ l)) same in
-    subst (λ e. IsKept longest e (strip_carriage_return (whole ++ more))) (sym (ends ∙ ap strip_carriage_return front)) (kept_ended longest (whole ++ more))
+-- the line whose last bytes came, of which a part was kept before
+pub kept_line : (longest : Option ℕ) (old end begun whole : List ℕ) → old ≡ kept_part longest begun → whole ≡ strip_carriage_return (kept_part longest (old ++ end)) →
+    IsKept longest whole (strip_carriage_return (begun ++ end))
+kept_line longest old end begun whole part is =
+    subst (λ w. IsKept longest w (strip_carriage_return (begun ++ end)))
+    (sym (is ∙ ap strip_carriage_return (ap (λ l. kept_part longest (l ++ end)) part ∙ kept_more longest begun end)))
+    (kept_ended longest (begun ++ end))
+
+-- where something is kept, the last line is one
+pub last_is : (longest : Option ℕ) (kept begun : List ℕ) → kept ≡ kept_part longest begun → (length kept == 0) ≡ false → last_line begun ≡ begun ∷ []
+last_is longest kept [] is some =
+    let none : (length kept == 0) ≡ true = ap (λ l. length l == 0) (is ∙ kept_nil longest) in absurd (cc)
+last_is longest kept (x ∷ xs) is some = refl
+
+-- what a call that took memory promised
+pub ok_is : {T E P : Type 0} (r : Result T E) → is_err r ≡ false → OnOk r P → P
+ok_is (Ok x) not h = h
+ok_is (Err e) not h = absurd (cc)
+
+pub ok_anyway : {T E P : Type 0} (r : Result T E) → P → OnOk r P
+ok_anyway (Ok x) h = h
+ok_anyway (Err e) h = tt

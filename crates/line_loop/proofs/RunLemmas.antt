@@ -1,18 +1,19 @@
 -- A run of which so many bytes are taken: the next piece, and each ending.
-use Rattle.std.proofs.Common.{◌≡◌, ℕ, ◌+◌, ◌<◌, ◌≤◌, ◌-◌, min, max, List, [], ◌∷◌, ◌++◌, ◌∙◌, ap, sym, subst, refl, length, take, drop, arith, append_assoc, append-nil, Option, Some, true, false, ltb, inl, inr}
+use Rattle.std.proofs.Common.{◌≡◌, ℕ, ◌+◌, ◌<◌, ◌≤◌, ◌-◌, min, max, List, [], ◌++◌, ◌∙◌, ap, sym, subst, refl, length, take, drop, arith, append_assoc, append-nil, Option, Some, true, false, ltb, inl, inr}
 use Rattle.std.proofs.lemmas.Grind.{common_steps}
 use Rattle.std.proofs.lemmas.List.{take-append-drop, take-append-le, take-take, take_all, drop-drop, length-drop, length-take}
 use Rattle.std.proofs.Math.Seq.{take-add}
 use Rattle.line_loop.specs.Lines.{ended_from, open_from, ended_lines, open_line, last_line, lines_of}
 use Rattle.line_loop.specs.Machine.{Machine, Failures, after}
 use Rattle.line_loop.specs.Run.{is_cut, heard}
-use Rattle.line_loop.specs.Stop.{Point, IsAt, reach, Stops, StopsForMemory, LacksMemory}
+use Rattle.line_loop.specs.Stop.{Point, IsAt, reach, Stops, StopsForMemory}
 use Rattle.line_loop.specs.Ending.{HasTaken, StaysWithin, KeepsLimit, IsDone, IsInputLimit, EndsAs, ending_of}
 use Rattle.line_loop.specs.declared.stop.Stop.{Stop}
 use Rattle.line_loop.specs.declared.stop.Stop.TheVariants.{Write, Context, NoMemory}
 use Rattle.line_loop.proofs.LinesLemmas.{ended_from-append, open_from-append}
 use Rattle.line_loop.proofs.MachineLemmas.{after-append, after-done, reach-append, reach-done}
 use Rattle.line_loop.proofs.StopLemmas.{Stops-more, Stops-after}
+use Rattle.line_loop.proofs.GatherLemmas.{lacks_nothing}
 
 -- the lines that end in the first n bytes come first
 ended_lines-front : (bytes : List ℕ) (n : ℕ) → ended_lines bytes ≡ ended_lines (take n bytes) ++ ended_from (open_line (take n bytes)) (drop n bytes)
@@ -61,9 +62,9 @@ module _ {T : Type 0} (m : Machine T) (leaves : Failures T) (limit : ℕ) (start
 
   -- the machine is done within the bytes taken
   pub done_within : (n : ℕ) → n ≤ limit → m.done (after m start.state (ended_lines (take n bytes))) ≡ true →
-      (state : Option T) (written left : Option (List ℕ)) →
+      (state : Option T) (written left : Option (List ℕ)) → HasTaken bytes n left →
       IsAt (reach m start (ended_lines (take n bytes))) state written → IsDone m limit start bytes state written left
-  done_within n le done state written left h =
+  done_within n le done state written left taken h =
       let front = heard-front n le in
       let same : reach m start (heard m limit start.state bytes) ≡ reach m start (ended_lines (take n bytes)) =
       ap (reach m start) front.1 ∙ reach-append m start (ended_lines (take n bytes)) front.0 ∙ reach-done m (reach m start (ended_lines (take n bytes))) front.0 done in
@@ -75,7 +76,7 @@ module _ {T : Type 0} (m : Machine T) (leaves : Failures T) (limit : ℕ) (start
       record {
         whole = grind (arith, common_steps, limit_done);
         reached = subst (λ p. IsAt p state written) (sym same) h;
-        finished = inr (ap (λ p. m.done p.state) same ∙ done);
+        finished = inr (record { count = n; within = le; taken = taken; done = done });
       }
 
   module _ (n : ℕ) (le : n ≤ limit) (there : n ≤ length bytes) (none : drop n bytes ≡ []) where
@@ -120,10 +121,6 @@ module _ {T : Type 0} (m : Machine T) (leaves : Failures T) (limit : ℕ) (start
         taken = taken;
       }
 
-  lacks_nothing : (lines : List (List ℕ)) (state : Option T) → state ≡ Some start.state → LacksMemory m leaves start.state lines state
-  lacks_nothing [] state is = is
-  lacks_nothing (line ∷ lines) state is = inl is
-
   -- how a failure ends the run
   pub ends_stopped : (stop : Stop) (state : Option T) (written left : Option (List ℕ)) →
       Stops m leaves start (heard m limit start.state bytes) stop state written →
@@ -139,7 +136,7 @@ module _ {T : Type 0} (m : Machine T) (leaves : Failures T) (limit : ℕ) (start
     earlier = [];
     later = heard m limit start.state bytes;
     split = refl;
-    lacking = lacks_nothing (heard m limit start.state bytes) state at.in_state;
+    lacking = lacks_nothing m leaves start.state (heard m limit start.state bytes) state at.in_state;
     count = 0;
     most = omega arith;
     has_written = at.has_written ∙ ap Some (sym (append-nil start.written));

@@ -3,11 +3,11 @@ use Rattle.std.proofs.Common.{◌≡◌, ℕ, ◌≤◌, List, [], ◌∷◌, �
 use Rattle.std.proofs.lemmas.List.{take-append-le, length-append}
 use Rattle.std.proofs.Math.Seq.{take-append-add}
 use Rattle.line_loop.specs.Machine.{Machine, Failures, after, replies}
-use Rattle.line_loop.specs.Stop.{Point, IsAt, reach, Stops, StopsAtWrite, StopsAtContext, StopsForMemory, LacksMemory}
+use Rattle.line_loop.specs.Stop.{Point, reach, Stops, StopsAtWrite, StopsAtContext, StopsForMemory, LacksMemory}
 use Rattle.outside.specs.declared.fault.OutFail.TheVariants.{Failed}
 use Rattle.line_loop.specs.declared.stop.Stop.{Stop}
 use Rattle.line_loop.specs.declared.stop.Stop.TheVariants.{Write, Context, NoMemory}
-use Rattle.line_loop.proofs.MachineLemmas.{after-append, replies-append, reach-append}
+use Rattle.line_loop.proofs.MachineLemmas.{after-append, replies-append}
 
 module _ {T : Type 0} (m : Machine T) where
   length-earlier : (s : T) (lines earlier later : List (List ℕ)) → lines ≡ earlier ++ later → length (replies m s earlier) ≤ length (replies m s lines)
@@ -126,15 +126,3 @@ module _ {T : Type 0} (m : Machine T) (leaves : Failures T) where
   Stops-after start before lines Write state written h = write-after m start before lines state written h
   Stops-after start before lines Context state written h = context-after start before lines state written h
   Stops-after start before lines NoMemory state written h = memory-after start before lines state written h
-
-  -- the lines before were answered, and then this one
-  pub one_more : (start : Point T) (before : List (List ℕ)) (line : List ℕ) (state : Option T) (written : Option (List ℕ)) →
-      IsAt (reach m (reach m start before) (line ∷ [])) state written → IsAt (reach m start (before ++ line ∷ [])) state written
-  one_more start before line state written h = subst (λ p. IsAt p state written) (sym (reach-append m start before (line ∷ []))) h
-
-  -- the lines before were answered, and a failure stopped the machine on this one
-  pub one_stopped : (start : Point T) (before later lines : List (List ℕ)) (line : List ℕ) (stop : Stop) (state : Option T) (written : Option (List ℕ)) →
-      lines ≡ (before ++ line ∷ []) ++ later → Stops m leaves (reach m start before) (line ∷ []) stop state written → Stops m leaves start lines stop state written
-  one_stopped start before later lines line stop state written is h =
-      subst (λ ls. Stops m leaves start ls stop state written) (sym is)
-      (Stops-more start (before ++ line ∷ []) later stop state written (Stops-after start before (line ∷ []) stop state written h))

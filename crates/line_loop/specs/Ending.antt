@@ -49,11 +49,18 @@ KeepsLimit limit bytes WriteFault left = StaysWithin limit bytes left
 KeepsLimit limit bytes ContextFault left = StaysWithin limit bytes left
 KeepsLimit limit bytes NoMemory left = StaysWithin limit bytes left
 
--- every line that is to be answered was, and all bytes were taken or the machine is done
+-- the lines that end within the bytes taken make the machine done
+pub record IsDoneWithin {T : Type 0} (m : Machine T) (limit : ℕ) (start : Point T) (bytes : List ℕ) (left : Option (List ℕ)) : Type 0 where
+  pub count : ℕ
+  pub within : count ≤ limit
+  pub taken : HasTaken bytes count left
+  pub done : m.done (after m start.state (ended_lines (take count bytes))) ≡ true
+
+-- every line that is to be answered was, and all bytes were taken or those that were make the machine done
 pub record IsDone {T : Type 0} (m : Machine T) (limit : ℕ) (start : Point T) (bytes : List ℕ) (state : Option T) (written left : Option (List ℕ)) : Type 0 where
   pub whole : is_cut m limit start.state bytes ≡ false
   pub reached : IsAt (reach m start (heard m limit start.state bytes)) state written
-  pub finished : (left ≡ Some []) ⊎ (m.done (after m start.state (heard m limit start.state bytes)) ≡ true)
+  pub finished : (left ≡ Some []) ⊎ IsDoneWithin m limit start bytes left
 
 -- every line that is to be answered was, and one byte past the limit was taken
 pub record IsInputLimit {T : Type 0} (m : Machine T) (limit : ℕ) (start : Point T) (bytes : List ℕ) (state : Option T) (written left : Option (List ℕ)) : Type 0 where

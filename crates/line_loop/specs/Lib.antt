@@ -4,3 +4,4 @@ pub mod Run
 pub mod Stop
 pub mod Ending
 pub mod Kept
+pub mod Gathered

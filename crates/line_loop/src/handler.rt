@@ -1,6 +1,8 @@
 // The code of a line machine.
-ghost use Rattle.std.specs.Prelude.{◌≡◌, ◌<◌, ◌^◌, ℕ, List, Option, Some, length, OnErr};
+ghost use Rattle.std.specs.Prelude.{◌≡◌, ℕ, List, Option, Some, false, OnErr};
 ghost use Rattle.outside.specs.Faults.{HasCauseOrNoMemory};
+ghost use Rattle.outside.specs.declared.fault.OutFail.TheVariants.{Failed};
+ghost use Rattle.line_loop.specs.Kept.{IsLonger};
 ghost use Rattle.line_loop.specs.Machine.{Machine, Failures, StepsAlike, Answers};
 
 use outside::OutFail;
@@ -22,14 +24,21 @@ pub trait Handler<C> {
     /// What a failure on a line may leave of the state before it.
     ghost leaves: { Failures State };
 
-    ghost LONGEST: { ℕ };
+    ghost LONGEST: { Option ℕ };
 
-    /// The length in bytes of the longest line whose bytes matter: all longer ones step alike.
-    const LONGEST: u32;
+    /// The length in bytes of the longest line whose bytes matter: all longer ones step alike. With `None` the bytes of
+    /// every line matter.
+    const LONGEST: Option<u32>;
 
     /// Whether the machine takes no more lines.
     fn is_done(&self) -> bool
         ensures { (context : C) (now : State) → state self.now context ≡ Some now → result ≡ machine.done now };
+
+    /// Whether the line, without its end, may ask the context. What it answers `false` of never fails by the context.
+    /// It may answer `true` of other lines too: the replies before such a line are written before it is answered.
+    fn asks(&self, line: &[u8]) -> bool
+        ensures { (context : C) (now : State) (told : Option State) → state self.now context ≡ Some now →
+            result ≡ false → leaves Failed now line.now told → ⊥ };
 
     /// Takes a line without its end: appends the reply to `out` and goes on to the next state. `Failed` is a fault of
     /// the context, whose count rose.
@@ -40,5 +49,5 @@ pub trait Handler<C> {
 
     /// Lines longer than `LONGEST` step alike: this is what the contract says, and the call does nothing.
     fn long_lines_step_alike()
-        ensures { (a b : List ℕ) → LONGEST < length a → LONGEST < length b → StepsAlike machine leaves a b };
+        ensures { (a b : List ℕ) → IsLonger LONGEST a → IsLonger LONGEST b → StepsAlike machine leaves a b };
 }

@@ -1,28 +1,16 @@
 // Lines are answered as they end.
-ghost use Rattle.std.specs.Prelude.{◌≡◌, ◌++◌, ◌∷◌, [], ℕ, List, Some, take, length, OnOk, OnErr, position, ◌==◌, ◌+◌};
-ghost use Rattle.outside.specs.Faults.{HasCauseOrNoMemory};
-ghost use Rattle.line_loop.specs.Lines.{ended_from, open_from, last_line, line_feed};
-ghost use Rattle.line_loop.specs.Kept.{IsKept};
-ghost use Rattle.line_loop.specs.Stop.{Point, IsAt, Takes, WritesAll, StopHasCause};
+ghost use Rattle.std.specs.Prelude.{◌≡◌, ◌++◌, ◌∷◌, [], ℕ, List, length, OnOk, position, ◌==◌};
+ghost use Rattle.std.specs.Str.Lines.{strip_carriage_return};
+ghost use Rattle.line_loop.specs.Lines.{ended_from, open_from, line_feed};
+ghost use Rattle.line_loop.specs.Kept.{IsKept, kept_part};
+ghost use Rattle.line_loop.specs.Stop.{Point, IsAt, Takes, StopHasCause};
+ghost use Rattle.line_loop.specs.Gathered.{Gathers, Collects};
 
-use crate::buffer::LineBuffer;
+use crate::Handler;
+use crate::buffer::{LineBuffer, without_carriage_return};
+use crate::replies::{most_waiting, send};
 use crate::stop::Stop;
-use crate::{Ending, Handler};
 use outside::{OutFail, Sink};
-
-/// Writes all of the bytes, with as many writes as it takes, unless a write fails.
-#[tactic(auto, using(crate::proofs::LinesLemmas::grown))]
-pub fn write_all<K: Sink>(sink: &mut K, bytes: &[u8]) -> Result<(), OutFail>
-    ensures cause { HasCauseOrNoMemory (K.faults sink.old) (K.faults sink.new) result }
-    ensures written { (written : List ℕ) → K.written sink.old ≡ Some written →
-        WritesAll bytes.now written result (K.written sink.new) }
-{
-    let mut count = 0;
-    while count < bytes.len() {
-        count += sink.write(&bytes[count..])?;
-    }
-    Ok(())
-}
 
 // The place of the first line feed.
 fn line_end(bytes: &[u8]) -> Option<usize>
@@ -31,64 +19,105 @@ fn line_end(bytes: &[u8]) -> Option<usize>
     bytes.iter().position(|byte| *byte == b'\n')
 }
 
-/// Answers a line and writes the reply, unless the machine is done.
+/// Answers a line, unless the machine is done. The reply is gathered behind the earlier ones; these are written before,
+/// where there are many of them or the line may ask the context.
 pub fn answer_line<C, H: Handler<C>, K: Sink>(
     handler: &mut H,
     context: &mut C,
     sink: &mut K,
-    reply: &mut Vec<u8>,
+    replies: &mut Vec<u8>,
     kept: &[u8],
 ) -> Result<(), Stop>
     ensures cause { StopHasCause (K.faults sink.old) (K.faults sink.new) (H.faults context.old) (H.faults context.new) result }
-    ensures takes { (start : Point H.State) (line : List ℕ) →
-        IsAt start (H.state handler.old context.old) (K.written sink.old) → IsKept H.LONGEST kept.now line →
-        Takes H.machine H.leaves start (line ∷ []) result (H.state handler.new context.new) (K.written sink.new) }
+    ensures collects { (start : Point H.State) (before : List (List ℕ)) (line : List ℕ) →
+        Gathers H.machine start before (H.state handler.old context.old) (K.written sink.old) replies.old.items →
+        IsKept H.LONGEST kept.now line →
+        Collects H.machine H.leaves start (before ++ line ∷ []) result
+        (H.state handler.new context.new) (K.written sink.new) replies.new.items }
 {
     if handler.is_done() {
         return Ok(());
     }
     H::long_lines_step_alike();
-    reply.clear();
-    if let Err(fail) = handler.answer(kept, context, reply) {
-        return Err(match fail {
-            OutFail::Failed => Stop::Context,
-            OutFail::NoMemory => Stop::NoMemory,
-        });
+    let most = most_waiting(handler.asks(kept));
+    if let Err(stop) = send(sink, replies, most) {
+        return Err(stop);
     }
-    match write_all(sink, reply) {
+    match handler.answer(kept, context, replies) {
         Ok(()) => Ok(()),
-        Err(OutFail::Failed) => Err(Stop::Write),
+        Err(OutFail::Failed) => Err(Stop::Context),
         Err(OutFail::NoMemory) => Err(Stop::NoMemory),
     }
 }
 
-/// Takes a piece of the input: answers the lines that end in it, and keeps what begins behind them.
+/// Answers a line of which `end` came last. A line that lies whole in its piece isn't copied.
+fn answer_ended<C, H: Handler<C>, K: Sink>(
+    handler: &mut H,
+    context: &mut C,
+    sink: &mut K,
+    line: &mut LineBuffer,
+    replies: &mut Vec<u8>,
+    end: &[u8],
+) -> Result<(), Stop>
+    requires { line.old.longest ≡ H.LONGEST }
+    ensures cause { StopHasCause (K.faults sink.old) (K.faults sink.new) (H.faults context.old) (H.faults context.new) result }
+    ensures cleared { OnOk result (line.new ≡ record line.old { kept = [] }) }
+    ensures collects { (start : Point H.State) (before : List (List ℕ)) (begun : List ℕ) →
+        Gathers H.machine start before (H.state handler.old context.old) (K.written sink.old) replies.old.items →
+        line.old.kept ≡ kept_part H.LONGEST begun →
+        Collects H.machine H.leaves start (before ++ strip_carriage_return (begun ++ end.now) ∷ []) result
+        (H.state handler.new context.new) (K.written sink.new) replies.new.items }
+{
+    if line.unended().is_empty() {
+        return answer_line(
+            handler,
+            context,
+            sink,
+            replies,
+            without_carriage_return(end),
+        );
+    }
+    if line.extend(end).is_err() {
+        return Err(Stop::NoMemory);
+    }
+    let whole = without_carriage_return(line.unended());
+    if let Err(stop) = answer_line(handler, context, sink, replies, whole) {
+        return Err(stop);
+    }
+    line.clear();
+    Ok(())
+}
+
+/// Takes a piece of the input: answers the lines that end in it, writes the replies, and keeps what begins behind them.
 pub fn take_piece<C, H: Handler<C>, K: Sink>(
     handler: &mut H,
     context: &mut C,
     sink: &mut K,
     line: &mut LineBuffer,
-    reply: &mut Vec<u8>,
+    replies: &mut Vec<u8>,
     piece: &[u8],
 ) -> Result<(), Stop>
-    requires { line.old.most ≡ H.LONGEST + 2 }
+    requires longest { line.old.longest ≡ H.LONGEST }
+    requires none { replies.old.items ≡ [] }
     ensures cause { StopHasCause (K.faults sink.old) (K.faults sink.new) (H.faults context.old) (H.faults context.new) result }
-    ensures most { line.new.most ≡ line.old.most }
+    ensures longest { OnOk result (line.new.longest ≡ line.old.longest) }
+    ensures none { OnOk result (replies.new.items ≡ []) }
     ensures takes { (start : Point H.State) (begun : List ℕ) →
-        IsAt start (H.state handler.old context.old) (K.written sink.old) → line.old.kept ≡ take line.old.most begun →
+        IsAt start (H.state handler.old context.old) (K.written sink.old) → line.old.kept ≡ kept_part H.LONGEST begun →
         Takes H.machine H.leaves start (ended_from begun piece.now) result (H.state handler.new context.new) (K.written sink.new) }
-    ensures begins { (begun : List ℕ) → line.old.kept ≡ take line.old.most begun →
-        OnOk result (line.new.kept ≡ take line.new.most (open_from begun piece.now)) }
+    ensures begins { (begun : List ℕ) → line.old.kept ≡ kept_part H.LONGEST begun →
+        OnOk result (line.new.kept ≡ kept_part H.LONGEST (open_from begun piece.now)) }
 {
     let mut taken = 0;
     'lines: while let Some(len) = line_end(&piece[taken..]) {
-        line.extend(&piece[taken..taken + len]);
-        if let Err(stop) = answer_line(handler, context, sink, reply, line.ended()) {
+        let end = &piece[taken..taken + len];
+        if let Err(stop) = answer_ended(handler, context, sink, line, replies, end) {
             return Err(stop);
         }
-        line.clear();
         taken += len + 1;
     }
-    line.extend(&piece[taken..]);
-    Ok(())
+    if line.extend(&piece[taken..]).is_err() {
+        return Err(Stop::NoMemory);
+    }
+    send(sink, replies, 0)
 }

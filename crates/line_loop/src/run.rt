@@ -1,11 +1,13 @@
 // The read loop.
-ghost use Rattle.std.specs.Prelude.{◌≡◌, ◌≤◌, ◌-◌, ◌+◌, ◌++◌, ℕ, List, Some, min, max, take, IfOk, length};
+ghost use Rattle.std.specs.Prelude.{◌≡◌, ◌≤◌, ◌-◌, [], ℕ, List, Some, min, max};
 ghost use Rattle.line_loop.specs.Ending.{EndsWithCause, KeepsLimit, EndsAs};
+ghost use Rattle.line_loop.specs.Kept.{kept_part};
 ghost use Rattle.line_loop.specs.Lines.{last_line};
 ghost use Rattle.line_loop.specs.Stop.{Point, IsAt, Takes, StopHasCause};
 
 use crate::buffer::LineBuffer;
 use crate::lines::{answer_line, take_piece};
+use crate::replies::{GATHERED, send};
 use crate::stop::Stop;
 use crate::{Ending, Handler};
 use outside::{Failed, Sink, Source};
@@ -18,8 +20,9 @@ const PIECE: usize = 4096;
 /// the outside fails, there is no memory, or the source has more than `limit` bytes.
 ///
 /// Lines end with a line feed; one carriage return directly before it is dropped. The last line may lack its line feed.
-/// Each line that has ended is answered before the next read. A read asks for at most 4,096 bytes, and for none past
-/// the limit but the one that shows that there is another.
+/// Each line that has ended is answered before the next read. The replies are gathered and written together: before the
+/// next read, before a line that may ask the context, where they have more than 65,536 bytes, and at the end. A read asks
+/// for at most 4,096 bytes, and for none past the limit but the one that shows that there is another.
 pub fn run_lines<C, H: Handler<C>, S: Source, K: Sink>(
     alloc: Global,
     limit: u64,
@@ -44,8 +47,8 @@ pub fn run_lines<C, H: Handler<C>, S: Source, K: Sink>(
     let Ok(mut line) = LineBuffer::new(alloc, H::LONGEST) else {
         return Ending::NoMemory;
     };
-    // With room for every short reply, so that a refusal takes no memory.
-    let Ok(mut reply) = Vec::with_capacity(alloc, PIECE) else {
+    // With room for a short reply behind those that wait, so that a refusal takes no memory.
+    let Ok(mut replies) = Vec::with_capacity(alloc, GATHERED + PIECE) else {
         return Ending::NoMemory;
     };
     let mut piece = [0u8; PIECE];
@@ -54,7 +57,7 @@ pub fn run_lines<C, H: Handler<C>, S: Source, K: Sink>(
         match source.read(&mut piece[..room(limit, taken)]) {
             Err(Failed) => return Ending::ReadFault,
             Ok(0) => {
-                if let Err(stop) = finish(handler, context, sink, &mut reply, &line) {
+                if let Err(stop) = finish(handler, context, sink, &mut replies, &line) {
                     return Ending::from(stop);
                 }
                 return Ending::Done;
@@ -67,7 +70,7 @@ pub fn run_lines<C, H: Handler<C>, S: Source, K: Sink>(
                     context,
                     sink,
                     &mut line,
-                    &mut reply,
+                    &mut replies,
                     &piece[..len],
                 );
                 if let Err(stop) = taking {
@@ -93,18 +96,21 @@ fn finish<C, H: Handler<C>, K: Sink>(
     handler: &mut H,
     context: &mut C,
     sink: &mut K,
-    reply: &mut Vec<u8>,
+    replies: &mut Vec<u8>,
     line: &LineBuffer,
 ) -> Result<(), Stop>
-    requires { line.now.most ≡ H.LONGEST + 2 }
+    requires none { replies.old.items ≡ [] }
     ensures cause { StopHasCause (K.faults sink.old) (K.faults sink.new) (H.faults context.old) (H.faults context.new) result }
     ensures takes { (start : Point H.State) (begun : List ℕ) →
-        IsAt start (H.state handler.old context.old) (K.written sink.old) → line.now.kept ≡ take line.now.most begun →
+        IsAt start (H.state handler.old context.old) (K.written sink.old) → line.now.kept ≡ kept_part H.LONGEST begun →
         Takes H.machine H.leaves start (last_line begun) result (H.state handler.new context.new) (K.written sink.new) }
 {
     let last = line.unended();
     if last.is_empty() {
         return Ok(());
     }
-    answer_line(handler, context, sink, reply, last)
+    if let Err(stop) = answer_line(handler, context, sink, replies, last) {
+        return Err(stop);
+    }
+    send(sink, replies, 0)
 }

@@ -1,4 +1,5 @@
-ghost use Rattle.std.specs.Prelude.{◌≡◌, ◌<◌, ◌++◌, ◌∷◌, ◌||◌, [], Bool, ℕ, List, Some, length, nat_lt, codes, if◌then◌else◌};
+ghost use Rattle.std.specs.Prelude.{◌≡◌, ◌<◌, ◌++◌, ◌∷◌, ◌||◌, [], Bool, ℕ, List, None, Some, true, false, length, nat_lt, codes, if◌then◌else◌};
+ghost use Rattle.outside.specs.declared.fault.OutFail.TheVariants.{Failed, NoMemory};
 ghost use Rattle.std.specs.Str.{bytes_eq};
 
 use super::*;
@@ -26,14 +27,18 @@ impl Handler<MemShelf> for Echo {
 
     ghost faults = { λ shelf. shelf.plan.faults };
 
-    ghost leaves = { λ fail before line told. told ≡ Some before };
+    ghost leaves = { λ fail before line told. (fail ≡ Failed → bytes_eq line (codes "ask") ≡ true) × (told ≡ Some before) };
 
-    ghost LONGEST = { 8 };
+    ghost LONGEST = { Some 8 };
 
-    const LONGEST: u32 = 8;
+    const LONGEST: Option<u32> = Some(8);
 
     fn is_done(&self) -> bool {
         self.done
+    }
+
+    fn asks(&self, line: &[u8]) -> bool {
+        line == b"ask".as_slice()
     }
 
     fn answer(
@@ -161,6 +166,26 @@ fn failing_calls_end_a_run(rt: HostRuntime) -> Result<(), Fail> {
 }
 
 #[test]
+fn replies_are_written_together(rt: HostRuntime) -> Result<(), Fail> {
+    let alloc = rt.alloc();
+    // One read, and two writes: before the line that asks, and at the end of what was read.
+    let input = b"a\nb\nask\nc\n";
+    let cases: [([&[u64]; 3], Ending, &[u8]); 5] = [
+        ([&[], &[], &[1]], Ending::ContextFault, b"a\nb\n"),
+        ([&[], &[1], &[]], Ending::WriteFault, b""),
+        ([&[], &[2], &[]], Ending::WriteFault, b"a\nb\n"),
+        ([&[], &[3], &[]], Ending::Done, b"a\nb\nask\nc\n"),
+        ([&[2], &[], &[]], Ending::ReadFault, b"a\nb\nask\nc\n"),
+    ];
+    for (fail, ending, output) in cases {
+        let (came, written) = run(alloc, 100, input, 100, fail)?;
+        assert_eq!(rt; came, ending);
+        assert_eq!(rt; written.as_slice(), output);
+    }
+    Ok(())
+}
+
+#[test]
 fn long_lines_and_long_inputs_are_answered(rt: HostRuntime) -> Result<(), Fail> {
     let alloc = rt.alloc();
     let mut input = vec![in alloc; b'x'; 10_000]?;
@@ -173,5 +198,65 @@ fn long_lines_and_long_inputs_are_answered(rt: HostRuntime) -> Result<(), Fail> 
     let (ending, written) = run(alloc, 8_000, &lines, 5_000, NONE)?;
     assert_eq!(rt; ending, Ending::InputLimit);
     assert_eq!(rt; written.as_slice(), &lines[..8_000]);
+    Ok(())
+}
+
+// A machine that says each line again, however long it is.
+#[derive(Drop)]
+struct Mirror;
+
+impl Handler<MemShelf> for Mirror {
+    ghost State = { Unit {0} };
+
+    ghost machine = { record {
+      next = λ now line. now;
+      reply = λ now line. line ++ 10 ∷ [];
+      done = λ now. false;
+    } };
+
+    ghost state = { λ mirror _. Some tt };
+
+    ghost faults = { λ shelf. shelf.plan.faults };
+
+    ghost leaves = { λ fail before line told. fail ≡ NoMemory };
+
+    ghost LONGEST = { None };
+
+    const LONGEST: Option<u32> = None;
+
+    fn is_done(&self) -> bool {
+        false
+    }
+
+    fn asks(&self, line: &[u8]) -> bool {
+        false
+    }
+
+    fn answer(&mut self, line: &[u8], _: &mut MemShelf, out: &mut Vec<u8>) -> Result<(), OutFail> {
+        out.extend_from_slice(line)?;
+        out.push(b'\n').map_err(|_| OutFail::NoMemory)
+    }
+
+    fn long_lines_step_alike() {}
+}
+
+#[test]
+fn lines_may_have_no_longest(rt: HostRuntime) -> Result<(), Fail> {
+    let alloc = rt.alloc();
+    let mut input = vec![in alloc; b'x'; 10_000]?;
+    input.push(b'\n')?;
+    let mut source = MemSource::new(input.to_vec(alloc)?, 3_000, Vec::new(alloc));
+    let mut sink = MemSink::new(alloc, 5_000, Vec::new(alloc));
+    let mut shelf = MemShelf::new(alloc, Vec::new(alloc));
+    let ending = run_lines(
+        alloc,
+        20_000,
+        &mut Mirror,
+        &mut source,
+        &mut sink,
+        &mut shelf,
+    );
+    assert_eq!(rt; ending, Ending::Done);
+    assert_eq!(rt; sink.bytes(), input.as_slice());
     Ok(())
 }

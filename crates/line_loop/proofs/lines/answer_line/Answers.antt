@@ -1,56 +1,69 @@
-use Rattle.std.proofs.Common.{◌≡◌, ◌∙◌, ◌++◌, ap, sym, subst, false, Some}
-use Rattle.line_loop.specs.Machine.{StepsAlike}
-use Rattle.line_loop.specs.Stop.{WritesPart}
-use Rattle.line_loop.proofs.AnswerLemmas.{alike_kept, answered, context_failed, memory_failed, write_failed, write_lacks_memory}
+use Rattle.std.proofs.Common.{◌≡◌, ◌∙◌, ◌∷◌, [], sym, subst, false}
+use Rattle.outside.specs.Faults.{FailCounts}
+use Rattle.line_loop.specs.Machine.{StepsAlike, after}
+use Rattle.line_loop.specs.Gathered.{Gathers}
+use Rattle.line_loop.proofs.GatherLemmas.{alike_kept, none_waits, sent_more, send_stops_before, nothing_more, answered, context_failed, memory_failed}
 use Rattle.line_loop.proofs.lines.answer_line.Goals as goal
 
-pub returns-in-Failed-clause-takes : goal.returns-in-Failed-clause-takes
-returns-in-Failed-clause-takes g c = λ start line at kept.
-    let h = g.H.Handler in
-    let alike : StepsAlike h.machine h.leaves c.args.kept.now line = alike_kept h.machine h.leaves h.LONGEST _ _ c.long_lines_step_alike.ensures kept in
-    let going_on : h.machine.done start.state ≡ false = sym (c.is_done.ensures c.args.context.now start.state at.in_state) ∙ c.if-is_done.false in
-    context_failed h.machine h.leaves start _ line alike going_on _ _
-    (subst (λ fail. h.leaves fail start.state c.args.kept.now (h.state c.answer.new.self c.answer.new.context)) c.in-Failed.is (c.in-Err.ensures.step start.state at.in_state))
-    at.has_written
+pub returns-then-is_done-clause-collects : goal.returns-then-is_done-clause-collects
+returns-then-is_done-clause-collects g c = λ start before line h kept.
+    let m = g.H.Handler.machine in
+    nothing_more m g.H.Handler.leaves start before (g.H.Handler.state c.args.handler.now c.args.context.now) (g.K.Sink.written c.args.sink.now) c.args.replies.now.items h line (sym (c.is_done.ensures c.args.context.now (after m start.state before) h.in_state) ∙ c.if-is_done.true)
 
-pub returns-in-NoMemory-clause-takes : goal.returns-in-NoMemory-clause-takes
-returns-in-NoMemory-clause-takes g c = λ start line at kept.
-    let h = g.H.Handler in
-    let alike : StepsAlike h.machine h.leaves c.args.kept.now line = alike_kept h.machine h.leaves h.LONGEST _ _ c.long_lines_step_alike.ensures kept in
-    let going_on : h.machine.done start.state ≡ false = sym (c.is_done.ensures c.args.context.now start.state at.in_state) ∙ c.if-is_done.false in
-    memory_failed h.machine h.leaves start _ line alike going_on _ _
-    (subst (λ fail. h.leaves fail start.state c.args.kept.now (h.state c.answer.new.self c.answer.new.context)) c.in-NoMemory.is (c.in-Err.ensures.step start.state at.in_state))
-    at.has_written
+pub returns-in-Err-clause-collects : goal.returns-in-Err-clause-collects
+returns-in-Err-clause-collects g c = λ start before line h kept.
+    send_stops_before g.H.Handler.machine g.H.Handler.leaves start before (g.H.Handler.state c.args.handler.now c.args.context.now) (g.K.Sink.written c.args.sink.now) c.args.replies.now.items h (line ∷ []) c.in-Err.stop
+    (g.K.Sink.written c.send.new.sink) c.in-Err.ensures.sends
 
-pub returns-in-Ok-clause-takes : goal.returns-in-Ok-clause-takes
-returns-in-Ok-clause-takes g c = λ start line at kept.
-    let h = g.H.Handler in
-    let alike : StepsAlike h.machine h.leaves c.args.kept.now line = alike_kept h.machine h.leaves h.LONGEST _ _ c.long_lines_step_alike.ensures kept in
-    let going_on : h.machine.done start.state ≡ false = sym (c.is_done.ensures c.args.context.now start.state at.in_state) ∙ c.if-is_done.false in
-    let step = c.in_default.ensures.step start.state at.in_state in
-    let shown : c.deref.result.now ≡ h.machine.reply start.state c.args.kept.now =
-    c.deref.ensures.value ∙ step.0 ∙ ap (λ out. out ++ h.machine.reply start.state c.args.kept.now) c.clear.ensures.items in
-    answered h.machine h.leaves start _ line alike going_on _ _ step.1
-    (subst (λ r. g.K.Sink.written c.write_all.new.sink ≡ Some (start.written ++ r)) shown (c.in-Ok.ensures.written start.written at.has_written))
+pub returns-in-Ok-clause-cause : goal.returns-in-Ok-clause-cause
+returns-in-Ok-clause-cause g c = ((c.in_default.ensures.cause (g.H.Handler.faults c.args.context.now)).0, c.in-Ok.ensures.cause)
 
-pub returns-in-Err-Failed-clause-takes : goal.returns-in-Err-Failed-clause-takes
-returns-in-Err-Failed-clause-takes g c = λ start line at kept.
-    let h = g.H.Handler in
-    let alike : StepsAlike h.machine h.leaves c.args.kept.now line = alike_kept h.machine h.leaves h.LONGEST _ _ c.long_lines_step_alike.ensures kept in
-    let going_on : h.machine.done start.state ≡ false = sym (c.is_done.ensures c.args.context.now start.state at.in_state) ∙ c.if-is_done.false in
-    let step = c.in_default.ensures.step start.state at.in_state in
-    let shown : c.deref.result.now ≡ h.machine.reply start.state c.args.kept.now =
-    c.deref.ensures.value ∙ step.0 ∙ ap (λ out. out ++ h.machine.reply start.state c.args.kept.now) c.clear.ensures.items in
-    write_failed h.machine h.leaves start _ line alike going_on _ _ step.1
-    (subst (λ r. WritesPart r start.written (g.K.Sink.written c.write_all.new.sink)) shown (c.in-Err-Failed.ensures.written start.written at.has_written))
+pub returns-in-Ok-clause-collects : goal.returns-in-Ok-clause-collects
+returns-in-Ok-clause-collects g c = λ start before line h kept.
+    let r = g.H.Handler in
+    let now = after r.machine start.state before in
+    let alike : StepsAlike r.machine r.leaves c.args.kept.now line = alike_kept r.machine r.leaves r.LONGEST c.args.kept.now line c.long_lines_step_alike.ensures kept in
+    let going_on : r.machine.done now ≡ false = sym (c.is_done.ensures c.args.context.now now h.in_state) ∙ c.if-is_done.false in
+    let waits : Gathers r.machine start before (r.state c.args.handler.now c.args.context.now) (g.K.Sink.written c.send.new.sink) c.send.new.replies.items =
+    sent_more r.machine r.leaves start before (r.state c.args.handler.now c.args.context.now) (g.K.Sink.written c.args.sink.now) c.args.replies.now.items h c.send.new.replies.items (g.K.Sink.written c.send.new.sink) c.in_default.ensures.sends in
+    let step = c.in-Ok.ensures.step now h.in_state in
+    answered r.machine r.leaves start before (r.state c.args.handler.now c.args.context.now) (g.K.Sink.written c.send.new.sink) c.send.new.replies.items waits line c.args.kept.now alike going_on
+    (r.state c.answer.new.self c.answer.new.context) c.answer.new.out.items step.1 step.0
 
-pub returns-in-Err-NoMemory-clause-takes : goal.returns-in-Err-NoMemory-clause-takes
-returns-in-Err-NoMemory-clause-takes g c = λ start line at kept.
-    let h = g.H.Handler in
-    let alike : StepsAlike h.machine h.leaves c.args.kept.now line = alike_kept h.machine h.leaves h.LONGEST _ _ c.long_lines_step_alike.ensures kept in
-    let going_on : h.machine.done start.state ≡ false = sym (c.is_done.ensures c.args.context.now start.state at.in_state) ∙ c.if-is_done.false in
-    let step = c.in_default.ensures.step start.state at.in_state in
-    let shown : c.deref.result.now ≡ h.machine.reply start.state c.args.kept.now =
-    c.deref.ensures.value ∙ step.0 ∙ ap (λ out. out ++ h.machine.reply start.state c.args.kept.now) c.clear.ensures.items in
-    write_lacks_memory h.machine h.leaves start _ line alike going_on _ _ step.1
-    (subst (λ r. WritesPart r start.written (g.K.Sink.written c.write_all.new.sink)) shown (c.in-Err-NoMemory.ensures.written start.written at.has_written))
+pub returns-in-Err-Failed-clause-cause : goal.returns-in-Err-Failed-clause-cause
+returns-in-Err-Failed-clause-cause g c = (
+  (c.in_default.ensures.cause (g.H.Handler.faults c.args.context.now)).0,
+  subst (λ fail. FailCounts (g.H.Handler.faults c.args.context.now) (g.H.Handler.faults c.answer.new.context) fail) c.in-Err-Failed.field-0-is c.in-Err-Failed.ensures.cause,
+)
+
+pub returns-in-Err-Failed-clause-collects : goal.returns-in-Err-Failed-clause-collects
+returns-in-Err-Failed-clause-collects g c = λ start before line h kept.
+    let r = g.H.Handler in
+    let now = after r.machine start.state before in
+    let alike : StepsAlike r.machine r.leaves c.args.kept.now line = alike_kept r.machine r.leaves r.LONGEST c.args.kept.now line c.long_lines_step_alike.ensures kept in
+    let going_on : r.machine.done now ≡ false = sym (c.is_done.ensures c.args.context.now now h.in_state) ∙ c.if-is_done.false in
+    let waits : Gathers r.machine start before (r.state c.args.handler.now c.args.context.now) (g.K.Sink.written c.send.new.sink) c.send.new.replies.items =
+    sent_more r.machine r.leaves start before (r.state c.args.handler.now c.args.context.now) (g.K.Sink.written c.args.sink.now) c.args.replies.now.items h c.send.new.replies.items (g.K.Sink.written c.send.new.sink) c.in_default.ensures.sends in
+    let told = r.state c.answer.new.self c.answer.new.context in
+    let left = subst (λ fail. r.leaves fail now c.args.kept.now told) c.in-Err-Failed.field-0-is (c.in-Err-Failed.ensures.step now h.in_state) in
+    let none = none_waits r.machine r.leaves c.asks.result c.most_waiting-most.result c.send.new.replies.items c.most_waiting-most.ensures c.in_default.ensures.few
+    (λ never. c.asks.ensures c.args.context.now now told h.in_state never left) in
+    context_failed r.machine r.leaves start before (r.state c.args.handler.now c.args.context.now) (g.K.Sink.written c.send.new.sink) c.send.new.replies.items waits line c.args.kept.now alike going_on told none left
+
+pub returns-in-Err-NoMemory-clause-cause : goal.returns-in-Err-NoMemory-clause-cause
+returns-in-Err-NoMemory-clause-cause g c = (
+  (c.in_default.ensures.cause (g.H.Handler.faults c.args.context.now)).0,
+  subst (λ fail. FailCounts (g.H.Handler.faults c.args.context.now) (g.H.Handler.faults c.answer.new.context) fail) c.in-Err-NoMemory.field-0-is c.in-Err-NoMemory.ensures.cause,
+)
+
+pub returns-in-Err-NoMemory-clause-collects : goal.returns-in-Err-NoMemory-clause-collects
+returns-in-Err-NoMemory-clause-collects g c = λ start before line h kept.
+    let r = g.H.Handler in
+    let now = after r.machine start.state before in
+    let alike : StepsAlike r.machine r.leaves c.args.kept.now line = alike_kept r.machine r.leaves r.LONGEST c.args.kept.now line c.long_lines_step_alike.ensures kept in
+    let going_on : r.machine.done now ≡ false = sym (c.is_done.ensures c.args.context.now now h.in_state) ∙ c.if-is_done.false in
+    let waits : Gathers r.machine start before (r.state c.args.handler.now c.args.context.now) (g.K.Sink.written c.send.new.sink) c.send.new.replies.items =
+    sent_more r.machine r.leaves start before (r.state c.args.handler.now c.args.context.now) (g.K.Sink.written c.args.sink.now) c.args.replies.now.items h c.send.new.replies.items (g.K.Sink.written c.send.new.sink) c.in_default.ensures.sends in
+    let told = r.state c.answer.new.self c.answer.new.context in
+    memory_failed r.machine r.leaves start before (r.state c.args.handler.now c.args.context.now) (g.K.Sink.written c.send.new.sink) c.send.new.replies.items waits line c.args.kept.now alike going_on told
+    (subst (λ fail. r.leaves fail now c.args.kept.now told) c.in-Err-NoMemory.field-0-is (c.in-Err-NoMemory.ensures.step now h.in_state))

@@ -1,4 +1,5 @@
 use Rattle.std.proofs.Common.{◌≡◌, ◌∙◌, ◌++◌, ◌+◌, ◌≤◌, Some, ap, sym, subst, take, drop, arith}
+use Rattle.line_loop.specs.Kept.{kept_part}
 use Rattle.line_loop.specs.Lines.{ended_from, ended_lines, open_line}
 use Rattle.line_loop.specs.Machine.{after}
 use Rattle.line_loop.specs.Stop.{IsAt, reach, Stops}
@@ -115,7 +116,8 @@ reading-preserved g c =
     let piece = take len (c.read.new.buf ++ drop c.room.result c.reading.piece) in
     record {
       within = room_keeps c.args.limit c.reading.taken c.room.result c.in-Ok-read.field-0 c.read.new.buf c.reading.piece c.reading.invariant.within c.if-taken-limit.false c.room.ensures c.read.auto.buf c.in-Ok-read.ensures.bound;
-      most = c.in_default-taking.ensures.most ∙ c.reading.invariant.most;
+      longest = c.in_default-taking.ensures.longest ∙ c.reading.invariant.longest;
+      none = c.in_default-taking.ensures.none;
       source_faults = c.in-Ok-read.ensures.cause ∙ c.reading.invariant.source_faults;
       sink_faults = c.in_default-taking.ensures.cause.0 ∙ c.reading.invariant.sink_faults;
       context_faults = c.in_default-taking.ensures.cause.1 ∙ c.reading.invariant.context_faults;
@@ -134,7 +136,7 @@ reading-preserved g c =
           let so_far = c.reading.invariant.left bytes told in
           let got = c.in-Ok-read.ensures.bytes (drop n bytes) so_far.rest in
           c.in_default-taking.ensures.begins (open_line (take n bytes)) (c.reading.invariant.kept bytes told)
-          ∙ ap (take c.take_piece-taking.new.line.most) (sym (open_line-more bytes piece n len (piece_is bytes c.read.new.buf (drop c.room.result c.reading.piece) n len got.1 c.in-Ok-read.ensures.bound)));
+          ∙ ap (kept_part g.H.Handler.LONGEST) (sym (open_line-more bytes piece n len (piece_is bytes c.read.new.buf (drop c.room.result c.reading.piece) n len got.1 c.in-Ok-read.ensures.bound)));
     }
 
 pub returns-clause-ends : goal.returns-clause-ends
@@ -143,4 +145,4 @@ returns-clause-ends g c = λ start bytes at told.
     let n = c.reading.taken in
     let reached = c.reading.invariant.reached start bytes at told in
     done_within m g.H.Handler.leaves c.args.limit start bytes n c.reading.invariant.within
-    (sym (c.is_done.ensures c.reading.context (after m start.state (ended_lines (take n bytes))) reached.in_state) ∙ c.reading-test.false) _ _ _ reached
+    (sym (c.is_done.ensures c.reading.context (after m start.state (ended_lines (take n bytes))) reached.in_state) ∙ c.reading-test.false) _ _ _ (c.reading.invariant.left bytes told) reached

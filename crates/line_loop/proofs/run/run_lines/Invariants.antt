@@ -1,4 +1,5 @@
-use Rattle.std.proofs.Common.{◌≡◌, ℕ, ◌-◌, ◌+◌, ◌≤◌, List, take, Some}
+use Rattle.std.proofs.Common.{◌≡◌, ℕ, ◌-◌, ◌≤◌, List, [], take, Some}
+use Rattle.line_loop.specs.Kept.{kept_part}
 use Rattle.line_loop.specs.Lines.{ended_lines, open_line}
 use Rattle.line_loop.specs.Stop.{Point, IsAt, reach}
 use Rattle.line_loop.specs.Ending.{HasTaken}
@@ -8,7 +9,8 @@ use Rattle.line_loop.proofs.run.run_lines.Given as goal
 abbrev pub invariant-reading : goal.invariant-reading
 invariant-reading g l = record {
   within : l.taken ≤ l.limit;
-  most : l.line.most ≡ g.H.Handler.LONGEST + 2;
+  longest : l.line.longest ≡ g.H.Handler.LONGEST;
+  none : l.replies.items ≡ [];
   source_faults : g.S.Source.faults l.source ≡ g.S.Source.faults l.initial.source;
   sink_faults : g.K.Sink.faults l.sink ≡ g.K.Sink.faults l.initial.sink;
   context_faults : g.H.Handler.faults l.context ≡ g.H.Handler.faults l.initial.context;
@@ -18,7 +20,7 @@ invariant-reading g l = record {
       g.S.Source.left l.initial.source ≡ Some bytes →
       IsAt (reach g.H.Handler.machine start (ended_lines (take l.taken bytes))) (g.H.Handler.state l.handler l.context) (g.K.Sink.written l.sink);
   kept : (bytes : List ℕ) → g.S.Source.left l.initial.source ≡ Some bytes →
-      l.line.kept ≡ take l.line.most (open_line (take l.taken bytes));
+      l.line.kept ≡ kept_part g.H.Handler.LONGEST (open_line (take l.taken bytes));
 }
 
 abbrev pub decreases-reading : goal.decreases-reading

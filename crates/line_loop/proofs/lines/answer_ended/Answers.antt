@@ -1,0 +1,28 @@
+use Rattle.std.proofs.Common.{◌∙◌, ◌∷◌, [], ◌++◌, ap, sym}
+use Rattle.std.specs.Str.Lines.{strip_carriage_return}
+use Rattle.line_loop.specs.Kept.{IsKept, kept_part}
+use Rattle.line_loop.proofs.LinesLemmas.{kept_line, ok_is}
+use Rattle.line_loop.proofs.GatherLemmas.{memory_before}
+use Rattle.line_loop.proofs.lines.answer_ended.Goals as goal
+
+pub returns-then-is_err-clause-collects : goal.returns-then-is_err-clause-collects
+returns-then-is_err-clause-collects g c = λ start before begun h kept.
+    memory_before g.H.Handler.machine g.H.Handler.leaves start before (g.H.Handler.state c.args.handler.now c.args.context.now) (g.K.Sink.written c.args.sink.now) c.args.replies.now.items h (strip_carriage_return (begun ++ c.args.end.now) ∷ [])
+
+pub returns-in-Err-clause-collects : goal.returns-in-Err-clause-collects
+returns-in-Err-clause-collects g c = λ start before begun h kept.
+    let extended = ok_is c.extend.result (sym c.is_err.ensures.value ∙ c.if-is_err.false) c.extend.ensures.extended in
+    let whole : IsKept g.H.Handler.LONGEST c.without_carriage_return-whole.result.now (strip_carriage_return (begun ++ c.args.end.now)) =
+    kept_line g.H.Handler.LONGEST c.args.line.now.kept c.args.end.now begun c.without_carriage_return-whole.result.now kept
+    (c.without_carriage_return-whole.ensures ∙ ap strip_carriage_return (c.unended-2.ensures ∙ ap (λ b. b.kept) extended
+    ∙ ap (λ l. kept_part l (c.args.line.now.kept ++ c.args.end.now)) c.requires)) in
+    c.in-Err.ensures.collects start before (strip_carriage_return (begun ++ c.args.end.now)) h whole
+
+pub returns-clause-collects : goal.returns-clause-collects
+returns-clause-collects g c = λ start before begun h kept.
+    let extended = ok_is c.extend.result (sym c.is_err.ensures.value ∙ c.if-is_err.false) c.extend.ensures.extended in
+    let whole : IsKept g.H.Handler.LONGEST c.without_carriage_return-whole.result.now (strip_carriage_return (begun ++ c.args.end.now)) =
+    kept_line g.H.Handler.LONGEST c.args.line.now.kept c.args.end.now begun c.without_carriage_return-whole.result.now kept
+    (c.without_carriage_return-whole.ensures ∙ ap strip_carriage_return (c.unended-2.ensures ∙ ap (λ b. b.kept) extended
+    ∙ ap (λ l. kept_part l (c.args.line.now.kept ++ c.args.end.now)) c.requires)) in
+    c.in_default.ensures.collects start before (strip_carriage_return (begun ++ c.args.end.now)) h whole
