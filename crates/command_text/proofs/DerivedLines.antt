@@ -10,7 +10,8 @@ use Rattle.command_text.specs.Tree.{CommandTree}
 use Rattle.command_text.specs.Grammar.{SpellsCommand}
 use Rattle.command_text.specs.Judged.{numbers_fit, sizes_fit}
 use Rattle.command_text.specs.Reading.{Reader, Read, at_first, command_of}
-use Rattle.command_text.specs.Line.{is_comment, is_too_long, has_other_byte, has_bad_token, command_in, early_refusal, late_refusal, first_refusal, first_that_holds, or_else, IsRead, Explains}
+use Rattle.exact.specs.First.{first_that_holds}
+use Rattle.command_text.specs.Line.{is_comment, is_too_long, has_other_byte, has_bad_token, command_in, early_refusal, late_refusal, first_refusal, or_else, IsRead, Explains}
 use Rattle.command_text.specs.GrammarLaws.{told_of, AreReadByTheGrammar, PassesTheFirstThree, IsJudgedByTokens, SpellsWithinLimits, SpellsNoCommand, IsReadByTheGrammar, IsRefusedByTheGrammar}
 use Rattle.command_text.proofs.SpelledCommands.{command_spelled, one_command}
 use Rattle.command_text.proofs.Derived.{map_some}

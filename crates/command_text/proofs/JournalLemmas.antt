@@ -11,7 +11,7 @@ use Rattle.command_text.specs.declared.journal.Kept.{Kept}
 use Rattle.command_text.specs.Text.{text_of}
 use Rattle.command_text.specs.Journal.{Accepted, spelled, line_told, line_bytes, bytes_of}
 use Rattle.command_text.specs.declared.journal.TheConstants.{MOST_ENTRIES, MOST_BYTES}
-use Rattle.command_text.specs.JournalParts.{line_in, accepted, AreLines, IsKept}
+use Rattle.command_text.specs.JournalParts.{line_in, accepted, AreLines, IsJournal}
 
 -- lines end by the end of the text
 pub lines_end : (place : ℕ) (ks : List Kept) (text : List ℕ) → AreLines place ks text → place ≤ length text
@@ -151,10 +151,10 @@ last_inside ks text k h = last_ends 0 ks text k h
 
 -- a journal with one more line
 pub kept_added : (ks ks2 : List Kept) (text text2 line : List ℕ) (tick : ℕ) (journal : List Accepted) →
-    IsKept ks text → journal ≡ map (accepted text) ks → length journal < MOST_ENTRIES → bytes_of journal + length line + 1 ≤ MOST_BYTES →
+    IsJournal ks text → journal ≡ map (accepted text) ks → length journal < MOST_ENTRIES → bytes_of journal + length line + 1 ≤ MOST_BYTES →
     text_of (spelled line) ≡ line →
     ks2 ≡ ks ++ record { tick = tick; from = length text; size = length line } ∷ [] → text2 ≡ text ++ (line ++ 10 ∷ []) →
-    IsKept ks2 text2 × (map (accepted text2) ks2 ≡ journal ++ (tick, spelled line) ∷ [])
+    IsJournal ks2 text2 × (map (accepted text2) ks2 ≡ journal ++ (tick, spelled line) ∷ [])
 kept_added ks ks2 text text2 line tick journal kept view few short same is-kept is-text =
     let k : Kept = record { tick = tick; from = length text; size = length line } in
     let journal-length : length journal ≡ length ks = ap length view ∙ simp (length-map) in
@@ -176,8 +176,8 @@ kept_added ks ks2 text text2 line tick journal kept view few short same is-kept 
 
 -- a journal without its last line
 pub kept_removed : (ks ks2 : List Kept) (text text2 : List ℕ) (k : Kept) (journal : List Accepted) →
-    IsKept ks text → journal ≡ map (accepted text) ks → ks ≡ ks2 ++ k ∷ [] → text2 ≡ take k.from text →
-    IsKept ks2 text2 × (journal ≡ map (accepted text2) ks2 ++ accepted text k ∷ [])
+    IsJournal ks text → journal ≡ map (accepted text) ks → ks ≡ ks2 ++ k ∷ [] → text2 ≡ take k.from text →
+    IsJournal ks2 text2 × (journal ≡ map (accepted text2) ks2 ++ accepted text k ∷ [])
 kept_removed ks ks2 text text2 k journal kept view is-kept is-text =
     let before : AreLines 0 (ks2 ++ k ∷ []) text = subst (λ (x : List Kept). AreLines 0 x text) is-kept kept.lines in
     let kept-length : length ks ≡ length ks2 + 1 = ap length is-kept ∙ simp (length-append) in
@@ -195,17 +195,17 @@ kept_removed ks ks2 text text2 k journal kept view is-kept is-text =
 
 -- a line that was added, or for which there was no memory
 pub kept_either : (r : Result (Unit {0}) AllocError) (ks ks2 : List Kept) (text text2 line : List ℕ) (tick : ℕ) (journal : List Accepted) →
-    IsKept ks text → journal ≡ map (accepted text) ks → length journal < MOST_ENTRIES → bytes_of journal + length line + 1 ≤ MOST_BYTES →
+    IsJournal ks text → journal ≡ map (accepted text) ks → length journal < MOST_ENTRIES → bytes_of journal + length line + 1 ≤ MOST_BYTES →
     text_of (spelled line) ≡ line →
     OnOk r (ks2 ≡ ks ++ record { tick = tick; from = length text; size = length line } ∷ []) → OnOk r (text2 ≡ text ++ (line ++ 10 ∷ [])) →
-    OnErr r ((ks2 ≡ ks) × (text2 ≡ text)) → IsKept ks2 text2
+    OnErr r ((ks2 ≡ ks) × (text2 ≡ text)) → IsJournal ks2 text2
 kept_either (Ok u) ks ks2 text text2 line tick journal kept view few short same is-kept is-text e =
     (kept_added ks ks2 text text2 line tick journal kept view few short same is-kept is-text).0
 kept_either (Err e) ks ks2 text text2 line tick journal kept view few short same is-kept is-text is =
-    subst (λ (x : List Kept). IsKept x text2) (sym is.0) (subst (λ (t : List ℕ). IsKept ks t) (sym is.1) kept)
+    subst (λ (x : List Kept). IsJournal x text2) (sym is.0) (subst (λ (t : List ℕ). IsJournal ks t) (sym is.1) kept)
 
 pub told_either : (r : Result (Unit {0}) AllocError) (ks ks2 : List Kept) (text text2 line : List ℕ) (tick : ℕ) (journal : List Accepted) →
-    IsKept ks text → journal ≡ map (accepted text) ks → length journal < MOST_ENTRIES → bytes_of journal + length line + 1 ≤ MOST_BYTES →
+    IsJournal ks text → journal ≡ map (accepted text) ks → length journal < MOST_ENTRIES → bytes_of journal + length line + 1 ≤ MOST_BYTES →
     text_of (spelled line) ≡ line →
     OnOk r (ks2 ≡ ks ++ record { tick = tick; from = length text; size = length line } ∷ []) → OnOk r (text2 ≡ text ++ (line ++ 10 ∷ [])) →
     OnOk r (map (accepted text2) ks2 ≡ journal ++ (tick, spelled line) ∷ [])

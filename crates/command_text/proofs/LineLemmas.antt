@@ -15,7 +15,8 @@ use Rattle.command_text.specs.Tree.{CommandTree, command_view}
 use Rattle.command_text.specs.Piece.{piece_of, pieces}
 use Rattle.command_text.specs.Reading.{Reader, Read, front, at_first, command, command_of}
 use Rattle.command_text.specs.Standing.{standing}
-use Rattle.command_text.specs.Line.{is_comment, is_too_long, has_other_byte, has_bad_token, command_in, early_refusal, late_refusal, first_refusal, refusal_behind, first_that_holds, or_else, IsWhole, Refuses, TellsBadPlace, IsReadLate, ExplainsLate, IsRead, Explains}
+use Rattle.exact.specs.First.{first_that_holds}
+use Rattle.command_text.specs.Line.{is_comment, is_too_long, has_other_byte, has_bad_token, command_in, early_refusal, late_refusal, first_refusal, refusal_behind, or_else, IsWhole, Refuses, TellsBadPlace, IsReadLate, ExplainsLate, IsRead, Explains}
 
 -- where a reader begins
 abbrev first_place : At

@@ -6,7 +6,8 @@ use Rattle.command_text.specs.declared.reading.TheConstants.{LINE_LIMIT}
 use Rattle.command_text.specs.declared.refusal.Refusal.TheVariants as refusals
 use Rattle.command_text.specs.Tree
 use Rattle.command_text.specs.Tree.{CommandTree}
-use Rattle.command_text.specs.Line.{is_comment, is_too_long, has_other_byte, has_bad_token, first_that_holds, IsRead}
+use Rattle.exact.specs.First.{first_that_holds}
+use Rattle.command_text.specs.Line.{is_comment, is_too_long, has_other_byte, has_bad_token, IsRead}
 use Rattle.command_text.specs.GrammarLaws.{PassesTheFirstThree, SpellsWithinLimits}
 use Rattle.command_text.specs.Text.{text_of}
 use Rattle.command_text.specs.Shape.{IsAscii, IsPrintable}

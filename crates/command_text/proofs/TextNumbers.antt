@@ -15,11 +15,13 @@ use Rattle.fixed_point.specs.Canonical.{fix_text}
 use Rattle.fixed_point.proofs.DecimalLemmas.{decimal_law}
 use Rattle.fixed_point.proofs.CanonicalLemmas.{printed_law}
 use Rattle.ftl_lexer.specs.Cut.{is_number}
-use Rattle.ftl_parser.specs.declared.number.TheConstants.{RADIUS_LIMIT, TICKS_LIMIT}
+use Rattle.geometry.specs.declared.limits.TheConstants.{RADIUS_LIMIT}
+use Rattle.tick_set.specs.declared.spans.TheConstants.{LAST_TICK}
 use Rattle.ftl_parser.specs.Number.{up_to, whole_of}
 use Rattle.ftl_parser.specs.Shape.{IsUnsigned}
 use Rattle.ftl_parser.proofs.TextNumbers.{whole_is, whole_short, fix_short, minus_short}
-use Rattle.command_text.specs.declared.ranges.TheConstants.{CAPACITY_LIMIT, NEAREST_LIMIT}
+use Rattle.motion.specs.declared.limits.TheConstants.{CAPACITY_LIMIT}
+use Rattle.command_text.specs.declared.ranges.TheConstants.{NEAREST_LIMIT}
 use Rattle.command_text.specs.Ranges.{WholePlace, Span, Ticks, Capacity, Nearest, whole_in, radius_in, SignedPlace, Value, Rate, Width, signed, signed_in}
 use Rattle.command_text.specs.Grammar.{whole_at, radius_at, signed_at}
 use Rattle.command_text.specs.Shape.{IsFrom, IsValue, IsRate, IsWidth}
@@ -27,8 +29,8 @@ use Rattle.command_text.specs.Shape.{IsFrom, IsValue, IsRate, IsWidth}
 -- ---- the ranges of places
 
 abbrev pub IsWholeIn : WholePlace → ℕ → Type 0
-IsWholeIn Span n = IsFrom 0 TICKS_LIMIT n
-IsWholeIn Ticks n = IsFrom 1 TICKS_LIMIT n
+IsWholeIn Span n = IsFrom 0 LAST_TICK n
+IsWholeIn Ticks n = IsFrom 1 LAST_TICK n
 IsWholeIn Capacity n = IsFrom 1 CAPACITY_LIMIT n
 IsWholeIn Nearest n = IsFrom 1 NEAREST_LIMIT n
 
@@ -64,8 +66,8 @@ whole_from least most text n is =
     from_is least most n (up_to most text) (λ m e. choice_is (list_all is_ascii_digit text) (leb (digits_value 10 text) most) (digits_value 10 text) most m refl e) is
 
 whole_found : (place : WholePlace) (text : List ℕ) (n : ℕ) → whole_in place text ≡ Some n → IsWholeIn place n
-whole_found Span text n is = whole_from 0 TICKS_LIMIT text n is
-whole_found Ticks text n is = whole_from 1 TICKS_LIMIT text n is
+whole_found Span text n is = whole_from 0 LAST_TICK text n is
+whole_found Ticks text n is = whole_from 1 LAST_TICK text n is
 whole_found Capacity text n is = whole_from 1 CAPACITY_LIMIT text n is
 whole_found Nearest text n is = whole_from 1 NEAREST_LIMIT text n is
 
@@ -144,8 +146,8 @@ from_one_short most text small =
     (whole_short most text small)
 
 pub whole_is_short : (place : WholePlace) (text : List ℕ) → length (decimal (whole_at place text)) ≤ max 1 (length text)
-whole_is_short Span text = whole_short TICKS_LIMIT text (omega arith)
-whole_is_short Ticks text = from_one_short TICKS_LIMIT text (omega arith)
+whole_is_short Span text = whole_short LAST_TICK text (omega arith)
+whole_is_short Ticks text = from_one_short LAST_TICK text (omega arith)
 whole_is_short Capacity text = from_one_short CAPACITY_LIMIT text (omega arith)
 whole_is_short Nearest text = from_one_short NEAREST_LIMIT text (omega arith)
 
@@ -198,8 +200,8 @@ from_again least most n within small =
     rw (all_pass (decimal n) number.0.1, number.1, high, low) refl
 
 pub whole_again : (place : WholePlace) (n : ℕ) → IsWholeIn place n → whole_in place (decimal n) ≡ Some n
-whole_again Span n within = from_again 0 TICKS_LIMIT n within (omega arith)
-whole_again Ticks n within = from_again 1 TICKS_LIMIT n within (omega arith)
+whole_again Span n within = from_again 0 LAST_TICK n within (omega arith)
+whole_again Ticks n within = from_again 1 LAST_TICK n within (omega arith)
 whole_again Capacity n within = from_again 1 CAPACITY_LIMIT n within (omega arith)
 whole_again Nearest n within = from_again 1 NEAREST_LIMIT n within (omega arith)
 

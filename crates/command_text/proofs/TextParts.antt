@@ -24,7 +24,7 @@ use Rattle.command_text.specs.Ranges.{WholePlace, Ticks, SignedPlace, Value, Rat
 use Rattle.command_text.specs.Sizes.{is_short, word_of, are_few_legs, function_of, are_few_attributes}
 use Rattle.command_text.specs.Grammar.{whole_at, set_of, legs_of_x, legs_of_y, SpellsNum, num_plain, num_minus, SpellsPair, pair, SpellsAttr, attr_num, attr_text, attr_dyn, SpellsMoreAttrs, no_more_attrs, one_more_attr, SpellsAttrs, no_attrs, some_attrs, SpellsPoints, no_points, one_point, SpellsRateLegs, no_rate_legs, one_rate_leg, SpellsRates, rates, SpellsMoveLegs, no_move_legs, one_move_leg, SpellsMoves, moves, SpellsGiven, given_num, given_both, given_text, given_rate, SpellsSettings, no_settings, one_setting, SpellsAt, not_at, at, SpellsMoving, not_moving, moving, SpellsChange, change, SpellsPointWord, no_point_word, point_word}
 use Rattle.command_text.specs.Judged.{num_fit, pair_fit, points_fit, rate_legs_fit, rates_fit, move_legs_fit, moves_fit, given_fit, settings_fit, at_fit, moving_fit, change_fit, attr_small, more_attrs_small, attrs_small, rates_small, moves_small, given_small, settings_small, moving_small, change_small}
-use Rattle.command_text.specs.Shape.{IsShortName, IsPoint, IsLeg, AreLegs, AreMoves, IsGiven, IsSetting, IsAt, IsMoving, IsChange, IsAttribute, AreAttributes}
+use Rattle.command_text.specs.Shape.{IsShortName, IsPoint, IsLeg, AreLegs, AreMoves, IsPrintableGiven, IsSetting, IsAt, IsMoving, IsChange, IsAttribute, AreAttributes}
 use Rattle.command_text.specs.Text as text
 use Rattle.command_text.specs.Text.{quoted, pair_text, rate_leg_text, rates_text, move_leg_text, move_legs_text, moves_text, next_attr_text, attrs_text, points_text, setting_text, settings_text, at_text, moving_text, change_text}
 use Rattle.command_text.proofs.TextNumbers.{IsWholeIn, IsSignedIn, whole_again, whole_small, plain_again, minus_again, plain_small, minus_small}
@@ -282,7 +282,7 @@ read_rate rest ps is = read_key RATE_WORD (codes "rate") (32 ∷ rest) ps refl r
 read_gives : (rest : List ℕ) (ps : List Piece) → IsCut rest ps → IsCut (codes "= " ++ rest) (SIGN EQUAL ∷ ps)
 read_gives rest ps is = read_equal (32 ∷ rest) ps (read_blank rest ps is)
 
-pub given_reads : (g : Given) → IsGiven g → Reads (text.given_text g) (GivenOf g)
+pub given_reads : (g : Given) → IsPrintableGiven g → Reads (text.given_text g) (GivenOf g)
 given_reads (givens.Num v) shape =
     let r : Reads (fix_text v) (NumOf Value v) = num_reads Value v shape in
     record {

@@ -16,12 +16,14 @@ use Rattle.motion.specs.declared.cell.Place.{Place}
 use Rattle.ftl_lexer.specs.Cut.{is_word}
 use Rattle.ftl_lexer.specs.Tokens.{bad_place, lexemes}
 use Rattle.ftl_lexer.proofs.Cuts.{lexemes_from_cut}
-use Rattle.ftl_parser.specs.declared.number.TheConstants.{RADIUS_LIMIT, TICKS_LIMIT}
+use Rattle.geometry.specs.declared.limits.TheConstants.{RADIUS_LIMIT}
+use Rattle.tick_set.specs.declared.spans.TheConstants.{LAST_TICK}
 use Rattle.ftl_parser.specs.Tree.{QueryTree}
 use Rattle.ftl_parser.specs.Text.{query_text}
 use Rattle.ftl_parser.proofs.TextTokens.{nothing_ends, blank_ends}
 use Rattle.ftl_parser.proofs.TextValues.{fix_is_number}
-use Rattle.command_text.specs.declared.ranges.TheConstants.{CAPACITY_LIMIT, NEAREST_LIMIT}
+use Rattle.motion.specs.declared.limits.TheConstants.{CAPACITY_LIMIT}
+use Rattle.command_text.specs.declared.ranges.TheConstants.{NEAREST_LIMIT}
 use Rattle.command_text.specs.Piece.{Piece, KEY, NAME, NUMBER, TEXT, piece_of, pieces, in_query}
 use Rattle.command_text.specs.Ranges.{WholePlace, Span, Ticks, Capacity, Nearest, Value, Width, whole_in, radius_in}
 use Rattle.command_text.specs.Sizes.{is_short, word_of, are_few_vertices}
@@ -157,7 +159,7 @@ update_cut n p ss name shape =
           (read_blank (n ++ changes) (NAME n ∷ r.tokens) (read_name n changes r.tokens name.0 (change_ends p ss).name (read_last r)));
     }
 
-ask_cut : (k : ℕ) (q : QueryTree) → IsFrom 0 TICKS_LIMIT k → IsQuery q → CommandCut (Tree.Ask k q)
+ask_cut : (k : ℕ) (q : QueryTree) → IsFrom 0 LAST_TICK k → IsQuery q → CommandCut (Tree.Ask k q)
 unfolding text_of reserved_words
 ask_cut k q span shape =
     let number : List ℕ = decimal k in
@@ -172,7 +174,7 @@ ask_cut k q span shape =
           (read_blank (number ++ (32 ∷ query_text q)) (NUMBER number ∷ t.tokens) (whole_before Span k (query_text q) t.tokens span t.is_cut));
     }
 
-watch_cut : (n : List ℕ) (k : ℕ) (q : QueryTree) → IsShortName n → IsFrom 0 TICKS_LIMIT k → IsQuery q → CommandCut (Tree.Watch n k q)
+watch_cut : (n : List ℕ) (k : ℕ) (q : QueryTree) → IsShortName n → IsFrom 0 LAST_TICK k → IsQuery q → CommandCut (Tree.Watch n k q)
 unfolding text_of reserved_words
 watch_cut n k q name span shape =
     let number : List ℕ = decimal k in
@@ -188,7 +190,7 @@ watch_cut n k q name span shape =
           (word_before n (number ++ (32 ∷ query_text q)) (NUMBER number ∷ t.tokens) name (whole_before Span k (query_text q) t.tokens span t.is_cut)));
     }
 
-keep_cut : (n : List ℕ) (k : ℕ) (q : QueryTree) → IsShortName n → IsFrom 0 TICKS_LIMIT k → IsQuery q → CommandCut (Tree.Keep n k q)
+keep_cut : (n : List ℕ) (k : ℕ) (q : QueryTree) → IsShortName n → IsFrom 0 LAST_TICK k → IsQuery q → CommandCut (Tree.Keep n k q)
 unfolding text_of reserved_words
 keep_cut n k q name span shape =
     let number : List ℕ = decimal k in
@@ -230,7 +232,7 @@ drop_cut n name = record {
   is_cut = read_key DROP (codes "drop") (32 ∷ n) (NAME n ∷ []) refl refl refl (read_blank n (NAME n ∷ []) (last_name n name));
 }
 
-tick_cut : (k : ℕ) → IsFrom 1 TICKS_LIMIT k → CommandCut (Tree.Tick k)
+tick_cut : (k : ℕ) → IsFrom 1 LAST_TICK k → CommandCut (Tree.Tick k)
 unfolding text_of reserved_words
 tick_cut k ticks =
     let tokens : List Piece = KEY TICK ∷ NUMBER (decimal k) ∷ [] in
@@ -280,7 +282,7 @@ export_cut n t name shape =
 read_first : (word rest : List ℕ) (ps : List Piece) → IsTrue (is_word word) → code_of reserved_words word ≡ None → IsCut rest ps → IsCut (word ++ (32 ∷ rest)) (NAME word ∷ ps)
 read_first word rest ps is_name none is = read_name word (32 ∷ rest) ps (is_name, none) refl (read_blank rest ps is)
 
-nearest_cut : (s k : ℕ) (o c : List ℕ) → IsFrom 0 TICKS_LIMIT s → IsFrom 1 NEAREST_LIMIT k → IsShortName o → IsShortName c → CommandCut (Tree.Nearest s k o c)
+nearest_cut : (s k : ℕ) (o c : List ℕ) → IsFrom 0 LAST_TICK s → IsFrom 1 NEAREST_LIMIT k → IsShortName o → IsShortName c → CommandCut (Tree.Nearest s k o c)
 unfolding text_of reserved_words
 nearest_cut s k o c span count object class =
     let ticks : List ℕ = decimal s in
@@ -301,7 +303,7 @@ nearest_cut s k o c span count object class =
           (word_before o c (NAME c ∷ []) object (last_name c class))));
     }
 
-must_cut : (n k : ℕ) (q : QueryTree) → n ≤ RADIUS_LIMIT → IsFrom 0 TICKS_LIMIT k → IsQuery q → CommandCut (Tree.Must (pos n) k q)
+must_cut : (n k : ℕ) (q : QueryTree) → n ≤ RADIUS_LIMIT → IsFrom 0 LAST_TICK k → IsQuery q → CommandCut (Tree.Must (pos n) k q)
 unfolding text_of reserved_words
 must_cut n k q within span shape =
     let size : List ℕ = fix_text (pos n) in
@@ -323,7 +325,7 @@ must_cut n k q within span shape =
           (read_blank (number ++ (32 ∷ query_text q)) (NUMBER number ∷ t.tokens) (whole_before Span k (query_text q) t.tokens span t.is_cut)));
     }
 
-may_cut : (n k : ℕ) (q : QueryTree) → n ≤ RADIUS_LIMIT → IsFrom 0 TICKS_LIMIT k → IsQuery q → CommandCut (Tree.May (pos n) k q)
+may_cut : (n k : ℕ) (q : QueryTree) → n ≤ RADIUS_LIMIT → IsFrom 0 LAST_TICK k → IsQuery q → CommandCut (Tree.May (pos n) k q)
 unfolding text_of reserved_words
 may_cut n k q within span shape =
     let size : List ℕ = fix_text (pos n) in
@@ -359,7 +361,7 @@ index_cut c a w class attr width =
           (word_before c (a ++ (32 ∷ fix_text w)) (NAME a ∷ r.tokens) class (word_before a (fix_text w) r.tokens attr (read_last r)));
     }
 
-range_cut : (k : ℕ) (c a : List ℕ) (l g : ℤ) → IsFrom 0 TICKS_LIMIT k → IsShortName c → IsShortName a → IsValue l → IsValue g → CommandCut (Tree.Range k c a l g)
+range_cut : (k : ℕ) (c a : List ℕ) (l g : ℤ) → IsFrom 0 LAST_TICK k → IsShortName c → IsShortName a → IsValue l → IsValue g → CommandCut (Tree.Range k c a l g)
 unfolding text_of reserved_words
 range_cut k c a l g span class attr least greatest =
     let number : List ℕ = decimal k in

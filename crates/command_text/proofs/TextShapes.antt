@@ -26,12 +26,13 @@ use Rattle.ftl_parser.specs.Piece as query
 use Rattle.ftl_parser.specs.Grammar.{SpellsQuery}
 use Rattle.ftl_parser.specs.Shape as query_shape
 use Rattle.ftl_parser.specs.Shape.{IsName}
-use Rattle.ftl_parser.specs.declared.number.TheConstants.{TICKS_LIMIT}
+use Rattle.tick_set.specs.declared.spans.TheConstants.{LAST_TICK}
 use Rattle.ftl_parser.specs.Sizes.{first_too_large}
 use Rattle.ftl_parser.specs.Scan.{piece_words, token_words}
 use Rattle.ftl_parser.proofs.Marks.{words-query}
 use Rattle.ftl_parser.proofs.TextShapes.{prints_what_is_read}
-use Rattle.command_text.specs.declared.ranges.TheConstants.{ATTRIBUTE_LIMIT, VERTEX_LIMIT}
+use Rattle.geometry.specs.declared.limits.TheConstants.{VERTEX_LIMIT}
+use Rattle.motion.specs.declared.limits.TheConstants.{ATTRIBUTE_LIMIT}
 use Rattle.command_text.specs.Piece.{Piece, KEY, SIGN, NAME, NUMBER, TEXT, piece_of, pieces, in_query}
 use Rattle.command_text.specs.Ranges.{Ticks, Span, Capacity, Nearest, SignedPlace, whole_in, radius_in, signed_in}
 use Rattle.command_text.specs.Sizes.{is_short, word_of, are_few_legs, function_of, are_few_attributes, are_few_vertices}
@@ -40,7 +41,7 @@ use Rattle.command_text.specs.Tree.{CommandTree}
 use Rattle.command_text.specs.Grammar as grammar
 use Rattle.command_text.specs.Grammar.{legs_of_x, legs_of_y, SpellsNum, num_plain, num_minus, SpellsPair, pair, SpellsAttr, attr_num, attr_text, attr_dyn, SpellsMoreAttrs, no_more_attrs, one_more_attr, SpellsAttrs, no_attrs, some_attrs, SpellsPoints, no_points, one_point, SpellsRateLegs, no_rate_legs, one_rate_leg, SpellsRates, rates, SpellsMoveLegs, no_move_legs, one_move_leg, SpellsMoves, moves, SpellsGiven, given_num, given_both, given_text, given_rate, SpellsSettings, no_settings, one_setting, SpellsAt, not_at, at, SpellsMoving, not_moving, moving, SpellsChange, change, SpellsTail, SpellsCommand}
 use Rattle.command_text.specs.Judged.{num_fit, pair_fit, points_fit, rate_legs_fit, rates_fit, move_legs_fit, moves_fit, given_fit, settings_fit, at_fit, moving_fit, change_fit, numbers_fit, attr_small, more_attrs_small, attrs_small, rates_small, moves_small, given_small, settings_small, moving_small, change_small, sizes_fit}
-use Rattle.command_text.specs.Shape.{IsFrom, IsAscii, IsShortName, IsShortText, IsRate, IsPoint, IsLeg, AreLegs, AreMoves, IsGiven, IsSetting, IsAt, IsMoving, IsChange, IsAttribute, AreAttributes, IsQuery, IsPrintable}
+use Rattle.command_text.specs.Shape.{IsFrom, IsAscii, IsShortName, IsShortText, IsRate, IsPoint, IsLeg, AreLegs, AreMoves, IsPrintableGiven, IsSetting, IsAt, IsMoving, IsChange, IsAttribute, AreAttributes, IsQuery, IsPrintable}
 use Rattle.command_text.proofs.QueryLemmas.{tail_pieces}
 use Rattle.command_text.proofs.TextAscii.{AreAscii, tokens_ascii, inside_ascii}
 use Rattle.command_text.proofs.TextNumbers.{IsSignedIn, whole_in_range, signed_in_range, radius_in_range}
@@ -148,7 +149,7 @@ same_lengths : (ls : List ((ℤ × ℤ) × ℕ)) → map (λ leg. leg.1) (legs_o
 same_lengths [] = refl
 same_lengths (leg ∷ ls) = ap (λ (ns : List ℕ). leg.1 ∷ ns) (same_lengths ls)
 
-length_is : (n : ℕ) → IsFrom 1 TICKS_LIMIT n → is_length_of n ≡ true
+length_is : (n : ℕ) → IsFrom 1 LAST_TICK n → is_length_of n ≡ true
 length_is n within = grind (arith, nat_tests, within.0, within.1)
 
 lengths_are : (ls : List (ℤ × ℕ)) → AllByRecursion IsLeg ls → list_all (λ leg. is_length_of leg.1) ls ≡ true
@@ -195,7 +196,7 @@ moves_shape (moves {ls = ls} {a = a} {b = b} d e) fit small is few =
 
 -- ---- what a command writes
 
-given_shape : {g : Given} {xs : List Piece} (d : SpellsGiven g xs) → HaveShapes xs → (fit small : Bool) → given_fit d fit ≡ true → given_small d small ≡ true → (fit ≡ true) × (small ≡ true) × IsGiven g
+given_shape : {g : Given} {xs : List Piece} (d : SpellsGiven g xs) → HaveShapes xs → (fit small : Bool) → given_fit d fit ≡ true → given_small d small ≡ true → (fit ≡ true) × (small ≡ true) × IsPrintableGiven g
 given_shape (given_num d) shapes fit small is few = let value = num_shape d fit is in (value.0, few, value.1)
 given_shape (given_both d e) shapes fit small is few =
     let legs = rates_shape e (num_fit d fit) small is few in

@@ -17,7 +17,7 @@ AreLines place [] text = place ≡ length text
 AreLines place (k ∷ ks) text =
     (k.from ≡ place) × (text_of (spelled (line_in text k)) ≡ line_in text k) × AreLines (place + k.size + 1) ks text
 
-pub record IsKept (kept : List Kept) (text : List ℕ) : Type 0 where
+pub record IsJournal (kept : List Kept) (text : List ℕ) : Type 0 where
   pub lines : AreLines 0 kept text
   pub few : length kept ≤ MOST_ENTRIES
   pub short : length text ≤ MOST_BYTES

@@ -1,9 +1,10 @@
 -- Which lines are refused before anything is asked of the database, and what the others are.
-use Rattle.std.specs.Prelude.{◌≡◌, ℕ, Bool, true, false, not, ◌==◌, ◌||◌, ◌&&◌, nat_lt, nat_le, is_some, is_none, Option, None, Some, option_map, List, [], ◌∷◌, length, find, if◌then◌else◌}
+use Rattle.std.specs.Prelude.{◌≡◌, ℕ, Bool, true, false, not, ◌==◌, ◌||◌, ◌&&◌, nat_lt, nat_le, is_some, is_none, Option, None, Some, option_map, List, [], ◌∷◌, length, if◌then◌else◌}
 use Rattle.std.specs.Option.{option_map_or}
 use Rattle.std.specs.List.{list_any}
 use Rattle.ftl_lexer.specs.Forms.{is_blank}
 use Rattle.ftl_lexer.specs.Tokens.{bad_place}
+pub use Rattle.exact.specs.First.{first_that_holds}
 use Rattle.command_text.specs.declared.fault.CommandFault.{CommandFault}
 use Rattle.command_text.specs.declared.fault.CommandFault.TheVariants as faults
 use Rattle.command_text.specs.declared.refusal.Refusal.{Refusal}
@@ -65,9 +66,6 @@ late found =
     ∷ (refusals.NumberRange, has_unfit_number found)
     ∷ (refusals.TooLarge, has_large_size found)
     ∷ []
-
-abbrev pub first_that_holds : List (Refusal × Bool) → Option Refusal
-first_that_holds conditions = option_map (λ c. c.0) (find (λ c. c.1) conditions)
 
 abbrev pub early_refusal : ℕ → List ℕ → Option Refusal
 early_refusal limit line = first_that_holds (early limit line)

@@ -3,8 +3,10 @@ use Rattle.std.specs.Prelude.{ℕ, ℤ, pos, neg_ℤ, Bool, int_le, Option, Some
 use Rattle.fixed_point.specs.Decimal.{thousandths_of}
 use Rattle.fixed_point.specs.declared.number.TheConstants.{READ_LIMIT, SLOPE_LIMIT}
 use Rattle.ftl_parser.specs.Number.{whole_of}
-use Rattle.ftl_parser.specs.declared.number.TheConstants.{RADIUS_LIMIT, TICKS_LIMIT}
-use Rattle.command_text.specs.declared.ranges.TheConstants.{CAPACITY_LIMIT, NEAREST_LIMIT}
+use Rattle.geometry.specs.declared.limits.TheConstants.{RADIUS_LIMIT}
+use Rattle.tick_set.specs.declared.spans.TheConstants.{LAST_TICK}
+use Rattle.motion.specs.declared.limits.TheConstants.{CAPACITY_LIMIT}
+use Rattle.command_text.specs.declared.ranges.TheConstants.{NEAREST_LIMIT}
 
 -- where a whole number stands
 pub data WholePlace : Type 0 where
@@ -18,8 +20,8 @@ pub data WholePlace : Type 0 where
   Nearest : WholePlace
 
 abbrev pub whole_in : WholePlace → List ℕ → Option ℕ
-whole_in Span = whole_of 0 TICKS_LIMIT
-whole_in Ticks = whole_of 1 TICKS_LIMIT
+whole_in Span = whole_of 0 LAST_TICK
+whole_in Ticks = whole_of 1 LAST_TICK
 whole_in Capacity = whole_of 1 CAPACITY_LIMIT
 whole_in Nearest = whole_of 1 NEAREST_LIMIT
 

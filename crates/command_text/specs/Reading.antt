@@ -5,6 +5,7 @@ use Rattle.fixed_point.specs.Decimal.{◌>>=◌}
 use Rattle.case_table.specs.declared.key.TheConstants.{POINT as POINT_WORD, NUM, TEXT as TEXT_WORD, DYN, AT, MOVE, RATE}
 use Rattle.case_table.specs.declared.symbol.TheConstants.{OPEN_ROUND, CLOSE_ROUND, OPEN_SQUARE, CLOSE_SQUARE, COMMA, MINUS, EQUAL}
 use Rattle.fixed_point.specs.declared.number.Point.{Point}
+use Rattle.geometry.specs.declared.limits.TheConstants.{LEAST_VERTICES}
 use Rattle.motion.specs.Function.{Function}
 use Rattle.motion.specs.declared.cell.AttrKind.{AttrKind}
 use Rattle.motion.specs.declared.cell.AttrKind.TheVariants as attr_kinds
@@ -206,7 +207,7 @@ attrs s = if begins (is_sign OPEN_ROUND) s then some_attrs s else Some ([], s)
 unfoldable pub points : Reader → Read (List Point)
 points s = do
   ps ← all (begins (is_sign OPEN_ROUND)) point s
-  if nat_le 3 (length ps.0) then Some (ps.0, noting_small (are_few_vertices (length ps.0)) ps.1) else None
+  if nat_le LEAST_VERTICES (length ps.0) then Some (ps.0, noting_small (are_few_vertices (length ps.0)) ps.1) else None
 
 -- a leg that ends: its slope and its length
 unfoldable pub rate_leg : Reader → Read (ℤ × ℕ)

@@ -1,4 +1,4 @@
--- What holds of each command that is read: names are name tokens, texts have no quotes and no bytes that no line has, both have at most 32 bytes, numbers are in the ranges of their places, and lists within their limits.
+-- What holds of each command that is read: names are name tokens, texts have no quotes and no bytes that no line has, both have at most the bytes of a word, numbers are in the ranges of their places, and lists within their limits.
 use Rattle.std.specs.Prelude.{◌≡◌, ℕ, ◌≤◌, ℤ, pos, negsuc, unsigned_abs, false, List, length, map, Option, None, Some, IsTrue}
 use Rattle.std.specs.List.{AllByRecursion}
 use Rattle.fixed_point.specs.declared.number.Point.{Point}
@@ -16,8 +16,10 @@ use Rattle.ftl_parser.specs.Tree.{QueryTree}
 use Rattle.ftl_parser.specs.Shape as query_shape
 use Rattle.ftl_parser.specs.Shape.{IsName, IsUnsigned}
 use Rattle.ftl_parser.specs.Sizes.{query_words, first_too_large}
-use Rattle.ftl_parser.specs.declared.number.TheConstants.{RADIUS_LIMIT, TICKS_LIMIT}
-use Rattle.command_text.specs.declared.ranges.TheConstants.{CAPACITY_LIMIT, NEAREST_LIMIT, ATTRIBUTE_LIMIT, VERTEX_LIMIT}
+use Rattle.tick_set.specs.declared.spans.TheConstants.{LAST_TICK}
+use Rattle.geometry.specs.declared.limits.TheConstants.{LEAST_VERTICES, RADIUS_LIMIT, VERTEX_LIMIT}
+use Rattle.motion.specs.declared.limits.TheConstants.{CAPACITY_LIMIT, ATTRIBUTE_LIMIT}
+use Rattle.command_text.specs.declared.ranges.TheConstants.{NEAREST_LIMIT}
 use Rattle.command_text.specs.Line.{has_other_byte}
 use Rattle.command_text.specs.Tree
 use Rattle.command_text.specs.Tree.{CommandTree}
@@ -55,7 +57,7 @@ IsPoint p = IsValue p.x × IsValue p.y
 
 -- a leg that ends: its slope and its length
 abbrev pub IsLeg : ℤ × ℕ → Type 0
-IsLeg leg = IsRate leg.0 × IsFrom 1 TICKS_LIMIT leg.1
+IsLeg leg = IsRate leg.0 × IsFrom 1 LAST_TICK leg.1
 
 pub record AreLegs (f : Function) : Type 0 where
   pub few : length f.firsts ≤ MOST_FIRSTS
@@ -70,14 +72,14 @@ pub record AreMoves (f g : Function) : Type 0 where
 
 -- ---- What a command writes
 
-abbrev pub IsGiven : Given → Type 0
-IsGiven (givens.Num v) = IsValue v
-IsGiven (givens.Text t) = IsShortText t
-IsGiven (givens.Rate f) = AreLegs f
-IsGiven (givens.Both v f) = IsValue v × AreLegs f
+abbrev pub IsPrintableGiven : Given → Type 0
+IsPrintableGiven (givens.Num v) = IsValue v
+IsPrintableGiven (givens.Text t) = IsShortText t
+IsPrintableGiven (givens.Rate f) = AreLegs f
+IsPrintableGiven (givens.Both v f) = IsValue v × AreLegs f
 
 abbrev pub IsSetting : NamedSet → Type 0
-IsSetting set = IsShortName set.name × IsGiven set.given
+IsSetting set = IsShortName set.name × IsPrintableGiven set.given
 
 abbrev pub IsAt : Option Point → Type 0
 IsAt None = Unit {0}
@@ -100,7 +102,7 @@ pub record AreAttributes (attrs : List (List ℕ × AttrKind)) : Type 0 where
   pub each : AllByRecursion IsAttribute attrs
 
 pub record AreVertices (points : List Point) : Type 0 where
-  pub count : IsFrom 3 VERTEX_LIMIT (length points)
+  pub count : IsFrom LEAST_VERTICES VERTEX_LIMIT (length points)
   pub each : AllByRecursion IsPoint points
 
 -- ---- Queries
@@ -121,17 +123,17 @@ IsPrintable (Tree.Region n ps) = IsShortName n × AreVertices ps
 IsPrintable (Tree.Insert c n p ss) = IsShortName c × IsShortName n × IsChange p ss
 IsPrintable (Tree.Update n p ss) = IsShortName n × IsChange p ss
 IsPrintable (Tree.Remove n) = IsShortName n
-IsPrintable (Tree.Tick k) = IsFrom 1 TICKS_LIMIT k
-IsPrintable (Tree.Ask k q) = IsFrom 0 TICKS_LIMIT k × IsQuery q
-IsPrintable (Tree.Watch n k q) = IsShortName n × IsFrom 0 TICKS_LIMIT k × IsQuery q
-IsPrintable (Tree.Keep n k q) = IsShortName n × IsFrom 0 TICKS_LIMIT k × IsQuery q
+IsPrintable (Tree.Tick k) = IsFrom 1 LAST_TICK k
+IsPrintable (Tree.Ask k q) = IsFrom 0 LAST_TICK k × IsQuery q
+IsPrintable (Tree.Watch n k q) = IsShortName n × IsFrom 0 LAST_TICK k × IsQuery q
+IsPrintable (Tree.Keep n k q) = IsShortName n × IsFrom 0 LAST_TICK k × IsQuery q
 IsPrintable (Tree.Show n) = IsShortName n
 IsPrintable (Tree.Drop n) = IsShortName n
 IsPrintable (Tree.Save t) = IsShortText t
 IsPrintable (Tree.Import n t) = IsShortName n × IsShortText t
 IsPrintable (Tree.Export n t) = IsShortName n × IsShortText t
-IsPrintable (Tree.Nearest s k o c) = IsFrom 0 TICKS_LIMIT s × IsFrom 1 NEAREST_LIMIT k × IsShortName o × IsShortName c
-IsPrintable (Tree.Must e k q) = IsUnsigned RADIUS_LIMIT e × IsFrom 0 TICKS_LIMIT k × IsQuery q
-IsPrintable (Tree.May e k q) = IsUnsigned RADIUS_LIMIT e × IsFrom 0 TICKS_LIMIT k × IsQuery q
+IsPrintable (Tree.Nearest s k o c) = IsFrom 0 LAST_TICK s × IsFrom 1 NEAREST_LIMIT k × IsShortName o × IsShortName c
+IsPrintable (Tree.Must e k q) = IsUnsigned RADIUS_LIMIT e × IsFrom 0 LAST_TICK k × IsQuery q
+IsPrintable (Tree.May e k q) = IsUnsigned RADIUS_LIMIT e × IsFrom 0 LAST_TICK k × IsQuery q
 IsPrintable (Tree.Index c a w) = IsShortName c × IsShortName a × IsWidth w
-IsPrintable (Tree.Range k c a l g) = IsFrom 0 TICKS_LIMIT k × IsShortName c × IsShortName a × IsValue l × IsValue g
+IsPrintable (Tree.Range k c a l g) = IsFrom 0 LAST_TICK k × IsShortName c × IsShortName a × IsValue l × IsValue g

@@ -3,9 +3,10 @@ use Rattle.std.specs.Prelude.{ℕ, ℤ, Bool, nat_le, List, [], length, if◌the
 use Rattle.fixed_point.specs.declared.short_text.TheConstants.{WORD_LIMIT}
 use Rattle.motion.specs.declared.legs.TheConstants.{MOST_FIRSTS}
 use Rattle.motion.specs.Function.{Function, are_firsts, level}
-use Rattle.command_text.specs.declared.ranges.TheConstants.{ATTRIBUTE_LIMIT, VERTEX_LIMIT}
+use Rattle.geometry.specs.declared.limits.TheConstants.{VERTEX_LIMIT}
+use Rattle.motion.specs.declared.limits.TheConstants.{ATTRIBUTE_LIMIT}
 
--- a name or a text has at most 32 bytes
+-- a name or a text has at most the bytes of a word
 abbrev pub is_short : List ℕ → Bool
 is_short word = nat_le (length word) WORD_LIMIT
 
@@ -13,7 +14,7 @@ is_short word = nat_le (length word) WORD_LIMIT
 abbrev pub word_of : List ℕ → List ℕ
 word_of word = if is_short word then word else []
 
--- at most seven legs before the last one
+-- few legs before the last one
 abbrev pub are_few_legs : ℕ → Bool
 are_few_legs firsts = nat_le firsts MOST_FIRSTS
 
@@ -21,10 +22,10 @@ are_few_legs firsts = nat_le firsts MOST_FIRSTS
 abbrev pub function_of : List (ℤ × ℕ) → ℤ → Function
 function_of firsts last = if are_firsts firsts then record { firsts = firsts; last = last } else level
 
--- a class has at most 16 attributes that are written
+-- a class has few attributes that are written
 abbrev pub are_few_attributes : ℕ → Bool
 are_few_attributes count = nat_le count ATTRIBUTE_LIMIT
 
--- a region has at most 64 vertices
+-- a region has few vertices
 abbrev pub are_few_vertices : ℕ → Bool
 are_few_vertices count = nat_le count VERTEX_LIMIT

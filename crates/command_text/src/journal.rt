@@ -42,11 +42,11 @@ impl Model for Journal {
 
     ghost coded = { Prim.hlevel (codes, tree_code (Prim.hlevel codes)) };
 
-    ghost use Rattle.command_text.specs.JournalParts.{accepted, IsKept};
+    ghost use Rattle.command_text.specs.JournalParts.{accepted, IsJournal};
 
     ghost view = { λ a. map (accepted a.text.items) a.kept.items };
 
-    ghost invariant = { λ a. IsKept a.kept.items a.text.items };
+    ghost invariant = { λ a. IsJournal a.kept.items a.text.items };
 }
 
 impl Journal {

@@ -1,6 +1,9 @@
-//! What is read and what is refused, told by the grammar alone, as calls that do nothing.
+//! What is read and what is refused, told by the grammar alone. Each is a contract with nothing to run.
 
-ghost use Rattle.std.specs.Prelude.{List, ℕ};
+ghost use Rattle.std.specs.Prelude.{◌≡◌, ◌^◌, List, ℕ};
+ghost use Rattle.command_text.specs.declared.journal.TheConstants.{MOST_BYTES, MOST_ENTRIES};
+ghost use Rattle.command_text.specs.declared.ranges.TheConstants.{NEAREST_LIMIT};
+ghost use Rattle.command_text.specs.declared.reading.TheConstants.{LINE_LIMIT};
 ghost use Rattle.command_text.specs.Piece.{Piece};
 ghost use Rattle.command_text.specs.GrammarLaws.{AreReadByTheGrammar, IsReadByTheGrammar, IsRefusedByTheGrammar};
 
@@ -25,4 +28,12 @@ pub fn lines_are_read_by_the_grammar()
 #[tactic(auto, using(crate::proofs::DerivedLines::lines_are_refused))]
 pub fn lines_are_refused_by_the_grammar()
     ensures { (limit : ℕ) (line : List ℕ) → IsRefusedByTheGrammar limit line }
+{}
+
+/// The limits of this crate by their numbers.
+pub fn limits_in_numbers()
+    ensures line { LINE_LIMIT ≡ 4096 }
+    ensures nearest { NEAREST_LIMIT ≡ 100 }
+    ensures entries { MOST_ENTRIES ≡ 2000000 }
+    ensures bytes { MOST_BYTES ≡ 2 ^ 28 }
 {}

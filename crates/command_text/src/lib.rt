@@ -27,11 +27,12 @@ pub use command::Command;
 pub use fault::CommandFault;
 pub use journal::{Journal, MOST_BYTES, MOST_ENTRIES};
 pub use laws::{
-    lines_are_read_by_the_grammar, lines_are_refused_by_the_grammar, tokens_are_read_by_the_grammar,
+    limits_in_numbers, lines_are_read_by_the_grammar, lines_are_refused_by_the_grammar,
+    tokens_are_read_by_the_grammar,
 };
 pub use lists::{Attributes, Points, Settings};
 pub use printing::{print, print_into};
-pub use ranges::{ATTRIBUTE_LIMIT, CAPACITY_LIMIT, NEAREST_LIMIT, VERTEX_LIMIT};
+pub use ranges::NEAREST_LIMIT;
 pub use reading::{LINE_LIMIT, LineReader, read};
 pub use refusal::{Refusal, RefusalText, refusals_are_named};
 pub use text_laws::{

@@ -6,13 +6,15 @@ ghost use Rattle.command_text.specs.Reading.{name, text, number, whole, radius, 
 ghost use Rattle.command_text.specs.Standing.{standing};
 
 use crate::at::{At, next, noting_fit, noting_small, sign};
-use crate::ranges::{CAPACITY_LIMIT, NEAREST_LIMIT};
+use crate::ranges::NEAREST_LIMIT;
 use case_table::symbol;
 use fixed_point::{Fix, Slope, WORD_LIMIT, Word};
 use ftl_lexer::{Kind, Tokens, unquoted};
-use ftl_parser::{TICKS_LIMIT, whole};
+use ftl_parser::whole;
+use motion::CAPACITY_LIMIT;
+use tick_set::LAST_TICK;
 
-/// The word of these bytes; the empty one where there are more than 32.
+/// The word of these bytes; the empty one where there are more than a word has room for.
 #[inline]
 fn word_of(bytes: &[u8]) -> Word
     ensures { result ≡ word_of bytes.now }
@@ -78,7 +80,7 @@ pub(crate) fn span(tokens: &Tokens, at: At) -> Option<(u32, At)>
     ensures { option_map (λ r. (r.0, standing tokens.now r.1)) result ≡ whole Span (standing tokens.now at) }
 {
     let (digits, behind) = number(tokens, at)?;
-    let found = whole(digits, 0, TICKS_LIMIT);
+    let found = whole(digits, 0, LAST_TICK);
     Some((found.unwrap_or(0), noting_fit(behind, found.is_some())))
 }
 
@@ -88,7 +90,7 @@ pub(crate) fn ticks(tokens: &Tokens, at: At) -> Option<(u32, At)>
     ensures { option_map (λ r. (r.0, standing tokens.now r.1)) result ≡ whole Ticks (standing tokens.now at) }
 {
     let (digits, behind) = number(tokens, at)?;
-    let found = whole(digits, 1, TICKS_LIMIT);
+    let found = whole(digits, 1, LAST_TICK);
     Some((found.unwrap_or(0), noting_fit(behind, found.is_some())))
 }
 

@@ -11,11 +11,11 @@ use crate::fault::{CommandFault, bad_syntax};
 use crate::kinds::attr_kind;
 use crate::lists::{Attributes, Points};
 use crate::numbers::{name, slope, value};
-use crate::ranges::{ATTRIBUTE_LIMIT, VERTEX_LIMIT};
 use case_table::symbol;
 use fixed_point::{Point, Slope, Word};
 use ftl_lexer::Tokens;
-use motion::AttrKind;
+use geometry::{LEAST_VERTICES, VERTEX_LIMIT};
+use motion::{ATTRIBUTE_LIMIT, AttrKind};
 use std::alloc::Global;
 
 #[tactic(auto, unfolding(crate::specs::Reading::point, crate::specs::Reading::pair))]
@@ -149,7 +149,7 @@ pub(crate) fn points(alloc: Global, tokens: &Tokens, at: At) -> Result<(Points, 
 {
     let (points, at) = all_points(alloc, tokens, at)?;
     let count = points.items().len();
-    if count < 3 {
+    if count < LEAST_VERTICES {
         return Err(bad_syntax());
     }
     Ok((points, noting_small(at, count <= VERTEX_LIMIT)))

@@ -4,6 +4,7 @@ ghost use Rattle.std.specs.List.{list_any};
 ghost use Rattle.command_text.specs.Tree.{command_view};
 ghost use Rattle.command_text.specs.Line.{is_comment, is_ascii, has_other_byte, TellsBadPlace, IsReadLate, ExplainsLate, IsRead, Explains};
 ghost use Rattle.ftl_lexer.specs.Tokens.{bad_place};
+ghost use Rattle.ftl_lexer.specs.declared.buffer.TheConstants.{LEXER_LIMIT};
 
 use crate::Command;
 use crate::fault::CommandFault;
@@ -45,7 +46,7 @@ fn is_comment(line: &[u8]) -> bool
 
 /// The tokens of a line that isn't a comment, put in place of those of the line before.
 fn cut(tokens: &mut Tokens, line: &[u8]) -> Result<(), CommandFault>
-    requires { length line.now ≤ 16384 }
+    requires { length line.now ≤ LEXER_LIMIT }
     ensures ok { OnOk result ((tokens.new ≡ line.now) × (bad_place line.now ≡ None)) }
     ensures cause { IfErr result (TellsBadPlace line.now) }
 {
@@ -59,7 +60,7 @@ fn cut(tokens: &mut Tokens, line: &[u8]) -> Result<(), CommandFault>
 /// The command of a line that has no byte too many and none other than a tab and 0x20 to 0x7E.
 #[tactic(auto, using(crate::proofs::LineLemmas::late_steps))]
 fn read_ascii(alloc: Global, tokens: &mut Tokens, line: &[u8]) -> Result<Command, CommandFault>
-    requires { length line.now ≤ 16384 }
+    requires { length line.now ≤ LEXER_LIMIT }
     ensures ok { IfOk result (λ c. IsReadLate line.now (command_view c)) }
     ensures cause { IfErr result (ExplainsLate line.now) }
 {
@@ -91,7 +92,7 @@ impl LineReader {
     /// of the refusals 1 to 6 that holds; the first three are told without memory.
     #[tactic(auto, using(crate::proofs::LineLemmas::first_steps))]
     pub fn read(&mut self, line: &[u8], limit: usize) -> Result<Command, CommandFault>
-        requires { limit ≤ 16384 }
+        requires { limit ≤ LEXER_LIMIT }
         ensures ok { IfOk result (λ c. IsRead limit line.now (command_view c)) }
         ensures cause { IfErr result (Explains limit line.now) }
     {
@@ -107,7 +108,7 @@ impl LineReader {
 
 /// Reads one line, as a `LineReader` does.
 pub fn read(alloc: Global, line: &[u8], limit: usize) -> Result<Command, CommandFault>
-    requires { limit ≤ 16384 }
+    requires { limit ≤ LEXER_LIMIT }
     ensures ok { IfOk result (λ c. IsRead limit line.now (command_view c)) }
     ensures cause { IfErr result (Explains limit line.now) }
 {

@@ -1,9 +1,9 @@
-//! What holds of canonical lines, as calls that do nothing.
+//! What holds of canonical lines, each a contract with nothing to run.
 
 ghost use Rattle.command_text.specs.TextLaws.{PrintsLines, PrintsShortly, PrintsWhatIsRead, PrintsWithinFourLimits, ReadsAgain, ReadsLinesAgain, ReadsWhatIsPrinted};
 
 /// What a line is read as is printable: its names are name tokens, its texts have no quotes and no bytes
-/// that no line has, names and texts have at most 32 bytes, numbers are in the ranges of their places, and
+/// that no line has, names and texts have at most the bytes of a word, numbers are in the ranges of their places, and
 /// lists within their limits.
 #[tactic(auto, using(crate::proofs::TextAgain::prints_what_is_read))]
 pub fn read_commands_are_printable()

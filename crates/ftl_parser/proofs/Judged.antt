@@ -1,7 +1,8 @@
 -- What is answered of tokens, from what the machine, the scan and the sizes say.
-use Rattle.std.proofs.Common.{◌≡◌, ℕ, ◌+◌, Bool, true, false, List, [], ◌∷◌, Option, None, Some, option_map, Err, find, refl, sym, ap, ◌∙◌}
+use Rattle.std.proofs.Common.{◌≡◌, ℕ, ◌+◌, Bool, true, false, List, [], ◌∷◌, Option, None, Some, option_map, Err, refl, sym, ap, ◌∙◌}
 use Rattle.std.specs.List.{list_any}
 use Rattle.std.proofs.lemmas.List.{length-map}
+use Rattle.exact.specs.First.{first_that_holds}
 use Rattle.ftl_parser.specs.declared.fault.ParseFault.{ParseFault}
 use Rattle.ftl_parser.specs.declared.fault.ParseFault.TheVariants as faults
 use Rattle.ftl_parser.specs.declared.fault.Size.{Size}
@@ -11,8 +12,8 @@ use Rattle.ftl_parser.specs.Tree.{QueryTree}
 use Rattle.ftl_parser.specs.Piece.{Piece}
 use Rattle.ftl_parser.specs.Grammar.{SpellsQuery}
 use Rattle.ftl_parser.specs.Marks.{first_unfit}
-use Rattle.ftl_parser.specs.Sizes.{is_long, first_too_large}
-use Rattle.ftl_parser.specs.Measure.{passed_with, first_passed}
+use Rattle.ftl_parser.specs.Sizes.{is_long, passed_with, first_too_large}
+use Rattle.ftl_parser.specs.Measure.{first_passed}
 use Rattle.ftl_parser.specs.Machine.{start, parsed, taken}
 use Rattle.ftl_parser.specs.Scan.{scan, first_from, has_long}
 use Rattle.ftl_parser.specs.Cut.{cut_pieces}
@@ -50,26 +51,21 @@ uncut tokens r h = map-some cut_query (parsed start tokens) r (sym (parsed-cut s
 passed_with-cut : (q : QueryTree) (long : Bool) → passed_with (cut_query q) long ≡ passed_with q long
 passed_with-cut q long = simp (length-map, objects-cut, nesting-cut, nodes-cut, depth-cut, factors-cut)
 
--- the first of them
-first_of : List (Size × Bool) → Option Size
-first_of passes = option_map (λ size. size.0) (find (λ size. size.1) passes)
-
 first_passed-cut : (q : QueryTree) (long : Bool) → first_passed (cut_query q) long ≡ first_passed q long
-unfolding first_of
-first_passed-cut q long = ap first_of (passed_with-cut q long)
+first_passed-cut q long = ap (λ (passes : List (Size × Bool)). first_that_holds passes) (passed_with-cut q long)
 
 -- where no size passes its limit, no word is long
-first_of-long : (variables objects assignments nodes depth long factors : Bool) →
-    option_map (λ (size : Size × Bool). size.0) (find (λ size. size.1) (
+none_passed-long : (variables objects assignments nodes depth long factors : Bool) →
+    first_that_holds (
     (sizes.Variables, variables) ∷ (sizes.Objects, objects) ∷ (sizes.Assignments, assignments) ∷ (sizes.Nodes, nodes) ∷ (sizes.Depth, depth)
-    ∷ (sizes.Length, long) ∷ (sizes.Factors, factors) ∷ [])) ≡ None → long ≡ false
-first_of-long true o a n d l f h = absurd (cc h)
-first_of-long false true a n d l f h = absurd (cc h)
-first_of-long false false true n d l f h = absurd (cc h)
-first_of-long false false false true d l f h = absurd (cc h)
-first_of-long false false false false true l f h = absurd (cc h)
-first_of-long false false false false false true f h = absurd (cc h)
-first_of-long false false false false false false f h = refl
+    ∷ (sizes.Length, long) ∷ (sizes.Factors, factors) ∷ []) ≡ None → long ≡ false
+none_passed-long true o a n d l f h = absurd (cc h)
+none_passed-long false true a n d l f h = absurd (cc h)
+none_passed-long false false true n d l f h = absurd (cc h)
+none_passed-long false false false true d l f h = absurd (cc h)
+none_passed-long false false false false true l f h = absurd (cc h)
+none_passed-long false false false false false true f h = absurd (cc h)
+none_passed-long false false false false false false f h = refl
 
 -- the sizes of a query that is spelled
 sizes-spelled : (tokens : List Piece) (q : QueryTree) → SpellsQuery q tokens → first_passed q (has_long tokens) ≡ first_too_large q
@@ -101,7 +97,7 @@ large-explained from tokens r size h k large =
 pub reads : (from : ℕ) (tokens : List Piece) (r : QueryTree) → parsed start (cut_pieces tokens) ≡ Some r →
     first_from from (scan comings.Factor tokens) ≡ None → first_passed r (has_long tokens) ≡ None → Reads tokens r
 reads from tokens r h k small =
-    let short = first_of-long _ _ _ _ _ (has_long tokens) _ small in
+    let short = none_passed-long _ _ _ _ _ (has_long tokens) _ small in
     let d = found_query tokens r (ap (parsed start) (sym (cut_pieces-short tokens short)) ∙ h) in
     record {
       spelled = d;

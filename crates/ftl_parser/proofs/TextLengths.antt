@@ -27,7 +27,9 @@ use Rattle.ftl_lexer.specs.Laws.{HaveForms, SpansAscend}
 use Rattle.ftl_lexer.proofs.Shapes.{tokens_have_forms}
 use Rattle.ftl_lexer.proofs.Spans.{spans_ascend}
 use Rattle.ftl_lexer.proofs.Fronts.{unquoted_parts}
-use Rattle.ftl_parser.specs.declared.number.TheConstants.{RADIUS_LIMIT, TICKS_LIMIT, TIMES_LIMIT}
+use Rattle.geometry.specs.declared.limits.TheConstants.{RADIUS_LIMIT}
+use Rattle.tick_set.specs.declared.spans.TheConstants.{LAST_TICK}
+use Rattle.ftl_parser.specs.declared.limits.TheConstants.{TIMES_LIMIT}
 use Rattle.ftl_parser.specs.declared.state.Prefix.{Prefix}
 use Rattle.ftl_parser.specs.declared.state.Prefix.TheVariants as prefixes
 use Rattle.ftl_parser.specs.declared.tree.Atom as atom_type
@@ -308,13 +310,13 @@ formula_short (chain_unary d) = formula_short d
 formula_short (chain_until {f = f} {g = g} {xs = xs} {ys = ys} d e) =
     omega (arith, brackets_size (formula_text f) (codes " UNTIL ") (formula_text g), load_at xs (UNTIL untils.Plain) ys, formula_short d, formula_short e)
 formula_short (chain_until_within {f = f} {g = g} {xs = xs} {ys = ys} c d e) =
-    omega (arith, brackets_size (formula_text f) (until_text untils.Within (ticks c)) (formula_text g), length-append (decimal (ticks c)) (codes " "), load_at xs (UNTIL untils.Within) (NUMBER c ∷ ys), whole_short TICKS_LIMIT c (omega arith), formula_short d, formula_short e)
+    omega (arith, brackets_size (formula_text f) (until_text untils.Within (ticks c)) (formula_text g), length-append (decimal (ticks c)) (codes " "), load_at xs (UNTIL untils.Within) (NUMBER c ∷ ys), whole_short LAST_TICK c (omega arith), formula_short d, formula_short e)
 formula_short (chain_until_after {f = f} {g = g} {xs = xs} {ys = ys} c d e) =
-    omega (arith, brackets_size (formula_text f) (until_text untils.After (ticks c)) (formula_text g), length-append (decimal (ticks c)) (codes " "), load_at xs (UNTIL untils.After) (NUMBER c ∷ ys), whole_short TICKS_LIMIT c (omega arith), formula_short d, formula_short e)
+    omega (arith, brackets_size (formula_text f) (until_text untils.After (ticks c)) (formula_text g), length-append (decimal (ticks c)) (codes " "), load_at xs (UNTIL untils.After) (NUMBER c ∷ ys), whole_short LAST_TICK c (omega arith), formula_short d, formula_short e)
 formula_short (unary_prefix {w = w} {f = f} d) =
     omega (arith, ap length (prefixed_text w f), length-append (prefix_text w) (formula_text f), prefix_short w, formula_short d)
 formula_short (unary_bounded {form = form} {c = c} {f = f} d) =
-    omega (arith, length-append (bound_text form (ticks c)) (formula_text f), bound_size form (ticks c), whole_short TICKS_LIMIT c (omega arith), formula_short d)
+    omega (arith, length-append (bound_text form (ticks c)) (formula_text f), bound_size form (ticks c), whole_short LAST_TICK c (omega arith), formula_short d)
 formula_short (unary_assign {v = v} {fs = fs} {f = f} {xs = xs} {ys = ys} t d) =
     omega (arith, length-append (assign_text v (term_of fs)) (formula_text f), assign_size v (factors_text fs), load_at xs CLOSE_SQUARE ys, term_short t, formula_short d)
 formula_short (unary_brackets {xs = xs} d) = omega (arith, load_at xs CLOSE [], formula_short d)

@@ -16,7 +16,7 @@ use Rattle.case_table.specs.Language.{reserved_words, symbols}
 use Rattle.ftl_lexer.specs.Forms.{name_len}
 use Rattle.ftl_lexer.specs.Tokens.{lexemes, bad_place}
 use Rattle.ftl_lexer.proofs.Cuts.{lexemes_from_cut}
-use Rattle.ftl_parser.specs.declared.number.TheConstants.{TICKS_LIMIT}
+use Rattle.tick_set.specs.declared.spans.TheConstants.{LAST_TICK}
 use Rattle.ftl_parser.specs.declared.state.Prefix.{Prefix}
 use Rattle.ftl_parser.specs.declared.state.Prefix.TheVariants as prefixes
 use Rattle.ftl_parser.specs.declared.tree.Atom as atom_type
@@ -423,11 +423,11 @@ until_joins = record {
 }
 
 -- a number with blanks around it
-read_ticks : (n : ℕ) (rest : List ℕ) (ps : List Piece) → n ≤ TICKS_LIMIT → IsCut rest ps → IsCut (32 ∷ (decimal n ++ (32 ∷ rest))) (NUMBER (decimal n) ∷ ps)
+read_ticks : (n : ℕ) (rest : List ℕ) (ps : List Piece) → n ≤ LAST_TICK → IsCut rest ps → IsCut (32 ∷ (decimal n ++ (32 ∷ rest))) (NUMBER (decimal n) ∷ ps)
 read_ticks n rest ps within is =
     read_blank (decimal n ++ (32 ∷ rest)) (NUMBER (decimal n) ∷ ps) (read_number (decimal n) (32 ∷ rest) ps (decimal_is_number n (omega (arith, within))) (blank_ends rest) (read_blank rest ps is))
 
-within_joins : (n : ℕ) → n ≤ TICKS_LIMIT → Joins (until_text untils.Within n) (UNTIL untils.Within ∷ NUMBER (decimal n) ∷ [])
+within_joins : (n : ℕ) → n ≤ LAST_TICK → Joins (until_text untils.Within n) (UNTIL untils.Within ∷ NUMBER (decimal n) ∷ [])
 unfolding reserved_words
 within_joins n within = record {
   ends = λ rest. blank_ends (codes "UNTIL_WITHIN " ++ decimal n ++ codes " " ++ rest);
@@ -437,7 +437,7 @@ within_joins n within = record {
       (read_key 9 (codes "UNTIL_WITHIN") (32 ∷ (decimal n ++ (32 ∷ rest))) (NUMBER (decimal n) ∷ ps) refl refl refl (read_ticks n rest ps within is)));
 }
 
-after_joins : (n : ℕ) → n ≤ TICKS_LIMIT → Joins (until_text untils.After n) (UNTIL untils.After ∷ NUMBER (decimal n) ∷ [])
+after_joins : (n : ℕ) → n ≤ LAST_TICK → Joins (until_text untils.After n) (UNTIL untils.After ∷ NUMBER (decimal n) ∷ [])
 unfolding reserved_words
 after_joins n within = record {
   ends = λ rest. blank_ends (codes "UNTIL_AFTER " ++ decimal n ++ codes " " ++ rest);
@@ -513,7 +513,7 @@ read_bound bounds.Within rest ps is = read_key 13 (codes "EVENTUALLY_WITHIN") (3
 read_bound bounds.After rest ps is = read_key 14 (codes "EVENTUALLY_AFTER") (32 ∷ rest) ps refl refl refl is
 read_bound bounds.Always rest ps is = read_key 16 (codes "ALWAYS_FOR") (32 ∷ rest) ps refl refl refl is
 
-bounded_reads : (form : BoundForm) (n : ℕ) (f : Tree) → n ≤ TICKS_LIMIT → Reads (formula_text f) (UnaryOf f) → Reads (bound_text form n ++ formula_text f) (UnaryOf (Tree.Bounded form n f))
+bounded_reads : (form : BoundForm) (n : ℕ) (f : Tree) → n ≤ LAST_TICK → Reads (formula_text f) (UnaryOf f) → Reads (bound_text form n ++ formula_text f) (UnaryOf (Tree.Bounded form n f))
 bounded_reads form n f within r =
     let tokens : List Piece = BOUNDED form ∷ NUMBER (decimal n) ∷ r.tokens in
     record {

@@ -17,7 +17,9 @@ use Rattle.ftl_lexer.proofs.Shapes.{tokens_have_forms}
 use Rattle.ftl_lexer.proofs.Fronts.{unquoted_parts}
 use Rattle.fixed_point.specs.declared.number.TheConstants.{READ_LIMIT}
 use Rattle.fixed_point.specs.declared.variants.UntilForm.TheVariants as untils
-use Rattle.ftl_parser.specs.declared.number.TheConstants.{RADIUS_LIMIT, TICKS_LIMIT, TIMES_LIMIT}
+use Rattle.geometry.specs.declared.limits.TheConstants.{RADIUS_LIMIT}
+use Rattle.tick_set.specs.declared.spans.TheConstants.{LAST_TICK}
+use Rattle.ftl_parser.specs.declared.limits.TheConstants.{TIMES_LIMIT}
 use Rattle.ftl_parser.specs.declared.state.Prefix.{Prefix}
 use Rattle.ftl_parser.specs.declared.state.Prefix.TheVariants as prefixes
 use Rattle.ftl_parser.specs.declared.tree.Atom as atom_type
@@ -217,11 +219,11 @@ formula_shape (chain_unary d) shapes = formula_shape d shapes
 formula_shape (chain_until {xs = xs} {ys = ys} d e) shapes =
     (refl, formula_shape d (all_front HasShape xs (UNTIL untils.Plain ∷ ys) shapes), formula_shape e (all_back HasShape xs (UNTIL untils.Plain ∷ ys) shapes).1)
 formula_shape (chain_until_within {xs = xs} {ys = ys} c d e) shapes =
-    (whole_within TICKS_LIMIT c, formula_shape d (all_front HasShape xs (UNTIL untils.Within ∷ NUMBER c ∷ ys) shapes), formula_shape e (all_back HasShape xs (UNTIL untils.Within ∷ NUMBER c ∷ ys) shapes).1.1)
+    (whole_within LAST_TICK c, formula_shape d (all_front HasShape xs (UNTIL untils.Within ∷ NUMBER c ∷ ys) shapes), formula_shape e (all_back HasShape xs (UNTIL untils.Within ∷ NUMBER c ∷ ys) shapes).1.1)
 formula_shape (chain_until_after {xs = xs} {ys = ys} c d e) shapes =
-    (whole_within TICKS_LIMIT c, formula_shape d (all_front HasShape xs (UNTIL untils.After ∷ NUMBER c ∷ ys) shapes), formula_shape e (all_back HasShape xs (UNTIL untils.After ∷ NUMBER c ∷ ys) shapes).1.1)
+    (whole_within LAST_TICK c, formula_shape d (all_front HasShape xs (UNTIL untils.After ∷ NUMBER c ∷ ys) shapes), formula_shape e (all_back HasShape xs (UNTIL untils.After ∷ NUMBER c ∷ ys) shapes).1.1)
 formula_shape (unary_prefix {w = w} {f = f} d) shapes = prefix_shape w f (formula_shape d shapes.1)
-formula_shape (unary_bounded {c = c} d) shapes = (whole_within TICKS_LIMIT c, formula_shape d shapes.1.1)
+formula_shape (unary_bounded {c = c} d) shapes = (whole_within LAST_TICK c, formula_shape d shapes.1.1)
 formula_shape (unary_assign {xs = xs} {ys = ys} t d) shapes =
     (shapes.1.0, term_shape t (all_front HasShape xs (CLOSE_SQUARE ∷ ys) shapes.1.1.1), formula_shape d (all_back HasShape xs (CLOSE_SQUARE ∷ ys) shapes.1.1.1).1)
 formula_shape (unary_brackets {xs = xs} d) shapes = formula_shape d (all_front HasShape xs (CLOSE ∷ []) shapes.1)

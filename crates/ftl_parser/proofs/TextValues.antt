@@ -17,7 +17,9 @@ use Rattle.fixed_point.proofs.CanonicalLemmas.{printed_law}
 use Rattle.fixed_point.proofs.DigitLemmas.{digits_taken}
 use Rattle.ftl_lexer.specs.Forms.{digits_len, fraction_len, number_len}
 use Rattle.ftl_lexer.specs.Cut.{is_number}
-use Rattle.ftl_parser.specs.declared.number.TheConstants.{RADIUS_LIMIT, TICKS_LIMIT, TIMES_LIMIT}
+use Rattle.geometry.specs.declared.limits.TheConstants.{RADIUS_LIMIT}
+use Rattle.tick_set.specs.declared.spans.TheConstants.{LAST_TICK}
+use Rattle.ftl_parser.specs.declared.limits.TheConstants.{TIMES_LIMIT}
 use Rattle.ftl_parser.specs.Number.{whole_of, literal, radius, ticks, times, fits, Literal, Radius, Ticks, Times}
 use Rattle.ftl_parser.proofs.TextNumbers.{fix_text_is, whole_is}
 
@@ -119,11 +121,11 @@ whole_again most n within small =
     let high : leb n most ≡ true = grind (arith, nat_tests, within) in
     whole_is most (decimal n) ∙ rw (all_pass (decimal n) number.0.1, number.1, high) refl
 
-pub ticks_again : (n : ℕ) → n ≤ TICKS_LIMIT → ticks (decimal n) ≡ n
-ticks_again n within = ap (λ (found : Option ℕ). unwrap_or found 0) (whole_again TICKS_LIMIT n within (omega arith))
+pub ticks_again : (n : ℕ) → n ≤ LAST_TICK → ticks (decimal n) ≡ n
+ticks_again n within = ap (λ (found : Option ℕ). unwrap_or found 0) (whole_again LAST_TICK n within (omega arith))
 
-pub ticks_fit : (n : ℕ) → n ≤ TICKS_LIMIT → fits Ticks (decimal n) ≡ true
-ticks_fit n within = ap (λ (found : Option ℕ). is_some found) (whole_again TICKS_LIMIT n within (omega arith))
+pub ticks_fit : (n : ℕ) → n ≤ LAST_TICK → fits Ticks (decimal n) ≡ true
+ticks_fit n within = ap (λ (found : Option ℕ). is_some found) (whole_again LAST_TICK n within (omega arith))
 
 pub times_again : (n : ℕ) → n ≤ TIMES_LIMIT → times (decimal n) ≡ n
 times_again n within = ap (λ (found : Option ℕ). unwrap_or found 0) (whole_again TIMES_LIMIT n within (omega arith))

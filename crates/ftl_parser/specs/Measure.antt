@@ -1,10 +1,10 @@
 -- The sizes of a formula as they are kept beside it: counts that stay at the largest number.
-use Rattle.std.specs.Prelude.{ℕ, ◌+◌, min, max, ◌-◌, ◌^◌, Bool, nat_lt, List, [], ◌∷◌, length, find, Option, option_map}
+use Rattle.std.specs.Prelude.{ℕ, ◌+◌, min, max, ◌-◌, ◌^◌, Bool, Option}
+use Rattle.exact.specs.First.{first_that_holds}
 use Rattle.ftl_parser.specs.declared.fault.Size.{Size}
-use Rattle.ftl_parser.specs.declared.fault.Size.TheVariants as sizes
 use Rattle.ftl_parser.specs.declared.measured.Sizes.{Sizes}
 use Rattle.ftl_parser.specs.Tree.{Tree, QueryTree}
-use Rattle.ftl_parser.specs.Sizes.{nodes, depth, nesting, objects, factors}
+use Rattle.ftl_parser.specs.Sizes.{nodes, depth, nesting, objects, factors, passed_with}
 
 -- a count that stays at the largest number of 64 bits
 abbrev pub saturated : ℕ → ℕ
@@ -36,18 +36,6 @@ joined s t = record {
   factors = max s.factors t.factors;
 }
 
--- whether each size passes its limit, where what is said of the length is given
-abbrev pub passed_with : QueryTree → Bool → List (Size × Bool)
-passed_with q long =
-    (sizes.Variables, nat_lt 4 (length q.from))
-    ∷ (sizes.Objects, nat_lt 4 (objects q.formula))
-    ∷ (sizes.Assignments, nat_lt 2 (nesting q.formula))
-    ∷ (sizes.Nodes, nat_lt 256 (nodes q.formula))
-    ∷ (sizes.Depth, nat_lt 32 (depth q.formula))
-    ∷ (sizes.Length, long)
-    ∷ (sizes.Factors, nat_lt 16 (factors q.formula))
-    ∷ []
-
--- the first of them
+-- the first size that passes its limit, where what is said of the length is given
 abbrev pub first_passed : QueryTree → Bool → Option Size
-first_passed q long = option_map (λ size. size.0) (find (λ size. size.1) (passed_with q long))
+first_passed q long = first_that_holds (passed_with q long)

@@ -5,7 +5,9 @@ use Rattle.std.specs.List.{list_all}
 use Rattle.std.specs.Str.Parse.{digits_value}
 use Rattle.fixed_point.specs.Decimal.{thousandths_of}
 use Rattle.fixed_point.specs.declared.number.TheConstants.{READ_LIMIT}
-use Rattle.ftl_parser.specs.declared.number.TheConstants.{RADIUS_LIMIT, TICKS_LIMIT, TIMES_LIMIT}
+use Rattle.geometry.specs.declared.limits.TheConstants.{RADIUS_LIMIT}
+use Rattle.tick_set.specs.declared.spans.TheConstants.{LAST_TICK}
+use Rattle.ftl_parser.specs.declared.limits.TheConstants.{TIMES_LIMIT}
 
 -- a whole number of at most `most`: digits alone
 abbrev pub up_to : ℕ → List ℕ → Option ℕ
@@ -28,13 +30,13 @@ pub data Place : Type 0 where
 
 -- whether a number is in the form and range of its place
 abbrev pub fits : Place → List ℕ → Bool
-fits Ticks text = is_some (whole_of 0 TICKS_LIMIT text)
+fits Ticks text = is_some (whole_of 0 LAST_TICK text)
 fits Times text = is_some (whole_of 0 TIMES_LIMIT text)
 fits Literal text = is_some (thousandths_of READ_LIMIT text)
 fits Radius text = is_some (thousandths_of RADIUS_LIMIT text)
 
 abbrev pub ticks : List ℕ → ℕ
-ticks text = unwrap_or (whole_of 0 TICKS_LIMIT text) 0
+ticks text = unwrap_or (whole_of 0 LAST_TICK text) 0
 
 abbrev pub times : List ℕ → ℕ
 times text = unwrap_or (whole_of 0 TIMES_LIMIT text) 0

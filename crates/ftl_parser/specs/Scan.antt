@@ -55,6 +55,6 @@ piece_words p = []
 abbrev pub token_words : List Piece → List (List ℕ)
 token_words = flat_map piece_words
 
--- some name or text among the tokens has more than 32 bytes
+-- some name or text among the tokens has more bytes than a word
 abbrev pub has_long : List Piece → Bool
 has_long tokens = list_any is_long (token_words tokens)

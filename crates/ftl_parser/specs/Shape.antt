@@ -6,7 +6,9 @@ use Rattle.ftl_lexer.specs.Cut.{HasForm, has_no_quote}
 use Rattle.fixed_point.specs.declared.number.TheConstants.{READ_LIMIT}
 use Rattle.fixed_point.specs.declared.variants.UntilForm.{UntilForm}
 use Rattle.fixed_point.specs.declared.variants.UntilForm.TheVariants as untils
-use Rattle.ftl_parser.specs.declared.number.TheConstants.{RADIUS_LIMIT, TICKS_LIMIT, TIMES_LIMIT}
+use Rattle.geometry.specs.declared.limits.TheConstants.{RADIUS_LIMIT}
+use Rattle.tick_set.specs.declared.spans.TheConstants.{LAST_TICK}
+use Rattle.ftl_parser.specs.declared.limits.TheConstants.{TIMES_LIMIT}
 use Rattle.ftl_parser.specs.declared.tree.Atom as atom_type
 use Rattle.ftl_parser.specs.declared.tree.Atom.TheVariants as atoms
 use Rattle.ftl_parser.specs.declared.tree.Unit as unit_type
@@ -71,8 +73,8 @@ IsAtom (atoms.Sphere r names) = IsUnsigned RADIUS_LIMIT r × OneOrMore IsName na
 -- the ticks of an until
 abbrev pub IsBound : UntilForm → ℕ → Type 0
 IsBound untils.Plain ticks = ticks ≡ 0
-IsBound untils.Within ticks = ticks ≤ TICKS_LIMIT
-IsBound untils.After ticks = ticks ≤ TICKS_LIMIT
+IsBound untils.Within ticks = ticks ≤ LAST_TICK
+IsBound untils.After ticks = ticks ≤ LAST_TICK
 
 abbrev pub IsFormula : Tree → Type 0
 IsFormula (Tree.Truth b) = Unit {0}
@@ -83,7 +85,7 @@ IsFormula (Tree.Or f g) = IsFormula f × IsFormula g
 IsFormula (Tree.Next f) = IsFormula f
 IsFormula (Tree.Eventually f) = IsFormula f
 IsFormula (Tree.Always f) = IsFormula f
-IsFormula (Tree.Bounded form ticks f) = (ticks ≤ TICKS_LIMIT) × IsFormula f
+IsFormula (Tree.Bounded form ticks f) = (ticks ≤ LAST_TICK) × IsFormula f
 IsFormula (Tree.Until form ticks f g) = IsBound form ticks × IsFormula f × IsFormula g
 IsFormula (Tree.Assign name term f) = IsName name × IsTerm term × IsFormula f
 

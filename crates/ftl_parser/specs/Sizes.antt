@@ -1,6 +1,9 @@
 -- The sizes of a query that have limits.
-use Rattle.std.specs.Prelude.{ℕ, ◌+◌, max, Bool, nat_lt, List, [], ◌∷◌, ◌++◌, length, flat_map, find, Option, option_map}
+use Rattle.std.specs.Prelude.{ℕ, ◌+◌, max, Bool, nat_lt, List, [], ◌∷◌, ◌++◌, length, flat_map, Option}
 use Rattle.std.specs.List.{list_any}
+use Rattle.exact.specs.First.{first_that_holds}
+use Rattle.fixed_point.specs.declared.short_text.TheConstants.{WORD_LIMIT}
+use Rattle.ftl_parser.specs.declared.limits.TheConstants.{VARIABLE_LIMIT, OBJECT_LIMIT, ASSIGNMENT_LIMIT, NODE_LIMIT, DEPTH_LIMIT, FACTOR_LIMIT}
 use Rattle.ftl_parser.specs.declared.fault.Size.{Size}
 use Rattle.ftl_parser.specs.declared.fault.Size.TheVariants as sizes
 use Rattle.ftl_parser.specs.declared.tree.Atom as atom_type
@@ -130,22 +133,26 @@ words (Tree.Assign v t f) = v ∷ (term_words t ++ words f)
 abbrev pub query_words : QueryTree → List (List ℕ)
 query_words q = q.targets ++ (flat_map (λ p. p.class ∷ p.var ∷ []) q.from ++ words q.formula)
 
--- a name or text of more than 32 bytes
+-- a name or text that has more bytes than a word
 abbrev pub is_long : List ℕ → Bool
-is_long word = nat_lt 32 (length word)
+is_long word = nat_lt WORD_LIMIT (length word)
 
--- whether each size passes its limit, in the order in which they are judged
-abbrev pub passed : QueryTree → List (Size × Bool)
-passed q =
-    (sizes.Variables, nat_lt 4 (length q.from))
-    ∷ (sizes.Objects, nat_lt 4 (objects q.formula))
-    ∷ (sizes.Assignments, nat_lt 2 (nesting q.formula))
-    ∷ (sizes.Nodes, nat_lt 256 (nodes q.formula))
-    ∷ (sizes.Depth, nat_lt 32 (depth q.formula))
-    ∷ (sizes.Length, list_any is_long (query_words q))
-    ∷ (sizes.Factors, nat_lt 16 (factors q.formula))
+-- whether each size passes its limit, in the order in which they are judged, where what is said of the length is given
+abbrev pub passed_with : QueryTree → Bool → List (Size × Bool)
+passed_with q long =
+    (sizes.Variables, nat_lt VARIABLE_LIMIT (length q.from))
+    ∷ (sizes.Objects, nat_lt OBJECT_LIMIT (objects q.formula))
+    ∷ (sizes.Assignments, nat_lt ASSIGNMENT_LIMIT (nesting q.formula))
+    ∷ (sizes.Nodes, nat_lt NODE_LIMIT (nodes q.formula))
+    ∷ (sizes.Depth, nat_lt DEPTH_LIMIT (depth q.formula))
+    ∷ (sizes.Length, long)
+    ∷ (sizes.Factors, nat_lt FACTOR_LIMIT (factors q.formula))
     ∷ []
+
+-- whether each size passes its limit
+abbrev pub passed : QueryTree → List (Size × Bool)
+passed q = passed_with q (list_any is_long (query_words q))
 
 -- the first size that passes its limit
 abbrev pub first_too_large : QueryTree → Option Size
-first_too_large q = option_map (λ size. size.0) (find (λ size. size.1) (passed q))
+first_too_large q = first_that_holds (passed q)

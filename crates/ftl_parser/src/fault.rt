@@ -5,23 +5,24 @@ use thiserror::Error;
 /// What of a command has a limit, in the order in which it is judged.
 #[derive(Clone, Copy, Debug, PartialEq, Eq)]
 pub enum Size {
-    /// The points of a region: at most 64.
+    /// The points of a region: at most `geometry::VERTEX_LIMIT`.
     Vertices,
-    /// The variables of FROM: at most 4.
+    /// The variables of FROM: at most [`VARIABLE_LIMIT`](crate::VARIABLE_LIMIT).
     Variables,
-    /// The names in a WITHIN_SPHERE: at most 4.
+    /// The names in a WITHIN_SPHERE: at most [`OBJECT_LIMIT`](crate::OBJECT_LIMIT).
     Objects,
-    /// The assignments in one another: at most 2.
+    /// The assignments in one another: at most [`ASSIGNMENT_LIMIT`](crate::ASSIGNMENT_LIMIT).
     Assignments,
-    /// The operators, assignments and atoms of a formula: at most 256.
+    /// The operators, assignments and atoms of a formula: at most
+    /// [`NODE_LIMIT`](crate::NODE_LIMIT).
     Nodes,
-    /// The levels of a formula: at most 32.
+    /// The levels of a formula: at most [`DEPTH_LIMIT`](crate::DEPTH_LIMIT).
     Depth,
-    /// The bytes of a name or a text: at most 32.
+    /// The bytes of a name or a text: at most `fixed_point::WORD_LIMIT`.
     Length,
-    /// The written attributes of a class: at most 16.
+    /// The written attributes of a class: at most `motion::ATTRIBUTE_LIMIT`.
     Attributes,
-    /// The factors of a term: at most 16.
+    /// The factors of a term: at most [`FACTOR_LIMIT`](crate::FACTOR_LIMIT).
     Factors,
 }
 

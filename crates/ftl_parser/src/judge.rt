@@ -6,25 +6,28 @@ ghost use Rattle.ftl_parser.specs.Views.{spelled_view};
 
 use crate::Size;
 use crate::head::Spelled;
+use crate::limits::{
+    ASSIGNMENT_LIMIT, DEPTH_LIMIT, FACTOR_LIMIT, NODE_LIMIT, OBJECT_LIMIT, VARIABLE_LIMIT,
+};
 
-// The first size that passes its limit; `long` says whether a name or a text has more than 32 bytes.
+// The first size that passes its limit; `long` says whether a name or a text passes its own.
 pub(crate) fn first_too_large(query: &Spelled, long: bool) -> Option<Size>
     ensures { result ≡ first_passed (spelled_view query.now) long }
 {
     let sizes = query.formula.sizes();
-    if query.from.items().len() > 4 {
+    if query.from.items().len() > VARIABLE_LIMIT {
         Some(Size::Variables)
-    } else if sizes.objects > 4 {
+    } else if sizes.objects > OBJECT_LIMIT {
         Some(Size::Objects)
-    } else if sizes.nesting > 2 {
+    } else if sizes.nesting > ASSIGNMENT_LIMIT {
         Some(Size::Assignments)
-    } else if sizes.nodes > 256 {
+    } else if sizes.nodes > NODE_LIMIT {
         Some(Size::Nodes)
-    } else if sizes.depth > 32 {
+    } else if sizes.depth > DEPTH_LIMIT {
         Some(Size::Depth)
     } else if long {
         Some(Size::Length)
-    } else if sizes.factors > 16 {
+    } else if sizes.factors > FACTOR_LIMIT {
         Some(Size::Factors)
     } else {
         None

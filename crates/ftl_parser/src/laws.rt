@@ -1,6 +1,7 @@
-//! What holds of the definitions, and small examples of them, as calls that do nothing.
+//! What holds of the definitions, and small examples of them. Each is a contract with nothing to run.
 
-ghost use Rattle.std.specs.Prelude.{◌≡◌, List};
+ghost use Rattle.std.specs.Prelude.{◌≡◌, ◌^◌, List};
+ghost use Rattle.ftl_parser.specs.declared.limits.TheConstants.{TIMES_LIMIT, VARIABLE_LIMIT, OBJECT_LIMIT, ASSIGNMENT_LIMIT, NODE_LIMIT, DEPTH_LIMIT, FACTOR_LIMIT};
 ghost use Rattle.ftl_parser.specs.Example.{FindsUnfitNumbers, JudgesSizes, ParsesSmallQueries, StopsAtTheEnd};
 ghost use Rattle.ftl_parser.specs.Grammar.{SpellsQuery};
 ghost use Rattle.ftl_parser.specs.Marks.{first_unfit};
@@ -41,4 +42,15 @@ pub fn tokens_spell_at_most_one_query()
 #[tactic(auto, using(crate::proofs::Marks::one_first_unfit))]
 pub fn unfit_numbers_are_those_of_the_tokens()
     ensures { (tokens : List Piece) (q r : QueryTree) (d : SpellsQuery q tokens) (e : SpellsQuery r tokens) → first_unfit d ≡ first_unfit e }
+{}
+
+/// The limits of this crate by their numbers.
+pub fn limits_in_numbers()
+    ensures times { TIMES_LIMIT ≡ 10 ^ 6 }
+    ensures variables { VARIABLE_LIMIT ≡ 4 }
+    ensures objects { OBJECT_LIMIT ≡ 4 }
+    ensures assignments { ASSIGNMENT_LIMIT ≡ 2 }
+    ensures nodes { NODE_LIMIT ≡ 256 }
+    ensures depth { DEPTH_LIMIT ≡ 32 }
+    ensures factors { FACTOR_LIMIT ≡ 16 }
 {}

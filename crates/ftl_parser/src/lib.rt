@@ -7,7 +7,8 @@ mod fault;
 mod frame;
 mod head;
 mod judge;
-pub mod laws;
+mod laws;
+mod limits;
 mod lists;
 mod measured;
 mod number;
@@ -17,14 +18,27 @@ mod printing;
 mod reading;
 mod scan;
 mod state;
-pub mod text_laws;
+mod text_laws;
 mod tree;
 
 pub use fault::{ParseFault, Size};
+pub use laws::{
+    an_unended_query_stops_at_its_end, limits_in_numbers, numbers_out_of_range_are_found,
+    sizes_are_judged_in_order, small_queries_are_parsed, tokens_spell_at_most_one_query,
+    unfit_numbers_are_those_of_the_tokens,
+};
+pub use limits::{
+    ASSIGNMENT_LIMIT, DEPTH_LIMIT, FACTOR_LIMIT, NODE_LIMIT, OBJECT_LIMIT, TIMES_LIMIT,
+    VARIABLE_LIMIT,
+};
 pub use lists::{Factors, FromParts, Names};
-pub use number::{RADIUS_LIMIT, TICKS_LIMIT, TIMES_LIMIT, whole};
+pub use number::whole;
 pub use printing::{print, print_onto};
 pub use reading::parse;
+pub use text_laws::{
+    printed_queries_are_read_back, printed_queries_are_short, read_queries_are_printable,
+    tokens_are_read_as_one_query,
+};
 pub use tree::{Atom, Formula, FromPart, Query, Signed, Term, Unit};
 
 #[cfg(test)]

@@ -3,19 +3,13 @@
 ghost use Rattle.std.specs.Prelude.{◌≡◌, ◌≤◌, ◌≤ℤ◌, pos, neg_ℤ, unsigned_abs, IfSome};
 ghost use Rattle.fixed_point.specs.declared.number.TheConstants.{READ_LIMIT};
 ghost use Rattle.fixed_point.specs.Decimal.{thousandths_of};
+ghost use Rattle.geometry.specs.declared.limits.TheConstants.{RADIUS_LIMIT};
 ghost use Rattle.ftl_parser.specs.Cut.{cut_word};
 ghost use Rattle.ftl_parser.specs.Number.{whole_of, up_to, literal, radius, ticks, times, fits, Ticks, Times, Literal, Radius};
 
+use crate::limits::TIMES_LIMIT;
 use fixed_point::{Fix, Slope, WORD_LIMIT, Word};
-
-/// The largest radius, in thousandths.
-pub const RADIUS_LIMIT: u64 = 1_000_000;
-
-/// The most ticks of a bounded form.
-pub const TICKS_LIMIT: u32 = 1_000_000_000;
-
-/// The largest multiplier before `*`.
-pub const TIMES_LIMIT: u32 = 1_000_000;
+use tick_set::LAST_TICK;
 
 // The whole number that digits alone stand for, if it is at most `most`.
 #[tactic(auto, using(crate::proofs::DigitLemmas::whole_steps))]
@@ -56,7 +50,7 @@ fn zero() -> Fix
 pub(crate) fn ticks(text: &[u8]) -> u32
     ensures { result ≡ ticks text.now }
 {
-    whole(text, 0, TICKS_LIMIT).unwrap_or(0)
+    whole(text, 0, LAST_TICK).unwrap_or(0)
 }
 
 // A multiplier; 0 where it is none in its range.
@@ -106,7 +100,7 @@ pub(crate) fn negated(number: Fix) -> Fix
 pub(crate) fn ticks_fit(text: &[u8]) -> bool
     ensures { result ≡ fits Ticks text.now }
 {
-    whole(text, 0, TICKS_LIMIT).is_some()
+    whole(text, 0, LAST_TICK).is_some()
 }
 
 // Whether a number is a multiplier in its range.

@@ -1,4 +1,4 @@
-//! What holds of printed queries, as calls that do nothing.
+//! What holds of printed queries. Each is a contract with nothing to run.
 
 ghost use Rattle.ftl_parser.specs.TextLaws.{PrintsShorterThanFourLines, PrintsShortly, PrintsWhatIsRead, ReadsAgain, ReadsOneQuery, ReadsWhatIsPrinted, TokensFit};
 
