@@ -1,0 +1,17 @@
+//! The courses of objects: the motion of a point object while an epoch is in force, and the common parts
+//! of up to four timelines.
+//!
+//! No window is walked tick by tick, and nothing takes memory: one call gives the part that begins at a
+//! tick, and a caller goes from part to part.
+#![tactic(auto)]
+
+mod laws;
+mod lines;
+mod parts;
+
+pub use laws::pieces_are_counted;
+pub use lines::line_from;
+pub use parts::{Common, MOST_TIMELINES, common_from};
+
+#[cfg(test)]
+mod tests;

@@ -1,0 +1,108 @@
+//! The common parts of several timelines.
+ghost use Rattle.std.specs.Prelude.{◌≡◌, ◌+◌, ◌<◌, ◌≤◌, ℕ, None, [], All, IsSome, IfSome, length, slice_index_or};
+ghost use Rattle.std.specs.Option.{option_copied};
+ghost use Rattle.tick_set.specs.declared.spans.TheConstants.{LAST_TICK};
+ghost use Rattle.motion.specs.Timeline.{epoch_at, IsRising};
+ghost use Rattle.courses.specs.Places.{AreSteadyCells};
+ghost use Rattle.courses.specs.Parts.{epochs_of_each, pieces_of_all, IsCommon, IsPart};
+
+use motion::{Epoch, Timeline};
+use tick_set::{LAST_TICK, Span};
+
+/// The most timelines that are walked together.
+pub const MOST_TIMELINES: usize = 4;
+
+/// Ticks in which each of some timelines has one epoch in force, or none yet, and each dynamic attribute
+/// moves by one slope.
+#[derive(Clone, Copy, Debug)]
+pub struct Common<'a> {
+    pub span: Span,
+    /// The epochs in force, in the order of the timelines. None before the first epoch of a timeline, and
+    /// past the timelines.
+    pub epochs: [Option<&'a Epoch>; MOST_TIMELINES],
+}
+
+impl<'a> Common<'a> {
+    /// The epoch in force of the timeline at a place, counted from 0.
+    #[inline]
+    pub fn epoch(&self, place: usize) -> Option<&'a Epoch>
+        ensures { result ≡ slice_index_or self.now.epochs place None }
+    {
+        let epochs = &self.epochs[..];
+        *epochs.get(place)?
+    }
+}
+
+/// The common part of these timelines that begins at tick `at`. It ends with `last`, or before the next tick
+/// at which an epoch of one of them begins or a leg of a dynamic attribute of one ends. The next part begins
+/// at the tick past it. It takes no memory.
+///
+/// Where each timeline has an epoch in force, fewer of their pieces are left past the part than from `at` on.
+/// So there are at most as many such parts as pieces.
+pub fn common_from<'a>(timelines: &[&'a Timeline], at: u32, last: u32) -> Common<'a>
+    requires few { length timelines.now ≤ MOST_TIMELINES }
+    requires order { at ≤ last }
+    requires tick { last ≤ LAST_TICK }
+    ensures part { IsCommon (epochs_of_each timelines.now) at last result.span }
+    ensures epochs { (k t : ℕ) → result.span.lo ≤ t → t ≤ result.span.hi
+        → epoch_at (slice_index_or (epochs_of_each timelines.now) k []) t
+        ≡ option_copied (slice_index_or result.epochs k None) }
+    ensures steady { (k : ℕ) → IfSome (slice_index_or result.epochs k None)
+        (λ epoch. AreSteadyCells epoch.now result.span.lo result.span.hi) }
+    ensures fewer { 0 < length timelines.now → All (λ timeline. IsSome (epoch_at timeline.now at)) timelines.now
+        → pieces_of_all (epochs_of_each timelines.now) (result.span.hi + 1) last
+        < pieces_of_all (epochs_of_each timelines.now) at last }
+    ensures not_more { pieces_of_all (epochs_of_each timelines.now) (result.span.hi + 1) last
+        ≤ pieces_of_all (epochs_of_each timelines.now) at last }
+{
+    let mut end = last;
+    let mut epochs = [None; MOST_TIMELINES];
+    for k in 0..timelines.len() {
+        let part = part_from(timelines[k], at, end);
+        end = part.end;
+        epochs[k] = part.epoch;
+    }
+    Common {
+        span: Span { lo: at, hi: end },
+        epochs,
+    }
+}
+
+// What one timeline has from a tick on, up to the tick `end`.
+#[derive(Clone, Copy)]
+struct Part<'a> {
+    end: u32,
+    epoch: Option<&'a Epoch>,
+}
+
+// The part of a timeline that begins at tick `at` and ends by `last`.
+fn part_from(timeline: &Timeline, at: u32, last: u32) -> Part
+    requires order { at ≤ last }
+    requires tick { last ≤ LAST_TICK }
+    ensures part { IsPart timeline.now at last result.end }
+    ensures epoch { option_copied result.epoch ≡ epoch_at timeline.now at }
+{
+    match timeline.piece_from(at, last) {
+        Some(piece) => Part {
+            end: piece.span.hi,
+            epoch: timeline.epoch(piece.epoch),
+        },
+        None => Part {
+            end: end_before_first(timeline, at, last),
+            epoch: None,
+        },
+    }
+}
+
+// The last tick before the first epoch, which begins past `at`, but at most `last`.
+fn end_before_first(timeline: &Timeline, at: u32, last: u32) -> u32
+    requires rising { IsRising timeline.now }
+    requires before { epoch_at timeline.now at ≡ None }
+    requires order { at ≤ last }
+    ensures { IsPart timeline.now at last result }
+{
+    match timeline.epoch(0) {
+        Some(first) => last.min(first.from() - 1),
+        None => last,
+    }
+}

@@ -1,0 +1,73 @@
+-- A small formula by number, and what it has, worked out by hand.
+use Rattle.std.specs.Prelude.{◌≡◌, ℕ, ◌+◌, ◌*◌, pos, negsuc, true, false, [], ◌∷◌, Some, None, codes}
+use Rattle.case_table.specs.declared.compare.Op.TheVariants as ops
+use Rattle.fixed_point.specs.declared.variants.SubName.TheVariants as subs
+use Rattle.fixed_point.specs.declared.variants.UntilForm.TheVariants as untils
+use Rattle.formula_shape.specs.Shape.{Shape}
+use Rattle.formula_shape.specs.Sizes.{nodes, depth, nesting, has_not}
+use Rattle.formula.specs.declared.tree.RAtom.TheVariants as atoms
+use Rattle.formula.specs.declared.tree.RSigned.{RSigned}
+use Rattle.formula.specs.declared.tree.RTerm.{RTerm}
+use Rattle.formula.specs.declared.tree.RUnit.{RUnit}
+use Rattle.formula.specs.declared.tree.RUnit.TheVariants as units
+use Rattle.formula.specs.Bounds.{term_bound}
+use Rattle.formula.specs.Sizes.{objects, factors}
+use Rattle.formula.specs.Tree.{ResolvedTree}
+use Rattle.formula.specs.Variables.{has_variable, variables_of}
+
+abbrev pub plus : RUnit → RSigned
+plus unit = record { minus = false; times = None; unit = unit }
+
+abbrev pub minus : RUnit → RSigned
+minus unit = record { minus = true; times = None; unit = unit }
+
+abbrev pub times : ℕ → RUnit → RSigned
+times k unit = record { minus = false; times = Some k; unit = unit }
+
+-- the first attribute of variable 1, whose values are within a million units
+abbrev pub far : RTerm
+far = record { factors = plus (units.Attr 1 0 (pos 1000000000)) ∷ [] }
+
+-- twice what was bound, less the value of a dynamic attribute of variable 2
+abbrev pub left : RTerm
+left = record { factors = times 2 (units.Var 0 (pos 1000000000)) ∷ minus (units.Sub 2 1 subs.Value) ∷ [] }
+
+-- TIME - 3
+abbrev pub right : RTerm
+right = record { factors = plus units.Time ∷ minus (units.Literal (pos 3000)) ∷ [] }
+
+-- INSIDE(0,7) UNTIL_WITHIN 5 [0 <- far] (left <= right AND NOT WITHIN_SPHERE(1,0,3,0))
+abbrev pub sample : ResolvedTree
+sample =
+    let circle = Shape.Atom (atoms.Sphere (pos 1000) (0 ∷ 3 ∷ 0 ∷ [])) in
+    Shape.Until untils.Within 5
+    (Shape.Atom (atoms.Inside 0 7))
+    (Shape.Assign (0, far) (Shape.And (Shape.Atom (atoms.Compare left ops.Le right)) (Shape.Not circle)))
+
+pub record HasVariables : Type 0 where
+  pub all : variables_of sample ≡ 0 ∷ 1 ∷ 2 ∷ 3 ∷ []
+  pub no_more : has_variable 4 sample ≡ false
+  pub of_an_assignment : variables_of (Shape.Assign (0, far) (Shape.Truth true)) ≡ 1 ∷ []
+  pub of_the_right_term : variables_of (Shape.Atom (atoms.Compare right ops.Eq left)) ≡ 2 ∷ []
+  pub ascending : variables_of (Shape.Next (Shape.Atom (atoms.Dist 3 1 ops.Lt (pos 5)))) ≡ 1 ∷ 3 ∷ []
+  pub of_an_outside : variables_of (Shape.Atom (atoms.Outside 2 0)) ≡ 2 ∷ []
+  pub of_a_term_without : variables_of (Shape.Atom (atoms.Compare right ops.Eq right)) ≡ []
+
+pub record HasBounds : Type 0 where
+  pub attribute : term_bound far ≡ 1000000000
+  pub multiplied : term_bound left ≡ 2 * 1000000000 + 1001000000000000
+  pub subtracted : term_bound right ≡ 1000000003000
+  pub text : term_bound (record { factors = plus (units.Text (codes "AB")) ∷ [] }) ≡ 0
+  pub negative : term_bound (record { factors = plus (units.Literal (negsuc 4)) ∷ [] }) ≡ 5
+  pub times_nothing :
+      term_bound (record { factors = times 0 units.Time ∷ plus (units.Sub 0 0 subs.Function) ∷ [] }) ≡ 1000000
+  pub update_time : term_bound (record { factors = times 3 (units.Sub 0 0 subs.UpdateTime) ∷ [] }) ≡ 3000000000000
+
+pub record HasSizes : Type 0 where
+  pub nodes_are : nodes sample ≡ 7
+  pub depth_is : depth sample ≡ 5
+  pub nesting_is : nesting sample ≡ 1
+  pub not_is_there : has_not sample ≡ true
+  pub objects_are : objects sample ≡ 3
+  pub factors_are : factors sample ≡ 2
+  pub factors_of_an_assignment : factors (Shape.Assign (0, left) (Shape.Truth true)) ≡ 2

@@ -1,0 +1,9 @@
+pub mod Bounds
+pub mod Example
+pub mod Forms
+pub mod Padded
+pub mod Sizes
+pub mod Tree
+pub mod Value
+pub mod Variables
+pub mod VarSet

@@ -1,0 +1,4 @@
+pub mod Example
+pub mod Shape
+pub mod ShapeCode
+pub mod Sizes
