@@ -1,4 +1,3 @@
 pub mod CrossLemmas
 pub mod GatherLemmas
-pub mod JoinLemmas
-pub mod NameLemmas
+pub mod PairLemmas

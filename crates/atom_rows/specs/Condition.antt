@@ -4,9 +4,10 @@ use Rattle.std.specs.Option.{option_map_or}
 use Rattle.case_table.specs.Comparison.{compares}
 use Rattle.motion.specs.Dynamic.{Dynamic}
 use Rattle.motion.specs.Pieces.{IsLinear}
-use Rattle.motion.specs.Timeline.{Period, cells_of}
+use Rattle.motion.specs.Timeline.{Epoch, cells_of}
 use Rattle.motion.specs.declared.cell.Cell.{Cell}
 use Rattle.motion.specs.declared.cell.Cell.TheVariants as cells
+use Rattle.meaning.specs.Satisfaction.{compares_at}
 use Rattle.meaning.specs.Value.{number_of}
 use Rattle.atom_rows.specs.declared.condition.Condition.{Condition}
 use Rattle.atom_rows.specs.declared.condition.Condition.TheVariants as conditions
@@ -19,13 +20,12 @@ cell_compares c t cell = option_map_or (λ value. compares c.op value c.number) 
 -- whether the state of an object at tick t meets the condition
 abbrev pub meets : Condition → ℕ → Option (List Cell) → Bool
 meets conditions.Present t state = is_some state
-meets (conditions.Compares c) t state =
-    option_map_or (λ value. compares c.op value c.number) (option_and_then (λ cells. option_and_then (λ cell. number_of cell t) (slice_get cells c.place)) state) false
+meets (conditions.Compares c) t state = compares_at c.index c.op c.number state t
 
 -- a cell that moves does so by one slope from tick lo to hi
 abbrev pub IsSteadyCell : Cell → ℕ → ℕ → Type 0
 IsSteadyCell cell lo hi = (v : Dynamic) → cell ≡ cells.Dyn v → IsLinear v lo hi
 
--- so does each cell of a period
-abbrev pub AreSteadyCells : Period → ℕ → ℕ → Type 0
+-- so does each cell of an epoch
+abbrev pub AreSteadyCells : Epoch → ℕ → ℕ → Type 0
 AreSteadyCells p lo hi = (a : ℕ) (v : Dynamic) → slice_get (cells_of p) a ≡ Some (cells.Dyn v) → IsLinear v lo hi

@@ -19,14 +19,14 @@ use tick_set::{Span, Window};
 pub enum Condition {
     /// That it is there.
     Present,
-    /// That its attribute at a place, counted from 0, compares so with a number.
+    /// That its attribute of an index compares so with a number.
     Compares(Comparison),
 }
 
 /// An attribute on the left, a number of thousandths on the right.
 #[derive(Clone, Copy, Debug)]
 pub struct Comparison {
-    pub place: usize,
+    pub index: usize,
     pub op: Op,
     pub number: Fix,
 }
@@ -38,7 +38,7 @@ pub fn met_in(epoch: &Epoch, condition: &Condition, span: Span) -> Pair
 {
     match condition {
         Condition::Present => all_or_none(epoch.is_present(), span),
-        Condition::Compares(comparison) => match epoch.cell(comparison.place) {
+        Condition::Compares(comparison) => match epoch.cell(comparison.index) {
             Some(cell) => compared(cell, comparison, span),
             None => all_or_none(false, span),
         },

@@ -6,7 +6,6 @@
 #![tactic(auto)]
 
 mod condition;
-mod joining;
 mod pieces;
 mod rows;
 

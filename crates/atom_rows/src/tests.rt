@@ -1,5 +1,5 @@
 ghost use Rattle.std.specs.Prelude.{◌≡◌, ◌<◌, ◌≤◌, All, IfOk, length, unsigned_abs};
-ghost use Rattle.motion.specs.declared.vector.TheConstants.{GIVEN_LIMIT};
+ghost use Rattle.fixed_point.specs.declared.number.TheConstants.{READ_LIMIT};
 ghost use Rattle.motion.specs.Cells.{IsGiven};
 
 use super::*;
@@ -34,7 +34,7 @@ fn word(text: &[u8]) -> Result<Word, Fail> {
 
 // A number of thousandths, as a command may give it.
 fn fix(thousandths: i32) -> Result<Fix, Fail>
-    ensures { IfOk result (λ f. unsigned_abs f ≤ GIVEN_LIMIT) }
+    ensures { IfOk result (λ f. unsigned_abs f ≤ READ_LIMIT) }
 {
     Ok(Fix::of(i64::from(thousandths)).ok_or("a number past its range")?)
 }
@@ -174,6 +174,7 @@ fn pairs(alloc: Global, set: &IntervalSet) -> Result<Vec<(u32, u32)>, AllocError
 }
 
 fn present_by<L: Ledger>(
+    rt: &HostRuntime,
     blank: Blank,
     alloc: Global,
     store: &Store,
@@ -184,11 +185,12 @@ fn present_by<L: Ledger>(
     requires some_part { 0 < blank.parts }
     requires id { 0 < length store.now.objects }
 {
-    let mut reads: Steps<L> = Steps::new(blank);
-    presence(alloc, store, 0, w, &mut reads)
+    let mut reads: Steps<L> = Steps::new(rt, blank);
+    presence(alloc, 0, store, w, &mut reads)
 }
 
 fn compared_by<L: Ledger>(
+    rt: &HostRuntime,
     blank: Blank,
     alloc: Global,
     store: &Store,
@@ -202,20 +204,21 @@ fn compared_by<L: Ledger>(
     requires some_part { 0 < blank.parts }
     requires id { 0 < length store.now.objects }
 {
-    let mut reads: Steps<L> = Steps::new(blank);
+    let mut reads: Steps<L> = Steps::new(rt, blank);
     attribute_ticks(alloc, store, 0, a, op, number, w, &mut reads)
 }
 
 // The tank is present in these runs of the window.
 fn is_there(
     rt: &impl Abort,
+    host: &HostRuntime,
     alloc: Global,
     store: &Store,
     ends: (u32, u32),
     wanted: &[(u32, u32)],
 ) -> Result<(), Fail> {
     assert!(rt; 0 < store.object_count());
-    let set = present_by::<Brand>(Blank::new(1), alloc, store, window(ends)?)?;
+    let set = present_by::<Brand>(host, Blank::new(1), alloc, store, window(ends)?)?;
     let found = pairs(alloc, &set)?;
     assert_eq!(rt; found.as_slice(), wanted);
     Ok(())
@@ -224,6 +227,7 @@ fn is_there(
 // An attribute compares so in these runs of the window.
 fn compares(
     rt: &impl Abort,
+    host: &HostRuntime,
     alloc: Global,
     store: &Store,
     asked: (usize, Op, i32),
@@ -233,7 +237,16 @@ fn compares(
     assert!(rt; 0 < store.object_count());
     let (a, op, number) = asked;
     let number = fix(number)?;
-    let set = compared_by::<Brand>(Blank::new(1), alloc, store, a, op, number, window(ends)?)?;
+    let set = compared_by::<Brand>(
+        host,
+        Blank::new(1),
+        alloc,
+        store,
+        a,
+        op,
+        number,
+        window(ends)?,
+    )?;
     let found = pairs(alloc, &set)?;
     assert_eq!(rt; found.as_slice(), wanted);
     Ok(())
@@ -256,7 +269,7 @@ fn a_falling_value(rt: HostRuntime) -> Result<(), Fail> {
         (Op::Ne, 4000, (0, 30), &[(0, 11), (13, 30)]),
         (Op::Lt, -1_000_000, (5, LAST_TICK), &[(2021, LAST_TICK)]),
     ] {
-        compares(&rt, alloc, &store, (FUEL, op, number), ends, wanted)?;
+        compares(&rt, &rt, alloc, &store, (FUEL, op, number), ends, wanted)?;
     }
     Ok(())
 }
@@ -279,7 +292,7 @@ fn numbers_texts_and_no_attribute(rt: HostRuntime) -> Result<(), Fail> {
         (PLATE, Op::Ne, 0, &[]),
         (FUEL + 1, Op::Ne, 1, &[]),
     ] {
-        compares(&rt, alloc, &store, (a, op, number), (0, 20), wanted)?;
+        compares(&rt, &rt, alloc, &store, (a, op, number), (0, 20), wanted)?;
     }
     Ok(())
 }
@@ -304,7 +317,7 @@ fn removed_and_inserted_again(rt: HostRuntime) -> Result<(), Fail> {
         ((11, 13), &[(12, 13)]),
         ((40, LAST_TICK), &[(40, LAST_TICK)]),
     ] {
-        is_there(&rt, alloc, &store, ends, wanted)?;
+        is_there(&rt, &rt, alloc, &store, ends, wanted)?;
     }
     for (op, ends, wanted) in [
         (Op::Le, (0, 20), [(8, 9), (12, 14)].as_slice()),
@@ -313,29 +326,7 @@ fn removed_and_inserted_again(rt: HostRuntime) -> Result<(), Fail> {
         (Op::Eq, (0, 20), &[(8, 8)]),
         (Op::Ge, (10, 14), &[]),
     ] {
-        compares(&rt, alloc, &store, (FUEL, op, 0), ends, wanted)?;
-    }
-    Ok(())
-}
-
-#[test]
-fn legs_turn_the_value(rt: HostRuntime) -> Result<(), Fail> {
-    let alloc = rt.alloc();
-    let deeds = [
-        (0, Deed::Insert(Value::Turns(10_000, -1000, 4, 500))),
-        (6, Deed::Resize(1)),
-    ];
-    let store = tank(&rt, alloc, &deeds)?;
-    for (op, number, wanted) in [
-        (Op::Le, 7000, [(3, 6)].as_slice()),
-        (Op::Lt, 6000, &[]),
-        (Op::Le, 6000, &[(4, 4)]),
-        (Op::Eq, 7000, &[(3, 3), (6, 6)]),
-        (Op::Ne, 7000, &[(0, 2), (4, 5), (7, 20)]),
-        (Op::Ge, 6000, &[(0, 20)]),
-        (Op::Gt, 6000, &[(0, 3), (5, 20)]),
-    ] {
-        compares(&rt, alloc, &store, (FUEL, op, number), (0, 20), wanted)?;
+        compares(&rt, &rt, alloc, &store, (FUEL, op, 0), ends, wanted)?;
     }
     Ok(())
 }

@@ -1,7 +1,0 @@
-use Rattle.std.proofs.Common.{arith}
-use Rattle.atom_rows.proofs.JoinLemmas.{apart_from_last}
-use Rattle.atom_rows.proofs.joining.joined_run.Goals as goal
-
-pub returns-else-runs-last-clause-apart : goal.returns-else-runs-last-clause-apart
-returns-else-runs-last-clause-apart c =
-    apart_from_last c.args.runs.now c.args.span c.requires.normal c.requires.past c.in_ok-last.last c.index-runs-last.result (omega arith) c.if-runs-last.false
