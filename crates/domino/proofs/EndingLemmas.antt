@@ -1,8 +1,9 @@
 -- How the read loop ends, said of the whole run.
-use Rattle.std.proofs.Common.{inl, inr, ◌≡◌, ℕ, Bool, true, false, List, [], ◌∷◌, take, Option, None, Some, refl, ap, sym, subst, ◌∙◌, if◌then◌else◌}
+use Rattle.std.proofs.Common.{inl, inr, ◌⊎◌, ◌≡◌, ℕ, Bool, true, false, List, [], ◌∷◌, take, Option, None, Some, refl, ap, sym, subst, ◌∙◌, if◌then◌else◌}
 use Rattle.outside.specs.Faults.{Rose}
 use Rattle.outside.specs.Shelf.{Texts}
-use Rattle.command_text.specs.Journal.{Accepted}
+use Rattle.line_meaning.specs.Step.{Base, Held, base, held}
+use Rattle.line_meaning.proofs.CallerLemmas.{texts_kept}
 use Rattle.line_loop.specs.declared.ending.Ending.{Ending}
 use Rattle.line_loop.specs.declared.ending.Ending.TheVariants as endings
 use Rattle.line_loop.specs.Ending as loop
@@ -12,27 +13,29 @@ use Rattle.line_loop.specs.Run.{heard}
 use Rattle.line_loop.specs.Stop.{LacksMemory}
 use Rattle.domino.specs.Machine.{State, machine, leaves, state_of}
 use Rattle.domino.specs.Whole.{empty}
-use Rattle.domino.specs.Ends.{Given, EndsAs, CompletesAs, KeepsLimit, HasCause}
+use Rattle.domino.specs.Ends.{Given, EndsAs, CompletesAs, KeepsLimit, HasCause, QuitsWithin}
 use Rattle.domino.specs.Status.{status_of}
 use Rattle.domino.specs.declared.status.Status.{Status}
 use Rattle.domino.specs.declared.status.Status.TheVariants.{Done, BadWords, ReadFault, WriteFault, ShelfFault, NoMemory, InputLimit}
 
 -- no line changes the texts
-texts_after : (s : State) (lines : List (List ℕ)) → (after machine s lines).texts ≡ s.texts
+texts_after : (s : State) (lines : List (List ℕ)) → (after machine s lines).base.texts ≡ s.base.texts
 texts_after s [] = refl
 texts_after s (line ∷ lines) =
-    elim s.ended as (λ ended. (if ended then s else after machine (machine.next s line) lines).texts ≡ s.texts) [
+    elim s.ended as (λ ended. (if ended then s else after machine (machine.next s line) lines).base.texts ≡ s.base.texts) [
       | true ↦ refl
-      | false ↦ texts_after (machine.next s line) lines
+      | false ↦ texts_after (machine.next s line) lines ∙ texts_kept s.base line
     ]
 
 -- the texts that a told state tells
-texts_told : (journal : List Accepted) (ended : Bool) (told : Option Texts) (s : State) → state_of journal ended told ≡ Some s → told ≡ Some s.texts
-texts_told journal ended None s h = cc
-texts_told journal ended (Some texts) s h = let same : record { journal = journal; ended = ended; texts = texts } ≡ s = cc in ap (λ (s : State). Some s.texts) same
+texts_told : (h : Held) (ended : Bool) (told : Option Texts) (s : State) → state_of h ended told ≡ Some s → told ≡ Some s.base.texts
+texts_told h ended None s is = cc
+texts_told h ended (Some texts) s is =
+    let same : record { base = base h texts; ended = ended } ≡ s = cc in ap (λ (s : State). Some s.base.texts) same
 
-texts_stay : (journal : List Accepted) (ended : Bool) (told : Option Texts) (s : State) (lines : List (List ℕ)) → state_of journal ended told ≡ Some (after machine s lines) → told ≡ Some s.texts
-texts_stay journal ended told s lines h = texts_told journal ended told (after machine s lines) h ∙ ap Some (texts_after s lines)
+texts_stay : (h : Held) (ended : Bool) (told : Option Texts) (s : State) (lines : List (List ℕ)) →
+    state_of h ended told ≡ Some (after machine s lines) → told ≡ Some s.base.texts
+texts_stay h ended told s lines is = texts_told h ended told (after machine s lines) is ∙ ap Some (texts_after s lines)
 
 lacking_is : (now : State) (later : List (List ℕ)) (told : Option State) → LacksMemory machine leaves now later told → told ≡ Some now
 lacking_is now [] told h = h
@@ -41,15 +44,20 @@ lacking_is now (line ∷ lines) told h = elim h [ inl same ↦ same | inr left �
 abbrev given : Bool → ℕ → List ℕ → List ℕ → Texts → Given
 given words limit bytes written texts = record { words = words; limit = limit; bytes = bytes; written = written; texts = texts }
 
+-- the source was read to its end, or a `quit` was
+finished_is : (limit : ℕ) (bytes written : List ℕ) (texts : Texts) (left : Option (List ℕ)) → (left ≡ Some []) ⊎ loop.IsDoneWithin machine limit (record { state = empty texts; written = written }) bytes left → (left ≡ Some []) ⊎ QuitsWithin (given true limit bytes written texts) left
+finished_is limit bytes written texts left (inl all) = inl all
+finished_is limit bytes written texts left (inr h) = inr (record { count = h.count; within = h.within; taken = h.taken; quit = h.done })
+
 -- with good words the run ends as the read loop does
-loop_ends : (ending : Ending) (limit : ℕ) (bytes written : List ℕ) (texts : Texts) (journal : List Accepted) (ended : Bool) (new : Option (List ℕ)) (told : Option Texts) (left : Option (List ℕ)) → loop.EndsAs machine leaves limit (record { state = empty texts; written = written }) bytes ending (state_of journal ended told) new left → EndsAs (given true limit bytes written texts) (status_of ending) new told left
+loop_ends : (ending : Ending) (limit : ℕ) (bytes written : List ℕ) (texts : Texts) (journal : Held) (ended : Bool) (new : Option (List ℕ)) (told : Option Texts) (left : Option (List ℕ)) → loop.EndsAs machine leaves limit (record { state = empty texts; written = written }) bytes ending (state_of journal ended told) new left → EndsAs (given true limit bytes written texts) (status_of ending) new told left
 loop_ends endings.Done limit bytes written texts journal ended new told left h = (
   record {
     status_is = ap (λ cut. if cut then InputLimit else Done) (sym h.whole);
     output = h.reached.has_written;
     texts_stay = texts_stay journal ended told (empty texts) (heard machine limit (empty texts) bytes) h.reached.in_state;
   },
-  h.finished,
+  finished_is limit bytes written texts left h.finished,
 )
 loop_ends endings.InputLimit limit bytes written texts journal ended new told left h = (
   record {
@@ -80,7 +88,7 @@ loop_ends endings.NoMemory limit bytes written texts journal ended new told left
   texts_stay = texts_stay journal ended told (empty texts) h.earlier (lacking_is (after machine (empty texts) h.earlier) h.later (state_of journal ended told) h.lacking);
 }
 
-pub good_words_end : (words : Bool) (ending : Ending) (limit : ℕ) (bytes written : List ℕ) (texts : Texts) (journal : List Accepted) (ended : Bool) (new : Option (List ℕ)) (told : Option Texts) (left : Option (List ℕ)) → words ≡ true → loop.EndsAs machine leaves limit (record { state = empty texts; written = written }) bytes ending (state_of journal ended told) new left → EndsAs (given words limit bytes written texts) (status_of ending) new told left
+pub good_words_end : (words : Bool) (ending : Ending) (limit : ℕ) (bytes written : List ℕ) (texts : Texts) (journal : Held) (ended : Bool) (new : Option (List ℕ)) (told : Option Texts) (left : Option (List ℕ)) → words ≡ true → loop.EndsAs machine leaves limit (record { state = empty texts; written = written }) bytes ending (state_of journal ended told) new left → EndsAs (given words limit bytes written texts) (status_of ending) new told left
 good_words_end words ending limit bytes written texts journal ended new told left good h =
     subst (λ (w : Bool). EndsAs (given w limit bytes written texts) (status_of ending) new told left) (sym good)
     (loop_ends ending limit bytes written texts journal ended new told left h)
@@ -109,7 +117,7 @@ pub loop_completes : (g : Given) (ending : Ending) (status : Status) (old new : 
 loop_completes g ending status old new written told left is cause source sink h =
     completes g status old new written told left (subst (λ (s : Status). HasCause s old new) (sym is) (loop_cause ending old new cause)) source sink h
 
-pub loop_taken : (ending : Ending) (limit : ℕ) (bytes : List ℕ) (left : Option (List ℕ)) → loop.KeepsLimit limit bytes ending left → KeepsLimit limit bytes (status_of ending) left
+pub loop_taken : (ending : Ending) (limit : ℕ) (bytes : List ℕ) (left : Option (List ℕ)) → loop.KeepsLimit limit bytes ending left → KeepsLimit true limit bytes (status_of ending) left
 loop_taken endings.Done limit bytes left h = h
 loop_taken endings.ReadFault limit bytes left h = h
 loop_taken endings.WriteFault limit bytes left h = h

@@ -5,7 +5,6 @@ use Rattle.outside.specs.Shelf.{Texts}
 use Rattle.line_loop.specs.Ending.{Counts, HasTaken, StaysWithin}
 use Rattle.line_loop.specs.Lines.{ended_lines}
 use Rattle.line_loop.specs.Machine.{replies}
-use Rattle.line_loop.specs.Run.{heard}
 use Rattle.line_loop.specs.Stop.{WritesPart}
 use Rattle.domino.specs.Machine.{State, machine}
 use Rattle.domino.specs.Whole.{Whole, bad_words, empty, quits, whole}
@@ -46,9 +45,12 @@ start g = empty g.texts
 abbrev pub whole_of : Given → Whole
 whole_of g = whole g.words g.limit (start g) g.bytes
 
--- one of the lines that are answered is an accepted `quit`
-abbrev pub is_ended : Given → Bool
-is_ended g = quits (start g) (heard machine g.limit (start g) g.bytes)
+-- a `quit` that nothing refuses ends within the bytes taken
+pub record QuitsWithin (g : Given) (left : Option (List ℕ)) : Type 0 where
+  pub count : ℕ
+  pub within : count ≤ g.limit
+  pub taken : HasTaken g.bytes count left
+  pub quit : quits (start g) (ended_lines (take count g.bytes)) ≡ true
 
 -- the whole run: its status, all its output, and the texts as they were
 pub record IsWhole (g : Given) (status : Status) (written : Option (List ℕ)) (texts : Option Texts) : Type 0 where
@@ -78,20 +80,16 @@ pub record IsPart (g : Given) (written : Option (List ℕ)) (texts : Option Text
   pub output : written ≡ Some (g.written ++ take count (whole_of g).output)
   pub texts_stay : texts ≡ Some g.texts
 
--- No byte past the limit is taken, but for the one that shows that there is another. With bad words none is.
-abbrev pub KeepsLimit : ℕ → List ℕ → Status → Option (List ℕ) → Type 0
-KeepsLimit limit bytes InputLimit left = HasTaken bytes (limit + 1) left
-KeepsLimit limit bytes Done left = StaysWithin limit bytes left
-KeepsLimit limit bytes BadWords left = left ≡ Some bytes
-KeepsLimit limit bytes ReadFault left = StaysWithin limit bytes left
-KeepsLimit limit bytes WriteFault left = StaysWithin limit bytes left
-KeepsLimit limit bytes ShelfFault left = StaysWithin limit bytes left
-KeepsLimit limit bytes NoMemory left = StaysWithin limit bytes left
+-- With bad words nothing is read. Else no byte past the limit is taken, but for the one that shows that there is another.
+abbrev pub KeepsLimit : Bool → ℕ → List ℕ → Status → Option (List ℕ) → Type 0
+KeepsLimit false limit bytes status left = left ≡ Some bytes
+KeepsLimit true limit bytes InputLimit left = HasTaken bytes (limit + 1) left
+KeepsLimit true limit bytes status left = StaysWithin limit bytes left
 
--- By each status: what was written, and what it says of the input. After Done all of it was read, or a `quit` was answered.
+-- By each status: what was written, and what it says of the input. After Done all of it was read, or a `quit` was.
 -- The shelf isn't asked, so it doesn't fail.
 abbrev pub EndsAs : Given → Status → Option (List ℕ) → Option Texts → Option (List ℕ) → Type 0
-EndsAs g Done written texts left = IsWhole g Done written texts × ((left ≡ Some []) ⊎ (is_ended g ≡ true))
+EndsAs g Done written texts left = IsWhole g Done written texts × ((left ≡ Some []) ⊎ QuitsWithin g left)
 EndsAs g BadWords written texts left = IsWhole g BadWords written texts
 EndsAs g InputLimit written texts left = IsWhole g InputLimit written texts × HasTaken g.bytes (g.limit + 1) left
 EndsAs g ReadFault written texts left = IsReadFault g written texts left
@@ -108,24 +106,6 @@ CompletesAs g ReadFault written texts = ⊥
 CompletesAs g WriteFault written texts = ⊥
 CompletesAs g ShelfFault written texts = ⊥
 CompletesAs g NoMemory written texts = IsPart g written texts
-
--- what is seen of the outside at one moment: the counts of faults, and what each object tells
-pub record Seen : Type 0 where
-  pub faults : Counts
-  pub left : Option (List ℕ)
-  pub written : Option (List ℕ)
-  pub texts : Option Texts
-
--- all that a run promises, from the outside before it to that after it
-pub record RunsAs (limit : ℕ) (words : Bool) (before after : Seen) (status : Status) : Type 0 where
-  pub fits : FitsWords status words
-  pub cause : HasCause status before.faults after.faults
-  pub taken : (bytes : List ℕ) → before.left ≡ Some bytes → KeepsLimit limit bytes status after.left
-  pub ends : (bytes written : List ℕ) (texts : Texts) → before.left ≡ Some bytes → before.written ≡ Some written → before.texts ≡ Some texts →
-      EndsAs (record { words = words; limit = limit; bytes = bytes; written = written; texts = texts }) status after.written after.texts after.left
-  pub complete : (bytes written : List ℕ) (texts : Texts) → before.left ≡ Some bytes → before.written ≡ Some written → before.texts ≡ Some texts →
-      ¬ Rose before.faults.source after.faults.source → ¬ Rose before.faults.sink after.faults.sink →
-      CompletesAs (record { words = words; limit = limit; bytes = bytes; written = written; texts = texts }) status after.written after.texts
 
 -- how it ends where the words are bad
 abbrev pub Refuses : Status → ℕ → ℕ → Option (List ℕ) → Option (List ℕ) → Type 0

@@ -1,4 +1,5 @@
 pub mod Machine
 pub mod Whole
 pub mod Ends
+pub mod Theorem
 pub mod Status

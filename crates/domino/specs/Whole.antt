@@ -3,6 +3,7 @@ use Rattle.std.specs.Prelude.{ℕ, Bool, false, ◌==◌, List, [], ◌∷◌, �
 use Rattle.outside.specs.Shelf.{Texts}
 use Rattle.line_loop.specs.Machine.{after}
 use Rattle.line_loop.specs.Run.{is_cut, output}
+use Rattle.line_meaning.specs.Step.{base, held}
 use Rattle.domino.specs.Machine.{State, machine}
 use Rattle.domino.specs.declared.status.Status.{Status}
 use Rattle.domino.specs.declared.status.Status.TheVariants.{Done, BadWords, InputLimit}
@@ -16,7 +17,7 @@ bad_words = codes "bad words" ++ 10 ∷ []
 
 -- the state before the first line: nothing was accepted
 abbrev pub empty : Texts → State
-empty texts = record { journal = []; ended = false; texts = texts }
+empty texts = record { base = base (held []) texts; ended = false }
 
 -- one of these lines is an accepted `quit`
 abbrev pub quits : State → List (List ℕ) → Bool

@@ -4,16 +4,16 @@
 
 ghost use Rattle.std.specs.Prelude.{◌≡◌, ◌<◌, length};
 ghost use Rattle.domino.specs.Whole.{are_words};
-ghost use Rattle.domino.specs.Ends.{RunsAs};
+ghost use Rattle.domino.specs.Theorem.{RunsAs};
+ghost use Rattle.domino.specs.declared.run.TheConstants.{INPUT_LIMIT};
 
-mod database;
+mod machine;
 mod run;
 mod status;
 
 use outside::{Shelf, Sink, Source, StdSink, StdSource, SureShelf};
 use run::run;
 use status::Status;
-use std::alloc::Global;
 use std::marker::Brand;
 use std::process::ExitCode;
 use std::sync::ledger::{Blank, Ledger};
@@ -21,23 +21,35 @@ use std::{env, io};
 use steps::Steps;
 
 fn main(rt: HostRuntime) -> io::Result<ExitCode> {
-    let words = env::args(&rt)?.collect::<Vec<String>>(rt.alloc())?;
+    let Some(words) = words(&rt) else {
+        return Ok(ExitCode::from(Status::NoMemory.code()));
+    };
     let mut source = StdSource::new(rt.reader());
     let mut sink = StdSink::new(io::writer(&rt));
     let mut shelf = SureShelf::new(rt.alloc());
-    let status = run_program(rt.alloc(), &words, &mut source, &mut sink, &mut shelf);
+    let status = run_program(&rt, &words, &mut source, &mut sink, &mut shelf);
     Ok(ExitCode::from(status.code()))
+}
+
+/// The words of the program, its name first; none at all where one of them is no text, so that they are bad
+/// words. None where memory is out.
+fn words(rt: &HostRuntime) -> Option<Vec<String>> {
+    match env::args(rt) {
+        Ok(words) => words.collect::<Vec<String>>(rt.alloc()).ok(),
+        Err(error) if error.kind() == io::ErrorKind::OutOfMemory => None,
+        Err(_) => Some(Vec::new(rt.alloc())),
+    }
 }
 
 /// Runs the program over an outside.
 fn run_program<S: Source, K: Sink, F: Shelf>(
-    alloc: Global,
+    rt: &HostRuntime,
     words: &[String],
     source: &mut S,
     sink: &mut K,
     shelf: &mut F,
 ) -> Status
-    ensures { RunsAs 1073741824 (are_words (length words.now))
+    ensures { RunsAs INPUT_LIMIT (are_words (length words.now))
         (record {
           faults = record { source = S.faults source.old; sink = K.faults sink.old; context = F.faults shelf.old };
           left = S.left source.old;
@@ -52,20 +64,12 @@ fn run_program<S: Source, K: Sink, F: Shelf>(
         })
         result }
 {
-    count_reads::<_, _, _, Brand>(
-        alloc,
-        words,
-        source,
-        sink,
-        shelf,
-        Blank::new(1),
-        Blank::new(1),
-    )
+    count_reads::<_, _, _, Brand>(rt, words, source, sink, shelf, Blank::new(1), Blank::new(1))
 }
 
 /// Runs the program with a counter of reads, which costs nothing.
 fn count_reads<S: Source, K: Sink, F: Shelf, L: Ledger>(
-    alloc: Global,
+    rt: &HostRuntime,
     words: &[String],
     source: &mut S,
     sink: &mut K,
@@ -77,7 +81,7 @@ fn count_reads<S: Source, K: Sink, F: Shelf, L: Ledger>(
     requires parts { reads.parts ≡ L.parts }
     requires some { 0 < reads.parts }
     requires one { 0 < probes.parts }
-    ensures { RunsAs 1073741824 (are_words (length words.now))
+    ensures { RunsAs INPUT_LIMIT (are_words (length words.now))
         (record {
           faults = record { source = S.faults source.old; sink = K.faults sink.old; context = F.faults shelf.old };
           left = S.left source.old;
@@ -92,13 +96,13 @@ fn count_reads<S: Source, K: Sink, F: Shelf, L: Ledger>(
         })
         result }
 {
-    let mut reads: Steps<L> = Steps::new(reads);
-    count_probes::<_, _, _, _, Brand>(alloc, words, source, sink, shelf, &mut reads, probes)
+    let mut reads: Steps<L> = Steps::new(rt, reads);
+    count_probes::<_, _, _, _, Brand>(rt, words, source, sink, shelf, &mut reads, probes)
 }
 
 /// Runs the program with a counter of probes too.
 fn count_probes<S: Source, K: Sink, F: Shelf, L: Ledger, M: Ledger>(
-    alloc: Global,
+    rt: &HostRuntime,
     words: &[String],
     source: &mut S,
     sink: &mut K,
@@ -109,7 +113,7 @@ fn count_probes<S: Source, K: Sink, F: Shelf, L: Ledger, M: Ledger>(
     requires name { probes.name ≡ M.name }
     requires parts { probes.parts ≡ M.parts }
     requires some { 0 < probes.parts }
-    ensures { RunsAs 1073741824 (are_words (length words.now))
+    ensures { RunsAs INPUT_LIMIT (are_words (length words.now))
         (record {
           faults = record { source = S.faults source.old; sink = K.faults sink.old; context = F.faults shelf.old };
           left = S.left source.old;
@@ -124,8 +128,8 @@ fn count_probes<S: Source, K: Sink, F: Shelf, L: Ledger, M: Ledger>(
         })
         result }
 {
-    let mut probes: Steps<M> = Steps::new(probes);
-    run(alloc, words, source, sink, shelf, reads, &mut probes)
+    let mut probes: Steps<M> = Steps::new(rt, probes);
+    run(rt.alloc(), words, source, sink, shelf, reads, &mut probes)
 }
 
 #[cfg(test)]

@@ -4,8 +4,10 @@ ghost use Rattle.outside.specs.Faults.{Rose};
 ghost use Rattle.outside.specs.Shelf.{Texts};
 ghost use Rattle.domino.specs.Whole.{are_words};
 ghost use Rattle.domino.specs.Ends.{CompletesAs, EndsAs, FitsWords, HasCause, KeepsLimit, Refuses};
+ghost use Rattle.domino.specs.Theorem.{RunsAs};
+ghost use Rattle.domino.specs.declared.run.TheConstants.{INPUT_LIMIT};
 
-use crate::database::{Counters, Database};
+use crate::machine::{Counters, Database};
 use crate::status::{Status, status_of};
 use line_loop::{run_lines, write_all};
 use outside::{OutFail, Shelf, Sink, Source};
@@ -17,7 +19,7 @@ use steps::Steps;
 pub const INPUT_LIMIT: u64 = 1_073_741_824;
 
 /// The program over an outside: answers the lines of the source, and writes the replies to the sink, under
-/// a limit of 1,073,741,824 bytes.
+/// a limit of [`INPUT_LIMIT`] bytes.
 pub fn run<S: Source, K: Sink, F: Shelf, L: Ledger, M: Ledger>(
     alloc: Global,
     words: &[String],
@@ -27,20 +29,20 @@ pub fn run<S: Source, K: Sink, F: Shelf, L: Ledger, M: Ledger>(
     reads: &mut Steps<L>,
     probes: &mut Steps<M>,
 ) -> Status
-    ensures words { FitsWords result (are_words (length words.now)) }
-    ensures cause { HasCause result
-        (record { source = S.faults source.old; sink = K.faults sink.old; context = F.faults shelf.old })
-        (record { source = S.faults source.new; sink = K.faults sink.new; context = F.faults shelf.new }) }
-    ensures taken { (bytes : List ℕ) → S.left source.old ≡ Some bytes → KeepsLimit 1073741824 bytes result (S.left source.new) }
-    ensures ends { (bytes written : List ℕ) (texts : Texts) →
-        S.left source.old ≡ Some bytes → K.written sink.old ≡ Some written → F.texts shelf.old ≡ Some texts →
-        EndsAs (record { words = are_words (length words.now); limit = 1073741824; bytes = bytes; written = written; texts = texts })
-        result (K.written sink.new) (F.texts shelf.new) (S.left source.new) }
-    ensures complete { (bytes written : List ℕ) (texts : Texts) →
-        S.left source.old ≡ Some bytes → K.written sink.old ≡ Some written → F.texts shelf.old ≡ Some texts →
-        ¬ Rose (S.faults source.old) (S.faults source.new) → ¬ Rose (K.faults sink.old) (K.faults sink.new) →
-        CompletesAs (record { words = are_words (length words.now); limit = 1073741824; bytes = bytes; written = written; texts = texts })
-        result (K.written sink.new) (F.texts shelf.new) }
+    ensures { RunsAs INPUT_LIMIT (are_words (length words.now))
+        (record {
+          faults = record { source = S.faults source.old; sink = K.faults sink.old; context = F.faults shelf.old };
+          left = S.left source.old;
+          written = K.written sink.old;
+          texts = F.texts shelf.old;
+        })
+        (record {
+          faults = record { source = S.faults source.new; sink = K.faults sink.new; context = F.faults shelf.new };
+          left = S.left source.new;
+          written = K.written sink.new;
+          texts = F.texts shelf.new;
+        })
+        result }
 {
     run_limited(
         alloc,
@@ -58,9 +60,38 @@ pub fn run<S: Source, K: Sink, F: Shelf, L: Ledger, M: Ledger>(
 ///
 /// The words are those of the program, its name first; no other word is known yet. With other words it
 /// writes `bad words` and reads nothing. Lines end with a line feed, and the last line may lack it. Each
-/// line is answered before the next read, and after a `quit` nothing is read. A read asks for at most 4,096
-/// bytes, and for none past the limit but the one that shows that there is another.
+/// line is answered, and its reply written, before the next read, and after a `quit` nothing is read. A read
+/// asks for at most 4,096 bytes, and for none past the limit but the one that shows that there is another.
 pub fn run_limited<S: Source, K: Sink, F: Shelf, L: Ledger, M: Ledger>(
+    alloc: Global,
+    limit: u64,
+    words: &[String],
+    source: &mut S,
+    sink: &mut K,
+    shelf: &mut F,
+    reads: &mut Steps<L>,
+    probes: &mut Steps<M>,
+) -> Status
+    ensures { RunsAs limit (are_words (length words.now))
+        (record {
+          faults = record { source = S.faults source.old; sink = K.faults sink.old; context = F.faults shelf.old };
+          left = S.left source.old;
+          written = K.written sink.old;
+          texts = F.texts shelf.old;
+        })
+        (record {
+          faults = record { source = S.faults source.new; sink = K.faults sink.new; context = F.faults shelf.new };
+          left = S.left source.new;
+          written = K.written sink.new;
+          texts = F.texts shelf.new;
+        })
+        result }
+{
+    run_within(alloc, limit, words, source, sink, shelf, reads, probes)
+}
+
+/// The same, its promises one by one.
+fn run_within<S: Source, K: Sink, F: Shelf, L: Ledger, M: Ledger>(
     alloc: Global,
     limit: u64,
     words: &[String],
@@ -74,7 +105,7 @@ pub fn run_limited<S: Source, K: Sink, F: Shelf, L: Ledger, M: Ledger>(
     ensures cause { HasCause result
         (record { source = S.faults source.old; sink = K.faults sink.old; context = F.faults shelf.old })
         (record { source = S.faults source.new; sink = K.faults sink.new; context = F.faults shelf.new }) }
-    ensures taken { (bytes : List ℕ) → S.left source.old ≡ Some bytes → KeepsLimit limit bytes result (S.left source.new) }
+    ensures taken { (bytes : List ℕ) → S.left source.old ≡ Some bytes → KeepsLimit (are_words (length words.now)) limit bytes result (S.left source.new) }
     ensures ends { (bytes written : List ℕ) (texts : Texts) →
         S.left source.old ≡ Some bytes → K.written sink.old ≡ Some written → F.texts shelf.old ≡ Some texts →
         EndsAs (record { words = are_words (length words.now); limit = limit; bytes = bytes; written = written; texts = texts })

@@ -37,12 +37,12 @@ fn plain_trial(input: &[u8]) -> Trial<'_> {
 }
 
 // The exit status of the run, and what it wrote.
-fn outcome(alloc: Global, trial: &Trial) -> Result<(u8, Vec<u8>), AllocError> {
-    with_reads::<Brand>(alloc, trial, Blank::new(1), Blank::new(1))
+fn outcome(rt: &HostRuntime, trial: &Trial) -> Result<(u8, Vec<u8>), AllocError> {
+    with_reads::<Brand>(rt, trial, Blank::new(1), Blank::new(1))
 }
 
 fn with_reads<L: Ledger>(
-    alloc: Global,
+    rt: &HostRuntime,
     trial: &Trial,
     reads: Blank,
     probes: Blank,
@@ -52,12 +52,12 @@ fn with_reads<L: Ledger>(
     requires some { 0 < reads.parts }
     requires one { 0 < probes.parts }
 {
-    let mut reads: Steps<L> = Steps::new(reads);
-    with_probes::<_, Brand>(alloc, trial, &mut reads, probes)
+    let mut reads: Steps<L> = Steps::new(rt, reads);
+    with_probes::<_, Brand>(rt, trial, &mut reads, probes)
 }
 
 fn with_probes<L: Ledger, M: Ledger>(
-    alloc: Global,
+    rt: &HostRuntime,
     trial: &Trial,
     reads: &mut Steps<L>,
     probes: Blank,
@@ -66,7 +66,8 @@ fn with_probes<L: Ledger, M: Ledger>(
     requires parts { probes.parts ≡ M.parts }
     requires some { 0 < probes.parts }
 {
-    let mut probes: Steps<M> = Steps::new(probes);
+    let mut probes: Steps<M> = Steps::new(rt, probes);
+    let alloc = rt.alloc();
     let mut words = Vec::new(alloc);
     for _ in 0..trial.words {
         words.push(String::from_str(alloc, "domino")?)?;
@@ -94,12 +95,12 @@ fn with_probes<L: Ledger, M: Ledger>(
 // The run ends with this status, and has written this.
 fn assert_ends(
     rt: &impl Abort,
-    alloc: Global,
+    host: &HostRuntime,
     trial: &Trial,
     status: u8,
     output: &[u8],
 ) -> Result<(), Fail> {
-    let (found, written) = outcome(alloc, trial)?;
+    let (found, written) = outcome(host, trial)?;
     assert_eq!(rt;
         found,
         status,
@@ -139,7 +140,7 @@ fn lines_are_answered(rt: HostRuntime) -> Result<(), Fail> {
         (b"quit", b"ok\n"),
     ];
     for (input, output) in cases {
-        assert_ends(&rt, rt.alloc(), &plain_trial(input), 0, output)?;
+        assert_ends(&rt, &rt, &plain_trial(input), 0, output)?;
     }
     Ok(())
 }
@@ -149,7 +150,7 @@ fn pieces_do_not_matter(rt: HostRuntime) -> Result<(), Fail> {
     for cut in 1..51 {
         let mut trial = plain_trial(INPUT);
         trial.cut = cut;
-        assert_ends(&rt, rt.alloc(), &trial, 0, OUTPUT)?;
+        assert_ends(&rt, &rt, &trial, 0, OUTPUT)?;
     }
     Ok(())
 }
@@ -157,10 +158,10 @@ fn pieces_do_not_matter(rt: HostRuntime) -> Result<(), Fail> {
 #[test]
 fn lines_have_at_most_4096_bytes(rt: HostRuntime) -> Result<(), Fail> {
     let comment = vec![in rt.alloc(); b'#'; 4097]?;
-    assert_ends(&rt, rt.alloc(), &plain_trial(&comment[..4096]), 0, b"")?;
+    assert_ends(&rt, &rt, &plain_trial(&comment[..4096]), 0, b"")?;
     assert_ends(
         &rt,
-        rt.alloc(),
+        &rt,
         &plain_trial(&comment),
         0,
         b"refused 1 LineTooLong\n",
@@ -176,7 +177,7 @@ fn only_the_name_of_the_program_is_a_good_word(rt: HostRuntime) -> Result<(), Fa
     ] {
         let mut trial = plain_trial(INPUT);
         trial.words = words;
-        assert_ends(&rt, rt.alloc(), &trial, status, output)?;
+        assert_ends(&rt, &rt, &trial, status, output)?;
     }
     Ok(())
 }
@@ -196,7 +197,7 @@ fn bytes_past_the_limit_end_a_run(rt: HostRuntime) -> Result<(), Fail> {
     for (limit, input, status, output) in cases {
         let mut trial = plain_trial(input);
         trial.limit = limit;
-        assert_ends(&rt, rt.alloc(), &trial, status, output)?;
+        assert_ends(&rt, &rt, &trial, status, output)?;
     }
     Ok(())
 }
@@ -216,7 +217,7 @@ fn failing_reads_end_a_run(rt: HostRuntime) -> Result<(), Fail> {
         trial.cut = 40;
         let reads = [read];
         trial.reads = &reads;
-        assert_ends(&rt, rt.alloc(), &trial, status, output)?;
+        assert_ends(&rt, &rt, &trial, status, output)?;
     }
     Ok(())
 }
@@ -230,7 +231,7 @@ fn failing_writes_end_a_run(rt: HostRuntime) -> Result<(), Fail> {
         trial.cut = 2;
         let writes = [write];
         trial.writes = &writes;
-        assert_ends(&rt, rt.alloc(), &trial, 4, output)?;
+        assert_ends(&rt, &rt, &trial, 4, output)?;
     }
     Ok(())
 }

@@ -1,9 +1,2 @@
-pub mod AttemptLemmas
-pub mod Begins
 pub mod CarryLemmas
-pub mod FindingLemmas
-pub mod KeepLemmas
-pub mod ListLemmas
-pub mod Pairs
-pub mod ReadyLemmas
-pub mod RowLemmas
+pub mod AnswerLemmas

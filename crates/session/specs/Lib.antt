@@ -1,14 +1,3 @@
-pub mod History
-pub mod Question
-pub mod Fault
-pub mod Reply
-pub mod Step
-pub mod Keeping
-pub mod Taking
-pub mod Ready
-pub mod Attempt
+pub mod Answers
 pub mod Carried
-pub mod Told
-pub mod Finding
-pub mod Settling
-pub mod Rows
+pub mod Entering

@@ -1,25 +1,16 @@
 //! One line of input, one step: the state of the database, and `apply`, which answers a line.
 //!
-//! A session is seen as its journal, the commands that it has accepted. Beside the journal it keeps the
-//! store, the regions and the clock that the journal tells.
+//! A session is seen as what it holds: its journal, the commands that it has accepted. Beside the journal it
+//! keeps the database that the journal tells.
 #![tactic(auto)]
 
 mod answer;
-mod change;
-mod database;
-mod fault;
-mod listing;
+mod entering;
 mod next;
-mod objects;
-mod question;
-mod reply;
-mod rows;
 mod session;
-mod stop;
 
 pub use next::{ApplyFault, Next};
-pub use question::SPAN_LIMIT;
-pub use session::{Session, long_lines_step_alike};
+pub use session::Session;
 
 #[cfg(test)]
 mod tests;

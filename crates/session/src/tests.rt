@@ -1,7 +1,7 @@
 //! Lines and their replies.
 ghost use Rattle.std.specs.Prelude.{◌≡◌, ◌<◌};
 
-use crate::fault::passes;
+use crate::entering::passes;
 use crate::{Next, Session};
 use outside::SureShelf;
 use std::alloc::Global;
@@ -14,12 +14,12 @@ use steps::Steps;
 
 /// The replies of lines to an empty database, one after another. A refused line is answered by its
 /// refusal, and `quit` by `bye` besides.
-fn replies(alloc: Global, lines: &[&[u8]]) -> Result<Vec<u8>, Fail> {
-    with_reads::<Brand>(alloc, lines, Blank::new(1), Blank::new(1))
+fn replies(rt: &HostRuntime, lines: &[&[u8]]) -> Result<Vec<u8>, Fail> {
+    with_reads::<Brand>(rt, lines, Blank::new(1), Blank::new(1))
 }
 
 fn with_reads<L: Ledger>(
-    alloc: Global,
+    rt: &HostRuntime,
     lines: &[&[u8]],
     reads: Blank,
     probes: Blank,
@@ -29,12 +29,12 @@ fn with_reads<L: Ledger>(
     requires some { 0 < reads.parts }
     requires one { 0 < probes.parts }
 {
-    let mut reads: Steps<L> = Steps::new(reads);
-    with_probes::<_, Brand>(alloc, lines, &mut reads, probes)
+    let mut reads: Steps<L> = Steps::new(rt, reads);
+    with_probes::<_, Brand>(rt, lines, &mut reads, probes)
 }
 
 fn with_probes<L: Ledger, M: Ledger>(
-    alloc: Global,
+    rt: &HostRuntime,
     lines: &[&[u8]],
     reads: &mut Steps<L>,
     probes: Blank,
@@ -43,7 +43,8 @@ fn with_probes<L: Ledger, M: Ledger>(
     requires parts { probes.parts ≡ M.parts }
     requires some { 0 < probes.parts }
 {
-    let mut probes: Steps<M> = Steps::new(probes);
+    let mut probes: Steps<M> = Steps::new(rt, probes);
+    let alloc = rt.alloc();
     let mut session = Session::new(alloc);
     let mut out = Vec::new(alloc);
     for line in lines {
@@ -79,9 +80,9 @@ struct Row {
     replies: &'static str,
 }
 
-fn check(rt: &impl Abort, alloc: Global, rows: &[Row]) -> Result<(), Fail> {
+fn check(rt: &impl Abort, host: &HostRuntime, rows: &[Row]) -> Result<(), Fail> {
     for row in rows {
-        let out = replies(alloc, row.lines)?;
+        let out = replies(host, row.lines)?;
         assert_eq!(rt; str::from_utf8(&out)?, row.replies);
     }
     Ok(())
@@ -91,7 +92,7 @@ fn check(rt: &impl Abort, alloc: Global, rows: &[Row]) -> Result<(), Fail> {
 fn levels_are_found_when_they_hold(rt: HostRuntime) -> Result<(), Fail> {
     check(
         &rt,
-        rt.alloc(),
+        &rt,
         &[
             Row {
                 lines: &[
@@ -126,7 +127,7 @@ fn levels_are_found_when_they_hold(rt: HostRuntime) -> Result<(), Fail> {
 fn an_absent_object_is_in_no_answer(rt: HostRuntime) -> Result<(), Fail> {
     check(
         &rt,
-        rt.alloc(),
+        &rt,
         &[Row {
             lines: &[
                 b"class tank 9 (fuel dyn,n num)",
@@ -148,7 +149,7 @@ fn an_absent_object_is_in_no_answer(rt: HostRuntime) -> Result<(), Fail> {
 fn points_have_an_x_and_a_y(rt: HostRuntime) -> Result<(), Fail> {
     check(
         &rt,
-        rt.alloc(),
+        &rt,
         &[Row {
             lines: &[
                 b"class car 5 point",
@@ -167,7 +168,7 @@ fn points_have_an_x_and_a_y(rt: HostRuntime) -> Result<(), Fail> {
 fn lines_without_a_reply_and_the_end(rt: HostRuntime) -> Result<(), Fail> {
     check(
         &rt,
-        rt.alloc(),
+        &rt,
         &[Row {
             lines: &[b"", b" \t ", b"# list", b"list", b"quit"],
             replies: "clock 0\nok\nok\nbye\n",
@@ -179,7 +180,7 @@ fn lines_without_a_reply_and_the_end(rt: HostRuntime) -> Result<(), Fail> {
 fn what_is_there_is_listed(rt: HostRuntime) -> Result<(), Fail> {
     check(
         &rt,
-        rt.alloc(),
+        &rt,
         &[Row {
             lines: &[
                 b"class car 100 point",
@@ -200,7 +201,7 @@ fn what_is_there_is_listed(rt: HostRuntime) -> Result<(), Fail> {
 fn forms_that_are_not_built_are_refused(rt: HostRuntime) -> Result<(), Fail> {
     check(
         &rt,
-        rt.alloc(),
+        &rt,
         &[
             Row {
                 lines: &[
@@ -238,7 +239,7 @@ fn forms_that_are_not_built_are_refused(rt: HostRuntime) -> Result<(), Fail> {
 fn a_question_is_refused_by_its_first_fault(rt: HostRuntime) -> Result<(), Fail> {
     check(
         &rt,
-        rt.alloc(),
+        &rt,
         &[Row {
             lines: &[
                 b"class tank 9 (fuel dyn,plate text)",
@@ -262,7 +263,7 @@ fn a_question_is_refused_by_its_first_fault(rt: HostRuntime) -> Result<(), Fail>
 fn a_class_or_region_is_refused_by_its_first_fault(rt: HostRuntime) -> Result<(), Fail> {
     check(
         &rt,
-        rt.alloc(),
+        &rt,
         &[Row {
             lines: &[
                 b"class tank 0 tank",
@@ -288,7 +289,7 @@ fn a_class_or_region_is_refused_by_its_first_fault(rt: HostRuntime) -> Result<()
 fn an_insert_is_refused_by_its_first_fault(rt: HostRuntime) -> Result<(), Fail> {
     check(
         &rt,
-        rt.alloc(),
+        &rt,
         &[Row {
             lines: &[
                 b"class tank 1 (fuel dyn,n num,plate text)",
@@ -315,7 +316,7 @@ fn an_insert_is_refused_by_its_first_fault(rt: HostRuntime) -> Result<(), Fail> 
 fn an_update_or_removal_is_refused_by_its_first_fault(rt: HostRuntime) -> Result<(), Fail> {
     check(
         &rt,
-        rt.alloc(),
+        &rt,
         &[Row {
             lines: &[
                 b"class tank 2 (fuel dyn,n num)",
@@ -341,7 +342,7 @@ fn an_update_or_removal_is_refused_by_its_first_fault(rt: HostRuntime) -> Result
 fn a_line_is_refused_before_anything_is_asked(rt: HostRuntime) -> Result<(), Fail> {
     check(
         &rt,
-        rt.alloc(),
+        &rt,
         &[Row {
             lines: &[
                 b"insert \xC3 ?",

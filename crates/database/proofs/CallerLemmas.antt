@@ -1,0 +1,18 @@
+-- A database that keeps a journal refuses and answers as the journal says.
+use Rattle.std.proofs.Common.{◌≡◌, List}
+use Rattle.command_text.specs.Journal.{Accepted}
+use Rattle.command_text.specs.Tree.{CommandTree}
+use Rattle.line_meaning.specs.Answering.{answer_lines}
+use Rattle.line_meaning.specs.Fault.{fault_among}
+use Rattle.line_meaning.specs.Journal.{clock, world}
+use Rattle.database.specs.declared.database.Database.{Database}
+use Rattle.database.specs.Attempt.{fault_told}
+use Rattle.database.specs.Keeping.{clock_of, told, Keeps}
+
+pub fault_is_told : (journal : List Accepted) (d : Database) (c : CommandTree) → Keeps journal d →
+    fault_told d c ≡ fault_among (world journal) (clock journal) c
+fault_is_told journal d c k = λ i. fault_among (k.told_is i) (k.clock_is i) c
+
+pub lines_are_told : (journal : List Accepted) (d : Database) (c : CommandTree) → Keeps journal d →
+    answer_lines (told d) (clock_of d) c ≡ answer_lines (world journal) (clock journal) c
+lines_are_told journal d c k = λ i. answer_lines (k.told_is i) (k.clock_is i) c

@@ -1,0 +1,47 @@
+-- What an attempt to carry out a command answers.
+use Rattle.std.specs.Prelude.{◌≡◌, ◌++◌, [], ◌∷◌, true, false, List, Option, None, Some, Result, Ok, Err}
+use Rattle.fixed_point.specs.declared.number.Point.{Point}
+use Rattle.geometry.specs.Polygon.{is_convex}
+use Rattle.command_text.specs.declared.fault.CommandFault.{CommandFault}
+use Rattle.command_text.specs.declared.fault.CommandFault.TheVariants as faults
+use Rattle.command_text.specs.declared.refusal.Refusal.{Refusal}
+use Rattle.command_text.specs.declared.refusal.Refusal.TheVariants as refusals
+use Rattle.command_text.specs.Journal.{Accepted}
+use Rattle.command_text.specs.Tree
+use Rattle.command_text.specs.Tree.{CommandTree}
+use Rattle.line_meaning.specs.Fault.{fault_among}
+use Rattle.database.specs.declared.change.Change.{Change}
+use Rattle.database.specs.declared.database.Database.{Database}
+use Rattle.database.specs.Keeping.{clock_of, told, Keeps}
+use Rattle.database.specs.Taking.{Undoes}
+
+-- the refusal of a command by what is kept
+abbrev pub fault_told : Database → CommandTree → Option Refusal
+fault_told d c = fault_among (told d) (clock_of d) c
+
+-- The command was carried out, and can be taken back: a journal that was kept is kept with the command at its end.
+pub record Carries (c : CommandTree) (old new : Database) (change : Change) : Type 0 where
+  pub accepted : fault_told old c ≡ None
+  pub keeps : (journal : List Accepted) → Keeps journal old → Keeps (journal ++ (clock_of old, c) ∷ []) new
+  pub undoes : Undoes change old new
+
+-- What want of memory says of a command: nothing refuses it. The attributes of a class are copied before it is judged,
+-- and the clock moves without memory.
+abbrev pub LacksMemory : Database → CommandTree → Type 0
+LacksMemory d (Tree.Class name capacity point attributes) = Unit {0}
+LacksMemory d (Tree.Tick ticks) = ⊥
+LacksMemory d c = fault_told d c ≡ None
+
+-- the command was stopped, and nothing changed
+abbrev pub Stops : CommandTree → Database → Database → CommandFault → Type 0
+Stops c old new (faults.Refused r) = (fault_told old c ≡ Some r) × (new ≡ old)
+Stops c old new faults.NoMemory = LacksMemory old c × (new ≡ old)
+
+abbrev pub Attempts : CommandTree → Database → Database → Result Change CommandFault → Type 0
+Attempts c old new (Ok change) = Carries c old new change
+Attempts c old new (Err fault) = Stops c old new fault
+
+-- why there is no polygon of some points
+abbrev pub IsFlat : List Point → CommandFault → Type 0
+IsFlat points (faults.Refused r) = (r ≡ refusals.NotConvex) × (is_convex points ≡ false)
+IsFlat points faults.NoMemory = is_convex points ≡ true

@@ -1,0 +1,7 @@
+pub mod Keeping
+pub mod Taking
+pub mod Attempt
+pub mod Telling
+pub mod Ready
+pub mod Finding
+pub mod Rows

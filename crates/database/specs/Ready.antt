@@ -1,0 +1,17 @@
+-- The sizes and numbers of a command that was read, as far as the database relies on them.
+use Rattle.std.specs.Prelude.{◌<◌, ◌≤◌, length}
+use Rattle.object_store.specs.Changes.{AreGiven}
+use Rattle.motion.specs.declared.limits.TheConstants.{ATTRIBUTE_LIMIT, CAPACITY_LIMIT}
+use Rattle.geometry.specs.declared.limits.TheConstants.{LEAST_VERTICES, VERTEX_LIMIT}
+use Rattle.tick_set.specs.declared.spans.TheConstants.{LAST_TICK}
+use Rattle.command_text.specs.Tree
+use Rattle.command_text.specs.Tree.{CommandTree}
+
+abbrev pub IsReady : CommandTree → Type 0
+IsReady (Tree.Class name capacity point attributes) = (0 < capacity) × (capacity ≤ CAPACITY_LIMIT) × (length attributes ≤ ATTRIBUTE_LIMIT)
+IsReady (Tree.Region name points) = (LEAST_VERTICES ≤ length points) × (length points ≤ VERTEX_LIMIT)
+IsReady (Tree.Insert class name place sets) = AreGiven place sets
+IsReady (Tree.Update name place sets) = AreGiven place sets
+IsReady (Tree.Tick ticks) = ticks ≤ LAST_TICK
+IsReady (Tree.Ask span q) = span ≤ LAST_TICK
+IsReady _ = Unit {0}

@@ -1,0 +1,38 @@
+//! What a journal tells, kept so that it is found quickly.
+ghost use Rattle.std.specs.Prelude.{◌≡◌, []};
+ghost use Rattle.database.specs.Keeping.{clock_of, Keeps};
+
+use object_store::Store;
+use polygon::Regions;
+use std::alloc::Global;
+
+/// The objects, the regions and the clock. A contract sees what they tell, all that a query may ask of, and
+/// the clock.
+#[derive(Drop)]
+pub struct Database {
+    pub(crate) store: Store,
+    pub(crate) regions: Regions,
+    // Ticks since the beginning.
+    pub(crate) clock: u32,
+}
+
+impl Database {
+    /// A database without classes and regions, whose clock is at 0. It takes no memory.
+    pub fn new(alloc: Global) -> Database
+        ensures { Keeps [] result }
+    {
+        Database {
+            store: Store::new(alloc),
+            regions: Regions::new(alloc),
+            clock: 0,
+        }
+    }
+
+    /// The clock, in ticks since the beginning: at most 10^9.
+    #[inline]
+    pub fn clock(&self) -> u32
+        ensures { result ≡ clock_of self.now }
+    {
+        self.clock
+    }
+}

@@ -1,0 +1,14 @@
+//! The database below its journal: objects, regions and the clock. It carries out the commands that a journal
+//! keeps, each so that it can be taken back, and answers those that change nothing.
+#![tactic(auto)]
+
+mod asking;
+mod change;
+mod database;
+mod listing;
+mod objects;
+mod rows;
+mod telling;
+
+pub use change::Change;
+pub use database::Database;

@@ -1,0 +1,132 @@
+-- What the database answers of a line is the machine's step.
+use Rattle.std.proofs.Common.{◌≡◌, ℕ, Bool, true, false, ◌||◌, ◌&&◌, Option, None, Some, List, ◌++◌, [], ◌∷◌, refl, sym, ap, subst, ◌∙◌}
+use Rattle.std.specs.Prelude.{is_none, Result, Ok, Err, IfOk, IfErr, OnOk}
+use Rattle.outside.specs.declared.fault.OutFail.{OutFail}
+use Rattle.outside.specs.declared.fault.OutFail.TheVariants.{NoMemory}
+use Rattle.line_loop.specs.Machine as loop
+use Rattle.outside.specs.Shelf.{Texts}
+use Rattle.command_text.specs.declared.refusal.Refusal.{Refusal}
+use Rattle.command_text.specs.Journal.{spelled}
+use Rattle.command_text.specs.Refusals.{line_of}
+use Rattle.line_meaning.specs.declared.role.Role.{Role}
+use Rattle.line_meaning.specs.declared.role.Role.TheVariants.{Blank, Keeping, Telling, Filing, Ending}
+use Rattle.line_meaning.specs.Reply.{line_feed}
+use Rattle.line_meaning.specs.Role.{role_of}
+use Rattle.line_meaning.specs.Step.{Base, Held, base, refusal_of, step}
+use Rattle.session.specs.declared.next.ApplyFault.{ApplyFault}
+use Rattle.session.specs.declared.next.Next.{Next}
+use Rattle.session.specs.declared.next.Next.TheVariants as nexts
+use Rattle.session.specs.Answers.{Answers, Applies, next_by, next_of}
+use Rattle.domino.specs.Machine.{State, ends, is_ending, leaves, machine, state_of}
+
+-- whether a line that was answered so ends the run
+abbrev pub is_quit : Next → Bool
+is_quit nexts.Quit = true
+is_quit _ = false
+
+ending_by : (role : Role) → is_quit (next_by role) ≡ is_ending role
+ending_by Blank = refl
+ending_by Keeping = refl
+ending_by Telling = refl
+ending_by Filing = refl
+ending_by Ending = refl
+
+-- the parts of what `apply` promises of an accepted line
+abbrev pub IsStep : Next → Base → List ℕ → Held → List ℕ → List ℕ → Type 0
+IsStep next b line new before after =
+    (refusal_of b line ≡ None) × (next ≡ next_of (spelled line)) × (new ≡ (step b line).0.held)
+    × (after ≡ before ++ (step b line).1) × ((step b line).0.texts ≡ b.texts)
+
+-- where a state is told, the texts are, and it is that of what is held
+told_is : (h : Held) (ended : Bool) (texts : Option Texts) (s : State) → state_of h ended texts ≡ Some s →
+    (told : Texts) × (texts ≡ Some told) × (s ≡ record { base = base h told; ended = ended })
+told_is h ended None s is = absurd (cc is)
+told_is h ended (Some told) s is = (told, refl, cc is)
+
+-- an accepted line is one step of the machine
+pub stepped : (next : Next) (h new : Held) (ended : Bool) (texts : Option Texts) (s : State) (line before after : List ℕ) →
+    state_of h ended texts ≡ Some s →
+    ((told : Texts) → texts ≡ Some told → IsStep next (base h told) line new before after) →
+    (after ≡ before ++ machine.reply s line) × (state_of new (ended || is_quit next) texts ≡ Some (machine.next s line))
+stepped next h new ended texts s line before after is step_is =
+    let (told, texts_are, s_is) = told_is h ended texts s is in
+    let b : Base = base h told in
+    let (fault, next_is, new_is, reply, kept) = step_is told texts_are in
+    let quit : is_quit next ≡ ends b line
+    = ap is_quit next_is ∙ ending_by (role_of (spelled line)) ∙ sym (ap (λ r. is_none r && is_ending (role_of (spelled line))) fault) in
+    let start : State = record { base = b; ended = ended } in (
+      subst (λ (x : State). after ≡ before ++ machine.reply x line) (sym s_is) reply,
+      subst (λ (x : State). state_of new (ended || is_quit next) texts ≡ Some (machine.next x line)) (sym s_is)
+          (subst (λ (t : Option Texts). state_of new (ended || is_quit next) t ≡ Some (machine.next start line)) (sym texts_are)
+          (λ i. Some (record { base = record { held = new_is i; texts = sym kept i }; ended = ended || quit i }))),
+    )
+
+-- a refused line leaves the state, and its reply is the refusal's
+pub refused : (r : Refusal) (h new : Held) (ended : Bool) (texts : Option Texts) (s : State) (line before after : List ℕ) →
+    state_of h ended texts ≡ Some s →
+    ((told : Texts) → texts ≡ Some told →
+    (refusal_of (base h told) line ≡ Some r) × (step (base h told) line ≡ (base h told, line_of r ++ line_feed)) × (new ≡ h)) →
+    after ≡ before ++ (line_of r ++ line_feed) →
+    (after ≡ before ++ machine.reply s line) × (state_of new ended texts ≡ Some (machine.next s line))
+refused r h new ended texts s line before after is answer said =
+    let (told, texts_are, s_is) = told_is h ended texts s is in
+    let b : Base = base h told in
+    let (fault, step_is, new_is) = answer told texts_are in
+    let on : ended ≡ (ended || ends b line)
+    = or_false ended ∙ ap (λ e. ended || e) (sym (ap (λ f. is_none f && is_ending (role_of (spelled line))) fault)) in
+    let start : State = record { base = b; ended = ended } in (
+      subst (λ (x : State). after ≡ before ++ machine.reply x line) (sym s_is)
+          (said ∙ ap (λ (t : Base × List ℕ). before ++ t.1) (sym step_is)),
+      subst (λ (x : State). state_of new ended texts ≡ Some (machine.next x line)) (sym s_is)
+          (subst (λ (t : Option Texts). state_of new ended t ≡ Some (machine.next start line)) (sym texts_are)
+          (ap (λ (h : Held). state_of h ended (Some told)) new_is
+          ∙ (λ i. Some (record { base = (sym step_is i).0; ended = on i })))),
+    )
+  where
+    or_false : (x : Bool) → x ≡ (x || false)
+    or_false true = refl
+    or_false false = refl
+
+-- a line that isn't refused
+abbrev pub IsAccepted : Next → Type 0
+IsAccepted (nexts.Refused r) = ⊥
+IsAccepted next = Unit {0}
+
+step_of : (next : Next) (b : Base) (line : List ℕ) (new : Held) (before after : List ℕ) → IsAccepted next →
+    Answers next b line new before after → IsStep next b line new before after
+step_of nexts.Silent b line new before after is h = h
+step_of nexts.Accepted b line new before after is h = h
+step_of nexts.Quit b line new before after is h = h
+step_of (nexts.Refused r) b line new before after is h = absurd is
+
+module _ (shelf shelf' : Option Texts) (line : List ℕ) (h new : Held) (ended : Bool) (before after : List ℕ) (result : Result Next ApplyFault)
+    (applies : Applies shelf line h new before after result) (stays : shelf' ≡ shelf) where
+  answers : (next : Next) → result ≡ Ok next → (told : Texts) → shelf ≡ Some told → Answers next (base h told) line new before after
+  answers next is told texts_are =
+      subst (λ (r : Result Next ApplyFault). IfOk r (λ next. Answers next (base h told) line new before after)) is
+      (applies.answers told (λ import. texts_are))
+
+  pub accepted : (next : Next) (ended' : Bool) → IsAccepted next → result ≡ Ok next → ended' ≡ (ended || is_quit next) →
+      (s : State) → state_of h ended shelf ≡ Some s →
+      (after ≡ before ++ machine.reply s line) × (state_of new ended' shelf' ≡ Some (machine.next s line))
+  accepted next ended' plain is end s start =
+      let (reply, told) = stepped next h new ended shelf s line before after start
+      (λ told texts_are. step_of next (base h told) line new before after plain (answers next is told texts_are)) in
+      (reply, (λ i. state_of new (end i) (stays i)) ∙ told)
+
+  pub refused_answers : (r : Refusal) (written : Result (Unit {0}) OutFail) (final : List ℕ) → result ≡ Ok (nexts.Refused r) →
+      OnOk written (final ≡ after ++ (line_of r ++ line_feed)) → IfErr written (λ fail. fail ≡ NoMemory) →
+      (s : State) → state_of h ended shelf ≡ Some s →
+      loop.Answers machine leaves s line written before final (state_of new ended shelf')
+  refused_answers r (Ok u) final is said fails s start =
+      let (told, texts_are, s_is) = told_is h ended shelf s start in
+      let (fault, step_is, new_is, same) = answers (nexts.Refused r) is told texts_are in
+      let (reply, state) = refused r h new ended shelf s line before final start
+      (λ told texts_are. let (fault, step_is, new_is, same) = answers (nexts.Refused r) is told texts_are in (fault, step_is, new_is))
+      (said ∙ ap (λ o. o ++ (line_of r ++ line_feed)) same) in
+      (reply, ap (state_of new ended) stays ∙ state)
+  refused_answers r (Err fail) final is said fails s start =
+      let (told, texts_are, s_is) = told_is h ended shelf s start in
+      let (fault, step_is, new_is, same) = answers (nexts.Refused r) is told texts_are in
+      subst (λ (f : OutFail). leaves f s line (state_of new ended shelf')) (sym fails)
+      ((λ i. state_of (new_is i) ended (stays i)) ∙ start)

@@ -1,0 +1,130 @@
+//! The database as a line machine.
+ghost use Rattle.std.specs.Prelude.{◌≡◌, ◌++◌, false, [], IfErr, OnOk};
+ghost use Rattle.outside.specs.declared.fault.OutFail.TheVariants.{NoMemory};
+ghost use Rattle.command_text.specs.Refusals.{line_of};
+ghost use Rattle.line_meaning.specs.Reply.{line_feed};
+ghost use Rattle.line_meaning.specs.Step.{held};
+ghost use Rattle.session.specs.Answers.{Applies};
+
+use command_text::Refusal;
+use line_loop::Handler;
+use outside::{OutFail, Shelf};
+use session::{ApplyFault, Next, Session};
+use std::alloc::Global;
+use std::sync::ledger::Ledger;
+use steps::Steps;
+
+/// The database: it answers a line at a time, until a `quit`.
+#[derive(Drop)]
+pub struct Database<C: Counts> {
+    session: Session,
+    ended: bool,
+    counters: C,
+}
+
+impl<C: Counts> Database<C> {
+    /// An empty database.
+    pub fn new(alloc: Global, counters: C) -> Database<C>
+        ensures session { result.session ≡ held [] }
+        ensures ended { result.ended ≡ false }
+    {
+        Database {
+            session: Session::new(alloc),
+            ended: false,
+            counters,
+        }
+    }
+}
+
+/// What counts the steps of a session. A `Database` knows its counters by this trait alone, since an `impl`
+/// that gives a constant can't name their lifetimes.
+pub trait Counts: Drop {
+    /// Answers one line, as `Session::apply` does. The shelf isn't asked.
+    fn apply<F: Shelf>(
+        &mut self,
+        session: &mut Session,
+        line: &[u8],
+        shelf: &mut F,
+        out: &mut Vec<u8>,
+    ) -> Result<Next, ApplyFault>
+        ensures applies { Applies (F.texts shelf.old) line.now session.old session.new out.old.items out.new.items result }
+        ensures shelf { shelf.new ≡ shelf.old };
+}
+
+/// The two counters of steps.
+#[derive(Drop)]
+pub struct Counters<'a, 'b, L: Ledger, M: Ledger> {
+    pub reads: &'a mut Steps<L>,
+    pub probes: &'b mut Steps<M>,
+}
+
+impl<L: Ledger, M: Ledger> Counts for Counters<'_, '_, L, M> {
+    fn apply<F: Shelf>(
+        &mut self,
+        session: &mut Session,
+        line: &[u8],
+        shelf: &mut F,
+        out: &mut Vec<u8>,
+    ) -> Result<Next, ApplyFault> {
+        session.apply(line, shelf, out, self.reads, self.probes)
+    }
+}
+
+impl<F: Shelf, C: Counts> Handler<F> for Database<C> {
+    ghost use Rattle.std.specs.Prelude.{Some};
+    ghost use Rattle.domino.specs.Machine.{State, machine, leaves, state_of};
+
+    ghost State = { State };
+
+    ghost machine = { machine };
+
+    ghost state = { λ database shelf. state_of database.session database.ended (F.texts shelf) };
+
+    ghost faults = { λ shelf. F.faults shelf };
+
+    ghost leaves = { leaves };
+
+    ghost LONGEST = { Some 4096 };
+
+    const LONGEST: Option<u32> = Some(4096);
+
+    fn is_done(&self) -> bool {
+        self.ended
+    }
+
+    // The commands about files will ask the shelf; each is refused so far.
+    fn asks(&self, line: &[u8]) -> bool {
+        let command = line.trim_ascii_start();
+        command.starts_with(b"save")
+            || command.starts_with(b"import")
+            || command.starts_with(b"export")
+    }
+
+    fn answer(&mut self, line: &[u8], shelf: &mut F, out: &mut Vec<u8>) -> Result<(), OutFail> {
+        match self.counters.apply(&mut self.session, line, shelf, out) {
+            Ok(Next::Silent) => Ok(()),
+            Ok(Next::Accepted) => Ok(()),
+            Ok(Next::Refused(refusal)) => push_refusal(out, refusal),
+            Ok(Next::Quit) => {
+                self.ended = true;
+                Ok(())
+            }
+            Err(ApplyFault::ShelfFault) => Err(OutFail::Failed),
+            Err(ApplyFault::NoMemory) => Err(OutFail::NoMemory),
+        }
+    }
+
+    fn long_lines_step_alike() {
+        line_meaning::long_lines_step_alike();
+    }
+}
+
+/// Writes the line of a refusal.
+fn push_refusal(out: &mut Vec<u8>, refusal: Refusal) -> Result<(), OutFail>
+    ensures ok { OnOk result (out.new.items ≡ out.old.items ++ (line_of refusal ++ line_feed)) }
+    ensures err { IfErr result (λ fail. fail ≡ NoMemory) }
+{
+    out.extend_from_slice(refusal.line().bytes())?;
+    out.extend_from_slice(b"\n")?;
+    Ok(())
+}

@@ -1,0 +1,7 @@
+pub mod Journal
+pub mod Question
+pub mod Role
+pub mod Fault
+pub mod Reply
+pub mod Answering
+pub mod Step

@@ -1,0 +1,31 @@
+-- What is done with a command that was read.
+use Rattle.std.specs.Prelude.{Bool, true, false}
+use Rattle.command_text.specs.Tree
+use Rattle.command_text.specs.Tree.{CommandTree}
+use Rattle.line_meaning.specs.declared.role.Role.{Role}
+use Rattle.line_meaning.specs.declared.role.Role.TheVariants.{Blank, Keeping, Telling, Filing, Ending}
+
+abbrev pub role_of : CommandTree → Role
+role_of Tree.Nothing = Blank
+role_of (Tree.Class name capacity point attributes) = Keeping
+role_of (Tree.Region name points) = Keeping
+role_of (Tree.Insert class name place sets) = Keeping
+role_of (Tree.Update name place sets) = Keeping
+role_of (Tree.Remove name) = Keeping
+role_of (Tree.Tick ticks) = Keeping
+role_of (Tree.Watch name span q) = Keeping
+role_of (Tree.Keep name span q) = Keeping
+role_of (Tree.Drop name) = Keeping
+role_of (Tree.Save file) = Filing
+role_of (Tree.Import class file) = Filing
+role_of (Tree.Export class file) = Filing
+role_of Tree.Quit = Ending
+role_of _ = Telling
+
+abbrev pub is_keeping : Role → Bool
+is_keeping Keeping = true
+is_keeping _ = false
+
+-- a command that the journal keeps
+abbrev pub is_kept : CommandTree → Bool
+is_kept c = is_keeping (role_of c)

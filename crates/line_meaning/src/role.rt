@@ -1,0 +1,51 @@
+//! What is done with a command that was read.
+ghost use Rattle.std.specs.Prelude.{◌≡◌};
+ghost use Rattle.command_text.specs.Tree.{command_view};
+ghost use Rattle.line_meaning.specs.Fault.{is_gap};
+ghost use Rattle.line_meaning.specs.Role.{role_of};
+
+use crate::question::read_question;
+use command_text::Command;
+
+/// What is done with a command.
+#[derive(Clone, Copy, Debug, PartialEq, Eq)]
+pub enum Role {
+    /// A blank line or a comment: it has no reply.
+    Blank,
+    /// The journal keeps it.
+    Keeping,
+    /// It is answered by what is there, and changes nothing.
+    Telling,
+    /// It asks the shelf for a text, or gives it one.
+    Filing,
+    /// It ends the run.
+    Ending,
+}
+
+/// The role of a command.
+pub fn role_of(command: &Command) -> Role
+    ensures { result ≡ role_of (command_view command.now) }
+{
+    match command {
+        Command::Nothing => Role::Blank,
+        Command::Class { .. } | Command::Region { .. } | Command::Insert { .. } => Role::Keeping,
+        Command::Update { .. } | Command::Remove { .. } | Command::Tick { .. } => Role::Keeping,
+        Command::Watch { .. } | Command::Keep { .. } | Command::Drop { .. } => Role::Keeping,
+        Command::Save { .. } | Command::Import { .. } | Command::Export { .. } => Role::Filing,
+        Command::Quit => Role::Ending,
+        _ => Role::Telling,
+    }
+}
+
+/// Whether a command, or the form of its query, isn't built yet.
+pub fn is_gap(command: &Command) -> bool
+    ensures { result ≡ is_gap (command_view command.now) }
+{
+    match command {
+        Command::Ask { query, .. } => read_question(query).is_none(),
+        Command::Nothing | Command::List | Command::Quit => false,
+        Command::Class { .. } | Command::Region { .. } | Command::Insert { .. } => false,
+        Command::Update { .. } | Command::Remove { .. } | Command::Tick { .. } => false,
+        _ => true,
+    }
+}

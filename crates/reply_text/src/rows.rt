@@ -1,0 +1,88 @@
+//! The line of a row.
+ghost use Rattle.std.specs.Prelude.{◌≡◌, ℕ, ◌++◌, ◌∷◌, [], codes, decimal, nat_le, nat_lt, ◌&&◌, OnOk};
+ghost use Rattle.std.specs.List.{flat_map, list_any};
+ghost use Rattle.tick_set.specs.Runs.{pairs};
+ghost use Rattle.line_meaning.specs.Reply.{time_word, run_text, row_line};
+ghost use Rattle.reply_text.specs.Begins.{Begins};
+
+use fixed_point::Word;
+use itoa::Buffer;
+use std::alloc::AllocError;
+use tick_set::Span;
+
+/// Writes the line of a row, as `later a : 12..30`. After an error what was there still stands in front.
+#[tactic(auto, using(crate::proofs::BeginLemmas::begins_through))]
+pub fn push_row(out: &mut Vec<u8>, now: u32, name: &Word, runs: &[Span]) -> Result<(), AllocError>
+    ensures ok { OnOk result (out.new.items ≡ out.old.items
+        ++ row_line now (record { name = name.now; runs = pairs runs.now })) }
+    ensures begins { Begins out.old.items out.new.items }
+{
+    push_target(out, time_word(now, runs), name)?;
+    push_runs(out, runs)?;
+    out.extend_from_slice(b"\n")?;
+    Ok(())
+}
+
+#[tactic(auto, using(crate::proofs::BeginLemmas::begins_more))]
+fn push_target(out: &mut Vec<u8>, time: &[u8], name: &Word) -> Result<(), AllocError>
+    ensures ok { OnOk result (out.new.items ≡ out.old.items ++ time.now ++ codes " " ++ name.now ++ codes " :") }
+    ensures begins { Begins out.old.items out.new.items }
+{
+    out.extend_from_slice(time)?;
+    out.extend_from_slice(b" ")?;
+    out.extend_from_slice(name.bytes())?;
+    out.extend_from_slice(b" :")?;
+    Ok(())
+}
+
+/// `now` where one of the runs has the present tick, `later` where one has a later tick, else `past`.
+#[tactic(auto, using(crate::proofs::PairLemmas::any_pairs))]
+fn time_word(now: u32, runs: &[Span]) -> &'static [u8]
+    ensures { result.now ≡ time_word now (pairs runs.now) }
+{
+    if has_tick(now, runs) {
+        b"now"
+    } else if has_later_tick(now, runs) {
+        b"later"
+    } else {
+        b"past"
+    }
+}
+
+fn has_tick(now: u32, runs: &[Span]) -> bool
+    ensures { result ≡ list_any (λ run. nat_le run.lo now && nat_le now run.hi) runs.now }
+{
+    runs.iter().any(|run| run.lo <= now && now <= run.hi)
+}
+
+fn has_later_tick(now: u32, runs: &[Span]) -> bool
+    ensures { result ≡ list_any (λ run. nat_lt now run.hi) runs.now }
+{
+    runs.iter().any(|run| now < run.hi)
+}
+
+#[tactic(auto, using(crate::proofs::BeginLemmas::begins_through))]
+fn push_runs(out: &mut Vec<u8>, runs: &[Span]) -> Result<(), AllocError>
+    ensures ok { OnOk result (out.new.items ≡ out.old.items ++ flat_map run_text (pairs runs.now)) }
+    ensures begins { Begins out.old.items out.new.items }
+{
+    let mut rest = runs;
+    while let Some((run, later)) = rest.split_first() {
+        push_run(out, run.lo, run.hi)?;
+        rest = later;
+    }
+    Ok(())
+}
+
+#[tactic(auto, using(crate::proofs::BeginLemmas::begins_more))]
+fn push_run(out: &mut Vec<u8>, lo: u32, hi: u32) -> Result<(), AllocError>
+    ensures ok { OnOk result (out.new.items ≡ out.old.items ++ run_text (lo, hi)) }
+    ensures begins { Begins out.old.items out.new.items }
+{
+    let mut digits = Buffer::new();
+    out.extend_from_slice(b" ")?;
+    out.extend_from_slice(digits.format(lo).as_bytes())?;
+    out.extend_from_slice(b"..")?;
+    out.extend_from_slice(digits.format(hi).as_bytes())?;
+    Ok(())
+}

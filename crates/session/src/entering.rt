@@ -1,0 +1,63 @@
+//! The entry of a command in the journal.
+ghost use Rattle.std.specs.Prelude.{◌≡◌, ◌+◌, ◌≤◌, ◌||◌, nat_le, nat_lt, length};
+ghost use Rattle.command_text.specs.declared.journal.TheConstants.{MOST_BYTES};
+ghost use Rattle.ftl_lexer.specs.declared.buffer.TheConstants.{LEXER_LIMIT};
+ghost use Rattle.command_text.specs.Journal.{bytes_of, spelled};
+ghost use Rattle.command_text.specs.Text.{text_of};
+ghost use Rattle.line_meaning.specs.Fault.{passes_limits};
+ghost use Rattle.session.specs.Entering.{Enters};
+
+use command_text::{CommandFault, Journal, MOST_BYTES, MOST_ENTRIES, Refusal};
+use reply_text::push_ok;
+
+/// Whether one more entry, whose canonical line has so many bytes, passes the limits of a journal.
+fn is_full(journal: &Journal, line: usize) -> bool
+    requires { line ≤ LEXER_LIMIT }
+    ensures { result ≡ passes_limits (length journal.now) (bytes_of journal.now) line }
+{
+    passes(
+        journal.len(),
+        journal.bytes(),
+        line,
+        MOST_ENTRIES,
+        MOST_BYTES,
+    )
+}
+
+/// Whether one more entry passes these limits of entries and bytes.
+pub(crate) fn passes(
+    entries: usize,
+    bytes: u64,
+    line: usize,
+    most_entries: usize,
+    most_bytes: u64,
+) -> bool
+    requires few { line ≤ LEXER_LIMIT }
+    requires short { bytes ≤ MOST_BYTES }
+    ensures { result ≡ (nat_le most_entries entries || nat_lt most_bytes (bytes + line + 1)) }
+{
+    entries >= most_entries || bytes + line as u64 + 1 > most_bytes
+}
+
+/// Enters the command of a canonical line into the journal, accepted at tick `now`, and answers it with
+/// `ok`. A refusal and want of memory change nothing.
+pub(crate) fn enter(
+    journal: &mut Journal,
+    now: u32,
+    line: &[u8],
+    out: &mut Vec<u8>,
+) -> Result<(), CommandFault>
+    requires canonical { text_of (spelled line.now) ≡ line.now }
+    requires short { length line.now ≤ LEXER_LIMIT }
+    ensures { Enters journal.old now (spelled line.now) journal.new out.old.items out.new.items result }
+{
+    if is_full(journal, line.len()) {
+        return Err(CommandFault::Refused(Refusal::JournalFull));
+    }
+    journal.push(now, line)?;
+    if push_ok(out).is_err() {
+        journal.pop();
+        return Err(CommandFault::NoMemory);
+    }
+    Ok(())
+}
