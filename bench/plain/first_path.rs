@@ -48,7 +48,7 @@ fn answer(objects: &[Object], span: i64, number: i64, out: &mut Vec<u8>) {
 }
 
 fn main() -> io::Result<()> {
-    // One write for each reply and reads of 4,096 bytes, as DOMINO does.
+    // One write for each reply, and reads of 4,096 bytes.
     let mut sink = unsafe { File::from_raw_fd(1) };
     let source = unsafe { File::from_raw_fd(0) };
     let mut reader = BufReader::with_capacity(4096, source.take(u64::MAX));

@@ -576,7 +576,7 @@ fn put(out: &mut Vec<u8>, text: std::fmt::Arguments) {
 
 #[derive(Clone, Copy, PartialEq)]
 enum Writing {
-    /// Each reply before the next line is answered, as DOMINO does.
+    /// Each reply before the next line is answered.
     Each,
     /// The replies to all lines that one read ended, before the next read.
     Gathered,

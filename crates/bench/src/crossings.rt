@@ -4,7 +4,7 @@ ghost use Rattle.linear_crossing.specs.Moving.{IsInReach};
 
 use anyhow::Result;
 use case_table::Op;
-use distance_crossing::{WINDOW_LIMIT, within};
+use distance_crossing::within;
 use fixed_point::{Fix, Point, Slope};
 use linear_crossing::{COORDINATE_LIMIT, Line, Quad, solve};
 use polygon::Polygon;
@@ -14,7 +14,7 @@ use std::rt::Clock;
 use std::sync::ledger::{Blank, Ledger};
 use std::time::Instant;
 use steps::Steps;
-use tick_set::{Span, Window};
+use tick_set::{SPAN_LIMIT, Span, Window};
 
 // The window's last tick. Its first is 0.
 const LAST: u32 = 1_000_000;
@@ -23,7 +23,7 @@ const LAST: u32 = 1_000_000;
 const LIMIT: i128 = 160_000_000_000_000_000;
 
 /// Times each call on so many motions, so many rounds.
-pub fn run<R: Print + Eprint + Clock + AllocGlobal>(rt: &R, count: u32, rounds: u32) -> Result<()> {
+pub fn run(rt: &HostRuntime, count: u32, rounds: u32) -> Result<()> {
     let alloc = rt.alloc();
     let Some(w) = Window::new(0, LAST) else {
         return Ok(());
@@ -31,7 +31,7 @@ pub fn run<R: Print + Eprint + Clock + AllocGlobal>(rt: &R, count: u32, rounds: 
     time_solve(rt, count, rounds, w)?;
     let lines = motions(alloc, count)?;
     let pairs = pairs(alloc, &lines)?;
-    time_within::<R, Brand>(rt, Blank::new(1), &pairs, rounds, w)?;
+    time_within::<Brand>(rt, Blank::new(1), &pairs, rounds, w)?;
     time_inside(
         rt,
         "inside_4",
@@ -68,8 +68,8 @@ fn time_solve<R: Print + Eprint + Clock + AllocGlobal>(
     timer.report(rt, "solve")
 }
 
-fn time_within<R: Print + Eprint + Clock, M: Ledger>(
-    rt: &R,
+fn time_within<M: Ledger>(
+    rt: &HostRuntime,
     blank: Blank,
     pairs: &[Quad],
     rounds: u32,
@@ -78,9 +78,9 @@ fn time_within<R: Print + Eprint + Clock, M: Ledger>(
     requires name { blank.name ≡ M.name }
     requires parts { blank.parts ≡ M.parts }
     requires some_part { 0 < blank.parts }
-    requires short { w.hi - w.lo ≤ WINDOW_LIMIT }
+    requires short { w.hi - w.lo ≤ SPAN_LIMIT }
 {
-    let mut probes: Steps<M> = Steps::new(blank);
+    let mut probes: Steps<M> = Steps::new(rt, blank);
     let mut timer = Timer::begin(rt, rounds, pairs.len())?;
     for _ in 0..rounds {
         for q in pairs {

@@ -1,6 +1,6 @@
 //! Inserts, updates and reads of a store.
 ghost use Rattle.std.specs.Prelude.{◌≡◌, ◌<◌, ◌≤◌, unsigned_abs};
-ghost use Rattle.motion.specs.declared.vector.TheConstants.{GIVEN_LIMIT};
+ghost use Rattle.fixed_point.specs.declared.number.TheConstants.{READ_LIMIT};
 
 use anyhow::{Result, bail};
 use fixed_point::{Fix, Point, Slope, Word};
@@ -15,7 +15,7 @@ use steps::Steps;
 
 /// Times the insert of `count` objects, `rounds` updates of each of them, one a tick, and as many reads
 /// at random ticks.
-pub fn run<R: Print + Eprint + Clock + AllocGlobal>(rt: &R, count: u32, rounds: u32) -> Result<()> {
+pub fn run(rt: &HostRuntime, count: u32, rounds: u32) -> Result<()> {
     if count == 0 || rounds > 1_000_000 {
         bail!("a count of at least 1, and at most 1,000,000 rounds");
     }
@@ -39,7 +39,7 @@ pub fn run<R: Print + Eprint + Clock + AllocGlobal>(rt: &R, count: u32, rounds: 
     report(rt, "update", begun, writes)?;
 
     let begun = Instant::now(rt)?;
-    let sum = read_all::<Brand>(Blank::new(1), &store, writes, rounds + 1);
+    let sum = read_all::<Brand>(rt, Blank::new(1), &store, writes, rounds + 1);
     report(rt, "read", begun, writes)?;
     let objects = store.object_count();
     println!(rt; "{objects} objects, sum {sum}")?;
@@ -104,7 +104,7 @@ fn update(store: &mut Store, name: &Word, now: u32) -> Result<()> {
 }
 
 fn number(n: u32) -> Fix
-    ensures { unsigned_abs result ≤ GIVEN_LIMIT }
+    ensures { unsigned_abs result ≤ READ_LIMIT }
 {
     Fix::of(i64::from(n)).unwrap()
 }
@@ -114,13 +114,13 @@ fn slope(n: u32) -> Slope {
 }
 
 /// The sum of the first ticks of the epochs that are in force at random ticks below `ticks`.
-fn read_all<L: Ledger>(blank: Blank, store: &Store, reads: u64, ticks: u32) -> u64
+fn read_all<L: Ledger>(rt: &HostRuntime, blank: Blank, store: &Store, reads: u64, ticks: u32) -> u64
     requires name { blank.name ≡ L.name }
     requires parts { blank.parts ≡ L.parts }
     requires some_part { 0 < blank.parts }
     requires ticks { 0 < ticks }
 {
-    let mut steps: Steps<L> = Steps::new(blank);
+    let mut steps: Steps<L> = Steps::new(rt, blank);
     let count = store.object_count();
     let mut state = 1;
     let mut sum = 0u64;

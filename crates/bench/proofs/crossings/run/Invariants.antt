@@ -2,4 +2,4 @@
 use Rattle.bench.proofs.crossings.run.Given as goal
 
 abbrev pub ghosts-time_within : goal.ghosts-time_within
-ghosts-time_within g a = record { name = a.blank.name; parts = a.blank.parts }
+ghosts-time_within a = record { name = a.blank.name; parts = a.blank.parts }

@@ -2,4 +2,4 @@
 use Rattle.bench.proofs.store.run.Given as goal
 
 abbrev pub ghosts-read_all : goal.ghosts-read_all
-ghosts-read_all g a = record { name = a.blank.name; parts = a.blank.parts }
+ghosts-read_all a = record { name = a.blank.name; parts = a.blank.parts }
