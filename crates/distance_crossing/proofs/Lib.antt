@@ -1,6 +1,10 @@
 pub mod Bisection
 pub mod ByDistance
-pub mod Gathering
+pub mod Centres
+pub mod CircleTicks
+pub mod LeastCircles
+pub mod Pairwise
 pub mod RunLists
-pub mod Together
+pub mod Signs
+pub mod TrialLemmas
 pub mod Triangles

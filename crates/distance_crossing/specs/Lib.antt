@@ -1,2 +1,6 @@
+pub mod Circles
+pub mod Close
+pub mod LeastCircle
 pub mod NearTicks
+pub mod Trials
 pub mod Triples

@@ -93,7 +93,7 @@ fn sides_fit(r: Fix, a: i128, b: i128, c: i128, area: i128) -> bool
 }
 
 // Whether the longest of the squared sides is at least the sum of the two others.
-fn is_wide(a: i128, b: i128, c: i128, longest: i128) -> bool
+pub(crate) fn is_wide(a: i128, b: i128, c: i128, longest: i128) -> bool
     requires a_most { unsigned_abs a ≤ 8 * 10 ^ 36 }
     requires b_most { unsigned_abs b ≤ 8 * 10 ^ 36 }
     requires c_most { unsigned_abs c ≤ 8 * 10 ^ 36 }

@@ -36,6 +36,7 @@ pub fn compare<M: Ledger>(q: &Quad, op: Op, c: Fix, w: Window, probes: &mut Step
     ensures runs { IsTripleOf (distance_holds q.now op c w) result }
     ensures cost { probes.new ≤ probes.old + 120 }
     ensures short_cost { w.hi - w.lo ≤ SHORT_WINDOW → probes.new ≤ probes.old + 88 }
+    ensures least { probes.old ≤ probes.new }
 {
     if c.raw() < 0 {
         return everywhere(op.holds(1), w);
@@ -67,6 +68,7 @@ fn nearer<M: Ledger>(q: &Quad, square: i128, w: Window, probes: &mut Steps<M>) -
     ensures runs { IsRuns (is_near q.now (square -ℤ pos 1) w) (option_to_list result) }
     ensures cost { probes.new ≤ probes.old + 60 }
     ensures short_cost { w.hi - w.lo ≤ SHORT_WINDOW → probes.new ≤ probes.old + 44 }
+    ensures least { probes.old ≤ probes.new }
 {
     within(q, square - 1, w, probes)
 }
@@ -78,6 +80,7 @@ fn at_distance<M: Ledger>(q: &Quad, square: i128, w: Window, probes: &mut Steps<
     ensures runs { IsPairOf (λ t. within w.lo w.hi t && int_eq (squared_distance_at q.now (t - w.lo)) square) result }
     ensures cost { probes.new ≤ probes.old + 120 }
     ensures short_cost { w.hi - w.lo ≤ SHORT_WINDOW → probes.new ≤ probes.old + 88 }
+    ensures least { probes.old ≤ probes.new }
 {
     let at_most = within(q, square, w, probes);
     let below = nearer(q, square, w, probes);

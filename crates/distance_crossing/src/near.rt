@@ -10,11 +10,12 @@ use std::sync::ledger::Ledger;
 use steps::Steps;
 use tick_set::{SPAN_LIMIT, Span, Window};
 
-/// The most ticks after its first of a window that takes the smaller number of probes.
+/// The most ticks from the first to the last of a window that takes the smaller number of probes. A longer one
+/// has up to [`SPAN_LIMIT`].
 pub const SHORT_WINDOW: u32 = 1_000_000;
 
 /// The ticks of the window at which the squared distance is at most `limit`, in square thousandths. They are
-/// one span; None exactly where there is none.
+/// one span; None exactly where there is none. The window has up to [`SPAN_LIMIT`] ticks after its first.
 ///
 /// It takes no memory. It probes the least distance, and then bisects on each side of it.
 pub fn within<M: Ledger>(q: &Quad, limit: i128, w: Window, probes: &mut Steps<M>) -> Option<Span>
@@ -22,6 +23,7 @@ pub fn within<M: Ledger>(q: &Quad, limit: i128, w: Window, probes: &mut Steps<M>
     ensures runs { IsRuns (is_near q.now limit w) (option_to_list result) }
     ensures cost { probes.new ≤ probes.old + 60 }
     ensures short_cost { w.hi - w.lo ≤ SHORT_WINDOW → probes.new ≤ probes.old + 44 }
+    ensures least { probes.old ≤ probes.new }
 {
     let last = w.hi - w.lo;
     let nearest = q.valley(last);
@@ -43,6 +45,7 @@ fn first_near<M: Ledger>(q: &Quad, limit: i128, nearest: u32, probes: &mut Steps
     ensures bound { result ≤ nearest }
     ensures first { (k : ℕ) → k ≤ nearest → int_le (squared_distance_at q.now k) limit ≡ nat_le result k }
     ensures cost { (n : ℕ) → nearest < 2 ^ n → probes.new ≤ probes.old + n }
+    ensures least { probes.old ≤ probes.new }
 {
     let mut low = 0;
     let mut high = nearest;
@@ -74,6 +77,7 @@ fn last_near<M: Ledger>(
     ensures bound { result ≤ last }
     ensures last { (k : ℕ) → nearest ≤ k → k ≤ last → int_le (squared_distance_at q.now k) limit ≡ nat_le k result }
     ensures cost { (n : ℕ) → last - nearest < 2 ^ n → probes.new ≤ probes.old + n }
+    ensures least { probes.old ≤ probes.new }
 {
     let mut low = nearest;
     let mut high = last;

@@ -1,13 +1,16 @@
 //! The ticks at which up to four motions fit a circle.
-ghost use Rattle.std.specs.Prelude.{◌≡◌, ℕ, ◌+◌, ◌-◌, ◌+ℤ◌, ◌*ℤ◌, ◌<◌, ◌≤◌, ◌&&◌, ◌||◌, true, pos, ◌≤ℤ◌, nat_le, nat_lt, unsigned_abs, length, option_to_list, All, IfOk, OnOk};
-ghost use Rattle.geometry.specs.Circle.{fits};
-ghost use Rattle.linear_crossing.specs.Moving.{IsInReach, position_after};
+ghost use Rattle.std.specs.Prelude.{◌≡◌, ℕ, ◌+◌, ◌-◌, ◌*◌, ◌<◌, ◌≤◌, ◌&&◌, pos, ◌≤ℤ◌, true, length, option_to_list, All, IfOk};
+ghost use Rattle.geometry.specs.Circle.{three_fit};
+ghost use Rattle.linear_crossing.specs.Moving.{position_after, IsInReach};
 ghost use Rattle.tick_set.specs.Ticks.{within};
-ghost use Rattle.tick_set.specs.Runs.{IsNormal, IsRuns, spans_have};
-ghost use Rattle.distance_crossing.specs.NearTicks.{all_near, are_together, pairs_near, positions_after};
+ghost use Rattle.tick_set.specs.Runs.{IsRuns, spans_have};
+ghost use Rattle.distance_crossing.specs.NearTicks.{all_near, are_together, pairs_near};
+ghost use Rattle.distance_crossing.specs.Close.{ArePositionsClose};
 
-use crate::circle::{fits, squared_width};
+use crate::circle::squared_width;
 use crate::near::within;
+use crate::search::fitting;
+use crate::trial::Trial;
 use fixed_point::Fix;
 use geometry::RADIUS_LIMIT;
 use interval_set::IntervalSet;
@@ -15,14 +18,11 @@ use linear_crossing::{Line, Quad};
 use std::alloc::{AllocError, Global};
 use std::sync::ledger::Ledger;
 use steps::Steps;
-use tick_set::{LAST_TICK, SPAN_LIMIT, Span, TickSet, Window};
+use tick_set::{SPAN_LIMIT, Span, TickSet, Window};
 
-/// The ticks of the window at which the positions of one to four motions fit a circle of radius `r`, from 0
-/// to 10^6 thousandths. Each motion begins within [`linear_crossing::COORDINATE_LIMIT`] of 0. It fails only
-/// where memory is out.
-///
-/// The ticks at which each two motions fit are one span. Of three and more motions, only the ticks of that
-/// span are looked at.
+/// The ticks of the window at which the positions of up to four motions fit a circle of radius `r`, from 0 to
+/// 10^6 thousandths, as a set. Each motion begins within [`linear_crossing::COORDINATE_LIMIT`] of 0. It fails
+/// only where memory is out.
 pub fn sphere_ticks<M: Ledger>(
     alloc: Global,
     r: Fix,
@@ -35,34 +35,84 @@ pub fn sphere_ticks<M: Ledger>(
     requires count { length lines.now ≤ 4 }
     requires in_reach { All IsInReach lines.now }
     requires length { w.hi - w.lo ≤ SPAN_LIMIT }
-    ensures { IfOk result (λ s. (t : ℕ) → spans_have s t ≡ are_together r lines.now w t) }
+    ensures ticks { IfOk result (λ s. (t : ℕ) → spans_have s t ≡ are_together r lines.now w t) }
+    ensures cost { probes.new ≤ probes.old + 360 }
+    ensures least { probes.old ≤ probes.new }
 {
-    let Some(span) = near_pairs(r, lines, w, probes) else {
-        return Ok(IntervalSet::empty(alloc));
-    };
-    if lines.len() <= 2 {
-        let ticks = IntervalSet::of_span(alloc, span)?;
-        return Ok(ticks);
+    match together(r, lines, w, probes) {
+        Some(span) => IntervalSet::of_span(alloc, span),
+        None => Ok(IntervalSet::empty(alloc)),
     }
-    let runs = fitting_runs(alloc, r, lines, w, span)?;
-    Ok(IntervalSet::from_runs(runs))
+}
+
+/// The same ticks as one span; None exactly where there is none. The least circle round points that move along
+/// lines first shrinks and then grows, so no tick is missing between two.
+///
+/// It takes no memory, and walks no window: it ends at the first pair that is never near, and bisects.
+pub fn together<M: Ledger>(r: Fix, lines: &[Line], w: Window, probes: &mut Steps<M>) -> Option<Span>
+    requires least { pos 0 ≤ℤ r }
+    requires most { r ≤ℤ pos RADIUS_LIMIT }
+    requires count { length lines.now ≤ 4 }
+    requires in_reach { All IsInReach lines.now }
+    requires length { w.hi - w.lo ≤ SPAN_LIMIT }
+    ensures runs { IsRuns (are_together r lines.now w) (option_to_list result) }
+    ensures cost { probes.new ≤ probes.old + 360 }
+    ensures least { probes.old ≤ probes.new }
+{
+    let near = near_pairs(r, lines, w, probes)?;
+    match lines {
+        [p, q, s] => three_together(r, p, q, s, w, near),
+        [p, q, s, u] => {
+            let span = three_together(r, p, q, s, w, near)?;
+            let span = three_together(r, p, q, u, w, span)?;
+            let span = three_together(r, p, s, u, w, span)?;
+            three_together(r, q, s, u, w, span)
+        }
+        _ => Some(near),
+    }
+}
+
+// The ticks of the span at which the positions of three motions fit, where each two are near throughout.
+fn three_together(r: Fix, p: &Line, q: &Line, s: &Line, w: Window, span: Span) -> Option<Span>
+    requires least { pos 0 ≤ℤ r }
+    requires most { r ≤ℤ pos RADIUS_LIMIT }
+    requires p_in_reach { IsInReach p.now }
+    requires q_in_reach { IsInReach q.now }
+    requires s_in_reach { IsInReach s.now }
+    requires from { w.lo ≤ span.lo }
+    requires close { (t : ℕ) → within span.lo span.hi t ≡ true → ArePositionsClose r p.now q.now s.now (t - w.lo) }
+    ensures { IsRuns (λ t. within span.lo span.hi t
+        && three_fit r (position_after p.now (t - w.lo)) (position_after q.now (t - w.lo)) (position_after s.now (t - w.lo)))
+        (option_to_list result) }
+{
+    let trial = Trial {
+        p: *p,
+        q: *q,
+        s: *s,
+        r,
+    };
+    fitting(&trial, w, span)
 }
 
 // The ticks of the window at which each two motions are within the diameter of each other.
 fn near_pairs<M: Ledger>(r: Fix, lines: &[Line], w: Window, probes: &mut Steps<M>) -> Option<Span>
     requires least { pos 0 ≤ℤ r }
     requires most { r ≤ℤ pos RADIUS_LIMIT }
+    requires count { length lines.now ≤ 4 }
     requires in_reach { All IsInReach lines.now }
     requires length { w.hi - w.lo ≤ SPAN_LIMIT }
-    ensures { IsRuns (λ t. within w.lo w.hi t && pairs_near r lines.now (t - w.lo)) (option_to_list result) }
+    ensures runs { IsRuns (λ t. within w.lo w.hi t && pairs_near r lines.now (t - w.lo)) (option_to_list result) }
+    ensures cost { probes.new ≤ probes.old + 360 }
+    ensures least { probes.old ≤ probes.new }
 {
-    let mut span = Some(w.span());
+    let mut span = w.span();
     let mut rest = lines;
     while let Some((p, later)) = rest.split_first() {
-        span = meet(span, all_near(r, p, later, w, probes));
+        let near = all_near(r, p, later, w, probes)?;
+        span = meet(span, near)?;
         rest = later;
     }
-    span
+    Some(span)
 }
 
 // The ticks of the window at which each of the other motions is within the diameter of the first one.
@@ -78,91 +128,24 @@ fn all_near<M: Ledger>(
     requires p_in_reach { IsInReach p.now }
     requires others_in_reach { All IsInReach others.now }
     requires length { w.hi - w.lo ≤ SPAN_LIMIT }
-    ensures { IsRuns (λ t. within w.lo w.hi t && all_near r p.now others.now (t - w.lo)) (option_to_list result) }
+    ensures runs { IsRuns (λ t. within w.lo w.hi t && all_near r p.now others.now (t - w.lo)) (option_to_list result) }
+    ensures cost { probes.new ≤ probes.old + 60 * length others.now }
+    ensures least { probes.old ≤ probes.new }
 {
     let width = squared_width(r);
-    let mut span = Some(w.span());
+    let mut span = w.span();
     let mut rest = others;
     while let Some((q, later)) = rest.split_first() {
-        let near = within(&Quad::between(p, q), width, w, probes);
-        span = meet(span, near);
+        let near = within(&Quad::between(p, q), width, w, probes)?;
+        span = meet(span, near)?;
         rest = later;
     }
-    span
+    Some(span)
 }
 
 // The ticks of both spans.
-fn meet(a: Option<Span>, b: Option<Span>) -> Option<Span>
-    ensures { IsRuns (λ t. spans_have (option_to_list a) t && spans_have (option_to_list b) t) (option_to_list result) }
+fn meet(a: Span, b: Span) -> Option<Span>
+    ensures { (t : ℕ) → spans_have (option_to_list result) t ≡ (within a.lo a.hi t && within b.lo b.hi t) }
 {
-    let a = a?;
-    let b = b?;
     Span::new(a.lo.max(b.lo), a.hi.min(b.hi))
-}
-
-// The runs of the ticks of the span at which the positions fit.
-fn fitting_runs(
-    alloc: Global,
-    r: Fix,
-    lines: &[Line],
-    w: Window,
-    span: Span,
-) -> Result<Vec<Span>, AllocError>
-    requires least { pos 0 ≤ℤ r }
-    requires most { r ≤ℤ pos RADIUS_LIMIT }
-    requires count { length lines.now ≤ 4 }
-    requires in_reach { All IsInReach lines.now }
-    requires from { w.lo ≤ span.lo }
-    requires length { span.hi - w.lo ≤ SPAN_LIMIT }
-    ensures { IfOk result (λ v. IsRuns (λ t. within span.lo span.hi t && fits r (positions_after lines.now (t - w.lo))) v.items) }
-{
-    let mut runs = Vec::new(alloc);
-    // The ticks from `from` on are the open run; there is none where it is the next tick.
-    let mut from = span.lo;
-    let end = span.hi + 1;
-    for t in span.lo..end {
-        if !all_fit(r, lines, t - w.lo) {
-            close(&mut runs, from, t)?;
-            from = t + 1;
-        }
-    }
-    close(&mut runs, from, end)?;
-    Ok(runs)
-}
-
-// Adds the run from `from` up to `until`, without `until`, if it has a tick.
-fn close(runs: &mut Vec<Span>, from: u32, until: u32) -> Result<(), AllocError>
-    requires in_range { until ≤ LAST_TICK + 1 }
-    requires normal { IsNormal runs.old.items }
-    requires apart { (u : ℕ) → spans_have runs.old.items u ≡ true → u + 2 ≤ from }
-    ensures normal { OnOk result (IsNormal runs.new.items) }
-    ensures ticks { OnOk result ((u : ℕ) → spans_have runs.new.items u
-        ≡ (spans_have runs.old.items u || (nat_le from u && nat_lt u until))) }
-{
-    if from < until {
-        runs.push(Span {
-            lo: from,
-            hi: until - 1,
-        })?;
-    }
-    Ok(())
-}
-
-// Whether the positions fit, `k` ticks after the window's first.
-fn all_fit(r: Fix, lines: &[Line], k: u32) -> bool
-    requires least { pos 0 ≤ℤ r }
-    requires most { r ≤ℤ pos RADIUS_LIMIT }
-    requires count { length lines.now ≤ 4 }
-    requires in_reach { All IsInReach lines.now }
-    ensures { result ≡ fits r (positions_after lines.now k) }
-{
-    match lines {
-        [p, q] => fits(r, &[p.position(k), q.position(k)]),
-        [p, q, s] => fits(r, &[p.position(k), q.position(k), s.position(k)]),
-        [p, q, s, u] => fits(
-            r,
-            &[p.position(k), q.position(k), s.position(k), u.position(k)],
-        ),
-        _ => true,
-    }
 }

@@ -650,3 +650,66 @@ fn motions_that_come_together(rt: HostRuntime) -> Result<(), Fail> {
     }
     Ok(())
 }
+
+// A number from -4 to 4 of a seed.
+fn small(seed: u64) -> i64
+    ensures { unsigned_abs result ≤ 4 }
+{
+    (seed / 65_536 % 9) as i64 - 4
+}
+
+// A motion that is near the origin after 30 ticks.
+fn passing(seed: u64) -> Option<Line>
+    ensures { IfSome result IsInReach }
+{
+    let dx = small(next(seed));
+    let dy = small(seed / 7);
+    line(drawn(seed) - 30 * dx, drawn(seed / 5) - 30 * dy, dx, dy)
+}
+
+// Whether the set has each of 60 ticks exactly where the positions of the first motions fit.
+fn has_those_that_fit(set: &IntervalSet, r: Fix, lines: &[Line; 4], count: usize) -> bool
+    requires least { pos 0 ≤ℤ r }
+    requires most { r ≤ℤ pos RADIUS_LIMIT }
+    requires in_reach { All IsInReach lines.now }
+    requires count { count ≤ 4 }
+{
+    let [p, q, s, u] = lines;
+    for k in 0..60 {
+        let points = [p.position(k), q.position(k), s.position(k), u.position(k)];
+        if set.has(1000 + k) != fits(r, &points[..count]) {
+            return false;
+        }
+    }
+    true
+}
+
+// Whether the ticks found for the first three motions, and for all four, are those of a scan.
+fn scans_agree(rt: &HostRuntime, r: Fix, lines: &[Line; 4]) -> Result<bool, Fail>
+    requires least { pos 0 ≤ℤ r }
+    requires most { r ≤ℤ pos RADIUS_LIMIT }
+    requires in_reach { All IsInReach lines.now }
+{
+    let w = window(1000, 1059).ok_or("no window")?;
+    let [p, q, s, u] = lines;
+    let three = together(rt, r, &[*p, *q, *s], w)?;
+    let four = together(rt, r, &[*p, *q, *s, *u], w)?;
+    Ok(has_those_that_fit(&three, r, lines, 3) && has_those_that_fit(&four, r, lines, 4))
+}
+
+#[test]
+fn circles_agree_with_a_scan(rt: HostRuntime) -> Result<(), Fail> {
+    let mut seed = 1;
+    for i in 0..20 {
+        seed = next(seed);
+        let r = radius(50 + i).ok_or("no radius")?;
+        let lines = [
+            passing(seed).ok_or("no motion")?,
+            passing(seed / 3).ok_or("no motion")?,
+            passing(next(seed / 11)).ok_or("no motion")?,
+            passing(next(seed / 13)).ok_or("no motion")?,
+        ];
+        assert!(rt; scans_agree(&rt, r, &lines)?, "{i}");
+    }
+    Ok(())
+}
