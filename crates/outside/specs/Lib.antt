@@ -4,3 +4,4 @@ pub mod Sink
 pub mod Shelf
 pub mod Plan
 pub mod Views
+pub mod FileName

@@ -1,6 +1,7 @@
 // The files of the current folder as a shelf. It tells nothing of their texts.
 ghost use Rattle.std.specs.Prelude.{◌≡◌, ◌≤◌, ◌↔◌, IsOk};
 ghost use Rattle.outside.specs.Faults.{FailCounts};
+ghost use Rattle.outside.specs.FileName.{IsFileName, is_path};
 
 use crate::{OutFail, Shelf};
 use std::fs::{self, OpenFile};
@@ -68,12 +69,20 @@ impl<R: Files + AllocGlobal> Shelf for DirShelf<R> {
 }
 
 // The name as that of a file in the current folder itself.
-fn file_name(name: &[u8]) -> io::Result<&str> {
-    match str::from_utf8(name) {
-        Ok("" | "." | "..") | Err(_) => Err(io::Error::from(ErrorKind::InvalidInput)),
-        Ok(name) if name.contains('/') => Err(io::Error::from(ErrorKind::InvalidInput)),
-        Ok(name) => Ok(name),
+fn file_name(name: &[u8]) -> io::Result<&str>
+    ensures { IsOk result ↔ IsFileName name.now }
+{
+    if is_path(name) {
+        return Err(io::Error::from(ErrorKind::InvalidInput));
     }
+    str::from_utf8(name).map_err(|_| io::Error::from(ErrorKind::InvalidInput))
+}
+
+// Whether the name is empty, or stands for another place than a file of the current folder.
+fn is_path(name: &[u8]) -> bool
+    ensures { result ≡ is_path name.now }
+{
+    matches!(name, b"" | b"." | b"..") || name.contains(&b'/')
 }
 
 fn read_file<R: Files + AllocGlobal>(rt: &R, name: &[u8]) -> io::Result<Vec<u8>> {

@@ -1,6 +1,7 @@
 // Standard readers and writers as sources and sinks. They tell nothing of their bytes.
 ghost use Rattle.std.specs.Prelude.{◌≡◌, ◌<◌, ◌≤◌, length, IfSome};
 
+use crate::fault::counted;
 use crate::{Failed, OutFail, Sink, Source};
 use std::io::{Read, Write};
 use std::marker::Model;
@@ -33,13 +34,7 @@ impl<R: Read> Source for StdSource<R> {
     ghost faults = { λ s. s };
 
     fn read(&mut self, buf: &mut [u8]) -> Result<usize, Failed> {
-        match self.reader.read(buf) {
-            Ok(len) => Ok(len),
-            Err(_) => {
-                self.faults = self.faults.saturating_add(1);
-                Err(Failed)
-            }
-        }
+        counted(&mut self.faults, self.reader.read(buf).ok())
     }
 }
 
@@ -72,13 +67,8 @@ impl<W: Write> Sink for StdSink<W> {
     ghost faults = { λ s. s };
 
     fn write(&mut self, piece: &[u8]) -> Result<usize, OutFail> {
-        match write_and_flush(&mut self.writer, piece) {
-            Some(len) => Ok(len),
-            None => {
-                self.faults = self.faults.saturating_add(1);
-                Err(OutFail::Failed)
-            }
-        }
+        let len = counted(&mut self.faults, write_and_flush(&mut self.writer, piece))?;
+        Ok(len)
     }
 }
 
