@@ -1,4 +1,4 @@
--- Writes to cells, by place and by name.
+-- Writes to cells, by index and by name.
 use Rattle.std.proofs.Common.{◌≡◌, ℕ, zero, suc, ◌+◌, ◌<◌, ◌≤◌, Bool, true, false, cond, Option, None, Some, List, [], ◌∷◌, ◌++◌, map, length, set, get_or, take, refl, sym, ap, ◌∙◌, arith, if◌then◌else◌, All}
 use Rattle.std.specs.Prelude.{option_map}
 use Rattle.std.specs.List.{fold, filter_map, cons_option, position}
@@ -14,14 +14,14 @@ use Rattle.history.specs.Write.{Attribute}
 use Rattle.history.specs.State.{attribute_names, inserted, updated}
 use Rattle.object_store.specs.Changes.{change_of, changes_of, fresh_cells}
 use Rattle.std.proofs.lemmas.List.{map-append, take_more}
-use Rattle.object_store.proofs.Lists.{place_in, place_is}
+use Rattle.object_store.proofs.Lists.{index_in, index_is}
 
 bytes_eq_flip : (a b : List ℕ) → bytes_eq a b ≡ bytes_eq b a
 bytes_eq_flip a b = nat_list_eq_equiv.symm a b
 
--- the cells after a write at the place where a name is found
+-- the cells after a write at the index where a name is found
 abbrev set_found : ℕ → List Cell → Given → Option ℕ → List Cell
-set_found now cells given place = option_map_or (λ i. set_at now cells i given) place cells
+set_found now cells given index = option_map_or (λ i. set_at now cells i given) index cells
 
 named_step : (now : ℕ) (b : Bool) (cell : Cell) (cells : List Cell) (given : Given) (r : Option ℕ) → (if b then (written now cell given ∷ cells) else (cell ∷ set_found now cells given r)) ≡ set_found now (cell ∷ cells) given (cond b (Some 0) (option_map suc r))
 named_step now true cell cells given r = refl
@@ -32,25 +32,25 @@ past_none : (now : ℕ) (given : Given) (r : Option ℕ) → [] ≡ set_found no
 past_none now given None = refl
 past_none now given (Some i) = refl
 
--- a write by name is a write at the first place of that name
-set_named-place : (now : ℕ) (attributes : List Attribute) (cells : List Cell) (s : NamedSet) → set_named now (attribute_names attributes) cells s ≡ set_found now cells s.given (place_in (λ a. bytes_eq s.name a.name) attributes)
-set_named-place now [] cells s = refl
-set_named-place now (a ∷ attributes) [] s = past_none now s.given (place_in (λ a. bytes_eq s.name a.name) (a ∷ attributes))
-set_named-place now (a ∷ attributes) (cell ∷ cells) s =
+-- a write by name is a write at the first index of that name
+set_named-index : (now : ℕ) (attributes : List Attribute) (cells : List Cell) (s : NamedSet) → set_named now (attribute_names attributes) cells s ≡ set_found now cells s.given (index_in (λ a. bytes_eq s.name a.name) attributes)
+set_named-index now [] cells s = refl
+set_named-index now (a ∷ attributes) [] s = past_none now s.given (index_in (λ a. bytes_eq s.name a.name) (a ∷ attributes))
+set_named-index now (a ∷ attributes) (cell ∷ cells) s =
     ap (λ b. if b then (written now cell s.given ∷ cells) else (cell ∷ set_named now (attribute_names attributes) cells s)) (bytes_eq_flip a.name s.name)
-    ∙ ap (λ rest. if bytes_eq s.name a.name then (written now cell s.given ∷ cells) else (cell ∷ rest)) (set_named-place now attributes cells s)
-    ∙ named_step now (bytes_eq s.name a.name) cell cells s.given (place_in (λ a. bytes_eq s.name a.name) attributes)
+    ∙ ap (λ rest. if bytes_eq s.name a.name then (written now cell s.given ∷ cells) else (cell ∷ rest)) (set_named-index now attributes cells s)
+    ∙ named_step now (bytes_eq s.name a.name) cell cells s.given (index_in (λ a. bytes_eq s.name a.name) attributes)
 
-change_step : (now : ℕ) (cells : List Cell) (given : Given) (r : Option ℕ) (rest : List (ℕ × Given)) → changed now rest (set_found now cells given r) ≡ changed now (cons_option (option_map (λ place. (place, given)) r) rest) cells
+change_step : (now : ℕ) (cells : List Cell) (given : Given) (r : Option ℕ) (rest : List (ℕ × Given)) → changed now rest (set_found now cells given r) ≡ changed now (cons_option (option_map (λ index. (index, given)) r) rest) cells
 change_step now cells given None rest = refl
 change_step now cells given (Some i) rest = refl
 
--- so the writes of a command can be done by place
+-- so the writes of a command can be done by index
 pub changed-cells : (now : ℕ) (attributes : List Attribute) (sets : List NamedSet) (cells : List Cell) → changed now (changes_of attributes sets) cells ≡ fold (set_named now (attribute_names attributes)) cells sets
 changed-cells now attributes [] cells = refl
 changed-cells now attributes (s ∷ sets) cells =
     sym (change_step now cells s.given (position (λ a. bytes_eq s.name a.name) attributes) (changes_of attributes sets))
-    ∙ ap (λ cs. changed now (changes_of attributes sets) cs) (ap (set_found now cells s.given) (place_is (λ a. bytes_eq s.name a.name) attributes) ∙ sym (set_named-place now attributes cells s))
+    ∙ ap (λ cs. changed now (changes_of attributes sets) cs) (ap (set_found now cells s.given) (index_is (λ a. bytes_eq s.name a.name) attributes) ∙ sym (set_named-index now attributes cells s))
     ∙ changed-cells now attributes sets (set_named now (attribute_names attributes) cells s)
 
 pub changed-inserted : (now : ℕ) (attributes : List Attribute) (place : Place) (sets : List NamedSet) → changed now (changes_of attributes (place_sets place ++ sets)) (fresh_cells now attributes) ≡ inserted now attributes place sets

@@ -17,11 +17,11 @@ use Rattle.history.specs.History.{ChangesFrom}
 use Rattle.object_store.specs.Contents.{StoredObject, Contents, catalog_of, history_of, is_named, object_info, state_of}
 use Rattle.object_store.specs.Effects.{put_named, with_epoch_of, with_object, class_number, after_insert, after_update, after_remove}
 use Rattle.object_store.specs.Sound.{IsSound}
-use Rattle.object_store.proofs.Lists.{place_in, place_is, is_some-find}
-use Rattle.object_store.proofs.NumberLemmas.{cells_in, cells_of_place}
+use Rattle.object_store.proofs.Lists.{index_in, index_is, is_some-find}
+use Rattle.object_store.proofs.NumberLemmas.{cells_in, cells_at_index}
 use Rattle.object_store.proofs.StandLemmas.{bytes_eq_refl, infos-put_named}
 use Rattle.object_store.proofs.UndoLemmas.{at_zero, at_suc, take_front}
-use Rattle.object_store.proofs.WriteLemmas.{place-put_named, place_last}
+use Rattle.object_store.proofs.WriteLemmas.{index-put_named, index_last}
 
 abbrev with_epoch : Epoch → StoredObject → StoredObject
 with_epoch p o = record o { epochs = put o.epochs p }
@@ -54,23 +54,23 @@ not_itself n other = absurd (grind (arith, nat_tests))
 before_it : (m n : ℕ) → (suc m == suc n) ≡ false → (m == n) ≡ false
 before_it m n other = grind (arith, nat_tests)
 
-put_others : (name : List ℕ) (p : Epoch) (objects : List StoredObject) (place i : ℕ) → position (is_named name) objects ≡ Some place
-    → (i == place) ≡ false → slice_get (put_named name p objects) i ≡ slice_get objects i
-put_others name p objects place i first = others objects place i (sym (place_is (is_named name) objects) ∙ first)
+put_others : (name : List ℕ) (p : Epoch) (objects : List StoredObject) (index i : ℕ) → position (is_named name) objects ≡ Some index
+    → (i == index) ≡ false → slice_get (put_named name p objects) i ≡ slice_get objects i
+put_others name p objects index i first = others objects index i (sym (index_is (is_named name) objects) ∙ first)
   where
     step : (x : StoredObject) (xs : List StoredObject) (i : ℕ) (b : Bool) → bytes_eq name x.name ≡ b
         → slice_get (put_named name p (x ∷ xs)) i ≡ slice_get (if b then (with_epoch p x ∷ xs) else (x ∷ put_named name p xs)) i
     step x xs i b is = ap (λ b. slice_get (if b then (with_epoch p x ∷ xs) else (x ∷ put_named name p xs)) i) is
 
-    others : (objects : List StoredObject) (place i : ℕ) → place_in (is_named name) objects ≡ Some place
-        → (i == place) ≡ false → slice_get (put_named name p objects) i ≡ slice_get objects i
-    others [] place i first other = refl
+    others : (objects : List StoredObject) (index i : ℕ) → index_in (is_named name) objects ≡ Some index
+        → (i == index) ≡ false → slice_get (put_named name p objects) i ≡ slice_get objects i
+    others [] index i first other = refl
     others (x ∷ xs) zero zero first other = not_itself 0 other
-    others (x ∷ xs) zero (suc i) first other = step x xs (suc i) true (at_zero (bytes_eq name x.name) (place_in (is_named name) xs) first)
-    others (x ∷ xs) (suc place) zero first other = step x xs 0 false (at_suc (bytes_eq name x.name) (place_in (is_named name) xs) place first).0
-    others (x ∷ xs) (suc place) (suc i) first other =
-        let later = at_suc (bytes_eq name x.name) (place_in (is_named name) xs) place first in
-        step x xs (suc i) false later.0 ∙ others xs place i later.1 (before_it i place other)
+    others (x ∷ xs) zero (suc i) first other = step x xs (suc i) true (at_zero (bytes_eq name x.name) (index_in (is_named name) xs) first)
+    others (x ∷ xs) (suc index) zero first other = step x xs 0 false (at_suc (bytes_eq name x.name) (index_in (is_named name) xs) index first).0
+    others (x ∷ xs) (suc index) (suc i) first other =
+        let later = at_suc (bytes_eq name x.name) (index_in (is_named name) xs) index first in
+        step x xs (suc i) false later.0 ∙ others xs index i later.1 (before_it i index other)
 
 known_changes : (s : Contents) (name : List ℕ) (p : Epoch) (id : ℕ) → IsSound s → IsSound (with_epoch_of s name p)
     → position (is_named name) (put_named name p s.objects) ≡ Some id → ChangesFrom id p.from (history_of s) (history_of (with_epoch_of s name p))
@@ -80,12 +80,12 @@ known_changes s name p id sound after at = record {
       let infos : List ObjectInfo = map object_info s.objects in
       ap (take (length infos)) (infos-put_named name p s.objects ∙ sym (append-nil infos)) ∙ take_front infos [];
   others = λ i t other.
-      cells_of_place (with_epoch_of s name p) i t after
+      cells_at_index (with_epoch_of s name p) i t after
       ∙ ap (option_and_then (λ (o : StoredObject). state_at o.epochs t))
-      (put_others name p s.objects id i (sym (place-put_named name p s.objects) ∙ at) other)
-      ∙ sym (cells_of_place s i t sound);
+      (put_others name p s.objects id i (sym (index-put_named name p s.objects) ∙ at) other)
+      ∙ sym (cells_at_index s i t sound);
   past = λ t before.
-      cells_of_place (with_epoch_of s name p) id t after ∙ put_past name p t before s.objects id ∙ sym (cells_of_place s id t sound);
+      cells_at_index (with_epoch_of s name p) id t after ∙ put_past name p t before s.objects id ∙ sym (cells_at_index s id t sound);
 }
 
 -- ---- one of a new name
@@ -108,7 +108,7 @@ new_changes : (s : Contents) (class : ℕ) (name : List ℕ) (p : Epoch) (id : �
 new_changes s class name p id sound after new at =
     let x : StoredObject = record { name = name; class = class; epochs = put [] p } in
     let last : length s.objects ≡ id =
-    same_Some (length s.objects) id (sym (place_last (is_named name) s.objects x new (bytes_eq_refl name)) ∙ sym (place_is (is_named name) (s.objects ++ x ∷ [])) ∙ at)
+    same_Some (length s.objects) id (sym (index_last (is_named name) s.objects x new (bytes_eq_refl name)) ∙ sym (index_is (is_named name) (s.objects ++ x ∷ [])) ∙ at)
     in
     record {
       classes = refl;
@@ -116,13 +116,13 @@ new_changes s class name p id sound after new at =
           ap (take (length (map object_info s.objects))) (map-append object_info s.objects (x ∷ []))
           ∙ take_front (map object_info s.objects) (object_info x ∷ []);
       others = λ i t other.
-          cells_of_place (with_object s class name p) i t after
+          cells_at_index (with_object s class name p) i t after
           ∙ ap (option_and_then (λ (o : StoredObject). state_at o.epochs t)) (pushed_others s.objects x i (ap (λ n. i == n) last ∙ other))
-          ∙ sym (cells_of_place s i t sound);
+          ∙ sym (cells_at_index s i t sound);
       past = λ t before.
-          cells_of_place (with_object s class name p) id t after
+          cells_at_index (with_object s class name p) id t after
           ∙ pushed_past s.objects x t id (earlier p t before [])
-          ∙ sym (cells_of_place s id t sound);
+          ∙ sym (cells_at_index s id t sound);
     }
 
 -- ---- the three writes

@@ -12,7 +12,7 @@ use Rattle.std.proofs.lemmas.Option.{slice_get-map}
 use Rattle.history.specs.Catalog.{ClassInfo}
 use Rattle.object_store.specs.declared.schema.TheConstants.{CLASS_LIMIT}
 use Rattle.object_store.specs.Sound.{IsClass, AreClasses}
-use Rattle.object_store.specs.Keyed.{AreKeyed}
+use Rattle.object_store.specs.ClassMap.{AreKeyed}
 use Rattle.object_store.proofs.Lists.{position-map, find_is, any_is_found, list_any-map, IsDistinct-take}
 
 abbrev pub name_of : ClassInfo → List ℕ

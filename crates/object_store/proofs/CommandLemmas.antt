@@ -25,13 +25,13 @@ use Rattle.object_store.specs.Changes.{change_of, changes_of, fresh_cells, AreGi
 use Rattle.object_store.specs.Contents.{StoredObject, Contents, object_info, attributes_of_number, catalog_of, is_named, state_of, ids_in, is_present_at}
 use Rattle.object_store.specs.Effects.{class_number, with_epoch_of, with_object, after_insert, after_update}
 use Rattle.object_store.specs.Faults.{is_elsewhere, is_past_capacity, is_misplaced, has_misfit, has_unknown, repeats_set, insert_fault, update_fault, remove_fault, fault_of_insert, fault_of_update}
-use Rattle.object_store.specs.Kept.{HasRoom, IsKept}
+use Rattle.object_store.specs.Invariant.{HasRoom, IsKept}
 use Rattle.object_store.specs.Sound.{AreCellsOf, AreClasses}
 use Rattle.object_store.proofs.Lists.{find_is, is_some-find}
 use Rattle.object_store.proofs.CellLemmas.{changed-cells, changed-inserted}
 use Rattle.object_store.proofs.JudgeLemmas.{HasClass, info_found, state_of_found, elsewhere_found, past_found, number_is, attributes_are}
 use Rattle.object_store.proofs.KindLemmas.{AreCellsOf-inserted}
-use Rattle.object_store.specs.Standing.{GrowsBy}
+use Rattle.object_store.specs.StandsFor.{GrowsBy}
 use Rattle.object_store.proofs.StandLemmas.{grows, follows_insert}
 use Rattle.object_store.proofs.WriteLemmas.{exists_at}
 
@@ -52,9 +52,9 @@ all_cons : {X : Type 0} (P : X → Type 0) (x : X) (xs : List X) → P x → All
 all_cons P x xs head tail zero d l = head
 all_cons P x xs head tail (suc k) d l = tail k d (omega arith)
 
-given_step : (r : Option ℕ) (given : Given) (rest : List (ℕ × Given)) → IsGiven given → AreChanges rest → AreChanges (cons_option (option_map (λ place. (place, given)) r) rest)
+given_step : (r : Option ℕ) (given : Given) (rest : List (ℕ × Given)) → IsGiven given → AreChanges rest → AreChanges (cons_option (option_map (λ index. (index, given)) r) rest)
 given_step None given rest head tail = tail
-given_step (Some place) given rest head tail = all_cons (λ (change : ℕ × Given). IsGiven change.1) (place, given) rest head tail
+given_step (Some index) given rest head tail = all_cons (λ (change : ℕ × Given). IsGiven change.1) (index, given) rest head tail
 
 pub given_changes : (attributes : List Attribute) (sets : List NamedSet) → All (λ (s : NamedSet). IsGiven s.given) sets → AreChanges (changes_of attributes sets)
 given_changes attributes [] given = λ k d l. absurd (omega arith)
@@ -154,8 +154,8 @@ changed_updated now attributes place sets (Some cells) = ap Some (changed-cells 
 
 -- ---- a name that was looked up
 
-pub found_there : (name : List ℕ) (objects : List StoredObject) (place : ℕ) (o : StoredObject) → position (is_named name) objects ≡ Some place → slice_get objects place ≡ Some o → find (is_named name) objects ≡ Some o
-found_there name objects place o first there = find_is (is_named name) objects ∙ ap (option_and_then (slice_get objects)) first ∙ there
+pub found_there : (name : List ℕ) (objects : List StoredObject) (index : ℕ) (o : StoredObject) → position (is_named name) objects ≡ Some index → slice_get objects index ≡ Some o → find (is_named name) objects ≡ Some o
+found_there name objects index o first there = find_is (is_named name) objects ∙ ap (option_and_then (slice_get objects)) first ∙ there
 
 pub found_nowhere : (name : List ℕ) (objects : List StoredObject) → position (is_named name) objects ≡ None → find (is_named name) objects ≡ None
 found_nowhere name objects none = find_is (is_named name) objects ∙ ap (option_and_then (slice_get objects)) none

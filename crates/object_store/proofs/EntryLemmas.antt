@@ -12,73 +12,73 @@ use Rattle.indexmap.proofs.CallerLemmas.{insert_entry-new}
 use Rattle.motion.specs.Timeline.{Epoch, put, restored, AreBegunBy, StandsAsLeft, TakesBack}
 use Rattle.object_store.specs.declared.objects.Object.{Object}
 use Rattle.object_store.specs.Contents.{StoredObject, is_named}
-use Rattle.object_store.specs.Stored.{stored, objects_of}
+use Rattle.object_store.specs.ObjectView.{stored, objects_of}
 use Rattle.object_store.specs.Ids.{without_member}
-use Rattle.object_store.specs.Places.{at_place, restored_at, IsPutAt}
+use Rattle.object_store.specs.AtIndex.{at_index, restored_at, GainsEpochAt}
 use Rattle.object_store.proofs.Lists.{position-map}
 
--- the value at a place, with other epochs
+-- the value at a index, with other epochs
 abbrev pub with_timeline : Object → List Epoch → Object
 with_timeline v timeline = record { class = v.class; timeline = timeline }
 
-pub set_at_place : (es : List (List ℕ × Object)) (place : ℕ) (v : Object) (timeline : List Epoch) (change : List Epoch → List Epoch) → slice_get (values_of es) place ≡ Some v → timeline ≡ change v.timeline → objects_of (set_value_at es place (with_timeline v timeline)) ≡ at_place place change (objects_of es)
-set_at_place [] place v timeline change there is = refl
-set_at_place (e ∷ es) zero v timeline change there is =
+pub set_at_index : (es : List (List ℕ × Object)) (index : ℕ) (v : Object) (timeline : List Epoch) (change : List Epoch → List Epoch) → slice_get (values_of es) index ≡ Some v → timeline ≡ change v.timeline → objects_of (set_value_at es index (with_timeline v timeline)) ≡ at_index index change (objects_of es)
+set_at_index [] index v timeline change there is = refl
+set_at_index (e ∷ es) zero v timeline change there is =
     let same : e.1 ≡ v = same_Some e.1 v there in
     ap (λ (ps : List Epoch). let o : StoredObject = record { name = e.0; class = v.class; epochs = ps } in o ∷ objects_of es) is
     ∙ ap (λ (v : Object). let o : StoredObject = record { name = e.0; class = v.class; epochs = change v.timeline } in o ∷ objects_of es) (sym same)
-set_at_place (e ∷ es) (suc place) v timeline change there is = ap (λ os. stored e ∷ os) (set_at_place es place v timeline change there is)
+set_at_index (e ∷ es) (suc index) v timeline change there is = ap (λ os. stored e ∷ os) (set_at_index es index v timeline change there is)
 
-unchanged : (place : ℕ) (objects : List StoredObject) → at_place place (λ epochs. epochs) objects ≡ objects
-unchanged place [] = refl
+unchanged : (index : ℕ) (objects : List StoredObject) → at_index index (λ epochs. epochs) objects ≡ objects
+unchanged index [] = refl
 unchanged zero (o ∷ os) = refl
-unchanged (suc place) (o ∷ os) = ap (λ os. o ∷ os) (unchanged place os)
+unchanged (suc index) (o ∷ os) = ap (λ os. o ∷ os) (unchanged index os)
 
--- the object at a place is that of its value
-object_there : (es : List (List ℕ × Object)) (place : ℕ) (v : Object) (o : StoredObject) → slice_get (values_of es) place ≡ Some v → slice_get (objects_of es) place ≡ Some o → o.epochs ≡ v.timeline
-object_there [] place v o there at = absurd (none-some v there)
+-- the object at a index is that of its value
+object_there : (es : List (List ℕ × Object)) (index : ℕ) (v : Object) (o : StoredObject) → slice_get (values_of es) index ≡ Some v → slice_get (objects_of es) index ≡ Some o → o.epochs ≡ v.timeline
+object_there [] index v o there at = absurd (none-some v there)
 object_there (e ∷ es) zero v o there at = ap (λ (o : StoredObject). o.epochs) (sym (same_Some (stored e) o at)) ∙ ap (λ (v : Object). v.timeline) (same_Some e.1 v there)
-object_there (e ∷ es) (suc place) v o there at = object_there es place v o there at
+object_there (e ∷ es) (suc index) v o there at = object_there es index v o there at
 
--- the object at a place, by its value
-pub record ValueAt (objects : List StoredObject) (place : ℕ) (v : Object) : Type 0 where
+-- the object at a index, by its value
+pub record ValueAt (objects : List StoredObject) (index : ℕ) (v : Object) : Type 0 where
   pub object : StoredObject
-  pub there : slice_get objects place ≡ Some object
+  pub there : slice_get objects index ≡ Some object
   pub epochs : object.epochs ≡ v.timeline
   pub class : object.class ≡ v.class
 
-pub value_there : (es : List (List ℕ × Object)) (place : ℕ) (v : Object) → slice_get (values_of es) place ≡ Some v → ValueAt (objects_of es) place v
-value_there [] place v there = absurd (none-some v there)
+pub value_there : (es : List (List ℕ × Object)) (index : ℕ) (v : Object) → slice_get (values_of es) index ≡ Some v → ValueAt (objects_of es) index v
+value_there [] index v there = absurd (none-some v there)
 value_there (e ∷ es) zero v there =
     let same : e.1 ≡ v = same_Some e.1 v there in
     record { object = stored e; there = refl; epochs = ap (λ (v : Object). v.timeline) same; class = ap (λ (v : Object). v.class) same }
-value_there (e ∷ es) (suc place) v there =
-    let rest = value_there es place v there in
+value_there (e ∷ es) (suc index) v there =
+    let rest = value_there es index v there in
     record { object = rest.object; there = rest.there; epochs = rest.epochs; class = rest.class }
 
--- what holds of all holds at a place
-pub all_at : {X : Type 0} (P : X → Type 0) (xs : List X) (place : ℕ) (x : X) → slice_get xs place ≡ Some x → All P xs → P x
-all_at P xs place x there all = subst P (get_or_from_slice_get xs place x x there) (all place x (slice_get_within xs place x there))
+-- what holds of all holds at a index
+pub all_at : {X : Type 0} (P : X → Type 0) (xs : List X) (index : ℕ) (x : X) → slice_get xs index ≡ Some x → All P xs → P x
+all_at P xs index x there all = subst P (get_or_from_slice_get xs index x x there) (all index x (slice_get_within xs index x there))
 
 -- what holds of the epochs of all objects holds of those of a value
-pub value_begun : (es : List (List ℕ × Object)) (place : ℕ) (v : Object) (now : ℕ) → slice_get (values_of es) place ≡ Some v → All (λ (o : StoredObject). AreBegunBy o.epochs now) (objects_of es) → AreBegunBy v.timeline now
-value_begun es place v now there all =
-    let at = value_there es place v there in
-    subst (λ epochs. AreBegunBy epochs now) at.epochs (all_at (λ (o : StoredObject). AreBegunBy o.epochs now) (objects_of es) place at.object at.there all)
+pub value_begun : (es : List (List ℕ × Object)) (index : ℕ) (v : Object) (now : ℕ) → slice_get (values_of es) index ≡ Some v → All (λ (o : StoredObject). AreBegunBy o.epochs now) (objects_of es) → AreBegunBy v.timeline now
+value_begun es index v now there all =
+    let at = value_there es index v there in
+    subst (λ epochs. AreBegunBy epochs now) at.epochs (all_at (λ (o : StoredObject). AreBegunBy o.epochs now) (objects_of es) index at.object at.there all)
 
-pub put_ok : (r : Result (Option Epoch) AllocError) (place : ℕ) (epoch : List Epoch → Epoch) (es : List (List ℕ × Object)) (v : Object) (timeline : List Epoch) → slice_get (values_of es) place ≡ Some v → OnOk r (timeline ≡ put v.timeline (epoch v.timeline)) → IfOk r (λ replaced. TakesBack v.timeline timeline replaced)
-    → IfOk r (λ replaced. IsPutAt place epoch replaced (objects_of es) (objects_of (set_value_at es place (with_timeline v timeline))))
-put_ok (Ok replaced) place epoch es v timeline there is back = record {
-  written = set_at_place es place v timeline (λ epochs. put epochs (epoch epochs)) there is;
+pub put_ok : (r : Result (Option Epoch) AllocError) (index : ℕ) (epoch : List Epoch → Epoch) (es : List (List ℕ × Object)) (v : Object) (timeline : List Epoch) → slice_get (values_of es) index ≡ Some v → OnOk r (timeline ≡ put v.timeline (epoch v.timeline)) → IfOk r (λ replaced. TakesBack v.timeline timeline replaced)
+    → IfOk r (λ replaced. GainsEpochAt index epoch replaced (objects_of es) (objects_of (set_value_at es index (with_timeline v timeline))))
+put_ok (Ok replaced) index epoch es v timeline there is back = record {
+  written = set_at_index es index v timeline (λ epochs. put epochs (epoch epochs)) there is;
   back = λ o at.
-      let same : o.epochs ≡ v.timeline = object_there es place v o there at in
+      let same : o.epochs ≡ v.timeline = object_there es index v o there at in
       subst (λ old. TakesBack old (put old (epoch old)) replaced) (sym same) (subst (λ new. TakesBack v.timeline new replaced) is back);
 }
-put_ok (Err error) place epoch es v timeline there is back = back
+put_ok (Err error) index epoch es v timeline there is back = back
 
-pub put_err : (r : Result (Option Epoch) AllocError) (place : ℕ) (es : List (List ℕ × Object)) (v : Object) (timeline : List Epoch) → slice_get (values_of es) place ≡ Some v → OnErr r (timeline ≡ v.timeline) → OnErr r (objects_of (set_value_at es place (with_timeline v timeline)) ≡ objects_of es)
-put_err (Ok replaced) place es v timeline there is = is
-put_err (Err error) place es v timeline there is = set_at_place es place v timeline (λ epochs. epochs) there is ∙ unchanged place (objects_of es)
+pub put_err : (r : Result (Option Epoch) AllocError) (index : ℕ) (es : List (List ℕ × Object)) (v : Object) (timeline : List Epoch) → slice_get (values_of es) index ≡ Some v → OnErr r (timeline ≡ v.timeline) → OnErr r (objects_of (set_value_at es index (with_timeline v timeline)) ≡ objects_of es)
+put_err (Ok replaced) index es v timeline there is = is
+put_err (Err error) index es v timeline there is = set_at_index es index v timeline (λ epochs. epochs) there is ∙ unchanged index (objects_of es)
 
 pub on_ok : {T E : Type 0} (r : Result T E) (x : T) (P : Type 0) → r ≡ Ok x → OnOk r P → P
 on_ok r x P is holds = subst (λ r. OnOk r P) is holds
@@ -96,15 +96,15 @@ pub entered_last : {S : Type 0} (m : IndexMap (List ℕ) Object S) (name : List 
 entered_last m name v new absent is =
     ap objects_of (is ∙ insert_entry-new bytes_eq m name v (lookup_none name m.entries absent)) ∙ map-append stored m.entries ((name, v) ∷ [])
 
-pub place_is_of : (name : List ℕ) (es : List (List ℕ × Object)) → position (bytes_eq name) (keys_of es) ≡ position (is_named name) (objects_of es)
-place_is_of name es = position-map (bytes_eq name) (λ (e : List ℕ × Object). e.0) es ∙ sym (position-map (is_named name) stored es)
+pub index_is_of : (name : List ℕ) (es : List (List ℕ × Object)) → position (bytes_eq name) (keys_of es) ≡ position (is_named name) (objects_of es)
+index_is_of name es = position-map (bytes_eq name) (λ (e : List ℕ × Object). e.0) es ∙ sym (position-map (is_named name) stored es)
 
 pub taken_last : (es : List (List ℕ × Object)) → objects_of (take (length es - 1) es) ≡ take (length (objects_of es) - 1) (objects_of es)
 taken_last es = sym (take-map stored (length es - 1) es) ∙ ap (λ n. take (n - 1) (objects_of es)) (sym (length-map es stored))
 
--- what is said of an object, where it stands at the place
-pub if_there : (objects : List StoredObject) (place : ℕ) (o : StoredObject) (P : StoredObject → Type 0) → slice_get objects place ≡ Some o → P o → IfSome (slice_get objects place) P
-if_there objects place o P there holds = subst (λ r. IfSome r P) (sym there) holds
+-- what is said of an object, where it stands at the index
+pub if_there : (objects : List StoredObject) (index : ℕ) (o : StoredObject) (P : StoredObject → Type 0) → slice_get objects index ≡ Some o → P o → IfSome (slice_get objects index) P
+if_there objects index o P there holds = subst (λ r. IfSome r P) (sym there) holds
 
 -- the list of a class without its last id
 pub popped : (members : List (List ℕ)) (number : ℕ) (own new : List ℕ) → number < length members → own ≡ get_or members number own → new ≡ take (length own - 1) own → set members number new ≡ without_member members number
@@ -112,6 +112,6 @@ popped members number own new within is short =
     let same : own ≡ get_or members number [] = is ∙ get_or_default members number own [] within in
     ap (set members number) (short ∙ ap (λ ids. take (length ids - 1) ids) same)
 
--- the value of an entry that stands at a place
-pub value_of_entry : (es : List (List ℕ × Object)) (place : ℕ) (e : List ℕ × Object) → slice_get es place ≡ Some e → slice_get (values_of es) place ≡ Some e.1
-value_of_entry es place e there = slice_get-map (λ (e : List ℕ × Object). e.1) es place ∙ ap (option_map (λ (e : List ℕ × Object). e.1)) there
+-- the value of an entry that stands at a index
+pub value_of_entry : (es : List (List ℕ × Object)) (index : ℕ) (e : List ℕ × Object) → slice_get es index ≡ Some e → slice_get (values_of es) index ≡ Some e.1
+value_of_entry es index e there = slice_get-map (λ (e : List ℕ × Object). e.1) es index ∙ ap (option_map (λ (e : List ℕ × Object). e.1)) there

@@ -24,12 +24,12 @@ use Rattle.object_store.proofs.StandLemmas.{bytes_eq_refl, bytes_eq_true}
 
 -- ---- the object of a name
 
--- what stands at a place that was found
+-- what stands at a index that was found
 abbrev pub object_at : List StoredObject → Option ℕ → Option StoredObject
-object_at objects place = option_and_then (slice_get objects) place
+object_at objects index = option_and_then (slice_get objects) index
 
-pub object_found : (s : Contents) (name : List ℕ) (place : Option ℕ) → place ≡ position (is_named name) s.objects → find (is_named name) s.objects ≡ object_at s.objects place
-object_found s name place is = find_is (is_named name) s.objects ∙ ap (object_at s.objects) (sym is)
+pub object_found : (s : Contents) (name : List ℕ) (index : Option ℕ) → index ≡ position (is_named name) s.objects → find (is_named name) s.objects ≡ object_at s.objects index
+object_found s name index is = find_is (is_named name) s.objects ∙ ap (object_at s.objects) (sym is)
 
 pub info_found : (s : Contents) (name : List ℕ) → object_of (catalog_of s) name ≡ option_map object_info (find (is_named name) s.objects)
 info_found s name = find-map (λ (i : ObjectInfo). bytes_eq name i.name) object_info s.objects

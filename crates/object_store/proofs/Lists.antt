@@ -1,30 +1,30 @@
--- Lists of anything: the first place that passes a test, and what stands there.
+-- Lists of anything: the first index that passes a test, and what stands there.
 use Rattle.std.proofs.Common.{◌≡◌, ℕ, zero, suc, ◌+◌, ◌<◌, Bool, true, false, cond, not, ◌||◌, nat_lt, Option, None, Some, List, [], ◌∷◌, ◌++◌, map, length, take, refl, sym, ap, subst, ◌∙◌, arith}
 use Rattle.std.specs.Prelude.{All, slice_get, is_some, option_and_then, option_map}
 use Rattle.std.proofs.lemmas.Option.{same_Some, none-some}
 use Rattle.std.specs.List.{list_any, find, position, position_or_len, AllByRecursion, IsDistinct}
 use Rattle.std.proofs.lemmas.Bool.Decides.{nat_tests}
 
--- the first place, by recursion
-abbrev pub place_in : {X : Type 0} → (X → Bool) → List X → Option ℕ
-place_in p [] = None
-place_in p (x ∷ xs) = cond (p x) (Some 0) (option_map suc (place_in p xs))
+-- the first index, by recursion
+abbrev pub index_in : {X : Type 0} → (X → Bool) → List X → Option ℕ
+index_in p [] = None
+index_in p (x ∷ xs) = cond (p x) (Some 0) (option_map suc (index_in p xs))
 
-place_step : (b : Bool) (m n : ℕ) → cond (nat_lt (cond (not b) (1 + m) 0) (suc n)) (Some (cond (not b) (1 + m) 0)) None ≡ cond b (Some 0) (option_map suc (cond (nat_lt m n) (Some m) None))
-place_step true m n = grind (arith, nat_tests)
-place_step false m n = grind (arith, nat_tests)
+index_step : (b : Bool) (m n : ℕ) → cond (nat_lt (cond (not b) (1 + m) 0) (suc n)) (Some (cond (not b) (1 + m) 0)) None ≡ cond b (Some 0) (option_map suc (cond (nat_lt m n) (Some m) None))
+index_step true m n = grind (arith, nat_tests)
+index_step false m n = grind (arith, nat_tests)
 
-pub place_is : {X : Type 0} (p : X → Bool) (xs : List X) → position p xs ≡ place_in p xs
-place_is p [] = refl
-place_is p (x ∷ xs) =
-    place_step (p x) (position_or_len p xs) (length xs) ∙ ap (λ r. cond (p x) (Some 0) (option_map suc r)) (place_is p xs)
+pub index_is : {X : Type 0} (p : X → Bool) (xs : List X) → position p xs ≡ index_in p xs
+index_is p [] = refl
+index_is p (x ∷ xs) =
+    index_step (p x) (position_or_len p xs) (length xs) ∙ ap (λ r. cond (p x) (Some 0) (option_map suc r)) (index_is p xs)
 
-pub place-map : {X Y : Type 0} (p : Y → Bool) (f : X → Y) (xs : List X) → place_in p (map f xs) ≡ place_in (λ x. p (f x)) xs
-place-map p f [] = refl
-place-map p f (x ∷ xs) = ap (λ r. cond (p (f x)) (Some 0) (option_map suc r)) (place-map p f xs)
+pub index-map : {X Y : Type 0} (p : Y → Bool) (f : X → Y) (xs : List X) → index_in p (map f xs) ≡ index_in (λ x. p (f x)) xs
+index-map p f [] = refl
+index-map p f (x ∷ xs) = ap (λ r. cond (p (f x)) (Some 0) (option_map suc r)) (index-map p f xs)
 
 pub position-map : {X Y : Type 0} (p : Y → Bool) (f : X → Y) (xs : List X) → position p (map f xs) ≡ position (λ x. p (f x)) xs
-position-map p f xs = place_is p (map f xs) ∙ place-map p f xs ∙ sym (place_is (λ x. p (f x)) xs)
+position-map p f xs = index_is p (map f xs) ∙ index-map p f xs ∙ sym (index_is (λ x. p (f x)) xs)
 
 under_suc : {X : Type 0} (x : X) (xs : List X) (r : Option ℕ) → option_and_then (slice_get xs) r ≡ option_and_then (slice_get (x ∷ xs)) (option_map suc r)
 under_suc x xs None = refl
@@ -34,13 +34,13 @@ found_step : {X : Type 0} (b : Bool) (x : X) (xs : List X) (r : Option ℕ) → 
 found_step true x xs r = refl
 found_step false x xs r = under_suc x xs r
 
-find_in : {X : Type 0} (p : X → Bool) (xs : List X) → find p xs ≡ option_and_then (slice_get xs) (place_in p xs)
+find_in : {X : Type 0} (p : X → Bool) (xs : List X) → find p xs ≡ option_and_then (slice_get xs) (index_in p xs)
 find_in p [] = refl
-find_in p (x ∷ xs) = ap (cond (p x) (Some x)) (find_in p xs) ∙ found_step (p x) x xs (place_in p xs)
+find_in p (x ∷ xs) = ap (cond (p x) (Some x)) (find_in p xs) ∙ found_step (p x) x xs (index_in p xs)
 
--- what is found stands at the first place
+-- what is found stands at the first index
 pub find_is : {X : Type 0} (p : X → Bool) (xs : List X) → find p xs ≡ option_and_then (slice_get xs) (position p xs)
-find_is p xs = find_in p xs ∙ ap (option_and_then (slice_get xs)) (sym (place_is p xs))
+find_is p xs = find_in p xs ∙ ap (option_and_then (slice_get xs)) (sym (index_is p xs))
 
 pub list_any-map : {X Y : Type 0} (p : Y → Bool) (f : X → Y) (xs : List X) → list_any p (map f xs) ≡ list_any (λ x. p (f x)) xs
 list_any-map p f [] = refl

@@ -18,7 +18,7 @@ use Rattle.motion.proofs.CallerLemmas.{settled}
 abbrev name_in : StoredObject → List ℕ
 name_in o = o.name
 
--- a name that differs from each of some differs from the one at a place
+-- a name that differs from each of some differs from the one at a index
 differs_at : (name : List ℕ) (objects : List StoredObject) (id : ℕ) (o : StoredObject)
     → AllByRecursion (λ n. bytes_eq name n ≡ false) (map name_in objects) → slice_get objects id ≡ Some o → bytes_eq name o.name ≡ false
 differs_at name [] id o differ there = absurd (none-some o there)
@@ -39,7 +39,7 @@ found_by_name (x ∷ xs) (suc id) o distinct there =
     = nat_list_eq_equiv.symm o.name x.name ∙ differs_at x.name xs id o distinct.0 there in
     ap (λ b. cond b (Some x) (find (is_named o.name) xs)) other ∙ found_by_name xs id o distinct.1 there
 
--- the cells of the object at a place
+-- the cells of the object at a index
 cells_there : (s : Contents) (id : ℕ) (t : ℕ) (r : Option StoredObject) → slice_get s.objects id ≡ r
     → cells_at (history_of s) id t ≡ option_and_then (λ (o : StoredObject). state_of s o.name t) r
 cells_there s id t r there =
@@ -71,14 +71,14 @@ state_of_id s id epochs t sound are = state_step s id epochs t (slice_get s.obje
 abbrev pub cells_in : List StoredObject → ℕ → ℕ → Option (List Cell)
 cells_in objects id t = option_and_then (λ (o : StoredObject). state_at o.epochs t) (slice_get objects id)
 
-place_step : (s : Contents) (id t : ℕ) (r : Option StoredObject) → IsSound s → slice_get s.objects id ≡ r
+index_step : (s : Contents) (id t : ℕ) (r : Option StoredObject) → IsSound s → slice_get s.objects id ≡ r
     → cells_at (history_of s) id t ≡ option_and_then (λ (o : StoredObject). state_at o.epochs t) r
-place_step s id t None sound there = cells_there s id t None there
-place_step s id t (Some o) sound there = cells_of_object s id o t sound there
+index_step s id t None sound there = cells_there s id t None there
+index_step s id t (Some o) sound there = cells_of_object s id o t sound there
 
 -- a store tells of an id the cells of the object that stands there
-pub cells_of_place : (s : Contents) (id t : ℕ) → IsSound s → cells_at (history_of s) id t ≡ cells_in s.objects id t
-cells_of_place s id t sound = place_step s id t (slice_get s.objects id) sound refl
+pub cells_at_index : (s : Contents) (id t : ℕ) → IsSound s → cells_at (history_of s) id t ≡ cells_in s.objects id t
+cells_at_index s id t sound = index_step s id t (slice_get s.objects id) sound refl
 
 present_step : (s : Contents) (id t : ℕ) (r : Option StoredObject) → IsSound s → s.last_tick ≤ t → slice_get s.objects id ≡ r
     → option_map_or (is_present_at s.last_tick) r false ≡ is_some (cells_at (history_of s) id t)

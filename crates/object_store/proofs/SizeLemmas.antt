@@ -12,7 +12,7 @@ use Rattle.object_store.specs.Contents.{StoredObject, Contents, ids_in, is_named
 use Rattle.object_store.specs.Sound.{IsClass, IsSound}
 use Rattle.object_store.proofs.EntryLemmas.{all_at}
 use Rattle.object_store.proofs.IdLemmas.{ids_from, ids-cons}
-use Rattle.object_store.proofs.WriteLemmas.{exists_at, object_at_place}
+use Rattle.object_store.proofs.WriteLemmas.{exists_at, object_at_index}
 
 -- how many ids the first classes have
 abbrev total : ℕ → ℕ → List StoredObject → ℕ
@@ -82,8 +82,8 @@ few_objects s sound =
           omega (arith, sound.objects.within m k.0 k.1, limit)),
     )
 
--- so the place of an object is a number of 32 bits
-pub few_places : (s : Contents) (name : List ℕ) (place : ℕ) → IsSound s → position (is_named name) s.objects ≡ Some place → place < 2 ^ 32
-few_places s name place sound first =
-    let at = object_at_place name s.objects place first in
-    omega (arith, few_objects s sound, slice_get_within s.objects place at.0 at.1)
+-- so the index of an object is a number of 32 bits
+pub few_indexes : (s : Contents) (name : List ℕ) (index : ℕ) → IsSound s → position (is_named name) s.objects ≡ Some index → index < 2 ^ 32
+few_indexes s name index sound first =
+    let at = object_at_index name s.objects index first in
+    omega (arith, few_objects s sound, slice_get_within s.objects index at.0 at.1)

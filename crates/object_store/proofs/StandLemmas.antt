@@ -22,7 +22,7 @@ use Rattle.history.specs.History.{History, history}
 use Rattle.history.proofs.HistoryLemmas.{same_history, catalog-append, state-append}
 use Rattle.object_store.specs.Contents.{StoredObject, Contents, object_info, catalog_of, is_named, state_of, history_of}
 use Rattle.object_store.specs.Effects.{put_named, with_epoch_of, with_object, class_number, with_class, after_insert, after_update, after_remove}
-use Rattle.object_store.specs.Standing.{GrowsBy}
+use Rattle.object_store.specs.StandsFor.{GrowsBy}
 use Rattle.object_store.proofs.Lists.{list_any-map, All-find, is_some-find, slice_get-append}
 
 -- ---- one more write

@@ -11,9 +11,9 @@ use Rattle.object_store.specs.declared.fault.StoreFault.{StoreFault}
 use Rattle.object_store.specs.declared.fault.StoreFault.TheVariants.{NoMemory}
 use Rattle.object_store.specs.declared.objects.Done.{Done}
 use Rattle.object_store.specs.Contents.{StoredObject, Contents, catalog_of, history_of, ids_in, is_named, object_name}
-use Rattle.object_store.specs.Kept.{IsKept, Writes}
+use Rattle.object_store.specs.Invariant.{IsKept, Writes}
 use Rattle.object_store.specs.Sound.{IsSound}
-use Rattle.object_store.specs.Standing.{GrowsBy}
+use Rattle.object_store.specs.StandsFor.{GrowsBy}
 use Rattle.object_store.specs.Tables.{IsJudged}
 use Rattle.object_store.proofs.IdLemmas.{ids-none}
 

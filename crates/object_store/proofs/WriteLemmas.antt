@@ -23,13 +23,13 @@ use Rattle.object_store.specs.declared.objects.Undo.{Undo}
 use Rattle.object_store.specs.Contents.{StoredObject, Contents, attributes_of_number, is_named, ids_in}
 use Rattle.object_store.specs.Effects.{put_named, with_epoch_of, with_object, with_class, after_update, after_remove}
 use Rattle.object_store.specs.Ids.{with_member, without_member}
-use Rattle.object_store.specs.Kept.{IsKept, HasRoom, Writes}
-use Rattle.object_store.specs.Places.{at_place, restored_at, IsPutAt}
+use Rattle.object_store.specs.Invariant.{IsKept, HasRoom, Writes}
+use Rattle.object_store.specs.AtIndex.{at_index, restored_at, GainsEpochAt}
 use Rattle.object_store.specs.Sound.{AreCellsOf, IsSound, AreClasses, AreMembers}
-use Rattle.object_store.specs.Standing.{GrowsBy}
-use Rattle.object_store.specs.Undoing.{undone, IsRevertible, Undoes, HasSpareClass, without_last_class}
+use Rattle.object_store.specs.StandsFor.{GrowsBy}
+use Rattle.object_store.specs.TakingBack.{undone, IsRevertible, Undoes, HasEmptyLastClass, without_last_class}
 use Rattle.object_store.proofs.EntryLemmas.{all_at}
-use Rattle.object_store.proofs.Lists.{place_in, place_is, position-map, find_is, any_is_found}
+use Rattle.object_store.proofs.Lists.{index_in, index_is, position-map, find_is, any_is_found}
 use Rattle.object_store.proofs.IdLemmas.{class_in, ids-append, ids-same, ids-none}
 use Rattle.object_store.proofs.KindLemmas.{FitsIn}
 use Rattle.object_store.proofs.SoundLemmas.{put_sound, append_sound, class_sound, names-put_named, classes-put_named}
@@ -38,23 +38,23 @@ use Rattle.object_store.proofs.UndoLemmas.{IsFirst, first_at, put_there, put_bac
 
 -- ---- a known name
 
--- a change of the first object of a name, by its place
-at_first : (name : List ℕ) (change : List Epoch → List Epoch) (p : Epoch) (objects : List StoredObject) (place : ℕ) (o : StoredObject) → IsFirst name objects place o → change o.epochs ≡ put o.epochs p → at_place place change objects ≡ put_named name p objects
-at_first name change p [] place o first same = absurd first
+-- a change of the first object of a name, by its index
+at_first : (name : List ℕ) (change : List Epoch → List Epoch) (p : Epoch) (objects : List StoredObject) (index : ℕ) (o : StoredObject) → IsFirst name objects index o → change o.epochs ≡ put o.epochs p → at_index index change objects ≡ put_named name p objects
+at_first name change p [] index o first same = absurd first
 at_first name change p (x ∷ xs) zero o first same =
     let here : change x.epochs ≡ put x.epochs p = rw first.1 same in
     let y : List Epoch → StoredObject = λ ps. record { name = x.name; class = x.class; epochs = ps } in
     ap (λ ps. y ps ∷ xs) here ∙ ap (λ b. if b then (y (put x.epochs p) ∷ xs) else (x ∷ put_named name p xs)) (sym first.0)
-at_first name change p (x ∷ xs) (suc place) o first same =
+at_first name change p (x ∷ xs) (suc index) o first same =
     let y : StoredObject = record { name = x.name; class = x.class; epochs = put x.epochs p } in
-    ap (λ os. x ∷ os) (at_first name change p xs place o first.1 same) ∙ ap (λ b. if b then (y ∷ xs) else (x ∷ put_named name p xs)) (sym first.0)
+    ap (λ os. x ∷ os) (at_first name change p xs index o first.1 same) ∙ ap (λ b. if b then (y ∷ xs) else (x ∷ put_named name p xs)) (sym first.0)
 
 abbrev name_in : StoredObject → List ℕ
 name_in o = o.name
 
 -- a name stands where it stood
-pub place-put_named : (name : List ℕ) (p : Epoch) (objects : List StoredObject) → position (is_named name) (put_named name p objects) ≡ position (is_named name) objects
-place-put_named name p objects =
+pub index-put_named : (name : List ℕ) (p : Epoch) (objects : List StoredObject) → position (is_named name) (put_named name p objects) ≡ position (is_named name) objects
+index-put_named name p objects =
     sym (position-map (bytes_eq name) name_in (put_named name p objects))
     ∙ ap (position (bytes_eq name)) (names-put_named name p objects)
     ∙ position-map (bytes_eq name) name_in objects
@@ -64,7 +64,7 @@ length-put_named name p objects = sym (length-map (put_named name p objects) nam
 
 -- the answer of a write to a known name
 abbrev pub known_done : ℕ → Option Epoch → ℕ → Done
-known_done place replaced last = record { id = place; undo = record { id = place; is_new = false; replaced = replaced; last_tick = last } }
+known_done index replaced last = record { id = index; undo = record { id = index; is_new = false; replaced = replaced; last_tick = last } }
 
 kept_sound : (s : Contents) (members : List (List ℕ)) (name : List ℕ) (p : Epoch) (o : StoredObject) → IsKept members s → s.last_tick ≤ p.from → p.from ≤ LAST_TICK → find (is_named name) s.objects ≡ Some o → FitsIn (attributes_of_number s.classes o.class) p.cells → IsKept members (with_epoch_of s name p)
 kept_sound s members name p o kept later tick found fits = record {
@@ -79,35 +79,35 @@ kept_sound s members name p o kept later tick found fits = record {
   };
 }
 
-pub known_writes : (s : Contents) (members : List (List ℕ)) (name : List ℕ) (place : ℕ) (o : StoredObject) (p : Epoch) (replaced : Option Epoch) (epoch : List Epoch → Epoch) (objects : List StoredObject) (now : ℕ)
-    → IsKept members s → s.last_tick ≤ now → now ≤ LAST_TICK → position (is_named name) s.objects ≡ Some place → slice_get s.objects place ≡ Some o → FitsIn (attributes_of_number s.classes o.class) p.cells
-    → IsPutAt place epoch replaced s.objects objects → epoch o.epochs ≡ p → p.from ≡ now
-    → Writes name s (with_epoch_of s name p) members (record { classes = s.classes; objects = objects; last_tick = now }) (known_done place replaced s.last_tick)
-known_writes s members name place o p replaced epoch objects now kept later tick first there fits written is from =
-    let at = first_at name s.objects place o first there in
+pub known_writes : (s : Contents) (members : List (List ℕ)) (name : List ℕ) (index : ℕ) (o : StoredObject) (p : Epoch) (replaced : Option Epoch) (epoch : List Epoch → Epoch) (objects : List StoredObject) (now : ℕ)
+    → IsKept members s → s.last_tick ≤ now → now ≤ LAST_TICK → position (is_named name) s.objects ≡ Some index → slice_get s.objects index ≡ Some o → FitsIn (attributes_of_number s.classes o.class) p.cells
+    → GainsEpochAt index epoch replaced s.objects objects → epoch o.epochs ≡ p → p.from ≡ now
+    → Writes name s (with_epoch_of s name p) members (record { classes = s.classes; objects = objects; last_tick = now }) (known_done index replaced s.last_tick)
+known_writes s members name index o p replaced epoch objects now kept later tick first there fits written is from =
+    let at = first_at name s.objects index o first there in
     let found : find (is_named name) s.objects ≡ Some o = find_is (is_named name) s.objects ∙ ap (option_and_then (slice_get s.objects)) first ∙ there in
     let back : TakesBack o.epochs (put o.epochs p) replaced = subst (λ q. TakesBack o.epochs (put o.epochs q) replaced) is (written.back o there) in
     let new : objects ≡ put_named name p s.objects =
-    written.written ∙ at_first name (λ epochs. put epochs (epoch epochs)) p s.objects place o at (ap (put o.epochs) is)
+    written.written ∙ at_first name (λ epochs. put epochs (epoch epochs)) p s.objects index o at (ap (put o.epochs) is)
     in
-    let undo : Undo = record { id = place; is_new = false; replaced = replaced; last_tick = s.last_tick } in
+    let undo : Undo = record { id = index; is_new = false; replaced = replaced; last_tick = s.last_tick } in
     let before : undone undo (with_epoch_of s name p) ≡ s =
-    ap (λ os. let c : Contents = record { classes = s.classes; objects = os; last_tick = s.last_tick } in c) (put_back name p replaced s.objects place o at back.before)
+    ap (λ os. let c : Contents = record { classes = s.classes; objects = os; last_tick = s.last_tick } in c) (put_back name p replaced s.objects index o at back.before)
     in
-    let done : Writes name s (with_epoch_of s name p) members (with_epoch_of s name p) (known_done place replaced s.last_tick) = record {
+    let done : Writes name s (with_epoch_of s name p) members (with_epoch_of s name p) (known_done index replaced s.last_tick) = record {
       contents = refl;
       kept = kept_sound s members name p o kept (subst (λ n. s.last_tick ≤ n) (sym from) later) (subst (λ n. n ≤ LAST_TICK) (sym from) tick) found fits;
-      id = place-put_named name p s.objects ∙ first;
+      id = index-put_named name p s.objects ∙ first;
       undo = record {
         revertible = record {
-          left = (record o { epochs = put o.epochs p }, put_there name p s.objects place o at, back.stands);
+          left = (record o { epochs = put o.epochs p }, put_there name p s.objects index o at, back.stands);
           sound = subst IsSound (sym before) kept.sound;
         };
         before = before;
       };
     } in
     let path : with_epoch_of s name p ≡ record { classes = s.classes; objects = objects; last_tick = now } = λ i. record { classes = s.classes; objects = sym new i; last_tick = from i } in
-    subst (λ (c : Contents). Writes name s (with_epoch_of s name p) members c (known_done place replaced s.last_tick)) path done
+    subst (λ (c : Contents). Writes name s (with_epoch_of s name p) members c (known_done index replaced s.last_tick)) path done
 
 -- ---- a new name
 
@@ -120,10 +120,10 @@ last_step true y rest r n none later = absurd (none-some y (sym none))
 last_step false y rest r n none later = ap (option_map suc) (later none)
 
 -- an element that is pushed stands last
-pub place_last : {X : Type 0} (q : X → Bool) (xs : List X) (x : X) → find q xs ≡ None → q x ≡ true → place_in q (xs ++ x ∷ []) ≡ Some (length xs)
-place_last q [] x none passes = ap (λ b. cond b (Some 0) None) passes
-place_last q (y ∷ ys) x none passes =
-    last_step (q y) y (find q ys) (place_in q (ys ++ x ∷ [])) (length ys) none (λ later. place_last q ys x later passes)
+pub index_last : {X : Type 0} (q : X → Bool) (xs : List X) (x : X) → find q xs ≡ None → q x ≡ true → index_in q (xs ++ x ∷ []) ≡ Some (length xs)
+index_last q [] x none passes = ap (λ b. cond b (Some 0) None) passes
+index_last q (y ∷ ys) x none passes =
+    last_step (q y) y (find q ys) (index_in q (ys ++ x ∷ [])) (length ys) none (λ later. index_last q ys x later passes)
 
 room_class : (r : Option ClassInfo) (n : ℕ) → IsSomeAnd r (λ k. n < k.capacity) → (k : ClassInfo) × (r ≡ Some k) × (n < k.capacity)
 room_class None n room = absurd room
@@ -171,7 +171,7 @@ entered_writes s members number name p timeline objects new_members id now kept 
     let k = room_class (slice_get s.classes number) (length (ids_in s.objects number)) room in
     let within : number < length s.classes = slice_get_within s.classes number k.0 k.1 in
     let named : attributes_of_number s.classes number ≡ k.0.attributes = ap (λ r. option_map_or (λ (k : ClassInfo). k.attributes) r []) k.1 in
-    let here : place_in (is_named name) (s.objects ++ o ∷ []) ≡ Some n = place_last (is_named name) s.objects o new (bytes_eq_refl name) in
+    let here : index_in (is_named name) (s.objects ++ o ∷ []) ≡ Some n = index_last (is_named name) s.objects o new (bytes_eq_refl name) in
     let undo : Undo = record { id = n; is_new = true; replaced = None; last_tick = s.last_tick } in
     let before : undone undo (with_object s number name p) ≡ s =
     ap (λ os. let c : Contents = record { classes = s.classes; objects = os; last_tick = s.last_tick } in c) (take_pushed s.objects o)
@@ -188,7 +188,7 @@ entered_writes s members number name p timeline objects new_members id now kept 
         };
         members = members_with members s number o kept.members within refl p.from;
       };
-      id = place_is (is_named name) (s.objects ++ o ∷ []) ∙ here;
+      id = index_is (is_named name) (s.objects ++ o ∷ []) ∙ here;
       undo = record {
         revertible = record { left = omega (arith, length-append s.objects (o ∷ [])); sound = subst IsSound (sym before) kept.sound };
         before = before;
@@ -208,7 +208,7 @@ entered_writes s members number name p timeline objects new_members id now kept 
 
 -- ---- taking back
 
--- a list ends with what stands at its last place
+-- a list ends with what stands at its last index
 split_last : {X : Type 0} (xs : List X) (n : ℕ) (x : X) → length xs ≡ suc n → slice_get xs n ≡ Some x → xs ≡ take n xs ++ x ∷ []
 split_last [] n x len there = absurd (none-some x there)
 split_last (y ∷ []) zero x len there = ap (λ y. y ∷ []) (same_Some y x there)
@@ -294,16 +294,16 @@ exists_at (x ∷ xs) (suc i) within = exists_at xs i (omega arith)
 within_step : (n len i : ℕ) → cond (nat_lt n len) (Some n) None ≡ Some i → i < len
 within_step n len i found = grind (arith, nat_tests)
 
--- a place that was found has its object
-pub object_at_place : (name : List ℕ) (objects : List StoredObject) (place : ℕ) → position (is_named name) objects ≡ Some place → (o : StoredObject) × (slice_get objects place ≡ Some o)
-object_at_place name objects place first = exists_at objects place (within_step (position_or_len (is_named name) objects) (length objects) place first)
+-- a index that was found has its object
+pub object_at_index : (name : List ℕ) (objects : List StoredObject) (index : ℕ) → position (is_named name) objects ≡ Some index → (o : StoredObject) × (slice_get objects index ≡ Some o)
+object_at_index name objects index first = exists_at objects index (within_step (position_or_len (is_named name) objects) (length objects) index first)
 
 -- cells fit where they are there
 pub some_fits : (attributes : List Attribute) (cells : List Cell) → AreCellsOf attributes cells → FitsIn attributes (Some cells)
 some_fits attributes cells fits cs is = subst (AreCellsOf attributes) (same_Some cells cs is) fits
 
-pub if_at : (objects : List StoredObject) (place : ℕ) (o : StoredObject) (P : StoredObject → Type 0) → IfSome (slice_get objects place) P → slice_get objects place ≡ Some o → P o
-if_at objects place o P holds there = subst (λ r. IfSome r P) there holds
+pub if_at : (objects : List StoredObject) (index : ℕ) (o : StoredObject) (P : StoredObject → Type 0) → IfSome (slice_get objects index) P → slice_get objects index ≡ Some o → P o
+if_at objects index o P holds there = subst (λ r. IfSome r P) there holds
 
 -- each object can be written at a tick from the last write on
 pub begun_by : (s : Contents) (now : ℕ) → IsSound s → s.last_tick ≤ now → All (λ (o : StoredObject). AreBegunBy o.epochs now) s.objects

@@ -1,4 +1,4 @@
--- What a command writes, by the places of the attributes.
+-- What a command writes, by the indexes of the attributes.
 use Rattle.std.specs.Prelude.{ℕ, ◌≤◌, unsigned_abs, All, IfSome, Option, List, map}
 use Rattle.std.specs.List.{filter_map, position}
 use Rattle.std.specs.Option.{option_map}
@@ -11,9 +11,9 @@ use Rattle.motion.specs.declared.cell.NamedSet.{NamedSet}
 use Rattle.motion.specs.declared.cell.Place.{Place}
 use Rattle.history.specs.Write.{Attribute}
 
--- a setting by the place of its attribute, nothing where there is none of its name
+-- a setting by the index of its attribute, nothing where there is none of its name
 abbrev pub change_of : List Attribute → NamedSet → Option (ℕ × Given)
-change_of attributes set = option_map (λ place. (place, set.given)) (position (λ a. bytes_eq set.name a.name) attributes)
+change_of attributes set = option_map (λ index. (index, set.given)) (position (λ a. bytes_eq set.name a.name) attributes)
 
 abbrev pub changes_of : List Attribute → List NamedSet → List (ℕ × Given)
 changes_of attributes sets = filter_map (change_of attributes) sets

@@ -45,7 +45,7 @@ state_of s name t = option_and_then (λ o. state_at o.epochs t) (find (is_named 
 abbrev pub history_of : Contents → History
 history_of s = record { catalog = catalog_of s; state = state_of s }
 
--- the places of the objects of a class, by its number
+-- the indexes of the objects of a class, by its number
 abbrev pub ids_in : List StoredObject → ℕ → List ℕ
 ids_in objects number = map (λ e. e.0) (filter (λ e. e.1.class == number) (enumerate_from 0 objects))
 

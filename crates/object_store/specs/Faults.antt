@@ -59,7 +59,7 @@ is_placed place = is_some place.at || is_some place.moving
 
 -- `at` or `move` is written of a class without positions
 abbrev pub is_misplaced : Option ClassInfo → Place → Bool
-is_misplaced class place = is_placed place && not (option_map_or (λ k. k.point) class false)
+is_misplaced class index = is_placed index && not (option_map_or (λ k. k.point) class false)
 
 -- the class of the object of a name
 abbrev pub class_of_object : Catalog → List ℕ → Option ClassInfo

@@ -4,7 +4,7 @@ use Rattle.object_store.specs.declared.fault.StoreFault.{StoreFault}
 use Rattle.object_store.specs.declared.fault.StoreFault.TheVariants.{NoMemory}
 use Rattle.object_store.specs.declared.tables.Tables.{Tables}
 use Rattle.object_store.specs.Contents.{Contents}
-use Rattle.object_store.specs.Stored.{objects_of}
+use Rattle.object_store.specs.ObjectView.{objects_of}
 
 abbrev pub contents_of : Tables → Contents
 contents_of t = record { classes = t.schema; objects = objects_of t.objects.entries; last_tick = t.last_tick }

@@ -11,7 +11,7 @@ use motion::{Cell, Given, NamedSet, Place, write_cells};
 use std::alloc::{AllocError, Global};
 use tick_set::LAST_TICK;
 
-/// Writes to the cells at these places, in their order.
+/// Writes to the cells of these indexes, in their order.
 pub type Changes = Vec<(usize, Given)>;
 
 /// Fills the buffer with what a command writes.
@@ -61,14 +61,14 @@ fn named(x: Given, y: Given) -> [NamedSet; 2]
     ]
 }
 
-/// Appends these settings, by the places of their attributes.
+/// Appends these settings, by the indexes of their attributes.
 fn push(changes: &mut Changes, class: &Class, sets: &[NamedSet]) -> Result<(), AllocError>
     ensures { OnOk result (changes.new.items ≡ changes.old.items ++ changes_of class.now.attributes sets.now) }
 {
     let mut rest = sets;
     while let Some((set, later)) = rest.split_first() {
-        if let Some(place) = class.attr_of(&set.name) {
-            changes.push((place, set.given))?;
+        if let Some(index) = class.attr_of(&set.name) {
+            changes.push((index, set.given))?;
         }
         rest = later;
     }

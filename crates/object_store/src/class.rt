@@ -114,7 +114,7 @@ impl Class {
         &self.attrs
     }
 
-    /// The place of the attribute of a name. None exactly where there is none.
+    /// The index of the attribute of a name. None exactly where there is none.
     pub fn attr_of(&self, name: &Word) -> Option<usize>
         ensures { result ≡ position (λ a. bytes_eq name.now a.name) self.now.attributes }
     {

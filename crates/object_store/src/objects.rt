@@ -7,9 +7,9 @@ ghost use Rattle.motion.specs.Cells.{AreCellsAt, AreChanges, changed};
 ghost use Rattle.motion.specs.Timeline.{state_at, AreBegunBy, StandsAsLeft};
 ghost use Rattle.tick_set.specs.declared.spans.TheConstants.{LAST_TICK};
 ghost use Rattle.object_store.specs.Contents.{StoredObject, is_named, is_present_at};
-ghost use Rattle.object_store.specs.Stored.{objects_of};
+ghost use Rattle.object_store.specs.ObjectView.{objects_of};
 ghost use Rattle.object_store.specs.Ids.{with_member, without_member};
-ghost use Rattle.object_store.specs.Places.{restored_at, IsPutAt};
+ghost use Rattle.object_store.specs.AtIndex.{restored_at, GainsEpochAt};
 
 use crate::judge::Found;
 use crate::members::Members;
@@ -29,7 +29,7 @@ pub struct Object {
     pub timeline: Timeline,
 }
 
-/// The objects by name; an id is a place.
+/// The objects by name; an id is an index.
 pub type Objects = IndexMap<Word, Object>;
 
 /// What a writing call made of its object, by which it can be taken back.
@@ -66,81 +66,81 @@ impl Object {
     }
 }
 
-/// The object at a place has these cells from tick `now` on.
+/// The object of an index has these cells from tick `now` on.
 pub fn begin_at(
     objects: &mut Objects,
-    place: usize,
+    index: usize,
     now: u32,
     cells: Vec<Cell>,
 ) -> Result<Option<Epoch>, AllocError>
-    requires place { place < index_map_len objects.old }
+    requires index { index < index_map_len objects.old }
     requires tick { now ≤ LAST_TICK }
     requires after { All (λ o. AreBegunBy o.epochs now) (objects_of objects.old.entries) }
     requires written { AreCellsAt cells.items now }
-    ensures ok { IfOk result (λ replaced. IsPutAt place (λ _. record { from = now; cells = Some cells.items }) replaced (objects_of objects.old.entries) (objects_of objects.new.entries)) }
+    ensures ok { IfOk result (λ replaced. GainsEpochAt index (λ _. record { from = now; cells = Some cells.items }) replaced (objects_of objects.old.entries) (objects_of objects.new.entries)) }
     ensures err { OnErr result (objects_of objects.new.entries ≡ objects_of objects.old.entries) }
 {
-    let object = &mut objects[place];
+    let object = &mut objects[index];
     object.timeline.begin_with(now, cells)
 }
 
-/// Writes these values at tick `now` to the object at a place.
+/// Writes these values at tick `now` to the object of an index.
 pub fn write_at(
     objects: &mut Objects,
-    place: usize,
+    index: usize,
     now: u32,
     changes: &[(usize, Given)],
 ) -> Result<Option<Epoch>, AllocError>
-    requires place { place < index_map_len objects.old }
+    requires index { index < index_map_len objects.old }
     requires tick { now ≤ LAST_TICK }
     requires after { All (λ o. AreBegunBy o.epochs now) (objects_of objects.old.entries) }
     requires given { AreChanges changes.now }
-    ensures ok { IfOk result (λ replaced. IsPutAt place (λ epochs. record { from = now; cells = option_map (changed now changes.now) (state_at epochs now) }) replaced (objects_of objects.old.entries) (objects_of objects.new.entries)) }
+    ensures ok { IfOk result (λ replaced. GainsEpochAt index (λ epochs. record { from = now; cells = option_map (changed now changes.now) (state_at epochs now) }) replaced (objects_of objects.old.entries) (objects_of objects.new.entries)) }
     ensures err { OnErr result (objects_of objects.new.entries ≡ objects_of objects.old.entries) }
 {
-    let object = &mut objects[place];
+    let object = &mut objects[index];
     object.timeline.write(now, changes)
 }
 
-/// The object at a place is absent from tick `now` on.
-pub fn vanish_at(objects: &mut Objects, place: usize, now: u32) -> Result<Option<Epoch>, AllocError>
-    requires place { place < index_map_len objects.old }
+/// The object of an index is absent from tick `now` on.
+pub fn vanish_at(objects: &mut Objects, index: usize, now: u32) -> Result<Option<Epoch>, AllocError>
+    requires index { index < index_map_len objects.old }
     requires tick { now ≤ LAST_TICK }
     requires after { All (λ o. AreBegunBy o.epochs now) (objects_of objects.old.entries) }
-    ensures ok { IfOk result (λ replaced. IsPutAt place (λ _. record { from = now; cells = None }) replaced (objects_of objects.old.entries) (objects_of objects.new.entries)) }
+    ensures ok { IfOk result (λ replaced. GainsEpochAt index (λ _. record { from = now; cells = None }) replaced (objects_of objects.old.entries) (objects_of objects.new.entries)) }
     ensures err { OnErr result (objects_of objects.new.entries ≡ objects_of objects.old.entries) }
 {
-    let object = &mut objects[place];
+    let object = &mut objects[index];
     object.timeline.vanish(now)
 }
 
-/// Takes the last epoch of the object at a place away, or puts the one that it had replaced in its place.
+/// Takes the last epoch of the object of an index away, or puts the one that it had replaced in its place.
 /// It takes no memory.
-pub fn take_back_at(objects: &mut Objects, place: usize, replaced: Option<Epoch>)
-    requires place { place < index_map_len objects.old }
-    requires left { (o : StoredObject) → slice_get (objects_of objects.old.entries) place ≡ Some o → StandsAsLeft o.epochs replaced }
-    ensures { objects_of objects.new.entries ≡ restored_at place replaced (objects_of objects.old.entries) }
+pub fn take_back_at(objects: &mut Objects, index: usize, replaced: Option<Epoch>)
+    requires index { index < index_map_len objects.old }
+    requires left { (o : StoredObject) → slice_get (objects_of objects.old.entries) index ≡ Some o → StandsAsLeft o.epochs replaced }
+    ensures { objects_of objects.new.entries ≡ restored_at index replaced (objects_of objects.old.entries) }
 {
-    let object = &mut objects[place];
+    let object = &mut objects[index];
     object.timeline.take_back(replaced);
 }
 
-/// The place of the object of a name.
-pub fn place_of(objects: &Objects, name: &Word) -> Option<usize>
-    ensures place { result ≡ position (is_named name.now) (objects_of objects.now.entries) }
-    ensures within { IfSome result (λ place. place < index_map_len objects.now) }
+/// The index of the object of a name.
+pub fn index_of(objects: &Objects, name: &Word) -> Option<usize>
+    ensures index { result ≡ position (is_named name.now) (objects_of objects.now.entries) }
+    ensures within { IfSome result (λ index. index < index_map_len objects.now) }
 {
     objects.get_index_of(name)
 }
 
-/// The object at a place, as an insert into the class `number` finds it.
-pub fn found_at(objects: &Objects, place: usize, number: u32, now: u32) -> Found
-    requires place { place < index_map_len objects.now }
+/// The object of an index, as an insert into the class `number` finds it.
+pub fn found_at(objects: &Objects, index: usize, number: u32, now: u32) -> Found
+    requires index { index < index_map_len objects.now }
     requires begun { All (λ o. AreBegunBy o.epochs now) (objects_of objects.now.entries) }
-    ensures { IfSome (slice_get (objects_of objects.now.entries) place) (λ o.
+    ensures { IfSome (slice_get (objects_of objects.now.entries) index) (λ o.
         result ≡ record { elsewhere = not (o.class == number); present = is_present_at now o; past_capacity = false }) }
 {
-    let object = &objects[place];
+    let object = &objects[index];
     Found {
         elsewhere: object.class != number,
         present: object.is_present(now),
@@ -186,10 +186,10 @@ pub fn leave(members: &mut Vec<Members>, objects: &mut Objects)
     ensures members { IfSome (slice_get (objects_of objects.old.entries) (index_map_len objects.old - 1)) (λ o.
         members.new.items ≡ without_member members.old.items o.class) }
 {
-    let place = objects.len() - 1;
-    let number = objects[place].class;
+    let index = objects.len() - 1;
+    let number = objects[index].class;
     members[number as usize].pop();
-    objects.truncate(place);
+    objects.truncate(index);
 }
 
 /// The answer of a write to an object whose name was known.

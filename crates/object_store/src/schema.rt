@@ -27,7 +27,7 @@ impl Model for Schema {
     ghost use Rattle.std.specs.Prelude.{List};
     ghost use Rattle.history.specs.Catalog.{ClassInfo};
     ghost use Rattle.std.specs.Map.{values_of};
-    ghost use Rattle.object_store.specs.Keyed.{AreKeyed};
+    ghost use Rattle.object_store.specs.ClassMap.{AreKeyed};
 
     ghost Value = { List ClassInfo };
 

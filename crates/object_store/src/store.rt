@@ -13,12 +13,12 @@ ghost use Rattle.object_store.specs.Contents.{catalog_of, is_named, empty_conten
 ghost use Rattle.object_store.specs.Effects.{with_class, after_insert, after_update, after_remove};
 ghost use Rattle.object_store.specs.Faults.{class_fault, insert_fault, update_fault, remove_fault};
 ghost use Rattle.object_store.specs.Sound.{IsSound};
-ghost use Rattle.object_store.specs.Standing.{GrowsBy};
-ghost use Rattle.object_store.specs.Undoing.{undone, without_last_class, HasSpareClass, IsRevertible, Undoes};
+ghost use Rattle.object_store.specs.StandsFor.{GrowsBy};
+ghost use Rattle.object_store.specs.TakingBack.{undone, without_last_class, HasEmptyLastClass, IsRevertible, Undoes};
 
 use crate::class::AttrDef;
 use crate::fault::StoreFault;
-use crate::objects::{Done, ObjectId, Undo, place_of};
+use crate::objects::{Done, ObjectId, Undo, index_of};
 use crate::schema::{ClassId, Schema};
 use crate::tables::Tables;
 use fixed_point::Word;
@@ -42,7 +42,7 @@ impl Model for Store {
 
     ghost Value = { Contents };
 
-    ghost use Rattle.object_store.specs.Kept.{IsKept};
+    ghost use Rattle.object_store.specs.Invariant.{IsKept};
     ghost use Rattle.object_store.specs.Tables.{contents_of, members_of};
 
     ghost view = { λ a. contents_of a.tables };
@@ -93,7 +93,7 @@ impl Store {
         ensures ok { OnOk result (self.new ≡ with_class self.old name capacity point attrs.now) }
         ensures number { IfOk result (λ number. number ≡ length self.old.classes) }
         ensures stands { OnOk result (GrowsBy self.old self.new (ClassWrite name capacity point attrs.now)) }
-        ensures spare { OnOk result (HasSpareClass self.new) }
+        ensures spare { OnOk result (HasEmptyLastClass self.new) }
         ensures undo { OnOk result (without_last_class self.new ≡ self.old) }
 
         ensures accepted { OnOk result (class_fault (catalog_of self.old) name point attrs.now ≡ None) }
@@ -106,7 +106,7 @@ impl Store {
     /// Takes the last class away, which has no object. It takes no memory.
     pub fn remove_last_class(&mut self)
         requires some { 0 < length self.old.classes }
-        requires spare { HasSpareClass self.old }
+        requires spare { HasEmptyLastClass self.old }
         ensures { self.new ≡ without_last_class self.old }
     {
         self.tables.remove_last_class();
@@ -203,8 +203,8 @@ impl Store {
     pub fn id_of(&self, name: &Word) -> Option<ObjectId>
         ensures { result ≡ position (is_named name.now) self.now.objects }
     {
-        match place_of(&self.tables.objects, name) {
-            Some(place) => Some(place as u32),
+        match index_of(&self.tables.objects, name) {
+            Some(index) => Some(index as u32),
             None => None,
         }
     }

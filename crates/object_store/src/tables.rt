@@ -8,10 +8,10 @@ ghost use Rattle.object_store.specs.Changes.{AreGiven};
 ghost use Rattle.object_store.specs.Contents.{attributes_of_number, catalog_of, is_named, state_of};
 ghost use Rattle.object_store.specs.Effects.{with_class, with_object, with_epoch_of, after_insert, after_update, after_remove};
 ghost use Rattle.object_store.specs.Faults.{class_fault, fault_of_class, insert_fault, update_fault, remove_fault};
-ghost use Rattle.object_store.specs.Kept.{HasRoom, IsKept, Writes};
+ghost use Rattle.object_store.specs.Invariant.{HasRoom, IsKept, Writes};
 ghost use Rattle.object_store.specs.Sound.{AreCellsOf};
 ghost use Rattle.object_store.specs.Tables.{contents_of, members_of, IsJudged, IsUnchanged};
-ghost use Rattle.object_store.specs.Undoing.{undone, without_last_class, HasSpareClass, IsRevertible};
+ghost use Rattle.object_store.specs.TakingBack.{undone, without_last_class, HasEmptyLastClass, IsRevertible};
 
 use crate::cells::{Changes, fill, inserted};
 use crate::class::{AttrDef, Class, repeats_attribute};
@@ -19,7 +19,7 @@ use crate::fault::StoreFault;
 use crate::judge::{Found, insert_fault, update_fault};
 use crate::members::Members;
 use crate::objects::{
-    Done, Objects, Undo, begin_at, enter, entered, found_at, known, leave, place_of, take_back_at,
+    Done, Objects, Undo, begin_at, enter, entered, found_at, index_of, known, leave, take_back_at,
     vanish_at, write_at,
 };
 use crate::schema::{CLASS_LIMIT, ClassId, Schema};
@@ -96,7 +96,7 @@ impl Tables {
     pub fn remove_last_class(&mut self)
         requires kept { IsKept (members_of self.old) (contents_of self.old) }
         requires some { 0 < length (contents_of self.old).classes }
-        requires spare { HasSpareClass (contents_of self.old) }
+        requires spare { HasEmptyLastClass (contents_of self.old) }
         ensures contents { contents_of self.new ≡ without_last_class (contents_of self.old) }
         ensures kept { IsKept (members_of self.new) (contents_of self.new) }
     {
@@ -126,7 +126,7 @@ impl Tables {
         let Some(number) = self.schema.class_of(class) else {
             return Err(StoreFault::UnknownName);
         };
-        let at = place_of(&self.objects, name);
+        let at = index_of(&self.objects, name);
         if let Some(fault) = self.judge_insert(now, class, number, name, at, place, sets) {
             return Err(fault);
         }
@@ -134,7 +134,7 @@ impl Tables {
         Ok(done)
     }
 
-    /// The first fault of an insert into the class `number`, of a name whose place was looked up.
+    /// The first fault of an insert into the class `number`, of a name whose index was looked up.
     fn judge_insert(
         &self,
         now: u32,
@@ -197,7 +197,7 @@ impl Tables {
         }
     }
 
-    /// The object at a place, which is of the class `number`, has these cells from tick `now` on.
+    /// The object of an index, which is of the class `number`, has these cells from tick `now` on.
     fn begin(
         &mut self,
         now: u32,
@@ -268,7 +268,7 @@ impl Tables {
             (is_some (state_of (contents_of self.old) name.now now)) name.now place.now sets.now) result }
         ensures err { OnErr result (IsUnchanged self.old self.new) }
     {
-        let Some(at) = place_of(&self.objects, name) else {
+        let Some(at) = index_of(&self.objects, name) else {
             return Err(StoreFault::UnknownName);
         };
         if let Some(fault) = self.judge_update(now, name, at, place, sets) {
@@ -278,7 +278,7 @@ impl Tables {
         Ok(done)
     }
 
-    /// The first fault of an update of the object at a place.
+    /// The first fault of an update of the object of an index.
     fn judge_update(
         &self,
         now: u32,
@@ -298,7 +298,7 @@ impl Tables {
         update_fault(kind, object.is_present(now), place, sets)
     }
 
-    /// Updates the object at a place.
+    /// Updates the object of an index.
     fn write_update(
         &mut self,
         now: u32,
@@ -334,7 +334,7 @@ impl Tables {
         ensures judged { IsJudged (remove_fault (catalog_of (contents_of self.old)) (is_some (state_of (contents_of self.old) name.now now)) name.now) result }
         ensures err { OnErr result (IsUnchanged self.old self.new) }
     {
-        let Some(at) = place_of(&self.objects, name) else {
+        let Some(at) = index_of(&self.objects, name) else {
             return Err(StoreFault::UnknownName);
         };
         if let Some(fault) = self.judge_remove(now, name, at) {
@@ -344,7 +344,7 @@ impl Tables {
         Ok(done)
     }
 
-    /// The first fault of a removal of the object at a place.
+    /// The first fault of a removal of the object of an index.
     fn judge_remove(&self, now: u32, name: &Word, at: usize) -> Option<StoreFault>
         requires kept { IsKept (members_of self.now) (contents_of self.now) }
         requires after { self.now.last_tick ≤ now }
@@ -358,7 +358,7 @@ impl Tables {
         }
     }
 
-    /// Removes the object at a place.
+    /// Removes the object of an index.
     fn write_remove(&mut self, now: u32, name: &Word, at: usize) -> Result<Done, AllocError>
         requires kept { IsKept (members_of self.old) (contents_of self.old) }
         requires tick { now ≤ LAST_TICK }

@@ -1,7 +1,7 @@
 ghost use Rattle.std.specs.Prelude.{◌≡◌, ◌<◌, ◌≤◌, All, IfOk, IfSome, unsigned_abs};
 ghost use Rattle.fixed_point.specs.declared.number.TheConstants.{READ_LIMIT};
 ghost use Rattle.motion.specs.Cells.{IsGiven};
-ghost use Rattle.object_store.specs.Undoing.{HasSpareClass, IsRevertible};
+ghost use Rattle.object_store.specs.TakingBack.{HasEmptyLastClass, IsRevertible};
 
 use super::*;
 use fixed_point::{Fix, Point, Slope, Word};

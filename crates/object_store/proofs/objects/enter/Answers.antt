@@ -2,7 +2,7 @@ use Rattle.std.proofs.Common.{◌≡◌, List, [], ◌∷◌, ◌++◌, None, ap
 use Rattle.std.specs.List.{find}
 use Rattle.object_store.specs.declared.objects.Object.{Object}
 use Rattle.object_store.specs.Contents.{is_named}
-use Rattle.object_store.specs.Stored.{objects_of}
+use Rattle.object_store.specs.ObjectView.{objects_of}
 use Rattle.object_store.proofs.EntryLemmas.{entered_last, on_ok}
 use Rattle.object_store.proofs.objects.enter.Goals as goal
 

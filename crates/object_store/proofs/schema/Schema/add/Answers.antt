@@ -5,7 +5,7 @@ use Rattle.std.specs.Str.{bytes_eq}
 use Rattle.history.specs.Catalog.{ClassInfo}
 use Rattle.indexmap.proofs.CallerLemmas.{insert_entry-new}
 use Rattle.object_store.specs.declared.schema.TheConstants.{CLASS_LIMIT}
-use Rattle.object_store.specs.Keyed.{AreKeyed}
+use Rattle.object_store.specs.ClassMap.{AreKeyed}
 use Rattle.object_store.proofs.ClassLemmas.{entered, lookup_keyed, name_of}
 use Rattle.object_store.proofs.schema.Schema.add.Goals as goal
 

@@ -3,7 +3,7 @@ use Rattle.std.specs.Prelude.{OnOk}
 use Rattle.history.specs.Write.{Class}
 use Rattle.object_store.specs.Contents.{Contents}
 use Rattle.object_store.specs.Effects.{with_class}
-use Rattle.object_store.specs.Standing.{GrowsBy}
+use Rattle.object_store.specs.StandsFor.{GrowsBy}
 use Rattle.object_store.specs.Tables.{contents_of}
 use Rattle.object_store.proofs.StoreLemmas.{class_stands}
 use Rattle.object_store.proofs.WriteLemmas.{stands_class}

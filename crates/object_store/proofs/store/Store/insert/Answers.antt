@@ -7,7 +7,7 @@ use Rattle.object_store.specs.declared.objects.Done.{Done}
 use Rattle.object_store.specs.Contents.{Contents, catalog_of, history_of, state_of}
 use Rattle.object_store.specs.Effects.{after_insert, after_update, after_remove}
 use Rattle.object_store.specs.Faults.{insert_fault, update_fault, remove_fault}
-use Rattle.object_store.specs.Standing.{GrowsBy}
+use Rattle.object_store.specs.StandsFor.{GrowsBy}
 use Rattle.object_store.specs.Tables.{contents_of, members_of}
 use Rattle.object_store.proofs.CommandLemmas.{stands_insert, tick_of_insert}
 use Rattle.object_store.proofs.ChangeLemmas.{insert_changes}

@@ -1,6 +1,6 @@
 use Rattle.std.proofs.Common.{arith}
 use Rattle.std.proofs.lemmas.List.{length-map}
-use Rattle.object_store.specs.Stored.{stored}
+use Rattle.object_store.specs.ObjectView.{stored}
 use Rattle.object_store.specs.Tables.{contents_of}
 use Rattle.object_store.proofs.SizeLemmas.{few_objects}
 use Rattle.object_store.proofs.store.Store.object_count.Goals as goal

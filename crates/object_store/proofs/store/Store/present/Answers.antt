@@ -7,7 +7,7 @@ use Rattle.motion.specs.Timeline.{state_at}
 use Rattle.object_store.specs.declared.objects.Object.{Object}
 use Rattle.history.specs.History.{cells_at}
 use Rattle.object_store.specs.Contents.{StoredObject, Contents, history_of, is_present_at}
-use Rattle.object_store.specs.Stored.{stored}
+use Rattle.object_store.specs.ObjectView.{stored}
 use Rattle.object_store.specs.Tables.{contents_of}
 use Rattle.object_store.proofs.EntryLemmas.{value_there, value_begun, value_of_entry}
 use Rattle.object_store.proofs.NumberLemmas.{present_later}

@@ -3,12 +3,12 @@ use Rattle.motion.specs.Timeline.{Epoch}
 use Rattle.object_store.specs.declared.objects.Done.{Done}
 use Rattle.object_store.specs.Contents.{StoredObject, Contents, attributes_of_number}
 use Rattle.object_store.specs.Effects.{with_epoch_of}
-use Rattle.object_store.specs.Kept.{Writes}
+use Rattle.object_store.specs.Invariant.{Writes}
 use Rattle.object_store.specs.Sound.{AreCellsOf}
-use Rattle.object_store.specs.Stored.{objects_of}
+use Rattle.object_store.specs.ObjectView.{objects_of}
 use Rattle.object_store.specs.Tables.{contents_of, members_of}
-use Rattle.object_store.proofs.WriteLemmas.{known_writes, known_done, object_at_place, some_fits, if_at}
-use Rattle.object_store.proofs.SizeLemmas.{few_places}
+use Rattle.object_store.proofs.WriteLemmas.{known_writes, known_done, object_at_index, some_fits, if_at}
+use Rattle.object_store.proofs.SizeLemmas.{few_indexes}
 use Rattle.object_store.proofs.tables.Tables.begin.Goals as goal
 
 pub returns-clause-ok : goal.returns-clause-ok
@@ -17,7 +17,7 @@ returns-clause-ok c =
     let name : List ℕ = c.args.name.now in
     let p : Epoch = record { from = c.args.now; cells = Some c.args.cells.items } in
     let after : Contents = record { classes = s.classes; objects = objects_of c.begin_at.new.objects.entries; last_tick = c.args.now } in
-    let at = object_at_place name s.objects c.args.at c.requires.name in
+    let at = object_at_index name s.objects c.args.at c.requires.name in
     let class = if_at s.objects c.args.at at.0 (λ o. o.class ≡ c.args.number) c.requires.class at.1 in
     let fits : AreCellsOf (attributes_of_number s.classes at.0.class) c.args.cells.items =
     subst (λ number. AreCellsOf (attributes_of_number s.classes number) c.args.cells.items) (sym class) c.requires.fits
@@ -29,4 +29,4 @@ returns-clause-ok c =
 
 pub overflow_cast-at : goal.overflow_cast-at
 overflow_cast-at c =
-    omega (arith, few_places (contents_of c.args.self.now) c.args.name.now c.args.at c.requires.kept.sound c.requires.name)
+    omega (arith, few_indexes (contents_of c.args.self.now) c.args.name.now c.args.at c.requires.kept.sound c.requires.name)

@@ -3,8 +3,8 @@ use Rattle.motion.specs.Timeline.{Epoch, put}
 use Rattle.object_store.specs.declared.objects.Done.{Done}
 use Rattle.object_store.specs.Contents.{Contents, attributes_of_number}
 use Rattle.object_store.specs.Effects.{with_object}
-use Rattle.object_store.specs.Kept.{Writes}
-use Rattle.object_store.specs.Stored.{objects_of}
+use Rattle.object_store.specs.Invariant.{Writes}
+use Rattle.object_store.specs.ObjectView.{objects_of}
 use Rattle.object_store.specs.Tables.{contents_of, members_of}
 use Rattle.object_store.proofs.WriteLemmas.{entered_writes, entered_done, some_fits}
 use Rattle.object_store.proofs.SizeLemmas.{few_objects}

@@ -10,7 +10,7 @@ use Rattle.object_store.specs.Faults.{fault_of_insert}
 use Rattle.object_store.specs.Tables.{contents_of, members_of}
 use Rattle.object_store.proofs.CommandLemmas.{class_there, has_class, found_there, found_nowhere}
 use Rattle.object_store.proofs.JudgeLemmas.{HasClass, judged_insert, within_classes}
-use Rattle.object_store.proofs.WriteLemmas.{object_at_place, if_at}
+use Rattle.object_store.proofs.WriteLemmas.{object_at_index, if_at}
 use Rattle.object_store.proofs.tables.Tables.judge_insert.Goals as goal
 
 pub returns-in-Some : goal.returns-in-Some
@@ -23,7 +23,7 @@ returns-in-Some c =
     (class_there c.class.result c.unwrap-kind.result s.classes c.args.number c.class.ensures c.unwrap-kind.ensures)
     in
     let first = sym c.requires.name ∙ c.in-Some.is in
-    let at = object_at_place name s.objects c.in-Some.at first in
+    let at = object_at_index name s.objects c.in-Some.at first in
     let found = found_there name s.objects c.in-Some.at at.0 first at.1 in
     let is : c.found_at-found.result ≡ record { elsewhere = not (at.0.class == c.args.number); present = is_present_at c.args.now at.0; past_capacity = false } =
     if_at s.objects c.in-Some.at at.0 _ c.found_at-found.ensures at.1

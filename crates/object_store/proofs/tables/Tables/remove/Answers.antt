@@ -10,4 +10,4 @@ pub returns-in_default-clause-judged : goal.returns-in_default-clause-judged
 returns-in_default-clause-judged c =
     let s : Contents = contents_of c.args.self.now in
     ap (λ fault. unwrap_or fault NoMemory)
-    (sym (remove_unknown s c.args.name.now (is_some (state_of s c.args.name.now c.args.now)) (sym c.place_of.ensures.place ∙ c.in_default.is)))
+    (sym (remove_unknown s c.args.name.now (is_some (state_of s c.args.name.now c.args.now)) (sym c.index_of.ensures.index ∙ c.in_default.is)))

@@ -1,10 +1,10 @@
 use Rattle.std.proofs.Common.{◌≡◌, ◌-◌, List, length, take, sym, ap, subst, ◌∙◌, if◌then◌else◌}
 use Rattle.object_store.specs.Contents.{StoredObject, Contents}
-use Rattle.object_store.specs.Kept.{IsKept}
-use Rattle.object_store.specs.Places.{restored_at}
-use Rattle.object_store.specs.Stored.{objects_of}
+use Rattle.object_store.specs.Invariant.{IsKept}
+use Rattle.object_store.specs.AtIndex.{restored_at}
+use Rattle.object_store.specs.ObjectView.{objects_of}
 use Rattle.object_store.specs.Tables.{contents_of, members_of}
-use Rattle.object_store.specs.Undoing.{undone}
+use Rattle.object_store.specs.TakingBack.{undone}
 use Rattle.object_store.proofs.WriteLemmas.{restored_kept}
 use Rattle.object_store.proofs.tables.Tables.revert_known.Goals as goal
 

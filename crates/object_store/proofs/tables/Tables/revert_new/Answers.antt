@@ -3,11 +3,11 @@ use Rattle.std.specs.Prelude.{slice_get}
 use Rattle.std.proofs.lemmas.List.{length-map}
 use Rattle.object_store.specs.Contents.{StoredObject, Contents}
 use Rattle.object_store.specs.Ids.{without_member}
-use Rattle.object_store.specs.Kept.{IsKept}
-use Rattle.object_store.specs.Places.{restored_at}
-use Rattle.object_store.specs.Stored.{stored, objects_of}
+use Rattle.object_store.specs.Invariant.{IsKept}
+use Rattle.object_store.specs.AtIndex.{restored_at}
+use Rattle.object_store.specs.ObjectView.{stored, objects_of}
 use Rattle.object_store.specs.Tables.{contents_of, members_of}
-use Rattle.object_store.specs.Undoing.{undone, IsLeft}
+use Rattle.object_store.specs.TakingBack.{undone, IsLeft}
 use Rattle.object_store.proofs.WriteLemmas.{left_kept, exists_at, if_at}
 use Rattle.object_store.proofs.tables.Tables.revert_new.Goals as goal
 

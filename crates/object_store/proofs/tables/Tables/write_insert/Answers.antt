@@ -10,12 +10,12 @@ use Rattle.object_store.specs.declared.objects.Done.{Done}
 use Rattle.object_store.specs.Changes.{changes_of}
 use Rattle.object_store.specs.Contents.{StoredObject, Contents, attributes_of_number, catalog_of, state_of}
 use Rattle.object_store.specs.Effects.{with_epoch_of, after_insert}
-use Rattle.object_store.specs.Kept.{Writes}
-use Rattle.object_store.specs.Stored.{objects_of}
+use Rattle.object_store.specs.Invariant.{Writes}
+use Rattle.object_store.specs.ObjectView.{objects_of}
 use Rattle.object_store.specs.Tables.{contents_of, members_of}
 use Rattle.object_store.proofs.CommandLemmas.{class_there, has_class, given_all, given_changes, cells_inserted, inserted_fits, own_class_of, room_for_new, after_known, after_new, found_there, found_nowhere}
 use Rattle.object_store.proofs.JudgeLemmas.{HasClass}
-use Rattle.object_store.proofs.WriteLemmas.{object_at_place}
+use Rattle.object_store.proofs.WriteLemmas.{object_at_index}
 use Rattle.object_store.proofs.EntryLemmas.{if_there}
 use Rattle.object_store.proofs.tables.Tables.write_insert.Goals as goal
 
@@ -48,7 +48,7 @@ begin-requires-clause-class c =
     has_class s.classes c.args.class.now c.args.number k c.requires.class
     (class_there c.class.result c.unwrap-kind.result s.classes c.args.number c.class.ensures c.unwrap-kind.ensures)
     in
-    let at = object_at_place name s.objects c.in-Some.at (sym c.requires.name ∙ c.in-Some.is) in
+    let at = object_at_index name s.objects c.in-Some.at (sym c.requires.name ∙ c.in-Some.is) in
     let found = found_there name s.objects c.in-Some.at at.0 (sym c.requires.name ∙ c.in-Some.is) at.1 in
     if_there s.objects c.in-Some.at at.0 _ at.1
     (own_class_of s c.args.class.now c.args.number k has name c.args.now c.args.place.now c.args.sets.now c.requires.accepted at.0 found)
@@ -96,7 +96,7 @@ returns-in-Some-clause-ok c =
     let is : c.in_ok-cells.cells.items ≡ inserted c.args.now k.attributes c.args.place.now c.args.sets.now =
     cells_inserted c.args.now k.attributes c.args.place.now c.args.sets.now c.deref.result.now c.in_ok-cells.cells.items c.in_ok-cells.ensures.cells (c.deref.ensures.value ∙ c.in_ok-fill.ensures)
     in
-    let at = object_at_place name s.objects c.in-Some.at (sym c.requires.name ∙ c.in-Some.is) in
+    let at = object_at_index name s.objects c.in-Some.at (sym c.requires.name ∙ c.in-Some.is) in
     let found = found_there name s.objects c.in-Some.at at.0 (sym c.requires.name ∙ c.in-Some.is) at.1 in
     subst (λ after. IfOk c.begin.result (λ (done : Done). Writes name s after (members_of c.begin.new.self) (contents_of c.begin.new.self) done))
     (sym (after_known s c.args.class.now c.args.number k has name c.args.now c.args.place.now c.args.sets.now c.in_ok-cells.cells.items is at.0 found)) c.begin.ensures.ok

@@ -11,16 +11,16 @@ use Rattle.object_store.specs.declared.objects.Done.{Done}
 use Rattle.object_store.specs.Changes.{changes_of}
 use Rattle.object_store.specs.Contents.{StoredObject, Contents, attributes_of_number, catalog_of, state_of}
 use Rattle.object_store.specs.Effects.{with_epoch_of, after_insert}
-use Rattle.object_store.specs.Kept.{Writes}
+use Rattle.object_store.specs.Invariant.{Writes}
 use Rattle.object_store.specs.Sound.{AreEpochsOf}
-use Rattle.object_store.specs.Stored.{objects_of}
+use Rattle.object_store.specs.ObjectView.{objects_of}
 use Rattle.object_store.specs.Tables.{contents_of, members_of}
 use Rattle.object_store.proofs.CommandLemmas.{class_known, class_there, given_all, given_changes, changed_updated, found_there}
 use Rattle.object_store.proofs.EntryLemmas.{value_there, all_at}
 use Rattle.object_store.proofs.JudgeLemmas.{attributes_are_own, state_of_found}
 use Rattle.object_store.proofs.KindLemmas.{FitsIn, state_fits, updated_fits}
 use Rattle.object_store.proofs.WriteLemmas.{known_writes, known_done}
-use Rattle.object_store.proofs.SizeLemmas.{few_places}
+use Rattle.object_store.proofs.SizeLemmas.{few_indexes}
 use Rattle.object_store.proofs.tables.Tables.write_update.Goals as goal
 
 pub unwrap-kind-requires : goal.unwrap-kind-requires
@@ -75,4 +75,4 @@ returns-clause-ok c =
 
 pub overflow_cast-at : goal.overflow_cast-at
 overflow_cast-at c =
-    omega (arith, few_places (contents_of c.args.self.now) c.args.name.now c.args.at c.requires.kept.sound c.requires.name)
+    omega (arith, few_indexes (contents_of c.args.self.now) c.args.name.now c.args.at c.requires.kept.sound c.requires.name)

@@ -4,7 +4,7 @@ use Rattle.std.specs.List.{position}
 use Rattle.object_store.specs.declared.objects.Done.{Done}
 use Rattle.object_store.specs.Contents.{Contents, is_named, ids_in}
 use Rattle.object_store.specs.Sound.{IsSound, AreMembers}
-use Rattle.object_store.specs.Undoing.{Undoes}
+use Rattle.object_store.specs.TakingBack.{Undoes}
 
 -- The contents are sound, and the ids of each class are those of its objects.
 pub record IsKept (ids : List (List ℕ)) (s : Contents) : Type 0 where

@@ -3,7 +3,7 @@ use Rattle.std.specs.Prelude.{◌≡◌, ℕ, ◌+◌, ◌-◌, Bool, true, fals
 use Rattle.motion.specs.Timeline.{StandsAsLeft}
 use Rattle.object_store.specs.declared.objects.Undo.{Undo}
 use Rattle.object_store.specs.Contents.{StoredObject, Contents}
-use Rattle.object_store.specs.Places.{restored_at}
+use Rattle.object_store.specs.AtIndex.{restored_at}
 use Rattle.object_store.specs.Sound.{IsSound}
 
 -- the contents once a call is taken back: a new name goes, else the object's timeline is as before
@@ -34,5 +34,5 @@ abbrev pub without_last_class : Contents → Contents
 without_last_class s = record s { classes = take (length s.classes - 1) s.classes }
 
 -- The last class has no object, and can be taken back.
-pub record HasSpareClass (s : Contents) : Type 0 where
+pub record HasEmptyLastClass (s : Contents) : Type 0 where
   pub sound : IsSound (without_last_class s)
