@@ -7,8 +7,7 @@ use Rattle.motion.specs.Pieces.{IsLinear}
 use Rattle.motion.specs.Timeline.{Epoch, cells_of}
 use Rattle.motion.specs.declared.cell.Cell.{Cell}
 use Rattle.motion.specs.declared.cell.Cell.TheVariants as cells
-use Rattle.meaning.specs.Satisfaction.{compares_at}
-use Rattle.meaning.specs.Value.{number_of}
+use Rattle.meaning.specs.SimpleQuestion.{compares_at, number_of}
 use Rattle.atom_rows.specs.declared.condition.Condition.{Condition}
 use Rattle.atom_rows.specs.declared.condition.Condition.TheVariants as conditions
 use Rattle.atom_rows.specs.declared.condition.Comparison.{Comparison}

@@ -1,7 +1,7 @@
 //! The ticks at which an object of a store meets a condition.
 ghost use Rattle.std.specs.Prelude.{◌≡◌, ◌+◌, ◌<◌, ◌&&◌, ℕ, is_some, length, IfOk};
 ghost use Rattle.history.specs.History.{cells_at};
-ghost use Rattle.meaning.specs.Satisfaction.{compares_at};
+ghost use Rattle.meaning.specs.SimpleQuestion.{compares_at};
 ghost use Rattle.object_store.specs.Contents.{history_of};
 ghost use Rattle.tick_set.specs.Runs.{spans_have};
 ghost use Rattle.tick_set.specs.Ticks.{within};

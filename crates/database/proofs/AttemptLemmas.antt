@@ -17,8 +17,8 @@ use Rattle.polygon.specs.declared.named.TheConstants.{REGION_LIMIT}
 use Rattle.object_store.specs.declared.objects.Done.{Done}
 use Rattle.object_store.specs.Effects.{with_class}
 use Rattle.object_store.specs.Faults.{class_fault}
-use Rattle.object_store.specs.Undoing as undoing
-use Rattle.object_store.specs.Undoing.{without_last_class, HasSpareClass}
+use Rattle.object_store.specs.TakingBack as undoing
+use Rattle.object_store.specs.TakingBack.{without_last_class, HasEmptyLastClass}
 use Rattle.command_text.specs.declared.refusal.Refusal.{Refusal}
 use Rattle.command_text.specs.declared.refusal.Refusal.TheVariants as refusals
 use Rattle.exact.specs.First.{first_that_holds}
@@ -26,7 +26,7 @@ use Rattle.command_text.specs.Tree
 use Rattle.object_store.specs.declared.fault.StoreFault.{StoreFault}
 use Rattle.object_store.specs.declared.fault.StoreFault.TheVariants as store_faults
 use Rattle.object_store.specs.Contents.{Contents, catalog_of, history_of}
-use Rattle.object_store.specs.Standing.{GrowsBy}
+use Rattle.object_store.specs.StandsFor.{GrowsBy}
 use Rattle.command_text.specs.Tree.{CommandTree}
 use Rattle.database.specs.declared.database.Database.{Database}
 use Rattle.command_text.specs.declared.fault.CommandFault.{CommandFault}
@@ -135,7 +135,7 @@ store_carries c write d new done writes no-region no-ticks accepted in-range las
 -- a class was made
 pub class_carries : (name : List ℕ) (capacity : ℕ) (point : Bool) (attrs : List (List ℕ × AttrKind)) (given : List Attribute) (d : Database) (new : Contents) →
     given ≡ map attribute_of attrs → class_fault (catalog_of d.store) name point given ≡ None → d.clock ≤ LAST_TICK → d.store.last_tick ≤ d.clock →
-    new ≡ with_class d.store name capacity point given → GrowsBy d.store new (Class name capacity point given) → HasSpareClass new → without_last_class new ≡ d.store →
+    new ≡ with_class d.store name capacity point given → GrowsBy d.store new (Class name capacity point given) → HasEmptyLastClass new → without_last_class new ≡ d.store →
     Carries (Tree.Class name capacity point attrs) d (record { store = new; regions = d.regions; clock = d.clock }) changes.Class
 class_carries name capacity point attrs given d new given-is accepted in-range written is grows spare before =
     let tick : new.last_tick ≡ d.store.last_tick = ap (λ (s : Contents). s.last_tick) is in

@@ -15,8 +15,8 @@ use Rattle.history.specs.Catalog.{ClassInfo, ObjectInfo, attributes_of_class, nu
 use Rattle.line_meaning.specs.declared.question.Question.{Question}
 use Rattle.line_meaning.specs.Answering.{attribute_index, rows_of}
 use Rattle.database.proofs.FindingLemmas.{IsFound}
-use Rattle.meaning.specs.Satisfaction.{compares_at}
-use Rattle.meaning.specs.Answer.{Row, answer, row_of, has_ticks}
+use Rattle.meaning.specs.SimpleQuestion.{Row, answer, compares_at, row_of}
+use Rattle.meaning.specs.Answer.{has_ticks}
 use Rattle.object_store.specs.Contents.{StoredObject, Contents, catalog_of, history_of, ids_in, object_info, object_name, state_of}
 use Rattle.line_meaning.specs.Reply.{row_line, rows_text}
 use Rattle.database.specs.Rows.{line_if_any, line_of}

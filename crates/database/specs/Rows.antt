@@ -1,8 +1,8 @@
 -- The rows of the objects of a class, one after another.
 use Rattle.std.specs.Prelude.{ℕ, List, [], if◌then◌else◌}
 use Rattle.history.specs.History.{History}
-use Rattle.meaning.specs.Answer.{Row, row_of, has_ticks}
-use Rattle.meaning.specs.Satisfaction.{compares_at}
+use Rattle.meaning.specs.Answer.{has_ticks}
+use Rattle.meaning.specs.SimpleQuestion.{Row, compares_at, row_of}
 use Rattle.object_store.specs.Contents.{Contents, history_of, object_name}
 use Rattle.line_meaning.specs.declared.question.Asked.{Asked}
 use Rattle.database.specs.declared.rows.Sought.{Sought}

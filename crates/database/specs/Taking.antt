@@ -1,6 +1,6 @@
 -- What an attempt makes of the database, and how it is taken back before it is final.
 use Rattle.std.specs.Prelude.{◌≡◌, ◌-◌, ◌<◌, ◌≤◌, take, length}
-use Rattle.object_store.specs.Undoing.{undone, without_last_class, HasSpareClass, IsRevertible}
+use Rattle.object_store.specs.TakingBack.{undone, without_last_class, HasEmptyLastClass, IsRevertible}
 use Rattle.database.specs.declared.change.Change.{Change}
 use Rattle.database.specs.declared.change.Change.TheVariants as changes
 use Rattle.database.specs.declared.database.Database.{Database}
@@ -14,7 +14,7 @@ without (changes.Clock ticks) d = record d { clock = d.clock - ticks }
 
 -- the change is the last one that was made
 abbrev pub IsLast : Change → Database → Type 0
-IsLast changes.Class d = (0 < length d.store.classes) × HasSpareClass d.store
+IsLast changes.Class d = (0 < length d.store.classes) × HasEmptyLastClass d.store
 IsLast changes.Region d = 0 < length d.regions
 IsLast (changes.Object done) d = IsRevertible done.undo d.store
 IsLast (changes.Clock ticks) d = ticks ≤ d.clock

@@ -1,1 +1,2 @@
+pub mod ResolvedLemmas
 pub mod SetLemmas

@@ -1,5 +1,5 @@
 -- A small formula by number, and what it has, worked out by hand.
-use Rattle.std.specs.Prelude.{◌≡◌, ℕ, ◌+◌, ◌*◌, pos, negsuc, true, false, [], ◌∷◌, Some, None, codes}
+use Rattle.std.specs.Prelude.{◌≡◌, ℕ, ◌+◌, ◌*◌, ℤ, pos, negsuc, true, false, List, [], ◌∷◌, Some, None, codes}
 use Rattle.case_table.specs.declared.compare.Op.TheVariants as ops
 use Rattle.fixed_point.specs.declared.variants.SubName.TheVariants as subs
 use Rattle.fixed_point.specs.declared.variants.UntilForm.TheVariants as untils
@@ -11,6 +11,7 @@ use Rattle.formula.specs.declared.tree.RTerm.{RTerm}
 use Rattle.formula.specs.declared.tree.RUnit.{RUnit}
 use Rattle.formula.specs.declared.tree.RUnit.TheVariants as units
 use Rattle.formula.specs.Bounds.{term_bound}
+use Rattle.formula.specs.Resolved.{any_scope, are_distinct, is_atom, is_formula, is_term, no_scope}
 use Rattle.formula.specs.Sizes.{objects, factors}
 use Rattle.formula.specs.Tree.{ResolvedTree}
 use Rattle.formula.specs.Variables.{has_variable, variables_of}
@@ -71,3 +72,36 @@ pub record HasSizes : Type 0 where
   pub objects_are : objects sample ≡ 3
   pub factors_are : factors sample ≡ 2
   pub factors_of_an_assignment : factors (Shape.Assign (0, left) (Shape.Truth true)) ≡ 2
+
+abbrev pub compared : ResolvedTree
+compared = Shape.Atom (atoms.Compare left ops.Le right)
+
+abbrev pub circle_of : ℤ → List ℕ → ResolvedTree
+circle_of radius vs = Shape.Atom (atoms.Sphere radius vs)
+
+-- so many times the largest tick, and so many thousandths
+abbrev pub clock_times : ℕ → ℕ → RTerm
+clock_times k n = record { factors = times k units.Time ∷ plus (units.Literal (pos n)) ∷ [] }
+
+pub record IsRightByNumber : Type 0 where
+  pub sample_is : is_formula 4 0 no_scope sample ≡ true
+  pub a_variable_past_the_last : is_formula 3 0 no_scope sample ≡ false
+  pub at_another_depth : is_formula 4 1 no_scope sample ≡ false
+  pub out_of_scope : is_formula 4 0 no_scope compared ≡ false
+  pub atom_alone : is_atom 4 any_scope (atoms.Compare left ops.Le right) ≡ true
+  pub with_another_bound : is_formula 4 0 no_scope (Shape.Assign (0, right) compared) ≡ false
+  pub a_third_assignment :
+      is_formula 1 0 no_scope
+      (Shape.Assign (0, right) (Shape.Assign (1, right) (Shape.Assign (2, right) (Shape.Truth true)))) ≡ false
+  pub without_factors : is_term 1 no_scope (record { factors = [] }) ≡ false
+  pub largest_bound : is_term 1 no_scope (clock_times 1000000 0) ≡ true
+  pub past_the_largest_bound : is_term 1 no_scope (clock_times 1000000 1) ≡ false
+  pub past_the_largest_multiplier : is_term 1 no_scope (clock_times 1000001 0) ≡ false
+  pub largest_radius : is_formula 1 0 no_scope (circle_of (pos 1000000) (0 ∷ [])) ≡ true
+  pub past_the_largest_radius : is_formula 1 0 no_scope (circle_of (pos 1000001) (0 ∷ [])) ≡ false
+  pub negative_radius : is_formula 1 0 no_scope (circle_of (negsuc 0) (0 ∷ [])) ≡ false
+  pub circle_of_none : is_formula 1 0 no_scope (circle_of (pos 1000) []) ≡ false
+  pub plain_until_with_ticks :
+      is_formula 1 0 no_scope (Shape.Until untils.Plain 1 (Shape.Truth true) (Shape.Truth true)) ≡ false
+  pub differ : are_distinct (2 ∷ 0 ∷ []) ≡ true
+  pub agree : are_distinct (2 ∷ 0 ∷ 2 ∷ []) ≡ false

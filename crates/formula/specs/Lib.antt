@@ -1,7 +1,7 @@
 pub mod Bounds
 pub mod Example
 pub mod Forms
-pub mod Padded
+pub mod Resolved
 pub mod Sizes
 pub mod Tree
 pub mod Value

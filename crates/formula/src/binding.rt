@@ -22,7 +22,8 @@ pub struct Binding {
 
 impl Model for Binding {
     ghost use Rattle.std.specs.Prelude.{List, ℕ, length, take};
-    ghost use Rattle.formula.specs.Padded.{IsPadded, length-front, padded, padded-front};
+    ghost use Rattle.exact.proofs.PaddedLemmas.{length-front, padded-front};
+    ghost use Rattle.exact.specs.Padded.{IsPadded, padded};
     ghost use Rattle.formula.specs.declared.limits.TheConstants.{OBJECT_LIMIT};
 
     ghost Value = { List ℕ };

@@ -1,14 +1,19 @@
 //! The limits by their numbers, laws of the definitions, and a formula worked out by hand, as calls that do
 //! nothing.
 
-ghost use Rattle.std.specs.Prelude.{◌≡◌, ◌<◌, ◌*◌, ◌^◌, ◌==◌, ℕ, Bool, false, Some, None};
-ghost use Rattle.formula.specs.Example.{HasBounds, HasSizes, HasVariables};
+ghost use Rattle.std.specs.Prelude.{◌≡◌, ◌<◌, ◌*◌, ◌^◌, ◌==◌, ℕ, Bool, false, true, Some, None};
+ghost use Rattle.formula.specs.Example.{HasBounds, HasSizes, HasVariables, IsRightByNumber};
+ghost use Rattle.formula.specs.Resolved.{Scope, is_formula};
+ghost use Rattle.formula.specs.Tree.{ResolvedTree};
 ghost use Rattle.formula.specs.Value.{no_values, value_in, with_value};
-ghost use Rattle.formula.specs.Variables.{variables_in};
+ghost use Rattle.formula.specs.Variables.{has_variable, variables_in};
 ghost use Rattle.formula.specs.declared.value.Env.{Env};
 ghost use Rattle.formula.specs.declared.value.Value.{Value};
 
-use crate::limits::{DYNAMIC_BOUND, FACTOR_LIMIT, NESTING_LIMIT, OBJECT_LIMIT, TIME_BOUND};
+use crate::limits::{
+    DEPTH_LIMIT, DYNAMIC_BOUND, FACTOR_LIMIT, NESTING_LIMIT, NODE_LIMIT, OBJECT_LIMIT, TIME_BOUND,
+    TIMES_LIMIT,
+};
 use tick_set::LAST_TICK;
 
 /// The limits, in numbers.
@@ -16,6 +21,9 @@ pub fn limits_in_numbers()
     ensures objects { OBJECT_LIMIT ≡ 4 }
     ensures nesting { NESTING_LIMIT ≡ 2 }
     ensures factors { FACTOR_LIMIT ≡ 16 }
+    ensures times { TIMES_LIMIT ≡ 10 ^ 6 }
+    ensures nodes { NODE_LIMIT ≡ 256 }
+    ensures depth { DEPTH_LIMIT ≡ 32 }
     ensures dynamic { DYNAMIC_BOUND ≡ 1001 * 10 ^ 12 }
     ensures time { TIME_BOUND ≡ 1000 * LAST_TICK }
 {}
@@ -46,4 +54,15 @@ pub fn small_terms_have_their_bounds()
 /// The sizes of a formula.
 pub fn a_small_formula_has_its_sizes()
     ensures { HasSizes }
+{}
+
+/// What is right of queries by number, and what isn't.
+pub fn small_formulas_are_right_by_number()
+    ensures { IsRightByNumber }
+{}
+
+/// The variables of a formula that is right are some of those that there are.
+pub fn a_resolved_formula_has_the_variables_that_there_are()
+    ensures { (count around : ℕ) (scope : Scope) (f : ResolvedTree) → is_formula count around scope f ≡ true
+        → (v : ℕ) → has_variable v f ≡ true → v < count }
 {}

@@ -14,7 +14,10 @@ mod var_set;
 pub use binding::Binding;
 pub use bound::bound_of;
 pub use items::Items;
-pub use limits::{DYNAMIC_BOUND, FACTOR_LIMIT, NESTING_LIMIT, OBJECT_LIMIT, TIME_BOUND};
+pub use limits::{
+    DEPTH_LIMIT, DYNAMIC_BOUND, FACTOR_LIMIT, NESTING_LIMIT, NODE_LIMIT, OBJECT_LIMIT, TIME_BOUND,
+    TIMES_LIMIT,
+};
 pub use tree::{ClassNo, RAtom, RFormula, RQuery, RSigned, RTerm, RUnit};
 pub use value::{Env, Value};
 pub use var_set::{VarSet, free, free_in_term};

@@ -4,8 +4,7 @@ use Rattle.std.specs.List.{position}
 use Rattle.std.specs.Str.{bytes_eq}
 use Rattle.history.specs.Catalog.{Catalog, class_of, number_of_class, attributes_of_class, names_in}
 use Rattle.history.specs.World.{World}
-use Rattle.meaning.specs.Satisfaction.{compares_at}
-use Rattle.meaning.specs.Answer.{answer}
+use Rattle.meaning.specs.SimpleQuestion.{answer, compares_at}
 use Rattle.command_text.specs.Tree
 use Rattle.command_text.specs.Tree.{CommandTree}
 use Rattle.line_meaning.specs.declared.question.Question.{Question}

@@ -14,7 +14,7 @@ use Rattle.geometry.specs.Polygon.{is_convex}
 use Rattle.polygon.specs.declared.named.TheConstants.{REGION_LIMIT}
 use Rattle.history.specs.Catalog.{Catalog, class_of, attributes_of_class}
 use Rattle.history.specs.World.{World}
-use Rattle.meaning.specs.Value.{is_present}
+use Rattle.meaning.specs.SimpleQuestion.{is_present}
 use Rattle.object_store.specs.declared.fault.StoreFault.{StoreFault}
 use Rattle.object_store.specs.declared.fault.StoreFault.TheVariants as store_faults
 use Rattle.object_store.specs.Faults.{attribute_named, class_fault, insert_fault, update_fault, remove_fault}

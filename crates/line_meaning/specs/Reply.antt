@@ -3,7 +3,7 @@ use Rattle.std.specs.Prelude.{ℕ, length, nat_le, nat_lt, ◌&&◌, List, [], �
 use Rattle.std.specs.List.{enumerate_from, list_any, flat_map}
 use Rattle.geometry.specs.Region.{Region}
 use Rattle.history.specs.Catalog.{Catalog, ClassInfo, names}
-use Rattle.meaning.specs.Answer.{Row}
+use Rattle.meaning.specs.SimpleQuestion.{Row}
 
 abbrev pub line_feed : List ℕ
 line_feed = 10 ∷ []

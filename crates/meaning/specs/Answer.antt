@@ -1,31 +1,41 @@
 -- The answer to a query: which objects satisfy it, and when.
-use Rattle.std.specs.Prelude.{ℕ, Bool, true, false, ◌&&◌, Option, List, [], ◌∷◌, map}
-use Rattle.std.specs.List.{filter}
-use Rattle.motion.specs.declared.cell.Cell.{Cell}
-use Rattle.tick_set.specs.Ticks.{listed}
+use Rattle.std.specs.Prelude.{ℕ, Bool, true, false, ◌&&◌, List, [], ◌∷◌, map, slice_index}
+use Rattle.std.specs.List.{filter, list_any}
+use Rattle.tick_set.specs.Ticks.{listed, within}
 use Rattle.tick_set.specs.Runs.{runs_of}
-use Rattle.history.specs.Catalog.{names_in, number_of_class}
-use Rattle.history.specs.History.{History}
-use Rattle.meaning.specs.Value.{is_present}
+use Rattle.history.specs.World.{World}
+use Rattle.formula.specs.Tree.{ResolvedQuery}
+use Rattle.meaning.specs.Binding.{bindings, holds_full, holds_target, tuples}
 
--- an object and the maximal runs of the ticks at which it satisfies the formula, each as its first and last tick
+-- objects by their numbers, and the maximal runs of the ticks at which they satisfy the query, each as its first and last
+-- tick
 pub record Row : Type 0 where
-  pub name : List ℕ
+  pub key : List ℕ
   pub runs : List (ℕ × ℕ)
-
--- the ticks of from to expiry at which object o is there, with cells that satisfy the formula
-abbrev pub full_ticks : History → (Option (List Cell) → ℕ → Bool) → ℕ → ℕ → List ℕ → List ℕ
-full_ticks h holds from expiry o = listed (λ t. is_present h o t && holds (h.state o t) t) from expiry
-
-abbrev pub row_of : History → (Option (List Cell) → ℕ → Bool) → ℕ → ℕ → List ℕ → Row
-row_of h holds from expiry o = record { name = o; runs = runs_of (full_ticks h holds from expiry o) }
 
 abbrev pub has_ticks : List (ℕ × ℕ) → Bool
 has_ticks [] = false
 has_ticks (run ∷ runs) = true
 
--- the rows of the objects of a class in the order of first insertion, without those that have no tick
-abbrev pub answer : History → List ℕ → (Option (List Cell) → ℕ → Bool) → ℕ → ℕ → List Row
-answer h class holds from expiry =
-    filter (λ row. has_ticks row.runs)
-    (map (row_of h holds from expiry) (names_in h.catalog (number_of_class h.catalog class)))
+-- whether a tick is in one of the runs
+abbrev pub runs_have : List (ℕ × ℕ) → ℕ → Bool
+runs_have runs t = list_any (λ run. within run.0 run.1 t) runs
+
+-- whether one of the rows has a tick, of those whose key passes the test
+abbrev pub rows_have : List Row → (List ℕ → Bool) → ℕ → Bool
+rows_have rows test t = list_any (λ row. test row.key && runs_have row.runs t) rows
+
+abbrev pub row_where : (List ℕ → ℕ → Bool) → ℕ → ℕ → List ℕ → Row
+row_where holds from e key = record { key = key; runs = runs_of (listed (holds key) from e) }
+
+-- the rows of some keys in their order, by the ticks of `from` to e at which each holds, without those that have none
+abbrev pub rows_where : List (List ℕ) → (List ℕ → ℕ → Bool) → ℕ → ℕ → List Row
+rows_where keys holds from e = filter (λ row. has_ticks row.runs) (map (row_where holds from e) keys)
+
+-- a row for each tuple of target objects, in the order of first insertion, variable by variable
+abbrev pub answer : World → ResolvedQuery → ℕ → ℕ → List Row
+answer w q from e = rows_where (tuples w q) (holds_target w q e) from e
+
+-- a row for each binding: what is kept of a query, and what its answer is made of
+abbrev pub full_rows : World → ResolvedQuery → ℕ → ℕ → List Row
+full_rows w q from e = rows_where (bindings w q) (λ b. holds_full w q e (slice_index b)) from e

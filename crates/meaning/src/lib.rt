@@ -1,10 +1,21 @@
-//! Definitions alone: what a query means, tick by tick, of a world. The call below has no body: its
-//! contract works out a small question.
+//! Definitions alone: what a query means, tick by tick, of a history and the regions, and so of a journal
+//! and of a store alike. `specs/` has traces, terms, atoms, satisfaction, bindings, answers, standing
+//! queries and read bounds. The calls below have no body: the contract of each is a law, or what the
+//! definitions give for a small history.
 #![tactic(auto)]
 
-ghost use Rattle.meaning.specs.Example.{AnswersTheTank};
+mod examples;
+mod laws;
 
-/// The ticks at which an attribute compares so with a number, as runs.
-pub fn a_tank_runs_low()
-    ensures { AnswersTheTank }
-{}
+pub use examples::{
+    a_doubled_speed_is_seen_late, a_removed_car_keeps_its_past, places_are_worked_out,
+    queries_fit_their_classes, reads_are_counted, standing_queries_change, ticks_are_worked_out,
+    values_are_worked_out,
+};
+pub use laws::{
+    a_formula_sees_its_variables_alone, absent_objects_satisfy_no_query,
+    accepted_writes_lead_to_reachable_states, atoms_that_hold_more_make_it_hold_more,
+    expired_queries_stay, interpretations_that_agree_give_the_same_truth,
+    one_object_is_at_distance_0, other_objects_stay, the_answer_is_the_union_of_the_full_rows,
+    the_past_changes_by_what_comes_after, values_are_within_their_bounds,
+};

@@ -2,7 +2,7 @@ use Rattle.std.proofs.Common.{◌≡◌, ℕ, List, ◌++◌, ◌&&◌, ap, subs
 use Rattle.std.specs.Prelude.{Bool, OnOk, is_some}
 use Rattle.tick_set.specs.Ticks.{listed, within}
 use Rattle.tick_set.specs.Runs.{pairs, runs_of, spans_have}
-use Rattle.meaning.specs.Satisfaction.{compares_at}
+use Rattle.meaning.specs.SimpleQuestion.{compares_at}
 use Rattle.object_store.specs.Contents.{object_name, state_of}
 use Rattle.database.specs.Rows.{line_if_any}
 use Rattle.database.proofs.RowLemmas.{compared_is_present, state_of_number}

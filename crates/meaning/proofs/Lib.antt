@@ -1,0 +1,9 @@
+pub mod AnswerLemmas
+pub mod BindingLemmas
+pub mod BoundLemmas
+pub mod LocalityLemmas
+pub mod MoreLemmas
+pub mod QueryLemmas
+pub mod ReachLemmas
+pub mod StateLemmas
+pub mod TermLemmas

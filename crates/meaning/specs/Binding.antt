@@ -1,0 +1,49 @@
+-- Bindings of objects to variables, and the ticks at which they and the targets satisfy a query.
+use Rattle.std.specs.Prelude.{ℕ, Bool, ◌&&◌, is_some, List, [], ◌∷◌, length, map, flat_map, slice_index}
+use Rattle.std.specs.List.{list_all, list_any}
+use Rattle.std.specs.Str.{bytes_eq}
+use Rattle.tick_set.specs.Ticks.{between, listed}
+use Rattle.history.specs.Catalog.{ids_of}
+use Rattle.history.specs.World.{World}
+use Rattle.formula.specs.Tree.{ResolvedQuery}
+use Rattle.formula.specs.Value.{no_values}
+use Rattle.meaning.specs.Trace.{trace_of}
+use Rattle.meaning.specs.Satisfaction.{plain, sat}
+
+-- every list that has one member of each of these lists, those of the first list in its order, and so on
+abbrev pub product : List (List ℕ) → List (List ℕ)
+product [] = [] ∷ []
+product (xs ∷ lists) = flat_map (λ x. map (λ later. x ∷ later) (product lists)) xs
+
+-- each choice of an object, by its number, for each variable; two variables may have one object
+abbrev pub bindings : World → ResolvedQuery → List (List ℕ)
+bindings w q = product (map (ids_of w.history.catalog) q.classes)
+
+-- the same for the targets alone
+abbrev pub tuples : World → ResolvedQuery → List (List ℕ)
+tuples w q = product (map (λ v. ids_of w.history.catalog (slice_index q.classes v)) q.targets)
+
+-- the objects that a binding gives the targets
+abbrev pub tuple_of : ResolvedQuery → List ℕ → List ℕ
+tuple_of q b = map (slice_index b) q.targets
+
+-- all objects of the variables are present
+abbrev pub are_present : World → ResolvedQuery → (ℕ → ℕ) → ℕ → Bool
+are_present w q b t = list_all (λ v. is_some (trace_of w.history b v t)) (between 0 (length q.classes))
+
+-- whether a binding satisfies the query at a tick: all its objects are present, and the formula holds
+abbrev pub holds_full : World → ResolvedQuery → ℕ → (ℕ → ℕ) → ℕ → Bool
+holds_full w q e b t =
+    are_present w q b t && sat (plain w.regions (trace_of w.history b)) q.formula no_values e t
+
+-- whether some binding that gives the targets these objects satisfies it
+abbrev pub holds_target : World → ResolvedQuery → ℕ → List ℕ → ℕ → Bool
+holds_target w q e key t =
+    list_any (λ b. bytes_eq (tuple_of q b) key && holds_full w q e (slice_index b) t) (bindings w q)
+
+-- the ticks of `from` to e at which a binding satisfies it, and those at which one of such targets does
+abbrev pub full : World → ResolvedQuery → List ℕ → ℕ → ℕ → List ℕ
+full w q b from e = listed (holds_full w q e (slice_index b)) from e
+
+abbrev pub times : World → ResolvedQuery → List ℕ → ℕ → ℕ → List ℕ
+times w q key from e = listed (holds_target w q e key) from e

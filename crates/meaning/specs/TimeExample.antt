@@ -1,0 +1,98 @@
+-- Terms and temporal operators, asked of one car or one tank, worked out by hand.
+use Rattle.std.specs.Prelude.{◌≡◌, ℕ, pos, false, true, List, [], ◌∷◌, codes}
+use Rattle.case_table.specs.declared.compare.Op.TheVariants.{Eq, Ge, Le, Lt, Ne}
+use Rattle.fixed_point.specs.declared.variants.BoundForm.TheVariants as bounds
+use Rattle.fixed_point.specs.declared.variants.SubName.{SubName}
+use Rattle.fixed_point.specs.declared.variants.SubName.TheVariants as subs
+use Rattle.fixed_point.specs.declared.variants.UntilForm.TheVariants as untils
+use Rattle.motion.specs.declared.cell.AttrKind.TheVariants as kinds
+use Rattle.motion.specs.declared.cell.Given.TheVariants as givens
+use Rattle.history.specs.Write.{Class, Insert}
+use Rattle.history.specs.World.{World}
+use Rattle.formula_shape.specs.Shape as shapes
+use Rattle.formula.specs.declared.tree.RTerm.{RTerm}
+use Rattle.formula.specs.declared.tree.RUnit.TheVariants as units
+use Rattle.formula.specs.Example.{minus, plus, times}
+use Rattle.formula.specs.Tree.{ResolvedTree}
+use Rattle.meaning.specs.Answer.{Row, answer}
+use Rattle.meaning.specs.ExampleParts.{alone, attribute, car, car_class, compare, dynamic, first_has, literal, moving, nowhere, query, setting, speed, text_of, time, whole, world}
+
+-- a car at rest, and one that moves 2 units a tick along x
+abbrev pub at_rest : World
+at_rest = world (car_class ∷ car nowhere ∷ [])
+
+abbrev pub driving : World
+driving = world (car_class ∷ car (moving (speed 2)) ∷ [])
+
+-- a tank with fuel that rises by 1 a tick, and a plate
+abbrev pub filling : World
+filling =
+    world
+    (Class (codes "tank") 9 false (attribute (codes "fuel") kinds.Dyn ∷ attribute (codes "plate") kinds.Text ∷ [])
+    ∷ Insert 0 (codes "tank") (codes "a") nowhere
+    (setting (codes "fuel") (givens.Both (pos 0) (speed 1)) ∷ setting (codes "plate") (givens.Text (codes "AB")) ∷ [])
+    ∷ [])
+
+abbrev pub ask : World → ℕ → ResolvedTree → List Row
+ask w span f = answer w (query f) 0 span
+
+-- o.x or the fuel, a part of it, the plate, and 10 more than what is bound
+abbrev pub first : RTerm
+first = alone (dynamic 0)
+
+abbrev pub part : SubName → RTerm
+part name = alone (units.Sub 0 0 name)
+
+abbrev pub plate : RTerm
+plate = text_of 1
+
+abbrev pub text : List ℕ → RTerm
+text bytes = alone (units.Text bytes)
+
+abbrev pub ten_more : RTerm
+ten_more = record { factors = plus (units.Var 0 (pos 1001000000000000)) ∷ plus (units.Literal (whole 10)) ∷ [] }
+
+abbrev pub three_times : RTerm
+three_times = record { factors = times 3 (dynamic 0) ∷ [] }
+
+abbrev pub clock_without : RTerm
+clock_without = record { factors = minus (dynamic 0) ∷ plus units.Time ∷ [] }
+
+-- (f OR g AND h) UNTIL (k OR l), by the clock and by the fuel
+abbrev pub until_of : (RTerm → ResolvedTree) → RTerm → ResolvedTree
+until_of led q =
+    shapes.Until untils.Plain 0
+    (shapes.Or (compare q Le (literal 4)) (shapes.And (compare q Ge (literal 6)) (compare q Le (literal 9))))
+    (led q)
+
+abbrev pub at_five_or_ten : RTerm → ResolvedTree
+at_five_or_ten q = shapes.Or (compare q Eq (literal 5)) (compare q Eq (literal 10))
+
+pub record AnswersByTime : Type 0 where
+  pub led_by_the_clock : ask at_rest 20 (until_of at_five_or_ten (alone units.Time)) ≡ first_has ((0, 10) ∷ [])
+  pub led_by_the_fuel : ask filling 20 (until_of at_five_or_ten first) ≡ first_has ((0, 10) ∷ [])
+  pub always_for : ask at_rest 10 (shapes.Bounded bounds.Always 5 (time Ge 7)) ≡ first_has ((7, 10) ∷ [])
+  pub next_but_for_the_last : ask at_rest 10 (shapes.Next (shapes.Truth true)) ≡ first_has ((0, 9) ∷ [])
+  pub at_once : ask at_rest 0 (shapes.Truth true) ≡ first_has ((0, 0) ∷ [])
+  pub none_next : ask at_rest 0 (shapes.Next (shapes.Truth true)) ≡ []
+  pub eventually_of_the_clock : ask at_rest 10 (shapes.Eventually (time Eq 3)) ≡ first_has ((0, 3) ∷ [])
+  pub always_of_the_clock : ask at_rest 10 (shapes.Always (time Ge 3)) ≡ first_has ((3, 10) ∷ [])
+  pub after_so_many : ask at_rest 10 (shapes.Bounded bounds.After 2 (time Eq 5)) ≡ first_has ((0, 3) ∷ [])
+  pub within_so_many :
+      ask at_rest 10 (shapes.Until untils.Within 1 (time Le 4) (time Eq 5)) ≡ first_has ((4, 5) ∷ [])
+  pub after_at_least : ask at_rest 10 (shapes.Until untils.After 2 (time Le 4) (time Eq 5)) ≡ first_has ((0, 3) ∷ [])
+
+-- Each value that an assignment binds is that of its tick.
+pub record AnswersByValue : Type 0 where
+  pub ten_further_on :
+      ask driving 20 (shapes.Assign (0, first) (shapes.Bounded bounds.Within 5 (compare first Ge ten_more)))
+      ≡ first_has ((0, 15) ∷ [])
+  pub by_the_slope : ask driving 1 (compare (part subs.Function) Eq (literal 2)) ≡ first_has ((0, 1) ∷ [])
+  pub by_the_last_value : ask driving 1 (compare (part subs.Value) Eq (literal 0)) ≡ first_has ((0, 1) ∷ [])
+  pub by_the_last_update : ask driving 1 (compare (part subs.UpdateTime) Lt (literal 1)) ≡ first_has ((0, 1) ∷ [])
+  pub multiplied : ask driving 2 (compare three_times Ge (literal 7)) ≡ first_has ((2, 2) ∷ [])
+  pub taken_away : ask filling 9 (compare clock_without Ne (literal 0)) ≡ []
+  pub by_its_text : ask filling 1 (compare plate Eq (text (codes "AB"))) ≡ first_has ((0, 1) ∷ [])
+  pub by_another_text : ask filling 1 (compare plate Ne (text (codes "AB"))) ≡ []
+  pub no_text_is_below : ask filling 1 (compare (text (codes "A")) Lt plate) ≡ []
+  pub no_text_is_a_number : ask filling 1 (compare plate Ne (literal 1)) ≡ []
