@@ -12,11 +12,13 @@ use Rattle.line_loop.specs.Machine.{after}
 use Rattle.line_loop.specs.Run.{heard}
 use Rattle.line_loop.specs.Stop.{LacksMemory}
 use Rattle.domino.specs.Machine.{State, machine, leaves, state_of}
-use Rattle.domino.specs.Whole.{empty}
-use Rattle.domino.specs.Ends.{Given, EndsAs, CompletesAs, KeepsLimit, HasCause, QuitsWithin}
+use Rattle.domino.specs.Whole.{Plan, Says, Answers, empty, plan_of}
+use Rattle.domino.specs.Ends.{Given, EndsAs, EndsBy, CompletesAs, KeepsLimit, HasCause, QuitsWithin}
 use Rattle.domino.specs.Status.{status_of}
 use Rattle.domino.specs.declared.status.Status.{Status}
 use Rattle.domino.specs.declared.status.Status.TheVariants.{Done, BadWords, ReadFault, WriteFault, ShelfFault, NoMemory, InputLimit}
+use Rattle.domino.specs.declared.words.Words.{Words}
+use Rattle.domino.specs.declared.words.Words.TheVariants.{Bad, Plain}
 
 -- no line changes the texts
 texts_after : (s : State) (lines : List (List ℕ)) → (after machine s lines).base.texts ≡ s.base.texts
@@ -41,16 +43,16 @@ lacking_is : (now : State) (later : List (List ℕ)) (told : Option State) → L
 lacking_is now [] told h = h
 lacking_is now (line ∷ lines) told h = elim h [ inl same ↦ same | inr left ↦ left.1 ]
 
-abbrev given : Bool → ℕ → List ℕ → List ℕ → Texts → Given
+abbrev given : Words → ℕ → List ℕ → List ℕ → Texts → Given
 given words limit bytes written texts = record { words = words; limit = limit; bytes = bytes; written = written; texts = texts }
 
 -- the source was read to its end, or a `quit` was
-finished_is : (limit : ℕ) (bytes written : List ℕ) (texts : Texts) (left : Option (List ℕ)) → (left ≡ Some []) ⊎ loop.IsDoneWithin machine limit (record { state = empty texts; written = written }) bytes left → (left ≡ Some []) ⊎ QuitsWithin (given true limit bytes written texts) left
+finished_is : (limit : ℕ) (bytes written : List ℕ) (texts : Texts) (left : Option (List ℕ)) → (left ≡ Some []) ⊎ loop.IsDoneWithin machine limit (record { state = empty texts; written = written }) bytes left → (left ≡ Some []) ⊎ QuitsWithin (empty texts) (given Plain limit bytes written texts) left
 finished_is limit bytes written texts left (inl all) = inl all
 finished_is limit bytes written texts left (inr h) = inr (record { count = h.count; within = h.within; taken = h.taken; quit = h.done })
 
 -- with good words the run ends as the read loop does
-loop_ends : (ending : Ending) (limit : ℕ) (bytes written : List ℕ) (texts : Texts) (journal : Held) (ended : Bool) (new : Option (List ℕ)) (told : Option Texts) (left : Option (List ℕ)) → loop.EndsAs machine leaves limit (record { state = empty texts; written = written }) bytes ending (state_of journal ended told) new left → EndsAs (given true limit bytes written texts) (status_of ending) new told left
+loop_ends : (ending : Ending) (limit : ℕ) (bytes written : List ℕ) (texts : Texts) (journal : Held) (ended : Bool) (new : Option (List ℕ)) (told : Option Texts) (left : Option (List ℕ)) → loop.EndsAs machine leaves limit (record { state = empty texts; written = written }) bytes ending (state_of journal ended told) new left → EndsAs (given Plain limit bytes written texts) (status_of ending) new told left
 loop_ends endings.Done limit bytes written texts journal ended new told left h = (
   record {
     status_is = ap (λ cut. if cut then InputLimit else Done) (sym h.whole);
@@ -88,9 +90,9 @@ loop_ends endings.NoMemory limit bytes written texts journal ended new told left
   texts_stay = texts_stay journal ended told (empty texts) h.earlier (lacking_is (after machine (empty texts) h.earlier) h.later (state_of journal ended told) h.lacking);
 }
 
-pub good_words_end : (words : Bool) (ending : Ending) (limit : ℕ) (bytes written : List ℕ) (texts : Texts) (journal : Held) (ended : Bool) (new : Option (List ℕ)) (told : Option Texts) (left : Option (List ℕ)) → words ≡ true → loop.EndsAs machine leaves limit (record { state = empty texts; written = written }) bytes ending (state_of journal ended told) new left → EndsAs (given words limit bytes written texts) (status_of ending) new told left
+pub good_words_end : (words : Words) (ending : Ending) (limit : ℕ) (bytes written : List ℕ) (texts : Texts) (journal : Held) (ended : Bool) (new : Option (List ℕ)) (told : Option Texts) (left : Option (List ℕ)) → words ≡ Plain → loop.EndsAs machine leaves limit (record { state = empty texts; written = written }) bytes ending (state_of journal ended told) new left → EndsAs (given words limit bytes written texts) (status_of ending) new told left
 good_words_end words ending limit bytes written texts journal ended new told left good h =
-    subst (λ (w : Bool). EndsAs (given w limit bytes written texts) (status_of ending) new told left) (sym good)
+    subst (λ (w : Words). EndsAs (given w limit bytes written texts) (status_of ending) new told left) (sym good)
     (loop_ends ending limit bytes written texts journal ended new told left h)
 
 -- and its counts rise as those of the loop
@@ -103,21 +105,31 @@ loop_cause endings.NoMemory old new h = h
 loop_cause endings.InputLimit old new h = h
 
 -- where no count rose it is the whole run, or there was no memory
+by_plan : (plan : Plan) (g : Given) (status : Status) (old new : loop.Counts) (written : Option (List ℕ)) (told : Option Texts) (left : Option (List ℕ)) → HasCause status old new → ¬ Rose old.source new.source → ¬ Rose old.sink new.sink → EndsBy plan g status written told left → CompletesAs g status written told
+by_plan (Says said status) g Done old new written told left cause source sink h = h
+by_plan (Says said status) g BadWords old new written told left cause source sink h = h
+by_plan (Says said status) g InputLimit old new written told left cause source sink h = absurd h
+by_plan (Says said status) g ReadFault old new written told left cause source sink h = h
+by_plan (Says said status) g WriteFault old new written told left cause source sink h = sink cause.0
+by_plan (Says said status) g ShelfFault old new written told left cause source sink h = h
+by_plan (Says said status) g NoMemory old new written told left cause source sink h = h
+by_plan (Answers start) g Done old new written told left cause source sink h = h.0
+by_plan (Answers start) g BadWords old new written told left cause source sink h = absurd h
+by_plan (Answers start) g InputLimit old new written told left cause source sink h = h.0
+by_plan (Answers start) g ReadFault old new written told left cause source sink h = source cause.0
+by_plan (Answers start) g WriteFault old new written told left cause source sink h = sink cause.0
+by_plan (Answers start) g ShelfFault old new written told left cause source sink h = h
+by_plan (Answers start) g NoMemory old new written told left cause source sink h = h
+
 pub completes : (g : Given) (status : Status) (old new : loop.Counts) (written : Option (List ℕ)) (told : Option Texts) (left : Option (List ℕ)) → HasCause status old new → ¬ Rose old.source new.source → ¬ Rose old.sink new.sink → EndsAs g status written told left → CompletesAs g status written told
-completes g Done old new written told left cause source sink h = h.0
-completes g BadWords old new written told left cause source sink h = h
-completes g InputLimit old new written told left cause source sink h = h.0
-completes g ReadFault old new written told left cause source sink h = source cause.0
-completes g WriteFault old new written told left cause source sink h = sink cause.0
-completes g ShelfFault old new written told left cause source sink h = h
-completes g NoMemory old new written told left cause source sink h = h
+completes g status old new written told left cause source sink h = by_plan (plan_of g.words g.texts) g status old new written told left cause source sink h
 
 -- the same of the read loop's ending
 pub loop_completes : (g : Given) (ending : Ending) (status : Status) (old new : loop.Counts) (written : Option (List ℕ)) (told : Option Texts) (left : Option (List ℕ)) → status ≡ status_of ending → loop.EndsWithCause ending old new → ¬ Rose old.source new.source → ¬ Rose old.sink new.sink → EndsAs g status written told left → CompletesAs g status written told
 loop_completes g ending status old new written told left is cause source sink h =
     completes g status old new written told left (subst (λ (s : Status). HasCause s old new) (sym is) (loop_cause ending old new cause)) source sink h
 
-pub loop_taken : (ending : Ending) (limit : ℕ) (bytes : List ℕ) (left : Option (List ℕ)) → loop.KeepsLimit limit bytes ending left → KeepsLimit true limit bytes (status_of ending) left
+pub loop_taken : (ending : Ending) (limit : ℕ) (bytes : List ℕ) (left : Option (List ℕ)) → loop.KeepsLimit limit bytes ending left → KeepsLimit Plain limit bytes (status_of ending) left
 loop_taken endings.Done limit bytes left h = h
 loop_taken endings.ReadFault limit bytes left h = h
 loop_taken endings.WriteFault limit bytes left h = h

@@ -1,9 +1,10 @@
--- Lines of more than 4,096 bytes are all answered alike.
+-- Lines that are too long are all answered alike.
 use Rattle.std.proofs.Common.{◌≡◌, ℕ, ◌<◌, Bool, false, ◌&&◌, ◌||◌, List, ◌++◌, length, Option, Some, None, refl, ap, sym, ◌∙◌}
 use Rattle.std.specs.Prelude.{is_none}
 use Rattle.outside.specs.declared.fault.OutFail.{OutFail}
 use Rattle.outside.specs.declared.fault.OutFail.TheVariants.{Failed, NoMemory}
 use Rattle.line_loop.specs.Machine.{StepsAlike}
+use Rattle.command_text.specs.declared.reading.TheConstants.{LINE_LIMIT}
 use Rattle.command_text.specs.declared.refusal.Refusal.{Refusal}
 use Rattle.command_text.specs.declared.refusal.Refusal.TheVariants.{LineTooLong}
 use Rattle.command_text.specs.Journal.{spelled}
@@ -22,9 +23,9 @@ leaves_alike NoMemory s told a b h = h
 goes_on : (b : Base) (line : List ℕ) → line_refusal b.held line ≡ Some LineTooLong → ends b line ≡ false
 goes_on b line refused = ap (λ r. is_none r && is_ending (role_of (spelled line))) (refused_line b line LineTooLong refused)
 
-pub long_lines_alike : ((h : Held) (line : List ℕ) → 4096 < length line → line_refusal h line ≡ Some LineTooLong) →
-    ((b : Base) (line : List ℕ) → 4096 < length line → step b line ≡ (b, line_of LineTooLong ++ line_feed)) →
-    (a b : List ℕ) → 4096 < length a → 4096 < length b → StepsAlike machine leaves a b
+pub long_lines_alike : ((h : Held) (line : List ℕ) → LINE_LIMIT < length line → line_refusal h line ≡ Some LineTooLong) →
+    ((b : Base) (line : List ℕ) → LINE_LIMIT < length line → step b line ≡ (b, line_of LineTooLong ++ line_feed)) →
+    (a b : List ℕ) → LINE_LIMIT < length a → LINE_LIMIT < length b → StepsAlike machine leaves a b
 long_lines_alike refuses long_step a b long_a long_b = record {
   next = λ s.
       let quit : ends s.base a ≡ ends s.base b

@@ -7,9 +7,11 @@ use Rattle.line_loop.specs.Lines.{ended_lines}
 use Rattle.line_loop.specs.Machine.{replies}
 use Rattle.line_loop.specs.Stop.{WritesPart}
 use Rattle.domino.specs.Machine.{State, machine}
-use Rattle.domino.specs.Whole.{Whole, bad_words, empty, quits, whole}
+use Rattle.domino.specs.Whole.{Plan, Says, Answers, Whole, bad_words, plan_of, quits, whole}
 use Rattle.domino.specs.declared.status.Status.{Status}
 use Rattle.domino.specs.declared.status.Status.TheVariants.{Done, BadWords, ReadFault, WriteFault, ShelfFault, NoMemory, InputLimit}
+use Rattle.domino.specs.declared.words.Words.{Words}
+use Rattle.domino.specs.declared.words.Words.TheVariants.{Bad, Plain}
 
 -- A fault is blamed only where that count rose and the two others stand. Every other status leaves all three.
 abbrev pub HasCause : Status → Counts → Counts → Type 0
@@ -21,36 +23,40 @@ HasCause ShelfFault old new = Rose old.context new.context × (new.source ≡ ol
 HasCause NoMemory old new = new ≡ old
 HasCause InputLimit old new = new ≡ old
 
--- which statuses come with good words alone, and which with bad ones
-abbrev pub FitsWords : Status → Bool → Type 0
-FitsWords Done words = words ≡ true
-FitsWords BadWords words = words ≡ false
-FitsWords ReadFault words = words ≡ true
-FitsWords WriteFault words = Unit {0}
-FitsWords ShelfFault words = words ≡ true
-FitsWords NoMemory words = Unit {0}
-FitsWords InputLimit words = words ≡ true
+-- Which statuses may come with which words: bad ones are said, which may fail or want memory, and good ones are never called bad.
+abbrev pub may_end : Words → Status → Bool
+may_end Bad Done = false
+may_end Bad BadWords = true
+may_end Bad ReadFault = false
+may_end Bad WriteFault = true
+may_end Bad ShelfFault = false
+may_end Bad NoMemory = true
+may_end Bad InputLimit = false
+may_end Plain Done = true
+may_end Plain BadWords = false
+may_end Plain ReadFault = true
+may_end Plain WriteFault = true
+may_end Plain ShelfFault = true
+may_end Plain NoMemory = true
+may_end Plain InputLimit = true
 
--- what the run is given: whether the words are good, the limit, the bytes of the source, what was written before, and the texts
+-- what the run is given: the words, the limit, the bytes of the source, what was written before, and the texts
 pub record Given : Type 0 where
-  pub words : Bool
+  pub words : Words
   pub limit : ℕ
   pub bytes : List ℕ
   pub written : List ℕ
   pub texts : Texts
 
-abbrev pub start : Given → State
-start g = empty g.texts
-
 abbrev pub whole_of : Given → Whole
-whole_of g = whole g.words g.limit (start g) g.bytes
+whole_of g = whole (plan_of g.words g.texts) g.limit g.bytes
 
 -- a `quit` that nothing refuses ends within the bytes taken
-pub record QuitsWithin (g : Given) (left : Option (List ℕ)) : Type 0 where
+pub record QuitsWithin (start : State) (g : Given) (left : Option (List ℕ)) : Type 0 where
   pub count : ℕ
   pub within : count ≤ g.limit
   pub taken : HasTaken g.bytes count left
-  pub quit : quits (start g) (ended_lines (take count g.bytes)) ≡ true
+  pub quit : quits start (ended_lines (take count g.bytes)) ≡ true
 
 -- the whole run: its status, all its output, and the texts as they were
 pub record IsWhole (g : Given) (status : Status) (written : Option (List ℕ)) (texts : Option Texts) : Type 0 where
@@ -59,12 +65,12 @@ pub record IsWhole (g : Given) (status : Status) (written : Option (List ℕ)) (
   pub texts_stay : texts ≡ Some g.texts
 
 -- No `quit` ends within the bytes taken. The replies to the lines that end within them were written, and no more.
-pub record IsReadFault (g : Given) (written : Option (List ℕ)) (texts : Option Texts) (left : Option (List ℕ)) : Type 0 where
+pub record IsReadFault (start : State) (g : Given) (written : Option (List ℕ)) (texts : Option Texts) (left : Option (List ℕ)) : Type 0 where
   pub count : ℕ
   pub within : count ≤ g.limit
   pub taken : HasTaken g.bytes count left
-  pub going_on : quits (start g) (ended_lines (take count g.bytes)) ≡ false
-  pub output : written ≡ Some (g.written ++ replies machine (start g) (ended_lines (take count g.bytes)))
+  pub going_on : quits start (ended_lines (take count g.bytes)) ≡ false
+  pub output : written ≡ Some (g.written ++ replies machine start (ended_lines (take count g.bytes)))
   pub texts_stay : texts ≡ Some g.texts
 
 -- a part of the output was written that lacks at least its last byte
@@ -81,21 +87,31 @@ pub record IsPart (g : Given) (written : Option (List ℕ)) (texts : Option Text
   pub texts_stay : texts ≡ Some g.texts
 
 -- With bad words nothing is read. Else no byte past the limit is taken, but for the one that shows that there is another.
-abbrev pub KeepsLimit : Bool → ℕ → List ℕ → Status → Option (List ℕ) → Type 0
-KeepsLimit false limit bytes status left = left ≡ Some bytes
-KeepsLimit true limit bytes InputLimit left = HasTaken bytes (limit + 1) left
-KeepsLimit true limit bytes status left = StaysWithin limit bytes left
+abbrev pub KeepsLimit : Words → ℕ → List ℕ → Status → Option (List ℕ) → Type 0
+KeepsLimit Bad limit bytes status left = left ≡ Some bytes
+KeepsLimit Plain limit bytes InputLimit left = HasTaken bytes (limit + 1) left
+KeepsLimit Plain limit bytes status left = StaysWithin limit bytes left
 
--- By each status: what was written, and what it says of the input. After Done all of it was read, or a `quit` was.
--- The shelf isn't asked, so it doesn't fail.
+-- By the plan and the status: what was written, and what it says of the input. Where lines are answered, Done says that all
+-- of it was read, or a `quit` was. The shelf isn't asked, so it doesn't fail.
+abbrev pub EndsBy : Plan → Given → Status → Option (List ℕ) → Option Texts → Option (List ℕ) → Type 0
+EndsBy (Says said status) g Done written texts left = IsWhole g Done written texts
+EndsBy (Says said status) g BadWords written texts left = IsWhole g BadWords written texts
+EndsBy (Says said status) g InputLimit written texts left = ⊥
+EndsBy (Says said status) g ReadFault written texts left = ⊥
+EndsBy (Says said status) g WriteFault written texts left = IsProperPart g written texts
+EndsBy (Says said status) g ShelfFault written texts left = ⊥
+EndsBy (Says said status) g NoMemory written texts left = IsPart g written texts
+EndsBy (Answers start) g Done written texts left = IsWhole g Done written texts × ((left ≡ Some []) ⊎ QuitsWithin start g left)
+EndsBy (Answers start) g BadWords written texts left = ⊥
+EndsBy (Answers start) g InputLimit written texts left = IsWhole g InputLimit written texts × HasTaken g.bytes (g.limit + 1) left
+EndsBy (Answers start) g ReadFault written texts left = IsReadFault start g written texts left
+EndsBy (Answers start) g WriteFault written texts left = IsProperPart g written texts
+EndsBy (Answers start) g ShelfFault written texts left = ⊥
+EndsBy (Answers start) g NoMemory written texts left = IsPart g written texts
+
 abbrev pub EndsAs : Given → Status → Option (List ℕ) → Option Texts → Option (List ℕ) → Type 0
-EndsAs g Done written texts left = IsWhole g Done written texts × ((left ≡ Some []) ⊎ QuitsWithin g left)
-EndsAs g BadWords written texts left = IsWhole g BadWords written texts
-EndsAs g InputLimit written texts left = IsWhole g InputLimit written texts × HasTaken g.bytes (g.limit + 1) left
-EndsAs g ReadFault written texts left = IsReadFault g written texts left
-EndsAs g WriteFault written texts left = IsProperPart g written texts
-EndsAs g ShelfFault written texts left = ⊥
-EndsAs g NoMemory written texts left = IsPart g written texts
+EndsAs g status written texts left = EndsBy (plan_of g.words g.texts) g status written texts left
 
 -- where no count rose: the whole run, or want of memory
 abbrev pub CompletesAs : Given → Status → Option (List ℕ) → Option Texts → Type 0

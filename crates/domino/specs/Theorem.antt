@@ -1,10 +1,11 @@
 -- The theorem of the program: how each run ends, what it wrote, and what it took.
-use Rattle.std.specs.Prelude.{◌≡◌, ℕ, Bool, List, Option, Some}
+use Rattle.std.specs.Prelude.{◌≡◌, ℕ, true, List, Option, Some}
 use Rattle.outside.specs.Faults.{Rose}
 use Rattle.outside.specs.Shelf.{Texts}
 use Rattle.line_loop.specs.Ending.{Counts}
-use Rattle.domino.specs.Ends.{CompletesAs, EndsAs, FitsWords, HasCause, KeepsLimit}
+use Rattle.domino.specs.Ends.{CompletesAs, EndsAs, HasCause, KeepsLimit, may_end}
 use Rattle.domino.specs.declared.status.Status.{Status}
+use Rattle.domino.specs.declared.words.Words.{Words}
 
 -- what is seen of the outside at one moment: the counts of faults, and what each object tells
 pub record Seen : Type 0 where
@@ -14,8 +15,8 @@ pub record Seen : Type 0 where
   pub texts : Option Texts
 
 -- all that a run promises, from the outside before it to that after it
-pub record RunsAs (limit : ℕ) (words : Bool) (before after : Seen) (status : Status) : Type 0 where
-  pub fits : FitsWords status words
+pub record RunsAs (limit : ℕ) (words : Words) (before after : Seen) (status : Status) : Type 0 where
+  pub fits : may_end words status ≡ true
   pub cause : HasCause status before.faults after.faults
   pub taken : (bytes : List ℕ) → before.left ≡ Some bytes → KeepsLimit words limit bytes status after.left
   pub ends : (bytes written : List ℕ) (texts : Texts) → before.left ≡ Some bytes → before.written ≡ Some written → before.texts ≡ Some texts →

@@ -1,5 +1,5 @@
 -- The whole run: what it is to write, and its status.
-use Rattle.std.specs.Prelude.{ℕ, Bool, false, ◌==◌, List, [], ◌∷◌, ◌++◌, codes, if◌then◌else◌}
+use Rattle.std.specs.Prelude.{ℕ, Bool, false, List, [], ◌∷◌, ◌++◌, codes, if◌then◌else◌}
 use Rattle.outside.specs.Shelf.{Texts}
 use Rattle.line_loop.specs.Machine.{after}
 use Rattle.line_loop.specs.Run.{is_cut, output}
@@ -7,10 +7,14 @@ use Rattle.line_meaning.specs.Step.{base, held}
 use Rattle.domino.specs.Machine.{State, machine}
 use Rattle.domino.specs.declared.status.Status.{Status}
 use Rattle.domino.specs.declared.status.Status.TheVariants.{Done, BadWords, InputLimit}
+use Rattle.domino.specs.declared.words.Words.{Words}
+use Rattle.domino.specs.declared.words.Words.TheVariants.{Bad, Plain}
 
--- the words are the program's name alone
-abbrev pub are_words : ℕ → Bool
-are_words count = count == 1
+-- the program's name alone asks for a plain run
+abbrev pub words_of : List (List ℕ) → Words
+words_of [] = Bad
+words_of (name ∷ []) = Plain
+words_of (name ∷ word ∷ more) = Bad
 
 abbrev pub bad_words : List ℕ
 bad_words = codes "bad words" ++ 10 ∷ []
@@ -18,6 +22,15 @@ bad_words = codes "bad words" ++ 10 ∷ []
 -- the state before the first line: nothing was accepted
 abbrev pub empty : Texts → State
 empty texts = record { base = base (held []) texts; ended = false }
+
+-- what a run does: it says something and reads nothing, or it answers the lines of the input, from a state on
+pub data Plan : Type 0 where
+  Says : List ℕ → Status → Plan
+  Answers : State → Plan
+
+abbrev pub plan_of : Words → Texts → Plan
+plan_of Bad texts = Says bad_words BadWords
+plan_of Plain texts = Answers (empty texts)
 
 -- one of these lines is an accepted `quit`
 abbrev pub quits : State → List (List ℕ) → Bool
@@ -27,11 +40,11 @@ pub record Whole : Type 0 where
   pub output : List ℕ
   pub status : Status
 
--- With bad words they are all that is said. Else the lines of the input are answered, from the state `start` on, to its end
--- or to the first accepted `quit`. Where there are more bytes than the limit, and no `quit` ends within it, the lines that
--- end within it are answered, and the status says so.
-abbrev pub whole : Bool → ℕ → State → List ℕ → Whole
-whole words limit start bytes = record {
-  output = if words then output machine limit start bytes else bad_words;
-  status = if words then (if is_cut machine limit start bytes then InputLimit else Done) else BadWords;
+-- What is said is all. Lines are answered to the end of the input or to the first accepted `quit`; where there are more
+-- bytes than the limit, and no `quit` ends within it, the lines that end within it are answered, and the status says so.
+abbrev pub whole : Plan → ℕ → List ℕ → Whole
+whole (Says said status) limit bytes = record { output = said; status = status }
+whole (Answers start) limit bytes = record {
+  output = output machine limit start bytes;
+  status = if is_cut machine limit start bytes then InputLimit else Done;
 }

@@ -1,12 +1,15 @@
 //! The database as a line machine.
-ghost use Rattle.std.specs.Prelude.{◌≡◌, ◌++◌, false, [], IfErr, OnOk};
+ghost use Rattle.std.specs.Prelude.{◌≡◌, ℕ, ◌+◌, ◌≤◌, ◌++◌, false, [], IfErr, IfOk, OnOk};
 ghost use Rattle.outside.specs.declared.fault.OutFail.TheVariants.{NoMemory};
+ghost use Rattle.command_text.specs.Journal.{spelled};
 ghost use Rattle.command_text.specs.Refusals.{line_of};
+ghost use Rattle.line_meaning.specs.Answering.{looks};
+ghost use Rattle.line_meaning.specs.Journal.{world};
 ghost use Rattle.line_meaning.specs.Reply.{line_feed};
 ghost use Rattle.line_meaning.specs.Step.{held};
-ghost use Rattle.session.specs.Answers.{Applies};
+ghost use Rattle.session.specs.Answers.{Applies, IsUnread};
 
-use command_text::Refusal;
+use command_text::{LINE_LIMIT, Refusal};
 use line_loop::Handler;
 use outside::{OutFail, Shelf};
 use session::{ApplyFault, Next, Session};
@@ -39,7 +42,10 @@ impl<C: Counts> Database<C> {
 /// What counts the steps of a session. A `Database` knows its counters by this trait alone, since an `impl`
 /// that gives a constant can't name their lifetimes.
 pub trait Counts: Drop {
-    /// Answers one line, as `Session::apply` does. The shelf isn't asked.
+    /// The looks at timelines that were counted.
+    ghost reads: { Self → ℕ };
+
+    /// Answers one line, as `Session::apply` does, within its bound of looks. The shelf isn't asked.
     fn apply<F: Shelf>(
         &mut self,
         session: &mut Session,
@@ -48,7 +54,10 @@ pub trait Counts: Drop {
         out: &mut Vec<u8>,
     ) -> Result<Next, ApplyFault>
         ensures applies { Applies (F.texts shelf.old) line.now session.old session.new out.old.items out.new.items result }
-        ensures shelf { shelf.new ≡ shelf.old };
+        ensures shelf { shelf.new ≡ shelf.old }
+        ensures least { reads self.old ≤ reads self.new }
+        ensures most { reads self.new ≤ reads self.old + looks (world session.old.journal).history.catalog (spelled line.now) }
+        ensures unread { IfOk result (λ next. IsUnread next (reads self.old) (reads self.new)) };
 }
 
 /// The two counters of steps.
@@ -59,6 +68,8 @@ pub struct Counters<'a, 'b, L: Ledger, M: Ledger> {
 }
 
 impl<L: Ledger, M: Ledger> Counts for Counters<'_, '_, L, M> {
+    ghost reads = { λ c. c.reads.now };
+
     fn apply<F: Shelf>(
         &mut self,
         session: &mut Session,
@@ -84,9 +95,11 @@ impl<F: Shelf, C: Counts> Handler<F> for Database<C> {
 
     ghost leaves = { leaves };
 
-    ghost LONGEST = { Some 4096 };
+    ghost use Rattle.command_text.specs.declared.reading.TheConstants.{LINE_LIMIT};
 
-    const LONGEST: Option<u32> = Some(4096);
+    ghost LONGEST = { Some LINE_LIMIT };
+
+    const LONGEST: Option<u32> = Some(LINE_LIMIT as u32);
 
     fn is_done(&self) -> bool {
         self.ended

@@ -2,14 +2,15 @@
 //! standard output.
 #![tactic(auto)]
 
-ghost use Rattle.std.specs.Prelude.{◌≡◌, ◌<◌, length};
-ghost use Rattle.domino.specs.Whole.{are_words};
+ghost use Rattle.std.specs.Prelude.{◌≡◌, ◌<◌, map, string_bytes};
+ghost use Rattle.domino.specs.Whole.{words_of};
 ghost use Rattle.domino.specs.Theorem.{RunsAs};
 ghost use Rattle.domino.specs.declared.run.TheConstants.{INPUT_LIMIT};
 
 mod machine;
 mod run;
 mod status;
+mod words;
 
 use outside::{Shelf, Sink, Source, StdSink, StdSource, SureShelf};
 use run::run;
@@ -21,7 +22,7 @@ use std::{env, io};
 use steps::Steps;
 
 fn main(rt: HostRuntime) -> io::Result<ExitCode> {
-    let Some(words) = words(&rt) else {
+    let Some(words) = given_words(&rt) else {
         return Ok(ExitCode::from(Status::NoMemory.code()));
     };
     let mut source = StdSource::new(rt.reader());
@@ -33,7 +34,7 @@ fn main(rt: HostRuntime) -> io::Result<ExitCode> {
 
 /// The words of the program, its name first; none at all where one of them is no text, so that they are bad
 /// words. None where memory is out.
-fn words(rt: &HostRuntime) -> Option<Vec<String>> {
+fn given_words(rt: &HostRuntime) -> Option<Vec<String>> {
     match env::args(rt) {
         Ok(words) => words.collect::<Vec<String>>(rt.alloc()).ok(),
         Err(error) if error.kind() == io::ErrorKind::OutOfMemory => None,
@@ -49,7 +50,7 @@ fn run_program<S: Source, K: Sink, F: Shelf>(
     sink: &mut K,
     shelf: &mut F,
 ) -> Status
-    ensures { RunsAs INPUT_LIMIT (are_words (length words.now))
+    ensures { RunsAs INPUT_LIMIT (words_of (map string_bytes words.now))
         (record {
           faults = record { source = S.faults source.old; sink = K.faults sink.old; context = F.faults shelf.old };
           left = S.left source.old;
@@ -81,7 +82,7 @@ fn count_reads<S: Source, K: Sink, F: Shelf, L: Ledger>(
     requires parts { reads.parts ≡ L.parts }
     requires some { 0 < reads.parts }
     requires one { 0 < probes.parts }
-    ensures { RunsAs INPUT_LIMIT (are_words (length words.now))
+    ensures { RunsAs INPUT_LIMIT (words_of (map string_bytes words.now))
         (record {
           faults = record { source = S.faults source.old; sink = K.faults sink.old; context = F.faults shelf.old };
           left = S.left source.old;
@@ -113,7 +114,7 @@ fn count_probes<S: Source, K: Sink, F: Shelf, L: Ledger, M: Ledger>(
     requires name { probes.name ≡ M.name }
     requires parts { probes.parts ≡ M.parts }
     requires some { 0 < probes.parts }
-    ensures { RunsAs INPUT_LIMIT (are_words (length words.now))
+    ensures { RunsAs INPUT_LIMIT (words_of (map string_bytes words.now))
         (record {
           faults = record { source = S.faults source.old; sink = K.faults sink.old; context = F.faults shelf.old };
           left = S.left source.old;

@@ -1,14 +1,15 @@
 //! The whole run.
-ghost use Rattle.std.specs.Prelude.{◌≡◌, ℕ, List, Some, length};
+ghost use Rattle.std.specs.Prelude.{◌≡◌, ℕ, true, List, Some, map, string_bytes};
 ghost use Rattle.outside.specs.Faults.{Rose};
 ghost use Rattle.outside.specs.Shelf.{Texts};
-ghost use Rattle.domino.specs.Whole.{are_words};
-ghost use Rattle.domino.specs.Ends.{CompletesAs, EndsAs, FitsWords, HasCause, KeepsLimit, Refuses};
+ghost use Rattle.domino.specs.Whole.{words_of};
+ghost use Rattle.domino.specs.Ends.{CompletesAs, EndsAs, HasCause, KeepsLimit, Refuses, may_end};
 ghost use Rattle.domino.specs.Theorem.{RunsAs};
 ghost use Rattle.domino.specs.declared.run.TheConstants.{INPUT_LIMIT};
 
 use crate::machine::{Counters, Database};
 use crate::status::{Status, status_of};
+use crate::words::{Words, words_of};
 use line_loop::{run_lines, write_all};
 use outside::{OutFail, Shelf, Sink, Source};
 use std::alloc::Global;
@@ -29,7 +30,7 @@ pub fn run<S: Source, K: Sink, F: Shelf, L: Ledger, M: Ledger>(
     reads: &mut Steps<L>,
     probes: &mut Steps<M>,
 ) -> Status
-    ensures { RunsAs INPUT_LIMIT (are_words (length words.now))
+    ensures { RunsAs INPUT_LIMIT (words_of (map string_bytes words.now))
         (record {
           faults = record { source = S.faults source.old; sink = K.faults sink.old; context = F.faults shelf.old };
           left = S.left source.old;
@@ -72,7 +73,7 @@ pub fn run_limited<S: Source, K: Sink, F: Shelf, L: Ledger, M: Ledger>(
     reads: &mut Steps<L>,
     probes: &mut Steps<M>,
 ) -> Status
-    ensures { RunsAs limit (are_words (length words.now))
+    ensures { RunsAs limit (words_of (map string_bytes words.now))
         (record {
           faults = record { source = S.faults source.old; sink = K.faults sink.old; context = F.faults shelf.old };
           left = S.left source.old;
@@ -101,27 +102,29 @@ fn run_within<S: Source, K: Sink, F: Shelf, L: Ledger, M: Ledger>(
     reads: &mut Steps<L>,
     probes: &mut Steps<M>,
 ) -> Status
-    ensures words { FitsWords result (are_words (length words.now)) }
+    ensures words { may_end (words_of (map string_bytes words.now)) result ≡ true }
     ensures cause { HasCause result
         (record { source = S.faults source.old; sink = K.faults sink.old; context = F.faults shelf.old })
         (record { source = S.faults source.new; sink = K.faults sink.new; context = F.faults shelf.new }) }
-    ensures taken { (bytes : List ℕ) → S.left source.old ≡ Some bytes → KeepsLimit (are_words (length words.now)) limit bytes result (S.left source.new) }
+    ensures taken { (bytes : List ℕ) → S.left source.old ≡ Some bytes → KeepsLimit (words_of (map string_bytes words.now)) limit bytes result (S.left source.new) }
     ensures ends { (bytes written : List ℕ) (texts : Texts) →
         S.left source.old ≡ Some bytes → K.written sink.old ≡ Some written → F.texts shelf.old ≡ Some texts →
-        EndsAs (record { words = are_words (length words.now); limit = limit; bytes = bytes; written = written; texts = texts })
+        EndsAs (record { words = words_of (map string_bytes words.now); limit = limit; bytes = bytes; written = written; texts = texts })
         result (K.written sink.new) (F.texts shelf.new) (S.left source.new) }
     ensures complete { (bytes written : List ℕ) (texts : Texts) →
         S.left source.old ≡ Some bytes → K.written sink.old ≡ Some written → F.texts shelf.old ≡ Some texts →
         ¬ Rose (S.faults source.old) (S.faults source.new) → ¬ Rose (K.faults sink.old) (K.faults sink.new) →
-        CompletesAs (record { words = are_words (length words.now); limit = limit; bytes = bytes; written = written; texts = texts })
+        CompletesAs (record { words = words_of (map string_bytes words.now); limit = limit; bytes = bytes; written = written; texts = texts })
         result (K.written sink.new) (F.texts shelf.new) }
 {
-    if words.len() != 1 {
-        return refuse_words(sink);
+    match words_of(words) {
+        Words::Bad => refuse_words(sink),
+        Words::Plain => {
+            let mut database = Database::new(alloc, Counters { reads, probes });
+            let ending = run_lines(alloc, limit, &mut database, source, sink, shelf);
+            status_of(ending)
+        }
     }
-    let mut database = Database::new(alloc, Counters { reads, probes });
-    let ending = run_lines(alloc, limit, &mut database, source, sink, shelf);
-    status_of(ending)
 }
 
 /// Says that the words are bad.
