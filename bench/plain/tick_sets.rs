@@ -1,5 +1,5 @@
-// The yardstick of `tick_sets`: the same operations on the same sets, in plain Rust without proofs.
-use std::hint::black_box;
+// The yardstick of `tick_sets` and `small_sets`: the same operations on the same sets, in plain Rust without
+// proofs.
 use std::time::Instant;
 
 type Spans = Vec<(u32, u32)>;
@@ -49,36 +49,85 @@ fn state(span: Option<&(u32, u32)>, at: u32) -> (bool, u32) {
     }
 }
 
-fn has(spans: &[(u32, u32)], t: u32) -> bool {
-    let i = spans.partition_point(|span| span.1 < t);
-    i < spans.len() && spans[i].0 <= t
+/// One walk over both: each span of the goal, from where the guard's span that leads to it begins.
+fn until(guard: &[(u32, u32)], goal: &[(u32, u32)]) -> Spans {
+    let mut out: Spans = Vec::with_capacity(goal.len());
+    let mut i = 0;
+    for &(lo, hi) in goal {
+        while i < guard.len() && guard[i].1 + 1 < lo {
+            i += 1;
+        }
+        let from = guard.get(i).map_or(lo, |leading| lo.min(leading.0));
+        match out.last_mut() {
+            Some(last) if from <= last.1 + 1 => last.1 = hi,
+            _ => out.push((from, hi)),
+        }
+    }
+    out
 }
 
-/// The spans of the goal, and those of the guard without the goal that lead to one.
-fn until(guard: &[(u32, u32)], goal: &[(u32, u32)]) -> Spans {
-    let alone = swept(guard, goal, |g, h| g && !h);
-    let leading: Spans = alone.into_iter().filter(|span| has(goal, span.1 + 1)).collect();
-    swept(&leading, goal, |g, h| g || h)
+fn next(seed: &mut u64) -> u64 {
+    *seed = seed.wrapping_mul(6_364_136_223_846_793_005).wrapping_add(1_442_695_040_888_963_407);
+    *seed
+}
+
+/// A set of one to three spans, each of up to 1,000 ticks, cut at the last tick of the window.
+fn small_set(seed: &mut u64) -> Spans {
+    let count = (next(seed) >> 20) % 3 + 1;
+    (0..count).fold(Spans::new(), |set, _| {
+        let lo = ((next(seed) >> 20) % 9_000) as u32;
+        let length = ((next(seed) >> 20) % 1_000) as u32;
+        swept(&set, &[(lo, (lo + length).min(10_000))], |x, y| x || y)
+    })
 }
 
 fn timed(name: &str, rounds: u32, spans: usize, operation: impl Fn() -> Spans) {
     let begun = Instant::now();
     let mut found = 0;
     for _ in 0..rounds {
-        found = black_box(operation()).len();
+        found = operation().len();
     }
     let nanos = begun.elapsed().as_nanos();
     println!("{name} {found} spans");
     eprintln!("{name} {:.1} ns a span", nanos as f64 / (f64::from(rounds) * spans as f64));
 }
 
-fn main() {
-    let words: Vec<u32> = std::env::args().skip(1).map(|word| word.parse().unwrap()).collect();
-    let (count, rounds) = (words[0], words[1]);
+fn timed_small(name: &str, rounds: u32, sets: &[Spans], operation: impl Fn(&Spans, &Spans) -> Spans) {
+    let begun = Instant::now();
+    let mut spans = 0;
+    for _ in 0..rounds {
+        for pair in sets.windows(2) {
+            spans += operation(&pair[0], &pair[1]).len();
+        }
+    }
+    let nanos = begun.elapsed().as_nanos();
+    println!("{name} {spans} spans");
+    eprintln!("{name} {:.1} ns a call", nanos as f64 / (f64::from(rounds) * sets.len() as f64));
+}
+
+fn large(count: u32, rounds: u32) {
     let (a, b) = (comb(5, count), comb(7, count));
     let both = a.len() + b.len();
     timed("union", rounds, both, || swept(&a, &b, |x, y| x || y));
     timed("meet", rounds, both, || swept(&a, &b, |x, y| x && y));
     timed("complement", rounds, both, || swept(&a, &[], |x, _| !x));
     timed("until", rounds, both, || until(&a, &b));
+}
+
+fn small(count: u32, rounds: u32) {
+    let mut seed = 3;
+    let sets: Vec<Spans> = (0..count).map(|_| small_set(&mut seed)).collect();
+    timed_small("small_union", rounds, &sets, |a, b| swept(a, b, |x, y| x || y));
+    timed_small("small_meet", rounds, &sets, |a, b| swept(a, b, |x, y| x && y));
+    timed_small("small_until", rounds, &sets, |a, b| until(a, b));
+}
+
+fn main() {
+    let words: Vec<String> = std::env::args().skip(1).collect();
+    let (count, rounds) = (words[1].parse().unwrap(), words[2].parse().unwrap());
+    match words[0].as_str() {
+        "tick_sets" => large(count, rounds),
+        "small_sets" => small(count, rounds),
+        word => panic!("no such word: {word}"),
+    }
 }

@@ -1,26 +1,33 @@
 //! Lines, distances and polygons, on many motions and over a long window.
-ghost use Rattle.std.specs.Prelude.{◌≡◌, ◌-◌, ◌<◌, ◌≤◌, ◌↔◌, IsTrue};
-ghost use Rattle.linear_crossing.specs.Moving.{IsInReach};
+ghost use Rattle.std.specs.Prelude.{◌≡◌, ◌-◌, ◌<◌, ◌≤◌};
 
+use crate::motions::{Field, motions, pairs, place, spread};
+use crate::timer::Timer;
 use anyhow::Result;
 use case_table::Op;
 use distance_crossing::within;
-use fixed_point::{Fix, Point, Slope};
-use linear_crossing::{COORDINATE_LIMIT, Line, Quad, solve};
+use fixed_point::Point;
+use linear_crossing::{Line, Quad, solve};
 use polygon::Polygon;
 use std::alloc::{AllocError, Global};
 use std::marker::Brand;
 use std::rt::Clock;
 use std::sync::ledger::{Blank, Ledger};
-use std::time::Instant;
 use steps::Steps;
-use tick_set::{SPAN_LIMIT, Span, Window};
+use tick_set::{SPAN_LIMIT, Window};
 
 // The window's last tick. Its first is 0.
 const LAST: u32 = 1_000_000;
 
 // The square of the distance that is asked for.
 const LIMIT: i128 = 160_000_000_000_000_000;
+
+// Where the motions are and how fast.
+const FIELD: Field = Field {
+    middle: 0,
+    places: 600_000_000,
+    slopes: 2_000,
+};
 
 /// Times each call on so many motions, so many rounds.
 pub fn run(rt: &HostRuntime, count: u32, rounds: u32) -> Result<()> {
@@ -29,7 +36,7 @@ pub fn run(rt: &HostRuntime, count: u32, rounds: u32) -> Result<()> {
         return Ok(());
     };
     time_solve(rt, count, rounds, w)?;
-    let lines = motions(alloc, count)?;
+    let lines = motions(alloc, count, FIELD)?;
     let pairs = pairs(alloc, &lines)?;
     time_within::<Brand>(rt, Blank::new(1), &pairs, rounds, w)?;
     time_inside(
@@ -115,20 +122,6 @@ struct Function {
     op: Op,
 }
 
-/// The next number of a seeded row of numbers.
-fn next(seed: &mut u64) -> u64 {
-    *seed = seed
-        .wrapping_mul(6_364_136_223_846_793_005)
-        .wrapping_add(1_442_695_040_888_963_407);
-    *seed
-}
-
-/// A number from `-size` to `size`.
-fn spread(seed: &mut u64, size: u32) -> i64 {
-    let width = 2 * u64::from(size) + 1;
-    ((next(seed) >> 20) % width) as i64 - i64::from(size)
-}
-
 fn functions(alloc: Global, count: u32) -> Result<Vec<Function>, AllocError> {
     let mut seed = 1;
     let mut functions = Vec::with_capacity(alloc, count as usize)?;
@@ -146,50 +139,6 @@ fn functions(alloc: Global, count: u32) -> Result<Vec<Function>, AllocError> {
         functions.push(Function { rise, start, op })?;
     }
     Ok(functions)
-}
-
-fn place(x: i64, y: i64) -> Option<Point> {
-    Some(Point {
-        x: Fix::of(x)?,
-        y: Fix::of(y)?,
-    })
-}
-
-fn motions(alloc: Global, count: u32) -> Result<Vec<Line>, AllocError> {
-    let mut seed = 2;
-    let mut lines = Vec::with_capacity(alloc, count as usize)?;
-    for _ in 0..count {
-        let x = spread(&mut seed, 600_000_000);
-        let y = spread(&mut seed, 600_000_000);
-        let dx = spread(&mut seed, 2_000);
-        let dy = spread(&mut seed, 2_000);
-        if let (Some(at), Some(dx), Some(dy)) = (place(x, y), Slope::of(dx), Slope::of(dy)) {
-            lines.push(Line { at, dx, dy })?;
-        }
-    }
-    Ok(lines)
-}
-
-/// Whether the motion begins where a stored one can be.
-fn is_in_reach(l: &Line) -> bool
-    ensures { IsTrue result ↔ IsInReach l.now }
-{
-    l.at.x.raw().unsigned_abs() <= COORDINATE_LIMIT
-        && l.at.y.raw().unsigned_abs() <= COORDINATE_LIMIT
-}
-
-/// Each motion and the next one.
-fn pairs(alloc: Global, lines: &[Line]) -> Result<Vec<Quad>, AllocError> {
-    let mut pairs = Vec::with_capacity(alloc, lines.len())?;
-    for pair in lines.windows(2) {
-        if let [p, q] = pair
-            && is_in_reach(p)
-            && is_in_reach(q)
-        {
-            pairs.push(Quad::between(p, q))?;
-        }
-    }
-    Ok(pairs)
 }
 
 fn square(alloc: Global) -> Result<Vec<Point>, AllocError> {
@@ -220,48 +169,4 @@ fn lens(alloc: Global) -> Result<Vec<Point>, AllocError> {
         }
     }
     Ok(points)
-}
-
-/// What one call takes and gives.
-#[derive(Drop)]
-struct Timer {
-    begun: Instant,
-    calls: u128,
-    runs: u64,
-    ticks: u64,
-}
-
-impl Timer {
-    fn begin(rt: &impl Clock, rounds: u32, count: usize) -> Result<Timer> {
-        Ok(Timer {
-            begun: Instant::now(rt)?,
-            calls: u128::from(rounds) * count as u128,
-            runs: 0,
-            ticks: 0,
-        })
-    }
-
-    fn keep(&mut self, run: Option<Span>) {
-        if let Some(s) = run {
-            self.runs = self.runs.wrapping_add(1);
-            self.ticks = self.ticks.wrapping_add(u64::from(s.hi - s.lo) + 1);
-        }
-    }
-
-    fn report<R: Print + Eprint + Clock>(self, rt: &R, name: &str) -> Result<()> {
-        let Timer {
-            begun,
-            calls,
-            runs,
-            ticks,
-        } = self;
-        let nanos = begun.elapsed(rt)?.as_nanos();
-        println!(rt; "{name} {runs} runs {ticks} ticks")?;
-        if calls > 0 {
-            let whole = nanos / calls;
-            let tenths = nanos % calls * 10 / calls;
-            eprintln!(rt; "{name} {whole}.{tenths} ns a call")?;
-        }
-        Ok(())
-    }
 }

@@ -1,0 +1,5 @@
+-- The ledger is the new one.
+use Rattle.bench.proofs.circles.run.Given as goal
+
+abbrev pub ghosts-time_all : goal.ghosts-time_all
+ghosts-time_all a = record { name = a.blank.name; parts = a.blank.parts }
