@@ -1,5 +1,5 @@
 -- The parser's answer, for the query at the end of a command.
-use Rattle.std.proofs.Common.{◌≡◌, ℕ, Bool, true, false, ◌&&◌, List, [], ◌∷◌, drop, map, Option, Some, None, refl, sym, ◌∙◌, ap, subst}
+use Rattle.std.proofs.Common.{◌≡◌, ℕ, Bool, true, false, ◌&&◌, ◌||◌, List, [], ◌∷◌, drop, map, Option, Some, None, refl, sym, ◌∙◌, ap, subst}
 use Rattle.std.specs.Prelude.{is_none, option_map, if◌then◌else◌}
 use Rattle.std.proofs.lemmas.List.{drop-map}
 use Rattle.ftl_lexer.specs.declared.kinds.Kind.{Kind}
@@ -21,7 +21,7 @@ use Rattle.ftl_parser.proofs.Marks.{first_unfit_scan}
 use Rattle.command_text.specs.declared.fault.CommandFault.{CommandFault}
 use Rattle.command_text.specs.declared.fault.CommandFault.TheVariants as faults
 use Rattle.command_text.specs.declared.refusal.Refusal.TheVariants as refusals
-use Rattle.command_text.specs.Piece.{piece_of, pieces, in_query}
+use Rattle.command_text.specs.Piece.{Piece, piece_of, pieces, in_query, is_long, has_long}
 use Rattle.command_text.specs.Query.{query_of, is_query_fit, is_query_small, told}
 use Rattle.command_text.specs.Reading.{Reader, Read, query}
 use Rattle.command_text.specs.Line.{late_refusal, is_at_end, Refuses}
@@ -36,14 +36,31 @@ same_piece kinds.Text bytes = refl
 same_piece (kinds.Sym code) bytes = refl
 same_piece (kinds.Key code) bytes = refl
 
-same_pieces : (ts : List Lexeme) → query_piece.pieces ts ≡ map in_query (map (λ t. piece_of t.0 t.1) ts)
-same_pieces [] = refl
-same_pieces (t ∷ ts) = ap (λ p. p ∷ query_piece.pieces ts) (same_piece t.0 t.1) ∙ ap (λ ps. in_query (piece_of t.0 t.1) ∷ ps) (same_pieces ts)
+same_length : (kind : Kind) (bytes : List ℕ) → query_piece.is_long kind bytes ≡ is_long (piece_of kind bytes)
+same_length kinds.Name bytes = refl
+same_length kinds.Number bytes = refl
+same_length kinds.Text bytes = refl
+same_length (kinds.Sym code) bytes = refl
+same_length (kinds.Key code) bytes = refl
+
+-- the tokens of a query are these
+pub record AreThese (tokens : List Lexeme) (rest : List Piece) : Type 0 where
+  pub pieces : query_piece.pieces tokens ≡ map in_query rest
+  pub long : query_piece.has_long tokens ≡ has_long rest
+
+these : (ts : List Lexeme) → AreThese ts (map (λ t. piece_of t.0 t.1) ts)
+these [] = record { pieces = refl; long = refl }
+these (t ∷ ts) =
+    let later : AreThese ts (map (λ t. piece_of t.0 t.1) ts) = these ts in
+    record {
+      pieces = ap (λ p. p ∷ query_piece.pieces ts) (same_piece t.0 t.1) ∙ ap (λ ps. in_query (piece_of t.0 t.1) ∷ ps) later.pieces;
+      long = ap (λ b. b || query_piece.has_long ts) (same_length t.0 t.1) ∙ ap (λ b. is_long (piece_of t.0 t.1) || b) later.long;
+    }
 
 -- the tokens of a query at the end of a line
-pub tail_pieces : (place : ℕ) (line : List ℕ) → query_piece.pieces_from place line ≡ map in_query (drop place (pieces line))
+pub tail_pieces : (place : ℕ) (line : List ℕ) → AreThese (query_piece.lexemes_from place line) (drop place (pieces line))
 tail_pieces place line =
-    same_pieces (drop place (lexemes line)) ∙ ap (map in_query) (sym (drop-map (λ t. piece_of t.0 t.1) place (lexemes line)))
+    subst (AreThese (drop place (lexemes line))) (sym (drop-map (λ t. piece_of t.0 t.1) place (lexemes line))) (these (drop place (lexemes line)))
 
 and_true : (b : Bool) → (b && true) ≡ b
 and_true true = refl
@@ -54,12 +71,17 @@ and_false true = refl
 and_false false = refl
 
 -- the query of a reader by its parts
-abbrev query_by : Reader → Bool → Option QueryTree → Read QueryTree
-query_by s fit o = option_map (λ q. (q, record { rest = []; fit = s.fit && fit; small = s.small && is_query_small q })) o
+abbrev query_by : Reader → Bool → Bool → Option QueryTree → Read QueryTree
+query_by s long fit o = option_map (λ q. (q, record { rest = []; fit = s.fit && fit; small = s.small && is_query_small long q })) o
 
-query_is : (s : Reader) (fit : Bool) (o : Option QueryTree) → is_query_fit (map in_query s.rest) ≡ fit → query_of (map in_query s.rest) ≡ o → query s ≡ query_by s fit o
+query_is : (s : Reader) (tokens : List Lexeme) (fit : Bool) (o : Option QueryTree) → AreThese tokens s.rest →
+    is_query_fit (query_piece.pieces tokens) ≡ fit → query_of (query_piece.pieces tokens) ≡ o → query s ≡ query_by s (query_piece.has_long tokens) fit o
 unfolding query
-query_is s fit o e d = ap (λ b. query_by s b (query_of (map in_query s.rest))) e ∙ ap (query_by s fit) d
+query_is s tokens fit o these e d =
+    ap (λ b. query_by s b (is_query_fit (map in_query s.rest)) (query_of (map in_query s.rest))) (sym these.long)
+    ∙ ap (λ xs. query_by s (query_piece.has_long tokens) (is_query_fit xs) (query_of xs)) (sym these.pieces)
+    ∙ ap (λ b. query_by s (query_piece.has_long tokens) b (query_of (query_piece.pieces tokens))) e
+    ∙ ap (query_by s (query_piece.has_long tokens) fit) d
 
 fit_is : (tokens : List query_piece.Piece) (q : QueryTree) (d : SpellsQuery q tokens) (o : Option ℕ) → first_unfit d ≡ o → is_query_fit tokens ≡ is_none o
 unfolding is_query_fit
@@ -69,16 +91,18 @@ of_spelled : (tokens : List query_piece.Piece) (q : QueryTree) → SpellsQuery q
 unfolding query_of
 of_spelled tokens q d = drives_query d
 
-small_is : (q : QueryTree) → is_query_small q ≡ is_none (first_too_large q)
+small_is : (long : Bool) (q : QueryTree) → is_query_small long q ≡ is_none (first_too_large long q)
 unfolding is_query_small
-small_is q = refl
+small_is long q = refl
 
 -- a query that the parser answers
-pub query_read : (s : Reader) (q : QueryTree) → Reads (map in_query s.rest) q → query s ≡ Some (q, record { rest = []; fit = s.fit; small = s.small })
-query_read s q r =
-    let small : is_query_small q ≡ true = small_is q ∙ ap is_none r.small in
-    query_is s true (Some q) (fit_is (map in_query s.rest) q r.spelled None r.fit) (of_spelled (map in_query s.rest) q r.spelled)
-    ∙ ap (λ fit. Some (q, record { rest = []; fit = fit; small = s.small && is_query_small q })) (and_true s.fit)
+pub query_read : (s : Reader) (tokens : List Lexeme) (q : QueryTree) → AreThese tokens s.rest → Reads tokens q →
+    query s ≡ Some (q, record { rest = []; fit = s.fit; small = s.small })
+query_read s tokens q these r =
+    let long : Bool = query_piece.has_long tokens in
+    let small : is_query_small long q ≡ true = small_is long q ∙ ap is_none r.small in
+    query_is s tokens true (Some q) these (fit_is (query_piece.pieces tokens) q r.spelled None r.fit) (of_spelled (query_piece.pieces tokens) q r.spelled)
+    ∙ ap (λ fit. Some (q, record { rest = []; fit = fit; small = s.small && is_query_small long q })) (and_true s.fit)
     ∙ ap (λ small. Some (q, record { rest = []; fit = s.fit; small = small })) (ap (λ b. s.small && b) small ∙ and_true s.small)
 
 -- no query
@@ -97,49 +121,48 @@ late_large : (q : QueryTree) (fit : Bool) → late_refusal (Some (q, record { re
 late_large q true = refl
 late_large q false = refl
 
-at_end_by : (s : Reader) (fit : Bool) (o : Option QueryTree) → is_at_end (query_by s fit o) ≡ true
-at_end_by s fit None = refl
-at_end_by s fit (Some q) = refl
+at_end_by : (s : Reader) (long fit : Bool) (o : Option QueryTree) → is_at_end (query_by s long fit o) ≡ true
+at_end_by s long fit None = refl
+at_end_by s long fit (Some q) = refl
 
 query_at_end : (s : Reader) → is_at_end (query s) ≡ true
-query_at_end s = ap is_at_end (query_is s (is_query_fit (map in_query s.rest)) (query_of (map in_query s.rest)) refl refl) ∙ at_end_by s _ (query_of (map in_query s.rest))
+unfolding query
+query_at_end s = at_end_by s (has_long s.rest) (is_query_fit (map in_query s.rest)) (query_of (map in_query s.rest))
 
 -- the refusal of what was read, where there was memory
 abbrev Tells : Read QueryTree → CommandFault → Type 0
 Tells found (faults.Refused r) = late_refusal found ≡ Some r
 Tells found faults.NoMemory = Unit {0}
 
-late_query : (s : Reader) (from : ℕ) (fault : ParseFault) → Explains from (map in_query s.rest) fault → Tells (query s) (told fault s.fit)
-late_query s from (parse_faults.BadSyntax place) (n, at, stuck) =
-    ap late_refusal (query_is s (is_query_fit (map in_query s.rest)) None refl (none_spelled (map in_query s.rest) stuck.none))
-late_query s from (parse_faults.NumberRange place) (n, at, unfit) =
-    ap late_refusal (query_is s false (Some unfit.q) (fit_is (map in_query s.rest) unfit.q unfit.spelled (Some n) unfit.unfit) (of_spelled (map in_query s.rest) unfit.q unfit.spelled))
-    ∙ ap (λ fit. late_refusal (Some (unfit.q, record { rest = []; fit = fit; small = s.small && is_query_small unfit.q }))) (and_false s.fit)
-late_query s from (parse_faults.TooLarge size) (q, d, fit, large) =
-    let small : is_query_small q ≡ false = small_is q ∙ ap is_none large in
-    ap late_refusal (query_is s true (Some q) (fit_is (map in_query s.rest) q d None fit) (of_spelled (map in_query s.rest) q d))
-    ∙ ap (λ b. late_refusal (Some (q, record { rest = []; fit = b; small = s.small && is_query_small q }))) (and_true s.fit)
+late_query : (s : Reader) (tokens : List Lexeme) (from : ℕ) (fault : ParseFault) → AreThese tokens s.rest → Explains from tokens fault → Tells (query s) (told fault s.fit)
+late_query s tokens from (parse_faults.BadSyntax place) these (n, at, stuck) =
+    ap late_refusal (query_is s tokens (is_query_fit (query_piece.pieces tokens)) None these refl (none_spelled (query_piece.pieces tokens) stuck.none))
+late_query s tokens from (parse_faults.NumberRange place) these (n, at, unfit) =
+    ap late_refusal (query_is s tokens false (Some unfit.q) these (fit_is (query_piece.pieces tokens) unfit.q unfit.spelled (Some n) unfit.unfit) (of_spelled (query_piece.pieces tokens) unfit.q unfit.spelled))
+    ∙ ap (λ fit. late_refusal (Some (unfit.q, record { rest = []; fit = fit; small = s.small && is_query_small (query_piece.has_long tokens) unfit.q }))) (and_false s.fit)
+late_query s tokens from (parse_faults.TooLarge size) these (q, d, fit, large) =
+    let long : Bool = query_piece.has_long tokens in
+    let small : is_query_small long q ≡ false = small_is long q ∙ ap is_none large in
+    ap late_refusal (query_is s tokens true (Some q) these (fit_is (query_piece.pieces tokens) q d None fit) (of_spelled (query_piece.pieces tokens) q d))
+    ∙ ap (λ b. late_refusal (Some (q, record { rest = []; fit = b; small = s.small && is_query_small long q }))) (and_true s.fit)
     ∙ ap (λ b. late_refusal (Some (q, record { rest = []; fit = s.fit; small = b }))) (ap (λ b. s.small && b) small ∙ and_false s.small)
     ∙ late_large q s.fit
-late_query s from parse_faults.NoMemory h = tt
+late_query s tokens from parse_faults.NoMemory these h = tt
 
 with_end : (found : Read QueryTree) (e : CommandFault) → Tells found e → is_at_end found ≡ true → Refuses found e
 with_end found (faults.Refused r) h k = (h, k)
 with_end found faults.NoMemory h k = tt
 
--- a query that the parser doesn't answer
-pub query_refused : (s : Reader) (from : ℕ) (fault : ParseFault) → Explains from (map in_query s.rest) fault → Refuses (query s) (told fault s.fit)
-query_refused s from fault h = with_end (query s) (told fault s.fit) (late_query s from fault h) (query_at_end s)
-
--- the same, where the reader of the program stands
-pub query_answered : (line : List ℕ) (at : At) (q : QueryTree) → Reads (query_piece.pieces_from at.place line) q →
+-- the query, where the reader of the program stands
+pub query_answered : (line : List ℕ) (at : At) (q : QueryTree) → Reads (query_piece.lexemes_from at.place line) q →
     query (standing line at) ≡ Some (q, record { rest = []; fit = at.fit; small = at.small })
-query_answered line at q r =
-    query_read (standing line at) q (subst (λ (tokens : List query_piece.Piece). Reads tokens q) (tail_pieces at.place line) r)
+query_answered line at q r = query_read (standing line at) (query_piece.lexemes_from at.place line) q (tail_pieces at.place line) r
 
-pub query_not_answered : (line : List ℕ) (at : At) (fault : ParseFault) → Explains at.place (query_piece.pieces_from at.place line) fault →
+-- a query that the parser doesn't answer
+pub query_not_answered : (line : List ℕ) (at : At) (fault : ParseFault) → Explains at.place (query_piece.lexemes_from at.place line) fault →
     Refuses (query (standing line at)) (told fault at.fit)
 query_not_answered line at fault h =
-    query_refused (standing line at) at.place fault (subst (λ (tokens : List query_piece.Piece). Explains at.place tokens fault) (tail_pieces at.place line) h)
+    with_end (query (standing line at)) (told fault at.fit)
+    (late_query (standing line at) (query_piece.lexemes_from at.place line) at.place fault (tail_pieces at.place line) h) (query_at_end (standing line at))
 
 pub ruleset query_steps = (query_answered, query_not_answered)

@@ -7,7 +7,7 @@ use Rattle.fixed_point.specs.declared.number.Point.{Point}
 use Rattle.motion.specs.declared.cell.AttrKind.{AttrKind}
 use Rattle.ftl_parser.specs.Tree.{QueryTree}
 use Rattle.ftl_parser.proofs.Drives.{drives_query}
-use Rattle.command_text.specs.Piece.{Piece, SIGN, is_sign, in_query}
+use Rattle.command_text.specs.Piece.{Piece, SIGN, is_sign, in_query, has_long}
 use Rattle.command_text.specs.Ranges.{SignedPlace, Span, Capacity, whole_in, radius_in, Value}
 use Rattle.command_text.specs.Sizes.{is_short, word_of, are_few_attributes, are_few_vertices}
 use Rattle.command_text.specs.Query.{query_of, is_query_fit, is_query_small}
@@ -90,10 +90,10 @@ points_spelled {p = p} {q = q} {r = r} {ps = ps} d fit small =
     three p q r ps = grind (arith)
 
 tail_spelled : {q : QueryTree} (xs : List Piece) (d : SpellsTail q xs) (fit small : Bool) →
-    query (before xs fit small) ≡ Some (q, before [] (fit && is_query_fit (map in_query xs)) (small && is_query_small q))
+    query (before xs fit small) ≡ Some (q, before [] (fit && is_query_fit (map in_query xs)) (small && is_query_small (has_long xs) q))
 unfolding query query_of
 tail_spelled xs d fit small =
-    ap (option_map (λ q. (q, before [] (fit && is_query_fit (map in_query xs)) (small && is_query_small q)))) (drives_query d)
+    ap (option_map (λ q. (q, before [] (fit && is_query_fit (map in_query xs)) (small && is_query_small (has_long xs) q)))) (drives_query d)
 
 point_word_spelled : {b : Bool} {xs : List Piece} {all : List (List ℕ × AttrKind)} {ys : List Piece} (d : SpellsPointWord b xs) (e : SpellsAttrs all ys) (fit small : Bool) →
     point_word (before (xs ++ ys) fit small) ≡ (b, before ys fit small)

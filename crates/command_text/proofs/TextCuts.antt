@@ -11,7 +11,7 @@ use Rattle.ftl_lexer.specs.Forms.{name_len, word_kind}
 use Rattle.ftl_lexer.specs.Cut.{Lexeme, cut, put_before, HasForm, is_word, is_number, has_no_quote, stands_alone}
 use Rattle.ftl_lexer.proofs.Fronts.{cut_word, cut_number, cut_text, quoted_form, cut_symbol, cut_blank}
 use Rattle.ftl_parser.specs.Piece as query
-use Rattle.ftl_parser.specs.Shape.{IsName}
+use Rattle.ftl_parser.specs.Lawful.{IsName}
 use Rattle.ftl_parser.proofs.TextTokens.{Ends, nothing_ends}
 use Rattle.command_text.specs.Piece.{Piece, KEY, SIGN, NAME, NUMBER, TEXT, piece_of}
 use Rattle.command_text.specs.Line.{has_other_byte}

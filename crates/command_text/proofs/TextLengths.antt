@@ -109,7 +109,7 @@ line_has_room line =
     record {
       tokens = omega (arith, fit, pieces_long (lexemes line) forms);
       query_bytes = λ n q d.
-          let short : length (query_text q) ≤ 4 * bytes_of (drop n (lexemes line)) = prints_shortly n line q (subst (SpellsQuery q) (sym (tail_pieces n line)) d) in
+          let short : length (query_text q) ≤ 4 * bytes_of (drop n (lexemes line)) = prints_shortly n line q (subst (SpellsQuery q) (sym (tail_pieces n line).pieces) d) in
           omega (arith, fit, short, front_long n (lexemes line) forms);
     }
 

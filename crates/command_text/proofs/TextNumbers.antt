@@ -18,7 +18,7 @@ use Rattle.ftl_lexer.specs.Cut.{is_number}
 use Rattle.geometry.specs.declared.limits.TheConstants.{RADIUS_LIMIT}
 use Rattle.tick_set.specs.declared.spans.TheConstants.{LAST_TICK}
 use Rattle.ftl_parser.specs.Number.{up_to, whole_of}
-use Rattle.ftl_parser.specs.Shape.{IsUnsigned}
+use Rattle.ftl_parser.specs.Lawful.{IsUnsigned}
 use Rattle.ftl_parser.proofs.TextNumbers.{whole_is, whole_short, fix_short, minus_short}
 use Rattle.motion.specs.declared.limits.TheConstants.{CAPACITY_LIMIT}
 use Rattle.command_text.specs.declared.ranges.TheConstants.{NEAREST_LIMIT}

@@ -24,7 +24,7 @@ use Rattle.ftl_parser.proofs.TextTokens.{nothing_ends, blank_ends}
 use Rattle.ftl_parser.proofs.TextValues.{fix_is_number}
 use Rattle.motion.specs.declared.limits.TheConstants.{CAPACITY_LIMIT}
 use Rattle.command_text.specs.declared.ranges.TheConstants.{NEAREST_LIMIT}
-use Rattle.command_text.specs.Piece.{Piece, KEY, NAME, NUMBER, TEXT, piece_of, pieces, in_query}
+use Rattle.command_text.specs.Piece.{Piece, KEY, NAME, NUMBER, TEXT, piece_of, pieces, in_query, has_long}
 use Rattle.command_text.specs.Ranges.{WholePlace, Span, Ticks, Capacity, Nearest, Value, Width, whole_in, radius_in}
 use Rattle.command_text.specs.Sizes.{is_short, word_of, are_few_vertices}
 use Rattle.command_text.specs.Query.{is_query_fit, is_query_small}
@@ -183,7 +183,7 @@ watch_cut n k q name span shape =
     record {
       tokens = tokens;
       spelled = subst (λ (c : CommandTree). CommandOf c tokens) (ap₂ (λ m j. Tree.Watch m j q) (name_again n name) (whole_at_again Span k span))
-          (grammar.watch t.spelled, both_true (is_some (whole_in Span number)) (is_query_fit (map in_query t.tokens)) (whole_fits Span k span) t.fit, both_true (is_short n) (is_query_small q) (name_short n name) t.small);
+          (grammar.watch t.spelled, both_true (is_some (whole_in Span number)) (is_query_fit (map in_query t.tokens)) (whole_fits Span k span) t.fit, both_true (is_short n) (is_query_small (has_long t.tokens) q) (name_short n name) t.small);
       is_cut =
           read_key WATCH (codes "watch") (32 ∷ (n ++ (32 ∷ (number ++ (32 ∷ query_text q))))) (NAME n ∷ NUMBER number ∷ t.tokens) refl refl refl
           (read_blank (n ++ (32 ∷ (number ++ (32 ∷ query_text q)))) (NAME n ∷ NUMBER number ∷ t.tokens)
@@ -199,7 +199,7 @@ keep_cut n k q name span shape =
     record {
       tokens = tokens;
       spelled = subst (λ (c : CommandTree). CommandOf c tokens) (ap₂ (λ m j. Tree.Keep m j q) (name_again n name) (whole_at_again Span k span))
-          (grammar.keep t.spelled, both_true (is_some (whole_in Span number)) (is_query_fit (map in_query t.tokens)) (whole_fits Span k span) t.fit, both_true (is_short n) (is_query_small q) (name_short n name) t.small);
+          (grammar.keep t.spelled, both_true (is_some (whole_in Span number)) (is_query_fit (map in_query t.tokens)) (whole_fits Span k span) t.fit, both_true (is_short n) (is_query_small (has_long t.tokens) q) (name_short n name) t.small);
       is_cut =
           read_key KEEP (codes "keep") (32 ∷ (n ++ (32 ∷ (number ++ (32 ∷ query_text q))))) (NAME n ∷ NUMBER number ∷ t.tokens) refl refl refl
           (read_blank (n ++ (32 ∷ (number ++ (32 ∷ query_text q)))) (NAME n ∷ NUMBER number ∷ t.tokens)

@@ -1,5 +1,5 @@
 -- What tokens of a line spell is printable, where its numbers are in range and its sizes within their limits.
-use Rattle.std.proofs.Common.{◌≡◌, ℕ, zero, suc, ◌-◌, ◌≤◌, Bool, true, false, ◌&&◌, List, [], ◌∷◌, ◌++◌, take, drop, length, map, Option, None, Some, ℤ, IsTrue, refl, sym, ap, subst, arith, leb}
+use Rattle.std.proofs.Common.{◌≡◌, ℕ, zero, suc, ◌-◌, ◌≤◌, Bool, true, false, ◌&&◌, List, [], ◌∷◌, ◌++◌, take, drop, length, map, Option, None, Some, ℤ, IsTrue, refl, sym, ◌∙◌, ap, subst, arith, leb}
 use Rattle.std.specs.Prelude.{is_some, is_none, slice_get, unwrap_or, if◌then◌else◌}
 use Rattle.std.specs.List.{AllByRecursion, list_all}
 use Rattle.std.proofs.lemmas.Bool.{and_parts, and_from, leb-true}
@@ -24,16 +24,16 @@ use Rattle.ftl_lexer.proofs.Fronts.{unquoted_parts}
 use Rattle.ftl_parser.specs.Tree.{QueryTree}
 use Rattle.ftl_parser.specs.Piece as query
 use Rattle.ftl_parser.specs.Grammar.{SpellsQuery}
-use Rattle.ftl_parser.specs.Shape as query_shape
-use Rattle.ftl_parser.specs.Shape.{IsName}
+use Rattle.ftl_parser.specs.Lawful as query_shape
+use Rattle.ftl_parser.specs.Lawful.{IsName}
 use Rattle.tick_set.specs.declared.spans.TheConstants.{LAST_TICK}
 use Rattle.ftl_parser.specs.Sizes.{first_too_large}
-use Rattle.ftl_parser.specs.Scan.{piece_words, token_words}
-use Rattle.ftl_parser.proofs.Marks.{words-query}
-use Rattle.ftl_parser.proofs.TextShapes.{prints_what_is_read}
+use Rattle.ftl_parser.specs.Order.{piece_lists, texts_alone, token_texts}
+use Rattle.ftl_parser.proofs.OrderLemmas.{lists-query}
+use Rattle.ftl_parser.proofs.TextShapes.{prints_what_is_read, small_short, spelled_shape}
 use Rattle.geometry.specs.declared.limits.TheConstants.{VERTEX_LIMIT}
 use Rattle.motion.specs.declared.limits.TheConstants.{ATTRIBUTE_LIMIT}
-use Rattle.command_text.specs.Piece.{Piece, KEY, SIGN, NAME, NUMBER, TEXT, piece_of, pieces, in_query}
+use Rattle.command_text.specs.Piece.{Piece, KEY, SIGN, NAME, NUMBER, TEXT, piece_of, pieces, in_query, has_long}
 use Rattle.command_text.specs.Ranges.{Ticks, Span, Capacity, Nearest, SignedPlace, whole_in, radius_in, signed_in}
 use Rattle.command_text.specs.Sizes.{is_short, word_of, are_few_legs, function_of, are_few_attributes, are_few_vertices}
 use Rattle.command_text.specs.Query.{is_query_fit, is_query_small}
@@ -254,50 +254,61 @@ attrs_shape (some_attrs {a = a} {xs = xs} {rest = more} {ys = ys} d e) shapes sm
 
 -- ---- queries
 
-fixed_none : (table : List query.Piece) (code : ℕ) → AllByRecursion (λ p. piece_words p ≡ []) table → piece_words (unwrap_or (slice_get table code) query.OTHER) ≡ []
+fixed_none : (table : List query.Piece) (code : ℕ) → AllByRecursion (λ p. piece_lists texts_alone p ≡ []) table → piece_lists texts_alone (unwrap_or (slice_get table code) query.OTHER) ≡ []
 fixed_none [] code all = refl
 fixed_none (p ∷ table) zero all = all.0
 fixed_none (p ∷ table) (suc code) all = fixed_none table code all.1
 
-words_none : AllByRecursion (λ p. piece_words p ≡ []) query.words
+words_none : AllByRecursion (λ p. piece_lists texts_alone p ≡ []) query.words
 words_none = (refl, (refl, (refl, (refl, (refl, (refl, (refl, (refl, (refl, (refl, (refl, (refl, (refl, (refl, (refl, (refl, (refl, (refl, (refl, (refl, (refl, (refl, (refl, (refl, (refl, tt)))))))))))))))))))))))))
 
-signs_none : AllByRecursion (λ p. piece_words p ≡ []) query.signs
+signs_none : AllByRecursion (λ p. piece_lists texts_alone p ≡ []) query.signs
 signs_none = (refl, (refl, (refl, (refl, (refl, (refl, (refl, (refl, (refl, (refl, (refl, (refl, (refl, (refl, (refl, (refl, tt))))))))))))))))
 
 all_join : {X : Type 0} (P : X → Type 0) (xs ys : List X) → AllByRecursion P xs → AllByRecursion P ys → AllByRecursion P (xs ++ ys)
 all_join P [] ys front back = back
 all_join P (x ∷ xs) ys front back = (front.0, all_join P xs ys front.1 back)
 
-piece_ascii : (p : Piece) → HasShape p → AllByRecursion IsAscii (piece_words (in_query p))
+word_ascii : (short : Bool) (word : List ℕ) → IsAscii word → IsAscii (if short then word else [])
+word_ascii true word ascii = ascii
+word_ascii false word ascii = refl
+
+piece_ascii : (p : Piece) → HasShape p → AllByRecursion IsAscii (piece_lists texts_alone (in_query p))
 piece_ascii (KEY code) shape = subst (AllByRecursion IsAscii) (sym (fixed_none query.words code words_none)) tt
 piece_ascii (SIGN code) shape = subst (AllByRecursion IsAscii) (sym (fixed_none query.signs code signs_none)) tt
-piece_ascii (NAME n) shape = (shape.1, tt)
+piece_ascii (NAME n) shape = tt
 piece_ascii (NUMBER n) shape = tt
-piece_ascii (TEXT t) shape = (shape.1, tt)
+piece_ascii (TEXT t) shape = (word_ascii (is_short t) t shape.1, tt)
 
-words_ascii : (xs : List Piece) → HaveShapes xs → AllByRecursion IsAscii (token_words (map in_query xs))
-words_ascii [] shapes = tt
-words_ascii (p ∷ xs) shapes = all_join IsAscii (piece_words (in_query p)) (token_words (map in_query xs)) (piece_ascii p shapes.0) (words_ascii xs shapes.1)
+texts_ascii : (xs : List Piece) → HaveShapes xs → AllByRecursion IsAscii (token_texts (map in_query xs))
+texts_ascii [] shapes = tt
+texts_ascii (p ∷ xs) shapes = all_join IsAscii (piece_lists texts_alone (in_query p)) (token_texts (map in_query xs)) (piece_ascii p shapes.0) (texts_ascii xs shapes.1)
 
-small_is : (q : QueryTree) → is_query_small q ≡ true → first_too_large q ≡ None
+small_is : (long : Bool) (q : QueryTree) → is_query_small long q ≡ true → first_too_large long q ≡ None
 unfolding is_query_small
-small_is q small = none_is (first_too_large q) small
+small_is long q small = none_is (first_too_large long q) small
   where
     none_is : {X : Type 0} (found : Option X) → is_none found ≡ true → found ≡ None
     none_is None is = refl
     none_is (Some x) is = let bad : false ≡ true = is in absurd (cc)
 
--- the queries that stand at the end of the tokens can be printed
-abbrev pub AreTails : List Piece → Type 0
-AreTails xs = (n : ℕ) (q : QueryTree) → SpellsTail q (drop n xs) → query_shape.IsPrintable q
+-- what is known of the queries that stand at the end of the tokens
+pub record IsTail (q : QueryTree) (tokens : List Piece) : Type 0 where
+  pub printable : has_long tokens ≡ false → query_shape.IsPrintable q
+  pub shape : query_shape.HasShape query_shape.IsAny query_shape.IsAny q
 
-query_is : (q : QueryTree) (xs : List Piece) → SpellsTail q xs → HaveShapes xs → query_shape.IsPrintable q → is_query_small q ≡ true → IsQuery q
-query_is q xs d shapes shape small = record {
-  shape = shape;
-  small = small_is q small;
-  ascii = subst (AllByRecursion IsAscii) (sym (words-query d)) (words_ascii xs shapes);
-}
+abbrev pub AreTails : List Piece → Type 0
+AreTails xs = (n : ℕ) (q : QueryTree) → SpellsTail q (drop n xs) → IsTail q (drop n xs)
+
+query_is : (q : QueryTree) (xs : List Piece) → SpellsTail q xs → HaveShapes xs → IsTail q xs → is_query_small (has_long xs) q ≡ true → IsQuery q
+query_is q xs d shapes tail small =
+    let few : first_too_large (has_long xs) q ≡ None = small_is (has_long xs) q small in
+    let short : has_long xs ≡ false = small_short (has_long xs) q few in
+    record {
+      printable = tail.printable short;
+      lawful = record { shape = tail.shape; small = ap (λ long. first_too_large long q) (sym short) ∙ few };
+      ascii = subst (AllByRecursion IsAscii) (sym (lists-query texts_alone d)) (texts_ascii xs shapes);
+    }
 
 -- ---- commands
 
@@ -323,11 +334,11 @@ command_shape (grammar.ask {k = k} {q = q} {xs = xs} d) shapes tails is few =
     (whole_in_range Span k numbers.0, query_is q xs d shapes.1.1 (tails 2 q d) few)
 command_shape (grammar.watch {n = n} {k = k} {q = q} {xs = xs} d) shapes tails is few =
     let numbers = and_parts (is_some (whole_in Span k)) (is_query_fit (map in_query xs)) is in
-    let sizes = and_parts (is_short n) (is_query_small q) few in
+    let sizes = and_parts (is_short n) (is_query_small (has_long xs) q) few in
     (short_name n shapes.1.0.0 sizes.0, whole_in_range Span k numbers.0, query_is q xs d shapes.1.1.1 (tails 3 q d) sizes.1)
 command_shape (grammar.keep {n = n} {k = k} {q = q} {xs = xs} d) shapes tails is few =
     let numbers = and_parts (is_some (whole_in Span k)) (is_query_fit (map in_query xs)) is in
-    let sizes = and_parts (is_short n) (is_query_small q) few in
+    let sizes = and_parts (is_short n) (is_query_small (has_long xs) q) few in
     (short_name n shapes.1.0.0 sizes.0, whole_in_range Span k numbers.0, query_is q xs d shapes.1.1.1 (tails 3 q d) sizes.1)
 command_shape (grammar.show {n = n}) shapes tails is few = short_name n shapes.1.0.0 few
 command_shape (grammar.drop {n = n}) shapes tails is few = short_name n shapes.1.0.0 few
@@ -361,9 +372,14 @@ command_shape (grammar.range {k = k} {c = c} {a = a} d e) shapes tails is few =
     let sizes = and_parts (is_short c) (is_short a) few in
     (whole_in_range Span k least.0, short_name c shapes.1.1.0.0 sizes.0, short_name a shapes.1.1.1.0.0 sizes.1, least.1, greatest.1)
 
--- queries at the end of a line can be printed
+-- queries at the end of a line
 line_tails : (line : List ℕ) → AreTails (pieces line)
-line_tails line n q d = prints_what_is_read n line q (subst (SpellsQuery q) (sym (tail_pieces n line)) d)
+line_tails line n q d =
+    let spelled : SpellsQuery q (query.pieces_from n line) = subst (SpellsQuery q) (sym (tail_pieces n line).pieces) d in
+    record {
+      printable = λ short. prints_what_is_read n line q spelled ((tail_pieces n line).long ∙ short);
+      shape = spelled_shape n line q spelled;
+    }
 
 pub line_shape : (line : List ℕ) (c : CommandTree) (d : SpellsCommand c (pieces line)) → IsAscii line → numbers_fit d ≡ true → sizes_fit d ≡ true → IsPrintable c
 line_shape line c d ascii is few = command_shape d (line_has line ascii) (line_tails line) is few

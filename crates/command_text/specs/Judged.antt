@@ -6,7 +6,7 @@ use Rattle.motion.specs.declared.cell.AttrKind.{AttrKind}
 use Rattle.motion.specs.declared.cell.Given.{Given}
 use Rattle.motion.specs.declared.cell.NamedSet.{NamedSet}
 use Rattle.motion.specs.declared.cell.Place.{Place}
-use Rattle.command_text.specs.Piece.{Piece, in_query}
+use Rattle.command_text.specs.Piece.{Piece, in_query, has_long}
 use Rattle.command_text.specs.Ranges.{SignedPlace, Span, Ticks, Capacity, Nearest, whole_in, radius_in, signed_in}
 use Rattle.command_text.specs.Sizes.{is_short, are_few_legs, are_few_attributes, are_few_vertices}
 use Rattle.command_text.specs.Query.{is_query_fit, is_query_small}
@@ -133,9 +133,9 @@ sizes_fit (insert {c = c} {n = n} d) = change_small d (is_short c && is_short n)
 sizes_fit (update {n = n} d) = change_small d (is_short n)
 sizes_fit (remove {n = n}) = is_short n
 sizes_fit tick = true
-sizes_fit (ask {q = q} d) = is_query_small q
-sizes_fit (watch {n = n} {q = q} d) = is_short n && is_query_small q
-sizes_fit (keep {n = n} {q = q} d) = is_short n && is_query_small q
+sizes_fit (ask {q = q} {xs = xs} d) = is_query_small (has_long xs) q
+sizes_fit (watch {n = n} {q = q} {xs = xs} d) = is_short n && is_query_small (has_long xs) q
+sizes_fit (keep {n = n} {q = q} {xs = xs} d) = is_short n && is_query_small (has_long xs) q
 sizes_fit (show {n = n}) = is_short n
 sizes_fit (drop {n = n}) = is_short n
 sizes_fit listing = true
@@ -144,7 +144,7 @@ sizes_fit (import {n = n} {t = t}) = is_short n && is_short t
 sizes_fit (export {n = n} {t = t}) = is_short n && is_short t
 sizes_fit quit = true
 sizes_fit (nearest {o = o} {c = c}) = is_short o && is_short c
-sizes_fit (must {q = q} d) = is_query_small q
-sizes_fit (may {q = q} d) = is_query_small q
+sizes_fit (must {q = q} {xs = xs} d) = is_query_small (has_long xs) q
+sizes_fit (may {q = q} {xs = xs} d) = is_query_small (has_long xs) q
 sizes_fit (index {c = c} {a = a} d) = is_short c && is_short a
 sizes_fit (range {c = c} {a = a} d e) = is_short c && is_short a

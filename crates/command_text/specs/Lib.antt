@@ -16,4 +16,3 @@ pub mod Standing
 pub mod Text
 pub mod TextLaws
 pub mod Tree
-pub mod TreeCode

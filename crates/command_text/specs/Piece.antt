@@ -1,9 +1,11 @@
--- The tokens of which the grammar of commands speaks: reserved words and symbols by their codes, and names, numbers and texts with their bytes.
-use Rattle.std.specs.Prelude.{ℕ, Bool, true, false, ◌==◌, List, map, unwrap_or, slice_get}
+-- The tokens of which the grammar of commands speaks: reserved words and symbols by their codes, and names, numbers and texts with all their bytes.
+use Rattle.std.specs.Prelude.{ℕ, Bool, true, false, not, ◌==◌, List, map, unwrap_or, slice_get}
+use Rattle.std.specs.List.{list_any}
 use Rattle.ftl_lexer.specs.declared.kinds.Kind.{Kind}
 use Rattle.ftl_lexer.specs.declared.kinds.Kind.TheVariants as kinds
 use Rattle.ftl_lexer.specs.Tokens.{lexemes}
 use Rattle.ftl_parser.specs.Piece as query
+use Rattle.ftl_parser.specs.Words.{is_short, word_of}
 
 pub data Piece : Type 0 where
   KEY : ℕ → Piece
@@ -24,13 +26,25 @@ piece_of (kinds.Key code) bytes = KEY code
 abbrev pub pieces : List ℕ → List Piece
 pieces line = map (λ t. piece_of t.0 t.1) (lexemes line)
 
--- a token as the grammar of queries has it
+-- a token as the grammar of queries has it, in which a name or text that is too long is the empty one
 abbrev pub in_query : Piece → query.Piece
 in_query (KEY code) = unwrap_or (slice_get query.words code) query.OTHER
 in_query (SIGN code) = unwrap_or (slice_get query.signs code) query.OTHER
-in_query (NAME bytes) = query.NAME bytes
+in_query (NAME bytes) = query.NAME (word_of bytes)
 in_query (NUMBER bytes) = query.NUMBER bytes
-in_query (TEXT bytes) = query.TEXT bytes
+in_query (TEXT bytes) = query.TEXT (word_of bytes)
+
+-- a name or a text that has more bytes than a word
+abbrev pub is_long : Piece → Bool
+is_long (KEY code) = false
+is_long (SIGN code) = false
+is_long (NAME bytes) = not (is_short bytes)
+is_long (NUMBER bytes) = false
+is_long (TEXT bytes) = not (is_short bytes)
+
+-- there is such a one among the tokens
+abbrev pub has_long : List Piece → Bool
+has_long = list_any is_long
 
 abbrev pub is_key : ℕ → Piece → Bool
 is_key code (KEY k) = k == code

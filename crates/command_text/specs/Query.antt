@@ -19,9 +19,9 @@ query_of tokens = parsed start tokens
 unfoldable pub is_query_fit : List Piece → Bool
 is_query_fit tokens = numbers_fit tokens
 
--- no size of the query passes its limit
-unfoldable pub is_query_small : QueryTree → Bool
-is_query_small q = is_none (first_too_large q)
+-- no size of the query passes its limit, where what is said of the lengths of its names and texts is given
+unfoldable pub is_query_small : Bool → QueryTree → Bool
+is_query_small long q = is_none (first_too_large long q)
 
 -- what the parser's fault means for a command, the numbers of which before the query are in their ranges or not
 abbrev pub told : ParseFault → Bool → CommandFault

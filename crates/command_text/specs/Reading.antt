@@ -14,7 +14,7 @@ use Rattle.motion.specs.declared.cell.Given.TheVariants as givens
 use Rattle.motion.specs.declared.cell.NamedSet.{NamedSet}
 use Rattle.motion.specs.declared.cell.Place.{Place}
 use Rattle.ftl_parser.specs.Tree.{QueryTree}
-use Rattle.command_text.specs.Piece.{Piece, KEY, SIGN, NAME, NUMBER, TEXT, is_key, is_sign, is_name, is_text, in_query}
+use Rattle.command_text.specs.Piece.{Piece, KEY, SIGN, NAME, NUMBER, TEXT, is_key, is_sign, is_name, is_text, in_query, has_long}
 use Rattle.command_text.specs.Ranges.{WholePlace, Span, Ticks, Capacity, Nearest, whole_in, radius_in, SignedPlace, Value, Rate, Width, signed_in}
 use Rattle.command_text.specs.Sizes.{is_short, word_of, are_few_legs, function_of, are_few_attributes, are_few_vertices}
 use Rattle.command_text.specs.Grammar.{whole_at, radius_at, signed_at, point_of, set_of, place_of, legs_of_x, legs_of_y}
@@ -313,7 +313,7 @@ place s = do
 unfoldable pub query : Reader → Read QueryTree
 query s =
     let tokens = map in_query s.rest in
-    option_map (λ q. (q, record { rest = []; fit = s.fit && is_query_fit tokens; small = s.small && is_query_small q })) (query_of tokens)
+    option_map (λ q. (q, record { rest = []; fit = s.fit && is_query_fit tokens; small = s.small && is_query_small (has_long s.rest) q })) (query_of tokens)
 
 -- the commands, each behind its first word
 -- whether `point` stands at the front, and the place behind it or else the same place

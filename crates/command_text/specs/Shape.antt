@@ -13,9 +13,10 @@ use Rattle.motion.specs.declared.cell.NamedSet.{NamedSet}
 use Rattle.motion.specs.declared.cell.Place.{Place}
 use Rattle.ftl_lexer.specs.Cut.{has_no_quote}
 use Rattle.ftl_parser.specs.Tree.{QueryTree}
-use Rattle.ftl_parser.specs.Shape as query_shape
-use Rattle.ftl_parser.specs.Shape.{IsName, IsUnsigned}
-use Rattle.ftl_parser.specs.Sizes.{query_words, first_too_large}
+use Rattle.ftl_parser.specs.Lawful as query_shape
+use Rattle.ftl_parser.specs.Lawful.{IsUnsigned, IsLawful}
+pub use Rattle.ftl_parser.specs.Lawful.{IsShortName}
+use Rattle.ftl_parser.specs.Order.{query_texts}
 use Rattle.tick_set.specs.declared.spans.TheConstants.{LAST_TICK}
 use Rattle.geometry.specs.declared.limits.TheConstants.{LEAST_VERTICES, RADIUS_LIMIT, VERTEX_LIMIT}
 use Rattle.motion.specs.declared.limits.TheConstants.{CAPACITY_LIMIT, ATTRIBUTE_LIMIT}
@@ -31,9 +32,6 @@ IsFrom least most n = (least ≤ n) × (n ≤ most)
 -- tabs and 0x20 to 0x7E alone
 abbrev pub IsAscii : List ℕ → Type 0
 IsAscii bytes = has_other_byte bytes ≡ false
-
-abbrev pub IsShortName : List ℕ → Type 0
-IsShortName word = IsName word × (length word ≤ WORD_LIMIT)
 
 abbrev pub IsShortText : List ℕ → Type 0
 IsShortText text = IsTrue (has_no_quote text) × IsAscii text × (length text ≤ WORD_LIMIT)
@@ -108,9 +106,9 @@ pub record AreVertices (points : List Point) : Type 0 where
 -- ---- Queries
 
 pub record IsQuery (q : QueryTree) : Type 0 where
-  pub shape : query_shape.IsPrintable q
-  pub small : first_too_large q ≡ None
-  pub ascii : AllByRecursion IsAscii (query_words q)
+  pub printable : query_shape.IsPrintable q
+  pub lawful : IsLawful q
+  pub ascii : AllByRecursion IsAscii (query_texts q)
 
 -- ---- Commands
 

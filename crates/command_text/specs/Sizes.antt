@@ -1,18 +1,10 @@
--- The sizes of a command that have limits, and what stands for a part that passes its limit. The sizes of a query are the parser's.
-use Rattle.std.specs.Prelude.{ℕ, ℤ, Bool, nat_le, List, [], length, if◌then◌else◌}
-use Rattle.fixed_point.specs.declared.short_text.TheConstants.{WORD_LIMIT}
+-- The sizes of a command that have limits, and what stands for a part that passes its limit. Those of names, texts and queries are the parser's.
+use Rattle.std.specs.Prelude.{ℕ, ℤ, Bool, nat_le, List, if◌then◌else◌}
+pub use Rattle.ftl_parser.specs.Words.{is_short, word_of}
 use Rattle.motion.specs.declared.legs.TheConstants.{MOST_FIRSTS}
 use Rattle.motion.specs.Function.{Function, are_firsts, level}
 use Rattle.geometry.specs.declared.limits.TheConstants.{VERTEX_LIMIT}
 use Rattle.motion.specs.declared.limits.TheConstants.{ATTRIBUTE_LIMIT}
-
--- a name or a text has at most the bytes of a word
-abbrev pub is_short : List ℕ → Bool
-is_short word = nat_le (length word) WORD_LIMIT
-
--- a longer one stands for the empty one
-abbrev pub word_of : List ℕ → List ℕ
-word_of word = if is_short word then word else []
 
 -- few legs before the last one
 abbrev pub are_few_legs : ℕ → Bool

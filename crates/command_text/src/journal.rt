@@ -33,14 +33,16 @@ pub struct Journal {
 }
 
 impl Model for Journal {
-    ghost use Rattle.std.specs.Prelude.{List, map};
+    ghost use Rattle.std.specs.Prelude.{ℕ, List, map};
     ghost use Rattle.std.specs.Coded.{codes};
-    ghost use Rattle.command_text.specs.TreeCode.{tree_code};
+    ghost use Rattle.formula_shape.specs.ShapeCode.{shape_code};
+    ghost use Rattle.ftl_parser.specs.declared.tree.Atom.{Atom};
+    ghost use Rattle.ftl_parser.specs.declared.tree.Term.{Term};
     ghost use Rattle.command_text.specs.Journal.{Accepted};
 
     ghost Value = { List Accepted };
 
-    ghost coded = { Prim.hlevel (codes, tree_code (Prim.hlevel codes)) };
+    ghost coded = { Prim.hlevel (codes, shape_code {A = Atom} {B = List ℕ × Term} (Prim.hlevel codes)) };
 
     ghost use Rattle.command_text.specs.JournalParts.{accepted, IsJournal};
 

@@ -1,5 +1,5 @@
 //! Names, texts and numbers.
-ghost use Rattle.std.specs.Prelude.{◌≡◌, ◌&&◌, [], pos, option_map};
+ghost use Rattle.std.specs.Prelude.{◌≡◌, ◌&&◌, pos, option_map};
 ghost use Rattle.command_text.specs.Ranges.{Span, Ticks, Capacity, Nearest, radius_in, Value, Rate, Width, signed, signed_in};
 ghost use Rattle.command_text.specs.Sizes.{is_short, word_of};
 ghost use Rattle.command_text.specs.Reading.{name, text, number, whole, radius, minus, signed_number, num};
@@ -8,35 +8,18 @@ ghost use Rattle.command_text.specs.Standing.{standing};
 use crate::at::{At, next, noting_fit, noting_small, sign};
 use crate::ranges::NEAREST_LIMIT;
 use case_table::symbol;
-use fixed_point::{Fix, Slope, WORD_LIMIT, Word};
+use fixed_point::{Fix, Slope, Word};
 use ftl_lexer::{Kind, Tokens, unquoted};
-use ftl_parser::whole;
+use ftl_parser::{is_short, whole, word};
 use motion::CAPACITY_LIMIT;
 use tick_set::LAST_TICK;
-
-/// The word of these bytes; the empty one where there are more than a word has room for.
-#[inline]
-fn word_of(bytes: &[u8]) -> Word
-    ensures { result ≡ word_of bytes.now }
-{
-    match Word::of(bytes) {
-        Some(word) => word,
-        None => empty(),
-    }
-}
-
-fn empty() -> Word
-    ensures { result ≡ [] }
-{
-    Word::of(b"").unwrap()
-}
 
 /// A word that was read, and the place behind it.
 fn noted(bytes: &[u8], at: At) -> (Word, At)
     ensures word { result.0 ≡ word_of bytes.now }
     ensures at { result.1 ≡ record { place = at.place; fit = at.fit; small = at.small && is_short bytes.now } }
 {
-    (word_of(bytes), noting_small(at, bytes.len() <= WORD_LIMIT))
+    (word(bytes), noting_small(at, is_short(bytes)))
 }
 
 #[tactic(auto, unfolding(crate::specs::Reading::name))]

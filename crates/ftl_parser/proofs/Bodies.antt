@@ -1,5 +1,6 @@
 -- The machine behind WHERE alone, and what may stand behind a formula.
 use Rattle.std.proofs.Common.{◌≡◌, ℕ, ◌<◌, ◌≤◌, Bool, true, false, List, [], ◌∷◌, Option, None, Some, option_map, option_and_then, refl, IsTrue, arith}
+use Rattle.formula_shape.specs.Shape.{Shape}
 use Rattle.ftl_parser.specs.declared.tree.Atom.TheVariants as atoms
 use Rattle.ftl_parser.specs.declared.tree.Signed.{Signed}
 use Rattle.ftl_parser.specs.declared.tree.FromPart.{FromPart}
@@ -25,7 +26,7 @@ query_with ns ps f = record { targets = ns; from = ps; formula = f }
 
 -- the end of tokens behind a whole term
 abbrev pub term_end : List Frame → TermPlace → List Signed → Option Tree
-term_end s (places.Right t op) fs = alone (reduced 1 (Tree.Atom (atoms.Compare t op (term_of fs))) s)
+term_end s (places.Right t op) fs = alone (reduced 1 (Shape.Atom (atoms.Compare t op (term_of fs))) s)
 term_end s places.Left fs = None
 term_end s (places.Assigned v) fs = None
 

@@ -3,6 +3,7 @@ use Rattle.std.proofs.Common.{◌≡◌, ℕ, ℤ, ◌<◌, ◌≤◌, Bool, tru
 use Rattle.std.proofs.lemmas.Bool.Decides.{nat_tests}
 use Rattle.case_table.specs.declared.compare.Op.{Op}
 use Rattle.fixed_point.specs.declared.variants.UntilForm.TheVariants as untils
+use Rattle.formula_shape.specs.Shape.{Shape}
 use Rattle.ftl_parser.specs.declared.tree.Atom as atom_type
 use Rattle.ftl_parser.specs.declared.tree.Atom.TheVariants as atoms
 use Rattle.ftl_parser.specs.declared.tree.Unit as unit_type
@@ -131,7 +132,7 @@ drives_term (term_minus {fs = fs} {ys = ys} d e) s place rest h =
 
 -- the right side of a comparison ends the atom
 pub right-ends : (s : List Frame) (t : Term) (op : Op) (fs : List Signed) (rest : List Piece) → 0 < stop rest →
-    term_behind s (places.Right t op) fs rest ≡ body_parsed s (Have (Tree.Atom (atoms.Compare t op (term_of fs)))) rest
+    term_behind s (places.Right t op) fs rest ≡ body_parsed s (Have (Shape.Atom (atoms.Compare t op (term_of fs)))) rest
 right-ends s t op fs [] stops = refl
 right-ends s t op fs (PLUS ∷ rest) stops = nothing stops
 right-ends s t op fs (MINUS ∷ rest) stops = nothing stops
@@ -144,7 +145,7 @@ drives_circle (names_more n d) s r rest = rw append_assoc (drives_circle d s r (
 
 pub drives_atom : {a : atom_type.Atom} {xs : List Piece} → SpellsAtom a xs →
     (s : List Frame) (rest : List Piece) → 0 < stop rest →
-    body_parsed s Want (xs ++ rest) ≡ body_parsed s (Have (Tree.Atom a)) rest
+    body_parsed s Want (xs ++ rest) ≡ body_parsed s (Have (Shape.Atom a)) rest
 drives_atom (atom_compare {fs = fs} {gs = gs} {op = op} {ys = ys} d e) s rest stops =
     rw append_assoc
     (want-term d s (COMPARISON op ∷ (ys ++ rest))

@@ -4,6 +4,7 @@ use Rattle.fixed_point.specs.declared.variants.BoundForm.{BoundForm}
 use Rattle.fixed_point.specs.declared.variants.UntilForm.{UntilForm}
 use Rattle.fixed_point.specs.declared.variants.UntilForm.TheVariants as untils
 use Rattle.case_table.specs.declared.compare.Op.{Op}
+use Rattle.formula_shape.specs.Shape.{Shape}
 use Rattle.ftl_parser.specs.declared.tree.Unit as unit_type
 use Rattle.ftl_parser.specs.declared.tree.Signed.{Signed}
 use Rattle.ftl_parser.specs.declared.tree.FromPart.{FromPart}
@@ -205,7 +206,7 @@ ends-here l n level {xs = xs} {ys = ys} waits below below_unary d under =
     record { level = level; before = xs; behind = ys; waits = waits; below = below; below_unary = below_unary; spells = raised l n under d; split = refl }
 
 until-spells : {form : UntilForm} {c : ℕ} {f g : Tree} {xs ys zs : List Piece} → SpellsUntil form c ys → Spells unary f xs → Spells chain g zs →
-    Spells chain (Tree.Until form c f g) (xs ++ (ys ++ zs))
+    Spells chain (Shape.Until form c f g) (xs ++ (ys ++ zs))
 until-spells plain d e = chain_until d e
 until-spells (within {c = c}) d e = chain_until_within c d e
 until-spells (after {c = c}) d e = chain_until_after c d e

@@ -1,6 +1,4 @@
 pub mod Bodies
-pub mod CutLemmas
-pub mod Cuts
 pub mod DigitLemmas
 pub mod Drives
 pub mod Found
@@ -8,6 +6,7 @@ pub mod Judged
 pub mod Marks
 pub mod MeasureLemmas
 pub mod OneReading
+pub mod OrderLemmas
 pub mod RunLemmas
 pub mod StackLemmas
 pub mod TableLemmas

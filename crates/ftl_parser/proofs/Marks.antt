@@ -17,8 +17,7 @@ use Rattle.ftl_parser.specs.Piece.{Piece, FROM, WHERE, AND, OR, UNTIL, CLOSE, CL
 use Rattle.ftl_parser.specs.Number.{Ticks, Times, Literal, Radius}
 use Rattle.ftl_parser.specs.Grammar.{SpellsRef, ref_name, ref_attr, ref_part, ref_time, SpellsFactor, factor_number, factor_times, factor_text, factor_ref, SpellsTerm, term_first, term_minus_first, term_plus, term_minus, SpellsNum, num_plain, num_minus, SpellsNames, names_one, names_more, SpellsParts, parts_one, parts_more, SpellsAtom, atom_compare, atom_inside, atom_outside, atom_dist, atom_sphere, Level, Spells, formula_conj, formula_or, conj_chain, conj_and, chain_unary, chain_until, chain_until_within, chain_until_after, unary_prefix, unary_bounded, unary_assign, unary_brackets, unary_truth, unary_atom, SpellsQuery, query, prefixed, term_of}
 use Rattle.ftl_parser.specs.Marks.{unfit, clear, factor_marks, term_marks, num_marks, atom_marks, marks, query_marks, first_unfit}
-use Rattle.ftl_parser.specs.Sizes.{unit_words, term_words, atom_words, words, query_words}
-use Rattle.ftl_parser.specs.Scan.{scan, place_before, piece_words, token_words}
+use Rattle.ftl_parser.specs.Scan.{scan, place_before}
 use Rattle.ftl_parser.proofs.Bodies.{cuts, never}
 
 -- names and references have no numbers
@@ -130,90 +129,6 @@ scan-query (query {xs = xs} {ys = ys} {zs = zs} names froms d) =
 -- the first number that doesn't fit is told by the tokens
 pub first_unfit-scan : {q : QueryTree} {xs : List Piece} (d : SpellsQuery q xs) → first_unfit d ≡ position (λ mark. mark) (scan comings.Factor xs)
 first_unfit-scan d = ap (position (λ mark. mark)) (sym (scan-query d))
-
--- the words of two parts with a token between them that is none
-words-joined : (v w : List (List ℕ)) (xs ys : List Piece) → v ≡ token_words xs → w ≡ token_words ys → v ++ w ≡ token_words (xs ++ ys)
-words-joined v w xs ys h k = ap (λ t. t ++ w) h ∙ ap (λ t. token_words xs ++ t) k ∙ sym (flat_map-append piece_words xs ys)
-
-words-ref : {u : unit_type.Unit} {xs : List Piece} → SpellsRef u xs → unit_words u ≡ token_words xs
-words-ref ref_name = refl
-words-ref ref_attr = refl
-words-ref ref_part = refl
-words-ref ref_time = refl
-
-words-factor : {k : Option ℕ} {u : unit_type.Unit} {xs : List Piece} → SpellsFactor k u xs → unit_words u ≡ token_words xs
-words-factor factor_number = refl
-words-factor (factor_times r) = words-ref r
-words-factor factor_text = refl
-words-factor (factor_ref r) = words-ref r
-
-pub words-term : {fs : List Signed} {xs : List Piece} → SpellsTerm fs xs → term_words (term_of fs) ≡ token_words xs
-words-term (term_first {u = u} d) = append-nil (unit_words u) ∙ words-factor d
-words-term (term_minus_first {u = u} d) = append-nil (unit_words u) ∙ words-factor d
-words-term (term_plus {fs = fs} {xs = xs} {u = u} {ys = ys} d e) =
-    flat_map-append (λ f. unit_words f.unit) fs _
-    ∙ words-joined (term_words (term_of fs)) (unit_words u ++ []) xs (PLUS ∷ ys) (words-term d) (append-nil (unit_words u) ∙ words-factor e)
-words-term (term_minus {fs = fs} {xs = xs} {u = u} {ys = ys} d e) =
-    flat_map-append (λ f. unit_words f.unit) fs _
-    ∙ words-joined (term_words (term_of fs)) (unit_words u ++ []) xs (MINUS ∷ ys) (words-term d) (append-nil (unit_words u) ∙ words-factor e)
-
-words-num : {c : ℤ} {xs : List Piece} → SpellsNum c xs → [] ≡ token_words xs
-words-num num_plain = refl
-words-num num_minus = refl
-
-words-names : {ns : List (List ℕ)} {xs : List Piece} → SpellsNames ns xs → ns ≡ token_words xs
-words-names names_one = refl
-words-names (names_more {ns = ns} {xs = xs} n d) = words-joined ns (n ∷ []) xs (COMMA ∷ NAME n ∷ []) (words-names d) refl
-
-words-parts : {ps : List FromPart} {xs : List Piece} → SpellsParts ps xs → flat_map (λ p. p.class ∷ p.var ∷ []) ps ≡ token_words xs
-words-parts parts_one = refl
-words-parts (parts_more {ps = ps} {xs = xs} c v d) =
-    flat_map-append (λ p. p.class ∷ p.var ∷ []) ps _
-    ∙ words-joined (flat_map (λ (p : FromPart). p.class ∷ p.var ∷ []) ps) (c ∷ v ∷ []) xs (COMMA ∷ NAME c ∷ NAME v ∷ []) (words-parts d) refl
-
--- the words of tokens before one that has none
-words-ended : (v : List (List ℕ)) (xs : List Piece) (p : Piece) → piece_words p ≡ [] → v ≡ token_words xs → v ≡ token_words (xs ++ p ∷ [])
-words-ended v xs p none h = sym (append-nil v) ∙ words-joined v [] xs (p ∷ []) h (sym (append-nil (piece_words p) ∙ none))
-
-words-atom : {a : atom_type.Atom} {xs : List Piece} → SpellsAtom a xs → atom_words a ≡ token_words xs
-words-atom (atom_compare {fs = fs} {gs = gs} {op = op} {xs = xs} {ys = ys} d e) =
-    words-joined (term_words (term_of fs)) (term_words (term_of gs)) xs (COMPARISON op ∷ ys) (words-term d) (words-term e)
-words-atom atom_inside = refl
-words-atom atom_outside = refl
-words-atom (atom_dist {o = o} {n = n} d) = ap (λ t. o ∷ n ∷ t) (words-num d)
-words-atom (atom_sphere {ns = ns} {xs = xs} d) = words-ended ns xs CLOSE refl (words-names d)
-
-pub words-formula : {l : Level} {f : Tree} {xs : List Piece} → Spells l f xs → words f ≡ token_words xs
-words-formula (formula_conj d) = words-formula d
-words-formula (formula_or {f = f} {g = g} {xs = xs} {ys = ys} d e) = words-joined (words f) (words g) xs (OR ∷ ys) (words-formula d) (words-formula e)
-words-formula (conj_chain d) = words-formula d
-words-formula (conj_and {f = f} {g = g} {xs = xs} {ys = ys} d e) = words-joined (words f) (words g) xs (AND ∷ ys) (words-formula d) (words-formula e)
-words-formula (chain_unary d) = words-formula d
-words-formula (chain_until {f = f} {g = g} {xs = xs} {ys = ys} d e) =
-    words-joined (words f) (words g) xs (UNTIL untils.Plain ∷ ys) (words-formula d) (words-formula e)
-words-formula (chain_until_within {f = f} {g = g} {xs = xs} {ys = ys} c d e) =
-    words-joined (words f) (words g) xs (UNTIL untils.Within ∷ NUMBER c ∷ ys) (words-formula d) (words-formula e)
-words-formula (chain_until_after {f = f} {g = g} {xs = xs} {ys = ys} c d e) =
-    words-joined (words f) (words g) xs (UNTIL untils.After ∷ NUMBER c ∷ ys) (words-formula d) (words-formula e)
-words-formula (unary_prefix {w = w} {f = f} d) = words-prefixed w f ∙ words-formula d
-  where
-    words-prefixed : (w : Prefix) (f : Tree) → words (prefixed w f) ≡ words f
-    words-prefixed prefixes.Not f = refl
-    words-prefixed prefixes.Next f = refl
-    words-prefixed prefixes.Eventually f = refl
-    words-prefixed prefixes.Always f = refl
-words-formula (unary_bounded d) = words-formula d
-words-formula (unary_assign {v = v} {fs = fs} {f = f} {xs = xs} {ys = ys} t d) =
-    ap (λ w. v ∷ w) (words-joined (term_words (term_of fs)) (words f) xs (CLOSE_SQUARE ∷ ys) (words-term t) (words-formula d))
-words-formula (unary_brackets {f = f} {xs = xs} d) = words-ended (words f) xs CLOSE refl (words-formula d)
-words-formula unary_truth = refl
-words-formula (unary_atom d) = words-atom d
-
--- the names and texts of a query are those among its tokens
-pub words-query : {q : QueryTree} {xs : List Piece} → SpellsQuery q xs → query_words q ≡ token_words xs
-words-query (query {ns = ns} {ps = ps} {f = f} {xs = xs} {ys = ys} {zs = zs} names froms d) =
-    words-joined ns (flat_map (λ (p : FromPart). p.class ∷ p.var ∷ []) ps ++ words f) xs (FROM ∷ (ys ++ WHERE ∷ zs)) (words-names names)
-    (words-joined (flat_map (λ (p : FromPart). p.class ∷ p.var ∷ []) ps) (words f) ys (WHERE ∷ zs) (words-parts froms) (words-formula d))
 
 -- which number is the first that doesn't fit depends on the tokens alone
 pub one_first_unfit : (xs : List Piece) (q r : QueryTree) (d : SpellsQuery q xs) (e : SpellsQuery r xs) → first_unfit d ≡ first_unfit e

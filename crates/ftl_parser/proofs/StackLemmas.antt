@@ -2,18 +2,17 @@
 use Rattle.std.proofs.Common.{◌≡◌, ℕ, ◌≤◌, List, [], ◌∷◌, ◌++◌, Option, Some, ap, ◌∙◌}
 use Rattle.std.specs.Option.{MatchOption, option_to_list}
 use Rattle.std.proofs.lemmas.List.Sums.{fold-append}
-use Rattle.ftl_parser.specs.declared.frame.Frame as frame_type
-use Rattle.ftl_parser.specs.Machine.{rank}
-use Rattle.ftl_parser.specs.Views.{frame_view, stack_of, StaysBelow}
+use Rattle.ftl_parser.specs.Machine.{Frame, rank}
+use Rattle.ftl_parser.specs.Views.{stack_of, StaysBelow}
 
 -- a frame on top of others
-pub stack_of-push : (below : List frame_type.Frame) (w : frame_type.Frame) → stack_of (below ++ w ∷ []) ≡ frame_view w ∷ stack_of below
+pub stack_of-push : (below : List Frame) (w : Frame) → stack_of (below ++ w ∷ []) ≡ w ∷ stack_of below
 stack_of-push below w = fold-append _ [] below (w ∷ [])
 
-pub popped : (least : ℕ) (top : frame_type.Frame) (old new : List frame_type.Frame) (r : Option frame_type.Frame) →
-    r ≡ Some top → old ≡ new ++ option_to_list r → least ≤ rank (frame_view top) →
+pub popped : (least : ℕ) (top : Frame) (old new : List Frame) (r : Option Frame) →
+    r ≡ Some top → old ≡ new ++ option_to_list r → least ≤ rank top →
     MatchOption r ((stack_of new ≡ stack_of old) × StaysBelow least (stack_of old))
-    (λ w. (stack_of old ≡ frame_view w ∷ stack_of new) × (least ≤ rank (frame_view w)))
+    (λ w. (stack_of old ≡ w ∷ stack_of new) × (least ≤ rank w))
 popped least top old new r is items binds =
     let whole : old ≡ new ++ top ∷ [] = items ∙ ap (λ o. new ++ option_to_list o) is in
     rw is (ap stack_of whole ∙ stack_of-push new top, binds)

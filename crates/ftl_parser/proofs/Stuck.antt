@@ -3,6 +3,7 @@ use Rattle.std.proofs.Common.{◌≡◌, ℕ, neg_ℤ, zero, suc, ◌<◌, ◌�
 use Rattle.std.specs.Option.{option_map_or}
 use Rattle.case_table.specs.declared.compare.Op.TheVariants as ops
 use Rattle.fixed_point.specs.declared.variants.SubName.TheVariants as subs
+use Rattle.formula_shape.specs.Shape.{Shape}
 use Rattle.ftl_parser.specs.declared.tree.Atom.TheVariants as atoms
 use Rattle.ftl_parser.specs.declared.tree.Unit.TheVariants as units
 use Rattle.ftl_parser.specs.declared.tree.Signed.{Signed}
@@ -59,22 +60,22 @@ have-completes : (s : List Frame) (f : Tree) → Completes s (Have f) (closes s)
 have-completes [] f = (f, refl)
 have-completes (Bracket ∷ s) f = have-completes s f
 have-completes (OrWith g ∷ s) f =
-    let r = have-completes s (Tree.Or g f) in
+    let r = have-completes s (Shape.Or g f) in
     (r.0, fills (OrWith g) s f (closes s) (stops-closes s) (omega (arith, stop-closes s)) ∙ r.1)
 have-completes (AndWith g ∷ s) f =
-    let r = have-completes s (Tree.And g f) in
+    let r = have-completes s (Shape.And g f) in
     (r.0, fills (AndWith g) s f (closes s) (stops-closes s) (omega (arith, stop-closes s)) ∙ r.1)
 have-completes (UntilWith form c g ∷ s) f =
-    let r = have-completes s (Tree.Until form c g f) in
+    let r = have-completes s (Shape.Until form c g f) in
     (r.0, fills (UntilWith form c g) s f (closes s) (stops-closes s) (omega (arith, stop-closes s)) ∙ r.1)
 have-completes (PrefixedBy w ∷ s) f =
     let r = have-completes s (prefixed w f) in
     (r.0, fills (PrefixedBy w) s f (closes s) (stops-closes s) (omega (arith, stop-closes s)) ∙ r.1)
 have-completes (BoundedBy form c ∷ s) f =
-    let r = have-completes s (Tree.Bounded form c f) in
+    let r = have-completes s (Shape.Bounded form c f) in
     (r.0, fills (BoundedBy form c) s f (closes s) (stops-closes s) (omega (arith, stop-closes s)) ∙ r.1)
 have-completes (Assigning v t ∷ s) f =
-    let r = have-completes s (Tree.Assign v t f) in
+    let r = have-completes s (Shape.Assign (v, t) f) in
     (r.0, fills (Assigning v t) s f (closes s) (stops-closes s) (omega (arith, stop-closes s)) ∙ r.1)
 
 -- the rest of an atom behind a whole term
@@ -91,15 +92,15 @@ tail-cuts (places.Assigned v) s = refl
 term-completes : (place : TermPlace) (s : List Frame) (fs : List Signed) → (f : Tree) × (term_behind s place fs (term_tail place s) ≡ Some f)
 term-completes places.Left s fs =
     let time = signed false None units.Time ∷ [] in
-    let r = have-completes s (Tree.Atom (atoms.Compare (term_of fs) ops.Lt (term_of time))) in (
+    let r = have-completes s (Shape.Atom (atoms.Compare (term_of fs) ops.Lt (term_of time))) in (
       r.0,
       whole-ends s (places.Right (term_of fs) ops.Lt) [] false None units.Time (closes s)
           ∙ (right-ends s (term_of fs) ops.Lt time (closes s) (stops-closes s) ∙ r.1),
     )
 term-completes (places.Right t op) s fs =
-    let r = have-completes s (Tree.Atom (atoms.Compare t op (term_of fs))) in
+    let r = have-completes s (Shape.Atom (atoms.Compare t op (term_of fs))) in
     (r.0, right-ends s t op fs (closes s) (stops-closes s) ∙ r.1)
-term-completes (places.Assigned v) s fs = have-completes (Assigning v (term_of fs) ∷ s) (Tree.Truth true)
+term-completes (places.Assigned v) s fs = have-completes (Assigning v (term_of fs) ∷ s) (Shape.Truth true)
 
 -- the rest of a factor
 abbrev factor_tail : Factor → List Piece
@@ -164,9 +165,9 @@ spatial_tail (spatials.SphereName r ns) rest = NAME [] ∷ CLOSE ∷ rest
 spatial_tail (spatials.SphereNames r ns) rest = CLOSE ∷ rest
 
 pair-completes : (w : Pair) (s : List Frame) (o p : List ℕ) → Completes s (InSpatial (spatials.PairClose w o p)) (closed_pair w (closes s))
-pair-completes pairs.Inside s o p = have-completes s (Tree.Atom (atoms.Inside o p))
-pair-completes pairs.Outside s o p = have-completes s (Tree.Atom (atoms.Outside o p))
-pair-completes pairs.Dist s o p = have-completes s (Tree.Atom (atoms.Dist o p ops.Lt (literal [])))
+pair-completes pairs.Inside s o p = have-completes s (Shape.Atom (atoms.Inside o p))
+pair-completes pairs.Outside s o p = have-completes s (Shape.Atom (atoms.Outside o p))
+pair-completes pairs.Dist s o p = have-completes s (Shape.Atom (atoms.Dist o p ops.Lt (literal [])))
 
 spatial-completes : (x : Spatial) (s : List Frame) → Completes s (InSpatial x) (spatial_tail x (closes s))
 spatial-completes (spatials.PairOpen w) s = pair-completes w s [] []
@@ -174,14 +175,14 @@ spatial-completes (spatials.PairFirst w) s = pair-completes w s [] []
 spatial-completes (spatials.PairComma w o) s = pair-completes w s o []
 spatial-completes (spatials.PairSecond w o) s = pair-completes w s o []
 spatial-completes (spatials.PairClose w o p) s = pair-completes w s o p
-spatial-completes (spatials.DistOp o n) s = have-completes s (Tree.Atom (atoms.Dist o n ops.Lt (literal [])))
-spatial-completes (spatials.DistNum o n op) s = have-completes s (Tree.Atom (atoms.Dist o n op (literal [])))
-spatial-completes (spatials.DistMinus o n op) s = have-completes s (Tree.Atom (atoms.Dist o n op (neg_ℤ (literal []))))
-spatial-completes spatials.SphereOpen s = have-completes s (Tree.Atom (atoms.Sphere (radius []) ([] ∷ [])))
-spatial-completes spatials.SphereRadius s = have-completes s (Tree.Atom (atoms.Sphere (radius []) ([] ∷ [])))
-spatial-completes (spatials.SphereComma r) s = have-completes s (Tree.Atom (atoms.Sphere r ([] ∷ [])))
-spatial-completes (spatials.SphereName r ns) s = have-completes s (Tree.Atom (atoms.Sphere r (ns ++ [] ∷ [])))
-spatial-completes (spatials.SphereNames r ns) s = have-completes s (Tree.Atom (atoms.Sphere r ns))
+spatial-completes (spatials.DistOp o n) s = have-completes s (Shape.Atom (atoms.Dist o n ops.Lt (literal [])))
+spatial-completes (spatials.DistNum o n op) s = have-completes s (Shape.Atom (atoms.Dist o n op (literal [])))
+spatial-completes (spatials.DistMinus o n op) s = have-completes s (Shape.Atom (atoms.Dist o n op (neg_ℤ (literal []))))
+spatial-completes spatials.SphereOpen s = have-completes s (Shape.Atom (atoms.Sphere (radius []) ([] ∷ [])))
+spatial-completes spatials.SphereRadius s = have-completes s (Shape.Atom (atoms.Sphere (radius []) ([] ∷ [])))
+spatial-completes (spatials.SphereComma r) s = have-completes s (Shape.Atom (atoms.Sphere r ([] ∷ [])))
+spatial-completes (spatials.SphereName r ns) s = have-completes s (Shape.Atom (atoms.Sphere r (ns ++ [] ∷ [])))
+spatial-completes (spatials.SphereNames r ns) s = have-completes s (Shape.Atom (atoms.Sphere r ns))
 
 -- tokens that make any place behind WHERE the end of a formula
 abbrev body_completion : List Frame → Phase → List Piece
@@ -195,12 +196,12 @@ body_completion s (InTerm place fs last) = factor_tail last ++ term_tail place s
 body_completion s (InSpatial x) = spatial_tail x (closes s)
 
 body-completes : (s : List Frame) (phase : Phase) → Completes s phase (body_completion s phase)
-body-completes s Want = have-completes s (Tree.Truth true)
+body-completes s Want = have-completes s (Shape.Truth true)
 body-completes s (Have f) = have-completes s f
-body-completes s (Reach form f) = have-completes (UntilWith form (ticks []) f ∷ s) (Tree.Truth true)
-body-completes s (Ticks form) = have-completes (BoundedBy form (ticks []) ∷ s) (Tree.Truth true)
-body-completes s Variable = have-completes (Assigning [] (term_of (signed false None units.Time ∷ [])) ∷ s) (Tree.Truth true)
-body-completes s (Arrow v) = have-completes (Assigning v (term_of (signed false None units.Time ∷ [])) ∷ s) (Tree.Truth true)
+body-completes s (Reach form f) = have-completes (UntilWith form (ticks []) f ∷ s) (Shape.Truth true)
+body-completes s (Ticks form) = have-completes (BoundedBy form (ticks []) ∷ s) (Shape.Truth true)
+body-completes s Variable = have-completes (Assigning [] (term_of (signed false None units.Time ∷ [])) ∷ s) (Shape.Truth true)
+body-completes s (Arrow v) = have-completes (Assigning v (term_of (signed false None units.Time ∷ [])) ∷ s) (Shape.Truth true)
 body-completes s (InTerm place fs last) = factor-completes last s place fs
 body-completes s (InSpatial x) = spatial-completes x s
 
@@ -214,12 +215,12 @@ head_completion (heads.Var c) = NAME [] ∷ WHERE ∷ TRUTH true ∷ []
 head_completion heads.Parts = WHERE ∷ TRUTH true ∷ []
 
 head-completes : (h : Head) (ns : List (List ℕ)) (ps : List FromPart) → (q : QueryTree) × (parsed (Heading h ns ps) (head_completion h) ≡ Some q)
-head-completes heads.Start ns ps = (query_with (ns ++ [] ∷ []) (ps ++ from_part [] [] ∷ []) (Tree.Truth true), refl)
-head-completes heads.Target ns ps = (query_with (ns ++ [] ∷ []) (ps ++ from_part [] [] ∷ []) (Tree.Truth true), refl)
-head-completes heads.Targets ns ps = (query_with ns (ps ++ from_part [] [] ∷ []) (Tree.Truth true), refl)
-head-completes heads.Class ns ps = (query_with ns (ps ++ from_part [] [] ∷ []) (Tree.Truth true), refl)
-head-completes (heads.Var c) ns ps = (query_with ns (ps ++ from_part c [] ∷ []) (Tree.Truth true), refl)
-head-completes heads.Parts ns ps = (query_with ns ps (Tree.Truth true), refl)
+head-completes heads.Start ns ps = (query_with (ns ++ [] ∷ []) (ps ++ from_part [] [] ∷ []) (Shape.Truth true), refl)
+head-completes heads.Target ns ps = (query_with (ns ++ [] ∷ []) (ps ++ from_part [] [] ∷ []) (Shape.Truth true), refl)
+head-completes heads.Targets ns ps = (query_with ns (ps ++ from_part [] [] ∷ []) (Shape.Truth true), refl)
+head-completes heads.Class ns ps = (query_with ns (ps ++ from_part [] [] ∷ []) (Shape.Truth true), refl)
+head-completes (heads.Var c) ns ps = (query_with ns (ps ++ from_part c [] ∷ []) (Shape.Truth true), refl)
+head-completes heads.Parts ns ps = (query_with ns ps (Shape.Truth true), refl)
 
 -- tokens that make any state a query
 abbrev pub completion : State → List Piece

@@ -1,12 +1,11 @@
 -- Words and symbols: no name, number or text is among them.
-use Rattle.std.proofs.Common.{◌≡◌, ℕ, zero, suc, Bool, true, false, List, [], ◌∷◌, unwrap_or, slice_get, ◌⊎◌, inl, inr, refl, ap, ◌∙◌, arith}
-use Rattle.std.specs.List.{list_all, list_any}
+use Rattle.std.proofs.Common.{◌≡◌, ℕ, zero, suc, Bool, true, false, List, [], ◌∷◌, unwrap_or, slice_get, refl, arith}
+use Rattle.std.specs.List.{list_all}
 use Rattle.ftl_lexer.specs.declared.kinds.Kind.{Kind}
 use Rattle.ftl_lexer.specs.declared.kinds.Kind.TheVariants as kinds
 use Rattle.ftl_parser.specs.declared.scan.Coming.{Coming}
 use Rattle.ftl_parser.specs.Piece.{Piece, piece_of, signs, words, NAME, NUMBER, TEXT, OTHER}
-use Rattle.ftl_parser.specs.Scan.{mark, piece_words}
-use Rattle.ftl_parser.specs.Sizes.{is_long}
+use Rattle.ftl_parser.specs.Scan.{mark}
 
 -- neither a name nor a number nor a text
 abbrev is_fixed : Piece → Bool
@@ -25,11 +24,6 @@ unmarked : (c : Coming) (p : Piece) (rest : List Piece) → is_fixed p ≡ true 
 unmarked c (NUMBER n) rest h = grind (arith, h)
 unmarked c p rest h = refl
 
-wordless : (p : Piece) → is_fixed p ≡ true → piece_words p ≡ []
-wordless (NAME n) h = grind (arith, h)
-wordless (TEXT t) h = grind (arith, h)
-wordless p h = refl
-
 -- a token that is no number has no mark
 pub unmarked-token : (c : Coming) (kind : Kind) (bytes : List ℕ) (rest : List Piece) → (kind ≡ kinds.Number → ⊥) → mark c (piece_of kind bytes) rest ≡ false
 unmarked-token c kinds.Name bytes rest other = refl
@@ -37,9 +31,3 @@ unmarked-token c kinds.Number bytes rest other = absurd (other refl)
 unmarked-token c kinds.Text bytes rest other = refl
 unmarked-token c (kinds.Sym code) bytes rest other = unmarked c _ rest (in-table signs code refl)
 unmarked-token c (kinds.Key code) bytes rest other = unmarked c _ rest (in-table words code refl)
-
--- symbols and reserved words are no names and no texts
-pub wordless-token : (kind : Kind) (bytes : List ℕ) → (((code : ℕ) × (kind ≡ kinds.Sym code)) ⊎ ((code : ℕ) × (kind ≡ kinds.Key code))) →
-    list_any is_long (piece_words (piece_of kind bytes)) ≡ false
-wordless-token kind bytes (inl (code, is)) = ap (λ k. list_any is_long (piece_words (piece_of k bytes))) is ∙ ap (list_any is_long) (wordless _ (in-table signs code refl))
-wordless-token kind bytes (inr (code, is)) = ap (λ k. list_any is_long (piece_words (piece_of k bytes))) is ∙ ap (list_any is_long) (wordless _ (in-table words code refl))

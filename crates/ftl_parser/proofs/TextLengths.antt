@@ -1,6 +1,6 @@
 -- A printed query has at most four bytes for each byte of the tokens that spell it.
 use Rattle.std.proofs.Common.{◌≡◌, ℕ, zero, suc, ◌+◌, ◌-◌, ◌*◌, ◌≤◌, max, Bool, true, false, List, [], ◌∷◌, ◌++◌, drop, take, length, map, length-append, Option, None, Some, ℤ, IsTrue, refl, ap, subst, ◌∙◌, arith, leb, inl, inr}
-use Rattle.std.specs.Prelude.{codes, decimal, slice_get, unwrap_or, bytes_eq}
+use Rattle.std.specs.Prelude.{codes, decimal, slice_get, unwrap_or, bytes_eq, if◌then◌else◌}
 use Rattle.std.specs.List.{list_all}
 use Rattle.std.proofs.lemmas.Bool.{cases_Bool, and_parts, leb-true}
 use Rattle.std.proofs.lemmas.List.{length-take}
@@ -38,6 +38,7 @@ use Rattle.ftl_parser.specs.declared.tree.Signed.{Signed}
 use Rattle.ftl_parser.specs.declared.tree.FromPart.{FromPart}
 use Rattle.ftl_parser.specs.Tree.{Tree, QueryTree}
 use Rattle.ftl_parser.specs.Piece.{Piece, RETRIEVE, FROM, WHERE, AND, OR, TRUTH, PREFIX, BOUNDED, UNTIL, INSIDE, OUTSIDE, DIST, SPHERE, TIME, PART, CLOSE, CLOSE_SQUARE, COMMA, PLUS, MINUS, COMPARISON, NAME, NUMBER, TEXT, OTHER, words, signs, unquoted, piece_of, pieces}
+use Rattle.ftl_parser.specs.Words.{is_short}
 use Rattle.ftl_parser.specs.Number.{ticks, times, literal, radius}
 use Rattle.ftl_parser.specs.Grammar.{SpellsRef, ref_name, ref_attr, ref_part, ref_time, SpellsFactor, factor_number, factor_times, factor_text, factor_ref, SpellsTerm, term_first, term_minus_first, term_plus, term_minus, SpellsNum, num_plain, num_minus, SpellsNames, names_one, names_more, SpellsParts, parts_one, parts_more, SpellsAtom, atom_compare, atom_inside, atom_outside, atom_dist, atom_sphere, Level, Spells, formula_conj, formula_or, conj_chain, conj_and, chain_unary, chain_until, chain_until_within, chain_until_after, unary_prefix, unary_bounded, unary_assign, unary_brackets, unary_truth, unary_atom, SpellsQuery, query, prefixed, signed, from_part, term_of}
 use Rattle.ftl_parser.specs.Text as text
@@ -126,10 +127,14 @@ text_long text quoted =
     let long : length text ≡ suc (length (unquoted text ++ 34 ∷ [])) = ap length whole in
     omega (arith, long, length-append (unquoted text) (34 ∷ []))
 
+word_shorter : (b : Bool) (word : List ℕ) → length (if b then word else []) ≤ length word
+word_shorter true word = omega arith
+word_shorter false word = omega arith
+
 piece_long : (kind : Kind) (bytes : List ℕ) → HasForm kind bytes → weight (piece_of kind bytes) ≤ length bytes
-piece_long kinds.Name bytes form = word_long bytes form.0
+piece_long kinds.Name bytes form = omega (arith, word_long bytes form.0, word_shorter (is_short bytes) bytes)
 piece_long kinds.Number bytes form = number_long bytes form
-piece_long kinds.Text bytes form = text_long bytes form
+piece_long kinds.Text bytes form = omega (arith, text_long bytes form, word_shorter (is_short (unquoted bytes)) (unquoted bytes))
 piece_long (kinds.Sym code) bytes form = row_long (λ (c : ℕ). weight (unwrap_or (slice_get signs c) OTHER)) symbols bytes code signs_long form
 piece_long (kinds.Key code) bytes form = row_long (λ (c : ℕ). weight (unwrap_or (slice_get words c) OTHER)) reserved_words bytes code words_long form
 

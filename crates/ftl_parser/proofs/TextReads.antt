@@ -17,6 +17,7 @@ use Rattle.ftl_lexer.specs.Forms.{name_len}
 use Rattle.ftl_lexer.specs.Tokens.{lexemes, bad_place}
 use Rattle.ftl_lexer.proofs.Cuts.{lexemes_from_cut}
 use Rattle.tick_set.specs.declared.spans.TheConstants.{LAST_TICK}
+use Rattle.formula_shape.specs.Shape.{Shape}
 use Rattle.ftl_parser.specs.declared.state.Prefix.{Prefix}
 use Rattle.ftl_parser.specs.declared.state.Prefix.TheVariants as prefixes
 use Rattle.ftl_parser.specs.declared.tree.Atom as atom_type
@@ -26,15 +27,16 @@ use Rattle.ftl_parser.specs.declared.tree.Unit.TheVariants as units
 use Rattle.ftl_parser.specs.declared.tree.Signed.{Signed}
 use Rattle.ftl_parser.specs.declared.tree.FromPart.{FromPart}
 use Rattle.ftl_parser.specs.Tree.{Tree, QueryTree}
-use Rattle.ftl_parser.specs.Piece.{Piece, RETRIEVE, FROM, WHERE, AND, OR, TRUTH, PREFIX, BOUNDED, UNTIL, INSIDE, OUTSIDE, DIST, SPHERE, TIME, PART, OPEN, CLOSE, OPEN_SQUARE, CLOSE_SQUARE, COMMA, POINT, PLUS, MINUS, STAR, ARROW, COMPARISON, NAME, NUMBER, TEXT, pieces, pieces_from}
+use Rattle.ftl_parser.specs.Piece.{Piece, RETRIEVE, FROM, WHERE, AND, OR, TRUTH, PREFIX, BOUNDED, UNTIL, INSIDE, OUTSIDE, DIST, SPHERE, TIME, PART, OPEN, CLOSE, OPEN_SQUARE, CLOSE_SQUARE, COMMA, POINT, PLUS, MINUS, STAR, ARROW, COMPARISON, NAME, NUMBER, TEXT, pieces, pieces_from, lexemes_from, has_long}
 use Rattle.ftl_parser.specs.Number.{fits, Literal, Radius, Ticks, Times}
 use Rattle.ftl_parser.specs.Grammar.{SpellsRef, ref_name, ref_attr, ref_part, ref_time, SpellsFactor, factor_number, factor_times, factor_text, factor_ref, SpellsTerm, term_first, term_minus_first, term_plus, term_minus, SpellsNum, num_plain, num_minus, SpellsNames, names_one, names_more, SpellsParts, parts_one, parts_more, SpellsAtom, atom_compare, atom_inside, atom_outside, atom_dist, atom_sphere, formula, unary, Spells, formula_conj, formula_or, conj_chain, conj_and, chain_unary, chain_until, chain_until_within, chain_until_after, unary_prefix, unary_bounded, unary_assign, unary_brackets, unary_truth, unary_atom, SpellsQuery, query, prefixed, signed, from_part, term_of}
 use Rattle.ftl_parser.specs.Marks.{unfit, clear, factor_marks, term_marks, num_marks, atom_marks, marks, query_marks, first_unfit}
-use Rattle.ftl_parser.specs.Shape.{OneOrMore, IsName, IsPart, IsRef, IsUnit, IsMultiple, IsFactor, IsAtom, IsBound, IsFormula, IsPrintable}
+use Rattle.ftl_parser.specs.Sizes.{first_too_large}
+use Rattle.ftl_parser.specs.Lawful.{OneOrMore, IsShortName, IsQuotable, IsPart, IsRef, IsUnit, IsMultiple, IsFactor, IsAtom, IsBound, IsFormula, IsPrintable}
 use Rattle.ftl_parser.specs.Text as text
 use Rattle.ftl_parser.specs.Text.{truth_word, bound_word, sub_word, op_word, later_names, names_text, part_text, parts_text, unit_text, times_text, first_sign, later_sign, factors_text, atom_text, until_text, prefix_text, bound_text, assign_text, in_brackets, formula_text, query_text}
 use Rattle.ftl_parser.specs.TextLaws.{IsReadAs, ReadsWhatIsPrinted, ReadsAgain}
-use Rattle.ftl_parser.proofs.TextShapes.{prints_what_is_read}
+use Rattle.ftl_parser.proofs.TextShapes.{prints_what_is_read, small_short}
 use Rattle.ftl_parser.proofs.TextTokens.{IsCut, Ends, nothing_ends, blank_ends, comma_ends, close_ends, square_ends, nothing_is_cut, regrouped, read_blank, read_name, read_key, read_number, read_text, read_symbol, read_op, read_arrow}
 use Rattle.ftl_parser.proofs.TextValues.{decimal_is_number, fix_is_number, minus_text, literal_again, literal_fits, radius_again, radius_fits, ticks_again, ticks_fit, times_again, times_fit}
 
@@ -92,12 +94,12 @@ read_point : (rest : List ℕ) (ps : List Piece) → IsCut rest ps → IsCut (46
 unfolding symbols
 read_point rest ps is = read_symbol 5 46 rest ps refl refl is
 
-read_attr : (o a rest : List ℕ) (ps : List Piece) → IsName o → IsName a → name_len rest ≡ 0 → IsCut rest ps → IsCut (o ++ codes "." ++ a ++ rest) (NAME o ∷ POINT ∷ NAME a ∷ ps)
+read_attr : (o a rest : List ℕ) (ps : List Piece) → IsShortName o → IsShortName a → name_len rest ≡ 0 → IsCut rest ps → IsCut (o ++ codes "." ++ a ++ rest) (NAME o ∷ POINT ∷ NAME a ∷ ps)
 read_attr o a rest ps o_is a_is ends is =
     regrouped (o ++ codes "." ++ a ++ rest) (o ++ (46 ∷ (a ++ rest))) (NAME o ∷ POINT ∷ NAME a ∷ ps) (NAME o ∷ POINT ∷ NAME a ∷ ps) (simp append_assoc) refl
     (read_name o (46 ∷ (a ++ rest)) (POINT ∷ NAME a ∷ ps) o_is refl (read_point (a ++ rest) (NAME a ∷ ps) (read_name a rest ps a_is ends is)))
 
-ref_reads : (u : unit_type.Unit) → IsRef u → Reads (unit_text u) (SpellsRef u)
+ref_reads : (u : unit_type.Unit) → IsRef IsShortName u → Reads (unit_text u) (SpellsRef u)
 unfolding reserved_words
 ref_reads (units.Literal n) shape = absurd shape
 ref_reads (units.Text t) shape = absurd shape
@@ -132,7 +134,7 @@ FactorOf k u xs = (d : SpellsFactor k u xs) × AreClear (factor_marks d)
 plain_ref : (u : unit_type.Unit) → Reads (unit_text u) (SpellsRef u) → Reads (unit_text u) (FactorOf None u)
 plain_ref u r = record { tokens = r.tokens; spelled = (factor_ref r.spelled, no_marks r.tokens); again = r.again }
 
-unit_reads : (u : unit_type.Unit) → IsUnit u → Reads (unit_text u) (FactorOf None u)
+unit_reads : (u : unit_type.Unit) → IsUnit IsShortName IsQuotable u → Reads (unit_text u) (FactorOf None u)
 unit_reads (units.Literal (pos n)) shape = record {
   tokens = NUMBER (fix_text (pos n)) ∷ [];
   spelled = subst (λ (v : ℤ). FactorOf None (units.Literal v) (NUMBER (fix_text (pos n)) ∷ [])) (literal_again n shape) (factor_number, (fitting (fits Literal (fix_text (pos n))) (literal_fits n shape), tt));
@@ -153,7 +155,7 @@ read_star : (rest : List ℕ) (ps : List Piece) → IsCut rest ps → IsCut (42 
 unfolding symbols
 read_star rest ps is = read_symbol 8 42 rest ps refl refl is
 
-factor_reads : (k : Option ℕ) (u : unit_type.Unit) → IsMultiple k u → Reads (times_text k ++ unit_text u) (FactorOf k u)
+factor_reads : (k : Option ℕ) (u : unit_type.Unit) → IsMultiple IsShortName IsQuotable k u → Reads (times_text k ++ unit_text u) (FactorOf k u)
 factor_reads None u shape = unit_reads u shape
 factor_reads (Some k) u shape =
     let r : Reads (unit_text u) (SpellsRef u) = ref_reads u shape.1 in
@@ -191,7 +193,7 @@ read_minus : (rest : List ℕ) (ps : List Piece) → IsCut rest ps → IsCut (45
 unfolding symbols
 read_minus rest ps is = read_symbol 7 45 rest ps refl refl is
 
-factor_behind : (fs : List Signed) (front : List ℕ) → Reads front (TermOf fs) → (minus : Bool) (k : Option ℕ) (u : unit_type.Unit) → IsMultiple k u → Reads (front ++ (later_sign minus ++ (times_text k ++ unit_text u))) (TermOf (fs ++ signed minus k u ∷ []))
+factor_behind : (fs : List Signed) (front : List ℕ) → Reads front (TermOf fs) → (minus : Bool) (k : Option ℕ) (u : unit_type.Unit) → IsMultiple IsShortName IsQuotable k u → Reads (front ++ (later_sign minus ++ (times_text k ++ unit_text u))) (TermOf (fs ++ signed minus k u ∷ []))
 factor_behind fs front r false k u shape =
     let factor : List ℕ = times_text k ++ unit_text u in
     let f : Reads factor (FactorOf k u) = factor_reads k u shape in
@@ -213,7 +215,7 @@ factor_behind fs front r true k u shape =
           (r.again (codes " - " ++ (factor ++ rest)) (MINUS ∷ (f.tokens ++ ps)) (blank_ends (45 ∷ 32 ∷ (factor ++ rest))) (read_blank (45 ∷ 32 ∷ (factor ++ rest)) (MINUS ∷ (f.tokens ++ ps)) (read_minus (32 ∷ (factor ++ rest)) (f.tokens ++ ps) (read_blank (factor ++ rest) (f.tokens ++ ps) (f.again rest ps ends is)))));
     }
 
-first_factor : (minus : Bool) (k : Option ℕ) (u : unit_type.Unit) → IsMultiple k u → Reads (first_sign minus ++ (times_text k ++ unit_text u)) (TermOf (signed minus k u ∷ []))
+first_factor : (minus : Bool) (k : Option ℕ) (u : unit_type.Unit) → IsMultiple IsShortName IsQuotable k u → Reads (first_sign minus ++ (times_text k ++ unit_text u)) (TermOf (signed minus k u ∷ []))
 first_factor false k u shape =
     let f : Reads (times_text k ++ unit_text u) (FactorOf k u) = factor_reads k u shape in
     record { tokens = f.tokens; spelled = (term_first f.spelled.0, f.spelled.1); again = f.again }
@@ -226,10 +228,10 @@ first_factor true k u shape =
       again = λ rest ps ends is. read_minus (factor ++ rest) (f.tokens ++ ps) (f.again rest ps ends is);
     }
 
-factors_read : (fs : List Signed) → OneOrMore IsFactor fs → Reads (factors_text fs) (TermOf fs)
+factors_read : (fs : List Signed) → OneOrMore (IsFactor IsShortName IsQuotable) fs → Reads (factors_text fs) (TermOf fs)
 factors_read [] shape = absurd shape
 factors_read (f ∷ fs) shape =
-    more_read (λ (g : Signed). later_sign g.minus ++ text.factor_text g) IsFactor TermOf (λ gs front r g is. factor_behind gs front r g.minus g.times g.unit is)
+    more_read (λ (g : Signed). later_sign g.minus ++ text.factor_text g) (IsFactor IsShortName IsQuotable) TermOf (λ gs front r g is. factor_behind gs front r g.minus g.times g.unit is)
     (f ∷ []) fs (first_sign f.minus ++ text.factor_text f) (first_factor f.minus f.times f.unit shape.0) shape.1
 
 -- ---- names and parts of FROM
@@ -238,7 +240,7 @@ read_comma : (rest : List ℕ) (ps : List Piece) → IsCut rest ps → IsCut (44
 unfolding symbols
 read_comma rest ps is = read_symbol 4 44 rest ps refl refl is
 
-name_behind : (ns : List (List ℕ)) (front : List ℕ) → Reads front (SpellsNames ns) → (n : List ℕ) → IsName n → Reads (front ++ 44 ∷ n) (SpellsNames (ns ++ n ∷ []))
+name_behind : (ns : List (List ℕ)) (front : List ℕ) → Reads front (SpellsNames ns) → (n : List ℕ) → IsShortName n → Reads (front ++ 44 ∷ n) (SpellsNames (ns ++ n ∷ []))
 name_behind ns front r n shape = record {
   tokens = r.tokens ++ COMMA ∷ NAME n ∷ [];
   spelled = names_more n r.spelled;
@@ -247,18 +249,18 @@ name_behind ns front r n shape = record {
       (r.again (44 ∷ (n ++ rest)) (COMMA ∷ NAME n ∷ ps) (comma_ends (n ++ rest)) (read_comma (n ++ rest) (NAME n ∷ ps) (read_name n rest ps shape ends.name is)));
 }
 
-names_read : (ns : List (List ℕ)) → OneOrMore IsName ns → Reads (names_text ns) (SpellsNames ns)
+names_read : (ns : List (List ℕ)) → OneOrMore IsShortName ns → Reads (names_text ns) (SpellsNames ns)
 names_read [] shape = absurd shape
 names_read (n ∷ ns) shape =
     let first : Reads n (SpellsNames (n ∷ [])) = record { tokens = NAME n ∷ []; spelled = names_one; again = λ rest ps ends is. read_name n rest ps shape.0 ends.name is } in
-    more_read (λ (m : List ℕ). 44 ∷ m) IsName SpellsNames name_behind (n ∷ []) ns n first shape.1
+    more_read (λ (m : List ℕ). 44 ∷ m) IsShortName SpellsNames name_behind (n ∷ []) ns n first shape.1
 
-read_part : (c v rest : List ℕ) (ps : List Piece) → IsName c → IsName v → Ends rest → IsCut rest ps → IsCut (part_text (from_part c v) ++ rest) (NAME c ∷ NAME v ∷ ps)
+read_part : (c v rest : List ℕ) (ps : List Piece) → IsShortName c → IsShortName v → Ends rest → IsCut rest ps → IsCut (part_text (from_part c v) ++ rest) (NAME c ∷ NAME v ∷ ps)
 read_part c v rest ps c_is v_is ends is =
     regrouped ((c ++ codes " " ++ v) ++ rest) (c ++ (32 ∷ (v ++ rest))) (NAME c ∷ NAME v ∷ ps) (NAME c ∷ NAME v ∷ ps) (simp append_assoc) refl
     (read_name c (32 ∷ (v ++ rest)) (NAME v ∷ ps) c_is refl (read_blank (v ++ rest) (NAME v ∷ ps) (read_name v rest ps v_is ends.name is)))
 
-part_behind : (fs : List FromPart) (front : List ℕ) → Reads front (SpellsParts fs) → (p : FromPart) → IsPart p → Reads (front ++ 44 ∷ part_text p) (SpellsParts (fs ++ p ∷ []))
+part_behind : (fs : List FromPart) (front : List ℕ) → Reads front (SpellsParts fs) → (p : FromPart) → (IsPart IsShortName) p → Reads (front ++ 44 ∷ part_text p) (SpellsParts (fs ++ p ∷ []))
 part_behind fs front r p shape = record {
   tokens = r.tokens ++ COMMA ∷ NAME p.class ∷ NAME p.var ∷ [];
   spelled = parts_more p.class p.var r.spelled;
@@ -268,11 +270,11 @@ part_behind fs front r p shape = record {
       (r.again (44 ∷ (part_text p ++ rest)) (COMMA ∷ NAME p.class ∷ NAME p.var ∷ ps) (comma_ends (part_text p ++ rest)) (read_comma (part_text p ++ rest) (NAME p.class ∷ NAME p.var ∷ ps) (read_part p.class p.var rest ps shape.0 shape.1 ends is)));
 }
 
-parts_read : (fs : List FromPart) → OneOrMore IsPart fs → Reads (parts_text fs) (SpellsParts fs)
+parts_read : (fs : List FromPart) → OneOrMore (IsPart IsShortName) fs → Reads (parts_text fs) (SpellsParts fs)
 parts_read [] shape = absurd shape
 parts_read (p ∷ fs) shape =
     let first : Reads (part_text p) (SpellsParts (p ∷ [])) = record { tokens = NAME p.class ∷ NAME p.var ∷ []; spelled = parts_one; again = λ rest ps ends is. read_part p.class p.var rest ps shape.0.0 shape.0.1 ends is } in
-    more_read (λ (q : FromPart). 44 ∷ part_text q) IsPart SpellsParts part_behind (p ∷ []) fs (part_text p) first shape.1
+    more_read (λ (q : FromPart). 44 ∷ part_text q) (IsPart IsShortName) SpellsParts part_behind (p ∷ []) fs (part_text p) first shape.1
 
 -- ---- atoms
 
@@ -302,7 +304,7 @@ read_close : (rest : List ℕ) (ps : List Piece) → IsCut rest ps → IsCut (41
 unfolding symbols
 read_close rest ps is = read_symbol 1 41 rest ps refl refl is
 
-read_pair : (o n rest : List ℕ) (ps : List Piece) → IsName o → IsName n → IsCut rest ps → IsCut (40 ∷ (o ++ (44 ∷ (n ++ (41 ∷ rest))))) (OPEN ∷ NAME o ∷ COMMA ∷ NAME n ∷ CLOSE ∷ ps)
+read_pair : (o n rest : List ℕ) (ps : List Piece) → IsShortName o → IsShortName n → IsCut rest ps → IsCut (40 ∷ (o ++ (44 ∷ (n ++ (41 ∷ rest))))) (OPEN ∷ NAME o ∷ COMMA ∷ NAME n ∷ CLOSE ∷ ps)
 read_pair o n rest ps o_is n_is is =
     read_open (o ++ (44 ∷ (n ++ (41 ∷ rest)))) (NAME o ∷ COMMA ∷ NAME n ∷ CLOSE ∷ ps)
     (read_name o (44 ∷ (n ++ (41 ∷ rest))) (COMMA ∷ NAME n ∷ CLOSE ∷ ps) o_is refl
@@ -316,7 +318,7 @@ read_between op rest ps is = read_blank (op_word op ++ 32 ∷ rest) (COMPARISON 
 abbrev AtomOf : atom_type.Atom → List Piece → Type 0
 AtomOf a xs = (d : SpellsAtom a xs) × AreClear (atom_marks d)
 
-compare_reads : (fs gs : List Signed) (op : Op) → OneOrMore IsFactor fs → OneOrMore IsFactor gs → Reads (factors_text fs ++ codes " " ++ op_word op ++ codes " " ++ factors_text gs) (AtomOf (atoms.Compare (term_of fs) op (term_of gs)))
+compare_reads : (fs gs : List Signed) (op : Op) → OneOrMore (IsFactor IsShortName IsQuotable) fs → OneOrMore (IsFactor IsShortName IsQuotable) gs → Reads (factors_text fs ++ codes " " ++ op_word op ++ codes " " ++ factors_text gs) (AtomOf (atoms.Compare (term_of fs) op (term_of gs)))
 compare_reads fs gs op left right =
     let l : Reads (factors_text fs) (TermOf fs) = factors_read fs left in
     let r : Reads (factors_text gs) (TermOf gs) = factors_read gs right in
@@ -334,7 +336,7 @@ six_clear = (refl, (refl, (refl, (refl, (refl, (refl, tt))))))
 circle_grouped : (number name later rest : List ℕ) → (codes "WITHIN_SPHERE(" ++ number ++ (44 ∷ (name ++ later)) ++ codes ")") ++ rest ≡ codes "WITHIN_SPHERE" ++ (40 ∷ (number ++ (44 ∷ ((name ++ later) ++ (41 ∷ rest)))))
 circle_grouped number name later rest = simp append_assoc
 
-atom_reads : (a : atom_type.Atom) → IsAtom a → Reads (atom_text a) (AtomOf a)
+atom_reads : (a : atom_type.Atom) → IsAtom IsShortName IsQuotable a → Reads (atom_text a) (AtomOf a)
 unfolding reserved_words
 atom_reads (atoms.Compare t op u) shape = compare_reads t.factors u.factors op shape.0 shape.1
 atom_reads (atoms.Inside o p) shape = record {
@@ -451,26 +453,26 @@ after_joins n within = record {
 in_brackets_clear : (ms : List Bool) → AreClear ms → AreClear (false ∷ (ms ++ false ∷ []))
 in_brackets_clear ms c = (refl, joined ms (false ∷ []) c (refl, tt))
 
-and_reads : (f g : Tree) → Reads (formula_text f) (UnaryOf f) → Reads (formula_text g) (UnaryOf g) → Reads (in_brackets (formula_text f) (codes " AND ") (formula_text g)) (UnaryOf (Tree.And f g))
+and_reads : (f g : Tree) → Reads (formula_text f) (UnaryOf f) → Reads (formula_text g) (UnaryOf g) → Reads (in_brackets (formula_text f) (codes " AND ") (formula_text g)) (UnaryOf (Shape.And f g))
 and_reads f g l r = record {
   tokens = OPEN ∷ ((l.tokens ++ (AND ∷ r.tokens)) ++ CLOSE ∷ []);
   spelled = (unary_brackets (formula_conj (conj_and (conj_chain (chain_unary l.spelled.0)) (chain_unary r.spelled.0))), in_brackets_clear (marks l.spelled.0 ++ false ∷ marks r.spelled.0) (joined (marks l.spelled.0) (false ∷ marks r.spelled.0) l.spelled.1 (refl, r.spelled.1)));
   again = λ rest ps ends is. brackets_again (formula_text f) (codes " AND ") (formula_text g) (UnaryOf f) (UnaryOf g) l r (AND ∷ []) and_joins rest ps is;
 }
 
-or_reads : (f g : Tree) → Reads (formula_text f) (UnaryOf f) → Reads (formula_text g) (UnaryOf g) → Reads (in_brackets (formula_text f) (codes " OR ") (formula_text g)) (UnaryOf (Tree.Or f g))
+or_reads : (f g : Tree) → Reads (formula_text f) (UnaryOf f) → Reads (formula_text g) (UnaryOf g) → Reads (in_brackets (formula_text f) (codes " OR ") (formula_text g)) (UnaryOf (Shape.Or f g))
 or_reads f g l r = record {
   tokens = OPEN ∷ ((l.tokens ++ (OR ∷ r.tokens)) ++ CLOSE ∷ []);
   spelled = (unary_brackets (formula_or (formula_conj (conj_chain (chain_unary l.spelled.0))) (conj_chain (chain_unary r.spelled.0))), in_brackets_clear (marks l.spelled.0 ++ false ∷ marks r.spelled.0) (joined (marks l.spelled.0) (false ∷ marks r.spelled.0) l.spelled.1 (refl, r.spelled.1)));
   again = λ rest ps ends is. brackets_again (formula_text f) (codes " OR ") (formula_text g) (UnaryOf f) (UnaryOf g) l r (OR ∷ []) or_joins rest ps is;
 }
 
-until_reads : (form : UntilForm) (n : ℕ) (f g : Tree) → IsBound form n → Reads (formula_text f) (UnaryOf f) → Reads (formula_text g) (UnaryOf g) → Reads (in_brackets (formula_text f) (until_text form n) (formula_text g)) (UnaryOf (Tree.Until form n f g))
+until_reads : (form : UntilForm) (n : ℕ) (f g : Tree) → IsBound form n → Reads (formula_text f) (UnaryOf f) → Reads (formula_text g) (UnaryOf g) → Reads (in_brackets (formula_text f) (until_text form n) (formula_text g)) (UnaryOf (Shape.Until form n f g))
 until_reads untils.Plain n f g bound l r =
     let tokens : List Piece = OPEN ∷ ((l.tokens ++ (UNTIL untils.Plain ∷ r.tokens)) ++ CLOSE ∷ []) in
     record {
       tokens = tokens;
-      spelled = subst (λ (k : ℕ). UnaryOf (Tree.Until untils.Plain k f g) tokens) (sym bound)
+      spelled = subst (λ (k : ℕ). UnaryOf (Shape.Until untils.Plain k f g) tokens) (sym bound)
           (unary_brackets (formula_conj (conj_chain (chain_until l.spelled.0 (chain_unary r.spelled.0)))), in_brackets_clear (marks l.spelled.0 ++ false ∷ marks r.spelled.0) (joined (marks l.spelled.0) (false ∷ marks r.spelled.0) l.spelled.1 (refl, r.spelled.1)));
       again = λ rest ps ends is. brackets_again (formula_text f) (codes " UNTIL ") (formula_text g) (UnaryOf f) (UnaryOf g) l r (UNTIL untils.Plain ∷ []) until_joins rest ps is;
     }
@@ -478,7 +480,7 @@ until_reads untils.Within n f g bound l r =
     let tokens : List Piece = OPEN ∷ ((l.tokens ++ (UNTIL untils.Within ∷ NUMBER (decimal n) ∷ r.tokens)) ++ CLOSE ∷ []) in
     record {
       tokens = tokens;
-      spelled = subst (λ (k : ℕ). UnaryOf (Tree.Until untils.Within k f g) tokens) (ticks_again n bound)
+      spelled = subst (λ (k : ℕ). UnaryOf (Shape.Until untils.Within k f g) tokens) (ticks_again n bound)
           (unary_brackets (formula_conj (conj_chain (chain_until_within (decimal n) l.spelled.0 (chain_unary r.spelled.0)))), in_brackets_clear (marks l.spelled.0 ++ false ∷ unfit Ticks (decimal n) ∷ marks r.spelled.0) (joined (marks l.spelled.0) (false ∷ unfit Ticks (decimal n) ∷ marks r.spelled.0) l.spelled.1 (refl, (fitting (fits Ticks (decimal n)) (ticks_fit n bound), r.spelled.1))));
       again = λ rest ps ends is. brackets_again (formula_text f) (until_text untils.Within n) (formula_text g) (UnaryOf f) (UnaryOf g) l r (UNTIL untils.Within ∷ NUMBER (decimal n) ∷ []) (within_joins n bound) rest ps is;
     }
@@ -486,7 +488,7 @@ until_reads untils.After n f g bound l r =
     let tokens : List Piece = OPEN ∷ ((l.tokens ++ (UNTIL untils.After ∷ NUMBER (decimal n) ∷ r.tokens)) ++ CLOSE ∷ []) in
     record {
       tokens = tokens;
-      spelled = subst (λ (k : ℕ). UnaryOf (Tree.Until untils.After k f g) tokens) (ticks_again n bound)
+      spelled = subst (λ (k : ℕ). UnaryOf (Shape.Until untils.After k f g) tokens) (ticks_again n bound)
           (unary_brackets (formula_conj (conj_chain (chain_until_after (decimal n) l.spelled.0 (chain_unary r.spelled.0)))), in_brackets_clear (marks l.spelled.0 ++ false ∷ unfit Ticks (decimal n) ∷ marks r.spelled.0) (joined (marks l.spelled.0) (false ∷ unfit Ticks (decimal n) ∷ marks r.spelled.0) l.spelled.1 (refl, (fitting (fits Ticks (decimal n)) (ticks_fit n bound), r.spelled.1))));
       again = λ rest ps ends is. brackets_again (formula_text f) (until_text untils.After n) (formula_text g) (UnaryOf f) (UnaryOf g) l r (UNTIL untils.After ∷ NUMBER (decimal n) ∷ []) (after_joins n bound) rest ps is;
     }
@@ -513,12 +515,12 @@ read_bound bounds.Within rest ps is = read_key 13 (codes "EVENTUALLY_WITHIN") (3
 read_bound bounds.After rest ps is = read_key 14 (codes "EVENTUALLY_AFTER") (32 ∷ rest) ps refl refl refl is
 read_bound bounds.Always rest ps is = read_key 16 (codes "ALWAYS_FOR") (32 ∷ rest) ps refl refl refl is
 
-bounded_reads : (form : BoundForm) (n : ℕ) (f : Tree) → n ≤ LAST_TICK → Reads (formula_text f) (UnaryOf f) → Reads (bound_text form n ++ formula_text f) (UnaryOf (Tree.Bounded form n f))
+bounded_reads : (form : BoundForm) (n : ℕ) (f : Tree) → n ≤ LAST_TICK → Reads (formula_text f) (UnaryOf f) → Reads (bound_text form n ++ formula_text f) (UnaryOf (Shape.Bounded form n f))
 bounded_reads form n f within r =
     let tokens : List Piece = BOUNDED form ∷ NUMBER (decimal n) ∷ r.tokens in
     record {
       tokens = tokens;
-      spelled = subst (λ (k : ℕ). UnaryOf (Tree.Bounded form k f) tokens) (ticks_again n within) (unary_bounded r.spelled.0, (refl, (fitting (fits Ticks (decimal n)) (ticks_fit n within), r.spelled.1)));
+      spelled = subst (λ (k : ℕ). UnaryOf (Shape.Bounded form k f) tokens) (ticks_again n within) (unary_bounded r.spelled.0, (refl, (fitting (fits Ticks (decimal n)) (ticks_fit n within), r.spelled.1)));
       again = λ rest ps ends is.
           regrouped ((bound_text form n ++ formula_text f) ++ rest) (bound_word form ++ (32 ∷ (decimal n ++ (32 ∷ (formula_text f ++ rest))))) (tokens ++ ps) (BOUNDED form ∷ NUMBER (decimal n) ∷ (r.tokens ++ ps)) (simp append_assoc) refl
           (read_bound form (decimal n ++ (32 ∷ (formula_text f ++ rest))) (NUMBER (decimal n) ∷ (r.tokens ++ ps)) (read_ticks n (formula_text f ++ rest) (r.tokens ++ ps) within (r.again rest ps ends is)));
@@ -532,7 +534,7 @@ read_square_end : (rest : List ℕ) (ps : List Piece) → IsCut rest ps → IsCu
 unfolding symbols
 read_square_end rest ps is = read_symbol 3 93 rest ps refl refl is
 
-assign_reads : (v : List ℕ) (fs : List Signed) (f : Tree) → IsName v → OneOrMore IsFactor fs → Reads (formula_text f) (UnaryOf f) → Reads (assign_text v (term_of fs) ++ formula_text f) (UnaryOf (Tree.Assign v (term_of fs) f))
+assign_reads : (v : List ℕ) (fs : List Signed) (f : Tree) → IsShortName v → OneOrMore (IsFactor IsShortName IsQuotable) fs → Reads (formula_text f) (UnaryOf f) → Reads (assign_text v (term_of fs) ++ formula_text f) (UnaryOf (Shape.Assign (v, term_of fs) f))
 assign_reads v fs f v_is term r =
     let t : Reads (factors_text fs) (TermOf fs) = factors_read fs term in
     record {
@@ -549,26 +551,26 @@ assign_reads v fs f v_is term r =
           (read_square_end (32 ∷ (formula_text f ++ rest)) (r.tokens ++ ps) (read_blank (formula_text f ++ rest) (r.tokens ++ ps) (r.again rest ps ends is)))))))));
     }
 
-truth_reads : (b : Bool) → Reads (truth_word b) (UnaryOf (Tree.Truth b))
+truth_reads : (b : Bool) → Reads (truth_word b) (UnaryOf (Shape.Truth b))
 unfolding reserved_words
 truth_reads true = record { tokens = TRUTH true ∷ []; spelled = (unary_truth, (refl, tt)); again = λ rest ps ends is. read_key 3 (codes "TRUE") rest ps refl refl ends.name is }
 truth_reads false = record { tokens = TRUTH false ∷ []; spelled = (unary_truth, (refl, tt)); again = λ rest ps ends is. read_key 4 (codes "FALSE") rest ps refl refl ends.name is }
 
-unary_atom_reads : (a : atom_type.Atom) → Reads (atom_text a) (AtomOf a) → Reads (atom_text a) (UnaryOf (Tree.Atom a))
+unary_atom_reads : (a : atom_type.Atom) → Reads (atom_text a) (AtomOf a) → Reads (atom_text a) (UnaryOf (Shape.Atom a))
 unary_atom_reads a r = record { tokens = r.tokens; spelled = (unary_atom r.spelled.0, r.spelled.1); again = r.again }
 
-formula_reads : (f : Tree) → IsFormula f → Reads (formula_text f) (UnaryOf f)
-formula_reads (Tree.Truth b) shape = truth_reads b
-formula_reads (Tree.Atom a) shape = unary_atom_reads a (atom_reads a shape)
-formula_reads (Tree.Not f) shape = prefix_reads prefixes.Not f (formula_reads f shape)
-formula_reads (Tree.And f g) shape = and_reads f g (formula_reads f shape.0) (formula_reads g shape.1)
-formula_reads (Tree.Or f g) shape = or_reads f g (formula_reads f shape.0) (formula_reads g shape.1)
-formula_reads (Tree.Next f) shape = prefix_reads prefixes.Next f (formula_reads f shape)
-formula_reads (Tree.Eventually f) shape = prefix_reads prefixes.Eventually f (formula_reads f shape)
-formula_reads (Tree.Always f) shape = prefix_reads prefixes.Always f (formula_reads f shape)
-formula_reads (Tree.Bounded form n f) shape = bounded_reads form n f shape.0 (formula_reads f shape.1)
-formula_reads (Tree.Until form n f g) shape = until_reads form n f g shape.0 (formula_reads f shape.1) (formula_reads g shape.2)
-formula_reads (Tree.Assign v t f) shape = assign_reads v t.factors f shape.0 shape.1 (formula_reads f shape.2)
+formula_reads : (f : Tree) → IsFormula IsShortName IsQuotable f → Reads (formula_text f) (UnaryOf f)
+formula_reads (Shape.Truth b) shape = truth_reads b
+formula_reads (Shape.Atom a) shape = unary_atom_reads a (atom_reads a shape)
+formula_reads (Shape.Not f) shape = prefix_reads prefixes.Not f (formula_reads f shape)
+formula_reads (Shape.And f g) shape = and_reads f g (formula_reads f shape.0) (formula_reads g shape.1)
+formula_reads (Shape.Or f g) shape = or_reads f g (formula_reads f shape.0) (formula_reads g shape.1)
+formula_reads (Shape.Next f) shape = prefix_reads prefixes.Next f (formula_reads f shape)
+formula_reads (Shape.Eventually f) shape = prefix_reads prefixes.Eventually f (formula_reads f shape)
+formula_reads (Shape.Always f) shape = prefix_reads prefixes.Always f (formula_reads f shape)
+formula_reads (Shape.Bounded form n f) shape = bounded_reads form n f shape.0 (formula_reads f shape.1)
+formula_reads (Shape.Until form n f g) shape = until_reads form n f g shape.0 (formula_reads f shape.1) (formula_reads g shape.2)
+formula_reads (Shape.Assign (v, t) f) shape = assign_reads v t.factors f shape.0 shape.1 (formula_reads f shape.2)
 
 -- ---- queries
 
@@ -615,9 +617,12 @@ reads_what_is_printed q shape =
     let tokens : r.tokens ≡ pieces_from 0 (query_text q) = sym (ap pieces found.1 ∙ r.is_cut.pieces_are) in
     let read : (d : SpellsQuery q (pieces_from 0 (query_text q))) × (first_unfit d ≡ None) =
     subst (λ (xs : List Piece). (d : SpellsQuery q xs) × (first_unfit d ≡ None)) tokens (r.spelled, none_found (query_marks r.spelled) r.clear) in
-    record { no_bad_token = found.0; spelled = read.0; fit = read.1 }
+    record { no_bad_token = found.0; spelled = read.0; fit = read.1; short = ap has_long found.1 ∙ r.is_cut.short }
 
 pub reads_again : ReadsAgain
 reads_again from line q read =
-    let again : IsReadAs q (query_text q) = reads_what_is_printed q (prints_what_is_read from line q read.spelled) in
-    (again.no_bad_token, record { spelled = again.spelled; fit = again.fit; small = read.small })
+    let long : Bool = has_long (lexemes_from from line) in
+    let short : long ≡ false = small_short long q read.small in
+    let again : IsReadAs q (query_text q) = reads_what_is_printed q (prints_what_is_read from line q read.spelled short) in
+    let small : first_too_large (has_long (lexemes (query_text q))) q ≡ None = ap (λ b. first_too_large b q) (again.short ∙ sym short) ∙ read.small in
+    (again.no_bad_token, record { spelled = again.spelled; fit = again.fit; small = small })

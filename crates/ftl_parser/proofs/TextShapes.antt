@@ -1,7 +1,8 @@
 -- What tokens of a line spell is printable.
-use Rattle.std.proofs.Common.{◌≡◌, ℕ, zero, suc, ◌+◌, ◌-◌, ◌*◌, ◌≤◌, Bool, true, false, ◌&&◌, List, [], ◌∷◌, ◌++◌, drop, take, length, append_assoc, Option, None, Some, ℤ, pos, negsuc, unsigned_abs, IsTrue, refl, sym, subst, ◌∙◌, arith, cond, leb}
-use Rattle.std.specs.Prelude.{neg_ℤ, slice_get, unwrap_or}
+use Rattle.std.proofs.Common.{◌≡◌, ℕ, zero, suc, ◌+◌, ◌-◌, ◌*◌, ◌≤◌, Bool, true, false, ◌&&◌, List, [], ◌∷◌, ◌++◌, drop, take, length, append_assoc, Option, None, Some, ℤ, pos, negsuc, unsigned_abs, IsTrue, refl, sym, ap, subst, ◌∙◌, arith, cond, leb}
+use Rattle.std.specs.Prelude.{neg_ℤ, not, slice_get, unwrap_or, if◌then◌else◌}
 use Rattle.std.specs.List.{AllByRecursion, list_all}
+use Rattle.std.proofs.lemmas.Bool.{or_parts}
 use Rattle.std.proofs.lemmas.Bool.Decides.{nat_tests}
 use Rattle.std.specs.Char.{is_ascii_digit}
 use Rattle.std.specs.Str.Parse.{digits_value}
@@ -16,6 +17,7 @@ use Rattle.ftl_lexer.specs.Laws.{HaveForms}
 use Rattle.ftl_lexer.proofs.Shapes.{tokens_have_forms}
 use Rattle.ftl_lexer.proofs.Fronts.{unquoted_parts}
 use Rattle.fixed_point.specs.declared.number.TheConstants.{READ_LIMIT}
+use Rattle.fixed_point.specs.declared.short_text.TheConstants.{WORD_LIMIT}
 use Rattle.fixed_point.specs.declared.variants.UntilForm.TheVariants as untils
 use Rattle.geometry.specs.declared.limits.TheConstants.{RADIUS_LIMIT}
 use Rattle.tick_set.specs.declared.spans.TheConstants.{LAST_TICK}
@@ -28,10 +30,15 @@ use Rattle.ftl_parser.specs.declared.tree.Unit.TheVariants as units
 use Rattle.ftl_parser.specs.declared.tree.Signed.{Signed}
 use Rattle.ftl_parser.specs.declared.tree.FromPart.{FromPart}
 use Rattle.ftl_parser.specs.Tree.{Tree, QueryTree}
-use Rattle.ftl_parser.specs.Piece.{Piece, FROM, WHERE, AND, OR, UNTIL, CLOSE, CLOSE_SQUARE, COMMA, PLUS, MINUS, COMPARISON, NAME, NUMBER, TEXT, words, signs, OTHER, piece_of, pieces, pieces_from, unquoted}
+use Rattle.ftl_parser.specs.Piece.{Piece, FROM, WHERE, AND, OR, UNTIL, CLOSE, CLOSE_SQUARE, COMMA, PLUS, MINUS, COMPARISON, NAME, NUMBER, TEXT, words, signs, OTHER, piece_of, pieces, pieces_from, lexemes_from, is_long, has_long, unquoted}
+use Rattle.ftl_parser.specs.Words.{is_short}
 use Rattle.ftl_parser.specs.Number.{whole_of, literal, radius}
 use Rattle.ftl_parser.specs.Grammar.{SpellsRef, ref_name, ref_attr, ref_part, ref_time, SpellsFactor, factor_number, factor_times, factor_text, factor_ref, SpellsTerm, term_first, term_minus_first, term_plus, term_minus, SpellsNum, num_plain, num_minus, SpellsNames, names_one, names_more, SpellsParts, parts_one, parts_more, SpellsAtom, atom_compare, atom_inside, atom_outside, atom_dist, atom_sphere, Level, Spells, formula_conj, formula_or, conj_chain, conj_and, chain_unary, chain_until, chain_until_within, chain_until_after, unary_prefix, unary_bounded, unary_assign, unary_brackets, unary_truth, unary_atom, SpellsQuery, query, prefixed, signed, from_part}
-use Rattle.ftl_parser.specs.Shape.{OneOrMore, IsName, IsPart, IsUnsigned, IsRef, IsUnit, IsMultiple, IsFactor, IsAtom, IsFormula, IsPrintable}
+use Rattle.exact.specs.First.{first_that_holds}
+use Rattle.ftl_parser.specs.declared.fault.Size.TheVariants as sizes
+use Rattle.ftl_parser.specs.Sizes.{first_too_large}
+use Rattle.ftl_parser.specs.Fault.{Reads}
+use Rattle.ftl_parser.specs.Lawful.{OneOrMore, IsShortName, IsQuotable, IsPart, IsUnsigned, IsRef, IsUnit, IsMultiple, IsFactor, IsAtom, IsFormula, HasShape, IsAny, IsLawful}
 use Rattle.ftl_parser.specs.TextLaws.{PrintsWhatIsRead}
 use Rattle.ftl_parser.proofs.TextNumbers.{whole_is}
 
@@ -55,49 +62,72 @@ one_more P (y ∷ xs) x some this = (some.0, all_more P xs x some.1 this)
 
 -- ---- tokens by what names and texts they have
 
-abbrev pub HasShape : Piece → Type 0
-HasShape (NAME n) = IsName n
-HasShape (NUMBER n) = IsTrue (is_number n)
-HasShape (TEXT t) = IsTrue (has_no_quote t)
-HasShape p = Unit {0}
+abbrev pub PieceHas : (N T : List ℕ → Type 0) → Piece → Type 0
+PieceHas N T (NAME n) = N n
+PieceHas N T (NUMBER n) = IsTrue (is_number n)
+PieceHas N T (TEXT t) = T t
+PieceHas N T p = Unit {0}
 
-abbrev pub HaveShapes : List Piece → Type 0
-HaveShapes = AllByRecursion HasShape
+abbrev pub HaveShapes : (N T : List ℕ → Type 0) → List Piece → Type 0
+HaveShapes N T = AllByRecursion (PieceHas N T)
 
-fixed_has : (table : List Piece) (code : ℕ) → HaveShapes table → HasShape (unwrap_or (slice_get table code) OTHER)
-fixed_has [] code all = tt
-fixed_has (p ∷ table) zero all = all.0
-fixed_has (p ∷ table) (suc code) all = fixed_has table code all.1
+fixed_has : (N T : List ℕ → Type 0) (table : List Piece) (code : ℕ) → HaveShapes N T table → PieceHas N T (unwrap_or (slice_get table code) OTHER)
+fixed_has N T [] code all = tt
+fixed_has N T (p ∷ table) zero all = all.0
+fixed_has N T (p ∷ table) (suc code) all = fixed_has N T table code all.1
 
-words_have : HaveShapes words
-words_have = (tt, (tt, (tt, (tt, (tt, (tt, (tt, (tt, (tt, (tt, (tt, (tt, (tt, (tt, (tt, (tt, (tt, (tt, (tt, (tt, (tt, (tt, (tt, (tt, (tt, tt)))))))))))))))))))))))))
+words_have : (N T : List ℕ → Type 0) → HaveShapes N T words
+words_have N T = (tt, (tt, (tt, (tt, (tt, (tt, (tt, (tt, (tt, (tt, (tt, (tt, (tt, (tt, (tt, (tt, (tt, (tt, (tt, (tt, (tt, (tt, (tt, (tt, (tt, tt)))))))))))))))))))))))))
 
-signs_have : HaveShapes signs
-signs_have = (tt, (tt, (tt, (tt, (tt, (tt, (tt, (tt, (tt, (tt, (tt, (tt, (tt, (tt, (tt, (tt, tt))))))))))))))))
+signs_have : (N T : List ℕ → Type 0) → HaveShapes N T signs
+signs_have N T = (tt, (tt, (tt, (tt, (tt, (tt, (tt, (tt, (tt, (tt, (tt, (tt, (tt, (tt, (tt, (tt, tt))))))))))))))))
 
 text_has : (text : List ℕ) → IsQuoted text → IsTrue (has_no_quote (unquoted text))
 text_has text quoted =
     let same : length text - 1 - 1 ≡ length text - 2 = omega arith in
     subst (λ n. IsTrue (has_no_quote (take n (drop 1 text)))) same (unquoted_parts text quoted).1
 
-piece_has : (kind : Kind) (bytes : List ℕ) → HasForm kind bytes → HasShape (piece_of kind bytes)
-piece_has kinds.Name bytes form = form
-piece_has kinds.Number bytes form = form
-piece_has kinds.Text bytes form = text_has bytes form
-piece_has (kinds.Sym code) bytes form = fixed_has signs code signs_have
-piece_has (kinds.Key code) bytes form = fixed_has words code words_have
+word_is : (b : Bool) (word : List ℕ) → not b ≡ false → (if b then word else []) ≡ word
+word_is true word h = refl
+word_is false word h = absurd (cc h)
 
-pieces_have : (tokens : List Lexeme) → HaveForms tokens → HaveShapes (pieces tokens)
-pieces_have [] forms = tt
-pieces_have (t ∷ tokens) forms = (piece_has t.0 t.1 forms.0, pieces_have tokens forms.1)
+short_is : (word : List ℕ) → not (is_short word) ≡ false → length word ≤ WORD_LIMIT
+short_is word h = grind (arith, nat_tests, h)
 
-later_forms : (from : ℕ) (tokens : List Lexeme) → HaveForms tokens → HaveForms (drop from tokens)
+-- a name or text that isn't too long stands for itself
+short_piece : (kind : Kind) (bytes : List ℕ) → HasForm kind bytes → is_long kind bytes ≡ false → PieceHas IsShortName IsQuotable (piece_of kind bytes)
+short_piece kinds.Name bytes form short = subst IsShortName (sym (word_is (is_short bytes) bytes short)) (form, short_is bytes short)
+short_piece kinds.Number bytes form short = form
+short_piece kinds.Text bytes form short =
+    subst IsQuotable (sym (word_is (is_short (unquoted bytes)) (unquoted bytes) short)) (text_has bytes form, short_is (unquoted bytes) short)
+short_piece (kinds.Sym code) bytes form short = fixed_has IsShortName IsQuotable signs code (signs_have IsShortName IsQuotable)
+short_piece (kinds.Key code) bytes form short = fixed_has IsShortName IsQuotable words code (words_have IsShortName IsQuotable)
+
+short_pieces : (tokens : List Lexeme) → HaveForms tokens → has_long tokens ≡ false → HaveShapes IsShortName IsQuotable (pieces tokens)
+short_pieces [] forms short = tt
+short_pieces (t ∷ tokens) forms short =
+    let parts = or_parts (is_long t.0 t.1) (has_long tokens) short in
+    (short_piece t.0 t.1 forms.0 parts.0, short_pieces tokens forms.1 parts.1)
+
+-- where nothing is asked of names and texts
+any_piece : (kind : Kind) (bytes : List ℕ) → HasForm kind bytes → PieceHas IsAny IsAny (piece_of kind bytes)
+any_piece kinds.Name bytes form = tt
+any_piece kinds.Number bytes form = form
+any_piece kinds.Text bytes form = tt
+any_piece (kinds.Sym code) bytes form = fixed_has IsAny IsAny signs code (signs_have IsAny IsAny)
+any_piece (kinds.Key code) bytes form = fixed_has IsAny IsAny words code (words_have IsAny IsAny)
+
+any_pieces : (tokens : List Lexeme) → HaveForms tokens → HaveShapes IsAny IsAny (pieces tokens)
+any_pieces [] forms = tt
+any_pieces (t ∷ tokens) forms = (any_piece t.0 t.1 forms.0, any_pieces tokens forms.1)
+
+pub later_forms : (from : ℕ) (tokens : List Lexeme) → HaveForms tokens → HaveForms (drop from tokens)
 later_forms zero tokens forms = forms
 later_forms (suc from) [] forms = tt
 later_forms (suc from) (t ∷ tokens) forms = later_forms from tokens forms.1
 
-pub line_has : (from : ℕ) (line : List ℕ) → HaveShapes (pieces_from from line)
-line_has from line = pieces_have (drop from (lexemes line)) (later_forms from (lexemes line) (tokens_have_forms line))
+pub line_has : (from : ℕ) (line : List ℕ) → has_long (lexemes_from from line) ≡ false → HaveShapes IsShortName IsQuotable (pieces_from from line)
+line_has from line short = short_pieces (lexemes_from from line) (later_forms from (lexemes line) (tokens_have_forms line)) short
 
 -- ---- numbers, of which those that are out of range stand for 0
 
@@ -148,96 +178,126 @@ minus_within limit (pos zero) within = within
 minus_within limit (pos (suc n)) within = within
 minus_within limit (negsuc n) within = absurd within
 
--- ---- the rules of the grammar
+-- ---- the rules of the grammar, whatever is asked of names and texts
 
-ref_shape : {u : unit_type.Unit} {xs : List Piece} → SpellsRef u xs → HaveShapes xs → IsRef u
-ref_shape ref_name shapes = shapes.0
-ref_shape ref_attr shapes = (shapes.0, shapes.1.1.0)
-ref_shape ref_part shapes = (shapes.0, shapes.1.1.0)
-ref_shape ref_time shapes = tt
+module _ (N T : List ℕ → Type 0) where
+  ref_shape : {u : unit_type.Unit} {xs : List Piece} → SpellsRef u xs → HaveShapes N T xs → IsRef N u
+  ref_shape ref_name shapes = shapes.0
+  ref_shape ref_attr shapes = (shapes.0, shapes.1.1.0)
+  ref_shape ref_part shapes = (shapes.0, shapes.1.1.0)
+  ref_shape ref_time shapes = tt
 
-ref_is_unit : (u : unit_type.Unit) → IsRef u → IsUnit u
-ref_is_unit (units.Literal n) ref = absurd ref
-ref_is_unit (units.Text t) ref = absurd ref
-ref_is_unit (units.Alone o) ref = ref
-ref_is_unit (units.Attr o a) ref = ref
-ref_is_unit (units.Sub o a s) ref = ref
-ref_is_unit units.Time ref = ref
+  ref_is_unit : (u : unit_type.Unit) → IsRef N u → IsUnit N T u
+  ref_is_unit (units.Literal n) ref = absurd ref
+  ref_is_unit (units.Text t) ref = absurd ref
+  ref_is_unit (units.Alone o) ref = ref
+  ref_is_unit (units.Attr o a) ref = ref
+  ref_is_unit (units.Sub o a s) ref = ref
+  ref_is_unit units.Time ref = ref
 
-factor_shape : {k : Option ℕ} {u : unit_type.Unit} {xs : List Piece} → SpellsFactor k u xs → HaveShapes xs → IsMultiple k u
-factor_shape (factor_number {n = n}) shapes = literal_within n shapes.0
-factor_shape (factor_times {n = n} r) shapes = (whole_within TIMES_LIMIT n, ref_shape r shapes.1.1)
-factor_shape factor_text shapes = shapes.0
-factor_shape (factor_ref {u = u} r) shapes = ref_is_unit u (ref_shape r shapes)
+  factor_shape : {k : Option ℕ} {u : unit_type.Unit} {xs : List Piece} → SpellsFactor k u xs → HaveShapes N T xs → IsMultiple N T k u
+  factor_shape (factor_number {n = n}) shapes = literal_within n shapes.0
+  factor_shape (factor_times {n = n} r) shapes = (whole_within TIMES_LIMIT n, ref_shape r shapes.1.1)
+  factor_shape factor_text shapes = shapes.0
+  factor_shape (factor_ref {u = u} r) shapes = ref_is_unit u (ref_shape r shapes)
 
-term_shape : {fs : List Signed} {xs : List Piece} → SpellsTerm fs xs → HaveShapes xs → OneOrMore IsFactor fs
-term_shape (term_first d) shapes = (factor_shape d shapes, tt)
-term_shape (term_minus_first d) shapes = (factor_shape d shapes.1, tt)
-term_shape (term_plus {fs = fs} {xs = xs} {k = k} {u = u} {ys = ys} d e) shapes =
-    one_more IsFactor fs (signed false k u) (term_shape d (all_front HasShape xs (PLUS ∷ ys) shapes)) (factor_shape e (all_back HasShape xs (PLUS ∷ ys) shapes).1)
-term_shape (term_minus {fs = fs} {xs = xs} {k = k} {u = u} {ys = ys} d e) shapes =
-    one_more IsFactor fs (signed true k u) (term_shape d (all_front HasShape xs (MINUS ∷ ys) shapes)) (factor_shape e (all_back HasShape xs (MINUS ∷ ys) shapes).1)
+  term_shape : {fs : List Signed} {xs : List Piece} → SpellsTerm fs xs → HaveShapes N T xs → OneOrMore (IsFactor N T) fs
+  term_shape (term_first d) shapes = (factor_shape d shapes, tt)
+  term_shape (term_minus_first d) shapes = (factor_shape d shapes.1, tt)
+  term_shape (term_plus {fs = fs} {xs = xs} {k = k} {u = u} {ys = ys} d e) shapes =
+      one_more (IsFactor N T) fs (signed false k u) (term_shape d (all_front (PieceHas N T) xs (PLUS ∷ ys) shapes)) (factor_shape e (all_back (PieceHas N T) xs (PLUS ∷ ys) shapes).1)
+  term_shape (term_minus {fs = fs} {xs = xs} {k = k} {u = u} {ys = ys} d e) shapes =
+      one_more (IsFactor N T) fs (signed true k u) (term_shape d (all_front (PieceHas N T) xs (MINUS ∷ ys) shapes)) (factor_shape e (all_back (PieceHas N T) xs (MINUS ∷ ys) shapes).1)
 
-num_shape : {c : ℤ} {xs : List Piece} → SpellsNum c xs → HaveShapes xs → unsigned_abs c ≤ READ_LIMIT
-num_shape (num_plain {n = n}) shapes = size_within READ_LIMIT (literal n) (literal_within n shapes.0)
-num_shape (num_minus {n = n}) shapes = minus_within READ_LIMIT (literal n) (literal_within n shapes.1.0)
+  num_shape : {c : ℤ} {xs : List Piece} → SpellsNum c xs → HaveShapes N T xs → unsigned_abs c ≤ READ_LIMIT
+  num_shape (num_plain {n = n}) shapes = size_within READ_LIMIT (literal n) (literal_within n shapes.0)
+  num_shape (num_minus {n = n}) shapes = minus_within READ_LIMIT (literal n) (literal_within n shapes.1.0)
 
-names_shape : {ns : List (List ℕ)} {xs : List Piece} → SpellsNames ns xs → HaveShapes xs → OneOrMore IsName ns
-names_shape names_one shapes = (shapes.0, tt)
-names_shape (names_more {ns = ns} {xs = xs} n d) shapes =
-    let back : HaveShapes (COMMA ∷ NAME n ∷ []) = all_back HasShape xs (COMMA ∷ NAME n ∷ []) shapes in
-    one_more IsName ns n (names_shape d (all_front HasShape xs (COMMA ∷ NAME n ∷ []) shapes)) back.1.0
+  names_shape : {ns : List (List ℕ)} {xs : List Piece} → SpellsNames ns xs → HaveShapes N T xs → OneOrMore N ns
+  names_shape names_one shapes = (shapes.0, tt)
+  names_shape (names_more {ns = ns} {xs = xs} n d) shapes =
+      let back : HaveShapes N T (COMMA ∷ NAME n ∷ []) = all_back (PieceHas N T) xs (COMMA ∷ NAME n ∷ []) shapes in
+      one_more N ns n (names_shape d (all_front (PieceHas N T) xs (COMMA ∷ NAME n ∷ []) shapes)) back.1.0
 
-parts_shape : {ps : List FromPart} {xs : List Piece} → SpellsParts ps xs → HaveShapes xs → OneOrMore IsPart ps
-parts_shape parts_one shapes = ((shapes.0, shapes.1.0), tt)
-parts_shape (parts_more {ps = ps} {xs = xs} c v d) shapes =
-    let back : HaveShapes (COMMA ∷ NAME c ∷ NAME v ∷ []) = all_back HasShape xs (COMMA ∷ NAME c ∷ NAME v ∷ []) shapes in
-    one_more IsPart ps (from_part c v) (parts_shape d (all_front HasShape xs (COMMA ∷ NAME c ∷ NAME v ∷ []) shapes)) (back.1.0, back.1.1.0)
+  parts_shape : {ps : List FromPart} {xs : List Piece} → SpellsParts ps xs → HaveShapes N T xs → OneOrMore (IsPart N) ps
+  parts_shape parts_one shapes = ((shapes.0, shapes.1.0), tt)
+  parts_shape (parts_more {ps = ps} {xs = xs} c v d) shapes =
+      let back : HaveShapes N T (COMMA ∷ NAME c ∷ NAME v ∷ []) = all_back (PieceHas N T) xs (COMMA ∷ NAME c ∷ NAME v ∷ []) shapes in
+      one_more (IsPart N) ps (from_part c v) (parts_shape d (all_front (PieceHas N T) xs (COMMA ∷ NAME c ∷ NAME v ∷ []) shapes)) (back.1.0, back.1.1.0)
 
-atom_shape : {a : atom_type.Atom} {xs : List Piece} → SpellsAtom a xs → HaveShapes xs → IsAtom a
-atom_shape (atom_compare {op = op} {xs = xs} {ys = ys} d e) shapes =
-    (term_shape d (all_front HasShape xs (COMPARISON op ∷ ys) shapes), term_shape e (all_back HasShape xs (COMPARISON op ∷ ys) shapes).1)
-atom_shape atom_inside shapes = (shapes.1.1.0, shapes.1.1.1.1.0)
-atom_shape atom_outside shapes = (shapes.1.1.0, shapes.1.1.1.1.0)
-atom_shape (atom_dist d) shapes = (shapes.1.1.0, shapes.1.1.1.1.0, num_shape d shapes.1.1.1.1.1.1.1)
-atom_shape (atom_sphere {r = r} {xs = xs} d) shapes = (radius_within r shapes.1.1.0, names_shape d (all_front HasShape xs (CLOSE ∷ []) shapes.1.1.1.1))
+  atom_shape : {a : atom_type.Atom} {xs : List Piece} → SpellsAtom a xs → HaveShapes N T xs → IsAtom N T a
+  atom_shape (atom_compare {op = op} {xs = xs} {ys = ys} d e) shapes =
+      (term_shape d (all_front (PieceHas N T) xs (COMPARISON op ∷ ys) shapes), term_shape e (all_back (PieceHas N T) xs (COMPARISON op ∷ ys) shapes).1)
+  atom_shape atom_inside shapes = (shapes.1.1.0, shapes.1.1.1.1.0)
+  atom_shape atom_outside shapes = (shapes.1.1.0, shapes.1.1.1.1.0)
+  atom_shape (atom_dist d) shapes = (shapes.1.1.0, shapes.1.1.1.1.0, num_shape d shapes.1.1.1.1.1.1.1)
+  atom_shape (atom_sphere {r = r} {xs = xs} d) shapes = (radius_within r shapes.1.1.0, names_shape d (all_front (PieceHas N T) xs (CLOSE ∷ []) shapes.1.1.1.1))
 
-prefix_shape : (w : Prefix) (f : Tree) → IsFormula f → IsFormula (prefixed w f)
-prefix_shape prefixes.Not f shape = shape
-prefix_shape prefixes.Next f shape = shape
-prefix_shape prefixes.Eventually f shape = shape
-prefix_shape prefixes.Always f shape = shape
+  prefix_shape : (w : Prefix) (f : Tree) → IsFormula N T f → IsFormula N T (prefixed w f)
+  prefix_shape prefixes.Not f shape = shape
+  prefix_shape prefixes.Next f shape = shape
+  prefix_shape prefixes.Eventually f shape = shape
+  prefix_shape prefixes.Always f shape = shape
 
-formula_shape : {l : Level} {f : Tree} {xs : List Piece} → Spells l f xs → HaveShapes xs → IsFormula f
-formula_shape (formula_conj d) shapes = formula_shape d shapes
-formula_shape (formula_or {xs = xs} {ys = ys} d e) shapes =
-    (formula_shape d (all_front HasShape xs (OR ∷ ys) shapes), formula_shape e (all_back HasShape xs (OR ∷ ys) shapes).1)
-formula_shape (conj_chain d) shapes = formula_shape d shapes
-formula_shape (conj_and {xs = xs} {ys = ys} d e) shapes =
-    (formula_shape d (all_front HasShape xs (AND ∷ ys) shapes), formula_shape e (all_back HasShape xs (AND ∷ ys) shapes).1)
-formula_shape (chain_unary d) shapes = formula_shape d shapes
-formula_shape (chain_until {xs = xs} {ys = ys} d e) shapes =
-    (refl, formula_shape d (all_front HasShape xs (UNTIL untils.Plain ∷ ys) shapes), formula_shape e (all_back HasShape xs (UNTIL untils.Plain ∷ ys) shapes).1)
-formula_shape (chain_until_within {xs = xs} {ys = ys} c d e) shapes =
-    (whole_within LAST_TICK c, formula_shape d (all_front HasShape xs (UNTIL untils.Within ∷ NUMBER c ∷ ys) shapes), formula_shape e (all_back HasShape xs (UNTIL untils.Within ∷ NUMBER c ∷ ys) shapes).1.1)
-formula_shape (chain_until_after {xs = xs} {ys = ys} c d e) shapes =
-    (whole_within LAST_TICK c, formula_shape d (all_front HasShape xs (UNTIL untils.After ∷ NUMBER c ∷ ys) shapes), formula_shape e (all_back HasShape xs (UNTIL untils.After ∷ NUMBER c ∷ ys) shapes).1.1)
-formula_shape (unary_prefix {w = w} {f = f} d) shapes = prefix_shape w f (formula_shape d shapes.1)
-formula_shape (unary_bounded {c = c} d) shapes = (whole_within LAST_TICK c, formula_shape d shapes.1.1)
-formula_shape (unary_assign {xs = xs} {ys = ys} t d) shapes =
-    (shapes.1.0, term_shape t (all_front HasShape xs (CLOSE_SQUARE ∷ ys) shapes.1.1.1), formula_shape d (all_back HasShape xs (CLOSE_SQUARE ∷ ys) shapes.1.1.1).1)
-formula_shape (unary_brackets {xs = xs} d) shapes = formula_shape d (all_front HasShape xs (CLOSE ∷ []) shapes.1)
-formula_shape unary_truth shapes = tt
-formula_shape (unary_atom d) shapes = atom_shape d shapes
+  formula_shape : {l : Level} {f : Tree} {xs : List Piece} → Spells l f xs → HaveShapes N T xs → IsFormula N T f
+  formula_shape (formula_conj d) shapes = formula_shape d shapes
+  formula_shape (formula_or {xs = xs} {ys = ys} d e) shapes =
+      (formula_shape d (all_front (PieceHas N T) xs (OR ∷ ys) shapes), formula_shape e (all_back (PieceHas N T) xs (OR ∷ ys) shapes).1)
+  formula_shape (conj_chain d) shapes = formula_shape d shapes
+  formula_shape (conj_and {xs = xs} {ys = ys} d e) shapes =
+      (formula_shape d (all_front (PieceHas N T) xs (AND ∷ ys) shapes), formula_shape e (all_back (PieceHas N T) xs (AND ∷ ys) shapes).1)
+  formula_shape (chain_unary d) shapes = formula_shape d shapes
+  formula_shape (chain_until {xs = xs} {ys = ys} d e) shapes =
+      (refl, formula_shape d (all_front (PieceHas N T) xs (UNTIL untils.Plain ∷ ys) shapes), formula_shape e (all_back (PieceHas N T) xs (UNTIL untils.Plain ∷ ys) shapes).1)
+  formula_shape (chain_until_within {xs = xs} {ys = ys} c d e) shapes =
+      (whole_within LAST_TICK c, formula_shape d (all_front (PieceHas N T) xs (UNTIL untils.Within ∷ NUMBER c ∷ ys) shapes), formula_shape e (all_back (PieceHas N T) xs (UNTIL untils.Within ∷ NUMBER c ∷ ys) shapes).1.1)
+  formula_shape (chain_until_after {xs = xs} {ys = ys} c d e) shapes =
+      (whole_within LAST_TICK c, formula_shape d (all_front (PieceHas N T) xs (UNTIL untils.After ∷ NUMBER c ∷ ys) shapes), formula_shape e (all_back (PieceHas N T) xs (UNTIL untils.After ∷ NUMBER c ∷ ys) shapes).1.1)
+  formula_shape (unary_prefix {w = w} {f = f} d) shapes = prefix_shape w f (formula_shape d shapes.1)
+  formula_shape (unary_bounded {c = c} d) shapes = (whole_within LAST_TICK c, formula_shape d shapes.1.1)
+  formula_shape (unary_assign {xs = xs} {ys = ys} t d) shapes =
+      (shapes.1.0, term_shape t (all_front (PieceHas N T) xs (CLOSE_SQUARE ∷ ys) shapes.1.1.1), formula_shape d (all_back (PieceHas N T) xs (CLOSE_SQUARE ∷ ys) shapes.1.1.1).1)
+  formula_shape (unary_brackets {xs = xs} d) shapes = formula_shape d (all_front (PieceHas N T) xs (CLOSE ∷ []) shapes.1)
+  formula_shape unary_truth shapes = tt
+  formula_shape (unary_atom d) shapes = atom_shape d shapes
 
-query_shape : {q : QueryTree} {xs : List Piece} → SpellsQuery q xs → HaveShapes xs → IsPrintable q
-query_shape (query {xs = xs} {ys = ys} {zs = zs} ns ps d) shapes =
-    let rest : HaveShapes (FROM ∷ (ys ++ WHERE ∷ zs)) = all_back HasShape xs (FROM ∷ (ys ++ WHERE ∷ zs)) shapes.1 in
-    record {
-      targets = names_shape ns (all_front HasShape xs (FROM ∷ (ys ++ WHERE ∷ zs)) shapes.1);
-      from = parts_shape ps (all_front HasShape ys (WHERE ∷ zs) rest.1);
-      formula = formula_shape d (all_back HasShape ys (WHERE ∷ zs) rest.1).1;
-    }
+  query_shape : {q : QueryTree} {xs : List Piece} → SpellsQuery q xs → HaveShapes N T xs → HasShape N T q
+  query_shape (query {xs = xs} {ys = ys} {zs = zs} ns ps d) shapes =
+      let rest : HaveShapes N T (FROM ∷ (ys ++ WHERE ∷ zs)) = all_back (PieceHas N T) xs (FROM ∷ (ys ++ WHERE ∷ zs)) shapes.1 in
+      record {
+        targets = names_shape ns (all_front (PieceHas N T) xs (FROM ∷ (ys ++ WHERE ∷ zs)) shapes.1);
+        from = parts_shape ps (all_front (PieceHas N T) ys (WHERE ∷ zs) rest.1);
+        formula = formula_shape d (all_back (PieceHas N T) ys (WHERE ∷ zs) rest.1).1;
+      }
 
 pub prints_what_is_read : PrintsWhatIsRead
-prints_what_is_read from line q spelled = query_shape spelled (line_has from line)
+prints_what_is_read from line q spelled short = query_shape IsShortName IsQuotable spelled (line_has from line short)
+
+-- where no size passes its limit, no name or text is too long
+none_long : (variables objects assignments nodes depth long factors : Bool) →
+    first_that_holds (
+    (sizes.Variables, variables) ∷ (sizes.Objects, objects) ∷ (sizes.Assignments, assignments) ∷ (sizes.Nodes, nodes) ∷ (sizes.Depth, depth)
+    ∷ (sizes.Length, long) ∷ (sizes.Factors, factors) ∷ []) ≡ None → long ≡ false
+none_long true o a n d l f h = absurd (cc h)
+none_long false true a n d l f h = absurd (cc h)
+none_long false false true n d l f h = absurd (cc h)
+none_long false false false true d l f h = absurd (cc h)
+none_long false false false false true l f h = absurd (cc h)
+none_long false false false false false true f h = absurd (cc h)
+none_long false false false false false false f h = refl
+
+pub small_short : (long : Bool) (q : QueryTree) → first_too_large long q ≡ None → long ≡ false
+small_short long q small = none_long _ _ _ _ _ long _ small
+
+-- no list of what the tokens of a line spell is empty, and its numbers are in range
+pub spelled_shape : (from : ℕ) (line : List ℕ) (q : QueryTree) → SpellsQuery q (pieces_from from line) → HasShape IsAny IsAny q
+spelled_shape from line q spelled = query_shape IsAny IsAny spelled (any_pieces (lexemes_from from line) (later_forms from (lexemes line) (tokens_have_forms line)))
+
+-- a query that is read is lawful
+pub reads_lawful : (from : ℕ) (line : List ℕ) (q : QueryTree) → Reads (lexemes_from from line) q → IsLawful q
+reads_lawful from line q read =
+    let long : Bool = has_long (lexemes_from from line) in
+    record {
+      shape = spelled_shape from line q read.spelled;
+      small = ap (λ b. first_too_large b q) (sym (small_short long q read.small)) ∙ read.small;
+    }

@@ -3,14 +3,12 @@ use Rattle.std.proofs.Common.{◌≡◌, ℕ, zero, suc, ◌+◌, ◌≤◌, Boo
 use Rattle.std.specs.List.{list_any}
 use Rattle.std.proofs.lemmas.Bool.Decides.{nat_tests}
 use Rattle.std.proofs.lemmas.List.{length-map}
-use Rattle.std.proofs.lemmas.List.Folds.{list_any-append}
 use Rattle.std.proofs.lemmas.Option.{slice_get_within}
 use Rattle.ftl_lexer.specs.Tokens.{lexemes, tokens_of}
 use Rattle.ftl_lexer.specs.Cut.{Lexeme}
 use Rattle.ftl_parser.specs.declared.scan.Coming.{Coming}
-use Rattle.ftl_parser.specs.Piece.{Piece, piece_of, pieces, pieces_from}
-use Rattle.ftl_parser.specs.Scan.{coming, mark, scan, first_from, piece_words, token_words, has_long}
-use Rattle.ftl_parser.specs.Sizes.{is_long}
+use Rattle.ftl_parser.specs.Piece.{Piece, piece_of, pieces, pieces_from, lexemes_from, is_long, has_long}
+use Rattle.ftl_parser.specs.Scan.{coming, mark, scan, first_from}
 
 -- a token, and those behind it
 drop-pieces : (l : List Lexeme) (at : ℕ) (p : Piece) → slice_get (pieces l) at ≡ Some p → pieces (drop at l) ≡ p ∷ pieces (drop (suc at) l)
@@ -61,13 +59,31 @@ scan-step line from at c start p token clear before =
     sym (ap (λ tokens. first_from at (scan c tokens)) (pieces_from-step line at p token)
     ∙ ap (λ m. first_from at (m ∷ scan (coming c p) (pieces_from (at + 1) line))) clear) ∙ before
 
--- one more token that isn't long
-pub has_long-step : (line : List ℕ) (from at : ℕ) (p : Piece) → slice_get (pieces (lexemes line)) at ≡ Some p →
-    list_any is_long (piece_words p) ≡ false →
-    has_long (pieces_from at line) ≡ has_long (pieces_from from line) → has_long (pieces_from (at + 1) line) ≡ has_long (pieces_from from line)
-has_long-step line from at p token short before =
-    sym (ap has_long (pieces_from-step line at p token)
-    ∙ list_any-append is_long (piece_words p) (token_words (pieces_from (at + 1) line))
-    ∙ ap (λ b. b || list_any is_long (token_words (pieces_from (at + 1) line))) short) ∙ before
+drop-lexemes : (l : List Lexeme) (at : ℕ) (t : Lexeme) → slice_get l at ≡ Some t → drop at l ≡ t ∷ drop (suc at) l
+drop-lexemes [] at t h = absurd (omega (arith, slice_get_within [] at t h))
+drop-lexemes (u ∷ l) zero t h =
+    let e : u ≡ t = cc in
+    ap (λ x. x ∷ l) e
+drop-lexemes (u ∷ l) (suc at) t h = drop-lexemes l at t h
 
-pub ruleset token_steps = (pieces_from-step, pieces_from-end)
+lexemes_from-step : (line : List ℕ) (at : ℕ) (t : Lexeme) → slice_get (lexemes line) at ≡ Some t → lexemes_from at line ≡ t ∷ lexemes_from (at + 1) line
+lexemes_from-step line at t h = rw add-one (drop-lexemes (lexemes line) at t h)
+
+-- one more token that isn't long
+pub has_long-step : (line : List ℕ) (from at : ℕ) (t : Lexeme) → slice_get (lexemes line) at ≡ Some t → is_long t.0 t.1 ≡ false →
+    has_long (lexemes_from at line) ≡ has_long (lexemes_from from line) → has_long (lexemes_from (at + 1) line) ≡ has_long (lexemes_from from line)
+has_long-step line from at t token short before =
+    sym (ap has_long (lexemes_from-step line at t token) ∙ ap (λ b. b || has_long (lexemes_from (at + 1) line)) short) ∙ before
+
+-- no token is left
+pub has_long-end : (line : List ℕ) (at : ℕ) → length (tokens_of line) ≤ at → has_long (lexemes_from at line) ≡ false
+has_long-end line at h =
+    let short : length (lexemes line) ≤ at = simp length-map h in
+    ap has_long (drop-past (lexemes line) at short)
+
+-- a long token
+pub has_long-found : (line : List ℕ) (at : ℕ) (t : Lexeme) → slice_get (lexemes line) at ≡ Some t → is_long t.0 t.1 ≡ true → has_long (lexemes_from at line) ≡ true
+has_long-found line at t token long =
+    ap has_long (lexemes_from-step line at t token) ∙ ap (λ b. b || has_long (lexemes_from (at + 1) line)) long
+
+pub ruleset token_steps = (pieces_from-step, pieces_from-end, has_long-end, has_long-found)

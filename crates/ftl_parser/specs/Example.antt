@@ -4,12 +4,14 @@ use Rattle.fixed_point.specs.declared.variants.BoundForm.TheVariants as bounds
 use Rattle.fixed_point.specs.declared.variants.UntilForm.TheVariants as untils
 use Rattle.fixed_point.specs.declared.variants.SubName.TheVariants as subs
 use Rattle.case_table.specs.declared.compare.Op.TheVariants as ops
+use Rattle.ftl_lexer.specs.declared.kinds.Kind.TheVariants as kinds
+use Rattle.formula_shape.specs.Shape.{Shape}
 use Rattle.ftl_parser.specs.declared.fault.Size.TheVariants as sizes
 use Rattle.ftl_parser.specs.declared.tree.Atom.TheVariants as atoms
 use Rattle.ftl_parser.specs.declared.tree.Unit.TheVariants as units
 use Rattle.ftl_parser.specs.declared.state.Prefix.TheVariants as prefixes
 use Rattle.ftl_parser.specs.Tree.{Tree, QueryTree}
-use Rattle.ftl_parser.specs.Piece.{Piece, RETRIEVE, FROM, WHERE, AND, OR, TRUTH, PREFIX, BOUNDED, UNTIL, INSIDE, DIST, SPHERE, TIME, PART, OPEN, CLOSE, OPEN_SQUARE, CLOSE_SQUARE, COMMA, POINT, MINUS, STAR, ARROW, COMPARISON, NAME, NUMBER, TEXT}
+use Rattle.ftl_parser.specs.Piece.{Piece, RETRIEVE, FROM, WHERE, AND, OR, TRUTH, PREFIX, BOUNDED, UNTIL, INSIDE, DIST, SPHERE, TIME, PART, OPEN, CLOSE, OPEN_SQUARE, CLOSE_SQUARE, COMMA, POINT, MINUS, STAR, ARROW, COMPARISON, NAME, NUMBER, TEXT, has_long}
 use Rattle.ftl_parser.specs.Grammar.{from_part, term_of, signed, SpellsQuery, query, names_one, parts_one, formula_conj, conj_chain, chain_unary, unary_atom, atom_dist, num_plain}
 use Rattle.ftl_parser.specs.Number.{literal}
 use Rattle.ftl_parser.specs.Marks.{first_unfit}
@@ -34,42 +36,42 @@ abbrev pub asked : Tree → QueryTree
 asked f = record { targets = o ∷ []; from = from_part c o ∷ []; formula = f }
 
 abbrev pub always : Tree
-always = Tree.Truth true
+always = Shape.Truth true
 
 abbrev pub never : Tree
-never = Tree.Truth false
+never = Shape.Truth false
 
 -- the trees of tokens behind WHERE
 pub record ParsesSmallQueries : Type 0 where
   -- ((TRUE))
   pub brackets : parsed start (asking (OPEN ∷ OPEN ∷ TRUTH true ∷ CLOSE ∷ CLOSE ∷ [])) ≡ Some (asked always)
   -- TRUE OR FALSE AND TRUE
-  pub and_binds_more : parsed start (asking (TRUTH true ∷ OR ∷ TRUTH false ∷ AND ∷ TRUTH true ∷ [])) ≡ Some (asked (Tree.Or always (Tree.And never always)))
+  pub and_binds_more : parsed start (asking (TRUTH true ∷ OR ∷ TRUTH false ∷ AND ∷ TRUTH true ∷ [])) ≡ Some (asked (Shape.Or always (Shape.And never always)))
   -- TRUE AND FALSE AND TRUE
-  pub and_to_the_left : parsed start (asking (TRUTH true ∷ AND ∷ TRUTH false ∷ AND ∷ TRUTH true ∷ [])) ≡ Some (asked (Tree.And (Tree.And always never) always))
+  pub and_to_the_left : parsed start (asking (TRUTH true ∷ AND ∷ TRUTH false ∷ AND ∷ TRUTH true ∷ [])) ≡ Some (asked (Shape.And (Shape.And always never) always))
   -- TRUE UNTIL FALSE UNTIL_WITHIN 5 TRUE
   pub until_to_the_right :
       parsed start (asking (TRUTH true ∷ UNTIL untils.Plain ∷ TRUTH false ∷ UNTIL untils.Within ∷ NUMBER (codes "5") ∷ TRUTH true ∷ []))
-      ≡ Some (asked (Tree.Until untils.Plain 0 always (Tree.Until untils.Within 5 never always)))
+      ≡ Some (asked (Shape.Until untils.Plain 0 always (Shape.Until untils.Within 5 never always)))
   -- NOT TRUE AND EVENTUALLY_WITHIN 07 FALSE
   pub unary_binds_most :
       parsed start (asking (PREFIX prefixes.Not ∷ TRUTH true ∷ AND ∷ BOUNDED bounds.Within ∷ NUMBER (codes "07") ∷ TRUTH false ∷ []))
-      ≡ Some (asked (Tree.And (Tree.Not always) (Tree.Bounded bounds.Within 7 never)))
+      ≡ Some (asked (Shape.And (Shape.Not always) (Shape.Bounded bounds.Within 7 never)))
   -- [n <- 2 * o.x.function - n] o.x = "a"
   pub assignment :
       parsed start (asking (OPEN_SQUARE ∷ NAME n ∷ ARROW ∷ NUMBER (codes "2") ∷ STAR ∷ NAME o ∷ POINT ∷ NAME c ∷ POINT ∷ PART subs.Function ∷ MINUS ∷ NAME n ∷ CLOSE_SQUARE
       ∷ NAME o ∷ POINT ∷ NAME c ∷ COMPARISON ops.Eq ∷ TEXT (codes "a") ∷ []))
-      ≡ Some (asked (Tree.Assign n (term_of (signed false (Some 2) (units.Sub o c subs.Function) ∷ signed true None (units.Alone n) ∷ []))
-      (Tree.Atom (atoms.Compare (term_of (signed false None (units.Attr o c) ∷ [])) ops.Eq (term_of (signed false None (units.Text (codes "a")) ∷ []))))))
+      ≡ Some (asked (Shape.Assign (n, term_of (signed false (Some 2) (units.Sub o c subs.Function) ∷ signed true None (units.Alone n) ∷ []))
+      (Shape.Atom (atoms.Compare (term_of (signed false None (units.Attr o c) ∷ [])) ops.Eq (term_of (signed false None (units.Text (codes "a")) ∷ []))))))
   -- - TIME < 0.5 OR WITHIN_SPHERE(3.4,o,n)
   pub term_ends :
       parsed start (asking (MINUS ∷ TIME ∷ COMPARISON ops.Lt ∷ NUMBER (codes "0.5") ∷ OR ∷ SPHERE ∷ OPEN ∷ NUMBER (codes "3.4") ∷ COMMA ∷ NAME o ∷ COMMA ∷ NAME n ∷ CLOSE ∷ []))
-      ≡ Some (asked (Tree.Or (Tree.Atom (atoms.Compare (term_of (signed true None units.Time ∷ [])) ops.Lt (term_of (signed false None (units.Literal (pos 500)) ∷ []))))
-      (Tree.Atom (atoms.Sphere (pos 3400) (o ∷ n ∷ [])))))
+      ≡ Some (asked (Shape.Or (Shape.Atom (atoms.Compare (term_of (signed true None units.Time ∷ [])) ops.Lt (term_of (signed false None (units.Literal (pos 500)) ∷ []))))
+      (Shape.Atom (atoms.Sphere (pos 3400) (o ∷ n ∷ [])))))
   -- INSIDE(o,c) AND DIST(o,n) >= -1
   pub spatial :
       parsed start (asking (INSIDE ∷ OPEN ∷ NAME o ∷ COMMA ∷ NAME c ∷ CLOSE ∷ AND ∷ DIST ∷ OPEN ∷ NAME o ∷ COMMA ∷ NAME n ∷ CLOSE ∷ COMPARISON ops.Ge ∷ MINUS ∷ NUMBER (codes "1") ∷ []))
-      ≡ Some (asked (Tree.And (Tree.Atom (atoms.Inside o c)) (Tree.Atom (atoms.Dist o n ops.Ge (negsuc 999)))))
+      ≡ Some (asked (Shape.And (Shape.Atom (atoms.Inside o c)) (Shape.Atom (atoms.Dist o n ops.Ge (negsuc 999)))))
   -- a bracket that isn't closed, and one that isn't open
   pub unclosed : parsed start (asking (OPEN ∷ TRUTH true ∷ [])) ≡ None
   pub unopened : taken start (asking (TRUTH true ∷ CLOSE ∷ [])) ≡ 7
@@ -80,7 +82,7 @@ pub record StopsAtTheEnd : Type 0 where
   pub no_query : parsed start (asking (TRUTH true ∷ AND ∷ [])) ≡ None
 
 -- DIST(o,n) <= NUMBER, by its rules
-abbrev pub distance : (k : List ℕ) → SpellsQuery (asked (Tree.Atom (atoms.Dist o n ops.Le (literal k)))) (asking (DIST ∷ OPEN ∷ NAME o ∷ COMMA ∷ NAME n ∷ CLOSE ∷ COMPARISON ops.Le ∷ NUMBER k ∷ []))
+abbrev pub distance : (k : List ℕ) → SpellsQuery (asked (Shape.Atom (atoms.Dist o n ops.Le (literal k)))) (asking (DIST ∷ OPEN ∷ NAME o ∷ COMMA ∷ NAME n ∷ CLOSE ∷ COMPARISON ops.Le ∷ NUMBER k ∷ []))
 distance k = query names_one parts_one (formula_conj (conj_chain (chain_unary (unary_atom (atom_dist num_plain)))))
 
 -- a number past 10^12 thousandths, and one with four decimals, don't fit
@@ -92,33 +94,33 @@ pub record FindsUnfitNumbers : Type 0 where
 -- so many times NOT before a formula
 abbrev pub nots : ℕ → Tree → Tree
 nots zero f = f
-nots (suc k) f = Tree.Not (nots k f)
+nots (suc k) f = Shape.Not (nots k f)
 
 -- so many assignments, one in the other
 abbrev pub assigned : ℕ → Tree
 assigned zero = always
-assigned (suc k) = Tree.Assign n (term_of []) (assigned k)
+assigned (suc k) = Shape.Assign (n, term_of []) (assigned k)
 
 -- so many variables of FROM
 abbrev pub with_variables : ℕ → QueryTree
 with_variables k = record { targets = o ∷ []; from = replicate k (from_part c o); formula = assigned 3 }
 
 abbrev pub circle : ℕ → Tree
-circle k = Tree.Atom (atoms.Sphere (pos 0) (replicate k o))
+circle k = Shape.Atom (atoms.Sphere (pos 0) (replicate k o))
 
 abbrev pub sum : ℕ → Tree
-sum k = Tree.Atom (atoms.Compare (term_of []) ops.Eq (term_of (replicate k (signed false None units.Time))))
+sum k = Shape.Atom (atoms.Compare (term_of []) ops.Eq (term_of (replicate k (signed false None units.Time))))
 
 -- each limit, and the first one that is passed
 pub record JudgesSizes : Type 0 where
-  pub small : first_too_large (asked (assigned 2)) ≡ None
-  pub variables : first_too_large (with_variables 5) ≡ Some sizes.Variables
-  pub later_one : first_too_large (with_variables 4) ≡ Some sizes.Assignments
-  pub objects : first_too_large (asked (Tree.And (circle 5) (assigned 3))) ≡ Some sizes.Objects
-  pub four_objects : first_too_large (asked (circle 4)) ≡ None
-  pub depth : first_too_large (asked (nots 32 always)) ≡ Some sizes.Depth
-  pub deepest : first_too_large (asked (nots 31 always)) ≡ None
-  pub length : first_too_large (asked (Tree.Atom (atoms.Inside o (replicate 33 97)))) ≡ Some sizes.Length
-  pub longest : first_too_large (asked (Tree.Atom (atoms.Inside o (replicate 32 97)))) ≡ None
-  pub factors : first_too_large (asked (sum 17)) ≡ Some sizes.Factors
-  pub most_factors : first_too_large (asked (sum 16)) ≡ None
+  pub small : first_too_large false (asked (assigned 2)) ≡ None
+  pub variables : first_too_large false (with_variables 5) ≡ Some sizes.Variables
+  pub later_one : first_too_large false (with_variables 4) ≡ Some sizes.Assignments
+  pub objects : first_too_large false (asked (Shape.And (circle 5) (assigned 3))) ≡ Some sizes.Objects
+  pub four_objects : first_too_large false (asked (circle 4)) ≡ None
+  pub depth : first_too_large false (asked (nots 32 always)) ≡ Some sizes.Depth
+  pub deepest : first_too_large false (asked (nots 31 always)) ≡ None
+  pub length : first_too_large (has_long ((kinds.Name, replicate 33 97) ∷ [])) (asked always) ≡ Some sizes.Length
+  pub longest : first_too_large (has_long ((kinds.Name, replicate 32 97) ∷ [])) (asked always) ≡ None
+  pub factors : first_too_large false (asked (sum 17)) ≡ Some sizes.Factors
+  pub most_factors : first_too_large false (asked (sum 16)) ≡ None

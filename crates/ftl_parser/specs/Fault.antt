@@ -3,7 +3,8 @@ use Rattle.std.specs.Prelude.{◌≡◌, ℕ, ◌+◌, ◌<◌, ◌≤◌, List,
 use Rattle.ftl_parser.specs.declared.fault.ParseFault.{ParseFault}
 use Rattle.ftl_parser.specs.declared.fault.ParseFault.TheVariants as faults
 use Rattle.ftl_parser.specs.Tree.{QueryTree}
-use Rattle.ftl_parser.specs.Piece.{Piece}
+use Rattle.ftl_lexer.specs.Cut.{Lexeme}
+use Rattle.ftl_parser.specs.Piece.{Piece, pieces, has_long}
 use Rattle.ftl_parser.specs.Grammar.{SpellsQuery}
 use Rattle.ftl_parser.specs.Marks.{first_unfit}
 use Rattle.ftl_parser.specs.Sizes.{first_too_large}
@@ -20,10 +21,10 @@ pub record IsStuckAt (tokens : List Piece) (place : ℕ) : Type 0 where
   pub longest : (n : ℕ) → place < n → n ≤ length tokens → Begins (take n tokens) → ⊥
 
 -- the tokens spell the query, each number fits its place, and no size passes its limit
-pub record Reads (tokens : List Piece) (q : QueryTree) : Type 0 where
-  pub spelled : SpellsQuery q tokens
+pub record Reads (tokens : List Lexeme) (q : QueryTree) : Type 0 where
+  pub spelled : SpellsQuery q (pieces tokens)
   pub fit : first_unfit spelled ≡ None
-  pub small : first_too_large q ≡ None
+  pub small : first_too_large (has_long tokens) q ≡ None
 
 -- the tokens spell a query, and this is its first number that doesn't fit its place
 pub record HasUnfit (tokens : List Piece) (place : ℕ) : Type 0 where
@@ -32,9 +33,9 @@ pub record HasUnfit (tokens : List Piece) (place : ℕ) : Type 0 where
   pub unfit : first_unfit spelled ≡ Some place
 
 -- why the tokens from a place of the line on are not read
-abbrev pub Explains : ℕ → List Piece → ParseFault → Type 0
-Explains from tokens (faults.BadSyntax place) = (n : ℕ) × (place ≡ from + n) × IsStuckAt tokens n
-Explains from tokens (faults.NumberRange place) = (n : ℕ) × (place ≡ from + n) × HasUnfit tokens n
+abbrev pub Explains : ℕ → List Lexeme → ParseFault → Type 0
+Explains from tokens (faults.BadSyntax place) = (n : ℕ) × (place ≡ from + n) × IsStuckAt (pieces tokens) n
+Explains from tokens (faults.NumberRange place) = (n : ℕ) × (place ≡ from + n) × HasUnfit (pieces tokens) n
 Explains from tokens (faults.TooLarge size) =
-    (q : QueryTree) × (d : SpellsQuery q tokens) × (first_unfit d ≡ None) × (first_too_large q ≡ Some size)
+    (q : QueryTree) × (d : SpellsQuery q (pieces tokens)) × (first_unfit d ≡ None) × (first_too_large (has_long tokens) q ≡ Some size)
 Explains from tokens faults.NoMemory = Unit {0}

@@ -23,6 +23,7 @@ use Rattle.fixed_point.specs.declared.variants.BoundForm.{BoundForm}
 use Rattle.fixed_point.specs.declared.variants.UntilForm.TheVariants as untils
 use Rattle.fixed_point.specs.declared.variants.SubName.{SubName}
 use Rattle.case_table.specs.declared.compare.Op.{Op}
+use Rattle.formula_shape.specs.Shape.{Shape}
 use Rattle.ftl_parser.specs.declared.tree.Atom as atom_type
 use Rattle.ftl_parser.specs.declared.tree.Atom.TheVariants as atoms
 use Rattle.ftl_parser.specs.declared.tree.Unit as unit_type
@@ -38,10 +39,10 @@ use Rattle.ftl_parser.specs.Number.{ticks, times, literal, radius}
 
 -- a word before a formula, as a tree
 abbrev pub prefixed : Prefix → Tree → Tree
-prefixed prefixes.Not f = Tree.Not f
-prefixed prefixes.Next f = Tree.Next f
-prefixed prefixes.Eventually f = Tree.Eventually f
-prefixed prefixes.Always f = Tree.Always f
+prefixed prefixes.Not f = Shape.Not f
+prefixed prefixes.Next f = Shape.Next f
+prefixed prefixes.Eventually f = Shape.Eventually f
+prefixed prefixes.Always f = Shape.Always f
 
 -- factors, as a term
 abbrev pub term_of : List Signed → Term
@@ -119,30 +120,30 @@ pub data Level : Type 0 where
 pub data Spells : Level → Tree → List Piece → Type 0 where
   formula_conj : {f : Tree} {xs : List Piece} → Spells conj f xs → Spells formula f xs
   formula_or : {f g : Tree} {xs ys : List Piece} →
-      Spells formula f xs → Spells conj g ys → Spells formula (Tree.Or f g) (xs ++ OR ∷ ys)
+      Spells formula f xs → Spells conj g ys → Spells formula (Shape.Or f g) (xs ++ OR ∷ ys)
   conj_chain : {f : Tree} {xs : List Piece} → Spells chain f xs → Spells conj f xs
   conj_and : {f g : Tree} {xs ys : List Piece} →
-      Spells conj f xs → Spells chain g ys → Spells conj (Tree.And f g) (xs ++ AND ∷ ys)
+      Spells conj f xs → Spells chain g ys → Spells conj (Shape.And f g) (xs ++ AND ∷ ys)
   chain_unary : {f : Tree} {xs : List Piece} → Spells unary f xs → Spells chain f xs
   chain_until : {f g : Tree} {xs ys : List Piece} →
-      Spells unary f xs → Spells chain g ys → Spells chain (Tree.Until untils.Plain 0 f g) (xs ++ UNTIL untils.Plain ∷ ys)
+      Spells unary f xs → Spells chain g ys → Spells chain (Shape.Until untils.Plain 0 f g) (xs ++ UNTIL untils.Plain ∷ ys)
   chain_until_within : {f g : Tree} {xs ys : List Piece} (c : List ℕ) →
       Spells unary f xs → Spells chain g ys →
-      Spells chain (Tree.Until untils.Within (ticks c) f g) (xs ++ UNTIL untils.Within ∷ NUMBER c ∷ ys)
+      Spells chain (Shape.Until untils.Within (ticks c) f g) (xs ++ UNTIL untils.Within ∷ NUMBER c ∷ ys)
   chain_until_after : {f g : Tree} {xs ys : List Piece} (c : List ℕ) →
       Spells unary f xs → Spells chain g ys →
-      Spells chain (Tree.Until untils.After (ticks c) f g) (xs ++ UNTIL untils.After ∷ NUMBER c ∷ ys)
+      Spells chain (Shape.Until untils.After (ticks c) f g) (xs ++ UNTIL untils.After ∷ NUMBER c ∷ ys)
   unary_prefix : {w : Prefix} {f : Tree} {xs : List Piece} →
       Spells unary f xs → Spells unary (prefixed w f) (PREFIX w ∷ xs)
   unary_bounded : {form : BoundForm} {c : List ℕ} {f : Tree} {xs : List Piece} →
-      Spells unary f xs → Spells unary (Tree.Bounded form (ticks c) f) (BOUNDED form ∷ NUMBER c ∷ xs)
+      Spells unary f xs → Spells unary (Shape.Bounded form (ticks c) f) (BOUNDED form ∷ NUMBER c ∷ xs)
   unary_assign : {v : List ℕ} {fs : List Signed} {f : Tree} {xs ys : List Piece} →
       SpellsTerm fs xs → Spells unary f ys →
-      Spells unary (Tree.Assign v (term_of fs) f) (OPEN_SQUARE ∷ NAME v ∷ ARROW ∷ (xs ++ CLOSE_SQUARE ∷ ys))
+      Spells unary (Shape.Assign (v, term_of fs) f) (OPEN_SQUARE ∷ NAME v ∷ ARROW ∷ (xs ++ CLOSE_SQUARE ∷ ys))
   unary_brackets : {f : Tree} {xs : List Piece} →
       Spells formula f xs → Spells unary f (OPEN ∷ (xs ++ CLOSE ∷ []))
-  unary_truth : {b : Bool} → Spells unary (Tree.Truth b) (TRUTH b ∷ [])
-  unary_atom : {a : atom_type.Atom} {xs : List Piece} → SpellsAtom a xs → Spells unary (Tree.Atom a) xs
+  unary_truth : {b : Bool} → Spells unary (Shape.Truth b) (TRUTH b ∷ [])
+  unary_atom : {a : atom_type.Atom} {xs : List Piece} → SpellsAtom a xs → Spells unary (Shape.Atom a) xs
 
 pub data SpellsQuery : QueryTree → List Piece → Type 0 where
   query : {ns : List (List ℕ)} {ps : List FromPart} {f : Tree} {xs ys zs : List Piece} →

@@ -5,6 +5,7 @@ use Rattle.fixed_point.specs.declared.variants.BoundForm.{BoundForm}
 use Rattle.fixed_point.specs.declared.variants.UntilForm.{UntilForm}
 use Rattle.fixed_point.specs.declared.variants.UntilForm.TheVariants as untils
 use Rattle.case_table.specs.declared.compare.Op.{Op}
+use Rattle.formula_shape.specs.Shape.{Shape}
 use Rattle.ftl_parser.specs.declared.tree.Atom.TheVariants as atoms
 use Rattle.ftl_parser.specs.declared.tree.Unit.TheVariants as units
 use Rattle.ftl_parser.specs.declared.tree.Term.{Term}
@@ -20,22 +21,16 @@ use Rattle.ftl_parser.specs.declared.state.Factor.{Factor}
 use Rattle.ftl_parser.specs.declared.state.Factor.TheVariants as factors
 use Rattle.ftl_parser.specs.declared.state.Spatial.{Spatial}
 use Rattle.ftl_parser.specs.declared.state.Spatial.TheVariants as spatials
+pub use Rattle.ftl_parser.specs.declared.frame.Frame.{Frame}
+pub use Rattle.ftl_parser.specs.declared.frame.Frame.TheVariants.{Bracket, OrWith, AndWith, UntilWith, PrefixedBy, BoundedBy, Assigning}
+pub use Rattle.ftl_parser.specs.declared.phase.Phase.{Phase}
+pub use Rattle.ftl_parser.specs.declared.phase.Phase.TheVariants.{Want, Have, Reach, Ticks, Variable, Arrow, InTerm, InSpatial}
 use Rattle.ftl_parser.specs.Tree.{Tree, QueryTree}
 use Rattle.ftl_parser.specs.Piece.{Piece, RETRIEVE, FROM, WHERE, AND, OR, TRUTH, PREFIX, BOUNDED, UNTIL, INSIDE, OUTSIDE, DIST, SPHERE, TIME, PART, OPEN, CLOSE, OPEN_SQUARE, CLOSE_SQUARE, COMMA, POINT, PLUS, MINUS, STAR, ARROW, COMPARISON, NAME, NUMBER, TEXT}
 use Rattle.ftl_parser.specs.Number.{ticks, times, literal, radius}
 use Rattle.ftl_parser.specs.Grammar.{prefixed, term_of, signed, from_part}
 
--- what waits for a formula on its right
-pub data Frame : Type 0 where
-  Bracket : Frame
-  OrWith : Tree → Frame
-  AndWith : Tree → Frame
-  UntilWith : UntilForm → ℕ → Tree → Frame
-  PrefixedBy : Prefix → Frame
-  BoundedBy : BoundForm → ℕ → Frame
-  Assigning : List ℕ → Term → Frame
-
--- how strongly it binds
+-- how strongly a frame binds
 abbrev pub rank : Frame → ℕ
 rank Bracket = 0
 rank (OrWith f) = 1
@@ -48,31 +43,12 @@ rank (Assigning v t) = 4
 -- the formula with this one on its right
 abbrev pub filled : Frame → Tree → Tree
 filled Bracket g = g
-filled (OrWith f) g = Tree.Or f g
-filled (AndWith f) g = Tree.And f g
-filled (UntilWith form c f) g = Tree.Until form c f g
+filled (OrWith f) g = Shape.Or f g
+filled (AndWith f) g = Shape.And f g
+filled (UntilWith form c f) g = Shape.Until form c f g
 filled (PrefixedBy w) g = prefixed w g
-filled (BoundedBy form c) g = Tree.Bounded form c g
-filled (Assigning v t) g = Tree.Assign v t g
-
--- what comes next in a formula
-pub data Phase : Type 0 where
-  -- a formula
-  Want : Phase
-  -- an operator, a closing bracket or the end, behind a formula
-  Have : Tree → Phase
-  -- the number of ticks of an until, whose left side is there
-  Reach : UntilForm → Tree → Phase
-  -- the number of ticks of a bounded form
-  Ticks : BoundForm → Phase
-  -- the name of an assignment
-  Variable : Phase
-  -- the arrow of an assignment
-  Arrow : List ℕ → Phase
-  -- what is left of a term, by where it stands, the factors before the last one, and what is read of that
-  InTerm : TermPlace → List Signed → Factor → Phase
-  -- what is left of an atom that begins with its word
-  InSpatial : Spatial → Phase
+filled (BoundedBy form c) g = Shape.Bounded form c g
+filled (Assigning v t) g = Shape.Assign (v, t) g
 
 -- where a formula stands in its reading
 abbrev pub Body : Type 0
@@ -159,7 +135,7 @@ behind f s _ = None
 abbrev pub term_ended : List Frame → TermPlace → List Signed → Piece → Option Body
 term_ended s places.Left fs (COMPARISON op) = Some (s, InTerm (places.Right (term_of fs) op) [] factors.First)
 term_ended s places.Left fs _ = None
-term_ended s (places.Right t op) fs p = behind (Tree.Atom (atoms.Compare t op (term_of fs))) s p
+term_ended s (places.Right t op) fs p = behind (Shape.Atom (atoms.Compare t op (term_of fs))) s p
 term_ended s (places.Assigned v) fs CLOSE_SQUARE = Some (Assigning v (term_of fs) ∷ s, Want)
 term_ended s (places.Assigned v) fs _ = None
 
@@ -188,24 +164,24 @@ spatial_step (spatials.PairOpen w) OPEN = Some (InSpatial (spatials.PairFirst w)
 spatial_step (spatials.PairFirst w) (NAME o) = Some (InSpatial (spatials.PairComma w o))
 spatial_step (spatials.PairComma w o) COMMA = Some (InSpatial (spatials.PairSecond w o))
 spatial_step (spatials.PairSecond w o) (NAME p) = Some (InSpatial (spatials.PairClose w o p))
-spatial_step (spatials.PairClose pairs.Inside o p) CLOSE = Some (Have (Tree.Atom (atoms.Inside o p)))
-spatial_step (spatials.PairClose pairs.Outside o p) CLOSE = Some (Have (Tree.Atom (atoms.Outside o p)))
+spatial_step (spatials.PairClose pairs.Inside o p) CLOSE = Some (Have (Shape.Atom (atoms.Inside o p)))
+spatial_step (spatials.PairClose pairs.Outside o p) CLOSE = Some (Have (Shape.Atom (atoms.Outside o p)))
 spatial_step (spatials.PairClose pairs.Dist o n) CLOSE = Some (InSpatial (spatials.DistOp o n))
 spatial_step (spatials.DistOp o n) (COMPARISON op) = Some (InSpatial (spatials.DistNum o n op))
-spatial_step (spatials.DistNum o n op) (NUMBER c) = Some (Have (Tree.Atom (atoms.Dist o n op (literal c))))
+spatial_step (spatials.DistNum o n op) (NUMBER c) = Some (Have (Shape.Atom (atoms.Dist o n op (literal c))))
 spatial_step (spatials.DistNum o n op) MINUS = Some (InSpatial (spatials.DistMinus o n op))
-spatial_step (spatials.DistMinus o n op) (NUMBER c) = Some (Have (Tree.Atom (atoms.Dist o n op (neg_ℤ (literal c)))))
+spatial_step (spatials.DistMinus o n op) (NUMBER c) = Some (Have (Shape.Atom (atoms.Dist o n op (neg_ℤ (literal c)))))
 spatial_step spatials.SphereOpen OPEN = Some (InSpatial spatials.SphereRadius)
 spatial_step spatials.SphereRadius (NUMBER r) = Some (InSpatial (spatials.SphereComma (radius r)))
 spatial_step (spatials.SphereComma r) COMMA = Some (InSpatial (spatials.SphereName r []))
 spatial_step (spatials.SphereName r ns) (NAME n) = Some (InSpatial (spatials.SphereNames r (ns ++ n ∷ [])))
 spatial_step (spatials.SphereNames r ns) COMMA = Some (InSpatial (spatials.SphereName r ns))
-spatial_step (spatials.SphereNames r ns) CLOSE = Some (Have (Tree.Atom (atoms.Sphere r ns)))
+spatial_step (spatials.SphereNames r ns) CLOSE = Some (Have (Shape.Atom (atoms.Sphere r ns)))
 spatial_step _ _ = None
 
 -- the beginning of a formula
 abbrev pub wanted : List Frame → Piece → Option Body
-wanted s (TRUTH b) = Some (s, Have (Tree.Truth b))
+wanted s (TRUTH b) = Some (s, Have (Shape.Truth b))
 wanted s (PREFIX w) = Some (PrefixedBy w ∷ s, Want)
 wanted s (BOUNDED form) = Some (s, Ticks form)
 wanted s OPEN_SQUARE = Some (s, Variable)
@@ -241,7 +217,7 @@ alone (f, w ∷ s) = None
 
 -- the formula whose last atom is this comparison, where its last factor is whole
 abbrev pub compared : List Frame → Term → Op → List Signed → Option Signed → Option Tree
-compared s t op fs (Some u) = alone (reduced 1 (Tree.Atom (atoms.Compare t op (term_of (fs ++ u ∷ [])))) s)
+compared s t op fs (Some u) = alone (reduced 1 (Shape.Atom (atoms.Compare t op (term_of (fs ++ u ∷ [])))) s)
 compared s t op fs None = None
 
 -- the formula, where the tokens may end here

@@ -1,10 +1,8 @@
 -- The sizes of a formula as they are kept beside it: counts that stay at the largest number.
-use Rattle.std.specs.Prelude.{ℕ, ◌+◌, min, max, ◌-◌, ◌^◌, Bool, Option}
-use Rattle.exact.specs.First.{first_that_holds}
-use Rattle.ftl_parser.specs.declared.fault.Size.{Size}
+use Rattle.std.specs.Prelude.{ℕ, ◌+◌, min, max, ◌-◌, ◌^◌}
 use Rattle.ftl_parser.specs.declared.measured.Sizes.{Sizes}
-use Rattle.ftl_parser.specs.Tree.{Tree, QueryTree}
-use Rattle.ftl_parser.specs.Sizes.{nodes, depth, nesting, objects, factors, passed_with}
+use Rattle.ftl_parser.specs.Tree.{Tree}
+use Rattle.ftl_parser.specs.Sizes.{nodes, depth, nesting, objects, factors}
 
 -- a count that stays at the largest number of 64 bits
 abbrev pub saturated : ℕ → ℕ
@@ -35,7 +33,3 @@ joined s t = record {
   objects = max s.objects t.objects;
   factors = max s.factors t.factors;
 }
-
--- the first size that passes its limit, where what is said of the length is given
-abbrev pub first_passed : QueryTree → Bool → Option Size
-first_passed q long = first_that_holds (passed_with q long)

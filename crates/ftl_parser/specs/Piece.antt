@@ -1,5 +1,6 @@
--- The tokens of which the grammar of queries speaks: a constructor for each word and symbol, where those that stand in the same places share one, and names, numbers and texts with their bytes.
-use Rattle.std.specs.Prelude.{ℕ, ◌-◌, Bool, true, false, List, [], ◌∷◌, take, drop, length, map, slice_get, unwrap_or}
+-- The tokens of which the grammar of queries speaks: a constructor for each word and symbol, where those that stand in the same places share one, and names, numbers and texts with their bytes. A name or text of more than 32 bytes is the empty one.
+use Rattle.std.specs.Prelude.{ℕ, ◌-◌, Bool, true, false, not, List, [], ◌∷◌, take, drop, length, map, slice_get, unwrap_or}
+use Rattle.std.specs.List.{list_any}
 use Rattle.fixed_point.specs.declared.variants.BoundForm.{BoundForm}
 use Rattle.fixed_point.specs.declared.variants.BoundForm.TheVariants as bounds
 use Rattle.fixed_point.specs.declared.variants.UntilForm.{UntilForm}
@@ -14,6 +15,7 @@ use Rattle.ftl_lexer.specs.Tokens.{lexemes}
 use Rattle.ftl_lexer.specs.Cut.{Lexeme}
 use Rattle.ftl_parser.specs.declared.state.Prefix.{Prefix}
 use Rattle.ftl_parser.specs.declared.state.Prefix.TheVariants as prefixes
+use Rattle.ftl_parser.specs.Words.{is_short, word_of}
 
 pub data Piece : Type 0 where
   RETRIEVE : Piece
@@ -78,9 +80,9 @@ abbrev pub unquoted : List ℕ → List ℕ
 unquoted text = take (length text - 2) (drop 1 text)
 
 abbrev pub piece_of : Kind → List ℕ → Piece
-piece_of kinds.Name bytes = NAME bytes
+piece_of kinds.Name bytes = NAME (word_of bytes)
 piece_of kinds.Number bytes = NUMBER bytes
-piece_of kinds.Text bytes = TEXT (unquoted bytes)
+piece_of kinds.Text bytes = TEXT (word_of (unquoted bytes))
 piece_of (kinds.Sym code) bytes = unwrap_or (slice_get signs code) OTHER
 piece_of (kinds.Key code) bytes = unwrap_or (slice_get words code) OTHER
 
@@ -88,6 +90,22 @@ piece_of (kinds.Key code) bytes = unwrap_or (slice_get words code) OTHER
 abbrev pub pieces : List Lexeme → List Piece
 pieces = map (λ t. piece_of t.0 t.1)
 
--- the tokens of a line from one of them on
+-- the tokens of a line from one of them on, by their kinds and bytes
+abbrev pub lexemes_from : ℕ → List ℕ → List Lexeme
+lexemes_from from line = drop from (lexemes line)
+
+-- the same tokens
 abbrev pub pieces_from : ℕ → List ℕ → List Piece
-pieces_from from line = pieces (drop from (lexemes line))
+pieces_from from line = pieces (lexemes_from from line)
+
+-- a name or a text that has more bytes than a word
+abbrev pub is_long : Kind → List ℕ → Bool
+is_long kinds.Name bytes = not (is_short bytes)
+is_long kinds.Number bytes = false
+is_long kinds.Text bytes = not (is_short (unquoted bytes))
+is_long (kinds.Sym code) bytes = false
+is_long (kinds.Key code) bytes = false
+
+-- there is such a one among the tokens
+abbrev pub has_long : List Lexeme → Bool
+has_long = list_any (λ t. is_long t.0 t.1)

@@ -1,13 +1,11 @@
 -- Which numbers don't fit their places, told by the tokens alone, whether they are a query or not: the place of a number follows from the tokens before it and the one behind it.
-use Rattle.std.specs.Prelude.{ℕ, ◌+◌, Bool, true, false, Option, None, Some, List, [], ◌∷◌, flat_map}
-use Rattle.std.specs.List.{list_any}
+use Rattle.std.specs.Prelude.{ℕ, ◌+◌, Bool, true, false, Option, None, Some, List, [], ◌∷◌}
 use Rattle.fixed_point.specs.declared.variants.UntilForm.TheVariants as untils
 use Rattle.ftl_parser.specs.declared.scan.Coming.{Coming}
 use Rattle.ftl_parser.specs.declared.scan.Coming.TheVariants as comings
-use Rattle.ftl_parser.specs.Piece.{Piece, BOUNDED, UNTIL, SPHERE, OPEN, STAR, NAME, NUMBER, TEXT}
+use Rattle.ftl_parser.specs.Piece.{Piece, BOUNDED, UNTIL, SPHERE, OPEN, STAR, NUMBER}
 use Rattle.ftl_parser.specs.Number.{Place, Ticks, Times, Literal, Radius}
 use Rattle.ftl_parser.specs.Marks.{unfit}
-use Rattle.ftl_parser.specs.Sizes.{is_long}
 
 -- what the next number is, behind one more token
 abbrev pub coming : Coming → Piece → Coming
@@ -45,16 +43,3 @@ first_from at (false ∷ rest) = first_from (at + 1) rest
 abbrev pub star_next : List Piece → Bool
 star_next (STAR ∷ rest) = true
 star_next rest = false
-
--- the names and texts among tokens
-abbrev pub piece_words : Piece → List (List ℕ)
-piece_words (NAME n) = n ∷ []
-piece_words (TEXT t) = t ∷ []
-piece_words p = []
-
-abbrev pub token_words : List Piece → List (List ℕ)
-token_words = flat_map piece_words
-
--- some name or text among the tokens has more bytes than a word
-abbrev pub has_long : List Piece → Bool
-has_long tokens = list_any is_long (token_words tokens)

@@ -18,6 +18,7 @@ use Rattle.fixed_point.specs.declared.variants.SubName.{SubName}
 use Rattle.fixed_point.specs.declared.variants.SubName.TheVariants as subs
 use Rattle.case_table.specs.declared.compare.Op.{Op}
 use Rattle.case_table.specs.declared.compare.Op.TheVariants as ops
+use Rattle.formula_shape.specs.Shape.{Shape}
 use Rattle.ftl_parser.specs.declared.tree.Atom as atom_type
 use Rattle.ftl_parser.specs.declared.tree.Atom.TheVariants as atoms
 use Rattle.ftl_parser.specs.declared.tree.Unit as unit_type
@@ -150,17 +151,17 @@ abbrev pub in_brackets : List ℕ → List ℕ → List ℕ → List ℕ
 in_brackets left between right = codes "(" ++ left ++ between ++ right ++ codes ")"
 
 abbrev pub formula_text : Tree → List ℕ
-formula_text (Tree.Truth b) = truth_word b
-formula_text (Tree.Atom a) = atom_text a
-formula_text (Tree.Not f) = prefix_text prefixes.Not ++ formula_text f
-formula_text (Tree.And f g) = in_brackets (formula_text f) (codes " AND ") (formula_text g)
-formula_text (Tree.Or f g) = in_brackets (formula_text f) (codes " OR ") (formula_text g)
-formula_text (Tree.Next f) = prefix_text prefixes.Next ++ formula_text f
-formula_text (Tree.Eventually f) = prefix_text prefixes.Eventually ++ formula_text f
-formula_text (Tree.Always f) = prefix_text prefixes.Always ++ formula_text f
-formula_text (Tree.Bounded form ticks f) = bound_text form ticks ++ formula_text f
-formula_text (Tree.Until form ticks f g) = in_brackets (formula_text f) (until_text form ticks) (formula_text g)
-formula_text (Tree.Assign name term f) = assign_text name term ++ formula_text f
+formula_text (Shape.Truth b) = truth_word b
+formula_text (Shape.Atom a) = atom_text a
+formula_text (Shape.Not f) = prefix_text prefixes.Not ++ formula_text f
+formula_text (Shape.And f g) = in_brackets (formula_text f) (codes " AND ") (formula_text g)
+formula_text (Shape.Or f g) = in_brackets (formula_text f) (codes " OR ") (formula_text g)
+formula_text (Shape.Next f) = prefix_text prefixes.Next ++ formula_text f
+formula_text (Shape.Eventually f) = prefix_text prefixes.Eventually ++ formula_text f
+formula_text (Shape.Always f) = prefix_text prefixes.Always ++ formula_text f
+formula_text (Shape.Bounded form ticks f) = bound_text form ticks ++ formula_text f
+formula_text (Shape.Until form ticks f g) = in_brackets (formula_text f) (until_text form ticks) (formula_text g)
+formula_text (Shape.Assign (name, term) f) = assign_text name term ++ formula_text f
 
 abbrev pub query_text : QueryTree → List ℕ
 query_text q = codes "RETRIEVE " ++ names_text q.targets ++ codes " FROM " ++ parts_text q.from ++ codes " WHERE " ++ formula_text q.formula

@@ -1,38 +1,39 @@
 -- What holds of printed queries and of the lines from which they were read.
-use Rattle.std.specs.Prelude.{◌≡◌, ℕ, ◌*◌, ◌≤◌, List, length, drop, None, sum_by}
+use Rattle.std.specs.Prelude.{◌≡◌, ℕ, ◌*◌, ◌≤◌, false, List, length, None, sum_by}
 use Rattle.ftl_lexer.specs.Tokens.{bad_place, lexemes}
 use Rattle.ftl_lexer.specs.Cut.{Lexeme}
 use Rattle.ftl_parser.specs.Tree.{QueryTree}
-use Rattle.ftl_parser.specs.Piece.{Piece, pieces_from}
+use Rattle.ftl_parser.specs.Piece.{pieces_from, lexemes_from, has_long}
 use Rattle.ftl_parser.specs.Grammar.{SpellsQuery}
 use Rattle.ftl_parser.specs.Marks.{first_unfit}
 use Rattle.ftl_parser.specs.declared.fault.ParseFault.{ParseFault}
 use Rattle.ftl_parser.specs.declared.fault.ParseFault.TheVariants.{NoMemory}
 use Rattle.ftl_parser.specs.Fault.{Explains, Reads}
 use Rattle.ftl_parser.specs.Text.{query_text}
-use Rattle.ftl_parser.specs.Shape.{IsPrintable}
+use Rattle.ftl_parser.specs.Lawful.{IsPrintable}
 
 -- the bytes of tokens
 abbrev pub bytes_of : List Lexeme → ℕ
 bytes_of = sum_by (λ t. length t.1)
 
--- the text is cut into tokens that spell the query, with each number in the range of its place
+-- the text is cut into tokens that spell the query, with each number in the range of its place and no name or text too long
 pub record IsReadAs (q : QueryTree) (text : List ℕ) : Type 0 where
   pub no_bad_token : bad_place text ≡ None
   pub spelled : SpellsQuery q (pieces_from 0 text)
   pub fit : first_unfit spelled ≡ None
+  pub short : has_long (lexemes text) ≡ false
 
 -- a query that can be printed is read back from its text
 abbrev pub ReadsWhatIsPrinted : Type 0
 ReadsWhatIsPrinted = (q : QueryTree) → IsPrintable q → IsReadAs q (query_text q)
 
--- what tokens of a line spell is printable
+-- what tokens of a line spell is printable, where no name or text among them is too long
 abbrev pub PrintsWhatIsRead : Type 0
-PrintsWhatIsRead = (from : ℕ) (line : List ℕ) (q : QueryTree) → SpellsQuery q (pieces_from from line) → IsPrintable q
+PrintsWhatIsRead = (from : ℕ) (line : List ℕ) (q : QueryTree) → SpellsQuery q (pieces_from from line) → has_long (lexemes_from from line) ≡ false → IsPrintable q
 
 -- the printed text has at most four bytes for each byte of the tokens
 abbrev pub PrintsShortly : Type 0
-PrintsShortly = (from : ℕ) (line : List ℕ) (q : QueryTree) → SpellsQuery q (pieces_from from line) → length (query_text q) ≤ 4 * bytes_of (drop from (lexemes line))
+PrintsShortly = (from : ℕ) (line : List ℕ) (q : QueryTree) → SpellsQuery q (pieces_from from line) → length (query_text q) ≤ 4 * bytes_of (lexemes_from from line)
 
 -- tokens have no more bytes than their line
 abbrev pub TokensFit : Type 0
@@ -44,8 +45,8 @@ PrintsShorterThanFourLines = (from : ℕ) (line : List ℕ) (q : QueryTree) → 
 
 -- a query that was read is read again from its printed text
 abbrev pub ReadsAgain : Type 0
-ReadsAgain = (from : ℕ) (line : List ℕ) (q : QueryTree) → Reads (pieces_from from line) q → (bad_place (query_text q) ≡ None) × Reads (pieces_from 0 (query_text q)) q
+ReadsAgain = (from : ℕ) (line : List ℕ) (q : QueryTree) → Reads (lexemes_from from line) q → (bad_place (query_text q) ≡ None) × Reads (lexemes (query_text q)) q
 
 -- tokens that are read as a query are read as no other, and nothing but want of memory explains that they are not read
 abbrev pub ReadsOneQuery : Type 0
-ReadsOneQuery = (from : ℕ) (tokens : List Piece) (q : QueryTree) → Reads tokens q → ((r : QueryTree) → Reads tokens r → r ≡ q) × ((fault : ParseFault) → Explains from tokens fault → fault ≡ NoMemory)
+ReadsOneQuery = (from : ℕ) (tokens : List Lexeme) (q : QueryTree) → Reads tokens q → ((r : QueryTree) → Reads tokens r → r ≡ q) × ((fault : ParseFault) → Explains from tokens fault → fault ≡ NoMemory)

@@ -1,27 +1,16 @@
 -- The tree of a query, without where its parts lie in memory. What holds no formula is as declared: names and texts are their bytes, numbers their thousandths.
-use Rattle.std.specs.Prelude.{ℕ, Bool, List}
-use Rattle.fixed_point.specs.declared.variants.BoundForm.{BoundForm}
-use Rattle.fixed_point.specs.declared.variants.UntilForm.{UntilForm}
-use Rattle.ftl_parser.specs.declared.tree.Atom as atom_type
+use Rattle.std.specs.Prelude.{ℕ, List}
+use Rattle.formula_shape.specs.Shape.{Shape}
+use Rattle.ftl_parser.specs.declared.tree.Atom.{Atom}
 use Rattle.ftl_parser.specs.declared.tree.Term.{Term}
 use Rattle.ftl_parser.specs.declared.tree.FromPart.{FromPart}
 use Rattle.ftl_parser.specs.declared.tree.Query.{Query}
 use Rattle.ftl_parser.specs.declared.tree.Formula.{Formula}
 use Rattle.ftl_parser.specs.declared.tree.Formula.TheVariants as formulas
 
--- a formula
-pub data Tree : Type 0 where
-  Truth : Bool → Tree
-  Atom : atom_type.Atom → Tree
-  Not : Tree → Tree
-  And : Tree → Tree → Tree
-  Or : Tree → Tree → Tree
-  Next : Tree → Tree
-  Eventually : Tree → Tree
-  Always : Tree → Tree
-  Bounded : BoundForm → ℕ → Tree → Tree
-  Until : UntilForm → ℕ → Tree → Tree → Tree
-  Assign : List ℕ → Term → Tree → Tree
+-- a formula; an assignment binds the value of a term to a name
+abbrev pub Tree : Type 0
+Tree = Shape Atom (List ℕ × Term)
 
 -- a query
 pub record QueryTree : Type 0 where
@@ -31,17 +20,17 @@ pub record QueryTree : Type 0 where
 
 -- the tree of a formula of the program
 abbrev pub view : Formula → Tree
-view (formulas.Truth b) = Truth b
-view (formulas.Atom a) = Atom a
-view (formulas.Not' p f) = Not (view f)
-view (formulas.And' p f q g) = And (view f) (view g)
-view (formulas.Or' p f q g) = Or (view f) (view g)
-view (formulas.Next' p f) = Next (view f)
-view (formulas.Eventually' p f) = Eventually (view f)
-view (formulas.Always' p f) = Always (view f)
-view (formulas.Bounded' form ticks p f) = Bounded form ticks (view f)
-view (formulas.Until' form ticks p f q g) = Until form ticks (view f) (view g)
-view (formulas.Assign' name term p f) = Assign name term (view f)
+view (formulas.Truth b) = Shape.Truth b
+view (formulas.Atom a) = Shape.Atom a
+view (formulas.Not' p f) = Shape.Not (view f)
+view (formulas.And' p f q g) = Shape.And (view f) (view g)
+view (formulas.Or' p f q g) = Shape.Or (view f) (view g)
+view (formulas.Next' p f) = Shape.Next (view f)
+view (formulas.Eventually' p f) = Shape.Eventually (view f)
+view (formulas.Always' p f) = Shape.Always (view f)
+view (formulas.Bounded' form ticks p f) = Shape.Bounded form ticks (view f)
+view (formulas.Until' form ticks p f q g) = Shape.Until form ticks (view f) (view g)
+view (formulas.Assign' name term p f) = Shape.Assign (name, term) (view f)
 
 -- the tree of a query of the program
 abbrev pub query_view : Query → QueryTree

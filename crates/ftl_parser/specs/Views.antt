@@ -5,14 +5,11 @@ use Rattle.ftl_parser.specs.declared.head.State as state_type
 use Rattle.ftl_parser.specs.declared.head.State.TheVariants as states
 use Rattle.ftl_parser.specs.declared.head.Kept.{Kept}
 use Rattle.ftl_parser.specs.declared.head.Spelled.{Spelled}
-use Rattle.ftl_parser.specs.declared.phase.Phase as phase_type
-use Rattle.ftl_parser.specs.declared.phase.Phase.TheVariants as phases
 use Rattle.ftl_parser.specs.declared.state.Spatial.TheVariants as spatials
-use Rattle.ftl_parser.specs.declared.frame.Frame as frame_type
-use Rattle.ftl_parser.specs.declared.frame.Frame.TheVariants as frames
 use Rattle.ftl_parser.specs.declared.piece.Piece as piece_type
 use Rattle.ftl_parser.specs.declared.piece.Piece.TheVariants as pieces
-use Rattle.ftl_parser.specs.Tree.{view, QueryTree}
+use Rattle.ftl_parser.specs.Tree.{QueryTree}
+use Rattle.ftl_parser.specs.Words.{word_of}
 use Rattle.ftl_parser.specs.Machine.{Frame, Bracket, OrWith, AndWith, UntilWith, PrefixedBy, BoundedBy, Assigning, rank, Phase, Want, Have, Reach, Ticks, Variable, Arrow, InTerm, InSpatial, Body, State, Heading, Within, term_step, factor_ended, body_step}
 use Rattle.ftl_parser.specs.Piece.{Piece, RETRIEVE, FROM, WHERE, AND, OR, TRUTH, PREFIX, BOUNDED, UNTIL, INSIDE, OUTSIDE, DIST, SPHERE, TIME, PART, OPEN, CLOSE, OPEN_SQUARE, CLOSE_SQUARE, COMMA, POINT, PLUS, MINUS, STAR, ARROW, COMPARISON, NAME, NUMBER, TEXT, OTHER}
 
@@ -44,40 +41,19 @@ piece_view pieces.Minus = MINUS
 piece_view pieces.Star = STAR
 piece_view pieces.Arrow = ARROW
 piece_view (pieces.Comparison op) = COMPARISON op
-piece_view (pieces.Name n) = NAME n.now
+piece_view (pieces.Name n) = NAME (word_of n.now)
 piece_view (pieces.Number n) = NUMBER n.now
-piece_view (pieces.Text t) = TEXT t.now
+piece_view (pieces.Text t) = TEXT (word_of t.now)
 piece_view pieces.Other = OTHER
 
--- what waits for a formula
-abbrev pub frame_view : frame_type.Frame → Frame
-frame_view frames.Bracket = Bracket
-frame_view (frames.OrWith f) = OrWith (view f)
-frame_view (frames.AndWith f) = AndWith (view f)
-frame_view (frames.UntilWith form ticks f) = UntilWith form ticks (view f)
-frame_view (frames.PrefixedBy w) = PrefixedBy w
-frame_view (frames.BoundedBy form ticks) = BoundedBy form ticks
-frame_view (frames.Assigning v t) = Assigning v t
-
 -- the stack, whose topmost frame is the last one kept
-abbrev pub stack_of : List frame_type.Frame → List Frame
-stack_of = fold (λ s w. frame_view w ∷ s) []
+abbrev pub stack_of : List Frame → List Frame
+stack_of = fold (λ s w. w ∷ s) []
 
 -- the topmost frame, if there is one, binds less
 abbrev pub StaysBelow : ℕ → List Frame → Type 0
 StaysBelow least [] = Unit {0}
 StaysBelow least (w ∷ s) = rank w < least
-
--- what comes next in a formula
-abbrev pub phase_view : phase_type.Phase → Phase
-phase_view phases.Want = Want
-phase_view (phases.Have f) = Have (view f)
-phase_view (phases.Reach form f) = Reach form (view f)
-phase_view (phases.Ticks form) = Ticks form
-phase_view phases.Variable = Variable
-phase_view (phases.Arrow v) = Arrow v
-phase_view (phases.InTerm place fs last) = InTerm place fs last
-phase_view (phases.InSpatial x) = InSpatial x
 
 -- the factor is at the end of the others now, where there is one
 abbrev pub AddsWhole : List Signed → List Signed → Option Signed → Bool → Type 0
@@ -109,8 +85,8 @@ SomeIsOnTop old new = (w : Frame) × (old ≡ w ∷ new)
 abbrev pub taken_of : Bool → List Frame → Phase → Option Body
 taken_of taken s phase = if taken then Some (s, phase) else None
 
-abbrev pub body_of : Bool → List frame_type.Frame → phase_type.Phase → Option Body
-body_of taken stack phase = taken_of taken (stack_of stack) (phase_view phase)
+abbrev pub body_of : Bool → List Frame → Phase → Option Body
+body_of taken stack phase = taken_of taken (stack_of stack) phase
 
 -- a token in a term
 abbrev pub in_term : List Frame → Phase → Piece → Option Body
@@ -131,11 +107,11 @@ with_formula s phase p = None
 -- the state, with the lists that are kept
 abbrev pub kept_view : Kept → state_type.State → State
 kept_view kept (states.Heading h) = Heading h kept.targets kept.from
-kept_view kept (states.Within phase) = Within kept.targets kept.from (stack_of kept.stack.items, phase_view phase)
+kept_view kept (states.Within phase) = Within kept.targets kept.from (stack_of kept.stack.items, phase)
 
 -- the state, if the token was taken
 abbrev pub state_of : Bool → Kept → state_type.State → Option State
 state_of taken kept state = if taken then Some (kept_view kept state) else None
 
 abbrev pub spelled_view : Spelled → QueryTree
-spelled_view q = record { targets = q.targets; from = q.from; formula = view q.formula }
+spelled_view q = record { targets = q.targets; from = q.from; formula = q.formula }

@@ -1,15 +1,13 @@
 //! A formula, token by token.
 
 ghost use Rattle.std.specs.Prelude.{◌≡◌, List, [], ◌∷◌, ◌++◌, IfOk, option_map};
-ghost use Rattle.ftl_parser.specs.Cut.{cut_piece};
+ghost use Rattle.formula_shape.specs.Shape.{Shape};
 ghost use Rattle.ftl_parser.specs.Grammar.{term_of};
 ghost use Rattle.ftl_parser.specs.Machine as machine;
 ghost use Rattle.ftl_parser.specs.Machine.{behind, closed, term_ended, wanted, body_step, body_end, reduced, alone, compared, whole};
 ghost use Rattle.ftl_parser.specs.Piece.{UNTIL};
-ghost use Rattle.ftl_parser.specs.Tree as trees;
-ghost use Rattle.ftl_parser.specs.Tree.{view as tree_of};
 ghost use Rattle.ftl_parser.specs.declared.tree.Atom.TheVariants as atoms;
-ghost use Rattle.ftl_parser.specs.Views.{body_of, behind_whole, in_term, taken_of, with_formula, phase_view, piece_view, stack_of};
+ghost use Rattle.ftl_parser.specs.Views.{body_of, behind_whole, in_term, taken_of, with_formula, piece_view, stack_of};
 
 use crate::factor::{add_whole, lengthen};
 use crate::frame::{Frame, pop, reduced};
@@ -32,7 +30,7 @@ fn closed(
     phase: &mut Phase,
     formula: Measured,
 ) -> Result<bool, AllocError>
-    ensures { IfOk result (λ taken. body_of taken stack.new.items phase.new ≡ closed (reduced 1 (tree_of formula) (stack_of stack.old.items))) }
+    ensures { IfOk result (λ taken. body_of taken stack.new.items phase.new ≡ closed (reduced 1 formula (stack_of stack.old.items))) }
 {
     let formula = reduced(alloc, 1, formula, stack)?;
     if pop(stack) {
@@ -51,7 +49,7 @@ fn until(
     form: UntilForm,
     formula: Measured,
 ) -> Result<bool, AllocError>
-    ensures { IfOk result (λ taken. body_of taken stack.new.items phase.new ≡ behind (tree_of formula) (stack_of stack.old.items) (UNTIL form)) }
+    ensures { IfOk result (λ taken. body_of taken stack.new.items phase.new ≡ behind formula (stack_of stack.old.items) (UNTIL form)) }
 {
     let left = reduced(alloc, 4, formula, stack)?;
     match form {
@@ -72,7 +70,7 @@ fn behind(
     formula: Measured,
     piece: Piece<'_>,
 ) -> Result<bool, AllocError>
-    ensures { IfOk result (λ taken. body_of taken stack.new.items phase.new ≡ behind (tree_of formula) (stack_of stack.old.items) (cut_piece (piece_view piece.entry))) }
+    ensures { IfOk result (λ taken. body_of taken stack.new.items phase.new ≡ behind formula (stack_of stack.old.items) (piece_view piece.entry)) }
 {
     match piece {
         Piece::Or => {
@@ -94,7 +92,7 @@ fn behind(
 }
 
 fn comparison(left: Term, op: Op, right: Factors) -> Measured
-    ensures { tree_of result ≡ trees.Tree.Atom (atoms.Compare left op (term_of right)) }
+    ensures { result ≡ Shape.Atom (atoms.Compare left op (term_of right)) }
 {
     Measured::atom(Atom::Compare(left, op, Term { factors: right }))
 }
@@ -108,7 +106,7 @@ fn term_ended(
     factors: Factors,
     piece: Piece<'_>,
 ) -> Result<bool, AllocError>
-    ensures { IfOk result (λ taken. body_of taken stack.new.items phase.new ≡ term_ended (stack_of stack.old.items) place factors (cut_piece (piece_view piece.entry))) }
+    ensures { IfOk result (λ taken. body_of taken stack.new.items phase.new ≡ term_ended (stack_of stack.old.items) place factors (piece_view piece.entry)) }
 {
     match place {
         TermPlace::Left => match piece {
@@ -141,7 +139,7 @@ fn factor_ended(
     phase: &mut Phase,
     piece: Piece<'_>,
 ) -> Result<bool, AllocError>
-    ensures { IfOk result (λ taken. body_of taken stack.new.items phase.new ≡ behind_whole (stack_of stack.old.items) (phase_view phase.old) (cut_piece (piece_view piece.entry))) }
+    ensures { IfOk result (λ taken. body_of taken stack.new.items phase.new ≡ behind_whole (stack_of stack.old.items) phase.old (piece_view piece.entry)) }
 {
     let Phase::InTerm(_, _, last) = phase else {
         return Ok(false);
@@ -172,7 +170,7 @@ fn term_step(
     phase: &mut Phase,
     piece: Piece<'_>,
 ) -> Result<bool, AllocError>
-    ensures { IfOk result (λ taken. body_of taken stack.new.items phase.new ≡ in_term (stack_of stack.old.items) (phase_view phase.old) (cut_piece (piece_view piece.entry))) }
+    ensures { IfOk result (λ taken. body_of taken stack.new.items phase.new ≡ in_term (stack_of stack.old.items) phase.old (piece_view piece.entry)) }
 {
     let Phase::InTerm(_, factors, last) = phase else {
         return Ok(false);
@@ -195,7 +193,7 @@ fn wanted(
     phase: &mut Phase,
     piece: Piece<'_>,
 ) -> Result<bool, AllocError>
-    ensures { IfOk result (λ taken. body_of taken stack.new.items phase.new ≡ wanted (stack_of stack.old.items) (cut_piece (piece_view piece.entry))) }
+    ensures { IfOk result (λ taken. body_of taken stack.new.items phase.new ≡ wanted (stack_of stack.old.items) (piece_view piece.entry)) }
 {
     *phase = match piece {
         Piece::Truth(value) => Phase::Have(Measured::truth(value)),
@@ -229,7 +227,7 @@ fn reached(
     left: Measured,
     piece: Piece<'_>,
 ) -> Result<bool, AllocError>
-    ensures { IfOk result (λ taken. body_of taken stack.new.items phase.new ≡ body_step (stack_of stack.old.items) (machine.Reach form (tree_of left)) (cut_piece (piece_view piece.entry))) }
+    ensures { IfOk result (λ taken. body_of taken stack.new.items phase.new ≡ body_step (stack_of stack.old.items) (machine.Reach form left) (piece_view piece.entry)) }
 {
     match piece {
         Piece::Number(number) => {
@@ -249,7 +247,7 @@ fn bounded(
     form: BoundForm,
     piece: Piece<'_>,
 ) -> Result<bool, AllocError>
-    ensures { IfOk result (λ taken. body_of taken stack.new.items phase.new ≡ body_step (stack_of stack.old.items) (machine.Ticks form) (cut_piece (piece_view piece.entry))) }
+    ensures { IfOk result (λ taken. body_of taken stack.new.items phase.new ≡ body_step (stack_of stack.old.items) (machine.Ticks form) (piece_view piece.entry)) }
 {
     match piece {
         Piece::Number(number) => {
@@ -264,7 +262,7 @@ fn bounded(
 // The name of an assignment.
 #[inline(never)]
 fn variable(phase: &mut Phase, piece: Piece<'_>) -> bool
-    ensures { (s : List machine.Frame) → taken_of result s (phase_view phase.new) ≡ body_step s machine.Variable (cut_piece (piece_view piece.entry)) }
+    ensures { (s : List machine.Frame) → taken_of result s phase.new ≡ body_step s machine.Variable (piece_view piece.entry) }
 {
     match piece {
         Piece::Name(name) => *phase = Phase::Arrow(word(name)),
@@ -276,7 +274,7 @@ fn variable(phase: &mut Phase, piece: Piece<'_>) -> bool
 // The arrow of an assignment.
 #[inline(never)]
 fn arrow(alloc: Global, phase: &mut Phase, name: Word, piece: Piece<'_>) -> bool
-    ensures { (s : List machine.Frame) → taken_of result s (phase_view phase.new) ≡ body_step s (machine.Arrow name) (cut_piece (piece_view piece.entry)) }
+    ensures { (s : List machine.Frame) → taken_of result s phase.new ≡ body_step s (machine.Arrow name) (piece_view piece.entry) }
 {
     match piece {
         Piece::Arrow => {
@@ -296,7 +294,7 @@ fn formula_step(
     phase: &mut Phase,
     piece: Piece<'_>,
 ) -> Result<bool, AllocError>
-    ensures { IfOk result (λ taken. body_of taken stack.new.items phase.new ≡ with_formula (stack_of stack.old.items) (phase_view phase.old) (cut_piece (piece_view piece.entry))) }
+    ensures { IfOk result (λ taken. body_of taken stack.new.items phase.new ≡ with_formula (stack_of stack.old.items) phase.old (piece_view piece.entry)) }
 {
     match mem::replace(phase, Phase::Want) {
         Phase::Have(formula) => behind(alloc, stack, phase, formula, piece),
@@ -313,7 +311,7 @@ pub(crate) fn body_step(
     phase: &mut Phase,
     piece: Piece<'_>,
 ) -> Result<bool, AllocError>
-    ensures { IfOk result (λ taken. body_of taken stack.new.items phase.new ≡ body_step (stack_of stack.old.items) (phase_view phase.old) (cut_piece (piece_view piece.entry))) }
+    ensures { IfOk result (λ taken. body_of taken stack.new.items phase.new ≡ body_step (stack_of stack.old.items) phase.old (piece_view piece.entry)) }
 {
     match phase {
         Phase::Want => wanted(alloc, stack, phase, piece),
@@ -338,7 +336,7 @@ fn alone(
     formula: Measured,
     stack: &mut Vec<Frame>,
 ) -> Result<Option<Measured>, AllocError>
-    ensures { IfOk result (λ r. option_map tree_of r ≡ alone (reduced 1 (tree_of formula) (stack_of stack.old.items))) }
+    ensures { IfOk result (λ r. r ≡ alone (reduced 1 formula (stack_of stack.old.items))) }
 {
     let formula = reduced(alloc, 1, formula, stack)?;
     if pop(stack) {
@@ -357,7 +355,7 @@ fn compared(
     mut factors: Factors,
     last: &Factor,
 ) -> Result<Option<Measured>, AllocError>
-    ensures { IfOk result (λ r. option_map tree_of r ≡ compared (stack_of stack.old.items) left op factors (whole last.now)) }
+    ensures { IfOk result (λ r. r ≡ compared (stack_of stack.old.items) left op factors (whole last.now)) }
 {
     if add_whole(&mut factors, last)? {
         alone(alloc, comparison(left, op, factors), stack)
@@ -372,7 +370,7 @@ pub(crate) fn body_end(
     stack: &mut Vec<Frame>,
     phase: Phase,
 ) -> Result<Option<Measured>, AllocError>
-    ensures { IfOk result (λ r. option_map tree_of r ≡ body_end (stack_of stack.old.items) (phase_view phase)) }
+    ensures { IfOk result (λ r. r ≡ body_end (stack_of stack.old.items) phase) }
 {
     match phase {
         Phase::Have(formula) => alone(alloc, formula, stack),

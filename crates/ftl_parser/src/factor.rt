@@ -1,7 +1,6 @@
 //! The factors of a term, token by token.
 
 ghost use Rattle.std.specs.Prelude.{◌≡◌, [], ◌∷◌, ◌++◌, Some, None, IfOk, IsTrue, true, false, MatchBool, MatchOption};
-ghost use Rattle.ftl_parser.specs.Cut.{cut_piece};
 ghost use Rattle.ftl_parser.specs.Machine.{reference, factor_begun, term_begun, lengthened, whole};
 ghost use Rattle.ftl_parser.specs.Views.{piece_view, AddsWhole};
 
@@ -14,8 +13,8 @@ use std::alloc::AllocError;
 
 // The beginning of a reference. Says whether the token is one; where it isn't, nothing changes.
 fn refer(last: &mut Factor, minus: bool, multiplier: Option<u32>, piece: Piece<'_>) -> bool
-    ensures { MatchBool result (reference minus multiplier (cut_piece (piece_view piece.entry)) ≡ Some last.new)
-        ((reference minus multiplier (cut_piece (piece_view piece.entry)) ≡ None) × (last.new ≡ last.old)) }
+    ensures { MatchBool result (reference minus multiplier (piece_view piece.entry) ≡ Some last.new)
+        ((reference minus multiplier (piece_view piece.entry) ≡ None) × (last.new ≡ last.old)) }
 {
     match piece {
         Piece::Name(name) => *last = Factor::Alone(minus, multiplier, word(name)),
@@ -27,8 +26,8 @@ fn refer(last: &mut Factor, minus: bool, multiplier: Option<u32>, piece: Piece<'
 
 // The beginning of a factor behind its sign.
 fn begin_factor(last: &mut Factor, minus: bool, piece: Piece<'_>) -> bool
-    ensures { MatchBool result (factor_begun minus (cut_piece (piece_view piece.entry)) ≡ Some last.new)
-        ((factor_begun minus (cut_piece (piece_view piece.entry)) ≡ None) × (last.new ≡ last.old)) }
+    ensures { MatchBool result (factor_begun minus (piece_view piece.entry) ≡ Some last.new)
+        ((factor_begun minus (piece_view piece.entry) ≡ None) × (last.new ≡ last.old)) }
 {
     match piece {
         Piece::Number(number) => *last = Factor::Number(minus, literal(number), times(number)),
@@ -40,8 +39,8 @@ fn begin_factor(last: &mut Factor, minus: bool, piece: Piece<'_>) -> bool
 
 // The beginning of a term.
 fn begin_term(last: &mut Factor, piece: Piece<'_>) -> bool
-    ensures { MatchBool result (term_begun (cut_piece (piece_view piece.entry)) ≡ Some last.new)
-        ((term_begun (cut_piece (piece_view piece.entry)) ≡ None) × (last.new ≡ last.old)) }
+    ensures { MatchBool result (term_begun (piece_view piece.entry) ≡ Some last.new)
+        ((term_begun (piece_view piece.entry) ≡ None) × (last.new ≡ last.old)) }
 {
     match piece {
         Piece::Minus => {
@@ -54,8 +53,8 @@ fn begin_term(last: &mut Factor, piece: Piece<'_>) -> bool
 
 // Makes the factor longer by a token, where the token does that; else nothing changes.
 pub(crate) fn lengthen(last: &mut Factor, piece: Piece<'_>) -> bool
-    ensures { MatchBool result (lengthened last.old (cut_piece (piece_view piece.entry)) ≡ Some last.new)
-        ((lengthened last.old (cut_piece (piece_view piece.entry)) ≡ None) × (last.new ≡ last.old)) }
+    ensures { MatchBool result (lengthened last.old (piece_view piece.entry) ≡ Some last.new)
+        ((lengthened last.old (piece_view piece.entry) ≡ None) × (last.new ≡ last.old)) }
 {
     match (&*last, piece) {
         (Factor::First, _) => return begin_term(last, piece),

@@ -2,8 +2,7 @@
 
 ghost use Rattle.std.specs.Prelude.{◌≡◌, ◌≤◌, [], ◌∷◌, IfOk, OnOk, MatchBool, MatchOption};
 ghost use Rattle.ftl_parser.specs.Machine.{rank, filled, reduced};
-ghost use Rattle.ftl_parser.specs.Tree.{view as tree_of};
-ghost use Rattle.ftl_parser.specs.Views.{frame_view, stack_of, SomeIsOnTop, StaysBelow};
+ghost use Rattle.ftl_parser.specs.Views.{stack_of, SomeIsOnTop, StaysBelow};
 
 use crate::Term;
 use crate::measured::Measured;
@@ -25,7 +24,7 @@ pub(crate) enum Frame {
 
 // How strongly a frame binds.
 fn rank(frame: &Frame) -> u8
-    ensures { result ≡ rank (frame_view frame.now) }
+    ensures { result ≡ rank frame.now }
 {
     match frame {
         Frame::Bracket => 0,
@@ -38,7 +37,7 @@ fn rank(frame: &Frame) -> u8
 
 // The formula of a frame with this one on its right.
 fn filled(alloc: Global, frame: Frame, right: Measured) -> Result<Measured, AllocError>
-    ensures { IfOk result (λ m. tree_of m ≡ filled (frame_view frame) (tree_of right)) }
+    ensures { IfOk result (λ m. m ≡ filled frame right) }
 {
     match frame {
         Frame::Bracket => Ok(right),
@@ -54,7 +53,7 @@ fn filled(alloc: Global, frame: Frame, right: Measured) -> Result<Measured, Allo
 // Takes the topmost frame, where it binds at least so strongly.
 fn pop_from(stack: &mut Vec<Frame>, least: u8) -> Option<Frame>
     ensures { MatchOption result ((stack_of stack.new.items ≡ stack_of stack.old.items) × StaysBelow least (stack_of stack.old.items))
-        (λ w. (stack_of stack.old.items ≡ frame_view w ∷ stack_of stack.new.items) × (least ≤ rank (frame_view w))) }
+        (λ w. (stack_of stack.old.items ≡ w ∷ stack_of stack.new.items) × (least ≤ rank w)) }
 {
     match stack.last() {
         Some(top) if rank(top) >= least => stack.pop(),
@@ -69,7 +68,7 @@ pub(crate) fn reduced(
     formula: Measured,
     stack: &mut Vec<Frame>,
 ) -> Result<Measured, AllocError>
-    ensures value { IfOk result (λ m. reduced least (tree_of formula) (stack_of stack.old.items) ≡ (tree_of m, stack_of stack.new.items)) }
+    ensures value { IfOk result (λ m. reduced least formula (stack_of stack.old.items) ≡ (m, stack_of stack.new.items)) }
     ensures below { OnOk result (StaysBelow least (stack_of stack.new.items)) }
 {
     let mut formula = formula;

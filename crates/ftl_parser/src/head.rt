@@ -1,10 +1,8 @@
 //! A query, token by token.
 
 ghost use Rattle.std.specs.Prelude.{◌≡◌, [], ◌∷◌, ◌++◌, IfOk, option_map};
-ghost use Rattle.ftl_parser.specs.Cut.{cut_piece};
 ghost use Rattle.ftl_parser.specs.Machine.{heading_step, step, ended, body_end};
-ghost use Rattle.ftl_parser.specs.Tree.{view as tree_of};
-ghost use Rattle.ftl_parser.specs.Views.{kept_view, phase_view, piece_view, spelled_view, stack_of, state_of};
+ghost use Rattle.ftl_parser.specs.Views.{kept_view, piece_view, spelled_view, stack_of, state_of};
 
 use crate::FromPart;
 use crate::body::{body_end, body_step};
@@ -43,7 +41,7 @@ pub(crate) struct Spelled {
 // A token before WHERE.
 #[inline(never)]
 fn heading_step(kept: &mut Kept, head: &Head, piece: Piece<'_>) -> Result<Option<State>, AllocError>
-    ensures { IfOk result (λ r. option_map (kept_view kept.new) r ≡ heading_step head.now kept.old.targets kept.old.from (cut_piece (piece_view piece.entry))) }
+    ensures { IfOk result (λ r. option_map (kept_view kept.new) r ≡ heading_step head.now kept.old.targets kept.old.from (piece_view piece.entry)) }
 {
     let next = match (head, piece) {
         (Head::Start, Piece::Retrieve) => Head::Target,
@@ -76,7 +74,7 @@ pub(crate) fn step(
     state: &mut State,
     piece: Piece<'_>,
 ) -> Result<bool, AllocError>
-    ensures { IfOk result (λ taken. state_of taken kept.new state.new ≡ step (kept_view kept.old state.old) (cut_piece (piece_view piece.entry))) }
+    ensures { IfOk result (λ taken. state_of taken kept.new state.new ≡ step (kept_view kept.old state.old) (piece_view piece.entry)) }
 {
     match state {
         State::Heading(head) => match heading_step(kept, head, piece)? {

@@ -1,7 +1,7 @@
 //! The sizes of a query, in the order in which they are judged.
 
 ghost use Rattle.std.specs.Prelude.{◌≡◌, ◌<◌, List, [], ◌∷◌, find, length, nat_lt, option_map};
-ghost use Rattle.ftl_parser.specs.Measure.{first_passed};
+ghost use Rattle.ftl_parser.specs.Sizes.{first_too_large};
 ghost use Rattle.ftl_parser.specs.Views.{spelled_view};
 
 use crate::Size;
@@ -12,7 +12,7 @@ use crate::limits::{
 
 // The first size that passes its limit; `long` says whether a name or a text passes its own.
 pub(crate) fn first_too_large(query: &Spelled, long: bool) -> Option<Size>
-    ensures { result ≡ first_passed (spelled_view query.now) long }
+    ensures { result ≡ first_too_large long (spelled_view query.now) }
 {
     let sizes = query.formula.sizes();
     if query.from.items().len() > VARIABLE_LIMIT {

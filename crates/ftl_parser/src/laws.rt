@@ -5,6 +5,7 @@ ghost use Rattle.ftl_parser.specs.declared.limits.TheConstants.{TIMES_LIMIT, VAR
 ghost use Rattle.ftl_parser.specs.Example.{FindsUnfitNumbers, JudgesSizes, ParsesSmallQueries, StopsAtTheEnd};
 ghost use Rattle.ftl_parser.specs.Grammar.{SpellsQuery};
 ghost use Rattle.ftl_parser.specs.Marks.{first_unfit};
+ghost use Rattle.ftl_parser.specs.Order.{TermsIn, query_names, query_terms, query_texts, token_names, token_texts};
 ghost use Rattle.ftl_parser.specs.Piece.{Piece};
 ghost use Rattle.ftl_parser.specs.Tree.{QueryTree};
 
@@ -42,6 +43,15 @@ pub fn tokens_spell_at_most_one_query()
 #[tactic(auto, using(crate::proofs::Marks::one_first_unfit))]
 pub fn unfit_numbers_are_those_of_the_tokens()
     ensures { (tokens : List Piece) (q r : QueryTree) (d : SpellsQuery q tokens) (e : SpellsQuery r tokens) → first_unfit d ≡ first_unfit e }
+{}
+
+/// The names of a query, in the order in which it is written, are those among its tokens, and so are its
+/// texts. Its terms are spelled by runs of its tokens, one behind the other.
+#[tactic(auto, using(crate::proofs::OrderLemmas::names_in_order, crate::proofs::OrderLemmas::texts_in_order, crate::proofs::OrderLemmas::terms_in_order))]
+pub fn names_and_terms_stand_in_order()
+    ensures names { (tokens : List Piece) (q : QueryTree) → SpellsQuery q tokens → query_names q ≡ token_names tokens }
+    ensures texts { (tokens : List Piece) (q : QueryTree) → SpellsQuery q tokens → query_texts q ≡ token_texts tokens }
+    ensures terms { (tokens : List Piece) (q : QueryTree) → SpellsQuery q tokens → TermsIn (query_terms q) tokens }
 {}
 
 /// The limits of this crate by their numbers.

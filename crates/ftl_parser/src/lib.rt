@@ -4,6 +4,7 @@
 mod body;
 mod factor;
 mod fault;
+mod formula_sizes;
 mod frame;
 mod head;
 mod judge;
@@ -22,17 +23,18 @@ mod text_laws;
 mod tree;
 
 pub use fault::{ParseFault, Size};
+pub use formula_sizes::{has_circle, has_not, most_names, nesting};
 pub use laws::{
-    an_unended_query_stops_at_its_end, limits_in_numbers, numbers_out_of_range_are_found,
-    sizes_are_judged_in_order, small_queries_are_parsed, tokens_spell_at_most_one_query,
-    unfit_numbers_are_those_of_the_tokens,
+    an_unended_query_stops_at_its_end, limits_in_numbers, names_and_terms_stand_in_order,
+    numbers_out_of_range_are_found, sizes_are_judged_in_order, small_queries_are_parsed,
+    tokens_spell_at_most_one_query, unfit_numbers_are_those_of_the_tokens,
 };
 pub use limits::{
     ASSIGNMENT_LIMIT, DEPTH_LIMIT, FACTOR_LIMIT, NODE_LIMIT, OBJECT_LIMIT, TIMES_LIMIT,
     VARIABLE_LIMIT,
 };
 pub use lists::{Factors, FromParts, Names};
-pub use number::whole;
+pub use number::{is_short, whole, word};
 pub use printing::{print, print_onto};
 pub use reading::parse;
 pub use text_laws::{

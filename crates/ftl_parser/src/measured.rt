@@ -1,13 +1,13 @@
 //! Formulas with their sizes, so that no formula is walked again.
 
 ghost use Rattle.std.specs.Prelude.{◌≡◌, max, IfOk, length};
+ghost use Rattle.formula_shape.specs.Shape.{Shape};
 ghost use Rattle.ftl_parser.specs.Grammar.{prefixed, term_of};
 ghost use Rattle.ftl_parser.specs.Measure.{measure, leaf, under, assigned, joined};
 ghost use Rattle.ftl_parser.specs.Sizes.{atom_objects, atom_factors};
-ghost use Rattle.ftl_parser.specs.Tree as trees;
 ghost use Rattle.ftl_parser.specs.Tree.{view as tree_of};
-ghost use Rattle.ftl_parser.specs.declared.tree.Formula.TheVariants as formulas;
 
+use crate::formula_sizes::names_in;
 use crate::state::Prefix;
 use crate::{Atom, Formula, Term};
 use fixed_point::{BoundForm, UntilForm, Word};
@@ -78,16 +78,6 @@ impl Sizes {
     }
 }
 
-// The names of an atom's circle.
-fn objects_of(atom: &Atom) -> usize
-    ensures { result ≡ atom_objects atom.now }
-{
-    match atom {
-        Atom::Sphere(_, names) => names.items().len(),
-        _ => 0,
-    }
-}
-
 // The most factors of one of an atom's terms.
 fn factors_of(atom: &Atom) -> usize
     ensures { result ≡ atom_factors atom.now }
@@ -101,7 +91,7 @@ fn factors_of(atom: &Atom) -> usize
     }
 }
 
-/// A formula with its sizes. A contract sees the formula.
+/// A formula with its sizes. A contract sees the tree of the formula.
 #[derive(Debug, Drop)]
 pub(crate) struct Measured {
     formula: Formula,
@@ -109,19 +99,19 @@ pub(crate) struct Measured {
 }
 
 impl Model for Measured {
-    ghost use Rattle.std.specs.Prelude.{◌≡◌};
+    ghost use Rattle.std.specs.Prelude.{◌≡◌, ℕ, List};
     ghost use Rattle.std.specs.Coded.{codes};
-    ghost use Rattle.ftl_parser.specs.contracts.tree.Formula as formula_contract;
-    ghost use Rattle.ftl_parser.specs.declared.tree.Formula.{Formula};
-
-    ghost Value = { Formula };
-
-    ghost coded = { Prim.hlevel (codes, formula_contract.the_row.coded) };
-
+    ghost use Rattle.formula_shape.specs.ShapeCode.{shape_code};
+    ghost use Rattle.ftl_parser.specs.declared.tree.Atom.{Atom};
+    ghost use Rattle.ftl_parser.specs.declared.tree.Term.{Term};
     ghost use Rattle.ftl_parser.specs.Measure.{measure};
-    ghost use Rattle.ftl_parser.specs.Tree.{view as tree_of};
+    ghost use Rattle.ftl_parser.specs.Tree.{Tree, view as tree_of};
 
-    ghost view = { λ a. a.formula };
+    ghost Value = { Tree };
+
+    ghost coded = { Prim.hlevel (codes, shape_code {A = Atom} {B = List ℕ × Term} (Prim.hlevel codes)) };
+
+    ghost view = { λ a. tree_of a.formula };
 
     ghost invariant = { λ a. a.sizes ≡ measure (tree_of a.formula) };
 }
@@ -129,7 +119,7 @@ impl Model for Measured {
 #[tactic(auto, using(crate::proofs::MeasureLemmas::measures))]
 impl Measured {
     pub(crate) fn truth(value: bool) -> Measured
-        ensures { result ≡ formulas.Truth value }
+        ensures { result ≡ Shape.Truth value }
     {
         Measured {
             formula: Formula::Truth(value),
@@ -138,9 +128,9 @@ impl Measured {
     }
 
     pub(crate) fn atom(atom: Atom) -> Measured
-        ensures { result ≡ formulas.Atom atom }
+        ensures { result ≡ Shape.Atom atom }
     {
-        let sizes = Sizes::leaf(objects_of(&atom), factors_of(&atom));
+        let sizes = Sizes::leaf(names_in(&atom), factors_of(&atom));
         Measured {
             formula: Formula::Atom(atom),
             sizes,
@@ -148,7 +138,7 @@ impl Measured {
     }
 
     pub(crate) fn prefixed(self, alloc: Global, word: Prefix) -> Result<Measured, AllocError>
-        ensures { IfOk result (λ m. tree_of m ≡ prefixed word (tree_of self)) }
+        ensures { IfOk result (λ m. m ≡ prefixed word self) }
     {
         let Measured { formula, sizes } = self;
         let sizes = sizes.under();
@@ -168,7 +158,7 @@ impl Measured {
         form: BoundForm,
         ticks: u32,
     ) -> Result<Measured, AllocError>
-        ensures { IfOk result (λ m. tree_of m ≡ trees.Tree.Bounded form ticks (tree_of self)) }
+        ensures { IfOk result (λ m. m ≡ Shape.Bounded form ticks self) }
     {
         let Measured { formula, sizes } = self;
         let sizes = sizes.under();
@@ -185,7 +175,7 @@ impl Measured {
         name: Word,
         term: Term,
     ) -> Result<Measured, AllocError>
-        ensures { IfOk result (λ m. tree_of m ≡ trees.Tree.Assign name term (tree_of self)) }
+        ensures { IfOk result (λ m. m ≡ Shape.Assign (name, term) self) }
     {
         let Measured { formula, sizes } = self;
         let sizes = sizes.assigned(term.factors.items().len());
@@ -197,7 +187,7 @@ impl Measured {
     }
 
     pub(crate) fn and(self, alloc: Global, right: Measured) -> Result<Measured, AllocError>
-        ensures { IfOk result (λ m. tree_of m ≡ trees.Tree.And (tree_of self) (tree_of right)) }
+        ensures { IfOk result (λ m. m ≡ Shape.And self right) }
     {
         let sizes = self.sizes.joined(&right.sizes);
         let left = Box::new(alloc, self.formula)?;
@@ -209,7 +199,7 @@ impl Measured {
     }
 
     pub(crate) fn or(self, alloc: Global, right: Measured) -> Result<Measured, AllocError>
-        ensures { IfOk result (λ m. tree_of m ≡ trees.Tree.Or (tree_of self) (tree_of right)) }
+        ensures { IfOk result (λ m. m ≡ Shape.Or self right) }
     {
         let sizes = self.sizes.joined(&right.sizes);
         let left = Box::new(alloc, self.formula)?;
@@ -227,7 +217,7 @@ impl Measured {
         ticks: u32,
         right: Measured,
     ) -> Result<Measured, AllocError>
-        ensures { IfOk result (λ m. tree_of m ≡ trees.Tree.Until form ticks (tree_of self) (tree_of right)) }
+        ensures { IfOk result (λ m. m ≡ Shape.Until form ticks self right) }
     {
         let sizes = self.sizes.joined(&right.sizes);
         let left = Box::new(alloc, self.formula)?;
@@ -240,13 +230,13 @@ impl Measured {
 
     // The sizes of the formula.
     pub(crate) fn sizes(&self) -> Sizes
-        ensures { result ≡ measure (tree_of self.now) }
+        ensures { result ≡ measure self.now }
     {
         self.sizes
     }
 
     pub(crate) fn into_formula(self) -> Formula
-        ensures { result ≡ self }
+        ensures { tree_of result ≡ self }
     {
         let Measured { formula, sizes: _ } = self;
         formula

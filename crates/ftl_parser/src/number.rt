@@ -1,11 +1,11 @@
 //! Numbers by their places, and words.
 
-ghost use Rattle.std.specs.Prelude.{◌≡◌, ◌≤◌, ◌≤ℤ◌, pos, neg_ℤ, unsigned_abs, IfSome};
+ghost use Rattle.std.specs.Prelude.{◌≡◌, ◌≤◌, ◌≤ℤ◌, pos, neg_ℤ, unsigned_abs, [], IfSome};
 ghost use Rattle.fixed_point.specs.declared.number.TheConstants.{READ_LIMIT};
 ghost use Rattle.fixed_point.specs.Decimal.{thousandths_of};
 ghost use Rattle.geometry.specs.declared.limits.TheConstants.{RADIUS_LIMIT};
-ghost use Rattle.ftl_parser.specs.Cut.{cut_word};
 ghost use Rattle.ftl_parser.specs.Number.{whole_of, up_to, literal, radius, ticks, times, fits, Ticks, Times, Literal, Radius};
+ghost use Rattle.ftl_parser.specs.Words.{is_short, word_of};
 
 use crate::limits::TIMES_LIMIT;
 use fixed_point::{Fix, Slope, WORD_LIMIT, Word};
@@ -124,14 +124,26 @@ pub(crate) fn radius_fits(text: &[u8]) -> bool
     read_radius(text).is_some()
 }
 
-// A name or a text, cut to the bytes that a word has room for.
-#[tactic(auto, using(crate::proofs::CutLemmas::cut_steps))]
-pub(crate) fn word(bytes: &[u8]) -> Word
-    ensures { result ≡ cut_word bytes.now }
+/// Whether a word has room for these bytes: there are at most `fixed_point::WORD_LIMIT`.
+pub fn is_short(bytes: &[u8]) -> bool
+    ensures { result ≡ is_short bytes.now }
 {
-    if bytes.len() <= WORD_LIMIT {
-        return Word::of(bytes).unwrap();
+    bytes.len() <= WORD_LIMIT
+}
+
+fn empty() -> Word
+    ensures { result ≡ [] }
+{
+    Word::of(b"").unwrap()
+}
+
+/// The word of these bytes; the empty one where there are more than a word has room for.
+#[inline]
+pub fn word(bytes: &[u8]) -> Word
+    ensures { result ≡ word_of bytes.now }
+{
+    match Word::of(bytes) {
+        Some(word) => word,
+        None => empty(),
     }
-    let (front, _) = bytes.split_at(WORD_LIMIT);
-    Word::of(front).unwrap()
 }

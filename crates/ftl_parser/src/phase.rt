@@ -1,13 +1,12 @@
 //! What comes next in a formula.
 
 ghost use Rattle.std.specs.Prelude.{◌≡◌, List, Some, IfOk};
-ghost use Rattle.ftl_parser.specs.Cut.{cut_piece};
+ghost use Rattle.formula_shape.specs.Shape.{Shape};
 ghost use Rattle.ftl_parser.specs.Machine as machine;
 ghost use Rattle.ftl_parser.specs.Machine.{body_step, spatial_step};
 ghost use Rattle.ftl_parser.specs.Piece.{CLOSE};
-ghost use Rattle.ftl_parser.specs.Tree as trees;
 ghost use Rattle.ftl_parser.specs.declared.state.Spatial.TheVariants as spatials;
-ghost use Rattle.ftl_parser.specs.Views.{phase_view, piece_view, taken_of, HasNames, IsPlain, IsSpatial};
+ghost use Rattle.ftl_parser.specs.Views.{piece_view, taken_of, HasNames, IsPlain, IsSpatial};
 
 use crate::Atom;
 use crate::lists::{Factors, Names};
@@ -41,14 +40,14 @@ pub(crate) enum Phase {
 }
 
 fn have(atom: Atom) -> Phase
-    ensures { phase_view result ≡ machine.Have (trees.Tree.Atom atom) }
+    ensures { result ≡ machine.Have (Shape.Atom atom) }
 {
     Phase::Have(Measured::atom(atom))
 }
 
 // What comes next behind the closing bracket after two names.
 fn pair_closed(pair: Pair, first: Word, second: Word) -> Phase
-    ensures { spatial_step (spatials.PairClose pair first second) CLOSE ≡ Some (phase_view result) }
+    ensures { spatial_step (spatials.PairClose pair first second) CLOSE ≡ Some result }
 {
     match pair {
         Pair::Inside => have(Atom::Inside(first, second)),
@@ -60,8 +59,8 @@ fn pair_closed(pair: Pair, first: Word, second: Word) -> Phase
 // A token in an atom that begins with its word, where no names of a circle are read.
 #[inline(never)]
 fn plain_step(alloc: Global, phase: &mut Phase, piece: Piece<'_>) -> bool
-    requires { IsPlain (phase_view phase.old) }
-    ensures { (s : List machine.Frame) → taken_of result s (phase_view phase.new) ≡ body_step s (phase_view phase.old) (cut_piece (piece_view piece.entry)) }
+    requires { IsPlain phase.old }
+    ensures { (s : List machine.Frame) → taken_of result s phase.new ≡ body_step s phase.old (piece_view piece.entry) }
 {
     let Phase::InSpatial(at) = phase else {
         return false;
@@ -107,8 +106,8 @@ fn plain_step(alloc: Global, phase: &mut Phase, piece: Piece<'_>) -> bool
 // A token where names of a circle are read.
 #[inline(never)]
 fn names_step(phase: &mut Phase, piece: Piece<'_>) -> Result<bool, AllocError>
-    requires { HasNames (phase_view phase.old) }
-    ensures { IfOk result (λ taken. (s : List machine.Frame) → taken_of taken s (phase_view phase.new) ≡ body_step s (phase_view phase.old) (cut_piece (piece_view piece.entry))) }
+    requires { HasNames phase.old }
+    ensures { IfOk result (λ taken. (s : List machine.Frame) → taken_of taken s phase.new ≡ body_step s phase.old (piece_view piece.entry)) }
 {
     let Phase::InSpatial(at) = phase else {
         return Ok(false);
@@ -143,8 +142,8 @@ pub(crate) fn spatial_step(
     phase: &mut Phase,
     piece: Piece<'_>,
 ) -> Result<bool, AllocError>
-    requires { IsSpatial (phase_view phase.old) }
-    ensures { IfOk result (λ taken. (s : List machine.Frame) → taken_of taken s (phase_view phase.new) ≡ body_step s (phase_view phase.old) (cut_piece (piece_view piece.entry))) }
+    requires { IsSpatial phase.old }
+    ensures { IfOk result (λ taken. (s : List machine.Frame) → taken_of taken s phase.new ≡ body_step s phase.old (piece_view piece.entry)) }
 {
     match phase {
         Phase::InSpatial(Spatial::SphereName(..) | Spatial::SphereNames(..)) => {

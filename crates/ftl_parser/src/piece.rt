@@ -144,6 +144,7 @@ pub(crate) fn piece_of(kind: Kind, bytes: &[u8]) -> Piece<'_>
 // The token at a place, by its kind and its bytes.
 pub(crate) fn lexeme_at(tokens: &Tokens, at: usize) -> (Kind, &[u8])
     requires { at < length (tokens_of tokens.now) }
+    ensures lexeme { slice_get (lexemes tokens.now) at ≡ Some (result.0, result.1.now) }
     ensures token { slice_get (pieces (lexemes tokens.now)) at ≡ Some (piece_of result.0 result.1.now) }
     ensures form { HasForm result.0 result.1.now }
 {

@@ -1,10 +1,10 @@
 //! From tokens to a query.
 
 ghost use Rattle.std.specs.Prelude.{◌≡◌, ℕ, IfOk, IfErr};
-ghost use Rattle.ftl_parser.specs.Cut.{cut_pieces};
 ghost use Rattle.ftl_parser.specs.Fault.{Explains, Reads};
+ghost use Rattle.ftl_parser.specs.Lawful.{IsLawful};
 ghost use Rattle.ftl_parser.specs.Parses.{Parses};
-ghost use Rattle.ftl_parser.specs.Piece.{pieces_from};
+ghost use Rattle.ftl_parser.specs.Piece.{lexemes_from, pieces_from};
 ghost use Rattle.ftl_parser.specs.Tree.{query_view};
 
 use crate::head::{Kept, Spelled, State, ended, step};
@@ -30,7 +30,7 @@ impl From<AllocError> for ParseFault {
 // The query that the tokens from a place on spell, up to its numbers and sizes.
 #[tactic(auto, using(crate::proofs::RunLemmas::run_steps))]
 fn spelled(alloc: Global, tokens: &Tokens, from: usize) -> Result<Spelled, ParseFault>
-    ensures { Parses from (cut_pieces (pieces_from from tokens.now)) result }
+    ensures { Parses from (pieces_from from tokens.now) result }
 {
     let mut kept = Kept {
         targets: Names::new(alloc),
@@ -52,11 +52,13 @@ fn spelled(alloc: Global, tokens: &Tokens, from: usize) -> Result<Spelled, Parse
 /// The query that the tokens from `from` to the end spell. `BadSyntax` tells the place behind the longest
 /// run of tokens from `from` on with which some query begins; `NumberRange` the first number token out of
 /// the form or range of its place, where the tokens are a query; `TooLarge` the first size in the order of
-/// `Size` that passes its limit, where no number does. Takes time linear in the tokens.
+/// `Size` that passes its limit, where no number does. No list of the query is empty, its numbers are in
+/// their ranges, and none of its sizes passes its limit (`lawful`).
 #[tactic(auto, using(crate::proofs::Judged::judgements))]
 pub fn parse(alloc: Global, tokens: &Tokens, from: usize) -> Result<Query, ParseFault>
-    ensures query { IfOk result (λ q. Reads (pieces_from from tokens.now) (query_view q)) }
-    ensures cause { IfErr result (Explains from (pieces_from from tokens.now)) }
+    ensures query { IfOk result (λ q. Reads (lexemes_from from tokens.now) (query_view q)) }
+    ensures lawful { IfOk result (λ q. IsLawful (query_view q)) }
+    ensures cause { IfErr result (Explains from (lexemes_from from tokens.now)) }
 {
     let query = spelled(alloc, tokens, from)?;
     if let Some(place) = first_unfit(tokens, from) {

@@ -3,17 +3,15 @@
 ghost use Rattle.std.specs.Prelude.{◌≡◌, ℕ, List};
 ghost use Rattle.ftl_lexer.specs.Cut.{HasForm};
 ghost use Rattle.ftl_lexer.specs.Tokens.{tokens_of, lexemes};
-ghost use Rattle.ftl_parser.specs.Piece.{piece_of, pieces, pieces_from, NUMBER};
+ghost use Rattle.ftl_parser.specs.Piece.{piece_of, pieces, pieces_from, lexemes_from, is_long, has_long, NUMBER};
 ghost use Rattle.ftl_parser.specs.declared.scan.Coming.TheVariants as comings;
-ghost use Rattle.ftl_parser.specs.Scan.{coming, first_from, mark, scan, star_next, has_long, piece_words};
-ghost use Rattle.ftl_parser.specs.Sizes.{is_long};
+ghost use Rattle.ftl_parser.specs.Scan.{coming, first_from, mark, scan, star_next};
 ghost use Rattle.ftl_parser.specs.Views.{piece_view};
-ghost use Rattle.std.specs.List.{list_any};
 
-use crate::number::{literal_fits, radius_fits, ticks_fit, times_fit};
-use crate::piece::{Piece, lexeme_at, piece_at, piece_of, sign, word};
-use fixed_point::{UntilForm, WORD_LIMIT};
-use ftl_lexer::{Kind, Tokens};
+use crate::number::{is_short, literal_fits, radius_fits, ticks_fit, times_fit};
+use crate::piece::{Piece, lexeme_at, piece_at, sign, word};
+use fixed_point::UntilForm;
+use ftl_lexer::{Kind, Tokens, unquoted};
 
 /// What the next number token is, by the tokens before it.
 #[derive(Clone, Copy, Debug, PartialEq, Eq)]
@@ -99,36 +97,26 @@ pub(crate) fn first_unfit(tokens: &Tokens, from: usize) -> Option<usize>
     None
 }
 
-// Whether this is a name or a text that is too long.
-fn is_long(piece: Piece<'_>) -> bool
-    ensures { result ≡ list_any is_long (piece_words (piece_view piece.entry)) }
-{
-    match piece {
-        Piece::Name(bytes) => bytes.len() > WORD_LIMIT,
-        Piece::Text(bytes) => bytes.len() > WORD_LIMIT,
-        _ => false,
-    }
-}
-
-// The same of a token by its kind and its bytes.
-fn is_long_token(kind: Kind, bytes: &[u8]) -> bool
+// Whether a token is a name or a text that is too long.
+fn is_long(kind: Kind, bytes: &[u8]) -> bool
     requires { HasForm kind bytes.now }
-    ensures { result ≡ list_any is_long (piece_words (piece_of kind bytes.now)) }
+    ensures { result ≡ is_long kind bytes.now }
 {
     match kind {
-        Kind::Sym(_) | Kind::Key(_) => false,
-        _ => is_long(piece_of(kind, bytes)),
+        Kind::Name => !is_short(bytes),
+        Kind::Text => !is_short(unquoted(bytes)),
+        Kind::Number | Kind::Sym(_) | Kind::Key(_) => false,
     }
 }
 
 // Whether some name or text from a place on is too long.
 #[tactic(auto, using(crate::proofs::TokenLemmas::token_steps))]
 pub(crate) fn has_long(tokens: &Tokens, from: usize) -> bool
-    ensures { result ≡ has_long (pieces_from from tokens.now) }
+    ensures { result ≡ has_long (lexemes_from from tokens.now) }
 {
     for at in from..tokens.len() {
         let (kind, bytes) = lexeme_at(tokens, at);
-        if is_long_token(kind, bytes) {
+        if is_long(kind, bytes) {
             return true;
         }
     }

@@ -1,4 +1,4 @@
-use crate::{ParseFault, Query, Size, parse};
+use crate::{Formula, ParseFault, Query, Size, has_circle, has_not, most_names, nesting, parse};
 use ftl_lexer::{LEXER_LIMIT, Tokens, tokens};
 use std::alloc::{AllocError, Global};
 use std::process::Abort;
@@ -224,6 +224,51 @@ fn lengths_have_limits(rt: HostRuntime) -> Result<(), Fail> {
     for (part, times, formula, limit) in rows {
         let formula = behind(rt.alloc(), part, times, formula)?;
         is_sized(&rt, rt.alloc(), &formula, limit)?;
+    }
+    Ok(())
+}
+
+// The most assignments in one another, the most names of one circle, and whether there is a NOT, and a circle.
+type Told = (usize, usize, bool, bool);
+
+fn told_of(formula: &Formula) -> Told {
+    (
+        nesting(formula),
+        most_names(formula),
+        has_not(formula),
+        has_circle(formula),
+    )
+}
+
+fn is_told(rt: &impl Abort, alloc: Global, formula: &[u8], told: Told) -> Result<(), Fail> {
+    let line = line_of(alloc, formula)?;
+    let read = read(alloc, &line);
+    assert!(rt;
+        matches!(&read, Ok(query) if told_of(&query.formula) == told),
+        "{formula:?} {read:?}"
+    );
+    Ok(())
+}
+
+#[test]
+fn formulas_tell_what_is_in_them(rt: HostRuntime) -> Result<(), Fail> {
+    let rows: [(&[u8], Told); 4] = [
+        (b"TRUE", (0, 0, false, false)),
+        (
+            b"[a <- 1] ([b <- 1] TRUE OR NOT [c <- 1] FALSE)",
+            (2, 0, true, false),
+        ),
+        (
+            b"WITHIN_SPHERE(1,a) AND ALWAYS WITHIN_SPHERE(2,a,b,c)",
+            (0, 3, false, true),
+        ),
+        (
+            b"[a <- 1] WITHIN_SPHERE(1,a,b) UNTIL [b <- 1] NOT TRUE",
+            (1, 2, true, true),
+        ),
+    ];
+    for (formula, told) in rows {
+        is_told(&rt, rt.alloc(), formula, told)?;
     }
     Ok(())
 }

@@ -2,8 +2,9 @@
 
 ghost use Rattle.ftl_parser.specs.TextLaws.{PrintsShorterThanFourLines, PrintsShortly, PrintsWhatIsRead, ReadsAgain, ReadsOneQuery, ReadsWhatIsPrinted, TokensFit};
 
-/// A query that tokens of a line spell can be printed so that it is read back: no list of it is empty, its
-/// names are name tokens, its texts have no quotes, and its numbers are in the ranges of their places.
+/// A query that tokens of a line spell, none of them a name or text that is too long, can be printed so
+/// that it is read back: no list of it is empty, its names are name tokens, its texts have no quotes, both
+/// have at most the bytes of a word, and its numbers are in the ranges of their places.
 #[tactic(auto, using(crate::proofs::TextShapes::prints_what_is_read))]
 pub fn read_queries_are_printable()
     ensures { PrintsWhatIsRead }

@@ -8,8 +8,8 @@ use Rattle.ftl_parser.specs.declared.tree.Unit as unit_type
 use Rattle.ftl_parser.specs.declared.tree.Signed.{Signed}
 use Rattle.ftl_parser.specs.declared.tree.Term.{Term}
 use Rattle.ftl_parser.specs.declared.tree.FromPart.{FromPart}
-use Rattle.ftl_parser.specs.Tree as formula
-use Rattle.ftl_parser.specs.Tree.{QueryTree}
+use Rattle.formula_shape.specs.Shape.{Shape}
+use Rattle.ftl_parser.specs.Tree.{Tree, QueryTree}
 use Rattle.line_meaning.specs.declared.question.Asked.{Asked}
 use Rattle.line_meaning.specs.declared.question.Question.{Question}
 
@@ -52,8 +52,8 @@ asked_by (atoms.Compare left op right) =
     asked op (option_and_then attribute_of (only left.factors)) (option_and_then number_of (only right.factors))
 asked_by _ = None
 
-abbrev pub asked_in : formula.Tree → Option Asked
-asked_in (formula.Atom atom) = asked_by atom
+abbrev pub asked_in : Tree → Option Asked
+asked_in (Shape.Atom atom) = asked_by atom
 asked_in _ = None
 
 abbrev pub question : Option (List ℕ) → Option FromPart → Option Asked → Option Question

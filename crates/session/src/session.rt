@@ -32,16 +32,18 @@ pub struct Session {
 }
 
 impl Model for Session {
-    ghost use Rattle.std.specs.Prelude.{List, refl};
+    ghost use Rattle.std.specs.Prelude.{ℕ, List, refl};
     ghost use Rattle.std.specs.Coded.{codes, code_by};
-    ghost use Rattle.command_text.specs.TreeCode.{tree_code};
+    ghost use Rattle.formula_shape.specs.ShapeCode.{shape_code};
+    ghost use Rattle.ftl_parser.specs.declared.tree.Atom.{Atom};
+    ghost use Rattle.ftl_parser.specs.declared.tree.Term.{Term};
     ghost use Rattle.command_text.specs.Journal.{Accepted};
     ghost use Rattle.line_meaning.specs.Step.{Held, held};
     ghost use Rattle.database.specs.Keeping.{Keeps};
 
     ghost Value = { Held };
 
-    ghost coded = { code_by (List Accepted) (Prim.hlevel (codes, tree_code (Prim.hlevel codes)))
+    ghost coded = { code_by (List Accepted) (Prim.hlevel (codes, shape_code {A = Atom} {B = List ℕ × Term} (Prim.hlevel codes)))
         (λ h. h.journal) (λ j. held j) (λ _. refl) };
 
     ghost view = { λ a. held a.journal };
