@@ -1,0 +1,9 @@
+pub mod ChangeLemmas
+pub mod HeldLemmas
+pub mod LawLemmas
+pub mod ListingLemmas
+pub mod MoveLemmas
+pub mod NextLemmas
+pub mod NumberLemmas
+pub mod PageLemmas
+pub mod RisingLemmas

@@ -1,0 +1,35 @@
+use Rattle.std.proofs.Common.{ℕ, ◌+◌, ◌*◌, ◌&&◌, not, Bool, ap, ◌∙◌}
+use Rattle.std.specs.Prelude.{option_to_list}
+use Rattle.std.specs.List.{list_any}
+use Rattle.tick_set.specs.Ticks.{within}
+use Rattle.kept_rows.specs.Changes.{after}
+use Rattle.kept_rows.specs.Listing.{times}
+use Rattle.kept_rows.specs.Rows.{row_has}
+use Rattle.kept_rows.proofs.MoveLemmas.{changed-ticks, rows-after, rows-before}
+use Rattle.kept_rows.proofs.moving.move_at.Goals as goal
+
+pub returns : goal.returns
+returns g c =
+    let rows : ℕ → ℕ → Bool = row_has g.S.TickSet.member c.args.kept.now in
+    let width : ℕ = c.args.targets.width in
+    let from : ℕ = c.args.target * width in
+    let lo : ℕ = c.args.window.lo in
+    let hi : ℕ = c.args.window.hi in
+    let anew : ℕ → Bool = λ t. list_any (λ x. g.S.TickSet.member x.ticks t) c.args.group.now in
+    let old : ℕ → Bool = λ t. list_any (λ x. rows x.number t) c.args.group.now in
+    ap option_to_list
+    (c.in_ok-line.ensures (times rows width c.args.target) (times (after g.S.TickSet.member c.args.group.now rows) width c.args.target) lo hi
+    (λ t.
+    changed-ticks _ _ (within lo hi t) (anew t) (old t) _ _ _
+    (c.in_ok-changed.ensures.gained t)
+    (c.in_ok-gained.ensures t ∙ ap (λ b. within lo hi t && (b && not (g.S.TickSet.member c.in_ok-old.old t))) (c.in_ok-anew.ensures t)
+    ∙ ap (λ b. within lo hi t && (anew t && not b)) (c.in_ok-old.ensures t))
+    (rows-after g.S.TickSet.member c.args.group.now rows from (from + width) t c.requires.group)
+    (rows-before c.args.group.now rows from (from + width) t c.requires.group))
+    (λ t.
+    changed-ticks _ _ (within lo hi t) (old t) (anew t) _ _ _
+    (c.in_ok-changed.ensures.lost t)
+    (c.in_ok-lost.ensures t ∙ ap (λ b. within lo hi t && (b && not (g.S.TickSet.member c.in_ok-anew.anew t))) (c.in_ok-old.ensures t)
+    ∙ ap (λ b. within lo hi t && (old t && not b)) (c.in_ok-anew.ensures t))
+    (rows-before c.args.group.now rows from (from + width) t c.requires.group)
+    (rows-after g.S.TickSet.member c.args.group.now rows from (from + width) t c.requires.group)))

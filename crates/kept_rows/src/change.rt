@@ -1,0 +1,120 @@
+//! Changes of rows, each with the memory that it needs to be made.
+ghost use Rattle.std.specs.Prelude.{◌≡◌, ◌<◌, ◌≤◌, ◌+◌, ◌/◌, ◌==◌, ◌||◌, ◌∷◌, ◌++◌, ℕ, [], true, false, All, length, map, if◌then◌else◌, IsTrue, ◌↔◌, IfOk, OnOk, OnErr};
+ghost use Rattle.kept_rows.specs.Rows.{is_made, is_whole, page_has, row_has};
+
+use crate::page::Page;
+use crate::rows::KeptRows;
+use std::alloc::{AllocError, Global};
+use std::marker::Model;
+use tick_set::TickSet;
+
+/// The new row of a number, with a page without ticks where the number's page isn't made.
+#[derive(Drop)]
+pub(crate) struct Change<S> {
+    pub(crate) number: u32,
+    pub(crate) ticks: S,
+    pub(crate) spare: Page<S>,
+}
+
+/// The rows of a query that a refresh found to differ, by ascending numbers.
+#[derive(Drop)]
+pub struct Changes<S> {
+    changes: Vec<Change<S>>,
+}
+
+impl<S> Model for Changes<S> {
+    ghost use Rattle.std.specs.Prelude.{List};
+    ghost use Rattle.kept_rows.specs.declared.change.Change.{Change};
+
+    ghost Value = { List (Change S) };
+
+    ghost view = { λ a. a.changes.items };
+}
+
+impl<S: TickSet> Changes<S> {
+    ghost use Rattle.kept_rows.specs.Changes.{AreReady, AreRising, DoDiffer, after};
+
+    /// No changes. It takes no memory.
+    pub fn new(alloc: Global) -> Changes<S>
+        ensures { result ≡ [] }
+    {
+        Changes {
+            changes: Vec::new(alloc),
+        }
+    }
+
+    /// Whether no row differs.
+    #[inline]
+    pub fn is_empty(&self) -> bool
+        ensures { IsTrue result ↔ (self.now ≡ []) }
+    {
+        self.changes.is_empty()
+    }
+
+    /// The changes.
+    #[inline]
+    pub(crate) fn items(&self) -> &[Change<S>]
+        ensures { result.now ≡ self.now }
+    {
+        &self.changes
+    }
+
+    /// Adds the row of a number above those that are there, if its ticks differ from those that are kept. After
+    /// an error the changes are as before.
+    pub fn note(
+        &mut self,
+        alloc: Global,
+        kept: &KeptRows<S>,
+        number: u32,
+        ticks: &S,
+    ) -> Result<(), AllocError>
+        requires there { number / 16 < length kept.now }
+        requires rising { AreRising number self.old }
+        requires ready { AreReady S.member kept.now self.old }
+        requires differ { DoDiffer S.member kept.now self.old }
+        ensures ready { OnOk result (AreReady S.member kept.now self.new) }
+        ensures rising { OnOk result (AreRising (number + 1) self.new) }
+        ensures differ { OnOk result (DoDiffer S.member kept.now self.new) }
+        ensures rows { OnOk result ((c t : ℕ) → after S.member self.new (row_has S.member kept.now) c t
+            ≡ (if c == number then S.member ticks.now t else after S.member self.old (row_has S.member kept.now) c t)) }
+        ensures err { OnErr result (self.new ≡ self.old) }
+    {
+        if ticks.equal(kept.row(number)) {
+            return Ok(());
+        }
+        let change = Change {
+            number,
+            ticks: ticks.copy(alloc)?,
+            spare: spare_page(alloc, kept, number)?,
+        };
+        self.changes.push(change)?;
+        Ok(())
+    }
+
+    /// Makes the changes. It takes no memory and can't fail.
+    pub fn commit(self, kept: &mut KeptRows<S>)
+        requires { AreReady S.member kept.old self }
+        ensures len { length kept.new ≡ length kept.old }
+        ensures rows { (c t : ℕ) → row_has S.member kept.new c t
+            ≡ after S.member self (row_has S.member kept.old) c t }
+    {
+        'changes: for change in self.changes {
+            kept.put(change.number, change.ticks, change.spare);
+        }
+    }
+}
+
+// A page without ticks, where the page of the number isn't made.
+fn spare_page<S: TickSet>(
+    alloc: Global,
+    kept: &KeptRows<S>,
+    number: u32,
+) -> Result<Page<S>, AllocError>
+    ensures page { IfOk result (λ spare. (is_made kept.now number || is_whole spare) ≡ true) }
+    ensures blank { IfOk result (λ spare. (i t : ℕ) → page_has S.member spare i t ≡ false) }
+{
+    if kept.has_page(number) {
+        return Ok(Page::none(alloc));
+    }
+    Page::blank(alloc)
+}

@@ -1,0 +1,121 @@
+//! Pages: the sets of 16 numbers one after another.
+ghost use Rattle.std.specs.Prelude.{◌≡◌, ◌<◌, ◌≤◌, ◌==◌, ◌||◌, ℕ, [], true, false, length, slice_get, slice_set, if◌then◌else◌, IfOk, IfSome, IfNone};
+ghost use Rattle.std.specs.Option.{option_copied};
+ghost use Rattle.kept_rows.specs.Listing.{IsNext};
+ghost use Rattle.kept_rows.specs.Rows.{IsPage, is_whole, page_has};
+
+use std::alloc::{AllocError, Global};
+use std::marker::Model;
+use tick_set::TickSet;
+
+/// How many numbers share a page.
+pub(crate) const PAGE: usize = 16;
+
+/// The sets of the numbers of a page, or none of them where the page isn't made. An empty set stands for a
+/// number without a row.
+#[derive(Drop)]
+pub(crate) struct Page<S> {
+    cells: Vec<S>,
+}
+
+impl<S> Model for Page<S> {
+    ghost use Rattle.std.specs.Prelude.{List};
+    ghost use Rattle.kept_rows.specs.Rows.{IsPage};
+
+    ghost Value = { List S };
+
+    ghost view = { λ a. a.cells.items };
+
+    ghost invariant = { λ a. IsPage a.cells.items };
+}
+
+impl<S: TickSet> Page<S> {
+    /// A page that isn't made. It takes no memory.
+    pub(crate) fn none(alloc: Global) -> Page<S>
+        ensures { result ≡ [] }
+    {
+        Page {
+            cells: Vec::new(alloc),
+        }
+    }
+
+    /// A page of sets without ticks.
+    pub(crate) fn blank(alloc: Global) -> Result<Page<S>, AllocError>
+        ensures whole { IfOk result (λ page. is_whole page ≡ true) }
+        ensures empty { IfOk result (λ page. (i t : ℕ) → page_has S.member page i t ≡ false) }
+    {
+        let mut cells = Vec::with_capacity(alloc, PAGE)?;
+        'cells: while cells.len() < PAGE {
+            cells.push(S::empty(alloc))?;
+        }
+        Ok(Page { cells })
+    }
+
+    /// Whether the page is made.
+    #[inline]
+    pub(crate) fn is_made(&self) -> bool
+        ensures { result ≡ is_whole self.now }
+    {
+        self.cells.len() == PAGE
+    }
+
+    /// The set at a place, from 0 to 15, if the page is made.
+    #[inline]
+    pub(crate) fn get(&self, at: usize) -> Option<&S>
+        ensures value { option_copied result ≡ slice_get self.now at }
+        ensures page { IsPage self.now }
+    {
+        self.cells.get(at)
+    }
+
+    /// The first place, from `from` on, whose set has a tick.
+    pub(crate) fn next(&self, from: usize) -> Option<usize>
+        ensures some { IfSome result (λ at. IsNext (page_has S.member self.now) from 16 at) }
+        ensures none { IfNone result ((i t : ℕ) → from ≤ i → page_has S.member self.now i t ≡ false) }
+    {
+        let mut at = from;
+        'cells: while let Some(ticks) = self.get(at) {
+            if !ticks.is_empty() {
+                return Some(at);
+            }
+            at += 1;
+        }
+        None
+    }
+
+    /// Writes a set at a place from 0 to 15. Where the page isn't made it is the spare one, which has no ticks.
+    pub(crate) fn put(&mut self, at: usize, ticks: S, spare: Page<S>)
+        requires at { at < 16 }
+        requires page { (is_whole self.old || is_whole spare) ≡ true }
+        requires blank { (i t : ℕ) → page_has S.member spare i t ≡ false }
+        ensures whole { is_whole self.new ≡ true }
+        ensures has { (i t : ℕ) → page_has S.member self.new i t
+            ≡ (if i == at then S.member ticks t else page_has S.member self.old i t) }
+    {
+        self.make(spare);
+        self.write(at, ticks);
+    }
+
+    // Puts the spare page, which has no ticks, in the place of one that isn't made.
+    fn make(&mut self, spare: Page<S>)
+        requires page { (is_whole self.old || is_whole spare) ≡ true }
+        requires blank { (i t : ℕ) → page_has S.member spare i t ≡ false }
+        ensures whole { is_whole self.new ≡ true }
+        ensures has { (i t : ℕ) → page_has S.member self.new i t ≡ page_has S.member self.old i t }
+    {
+        if !self.is_made() {
+            *self = spare;
+        }
+    }
+
+    // Writes a set into a page that is made.
+    fn write(&mut self, at: usize, ticks: S)
+        requires at { at < 16 }
+        requires page { is_whole self.old ≡ true }
+        ensures whole { is_whole self.new ≡ true }
+        ensures has { (i t : ℕ) → page_has S.member self.new i t
+            ≡ (if i == at then S.member ticks t else page_has S.member self.old i t) }
+    {
+        self.cells[at] = ticks;
+    }
+}

@@ -1,0 +1,86 @@
+//! Rows judged anew.
+ghost use Rattle.std.specs.Prelude.{◌≡◌, ◌<◌, ◌≤◌, ◌+◌, ◌*◌, ◌&&◌, ℕ, Bool, length, if◌then◌else◌, IfOk, OnOk};
+ghost use Rattle.tick_set.specs.TickList.{has};
+ghost use Rattle.kept_rows.specs.Changes.{AreReady, AreRising, DoDiffer, after};
+ghost use Rattle.kept_rows.specs.Numbers.{counts, holds, size_of};
+ghost use Rattle.kept_rows.specs.Rising.{IsRising};
+ghost use Rattle.kept_rows.specs.Rows.{HasRoom, row_has};
+
+use crate::binding::{BINDING_LIMIT, Variable};
+use crate::change::Changes;
+use crate::held::{all_numbers, held_numbers};
+use crate::rows::KeptRows;
+use std::alloc::{AllocError, Global};
+use tick_set::TickSet;
+
+/// What judges bindings by their numbers.
+pub trait Judge<S: TickSet> {
+    /// Whether a binding is full at a tick.
+    ghost full: { Self → ℕ → ℕ → Bool };
+
+    /// The ticks at which the binding of a number is full.
+    fn judge(&self, number: u32) -> &S
+        ensures { (t : ℕ) → S.member result.now t ≡ full self.now number t };
+}
+
+/// What has to change where each binding that holds the object that was written is judged anew: only rows that
+/// differ. It fails only where memory is out.
+pub fn refresh<S: TickSet, J: Judge<S>>(
+    alloc: Global,
+    kept: &KeptRows<S>,
+    variables: &[Variable],
+    judge: &J,
+) -> Result<Changes<S>, AllocError>
+    requires size { size_of variables.now ≤ BINDING_LIMIT }
+    requires room { HasRoom kept.now (size_of variables.now) }
+    ensures ready { IfOk result (λ f. AreReady S.member kept.now f) }
+    ensures rising { IfOk result (λ f. AreRising (size_of variables.now) f) }
+    ensures differ { IfOk result (λ f. DoDiffer S.member kept.now f) }
+    ensures rows { IfOk result (λ f. (c t : ℕ) → after S.member f (row_has S.member kept.now) c t
+        ≡ (if counts variables.now c && holds variables.now c then J.full judge.now c t else row_has S.member kept.now c t)) }
+{
+    let numbers = held_numbers(alloc, variables)?;
+    judged(alloc, kept, &numbers, judge)
+}
+
+/// What has to change where each binding is judged anew, as for a query that is registered.
+pub fn judge_all<S: TickSet, J: Judge<S>>(
+    alloc: Global,
+    kept: &KeptRows<S>,
+    variables: &[Variable],
+    judge: &J,
+) -> Result<Changes<S>, AllocError>
+    requires size { size_of variables.now ≤ BINDING_LIMIT }
+    requires room { HasRoom kept.now (size_of variables.now) }
+    ensures ready { IfOk result (λ f. AreReady S.member kept.now f) }
+    ensures rising { IfOk result (λ f. AreRising (size_of variables.now) f) }
+    ensures differ { IfOk result (λ f. DoDiffer S.member kept.now f) }
+    ensures rows { IfOk result (λ f. (c t : ℕ) → after S.member f (row_has S.member kept.now) c t
+        ≡ (if counts variables.now c then J.full judge.now c t else row_has S.member kept.now c t)) }
+{
+    let numbers = all_numbers(alloc, variables)?;
+    judged(alloc, kept, &numbers, judge)
+}
+
+// The rows of these numbers that differ from the kept ones, judged anew.
+fn judged<S: TickSet, J: Judge<S>>(
+    alloc: Global,
+    kept: &KeptRows<S>,
+    numbers: &[u32],
+    judge: &J,
+) -> Result<Changes<S>, AllocError>
+    requires { IsRising 0 (length kept.now * 16) numbers.now }
+    ensures ready { IfOk result (λ f. AreReady S.member kept.now f) }
+    ensures rising { IfOk result (λ f. (to : ℕ) → IsRising 0 to numbers.now → AreRising to f) }
+    ensures differ { IfOk result (λ f. DoDiffer S.member kept.now f) }
+    ensures rows { IfOk result (λ f. (c t : ℕ) → after S.member f (row_has S.member kept.now) c t
+        ≡ (if has numbers.now c then J.full judge.now c t else row_has S.member kept.now c t)) }
+{
+    let mut changes = Changes::new(alloc);
+    let mut rest = numbers;
+    'numbers: while let Some((number, later)) = rest.split_first() {
+        changes.note(alloc, kept, *number, judge.judge(*number))?;
+        rest = later;
+    }
+    Ok(changes)
+}

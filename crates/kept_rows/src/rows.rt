@@ -1,0 +1,134 @@
+//! The rows of all bindings, as a table of pages by number.
+ghost use Rattle.std.specs.Prelude.{◌≡◌, ◌<◌, ◌≤◌, ◌*◌, ◌/◌, ◌^◌, ◌==◌, ◌||◌, ℕ, [], true, false, length, slice_index_or, if◌then◌else◌, IfOk, IfSome, IfNone};
+ghost use Rattle.std.specs.Option.{SomeIff};
+ghost use Rattle.kept_rows.specs.Listing.{HaveNone, IsNext};
+ghost use Rattle.kept_rows.specs.Rows.{HasRoom, is_made, is_whole, page_has, row_has};
+
+use crate::page::{PAGE, Page};
+use std::alloc::{AllocError, Global};
+use std::marker::Model;
+use tick_set::TickSet;
+
+/// A set of ticks for each number of a binding; the empty one where a binding has no row. Numbers share pages
+/// of 16, and a page takes memory from its first row on.
+#[derive(Drop)]
+pub struct KeptRows<S: TickSet> {
+    pages: Vec<Page<S>>,
+    // Lent for a number whose page isn't made.
+    nothing: S,
+}
+
+impl<S: TickSet> Model for KeptRows<S> {
+    ghost use Rattle.std.specs.Prelude.{◌≡◌, ℕ, List, false};
+
+    ghost Value = { List (List S) };
+
+    ghost view = { λ a. a.pages.items };
+
+    ghost invariant = { λ a. (t : ℕ) → S.member a.nothing t ≡ false };
+}
+
+impl<S: TickSet> KeptRows<S> {
+    /// A table for the numbers below `size`, without rows. It takes some 1.5 bytes for each number.
+    pub fn new(alloc: Global, size: u32) -> Result<KeptRows<S>, AllocError>
+        ensures room { IfOk result (λ rows. HasRoom rows size) }
+        ensures none { IfOk result (λ rows. (c t : ℕ) → row_has S.member rows c t ≡ false) }
+    {
+        let pages = unmade(alloc, size as usize / PAGE + 1)?;
+        Ok(KeptRows {
+            pages,
+            nothing: S::empty(alloc),
+        })
+    }
+
+    /// The ticks of the row of a number. It takes no memory.
+    #[inline]
+    pub fn row(&self, number: u32) -> &S
+        ensures { (t : ℕ) → S.member result.now t ≡ row_has S.member self.now number t }
+    {
+        let at = number as usize;
+        match self.pages.get(at / PAGE) {
+            Some(page) => page.get(at % PAGE).unwrap_or(&self.nothing),
+            None => &self.nothing,
+        }
+    }
+
+    /// The first of the numbers from `from` up to `to`, without `to`, whose row has a tick.
+    pub fn next(&self, from: u32, to: u32) -> Option<u32>
+        ensures some { IfSome result (IsNext (row_has S.member self.now) from to) }
+        ensures none { IfNone result (HaveNone (row_has S.member self.now) from to) }
+    {
+        let mut page_at = from as usize / PAGE;
+        let mut at = from as usize % PAGE;
+        'pages: while let Some(page) = self.page_below(page_at, to) {
+            if let Some(found) = page.next(at) {
+                return number_below(page_at * PAGE + found, to);
+            }
+            page_at += 1;
+            at = 0;
+        }
+        None
+    }
+
+    // The page of an index, if its first number is below `to`.
+    fn page_below(&self, page_at: usize, to: u32) -> Option<&Page<S>>
+        requires { page_at < 2 ^ 40 }
+        ensures some { IfSome result (λ page. (page_at * 16 < to) × (page.now ≡ slice_index_or self.now page_at [])) }
+        ensures none { IfNone result ((c t : ℕ) → page_at * 16 ≤ c → c < to → row_has S.member self.now c t ≡ false) }
+    {
+        if page_at * PAGE >= to as usize {
+            return None;
+        }
+        self.pages.get(page_at)
+    }
+
+    /// Whether the page of a number is made.
+    #[inline]
+    pub(crate) fn has_page(&self, number: u32) -> bool
+        ensures { result ≡ is_made self.now number }
+    {
+        match self.pages.get(number as usize / PAGE) {
+            Some(page) => page.is_made(),
+            None => false,
+        }
+    }
+
+    /// Writes the row of a number, into the spare page where the number's page isn't made.
+    pub(crate) fn put(&mut self, number: u32, ticks: S, spare: Page<S>)
+        requires there { number / 16 < length self.old }
+        requires page { (is_made self.old number || is_whole spare) ≡ true }
+        requires blank { (i t : ℕ) → page_has S.member spare i t ≡ false }
+        ensures len { length self.new ≡ length self.old }
+        ensures made { (c : ℕ) → is_made self.old c ≡ true → is_made self.new c ≡ true }
+        ensures rows { (c t : ℕ) → row_has S.member self.new c t
+            ≡ (if c == number then S.member ticks t else row_has S.member self.old c t) }
+    {
+        let at = number as usize;
+        let page = &mut self.pages[at / PAGE];
+        page.put(at % PAGE, ticks, spare);
+    }
+}
+
+// The number, if it is below `to`.
+#[inline]
+fn number_below(number: usize, to: u32) -> Option<u32>
+    ensures { SomeIff result (number < to) number }
+{
+    if number < to as usize {
+        Some(number as u32)
+    } else {
+        None
+    }
+}
+
+// So many pages that aren't made.
+fn unmade<S: TickSet>(alloc: Global, count: usize) -> Result<Vec<Page<S>>, AllocError>
+    ensures count { IfOk result (λ pages. length pages.items ≡ count) }
+    ensures none { IfOk result (λ pages. (c t : ℕ) → row_has S.member pages.items c t ≡ false) }
+{
+    let mut pages = Vec::with_capacity(alloc, count)?;
+    'pages: while pages.len() < count {
+        pages.push(Page::none(alloc))?;
+    }
+    Ok(pages)
+}
