@@ -1,4 +1,5 @@
--- Pairs of runs: of equal sets, and of two stretches with a tick between them.
+-- For this crate and for the crates above: pairs of runs: of equal sets, and of two stretches with a tick between
+-- them.
 use Rattle.std.proofs.Common.{◌≡◌, ℕ, ◌+◌, ◌<◌, ◌≤◌, Bool, true, not, ◌&&◌, Option, Some, None, is_some, ◌∙◌, arith, refl, option_to_list}
 use Rattle.std.proofs.lemmas.Bool.Decides.{nat_tests}
 use Rattle.tick_set.specs.Runs.{IsRuns}

@@ -98,15 +98,13 @@ pub fn first_reached(rise: u128, start: i128, count: u32) -> u32
     if start >= 0 {
         return 0;
     }
-    if rise == 0 {
+    let depth = start.unsigned_abs();
+    // A product tells without a division that it is negative up to the last number.
+    if rise.saturating_mul(u128::from(count.saturating_sub(1))) < depth {
         return count;
     }
-    let first = start.unsigned_abs().div_ceil(rise);
-    if first < u128::from(count) {
-        first as u32
-    } else {
-        count
-    }
+    let first = depth.div_ceil(rise);
+    first as u32
 }
 
 // The ticks from `from` up to `until`, without `until`, counted from the window's first.
