@@ -42,6 +42,13 @@ left_found f limit nearest low high fall h m k l =
     (λ (b : high ≤ k). let near = h.near in let after = falls f nearest fall high k b l in grind (arith, ints, nat_tests))
     (cases_lt k high)
 
+-- where the value is at most the limit at 0, it is up to `nearest`
+pub near_from_0 : (f : ℕ → ℤ) (limit : ℤ) (nearest : ℕ) → FallsTo f nearest → f 0 ≤ℤ limit
+    → (k : ℕ) → k ≤ nearest → int_le (f k) limit ≡ nat_le 0 k
+near_from_0 f limit nearest fall h =
+    left_found f limit nearest 0 0 fall
+    (record { ordered = omega arith; bound = omega arith; near = h; far = λ k l. absurd (omega arith) }) (omega arith)
+
 -- ---- the last number: above `high` the value is above the limit, at `low` it is not
 pub record IsRight (f : ℕ → ℤ) (limit : ℤ) (nearest last low high : ℕ) : Type 0 where
   pub from : nearest ≤ low
@@ -76,6 +83,13 @@ right_found f limit nearest last low high rise h m k l n =
     (λ (b : low < k). let far = h.far k (omega arith) n in grind (arith, ints, nat_tests))
     (λ (b : k ≤ low). let near = h.near in let before = rises f nearest last rise k low l b (omega (arith, h.ordered, h.bound)) in grind (arith, ints, nat_tests))
     (cases_lt low k)
+
+-- where the value is at most the limit at the last number, it is from `nearest` on
+pub near_to_last : (f : ℕ → ℤ) (limit : ℤ) (nearest last : ℕ) → RisesIn f nearest last → nearest ≤ last → f last ≤ℤ limit
+    → (k : ℕ) → nearest ≤ k → k ≤ last → int_le (f k) limit ≡ nat_le k last
+near_to_last f limit nearest last rise l h =
+    right_found f limit nearest last last last rise
+    (record { from = l; ordered = omega arith; bound = omega arith; near = h; far = λ k m n. absurd (omega arith) }) (omega arith)
 
 -- ---- both: the numbers with a value at most the limit are one stretch round `nearest`
 pub one_stretch : (f : ℕ → ℤ) (limit : ℤ) (nearest last first end : ℕ) → first ≤ nearest → nearest ≤ end

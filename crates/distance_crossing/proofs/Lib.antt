@@ -1,6 +1,8 @@
+pub mod BelowSquare
 pub mod Bisection
 pub mod ByDistance
 pub mod Centres
+pub mod Chords
 pub mod CircleTicks
 pub mod LeastCircles
 pub mod Pairwise

@@ -1,5 +1,5 @@
 //! The ticks at which the distance of two motions compares with a constant.
-ghost use Rattle.std.specs.Prelude.{◌≡◌, ℕ, ◌+◌, ◌-◌, ◌-ℤ◌, ◌^◌, ◌≤◌, ◌&&◌, true, pos, not, nat_le, nat_lt, unsigned_abs, option_to_list, ◌++◌, IsNone, IfSome, MatchOption};
+ghost use Rattle.std.specs.Prelude.{◌≡◌, ℕ, ◌+◌, ◌-◌, ◌-ℤ◌, ◌^◌, ◌≤◌, ◌≤ℤ◌, ◌&&◌, true, pos, not, nat_le, int_le, nat_lt, unsigned_abs, option_to_list, ◌++◌, IsNone, IfSome, MatchOption};
 ghost use Rattle.std.specs.Ordering.{int_eq};
 ghost use Rattle.linear_crossing.specs.Relative.{squared_distance_at};
 ghost use Rattle.linear_crossing.specs.Zones.{IsPairOf, spans_of};
@@ -34,8 +34,8 @@ pub fn compare<M: Ledger>(q: &Quad, op: Op, c: Fix, w: Window, probes: &mut Step
     requires length { w.hi - w.lo ≤ SPAN_LIMIT }
     requires c_size { unsigned_abs c ≤ 10 ^ 12 }
     ensures runs { IsTripleOf (distance_holds q.now op c w) result }
-    ensures cost { probes.new ≤ probes.old + 120 }
-    ensures short_cost { w.hi - w.lo ≤ SHORT_WINDOW → probes.new ≤ probes.old + 88 }
+    ensures cost { probes.new ≤ probes.old + 63 }
+    ensures short_cost { w.hi - w.lo ≤ SHORT_WINDOW → probes.new ≤ probes.old + 47 }
     ensures least { probes.old ≤ probes.new }
 {
     if c.raw() < 0 {
@@ -76,15 +76,102 @@ fn nearer<M: Ledger>(q: &Quad, square: i128, w: Window, probes: &mut Steps<M>) -
 // The ticks of the window at which the squared distance is `square`.
 fn at_distance<M: Ledger>(q: &Quad, square: i128, w: Window, probes: &mut Steps<M>) -> Pair
     requires length { w.hi - w.lo ≤ SPAN_LIMIT }
-    requires size { unsigned_abs square ≤ 10 ^ 24 }
     ensures runs { IsPairOf (λ t. within w.lo w.hi t && int_eq (squared_distance_at q.now (t - w.lo)) square) result }
-    ensures cost { probes.new ≤ probes.old + 120 }
-    ensures short_cost { w.hi - w.lo ≤ SHORT_WINDOW → probes.new ≤ probes.old + 88 }
+    ensures cost { probes.new ≤ probes.old + 63 }
+    ensures short_cost { w.hi - w.lo ≤ SHORT_WINDOW → probes.new ≤ probes.old + 47 }
     ensures least { probes.old ≤ probes.new }
 {
     let at_most = within(q, square, w, probes);
-    let below = nearer(q, square, w, probes);
+    let below = below(q, square, at_most, w, probes);
     without(at_most, below)
+}
+
+// The ticks of the window at which the squared distance is below `square`, by those at which it is at most that.
+// Only the first and the last of these can be at it, or all: the squared distance is convex.
+fn below<M: Ledger>(
+    q: &Quad,
+    square: i128,
+    at_most: Option<Span>,
+    w: Window,
+    probes: &mut Steps<M>,
+) -> Option<Span>
+    requires at_most { IsRuns (is_near q.now square w) (option_to_list at_most) }
+    ensures runs { IsRuns (is_near q.now (square -ℤ pos 1) w) (option_to_list result) }
+    ensures cost { probes.new ≤ probes.old + 3 }
+    ensures least { probes.old ≤ probes.new }
+{
+    let Some(span) = at_most else {
+        return None;
+    };
+    let (from, until) = stretch_below(q, square, span.lo - w.lo, span.hi - w.lo, probes);
+    stretch(w.lo + from, w.lo + until)
+}
+
+// The first number of `first..=end` at which the value is below `square`, and the first past those. The value at a
+// number is the squared distance so many ticks after the window's first, and at most `square` at all of these. Where
+// it is below at none, the first is no less than the second.
+fn stretch_below<M: Ledger>(
+    q: &Quad,
+    square: i128,
+    first: u32,
+    end: u32,
+    probes: &mut Steps<M>,
+) -> (u32, u32)
+    requires ordered { first ≤ end }
+    requires in_range { end ≤ LAST_TICK }
+    requires at_most { (k : ℕ) → first ≤ k → k ≤ end → squared_distance_at q.now k ≤ℤ square }
+    ensures from { first ≤ result.0 }
+    ensures from_upto { result.0 ≤ end + 1 }
+    ensures upto { result.1 ≤ end + 1 }
+    ensures below { (k : ℕ) → first ≤ k → k ≤ end → int_le (squared_distance_at q.now k) (square -ℤ pos 1) ≡ (nat_le result.0 k && nat_lt k result.1) }
+    ensures cost { probes.new ≤ probes.old + 3 }
+    ensures least { probes.old ≤ probes.new }
+{
+    let (at_first, at_end) = are_at(q, square, first, end, probes);
+    if at_first && at_end && stays(q, square, first, end, probes) {
+        return (first, first);
+    }
+    (first + u32::from(at_first), end + 1 - u32::from(at_end))
+}
+
+// Whether there is a number between the two, and the value is `square` at the first of these. One that is at most
+// `square` at both is then `square` at all numbers: the motions keep their distance.
+fn stays<M: Ledger>(q: &Quad, square: i128, first: u32, end: u32, probes: &mut Steps<M>) -> bool
+    requires ordered { first ≤ end }
+    requires in_range { end ≤ LAST_TICK }
+    ensures between { result ≡ (nat_lt (first + 1) end && int_eq (squared_distance_at q.now (first + 1)) square) }
+    ensures cost { probes.new ≤ probes.old + 1 }
+    ensures least { probes.old ≤ probes.new }
+{
+    first + 1 < end && is_at(q, square, first + 1, probes)
+}
+
+// Whether the value is `square` at each of two numbers.
+fn are_at<M: Ledger>(
+    q: &Quad,
+    square: i128,
+    first: u32,
+    end: u32,
+    probes: &mut Steps<M>,
+) -> (bool, bool)
+    ensures first { result.0 ≡ int_eq (squared_distance_at q.now first) square }
+    ensures end { result.1 ≡ int_eq (squared_distance_at q.now end) square }
+    ensures cost { probes.new ≤ probes.old + 2 }
+    ensures least { probes.old ≤ probes.new }
+{
+    let at_first = is_at(q, square, first, probes);
+    if first == end {
+        return (at_first, at_first);
+    }
+    let at_end = is_at(q, square, end, probes);
+    (at_first, at_end)
+}
+
+fn is_at<M: Ledger>(q: &Quad, square: i128, k: u32, probes: &mut Steps<M>) -> bool
+    ensures value { result ≡ int_eq (squared_distance_at q.now k) square }
+    ensures cost { probes.new ≡ probes.old + 1 }
+{
+    q.at(k, probes) == square
 }
 
 // The ticks of the first span that are not in the second, which has no others.

@@ -17,7 +17,8 @@ pub const SHORT_WINDOW: u32 = 1_000_000;
 /// The ticks of the window at which the squared distance is at most `limit`, in square thousandths. They are
 /// one span; None exactly where there is none. The window has up to [`SPAN_LIMIT`] ticks after its first.
 ///
-/// It takes no memory. It probes the least distance, and then bisects on each side of it.
+/// It takes no memory. It probes the least distance and the two ends of the window, and bisects on each side
+/// whose end is not near.
 pub fn within<M: Ledger>(q: &Quad, limit: i128, w: Window, probes: &mut Steps<M>) -> Option<Span>
     requires { w.hi - w.lo ≤ SPAN_LIMIT }
     ensures runs { IsRuns (is_near q.now limit w) (option_to_list result) }
@@ -38,8 +39,27 @@ pub fn within<M: Ledger>(q: &Quad, limit: i128, w: Window, probes: &mut Steps<M>
     })
 }
 
-// The first number at which the value is at most the limit. It falls up to `nearest`, where it is.
+// The first number at which the value is at most the limit. It falls up to `nearest`, where it is. Where motions
+// are near from the window's first tick on, as those at rest are, one probe tells it.
 fn first_near<M: Ledger>(q: &Quad, limit: i128, nearest: u32, probes: &mut Steps<M>) -> u32
+    requires falls { DropsTo (squared_distance_at q.now) nearest }
+    requires near { squared_distance_at q.now nearest ≤ℤ limit }
+    ensures bound { result ≤ nearest }
+    ensures first { (k : ℕ) → k ≤ nearest → int_le (squared_distance_at q.now k) limit ≡ nat_le result k }
+    ensures cost { (n : ℕ) → nearest < 2 ^ n → probes.new ≤ probes.old + n + 1 }
+    ensures least { probes.old ≤ probes.new }
+{
+    if nearest == 0 {
+        return 0;
+    }
+    if q.at(0, probes) <= limit {
+        return 0;
+    }
+    bisect_first(q, limit, nearest, probes)
+}
+
+// The same by a bisection.
+fn bisect_first<M: Ledger>(q: &Quad, limit: i128, nearest: u32, probes: &mut Steps<M>) -> u32
     requires falls { DropsTo (squared_distance_at q.now) nearest }
     requires near { squared_distance_at q.now nearest ≤ℤ limit }
     ensures bound { result ≤ nearest }
@@ -62,8 +82,34 @@ fn first_near<M: Ledger>(q: &Quad, limit: i128, nearest: u32, probes: &mut Steps
 }
 
 // The last number of `nearest..=last` at which the value is at most the limit. It rises from `nearest`,
-// where it is.
+// where it is. Where motions are near up to the last number, one probe tells it.
 fn last_near<M: Ledger>(
+    q: &Quad,
+    limit: i128,
+    nearest: u32,
+    last: u32,
+    probes: &mut Steps<M>,
+) -> u32
+    requires ordered { nearest ≤ last }
+    requires rises { RisesIn (squared_distance_at q.now) nearest last }
+    requires near { squared_distance_at q.now nearest ≤ℤ limit }
+    ensures from { nearest ≤ result }
+    ensures bound { result ≤ last }
+    ensures last { (k : ℕ) → nearest ≤ k → k ≤ last → int_le (squared_distance_at q.now k) limit ≡ nat_le k result }
+    ensures cost { (n : ℕ) → last - nearest < 2 ^ n → probes.new ≤ probes.old + n + 1 }
+    ensures least { probes.old ≤ probes.new }
+{
+    if nearest == last {
+        return last;
+    }
+    if q.at(last, probes) <= limit {
+        return last;
+    }
+    bisect_last(q, limit, nearest, last, probes)
+}
+
+// The same by a bisection.
+fn bisect_last<M: Ledger>(
     q: &Quad,
     limit: i128,
     nearest: u32,

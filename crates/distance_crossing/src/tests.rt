@@ -208,6 +208,7 @@ fn constant(c: i64) -> Option<Fix>
 fn distances_that_compare(rt: HostRuntime) -> Result<(), Fail> {
     let car = (0, 0, 1000, 0);
     let post = (5000, 0, 0, 0);
+    let beside = (3000, 4000, 1000, 0);
     let far = 1_001_000_000_000_000;
     let cases = [
         (
@@ -291,6 +292,33 @@ fn distances_that_compare(rt: HostRuntime) -> Result<(), Fail> {
             [Some((0, 10)), None, None],
         ),
         (car, car, Op::Eq, 0, (5, 6), [Some((5, 6)), None, None]),
+        // At the distance at all ticks, at two side by side, at two with one between, and at one of two in the window.
+        (
+            car,
+            beside,
+            Op::Eq,
+            5000,
+            (3, 9),
+            [Some((3, 9)), None, None],
+        ),
+        (car, beside, Op::Ne, 5000, (3, 9), [None, None, None]),
+        (
+            car,
+            (4500, 0, 0, 0),
+            Op::Eq,
+            500,
+            (0, 10),
+            [Some((4, 5)), None, None],
+        ),
+        (
+            car,
+            post,
+            Op::Eq,
+            1000,
+            (0, 10),
+            [Some((4, 4)), Some((6, 6)), None],
+        ),
+        (car, post, Op::Eq, 3000, (0, 7), [Some((2, 2)), None, None]),
         (
             car,
             (1_000_000_000, 0, 0, 0),

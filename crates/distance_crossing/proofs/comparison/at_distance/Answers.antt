@@ -5,10 +5,10 @@ use Rattle.distance_crossing.proofs.comparison.at_distance.Goals as goal
 
 pub without-requires : goal.without-requires
 without-requires g c =
-    below_inside c.args.q.now c.args.w c.args.square _ _ c.nearer-below.result c.within-at_most.result (omega (arith, ints)) (omega (arith, ints))
-    c.nearer-below.ensures.runs c.within-at_most.ensures.runs
+    below_inside c.args.q.now c.args.w c.args.square _ _ c.below-below.result c.within-at_most.result (omega (arith, ints)) (omega (arith, ints))
+    c.below-below.ensures.runs c.within-at_most.ensures.runs
 
 pub returns-clause-runs : goal.returns-clause-runs
 returns-clause-runs g c =
-    at_distance_runs c.args.q.now c.args.w c.args.square _ _ c.nearer-below.result c.within-at_most.result (omega (arith, ints)) (omega (arith, ints))
-    c.nearer-below.ensures.runs c.within-at_most.ensures.runs c.without.result c.without.ensures
+    at_distance_runs c.args.q.now c.args.w c.args.square _ _ c.below-below.result c.within-at_most.result (omega (arith, ints)) (omega (arith, ints))
+    c.below-below.ensures.runs c.within-at_most.ensures.runs c.without.result c.without.ensures

@@ -1,37 +1,29 @@
-use Rattle.std.proofs.Common.{◌≡◌, ℕ, ◌+◌, ◌-◌, ◌/◌, ◌≤◌, ℤ, int_le, nat_le, subst, arith}
+use Rattle.std.proofs.Common.{◌≡◌, ℕ, ◌≤◌, ℤ, ◌≤ℤ◌, int_le, nat_le, subst, arith}
 use Rattle.std.proofs.lemmas.Int.{ints}
 use mir.Syntax.{w128}
 use mir.Val.{to_z, of_z}
 use Rattle.exact.proofs.Convex.{FallsTo-drops}
 use Rattle.linear_crossing.specs.Relative.{squared_distance_at}
-use Rattle.distance_crossing.proofs.Bisection.{left_near, left_far, left_found, halved_more, near_at, far_at}
+use Rattle.distance_crossing.proofs.Bisection.{near_at, near_from_0}
 use Rattle.distance_crossing.proofs.near.first_near.Goals as goal
 
-pub loop-low-preserved-then-at-limit : goal.loop-low-preserved-then-at-limit
-loop-low-preserved-then-at-limit g c =
+pub returns-then-nearest-eq0-clause-first : goal.returns-then-nearest-eq0-clause-first
+returns-then-nearest-eq0-clause-first g c =
     let f = squared_distance_at c.args.q.now in
-    let limit = to_z w128 (of_z w128 c.args.limit) in
-    let so_far = c.loop-low.invariant in
-    let middle = c.loop-low.low + (c.loop-low.high - c.loop-low.low) / 2 in (
-      left_near f limit c.args.nearest c.loop-low.low c.loop-low.high middle so_far.0 (omega arith) (omega arith)
-          (near_at f middle c.at.result limit c.at.ensures.value (omega (arith, ints))),
-      halved_more _ _ _ _ _ _ so_far.1 (omega arith) (omega arith) c.at.ensures.cost,
-    )
+    near_from_0 f c.args.limit c.args.nearest (FallsTo-drops f c.args.nearest c.requires.falls)
+    (subst (λ (n : ℕ). f n ≤ℤ c.args.limit) c.if-nearest-eq0.true c.requires.near)
 
-pub loop-low-preserved : goal.loop-low-preserved
-loop-low-preserved g c =
+pub returns-then-at-limit-clause-first : goal.returns-then-at-limit-clause-first
+returns-then-at-limit-clause-first g c =
     let f = squared_distance_at c.args.q.now in
     let limit = to_z w128 (of_z w128 c.args.limit) in
-    let so_far = c.loop-low.invariant in
-    let middle = c.loop-low.low + (c.loop-low.high - c.loop-low.low) / 2 in (
-      left_far f limit c.args.nearest c.loop-low.low c.loop-low.high middle (FallsTo-drops f c.args.nearest c.requires.falls) so_far.0 (omega arith)
-          (far_at f middle c.at.result limit c.at.ensures.value (omega (arith, ints))),
-      halved_more _ _ _ _ _ _ so_far.1 (omega arith) (omega arith) c.at.ensures.cost,
-    )
+    let found = near_from_0 f limit c.args.nearest (FallsTo-drops f c.args.nearest c.requires.falls)
+    (near_at f 0 c.at.result limit c.at.ensures.value (omega (arith, ints))) in
+    let P : ℤ → Type 0 = λ z. (k : ℕ) → k ≤ c.args.nearest → int_le (f k) z ≡ nat_le 0 k in
+    subst P (omega (arith, ints)) found
 
 pub returns-clause-first : goal.returns-clause-first
 returns-clause-first g c =
     let f = squared_distance_at c.args.q.now in
-    let found = left_found f (to_z w128 (of_z w128 c.args.limit)) c.args.nearest c.loop-low.low c.loop-low.high (FallsTo-drops f c.args.nearest c.requires.falls) c.loop-low.invariant.0 c.loop-low-test.false in
-    let P : ℤ → Type 0 = λ z. (k : ℕ) → k ≤ c.args.nearest → int_le (f k) z ≡ nat_le c.loop-low.high k in
-    subst P (omega (arith, ints)) found
+    let P : ℤ → Type 0 = λ z. (k : ℕ) → k ≤ c.args.nearest → int_le (f k) z ≡ nat_le c.bisect_first.result k in
+    subst P (omega (arith, ints)) c.bisect_first.ensures.first

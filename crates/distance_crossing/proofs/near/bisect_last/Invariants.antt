@@ -1,7 +1,7 @@
 use Rattle.std.proofs.Common.{◌-◌}
 use Rattle.linear_crossing.specs.Relative.{squared_distance_at}
 use Rattle.distance_crossing.proofs.Bisection.{IsRight, IsHalved}
-use Rattle.distance_crossing.proofs.near.last_near.Given as goal
+use Rattle.distance_crossing.proofs.near.bisect_last.Given as goal
 
 abbrev pub invariant-loop-low : goal.invariant-loop-low
 invariant-loop-low g l = IsRight (squared_distance_at l.q) l.fn.limit l.fn.nearest l.fn.last l.low l.high × IsHalved (l.fn.last - l.fn.nearest) (l.high - l.low) l.fn.probes l.probes
