@@ -11,9 +11,9 @@ pub mod PlaceExample
 pub mod Reachable
 pub mod Reads
 pub mod ReadsExample
+pub mod Registered
 pub mod Satisfaction
 pub mod SimpleQuestion
-pub mod Standing
 pub mod TimeExample
 pub mod Trace
 pub mod Value

@@ -16,13 +16,13 @@ use Rattle.formula.specs.Example.{times}
 use Rattle.formula.specs.Tree.{ResolvedQuery}
 use Rattle.meaning.specs.Answer.{answer}
 use Rattle.meaning.specs.ExampleParts.{alone, attribute, car, car_class, compare, dynamic, first_has, literal, moving, nowhere, pairs_query, query, setting, speed, standing, whole, world}
-use Rattle.meaning.specs.Standing.{Change, StandingQuery, Kept, Watched, changes_of_tick, changes_of_write, standing_answer}
+use Rattle.meaning.specs.Registered.{Change, RegisteredQuery, Kept, Watched, changes_of_tick, changes_of_write, registered_answer}
 
 -- from tick 0 on for so many ticks
-abbrev pub watched : ℕ → ResolvedQuery → StandingQuery
+abbrev pub watched : ℕ → ResolvedQuery → RegisteredQuery
 watched span q = record { kind = Watched; query = q; entry = 0; expiry = span }
 
-abbrev pub kept : ℕ → ResolvedQuery → StandingQuery
+abbrev pub kept : ℕ → ResolvedQuery → RegisteredQuery
 kept span q = record { kind = Kept; query = q; entry = 0; expiry = span }
 
 -- the slope of o.x, and the query whether it will be at least doubled within 10 ticks
@@ -54,12 +54,12 @@ speeding_up = record { firsts = (whole 5, 1) ∷ (whole 7, 1) ∷ []; last = who
 -- Only at tick 0 was the speed a half of what it came to be, which wasn't so before the second update: what is
 -- recorded stays, and what comes after it is judged anew.
 pub record AnswersTheDoubledSpeed : Type 0 where
-  pub not_before : standing_answer (world at_seven) (kept 20 doubled) 1 ≡ []
+  pub not_before : registered_answer (world at_seven) (kept 20 doubled) 1 ≡ []
   pub no_change_at_first : changes_of_write (world at_five) (world at_seven) (kept 20 doubled) 1 ≡ []
   pub gains_the_past : changes_of_write (world at_seven) (world at_ten) (kept 20 doubled) 2
       ≡ record { key = 0 ∷ []; gained = (0, 0) ∷ []; lost = []; enters = false; leaves = false } ∷ []
-  pub of_a_kept_one : standing_answer (world at_ten) (kept 20 doubled) 2 ≡ first_has ((0, 0) ∷ [])
-  pub of_a_watched_one : standing_answer (world at_ten) (watched 20 doubled) 2 ≡ []
+  pub of_a_kept_one : registered_answer (world at_ten) (kept 20 doubled) 2 ≡ first_has ((0, 0) ∷ [])
+  pub of_a_watched_one : registered_answer (world at_ten) (watched 20 doubled) 2 ≡ []
   pub unseen_by_a_watched_one : changes_of_write (world at_seven) (world at_ten) (watched 20 doubled) 2 ≡ []
   pub planned_by_legs :
       answer (world (car_class ∷ car (moving speeding_up) ∷ [])) doubled 0 20
@@ -79,13 +79,13 @@ abbrev pub again : List Write
 again = removed ++ Insert 6 (codes "car") (codes "a") nowhere [] ∷ []
 
 pub record AnswersTheRemovedCar : Type 0 where
-  pub at_first : standing_answer (world present) (kept 10 not_inside) 0 ≡ first_has ((0, 10) ∷ [])
+  pub at_first : registered_answer (world present) (kept 10 not_inside) 0 ≡ first_has ((0, 10) ∷ [])
   pub loses : changes_of_write (world present) (world removed) (kept 10 not_inside) 4
       ≡ record { key = 0 ∷ []; gained = []; lost = (4, 10) ∷ []; enters = false; leaves = true } ∷ []
-  pub past_alone : standing_answer (world removed) (kept 10 not_inside) 6 ≡ first_has ((0, 3) ∷ [])
+  pub past_alone : registered_answer (world removed) (kept 10 not_inside) 6 ≡ first_has ((0, 3) ∷ [])
   pub gains : changes_of_write (world removed) (world again) (kept 10 not_inside) 6
       ≡ record { key = 0 ∷ []; gained = (6, 10) ∷ []; lost = []; enters = true; leaves = false } ∷ []
-  pub both_stretches : standing_answer (world again) (kept 10 not_inside) 6 ≡ first_has ((0, 3) ∷ (6, 10) ∷ [])
+  pub both_stretches : registered_answer (world again) (kept 10 not_inside) 6 ≡ first_has ((0, 3) ∷ (6, 10) ∷ [])
 
 abbrev pub ten_ticks : Function
 ten_ticks = record { firsts = (whole 1, 10) ∷ []; last = pos 0 }
@@ -135,4 +135,4 @@ pub record AnswersAsTimePasses : Type 0 where
   pub leaves : changes_of_tick (world at_one) (watched 30 inside) 20 21 ≡ passage false ∷ []
   pub passes_through : changes_of_tick (world at_one) (watched 30 inside) 9 21 ≡ []
   pub expires : changes_of_tick (world at_one) (watched 15 inside) 15 16 ≡ passage false ∷ []
-  pub watched_no_more : standing_answer (world at_one) (watched 15 inside) 16 ≡ []
+  pub watched_no_more : registered_answer (world at_one) (watched 15 inside) 16 ≡ []

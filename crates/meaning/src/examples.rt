@@ -30,8 +30,8 @@ pub fn a_removed_car_keeps_its_past()
     ensures { AnswersTheRemovedCar }
 {}
 
-/// What a write and the passing of time change for a standing query.
-pub fn standing_queries_change()
+/// What a write and the passing of time change for a registered query.
+pub fn registered_queries_change()
     ensures { AnswersAsTimePasses }
 {}
 

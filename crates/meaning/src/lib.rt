@@ -1,5 +1,5 @@
 //! Definitions alone: what a query means, tick by tick, of a history and the regions, and so of a journal
-//! and of a store alike. `specs/` has traces, terms, atoms, satisfaction, bindings, answers, standing
+//! and of a store alike. `specs/` has traces, terms, atoms, satisfaction, bindings, answers, registered
 //! queries and read bounds. The calls below have no body: the contract of each is a law, or what the
 //! definitions give for a small history.
 #![tactic(auto)]
@@ -9,7 +9,7 @@ mod laws;
 
 pub use examples::{
     a_doubled_speed_is_seen_late, a_removed_car_keeps_its_past, places_are_worked_out,
-    queries_fit_their_classes, reads_are_counted, standing_queries_change, ticks_are_worked_out,
+    queries_fit_their_classes, reads_are_counted, registered_queries_change, ticks_are_worked_out,
     values_are_worked_out,
 };
 pub use laws::{

@@ -1,7 +1,7 @@
 use Rattle.std.proofs.Common.{refl}
 use Rattle.tick_set.specs.Operators.{until_in}
 use Rattle.tick_set.specs.Ticks.{all_in, between, listed, some_in}
-use Rattle.meaning.proofs.examples.standing_queries_change.Goals as goal
+use Rattle.meaning.proofs.examples.registered_queries_change.Goals as goal
 
 pub returns : goal.returns
 unfolding all_in between listed some_in until_in

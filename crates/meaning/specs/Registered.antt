@@ -8,19 +8,19 @@ use Rattle.formula.specs.Tree.{ResolvedQuery}
 use Rattle.meaning.specs.Answer.{Row, answer, full_rows, has_ticks}
 use Rattle.meaning.specs.Binding.{holds_target, tuples}
 
-pub data StandingKind : Type 0 where
-  Watched : StandingKind
-  Kept : StandingKind
+pub data QueryKind : Type 0 where
+  Watched : QueryKind
+  Kept : QueryKind
 
 -- a query from the tick of its entry to its expiry
-pub record StandingQuery : Type 0 where
-  pub kind : StandingKind
+pub record RegisteredQuery : Type 0 where
+  pub kind : QueryKind
   pub query : ResolvedQuery
   pub entry : ℕ
   pub expiry : ℕ
 
 -- the first tick of its answer
-abbrev pub first_tick : StandingKind → ℕ → ℕ → ℕ
+abbrev pub first_tick : QueryKind → ℕ → ℕ → ℕ
 first_tick Watched entry now = now
 first_tick Kept entry now = entry
 
@@ -29,11 +29,11 @@ abbrev pub answer_once : World → ResolvedQuery → ℕ → ℕ → List Row
 answer_once w q now span = answer w q now (now + span)
 
 -- the answer at a tick. That of a kept query has the recorded past and the future that the motions imply.
-abbrev pub standing_answer : World → StandingQuery → ℕ → List Row
-standing_answer w r now = answer w r.query (first_tick r.kind r.entry now) r.expiry
+abbrev pub registered_answer : World → RegisteredQuery → ℕ → List Row
+registered_answer w r now = answer w r.query (first_tick r.kind r.entry now) r.expiry
 
 -- the rows that are kept of it, from which each answer can be told
-abbrev pub kept_rows : World → StandingQuery → List Row
+abbrev pub kept_rows : World → RegisteredQuery → List Row
 kept_rows w r = full_rows w r.query r.entry r.expiry
 
 -- the ticks of `from` to e that one test has and another before it has not, as runs
@@ -65,12 +65,12 @@ change_of key before after n from e = record {
   leaves = stands_at e before n && not (stands_at e after n);
 }
 
--- whether a standing query holds for some target objects at a tick of its window
-abbrev pub holds_for : World → StandingQuery → List ℕ → ℕ → Bool
+-- whether a registered query holds for some target objects at a tick of its window
+abbrev pub holds_for : World → RegisteredQuery → List ℕ → ℕ → Bool
 holds_for w r key t = holds_target w r.query r.expiry key t
 
--- What a write at tick n changes for a standing query, target by target, where it leads from one world to another.
-abbrev pub changes_of_write : World → World → StandingQuery → ℕ → List Change
+-- What a write at tick n changes for a registered query, target by target, where it leads from one world to another.
+abbrev pub changes_of_write : World → World → RegisteredQuery → ℕ → List Change
 changes_of_write old new r n =
     let from = first_tick r.kind r.entry n in
     filter is_change
@@ -86,7 +86,7 @@ passage_of key holds n m e = record {
   leaves = stands_at e holds n && not (stands_at e holds m);
 }
 
--- What the passing of time from tick n to m changes for a standing query, target by target.
-abbrev pub changes_of_tick : World → StandingQuery → ℕ → ℕ → List Change
+-- What the passing of time from tick n to m changes for a registered query, target by target.
+abbrev pub changes_of_tick : World → RegisteredQuery → ℕ → ℕ → List Change
 changes_of_tick w r n m =
     filter is_change (map (λ key. passage_of key (holds_for w r key) n m r.expiry) (tuples w r.query))
