@@ -16,7 +16,7 @@ use std::test::Fail;
 use steps::Steps;
 use tick_set::{LAST_TICK, Window};
 
-// The places of the attributes of a tank.
+// The indexes of the attributes of a tank.
 const SIZE: usize = 0;
 
 const PLATE: usize = 1;

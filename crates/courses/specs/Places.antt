@@ -15,7 +15,7 @@ dynamic_of (cells.Num n) = None
 dynamic_of (cells.Text w) = None
 dynamic_of (cells.Dyn v) = Some v
 
--- the dynamic attribute at a place, counted from 0: None where the object is absent, or has none there
+-- the dynamic attribute of an index, counted from 0: None where the object is absent, or has none there
 abbrev pub dynamic_at : Epoch → ℕ → Option Dynamic
 dynamic_at p a = option_and_then dynamic_of (slice_get (cells_of p) a)
 

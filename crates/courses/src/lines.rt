@@ -27,11 +27,11 @@ pub fn line_from(epoch: &Epoch, span: Span) -> Option<Line>
     Some(line(x, y, span))
 }
 
-// The dynamic attribute at a place.
-fn vector(epoch: &Epoch, place: usize) -> Option<&Vector>
-    ensures { option_copied result ≡ dynamic_at epoch.now place }
+// The dynamic attribute of an index.
+fn vector(epoch: &Epoch, index: usize) -> Option<&Vector>
+    ensures { option_copied result ≡ dynamic_at epoch.now index }
 {
-    match epoch.cell(place)? {
+    match epoch.cell(index)? {
         Cell::Dyn(vector) => Some(vector),
         _ => None,
     }

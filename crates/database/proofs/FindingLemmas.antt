@@ -46,7 +46,7 @@ find_in p (x ∷ xs) = ap (cond (p x) (Some x)) (find_in p xs) ∙ found_step (p
 pub find_is : {X : Type 0} (p : X → Bool) (xs : List X) → find p xs ≡ option_and_then (slice_get xs) (position p xs)
 find_is p xs = find_in p xs ∙ ap (option_and_then (slice_get xs)) (sym (place_is p xs))
 
--- the kind of an attribute by its place
+-- the kind of an attribute by its index
 kind_placed : (name : List ℕ) (k : ClassInfo) → option_map (λ (a : Attribute). a.kind) (attribute_named k.attributes name) ≡ option_map (λ (a : ℕ × AttrKind). a.1) (kind_at name k)
 kind_placed name k = ap (option_map (λ (a : Attribute). a.kind)) (find_is (λ a. bytes_eq name a.name) k.attributes) ∙ at_place k.attributes (position (λ a. bytes_eq name a.name) k.attributes)
   where

@@ -1,4 +1,4 @@
--- What was read is ready for the database.
+-- For this crate and for the crates above: what was read is ready for the database.
 use Rattle.std.proofs.Common.{◌≤◌, List, [], ◌∷◌, Option, None, Some, arith}
 use Rattle.std.specs.Prelude.{All, IfSome, unsigned_abs}
 use Rattle.std.specs.List.{AllByRecursion}

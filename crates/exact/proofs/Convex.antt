@@ -1,4 +1,5 @@
--- What falls or rises from each number to the next does so over whole ranges.
+-- For this crate and for the crates above: what falls or rises from each number to the next does so over whole
+-- ranges.
 use Rattle.std.proofs.Common.{◌≡◌, ℕ, suc, zero, ◌≤◌, ◌<◌, ⊎_elim, ℤ, ◌≤ℤ◌, ◌<ℤ◌, subst, ap, add-one, arith}
 use Rattle.std.proofs.lemmas.Int.{ints}
 use Rattle.std.proofs.lemmas.Bool.{cases_lt}

@@ -1,4 +1,5 @@
--- A bisection in steps that are counted: what is left halves with each, so n steps are enough for fewer than `2 ^ n`.
+-- For this crate and for the crates above: a bisection in steps that are counted: what is left halves with each,
+-- so n steps are enough for fewer than `2 ^ n`.
 use Rattle.std.proofs.Common.{◌≡◌, ℕ, suc, zero, ◌+◌, ◌-◌, ◌*◌, ◌^◌, ◌≤◌, ◌<◌, refl, subst, sym, arith}
 use Rattle.std.proofs.Math.Nat.{pow-suc}
 

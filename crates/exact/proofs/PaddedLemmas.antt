@@ -1,4 +1,4 @@
--- What is in the front of an array, and the array again.
+-- For this crate and for the crates above: what is in the front of an array, and the array again.
 use Rattle.std.proofs.Common.{◌≡◌, ℕ, ◌+◌, ◌-◌, ◌≤◌, List, ◌++◌, length, take, drop, replicate, ◌∙◌, ap, sym, arith, length-append, length-drop, length-take-le, take-append-drop}
 use Rattle.std.proofs.lemmas.List.{drop-replicate, length-replicate, drop-drop}
 use Rattle.std.proofs.lemmas.Slice.{drop-put_mid}

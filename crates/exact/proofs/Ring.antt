@@ -1,4 +1,5 @@
--- Equations and orders between polynomials over ℤ, as the parabola of a moving point.
+-- For this crate and for the crates above: equations and orders between polynomials over ℤ, as the parabola of a
+-- moving point.
 -- A signed number is read as a difference of two naturals, and so is each sum and product of such. An equation of
 -- polynomials over ℤ is then one over ℕ, where `omega` multiplies out. `same (..) (..) (omega arith)` proves it, with
 -- both sides written out by `part`, `number`, `sum`, `difference`, `product` and `opposite`.

@@ -1,4 +1,4 @@
--- Digits at the front of a text, and the number that they write.
+-- For this crate and for the crates above: digits at the front of a text, and the number that they write.
 use Rattle.std.proofs.Common.{◌≡◌, ℕ, zero, suc, ◌+◌, ◌-◌, ◌*◌, ◌^◌, ◌<◌, ◌≤◌, Bool, true, false, cond, List, [], ◌∷◌, length, take, get_or, refl, ap, subst, ◌∙◌, arith, length-take-le, add_comm, add-one}
 use Rattle.std.proofs.lemmas.List.{take_all}
 use Rattle.std.proofs.lemmas.Int.Digits.{digits_value-lt, digits_value_more}

@@ -1,4 +1,5 @@
--- What stands at the front of a text is read back, whatever stands behind it.
+-- For this crate and for the crates above: what stands at the front of a text is read back, whatever stands behind
+-- it.
 use Rattle.std.proofs.Common.{◌≡◌, ℕ, zero, suc, ◌+◌, ◌-◌, ◌<◌, List, [], ◌∷◌, ◌++◌, Some, length, get_or, drop, take, Bool, true, false, not, refl, sym, ◌∙◌, ap, subst, arith, inl, inr, eqb, ltb, cond, IsTrue, ne_eqb}
 use Rattle.std.specs.Prelude.{option_map, codes}
 use Rattle.std.specs.List.{prefix_len, position_or_len, list_all, list_any}

@@ -1,4 +1,4 @@
--- Each token has the form of its kind.
+-- For this crate and for the crates above: each token has the form of its kind.
 use Rattle.std.proofs.Common.{◌≡◌, ℕ, zero, suc, ◌+◌, ◌-◌, ◌<◌, List, [], ◌∷◌, Option, Some, None, length, drop, take, Bool, true, false, not, refl, sym, ◌∙◌, ap, subst, arith, inl, inr, eqb, ltb, add-zero, ne_eqb, eq-eqb, lt-ltb, Ok, Err, Result, map}
 use Rattle.std.specs.Prelude.{option_map, option_and_then, slice_get}
 use Rattle.std.specs.List.{prefix_len, position_or_len, list_all}

@@ -1,4 +1,4 @@
--- How the tokens of a line follow one another.
+-- For this crate and for the crates above: how the tokens of a line follow one another.
 use Rattle.std.proofs.Common.{◌≡◌, ℕ, zero, suc, ◌+◌, ◌-◌, ◌<◌, ◌≤◌, inl, inr, Bool, List, [], ◌∷◌, Option, Some, None, Ok, Err, length, drop, true, false, refl, sym, ◌∙◌, ap, subst, arith, lit≤, cond, ltb, eqb}
 use Rattle.std.specs.Prelude.{option_map}
 use Rattle.std.specs.List.{prefix_len, position_or_len}

@@ -1,4 +1,4 @@
--- What a rule derives, the machine reads.
+-- For this crate and for the crates above: what a rule derives, the machine reads.
 use Rattle.std.proofs.Common.{◌≡◌, ℕ, ℤ, ◌<◌, ◌≤◌, Bool, true, false, List, [], ◌∷◌, ◌++◌, Option, None, Some, option_map, IsTrue, refl, sym, ap, ◌∙◌, arith, append_assoc, append-nil}
 use Rattle.std.proofs.lemmas.Bool.Decides.{nat_tests}
 use Rattle.case_table.specs.declared.compare.Op.{Op}

@@ -1,4 +1,5 @@
--- What the machine has read in each state, and that what it parses is derived by the rules.
+-- For this crate and for the crates above: what the machine has read in each state, and that what it parses is
+-- derived by the rules.
 use Rattle.std.proofs.Common.{◌≡◌, ℕ, ◌≤◌, Bool, true, false, List, [], ◌∷◌, ◌++◌, Option, None, Some, option_map, option_and_then, refl, sym, ap, ◌∙◌, subst, arith, append_assoc, append-nil}
 use Rattle.fixed_point.specs.declared.variants.BoundForm.{BoundForm}
 use Rattle.fixed_point.specs.declared.variants.UntilForm.{UntilForm}

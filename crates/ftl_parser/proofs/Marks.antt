@@ -1,4 +1,5 @@
--- The marks of a derivation are those that the tokens alone tell, and its names and texts are those among the tokens.
+-- For this crate and for the crates above: the marks of a derivation are those that the tokens alone tell, and its
+-- names and texts are those among the tokens.
 use Rattle.std.proofs.Common.{◌≡◌, ℕ, ℤ, Bool, false, List, [], ◌∷◌, ◌++◌, Option, position, IsTrue, refl, sym, ap, ◌∙◌, append_assoc, append-nil}
 use Rattle.std.specs.List.{flat_map}
 use Rattle.std.proofs.lemmas.List.{map-append}

@@ -1,4 +1,4 @@
--- Names, texts and terms of a query stand in its tokens in the same order.
+-- For this crate and for the crates above: names, texts and terms of a query stand in its tokens in the same order.
 use Rattle.std.proofs.Common.{◌≡◌, ℕ, ℤ, true, false, List, [], ◌∷◌, ◌++◌, append_assoc, append-nil, Option, refl, sym, ap, ◌∙◌, subst}
 use Rattle.std.specs.List.{flat_map}
 use Rattle.std.proofs.lemmas.Grind.{flat_map-append}

@@ -1,4 +1,5 @@
--- A printed query has at most four bytes for each byte of the tokens that spell it.
+-- For this crate and for the crates above: a printed query has at most four bytes for each byte of the tokens that
+-- spell it.
 use Rattle.std.proofs.Common.{◌≡◌, ℕ, zero, suc, ◌+◌, ◌-◌, ◌*◌, ◌≤◌, max, Bool, true, false, List, [], ◌∷◌, ◌++◌, drop, take, length, map, length-append, Option, None, Some, ℤ, IsTrue, refl, ap, subst, ◌∙◌, arith, leb, inl, inr}
 use Rattle.std.specs.Prelude.{codes, decimal, slice_get, unwrap_or, bytes_eq, if◌then◌else◌}
 use Rattle.std.specs.List.{list_all}

@@ -1,4 +1,5 @@
--- Canonical numbers: how long they are, and that they are numbers of the same value.
+-- For this crate and for the crates above: canonical numbers: how long they are, and that they are numbers of the
+-- same value.
 use Rattle.std.proofs.Common.{◌≡◌, ℕ, zero, suc, ◌+◌, ◌-◌, ◌*◌, ◌/◌, ◌%◌, ◌^◌, ◌<◌, ◌≤◌, max, Bool, true, false, ◌&&◌, List, [], ◌∷◌, ◌++◌, take, length, length-append, Option, None, Some, ℤ, pos, negsuc, unsigned_abs, refl, sym, ap, subst, ◌∙◌, arith, cond, leb, eqb}
 use Rattle.std.specs.Prelude.{neg_ℤ, option_and_then, unwrap_or}
 use Rattle.std.proofs.Math.Dec.{leb-zero}

@@ -1,4 +1,5 @@
--- A printed query is read back: its text is cut into tokens that spell it, and its numbers are in the ranges of their places.
+-- For this crate and for the crates above: a printed query is read back: its text is cut into tokens that spell
+-- it, and its numbers are in the ranges of their places.
 use Rattle.std.proofs.Common.{◌≡◌, ℕ, suc, ◌≤◌, Bool, true, false, not, List, [], ◌∷◌, ◌++◌, length, append_assoc, append-nil, Option, None, Some, ℤ, pos, negsuc, refl, sym, ap, subst, ◌∙◌, arith, cond, ltb}
 use Rattle.std.specs.Prelude.{codes, decimal, position, neg_ℤ, unsigned_abs}
 use Rattle.std.specs.List.{AllByRecursion, flat_map, prefix_len}

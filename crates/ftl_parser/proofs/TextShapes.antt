@@ -1,4 +1,4 @@
--- What tokens of a line spell is printable.
+-- For this crate and for the crates above: what tokens of a line spell is printable.
 use Rattle.std.proofs.Common.{◌≡◌, ℕ, zero, suc, ◌+◌, ◌-◌, ◌*◌, ◌≤◌, Bool, true, false, ◌&&◌, List, [], ◌∷◌, ◌++◌, drop, take, length, append_assoc, Option, None, Some, ℤ, pos, negsuc, unsigned_abs, IsTrue, refl, sym, ap, subst, ◌∙◌, arith, cond, leb}
 use Rattle.std.specs.Prelude.{neg_ℤ, not, slice_get, unwrap_or, if◌then◌else◌}
 use Rattle.std.specs.List.{AllByRecursion, list_all}

@@ -1,4 +1,4 @@
--- Texts that are cut into given tokens, and tokens at their fronts.
+-- For this crate and for the crates above: texts that are cut into given tokens, and tokens at their fronts.
 use Rattle.std.proofs.Common.{◌≡◌, ℕ, ◌-◌, ◌≤◌, Bool, true, false, not, ◌||◌, List, [], ◌∷◌, ◌++◌, take, length, length-append, Option, Some, IsTrue, refl, sym, ap, ◌∙◌, arith}
 use Rattle.std.specs.Prelude.{codes, slice_get, unwrap_or, if◌then◌else◌}
 use Rattle.std.specs.Option.{option_map_or}

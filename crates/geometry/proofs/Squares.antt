@@ -1,4 +1,4 @@
--- No square is negative.
+-- For this crate and for the crates above: no square is negative.
 use Rattle.std.proofs.Common.{◌≡◌, ℤ, pos, negsuc, unsigned_abs, refl, ◌*ℤ◌}
 
 pub square_is : (x : ℤ) → pos (unsigned_abs (x *ℤ x)) ≡ x *ℤ x

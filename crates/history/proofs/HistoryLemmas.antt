@@ -1,4 +1,4 @@
--- Histories, and one more write to a list of writes.
+-- For this crate and for the crates above: histories, and one more write to a list of writes.
 use Rattle.std.proofs.Common.{◌≡◌, ℕ, None, List, [], ◌∷◌, ◌++◌, refl, ap, ◌∙◌}
 use Rattle.std.specs.List.{fold}
 use Rattle.std.proofs.lemmas.List.Sums.{fold-append}

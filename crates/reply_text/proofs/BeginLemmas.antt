@@ -1,4 +1,4 @@
--- What still stands in front of a text.
+-- For this crate and for the crates above: what still stands in front of a text.
 use Rattle.std.proofs.Common.{◌≡◌, ℕ, List, [], ◌∷◌, ◌++◌, length, take, refl}
 use Rattle.std.proofs.Math.Seq.{take-append_seam}
 use Rattle.reply_text.specs.Begins.{Begins}

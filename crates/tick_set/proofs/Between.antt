@@ -1,4 +1,5 @@
--- Tests over the ticks between two ticks: what a true answer and a false one say of each tick.
+-- For this crate and for the crates above: tests over the ticks between two ticks: what a true answer and a false
+-- one say of each tick.
 use Rattle.std.proofs.Common.{◌≡◌, ℕ, zero, suc, ◌+◌, ◌-◌, ◌<◌, ◌≤◌, Bool, true, false, refl, sym, ◌∙◌, inl, inr, arith}
 use Rattle.std.specs.List.{range_with_len, list_any, list_all}
 use Rattle.std.proofs.lemmas.Bool.{false≢true, or_cases, and_parts, or_left, or_right, both_ways, false_from_ne_true}

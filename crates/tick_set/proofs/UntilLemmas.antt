@@ -1,4 +1,4 @@
--- UNTIL as "there is a tick u ..", which is what proofs use of it.
+-- For this crate and for the crates above: UNTIL as "there is a tick u ..", which is what proofs use of it.
 use Rattle.std.proofs.Common.{◌≡◌, ℕ, ◌+◌, Bool, true, false, ◌&&◌, IsTrue, ◌↔◌, arith}
 use Rattle.std.specs.List.{list_all}
 use Rattle.std.proofs.lemmas.Bool.{and_parts, and_from, false_from_ne_true}
