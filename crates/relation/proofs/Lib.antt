@@ -1,0 +1,14 @@
+pub mod ChangeLemmas
+pub mod ColumnLemmas
+pub mod EntryLemmas
+pub mod GroupLemmas
+pub mod KeyLemmas
+pub mod OperatorLemmas
+pub mod OrderLemmas
+pub mod ProjectionLemmas
+pub mod ReadLemmas
+pub mod RowLemmas
+pub mod SearchLemmas
+pub mod TableLemmas
+pub mod UnionLemmas
+pub mod WalkLemmas

@@ -1,0 +1,10 @@
+pub mod Entries
+pub mod Frames
+pub mod Group
+pub mod Key
+pub mod Operations
+pub mod Order
+pub mod Part
+pub mod Projection
+pub mod Rows
+pub mod Walk

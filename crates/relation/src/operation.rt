@@ -1,0 +1,118 @@
+//! What is done with the sets of one binding, or of two.
+
+ghost use Rattle.std.specs.Prelude.{◌≡◌, ℕ, true, IfOk};
+ghost use Rattle.tick_set.specs.Ticks.{LiesIn};
+ghost use Rattle.relation.specs.Operations.{changed, combined};
+
+use fixed_point::{BoundForm, UntilForm};
+use std::alloc::{AllocError, Global};
+use tick_set::Window;
+use until_merge::Temporal;
+
+/// How the sets of two bindings are put together.
+#[derive(Clone, Copy, Debug, PartialEq, Eq)]
+pub(crate) enum Operation {
+    /// The ticks of both.
+    Meet,
+    /// The ticks of either.
+    Union,
+    /// The ticks from which the first leads to the second, with the number of ticks of the form.
+    Until(UntilForm, u32),
+    /// The ticks of the window that are not in the first.
+    Complement,
+}
+
+/// What becomes of the set of one binding.
+#[derive(Clone, Copy, Debug, PartialEq, Eq)]
+pub(crate) enum Change {
+    Copy,
+    Clip(Window),
+    Next,
+    Bounded(BoundForm, u32),
+}
+
+impl Operation {
+    /// The set of the ticks at which the operation holds of two sets.
+    pub(crate) fn combine<S: Temporal>(
+        self,
+        alloc: Global,
+        left: &S,
+        right: &S,
+        w: Window,
+    ) -> Result<S, AllocError>
+        requires left { LiesIn w.lo w.hi (S.member left.now) }
+        requires right { LiesIn w.lo w.hi (S.member right.now) }
+        ensures ticks { IfOk result (λ s. (t : ℕ) → S.member s t
+            ≡ combined self w.lo w.hi (S.member left.now) (S.member right.now) t) }
+        ensures lies { IfOk result (λ s. LiesIn w.lo w.hi (S.member s)) }
+    {
+        let set = match self {
+            Operation::Meet => left.meet(alloc, right)?,
+            Operation::Union => left.union(alloc, right)?,
+            Operation::Until(form, c) => until_form(alloc, form, c, left, right, w)?,
+            Operation::Complement => left.complement(alloc, w)?,
+        };
+        Ok(set)
+    }
+}
+
+fn until_form<S: Temporal>(
+    alloc: Global,
+    form: UntilForm,
+    c: u32,
+    guard: &S,
+    goal: &S,
+    w: Window,
+) -> Result<S, AllocError>
+    requires guard { LiesIn w.lo w.hi (S.member guard.now) }
+    requires goal { LiesIn w.lo w.hi (S.member goal.now) }
+    ensures { IfOk result (λ s. (t : ℕ) → S.member s t
+        ≡ combined (Operation.Until form c) w.lo w.hi (S.member guard.now) (S.member goal.now) t) }
+{
+    match form {
+        UntilForm::Plain => guard.until(alloc, goal, w),
+        UntilForm::Within => guard.until_within(alloc, goal, c, w),
+        UntilForm::After => guard.until_after(alloc, goal, c, w),
+    }
+}
+
+impl Change {
+    /// The set of the ticks at which the change holds of a set.
+    pub(crate) fn apply<S: Temporal>(
+        self,
+        alloc: Global,
+        set: &S,
+        w: Window,
+    ) -> Result<S, AllocError>
+        requires { LiesIn w.lo w.hi (S.member set.now) }
+        ensures ticks { IfOk result (λ s. (t : ℕ) → S.member s t
+            ≡ changed self w.lo w.hi (S.member set.now) t) }
+        ensures lies { IfOk result (λ s. LiesIn w.lo w.hi (S.member s)) }
+    {
+        let set = match self {
+            Change::Copy => set.copy(alloc)?,
+            Change::Clip(part) => set.clip(alloc, part)?,
+            Change::Next => set.next(alloc, w)?,
+            Change::Bounded(form, c) => bounded(alloc, form, c, set, w)?,
+        };
+        Ok(set)
+    }
+}
+
+fn bounded<S: Temporal>(
+    alloc: Global,
+    form: BoundForm,
+    c: u32,
+    set: &S,
+    w: Window,
+) -> Result<S, AllocError>
+    requires { LiesIn w.lo w.hi (S.member set.now) }
+    ensures { IfOk result (λ s. (t : ℕ) → S.member s t
+        ≡ changed (Change.Bounded form c) w.lo w.hi (S.member set.now) t) }
+{
+    match form {
+        BoundForm::Within => set.eventually_within(alloc, c, w),
+        BoundForm::After => set.eventually_after(alloc, c, w),
+        BoundForm::Always => set.always_for(alloc, c, w),
+    }
+}

@@ -1,0 +1,151 @@
+//! What is done with two relations, binding by binding.
+
+ghost use Rattle.std.specs.Prelude.{◌≡◌, ◌≤◌, ◌+◌, ◌&&◌, ◌||◌, not, ℕ, true, length, IfOk};
+ghost use Rattle.std.specs.List.Sorted.{IsStrictlyIncreasing};
+ghost use Rattle.tick_set.specs.Ticks.{within};
+ghost use Rattle.formula.specs.Forms.{until_form_at};
+ghost use Rattle.formula.specs.declared.limits.TheConstants.{OBJECT_LIMIT};
+ghost use Rattle.relation.specs.Frames.{IsIn, frame, vars_of_both};
+ghost use Rattle.relation.specs.Key.{are_distinct, are_known};
+ghost use Rattle.relation.specs.Operations.{combined};
+ghost use Rattle.relation.specs.Part.{IsPart, part_has};
+ghost use Rattle.relation.specs.Rows.{has};
+ghost use Rattle.relation.specs.Walk.{covers};
+
+use crate::Relation;
+use crate::operation::Operation;
+use crate::part::Part;
+use crate::union::vars_of_both;
+use crate::walk::walk;
+use fixed_point::UntilForm;
+use formula::Binding;
+use std::alloc::{AllocError, Global};
+use until_merge::Temporal;
+
+impl<'d, S: Temporal> Relation<'d, S> {
+    /// The ticks at which both have the binding, over the variables of both. In time linear in the rows of the one
+    /// with fewer, but for searches among those of the other.
+    pub fn join(&self, alloc: Global, other: &Self) -> Result<Self, AllocError>
+        requires frame { frame other.now ≡ frame self.now }
+        requires left { IsStrictlyIncreasing self.now.vars }
+        requires right { IsStrictlyIncreasing other.now.vars }
+        ensures ticks { IfOk result (λ r. (b : ℕ → ℕ) → IsIn self.now.domains b → (t : ℕ) → has S.member r b t
+            ≡ (has S.member self.now b t && has S.member other.now b t)) }
+        ensures vars { IfOk result (λ r. r.vars ≡ vars_of_both self.now.vars other.now.vars) }
+        ensures frame { IfOk result (λ r. frame r ≡ frame self.now) }
+    {
+        let made = self.with(alloc, Operation::Meet, other)?;
+        Ok(made)
+    }
+
+    /// The ticks at which either has the binding, over the variables of both. A variable that one of them lacks
+    /// takes each object of its domain.
+    pub fn unite(&self, alloc: Global, other: &Self) -> Result<Self, AllocError>
+        requires frame { frame other.now ≡ frame self.now }
+        requires left { IsStrictlyIncreasing self.now.vars }
+        requires right { IsStrictlyIncreasing other.now.vars }
+        ensures ticks { IfOk result (λ r. (b : ℕ → ℕ) → IsIn self.now.domains b → (t : ℕ) → has S.member r b t
+            ≡ (has S.member self.now b t || has S.member other.now b t)) }
+        ensures vars { IfOk result (λ r. r.vars ≡ vars_of_both self.now.vars other.now.vars) }
+        ensures frame { IfOk result (λ r. frame r ≡ frame self.now) }
+    {
+        let made = self.with(alloc, Operation::Union, other)?;
+        Ok(made)
+    }
+
+    /// The ticks from which this relation leads to the other one by the form, with `c` ticks, over the variables of
+    /// both. A variable that one of them lacks takes each object of its domain.
+    pub fn until(
+        &self,
+        alloc: Global,
+        other: &Self,
+        form: UntilForm,
+        c: u32,
+    ) -> Result<Self, AllocError>
+        requires frame { frame other.now ≡ frame self.now }
+        requires left { IsStrictlyIncreasing self.now.vars }
+        requires right { IsStrictlyIncreasing other.now.vars }
+        ensures ticks { IfOk result (λ r. (b : ℕ → ℕ) → IsIn self.now.domains b → (t : ℕ) → has S.member r b t
+            ≡ (within self.now.lo self.now.hi t
+            && until_form_at form c (has S.member self.now b) (has S.member other.now b) self.now.hi t)) }
+        ensures vars { IfOk result (λ r. r.vars ≡ vars_of_both self.now.vars other.now.vars) }
+        ensures frame { IfOk result (λ r. frame r ≡ frame self.now) }
+    {
+        let made = self.with(alloc, Operation::Until(form, c), other)?;
+        Ok(made)
+    }
+
+    /// The ticks of the window that a binding does not have, for each binding of the domains.
+    pub fn complement(&self, alloc: Global) -> Result<Self, AllocError>
+        ensures ticks { IfOk result (λ r. (b : ℕ → ℕ) → IsIn self.now.domains b → (t : ℕ) → has S.member r b t
+            ≡ (within self.now.lo self.now.hi t && not (has S.member self.now b t))) }
+        ensures vars { IfOk result (λ r. r.vars ≡ self.now.vars) }
+        ensures frame { IfOk result (λ r. frame r ≡ frame self.now) }
+    {
+        let made = self.walked(alloc, Operation::Complement, self.vars(), self)?;
+        Ok(made)
+    }
+
+    // Both put together over the variables of both.
+    fn with(&self, alloc: Global, operation: Operation, other: &Self) -> Result<Self, AllocError>
+        requires frame { frame other.now ≡ frame self.now }
+        requires left { IsStrictlyIncreasing self.now.vars }
+        requires right { IsStrictlyIncreasing other.now.vars }
+        ensures ticks { IfOk result (λ r. (b : ℕ → ℕ) → IsIn self.now.domains b → (t : ℕ) → has S.member r b t
+            ≡ combined operation self.now.lo self.now.hi (has S.member self.now b) (has S.member other.now b) t) }
+        ensures vars { IfOk result (λ r. r.vars ≡ vars_of_both self.now.vars other.now.vars) }
+        ensures frame { IfOk result (λ r. frame r ≡ frame self.now) }
+    {
+        // The number of domains bounds the variables.
+        let _ = self.domains().len();
+        let vars = vars_of_both(self.vars(), other.vars());
+        let made = self.walked(alloc, operation, vars.vars(), other)?;
+        Ok(made)
+    }
+
+    // Both put together over these variables, which cover those of both.
+    pub(crate) fn walked(
+        &self,
+        alloc: Global,
+        operation: Operation,
+        vars: &[u8],
+        other: &Self,
+    ) -> Result<Self, AllocError>
+        requires frame { frame other.now ≡ frame self.now }
+        requires few { length vars.now ≤ OBJECT_LIMIT }
+        requires known { are_known self.now.domains vars.now ≡ true }
+        requires distinct { are_distinct vars.now ≡ true }
+        requires left { covers vars.now self.now.vars ≡ true }
+        requires right { covers vars.now other.now.vars ≡ true }
+        ensures ticks { IfOk result (λ r. (b : ℕ → ℕ) → IsIn self.now.domains b → (t : ℕ) → has S.member r b t
+            ≡ combined operation self.now.lo self.now.hi (has S.member self.now b) (has S.member other.now b) t) }
+        ensures vars { IfOk result (λ r. r.vars ≡ vars.now) }
+        ensures frame { IfOk result (λ r. frame r ≡ frame self.now) }
+    {
+        let mut made = Relation::empty(alloc, vars, self.domains(), self.window());
+        walk(
+            alloc,
+            &mut made,
+            operation,
+            Binding::new(),
+            vars,
+            &self.part(),
+            &other.part(),
+        )?;
+        Ok(made)
+    }
+
+    // All rows.
+    fn part(&self) -> Part<'_, S>
+        ensures part { IsPart S.member self.now.domains self.now.lo self.now.hi result }
+        ensures same { (b : ℕ → ℕ) (t : ℕ) → part_has S.member result b t ≡ has S.member self.now b t }
+        ensures vars { result.vars.now ≡ self.now.vars }
+        ensures room { result.place + length result.vars.now ≤ OBJECT_LIMIT }
+    {
+        Part {
+            vars: self.vars(),
+            rows: self.rows(),
+            place: 0,
+        }
+    }
+}
