@@ -1,0 +1,10 @@
+pub mod AttributeLemmas
+pub mod FaultLemmas
+pub mod FirstLemmas
+pub mod FoundLemmas
+pub mod PlaceLemmas
+pub mod QueryLemmas
+pub mod RightLemmas
+pub mod SizeLemmas
+pub mod StableLemmas
+pub mod StepLemmas

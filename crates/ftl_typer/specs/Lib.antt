@@ -1,0 +1,7 @@
+pub mod Context
+pub mod Faults
+pub mod First
+pub mod Resolved
+pub mod Scope
+pub mod Values
+pub mod Example
