@@ -35,11 +35,12 @@ fn first_reached(rise: u128, start: i128, count: u32) -> u32 {
     if start >= 0 {
         return 0;
     }
-    if rise == 0 {
+    let depth = start.unsigned_abs();
+    // A product tells without a division that it is negative up to the last number.
+    if rise * u128::from(count.saturating_sub(1)) < depth {
         return count;
     }
-    let first = start.unsigned_abs().div_ceil(rise);
-    if first < u128::from(count) { first as u32 } else { count }
+    depth.div_ceil(rise) as u32
 }
 
 fn stretch(w: (u32, u32), from: u32, until: u32) -> Span {
@@ -115,8 +116,8 @@ impl Quad {
     }
 }
 
-/// The ticks at which the squared distance is at most `limit`, by the valley and a bisection on each side.
-/// `probe` is called once for each value that is looked at.
+/// The ticks at which the squared distance is at most `limit`, by the valley, the two ends of the window, and a
+/// bisection on each side whose end is too far. `probe` is called once for each value that is looked at.
 fn within(q: &Quad, limit: i128, w: (u32, u32), mut probe: impl FnMut()) -> Span {
     let mut at = |k| {
         probe();
@@ -128,6 +129,9 @@ fn within(q: &Quad, limit: i128, w: (u32, u32), mut probe: impl FnMut()) -> Span
         return None;
     }
     let (mut low, mut first) = (0, nearest);
+    if first > 0 && at(0) <= limit {
+        first = 0;
+    }
     while low < first {
         let middle = low + (first - low) / 2;
         if at(middle) <= limit {
@@ -137,6 +141,9 @@ fn within(q: &Quad, limit: i128, w: (u32, u32), mut probe: impl FnMut()) -> Span
         }
     }
     let (mut end, mut high) = (nearest, last);
+    if end < last && at(last) <= limit {
+        end = last;
+    }
     while end < high {
         let middle = high - (high - end) / 2;
         if at(middle) <= limit {
@@ -152,7 +159,7 @@ fn cross(p: Point, q: Point, r: Point) -> i128 {
     i128::from(q.x - p.x) * i128::from(r.y - p.y) - i128::from(q.y - p.y) * i128::from(r.x - p.x)
 }
 
-/// The ticks at which the squared distance compares so with `square`.
+/// The ticks at which the comparison of the squared distance with `square` holds.
 fn compare(q: &Quad, op: Op, square: i128, w: (u32, u32)) -> [Span; 3] {
     let near = |limit| within(q, limit, w, || ());
     match op {

@@ -2,7 +2,6 @@
 // printed as its canonical text. By itself it is the yardstick of `grammar`, which reads each line of standard
 // input and prints it; `session.rs` stands on it too.
 use std::hash::{Hash, Hasher};
-use std::hint::black_box;
 use std::io::Read;
 use std::time::Instant;
 
@@ -1085,7 +1084,7 @@ fn put_words(out: &mut Vec<u8>, words: &[&[u8]]) {
     }
 }
 
-/// Puts the canonical line of the command behind `out`.
+/// Adds the canonical line of the command to `out`.
 pub fn put_command(out: &mut Vec<u8>, command: &Command) {
     match command {
         Command::Nothing => {}
@@ -1194,21 +1193,22 @@ pub fn put_command(out: &mut Vec<u8>, command: &Command) {
 fn main() {
     let mut input = Vec::new();
     std::io::stdin().read_to_end(&mut input).unwrap();
-    let lines: Vec<&[u8]> = input.split(|b| *b == b'\n').filter(|line| !line.is_empty()).collect();
+    let lines = || input.split(|b| *b == b'\n').filter(|line| !line.is_empty());
     let mut tokens = Vec::new();
 
     let begun = Instant::now();
     let mut read_lines = 0;
-    for line in &lines {
-        read_lines += usize::from(black_box(read(line, &mut tokens)).is_ok());
+    for line in lines() {
+        read_lines += usize::from(read(line, &mut tokens).is_ok());
     }
     let reading = begun.elapsed().as_nanos();
 
     let begun = Instant::now();
+    let mut text = Vec::new();
     let (mut bytes, mut sum) = (0, 0u64);
-    for line in &lines {
+    for line in lines() {
         if let Ok(command) = read(line, &mut tokens) {
-            let mut text = Vec::new();
+            text.clear();
             put_command(&mut text, &command);
             bytes += text.len();
             sum = text.iter().fold(sum, |sum, byte| sum.wrapping_mul(31).wrapping_add(u64::from(*byte)));

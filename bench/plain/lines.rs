@@ -1,5 +1,5 @@
 // The yardstick of `lines`: `class`, `insert`, `update` and `tick` in plain Rust without proofs, with a clock and a map
-// of objects. It reads and writes in large pieces.
+// of objects. It reads and writes in large pieces; with a word, it writes each reply by itself.
 use std::collections::HashMap;
 use std::io::{self, Read, Write};
 
@@ -248,6 +248,7 @@ fn checksum(database: &Database) -> i64 {
 
 fn main() -> io::Result<()> {
     let (mut source, mut sink) = (io::stdin().lock(), io::stdout().lock());
+    let apart = std::env::args().len() > 1;
     let mut database = Database::default();
     let mut input = vec![0; 2 * PIECE];
     let mut kept = 0;
@@ -264,7 +265,11 @@ fn main() -> io::Result<()> {
                 Some(()) => b"ok\n",
                 None => b"refused\n",
             };
-            out.extend_from_slice(replied);
+            if apart {
+                sink.write_all(replied)?;
+            } else {
+                out.extend_from_slice(replied);
+            }
             rest = &rest[end + 1..];
         }
         kept = rest.len();

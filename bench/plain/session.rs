@@ -53,11 +53,11 @@ impl From<Fault> for Refusal {
     }
 }
 
-/// Canonical lines, one behind the other, each with its line feed.
+/// Canonical lines, one after the other, each with its line feed.
 #[derive(Default)]
 struct Journal {
     lines: Vec<u8>,
-    /// The tick of each entry and the place behind its line.
+    /// The tick of each entry and the place after its line.
     entries: Vec<(u32, u32)>,
 }
 
@@ -305,7 +305,7 @@ impl Spans {
         }
     }
 
-    /// Adds the ticks of `lo..=hi` at which `slope * (tick - lo) + start` compares so with 0.
+    /// Adds the ticks of `lo..=hi` at which `slope * (tick - lo) + start` compares with 0 as `op` says.
     fn solve(&mut self, slope: i64, start: i64, op: u8, lo: u32, hi: u32) {
         let last = i64::from(hi - lo);
         // the first and the last number up to `last` at which a * k + b is at most 0
@@ -384,7 +384,7 @@ enum Next {
 }
 
 impl Session {
-    /// Answers one line: puts the reply behind `out`, and says whether it was `quit`.
+    /// Answers one line: adds the reply to `out`, and says whether it was `quit`.
     fn answer(&mut self, line: &[u8], out: &mut Vec<u8>) -> bool {
         match self.step(line, out) {
             Ok(Next::Silent) => false,

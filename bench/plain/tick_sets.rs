@@ -1,5 +1,6 @@
 // The yardstick of `tick_sets` and `small_sets`: the same operations on the same sets, in plain Rust without
-// proofs.
+// proofs. A set is a list of spans in ascending order with a gap after each, and each operation is written by itself:
+// one walk over the lists.
 use std::time::Instant;
 
 type Spans = Vec<(u32, u32)>;
@@ -10,43 +11,65 @@ fn comb(first: u32, count: u32) -> Spans {
     (0..count).map(|i| (first + 9 * i, first + 9 * i + 2)).collect()
 }
 
-/// One sweep over both, in stretches in which both are constant.
-fn swept(a: &[(u32, u32)], b: &[(u32, u32)], keeps: impl Fn(bool, bool) -> bool) -> Spans {
-    let mut out = Vec::with_capacity(a.len() + b.len() + 1);
+/// The spans of both lists by their beginnings, where those that touch become one.
+fn union(a: &[(u32, u32)], b: &[(u32, u32)]) -> Spans {
+    let mut out: Spans = Vec::with_capacity(a.len() + b.len());
     let (mut i, mut j) = (0, 0);
-    let mut at = 0;
-    let mut from = None;
-    while at <= LAST_TICK {
-        while i < a.len() && a[i].1 < at {
-            i += 1;
+    loop {
+        let (lo, hi) = match (a.get(i), b.get(j)) {
+            (Some(&s), Some(&t)) if t.0 < s.0 => {
+                j += 1;
+                t
+            }
+            (Some(&s), _) => {
+                i += 1;
+                s
+            }
+            (None, Some(&t)) => {
+                j += 1;
+                t
+            }
+            (None, None) => return out,
+        };
+        match out.last_mut() {
+            Some(last) if lo <= last.1 + 1 => last.1 = last.1.max(hi),
+            _ => out.push((lo, hi)),
         }
-        while j < b.len() && b[j].1 < at {
+    }
+}
+
+/// What two spans have in common, and then on to the next one in the list whose span ends first.
+fn meet(a: &[(u32, u32)], b: &[(u32, u32)]) -> Spans {
+    let mut out = Vec::with_capacity(a.len() + b.len());
+    let (mut i, mut j) = (0, 0);
+    while let (Some(s), Some(t)) = (a.get(i), b.get(j)) {
+        let (lo, hi) = (s.0.max(t.0), s.1.min(t.1));
+        if lo <= hi {
+            out.push((lo, hi));
+        }
+        if s.1 < t.1 {
+            i += 1;
+        } else {
             j += 1;
         }
-        let (in_a, change_a) = state(a.get(i), at);
-        let (in_b, change_b) = state(b.get(j), at);
-        match (keeps(in_a, in_b), from) {
-            (true, None) => from = Some(at),
-            (false, Some(lo)) => {
-                out.push((lo, at - 1));
-                from = None;
-            }
-            _ => {}
-        }
-        at = change_a.min(change_b);
-    }
-    if let Some(lo) = from {
-        out.push((lo, LAST_TICK));
     }
     out
 }
 
-fn state(span: Option<&(u32, u32)>, at: u32) -> (bool, u32) {
-    match span {
-        None => (false, LAST_TICK + 1),
-        Some(&(lo, hi)) if lo <= at => (true, hi + 1),
-        Some(&(lo, _)) => (false, lo),
+/// The gaps up to the last tick.
+fn complement(a: &[(u32, u32)]) -> Spans {
+    let mut out = Vec::with_capacity(a.len() + 1);
+    let mut from = 0;
+    for &(lo, hi) in a {
+        if from < lo {
+            out.push((from, lo - 1));
+        }
+        from = hi + 1;
     }
+    if from <= LAST_TICK {
+        out.push((from, LAST_TICK));
+    }
+    out
 }
 
 /// One walk over both: each span of the goal, from where the guard's span that leads to it begins.
@@ -77,7 +100,7 @@ fn small_set(seed: &mut u64) -> Spans {
     (0..count).fold(Spans::new(), |set, _| {
         let lo = ((next(seed) >> 20) % 9_000) as u32;
         let length = ((next(seed) >> 20) % 1_000) as u32;
-        swept(&set, &[(lo, (lo + length).min(10_000))], |x, y| x || y)
+        union(&set, &[(lo, (lo + length).min(10_000))])
     })
 }
 
@@ -108,17 +131,17 @@ fn timed_small(name: &str, rounds: u32, sets: &[Spans], operation: impl Fn(&Span
 fn large(count: u32, rounds: u32) {
     let (a, b) = (comb(5, count), comb(7, count));
     let both = a.len() + b.len();
-    timed("union", rounds, both, || swept(&a, &b, |x, y| x || y));
-    timed("meet", rounds, both, || swept(&a, &b, |x, y| x && y));
-    timed("complement", rounds, both, || swept(&a, &[], |x, _| !x));
+    timed("union", rounds, both, || union(&a, &b));
+    timed("meet", rounds, both, || meet(&a, &b));
+    timed("complement", rounds, both, || complement(&a));
     timed("until", rounds, both, || until(&a, &b));
 }
 
 fn small(count: u32, rounds: u32) {
     let mut seed = 3;
     let sets: Vec<Spans> = (0..count).map(|_| small_set(&mut seed)).collect();
-    timed_small("small_union", rounds, &sets, |a, b| swept(a, b, |x, y| x || y));
-    timed_small("small_meet", rounds, &sets, |a, b| swept(a, b, |x, y| x && y));
+    timed_small("small_union", rounds, &sets, |a, b| union(a, b));
+    timed_small("small_meet", rounds, &sets, |a, b| meet(a, b));
     timed_small("small_until", rounds, &sets, |a, b| until(a, b));
 }
 
