@@ -8,7 +8,7 @@ use std::marker::Model;
 /// The most bytes of a word of a `Table`.
 pub const ROW_WORD_LIMIT: usize = 20;
 
-// A word by its first `len` bytes, with its code. The bytes behind the word are 0, so that equal rows
+// A word by its first `len` bytes, with its code. The bytes after the word are 0, so that equal rows
 // have equal fields.
 #[derive(Clone, Copy, Debug)]
 struct Row {

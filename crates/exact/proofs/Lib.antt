@@ -2,6 +2,5 @@ pub mod Ring
 pub mod Sizes
 pub mod Convex
 pub mod Halves
-pub mod Extensional
 pub mod Lists
 pub mod PaddedLemmas

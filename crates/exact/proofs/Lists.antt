@@ -1,5 +1,5 @@
--- Some and each element of a list, where two tests agree on the elements or are each other's negation; and lists of
--- bytes that are equal.
+-- For this crate and for the crates above: some and each element of a list, where two tests agree on the elements or
+-- are each other's negation; and lists of bytes that are equal.
 use Rattle.std.proofs.Common.{◌≡◌, ℕ, Bool, true, false, not, ◌&&◌, ◌||◌, List, [], ◌∷◌, All, Contains, get_or, refl, ap, ◌∙◌}
 use Rattle.std.specs.Prelude.{bytes_eq}
 use Rattle.std.specs.List.{list_any, list_all}

@@ -11,7 +11,7 @@ length-front filler room places count p =
     let short : count ≤ length places = omega (arith, p.fits, p.full) in
     length-take-le count places short
 
--- an array is its items and the filler behind them
+-- an array is its items and the filler after them
 pub padded-front : {A : Type 0} (filler : A) (room : ℕ) (places : List A) (count : ℕ) → IsPadded filler room places count → padded filler room (take count places) ≡ places
 padded-front filler room places count p =
     rw (length-front filler room places count p, ← p.unused) (take-append-drop count places)
@@ -24,7 +24,7 @@ padded_over {A} filler room items fillers fits are = record {
   unused = drop-append_seam items (drop (length items) fillers) ∙ ap (drop (length items)) are ∙ drop-replicate (length items) room filler;
 }
 
--- more items behind those that are there
+-- more items after those that are there
 pub padded_behind : {A : Type 0} (filler : A) (room : ℕ) (places part : List A) (count : ℕ) → IsPadded filler room places count → count + length part ≤ room → IsPadded filler room (put_mid count (count + length part - count) places part) (count + length part)
 padded_behind {A} filler room places part count was fits =
     let within : count ≤ length places = omega (arith, was.fits, was.full) in

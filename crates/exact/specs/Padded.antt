@@ -1,7 +1,7 @@
--- Items in the front of an array of fixed length, with one filler in each place behind them.
+-- Items in the front of an array of fixed length, with one filler in each place after them.
 use Rattle.std.specs.Prelude.{◌≡◌, ℕ, ◌-◌, ◌≤◌, List, ◌++◌, length, drop, replicate}
 
--- the items, and the filler behind them in the rest of an array with so much room
+-- the items, and the filler after them in the rest of an array with so much room
 abbrev pub padded : {A : Type 0} → A → ℕ → List A → List A
 padded filler room items = items ++ replicate (room - length items) filler
 

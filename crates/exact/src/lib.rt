@@ -6,11 +6,11 @@
 //! `grind (arith, steps)` with the set `steps` of `proofs/Sizes.antt`.
 //!
 //! Its `specs/` has what the crates above define in one way: the first condition that holds (`First`),
-//! items in the front of an array (`Padded`), and functions that fall and rise (`Rising`). Its
+//! what is asked next of an option's value (`Options`), items in the front of an array (`Padded`), and
+//! functions that fall and rise (`Rising`). Its
 //! `proofs/` has the facts that they share: equations of polynomials over the integers (`Ring`),
 //! functions that fall and rise (`Convex`), bisections (`Halves`), tests of lists and lists of bytes
-//! (`Lists`), functions that are equal at each argument (`Extensional`) and what an array has in its
-//! front (`PaddedLemmas`).
+//! (`Lists`) and what an array has in its front (`PaddedLemmas`).
 #![tactic(auto)]
 
 ghost use Rattle.std.specs.Prelude.{

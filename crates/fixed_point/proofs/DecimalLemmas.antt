@@ -8,7 +8,8 @@ use Rattle.std.specs.Char.{is_ascii_digit, digit_value}
 use Rattle.std.specs.Fmt.{sign_text}
 use Rattle.std.specs.List.{prefix_len}
 use Rattle.std.specs.Str.Parse.{AllDigits, digits_value}
-use Rattle.fixed_point.specs.Decimal.{◌>>=◌, digits_at, decimals_value, decimals_of, size_of, with_sign, thousandths_of, AreDigits, point_text, IsDecimal}
+use Rattle.exact.specs.Options.{◌>>=◌}
+use Rattle.fixed_point.specs.Decimal.{digits_at, decimals_value, decimals_of, size_of, with_sign, thousandths_of, AreDigits, point_text, IsDecimal}
 use Rattle.fixed_point.specs.Laws.{ReadsEachDecimal}
 use Rattle.fixed_point.proofs.DigitLemmas.{digits_in_front}
 
@@ -95,7 +96,7 @@ unsigned_is text size is =
       valued = sym (same_Some (1000 * digits_value 10 parts.0 + second.0) size second.2) ∙ ap (λ decimals. 1000 * digits_value 10 parts.0 + decimals) are.valued;
     }
 
--- the text behind the sign
+-- the text after the sign
 behind_sign : (negative : Bool) (text : List ℕ) → eqb (get_or text 0 0) 45 ≡ negative → text ≡ sign_text negative ++ cond negative (drop 1 text) text
 behind_sign false text is = refl
 behind_sign true [] is = absurd (grind (arith, nat_tests))

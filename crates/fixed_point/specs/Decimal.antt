@@ -4,12 +4,8 @@ use Rattle.std.specs.Char.{is_ascii_digit}
 use Rattle.std.specs.List.{prefix_len}
 use Rattle.std.specs.Str.Parse.{AllDigits, digits_value}
 use Rattle.std.specs.Fmt.{sign_text}
+use Rattle.exact.specs.Options.{◌>>=◌}
 use Rattle.fixed_point.specs.declared.reading.TheConstants.{WHOLE_DIGITS_LIMIT, DECIMALS_LIMIT}
-
-infixl 10 ◌>>=◌
-abbrev pub ◌>>=◌ : {A B : Type 0} → Option A → (A → Option B) → Option B
-None >>= f = None
-(Some x) >>= f = f x
 
 -- the digits at the front and what follows them, if there are from one to `most` digits
 abbrev pub digits_at : ℕ → List ℕ → Option (List ℕ × List ℕ)
@@ -17,11 +13,11 @@ digits_at most text =
     let count = prefix_len is_ascii_digit text in
     if nat_le 1 count && nat_le count most then Some (take count text, drop count text) else None
 
--- the thousandths that up to three digits behind a point stand for: `5` is 500, and `05` is 50
+-- the thousandths that up to three digits after a point stand for: `5` is 500, and `05` is 50
 abbrev pub decimals_value : List ℕ → ℕ
 decimals_value digits = digits_value 10 digits * 10 ^ (DECIMALS_LIMIT - length digits)
 
--- the thousandths that stand behind the whole part: nothing, or a point and from one to three digits
+-- the thousandths that stand after the whole part: nothing, or a point and from one to three digits
 unfoldable pub decimals_of : List ℕ → Option ℕ
 decimals_of [] = Some 0
 decimals_of (byte ∷ rest) = do

@@ -1,9 +1,10 @@
-//! Numbers, points and words: the values of which everything else is made.
+//! Numbers, points, words and lists: the values of which everything else is made.
 //!
-//! A number is a whole count of thousandths, so that `0.5` is 500, and no number is ever rounded. No
-//! call of this crate takes memory.
+//! A number is a whole count of thousandths, so that `0.5` is 500, and no number is ever rounded. Of the
+//! calls of this crate `Items::push` alone takes memory.
 #![tactic(auto)]
 
+mod items;
 mod laws;
 mod number;
 mod number_text;
@@ -13,6 +14,7 @@ mod short_text;
 mod tests;
 mod variants;
 
+pub use items::Items;
 pub use laws::{limits_in_numbers, reads_each_decimal, reads_what_is_printed};
 pub use number::{FIX_LIMIT, Fix, Point, READ_LIMIT, SLOPE_LIMIT, Slope};
 pub use number_text::{FIX_TEXT_LIMIT, FixText};

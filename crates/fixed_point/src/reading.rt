@@ -48,7 +48,7 @@ fn number_of(digits: &[u8]) -> u64
     number
 }
 
-// The thousandths that up to three digits behind a point stand for.
+// The thousandths that up to three digits after a point stand for.
 #[tactic(auto, using(crate::proofs::DigitLemmas::power_steps))]
 fn value_of_decimals(digits: &[u8]) -> u64
     requires { AreDigits 1 DECIMALS_LIMIT digits.now }
@@ -63,7 +63,7 @@ fn value_of_decimals(digits: &[u8]) -> u64
     }
 }
 
-// The thousandths behind the whole part: of nothing, or of a point and from one to three digits.
+// The thousandths after the whole part: of nothing, or of a point and from one to three digits.
 #[tactic(auto, unfolding(crate::specs::Decimal::decimals_of))]
 fn read_decimals(text: &[u8]) -> Option<u64>
     ensures value { result ≡ decimals_of text.now }

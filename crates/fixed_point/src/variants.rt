@@ -1,6 +1,6 @@
 //! The small sets of words from which formulas choose.
 
-/// A part of a dynamic attribute, named behind a point, as in `o.x.value`.
+/// A part of a dynamic attribute, written after a point, as in `o.x.value`.
 #[derive(Clone, Copy, Debug, PartialEq, Eq, Hash, PartialOrd, Ord)]
 pub enum SubName {
     /// The value at the last update.

@@ -3,7 +3,7 @@ use Rattle.std.specs.Prelude.{ℕ, Bool}
 use Rattle.fixed_point.specs.declared.variants.BoundForm.{BoundForm}
 use Rattle.fixed_point.specs.declared.variants.UntilForm.{UntilForm}
 
--- a formula with atoms A, in which an assignment binds a B for the formula behind it
+-- a formula with atoms A, in which an assignment binds a B for the formula after it
 pub data Shape (A B : Type 0) : Type 0 where
   Truth : Bool → Shape A B
   Atom : A → Shape A B

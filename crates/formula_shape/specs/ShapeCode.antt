@@ -1,4 +1,4 @@
--- A code for the trees of formulas: a tree as the list of its nodes, each behind its parts.
+-- A code for the trees of formulas: a tree as the list of its nodes, each after its parts.
 use Rattle.std.specs.Prelude.{◌≡◌, ℕ, Bool, true, refl, List, [], ◌∷◌, ◌++◌}
 use Rattle.std.specs.Coded.{Coded, code_by}
 use Rattle.std.proofs.Common.{◌∙◌, ap, append_assoc, sym, append-nil}
@@ -56,7 +56,7 @@ abbrev pub first_of : {A B : Type 0} → List (Shape A B) → Shape A B
 first_of [] = Shape.Truth true
 first_of (f ∷ s) = f
 
--- a node over trees that were built, with more nodes behind it
+-- a node over trees that were built, with more nodes after it
 abbrev join : {A B : Type 0} (ms : List (Node A B)) (n : Node A B) (later : List (Node A B)) (s t : List (Shape A B)) →
     built (ms ++ (n ∷ later)) s ≡ built (n ∷ later) t → built ((ms ++ n ∷ []) ++ later) s ≡ built (n ∷ later) t
 join ms n later s t e = ap (λ ns. built ns s) (append_assoc ms (n ∷ []) later) ∙ e
@@ -71,7 +71,7 @@ join_two ms ns n later s t u d e =
     ∙ d
     ∙ e
 
--- the nodes of a tree build it, whatever waits and comes behind
+-- the nodes of a tree build it, whatever waits and comes after
 pub built-listed : {A B : Type 0} (f : Shape A B) (later : List (Node A B)) (s : List (Shape A B)) →
     built (listed f ++ later) s ≡ built later (f ∷ s)
 built-listed (Shape.Truth b) later s = refl
