@@ -1,11 +1,19 @@
 -- Runs that grow at their end.
-use Rattle.std.proofs.Common.{◌≡◌, ℕ, zero, suc, ◌+◌, ◌<◌, ◌≤◌, true, false, ◌||◌, List, [], ◌∷◌, ◌++◌, length, get_or, set, ◌∙◌, sym, refl, inl, inr, arith}
+use Rattle.std.proofs.Common.{◌≡◌, ℕ, zero, suc, ◌+◌, ◌<◌, ◌≤◌, true, false, ◌||◌, Option, List, [], ◌∷◌, ◌++◌, length, get_or, set, ◌∙◌, sym, refl, subst, inl, inr, arith}
+use Rattle.std.specs.Prelude.{IfSome, slice_get}
+use Rattle.std.proofs.lemmas.Option.{slice_get-get_or}
 use Rattle.std.proofs.lemmas.Bool.{or_cases, or_right, false≢true}
 use Rattle.std.proofs.lemmas.Bool.Decides.{nat_tests}
 use Rattle.tick_set.specs.Ticks.{within}
 use Rattle.tick_set.specs.Runs.{spans_have, IsNormal, IsNormalFrom}
 use Rattle.tick_set.specs.declared.spans.Span.{Span}
 use Rattle.tick_set.proofs.RunLemmas.{spans_have-append, IsNormalFrom-push}
+
+-- what holds of the last run holds of it at each default
+pub joined_at : (runs : List Span) (k : ℕ) (d span : Span) → k + 1 ≡ length runs → IfSome (slice_get runs k) (λ (run : Span). run.hi + 1 ≡ span.lo) →
+    (get_or runs k d).hi + 1 ≡ span.lo
+joined_at runs k d span last joined =
+    subst (λ (o : Option Span). IfSome o (λ run. run.hi + 1 ≡ span.lo)) (slice_get-get_or runs k d (omega (arith, last))) joined
 
 -- the last run gives way to one that begins where it does
 normal_longer_from : (runs : List Span) (from k : ℕ) (d longer : Span) → IsNormalFrom from runs → k + 1 ≡ length runs

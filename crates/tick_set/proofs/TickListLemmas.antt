@@ -36,7 +36,7 @@ pub has_in_range : (ticks : List ℕ) (from u : ℕ) → IsAscendingFrom from ti
 has_in_range [] from u h e = absurd (false≢true e)
 has_in_range (x ∷ ticks) from u h e = grind (arith, nat_tests, h.1, has_in_range ticks (x + 1) u h.2)
 
--- where the list begins with t, the ticks behind it are those above t
+-- where the list begins with t, the ticks after it are those above t
 pub has_behind : (ticks later : List ℕ) (t u : ℕ) → ticks ≡ t ∷ later → IsAscendingFrom t ticks → has later u ≡ (ltb t u && has ticks u)
 has_behind ticks later t u e h = rw e (grind (arith, nat_tests, has_below later (t + 1) u (rw e at h).2))
 
@@ -47,7 +47,7 @@ has_not_taken ticks later t x e ne h =
     let begins : IsAscendingFrom (t + 1) (x ∷ later) = (omega (arith, h'.0), h'.1, h'.2) in
     rw e (sym (has_below (x ∷ later) (t + 1) t begins (omega arith)), λ u. grind (arith, nat_tests, has_below (x ∷ later) (t + 1) u begins))
 
--- what is settled of the run from first on, with the ticks later behind first: it reaches hi, and rest is left
+-- what is settled of the run from first on, with the ticks `later` after first: it reaches hi, and rest is left
 pub record RunSoFar (first : ℕ) (later : List ℕ) (hi : ℕ) (rest : List ℕ) : Type 0 where
   pub ordered : first ≤ hi
   pub in_range : hi ≤ 1000000000

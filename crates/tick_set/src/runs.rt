@@ -1,5 +1,5 @@
 //! Runs that are built from the first tick to the last.
-ghost use Rattle.std.specs.Prelude.{◌≡◌, ◌+◌, ◌<◌, ◌≤◌, ◌||◌, ℕ, true, [], length, option_to_list, slice_index_or, IfNone, IfSome, OnErr, OnOk};
+ghost use Rattle.std.specs.Prelude.{◌≡◌, ◌+◌, ◌<◌, ◌≤◌, ◌||◌, ℕ, true, [], length, option_to_list, slice_get, IfNone, IfSome, OnErr, OnOk};
 ghost use Rattle.std.specs.Option.{ForSome};
 ghost use Rattle.tick_set.specs.Runs.{IsNormal, spans_have};
 ghost use Rattle.tick_set.specs.Ticks.{within};
@@ -91,9 +91,9 @@ fn append_span(runs: &mut Vec<Span>, span: Span) -> Result<(), AllocError>
     ensures err { OnErr result (runs.new.items ≡ runs.old.items) }
 {
     match joined_run(runs, span) {
-        Some(place) => {
-            let lo = runs[place].lo;
-            runs[place] = Span { lo, hi: span.hi };
+        Some(index) => {
+            let lo = runs[index].lo;
+            runs[index] = Span { lo, hi: span.hi };
         }
         None => runs.push(span)?,
     }
@@ -105,9 +105,9 @@ fn append_span(runs: &mut Vec<Span>, span: Span) -> Result<(), AllocError>
 fn joined_run(runs: &[Span], span: Span) -> Option<usize>
     requires normal { IsNormal runs.now }
     requires past { (t : ℕ) → spans_have runs.now t ≡ true → t < span.lo }
-    ensures last { IfSome result (λ place. place + 1 ≡ length runs.now) }
+    ensures last { IfSome result (λ index. index + 1 ≡ length runs.now) }
     ensures joined { IfSome result
-        (λ place. (d : Span) → (slice_index_or runs.now place d).hi + 1 ≡ span.lo) }
+        (λ index. IfSome (slice_get runs.now index) (λ run. run.hi + 1 ≡ span.lo)) }
     ensures apart { IfNone result ((t : ℕ) → spans_have runs.now t ≡ true → t + 2 ≤ span.lo) }
 {
     let last = runs.len().checked_sub(1)?;

@@ -21,7 +21,7 @@ fn set_of<S: TickSet>(alloc: Global, spans: &[(u32, u32)], w: Window) -> Result<
     Ok(inside)
 }
 
-// Adds the runs of a set as pairs, behind a pair that is no run.
+// Adds the runs of a set as pairs, after a pair that is no run.
 fn add_runs<S: TickSet>(
     alloc: Global,
     pairs: &mut Vec<(u32, u32)>,
