@@ -1,2 +1,5 @@
+pub mod GapLemmas
+pub mod MergeLemmas
+pub mod OverlapLemmas
 pub mod Search
 pub mod SpanLemmas

@@ -1,9 +1,10 @@
 //! A walk along the spans of a set: what they say from a tick on.
-ghost use Rattle.std.specs.Prelude.{◌≡◌, ◌≢◌, ◌⊎◌, ◌≤◌, ◌<◌, ◌+◌, ℕ};
+ghost use Rattle.std.specs.Prelude.{◌≡◌, ◌≤◌, ℕ, false, IfNone, IfSome};
+ghost use Rattle.std.specs.List.{IsFirstAndRest};
 ghost use Rattle.tick_set.specs.Runs.{IsNormal, spans_have};
-ghost use Rattle.interval_set.specs.Cursor.{EndsFrom, IsPast};
+ghost use Rattle.interval_set.specs.Cursor.{IsPast};
 
-use tick_set::{LAST_TICK, Span};
+use tick_set::Span;
 
 /// The spans without those that end before the tick.
 #[inline]
@@ -23,36 +24,17 @@ pub fn past(spans: &[Span], at: u32) -> &[Span]
     rest
 }
 
-/// Whether the tick is in one of the spans, none of which ends before it.
-#[inline]
-pub fn holds(rest: &[Span], at: u32) -> bool
-    requires normal { IsNormal rest.now }
-    requires ends { EndsFrom at rest.now }
-    ensures { result ≡ spans_have rest.now at }
+/// The first of the spans and those after it, if it begins by the tick.
+#[inline(always)]
+pub fn first_by(spans: &[Span], upto: u32) -> Option<(&Span, &[Span])>
+    requires { IsNormal spans.now }
+    ensures none { IfNone result ((t : ℕ) → t ≤ upto → spans_have spans.now t ≡ false) }
+    ensures begins { IfSome result (λ p. p.0.now.lo ≤ upto) }
+    ensures parts { IfSome result (λ p. IsFirstAndRest spans.now p.0.now p.1.now) }
 {
-    match rest.first() {
-        Some(s) => s.lo <= at,
-        None => false,
-    }
-}
-
-/// The first tick after `at` that differs from it, where no span ends before `at`. It is one past the last
-/// tick where none differs.
-#[inline]
-pub fn change(rest: &[Span], at: u32) -> u32
-    requires normal { IsNormal rest.now }
-    requires ends { EndsFrom at rest.now }
-    requires in_range { at ≤ LAST_TICK }
-    ensures after { at < result }
-    ensures in_range { result ≤ LAST_TICK + 1 }
-    ensures first { (result ≡ LAST_TICK + 1)
-        ⊎ (spans_have rest.now result ≢ spans_have rest.now at) }
-    ensures same { (u : ℕ) → at ≤ u → u < result → spans_have rest.now u ≡ spans_have rest.now at }
-{
-    match rest.first() {
-        Some(s) if at < s.lo => s.lo,
-        Some(s) => s.hi + 1,
-        None => LAST_TICK + 1,
+    match spans.split_first() {
+        Some((s, later)) if s.lo <= upto => Some((s, later)),
+        _ => None,
     }
 }
 

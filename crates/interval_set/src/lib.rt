@@ -2,8 +2,11 @@
 #![tactic(auto)]
 
 mod cursor;
+mod gaps;
+mod merge;
+mod overlap;
 mod set;
-mod sweep;
+mod stretch;
 
 pub use cursor::past;
 pub use set::IntervalSet;

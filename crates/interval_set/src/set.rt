@@ -3,10 +3,12 @@ ghost use Rattle.std.specs.Prelude.{◌≡◌};
 ghost use Rattle.tick_set.specs.Runs.{IsNormal, spans_have};
 
 use crate::cursor::contains;
-use crate::sweep::swept;
+use crate::gaps::{gaps_in, rest_of};
+use crate::merge::union_of;
+use crate::overlap::{meet_of, part_in};
 use std::alloc::{AllocError, Global};
 use std::marker::Model;
-use tick_set::{SetOperation, Span, TickSet, Window};
+use tick_set::{Span, TickSet, Window};
 
 /// A set of ticks as its maximal runs: the spans ascend, and each next `lo` is at least the previous
 /// `hi + 2`.
@@ -89,31 +91,31 @@ impl TickSet for IntervalSet {
 
     fn union(&self, alloc: Global, other: &Self) -> Result<Self, AllocError> {
         Ok(IntervalSet {
-            spans: swept(alloc, SetOperation::Union, &self.spans, &other.spans)?,
+            spans: union_of(alloc, &self.spans, &other.spans)?,
         })
     }
 
     fn meet(&self, alloc: Global, other: &Self) -> Result<Self, AllocError> {
         Ok(IntervalSet {
-            spans: swept(alloc, SetOperation::Meet, &self.spans, &other.spans)?,
+            spans: meet_of(alloc, &self.spans, &other.spans)?,
         })
     }
 
     fn without(&self, alloc: Global, other: &Self) -> Result<Self, AllocError> {
         Ok(IntervalSet {
-            spans: swept(alloc, SetOperation::Without, &self.spans, &other.spans)?,
+            spans: rest_of(alloc, &self.spans, &other.spans)?,
         })
     }
 
     fn complement(&self, alloc: Global, w: Window) -> Result<Self, AllocError> {
         Ok(IntervalSet {
-            spans: swept(alloc, SetOperation::Without, &[w.span()], &self.spans)?,
+            spans: gaps_in(alloc, w, &self.spans)?,
         })
     }
 
     fn clip(&self, alloc: Global, w: Window) -> Result<Self, AllocError> {
         Ok(IntervalSet {
-            spans: swept(alloc, SetOperation::Meet, &[w.span()], &self.spans)?,
+            spans: part_in(alloc, w, &self.spans)?,
         })
     }
 
