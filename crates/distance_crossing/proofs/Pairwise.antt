@@ -109,12 +109,12 @@ module _ (r : ℤ) (w : Window) (span : Span) (p q : Line) (rest later others : 
   all_near_none h = none_here w span is_this_near are_later_near are_others_near near_before (this_near [] h)
 
   module _ (near : Span) (one : IsRuns (is_near m limit w) (near ∷ [])) where
-    pub all_near_apart : ((t : ℕ) → spans_have [] t ≡ (within span.lo span.hi t && within near.lo near.hi t)) → IsRuns (λ t. within w.lo w.hi t && all_near r p others (t - w.lo)) []
-    all_near_apart both = none_common w span is_this_near are_later_near are_others_near near_before near (this_near (near ∷ []) one) both
+    pub all_near_apart : IsRuns (λ t. within span.lo span.hi t && within near.lo near.hi t) [] → IsRuns (λ t. within w.lo w.hi t && all_near r p others (t - w.lo)) []
+    all_near_apart both = none_common w span is_this_near are_later_near are_others_near near_before near (this_near (near ∷ []) one) both.ticks
 
-    pub all_near_more : (met : Span) → ((t : ℕ) → spans_have (met ∷ []) t ≡ (within span.lo span.hi t && within near.lo near.hi t))
+    pub all_near_more : (met : Span) → IsRuns (λ t. within span.lo span.hi t && within near.lo near.hi t) (met ∷ [])
         → (t : ℕ) → (within met.lo met.hi t && all_near r p later (t - w.lo)) ≡ (within w.lo w.hi t && all_near r p others (t - w.lo))
-    all_near_more met both = common w span is_this_near are_later_near are_others_near near_before near (this_near (near ∷ []) one) met both
+    all_near_more met both = common w span is_this_near are_later_near are_others_near near_before near (this_near (near ∷ []) one) met both.ticks
 
 pub none_left : (r : ℤ) (p : Line) (rest : List Line) (k : ℕ) → length rest ≡ 0 → all_near r p rest k ≡ true
 none_left r p [] k e = refl
@@ -141,12 +141,12 @@ module _ (r : ℤ) (w : Window) (span : Span) (p : Line) (rest later lines : Lis
   pairs_near_none h = none_here w span is_first_near are_later_pairs_near are_pairs_near pairs_before h
 
   module _ (near : Span) (one : IsRuns (λ t. within w.lo w.hi t && all_near r p later (t - w.lo)) (near ∷ [])) where
-    pub pairs_near_apart : ((t : ℕ) → spans_have [] t ≡ (within span.lo span.hi t && within near.lo near.hi t)) → IsRuns (λ t. within w.lo w.hi t && pairs_near r lines (t - w.lo)) []
-    pairs_near_apart both = none_common w span is_first_near are_later_pairs_near are_pairs_near pairs_before near one both
+    pub pairs_near_apart : IsRuns (λ t. within span.lo span.hi t && within near.lo near.hi t) [] → IsRuns (λ t. within w.lo w.hi t && pairs_near r lines (t - w.lo)) []
+    pairs_near_apart both = none_common w span is_first_near are_later_pairs_near are_pairs_near pairs_before near one both.ticks
 
-    pub pairs_near_more : (met : Span) → ((t : ℕ) → spans_have (met ∷ []) t ≡ (within span.lo span.hi t && within near.lo near.hi t))
+    pub pairs_near_more : (met : Span) → IsRuns (λ t. within span.lo span.hi t && within near.lo near.hi t) (met ∷ [])
         → (t : ℕ) → (within met.lo met.hi t && pairs_near r later (t - w.lo)) ≡ (within w.lo w.hi t && pairs_near r lines (t - w.lo))
-    pairs_near_more met both = common w span is_first_near are_later_pairs_near are_pairs_near pairs_before near one met both
+    pairs_near_more met both = common w span is_first_near are_later_pairs_near are_pairs_near pairs_before near one met both.ticks
 
 pub no_pairs_left : (r : ℤ) (rest : List Line) (k : ℕ) → length rest ≡ 0 → pairs_near r rest k ≡ true
 no_pairs_left r [] k e = refl

@@ -1,4 +1,5 @@
--- Runs of two sets one behind the other, and runs of sets with the same ticks.
+-- For this crate and for the crates above: runs of two sets one after the other, and runs of sets with the same
+-- ticks.
 use Rattle.std.proofs.Common.{◌≡◌, ℕ, ◌+◌, ◌≤◌, Bool, true, not, ◌&&◌, ◌||◌, List, [], ◌∷◌, ◌++◌, Option, Some, None, is_some, option_to_list, IfSome, MatchOption, nat_le, nat_lt, inl, inr, ap, subst, sym, ◌∙◌, arith}
 use Rattle.std.proofs.lemmas.Bool.{or_cases, false≢true}
 use Rattle.std.proofs.lemmas.Bool.Decides.{nat_tests}

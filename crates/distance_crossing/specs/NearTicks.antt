@@ -15,7 +15,7 @@ use Rattle.tick_set.specs.declared.spans.Window.{Window}
 abbrev pub is_near : Relative → ℤ → Window → ℕ → Bool
 is_near m limit w t = within w.lo w.hi t && int_le (squared_distance_at m (t - w.lo)) limit
 
--- the tick t is in the window, and the distance there compares so with c
+-- the tick t is in the window, and the distance there compares with c as `op` says
 abbrev pub distance_holds : Relative → Op → ℤ → Window → ℕ → Bool
 distance_holds m op c w t = within w.lo w.hi t && distance_compares op c (squared_distance_at m (t - w.lo))
 

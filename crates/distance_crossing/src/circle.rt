@@ -4,7 +4,7 @@ ghost use Rattle.geometry.specs.Plane.{square};
 ghost use Rattle.geometry.specs.Circle.{fits, sides_fit, squared_width, three_fit, two_fit};
 
 use exact::{minus, plus, times};
-use fixed_point::{Fix, Point};
+use fixed_point::{FIX_LIMIT, Fix, Point};
 use geometry::{RADIUS_LIMIT, cross, squared_distance};
 
 /// Whether one to four points fit a circle of radius `r`, from 0 to 10^6 thousandths. One point always fits.
@@ -38,7 +38,7 @@ pub(crate) fn squared_width(r: Fix) -> i128
     requires least { pos 0 ≤ℤ r }
     requires most { r ≤ℤ pos RADIUS_LIMIT }
     ensures value { result ≡ squared_width r }
-    ensures size { unsigned_abs result ≤ 4 * 10 ^ 12 }
+    ensures size { unsigned_abs result ≤ 4 * RADIUS_LIMIT ^ 2 }
 {
     let radius = i128::from(r.raw());
     times(4, times(radius, radius))
@@ -73,9 +73,9 @@ fn sides_fit(r: Fix, a: i128, b: i128, c: i128, area: i128) -> bool
     requires a_least { pos 0 ≤ℤ a }
     requires b_least { pos 0 ≤ℤ b }
     requires c_least { pos 0 ≤ℤ c }
-    requires a_most { unsigned_abs a ≤ 8 * 10 ^ 36 }
-    requires b_most { unsigned_abs b ≤ 8 * 10 ^ 36 }
-    requires c_most { unsigned_abs c ≤ 8 * 10 ^ 36 }
+    requires a_most { unsigned_abs a ≤ 8 * FIX_LIMIT ^ 2 }
+    requires b_most { unsigned_abs b ≤ 8 * FIX_LIMIT ^ 2 }
+    requires c_most { unsigned_abs c ≤ 8 * FIX_LIMIT ^ 2 }
     requires a_and_b { unsigned_abs area * unsigned_abs area ≤ unsigned_abs a * unsigned_abs b }
     requires b_and_c { unsigned_abs area * unsigned_abs area ≤ unsigned_abs b * unsigned_abs c }
     requires c_and_a { unsigned_abs area * unsigned_abs area ≤ unsigned_abs c * unsigned_abs a }
@@ -94,10 +94,10 @@ fn sides_fit(r: Fix, a: i128, b: i128, c: i128, area: i128) -> bool
 
 // Whether the longest of the squared sides is at least the sum of the two others.
 pub(crate) fn is_wide(a: i128, b: i128, c: i128, longest: i128) -> bool
-    requires a_most { unsigned_abs a ≤ 8 * 10 ^ 36 }
-    requires b_most { unsigned_abs b ≤ 8 * 10 ^ 36 }
-    requires c_most { unsigned_abs c ≤ 8 * 10 ^ 36 }
-    requires longest_most { unsigned_abs longest ≤ 8 * 10 ^ 36 }
+    requires a_most { unsigned_abs a ≤ 8 * FIX_LIMIT ^ 2 }
+    requires b_most { unsigned_abs b ≤ 8 * FIX_LIMIT ^ 2 }
+    requires c_most { unsigned_abs c ≤ 8 * FIX_LIMIT ^ 2 }
+    requires longest_most { unsigned_abs longest ≤ 8 * FIX_LIMIT ^ 2 }
     ensures { result ≡ int_le (a +ℤ b +ℤ c -ℤ longest) longest }
 {
     minus(plus(plus(a, b), c), longest) <= longest
@@ -106,10 +106,10 @@ pub(crate) fn is_wide(a: i128, b: i128, c: i128, longest: i128) -> bool
 // Whether the circle through the corners of a triangle is small enough, by the squared sides, none of which
 // is longer than the diameter, and the cross product of two of them.
 fn corners_fit(width: i128, a: i128, b: i128, c: i128, area: i128) -> bool
-    requires width_most { unsigned_abs width ≤ 4 * 10 ^ 12 }
-    requires a_most { unsigned_abs a ≤ 4 * 10 ^ 12 }
-    requires b_most { unsigned_abs b ≤ 4 * 10 ^ 12 }
-    requires c_most { unsigned_abs c ≤ 4 * 10 ^ 12 }
+    requires width_most { unsigned_abs width ≤ 4 * RADIUS_LIMIT ^ 2 }
+    requires a_most { unsigned_abs a ≤ 4 * RADIUS_LIMIT ^ 2 }
+    requires b_most { unsigned_abs b ≤ 4 * RADIUS_LIMIT ^ 2 }
+    requires c_most { unsigned_abs c ≤ 4 * RADIUS_LIMIT ^ 2 }
     requires a_and_b { unsigned_abs area * unsigned_abs area ≤ unsigned_abs a * unsigned_abs b }
     ensures { result ≡ int_le (a *ℤ b *ℤ c) (width *ℤ square area) }
 {

@@ -11,7 +11,7 @@ ghost use Rattle.distance_crossing.specs.Triples.{IsPacked, IsTripleOf, triple_s
 use crate::near::{SHORT_WINDOW, within};
 use case_table::Op;
 use exact::times;
-use fixed_point::Fix;
+use fixed_point::{Fix, READ_LIMIT};
 use linear_crossing::{Pair, Quad};
 use std::sync::ledger::Ledger;
 use steps::Steps;
@@ -25,14 +25,14 @@ pub struct Triple {
     pub third: Option<Span>,
 }
 
-/// The ticks of the window at which the distance compares so with `c`, as maximal runs in order. `c` is in
+/// The ticks of the window at which the distance compares with `c` as `op` says, as maximal runs in order. `c` is in
 /// thousandths, within 10^12 of 0. Where it is negative, `<`, `<=` and `=` hold nowhere and the others
 /// everywhere.
 ///
 /// It takes no memory.
 pub fn compare<M: Ledger>(q: &Quad, op: Op, c: Fix, w: Window, probes: &mut Steps<M>) -> Triple
     requires length { w.hi - w.lo ≤ SPAN_LIMIT }
-    requires c_size { unsigned_abs c ≤ 10 ^ 12 }
+    requires c_size { unsigned_abs c ≤ READ_LIMIT }
     ensures runs { IsTripleOf (distance_holds q.now op c w) result }
     ensures cost { probes.new ≤ probes.old + 63 }
     ensures short_cost { w.hi - w.lo ≤ SHORT_WINDOW → probes.new ≤ probes.old + 47 }
@@ -64,7 +64,7 @@ fn everywhere(all: bool, w: Window) -> Triple
 // The ticks of the window at which the squared distance is below `square`.
 fn nearer<M: Ledger>(q: &Quad, square: i128, w: Window, probes: &mut Steps<M>) -> Option<Span>
     requires length { w.hi - w.lo ≤ SPAN_LIMIT }
-    requires size { unsigned_abs square ≤ 10 ^ 24 }
+    requires size { unsigned_abs square ≤ READ_LIMIT ^ 2 }
     ensures runs { IsRuns (is_near q.now (square -ℤ pos 1) w) (option_to_list result) }
     ensures cost { probes.new ≤ probes.old + 60 }
     ensures short_cost { w.hi - w.lo ≤ SHORT_WINDOW → probes.new ≤ probes.old + 44 }
@@ -104,7 +104,7 @@ fn below<M: Ledger>(
         return None;
     };
     let (from, until) = stretch_below(q, square, span.lo - w.lo, span.hi - w.lo, probes);
-    stretch(w.lo + from, w.lo + until)
+    Span::stretch(w.lo + from, w.lo + until)
 }
 
 // The first number of `first..=end` at which the value is below `square`, and the first past those. The value at a
@@ -183,7 +183,7 @@ fn without(outer: Option<Span>, inner: Option<Span>) -> Pair
         return Pair::single(None);
     };
     let (first, next) = gap(whole.lo, inner);
-    let second = stretch(next, whole.hi + 1);
+    let second = Span::stretch(next, whole.hi + 1);
     if first.is_none() {
         Pair::single(second)
     } else {
@@ -199,7 +199,7 @@ fn outside(w: Window, pair: Pair) -> Triple
 {
     let (first, next) = gap(w.lo, pair.first);
     let (second, next) = gap(next, pair.second);
-    packed(first, second, stretch(next, w.hi + 1))
+    packed(first, second, Span::stretch(next, w.hi + 1))
 }
 
 // The same runs as a triple.
@@ -223,23 +223,8 @@ fn gap(from: u32, run: Option<Span>) -> (Option<Span>, u32)
     ensures runs { IsRuns (λ t. nat_le from t && nat_lt t result.1 && not (spans_have (option_to_list run) t)) (option_to_list result.0) }
 {
     match run {
-        Some(s) => (stretch(from, s.lo), s.hi + 1),
+        Some(s) => (Span::stretch(from, s.lo), s.hi + 1),
         None => (None, from),
-    }
-}
-
-// The ticks from `from` up to `until`, without `until`.
-fn stretch(from: u32, until: u32) -> Option<Span>
-    requires { until ≤ LAST_TICK + 1 }
-    ensures { IsRuns (λ t. nat_le from t && nat_lt t until) (option_to_list result) }
-{
-    if from < until {
-        Some(Span {
-            lo: from,
-            hi: until - 1,
-        })
-    } else {
-        None
     }
 }
 

@@ -1,25 +1,26 @@
 //! The square of the diameter of the least circle round three points.
 ghost use Rattle.std.specs.Prelude.{◌≡◌, ◌*◌, ◌^◌, ◌<◌, ◌≤◌, pos, ◌≤ℤ◌, ◌↔◌, unsigned_abs, IsTrue};
 ghost use Rattle.geometry.specs.Plane.{squared_distance};
+ghost use Rattle.geometry.specs.declared.limits.TheConstants.{RADIUS_LIMIT};
 ghost use Rattle.distance_crossing.specs.LeastCircle.{least_over, least_under, over_of, under_of};
 
 use crate::circle::is_wide;
 use exact::times;
 use fixed_point::Point;
-use geometry::{cross, squared_distance};
+use geometry::{RADIUS_LIMIT, cross, squared_distance};
 
 /// A fraction: the square of a diameter, in square thousandths.
 #[derive(Clone, Copy, Debug)]
 pub struct Fraction {
     pub over: u128,
     pub under: u128,
-    pub ghost short: { under ≤ 16 * 10 ^ 24 },
+    pub ghost short: { under ≤ 16 * RADIUS_LIMIT ^ 4 },
 }
 
 impl Fraction {
-    /// Whether the fraction is at most a whole number, which is at most 4 * 10^12.
+    /// Whether the fraction is at most a whole number, which is at most the square of the largest diameter.
     pub fn is_at_most(&self, width: u128) -> bool
-        requires { width ≤ 4 * 10 ^ 12 }
+        requires { width ≤ 4 * RADIUS_LIMIT ^ 2 }
         ensures { IsTrue result ↔ (self.now.over ≤ width * self.now.under) }
     {
         self.over <= width * self.under
@@ -38,9 +39,9 @@ impl Fraction {
 /// The square of the diameter of the least circle round three points. The squares of their sides are at most
 /// 4 * 10^12.
 pub fn least_circle(p: &Point, q: &Point, s: &Point) -> Fraction
-    requires a_most { squared_distance p.now q.now ≤ℤ pos (4 * 10 ^ 12) }
-    requires b_most { squared_distance q.now s.now ≤ℤ pos (4 * 10 ^ 12) }
-    requires c_most { squared_distance s.now p.now ≤ℤ pos (4 * 10 ^ 12) }
+    requires a_most { squared_distance p.now q.now ≤ℤ pos (4 * RADIUS_LIMIT ^ 2) }
+    requires b_most { squared_distance q.now s.now ≤ℤ pos (4 * RADIUS_LIMIT ^ 2) }
+    requires c_most { squared_distance s.now p.now ≤ℤ pos (4 * RADIUS_LIMIT ^ 2) }
     ensures over { pos result.over ≡ least_over p.now q.now s.now }
     ensures under { pos result.under ≡ least_under p.now q.now s.now }
 {
@@ -55,9 +56,9 @@ fn by_sides(a: i128, b: i128, c: i128, area: i128) -> Fraction
     requires a_least { pos 0 ≤ℤ a }
     requires b_least { pos 0 ≤ℤ b }
     requires c_least { pos 0 ≤ℤ c }
-    requires a_most { unsigned_abs a ≤ 4 * 10 ^ 12 }
-    requires b_most { unsigned_abs b ≤ 4 * 10 ^ 12 }
-    requires c_most { unsigned_abs c ≤ 4 * 10 ^ 12 }
+    requires a_most { unsigned_abs a ≤ 4 * RADIUS_LIMIT ^ 2 }
+    requires b_most { unsigned_abs b ≤ 4 * RADIUS_LIMIT ^ 2 }
+    requires c_most { unsigned_abs c ≤ 4 * RADIUS_LIMIT ^ 2 }
     requires a_and_b { unsigned_abs area * unsigned_abs area ≤ unsigned_abs a * unsigned_abs b }
     ensures over { pos result.over ≡ over_of a b c }
     ensures under { pos result.under ≡ under_of a b c area }

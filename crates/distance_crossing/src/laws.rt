@@ -1,10 +1,17 @@
-//! Laws of circles, each a call without a body whose contract is the law.
-ghost use Rattle.std.specs.Prelude.{◌↔◌, ◌≤◌, ℕ, ℤ, List, ◌∷◌, [], IsTrue};
+//! The limit by its number and laws of circles, each a call without a body whose contract is the law.
+ghost use Rattle.std.specs.Prelude.{◌≡◌, ◌^◌, ◌↔◌, ◌≤◌, ℕ, ℤ, List, ◌∷◌, [], IsTrue};
 ghost use Rattle.fixed_point.specs.declared.number.Point.{Point};
 ghost use Rattle.geometry.specs.Circle.{fits, three_fit};
 ghost use Rattle.linear_crossing.specs.declared.quad.Line.{Line};
 ghost use Rattle.distance_crossing.specs.Circles.{IsInCircle};
 ghost use Rattle.distance_crossing.specs.NearTicks.{positions_after};
+
+use crate::near::SHORT_WINDOW;
+
+/// The limit, in numbers.
+pub fn limits_in_numbers()
+    ensures { SHORT_WINDOW ≡ 10 ^ 6 }
+{}
 
 /// Three points fit exactly where there is a circle of that radius, round a place with rational coordinates,
 /// that holds them.

@@ -1,5 +1,5 @@
-//! The exact ticks at which two motions along lines are within a distance of each other, or compare so with
-//! it, and at which up to four motions fit a circle. Everything is whole numbers and fractions of them:
+//! The exact ticks at which two motions along lines are within a distance of each other, or their distance
+//! compares with a constant, and at which up to four motions fit a circle. Everything is whole numbers and fractions of them:
 //! nothing is rounded and nothing is rooted. The ticks at which a squared distance is at most a limit are one
 //! span round the least distance, and so are the ticks at which motions fit a circle, since the least circle
 //! round them first shrinks and then grows. The ends of such a span are found by bisections, so no window is
@@ -17,7 +17,9 @@ mod trial;
 
 pub use circle::fits;
 pub use comparison::{Triple, compare};
-pub use laws::{motions_fit_at_the_ticks_between, three_fit_where_a_circle_holds_them};
+pub use laws::{
+    limits_in_numbers, motions_fit_at_the_ticks_between, three_fit_where_a_circle_holds_them,
+};
 pub use near::{SHORT_WINDOW, within};
 pub use sphere::{sphere_ticks, together};
 

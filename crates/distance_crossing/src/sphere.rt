@@ -109,7 +109,7 @@ fn near_pairs<M: Ledger>(r: Fix, lines: &[Line], w: Window, probes: &mut Steps<M
     let mut rest = lines;
     while let Some((p, later)) = rest.split_first() {
         let near = all_near(r, p, later, w, probes)?;
-        span = meet(span, near)?;
+        span = span.meet(near)?;
         rest = later;
     }
     Some(span)
@@ -137,15 +137,8 @@ fn all_near<M: Ledger>(
     let mut rest = others;
     while let Some((q, later)) = rest.split_first() {
         let near = within(&Quad::between(p, q), width, w, probes)?;
-        span = meet(span, near)?;
+        span = span.meet(near)?;
         rest = later;
     }
     Some(span)
-}
-
-// The ticks of both spans.
-fn meet(a: Span, b: Span) -> Option<Span>
-    ensures { (t : ℕ) → spans_have (option_to_list result) t ≡ (within a.lo a.hi t && within b.lo b.hi t) }
-{
-    Span::new(a.lo.max(b.lo), a.hi.min(b.hi))
 }

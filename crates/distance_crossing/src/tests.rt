@@ -4,7 +4,7 @@ ghost use Rattle.linear_crossing.specs.Moving.{IsInReach};
 use super::*;
 use case_table::Op;
 use exact::{plus, times};
-use fixed_point::{Fix, Point, Slope};
+use fixed_point::{Fix, Point, READ_LIMIT, Slope};
 use geometry::RADIUS_LIMIT;
 use interval_set::IntervalSet;
 use linear_crossing::{COORDINATE_LIMIT, Line, Quad};
@@ -179,7 +179,7 @@ fn compared_by<M: Ledger>(
     requires some_part { 0 < blank.parts }
     requires p_in_reach { IsInReach p.now }
     requires q_in_reach { IsInReach q.now }
-    requires c_size { unsigned_abs c ≤ 10 ^ 12 }
+    requires c_size { unsigned_abs c ≤ READ_LIMIT }
     requires length { w.hi - w.lo ≤ SPAN_LIMIT }
 {
     let mut probes: Steps<M> = Steps::new(rt, blank);
@@ -189,14 +189,14 @@ fn compared_by<M: Ledger>(
 fn compared(rt: &HostRuntime, p: &Line, q: &Line, op: Op, c: Fix, w: Window) -> Triple
     requires p_in_reach { IsInReach p.now }
     requires q_in_reach { IsInReach q.now }
-    requires c_size { unsigned_abs c ≤ 10 ^ 12 }
+    requires c_size { unsigned_abs c ≤ READ_LIMIT }
     requires length { w.hi - w.lo ≤ SPAN_LIMIT }
 {
     compared_by::<Brand>(rt, Blank::new(1), p, q, op, c, w)
 }
 
 fn constant(c: i64) -> Option<Fix>
-    ensures { IfSome result (λ f. unsigned_abs f ≤ 10 ^ 12) }
+    ensures { IfSome result (λ f. unsigned_abs f ≤ READ_LIMIT) }
 {
     if c.unsigned_abs() > 1_000_000_000_000 {
         return None;
@@ -380,7 +380,7 @@ fn moved(x: i64, dx: i64, k: u32) -> i64
     x + dx * i64::from(k)
 }
 
-// Whether a point at (x, y) has a distance from the origin that compares so, by the squares.
+// Whether the distance of a point at (x, y) from the origin compares with `c` as `op` says, by the squares.
 fn expected(x: i64, y: i64, op: Op, c: i64) -> bool
     requires x_size { unsigned_abs x ≤ 40000 }
     requires y_size { unsigned_abs y ≤ 40000 }

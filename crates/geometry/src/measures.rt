@@ -10,7 +10,7 @@ use fixed_point::{FIX_LIMIT, Fix, Point};
 #[tactic(auto, using(exact::proofs::Sizes::steps))]
 pub fn squared_distance(p: Point, q: Point) -> i128
     ensures value { result ≡ squared_distance p q }
-    ensures size { unsigned_abs result ≤ 8 * 10 ^ 36 }
+    ensures size { unsigned_abs result ≤ 8 * FIX_LIMIT ^ 2 }
 {
     let x = apart(q.x, p.x);
     let y = apart(q.y, p.y);
@@ -24,7 +24,7 @@ pub fn squared_distance(p: Point, q: Point) -> i128
 #[tactic(auto, using(exact::proofs::Sizes::steps))]
 pub fn cross(p: Point, q: Point, r: Point) -> i128
     ensures value { result ≡ cross p q r }
-    ensures size { unsigned_abs result ≤ 8 * 10 ^ 36 }
+    ensures size { unsigned_abs result ≤ 8 * FIX_LIMIT ^ 2 }
 {
     let along = product(apart(q.x, p.x), apart(r.y, p.y));
     let back = product(apart(q.y, p.y), apart(r.x, p.x));
@@ -46,7 +46,7 @@ fn product(a: i64, b: i64) -> i128
     requires a_size { unsigned_abs a ≤ 2 * FIX_LIMIT }
     requires b_size { unsigned_abs b ≤ 2 * FIX_LIMIT }
     ensures value { result ≡ a *ℤ b }
-    ensures size { unsigned_abs result ≤ 4 * 10 ^ 36 }
+    ensures size { unsigned_abs result ≤ 4 * FIX_LIMIT ^ 2 }
 {
     times(i128::from(a), i128::from(b))
 }

@@ -12,7 +12,7 @@ use Rattle.linear_crossing.specs.declared.linear.Pair.{Pair}
 abbrev pub line_at : ℤ → ℤ → ℕ → ℕ → ℤ
 line_at a b lo t = a *ℤ (pos t -ℤ pos lo) +ℤ b
 
--- the tick t is in the window, and the function compares so with 0 there
+-- the tick t is in the window, and the function compares with 0 there as `op` says
 abbrev pub solves : ℤ → ℤ → Op → Window → ℕ → Bool
 solves a b op w t = within w.lo w.hi t && compares op (line_at a b w.lo t) (pos 0)
 

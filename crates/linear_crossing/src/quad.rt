@@ -88,6 +88,7 @@ impl Quad {
     #[inline]
     pub fn at<M: Ledger>(&self, k: u32, probes: &mut Steps<M>) -> i128
         ensures value { result ≡ squared_distance_at self.now k }
+        // Twice the square of the size of a difference.
         ensures size { unsigned_abs result ≤ 8 * 10 ^ 32 }
         ensures least { pos 0 ≤ℤ result }
         ensures cost { probes.new ≡ probes.old + 1 }
@@ -130,6 +131,7 @@ fn moved(start: i64, step: i64, k: u32) -> i64
     requires start_size { unsigned_abs start ≤ 2 * COORDINATE_LIMIT }
     requires step_size { unsigned_abs step ≤ 2 * SLOPE_LIMIT }
     ensures value { result ≡ start +ℤ step *ℤ pos k }
+    // Rounded up from 2 * COORDINATE_LIMIT + 2 * SLOPE_LIMIT * (2 ^ 32 - 1), whatever the number of ticks.
     ensures size { unsigned_abs result ≤ 2 * 10 ^ 16 }
 {
     start + step * i64::from(k)

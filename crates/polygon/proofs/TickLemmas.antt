@@ -156,10 +156,10 @@ step_ticks first start points rest later l w kept t h e =
     (ap (λ b. within kept.lo kept.hi t && b) (sym (all_step (λ (s : Point × Point). not (is_right_of s (position_after l (t - w.lo)))) first start rest later e)) ∙ h.ticks t)
 
 pub narrowed_step : (first start : Point) (points rest later : List Point) (l : Line) (w : Window) (kept ticks new : Span) → Narrowed first points rest l w kept → rest ≡ start ∷ later
-    → IsRuns (is_beside start (end_of first later) l w) (ticks ∷ []) → ((t : ℕ) → spans_have (new ∷ []) t ≡ (within kept.lo kept.hi t && within ticks.lo ticks.hi t)) → Narrowed first points later l w new
+    → IsRuns (is_beside start (end_of first later) l w) (ticks ∷ []) → IsRuns (λ t. within kept.lo kept.hi t && within ticks.lo ticks.hi t) (new ∷ []) → Narrowed first points later l w new
 narrowed_step first start points rest later l w kept ticks new h e g m = record {
   ticks = λ t.
-      ap (λ b. b && is_within_at first later l w t) (sym (or_false (within new.lo new.hi t)) ∙ m t ∙ ap (λ b. within kept.lo kept.hi t && b) (sym (or_false (within ticks.lo ticks.hi t)) ∙ g.ticks t))
+      ap (λ b. b && is_within_at first later l w t) (sym (or_false (within new.lo new.hi t)) ∙ m.ticks t ∙ ap (λ b. within kept.lo kept.hi t && b) (sym (or_false (within ticks.lo ticks.hi t)) ∙ g.ticks t))
       ∙ step_ticks first start points rest later l w kept t h e;
 }
 
@@ -177,11 +177,11 @@ narrowed_out first start points rest later l w kept h e g = record {
 
 -- no tick that is kept passes the edge
 pub narrowed_apart : (first start : Point) (points rest later : List Point) (l : Line) (w : Window) (kept ticks : Span) → Narrowed first points rest l w kept → rest ≡ start ∷ later
-    → IsRuns (is_beside start (end_of first later) l w) (ticks ∷ []) → ((t : ℕ) → false ≡ (within kept.lo kept.hi t && within ticks.lo ticks.hi t)) → IsRuns (λ t. within w.lo w.hi t && is_within_at first points l w t) []
+    → IsRuns (is_beside start (end_of first later) l w) (ticks ∷ []) → IsRuns (λ t. within kept.lo kept.hi t && within ticks.lo ticks.hi t) [] → IsRuns (λ t. within w.lo w.hi t && is_within_at first points l w t) []
 narrowed_apart first start points rest later l w kept ticks h e g m = record {
   normal = tt;
   ticks = λ t. nothing (within kept.lo kept.hi t) (is_beside start (end_of first later) l w t) _ _ (step_ticks first start points rest later l w kept t h e)
-      (m t ∙ ap (λ b. within kept.lo kept.hi t && b) (sym (or_false (within ticks.lo ticks.hi t)) ∙ g.ticks t));
+      (m.ticks t ∙ ap (λ b. within kept.lo kept.hi t && b) (sym (or_false (within ticks.lo ticks.hi t)) ∙ g.ticks t));
 }
 
 pub narrowed_last : (first : Point) (points rest : List Point) (l : Line) (w : Window) (kept : Span) → Narrowed first points rest l w kept → rest ≡ [] → IsRuns (λ t. within w.lo w.hi t && is_within_at first points l w t) (kept ∷ [])

@@ -9,7 +9,7 @@ ghost use Rattle.tick_set.specs.Ticks.{within};
 use crate::sides::end_of_edge;
 use case_table::Op;
 use exact::{minus, times};
-use fixed_point::{FIX_LIMIT, Point, Slope};
+use fixed_point::{FIX_LIMIT, Point, SLOPE_LIMIT, Slope};
 use geometry::{apart, cross};
 use linear_crossing::{Line, RISE_LIMIT, solve};
 use tick_set::{Span, Window};
@@ -24,18 +24,10 @@ pub fn ticks_within(first: &Point, points: &[Point], l: &Line, w: Window) -> Opt
     let mut rest = points;
     while let Some((start, later)) = rest.split_first() {
         let ticks = ticks_left_of(start, end_of_edge(first, later), l, w)?;
-        kept = common(kept, ticks)?;
+        kept = kept.meet(ticks)?;
         rest = later;
     }
     Some(kept)
-}
-
-// The ticks of both spans.
-#[inline]
-fn common(a: Span, b: Span) -> Option<Span>
-    ensures { (t : ℕ) → spans_have (option_to_list result) t ≡ (within a.lo a.hi t && within b.lo b.hi t) }
-{
-    Span::new(a.lo.max(b.lo), a.hi.min(b.hi))
 }
 
 // The ticks of the window at which the moving point is not strictly on the right of an edge. Since the point
@@ -65,7 +57,7 @@ fn climb(start: &Point, end: &Point, l: &Line) -> i128
 fn swept(way: i64, slope: Slope) -> i128
     requires { unsigned_abs way ≤ 2 * FIX_LIMIT }
     ensures value { result ≡ way *ℤ slope }
-    ensures size { unsigned_abs result ≤ 2 * 10 ^ 24 }
+    ensures size { unsigned_abs result ≤ 2 * FIX_LIMIT * SLOPE_LIMIT }
 {
     times(i128::from(way), i128::from(slope.raw()))
 }

@@ -29,4 +29,4 @@ returns-clause-runs g c =
     → int_le (squared_distance_at c.args.q.now k) (z -ℤ pos 1) ≡ (nat_le found.result.0 k && nat_lt k found.result.1) in
     let passed : to_z w128 (of_z w128 c.args.square) ≡ c.args.square = omega (arith, ints) in
     below_runs c.args.q.now w c.args.square c.args.at_most span c.requires.at_most c.in-Some.is
-    found.result.0 found.result.1 found.ensures.from found.ensures.upto (subst P passed found.ensures.below) c.stretch.result c.stretch.ensures
+    found.result.0 found.result.1 found.ensures.from found.ensures.upto (subst P passed found.ensures.below) c.stretch.result c.stretch.ensures.ticks

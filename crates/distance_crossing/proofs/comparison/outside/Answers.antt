@@ -20,6 +20,6 @@ returns c =
       runs = subst P (sym c.packed.ensures.spans)
           (outside_runs w.lo w.hi c.gap-first.result.1 c.gap-second.result.1 c.args.pair.first c.args.pair.second
           c.gap-first.result.0 c.gap-second.result.0 c.stretch.result c.requires.normal c.requires.inside
-          c.gap-first.ensures.next c.gap-second.ensures.next c.gap-first.ensures.runs c.gap-second.ensures.runs c.stretch.ensures);
+          c.gap-first.ensures.next c.gap-second.ensures.next c.gap-first.ensures.runs c.gap-second.ensures.runs c.stretch.ensures.ticks);
       packed = c.packed.ensures.packed;
     }

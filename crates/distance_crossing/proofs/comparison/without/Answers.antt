@@ -9,4 +9,4 @@ gap-first-requires-clause-ahead c =
 pub returns-else-is_none : goal.returns-else-is_none
 returns-else-is_none c =
     without_pair c.args.outer c.args.inner c.gap-first.result.0 c.stretch-second.result c.in-Some.whole c.gap-first.result.1 c.in-Some.is c.requires
-    c.gap-first.ensures.next c.if-is_none.ensures c.gap-first.ensures.runs c.stretch-second.ensures
+    c.gap-first.ensures.next c.if-is_none.ensures c.gap-first.ensures.runs c.stretch-second.ensures.ticks

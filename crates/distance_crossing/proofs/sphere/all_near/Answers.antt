@@ -18,7 +18,7 @@ returns-in_err-span-clause-runs g c =
     none_is _ _ c.from_residual-in_err-span.ensures
     (all_near_apart c.args.r c.args.w c.loop-q.span c.args.p.now c.in-Some.q.now _ c.in-Some.later.now c.args.others.now c.between.result _ c.in-Some.ensures.cases.0
     (grind (arith, steps)) c.between.ensures c.loop-q.invariant.met
-    c.in_ok-near.near c.in_ok-near.ensures.runs c.in_err-span.ensures)
+    c.in_ok-near.near c.in_ok-near.ensures.runs c.in_err-span.ensures.ticks)
 
 pub loop-q-preserved : goal.loop-q-preserved
 loop-q-preserved g c =
@@ -27,7 +27,7 @@ loop-q-preserved g c =
       in_reach = rest_in_reach _ _ _ c.in-Some.ensures.cases.0 c.loop-q.invariant.in_reach;
       met = all_near_more c.args.r c.args.w c.loop-q.span c.args.p.now c.in-Some.q.now _ c.in-Some.later.now c.args.others.now c.between.result _ c.in-Some.ensures.cases.0
           (grind (arith, steps)) c.between.ensures c.loop-q.invariant.met
-          c.in_ok-near.near c.in_ok-near.ensures.runs c.in_ok-span.span c.in_ok-span.ensures;
+          c.in_ok-near.near c.in_ok-near.ensures.runs c.in_ok-span.span c.in_ok-span.ensures.ticks;
       cost = omega arith;
       least = omega arith;
     }

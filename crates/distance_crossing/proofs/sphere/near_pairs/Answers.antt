@@ -20,7 +20,7 @@ loop-p-preserved g c =
     record {
       in_reach = rest_in_reach _ _ _ c.in-Some.ensures.cases.0 c.loop-p.invariant.in_reach;
       met = pairs_near_more c.args.r c.args.w c.loop-p.span c.in-Some.p.now _ c.in-Some.later.now c.args.lines.now c.in-Some.ensures.cases.0 c.loop-p.invariant.met
-          c.in_ok-near.near c.in_ok-near.ensures.runs c.in_ok-span.span c.in_ok-span.ensures;
+          c.in_ok-near.near c.in_ok-near.ensures.runs c.in_ok-span.span c.in_ok-span.ensures.ticks;
       cost = omega arith;
       least = omega arith;
     }
