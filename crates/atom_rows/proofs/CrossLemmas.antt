@@ -13,7 +13,7 @@ use Rattle.linear_crossing.proofs.Pairs.{pair_by}
 use Rattle.motion.specs.Dynamic.{Dynamic, value_at, slope_at}
 use Rattle.motion.specs.Pieces.{IsLinear}
 
--- a number compares so with another as their difference does with 0
+-- a number compares with another as their difference does with 0
 compares_difference : (op : Op) (x n : ℤ) → compares op (x -ℤ n) (pos 0) ≡ compares op x n
 compares_difference Lt x n = grind (arith, ints, nat_tests)
 compares_difference Le x n = grind (arith, ints, nat_tests)

@@ -4,9 +4,9 @@ ghost use Rattle.std.specs.Option.{option_map_or};
 ghost use Rattle.case_table.specs.Comparison.{compares};
 ghost use Rattle.linear_crossing.specs.Zones.{IsPairOf};
 ghost use Rattle.motion.specs.Dynamic.{value_at};
-ghost use Rattle.motion.specs.Pieces.{IsLinear};
+ghost use Rattle.motion.specs.Pieces.{AreSteadyCells, IsLinear};
 ghost use Rattle.tick_set.specs.Ticks.{within};
-ghost use Rattle.atom_rows.specs.Condition.{cell_compares, meets, IsSteadyCell, AreSteadyCells};
+ghost use Rattle.atom_rows.specs.Condition.{cell_compares, meets, IsSteadyCell};
 
 use case_table::Op;
 use fixed_point::Fix;
@@ -19,7 +19,7 @@ use tick_set::{Span, Window};
 pub enum Condition {
     /// That it is there.
     Present,
-    /// That its attribute of an index compares so with a number.
+    /// That a comparison with a number holds of its attribute of an index.
     Compares(Comparison),
 }
 
@@ -45,7 +45,7 @@ pub fn met_in(epoch: &Epoch, condition: &Condition, span: Span) -> Pair
     }
 }
 
-// The ticks of the span at which the cell compares so.
+// The ticks of the span at which the comparison holds of the cell.
 fn compared(cell: &Cell, comparison: &Comparison, span: Span) -> Pair
     requires { IsSteadyCell cell.now span.lo span.hi }
     ensures { IsPairOf (λ t. within span.lo span.hi t && cell_compares comparison.now t cell.now) result }
@@ -57,7 +57,7 @@ fn compared(cell: &Cell, comparison: &Comparison, span: Span) -> Pair
     }
 }
 
-// Whether a number compares so.
+// Whether the comparison holds of a number.
 fn holds(number: Fix, comparison: &Comparison) -> bool
     ensures { result ≡ compares comparison.now.op number comparison.now.number }
 {
@@ -65,7 +65,7 @@ fn holds(number: Fix, comparison: &Comparison) -> bool
     comparison.op.compares(i128::from(left), i128::from(right))
 }
 
-// The ticks of the span, in which the vector moves by one slope, at which its value compares so.
+// The ticks of the span, in which the vector moves by one slope, at which the comparison holds of its value.
 fn crossed(vector: &Vector, comparison: &Comparison, span: Span) -> Pair
     requires { IsLinear vector.now span.lo span.hi }
     ensures { IsPairOf (λ t. within span.lo span.hi t && compares comparison.now.op (value_at vector.now t) comparison.now.number) result }

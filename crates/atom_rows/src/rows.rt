@@ -35,10 +35,10 @@ pub fn presence<L: Ledger>(
     met_ticks(alloc, store, id, &Condition::Present, w, reads)
 }
 
-/// The ticks of the window at which the attribute of an index of the object, whose id exists, compares so
-/// with a number of thousandths: the attribute on the left, the number on the right. Attributes are counted
-/// from 0 in the order of those of the object's class. At a tick at which the object is absent or the
-/// attribute is a text, and for an index past the attributes, no comparison holds.
+/// The ticks of the window at which the comparison `op` holds of the attribute of an index of the object,
+/// whose id exists, and a number of thousandths: the attribute on the left, the number on the right.
+/// Attributes are counted from 0 in the order of those of the object's class. At a tick at which the object
+/// is absent or the attribute is a text, and for an index past the attributes, no comparison holds.
 ///
 /// It takes one step of `reads`, and fails only where memory is out.
 pub fn attribute_ticks<L: Ledger>(

@@ -224,7 +224,7 @@ fn is_there(
     Ok(())
 }
 
-// An attribute compares so in these runs of the window.
+// The comparison holds of an attribute in these runs of the window.
 fn compares(
     rt: &impl Abort,
     host: &HostRuntime,

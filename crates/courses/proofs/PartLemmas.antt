@@ -156,7 +156,7 @@ pub common_more : (timelines : List (List Epoch)) (k at last end next : ℕ) →
 common_more timelines k at last end next some common part =
     rw (take_more timelines k [] some) (common_push (take k timelines) (get_or timelines k []) at last end next common part)
 
--- the epochs of the timeline at a place
+-- the epochs of the timeline of an index
 pub item_of : (timelines : List (Bor (List Epoch))) (k : ℕ) (item : Bor (List Epoch)) → k < length timelines → item ≡ get_or timelines k item
     → get_or (epochs_of_each timelines) k [] ≡ item.now
 item_of timelines k item there is = get_or-map (λ t. t.now) timelines k item [] there ∙ ap (λ t. t.now) (sym is)

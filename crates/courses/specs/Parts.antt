@@ -5,8 +5,7 @@ use Rattle.std.specs.Borrow.{Bor}
 use Rattle.tick_set.specs.Ticks.{between}
 use Rattle.tick_set.specs.declared.spans.Span.{Span}
 use Rattle.motion.specs.Timeline.{Epoch, epoch_at}
-use Rattle.motion.specs.Pieces.{is_cut}
-use Rattle.courses.specs.Places.{AreSteadyCells}
+use Rattle.motion.specs.Pieces.{AreSteadyCells, is_cut}
 
 -- the epochs of each timeline
 abbrev pub epochs_of_each : List (Bor (List Epoch)) → List (List Epoch)

@@ -4,7 +4,6 @@ use Rattle.std.specs.Option.{option_map}
 use Rattle.fixed_point.specs.declared.number.Point.{Point}
 use Rattle.geometry.specs.Plane.{point}
 use Rattle.motion.specs.Dynamic.{Dynamic, value_at}
-use Rattle.motion.specs.Pieces.{IsLinear}
 use Rattle.motion.specs.Timeline.{Epoch, cells_of}
 use Rattle.motion.specs.declared.cell.Cell.{Cell}
 use Rattle.motion.specs.declared.cell.Cell.TheVariants as cells
@@ -25,7 +24,3 @@ place_by x y t = option_and_then (λ u. option_map (λ v. point (value_at u t) (
 -- where the object is at tick t, by its first two attributes: None where it is absent, or one of these doesn't move
 abbrev pub place_of : Epoch → ℕ → Option Point
 place_of p t = place_by (dynamic_at p 0) (dynamic_at p 1) t
-
--- each dynamic attribute moves by one slope from tick lo to hi
-abbrev pub AreSteadyCells : Epoch → ℕ → ℕ → Type 0
-AreSteadyCells p lo hi = (a : ℕ) (v : Dynamic) → slice_get (cells_of p) a ≡ Some (cells.Dyn v) → IsLinear v lo hi

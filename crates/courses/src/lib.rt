@@ -9,7 +9,7 @@ mod laws;
 mod lines;
 mod parts;
 
-pub use laws::pieces_are_counted;
+pub use laws::{limits_in_numbers, pieces_are_counted};
 pub use lines::line_from;
 pub use parts::{Common, MOST_TIMELINES, common_from};
 

@@ -3,9 +3,9 @@ ghost use Rattle.std.specs.Prelude.{◌≡◌, ◌-◌, ◌≤◌, ℕ, Some, No
 ghost use Rattle.std.specs.Option.{option_copied};
 ghost use Rattle.geometry.specs.Plane.{point};
 ghost use Rattle.motion.specs.Dynamic.{value_at};
-ghost use Rattle.motion.specs.Pieces.{IsLinear};
+ghost use Rattle.motion.specs.Pieces.{AreSteadyCells, IsLinear};
 ghost use Rattle.linear_crossing.specs.Moving.{IsInReach, position_after};
-ghost use Rattle.courses.specs.Places.{dynamic_at, place_of, AreSteadyCells};
+ghost use Rattle.courses.specs.Places.{dynamic_at, place_of};
 
 use fixed_point::Point;
 use linear_crossing::Line;

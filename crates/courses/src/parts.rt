@@ -2,8 +2,8 @@
 ghost use Rattle.std.specs.Prelude.{◌≡◌, ◌+◌, ◌<◌, ◌≤◌, ℕ, None, [], All, IsSome, IfSome, length, slice_index_or};
 ghost use Rattle.std.specs.Option.{option_copied};
 ghost use Rattle.tick_set.specs.declared.spans.TheConstants.{LAST_TICK};
+ghost use Rattle.motion.specs.Pieces.{AreSteadyCells};
 ghost use Rattle.motion.specs.Timeline.{epoch_at, IsRising};
-ghost use Rattle.courses.specs.Places.{AreSteadyCells};
 ghost use Rattle.courses.specs.Parts.{epochs_of_each, pieces_of_all, IsCommon, IsPart};
 
 use motion::{Epoch, Timeline};
@@ -23,13 +23,13 @@ pub struct Common<'a> {
 }
 
 impl<'a> Common<'a> {
-    /// The epoch in force of the timeline at a place, counted from 0.
+    /// The epoch in force of the timeline of an index, counted from 0.
     #[inline]
-    pub fn epoch(&self, place: usize) -> Option<&'a Epoch>
-        ensures { result ≡ slice_index_or self.now.epochs place None }
+    pub fn epoch(&self, index: usize) -> Option<&'a Epoch>
+        ensures { result ≡ slice_index_or self.now.epochs index None }
     {
         let epochs = &self.epochs[..];
-        *epochs.get(place)?
+        *epochs.get(index)?
     }
 }
 

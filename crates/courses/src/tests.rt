@@ -1,7 +1,7 @@
 ghost use Rattle.std.specs.Prelude.{◌≤◌, IfOk, IfSome, unsigned_abs};
 ghost use Rattle.fixed_point.specs.declared.number.TheConstants.{READ_LIMIT};
 ghost use Rattle.motion.specs.Cells.{AreCellsAt, IsCellAt};
-ghost use Rattle.courses.specs.Places.{AreSteadyCells};
+ghost use Rattle.motion.specs.Pieces.{AreSteadyCells};
 
 use super::*;
 use fixed_point::{Fix, Slope};

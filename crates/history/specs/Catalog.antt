@@ -17,7 +17,7 @@ pub record ObjectInfo : Type 0 where
   pub name : List ℕ
   pub class : ℕ
 
--- Classes in the order of making, objects in the order of first insertion. The place of each, counted from 0, is its number.
+-- Classes in the order of making, objects in the order of first insertion. The index of each, counted from 0, is its number.
 pub record Catalog : Type 0 where
   pub classes : List ClassInfo
   pub objects : List ObjectInfo

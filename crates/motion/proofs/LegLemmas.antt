@@ -57,7 +57,7 @@ no_end firsts ticks ended passed rest past =
 abbrev pub NoneEnds : List (ℤ × ℕ) → ℕ → ℕ → Type 0
 NoneEnds legs d u = (w : ℕ) → d < w → w ≤ u → leg_ends legs w ≡ false
 
--- then none of the legs behind the first does
+-- then none of the legs after the first does
 NoneEnds-later : (first : ℤ × ℕ) (legs : List (ℤ × ℕ)) (d u : ℕ) → first.1 ≤ d → NoneEnds (first ∷ legs) d u → NoneEnds legs (d - first.1) (u - first.1)
 NoneEnds-later first legs d u ended none w past by =
     let back : w + first.1 - first.1 ≡ w = omega arith in

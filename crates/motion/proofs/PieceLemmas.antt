@@ -1,6 +1,6 @@
 -- How the pieces of a timeline lie.
 use Rattle.std.proofs.Common.{◌≡◌, ℕ, pos, zero, suc, ◌+◌, ◌-◌, ◌+ℤ◌, ◌*ℤ◌, ◌<◌, ◌≤◌, ◌⊎◌, true, false, ◌||◌, ◌&&◌, max, min, None, Some, is_some, List, [], ◌∷◌, ◌++◌, length, take, take_all, get_or, refl, sym, ap, subst, ◌∙◌, inl, inr, arith}
-use Rattle.std.specs.Prelude.{◌==◌, slice_get, if◌then◌else◌}
+use Rattle.std.specs.Prelude.{◌==◌, IfSome, slice_get, if◌then◌else◌}
 use Rattle.std.specs.List.{list_any}
 use Rattle.std.specs.Option.{option_map_or}
 use Rattle.std.proofs.lemmas.List.{take_more, get_or_default}
@@ -19,7 +19,7 @@ use Rattle.motion.specs.Cells.{cell_turns, IsCellAt, AreCellsAt}
 use Rattle.motion.specs.Timeline.{Epoch, cells_of, epoch_at, IsRising, IsRisingFrom, AreBegunUpTo}
 use Rattle.motion.specs.Pieces.{changes_at, is_cut, IsFirstOrEnd, IsPiece, ArePiecesFrom, ArePieces, IsLinear, IsSteady, pieces_have}
 use Rattle.motion.proofs.LegLemmas.{NoneEnds, legs_slope-steady, legs_rise-steady}
-use Rattle.motion.proofs.TimelineLemmas.{each_past, in_force_of, epoch_at-split}
+use Rattle.motion.proofs.TimelineLemmas.{at_each, closed, each_past, epoch_at-split, from_each, in_force_of, opened}
 
 IsCellAt-later : (cell : Cell) (s t : ℕ) → s ≤ t → IsCellAt cell s → IsCellAt cell t
 IsCellAt-later (kinds.Num n) s t h written = written
@@ -32,28 +32,32 @@ AreCellsAt-later cells s t h written = λ k d l. IsCellAt-later (get_or cells k 
 -- the same epochs begin by a later tick that is before the next one
 pub AreBegunUpTo-later : (epochs : List Epoch) (at t count : ℕ) → IsRising epochs → at ≤ t → (count < length epochs → (d : Epoch) → t < (get_or epochs count d).from)
     → AreBegunUpTo epochs at count → AreBegunUpTo epochs t count
-AreBegunUpTo-later epochs at t count rising h next split = record {
-  within = split.within;
-  begun = λ k d l. omega (arith, split.begun k d l);
-  later = λ k d l m.
-      elim (cases_lt count k) [
-        | inl after ↦ omega (arith, each_past epochs 0 count k d rising after m, next (omega arith) d)
-        | inr here ↦ let is : k ≡ count = omega arith in rw is (next (omega arith) d)
-      ];
-}
+AreBegunUpTo-later epochs at t count rising h next begun =
+    let split = opened epochs at count begun in
+    closed epochs t count (record {
+      within = split.within;
+      begun = λ k d l. omega (arith, split.begun k d l);
+      later = λ k d l m.
+          elim (cases_lt count k) [
+            | inl after ↦ omega (arith, each_past epochs 0 count k d rising after m, next (omega arith) d)
+            | inr here ↦ let is : k ≡ count = omega arith in rw is (next (omega arith) d)
+          ];
+    })
 
 -- and one more at the tick at which the next one begins
 AreBegunUpTo-next : (epochs : List Epoch) (at t count : ℕ) → IsRising epochs → count < length epochs → ((d : Epoch) → (get_or epochs count d).from ≡ t)
     → AreBegunUpTo epochs at count → AreBegunUpTo epochs t (count + 1)
-AreBegunUpTo-next epochs at t count rising some next split = record {
-  within = omega arith;
-  begun = λ k d l.
-      elim (cases_lt k count) [
-        | inl before ↦ omega (arith, split.begun k d before, split.later count d (omega arith) some, next d)
-        | inr here ↦ let is : k ≡ count = omega arith in rw is (omega (arith, next d))
-      ];
-  later = λ k d l m. omega (arith, each_past epochs 0 count k d rising (omega arith) m, next d);
-}
+AreBegunUpTo-next epochs at t count rising some next begun =
+    let split = opened epochs at count begun in
+    closed epochs t (count + 1) (record {
+      within = omega arith;
+      begun = λ k d l.
+          elim (cases_lt k count) [
+            | inl before ↦ omega (arith, split.begun k d before, split.later count d (omega arith) some, next d)
+            | inr here ↦ let is : k ≡ count = omega arith in rw is (omega (arith, next d))
+          ];
+      later = λ k d l m. omega (arith, each_past epochs 0 count k d rising (omega arith) m, next d);
+    })
 
 -- what is known of an epoch of an index holds of it at each default
 at_index : (epochs : List Epoch) (k : ℕ) (next d : Epoch) → k < length epochs → next ≡ get_or epochs k next → (get_or epochs k d).from ≡ next.from
@@ -63,7 +67,7 @@ at_index epochs k next d some is = ap (λ q. q.from) (get_or_default epochs k d 
 pub begun_next : (epochs : List Epoch) (t count more : ℕ) (next : Epoch) → IsRising epochs → AreBegunUpTo epochs t count → count < length epochs
     → next ≡ get_or epochs count next → more ≡ (if next.from == t + 1 then 1 else 0) → AreBegunUpTo epochs (t + 1) (count + more)
 begun_next epochs t count more next rising split some is more_is =
-    let past : t < next.from = subst (λ n. t < n) (at_index epochs count next next some is) (split.later count next (omega arith) some) in
+    let past : t < next.from = subst (λ n. t < n) (at_index epochs count next next some is) ((opened epochs t count split).later count next (omega arith) some) in
     elim (cases_lt (t + 1) next.from) [
       | inl later ↦
           let none : count + more ≡ count = grind (arith, nat_tests) in
@@ -76,21 +80,21 @@ begun_next epochs t count more next rising split some is more_is =
 pub begun_all : (epochs : List Epoch) (t count : ℕ) → IsRising epochs → AreBegunUpTo epochs t count → length epochs ≤ count → AreBegunUpTo epochs (t + 1) count
 begun_all epochs t count rising split all = AreBegunUpTo-later epochs t (t + 1) count rising (omega arith) (λ some d. absurd (omega arith)) split
 
-pub some_begun : (epochs : List Epoch) (t count : ℕ) → 0 < length epochs → ((d : Epoch) → (get_or epochs 0 d).from ≤ t) → AreBegunUpTo epochs t count → 0 < count
+pub some_begun : (epochs : List Epoch) (t count : ℕ) → 0 < length epochs → IfSome (slice_get epochs 0) (λ p. p.from ≤ t) → AreBegunUpTo epochs t count → 0 < count
 some_begun epochs t count some first split =
     elim (cases_lt 0 count) [
       | inl more ↦ more
       | inr none ↦
           let d : Epoch = record { from = 0; cells = None } in
-          absurd (omega (arith, first d, split.later 0 d none some))
+          absurd (omega (arith, at_each (λ p. p.from ≤ t) epochs 0 first some d, (opened epochs t count split).later 0 d none some))
     ]
 
 -- which of the two bounds is reached
 pub begin_reached : (epochs : List Epoch) (index last first : ℕ) (next : Epoch) → index < length epochs → next ≡ get_or epochs index next → first ≡ min next.from (last + 1)
-    → (first ≡ last + 1) ⊎ ((index < length epochs) × ((d : Epoch) → (get_or epochs index d).from ≡ first))
+    → (first ≡ last + 1) ⊎ ((index < length epochs) × IfSome (slice_get epochs index) (λ p. p.from ≡ first))
 begin_reached epochs index last first next some is first_is =
     elim (cases_lt next.from (last + 1)) [
-      | inl before ↦ inr (some, λ d. at_index epochs index next d some is ∙ omega arith)
+      | inl before ↦ inr (some, from_each (λ p. p.from ≡ first) epochs index (λ within d. at_index epochs index next d some is ∙ omega arith))
       | inr past ↦ inl (omega arith)
     ]
 
@@ -128,15 +132,15 @@ pub record IsCutting (epochs : List Epoch) (p : Epoch) (count at last next first
   pub some : 0 < count
   pub begun : AreBegunUpTo epochs at count
   pub is : slice_get epochs (count - 1) ≡ Some p
-  pub before : count < length epochs → (d : Epoch) → next ≤ (get_or epochs count d).from
-  pub reached : (next ≡ last + 1) ⊎ ((count < length epochs) × ((d : Epoch) → (get_or epochs count d).from ≡ next))
+  pub before : IfSome (slice_get epochs count) (λ p. next ≤ p.from)
+  pub reached : (next ≡ last + 1) ⊎ ((count < length epochs) × IfSome (slice_get epochs count) (λ p. p.from ≡ next))
   pub turn : IsFirstOrEnd (λ t. list_any (cell_turns t) (cells_of p)) at next first
   pub within : next ≤ last + 1
 
 pub cutting : (epochs : List Epoch) (p : Epoch) (cells : List Cell) (count at last next first : ℕ) → IsRising epochs → 0 < count → AreBegunUpTo epochs at count
     → p ≡ get_or epochs (count - 1) p → cells ≡ cells_of p
-    → (count < length epochs → (d : Epoch) → next ≤ (get_or epochs count d).from)
-    → (next ≡ last + 1) ⊎ ((count < length epochs) × ((d : Epoch) → (get_or epochs count d).from ≡ next))
+    → IfSome (slice_get epochs count) (λ p. next ≤ p.from)
+    → (next ≡ last + 1) ⊎ ((count < length epochs) × IfSome (slice_get epochs count) (λ p. p.from ≡ next))
     → IsFirstOrEnd (λ t. list_any (cell_turns t) cells) at next first → next ≤ last + 1 → IsCutting epochs p count at last next first
 cutting epochs p cells count at last next first rising some begun is of before reached turn within = record {
   rising = rising;
@@ -182,7 +186,7 @@ module _ (epochs : List Epoch) (p : Epoch) (count at last next first : ℕ) (cut
   -- the same epochs have begun at each tick before the next one
   pub begun_at : (t : ℕ) → at ≤ t → t < next → AreBegunUpTo epochs t count
   begun_at t h before =
-      AreBegunUpTo-later epochs at t count cut.rising h (λ some d. omega (arith, cut.before some d)) cut.begun
+      AreBegunUpTo-later epochs at t count cut.rising h (λ some d. omega (arith, at_each (λ q. next ≤ q.from) epochs count cut.before some d)) cut.begun
 
   epoch_in : (t : ℕ) → at ≤ t → t < next → epoch_at epochs t ≡ Some p
   epoch_in t h before = in_force epochs p t count cut.some (begun_at t h before) cut.is
@@ -190,7 +194,7 @@ module _ (epochs : List Epoch) (p : Epoch) (count at last next first : ℕ) (cut
   begins_before : p.from ≤ at
   begins_before =
       let is : get_or epochs (count - 1) p ≡ p = get_or_from_slice_get epochs (count - 1) p p cut.is in
-      omega (arith, cut.begun.begun (count - 1) p (omega (arith, cut.some)), ap (λ q. q.from) is)
+      omega (arith, (opened epochs at count cut.begun).begun (count - 1) p (omega (arith, cut.some)), ap (λ q. q.from) is)
 
   changes_in : (t : ℕ) → at ≤ t → t < next → is_cut epochs t ≡ changes_at t p
   changes_in t h before = ap (λ q. option_map_or (changes_at t) q false) (epoch_in t h before)
@@ -200,13 +204,14 @@ module _ (epochs : List Epoch) (p : Epoch) (count at last next first : ℕ) (cut
       changes_in t (omega arith) (omega (arith, cut.turn.within)) ∙ grind (arith, nat_tests, begins_before, cut.turn.none t past before)
 
   -- the next epoch begins
-  cut_next : first ≡ next → (count < length epochs) × ((d : Epoch) → (get_or epochs count d).from ≡ next) → is_cut epochs first ≡ true
+  cut_next : first ≡ next → (count < length epochs) × IfSome (slice_get epochs count) (λ q. q.from ≡ next) → is_cut epochs first ≡ true
   cut_next same begins =
+      let each = at_each (λ q. q.from ≡ next) epochs count begins.1 begins.0 in
       let here : slice_get epochs (count + 1 - 1) ≡ Some (get_or epochs count p)
       = let back : count + 1 - 1 ≡ count = omega arith in ap (slice_get epochs) back ∙ slice_get-get_or epochs count p begins.0 in
-      let split : AreBegunUpTo epochs first (count + 1) = AreBegunUpTo-next epochs at first count cut.rising begins.0 (λ d. begins.1 d ∙ sym same) cut.begun in
+      let split : AreBegunUpTo epochs first (count + 1) = AreBegunUpTo-next epochs at first count cut.rising begins.0 (λ d. each d ∙ sym same) cut.begun in
       let now : epoch_at epochs first ≡ Some (get_or epochs count p) = in_force epochs (get_or epochs count p) first (count + 1) (omega arith) split here in
-      let begun : (get_or epochs count p).from ≡ first = begins.1 p ∙ sym same in
+      let begun : (get_or epochs count p).from ≡ first = each p ∙ sym same in
       ap (λ q. option_map_or (changes_at first) q false) now ∙ grind (arith, nat_tests, begun)
 
   ends : (first == last + 1 || is_cut epochs first) ≡ true

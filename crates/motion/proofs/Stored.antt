@@ -40,7 +40,7 @@ pub shortened_padded : (firsts : List (ℤ × ℕ)) (passed : ℕ) → IsPassed 
 shortened_padded [] passed p some = absurd (omega arith)
 shortened_padded (leg ∷ legs) passed p some = refl
 
--- each of the legs behind the first few has its length
+-- each of the legs after the first few has its length
 lengths_drop : (legs : List (ℤ × ℕ)) (n : ℕ) → IsTrue (list_all (λ leg. is_length_of leg.1) legs) → IsTrue (list_all (λ leg. is_length_of leg.1) (drop n legs))
 lengths_drop [] zero h = h
 lengths_drop [] (suc n) h = h
@@ -55,7 +55,7 @@ are_firsts_shortened (leg ∷ legs) passed h p = grind arith
 are_firsts_drop : (legs : List (ℤ × ℕ)) (n : ℕ) → IsTrue (are_firsts legs) → IsTrue (are_firsts (drop n legs))
 are_firsts_drop legs n h = grind (arith, length-drop, lengths_drop)
 
--- what is left behind the first few, in the form in which a range of a slice gives it
+-- what is left after the first few, in the form in which a range of a slice gives it
 range_is_drop : (legs : List (ℤ × ℕ)) (n : ℕ) → n ≤ length legs → take (length legs - n) (drop n legs) ≡ drop n legs
 range_is_drop legs n h = rw (← length-drop n legs) (take-length (drop n legs))
 

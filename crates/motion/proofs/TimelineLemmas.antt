@@ -1,12 +1,12 @@
 -- What a write leaves of a timeline.
 use Rattle.std.proofs.Common.{◌≡◌, ◌≢◌, ℕ, zero, suc, ◌+◌, ◌-◌, ◌<◌, ◌≤◌, Option, None, Some, List, [], ◌∷◌, ◌++◌, length, get_or, set, take, refl, sym, ap, subst, ◌∙◌, inl, inr, arith, length-append, length-set}
-use Rattle.std.specs.Prelude.{All, nat_lt, nat_le, slice_get, if◌then◌else◌}
+use Rattle.std.specs.Prelude.{All, IfSome, nat_lt, nat_le, slice_get, if◌then◌else◌}
 use Rattle.std.specs.List.{filter, fold}
 use Rattle.std.specs.List.Sorted.{IsNonDecreasingBy}
 use Rattle.std.proofs.lemmas.List.{get_or_default, take_more_set}
 use Rattle.std.proofs.lemmas.List.Sums.{fold-append}
 use Rattle.std.proofs.Math.Seq.{take-length}
-use Rattle.std.proofs.lemmas.Option.{get_or_from_slice_get, slice_get_within}
+use Rattle.std.proofs.lemmas.Option.{get_or_from_slice_get, slice_get-get_or, slice_get_within}
 use Rattle.std.proofs.lemmas.Bool.{cases_lt}
 use Rattle.std.proofs.lemmas.Bool.Decides.{nat_tests}
 use Rattle.motion.specs.Timeline.{Epoch, epoch_at, put, IsRisingFrom, IsRising, AreBegunBy, AreBegunUpTo}
@@ -85,7 +85,7 @@ all_before epochs k s rising last before j d l =
       | inr at_last ↦ let is : j ≡ k = omega arith in rw is (before d)
     ]
 
--- an epoch that begins past the last one is written behind it
+-- an epoch that begins past the last one is written after it
 pub put_behind : (epochs : List Epoch) (k from : ℕ) (last : Epoch) → IsRising epochs → AreBegunBy epochs from → k + 1 ≡ length epochs → last ≡ get_or epochs k last → last.from ≢ from
     → (p : Epoch) → p.from ≡ from → put epochs p ≡ epochs ++ p ∷ []
 put_behind epochs k from last rising begun at_end is other p now =
@@ -108,13 +108,44 @@ pub put_over : (epochs : List Epoch) (k from : ℕ) (last : Epoch) → IsRising 
 put_over epochs k from last rising at_end is same p now =
     put_over_from epochs 0 k p last rising at_end (ap (λ q. q.from) (sym is) ∙ same ∙ sym now)
 
--- an epoch written over the last one stands behind those before
+-- an epoch written over the last one stands after those before
 pub set_last : (epochs : List Epoch) (k : ℕ) (p : Epoch) → k + 1 ≡ length epochs → set epochs k p ≡ take k epochs ++ p ∷ []
 set_last epochs k p last =
     let all : k + 1 ≡ length (set epochs k p) = last ∙ sym (length-set epochs k p) in
     sym (take-length (set epochs k p)) ∙ ap (λ n. take n (set epochs k p)) (sym all) ∙ take_more_set epochs k p (omega arith)
 
 -- the index before the end, with one more in front
+-- what holds of the epoch of an index, if there is one, holds of it at each default, and the other way round
+pub at_each : (P : Epoch → Type 0) (epochs : List Epoch) (k : ℕ) → IfSome (slice_get epochs k) P → k < length epochs → (d : Epoch) → P (get_or epochs k d)
+at_each P epochs k some within d = subst (λ (o : Option Epoch). IfSome o P) (slice_get-get_or epochs k d within) some
+
+if_some : (P : Epoch → Type 0) (epochs : List Epoch) (k : ℕ) (o : Option Epoch) → slice_get epochs k ≡ o → (k < length epochs → (d : Epoch) → P (get_or epochs k d)) → IfSome o P
+if_some P epochs k None is each = tt
+if_some P epochs k (Some p) is each = subst P (get_or_from_slice_get epochs k p p is) (each (slice_get_within epochs k p is) p)
+
+pub from_each : (P : Epoch → Type 0) (epochs : List Epoch) (k : ℕ) → (k < length epochs → (d : Epoch) → P (get_or epochs k d)) → IfSome (slice_get epochs k) P
+from_each P epochs k each = if_some P epochs k (slice_get epochs k) refl each
+
+-- the same of the first `count` epochs and of the others
+pub record AreBegunAt (epochs : List Epoch) (t count : ℕ) : Type 0 where
+  pub within : count ≤ length epochs
+  pub begun : (k : ℕ) (d : Epoch) → k < count → (get_or epochs k d).from ≤ t
+  pub later : (k : ℕ) (d : Epoch) → count ≤ k → k < length epochs → t < (get_or epochs k d).from
+
+pub opened : (epochs : List Epoch) (t count : ℕ) → AreBegunUpTo epochs t count → AreBegunAt epochs t count
+opened epochs t count split = record {
+  within = split.within;
+  begun = λ k d l. at_each (λ p. p.from ≤ t) epochs k (split.begun k l) (omega (arith, split.within, l)) d;
+  later = λ k d l m. at_each (λ p. t < p.from) epochs k (split.later k l) m d;
+}
+
+pub closed : (epochs : List Epoch) (t count : ℕ) → AreBegunAt epochs t count → AreBegunUpTo epochs t count
+closed epochs t count split = record {
+  within = split.within;
+  begun = λ k l. from_each (λ p. p.from ≤ t) epochs k (λ m d. split.begun k d l);
+  later = λ k l. from_each (λ p. t < p.from) epochs k (λ m d. split.later k d l m);
+}
+
 last_of : (q : Epoch) (found : Option Epoch) (epochs : List Epoch) (count : ℕ)
     → (if nat_lt 0 count then slice_get epochs (count - 1) else Some q) ≡ (if nat_lt 0 (suc count) then slice_get (q ∷ epochs) (suc count - 1) else found)
 last_of q found epochs zero = refl
@@ -124,7 +155,7 @@ last_of q found epochs (suc count) =
     grind (arith, nat_tests, before, here)
 
 -- the last of the epochs that begin by tick t is in force then
-in_force_of-split : (epochs : List Epoch) (found : Option Epoch) (t count : ℕ) → AreBegunUpTo epochs t count
+in_force_of-split : (epochs : List Epoch) (found : Option Epoch) (t count : ℕ) → AreBegunAt epochs t count
     → in_force_of t found epochs ≡ (if nat_lt 0 count then slice_get epochs (count - 1) else found)
 in_force_of-split [] found t count split = let none : count ≡ 0 = omega (arith, split.within) in grind (arith, nat_tests)
 in_force_of-split (q ∷ epochs) found t zero split =
@@ -153,7 +184,7 @@ last_or_none [] = refl
 last_or_none (q ∷ epochs) = grind (arith, nat_tests)
 
 pub epoch_at-split : (epochs : List Epoch) (t count : ℕ) → AreBegunUpTo epochs t count → epoch_at epochs t ≡ (if nat_lt 0 count then slice_get epochs (count - 1) else None)
-epoch_at-split epochs t count split = in_force_of-split epochs None t count split
+epoch_at-split epochs t count split = in_force_of-split epochs None t count (opened epochs t count split)
 
 pub none_begun : (epochs : List Epoch) (t count : ℕ) → AreBegunUpTo epochs t count → count < 1 → None ≡ epoch_at epochs t
 none_begun epochs t count split none = sym (epoch_at-split epochs t count split ∙ grind (arith, nat_tests))
@@ -186,7 +217,8 @@ last_begun epochs t last is by =
 -- the last epoch is in force once all have begun
 pub epoch_at-last : (epochs : List Epoch) (t : ℕ) → AreBegunBy epochs t → epoch_at epochs t ≡ slice_get epochs (length epochs - 1)
 epoch_at-last epochs t by =
-    epoch_at-split epochs t (length epochs) (record { within = omega arith; begun = λ k d l. by k d l; later = λ k d l m. absurd (omega arith) })
+    epoch_at-split epochs t (length epochs)
+    (closed epochs t (length epochs) (record { within = omega arith; begun = λ k d l. by k d l; later = λ k d l m. absurd (omega arith) }))
     ∙ last_or_none epochs
 
 -- a list with another element in one place is not the list with one more

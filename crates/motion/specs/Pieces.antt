@@ -48,6 +48,10 @@ pub record IsLinear (v : Dynamic) (lo hi : ℕ) : Type 0 where
   pub slope : (t : ℕ) → lo ≤ t → t ≤ hi → slope_at v t ≡ slope_at v lo
   pub value : (t : ℕ) → lo ≤ t → t ≤ hi → value_at v t ≡ value_at v lo +ℤ slope_at v lo *ℤ pos (t - lo)
 
+-- each dynamic attribute of an epoch moves by one slope from tick `lo` to `hi`
+abbrev pub AreSteadyCells : Epoch → ℕ → ℕ → Type 0
+AreSteadyCells p lo hi = (a : ℕ) (v : Dynamic) → slice_get (cells_of p) a ≡ Some (cells.Dyn v) → IsLinear v lo hi
+
 -- At each tick of a piece the same epoch is in force, and each of its dynamic attributes moves by one slope.
 pub record IsSteady (epochs : List Epoch) (piece : Piece) : Type 0 where
   pub within : piece.epoch < length epochs

@@ -1,5 +1,5 @@
 -- The timeline of an object: one epoch for each tick at which it was written, so that the recorded past stays.
-use Rattle.std.specs.Prelude.{◌≡◌, ℕ, ◌+◌, ◌-◌, ◌<◌, ◌≤◌, nat_lt, nat_le, Bool, false, All, Option, None, Some, unwrap_or, option_and_then, List, [], ◌∷◌, ◌++◌, length, take, slice_index_or, if◌then◌else◌}
+use Rattle.std.specs.Prelude.{◌≡◌, ℕ, ◌+◌, ◌-◌, ◌<◌, ◌≤◌, nat_lt, nat_le, Bool, false, All, IfSome, Option, None, Some, unwrap_or, option_and_then, List, [], ◌∷◌, ◌++◌, length, take, slice_get, if◌then◌else◌}
 use Rattle.std.specs.List.{filter, fold}
 use Rattle.std.specs.Option.{option_to_list}
 use Rattle.tick_set.specs.declared.spans.TheConstants.{LAST_TICK}
@@ -42,8 +42,8 @@ AreBegunBy epochs t = All (λ p. p.from ≤ t) epochs
 -- the first `count` epochs begin by tick t, and the others after it
 pub record AreBegunUpTo (epochs : List Epoch) (t count : ℕ) : Type 0 where
   pub within : count ≤ length epochs
-  pub begun : (k : ℕ) (d : Epoch) → k < count → (slice_index_or epochs k d).from ≤ t
-  pub later : (k : ℕ) (d : Epoch) → count ≤ k → k < length epochs → t < (slice_index_or epochs k d).from
+  pub begun : (k : ℕ) → k < count → IfSome (slice_get epochs k) (λ p. p.from ≤ t)
+  pub later : (k : ℕ) → count ≤ k → IfSome (slice_get epochs k) (λ p. t < p.from)
 
 -- An epoch is written within the ticks, and its cells by the tick at which it begins.
 pub record IsEpoch (p : Epoch) : Type 0 where

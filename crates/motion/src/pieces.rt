@@ -1,5 +1,5 @@
 //! Pieces: the parts of a window in which each dynamic attribute of an object moves by one slope.
-ghost use Rattle.std.specs.Prelude.{◌≡◌, ◌≤◌, ◌<◌, ◌+◌, ◌⊎◌, All, IfOk, length, slice_index_or};
+ghost use Rattle.std.specs.Prelude.{◌≡◌, ◌≤◌, ◌<◌, ◌+◌, ◌⊎◌, All, IfOk, IfSome, length, slice_get};
 ghost use Rattle.std.specs.List.{list_any};
 ghost use Rattle.tick_set.specs.declared.spans.TheConstants.{LAST_TICK};
 ghost use Rattle.motion.specs.Cells.{AreCellsAt, IsCellAt, cell_turns};
@@ -20,7 +20,7 @@ pub struct Piece {
 }
 
 /// How many of these epochs begin by tick `t`.
-pub fn begun(epochs: &[Epoch], t: u32) -> usize
+pub fn begun_count(epochs: &[Epoch], t: u32) -> usize
     requires { IsRising epochs.now }
     ensures { AreBegunUpTo epochs.now t result }
 {
@@ -48,14 +48,14 @@ fn pieces_from(
 ) -> Result<Vec<Piece>, AllocError>
     requires rising { IsRising epochs.now }
     requires some { 0 < length epochs.now }
-    requires begun { (d : Epoch) → (slice_index_or epochs.now 0 d).from ≤ start }
+    requires begun { IfSome (slice_get epochs.now 0) (λ p. p.from ≤ start) }
     requires tick { last ≤ LAST_TICK }
     ensures pieces { IfOk result (λ v. ArePiecesFrom epochs.now start last v.items) }
     ensures steady { IfOk result (λ v. All (IsSteady epochs.now) v.items) }
 {
     let mut made = Vec::new(alloc);
     let mut at = start;
-    let mut count = begun(epochs, start);
+    let mut count = begun_count(epochs, start);
     'cutting: while at <= last {
         let piece = piece_from(epochs, count, at, last);
         made.push(piece)?;
@@ -91,9 +91,9 @@ pub fn piece_from(epochs: &[Epoch], count: usize, at: u32, last: u32) -> Piece
 fn next_begin(epochs: &[Epoch], index: usize, last: u32) -> u32
     requires { last ≤ LAST_TICK }
     ensures within { result ≤ last + 1 }
-    ensures before { index < length epochs.now → (d : Epoch) → result ≤ (slice_index_or epochs.now index d).from }
+    ensures before { IfSome (slice_get epochs.now index) (λ p. result ≤ p.from) }
     ensures reached { result ≡ last + 1
-        ⊎ ((index < length epochs.now) × ((d : Epoch) → (slice_index_or epochs.now index d).from ≡ result)) }
+        ⊎ ((index < length epochs.now) × IfSome (slice_get epochs.now index) (λ p. p.from ≡ result)) }
 {
     match epochs.get(index) {
         Some(next) => next.from().min(last + 1),

@@ -10,7 +10,7 @@ ghost use Rattle.motion.specs.Pieces.{ArePieces, IsPiece, IsSteady, pieces_have}
 
 use crate::cell::{Cell, Given};
 use crate::epoch::Epoch;
-use crate::pieces::{Piece, begun, piece_from, pieces};
+use crate::pieces::{Piece, begun_count, piece_from, pieces};
 use std::alloc::{AllocError, Global};
 use std::marker::Model;
 use std::mem;
@@ -124,7 +124,7 @@ impl Timeline {
     pub fn at(&self, t: u32) -> Option<&Epoch>
         ensures { option_copied result ≡ epoch_at self.now t }
     {
-        let index = begun(&self.epochs, t).checked_sub(1)?;
+        let index = begun_count(&self.epochs, t).checked_sub(1)?;
         self.epochs.get(index)
     }
 
@@ -193,7 +193,7 @@ impl Timeline {
         ensures none { IfNone result (epoch_at self.now at ≡ None) }
         ensures rising { IsRising self.now }
     {
-        let count = begun(&self.epochs, at);
+        let count = begun_count(&self.epochs, at);
         if count == 0 {
             return None;
         }
@@ -220,7 +220,7 @@ fn epoch_after(
     }
 }
 
-/// Writes an epoch behind the last one, or over it where that begins at the same tick.
+/// Writes an epoch after the last one, or over it where that begins at the same tick.
 #[tactic(auto, using(crate::proofs::TimelineLemmas::set_is_no_push))]
 fn put(epochs: &mut Vec<Epoch>, epoch: Epoch) -> Result<Option<Epoch>, AllocError>
     requires after { AreBegunBy epochs.old.items epoch.from }

@@ -6,6 +6,7 @@ use Rattle.std.specs.Str.{bytes_eq}
 use Rattle.std.proofs.lemmas.Bool.Decides.{nat_tests}
 use Rattle.std.proofs.lemmas.List.{map-append}
 use Rattle.std.proofs.lemmas.Option.{same_Some}
+use Rattle.exact.proofs.Lists.{bytes_eq_refl}
 use Rattle.motion.specs.declared.cell.Cell.{Cell}
 use Rattle.motion.specs.declared.cell.NamedSet.{NamedSet}
 use Rattle.motion.specs.declared.cell.Place.{Place}
@@ -19,7 +20,7 @@ use Rattle.object_store.specs.Effects.{put_named, with_epoch_of, with_object, cl
 use Rattle.object_store.specs.Sound.{IsSound}
 use Rattle.object_store.proofs.Lists.{index_in, index_is, is_some-find}
 use Rattle.object_store.proofs.NumberLemmas.{cells_in, cells_at_index}
-use Rattle.object_store.proofs.StandLemmas.{bytes_eq_refl, infos-put_named}
+use Rattle.object_store.proofs.StandLemmas.{infos-put_named}
 use Rattle.object_store.proofs.UndoLemmas.{at_zero, at_suc, take_front}
 use Rattle.object_store.proofs.WriteLemmas.{index-put_named, index_last}
 

@@ -20,7 +20,6 @@ use Rattle.object_store.specs.Faults.{class_of_object, is_elsewhere, is_past_cap
 use Rattle.object_store.proofs.Lists.{find_is, find-map, All-find}
 use Rattle.object_store.proofs.ClassLemmas.{name_of}
 use Rattle.object_store.proofs.IdLemmas.{names-ids}
-use Rattle.object_store.proofs.StandLemmas.{bytes_eq_refl, bytes_eq_true}
 
 -- ---- the object of a name
 

@@ -1,4 +1,4 @@
--- Lists of anything: the first index that passes a test, and what stands there.
+-- For this crate and for the crates above: lists of anything: the first index that passes a test, and what stands there.
 use Rattle.std.proofs.Common.{◌≡◌, ℕ, zero, suc, ◌+◌, ◌<◌, Bool, true, false, cond, not, ◌||◌, nat_lt, Option, None, Some, List, [], ◌∷◌, ◌++◌, map, length, take, refl, sym, ap, subst, ◌∙◌, arith}
 use Rattle.std.specs.Prelude.{All, slice_get, is_some, option_and_then, option_map}
 use Rattle.std.proofs.lemmas.Option.{same_Some, none-some}

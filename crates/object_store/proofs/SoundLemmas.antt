@@ -23,7 +23,6 @@ use Rattle.object_store.proofs.Lists.{list_any-map, any_is_found, slice_get-appe
 use Rattle.object_store.proofs.ClassLemmas.{name_of}
 use Rattle.object_store.proofs.IdLemmas.{class_in, ids-append, ids-same, ids-none}
 use Rattle.object_store.proofs.KindLemmas.{FitsIn, put_fits}
-use Rattle.object_store.proofs.StandLemmas.{bytes_eq_refl, bytes_eq_true}
 
 abbrev with_epoch : Epoch → StoredObject → StoredObject
 with_epoch p o = record o { epochs = put o.epochs p }

@@ -4,12 +4,11 @@ use Rattle.std.specs.Prelude.{option_and_then, option_map, slice_get, is_some, A
 use Rattle.std.specs.List.{find, list_any, fold, AllByRecursion}
 use Rattle.std.specs.Option.{option_or, option_map_or}
 use Rattle.std.specs.Str.{bytes_eq}
-use Rattle.std.specs.Cmp.Lexicographic.{nat_list_eq_equiv}
 use Rattle.std.proofs.lemmas.List.{map-append, append-nil}
 use Rattle.std.proofs.lemmas.List.Folds.{find-append}
 use Rattle.std.proofs.lemmas.List.Elements.{recursion_from_All}
 use Rattle.std.proofs.lemmas.Bool.Decides.{nat_tests}
-use Rattle.std.proofs.lemmas.Slice.Eq.{bytes_eq-Decides}
+use Rattle.exact.proofs.Lists.{bytes_eq_true}
 use Rattle.motion.specs.declared.cell.Cell.{Cell}
 use Rattle.motion.specs.declared.cell.NamedSet.{NamedSet}
 use Rattle.motion.specs.declared.cell.Place.{Place}
@@ -45,12 +44,6 @@ grows old new w follows writes stands =
 
 abbrev with_epoch : Epoch → StoredObject → StoredObject
 with_epoch p o = record o { epochs = put o.epochs p }
-
-pub bytes_eq_true : (a b : List ℕ) → bytes_eq a b ≡ true → a ≡ b
-bytes_eq_true a b h = (bytes_eq-Decides a b).0 h
-
-pub bytes_eq_refl : (a : List ℕ) → bytes_eq a a ≡ true
-bytes_eq_refl a = nat_list_eq_equiv.refl a
 
 find_if : {X : Type 0} (q : X → Bool) (b : Bool) (xs ys : List X) → find q (if b then xs else ys) ≡ (if b then find q xs else find q ys)
 find_if q true xs ys = refl

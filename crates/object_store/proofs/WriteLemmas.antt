@@ -10,6 +10,7 @@ use Rattle.std.proofs.Math.ListN.{get_or-append}
 use Rattle.std.proofs.Math.Seq.{get_or-append_seam}
 use Rattle.std.proofs.lemmas.List.{length-map, get_or-set_same, get_or-set_other, length-set}
 use Rattle.std.proofs.lemmas.Option.{same_Some, none-some, slice_get_within}
+use Rattle.exact.proofs.Lists.{bytes_eq_refl}
 use Rattle.tick_set.specs.declared.spans.TheConstants.{LAST_TICK}
 use Rattle.motion.specs.Timeline.{Epoch, put, restored, AreBegunBy, TakesBack}
 use Rattle.motion.proofs.CallerLemmas.{AreBegunBy-later}
@@ -33,7 +34,7 @@ use Rattle.object_store.proofs.Lists.{index_in, index_is, position-map, find_is,
 use Rattle.object_store.proofs.IdLemmas.{class_in, ids-append, ids-same, ids-none}
 use Rattle.object_store.proofs.KindLemmas.{FitsIn}
 use Rattle.object_store.proofs.SoundLemmas.{put_sound, append_sound, class_sound, names-put_named, classes-put_named}
-use Rattle.object_store.proofs.StandLemmas.{bytes_eq_refl, grows, follows_update, follows_remove, follows_class}
+use Rattle.object_store.proofs.StandLemmas.{grows, follows_update, follows_remove, follows_class}
 use Rattle.object_store.proofs.UndoLemmas.{IsFirst, first_at, put_there, put_back, take_pushed, classes-restored_at}
 
 -- ---- a known name

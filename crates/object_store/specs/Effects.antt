@@ -34,7 +34,7 @@ with_epoch_of s name p = record s { objects = put_named name p s.objects; last_t
 -- and after one of a new object
 abbrev pub with_object : Contents → ℕ → List ℕ → Epoch → Contents
 with_object s class name p = record s {
-  objects = s.objects ++ record { name = name; class = class; epochs = put [] p } ∷ [];
+  objects = s.objects ++ record { name = name; class = class; epochs = p ∷ [] } ∷ [];
   last_tick = p.from;
 }
 

@@ -54,7 +54,7 @@ impl Model for Class {
 }
 
 impl Class {
-    /// A class with these written attributes, behind `x` and `y` where it is a point class.
+    /// A class with these written attributes, after `x` and `y` where it is a point class.
     pub(crate) fn new(
         alloc: Global,
         name: Word,
@@ -129,7 +129,7 @@ impl Class {
     }
 }
 
-/// These attributes, behind `x` and `y` in a point class.
+/// These attributes, after `x` and `y` in a point class.
 fn all_attributes(alloc: Global, point: bool, attrs: &[AttrDef]) -> Result<Vec<AttrDef>, AllocError>
     requires { length attrs.now ≤ ATTRIBUTE_LIMIT }
     ensures { IfOk result (λ v. v.items ≡ with_coordinates point attrs.now) }

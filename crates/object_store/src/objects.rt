@@ -66,7 +66,7 @@ impl Object {
     }
 }
 
-/// The object of an index has these cells from tick `now` on.
+/// Starts a new version of the object of an index, with these cells, at tick `now`.
 pub fn begin_at(
     objects: &mut Objects,
     index: usize,

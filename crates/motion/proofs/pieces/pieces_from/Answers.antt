@@ -9,8 +9,8 @@ pub cutting-init : goal.cutting-init
 cutting-init c = record {
   pieces = ArePiecesTo-none c.args.epochs.now c.args.start c.args.last c.new-made.result.items c.new-made.ensures.items;
   steady = λ k d l. absurd (grind arith);
-  begun = c.begun-count.ensures;
-  some = some_begun c.args.epochs.now c.args.start c.begun-count.result c.requires.some c.requires.begun c.begun-count.ensures;
+  begun = c.begun_count-count.ensures;
+  some = some_begun c.args.epochs.now c.args.start c.begun_count-count.result c.requires.some c.requires.begun c.begun_count-count.ensures;
 }
 
 pub cutting-preserved : goal.cutting-preserved

@@ -3,4 +3,4 @@ use Rattle.motion.proofs.TimelineLemmas.{none_begun}
 use Rattle.motion.proofs.timeline.Timeline.piece_from.Goals as goal
 
 pub returns-then-count-eq0-clause-none : goal.returns-then-count-eq0-clause-none
-returns-then-count-eq0-clause-none c = grind (arith, none_begun c.args.self.now c.args.at c.begun-count.result)
+returns-then-count-eq0-clause-none c = grind (arith, none_begun c.args.self.now c.args.at c.begun_count-count.result)
