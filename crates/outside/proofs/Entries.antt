@@ -20,7 +20,7 @@ texts_of-set_first [] name text other within = absurd (omega arith)
 texts_of-set_first (entry ∷ entries) name text other within =
     grind (arith, common_steps, texts_of-set_first entries name text other, bytes_eq-Decides entry.0 name, bytes_eq-Decides other name, bytes_eq-Decides other entry.0)
 
--- a new text behind the others, none of which is under its name
+-- a new text after the others, none of which is under its name
 texts_of-append : (entries : List (List ℕ × List ℕ)) (name text other : List ℕ) →
     length entries ≤ position_or_len (λ e. bytes_eq e.0 name) entries →
     texts_of (entries ++ (name, text) ∷ []) other ≡ put (texts_of entries) name text other

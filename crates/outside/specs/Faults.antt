@@ -19,7 +19,12 @@ Rose before now = one_more before ≤ now
 abbrev pub HasCause : {T E : Type 0} → ℕ → ℕ → Result T E → Type 0
 HasCause before now result = MatchResult result (λ _. now ≡ before) (λ _. Rose before now)
 
--- the count after a failed call that takes memory too
+-- the count after such a failure: one more, but for want of memory
+abbrev pub count_after : OutFail → ℕ → ℕ
+count_after Failed before = one_more before
+count_after NoMemory before = before
+
+-- what is told of the count after a failed call that takes memory too
 abbrev pub FailCounts : ℕ → ℕ → OutFail → Type 0
 FailCounts before now Failed = Rose before now
 FailCounts before now NoMemory = now ≡ before

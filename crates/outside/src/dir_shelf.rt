@@ -1,7 +1,8 @@
 // The files of the current folder as a shelf. It tells nothing of their texts.
 ghost use Rattle.std.specs.Prelude.{◌≡◌, ◌≤◌, ◌↔◌, IsOk};
-ghost use Rattle.outside.specs.Faults.{FailCounts};
+ghost use Rattle.outside.specs.Faults.{FailCounts, count_after};
 ghost use Rattle.outside.specs.FileName.{IsFileName, is_path};
+ghost use Rattle.outside.specs.declared.dir_shelf.TheConstants.{MAX_LEN};
 
 use crate::{OutFail, Shelf};
 use std::fs::{self, OpenFile};
@@ -10,11 +11,11 @@ use std::marker::Model;
 use std::rt::Files;
 
 /// The most bytes that a file may have, 512 MiB.
-const MAX_LEN: u64 = 536_870_912;
+pub const MAX_LEN: u64 = 536_870_912;
 
 /// The files of the current folder, by their names. These are faults: a name that is empty, `.` or `..`, that has
-/// a `/` or is no text in UTF-8; a file of more than 536,870,912 bytes, or a text to be stored as one; and each
-/// error of the system but want of memory.
+/// a `/` or is no text in UTF-8; a file of more than `MAX_LEN` bytes, or a text to be stored as one; and each error
+/// of the system but want of memory.
 #[derive(Drop)]
 pub struct DirShelf<R> {
     rt: R,
@@ -39,7 +40,8 @@ impl<R: Files + AllocGlobal> DirShelf<R> {
 
     // Counts a fault, unless there was no memory.
     fn failure(&mut self, error: &io::Error) -> OutFail
-        ensures { FailCounts self.old self.new result }
+        ensures count { self.new ≡ count_after result self.old }
+        ensures counts { FailCounts self.old self.new result }
     {
         if error.kind() == ErrorKind::OutOfMemory {
             return OutFail::NoMemory;
@@ -102,7 +104,7 @@ fn write_file<R: Files>(rt: &R, name: &[u8], text: &[u8]) -> io::Result<()> {
 }
 
 fn check_len(len: u64) -> io::Result<()>
-    ensures { IsOk result ↔ (len ≤ 536870912) }
+    ensures { IsOk result ↔ (len ≤ MAX_LEN) }
 {
     if len > MAX_LEN {
         return Err(io::Error::from(ErrorKind::FileTooLarge));

@@ -12,6 +12,7 @@
 
 mod dir_shelf;
 mod fault;
+mod laws;
 mod mem;
 mod plan;
 mod shelf;
@@ -21,8 +22,9 @@ mod std_streams;
 mod sure;
 mod text;
 
-pub use dir_shelf::DirShelf;
+pub use dir_shelf::{DirShelf, MAX_LEN};
 pub use fault::{Failed, OutFail};
+pub use laws::limits_in_numbers;
 pub use mem::{MemShelf, MemSink, MemSource};
 pub use shelf::Shelf;
 pub use sink::Sink;
