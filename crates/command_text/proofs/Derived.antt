@@ -2,7 +2,7 @@
 use Rattle.std.proofs.Common.{◌≡◌, ℕ, ℤ, zero, suc, Bool, true, false, List, [], ◌∷◌, ◌++◌, length, map, Option, Some, None, option_map, refl, sym, ◌∙◌, ap, subst, append_assoc, append-nil, eqb-true, arith, ◌<◌, length-append}
 use Rattle.std.specs.Prelude.{if◌then◌else◌, ◌==◌, is_some, nat_le}
 use Rattle.std.specs.Option.{option_map_or}
-use Rattle.fixed_point.specs.Decimal.{◌>>=◌}
+use Rattle.exact.specs.Options.{◌>>=◌}
 use Rattle.case_table.specs.declared.key.TheConstants.{AT, MOVE, RATE, POINT as POINT_WORD, NUM, TEXT as TEXT_WORD, DYN}
 use Rattle.case_table.specs.declared.symbol.TheConstants.{OPEN_ROUND, CLOSE_ROUND, OPEN_SQUARE, CLOSE_SQUARE, COMMA, MINUS, EQUAL}
 use Rattle.fixed_point.specs.declared.number.Point.{Point}
@@ -16,8 +16,8 @@ use Rattle.motion.specs.declared.cell.Place.{Place}
 use Rattle.ftl_parser.specs.Tree.{QueryTree}
 use Rattle.ftl_parser.proofs.Found.{found_query}
 use Rattle.command_text.specs.Piece.{Piece, KEY, SIGN, NAME, NUMBER, TEXT, is_key, is_sign, is_name, is_text, in_query}
-use Rattle.command_text.specs.Ranges.{WholePlace, Ticks, whole_in, radius_in, SignedPlace, Value, Rate, signed_in}
-use Rattle.command_text.specs.Sizes.{is_short, word_of, are_few_legs, function_of, are_few_attributes, are_few_vertices}
+use Rattle.command_text.specs.Ranges.{WholePlace, Steps, whole_in, radius_in, SignedPlace, Value, Rate, signed_in}
+use Rattle.command_text.specs.Sizes.{is_short, short_word, are_few_legs, function_of, are_few_attributes, are_few_vertices}
 use Rattle.command_text.specs.Query.{query_of}
 use Rattle.command_text.specs.Grammar
 use Rattle.command_text.specs.Grammar.{whole_at, radius_at, signed_at, point_of, set_of, place_of, legs_of_x, legs_of_y, SpellsNum, num_plain, num_minus, SpellsPair, SpellsAttr, attr_num, attr_text, attr_dyn, SpellsMoreAttrs, no_more_attrs, one_more_attr, SpellsAttrs, no_attrs, SpellsPoints, no_points, one_point, SpellsRateLegs, no_rate_legs, one_rate_leg, SpellsRates, SpellsMoveLegs, no_move_legs, one_move_leg, SpellsMoves, SpellsGiven, given_num, SpellsSettings, no_settings, one_setting, SpellsAt, not_at, SpellsMoving, not_moving, SpellsChange, change, SpellsPointWord, no_point_word, SpellsTail}
@@ -171,10 +171,10 @@ key_first code s rest e k = option_first (key code s) rest e (λ t h e. k t (key
 -- ---- Names, texts and numbers
 
 pub data SpellsName : List ℕ → List Piece → Type 0 where
-  named : {n : List ℕ} → SpellsName (word_of n) (NAME n ∷ [])
+  named : {n : List ℕ} → SpellsName (short_word n) (NAME n ∷ [])
 
 pub data SpellsText : List ℕ → List Piece → Type 0 where
-  texted : {t : List ℕ} → SpellsText (word_of t) (TEXT t ∷ [])
+  texted : {t : List ℕ} → SpellsText (short_word t) (TEXT t ∷ [])
 
 pub data SpellsDigits : List ℕ → List Piece → Type 0 where
   digits : {n : List ℕ} → SpellsDigits n (NUMBER n ∷ [])
@@ -199,7 +199,7 @@ name_follows = record {
   derived = λ s t x e.
       next_first s _ e λ p s1 token e.
       option_first (name_in p) _ e λ n same e.
-      ends SpellsName (word_of n) x (noting_small (is_short n) s1) t e (took_this p (NAME n) (the_name p n same) token) named;
+      ends SpellsName (short_word n) x (noting_small (is_short n) s1) t e (took_this p (NAME n) (the_name p n same) token) named;
 }
 
 pub text_follows : Follows text SpellsText
@@ -208,7 +208,7 @@ text_follows = record {
   derived = λ s t x e.
       next_first s _ e λ p s1 token e.
       option_first (text_in p) _ e λ n same e.
-      ends SpellsText (word_of n) x (noting_small (is_short n) s1) t e (took_this p (TEXT n) (the_text p n same) token) texted;
+      ends SpellsText (short_word n) x (noting_small (is_short n) s1) t e (took_this p (TEXT n) (the_text p n same) token) texted;
 }
 
 pub number_follows : Follows number SpellsDigits
@@ -459,11 +459,11 @@ points_follow = record {
 
 -- ---- Legs
 
-rate_leg_by : {a : ℤ} {k : ℕ} {xs ys : List Piece} → SpellsNum Rate a xs → SpellsWhole Ticks k ys →
+rate_leg_by : {a : ℤ} {k : ℕ} {xs ys : List Piece} → SpellsNum Rate a xs → SpellsWhole Steps k ys →
     Starts SpellsRateLegs (a, k) (SIGN OPEN_SQUARE ∷ (xs ++ SIGN COMMA ∷ (ys ++ SIGN CLOSE_SQUARE ∷ [])))
 rate_leg_by {a = a} {xs = xs} d (counted {n = n}) = record {
   before = λ more zs rest.
-      subst (λ ps. SpellsRateLegs ((a, whole_at Ticks n) ∷ more) (SIGN OPEN_SQUARE ∷ ps)) (sym (append_assoc xs (SIGN COMMA ∷ NUMBER n ∷ SIGN CLOSE_SQUARE ∷ []) zs)) (one_rate_leg n d rest);
+      subst (λ ps. SpellsRateLegs ((a, whole_at Steps n) ∷ more) (SIGN OPEN_SQUARE ∷ ps)) (sym (append_assoc xs (SIGN COMMA ∷ NUMBER n ∷ SIGN CLOSE_SQUARE ∷ []) zs)) (one_rate_leg n d rest);
   some = some_tokens (SIGN OPEN_SQUARE) (xs ++ SIGN COMMA ∷ NUMBER n ∷ SIGN CLOSE_SQUARE ∷ []);
 }
 
@@ -474,7 +474,7 @@ rate_leg_follows = record {
       sign_first OPEN_SQUARE s _ e λ s1 opened e.
       part_first (num_follows Rate) s1 _ e λ a s2 slope e.
       sign_first COMMA s2 _ e λ s3 comma e.
-      part_first (whole_follows Ticks) s3 _ e λ k s4 ticks e.
+      part_first (whole_follows Steps) s3 _ e λ k s4 ticks e.
       sign_first CLOSE_SQUARE s4 _ e λ s5 closed e.
       ends (Starts SpellsRateLegs) (a, k) x s5 t e (took_both opened (took_both slope.split (took_both comma (took_both ticks.split closed)))) (rate_leg_by slope.spelled ticks.spelled);
 }
@@ -491,11 +491,11 @@ rates_follow = record {
       ends SpellsRates (function_of ls a) x (noting_small (are_few_legs (length ls)) s2) t e (took_both legs.split last.split) (Grammar.rates legs.spelled last.spelled);
 }
 
-move_leg_by : {p : ℤ × ℤ} {k : ℕ} {xs ys : List Piece} → SpellsPair Rate p.0 p.1 xs → SpellsWhole Ticks k ys →
+move_leg_by : {p : ℤ × ℤ} {k : ℕ} {xs ys : List Piece} → SpellsPair Rate p.0 p.1 xs → SpellsWhole Steps k ys →
     Starts SpellsMoveLegs (p, k) (SIGN OPEN_SQUARE ∷ (xs ++ SIGN COMMA ∷ (ys ++ SIGN CLOSE_SQUARE ∷ [])))
 move_leg_by {p = p} {xs = xs} d (counted {n = n}) = record {
   before = λ more zs rest.
-      subst (λ ps. SpellsMoveLegs ((p, whole_at Ticks n) ∷ more) (SIGN OPEN_SQUARE ∷ ps)) (sym (append_assoc xs (SIGN COMMA ∷ NUMBER n ∷ SIGN CLOSE_SQUARE ∷ []) zs)) (one_move_leg n d rest);
+      subst (λ ps. SpellsMoveLegs ((p, whole_at Steps n) ∷ more) (SIGN OPEN_SQUARE ∷ ps)) (sym (append_assoc xs (SIGN COMMA ∷ NUMBER n ∷ SIGN CLOSE_SQUARE ∷ []) zs)) (one_move_leg n d rest);
   some = some_tokens (SIGN OPEN_SQUARE) (xs ++ SIGN COMMA ∷ NUMBER n ∷ SIGN CLOSE_SQUARE ∷ []);
 }
 
@@ -506,7 +506,7 @@ move_leg_follows = record {
       sign_first OPEN_SQUARE s _ e λ s1 opened e.
       part_first (pair_follows Rate) s1 _ e λ p s2 slopes e.
       sign_first COMMA s2 _ e λ s3 comma e.
-      part_first (whole_follows Ticks) s3 _ e λ k s4 ticks e.
+      part_first (whole_follows Steps) s3 _ e λ k s4 ticks e.
       sign_first CLOSE_SQUARE s4 _ e λ s5 closed e.
       ends (Starts SpellsMoveLegs) (p, k) x s5 t e (took_both opened (took_both slopes.split (took_both comma (took_both ticks.split closed)))) (move_leg_by slopes.spelled ticks.spelled);
 }
@@ -538,7 +538,7 @@ rate_follows = record {
       record { taken = KEY RATE ∷ d.taken; split = took_both word d.split; spelled = a_rate d.spelled };
 }
 
--- behind the `=` of a setting
+-- after the `=` of a setting
 abbrev SpellsValue : Given → List Piece → Type 0
 SpellsValue g xs = SpellsGiven g (SIGN EQUAL ∷ xs)
 

@@ -13,23 +13,23 @@ use Rattle.command_text.specs.declared.form.Form.{Form}
 use Rattle.command_text.specs.declared.form.Form.TheVariants as forms
 use Rattle.command_text.specs.Form.{form_of_key, form_of_name, form_of}
 use Rattle.command_text.specs.Piece.{Piece, KEY, SIGN, NAME, NUMBER, TEXT}
-use Rattle.command_text.specs.Ranges.{Span, Ticks, Capacity, Nearest, Value, Width}
-use Rattle.command_text.specs.Sizes.{word_of}
+use Rattle.command_text.specs.Ranges.{Span, Steps, Capacity, Nearest, Value, Width}
+use Rattle.command_text.specs.Sizes.{short_word}
 use Rattle.command_text.specs.Tree
 use Rattle.command_text.specs.Tree.{CommandTree}
 use Rattle.command_text.specs.Grammar
 use Rattle.command_text.specs.Grammar.{whole_at, radius_at, SpellsNum, SpellsAttrs, SpellsPoints, SpellsChange, SpellsPointWord, SpellsTail, SpellsCommand}
-use Rattle.command_text.specs.Reading.{Reader, front, at_first, point_word, class_head, class, region, insert_head, insert, update, remove, tick, ask, watch_head, watch, keep, show, drop, save, import, export, nearest, must_head, must, may, index, range, by_form, first_form, begun, ended, command, command_of}
+use Rattle.command_text.specs.Reading.{Reader, front, at_first, point_word, class_head, class, region, insert_head, insert, update, remove, tick, ask, watch_head, watch, keep, show, drop, save, import, export, nearest, must_head, must, may, index, range, by_form, first_form, command_begun, ended, command, command_of}
 use Rattle.command_text.proofs.Derived.{took_none, took_both, Derived, Follows, option_first, part_first, same_parts, ends, next_first, took_this, SpellsName, named, SpellsText, texted, SpellsWhole, counted, SpellsRadius, measured, name_follows, text_follows, whole_follows, radius_follows, num_follows, attrs_follow, points_follow, settings_follow, place_follows, change_by, query_follows, point_word_follows}
 
--- the tokens of a command behind its first one
+-- the tokens of a command after its first one
 abbrev Behind : Piece → CommandTree → List Piece → Type 0
 Behind first c xs = SpellsCommand c (first ∷ xs)
 
 -- ---- Two parts that stand at the front of several commands
 
 data SpellsNames : List ℕ × List ℕ → List Piece → Type 0 where
-  both_named : {c n : List ℕ} → SpellsNames (word_of c, word_of n) (NAME c ∷ NAME n ∷ [])
+  both_named : {c n : List ℕ} → SpellsNames (short_word c, short_word n) (NAME c ∷ NAME n ∷ [])
 
 names_by : {c n : List ℕ} {xs ys : List Piece} → SpellsName c xs → SpellsName n ys → SpellsNames (c, n) (xs ++ ys)
 names_by named named = both_named
@@ -44,7 +44,7 @@ insert_head_follows = record {
 }
 
 data SpellsWatch : List ℕ × ℕ → List Piece → Type 0 where
-  watched : {n k : List ℕ} → SpellsWatch (word_of n, whole_at Span k) (NAME n ∷ NUMBER k ∷ [])
+  watched : {n k : List ℕ} → SpellsWatch (short_word n, whole_at Span k) (NAME n ∷ NUMBER k ∷ [])
 
 watch_head_by : {n : List ℕ} {k : ℕ} {xs ys : List Piece} → SpellsName n xs → SpellsWhole Span k ys → SpellsWatch (n, k) (xs ++ ys)
 watch_head_by named counted = watched
@@ -74,7 +74,7 @@ must_head_follows = record {
 }
 
 data SpellsClass : List ℕ × ℕ × Bool → List Piece → Type 0 where
-  classed : {n k : List ℕ} {b : Bool} {xs : List Piece} → SpellsPointWord b xs → SpellsClass (word_of n, whole_at Capacity k, b) (NAME n ∷ NUMBER k ∷ xs)
+  classed : {n k : List ℕ} {b : Bool} {xs : List Piece} → SpellsPointWord b xs → SpellsClass (short_word n, whole_at Capacity k, b) (NAME n ∷ NUMBER k ∷ xs)
 
 class_head_by : {n : List ℕ} {k : ℕ} {b : Bool} {xs ys zs : List Piece} → SpellsName n xs → SpellsWhole Capacity k ys → SpellsPointWord b zs → SpellsClass (n, k, b) (xs ++ (ys ++ zs))
 class_head_by named counted d = classed d
@@ -155,14 +155,14 @@ remove_follows = record {
       ends (Behind (KEY REMOVE)) (Tree.Remove x1) x s1 t e n.split (remove_by n.spelled);
 }
 
-tick_by : {k : ℕ} {xs : List Piece} → SpellsWhole Ticks k xs → Behind (KEY TICK) (Tree.Tick k) xs
+tick_by : {k : ℕ} {xs : List Piece} → SpellsWhole Steps k xs → Behind (KEY TICK) (Tree.Tick k) xs
 tick_by counted = Grammar.tick
 
 tick_follows : Follows tick (Behind (KEY TICK))
 unfolding tick
 tick_follows = record {
   derived = λ s t x e.
-      part_first (whole_follows Ticks) s _ e λ x1 s1 k e.
+      part_first (whole_follows Steps) s _ e λ x1 s1 k e.
       ends (Behind (KEY TICK)) (Tree.Tick x1) x s1 t e k.split (tick_by k.spelled);
 }
 
@@ -430,8 +430,8 @@ first_form_follows = record {
 begun_by : {f : Form} {c : CommandTree} {xs ys : List Piece} → SpellsForm f xs → Behind (first_token f) c ys → SpellsCommand c (xs ++ ys)
 begun_by of_form d = d
 
-begun_follows : Follows begun SpellsCommand
-unfolding begun
+begun_follows : Follows command_begun SpellsCommand
+unfolding command_begun
 begun_follows = record {
   derived = λ s t x e.
       part_first first_form_follows s _ e λ f s1 first e.
@@ -439,7 +439,7 @@ begun_follows = record {
       record { taken = first.taken ++ d.taken; split = took_both first.split d.split; spelled = begun_by {f = f} first.spelled d.spelled };
 }
 
--- no token is left behind a command
+-- no token is left after a command
 record IsLast (c y : CommandTree × Reader) : Type 0 where
   same : c ≡ y
   end : c.1.rest ≡ []

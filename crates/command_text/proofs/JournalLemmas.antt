@@ -18,7 +18,7 @@ pub lines_end : (place : ℕ) (ks : List Kept) (text : List ℕ) → AreLines pl
 lines_end place [] text h = omega (arith, h)
 lines_end place (k ∷ ks) text h = let later : place + k.size + 1 ≤ length text = lines_end (place + k.size + 1) ks text h.2 in omega (arith, later)
 
--- what stands behind a line doesn't touch it
+-- what stands after a line doesn't touch it
 line_before : (k : Kept) (text more : List ℕ) → k.from + k.size ≤ length text → line_in (text ++ more) k ≡ line_in text k
 line_before k text more h =
     ap (take k.size) (drop-append-le k.from text more (omega arith))
@@ -104,7 +104,7 @@ told_added place (x ∷ ks) text line k h from size =
     ap (λ l. (x.tick, spelled l) ∷ map (accepted (text ++ (line ++ 10 ∷ []))) (ks ++ k ∷ [])) (line_before x text (line ++ 10 ∷ []) (omega (arith, ends, at)))
     ∙ ap (λ es. accepted text x ∷ es) (told_added (place + x.size + 1) ks text line k h.2 from size)
 
--- the last line begins behind all before it
+-- the last line begins after all before it
 last_from : (place : ℕ) (ks : List Kept) (text : List ℕ) (k : Kept) → AreLines place (ks ++ k ∷ []) text → place ≤ k.from
 last_from place [] text k h = let at : k.from ≡ place = h.0 in omega (arith, at)
 last_from place (x ∷ ks) text k h = let later : place + x.size + 1 ≤ k.from = last_from (place + x.size + 1) ks text k h.2 in omega (arith, later)

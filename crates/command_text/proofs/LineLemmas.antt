@@ -3,7 +3,7 @@ use Rattle.std.proofs.Common.{◌≡◌, ℕ, Bool, true, false, List, [], ◌�
 use Rattle.std.specs.Prelude.{Result, Ok, Err, IfOk, MatchResult, is_none, is_some, not, ◌&&◌, if◌then◌else◌}
 use Rattle.ftl_lexer.specs.declared.kinds.Token.{Token}
 use Rattle.ftl_lexer.specs.Cut.{Lexeme}
-use Rattle.ftl_lexer.specs.Tokens.{bad_place, tokens_of, text_of}
+use Rattle.ftl_lexer.specs.Tokens.{bad_place, tokens_of, bytes_of_token}
 use Rattle.command_text.specs.declared.at.At.{At}
 use Rattle.command_text.specs.declared.command.Command.{Command}
 use Rattle.command_text.specs.declared.fault.CommandFault.{CommandFault}
@@ -16,17 +16,18 @@ use Rattle.command_text.specs.Piece.{piece_of, pieces}
 use Rattle.command_text.specs.Reading.{Reader, Read, front, at_first, command, command_of}
 use Rattle.command_text.specs.Standing.{standing}
 use Rattle.exact.specs.First.{first_that_holds}
-use Rattle.command_text.specs.Line.{is_comment, is_too_long, has_other_byte, has_bad_token, command_in, early_refusal, late_refusal, first_refusal, refusal_behind, or_else, IsWhole, Refuses, TellsBadPlace, IsReadLate, ExplainsLate, IsRead, Explains}
+use Rattle.command_text.specs.Line.{is_comment, is_too_long, has_other_byte, has_bad_token, command_in, early_refusal, late_refusal, first_refusal, or_else, IsRead, Explains}
+use Rattle.command_text.specs.LineParts.{refusal_behind, IsWhole, Refuses, TellsBadPlace, IsReadLate, ExplainsLate}
 
 -- where a reader begins
 abbrev first_place : At
 first_place = record { place = 0; fit = true; small = true }
 
-front_of_none : (line : List ℕ) (ts : List Token) → ts ≡ [] → is_none (front (map (λ (l : Lexeme). piece_of l.0 l.1) (map (λ (t : Token). (t.kind, text_of line t)) ts))) ≡ true
+front_of_none : (line : List ℕ) (ts : List Token) → ts ≡ [] → is_none (front (map (λ (l : Lexeme). piece_of l.0 l.1) (map (λ (t : Token). (t.kind, bytes_of_token line t)) ts))) ≡ true
 front_of_none line [] e = refl
 front_of_none line (t ∷ ts) e = absurd (cc)
 
-front_of_some : (line : List ℕ) (ts : List Token) → (ts ≡ [] → ⊥) → is_none (front (map (λ (l : Lexeme). piece_of l.0 l.1) (map (λ (t : Token). (t.kind, text_of line t)) ts))) ≡ false
+front_of_some : (line : List ℕ) (ts : List Token) → (ts ≡ [] → ⊥) → is_none (front (map (λ (l : Lexeme). piece_of l.0 l.1) (map (λ (t : Token). (t.kind, bytes_of_token line t)) ts))) ≡ false
 front_of_some line [] h = absurd (h refl)
 front_of_some line (t ∷ ts) h = refl
 

@@ -22,9 +22,10 @@ use Rattle.command_text.specs.declared.fault.CommandFault.{CommandFault}
 use Rattle.command_text.specs.declared.fault.CommandFault.TheVariants as faults
 use Rattle.command_text.specs.declared.refusal.Refusal.TheVariants as refusals
 use Rattle.command_text.specs.Piece.{Piece, piece_of, pieces, in_query, is_long, has_long}
-use Rattle.command_text.specs.Query.{query_of, is_query_fit, is_query_small, told}
+use Rattle.command_text.specs.Query.{query_of, is_query_fit, is_query_small, fault_by_parser}
 use Rattle.command_text.specs.Reading.{Reader, Read, query}
-use Rattle.command_text.specs.Line.{late_refusal, is_at_end, Refuses}
+use Rattle.command_text.specs.Line.{late_refusal}
+use Rattle.command_text.specs.LineParts.{is_at_end, Refuses}
 use Rattle.command_text.specs.declared.at.At.{At}
 use Rattle.command_text.specs.Standing.{standing}
 
@@ -134,7 +135,7 @@ abbrev Tells : Read QueryTree → CommandFault → Type 0
 Tells found (faults.Refused r) = late_refusal found ≡ Some r
 Tells found faults.NoMemory = Unit {0}
 
-late_query : (s : Reader) (tokens : List Lexeme) (from : ℕ) (fault : ParseFault) → AreThese tokens s.rest → Explains from tokens fault → Tells (query s) (told fault s.fit)
+late_query : (s : Reader) (tokens : List Lexeme) (from : ℕ) (fault : ParseFault) → AreThese tokens s.rest → Explains from tokens fault → Tells (query s) (fault_by_parser fault s.fit)
 late_query s tokens from (parse_faults.BadSyntax place) these (n, at, stuck) =
     ap late_refusal (query_is s tokens (is_query_fit (query_piece.pieces tokens)) None these refl (none_spelled (query_piece.pieces tokens) stuck.none))
 late_query s tokens from (parse_faults.NumberRange place) these (n, at, unfit) =
@@ -160,9 +161,9 @@ query_answered line at q r = query_read (standing line at) (query_piece.lexemes_
 
 -- a query that the parser doesn't answer
 pub query_not_answered : (line : List ℕ) (at : At) (fault : ParseFault) → Explains at.place (query_piece.lexemes_from at.place line) fault →
-    Refuses (query (standing line at)) (told fault at.fit)
+    Refuses (query (standing line at)) (fault_by_parser fault at.fit)
 query_not_answered line at fault h =
-    with_end (query (standing line at)) (told fault at.fit)
+    with_end (query (standing line at)) (fault_by_parser fault at.fit)
     (late_query (standing line at) (query_piece.lexemes_from at.place line) at.place fault (tail_pieces at.place line) h) (query_at_end (standing line at))
 
 pub ruleset query_steps = (query_answered, query_not_answered)

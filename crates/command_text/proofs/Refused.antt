@@ -2,10 +2,10 @@
 use Rattle.std.proofs.Common.{◌≡◌, ℕ, zero, suc, ◌<◌, ◌≤◌, true, false, List, [], ◌∷◌, length, drop, map, Option, Some, None, option_map, refl, sym, ◌∙◌, ap, subst, arith}
 use Rattle.std.specs.Prelude.{is_none, if◌then◌else◌, Result, Ok, Err, MatchResult}
 use Rattle.std.proofs.lemmas.List.{length-map}
-use Rattle.fixed_point.specs.Decimal.{◌>>=◌}
+use Rattle.exact.specs.Options.{◌>>=◌}
 use Rattle.ftl_lexer.specs.declared.kinds.Token.{Token}
 use Rattle.ftl_lexer.specs.Cut.{Lexeme}
-use Rattle.ftl_lexer.specs.Tokens.{lexemes, tokens_of, text_of}
+use Rattle.ftl_lexer.specs.Tokens.{lexemes, tokens_of, bytes_of_token}
 use Rattle.command_text.specs.declared.at.At.{At}
 use Rattle.command_text.specs.declared.command.Command.{Command}
 use Rattle.command_text.specs.declared.fault.CommandFault.{CommandFault}
@@ -14,9 +14,10 @@ use Rattle.command_text.specs.declared.refusal.Refusal.{Refusal}
 use Rattle.command_text.specs.declared.refusal.Refusal.TheVariants as refusals
 use Rattle.command_text.specs.Tree.{CommandTree, command_view}
 use Rattle.command_text.specs.Piece.{piece_of}
-use Rattle.command_text.specs.Reading.{Reader, Read, front, begun, ended, command}
+use Rattle.command_text.specs.Reading.{Reader, Read, front, command_begun, ended, command}
 use Rattle.command_text.specs.Standing.{Stops, standing}
-use Rattle.command_text.specs.Line.{late_refusal, is_at_end, IsWhole, Refuses, Judges}
+use Rattle.command_text.specs.Line.{late_refusal}
+use Rattle.command_text.specs.LineParts.{is_at_end, IsWhole, Refuses, Judges}
 use Rattle.command_text.proofs.StandingLemmas.{front_past}
 
 -- where nothing is read
@@ -60,17 +61,17 @@ left_over (x ∷ ts) (suc n) h = let less : n < length ts = omega arith in left_
 
 pub ended_early : (line : List ℕ) (at : At) (c : CommandTree) → at.place < length (tokens_of line) → ended (c, standing line at) ≡ None
 ended_early line at c h =
-    let less : at.place < length (lexemes line) = omega (arith, length-map {B = Lexeme} (tokens_of line) (λ (t : Token). (t.kind, text_of line t))) in
+    let less : at.place < length (lexemes line) = omega (arith, length-map {B = Lexeme} (tokens_of line) (λ (t : Token). (t.kind, bytes_of_token line t))) in
     ap (λ b. if b then Some (c, standing line at) else None) (left_over (lexemes line) at.place less)
 
 pub ended_whole : (line : List ℕ) (at : At) (c : CommandTree) → length (tokens_of line) ≤ at.place → ended (c, standing line at) ≡ Some (c, standing line at)
 ended_whole line at c h =
-    let past : length (lexemes line) ≤ at.place = omega (arith, length-map {B = Lexeme} (tokens_of line) (λ (t : Token). (t.kind, text_of line t))) in
+    let past : length (lexemes line) ≤ at.place = omega (arith, length-map {B = Lexeme} (tokens_of line) (λ (t : Token). (t.kind, bytes_of_token line t))) in
     ap (λ b. if b then Some (c, standing line at) else None) (ap is_none (front_past (lexemes line) at.place past))
 
 at_end : (line : List ℕ) (at : At) → length (tokens_of line) ≤ at.place → is_none (front (standing line at).rest) ≡ true
 at_end line at h =
-    let past : length (lexemes line) ≤ at.place = omega (arith, length-map {B = Lexeme} (tokens_of line) (λ (t : Token). (t.kind, text_of line t))) in
+    let past : length (lexemes line) ≤ at.place = omega (arith, length-map {B = Lexeme} (tokens_of line) (λ (t : Token). (t.kind, bytes_of_token line t))) in
     ap is_none (front_past (lexemes line) at.place past)
 
 -- what a command that was read is judged by
@@ -115,14 +116,14 @@ part_gives line found o (Err fault) e h =
     subst (Refuses o) (sym h.1) (none_refused o (sym e ∙ ap (option_map (λ (r : Command × At). (command_view r.0, standing line r.1))) h.0))
 
 -- a command that was begun, to its end
-command_by : (s : Reader) (c : CommandTree × Reader) → begun s ≡ Some c → command s ≡ ended c
+command_by : (s : Reader) (c : CommandTree × Reader) → command_begun s ≡ Some c → command s ≡ ended c
 unfolding command
 command_by s c e = ap (λ o. o >>= ended) e
 
-pub command_whole : (s : Reader) (c : CommandTree × Reader) (t : CommandTree) → begun s ≡ Some c → IsWhole (ended c) t → IsWhole (command s) t
+pub command_whole : (s : Reader) (c : CommandTree × Reader) (t : CommandTree) → command_begun s ≡ Some c → IsWhole (ended c) t → IsWhole (command s) t
 command_whole s c t e h = subst (λ (o : Read CommandTree). IsWhole o t) (sym (command_by s c e)) h
 
-pub command_refused : (s : Reader) (c : CommandTree × Reader) (fault : CommandFault) → begun s ≡ Some c → Refuses (ended c) fault → Refuses (command s) fault
+pub command_refused : (s : Reader) (c : CommandTree × Reader) (fault : CommandFault) → command_begun s ≡ Some c → Refuses (ended c) fault → Refuses (command s) fault
 command_refused s c fault e h = subst (λ (o : Read CommandTree). Refuses o fault) (sym (command_by s c e)) h
 
 ended_at_end : (c : CommandTree × Reader) → is_none (front c.1.rest) ≡ true → Some c ≡ ended c
@@ -133,16 +134,16 @@ by_ended o faults.NoMemory h = tt
 by_ended None (faults.Refused r) h = h
 by_ended (Some c) (faults.Refused r) h = subst (λ (o : Read CommandTree). Refuses o (faults.Refused r)) (ended_at_end c h.1) h
 
-pub command_not_begun : (s : Reader) (fault : CommandFault) → Refuses (begun s) fault → Refuses (command s) fault
+pub command_not_begun : (s : Reader) (fault : CommandFault) → Refuses (command_begun s) fault → Refuses (command s) fault
 unfolding command
-command_not_begun s fault h = by_ended (begun s) fault h
+command_not_begun s fault h = by_ended (command_begun s) fault h
 
 -- by what judges it
-pub command_judged : (s : Reader) (c : CommandTree × Reader) (o : Option Refusal) → begun s ≡ Some c → Judges c.1 o → o ≡ None → IsWhole (command s) c.0
+pub command_judged : (s : Reader) (c : CommandTree × Reader) (o : Option Refusal) → command_begun s ≡ Some c → Judges c.1 o → o ≡ None → IsWhole (command s) c.0
 command_judged s c None e h is = command_whole s c c.0 e (h c.0)
 command_judged s c (Some r) e h is = absurd (cc is)
 
-pub command_judged_refused : (s : Reader) (c : CommandTree × Reader) (o : Option Refusal) (r : Refusal) → begun s ≡ Some c → Judges c.1 o → o ≡ Some r → Refuses (command s) (faults.Refused r)
+pub command_judged_refused : (s : Reader) (c : CommandTree × Reader) (o : Option Refusal) (r : Refusal) → command_begun s ≡ Some c → Judges c.1 o → o ≡ Some r → Refuses (command s) (faults.Refused r)
 command_judged_refused s c None r e h is = absurd (cc is)
 command_judged_refused s c (Some q) r e h is =
     let same : q ≡ r = cc is in

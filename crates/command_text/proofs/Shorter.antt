@@ -1,7 +1,7 @@
 -- Chains of readers, and parts that take a token at least.
 use Rattle.std.proofs.Common.{◌≡◌, ◌<◌, Bool, true, false, length, Option, Some, None, refl}
 use Rattle.std.specs.Prelude.{if◌then◌else◌}
-use Rattle.fixed_point.specs.Decimal.{◌>>=◌}
+use Rattle.exact.specs.Options.{◌>>=◌}
 use Rattle.command_text.specs.Reading.{Reader, Read}
 
 -- a chain that ends has each of its steps

@@ -1,7 +1,7 @@
 -- What a rule derives the reader reads: the same tree, and the same of numbers and sizes.
 use Rattle.std.proofs.Common.{◌≡◌, ℕ, ℤ, Bool, true, false, ◌&&◌, List, [], ◌∷◌, ◌++◌, length, Option, Some, None, refl, ◌∙◌, ap, append_assoc}
 use Rattle.std.specs.Prelude.{if◌then◌else◌, is_some}
-use Rattle.fixed_point.specs.Decimal.{◌>>=◌}
+use Rattle.exact.specs.Options.{◌>>=◌}
 use Rattle.case_table.specs.declared.key.TheConstants.{AT, MOVE, RATE}
 use Rattle.case_table.specs.declared.symbol.TheConstants.{CLOSE_ROUND, OPEN_SQUARE, CLOSE_SQUARE, COMMA}
 use Rattle.fixed_point.specs.declared.number.Point.{Point}
@@ -11,8 +11,8 @@ use Rattle.motion.specs.declared.cell.Given.TheVariants as givens
 use Rattle.motion.specs.declared.cell.NamedSet.{NamedSet}
 use Rattle.motion.specs.declared.cell.Place.{Place}
 use Rattle.command_text.specs.Piece.{Piece, SIGN, NAME, NUMBER, is_key, is_sign, is_name}
-use Rattle.command_text.specs.Ranges.{Ticks, whole_in, SignedPlace, Value, Rate, signed_in}
-use Rattle.command_text.specs.Sizes.{is_short, word_of, are_few_legs, function_of}
+use Rattle.command_text.specs.Ranges.{Steps, whole_in, SignedPlace, Value, Rate, signed_in}
+use Rattle.command_text.specs.Sizes.{is_short, short_word, are_few_legs, function_of}
 use Rattle.command_text.specs.Grammar
 use Rattle.command_text.specs.Grammar.{whole_at, signed_at, point_of, set_of, place_of, legs_of_x, legs_of_y, SpellsNum, num_plain, num_minus, SpellsPair, SpellsRateLegs, no_rate_legs, one_rate_leg, SpellsRates, SpellsMoveLegs, no_move_legs, one_move_leg, SpellsMoves, SpellsGiven, given_num, given_both, SpellsSettings, no_settings, one_setting, SpellsAt, not_at, SpellsMoving, not_moving, SpellsChange, change}
 use Rattle.command_text.specs.Judged.{num_fit, pair_fit, rate_legs_fit, rates_fit, move_legs_fit, moves_fit, given_fit, settings_fit, at_fit, moving_fit, change_fit, rates_small, moves_small, given_small, settings_small, moving_small, change_small}
@@ -70,10 +70,10 @@ pub record Stop (test : Piece → Bool) (ps : List Piece) : Type 0 where
 
 pub rate_leg_spelled : {a : ℤ} {xs : List Piece} (d : SpellsNum Rate a xs) (n : List ℕ) (later : List Piece) (fit small : Bool) →
     rate_leg (before (SIGN OPEN_SQUARE ∷ (xs ++ (SIGN COMMA ∷ NUMBER n ∷ SIGN CLOSE_SQUARE ∷ later))) fit small)
-    ≡ Some ((a, whole_at Ticks n), before later (num_fit d fit && is_some (whole_in Ticks n)) small)
+    ≡ Some ((a, whole_at Steps n), before later (num_fit d fit && is_some (whole_in Steps n)) small)
 unfolding rate_leg sign next whole number
 rate_leg_spelled d n later fit small =
-    ap (λ o. o >>= (λ a. sign COMMA a.1 >>= (λ s. whole Ticks s >>= (λ n. sign CLOSE_SQUARE n.1 >>= (λ s. Some ((a.0, n.0), s))))))
+    ap (λ o. o >>= (λ a. sign COMMA a.1 >>= (λ s. whole Steps s >>= (λ n. sign CLOSE_SQUARE n.1 >>= (λ s. Some ((a.0, n.0), s))))))
     (num_spelled d (SIGN COMMA ∷ NUMBER n ∷ SIGN CLOSE_SQUARE ∷ later) fit small)
 
 open_square : (ps : List Piece) (fit small : Bool) → begins (is_sign OPEN_SQUARE) (before (SIGN OPEN_SQUARE ∷ ps) fit small) ≡ true
@@ -85,12 +85,12 @@ pub rate_legs_spelled : {ls : List (ℤ × ℕ)} {xs : List Piece} (d : SpellsRa
 rate_legs_spelled no_rate_legs later fit small stop =
     all_stop (begins (is_sign OPEN_SQUARE)) rate_leg (before later fit small) (stop.stops fit small)
 rate_legs_spelled (one_rate_leg {a = a} {xs = xs} n {ls = ls} {ys = ys} d e) later fit small stop =
-    let fit_here : Bool = num_fit d fit && is_some (whole_in Ticks n) in
+    let fit_here : Bool = num_fit d fit && is_some (whole_in Steps n) in
     ap (λ ps. all (begins (is_sign OPEN_SQUARE)) rate_leg (before (SIGN OPEN_SQUARE ∷ ps) fit small)) (append_assoc xs (SIGN COMMA ∷ NUMBER n ∷ SIGN CLOSE_SQUARE ∷ ys) later)
     ∙ all_step (begins (is_sign OPEN_SQUARE)) rate_leg rate_leg_shortens
-    (before (SIGN OPEN_SQUARE ∷ (xs ++ (SIGN COMMA ∷ NUMBER n ∷ SIGN CLOSE_SQUARE ∷ (ys ++ later)))) fit small) (before (ys ++ later) fit_here small) (a, whole_at Ticks n)
+    (before (SIGN OPEN_SQUARE ∷ (xs ++ (SIGN COMMA ∷ NUMBER n ∷ SIGN CLOSE_SQUARE ∷ (ys ++ later)))) fit small) (before (ys ++ later) fit_here small) (a, whole_at Steps n)
     (open_square (xs ++ (SIGN COMMA ∷ NUMBER n ∷ SIGN CLOSE_SQUARE ∷ (ys ++ later))) fit small) (rate_leg_spelled d n (ys ++ later) fit small)
-    ∙ ap (with_front ((a, whole_at Ticks n) ∷ [])) (rate_legs_spelled e later fit_here small stop)
+    ∙ ap (with_front ((a, whole_at Steps n) ∷ [])) (rate_legs_spelled e later fit_here small stop)
 
 num_stops : {p : SignedPlace} {v : ℤ} {xs : List Piece} (d : SpellsNum p v xs) (later : List Piece) → Stop (is_sign OPEN_SQUARE) (xs ++ later)
 unfolding begins
@@ -109,10 +109,10 @@ rates_spelled (Grammar.rates {ls = ls} {xs = xs} {a = a} {ys = ys} d e) later fi
 
 pub move_leg_spelled : {a b : ℤ} {xs : List Piece} (d : SpellsPair Rate a b xs) (n : List ℕ) (later : List Piece) (fit small : Bool) →
     move_leg (before (SIGN OPEN_SQUARE ∷ (xs ++ (SIGN COMMA ∷ NUMBER n ∷ SIGN CLOSE_SQUARE ∷ later))) fit small)
-    ≡ Some (((a, b), whole_at Ticks n), before later (pair_fit d fit && is_some (whole_in Ticks n)) small)
+    ≡ Some (((a, b), whole_at Steps n), before later (pair_fit d fit && is_some (whole_in Steps n)) small)
 unfolding move_leg sign next whole number
 move_leg_spelled d n later fit small =
-    ap (λ o. o >>= (λ p. sign COMMA p.1 >>= (λ s. whole Ticks s >>= (λ n. sign CLOSE_SQUARE n.1 >>= (λ s. Some ((p.0, n.0), s))))))
+    ap (λ o. o >>= (λ p. sign COMMA p.1 >>= (λ s. whole Steps s >>= (λ n. sign CLOSE_SQUARE n.1 >>= (λ s. Some ((p.0, n.0), s))))))
     (pair_spelled d (SIGN COMMA ∷ NUMBER n ∷ SIGN CLOSE_SQUARE ∷ later) fit small)
 
 pub move_legs_spelled : {ls : List ((ℤ × ℤ) × ℕ)} {xs : List Piece} (d : SpellsMoveLegs ls xs) (later : List Piece) (fit small : Bool) → Stop (is_sign OPEN_SQUARE) later →
@@ -120,12 +120,12 @@ pub move_legs_spelled : {ls : List ((ℤ × ℤ) × ℕ)} {xs : List Piece} (d :
 move_legs_spelled no_move_legs later fit small stop =
     all_stop (begins (is_sign OPEN_SQUARE)) move_leg (before later fit small) (stop.stops fit small)
 move_legs_spelled (one_move_leg {a = a} {b = b} {xs = xs} n {ls = ls} {ys = ys} d e) later fit small stop =
-    let fit_here : Bool = pair_fit d fit && is_some (whole_in Ticks n) in
+    let fit_here : Bool = pair_fit d fit && is_some (whole_in Steps n) in
     ap (λ ps. all (begins (is_sign OPEN_SQUARE)) move_leg (before (SIGN OPEN_SQUARE ∷ ps) fit small)) (append_assoc xs (SIGN COMMA ∷ NUMBER n ∷ SIGN CLOSE_SQUARE ∷ ys) later)
     ∙ all_step (begins (is_sign OPEN_SQUARE)) move_leg move_leg_shortens
-    (before (SIGN OPEN_SQUARE ∷ (xs ++ (SIGN COMMA ∷ NUMBER n ∷ SIGN CLOSE_SQUARE ∷ (ys ++ later)))) fit small) (before (ys ++ later) fit_here small) ((a, b), whole_at Ticks n)
+    (before (SIGN OPEN_SQUARE ∷ (xs ++ (SIGN COMMA ∷ NUMBER n ∷ SIGN CLOSE_SQUARE ∷ (ys ++ later)))) fit small) (before (ys ++ later) fit_here small) ((a, b), whole_at Steps n)
     (open_square (xs ++ (SIGN COMMA ∷ NUMBER n ∷ SIGN CLOSE_SQUARE ∷ (ys ++ later))) fit small) (move_leg_spelled d n (ys ++ later) fit small)
-    ∙ ap (with_front (((a, b), whole_at Ticks n) ∷ [])) (move_legs_spelled e later fit_here small stop)
+    ∙ ap (with_front (((a, b), whole_at Steps n) ∷ [])) (move_legs_spelled e later fit_here small stop)
 
 pair_stops : {p : SignedPlace} {x y : ℤ} {xs : List Piece} (d : SpellsPair p x y xs) (later : List Piece) → Stop (is_sign OPEN_SQUARE) (xs ++ later)
 unfolding begins
@@ -165,10 +165,10 @@ settings_stop_rate no_settings = record { stops = λ fit small. refl }
 settings_stop_rate (one_setting d e) = record { stops = λ fit small. refl }
 
 setting_spelled : (n : List ℕ) {g : Given} {xs : List Piece} (d : SpellsGiven g xs) (later : List Piece) (fit small : Bool) → Stop (is_key RATE) later →
-    setting (before (NAME n ∷ (xs ++ later)) fit small) ≡ Some (set_of (word_of n) g, before later (given_fit d fit) (given_small d (small && is_short n)))
+    setting (before (NAME n ∷ (xs ++ later)) fit small) ≡ Some (set_of (short_word n) g, before later (given_fit d fit) (given_small d (small && is_short n)))
 unfolding setting name next
 setting_spelled n d later fit small stop =
-    ap (λ o. o >>= (λ g. Some (set_of (word_of n) g.0, g.1))) (given_spelled d later fit (small && is_short n) stop)
+    ap (λ o. o >>= (λ g. Some (set_of (short_word n) g.0, g.1))) (given_spelled d later fit (small && is_short n) stop)
 
 name_begins : (n : List ℕ) (ps : List Piece) (fit small : Bool) → begins is_name (before (NAME n ∷ ps) fit small) ≡ true
 unfolding begins
@@ -183,9 +183,9 @@ pub settings_spelled : {ss : List NamedSet} {xs : List Piece} (d : SpellsSetting
 settings_spelled no_settings fit small = all_stop (begins is_name) setting (before [] fit small) (none_begins fit small)
 settings_spelled (one_setting {n = n} {g = g} {xs = xs} {ss = ss} {ys = ys} d e) fit small =
     let small_here : Bool = given_small d (small && is_short n) in
-    all_step (begins is_name) setting setting_shortens (before (NAME n ∷ (xs ++ ys)) fit small) (before ys (given_fit d fit) small_here) (set_of (word_of n) g)
+    all_step (begins is_name) setting setting_shortens (before (NAME n ∷ (xs ++ ys)) fit small) (before ys (given_fit d fit) small_here) (set_of (short_word n) g)
     (name_begins n (xs ++ ys) fit small) (setting_spelled n d ys fit small (settings_stop_rate e))
-    ∙ ap (with_front (set_of (word_of n) g ∷ [])) (settings_spelled e (given_fit d fit) small_here)
+    ∙ ap (with_front (set_of (short_word n) g ∷ [])) (settings_spelled e (given_fit d fit) small_here)
 
 pub at_spelled : {p : Option Point} {xs : List Piece} (d : SpellsAt p xs) (later : List Piece) (fit small : Bool) → Stop (is_key AT) later →
     at (before (xs ++ later) fit small) ≡ Some (p, before later (at_fit d fit) small)
@@ -214,7 +214,7 @@ moving_stop_at not_moving no_settings = record { stops = λ fit small. refl }
 moving_stop_at not_moving (one_setting d e) = record { stops = λ fit small. refl }
 moving_stop_at (Grammar.moving d) e = record { stops = λ fit small. refl }
 
--- the settings behind a place
+-- the settings after a place
 abbrev with_settings : {A : Type 0} → (Place → List NamedSet → A) → Place × Reader → Read A
 with_settings f p = settings p.1 >>= (λ ss. Some (f p.0 ss.0, ss.1))
 

@@ -1,7 +1,7 @@
 -- What a rule of a command derives is read as that command, with the same of its numbers and sizes; and so tokens spell at most one command.
 use Rattle.std.proofs.Common.{◌≡◌, ℕ, ℤ, Bool, true, false, ◌&&◌, List, [], ◌∷◌, ◌++◌, length, map, Some, None, option_map, refl, sym, ◌∙◌, ap, append_assoc, append-nil, arith}
 use Rattle.std.specs.Prelude.{if◌then◌else◌, is_some, nat_le}
-use Rattle.fixed_point.specs.Decimal.{◌>>=◌}
+use Rattle.exact.specs.Options.{◌>>=◌}
 use Rattle.case_table.specs.declared.symbol.TheConstants.{OPEN_ROUND, CLOSE_ROUND, COMMA}
 use Rattle.fixed_point.specs.declared.number.Point.{Point}
 use Rattle.motion.specs.declared.cell.AttrKind.{AttrKind}
@@ -9,14 +9,14 @@ use Rattle.ftl_parser.specs.Tree.{QueryTree}
 use Rattle.ftl_parser.proofs.Drives.{drives_query}
 use Rattle.command_text.specs.Piece.{Piece, SIGN, is_sign, in_query, has_long}
 use Rattle.command_text.specs.Ranges.{SignedPlace, Span, Capacity, whole_in, radius_in, Value}
-use Rattle.command_text.specs.Sizes.{is_short, word_of, are_few_attributes, are_few_vertices}
+use Rattle.command_text.specs.Sizes.{is_short, short_word, are_few_attributes, are_few_vertices}
 use Rattle.command_text.specs.Query.{query_of, is_query_fit, is_query_small}
 use Rattle.command_text.specs.Tree
 use Rattle.command_text.specs.Tree.{CommandTree}
 use Rattle.command_text.specs.Grammar
 use Rattle.command_text.specs.Grammar.{whole_at, radius_at, point_of, SpellsNum, SpellsPair, SpellsAttr, attr_num, attr_text, attr_dyn, SpellsMoreAttrs, no_more_attrs, one_more_attr, SpellsAttrs, no_attrs, SpellsPoints, no_points, one_point, SpellsPointWord, no_point_word, SpellsTail, SpellsCommand}
 use Rattle.command_text.specs.Judged.{num_fit, pair_fit, points_fit, attr_small, more_attrs_small, attrs_small, numbers_fit, sizes_fit}
-use Rattle.command_text.specs.Reading.{next, begins, key, sign, name, text, number, whole, radius, num, point, all, with_front, attr, next_attr, first_attr, some_attrs, attrs, points, query, point_word, class_head, class, region, insert_head, insert, update, remove, tick, ask, watch_head, watch, keep, show, drop, save, import, export, nearest, must_head, must, may, index, range, first_form, begun, ended, command, command_of, noting_small}
+use Rattle.command_text.specs.Reading.{next, begins, key, sign, name, text, number, whole, radius, num, point, all, with_front, attr, next_attr, first_attr, some_attrs, attrs, points, query, point_word, class_head, class, region, insert_head, insert, update, remove, tick, ask, watch_head, watch, keep, show, drop, save, import, export, nearest, must_head, must, may, index, range, first_form, command_begun, ended, command, command_of, noting_small}
 use Rattle.command_text.proofs.ManyLemmas.{all_stop}
 use Rattle.command_text.proofs.Derived.{same_parts, next_attr_shortens, point_shortens}
 use Rattle.command_text.proofs.Spelled.{all_step, before, num_spelled, point_spelled, change_spelled}
@@ -107,21 +107,21 @@ num_alone : {p : SignedPlace} {v : ℤ} {xs : List Piece} (d : SpellsNum p v xs)
 num_alone {p = p} {xs = xs} d fit small = ap (λ ps. num p (before ps fit small)) (sym (append-nil xs)) ∙ num_spelled d [] fit small
 
 -- a line that isn't blank, by its first token
-pub begun_spelled : {c : CommandTree} {p : Piece} {xs : List Piece} (d : SpellsCommand c (p ∷ xs)) → begun (before (p ∷ xs) true true) ≡ Some (c, before [] (numbers_fit d) (sizes_fit d))
-unfolding begun first_form next name text number whole radius class class_head region insert insert_head update remove tick ask watch watch_head keep show drop save import export nearest must must_head may index range
+pub begun_spelled : {c : CommandTree} {p : Piece} {xs : List Piece} (d : SpellsCommand c (p ∷ xs)) → command_begun (before (p ∷ xs) true true) ≡ Some (c, before [] (numbers_fit d) (sizes_fit d))
+unfolding command_begun first_form next name text number whole radius class class_head region insert insert_head update remove tick ask watch watch_head keep show drop save import export nearest must must_head may index range
 begun_spelled (Grammar.class {n = n} {k = k} {b = b} d e) =
-    ap (λ w. attrs w.1 >>= (λ a. Some (Tree.Class (word_of n) (whole_at Capacity k) w.0 a.0, a.1))) (point_word_spelled d e (is_some (whole_in Capacity k)) (is_short n))
-    ∙ ap (λ o. o >>= (λ a. Some (Tree.Class (word_of n) (whole_at Capacity k) b a.0, a.1))) (attrs_spelled e (is_some (whole_in Capacity k)) (is_short n))
-begun_spelled (Grammar.region {n = n} d) = ap (λ o. o >>= (λ ps. Some (Tree.Region (word_of n) ps.0, ps.1))) (points_spelled d true (is_short n))
-begun_spelled (Grammar.insert {c = c} {n = n} d) = change_spelled (λ p ss. Tree.Insert (word_of c) (word_of n) p ss) d true (is_short c && is_short n)
-begun_spelled (Grammar.update {n = n} d) = change_spelled (λ p ss. Tree.Update (word_of n) p ss) d true (is_short n)
+    ap (λ w. attrs w.1 >>= (λ a. Some (Tree.Class (short_word n) (whole_at Capacity k) w.0 a.0, a.1))) (point_word_spelled d e (is_some (whole_in Capacity k)) (is_short n))
+    ∙ ap (λ o. o >>= (λ a. Some (Tree.Class (short_word n) (whole_at Capacity k) b a.0, a.1))) (attrs_spelled e (is_some (whole_in Capacity k)) (is_short n))
+begun_spelled (Grammar.region {n = n} d) = ap (λ o. o >>= (λ ps. Some (Tree.Region (short_word n) ps.0, ps.1))) (points_spelled d true (is_short n))
+begun_spelled (Grammar.insert {c = c} {n = n} d) = change_spelled (λ p ss. Tree.Insert (short_word c) (short_word n) p ss) d true (is_short c && is_short n)
+begun_spelled (Grammar.update {n = n} d) = change_spelled (λ p ss. Tree.Update (short_word n) p ss) d true (is_short n)
 begun_spelled Grammar.remove = refl
 begun_spelled Grammar.tick = refl
 begun_spelled (Grammar.ask {k = k} {xs = xs} d) = ap (λ o. o >>= (λ q. Some (Tree.Ask (whole_at Span k) q.0, q.1))) (tail_spelled xs d (is_some (whole_in Span k)) true)
 begun_spelled (Grammar.watch {n = n} {k = k} {xs = xs} d) =
-    ap (λ o. o >>= (λ q. Some (Tree.Watch (word_of n) (whole_at Span k) q.0, q.1))) (tail_spelled xs d (is_some (whole_in Span k)) (is_short n))
+    ap (λ o. o >>= (λ q. Some (Tree.Watch (short_word n) (whole_at Span k) q.0, q.1))) (tail_spelled xs d (is_some (whole_in Span k)) (is_short n))
 begun_spelled (Grammar.keep {n = n} {k = k} {xs = xs} d) =
-    ap (λ o. o >>= (λ q. Some (Tree.Keep (word_of n) (whole_at Span k) q.0, q.1))) (tail_spelled xs d (is_some (whole_in Span k)) (is_short n))
+    ap (λ o. o >>= (λ q. Some (Tree.Keep (short_word n) (whole_at Span k) q.0, q.1))) (tail_spelled xs d (is_some (whole_in Span k)) (is_short n))
 begun_spelled Grammar.show = refl
 begun_spelled Grammar.drop = refl
 begun_spelled Grammar.listing = refl
@@ -135,10 +135,10 @@ begun_spelled (Grammar.must {e = e} {k = k} {xs = xs} d) =
 begun_spelled (Grammar.may {e = e} {k = k} {xs = xs} d) =
     ap (λ o. o >>= (λ q. Some (Tree.May (radius_at e) (whole_at Span k) q.0, q.1))) (tail_spelled xs d (is_some (radius_in e) && is_some (whole_in Span k)) true)
 begun_spelled (Grammar.index {c = c} {a = a} d) =
-    ap (λ o. o >>= (λ w. Some (Tree.Index (word_of c) (word_of a) w.0, w.1))) (num_alone d true (is_short c && is_short a))
+    ap (λ o. o >>= (λ w. Some (Tree.Index (short_word c) (short_word a) w.0, w.1))) (num_alone d true (is_short c && is_short a))
 begun_spelled (Grammar.range {k = k} {c = c} {a = a} {l = l} {ys = ys} d e) =
-    ap (λ o. o >>= (λ l. num Value l.1 >>= (λ g. Some (Tree.Range (whole_at Span k) (word_of c) (word_of a) l.0 g.0, g.1)))) (num_spelled d ys (is_some (whole_in Span k)) (is_short c && is_short a))
-    ∙ ap (λ o. o >>= (λ g. Some (Tree.Range (whole_at Span k) (word_of c) (word_of a) l g.0, g.1))) (num_alone e (num_fit d (is_some (whole_in Span k))) (is_short c && is_short a))
+    ap (λ o. o >>= (λ l. num Value l.1 >>= (λ g. Some (Tree.Range (whole_at Span k) (short_word c) (short_word a) l.0 g.0, g.1)))) (num_spelled d ys (is_some (whole_in Span k)) (is_short c && is_short a))
+    ∙ ap (λ o. o >>= (λ g. Some (Tree.Range (whole_at Span k) (short_word c) (short_word a) l g.0, g.1))) (num_alone e (num_fit d (is_some (whole_in Span k))) (is_short c && is_short a))
 
 -- what the rules derive is read
 pub command_spelled : {c : CommandTree} {xs : List Piece} (d : SpellsCommand c xs) → command_of xs ≡ Some (c, before [] (numbers_fit d) (sizes_fit d))

@@ -1,4 +1,4 @@
--- A reader at a place of the tokens, and one behind the token there.
+-- A reader at a place of the tokens, and one after the token there.
 use Rattle.std.proofs.Common.{◌≡◌, ℕ, zero, suc, ◌+◌, ◌≤◌, ◌∷◌, [], List, length, drop, map, None, Some, option_map, slice_get, refl, ap, add-one}
 use Rattle.std.proofs.lemmas.Option.{slice_get_past}
 use Rattle.ftl_lexer.specs.Cut.{Lexeme}
@@ -11,7 +11,7 @@ use Rattle.command_text.specs.Standing.{standing}
 abbrev pieces_of : List Lexeme → List Piece
 pieces_of = map (λ t. piece_of t.0 t.1)
 
--- a token at a place, and those behind it
+-- a token at a place, and those after it
 pub front_some : (ts : List Lexeme) (place : ℕ) (t : Lexeme) → slice_get ts place ≡ Some t →
     front (drop place (map (λ t. piece_of t.0 t.1) ts)) ≡ Some (piece_of t.0 t.1, drop (place + 1) (map (λ t. piece_of t.0 t.1) ts))
 front_some [] place t e = cc

@@ -1,6 +1,6 @@
 -- What becomes of a part with a part that isn't read.
 use Rattle.std.proofs.Common.{◌≡◌, Option, Some, ◌∙◌, ap}
-use Rattle.fixed_point.specs.Decimal.{◌>>=◌}
+use Rattle.exact.specs.Options.{◌>>=◌}
 use Rattle.command_text.specs.declared.fault.CommandFault.{CommandFault}
 use Rattle.command_text.specs.declared.fault.CommandFault.TheVariants as faults
 use Rattle.command_text.specs.Reading.{Reader, Read}

@@ -14,7 +14,7 @@ use Rattle.ftl_lexer.specs.declared.kinds.Kind.{Kind}
 use Rattle.ftl_lexer.specs.declared.kinds.Kind.TheVariants as kinds
 use Rattle.ftl_lexer.specs.declared.kinds.Token.{Token}
 use Rattle.ftl_lexer.specs.Forms.{is_blank, begins_name, continues_name, digits_len, fraction_len, number_len, token_at}
-use Rattle.ftl_lexer.specs.Tokens.{lexemes, tokens_of, text_of}
+use Rattle.ftl_lexer.specs.Tokens.{lexemes, tokens_of, bytes_of_token}
 use Rattle.ftl_lexer.specs.Cut.{Lexeme, cut, HasForm, is_word, is_number, IsQuoted}
 use Rattle.ftl_lexer.proofs.Shapes.{all_pass, some_is}
 use Rattle.ftl_lexer.proofs.Fronts.{unquoted_parts}
@@ -152,7 +152,7 @@ form_ascii (kinds.Key code) bytes form text = key_ascii bytes code form
 abbrev pub AreAscii : List Lexeme → Type 0
 AreAscii = AllByRecursion (λ (l : Lexeme). IsAscii l.1)
 
-slices_ascii : (line : List ℕ) (tokens : List Token) → IsAscii line → AreAscii (map (λ t. (t.kind, text_of line t)) tokens)
+slices_ascii : (line : List ℕ) (tokens : List Token) → IsAscii line → AreAscii (map (λ t. (t.kind, bytes_of_token line t)) tokens)
 slices_ascii line [] all = tt
 slices_ascii line (t ∷ tokens) all = (take_ascii (t.hi - t.lo) (drop t.lo line) (drop_ascii t.lo line all), slices_ascii line tokens all)
 

@@ -78,7 +78,7 @@ read_text text rest ps none ascii is =
 pub read_symbol : (code symbol : ℕ) (rest : List ℕ) (ps : List Piece) → IsTrue (stands_alone symbol) → code_of symbols (symbol ∷ []) ≡ Some code → IsCut rest ps → IsCut (symbol ∷ rest) (SIGN code ∷ ps)
 read_symbol code symbol rest ps alone found is = put (kinds.Sym code) (symbol ∷ []) rest ps (cut_symbol symbol rest code alone found) found refl is
 
--- ---- a part of a text is cut into tokens that are spelled so, whatever of this kind stands behind it
+-- ---- a part of a text is cut into tokens that are spelled so, whatever of this kind stands after it
 
 pub record ReadsBefore (Later : List ℕ → Type 0) (part : List ℕ) (Spelled : List Piece → Type 0) : Type 0 where
   pub tokens : List Piece
@@ -96,7 +96,7 @@ Reads = ReadsBefore Ends
 pub closed_reads : {part : List ℕ} {Spelled : List Piece → Type 0} → Closes part Spelled → Reads part Spelled
 closed_reads r = record { tokens = r.tokens; spelled = r.spelled; again = λ rest ps ends is. r.again rest ps tt is }
 
--- nothing stands behind it
+-- nothing stands after it
 pub read_last : {part : List ℕ} {Spelled : List Piece → Type 0} (r : Reads part Spelled) → IsCut part r.tokens
 read_last {part = part} r =
     regrouped part (part ++ []) r.tokens (r.tokens ++ []) (sym (append-nil part)) (sym (append-nil r.tokens)) (r.again [] [] nothing_ends nothing_is_cut)

@@ -31,8 +31,8 @@ use Rattle.ftl_parser.specs.Text.{query_text}
 use Rattle.ftl_parser.specs.TextLaws.{bytes_of}
 use Rattle.ftl_parser.proofs.TextLengths.{prints_shortly, tokens_fit}
 use Rattle.command_text.specs.Piece.{Piece, KEY, SIGN, NAME, NUMBER, TEXT, piece_of, pieces}
-use Rattle.command_text.specs.Ranges.{SignedPlace, Ticks, Span, Capacity, Nearest}
-use Rattle.command_text.specs.Sizes.{is_short, word_of, function_of}
+use Rattle.command_text.specs.Ranges.{SignedPlace, Steps, Span, Capacity, Nearest}
+use Rattle.command_text.specs.Sizes.{is_short, short_word, function_of}
 use Rattle.command_text.specs.Tree.{CommandTree}
 use Rattle.command_text.specs.Grammar as grammar
 use Rattle.command_text.specs.Grammar.{whole_at, radius_at, legs_of_x, legs_of_y, SpellsNum, num_plain, num_minus, SpellsPair, pair, SpellsAttr, attr_num, attr_text, attr_dyn, SpellsMoreAttrs, no_more_attrs, one_more_attr, SpellsAttrs, no_attrs, some_attrs, SpellsPoints, no_points, one_point, SpellsRateLegs, no_rate_legs, one_rate_leg, SpellsRates, rates, SpellsMoveLegs, no_move_legs, one_move_leg, SpellsMoves, moves, SpellsGiven, given_num, given_both, given_text, given_rate, SpellsSettings, no_settings, one_setting, SpellsAt, not_at, at, SpellsMoving, not_moving, moving, SpellsChange, change, SpellsPointWord, no_point_word, point_word, SpellsTail, SpellsCommand}
@@ -85,7 +85,7 @@ piece_long kinds.Text bytes form = text_long bytes form
 piece_long (kinds.Sym code) bytes form = sign_long bytes code form
 piece_long (kinds.Key code) bytes form = key_long bytes code form
 
--- some tokens, and the bytes of those behind them
+-- some tokens, and the bytes of those after them
 front_long : (n : ℕ) (tokens : List Lexeme) → HaveForms tokens → load (take n (map (λ t. piece_of t.0 t.1) tokens)) + bytes_of (drop n tokens) ≤ bytes_of tokens
 front_long zero tokens forms = omega arith
 front_long (suc n) [] forms = omega arith
@@ -121,7 +121,7 @@ load_join (x ∷ xs) ys = omega (arith, load_join xs ys)
 
 -- ---- words and numbers
 
-word_short : (word : List ℕ) → length (word_of word) ≤ length word
+word_short : (word : List ℕ) → length (short_word word) ≤ length word
 word_short word = chosen (is_short word)
   where
     chosen : (b : Bool) → length (if b then word else []) ≤ length word
@@ -181,7 +181,7 @@ rate_legs_short : {ls : List (ℤ × ℕ)} {xs : List Piece} → SpellsRateLegs 
 rate_legs_short no_rate_legs = omega arith
 rate_legs_short (one_rate_leg {a = a} {xs = xs} n {ls = ls} {ys = ys} d e) =
     let this = num_short d in
-    omega (arith, length-append (rate_leg_text (a, whole_at Ticks n)) (flat_map rate_leg_text ls), rate_leg_size a (whole_at Ticks n), this.short, whole_is_short Ticks n, load_join xs (SIGN COMMA ∷ NUMBER n ∷ SIGN CLOSE_SQUARE ∷ ys), rate_legs_short e)
+    omega (arith, length-append (rate_leg_text (a, whole_at Steps n)) (flat_map rate_leg_text ls), rate_leg_size a (whole_at Steps n), this.short, whole_is_short Steps n, load_join xs (SIGN COMMA ∷ NUMBER n ∷ SIGN CLOSE_SQUARE ∷ ys), rate_legs_short e)
 
 -- legs that make no function stand for rest
 function_cases : (ls : List (ℤ × ℕ)) (last : ℤ) → (function_of ls last ≡ record { firsts = ls; last = last }) ⊎ (function_of ls last ≡ level)
@@ -212,7 +212,7 @@ move_legs_short : {ls : List ((ℤ × ℤ) × ℕ)} {xs : List Piece} → Spells
 move_legs_short no_move_legs = omega arith
 move_legs_short (one_move_leg {a = a} {b = b} {xs = xs} n {ls = ls} {ys = ys} d e) =
     let this = pair_short d in
-    omega (arith, length-append (move_leg_text a b (whole_at Ticks n)) (legs_text ls), move_leg_size a b (whole_at Ticks n), pair_size a b, this.short_first, this.short_second, this.within, whole_is_short Ticks n, load_join xs (SIGN COMMA ∷ NUMBER n ∷ SIGN CLOSE_SQUARE ∷ ys), move_legs_short e)
+    omega (arith, length-append (move_leg_text a b (whole_at Steps n)) (legs_text ls), move_leg_size a b (whole_at Steps n), pair_size a b, this.short_first, this.short_second, this.within, whole_is_short Steps n, load_join xs (SIGN COMMA ∷ NUMBER n ∷ SIGN CLOSE_SQUARE ∷ ys), move_legs_short e)
 
 no_legs : (xs : List (ℤ × ℕ)) → move_legs_text xs [] ≡ []
 no_legs [] = refl
@@ -248,13 +248,13 @@ given_short : {g : Given} {xs : List Piece} → SpellsGiven g xs → length (tex
 given_short (given_num d) = omega (arith, (num_short d).short)
 given_short (given_both {v = v} {xs = xs} {f = f} {ys = ys} d e) =
     omega (arith, (num_short d).short, rates_short e, length-append (fix_text v) (codes " rate " ++ rates_text f), load_join xs (KEY RATE_WORD ∷ ys))
-given_short (given_text {t = t}) = omega (arith, word_short t, length-append (word_of t) (34 ∷ []))
+given_short (given_text {t = t}) = omega (arith, word_short t, length-append (short_word t) (34 ∷ []))
 given_short (given_rate d) = omega (arith, rates_short d)
 
 settings_short : {ss : List NamedSet} {xs : List Piece} → SpellsSettings ss xs → length (settings_text ss) ≤ 4 * load xs
 settings_short no_settings = omega arith
 settings_short (one_setting {n = n} {g = g} {xs = xs} {ss = ss} {ys = ys} d e) =
-    let name : List ℕ = word_of n in
+    let name : List ℕ = short_word n in
     let given : List ℕ = text.given_text g in
     omega (arith, length-append (name ++ (32 ∷ given)) (settings_text ss), length-append name (32 ∷ given), word_short n, given_short d, load_join xs ys, settings_short e)
 
@@ -272,10 +272,10 @@ change_short (change {p = p} {xs = xs} {m = m} {ys = ys} {ss = ss} {zs = zs} d e
 
 -- ---- attributes
 
-attr_size : (n : List ℕ) (kind : AttrKind) → length (text.attr_text (word_of n, kind)) ≤ length n + 5
-attr_size n attr_kinds.Num = omega (arith, word_short n, length-append (word_of n) (codes " num"))
-attr_size n attr_kinds.Text = omega (arith, word_short n, length-append (word_of n) (codes " text"))
-attr_size n attr_kinds.Dyn = omega (arith, word_short n, length-append (word_of n) (codes " dyn"))
+attr_size : (n : List ℕ) (kind : AttrKind) → length (text.attr_text (short_word n, kind)) ≤ length n + 5
+attr_size n attr_kinds.Num = omega (arith, word_short n, length-append (short_word n) (codes " num"))
+attr_size n attr_kinds.Text = omega (arith, word_short n, length-append (short_word n) (codes " text"))
+attr_size n attr_kinds.Dyn = omega (arith, word_short n, length-append (short_word n) (codes " dyn"))
 
 attr_short : {a : List ℕ × AttrKind} {xs : List Piece} → SpellsAttr a xs → length (text.attr_text a) ≤ 4 * load xs
 attr_short (attr_num {n = n}) = omega (arith, attr_size n attr_kinds.Num)
@@ -306,7 +306,7 @@ point_word_short point_word = omega arith
 
 -- ---- commands
 
--- a text with words in front, each with a space behind it
+-- a text with words in front, each with a space after it
 after_one : (a rest : List ℕ) → length (a ++ (32 ∷ rest)) ≡ length a + 1 + length rest
 after_one a rest = omega (arith, length-append a (32 ∷ rest))
 
@@ -321,7 +321,7 @@ command_short (grammar.class {n = n} {k = k} {b = b} {xs = xs} {rest = attrs} {y
     omega (
       arith,
       room.tokens,
-      after_one (word_of n) (number ++ (text.point_word b ++ attrs_text attrs)),
+      after_one (short_word n) (number ++ (text.point_word b ++ attrs_text attrs)),
       length-append number (text.point_word b ++ attrs_text attrs),
       length-append (text.point_word b) (attrs_text attrs),
       word_short n,
@@ -331,34 +331,34 @@ command_short (grammar.class {n = n} {k = k} {b = b} {xs = xs} {rest = attrs} {y
       load_join xs ys,
     )
 command_short (grammar.region {n = n} {p = p} {q = q} {r = r} {ps = ps} d) bytes room =
-    omega (arith, room.tokens, length-append (word_of n) (points_text (p ∷ q ∷ r ∷ ps)), word_short n, points_short d)
+    omega (arith, room.tokens, length-append (short_word n) (points_text (p ∷ q ∷ r ∷ ps)), word_short n, points_short d)
 command_short (grammar.insert {c = c} {n = n} {p = p} {ss = ss} d) bytes room =
-    omega (arith, room.tokens, after_one (word_of c) (word_of n ++ change_text p ss), length-append (word_of n) (change_text p ss), word_short c, word_short n, change_short d)
+    omega (arith, room.tokens, after_one (short_word c) (short_word n ++ change_text p ss), length-append (short_word n) (change_text p ss), word_short c, word_short n, change_short d)
 command_short (grammar.update {n = n} {p = p} {ss = ss} d) bytes room =
-    omega (arith, room.tokens, length-append (word_of n) (change_text p ss), word_short n, change_short d)
+    omega (arith, room.tokens, length-append (short_word n) (change_text p ss), word_short n, change_short d)
 command_short (grammar.remove {n = n}) bytes room = omega (arith, room.tokens, word_short n)
-command_short (grammar.tick {k = k}) bytes room = omega (arith, room.tokens, whole_is_short Ticks k)
+command_short (grammar.tick {k = k}) bytes room = omega (arith, room.tokens, whole_is_short Steps k)
 command_short (grammar.ask {k = k} {q = q} d) bytes room =
     omega (arith, room.query_bytes 2 q d, after_one (decimal (whole_at Span k)) (query_text q), whole_is_short Span k)
 command_short (grammar.watch {n = n} {k = k} {q = q} d) bytes room =
-    omega (arith, room.query_bytes 3 q d, after_two (word_of n) (decimal (whole_at Span k)) (query_text q), word_short n, whole_is_short Span k)
+    omega (arith, room.query_bytes 3 q d, after_two (short_word n) (decimal (whole_at Span k)) (query_text q), word_short n, whole_is_short Span k)
 command_short (grammar.keep {n = n} {k = k} {q = q} d) bytes room =
-    omega (arith, room.query_bytes 3 q d, after_two (word_of n) (decimal (whole_at Span k)) (query_text q), word_short n, whole_is_short Span k)
+    omega (arith, room.query_bytes 3 q d, after_two (short_word n) (decimal (whole_at Span k)) (query_text q), word_short n, whole_is_short Span k)
 command_short (grammar.show {n = n}) bytes room = omega (arith, room.tokens, word_short n)
 command_short (grammar.drop {n = n}) bytes room = omega (arith, room.tokens, word_short n)
 command_short grammar.listing bytes room = omega (arith, room.tokens)
-command_short (grammar.save {t = t}) bytes room = omega (arith, room.tokens, word_short t, length-append (word_of t) (34 ∷ []))
+command_short (grammar.save {t = t}) bytes room = omega (arith, room.tokens, word_short t, length-append (short_word t) (34 ∷ []))
 command_short (grammar.import {n = n} {t = t}) bytes room =
-    omega (arith, room.tokens, after_one (word_of n) (quoted (word_of t)), word_short n, word_short t, length-append (word_of t) (34 ∷ []))
+    omega (arith, room.tokens, after_one (short_word n) (quoted (short_word t)), word_short n, word_short t, length-append (short_word t) (34 ∷ []))
 command_short (grammar.export {n = n} {t = t}) bytes room =
-    omega (arith, room.tokens, after_one (word_of n) (quoted (word_of t)), word_short n, word_short t, length-append (word_of t) (34 ∷ []))
+    omega (arith, room.tokens, after_one (short_word n) (quoted (short_word t)), word_short n, word_short t, length-append (short_word t) (34 ∷ []))
 command_short grammar.quit bytes room = omega (arith, room.tokens)
 command_short (grammar.nearest {s = s} {k = k} {o = o} {c = c}) bytes room =
     omega (
       arith,
       room.tokens,
-      after_two (decimal (whole_at Span s)) (decimal (whole_at Nearest k)) (word_of o ++ (32 ∷ word_of c)),
-      after_one (word_of o) (word_of c),
+      after_two (decimal (whole_at Span s)) (decimal (whole_at Nearest k)) (short_word o ++ (32 ∷ short_word c)),
+      after_one (short_word o) (short_word c),
       whole_is_short Span s,
       whole_is_short Nearest k,
       word_short o,
@@ -369,13 +369,13 @@ command_short (grammar.must {e = e} {k = k} {q = q} d) bytes room =
 command_short (grammar.may {e = e} {k = k} {q = q} d) bytes room =
     omega (arith, room.query_bytes 3 q d, after_two (fix_text (radius_at e)) (decimal (whole_at Span k)) (query_text q), radius_is_short e, whole_is_short Span k)
 command_short (grammar.index {c = c} {a = a} {w = w} d) bytes room =
-    omega (arith, room.tokens, after_two (word_of c) (word_of a) (fix_text w), word_short c, word_short a, (num_short d).short)
+    omega (arith, room.tokens, after_two (short_word c) (short_word a) (fix_text w), word_short c, word_short a, (num_short d).short)
 command_short (grammar.range {k = k} {c = c} {a = a} {l = l} {g = g} {xs = xs} {ys = ys} d e) bytes room =
     omega (
       arith,
       room.tokens,
-      after_two (decimal (whole_at Span k)) (word_of c) (word_of a ++ (32 ∷ (fix_text l ++ (32 ∷ fix_text g)))),
-      after_two (word_of a) (fix_text l) (fix_text g),
+      after_two (decimal (whole_at Span k)) (short_word c) (short_word a ++ (32 ∷ (fix_text l ++ (32 ∷ fix_text g)))),
+      after_two (short_word a) (fix_text l) (fix_text g),
       whole_is_short Span k,
       word_short c,
       word_short a,

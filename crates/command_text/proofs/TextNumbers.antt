@@ -22,7 +22,7 @@ use Rattle.ftl_parser.specs.Lawful.{IsUnsigned}
 use Rattle.ftl_parser.proofs.TextNumbers.{whole_is, whole_short, fix_short, minus_short}
 use Rattle.motion.specs.declared.limits.TheConstants.{CAPACITY_LIMIT}
 use Rattle.command_text.specs.declared.ranges.TheConstants.{NEAREST_LIMIT}
-use Rattle.command_text.specs.Ranges.{WholePlace, Span, Ticks, Capacity, Nearest, whole_in, radius_in, SignedPlace, Value, Rate, Width, signed, signed_in}
+use Rattle.command_text.specs.Ranges.{WholePlace, Span, Steps, Capacity, Nearest, whole_in, radius_in, SignedPlace, Value, Rate, Width, negated, signed_in}
 use Rattle.command_text.specs.Grammar.{whole_at, radius_at, signed_at}
 use Rattle.command_text.specs.Shape.{IsFrom, IsValue, IsRate, IsWidth}
 
@@ -30,7 +30,7 @@ use Rattle.command_text.specs.Shape.{IsFrom, IsValue, IsRate, IsWidth}
 
 abbrev pub IsWholeIn : WholePlace → ℕ → Type 0
 IsWholeIn Span n = IsFrom 0 LAST_TICK n
-IsWholeIn Ticks n = IsFrom 1 LAST_TICK n
+IsWholeIn Steps n = IsFrom 1 LAST_TICK n
 IsWholeIn Capacity n = IsFrom 1 CAPACITY_LIMIT n
 IsWholeIn Nearest n = IsFrom 1 NEAREST_LIMIT n
 
@@ -67,7 +67,7 @@ whole_from least most text n is =
 
 whole_found : (place : WholePlace) (text : List ℕ) (n : ℕ) → whole_in place text ≡ Some n → IsWholeIn place n
 whole_found Span text n is = whole_from 0 LAST_TICK text n is
-whole_found Ticks text n is = whole_from 1 LAST_TICK text n is
+whole_found Steps text n is = whole_from 1 LAST_TICK text n is
 whole_found Capacity text n is = whole_from 1 CAPACITY_LIMIT text n is
 whole_found Nearest text n is = whole_from 1 NEAREST_LIMIT text n is
 
@@ -80,14 +80,14 @@ size_of_minus (pos zero) = refl
 size_of_minus (pos (suc n)) = refl
 size_of_minus (negsuc n) = refl
 
-signed_within : (limit : ℕ) (minus : Bool) (found : Option ℤ) (v : ℤ) → ((w : ℤ) → found ≡ Some w → unsigned_abs w ≤ limit) → signed minus found ≡ Some v → unsigned_abs v ≤ limit
+signed_within : (limit : ℕ) (minus : Bool) (found : Option ℤ) (v : ℤ) → ((w : ℤ) → found ≡ Some w → unsigned_abs w ≤ limit) → negated minus found ≡ Some v → unsigned_abs v ≤ limit
 signed_within limit false found v within is = within v is
 signed_within limit true None v within is = absurd (cc)
 signed_within limit true (Some w) v within is =
     let same : neg_ℤ w ≡ v = cc in
     subst (λ (u : ℤ). unsigned_abs u ≤ limit) same (subst (λ (n : ℕ). n ≤ limit) (sym (size_of_minus w)) (within w refl))
 
-read_within : (limit : ℕ) (text : List ℕ) (minus : Bool) (v : ℤ) → signed minus (thousandths_of limit text) ≡ Some v → unsigned_abs v ≤ limit
+read_within : (limit : ℕ) (text : List ℕ) (minus : Bool) (v : ℤ) → negated minus (thousandths_of limit text) ≡ Some v → unsigned_abs v ≤ limit
 read_within limit text minus v is = signed_within limit minus (thousandths_of limit text) v (λ w e. ((decimal_law limit text w).0 e).1) is
 
 width_is : (v : ℤ) → unsigned_abs v ≤ READ_LIMIT → int_le (pos 1) v ≡ true → IsWidth v
@@ -105,7 +105,7 @@ width_found (Some w) v within is = chosen (int_le (pos 1) w) refl is
 signed_found : (place : SignedPlace) (minus : Bool) (text : List ℕ) (v : ℤ) → signed_in place minus text ≡ Some v → IsSignedIn place v
 signed_found Value minus text v is = read_within READ_LIMIT text minus v is
 signed_found Rate minus text v is = read_within SLOPE_LIMIT text minus v is
-signed_found Width minus text v is = width_found (signed minus (thousandths_of READ_LIMIT text)) v (λ w e. read_within READ_LIMIT text minus w e) is
+signed_found Width minus text v is = width_found (negated minus (thousandths_of READ_LIMIT text)) v (λ w e. read_within READ_LIMIT text minus w e) is
 
 pub signed_in_range : (place : SignedPlace) (minus : Bool) (text : List ℕ) → is_some (signed_in place minus text) ≡ true → IsSignedIn place (signed_at place minus text)
 signed_in_range place minus text is = of_found (IsSignedIn place) (signed_in place minus text) (pos 0) (λ v e. signed_found place minus text v e) is
@@ -147,7 +147,7 @@ from_one_short most text small =
 
 pub whole_is_short : (place : WholePlace) (text : List ℕ) → length (decimal (whole_at place text)) ≤ max 1 (length text)
 whole_is_short Span text = whole_short LAST_TICK text (omega arith)
-whole_is_short Ticks text = from_one_short LAST_TICK text (omega arith)
+whole_is_short Steps text = from_one_short LAST_TICK text (omega arith)
 whole_is_short Capacity text = from_one_short CAPACITY_LIMIT text (omega arith)
 whole_is_short Nearest text = from_one_short NEAREST_LIMIT text (omega arith)
 
@@ -163,7 +163,7 @@ abbrev pub sign_size : Bool → ℕ
 sign_size true = 1
 sign_size false = 0
 
-signed_short : (minus : Bool) (found : Option ℤ) (most : ℕ) → 1 ≤ most → length (fix_text (unwrap_or found (pos 0))) ≤ most → length (fix_text (unwrap_or (signed minus found) (pos 0))) ≤ most + sign_size minus
+signed_short : (minus : Bool) (found : Option ℤ) (most : ℕ) → 1 ≤ most → length (fix_text (unwrap_or found (pos 0))) ≤ most → length (fix_text (unwrap_or (negated minus found) (pos 0))) ≤ most + sign_size minus
 signed_short false found most some short = omega (arith, short)
 signed_short true None most some short = omega (arith, short)
 signed_short true (Some v) most some short = omega (arith, short, minus_short v)
@@ -180,7 +180,7 @@ pub signed_is_short : (place : SignedPlace) (minus : Bool) (text : List ℕ) →
 signed_is_short Value minus text = signed_short minus (thousandths_of READ_LIMIT text) (max 1 (length text)) (omega arith) (fix_short READ_LIMIT text)
 signed_is_short Rate minus text = signed_short minus (thousandths_of SLOPE_LIMIT text) (max 1 (length text)) (omega arith) (fix_short SLOPE_LIMIT text)
 signed_is_short Width minus text =
-    width_short (signed minus (thousandths_of READ_LIMIT text)) (max 1 (length text) + sign_size minus) (omega arith)
+    width_short (negated minus (thousandths_of READ_LIMIT text)) (max 1 (length text) + sign_size minus) (omega arith)
     (signed_short minus (thousandths_of READ_LIMIT text) (max 1 (length text)) (omega arith) (fix_short READ_LIMIT text))
 
 -- ---- printed numbers are read back
@@ -201,13 +201,13 @@ from_again least most n within small =
 
 pub whole_again : (place : WholePlace) (n : ℕ) → IsWholeIn place n → whole_in place (decimal n) ≡ Some n
 whole_again Span n within = from_again 0 LAST_TICK n within (omega arith)
-whole_again Ticks n within = from_again 1 LAST_TICK n within (omega arith)
+whole_again Steps n within = from_again 1 LAST_TICK n within (omega arith)
 whole_again Capacity n within = from_again 1 CAPACITY_LIMIT n within (omega arith)
 whole_again Nearest n within = from_again 1 NEAREST_LIMIT n within (omega arith)
 
 pub whole_small : (place : WholePlace) (n : ℕ) → IsWholeIn place n → n < 2 ^ 64
 whole_small Span n within = omega (arith, within.1)
-whole_small Ticks n within = omega (arith, within.1)
+whole_small Steps n within = omega (arith, within.1)
 whole_small Capacity n within = omega (arith, within.1)
 whole_small Nearest n within = omega (arith, within.1)
 

@@ -20,8 +20,8 @@ use Rattle.motion.specs.declared.cell.Place.{Place}
 use Rattle.ftl_parser.proofs.TextTokens.{Ends, nothing_ends, blank_ends, comma_ends, close_ends, square_ends}
 use Rattle.ftl_parser.proofs.TextValues.{decimal_is_number, fix_is_number, minus_text}
 use Rattle.command_text.specs.Piece.{Piece, KEY, SIGN, NAME, NUMBER, TEXT}
-use Rattle.command_text.specs.Ranges.{WholePlace, Ticks, SignedPlace, Value, Rate, whole_in, signed_in}
-use Rattle.command_text.specs.Sizes.{is_short, word_of, are_few_legs, function_of, are_few_attributes}
+use Rattle.command_text.specs.Ranges.{WholePlace, Steps, SignedPlace, Value, Rate, whole_in, signed_in}
+use Rattle.command_text.specs.Sizes.{is_short, short_word, are_few_legs, function_of, are_few_attributes}
 use Rattle.command_text.specs.Grammar.{whole_at, set_of, legs_of_x, legs_of_y, SpellsNum, num_plain, num_minus, SpellsPair, pair, SpellsAttr, attr_num, attr_text, attr_dyn, SpellsMoreAttrs, no_more_attrs, one_more_attr, SpellsAttrs, no_attrs, some_attrs, SpellsPoints, no_points, one_point, SpellsRateLegs, no_rate_legs, one_rate_leg, SpellsRates, rates, SpellsMoveLegs, no_move_legs, one_move_leg, SpellsMoves, moves, SpellsGiven, given_num, given_both, given_text, given_rate, SpellsSettings, no_settings, one_setting, SpellsAt, not_at, at, SpellsMoving, not_moving, moving, SpellsChange, change, SpellsPointWord, no_point_word, point_word}
 use Rattle.command_text.specs.Judged.{num_fit, pair_fit, points_fit, rate_legs_fit, rates_fit, move_legs_fit, moves_fit, given_fit, settings_fit, at_fit, moving_fit, change_fit, attr_small, more_attrs_small, attrs_small, rates_small, moves_small, given_small, settings_small, moving_small, change_small}
 use Rattle.command_text.specs.Shape.{IsShortName, IsPoint, IsLeg, AreLegs, AreMoves, IsPrintableGiven, IsSetting, IsAt, IsMoving, IsChange, IsAttribute, AreAttributes}
@@ -54,7 +54,7 @@ same_text x y same r = record {
 pub name_short : (name : List ℕ) → IsShortName name → is_short name ≡ true
 name_short name shape = grind (arith, nat_tests, shape.1)
 
-pub name_again : (name : List ℕ) → IsShortName name → word_of name ≡ name
+pub name_again : (name : List ℕ) → IsShortName name → short_word name ≡ name
 name_again name shape = word_is name (name_short name shape)
 
 -- ---- numbers
@@ -142,16 +142,16 @@ rate_legs_read : (ls : List (ℤ × ℕ)) → AllByRecursion IsLeg ls → Closes
 rate_legs_read [] shape = record { tokens = []; spelled = (no_rate_legs, λ fit. refl); again = λ rest ps ends is. is }
 rate_legs_read (leg ∷ ls) shape =
     let number : List ℕ = decimal leg.1 in
-    let fits : is_some (whole_in Ticks number) ≡ true = whole_fits Ticks leg.1 shape.0.1 in
+    let fits : is_some (whole_in Steps number) ≡ true = whole_fits Steps leg.1 shape.0.1 in
     let slope : Reads (fix_text leg.0) (NumOf Rate leg.0) = num_reads Rate leg.0 shape.0.0 in
     let legs : List ℕ = flat_map rate_leg_text ls in
     let later : Closes legs (RateLegsOf ls) = rate_legs_read ls shape.1 in
     let tokens : List Piece = SIGN OPEN_SQUARE ∷ (slope.tokens ++ SIGN COMMA ∷ NUMBER number ∷ SIGN CLOSE_SQUARE ∷ later.tokens) in
     record {
       tokens = tokens;
-      spelled = subst (λ (n : ℕ). RateLegsOf ((leg.0, n) ∷ ls) tokens) (whole_at_again Ticks leg.1 shape.0.1) (
+      spelled = subst (λ (n : ℕ). RateLegsOf ((leg.0, n) ∷ ls) tokens) (whole_at_again Steps leg.1 shape.0.1) (
         one_rate_leg number slope.spelled.0 later.spelled.0,
-        λ fit. later.spelled.1 (num_fit slope.spelled.0 fit && is_some (whole_in Ticks number)) ∙ with_true (num_fit slope.spelled.0 fit) (is_some (whole_in Ticks number)) fits ∙ slope.spelled.1 fit,
+        λ fit. later.spelled.1 (num_fit slope.spelled.0 fit && is_some (whole_in Steps number)) ∙ with_true (num_fit slope.spelled.0 fit) (is_some (whole_in Steps number)) fits ∙ slope.spelled.1 fit,
       );
       again = λ rest ps ends is.
           regrouped ((rate_leg_text leg ++ legs) ++ rest) (91 ∷ (fix_text leg.0 ++ (44 ∷ (number ++ (93 ∷ 32 ∷ (legs ++ rest))))))
@@ -160,7 +160,7 @@ rate_legs_read (leg ∷ ls) shape =
           (read_square (fix_text leg.0 ++ (44 ∷ (number ++ (93 ∷ 32 ∷ (legs ++ rest))))) (slope.tokens ++ SIGN COMMA ∷ NUMBER number ∷ SIGN CLOSE_SQUARE ∷ (later.tokens ++ ps))
           (slope.again (44 ∷ (number ++ (93 ∷ 32 ∷ (legs ++ rest)))) (SIGN COMMA ∷ NUMBER number ∷ SIGN CLOSE_SQUARE ∷ (later.tokens ++ ps)) (comma_ends (number ++ (93 ∷ 32 ∷ (legs ++ rest))))
           (read_comma (number ++ (93 ∷ 32 ∷ (legs ++ rest))) (NUMBER number ∷ SIGN CLOSE_SQUARE ∷ (later.tokens ++ ps))
-          (read_whole Ticks leg.1 (93 ∷ 32 ∷ (legs ++ rest)) (SIGN CLOSE_SQUARE ∷ (later.tokens ++ ps)) shape.0.1 (square_ends (32 ∷ (legs ++ rest)))
+          (read_whole Steps leg.1 (93 ∷ 32 ∷ (legs ++ rest)) (SIGN CLOSE_SQUARE ∷ (later.tokens ++ ps)) shape.0.1 (square_ends (32 ∷ (legs ++ rest)))
           (read_square_end (32 ∷ (legs ++ rest)) (later.tokens ++ ps)
           (read_blank (legs ++ rest) (later.tokens ++ ps) (later.again rest ps tt is)))))));
     }
@@ -221,7 +221,7 @@ move_legs_read [] ys x_shape y_shape = record { tokens = []; spelled = (no_move_
 move_legs_read (x ∷ xs) [] x_shape y_shape = record { tokens = []; spelled = (no_move_legs, λ fit. refl); again = λ rest ps ends is. is }
 move_legs_read (x ∷ xs) (y ∷ ys) x_shape y_shape =
     let number : List ℕ = decimal x.1 in
-    let fits : is_some (whole_in Ticks number) ≡ true = whole_fits Ticks x.1 x_shape.0.1 in
+    let fits : is_some (whole_in Steps number) ≡ true = whole_fits Steps x.1 x_shape.0.1 in
     let slopes : List ℕ = pair_text x.0 y.0 in
     let read : Closes slopes (PairOf Rate x.0 y.0) = pair_reads Rate x.0 y.0 x_shape.0.0 y_shape.0.0 in
     let legs : List ℕ = move_legs_text xs ys in
@@ -229,9 +229,9 @@ move_legs_read (x ∷ xs) (y ∷ ys) x_shape y_shape =
     let tokens : List Piece = SIGN OPEN_SQUARE ∷ (read.tokens ++ SIGN COMMA ∷ NUMBER number ∷ SIGN CLOSE_SQUARE ∷ later.tokens) in
     record {
       tokens = tokens;
-      spelled = subst (λ (n : ℕ). MoveLegsOf (((x.0, y.0), n) ∷ both xs ys) tokens) (whole_at_again Ticks x.1 x_shape.0.1) (
+      spelled = subst (λ (n : ℕ). MoveLegsOf (((x.0, y.0), n) ∷ both xs ys) tokens) (whole_at_again Steps x.1 x_shape.0.1) (
         one_move_leg number read.spelled.0 later.spelled.0,
-        λ fit. later.spelled.1 (pair_fit read.spelled.0 fit && is_some (whole_in Ticks number)) ∙ with_true (pair_fit read.spelled.0 fit) (is_some (whole_in Ticks number)) fits ∙ read.spelled.1 fit,
+        λ fit. later.spelled.1 (pair_fit read.spelled.0 fit && is_some (whole_in Steps number)) ∙ with_true (pair_fit read.spelled.0 fit) (is_some (whole_in Steps number)) fits ∙ read.spelled.1 fit,
       );
       again = λ rest ps ends is.
           regrouped ((move_leg_text x.0 y.0 x.1 ++ legs) ++ rest) (91 ∷ (slopes ++ (44 ∷ (number ++ (93 ∷ 32 ∷ (legs ++ rest))))))
@@ -240,7 +240,7 @@ move_legs_read (x ∷ xs) (y ∷ ys) x_shape y_shape =
           (read_square (slopes ++ (44 ∷ (number ++ (93 ∷ 32 ∷ (legs ++ rest))))) (read.tokens ++ SIGN COMMA ∷ NUMBER number ∷ SIGN CLOSE_SQUARE ∷ (later.tokens ++ ps))
           (read.again (44 ∷ (number ++ (93 ∷ 32 ∷ (legs ++ rest)))) (SIGN COMMA ∷ NUMBER number ∷ SIGN CLOSE_SQUARE ∷ (later.tokens ++ ps)) tt
           (read_comma (number ++ (93 ∷ 32 ∷ (legs ++ rest))) (NUMBER number ∷ SIGN CLOSE_SQUARE ∷ (later.tokens ++ ps))
-          (read_whole Ticks x.1 (93 ∷ 32 ∷ (legs ++ rest)) (SIGN CLOSE_SQUARE ∷ (later.tokens ++ ps)) x_shape.0.1 (square_ends (32 ∷ (legs ++ rest)))
+          (read_whole Steps x.1 (93 ∷ 32 ∷ (legs ++ rest)) (SIGN CLOSE_SQUARE ∷ (later.tokens ++ ps)) x_shape.0.1 (square_ends (32 ∷ (legs ++ rest)))
           (read_square_end (32 ∷ (legs ++ rest)) (later.tokens ++ ps)
           (read_blank (legs ++ rest) (later.tokens ++ ps) (later.again rest ps tt is)))))));
     }

@@ -25,8 +25,8 @@ use Rattle.ftl_parser.proofs.TextValues.{fix_is_number}
 use Rattle.motion.specs.declared.limits.TheConstants.{CAPACITY_LIMIT}
 use Rattle.command_text.specs.declared.ranges.TheConstants.{NEAREST_LIMIT}
 use Rattle.command_text.specs.Piece.{Piece, KEY, NAME, NUMBER, TEXT, piece_of, pieces, in_query, has_long}
-use Rattle.command_text.specs.Ranges.{WholePlace, Span, Ticks, Capacity, Nearest, Value, Width, whole_in, radius_in}
-use Rattle.command_text.specs.Sizes.{is_short, word_of, are_few_vertices}
+use Rattle.command_text.specs.Ranges.{WholePlace, Span, Steps, Capacity, Nearest, Value, Width, whole_in, radius_in}
+use Rattle.command_text.specs.Sizes.{is_short, short_word, are_few_vertices}
 use Rattle.command_text.specs.Query.{is_query_fit, is_query_small}
 use Rattle.command_text.specs.Tree
 use Rattle.command_text.specs.Tree.{CommandTree}
@@ -34,7 +34,8 @@ use Rattle.command_text.specs.Grammar as grammar
 use Rattle.command_text.specs.Grammar.{SpellsCommand}
 use Rattle.command_text.specs.Judged.{num_fit, numbers_fit, sizes_fit}
 use Rattle.command_text.specs.Reading.{Reader, command_of}
-use Rattle.command_text.specs.Line.{is_ascii, is_comment, has_other_byte, is_too_long, late_refusal, IsWhole}
+use Rattle.command_text.specs.Line.{is_ascii, is_comment, has_other_byte, is_too_long, late_refusal}
+use Rattle.command_text.specs.LineParts.{IsWhole}
 use Rattle.command_text.specs.Text as text
 use Rattle.command_text.specs.Text.{quoted, points_text, change_text, attrs_text, text_of}
 use Rattle.command_text.specs.Shape.{IsFrom, IsAscii, IsShortName, IsShortText, IsValue, IsWidth, AreVertices, IsChange, AreAttributes, IsQuery, IsPrintable}
@@ -75,7 +76,7 @@ both_true b c is also = ap₂ (λ x y. x && y) is also
 text_short : (t : List ℕ) → IsShortText t → is_short t ≡ true
 text_short t shape = grind (arith, nat_tests, shape.2)
 
-text_again : (t : List ℕ) → IsShortText t → word_of t ≡ t
+text_again : (t : List ℕ) → IsShortText t → short_word t ≡ t
 text_again t shape = word_is t (text_short t shape)
 
 -- ---- commands
@@ -238,8 +239,8 @@ tick_cut k ticks =
     let tokens : List Piece = KEY TICK ∷ NUMBER (decimal k) ∷ [] in
     record {
       tokens = tokens;
-      spelled = subst (λ (j : ℕ). CommandOf (Tree.Tick j) tokens) (whole_at_again Ticks k ticks) (grammar.tick, whole_fits Ticks k ticks, refl);
-      is_cut = read_key TICK (codes "tick") (32 ∷ decimal k) (NUMBER (decimal k) ∷ []) refl refl refl (read_blank (decimal k) (NUMBER (decimal k) ∷ []) (last_whole Ticks k ticks));
+      spelled = subst (λ (j : ℕ). CommandOf (Tree.Tick j) tokens) (whole_at_again Steps k ticks) (grammar.tick, whole_fits Steps k ticks, refl);
+      is_cut = read_key TICK (codes "tick") (32 ∷ decimal k) (NUMBER (decimal k) ∷ []) refl refl refl (read_blank (decimal k) (NUMBER (decimal k) ∷ []) (last_whole Steps k ticks));
     }
 
 save_cut : (t : List ℕ) → IsShortText t → CommandCut (Tree.Save t)
@@ -291,7 +292,7 @@ nearest_cut s k o c span count object class =
     record {
       tokens = tokens;
       spelled = subst (λ (t : CommandTree). CommandOf t tokens)
-          (ap₂ (λ i j. Tree.Nearest i j (word_of o) (word_of c)) (whole_at_again Span s span) (whole_at_again Nearest k count) ∙ ap₂ (λ m n. Tree.Nearest s k m n) (name_again o object) (name_again c class)) (
+          (ap₂ (λ i j. Tree.Nearest i j (short_word o) (short_word c)) (whole_at_again Span s span) (whole_at_again Nearest k count) ∙ ap₂ (λ m n. Tree.Nearest s k m n) (name_again o object) (name_again c class)) (
             grammar.nearest,
             both_true (is_some (whole_in Span ticks)) (is_some (whole_in Nearest number)) (whole_fits Span s span) (whole_fits Nearest k count),
             both_true (is_short o) (is_short c) (name_short o object) (name_short c class),
@@ -373,7 +374,7 @@ range_cut k c a l g span class attr least greatest =
     record {
       tokens = tokens;
       spelled = subst (λ (t : CommandTree). CommandOf t tokens)
-          (ap₂ (λ j m. Tree.Range j m (word_of a) l g) (whole_at_again Span k span) (name_again c class) ∙ ap (λ n. Tree.Range k c n l g) (name_again a attr)) (
+          (ap₂ (λ j m. Tree.Range j m (short_word a) l g) (whole_at_again Span k span) (name_again c class) ∙ ap (λ n. Tree.Range k c n l g) (name_again a attr)) (
             grammar.range r.spelled.0 s.spelled.0,
             s.spelled.1 (num_fit r.spelled.0 (is_some (whole_in Span number))) ∙ r.spelled.1 (is_some (whole_in Span number)) ∙ whole_fits Span k span,
             both_true (is_short c) (is_short a) (name_short c class) (name_short a attr),

@@ -34,8 +34,8 @@ use Rattle.ftl_parser.proofs.TextShapes.{prints_what_is_read, small_short, spell
 use Rattle.geometry.specs.declared.limits.TheConstants.{VERTEX_LIMIT}
 use Rattle.motion.specs.declared.limits.TheConstants.{ATTRIBUTE_LIMIT}
 use Rattle.command_text.specs.Piece.{Piece, KEY, SIGN, NAME, NUMBER, TEXT, piece_of, pieces, in_query, has_long}
-use Rattle.command_text.specs.Ranges.{Ticks, Span, Capacity, Nearest, SignedPlace, whole_in, radius_in, signed_in}
-use Rattle.command_text.specs.Sizes.{is_short, word_of, are_few_legs, function_of, are_few_attributes, are_few_vertices}
+use Rattle.command_text.specs.Ranges.{Steps, Span, Capacity, Nearest, SignedPlace, whole_in, radius_in, signed_in}
+use Rattle.command_text.specs.Sizes.{is_short, short_word, are_few_legs, function_of, are_few_attributes, are_few_vertices}
 use Rattle.command_text.specs.Query.{is_query_fit, is_query_small}
 use Rattle.command_text.specs.Tree.{CommandTree}
 use Rattle.command_text.specs.Grammar as grammar
@@ -89,13 +89,13 @@ line_has line ascii = pieces_have (lexemes line) (tokens_have_forms line) (token
 
 -- ---- names and texts that are short
 
-pub word_is : (word : List ℕ) → is_short word ≡ true → word_of word ≡ word
+pub word_is : (word : List ℕ) → is_short word ≡ true → short_word word ≡ word
 word_is word short = ap (λ b. if b then word else []) short
 
-short_name : (name : List ℕ) → IsName name → is_short name ≡ true → IsShortName (word_of name)
+short_name : (name : List ℕ) → IsName name → is_short name ≡ true → IsShortName (short_word name)
 short_name name is short = subst IsShortName (sym (word_is name short)) (is, leb-true (length name) WORD_LIMIT short)
 
-short_text : (text : List ℕ) → IsTrue (has_no_quote text) → IsAscii text → is_short text ≡ true → IsShortText (word_of text)
+short_text : (text : List ℕ) → IsTrue (has_no_quote text) → IsAscii text → is_short text ≡ true → IsShortText (short_word text)
 short_text text none ascii short = subst IsShortText (sym (word_is text short)) (none, ascii, leb-true (length text) WORD_LIMIT short)
 
 -- ---- numbers and points
@@ -119,10 +119,10 @@ points_shape (one_point d e) fit is =
 rate_legs_shape : {ls : List (ℤ × ℕ)} {xs : List Piece} (d : SpellsRateLegs ls xs) (fit : Bool) → rate_legs_fit d fit ≡ true → (fit ≡ true) × AllByRecursion IsLeg ls
 rate_legs_shape no_rate_legs fit is = (is, tt)
 rate_legs_shape (one_rate_leg n d e) fit is =
-    let later = rate_legs_shape e (num_fit d fit && is_some (whole_in Ticks n)) is in
-    let parts = and_parts (num_fit d fit) (is_some (whole_in Ticks n)) later.0 in
+    let later = rate_legs_shape e (num_fit d fit && is_some (whole_in Steps n)) is in
+    let parts = and_parts (num_fit d fit) (is_some (whole_in Steps n)) later.0 in
     let slope = num_shape d fit parts.0 in
-    (slope.0, ((slope.1, whole_in_range Ticks n parts.1), later.1))
+    (slope.0, ((slope.1, whole_in_range Steps n parts.1), later.1))
 
 -- a leg of both coordinates
 abbrev IsMoveLeg : (ℤ × ℤ) × ℕ → Type 0
@@ -131,10 +131,10 @@ IsMoveLeg leg = IsLeg (leg.0.0, leg.1) × IsLeg (leg.0.1, leg.1)
 move_legs_shape : {ls : List ((ℤ × ℤ) × ℕ)} {xs : List Piece} (d : SpellsMoveLegs ls xs) (fit : Bool) → move_legs_fit d fit ≡ true → (fit ≡ true) × AllByRecursion IsMoveLeg ls
 move_legs_shape no_move_legs fit is = (is, tt)
 move_legs_shape (one_move_leg n d e) fit is =
-    let later = move_legs_shape e (pair_fit d fit && is_some (whole_in Ticks n)) is in
-    let parts = and_parts (pair_fit d fit) (is_some (whole_in Ticks n)) later.0 in
+    let later = move_legs_shape e (pair_fit d fit && is_some (whole_in Steps n)) is in
+    let parts = and_parts (pair_fit d fit) (is_some (whole_in Steps n)) later.0 in
     let slopes = pair_shape d fit parts.0 in
-    let ticks = whole_in_range Ticks n parts.1 in
+    let ticks = whole_in_range Steps n parts.1 in
     (slopes.0, (((slopes.1, ticks), (slopes.2, ticks)), later.1))
 
 legs_x : (ls : List ((ℤ × ℤ) × ℕ)) → AllByRecursion IsMoveLeg ls → AllByRecursion IsLeg (legs_of_x ls)
@@ -259,7 +259,7 @@ fixed_none [] code all = refl
 fixed_none (p ∷ table) zero all = all.0
 fixed_none (p ∷ table) (suc code) all = fixed_none table code all.1
 
-words_none : AllByRecursion (λ p. piece_lists texts_alone p ≡ []) query.words
+words_none : AllByRecursion (λ p. piece_lists texts_alone p ≡ []) query.reserved
 words_none = (refl, (refl, (refl, (refl, (refl, (refl, (refl, (refl, (refl, (refl, (refl, (refl, (refl, (refl, (refl, (refl, (refl, (refl, (refl, (refl, (refl, (refl, (refl, (refl, (refl, tt)))))))))))))))))))))))))
 
 signs_none : AllByRecursion (λ p. piece_lists texts_alone p ≡ []) query.signs
@@ -274,7 +274,7 @@ word_ascii true word ascii = ascii
 word_ascii false word ascii = refl
 
 piece_ascii : (p : Piece) → HasShape p → AllByRecursion IsAscii (piece_lists texts_alone (in_query p))
-piece_ascii (KEY code) shape = subst (AllByRecursion IsAscii) (sym (fixed_none query.words code words_none)) tt
+piece_ascii (KEY code) shape = subst (AllByRecursion IsAscii) (sym (fixed_none query.reserved code words_none)) tt
 piece_ascii (SIGN code) shape = subst (AllByRecursion IsAscii) (sym (fixed_none query.signs code signs_none)) tt
 piece_ascii (NAME n) shape = tt
 piece_ascii (NUMBER n) shape = tt
@@ -328,7 +328,7 @@ command_shape (grammar.update {n = n} d) shapes tails is few =
     let change = change_shape d shapes.1.1 true (is_short n) is few in
     (short_name n shapes.1.0.0 change.1, change.2)
 command_shape (grammar.remove {n = n}) shapes tails is few = short_name n shapes.1.0.0 few
-command_shape (grammar.tick {k = k}) shapes tails is few = whole_in_range Ticks k is
+command_shape (grammar.tick {k = k}) shapes tails is few = whole_in_range Steps k is
 command_shape (grammar.ask {k = k} {q = q} {xs = xs} d) shapes tails is few =
     let numbers = and_parts (is_some (whole_in Span k)) (is_query_fit (map in_query xs)) is in
     (whole_in_range Span k numbers.0, query_is q xs d shapes.1.1 (tails 2 q d) few)

@@ -22,8 +22,8 @@ use Rattle.motion.specs.declared.cell.Place.{Place}
 use Rattle.ftl_parser.specs.Tree.{QueryTree}
 use Rattle.ftl_parser.specs.Grammar.{SpellsQuery}
 use Rattle.command_text.specs.Piece.{Piece, KEY, SIGN, NAME, NUMBER, TEXT, in_query}
-use Rattle.command_text.specs.Ranges.{WholePlace, Span, Ticks, Capacity, Nearest, whole_in, radius_in, SignedPlace, Value, Rate, Width, signed_in}
-use Rattle.command_text.specs.Sizes.{word_of, function_of}
+use Rattle.command_text.specs.Ranges.{WholePlace, Span, Steps, Capacity, Nearest, whole_in, radius_in, SignedPlace, Value, Rate, Width, signed_in}
+use Rattle.command_text.specs.Sizes.{short_word, function_of}
 use Rattle.command_text.specs.Tree
 use Rattle.command_text.specs.Tree.{CommandTree}
 
@@ -65,9 +65,9 @@ pub data SpellsPair : SignedPlace → ℤ → ℤ → List Piece → Type 0 wher
 
 -- attr
 pub data SpellsAttr : List ℕ × AttrKind → List Piece → Type 0 where
-  attr_num : {n : List ℕ} → SpellsAttr (word_of n, attr_kinds.Num) (NAME n ∷ KEY NUM ∷ [])
-  attr_text : {n : List ℕ} → SpellsAttr (word_of n, attr_kinds.Text) (NAME n ∷ KEY TEXT_WORD ∷ [])
-  attr_dyn : {n : List ℕ} → SpellsAttr (word_of n, attr_kinds.Dyn) (NAME n ∷ KEY DYN ∷ [])
+  attr_num : {n : List ℕ} → SpellsAttr (short_word n, attr_kinds.Num) (NAME n ∷ KEY NUM ∷ [])
+  attr_text : {n : List ℕ} → SpellsAttr (short_word n, attr_kinds.Text) (NAME n ∷ KEY TEXT_WORD ∷ [])
+  attr_dyn : {n : List ℕ} → SpellsAttr (short_word n, attr_kinds.Dyn) (NAME n ∷ KEY DYN ∷ [])
 
 -- (',' attr)*
 pub data SpellsMoreAttrs : List (List ℕ × AttrKind) → List Piece → Type 0 where
@@ -92,7 +92,7 @@ pub data SpellsRateLegs : List (ℤ × ℕ) → List Piece → Type 0 where
   no_rate_legs : SpellsRateLegs [] []
   one_rate_leg : {a : ℤ} {xs : List Piece} (n : List ℕ) {ls : List (ℤ × ℕ)} {ys : List Piece} →
       SpellsNum Rate a xs → SpellsRateLegs ls ys →
-      SpellsRateLegs ((a, whole_at Ticks n) ∷ ls) (SIGN OPEN_SQUARE ∷ (xs ++ SIGN COMMA ∷ NUMBER n ∷ SIGN CLOSE_SQUARE ∷ ys))
+      SpellsRateLegs ((a, whole_at Steps n) ∷ ls) (SIGN OPEN_SQUARE ∷ (xs ++ SIGN COMMA ∷ NUMBER n ∷ SIGN CLOSE_SQUARE ∷ ys))
 
 -- rates
 pub data SpellsRates : Function → List Piece → Type 0 where
@@ -104,26 +104,26 @@ pub data SpellsMoveLegs : List ((ℤ × ℤ) × ℕ) → List Piece → Type 0 w
   no_move_legs : SpellsMoveLegs [] []
   one_move_leg : {a b : ℤ} {xs : List Piece} (n : List ℕ) {ls : List ((ℤ × ℤ) × ℕ)} {ys : List Piece} →
       SpellsPair Rate a b xs → SpellsMoveLegs ls ys →
-      SpellsMoveLegs (((a, b), whole_at Ticks n) ∷ ls) (SIGN OPEN_SQUARE ∷ (xs ++ SIGN COMMA ∷ NUMBER n ∷ SIGN CLOSE_SQUARE ∷ ys))
+      SpellsMoveLegs (((a, b), whole_at Steps n) ∷ ls) (SIGN OPEN_SQUARE ∷ (xs ++ SIGN COMMA ∷ NUMBER n ∷ SIGN CLOSE_SQUARE ∷ ys))
 
 -- moves
 pub data SpellsMoves : Function × Function → List Piece → Type 0 where
   moves : {ls : List ((ℤ × ℤ) × ℕ)} {xs : List Piece} {a b : ℤ} {ys : List Piece} →
       SpellsMoveLegs ls xs → SpellsPair Rate a b ys → SpellsMoves (function_of (legs_of_x ls) a, function_of (legs_of_y ls) b) (xs ++ ys)
 
--- what a setting gives, behind its name
+-- what a setting gives, after its name
 pub data SpellsGiven : Given → List Piece → Type 0 where
   given_num : {v : ℤ} {xs : List Piece} → SpellsNum Value v xs → SpellsGiven (givens.Num v) (SIGN EQUAL ∷ xs)
   given_both : {v : ℤ} {xs : List Piece} {f : Function} {ys : List Piece} →
       SpellsNum Value v xs → SpellsRates f ys → SpellsGiven (givens.Both v f) (SIGN EQUAL ∷ (xs ++ KEY RATE ∷ ys))
-  given_text : {t : List ℕ} → SpellsGiven (givens.Text (word_of t)) (SIGN EQUAL ∷ TEXT t ∷ [])
+  given_text : {t : List ℕ} → SpellsGiven (givens.Text (short_word t)) (SIGN EQUAL ∷ TEXT t ∷ [])
   given_rate : {f : Function} {xs : List Piece} → SpellsRates f xs → SpellsGiven (givens.Rate f) (KEY RATE ∷ xs)
 
 -- setting*
 pub data SpellsSettings : List NamedSet → List Piece → Type 0 where
   no_settings : SpellsSettings [] []
   one_setting : {n : List ℕ} {g : Given} {xs : List Piece} {ss : List NamedSet} {ys : List Piece} →
-      SpellsGiven g xs → SpellsSettings ss ys → SpellsSettings (set_of (word_of n) g ∷ ss) (NAME n ∷ (xs ++ ys))
+      SpellsGiven g xs → SpellsSettings ss ys → SpellsSettings (set_of (short_word n) g ∷ ss) (NAME n ∷ (xs ++ ys))
 
 -- ['at' pt]
 pub data SpellsAt : Option Point → List Piece → Type 0 where
@@ -155,46 +155,46 @@ pub data SpellsCommand : CommandTree → List Piece → Type 0 where
   -- 'class' NAME NUMBER ['point'] ['(' attr (',' attr)* ')']
   class : {n k : List ℕ} {b : Bool} {xs : List Piece} {rest : List (List ℕ × AttrKind)} {ys : List Piece} →
       SpellsPointWord b xs → SpellsAttrs rest ys →
-      SpellsCommand (Tree.Class (word_of n) (whole_at Capacity k) b rest) (KEY CLASS ∷ NAME n ∷ NUMBER k ∷ (xs ++ ys))
+      SpellsCommand (Tree.Class (short_word n) (whole_at Capacity k) b rest) (KEY CLASS ∷ NAME n ∷ NUMBER k ∷ (xs ++ ys))
   -- 'region' NAME pt pt pt pt*
   region : {n : List ℕ} {p q r : Point} {ps : List Point} {xs : List Piece} →
-      SpellsPoints (p ∷ q ∷ r ∷ ps) xs → SpellsCommand (Tree.Region (word_of n) (p ∷ q ∷ r ∷ ps)) (KEY REGION ∷ NAME n ∷ xs)
+      SpellsPoints (p ∷ q ∷ r ∷ ps) xs → SpellsCommand (Tree.Region (short_word n) (p ∷ q ∷ r ∷ ps)) (KEY REGION ∷ NAME n ∷ xs)
   -- 'insert' NAME NAME ['at' pt] ['move' moves] setting*
   insert : {c n : List ℕ} {p : Place} {ss : List NamedSet} {xs : List Piece} →
-      SpellsChange p ss xs → SpellsCommand (Tree.Insert (word_of c) (word_of n) p ss) (KEY INSERT ∷ NAME c ∷ NAME n ∷ xs)
+      SpellsChange p ss xs → SpellsCommand (Tree.Insert (short_word c) (short_word n) p ss) (KEY INSERT ∷ NAME c ∷ NAME n ∷ xs)
   -- 'update' NAME ['at' pt] ['move' moves] setting*
   update : {n : List ℕ} {p : Place} {ss : List NamedSet} {xs : List Piece} →
-      SpellsChange p ss xs → SpellsCommand (Tree.Update (word_of n) p ss) (KEY UPDATE ∷ NAME n ∷ xs)
+      SpellsChange p ss xs → SpellsCommand (Tree.Update (short_word n) p ss) (KEY UPDATE ∷ NAME n ∷ xs)
   -- 'remove' NAME
-  remove : {n : List ℕ} → SpellsCommand (Tree.Remove (word_of n)) (KEY REMOVE ∷ NAME n ∷ [])
+  remove : {n : List ℕ} → SpellsCommand (Tree.Remove (short_word n)) (KEY REMOVE ∷ NAME n ∷ [])
   -- 'tick' NUMBER
-  tick : {k : List ℕ} → SpellsCommand (Tree.Tick (whole_at Ticks k)) (KEY TICK ∷ NUMBER k ∷ [])
+  tick : {k : List ℕ} → SpellsCommand (Tree.Tick (whole_at Steps k)) (KEY TICK ∷ NUMBER k ∷ [])
   -- 'ask' NUMBER query
   ask : {k : List ℕ} {q : QueryTree} {xs : List Piece} →
       SpellsTail q xs → SpellsCommand (Tree.Ask (whole_at Span k) q) (KEY ASK ∷ NUMBER k ∷ xs)
   -- 'watch' NAME NUMBER query
   watch : {n k : List ℕ} {q : QueryTree} {xs : List Piece} →
-      SpellsTail q xs → SpellsCommand (Tree.Watch (word_of n) (whole_at Span k) q) (KEY WATCH ∷ NAME n ∷ NUMBER k ∷ xs)
+      SpellsTail q xs → SpellsCommand (Tree.Watch (short_word n) (whole_at Span k) q) (KEY WATCH ∷ NAME n ∷ NUMBER k ∷ xs)
   -- 'keep' NAME NUMBER query
   keep : {n k : List ℕ} {q : QueryTree} {xs : List Piece} →
-      SpellsTail q xs → SpellsCommand (Tree.Keep (word_of n) (whole_at Span k) q) (KEY KEEP ∷ NAME n ∷ NUMBER k ∷ xs)
+      SpellsTail q xs → SpellsCommand (Tree.Keep (short_word n) (whole_at Span k) q) (KEY KEEP ∷ NAME n ∷ NUMBER k ∷ xs)
   -- 'show' NAME
-  show : {n : List ℕ} → SpellsCommand (Tree.Show (word_of n)) (KEY SHOW ∷ NAME n ∷ [])
+  show : {n : List ℕ} → SpellsCommand (Tree.Show (short_word n)) (KEY SHOW ∷ NAME n ∷ [])
   -- 'drop' NAME
-  drop : {n : List ℕ} → SpellsCommand (Tree.Drop (word_of n)) (KEY DROP ∷ NAME n ∷ [])
+  drop : {n : List ℕ} → SpellsCommand (Tree.Drop (short_word n)) (KEY DROP ∷ NAME n ∷ [])
   -- 'list'
   listing : SpellsCommand Tree.Listing (KEY LIST ∷ [])
   -- 'save' TEXT
-  save : {t : List ℕ} → SpellsCommand (Tree.Save (word_of t)) (KEY SAVE ∷ TEXT t ∷ [])
+  save : {t : List ℕ} → SpellsCommand (Tree.Save (short_word t)) (KEY SAVE ∷ TEXT t ∷ [])
   -- 'import' NAME TEXT
-  import : {n t : List ℕ} → SpellsCommand (Tree.Import (word_of n) (word_of t)) (KEY IMPORT ∷ NAME n ∷ TEXT t ∷ [])
+  import : {n t : List ℕ} → SpellsCommand (Tree.Import (short_word n) (short_word t)) (KEY IMPORT ∷ NAME n ∷ TEXT t ∷ [])
   -- 'export' NAME TEXT
-  export : {n t : List ℕ} → SpellsCommand (Tree.Export (word_of n) (word_of t)) (KEY EXPORT ∷ NAME n ∷ TEXT t ∷ [])
+  export : {n t : List ℕ} → SpellsCommand (Tree.Export (short_word n) (short_word t)) (KEY EXPORT ∷ NAME n ∷ TEXT t ∷ [])
   -- 'quit'
   quit : SpellsCommand Tree.Quit (KEY QUIT ∷ [])
   -- 'nearest' NUMBER NUMBER NAME NAME
   nearest : {s k o c : List ℕ} →
-      SpellsCommand (Tree.Nearest (whole_at Span s) (whole_at Nearest k) (word_of o) (word_of c))
+      SpellsCommand (Tree.Nearest (whole_at Span s) (whole_at Nearest k) (short_word o) (short_word c))
       (NAME (codes "nearest") ∷ NUMBER s ∷ NUMBER k ∷ NAME o ∷ NAME c ∷ [])
   -- 'must' NUMBER NUMBER query
   must : {e k : List ℕ} {q : QueryTree} {xs : List Piece} →
@@ -204,8 +204,8 @@ pub data SpellsCommand : CommandTree → List Piece → Type 0 where
       SpellsTail q xs → SpellsCommand (Tree.May (radius_at e) (whole_at Span k) q) (NAME (codes "may") ∷ NUMBER e ∷ NUMBER k ∷ xs)
   -- 'index' NAME NAME num
   index : {c a : List ℕ} {w : ℤ} {xs : List Piece} →
-      SpellsNum Width w xs → SpellsCommand (Tree.Index (word_of c) (word_of a) w) (NAME (codes "index") ∷ NAME c ∷ NAME a ∷ xs)
+      SpellsNum Width w xs → SpellsCommand (Tree.Index (short_word c) (short_word a) w) (NAME (codes "index") ∷ NAME c ∷ NAME a ∷ xs)
   -- 'range' NUMBER NAME NAME num num
   range : {k c a : List ℕ} {l g : ℤ} {xs ys : List Piece} →
       SpellsNum Value l xs → SpellsNum Value g ys →
-      SpellsCommand (Tree.Range (whole_at Span k) (word_of c) (word_of a) l g) (NAME (codes "range") ∷ NUMBER k ∷ NAME c ∷ NAME a ∷ (xs ++ ys))
+      SpellsCommand (Tree.Range (whole_at Span k) (short_word c) (short_word a) l g) (NAME (codes "range") ∷ NUMBER k ∷ NAME c ∷ NAME a ∷ (xs ++ ys))

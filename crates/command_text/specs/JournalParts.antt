@@ -1,4 +1,4 @@
--- How a journal is kept: the canonical lines one behind another, each with a line feed, and where each of them stands.
+-- How a journal is kept: the canonical lines one after another, each with a line feed, and where each of them stands.
 use Rattle.std.specs.Prelude.{◌≡◌, ℕ, ◌+◌, ◌≤◌, List, [], ◌∷◌, length, take, drop}
 use Rattle.command_text.specs.declared.journal.TheConstants.{MOST_ENTRIES, MOST_BYTES}
 use Rattle.command_text.specs.declared.journal.Kept.{Kept}

@@ -7,7 +7,7 @@ use Rattle.motion.specs.declared.cell.Given.{Given}
 use Rattle.motion.specs.declared.cell.NamedSet.{NamedSet}
 use Rattle.motion.specs.declared.cell.Place.{Place}
 use Rattle.command_text.specs.Piece.{Piece, in_query, has_long}
-use Rattle.command_text.specs.Ranges.{SignedPlace, Span, Ticks, Capacity, Nearest, whole_in, radius_in, signed_in}
+use Rattle.command_text.specs.Ranges.{SignedPlace, Span, Steps, Capacity, Nearest, whole_in, radius_in, signed_in}
 use Rattle.command_text.specs.Sizes.{is_short, are_few_legs, are_few_attributes, are_few_vertices}
 use Rattle.command_text.specs.Query.{is_query_fit, is_query_small}
 use Rattle.command_text.specs.Tree.{CommandTree}
@@ -28,14 +28,14 @@ points_fit (one_point d e) fit = points_fit e (pair_fit d fit)
 
 abbrev pub rate_legs_fit : {ls : List (ℤ × ℕ)} {xs : List Piece} → SpellsRateLegs ls xs → Bool → Bool
 rate_legs_fit no_rate_legs fit = fit
-rate_legs_fit (one_rate_leg n d e) fit = rate_legs_fit e (num_fit d fit && is_some (whole_in Ticks n))
+rate_legs_fit (one_rate_leg n d e) fit = rate_legs_fit e (num_fit d fit && is_some (whole_in Steps n))
 
 abbrev pub rates_fit : {f : Function} {xs : List Piece} → SpellsRates f xs → Bool → Bool
 rates_fit (rates d e) fit = num_fit e (rate_legs_fit d fit)
 
 abbrev pub move_legs_fit : {ls : List ((ℤ × ℤ) × ℕ)} {xs : List Piece} → SpellsMoveLegs ls xs → Bool → Bool
 move_legs_fit no_move_legs fit = fit
-move_legs_fit (one_move_leg n d e) fit = move_legs_fit e (pair_fit d fit && is_some (whole_in Ticks n))
+move_legs_fit (one_move_leg n d e) fit = move_legs_fit e (pair_fit d fit && is_some (whole_in Steps n))
 
 abbrev pub moves_fit : {m : Function × Function} {xs : List Piece} → SpellsMoves m xs → Bool → Bool
 moves_fit (moves d e) fit = pair_fit e (move_legs_fit d fit)
@@ -69,7 +69,7 @@ numbers_fit (region d) = points_fit d true
 numbers_fit (insert d) = change_fit d true
 numbers_fit (update d) = change_fit d true
 numbers_fit remove = true
-numbers_fit (tick {k = k}) = is_some (whole_in Ticks k)
+numbers_fit (tick {k = k}) = is_some (whole_in Steps k)
 numbers_fit (ask {k = k} {xs = xs} d) = is_some (whole_in Span k) && is_query_fit (map in_query xs)
 numbers_fit (watch {k = k} {xs = xs} d) = is_some (whole_in Span k) && is_query_fit (map in_query xs)
 numbers_fit (keep {k = k} {xs = xs} d) = is_some (whole_in Span k) && is_query_fit (map in_query xs)

@@ -5,7 +5,7 @@ use Rattle.ftl_lexer.specs.declared.kinds.Kind.{Kind}
 use Rattle.ftl_lexer.specs.declared.kinds.Kind.TheVariants as kinds
 use Rattle.ftl_lexer.specs.Tokens.{lexemes}
 use Rattle.ftl_parser.specs.Piece as query
-use Rattle.ftl_parser.specs.Words.{is_short, word_of}
+use Rattle.ftl_parser.specs.Words.{is_short, short_word}
 
 pub data Piece : Type 0 where
   KEY : ℕ → Piece
@@ -28,11 +28,11 @@ pieces line = map (λ t. piece_of t.0 t.1) (lexemes line)
 
 -- a token as the grammar of queries has it, in which a name or text that is too long is the empty one
 abbrev pub in_query : Piece → query.Piece
-in_query (KEY code) = unwrap_or (slice_get query.words code) query.OTHER
+in_query (KEY code) = unwrap_or (slice_get query.reserved code) query.OTHER
 in_query (SIGN code) = unwrap_or (slice_get query.signs code) query.OTHER
-in_query (NAME bytes) = query.NAME (word_of bytes)
+in_query (NAME bytes) = query.NAME (short_word bytes)
 in_query (NUMBER bytes) = query.NUMBER bytes
-in_query (TEXT bytes) = query.TEXT (word_of bytes)
+in_query (TEXT bytes) = query.TEXT (short_word bytes)
 
 -- a name or a text that has more bytes than a word
 abbrev pub is_long : Piece → Bool

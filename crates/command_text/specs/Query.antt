@@ -5,7 +5,7 @@ use Rattle.ftl_parser.specs.declared.fault.ParseFault.TheVariants as parse_fault
 use Rattle.ftl_parser.specs.Tree.{QueryTree}
 use Rattle.ftl_parser.specs.Piece.{Piece}
 use Rattle.ftl_parser.specs.Machine.{start, parsed}
-use Rattle.ftl_parser.specs.Fits.{numbers_fit}
+use Rattle.ftl_parser.specs.Fits.{number_tokens_fit}
 use Rattle.ftl_parser.specs.Sizes.{first_too_large}
 use Rattle.command_text.specs.declared.fault.CommandFault.{CommandFault}
 use Rattle.command_text.specs.declared.fault.CommandFault.TheVariants as faults
@@ -17,15 +17,15 @@ query_of tokens = parsed start tokens
 
 -- each number of the query is in the form and range of its place
 unfoldable pub is_query_fit : List Piece → Bool
-is_query_fit tokens = numbers_fit tokens
+is_query_fit tokens = number_tokens_fit tokens
 
 -- no size of the query passes its limit, where what is said of the lengths of its names and texts is given
 unfoldable pub is_query_small : Bool → QueryTree → Bool
 is_query_small long q = is_none (first_too_large long q)
 
 -- what the parser's fault means for a command, the numbers of which before the query are in their ranges or not
-abbrev pub told : ParseFault → Bool → CommandFault
-told (parse_faults.BadSyntax place) fit = faults.Refused refusals.BadSyntax
-told (parse_faults.NumberRange place) fit = faults.Refused refusals.NumberRange
-told (parse_faults.TooLarge size) fit = faults.Refused (if fit then refusals.TooLarge else refusals.NumberRange)
-told parse_faults.NoMemory fit = faults.NoMemory
+abbrev pub fault_by_parser : ParseFault → Bool → CommandFault
+fault_by_parser (parse_faults.BadSyntax place) fit = faults.Refused refusals.BadSyntax
+fault_by_parser (parse_faults.NumberRange place) fit = faults.Refused refusals.NumberRange
+fault_by_parser (parse_faults.TooLarge size) fit = faults.Refused (if fit then refusals.TooLarge else refusals.NumberRange)
+fault_by_parser parse_faults.NoMemory fit = faults.NoMemory

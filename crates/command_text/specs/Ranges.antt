@@ -13,7 +13,7 @@ pub data WholePlace : Type 0 where
   -- the ticks of a command with a query, and of `nearest` and `range`
   Span : WholePlace
   -- the ticks of `tick`, and the length of a leg
-  Ticks : WholePlace
+  Steps : WholePlace
   -- the most names of a class
   Capacity : WholePlace
   -- how many objects `nearest` looks for
@@ -21,7 +21,7 @@ pub data WholePlace : Type 0 where
 
 abbrev pub whole_in : WholePlace → List ℕ → Option ℕ
 whole_in Span = whole_of 0 LAST_TICK
-whole_in Ticks = whole_of 1 LAST_TICK
+whole_in Steps = whole_of 1 LAST_TICK
 whole_in Capacity = whole_of 1 CAPACITY_LIMIT
 whole_in Nearest = whole_of 1 NEAREST_LIMIT
 
@@ -38,11 +38,11 @@ pub data SignedPlace : Type 0 where
   -- the width of a strip of `index`: at least 0.001
   Width : SignedPlace
 
-abbrev pub signed : Bool → Option ℤ → Option ℤ
-signed minus size = if minus then option_map neg_ℤ size else size
+abbrev pub negated : Bool → Option ℤ → Option ℤ
+negated minus size = if minus then option_map neg_ℤ size else size
 
 abbrev pub signed_in : SignedPlace → Bool → List ℕ → Option ℤ
-signed_in Value minus text = signed minus (thousandths_of READ_LIMIT text)
-signed_in Rate minus text = signed minus (thousandths_of SLOPE_LIMIT text)
+signed_in Value minus text = negated minus (thousandths_of READ_LIMIT text)
+signed_in Rate minus text = negated minus (thousandths_of SLOPE_LIMIT text)
 signed_in Width minus text =
-    option_and_then (λ n. if int_le (pos 1) n then Some n else None) (signed minus (thousandths_of READ_LIMIT text))
+    option_and_then (λ n. if int_le (pos 1) n then Some n else None) (negated minus (thousandths_of READ_LIMIT text))

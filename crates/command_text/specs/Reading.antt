@@ -1,7 +1,7 @@
--- Reading a command from its tokens: each part takes its tokens from the front, and answers with those behind it. A part is read by its tokens' kinds alone; whether its numbers are in range and its sizes within their limits is noted on the way.
+-- Reading a command from its tokens: each part takes its tokens from the front, and answers with those after it. A part is read by its tokens' kinds alone; whether its numbers are in range and its sizes within their limits is noted on the way.
 use Rattle.std.specs.Prelude.{ℕ, zero, suc, ℤ, Bool, true, false, ◌==◌, ◌&&◌, nat_le, is_some, is_none, Option, None, Some, option_map, List, [], ◌∷◌, ◌++◌, length, map, if◌then◌else◌}
 use Rattle.std.specs.Option.{option_map_or}
-use Rattle.fixed_point.specs.Decimal.{◌>>=◌}
+use Rattle.exact.specs.Options.{◌>>=◌}
 use Rattle.case_table.specs.declared.key.TheConstants.{POINT as POINT_WORD, NUM, TEXT as TEXT_WORD, DYN, AT, MOVE, RATE}
 use Rattle.case_table.specs.declared.symbol.TheConstants.{OPEN_ROUND, CLOSE_ROUND, OPEN_SQUARE, CLOSE_SQUARE, COMMA, MINUS, EQUAL}
 use Rattle.fixed_point.specs.declared.number.Point.{Point}
@@ -15,8 +15,8 @@ use Rattle.motion.specs.declared.cell.NamedSet.{NamedSet}
 use Rattle.motion.specs.declared.cell.Place.{Place}
 use Rattle.ftl_parser.specs.Tree.{QueryTree}
 use Rattle.command_text.specs.Piece.{Piece, KEY, SIGN, NAME, NUMBER, TEXT, is_key, is_sign, is_name, is_text, in_query, has_long}
-use Rattle.command_text.specs.Ranges.{WholePlace, Span, Ticks, Capacity, Nearest, whole_in, radius_in, SignedPlace, Value, Rate, Width, signed_in}
-use Rattle.command_text.specs.Sizes.{is_short, word_of, are_few_legs, function_of, are_few_attributes, are_few_vertices}
+use Rattle.command_text.specs.Ranges.{WholePlace, Span, Steps, Capacity, Nearest, whole_in, radius_in, SignedPlace, Value, Rate, Width, signed_in}
+use Rattle.command_text.specs.Sizes.{is_short, short_word, are_few_legs, function_of, are_few_attributes, are_few_vertices}
 use Rattle.command_text.specs.Grammar.{whole_at, radius_at, signed_at, point_of, set_of, place_of, legs_of_x, legs_of_y}
 use Rattle.command_text.specs.Query.{query_of, is_query_fit, is_query_small}
 use Rattle.command_text.specs.declared.form.Form.{Form}
@@ -31,7 +31,7 @@ pub record Reader : Type 0 where
   pub fit : Bool
   pub small : Bool
 
--- a part that was read, and where the reader stands behind it
+-- a part that was read, and where the reader stands after it
 abbrev pub Read : Type 0 → Type 0
 Read A = Option (A × Reader)
 
@@ -53,7 +53,7 @@ next s = option_map (λ t. (t.0, record { rest = t.1; fit = s.fit; small = s.sma
 unfoldable pub begins : (Piece → Bool) → Reader → Bool
 begins test s = option_map_or (λ t. test t.0) (front s.rest) false
 
--- behind the reserved word of this code, or the symbol
+-- after the reserved word of this code, or the symbol
 unfoldable pub key : ℕ → Reader → Option Reader
 key code s = do
   t ← next s
@@ -89,13 +89,13 @@ unfoldable pub name : Reader → Read (List ℕ)
 name s = do
   t ← next s
   word ← name_in t.0
-  Some (word_of word, noting_small (is_short word) t.1)
+  Some (short_word word, noting_small (is_short word) t.1)
 
 unfoldable pub text : Reader → Read (List ℕ)
 text s = do
   t ← next s
   word ← text_in t.0
-  Some (word_of word, noting_small (is_short word) t.1)
+  Some (short_word word, noting_small (is_short word) t.1)
 
 -- the bytes of a number
 unfoldable pub number : Reader → Read (List ℕ)
@@ -114,7 +114,7 @@ radius s = do
   n ← number s
   Some (radius_at n.0, noting_fit (is_some (radius_in n.0)) n.1)
 
--- whether a `-` stands at the front, and the place behind it or else the same place
+-- whether a `-` stands at the front, and the place after it or else the same place
 unfoldable pub minus : Reader → Bool × Reader
 minus s = option_map_or (λ behind. (true, behind)) (sign MINUS s) (false, s)
 
@@ -181,13 +181,13 @@ attr s = do
   kind ← kind_in t.0
   Some ((n.0, kind), t.1)
 
--- an attribute behind a comma
+-- an attribute after a comma
 unfoldable pub next_attr : Reader → Read (List ℕ × AttrKind)
 next_attr s = do
   s ← sign COMMA s
   attr s
 
--- the first attribute, behind its bracket
+-- the first attribute, after its bracket
 unfoldable pub first_attr : Reader → Read (List ℕ × AttrKind)
 first_attr s = do
   s ← sign OPEN_ROUND s
@@ -215,7 +215,7 @@ rate_leg s = do
   s ← sign OPEN_SQUARE s
   a ← num Rate s
   s ← sign COMMA a.1
-  n ← whole Ticks s
+  n ← whole Steps s
   s ← sign CLOSE_SQUARE n.1
   Some ((a.0, n.0), s)
 
@@ -231,7 +231,7 @@ move_leg s = do
   s ← sign OPEN_SQUARE s
   p ← pair Rate s
   s ← sign COMMA p.1
-  n ← whole Ticks s
+  n ← whole Steps s
   s ← sign CLOSE_SQUARE n.1
   Some ((p.0, n.0), s)
 
@@ -241,13 +241,13 @@ moves s = do
   last ← pair Rate legs.1
   Some ((function_of (legs_of_x legs.0) last.0.0, function_of (legs_of_y legs.0) last.0.1), noting_small (are_few_legs (length legs.0)) last.1)
 
--- the legs behind `rate`
+-- the legs after `rate`
 unfoldable pub rate : Reader → Read Function
 rate s = do
   s ← key RATE s
   rates s
 
--- what a setting gives, behind its `=`: a value, and legs where `rate` follows
+-- what a setting gives, after its `=`: a value, and legs where `rate` follows
 unfoldable pub given_both : ℤ → Reader → Read Given
 given_both v s = do
   f ← rate s
@@ -293,7 +293,7 @@ at s =
       Some (Some p.0, p.1))
     else Some (None, s)
 
--- the legs behind `move`
+-- the legs after `move`
 unfoldable pub some_moves : Reader → Read (Option (Function × Function))
 some_moves s = do
   s ← key MOVE s
@@ -315,8 +315,8 @@ query s =
     let tokens = map in_query s.rest in
     option_map (λ q. (q, record { rest = []; fit = s.fit && is_query_fit tokens; small = s.small && is_query_small (has_long s.rest) q })) (query_of tokens)
 
--- the commands, each behind its first word
--- whether `point` stands at the front, and the place behind it or else the same place
+-- the commands, each after its first word
+-- whether `point` stands at the front, and the place after it or else the same place
 unfoldable pub point_word : Reader → Bool × Reader
 point_word s = option_map_or (λ behind. (true, behind)) (key POINT_WORD s) (false, s)
 
@@ -367,7 +367,7 @@ remove s = do
 
 unfoldable pub tick : Reader → Read CommandTree
 tick s = do
-  k ← whole Ticks s
+  k ← whole Steps s
   Some (Tree.Tick k.0, k.1)
 
 unfoldable pub ask : Reader → Read CommandTree
@@ -465,7 +465,7 @@ range s = do
   g ← num Value l.1
   Some (Tree.Range k.0 c.0 a.0 l.0 g.0, g.1)
 
--- a command of this form, behind its first word
+-- a command of this form, after its first word
 abbrev pub by_form : Form → Reader → Read CommandTree
 by_form forms.Class s = class s
 by_form forms.Region s = region s
@@ -497,8 +497,8 @@ first_form s = do
   Some (form, t.1)
 
 -- the command that the first token begins
-unfoldable pub begun : Reader → Read CommandTree
-begun s = do
+unfoldable pub command_begun : Reader → Read CommandTree
+command_begun s = do
   f ← first_form s
   by_form f.0 f.1
 
@@ -508,7 +508,7 @@ ended (c, s) = if is_none (front s.rest) then Some (c, s) else None
 
 unfoldable pub command : Reader → Read CommandTree
 command s = do
-  c ← begun s
+  c ← command_begun s
   ended c
 
 abbrev pub at_first : List Piece → Reader

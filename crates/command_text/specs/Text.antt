@@ -53,20 +53,20 @@ kind_text attr_kinds.Dyn = codes "dyn"
 abbrev pub attr_text : List ℕ × AttrKind → List ℕ
 attr_text a = a.0 ++ (codes " " ++ kind_text a.1)
 
--- an attribute behind a comma
+-- an attribute after a comma
 abbrev pub next_attr_text : List ℕ × AttrKind → List ℕ
 next_attr_text a = codes "," ++ attr_text a
 
--- (fuel num,plate text) behind a space
+-- (fuel num,plate text) after a space
 abbrev pub attrs_text : List (List ℕ × AttrKind) → List ℕ
 attrs_text [] = []
 attrs_text (a ∷ more) = codes " (" ++ (attr_text a ++ (flat_map next_attr_text more ++ codes ")"))
 
--- a point behind a space
+-- a point after a space
 abbrev pub point_text : Point → List ℕ
 point_text p = codes " " ++ pair_text p.x p.y
 
--- points, each behind a space
+-- points, each after a space
 abbrev pub points_text : List Point → List ℕ
 points_text = flat_map point_text
 
@@ -77,7 +77,7 @@ given_text (givens.Text t) = codes "= " ++ quoted t
 given_text (givens.Rate f) = codes "rate " ++ rates_text f
 given_text (givens.Both v f) = codes "= " ++ (fix_text v ++ (codes " rate " ++ rates_text f))
 
--- a setting behind a space
+-- a setting after a space
 abbrev pub setting_text : NamedSet → List ℕ
 setting_text set = codes " " ++ (set.name ++ (codes " " ++ given_text set.given))
 
@@ -92,7 +92,7 @@ abbrev pub moving_text : Option (Function × Function) → List ℕ
 moving_text None = []
 moving_text (Some m) = codes " move " ++ moves_text m.0 m.1
 
--- what a command changes of an object, behind a space
+-- what a command changes of an object, after a space
 abbrev pub change_text : Place → List NamedSet → List ℕ
 change_text place sets = at_text place.at ++ (moving_text place.moving ++ settings_text sets)
 

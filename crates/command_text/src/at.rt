@@ -41,7 +41,7 @@ pub(crate) fn noting_small(at: At, small: bool) -> At
     }
 }
 
-/// The token that comes next, and the place behind it.
+/// The token that comes next, and the place after it.
 #[tactic(auto, using(crate::proofs::StandingLemmas::next_token))]
 pub(crate) fn next<'a>(tokens: &'a Tokens, at: At) -> Option<(Kind, &'a [u8], At)>
     ensures value { option_map (λ t. (piece_of t.0 t.1.now, standing tokens.now t.2)) result ≡ next (standing tokens.now at) }
@@ -103,7 +103,7 @@ pub(crate) fn begins_text(tokens: &Tokens, at: At) -> bool
     }
 }
 
-/// The place behind the reserved word of this code.
+/// The place after the reserved word of this code.
 #[tactic(auto, unfolding(crate::specs::Reading::key))]
 pub(crate) fn key(tokens: &Tokens, at: At, code: u8) -> Option<At>
     ensures { option_map (standing tokens.now) result ≡ key code (standing tokens.now at) }
@@ -116,7 +116,7 @@ pub(crate) fn key(tokens: &Tokens, at: At, code: u8) -> Option<At>
     }
 }
 
-/// The place behind the symbol of this code.
+/// The place after the symbol of this code.
 #[tactic(auto, unfolding(crate::specs::Reading::sign))]
 pub(crate) fn sign(tokens: &Tokens, at: At, code: u8) -> Option<At>
     ensures { option_map (standing tokens.now) result ≡ sign code (standing tokens.now at) }

@@ -9,7 +9,7 @@ use thiserror::Error;
 /// Why a line isn't read.
 #[derive(Debug, Drop, Error)]
 pub enum CommandFault {
-    /// The line is refused by one of the first six refusals.
+    /// The line is refused. What reads it answers one of the first six.
     #[error("the line is refused: {0:?}")]
     Refused(Refusal),
     /// There is no memory for the command.

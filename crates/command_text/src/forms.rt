@@ -1,9 +1,9 @@
-//! The commands, each by the tokens behind its first word.
+//! The commands, each by the tokens after its first word.
 ghost use Rattle.std.specs.Prelude.{◌≡◌, Some, option_map, MatchResult};
 ghost use Rattle.command_text.specs.Tree.{command_view};
 ghost use Rattle.command_text.specs.Reading.{remove, tick, show, drop, save, import, export, nearest, index, range, class_head, insert_head, watch_head, must_head, class, region, insert, update, ask, watch, keep, must, may};
 ghost use Rattle.command_text.specs.Standing.{standing};
-ghost use Rattle.command_text.specs.Line.{Refuses};
+ghost use Rattle.command_text.specs.LineParts.{Refuses};
 
 use crate::Command;
 use crate::at::{At, begins_key, key};

@@ -3,9 +3,9 @@ ghost use Rattle.std.specs.Prelude.{◌≡◌, Some, None, option_map, MatchResu
 ghost use Rattle.command_text.specs.declared.refusal.Refusal.TheVariants as refusals;
 ghost use Rattle.command_text.specs.Tree.{command_view};
 ghost use Rattle.command_text.specs.Piece.{pieces};
-ghost use Rattle.command_text.specs.Reading.{by_form, first_form, begun, command, command_of};
+ghost use Rattle.command_text.specs.Reading.{by_form, first_form, command_begun, command, command_of};
 ghost use Rattle.command_text.specs.Standing.{standing};
-ghost use Rattle.command_text.specs.Line.{IsWhole, Judges, Refuses};
+ghost use Rattle.command_text.specs.LineParts.{IsWhole, Judges, Refuses};
 
 use crate::at::{At, next};
 use crate::fault::{CommandFault, bad_syntax};
@@ -25,7 +25,7 @@ fn part(found: Option<(Command, At)>) -> Result<(Command, At), CommandFault>
     }
 }
 
-/// A command of this form, by the tokens behind its first word.
+/// A command of this form, by the tokens after its first word.
 #[tactic(auto, using(crate::proofs::Refused::part_gives))]
 fn by_form(
     alloc: Global,
@@ -61,7 +61,7 @@ fn by_form(
     }
 }
 
-/// The form of the first token, and the place behind it.
+/// The form of the first token, and the place after it.
 #[tactic(auto, unfolding(crate::specs::Reading::first_form))]
 fn first_form(tokens: &Tokens, at: At) -> Option<(Form, At)>
     ensures { option_map (λ r. (r.0, standing tokens.now r.1)) result ≡ first_form (standing tokens.now at) }
@@ -72,10 +72,10 @@ fn first_form(tokens: &Tokens, at: At) -> Option<(Form, At)>
 }
 
 /// The command that the first token begins.
-#[tactic(auto, using(crate::proofs::Refused::refused_steps), unfolding(crate::specs::Reading::begun))]
-fn begun(alloc: Global, tokens: &Tokens, at: At) -> Result<(Command, At), CommandFault>
-    ensures { MatchResult result (λ r. begun (standing tokens.now at) ≡ Some (command_view r.0, standing tokens.now r.1))
-        (Refuses (begun (standing tokens.now at))) }
+#[tactic(auto, using(crate::proofs::Refused::refused_steps), unfolding(crate::specs::Reading::command_begun))]
+fn command_begun(alloc: Global, tokens: &Tokens, at: At) -> Result<(Command, At), CommandFault>
+    ensures { MatchResult result (λ r. command_begun (standing tokens.now at) ≡ Some (command_view r.0, standing tokens.now r.1))
+        (Refuses (command_begun (standing tokens.now at))) }
 {
     let Some((form, at)) = first_form(tokens, at) else {
         return Err(bad_syntax());
@@ -105,7 +105,7 @@ fn refusal_at(tokens: &Tokens, at: At) -> Option<Refusal>
 fn whole_command(alloc: Global, tokens: &Tokens, at: At) -> Result<Command, CommandFault>
     ensures { MatchResult result (λ c. IsWhole (command (standing tokens.now at)) (command_view c)) (Refuses (command (standing tokens.now at))) }
 {
-    let (command, at) = begun(alloc, tokens, at)?;
+    let (command, at) = command_begun(alloc, tokens, at)?;
     match refusal_at(tokens, at) {
         None => Ok(command),
         Some(refusal) => {

@@ -1,7 +1,7 @@
 //! Names, texts and numbers.
 ghost use Rattle.std.specs.Prelude.{◌≡◌, ◌&&◌, pos, option_map};
-ghost use Rattle.command_text.specs.Ranges.{Span, Ticks, Capacity, Nearest, radius_in, Value, Rate, Width, signed, signed_in};
-ghost use Rattle.command_text.specs.Sizes.{is_short, word_of};
+ghost use Rattle.command_text.specs.Ranges.{Span, Steps, Capacity, Nearest, Value, Rate, Width, negated, signed_in};
+ghost use Rattle.command_text.specs.Sizes.{is_short, short_word};
 ghost use Rattle.command_text.specs.Reading.{name, text, number, whole, radius, minus, signed_number, num};
 ghost use Rattle.command_text.specs.Standing.{standing};
 
@@ -10,13 +10,13 @@ use crate::ranges::NEAREST_LIMIT;
 use case_table::symbol;
 use fixed_point::{Fix, Slope, Word};
 use ftl_lexer::{Kind, Tokens, unquoted};
-use ftl_parser::{is_short, whole, word};
+use ftl_parser::{is_short, read_radius, whole, word, zero};
 use motion::CAPACITY_LIMIT;
 use tick_set::LAST_TICK;
 
-/// A word that was read, and the place behind it.
+/// A word that was read, and the place after it.
 fn noted(bytes: &[u8], at: At) -> (Word, At)
-    ensures word { result.0 ≡ word_of bytes.now }
+    ensures word { result.0 ≡ short_word bytes.now }
     ensures at { result.1 ≡ record { place = at.place; fit = at.fit; small = at.small && is_short bytes.now } }
 {
     (word(bytes), noting_small(at, is_short(bytes)))
@@ -70,7 +70,7 @@ pub(crate) fn span(tokens: &Tokens, at: At) -> Option<(u32, At)>
 /// A number of ticks, at least 1.
 #[tactic(auto, unfolding(crate::specs::Reading::whole))]
 pub(crate) fn ticks(tokens: &Tokens, at: At) -> Option<(u32, At)>
-    ensures { option_map (λ r. (r.0, standing tokens.now r.1)) result ≡ whole Ticks (standing tokens.now at) }
+    ensures { option_map (λ r. (r.0, standing tokens.now r.1)) result ≡ whole Steps (standing tokens.now at) }
 {
     let (digits, behind) = number(tokens, at)?;
     let found = whole(digits, 1, LAST_TICK);
@@ -98,37 +98,23 @@ pub(crate) fn most_near(tokens: &Tokens, at: At) -> Option<(u32, At)>
 }
 
 #[inline]
-fn zero() -> Fix
-    ensures { result ≡ pos 0 }
-{
-    Fix::of(0).unwrap()
-}
-
-#[inline]
 fn level() -> Slope
     ensures { result ≡ pos 0 }
 {
     Slope::of(0).unwrap()
 }
 
-/// The error of `must` and `may`, if it is in its range.
-fn radius_of(digits: &[u8]) -> Option<Fix>
-    ensures { result ≡ radius_in digits.now }
-{
-    let radius = Slope::read(digits)?;
-    Fix::of(radius.raw())
-}
-
+/// The error of `must` and `may`.
 #[tactic(auto, unfolding(crate::specs::Reading::radius))]
 pub(crate) fn radius(tokens: &Tokens, at: At) -> Option<(Fix, At)>
     ensures { option_map (λ r. (r.0, standing tokens.now r.1)) result ≡ radius (standing tokens.now at) }
 {
     let (digits, behind) = number(tokens, at)?;
-    let found = radius_of(digits);
+    let found = read_radius(digits);
     Some((found.unwrap_or(zero()), noting_fit(behind, found.is_some())))
 }
 
-/// Whether a `-` comes next, and the place behind it or else the same place.
+/// Whether a `-` comes next, and the place after it or else the same place.
 #[tactic(auto, unfolding(crate::specs::Reading::minus))]
 fn minus(tokens: &Tokens, at: At) -> (bool, At)
     ensures { minus (standing tokens.now at) ≡ (result.0, standing tokens.now result.1) }
@@ -150,8 +136,8 @@ fn signed_number<'a>(tokens: &'a Tokens, at: At) -> Option<(bool, &'a [u8], At)>
 }
 
 #[inline]
-fn signed(minus: bool, size: Option<Fix>) -> Option<Fix>
-    ensures { result ≡ signed minus size }
+fn negated(minus: bool, size: Option<Fix>) -> Option<Fix>
+    ensures { result ≡ negated minus size }
 {
     match size {
         Some(size) if minus => Fix::of(-size.raw()),
@@ -161,7 +147,7 @@ fn signed(minus: bool, size: Option<Fix>) -> Option<Fix>
 
 #[inline]
 fn signed_slope(minus: bool, size: Option<Slope>) -> Option<Slope>
-    ensures { result ≡ signed minus size }
+    ensures { result ≡ negated minus size }
 {
     match size {
         Some(size) if minus => Slope::of(-size.raw()),
@@ -175,7 +161,7 @@ pub(crate) fn value(tokens: &Tokens, at: At) -> Option<(Fix, At)>
     ensures { option_map (λ r. (r.0, standing tokens.now r.1)) result ≡ num Value (standing tokens.now at) }
 {
     let (minus, digits, behind) = signed_number(tokens, at)?;
-    let found = signed(minus, Fix::read(digits));
+    let found = negated(minus, Fix::read(digits));
     Some((found.unwrap_or(zero()), noting_fit(behind, found.is_some())))
 }
 
@@ -194,7 +180,7 @@ pub(crate) fn slope(tokens: &Tokens, at: At) -> Option<(Slope, At)>
 fn width_of(minus: bool, digits: &[u8]) -> Option<Fix>
     ensures { result ≡ signed_in Width minus digits.now }
 {
-    match signed(minus, Fix::read(digits)) {
+    match negated(minus, Fix::read(digits)) {
         Some(width) if width.raw() >= 1 => Some(width),
         _ => None,
     }

@@ -53,7 +53,7 @@ fn attr(tokens: &Tokens, at: At) -> Option<((Word, AttrKind), At)>
     Some(((name, kind), at))
 }
 
-/// An attribute behind a comma.
+/// An attribute after a comma.
 #[tactic(auto, unfolding(crate::specs::Reading::next_attr))]
 fn next_attr(tokens: &Tokens, at: At) -> Option<((Word, AttrKind), At)>
     ensures { option_map (λ r. (r.0, standing tokens.now r.1)) result ≡ next_attr (standing tokens.now at) }
@@ -62,7 +62,7 @@ fn next_attr(tokens: &Tokens, at: At) -> Option<((Word, AttrKind), At)>
     attr(tokens, at)
 }
 
-/// The first attribute, behind its bracket.
+/// The first attribute, after its bracket.
 #[tactic(auto, unfolding(crate::specs::Reading::first_attr))]
 fn first_attr(tokens: &Tokens, at: At) -> Option<((Word, AttrKind), At)>
     ensures { option_map (λ r. (r.0, standing tokens.now r.1)) result ≡ first_attr (standing tokens.now at) }
@@ -71,7 +71,7 @@ fn first_attr(tokens: &Tokens, at: At) -> Option<((Word, AttrKind), At)>
     attr(tokens, at)
 }
 
-/// The attributes behind the first one, added to it.
+/// The attributes after the first one, added to it.
 #[tactic(auto, using(crate::proofs::ManyLemmas::loop_steps, crate::proofs::Derived::next_attr_shortens))]
 fn more_attrs(tokens: &Tokens, start: At, attrs: &mut Attributes) -> Result<At, CommandFault>
     ensures { MatchResult result (λ at. with_front attrs.old (all (begins (is_sign COMMA)) next_attr (standing tokens.now start)) ≡ Some (attrs.new, standing tokens.now at))
@@ -82,7 +82,7 @@ fn more_attrs(tokens: &Tokens, start: At, attrs: &mut Attributes) -> Result<At, 
         let Some(((name, kind), behind)) = next_attr(tokens, at) else {
             return Err(bad_syntax());
         };
-        attrs.push(name, kind)?;
+        attrs.push((name, kind))?;
         at = behind;
     }
     Ok(at)
@@ -97,7 +97,7 @@ fn some_attrs(alloc: Global, tokens: &Tokens, at: At) -> Result<(Attributes, At)
         return Err(bad_syntax());
     };
     let mut attrs = Attributes::new(alloc);
-    attrs.push(name, kind)?;
+    attrs.push((name, kind))?;
     let at = more_attrs(tokens, at, &mut attrs)?;
     let Some(at) = sign(tokens, at, symbol::CLOSE_ROUND) else {
         return Err(bad_syntax());

@@ -12,8 +12,7 @@ ghost use Rattle.fixed_point.specs.Canonical.{fix_text};
 use crate::Command;
 use crate::lists::{Attributes, Points, Settings};
 use fixed_point::{Fix, Point, Slope, Word};
-use ftl_parser::{Query, print_onto};
-use itoa::Buffer;
+use ftl_parser::{Query, print_onto, push_number};
 use motion::{AttrKind, Given, Legs, NamedSet, Place};
 use std::alloc::{AllocError, Global};
 
@@ -40,12 +39,6 @@ fn put_slope(out: &mut Vec<u8>, slope: Slope) -> Result<(), AllocError>
     ensures { OnOk result (out.new.items ≡ out.old.items ++ fix_text slope) }
 {
     put_number(out, Fix::of(slope.raw()).unwrap())
-}
-
-fn put_whole(out: &mut Vec<u8>, number: u32) -> Result<(), AllocError>
-    ensures { OnOk result (out.new.items ≡ out.old.items ++ decimal number) }
-{
-    put(out, Buffer::new().format(number).as_bytes())
 }
 
 /// A text between its quotes.
@@ -84,7 +77,7 @@ fn put_rate_leg(out: &mut Vec<u8>, slope: Slope, length: u32) -> Result<(), Allo
     put(out, b"[")?;
     put_slope(out, slope)?;
     put(out, b",")?;
-    put_whole(out, length)?;
+    push_number(out, length)?;
     put(out, b"] ")
 }
 
@@ -113,7 +106,7 @@ fn put_move_leg(out: &mut Vec<u8>, x: Slope, y: Slope, length: u32) -> Result<()
     put(out, b"[")?;
     put_slopes(out, x, y)?;
     put(out, b",")?;
-    put_whole(out, length)?;
+    push_number(out, length)?;
     put(out, b"] ")
 }
 
@@ -162,7 +155,7 @@ fn put_attr(out: &mut Vec<u8>, attr: &(Word, AttrKind)) -> Result<(), AllocError
     put(out, kind_word(attr.1))
 }
 
-/// An attribute behind a comma.
+/// An attribute after a comma.
 fn put_next_attr(out: &mut Vec<u8>, attr: &(Word, AttrKind)) -> Result<(), AllocError>
     ensures { OnOk result (out.new.items ≡ out.old.items ++ next_attr_text attr.now) }
 {
@@ -170,7 +163,7 @@ fn put_next_attr(out: &mut Vec<u8>, attr: &(Word, AttrKind)) -> Result<(), Alloc
     put_attr(out, attr)
 }
 
-/// Attributes, each behind a comma.
+/// Attributes, each after a comma.
 fn put_more_attrs(out: &mut Vec<u8>, attrs: &[(Word, AttrKind)]) -> Result<(), AllocError>
     ensures { OnOk result (out.new.items ≡ out.old.items ++ flat_map next_attr_text attrs.now) }
 {
@@ -194,7 +187,7 @@ fn put_attrs(out: &mut Vec<u8>, attrs: &[(Word, AttrKind)]) -> Result<(), AllocE
     put(out, b")")
 }
 
-/// A point behind a space.
+/// A point after a space.
 fn put_point(out: &mut Vec<u8>, point: &Point) -> Result<(), AllocError>
     ensures { OnOk result (out.new.items ≡ out.old.items ++ point_text point.now) }
 {
@@ -202,7 +195,7 @@ fn put_point(out: &mut Vec<u8>, point: &Point) -> Result<(), AllocError>
     put_pair(out, point.x, point.y)
 }
 
-/// Points, each behind a space.
+/// Points, each after a space.
 fn put_points(out: &mut Vec<u8>, points: &[Point]) -> Result<(), AllocError>
     ensures { OnOk result (out.new.items ≡ out.old.items ++ points_text points.now) }
 {
@@ -248,7 +241,7 @@ fn put_setting(out: &mut Vec<u8>, set: &NamedSet) -> Result<(), AllocError>
     put_given(out, &set.given)
 }
 
-/// Settings, each behind a space.
+/// Settings, each after a space.
 fn put_settings(out: &mut Vec<u8>, sets: &[NamedSet]) -> Result<(), AllocError>
     ensures { OnOk result (out.new.items ≡ out.old.items ++ settings_text sets.now) }
 {
@@ -280,7 +273,7 @@ fn put_moving(out: &mut Vec<u8>, moving: &Option<(Legs, Legs)>) -> Result<(), Al
     put_moves(out, &both.0, &both.1)
 }
 
-/// What a command changes of an object, behind a space.
+/// What a command changes of an object, after a space.
 fn put_change(out: &mut Vec<u8>, place: &Place, sets: &Settings) -> Result<(), AllocError>
     ensures { OnOk result (out.new.items ≡ out.old.items ++ change_text place.now sets.now) }
 {
@@ -302,7 +295,7 @@ fn put_head(out: &mut Vec<u8>, word: &[u8], name: &Word) -> Result<(), AllocErro
 fn put_asked(out: &mut Vec<u8>, span: u32, query: &Query) -> Result<(), AllocError>
     ensures { OnOk result (out.new.items ≡ out.old.items ++ (decimal span ++ (codes " " ++ query_text (query_view query.now)))) }
 {
-    put_whole(out, span)?;
+    push_number(out, span)?;
     put(out, b" ")?;
     print_onto(query, out)
 }
@@ -318,7 +311,7 @@ fn put_class(
     ensures { OnOk result (out.new.items ≡ out.old.items ++ text_of (Tree.Class name.now capacity point attrs.now)) }
 {
     put_head(out, b"class ", name)?;
-    put_whole(out, capacity)?;
+    push_number(out, capacity)?;
     put(out, point_word(point))?;
     put_attrs(out, attrs.items())
 }
@@ -380,7 +373,7 @@ fn put_tick(out: &mut Vec<u8>, ticks: u32) -> Result<(), AllocError>
     ensures { OnOk result (out.new.items ≡ out.old.items ++ text_of (Tree.Tick ticks)) }
 {
     put(out, b"tick ")?;
-    put_whole(out, ticks)
+    push_number(out, ticks)
 }
 
 /// A first word with a space, a name, and what is asked.
@@ -448,9 +441,9 @@ fn put_nearest(
     ensures { OnOk result (out.new.items ≡ out.old.items ++ text_of (Tree.Nearest span k object.now class.now)) }
 {
     put(out, b"nearest ")?;
-    put_whole(out, span)?;
+    push_number(out, span)?;
     put(out, b" ")?;
-    put_whole(out, k)?;
+    push_number(out, k)?;
     put_head(out, b" ", object)?;
     put_word(out, class)
 }
@@ -485,7 +478,7 @@ fn put_range(
     ensures { OnOk result (out.new.items ≡ out.old.items ++ text_of (Tree.Range span class.now attr.now least greatest)) }
 {
     put(out, b"range ")?;
-    put_whole(out, span)?;
+    push_number(out, span)?;
     put_head(out, b" ", class)?;
     put_head(out, b"", attr)?;
     put_numbers(out, least, greatest)

@@ -1,10 +1,10 @@
 //! The query at the end of a command.
 ghost use Rattle.std.specs.Prelude.{◌≡◌, [], Some, MatchResult};
 ghost use Rattle.ftl_parser.specs.Tree.{query_view};
-ghost use Rattle.command_text.specs.Line.{Refuses};
+ghost use Rattle.command_text.specs.LineParts.{Refuses};
 ghost use Rattle.command_text.specs.Reading.{query};
 ghost use Rattle.command_text.specs.Standing.{standing};
-ghost use Rattle.command_text.specs.Query.{told};
+ghost use Rattle.command_text.specs.Query.{fault_by_parser};
 
 use crate::at::At;
 use crate::fault::CommandFault;
@@ -15,8 +15,8 @@ use std::alloc::Global;
 
 /// What the parser's fault means for a command, the numbers of which before the query are in their
 /// ranges or not.
-fn told(fault: ParseFault, fit: bool) -> CommandFault
-    ensures { result ≡ told fault fit }
+fn fault_by_parser(fault: ParseFault, fit: bool) -> CommandFault
+    ensures { result ≡ fault_by_parser fault fit }
 {
     match fault {
         ParseFault::BadSyntax(_) => CommandFault::Refused(Refusal::BadSyntax),
@@ -46,6 +46,6 @@ pub(crate) fn query(alloc: Global, tokens: &Tokens, at: At) -> Result<(Query, At
 {
     match parse(alloc, tokens, at.place) {
         Ok(query) => Ok((query, end(tokens, at))),
-        Err(fault) => Err(told(fault, at.fit)),
+        Err(fault) => Err(fault_by_parser(fault, at.fit)),
     }
 }

@@ -2,7 +2,8 @@
 ghost use Rattle.std.specs.Prelude.{◌≡◌, ◌≤◌, None, length, OnOk, IfOk, IfErr};
 ghost use Rattle.std.specs.List.{list_any};
 ghost use Rattle.command_text.specs.Tree.{command_view};
-ghost use Rattle.command_text.specs.Line.{is_comment, is_ascii, has_other_byte, TellsBadPlace, IsReadLate, ExplainsLate, IsRead, Explains};
+ghost use Rattle.command_text.specs.Line.{is_comment, is_ascii, has_other_byte, IsRead, Explains};
+ghost use Rattle.command_text.specs.LineParts.{TellsBadPlace, IsReadLate, ExplainsLate};
 ghost use Rattle.ftl_lexer.specs.Tokens.{bad_place};
 ghost use Rattle.ftl_lexer.specs.declared.buffer.TheConstants.{LEXER_LIMIT};
 

@@ -15,7 +15,7 @@ use ftl_lexer::Tokens;
 use motion::{Given, Legs, NamedSet, Place};
 use std::alloc::Global;
 
-/// The legs behind `rate`.
+/// The legs after `rate`.
 #[tactic(auto, using(crate::proofs::Stopping::stop_steps), unfolding(crate::specs::Reading::rate))]
 fn rate(alloc: Global, tokens: &Tokens, at: At) -> Result<(Legs, At), CommandFault>
     ensures { MatchResult result (λ r. rate (standing tokens.now at) ≡ Some (r.0, standing tokens.now r.1))
@@ -27,7 +27,7 @@ fn rate(alloc: Global, tokens: &Tokens, at: At) -> Result<(Legs, At), CommandFau
     rates(alloc, tokens, at)
 }
 
-/// A value and the legs behind it.
+/// A value and the legs after it.
 #[tactic(auto, using(crate::proofs::Stopping::stop_steps), unfolding(crate::specs::Reading::given_both))]
 fn given_both(
     alloc: Global,
@@ -93,7 +93,7 @@ fn given_equal(alloc: Global, tokens: &Tokens, at: At) -> Result<(Given, At), Co
     }
 }
 
-/// What a setting gives, behind its name.
+/// What a setting gives, after its name.
 #[tactic(auto, using(crate::proofs::Stopping::stop_steps), unfolding(crate::specs::Reading::given))]
 fn given(alloc: Global, tokens: &Tokens, at: At) -> Result<(Given, At), CommandFault>
     ensures { MatchResult result (λ r. given (standing tokens.now at) ≡ Some (r.0, standing tokens.now r.1))
@@ -133,7 +133,7 @@ pub(crate) fn settings(
     'settings: while begins_name(tokens, at) {
         match setting(alloc, tokens, at) {
             Ok((set, behind)) => {
-                sets.push(set.name, set.given)?;
+                sets.push(set)?;
                 at = behind;
             }
             Err(fault) => return Err(fault),

@@ -170,10 +170,8 @@ fn each_size_is_judged_at_its_limit(rt: HostRuntime) -> Result<(), Fail> {
     for (head, item, most, end) in rows {
         let line = repeated(rt.alloc(), head, item, most, end)?;
         assert_eq!(rt; refused(rt.alloc(), &line)?, 0);
-        if most < 100 {
-            let line = repeated(rt.alloc(), head, item, most + 1, end)?;
-            assert_eq!(rt; refused(rt.alloc(), &line)?, 6);
-        }
+        let line = repeated(rt.alloc(), head, item, most + 1, end)?;
+        assert_eq!(rt; refused(rt.alloc(), &line)?, 6);
     }
     Ok(())
 }

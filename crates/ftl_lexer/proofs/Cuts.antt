@@ -8,12 +8,12 @@ use Rattle.std.proofs.lemmas.List.{drop-drop}
 use Rattle.ftl_lexer.specs.declared.kinds.Kind.{Kind}
 use Rattle.ftl_lexer.specs.declared.kinds.Token.{Token}
 use Rattle.ftl_lexer.specs.Forms.{is_blank, token_at}
-use Rattle.ftl_lexer.specs.Tokens.{lexed, before, bad_place, text_of, lexemes}
+use Rattle.ftl_lexer.specs.Tokens.{lexed, before, bad_place, bytes_of_token, lexemes}
 use Rattle.ftl_lexer.specs.Cut.{Lexeme, cut}
 
 -- a token of a line without its place
 abbrev pub bare : List ℕ → Token → Lexeme
-bare line t = (t.kind, text_of line t)
+bare line t = (t.kind, bytes_of_token line t)
 
 cut_before : (line : List ℕ) (token : Token) (rest : Result (List Token) ℕ) → option_map (λ later. bare line token ∷ later) (option_map (map (bare line)) (result_ok rest)) ≡ option_map (map (bare line)) (result_ok (before token rest))
 cut_before line token (Ok tokens) = refl
@@ -23,7 +23,7 @@ cut_token : (line : List ℕ) (place b : ℕ) (bytes : List ℕ) (found : Option
 cut_token line place b bytes None e h behind = refl
 cut_token line place b bytes (Some t) e h behind =
     let token : Token = record { kind = t.0; lo = place; hi = place + t.1 } in
-    let bytes_of : take t.1 (b ∷ bytes) ≡ text_of line token =
+    let bytes_of : take t.1 (b ∷ bytes) ≡ bytes_of_token line token =
     let count : place + t.1 - place ≡ t.1 = omega arith in
     rw (count, ← e) refl in
     rw (bytes_of, behind (t.1 - 1)) (cut_before line token (lexed (t.1 - 1) (place + 1) bytes))

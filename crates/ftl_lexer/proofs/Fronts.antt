@@ -1,4 +1,4 @@
--- For this crate and for the crates above: what stands at the front of a text is read back, whatever stands behind
+-- For this crate and for the crates above: what stands at the front of a text is read back, whatever comes after
 -- it.
 use Rattle.std.proofs.Common.{◌≡◌, ℕ, zero, suc, ◌+◌, ◌-◌, ◌<◌, List, [], ◌∷◌, ◌++◌, Some, length, get_or, drop, take, Bool, true, false, not, refl, sym, ◌∙◌, ap, subst, arith, inl, inr, eqb, ltb, cond, IsTrue, ne_eqb}
 use Rattle.std.specs.Prelude.{option_map, codes}
@@ -199,7 +199,7 @@ of_each P (x ∷ xs) b each h =
       | inr other ↦ of_each P xs b each.1 (rw other at h)
     ]
 
--- a symbol that begins no longer one, whatever stands behind it
+-- a symbol that begins no longer one, whatever stands after it
 alone : (rest : List ℕ) → OfEach (λ b. token_at (b ∷ rest) ≡ single_symbol b) (codes "()[],.+-*=")
 unfolding token_at symbols
 alone [] = (refl, (refl, (refl, (refl, (refl, (refl, (refl, (refl, (refl, (refl, tt))))))))))

@@ -8,7 +8,7 @@ use Rattle.ftl_lexer.specs.declared.kinds.Kind.{Kind}
 use Rattle.ftl_lexer.specs.declared.kinds.Token.{Token}
 use Rattle.ftl_lexer.specs.Forms.{is_blank, token_at}
 use Rattle.ftl_lexer.specs.Laws.{SpansAscend}
-use Rattle.ftl_lexer.specs.Tokens.{lexed, before, tokens_of, texts_of, text_of}
+use Rattle.ftl_lexer.specs.Tokens.{lexed, before, tokens_of, texts_of, bytes_of_token}
 use Rattle.ftl_lexer.proofs.Steps.{token_at_within}
 
 abbrev kept : Result (List Token) ℕ → List Token
@@ -23,7 +23,7 @@ ascend_before : (end : ℕ) (token : Token) (rest : Result (List Token) ℕ) (lo
 ascend_before end token (Ok tokens) low a b c s = (a, b, c, s)
 ascend_before end token (Err place) low a b c s = tt
 
--- a token, before those behind it
+-- a token, before those after it
 ascend_token : (end place b : ℕ) (bytes : List ℕ) (found : Option (Kind × ℕ)) → place + suc (length bytes) ≡ end → token_at (b ∷ bytes) ≡ found → ((n : ℕ) → n ≤ length bytes → SpansAscend (place + 1 + n) end (kept (lexed n (place + 1) bytes))) → SpansAscend place end (kept (option_map_or (λ t. before (record { kind = t.0; lo = place; hi = place + t.1 }) (lexed (t.1 - 1) (place + 1) bytes)) found (Err place)))
 ascend_token end place b bytes None e h behind = tt
 ascend_token end place b bytes (Some t) e h behind =
@@ -72,7 +72,7 @@ stored_span line stored i token e t h =
     let same : token ≡ get_or (tokens_of line) i token = t ∙ ap (λ tokens. get_or tokens i token) e in
     subst (λ x. (x.lo ≤ x.hi) × (x.hi ≤ length line)) (sym same) (omega (arith, span.0), span.1)
 
-pub stored_text : (line : List ℕ) (stored : List Token) (i : ℕ) (token : Token) → stored ≡ tokens_of line → token ≡ get_or stored i token → i < length (tokens_of line) → slice_get (texts_of line) i ≡ Some (text_of line token)
+pub stored_text : (line : List ℕ) (stored : List Token) (i : ℕ) (token : Token) → stored ≡ tokens_of line → token ≡ get_or stored i token → i < length (tokens_of line) → slice_get (texts_of line) i ≡ Some (bytes_of_token line token)
 stored_text line stored i token e t h =
     let same : token ≡ get_or (tokens_of line) i token = t ∙ ap (λ tokens. get_or tokens i token) e in
-    slice_get_map (text_of line) (tokens_of line) i token h ∙ ap (λ x. Some (text_of line x)) (sym same)
+    slice_get_map (bytes_of_token line) (tokens_of line) i token h ∙ ap (λ x. Some (bytes_of_token line x)) (sym same)

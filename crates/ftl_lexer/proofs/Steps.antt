@@ -1,5 +1,5 @@
 -- For this crate and for the crates above: how the tokens of a line follow one another.
-use Rattle.std.proofs.Common.{◌≡◌, ℕ, zero, suc, ◌+◌, ◌-◌, ◌<◌, ◌≤◌, inl, inr, Bool, List, [], ◌∷◌, Option, Some, None, Ok, Err, length, drop, true, false, refl, sym, ◌∙◌, ap, subst, arith, lit≤, cond, ltb, eqb}
+use Rattle.std.proofs.Common.{◌≡◌, ℕ, zero, suc, ◌+◌, ◌-◌, ◌<◌, ◌≤◌, inl, inr, Bool, List, [], ◌∷◌, ◌++◌, Option, Some, None, Result, Ok, Err, length, drop, true, false, refl, sym, ◌∙◌, ap, subst, arith, lit≤, cond, ltb, eqb}
 use Rattle.std.specs.Prelude.{option_map}
 use Rattle.std.specs.List.{prefix_len, position_or_len}
 use Rattle.std.specs.Option.{option_map_or}
@@ -127,7 +127,7 @@ token_at_within (b ∷ bytes) kind len h =
           ]
     ]
 
--- ---- what stands behind blanks, and behind a token
+-- ---- what stands after blanks, and after a token
 
 -- skipped bytes only move the place
 pub lexed_skip : (skip place : ℕ) (bytes : List ℕ) → skip ≤ length bytes → lexed skip place bytes ≡ lexed 0 (place + skip) (drop skip bytes)
@@ -157,7 +157,7 @@ lexed_blanks_by place (b ∷ bytes) n e =
 pub lexed_blanks : (place : ℕ) (bytes : List ℕ) → lexed 0 place bytes ≡ lexed 0 (place + prefix_len is_blank bytes) (drop (prefix_len is_blank bytes) bytes)
 lexed_blanks place bytes = lexed_blanks_by place bytes (prefix_len is_blank bytes) refl
 
--- behind the first blanks stands no blank
+-- after the first blanks stands no blank
 pub blanks_end : (bytes : List ℕ) → prefix_len is_blank (drop (prefix_len is_blank bytes) bytes) ≡ 0
 blanks_end [] = refl
 blanks_end (b ∷ bytes) =
@@ -183,7 +183,12 @@ behind place b bytes (suc len) some within =
     let moved : place + 1 + len ≡ place + suc len = omega arith in
     rw less (lexed_skip len (place + 1) bytes shorter ∙ ap (λ p. lexed 0 p (drop len bytes)) moved)
 
--- a token stands before those behind it
+-- some tokens before those of the rest
+abbrev pub after : List Token → Result (List Token) ℕ → Result (List Token) ℕ
+after first (Ok tokens) = Ok (first ++ tokens)
+after first (Err place) = Err place
+
+-- a token stands before those after it
 pub lexed_token : (place : ℕ) (bytes : List ℕ) (kind : Kind) (len : ℕ) → 0 < length bytes → prefix_len is_blank bytes ≡ 0 → token_at bytes ≡ Some (kind, len) → lexed 0 place bytes ≡ before (record { kind = kind; lo = place; hi = place + len }) (lexed 0 (place + len) (drop len bytes))
 unfolding lexed
 lexed_token place [] kind len full front h = absurd (omega arith)
@@ -209,7 +214,7 @@ step_end line from blanks e h =
 rest_full : (line : List ℕ) (at : ℕ) → at < length line → 0 < length (drop at line)
 rest_full line at h = rw length-drop (omega arith)
 
--- behind the blanks from a place on stands no blank
+-- after the blanks from a place on stands no blank
 rest_front : (line : List ℕ) (from blanks : ℕ) → blanks ≡ prefix_len is_blank (drop from line) → prefix_len is_blank (drop (from + blanks) line) ≡ 0
 rest_front line from blanks e = rw (← drop-drop blanks from line, e) (blanks_end (drop from line))
 

@@ -15,7 +15,7 @@ Lexeme = Kind × List ℕ
 abbrev pub put_before : Lexeme → Option (List Lexeme) → Option (List Lexeme)
 put_before first = option_map (λ later. first ∷ later)
 
--- the tokens of the bytes behind the ones to skip; None where no token begins at some byte
+-- the tokens of the bytes after the ones to skip; None where no token begins at some byte
 unfoldable pub cut : ℕ → List ℕ → Option (List Lexeme)
 cut skip [] = Some []
 cut (suc skip) (b ∷ bytes) = cut skip bytes
@@ -35,7 +35,7 @@ is_number bytes = not (digits_len bytes == 0) && (number_len bytes == length byt
 abbrev pub has_no_quote : List ℕ → Bool
 has_no_quote bytes = list_all (λ b. not (is_quote b)) bytes
 
--- bytes between two quotes, none of them a quote: the first quote behind the first byte is the last byte
+-- bytes between two quotes, none of them a quote: the first quote after the first byte is the last byte
 abbrev pub IsQuoted : List ℕ → Type 0
 IsQuoted [] = ⊥
 IsQuoted (b ∷ bytes) = IsTrue (is_quote b) × (text_len bytes ≡ Some (length (b ∷ bytes)))

@@ -31,7 +31,7 @@ name_len = prefix_len continues_name
 abbrev pub digits_len : List ℕ → ℕ
 digits_len = prefix_len is_ascii_digit
 
--- a point and the digits behind it, where there is a digit
+-- a point and the digits after it, where there is a digit
 abbrev pub fraction_len : List ℕ → ℕ
 fraction_len [] = 0
 fraction_len (b ∷ bytes) = if b == 46 then (if digits_len bytes == 0 then 0 else 1 + digits_len bytes) else 0
@@ -40,7 +40,7 @@ fraction_len (b ∷ bytes) = if b == 46 then (if digits_len bytes == 0 then 0 el
 abbrev pub number_len : List ℕ → ℕ
 number_len bytes = digits_len bytes + fraction_len (drop (digits_len bytes) bytes)
 
--- a text with both its quotes, by the bytes behind the first one; None where it isn't closed
+-- a text with both its quotes, by the bytes after the first one; None where it isn't closed
 abbrev pub text_len : List ℕ → Option ℕ
 text_len bytes = option_map (λ n. n + 2) (position is_quote bytes)
 
@@ -52,7 +52,7 @@ word_kind word = option_map_or (λ code. Key code) (code_of reserved_words word)
 abbrev pub single_symbol : ℕ → Option (Kind × ℕ)
 single_symbol first = option_map (λ code. (Sym code, 1)) (code_of symbols (first ∷ []))
 
--- the longest symbol that a byte and those behind it begin with
+-- the longest symbol that a byte and those after it begin with
 abbrev pub symbol_at : ℕ → List ℕ → Option (Kind × ℕ)
 symbol_at first [] = single_symbol first
 symbol_at first (second ∷ bytes) =

@@ -1,22 +1,17 @@
 -- The tokens of a line.
-use Rattle.std.specs.Prelude.{ℕ, zero, suc, ◌+◌, ◌-◌, List, [], ◌∷◌, ◌++◌, Option, Result, Ok, Err, map, slice_range, if◌then◌else◌}
+use Rattle.std.specs.Prelude.{ℕ, zero, suc, ◌+◌, ◌-◌, List, [], ◌∷◌, Option, Result, Ok, Err, map, slice_range, if◌then◌else◌}
 use Rattle.std.specs.Option.{option_map_or}
 use Rattle.std.specs.Result.{result_err, result_unwrap_or}
 use Rattle.ftl_lexer.specs.declared.kinds.Kind.{Kind}
 use Rattle.ftl_lexer.specs.declared.kinds.Token.{Token}
 use Rattle.ftl_lexer.specs.Forms.{is_blank, token_at}
 
--- one token before those of the rest
+-- a token before those of the rest
 abbrev pub before : Token → Result (List Token) ℕ → Result (List Token) ℕ
 before token (Ok tokens) = Ok (token ∷ tokens)
 before token (Err place) = Err place
 
--- some tokens before those of the rest
-abbrev pub after : List Token → Result (List Token) ℕ → Result (List Token) ℕ
-after first (Ok tokens) = Ok (first ++ tokens)
-after first (Err place) = Err place
-
--- the tokens of the bytes that stand at a place and behind the ones to skip; an error is the first place at which no token begins
+-- the tokens of the bytes that stand at a place and after the ones to skip; an error is the first place at which no token begins
 unfoldable pub lexed : ℕ → ℕ → List ℕ → Result (List Token) ℕ
 lexed skip place [] = Ok []
 lexed (suc skip) place (b ∷ bytes) = lexed skip (place + 1) bytes
@@ -33,13 +28,13 @@ abbrev pub bad_place : List ℕ → Option ℕ
 bad_place line = result_err (lexed 0 0 line)
 
 -- the bytes of a token
-abbrev pub text_of : List ℕ → Token → List ℕ
-text_of line token = slice_range line token.lo token.hi
+abbrev pub bytes_of_token : List ℕ → Token → List ℕ
+bytes_of_token line token = slice_range line token.lo token.hi
 
 -- the bytes of each token
 abbrev pub texts_of : List ℕ → List (List ℕ)
-texts_of line = map (text_of line) (tokens_of line)
+texts_of line = map (bytes_of_token line) (tokens_of line)
 
 -- the tokens of a line, each by its kind and its bytes
 abbrev pub lexemes : List ℕ → List (Kind × List ℕ)
-lexemes line = map (λ t. (t.kind, text_of line t)) (tokens_of line)
+lexemes line = map (λ t. (t.kind, bytes_of_token line t)) (tokens_of line)

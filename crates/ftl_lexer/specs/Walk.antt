@@ -4,7 +4,7 @@ use Rattle.ftl_lexer.specs.declared.walk.Step.{Step}
 use Rattle.ftl_lexer.specs.declared.walk.Step.TheVariants.{End, Token, Bad}
 use Rattle.ftl_lexer.specs.Tokens.{lexed, before}
 
--- from a place on the line has no token, or this token and those behind it, or no token begins at this byte
+-- from a place on the line has no token, or this token and those after it, or no token begins at this byte
 abbrev pub Follows : List ℕ → ℕ → Step → Type 0
 Follows line from End = lexed 0 from (drop from line) ≡ Ok []
 Follows line from (Token kind lo hi) =

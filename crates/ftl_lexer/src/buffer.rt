@@ -128,6 +128,7 @@ impl Tokens {
         ensures read { bad_place self.now ≡ None }
         ensures short { length self.now ≤ LEXER_LIMIT }
     {
+        // Reading a field brings in the invariant, which the clauses follow from.
         let _line = &self.line;
         self.tokens.len()
     }
@@ -140,7 +141,7 @@ impl Tokens {
         self.tokens.is_empty()
     }
 
-    /// The token at a place, counted from 0. None exactly where there are no more than that many.
+    /// The token at a place, counted from 0. `None` exactly if `i` is out of bounds.
     #[inline]
     pub fn get(&self, i: usize) -> Option<Token>
         ensures { result ≡ slice_get (tokens_of self.now) i }
@@ -158,7 +159,7 @@ impl Tokens {
         part(&self.line, token.lo, token.hi)
     }
 
-    /// The kind and the bytes of the token at a place. None exactly where there are no more tokens.
+    /// The kind and the bytes of the token at a place. `None` exactly if `i` is out of bounds.
     #[inline]
     pub fn lexeme(&self, i: usize) -> Option<(Kind, &[u8])>
         ensures value { option_map (λ l. (l.0, l.1.now)) result ≡ slice_get (lexemes self.now) i }

@@ -5,7 +5,7 @@
 pub enum Kind {
     /// A name that isn't reserved.
     Name,
-    /// Digits, with a point and digits behind them or without.
+    /// Digits, with a point and digits after them or without.
     Number,
     /// Bytes between two double quotes.
     Text,

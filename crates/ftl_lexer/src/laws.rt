@@ -30,7 +30,7 @@ pub fn tokens_have_forms()
     ensures { (line : List ℕ) → HaveForms (lexemes line) }
 {}
 
-/// What is written at the front of a text is read back, whatever stands behind it: a name or a reserved
+/// What is written at the front of a text is read back, whatever stands after it: a name or a reserved
 /// word where no byte of a name follows, a number where neither a digit nor a point with a digit
 /// follows, a text, which has two quotes and none between them, a symbol that begins no longer one, and
 /// a blank, which is dropped.

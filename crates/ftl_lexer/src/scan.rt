@@ -57,7 +57,7 @@ fn digits_len(bytes: &[u8]) -> usize
         .count()
 }
 
-// A point with digits behind it.
+// A point with digits after it.
 fn fraction_len(bytes: &[u8]) -> usize
     ensures value { result ≡ fraction_len bytes.now }
     ensures within { result ≤ length bytes.now }
@@ -86,7 +86,7 @@ fn quote_place(bytes: &[u8]) -> Option<usize>
     bytes.iter().position(|byte| *byte == b'"')
 }
 
-// A text with both its quotes, by the bytes behind the first one.
+// A text with both its quotes, by the bytes after the first one.
 fn text_len(bytes: &[u8]) -> Option<usize>
     ensures { result ≡ text_len bytes.now }
 {
@@ -139,7 +139,7 @@ fn single_code(byte: u8) -> Option<u8>
     }
 }
 
-// The longest symbol that a byte and those behind it begin with.
+// The longest symbol that a byte and those after it begin with.
 fn symbol_at(first: u8, rest: &[u8]) -> Option<(Kind, usize)>
     ensures { result ≡ symbol_at first rest.now }
 {

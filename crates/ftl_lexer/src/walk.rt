@@ -15,7 +15,7 @@ fn rest_of(line: &[u8], from: usize) -> &[u8]
     &line[from..]
 }
 
-// What stands behind the blanks from a place on.
+// What stands after the blanks from a place on.
 #[derive(Clone, Copy)]
 pub(crate) enum Step {
     End,

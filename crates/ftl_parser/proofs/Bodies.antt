@@ -1,4 +1,4 @@
--- The machine behind WHERE alone, and what may stand behind a formula.
+-- The machine after WHERE alone, and what may stand after a formula.
 use Rattle.std.proofs.Common.{◌≡◌, ℕ, ◌<◌, ◌≤◌, Bool, true, false, List, [], ◌∷◌, Option, None, Some, option_map, option_and_then, refl, IsTrue, arith}
 use Rattle.formula_shape.specs.Shape.{Shape}
 use Rattle.ftl_parser.specs.declared.tree.Atom.TheVariants as atoms
@@ -16,7 +16,7 @@ abbrev pub body_parsed : List Frame → Phase → List Piece → Option Tree
 body_parsed s phase [] = body_end s phase
 body_parsed s phase (p ∷ tokens) = option_and_then (λ b. body_parsed b.0 b.1 tokens) (body_step s phase p)
 
--- the formula that the tokens are behind a token that was taken
+-- the formula that the tokens are after a token that was taken
 abbrev pub then_parsed : List Piece → Option Body → Option Tree
 then_parsed tokens = option_and_then (λ b. body_parsed b.0 b.1 tokens)
 
@@ -24,18 +24,18 @@ then_parsed tokens = option_and_then (λ b. body_parsed b.0 b.1 tokens)
 abbrev pub query_with : List (List ℕ) → List FromPart → Tree → QueryTree
 query_with ns ps f = record { targets = ns; from = ps; formula = f }
 
--- the end of tokens behind a whole term
+-- the end of tokens after a whole term
 abbrev pub term_end : List Frame → TermPlace → List Signed → Option Tree
 term_end s (places.Right t op) fs = alone (reduced 1 (Shape.Atom (atoms.Compare t op (term_of fs))) s)
 term_end s places.Left fs = None
 term_end s (places.Assigned v) fs = None
 
--- the formula that the tokens are, behind a whole term
+-- the formula that the tokens are, after a whole term
 abbrev pub term_behind : List Frame → TermPlace → List Signed → List Piece → Option Tree
 term_behind s place fs [] = term_end s place fs
 term_behind s place fs (p ∷ tokens) = option_and_then (λ b. body_parsed b.0 b.1 tokens) (factor_ended s place fs p)
 
--- the rank from which frames end at what stands behind a formula; 0 where it can't stand there
+-- the rank from which frames end at what stands after a formula; 0 where it can't stand there
 abbrev pub stop : List Piece → ℕ
 stop [] = 1
 stop (CLOSE ∷ tokens) = 1
@@ -50,7 +50,7 @@ level_rank conj = 2
 level_rank chain = 3
 level_rank unary = 4
 
--- the tokens may stand behind a formula of this level, and end it
+-- the tokens may stand after a formula of this level, and end it
 pub record Follows (l : Level) (tokens : List Piece) : Type 0 where
   pub stops : 0 < stop tokens
   pub ends : stop tokens ≤ level_rank l
@@ -73,7 +73,7 @@ cuts (STAR ∷ tokens) = false
 cuts (POINT ∷ tokens) = false
 cuts _ = true
 
--- behind WHERE the machine is the machine of the formula
+-- after WHERE the machine is the machine of the formula
 pub parsed-Within : (ns : List (List ℕ)) (ps : List FromPart) (s : List Frame) (phase : Phase) (tokens : List Piece) →
     parsed (Within ns ps (s, phase)) tokens ≡ option_map (query_with ns ps) (body_parsed s phase tokens)
 parsed-Within ns ps s phase [] = refl
@@ -91,7 +91,7 @@ never h = absurd (cc h)
 pub nothing : {A : Type 0} → 0 < 0 → A
 nothing h = absurd (omega arith)
 
--- what stands behind a formula is no `*` and no point
+-- what stands after a formula is no `*` and no point
 pub stop-cuts : (rest : List Piece) → 0 < stop rest → IsTrue (cuts rest)
 stop-cuts [] h = refl
 stop-cuts (STAR ∷ rest) h = nothing h

@@ -19,7 +19,7 @@ use Rattle.ftl_parser.specs.declared.state.Spatial.TheVariants as spatials
 use Rattle.ftl_parser.specs.Tree.{Tree, QueryTree}
 use Rattle.ftl_parser.specs.Piece.{Piece, FROM, WHERE, AND, OR, UNTIL, CLOSE, CLOSE_SQUARE, COMMA, POINT, PLUS, MINUS, STAR, COMPARISON, NAME, NUMBER}
 use Rattle.ftl_parser.specs.Number.{ticks, times, literal, radius}
-use Rattle.ftl_parser.specs.Grammar.{ref_name, ref_attr, ref_part, ref_time, SpellsFactor, factor_number, factor_times, factor_text, factor_ref, SpellsTerm, term_first, term_minus_first, term_plus, term_minus, num_plain, num_minus, SpellsNames, names_one, names_more, SpellsParts, parts_one, parts_more, SpellsAtom, atom_compare, atom_inside, atom_outside, atom_dist, atom_sphere, Level, formula, Spells, formula_conj, formula_or, conj_chain, conj_and, chain_unary, chain_until, chain_until_within, chain_until_after, unary_prefix, unary_bounded, unary_assign, unary_brackets, unary_truth, unary_atom, SpellsQuery, query, signed, term_of}
+use Rattle.ftl_parser.specs.Grammar.{ref_name, ref_attr, ref_part, ref_time, SpellsFactor, factor_number, factor_times, factor_text, factor_ref, SpellsTerm, term_first, term_minus_first, term_plus, term_minus, num_plain, num_minus, SpellsNames, names_one, names_more, SpellsParts, parts_one, parts_more, SpellsAtom, atom_compare, atom_inside, atom_outside, atom_dist, atom_sphere, Level, formula, Spells, formula_conj, formula_or, conj_chain, conj_and, chain_unary, chain_until, until_plain, until_within, until_after, unary_prefix, unary_bounded, unary_assign, unary_brackets, unary_truth, unary_atom, SpellsQuery, query, signed, term_of}
 use Rattle.ftl_parser.specs.Machine.{Frame, Bracket, OrWith, AndWith, UntilWith, PrefixedBy, BoundedBy, Assigning, rank, filled, Want, Have, Reach, InTerm, InSpatial, Heading, start, reduced, closed, alone, parsed}
 use Rattle.ftl_parser.proofs.Bodies.{body_parsed, then_parsed, query_with, term_behind, stop, Follows, top, room, cuts, parsed-Within, never, nothing, stop-cuts}
 
@@ -32,7 +32,7 @@ pub reduced-stays : (r : ℕ) (f : Tree) (s : List Frame) → top s < r → redu
 reduced-stays r f [] below = refl
 reduced-stays r f (w ∷ s) below = grind (arith, nat_tests)
 
--- a frame ends where what stands behind its formula ends its rank
+-- a frame ends where what stands after its formula ends its rank
 pub fills : (w : Frame) (s : List Frame) (f : Tree) (rest : List Piece) →
     0 < stop rest → stop rest ≤ rank w → body_parsed (w ∷ s) (Have f) rest ≡ body_parsed s (Have (filled w f)) rest
 fills w s f [] stops ends = ap alone (reduced-filled 1 w s f ends)
@@ -177,19 +177,19 @@ drives (conj_and {f = f} {g = g} {ys = ys} d e) s below rest h =
     ∙ drives e (AndWith f ∷ s) (omega arith) rest (record { stops = h.stops; ends = omega (arith, h.ends) })
     ∙ fills (AndWith f) s g rest h.stops h.ends)
 drives (chain_unary d) s below rest h = drives d s (omega arith) rest (record { stops = h.stops; ends = omega (arith, h.ends) })
-drives (chain_until {f = f} {g = g} {ys = ys} d e) s below rest h =
+drives (chain_until {f = f} {g = g} {ys = ys} until_plain d e) s below rest h =
     rw append_assoc
     (drives d s (omega arith) (UNTIL untils.Plain ∷ (ys ++ rest)) (record { stops = omega arith; ends = omega arith })
     ∙ ap (λ r. body_parsed (UntilWith untils.Plain 0 r.0 ∷ r.1) Want (ys ++ rest)) (reduced-stays 4 f s below)
     ∙ drives e (UntilWith untils.Plain 0 f ∷ s) (omega arith) rest h
     ∙ fills (UntilWith untils.Plain 0 f) s g rest h.stops h.ends)
-drives (chain_until_within {f = f} {g = g} {ys = ys} c d e) s below rest h =
+drives (chain_until {f = f} {g = g} {ys = ys} (until_within {c = c}) d e) s below rest h =
     rw append_assoc
     (drives d s (omega arith) (UNTIL untils.Within ∷ NUMBER c ∷ (ys ++ rest)) (record { stops = omega arith; ends = omega arith })
     ∙ ap (λ r. body_parsed (UntilWith untils.Within (ticks c) r.0 ∷ r.1) Want (ys ++ rest)) (reduced-stays 4 f s below)
     ∙ drives e (UntilWith untils.Within (ticks c) f ∷ s) (omega arith) rest h
     ∙ fills (UntilWith untils.Within (ticks c) f) s g rest h.stops h.ends)
-drives (chain_until_after {f = f} {g = g} {ys = ys} c d e) s below rest h =
+drives (chain_until {f = f} {g = g} {ys = ys} (until_after {c = c}) d e) s below rest h =
     rw append_assoc
     (drives d s (omega arith) (UNTIL untils.After ∷ NUMBER c ∷ (ys ++ rest)) (record { stops = omega arith; ends = omega arith })
     ∙ ap (λ r. body_parsed (UntilWith untils.After (ticks c) r.0 ∷ r.1) Want (ys ++ rest)) (reduced-stays 4 f s below)

@@ -17,24 +17,18 @@ use Rattle.ftl_parser.specs.declared.state.TermPlace.{TermPlace}
 use Rattle.ftl_parser.specs.declared.state.TermPlace.TheVariants as places
 use Rattle.ftl_parser.specs.declared.state.Factor.{Factor}
 use Rattle.ftl_parser.specs.declared.state.Factor.TheVariants as factors
-use Rattle.ftl_parser.specs.declared.state.Prefix.{Prefix}
+use Rattle.ftl_parser.specs.declared.prefix.Prefix.{Prefix}
 use Rattle.ftl_parser.specs.declared.state.Spatial.{Spatial}
 use Rattle.ftl_parser.specs.declared.state.Spatial.TheVariants as spatials
 use Rattle.ftl_parser.specs.Tree.{Tree, QueryTree}
 use Rattle.ftl_parser.specs.Piece.{Piece, RETRIEVE, FROM, WHERE, AND, OR, TRUTH, PREFIX, BOUNDED, UNTIL, INSIDE, OUTSIDE, DIST, SPHERE, TIME, PART, OPEN, CLOSE, OPEN_SQUARE, CLOSE_SQUARE, COMMA, POINT, PLUS, MINUS, STAR, ARROW, COMPARISON, NAME, NUMBER, TEXT}
 use Rattle.ftl_parser.specs.Number.{ticks, times, literal, radius}
-use Rattle.ftl_parser.specs.Grammar.{SpellsRef, ref_name, ref_attr, ref_part, ref_time, SpellsFactor, factor_number, factor_times, factor_text, factor_ref, SpellsTerm, term_first, term_minus_first, term_plus, term_minus, num_plain, num_minus, SpellsNames, names_one, names_more, SpellsParts, parts_one, parts_more, atom_compare, atom_inside, atom_outside, atom_dist, atom_sphere, Level, formula, conj, chain, unary, Spells, formula_conj, formula_or, conj_chain, conj_and, chain_unary, chain_until, chain_until_within, chain_until_after, unary_prefix, unary_bounded, unary_assign, unary_brackets, unary_truth, unary_atom, SpellsQuery, query, signed, term_of, from_part}
+use Rattle.ftl_parser.specs.Grammar.{SpellsRef, ref_name, ref_attr, ref_part, ref_time, SpellsFactor, factor_number, factor_times, factor_text, factor_ref, SpellsTerm, term_first, term_minus_first, term_plus, term_minus, num_plain, num_minus, SpellsNames, names_one, names_more, SpellsParts, parts_one, parts_more, atom_compare, atom_inside, atom_outside, atom_dist, atom_sphere, SpellsUntil, until_plain, until_within, until_after, Level, formula, conj, chain, unary, Spells, formula_conj, formula_or, conj_chain, conj_and, chain_unary, chain_until, unary_prefix, unary_bounded, unary_assign, unary_brackets, unary_truth, unary_atom, SpellsQuery, query, signed, term_of, from_part}
 use Rattle.ftl_parser.specs.Machine.{Frame, Bracket, OrWith, AndWith, UntilWith, PrefixedBy, BoundedBy, Assigning, Phase, Want, Have, Reach, Ticks, Variable, Arrow, InTerm, InSpatial, Body, Heading, Within, start, reference, factor_begun, lengthened, whole, reduced, closed, behind, term_ended, factor_ended, behind_factor, longer_or, term_step, spatial_step, wanted, body_step, alone, compared, body_end, parsed}
 use Rattle.ftl_parser.proofs.Bodies.{level_rank, body_parsed, query_with, parsed-Within}
 use Rattle.ftl_parser.proofs.Drives.{reduced-filled}
 
--- an until with its ticks, as tokens
-pub data SpellsUntil : UntilForm → ℕ → List Piece → Type 0 where
-  plain : SpellsUntil untils.Plain 0 (UNTIL untils.Plain ∷ [])
-  within : {c : List ℕ} → SpellsUntil untils.Within (ticks c) (UNTIL untils.Within ∷ NUMBER c ∷ [])
-  after : {c : List ℕ} → SpellsUntil untils.After (ticks c) (UNTIL untils.After ∷ NUMBER c ∷ [])
-
--- the tokens behind WHERE that a stack stands for, where a formula of this level, or of one that binds more, comes next
+-- the tokens after WHERE that a stack stands for, where a formula of this level, or of one that binds more, comes next
 pub data Waits : Level → List Frame → List Piece → Type 0 where
   bottom : Waits formula [] []
   bracket : {l : Level} {s : List Frame} {xs : List Piece} → Waits l s xs → Waits formula (Bracket ∷ s) (xs ++ OPEN ∷ [])
@@ -63,7 +57,7 @@ pub data ReadsTimes : Option ℕ → List Piece → Type 0 where
   no_times : ReadsTimes None []
   some_times : {n : List ℕ} → ReadsTimes (Some (times n)) (NUMBER n ∷ STAR ∷ [])
 
--- what is read of a factor behind its sign
+-- what is read of a factor after its sign
 pub data ReadsFactor : Bool → Factor → List Piece → Type 0 where
   wanted_factor : {m : Bool} → ReadsFactor m (factors.Wanted m) []
   number : {m : Bool} {n : List ℕ} → ReadsFactor m (factors.Number m (literal n) (times n)) (NUMBER n ∷ [])
@@ -114,7 +108,7 @@ pub data ReadsSpatial : Spatial → List Piece → Type 0 where
   sphere_names : {ns : List (List ℕ)} {xs : List Piece} (r : List ℕ) →
       SpellsNames ns xs → ReadsSpatial (spatials.SphereNames (radius r) ns) (SPHERE ∷ OPEN ∷ NUMBER r ∷ COMMA ∷ xs)
 
--- the tokens of what comes next, behind those of the stack
+-- the tokens of what comes next, after those of the stack
 pub data Holds : Level → Phase → List Piece → Type 0 where
   want : {l : Level} → Holds l Want []
   have : {l : Level} {f : Tree} {xs : List Piece} → Spells unary f xs → Holds l (Have f) xs
@@ -129,7 +123,7 @@ pub data Holds : Level → Phase → List Piece → Type 0 where
       ReadsPlace place xs → ReadsTerm fs last ys → Holds l (InTerm place fs last) (xs ++ ys)
   in_spatial : {l : Level} {x : Spatial} {xs : List Piece} → ReadsSpatial x xs → Holds l (InSpatial x) xs
 
--- the tokens behind WHERE so far
+-- the tokens after WHERE so far
 pub record ReadsBody (s : List Frame) (phase : Phase) (tokens : List Piece) : Type 0 where
   pub level : Level
   pub before : List Piece
@@ -206,12 +200,6 @@ ends-here : (l n level : Level) {s : List Frame} {f : Tree} {xs ys : List Piece}
 ends-here l n level {xs = xs} {ys = ys} waits below below_unary d under =
     record { level = level; before = xs; behind = ys; waits = waits; below = below; below_unary = below_unary; spells = raised l n under d; split = refl }
 
-until-spells : {form : UntilForm} {c : ℕ} {f g : Tree} {xs ys zs : List Piece} → SpellsUntil form c ys → Spells unary f xs → Spells chain g zs →
-    Spells chain (Shape.Until form c f g) (xs ++ (ys ++ zs))
-until-spells plain d e = chain_until d e
-until-spells (within {c = c}) d e = chain_until_within c d e
-until-spells (after {c = c}) d e = chain_until_after c d e
-
 pub reduced-ends : (l m n : Level) {s : List Frame} {f : Tree} {xs ys : List Piece} →
     Waits m s xs → Spells n f ys → level_rank m ≤ level_rank n → level_rank l ≤ level_rank n → Ends l (reduced (level_rank l) f s) (xs ++ ys)
 reduced-ends l m n bottom d fits below = ends-here l n formula bottom (least l) (omega arith) d below
@@ -231,11 +219,11 @@ reduced-ends conj m n (and_with {l = k} w under e) d fits below =
 reduced-ends chain m n (and_with w under e) d fits below = ends-here chain n chain (and_with w under e) (omega arith) (omega arith) d below
 reduced-ends unary m n (and_with w under e) d fits below = ends-here unary n chain (and_with w under e) (omega arith) (omega arith) d below
 reduced-ends formula m n (until_with {l = k} w under e u) d fits below =
-    ends-respelled formula _ _ _ (simp append_assoc) (reduced-ends formula k chain w (until-spells u e (raised chain n fits d)) under (omega arith))
+    ends-respelled formula _ _ _ (simp append_assoc) (reduced-ends formula k chain w (chain_until u e (raised chain n fits d)) under (omega arith))
 reduced-ends conj m n (until_with {l = k} w under e u) d fits below =
-    ends-respelled conj _ _ _ (simp append_assoc) (reduced-ends conj k chain w (until-spells u e (raised chain n fits d)) under (omega arith))
+    ends-respelled conj _ _ _ (simp append_assoc) (reduced-ends conj k chain w (chain_until u e (raised chain n fits d)) under (omega arith))
 reduced-ends chain m n (until_with {l = k} w under e u) d fits below =
-    ends-respelled chain _ _ _ (simp append_assoc) (reduced-ends chain k chain w (until-spells u e (raised chain n fits d)) under (omega arith))
+    ends-respelled chain _ _ _ (simp append_assoc) (reduced-ends chain k chain w (chain_until u e (raised chain n fits d)) under (omega arith))
 reduced-ends unary m n (until_with w under e u) d fits below = ends-here unary n chain (until_with w under e u) (omega arith) (omega arith) d below
 reduced-ends l m n {f = f} (prefixed_by {l = k} {s = s} {w = v} w) d fits below =
     rw (reduced-filled (level_rank l) (PrefixedBy v) s f (most l))
@@ -247,7 +235,7 @@ reduced-ends l m n {f = f} (assigning {l = k} {s = s} {v = v} {fs = fs} w t) d f
     rw (reduced-filled (level_rank l) (Assigning v (term_of fs)) s f (most l))
     (ends-respelled l _ _ _ (simp append_assoc) (reduced-ends l k unary w (unary_assign {v = v} t (raised unary n fits d)) (most k) (most l)))
 
--- a factor behind its sign is the last one of a term
+-- a factor after its sign is the last one of a term
 sign-term : {fs : List Signed} {m : Bool} {k : Option ℕ} {u : unit_type.Unit} {xs ys : List Piece} →
     ReadsSign fs m xs → SpellsFactor k u ys → SpellsTerm (fs ++ signed m k u ∷ []) (xs ++ ys)
 sign-term no_sign d = term_first d
@@ -259,7 +247,7 @@ times-ref : {k : Option ℕ} {u : unit_type.Unit} {xs ys : List Piece} → Reads
 times-ref no_times r = factor_ref r
 times-ref (some_times {n = n}) r = factor_times {n = n} r
 
--- the tokens spell a term with this factor behind the others, if there is one
+-- the tokens spell a term with this factor after the others, if there is one
 abbrev TermIf : List Signed → Option Signed → List Piece → Type 0
 TermIf fs None xs = Unit {0}
 TermIf fs (Some u) xs = SpellsTerm (fs ++ u ∷ []) xs
@@ -296,7 +284,7 @@ begun {ys = ys} s t (NAME o) = partial-respelled s (alone_read t) (append_assoc 
 begun {ys = ys} s t TIME = partial-respelled s (whole_read (times-ref t ref_time)) (append_assoc _ ys (TIME ∷ []))
 begun s t p = tt
 
--- a factor begins behind its sign
+-- a factor begins after its sign
 factor-begun : {fs : List Signed} {m : Bool} {xs : List Piece} → ReadsSign fs m xs → (p : Piece) → LongerIf fs (factor_begun m p) (xs ++ p ∷ [])
 factor-begun s (NUMBER n) = partial s number
 factor-begun s (TEXT t) = partial s (whole_read factor_text)
@@ -328,7 +316,7 @@ lengthened-term fresh MINUS = partial minus_first wanted_factor
 lengthened-term fresh p = factor-begun no_sign p
 lengthened-term (partial s r) p = lengthened-sign s r p
 
--- the tokens behind WHERE so far, if the last one was taken
+-- the tokens after WHERE so far, if the last one was taken
 abbrev BodyIf : Option Body → List Piece → Type 0
 BodyIf None xs = Unit {0}
 BodyIf (Some b) xs = ReadsBody b.0 b.1 xs
@@ -370,7 +358,7 @@ module _ {l : Level} {s : List Frame} {f : Tree} {ys zs : List Piece} (waits : W
 
   until-behind : (r : Tree × List Frame) → Ends unary r (ys ++ zs) → ReadsBody (UntilWith untils.Plain 0 r.0 ∷ r.1) Want ((ys ++ zs) ++ UNTIL untils.Plain ∷ [])
   until-behind r e =
-      reads-body _ (until_with e.waits e.below_unary e.spells plain) want
+      reads-body _ (until_with e.waits e.below_unary e.spells until_plain) want
       (ap (λ t. t ++ UNTIL untils.Plain ∷ []) e.split ∙ simp (append_assoc, append-nil))
 
   within-behind : (r : Tree × List Frame) → Ends unary r (ys ++ zs) → ReadsBody r.1 (Reach untils.Within r.0) ((ys ++ zs) ++ UNTIL untils.Within ∷ [])
@@ -384,7 +372,7 @@ module _ {l : Level} {s : List Frame} {f : Tree} {ys zs : List Piece} (waits : W
   close-behind : (r : Tree × List Frame) → Ends formula r (ys ++ zs) → BodyIf (closed r) ((ys ++ zs) ++ CLOSE ∷ [])
   close-behind r e = closed-by (ys ++ zs) e.waits e.spells e.split
 
--- a token behind a formula
+-- a token after a formula
 behind-by : {l : Level} {s : List Frame} {f : Tree} {ys zs : List Piece} → Waits l s ys → Spells unary f zs → (p : Piece) →
     BodyIf (behind f s p) ((ys ++ zs) ++ p ∷ [])
 behind-by {l = l} {s = s} {f = f} w d OR = or-behind w d (reduced 1 f s) (reduced-ends formula l unary w d (most l) (omega arith))
@@ -398,7 +386,7 @@ behind-by w d p = tt
 body-respelled : (o : Option Body) (xs ys : List Piece) → xs ≡ ys → BodyIf o xs → BodyIf o ys
 body-respelled o xs ys e b = subst (BodyIf o) e b
 
--- a token behind a whole term
+-- a token after a whole term
 term-ended : {l : Level} {s : List Frame} {place : TermPlace} {fs : List Signed} {xs ys zs : List Piece} →
     Waits l s ys → ReadsPlace place xs → SpellsTerm fs zs → (p : Piece) → BodyIf (term_ended s place fs p) ((ys ++ (xs ++ zs)) ++ p ∷ [])
 term-ended w left d (COMPARISON op) = reads-body _ w (in_term (right {op = op} d) fresh) (simp (append_assoc, append-nil))
@@ -408,14 +396,14 @@ term-ended {s = s} {fs = fs} {ys = ys} {zs = zs} w (right {fs = gs} {op = op} {x
 term-ended w (assigned {v = v}) d CLOSE_SQUARE = reads-body _ (assigning {v = v} w d) want (simp (append_assoc, append-nil))
 term-ended w assigned d p = tt
 
--- a token behind a whole factor
+-- a token after a whole factor
 factor-ended : {l : Level} {s : List Frame} {place : TermPlace} {fs : List Signed} {xs ys zs : List Piece} →
     Waits l s ys → ReadsPlace place xs → SpellsTerm fs zs → (p : Piece) → BodyIf (factor_ended s place fs p) ((ys ++ (xs ++ zs)) ++ p ∷ [])
 factor-ended w place d PLUS = reads-body _ w (in_term place (partial (plus_behind d) wanted_factor)) (simp (append_assoc, append-nil))
 factor-ended w place d MINUS = reads-body _ w (in_term place (partial (minus_behind d) wanted_factor)) (simp (append_assoc, append-nil))
 factor-ended w place d p = term-ended w place d p
 
--- a token behind what may be a whole factor
+-- a token after what may be a whole factor
 behind-factor : {l : Level} {s : List Frame} {place : TermPlace} {xs ys : List Piece} (fs : List Signed) (zs : List Piece) → Waits l s ys → ReadsPlace place xs →
     (o : Option Signed) → TermIf fs o zs → (p : Piece) → BodyIf (behind_factor s place fs o p) ((ys ++ (xs ++ zs)) ++ p ∷ [])
 behind-factor fs zs w before None d p = tt
@@ -499,14 +487,14 @@ spatial-body : {l : Level} {s : List Frame} {ys : List Piece} (zs : List Piece) 
 spatial-body zs w None p h = tt
 spatial-body {ys = ys} zs w (Some phase) p h = reads-body _ w h (append_assoc ys zs (p ∷ []))
 
--- one more token behind WHERE
+-- one more token after WHERE
 body-by : {l : Level} {s : List Frame} {phase : Phase} {ys zs : List Piece} → Waits l s ys → Holds l phase zs → (p : Piece) →
     BodyIf (body_step s phase p) ((ys ++ zs) ++ p ∷ [])
 body-by {s = s} {ys = ys} w want p = body-respelled (wanted s p) (ys ++ p ∷ []) _ (ap (λ t. t ++ p ∷ []) (sym (append-nil ys))) (wanted-by w p)
 body-by w (have d) p = behind-by w d p
-body-by w (reach_within below d) (NUMBER c) = reads-body _ (until_with w below d (within {c = c})) want (simp (append_assoc, append-nil))
+body-by w (reach_within below d) (NUMBER c) = reads-body _ (until_with w below d (until_within {c = c})) want (simp (append_assoc, append-nil))
 body-by w (reach_within below d) p = tt
-body-by w (reach_after below d) (NUMBER c) = reads-body _ (until_with w below d (after {c = c})) want (simp (append_assoc, append-nil))
+body-by w (reach_after below d) (NUMBER c) = reads-body _ (until_with w below d (until_after {c = c})) want (simp (append_assoc, append-nil))
 body-by w (reach_after below d) p = tt
 body-by w ticks_wanted (NUMBER c) = reads-body _ (bounded_by c w) want (simp (append_assoc, append-nil))
 body-by w ticks_wanted p = tt
@@ -560,7 +548,7 @@ end-by w (in_term {fs = fs} {last = last} {ys = zs} (right {op = op} t) r) = com
 end-by w (in_term assigned r) = tt
 end-by w (in_spatial r) = tt
 
--- the tokens behind WHERE that are parsed spell the formula
+-- the tokens after WHERE that are parsed spell the formula
 body-spells : (tokens : List Piece) (s : List Frame) (phase : Phase) (xs : List Piece) → ReadsBody s phase xs →
     FormulaIf (body_parsed s phase tokens) (xs ++ tokens)
 body-spells [] s phase xs r =
@@ -581,7 +569,7 @@ QueryIf (Some q) xs = SpellsQuery q xs
 query-respelled : (o : Option QueryTree) (xs ys : List Piece) → xs ≡ ys → QueryIf o xs → QueryIf o ys
 query-respelled o xs ys e d = subst (QueryIf o) e d
 
--- a formula behind a head
+-- a formula after a head
 whole-query : {ns : List (List ℕ)} {ps : List FromPart} {xs ys : List Piece} → SpellsNames ns xs → SpellsParts ps ys →
     (o : Option Tree) (tokens : List Piece) → FormulaIf o tokens → QueryIf (option_map (query_with ns ps) o) (RETRIEVE ∷ (xs ++ FROM ∷ (ys ++ WHERE ∷ tokens)))
 whole-query names froms None tokens d = tt
@@ -592,7 +580,7 @@ behind-head : {ns : List (List ℕ)} {ps : List FromPart} {xs ys : List Piece} �
 behind-head {ns = ns} {ps = ps} names froms tokens =
     rw (parsed-Within ns ps [] Want tokens) (whole-query names froms (body_parsed [] Want tokens) tokens (body-spells tokens [] Want [] (reads-body [] bottom want refl)))
 
--- the tokens of a query before WHERE, and what comes behind them
+-- the tokens of a query before WHERE, and what comes after them
 head-spells : {h : Head} {ns : List (List ℕ)} {ps : List FromPart} {xs : List Piece} (tokens : List Piece) → ReadsHead h ns ps xs →
     QueryIf (parsed (Heading h ns ps) tokens) (xs ++ tokens)
 head-spells [] r = tt

@@ -11,7 +11,6 @@ pub mod RunLemmas
 pub mod StackLemmas
 pub mod TableLemmas
 pub mod Stuck
-pub mod TextBegins
 pub mod TextLengths
 pub mod TextNumbers
 pub mod TextReads

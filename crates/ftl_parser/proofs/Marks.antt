@@ -11,12 +11,12 @@ use Rattle.ftl_parser.specs.declared.tree.Atom as atom_type
 use Rattle.ftl_parser.specs.declared.tree.Unit as unit_type
 use Rattle.ftl_parser.specs.declared.tree.Signed.{Signed}
 use Rattle.ftl_parser.specs.declared.tree.FromPart.{FromPart}
-use Rattle.ftl_parser.specs.declared.state.Prefix.{Prefix}
-use Rattle.ftl_parser.specs.declared.state.Prefix.TheVariants as prefixes
+use Rattle.ftl_parser.specs.declared.prefix.Prefix.{Prefix}
+use Rattle.ftl_parser.specs.declared.prefix.Prefix.TheVariants as prefixes
 use Rattle.ftl_parser.specs.Tree.{Tree, QueryTree}
 use Rattle.ftl_parser.specs.Piece.{Piece, FROM, WHERE, AND, OR, UNTIL, CLOSE, CLOSE_SQUARE, COMMA, PLUS, MINUS, STAR, COMPARISON, NAME, NUMBER}
 use Rattle.ftl_parser.specs.Number.{Ticks, Times, Literal, Radius}
-use Rattle.ftl_parser.specs.Grammar.{SpellsRef, ref_name, ref_attr, ref_part, ref_time, SpellsFactor, factor_number, factor_times, factor_text, factor_ref, SpellsTerm, term_first, term_minus_first, term_plus, term_minus, SpellsNum, num_plain, num_minus, SpellsNames, names_one, names_more, SpellsParts, parts_one, parts_more, SpellsAtom, atom_compare, atom_inside, atom_outside, atom_dist, atom_sphere, Level, Spells, formula_conj, formula_or, conj_chain, conj_and, chain_unary, chain_until, chain_until_within, chain_until_after, unary_prefix, unary_bounded, unary_assign, unary_brackets, unary_truth, unary_atom, SpellsQuery, query, prefixed, term_of}
+use Rattle.ftl_parser.specs.Grammar.{SpellsRef, ref_name, ref_attr, ref_part, ref_time, SpellsFactor, factor_number, factor_times, factor_text, factor_ref, SpellsTerm, term_first, term_minus_first, term_plus, term_minus, SpellsNum, num_plain, num_minus, SpellsNames, names_one, names_more, SpellsParts, parts_one, parts_more, SpellsAtom, atom_compare, atom_inside, atom_outside, atom_dist, atom_sphere, Level, Spells, formula_conj, formula_or, conj_chain, conj_and, chain_unary, chain_until, until_plain, until_within, until_after, unary_prefix, unary_bounded, unary_assign, unary_brackets, unary_truth, unary_atom, SpellsQuery, query, prefixed, term_of}
 use Rattle.ftl_parser.specs.Marks.{unfit, clear, factor_marks, term_marks, num_marks, atom_marks, marks, query_marks, first_unfit}
 use Rattle.ftl_parser.specs.Scan.{scan, place_before}
 use Rattle.ftl_parser.proofs.Bodies.{cuts, never}
@@ -98,12 +98,12 @@ scan-formula (conj_chain d) rest h = scan-formula d rest h
 scan-formula (conj_and {xs = xs} {ys = ys} d e) rest h =
     joined (marks d) (marks e) xs ys rest AND (scan-formula d (AND ∷ (ys ++ rest)) refl) (ap (λ m. false ∷ m) (scan-formula e rest h))
 scan-formula (chain_unary d) rest h = scan-formula d rest h
-scan-formula (chain_until {xs = xs} {ys = ys} d e) rest h =
+scan-formula (chain_until {xs = xs} {ys = ys} until_plain d e) rest h =
     joined (marks d) (marks e) xs ys rest (UNTIL untils.Plain) (scan-formula d (UNTIL untils.Plain ∷ (ys ++ rest)) refl) (ap (λ m. false ∷ m) (scan-formula e rest h))
-scan-formula (chain_until_within {xs = xs} {ys = ys} c d e) rest h =
+scan-formula (chain_until {xs = xs} {ys = ys} (until_within {c = c}) d e) rest h =
     joined (marks d) (unfit Ticks c ∷ marks e) xs (NUMBER c ∷ ys) rest (UNTIL untils.Within) (scan-formula d (UNTIL untils.Within ∷ NUMBER c ∷ (ys ++ rest)) refl)
     (ap (λ m. false ∷ unfit Ticks c ∷ m) (scan-formula e rest h))
-scan-formula (chain_until_after {xs = xs} {ys = ys} c d e) rest h =
+scan-formula (chain_until {xs = xs} {ys = ys} (until_after {c = c}) d e) rest h =
     joined (marks d) (unfit Ticks c ∷ marks e) xs (NUMBER c ∷ ys) rest (UNTIL untils.After) (scan-formula d (UNTIL untils.After ∷ NUMBER c ∷ (ys ++ rest)) refl)
     (ap (λ m. false ∷ unfit Ticks c ∷ m) (scan-formula e rest h))
 scan-formula (unary_prefix d) rest h = ap (λ m. false ∷ m) (scan-formula d rest h)

@@ -4,8 +4,8 @@ use Rattle.std.specs.List.{flat_map}
 use Rattle.std.proofs.lemmas.Grind.{flat_map-append}
 use Rattle.fixed_point.specs.declared.variants.UntilForm.TheVariants as untils
 use Rattle.formula_shape.specs.Shape.{Shape}
-use Rattle.ftl_parser.specs.declared.state.Prefix.{Prefix}
-use Rattle.ftl_parser.specs.declared.state.Prefix.TheVariants as prefixes
+use Rattle.ftl_parser.specs.declared.prefix.Prefix.{Prefix}
+use Rattle.ftl_parser.specs.declared.prefix.Prefix.TheVariants as prefixes
 use Rattle.ftl_parser.specs.declared.tree.Atom as atom_type
 use Rattle.ftl_parser.specs.declared.tree.Unit as unit_type
 use Rattle.ftl_parser.specs.declared.tree.Signed.{Signed}
@@ -13,7 +13,7 @@ use Rattle.ftl_parser.specs.declared.tree.Term.{Term}
 use Rattle.ftl_parser.specs.declared.tree.FromPart.{FromPart}
 use Rattle.ftl_parser.specs.Tree.{Tree, QueryTree}
 use Rattle.ftl_parser.specs.Piece.{Piece, RETRIEVE, FROM, WHERE, AND, OR, PREFIX, BOUNDED, UNTIL, OPEN, CLOSE, OPEN_SQUARE, CLOSE_SQUARE, COMMA, PLUS, MINUS, ARROW, COMPARISON, NAME, NUMBER}
-use Rattle.ftl_parser.specs.Grammar.{SpellsRef, ref_name, ref_attr, ref_part, ref_time, SpellsFactor, factor_number, factor_times, factor_text, factor_ref, SpellsTerm, term_first, term_minus_first, term_plus, term_minus, SpellsNum, num_plain, num_minus, SpellsNames, names_one, names_more, SpellsParts, parts_one, parts_more, SpellsAtom, atom_compare, atom_inside, atom_outside, atom_dist, atom_sphere, Level, Spells, formula_conj, formula_or, conj_chain, conj_and, chain_unary, chain_until, chain_until_within, chain_until_after, unary_prefix, unary_bounded, unary_assign, unary_brackets, unary_truth, unary_atom, SpellsQuery, query, prefixed, term_of, signed, from_part}
+use Rattle.ftl_parser.specs.Grammar.{SpellsRef, ref_name, ref_attr, ref_part, ref_time, SpellsFactor, factor_number, factor_times, factor_text, factor_ref, SpellsTerm, term_first, term_minus_first, term_plus, term_minus, SpellsNum, num_plain, num_minus, SpellsNames, names_one, names_more, SpellsParts, parts_one, parts_more, SpellsAtom, atom_compare, atom_inside, atom_outside, atom_dist, atom_sphere, Level, Spells, formula_conj, formula_or, conj_chain, conj_and, chain_unary, chain_until, until_plain, until_within, until_after, unary_prefix, unary_bounded, unary_assign, unary_brackets, unary_truth, unary_atom, SpellsQuery, query, prefixed, term_of, signed, from_part}
 use Rattle.ftl_parser.specs.Order.{Lists, unit_lists, factors_list, term_lists, atom_lists, formula_lists, part_lists, query_lists, piece_lists, token_lists, query_names, token_names, query_texts, token_texts, names_alone, texts_alone, atom_terms, formula_terms, query_terms, TermsIn, no_more_terms, next_term}
 
 -- ---- names and texts, whatever they list
@@ -91,11 +91,11 @@ module _ {R : Type 0} (l : Lists R) where
   lists-formula (conj_chain d) = lists-formula d
   lists-formula (conj_and {f = f} {g = g} {xs = xs} {ys = ys} d e) = joined (formula_lists l f) (formula_lists l g) xs (AND ∷ ys) (lists-formula d) (lists-formula e)
   lists-formula (chain_unary d) = lists-formula d
-  lists-formula (chain_until {f = f} {g = g} {xs = xs} {ys = ys} d e) =
+  lists-formula (chain_until {f = f} {g = g} {xs = xs} {ys = ys} until_plain d e) =
       joined (formula_lists l f) (formula_lists l g) xs (UNTIL untils.Plain ∷ ys) (lists-formula d) (lists-formula e)
-  lists-formula (chain_until_within {f = f} {g = g} {xs = xs} {ys = ys} c d e) =
+  lists-formula (chain_until {f = f} {g = g} {xs = xs} {ys = ys} (until_within {c = c}) d e) =
       joined (formula_lists l f) (formula_lists l g) xs (UNTIL untils.Within ∷ NUMBER c ∷ ys) (lists-formula d) (lists-formula e)
-  lists-formula (chain_until_after {f = f} {g = g} {xs = xs} {ys = ys} c d e) =
+  lists-formula (chain_until {f = f} {g = g} {xs = xs} {ys = ys} (until_after {c = c}) d e) =
       joined (formula_lists l f) (formula_lists l g) xs (UNTIL untils.After ∷ NUMBER c ∷ ys) (lists-formula d) (lists-formula e)
   lists-formula (unary_prefix {w = w} {f = f} d) = lists-prefixed w f ∙ lists-formula d
   lists-formula (unary_bounded d) = lists-formula d
@@ -119,7 +119,7 @@ texts_in_order tokens q d = lists-query texts_alone d
 
 -- ---- terms
 
--- behind other tokens
+-- after other tokens
 behind : {ts : List Term} {ys : List Piece} (xs : List Piece) → TermsIn ts ys → TermsIn ts (xs ++ ys)
 behind xs no_more_terms = no_more_terms
 behind xs (next_term {ts = ts} {ys = ys} {zs = zs} gap d later) =
@@ -156,9 +156,7 @@ terms-formula (formula_or d e) = both (terms-formula d) (behind (OR ∷ []) (ter
 terms-formula (conj_chain d) = terms-formula d
 terms-formula (conj_and d e) = both (terms-formula d) (behind (AND ∷ []) (terms-formula e))
 terms-formula (chain_unary d) = terms-formula d
-terms-formula (chain_until d e) = both (terms-formula d) (behind (UNTIL untils.Plain ∷ []) (terms-formula e))
-terms-formula (chain_until_within c d e) = both (terms-formula d) (behind (UNTIL untils.Within ∷ NUMBER c ∷ []) (terms-formula e))
-terms-formula (chain_until_after c d e) = both (terms-formula d) (behind (UNTIL untils.After ∷ NUMBER c ∷ []) (terms-formula e))
+terms-formula (chain_until {us = us} u d e) = both (terms-formula d) (behind us (terms-formula e))
 terms-formula (unary_prefix {w = w} {f = f} {xs = xs} d) = subst (λ ts. TermsIn ts (PREFIX w ∷ xs)) (terms-prefixed w f) (behind (PREFIX w ∷ []) (terms-formula d))
 terms-formula (unary_bounded {form = form} {c = c} d) = behind (BOUNDED form ∷ NUMBER c ∷ []) (terms-formula d)
 terms-formula (unary_assign {v = v} t d) = next_term (OPEN_SQUARE ∷ NAME v ∷ ARROW ∷ []) t (behind (CLOSE_SQUARE ∷ []) (terms-formula d))

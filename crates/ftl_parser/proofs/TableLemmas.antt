@@ -4,7 +4,7 @@ use Rattle.std.specs.List.{list_all}
 use Rattle.ftl_lexer.specs.declared.kinds.Kind.{Kind}
 use Rattle.ftl_lexer.specs.declared.kinds.Kind.TheVariants as kinds
 use Rattle.ftl_parser.specs.declared.scan.Coming.{Coming}
-use Rattle.ftl_parser.specs.Piece.{Piece, piece_of, signs, words, NAME, NUMBER, TEXT, OTHER}
+use Rattle.ftl_parser.specs.Piece.{Piece, piece_of, signs, reserved, NAME, NUMBER, TEXT, OTHER}
 use Rattle.ftl_parser.specs.Scan.{mark}
 
 -- neither a name nor a number nor a text
@@ -30,4 +30,4 @@ unmarked-token c kinds.Name bytes rest other = refl
 unmarked-token c kinds.Number bytes rest other = absurd (other refl)
 unmarked-token c kinds.Text bytes rest other = refl
 unmarked-token c (kinds.Sym code) bytes rest other = unmarked c _ rest (in-table signs code refl)
-unmarked-token c (kinds.Key code) bytes rest other = unmarked c _ rest (in-table words code refl)
+unmarked-token c (kinds.Key code) bytes rest other = unmarked c _ rest (in-table reserved code refl)

@@ -22,7 +22,7 @@ use Rattle.case_table.specs.Language.{reserved_words, symbols}
 use Rattle.ftl_lexer.specs.declared.kinds.Kind.{Kind}
 use Rattle.ftl_lexer.specs.declared.kinds.Kind.TheVariants as kinds
 use Rattle.ftl_lexer.specs.declared.kinds.Token.{Token}
-use Rattle.ftl_lexer.specs.Tokens.{lexemes, tokens_of, text_of}
+use Rattle.ftl_lexer.specs.Tokens.{lexemes, tokens_of, bytes_of_token}
 use Rattle.ftl_lexer.specs.Cut.{Lexeme, HasForm, is_word, is_number, IsQuoted}
 use Rattle.ftl_lexer.specs.Laws.{HaveForms, SpansAscend}
 use Rattle.ftl_lexer.proofs.Shapes.{tokens_have_forms}
@@ -30,18 +30,18 @@ use Rattle.ftl_lexer.proofs.Spans.{spans_ascend}
 use Rattle.ftl_lexer.proofs.Fronts.{unquoted_parts}
 use Rattle.geometry.specs.declared.limits.TheConstants.{RADIUS_LIMIT}
 use Rattle.tick_set.specs.declared.spans.TheConstants.{LAST_TICK}
-use Rattle.ftl_parser.specs.declared.limits.TheConstants.{TIMES_LIMIT}
-use Rattle.ftl_parser.specs.declared.state.Prefix.{Prefix}
-use Rattle.ftl_parser.specs.declared.state.Prefix.TheVariants as prefixes
+use Rattle.formula_shape.specs.declared.limits.TheConstants.{TIMES_LIMIT}
+use Rattle.ftl_parser.specs.declared.prefix.Prefix.{Prefix}
+use Rattle.ftl_parser.specs.declared.prefix.Prefix.TheVariants as prefixes
 use Rattle.ftl_parser.specs.declared.tree.Atom as atom_type
 use Rattle.ftl_parser.specs.declared.tree.Unit as unit_type
 use Rattle.ftl_parser.specs.declared.tree.Signed.{Signed}
 use Rattle.ftl_parser.specs.declared.tree.FromPart.{FromPart}
 use Rattle.ftl_parser.specs.Tree.{Tree, QueryTree}
-use Rattle.ftl_parser.specs.Piece.{Piece, RETRIEVE, FROM, WHERE, AND, OR, TRUTH, PREFIX, BOUNDED, UNTIL, INSIDE, OUTSIDE, DIST, SPHERE, TIME, PART, CLOSE, CLOSE_SQUARE, COMMA, PLUS, MINUS, COMPARISON, NAME, NUMBER, TEXT, OTHER, words, signs, unquoted, piece_of, pieces}
+use Rattle.ftl_parser.specs.Piece.{Piece, RETRIEVE, FROM, WHERE, AND, OR, TRUTH, PREFIX, BOUNDED, UNTIL, INSIDE, OUTSIDE, DIST, SPHERE, TIME, PART, CLOSE, CLOSE_SQUARE, COMMA, PLUS, MINUS, COMPARISON, NAME, NUMBER, TEXT, OTHER, reserved, signs, unquoted, piece_of, pieces}
 use Rattle.ftl_parser.specs.Words.{is_short}
 use Rattle.ftl_parser.specs.Number.{ticks, times, literal, radius}
-use Rattle.ftl_parser.specs.Grammar.{SpellsRef, ref_name, ref_attr, ref_part, ref_time, SpellsFactor, factor_number, factor_times, factor_text, factor_ref, SpellsTerm, term_first, term_minus_first, term_plus, term_minus, SpellsNum, num_plain, num_minus, SpellsNames, names_one, names_more, SpellsParts, parts_one, parts_more, SpellsAtom, atom_compare, atom_inside, atom_outside, atom_dist, atom_sphere, Level, Spells, formula_conj, formula_or, conj_chain, conj_and, chain_unary, chain_until, chain_until_within, chain_until_after, unary_prefix, unary_bounded, unary_assign, unary_brackets, unary_truth, unary_atom, SpellsQuery, query, prefixed, signed, from_part, term_of}
+use Rattle.ftl_parser.specs.Grammar.{SpellsRef, ref_name, ref_attr, ref_part, ref_time, SpellsFactor, factor_number, factor_times, factor_text, factor_ref, SpellsTerm, term_first, term_minus_first, term_plus, term_minus, SpellsNum, num_plain, num_minus, SpellsNames, names_one, names_more, SpellsParts, parts_one, parts_more, SpellsAtom, atom_compare, atom_inside, atom_outside, atom_dist, atom_sphere, Level, Spells, formula_conj, formula_or, conj_chain, conj_and, chain_unary, chain_until, until_plain, until_within, until_after, unary_prefix, unary_bounded, unary_assign, unary_brackets, unary_truth, unary_atom, SpellsQuery, query, prefixed, signed, from_part, term_of}
 use Rattle.ftl_parser.specs.Text as text
 use Rattle.ftl_parser.specs.Text.{truth_word, bound_word, sub_word, op_word, later_names, names_text, part_text, later_parts, parts_text, unit_text, times_text, first_sign, later_sign, later_factors, factors_text, pair_text, atom_text, until_text, prefix_text, bound_text, assign_text, in_brackets, formula_text, query_text}
 use Rattle.ftl_parser.specs.TextLaws.{bytes_of, PrintsShortly, PrintsShorterThanFourLines, TokensFit}
@@ -49,13 +49,13 @@ use Rattle.ftl_parser.proofs.TextNumbers.{fix_short, minus_short, whole_short}
 
 -- ---- the bytes of tokens lie in their line
 
-spans_fit : (line : List ℕ) (from : ℕ) (tokens : List Token) → from ≤ length line → SpansAscend from (length line) tokens → bytes_of (map (λ t. (t.kind, text_of line t)) tokens) + from ≤ length line
+spans_fit : (line : List ℕ) (from : ℕ) (tokens : List Token) → from ≤ length line → SpansAscend from (length line) tokens → bytes_of (map (λ t. (t.kind, bytes_of_token line t)) tokens) + from ≤ length line
 spans_fit line from [] within ascend = omega arith
 spans_fit line from (t ∷ tokens) within ascend =
-    let later : bytes_of (map (λ t. (t.kind, text_of line t)) tokens) + t.hi ≤ length line = spans_fit line t.hi tokens ascend.2 ascend.3 in
-    let this : length (text_of line t) ≤ t.hi - t.lo = rw (length-take (t.hi - t.lo) (drop t.lo line)) (omega arith) in
-    let sum : bytes_of (map (λ t. (t.kind, text_of line t)) (t ∷ tokens)) ≡ length (text_of line t) + bytes_of (map (λ t. (t.kind, text_of line t)) tokens) =
-    sum_by-cons (λ (l : Lexeme). length l.1) (t.kind, text_of line t) (map (λ t. (t.kind, text_of line t)) tokens) in
+    let later : bytes_of (map (λ t. (t.kind, bytes_of_token line t)) tokens) + t.hi ≤ length line = spans_fit line t.hi tokens ascend.2 ascend.3 in
+    let this : length (bytes_of_token line t) ≤ t.hi - t.lo = rw (length-take (t.hi - t.lo) (drop t.lo line)) (omega arith) in
+    let sum : bytes_of (map (λ t. (t.kind, bytes_of_token line t)) (t ∷ tokens)) ≡ length (bytes_of_token line t) + bytes_of (map (λ t. (t.kind, bytes_of_token line t)) tokens) =
+    sum_by-cons (λ (l : Lexeme). length l.1) (t.kind, bytes_of_token line t) (map (λ t. (t.kind, bytes_of_token line t)) tokens) in
     omega (arith, later, this, sum, ascend.0, ascend.1)
 
 pub tokens_fit : TokensFit
@@ -105,7 +105,7 @@ row_long need (r ∷ rows) word code all is =
       | inr other ↦ row_long need rows word code parts.1 (rw other at is)
     ]
 
-words_long : list_all (λ r. leb (weight (unwrap_or (slice_get words r.1) OTHER)) (length r.0)) reserved_words ≡ true
+words_long : list_all (λ r. leb (weight (unwrap_or (slice_get reserved r.1) OTHER)) (length r.0)) reserved_words ≡ true
 unfolding reserved_words
 words_long = refl
 
@@ -137,7 +137,7 @@ piece_long kinds.Name bytes form = omega (arith, word_long bytes form.0, word_sh
 piece_long kinds.Number bytes form = number_long bytes form
 piece_long kinds.Text bytes form = omega (arith, text_long bytes form, word_shorter (is_short (unquoted bytes)) (unquoted bytes))
 piece_long (kinds.Sym code) bytes form = row_long (λ (c : ℕ). weight (unwrap_or (slice_get signs c) OTHER)) symbols bytes code signs_long form
-piece_long (kinds.Key code) bytes form = row_long (λ (c : ℕ). weight (unwrap_or (slice_get words c) OTHER)) reserved_words bytes code words_long form
+piece_long (kinds.Key code) bytes form = row_long (λ (c : ℕ). weight (unwrap_or (slice_get reserved c) OTHER)) reserved_words bytes code words_long form
 
 pieces_long : (tokens : List Lexeme) → HaveForms tokens → load (pieces tokens) ≤ bytes_of tokens
 pieces_long [] forms = omega arith
@@ -219,7 +219,7 @@ factor_short (factor_times {n = n} {u = u} {xs = xs} r) =
 factor_short (factor_text {t = t}) = omega (arith, length-append t (34 ∷ []))
 factor_short (factor_ref r) = ref_short r
 
--- a factor behind others
+-- a factor after others
 terms_size : (fs : List Signed) (f : Signed) → length (factors_text (fs ++ f ∷ [])) ≤ length (factors_text fs) + 3 + factor_size f.times f.unit
 terms_size [] f =
     omega (arith, length-append (first_sign f.minus) (times_text f.times ++ unit_text f.unit), length-append (first_sign f.minus ++ (times_text f.times ++ unit_text f.unit)) [], first_short f.minus)
@@ -313,11 +313,11 @@ formula_short (conj_chain d) = formula_short d
 formula_short (conj_and {f = f} {g = g} {xs = xs} {ys = ys} d e) =
     omega (arith, brackets_size (formula_text f) (codes " AND ") (formula_text g), load_at xs AND ys, formula_short d, formula_short e)
 formula_short (chain_unary d) = formula_short d
-formula_short (chain_until {f = f} {g = g} {xs = xs} {ys = ys} d e) =
+formula_short (chain_until {f = f} {g = g} {xs = xs} {ys = ys} until_plain d e) =
     omega (arith, brackets_size (formula_text f) (codes " UNTIL ") (formula_text g), load_at xs (UNTIL untils.Plain) ys, formula_short d, formula_short e)
-formula_short (chain_until_within {f = f} {g = g} {xs = xs} {ys = ys} c d e) =
+formula_short (chain_until {f = f} {g = g} {xs = xs} {ys = ys} (until_within {c = c}) d e) =
     omega (arith, brackets_size (formula_text f) (until_text untils.Within (ticks c)) (formula_text g), length-append (decimal (ticks c)) (codes " "), load_at xs (UNTIL untils.Within) (NUMBER c ∷ ys), whole_short LAST_TICK c (omega arith), formula_short d, formula_short e)
-formula_short (chain_until_after {f = f} {g = g} {xs = xs} {ys = ys} c d e) =
+formula_short (chain_until {f = f} {g = g} {xs = xs} {ys = ys} (until_after {c = c}) d e) =
     omega (arith, brackets_size (formula_text f) (until_text untils.After (ticks c)) (formula_text g), length-append (decimal (ticks c)) (codes " "), load_at xs (UNTIL untils.After) (NUMBER c ∷ ys), whole_short LAST_TICK c (omega arith), formula_short d, formula_short e)
 formula_short (unary_prefix {w = w} {f = f} d) =
     omega (arith, ap length (prefixed_text w f), length-append (prefix_text w) (formula_text f), prefix_short w, formula_short d)

@@ -19,8 +19,8 @@ use Rattle.ftl_lexer.specs.Tokens.{lexemes, bad_place}
 use Rattle.ftl_lexer.proofs.Cuts.{lexemes_from_cut}
 use Rattle.tick_set.specs.declared.spans.TheConstants.{LAST_TICK}
 use Rattle.formula_shape.specs.Shape.{Shape}
-use Rattle.ftl_parser.specs.declared.state.Prefix.{Prefix}
-use Rattle.ftl_parser.specs.declared.state.Prefix.TheVariants as prefixes
+use Rattle.ftl_parser.specs.declared.prefix.Prefix.{Prefix}
+use Rattle.ftl_parser.specs.declared.prefix.Prefix.TheVariants as prefixes
 use Rattle.ftl_parser.specs.declared.tree.Atom as atom_type
 use Rattle.ftl_parser.specs.declared.tree.Atom.TheVariants as atoms
 use Rattle.ftl_parser.specs.declared.tree.Unit as unit_type
@@ -30,7 +30,7 @@ use Rattle.ftl_parser.specs.declared.tree.FromPart.{FromPart}
 use Rattle.ftl_parser.specs.Tree.{Tree, QueryTree}
 use Rattle.ftl_parser.specs.Piece.{Piece, RETRIEVE, FROM, WHERE, AND, OR, TRUTH, PREFIX, BOUNDED, UNTIL, INSIDE, OUTSIDE, DIST, SPHERE, TIME, PART, OPEN, CLOSE, OPEN_SQUARE, CLOSE_SQUARE, COMMA, POINT, PLUS, MINUS, STAR, ARROW, COMPARISON, NAME, NUMBER, TEXT, pieces, pieces_from, lexemes_from, has_long}
 use Rattle.ftl_parser.specs.Number.{fits, Literal, Radius, Ticks, Times}
-use Rattle.ftl_parser.specs.Grammar.{SpellsRef, ref_name, ref_attr, ref_part, ref_time, SpellsFactor, factor_number, factor_times, factor_text, factor_ref, SpellsTerm, term_first, term_minus_first, term_plus, term_minus, SpellsNum, num_plain, num_minus, SpellsNames, names_one, names_more, SpellsParts, parts_one, parts_more, SpellsAtom, atom_compare, atom_inside, atom_outside, atom_dist, atom_sphere, formula, unary, Spells, formula_conj, formula_or, conj_chain, conj_and, chain_unary, chain_until, chain_until_within, chain_until_after, unary_prefix, unary_bounded, unary_assign, unary_brackets, unary_truth, unary_atom, SpellsQuery, query, prefixed, signed, from_part, term_of}
+use Rattle.ftl_parser.specs.Grammar.{SpellsRef, ref_name, ref_attr, ref_part, ref_time, SpellsFactor, factor_number, factor_times, factor_text, factor_ref, SpellsTerm, term_first, term_minus_first, term_plus, term_minus, SpellsNum, num_plain, num_minus, SpellsNames, names_one, names_more, SpellsParts, parts_one, parts_more, SpellsAtom, atom_compare, atom_inside, atom_outside, atom_dist, atom_sphere, formula, unary, Spells, formula_conj, formula_or, conj_chain, conj_and, chain_unary, chain_until, until_plain, until_within, until_after, unary_prefix, unary_bounded, unary_assign, unary_brackets, unary_truth, unary_atom, SpellsQuery, query, prefixed, signed, from_part, term_of}
 use Rattle.ftl_parser.specs.Marks.{unfit, clear, factor_marks, term_marks, num_marks, atom_marks, marks, query_marks, first_unfit}
 use Rattle.ftl_parser.specs.Sizes.{first_too_large}
 use Rattle.ftl_parser.specs.Lawful.{OneOrMore, IsShortName, IsQuotable, IsPart, IsRef, IsUnit, IsMultiple, IsFactor, IsAtom, IsBound, IsFormula, IsPrintable}
@@ -69,7 +69,7 @@ none_found ms c =
 fitting : (b : Bool) → b ≡ true → not b ≡ false
 fitting b h = rw h refl
 
--- ---- a part of a text is cut into tokens that are spelled so, whatever stands behind it
+-- ---- a part of a text is cut into tokens that are spelled so, whatever stands after it
 
 pub record Reads (part : List ℕ) (Spelled : List Piece → Type 0) : Type 0 where
   tokens : List Piece
@@ -474,7 +474,7 @@ until_reads untils.Plain n f g bound l r =
     record {
       tokens = tokens;
       spelled = subst (λ (k : ℕ). UnaryOf (Shape.Until untils.Plain k f g) tokens) (sym bound)
-          (unary_brackets (formula_conj (conj_chain (chain_until l.spelled.0 (chain_unary r.spelled.0)))), in_brackets_clear (marks l.spelled.0 ++ false ∷ marks r.spelled.0) (joined (marks l.spelled.0) (false ∷ marks r.spelled.0) l.spelled.1 (refl, r.spelled.1)));
+          (unary_brackets (formula_conj (conj_chain (chain_until until_plain l.spelled.0 (chain_unary r.spelled.0)))), in_brackets_clear (marks l.spelled.0 ++ false ∷ marks r.spelled.0) (joined (marks l.spelled.0) (false ∷ marks r.spelled.0) l.spelled.1 (refl, r.spelled.1)));
       again = λ rest ps ends is. brackets_again (formula_text f) (codes " UNTIL ") (formula_text g) (UnaryOf f) (UnaryOf g) l r (UNTIL untils.Plain ∷ []) until_joins rest ps is;
     }
 until_reads untils.Within n f g bound l r =
@@ -482,7 +482,7 @@ until_reads untils.Within n f g bound l r =
     record {
       tokens = tokens;
       spelled = subst (λ (k : ℕ). UnaryOf (Shape.Until untils.Within k f g) tokens) (ticks_again n bound)
-          (unary_brackets (formula_conj (conj_chain (chain_until_within (decimal n) l.spelled.0 (chain_unary r.spelled.0)))), in_brackets_clear (marks l.spelled.0 ++ false ∷ unfit Ticks (decimal n) ∷ marks r.spelled.0) (joined (marks l.spelled.0) (false ∷ unfit Ticks (decimal n) ∷ marks r.spelled.0) l.spelled.1 (refl, (fitting (fits Ticks (decimal n)) (ticks_fit n bound), r.spelled.1))));
+          (unary_brackets (formula_conj (conj_chain (chain_until (until_within {c = decimal n}) l.spelled.0 (chain_unary r.spelled.0)))), in_brackets_clear (marks l.spelled.0 ++ false ∷ unfit Ticks (decimal n) ∷ marks r.spelled.0) (joined (marks l.spelled.0) (false ∷ unfit Ticks (decimal n) ∷ marks r.spelled.0) l.spelled.1 (refl, (fitting (fits Ticks (decimal n)) (ticks_fit n bound), r.spelled.1))));
       again = λ rest ps ends is. brackets_again (formula_text f) (until_text untils.Within n) (formula_text g) (UnaryOf f) (UnaryOf g) l r (UNTIL untils.Within ∷ NUMBER (decimal n) ∷ []) (within_joins n bound) rest ps is;
     }
 until_reads untils.After n f g bound l r =
@@ -490,7 +490,7 @@ until_reads untils.After n f g bound l r =
     record {
       tokens = tokens;
       spelled = subst (λ (k : ℕ). UnaryOf (Shape.Until untils.After k f g) tokens) (ticks_again n bound)
-          (unary_brackets (formula_conj (conj_chain (chain_until_after (decimal n) l.spelled.0 (chain_unary r.spelled.0)))), in_brackets_clear (marks l.spelled.0 ++ false ∷ unfit Ticks (decimal n) ∷ marks r.spelled.0) (joined (marks l.spelled.0) (false ∷ unfit Ticks (decimal n) ∷ marks r.spelled.0) l.spelled.1 (refl, (fitting (fits Ticks (decimal n)) (ticks_fit n bound), r.spelled.1))));
+          (unary_brackets (formula_conj (conj_chain (chain_until (until_after {c = decimal n}) l.spelled.0 (chain_unary r.spelled.0)))), in_brackets_clear (marks l.spelled.0 ++ false ∷ unfit Ticks (decimal n) ∷ marks r.spelled.0) (joined (marks l.spelled.0) (false ∷ unfit Ticks (decimal n) ∷ marks r.spelled.0) l.spelled.1 (refl, (fitting (fits Ticks (decimal n)) (ticks_fit n bound), r.spelled.1))));
       again = λ rest ps ends is. brackets_again (formula_text f) (until_text untils.After n) (formula_text g) (UnaryOf f) (UnaryOf g) l r (UNTIL untils.After ∷ NUMBER (decimal n) ∷ []) (after_joins n bound) rest ps is;
     }
 

@@ -21,19 +21,19 @@ use Rattle.fixed_point.specs.declared.short_text.TheConstants.{WORD_LIMIT}
 use Rattle.fixed_point.specs.declared.variants.UntilForm.TheVariants as untils
 use Rattle.geometry.specs.declared.limits.TheConstants.{RADIUS_LIMIT}
 use Rattle.tick_set.specs.declared.spans.TheConstants.{LAST_TICK}
-use Rattle.ftl_parser.specs.declared.limits.TheConstants.{TIMES_LIMIT}
-use Rattle.ftl_parser.specs.declared.state.Prefix.{Prefix}
-use Rattle.ftl_parser.specs.declared.state.Prefix.TheVariants as prefixes
+use Rattle.formula_shape.specs.declared.limits.TheConstants.{TIMES_LIMIT}
+use Rattle.ftl_parser.specs.declared.prefix.Prefix.{Prefix}
+use Rattle.ftl_parser.specs.declared.prefix.Prefix.TheVariants as prefixes
 use Rattle.ftl_parser.specs.declared.tree.Atom as atom_type
 use Rattle.ftl_parser.specs.declared.tree.Unit as unit_type
 use Rattle.ftl_parser.specs.declared.tree.Unit.TheVariants as units
 use Rattle.ftl_parser.specs.declared.tree.Signed.{Signed}
 use Rattle.ftl_parser.specs.declared.tree.FromPart.{FromPart}
 use Rattle.ftl_parser.specs.Tree.{Tree, QueryTree}
-use Rattle.ftl_parser.specs.Piece.{Piece, FROM, WHERE, AND, OR, UNTIL, CLOSE, CLOSE_SQUARE, COMMA, PLUS, MINUS, COMPARISON, NAME, NUMBER, TEXT, words, signs, OTHER, piece_of, pieces, pieces_from, lexemes_from, is_long, has_long, unquoted}
+use Rattle.ftl_parser.specs.Piece.{Piece, FROM, WHERE, AND, OR, UNTIL, CLOSE, CLOSE_SQUARE, COMMA, PLUS, MINUS, COMPARISON, NAME, NUMBER, TEXT, reserved, signs, OTHER, piece_of, pieces, pieces_from, lexemes_from, is_long, has_long, unquoted}
 use Rattle.ftl_parser.specs.Words.{is_short}
 use Rattle.ftl_parser.specs.Number.{whole_of, literal, radius}
-use Rattle.ftl_parser.specs.Grammar.{SpellsRef, ref_name, ref_attr, ref_part, ref_time, SpellsFactor, factor_number, factor_times, factor_text, factor_ref, SpellsTerm, term_first, term_minus_first, term_plus, term_minus, SpellsNum, num_plain, num_minus, SpellsNames, names_one, names_more, SpellsParts, parts_one, parts_more, SpellsAtom, atom_compare, atom_inside, atom_outside, atom_dist, atom_sphere, Level, Spells, formula_conj, formula_or, conj_chain, conj_and, chain_unary, chain_until, chain_until_within, chain_until_after, unary_prefix, unary_bounded, unary_assign, unary_brackets, unary_truth, unary_atom, SpellsQuery, query, prefixed, signed, from_part}
+use Rattle.ftl_parser.specs.Grammar.{SpellsRef, ref_name, ref_attr, ref_part, ref_time, SpellsFactor, factor_number, factor_times, factor_text, factor_ref, SpellsTerm, term_first, term_minus_first, term_plus, term_minus, SpellsNum, num_plain, num_minus, SpellsNames, names_one, names_more, SpellsParts, parts_one, parts_more, SpellsAtom, atom_compare, atom_inside, atom_outside, atom_dist, atom_sphere, Level, Spells, formula_conj, formula_or, conj_chain, conj_and, chain_unary, chain_until, until_plain, until_within, until_after, unary_prefix, unary_bounded, unary_assign, unary_brackets, unary_truth, unary_atom, SpellsQuery, query, prefixed, signed, from_part}
 use Rattle.exact.specs.First.{first_that_holds}
 use Rattle.ftl_parser.specs.declared.fault.Size.TheVariants as sizes
 use Rattle.ftl_parser.specs.Sizes.{first_too_large}
@@ -76,7 +76,7 @@ fixed_has N T [] code all = tt
 fixed_has N T (p ∷ table) zero all = all.0
 fixed_has N T (p ∷ table) (suc code) all = fixed_has N T table code all.1
 
-words_have : (N T : List ℕ → Type 0) → HaveShapes N T words
+words_have : (N T : List ℕ → Type 0) → HaveShapes N T reserved
 words_have N T = (tt, (tt, (tt, (tt, (tt, (tt, (tt, (tt, (tt, (tt, (tt, (tt, (tt, (tt, (tt, (tt, (tt, (tt, (tt, (tt, (tt, (tt, (tt, (tt, (tt, tt)))))))))))))))))))))))))
 
 signs_have : (N T : List ℕ → Type 0) → HaveShapes N T signs
@@ -101,7 +101,7 @@ short_piece kinds.Number bytes form short = form
 short_piece kinds.Text bytes form short =
     subst IsQuotable (sym (word_is (is_short (unquoted bytes)) (unquoted bytes) short)) (text_has bytes form, short_is (unquoted bytes) short)
 short_piece (kinds.Sym code) bytes form short = fixed_has IsShortName IsQuotable signs code (signs_have IsShortName IsQuotable)
-short_piece (kinds.Key code) bytes form short = fixed_has IsShortName IsQuotable words code (words_have IsShortName IsQuotable)
+short_piece (kinds.Key code) bytes form short = fixed_has IsShortName IsQuotable reserved code (words_have IsShortName IsQuotable)
 
 short_pieces : (tokens : List Lexeme) → HaveForms tokens → has_long tokens ≡ false → HaveShapes IsShortName IsQuotable (pieces tokens)
 short_pieces [] forms short = tt
@@ -115,7 +115,7 @@ any_piece kinds.Name bytes form = tt
 any_piece kinds.Number bytes form = form
 any_piece kinds.Text bytes form = tt
 any_piece (kinds.Sym code) bytes form = fixed_has IsAny IsAny signs code (signs_have IsAny IsAny)
-any_piece (kinds.Key code) bytes form = fixed_has IsAny IsAny words code (words_have IsAny IsAny)
+any_piece (kinds.Key code) bytes form = fixed_has IsAny IsAny reserved code (words_have IsAny IsAny)
 
 any_pieces : (tokens : List Lexeme) → HaveForms tokens → HaveShapes IsAny IsAny (pieces tokens)
 any_pieces [] forms = tt
@@ -247,11 +247,11 @@ module _ (N T : List ℕ → Type 0) where
   formula_shape (conj_and {xs = xs} {ys = ys} d e) shapes =
       (formula_shape d (all_front (PieceHas N T) xs (AND ∷ ys) shapes), formula_shape e (all_back (PieceHas N T) xs (AND ∷ ys) shapes).1)
   formula_shape (chain_unary d) shapes = formula_shape d shapes
-  formula_shape (chain_until {xs = xs} {ys = ys} d e) shapes =
+  formula_shape (chain_until {xs = xs} {ys = ys} until_plain d e) shapes =
       (refl, formula_shape d (all_front (PieceHas N T) xs (UNTIL untils.Plain ∷ ys) shapes), formula_shape e (all_back (PieceHas N T) xs (UNTIL untils.Plain ∷ ys) shapes).1)
-  formula_shape (chain_until_within {xs = xs} {ys = ys} c d e) shapes =
+  formula_shape (chain_until {xs = xs} {ys = ys} (until_within {c = c}) d e) shapes =
       (whole_within LAST_TICK c, formula_shape d (all_front (PieceHas N T) xs (UNTIL untils.Within ∷ NUMBER c ∷ ys) shapes), formula_shape e (all_back (PieceHas N T) xs (UNTIL untils.Within ∷ NUMBER c ∷ ys) shapes).1.1)
-  formula_shape (chain_until_after {xs = xs} {ys = ys} c d e) shapes =
+  formula_shape (chain_until {xs = xs} {ys = ys} (until_after {c = c}) d e) shapes =
       (whole_within LAST_TICK c, formula_shape d (all_front (PieceHas N T) xs (UNTIL untils.After ∷ NUMBER c ∷ ys) shapes), formula_shape e (all_back (PieceHas N T) xs (UNTIL untils.After ∷ NUMBER c ∷ ys) shapes).1.1)
   formula_shape (unary_prefix {w = w} {f = f} d) shapes = prefix_shape w f (formula_shape d shapes.1)
   formula_shape (unary_bounded {c = c} d) shapes = (whole_within LAST_TICK c, formula_shape d shapes.1.1)

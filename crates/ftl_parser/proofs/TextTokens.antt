@@ -14,8 +14,8 @@ use Rattle.ftl_lexer.specs.declared.kinds.Kind.TheVariants as kinds
 use Rattle.ftl_lexer.specs.Forms.{name_len, digits_len, fraction_len, word_kind, token_at}
 use Rattle.ftl_lexer.specs.Cut.{Lexeme, cut, put_before, is_word, is_number, has_no_quote, stands_alone}
 use Rattle.ftl_lexer.proofs.Fronts.{cut_word, cut_number, cut_text, quoted_form, cut_symbol, cut_blank}
-use Rattle.ftl_parser.specs.Piece.{Piece, NAME, NUMBER, TEXT, COMPARISON, ARROW, OTHER, words, signs, unquoted, piece_of, pieces, is_long, has_long}
-use Rattle.ftl_parser.specs.Words.{is_short, word_of}
+use Rattle.ftl_parser.specs.Piece.{Piece, NAME, NUMBER, TEXT, COMPARISON, ARROW, OTHER, reserved, signs, unquoted, piece_of, pieces, is_long, has_long}
+use Rattle.ftl_parser.specs.Words.{is_short, short_word}
 use Rattle.ftl_parser.specs.Lawful.{IsName, IsShortName, IsQuotable}
 use Rattle.ftl_parser.specs.Text.{op_word}
 
@@ -80,10 +80,10 @@ read_name name rest ps name_is ends is =
     let form : IsName name = name_is.0 in
     let short : is_short name ≡ true = short_is name name_is.1 in
     let kind : word_kind name ≡ kinds.Name = ap (λ (code : Option ℕ). option_map_or (λ c. kinds.Key c) code kinds.Name) form.1 in
-    regrouped (name ++ rest) (name ++ rest) (NAME name ∷ ps) (NAME (word_of name) ∷ ps) refl (ap (λ (n : List ℕ). NAME n ∷ ps) (sym (word_is (is_short name) name short)))
+    regrouped (name ++ rest) (name ++ rest) (NAME name ∷ ps) (NAME (short_word name) ∷ ps) refl (ap (λ (n : List ℕ). NAME n ∷ ps) (sym (word_is (is_short name) name short)))
     (put kinds.Name name (name ++ rest) rest ps (cut_word name rest form.0 ends ∙ ap (λ (k : Kind). put_before (k, name) (cut 0 rest)) kind) (ap not short) is)
 
-pub read_key : (code : ℕ) (word rest : List ℕ) (ps : List Piece) → IsTrue (is_word word) → code_of reserved_words word ≡ Some code → name_len rest ≡ 0 → IsCut rest ps → IsCut (word ++ rest) (unwrap_or (slice_get words code) OTHER ∷ ps)
+pub read_key : (code : ℕ) (word rest : List ℕ) (ps : List Piece) → IsTrue (is_word word) → code_of reserved_words word ≡ Some code → name_len rest ≡ 0 → IsCut rest ps → IsCut (word ++ rest) (unwrap_or (slice_get reserved code) OTHER ∷ ps)
 read_key code word rest ps is_key found ends is =
     let kind : word_kind word ≡ kinds.Key code = ap (λ (c : Option ℕ). option_map_or (λ d. kinds.Key d) c kinds.Name) found in
     put (kinds.Key code) word (word ++ rest) rest ps (cut_word word rest is_key ends ∙ ap (λ (k : Kind). put_before (k, word) (cut 0 rest)) kind) refl is
@@ -100,14 +100,14 @@ pub read_text : (text rest : List ℕ) (ps : List Piece) → IsQuotable text →
 read_text text rest ps text_is is =
     let quoted : List ℕ = 34 ∷ text ++ 34 ∷ [] in
     let short : is_short text ≡ true = short_is text text_is.1 in
-    let word : word_of (unquoted quoted) ≡ text = ap word_of (inside text) ∙ word_is (is_short text) text short in
-    regrouped (quoted ++ rest) (quoted ++ rest) (TEXT text ∷ ps) (TEXT (word_of (unquoted quoted)) ∷ ps) refl (ap (λ (t : List ℕ). TEXT t ∷ ps) (sym word))
+    let word : short_word (unquoted quoted) ≡ text = ap short_word (inside text) ∙ word_is (is_short text) text short in
+    regrouped (quoted ++ rest) (quoted ++ rest) (TEXT text ∷ ps) (TEXT (short_word (unquoted quoted)) ∷ ps) refl (ap (λ (t : List ℕ). TEXT t ∷ ps) (sym word))
     (put kinds.Text quoted (quoted ++ rest) rest ps (cut_text quoted rest (quoted_form text text_is.0)) (ap not (ap is_short (inside text) ∙ short)) is)
 
 pub read_symbol : (code symbol : ℕ) (rest : List ℕ) (ps : List Piece) → IsTrue (stands_alone symbol) → code_of symbols (symbol ∷ []) ≡ Some code → IsCut rest ps → IsCut (symbol ∷ rest) (unwrap_or (slice_get signs code) OTHER ∷ ps)
 read_symbol code symbol rest ps alone found is = put (kinds.Sym code) (symbol ∷ []) (symbol ∷ rest) rest ps (cut_symbol symbol rest code alone found) refl is
 
--- comparisons, which have a blank behind them
+-- comparisons, which have a blank after them
 pub read_op : (op : Op) (rest : List ℕ) (ps : List Piece) → IsCut rest ps → IsCut (op_word op ++ 32 ∷ rest) (COMPARISON op ∷ ps)
 unfolding cut token_at symbols
 read_op ops.Lt rest ps is = put (kinds.Sym 13) (codes "<") (60 ∷ 32 ∷ rest) (32 ∷ rest) ps refl refl (read_blank rest ps is)

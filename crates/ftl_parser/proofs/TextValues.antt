@@ -19,7 +19,7 @@ use Rattle.ftl_lexer.specs.Forms.{digits_len, fraction_len, number_len}
 use Rattle.ftl_lexer.specs.Cut.{is_number}
 use Rattle.geometry.specs.declared.limits.TheConstants.{RADIUS_LIMIT}
 use Rattle.tick_set.specs.declared.spans.TheConstants.{LAST_TICK}
-use Rattle.ftl_parser.specs.declared.limits.TheConstants.{TIMES_LIMIT}
+use Rattle.formula_shape.specs.declared.limits.TheConstants.{TIMES_LIMIT}
 use Rattle.ftl_parser.specs.Number.{whole_of, literal, radius, ticks, times, fits, Literal, Radius, Ticks, Times}
 use Rattle.ftl_parser.proofs.TextNumbers.{fix_text_is, whole_is}
 

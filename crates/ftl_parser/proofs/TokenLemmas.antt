@@ -10,7 +10,7 @@ use Rattle.ftl_parser.specs.declared.scan.Coming.{Coming}
 use Rattle.ftl_parser.specs.Piece.{Piece, piece_of, pieces, pieces_from, lexemes_from, is_long, has_long}
 use Rattle.ftl_parser.specs.Scan.{coming, mark, scan, first_from}
 
--- a token, and those behind it
+-- a token, and those after it
 drop-pieces : (l : List Lexeme) (at : ℕ) (p : Piece) → slice_get (pieces l) at ≡ Some p → pieces (drop at l) ≡ p ∷ pieces (drop (suc at) l)
 drop-pieces [] at p h = absurd (omega (arith, slice_get_within [] at p h))
 drop-pieces (t ∷ l) zero p h =
@@ -32,7 +32,7 @@ pieces_from-end line at h =
     let short : length (lexemes line) ≤ at = simp length-map h in
     ap pieces (drop-past (lexemes line) at short)
 
--- a place behind one without a mark
+-- a place after one without a mark
 position-later : (marks : List Bool) → position (λ mark. mark) (false ∷ marks) ≡ option_map suc (position (λ mark. mark) marks)
 position-later marks = grind (arith, nat_tests)
 

@@ -9,7 +9,7 @@ use Rattle.formula_shape.specs.Shape.{Shape}
 use Rattle.ftl_parser.specs.declared.fault.Size.TheVariants as sizes
 use Rattle.ftl_parser.specs.declared.tree.Atom.TheVariants as atoms
 use Rattle.ftl_parser.specs.declared.tree.Unit.TheVariants as units
-use Rattle.ftl_parser.specs.declared.state.Prefix.TheVariants as prefixes
+use Rattle.ftl_parser.specs.declared.prefix.Prefix.TheVariants as prefixes
 use Rattle.ftl_parser.specs.Tree.{Tree, QueryTree}
 use Rattle.ftl_parser.specs.Piece.{Piece, RETRIEVE, FROM, WHERE, AND, OR, TRUTH, PREFIX, BOUNDED, UNTIL, INSIDE, DIST, SPHERE, TIME, PART, OPEN, CLOSE, OPEN_SQUARE, CLOSE_SQUARE, COMMA, POINT, MINUS, STAR, ARROW, COMPARISON, NAME, NUMBER, TEXT, has_long}
 use Rattle.ftl_parser.specs.Grammar.{from_part, term_of, signed, SpellsQuery, query, names_one, parts_one, formula_conj, conj_chain, chain_unary, unary_atom, atom_dist, num_plain}
@@ -41,7 +41,7 @@ always = Shape.Truth true
 abbrev pub never : Tree
 never = Shape.Truth false
 
--- the trees of tokens behind WHERE
+-- the trees of tokens after WHERE
 pub record ParsesSmallQueries : Type 0 where
   -- ((TRUE))
   pub brackets : parsed start (asking (OPEN ∷ OPEN ∷ TRUTH true ∷ CLOSE ∷ CLOSE ∷ [])) ≡ Some (asked always)

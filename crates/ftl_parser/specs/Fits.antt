@@ -4,5 +4,5 @@ use Rattle.ftl_parser.specs.declared.scan.Coming.TheVariants as comings
 use Rattle.ftl_parser.specs.Piece.{Piece}
 use Rattle.ftl_parser.specs.Scan.{scan}
 
-abbrev pub numbers_fit : List Piece → Bool
-numbers_fit tokens = is_none (position (λ mark. mark) (scan comings.Factor tokens))
+abbrev pub number_tokens_fit : List Piece → Bool
+number_tokens_fit tokens = is_none (position (λ mark. mark) (scan comings.Factor tokens))

@@ -20,6 +20,7 @@
 -- What may stand any number of times is built from the left. A number out of the form or range of its place stands for 0.
 use Rattle.std.specs.Prelude.{ℕ, ℤ, neg_ℤ, Bool, true, false, List, [], ◌∷◌, ◌++◌, Option, None, Some}
 use Rattle.fixed_point.specs.declared.variants.BoundForm.{BoundForm}
+use Rattle.fixed_point.specs.declared.variants.UntilForm.{UntilForm}
 use Rattle.fixed_point.specs.declared.variants.UntilForm.TheVariants as untils
 use Rattle.fixed_point.specs.declared.variants.SubName.{SubName}
 use Rattle.case_table.specs.declared.compare.Op.{Op}
@@ -31,8 +32,8 @@ use Rattle.ftl_parser.specs.declared.tree.Unit.TheVariants as units
 use Rattle.ftl_parser.specs.declared.tree.Term.{Term}
 use Rattle.ftl_parser.specs.declared.tree.Signed.{Signed}
 use Rattle.ftl_parser.specs.declared.tree.FromPart.{FromPart}
-use Rattle.ftl_parser.specs.declared.state.Prefix.{Prefix}
-use Rattle.ftl_parser.specs.declared.state.Prefix.TheVariants as prefixes
+use Rattle.ftl_parser.specs.declared.prefix.Prefix.{Prefix}
+use Rattle.ftl_parser.specs.declared.prefix.Prefix.TheVariants as prefixes
 use Rattle.ftl_parser.specs.Tree.{Tree, QueryTree}
 use Rattle.ftl_parser.specs.Piece.{Piece, RETRIEVE, FROM, WHERE, AND, OR, TRUTH, PREFIX, BOUNDED, UNTIL, INSIDE, OUTSIDE, DIST, SPHERE, TIME, PART, OPEN, CLOSE, OPEN_SQUARE, CLOSE_SQUARE, COMMA, POINT, PLUS, MINUS, STAR, ARROW, COMPARISON, NAME, NUMBER, TEXT}
 use Rattle.ftl_parser.specs.Number.{ticks, times, literal, radius}
@@ -117,6 +118,12 @@ pub data Level : Type 0 where
   chain : Level
   unary : Level
 
+-- an until, with its number of ticks where it has one
+pub data SpellsUntil : UntilForm → ℕ → List Piece → Type 0 where
+  until_plain : SpellsUntil untils.Plain 0 (UNTIL untils.Plain ∷ [])
+  until_within : {c : List ℕ} → SpellsUntil untils.Within (ticks c) (UNTIL untils.Within ∷ NUMBER c ∷ [])
+  until_after : {c : List ℕ} → SpellsUntil untils.After (ticks c) (UNTIL untils.After ∷ NUMBER c ∷ [])
+
 pub data Spells : Level → Tree → List Piece → Type 0 where
   formula_conj : {f : Tree} {xs : List Piece} → Spells conj f xs → Spells formula f xs
   formula_or : {f g : Tree} {xs ys : List Piece} →
@@ -125,14 +132,9 @@ pub data Spells : Level → Tree → List Piece → Type 0 where
   conj_and : {f g : Tree} {xs ys : List Piece} →
       Spells conj f xs → Spells chain g ys → Spells conj (Shape.And f g) (xs ++ AND ∷ ys)
   chain_unary : {f : Tree} {xs : List Piece} → Spells unary f xs → Spells chain f xs
-  chain_until : {f g : Tree} {xs ys : List Piece} →
-      Spells unary f xs → Spells chain g ys → Spells chain (Shape.Until untils.Plain 0 f g) (xs ++ UNTIL untils.Plain ∷ ys)
-  chain_until_within : {f g : Tree} {xs ys : List Piece} (c : List ℕ) →
-      Spells unary f xs → Spells chain g ys →
-      Spells chain (Shape.Until untils.Within (ticks c) f g) (xs ++ UNTIL untils.Within ∷ NUMBER c ∷ ys)
-  chain_until_after : {f g : Tree} {xs ys : List Piece} (c : List ℕ) →
-      Spells unary f xs → Spells chain g ys →
-      Spells chain (Shape.Until untils.After (ticks c) f g) (xs ++ UNTIL untils.After ∷ NUMBER c ∷ ys)
+  chain_until : {form : UntilForm} {n : ℕ} {f g : Tree} {xs us ys : List Piece} →
+      SpellsUntil form n us → Spells unary f xs → Spells chain g ys →
+      Spells chain (Shape.Until form n f g) (xs ++ (us ++ ys))
   unary_prefix : {w : Prefix} {f : Tree} {xs : List Piece} →
       Spells unary f xs → Spells unary (prefixed w f) (PREFIX w ∷ xs)
   unary_bounded : {form : BoundForm} {c : List ℕ} {f : Tree} {xs : List Piece} →

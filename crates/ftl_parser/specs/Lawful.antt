@@ -10,7 +10,7 @@ use Rattle.fixed_point.specs.declared.variants.UntilForm.TheVariants as untils
 use Rattle.geometry.specs.declared.limits.TheConstants.{RADIUS_LIMIT}
 use Rattle.tick_set.specs.declared.spans.TheConstants.{LAST_TICK}
 use Rattle.formula_shape.specs.Shape.{Shape}
-use Rattle.ftl_parser.specs.declared.limits.TheConstants.{TIMES_LIMIT}
+use Rattle.formula_shape.specs.declared.limits.TheConstants.{TIMES_LIMIT}
 use Rattle.ftl_parser.specs.declared.tree.Atom as atom_type
 use Rattle.ftl_parser.specs.declared.tree.Atom.TheVariants as atoms
 use Rattle.ftl_parser.specs.declared.tree.Unit as unit_type

@@ -1,19 +1,21 @@
+-- what is promised
 pub mod Example
 pub mod Fault
-pub mod Fits
 pub mod Grammar
 pub mod Lawful
-pub mod Machine
 pub mod Marks
-pub mod Measure
 pub mod Number
 pub mod Order
-pub mod Parses
 pub mod Piece
-pub mod Scan
 pub mod Sizes
 pub mod Text
 pub mod TextLaws
 pub mod Tree
-pub mod Views
 pub mod Words
+-- how it is read
+pub mod Fits
+pub mod Machine
+pub mod Measure
+pub mod Parses
+pub mod Scan
+pub mod Views

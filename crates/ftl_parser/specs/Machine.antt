@@ -11,7 +11,7 @@ use Rattle.ftl_parser.specs.declared.tree.Unit.TheVariants as units
 use Rattle.ftl_parser.specs.declared.tree.Term.{Term}
 use Rattle.ftl_parser.specs.declared.tree.Signed.{Signed}
 use Rattle.ftl_parser.specs.declared.tree.FromPart.{FromPart}
-use Rattle.ftl_parser.specs.declared.state.Prefix.{Prefix}
+use Rattle.ftl_parser.specs.declared.prefix.Prefix.{Prefix}
 use Rattle.ftl_parser.specs.declared.state.Pair.TheVariants as pairs
 use Rattle.ftl_parser.specs.declared.state.Head.{Head}
 use Rattle.ftl_parser.specs.declared.state.Head.TheVariants as heads
@@ -57,7 +57,7 @@ Body = List Frame × Phase
 pub data State : Type 0 where
   -- before WHERE, with the targets and the parts of FROM so far
   Heading : Head → List (List ℕ) → List FromPart → State
-  -- behind WHERE
+  -- after WHERE
   Within : List (List ℕ) → List FromPart → Body → State
 
 abbrev pub start : State
@@ -80,7 +80,7 @@ reference minus k (NAME o) = Some (factors.Alone minus k o)
 reference minus k TIME = Some (factors.Whole minus k units.Time)
 reference minus k _ = None
 
--- the beginning of a factor behind its sign
+-- the beginning of a factor after its sign
 abbrev pub factor_begun : Bool → Piece → Option Factor
 factor_begun minus (NUMBER n) = Some (factors.Number minus (literal n) (times n))
 factor_begun minus (TEXT t) = Some (factors.Whole minus None (units.Text t))
@@ -121,7 +121,7 @@ abbrev pub closed : Tree × List Frame → Option Body
 closed (f, Bracket ∷ s) = Some (s, Have f)
 closed _ = None
 
--- a token behind a formula
+-- a token after a formula
 abbrev pub behind : Tree → List Frame → Piece → Option Body
 behind f s OR = let r = reduced 1 f s in Some (OrWith r.0 ∷ r.1, Want)
 behind f s AND = let r = reduced 2 f s in Some (AndWith r.0 ∷ r.1, Want)
@@ -131,7 +131,7 @@ behind f s (UNTIL untils.After) = let r = reduced 4 f s in Some (r.1, Reach unti
 behind f s CLOSE = closed (reduced 1 f s)
 behind f s _ = None
 
--- a token behind a whole term
+-- a token after a whole term
 abbrev pub term_ended : List Frame → TermPlace → List Signed → Piece → Option Body
 term_ended s places.Left fs (COMPARISON op) = Some (s, InTerm (places.Right (term_of fs) op) [] factors.First)
 term_ended s places.Left fs _ = None
@@ -139,23 +139,23 @@ term_ended s (places.Right t op) fs p = behind (Shape.Atom (atoms.Compare t op (
 term_ended s (places.Assigned v) fs CLOSE_SQUARE = Some (Assigning v (term_of fs) ∷ s, Want)
 term_ended s (places.Assigned v) fs _ = None
 
--- a token behind a whole factor
+-- a token after a whole factor
 abbrev pub factor_ended : List Frame → TermPlace → List Signed → Piece → Option Body
 factor_ended s place fs PLUS = Some (s, InTerm place fs (factors.Wanted false))
 factor_ended s place fs MINUS = Some (s, InTerm place fs (factors.Wanted true))
 factor_ended s place fs p = term_ended s place fs p
 
--- a token behind what may be a whole factor
+-- a token after what may be a whole factor
 abbrev pub behind_factor : List Frame → TermPlace → List Signed → Option Signed → Piece → Option Body
 behind_factor s place fs (Some u) p = factor_ended s place (fs ++ u ∷ []) p
 behind_factor s place fs None p = None
 
--- the last factor made longer, where it is, and else what comes behind it
+-- the last factor made longer, where it is, and else what comes after it
 abbrev pub longer_or : List Frame → TermPlace → List Signed → Option Factor → Option Body → Option Body
 longer_or s place fs (Some last) later = Some (s, InTerm place fs last)
 longer_or s place fs None later = later
 
--- a token in a term: it makes the last factor longer, or else comes behind it
+-- a token in a term: it makes the last factor longer, or else comes after it
 abbrev pub term_step : List Frame → TermPlace → List Signed → Factor → Piece → Option Body
 term_step s place fs last p = longer_or s place fs (lengthened last p) (behind_factor s place fs (whole last) p)
 
@@ -236,7 +236,7 @@ abbrev pub parsed : State → List Piece → Option QueryTree
 parsed x [] = ended x
 parsed x (p ∷ tokens) = option_and_then (λ y. parsed y tokens) (step x p)
 
--- the state behind some tokens
+-- the state after some tokens
 abbrev pub run : State → List Piece → Option State
 run x [] = Some x
 run x (p ∷ tokens) = option_and_then (λ y. run y tokens) (step x p)

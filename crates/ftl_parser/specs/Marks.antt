@@ -1,12 +1,13 @@
 -- Which numbers of a query are out of the form or range of their places: for each token, by the rule that it stands in.
 use Rattle.std.specs.Prelude.{ℕ, ℤ, Bool, false, not, List, [], ◌∷◌, ◌++◌, Option, map, position}
+use Rattle.fixed_point.specs.declared.variants.UntilForm.{UntilForm}
 use Rattle.ftl_parser.specs.declared.tree.Atom as atom_type
 use Rattle.ftl_parser.specs.declared.tree.Unit as unit_type
 use Rattle.ftl_parser.specs.declared.tree.Signed.{Signed}
 use Rattle.ftl_parser.specs.Tree.{Tree, QueryTree}
 use Rattle.ftl_parser.specs.Piece.{Piece}
 use Rattle.ftl_parser.specs.Number.{Place, Ticks, Times, Literal, Radius, fits}
-use Rattle.ftl_parser.specs.Grammar.{SpellsFactor, factor_number, factor_times, factor_text, factor_ref, SpellsTerm, term_first, term_minus_first, term_plus, term_minus, SpellsNum, num_plain, num_minus, SpellsAtom, atom_compare, atom_inside, atom_outside, atom_dist, atom_sphere, Level, Spells, formula_conj, formula_or, conj_chain, conj_and, chain_unary, chain_until, chain_until_within, chain_until_after, unary_prefix, unary_bounded, unary_assign, unary_brackets, unary_truth, unary_atom, SpellsQuery, query}
+use Rattle.ftl_parser.specs.Grammar.{SpellsFactor, factor_number, factor_times, factor_text, factor_ref, SpellsTerm, term_first, term_minus_first, term_plus, term_minus, SpellsNum, num_plain, num_minus, SpellsAtom, atom_compare, atom_inside, atom_outside, atom_dist, atom_sphere, SpellsUntil, until_plain, until_within, until_after, Level, Spells, formula_conj, formula_or, conj_chain, conj_and, chain_unary, chain_until, unary_prefix, unary_bounded, unary_assign, unary_brackets, unary_truth, unary_atom, SpellsQuery, query}
 
 -- a number that doesn't fit its place
 abbrev pub unfit : Place → List ℕ → Bool
@@ -39,15 +40,18 @@ atom_marks atom_outside = false ∷ false ∷ false ∷ false ∷ false ∷ fals
 atom_marks (atom_dist d) = false ∷ false ∷ false ∷ false ∷ false ∷ false ∷ false ∷ num_marks d
 atom_marks (atom_sphere {r = r} {xs = xs} d) = false ∷ false ∷ unfit Radius r ∷ false ∷ (clear xs ++ false ∷ [])
 
+abbrev pub until_marks : {form : UntilForm} {n : ℕ} {xs : List Piece} → SpellsUntil form n xs → List Bool
+until_marks until_plain = false ∷ []
+until_marks (until_within {c = c}) = false ∷ unfit Ticks c ∷ []
+until_marks (until_after {c = c}) = false ∷ unfit Ticks c ∷ []
+
 abbrev pub marks : {l : Level} {f : Tree} {xs : List Piece} → Spells l f xs → List Bool
 marks (formula_conj d) = marks d
 marks (formula_or d e) = marks d ++ false ∷ marks e
 marks (conj_chain d) = marks d
 marks (conj_and d e) = marks d ++ false ∷ marks e
 marks (chain_unary d) = marks d
-marks (chain_until d e) = marks d ++ false ∷ marks e
-marks (chain_until_within c d e) = marks d ++ false ∷ unfit Ticks c ∷ marks e
-marks (chain_until_after c d e) = marks d ++ false ∷ unfit Ticks c ∷ marks e
+marks (chain_until u d e) = marks d ++ (until_marks u ++ marks e)
 marks (unary_prefix d) = false ∷ marks d
 marks (unary_bounded {c = c} d) = false ∷ unfit Ticks c ∷ marks d
 marks (unary_assign t d) = false ∷ false ∷ false ∷ (term_marks t ++ false ∷ marks d)

@@ -7,7 +7,7 @@ use Rattle.fixed_point.specs.Decimal.{thousandths_of}
 use Rattle.fixed_point.specs.declared.number.TheConstants.{READ_LIMIT}
 use Rattle.geometry.specs.declared.limits.TheConstants.{RADIUS_LIMIT}
 use Rattle.tick_set.specs.declared.spans.TheConstants.{LAST_TICK}
-use Rattle.ftl_parser.specs.declared.limits.TheConstants.{TIMES_LIMIT}
+use Rattle.formula_shape.specs.declared.limits.TheConstants.{TIMES_LIMIT}
 
 -- a whole number of at most `most`: digits alone
 abbrev pub up_to : ℕ → List ℕ → Option ℕ
@@ -25,7 +25,7 @@ pub data Place : Type 0 where
   Times : Place
   -- any other factor, and the number of a DIST
   Literal : Place
-  -- behind WITHIN_SPHERE and its bracket
+  -- after WITHIN_SPHERE and its bracket
   Radius : Place
 
 -- whether a number is in the form and range of its place

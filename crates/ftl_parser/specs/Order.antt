@@ -1,4 +1,4 @@
--- The names, texts and terms of a query, in the order in which they are written: targets, then the class and the variable of each part of FROM, then the formula; the name of an assignment before its term, and that before the formula behind it.
+-- The names, texts and terms of a query, in the order in which they are written: targets, then the class and the variable of each part of FROM, then the formula; the name of an assignment before its term, and that before the formula after it.
 use Rattle.std.specs.Prelude.{ℕ, List, [], ◌∷◌, ◌++◌, flat_map}
 use Rattle.formula_shape.specs.Sizes.{gathered}
 use Rattle.ftl_parser.specs.declared.tree.Atom as atom_type
@@ -107,7 +107,7 @@ formula_terms = gathered atom_terms (λ bound. bound.1 ∷ [])
 abbrev pub query_terms : QueryTree → List Term
 query_terms q = formula_terms q.formula
 
--- runs of the tokens spell the terms, one behind the other, with other tokens before, between and behind them
+-- runs of the tokens spell the terms, one after the other, with other tokens before, between and after them
 pub data TermsIn : List Term → List Piece → Type 0 where
   no_more_terms : {xs : List Piece} → TermsIn [] xs
   next_term : {fs : List Signed} {ts : List Term} {ys zs : List Piece} (xs : List Piece) →

@@ -7,7 +7,7 @@ use Rattle.ftl_parser.specs.Piece.{Piece}
 use Rattle.ftl_parser.specs.Machine.{start, parsed, taken}
 use Rattle.ftl_parser.specs.Views.{spelled_view}
 
--- the query that the tokens from a place on are, or else the place behind those that are taken
+-- the query that the tokens from a place on are, or else the place after those that are taken
 abbrev pub Parses : ℕ → List Piece → Result Spelled ParseFault → Type 0
 Parses from tokens (Ok q) = parsed start tokens ≡ Some (spelled_view q)
 Parses from tokens (Err (faults.BadSyntax place)) = (parsed start tokens ≡ None) × (place ≡ from + taken start tokens)

@@ -13,9 +13,9 @@ use Rattle.ftl_lexer.specs.declared.kinds.Kind.{Kind}
 use Rattle.ftl_lexer.specs.declared.kinds.Kind.TheVariants as kinds
 use Rattle.ftl_lexer.specs.Tokens.{lexemes}
 use Rattle.ftl_lexer.specs.Cut.{Lexeme}
-use Rattle.ftl_parser.specs.declared.state.Prefix.{Prefix}
-use Rattle.ftl_parser.specs.declared.state.Prefix.TheVariants as prefixes
-use Rattle.ftl_parser.specs.Words.{is_short, word_of}
+use Rattle.ftl_parser.specs.declared.prefix.Prefix.{Prefix}
+use Rattle.ftl_parser.specs.declared.prefix.Prefix.TheVariants as prefixes
+use Rattle.ftl_parser.specs.Words.{is_short, short_word}
 
 pub data Piece : Type 0 where
   RETRIEVE : Piece
@@ -59,8 +59,8 @@ pub data Piece : Type 0 where
   OTHER : Piece
 
 -- the words of queries and the parts of attributes, in the order of their codes
-abbrev pub words : List Piece
-words =
+abbrev pub reserved : List Piece
+reserved =
     RETRIEVE ∷ FROM ∷ WHERE ∷ TRUTH true ∷ TRUTH false ∷ PREFIX prefixes.Not ∷ AND ∷ OR
     ∷ UNTIL untils.Plain ∷ UNTIL untils.Within ∷ UNTIL untils.After ∷ PREFIX prefixes.Next
     ∷ PREFIX prefixes.Eventually ∷ BOUNDED bounds.Within ∷ BOUNDED bounds.After ∷ PREFIX prefixes.Always ∷ BOUNDED bounds.Always
@@ -80,11 +80,11 @@ abbrev pub unquoted : List ℕ → List ℕ
 unquoted text = take (length text - 2) (drop 1 text)
 
 abbrev pub piece_of : Kind → List ℕ → Piece
-piece_of kinds.Name bytes = NAME (word_of bytes)
+piece_of kinds.Name bytes = NAME (short_word bytes)
 piece_of kinds.Number bytes = NUMBER bytes
-piece_of kinds.Text bytes = TEXT (word_of (unquoted bytes))
+piece_of kinds.Text bytes = TEXT (short_word (unquoted bytes))
 piece_of (kinds.Sym code) bytes = unwrap_or (slice_get signs code) OTHER
-piece_of (kinds.Key code) bytes = unwrap_or (slice_get words code) OTHER
+piece_of (kinds.Key code) bytes = unwrap_or (slice_get reserved code) OTHER
 
 -- tokens by their kinds and bytes
 abbrev pub pieces : List Lexeme → List Piece

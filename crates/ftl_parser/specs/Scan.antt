@@ -1,4 +1,4 @@
--- Which numbers don't fit their places, told by the tokens alone, whether they are a query or not: the place of a number follows from the tokens before it and the one behind it.
+-- Which numbers don't fit their places, told by the tokens alone, whether they are a query or not: the place of a number follows from the tokens before it and the one after it.
 use Rattle.std.specs.Prelude.{ℕ, ◌+◌, Bool, true, false, Option, None, Some, List, [], ◌∷◌}
 use Rattle.fixed_point.specs.declared.variants.UntilForm.TheVariants as untils
 use Rattle.ftl_parser.specs.declared.scan.Coming.{Coming}
@@ -7,7 +7,7 @@ use Rattle.ftl_parser.specs.Piece.{Piece, BOUNDED, UNTIL, SPHERE, OPEN, STAR, NU
 use Rattle.ftl_parser.specs.Number.{Place, Ticks, Times, Literal, Radius}
 use Rattle.ftl_parser.specs.Marks.{unfit}
 
--- what the next number is, behind one more token
+-- what the next number is, after one more token
 abbrev pub coming : Coming → Piece → Coming
 coming c (BOUNDED form) = comings.Ticks
 coming c (UNTIL untils.Within) = comings.Ticks
@@ -16,7 +16,7 @@ coming c SPHERE = comings.Circle
 coming comings.Circle OPEN = comings.Radius
 coming c p = comings.Factor
 
--- the place of a number, by what it is and the tokens behind it
+-- the place of a number, by what it is and the tokens after it
 abbrev pub place_before : Coming → List Piece → Place
 place_before comings.Ticks rest = Ticks
 place_before comings.Radius rest = Radius

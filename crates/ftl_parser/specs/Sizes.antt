@@ -3,7 +3,7 @@ use Rattle.std.specs.Prelude.{ℕ, max, Bool, true, false, nat_lt, List, [], ◌
 use Rattle.exact.specs.First.{first_that_holds}
 pub use Rattle.formula_shape.specs.Sizes.{nodes, depth, nesting, has_not}
 use Rattle.formula_shape.specs.Sizes.{largest, has_part}
-use Rattle.ftl_parser.specs.declared.limits.TheConstants.{VARIABLE_LIMIT, OBJECT_LIMIT, ASSIGNMENT_LIMIT, NODE_LIMIT, DEPTH_LIMIT, FACTOR_LIMIT}
+use Rattle.formula_shape.specs.declared.limits.TheConstants.{OBJECT_LIMIT, NESTING_LIMIT, NODE_LIMIT, DEPTH_LIMIT, FACTOR_LIMIT}
 use Rattle.ftl_parser.specs.declared.fault.Size.{Size}
 use Rattle.ftl_parser.specs.declared.fault.Size.TheVariants as sizes
 use Rattle.ftl_parser.specs.declared.tree.Atom as atom_type
@@ -48,9 +48,9 @@ has_circle = has_part is_circle (λ _. false)
 -- whether each size passes its limit, in the order in which they are judged, where what is said of the lengths of names and texts is given
 abbrev pub passed : Bool → QueryTree → List (Size × Bool)
 passed long q =
-    (sizes.Variables, nat_lt VARIABLE_LIMIT (length q.from))
+    (sizes.Variables, nat_lt OBJECT_LIMIT (length q.from))
     ∷ (sizes.Objects, nat_lt OBJECT_LIMIT (objects q.formula))
-    ∷ (sizes.Assignments, nat_lt ASSIGNMENT_LIMIT (nesting q.formula))
+    ∷ (sizes.Assignments, nat_lt NESTING_LIMIT (nesting q.formula))
     ∷ (sizes.Nodes, nat_lt NODE_LIMIT (nodes q.formula))
     ∷ (sizes.Depth, nat_lt DEPTH_LIMIT (depth q.formula))
     ∷ (sizes.Length, long)

@@ -7,7 +7,7 @@
 --   terms            -o.x + 2 * n.x.function - 0.5  "AB"  TIME
 --
 -- Numbers have the canonical text of their thousandths. Only a sign between factors, or before the first one, may stand before a zero.
-use Rattle.std.specs.Prelude.{ℕ, Bool, true, false, List, [], ◌∷◌, ◌++◌, Option, None, Some, codes, decimal, take, length, ◌≡◌}
+use Rattle.std.specs.Prelude.{ℕ, Bool, true, false, List, [], ◌∷◌, ◌++◌, Option, None, Some, codes, decimal}
 use Rattle.std.specs.List.{flat_map}
 use Rattle.fixed_point.specs.Canonical.{fix_text}
 use Rattle.fixed_point.specs.declared.variants.BoundForm.{BoundForm}
@@ -26,8 +26,8 @@ use Rattle.ftl_parser.specs.declared.tree.Unit.TheVariants as units
 use Rattle.ftl_parser.specs.declared.tree.Term.{Term}
 use Rattle.ftl_parser.specs.declared.tree.Signed.{Signed}
 use Rattle.ftl_parser.specs.declared.tree.FromPart.{FromPart}
-use Rattle.ftl_parser.specs.declared.state.Prefix.{Prefix}
-use Rattle.ftl_parser.specs.declared.state.Prefix.TheVariants as prefixes
+use Rattle.ftl_parser.specs.declared.prefix.Prefix.{Prefix}
+use Rattle.ftl_parser.specs.declared.prefix.Prefix.TheVariants as prefixes
 use Rattle.ftl_parser.specs.Tree.{Tree, QueryTree}
 
 -- ---- Words
@@ -165,9 +165,3 @@ formula_text (Shape.Assign (name, term) f) = assign_text name term ++ formula_te
 
 abbrev pub query_text : QueryTree → List ℕ
 query_text q = codes "RETRIEVE " ++ names_text q.targets ++ codes " FROM " ++ parts_text q.from ++ codes " WHERE " ++ formula_text q.formula
-
--- ---- Buffers
-
--- what was there still stands in front
-abbrev pub Begins : List ℕ → List ℕ → Type 0
-Begins old new = take (length old) new ≡ old

@@ -9,7 +9,7 @@ use Rattle.ftl_parser.specs.declared.state.Spatial.TheVariants as spatials
 use Rattle.ftl_parser.specs.declared.piece.Piece as piece_type
 use Rattle.ftl_parser.specs.declared.piece.Piece.TheVariants as pieces
 use Rattle.ftl_parser.specs.Tree.{QueryTree}
-use Rattle.ftl_parser.specs.Words.{word_of}
+use Rattle.ftl_parser.specs.Words.{short_word}
 use Rattle.ftl_parser.specs.Machine.{Frame, Bracket, OrWith, AndWith, UntilWith, PrefixedBy, BoundedBy, Assigning, rank, Phase, Want, Have, Reach, Ticks, Variable, Arrow, InTerm, InSpatial, Body, State, Heading, Within, term_step, factor_ended, body_step}
 use Rattle.ftl_parser.specs.Piece.{Piece, RETRIEVE, FROM, WHERE, AND, OR, TRUTH, PREFIX, BOUNDED, UNTIL, INSIDE, OUTSIDE, DIST, SPHERE, TIME, PART, OPEN, CLOSE, OPEN_SQUARE, CLOSE_SQUARE, COMMA, POINT, PLUS, MINUS, STAR, ARROW, COMPARISON, NAME, NUMBER, TEXT, OTHER}
 
@@ -41,9 +41,9 @@ piece_view pieces.Minus = MINUS
 piece_view pieces.Star = STAR
 piece_view pieces.Arrow = ARROW
 piece_view (pieces.Comparison op) = COMPARISON op
-piece_view (pieces.Name n) = NAME (word_of n.now)
+piece_view (pieces.Name n) = NAME (short_word n.now)
 piece_view (pieces.Number n) = NUMBER n.now
-piece_view (pieces.Text t) = TEXT (word_of t.now)
+piece_view (pieces.Text t) = TEXT (short_word t.now)
 piece_view pieces.Other = OTHER
 
 -- the stack, whose topmost frame is the last one kept
@@ -93,7 +93,7 @@ abbrev pub in_term : List Frame → Phase → Piece → Option Body
 in_term s (InTerm place fs last) p = term_step s place fs last p
 in_term s phase p = None
 
--- a token behind a term whose last factor stands at the end of the others
+-- a token after a term whose last factor stands at the end of the others
 abbrev pub behind_whole : List Frame → Phase → Piece → Option Body
 behind_whole s (InTerm place fs last) p = factor_ended s place fs p
 behind_whole s phase p = None

@@ -7,5 +7,5 @@ abbrev pub is_short : List ℕ → Bool
 is_short word = nat_le (length word) WORD_LIMIT
 
 -- the word that stands for it
-abbrev pub word_of : List ℕ → List ℕ
-word_of word = if is_short word then word else []
+abbrev pub short_word : List ℕ → List ℕ
+short_word word = if is_short word then word else []

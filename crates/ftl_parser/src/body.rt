@@ -23,7 +23,7 @@ use fixed_point::{BoundForm, UntilForm, Word};
 use std::alloc::{AllocError, Global};
 use std::mem;
 
-// A closing bracket behind a formula.
+// A closing bracket after a formula.
 fn closed(
     alloc: Global,
     stack: &mut Vec<Frame>,
@@ -41,7 +41,7 @@ fn closed(
     }
 }
 
-// An until behind a formula.
+// An until after a formula.
 fn until(
     alloc: Global,
     stack: &mut Vec<Frame>,
@@ -62,7 +62,7 @@ fn until(
     Ok(true)
 }
 
-// A token behind a formula.
+// A token after a formula.
 fn behind(
     alloc: Global,
     stack: &mut Vec<Frame>,
@@ -97,7 +97,7 @@ fn comparison(left: Term, op: Op, right: Factors) -> Measured
     Measured::atom(Atom::Compare(left, op, Term { factors: right }))
 }
 
-// A token behind a whole term.
+// A token after a whole term.
 fn term_ended(
     alloc: Global,
     stack: &mut Vec<Frame>,
@@ -131,7 +131,8 @@ fn term_ended(
     }
 }
 
-// A token behind a whole factor, which stands at the end of the others.
+// A token after a whole factor, which stands at the end of the others.
+// Not inlined: the loop over the tokens would clear its long values for each token.
 #[inline(never)]
 fn factor_ended(
     alloc: Global,
@@ -162,7 +163,8 @@ fn factor_ended(
     }
 }
 
-// A token in a term: it makes the last factor longer, or else comes behind it.
+// A token in a term: it makes the last factor longer, or else comes after it.
+// Not inlined: the loop over the tokens would clear its long values for each token.
 #[inline(never)]
 fn term_step(
     alloc: Global,
@@ -186,6 +188,7 @@ fn term_step(
 }
 
 // The beginning of a formula.
+// Not inlined: the loop over the tokens would clear its long values for each token.
 #[inline(never)]
 fn wanted(
     alloc: Global,
@@ -219,7 +222,7 @@ fn wanted(
     Ok(true)
 }
 
-// A number of ticks behind an until.
+// A number of ticks after an until.
 fn reached(
     stack: &mut Vec<Frame>,
     phase: &mut Phase,
@@ -239,7 +242,8 @@ fn reached(
     }
 }
 
-// A number of ticks behind the word of a bounded form.
+// A number of ticks after the word of a bounded form.
+// Not inlined: the loop over the tokens would clear its long values for each token.
 #[inline(never)]
 fn bounded(
     stack: &mut Vec<Frame>,
@@ -260,6 +264,7 @@ fn bounded(
 }
 
 // The name of an assignment.
+// Not inlined: the loop over the tokens would clear its long values for each token.
 #[inline(never)]
 fn variable(phase: &mut Phase, piece: Piece<'_>) -> bool
     ensures { (s : List machine.Frame) → taken_of result s phase.new ≡ body_step s machine.Variable (piece_view piece.entry) }
@@ -272,6 +277,7 @@ fn variable(phase: &mut Phase, piece: Piece<'_>) -> bool
 }
 
 // The arrow of an assignment.
+// Not inlined: the loop over the tokens would clear its long values for each token.
 #[inline(never)]
 fn arrow(alloc: Global, phase: &mut Phase, name: Word, piece: Piece<'_>) -> bool
     ensures { (s : List machine.Frame) → taken_of result s phase.new ≡ body_step s (machine.Arrow name) (piece_view piece.entry) }
@@ -286,7 +292,8 @@ fn arrow(alloc: Global, phase: &mut Phase, name: Word, piece: Piece<'_>) -> bool
     }
 }
 
-// A token behind a formula that is kept with what comes next.
+// A token after a formula that is kept with what comes next.
+// Not inlined: the loop over the tokens would clear its long values for each token.
 #[inline(never)]
 fn formula_step(
     alloc: Global,
@@ -303,7 +310,7 @@ fn formula_step(
     }
 }
 
-// A token behind WHERE. Says whether it is taken; what comes next stays where it stands, so that long
+// A token after WHERE. Says whether it is taken; what comes next stays where it stands, so that long
 // values aren't moved from token to token.
 pub(crate) fn body_step(
     alloc: Global,

@@ -1,14 +1,15 @@
 //! The factors of a term, token by token.
 
 ghost use Rattle.std.specs.Prelude.{◌≡◌, [], ◌∷◌, ◌++◌, Some, None, IfOk, IsTrue, true, false, MatchBool, MatchOption};
+ghost use Rattle.ftl_parser.specs.Grammar.{signed};
 ghost use Rattle.ftl_parser.specs.Machine.{reference, factor_begun, term_begun, lengthened, whole};
 ghost use Rattle.ftl_parser.specs.Views.{piece_view, AddsWhole};
 
-use crate::Unit;
 use crate::lists::Factors;
 use crate::number::{literal, times, word};
 use crate::piece::Piece;
 use crate::state::Factor;
+use crate::{Signed, Unit};
 use std::alloc::AllocError;
 
 // The beginning of a reference. Says whether the token is one; where it isn't, nothing changes.
@@ -24,7 +25,7 @@ fn refer(last: &mut Factor, minus: bool, multiplier: Option<u32>, piece: Piece<'
     true
 }
 
-// The beginning of a factor behind its sign.
+// The beginning of a factor after its sign.
 fn begin_factor(last: &mut Factor, minus: bool, piece: Piece<'_>) -> bool
     ensures { MatchBool result (factor_begun minus (piece_view piece.entry) ≡ Some last.new)
         ((factor_begun minus (piece_view piece.entry) ≡ None) × (last.new ≡ last.old)) }
@@ -87,19 +88,29 @@ pub(crate) fn lengthen(last: &mut Factor, piece: Piece<'_>) -> bool
     true
 }
 
+fn signed(minus: bool, times: Option<u32>, unit: Unit) -> Signed
+    ensures { result ≡ signed minus times unit }
+{
+    Signed { minus, times, unit }
+}
+
 // Adds the factor to those before it, where it may end. Says whether it may.
 pub(crate) fn add_whole(factors: &mut Factors, last: &Factor) -> Result<bool, AllocError>
     ensures { IfOk result (λ added. AddsWhole factors.old factors.new (whole last.now) added) }
 {
     match last {
-        Factor::Number(minus, value, _) => factors.push(*minus, None, Unit::Literal(*value))?,
+        Factor::Number(minus, value, _) => {
+            factors.push(signed(*minus, None, Unit::Literal(*value)))?
+        }
         Factor::Alone(minus, multiplier, name) => {
-            factors.push(*minus, *multiplier, Unit::Alone(*name))?
+            factors.push(signed(*minus, *multiplier, Unit::Alone(*name)))?
         }
         Factor::Attr(minus, multiplier, name, attribute) => {
-            factors.push(*minus, *multiplier, Unit::Attr(*name, *attribute))?
+            factors.push(signed(*minus, *multiplier, Unit::Attr(*name, *attribute)))?
         }
-        Factor::Whole(minus, multiplier, unit) => factors.push(*minus, *multiplier, *unit)?,
+        Factor::Whole(minus, multiplier, unit) => {
+            factors.push(signed(*minus, *multiplier, *unit))?
+        }
         _ => return Ok(false),
     }
     Ok(true)

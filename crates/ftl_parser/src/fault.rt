@@ -7,11 +7,11 @@ use thiserror::Error;
 pub enum Size {
     /// The points of a region: at most `geometry::VERTEX_LIMIT`.
     Vertices,
-    /// The variables of FROM: at most [`VARIABLE_LIMIT`](crate::VARIABLE_LIMIT).
+    /// The variables of FROM: at most [`OBJECT_LIMIT`](crate::OBJECT_LIMIT).
     Variables,
     /// The names in a WITHIN_SPHERE: at most [`OBJECT_LIMIT`](crate::OBJECT_LIMIT).
     Objects,
-    /// The assignments in one another: at most [`ASSIGNMENT_LIMIT`](crate::ASSIGNMENT_LIMIT).
+    /// The assignments in one another: at most [`NESTING_LIMIT`](crate::NESTING_LIMIT).
     Assignments,
     /// The operators, assignments and atoms of a formula: at most
     /// [`NODE_LIMIT`](crate::NODE_LIMIT).
@@ -29,7 +29,7 @@ pub enum Size {
 /// Why tokens can't be read as a query.
 #[derive(Debug, Drop, Error)]
 pub enum ParseFault {
-    /// The tokens spell no query. This many tokens of the line begin some query, and no more do.
+    /// The tokens spell no query. The place after the longest run of tokens with which some query begins.
     #[error("no query goes on at token {0}")]
     BadSyntax(usize),
     /// The number at this token, counted from 0, is out of the form or range of its place.

@@ -8,7 +8,7 @@ ghost use Rattle.ftl_parser.specs.Tree.{view};
 use crate::{Atom, Formula};
 
 /// The most assignments in one another. It stays at the largest number; a query that was read has at most
-/// [`ASSIGNMENT_LIMIT`](crate::ASSIGNMENT_LIMIT).
+/// [`NESTING_LIMIT`](crate::NESTING_LIMIT).
 #[tactic(auto, using(crate::proofs::MeasureLemmas::measures))]
 pub fn nesting(formula: &Formula) -> usize
     ensures { result ≡ saturated (nesting (view formula.now)) }

@@ -6,7 +6,7 @@ ghost use Rattle.ftl_parser.specs.Views.{stack_of, SomeIsOnTop, StaysBelow};
 
 use crate::Term;
 use crate::measured::Measured;
-use crate::state::Prefix;
+use crate::prefix::Prefix;
 use fixed_point::{BoundForm, UntilForm, Word};
 use std::alloc::{AllocError, Global};
 

@@ -15,7 +15,7 @@ use crate::piece::Piece;
 use crate::state::Head;
 use std::alloc::{AllocError, Global};
 
-/// What is read of a query: before WHERE, or behind it.
+/// What is read of a query: before WHERE, or after it.
 #[derive(Debug, Drop)]
 pub(crate) enum State {
     Heading(Head),
@@ -39,6 +39,7 @@ pub(crate) struct Spelled {
 }
 
 // A token before WHERE.
+// Not inlined: the loop over the tokens would clear its long values for each token.
 #[inline(never)]
 fn heading_step(kept: &mut Kept, head: &Head, piece: Piece<'_>) -> Result<Option<State>, AllocError>
     ensures { IfOk result (λ r. option_map (kept_view kept.new) r ≡ heading_step head.now kept.old.targets kept.old.from (piece_view piece.entry)) }

@@ -6,20 +6,18 @@ ghost use Rattle.ftl_parser.specs.Views.{spelled_view};
 
 use crate::Size;
 use crate::head::Spelled;
-use crate::limits::{
-    ASSIGNMENT_LIMIT, DEPTH_LIMIT, FACTOR_LIMIT, NODE_LIMIT, OBJECT_LIMIT, VARIABLE_LIMIT,
-};
+use formula_shape::{DEPTH_LIMIT, FACTOR_LIMIT, NESTING_LIMIT, NODE_LIMIT, OBJECT_LIMIT};
 
 // The first size that passes its limit; `long` says whether a name or a text passes its own.
 pub(crate) fn first_too_large(query: &Spelled, long: bool) -> Option<Size>
     ensures { result ≡ first_too_large long (spelled_view query.now) }
 {
     let sizes = query.formula.sizes();
-    if query.from.items().len() > VARIABLE_LIMIT {
+    if query.from.items().len() > OBJECT_LIMIT {
         Some(Size::Variables)
     } else if sizes.objects > OBJECT_LIMIT {
         Some(Size::Objects)
-    } else if sizes.nesting > ASSIGNMENT_LIMIT {
+    } else if sizes.nesting > NESTING_LIMIT {
         Some(Size::Assignments)
     } else if sizes.nodes > NODE_LIMIT {
         Some(Size::Nodes)

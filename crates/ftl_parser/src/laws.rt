@@ -1,7 +1,6 @@
 //! What holds of the definitions, and small examples of them. Each is a contract with nothing to run.
 
-ghost use Rattle.std.specs.Prelude.{◌≡◌, ◌^◌, List};
-ghost use Rattle.ftl_parser.specs.declared.limits.TheConstants.{TIMES_LIMIT, VARIABLE_LIMIT, OBJECT_LIMIT, ASSIGNMENT_LIMIT, NODE_LIMIT, DEPTH_LIMIT, FACTOR_LIMIT};
+ghost use Rattle.std.specs.Prelude.{◌≡◌, List};
 ghost use Rattle.ftl_parser.specs.Example.{FindsUnfitNumbers, JudgesSizes, ParsesSmallQueries, StopsAtTheEnd};
 ghost use Rattle.ftl_parser.specs.Grammar.{SpellsQuery};
 ghost use Rattle.ftl_parser.specs.Marks.{first_unfit};
@@ -46,21 +45,10 @@ pub fn unfit_numbers_are_those_of_the_tokens()
 {}
 
 /// The names of a query, in the order in which it is written, are those among its tokens, and so are its
-/// texts. Its terms are spelled by runs of its tokens, one behind the other.
+/// texts. Its terms are spelled by runs of its tokens, one after the other.
 #[tactic(auto, using(crate::proofs::OrderLemmas::names_in_order, crate::proofs::OrderLemmas::texts_in_order, crate::proofs::OrderLemmas::terms_in_order))]
 pub fn names_and_terms_stand_in_order()
     ensures names { (tokens : List Piece) (q : QueryTree) → SpellsQuery q tokens → query_names q ≡ token_names tokens }
     ensures texts { (tokens : List Piece) (q : QueryTree) → SpellsQuery q tokens → query_texts q ≡ token_texts tokens }
     ensures terms { (tokens : List Piece) (q : QueryTree) → SpellsQuery q tokens → TermsIn (query_terms q) tokens }
-{}
-
-/// The limits of this crate by their numbers.
-pub fn limits_in_numbers()
-    ensures times { TIMES_LIMIT ≡ 10 ^ 6 }
-    ensures variables { VARIABLE_LIMIT ≡ 4 }
-    ensures objects { OBJECT_LIMIT ≡ 4 }
-    ensures assignments { ASSIGNMENT_LIMIT ≡ 2 }
-    ensures nodes { NODE_LIMIT ≡ 256 }
-    ensures depth { DEPTH_LIMIT ≡ 32 }
-    ensures factors { FACTOR_LIMIT ≡ 16 }
 {}

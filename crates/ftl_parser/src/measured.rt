@@ -8,7 +8,7 @@ ghost use Rattle.ftl_parser.specs.Sizes.{atom_objects, atom_factors};
 ghost use Rattle.ftl_parser.specs.Tree.{view as tree_of};
 
 use crate::formula_sizes::names_in;
-use crate::state::Prefix;
+use crate::prefix::Prefix;
 use crate::{Atom, Formula, Term};
 use fixed_point::{BoundForm, UntilForm, Word};
 use std::alloc::{AllocError, Global};

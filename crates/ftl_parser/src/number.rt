@@ -5,10 +5,10 @@ ghost use Rattle.fixed_point.specs.declared.number.TheConstants.{READ_LIMIT};
 ghost use Rattle.fixed_point.specs.Decimal.{thousandths_of};
 ghost use Rattle.geometry.specs.declared.limits.TheConstants.{RADIUS_LIMIT};
 ghost use Rattle.ftl_parser.specs.Number.{whole_of, up_to, literal, radius, ticks, times, fits, Ticks, Times, Literal, Radius};
-ghost use Rattle.ftl_parser.specs.Words.{is_short, word_of};
+ghost use Rattle.ftl_parser.specs.Words.{is_short, short_word};
 
-use crate::limits::TIMES_LIMIT;
 use fixed_point::{Fix, Slope, WORD_LIMIT, Word};
+use formula_shape::TIMES_LIMIT;
 use tick_set::LAST_TICK;
 
 // The whole number that digits alone stand for, if it is at most `most`.
@@ -40,7 +40,9 @@ pub fn whole(text: &[u8], least: u32, most: u32) -> Option<u32>
     if value >= least { Some(value) } else { None }
 }
 
-fn zero() -> Fix
+/// The number 0.
+#[inline]
+pub fn zero() -> Fix
     ensures { result ≡ pos 0 }
 {
     Fix::of(0).unwrap()
@@ -71,8 +73,8 @@ pub(crate) fn literal(text: &[u8]) -> Fix
     }
 }
 
-// A radius, if it is one in its range.
-pub(crate) fn read_radius(text: &[u8]) -> Option<Fix>
+/// The radius that a number is: from 0 to 1,000, with at most three decimals. None where it is none.
+pub fn read_radius(text: &[u8]) -> Option<Fix>
     ensures { result ≡ thousandths_of RADIUS_LIMIT text.now }
 {
     let radius = Slope::read(text)?;
@@ -140,7 +142,7 @@ fn empty() -> Word
 /// The word of these bytes; the empty one where there are more than a word has room for.
 #[inline]
 pub fn word(bytes: &[u8]) -> Word
-    ensures { result ≡ word_of bytes.now }
+    ensures { result ≡ short_word bytes.now }
 {
     match Word::of(bytes) {
         Some(word) => word,

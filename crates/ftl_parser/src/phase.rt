@@ -23,7 +23,7 @@ use std::mem;
 pub(crate) enum Phase {
     /// A formula.
     Want,
-    /// An operator, a closing bracket or the end, behind a formula.
+    /// An operator, a closing bracket or the end, after a formula.
     Have(Measured),
     /// The number of ticks of an until, whose left side is there.
     Reach(UntilForm, Measured),
@@ -45,7 +45,7 @@ fn have(atom: Atom) -> Phase
     Phase::Have(Measured::atom(atom))
 }
 
-// What comes next behind the closing bracket after two names.
+// What comes next after the closing bracket after two names.
 fn pair_closed(pair: Pair, first: Word, second: Word) -> Phase
     ensures { spatial_step (spatials.PairClose pair first second) CLOSE ≡ Some result }
 {
@@ -57,6 +57,7 @@ fn pair_closed(pair: Pair, first: Word, second: Word) -> Phase
 }
 
 // A token in an atom that begins with its word, where no names of a circle are read.
+// Not inlined: the loop over the tokens would clear its long values for each token.
 #[inline(never)]
 fn plain_step(alloc: Global, phase: &mut Phase, piece: Piece<'_>) -> bool
     requires { IsPlain phase.old }
@@ -104,6 +105,7 @@ fn plain_step(alloc: Global, phase: &mut Phase, piece: Piece<'_>) -> bool
 }
 
 // A token where names of a circle are read.
+// Not inlined: the loop over the tokens would clear its long values for each token.
 #[inline(never)]
 fn names_step(phase: &mut Phase, piece: Piece<'_>) -> Result<bool, AllocError>
     requires { HasNames phase.old }

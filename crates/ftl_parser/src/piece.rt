@@ -3,10 +3,10 @@
 ghost use Rattle.std.specs.Prelude.{◌≡◌, ◌<◌, Some, length, map, slice_get, unwrap_or};
 ghost use Rattle.ftl_lexer.specs.Cut.{HasForm};
 ghost use Rattle.ftl_lexer.specs.Tokens.{lexemes, tokens_of};
-ghost use Rattle.ftl_parser.specs.Piece.{piece_of, pieces, signs, words, OTHER};
+ghost use Rattle.ftl_parser.specs.Piece.{piece_of, pieces, signs, reserved, OTHER};
 ghost use Rattle.ftl_parser.specs.Views.{piece_view};
 
-use crate::state::Prefix;
+use crate::prefix::Prefix;
 use case_table::Op;
 use fixed_point::{BoundForm, SubName, UntilForm};
 use ftl_lexer::{Kind, Tokens, unquoted};
@@ -122,7 +122,7 @@ pub(crate) fn sign(code: u8) -> Piece<'static>
 
 // The word of this code.
 pub(crate) fn word(code: u8) -> Piece<'static>
-    ensures { piece_view result ≡ unwrap_or (slice_get words code) OTHER }
+    ensures { piece_view result ≡ unwrap_or (slice_get reserved code) OTHER }
 {
     at(&WORDS, code)
 }

@@ -1,12 +1,11 @@
 //! The canonical text of queries.
-#![tactic(auto, using(crate::proofs::TextBegins::begins_more, crate::proofs::TextBegins::begins_through))]
 
 ghost use Rattle.std.specs.Prelude.{◌≡◌, ◌++◌, codes, decimal, IfOk, OnOk, OnErr};
 ghost use Rattle.fixed_point.specs.Canonical.{fix_text};
 ghost use Rattle.ftl_parser.specs.Tree.{view, query_view};
-ghost use Rattle.ftl_parser.specs.Text.{Begins, assign_text, atom_text, bound_text, bound_word, factor_text, factors_text, first_sign, formula_text, later_factors, later_names, later_parts, later_sign, names_text, op_word, pair_text, part_text, parts_text, prefix_text, query_text, sub_word, term_text, times_text, truth_word, unit_text, until_text};
+ghost use Rattle.ftl_parser.specs.Text.{assign_text, atom_text, bound_text, bound_word, factor_text, factors_text, first_sign, formula_text, later_factors, later_names, later_parts, later_sign, names_text, op_word, pair_text, part_text, parts_text, prefix_text, query_text, sub_word, term_text, times_text, truth_word, unit_text, until_text};
 
-use crate::state::Prefix;
+use crate::prefix::Prefix;
 use crate::{Atom, Formula, FromPart, Query, Signed, Term, Unit};
 use case_table::Op;
 use fixed_point::{BoundForm, Fix, SubName, UntilForm, Word};
@@ -18,29 +17,14 @@ pub fn print(alloc: Global, query: &Query) -> Result<Vec<u8>, AllocError>
     ensures { IfOk result (λ text. text.items ≡ query_text (query_view query.now)) }
 {
     let mut text = Vec::new(alloc);
-    push_query(&mut text, query)?;
+    print_onto(query, &mut text)?;
     Ok(text)
 }
 
 /// Writes the canonical text of a query at the end of `out`. An `Err` says that there is no memory for
-/// it, and leaves `out` as it was.
+/// it, and leaves open what `out` holds then.
 pub fn print_onto(query: &Query, out: &mut Vec<u8>) -> Result<(), AllocError>
-    ensures ok { OnOk result (out.new.items ≡ out.old.items ++ query_text (query_view query.now)) }
-    ensures err { OnErr result (out.new.items ≡ out.old.items) }
-{
-    let start = out.len();
-    let done = push_query(out, query);
-    if done.is_err() {
-        out.truncate(start);
-    }
-    done
-}
-
-// Each of these writes one part at the end. After an error what was there still stands in front.
-
-fn push_query(out: &mut Vec<u8>, query: &Query) -> Result<(), AllocError>
-    ensures ok { OnOk result (out.new.items ≡ out.old.items ++ query_text (query_view query.now)) }
-    ensures begins { Begins out.old.items out.new.items }
+    ensures { OnOk result (out.new.items ≡ out.old.items ++ query_text (query_view query.now)) }
 {
     out.extend_from_slice(b"RETRIEVE ")?;
     push_names(out, query.targets.items())?;
@@ -51,9 +35,10 @@ fn push_query(out: &mut Vec<u8>, query: &Query) -> Result<(), AllocError>
     Ok(())
 }
 
+// Each of these writes one part at the end.
+
 fn push_names(out: &mut Vec<u8>, names: &[Word]) -> Result<(), AllocError>
-    ensures ok { OnOk result (out.new.items ≡ out.old.items ++ names_text names.now) }
-    ensures begins { Begins out.old.items out.new.items }
+    ensures { OnOk result (out.new.items ≡ out.old.items ++ names_text names.now) }
 {
     if let Some((name, later)) = names.split_first() {
         out.extend_from_slice(name.bytes())?;
@@ -63,8 +48,7 @@ fn push_names(out: &mut Vec<u8>, names: &[Word]) -> Result<(), AllocError>
 }
 
 fn push_later_names(out: &mut Vec<u8>, names: &[Word]) -> Result<(), AllocError>
-    ensures ok { OnOk result (out.new.items ≡ out.old.items ++ later_names names.now) }
-    ensures begins { Begins out.old.items out.new.items }
+    ensures { OnOk result (out.new.items ≡ out.old.items ++ later_names names.now) }
 {
     let mut rest = names;
     while let Some((name, later)) = rest.split_first() {
@@ -76,8 +60,7 @@ fn push_later_names(out: &mut Vec<u8>, names: &[Word]) -> Result<(), AllocError>
 }
 
 fn push_parts(out: &mut Vec<u8>, parts: &[FromPart]) -> Result<(), AllocError>
-    ensures ok { OnOk result (out.new.items ≡ out.old.items ++ parts_text parts.now) }
-    ensures begins { Begins out.old.items out.new.items }
+    ensures { OnOk result (out.new.items ≡ out.old.items ++ parts_text parts.now) }
 {
     if let Some((part, later)) = parts.split_first() {
         push_part(out, part)?;
@@ -87,8 +70,7 @@ fn push_parts(out: &mut Vec<u8>, parts: &[FromPart]) -> Result<(), AllocError>
 }
 
 fn push_later_parts(out: &mut Vec<u8>, parts: &[FromPart]) -> Result<(), AllocError>
-    ensures ok { OnOk result (out.new.items ≡ out.old.items ++ later_parts parts.now) }
-    ensures begins { Begins out.old.items out.new.items }
+    ensures { OnOk result (out.new.items ≡ out.old.items ++ later_parts parts.now) }
 {
     let mut rest = parts;
     while let Some((part, later)) = rest.split_first() {
@@ -100,8 +82,7 @@ fn push_later_parts(out: &mut Vec<u8>, parts: &[FromPart]) -> Result<(), AllocEr
 }
 
 fn push_part(out: &mut Vec<u8>, part: &FromPart) -> Result<(), AllocError>
-    ensures ok { OnOk result (out.new.items ≡ out.old.items ++ part_text part.now) }
-    ensures begins { Begins out.old.items out.new.items }
+    ensures { OnOk result (out.new.items ≡ out.old.items ++ part_text part.now) }
 {
     out.extend_from_slice(part.class.bytes())?;
     out.extend_from_slice(b" ")?;
@@ -110,15 +91,13 @@ fn push_part(out: &mut Vec<u8>, part: &FromPart) -> Result<(), AllocError>
 }
 
 fn push_term(out: &mut Vec<u8>, term: &Term) -> Result<(), AllocError>
-    ensures ok { OnOk result (out.new.items ≡ out.old.items ++ term_text term.now) }
-    ensures begins { Begins out.old.items out.new.items }
+    ensures { OnOk result (out.new.items ≡ out.old.items ++ term_text term.now) }
 {
     push_factors(out, term.factors.items())
 }
 
 fn push_factors(out: &mut Vec<u8>, factors: &[Signed]) -> Result<(), AllocError>
-    ensures ok { OnOk result (out.new.items ≡ out.old.items ++ factors_text factors.now) }
-    ensures begins { Begins out.old.items out.new.items }
+    ensures { OnOk result (out.new.items ≡ out.old.items ++ factors_text factors.now) }
 {
     if let Some((factor, later)) = factors.split_first() {
         out.extend_from_slice(first_sign(factor.minus))?;
@@ -129,8 +108,7 @@ fn push_factors(out: &mut Vec<u8>, factors: &[Signed]) -> Result<(), AllocError>
 }
 
 fn push_later_factors(out: &mut Vec<u8>, factors: &[Signed]) -> Result<(), AllocError>
-    ensures ok { OnOk result (out.new.items ≡ out.old.items ++ later_factors factors.now) }
-    ensures begins { Begins out.old.items out.new.items }
+    ensures { OnOk result (out.new.items ≡ out.old.items ++ later_factors factors.now) }
 {
     let mut rest = factors;
     while let Some((factor, later)) = rest.split_first() {
@@ -154,8 +132,7 @@ fn later_sign(minus: bool) -> &'static [u8]
 }
 
 fn push_factor(out: &mut Vec<u8>, factor: &Signed) -> Result<(), AllocError>
-    ensures ok { OnOk result (out.new.items ≡ out.old.items ++ factor_text factor.now) }
-    ensures begins { Begins out.old.items out.new.items }
+    ensures { OnOk result (out.new.items ≡ out.old.items ++ factor_text factor.now) }
 {
     push_times(out, factor.times)?;
     push_unit(out, &factor.unit)?;
@@ -163,8 +140,7 @@ fn push_factor(out: &mut Vec<u8>, factor: &Signed) -> Result<(), AllocError>
 }
 
 fn push_times(out: &mut Vec<u8>, times: Option<u32>) -> Result<(), AllocError>
-    ensures ok { OnOk result (out.new.items ≡ out.old.items ++ times_text times) }
-    ensures begins { Begins out.old.items out.new.items }
+    ensures { OnOk result (out.new.items ≡ out.old.items ++ times_text times) }
 {
     if let Some(times) = times {
         push_number(out, times)?;
@@ -174,8 +150,7 @@ fn push_times(out: &mut Vec<u8>, times: Option<u32>) -> Result<(), AllocError>
 }
 
 fn push_unit(out: &mut Vec<u8>, unit: &Unit) -> Result<(), AllocError>
-    ensures ok { OnOk result (out.new.items ≡ out.old.items ++ unit_text unit.now) }
-    ensures begins { Begins out.old.items out.new.items }
+    ensures { OnOk result (out.new.items ≡ out.old.items ++ unit_text unit.now) }
 {
     match unit {
         Unit::Literal(number) => out.extend_from_slice(number.print().bytes()),
@@ -193,8 +168,7 @@ fn push_unit(out: &mut Vec<u8>, unit: &Unit) -> Result<(), AllocError>
 }
 
 fn push_text(out: &mut Vec<u8>, text: &Word) -> Result<(), AllocError>
-    ensures ok { OnOk result (out.new.items ≡ out.old.items ++ unit_text (Unit.Text text.now)) }
-    ensures begins { Begins out.old.items out.new.items }
+    ensures { OnOk result (out.new.items ≡ out.old.items ++ unit_text (Unit.Text text.now)) }
 {
     out.extend_from_slice(b"\"")?;
     out.extend_from_slice(text.bytes())?;
@@ -203,8 +177,7 @@ fn push_text(out: &mut Vec<u8>, text: &Word) -> Result<(), AllocError>
 }
 
 fn push_attribute(out: &mut Vec<u8>, name: &Word, attribute: &Word) -> Result<(), AllocError>
-    ensures ok { OnOk result (out.new.items ≡ out.old.items ++ unit_text (Unit.Attr name.now attribute.now)) }
-    ensures begins { Begins out.old.items out.new.items }
+    ensures { OnOk result (out.new.items ≡ out.old.items ++ unit_text (Unit.Attr name.now attribute.now)) }
 {
     out.extend_from_slice(name.bytes())?;
     out.extend_from_slice(b".")?;
@@ -222,7 +195,8 @@ fn sub_word(part: SubName) -> &'static [u8]
     }
 }
 
-fn push_number(out: &mut Vec<u8>, number: u32) -> Result<(), AllocError>
+/// Writes a number at the end. An `Err` changes nothing.
+pub fn push_number(out: &mut Vec<u8>, number: u32) -> Result<(), AllocError>
     ensures ok { OnOk result (out.new.items ≡ out.old.items ++ decimal number) }
     ensures err { OnErr result (out.new.items ≡ out.old.items) }
 {
@@ -230,8 +204,7 @@ fn push_number(out: &mut Vec<u8>, number: u32) -> Result<(), AllocError>
 }
 
 fn push_atom(out: &mut Vec<u8>, atom: &Atom) -> Result<(), AllocError>
-    ensures ok { OnOk result (out.new.items ≡ out.old.items ++ atom_text atom.now) }
-    ensures begins { Begins out.old.items out.new.items }
+    ensures { OnOk result (out.new.items ≡ out.old.items ++ atom_text atom.now) }
 {
     match atom {
         Atom::Compare(left, op, right) => {
@@ -257,9 +230,8 @@ fn push_circle(
     radius: Fix,
     names: &[Word],
 ) -> Result<(), AllocError>
-    ensures ok { OnOk result (out.new.items ≡ out.old.items
+    ensures { OnOk result (out.new.items ≡ out.old.items
         ++ (word.now ++ fix_text radius ++ later_names names.now ++ codes ")")) }
-    ensures begins { Begins out.old.items out.new.items }
 {
     out.extend_from_slice(word)?;
     out.extend_from_slice(radius.print().bytes())?;
@@ -269,8 +241,7 @@ fn push_circle(
 }
 
 fn push_op(out: &mut Vec<u8>, op: Op) -> Result<(), AllocError>
-    ensures ok { OnOk result (out.new.items ≡ out.old.items ++ codes " " ++ op_word op ++ codes " ") }
-    ensures begins { Begins out.old.items out.new.items }
+    ensures { OnOk result (out.new.items ≡ out.old.items ++ codes " " ++ op_word op ++ codes " ") }
 {
     out.extend_from_slice(b" ")?;
     out.extend_from_slice(op_word(op))?;
@@ -293,8 +264,7 @@ fn op_word(op: Op) -> &'static [u8]
 
 // A word, and two names in brackets.
 fn push_pair(out: &mut Vec<u8>, word: &[u8], first: &Word, second: &Word) -> Result<(), AllocError>
-    ensures ok { OnOk result (out.new.items ≡ out.old.items ++ (word.now ++ pair_text first.now second.now)) }
-    ensures begins { Begins out.old.items out.new.items }
+    ensures { OnOk result (out.new.items ≡ out.old.items ++ (word.now ++ pair_text first.now second.now)) }
 {
     out.extend_from_slice(word)?;
     out.extend_from_slice(b"(")?;
@@ -307,8 +277,7 @@ fn push_pair(out: &mut Vec<u8>, word: &[u8], first: &Word, second: &Word) -> Res
 
 // It calls itself at most as deep as the formula is.
 fn push_formula(out: &mut Vec<u8>, formula: &Formula) -> Result<(), AllocError>
-    ensures ok { OnOk result (out.new.items ≡ out.old.items ++ formula_text (view formula.now)) }
-    ensures begins { Begins out.old.items out.new.items }
+    ensures { OnOk result (out.new.items ≡ out.old.items ++ formula_text (view formula.now)) }
 {
     match formula {
         Formula::Truth(holds) => out.extend_from_slice(truth_word(*holds)),
@@ -380,8 +349,7 @@ fn truth_word(holds: bool) -> &'static [u8]
 }
 
 fn push_bound(out: &mut Vec<u8>, form: BoundForm, ticks: u32) -> Result<(), AllocError>
-    ensures ok { OnOk result (out.new.items ≡ out.old.items ++ bound_text form ticks) }
-    ensures begins { Begins out.old.items out.new.items }
+    ensures { OnOk result (out.new.items ≡ out.old.items ++ bound_text form ticks) }
 {
     out.extend_from_slice(bound_word(form))?;
     out.extend_from_slice(b" ")?;
@@ -401,8 +369,7 @@ fn bound_word(form: BoundForm) -> &'static [u8]
 }
 
 fn push_until(out: &mut Vec<u8>, form: UntilForm, ticks: u32) -> Result<(), AllocError>
-    ensures ok { OnOk result (out.new.items ≡ out.old.items ++ until_text form ticks) }
-    ensures begins { Begins out.old.items out.new.items }
+    ensures { OnOk result (out.new.items ≡ out.old.items ++ until_text form ticks) }
 {
     match form {
         UntilForm::Plain => out.extend_from_slice(b" UNTIL "),
@@ -412,8 +379,7 @@ fn push_until(out: &mut Vec<u8>, form: UntilForm, ticks: u32) -> Result<(), Allo
 }
 
 fn push_until_bound(out: &mut Vec<u8>, word: &[u8], ticks: u32) -> Result<(), AllocError>
-    ensures ok { OnOk result (out.new.items ≡ out.old.items ++ (word.now ++ decimal ticks ++ codes " ")) }
-    ensures begins { Begins out.old.items out.new.items }
+    ensures { OnOk result (out.new.items ≡ out.old.items ++ (word.now ++ decimal ticks ++ codes " ")) }
 {
     out.extend_from_slice(word)?;
     push_number(out, ticks)?;
@@ -422,8 +388,7 @@ fn push_until_bound(out: &mut Vec<u8>, word: &[u8], ticks: u32) -> Result<(), Al
 }
 
 fn push_assignment(out: &mut Vec<u8>, name: &Word, term: &Term) -> Result<(), AllocError>
-    ensures ok { OnOk result (out.new.items ≡ out.old.items ++ assign_text name.now term.now) }
-    ensures begins { Begins out.old.items out.new.items }
+    ensures { OnOk result (out.new.items ≡ out.old.items ++ assign_text name.now term.now) }
 {
     out.extend_from_slice(b"[")?;
     out.extend_from_slice(name.bytes())?;

@@ -49,8 +49,8 @@ fn spelled(alloc: Global, tokens: &Tokens, from: usize) -> Result<Spelled, Parse
     }
 }
 
-/// The query that the tokens from `from` to the end spell. `BadSyntax` tells the place behind the longest
-/// run of tokens from `from` on with which some query begins; `NumberRange` the first number token out of
+/// The query that the tokens from `from` to the end spell. `BadSyntax` tells the index just past the
+/// longest prefix of these tokens that starts some query; `NumberRange` the first number token out of
 /// the form or range of its place, where the tokens are a query; `TooLarge` the first size in the order of
 /// `Size` that passes its limit, where no number does. No list of the query is empty, its numbers are in
 /// their ranges, and none of its sizes passes its limit (`lawful`).

@@ -26,7 +26,7 @@ pub(crate) enum Coming {
     Radius,
 }
 
-// What the next number is, behind one more word or symbol.
+// What the next number is, after one more word or symbol.
 fn coming_after(before: Coming, piece: Piece<'_>) -> Coming
     ensures { result ≡ coming before (piece_view piece.entry) }
 {
@@ -39,7 +39,7 @@ fn coming_after(before: Coming, piece: Piece<'_>) -> Coming
     }
 }
 
-// What the next number is, behind one more token. Names, numbers and texts have no part in it, so their
+// What the next number is, after one more token. Names, numbers and texts have no part in it, so their
 // bytes aren't looked at.
 fn coming_behind(before: Coming, kind: Kind) -> Coming
     ensures { (bytes : List ℕ) → result ≡ coming before (piece_of kind bytes) }
@@ -59,7 +59,7 @@ fn is_star(tokens: &Tokens, at: usize) -> bool
     at < tokens.len() && matches!(piece_at(tokens, at), Piece::Star)
 }
 
-// Whether a number, behind which the tokens from a place on stand, doesn't fit its place.
+// Whether a number, after which the tokens from a place on stand, doesn't fit its place.
 fn is_unfit(before: Coming, number: &[u8], tokens: &Tokens, next: usize) -> bool
     ensures { result ≡ mark before (NUMBER number.now) (pieces_from next tokens.now) }
 {

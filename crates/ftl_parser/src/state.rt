@@ -5,15 +5,6 @@ use crate::{Term, Unit};
 use case_table::Op;
 use fixed_point::{Fix, Word};
 
-/// A word that stands before one formula.
-#[derive(Clone, Copy, Debug, PartialEq, Eq)]
-pub(crate) enum Prefix {
-    Not,
-    Next,
-    Eventually,
-    Always,
-}
-
 /// A word that stands before two names in brackets.
 #[derive(Clone, Copy, Debug, PartialEq, Eq)]
 pub(crate) enum Pair {
@@ -29,13 +20,13 @@ pub(crate) enum Head {
     Start,
     /// A target.
     Target,
-    /// A comma or FROM, behind a target.
+    /// A comma or FROM, after a target.
     Targets,
     /// A class.
     Class,
     /// The variable of this class.
     Var(Word),
-    /// A comma or WHERE, behind a variable.
+    /// A comma or WHERE, after a variable.
     Parts,
 }
 
@@ -44,7 +35,7 @@ pub(crate) enum Head {
 pub(crate) enum TermPlace {
     /// Before a comparison.
     Left,
-    /// Behind this term and comparison.
+    /// After this term and comparison.
     Right(Term, Op),
     /// In the brackets that assign it to this name.
     Assigned(Word),
@@ -76,7 +67,7 @@ pub(crate) enum Factor {
 /// What comes next in an atom that begins with its word.
 #[derive(Debug, Drop)]
 pub(crate) enum Spatial {
-    /// `(`, behind a word before two names.
+    /// `(`, after a word before two names.
     PairOpen(Pair),
     /// The first name.
     PairFirst(Pair),
@@ -90,16 +81,16 @@ pub(crate) enum Spatial {
     DistOp(Word, Word),
     /// The number with which a distance is compared; a sign may come.
     DistNum(Word, Word, Op),
-    /// That number, behind its sign.
+    /// That number, after its sign.
     DistMinus(Word, Word, Op),
-    /// `(`, behind WITHIN_SPHERE.
+    /// `(`, after WITHIN_SPHERE.
     SphereOpen,
     /// The radius.
     SphereRadius,
-    /// The comma behind the radius.
+    /// The comma after the radius.
     SphereComma(Fix),
     /// A name.
     SphereName(Fix, Names),
-    /// A comma or `)`, behind a name.
+    /// A comma or `)`, after a name.
     SphereNames(Fix, Names),
 }

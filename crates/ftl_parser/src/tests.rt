@@ -166,7 +166,7 @@ fn is_sized(
     Ok(())
 }
 
-// Some formula behind so many times a part.
+// Some formula after so many times a part.
 fn behind(alloc: Global, part: &[u8], times: usize, formula: &[u8]) -> Result<Vec<u8>, AllocError> {
     let mut text = repeated(alloc, part, times)?;
     text.extend_from_slice(formula)?;

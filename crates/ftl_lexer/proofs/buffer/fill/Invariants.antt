@@ -1,5 +1,6 @@
 use Rattle.std.proofs.Common.{◌≡◌, ◌-◌, ◌+◌, ◌≤◌, length, drop, vec_len, vec_capacity}
-use Rattle.ftl_lexer.specs.Tokens.{lexed, after}
+use Rattle.ftl_lexer.specs.Tokens.{lexed}
+use Rattle.ftl_lexer.proofs.Steps.{after}
 use Rattle.ftl_lexer.proofs.buffer.fill.Given as goal
 
 abbrev pub invariant-filling : goal.invariant-filling

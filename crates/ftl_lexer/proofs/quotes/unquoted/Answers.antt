@@ -1,4 +1,4 @@
--- The first quote behind the first byte is the last byte.
+-- The first quote after the first byte is the last byte.
 use Rattle.ftl_lexer.proofs.Fronts.{unquoted_parts}
 use Rattle.ftl_lexer.proofs.quotes.unquoted.Goals as goal
 

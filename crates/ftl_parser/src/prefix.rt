@@ -1,0 +1,10 @@
+//! The words before a formula, which the grammar has besides the words of the tree.
+
+/// A word that stands before one formula.
+#[derive(Clone, Copy, Debug, PartialEq, Eq)]
+pub(crate) enum Prefix {
+    Not,
+    Next,
+    Eventually,
+    Always,
+}
