@@ -1,6 +1,6 @@
 -- A set of four members.
 use Rattle.std.proofs.Common.{◌≡◌, ℕ, zero, suc, ◌<◌, Bool, [], ◌∷◌, arith}
-use Rattle.formula.specs.declared.limits.TheConstants.{OBJECT_LIMIT}
+use Rattle.formula_shape.specs.declared.limits.TheConstants.{OBJECT_LIMIT}
 use Rattle.formula.specs.VarSet.{has}
 
 -- it has what a test passes, where its members are the answers of the test

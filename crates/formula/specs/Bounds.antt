@@ -3,7 +3,8 @@ use Rattle.std.specs.Prelude.{ℕ, ◌*◌, ◌≤◌, ℤ, pos, ◌≤ℤ◌, u
 use Rattle.fixed_point.specs.declared.number.TheConstants.{FIX_LIMIT, SLOPE_LIMIT}
 use Rattle.fixed_point.specs.declared.variants.SubName.{SubName}
 use Rattle.fixed_point.specs.declared.variants.SubName.TheVariants as subs
-use Rattle.formula.specs.declared.limits.TheConstants.{DYNAMIC_BOUND, FACTOR_LIMIT, TIME_BOUND}
+use Rattle.formula_shape.specs.declared.limits.TheConstants.{FACTOR_LIMIT}
+use Rattle.formula.specs.declared.limits.TheConstants.{DYNAMIC_BOUND, TIME_BOUND}
 use Rattle.formula.specs.declared.tree.RSigned.{RSigned}
 use Rattle.formula.specs.declared.tree.RTerm.{RTerm}
 use Rattle.formula.specs.declared.tree.RUnit.{RUnit}

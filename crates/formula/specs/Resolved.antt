@@ -9,7 +9,7 @@ use Rattle.geometry.specs.declared.limits.TheConstants.{RADIUS_LIMIT}
 use Rattle.tick_set.specs.declared.spans.TheConstants.{LAST_TICK}
 use Rattle.formula_shape.specs.Shape as shapes
 use Rattle.formula_shape.specs.Sizes.{nodes, depth}
-use Rattle.formula.specs.declared.limits.TheConstants.{DEPTH_LIMIT, FACTOR_LIMIT, NESTING_LIMIT, NODE_LIMIT, OBJECT_LIMIT, TIMES_LIMIT}
+use Rattle.formula_shape.specs.declared.limits.TheConstants.{DEPTH_LIMIT, FACTOR_LIMIT, NESTING_LIMIT, NODE_LIMIT, OBJECT_LIMIT, TIMES_LIMIT}
 use Rattle.formula.specs.declared.tree.RAtom as atom_type
 use Rattle.formula.specs.declared.tree.RAtom.TheVariants as atoms
 use Rattle.formula.specs.declared.tree.RSigned.{RSigned}
@@ -27,7 +27,7 @@ Scope = ℕ → ℤ → Bool
 abbrev pub no_scope : ℕ → ℤ → Bool
 no_scope d bound = false
 
--- behind an assignment at depth d, whose term has this bound
+-- after an assignment at depth d, whose term has this bound
 abbrev pub with_bound : Scope → ℕ → ℕ → ℕ → ℤ → Bool
 with_bound scope d bound e beside = if e == d then int_eq beside (pos bound) else scope e beside
 

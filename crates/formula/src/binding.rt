@@ -6,7 +6,7 @@ ghost use Rattle.std.specs.Str.{bytes_eq};
 ghost use Rattle.std.specs.Cmp.{partial_equiv_from_equiv};
 ghost use Rattle.std.specs.Cmp.Lexicographic.{slice_cmp, nat_list_cmp_total, nat_list_eq_equiv, texts_po, texts_ties};
 
-use crate::limits::OBJECT_LIMIT;
+use formula_shape::OBJECT_LIMIT;
 use std::cmp::Ordering;
 use std::marker::Model;
 
@@ -24,7 +24,7 @@ impl Model for Binding {
     ghost use Rattle.std.specs.Prelude.{List, ℕ, length, take};
     ghost use Rattle.exact.proofs.PaddedLemmas.{length-front, padded-front};
     ghost use Rattle.exact.specs.Padded.{IsPadded, padded};
-    ghost use Rattle.formula.specs.declared.limits.TheConstants.{OBJECT_LIMIT};
+    ghost use Rattle.formula_shape.specs.declared.limits.TheConstants.{OBJECT_LIMIT};
 
     ghost Value = { List ℕ };
 
@@ -69,12 +69,12 @@ impl Binding {
         &self.ids[..self.len as usize]
     }
 
-    /// The number of the object at this place, if there is one.
+    /// The number of the object of this index, if there is one.
     #[inline]
-    pub fn get(&self, place: usize) -> Option<u32>
-        ensures { result ≡ slice_get self.now place }
+    pub fn get(&self, index: usize) -> Option<u32>
+        ensures { result ≡ slice_get self.now index }
     {
-        self.ids().get(place).copied()
+        self.ids().get(index).copied()
     }
 
     /// How many objects there are.

@@ -10,20 +10,12 @@ ghost use Rattle.formula.specs.Variables.{has_variable, variables_in};
 ghost use Rattle.formula.specs.declared.value.Env.{Env};
 ghost use Rattle.formula.specs.declared.value.Value.{Value};
 
-use crate::limits::{
-    DEPTH_LIMIT, DYNAMIC_BOUND, FACTOR_LIMIT, NESTING_LIMIT, NODE_LIMIT, OBJECT_LIMIT, TIME_BOUND,
-    TIMES_LIMIT,
-};
+use crate::limits::{DYNAMIC_BOUND, TIME_BOUND};
+use formula_shape::{NESTING_LIMIT, OBJECT_LIMIT};
 use tick_set::LAST_TICK;
 
-/// The limits, in numbers.
+/// The limits of this crate, in numbers; those of queries are `formula_shape`'s.
 pub fn limits_in_numbers()
-    ensures objects { OBJECT_LIMIT ≡ 4 }
-    ensures nesting { NESTING_LIMIT ≡ 2 }
-    ensures factors { FACTOR_LIMIT ≡ 16 }
-    ensures times { TIMES_LIMIT ≡ 10 ^ 6 }
-    ensures nodes { NODE_LIMIT ≡ 256 }
-    ensures depth { DEPTH_LIMIT ≡ 32 }
     ensures dynamic { DYNAMIC_BOUND ≡ 1001 * 10 ^ 12 }
     ensures time { TIME_BOUND ≡ 1000 * LAST_TICK }
 {}

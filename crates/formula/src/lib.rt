@@ -1,11 +1,11 @@
 //! Queries and formulas by number: their trees, the object variables in them, bindings of objects, values
-//! that assignments bind, and how large a term's value can be.
+//! that assignments bind, how large a term's value can be, and the kinds of values and of queries that stay.
 #![tactic(auto)]
 
 mod binding;
 mod bound;
-mod items;
-pub mod laws;
+mod kind;
+mod laws;
 mod limits;
 mod tree;
 mod value;
@@ -13,13 +13,13 @@ mod var_set;
 
 pub use binding::Binding;
 pub use bound::bound_of;
-pub use items::Items;
-pub use limits::{
-    DEPTH_LIMIT, DYNAMIC_BOUND, FACTOR_LIMIT, NESTING_LIMIT, NODE_LIMIT, OBJECT_LIMIT, TIME_BOUND,
-    TIMES_LIMIT,
+pub use fixed_point::Items;
+pub use formula_shape::{
+    DEPTH_LIMIT, FACTOR_LIMIT, NESTING_LIMIT, NODE_LIMIT, OBJECT_LIMIT, TIMES_LIMIT,
 };
+pub use limits::{DYNAMIC_BOUND, TIME_BOUND};
 pub use tree::{ClassNo, RAtom, RFormula, RQuery, RSigned, RTerm, RUnit};
-pub use value::{Env, Value};
+pub use value::{Env, Value, ValueKind};
 pub use var_set::{VarSet, free, free_in_term};
 
 #[cfg(test)]

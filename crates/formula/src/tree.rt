@@ -1,11 +1,10 @@
 //! The tree of a query, with its variables, classes, attributes and regions by their numbers.
 //!
-//! An object variable is its place in FROM, and an attribute its place in the class, where `x` and `y` stand
+//! An object variable is its index in FROM, and an attribute its index in the class, where `x` and `y` stand
 //! first. An assignment is its depth: the number of assignments around it.
 
-use crate::items::Items;
 use case_table::Op;
-use fixed_point::{BoundForm, Fix, SubName, UntilForm, Word};
+use fixed_point::{BoundForm, Fix, Items, SubName, UntilForm, Word};
 
 /// A class by its number.
 pub type ClassNo = u32;
@@ -35,7 +34,7 @@ pub enum RFormula {
     Bounded(BoundForm, u32, Box<RFormula>),
     /// UNTIL, UNTIL_WITHIN or UNTIL_AFTER so many ticks, which are 0 for UNTIL.
     Until(UntilForm, u32, Box<RFormula>, Box<RFormula>),
-    /// The value of the term is bound, at this depth, for the formula behind it.
+    /// The value of the term is bound, at this depth, for the formula after it.
     Assign(u8, RTerm, Box<RFormula>),
 }
 

@@ -13,6 +13,13 @@ pub enum Value {
     Text(Word),
 }
 
+/// What the values of a term are.
+#[derive(Clone, Copy, Debug, PartialEq, Eq)]
+pub enum ValueKind {
+    Number,
+    Text,
+}
+
 /// The values that the assignments around a formula bind: `first` at depth 0 and `second` at depth 1.
 #[derive(Clone, Copy, Debug, PartialEq, Eq)]
 pub struct Env {

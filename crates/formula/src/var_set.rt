@@ -6,8 +6,8 @@ ghost use Rattle.formula.specs.Tree.{formula_view};
 ghost use Rattle.formula.specs.VarSet.{has};
 ghost use Rattle.formula.specs.Variables.{atom_has, has_variable, term_has, unit_has};
 
-use crate::limits::OBJECT_LIMIT;
 use crate::{RAtom, RFormula, RTerm, RUnit};
+use formula_shape::OBJECT_LIMIT;
 
 /// A set of object variables.
 #[derive(Clone, Copy, Debug, PartialEq, Eq)]

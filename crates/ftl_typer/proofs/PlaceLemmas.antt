@@ -14,6 +14,8 @@ use Rattle.geometry.specs.Region.{Region}
 use Rattle.motion.specs.declared.cell.AttrKind.{AttrKind}
 use Rattle.history.specs.Catalog.{Catalog, ClassInfo}
 use Rattle.history.specs.Write.{Attribute}
+use Rattle.formula.specs.declared.value.ValueKind.{ValueKind}
+use Rattle.formula.specs.declared.value.ValueKind.TheVariants.{Number, Text}
 use Rattle.formula.specs.Resolved.{with_bound}
 use Rattle.meaning.specs.Fits as fits
 use Rattle.object_store.proofs.Lists.{find_is}
@@ -151,12 +153,12 @@ one_name from name other first second same =
 
 -- ---- value variables
 
-abbrev pub kind_where : Bool → fits.ValueKind
-kind_where true = fits.Text
-kind_where false = fits.Number
+abbrev pub kind_where : Bool → ValueKind
+kind_where true = Text
+kind_where false = Number
 
 -- the kinds and the bounds of value variables, by depth
-abbrev pub kinds_of : List Assigned → ℕ → Option fits.ValueKind
+abbrev pub kinds_of : List Assigned → ℕ → Option ValueKind
 kinds_of vs d = option_map (λ v. kind_where (is_text v.kind)) (slice_get vs d)
 
 abbrev pub bounds_of : List Assigned → ℕ → ℤ → Bool

@@ -13,7 +13,7 @@ use Rattle.history.specs.World.{World}
 use Rattle.formula_shape.specs.Shape as shapes
 use Rattle.formula_shape.specs.Sizes.{depth, nesting, nodes}
 use Rattle.formula.specs.Resolved.{IsResolved, are_distinct, is_list_of}
-use Rattle.formula.specs.declared.limits.TheConstants as limits
+use Rattle.formula_shape.specs.declared.limits.TheConstants as limits
 use Rattle.meaning.specs.Fits.{FitsItsClasses}
 use Rattle.ftl_parser.specs.declared.tree.FromPart.{FromPart}
 use Rattle.ftl_parser.specs.Lawful.{IsAny, IsLawful, IsPart}

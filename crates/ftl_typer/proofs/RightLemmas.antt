@@ -23,9 +23,8 @@ use Rattle.formula_shape.specs.Shape as shapes
 use Rattle.formula_shape.specs.Sizes.{nesting}
 use Rattle.formula.specs.Bounds.{term_bound}
 use Rattle.formula.specs.Resolved.{is_atom, is_factor, is_formula, is_list_of, is_term, is_unit, is_until, is_within, with_bound}
-use Rattle.formula.specs.declared.limits.TheConstants as limits
+use Rattle.formula_shape.specs.declared.limits.TheConstants as limits
 use Rattle.meaning.specs.Fits as fits
-use Rattle.ftl_parser.specs.declared.limits.TheConstants as parser_limits
 use Rattle.ftl_parser.specs.declared.tree.Atom as atom_type
 use Rattle.ftl_parser.specs.declared.tree.Atom.TheVariants as atoms
 use Rattle.ftl_parser.specs.declared.tree.FromPart.{FromPart}
@@ -39,7 +38,8 @@ use Rattle.ftl_parser.specs.Sizes.{atom_factors, atom_objects, factors, objects}
 use Rattle.ftl_parser.specs.Tree.{Tree}
 use Rattle.ftl_typer.specs.declared.found.FaultKind.TheVariants.{UnknownName, WrongKind, TermRange}
 use Rattle.ftl_typer.specs.declared.values.Assigned.{Assigned}
-use Rattle.ftl_typer.specs.declared.values.ValueKind.TheVariants.{Number, Text}
+use Rattle.formula.specs.declared.value.ValueKind.{ValueKind}
+use Rattle.formula.specs.declared.value.ValueKind.TheVariants.{Number, Text}
 use Rattle.ftl_typer.specs.Faults.{assigned_faults, atom_faults, attribute_faults, factors_faults, formula_faults, may_compare, object_faults, point_faults, points_faults, region_faults, term_faults, unit_faults}
 use Rattle.ftl_typer.specs.First.{fault_if}
 use Rattle.ftl_typer.specs.Resolved.{region_place, resolved_atom, resolved_formula}
@@ -86,8 +86,8 @@ all_items P (x ∷ xs) h = h
 
 -- ---- kinds
 
-abbrev number : Option fits.ValueKind
-number = Some fits.Number
+abbrev number : Option ValueKind
+number = Some Number
 
 kind_of_attribute : (r : Option AttrKind) → is_none r ≡ false →
     option_and_then (fits.kind_beside (pos (option_map_or fits.attribute_bound r 0))) r
@@ -104,14 +104,14 @@ kind_of_part (Some attribute_kinds.Num) has moves = absurd (true≢false moves)
 kind_of_part (Some attribute_kinds.Text) has moves = absurd (true≢false moves)
 kind_of_part (Some attribute_kinds.Dyn) has moves = refl
 
-number_with_sign : (minus : Bool) (times : Option ℕ) → fits.kind_with_sign minus times fits.Number ≡ number
+number_with_sign : (minus : Bool) (times : Option ℕ) → fits.kind_with_sign minus times Number ≡ number
 number_with_sign true None = refl
 number_with_sign true (Some k) = refl
 number_with_sign false None = refl
 number_with_sign false (Some k) = refl
 
 text_without_sign : (minus : Bool) (times : Option ℕ) → (not minus && is_none times) ≡ true →
-    fits.kind_with_sign minus times fits.Text ≡ Some fits.Text
+    fits.kind_with_sign minus times Text ≡ Some Text
 text_without_sign true times bare = absurd (false≢true bare)
 text_without_sign false None bare = refl
 text_without_sign false (Some k) bare = absurd (false≢true bare)
@@ -257,11 +257,11 @@ module _ (c : Catalog) (regions : List Region) (from : List FromPart) (there : A
         let behind = at + length (unit_names f.unit) in
         let parts = parts_of_none (unit_faults s at f.unit) (factors_faults s behind fs) h in
         let texts = neither (is_text_unit s f.unit) (list_any (λ (g : Signed). is_text_unit s g.unit) fs) none in
-        ap (λ (k : Option fits.ValueKind). fold fits.kind_of_sum (fits.kind_of_sum number k) (map (fits.factor_kind c numbers (kinds_of vs)) (map (resolved_factor s) fs)))
+        ap (λ (k : Option ValueKind). fold fits.kind_of_sum (fits.kind_of_sum number k) (map (fits.factor_kind c numbers (kinds_of vs)) (map (resolved_factor s) fs)))
         (factor_number at f parts.0 texts.0)
         ∙ numbers_sum behind fs parts.1 texts.1
 
-    abbrev kind_of_factors : List Signed → Option fits.ValueKind
+    abbrev kind_of_factors : List Signed → Option ValueKind
     kind_of_factors fs =
         unwrap_or (reduce fits.kind_of_sum (map (fits.factor_kind c numbers (kinds_of vs)) (map (resolved_factor s) fs))) None
 
@@ -273,7 +273,7 @@ module _ (c : Catalog) (regions : List Region) (from : List FromPart) (there : A
         let behind = at + length (unit_names f.unit) in
         let parts = parts_of_none (unit_faults s at f.unit) (factors_faults s behind fs) h in
         let texts = neither (is_text_unit s f.unit) (list_any (λ (g : Signed). is_text_unit s g.unit) fs) is in
-        ap (λ (k : Option fits.ValueKind). fold fits.kind_of_sum k (map (fits.factor_kind c numbers (kinds_of vs)) (map (resolved_factor s) fs)))
+        ap (λ (k : Option ValueKind). fold fits.kind_of_sum k (map (fits.factor_kind c numbers (kinds_of vs)) (map (resolved_factor s) fs)))
         (factor_number at f parts.0 texts.0)
         ∙ numbers_sum behind fs parts.1 texts.1
     factors_kind_is at (f ∷ []) true h some is bare =
@@ -292,7 +292,7 @@ module _ (c : Catalog) (regions : List Region) (from : List FromPart) (there : A
     in_range : (at nth : ℕ) (t : Term) → term_faults s at nth t ≡ [] → nat_le (term_bound (resolved_term s t)) FIX_LIMIT ≡ true
     in_range at nth t h = not-false (nat_le (term_bound (resolved_term s t)) FIX_LIMIT) (term_parts at nth t h).2
 
-    term_right : (at nth : ℕ) (t : Term) → term_faults s at nth t ≡ [] → IsTerm IsAny IsAny t → length t.factors ≤ parser_limits.FACTOR_LIMIT →
+    term_right : (at nth : ℕ) (t : Term) → term_faults s at nth t ≡ [] → IsTerm IsAny IsAny t → length t.factors ≤ limits.FACTOR_LIMIT →
         is_term count (bounds_of vs) (resolved_term s t) ≡ true
     term_right at nth t h small few =
         let parts = term_parts at nth t h in
@@ -337,7 +337,7 @@ module _ (c : Catalog) (regions : List Region) (from : List FromPart) (there : A
 
     compare_right : (at nth : ℕ) (t u : Term) (op : Op) → atom_faults s at nth (atoms.Compare t op u) ≡ [] →
         IsTerm IsAny IsAny t → IsTerm IsAny IsAny u →
-        length t.factors ≤ parser_limits.FACTOR_LIMIT → length u.factors ≤ parser_limits.FACTOR_LIMIT →
+        length t.factors ≤ limits.FACTOR_LIMIT → length u.factors ≤ limits.FACTOR_LIMIT →
         (is_atom count (bounds_of vs) (resolved_atom s (atoms.Compare t op u)) ≡ true)
         × (fits.atom_fits c numbers (length regions) (kinds_of vs) (resolved_atom s (atoms.Compare t op u)) ≡ true)
     compare_right at nth t u op h left right few_left few_right =
@@ -348,7 +348,7 @@ module _ (c : Catalog) (regions : List Region) (from : List FromPart) (there : A
         let fit = not-false may (none_if (not may) WrongKind at outer.0) in (
           and_from (is_term count (bounds_of vs) (resolved_term s t)) (is_term count (bounds_of vs) (resolved_term s u))
               (term_right at nth t inner.0 left few_left) (term_right behind (nth + 1) u inner.1 right few_right),
-          ap (λ (k : Option fits.ValueKind). fits.kinds_compare op k (fits.term_kind c numbers (kinds_of vs) (resolved_term s u))) (term_kind_is at nth t inner.0 left)
+          ap (λ (k : Option ValueKind). fits.kinds_compare op k (fits.term_kind c numbers (kinds_of vs) (resolved_term s u))) (term_kind_is at nth t inner.0 left)
               ∙ ap (fits.kinds_compare op (Some (kind_where (has_text s t)))) (term_kind_is behind (nth + 1) u inner.1 right)
               ∙ compares (has_text s t) (has_text s u) op fit,
         )
@@ -365,7 +365,7 @@ module _ (c : Catalog) (regions : List Region) (from : List FromPart) (there : A
         )
 
     atom_right : (at nth : ℕ) (a : atom_type.Atom) → atom_faults s at nth a ≡ [] → IsAtom IsAny IsAny a →
-        atom_factors a ≤ parser_limits.FACTOR_LIMIT → atom_objects a ≤ parser_limits.OBJECT_LIMIT →
+        atom_factors a ≤ limits.FACTOR_LIMIT → atom_objects a ≤ limits.OBJECT_LIMIT →
         (is_atom count (bounds_of vs) (resolved_atom s a) ≡ true)
         × (fits.atom_fits c numbers (length regions) (kinds_of vs) (resolved_atom s a) ≡ true)
     atom_right at nth (atoms.Compare t op u) h small few circle =
@@ -414,7 +414,7 @@ module _ (c : Catalog) (regions : List Region) (from : List FromPart) (there : A
   )
 
   assigned_right : (vs : List Assigned) (name : List ℕ) (t : Term) (f : Tree) (at nth : ℕ) →
-      term_faults (scope_over vs) at nth t ≡ [] → IsTerm IsAny IsAny t → length t.factors ≤ parser_limits.FACTOR_LIMIT →
+      term_faults (scope_over vs) at nth t ≡ [] → IsTerm IsAny IsAny t → length t.factors ≤ limits.FACTOR_LIMIT →
       length vs < limits.NESTING_LIMIT →
       IsRightIn (vs ++ assigned (scope_over vs) name t ∷ []) f → IsRightIn vs (shapes.Assign (name, t) f)
   assigned_right vs name t f at nth h small few room inner =
@@ -426,19 +426,19 @@ module _ (c : Catalog) (regions : List Region) (from : List FromPart) (there : A
       let kinds = kinds_more vs v text (text_of_kind text) in
       let deeper = subst (λ (n : ℕ). is_formula count n (bounds_of (vs ++ v ∷ [])) tree ≡ true) (length-append vs (v ∷ [])) inner.0 in
       let formula = subst (λ (b : ℕ → ℤ → Bool). is_formula count (length vs + 1) b tree ≡ true) bounds deeper in
-      let fitting = subst (λ (k : ℕ → Option fits.ValueKind). fits.formula_fits c numbers (length regions) k tree ≡ true) kinds inner.1 in (
+      let fitting = subst (λ (k : ℕ → Option ValueKind). fits.formula_fits c numbers (length regions) k tree ≡ true) kinds inner.1 in (
         and_from _ (is_formula count (length vs + 1) (with_bound (bounds_of vs) (length vs) (term_bound q)) tree)
             (and_from _ (is_term count (bounds_of vs) q)
             (and_from (eqb (length vs) (length vs)) (nat_lt (length vs) limits.NESTING_LIMIT) (eq-eqb (length vs) (length vs) refl) (lt-ltb (length vs) limits.NESTING_LIMIT room))
             (term_right vs at nth t h small few))
             formula,
-        ap (λ (r : Option fits.ValueKind). option_map_or (λ (k : fits.ValueKind). fits.formula_fits c numbers (length regions) (fits.with_kind (kinds_of vs) (length vs) k) tree) r false)
+        ap (λ (r : Option ValueKind). option_map_or (λ (k : ValueKind). fits.formula_fits c numbers (length regions) (fits.with_kind (kinds_of vs) (length vs) k) tree) r false)
             (term_kind_is vs at nth t h small)
             ∙ fitting,
       )
 
   pub formula_right : (vs : List Assigned) (at nth : ℕ) (f : Tree) → formula_faults (scope_over vs) at nth f ≡ [] → IsFormula IsAny IsAny f →
-      factors f ≤ parser_limits.FACTOR_LIMIT → objects f ≤ parser_limits.OBJECT_LIMIT → length vs + nesting f ≤ limits.NESTING_LIMIT →
+      factors f ≤ limits.FACTOR_LIMIT → objects f ≤ limits.OBJECT_LIMIT → length vs + nesting f ≤ limits.NESTING_LIMIT →
       IsRightIn vs f
   formula_right vs at nth (shapes.Truth b) h small few circle nested = (refl, refl)
   formula_right vs at nth (shapes.Atom a) h small few circle nested = atom_right vs at nth a h small few circle

@@ -8,7 +8,7 @@ use Rattle.exact.specs.First.{first_that_holds}
 use Rattle.formula_shape.specs.Shape as shapes
 use Rattle.formula_shape.specs.Sizes.{nodes, depth, nesting}
 use Rattle.ftl_parser.specs.declared.fault.Size.{Size}
-use Rattle.ftl_parser.specs.declared.limits.TheConstants.{ASSIGNMENT_LIMIT, DEPTH_LIMIT, FACTOR_LIMIT, NODE_LIMIT, OBJECT_LIMIT, VARIABLE_LIMIT}
+use Rattle.formula_shape.specs.declared.limits.TheConstants.{DEPTH_LIMIT, FACTOR_LIMIT, NESTING_LIMIT, NODE_LIMIT, OBJECT_LIMIT}
 use Rattle.ftl_parser.specs.declared.tree.Atom as atom_type
 use Rattle.ftl_parser.specs.declared.tree.Atom.TheVariants as atoms
 use Rattle.ftl_parser.specs.declared.tree.Signed.{Signed}
@@ -100,9 +100,9 @@ within : (limit n : ℕ) → nat_lt limit n ≡ false → n ≤ limit
 within limit n h = grind (arith, nat_tests, h)
 
 pub record IsSmall (q : QueryTree) : Type 0 where
-  pub few_variables : length q.from ≤ VARIABLE_LIMIT
+  pub few_variables : length q.from ≤ OBJECT_LIMIT
   pub few_objects : objects q.formula ≤ OBJECT_LIMIT
-  pub few_nested : nesting q.formula ≤ ASSIGNMENT_LIMIT
+  pub few_nested : nesting q.formula ≤ NESTING_LIMIT
   pub few_nodes : nodes q.formula ≤ NODE_LIMIT
   pub low : depth q.formula ≤ DEPTH_LIMIT
   pub few_factors : factors q.formula ≤ FACTOR_LIMIT
@@ -112,9 +112,9 @@ pub small_query : (q : QueryTree) → first_too_large false q ≡ None → IsSma
 small_query q h =
     let none = none_hold (passed false q) h in
     record {
-      few_variables = within VARIABLE_LIMIT (length q.from) none.0;
+      few_variables = within OBJECT_LIMIT (length q.from) none.0;
       few_objects = within OBJECT_LIMIT (objects q.formula) none.1.0;
-      few_nested = within ASSIGNMENT_LIMIT (nesting q.formula) none.1.1.0;
+      few_nested = within NESTING_LIMIT (nesting q.formula) none.1.1.0;
       few_nodes = within NODE_LIMIT (nodes q.formula) none.1.1.1.0;
       low = within DEPTH_LIMIT (depth q.formula) none.1.1.1.1.0;
       few_factors = within FACTOR_LIMIT (factors q.formula) none.1.1.1.1.1.1.0;

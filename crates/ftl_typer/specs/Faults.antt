@@ -18,8 +18,8 @@ use Rattle.ftl_parser.specs.declared.tree.Unit.TheVariants as units
 use Rattle.ftl_parser.specs.Order.{unit_names, term_names, formula_names, formula_terms}
 use Rattle.ftl_parser.specs.Tree.{QueryTree, Tree}
 use Rattle.ftl_typer.specs.declared.found.FaultKind.TheVariants.{UnknownName, NameTaken, WrongKind, TermRange}
-use Rattle.ftl_typer.specs.declared.values.ValueKind.{ValueKind}
-use Rattle.ftl_typer.specs.declared.values.ValueKind.TheVariants.{Number, Text}
+use Rattle.formula.specs.declared.value.ValueKind.{ValueKind}
+use Rattle.formula.specs.declared.value.ValueKind.TheVariants.{Number, Text}
 use Rattle.ftl_typer.specs.First.{Fault, fault_if}
 use Rattle.ftl_typer.specs.Scope.{Scope, class_number, has_no_parts, is_misplaced, is_no_object, is_no_point, is_past_range, is_taken, is_unknown, is_variable, lacks_attribute, scope_of, term_kind, with_value}
 

@@ -20,8 +20,8 @@ use Rattle.ftl_parser.specs.declared.tree.Term.{Term}
 use Rattle.ftl_parser.specs.declared.tree.Unit as unit_type
 use Rattle.ftl_parser.specs.declared.tree.Unit.TheVariants as units
 use Rattle.ftl_typer.specs.declared.values.Assigned.{Assigned}
-use Rattle.ftl_typer.specs.declared.values.ValueKind.{ValueKind}
-use Rattle.ftl_typer.specs.declared.values.ValueKind.TheVariants.{Number, Text}
+use Rattle.formula.specs.declared.value.ValueKind.{ValueKind}
+use Rattle.formula.specs.declared.value.ValueKind.TheVariants.{Number, Text}
 
 -- What a name stands for, and the value variables in whose scope one stands, the innermost last.
 pub record Scope : Type 0 where

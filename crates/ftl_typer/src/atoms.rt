@@ -2,7 +2,7 @@
 ghost use Rattle.std.specs.Prelude.{◌≡◌, ◌+◌, ◌<◌, ◌≤◌, length};
 ghost use Rattle.ftl_parser.specs.Order.{atom_names, atom_terms, term_names};
 ghost use Rattle.ftl_parser.specs.Sizes.{atom_factors};
-ghost use Rattle.ftl_parser.specs.declared.limits.TheConstants.{FACTOR_LIMIT};
+ghost use Rattle.formula_shape.specs.declared.limits.TheConstants.{FACTOR_LIMIT};
 ghost use Rattle.ftl_typer.specs.Faults.{atom_faults, compare_faults, is_equality, may_compare, points_faults};
 ghost use Rattle.ftl_typer.specs.Context.{scope_in};
 ghost use Rattle.ftl_typer.specs.First.{found_after};
@@ -11,9 +11,9 @@ use crate::found::{FaultKind, Found};
 use crate::scope::Scope;
 use crate::terms::{note_term, term_kind};
 use crate::units::{note_point, note_region};
-use crate::values::ValueKind;
 use case_table::Op;
 use fixed_point::Word;
+use formula::ValueKind;
 use ftl_parser::{Atom, Term};
 
 fn is_equality(op: Op) -> bool

@@ -1,11 +1,11 @@
 //! Trees by number. A name that isn't there stands for 0: trees are built only where there is no fault.
 ghost use Rattle.std.specs.Prelude.{◌≡◌, ◌+◌, ◌<◌, ◌≤◌, length, map, IfOk};
 ghost use Rattle.formula.specs.Tree.{formula_view};
-ghost use Rattle.formula.specs.declared.limits.TheConstants.{NESTING_LIMIT};
+ghost use Rattle.formula_shape.specs.declared.limits.TheConstants.{NESTING_LIMIT};
 ghost use Rattle.formula_shape.specs.Sizes.{nesting};
 ghost use Rattle.ftl_parser.specs.Sizes.{factors};
 ghost use Rattle.ftl_parser.specs.Tree.{view};
-ghost use Rattle.ftl_parser.specs.declared.limits.TheConstants.{FACTOR_LIMIT};
+ghost use Rattle.formula_shape.specs.declared.limits.TheConstants.{FACTOR_LIMIT};
 ghost use Rattle.ftl_parser.specs.declared.tree.Unit.TheVariants as units;
 ghost use Rattle.ftl_typer.specs.Context.{scope_in};
 ghost use Rattle.ftl_typer.specs.Resolved.{class_place, region_place, resolved_atom, resolved_formula};

@@ -1,11 +1,11 @@
 //! Faults of formulas.
 ghost use Rattle.std.specs.Prelude.{◌≡◌, ◌+◌, ◌<◌, ◌≤◌, length};
-ghost use Rattle.formula.specs.declared.limits.TheConstants.{NESTING_LIMIT};
+ghost use Rattle.formula_shape.specs.declared.limits.TheConstants.{NESTING_LIMIT};
 ghost use Rattle.formula_shape.specs.Sizes.{nesting};
 ghost use Rattle.ftl_parser.specs.Order.{formula_names, formula_terms};
 ghost use Rattle.ftl_parser.specs.Sizes.{factors};
 ghost use Rattle.ftl_parser.specs.Tree.{view};
-ghost use Rattle.ftl_parser.specs.declared.limits.TheConstants.{FACTOR_LIMIT};
+ghost use Rattle.formula_shape.specs.declared.limits.TheConstants.{FACTOR_LIMIT};
 ghost use Rattle.ftl_typer.specs.Faults.{formula_faults};
 ghost use Rattle.ftl_typer.specs.Context.{scope_in};
 ghost use Rattle.ftl_typer.specs.First.{found_after};

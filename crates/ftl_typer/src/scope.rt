@@ -5,8 +5,8 @@ ghost use Rattle.std.specs.Prelude.{◌≡◌, ◌+◌, ◌<◌, ◌≤◌, is_s
 ghost use Rattle.std.specs.List.{find, position};
 ghost use Rattle.std.specs.Option.{option_copied, option_map};
 ghost use Rattle.std.specs.Str.{bytes_eq};
-ghost use Rattle.formula.specs.declared.limits.TheConstants.{NESTING_LIMIT};
-ghost use Rattle.ftl_parser.specs.declared.limits.TheConstants.{VARIABLE_LIMIT};
+ghost use Rattle.formula_shape.specs.declared.limits.TheConstants.{NESTING_LIMIT};
+ghost use Rattle.formula_shape.specs.declared.limits.TheConstants.{OBJECT_LIMIT};
 ghost use Rattle.ftl_typer.specs.Context.{scope_in};
 ghost use Rattle.ftl_typer.specs.Scope.{attribute_kind, attribute_of, class_named, has_no_parts, inside, is_no_object, is_no_point, is_point, is_taken, is_unknown, is_value, is_variable, lacks_attribute, scope_of, value_named, value_of};
 
@@ -29,7 +29,7 @@ pub struct Scope<'a> {
 
 impl<'a> Model for Scope<'a> {
     ghost use Rattle.std.specs.Prelude.{◌≤◌, length};
-    ghost use Rattle.ftl_parser.specs.declared.limits.TheConstants.{VARIABLE_LIMIT};
+    ghost use Rattle.formula_shape.specs.declared.limits.TheConstants.{OBJECT_LIMIT};
     ghost use Rattle.ftl_typer.specs.Context.{Context};
     ghost use Rattle.ftl_typer.specs.Values.{assigned_in};
 
@@ -42,13 +42,13 @@ impl<'a> Model for Scope<'a> {
       values = assigned_in a.values;
     } };
 
-    ghost invariant = { λ a. length a.from.now ≤ VARIABLE_LIMIT };
+    ghost invariant = { λ a. length a.from.now ≤ OBJECT_LIMIT };
 }
 
 impl<'a> Scope<'a> {
     /// Around the formula of a query, where no value variable is in scope.
     pub fn new(schema: &'a Schema, regions: &'a Regions, from: &'a [FromPart]) -> Scope<'a>
-        requires { length from.now ≤ VARIABLE_LIMIT }
+        requires { length from.now ≤ OBJECT_LIMIT }
         ensures { scope_in result ≡ scope_of schema.now regions.now from.now }
     {
         Scope {

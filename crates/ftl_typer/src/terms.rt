@@ -5,7 +5,7 @@ ghost use Rattle.std.specs.Prelude.{◌≡◌, ◌+◌, ◌*◌, ◌^◌, ◌<�
 ghost use Rattle.std.specs.Option.{option_map_or};
 ghost use Rattle.formula.specs.Bounds.{factor_bound, sub_bound, term_bound, unit_bound};
 ghost use Rattle.ftl_parser.specs.Order.{factors_list, names_alone, term_names};
-ghost use Rattle.ftl_parser.specs.declared.limits.TheConstants.{FACTOR_LIMIT};
+ghost use Rattle.formula_shape.specs.declared.limits.TheConstants.{FACTOR_LIMIT};
 ghost use Rattle.ftl_parser.specs.declared.tree.Unit.TheVariants as units;
 ghost use Rattle.meaning.specs.Fits.{attribute_bound};
 ghost use Rattle.ftl_typer.specs.Faults.{factors_faults, term_faults};
@@ -16,9 +16,9 @@ ghost use Rattle.ftl_typer.specs.Scope.{assigned, bound_in_range, bound_of_attri
 use crate::found::{FaultKind, Found};
 use crate::scope::Scope;
 use crate::units::note_unit;
-use crate::values::{Assigned, ValueKind};
+use crate::values::{Assigned, is_text};
 use fixed_point::{FIX_LIMIT, READ_LIMIT, SLOPE_LIMIT, SubName, Word};
-use formula::{DYNAMIC_BOUND, TIME_BOUND};
+use formula::{DYNAMIC_BOUND, TIME_BOUND, ValueKind};
 use ftl_parser::{Signed, Term, Unit};
 use motion::AttrKind;
 
@@ -46,7 +46,7 @@ fn is_text_value(scope: &Scope, name: &Word) -> bool
     ensures { result ≡ is_text_unit (scope_in scope.now) (units.Alone name.now) }
 {
     match scope.value(name) {
-        Some((_, value)) => value.kind.is_text(),
+        Some((_, value)) => is_text(value.kind),
         None => false,
     }
 }

@@ -3,27 +3,20 @@ ghost use Rattle.std.specs.Prelude.{◌≡◌, ◌<◌, ◌++◌, ◌∷◌, [],
 ghost use Rattle.std.specs.List.{find, position};
 ghost use Rattle.std.specs.Option.{option_map};
 ghost use Rattle.std.specs.Str.{bytes_eq};
-ghost use Rattle.formula.specs.declared.limits.TheConstants.{NESTING_LIMIT};
+ghost use Rattle.formula_shape.specs.declared.limits.TheConstants.{NESTING_LIMIT};
 ghost use Rattle.ftl_typer.specs.Scope.{is_text};
 ghost use Rattle.ftl_typer.specs.Values.{assigned_in, found_at};
 
 use fixed_point::Word;
+use formula::ValueKind;
 
-/// What the values of a term are.
-#[derive(Clone, Copy, Debug)]
-pub enum ValueKind {
-    Number,
-    Text,
-}
-
-impl ValueKind {
-    pub fn is_text(self) -> bool
-        ensures { result ≡ is_text self }
-    {
-        match self {
-            ValueKind::Number => false,
-            ValueKind::Text => true,
-        }
+/// Whether the values of a kind are texts.
+pub fn is_text(kind: ValueKind) -> bool
+    ensures { result ≡ is_text kind }
+{
+    match kind {
+        ValueKind::Number => false,
+        ValueKind::Text => true,
     }
 }
 

@@ -6,8 +6,7 @@ use Rattle.std.specs.Str.{bytes_eq}
 use Rattle.std.proofs.lemmas.Bool.{false≢true, and_parts, cases_eq, ne_eqb, or_cases, or_left, or_right}
 use Rattle.std.proofs.lemmas.Bool.Decides.{nat_tests}
 use Rattle.std.proofs.lemmas.List.Folds.{list_any-append}
-use Rattle.std.proofs.lemmas.Slice.Eq.{bytes_eq-Decides}
-use Rattle.std.specs.Cmp.Lexicographic.{nat_list_eq_equiv}
+use Rattle.exact.proofs.Lists.{bytes_eq_refl, bytes_eq_true}
 use Rattle.tick_set.specs.Runs.{runs_of, with_tick}
 use Rattle.tick_set.specs.TickList.{has}
 use Rattle.tick_set.specs.Ticks.{listed, within}
@@ -75,9 +74,6 @@ rows_have_where test (key ∷ keys) holds from e t =
     ∙ ap (λ b. test key && (within from e t && holds key t) || b) (rows_have_where test keys holds from e t)
 
 -- ---- the members of a product
-
-bytes_eq_true : (a b : List ℕ) → bytes_eq a b ≡ true → a ≡ b
-bytes_eq_true a b h = (bytes_eq-Decides a b).0 h
 
 -- one member of each list, in their order
 abbrev are_members : List (List ℕ) → List ℕ → Bool
@@ -157,9 +153,6 @@ pub record Chosen (test : List ℕ → Bool) (choices : List (List ℕ)) : Type 
   pub choice : List ℕ
   pub passes : test choice ≡ true
   pub there : list_any (λ c. bytes_eq c choice) choices ≡ true
-
-bytes_eq_refl : (a : List ℕ) → bytes_eq a a ≡ true
-bytes_eq_refl a = nat_list_eq_equiv.refl a
 
 found : (test : List ℕ → Bool) (choices : List (List ℕ)) → list_any test choices ≡ true → Chosen test choices
 found test [] holds = let wrong : false ≡ true = holds in absurd (false≢true wrong)

@@ -20,8 +20,9 @@ use Rattle.formula.specs.declared.tree.RTerm.{RTerm}
 use Rattle.formula.specs.declared.value.Env.{Env}
 use Rattle.formula.specs.declared.value.Value.{Value}
 use Rattle.formula.specs.declared.value.Value.TheVariants as values
+use Rattle.formula.specs.declared.value.ValueKind.{ValueKind}
 use Rattle.meaning.specs.Accepted.{are_accepted}
-use Rattle.meaning.specs.Fits.{BindsItsClasses, ValueKind, term_kind}
+use Rattle.meaning.specs.Fits.{BindsItsClasses, term_kind}
 use Rattle.meaning.specs.Reachable.{AreReachable, AreWithinBounds}
 use Rattle.meaning.specs.Trace.{Trace, trace_of}
 use Rattle.meaning.specs.Value.{term_value}
@@ -30,7 +31,7 @@ use Rattle.meaning.proofs.TermLemmas.{no_value, term_near}
 
 -- ---- the objects of a binding
 
--- an object of a class, so many places behind the first
+-- an object of a class, so many places after the first
 record Placed (class first id : ℕ) (objects : List ObjectInfo) : Type 0 where
   place : ℕ
   object : ObjectInfo

@@ -1,6 +1,8 @@
+pub mod AbsenceLemmas
 pub mod AnswerLemmas
 pub mod BindingLemmas
 pub mod BoundLemmas
+pub mod GrowthLemmas
 pub mod LocalityLemmas
 pub mod MoreLemmas
 pub mod QueryLemmas

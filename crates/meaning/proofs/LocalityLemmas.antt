@@ -1,4 +1,5 @@
--- A formula by what it asks of its interpretation, and of the states of its variables.
+-- For this crate and for the crates above: a formula by what it asks of its interpretation, and of the states of
+-- its variables.
 use Rattle.std.proofs.Common.{◌≡◌, ℕ, ◌≤◌, Bool, true, false, not, ◌&&◌, ◌||◌, Option, None, Some, List, [], ◌∷◌, map, refl, ap, ◌∙◌, arith}
 use Rattle.std.specs.Prelude.{◌==◌, unwrap_or}
 use Rattle.std.specs.List.{list_any, reduce}

@@ -9,7 +9,7 @@ use Rattle.std.proofs.lemmas.Bool.{false≢true, and_from, and_parts, or_parts}
 use Rattle.std.proofs.lemmas.Bool.Decides.{nat_tests}
 use Rattle.std.proofs.lemmas.List.Folds.{find_at, list_all-append, list_any-append}
 use Rattle.std.proofs.lemmas.Map.Keys.{IsDistinct-head, IsDistinct-tail}
-use Rattle.std.proofs.lemmas.Slice.Eq.{bytes_eq-Decides}
+use Rattle.exact.proofs.Lists.{bytes_eq_true}
 use Rattle.motion.specs.declared.cell.Cell.{Cell}
 use Rattle.motion.specs.declared.cell.NamedSet.{NamedSet}
 use Rattle.motion.specs.declared.cell.Place.{Place}
@@ -80,10 +80,7 @@ sizes_step c o last t state (Remove s name) accepted is =
 
 -- ---- the kinds
 
-bytes_eq_true : (a b : List ℕ) → bytes_eq a b ≡ true → a ≡ b
-bytes_eq_true a b h = (bytes_eq-Decides a b).0 h
-
-get_append : {A : Type 0} (xs ys : List A) (i : ℕ) → i < length xs → slice_get (xs ++ ys) i ≡ slice_get xs i
+pub get_append : {A : Type 0} (xs ys : List A) (i : ℕ) → i < length xs → slice_get (xs ++ ys) i ≡ slice_get xs i
 get_append [] ys i within = absurd (omega arith)
 get_append (x ∷ xs) ys zero within = refl
 get_append (x ∷ xs) ys (suc i) within = get_append xs ys i (omega arith)

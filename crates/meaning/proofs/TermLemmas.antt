@@ -24,7 +24,9 @@ use Rattle.formula.specs.declared.tree.RUnit.TheVariants as units
 use Rattle.formula.specs.declared.value.Env.{Env}
 use Rattle.formula.specs.declared.value.Value.{Value}
 use Rattle.formula.specs.declared.value.Value.TheVariants as values
-use Rattle.meaning.specs.Fits.{ValueKind, Number, Text, attribute_bound, class_of_variable, factor_kind, kind_beside, kind_of_parts, kind_of_sum, kind_with_sign, term_kind, unit_kind}
+use Rattle.formula.specs.declared.value.ValueKind.{ValueKind}
+use Rattle.formula.specs.declared.value.ValueKind.TheVariants.{Number, Text}
+use Rattle.meaning.specs.Fits.{attribute_bound, class_of_variable, factor_kind, kind_beside, kind_of_parts, kind_of_sum, kind_with_sign, term_kind, unit_kind}
 use Rattle.meaning.specs.Reachable.{AreReachable, AreWithinBounds, IsReachable, is_reachable, kind_of}
 use Rattle.meaning.specs.Trace.{Trace}
 use Rattle.meaning.specs.Value.{cell_in, cell_value, factor_value, part_at, part_value, plus, term_value, unit_value, with_sign}
@@ -39,11 +41,11 @@ IsNear value bound = (n : ℤ) → value ≡ Some (values.Num n) → unsigned_ab
 pub no_value : {A B : Type 0} (x : B) → None ≡ Some x → A
 no_value x is = let wrong : ⊥ = cc in absurd wrong
 
-cell_passes : (p : Cell → Bool) (there : List Cell) (a : ℕ) (cell : Cell) → list_all p there ≡ true → slice_get there a ≡ Some cell → p cell ≡ true
-cell_passes p [] a cell all is = no_value cell is
-cell_passes p (first ∷ there) zero cell all is =
-    let same : first ≡ cell = cc in ap p (sym same) ∙ (and_parts (p first) (list_all p there) all).0
-cell_passes p (first ∷ there) (suc a) cell all is = cell_passes p there a cell (and_parts (p first) (list_all p there) all).1 is
+pub passes_at : {A : Type 0} (p : A → Bool) (there : List A) (a : ℕ) (x : A) → list_all p there ≡ true → slice_get there a ≡ Some x → p x ≡ true
+passes_at p [] a x all is = no_value x is
+passes_at p (first ∷ there) zero x all is =
+    let same : first ≡ x = cc in ap p (sym same) ∙ (and_parts (p first) (list_all p there) all).0
+passes_at p (first ∷ there) (suc a) x all is = passes_at p there a x (and_parts (p first) (list_all p there) all).1 is
 
 chosen_by : (b : Bool) (k : ValueKind) (o : Option ValueKind) → (if b then o else None) ≡ Some k → b ≡ true
 chosen_by true k o is = refl
@@ -89,7 +91,7 @@ attribute_near (Some info) (Some there) a t bound k n states tick beside value =
     (sym (slice_get-map kind_of there a)
     ∙ ap (λ kinds. slice_get kinds a) is.kinds
     ∙ slice_get-map (λ (attribute : Attribute). attribute.kind) info.attributes a)
-    (λ cell at. cell_passes (is_reachable t) there a cell is.each at) beside value
+    (λ cell at. passes_at (is_reachable t) there a cell is.each at) beside value
 
 parts_near : (class : Option ClassInfo) (state : Option (List Cell)) (a t : ℕ) (part : SubName) (k : ValueKind) (n : ℤ) → StateOf class state t → t ≤ LAST_TICK →
     option_and_then kind_of_parts (option_and_then (λ info. option_map (λ (attribute : Attribute). attribute.kind) (slice_get info.attributes a)) class) ≡ Some k →
@@ -98,7 +100,7 @@ parts_near None state a t part k n states tick kind value = no_value k kind
 parts_near (Some info) None a t part k n states tick kind value = no_value (values.Num n) value
 parts_near (Some info) (Some there) a t part k n states tick kind value =
     let is = states info there refl refl in
-    part_of_cell (slice_get there a) t part n tick (λ cell at. cell_passes (is_reachable t) there a cell is.each at) value
+    part_of_cell (slice_get there a) t part n tick (λ cell at. passes_at (is_reachable t) there a cell is.each at) value
 
 unit_near : (c : Catalog) (classes : List ℕ) (scope : Scope) (known : ℕ → Option ValueKind) (h : Trace) (x : Env) (t count : ℕ) →
     AreReachable c classes h t → AreWithinBounds scope x → t ≤ LAST_TICK → (u : RUnit) → is_unit count scope u ≡ true →
@@ -193,7 +195,7 @@ fold_none [] = refl
 fold_none (o ∷ others) = ap (λ so_far. fold kind_of_sum so_far others) (none_kind o) ∙ fold_none others
 
 -- the kinds of all that are added are there
-abbrev HaveKinds : (RSigned → Option ValueKind) → List RSigned → Type 0
+abbrev pub HaveKinds : (RSigned → Option ValueKind) → List RSigned → Type 0
 HaveKinds kind [] = Unit {0}
 HaveKinds kind (s ∷ factors) = ((k : ValueKind) × (kind s ≡ Some k)) × HaveKinds kind factors
 
@@ -214,12 +216,12 @@ first_kind : (o : Option ValueKind) (others : List (Option ValueKind)) (k : Valu
 first_kind None others k is = no_value k (sym (fold_none others) ∙ is)
 first_kind (Some l) others k is = (l, refl)
 
-all_have_kinds : (kind : RSigned → Option ValueKind) (factors : List RSigned) (k : ValueKind) →
+pub all_have_kinds : (kind : RSigned → Option ValueKind) (factors : List RSigned) (k : ValueKind) →
     unwrap_or (reduce kind_of_sum (map kind factors)) None ≡ Some k → HaveKinds kind factors
 all_have_kinds kind [] k is = tt
 all_have_kinds kind (s ∷ factors) k is = (first_kind (kind s) (map kind factors) k is, have_kinds kind factors (kind s) k is)
 
-kind_of_unit : (minus : Bool) (times : Option ℕ) (o : Option ValueKind) (k : ValueKind) → option_and_then (kind_with_sign minus times) o ≡ Some k →
+pub kind_of_unit : (minus : Bool) (times : Option ℕ) (o : Option ValueKind) (k : ValueKind) → option_and_then (kind_with_sign minus times) o ≡ Some k →
     (l : ValueKind) × (o ≡ Some l)
 kind_of_unit minus times None k is = no_value k is
 kind_of_unit minus times (Some l) k is = (l, refl)

@@ -29,7 +29,7 @@ is_own_class c class name =
     (λ number. option_map_or (λ o. number == o.class) (object_of c name) true)
     (number_of_class c class) false
 
--- behind writes up to tick `last`, which made the catalog c
+-- after writes up to tick `last`, which made the catalog c
 abbrev pub is_accepted : Catalog → ℕ → Write → Bool
 is_accepted c last (Class name capacity point attributes) = true
 is_accepted c last (Insert s class name place sets) =

@@ -44,7 +44,7 @@ positions_of h t (v ∷ vs) =
 abbrev pub is_in_region : List Region → ℕ → Point → Bool
 is_in_region regions n p = option_map_or (λ region. is_inside region.points p) (slice_get regions n) false
 
--- whether the distance of two points that are there compares so with a number
+-- whether the distance of two points that are there compares with c as `op` says
 abbrev pub distance_holds : Op → ℤ → Option Point → Option Point → Bool
 distance_holds op c from to =
     option_map_or (λ p. option_map_or (λ q. distance_compares op c (squared_distance p q)) to false) from false

@@ -2,7 +2,7 @@
 use Rattle.std.specs.Prelude.{ℕ, Bool, ◌&&◌, is_some, List, [], ◌∷◌, length, map, flat_map, slice_index}
 use Rattle.std.specs.List.{list_all, list_any}
 use Rattle.std.specs.Str.{bytes_eq}
-use Rattle.tick_set.specs.Ticks.{between, listed}
+use Rattle.tick_set.specs.Ticks.{between}
 use Rattle.history.specs.Catalog.{ids_of}
 use Rattle.history.specs.World.{World}
 use Rattle.formula.specs.Tree.{ResolvedQuery}
@@ -40,10 +40,3 @@ holds_full w q e b t =
 abbrev pub holds_target : World → ResolvedQuery → ℕ → List ℕ → ℕ → Bool
 holds_target w q e key t =
     list_any (λ b. bytes_eq (tuple_of q b) key && holds_full w q e (slice_index b) t) (bindings w q)
-
--- the ticks of `from` to e at which a binding satisfies it, and those at which one of such targets does
-abbrev pub full : World → ResolvedQuery → List ℕ → ℕ → ℕ → List ℕ
-full w q b from e = listed (holds_full w q e (slice_index b)) from e
-
-abbrev pub times : World → ResolvedQuery → List ℕ → ℕ → ℕ → List ℕ
-times w q key from e = listed (holds_target w q e key) from e

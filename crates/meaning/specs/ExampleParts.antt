@@ -87,7 +87,7 @@ literal n = alone (units.Literal (whole n))
 abbrev pub compare : RTerm → Op → RTerm → ResolvedTree
 compare q op r = shapes.Atom (atoms.Compare q op r)
 
--- TIME compares so with a number
+-- TIME op a number
 abbrev pub time : Op → ℕ → ResolvedTree
 time op n = compare (alone units.Time) op (literal n)
 

@@ -14,10 +14,12 @@ use Rattle.formula.specs.declared.tree.RUnit.{RUnit}
 use Rattle.formula.specs.declared.tree.RUnit.TheVariants as units
 use Rattle.formula.specs.Example.{minus, plus}
 use Rattle.formula.specs.Tree.{ResolvedTree}
+use Rattle.formula.specs.declared.value.ValueKind.{ValueKind}
+use Rattle.formula.specs.declared.value.ValueKind.TheVariants.{Number, Text}
 use Rattle.meaning.specs.ExampleParts.{alone, attribute, compare, literal, whole}
-use Rattle.meaning.specs.Fits.{ValueKind, Number, Text, atom_fits, formula_fits, no_kinds, term_kind}
+use Rattle.meaning.specs.Fits.{atom_fits, formula_fits, no_kinds, term_kind}
 
--- cars with a plate and a number of seats, behind x and y, and depots without attributes
+-- cars with a plate and a number of seats, after x and y, and depots without attributes
 abbrev pub two_classes : Catalog
 two_classes =
     catalog

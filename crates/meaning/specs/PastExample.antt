@@ -13,17 +13,18 @@ use Rattle.formula.specs.declared.tree.RAtom.TheVariants as atoms
 use Rattle.formula.specs.declared.tree.RTerm.{RTerm}
 use Rattle.formula.specs.declared.tree.RUnit.TheVariants as units
 use Rattle.formula.specs.Example.{times}
+use Rattle.formula.specs.declared.kind.QueryKind.TheVariants.{Keep, Watch}
 use Rattle.formula.specs.Tree.{ResolvedQuery}
 use Rattle.meaning.specs.Answer.{answer}
 use Rattle.meaning.specs.ExampleParts.{alone, attribute, car, car_class, compare, dynamic, first_has, literal, moving, nowhere, pairs_query, query, setting, speed, standing, whole, world}
-use Rattle.meaning.specs.Registered.{Change, RegisteredQuery, Kept, Watched, changes_of_tick, changes_of_write, registered_answer}
+use Rattle.meaning.specs.Registered.{Change, RegisteredQuery, changes_of_tick, changes_of_write, registered_answer}
 
 -- from tick 0 on for so many ticks
 abbrev pub watched : ℕ → ResolvedQuery → RegisteredQuery
-watched span q = record { kind = Watched; query = q; entry = 0; expiry = span }
+watched span q = record { kind = Watch; query = q; entry = 0; expiry = span }
 
 abbrev pub kept : ℕ → ResolvedQuery → RegisteredQuery
-kept span q = record { kind = Kept; query = q; entry = 0; expiry = span }
+kept span q = record { kind = Keep; query = q; entry = 0; expiry = span }
 
 -- the slope of o.x, and the query whether it will be at least doubled within 10 ticks
 abbrev pub slope_of_x : RTerm

@@ -4,7 +4,7 @@ use Rattle.case_table.specs.declared.compare.Op.{Op}
 use Rattle.case_table.specs.declared.compare.Op.TheVariants.{Eq, Gt, Le, Ne}
 use Rattle.motion.specs.Function.{level}
 use Rattle.motion.specs.declared.cell.Place.{Place}
-use Rattle.history.specs.Write.{Class, Insert}
+use Rattle.history.specs.Write.{Class, Insert, Remove}
 use Rattle.history.specs.World.{World}
 use Rattle.formula_shape.specs.Shape as shapes
 use Rattle.formula.specs.declared.tree.RAtom.TheVariants as atoms
@@ -46,6 +46,18 @@ by_the_post x = car_and_post (passing x (pos 3000)) (standing 10 0)
 abbrev pub together : World
 together = car_and_post nowhere nowhere
 
+-- RETRIEVE n,o FROM car o,post n WHERE DIST(o,n) = 0
+abbrev pub other_order : ResolvedQuery
+other_order = record {
+  targets = 1 ∷ 0 ∷ [];
+  classes = 0 ∷ 1 ∷ [];
+  formula = shapes.Atom (atoms.Dist 0 1 Eq (pos 0));
+}
+
+-- a car that is removed while it is inside
+abbrev pub gone : World
+gone = world (car_class ∷ car (moving (speed 1)) ∷ Remove 15 (codes "a") ∷ [])
+
 -- three objects, each of a class of its own, and whether they fit a circle of radius r
 abbrev pub three_objects : World
 three_objects =
@@ -68,6 +80,7 @@ pub record AnswersByPlace : Type 0 where
   pub is_outside_else : answer (one_car (moving (speed 1))) (query outside) 0 30 ≡ first_has ((0, 9) ∷ (21, 30) ∷ [])
   pub halts_within : answer (one_car halting) (query inside) 0 30 ≡ first_has ((5, 30) ∷ [])
   pub jumps_over : answer (one_car (moving (speed 21))) (query inside) 0 30 ≡ []
+  pub is_not_outside_once_removed : answer gone (query (shapes.Eventually outside)) 0 30 ≡ first_has ((0, 9) ∷ [])
   pub no_such_region : answer (one_car (moving (speed 1))) (query (shapes.Atom (atoms.Inside 0 1))) 0 9 ≡ []
   pub comes_near : answer (by_the_post (pos 0)) (distance_query Le (whole 3)) 0 20 ≡ first_has ((10, 10) ∷ [])
   pub not_near_enough : answer (by_the_post (pos 500)) (distance_query Le (whole 3)) 0 20 ≡ []
@@ -75,6 +88,7 @@ pub record AnswersByPlace : Type 0 where
       ≡ first_has ((0, 1) ∷ (3, 7) ∷ (9, 10) ∷ [])
   pub farther_than_a_negative : answer together (distance_query Gt (negsuc 999)) 0 1 ≡ first_has ((0, 1) ∷ [])
   pub never_below_a_negative : answer together (distance_query Le (negsuc 999)) 0 1 ≡ []
+  pub targets_in_their_order : answer together other_order 0 5 ≡ record { key = 1 ∷ 0 ∷ []; runs = (0, 5) ∷ [] } ∷ []
   pub fits_the_circle : answer three_objects (circle_query (pos 3400)) 0 0 ≡ first_has ((0, 0) ∷ [])
   pub too_small_a_circle : answer three_objects (circle_query (pos 3399)) 0 0 ≡ []
   pub one_object_twice : answer (one_car nowhere) (pairs_query (shapes.Atom (atoms.Dist 0 1 Eq (pos 0)))) 0 5

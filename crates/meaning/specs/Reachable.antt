@@ -52,6 +52,12 @@ abbrev pub AreReachable : Catalog → List ℕ → Trace → ℕ → Type 0
 AreReachable c classes h t = (v : ℕ) (k : ClassInfo) (cells : List Cell)
     → class_of_variable c classes v ≡ Some k → h v t ≡ Some cells → IsReachable k.attributes t cells
 
+-- the states of the variables at a tick, each with the kinds of its class
+abbrev pub FitTheirClasses : Catalog → List ℕ → Trace → ℕ → Type 0
+FitTheirClasses c classes h t = (v : ℕ) (k : ClassInfo) (cells : List Cell)
+    → class_of_variable c classes v ≡ Some k → h v t ≡ Some cells
+    → map kind_of cells ≡ map (λ attribute. attribute.kind) k.attributes
+
 -- each number that is bound is within the bound that stands beside its variable
 abbrev pub AreWithinBounds : Scope → Env → Type 0
 AreWithinBounds scope x = (d : ℕ) (bound n : ℤ) → scope d bound ≡ true → value_in x d ≡ Some (values.Num n)

@@ -1,16 +1,16 @@
 -- Queries that stay: a watched one is answered from now on, and a kept one from its entry on.
-use Rattle.std.specs.Prelude.{ℕ, ◌+◌, Bool, not, ◌&&◌, ◌||◌, nat_le, List, [], map}
-use Rattle.std.specs.List.{filter}
+use Rattle.std.specs.Prelude.{◌≡◌, ℕ, ◌+◌, ◌-◌, ◌==◌, Bool, not, ◌&&◌, ◌||◌, nat_le, Some, List, [], length, map, slice_get, slice_index, sum_by, IsTrue, if◌then◌else◌}
+use Rattle.std.specs.List.{filter, list_all, list_any}
 use Rattle.tick_set.specs.Ticks.{listed}
 use Rattle.tick_set.specs.Runs.{runs_of}
+use Rattle.history.specs.Catalog.{Catalog, ids_of}
 use Rattle.history.specs.World.{World}
+use Rattle.formula.specs.declared.kind.QueryKind.{QueryKind}
+use Rattle.formula.specs.declared.kind.QueryKind.TheVariants.{Keep, Watch}
 use Rattle.formula.specs.Tree.{ResolvedQuery}
 use Rattle.meaning.specs.Answer.{Row, answer, full_rows, has_ticks}
 use Rattle.meaning.specs.Binding.{holds_target, tuples}
-
-pub data QueryKind : Type 0 where
-  Watched : QueryKind
-  Kept : QueryKind
+use Rattle.meaning.specs.Reads.{change_reads}
 
 -- a query from the tick of its entry to its expiry
 pub record RegisteredQuery : Type 0 where
@@ -21,16 +21,16 @@ pub record RegisteredQuery : Type 0 where
 
 -- the first tick of its answer
 abbrev pub first_tick : QueryKind → ℕ → ℕ → ℕ
-first_tick Watched entry now = now
-first_tick Kept entry now = entry
-
--- a query that is asked once is answered from now to so many ticks later
-abbrev pub answer_once : World → ResolvedQuery → ℕ → ℕ → List Row
-answer_once w q now span = answer w q now (now + span)
+first_tick Watch entry now = now
+first_tick Keep entry now = entry
 
 -- the answer at a tick. That of a kept query has the recorded past and the future that the motions imply.
 abbrev pub registered_answer : World → RegisteredQuery → ℕ → List Row
 registered_answer w r now = answer w r.query (first_tick r.kind r.entry now) r.expiry
+
+-- whether an object is of a class
+abbrev pub is_of : Catalog → ℕ → ℕ → Bool
+is_of c class id = list_any (λ i. i == id) (ids_of c class)
 
 -- the rows that are kept of it, from which each answer can be told
 abbrev pub kept_rows : World → RegisteredQuery → List Row
@@ -64,6 +64,20 @@ change_of key before after n from e = record {
   enters = stands_at e after n && not (stands_at e before n);
   leaves = stands_at e before n && not (stands_at e after n);
 }
+
+-- what is kept of it is current: one list of objects for each variable, of its class alone, and the rows of all bindings
+pub record IsCurrent (w : World) (r : RegisteredQuery) (domains : List (List ℕ)) (rows : List Row) : Type 0 where
+  pub variables : length domains ≡ length r.query.classes
+  pub classes : (v : ℕ) (ids : List ℕ) → slice_get domains v ≡ Some ids
+      → IsTrue (list_all (is_of w.history.catalog (slice_index r.query.classes v)) ids)
+  pub kept : rows ≡ kept_rows w r
+
+-- How many looks at timelines a write to an object of a class may take: those of each query up to its expiry.
+abbrev pub write_reads : Catalog → List RegisteredQuery → ℕ → ℕ → ℕ
+write_reads c queries now class =
+    sum_by
+    (λ r. if nat_le now r.expiry then change_reads c r.query (r.expiry + 1 - r.entry) class else 0)
+    queries
 
 -- whether a registered query holds for some target objects at a tick of its window
 abbrev pub holds_for : World → RegisteredQuery → List ℕ → ℕ → Bool

@@ -1,5 +1,5 @@
--- The one form of question that the program answers: which objects of a class have an attribute that compares so with
--- a number, and when.
+-- The one form of question that the program answers: of which objects of a class a comparison of an attribute with a
+-- number holds, and when.
 use Rattle.std.specs.Prelude.{ℕ, ℤ, Bool, false, ◌&&◌, is_some, Option, None, Some, List, map, slice_get}
 use Rattle.std.specs.List.{filter}
 use Rattle.std.specs.Option.{option_and_then, option_map_or}
@@ -29,8 +29,8 @@ number_of (cells.Dyn v) t = Some (value_at v t)
 abbrev pub number_at : ℕ → Option (List Cell) → ℕ → Option ℤ
 number_at a cells t = option_and_then (λ cells. option_and_then (λ cell. number_of cell t) (slice_get cells a)) cells
 
--- Whether the attribute of index a of an object with these cells compares so with a number, in thousandths. What has no
--- value compares in no way.
+-- Whether the attribute of index a of an object with these cells compares with a number, in thousandths, as `op` says.
+-- What has no value compares in no way.
 abbrev pub compares_at : ℕ → Op → ℤ → Option (List Cell) → ℕ → Bool
 compares_at a op number cells t = option_map_or (λ value. compares op value number) (number_at a cells t) false
 

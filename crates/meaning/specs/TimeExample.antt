@@ -7,7 +7,7 @@ use Rattle.fixed_point.specs.declared.variants.SubName.TheVariants as subs
 use Rattle.fixed_point.specs.declared.variants.UntilForm.TheVariants as untils
 use Rattle.motion.specs.declared.cell.AttrKind.TheVariants as kinds
 use Rattle.motion.specs.declared.cell.Given.TheVariants as givens
-use Rattle.history.specs.Write.{Class, Insert}
+use Rattle.history.specs.Write.{Class, Insert, Update}
 use Rattle.history.specs.World.{World}
 use Rattle.formula_shape.specs.Shape as shapes
 use Rattle.formula.specs.declared.tree.RTerm.{RTerm}
@@ -15,7 +15,7 @@ use Rattle.formula.specs.declared.tree.RUnit.TheVariants as units
 use Rattle.formula.specs.Example.{minus, plus, times}
 use Rattle.formula.specs.Tree.{ResolvedTree}
 use Rattle.meaning.specs.Answer.{Row, answer}
-use Rattle.meaning.specs.ExampleParts.{alone, attribute, car, car_class, compare, dynamic, first_has, literal, moving, nowhere, query, setting, speed, text_of, time, whole, world}
+use Rattle.meaning.specs.ExampleParts.{alone, attribute, car, car_class, compare, dynamic, first_has, literal, moving, nowhere, query, setting, speed, standing, text_of, time, whole, world}
 
 -- a car at rest, and one that moves 2 units a tick along x
 abbrev pub at_rest : World
@@ -31,6 +31,17 @@ filling =
     (Class (codes "tank") 9 false (attribute (codes "fuel") kinds.Dyn ∷ attribute (codes "plate") kinds.Text ∷ [])
     ∷ Insert 0 (codes "tank") (codes "a") nowhere
     (setting (codes "fuel") (givens.Both (pos 0) (speed 1)) ∷ setting (codes "plate") (givens.Text (codes "AB")) ∷ [])
+    ∷ [])
+
+-- a car that is updated at tick 4, and one with 4 seats
+abbrev pub updated_at_four : World
+updated_at_four = world (car_class ∷ car nowhere ∷ Update 4 (codes "a") (standing 0 0) [] ∷ [])
+
+abbrev pub with_seats : World
+with_seats =
+    world
+    (Class (codes "car") 9 false (attribute (codes "seats") kinds.Num ∷ [])
+    ∷ Insert 0 (codes "car") (codes "a") nowhere (setting (codes "seats") (givens.Num (whole 4)) ∷ [])
     ∷ [])
 
 abbrev pub ask : World → ℕ → ResolvedTree → List Row
@@ -51,6 +62,19 @@ text bytes = alone (units.Text bytes)
 
 abbrev pub ten_more : RTerm
 ten_more = record { factors = plus (units.Var 0 (pos 1001000000000000)) ∷ plus (units.Literal (whole 10)) ∷ [] }
+
+-- the seats, and 2 more than what is bound at first
+abbrev pub seats : RTerm
+seats = alone (units.Attr 0 0 (pos 1000000000000))
+
+abbrev pub two_more : RTerm
+two_more = record { factors = plus (units.Var 0 (pos 1001000000000000)) ∷ plus (units.Literal (whole 2)) ∷ [] }
+
+-- [v <- o.x] NEXTTIME [u <- o.x] u = v + 2
+abbrev pub two_further_on : ResolvedTree
+two_further_on =
+    shapes.Assign (0, first)
+    (shapes.Next (shapes.Assign (1, first) (compare (alone (units.Var 1 (pos 1001000000000000))) Eq two_more)))
 
 abbrev pub three_times : RTerm
 three_times = record { factors = times 3 (dynamic 0) ∷ [] }
@@ -87,9 +111,13 @@ pub record AnswersByValue : Type 0 where
   pub ten_further_on :
       ask driving 20 (shapes.Assign (0, first) (shapes.Bounded bounds.Within 5 (compare first Ge ten_more)))
       ≡ first_has ((0, 15) ∷ [])
+  pub one_within_another : ask driving 10 two_further_on ≡ first_has ((0, 9) ∷ [])
   pub by_the_slope : ask driving 1 (compare (part subs.Function) Eq (literal 2)) ≡ first_has ((0, 1) ∷ [])
   pub by_the_last_value : ask driving 1 (compare (part subs.Value) Eq (literal 0)) ≡ first_has ((0, 1) ∷ [])
   pub by_the_last_update : ask driving 1 (compare (part subs.UpdateTime) Lt (literal 1)) ≡ first_has ((0, 1) ∷ [])
+  pub a_thousand_a_tick :
+      ask updated_at_four 10 (compare (part subs.UpdateTime) Eq (literal 4)) ≡ first_has ((4, 10) ∷ [])
+  pub by_a_number_that_stays : ask with_seats 1 (compare seats Ge (literal 4)) ≡ first_has ((0, 1) ∷ [])
   pub multiplied : ask driving 2 (compare three_times Ge (literal 7)) ≡ first_has ((2, 2) ∷ [])
   pub taken_away : ask filling 9 (compare clock_without Ne (literal 0)) ≡ []
   pub by_its_text : ask filling 1 (compare plate Eq (text (codes "AB"))) ≡ first_has ((0, 1) ∷ [])

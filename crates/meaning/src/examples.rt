@@ -10,12 +10,14 @@ pub fn ticks_are_worked_out()
     ensures { AnswersByTime }
 {}
 
-/// Attributes and their parts, texts, TIME, and an assignment that binds the value of each tick.
+/// Attributes and their parts, texts, TIME, and assignments that bind the value of each tick, one within another
+/// among them.
 pub fn values_are_worked_out()
     ensures { AnswersByValue }
 {}
 
-/// Regions, distances and circles, a negative distance and one object for two variables among them.
+/// Regions, distances and circles, a negative distance, one object for two variables, an object that is removed
+/// and targets in another order among them.
 pub fn places_are_worked_out()
     ensures { AnswersByPlace }
 {}
@@ -40,7 +42,7 @@ pub fn queries_fit_their_classes()
     ensures { FitsTheClasses }
 {}
 
-/// The read bound of atoms, of a query and of an assignment.
+/// The read bound of atoms, of a query, of an assignment and of a write.
 pub fn reads_are_counted()
     ensures { TakesReads }
 {}

@@ -1,5 +1,5 @@
 //! Laws of the definitions, as calls without a body.
-ghost use Rattle.std.specs.Prelude.{◌≡◌, ◌==◌, ◌<◌, ◌≤◌, ℕ, ℤ, pos, unsigned_abs, true, false, nat_le, nat_lt, ◌&&◌, Option, None, Some, List, length, slice_get};
+ghost use Rattle.std.specs.Prelude.{◌≡◌, ◌==◌, ◌<◌, ◌≤◌, ◌↔◌, ℕ, ℤ, pos, unsigned_abs, true, false, nat_le, nat_lt, ◌&&◌, Option, None, Some, List, ◌++◌, length, slice_get};
 ghost use Rattle.std.specs.List.{list_all};
 ghost use Rattle.std.specs.Option.{option_map_or};
 ghost use Rattle.std.specs.Str.{bytes_eq};
@@ -18,18 +18,21 @@ ghost use Rattle.formula.specs.Bounds.{term_bound};
 ghost use Rattle.formula.specs.Resolved.{Scope, is_term, no_scope, with_bound};
 ghost use Rattle.formula.specs.Tree.{ResolvedQuery, ResolvedTree};
 ghost use Rattle.formula.specs.Value.{no_values, with_value};
+ghost use Rattle.formula.specs.Variables.{atom_has, term_has};
+ghost use Rattle.formula.specs.declared.tree.RAtom.{RAtom};
 ghost use Rattle.formula.specs.declared.tree.RAtom.TheVariants as atoms;
 ghost use Rattle.formula.specs.declared.tree.RTerm.{RTerm};
 ghost use Rattle.formula.specs.declared.value.Env.{Env};
 ghost use Rattle.formula.specs.declared.value.Value.{Value};
 ghost use Rattle.formula.specs.declared.value.Value.TheVariants as values;
+ghost use Rattle.formula.specs.declared.value.ValueKind.{ValueKind};
 ghost use Rattle.meaning.specs.Accepted.{are_accepted};
 ghost use Rattle.meaning.specs.Agreement.{Agree, HasMore, SameStates, SeesItsClasses, world_with};
 ghost use Rattle.meaning.specs.Answer.{answer, full_rows, rows_have};
 ghost use Rattle.meaning.specs.Atom.{atom_holds, position_in};
 ghost use Rattle.meaning.specs.Binding.{holds_full, tuple_of};
-ghost use Rattle.meaning.specs.Fits.{BindsItsClasses, ValueKind, term_kind};
-ghost use Rattle.meaning.specs.Reachable.{AreReachable, AreWithinBounds, IsReachable};
+ghost use Rattle.meaning.specs.Fits.{BindsItsClasses, BindsKinds, FitsItsClasses, term_kind, value_kind};
+ghost use Rattle.meaning.specs.Reachable.{AreReachable, AreWithinBounds, FitTheirClasses, IsReachable};
 ghost use Rattle.meaning.specs.Satisfaction.{Interpretation, plain, sat};
 ghost use Rattle.meaning.specs.Trace.{Trace, trace_of};
 ghost use Rattle.meaning.specs.Value.{term_value};
@@ -76,6 +79,12 @@ pub fn absent_objects_satisfy_no_query()
         → cells_at w.history (b v) t ≡ None → holds_full w q e b t ≡ false }
 {}
 
+/// An atom is false where one of its objects is absent, OUTSIDE and `!=` too.
+pub fn atoms_of_absent_objects_are_false()
+    ensures { (regions : List Region) (h : Trace) (a : RAtom) (x : Env) (t v : ℕ)
+        → atom_has v a ≡ true → h v t ≡ None → atom_holds regions h a x t ≡ false }
+{}
+
 /// Two variables that have one object are at the distance 0, wherever it has a position.
 pub fn one_object_is_at_distance_0()
     ensures { (regions : List Region) (h : History) (b : ℕ → ℕ) (v u : ℕ) (op : Op) (c : ℤ) (x : Env) (t : ℕ)
@@ -108,6 +117,30 @@ pub fn the_past_changes_by_what_comes_after()
         → cells_at old (b v) t ≡ cells_at new (b v) t)
         → (t : ℕ) → t ≤ e
         → holds_full (world_with old regions) q e b t ≡ holds_full (world_with new regions) q e b t }
+{}
+
+/// A query goes on fitting its classes where classes and regions are added.
+pub fn queries_go_on_fitting_their_classes()
+    ensures { (old new : World) (m : List ClassInfo) (n : List Region)
+        → new.history.catalog.classes ≡ old.history.catalog.classes ++ m → new.regions ≡ old.regions ++ n
+        → (q : ResolvedQuery) → FitsItsClasses old q → FitsItsClasses new q }
+{}
+
+/// In states that fit their classes, and with values bound of the kinds that the scope tells, a term that has a
+/// kind has no value exactly where one of its objects is absent, and else a value of that kind.
+pub fn terms_have_values_of_their_kinds()
+    ensures none { (c : Catalog) (classes : List ℕ) (scope : ℕ → Option ValueKind) (h : Trace) (x : Env) (t : ℕ)
+        → FitTheirClasses c classes h t → BindsKinds scope x
+        → (q : RTerm) (k : ValueKind) → term_kind c classes scope q ≡ Some k
+        → (term_value h q x t ≡ None) ↔ ((v : ℕ) × (term_has v q ≡ true) × (h v t ≡ None)) }
+    ensures kind { (c : Catalog) (classes : List ℕ) (scope : ℕ → Option ValueKind) (h : Trace) (x : Env) (t : ℕ)
+        → FitTheirClasses c classes h t → BindsKinds scope x
+        → (q : RTerm) (k : ValueKind) → term_kind c classes scope q ≡ Some k
+        → (v : Value) → term_value h q x t ≡ Some v → value_kind v ≡ k }
+
+    // The states that accepted writes lead to fit their classes.
+    ensures reachable { (c : Catalog) (classes : List ℕ) (h : Trace) (t : ℕ)
+        → AreReachable c classes h t → FitTheirClasses c classes h t }
 {}
 
 /// Accepted writes lead to states of bounded size alone: one cell for each attribute of the object's class,

@@ -14,8 +14,10 @@ pub use examples::{
 };
 pub use laws::{
     a_formula_sees_its_variables_alone, absent_objects_satisfy_no_query,
-    accepted_writes_lead_to_reachable_states, atoms_that_hold_more_make_it_hold_more,
-    expired_queries_stay, interpretations_that_agree_give_the_same_truth,
-    one_object_is_at_distance_0, other_objects_stay, the_answer_is_the_union_of_the_full_rows,
-    the_past_changes_by_what_comes_after, values_are_within_their_bounds,
+    accepted_writes_lead_to_reachable_states, atoms_of_absent_objects_are_false,
+    atoms_that_hold_more_make_it_hold_more, expired_queries_stay,
+    interpretations_that_agree_give_the_same_truth, one_object_is_at_distance_0,
+    other_objects_stay, queries_go_on_fitting_their_classes, terms_have_values_of_their_kinds,
+    the_answer_is_the_union_of_the_full_rows, the_past_changes_by_what_comes_after,
+    values_are_within_their_bounds,
 };

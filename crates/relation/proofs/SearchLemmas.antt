@@ -1,4 +1,4 @@
--- What a search finds where numbers rise.
+-- For this crate and for the crates above: what a search finds where numbers rise.
 use Rattle.std.proofs.Common.{◌≡◌, ℕ, zero, suc, ◌+◌, ◌-◌, ◌<◌, ◌≤◌, Bool, true, false, ◌==◌, nat_lt, List, [], ◌∷◌, ◌++◌, length, get_or, take, drop, map, Some, None, unwrap_or, refl, sym, ap, ◌∙◌, subst, inl, inr, arith, get_or-drop, get_or-take, length-drop, length-take-le, take-append-drop}
 use Rattle.std.specs.List.{list_all, slice_get}
 use Rattle.std.specs.List.Sorted.{IsNonDecreasingBy, IsStrictlyIncreasing}

@@ -1,10 +1,10 @@
--- The variables of two lists.
+-- For this crate and for the crates above: the variables of two lists.
 use Rattle.std.proofs.Common.{◌≡◌, ℕ, suc, ◌+◌, ◌<◌, ◌≤◌, Bool, true, false, not, ◌&&◌, ◌||◌, ◌==◌, nat_lt, List, [], ◌∷◌, if◌then◌else◌, length, get_or, refl, sym, ap, ◌∙◌, subst, inl, inr, arith}
 use Rattle.std.specs.List.{filter, list_all}
 use Rattle.std.specs.List.Sorted.{IsStrictlyIncreasing}
 use Rattle.std.proofs.lemmas.Bool.{and_from, and_parts, cases_Bool, cases_order, eq-eqb, eqb-false, eqb-true, false≢true, lt-ltb, ltb-true, not-true, not_from_false, or_cases, or_from, or_left, or_parts, or_right}
 use Rattle.std.proofs.lemmas.List.{map-id}
-use Rattle.formula.specs.declared.limits.TheConstants.{OBJECT_LIMIT}
+use Rattle.formula_shape.specs.declared.limits.TheConstants.{OBJECT_LIMIT}
 use Rattle.formula.specs.Variables.{variables_in}
 use Rattle.relation.specs.Frames.{vars_of_both}
 use Rattle.relation.specs.Key.{are_distinct, are_known, has_id}

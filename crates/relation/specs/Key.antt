@@ -2,7 +2,7 @@
 use Rattle.std.specs.Prelude.{◌≤◌, ℕ, Bool, true, false, not, ◌&&◌, ◌||◌, ◌==◌, nat_lt, List, [], ◌∷◌, length, slice_index_or}
 use Rattle.std.specs.List.{list_any, list_all}
 use Rattle.std.specs.List.Sorted.{IsStrictlyIncreasing}
-use Rattle.formula.specs.declared.limits.TheConstants.{OBJECT_LIMIT}
+use Rattle.formula_shape.specs.declared.limits.TheConstants.{OBJECT_LIMIT}
 
 -- whether a number is in a list
 abbrev pub has_id : List ℕ → ℕ → Bool

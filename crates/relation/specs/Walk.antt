@@ -1,7 +1,7 @@
 -- A walk over the bindings of a list of variables, in their order, with two parts of relations at hand.
 use Rattle.std.specs.Prelude.{◌≡◌, ◌+◌, ◌≤◌, ◌<◌, ◌==◌, ℕ, Bool, true, false, not, ◌&&◌, ◌||◌, List, [], ◌∷◌, ◌++◌, map, length, nat_le, nat_lt, if◌then◌else◌}
 use Rattle.std.specs.List.{list_all}
-use Rattle.formula.specs.declared.limits.TheConstants.{OBJECT_LIMIT}
+use Rattle.formula_shape.specs.declared.limits.TheConstants.{OBJECT_LIMIT}
 use Rattle.relation.specs.declared.operation.Operation.{Operation}
 use Rattle.relation.specs.declared.operation.Operation.TheVariants as operations
 use Rattle.relation.specs.declared.part.Part.{Part}

@@ -1,7 +1,7 @@
 //! Parts of relations.
 
 ghost use Rattle.std.specs.Prelude.{◌≡◌, ◌≤◌, ◌+◌, ℕ, List, true, length};
-ghost use Rattle.formula.specs.declared.limits.TheConstants.{OBJECT_LIMIT};
+ghost use Rattle.formula_shape.specs.declared.limits.TheConstants.{OBJECT_LIMIT};
 ghost use Rattle.relation.specs.Group.{IsNextIn, ids_at};
 ghost use Rattle.relation.specs.Part.{IsFixed, IsPart, offers, vars_after};
 

@@ -2,7 +2,7 @@
 
 ghost use Rattle.std.specs.Prelude.{◌≡◌, ◌≤◌, ℕ, List, true, length, IfOk};
 ghost use Rattle.std.specs.List.{All, list_all};
-ghost use Rattle.formula.specs.declared.limits.TheConstants.{OBJECT_LIMIT};
+ghost use Rattle.formula_shape.specs.declared.limits.TheConstants.{OBJECT_LIMIT};
 ghost use Rattle.relation.specs.Entries.{AreEntries, IsEntry, entries_have};
 ghost use Rattle.relation.specs.Frames.{frame};
 ghost use Rattle.relation.specs.Key.{are_distinct, has_id};

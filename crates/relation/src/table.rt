@@ -4,7 +4,7 @@ ghost use Rattle.std.specs.Prelude.{◌≡◌, ◌≤◌, ◌||◌, ◌&&◌, �
 ghost use Rattle.std.specs.List.{list_all};
 ghost use Rattle.std.specs.Str.{bytes_eq};
 ghost use Rattle.tick_set.specs.Ticks.{LiesIn};
-ghost use Rattle.formula.specs.declared.limits.TheConstants.{OBJECT_LIMIT};
+ghost use Rattle.formula_shape.specs.declared.limits.TheConstants.{OBJECT_LIMIT};
 
 use crate::{Domains, Row, Variables};
 use formula::Binding;

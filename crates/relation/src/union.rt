@@ -1,7 +1,7 @@
 //! The variables of two lists.
 
 ghost use Rattle.std.specs.Prelude.{◌≡◌, ◌≤◌, ◌<◌, ◌+◌, ◌||◌, ◌∷◌, [], ◌++◌, if◌then◌else◌, length};
-ghost use Rattle.formula.specs.declared.limits.TheConstants.{OBJECT_LIMIT};
+ghost use Rattle.formula_shape.specs.declared.limits.TheConstants.{OBJECT_LIMIT};
 ghost use Rattle.relation.specs.Frames.{vars_of_both};
 ghost use Rattle.relation.specs.Key.{has_id};
 

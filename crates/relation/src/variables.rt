@@ -17,7 +17,7 @@ impl Model for Variables {
     ghost use Rattle.std.specs.Prelude.{List, ℕ, length, take};
     ghost use Rattle.exact.proofs.PaddedLemmas.{length-front, padded-front};
     ghost use Rattle.exact.specs.Padded.{IsPadded, padded};
-    ghost use Rattle.formula.specs.declared.limits.TheConstants.{OBJECT_LIMIT};
+    ghost use Rattle.formula_shape.specs.declared.limits.TheConstants.{OBJECT_LIMIT};
 
     ghost Value = { List ℕ };
 

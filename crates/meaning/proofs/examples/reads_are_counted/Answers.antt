@@ -12,4 +12,8 @@ returns c = record {
   of_the_clock = refl;
   of_parts = refl;
   of_an_assignment = refl;
+  of_a_change = refl;
+  of_another_class = refl;
+  of_a_write = refl;
+  past_an_expiry = refl;
 }

@@ -1,5 +1,5 @@
 use Rattle.std.proofs.Common.{◌∙◌, ap, List, []}
-use Rattle.formula.specs.declared.limits.TheConstants.{OBJECT_LIMIT}
+use Rattle.formula_shape.specs.declared.limits.TheConstants.{OBJECT_LIMIT}
 use Rattle.relation.specs.declared.entries.Entry.{Entry}
 use Rattle.relation.specs.Entries.{entries_have}
 use Rattle.relation.specs.Key.{are_known}
