@@ -33,12 +33,12 @@ use Rattle.command_text.specs.declared.fault.CommandFault.{CommandFault}
 use Rattle.command_text.specs.declared.fault.CommandFault.TheVariants as stops
 use Rattle.database.specs.declared.change.Change.TheVariants as changes
 use Rattle.database.specs.Attempt.{fault_told, Carries, LacksMemory, Stops}
-use Rattle.line_meaning.specs.Fault.{refusal_of, region_refusal}
+use Rattle.line_meaning.specs.Fault.{refusal_by_store, region_refusal}
 use Rattle.line_meaning.specs.Journal.{attribute_of, clock, writes, regions, writes_of, regions_of, ticks_of}
 use Rattle.line_meaning.proofs.JournalLemmas.{world_more, clock_more}
 use Rattle.history.specs.World.{World}
 use Rattle.command_text.specs.Journal.{Accepted}
-use Rattle.database.specs.Keeping.{clock_of, told, Keeps}
+use Rattle.database.specs.Keeping.{clock_of, Keeps}
 
 -- What an accepted command made of the database, from which the rest follows.
 record Makes (c : CommandTree) (old new : Database) : Type 0 where
@@ -65,8 +65,8 @@ keeps_more c old new m journal k =
 
 -- the store refused, and the database is as before
 stopped_by : (c : CommandTree) (old new : Database) (fault : Option StoreFault) (stop : CommandFault) →
-    stop ≡ option_map_or stops.Refused (refusal_of (unwrap_or fault store_faults.NoMemory)) stops.NoMemory →
-    fault_told old c ≡ option_and_then refusal_of fault → (fault_told old c ≡ None → LacksMemory old c) → new ≡ old → Stops c old new stop
+    stop ≡ option_map_or stops.Refused (refusal_by_store (unwrap_or fault store_faults.NoMemory)) stops.NoMemory →
+    fault_told old c ≡ option_and_then refusal_by_store fault → (fault_told old c ≡ None → LacksMemory old c) → new ≡ old → Stops c old new stop
 stopped_by c old new None stop is told lacks same = subst (λ (s : CommandFault). Stops c old new s) (sym is) (lacks told, same)
 stopped_by c old new (Some store_faults.UnknownName) stop is told lacks same = subst (λ (s : CommandFault). Stops c old new s) (sym is) (told, same)
 stopped_by c old new (Some store_faults.NameTaken) stop is told lacks same = subst (λ (s : CommandFault). Stops c old new s) (sym is) (told, same)
@@ -77,10 +77,10 @@ stopped_by c old new (Some store_faults.StoreFull) stop is told lacks same = sub
 stopped_by c old new (Some store_faults.NoMemory) stop is told lacks same = subst (λ (s : CommandFault). Stops c old new s) (sym is) (lacks told, same)
 
 pub store_stopped : (c : CommandTree) (old new : Database) (fault : Option StoreFault) (said : StoreFault) (stop : CommandFault) →
-    said ≡ unwrap_or fault store_faults.NoMemory → stop ≡ option_map_or stops.Refused (refusal_of said) stops.NoMemory →
-    fault_told old c ≡ option_and_then refusal_of fault → (fault_told old c ≡ None → LacksMemory old c) → new ≡ old → Stops c old new stop
+    said ≡ unwrap_or fault store_faults.NoMemory → stop ≡ option_map_or stops.Refused (refusal_by_store said) stops.NoMemory →
+    fault_told old c ≡ option_and_then refusal_by_store fault → (fault_told old c ≡ None → LacksMemory old c) → new ≡ old → Stops c old new stop
 store_stopped c old new fault said stop is stop-is told lacks same =
-    stopped_by c old new fault stop (stop-is ∙ ap (λ f. option_map_or stops.Refused (refusal_of f) stops.NoMemory) is) told lacks same
+    stopped_by c old new fault stop (stop-is ∙ ap (λ f. option_map_or stops.Refused (refusal_by_store f) stops.NoMemory) is) told lacks same
 
 -- the store grew by the one write of a command
 store_makes : (c : CommandTree) (write : Write) (store new : Contents) (rs : List Region) (clock : ℕ) →
@@ -141,7 +141,7 @@ class_carries name capacity point attrs given d new given-is accepted in-range w
     let tick : new.last_tick ≡ d.store.last_tick = ap (λ (s : Contents). s.last_tick) is in
     let classes : length new.classes ≡ length d.store.classes + 1 = ap (λ (s : Contents). length s.classes) is ∙ simp (length-append) in
     record {
-      accepted = ap (option_and_then refusal_of) (ap (class_fault (catalog_of d.store) name point) (sym given-is) ∙ accepted);
+      accepted = ap (option_and_then refusal_by_store) (ap (class_fault (catalog_of d.store) name point) (sym given-is) ∙ accepted);
       keeps = keeps_more (Tree.Class name capacity point attrs) d (record { store = new; regions = d.regions; clock = d.clock })
           (store_makes (Tree.Class name capacity point attrs) (Class name capacity point given) d.store new d.regions d.clock
           (ap (λ g. Class name capacity point g ∷ []) (sym given-is)) refl refl in-range (omega (arith, tick, written)) grows);

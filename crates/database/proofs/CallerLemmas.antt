@@ -7,12 +7,12 @@ use Rattle.line_meaning.specs.Fault.{fault_among}
 use Rattle.line_meaning.specs.Journal.{clock, world}
 use Rattle.database.specs.declared.database.Database.{Database}
 use Rattle.database.specs.Attempt.{fault_told}
-use Rattle.database.specs.Keeping.{clock_of, told, Keeps}
+use Rattle.database.specs.Keeping.{clock_of, world_of_database, Keeps}
 
 pub fault_is_told : (journal : List Accepted) (d : Database) (c : CommandTree) → Keeps journal d →
     fault_told d c ≡ fault_among (world journal) (clock journal) c
 fault_is_told journal d c k = λ i. fault_among (k.told_is i) (k.clock_is i) c
 
 pub lines_are_told : (journal : List Accepted) (d : Database) (c : CommandTree) → Keeps journal d →
-    answer_lines (told d) (clock_of d) c ≡ answer_lines (world journal) (clock journal) c
+    answer_lines (world_of_database d) (clock_of d) c ≡ answer_lines (world journal) (clock journal) c
 lines_are_told journal d c k = λ i. answer_lines (k.told_is i) (k.clock_is i) c

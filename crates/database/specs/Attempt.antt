@@ -12,18 +12,18 @@ use Rattle.command_text.specs.Tree.{CommandTree}
 use Rattle.line_meaning.specs.Fault.{fault_among}
 use Rattle.database.specs.declared.change.Change.{Change}
 use Rattle.database.specs.declared.database.Database.{Database}
-use Rattle.database.specs.Keeping.{clock_of, told, Keeps}
-use Rattle.database.specs.Taking.{Undoes}
+use Rattle.database.specs.Keeping.{clock_of, world_of_database, Keeps}
+use Rattle.database.specs.Taking.{TakesBackChange}
 
 -- the refusal of a command by what is kept
 abbrev pub fault_told : Database → CommandTree → Option Refusal
-fault_told d c = fault_among (told d) (clock_of d) c
+fault_told d c = fault_among (world_of_database d) (clock_of d) c
 
 -- The command was carried out, and can be taken back: a journal that was kept is kept with the command at its end.
 pub record Carries (c : CommandTree) (old new : Database) (change : Change) : Type 0 where
   pub accepted : fault_told old c ≡ None
   pub keeps : (journal : List Accepted) → Keeps journal old → Keeps (journal ++ (clock_of old, c) ∷ []) new
-  pub undoes : Undoes change old new
+  pub undoes : TakesBackChange change old new
 
 -- What want of memory says of a command: nothing refuses it. The attributes of a class are copied before it is judged,
 -- and the clock moves without memory.

@@ -8,8 +8,8 @@ use Rattle.line_meaning.specs.Journal.{clock, world}
 use Rattle.database.specs.declared.database.Database.{Database}
 
 -- all that a query may ask of
-abbrev pub told : Database → World
-told d = record { history = history_of d.store; regions = d.regions }
+abbrev pub world_of_database : Database → World
+world_of_database d = record { history = history_of d.store; regions = d.regions }
 
 abbrev pub clock_of : Database → ℕ
 clock_of d = d.clock
@@ -21,6 +21,6 @@ pub record IsTimely (d : Database) : Type 0 where
 
 -- the database tells what the journal tells, and its clock is the journal's
 pub record Keeps (journal : List Accepted) (d : Database) : Type 0 where
-  pub told_is : told d ≡ world journal
+  pub told_is : world_of_database d ≡ world journal
   pub clock_is : clock_of d ≡ clock journal
   pub timely : IsTimely d

@@ -20,6 +20,6 @@ IsLast (changes.Object done) d = IsRevertible done.undo d.store
 IsLast (changes.Clock ticks) d = ticks ≤ d.clock
 
 -- the change made the database new of old
-pub record Undoes (change : Change) (old new : Database) : Type 0 where
+pub record TakesBackChange (change : Change) (old new : Database) : Type 0 where
   pub last : IsLast change new
   pub before : without change new ≡ old

@@ -10,12 +10,12 @@ use Rattle.line_meaning.specs.Fault.{question_refusal}
 use Rattle.line_meaning.specs.Reply.{ok_line}
 use Rattle.database.specs.declared.database.Database.{Database}
 use Rattle.database.specs.Attempt.{fault_told}
-use Rattle.database.specs.Keeping.{clock_of, told}
+use Rattle.database.specs.Keeping.{clock_of, world_of_database}
 
 -- it is answered, refused, or wants memory where nothing refuses it
 abbrev pub Tells : Database → CommandTree → List ℕ → List ℕ → Result (Unit {0}) CommandFault → Type 0
 Tells d c before after (Ok u) =
-    (fault_told d c ≡ None) × (after ≡ before ++ (answer_lines (told d) (clock_of d) c ++ ok_line))
+    (fault_told d c ≡ None) × (after ≡ before ++ (answer_lines (world_of_database d) (clock_of d) c ++ ok_line))
 Tells d c before after (Err (faults.Refused r)) = fault_told d c ≡ Some r
 Tells d c before after (Err faults.NoMemory) = fault_told d c ≡ None
 

@@ -8,7 +8,7 @@ ghost use Rattle.line_meaning.specs.Answering.{rows_of};
 ghost use Rattle.line_meaning.specs.Fault.{is_past_span, kind_asked, question_refusal};
 ghost use Rattle.reply_text.specs.Begins.{Begins};
 ghost use Rattle.database.specs.Finding.{found, kind_at};
-ghost use Rattle.database.specs.Keeping.{told};
+ghost use Rattle.database.specs.Keeping.{world_of_database};
 ghost use Rattle.database.specs.Telling.{Asks, IsRefused};
 
 use crate::database::Database;
@@ -93,8 +93,8 @@ fn question_refusal(store: &Store, now: u32, span: u32, question: &Question) -> 
     }
 }
 
-/// Writes the rows that answer a question, from now to the expiry. After an error what was there still
-/// stands in front.
+/// Writes the rows that answer a question, from now to the expiry. On error `out` still
+/// begins with its old contents.
 fn push_answer<L: Ledger>(
     alloc: Global,
     database: &Database,
@@ -105,7 +105,7 @@ fn push_answer<L: Ledger>(
 ) -> Result<(), AllocError>
     requires accepted { question_refusal (catalog_of database.now.store) database.now.clock span question.now ≡ None }
     requires in_range { database.now.clock ≤ LAST_TICK }
-    ensures ok { OnOk result (out.new.items ≡ out.old.items ++ rows_of (told database.now) database.now.clock span question.now) }
+    ensures ok { OnOk result (out.new.items ≡ out.old.items ++ rows_of (world_of_database database.now) database.now.clock span question.now) }
     ensures begins { Begins out.old.items out.new.items }
     ensures least { reads.old ≤ reads.new }
     ensures most { reads.new ≤ reads.old + length (names_in (catalog_of database.now.store)
@@ -130,7 +130,7 @@ fn push_answer<L: Ledger>(
     }
 }
 
-/// Answers a question. After want of memory what was there still stands in front.
+/// Answers a question. On want of memory `out` still begins with its old contents.
 pub(crate) fn ask<L: Ledger>(
     alloc: Global,
     database: &Database,
@@ -141,7 +141,7 @@ pub(crate) fn ask<L: Ledger>(
 ) -> Result<(), CommandFault>
     requires span { span ≤ LAST_TICK }
     requires in_range { database.now.clock ≤ LAST_TICK }
-    ensures asked { Asks (told database.now) database.now.clock span question.now out.old.items out.new.items result }
+    ensures asked { Asks (world_of_database database.now) database.now.clock span question.now out.old.items out.new.items result }
     ensures begins { Begins out.old.items out.new.items }
     ensures least { reads.old ≤ reads.new }
     ensures most { reads.new ≤ reads.old + length (names_in (catalog_of database.now.store)

@@ -10,7 +10,7 @@ ghost use Rattle.command_text.specs.declared.refusal.Refusal.TheVariants as refu
 ghost use Rattle.polygon.specs.declared.named.TheConstants.{REGION_LIMIT};
 ghost use Rattle.command_text.specs.Tree as Tree;
 ghost use Rattle.command_text.specs.Tree.{command_view};
-ghost use Rattle.line_meaning.specs.Fault.{is_gap, refusal_of};
+ghost use Rattle.line_meaning.specs.Fault.{is_gap, refusal_by_store};
 ghost use Rattle.line_meaning.specs.Role.{is_kept};
 ghost use Rattle.database.specs.Attempt.{Attempts, IsFlat};
 ghost use Rattle.database.specs.Keeping.{IsTimely};
@@ -41,7 +41,7 @@ pub enum Change {
 
 /// What a fault of the store says of a command.
 pub(crate) fn fault_by(fault: StoreFault) -> CommandFault
-    ensures { result ≡ option_map_or faults.Refused (refusal_of fault) faults.NoMemory }
+    ensures { result ≡ option_map_or faults.Refused (refusal_by_store fault) faults.NoMemory }
 {
     match fault {
         StoreFault::UnknownName => CommandFault::Refused(Refusal::UnknownName),

@@ -12,7 +12,7 @@ use polygon::Regions;
 use reply_text::{push_class, push_clock, push_region};
 use std::alloc::AllocError;
 
-/// Writes the clock, the classes and the regions. After an error what was there still stands in front.
+/// Writes the clock, the classes and the regions. On error `out` still begins with its old contents.
 #[tactic(auto, using(reply_text::proofs::BeginLemmas::begins_through))]
 pub(crate) fn push_listing(database: &Database, out: &mut Vec<u8>) -> Result<(), AllocError>
     ensures ok { OnOk result (out.new.items ≡ out.old.items ++ listing database.now.clock (catalog_of database.now.store) database.now.regions) }

@@ -25,7 +25,7 @@ pub(crate) struct Sought {
 }
 
 /// Writes a line for each of these objects that has a tick in the answer. It takes one step of `reads`
-/// for each object. After an error what was there still stands in front.
+/// for each object. On error `out` still begins with its old contents.
 pub(crate) fn push_rows<L: Ledger>(
     alloc: Global,
     store: &Store,

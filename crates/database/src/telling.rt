@@ -8,7 +8,7 @@ ghost use Rattle.line_meaning.specs.Fault.{is_gap};
 ghost use Rattle.line_meaning.specs.Reply.{listing, ok_line};
 ghost use Rattle.line_meaning.specs.Role.{role_of};
 ghost use Rattle.reply_text.specs.Begins.{Begins};
-ghost use Rattle.database.specs.Keeping.{told, IsTimely};
+ghost use Rattle.database.specs.Keeping.{IsTimely, world_of_database};
 ghost use Rattle.database.specs.Ready.{IsReady};
 ghost use Rattle.database.specs.Telling.{IsRefused, Tells};
 
@@ -22,7 +22,7 @@ use std::alloc::{AllocError, Global};
 use std::sync::ledger::Ledger;
 use steps::Steps;
 
-/// Answers `list`. After an error what was there still stands in front.
+/// Answers `list`. On error `out` still begins with its old contents.
 fn list(database: &Database, out: &mut Vec<u8>) -> Result<(), AllocError>
     ensures ok { OnOk result (out.new.items ≡ out.old.items
         ++ (listing database.now.clock (catalog_of database.now.store) database.now.regions ++ ok_line)) }
@@ -32,7 +32,7 @@ fn list(database: &Database, out: &mut Vec<u8>) -> Result<(), AllocError>
     push_ok(out)
 }
 
-/// Answers a command that changes nothing. After want of memory what was there still stands in front.
+/// Answers a command that changes nothing. On want of memory `out` still begins with its old contents.
 fn tell<L: Ledger>(
     alloc: Global,
     database: &Database,
@@ -81,7 +81,7 @@ impl Database {
         ensures told { Tells self.now (command_view command.now) out.old.items out.new.items result }
         ensures whole { OnErr result (out.new.items ≡ out.old.items) }
         ensures least { reads.old ≤ reads.new }
-        ensures most { reads.new ≤ reads.old + looks (told self.now).history.catalog (command_view command.now) }
+        ensures most { reads.new ≤ reads.old + looks (world_of_database self.now).history.catalog (command_view command.now) }
         ensures unread { IfErr result (λ fault. IsRefused fault → reads.new ≡ reads.old) }
     {
         let before = out.len();

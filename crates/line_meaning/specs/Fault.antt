@@ -49,14 +49,14 @@ is_gap (Tree.Range span class attribute least greatest) = true
 is_gap _ = false
 
 -- the refusal of a fault of the store
-abbrev pub refusal_of : StoreFault → Option Refusal
-refusal_of store_faults.UnknownName = Some refusals.UnknownName
-refusal_of store_faults.NameTaken = Some refusals.NameTaken
-refusal_of store_faults.WrongKind = Some refusals.WrongKind
-refusal_of store_faults.Presence = Some refusals.Presence
-refusal_of store_faults.ClassFull = Some refusals.ClassFull
-refusal_of store_faults.StoreFull = Some refusals.StoreFull
-refusal_of store_faults.NoMemory = None
+abbrev pub refusal_by_store : StoreFault → Option Refusal
+refusal_by_store store_faults.UnknownName = Some refusals.UnknownName
+refusal_by_store store_faults.NameTaken = Some refusals.NameTaken
+refusal_by_store store_faults.WrongKind = Some refusals.WrongKind
+refusal_by_store store_faults.Presence = Some refusals.Presence
+refusal_by_store store_faults.ClassFull = Some refusals.ClassFull
+refusal_by_store store_faults.StoreFull = Some refusals.StoreFull
+refusal_by_store store_faults.NoMemory = None
 
 abbrev pub region_refusal : List Region → List ℕ → List Point → Option Refusal
 region_refusal regions name points = first_that_holds (
@@ -95,14 +95,14 @@ question_refusal c now span q = first_that_holds (
 -- the refusals from UnknownName to ClassFull of a command, by what a query may ask of and the clock
 abbrev pub fault_among : World → ℕ → CommandTree → Option Refusal
 fault_among w now (Tree.Class name capacity point attributes) =
-    option_and_then refusal_of (class_fault w.history.catalog name point (map attribute_of attributes))
+    option_and_then refusal_by_store (class_fault w.history.catalog name point (map attribute_of attributes))
 fault_among w now (Tree.Region name points) = region_refusal w.regions name points
 fault_among w now (Tree.Insert class name place sets) =
-    option_and_then refusal_of (insert_fault w.history.catalog (is_present w.history name now) class name place sets)
+    option_and_then refusal_by_store (insert_fault w.history.catalog (is_present w.history name now) class name place sets)
 fault_among w now (Tree.Update name place sets) =
-    option_and_then refusal_of (update_fault w.history.catalog (is_present w.history name now) name place sets)
+    option_and_then refusal_by_store (update_fault w.history.catalog (is_present w.history name now) name place sets)
 fault_among w now (Tree.Remove name) =
-    option_and_then refusal_of (remove_fault w.history.catalog (is_present w.history name now) name)
+    option_and_then refusal_by_store (remove_fault w.history.catalog (is_present w.history name now) name)
 fault_among w now (Tree.Tick ticks) = tick_refusal now ticks
 fault_among w now (Tree.Ask span q) = option_and_then (question_refusal w.history.catalog now span) (question_of q)
 fault_among w now _ = None

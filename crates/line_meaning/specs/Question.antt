@@ -32,8 +32,8 @@ once None found = found
 once (Some k) found = None
 
 -- o.a, with no sign and no multiplier
-abbrev pub attribute_of : Signed → Option (List ℕ × List ℕ)
-attribute_of factor = if factor.minus then None else once factor.times (attribute_in factor.unit)
+abbrev pub attribute_in_factor : Signed → Option (List ℕ × List ℕ)
+attribute_in_factor factor = if factor.minus then None else once factor.times (attribute_in factor.unit)
 
 -- a number, with a sign or none
 abbrev pub signed : Bool → ℤ → ℤ
@@ -49,7 +49,7 @@ asked op _ _ = None
 -- what a comparison asks
 abbrev pub asked_by : atom_type.Atom → Option Asked
 asked_by (atoms.Compare left op right) =
-    asked op (option_and_then attribute_of (only left.factors)) (option_and_then number_of (only right.factors))
+    asked op (option_and_then attribute_in_factor (only left.factors)) (option_and_then number_of (only right.factors))
 asked_by _ = None
 
 abbrev pub asked_in : Tree → Option Asked

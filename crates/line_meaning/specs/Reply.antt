@@ -34,7 +34,7 @@ rows_text now rows = flat_map (row_line now) rows
 abbrev pub clock_line : ℕ → List ℕ
 clock_line now = codes "clock " ++ decimal now ++ line_feed
 
--- a word, a name, and a number behind it
+-- a word, a name, and a number after it
 abbrev pub counted : List ℕ → List ℕ → ℕ → List ℕ
 counted word name number = word ++ name ++ codes " " ++ decimal number
 

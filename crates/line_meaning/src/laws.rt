@@ -1,10 +1,17 @@
 //! Laws of the step, each a call without a body whose contract is the law.
-ghost use Rattle.std.specs.Prelude.{◌≡◌, ℕ, ◌<◌, ◌++◌, List, Some, length};
+ghost use Rattle.std.specs.Prelude.{◌≡◌, ℕ, ◌<◌, ◌++◌, true, List, [], Some, length};
 ghost use Rattle.command_text.specs.declared.reading.TheConstants.{LINE_LIMIT};
 ghost use Rattle.command_text.specs.declared.refusal.Refusal.TheVariants.{LineTooLong};
 ghost use Rattle.command_text.specs.Refusals.{line_of};
+ghost use Rattle.command_text.specs.Journal.{Accepted};
+ghost use Rattle.history.specs.Catalog.{empty_catalog};
+ghost use Rattle.meaning.specs.Accepted.{are_accepted};
+ghost use Rattle.line_meaning.specs.Journal.{writes};
+ghost use Rattle.line_meaning.specs.Reached.{AreReached};
 ghost use Rattle.line_meaning.specs.Reply.{line_feed};
 ghost use Rattle.line_meaning.specs.Step.{Base, Held, line_refusal, step};
+
+use command_text::read_commands_are_printable;
 
 /// All lines of more than 4,096 bytes are refused by LineTooLong, so that no more of them need be kept.
 pub fn long_lines_step_alike()
@@ -13,3 +20,17 @@ pub fn long_lines_step_alike()
     ensures step { (b : Base) (line : List ℕ) → LINE_LIMIT < length line
         → step b line ≡ (b, line_of LineTooLong ++ line_feed) }
 {}
+
+/// The writes of a journal that steps lead to are accepted writes, so all that holds of the states that
+/// accepted writes lead to holds of what such a journal tells.
+pub fn steps_write_what_is_accepted()
+    ensures writes { (journal : List Accepted) → AreReached [] journal
+        → are_accepted empty_catalog 0 (writes journal) ≡ true }
+
+    // The empty journal is one that steps lead to, and each step leads from one to another.
+    ensures none { AreReached [] [] }
+    ensures step { (b : Base) (line : List ℕ) → AreReached [] b.held.journal
+        → AreReached [] (step b line).0.held.journal }
+{
+    read_commands_are_printable();
+}

@@ -9,6 +9,6 @@ mod laws;
 mod question;
 mod role;
 
-pub use laws::long_lines_step_alike;
+pub use laws::{long_lines_step_alike, steps_write_what_is_accepted};
 pub use question::{Asked, Question, read_question};
 pub use role::{Role, is_gap, role_of};

@@ -1,7 +1,7 @@
 //! The one form of query that is answered so far: `RETRIEVE o FROM c o WHERE o.a op number`.
 ghost use Rattle.std.specs.Prelude.{◌≡◌, option_and_then};
 ghost use Rattle.ftl_parser.specs.Tree.{query_view, view};
-ghost use Rattle.line_meaning.specs.Question.{only, attribute_of, number_of, asked, asked_in, question_of};
+ghost use Rattle.line_meaning.specs.Question.{only, attribute_in_factor, number_of, asked, asked_in, question_of};
 ghost use Rattle.line_meaning.specs.Question.{signed};
 
 use case_table::Op;
@@ -55,8 +55,8 @@ fn only_factor(items: &[Signed]) -> Option<Signed>
 }
 
 /// The variable and the attribute of a factor without a sign and a multiplier.
-fn attribute_of(factor: &Signed) -> Option<(Word, Word)>
-    ensures { result ≡ attribute_of factor.now }
+fn attribute_in_factor(factor: &Signed) -> Option<(Word, Word)>
+    ensures { result ≡ attribute_in_factor factor.now }
 {
     match factor {
         Signed {
@@ -95,10 +95,10 @@ fn signed(minus: bool, number: Fix) -> Fix
 
 /// What a comparison of two terms asks.
 fn asked_by_terms(left: &Term, op: Op, right: &Term) -> Option<Asked>
-    ensures { result ≡ asked op (option_and_then attribute_of (only left.now.factors)) (option_and_then number_of (only right.now.factors)) }
+    ensures { result ≡ asked op (option_and_then attribute_in_factor (only left.now.factors)) (option_and_then number_of (only right.now.factors)) }
 {
     let factor = only_factor(left.factors.items())?;
-    let (subject, attribute) = attribute_of(&factor)?;
+    let (subject, attribute) = attribute_in_factor(&factor)?;
     let factor = only_factor(right.factors.items())?;
     let number = number_of(&factor)?;
     Some(Asked {

@@ -7,7 +7,7 @@ use crate::buffer::{push, push_whole};
 use fixed_point::Word;
 use std::alloc::AllocError;
 
-/// Writes the line of the clock. After an error what was there still stands in front.
+/// Writes the line of the clock. On error `out` still begins with its old contents.
 #[tactic(auto, using(crate::proofs::BeginLemmas::begins_through, crate::proofs::BeginLemmas::begins_more))]
 pub fn push_clock(clock: u32, out: &mut Vec<u8>) -> Result<(), AllocError>
     ensures ok { OnOk result (out.new.items ≡ out.old.items ++ clock_line clock) }
@@ -18,7 +18,7 @@ pub fn push_clock(clock: u32, out: &mut Vec<u8>) -> Result<(), AllocError>
     push(out, b"\n")
 }
 
-/// Writes a word, a name, and a number behind it.
+/// Writes a word, a name, and a number after it.
 #[tactic(auto, using(crate::proofs::BeginLemmas::begins_through, crate::proofs::BeginLemmas::begins_more))]
 fn push_counted(word: &[u8], name: &Word, number: u64, out: &mut Vec<u8>) -> Result<(), AllocError>
     ensures ok { OnOk result (out.new.items ≡ out.old.items ++ counted word.now name.now number) }
@@ -30,8 +30,8 @@ fn push_counted(word: &[u8], name: &Word, number: u64, out: &mut Vec<u8>) -> Res
     push_whole(out, number)
 }
 
-/// Writes the line of a class that ever had so many names. After an error what was there still stands in
-/// front.
+/// Writes the line of a class that ever had so many names. On error `out` still begins with its
+/// old contents.
 #[tactic(auto, using(crate::proofs::BeginLemmas::begins_through, crate::proofs::BeginLemmas::begins_more))]
 pub fn push_class(
     name: &Word,
@@ -48,7 +48,7 @@ pub fn push_class(
     push(out, b"\n")
 }
 
-/// Writes the line of a region with so many points. After an error what was there still stands in front.
+/// Writes the line of a region with so many points. On error `out` still begins with its old contents.
 #[tactic(auto, using(crate::proofs::BeginLemmas::begins_through, crate::proofs::BeginLemmas::begins_more))]
 pub fn push_region(name: &Word, points: u64, out: &mut Vec<u8>) -> Result<(), AllocError>
     ensures ok { OnOk result (out.new.items ≡ out.old.items ++ region_counts name.now points) }

@@ -10,7 +10,7 @@ use itoa::Buffer;
 use std::alloc::AllocError;
 use tick_set::Span;
 
-/// Writes the line of a row, as `later a : 12..30`. After an error what was there still stands in front.
+/// Writes the line of a row, as `later a : 12..30`. On error `out` still begins with its old contents.
 #[tactic(auto, using(crate::proofs::BeginLemmas::begins_through))]
 pub fn push_row(out: &mut Vec<u8>, now: u32, name: &Word, runs: &[Span]) -> Result<(), AllocError>
     ensures ok { OnOk result (out.new.items ≡ out.old.items

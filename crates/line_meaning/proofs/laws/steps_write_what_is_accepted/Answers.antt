@@ -1,0 +1,11 @@
+use Rattle.line_meaning.proofs.ReachedLemmas.{step_is_reached, writes_are_accepted}
+use Rattle.line_meaning.proofs.laws.steps_write_what_is_accepted.Goals as goal
+
+pub returns-clause-writes : goal.returns-clause-writes
+returns-clause-writes c = writes_are_accepted
+
+pub returns-clause-none : goal.returns-clause-none
+returns-clause-none c = tt
+
+pub returns-clause-step : goal.returns-clause-step
+returns-clause-step c = step_is_reached c.read_commands_are_printable.ensures
