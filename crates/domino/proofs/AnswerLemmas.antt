@@ -17,7 +17,7 @@ use Rattle.session.specs.declared.next.ApplyFault.{ApplyFault}
 use Rattle.session.specs.declared.next.Next.{Next}
 use Rattle.session.specs.declared.next.Next.TheVariants as nexts
 use Rattle.session.specs.Answers.{Answers, Applies, next_by, next_of}
-use Rattle.domino.specs.Machine.{State, ends, is_ending, leaves, machine, state_of}
+use Rattle.domino.specs.Machine.{State, is_ending, is_last, leaves, machine, state_of}
 
 -- whether a line that was answered so ends the run
 abbrev pub is_quit : Next → Bool
@@ -52,7 +52,7 @@ stepped next h new ended texts s line before after is step_is =
     let (told, texts_are, s_is) = told_is h ended texts s is in
     let b : Base = base h told in
     let (fault, next_is, new_is, reply, kept) = step_is told texts_are in
-    let quit : is_quit next ≡ ends b line
+    let quit : is_quit next ≡ is_last b line
     = ap is_quit next_is ∙ ending_by (role_of (spelled line)) ∙ sym (ap (λ r. is_none r && is_ending (role_of (spelled line))) fault) in
     let start : State = record { base = b; ended = ended } in (
       subst (λ (x : State). after ≡ before ++ machine.reply x line) (sym s_is) reply,
@@ -72,7 +72,7 @@ refused r h new ended texts s line before after is answer said =
     let (told, texts_are, s_is) = told_is h ended texts s is in
     let b : Base = base h told in
     let (fault, step_is, new_is) = answer told texts_are in
-    let on : ended ≡ (ended || ends b line)
+    let on : ended ≡ (ended || is_last b line)
     = or_false ended ∙ ap (λ e. ended || e) (sym (ap (λ f. is_none f && is_ending (role_of (spelled line))) fault)) in
     let start : State = record { base = b; ended = ended } in (
       subst (λ (x : State). after ≡ before ++ machine.reply x line) (sym s_is)

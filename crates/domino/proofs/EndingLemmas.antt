@@ -13,7 +13,7 @@ use Rattle.line_loop.specs.Run.{heard}
 use Rattle.line_loop.specs.Stop.{LacksMemory}
 use Rattle.domino.specs.Machine.{State, machine, leaves, state_of}
 use Rattle.domino.specs.Whole.{Plan, Says, Answers, empty, plan_of}
-use Rattle.domino.specs.Ends.{Given, EndsAs, EndsBy, CompletesAs, KeepsLimit, HasCause, QuitsWithin}
+use Rattle.domino.specs.Ends.{Setting, EndsAs, EndsBy, CompletesAs, KeepsLimit, HasCause, QuitsWithin}
 use Rattle.domino.specs.Status.{status_of}
 use Rattle.domino.specs.declared.status.Status.{Status}
 use Rattle.domino.specs.declared.status.Status.TheVariants.{Done, BadWords, ReadFault, WriteFault, ShelfFault, NoMemory, InputLimit}
@@ -43,7 +43,7 @@ lacking_is : (now : State) (later : List (List ℕ)) (told : Option State) → L
 lacking_is now [] told h = h
 lacking_is now (line ∷ lines) told h = elim h [ inl same ↦ same | inr left ↦ left.1 ]
 
-abbrev given : Words → ℕ → List ℕ → List ℕ → Texts → Given
+abbrev given : Words → ℕ → List ℕ → List ℕ → Texts → Setting
 given words limit bytes written texts = record { words = words; limit = limit; bytes = bytes; written = written; texts = texts }
 
 -- the source was read to its end, or a `quit` was
@@ -105,7 +105,7 @@ loop_cause endings.NoMemory old new h = h
 loop_cause endings.InputLimit old new h = h
 
 -- where no count rose it is the whole run, or there was no memory
-by_plan : (plan : Plan) (g : Given) (status : Status) (old new : loop.Counts) (written : Option (List ℕ)) (told : Option Texts) (left : Option (List ℕ)) → HasCause status old new → ¬ Rose old.source new.source → ¬ Rose old.sink new.sink → EndsBy plan g status written told left → CompletesAs g status written told
+by_plan : (plan : Plan) (g : Setting) (status : Status) (old new : loop.Counts) (written : Option (List ℕ)) (told : Option Texts) (left : Option (List ℕ)) → HasCause status old new → ¬ Rose old.source new.source → ¬ Rose old.sink new.sink → EndsBy plan g status written told left → CompletesAs g status written told
 by_plan (Says said status) g Done old new written told left cause source sink h = h
 by_plan (Says said status) g BadWords old new written told left cause source sink h = h
 by_plan (Says said status) g InputLimit old new written told left cause source sink h = absurd h
@@ -121,11 +121,11 @@ by_plan (Answers start) g WriteFault old new written told left cause source sink
 by_plan (Answers start) g ShelfFault old new written told left cause source sink h = h
 by_plan (Answers start) g NoMemory old new written told left cause source sink h = h
 
-pub completes : (g : Given) (status : Status) (old new : loop.Counts) (written : Option (List ℕ)) (told : Option Texts) (left : Option (List ℕ)) → HasCause status old new → ¬ Rose old.source new.source → ¬ Rose old.sink new.sink → EndsAs g status written told left → CompletesAs g status written told
+pub completes : (g : Setting) (status : Status) (old new : loop.Counts) (written : Option (List ℕ)) (told : Option Texts) (left : Option (List ℕ)) → HasCause status old new → ¬ Rose old.source new.source → ¬ Rose old.sink new.sink → EndsAs g status written told left → CompletesAs g status written told
 completes g status old new written told left cause source sink h = by_plan (plan_of g.words g.texts) g status old new written told left cause source sink h
 
 -- the same of the read loop's ending
-pub loop_completes : (g : Given) (ending : Ending) (status : Status) (old new : loop.Counts) (written : Option (List ℕ)) (told : Option Texts) (left : Option (List ℕ)) → status ≡ status_of ending → loop.EndsWithCause ending old new → ¬ Rose old.source new.source → ¬ Rose old.sink new.sink → EndsAs g status written told left → CompletesAs g status written told
+pub loop_completes : (g : Setting) (ending : Ending) (status : Status) (old new : loop.Counts) (written : Option (List ℕ)) (told : Option Texts) (left : Option (List ℕ)) → status ≡ status_of ending → loop.EndsWithCause ending old new → ¬ Rose old.source new.source → ¬ Rose old.sink new.sink → EndsAs g status written told left → CompletesAs g status written told
 loop_completes g ending status old new written told left is cause source sink h =
     completes g status old new written told left (subst (λ (s : Status). HasCause s old new) (sym is) (loop_cause ending old new cause)) source sink h
 

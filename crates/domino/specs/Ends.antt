@@ -41,31 +41,31 @@ may_end Plain NoMemory = true
 may_end Plain InputLimit = true
 
 -- what the run is given: the words, the limit, the bytes of the source, what was written before, and the texts
-pub record Given : Type 0 where
+pub record Setting : Type 0 where
   pub words : Words
   pub limit : ℕ
   pub bytes : List ℕ
   pub written : List ℕ
   pub texts : Texts
 
-abbrev pub whole_of : Given → Whole
+abbrev pub whole_of : Setting → Whole
 whole_of g = whole (plan_of g.words g.texts) g.limit g.bytes
 
 -- a `quit` that nothing refuses ends within the bytes taken
-pub record QuitsWithin (start : State) (g : Given) (left : Option (List ℕ)) : Type 0 where
+pub record QuitsWithin (start : State) (g : Setting) (left : Option (List ℕ)) : Type 0 where
   pub count : ℕ
   pub within : count ≤ g.limit
   pub taken : HasTaken g.bytes count left
   pub quit : quits start (ended_lines (take count g.bytes)) ≡ true
 
 -- the whole run: its status, all its output, and the texts as they were
-pub record IsWhole (g : Given) (status : Status) (written : Option (List ℕ)) (texts : Option Texts) : Type 0 where
+pub record IsWhole (g : Setting) (status : Status) (written : Option (List ℕ)) (texts : Option Texts) : Type 0 where
   pub status_is : status ≡ (whole_of g).status
   pub output : written ≡ Some (g.written ++ (whole_of g).output)
   pub texts_stay : texts ≡ Some g.texts
 
 -- No `quit` ends within the bytes taken. The replies to the lines that end within them were written, and no more.
-pub record IsReadFault (start : State) (g : Given) (written : Option (List ℕ)) (texts : Option Texts) (left : Option (List ℕ)) : Type 0 where
+pub record IsReadFault (start : State) (g : Setting) (written : Option (List ℕ)) (texts : Option Texts) (left : Option (List ℕ)) : Type 0 where
   pub count : ℕ
   pub within : count ≤ g.limit
   pub taken : HasTaken g.bytes count left
@@ -74,14 +74,14 @@ pub record IsReadFault (start : State) (g : Given) (written : Option (List ℕ))
   pub texts_stay : texts ≡ Some g.texts
 
 -- a part of the output was written that lacks at least its last byte
-pub record IsProperPart (g : Given) (written : Option (List ℕ)) (texts : Option Texts) : Type 0 where
+pub record IsProperPart (g : Setting) (written : Option (List ℕ)) (texts : Option Texts) : Type 0 where
   pub count : ℕ
   pub lacks : count < length (whole_of g).output
   pub output : written ≡ Some (g.written ++ take count (whole_of g).output)
   pub texts_stay : texts ≡ Some g.texts
 
 -- a part of the output was written, or all of it
-pub record IsPart (g : Given) (written : Option (List ℕ)) (texts : Option Texts) : Type 0 where
+pub record IsPart (g : Setting) (written : Option (List ℕ)) (texts : Option Texts) : Type 0 where
   pub count : ℕ
   pub output : written ≡ Some (g.written ++ take count (whole_of g).output)
   pub texts_stay : texts ≡ Some g.texts
@@ -94,7 +94,7 @@ KeepsLimit Plain limit bytes status left = StaysWithin limit bytes left
 
 -- By the plan and the status: what was written, and what it says of the input. Where lines are answered, Done says that all
 -- of it was read, or a `quit` was. The shelf isn't asked, so it doesn't fail.
-abbrev pub EndsBy : Plan → Given → Status → Option (List ℕ) → Option Texts → Option (List ℕ) → Type 0
+abbrev pub EndsBy : Plan → Setting → Status → Option (List ℕ) → Option Texts → Option (List ℕ) → Type 0
 EndsBy (Says said status) g Done written texts left = IsWhole g Done written texts
 EndsBy (Says said status) g BadWords written texts left = IsWhole g BadWords written texts
 EndsBy (Says said status) g InputLimit written texts left = ⊥
@@ -110,11 +110,11 @@ EndsBy (Answers start) g WriteFault written texts left = IsProperPart g written 
 EndsBy (Answers start) g ShelfFault written texts left = ⊥
 EndsBy (Answers start) g NoMemory written texts left = IsPart g written texts
 
-abbrev pub EndsAs : Given → Status → Option (List ℕ) → Option Texts → Option (List ℕ) → Type 0
+abbrev pub EndsAs : Setting → Status → Option (List ℕ) → Option Texts → Option (List ℕ) → Type 0
 EndsAs g status written texts left = EndsBy (plan_of g.words g.texts) g status written texts left
 
 -- where no count rose: the whole run, or want of memory
-abbrev pub CompletesAs : Given → Status → Option (List ℕ) → Option Texts → Type 0
+abbrev pub CompletesAs : Setting → Status → Option (List ℕ) → Option Texts → Type 0
 CompletesAs g Done written texts = IsWhole g Done written texts
 CompletesAs g BadWords written texts = IsWhole g BadWords written texts
 CompletesAs g InputLimit written texts = IsWhole g InputLimit written texts

@@ -18,13 +18,13 @@ is_ending Ending = true
 is_ending _ = false
 
 -- the line is a `quit` that nothing refuses
-abbrev pub ends : Base → List ℕ → Bool
-ends b line = is_none (refusal_of b line) && is_ending (role_of (spelled line))
+abbrev pub is_last : Base → List ℕ → Bool
+is_last b line = is_none (refusal_of b line) && is_ending (role_of (spelled line))
 
 -- Each line is one step. After a `quit` no more lines are taken. No command asks the shelf yet.
 abbrev pub machine : Machine State
 machine = record {
-  next = λ s line. record { base = (step s.base line).0; ended = s.ended || ends s.base line };
+  next = λ s line. record { base = (step s.base line).0; ended = s.ended || is_last s.base line };
   reply = λ s line. (step s.base line).1;
   done = λ s. s.ended;
 }

@@ -19,13 +19,13 @@ use steps::Steps;
 
 /// The database: it answers a line at a time, until a `quit`.
 #[derive(Drop)]
-pub struct Database<C: Counts> {
+pub struct Database<C: Counting> {
     session: Session,
     ended: bool,
     counters: C,
 }
 
-impl<C: Counts> Database<C> {
+impl<C: Counting> Database<C> {
     /// An empty database.
     pub fn new(alloc: Global, counters: C) -> Database<C>
         ensures session { result.session ≡ held [] }
@@ -41,7 +41,7 @@ impl<C: Counts> Database<C> {
 
 /// What counts the steps of a session. A `Database` knows its counters by this trait alone, since an `impl`
 /// that gives a constant can't name their lifetimes.
-pub trait Counts: Drop {
+pub trait Counting: Drop {
     /// The looks at timelines that were counted.
     ghost reads: { Self → ℕ };
 
@@ -67,7 +67,7 @@ pub struct Counters<'a, 'b, L: Ledger, M: Ledger> {
     pub probes: &'b mut Steps<M>,
 }
 
-impl<L: Ledger, M: Ledger> Counts for Counters<'_, '_, L, M> {
+impl<L: Ledger, M: Ledger> Counting for Counters<'_, '_, L, M> {
     ghost reads = { λ c. c.reads.now };
 
     fn apply<F: Shelf>(
@@ -81,7 +81,7 @@ impl<L: Ledger, M: Ledger> Counts for Counters<'_, '_, L, M> {
     }
 }
 
-impl<F: Shelf, C: Counts> Handler<F> for Database<C> {
+impl<F: Shelf, C: Counting> Handler<F> for Database<C> {
     ghost use Rattle.std.specs.Prelude.{Some};
     ghost use Rattle.domino.specs.Machine.{State, machine, leaves, state_of};
 

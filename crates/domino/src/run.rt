@@ -1,5 +1,5 @@
 //! The whole run.
-ghost use Rattle.std.specs.Prelude.{◌≡◌, ℕ, true, List, Some, map, string_bytes};
+ghost use Rattle.std.specs.Prelude.{◌≡◌, ◌^◌, ℕ, true, List, Some, map, string_bytes};
 ghost use Rattle.outside.specs.Faults.{Rose};
 ghost use Rattle.outside.specs.Shelf.{Texts};
 ghost use Rattle.domino.specs.Whole.{words_of};
@@ -18,6 +18,11 @@ use steps::Steps;
 
 /// The most bytes that the program takes.
 pub const INPUT_LIMIT: u64 = 1_073_741_824;
+
+/// The limit, in numbers.
+pub fn limits_in_numbers()
+    ensures { INPUT_LIMIT ≡ 2 ^ 30 }
+{}
 
 /// The program over an outside: answers the lines of the source, and writes the replies to the sink, under
 /// a limit of [`INPUT_LIMIT`] bytes.
@@ -62,7 +67,7 @@ pub fn run<S: Source, K: Sink, F: Shelf, L: Ledger, M: Ledger>(
 /// The words are those of the program, its name first; no other word is known yet. With other words it
 /// writes `bad words` and reads nothing. Lines end with a line feed, and the last line may lack it. Each
 /// line is answered, and its reply written, before the next read, and after a `quit` nothing is read. A read
-/// asks for at most 4,096 bytes, and for none past the limit but the one that shows that there is another.
+/// asks for at most [`line_loop::PIECE`] bytes, and for none past the limit but the one that shows that there is another.
 pub fn run_limited<S: Source, K: Sink, F: Shelf, L: Ledger, M: Ledger>(
     alloc: Global,
     limit: u64,
@@ -91,7 +96,8 @@ pub fn run_limited<S: Source, K: Sink, F: Shelf, L: Ledger, M: Ledger>(
     run_within(alloc, limit, words, source, sink, shelf, reads, probes)
 }
 
-/// The same, its promises one by one.
+/// The same, its promises one by one: so each is a goal of its own in each arm, and seven of the ten are found
+/// by the checker. The record would be one goal an arm, to be built by hand.
 fn run_within<S: Source, K: Sink, F: Shelf, L: Ledger, M: Ledger>(
     alloc: Global,
     limit: u64,

@@ -1,6 +1,7 @@
 ghost use Rattle.std.specs.Prelude.{◌≡◌, ◌<◌};
 
 use super::*;
+use command_text::LINE_LIMIT;
 use outside::{MemSink, MemSource, SureShelf};
 use run::run_limited;
 use std::alloc::AllocError;
@@ -157,8 +158,8 @@ fn pieces_do_not_matter(rt: HostRuntime) -> Result<(), Fail> {
 
 #[test]
 fn lines_have_at_most_4096_bytes(rt: HostRuntime) -> Result<(), Fail> {
-    let comment = vec![in rt.alloc(); b'#'; 4097]?;
-    assert_ends(&rt, &rt, &plain_trial(&comment[..4096]), 0, b"")?;
+    let comment = vec![in rt.alloc(); b'#'; LINE_LIMIT + 1]?;
+    assert_ends(&rt, &rt, &plain_trial(&comment[..LINE_LIMIT]), 0, b"")?;
     assert_ends(
         &rt,
         &rt,

@@ -39,7 +39,7 @@ module _ (begun piece rest : List ℕ) (at : ℕ) (within : at ≤ length piece)
         ap (open_from begun) taken ∙ open_from-append begun (take at piece) (take (len + 1) rest)
         ∙ subst (λ n. open_from (open_from begun (take at piece)) (take (n + 1) rest) ≡ []) (sym h.0) (open_from-first (open_from begun (take at piece)) rest first)
 
-    -- the lines of the piece: those before, the next one, and those behind
+    -- the lines of the piece: those before, the next one, and those after
     pub lines-split : ended_from begun piece ≡ (ended_from begun (take at piece) ++ strip_carriage_return (open_from begun (take at piece) ++ take len rest) ∷ [])
         ++ ended_from (open_from begun (take (at + (len + 1)) piece)) (drop (at + (len + 1)) piece)
     lines-split = ap (ended_from begun) (sym (take-append-drop (at + (len + 1)) piece))

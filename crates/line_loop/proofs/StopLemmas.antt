@@ -17,7 +17,7 @@ module _ {T : Type 0} (m : Machine T) where
   take-replies : (s : T) (lines more : List (List ℕ)) (count : ℕ) → count ≤ length (replies m s lines) → take count (replies m s (lines ++ more)) ≡ take count (replies m s lines)
   take-replies s lines more count le = ap (take count) (replies-append m s lines more) ∙ take-append-le count (replies m s lines) (replies m (after m s lines) more) le
 
-  -- the replies to the lines before, and the front of the replies to the lines behind them
+  -- the replies to the lines before, and the front of the replies to the lines after them
   before-replies : (start : Point T) (before lines : List (List ℕ)) (count : ℕ) →
       (reach m start before).written ++ take count (replies m (after m start.state before) lines)
       ≡ start.written ++ take (length (replies m start.state before) + count) (replies m start.state (before ++ lines))

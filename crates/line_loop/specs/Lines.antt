@@ -13,7 +13,7 @@ ended_from begun [] = []
 ended_from begun (byte ∷ bytes) =
     if byte == line_feed then strip_carriage_return begun ∷ ended_from [] bytes else ended_from (begun ++ byte ∷ []) bytes
 
--- what has come of the line that is open behind these bytes
+-- what has come of the line that is open after these bytes
 abbrev pub open_from : List ℕ → List ℕ → List ℕ
 open_from begun [] = begun
 open_from begun (byte ∷ bytes) =
@@ -23,7 +23,7 @@ open_from begun (byte ∷ bytes) =
 abbrev pub ended_lines : List ℕ → List (List ℕ)
 ended_lines bytes = ended_from [] bytes
 
--- the bytes behind the last line feed
+-- the bytes after the last line feed
 abbrev pub open_line : List ℕ → List ℕ
 open_line bytes = open_from [] bytes
 

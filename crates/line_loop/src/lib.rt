@@ -17,9 +17,9 @@ mod stop;
 
 pub use ending::Ending;
 pub use handler::Handler;
-pub use laws::lines_are_those_of_a_text;
-pub use replies::write_all;
-pub use run::run_lines;
+pub use laws::{limits_in_numbers, lines_are_those_of_a_text};
+pub use replies::{GATHERED, write_all};
+pub use run::{PIECE, run_lines};
 
 #[cfg(test)]
 mod tests;

@@ -19,7 +19,7 @@ fn line_end(bytes: &[u8]) -> Option<usize>
     bytes.iter().position(|byte| *byte == b'\n')
 }
 
-/// Answers a line, unless the machine is done. The reply is gathered behind the earlier ones; these are written before,
+/// Answers a line, unless the machine is done. The reply is gathered after the earlier ones; these are written before,
 /// where there are many of them or the line may ask the context.
 pub fn answer_line<C, H: Handler<C>, K: Sink>(
     handler: &mut H,
@@ -88,7 +88,7 @@ fn answer_ended<C, H: Handler<C>, K: Sink>(
     Ok(())
 }
 
-/// Takes a piece of the input: answers the lines that end in it, writes the replies, and keeps what begins behind them.
+/// Takes a piece of the input: answers the lines that end in it, writes the replies, and keeps what begins after them.
 pub fn take_piece<C, H: Handler<C>, K: Sink>(
     handler: &mut H,
     context: &mut C,

@@ -14,15 +14,15 @@ use outside::{Failed, Sink, Source};
 use std::alloc::Global;
 
 /// The most bytes that a read asks for.
-const PIECE: usize = 4096;
+pub const PIECE: usize = 4096;
 
 /// Answers the lines of a source and writes the replies to a sink, until the source or the machine is done, a call of
 /// the outside fails, there is no memory, or the source has more than `limit` bytes.
 ///
 /// Lines end with a line feed; one carriage return directly before it is dropped. The last line may lack its line feed.
 /// Each line that has ended is answered before the next read. The replies are gathered and written together: before the
-/// next read, before a line that may ask the context, where they have more than 65,536 bytes, and at the end. A read asks
-/// for at most 4,096 bytes, and for none past the limit but the one that shows that there is another.
+/// next read, before a line that may ask the context, where they have more than [`GATHERED`] bytes, and at the end. A read asks
+/// for at most [`PIECE`] bytes, and for none past the limit but the one that shows that there is another.
 pub fn run_lines<C, H: Handler<C>, S: Source, K: Sink>(
     alloc: Global,
     limit: u64,
@@ -47,7 +47,7 @@ pub fn run_lines<C, H: Handler<C>, S: Source, K: Sink>(
     let Ok(mut line) = LineBuffer::new(alloc, H::LONGEST) else {
         return Ending::NoMemory;
     };
-    // With room for a short reply behind those that wait, so that a refusal takes no memory.
+    // With room for a short reply after those that wait, so that a refusal takes no memory.
     let Ok(mut replies) = Vec::with_capacity(alloc, GATHERED + PIECE) else {
         return Ending::NoMemory;
     };
@@ -86,7 +86,7 @@ pub fn run_lines<C, H: Handler<C>, S: Source, K: Sink>(
 #[inline]
 fn room(limit: u64, taken: u64) -> usize
     requires { taken ≤ limit }
-    ensures { result ≡ max 1 (min 4096 (limit - taken)) }
+    ensures { result ≡ max 1 (min PIECE (limit - taken)) }
 {
     (limit - taken).clamp(1, PIECE as u64) as usize
 }

@@ -91,7 +91,7 @@ const NONE: [&[u64]; 3] = [&[], &[], &[]];
 fn pieces_of_any_size_give_the_same_output(rt: HostRuntime) -> Result<(), Fail> {
     let alloc = rt.alloc();
     // A carriage return that ends a line is dropped, one that doesn't stays. A line of 8 bytes is no long one, also
-    // with the carriage return behind it. The last line has no line feed.
+    // with the carriage return after it. The last line has no line feed.
     let input =
         b"one\r\n\n12345678\r\n123456789\ntwo\r\r\nsix\rty\n\r\nthree and thirty and three\nlast\r";
     let output = b"one\n\n12345678\nlong\ntwo\r\nsix\rty\n\nlong\nlast\r\n";

@@ -17,7 +17,7 @@ use Rattle.line_meaning.proofs.CallerLemmas.{refusal_first, refusal_read, refuse
 use Rattle.session.specs.declared.next.ApplyFault.TheVariants as faults
 use Rattle.session.specs.declared.next.Next.{Next}
 use Rattle.session.specs.declared.next.Next.TheVariants as nexts
-use Rattle.session.specs.Answers.{Answers, Applies, next_by, next_of, told}
+use Rattle.session.specs.Answers.{Answers, Applies, next_by, next_of, next_or_fault}
 use Rattle.session.specs.Carried.{Carried}
 
 -- an accepted command is not told as a refused one
@@ -43,7 +43,7 @@ none_early (Some r) late h = absurd (cc h)
 
 module _ (shelf : Option Texts) (line : List ℕ) (c : CommandTree) (old new : Held) (before after : List ℕ) (read : IsRead LINE_LIMIT line c) where
   pub carried_applies : (r : Result Next CommandFault) → Carried old c new before after r →
-      Applies shelf line old new before after (told r)
+      Applies shelf line old new before after (next_or_fault r)
   carried_applies (Ok next) h = record {
     answers = λ texts suffices.
         let b : Base = base old texts in
@@ -68,7 +68,7 @@ module _ (shelf : Option Texts) (line : List ℕ) (c : CommandTree) (old new : H
   }
   carried_applies (Err stops.NoMemory) h = record {
     answers = λ texts suffices. tt;
-    fails = (refl, none_early (early_refusal LINE_LIMIT line) (late_refusal (command_in line)) read.taken, h.0, h.1);
+    fails = (refl, none_early (early_refusal LINE_LIMIT line) (late_refusal (command_in line)) read.taken, h.1, h.2);
   }
 
 -- a line that isn't read

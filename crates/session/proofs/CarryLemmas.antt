@@ -9,6 +9,7 @@ use Rattle.command_text.specs.Journal.{Accepted, bytes_of}
 use Rattle.exact.specs.First.{first_that_holds}
 use Rattle.command_text.specs.Line.{or_else}
 use Rattle.command_text.specs.Text.{text_of}
+use Rattle.command_text.specs.Tree
 use Rattle.command_text.specs.Tree.{CommandTree}
 use Rattle.line_meaning.specs.declared.role.Role.{Role}
 use Rattle.line_meaning.specs.declared.role.Role.TheVariants.{Blank, Keeping, Telling, Filing, Ending}
@@ -19,6 +20,7 @@ use Rattle.line_meaning.specs.Reply.{ok_line}
 use Rattle.line_meaning.specs.Role.{is_keeping, is_kept, role_of}
 use Rattle.line_meaning.specs.Step.{Held, entries_of, fault_by, fault_of, held, held_after, reply_by}
 use Rattle.database.specs.declared.database.Database.{Database}
+use Rattle.database.specs.Attempt as attempts
 use Rattle.database.specs.Attempt.{fault_told, Stops}
 use Rattle.database.specs.Keeping.{clock_of, Keeps}
 use Rattle.database.specs.Telling.{Tells}
@@ -26,7 +28,7 @@ use Rattle.database.proofs.CallerLemmas.{fault_is_told, lines_are_told}
 use Rattle.session.specs.declared.next.Next.{Next}
 use Rattle.session.specs.declared.next.Next.TheVariants as nexts
 use Rattle.session.specs.Answers.{next_by}
-use Rattle.session.specs.Carried.{Carried}
+use Rattle.session.specs.Carried.{Carried, LacksMemory, is_class}
 
 -- a command that isn't built yet
 pub gap_fault : (h : Held) (c : CommandTree) → is_gap c ≡ true → fault_of h c ≡ Some refusals.BadSyntax
@@ -57,6 +59,57 @@ kept_role Blank h = absurd (cc h)
 kept_role Telling h = absurd (cc h)
 kept_role Filing h = absurd (cc h)
 kept_role Ending h = absurd (cc h)
+
+-- what want of memory says of an attempt, by the journal
+attempt_lacks : (journal : List Accepted) (d : Database) (c : CommandTree) → Keeps journal d → attempts.LacksMemory d c → is_class c ≡ false →
+    fault_among (world journal) (clock journal) c ≡ None
+attempt_lacks journal d (Tree.Class name capacity point attributes) k h other = absurd (cc other)
+attempt_lacks journal d (Tree.Tick ticks) k h other = absurd h
+attempt_lacks journal d Tree.Nothing k h other = refl
+attempt_lacks journal d (Tree.Region name points) k h other = sym (fault_is_told journal d (Tree.Region name points) k) ∙ h
+attempt_lacks journal d (Tree.Insert class name place sets) k h other = sym (fault_is_told journal d (Tree.Insert class name place sets) k) ∙ h
+attempt_lacks journal d (Tree.Update name place sets) k h other = sym (fault_is_told journal d (Tree.Update name place sets) k) ∙ h
+attempt_lacks journal d (Tree.Remove name) k h other = sym (fault_is_told journal d (Tree.Remove name) k) ∙ h
+attempt_lacks journal d (Tree.Ask span q) k h other = sym (fault_is_told journal d (Tree.Ask span q) k) ∙ h
+attempt_lacks journal d Tree.Listing k h other = refl
+attempt_lacks journal d (Tree.Watch name span q) k h other = refl
+attempt_lacks journal d (Tree.Keep name span q) k h other = refl
+attempt_lacks journal d (Tree.Show name) k h other = refl
+attempt_lacks journal d (Tree.Drop name) k h other = refl
+attempt_lacks journal d (Tree.Save file) k h other = refl
+attempt_lacks journal d (Tree.Import class file) k h other = refl
+attempt_lacks journal d (Tree.Export class file) k h other = refl
+attempt_lacks journal d (Tree.Nearest span count object class) k h other = refl
+attempt_lacks journal d (Tree.Must error span q) k h other = refl
+attempt_lacks journal d (Tree.May error span q) k h other = refl
+attempt_lacks journal d (Tree.Index class attribute width) k h other = refl
+attempt_lacks journal d (Tree.Range span class attribute least greatest) k h other = refl
+attempt_lacks journal d Tree.Quit k h other = refl
+
+-- only a `quit` ends the run, and nothing refuses it
+quit_lacks : (h : Held) (c : CommandTree) → role_of c ≡ Ending → LacksMemory h c
+quit_lacks h Tree.Quit role = record { built = refl; accepted = λ other. refl }
+quit_lacks h Tree.Nothing role = absurd (cc role)
+quit_lacks h (Tree.Class name capacity point attributes) role = absurd (cc role)
+quit_lacks h (Tree.Region name points) role = absurd (cc role)
+quit_lacks h (Tree.Insert class name place sets) role = absurd (cc role)
+quit_lacks h (Tree.Update name place sets) role = absurd (cc role)
+quit_lacks h (Tree.Remove name) role = absurd (cc role)
+quit_lacks h (Tree.Tick ticks) role = absurd (cc role)
+quit_lacks h (Tree.Ask span q) role = absurd (cc role)
+quit_lacks h Tree.Listing role = absurd (cc role)
+quit_lacks h (Tree.Watch name span q) role = absurd (cc role)
+quit_lacks h (Tree.Keep name span q) role = absurd (cc role)
+quit_lacks h (Tree.Show name) role = absurd (cc role)
+quit_lacks h (Tree.Drop name) role = absurd (cc role)
+quit_lacks h (Tree.Save file) role = absurd (cc role)
+quit_lacks h (Tree.Import class file) role = absurd (cc role)
+quit_lacks h (Tree.Export class file) role = absurd (cc role)
+quit_lacks h (Tree.Nearest span count object class) role = absurd (cc role)
+quit_lacks h (Tree.Must error span q) role = absurd (cc role)
+quit_lacks h (Tree.May error span q) role = absurd (cc role)
+quit_lacks h (Tree.Index class attribute width) role = absurd (cc role)
+quit_lacks h (Tree.Range span class attribute least greatest) role = absurd (cc role)
 
 -- a command that the journal keeps
 module _ (journal : List Accepted) (d : Database) (c : CommandTree) (k : Keeps journal d) (gap : is_gap c ≡ false) (kept : is_kept c ≡ true) where
@@ -90,7 +143,13 @@ module _ (journal : List Accepted) (d : Database) (c : CommandTree) (k : Keeps j
   pub stopped_carried : (new : Database) (before : List ℕ) (fault : CommandFault) → Stops c d new fault →
       Carried (held journal) c (held journal) before before (Err fault)
   stopped_carried new before (stops.Refused r) h = (kept_fault (Some r) h.0, refl, refl)
-  stopped_carried new before stops.NoMemory h = (refl, refl)
+  stopped_carried new before stops.NoMemory h =
+      (record { built = gap; accepted = attempt_lacks journal d c k h.0 }, refl, refl)
+
+  pub unsettled_carried : (new : List Accepted) (before after : List ℕ) → fault_told d c ≡ None → new ≡ journal → after ≡ before →
+      Carried (held journal) c (held new) before after (Err stops.NoMemory)
+  unsettled_carried new before after accepted same said =
+      (record { built = gap; accepted = λ other. sym (fault_is_told journal d c k) ∙ accepted }, ap held same, said)
 
 -- a command that changes nothing
 module _ (journal : List Accepted) (d : Database) (c : CommandTree) (k : Keeps journal d) (gap : is_gap c ≡ false) (role : role_of c ≡ Telling) where
@@ -115,7 +174,8 @@ module _ (journal : List Accepted) (d : Database) (c : CommandTree) (k : Keeps j
   pub told_stopped : (before after : List ℕ) (fault : CommandFault) → Tells d c before after (Err fault) → after ≡ before →
       Carried (held journal) c (held journal) before after (Err fault)
   told_stopped before after (stops.Refused r) h same = (told_fault (Some r) h, refl, same)
-  told_stopped before after stops.NoMemory h same = (refl, same)
+  told_stopped before after stops.NoMemory h same =
+      (record { built = gap; accepted = λ other. sym (fault_is_told journal d c k) ∙ h }, refl, same)
 
 -- a command that is neither judged nor kept
 module _ (journal : List Accepted) (c : CommandTree) (gap : is_gap c ≡ false) where
@@ -132,6 +192,10 @@ module _ (journal : List Accepted) (c : CommandTree) (gap : is_gap c ≡ false) 
     unjudged Ending role refl,
     said ∙ ap (λ r. before ++ reply_by r (held journal) c) (sym role),
   )
+
+  pub quit_stopped : (before after : List ℕ) → role_of c ≡ Ending → after ≡ before →
+      Carried (held journal) c (held journal) before after (Err stops.NoMemory)
+  quit_stopped before after role same = (quit_lacks (held journal) c role, refl, same)
 
   pub blank_carried : (before : List ℕ) → role_of c ≡ Blank →
       Carried (held journal) c (held journal) before before (Ok nexts.Silent)

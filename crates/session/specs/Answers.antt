@@ -57,10 +57,10 @@ pub record Applies (told : Option Texts) (line : List ℕ) (old new : Held) (bef
       × (new ≡ old) × (after ≡ before))
 
 -- what whoever applied a line is told of what was done with its command
-abbrev pub told : Result Next CommandFault → Result Next ApplyFault
-told (Ok next) = Ok next
-told (Err (stops.Refused r)) = Ok (nexts.Refused r)
-told (Err stops.NoMemory) = Err NoMemory
+abbrev pub next_or_fault : Result Next CommandFault → Result Next ApplyFault
+next_or_fault (Ok next) = Ok next
+next_or_fault (Err (stops.Refused r)) = Ok (nexts.Refused r)
+next_or_fault (Err stops.NoMemory) = Err NoMemory
 
 -- a refused line and one without a reply look at no object
 abbrev pub IsUnread : Next → ℕ → ℕ → Type 0

@@ -1,4 +1,4 @@
--- What it takes to make a command final: its entry in the journal and its reply, where the journal isn't full.
+-- Committing a command: its entry in the journal and its reply, where the journal isn't full.
 use Rattle.std.specs.Prelude.{◌≡◌, ℕ, true, false, List, [], ◌∷◌, ◌++◌, length, Result, Ok, Err}
 use Rattle.command_text.specs.declared.fault.CommandFault.{CommandFault}
 use Rattle.command_text.specs.declared.fault.CommandFault.TheVariants as faults

@@ -66,6 +66,7 @@ fn keep(
     let change = database.attempt(alloc, command)?;
     match settle(journal, now, line, command, out) {
         Ok(()) => {
+            // The command is entered, so nothing takes its change back any more.
             drop(change);
             Ok(Next::Accepted)
         }

@@ -4,7 +4,7 @@ ghost use Rattle.command_text.specs.Journal.{spelled};
 ghost use Rattle.line_meaning.specs.Answering.{looks};
 ghost use Rattle.line_meaning.specs.Journal.{clock, world};
 ghost use Rattle.line_meaning.specs.Step.{held};
-ghost use Rattle.session.specs.Answers.{Applies, IsUnread, told};
+ghost use Rattle.session.specs.Answers.{Applies, IsUnread, next_or_fault};
 
 use crate::answer::answer;
 use crate::next::{ApplyFault, Next};
@@ -103,6 +103,8 @@ impl Session {
             Err(CommandFault::Refused(refusal)) => return Ok(Next::Refused(refusal)),
             Err(CommandFault::NoMemory) => return Err(ApplyFault::NoMemory),
         };
+        // Calls without a body, whose contracts say what `answer` requires: that the command which was read is
+        // printable, that its canonical line is short enough for the reader, and that this line is read back as it.
         read_commands_are_printable();
         canonical_lines_are_short();
         canonical_lines_are_read_back();
@@ -116,13 +118,13 @@ impl Session {
             out,
         );
         drop(command);
-        told(answered)
+        next_or_fault(answered)
     }
 }
 
-/// What whoever applied a line is told.
-fn told(answered: Result<Next, CommandFault>) -> Result<Next, ApplyFault>
-    ensures { result ≡ told answered }
+/// Maps the internal result to the public one.
+fn next_or_fault(answered: Result<Next, CommandFault>) -> Result<Next, ApplyFault>
+    ensures { result ≡ next_or_fault answered }
 {
     match answered {
         Ok(next) => Ok(next),

@@ -15,6 +15,12 @@ use steps::Steps;
 /// The replies of lines to an empty database, one after another. A refused line is answered by its
 /// refusal, and `quit` by `bye` besides.
 fn replies(rt: &HostRuntime, lines: &[&[u8]]) -> Result<Vec<u8>, Fail> {
+    let (replies, _, _) = after(rt, lines)?;
+    Ok(replies)
+}
+
+/// The same, with the clock and the number of entries of the journal after the lines.
+fn after(rt: &HostRuntime, lines: &[&[u8]]) -> Result<(Vec<u8>, u32, usize), Fail> {
     with_reads::<Brand>(rt, lines, Blank::new(1), Blank::new(1))
 }
 
@@ -23,7 +29,7 @@ fn with_reads<L: Ledger>(
     lines: &[&[u8]],
     reads: Blank,
     probes: Blank,
-) -> Result<Vec<u8>, Fail>
+) -> Result<(Vec<u8>, u32, usize), Fail>
     requires name { reads.name ≡ L.name }
     requires parts { reads.parts ≡ L.parts }
     requires some { 0 < reads.parts }
@@ -38,7 +44,7 @@ fn with_probes<L: Ledger, M: Ledger>(
     lines: &[&[u8]],
     reads: &mut Steps<L>,
     probes: Blank,
-) -> Result<Vec<u8>, Fail>
+) -> Result<(Vec<u8>, u32, usize), Fail>
     requires name { probes.name ≡ M.name }
     requires parts { probes.parts ≡ M.parts }
     requires some { 0 < probes.parts }
@@ -50,7 +56,7 @@ fn with_probes<L: Ledger, M: Ledger>(
     for line in lines {
         answer(alloc, &mut session, line, reads, &mut probes, &mut out)?;
     }
-    Ok(out)
+    Ok((out, session.now(), session.journal().len()))
 }
 
 fn answer<L: Ledger, M: Ledger>(
@@ -364,4 +370,15 @@ fn a_journal_is_full_of_entries_or_of_bytes(rt: HostRuntime) {
     assert!(rt; !passes(2, 10, 4, 3, 15));
     assert!(rt; passes(3, 10, 4, 3, 15));
     assert!(rt; passes(2, 11, 4, 3, 15));
+}
+
+#[test]
+fn the_clock_and_the_journal_are_told(rt: HostRuntime) -> Result<(), Fail> {
+    let (_, now, entries) = after(
+        &rt,
+        &[b"class tank 9 (fuel dyn)", b"tick 3", b"tick 0", b"list"],
+    )?;
+    assert_eq!(rt; now, 3);
+    assert_eq!(rt; entries, 2);
+    Ok(())
 }

@@ -45,6 +45,6 @@ returns-clause-applies g c =
     let before = c.args.out.now.items in
     let after = c.answer-answered.new.out.items in
     subst (λ (x : Result Next ApplyFault). Applies shelf c.args.line.now c.args.self.now new before after x)
-    (sym c.told.ensures)
+    (sym c.next_or_fault.ensures)
     (carried_applies shelf c.args.line.now command c.args.self.now new before after c.in-Ok.ensures.ok c.answer-answered.result
     (subst (λ (old : Held). Carried old command new before after c.answer-answered.result) c.self.view_is c.answer-answered.ensures.carried))
