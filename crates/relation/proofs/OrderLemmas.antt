@@ -1,4 +1,4 @@
--- The order of a relation's rows: ascending lists with the same keys are one.
+-- For this crate and for the crates above: the order of a relation's rows. Ascending lists with the same keys are one.
 use Rattle.std.proofs.Common.{◌≡◌, ℕ, ◌+◌, ◌<◌, Bool, true, false, ◌&&◌, ◌||◌, ◌==◌, nat_lt, List, [], ◌∷◌, ◌++◌, if◌then◌else◌, map, refl, sym, ap, ◌∙◌, inl, inr, arith, get_or, suc, length}
 use Rattle.std.specs.List.{filter, flat_map, list_all, list_any}
 use Rattle.std.specs.List.Sorted.{IsStrictlyIncreasing}

@@ -98,6 +98,14 @@ impl<'d, S: Temporal> Relation<'d, S> {
         self.window
     }
 
+    /// The rows, in ascending order of the bindings. None is copied.
+    #[inline]
+    pub fn into_rows(self) -> Vec<Row<S>>
+        ensures { result.items ≡ self.entry.rows }
+    {
+        self.rows
+    }
+
     // The rows, in ascending order of the keys.
     #[inline]
     pub(crate) fn rows(&self) -> &[Row<S>]
