@@ -1,0 +1,12 @@
+pub mod CircleLemmas
+pub mod CompareLemmas
+pub mod CourseLemmas
+pub mod GatherLemmas
+pub mod PartLemmas
+pub mod PlaceLemmas
+pub mod ProbeLemmas
+pub mod RunLemmas
+pub mod SizeLemmas
+pub mod TickLemmas
+pub mod TrendLemmas
+pub mod ValueRunLemmas

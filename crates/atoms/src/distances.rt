@@ -1,0 +1,51 @@
+//! The ticks of a part at which the distance of two objects compares with a number.
+ghost use Rattle.std.specs.Prelude.{◌≡◌, ◌+◌, ◌-◌, ◌≤◌, ◌&&◌, None, IsTrue, nat_le, if◌then◌else◌};
+ghost use Rattle.distance_crossing.specs.declared.near.TheConstants.{SHORT_WINDOW};
+ghost use Rattle.fixed_point.specs.declared.number.TheConstants.{READ_LIMIT};
+ghost use Rattle.formula.specs.Resolved.{is_within};
+ghost use Rattle.meaning.specs.Atom.{distance_holds, position_in};
+ghost use Rattle.tick_set.specs.Ticks.{within};
+ghost use Rattle.tick_set.specs.declared.spans.TheConstants.{SPAN_LIMIT};
+ghost use Rattle.atoms.specs.Found.{AreFound};
+ghost use Rattle.atoms.specs.Parts.{AreSteady, epoch_of, shown};
+
+use crate::found::nowhere;
+use crate::parts::Part;
+use crate::places::line_of;
+use case_table::Op;
+use distance_crossing::{Triple, compare};
+use fixed_point::Fix;
+use linear_crossing::Quad;
+use std::sync::ledger::Ledger;
+use steps::Steps;
+
+/// The ticks of the part at which the objects of two variables have places whose distance compares so with a
+/// number of thousandths.
+pub fn at_distance<M: Ledger>(
+    from: u8,
+    to: u8,
+    op: Op,
+    c: Fix,
+    part: &Part,
+    probes: &mut Steps<M>,
+) -> Triple
+    requires sized { IsTrue (is_within READ_LIMIT c) }
+    requires steady { AreSteady part.now }
+    requires length { part.now.span.hi - part.now.span.lo ≤ SPAN_LIMIT }
+    ensures runs { AreFound (λ t. within part.now.span.lo part.now.span.hi t
+        && distance_holds op c (position_in t (shown part.now from t)) (position_in t (shown part.now to t))) result }
+    ensures cost { probes.new ≤ probes.old + (if nat_le (part.now.span.hi - part.now.span.lo) SHORT_WINDOW then 47 else 63) }
+    ensures from_absent { epoch_of part.now from ≡ None → probes.new ≡ probes.old }
+    ensures to_absent { epoch_of part.now to ≡ None → probes.new ≡ probes.old }
+{
+    match line_of(part, from) {
+        Some(first) => match line_of(part, to) {
+            Some(second) => {
+                let between = Quad::between(&first, &second);
+                compare(&between, op, c, part.span.window(), probes)
+            }
+            None => nowhere(),
+        },
+        None => nowhere(),
+    }
+}

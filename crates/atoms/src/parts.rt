@@ -1,0 +1,126 @@
+//! The timelines of the variables of an atom or a term, and the common parts of these timelines.
+ghost use Rattle.std.specs.Prelude.{◌≡◌, ◌+◌, ◌<◌, ◌≤◌, ℕ, All, IfSome, None, length, map, slice_index, slice_index_or, take, unwrap_or};
+ghost use Rattle.std.specs.Option.{option_copied};
+ghost use Rattle.tick_set.specs.declared.spans.TheConstants.{LAST_TICK};
+ghost use Rattle.formula_shape.specs.declared.limits.TheConstants.{OBJECT_LIMIT};
+ghost use Rattle.motion.specs.Timeline.{state_at};
+ghost use Rattle.object_store.specs.Contents.{history_of};
+ghost use Rattle.courses.specs.Parts.{epochs_of_each, pieces_of_all};
+ghost use Rattle.meaning.specs.Trace.{trace_of};
+ghost use Rattle.meaning.specs.Value.{cell_in};
+ghost use Rattle.atoms.specs.Parts.{AreAscending, AreBegun, AreSteady, HasObject, IsSteadyCell, beside, epoch_of, epochs_of, held, shown, trace_by};
+
+use courses::{MOST_TIMELINES, common_from};
+use formula::{Binding, OBJECT_LIMIT};
+use motion::{Cell, Epoch, Timeline};
+use object_store::Store;
+use std::sync::ledger::Ledger;
+use steps::Steps;
+use tick_set::{LAST_TICK, Span};
+
+/// Ticks in which the object of each of some variables has one epoch in force, or none yet, and each dynamic
+/// attribute moves by one slope.
+#[derive(Clone, Copy, Debug)]
+pub struct Part<'a> {
+    pub span: Span,
+    /// The variables, and their epochs in the same order.
+    pub variables: &'a [u8],
+    pub epochs: [Option<&'a Epoch>; MOST_TIMELINES],
+}
+
+impl<'a> Part<'a> {
+    /// The epoch in force of the object of a variable. None too where the variable isn't one of those here.
+    pub fn epoch(&self, v: u8) -> Option<&'a Epoch>
+        ensures { option_copied result ≡ epoch_of self.now v }
+    {
+        beside(self.variables, &self.epochs, v)
+    }
+
+    /// The cell of an attribute of the object of a variable, counted from 0. None where the object is absent
+    /// or has no such attribute.
+    pub fn cell(&self, v: u8, a: u8) -> Option<&'a Cell>
+        requires { AreSteady self.now }
+        ensures value { option_copied result ≡ cell_in (held self.now v) a }
+        ensures steady { IfSome result (λ cell. IsSteadyCell cell.now self.now.span.lo self.now.span.hi) }
+    {
+        self.epoch(v)?.cell(a as usize)
+    }
+}
+
+// What stands at the place of the variable.
+fn beside<'a>(variables: &[u8], epochs: &[Option<&'a Epoch>], v: u8) -> Option<&'a Epoch>
+    ensures { result ≡ unwrap_or (beside variables.now epochs.now v) None }
+{
+    for k in 0..variables.len() {
+        if variables[k] == v {
+            return item_at(epochs, k);
+        }
+    }
+    None
+}
+
+fn item_at<'a>(epochs: &[Option<&'a Epoch>], place: usize) -> Option<&'a Epoch>
+    ensures { result ≡ slice_index_or epochs.now place None }
+{
+    *epochs.get(place)?
+}
+
+/// The timelines of the objects of some variables, each looked up once. Past the variables the array has
+/// the timeline `none`.
+pub fn timelines_of<'a, L: Ledger>(
+    none: &'a Timeline,
+    variables: &[u8],
+    b: &Binding,
+    store: &'a Store,
+    reads: &mut Steps<L>,
+) -> [&'a Timeline; MOST_TIMELINES]
+    requires few { length variables.now ≤ MOST_TIMELINES }
+    requires there { All (HasObject b.now store.now) variables.now }
+    ensures epochs { take (length variables.now) (epochs_of_each result)
+        ≡ map (λ v. epochs_of store.now (slice_index b.now v)) variables.now }
+    ensures states { All (λ v. (t : ℕ) → trace_of (history_of store.now) (slice_index b.now) v t
+        ≡ state_at (epochs_of store.now (slice_index b.now v)) t) variables.now }
+    ensures step { reads.new ≡ reads.old + length variables.now }
+    ensures bound { length b.now ≤ OBJECT_LIMIT }
+{
+    let ids = b.ids();
+    let mut timelines = [none; MOST_TIMELINES];
+    for k in 0..variables.len() {
+        let id = ids[variables[k] as usize];
+        timelines[k] = store.timeline(id, reads);
+    }
+    timelines
+}
+
+/// The common part of the timelines of these variables that begins at tick `at`. It ends by `last`, and the
+/// next part begins at the tick past it.
+pub fn part_from<'a>(
+    variables: &'a [u8],
+    timelines: &[&'a Timeline],
+    at: u32,
+    last: u32,
+) -> Part<'a>
+    requires few { length timelines.now ≤ MOST_TIMELINES }
+    requires same { length variables.now ≡ length timelines.now }
+    requires ascending { AreAscending variables.now }
+    requires order { at ≤ last }
+    requires tick { last ≤ LAST_TICK }
+    ensures begins { result.span.lo ≡ at }
+    ensures within { result.span.hi ≤ last }
+    ensures variables { result.variables.now ≡ variables.now }
+    ensures shown { (v t : ℕ) → result.span.lo ≤ t → t ≤ result.span.hi
+        → trace_by variables.now (epochs_of_each timelines.now) v t ≡ shown result v t }
+    ensures steady { AreSteady result }
+    ensures fewer { 0 < length timelines.now → AreBegun result
+        → pieces_of_all (epochs_of_each timelines.now) (result.span.hi + 1) last
+        < pieces_of_all (epochs_of_each timelines.now) at last }
+    ensures not_more { pieces_of_all (epochs_of_each timelines.now) (result.span.hi + 1) last
+        ≤ pieces_of_all (epochs_of_each timelines.now) at last }
+{
+    let common = common_from(timelines, at, last);
+    Part {
+        span: common.span,
+        variables,
+        epochs: common.epochs,
+    }
+}

@@ -1,0 +1,62 @@
+//! The ticks of a window at which an object is present.
+ghost use Rattle.std.specs.Prelude.{◌≡◌, ◌+◌, ◌<◌, ◌&&◌, ℕ, is_some, length, option_to_list, IfOk};
+ghost use Rattle.std.specs.Option.{option_copied};
+ghost use Rattle.history.specs.History.{cells_at};
+ghost use Rattle.motion.specs.Timeline.{state_at};
+ghost use Rattle.object_store.specs.Contents.{history_of};
+ghost use Rattle.tick_set.specs.Runs.{IsRuns, spans_have};
+ghost use Rattle.tick_set.specs.Ticks.{within};
+ghost use Rattle.atoms.specs.Presence.{is_there};
+
+use courses::common_from;
+use interval_set::IntervalSet;
+use motion::{Epoch, Timeline};
+use object_store::{ObjectId, Store};
+use std::alloc::{AllocError, Global};
+use std::sync::ledger::Ledger;
+use steps::Steps;
+use tick_set::{Runs, Span, Window};
+
+/// The ticks of the window at which the object, whose id exists, is present. It takes one step of
+/// `reads`, and fails only where memory is out.
+pub fn presence<L: Ledger>(
+    alloc: Global,
+    id: ObjectId,
+    store: &Store,
+    w: Window,
+    reads: &mut Steps<L>,
+) -> Result<IntervalSet, AllocError>
+    requires { id < length store.now.objects }
+    ensures ticks { IfOk result (λ s. (t : ℕ) → spans_have s t
+        ≡ (within w.lo w.hi t && is_some (cells_at (history_of store.now) id t))) }
+    ensures step { reads.new ≡ reads.old + 1 }
+{
+    let timeline = store.timeline(id, reads);
+    let runs = present_runs(alloc, timeline, w)?;
+    Ok(IntervalSet::from_runs(runs))
+}
+
+// The runs of the ticks at which the object of a timeline is present.
+fn present_runs(alloc: Global, timeline: &Timeline, w: Window) -> Result<Vec<Span>, AllocError>
+    ensures { IfOk result (λ runs. IsRuns (λ t. within w.lo w.hi t && is_some (state_at timeline.now t)) runs.items) }
+{
+    let timelines = [timeline];
+    let mut runs = Runs::new(alloc);
+    let mut at = w.lo;
+    'joining: while at <= w.hi {
+        let common = common_from(&timelines, at, w.hi);
+        runs.append(present_span(common.epoch(0), common.span))?;
+        at = common.span.hi + 1;
+    }
+    Ok(runs.finish())
+}
+
+// The span, where the epoch has an object that is there.
+fn present_span(epoch: Option<&Epoch>, span: Span) -> Option<Span>
+    ensures { (t : ℕ) → spans_have (option_to_list result) t ≡ (within span.lo span.hi t && is_there (option_copied epoch.entry)) }
+{
+    match epoch {
+        Some(epoch) if epoch.is_present() => Some(span),
+        _ => None,
+    }
+}
