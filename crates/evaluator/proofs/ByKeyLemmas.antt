@@ -1,0 +1,173 @@
+-- A formula at the keys of its variables.
+use Rattle.std.proofs.Common.{◌≡◌, ℕ, ◌+◌, ◌-◌, ◌*◌, ◌<◌, ◌≤◌, Bool, true, ◌&&◌, ◌==◌, if◌then◌else◌, List, [], ◌∷◌, length, slice_index, map, refl, sym, ap, ◌∙◌, subst, arith}
+use Rattle.std.specs.Str.{bytes_eq}
+use Rattle.std.proofs.lemmas.Bool.{and_parts, eq-eqb, or_left, or_right}
+use Rattle.std.proofs.lemmas.Slice.Eq.{bytes_eq-Decides}
+use Rattle.tick_set.specs.Ticks.{within}
+use Rattle.formula_shape.specs.Shape as shapes
+use Rattle.formula.specs.declared.tree.RAtom.{RAtom}
+use Rattle.formula.specs.declared.tree.RTerm.{RTerm}
+use Rattle.formula.specs.declared.value.Env.{Env}
+use Rattle.formula.specs.Tree.{ResolvedTree}
+use Rattle.formula.specs.Value.{with_value}
+use Rattle.formula.specs.Variables.{atom_has, has_variable, term_has, variables_of}
+use Rattle.meaning.specs.Agreement.{Agree}
+use Rattle.meaning.specs.Reads.{atom_variables, choices, looks, made_single, reads, term_variables}
+use Rattle.meaning.specs.Satisfaction.{Interpretation, sat}
+use Rattle.meaning.proofs.LocalityLemmas.{same_sat}
+use Rattle.relation.specs.Frames.{size_of}
+use Rattle.relation.specs.Key.{has_id}
+use Rattle.evaluator.specs.Interpreting.{CanAsk, IsInFor}
+use Rattle.evaluator.specs.Keys.{binding_of}
+use Rattle.evaluator.specs.Rows.{reads_upto}
+use Rattle.evaluator.specs.inner.ByBinding.{CanAskHere, is_over, reads_here}
+use Rattle.evaluator.proofs.BindingLemmas.{binding_of-map}
+use Rattle.evaluator.proofs.ReadLemmas.{fewer}
+use Rattle.evaluator.proofs.TickLemmas.{one_choice, reads_of_assignment}
+
+-- what may be asked where its variables have objects of the domains may be asked at each such binding
+module _ (j : (ℕ → ℕ) → Interpretation) (P : (ℕ → ℕ) → RAtom → Env → Type 0) (Q : (ℕ → ℕ) → RTerm → Env → Type 0) (domains : List (List ℕ)) (lo hi : ℕ) (b : ℕ → ℕ) where
+  pub can_ask_at : (f : ResolvedTree) (x : Env) → CanAsk j P Q domains lo hi f x → IsInFor domains (λ v. has_variable v f) b → CanAskHere (j b) (P b) (Q b) lo hi f x
+  can_ask_at (shapes.Truth h) x can is_in = tt
+  can_ask_at (shapes.Atom a) x can is_in = can b is_in
+  can_ask_at (shapes.Not f) x can is_in = can_ask_at f x can is_in
+  can_ask_at (shapes.And f g) x can is_in = (
+    can_ask_at f x can.0 (λ v h. is_in v (or_left (has_variable v f) (has_variable v g) h)),
+    can_ask_at g x can.1 (λ v h. is_in v (or_right (has_variable v f) (has_variable v g) h)),
+  )
+  can_ask_at (shapes.Or f g) x can is_in = (
+    can_ask_at f x can.0 (λ v h. is_in v (or_left (has_variable v f) (has_variable v g) h)),
+    can_ask_at g x can.1 (λ v h. is_in v (or_right (has_variable v f) (has_variable v g) h)),
+  )
+  can_ask_at (shapes.Next f) x can is_in = can_ask_at f x can is_in
+  can_ask_at (shapes.Eventually f) x can is_in = can_ask_at f x can is_in
+  can_ask_at (shapes.Always f) x can is_in = can_ask_at f x can is_in
+  can_ask_at (shapes.Bounded form c f) x can is_in = can_ask_at f x can is_in
+  can_ask_at (shapes.Until form c f g) x can is_in = (
+    can_ask_at f x can.0 (λ v h. is_in v (or_left (has_variable v f) (has_variable v g) h)),
+    can_ask_at g x can.1 (λ v h. is_in v (or_right (has_variable v f) (has_variable v g) h)),
+  )
+  can_ask_at (shapes.Assign (d, q) f) x can is_in =
+      let own = can b (λ v h. is_in v (or_left (term_has v q) (has_variable v f) h)) in
+      (own.0, λ t l v e. can_ask_at f (with_value x d v) (own.1 t l v e) (λ u h. is_in u (or_right (term_has u q) (has_variable u f) h)))
+
+-- ---- a formula sees the objects of its own variables alone
+
+module _ (j : (ℕ → ℕ) → Interpretation)
+    (atoms_see : (b c : ℕ → ℕ) (a : RAtom) → ((v : ℕ) → atom_has v a ≡ true → b v ≡ c v) → (x : Env) (t : ℕ) → (j b).atom a x t ≡ (j c).atom a x t)
+    (terms_see : (b c : ℕ → ℕ) (q : RTerm) → ((v : ℕ) → term_has v q ≡ true → b v ≡ c v) → (x : Env) (t : ℕ) → (j b).term q x t ≡ (j c).term q x t) where
+  agree : (b c : ℕ → ℕ) (lo hi : ℕ) (f : ResolvedTree) → ((v : ℕ) → has_variable v f ≡ true → b v ≡ c v) → Agree (j b) (j c) lo hi f
+  agree b c lo hi (shapes.Truth h) same = tt
+  agree b c lo hi (shapes.Atom a) same = λ x t from to. atoms_see b c a same x t
+  agree b c lo hi (shapes.Not f) same = agree b c lo hi f same
+  agree b c lo hi (shapes.And f g) same = (
+    agree b c lo hi f (λ v h. same v (or_left (has_variable v f) (has_variable v g) h)),
+    agree b c lo hi g (λ v h. same v (or_right (has_variable v f) (has_variable v g) h)),
+  )
+  agree b c lo hi (shapes.Or f g) same = (
+    agree b c lo hi f (λ v h. same v (or_left (has_variable v f) (has_variable v g) h)),
+    agree b c lo hi g (λ v h. same v (or_right (has_variable v f) (has_variable v g) h)),
+  )
+  agree b c lo hi (shapes.Next f) same = agree b c lo hi f same
+  agree b c lo hi (shapes.Eventually f) same = agree b c lo hi f same
+  agree b c lo hi (shapes.Always f) same = agree b c lo hi f same
+  agree b c lo hi (shapes.Bounded form n f) same = agree b c lo hi f same
+  agree b c lo hi (shapes.Until form n f g) same = (
+    agree b c lo hi f (λ v h. same v (or_left (has_variable v f) (has_variable v g) h)),
+    agree b c lo hi g (λ v h. same v (or_right (has_variable v f) (has_variable v g) h)),
+  )
+  agree b c lo hi (shapes.Assign (d, q) f) same = (
+    λ x t from to. terms_see b c q (λ v h. same v (or_left (term_has v q) (has_variable v f) h)) x t,
+    agree b c lo hi f (λ v h. same v (or_right (term_has v q) (has_variable v f) h)),
+  )
+
+  pub formula_sees : (b c : ℕ → ℕ) (f : ResolvedTree) → ((v : ℕ) → has_variable v f ≡ true → b v ≡ c v) → (x : Env) (e t : ℕ) → sat (j b) f x e t ≡ sat (j c) f x e t
+  formula_sees b c f same x e t =
+      same_sat (j b) (j c) 0 (e + t) f (agree b c 0 (e + t) f same) e (omega arith) x t (omega arith) (omega arith)
+
+  -- what it says at the binding of a key is what it says at an assignment with this key
+  pub key_says : (f : ResolvedTree) → ((v : ℕ) → has_variable v f ≡ true → v < 4) → (vars : List ℕ) → vars ≡ variables_of f → (x : Env) (lo hi : ℕ) (b : ℕ → ℕ) (t : ℕ) →
+      (within lo hi t && sat (j (slice_index (binding_of vars (map b vars)))) f x hi t) ≡ (within lo hi t && sat (j b) f x hi t)
+  key_says f over vars are x lo hi b t =
+      ap (λ (y : Bool). within lo hi t && y)
+      (formula_sees (slice_index (binding_of vars (map b vars))) b f
+      (λ v h. (λ i. slice_index (binding_of (are i) (map b (are i))) v) ∙ binding_of-map (λ u. has_variable u f) b v (over v h) h) x hi t)
+
+-- ---- looks at timelines
+
+all_single : (size : ℕ → ℕ) (vs us : List ℕ) → ((v : ℕ) → has_id us v ≡ true → has_id vs v ≡ true) → choices (made_single size vs) us ≡ 1
+all_single size vs [] h = refl
+all_single size vs (u ∷ us) h =
+    let first : made_single size vs u ≡ 1 = ap (λ (c : Bool). if c then 1 else size u) (h u (or_left (u == u) (has_id us u) (eq-eqb u u refl))) in
+    let later : choices (made_single size vs) us ≡ 1 = all_single size vs us (λ v k. h v (or_right (u == v) (has_id us v) k)) in
+    λ i. first i * later i
+
+both_within : (k a b c d : ℕ) → k * a ≤ c → k * b ≤ d → k * (a + b) ≤ c + d
+both_within k a b c d h l = let e : k * (a + b) ≡ k * a + k * b = grind arith in omega (arith, e, h, l)
+
+none_within : (k : ℕ) → k * 0 ≤ 0
+none_within k = let e : k * 0 ≡ 0 = grind arith in omega (arith, e)
+
+atom_within : (k one len : ℕ) → one ≡ 1 → k * (one * len) ≤ k * len
+atom_within k one len e = let f : one * len ≡ len = ap (λ (z : ℕ). z * len) e ∙ (let g : 1 * len ≡ len = omega arith in g) in let h : k * (one * len) ≡ k * len = ap (λ (z : ℕ). k * z) f in omega (arith, h)
+
+assign_within : (k len ticks own cost : ℕ) → 1 * own ≤ cost → k * (len + ticks * own) ≤ k * (len + ticks * cost)
+assign_within k len ticks own cost h =
+    let l : own ≤ cost = omega (arith, h) in
+    let m : own * ticks ≤ cost * ticks = fewer own cost ticks l in
+    let a : ticks * own ≡ own * ticks = grind arith in
+    let b : ticks * cost ≡ cost * ticks = grind arith in
+    let n : len + ticks * own ≤ len + ticks * cost = omega (arith, m, a, b) in
+    let o : (len + ticks * own) * k ≤ (len + ticks * cost) * k = fewer (len + ticks * own) (len + ticks * cost) k n in
+    let c : k * (len + ticks * own) ≡ (len + ticks * own) * k = grind arith in
+    let d : k * (len + ticks * cost) ≡ (len + ticks * cost) * k = grind arith in
+    omega (arith, o, c, d)
+
+-- the bindings of a formula whose atoms all have these variables take no more than it may
+pub over_reads : (size : ℕ → ℕ) (lo hi : ℕ) (vars : List ℕ) (f : ResolvedTree) → is_over vars f ≡ true → choices size vars * reads_here lo hi f ≤ reads size (hi + 1 - lo) f
+over_reads size lo hi vars (shapes.Truth b) h = none_within (choices size vars)
+over_reads size lo hi vars (shapes.Atom a) h =
+    subst (λ (vs : List ℕ). choices size vs * looks (λ _. 1) (atom_variables a) ≤ looks size (atom_variables a)) ((bytes_eq-Decides (atom_variables a) vars).0 h)
+    (atom_within (choices size (atom_variables a)) (choices (λ _. 1) (atom_variables a)) (length (atom_variables a)) (one_choice (atom_variables a)))
+over_reads size lo hi vars (shapes.Not f) h = over_reads size lo hi vars f h
+over_reads size lo hi vars (shapes.And f g) h =
+    let parts = and_parts (is_over vars f) (is_over vars g) h in
+    both_within (choices size vars) (reads_here lo hi f) (reads_here lo hi g) (reads size (hi + 1 - lo) f) (reads size (hi + 1 - lo) g) (over_reads size lo hi vars f parts.0) (over_reads size lo hi vars g parts.1)
+over_reads size lo hi vars (shapes.Or f g) h =
+    let parts = and_parts (is_over vars f) (is_over vars g) h in
+    both_within (choices size vars) (reads_here lo hi f) (reads_here lo hi g) (reads size (hi + 1 - lo) f) (reads size (hi + 1 - lo) g) (over_reads size lo hi vars f parts.0) (over_reads size lo hi vars g parts.1)
+over_reads size lo hi vars (shapes.Next f) h = over_reads size lo hi vars f h
+over_reads size lo hi vars (shapes.Eventually f) h = over_reads size lo hi vars f h
+over_reads size lo hi vars (shapes.Always f) h = over_reads size lo hi vars f h
+over_reads size lo hi vars (shapes.Bounded form c f) h = over_reads size lo hi vars f h
+over_reads size lo hi vars (shapes.Until form c f g) h =
+    let parts = and_parts (is_over vars f) (is_over vars g) h in
+    both_within (choices size vars) (reads_here lo hi f) (reads_here lo hi g) (reads size (hi + 1 - lo) f) (reads size (hi + 1 - lo) g) (over_reads size lo hi vars f parts.0) (over_reads size lo hi vars g parts.1)
+over_reads size lo hi vars (shapes.Assign (d, q) f) h =
+    let parts = and_parts (bytes_eq (term_variables q) vars) (is_over vars f) h in
+    let same : term_variables q ≡ vars = (bytes_eq-Decides (term_variables q) vars).0 parts.0 in
+    let single : choices (made_single size vars) vars ≡ 1 = all_single size vars vars (λ v k. k) in
+    let own : 1 * reads_here lo hi f ≤ reads (made_single size vars) (hi + 1 - lo) f = subst (λ (n : ℕ). n * reads_here lo hi f ≤ reads (made_single size vars) (hi + 1 - lo) f) single (over_reads (made_single size vars) lo hi vars f parts.1) in
+    subst (λ (n : ℕ). choices size vars * n ≤ reads size (hi + 1 - lo) (shapes.Assign (d, q) f)) (sym (reads_of_assignment lo hi d q f))
+    (subst (λ (vs : List ℕ). choices size vars * (length (term_variables q) + (hi + 1 - lo) * reads_here lo hi f) ≤ choices size vs * (length (term_variables q) + (hi + 1 - lo) * reads (made_single size vs) (hi + 1 - lo) f)) (sym same)
+    (assign_within (choices size vars) (length (term_variables q)) (hi + 1 - lo) (reads_here lo hi f) (reads (made_single size vars) (hi + 1 - lo) f) own))
+
+-- those of some keys
+pub by_keys : (domains : List (List ℕ)) (lo hi : ℕ) (vars : List ℕ) (f : ResolvedTree) → is_over vars f ≡ true → (start read i n : ℕ) →
+    read ≤ start + i * reads_here lo hi f → i ≤ n → n ≡ choices (size_of domains) vars → read ≤ start + reads_upto domains lo hi f
+by_keys domains lo hi vars f h start read i n l m e =
+    within_all (choices (size_of domains) vars) (reads_here lo hi f) (reads_upto domains lo hi f) (over_reads (size_of domains) lo hi vars f h) l m e
+  where
+    within_all : (all cost most : ℕ) → all * cost ≤ most → read ≤ start + i * cost → i ≤ n → n ≡ all → read ≤ start + most
+    within_all all cost most bound reads_so few same =
+        let less : i ≤ all = omega (arith, few, same) in
+        let more : i * cost ≤ all * cost = fewer i all cost less in
+        grind (arith, reads_so, more, bound)
+
+-- ---- formulas that have no part
+
+pub truth_over : (vars : List ℕ) (f : ResolvedTree) (b : Bool) → f ≡ shapes.Truth b → is_over vars f ≡ true
+truth_over vars f b e = ap (is_over vars) e
+
+pub atom_over : (vars : List ℕ) (f : ResolvedTree) (a : RAtom) → vars ≡ variables_of f → f ≡ shapes.Atom a → is_over vars f ≡ true
+atom_over vars f a are e = ap (is_over vars) e ∙ (bytes_eq-Decides (atom_variables a) vars).1 (sym (are ∙ ap variables_of e))

@@ -1,0 +1,17 @@
+pub mod AssignLemmas
+pub mod AtomLemmas
+pub mod AtomRunLemmas
+pub mod BindingLemmas
+pub mod ByKeyLemmas
+pub mod FillingLemmas
+pub mod FullLemmas
+pub mod GatherLemmas
+pub mod KeyLemmas
+pub mod LoopLemmas
+pub mod NodeLemmas
+pub mod OperatorLemmas
+pub mod ReadLemmas
+pub mod RowLemmas
+pub mod RunLemmas
+pub mod TickLemmas
+pub mod VariableLemmas

@@ -1,0 +1,91 @@
+use Rattle.std.proofs.Common.{◌≡◌, ◌||◌, ◌==◌, nat_lt, ℕ, List, length, refl, subst, arith, ◌∙◌, sym}
+use Rattle.std.specs.List.{sum_by}
+use Rattle.std.specs.List.Sorted.{IsStrictlyIncreasing}
+use Rattle.tick_set.specs.Ticks.{between}
+use Rattle.formula.specs.declared.value.Env.{Env}
+use Rattle.formula.specs.Tree.{formula_view, query_view}
+use Rattle.formula.specs.Value.{no_values}
+use Rattle.formula.specs.Variables.{has_variable}
+use Rattle.meaning.specs.Satisfaction.{sat}
+use Rattle.relation.specs.Frames.{size_of}
+use Rattle.evaluator.specs.Interpreting.{CanAsk}
+use Rattle.evaluator.specs.Rows.{AreRowsOf, AreRowsWhere, query_reads_upto, reads_upto}
+use Rattle.evaluator.proofs.FullLemmas.{full_all, full_more, full_none, holds_upto, one_variable, presence_done, presence_step, presence_within, variables_upto}
+use Rattle.evaluator.proofs.LoopLemmas.{in_turn, most_first}
+use Rattle.evaluator.proofs.VariableLemmas.{ascending_variables}
+use Rattle.evaluator.proofs.full.full_rows.Goals as goal
+
+pub rows_of-requires-clause-over : goal.rows_of-requires-clause-over
+rows_of-requires-clause-over g c = c.requires.over
+
+pub rows_of-requires-clause-can : goal.rows_of-requires-clause-can
+rows_of-requires-clause-can g c =
+    subst (λ (x : Env). CanAsk (g.I.Interpreter.interpretation c.args.source.now) (g.I.Interpreter.atom_fits c.args.source.now c.args.w.lo c.args.w.hi) (g.I.Interpreter.term_fits c.args.source.now c.args.w.lo c.args.w.hi) c.args.d.now c.args.w.lo c.args.w.hi (formula_view c.args.q.now.formula) x) (sym c.new.ensures) c.requires.can
+
+pub returns-in_err-made-clause-least : goal.returns-in_err-made-clause-least
+returns-in_err-made-clause-least g c = c.in_err-made.ensures.least
+
+pub returns-in_err-made-clause-most : goal.returns-in_err-made-clause-most
+returns-in_err-made-clause-most g c =
+    most_first _ _ (query_reads_upto c.args.d.now c.args.w.lo c.args.w.hi (query_view c.args.q.now)) (reads_upto c.args.d.now c.args.w.lo c.args.w.hi (formula_view c.args.q.now.formula)) (sum_by (size_of c.args.d.now) (between 0 (length c.args.q.now.classes))) refl c.in_err-made.ensures.most
+
+pub vars-init : goal.vars-init
+vars-init g c = record {
+  rows = full_none g.S.TickSet.member c.args.d.now c.args.w.lo c.args.w.hi (formula_view c.args.q.now.formula) (λ (b : ℕ → ℕ) (u : ℕ). sat (g.I.Interpreter.interpretation c.args.source.now b) (formula_view c.args.q.now.formula) no_values c.args.w.hi u) (g.I.Interpreter.present c.args.source.now) c.in_ok-made.made
+      (subst (λ (x : Env). AreRowsOf g.S.TickSet.member (g.I.Interpreter.interpretation c.args.source.now) c.args.d.now c.args.w.lo c.args.w.hi (formula_view c.args.q.now.formula) x c.in_ok-made.made) c.new.ensures c.in_ok-made.ensures.rows);
+  least = omega arith;
+  most = omega arith;
+}
+
+pub rows_of_presence-requires-clause-known : goal.rows_of_presence-requires-clause-known
+rows_of_presence-requires-clause-known g c = omega (arith, c.vars-test.true, c.len-count.ensures.count)
+
+pub rows_of_presence-requires-clause-objects : goal.rows_of_presence-requires-clause-objects
+rows_of_presence-requires-clause-objects g c = λ id h. c.requires.objects c.vars.var id h
+
+pub returns-in_err-there-clause-least : goal.returns-in_err-there-clause-least
+returns-in_err-there-clause-least g c = in_turn _ _ _ c.in_ok-made.ensures.least (in_turn _ _ _ c.vars.invariant.least c.in_err-there.ensures.least)
+
+pub returns-in_err-there-clause-most : goal.returns-in_err-there-clause-most
+returns-in_err-there-clause-most g c =
+    presence_within (size_of c.args.d.now) c.args.reads.now _ _ (query_reads_upto c.args.d.now c.args.w.lo c.args.w.hi (query_view c.args.q.now)) (reads_upto c.args.d.now c.args.w.lo c.args.w.hi (formula_view c.args.q.now.formula)) c.vars.var (length c.args.q.now.classes) refl c.in_ok-made.ensures.most c.vars.reads c.vars.invariant.most c.in_err-there.ensures.most (let n = c.requires.domains in omega (arith, c.vars-test.true, c.len-count.ensures.count, n))
+
+pub returns-in_err-made-2-clause-least : goal.returns-in_err-made-2-clause-least
+returns-in_err-made-2-clause-least g c = in_turn _ _ _ c.in_ok-made.ensures.least (in_turn _ _ _ c.vars.invariant.least c.in_ok-there.ensures.least)
+
+pub returns-in_err-made-2-clause-most : goal.returns-in_err-made-2-clause-most
+returns-in_err-made-2-clause-most g c =
+    presence_within (size_of c.args.d.now) c.args.reads.now _ _ (query_reads_upto c.args.d.now c.args.w.lo c.args.w.hi (query_view c.args.q.now)) (reads_upto c.args.d.now c.args.w.lo c.args.w.hi (formula_view c.args.q.now.formula)) c.vars.var (length c.args.q.now.classes) refl c.in_ok-made.ensures.most c.vars.reads c.vars.invariant.most c.in_ok-there.ensures.most (let n = c.requires.domains in omega (arith, c.vars-test.true, c.len-count.ensures.count, n))
+
+pub join-requires-clause-frame : goal.join-requires-clause-frame
+join-requires-clause-frame g c = c.in_ok-there.ensures.rows.frame ∙ sym c.vars.invariant.rows.frame
+
+pub join-requires-clause-left : goal.join-requires-clause-left
+join-requires-clause-left g c =
+    subst (λ (vs : List ℕ). IsStrictlyIncreasing vs) (sym c.vars.invariant.rows.vars) (ascending_variables (λ v. has_variable v (formula_view c.args.q.now.formula) || nat_lt v c.vars.var))
+
+pub join-requires-clause-right : goal.join-requires-clause-right
+join-requires-clause-right g c =
+    subst (λ (vs : List ℕ). IsStrictlyIncreasing vs) (sym (c.in_ok-there.ensures.rows.vars ∙ sym (one_variable c.vars.var (omega (arith, c.vars-test.true, c.len-count.ensures.count, c.len-count.ensures.few))))) (ascending_variables (λ u. u == c.vars.var))
+
+pub vars-preserved : goal.vars-preserved
+vars-preserved g c = record {
+  rows = full_more g.S.TickSet.member c.args.d.now c.args.w.lo c.args.w.hi (formula_view c.args.q.now.formula) (λ (b : ℕ → ℕ) (u : ℕ). sat (g.I.Interpreter.interpretation c.args.source.now b) (formula_view c.args.q.now.formula) no_values c.args.w.hi u) (g.I.Interpreter.present c.args.source.now) c.vars.var (omega (arith, c.vars-test.true, c.len-count.ensures.count, c.len-count.ensures.few)) c.vars.made c.in_ok-there.there c.in_ok-made-2.made c.vars.invariant.rows c.in_ok-there.ensures.rows
+      c.in_ok-made-2.ensures.ticks c.in_ok-made-2.ensures.vars c.in_ok-made-2.ensures.frame;
+  least = in_turn _ _ _ c.vars.invariant.least c.in_ok-there.ensures.least;
+  most = presence_step (size_of c.args.d.now) _ c.vars.reads _ c.vars.var c.vars.invariant.most c.in_ok-there.ensures.most;
+}
+
+pub returns-clause-rows : goal.returns-clause-rows
+returns-clause-rows g c =
+    let n = c.requires.domains in
+    let all : c.vars.var ≡ (length c.args.q.now.classes) = omega (arith, c.vars-test.false, c.vars.auto.var-end, c.len-count.ensures.count, n) in
+    full_all g.S.TickSet.member c.args.d.now c.args.w.lo c.args.w.hi (formula_view c.args.q.now.formula) (λ (b : ℕ → ℕ) (u : ℕ). sat (g.I.Interpreter.interpretation c.args.source.now b) (formula_view c.args.q.now.formula) no_values c.args.w.hi u) (g.I.Interpreter.present c.args.source.now) (length c.args.q.now.classes) (omega (arith, c.len-count.ensures.count, c.len-count.ensures.few, n)) (λ v h. (let o = c.requires.over v h in omega (arith, o, n))) c.vars.made
+    (subst (λ (k : ℕ). AreRowsWhere g.S.TickSet.member c.args.d.now c.args.w.lo c.args.w.hi (variables_upto (formula_view c.args.q.now.formula) k) (holds_upto (λ (b : ℕ → ℕ) (u : ℕ). sat (g.I.Interpreter.interpretation c.args.source.now b) (formula_view c.args.q.now.formula) no_values c.args.w.hi u) (g.I.Interpreter.present c.args.source.now) k) c.vars.made) all c.vars.invariant.rows)
+
+pub returns-clause-least : goal.returns-clause-least
+returns-clause-least g c = in_turn _ _ _ c.in_ok-made.ensures.least c.vars.invariant.least
+
+pub returns-clause-most : goal.returns-clause-most
+returns-clause-most g c =
+    presence_done (size_of c.args.d.now) c.args.reads.now _ _ (query_reads_upto c.args.d.now c.args.w.lo c.args.w.hi (query_view c.args.q.now)) (reads_upto c.args.d.now c.args.w.lo c.args.w.hi (formula_view c.args.q.now.formula)) c.vars.var (length c.args.q.now.classes) refl c.in_ok-made.ensures.most c.vars.invariant.most (let n = c.requires.domains in omega (arith, c.vars.auto.var-end, c.len-count.ensures.count, n))

@@ -1,0 +1,501 @@
+use Rattle.std.proofs.Common.{◌≡◌, ℕ, ◌+◌, ◌-◌, ◌≤◌, ◌&&◌, true, false, List, length, slice_index, ap, subst, arith, ◌∙◌, sym}
+use Rattle.std.specs.List.Sorted.{IsStrictlyIncreasing}
+use Rattle.std.proofs.lemmas.Bool.{or_left, or_right}
+use Rattle.std.proofs.lemmas.List.{take_all}
+use Rattle.tick_set.specs.Ticks.{within}
+use Rattle.formula_shape.specs.Sizes.{nodes}
+use Rattle.formula.specs.declared.value.Env.{Env}
+use Rattle.formula.specs.Tree.{ResolvedTree, formula_view}
+use Rattle.formula.specs.VarSet.{has}
+use Rattle.formula.specs.Variables.{has_variable, term_has, variables_in, variables_of}
+use Rattle.meaning.specs.Reads.{term_variables}
+use Rattle.meaning.specs.Satisfaction.{sat}
+use Rattle.relation.specs.Frames.{Frame, IsWider, size_of}
+use Rattle.relation.specs.Key.{are_distinct, are_known, key_in}
+use Rattle.relation.specs.Rows.{Table, has as has_tick}
+use Rattle.atoms.specs.declared.value_list.ValueRun.{ValueRun}
+use Rattle.evaluator.specs.Assigned.{CanAskEach, assignment_view, run_holds}
+use Rattle.evaluator.specs.Gathered.{AreAlike, any_has}
+use Rattle.evaluator.specs.Interpreting.{CanAsk, IsInFor}
+use Rattle.evaluator.specs.Keys.{AreKeys}
+use Rattle.evaluator.specs.Rows.{AreRowsOf, AreRowsWhere, reads_at_key, reads_upto}
+use Rattle.evaluator.specs.ValueRuns.{AreValueRuns}
+use Rattle.evaluator.specs.inner.Nodes.{changed_tree, paired_tree}
+use Rattle.evaluator.proofs.AssignLemmas.{all_keys, can_ask_each, key_more, rows_at_key, run_more}
+use Rattle.evaluator.proofs.AtomLemmas.{inside_at}
+use Rattle.evaluator.proofs.BindingLemmas.{narrowed_sizes, narrowed_wider}
+use Rattle.evaluator.proofs.ByKeyLemmas.{atom_over, truth_over}
+use Rattle.evaluator.proofs.FillingLemmas.{at_key}
+use Rattle.evaluator.proofs.LoopLemmas.{can_ask_item, head_frame, in_turn, key_within, keys_within, more_alike, most_both, most_first, most_same, none_alike, none_yet, some_steps, term_within, wide_frame}
+use Rattle.evaluator.proofs.NodeLemmas.{changed_asks, changed_has, changed_nodes, changed_reads, paired_asks, paired_has, paired_nodes, paired_reads}
+use Rattle.evaluator.proofs.ReadLemmas.{one_step}
+use Rattle.evaluator.proofs.RowLemmas.{one_rows, two_rows}
+use Rattle.evaluator.proofs.VariableLemmas.{ascending_variables, distinct_variables, few_variables, known_variables, variables_same}
+use Rattle.evaluator.proofs.rows.+rows.Goals as goal
+
+pub rows_of-rows_by_key-requires-clause-vars : goal.rows_of-rows_by_key-requires-clause-vars
+rows_of-rows_by_key-requires-clause-vars g t c = c.variables_of-vars.ensures ∙ variables_same (has c.free.result) (λ v. has_variable v (formula_view c.args.f.now)) (λ v l. c.free.ensures v l)
+
+pub rows_of-rows_by_key-requires-clause-alike : goal.rows_of-rows_by_key-requires-clause-alike
+rows_of-rows_by_key-requires-clause-alike g t c = sym c.is_over.ensures ∙ c.if-is_over.true
+
+pub rows_of-rows_by_key-requires-clause-over : goal.rows_of-rows_by_key-requires-clause-over
+rows_of-rows_by_key-requires-clause-over g t c = c.requires.over
+
+pub rows_of-rows_by_key-requires-clause-can : goal.rows_of-rows_by_key-requires-clause-can
+rows_of-rows_by_key-requires-clause-can g t c = c.requires.can
+
+pub rows_of-rows_of-requires : goal.rows_of-rows_of-requires
+rows_of-rows_of-requires g t c κs lives =
+    let tree : formula_view c.args.f.now ≡ changed_tree c.in-One.change (formula_view c.in-One.part.now) = sym c.in-One.ensures in
+    let size : nodes (formula_view c.args.f.now) ≡ nodes (formula_view c.in-One.part.now) + 1 = ap nodes tree ∙ changed_nodes c.in-One.change (formula_view c.in-One.part.now) in (
+      omega (arith, c.decreases, size),
+      (lives.0, (lives.1.0, (lives.1.1.0, (lives.1.1.1, ((λ v h. c.requires.over v (ap (has_variable v) tree ∙ changed_has v c.in-One.change (formula_view c.in-One.part.now) ∙ h)), changed_asks (g.I.Interpreter.interpretation c.args.source.now) (g.I.Interpreter.atom_fits c.args.source.now c.args.w.lo c.args.w.hi) (g.I.Interpreter.term_fits c.args.source.now c.args.w.lo c.args.w.hi) c.args.d.now c.args.w.lo c.args.w.hi c.args.env.now c.in-One.change (formula_view c.in-One.part.now) (subst (λ (z : ResolvedTree). CanAsk (g.I.Interpreter.interpretation c.args.source.now) (g.I.Interpreter.atom_fits c.args.source.now c.args.w.lo c.args.w.hi) (g.I.Interpreter.term_fits c.args.source.now c.args.w.lo c.args.w.hi) c.args.d.now c.args.w.lo c.args.w.hi z c.args.env.now) tree c.requires.can)))))),
+    )
+
+pub rows_of-returns-in_ok-made-in-One-clause-rows : goal.rows_of-returns-in_ok-made-in-One-clause-rows
+rows_of-returns-in_ok-made-in-One-clause-rows g t c =
+    subst (λ (z : ResolvedTree). AreRowsOf g.S.TickSet.member (g.I.Interpreter.interpretation c.args.source.now) c.args.d.now c.args.w.lo c.args.w.hi z c.args.env.now c.in_ok-made-in-One.made) c.in-One.ensures
+    (one_rows g.S.TickSet.member (g.I.Interpreter.interpretation c.args.source.now) c.args.d.now c.args.w.lo c.args.w.hi c.args.env.now (formula_view c.in-One.part.now) c.in_ok-rows-in-One.rows c.in_ok-rows-in-One.ensures.rows c.in-One.change c.in_ok-made-in-One.made
+    c.in_ok-made-in-One.ensures.ticks c.in_ok-made-in-One.ensures.vars c.in_ok-made-in-One.ensures.frame)
+
+pub rows_of-returns-in_err-rows-in-One-clause-least : goal.rows_of-returns-in_err-rows-in-One-clause-least
+rows_of-returns-in_err-rows-in-One-clause-least g t c = c.in_err-rows-in-One.ensures.least
+
+pub rows_of-returns-in_err-rows-in-One-clause-most : goal.rows_of-returns-in_err-rows-in-One-clause-most
+rows_of-returns-in_err-rows-in-One-clause-most g t c =
+    most_same _ _ (reads_upto c.args.d.now c.args.w.lo c.args.w.hi (formula_view c.args.f.now)) (reads_upto c.args.d.now c.args.w.lo c.args.w.hi (formula_view c.in-One.part.now)) (ap (reads_upto c.args.d.now c.args.w.lo c.args.w.hi) (sym c.in-One.ensures) ∙ changed_reads (size_of c.args.d.now) (c.args.w.hi + 1 - c.args.w.lo) c.in-One.change (formula_view c.in-One.part.now)) c.in_err-rows-in-One.ensures.most
+
+pub rows_of-returns-in_err-made-in-One-clause-least : goal.rows_of-returns-in_err-made-in-One-clause-least
+rows_of-returns-in_err-made-in-One-clause-least g t c = c.in_ok-rows-in-One.ensures.least
+
+pub rows_of-returns-in_err-made-in-One-clause-most : goal.rows_of-returns-in_err-made-in-One-clause-most
+rows_of-returns-in_err-made-in-One-clause-most g t c =
+    most_same _ _ (reads_upto c.args.d.now c.args.w.lo c.args.w.hi (formula_view c.args.f.now)) (reads_upto c.args.d.now c.args.w.lo c.args.w.hi (formula_view c.in-One.part.now)) (ap (reads_upto c.args.d.now c.args.w.lo c.args.w.hi) (sym c.in-One.ensures) ∙ changed_reads (size_of c.args.d.now) (c.args.w.hi + 1 - c.args.w.lo) c.in-One.change (formula_view c.in-One.part.now)) c.in_ok-rows-in-One.ensures.most
+
+pub rows_of-returns-in_ok-made-in-One-clause-least : goal.rows_of-returns-in_ok-made-in-One-clause-least
+rows_of-returns-in_ok-made-in-One-clause-least g t c = c.in_ok-rows-in-One.ensures.least
+
+pub rows_of-returns-in_ok-made-in-One-clause-most : goal.rows_of-returns-in_ok-made-in-One-clause-most
+rows_of-returns-in_ok-made-in-One-clause-most g t c =
+    most_same _ _ (reads_upto c.args.d.now c.args.w.lo c.args.w.hi (formula_view c.args.f.now)) (reads_upto c.args.d.now c.args.w.lo c.args.w.hi (formula_view c.in-One.part.now)) (ap (reads_upto c.args.d.now c.args.w.lo c.args.w.hi) (sym c.in-One.ensures) ∙ changed_reads (size_of c.args.d.now) (c.args.w.hi + 1 - c.args.w.lo) c.in-One.change (formula_view c.in-One.part.now)) c.in_ok-rows-in-One.ensures.most
+
+pub rows_of-rows_of-requires-in-Two : goal.rows_of-rows_of-requires-in-Two
+rows_of-rows_of-requires-in-Two g t c κs lives =
+    let tree : formula_view c.args.f.now ≡ paired_tree c.in-Two.pairing (formula_view c.in-Two.left.now) (formula_view c.in-Two.right.now) = sym c.in-Two.ensures in
+    let size : nodes (formula_view c.args.f.now) ≡ nodes (formula_view c.in-Two.left.now) + nodes (formula_view c.in-Two.right.now) + 1 = ap nodes tree ∙ paired_nodes c.in-Two.pairing (formula_view c.in-Two.left.now) (formula_view c.in-Two.right.now) in (
+      omega (arith, c.decreases, size),
+      (lives.0, (lives.1.0, (lives.1.1.0, (lives.1.1.1, ((λ v h. c.requires.over v (ap (has_variable v) tree ∙ paired_has v c.in-Two.pairing (formula_view c.in-Two.left.now) (formula_view c.in-Two.right.now) ∙ or_left (has_variable v (formula_view c.in-Two.left.now)) (has_variable v (formula_view c.in-Two.right.now)) h)), (let both = paired_asks (g.I.Interpreter.interpretation c.args.source.now) (g.I.Interpreter.atom_fits c.args.source.now c.args.w.lo c.args.w.hi) (g.I.Interpreter.term_fits c.args.source.now c.args.w.lo c.args.w.hi) c.args.d.now c.args.w.lo c.args.w.hi c.args.env.now c.in-Two.pairing (formula_view c.in-Two.left.now) (formula_view c.in-Two.right.now) (subst (λ (z : ResolvedTree). CanAsk (g.I.Interpreter.interpretation c.args.source.now) (g.I.Interpreter.atom_fits c.args.source.now c.args.w.lo c.args.w.hi) (g.I.Interpreter.term_fits c.args.source.now c.args.w.lo c.args.w.hi) c.args.d.now c.args.w.lo c.args.w.hi z c.args.env.now) tree c.requires.can) in both.0)))))),
+    )
+
+pub rows_of-rows_of-requires-in-Two-2 : goal.rows_of-rows_of-requires-in-Two-2
+rows_of-rows_of-requires-in-Two-2 g t c κs lives =
+    let tree : formula_view c.args.f.now ≡ paired_tree c.in-Two.pairing (formula_view c.in-Two.left.now) (formula_view c.in-Two.right.now) = sym c.in-Two.ensures in
+    let size : nodes (formula_view c.args.f.now) ≡ nodes (formula_view c.in-Two.left.now) + nodes (formula_view c.in-Two.right.now) + 1 = ap nodes tree ∙ paired_nodes c.in-Two.pairing (formula_view c.in-Two.left.now) (formula_view c.in-Two.right.now) in (
+      omega (arith, c.decreases, size),
+      (lives.0, (lives.1.0, (lives.1.1.0, (lives.1.1.1, ((λ v h. c.requires.over v (ap (has_variable v) tree ∙ paired_has v c.in-Two.pairing (formula_view c.in-Two.left.now) (formula_view c.in-Two.right.now) ∙ or_right (has_variable v (formula_view c.in-Two.left.now)) (has_variable v (formula_view c.in-Two.right.now)) h)), (let both = paired_asks (g.I.Interpreter.interpretation c.args.source.now) (g.I.Interpreter.atom_fits c.args.source.now c.args.w.lo c.args.w.hi) (g.I.Interpreter.term_fits c.args.source.now c.args.w.lo c.args.w.hi) c.args.d.now c.args.w.lo c.args.w.hi c.args.env.now c.in-Two.pairing (formula_view c.in-Two.left.now) (formula_view c.in-Two.right.now) (subst (λ (z : ResolvedTree). CanAsk (g.I.Interpreter.interpretation c.args.source.now) (g.I.Interpreter.atom_fits c.args.source.now c.args.w.lo c.args.w.hi) (g.I.Interpreter.term_fits c.args.source.now c.args.w.lo c.args.w.hi) c.args.d.now c.args.w.lo c.args.w.hi z c.args.env.now) tree c.requires.can) in both.1)))))),
+    )
+
+pub rows_of-paired_rows-requires-clause-left : goal.rows_of-paired_rows-requires-clause-left
+rows_of-paired_rows-requires-clause-left g t c =
+    subst (λ (vs : List ℕ). IsStrictlyIncreasing vs) (sym c.in_ok-left-in-Two.ensures.rows.vars) (ascending_variables (λ v. has_variable v (formula_view c.in-Two.left.now)))
+
+pub rows_of-paired_rows-requires-clause-right : goal.rows_of-paired_rows-requires-clause-right
+rows_of-paired_rows-requires-clause-right g t c =
+    subst (λ (vs : List ℕ). IsStrictlyIncreasing vs) (sym c.in_ok-right-in-Two.ensures.rows.vars) (ascending_variables (λ v. has_variable v (formula_view c.in-Two.right.now)))
+
+pub rows_of-paired_rows-requires-clause-frame : goal.rows_of-paired_rows-requires-clause-frame
+rows_of-paired_rows-requires-clause-frame g t c = c.in_ok-right-in-Two.ensures.rows.frame ∙ sym c.in_ok-left-in-Two.ensures.rows.frame
+
+pub rows_of-returns-in_ok-made-in-Two-clause-rows : goal.rows_of-returns-in_ok-made-in-Two-clause-rows
+rows_of-returns-in_ok-made-in-Two-clause-rows g t c =
+    subst (λ (z : ResolvedTree). AreRowsOf g.S.TickSet.member (g.I.Interpreter.interpretation c.args.source.now) c.args.d.now c.args.w.lo c.args.w.hi z c.args.env.now c.in_ok-made-in-Two.made) c.in-Two.ensures
+    (two_rows g.S.TickSet.member (g.I.Interpreter.interpretation c.args.source.now) c.args.d.now c.args.w.lo c.args.w.hi c.args.env.now (formula_view c.in-Two.left.now) c.in_ok-left-in-Two.left c.in_ok-left-in-Two.ensures.rows c.in-Two.pairing (formula_view c.in-Two.right.now) c.in_ok-right-in-Two.right c.in_ok-made-in-Two.made c.in_ok-right-in-Two.ensures.rows
+    c.in_ok-made-in-Two.ensures.ticks c.in_ok-made-in-Two.ensures.vars c.in_ok-made-in-Two.ensures.frame)
+
+pub rows_of-returns-in_err-left-in-Two-clause-least : goal.rows_of-returns-in_err-left-in-Two-clause-least
+rows_of-returns-in_err-left-in-Two-clause-least g t c = c.in_err-left-in-Two.ensures.least
+
+pub rows_of-returns-in_err-left-in-Two-clause-most : goal.rows_of-returns-in_err-left-in-Two-clause-most
+rows_of-returns-in_err-left-in-Two-clause-most g t c =
+    most_first _ _ (reads_upto c.args.d.now c.args.w.lo c.args.w.hi (formula_view c.args.f.now)) (reads_upto c.args.d.now c.args.w.lo c.args.w.hi (formula_view c.in-Two.left.now)) (reads_upto c.args.d.now c.args.w.lo c.args.w.hi (formula_view c.in-Two.right.now)) (ap (reads_upto c.args.d.now c.args.w.lo c.args.w.hi) (sym c.in-Two.ensures) ∙ paired_reads (size_of c.args.d.now) (c.args.w.hi + 1 - c.args.w.lo) c.in-Two.pairing (formula_view c.in-Two.left.now) (formula_view c.in-Two.right.now)) c.in_err-left-in-Two.ensures.most
+
+pub rows_of-returns-in_err-right-in-Two-clause-least : goal.rows_of-returns-in_err-right-in-Two-clause-least
+rows_of-returns-in_err-right-in-Two-clause-least g t c = in_turn _ _ _ c.in_ok-left-in-Two.ensures.least c.in_err-right-in-Two.ensures.least
+
+pub rows_of-returns-in_err-right-in-Two-clause-most : goal.rows_of-returns-in_err-right-in-Two-clause-most
+rows_of-returns-in_err-right-in-Two-clause-most g t c =
+    most_both _ _ _ (reads_upto c.args.d.now c.args.w.lo c.args.w.hi (formula_view c.args.f.now)) (reads_upto c.args.d.now c.args.w.lo c.args.w.hi (formula_view c.in-Two.left.now)) (reads_upto c.args.d.now c.args.w.lo c.args.w.hi (formula_view c.in-Two.right.now)) (ap (reads_upto c.args.d.now c.args.w.lo c.args.w.hi) (sym c.in-Two.ensures) ∙ paired_reads (size_of c.args.d.now) (c.args.w.hi + 1 - c.args.w.lo) c.in-Two.pairing (formula_view c.in-Two.left.now) (formula_view c.in-Two.right.now)) c.in_ok-left-in-Two.ensures.most c.in_err-right-in-Two.ensures.most
+
+pub rows_of-returns-in_err-made-in-Two-clause-least : goal.rows_of-returns-in_err-made-in-Two-clause-least
+rows_of-returns-in_err-made-in-Two-clause-least g t c = in_turn _ _ _ c.in_ok-left-in-Two.ensures.least c.in_ok-right-in-Two.ensures.least
+
+pub rows_of-returns-in_err-made-in-Two-clause-most : goal.rows_of-returns-in_err-made-in-Two-clause-most
+rows_of-returns-in_err-made-in-Two-clause-most g t c =
+    most_both _ _ _ (reads_upto c.args.d.now c.args.w.lo c.args.w.hi (formula_view c.args.f.now)) (reads_upto c.args.d.now c.args.w.lo c.args.w.hi (formula_view c.in-Two.left.now)) (reads_upto c.args.d.now c.args.w.lo c.args.w.hi (formula_view c.in-Two.right.now)) (ap (reads_upto c.args.d.now c.args.w.lo c.args.w.hi) (sym c.in-Two.ensures) ∙ paired_reads (size_of c.args.d.now) (c.args.w.hi + 1 - c.args.w.lo) c.in-Two.pairing (formula_view c.in-Two.left.now) (formula_view c.in-Two.right.now)) c.in_ok-left-in-Two.ensures.most c.in_ok-right-in-Two.ensures.most
+
+pub rows_of-returns-in_ok-made-in-Two-clause-least : goal.rows_of-returns-in_ok-made-in-Two-clause-least
+rows_of-returns-in_ok-made-in-Two-clause-least g t c = in_turn _ _ _ c.in_ok-left-in-Two.ensures.least c.in_ok-right-in-Two.ensures.least
+
+pub rows_of-returns-in_ok-made-in-Two-clause-most : goal.rows_of-returns-in_ok-made-in-Two-clause-most
+rows_of-returns-in_ok-made-in-Two-clause-most g t c =
+    most_both _ _ _ (reads_upto c.args.d.now c.args.w.lo c.args.w.hi (formula_view c.args.f.now)) (reads_upto c.args.d.now c.args.w.lo c.args.w.hi (formula_view c.in-Two.left.now)) (reads_upto c.args.d.now c.args.w.lo c.args.w.hi (formula_view c.in-Two.right.now)) (ap (reads_upto c.args.d.now c.args.w.lo c.args.w.hi) (sym c.in-Two.ensures) ∙ paired_reads (size_of c.args.d.now) (c.args.w.hi + 1 - c.args.w.lo) c.in-Two.pairing (formula_view c.in-Two.left.now) (formula_view c.in-Two.right.now)) c.in_ok-left-in-Two.ensures.most c.in_ok-right-in-Two.ensures.most
+
+pub rows_of-rows_of_assignment-requires : goal.rows_of-rows_of_assignment-requires
+rows_of-rows_of_assignment-requires g t c κs lives =
+    let tree = sym c.in-Assign.ensures in
+    let size = ap nodes c.in-Assign.ensures in (
+      omega (arith, c.decreases, size),
+      (lives.0, (lives.1.0, (lives.1.1.0, (lives.1.1.1, ((λ v l. c.free-in-Assign.ensures v l ∙ ap (has_variable v) tree), ((λ v h. c.requires.over v (ap (has_variable v) tree ∙ h)), subst (λ (z : ResolvedTree). CanAsk (g.I.Interpreter.interpretation c.args.source.now) (g.I.Interpreter.atom_fits c.args.source.now c.args.w.lo c.args.w.hi) (g.I.Interpreter.term_fits c.args.source.now c.args.w.lo c.args.w.hi) c.args.d.now c.args.w.lo c.args.w.hi z c.args.env.now) tree c.requires.can)))))),
+    )
+
+pub rows_of-returns-in_ok-made-in-Assign-clause-rows : goal.rows_of-returns-in_ok-made-in-Assign-clause-rows
+rows_of-returns-in_ok-made-in-Assign-clause-rows g t c =
+    subst (λ (z : ResolvedTree). AreRowsOf g.S.TickSet.member (g.I.Interpreter.interpretation c.args.source.now) c.args.d.now c.args.w.lo c.args.w.hi z c.args.env.now c.in_ok-made-in-Assign.made) c.in-Assign.ensures c.in_ok-made-in-Assign.ensures.rows
+
+pub rows_of-returns-in_err-made-in-Assign-clause-least : goal.rows_of-returns-in_err-made-in-Assign-clause-least
+rows_of-returns-in_err-made-in-Assign-clause-least g t c = c.in_err-made-in-Assign.ensures.least
+
+pub rows_of-returns-in_err-made-in-Assign-clause-most : goal.rows_of-returns-in_err-made-in-Assign-clause-most
+rows_of-returns-in_err-made-in-Assign-clause-most g t c =
+    subst (λ (z : ResolvedTree). c.rows_of_assignment.new.reads ≤ c.args.reads.now + reads_upto c.args.d.now c.args.w.lo c.args.w.hi z) c.in-Assign.ensures c.in_err-made-in-Assign.ensures.most
+
+pub rows_of-returns-in_ok-made-in-Assign-clause-least : goal.rows_of-returns-in_ok-made-in-Assign-clause-least
+rows_of-returns-in_ok-made-in-Assign-clause-least g t c = c.in_ok-made-in-Assign.ensures.least
+
+pub rows_of-returns-in_ok-made-in-Assign-clause-most : goal.rows_of-returns-in_ok-made-in-Assign-clause-most
+rows_of-returns-in_ok-made-in-Assign-clause-most g t c =
+    subst (λ (z : ResolvedTree). c.rows_of_assignment.new.reads ≤ c.args.reads.now + reads_upto c.args.d.now c.args.w.lo c.args.w.hi z) c.in-Assign.ensures c.in_ok-made-in-Assign.ensures.most
+
+pub rows_of-unreachable-requires : goal.rows_of-unreachable-requires
+rows_of-unreachable-requires g t c =
+    let f : false ≡ true = sym c.if-is_over.false ∙ c.is_over.ensures ∙ truth_over c.variables_of-vars.result.now (formula_view c.args.f.now) _ (sym c.in-Truth.ensures) in cc
+
+pub rows_of-unreachable-requires-in-Atom : goal.rows_of-unreachable-requires-in-Atom
+rows_of-unreachable-requires-in-Atom g t c =
+    let f : false ≡ true = sym c.if-is_over.false ∙ c.is_over.ensures ∙ atom_over c.variables_of-vars.result.now (formula_view c.args.f.now) _ (c.variables_of-vars.ensures ∙ variables_same (has c.free.result) (λ v. has_variable v (formula_view c.args.f.now)) (λ v l. c.free.ensures v l)) (sym c.in-Atom.ensures) in cc
+
+pub rows_of_assignment-keys_of-requires-clause-known : goal.rows_of_assignment-keys_of-requires-clause-known
+rows_of_assignment-keys_of-requires-clause-known g t c =
+    subst (λ (vs : List ℕ). are_known c.args.d.now vs ≡ true) (sym c.variables_of-term_vars.ensures)
+    (known_variables c.args.d.now (has c.free_in_term.result) (λ v l h. c.requires.over v (or_left (term_has v c.args.a.now.term.now) (has_variable v (formula_view c.args.a.now.body.now)) (sym (c.free_in_term.ensures v l) ∙ h))))
+
+pub rows_of_assignment-keys_of-requires-clause-few : goal.rows_of_assignment-keys_of-requires-clause-few
+rows_of_assignment-keys_of-requires-clause-few g t c = subst (λ (vs : List ℕ). length vs ≤ 4) (sym c.variables_of-term_vars.ensures) (few_variables (has c.free_in_term.result))
+
+pub rows_of_assignment-keys-init : goal.rows_of_assignment-keys-init
+rows_of_assignment-keys-init g t c = record {
+  alike = none_alike (variables_in (has c.args.set)) c.args.d.now c.args.w.lo c.args.w.hi c.new-parts.result.items c.new-parts.ensures.items;
+  ticks = λ b is_in u. ap (λ (rs : (List (Table g.row.S.Denot))). any_has g.S.TickSet.member rs b u) c.new-parts.ensures.items ∙ none_yet (within c.args.w.lo c.args.w.hi u);
+  least = omega arith;
+  most = omega arith;
+}
+
+pub rows_of_assignment-rows_at_key-requires : goal.rows_of_assignment-rows_at_key-requires
+rows_of_assignment-rows_at_key-requires g t c κs lives =
+    let same_vars : c.variables_of-term_vars.result.now ≡ term_variables c.args.a.now.term.now = c.variables_of-term_vars.ensures ∙ variables_same (has c.free_in_term.result) (λ v. term_has v c.args.a.now.term.now) (λ v l. c.free_in_term.ensures v l) in
+    let are = subst (λ (ks : List (List ℕ)). AreKeys c.args.d.now c.variables_of-term_vars.result.now ks) (sym c.deref-key-items.ensures.value) c.in_ok-keys.ensures in
+    let inside = subst (λ (k : List ℕ). key_in c.args.d.now c.variables_of-term_vars.result.now k ≡ true) (sym c.key-item.is) (at_key (key_in c.args.d.now c.variables_of-term_vars.result.now) c.deref-key-items.result.now c.keys.key-index c.key-item.result are.inside (omega (arith, c.keys-test.true))) in (
+      omega (arith, c.decreases),
+      (lives.0, (lives.1.0, (lives.1.1.0, (lives.1.1.1, (same_vars, (inside, (c.requires.over, c.requires.can))))))),
+    )
+
+pub rows_of_assignment-returns-in_err-rows-clause-least : goal.rows_of_assignment-returns-in_err-rows-clause-least
+rows_of_assignment-returns-in_err-rows-clause-least g t c = in_turn _ _ _ c.keys.invariant.least c.in_err-rows.ensures.least
+
+pub rows_of_assignment-returns-in_err-rows-clause-most : goal.rows_of_assignment-returns-in_err-rows-clause-most
+rows_of_assignment-returns-in_err-rows-clause-most g t c =
+    let same_vars : c.variables_of-term_vars.result.now ≡ term_variables c.args.a.now.term.now = c.variables_of-term_vars.ensures ∙ variables_same (has c.free_in_term.result) (λ v. term_has v c.args.a.now.term.now) (λ v l. c.free_in_term.ensures v l) in
+    keys_within c.args.d.now c.args.w.lo c.args.w.hi c.variables_of-term_vars.result.now c.args.a.now.depth c.args.a.now.term.now (formula_view c.args.a.now.body.now) same_vars _ _ (c.keys.key-index + 1) (length c.in_ok-keys.keys.items)
+    (one_step c.args.reads.now c.keys.reads _ c.keys.key-index (reads_at_key c.args.d.now c.args.w.lo c.args.w.hi c.variables_of-term_vars.result.now (formula_view c.args.a.now.body.now)) c.keys.invariant.most c.in_err-rows.ensures.most)
+    (let l = c.keys-test.true in let e = ap length c.deref-key-items.ensures.value in omega (arith, l, e)) c.in_ok-keys.ensures.count
+
+pub rows_of_assignment-returns-in_err-push_back-clause-least : goal.rows_of_assignment-returns-in_err-push_back-clause-least
+rows_of_assignment-returns-in_err-push_back-clause-least g t c = in_turn _ _ _ c.keys.invariant.least c.in_ok-rows.ensures.least
+
+pub rows_of_assignment-returns-in_err-push_back-clause-most : goal.rows_of_assignment-returns-in_err-push_back-clause-most
+rows_of_assignment-returns-in_err-push_back-clause-most g t c =
+    let same_vars : c.variables_of-term_vars.result.now ≡ term_variables c.args.a.now.term.now = c.variables_of-term_vars.ensures ∙ variables_same (has c.free_in_term.result) (λ v. term_has v c.args.a.now.term.now) (λ v l. c.free_in_term.ensures v l) in
+    keys_within c.args.d.now c.args.w.lo c.args.w.hi c.variables_of-term_vars.result.now c.args.a.now.depth c.args.a.now.term.now (formula_view c.args.a.now.body.now) same_vars _ _ (c.keys.key-index + 1) (length c.in_ok-keys.keys.items)
+    (one_step c.args.reads.now c.keys.reads _ c.keys.key-index (reads_at_key c.args.d.now c.args.w.lo c.args.w.hi c.variables_of-term_vars.result.now (formula_view c.args.a.now.body.now)) c.keys.invariant.most c.in_ok-rows.ensures.most)
+    (let l = c.keys-test.true in let e = ap length c.deref-key-items.ensures.value in omega (arith, l, e)) c.in_ok-keys.ensures.count
+
+pub rows_of_assignment-returns-in_err-made-clause-least : goal.rows_of_assignment-returns-in_err-made-clause-least
+rows_of_assignment-returns-in_err-made-clause-least g t c = c.keys.invariant.least
+
+pub rows_of_assignment-returns-in_err-made-clause-most : goal.rows_of_assignment-returns-in_err-made-clause-most
+rows_of_assignment-returns-in_err-made-clause-most g t c =
+    let same_vars : c.variables_of-term_vars.result.now ≡ term_variables c.args.a.now.term.now = c.variables_of-term_vars.ensures ∙ variables_same (has c.free_in_term.result) (λ v. term_has v c.args.a.now.term.now) (λ v l. c.free_in_term.ensures v l) in
+    keys_within c.args.d.now c.args.w.lo c.args.w.hi c.variables_of-term_vars.result.now c.args.a.now.depth c.args.a.now.term.now (formula_view c.args.a.now.body.now) same_vars _ _ c.keys.key-index (length c.in_ok-keys.keys.items) c.keys.invariant.most
+    (let l : c.keys.key-index ≤ length c.deref-key-items.result.now = c.keys.auto.key-index-end in let e = ap length c.deref-key-items.ensures.value in omega (arith, l, e)) c.in_ok-keys.ensures.count
+
+pub rows_of_assignment-returns-clause-least : goal.rows_of_assignment-returns-clause-least
+rows_of_assignment-returns-clause-least g t c = c.keys.invariant.least
+
+pub rows_of_assignment-returns-clause-most : goal.rows_of_assignment-returns-clause-most
+rows_of_assignment-returns-clause-most g t c =
+    let same_vars : c.variables_of-term_vars.result.now ≡ term_variables c.args.a.now.term.now = c.variables_of-term_vars.ensures ∙ variables_same (has c.free_in_term.result) (λ v. term_has v c.args.a.now.term.now) (λ v l. c.free_in_term.ensures v l) in
+    keys_within c.args.d.now c.args.w.lo c.args.w.hi c.variables_of-term_vars.result.now c.args.a.now.depth c.args.a.now.term.now (formula_view c.args.a.now.body.now) same_vars _ _ c.keys.key-index (length c.in_ok-keys.keys.items) c.keys.invariant.most
+    (let l : c.keys.key-index ≤ length c.deref-key-items.result.now = c.keys.auto.key-index-end in let e = ap length c.deref-key-items.ensures.value in omega (arith, l, e)) c.in_ok-keys.ensures.count
+
+pub rows_of_assignment-keys-preserved : goal.rows_of_assignment-keys-preserved
+rows_of_assignment-keys-preserved g t c = record {
+  alike = more_alike (variables_in (has c.args.set)) c.args.d.now c.args.w.lo c.args.w.hi c.keys.parts.items c.push_back.new.self.items c.in_ok-rows.rows c.in_ok-push_back.ensures.items c.keys.invariant.alike
+      (c.in_ok-rows.ensures.rows.vars ∙ sym (variables_same (has c.args.set) (λ v. has_variable v (assignment_view c.args.a.now)) (λ v l. c.requires.set v l))) c.in_ok-rows.ensures.rows.frame;
+  ticks = λ b is_in u.
+      ap (λ (rs : (List (Table g.row.S.Denot))). any_has g.S.TickSet.member rs b u) c.in_ok-push_back.ensures.items
+      ∙ key_more g.S.TickSet.member c.args.d.now c.args.w.lo c.args.w.hi c.variables_of-term_vars.result.now (λ (b : ℕ → ℕ) (u : ℕ). sat (g.I.Interpreter.interpretation c.args.source.now b) (assignment_view c.args.a.now) c.args.env.now c.args.w.hi u) c.deref-key-items.result.now (variables_of (assignment_view c.args.a.now)) c.keys.key-index c.key-item.result c.keys.parts.items c.in_ok-rows.rows
+      (omega (arith, c.keys-test.true)) c.key-item.is c.keys.invariant.ticks c.in_ok-rows.ensures.rows b is_in u;
+  least = in_turn _ _ _ c.keys.invariant.least c.in_ok-rows.ensures.least;
+  most = one_step c.args.reads.now c.keys.reads _ c.keys.key-index (reads_at_key c.args.d.now c.args.w.lo c.args.w.hi c.variables_of-term_vars.result.now (formula_view c.args.a.now.body.now)) c.keys.invariant.most c.in_ok-rows.ensures.most;
+}
+
+pub rows_of_assignment-united-requires-clause-alike : goal.rows_of_assignment-united-requires-clause-alike
+rows_of_assignment-united-requires-clause-alike g t c = c.keys.invariant.alike
+
+pub rows_of_assignment-united-requires-clause-known : goal.rows_of_assignment-united-requires-clause-known
+rows_of_assignment-united-requires-clause-known g t c = λ v l h. c.requires.over v (sym (c.requires.set v l) ∙ h)
+
+pub rows_of_assignment-returns-clause-rows : goal.rows_of_assignment-returns-clause-rows
+rows_of_assignment-returns-clause-rows g t c =
+    let are = subst (λ (ks : List (List ℕ)). AreKeys c.args.d.now c.variables_of-term_vars.result.now ks) (sym c.deref-key-items.ensures.value) c.in_ok-keys.ensures in
+    let known = subst (λ (vs : List ℕ). are_known c.args.d.now vs ≡ true) (sym c.variables_of-term_vars.ensures) (known_variables c.args.d.now (has c.free_in_term.result) (λ v l h. c.requires.over v (or_left (term_has v c.args.a.now.term.now) (has_variable v (formula_view c.args.a.now.body.now)) (sym (c.free_in_term.ensures v l) ∙ h)))) in
+    record {
+      ticks = λ b is_in u.
+          c.in_ok-made.ensures.ticks b is_in u
+          ∙ all_keys g.S.TickSet.member c.args.d.now c.args.w.lo c.args.w.hi c.variables_of-term_vars.result.now (λ (b : ℕ → ℕ) (u : ℕ). sat (g.I.Interpreter.interpretation c.args.source.now b) (assignment_view c.args.a.now) c.args.env.now c.args.w.hi u) c.deref-key-items.result.now c.keys.key-index c.keys.parts.items (omega (arith, c.keys-test.false)) are known c.keys.invariant.ticks b is_in u;
+      vars = c.in_ok-made.ensures.vars ∙ variables_same (has c.args.set) (λ v. has_variable v (assignment_view c.args.a.now)) (λ v l. c.requires.set v l);
+      frame = c.in_ok-made.ensures.frame;
+    }
+
+pub rows_at_key-runs-requires : goal.rows_at_key-runs-requires
+rows_at_key-runs-requires g t c =
+    let here : IsInFor c.args.d.now (λ v. term_has v c.args.a.now.term.now) (slice_index c.binding_of-binding.result) =
+    subst (λ (b : List ℕ). IsInFor c.args.d.now (λ v. term_has v c.args.a.now.term.now) (slice_index b)) (sym c.binding_of-binding.ensures)
+    (inside_at (λ v. term_has v c.args.a.now.term.now) (λ v h. (let o = c.requires.over v (or_left (term_has v c.args.a.now.term.now) (has_variable v (formula_view c.args.a.now.body.now)) h) in omega (arith, o, c.len.ensures.count, c.len.ensures.few))) c.args.term_vars.now c.requires.vars c.args.d.now c.args.key.now c.requires.key) in
+    (c.requires.can (slice_index c.binding_of-binding.result) here).0
+
+pub rows_at_key-rows_of_runs-requires : goal.rows_at_key-rows_of_runs-requires
+rows_at_key-rows_of_runs-requires g t c κs lives =
+    let here : IsInFor c.args.d.now (λ v. term_has v c.args.a.now.term.now) (slice_index c.binding_of-binding.result) =
+    subst (λ (b : List ℕ). IsInFor c.args.d.now (λ v. term_has v c.args.a.now.term.now) (slice_index b)) (sym c.binding_of-binding.ensures)
+    (inside_at (λ v. term_has v c.args.a.now.term.now) (λ v h. (let o = c.requires.over v (or_left (term_has v c.args.a.now.term.now) (has_variable v (formula_view c.args.a.now.body.now)) h) in omega (arith, o, c.len.ensures.count, c.len.ensures.few))) c.args.term_vars.now c.requires.vars c.args.d.now c.args.key.now c.requires.key) in
+    let can = can_ask_each (g.I.Interpreter.interpretation c.args.source.now) (g.I.Interpreter.atom_fits c.args.source.now c.args.w.lo c.args.w.hi) (g.I.Interpreter.term_fits c.args.source.now c.args.w.lo c.args.w.hi) c.args.w.lo c.args.w.hi c.in_ok-narrow.narrow c.args.d.now (narrowed_wider c.args.d.now c.args.term_vars.now c.args.key.now c.in_ok-narrow.narrow c.in_ok-narrow.ensures c.requires.key) c.args.a.now.depth c.args.a.now.term.now (formula_view c.args.a.now.body.now) c.args.env.now (slice_index c.binding_of-binding.result)
+    (c.requires.can (slice_index c.binding_of-binding.result) here).1 c.in_ok-runs.runs.items c.in_ok-runs.ensures.runs.each in (
+      omega (arith, c.decreases),
+      (
+        lives.0,
+        (
+          lives.1.0,
+          (
+            lives.1.1.0,
+            (
+              lives.1.1.1,
+              (
+                (λ v h. (let o = c.requires.over v (or_right (term_has v c.args.a.now.term.now) (has_variable v (formula_view c.args.a.now.body.now)) h) in let m = c.in_ok-narrow.ensures.many in omega (arith, o, m))),
+                subst (λ (rs : List ValueRun). CanAskEach (g.I.Interpreter.interpretation c.args.source.now) (g.I.Interpreter.atom_fits c.args.source.now c.args.w.lo c.args.w.hi) (g.I.Interpreter.term_fits c.args.source.now c.args.w.lo c.args.w.hi) c.in_ok-narrow.narrow c.args.w.lo c.args.w.hi c.args.a.now.depth (formula_view c.args.a.now.body.now) c.args.env.now rs) (sym c.deref.ensures.value) can,
+              ),
+            ),
+          ),
+        ),
+      ),
+    )
+
+pub rows_at_key-widen-requires : goal.rows_at_key-widen-requires
+rows_at_key-widen-requires g t c =
+    subst (λ (ds : List (List ℕ)). IsWider ds c.args.d.now) (sym (ap (λ (z : Frame). z.domains) c.in_ok-rows.ensures.rows.frame))
+    (narrowed_wider c.args.d.now c.args.term_vars.now c.args.key.now c.in_ok-narrow.narrow c.in_ok-narrow.ensures c.requires.key)
+
+pub rows_at_key-row_of_key-requires-clause-few : goal.rows_at_key-row_of_key-requires-clause-few
+rows_at_key-row_of_key-requires-clause-few g t c = subst (λ (vs : List ℕ). length vs ≤ 4) (sym c.requires.vars) (few_variables (λ v. term_has v c.args.a.now.term.now))
+
+pub rows_at_key-row_of_key-requires-clause-known : goal.rows_at_key-row_of_key-requires-clause-known
+rows_at_key-row_of_key-requires-clause-known g t c =
+    subst (λ (vs : List ℕ). are_known c.args.d.now vs ≡ true) (sym c.requires.vars)
+    (known_variables c.args.d.now (λ v. term_has v c.args.a.now.term.now) (λ v l h. c.requires.over v (or_left (term_has v c.args.a.now.term.now) (has_variable v (formula_view c.args.a.now.body.now)) h)))
+
+pub rows_at_key-row_of_key-requires-clause-distinct : goal.rows_at_key-row_of_key-requires-clause-distinct
+rows_at_key-row_of_key-requires-clause-distinct g t c = subst (λ (vs : List ℕ). are_distinct vs ≡ true) (sym c.requires.vars) (distinct_variables (λ v. term_has v c.args.a.now.term.now))
+
+pub rows_at_key-row_of_key-requires-clause-inside : goal.rows_at_key-row_of_key-requires-clause-inside
+rows_at_key-row_of_key-requires-clause-inside g t c = c.requires.key
+
+pub rows_at_key-join-requires-clause-frame : goal.rows_at_key-join-requires-clause-frame
+rows_at_key-join-requires-clause-frame g t c =
+    wide_frame c.in_ok-rows.rows c.in_ok-rows-2.rows c.in_ok-narrow.narrow c.args.d.now c.args.w.lo c.args.w.hi c.in_ok-rows.ensures.rows.frame c.in_ok-rows-2.ensures.head ∙ sym c.in_ok-own.ensures.frame
+
+pub rows_at_key-join-requires-clause-left : goal.rows_at_key-join-requires-clause-left
+rows_at_key-join-requires-clause-left g t c =
+    subst (λ (vs : List ℕ). IsStrictlyIncreasing vs) (sym (c.in_ok-own.ensures.vars ∙ c.requires.vars)) (ascending_variables (λ v. term_has v c.args.a.now.term.now))
+
+pub rows_at_key-join-requires-clause-right : goal.rows_at_key-join-requires-clause-right
+rows_at_key-join-requires-clause-right g t c =
+    subst (λ (vs : List ℕ). IsStrictlyIncreasing vs) (sym (c.in_ok-rows-2.ensures.head.vars ∙ c.in_ok-rows.ensures.rows.vars)) (ascending_variables (λ v. has_variable v (formula_view c.args.a.now.body.now)))
+
+pub rows_at_key-returns-clause-rows : goal.rows_at_key-returns-clause-rows
+rows_at_key-returns-clause-rows g t c = rows_at_key g.S.TickSet.member (g.I.Interpreter.interpretation c.args.source.now) c.args.d.now c.args.w.lo c.args.w.hi c.args.a.now.depth c.args.a.now.term.now (formula_view c.args.a.now.body.now) c.args.env.now
+    (λ p r e u. g.met.I.Interpreter.term_sees c.args.source.now p r c.args.a.now.term.now e c.args.env.now u)
+    (λ v h. (let o = c.requires.over v (or_left (term_has v c.args.a.now.term.now) (has_variable v (formula_view c.args.a.now.body.now)) h) in omega (arith, o, c.len.ensures.count, c.len.ensures.few))) c.args.term_vars.now c.requires.vars c.args.key.now c.in_ok-narrow.narrow c.in_ok-runs.runs.items c.in_ok-rows.rows c.in_ok-rows-2.rows c.in_ok-own.own c.in_ok-made.made c.in_ok-narrow.ensures
+    (subst (λ (b : List ℕ). AreValueRuns c.args.w.lo c.args.w.hi ((g.I.Interpreter.interpretation c.args.source.now (slice_index b)).term c.args.a.now.term.now c.args.env.now) c.in_ok-runs.runs.items) c.binding_of-binding.ensures c.in_ok-runs.ensures.runs)
+    (subst (λ (rs : List ValueRun). AreRowsWhere g.S.TickSet.member c.in_ok-narrow.narrow c.args.w.lo c.args.w.hi (variables_of (formula_view c.args.a.now.body.now)) (run_holds (g.I.Interpreter.interpretation c.args.source.now) c.args.a.now.depth (formula_view c.args.a.now.body.now) c.args.env.now c.args.w.hi rs) c.in_ok-rows.rows) c.deref.ensures.value c.in_ok-rows.ensures.rows)
+    c.in_ok-rows-2.ensures.ticks c.in_ok-rows-2.ensures.head.vars c.in_ok-own.ensures c.in_ok-made.ensures.ticks c.in_ok-made.ensures.vars c.in_ok-made.ensures.frame
+
+pub rows_at_key-returns-in_err-runs-clause-least : goal.rows_at_key-returns-in_err-runs-clause-least
+rows_at_key-returns-in_err-runs-clause-least g t c = c.in_err-runs.ensures.least
+
+pub rows_at_key-returns-in_err-runs-clause-most : goal.rows_at_key-returns-in_err-runs-clause-most
+rows_at_key-returns-in_err-runs-clause-most g t c = term_within c.args.d.now c.args.w.lo c.args.w.hi c.args.term_vars.now c.args.a.now.term.now (formula_view c.args.a.now.body.now) c.requires.vars _ _ c.in_err-runs.ensures.most
+
+pub rows_at_key-returns-in_err-narrow-clause-least : goal.rows_at_key-returns-in_err-narrow-clause-least
+rows_at_key-returns-in_err-narrow-clause-least g t c = c.in_ok-runs.ensures.least
+
+pub rows_at_key-returns-in_err-narrow-clause-most : goal.rows_at_key-returns-in_err-narrow-clause-most
+rows_at_key-returns-in_err-narrow-clause-most g t c = term_within c.args.d.now c.args.w.lo c.args.w.hi c.args.term_vars.now c.args.a.now.term.now (formula_view c.args.a.now.body.now) c.requires.vars _ _ c.in_ok-runs.ensures.most
+
+pub rows_at_key-returns-in_err-rows-clause-least : goal.rows_at_key-returns-in_err-rows-clause-least
+rows_at_key-returns-in_err-rows-clause-least g t c = in_turn _ _ _ c.in_ok-runs.ensures.least c.in_err-rows.ensures.least
+
+pub rows_at_key-returns-in_err-rows-clause-most : goal.rows_at_key-returns-in_err-rows-clause-most
+rows_at_key-returns-in_err-rows-clause-most g t c =
+    key_within c.args.d.now c.in_ok-narrow.narrow c.args.w.lo c.args.w.hi c.args.term_vars.now c.args.a.now.term.now (formula_view c.args.a.now.body.now) c.requires.vars
+    (narrowed_sizes c.args.d.now c.args.term_vars.now c.args.key.now c.in_ok-narrow.narrow c.in_ok-narrow.ensures c.requires.key (subst (λ (vs : List ℕ). are_known c.args.d.now vs ≡ true) (sym c.requires.vars) (known_variables c.args.d.now (λ v. term_has v c.args.a.now.term.now) (λ v l h. c.requires.over v (or_left (term_has v c.args.a.now.term.now) (has_variable v (formula_view c.args.a.now.body.now)) h)))))
+    _ _ _ (length c.deref.result.now) c.in_ok-runs.ensures.most
+    (subst (λ (rs : List ValueRun). length rs ≤ c.args.w.hi + 1 - c.args.w.lo) (sym c.deref.ensures.value) c.in_ok-runs.ensures.runs.few) c.in_err-rows.ensures.most
+
+pub rows_at_key-returns-in_err-rows-2-clause-least : goal.rows_at_key-returns-in_err-rows-2-clause-least
+rows_at_key-returns-in_err-rows-2-clause-least g t c = in_turn _ _ _ c.in_ok-runs.ensures.least c.in_ok-rows.ensures.least
+
+pub rows_at_key-returns-in_err-rows-2-clause-most : goal.rows_at_key-returns-in_err-rows-2-clause-most
+rows_at_key-returns-in_err-rows-2-clause-most g t c =
+    key_within c.args.d.now c.in_ok-narrow.narrow c.args.w.lo c.args.w.hi c.args.term_vars.now c.args.a.now.term.now (formula_view c.args.a.now.body.now) c.requires.vars
+    (narrowed_sizes c.args.d.now c.args.term_vars.now c.args.key.now c.in_ok-narrow.narrow c.in_ok-narrow.ensures c.requires.key (subst (λ (vs : List ℕ). are_known c.args.d.now vs ≡ true) (sym c.requires.vars) (known_variables c.args.d.now (λ v. term_has v c.args.a.now.term.now) (λ v l h. c.requires.over v (or_left (term_has v c.args.a.now.term.now) (has_variable v (formula_view c.args.a.now.body.now)) h)))))
+    _ _ _ (length c.deref.result.now) c.in_ok-runs.ensures.most
+    (subst (λ (rs : List ValueRun). length rs ≤ c.args.w.hi + 1 - c.args.w.lo) (sym c.deref.ensures.value) c.in_ok-runs.ensures.runs.few) c.in_ok-rows.ensures.most
+
+pub rows_at_key-returns-in_err-own-clause-least : goal.rows_at_key-returns-in_err-own-clause-least
+rows_at_key-returns-in_err-own-clause-least g t c = in_turn _ _ _ c.in_ok-runs.ensures.least c.in_ok-rows.ensures.least
+
+pub rows_at_key-returns-in_err-own-clause-most : goal.rows_at_key-returns-in_err-own-clause-most
+rows_at_key-returns-in_err-own-clause-most g t c =
+    key_within c.args.d.now c.in_ok-narrow.narrow c.args.w.lo c.args.w.hi c.args.term_vars.now c.args.a.now.term.now (formula_view c.args.a.now.body.now) c.requires.vars
+    (narrowed_sizes c.args.d.now c.args.term_vars.now c.args.key.now c.in_ok-narrow.narrow c.in_ok-narrow.ensures c.requires.key (subst (λ (vs : List ℕ). are_known c.args.d.now vs ≡ true) (sym c.requires.vars) (known_variables c.args.d.now (λ v. term_has v c.args.a.now.term.now) (λ v l h. c.requires.over v (or_left (term_has v c.args.a.now.term.now) (has_variable v (formula_view c.args.a.now.body.now)) h)))))
+    _ _ _ (length c.deref.result.now) c.in_ok-runs.ensures.most
+    (subst (λ (rs : List ValueRun). length rs ≤ c.args.w.hi + 1 - c.args.w.lo) (sym c.deref.ensures.value) c.in_ok-runs.ensures.runs.few) c.in_ok-rows.ensures.most
+
+pub rows_at_key-returns-in_err-made-clause-least : goal.rows_at_key-returns-in_err-made-clause-least
+rows_at_key-returns-in_err-made-clause-least g t c = in_turn _ _ _ c.in_ok-runs.ensures.least c.in_ok-rows.ensures.least
+
+pub rows_at_key-returns-in_err-made-clause-most : goal.rows_at_key-returns-in_err-made-clause-most
+rows_at_key-returns-in_err-made-clause-most g t c =
+    key_within c.args.d.now c.in_ok-narrow.narrow c.args.w.lo c.args.w.hi c.args.term_vars.now c.args.a.now.term.now (formula_view c.args.a.now.body.now) c.requires.vars
+    (narrowed_sizes c.args.d.now c.args.term_vars.now c.args.key.now c.in_ok-narrow.narrow c.in_ok-narrow.ensures c.requires.key (subst (λ (vs : List ℕ). are_known c.args.d.now vs ≡ true) (sym c.requires.vars) (known_variables c.args.d.now (λ v. term_has v c.args.a.now.term.now) (λ v l h. c.requires.over v (or_left (term_has v c.args.a.now.term.now) (has_variable v (formula_view c.args.a.now.body.now)) h)))))
+    _ _ _ (length c.deref.result.now) c.in_ok-runs.ensures.most
+    (subst (λ (rs : List ValueRun). length rs ≤ c.args.w.hi + 1 - c.args.w.lo) (sym c.deref.ensures.value) c.in_ok-runs.ensures.runs.few) c.in_ok-rows.ensures.most
+
+pub rows_at_key-returns-clause-least : goal.rows_at_key-returns-clause-least
+rows_at_key-returns-clause-least g t c = in_turn _ _ _ c.in_ok-runs.ensures.least c.in_ok-rows.ensures.least
+
+pub rows_at_key-returns-clause-most : goal.rows_at_key-returns-clause-most
+rows_at_key-returns-clause-most g t c =
+    key_within c.args.d.now c.in_ok-narrow.narrow c.args.w.lo c.args.w.hi c.args.term_vars.now c.args.a.now.term.now (formula_view c.args.a.now.body.now) c.requires.vars
+    (narrowed_sizes c.args.d.now c.args.term_vars.now c.args.key.now c.in_ok-narrow.narrow c.in_ok-narrow.ensures c.requires.key (subst (λ (vs : List ℕ). are_known c.args.d.now vs ≡ true) (sym c.requires.vars) (known_variables c.args.d.now (λ v. term_has v c.args.a.now.term.now) (λ v l h. c.requires.over v (or_left (term_has v c.args.a.now.term.now) (has_variable v (formula_view c.args.a.now.body.now)) h)))))
+    _ _ _ (length c.deref.result.now) c.in_ok-runs.ensures.most
+    (subst (λ (rs : List ValueRun). length rs ≤ c.args.w.hi + 1 - c.args.w.lo) (sym c.deref.ensures.value) c.in_ok-runs.ensures.runs.few) c.in_ok-rows.ensures.most
+
+pub rows_of_runs-runs-init : goal.rows_of_runs-runs-init
+rows_of_runs-runs-init g t c = record {
+  alike = none_alike (variables_of (formula_view c.args.a.now.body.now)) c.args.d.now c.args.w.lo c.args.w.hi c.new-parts.result.items c.new-parts.ensures.items;
+  ticks = λ b is_in u. ap (λ (rs : (List (Table g.row.S.Denot))). any_has g.S.TickSet.member rs b u) c.new-parts.ensures.items ∙ none_yet (within c.args.w.lo c.args.w.hi u);
+  least = omega arith;
+  most = omega arith;
+}
+
+pub rows_of_runs-rows_of-requires : goal.rows_of_runs-rows_of-requires
+rows_of_runs-rows_of-requires g t c κs lives = (
+  omega (arith, c.decreases),
+  (
+    lives.0,
+    (
+      lives.1.0,
+      (
+        lives.1.1.0,
+        (
+          lives.1.1.1,
+          (
+            c.requires.over,
+            subst (λ (x : Env). CanAsk (g.I.Interpreter.interpretation c.args.source.now) (g.I.Interpreter.atom_fits c.args.source.now c.args.w.lo c.args.w.hi) (g.I.Interpreter.term_fits c.args.source.now c.args.w.lo c.args.w.hi) c.args.d.now c.args.w.lo c.args.w.hi (formula_view c.args.a.now.body.now) x) (sym c.with-bound.ensures)
+                (can_ask_item (g.I.Interpreter.interpretation c.args.source.now) (g.I.Interpreter.atom_fits c.args.source.now c.args.w.lo c.args.w.hi) (g.I.Interpreter.term_fits c.args.source.now c.args.w.lo c.args.w.hi) c.args.w.lo c.args.w.hi c.args.d.now c.args.a.now.depth (formula_view c.args.a.now.body.now) c.args.env.now c.args.runs.now c.runs.run-index c.run-item.result (omega (arith, c.runs-test.true)) c.run-item.is c.requires.can),
+          ),
+        ),
+      ),
+    ),
+  ),
+)
+
+pub rows_of_runs-returns-in_err-rows-clause-least : goal.rows_of_runs-returns-in_err-rows-clause-least
+rows_of_runs-returns-in_err-rows-clause-least g t c = in_turn _ _ _ c.runs.invariant.least c.in_err-rows.ensures.least
+
+pub rows_of_runs-returns-in_err-rows-clause-most : goal.rows_of_runs-returns-in_err-rows-clause-most
+rows_of_runs-returns-in_err-rows-clause-most g t c =
+    some_steps c.args.reads.now _ (c.runs.run-index + 1) (length c.args.runs.now) (reads_upto c.args.d.now c.args.w.lo c.args.w.hi (formula_view c.args.a.now.body.now))
+    (one_step c.args.reads.now c.runs.reads _ c.runs.run-index (reads_upto c.args.d.now c.args.w.lo c.args.w.hi (formula_view c.args.a.now.body.now)) c.runs.invariant.most c.in_err-rows.ensures.most) (omega (arith, c.runs-test.true))
+
+pub rows_of_runs-returns-in_err-part-clause-least : goal.rows_of_runs-returns-in_err-part-clause-least
+rows_of_runs-returns-in_err-part-clause-least g t c = in_turn _ _ _ c.runs.invariant.least c.in_ok-rows.ensures.least
+
+pub rows_of_runs-returns-in_err-part-clause-most : goal.rows_of_runs-returns-in_err-part-clause-most
+rows_of_runs-returns-in_err-part-clause-most g t c =
+    some_steps c.args.reads.now _ (c.runs.run-index + 1) (length c.args.runs.now) (reads_upto c.args.d.now c.args.w.lo c.args.w.hi (formula_view c.args.a.now.body.now))
+    (one_step c.args.reads.now c.runs.reads _ c.runs.run-index (reads_upto c.args.d.now c.args.w.lo c.args.w.hi (formula_view c.args.a.now.body.now)) c.runs.invariant.most c.in_ok-rows.ensures.most) (omega (arith, c.runs-test.true))
+
+pub rows_of_runs-returns-in_err-push_back-clause-least : goal.rows_of_runs-returns-in_err-push_back-clause-least
+rows_of_runs-returns-in_err-push_back-clause-least g t c = in_turn _ _ _ c.runs.invariant.least c.in_ok-rows.ensures.least
+
+pub rows_of_runs-returns-in_err-push_back-clause-most : goal.rows_of_runs-returns-in_err-push_back-clause-most
+rows_of_runs-returns-in_err-push_back-clause-most g t c =
+    some_steps c.args.reads.now _ (c.runs.run-index + 1) (length c.args.runs.now) (reads_upto c.args.d.now c.args.w.lo c.args.w.hi (formula_view c.args.a.now.body.now))
+    (one_step c.args.reads.now c.runs.reads _ c.runs.run-index (reads_upto c.args.d.now c.args.w.lo c.args.w.hi (formula_view c.args.a.now.body.now)) c.runs.invariant.most c.in_ok-rows.ensures.most) (omega (arith, c.runs-test.true))
+
+pub rows_of_runs-returns-in_err-made-clause-least : goal.rows_of_runs-returns-in_err-made-clause-least
+rows_of_runs-returns-in_err-made-clause-least g t c = c.runs.invariant.least
+
+pub rows_of_runs-returns-in_err-made-clause-most : goal.rows_of_runs-returns-in_err-made-clause-most
+rows_of_runs-returns-in_err-made-clause-most g t c = some_steps c.args.reads.now c.runs.reads c.runs.run-index (length c.args.runs.now) (reads_upto c.args.d.now c.args.w.lo c.args.w.hi (formula_view c.args.a.now.body.now)) c.runs.invariant.most c.runs.auto.run-index-end
+
+pub rows_of_runs-returns-clause-least : goal.rows_of_runs-returns-clause-least
+rows_of_runs-returns-clause-least g t c = c.runs.invariant.least
+
+pub rows_of_runs-returns-clause-most : goal.rows_of_runs-returns-clause-most
+rows_of_runs-returns-clause-most g t c = some_steps c.args.reads.now c.runs.reads c.runs.run-index (length c.args.runs.now) (reads_upto c.args.d.now c.args.w.lo c.args.w.hi (formula_view c.args.a.now.body.now)) c.runs.invariant.most c.runs.auto.run-index-end
+
+pub rows_of_runs-runs-preserved : goal.rows_of_runs-runs-preserved
+rows_of_runs-runs-preserved g t c = record {
+  alike = more_alike (variables_of (formula_view c.args.a.now.body.now)) c.args.d.now c.args.w.lo c.args.w.hi c.runs.parts.items c.push_back.new.self.items c.in_ok-part.part c.in_ok-push_back.ensures.items c.runs.invariant.alike
+      (c.in_ok-part.ensures.head.vars ∙ c.in_ok-rows.ensures.rows.vars) (head_frame c.in_ok-rows.rows c.in_ok-part.part c.in_ok-part.ensures.head ∙ c.in_ok-rows.ensures.rows.frame);
+  ticks = λ b is_in u.
+      ap (λ (rs : (List (Table g.row.S.Denot))). any_has g.S.TickSet.member rs b u) c.in_ok-push_back.ensures.items
+      ∙ run_more g.S.TickSet.member (g.I.Interpreter.interpretation c.args.source.now) c.args.d.now c.args.w.lo c.args.w.hi c.args.a.now.depth (formula_view c.args.a.now.body.now) c.args.env.now c.args.runs.now c.runs.run-index c.run-item.result c.runs.parts.items c.in_ok-rows.rows c.in_ok-part.part
+      (omega (arith, c.runs-test.true)) c.run-item.is c.runs.invariant.ticks
+      (subst (λ (x : Env). AreRowsOf g.S.TickSet.member (g.I.Interpreter.interpretation c.args.source.now) c.args.d.now c.args.w.lo c.args.w.hi (formula_view c.args.a.now.body.now) x c.in_ok-rows.rows) c.with-bound.ensures c.in_ok-rows.ensures.rows)
+      (λ p r. c.in_ok-part.ensures.ticks p r ∙ (λ k. within (c.window.ensures.0 k) (c.window.ensures.1 k) r && has_tick g.S.TickSet.member c.in_ok-rows.rows p r))
+      b is_in u;
+  least = in_turn _ _ _ c.runs.invariant.least c.in_ok-rows.ensures.least;
+  most = one_step c.args.reads.now c.runs.reads _ c.runs.run-index (reads_upto c.args.d.now c.args.w.lo c.args.w.hi (formula_view c.args.a.now.body.now)) c.runs.invariant.most c.in_ok-rows.ensures.most;
+}
+
+pub rows_of_runs-united-requires-clause-alike : goal.rows_of_runs-united-requires-clause-alike
+rows_of_runs-united-requires-clause-alike g t c =
+    subst (λ (vs : List ℕ). AreAlike vs c.args.d.now c.args.w.lo c.args.w.hi c.runs.parts.items) (sym (variables_same (has c.free.result) (λ v. has_variable v (formula_view c.args.a.now.body.now)) (λ v l. c.free.ensures v l))) c.runs.invariant.alike
+
+pub rows_of_runs-united-requires-clause-known : goal.rows_of_runs-united-requires-clause-known
+rows_of_runs-united-requires-clause-known g t c = λ v l h. c.requires.over v (sym (c.free.ensures v l) ∙ h)
+
+pub rows_of_runs-returns-clause-rows : goal.rows_of_runs-returns-clause-rows
+rows_of_runs-returns-clause-rows g t c = record {
+  ticks = λ b is_in u.
+      c.in_ok-made.ensures.ticks b is_in u
+      ∙ c.runs.invariant.ticks b is_in u
+      ∙ ap (λ (rs : List ValueRun). within c.args.w.lo c.args.w.hi u && run_holds (g.I.Interpreter.interpretation c.args.source.now) c.args.a.now.depth (formula_view c.args.a.now.body.now) c.args.env.now c.args.w.hi rs b u) (take_all c.runs.run-index c.args.runs.now (omega (arith, c.runs-test.false)));
+  vars = c.in_ok-made.ensures.vars ∙ variables_same (has c.free.result) (λ v. has_variable v (formula_view c.args.a.now.body.now)) (λ v l. c.free.ensures v l);
+  frame = c.in_ok-made.ensures.frame;
+}

@@ -1,0 +1,256 @@
+use Rattle.std.proofs.Common.{◌≡◌, ◌+◌, ◌-◌, ◌≤◌, ◌&&◌, List, length, slice_index, ap, subst, arith, ◌∙◌, sym}
+use Rattle.tick_set.specs.Ticks.{within}
+use Rattle.formula_shape.specs.Sizes.{nodes}
+use Rattle.formula.specs.declared.value.Env.{Env}
+use Rattle.formula.specs.Tree.{ResolvedTree, formula_view}
+use Rattle.meaning.specs.Reads.{atom_variables}
+use Rattle.meaning.specs.Satisfaction.{sat}
+use Rattle.atoms.specs.declared.value_list.ValueRun.{ValueRun}
+use Rattle.evaluator.specs.ValueRuns.{AreValueRuns, EachHasItsValue}
+use Rattle.evaluator.specs.inner.ByBinding.{AreTicksOf, CanAskHere, any_member, reads_here}
+use Rattle.evaluator.specs.inner.Nodes.{changed_tree, paired_tree}
+use Rattle.evaluator.proofs.LoopLemmas.{in_turn, most_both, most_first, most_same, none_yet}
+use Rattle.evaluator.proofs.NodeLemmas.{changed_can, changed_nodes, changed_reads, paired_can, paired_nodes, paired_reads}
+use Rattle.evaluator.proofs.ReadLemmas.{one_step}
+use Rattle.evaluator.proofs.TickLemmas.{can_ask_by, lies, one_ticks, reads_of_atom, run_added, runs_done, runs_here, term_here, two_ticks}
+use Rattle.evaluator.proofs.ticks.+ticks.Goals as goal
+
+pub ticks_of-returns-in_ok-made-in-Truth-clause-ticks : goal.ticks_of-returns-in_ok-made-in-Truth-clause-ticks
+ticks_of-returns-in_ok-made-in-Truth-clause-ticks g t c =
+    subst (λ (z : ResolvedTree). AreTicksOf g.S.TickSet.member (g.I.Interpreter.interpretation c.args.source.now (slice_index c.args.binding.now)) c.args.w.lo c.args.w.hi z c.args.env.now c.in_ok-made-in-Truth.made) c.in-Truth.ensures c.in_ok-made-in-Truth.ensures
+
+pub ticks_of-atom-requires : goal.ticks_of-atom-requires
+ticks_of-atom-requires g t c =
+    subst (λ (z : ResolvedTree). CanAskHere (g.I.Interpreter.interpretation c.args.source.now (slice_index c.args.binding.now)) (g.I.Interpreter.atom_fits c.args.source.now c.args.w.lo c.args.w.hi (slice_index c.args.binding.now)) (g.I.Interpreter.term_fits c.args.source.now c.args.w.lo c.args.w.hi (slice_index c.args.binding.now)) c.args.w.lo c.args.w.hi z c.args.env.now) (sym c.in-Atom.ensures) c.requires
+
+pub ticks_of-returns-in_ok-made-in-Atom-clause-ticks : goal.ticks_of-returns-in_ok-made-in-Atom-clause-ticks
+ticks_of-returns-in_ok-made-in-Atom-clause-ticks g t c =
+    subst (λ (z : ResolvedTree). AreTicksOf g.S.TickSet.member (g.I.Interpreter.interpretation c.args.source.now (slice_index c.args.binding.now)) c.args.w.lo c.args.w.hi z c.args.env.now c.in_ok-made-in-Atom.made) c.in-Atom.ensures c.in_ok-made-in-Atom.ensures.ticks
+
+pub ticks_of-returns-in_err-made-in-Atom-clause-least : goal.ticks_of-returns-in_err-made-in-Atom-clause-least
+ticks_of-returns-in_err-made-in-Atom-clause-least g t c = c.in_err-made-in-Atom.ensures.least
+
+pub ticks_of-returns-in_err-made-in-Atom-clause-most : goal.ticks_of-returns-in_err-made-in-Atom-clause-most
+ticks_of-returns-in_err-made-in-Atom-clause-most g t c =
+    most_same _ _ (reads_here c.args.w.lo c.args.w.hi (formula_view c.args.f.now)) (length (atom_variables c.in-Atom.atom.now)) (ap (reads_here c.args.w.lo c.args.w.hi) (sym c.in-Atom.ensures) ∙ reads_of_atom c.args.w.lo c.args.w.hi c.in-Atom.atom.now) c.in_err-made-in-Atom.ensures.most
+
+pub ticks_of-returns-in_ok-made-in-Atom-clause-least : goal.ticks_of-returns-in_ok-made-in-Atom-clause-least
+ticks_of-returns-in_ok-made-in-Atom-clause-least g t c = c.in_ok-made-in-Atom.ensures.least
+
+pub ticks_of-returns-in_ok-made-in-Atom-clause-most : goal.ticks_of-returns-in_ok-made-in-Atom-clause-most
+ticks_of-returns-in_ok-made-in-Atom-clause-most g t c =
+    most_same _ _ (reads_here c.args.w.lo c.args.w.hi (formula_view c.args.f.now)) (length (atom_variables c.in-Atom.atom.now)) (ap (reads_here c.args.w.lo c.args.w.hi) (sym c.in-Atom.ensures) ∙ reads_of_atom c.args.w.lo c.args.w.hi c.in-Atom.atom.now) c.in_ok-made-in-Atom.ensures.most
+
+pub ticks_of-ticks_of-requires : goal.ticks_of-ticks_of-requires
+ticks_of-ticks_of-requires g t c κs lives =
+    let tree : formula_view c.args.f.now ≡ changed_tree c.in-One.change (formula_view c.in-One.part.now) = sym c.in-One.ensures in
+    let size : nodes (formula_view c.args.f.now) ≡ nodes (formula_view c.in-One.part.now) + 1 = ap nodes tree ∙ changed_nodes c.in-One.change (formula_view c.in-One.part.now) in (
+      omega (arith, c.decreases, size),
+      (lives.0, (lives.1.0, (lives.1.1.0, (lives.1.1.1, changed_can (g.I.Interpreter.interpretation c.args.source.now (slice_index c.args.binding.now)) (g.I.Interpreter.atom_fits c.args.source.now c.args.w.lo c.args.w.hi (slice_index c.args.binding.now)) (g.I.Interpreter.term_fits c.args.source.now c.args.w.lo c.args.w.hi (slice_index c.args.binding.now)) c.args.w.lo c.args.w.hi c.args.env.now c.in-One.change (formula_view c.in-One.part.now) (subst (λ (z : ResolvedTree). CanAskHere (g.I.Interpreter.interpretation c.args.source.now (slice_index c.args.binding.now)) (g.I.Interpreter.atom_fits c.args.source.now c.args.w.lo c.args.w.hi (slice_index c.args.binding.now)) (g.I.Interpreter.term_fits c.args.source.now c.args.w.lo c.args.w.hi (slice_index c.args.binding.now)) c.args.w.lo c.args.w.hi z c.args.env.now) tree c.requires))))),
+    )
+
+pub ticks_of-changed-requires : goal.ticks_of-changed-requires
+ticks_of-changed-requires g t c = lies g.S.TickSet.member c.args.w.lo c.args.w.hi (sat (g.I.Interpreter.interpretation c.args.source.now (slice_index c.args.binding.now)) (formula_view c.in-One.part.now) c.args.env.now c.args.w.hi) c.in_ok-ticks-in-One.ticks c.in_ok-ticks-in-One.ensures.ticks
+
+pub ticks_of-returns-in_ok-made-in-One-clause-ticks : goal.ticks_of-returns-in_ok-made-in-One-clause-ticks
+ticks_of-returns-in_ok-made-in-One-clause-ticks g t c =
+    subst (λ (z : ResolvedTree). AreTicksOf g.S.TickSet.member (g.I.Interpreter.interpretation c.args.source.now (slice_index c.args.binding.now)) c.args.w.lo c.args.w.hi z c.args.env.now c.in_ok-made-in-One.made) c.in-One.ensures
+    (one_ticks g.S.TickSet.member c.args.w.lo c.args.w.hi (g.I.Interpreter.interpretation c.args.source.now (slice_index c.args.binding.now)) c.args.env.now c.in-One.change (formula_view c.in-One.part.now) c.in_ok-ticks-in-One.ticks c.in_ok-made-in-One.made c.in_ok-ticks-in-One.ensures.ticks c.in_ok-made-in-One.ensures)
+
+pub ticks_of-returns-in_err-ticks-in-One-clause-least : goal.ticks_of-returns-in_err-ticks-in-One-clause-least
+ticks_of-returns-in_err-ticks-in-One-clause-least g t c = c.in_err-ticks-in-One.ensures.least
+
+pub ticks_of-returns-in_err-ticks-in-One-clause-most : goal.ticks_of-returns-in_err-ticks-in-One-clause-most
+ticks_of-returns-in_err-ticks-in-One-clause-most g t c =
+    most_same _ _ (reads_here c.args.w.lo c.args.w.hi (formula_view c.args.f.now)) (reads_here c.args.w.lo c.args.w.hi (formula_view c.in-One.part.now)) (ap (reads_here c.args.w.lo c.args.w.hi) (sym c.in-One.ensures) ∙ changed_reads (λ _. 1) (c.args.w.hi + 1 - c.args.w.lo) c.in-One.change (formula_view c.in-One.part.now)) c.in_err-ticks-in-One.ensures.most
+
+pub ticks_of-returns-in_err-made-in-One-clause-least : goal.ticks_of-returns-in_err-made-in-One-clause-least
+ticks_of-returns-in_err-made-in-One-clause-least g t c = c.in_ok-ticks-in-One.ensures.least
+
+pub ticks_of-returns-in_err-made-in-One-clause-most : goal.ticks_of-returns-in_err-made-in-One-clause-most
+ticks_of-returns-in_err-made-in-One-clause-most g t c =
+    most_same _ _ (reads_here c.args.w.lo c.args.w.hi (formula_view c.args.f.now)) (reads_here c.args.w.lo c.args.w.hi (formula_view c.in-One.part.now)) (ap (reads_here c.args.w.lo c.args.w.hi) (sym c.in-One.ensures) ∙ changed_reads (λ _. 1) (c.args.w.hi + 1 - c.args.w.lo) c.in-One.change (formula_view c.in-One.part.now)) c.in_ok-ticks-in-One.ensures.most
+
+pub ticks_of-returns-in_ok-made-in-One-clause-least : goal.ticks_of-returns-in_ok-made-in-One-clause-least
+ticks_of-returns-in_ok-made-in-One-clause-least g t c = c.in_ok-ticks-in-One.ensures.least
+
+pub ticks_of-returns-in_ok-made-in-One-clause-most : goal.ticks_of-returns-in_ok-made-in-One-clause-most
+ticks_of-returns-in_ok-made-in-One-clause-most g t c =
+    most_same _ _ (reads_here c.args.w.lo c.args.w.hi (formula_view c.args.f.now)) (reads_here c.args.w.lo c.args.w.hi (formula_view c.in-One.part.now)) (ap (reads_here c.args.w.lo c.args.w.hi) (sym c.in-One.ensures) ∙ changed_reads (λ _. 1) (c.args.w.hi + 1 - c.args.w.lo) c.in-One.change (formula_view c.in-One.part.now)) c.in_ok-ticks-in-One.ensures.most
+
+pub ticks_of-ticks_of-requires-in-Two : goal.ticks_of-ticks_of-requires-in-Two
+ticks_of-ticks_of-requires-in-Two g t c κs lives =
+    let tree : formula_view c.args.f.now ≡ paired_tree c.in-Two.pairing (formula_view c.in-Two.left.now) (formula_view c.in-Two.right.now) = sym c.in-Two.ensures in
+    let size : nodes (formula_view c.args.f.now) ≡ nodes (formula_view c.in-Two.left.now) + nodes (formula_view c.in-Two.right.now) + 1 = ap nodes tree ∙ paired_nodes c.in-Two.pairing (formula_view c.in-Two.left.now) (formula_view c.in-Two.right.now) in (
+      omega (arith, c.decreases, size),
+      (lives.0, (lives.1.0, (lives.1.1.0, (lives.1.1.1, (let both = paired_can (g.I.Interpreter.interpretation c.args.source.now (slice_index c.args.binding.now)) (g.I.Interpreter.atom_fits c.args.source.now c.args.w.lo c.args.w.hi (slice_index c.args.binding.now)) (g.I.Interpreter.term_fits c.args.source.now c.args.w.lo c.args.w.hi (slice_index c.args.binding.now)) c.args.w.lo c.args.w.hi c.args.env.now c.in-Two.pairing (formula_view c.in-Two.left.now) (formula_view c.in-Two.right.now) (subst (λ (z : ResolvedTree). CanAskHere (g.I.Interpreter.interpretation c.args.source.now (slice_index c.args.binding.now)) (g.I.Interpreter.atom_fits c.args.source.now c.args.w.lo c.args.w.hi (slice_index c.args.binding.now)) (g.I.Interpreter.term_fits c.args.source.now c.args.w.lo c.args.w.hi (slice_index c.args.binding.now)) c.args.w.lo c.args.w.hi z c.args.env.now) tree c.requires) in both.0))))),
+    )
+
+pub ticks_of-ticks_of-requires-in-Two-2 : goal.ticks_of-ticks_of-requires-in-Two-2
+ticks_of-ticks_of-requires-in-Two-2 g t c κs lives =
+    let tree : formula_view c.args.f.now ≡ paired_tree c.in-Two.pairing (formula_view c.in-Two.left.now) (formula_view c.in-Two.right.now) = sym c.in-Two.ensures in
+    let size : nodes (formula_view c.args.f.now) ≡ nodes (formula_view c.in-Two.left.now) + nodes (formula_view c.in-Two.right.now) + 1 = ap nodes tree ∙ paired_nodes c.in-Two.pairing (formula_view c.in-Two.left.now) (formula_view c.in-Two.right.now) in (
+      omega (arith, c.decreases, size),
+      (lives.0, (lives.1.0, (lives.1.1.0, (lives.1.1.1, (let both = paired_can (g.I.Interpreter.interpretation c.args.source.now (slice_index c.args.binding.now)) (g.I.Interpreter.atom_fits c.args.source.now c.args.w.lo c.args.w.hi (slice_index c.args.binding.now)) (g.I.Interpreter.term_fits c.args.source.now c.args.w.lo c.args.w.hi (slice_index c.args.binding.now)) c.args.w.lo c.args.w.hi c.args.env.now c.in-Two.pairing (formula_view c.in-Two.left.now) (formula_view c.in-Two.right.now) (subst (λ (z : ResolvedTree). CanAskHere (g.I.Interpreter.interpretation c.args.source.now (slice_index c.args.binding.now)) (g.I.Interpreter.atom_fits c.args.source.now c.args.w.lo c.args.w.hi (slice_index c.args.binding.now)) (g.I.Interpreter.term_fits c.args.source.now c.args.w.lo c.args.w.hi (slice_index c.args.binding.now)) c.args.w.lo c.args.w.hi z c.args.env.now) tree c.requires) in both.1))))),
+    )
+
+pub ticks_of-paired-requires-clause-left : goal.ticks_of-paired-requires-clause-left
+ticks_of-paired-requires-clause-left g t c = lies g.S.TickSet.member c.args.w.lo c.args.w.hi (sat (g.I.Interpreter.interpretation c.args.source.now (slice_index c.args.binding.now)) (formula_view c.in-Two.left.now) c.args.env.now c.args.w.hi) c.in_ok-left-in-Two.left c.in_ok-left-in-Two.ensures.ticks
+
+pub ticks_of-paired-requires-clause-right : goal.ticks_of-paired-requires-clause-right
+ticks_of-paired-requires-clause-right g t c = lies g.S.TickSet.member c.args.w.lo c.args.w.hi (sat (g.I.Interpreter.interpretation c.args.source.now (slice_index c.args.binding.now)) (formula_view c.in-Two.right.now) c.args.env.now c.args.w.hi) c.in_ok-right-in-Two.right c.in_ok-right-in-Two.ensures.ticks
+
+pub ticks_of-returns-in_ok-made-in-Two-clause-ticks : goal.ticks_of-returns-in_ok-made-in-Two-clause-ticks
+ticks_of-returns-in_ok-made-in-Two-clause-ticks g t c =
+    subst (λ (z : ResolvedTree). AreTicksOf g.S.TickSet.member (g.I.Interpreter.interpretation c.args.source.now (slice_index c.args.binding.now)) c.args.w.lo c.args.w.hi z c.args.env.now c.in_ok-made-in-Two.made) c.in-Two.ensures
+    (two_ticks g.S.TickSet.member c.args.w.lo c.args.w.hi (g.I.Interpreter.interpretation c.args.source.now (slice_index c.args.binding.now)) c.args.env.now c.in-Two.pairing (formula_view c.in-Two.left.now) (formula_view c.in-Two.right.now) c.in_ok-left-in-Two.left c.in_ok-right-in-Two.right c.in_ok-made-in-Two.made c.in_ok-left-in-Two.ensures.ticks c.in_ok-right-in-Two.ensures.ticks c.in_ok-made-in-Two.ensures)
+
+pub ticks_of-returns-in_err-left-in-Two-clause-least : goal.ticks_of-returns-in_err-left-in-Two-clause-least
+ticks_of-returns-in_err-left-in-Two-clause-least g t c = c.in_err-left-in-Two.ensures.least
+
+pub ticks_of-returns-in_err-left-in-Two-clause-most : goal.ticks_of-returns-in_err-left-in-Two-clause-most
+ticks_of-returns-in_err-left-in-Two-clause-most g t c =
+    most_first _ _ (reads_here c.args.w.lo c.args.w.hi (formula_view c.args.f.now)) (reads_here c.args.w.lo c.args.w.hi (formula_view c.in-Two.left.now)) (reads_here c.args.w.lo c.args.w.hi (formula_view c.in-Two.right.now)) (ap (reads_here c.args.w.lo c.args.w.hi) (sym c.in-Two.ensures) ∙ paired_reads (λ _. 1) (c.args.w.hi + 1 - c.args.w.lo) c.in-Two.pairing (formula_view c.in-Two.left.now) (formula_view c.in-Two.right.now)) c.in_err-left-in-Two.ensures.most
+
+pub ticks_of-returns-in_err-right-in-Two-clause-least : goal.ticks_of-returns-in_err-right-in-Two-clause-least
+ticks_of-returns-in_err-right-in-Two-clause-least g t c = in_turn _ _ _ c.in_ok-left-in-Two.ensures.least c.in_err-right-in-Two.ensures.least
+
+pub ticks_of-returns-in_err-right-in-Two-clause-most : goal.ticks_of-returns-in_err-right-in-Two-clause-most
+ticks_of-returns-in_err-right-in-Two-clause-most g t c =
+    most_both _ _ _ (reads_here c.args.w.lo c.args.w.hi (formula_view c.args.f.now)) (reads_here c.args.w.lo c.args.w.hi (formula_view c.in-Two.left.now)) (reads_here c.args.w.lo c.args.w.hi (formula_view c.in-Two.right.now)) (ap (reads_here c.args.w.lo c.args.w.hi) (sym c.in-Two.ensures) ∙ paired_reads (λ _. 1) (c.args.w.hi + 1 - c.args.w.lo) c.in-Two.pairing (formula_view c.in-Two.left.now) (formula_view c.in-Two.right.now)) c.in_ok-left-in-Two.ensures.most c.in_err-right-in-Two.ensures.most
+
+pub ticks_of-returns-in_err-made-in-Two-clause-least : goal.ticks_of-returns-in_err-made-in-Two-clause-least
+ticks_of-returns-in_err-made-in-Two-clause-least g t c = in_turn _ _ _ c.in_ok-left-in-Two.ensures.least c.in_ok-right-in-Two.ensures.least
+
+pub ticks_of-returns-in_err-made-in-Two-clause-most : goal.ticks_of-returns-in_err-made-in-Two-clause-most
+ticks_of-returns-in_err-made-in-Two-clause-most g t c =
+    most_both _ _ _ (reads_here c.args.w.lo c.args.w.hi (formula_view c.args.f.now)) (reads_here c.args.w.lo c.args.w.hi (formula_view c.in-Two.left.now)) (reads_here c.args.w.lo c.args.w.hi (formula_view c.in-Two.right.now)) (ap (reads_here c.args.w.lo c.args.w.hi) (sym c.in-Two.ensures) ∙ paired_reads (λ _. 1) (c.args.w.hi + 1 - c.args.w.lo) c.in-Two.pairing (formula_view c.in-Two.left.now) (formula_view c.in-Two.right.now)) c.in_ok-left-in-Two.ensures.most c.in_ok-right-in-Two.ensures.most
+
+pub ticks_of-returns-in_ok-made-in-Two-clause-least : goal.ticks_of-returns-in_ok-made-in-Two-clause-least
+ticks_of-returns-in_ok-made-in-Two-clause-least g t c = in_turn _ _ _ c.in_ok-left-in-Two.ensures.least c.in_ok-right-in-Two.ensures.least
+
+pub ticks_of-returns-in_ok-made-in-Two-clause-most : goal.ticks_of-returns-in_ok-made-in-Two-clause-most
+ticks_of-returns-in_ok-made-in-Two-clause-most g t c =
+    most_both _ _ _ (reads_here c.args.w.lo c.args.w.hi (formula_view c.args.f.now)) (reads_here c.args.w.lo c.args.w.hi (formula_view c.in-Two.left.now)) (reads_here c.args.w.lo c.args.w.hi (formula_view c.in-Two.right.now)) (ap (reads_here c.args.w.lo c.args.w.hi) (sym c.in-Two.ensures) ∙ paired_reads (λ _. 1) (c.args.w.hi + 1 - c.args.w.lo) c.in-Two.pairing (formula_view c.in-Two.left.now) (formula_view c.in-Two.right.now)) c.in_ok-left-in-Two.ensures.most c.in_ok-right-in-Two.ensures.most
+
+pub ticks_of-ticks_of_assignment-requires : goal.ticks_of-ticks_of_assignment-requires
+ticks_of-ticks_of_assignment-requires g t c κs lives =
+    let size = ap nodes c.in-Assign.ensures in (
+      omega (arith, c.decreases, size),
+      (lives.0, (lives.1.0, (lives.1.1.0, (lives.1.1.1, subst (λ (z : ResolvedTree). CanAskHere (g.I.Interpreter.interpretation c.args.source.now (slice_index c.args.binding.now)) (g.I.Interpreter.atom_fits c.args.source.now c.args.w.lo c.args.w.hi (slice_index c.args.binding.now)) (g.I.Interpreter.term_fits c.args.source.now c.args.w.lo c.args.w.hi (slice_index c.args.binding.now)) c.args.w.lo c.args.w.hi z c.args.env.now) (sym c.in-Assign.ensures) c.requires)))),
+    )
+
+pub ticks_of-returns-in_ok-made-in-Assign-clause-ticks : goal.ticks_of-returns-in_ok-made-in-Assign-clause-ticks
+ticks_of-returns-in_ok-made-in-Assign-clause-ticks g t c =
+    subst (λ (z : ResolvedTree). AreTicksOf g.S.TickSet.member (g.I.Interpreter.interpretation c.args.source.now (slice_index c.args.binding.now)) c.args.w.lo c.args.w.hi z c.args.env.now c.in_ok-made-in-Assign.made) c.in-Assign.ensures c.in_ok-made-in-Assign.ensures.ticks
+
+pub ticks_of-returns-in_err-made-in-Assign-clause-least : goal.ticks_of-returns-in_err-made-in-Assign-clause-least
+ticks_of-returns-in_err-made-in-Assign-clause-least g t c = c.in_err-made-in-Assign.ensures.least
+
+pub ticks_of-returns-in_err-made-in-Assign-clause-most : goal.ticks_of-returns-in_err-made-in-Assign-clause-most
+ticks_of-returns-in_err-made-in-Assign-clause-most g t c =
+    subst (λ (z : ResolvedTree). c.ticks_of_assignment.new.reads ≤ c.args.reads.now + reads_here c.args.w.lo c.args.w.hi z) c.in-Assign.ensures c.in_err-made-in-Assign.ensures.most
+
+pub ticks_of-returns-in_ok-made-in-Assign-clause-least : goal.ticks_of-returns-in_ok-made-in-Assign-clause-least
+ticks_of-returns-in_ok-made-in-Assign-clause-least g t c = c.in_ok-made-in-Assign.ensures.least
+
+pub ticks_of-returns-in_ok-made-in-Assign-clause-most : goal.ticks_of-returns-in_ok-made-in-Assign-clause-most
+ticks_of-returns-in_ok-made-in-Assign-clause-most g t c =
+    subst (λ (z : ResolvedTree). c.ticks_of_assignment.new.reads ≤ c.args.reads.now + reads_here c.args.w.lo c.args.w.hi z) c.in-Assign.ensures c.in_ok-made-in-Assign.ensures.most
+
+pub ticks_of_assignment-runs-requires : goal.ticks_of_assignment-runs-requires
+ticks_of_assignment-runs-requires g t c = c.requires.0
+
+pub ticks_of_assignment-returns-in_err-runs-clause-least : goal.ticks_of_assignment-returns-in_err-runs-clause-least
+ticks_of_assignment-returns-in_err-runs-clause-least g t c = c.in_err-runs.ensures.least
+
+pub ticks_of_assignment-returns-in_err-runs-clause-most : goal.ticks_of_assignment-returns-in_err-runs-clause-most
+ticks_of_assignment-returns-in_err-runs-clause-most g t c = term_here c.args.w.lo c.args.w.hi c.args.a.now.depth c.args.a.now.term.now (formula_view c.args.a.now.body.now) _ _ c.in_err-runs.ensures.most
+
+pub ticks_of_assignment-each-init : goal.ticks_of_assignment-each-init
+ticks_of_assignment-each-init g t c = record {
+  ticks = λ u. ap (λ (rs : List g.row.S.Denot). any_member g.S.TickSet.member rs u) c.new-parts.ensures.items ∙ none_yet (within c.args.w.lo c.args.w.hi u);
+  least = omega arith;
+  most = omega arith;
+}
+
+pub ticks_of_assignment-ticks_of-requires : goal.ticks_of_assignment-ticks_of-requires
+ticks_of_assignment-ticks_of-requires g t c κs lives = (
+  omega (arith, c.decreases),
+  (
+    lives.0,
+    (
+      lives.1.0,
+      (
+        lives.1.1.0,
+        (
+          lives.1.1.1,
+          subst (λ (x : Env). CanAskHere (g.I.Interpreter.interpretation c.args.source.now (slice_index c.args.binding.now)) (g.I.Interpreter.atom_fits c.args.source.now c.args.w.lo c.args.w.hi (slice_index c.args.binding.now)) (g.I.Interpreter.term_fits c.args.source.now c.args.w.lo c.args.w.hi (slice_index c.args.binding.now)) c.args.w.lo c.args.w.hi (formula_view c.args.a.now.body.now) x) (sym c.with-bound.ensures)
+              (can_ask_by (g.I.Interpreter.interpretation c.args.source.now (slice_index c.args.binding.now)) (g.I.Interpreter.atom_fits c.args.source.now c.args.w.lo c.args.w.hi (slice_index c.args.binding.now)) (g.I.Interpreter.term_fits c.args.source.now c.args.w.lo c.args.w.hi (slice_index c.args.binding.now)) c.args.w.lo c.args.w.hi c.args.a.now.depth c.args.a.now.term.now (formula_view c.args.a.now.body.now) c.args.env.now c.requires c.deref-run-items.result.now (subst (λ (rs : List ValueRun). EachHasItsValue c.args.w.lo c.args.w.hi ((g.I.Interpreter.interpretation c.args.source.now (slice_index c.args.binding.now)).term c.args.a.now.term.now c.args.env.now) rs) (sym c.deref-run-items.ensures.value) c.in_ok-runs.ensures.runs.each) c.each.run-index c.run-item.result (omega (arith, c.each-test.true)) c.run-item.is),
+        ),
+      ),
+    ),
+  ),
+)
+
+pub ticks_of_assignment-returns-in_err-ticks-clause-least : goal.ticks_of_assignment-returns-in_err-ticks-clause-least
+ticks_of_assignment-returns-in_err-ticks-clause-least g t c = in_turn _ _ _ c.in_ok-runs.ensures.least (in_turn _ _ _ c.each.invariant.least c.in_err-ticks.ensures.least)
+
+pub ticks_of_assignment-returns-in_err-ticks-clause-most : goal.ticks_of_assignment-returns-in_err-ticks-clause-most
+ticks_of_assignment-returns-in_err-ticks-clause-most g t c =
+    let few : length c.deref-run-items.result.now ≤ c.args.w.hi + 1 - c.args.w.lo = subst (λ (rs : List ValueRun). length rs ≤ c.args.w.hi + 1 - c.args.w.lo) (sym c.deref-run-items.ensures.value) c.in_ok-runs.ensures.runs.few in
+    runs_here c.args.w.lo c.args.w.hi c.args.a.now.depth c.args.a.now.term.now (formula_view c.args.a.now.body.now) _ _ _ (c.each.run-index + 1) c.in_ok-runs.ensures.most (omega (arith, c.each-test.true, few))
+    (one_step _ c.each.reads _ c.each.run-index (reads_here c.args.w.lo c.args.w.hi (formula_view c.args.a.now.body.now)) c.each.invariant.most c.in_err-ticks.ensures.most)
+
+pub ticks_of_assignment-returns-in_err-part-clause-least : goal.ticks_of_assignment-returns-in_err-part-clause-least
+ticks_of_assignment-returns-in_err-part-clause-least g t c = in_turn _ _ _ c.in_ok-runs.ensures.least (in_turn _ _ _ c.each.invariant.least c.in_ok-ticks.ensures.least)
+
+pub ticks_of_assignment-returns-in_err-part-clause-most : goal.ticks_of_assignment-returns-in_err-part-clause-most
+ticks_of_assignment-returns-in_err-part-clause-most g t c =
+    let few : length c.deref-run-items.result.now ≤ c.args.w.hi + 1 - c.args.w.lo = subst (λ (rs : List ValueRun). length rs ≤ c.args.w.hi + 1 - c.args.w.lo) (sym c.deref-run-items.ensures.value) c.in_ok-runs.ensures.runs.few in
+    runs_here c.args.w.lo c.args.w.hi c.args.a.now.depth c.args.a.now.term.now (formula_view c.args.a.now.body.now) _ _ _ (c.each.run-index + 1) c.in_ok-runs.ensures.most (omega (arith, c.each-test.true, few))
+    (one_step _ c.each.reads _ c.each.run-index (reads_here c.args.w.lo c.args.w.hi (formula_view c.args.a.now.body.now)) c.each.invariant.most c.in_ok-ticks.ensures.most)
+
+pub ticks_of_assignment-returns-in_err-push_back-clause-least : goal.ticks_of_assignment-returns-in_err-push_back-clause-least
+ticks_of_assignment-returns-in_err-push_back-clause-least g t c = in_turn _ _ _ c.in_ok-runs.ensures.least (in_turn _ _ _ c.each.invariant.least c.in_ok-ticks.ensures.least)
+
+pub ticks_of_assignment-returns-in_err-push_back-clause-most : goal.ticks_of_assignment-returns-in_err-push_back-clause-most
+ticks_of_assignment-returns-in_err-push_back-clause-most g t c =
+    let few : length c.deref-run-items.result.now ≤ c.args.w.hi + 1 - c.args.w.lo = subst (λ (rs : List ValueRun). length rs ≤ c.args.w.hi + 1 - c.args.w.lo) (sym c.deref-run-items.ensures.value) c.in_ok-runs.ensures.runs.few in
+    runs_here c.args.w.lo c.args.w.hi c.args.a.now.depth c.args.a.now.term.now (formula_view c.args.a.now.body.now) _ _ _ (c.each.run-index + 1) c.in_ok-runs.ensures.most (omega (arith, c.each-test.true, few))
+    (one_step _ c.each.reads _ c.each.run-index (reads_here c.args.w.lo c.args.w.hi (formula_view c.args.a.now.body.now)) c.each.invariant.most c.in_ok-ticks.ensures.most)
+
+pub ticks_of_assignment-returns-in_err-made-clause-least : goal.ticks_of_assignment-returns-in_err-made-clause-least
+ticks_of_assignment-returns-in_err-made-clause-least g t c = in_turn _ _ _ c.in_ok-runs.ensures.least c.each.invariant.least
+
+pub ticks_of_assignment-returns-in_err-made-clause-most : goal.ticks_of_assignment-returns-in_err-made-clause-most
+ticks_of_assignment-returns-in_err-made-clause-most g t c =
+    let few : length c.deref-run-items.result.now ≤ c.args.w.hi + 1 - c.args.w.lo = subst (λ (rs : List ValueRun). length rs ≤ c.args.w.hi + 1 - c.args.w.lo) (sym c.deref-run-items.ensures.value) c.in_ok-runs.ensures.runs.few in
+    runs_here c.args.w.lo c.args.w.hi c.args.a.now.depth c.args.a.now.term.now (formula_view c.args.a.now.body.now) _ _ _ c.each.run-index c.in_ok-runs.ensures.most (let l : c.each.run-index ≤ length c.deref-run-items.result.now = c.each.auto.run-index-end in omega (arith, l, few)) c.each.invariant.most
+
+pub ticks_of_assignment-returns-clause-least : goal.ticks_of_assignment-returns-clause-least
+ticks_of_assignment-returns-clause-least g t c = in_turn _ _ _ c.in_ok-runs.ensures.least c.each.invariant.least
+
+pub ticks_of_assignment-returns-clause-most : goal.ticks_of_assignment-returns-clause-most
+ticks_of_assignment-returns-clause-most g t c =
+    let few : length c.deref-run-items.result.now ≤ c.args.w.hi + 1 - c.args.w.lo = subst (λ (rs : List ValueRun). length rs ≤ c.args.w.hi + 1 - c.args.w.lo) (sym c.deref-run-items.ensures.value) c.in_ok-runs.ensures.runs.few in
+    runs_here c.args.w.lo c.args.w.hi c.args.a.now.depth c.args.a.now.term.now (formula_view c.args.a.now.body.now) _ _ _ c.each.run-index c.in_ok-runs.ensures.most (let l : c.each.run-index ≤ length c.deref-run-items.result.now = c.each.auto.run-index-end in omega (arith, l, few)) c.each.invariant.most
+
+pub ticks_of_assignment-each-preserved : goal.ticks_of_assignment-each-preserved
+ticks_of_assignment-each-preserved g t c = record {
+  ticks = λ u.
+      ap (λ (rs : List g.row.S.Denot). any_member g.S.TickSet.member rs u) c.in_ok-push_back.ensures.items
+      ∙ run_added g.S.TickSet.member (g.I.Interpreter.interpretation c.args.source.now) (slice_index c.args.binding.now) c.args.w.lo c.args.w.hi c.args.a.now.depth (formula_view c.args.a.now.body.now) c.args.env.now c.deref-run-items.result.now c.each.run-index c.run-item.result c.each.parts.items c.in_ok-ticks.ticks c.in_ok-part.part
+      (omega (arith, c.each-test.true)) c.run-item.is c.each.invariant.ticks
+      (subst (λ (x : Env). AreTicksOf g.S.TickSet.member (g.I.Interpreter.interpretation c.args.source.now (slice_index c.args.binding.now)) c.args.w.lo c.args.w.hi (formula_view c.args.a.now.body.now) x c.in_ok-ticks.ticks) c.with-bound.ensures c.in_ok-ticks.ensures.ticks)
+      (λ r. c.in_ok-part.ensures r ∙ (λ k. within (c.window.ensures.0 k) (c.window.ensures.1 k) r && g.S.TickSet.member c.in_ok-ticks.ticks r))
+      u;
+  least = in_turn _ _ _ c.each.invariant.least c.in_ok-ticks.ensures.least;
+  most = one_step _ c.each.reads _ c.each.run-index (reads_here c.args.w.lo c.args.w.hi (formula_view c.args.a.now.body.now)) c.each.invariant.most c.in_ok-ticks.ensures.most;
+}
+
+pub ticks_of_assignment-returns-clause-ticks : goal.ticks_of_assignment-returns-clause-ticks
+ticks_of_assignment-returns-clause-ticks g t c =
+    runs_done g.S.TickSet.member (g.I.Interpreter.interpretation c.args.source.now) (slice_index c.args.binding.now) c.args.w.lo c.args.w.hi c.args.a.now.depth (formula_view c.args.a.now.body.now) c.args.env.now c.deref-run-items.result.now c.args.a.now.term.now
+    (subst (λ (rs : List ValueRun). AreValueRuns c.args.w.lo c.args.w.hi ((g.I.Interpreter.interpretation c.args.source.now (slice_index c.args.binding.now)).term c.args.a.now.term.now c.args.env.now) rs) (sym c.deref-run-items.ensures.value) c.in_ok-runs.ensures.runs)
+    c.each.run-index c.each.parts.items c.in_ok-made.made (omega (arith, c.each-test.false)) c.each.invariant.ticks c.in_ok-made.ensures

@@ -1,0 +1,7 @@
+pub mod Assigned
+pub mod Gathered
+pub mod Interpreting
+pub mod Keys
+pub mod Rows
+pub mod ValueRuns
+pub mod inner

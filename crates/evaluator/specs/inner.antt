@@ -1,0 +1,3 @@
+-- How formulas are evaluated. No public clause names these.
+pub mod ByBinding
+pub mod Nodes

@@ -1,0 +1,53 @@
+-- Formulas that are evaluated binding by binding.
+use Rattle.std.specs.Prelude.{◌≡◌, ⊤, ℕ, ◌+◌, ◌-◌, Bool, true, ◌&&◌, Some, List}
+use Rattle.std.specs.List.{list_any}
+use Rattle.std.specs.Str.{bytes_eq}
+use Rattle.tick_set.specs.Ticks.{within}
+use Rattle.formula_shape.specs.Shape as shapes
+use Rattle.formula.specs.declared.tree.RAtom.{RAtom}
+use Rattle.formula.specs.declared.tree.RTerm.{RTerm}
+use Rattle.formula.specs.declared.value.Env.{Env}
+use Rattle.formula.specs.declared.value.Value.{Value}
+use Rattle.formula.specs.Tree.{ResolvedTree}
+use Rattle.formula.specs.Value.{with_value}
+use Rattle.meaning.specs.Reads.{atom_variables, reads, term_variables}
+use Rattle.meaning.specs.Satisfaction.{Interpretation, sat}
+
+-- whether each atom of a formula, and each term whose value it binds, has exactly these variables
+abbrev pub is_over : List ℕ → ResolvedTree → Bool
+is_over vars = shapes.fold_shape (record {
+  truth = λ _. true;
+  atom = λ a. bytes_eq (atom_variables a) vars;
+  negation = λ b. b;
+  later = λ b. b;
+  binary = λ b c. b && c;
+  assignment = λ bound b. bytes_eq (term_variables bound.1) vars && b;
+})
+
+-- Each atom and term of a formula may be asked, by the values that are bound there: an assignment binds each value that
+-- its term has at a tick of lo to hi.
+abbrev pub CanAskHere : Interpretation → (RAtom → Env → Type 0) → (RTerm → Env → Type 0) → ℕ → ℕ → ResolvedTree → Env → Type 0
+CanAskHere j P Q lo hi (shapes.Truth b) x = ⊤
+CanAskHere j P Q lo hi (shapes.Atom a) x = P a x
+CanAskHere j P Q lo hi (shapes.Not f) x = CanAskHere j P Q lo hi f x
+CanAskHere j P Q lo hi (shapes.And f g) x = CanAskHere j P Q lo hi f x × CanAskHere j P Q lo hi g x
+CanAskHere j P Q lo hi (shapes.Or f g) x = CanAskHere j P Q lo hi f x × CanAskHere j P Q lo hi g x
+CanAskHere j P Q lo hi (shapes.Next f) x = CanAskHere j P Q lo hi f x
+CanAskHere j P Q lo hi (shapes.Eventually f) x = CanAskHere j P Q lo hi f x
+CanAskHere j P Q lo hi (shapes.Always f) x = CanAskHere j P Q lo hi f x
+CanAskHere j P Q lo hi (shapes.Bounded form c f) x = CanAskHere j P Q lo hi f x
+CanAskHere j P Q lo hi (shapes.Until form c f g) x = CanAskHere j P Q lo hi f x × CanAskHere j P Q lo hi g x
+CanAskHere j P Q lo hi (shapes.Assign (d, q) f) x =
+    Q q x × ((t : ℕ) → within lo hi t ≡ true → (v : Value) → j.term q x t ≡ Some v → CanAskHere j P Q lo hi f (with_value x d v))
+
+-- the ticks of lo to hi at which a formula holds
+abbrev pub AreTicksOf : {S : Type 0} → (S → ℕ → Bool) → Interpretation → ℕ → ℕ → ResolvedTree → Env → S → Type 0
+AreTicksOf member j lo hi f x s = (t : ℕ) → member s t ≡ (within lo hi t && sat j f x hi t)
+
+-- whether one of the sets has the tick
+abbrev pub any_member : {S : Type 0} → (S → ℕ → Bool) → List S → ℕ → Bool
+any_member member sets t = list_any (λ s. member s t) sets
+
+-- the most looks at timelines that a formula may take at one binding over the ticks of lo to hi
+abbrev pub reads_here : ℕ → ℕ → ResolvedTree → ℕ
+reads_here lo hi f = reads (λ _. 1) (hi + 1 - lo) f

@@ -1,0 +1,185 @@
+//! The rows of formulas.
+
+ghost use Rattle.std.specs.Prelude.{◌≡◌, ◌≤◌, ◌<◌, ◌+◌, ◌*◌, ◌&&◌, ℕ, true, length, IfOk};
+ghost use Rattle.formula.specs.Tree.{formula_view};
+ghost use Rattle.formula.specs.VarSet.{has as set_has};
+ghost use Rattle.formula.specs.Variables.{has_variable, variables_of};
+ghost use Rattle.formula_shape.specs.declared.limits.TheConstants.{OBJECT_LIMIT};
+ghost use Rattle.meaning.specs.Reads.{term_variables};
+ghost use Rattle.meaning.specs.Satisfaction.{sat};
+ghost use Rattle.relation.specs.Frames.{agrees};
+ghost use Rattle.relation.specs.Key.{key_in};
+ghost use Rattle.evaluator.specs.Assigned.{CanAskEach, assignment_view, run_holds};
+ghost use Rattle.evaluator.specs.Interpreting.{CanAsk, IsOver};
+ghost use Rattle.evaluator.specs.Rows.{AreRowsOf, AreRowsWhere, reads_at_key, reads_upto};
+
+use crate::assignment::{Assignment, row_of_key};
+use crate::by_key::rows_by_key;
+use crate::gathering::united;
+use crate::keys::keys_of;
+use crate::narrowing::narrowed;
+use crate::node::Node;
+use crate::operators::{changed_rows, paired_rows};
+use crate::over::is_over;
+use crate::variables::{binding_of, variables_of};
+use crate::{Interpreter, ValueRun};
+use formula::{Binding, Env, RFormula, VarSet, free, free_in_term};
+use relation::{Domains, Relation};
+use std::alloc::{AllocError, Global};
+use std::collections::VecDeque;
+use std::sync::ledger::Ledger;
+use steps::Steps;
+use tick_set::Window;
+use until_merge::Temporal;
+
+/// The rows of a formula, over its variables: for each binding of objects of their domains the ticks of the window at
+/// which it holds, where nothing after the window's last tick counts and these values are bound. It fails only where
+/// memory is out.
+#[cycle(rows)]
+pub fn rows_of<'d, S: Temporal, I: Interpreter<S>, L: Ledger, M: Ledger>(
+    alloc: Global,
+    source: &I,
+    f: &RFormula,
+    d: &'d Domains,
+    env: &Env,
+    w: Window,
+    reads: &mut Steps<L>,
+    probes: &mut Steps<M>,
+) -> Result<Relation<'d, S>, AllocError>
+    requires over { IsOver (length d.now) (formula_view f.now) }
+    requires can { CanAsk (I.interpretation source.now) (I.atom_fits source.now w.lo w.hi)
+        (I.term_fits source.now w.lo w.hi) d.now w.lo w.hi (formula_view f.now) env.now }
+    ensures rows { IfOk result (λ r. AreRowsOf S.member (I.interpretation source.now) d.now w.lo w.hi
+        (formula_view f.now) env.now r) }
+    ensures least { reads.old ≤ reads.new }
+    ensures most { reads.new ≤ reads.old + reads_upto d.now w.lo w.hi (formula_view f.now) }
+{
+    let vars = variables_of(free(f));
+    if is_over(f, vars) {
+        let made = rows_by_key(alloc, source, f, vars, d, env, w, reads, probes)?;
+        return Ok(made);
+    }
+    match Node::of(f) {
+        Node::Truth(_) => unreachable!(),
+        Node::Atom(_) => unreachable!(),
+        Node::One(change, part) => {
+            let rows = rows_of(alloc, source, part, d, env, w, reads, probes)?;
+            let made = changed_rows(alloc, change, &rows)?;
+            Ok(made)
+        }
+        Node::Two(pairing, left, right) => {
+            let left = rows_of(alloc, source, left, d, env, w, reads, probes)?;
+            let right = rows_of(alloc, source, right, d, env, w, reads, probes)?;
+            let made = paired_rows(alloc, pairing, &left, &right)?;
+            Ok(made)
+        }
+        Node::Assign(a) => {
+            let made = rows_of_assignment(alloc, source, &a, free(f), d, env, w, reads, probes)?;
+            Ok(made)
+        }
+    }
+}
+
+// The rows of an assignment with these variables: the term has runs of one value at each key of its variables.
+#[cycle(rows)]
+fn rows_of_assignment<'d, S: Temporal, I: Interpreter<S>, L: Ledger, M: Ledger>(
+    alloc: Global,
+    source: &I,
+    a: &Assignment<'_>,
+    set: VarSet,
+    d: &'d Domains,
+    env: &Env,
+    w: Window,
+    reads: &mut Steps<L>,
+    probes: &mut Steps<M>,
+) -> Result<Relation<'d, S>, AllocError>
+    requires set { (v : ℕ) → v < OBJECT_LIMIT → set_has set v ≡ has_variable v (assignment_view a.now) }
+    requires over { IsOver (length d.now) (assignment_view a.now) }
+    requires can { CanAsk (I.interpretation source.now) (I.atom_fits source.now w.lo w.hi)
+        (I.term_fits source.now w.lo w.hi) d.now w.lo w.hi (assignment_view a.now) env.now }
+    ensures rows { IfOk result (λ r. AreRowsOf S.member (I.interpretation source.now) d.now w.lo w.hi
+        (assignment_view a.now) env.now r) }
+    ensures least { reads.old ≤ reads.new }
+    ensures most { reads.new ≤ reads.old + reads_upto d.now w.lo w.hi (assignment_view a.now) }
+{
+    // The number of domains bounds the variables.
+    let _ = d.len();
+    let term_vars = variables_of(free_in_term(a.term));
+    let keys = keys_of(alloc, d, term_vars)?;
+    let mut parts = VecDeque::new(alloc);
+    'keys: for key in &keys {
+        let rows = rows_at_key(alloc, source, a, term_vars, key, d, env, w, reads, probes)?;
+        parts.push_back(rows)?;
+    }
+    let made = united(alloc, parts, set, d, w)?;
+    Ok(made)
+}
+
+// The rows of an assignment at one key of its term's variables.
+#[cycle(rows)]
+fn rows_at_key<'d, S: Temporal, I: Interpreter<S>, L: Ledger, M: Ledger>(
+    alloc: Global,
+    source: &I,
+    a: &Assignment<'_>,
+    term_vars: &[u8],
+    key: &Binding,
+    d: &'d Domains,
+    env: &Env,
+    w: Window,
+    reads: &mut Steps<L>,
+    probes: &mut Steps<M>,
+) -> Result<Relation<'d, S>, AllocError>
+    requires vars { term_vars.now ≡ term_variables a.now.term.now }
+    requires key { key_in d.now term_vars.now key.now ≡ true }
+    requires over { IsOver (length d.now) (assignment_view a.now) }
+    requires can { CanAsk (I.interpretation source.now) (I.atom_fits source.now w.lo w.hi)
+        (I.term_fits source.now w.lo w.hi) d.now w.lo w.hi (assignment_view a.now) env.now }
+    ensures rows { IfOk result (λ r. AreRowsWhere S.member d.now w.lo w.hi (variables_of (assignment_view a.now))
+        (λ b t. agrees term_vars.now key.now b
+        && sat (I.interpretation source.now b) (assignment_view a.now) env.now w.hi t) r) }
+    ensures least { reads.old ≤ reads.new }
+    ensures most { reads.new ≤ reads.old + reads_at_key d.now w.lo w.hi term_vars.now (formula_view a.now.body.now) }
+{
+    // The number of domains bounds the variables.
+    let _ = d.len();
+    let binding = binding_of(term_vars, key);
+    let runs = source.runs(alloc, a.term, &binding, env, w, reads)?;
+    let narrow = narrowed(alloc, d, term_vars, key)?;
+    let rows = rows_of_runs(alloc, source, a, &runs, &narrow, env, w, reads, probes)?;
+    let rows = rows.widen(alloc, d)?;
+    let own = row_of_key(alloc, term_vars, key, d, w)?;
+    let made = own.join(alloc, &rows)?;
+    Ok(made)
+}
+
+// The rows of an assignment's formula, by the value of each run at its ticks.
+#[cycle(rows)]
+fn rows_of_runs<'d, S: Temporal, I: Interpreter<S>, L: Ledger, M: Ledger>(
+    alloc: Global,
+    source: &I,
+    a: &Assignment<'_>,
+    runs: &[ValueRun],
+    d: &'d Domains,
+    env: &Env,
+    w: Window,
+    reads: &mut Steps<L>,
+    probes: &mut Steps<M>,
+) -> Result<Relation<'d, S>, AllocError>
+    requires over { IsOver (length d.now) (formula_view a.now.body.now) }
+    requires can { CanAskEach (I.interpretation source.now) (I.atom_fits source.now w.lo w.hi)
+        (I.term_fits source.now w.lo w.hi) d.now w.lo w.hi a.now.depth (formula_view a.now.body.now) env.now runs.now }
+    ensures rows { IfOk result (λ r. AreRowsWhere S.member d.now w.lo w.hi (variables_of (formula_view a.now.body.now))
+        (run_holds (I.interpretation source.now) a.now.depth (formula_view a.now.body.now) env.now w.hi runs.now) r) }
+    ensures least { reads.old ≤ reads.new }
+    ensures most { reads.new ≤ reads.old + length runs.now * reads_upto d.now w.lo w.hi (formula_view a.now.body.now) }
+{
+    let mut parts = VecDeque::new(alloc);
+    'runs: for run in runs {
+        let bound = env.with(a.depth, run.value);
+        let rows = rows_of(alloc, source, a.body, d, &bound, w, reads, probes)?;
+        let part = rows.clip(alloc, run.span.window())?;
+        parts.push_back(part)?;
+    }
+    let made = united(alloc, parts, free(a.body), d, w)?;
+    Ok(made)
+}

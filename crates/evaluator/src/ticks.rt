@@ -1,0 +1,110 @@
+//! The ticks of formulas at one binding.
+
+ghost use Rattle.std.specs.Prelude.{◌≡◌, ◌≤◌, ◌+◌, ◌&&◌, ℕ, true, slice_index, IfOk};
+ghost use Rattle.tick_set.specs.Ticks.{within};
+ghost use Rattle.formula.specs.Tree.{formula_view};
+ghost use Rattle.evaluator.specs.Assigned.{assignment_view};
+ghost use Rattle.evaluator.specs.inner.ByBinding.{AreTicksOf, CanAskHere, reads_here};
+
+use crate::Interpreter;
+use crate::assignment::Assignment;
+use crate::node::Node;
+use crate::sets::{changed, paired, union_of};
+use formula::{Binding, Env, RFormula};
+use std::alloc::{AllocError, Global};
+use std::collections::VecDeque;
+use std::sync::ledger::Ledger;
+use steps::Steps;
+use tick_set::{TickSet, Window};
+use until_merge::Temporal;
+
+// The ticks of the window at which a formula holds at a binding.
+#[cycle(ticks)]
+pub(crate) fn ticks_of<S: Temporal, I: Interpreter<S>, L: Ledger, M: Ledger>(
+    alloc: Global,
+    source: &I,
+    f: &RFormula,
+    binding: &Binding,
+    env: &Env,
+    w: Window,
+    reads: &mut Steps<L>,
+    probes: &mut Steps<M>,
+) -> Result<S, AllocError>
+    requires { CanAskHere (I.interpretation source.now (slice_index binding.now))
+        (I.atom_fits source.now w.lo w.hi (slice_index binding.now))
+        (I.term_fits source.now w.lo w.hi (slice_index binding.now)) w.lo w.hi (formula_view f.now) env.now }
+    ensures ticks { IfOk result (AreTicksOf S.member (I.interpretation source.now (slice_index binding.now))
+        w.lo w.hi (formula_view f.now) env.now) }
+    ensures least { reads.old ≤ reads.new }
+    ensures most { reads.new ≤ reads.old + reads_here w.lo w.hi (formula_view f.now) }
+{
+    match Node::of(f) {
+        Node::Truth(holds) => {
+            let made = ticks_of_truth(alloc, holds, w)?;
+            Ok(made)
+        }
+        Node::Atom(atom) => {
+            let made = source.atom(alloc, atom, binding, env, w, reads, probes)?;
+            Ok(made)
+        }
+        Node::One(change, part) => {
+            let ticks = ticks_of(alloc, source, part, binding, env, w, reads, probes)?;
+            let made = changed(alloc, change, &ticks, w)?;
+            Ok(made)
+        }
+        Node::Two(pairing, left, right) => {
+            let left = ticks_of(alloc, source, left, binding, env, w, reads, probes)?;
+            let right = ticks_of(alloc, source, right, binding, env, w, reads, probes)?;
+            let made = paired(alloc, pairing, &left, &right, w)?;
+            Ok(made)
+        }
+        Node::Assign(a) => {
+            let made = ticks_of_assignment(alloc, source, &a, binding, env, w, reads, probes)?;
+            Ok(made)
+        }
+    }
+}
+
+// All ticks of the window or none.
+fn ticks_of_truth<S: TickSet>(alloc: Global, holds: bool, w: Window) -> Result<S, AllocError>
+    ensures { IfOk result (λ s. (t : ℕ) → S.member s t ≡ (within w.lo w.hi t && holds)) }
+{
+    if holds {
+        let all = S::of_span(alloc, w.span())?;
+        Ok(all)
+    } else {
+        Ok(S::empty(alloc))
+    }
+}
+
+// Those of an assignment: the ticks of each run of the term's value at which its formula holds by this value.
+#[cycle(ticks)]
+fn ticks_of_assignment<S: Temporal, I: Interpreter<S>, L: Ledger, M: Ledger>(
+    alloc: Global,
+    source: &I,
+    a: &Assignment<'_>,
+    binding: &Binding,
+    env: &Env,
+    w: Window,
+    reads: &mut Steps<L>,
+    probes: &mut Steps<M>,
+) -> Result<S, AllocError>
+    requires { CanAskHere (I.interpretation source.now (slice_index binding.now))
+        (I.atom_fits source.now w.lo w.hi (slice_index binding.now))
+        (I.term_fits source.now w.lo w.hi (slice_index binding.now)) w.lo w.hi (assignment_view a.now) env.now }
+    ensures ticks { IfOk result (AreTicksOf S.member (I.interpretation source.now (slice_index binding.now))
+        w.lo w.hi (assignment_view a.now) env.now) }
+    ensures least { reads.old ≤ reads.new }
+    ensures most { reads.new ≤ reads.old + reads_here w.lo w.hi (assignment_view a.now) }
+{
+    let runs = source.runs(alloc, a.term, binding, env, w, reads)?;
+    let mut parts = VecDeque::new(alloc);
+    'each: for run in &runs {
+        let bound = env.with(a.depth, run.value);
+        let ticks: S = ticks_of(alloc, source, a.body, binding, &bound, w, reads, probes)?;
+        let part = ticks.clip(alloc, run.span.window())?;
+        parts.push_back(part)?;
+    }
+    let made = union_of(alloc, parts)?;
+    Ok(made)
+}

@@ -1,0 +1,59 @@
+//! The variables of sets, and what keys have for them.
+
+ghost use Rattle.std.specs.Prelude.{◌≡◌, ◌<◌, ◌≤◌, ◌∷◌, ◌++◌, [], length, map, unwrap_or};
+ghost use Rattle.formula.specs.Variables.{variables_in};
+ghost use Rattle.formula.specs.VarSet.{has};
+ghost use Rattle.evaluator.specs.Keys.{binding_of, object_in};
+
+use formula::{Binding, VarSet};
+
+// The variables of a set, ascending.
+pub(crate) fn variables_of(set: VarSet) -> &'static [u8]
+    ensures { result.now ≡ variables_in (has set) }
+{
+    match (set.has(0), set.has(1), set.has(2), set.has(3)) {
+        (false, false, false, false) => &[],
+        (false, false, false, true) => &[3],
+        (false, false, true, false) => &[2],
+        (false, false, true, true) => &[2, 3],
+        (false, true, false, false) => &[1],
+        (false, true, false, true) => &[1, 3],
+        (false, true, true, false) => &[1, 2],
+        (false, true, true, true) => &[1, 2, 3],
+        (true, false, false, false) => &[0],
+        (true, false, false, true) => &[0, 3],
+        (true, false, true, false) => &[0, 2],
+        (true, false, true, true) => &[0, 2, 3],
+        (true, true, false, false) => &[0, 1],
+        (true, true, false, true) => &[0, 1, 3],
+        (true, true, true, false) => &[0, 1, 2],
+        (true, true, true, true) => &[0, 1, 2, 3],
+    }
+}
+
+// The object that a key has for a variable, if it is one of the key's variables.
+pub(crate) fn object_in(vars: &[u8], key: &[u32], var: u8) -> Option<u32>
+    ensures { result ≡ object_in vars.now key.now var }
+{
+    let (Some((first, vars)), Some((id, key))) = (vars.split_first(), key.split_first()) else {
+        return None;
+    };
+    if *first == var {
+        Some(*id)
+    } else {
+        object_in(vars, key, var)
+    }
+}
+
+// A binding that has the objects of a key at the places of its variables, and object 0 at the others.
+pub(crate) fn binding_of(vars: &[u8], key: &Binding) -> Binding
+    ensures { result ≡ binding_of vars.now key.now }
+{
+    let ids = key.ids();
+    let mut made = Binding::new();
+    made.push(object_in(vars, ids, 0).unwrap_or(0));
+    made.push(object_in(vars, ids, 1).unwrap_or(0));
+    made.push(object_in(vars, ids, 2).unwrap_or(0));
+    made.push(object_in(vars, ids, 3).unwrap_or(0));
+    made
+}
