@@ -1,0 +1,9 @@
+pub mod AnswerLemmas
+pub mod AskLemmas
+pub mod BelowLemmas
+pub mod ObjectLemmas
+pub mod PadLemmas
+pub mod ProductLemmas
+pub mod QueryLemmas
+pub mod ReadLemmas
+pub mod TickLemmas

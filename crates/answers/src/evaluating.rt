@@ -1,0 +1,78 @@
+//! Queries over a store and its regions.
+
+ghost use Rattle.std.specs.Prelude.{◌≡◌, ◌≤◌, ◌+◌, ◌-◌, ◌&&◌, ℕ, length, map, IfOk};
+ghost use Rattle.tick_set.specs.Runs.{spans_have};
+ghost use Rattle.tick_set.specs.Ticks.{between, within};
+ghost use Rattle.tick_set.specs.declared.spans.TheConstants.{SPAN_LIMIT};
+ghost use Rattle.history.specs.Catalog.{ids_of};
+ghost use Rattle.formula_shape.specs.declared.limits.TheConstants.{OBJECT_LIMIT};
+ghost use Rattle.formula.specs.Resolved.{IsResolved};
+ghost use Rattle.formula.specs.Tree.{query_view};
+ghost use Rattle.meaning.specs.Binding.{holds_full};
+ghost use Rattle.meaning.specs.Fits.{FitsItsClasses};
+ghost use Rattle.meaning.specs.Reads.{query_reads};
+ghost use Rattle.object_store.specs.Contents.{catalog_of};
+ghost use Rattle.relation.specs.Frames.{IsIn, frame, frame_of, size_of};
+ghost use Rattle.relation.specs.Rows.{has};
+ghost use Rattle.answers.specs.Asking.{world_in};
+ghost use Rattle.answers.specs.Objects.{AreOfItsClasses, IsOfAcceptedWrites};
+
+use crate::laws::fitting_queries_can_be_asked;
+use crate::world::StoredWorld;
+use evaluator::full_rows;
+use formula::RQuery;
+use interval_set::IntervalSet;
+use object_store::Store;
+use polygon::Regions;
+use relation::{Domains, Relation};
+use std::alloc::{AllocError, Global};
+use std::sync::ledger::Ledger;
+use steps::Steps;
+use tick_set::Window;
+
+/// The objects that were ever inserted into the classes of a query, for each of its variables. It fails only
+/// where memory is out.
+pub fn domains_of(alloc: Global, q: &RQuery, store: &Store) -> Result<Domains, AllocError>
+    requires { length q.now.classes ≤ OBJECT_LIMIT }
+    ensures { IfOk result (λ d. d ≡ map (ids_of (catalog_of store.now)) q.now.classes) }
+{
+    let mut domains = Domains::new(alloc);
+    'classes: for class in q.classes.items() {
+        domains.push(alloc, store.class_names(*class))?;
+    }
+    Ok(domains)
+}
+
+/// The rows of a query over all its variables: for each binding of objects of the domains the ticks of the
+/// window at which all its objects are there and the formula holds, where nothing after the window's last
+/// tick counts. It fails only where memory is out.
+///
+/// The query is right by number and fits the classes and the regions, and the window has at most
+/// 100,000,000 ticks after its first. `reads` counts the looks at timelines.
+pub fn evaluate<'d, L: Ledger, M: Ledger>(
+    alloc: Global,
+    q: &RQuery,
+    d: &'d Domains,
+    store: &Store,
+    regions: &Regions,
+    w: Window,
+    reads: &mut Steps<L>,
+    probes: &mut Steps<M>,
+) -> Result<Relation<'d, IntervalSet>, AllocError>
+    requires accepted { IsOfAcceptedWrites store.now }
+    requires resolved { IsResolved (query_view q.now) }
+    requires fits { FitsItsClasses (world_in store.now regions.now) (query_view q.now) }
+    requires domains { AreOfItsClasses (catalog_of store.now) (query_view q.now) d.now }
+    requires length { w.hi - w.lo ≤ SPAN_LIMIT }
+    ensures rows { IfOk result (λ r. (b : ℕ → ℕ) → IsIn d.now b → (t : ℕ) → has spans_have r b t
+        ≡ (within w.lo w.hi t && holds_full (world_in store.now regions.now) (query_view q.now) w.hi b t)) }
+    ensures vars { IfOk result (λ r. r.vars ≡ between 0 (length q.now.classes)) }
+    ensures frame { IfOk result (λ r. frame r ≡ frame_of d.now w.lo w.hi) }
+    ensures least { reads.old ≤ reads.new }
+    ensures most { reads.new ≤ reads.old + query_reads (size_of d.now) (w.hi + 1 - w.lo) (query_view q.now) }
+{
+    fitting_queries_can_be_asked();
+    let world = StoredWorld { store, regions };
+    let rows = full_rows(alloc, &world, q, d, w, reads, probes)?;
+    Ok(rows)
+}

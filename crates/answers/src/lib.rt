@@ -1,0 +1,19 @@
+//! Answers to queries: the layer between what a formula says and what a store and the regions tell.
+//!
+//! A query by number is evaluated over the objects of its classes, binding by binding, and its rows are those
+//! of its targets, in the order in which their objects were first inserted. Nothing is asked of a window tick
+//! by tick.
+#![tactic(auto)]
+
+mod asking;
+mod evaluating;
+mod laws;
+mod padding;
+mod told;
+mod world;
+
+pub use asking::ask;
+pub use evaluating::{domains_of, evaluate};
+pub use laws::fitting_queries_can_be_asked;
+pub use told::{Answer, spans_of};
+pub use world::StoredWorld;

@@ -1,0 +1,98 @@
+//! What a store and its regions tell of atoms, of terms and of the presence of objects.
+
+ghost use Rattle.std.specs.Prelude.{◌≡◌, ◌<◌, is_some, length};
+ghost use Rattle.std.proofs.Common.{ap};
+ghost use Rattle.meaning.proofs.LocalityLemmas.{atom_same, term_same};
+ghost use Rattle.meaning.specs.Trace.{trace_of};
+ghost use Rattle.history.specs.History.{cells_at};
+ghost use Rattle.object_store.specs.Contents.{history_of};
+ghost use Rattle.answers.specs.Asking.{CanAskAtom, CanAskTerm, told_by};
+
+use crate::padding::padded;
+use atoms::{ValueRun, atom_ticks, presence, value_runs};
+use evaluator::Interpreter;
+use formula::{Binding, Env, RAtom, RTerm};
+use interval_set::IntervalSet;
+use object_store::Store;
+use polygon::Regions;
+use std::alloc::{AllocError, Global};
+use std::sync::ledger::Ledger;
+use steps::Steps;
+use tick_set::Window;
+
+/// A store and its regions.
+#[derive(Clone, Copy)]
+pub struct StoredWorld<'a> {
+    pub store: &'a Store,
+    pub regions: &'a Regions,
+}
+
+impl Interpreter<IntervalSet> for StoredWorld<'_> {
+    ghost interpretation = { λ x. told_by x.store.now x.regions.now };
+
+    ghost present = { λ x id t. is_some (cells_at (history_of x.store.now) id t) };
+
+    ghost atom_fits = { λ x lo hi b a env. CanAskAtom x.store.now lo hi b a };
+
+    ghost term_fits = { λ x lo hi b q env. CanAskTerm x.store.now lo hi b q env };
+
+    ghost object_fits = { λ x lo hi id. id < length x.store.now.objects };
+
+    fn atom<L: Ledger, M: Ledger>(
+        &self,
+        alloc: Global,
+        atom: &RAtom,
+        binding: &Binding,
+        env: &Env,
+        w: Window,
+        reads: &mut Steps<L>,
+        probes: &mut Steps<M>,
+    ) -> Result<IntervalSet, AllocError> {
+        let binding = padded(binding);
+        let ticks = atom_ticks(
+            alloc,
+            atom,
+            &binding,
+            env,
+            self.store,
+            self.regions,
+            w,
+            reads,
+            probes,
+        )?;
+        Ok(ticks)
+    }
+
+    fn runs<L: Ledger>(
+        &self,
+        alloc: Global,
+        term: &RTerm,
+        binding: &Binding,
+        env: &Env,
+        w: Window,
+        reads: &mut Steps<L>,
+    ) -> Result<Vec<ValueRun>, AllocError> {
+        let binding = padded(binding);
+        let runs = value_runs(alloc, term, &binding, env, self.store, w, reads)?;
+        Ok(runs)
+    }
+
+    fn presence<L: Ledger>(
+        &self,
+        alloc: Global,
+        id: u32,
+        w: Window,
+        reads: &mut Steps<L>,
+    ) -> Result<IntervalSet, AllocError> {
+        let ticks = presence(alloc, id, self.store, w, reads)?;
+        Ok(ticks)
+    }
+
+    ghost atom_sees = { λ x b c a same env t. atom_same x.regions.now
+        (trace_of (history_of x.store.now) b) (trace_of (history_of x.store.now) c) a env t
+        (λ v has. ap (λ id. cells_at (history_of x.store.now) id t) (same v has)) };
+
+    ghost term_sees = { λ x b c q same env t. term_same
+        (trace_of (history_of x.store.now) b) (trace_of (history_of x.store.now) c) env t q
+        (λ v has. ap (λ id. cells_at (history_of x.store.now) id t) (same v has)) };
+}
