@@ -1,0 +1,5 @@
+pub mod KeptLemmas
+pub mod LineLemmas
+pub mod ReadLemmas
+pub mod SavedLemmas
+pub mod TextLemmas

@@ -1,0 +1,35 @@
+-- Which lines are commands of a journal.
+use Rattle.std.specs.Prelude.{ℕ, ◌==◌, ◌&&◌, nat_le, is_none, Bool, true, false, Option, Some, None, List, [], ◌∷◌, length, if◌then◌else◌}
+use Rattle.ftl_lexer.specs.Forms.{is_blank}
+use Rattle.command_text.specs.Tree
+use Rattle.command_text.specs.Tree.{CommandTree}
+use Rattle.command_text.specs.Journal.{spelled}
+use Rattle.command_text.specs.Line.{first_refusal}
+use Rattle.command_text.specs.Text.{text_of}
+use Rattle.session_file.specs.declared.kept.TheConstants.{SESSION_LINE_LIMIT}
+
+-- a command that a journal keeps
+abbrev pub is_kept : CommandTree → Bool
+is_kept (Tree.Class name capacity point attributes) = true
+is_kept (Tree.Region name points) = true
+is_kept (Tree.Insert class name place sets) = true
+is_kept (Tree.Update name place sets) = true
+is_kept (Tree.Remove name) = true
+is_kept (Tree.Tick ticks) = true
+is_kept (Tree.Watch name span q) = true
+is_kept (Tree.Keep name span q) = true
+is_kept (Tree.Drop name) = true
+is_kept _ = false
+
+-- nothing but spaces and tabs, or after them a `#`
+abbrev pub is_passed : List ℕ → Bool
+is_passed [] = true
+is_passed (b ∷ bytes) = if is_blank b then is_passed bytes else b == 35
+
+-- a command that a line of a text may have: a journal keeps it, and its canonical line is no longer than such a line
+abbrev pub may_be_loaded : CommandTree → Bool
+may_be_loaded c = is_kept c && nat_le (length (text_of c)) SESSION_LINE_LIMIT
+
+-- the command of a line, None where it is refused or no such command
+unfoldable pub kept_in : List ℕ → Option CommandTree
+kept_in line = if is_none (first_refusal SESSION_LINE_LIMIT line) && may_be_loaded (spelled line) then Some (spelled line) else None

@@ -1,0 +1,6 @@
+pub mod Counts
+pub mod Fits
+pub mod Kept
+pub mod Laws
+pub mod Reading
+pub mod Text

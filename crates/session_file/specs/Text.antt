@@ -1,0 +1,26 @@
+-- The text of a journal, in format 2.
+use Rattle.std.specs.Prelude.{ℕ, List, [], ◌∷◌, ◌++◌, length, sum_by, codes}
+use Rattle.std.specs.List.{flat_map}
+use Rattle.command_text.specs.Journal.{Accepted}
+use Rattle.command_text.specs.Text.{text_of}
+use Rattle.session_file.specs.declared.counts.Counts.{Counts}
+use Rattle.session_file.specs.Counts.{counts_line}
+use Rattle.session_file.specs.Reading.{header, ticks_of}
+
+-- the clock: the sum of all ticks that passed
+abbrev pub clock : List Accepted → ℕ
+clock journal = sum_by (λ e. ticks_of e.1) journal
+
+-- a line with its line feed
+abbrev pub written : List ℕ → List ℕ
+written line = line ++ 10 ∷ []
+
+abbrev pub entry_text : Accepted → List ℕ
+entry_text e = written (text_of e.1)
+
+abbrev pub counts_in : List Accepted → Counts
+counts_in journal = record { commands = length journal; ticks = clock journal }
+
+unfoldable pub session_text : List Accepted → List ℕ
+session_text journal =
+    written header ++ (written (counts_line (counts_in journal)) ++ (flat_map entry_text journal ++ written (codes "end")))
