@@ -302,6 +302,26 @@ fn decimal(text: &[u8], limit: i64) -> Option<i64> {
     (value <= limit).then_some(value)
 }
 
+/// The number of a field of a file, in thousandths: digits with at most ten before and three after a point, with a
+/// sign or without.
+pub fn signed(text: &[u8], limit: i64) -> Option<i64> {
+    let size = text.strip_prefix(b"-").unwrap_or(text);
+    let mut parts = size.splitn(2, |byte| *byte == b'.');
+    if !parts.all(|part| !part.is_empty() && part.iter().all(u8::is_ascii_digit)) {
+        return None;
+    }
+    let value = decimal(size, limit)?;
+    Some(if size.len() < text.len() { -value } else { value })
+}
+
+/// Whether the text is a name and no reserved word.
+pub fn is_name(text: &[u8]) -> bool {
+    let is_letter = |byte: &u8| byte.is_ascii_alphabetic() || *byte == b'_';
+    text.first().is_some_and(is_letter)
+        && text.iter().all(|byte| is_letter(byte) || byte.is_ascii_digit())
+        && reserved(text).is_none()
+}
+
 fn whole(text: &[u8], lo: u64, hi: u64) -> Option<u32> {
     let mut value = 0u64;
     for byte in text {
@@ -353,8 +373,8 @@ const MOVE: u8 = key("move");
 const RATE: u8 = key("rate");
 
 /// The greatest size of a value and of a slope, in thousandths, and the last tick.
-const VALUE_LIMIT: i64 = 1_000_000_000_000;
-const SLOPE_LIMIT: i64 = 1_000_000;
+pub const VALUE_LIMIT: i64 = 1_000_000_000_000;
+pub const SLOPE_LIMIT: i64 = 1_000_000;
 const LAST_TICK: u64 = 1_000_000_000;
 
 struct Reader<'a> {
@@ -817,7 +837,12 @@ impl Reader<'_> {
 }
 
 pub fn read(line: &[u8], tokens: &mut Vec<Token>) -> Result<Command, Fault> {
-    if line.len() > 4096 {
+    read_to(line, tokens, 4096)
+}
+
+/// The same with another greatest number of bytes.
+pub fn read_to(line: &[u8], tokens: &mut Vec<Token>, limit: usize) -> Result<Command, Fault> {
+    if line.len() > limit {
         return Err(Fault::TooLong);
     }
     if line.iter().any(|b| *b != b'\t' && !(0x20..=0x7e).contains(b)) {

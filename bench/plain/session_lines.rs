@@ -98,6 +98,8 @@ const CLASSES: [(&str, &str, &[&str]); 5] = [
 ];
 const SPANS: [&str; 12] =
     ["0", "1", "5", "20", "100", "100", "100", "1000", "1000000", "100000000", "100000001", "1000000000"];
+/// Spans of what is judged tick by tick.
+const SHORT_SPANS: [&str; 8] = ["0", "1", "5", "20", "20", "100", "100000001", "1000000000"];
 const OPS: [&str; 6] = ["<", "<=", "=", "!=", ">=", ">"];
 #[rustfmt::skip]
 const ODD: [&str; 48] = [
@@ -316,9 +318,9 @@ fn query(draw: &mut Draw) -> Line {
     line
 }
 
-/// The commands and queries that aren't answered, and forms that are none.
+/// The commands beside data and asks of one comparison, and forms that are none.
 fn other(draw: &mut Draw) -> Line {
-    let span = draw.one_of(&SPANS);
+    let span = draw.one_of(&SHORT_SPANS);
     let mut line = match draw.below(22) {
         0 => words("show w"),
         1 => words("drop w"),

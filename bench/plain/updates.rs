@@ -1,0 +1,311 @@
+// Watched queries in plain Rust without proofs: the yardstick of `updates`. The rows of each query are kept from now
+// to its expiry. A writing judges the bindings of the written object alone, and a tick looks at the rows that begin or
+// end before it, by a queue of those ticks. The targets must be all variables in the order of FROM.
+#[allow(dead_code)]
+#[path = "asks/answer.rs"]
+mod answer;
+#[path = "session/circle.rs"]
+mod circle;
+#[path = "asks/evaluate.rs"]
+mod evaluate;
+#[allow(dead_code)]
+#[path = "grammar.rs"]
+mod grammar;
+#[allow(dead_code)]
+#[path = "session/history.rs"]
+mod history;
+#[path = "session/resolve.rs"]
+mod resolve;
+#[path = "asks/spans.rs"]
+mod spans;
+#[path = "asks/store.rs"]
+mod store;
+
+use evaluate::{Buffers, rows};
+use grammar::{Command, Word};
+use history::Refusal;
+use resolve::Query;
+use spans::Span;
+use std::cmp::Reverse;
+use std::collections::BinaryHeap;
+use std::io::{self, Read, Write};
+use store::{Place, Store};
+
+const PIECE: usize = 1 << 16;
+
+/// Bindings of a page, the rows of which are counted.
+const PAGE: usize = 1 << 10;
+
+/// The rows of all bindings by number, in the order of the bindings; a binding without ticks has no spans.
+struct Rows {
+    all: Vec<Box<[Span]>>,
+    counts: Vec<u32>,
+}
+
+impl Rows {
+    fn new(bindings: usize) -> Rows {
+        let mut all = Vec::new();
+        all.resize_with(bindings, Box::default);
+        Rows { all, counts: vec![0; bindings.div_ceil(PAGE)] }
+    }
+
+    fn put(&mut self, number: u32, spans: &[Span]) {
+        let row = &mut self.all[number as usize];
+        let count = &mut self.counts[number as usize / PAGE];
+        *count += u32::from(!spans.is_empty());
+        *count -= u32::from(!row.is_empty());
+        *row = spans.into();
+    }
+
+    /// A row of a page without rows is known without a look at it.
+    fn get(&self, number: u32) -> &[Span] {
+        if self.counts[number as usize / PAGE] == 0 { &[] } else { &self.all[number as usize] }
+    }
+
+    /// The rows with ticks.
+    fn iter(&self) -> impl Iterator<Item = (u32, &[Span])> {
+        let pages = self.counts.iter().zip(self.all.chunks(PAGE)).zip((0..).step_by(PAGE));
+        pages.filter(|((count, _), _)| **count > 0).flat_map(|((_, page), first)| {
+            let rows = (first..).zip(page).map(|(number, row)| (number, &row[..]));
+            rows.filter(|(_, row)| !row.is_empty())
+        })
+    }
+}
+
+struct Watch {
+    name: Word,
+    query: Query,
+    /// The numbers from an object of each variable to the next one.
+    strides: Vec<usize>,
+    expiry: u32,
+    rows: Rows,
+    /// At least the next tick at which each row begins or ends to hold. A row that was replaced may have more.
+    turns: BinaryHeap<Reverse<(u32, u32)>>,
+}
+
+/// The first tick after now at which a row changes.
+fn turn(spans: &[Span], now: u32) -> Option<u32> {
+    spans.iter().flat_map(|span| [span.0, span.1 + 1]).find(|tick| *tick > now)
+}
+
+fn holds(spans: &[Span], tick: u32) -> bool {
+    spans.iter().any(|span| (span.0..=span.1).contains(&tick))
+}
+
+/// What one row becomes; none of the spans is before now.
+struct Change {
+    number: u32,
+    old: Vec<Span>,
+    new: Vec<Span>,
+}
+
+impl Watch {
+    /// Without rows.
+    fn new(name: Word, query: Query, expiry: u32, store: &Store) -> Watch {
+        let capacities = query.classes.iter().map(|class| store.history.classes[*class].capacity as usize);
+        let mut strides = vec![1; query.classes.len()];
+        for (variable, capacity) in capacities.enumerate() {
+            strides[..variable].iter_mut().for_each(|stride| *stride *= capacity);
+        }
+        let rows = Rows::new(query.bindings(&store.history) as usize);
+        Watch { name, query, strides, expiry, rows, turns: BinaryHeap::new() }
+    }
+
+    fn number(&self, places: &[usize]) -> u32 {
+        places.iter().zip(&self.strides).map(|(place, stride)| place * stride).sum::<usize>() as u32
+    }
+
+    fn places(&self, number: u32) -> [usize; 4] {
+        let mut places = [0; 4];
+        let mut left = number as usize;
+        for (place, stride) in places.iter_mut().zip(&self.strides) {
+            *place = left / stride;
+            left %= stride;
+        }
+        places
+    }
+
+    fn put_tuple(&self, out: &mut Vec<u8>, word: &[u8], store: &Store, number: u32) {
+        out.extend_from_slice(word);
+        out.extend_from_slice(self.name.text());
+        answer::put_tuple(out, store, &self.query, &self.places(number));
+    }
+
+    /// The line of a row that begins or ends to hold.
+    fn put_turn(&self, out: &mut Vec<u8>, store: &Store, number: u32, before: bool, after: bool) {
+        if before != after {
+            self.put_tuple(out, if after { b"enter " } else { b"leave " }, store, number);
+            out.push(b'\n');
+        }
+    }
+
+    fn replace(&mut self, number: u32, spans: &[Span], now: u32) {
+        self.turns.extend(turn(spans, now).map(|tick| Reverse((tick, number))));
+        self.rows.put(number, spans);
+    }
+
+    /// The changed rows among those of the written object, in order.
+    fn changes(&self, (class, place): Place, store: &Store, free: &mut Buffers) -> Vec<Change> {
+        let now = store.history.clock;
+        let window = (now, self.expiry);
+        let has = |key: &[usize], variable: usize| self.query.classes[variable] == class && key[variable] == place;
+        let (mut changes, mut old) = (Vec::new(), Vec::new());
+        let mut change = |number: u32, new: &[Span]| {
+            old.clear();
+            spans::clip(self.rows.get(number), window, &mut old);
+            if old != new {
+                changes.push(Change { number, old: old.clone(), new: new.to_vec() });
+            }
+        };
+        let variables = 0..self.query.classes.len();
+        if !store.classes[class].present[place] {
+            let is_of = |number: u32| variables.clone().any(|variable| has(&self.places(number), variable));
+            self.rows.iter().filter(|row| is_of(row.0)).for_each(|row| change(row.0, &[]));
+            return changes;
+        }
+        for variable in variables {
+            if self.query.classes[variable] != class {
+                continue;
+            }
+            let mut held = [None; 4];
+            held[variable] = Some(place);
+            rows(store, &self.query, window, held, free, |key, spans| {
+                if !(0..variable).any(|earlier| has(key, earlier)) {
+                    change(self.number(key), spans);
+                }
+            });
+        }
+        changes.sort_unstable_by_key(|change| change.number);
+        changes
+    }
+
+    /// Renews the rows of the written object and adds the lines of what changed.
+    fn refresh(&mut self, written: Place, store: &Store, free: &mut Buffers, out: &mut Vec<u8>) {
+        let now = store.history.clock;
+        if now > self.expiry {
+            return;
+        }
+        for Change { number, old, new } in self.changes(written, store, free) {
+            for (word, there, not_there) in [(&b"gain "[..], &new, &old), (b"lose ", &old, &new)] {
+                let (mut without, mut only) = (Vec::new(), Vec::new());
+                spans::complement(not_there, (now, self.expiry), &mut without);
+                spans::meet(there, &without, &mut only);
+                if !only.is_empty() {
+                    self.put_tuple(out, word, store, number);
+                    answer::put_spans(out, &only);
+                }
+            }
+            self.put_turn(out, store, number, holds(&old, now), holds(&new, now));
+            self.replace(number, &new, now);
+        }
+    }
+
+    /// Adds the lines of the rows that hold at one of both ticks alone.
+    fn pass(&mut self, before: u32, store: &Store, out: &mut Vec<u8>) {
+        let now = store.history.clock;
+        let mut due = Vec::new();
+        while let Some(Reverse((_, number))) = self.turns.peek().copied().filter(|first| first.0.0 <= now) {
+            self.turns.pop();
+            due.push(number);
+        }
+        due.sort_unstable();
+        due.dedup();
+        for number in due {
+            let spans = self.rows.get(number);
+            self.put_turn(out, store, number, holds(spans, before), holds(spans, now));
+            match turn(spans, now) {
+                Some(tick) => self.turns.push(Reverse((tick, number))),
+                None => self.rows.put(number, &[]),
+            }
+        }
+    }
+
+    fn show(&self, store: &Store, out: &mut Vec<u8>) {
+        let mut spans = Vec::new();
+        for (number, row) in self.rows.iter() {
+            spans.clear();
+            if store.history.clock <= self.expiry {
+                spans::clip(row, (store.history.clock, self.expiry), &mut spans);
+            }
+            answer::put_row(out, store, &self.query, &self.places(number), &spans);
+        }
+    }
+}
+
+#[derive(Default)]
+struct Session {
+    store: Store,
+    watches: Vec<Watch>,
+    free: Buffers,
+}
+
+impl Session {
+    fn watch(&mut self, name: Word, span: u32, query: &grammar::Query) -> Result<Watch, Refusal> {
+        let (query, faults) = resolve::resolve(&self.store.history, query, span);
+        resolve::first(faults)?;
+        if !query.targets.iter().copied().eq(0..query.classes.len()) {
+            return Err(Refusal::BadSyntax);
+        }
+        let now = self.store.history.clock;
+        let mut watch = Watch::new(name, query, now + span, &self.store);
+        let query = watch.query.clone();
+        rows(&self.store, &query, (now, now + span), [None; 4], &mut self.free, |key, spans| {
+            if !spans.is_empty() {
+                watch.replace(watch.number(key), spans, now);
+            }
+        });
+        Ok(watch)
+    }
+
+    fn step(&mut self, line: &[u8], tokens: &mut Vec<grammar::Token>, out: &mut Vec<u8>) -> Result<(), Refusal> {
+        match grammar::read(line, tokens)? {
+            Command::Watch(name, span, query) => {
+                let watch = self.watch(name, span, &query)?;
+                watch.show(&self.store, out);
+                self.watches.push(watch);
+            }
+            Command::Show(name) => {
+                let watch = self.watches.iter().find(|watch| watch.name == name).ok_or(Refusal::UnknownName)?;
+                watch.show(&self.store, out);
+            }
+            command @ Command::Tick(_) => {
+                let before = self.store.history.clock;
+                self.store.apply(command)?;
+                for watch in &mut self.watches {
+                    watch.pass(before, &self.store, out);
+                }
+            }
+            command @ (Command::Insert(..) | Command::Update(..) | Command::Remove(_)) => {
+                let Some(written) = self.store.apply(command)? else { return Ok(()) };
+                for watch in &mut self.watches {
+                    watch.refresh(written, &self.store, &mut self.free, out);
+                }
+            }
+            command @ (Command::Class(..) | Command::Region(..)) => {
+                self.store.apply(command)?;
+            }
+            _ => return Err(Refusal::BadSyntax),
+        }
+        Ok(())
+    }
+}
+
+fn main() -> io::Result<()> {
+    let mut input = Vec::new();
+    io::stdin().lock().read_to_end(&mut input)?;
+    let mut output = io::stdout().lock();
+    let mut session = Session::default();
+    let (mut tokens, mut out) = (Vec::new(), Vec::new());
+    for line in input.split_inclusive(|byte| *byte == b'\n') {
+        let line = line.strip_suffix(b"\n").unwrap_or(line);
+        match session.step(line, &mut tokens, &mut out) {
+            Ok(()) => out.extend_from_slice(b"ok\n"),
+            Err(refusal) => writeln!(out, "refused {} {refusal:?}", refusal as u8)?,
+        }
+        if out.len() >= PIECE {
+            output.write_all(&out)?;
+            out.clear();
+        }
+    }
+    output.write_all(&out)
+}

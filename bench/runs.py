@@ -1,0 +1,120 @@
+"""What `asks` and `updates` share: user times of DOMINO and of a plain program on the same lines."""
+
+import os
+import subprocess
+import sys
+import tempfile
+
+HERE = os.path.dirname(os.path.abspath(__file__))
+BUILD = os.path.join(HERE, "build")
+
+
+class Input:
+    """Lines that are run with and without the last ones, the times of which are told; where `whole`, the times are
+    those of whole runs. The least of so many runs counts."""
+
+    def __init__(self, before, measured, unit, whole=False, runs=5):
+        self.before = before
+        self.measured = measured
+        self.unit = unit
+        self.whole = whole
+        self.runs = runs
+
+
+def plain_program(name):
+    """Builds plain/NAME.rs and gives the path of the program."""
+    os.makedirs(BUILD, exist_ok=True)
+    program, source = os.path.join(BUILD, name), os.path.join(HERE, "plain", name + ".rs")
+    subprocess.run(["rustc", "--edition", "2024", "-O", "-o", program, source], check=True)
+    return program
+
+
+def domino_program():
+    """The path of the program that is compared: that of the variable DOMINO, or DOMINO itself, built where it isn't."""
+    if "DOMINO" in os.environ:
+        return os.environ["DOMINO"]
+    subprocess.run([os.path.join(HERE, "..", "domino")], stdin=subprocess.DEVNULL, check=True)
+    return os.path.join(HERE, "..", "crates", "domino", "out", "domino")
+
+
+def run(program, path, out):
+    """User seconds and the most kilobytes."""
+    with open(path, "rb") as lines, open(out, "wb") as replies:
+        child = subprocess.Popen([program], stdin=lines, stdout=replies)
+        _, status, usage = os.wait4(child.pid, 0)
+        child.returncode = status
+    if status != 0:
+        sys.exit(f"{program} ended with {status}")
+    return usage.ru_utime, usage.ru_maxrss
+
+
+def least(runs):
+    return min(time for time, _ in runs), max(memory for _, memory in runs)
+
+
+def has_refusal(path):
+    with open(path, "rb") as replies:
+        return any(line.startswith(b"refused ") for line in replies)
+
+
+def measure(programs, made, folder):
+    """Of each program the least seconds, of the measured lines alone where not `whole`, and memory."""
+    files = {}
+    for name, lines in (("before", made.before), ("all", made.before + made.measured)):
+        files[name] = os.path.join(folder, name)
+        with open(files[name], "w") as text:
+            text.writelines(line + "\n" for line in lines)
+    figures = {(name, which): [] for name in programs for which in files}
+    for _ in range(made.runs):
+        for (name, which), runs in figures.items():
+            if which == "all" or not made.whole:
+                runs.append(run(programs[name], files[which], os.path.join(folder, f"{name}.{which}")))
+    found = {}
+    for name in programs:
+        seconds, memory = least(figures[name, "all"])
+        found[name] = (seconds - (0 if made.whole else least(figures[name, "before"])[0]), memory)
+    return found
+
+
+def text_of(name, made, figures):
+    seconds, memory = figures
+    factor, unit = {"s": (1, "s"), "ms": (1e3, "ms"), "us": (1e6, "microseconds")}[made.unit]
+    each = "" if made.whole else " a line"
+    time = seconds * factor / (1 if made.whole else len(made.measured))
+    return f"{name} {time:8.3f} {unit}{each}, {memory * 1024 / 1e6:4.0f} MB"
+
+
+def compare(names, inputs, plain):
+    """Measures the named inputs, all where no name is given, and prints a line for each."""
+    if any(name not in inputs for name in names):
+        sys.exit("no such input; there are: " + " ".join(inputs))
+    programs = {"domino": domino_program(), "plain": plain_program(plain)}
+    for name in names or inputs:
+        made = inputs[name]()
+        with tempfile.TemporaryDirectory(dir=BUILD) as folder:
+            found = measure(programs, made, folder)
+            replies = [os.path.join(folder, f"{which}.all") for which in programs]
+            if has_refusal(replies[1]):
+                sys.exit(f"{name}: the plain program refuses a line")
+            plain_text = text_of("plain", made, found["plain"])
+            if has_refusal(replies[0]):
+                print(f"{name:18} {'domino refused':32}   {plain_text}", flush=True)
+                continue
+            if subprocess.run(["cmp", *replies], check=False).returncode != 0:
+                sys.exit(f"{name}: the programs differ")
+            ratio = found["domino"][0] / max(found["plain"][0], 1e-6)
+            domino_text = text_of("domino", made, found["domino"])
+            print(f"{name:18} {domino_text}   {plain_text}   ratio {ratio:.2f}", flush=True)
+
+
+def plane(count, draw):
+    """Cars that drive at up to one unit a tick over a square of 1,000 units, ten regions and ten posts."""
+    slope = lambda: f"{draw.randint(-1000, 1000) / 1000:g}"
+    lines = [f"class car {count} point", "class post 10 point"]
+    for i in range(10):
+        x, y = draw.randrange(950), draw.randrange(950)
+        lines.append(f"region r{i} ({x},{y}) ({x + 50},{y}) ({x + 50},{y + 50}) ({x},{y + 50})")
+        lines.append(f"insert post p{i} at ({draw.randrange(1000)},{draw.randrange(1000)})")
+    for i in range(count):
+        lines.append(f"insert car c{i} at ({draw.randrange(1000)},{draw.randrange(1000)}) move ({slope()},{slope()})")
+    return lines
