@@ -7,3 +7,4 @@ pub mod NextLemmas
 pub mod NumberLemmas
 pub mod PageLemmas
 pub mod RisingLemmas
+pub mod SearchLemmas

@@ -43,6 +43,14 @@ impl Line {
     {
         &self.spans
     }
+
+    /// The runs alone.
+    #[inline]
+    pub fn into_spans(self) -> Vec<Span>
+        ensures { pairs result.items ≡ self.1 }
+    {
+        self.spans
+    }
 }
 
 /// The targets that have ticks in the window, in order, with the runs of these ticks. A target has the ticks of

@@ -78,6 +78,15 @@ impl Move {
     {
         self.leaves
     }
+
+    /// The runs of the ticks that it gains, and of those that it loses.
+    #[inline]
+    pub fn into_runs(self) -> (Vec<Span>, Vec<Span>)
+        ensures gained { pairs result.0.items ≡ self.gained }
+        ensures lost { pairs result.1.items ≡ self.lost }
+    {
+        (self.gained, self.lost)
+    }
 }
 
 /// The targets whose ticks in the window these changes make others, in order. A target has the ticks of the rows
@@ -223,6 +232,7 @@ fn without_others<S: TickSet>(
     to: u32,
     changed: Changed<S>,
 ) -> Result<Changed<S>, AllocError>
+    requires { AreRising 4294967296 group.now }
     ensures gained { IfOk result (λ left. (t : ℕ) → S.member left.gained t
         ≡ (S.member changed.gained t && not (some_row (others group.now (row_has S.member kept.now)) from to t))) }
     ensures lost { IfOk result (λ left. (t : ℕ) → S.member left.lost t
@@ -257,6 +267,7 @@ fn without_row<S: TickSet>(
     number: u32,
     left: Changed<S>,
 ) -> Result<Changed<S>, AllocError>
+    requires { AreRising 4294967296 group.now }
     ensures gained { IfOk result (λ r. (t : ℕ) → S.member r.gained t
         ≡ (S.member left.gained t && not (others group.now (row_has S.member kept.now) number t))) }
     ensures lost { IfOk result (λ r. (t : ℕ) → S.member r.lost t
@@ -272,11 +283,14 @@ fn without_row<S: TickSet>(
     })
 }
 
-// Whether a change is of this number.
+// Whether a change is of this number, by a binary search.
 fn has_number<S>(group: &[Change<S>], number: u32) -> bool
+    requires { AreRising 4294967296 group.now }
     ensures { result ≡ is_in group.now number }
 {
-    group.iter().any(|change| change.number == number)
+    group
+        .binary_search_by_key(&number, |change| change.number)
+        .is_ok()
 }
 
 // A target with what it gains and loses, if there is something.

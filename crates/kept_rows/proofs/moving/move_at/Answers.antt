@@ -1,12 +1,22 @@
-use Rattle.std.proofs.Common.{ℕ, ◌+◌, ◌*◌, ◌&&◌, not, Bool, ap, ◌∙◌}
+use Rattle.std.proofs.Common.{ℕ, ◌+◌, ◌*◌, ◌≤◌, ◌&&◌, not, Bool, map, ap, ◌∙◌, arith}
 use Rattle.std.specs.Prelude.{option_to_list}
 use Rattle.std.specs.List.{list_any}
 use Rattle.tick_set.specs.Ticks.{within}
 use Rattle.kept_rows.specs.Changes.{after}
 use Rattle.kept_rows.specs.Listing.{times}
 use Rattle.kept_rows.specs.Rows.{row_has}
+use Rattle.kept_rows.proofs.ListingLemmas.{target-whole}
 use Rattle.kept_rows.proofs.MoveLemmas.{changed-ticks, rows-after, rows-before}
+use Rattle.kept_rows.proofs.RisingLemmas.{rising-wider}
 use Rattle.kept_rows.proofs.moving.move_at.Goals as goal
+
+pub without_others-requires : goal.without_others-requires
+without_others-requires g c =
+    let from : ℕ = c.args.target * c.args.targets.width in
+    let whole : from + c.args.targets.width ≤ c.args.targets.count * c.args.targets.width =
+    target-whole c.args.target c.args.targets.width c.args.targets.count c.requires.target in
+    rising-wider from 0 (from + c.args.targets.width) 4294967296 (map (λ x. x.number) c.args.group.now) (omega arith)
+    (omega (arith, whole, c.args.targets.within)) c.requires.group
 
 pub returns : goal.returns
 returns g c =
