@@ -11,7 +11,7 @@ use Rattle.command_text.specs.declared.journal.Kept.{Kept}
 use Rattle.command_text.specs.Text.{text_of}
 use Rattle.command_text.specs.Journal.{Accepted, spelled, line_told, line_bytes, bytes_of}
 use Rattle.command_text.specs.declared.journal.TheConstants.{MOST_ENTRIES, MOST_BYTES}
-use Rattle.command_text.specs.JournalParts.{line_in, accepted, AreLines, IsJournal}
+use Rattle.command_text.specs.inner.JournalParts.{line_in, accepted, AreLines, IsJournal}
 
 -- lines end by the end of the text
 pub lines_end : (place : ℕ) (ks : List Kept) (text : List ℕ) → AreLines place ks text → place ≤ length text
@@ -35,14 +35,16 @@ lines_bytes place (k ∷ ks) text h =
     let later : (place + k.size + 1) + bytes_of (map (accepted text) ks) ≡ length text = lines_bytes (place + k.size + 1) ks text h.2 in
     let from : k.from ≡ place = h.0 in
     let bytes : line_bytes (accepted text k) ≡ k.size + 1 = ap (λ line. length line + 1) h.1 ∙ ap (λ n. n + 1) (line_length k text (omega arith)) in
-    let sum : bytes_of (map (accepted text) (k ∷ ks)) ≡ line_bytes (accepted text k) + bytes_of (map (accepted text) ks) = sum_by-cons line_bytes (accepted text k) (map (accepted text) ks) in
+    let sum : bytes_of (map (accepted text) (k ∷ ks)) ≡ line_bytes (accepted text k) + bytes_of (map (accepted text) ks) =
+    sum_by-cons line_bytes (accepted text k) (map (accepted text) ks) in
     omega (arith, later, bytes, sum)
 
 pub text_bytes : (ks : List Kept) (text : List ℕ) → AreLines 0 ks text → length text ≡ bytes_of (map (accepted text) ks)
 text_bytes ks text h = let bytes : 0 + bytes_of (map (accepted text) ks) ≡ length text = lines_bytes 0 ks text h in omega (arith, bytes)
 
 -- an entry stands in the text, and its line is canonical
-pub line_inside : (place : ℕ) (ks : List Kept) (text : List ℕ) (i : ℕ) (k : Kept) → AreLines place ks text → slice_get ks i ≡ Some k → k.from + k.size ≤ length text
+pub line_inside : (place : ℕ) (ks : List Kept) (text : List ℕ) (i : ℕ) (k : Kept) → AreLines place ks text → slice_get ks i ≡ Some k
+    → k.from + k.size ≤ length text
 line_inside place [] text zero k h e = absurd (cc e)
 line_inside place [] text (suc i) k h e = absurd (cc e)
 line_inside place (x ∷ ks) text zero k h e =
@@ -52,7 +54,8 @@ line_inside place (x ∷ ks) text zero k h e =
     subst (λ (y : Kept). y.from + y.size ≤ length text) same (omega (arith, ends, from))
 line_inside place (x ∷ ks) text (suc i) k h e = line_inside (place + x.size + 1) ks text i k h.2 e
 
-line_stands : (place : ℕ) (ks : List Kept) (text : List ℕ) (i : ℕ) (k : Kept) → AreLines place ks text → slice_get ks i ≡ Some k → text_of (spelled (line_in text k)) ≡ line_in text k
+line_stands : (place : ℕ) (ks : List Kept) (text : List ℕ) (i : ℕ) (k : Kept) → AreLines place ks text → slice_get ks i ≡ Some k
+    → text_of (spelled (line_in text k)) ≡ line_in text k
 line_stands place [] text zero k h e = absurd (cc e)
 line_stands place [] text (suc i) k h e = absurd (cc e)
 line_stands place (x ∷ ks) text zero k h e =
@@ -134,7 +137,8 @@ lines_removed place (x ∷ ks) text k h =
     let is : line_in (take k.from text) x ≡ line_in text x = line_cut x k.from text (omega (arith, after, at)) (last_ends place (x ∷ ks) text k h) in
     (h.0, ap (λ l. text_of (spelled l)) is ∙ h.1 ∙ sym is, lines_removed (place + x.size + 1) ks text k h.2)
 
-told_before : (place : ℕ) (ks : List Kept) (text : List ℕ) (k : Kept) → AreLines place (ks ++ k ∷ []) text → map (accepted (take k.from text)) ks ≡ map (accepted text) ks
+told_before : (place : ℕ) (ks : List Kept) (text : List ℕ) (k : Kept) → AreLines place (ks ++ k ∷ []) text
+    → map (accepted (take k.from text)) ks ≡ map (accepted text) ks
 told_before place [] text k h = refl
 told_before place (x ∷ ks) text k h =
     let after : place + x.size + 1 ≤ k.from = last_from (place + x.size + 1) ks text k h.2 in

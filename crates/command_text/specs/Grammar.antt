@@ -1,4 +1,4 @@
--- The grammar of commands: which tokens spell which tree, a constructor for each rule.
+-- The grammar of commands: which tokens spell which tree, a constructor for each rule of a part.
 --
 --   num      := ['-'] NUMBER
 --   pt       := '(' num ',' num ')'
@@ -7,9 +7,10 @@
 --   moves    := ('[' pt ',' NUMBER ']')* pt
 --   setting  := NAME '=' num ['rate' rates] | NAME '=' TEXT | NAME 'rate' rates
 --
--- The commands stand beside their constructors. A number out of the form or range of its place stands for 0, a name or a text of more than 32 bytes for the empty one, and legs that make no function for rest.
-use Rattle.std.specs.Prelude.{ℕ, ℤ, pos, Bool, true, false, List, [], ◌∷◌, ◌++◌, map, codes, Option, None, Some, unwrap_or}
-use Rattle.case_table.specs.declared.key.TheConstants.{CLASS, REGION, INSERT, UPDATE, REMOVE, TICK, ASK, WATCH, KEEP, SHOW, DROP, LIST, SAVE, IMPORT, EXPORT, QUIT, POINT as POINT_WORD, NUM, TEXT as TEXT_WORD, DYN, AT, MOVE, RATE}
+-- The rules of the commands stand in Parts.antt. A number out of the form or range of its place stands for 0, a name or
+-- a text of more than 32 bytes for the empty one, and legs that make no function for rest.
+use Rattle.std.specs.Prelude.{ℕ, ℤ, pos, Bool, true, false, List, [], ◌∷◌, ◌++◌, map, Option, None, Some, unwrap_or, IsTrue}
+use Rattle.case_table.specs.declared.key.TheConstants.{POINT as POINT_WORD, NUM, TEXT as TEXT_WORD, DYN, AT, MOVE, RATE}
 use Rattle.case_table.specs.declared.symbol.TheConstants.{OPEN_ROUND, CLOSE_ROUND, OPEN_SQUARE, CLOSE_SQUARE, COMMA, MINUS, EQUAL}
 use Rattle.fixed_point.specs.declared.number.Point.{Point}
 use Rattle.motion.specs.Function.{Function}
@@ -19,12 +20,13 @@ use Rattle.motion.specs.declared.cell.Given.{Given}
 use Rattle.motion.specs.declared.cell.Given.TheVariants as givens
 use Rattle.motion.specs.declared.cell.NamedSet.{NamedSet}
 use Rattle.motion.specs.declared.cell.Place.{Place}
+use Rattle.ftl_lexer.specs.Forms.{word_kind}
 use Rattle.ftl_parser.specs.Tree.{QueryTree}
 use Rattle.ftl_parser.specs.Grammar.{SpellsQuery}
-use Rattle.command_text.specs.Piece.{Piece, KEY, SIGN, NAME, NUMBER, TEXT, in_query}
-use Rattle.command_text.specs.Ranges.{WholePlace, Span, Steps, Capacity, Nearest, whole_in, radius_in, SignedPlace, Value, Rate, Width, signed_in}
+use Rattle.command_text.specs.Parts.{Part, Verb, Name, Quoted, Whole, Error, Num, PointWord, Attrs, Points, Change, Parts, Blank, Last, Asking, ◌▸◌, is_verb, parts}
+use Rattle.command_text.specs.Piece.{Piece, KEY, SIGN, NAME, NUMBER, TEXT, piece_of, in_query}
+use Rattle.command_text.specs.Ranges.{WholePlace, Steps, whole_in, radius_in, SignedPlace, Value, Rate, signed_in}
 use Rattle.command_text.specs.Sizes.{short_word, function_of}
-use Rattle.command_text.specs.Tree
 use Rattle.command_text.specs.Tree.{CommandTree}
 
 abbrev pub whole_at : WholePlace → List ℕ → ℕ
@@ -149,63 +151,30 @@ pub data SpellsPointWord : Bool → List Piece → Type 0 where
 abbrev pub SpellsTail : QueryTree → List Piece → Type 0
 SpellsTail q xs = SpellsQuery q (map in_query xs)
 
+-- a word of the language, or else a name, as a token
+abbrev pub token_of : List ℕ → Piece
+token_of word = piece_of (word_kind word) word
+
+-- a part of a command
+pub data SpellsPart : Part → List Piece → Type 0 where
+  part_verb : {w : List ℕ} → IsTrue (is_verb w) → SpellsPart (Verb w) (token_of w ∷ [])
+  part_name : {n : List ℕ} → SpellsPart (Name (short_word n)) (NAME n ∷ [])
+  part_text : {t : List ℕ} → SpellsPart (Quoted (short_word t)) (TEXT t ∷ [])
+  part_whole : {place : WholePlace} {n : List ℕ} → SpellsPart (Whole place (whole_at place n)) (NUMBER n ∷ [])
+  part_error : {n : List ℕ} → SpellsPart (Error (radius_at n)) (NUMBER n ∷ [])
+  part_num : {place : SignedPlace} {v : ℤ} {xs : List Piece} → SpellsNum place v xs → SpellsPart (Num place v) xs
+  part_point_word : {b : Bool} {xs : List Piece} → SpellsPointWord b xs → SpellsPart (PointWord b) xs
+  part_attrs : {attrs : List (List ℕ × AttrKind)} {xs : List Piece} → SpellsAttrs attrs xs → SpellsPart (Attrs attrs) xs
+  part_points : {p q r : Point} {ps : List Point} {xs : List Piece} → SpellsPoints (p ∷ q ∷ r ∷ ps) xs → SpellsPart (Points (p ∷ q ∷ r ∷ ps)) xs
+  part_change : {p : Place} {ss : List NamedSet} {xs : List Piece} → SpellsChange p ss xs → SpellsPart (Change p ss) xs
+
+-- parts, one after another
+pub data SpellsParts : Parts → List Piece → Type 0 where
+  no_parts : SpellsParts Blank []
+  last_part : {p : Part} {xs : List Piece} → SpellsPart p xs → SpellsParts (Last p) xs
+  last_query : {q : QueryTree} {xs : List Piece} → SpellsTail q xs → SpellsParts (Asking q) xs
+  part_before : {p : Part} {ps : Parts} {xs ys : List Piece} → SpellsPart p xs → SpellsParts ps ys → SpellsParts (p ▸ ps) (xs ++ ys)
+
+-- a command
 pub data SpellsCommand : CommandTree → List Piece → Type 0 where
-  -- a blank line, or a comment
-  nothing : SpellsCommand Tree.Nothing []
-  -- 'class' NAME NUMBER ['point'] ['(' attr (',' attr)* ')']
-  class : {n k : List ℕ} {b : Bool} {xs : List Piece} {rest : List (List ℕ × AttrKind)} {ys : List Piece} →
-      SpellsPointWord b xs → SpellsAttrs rest ys →
-      SpellsCommand (Tree.Class (short_word n) (whole_at Capacity k) b rest) (KEY CLASS ∷ NAME n ∷ NUMBER k ∷ (xs ++ ys))
-  -- 'region' NAME pt pt pt pt*
-  region : {n : List ℕ} {p q r : Point} {ps : List Point} {xs : List Piece} →
-      SpellsPoints (p ∷ q ∷ r ∷ ps) xs → SpellsCommand (Tree.Region (short_word n) (p ∷ q ∷ r ∷ ps)) (KEY REGION ∷ NAME n ∷ xs)
-  -- 'insert' NAME NAME ['at' pt] ['move' moves] setting*
-  insert : {c n : List ℕ} {p : Place} {ss : List NamedSet} {xs : List Piece} →
-      SpellsChange p ss xs → SpellsCommand (Tree.Insert (short_word c) (short_word n) p ss) (KEY INSERT ∷ NAME c ∷ NAME n ∷ xs)
-  -- 'update' NAME ['at' pt] ['move' moves] setting*
-  update : {n : List ℕ} {p : Place} {ss : List NamedSet} {xs : List Piece} →
-      SpellsChange p ss xs → SpellsCommand (Tree.Update (short_word n) p ss) (KEY UPDATE ∷ NAME n ∷ xs)
-  -- 'remove' NAME
-  remove : {n : List ℕ} → SpellsCommand (Tree.Remove (short_word n)) (KEY REMOVE ∷ NAME n ∷ [])
-  -- 'tick' NUMBER
-  tick : {k : List ℕ} → SpellsCommand (Tree.Tick (whole_at Steps k)) (KEY TICK ∷ NUMBER k ∷ [])
-  -- 'ask' NUMBER query
-  ask : {k : List ℕ} {q : QueryTree} {xs : List Piece} →
-      SpellsTail q xs → SpellsCommand (Tree.Ask (whole_at Span k) q) (KEY ASK ∷ NUMBER k ∷ xs)
-  -- 'watch' NAME NUMBER query
-  watch : {n k : List ℕ} {q : QueryTree} {xs : List Piece} →
-      SpellsTail q xs → SpellsCommand (Tree.Watch (short_word n) (whole_at Span k) q) (KEY WATCH ∷ NAME n ∷ NUMBER k ∷ xs)
-  -- 'keep' NAME NUMBER query
-  keep : {n k : List ℕ} {q : QueryTree} {xs : List Piece} →
-      SpellsTail q xs → SpellsCommand (Tree.Keep (short_word n) (whole_at Span k) q) (KEY KEEP ∷ NAME n ∷ NUMBER k ∷ xs)
-  -- 'show' NAME
-  show : {n : List ℕ} → SpellsCommand (Tree.Show (short_word n)) (KEY SHOW ∷ NAME n ∷ [])
-  -- 'drop' NAME
-  drop : {n : List ℕ} → SpellsCommand (Tree.Drop (short_word n)) (KEY DROP ∷ NAME n ∷ [])
-  -- 'list'
-  listing : SpellsCommand Tree.Listing (KEY LIST ∷ [])
-  -- 'save' TEXT
-  save : {t : List ℕ} → SpellsCommand (Tree.Save (short_word t)) (KEY SAVE ∷ TEXT t ∷ [])
-  -- 'import' NAME TEXT
-  import : {n t : List ℕ} → SpellsCommand (Tree.Import (short_word n) (short_word t)) (KEY IMPORT ∷ NAME n ∷ TEXT t ∷ [])
-  -- 'export' NAME TEXT
-  export : {n t : List ℕ} → SpellsCommand (Tree.Export (short_word n) (short_word t)) (KEY EXPORT ∷ NAME n ∷ TEXT t ∷ [])
-  -- 'quit'
-  quit : SpellsCommand Tree.Quit (KEY QUIT ∷ [])
-  -- 'nearest' NUMBER NUMBER NAME NAME
-  nearest : {s k o c : List ℕ} →
-      SpellsCommand (Tree.Nearest (whole_at Span s) (whole_at Nearest k) (short_word o) (short_word c))
-      (NAME (codes "nearest") ∷ NUMBER s ∷ NUMBER k ∷ NAME o ∷ NAME c ∷ [])
-  -- 'must' NUMBER NUMBER query
-  must : {e k : List ℕ} {q : QueryTree} {xs : List Piece} →
-      SpellsTail q xs → SpellsCommand (Tree.Must (radius_at e) (whole_at Span k) q) (NAME (codes "must") ∷ NUMBER e ∷ NUMBER k ∷ xs)
-  -- 'may' NUMBER NUMBER query
-  may : {e k : List ℕ} {q : QueryTree} {xs : List Piece} →
-      SpellsTail q xs → SpellsCommand (Tree.May (radius_at e) (whole_at Span k) q) (NAME (codes "may") ∷ NUMBER e ∷ NUMBER k ∷ xs)
-  -- 'index' NAME NAME num
-  index : {c a : List ℕ} {w : ℤ} {xs : List Piece} →
-      SpellsNum Width w xs → SpellsCommand (Tree.Index (short_word c) (short_word a) w) (NAME (codes "index") ∷ NAME c ∷ NAME a ∷ xs)
-  -- 'range' NUMBER NAME NAME num num
-  range : {k c a : List ℕ} {l g : ℤ} {xs ys : List Piece} →
-      SpellsNum Value l xs → SpellsNum Value g ys →
-      SpellsCommand (Tree.Range (whole_at Span k) (short_word c) (short_word a) l g) (NAME (codes "range") ∷ NUMBER k ∷ NAME c ∷ NAME a ∷ (xs ++ ys))
+  by_parts : {c : CommandTree} {xs : List Piece} → SpellsParts (parts c) xs → SpellsCommand c xs

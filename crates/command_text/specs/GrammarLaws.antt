@@ -1,5 +1,6 @@
 -- What is read and what is refused, in words of the grammar alone.
 use Rattle.std.specs.Prelude.{◌≡◌, ◌↔◌, ℕ, true, false, List, [], Some, None}
+use Rattle.command_text.specs.declared.fault.CommandFault.{CommandFault}
 use Rattle.command_text.specs.declared.fault.CommandFault.TheVariants as faults
 use Rattle.command_text.specs.declared.refusal.Refusal.{Refusal}
 use Rattle.command_text.specs.declared.refusal.Refusal.TheVariants as refusals
@@ -8,7 +9,7 @@ use Rattle.command_text.specs.Tree
 use Rattle.command_text.specs.Tree.{CommandTree}
 use Rattle.command_text.specs.Grammar.{SpellsCommand}
 use Rattle.command_text.specs.Judged.{numbers_fit, sizes_fit}
-use Rattle.command_text.specs.Reading.{Reader, command_of}
+use Rattle.command_text.specs.inner.Reading.{Reader, command_of}
 use Rattle.command_text.specs.Line.{is_comment, early_refusal, IsRead, Explains}
 
 -- what is told of tokens that spell a command: the command, that no token is left, and whether its numbers and its sizes fit
@@ -64,6 +65,17 @@ IsRefusedFor limit line refusals.BadSyntax = IsJudgedByTokens limit line × Spel
 IsRefusedFor limit line refusals.NumberRange = IsJudgedByTokens limit line × SpellsUnfitNumber line
 IsRefusedFor limit line refusals.TooLarge = IsJudgedByTokens limit line × SpellsLargeSize line
 IsRefusedFor limit line r = early_refusal limit line ≡ Some r
+
+-- what is read of a line: nothing of a comment, and of any other line the command that its tokens spell
+pub record IsSpelled (limit : ℕ) (line : List ℕ) (c : CommandTree) : Type 0 where
+  pub passed : PassesTheFirstThree limit line
+  pub comment : is_comment line ≡ true → c ≡ Tree.Nothing
+  pub other : is_comment line ≡ false → SpellsWithinLimits line c
+
+-- why a line isn't read; there is memory enough for the first three refusals
+abbrev pub IsFaultOf : ℕ → List ℕ → CommandFault → Type 0
+IsFaultOf limit line (faults.Refused r) = IsRefusedFor limit line r
+IsFaultOf limit line faults.NoMemory = PassesTheFirstThree limit line
 
 -- the line is refused just for what its refusal says
 abbrev pub IsRefusedByTheGrammar : ℕ → List ℕ → Type 0

@@ -1,17 +1,20 @@
--- Whether each number that a rule takes is in the form and range of its place, and each size within its limit: noted along the rules, from what was noted before.
-use Rattle.std.specs.Prelude.{ℕ, ℤ, Bool, true, false, ◌&&◌, is_some, Option, List, ◌∷◌, length, map}
+-- Whether each number that a rule takes is in the form and range of its place, and each size within its limit: noted
+-- along the rules, from what was noted before.
+use Rattle.std.specs.Prelude.{ℕ, ℤ, Bool, true, false, ◌&&◌, is_some, is_none, Option, List, ◌∷◌, length}
 use Rattle.fixed_point.specs.declared.number.Point.{Point}
 use Rattle.motion.specs.Function.{Function}
 use Rattle.motion.specs.declared.cell.AttrKind.{AttrKind}
 use Rattle.motion.specs.declared.cell.Given.{Given}
 use Rattle.motion.specs.declared.cell.NamedSet.{NamedSet}
 use Rattle.motion.specs.declared.cell.Place.{Place}
-use Rattle.command_text.specs.Piece.{Piece, in_query, has_long}
-use Rattle.command_text.specs.Ranges.{SignedPlace, Span, Steps, Capacity, Nearest, whole_in, radius_in, signed_in}
+use Rattle.ftl_parser.specs.Marks.{first_unfit}
+use Rattle.command_text.specs.Parts.{Part, Parts}
+use Rattle.command_text.specs.Piece.{Piece, has_long}
+use Rattle.command_text.specs.Ranges.{SignedPlace, Steps, whole_in, radius_in, signed_in}
 use Rattle.command_text.specs.Sizes.{is_short, are_few_legs, are_few_attributes, are_few_vertices}
-use Rattle.command_text.specs.Query.{is_query_fit, is_query_small}
+use Rattle.command_text.specs.inner.Query.{is_query_small}
 use Rattle.command_text.specs.Tree.{CommandTree}
-use Rattle.command_text.specs.Grammar.{SpellsNum, num_plain, num_minus, SpellsPair, pair, SpellsAttr, attr_num, attr_text, attr_dyn, SpellsMoreAttrs, no_more_attrs, one_more_attr, SpellsAttrs, no_attrs, some_attrs, SpellsPoints, no_points, one_point, SpellsRateLegs, no_rate_legs, one_rate_leg, SpellsRates, rates, SpellsMoveLegs, no_move_legs, one_move_leg, SpellsMoves, moves, SpellsGiven, given_num, given_both, given_text, given_rate, SpellsSettings, no_settings, one_setting, SpellsAt, not_at, at, SpellsMoving, not_moving, moving, SpellsChange, change, SpellsCommand, nothing, class, region, insert, update, remove, tick, ask, watch, keep, show, drop, listing, save, import, export, quit, nearest, must, may, index, range}
+use Rattle.command_text.specs.Grammar.{SpellsNum, num_plain, num_minus, SpellsPair, pair, SpellsAttr, attr_num, attr_text, attr_dyn, SpellsMoreAttrs, no_more_attrs, one_more_attr, SpellsAttrs, no_attrs, some_attrs, SpellsPoints, no_points, one_point, SpellsRateLegs, no_rate_legs, one_rate_leg, SpellsRates, rates, SpellsMoveLegs, no_move_legs, one_move_leg, SpellsMoves, moves, SpellsGiven, given_num, given_both, given_text, given_rate, SpellsSettings, no_settings, one_setting, SpellsAt, not_at, at, SpellsMoving, not_moving, moving, SpellsChange, change, SpellsPart, part_verb, part_name, part_text, part_whole, part_error, part_num, part_point_word, part_attrs, part_points, part_change, SpellsParts, no_parts, last_part, last_query, part_before, SpellsCommand, by_parts}
 
 -- ---- Numbers
 
@@ -61,30 +64,27 @@ moving_fit (moving d) fit = moves_fit d fit
 abbrev pub change_fit : {p : Place} {ss : List NamedSet} {xs : List Piece} → SpellsChange p ss xs → Bool → Bool
 change_fit (change d e f) fit = settings_fit f (moving_fit e (at_fit d fit))
 
+abbrev pub part_fit : {p : Part} {xs : List Piece} → SpellsPart p xs → Bool → Bool
+part_fit (part_verb w) fit = fit
+part_fit part_name fit = fit
+part_fit part_text fit = fit
+part_fit (part_whole {place = place} {n = n}) fit = fit && is_some (whole_in place n)
+part_fit (part_error {n = n}) fit = fit && is_some (radius_in n)
+part_fit (part_num d) fit = num_fit d fit
+part_fit (part_point_word d) fit = fit
+part_fit (part_attrs d) fit = fit
+part_fit (part_points d) fit = points_fit d fit
+part_fit (part_change d) fit = change_fit d fit
+
+abbrev pub parts_fit : {ps : Parts} {xs : List Piece} → SpellsParts ps xs → Bool → Bool
+parts_fit no_parts fit = fit
+parts_fit (last_part d) fit = part_fit d fit
+parts_fit (last_query d) fit = fit && is_none (first_unfit d)
+parts_fit (part_before d e) fit = parts_fit e (part_fit d fit)
+
 -- each number of a command is in the form and range of its place
 abbrev pub numbers_fit : {c : CommandTree} {xs : List Piece} → SpellsCommand c xs → Bool
-numbers_fit nothing = true
-numbers_fit (class {k = k} d e) = is_some (whole_in Capacity k)
-numbers_fit (region d) = points_fit d true
-numbers_fit (insert d) = change_fit d true
-numbers_fit (update d) = change_fit d true
-numbers_fit remove = true
-numbers_fit (tick {k = k}) = is_some (whole_in Steps k)
-numbers_fit (ask {k = k} {xs = xs} d) = is_some (whole_in Span k) && is_query_fit (map in_query xs)
-numbers_fit (watch {k = k} {xs = xs} d) = is_some (whole_in Span k) && is_query_fit (map in_query xs)
-numbers_fit (keep {k = k} {xs = xs} d) = is_some (whole_in Span k) && is_query_fit (map in_query xs)
-numbers_fit show = true
-numbers_fit drop = true
-numbers_fit listing = true
-numbers_fit save = true
-numbers_fit import = true
-numbers_fit export = true
-numbers_fit quit = true
-numbers_fit (nearest {s = s} {k = k}) = is_some (whole_in Span s) && is_some (whole_in Nearest k)
-numbers_fit (must {e = e} {k = k} {xs = xs} d) = is_some (radius_in e) && is_some (whole_in Span k) && is_query_fit (map in_query xs)
-numbers_fit (may {e = e} {k = k} {xs = xs} d) = is_some (radius_in e) && is_some (whole_in Span k) && is_query_fit (map in_query xs)
-numbers_fit (index d) = num_fit d true
-numbers_fit (range {k = k} d e) = num_fit e (num_fit d (is_some (whole_in Span k)))
+numbers_fit (by_parts d) = parts_fit d true
 
 -- ---- Sizes
 
@@ -124,27 +124,24 @@ moving_small (moving d) small = moves_small d small
 abbrev pub change_small : {p : Place} {ss : List NamedSet} {xs : List Piece} → SpellsChange p ss xs → Bool → Bool
 change_small (change d e f) small = settings_small f (moving_small e small)
 
+abbrev pub part_small : {p : Part} {xs : List Piece} → SpellsPart p xs → Bool → Bool
+part_small (part_verb w) small = small
+part_small (part_name {n = n}) small = small && is_short n
+part_small (part_text {t = t}) small = small && is_short t
+part_small part_whole small = small
+part_small part_error small = small
+part_small (part_num d) small = small
+part_small (part_point_word d) small = small
+part_small (part_attrs d) small = attrs_small d small
+part_small (part_points {p = p} {q = q} {r = r} {ps = ps} d) small = small && are_few_vertices (length (p ∷ q ∷ r ∷ ps))
+part_small (part_change d) small = change_small d small
+
+abbrev pub parts_small : {ps : Parts} {xs : List Piece} → SpellsParts ps xs → Bool → Bool
+parts_small no_parts small = small
+parts_small (last_part d) small = part_small d small
+parts_small (last_query {q = q} {xs = xs} d) small = small && is_query_small (has_long xs) q
+parts_small (part_before d e) small = parts_small e (part_small d small)
+
 -- each size of a command is within its limit
 abbrev pub sizes_fit : {c : CommandTree} {xs : List Piece} → SpellsCommand c xs → Bool
-sizes_fit nothing = true
-sizes_fit (class {n = n} d e) = attrs_small e (is_short n)
-sizes_fit (region {n = n} {p = p} {q = q} {r = r} {ps = ps} d) = is_short n && are_few_vertices (length (p ∷ q ∷ r ∷ ps))
-sizes_fit (insert {c = c} {n = n} d) = change_small d (is_short c && is_short n)
-sizes_fit (update {n = n} d) = change_small d (is_short n)
-sizes_fit (remove {n = n}) = is_short n
-sizes_fit tick = true
-sizes_fit (ask {q = q} {xs = xs} d) = is_query_small (has_long xs) q
-sizes_fit (watch {n = n} {q = q} {xs = xs} d) = is_short n && is_query_small (has_long xs) q
-sizes_fit (keep {n = n} {q = q} {xs = xs} d) = is_short n && is_query_small (has_long xs) q
-sizes_fit (show {n = n}) = is_short n
-sizes_fit (drop {n = n}) = is_short n
-sizes_fit listing = true
-sizes_fit (save {t = t}) = is_short t
-sizes_fit (import {n = n} {t = t}) = is_short n && is_short t
-sizes_fit (export {n = n} {t = t}) = is_short n && is_short t
-sizes_fit quit = true
-sizes_fit (nearest {o = o} {c = c}) = is_short o && is_short c
-sizes_fit (must {q = q} {xs = xs} d) = is_query_small (has_long xs) q
-sizes_fit (may {q = q} {xs = xs} d) = is_query_small (has_long xs) q
-sizes_fit (index {c = c} {a = a} d) = is_short c && is_short a
-sizes_fit (range {c = c} {a = a} d e) = is_short c && is_short a
+sizes_fit (by_parts d) = parts_small d true

@@ -4,6 +4,7 @@ pub mod GrammarLaws
 pub mod Journal
 pub mod Judged
 pub mod Line
+pub mod Parts
 pub mod Piece
 pub mod Ranges
 pub mod Refusals
@@ -12,10 +13,5 @@ pub mod Sizes
 pub mod Text
 pub mod TextLaws
 pub mod Tree
--- how it is read and kept
-pub mod Form
-pub mod JournalParts
-pub mod LineParts
-pub mod Query
-pub mod Reading
-pub mod Standing
+-- how it is done
+pub mod inner

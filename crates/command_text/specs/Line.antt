@@ -10,7 +10,7 @@ use Rattle.command_text.specs.declared.fault.CommandFault.TheVariants as faults
 use Rattle.command_text.specs.declared.refusal.Refusal.{Refusal}
 use Rattle.command_text.specs.declared.refusal.Refusal.TheVariants as refusals
 use Rattle.command_text.specs.Piece.{pieces}
-use Rattle.command_text.specs.Reading.{Read, at_first, command_of}
+use Rattle.command_text.specs.inner.Reading.{Read, at_first, command_of}
 use Rattle.command_text.specs.Tree
 use Rattle.command_text.specs.Tree.{CommandTree}
 

@@ -1,4 +1,5 @@
--- What holds of each command that is read: names are name tokens, texts have no quotes and no bytes that no line has, both have at most the bytes of a word, numbers are in the ranges of their places, and lists within their limits.
+-- What holds of each command that is read: names are name tokens, texts have no quotes and no bytes that no line has,
+-- both have at most the bytes of a word, numbers are in the ranges of their places, and lists within their limits.
 use Rattle.std.specs.Prelude.{◌≡◌, ℕ, ◌≤◌, ℤ, pos, negsuc, unsigned_abs, false, List, length, map, Option, None, Some, IsTrue}
 use Rattle.std.specs.List.{AllByRecursion}
 use Rattle.fixed_point.specs.declared.number.Point.{Point}
@@ -22,7 +23,8 @@ use Rattle.geometry.specs.declared.limits.TheConstants.{LEAST_VERTICES, RADIUS_L
 use Rattle.motion.specs.declared.limits.TheConstants.{CAPACITY_LIMIT, ATTRIBUTE_LIMIT}
 use Rattle.command_text.specs.declared.ranges.TheConstants.{NEAREST_LIMIT}
 use Rattle.command_text.specs.Line.{has_other_byte}
-use Rattle.command_text.specs.Tree
+use Rattle.command_text.specs.Parts.{Part, Verb, Name, Quoted, Whole, Error, Num, PointWord, Attrs, Points, Change, Parts, Blank, Last, Asking, ◌▸◌, is_verb, parts}
+use Rattle.command_text.specs.Ranges.{WholePlace, Span, Steps, Capacity, Nearest, SignedPlace, Value, Rate, Width}
 use Rattle.command_text.specs.Tree.{CommandTree}
 
 -- from the least to the most
@@ -47,6 +49,19 @@ IsRate a = unsigned_abs a ≤ SLOPE_LIMIT
 abbrev pub IsWidth : ℤ → Type 0
 IsWidth (pos n) = IsFrom 1 READ_LIMIT n
 IsWidth (negsuc n) = ⊥
+
+-- a whole number in the range of its place
+abbrev pub IsWholeIn : WholePlace → ℕ → Type 0
+IsWholeIn Span n = IsFrom 0 LAST_TICK n
+IsWholeIn Steps n = IsFrom 1 LAST_TICK n
+IsWholeIn Capacity n = IsFrom 1 CAPACITY_LIMIT n
+IsWholeIn Nearest n = IsFrom 1 NEAREST_LIMIT n
+
+-- a number with a sign or none in the range of its place
+abbrev pub IsSignedIn : SignedPlace → ℤ → Type 0
+IsSignedIn Value v = IsValue v
+IsSignedIn Rate v = IsRate v
+IsSignedIn Width v = IsWidth v
 
 -- ---- Points and legs
 
@@ -112,26 +127,23 @@ pub record IsQuery (q : QueryTree) : Type 0 where
 
 -- ---- Commands
 
+abbrev pub IsPart : Part → Type 0
+IsPart (Verb w) = IsTrue (is_verb w)
+IsPart (Name n) = IsShortName n
+IsPart (Quoted t) = IsShortText t
+IsPart (Whole place n) = IsWholeIn place n
+IsPart (Error e) = IsUnsigned RADIUS_LIMIT e
+IsPart (Num place v) = IsSignedIn place v
+IsPart (PointWord b) = Unit {0}
+IsPart (Attrs attrs) = AreAttributes attrs
+IsPart (Points ps) = AreVertices ps
+IsPart (Change p ss) = IsChange p ss
+
+abbrev pub AreParts : Parts → Type 0
+AreParts Blank = Unit {0}
+AreParts (Last p) = IsPart p
+AreParts (Asking q) = IsQuery q
+AreParts (p ▸ ps) = IsPart p × AreParts ps
+
 abbrev pub IsPrintable : CommandTree → Type 0
-IsPrintable Tree.Nothing = Unit {0}
-IsPrintable Tree.Listing = Unit {0}
-IsPrintable Tree.Quit = Unit {0}
-IsPrintable (Tree.Class n k b attrs) = IsShortName n × IsFrom 1 CAPACITY_LIMIT k × AreAttributes attrs
-IsPrintable (Tree.Region n ps) = IsShortName n × AreVertices ps
-IsPrintable (Tree.Insert c n p ss) = IsShortName c × IsShortName n × IsChange p ss
-IsPrintable (Tree.Update n p ss) = IsShortName n × IsChange p ss
-IsPrintable (Tree.Remove n) = IsShortName n
-IsPrintable (Tree.Tick k) = IsFrom 1 LAST_TICK k
-IsPrintable (Tree.Ask k q) = IsFrom 0 LAST_TICK k × IsQuery q
-IsPrintable (Tree.Watch n k q) = IsShortName n × IsFrom 0 LAST_TICK k × IsQuery q
-IsPrintable (Tree.Keep n k q) = IsShortName n × IsFrom 0 LAST_TICK k × IsQuery q
-IsPrintable (Tree.Show n) = IsShortName n
-IsPrintable (Tree.Drop n) = IsShortName n
-IsPrintable (Tree.Save t) = IsShortText t
-IsPrintable (Tree.Import n t) = IsShortName n × IsShortText t
-IsPrintable (Tree.Export n t) = IsShortName n × IsShortText t
-IsPrintable (Tree.Nearest s k o c) = IsFrom 0 LAST_TICK s × IsFrom 1 NEAREST_LIMIT k × IsShortName o × IsShortName c
-IsPrintable (Tree.Must e k q) = IsUnsigned RADIUS_LIMIT e × IsFrom 0 LAST_TICK k × IsQuery q
-IsPrintable (Tree.May e k q) = IsUnsigned RADIUS_LIMIT e × IsFrom 0 LAST_TICK k × IsQuery q
-IsPrintable (Tree.Index c a w) = IsShortName c × IsShortName a × IsWidth w
-IsPrintable (Tree.Range k c a l g) = IsFrom 0 LAST_TICK k × IsShortName c × IsShortName a × IsValue l × IsValue g
+IsPrintable c = AreParts (parts c)

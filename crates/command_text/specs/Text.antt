@@ -1,5 +1,5 @@
 -- The canonical line of a command: its words with one space between.
-use Rattle.std.specs.Prelude.{ℕ, ℤ, Bool, Option, None, Some, List, [], ◌∷◌, ◌++◌, codes, if◌then◌else◌}
+use Rattle.std.specs.Prelude.{ℕ, ℤ, Bool, Option, None, Some, List, [], ◌∷◌, ◌++◌, drop, codes, if◌then◌else◌}
 use Rattle.std.specs.List.{flat_map}
 use Rattle.std.specs.Fmt.{decimal}
 use Rattle.fixed_point.specs.Canonical.{fix_text}
@@ -12,7 +12,7 @@ use Rattle.motion.specs.declared.cell.Given.TheVariants as givens
 use Rattle.motion.specs.declared.cell.NamedSet.{NamedSet}
 use Rattle.motion.specs.declared.cell.Place.{Place}
 use Rattle.ftl_parser.specs.Text.{query_text}
-use Rattle.command_text.specs.Tree
+use Rattle.command_text.specs.Parts.{Part, Verb, Name, Quoted, Whole, Error, Num, PointWord, Attrs, Points, Change, Parts, Blank, Last, Asking, ◌▸◌, parts}
 use Rattle.command_text.specs.Tree.{CommandTree}
 
 -- a text between its quotes; 34 is `"`
@@ -99,27 +99,25 @@ change_text place sets = at_text place.at ++ (moving_text place.moving ++ settin
 abbrev pub point_word : Bool → List ℕ
 point_word point = if point then codes " point" else []
 
+-- a part after a space, where it has a byte
+abbrev pub part_text : Part → List ℕ
+part_text (Verb w) = codes " " ++ w
+part_text (Name n) = codes " " ++ n
+part_text (Quoted t) = codes " " ++ quoted t
+part_text (Whole place n) = codes " " ++ decimal n
+part_text (Error e) = codes " " ++ fix_text e
+part_text (Num place v) = codes " " ++ fix_text v
+part_text (PointWord b) = point_word b
+part_text (Attrs attrs) = attrs_text attrs
+part_text (Points ps) = points_text ps
+part_text (Change p ss) = change_text p ss
+
+abbrev pub parts_text : Parts → List ℕ
+parts_text Blank = []
+parts_text (Last p) = part_text p
+parts_text (Asking q) = codes " " ++ query_text q
+parts_text (p ▸ ps) = part_text p ++ parts_text ps
+
+-- its parts without the first space
 unfoldable pub text_of : CommandTree → List ℕ
-text_of Tree.Nothing = []
-text_of Tree.Listing = codes "list"
-text_of Tree.Quit = codes "quit"
-text_of (Tree.Class n k b attrs) = codes "class " ++ (n ++ (codes " " ++ (decimal k ++ (point_word b ++ attrs_text attrs))))
-text_of (Tree.Region n ps) = codes "region " ++ (n ++ points_text ps)
-text_of (Tree.Insert c n p ss) = codes "insert " ++ (c ++ (codes " " ++ (n ++ change_text p ss)))
-text_of (Tree.Update n p ss) = codes "update " ++ (n ++ change_text p ss)
-text_of (Tree.Remove n) = codes "remove " ++ n
-text_of (Tree.Tick k) = codes "tick " ++ decimal k
-text_of (Tree.Ask k q) = codes "ask " ++ (decimal k ++ (codes " " ++ query_text q))
-text_of (Tree.Watch n k q) = codes "watch " ++ (n ++ (codes " " ++ (decimal k ++ (codes " " ++ query_text q))))
-text_of (Tree.Keep n k q) = codes "keep " ++ (n ++ (codes " " ++ (decimal k ++ (codes " " ++ query_text q))))
-text_of (Tree.Show n) = codes "show " ++ n
-text_of (Tree.Drop n) = codes "drop " ++ n
-text_of (Tree.Save t) = codes "save " ++ quoted t
-text_of (Tree.Import n t) = codes "import " ++ (n ++ (codes " " ++ quoted t))
-text_of (Tree.Export n t) = codes "export " ++ (n ++ (codes " " ++ quoted t))
-text_of (Tree.Nearest s k o c) = codes "nearest " ++ (decimal s ++ (codes " " ++ (decimal k ++ (codes " " ++ (o ++ (codes " " ++ c))))))
-text_of (Tree.Must e k q) = codes "must " ++ (fix_text e ++ (codes " " ++ (decimal k ++ (codes " " ++ query_text q))))
-text_of (Tree.May e k q) = codes "may " ++ (fix_text e ++ (codes " " ++ (decimal k ++ (codes " " ++ query_text q))))
-text_of (Tree.Index c a w) = codes "index " ++ (c ++ (codes " " ++ (a ++ (codes " " ++ fix_text w))))
-text_of (Tree.Range k c a l g) =
-    codes "range " ++ (decimal k ++ (codes " " ++ (c ++ (codes " " ++ (a ++ (codes " " ++ (fix_text l ++ (codes " " ++ fix_text g))))))))
+text_of c = drop 1 (parts_text (parts c))

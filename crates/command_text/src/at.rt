@@ -2,8 +2,8 @@
 ghost use Rattle.std.specs.Prelude.{◌≡◌, ◌&&◌, IfSome, option_map};
 ghost use Rattle.ftl_lexer.specs.Cut.{HasForm};
 ghost use Rattle.command_text.specs.Piece.{piece_of, is_key, is_sign, is_name, is_text};
-ghost use Rattle.command_text.specs.Reading.{next, begins, key, sign, noting_fit, noting_small};
-ghost use Rattle.command_text.specs.Standing.{standing};
+ghost use Rattle.command_text.specs.inner.Reading.{next, begins, key, sign, noting_fit, noting_small};
+ghost use Rattle.command_text.specs.inner.Standing.{standing};
 
 use crate::kinds::{is_key, is_name, is_sign, is_text};
 use ftl_lexer::{Kind, Tokens};
@@ -42,7 +42,7 @@ pub(crate) fn noting_small(at: At, small: bool) -> At
 }
 
 /// The token that comes next, and the place after it.
-#[tactic(auto, using(crate::proofs::StandingLemmas::next_token))]
+#[tactic(auto, using(crate::proofs::reader::StandingLemmas::next_token))]
 pub(crate) fn next<'a>(tokens: &'a Tokens, at: At) -> Option<(Kind, &'a [u8], At)>
     ensures value { option_map (λ t. (piece_of t.0 t.1.now, standing tokens.now t.2)) result ≡ next (standing tokens.now at) }
     ensures form { IfSome result (λ t. HasForm t.0 t.1.now) }
@@ -60,7 +60,7 @@ pub(crate) fn next<'a>(tokens: &'a Tokens, at: At) -> Option<(Kind, &'a [u8], At
 }
 
 /// Whether the reserved word of this code comes next.
-#[tactic(auto, unfolding(crate::specs::Reading::begins, crate::specs::Reading::next))]
+#[tactic(auto, unfolding(crate::specs::inner::Reading::begins, crate::specs::inner::Reading::next))]
 pub(crate) fn begins_key(tokens: &Tokens, at: At, code: u8) -> bool
     ensures { result ≡ begins (is_key code) (standing tokens.now at) }
 {
@@ -71,7 +71,7 @@ pub(crate) fn begins_key(tokens: &Tokens, at: At, code: u8) -> bool
 }
 
 /// Whether the symbol of this code comes next.
-#[tactic(auto, unfolding(crate::specs::Reading::begins, crate::specs::Reading::next))]
+#[tactic(auto, unfolding(crate::specs::inner::Reading::begins, crate::specs::inner::Reading::next))]
 pub(crate) fn begins_sign(tokens: &Tokens, at: At, code: u8) -> bool
     ensures { result ≡ begins (is_sign code) (standing tokens.now at) }
 {
@@ -82,7 +82,7 @@ pub(crate) fn begins_sign(tokens: &Tokens, at: At, code: u8) -> bool
 }
 
 /// Whether a name comes next.
-#[tactic(auto, unfolding(crate::specs::Reading::begins, crate::specs::Reading::next))]
+#[tactic(auto, unfolding(crate::specs::inner::Reading::begins, crate::specs::inner::Reading::next))]
 pub(crate) fn begins_name(tokens: &Tokens, at: At) -> bool
     ensures { result ≡ begins is_name (standing tokens.now at) }
 {
@@ -93,7 +93,7 @@ pub(crate) fn begins_name(tokens: &Tokens, at: At) -> bool
 }
 
 /// Whether a text comes next.
-#[tactic(auto, unfolding(crate::specs::Reading::begins, crate::specs::Reading::next))]
+#[tactic(auto, unfolding(crate::specs::inner::Reading::begins, crate::specs::inner::Reading::next))]
 pub(crate) fn begins_text(tokens: &Tokens, at: At) -> bool
     ensures { result ≡ begins is_text (standing tokens.now at) }
 {
@@ -104,7 +104,7 @@ pub(crate) fn begins_text(tokens: &Tokens, at: At) -> bool
 }
 
 /// The place after the reserved word of this code.
-#[tactic(auto, unfolding(crate::specs::Reading::key))]
+#[tactic(auto, unfolding(crate::specs::inner::Reading::key))]
 pub(crate) fn key(tokens: &Tokens, at: At, code: u8) -> Option<At>
     ensures { option_map (standing tokens.now) result ≡ key code (standing tokens.now at) }
 {
@@ -117,7 +117,7 @@ pub(crate) fn key(tokens: &Tokens, at: At, code: u8) -> Option<At>
 }
 
 /// The place after the symbol of this code.
-#[tactic(auto, unfolding(crate::specs::Reading::sign))]
+#[tactic(auto, unfolding(crate::specs::inner::Reading::sign))]
 pub(crate) fn sign(tokens: &Tokens, at: At, code: u8) -> Option<At>
     ensures { option_map (standing tokens.now) result ≡ sign code (standing tokens.now at) }
 {

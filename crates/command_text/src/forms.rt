@@ -1,9 +1,9 @@
 //! The commands, each by the tokens after its first word.
 ghost use Rattle.std.specs.Prelude.{◌≡◌, Some, option_map, MatchResult};
 ghost use Rattle.command_text.specs.Tree.{command_view};
-ghost use Rattle.command_text.specs.Reading.{remove, tick, show, drop, save, import, export, nearest, index, range, class_head, insert_head, watch_head, must_head, class, region, insert, update, ask, watch, keep, must, may};
-ghost use Rattle.command_text.specs.Standing.{standing};
-ghost use Rattle.command_text.specs.LineParts.{Refuses};
+ghost use Rattle.command_text.specs.inner.Reading.{remove, tick, show, drop, save, import, export, nearest, index, range, class_head, insert_head, watch_head, must_head, class, region, insert, update, ask, watch, keep, must, may};
+ghost use Rattle.command_text.specs.inner.Standing.{standing};
+ghost use Rattle.command_text.specs.inner.LineParts.{Refuses};
 
 use crate::Command;
 use crate::at::{At, begins_key, key};
@@ -17,7 +17,7 @@ use fixed_point::{Fix, Word};
 use ftl_lexer::Tokens;
 use std::alloc::Global;
 
-#[tactic(auto, unfolding(crate::specs::Reading::remove))]
+#[tactic(auto, unfolding(crate::specs::inner::Reading::remove))]
 pub(crate) fn remove(tokens: &Tokens, at: At) -> Option<(Command, At)>
     ensures { option_map (λ r. (command_view r.0, standing tokens.now r.1)) result ≡ remove (standing tokens.now at) }
 {
@@ -25,7 +25,7 @@ pub(crate) fn remove(tokens: &Tokens, at: At) -> Option<(Command, At)>
     Some((Command::Remove { name }, at))
 }
 
-#[tactic(auto, unfolding(crate::specs::Reading::tick))]
+#[tactic(auto, unfolding(crate::specs::inner::Reading::tick))]
 pub(crate) fn tick(tokens: &Tokens, at: At) -> Option<(Command, At)>
     ensures { option_map (λ r. (command_view r.0, standing tokens.now r.1)) result ≡ tick (standing tokens.now at) }
 {
@@ -33,7 +33,7 @@ pub(crate) fn tick(tokens: &Tokens, at: At) -> Option<(Command, At)>
     Some((Command::Tick { ticks }, at))
 }
 
-#[tactic(auto, unfolding(crate::specs::Reading::show))]
+#[tactic(auto, unfolding(crate::specs::inner::Reading::show))]
 pub(crate) fn show(tokens: &Tokens, at: At) -> Option<(Command, At)>
     ensures { option_map (λ r. (command_view r.0, standing tokens.now r.1)) result ≡ show (standing tokens.now at) }
 {
@@ -41,7 +41,7 @@ pub(crate) fn show(tokens: &Tokens, at: At) -> Option<(Command, At)>
     Some((Command::Show { name }, at))
 }
 
-#[tactic(auto, unfolding(crate::specs::Reading::drop))]
+#[tactic(auto, unfolding(crate::specs::inner::Reading::drop))]
 pub(crate) fn drop_query(tokens: &Tokens, at: At) -> Option<(Command, At)>
     ensures { option_map (λ r. (command_view r.0, standing tokens.now r.1)) result ≡ drop (standing tokens.now at) }
 {
@@ -49,7 +49,7 @@ pub(crate) fn drop_query(tokens: &Tokens, at: At) -> Option<(Command, At)>
     Some((Command::Drop { name }, at))
 }
 
-#[tactic(auto, unfolding(crate::specs::Reading::save))]
+#[tactic(auto, unfolding(crate::specs::inner::Reading::save))]
 pub(crate) fn save(tokens: &Tokens, at: At) -> Option<(Command, At)>
     ensures { option_map (λ r. (command_view r.0, standing tokens.now r.1)) result ≡ save (standing tokens.now at) }
 {
@@ -57,7 +57,7 @@ pub(crate) fn save(tokens: &Tokens, at: At) -> Option<(Command, At)>
     Some((Command::Save { file }, at))
 }
 
-#[tactic(auto, unfolding(crate::specs::Reading::import))]
+#[tactic(auto, unfolding(crate::specs::inner::Reading::import))]
 pub(crate) fn import(tokens: &Tokens, at: At) -> Option<(Command, At)>
     ensures { option_map (λ r. (command_view r.0, standing tokens.now r.1)) result ≡ import (standing tokens.now at) }
 {
@@ -66,7 +66,7 @@ pub(crate) fn import(tokens: &Tokens, at: At) -> Option<(Command, At)>
     Some((Command::Import { class, file }, at))
 }
 
-#[tactic(auto, unfolding(crate::specs::Reading::export))]
+#[tactic(auto, unfolding(crate::specs::inner::Reading::export))]
 pub(crate) fn export(tokens: &Tokens, at: At) -> Option<(Command, At)>
     ensures { option_map (λ r. (command_view r.0, standing tokens.now r.1)) result ≡ export (standing tokens.now at) }
 {
@@ -75,7 +75,7 @@ pub(crate) fn export(tokens: &Tokens, at: At) -> Option<(Command, At)>
     Some((Command::Export { class, file }, at))
 }
 
-#[tactic(auto, unfolding(crate::specs::Reading::nearest))]
+#[tactic(auto, unfolding(crate::specs::inner::Reading::nearest))]
 pub(crate) fn nearest(tokens: &Tokens, at: At) -> Option<(Command, At)>
     ensures { option_map (λ r. (command_view r.0, standing tokens.now r.1)) result ≡ nearest (standing tokens.now at) }
 {
@@ -92,7 +92,7 @@ pub(crate) fn nearest(tokens: &Tokens, at: At) -> Option<(Command, At)>
     Some((command, at))
 }
 
-#[tactic(auto, unfolding(crate::specs::Reading::index))]
+#[tactic(auto, unfolding(crate::specs::inner::Reading::index))]
 pub(crate) fn index(tokens: &Tokens, at: At) -> Option<(Command, At)>
     ensures { option_map (λ r. (command_view r.0, standing tokens.now r.1)) result ≡ index (standing tokens.now at) }
 {
@@ -102,7 +102,7 @@ pub(crate) fn index(tokens: &Tokens, at: At) -> Option<(Command, At)>
     Some((Command::Index { class, attr, width }, at))
 }
 
-#[tactic(auto, unfolding(crate::specs::Reading::range))]
+#[tactic(auto, unfolding(crate::specs::inner::Reading::range))]
 pub(crate) fn range(tokens: &Tokens, at: At) -> Option<(Command, At)>
     ensures { option_map (λ r. (command_view r.0, standing tokens.now r.1)) result ≡ range (standing tokens.now at) }
 {
@@ -122,7 +122,7 @@ pub(crate) fn range(tokens: &Tokens, at: At) -> Option<(Command, At)>
 }
 
 /// The head of a class: its name, its capacity, and whether its objects have a place.
-#[tactic(auto, unfolding(crate::specs::Reading::class_head, crate::specs::Reading::point_word))]
+#[tactic(auto, unfolding(crate::specs::inner::Reading::class_head, crate::specs::inner::Reading::point_word))]
 fn class_head(tokens: &Tokens, at: At) -> Option<(Word, u32, bool, At)>
     ensures { option_map (λ r. ((r.0, r.1, r.2), standing tokens.now r.3)) result ≡ class_head (standing tokens.now at) }
 {
@@ -134,7 +134,7 @@ fn class_head(tokens: &Tokens, at: At) -> Option<(Word, u32, bool, At)>
     }
 }
 
-#[tactic(auto, using(crate::proofs::Refused::refused_steps), unfolding(crate::specs::Reading::class))]
+#[tactic(auto, using(crate::proofs::reader::Refused::refused_steps), unfolding(crate::specs::inner::Reading::class))]
 pub(crate) fn class(alloc: Global, tokens: &Tokens, at: At) -> Result<(Command, At), CommandFault>
     ensures { MatchResult result (λ r. class (standing tokens.now at) ≡ Some (command_view r.0, standing tokens.now r.1))
         (Refuses (class (standing tokens.now at))) }
@@ -152,7 +152,7 @@ pub(crate) fn class(alloc: Global, tokens: &Tokens, at: At) -> Result<(Command, 
     Ok((command, at))
 }
 
-#[tactic(auto, using(crate::proofs::Refused::refused_steps), unfolding(crate::specs::Reading::region))]
+#[tactic(auto, using(crate::proofs::reader::Refused::refused_steps), unfolding(crate::specs::inner::Reading::region))]
 pub(crate) fn region(alloc: Global, tokens: &Tokens, at: At) -> Result<(Command, At), CommandFault>
     ensures { MatchResult result (λ r. region (standing tokens.now at) ≡ Some (command_view r.0, standing tokens.now r.1))
         (Refuses (region (standing tokens.now at))) }
@@ -165,7 +165,7 @@ pub(crate) fn region(alloc: Global, tokens: &Tokens, at: At) -> Result<(Command,
 }
 
 /// The class and the name of an object.
-#[tactic(auto, unfolding(crate::specs::Reading::insert_head))]
+#[tactic(auto, unfolding(crate::specs::inner::Reading::insert_head))]
 fn insert_head(tokens: &Tokens, at: At) -> Option<(Word, Word, At)>
     ensures { option_map (λ r. ((r.0, r.1), standing tokens.now r.2)) result ≡ insert_head (standing tokens.now at) }
 {
@@ -174,7 +174,7 @@ fn insert_head(tokens: &Tokens, at: At) -> Option<(Word, Word, At)>
     Some((class, name, at))
 }
 
-#[tactic(auto, using(crate::proofs::Refused::refused_steps), unfolding(crate::specs::Reading::insert))]
+#[tactic(auto, using(crate::proofs::reader::Refused::refused_steps), unfolding(crate::specs::inner::Reading::insert))]
 pub(crate) fn insert(alloc: Global, tokens: &Tokens, at: At) -> Result<(Command, At), CommandFault>
     ensures { MatchResult result (λ r. insert (standing tokens.now at) ≡ Some (command_view r.0, standing tokens.now r.1))
         (Refuses (insert (standing tokens.now at))) }
@@ -193,7 +193,7 @@ pub(crate) fn insert(alloc: Global, tokens: &Tokens, at: At) -> Result<(Command,
     Ok((command, at))
 }
 
-#[tactic(auto, using(crate::proofs::Refused::refused_steps), unfolding(crate::specs::Reading::update))]
+#[tactic(auto, using(crate::proofs::reader::Refused::refused_steps), unfolding(crate::specs::inner::Reading::update))]
 pub(crate) fn update(alloc: Global, tokens: &Tokens, at: At) -> Result<(Command, At), CommandFault>
     ensures { MatchResult result (λ r. update (standing tokens.now at) ≡ Some (command_view r.0, standing tokens.now r.1))
         (Refuses (update (standing tokens.now at))) }
@@ -206,7 +206,7 @@ pub(crate) fn update(alloc: Global, tokens: &Tokens, at: At) -> Result<(Command,
     Ok((Command::Update { name, place, sets }, at))
 }
 
-#[tactic(auto, using(crate::proofs::Refused::refused_steps), unfolding(crate::specs::Reading::ask))]
+#[tactic(auto, using(crate::proofs::reader::Refused::refused_steps), unfolding(crate::specs::inner::Reading::ask))]
 pub(crate) fn ask(alloc: Global, tokens: &Tokens, at: At) -> Result<(Command, At), CommandFault>
     ensures { MatchResult result (λ r. ask (standing tokens.now at) ≡ Some (command_view r.0, standing tokens.now r.1))
         (Refuses (ask (standing tokens.now at))) }
@@ -219,7 +219,7 @@ pub(crate) fn ask(alloc: Global, tokens: &Tokens, at: At) -> Result<(Command, At
 }
 
 /// The name of a registered query, and its span.
-#[tactic(auto, unfolding(crate::specs::Reading::watch_head))]
+#[tactic(auto, unfolding(crate::specs::inner::Reading::watch_head))]
 fn watch_head(tokens: &Tokens, at: At) -> Option<(Word, u32, At)>
     ensures { option_map (λ r. ((r.0, r.1), standing tokens.now r.2)) result ≡ watch_head (standing tokens.now at) }
 {
@@ -228,7 +228,7 @@ fn watch_head(tokens: &Tokens, at: At) -> Option<(Word, u32, At)>
     Some((name, span, at))
 }
 
-#[tactic(auto, using(crate::proofs::Refused::refused_steps), unfolding(crate::specs::Reading::watch))]
+#[tactic(auto, using(crate::proofs::reader::Refused::refused_steps), unfolding(crate::specs::inner::Reading::watch))]
 pub(crate) fn watch(alloc: Global, tokens: &Tokens, at: At) -> Result<(Command, At), CommandFault>
     ensures { MatchResult result (λ r. watch (standing tokens.now at) ≡ Some (command_view r.0, standing tokens.now r.1))
         (Refuses (watch (standing tokens.now at))) }
@@ -240,7 +240,7 @@ pub(crate) fn watch(alloc: Global, tokens: &Tokens, at: At) -> Result<(Command, 
     Ok((Command::Watch { name, span, query }, at))
 }
 
-#[tactic(auto, using(crate::proofs::Refused::refused_steps), unfolding(crate::specs::Reading::keep))]
+#[tactic(auto, using(crate::proofs::reader::Refused::refused_steps), unfolding(crate::specs::inner::Reading::keep))]
 pub(crate) fn keep(alloc: Global, tokens: &Tokens, at: At) -> Result<(Command, At), CommandFault>
     ensures { MatchResult result (λ r. keep (standing tokens.now at) ≡ Some (command_view r.0, standing tokens.now r.1))
         (Refuses (keep (standing tokens.now at))) }
@@ -253,7 +253,7 @@ pub(crate) fn keep(alloc: Global, tokens: &Tokens, at: At) -> Result<(Command, A
 }
 
 /// An error of positions, and a span.
-#[tactic(auto, unfolding(crate::specs::Reading::must_head))]
+#[tactic(auto, unfolding(crate::specs::inner::Reading::must_head))]
 fn must_head(tokens: &Tokens, at: At) -> Option<(Fix, u32, At)>
     ensures { option_map (λ r. ((r.0, r.1), standing tokens.now r.2)) result ≡ must_head (standing tokens.now at) }
 {
@@ -262,7 +262,7 @@ fn must_head(tokens: &Tokens, at: At) -> Option<(Fix, u32, At)>
     Some((error, span, at))
 }
 
-#[tactic(auto, using(crate::proofs::Refused::refused_steps), unfolding(crate::specs::Reading::must))]
+#[tactic(auto, using(crate::proofs::reader::Refused::refused_steps), unfolding(crate::specs::inner::Reading::must))]
 pub(crate) fn must(alloc: Global, tokens: &Tokens, at: At) -> Result<(Command, At), CommandFault>
     ensures { MatchResult result (λ r. must (standing tokens.now at) ≡ Some (command_view r.0, standing tokens.now r.1))
         (Refuses (must (standing tokens.now at))) }
@@ -274,7 +274,7 @@ pub(crate) fn must(alloc: Global, tokens: &Tokens, at: At) -> Result<(Command, A
     Ok((Command::Must { error, span, query }, at))
 }
 
-#[tactic(auto, using(crate::proofs::Refused::refused_steps), unfolding(crate::specs::Reading::may))]
+#[tactic(auto, using(crate::proofs::reader::Refused::refused_steps), unfolding(crate::specs::inner::Reading::may))]
 pub(crate) fn may(alloc: Global, tokens: &Tokens, at: At) -> Result<(Command, At), CommandFault>
     ensures { MatchResult result (λ r. may (standing tokens.now at) ≡ Some (command_view r.0, standing tokens.now r.1))
         (Refuses (may (standing tokens.now at))) }

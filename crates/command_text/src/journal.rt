@@ -44,7 +44,7 @@ impl Model for Journal {
 
     ghost coded = { Prim.hlevel (codes, shape_code {A = Atom} {B = List ℕ × Term} (Prim.hlevel codes)) };
 
-    ghost use Rattle.command_text.specs.JournalParts.{accepted, IsJournal};
+    ghost use Rattle.command_text.specs.inner.JournalParts.{accepted, IsJournal};
 
     ghost view = { λ a. map (accepted a.text.items) a.kept.items };
 

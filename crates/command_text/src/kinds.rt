@@ -1,7 +1,7 @@
 //! What kind a token is of.
 ghost use Rattle.std.specs.Prelude.{◌≡◌, ℕ, List};
 ghost use Rattle.command_text.specs.Piece.{piece_of, is_key, is_sign, is_name, is_text};
-ghost use Rattle.command_text.specs.Reading.{kind_in};
+ghost use Rattle.command_text.specs.inner.Reading.{kind_in};
 
 use case_table::key;
 use ftl_lexer::Kind;

@@ -9,7 +9,7 @@ ghost use Rattle.command_text.specs.GrammarLaws.{AreReadByTheGrammar, IsReadByTh
 
 /// Tokens that spell a command are read as this command, and tokens that are read as a command spell it.
 /// They spell at most one.
-#[tactic(auto, using(crate::proofs::DerivedLines::tokens_are_read))]
+#[tactic(auto, using(crate::proofs::grammar::DerivedLines::tokens_are_read))]
 pub fn tokens_are_read_by_the_grammar()
     ensures { (tokens : List Piece) → AreReadByTheGrammar tokens }
 {}
@@ -17,7 +17,7 @@ pub fn tokens_are_read_by_the_grammar()
 /// A line that passes the first three refusals is read as a command just where its tokens spell this
 /// command, with each number in the range of its place and each size within its limit. A comment is read
 /// as nothing, and no line that they refuse is read.
-#[tactic(auto, using(crate::proofs::DerivedLines::lines_are_read))]
+#[tactic(auto, using(crate::proofs::grammar::DerivedLines::lines_are_read))]
 pub fn lines_are_read_by_the_grammar()
     ensures { (limit : ℕ) (line : List ℕ) → IsReadByTheGrammar limit line }
 {}
@@ -25,7 +25,7 @@ pub fn lines_are_read_by_the_grammar()
 /// A line that passes the first three refusals and isn't a comment is refused by BadSyntax just where its
 /// tokens spell no command, by NumberRange where they spell one with a number out of range, and by TooLarge
 /// where all numbers of the one that they spell are in range and a size is past its limit.
-#[tactic(auto, using(crate::proofs::DerivedLines::lines_are_refused))]
+#[tactic(auto, using(crate::proofs::grammar::DerivedLines::lines_are_refused))]
 pub fn lines_are_refused_by_the_grammar()
     ensures { (limit : ℕ) (line : List ℕ) → IsRefusedByTheGrammar limit line }
 {}

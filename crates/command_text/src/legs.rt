@@ -1,11 +1,11 @@
 //! Functions of several legs.
 ghost use Rattle.std.specs.Prelude.{◌≡◌, Some, option_map, IfOk, MatchResult};
 ghost use Rattle.command_text.specs.Sizes.{function_of};
-ghost use Rattle.command_text.specs.Reading.{rate_leg, rates, move_leg, moves, all, begins};
+ghost use Rattle.command_text.specs.inner.Reading.{rate_leg, rates, move_leg, moves, all, begins};
 ghost use Rattle.command_text.specs.Grammar.{legs_of_x, legs_of_y};
 ghost use Rattle.command_text.specs.Piece.{is_sign};
 ghost use Rattle.case_table.specs.declared.symbol.TheConstants.{OPEN_SQUARE};
-ghost use Rattle.command_text.specs.Standing.{standing, Stops};
+ghost use Rattle.command_text.specs.inner.Standing.{standing, Stops};
 
 use crate::at::{At, begins_sign, noting_small, sign};
 use crate::fault::{CommandFault, bad_syntax};
@@ -28,7 +28,7 @@ fn function_of(firsts: &[(Slope, u32)], last: Slope) -> Legs
 }
 
 /// A leg that ends.
-#[tactic(auto, unfolding(crate::specs::Reading::rate_leg))]
+#[tactic(auto, unfolding(crate::specs::inner::Reading::rate_leg))]
 fn rate_leg(tokens: &Tokens, at: At) -> Option<((Slope, u32), At)>
     ensures { option_map (λ r. (r.0, standing tokens.now r.1)) result ≡ rate_leg (standing tokens.now at) }
 {
@@ -41,7 +41,7 @@ fn rate_leg(tokens: &Tokens, at: At) -> Option<((Slope, u32), At)>
 }
 
 /// A leg of both coordinates that ends.
-#[tactic(auto, unfolding(crate::specs::Reading::move_leg))]
+#[tactic(auto, unfolding(crate::specs::inner::Reading::move_leg))]
 fn move_leg(tokens: &Tokens, at: At) -> Option<(((Slope, Slope), u32), At)>
     ensures { option_map (λ r. (r.0, standing tokens.now r.1)) result ≡ move_leg (standing tokens.now at) }
 {
@@ -54,7 +54,7 @@ fn move_leg(tokens: &Tokens, at: At) -> Option<(((Slope, Slope), u32), At)>
 }
 
 /// As many legs that end as there are.
-#[tactic(auto, using(crate::proofs::ManyLemmas::loop_steps, crate::proofs::Derived::rate_leg_shortens))]
+#[tactic(auto, using(crate::proofs::grammar::ManyLemmas::loop_steps, crate::proofs::grammar::Derived::rate_leg_shortens))]
 fn rate_legs(
     alloc: Global,
     tokens: &Tokens,
@@ -76,7 +76,7 @@ fn rate_legs(
 }
 
 /// The legs of one coordinate.
-#[tactic(auto, using(crate::proofs::Stopping::stop_steps), unfolding(crate::specs::Reading::rates))]
+#[tactic(auto, using(crate::proofs::reader::Stopping::stop_steps), unfolding(crate::specs::inner::Reading::rates))]
 pub(crate) fn rates(alloc: Global, tokens: &Tokens, at: At) -> Result<(Legs, At), CommandFault>
     ensures { MatchResult result (λ r. rates (standing tokens.now at) ≡ Some (r.0, standing tokens.now r.1))
         (Stops (rates (standing tokens.now at))) }
@@ -90,7 +90,7 @@ pub(crate) fn rates(alloc: Global, tokens: &Tokens, at: At) -> Result<(Legs, At)
 }
 
 /// As many legs that end as there are.
-#[tactic(auto, using(crate::proofs::ManyLemmas::loop_steps, crate::proofs::Derived::move_leg_shortens))]
+#[tactic(auto, using(crate::proofs::grammar::ManyLemmas::loop_steps, crate::proofs::grammar::Derived::move_leg_shortens))]
 fn move_legs(
     alloc: Global,
     tokens: &Tokens,
@@ -139,7 +139,7 @@ fn functions_of(
 }
 
 /// The legs of both coordinates.
-#[tactic(auto, using(crate::proofs::Stopping::stop_steps), unfolding(crate::specs::Reading::moves))]
+#[tactic(auto, using(crate::proofs::reader::Stopping::stop_steps), unfolding(crate::specs::inner::Reading::moves))]
 pub(crate) fn moves(
     alloc: Global,
     tokens: &Tokens,

@@ -5,7 +5,6 @@
 mod at;
 mod command;
 mod fault;
-mod form;
 mod forms;
 mod journal;
 mod kinds;

@@ -2,17 +2,17 @@
 ghost use Rattle.std.specs.Prelude.{◌≡◌, Some, None, option_map, MatchResult};
 ghost use Rattle.command_text.specs.declared.refusal.Refusal.TheVariants as refusals;
 ghost use Rattle.command_text.specs.Tree.{command_view};
-ghost use Rattle.command_text.specs.Piece.{pieces};
-ghost use Rattle.command_text.specs.Reading.{by_form, first_form, command_begun, command, command_of};
-ghost use Rattle.command_text.specs.Standing.{standing};
-ghost use Rattle.command_text.specs.LineParts.{IsWhole, Judges, Refuses};
+ghost use Rattle.command_text.specs.Piece.{piece_of, pieces};
+ghost use Rattle.command_text.specs.inner.Reading.{by_key, by_name, by_token, command_begun, command, command_of};
+ghost use Rattle.command_text.specs.inner.Standing.{standing};
+ghost use Rattle.command_text.specs.inner.LineParts.{IsWhole, Judges, Refuses};
 
 use crate::at::{At, next};
 use crate::fault::{CommandFault, bad_syntax};
-use crate::form::{Form, form_of};
 use crate::refusal::Refusal;
 use crate::{Command, forms};
-use ftl_lexer::Tokens;
+use case_table::key;
+use ftl_lexer::{Kind, Tokens};
 use std::alloc::Global;
 
 /// A part that takes no memory.
@@ -25,66 +25,91 @@ fn part(found: Option<(Command, At)>) -> Result<(Command, At), CommandFault>
     }
 }
 
-/// A command of this form, by the tokens after its first word.
-#[tactic(auto, using(crate::proofs::Refused::part_gives))]
-fn by_form(
-    alloc: Global,
-    tokens: &Tokens,
-    form: Form,
-    at: At,
-) -> Result<(Command, At), CommandFault>
-    ensures { MatchResult result (λ r. by_form form (standing tokens.now at) ≡ Some (command_view r.0, standing tokens.now r.1))
-        (Refuses (by_form form (standing tokens.now at))) }
+/// The command of a reserved word, by the tokens after it.
+#[tactic(auto, using(crate::proofs::reader::Refused::part_gives))]
+fn by_key(alloc: Global, tokens: &Tokens, code: u8, at: At) -> Result<(Command, At), CommandFault>
+    ensures { MatchResult result (λ r. by_key code (standing tokens.now at) ≡ Some (command_view r.0, standing tokens.now r.1))
+        (Refuses (by_key code (standing tokens.now at))) }
 {
-    match form {
-        Form::Class => forms::class(alloc, tokens, at),
-        Form::Region => forms::region(alloc, tokens, at),
-        Form::Insert => forms::insert(alloc, tokens, at),
-        Form::Update => forms::update(alloc, tokens, at),
-        Form::Remove => part(forms::remove(tokens, at)),
-        Form::Tick => part(forms::tick(tokens, at)),
-        Form::Ask => forms::ask(alloc, tokens, at),
-        Form::Watch => forms::watch(alloc, tokens, at),
-        Form::Keep => forms::keep(alloc, tokens, at),
-        Form::Show => part(forms::show(tokens, at)),
-        Form::Drop => part(forms::drop_query(tokens, at)),
-        Form::List => Ok((Command::List, at)),
-        Form::Save => part(forms::save(tokens, at)),
-        Form::Import => part(forms::import(tokens, at)),
-        Form::Export => part(forms::export(tokens, at)),
-        Form::Quit => Ok((Command::Quit, at)),
-        Form::Nearest => part(forms::nearest(tokens, at)),
-        Form::Must => forms::must(alloc, tokens, at),
-        Form::May => forms::may(alloc, tokens, at),
-        Form::Index => part(forms::index(tokens, at)),
-        Form::Range => part(forms::range(tokens, at)),
+    match code {
+        key::CLASS => forms::class(alloc, tokens, at),
+        key::REGION => forms::region(alloc, tokens, at),
+        key::INSERT => forms::insert(alloc, tokens, at),
+        key::UPDATE => forms::update(alloc, tokens, at),
+        key::REMOVE => part(forms::remove(tokens, at)),
+        key::TICK => part(forms::tick(tokens, at)),
+        key::ASK => forms::ask(alloc, tokens, at),
+        key::WATCH => forms::watch(alloc, tokens, at),
+        key::KEEP => forms::keep(alloc, tokens, at),
+        key::SHOW => part(forms::show(tokens, at)),
+        key::DROP => part(forms::drop_query(tokens, at)),
+        key::LIST => Ok((Command::List, at)),
+        key::SAVE => part(forms::save(tokens, at)),
+        key::IMPORT => part(forms::import(tokens, at)),
+        key::EXPORT => part(forms::export(tokens, at)),
+        key::QUIT => Ok((Command::Quit, at)),
+        _ => Err(bad_syntax()),
     }
 }
 
-/// The form of the first token, and the place after it.
-#[tactic(auto, unfolding(crate::specs::Reading::first_form))]
-fn first_form(tokens: &Tokens, at: At) -> Option<(Form, At)>
-    ensures { option_map (λ r. (r.0, standing tokens.now r.1)) result ≡ first_form (standing tokens.now at) }
+/// The command of a name, which isn't reserved.
+#[tactic(auto, using(crate::proofs::reader::Refused::part_gives))]
+fn by_name(
+    alloc: Global,
+    tokens: &Tokens,
+    word: &[u8],
+    at: At,
+) -> Result<(Command, At), CommandFault>
+    ensures { MatchResult result (λ r. by_name word.now (standing tokens.now at) ≡ Some (command_view r.0, standing tokens.now r.1))
+        (Refuses (by_name word.now (standing tokens.now at))) }
 {
-    let (kind, text, at) = next(tokens, at)?;
-    let form = form_of(kind, text)?;
-    Some((form, at))
+    if word == b"nearest".as_slice() {
+        part(forms::nearest(tokens, at))
+    } else if word == b"must".as_slice() {
+        forms::must(alloc, tokens, at)
+    } else if word == b"may".as_slice() {
+        forms::may(alloc, tokens, at)
+    } else if word == b"index".as_slice() {
+        part(forms::index(tokens, at))
+    } else if word == b"range".as_slice() {
+        part(forms::range(tokens, at))
+    } else {
+        Err(bad_syntax())
+    }
+}
+
+/// The command of a first token.
+fn by_token(
+    alloc: Global,
+    tokens: &Tokens,
+    kind: Kind,
+    text: &[u8],
+    at: At,
+) -> Result<(Command, At), CommandFault>
+    ensures { MatchResult result (λ r. by_token (piece_of kind text.now) (standing tokens.now at) ≡ Some (command_view r.0, standing tokens.now r.1))
+        (Refuses (by_token (piece_of kind text.now) (standing tokens.now at))) }
+{
+    match kind {
+        Kind::Key(code) => by_key(alloc, tokens, code, at),
+        Kind::Name => by_name(alloc, tokens, text, at),
+        _ => Err(bad_syntax()),
+    }
 }
 
 /// The command that the first token begins.
-#[tactic(auto, using(crate::proofs::Refused::refused_steps), unfolding(crate::specs::Reading::command_begun))]
+#[tactic(auto, using(crate::proofs::reader::Refused::refused_steps), unfolding(crate::specs::inner::Reading::command_begun))]
 fn command_begun(alloc: Global, tokens: &Tokens, at: At) -> Result<(Command, At), CommandFault>
     ensures { MatchResult result (λ r. command_begun (standing tokens.now at) ≡ Some (command_view r.0, standing tokens.now r.1))
         (Refuses (command_begun (standing tokens.now at))) }
 {
-    let Some((form, at)) = first_form(tokens, at) else {
+    let Some((kind, text, at)) = next(tokens, at) else {
         return Err(bad_syntax());
     };
-    by_form(alloc, tokens, form, at)
+    by_token(alloc, tokens, kind, text, at)
 }
 
 /// Why a command of which all tokens before a place were read is refused, if it is.
-#[tactic(auto, using(crate::proofs::Refused::at_the_end))]
+#[tactic(auto, using(crate::proofs::reader::Refused::at_the_end))]
 fn refusal_at(tokens: &Tokens, at: At) -> Option<Refusal>
     ensures { Judges (standing tokens.now at) result }
 {
@@ -101,7 +126,7 @@ fn refusal_at(tokens: &Tokens, at: At) -> Option<Refusal>
 }
 
 /// The command that all tokens from a place on are.
-#[tactic(auto, using(crate::proofs::Refused::command_steps))]
+#[tactic(auto, using(crate::proofs::reader::Refused::command_steps))]
 fn whole_command(alloc: Global, tokens: &Tokens, at: At) -> Result<Command, CommandFault>
     ensures { MatchResult result (λ c. IsWhole (command (standing tokens.now at)) (command_view c)) (Refuses (command (standing tokens.now at))) }
 {
@@ -116,7 +141,7 @@ fn whole_command(alloc: Global, tokens: &Tokens, at: At) -> Result<Command, Comm
 }
 
 /// The command that all tokens of a line are. No token is a blank line.
-#[tactic(auto, using(crate::proofs::LineLemmas::line_steps))]
+#[tactic(auto, using(crate::proofs::reader::LineLemmas::line_steps))]
 pub(crate) fn command(alloc: Global, tokens: &Tokens) -> Result<Command, CommandFault>
     ensures { MatchResult result (λ c. IsWhole (command_of (pieces tokens.now)) (command_view c)) (Refuses (command_of (pieces tokens.now))) }
 {

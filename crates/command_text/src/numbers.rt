@@ -2,8 +2,8 @@
 ghost use Rattle.std.specs.Prelude.{◌≡◌, ◌&&◌, pos, option_map};
 ghost use Rattle.command_text.specs.Ranges.{Span, Steps, Capacity, Nearest, Value, Rate, Width, negated, signed_in};
 ghost use Rattle.command_text.specs.Sizes.{is_short, short_word};
-ghost use Rattle.command_text.specs.Reading.{name, text, number, whole, radius, minus, signed_number, num};
-ghost use Rattle.command_text.specs.Standing.{standing};
+ghost use Rattle.command_text.specs.inner.Reading.{name, text, number, whole, radius, minus, signed_number, num};
+ghost use Rattle.command_text.specs.inner.Standing.{standing};
 
 use crate::at::{At, next, noting_fit, noting_small, sign};
 use crate::ranges::NEAREST_LIMIT;
@@ -22,7 +22,7 @@ fn noted(bytes: &[u8], at: At) -> (Word, At)
     (word(bytes), noting_small(at, is_short(bytes)))
 }
 
-#[tactic(auto, unfolding(crate::specs::Reading::name))]
+#[tactic(auto, unfolding(crate::specs::inner::Reading::name))]
 pub(crate) fn name(tokens: &Tokens, at: At) -> Option<(Word, At)>
     ensures { option_map (λ r. (r.0, standing tokens.now r.1)) result ≡ name (standing tokens.now at) }
 {
@@ -34,7 +34,7 @@ pub(crate) fn name(tokens: &Tokens, at: At) -> Option<(Word, At)>
 }
 
 /// A text, without its quotes.
-#[tactic(auto, unfolding(crate::specs::Reading::text))]
+#[tactic(auto, unfolding(crate::specs::inner::Reading::text))]
 pub(crate) fn text(tokens: &Tokens, at: At) -> Option<(Word, At)>
     ensures { option_map (λ r. (r.0, standing tokens.now r.1)) result ≡ text (standing tokens.now at) }
 {
@@ -46,7 +46,7 @@ pub(crate) fn text(tokens: &Tokens, at: At) -> Option<(Word, At)>
 }
 
 /// The bytes of a number.
-#[tactic(auto, unfolding(crate::specs::Reading::number))]
+#[tactic(auto, unfolding(crate::specs::inner::Reading::number))]
 fn number<'a>(tokens: &'a Tokens, at: At) -> Option<(&'a [u8], At)>
     ensures { option_map (λ r. (r.0.now, standing tokens.now r.1)) result ≡ number (standing tokens.now at) }
 {
@@ -58,7 +58,7 @@ fn number<'a>(tokens: &'a Tokens, at: At) -> Option<(&'a [u8], At)>
 }
 
 /// A number of ticks, 0 among them.
-#[tactic(auto, unfolding(crate::specs::Reading::whole))]
+#[tactic(auto, unfolding(crate::specs::inner::Reading::whole))]
 pub(crate) fn span(tokens: &Tokens, at: At) -> Option<(u32, At)>
     ensures { option_map (λ r. (r.0, standing tokens.now r.1)) result ≡ whole Span (standing tokens.now at) }
 {
@@ -68,7 +68,7 @@ pub(crate) fn span(tokens: &Tokens, at: At) -> Option<(u32, At)>
 }
 
 /// A number of ticks, at least 1.
-#[tactic(auto, unfolding(crate::specs::Reading::whole))]
+#[tactic(auto, unfolding(crate::specs::inner::Reading::whole))]
 pub(crate) fn ticks(tokens: &Tokens, at: At) -> Option<(u32, At)>
     ensures { option_map (λ r. (r.0, standing tokens.now r.1)) result ≡ whole Steps (standing tokens.now at) }
 {
@@ -78,7 +78,7 @@ pub(crate) fn ticks(tokens: &Tokens, at: At) -> Option<(u32, At)>
 }
 
 /// The capacity of a class.
-#[tactic(auto, unfolding(crate::specs::Reading::whole))]
+#[tactic(auto, unfolding(crate::specs::inner::Reading::whole))]
 pub(crate) fn capacity(tokens: &Tokens, at: At) -> Option<(u32, At)>
     ensures { option_map (λ r. (r.0, standing tokens.now r.1)) result ≡ whole Capacity (standing tokens.now at) }
 {
@@ -88,7 +88,7 @@ pub(crate) fn capacity(tokens: &Tokens, at: At) -> Option<(u32, At)>
 }
 
 /// How many objects `nearest` looks for.
-#[tactic(auto, unfolding(crate::specs::Reading::whole))]
+#[tactic(auto, unfolding(crate::specs::inner::Reading::whole))]
 pub(crate) fn most_near(tokens: &Tokens, at: At) -> Option<(u32, At)>
     ensures { option_map (λ r. (r.0, standing tokens.now r.1)) result ≡ whole Nearest (standing tokens.now at) }
 {
@@ -105,7 +105,7 @@ fn level() -> Slope
 }
 
 /// The error of `must` and `may`.
-#[tactic(auto, unfolding(crate::specs::Reading::radius))]
+#[tactic(auto, unfolding(crate::specs::inner::Reading::radius))]
 pub(crate) fn radius(tokens: &Tokens, at: At) -> Option<(Fix, At)>
     ensures { option_map (λ r. (r.0, standing tokens.now r.1)) result ≡ radius (standing tokens.now at) }
 {
@@ -115,7 +115,7 @@ pub(crate) fn radius(tokens: &Tokens, at: At) -> Option<(Fix, At)>
 }
 
 /// Whether a `-` comes next, and the place after it or else the same place.
-#[tactic(auto, unfolding(crate::specs::Reading::minus))]
+#[tactic(auto, unfolding(crate::specs::inner::Reading::minus))]
 fn minus(tokens: &Tokens, at: At) -> (bool, At)
     ensures { minus (standing tokens.now at) ≡ (result.0, standing tokens.now result.1) }
 {
@@ -126,7 +126,7 @@ fn minus(tokens: &Tokens, at: At) -> (bool, At)
 }
 
 /// Whether a number has a `-`, and its bytes.
-#[tactic(auto, unfolding(crate::specs::Reading::signed_number))]
+#[tactic(auto, unfolding(crate::specs::inner::Reading::signed_number))]
 fn signed_number<'a>(tokens: &'a Tokens, at: At) -> Option<(bool, &'a [u8], At)>
     ensures { option_map (λ r. ((r.0, r.1.now), standing tokens.now r.2)) result ≡ signed_number (standing tokens.now at) }
 {
@@ -156,7 +156,7 @@ fn signed_slope(minus: bool, size: Option<Slope>) -> Option<Slope>
 }
 
 /// A coordinate, a value of an attribute or a bound of `range`.
-#[tactic(auto, unfolding(crate::specs::Reading::num))]
+#[tactic(auto, unfolding(crate::specs::inner::Reading::num))]
 pub(crate) fn value(tokens: &Tokens, at: At) -> Option<(Fix, At)>
     ensures { option_map (λ r. (r.0, standing tokens.now r.1)) result ≡ num Value (standing tokens.now at) }
 {
@@ -165,7 +165,7 @@ pub(crate) fn value(tokens: &Tokens, at: At) -> Option<(Fix, At)>
     Some((found.unwrap_or(zero()), noting_fit(behind, found.is_some())))
 }
 
-#[tactic(auto, unfolding(crate::specs::Reading::num))]
+#[tactic(auto, unfolding(crate::specs::inner::Reading::num))]
 pub(crate) fn slope(tokens: &Tokens, at: At) -> Option<(Slope, At)>
     ensures { option_map (λ r. (r.0, standing tokens.now r.1)) result ≡ num Rate (standing tokens.now at) }
 {
@@ -187,7 +187,7 @@ fn width_of(minus: bool, digits: &[u8]) -> Option<Fix>
 }
 
 /// The width of a strip of values.
-#[tactic(auto, unfolding(crate::specs::Reading::num))]
+#[tactic(auto, unfolding(crate::specs::inner::Reading::num))]
 pub(crate) fn width(tokens: &Tokens, at: At) -> Option<(Fix, At)>
     ensures { option_map (λ r. (r.0, standing tokens.now r.1)) result ≡ num Width (standing tokens.now at) }
 {

@@ -1,10 +1,10 @@
 //! Points, attributes and their lists.
 ghost use Rattle.std.specs.Prelude.{◌≡◌, Some, option_map, MatchResult};
 ghost use Rattle.command_text.specs.Ranges.{Value, Rate};
-ghost use Rattle.command_text.specs.Reading.{pair, point, attr, next_attr, first_attr, some_attrs, attrs, points, all, begins, with_front};
+ghost use Rattle.command_text.specs.inner.Reading.{pair, point, attr, next_attr, first_attr, some_attrs, attrs, points, all, begins, with_front};
 ghost use Rattle.command_text.specs.Piece.{is_sign};
 ghost use Rattle.case_table.specs.declared.symbol.TheConstants.{OPEN_ROUND, COMMA};
-ghost use Rattle.command_text.specs.Standing.{standing, Stops};
+ghost use Rattle.command_text.specs.inner.Standing.{standing, Stops};
 
 use crate::at::{At, begins_sign, next, noting_small, sign};
 use crate::fault::{CommandFault, bad_syntax};
@@ -18,7 +18,7 @@ use geometry::{LEAST_VERTICES, VERTEX_LIMIT};
 use motion::{ATTRIBUTE_LIMIT, AttrKind};
 use std::alloc::Global;
 
-#[tactic(auto, unfolding(crate::specs::Reading::point, crate::specs::Reading::pair))]
+#[tactic(auto, unfolding(crate::specs::inner::Reading::point, crate::specs::inner::Reading::pair))]
 pub(crate) fn point(tokens: &Tokens, at: At) -> Option<(Point, At)>
     ensures { option_map (λ r. (r.0, standing tokens.now r.1)) result ≡ point (standing tokens.now at) }
 {
@@ -31,7 +31,7 @@ pub(crate) fn point(tokens: &Tokens, at: At) -> Option<(Point, At)>
 }
 
 /// The slopes of both coordinates.
-#[tactic(auto, unfolding(crate::specs::Reading::pair))]
+#[tactic(auto, unfolding(crate::specs::inner::Reading::pair))]
 pub(crate) fn slopes(tokens: &Tokens, at: At) -> Option<((Slope, Slope), At)>
     ensures { option_map (λ r. (r.0, standing tokens.now r.1)) result ≡ pair Rate (standing tokens.now at) }
 {
@@ -43,7 +43,7 @@ pub(crate) fn slopes(tokens: &Tokens, at: At) -> Option<((Slope, Slope), At)>
     Some(((x, y), at))
 }
 
-#[tactic(auto, unfolding(crate::specs::Reading::attr))]
+#[tactic(auto, unfolding(crate::specs::inner::Reading::attr))]
 fn attr(tokens: &Tokens, at: At) -> Option<((Word, AttrKind), At)>
     ensures { option_map (λ r. (r.0, standing tokens.now r.1)) result ≡ attr (standing tokens.now at) }
 {
@@ -54,7 +54,7 @@ fn attr(tokens: &Tokens, at: At) -> Option<((Word, AttrKind), At)>
 }
 
 /// An attribute after a comma.
-#[tactic(auto, unfolding(crate::specs::Reading::next_attr))]
+#[tactic(auto, unfolding(crate::specs::inner::Reading::next_attr))]
 fn next_attr(tokens: &Tokens, at: At) -> Option<((Word, AttrKind), At)>
     ensures { option_map (λ r. (r.0, standing tokens.now r.1)) result ≡ next_attr (standing tokens.now at) }
 {
@@ -63,7 +63,7 @@ fn next_attr(tokens: &Tokens, at: At) -> Option<((Word, AttrKind), At)>
 }
 
 /// The first attribute, after its bracket.
-#[tactic(auto, unfolding(crate::specs::Reading::first_attr))]
+#[tactic(auto, unfolding(crate::specs::inner::Reading::first_attr))]
 fn first_attr(tokens: &Tokens, at: At) -> Option<((Word, AttrKind), At)>
     ensures { option_map (λ r. (r.0, standing tokens.now r.1)) result ≡ first_attr (standing tokens.now at) }
 {
@@ -72,7 +72,7 @@ fn first_attr(tokens: &Tokens, at: At) -> Option<((Word, AttrKind), At)>
 }
 
 /// The attributes after the first one, added to it.
-#[tactic(auto, using(crate::proofs::ManyLemmas::loop_steps, crate::proofs::Derived::next_attr_shortens))]
+#[tactic(auto, using(crate::proofs::grammar::ManyLemmas::loop_steps, crate::proofs::grammar::Derived::next_attr_shortens))]
 fn more_attrs(tokens: &Tokens, start: At, attrs: &mut Attributes) -> Result<At, CommandFault>
     ensures { MatchResult result (λ at. with_front attrs.old (all (begins (is_sign COMMA)) next_attr (standing tokens.now start)) ≡ Some (attrs.new, standing tokens.now at))
         (Stops (all (begins (is_sign COMMA)) next_attr (standing tokens.now start))) }
@@ -88,7 +88,7 @@ fn more_attrs(tokens: &Tokens, start: At, attrs: &mut Attributes) -> Result<At, 
     Ok(at)
 }
 
-#[tactic(auto, using(crate::proofs::Stopping::stop_steps), unfolding(crate::specs::Reading::some_attrs))]
+#[tactic(auto, using(crate::proofs::reader::Stopping::stop_steps), unfolding(crate::specs::inner::Reading::some_attrs))]
 fn some_attrs(alloc: Global, tokens: &Tokens, at: At) -> Result<(Attributes, At), CommandFault>
     ensures { MatchResult result (λ r. some_attrs (standing tokens.now at) ≡ Some (r.0, standing tokens.now r.1))
         (Stops (some_attrs (standing tokens.now at))) }
@@ -107,7 +107,7 @@ fn some_attrs(alloc: Global, tokens: &Tokens, at: At) -> Result<(Attributes, At)
 }
 
 /// The attributes of a class, which may have none.
-#[tactic(auto, unfolding(crate::specs::Reading::attrs))]
+#[tactic(auto, unfolding(crate::specs::inner::Reading::attrs))]
 pub(crate) fn attrs(
     alloc: Global,
     tokens: &Tokens,
@@ -124,7 +124,7 @@ pub(crate) fn attrs(
 }
 
 /// As many points as there are.
-#[tactic(auto, using(crate::proofs::ManyLemmas::loop_steps, crate::proofs::Derived::point_shortens))]
+#[tactic(auto, using(crate::proofs::grammar::ManyLemmas::loop_steps, crate::proofs::grammar::Derived::point_shortens))]
 fn all_points(alloc: Global, tokens: &Tokens, start: At) -> Result<(Points, At), CommandFault>
     ensures { MatchResult result (λ r. all (begins (is_sign OPEN_ROUND)) point (standing tokens.now start) ≡ Some (r.0, standing tokens.now r.1))
         (Stops (all (begins (is_sign OPEN_ROUND)) point (standing tokens.now start))) }
@@ -142,7 +142,7 @@ fn all_points(alloc: Global, tokens: &Tokens, start: At) -> Result<(Points, At),
 }
 
 /// Three points and more.
-#[tactic(auto, using(crate::proofs::Stopping::stop_steps), unfolding(crate::specs::Reading::points))]
+#[tactic(auto, using(crate::proofs::reader::Stopping::stop_steps), unfolding(crate::specs::inner::Reading::points))]
 pub(crate) fn points(alloc: Global, tokens: &Tokens, at: At) -> Result<(Points, At), CommandFault>
     ensures { MatchResult result (λ r. points (standing tokens.now at) ≡ Some (r.0, standing tokens.now r.1))
         (Stops (points (standing tokens.now at))) }

@@ -1,10 +1,10 @@
 //! The query at the end of a command.
 ghost use Rattle.std.specs.Prelude.{◌≡◌, [], Some, MatchResult};
 ghost use Rattle.ftl_parser.specs.Tree.{query_view};
-ghost use Rattle.command_text.specs.LineParts.{Refuses};
-ghost use Rattle.command_text.specs.Reading.{query};
-ghost use Rattle.command_text.specs.Standing.{standing};
-ghost use Rattle.command_text.specs.Query.{fault_by_parser};
+ghost use Rattle.command_text.specs.inner.LineParts.{Refuses};
+ghost use Rattle.command_text.specs.inner.Reading.{query};
+ghost use Rattle.command_text.specs.inner.Standing.{standing};
+ghost use Rattle.command_text.specs.inner.Query.{fault_by_parser};
 
 use crate::at::At;
 use crate::fault::CommandFault;
@@ -39,7 +39,7 @@ fn end(tokens: &Tokens, at: At) -> At
 }
 
 /// The query that all tokens from a place on spell.
-#[tactic(auto, using(crate::proofs::QueryLemmas::query_steps))]
+#[tactic(auto, using(crate::proofs::grammar::QueryLemmas::query_steps))]
 pub(crate) fn query(alloc: Global, tokens: &Tokens, at: At) -> Result<(Query, At), CommandFault>
     ensures { MatchResult result (λ r. query (standing tokens.now at) ≡ Some (query_view r.0, standing tokens.now r.1))
         (Refuses (query (standing tokens.now at))) }

@@ -3,7 +3,8 @@ ghost use Rattle.std.specs.Prelude.{◌≡◌, ◌≤◌, None, length, OnOk, If
 ghost use Rattle.std.specs.List.{list_any};
 ghost use Rattle.command_text.specs.Tree.{command_view};
 ghost use Rattle.command_text.specs.Line.{is_comment, is_ascii, has_other_byte, IsRead, Explains};
-ghost use Rattle.command_text.specs.LineParts.{TellsBadPlace, IsReadLate, ExplainsLate};
+ghost use Rattle.command_text.specs.GrammarLaws.{IsSpelled, IsFaultOf};
+ghost use Rattle.command_text.specs.inner.LineParts.{TellsBadPlace, IsReadLate, ExplainsLate};
 ghost use Rattle.ftl_lexer.specs.Tokens.{bad_place};
 ghost use Rattle.ftl_lexer.specs.declared.buffer.TheConstants.{LEXER_LIMIT};
 
@@ -59,7 +60,7 @@ fn cut(tokens: &mut Tokens, line: &[u8]) -> Result<(), CommandFault>
 }
 
 /// The command of a line that has no byte too many and none other than a tab and 0x20 to 0x7E.
-#[tactic(auto, using(crate::proofs::LineLemmas::late_steps))]
+#[tactic(auto, using(crate::proofs::reader::LineLemmas::late_steps))]
 fn read_ascii(alloc: Global, tokens: &mut Tokens, line: &[u8]) -> Result<Command, CommandFault>
     requires { length line.now ≤ LEXER_LIMIT }
     ensures ok { IfOk result (λ c. IsReadLate line.now (command_view c)) }
@@ -70,6 +71,27 @@ fn read_ascii(alloc: Global, tokens: &mut Tokens, line: &[u8]) -> Result<Command
     }
     cut(tokens, line)?;
     command(alloc, tokens)
+}
+
+/// The command of a line of at most `limit` bytes, or the first refusal that holds of it.
+#[tactic(auto, using(crate::proofs::reader::LineLemmas::first_steps))]
+fn read_line(
+    alloc: Global,
+    tokens: &mut Tokens,
+    line: &[u8],
+    limit: usize,
+) -> Result<Command, CommandFault>
+    requires { limit ≤ LEXER_LIMIT }
+    ensures ok { IfOk result (λ c. IsRead limit line.now (command_view c)) }
+    ensures cause { IfErr result (Explains limit line.now) }
+{
+    if line.len() > limit {
+        return Err(CommandFault::Refused(Refusal::LineTooLong));
+    }
+    if has_other_byte(line) {
+        return Err(CommandFault::Refused(Refusal::NotAscii));
+    }
+    read_ascii(alloc, tokens, line)
 }
 
 /// Reads lines one after another, and asks for memory for tokens only where a line is longer than all
@@ -90,26 +112,25 @@ impl LineReader {
     }
 
     /// Reads a line of at most `limit` bytes: the command that its tokens spell. Refuses it by the first
-    /// of the refusals 1 to 6 that holds; the first three are told without memory.
-    #[tactic(auto, using(crate::proofs::LineLemmas::first_steps))]
+    /// of the refusals 1 to 6 that holds; the first three are told without memory. `spelled` and `refused`
+    /// say it by the grammar alone, `ok` and `cause` by the reader that computes it.
+    #[tactic(auto, using(crate::proofs::grammar::DerivedLines::answers_spelled))]
     pub fn read(&mut self, line: &[u8], limit: usize) -> Result<Command, CommandFault>
         requires { limit ≤ LEXER_LIMIT }
+        ensures spelled { IfOk result (λ c. IsSpelled limit line.now (command_view c)) }
+        ensures refused { IfErr result (IsFaultOf limit line.now) }
         ensures ok { IfOk result (λ c. IsRead limit line.now (command_view c)) }
         ensures cause { IfErr result (Explains limit line.now) }
     {
-        if line.len() > limit {
-            return Err(CommandFault::Refused(Refusal::LineTooLong));
-        }
-        if has_other_byte(line) {
-            return Err(CommandFault::Refused(Refusal::NotAscii));
-        }
-        read_ascii(self.alloc, &mut self.tokens, line)
+        read_line(self.alloc, &mut self.tokens, line, limit)
     }
 }
 
 /// Reads one line, as a `LineReader` does.
 pub fn read(alloc: Global, line: &[u8], limit: usize) -> Result<Command, CommandFault>
     requires { limit ≤ LEXER_LIMIT }
+    ensures spelled { IfOk result (λ c. IsSpelled limit line.now (command_view c)) }
+    ensures refused { IfErr result (IsFaultOf limit line.now) }
     ensures ok { IfOk result (λ c. IsRead limit line.now (command_view c)) }
     ensures cause { IfErr result (Explains limit line.now) }
 {

@@ -1,7 +1,7 @@
 //! What an insert or an update gives.
 ghost use Rattle.std.specs.Prelude.{◌≡◌, Some, option_map, MatchResult};
-ghost use Rattle.command_text.specs.Reading.{rate, given_both, given_value, given_text, given_rate, given_equal, given, setting, settings, at as placed, some_moves, moving, place};
-ghost use Rattle.command_text.specs.Standing.{standing, Stops};
+ghost use Rattle.command_text.specs.inner.Reading.{rate, given_both, given_value, given_text, given_rate, given_equal, given, setting, settings, at as placed, some_moves, moving, place};
+ghost use Rattle.command_text.specs.inner.Standing.{standing, Stops};
 
 use crate::at::{At, begins_key, begins_name, begins_text, key, sign};
 use crate::fault::{CommandFault, bad_syntax};
@@ -16,7 +16,7 @@ use motion::{Given, Legs, NamedSet, Place};
 use std::alloc::Global;
 
 /// The legs after `rate`.
-#[tactic(auto, using(crate::proofs::Stopping::stop_steps), unfolding(crate::specs::Reading::rate))]
+#[tactic(auto, using(crate::proofs::reader::Stopping::stop_steps), unfolding(crate::specs::inner::Reading::rate))]
 fn rate(alloc: Global, tokens: &Tokens, at: At) -> Result<(Legs, At), CommandFault>
     ensures { MatchResult result (λ r. rate (standing tokens.now at) ≡ Some (r.0, standing tokens.now r.1))
         (Stops (rate (standing tokens.now at))) }
@@ -28,7 +28,7 @@ fn rate(alloc: Global, tokens: &Tokens, at: At) -> Result<(Legs, At), CommandFau
 }
 
 /// A value and the legs after it.
-#[tactic(auto, using(crate::proofs::Stopping::stop_steps), unfolding(crate::specs::Reading::given_both))]
+#[tactic(auto, using(crate::proofs::reader::Stopping::stop_steps), unfolding(crate::specs::inner::Reading::given_both))]
 fn given_both(
     alloc: Global,
     tokens: &Tokens,
@@ -43,7 +43,7 @@ fn given_both(
 }
 
 /// A value, and legs where `rate` follows.
-#[tactic(auto, using(crate::proofs::Stopping::stop_steps), unfolding(crate::specs::Reading::given_value))]
+#[tactic(auto, using(crate::proofs::reader::Stopping::stop_steps), unfolding(crate::specs::inner::Reading::given_value))]
 fn given_value(alloc: Global, tokens: &Tokens, at: At) -> Result<(Given, At), CommandFault>
     ensures { MatchResult result (λ r. given_value (standing tokens.now at) ≡ Some (r.0, standing tokens.now r.1))
         (Stops (given_value (standing tokens.now at))) }
@@ -58,7 +58,7 @@ fn given_value(alloc: Global, tokens: &Tokens, at: At) -> Result<(Given, At), Co
     }
 }
 
-#[tactic(auto, using(crate::proofs::Stopping::stop_steps), unfolding(crate::specs::Reading::given_text))]
+#[tactic(auto, using(crate::proofs::reader::Stopping::stop_steps), unfolding(crate::specs::inner::Reading::given_text))]
 fn given_text(tokens: &Tokens, at: At) -> Result<(Given, At), CommandFault>
     ensures { MatchResult result (λ r. given_text (standing tokens.now at) ≡ Some (r.0, standing tokens.now r.1))
         (Stops (given_text (standing tokens.now at))) }
@@ -69,7 +69,7 @@ fn given_text(tokens: &Tokens, at: At) -> Result<(Given, At), CommandFault>
     }
 }
 
-#[tactic(auto, using(crate::proofs::Stopping::stop_steps), unfolding(crate::specs::Reading::given_rate))]
+#[tactic(auto, using(crate::proofs::reader::Stopping::stop_steps), unfolding(crate::specs::inner::Reading::given_rate))]
 fn given_rate(alloc: Global, tokens: &Tokens, at: At) -> Result<(Given, At), CommandFault>
     ensures { MatchResult result (λ r. given_rate (standing tokens.now at) ≡ Some (r.0, standing tokens.now r.1))
         (Stops (given_rate (standing tokens.now at))) }
@@ -78,7 +78,7 @@ fn given_rate(alloc: Global, tokens: &Tokens, at: At) -> Result<(Given, At), Com
     Ok((Given::Rate(legs), at))
 }
 
-#[tactic(auto, using(crate::proofs::Stopping::stop_steps), unfolding(crate::specs::Reading::given_equal))]
+#[tactic(auto, using(crate::proofs::reader::Stopping::stop_steps), unfolding(crate::specs::inner::Reading::given_equal))]
 fn given_equal(alloc: Global, tokens: &Tokens, at: At) -> Result<(Given, At), CommandFault>
     ensures { MatchResult result (λ r. given_equal (standing tokens.now at) ≡ Some (r.0, standing tokens.now r.1))
         (Stops (given_equal (standing tokens.now at))) }
@@ -94,7 +94,7 @@ fn given_equal(alloc: Global, tokens: &Tokens, at: At) -> Result<(Given, At), Co
 }
 
 /// What a setting gives, after its name.
-#[tactic(auto, using(crate::proofs::Stopping::stop_steps), unfolding(crate::specs::Reading::given))]
+#[tactic(auto, using(crate::proofs::reader::Stopping::stop_steps), unfolding(crate::specs::inner::Reading::given))]
 fn given(alloc: Global, tokens: &Tokens, at: At) -> Result<(Given, At), CommandFault>
     ensures { MatchResult result (λ r. given (standing tokens.now at) ≡ Some (r.0, standing tokens.now r.1))
         (Stops (given (standing tokens.now at))) }
@@ -106,7 +106,7 @@ fn given(alloc: Global, tokens: &Tokens, at: At) -> Result<(Given, At), CommandF
     }
 }
 
-#[tactic(auto, using(crate::proofs::Stopping::stop_steps), unfolding(crate::specs::Reading::setting))]
+#[tactic(auto, using(crate::proofs::reader::Stopping::stop_steps), unfolding(crate::specs::inner::Reading::setting))]
 fn setting(alloc: Global, tokens: &Tokens, at: At) -> Result<(NamedSet, At), CommandFault>
     ensures { MatchResult result (λ r. setting (standing tokens.now at) ≡ Some (r.0, standing tokens.now r.1))
         (Stops (setting (standing tokens.now at))) }
@@ -119,7 +119,7 @@ fn setting(alloc: Global, tokens: &Tokens, at: At) -> Result<(NamedSet, At), Com
 }
 
 /// As many settings as there are.
-#[tactic(auto, using(crate::proofs::ManyLemmas::loop_steps, crate::proofs::Derived::setting_shortens))]
+#[tactic(auto, using(crate::proofs::grammar::ManyLemmas::loop_steps, crate::proofs::grammar::Derived::setting_shortens))]
 pub(crate) fn settings(
     alloc: Global,
     tokens: &Tokens,
@@ -142,7 +142,7 @@ pub(crate) fn settings(
     Ok((sets, at))
 }
 
-#[tactic(auto, unfolding(crate::specs::Reading::at))]
+#[tactic(auto, unfolding(crate::specs::inner::Reading::at))]
 fn position(tokens: &Tokens, at: At) -> Option<(Option<Point>, At)>
     ensures { option_map (λ r. (r.0, standing tokens.now r.1)) result ≡ placed (standing tokens.now at) }
 {
@@ -155,7 +155,7 @@ fn position(tokens: &Tokens, at: At) -> Option<(Option<Point>, At)>
     }
 }
 
-#[tactic(auto, using(crate::proofs::Stopping::stop_steps), unfolding(crate::specs::Reading::some_moves))]
+#[tactic(auto, using(crate::proofs::reader::Stopping::stop_steps), unfolding(crate::specs::inner::Reading::some_moves))]
 fn some_moves(
     alloc: Global,
     tokens: &Tokens,
@@ -171,7 +171,7 @@ fn some_moves(
     Ok((Some(both), at))
 }
 
-#[tactic(auto, using(crate::proofs::Stopping::stop_steps), unfolding(crate::specs::Reading::moving))]
+#[tactic(auto, using(crate::proofs::reader::Stopping::stop_steps), unfolding(crate::specs::inner::Reading::moving))]
 fn moving(
     alloc: Global,
     tokens: &Tokens,
@@ -188,7 +188,7 @@ fn moving(
 }
 
 /// Where an object is, and how it moves.
-#[tactic(auto, using(crate::proofs::Stopping::stop_steps), unfolding(crate::specs::Reading::place))]
+#[tactic(auto, using(crate::proofs::reader::Stopping::stop_steps), unfolding(crate::specs::inner::Reading::place))]
 pub(crate) fn place(alloc: Global, tokens: &Tokens, at: At) -> Result<(Place, At), CommandFault>
     ensures { MatchResult result (λ r. place (standing tokens.now at) ≡ Some (r.0, standing tokens.now r.1))
         (Stops (place (standing tokens.now at))) }

@@ -35,25 +35,10 @@ change_fits : (place : Place) (sets : List NamedSet) → shape.IsChange place se
 change_fits place sets h = record { at = at_fits place.at h.at; settings = sets_fit sets h.settings }
 
 pub is_ready : (c : CommandTree) → IsPrintable c → IsReady c
-is_ready (Tree.Class name capacity point attributes) h = (h.1.0, h.1.1, h.2.few)
-is_ready (Tree.Region name points) h = h.1.count
-is_ready (Tree.Insert class name place sets) h = change_fits place sets h.2
-is_ready (Tree.Update name place sets) h = change_fits place sets h.1
-is_ready (Tree.Tick ticks) h = h.1
-is_ready (Tree.Ask span q) h = h.0.1
-is_ready Tree.Nothing h = tt
-is_ready Tree.Listing h = tt
-is_ready Tree.Quit h = tt
-is_ready (Tree.Remove name) h = tt
-is_ready (Tree.Watch name span q) h = tt
-is_ready (Tree.Keep name span q) h = tt
-is_ready (Tree.Show name) h = tt
-is_ready (Tree.Drop name) h = tt
-is_ready (Tree.Save file) h = tt
-is_ready (Tree.Import class file) h = tt
-is_ready (Tree.Export class file) h = tt
-is_ready (Tree.Nearest span k object class) h = tt
-is_ready (Tree.Must error span q) h = tt
-is_ready (Tree.May error span q) h = tt
-is_ready (Tree.Index class attribute width) h = tt
-is_ready (Tree.Range span class attribute least greatest) h = tt
+is_ready (Tree.Class name capacity point attributes) h = (h.1.1.0.0, h.1.1.0.1, h.1.1.1.1.few)
+is_ready (Tree.Region name points) h = h.1.1.count
+is_ready (Tree.Insert class name place sets) h = change_fits place sets h.1.1.1
+is_ready (Tree.Update name place sets) h = change_fits place sets h.1.1
+is_ready (Tree.Tick ticks) h = h.1.1
+is_ready (Tree.Ask span q) h = (h.1.0.1, h.1.1.lawful)
+is_ready c h = tt

@@ -1,109 +1,140 @@
--- The answer of the definition, object by object.
-use Rattle.std.proofs.Common.{◌≡◌, ℕ, ℤ, zero, suc, ◌+◌, ◌<◌, ◌≤◌, Bool, true, false, ◌&&◌, Option, None, Some, List, [], ◌∷◌, ◌++◌, length, map, refl, sym, ap, subst, ◌∙◌, arith, if◌then◌else◌}
-use Rattle.std.specs.Prelude.{is_some, slice_get, unwrap_or, ◌==◌, All}
-use Rattle.std.specs.List.{filter, flat_map, enumerate_from, position}
-use Rattle.std.specs.Str.{bytes_eq}
-use Rattle.std.specs.Option.{option_and_then}
-use Rattle.std.proofs.lemmas.List.{length-map}
-use Rattle.std.proofs.lemmas.List.Elements.{All-cons}
-use Rattle.case_table.specs.declared.compare.Op.{Op}
-use Rattle.motion.specs.declared.cell.Cell.{Cell}
-use Rattle.history.specs.History.{History, cells_at}
-use Rattle.geometry.specs.Region.{Region}
-use Rattle.history.specs.Write.{Attribute}
-use Rattle.history.specs.Catalog.{ClassInfo, ObjectInfo, attributes_of_class, number_of_class, names, names_in}
-use Rattle.line_meaning.specs.declared.question.Question.{Question}
-use Rattle.line_meaning.specs.Answering.{attribute_index, rows_of}
-use Rattle.database.proofs.FindingLemmas.{IsFound}
-use Rattle.meaning.specs.SimpleQuestion.{Row, answer, compares_at, row_of}
-use Rattle.meaning.specs.Answer.{has_ticks}
-use Rattle.object_store.specs.Contents.{StoredObject, Contents, catalog_of, history_of, ids_in, object_info, object_name, state_of}
-use Rattle.line_meaning.specs.Reply.{row_line, rows_text}
-use Rattle.database.specs.Rows.{line_if_any, line_of}
+-- The objects of an answer's rows, and the lines of the rows.
+use Rattle.std.proofs.Common.{◌≡◌, ℕ, zero, suc, ◌+◌, ◌<◌, ◌≤◌, Bool, true, false, ◌&&◌, Option, List, [], ◌∷◌, ◌++◌, length, map, refl, sym, ap, ◌∙◌, arith, if◌then◌else◌}
+use Rattle.std.specs.Prelude.{◌==◌, nat_lt, slice_get, slice_index}
+use Rattle.std.specs.List.{enumerate_from, filter, flat_map, list_all}
+use Rattle.std.specs.Option.{option_map, option_map_or}
+use Rattle.std.proofs.lemmas.Bool.{and_from, and_parts}
+use Rattle.std.proofs.lemmas.Bool.Decides.{nat_tests}
+use Rattle.std.proofs.lemmas.List.{append_assoc}
+use Rattle.std.proofs.lemmas.List.Folds.{list_all-append}
+use Rattle.tick_set.specs.declared.spans.Span.{Span}
+use Rattle.history.specs.Catalog.{Catalog, ObjectInfo, ids_of}
+use Rattle.history.specs.World.{World}
+use Rattle.formula.specs.Tree.{ResolvedQuery}
+use Rattle.relation.specs.declared.row.Row as kept
+use Rattle.answers.specs.Told.{told_row, told_rows}
+use Rattle.meaning.specs.Answer.{Row, answer, has_ticks, row_where}
+use Rattle.meaning.specs.Binding.{holds_target, product, tuples}
+use Rattle.object_store.specs.Contents.{Contents, StoredObject, catalog_of, object_info, object_name}
+use Rattle.line_meaning.specs.Reply.{name_of, row_line, row_text, rows_text}
+use Rattle.database.specs.Rows.{has_objects}
 
--- what follows the first of some ids
-pub tail_there : (most id : ℕ) (ids later : List ℕ) → All (λ (i : ℕ). i < most) ids → ids ≡ id ∷ later → All (λ (i : ℕ). i < most) later
-tail_there most id ids later all is = λ k d l. subst (λ (xs : List ℕ). All (λ (i : ℕ). i < most) xs) is all (suc k) d (omega (arith, l))
+abbrev are_below : ℕ → List ℕ → Bool
+are_below count ids = list_all (λ id. nat_lt id count) ids
 
--- a row without ticks has no line, whether it is left out or not
-line_or_none : (now : ℕ) (row : Row) (there : Bool) (rest : List Row) (lines : List ℕ) → flat_map (row_line now) rest ≡ lines →
-    flat_map (row_line now) (if there then row ∷ rest else rest) ≡ (if there then row_line now row else []) ++ lines
-line_or_none now row true rest lines same = ap (λ ls. row_line now row ++ ls) same
-line_or_none now row false rest lines same = same
+-- ---- the ids of a class are those of objects
 
-pub lines_of_names : (now : ℕ) (row : List ℕ → Row) (ns : List (List ℕ)) →
-    flat_map (row_line now) (filter (λ (r : Row). has_ticks r.runs) (map row ns)) ≡ flat_map (λ n. line_if_any now (row n)) ns
-lines_of_names now row [] = refl
-lines_of_names now row (n ∷ ns) = line_or_none now (row n) (has_ticks (row n).runs) _ _ (lines_of_names now row ns)
+one_more : (count n class : ℕ) (o : ObjectInfo) (objects : List ObjectInfo) (of : Bool) → n < count →
+    are_below count (map (λ (e : ℕ × ObjectInfo). e.0) (filter (λ (e : ℕ × ObjectInfo). e.1.class == class) (enumerate_from (n + 1) objects))) ≡ true →
+    are_below count (map (λ (e : ℕ × ObjectInfo). e.0)
+    (if of then (n, o) ∷ filter (λ (e : ℕ × ObjectInfo). e.1.class == class) (enumerate_from (n + 1) objects)
+    else filter (λ (e : ℕ × ObjectInfo). e.1.class == class) (enumerate_from (n + 1) objects))) ≡ true
+one_more count n class o objects true here rest = and_from (nat_lt n count) _ (grind (arith, nat_tests, here)) rest
+one_more count n class o objects false here rest = rest
 
-pub flat_map_named : {X : Type 0} (f : List ℕ → List ℕ) (name : X → List ℕ) (xs : List X) → flat_map f (map name xs) ≡ flat_map (λ x. f (name x)) xs
-flat_map_named f name [] = refl
-flat_map_named f name (x ∷ xs) = ap (λ ls. f (name x) ++ ls) (flat_map_named f name xs)
+ids_from : (objects : List ObjectInfo) (class n count : ℕ) → n + length objects ≤ count →
+    are_below count (map (λ (e : ℕ × ObjectInfo). e.0) (filter (λ (e : ℕ × ObjectInfo). e.1.class == class) (enumerate_from n objects))) ≡ true
+ids_from [] class n count few = refl
+ids_from (o ∷ objects) class n count few =
+    one_more count n class o objects (o.class == class) (omega (arith, few)) (ids_from objects class (n + 1) count (omega (arith, few)))
 
--- what compares is present
-pub compared_is_present : (a : ℕ) (op : Op) (number : ℤ) (cells : Option (List Cell)) (t : ℕ) →
-    compares_at a op number cells t ≡ (is_some cells && compares_at a op number cells t)
-compared_is_present a op number None t = refl
-compared_is_present a op number (Some cells) t = refl
+ids_below : (c : Catalog) (class : ℕ) → are_below (length c.objects) (ids_of c class) ≡ true
+ids_below c class = ids_from c.objects class 0 (length c.objects) (omega arith)
 
--- the object of a number is that of its name
-pub state_of_number : (s : Contents) (id t : ℕ) → id < length s.objects →
-    cells_at (history_of s) id t ≡ state_of s (object_name s.objects id) t
-state_of_number s id t there = stored s.objects id there
+-- ---- and so are those of tuples
+
+with_front : (count x : ℕ) (tails : List (List ℕ)) → nat_lt x count ≡ true → list_all (are_below count) tails ≡ true →
+    list_all (are_below count) (map (λ (ids : List ℕ). x ∷ ids) tails) ≡ true
+with_front count x [] here all = refl
+with_front count x (ids ∷ tails) here all =
+    let both = and_parts (are_below count ids) (list_all (are_below count) tails) all in
+    and_from (are_below count (x ∷ ids)) _ (and_from (nat_lt x count) (are_below count ids) here both.0) (with_front count x tails here both.1)
+
+with_fronts : (count : ℕ) (xs : List ℕ) (tails : List (List ℕ)) → are_below count xs ≡ true → list_all (are_below count) tails ≡ true →
+    list_all (are_below count) (flat_map (λ x. map (λ (ids : List ℕ). x ∷ ids) tails) xs) ≡ true
+with_fronts count [] tails here all = refl
+with_fronts count (x ∷ xs) tails here all =
+    let both = and_parts (nat_lt x count) (are_below count xs) here in
+    list_all-append (are_below count) (map (λ (ids : List ℕ). x ∷ ids) tails) (flat_map (λ x. map (λ (ids : List ℕ). x ∷ ids) tails) xs)
+    ∙ and_from (list_all (are_below count) (map (λ (ids : List ℕ). x ∷ ids) tails)) _ (with_front count x tails both.0 all) (with_fronts count xs tails both.1 all)
+
+product_below : (count : ℕ) (lists : List (List ℕ)) → list_all (are_below count) lists ≡ true → list_all (are_below count) (product lists) ≡ true
+product_below count [] all = refl
+product_below count (xs ∷ lists) all =
+    let both = and_parts (are_below count xs) (list_all (are_below count) lists) all in
+    with_fronts count xs (product lists) both.0 (product_below count lists both.1)
+
+lists_below : (c : Catalog) (class : ℕ → ℕ) (vs : List ℕ) →
+    list_all (are_below (length c.objects)) (map (λ v. ids_of c (class v)) vs) ≡ true
+lists_below c class [] = refl
+lists_below c class (v ∷ vs) =
+    and_from (are_below (length c.objects) (ids_of c (class v))) _ (ids_below c (class v)) (lists_below c class vs)
+
+tuples_below : (w : World) (q : ResolvedQuery) → list_all (are_below (length w.history.catalog.objects)) (tuples w q) ≡ true
+tuples_below w q =
+    product_below (length w.history.catalog.objects) (map (λ v. ids_of w.history.catalog (slice_index q.classes v)) q.targets)
+    (lists_below w.history.catalog (slice_index q.classes) q.targets)
+
+-- ---- and of the rows of an answer
+
+kept_or_not : (count : ℕ) (row : Row) (there : Bool) (rows : List Row) → has_objects count row ≡ true → list_all (has_objects count) rows ≡ true →
+    list_all (has_objects count) (if there then row ∷ rows else rows) ≡ true
+kept_or_not count row true rows here all = and_from (has_objects count row) (list_all (has_objects count) rows) here all
+kept_or_not count row false rows here all = all
+
+rows_below : (count : ℕ) (holds : List ℕ → ℕ → Bool) (from e : ℕ) (keys : List (List ℕ)) → list_all (are_below count) keys ≡ true →
+    list_all (has_objects count) (filter (λ (row : Row). has_ticks row.runs) (map (row_where holds from e) keys)) ≡ true
+rows_below count holds from e [] all = refl
+rows_below count holds from e (key ∷ keys) all =
+    let both = and_parts (are_below count key) (list_all (are_below count) keys) all in
+    kept_or_not count (row_where holds from e key) (has_ticks (row_where holds from e key).runs) _ both.0 (rows_below count holds from e keys both.1)
+
+pub answer_has_objects : (w : World) (q : ResolvedQuery) (from e : ℕ) →
+    list_all (has_objects (length w.history.catalog.objects)) (answer w q from e) ≡ true
+answer_has_objects w q from e =
+    rows_below (length w.history.catalog.objects) (holds_target w q e) from e (tuples w q) (tuples_below w q)
+
+-- ---- names
+
+pub stored_name : (s : Contents) (id : ℕ) → object_name s.objects id ≡ name_of (catalog_of s) id
+stored_name s id = named s.objects id
   where
-    stored : (objects : List StoredObject) (id : ℕ) → id < length objects →
-        option_and_then (λ (o : ObjectInfo). state_of s o.name t) (slice_get (map object_info objects) id)
-        ≡ state_of s (object_name objects id) t
-    stored [] id there = absurd (omega (arith, there))
-    stored (o ∷ objects) zero there = refl
-    stored (o ∷ objects) (suc id) there = stored objects id (omega (arith, there))
+    named : (objects : List StoredObject) (id : ℕ) →
+        option_map_or (λ (o : StoredObject). o.name) (slice_get objects id) []
+        ≡ option_map_or (λ (o : ObjectInfo). o.name) (slice_get (map object_info objects) id) []
+    named [] id = refl
+    named (o ∷ objects) zero = refl
+    named (o ∷ objects) (suc id) = named objects id
 
--- the ids of a class are those of objects
-pub all_nil : {X : Type 0} (P : X → Type 0) → All P []
-all_nil P k d l = absurd (omega arith)
+-- one more name
+pub name_step : (s : Contents) (id : ℕ) (later rest : List ℕ) (names next whole : List (List ℕ)) (name : List ℕ) → rest ≡ id ∷ later →
+    name ≡ object_name s.objects id → next ≡ names ++ name ∷ [] → names ++ map (name_of (catalog_of s)) rest ≡ whole →
+    next ++ map (name_of (catalog_of s)) later ≡ whole
+name_step s id later rest names next whole name split is pushed so_far =
+    ap (λ ns. ns ++ map (name_of (catalog_of s)) later) (pushed ∙ ap (λ n. names ++ n ∷ []) (is ∙ stored_name s id))
+    ∙ append_assoc names (name_of (catalog_of s) id ∷ []) (map (name_of (catalog_of s)) later)
+    ∙ ap (λ ids. names ++ map (name_of (catalog_of s)) ids) (sym split)
+    ∙ so_far
 
-abbrev ids_behind : ℕ → ℕ → List StoredObject → List ℕ
-ids_behind class n objects = map (λ (e : ℕ × StoredObject). e.0) (filter (λ (e : ℕ × StoredObject). e.1.class == class) (enumerate_from n objects))
+pub ids_step : (count id : ℕ) (later rest : List ℕ) → rest ≡ id ∷ later → are_below count rest ≡ true → are_below count later ≡ true
+ids_step count id later rest split all =
+    (and_parts (nat_lt id count) (are_below count later) (ap (are_below count) (sym split) ∙ all)).1
 
-one_more : (most n class : ℕ) (o : StoredObject) (objects : List StoredObject) (b : Bool) → n < most → All (λ (id : ℕ). id < most) (ids_behind class (n + 1) objects) →
-    All (λ (id : ℕ). id < most) (map (λ (e : ℕ × StoredObject). e.0)
-    (if b then (n, o) ∷ filter (λ (e : ℕ × StoredObject). e.1.class == class) (enumerate_from (n + 1) objects)
-    else filter (λ (e : ℕ × StoredObject). e.1.class == class) (enumerate_from (n + 1) objects)))
-one_more most n class o objects true here rest = All-cons (λ (id : ℕ). id < most) n (ids_behind class (n + 1) objects) here rest
-one_more most n class o objects false here rest = rest
+-- one more line
+pub row_step : (s : Contents) (tick : ℕ) (names : List (List ℕ)) (runs : List (ℕ × ℕ)) (row : kept.Row (List Span))
+    (later rest : List (kept.Row (List Span))) (out next whole : List ℕ) → rest ≡ row ∷ later →
+    names ≡ map (name_of (catalog_of s)) row.key → runs ≡ (told_row row).runs → next ≡ out ++ row_line tick names runs →
+    out ++ rows_text (catalog_of s) tick (told_rows rest) ≡ whole → next ++ rows_text (catalog_of s) tick (told_rows later) ≡ whole
+row_step s tick names runs row later rest out next whole split named same written so_far =
+    let line : row_line tick names runs ≡ row_text (catalog_of s) tick (told_row row) = λ i. row_line tick (named i) (same i) in
+    ap (λ o. o ++ rows_text (catalog_of s) tick (told_rows later)) (written ∙ ap (λ l. out ++ l) line)
+    ∙ append_assoc out (row_text (catalog_of s) tick (told_row row)) (rows_text (catalog_of s) tick (told_rows later))
+    ∙ ap (λ rows. out ++ rows_text (catalog_of s) tick (told_rows rows)) (sym split)
+    ∙ so_far
 
-ids_from : (objects : List StoredObject) (class n most : ℕ) → n + length objects ≤ most → All (λ (id : ℕ). id < most) (ids_behind class n objects)
-ids_from [] class n most h = all_nil (λ (id : ℕ). id < most)
-ids_from (o ∷ objects) class n most h =
-    one_more most n class o objects (o.class == class) (omega (arith, h)) (ids_from objects class (n + 1) most (omega (arith, h)))
-
-pub ids_there : (objects : List StoredObject) (class : ℕ) → All (λ (id : ℕ). id < length objects) (ids_in objects class)
-ids_there objects class = ids_from objects class 0 (length objects) (omega arith)
-
--- as many ids as names of the class that is asked
-names_found : (s : Contents) (q : Question) (ids : List ℕ) (number index : ℕ) → IsFound s.classes q number index →
-    map (object_name s.objects) ids ≡ names (catalog_of s) number →
-    map (object_name s.objects) ids ≡ names_in (catalog_of s) (number_of_class (catalog_of s) q.class)
-names_found s q ids number index f named = named ∙ sym (ap (names_in (catalog_of s)) f.number_is)
-
-pub same_class : (s : Contents) (q : Question) (ids : List ℕ) (number index : ℕ) → IsFound s.classes q number index →
-    map (object_name s.objects) ids ≡ names (catalog_of s) number →
-    length ids ≡ length (names_in (catalog_of s) (number_of_class (catalog_of s) q.class))
-same_class s q ids number index f named =
-    sym (length-map ids (object_name s.objects)) ∙ ap length (names_found s q ids number index f named)
-
--- the lines of the objects of a class are the rows of the answer
-pub rows_are_lines : (s : Contents) (regions : List Region) (now span : ℕ) (q : Question) (ids : List ℕ) (number index : ℕ) →
-    IsFound s.classes q number index → map (object_name s.objects) ids ≡ names (catalog_of s) number →
-    flat_map (λ id. line_of (history_of s) index q.asked now (now + span) (object_name s.objects id)) ids
-    ≡ rows_of (record { history = history_of s; regions = regions }) now span q
-rows_are_lines s regions now span q ids number index f named =
-    let h : History = history_of s in
-    let at : attribute_index (catalog_of s) q.class q.asked.attribute ≡ index =
-    ap (λ (k : Option ClassInfo). unwrap_or (position (λ (a : Attribute). bytes_eq q.asked.attribute a.name) (attributes_of_class k)) 0) f.of_name
-    ∙ ap (λ (o : Option ℕ). unwrap_or o 0) f.place in
-    let row : ℕ → List ℕ → Row = λ a n. row_of h (compares_at a q.asked.op q.asked.number) now (now + span) n in
-    sym (flat_map_named (λ n. line_if_any now (row index n)) (object_name s.objects) ids)
-    ∙ ap (flat_map (λ n. line_if_any now (row index n))) (names_found s q ids number index f named)
-    ∙ sym (lines_of_names now (row index) (names_in (catalog_of s) (number_of_class (catalog_of s) q.class)))
-    ∙ ap (λ a. rows_text now (answer h q.class (compares_at a q.asked.op q.asked.number) now (now + span))) (sym at)
+pub rows_step : (count : ℕ) (row : kept.Row (List Span)) (later rest : List (kept.Row (List Span))) → rest ≡ row ∷ later →
+    list_all (has_objects count) (told_rows rest) ≡ true →
+    (are_below count row.key ≡ true) × (list_all (has_objects count) (told_rows later) ≡ true)
+rows_step count row later rest split all =
+    and_parts (are_below count row.key) (list_all (has_objects count) (told_rows later))
+    (ap (λ rows. list_all (has_objects count) (told_rows rows)) (sym split) ∙ all)

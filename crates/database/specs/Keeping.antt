@@ -3,6 +3,7 @@ use Rattle.std.specs.Prelude.{◌≡◌, ℕ, ◌≤◌, List}
 use Rattle.tick_set.specs.declared.spans.TheConstants.{LAST_TICK}
 use Rattle.history.specs.World.{World}
 use Rattle.object_store.specs.Contents.{history_of}
+use Rattle.answers.specs.Objects.{IsOfAcceptedWrites}
 use Rattle.command_text.specs.Journal.{Accepted}
 use Rattle.line_meaning.specs.Journal.{clock, world}
 use Rattle.database.specs.declared.database.Database.{Database}
@@ -18,6 +19,10 @@ clock_of d = d.clock
 pub record IsTimely (d : Database) : Type 0 where
   pub in_range : d.clock ≤ LAST_TICK
   pub written : d.store.last_tick ≤ d.clock
+
+-- the objects are those of writes within their limits
+abbrev pub TellsAcceptedWrites : Database → Type 0
+TellsAcceptedWrites d = IsOfAcceptedWrites d.store
 
 -- the database tells what the journal tells, and its clock is the journal's
 pub record Keeps (journal : List Accepted) (d : Database) : Type 0 where

@@ -3,5 +3,4 @@ pub mod Taking
 pub mod Attempt
 pub mod Telling
 pub mod Ready
-pub mod Finding
 pub mod Rows

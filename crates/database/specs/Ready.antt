@@ -4,6 +4,7 @@ use Rattle.object_store.specs.Changes.{AreGiven}
 use Rattle.motion.specs.declared.limits.TheConstants.{ATTRIBUTE_LIMIT, CAPACITY_LIMIT}
 use Rattle.geometry.specs.declared.limits.TheConstants.{LEAST_VERTICES, VERTEX_LIMIT}
 use Rattle.tick_set.specs.declared.spans.TheConstants.{LAST_TICK}
+use Rattle.ftl_parser.specs.Lawful.{IsLawful}
 use Rattle.command_text.specs.Tree
 use Rattle.command_text.specs.Tree.{CommandTree}
 
@@ -13,5 +14,5 @@ IsReady (Tree.Region name points) = (LEAST_VERTICES ≤ length points) × (lengt
 IsReady (Tree.Insert class name place sets) = AreGiven place sets
 IsReady (Tree.Update name place sets) = AreGiven place sets
 IsReady (Tree.Tick ticks) = ticks ≤ LAST_TICK
-IsReady (Tree.Ask span q) = span ≤ LAST_TICK
+IsReady (Tree.Ask span q) = (span ≤ LAST_TICK) × IsLawful q
 IsReady _ = Unit {0}

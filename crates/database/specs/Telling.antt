@@ -1,30 +1,34 @@
 -- What is answered of a command that changes nothing, by the bytes before and after.
-use Rattle.std.specs.Prelude.{◌≡◌, ℕ, List, ◌++◌, None, Some, Result, Ok, Err}
+use Rattle.std.specs.Prelude.{◌≡◌, ℕ, List, ◌++◌, Option, None, Some, Result, Ok, Err}
 use Rattle.history.specs.World.{World}
 use Rattle.command_text.specs.declared.fault.CommandFault.{CommandFault}
 use Rattle.command_text.specs.declared.fault.CommandFault.TheVariants as faults
+use Rattle.command_text.specs.declared.refusal.Refusal.{Refusal}
 use Rattle.command_text.specs.Tree.{CommandTree}
-use Rattle.line_meaning.specs.declared.question.Question.{Question}
-use Rattle.line_meaning.specs.Answering.{answer_lines, rows_of}
-use Rattle.line_meaning.specs.Fault.{question_refusal}
-use Rattle.line_meaning.specs.Reply.{ok_line}
+use Rattle.ftl_parser.specs.Tree.{QueryTree}
+use Rattle.line_meaning.specs.Answering.{answer_lines}
+use Rattle.line_meaning.specs.Ask.{ask_refusal, rows_asked}
+use Rattle.line_meaning.specs.Reply.{ok_line, rows_text}
 use Rattle.database.specs.declared.database.Database.{Database}
 use Rattle.database.specs.Attempt.{fault_told}
 use Rattle.database.specs.Keeping.{clock_of, world_of_database}
 
--- it is answered, refused, or wants memory where nothing refuses it
+-- it is stopped by its refusal, or wants memory where it has none
+abbrev pub IsStoppedBy : Option Refusal → CommandFault → Type 0
+IsStoppedBy refusal (faults.Refused r) = refusal ≡ Some r
+IsStoppedBy refusal faults.NoMemory = refusal ≡ None
+
 abbrev pub Tells : Database → CommandTree → List ℕ → List ℕ → Result (Unit {0}) CommandFault → Type 0
 Tells d c before after (Ok u) =
     (fault_told d c ≡ None) × (after ≡ before ++ (answer_lines (world_of_database d) (clock_of d) c ++ ok_line))
-Tells d c before after (Err (faults.Refused r)) = fault_told d c ≡ Some r
-Tells d c before after (Err faults.NoMemory) = fault_told d c ≡ None
+Tells d c before after (Err fault) = IsStoppedBy (fault_told d c) fault
 
--- the same of a question
-abbrev pub Asks : World → ℕ → ℕ → Question → List ℕ → List ℕ → Result (Unit {0}) CommandFault → Type 0
+-- the same of a query
+abbrev pub Asks : World → ℕ → ℕ → QueryTree → List ℕ → List ℕ → Result (Unit {0}) CommandFault → Type 0
 Asks w now span q before after (Ok u) =
-    (question_refusal w.history.catalog now span q ≡ None) × (after ≡ before ++ (rows_of w now span q ++ ok_line))
-Asks w now span q before after (Err (faults.Refused r)) = question_refusal w.history.catalog now span q ≡ Some r
-Asks w now span q before after (Err faults.NoMemory) = question_refusal w.history.catalog now span q ≡ None
+    (ask_refusal w now span q ≡ None)
+    × (after ≡ before ++ (rows_text w.history.catalog now (rows_asked w now span q) ++ ok_line))
+Asks w now span q before after (Err fault) = IsStoppedBy (ask_refusal w now span q) fault
 
 -- a refusal, and no want of memory
 abbrev pub IsRefused : CommandFault → Type 0

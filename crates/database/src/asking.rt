@@ -1,157 +1,210 @@
-//! Questions, the one form of query that is answered yet: their refusals and their answers.
-ghost use Rattle.std.specs.Prelude.{◌≡◌, ◌+◌, ◌≤◌, ◌++◌, ◌||◌, not, nat_lt, is_none, length, None, OnOk, IfErr};
-ghost use Rattle.std.specs.Str.{bytes_eq};
-ghost use Rattle.tick_set.specs.declared.spans.TheConstants.{LAST_TICK};
-ghost use Rattle.history.specs.Catalog.{names_in, number_of_class};
+//! Queries: why they are refused, and their answers.
+ghost use Rattle.std.specs.Prelude.{◌≡◌, ◌+◌, ◌≤◌, ◌++◌, None, min, map, IfErr, IfOk, IsOk, OnOk};
+ghost use Rattle.tick_set.specs.declared.spans.TheConstants.{LAST_TICK, SPAN_LIMIT};
+ghost use Rattle.formula.specs.Resolved.{IsResolved};
+ghost use Rattle.formula.specs.Tree.{query_view as resolved_view};
+ghost use Rattle.ftl_parser.specs.Lawful.{IsLawful};
+ghost use Rattle.ftl_parser.specs.Tree.{query_view, view};
+ghost use Rattle.ftl_typer.specs.Resolved.{class_place};
+ghost use Rattle.meaning.specs.Answer.{answer};
+ghost use Rattle.meaning.specs.Fits.{FitsItsClasses};
+ghost use Rattle.meaning.specs.Reads.{query_reads, sizes_of};
 ghost use Rattle.object_store.specs.Contents.{catalog_of};
-ghost use Rattle.line_meaning.specs.Answering.{rows_of};
-ghost use Rattle.line_meaning.specs.Fault.{is_past_span, kind_asked, question_refusal};
+ghost use Rattle.line_meaning.specs.Ask.{ask_refusal, capacity_of, is_past_span, product, query_in, refusal_by_type, size_refusal, span_limit};
+ghost use Rattle.line_meaning.specs.Looks.{most_reads};
+ghost use Rattle.line_meaning.specs.Reply.{rows_text};
 ghost use Rattle.reply_text.specs.Begins.{Begins};
-ghost use Rattle.database.specs.Finding.{found, kind_at};
-ghost use Rattle.database.specs.Keeping.{world_of_database};
-ghost use Rattle.database.specs.Telling.{Asks, IsRefused};
+ghost use Rattle.database.specs.Keeping.{TellsAcceptedWrites, world_of_database};
+ghost use Rattle.database.specs.Telling.{Asks, IsRefused, IsStoppedBy};
 
 use crate::database::Database;
-use crate::rows::{Sought, push_rows};
+use crate::rows::push_rows;
 use command_text::{CommandFault, Refusal};
 use fixed_point::Word;
-use line_meaning::Question;
-use motion::AttrKind;
-use object_store::{Class, ClassId, Store};
+use formula::RQuery;
+use ftl_parser::{Formula, FromPart, Query, most_names, nesting};
+use ftl_typer::{TypeFault, resolve};
+use kept_rows::BINDING_LIMIT;
+use line_meaning::{ASSIGNED_SPAN_LIMIT, CIRCLE_NAMES, CIRCLE_SPAN_LIMIT};
+use object_store::Schema;
 use reply_text::push_ok;
 use std::alloc::{AllocError, Global};
 use std::sync::ledger::Ledger;
 use steps::Steps;
 use tick_set::{LAST_TICK, SPAN_LIMIT, Window};
 
-/// The index and the kind of an attribute of a class.
-fn kind_at(name: &Word, class: &Class) -> Option<(usize, AttrKind)>
-    ensures { result ≡ kind_at name.now class.now }
+/// The longest span of a formula, in ticks.
+#[tactic(auto, using(crate::proofs::AskLemmas::some_saturated))]
+fn span_limit(formula: &Formula) -> u32
+    ensures { result ≡ span_limit (view formula.now) }
 {
-    let index = class.attr_of(name)?;
-    let attribute = class.attrs().get(index)?;
-    Some((index, attribute.kind))
-}
-
-/// The number of the class of a question, the index of its attribute and its kind. None where one of them
-/// isn't known.
-fn found(store: &Store, question: &Question) -> Option<(ClassId, (usize, AttrKind))>
-    ensures { result ≡ found store.now.classes question.now }
-{
-    let schema = store.schema();
-    let number = schema.class_of(&question.class)?;
-    let class = schema.class(number)?;
-    let attribute = kind_at(&question.asked.attribute, class)?;
-    Some((number, attribute))
-}
-
-/// The kind of the attribute that is asked.
-#[tactic(auto, using(crate::proofs::FindingLemmas::kind_steps))]
-fn kind_asked(store: &Store, question: &Question) -> Option<AttrKind>
-    ensures { result ≡ kind_asked (catalog_of store.now) question.now }
-{
-    match found(store, question) {
-        Some((_, (_, kind))) => Some(kind),
-        None => None,
+    if nesting(formula) > 0 {
+        ASSIGNED_SPAN_LIMIT
+    } else if most_names(formula) >= CIRCLE_NAMES {
+        CIRCLE_SPAN_LIMIT
+    } else {
+        SPAN_LIMIT
     }
 }
 
-/// Whether the target or the subject isn't the variable, or the attribute isn't known.
-fn names_unknown(question: &Question, kind: Option<AttrKind>) -> bool
-    ensures { result ≡ (not (bytes_eq question.now.target question.now.variable)
-        || not (bytes_eq question.now.asked.subject question.now.variable) || is_none kind) }
-{
-    question.target != question.variable
-        || question.asked.subject != question.variable
-        || kind.is_none()
-}
-
 /// Whether a span is too long, or reaches past the last tick.
-fn is_past_span(now: u32, span: u32) -> bool
+fn is_past_span(now: u32, span: u32, formula: &Formula) -> bool
     requires now { now ≤ LAST_TICK }
     requires span { span ≤ LAST_TICK }
-    ensures { result ≡ is_past_span now span }
+    ensures { result ≡ is_past_span now span (view formula.now) }
 {
-    span > SPAN_LIMIT || now + span > LAST_TICK
+    span > span_limit(formula) || now + span > LAST_TICK
 }
 
-/// The first refusal of a question.
-fn question_refusal(store: &Store, now: u32, span: u32, question: &Question) -> Option<Refusal>
-    requires now { now ≤ LAST_TICK }
-    requires span { span ≤ LAST_TICK }
-    ensures { result ≡ question_refusal (catalog_of store.now) now span question.now }
+/// The capacity of a class by its name. Where the class isn't there the first one stands for it, as in a
+/// query by number; no such query is judged by its capacities.
+fn capacity_of(schema: &Schema, class: &Word) -> u32
+    ensures { result ≡ capacity_of schema.now (class_place schema.now class.now) }
 {
-    let kind = kind_asked(store, question);
-    if names_unknown(question, kind) {
-        Some(Refusal::UnknownName)
-    } else if kind == Some(AttrKind::Text) {
-        Some(Refusal::WrongKind)
-    } else if is_past_span(now, span) {
+    let number = schema.class_of(class).unwrap_or(0);
+    match schema.class(number) {
+        Some(class) => class.capacity(),
+        None => 0,
+    }
+}
+
+/// How many bindings there may come to be of variables of these classes, or the largest number.
+fn most_bindings(schema: &Schema, parts: &[FromPart]) -> u64
+    ensures { result ≡ min (product (map (capacity_of schema.now) (map (λ part. class_place schema.now part.class) parts.now))) u64.MAX }
+{
+    let mut bindings: u64 = 1;
+    let mut rest = parts;
+    'parts: while let Some((part, later)) = rest.split_first() {
+        bindings = bindings.saturating_mul(u64::from(capacity_of(schema, &part.class)));
+        rest = later;
+    }
+    bindings
+}
+
+/// Why a query whose names, kinds and bounds are right is refused.
+#[tactic(auto, using(crate::proofs::AskLemmas::many_saturated))]
+fn size_refusal(database: &Database, span: u32, query: &Query) -> Option<Refusal>
+    requires now { database.now.clock ≤ LAST_TICK }
+    requires span { span ≤ LAST_TICK }
+    ensures { result ≡ size_refusal (world_of_database database.now) database.now.clock span (query_view query.now) }
+{
+    let schema = database.store.schema();
+    if is_past_span(database.clock, span, &query.formula) {
         Some(Refusal::SpanRange)
+    } else if most_bindings(schema, query.from.items()) > u64::from(BINDING_LIMIT) {
+        Some(Refusal::BindingLimit)
     } else {
         None
     }
 }
 
-/// Writes the rows that answer a question, from now to the expiry. On error `out` still
-/// begins with its old contents.
-fn push_answer<L: Ledger>(
+/// The refusal of a fault of names, kinds or bounds. None of want of memory.
+fn refusal_by_type(fault: TypeFault) -> Option<Refusal>
+    ensures { result ≡ refusal_by_type fault }
+{
+    match fault {
+        TypeFault::UnknownName(_) => Some(Refusal::UnknownName),
+        TypeFault::NameTaken(_) => Some(Refusal::NameTaken),
+        TypeFault::WrongKind(_) => Some(Refusal::WrongKind),
+        TypeFault::TermRange(_) => Some(Refusal::TermRange),
+        TypeFault::NoMemory => None,
+    }
+}
+
+/// The query by number, where nothing refuses it. Its span and its classes are judged before it is made, so
+/// that want of memory is told only where nothing refuses it.
+fn judged(
     alloc: Global,
     database: &Database,
     span: u32,
-    question: &Question,
+    query: &Query,
+) -> Result<RQuery, CommandFault>
+    requires lawful { IsLawful (query_view query.now) }
+    requires now { database.now.clock ≤ LAST_TICK }
+    requires span { span ≤ LAST_TICK }
+    ensures query { IfOk result (λ q. resolved_view q ≡ query_in (world_of_database database.now) (query_view query.now)) }
+    ensures sound { IfOk result (λ q. IsResolved (resolved_view q)) }
+    ensures fits { IfOk result (λ q. FitsItsClasses (world_of_database database.now) (resolved_view q)) }
+    ensures right { IsOk result → ask_refusal (world_of_database database.now) database.now.clock span (query_view query.now) ≡ None }
+    ensures cause { IfErr result (λ fault.
+        IsStoppedBy (ask_refusal (world_of_database database.now) database.now.clock span (query_view query.now)) fault) }
+{
+    let size = size_refusal(database, span, query);
+    match resolve(alloc, query, database.store.schema(), &database.regions) {
+        Ok(resolved) => match size {
+            Some(refusal) => Err(CommandFault::Refused(refusal)),
+            None => Ok(resolved),
+        },
+        Err(fault) => match refusal_by_type(fault).or(size) {
+            Some(refusal) => Err(CommandFault::Refused(refusal)),
+            None => Err(CommandFault::NoMemory),
+        },
+    }
+}
+
+/// Writes the rows that answer a query, from now to the expiry. On error `out` still begins with its old
+/// contents.
+fn push_answer<L: Ledger, M: Ledger>(
+    alloc: Global,
+    database: &Database,
+    span: u32,
+    query: &RQuery,
     reads: &mut Steps<L>,
+    probes: &mut Steps<M>,
     out: &mut Vec<u8>,
 ) -> Result<(), AllocError>
-    requires accepted { question_refusal (catalog_of database.now.store) database.now.clock span question.now ≡ None }
-    requires in_range { database.now.clock ≤ LAST_TICK }
-    ensures ok { OnOk result (out.new.items ≡ out.old.items ++ rows_of (world_of_database database.now) database.now.clock span question.now) }
+    requires accepted { TellsAcceptedWrites database.now }
+    requires resolved { IsResolved (resolved_view query.now) }
+    requires fits { FitsItsClasses (world_of_database database.now) (resolved_view query.now) }
+    requires short { span ≤ SPAN_LIMIT }
+    requires reached { database.now.clock + span ≤ LAST_TICK }
+    ensures ok { OnOk result (out.new.items ≡ out.old.items ++ rows_text (catalog_of database.now.store) database.now.clock
+        (answer (world_of_database database.now) (resolved_view query.now) database.now.clock (database.now.clock + span))) }
     ensures begins { Begins out.old.items out.new.items }
     ensures least { reads.old ≤ reads.new }
-    ensures most { reads.new ≤ reads.old + length (names_in (catalog_of database.now.store)
-        (number_of_class (catalog_of database.now.store) question.now.class)) }
+    ensures most { reads.new ≤ reads.old
+        + query_reads (sizes_of (catalog_of database.now.store) (resolved_view query.now)) (span + 1) (resolved_view query.now) }
 {
-    let store = &database.store;
     let window = Window {
         lo: database.clock,
         hi: database.clock + span,
     };
-    match found(store, question) {
-        Some((class, (index, _))) => {
-            let asked = question.asked;
-            let sought = Sought {
-                index,
-                asked,
-                window,
-            };
-            push_rows(alloc, store, store.class_names(class), &sought, reads, out)
-        }
-        None => unreachable!(),
-    }
+    let store = &database.store;
+    let answer = answers::ask(
+        alloc,
+        query,
+        store,
+        &database.regions,
+        window,
+        reads,
+        probes,
+    )?;
+    push_rows(alloc, store, database.clock, answer.rows(), out)
 }
 
-/// Answers a question. On want of memory `out` still begins with its old contents.
-pub(crate) fn ask<L: Ledger>(
+/// Answers a query. On want of memory `out` still begins with its old contents.
+pub(crate) fn ask<L: Ledger, M: Ledger>(
     alloc: Global,
     database: &Database,
     span: u32,
-    question: &Question,
+    query: &Query,
     reads: &mut Steps<L>,
+    probes: &mut Steps<M>,
     out: &mut Vec<u8>,
 ) -> Result<(), CommandFault>
+    requires lawful { IsLawful (query_view query.now) }
     requires span { span ≤ LAST_TICK }
     requires in_range { database.now.clock ≤ LAST_TICK }
-    ensures asked { Asks (world_of_database database.now) database.now.clock span question.now out.old.items out.new.items result }
+    requires accepted { TellsAcceptedWrites database.now }
+    ensures asked { Asks (world_of_database database.now) database.now.clock span (query_view query.now) out.old.items out.new.items result }
     ensures begins { Begins out.old.items out.new.items }
     ensures least { reads.old ≤ reads.new }
-    ensures most { reads.new ≤ reads.old + length (names_in (catalog_of database.now.store)
-        (number_of_class (catalog_of database.now.store) question.now.class)) }
+    ensures most { reads.new ≤ reads.old + most_reads (world_of_database database.now) span (query_view query.now) }
     ensures unread { IfErr result (λ fault. IsRefused fault → reads.new ≡ reads.old) }
+    ensures unprobed { IfErr result (λ fault. IsRefused fault → probes.new ≡ probes.old) }
 {
-    if let Some(refusal) = question_refusal(&database.store, database.clock, span, question) {
-        return Err(CommandFault::Refused(refusal));
-    }
-    push_answer(alloc, database, span, question, reads, out)?;
+    let query = judged(alloc, database, span, query)?;
+    push_answer(alloc, database, span, &query, reads, probes, out)?;
     push_ok(out)?;
     Ok(())
 }

@@ -134,4 +134,6 @@ fn count_probes<S: Source, K: Sink, F: Shelf, L: Ledger, M: Ledger>(
 }
 
 #[cfg(test)]
+mod large_tests;
+#[cfg(test)]
 mod tests;

@@ -16,17 +16,17 @@ const OUTPUT: &[u8] = b"ok\nok\nlater a : 12..30\nok\n";
 // What is given to a run: the limit, how many words, the input, the size of the pieces in which bytes
 // come and go, and the numbers of the reads and the writes that fail.
 #[derive(Clone, Copy)]
-struct Trial<'a> {
-    limit: u64,
-    words: usize,
-    input: &'a [u8],
-    cut: usize,
+pub(super) struct Trial<'a> {
+    pub(super) limit: u64,
+    pub(super) words: usize,
+    pub(super) input: &'a [u8],
+    pub(super) cut: usize,
     reads: &'a [u64],
     writes: &'a [u64],
     ghost moves: { 0 < cut },
 }
 
-fn plain_trial(input: &[u8]) -> Trial<'_> {
+pub(super) fn plain_trial(input: &[u8]) -> Trial<'_> {
     Trial {
         limit: 1_000_000,
         words: 1,
@@ -94,7 +94,7 @@ fn with_probes<L: Ledger, M: Ledger>(
 }
 
 // The run ends with this status, and has written this.
-fn assert_ends(
+pub(super) fn assert_ends(
     rt: &impl Abort,
     host: &HostRuntime,
     trial: &Trial,

@@ -15,11 +15,17 @@ use Rattle.ftl_lexer.specs.Cut.{Lexeme, cut}
 abbrev pub bare : List ℕ → Token → Lexeme
 bare line t = (t.kind, bytes_of_token line t)
 
-cut_before : (line : List ℕ) (token : Token) (rest : Result (List Token) ℕ) → option_map (λ later. bare line token ∷ later) (option_map (map (bare line)) (result_ok rest)) ≡ option_map (map (bare line)) (result_ok (before token rest))
+cut_before : (line : List ℕ) (token : Token) (rest : Result (List Token) ℕ)
+    → option_map (λ later. bare line token ∷ later) (option_map (map (bare line)) (result_ok rest))
+    ≡ option_map (map (bare line)) (result_ok (before token rest))
 cut_before line token (Ok tokens) = refl
 cut_before line token (Err place) = refl
 
-cut_token : (line : List ℕ) (place b : ℕ) (bytes : List ℕ) (found : Option (Kind × ℕ)) → b ∷ bytes ≡ drop place line → token_at (b ∷ bytes) ≡ found → ((n : ℕ) → cut n bytes ≡ option_map (map (bare line)) (result_ok (lexed n (place + 1) bytes))) → option_and_then (λ t. option_map (λ rest. (t.0, take t.1 (b ∷ bytes)) ∷ rest) (cut (t.1 - 1) bytes)) found ≡ option_map (map (bare line)) (result_ok (option_map_or (λ t. before (record { kind = t.0; lo = place; hi = place + t.1 }) (lexed (t.1 - 1) (place + 1) bytes)) found (Err place)))
+cut_token : (line : List ℕ) (place b : ℕ) (bytes : List ℕ) (found : Option (Kind × ℕ)) → b ∷ bytes ≡ drop place line → token_at (b ∷ bytes)
+    ≡ found → ((n : ℕ) → cut n bytes ≡ option_map (map (bare line)) (result_ok (lexed n (place + 1) bytes)))
+    → option_and_then (λ t. option_map (λ rest. (t.0, take t.1 (b ∷ bytes)) ∷ rest) (cut (t.1 - 1) bytes)) found
+    ≡ option_map (map (bare line)) (result_ok (option_map_or
+    (λ t. before (record { kind = t.0; lo = place; hi = place + t.1 }) (lexed (t.1 - 1) (place + 1) bytes)) found (Err place)))
 cut_token line place b bytes None e h behind = refl
 cut_token line place b bytes (Some t) e h behind =
     let token : Token = record { kind = t.0; lo = place; hi = place + t.1 } in
@@ -28,7 +34,8 @@ cut_token line place b bytes (Some t) e h behind =
     rw (count, ← e) refl in
     rw (bytes_of, behind (t.1 - 1)) (cut_before line token (lexed (t.1 - 1) (place + 1) bytes))
 
-cut_lexed : (line : List ℕ) (skip place : ℕ) (bytes : List ℕ) → bytes ≡ drop place line → cut skip bytes ≡ option_map (map (bare line)) (result_ok (lexed skip place bytes))
+cut_lexed : (line : List ℕ) (skip place : ℕ) (bytes : List ℕ) → bytes ≡ drop place line → cut skip bytes
+    ≡ option_map (map (bare line)) (result_ok (lexed skip place bytes))
 unfolding lexed cut
 cut_lexed line skip place [] e = refl
 cut_lexed line (suc skip) place (b ∷ bytes) e = cut_lexed line skip (place + 1) bytes (ap (drop 1) e ∙ drop-drop 1 place line)
@@ -42,7 +49,8 @@ cut_lexed line zero place (b ∷ bytes) e =
 pub cut_is : (line : List ℕ) → cut 0 line ≡ option_map (map (bare line)) (result_ok (lexed 0 0 line))
 cut_is line = cut_lexed line 0 0 line refl
 
-from_some : (f : List Token → List Lexeme) (r : Result (List Token) ℕ) (all : List Lexeme) → option_map f (result_ok r) ≡ Some all → (result_err r ≡ None) × (f (result_unwrap_or r []) ≡ all)
+from_some : (f : List Token → List Lexeme) (r : Result (List Token) ℕ) (all : List Lexeme) → option_map f (result_ok r) ≡ Some all
+    → (result_err r ≡ None) × (f (result_unwrap_or r []) ≡ all)
 from_some f (Ok tokens) all h = let same : f tokens ≡ all = cc in (refl, same)
 from_some f (Err place) all h = let bad : None ≡ Some all = h in cc
 

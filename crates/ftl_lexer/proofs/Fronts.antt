@@ -31,7 +31,7 @@ digit_is_no_blank b h = grind (arith, nat_tests)
 digit_is_no_name : (b : ℕ) → is_ascii_digit b ≡ true → begins_name b ≡ false
 digit_is_no_name b h = grind (arith, nat_tests)
 
-quote_is : (b : ℕ) → is_quote b ≡ true → b ≡ 34
+pub quote_is : (b : ℕ) → is_quote b ≡ true → b ≡ 34
 quote_is b h = grind (arith, nat_tests)
 
 -- the part of a choice that its test picks
@@ -49,11 +49,13 @@ cut_skip zero bytes = refl
 cut_skip (suc skip) [] = refl
 cut_skip (suc skip) (b ∷ bytes) = cut_skip skip bytes
 
-cut_front : (b : ℕ) (bytes rest : List ℕ) (kind : Kind) → is_blank b ≡ false → token_at (b ∷ bytes ++ rest) ≡ Some (kind, suc (length bytes)) → cut 0 (b ∷ bytes ++ rest) ≡ put_before (kind, b ∷ bytes) (cut 0 rest)
+cut_front : (b : ℕ) (bytes rest : List ℕ) (kind : Kind) → is_blank b ≡ false → token_at (b ∷ bytes ++ rest)
+    ≡ Some (kind, suc (length bytes)) → cut 0 (b ∷ bytes ++ rest) ≡ put_before (kind, b ∷ bytes) (cut 0 rest)
 unfolding cut
 cut_front b bytes rest kind blank h =
     let less : suc (length bytes) - 1 ≡ length bytes = omega arith in
-    let behind : cut (length bytes) (bytes ++ rest) ≡ cut 0 rest = cut_skip (length bytes) (bytes ++ rest) ∙ ap (cut 0) (drop_at bytes rest (length bytes) refl) in
+    let behind : cut (length bytes) (bytes ++ rest) ≡ cut 0 rest = cut_skip (length bytes) (bytes ++ rest)
+    ∙ ap (cut 0) (drop_at bytes rest (length bytes) refl) in
     rw (blank, h, less, behind, take_at bytes rest (length bytes) refl) refl
 
 -- ---- names and reserved words
@@ -65,7 +67,8 @@ prefix_len_all p (b ∷ bytes) rest h e =
     let parts = and_parts (p b) (list_all p bytes) h in
     rw (parts.0, prefix_len_all p bytes rest parts.1 e) (one-add (length bytes))
 
-token_word : (b : ℕ) (bytes rest : List ℕ) → begins_name b ≡ true → list_all continues_name bytes ≡ true → name_len rest ≡ 0 → token_at (b ∷ bytes ++ rest) ≡ Some (word_kind (b ∷ bytes), suc (length bytes))
+token_word : (b : ℕ) (bytes rest : List ℕ) → begins_name b ≡ true → list_all continues_name bytes ≡ true → name_len rest ≡ 0
+    → token_at (b ∷ bytes ++ rest) ≡ Some (word_kind (b ∷ bytes), suc (length bytes))
 unfolding token_at
 token_word b bytes rest begins all e =
     let word : token_at (b ∷ bytes ++ rest) ≡ Some (word_kind (take (name_len (b ∷ bytes ++ rest)) (b ∷ bytes ++ rest)), name_len (b ∷ bytes ++ rest)) =
@@ -102,18 +105,19 @@ number_len_append bytes rest d f =
     ∙ (ap (λ x. digits_len bytes + fraction_len x) (drop-append-le (digits_len bytes) bytes rest (prefix_len-le-length is_ascii_digit bytes))
     ∙ ap (λ n. digits_len bytes + n) (fraction_len_append (drop (digits_len bytes) bytes) rest d f))
 
-token_number : (b : ℕ) (bytes : List ℕ) → is_ascii_digit b ≡ true → token_at (b ∷ bytes) ≡ Some (Number, number_len (b ∷ bytes))
+pub token_number : (b : ℕ) (bytes : List ℕ) → is_ascii_digit b ≡ true → token_at (b ∷ bytes) ≡ Some (Number, number_len (b ∷ bytes))
 unfolding token_at
 token_number b bytes h = passed (begins_name b) _ _ (digit_is_no_name b h) ∙ chosen (is_ascii_digit b) _ _ h
 
-begins_with_digit : (b : ℕ) (bytes : List ℕ) → not (eqb (digits_len (b ∷ bytes)) 0) ≡ true → is_ascii_digit b ≡ true
+pub begins_with_digit : (b : ℕ) (bytes : List ℕ) → not (eqb (digits_len (b ∷ bytes)) 0) ≡ true → is_ascii_digit b ≡ true
 begins_with_digit b bytes h =
     elim (cases_Bool (is_ascii_digit b)) [
       | inl digit ↦ digit
       | inr other ↦ let bad : false ≡ true = rw other at h in cc
     ]
 
-pub cut_number : (number rest : List ℕ) → IsTrue (is_number number) → digits_len rest ≡ 0 → fraction_len rest ≡ 0 → cut 0 (number ++ rest) ≡ put_before (Number, number) (cut 0 rest)
+pub cut_number : (number rest : List ℕ) → IsTrue (is_number number) → digits_len rest ≡ 0 → fraction_len rest ≡ 0 → cut 0 (number ++ rest)
+    ≡ put_before (Number, number) (cut 0 rest)
 cut_number [] rest h d f = let bad : false ≡ true = h in cc
 cut_number (b ∷ bytes) rest h d f =
     let parts = and_parts (not (eqb (digits_len (b ∷ bytes)) 0)) (eqb (number_len (b ∷ bytes)) (length (b ∷ bytes))) h in
@@ -131,13 +135,14 @@ not_false false h = cc
 stops_at_quote : (bytes : List ℕ) → position_or_len is_quote bytes < length bytes → is_quote (get_or bytes (position_or_len is_quote bytes) 0) ≡ true
 stops_at_quote bytes h = not_false _ (prefix_len_stops (λ b. not (is_quote b)) bytes 0 h)
 
-text_len_append : (bytes rest : List ℕ) (n : ℕ) → text_len bytes ≡ Some n → text_len (bytes ++ rest) ≡ Some n
+pub text_len_append : (bytes rest : List ℕ) (n : ℕ) → text_len bytes ≡ Some n → text_len (bytes ++ rest) ≡ Some n
 text_len_append bytes rest n h =
     elim (cases_Bool (ltb (position_or_len is_quote bytes) (length bytes))) [
       | inl closed ↦
           let within : position_or_len is_quote bytes < length bytes = ltb-true (position_or_len is_quote bytes) (length bytes) closed in
           let found : position_or_len is_quote bytes + 2 ≡ n = some_is (rw closed at h) in
-          let inside : eqb (position_or_len is_quote bytes) (length bytes) ≡ false = ne_eqb (position_or_len is_quote bytes) (length bytes) (λ e. omega arith) in
+          let inside : eqb (position_or_len is_quote bytes) (length bytes) ≡ false =
+          ne_eqb (position_or_len is_quote bytes) (length bytes) (λ e. omega arith) in
           let same : position_or_len is_quote (bytes ++ rest) ≡ position_or_len is_quote bytes =
           prefix_len-append (λ x. not (is_quote x)) bytes rest ∙ passed (eqb (position_or_len is_quote bytes) (length bytes)) _ _ inside in
           let more : position_or_len is_quote bytes < length (bytes ++ rest) = omega (arith, length-append bytes rest) in
@@ -145,7 +150,7 @@ text_len_append bytes rest n h =
       | inr none ↦ absurd (none_is_some (rw none at h))
     ]
 
-token_quote : (bytes : List ℕ) → token_at (34 ∷ bytes) ≡ option_map (λ n. (Text, n)) (text_len bytes)
+pub token_quote : (bytes : List ℕ) → token_at (34 ∷ bytes) ≡ option_map (λ n. (Text, n)) (text_len bytes)
 unfolding token_at
 token_quote bytes = refl
 
@@ -166,7 +171,8 @@ quoted_form inner h =
     (refl, text_len_at (inner ++ 34 ∷ []) (length inner) place (omega arith) ∙ ap (λ m. Some m) count)
 
 -- what stands between the quotes
-pub inside_quotes : (bytes : List ℕ) → text_len bytes ≡ Some (suc (length bytes)) → (bytes ≡ take (length bytes - 1) bytes ++ 34 ∷ []) × IsTrue (has_no_quote (take (length bytes - 1) bytes)) × (0 < length bytes)
+pub inside_quotes : (bytes : List ℕ) → text_len bytes ≡ Some (suc (length bytes)) → (bytes ≡ take (length bytes - 1) bytes ++ 34 ∷ [])
+    × IsTrue (has_no_quote (take (length bytes - 1) bytes)) × (0 < length bytes)
 inside_quotes bytes h =
     elim (cases_Bool (ltb (position_or_len is_quote bytes) (length bytes))) [
       | inl closed ↦
@@ -205,9 +211,11 @@ unfolding token_at symbols
 alone [] = (refl, (refl, (refl, (refl, (refl, (refl, (refl, (refl, (refl, (refl, tt))))))))))
 alone (c ∷ rest) = (refl, (refl, (refl, (refl, (refl, (refl, (refl, (refl, (refl, (refl, tt))))))))))
 
-pub cut_symbol : (symbol : ℕ) (rest : List ℕ) (code : ℕ) → IsTrue (stands_alone symbol) → code_of symbols (symbol ∷ []) ≡ Some code → cut 0 (symbol ∷ rest) ≡ put_before (Sym code, symbol ∷ []) (cut 0 rest)
+pub cut_symbol : (symbol : ℕ) (rest : List ℕ) (code : ℕ) → IsTrue (stands_alone symbol) → code_of symbols (symbol ∷ []) ≡ Some code
+    → cut 0 (symbol ∷ rest) ≡ put_before (Sym code, symbol ∷ []) (cut 0 rest)
 cut_symbol symbol rest code h e =
-    let blank : is_blank symbol ≡ false = of_each (λ b. is_blank b ≡ false) (codes "()[],.+-*=") symbol (refl, (refl, (refl, (refl, (refl, (refl, (refl, (refl, (refl, (refl, tt)))))))))) h in
+    let blank : is_blank symbol ≡ false = of_each (λ b. is_blank b ≡ false) (codes "()[],.+-*=") symbol
+    (refl, (refl, (refl, (refl, (refl, (refl, (refl, (refl, (refl, (refl, tt)))))))))) h in
     let token : token_at (symbol ∷ rest) ≡ Some (Sym code, 1) =
     of_each (λ b. token_at (b ∷ rest) ≡ single_symbol b) (codes "()[],.+-*=") symbol (alone rest) h ∙ ap (λ found. option_map (λ c. (Sym c, 1)) found) e in
     cut_front symbol [] rest (Sym code) blank token
@@ -218,7 +226,8 @@ pub cut_blank : (b : ℕ) (rest : List ℕ) → IsTrue (is_blank b) → cut 0 (b
 unfolding cut
 cut_blank b rest h = rw h refl
 
-pub unquoted_parts : (text : List ℕ) → IsQuoted text → (text ≡ 34 ∷ take (length text - 1 - 1) (drop 1 text) ++ 34 ∷ []) × IsTrue (has_no_quote (take (length text - 1 - 1) (drop 1 text)))
+pub unquoted_parts : (text : List ℕ) → IsQuoted text → (text ≡ 34 ∷ take (length text - 1 - 1) (drop 1 text) ++ 34 ∷ [])
+    × IsTrue (has_no_quote (take (length text - 1 - 1) (drop 1 text)))
 unquoted_parts [] h = absurd h
 unquoted_parts (b ∷ bytes) h =
     let parts = inside_quotes bytes h.1 in

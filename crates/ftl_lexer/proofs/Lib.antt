@@ -1,5 +1,6 @@
 pub mod Cuts
 pub mod Fronts
+pub mod Longest
 pub mod Shapes
 pub mod Spans
 pub mod Steps

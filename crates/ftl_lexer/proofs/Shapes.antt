@@ -28,7 +28,7 @@ none_pass : (p : ℕ → Bool) (b : ℕ) (bytes : List ℕ) (n : ℕ) → p b �
 none_pass p b bytes zero h = refl
 none_pass p b bytes (suc n) h = rw h refl
 
-prefix_len_take : (p : ℕ → Bool) (bytes : List ℕ) (more : ℕ) → prefix_len p (take (prefix_len p bytes + more) bytes) ≡ prefix_len p bytes
+pub prefix_len_take : (p : ℕ → Bool) (bytes : List ℕ) (more : ℕ) → prefix_len p (take (prefix_len p bytes + more) bytes) ≡ prefix_len p bytes
 prefix_len_take p [] more = ap (prefix_len p) (take_all (0 + more) [] (omega arith))
 prefix_len_take p (b ∷ bytes) more =
     elim (cases_Bool (p b)) [
@@ -51,7 +51,8 @@ all_pass p (b ∷ bytes) =
 
 -- ---- the forms
 
-word_form : (word : List ℕ) (found : Option ℕ) → is_word word ≡ true → code_of reserved_words word ≡ found → HasForm (option_map_or (λ code. Key code) found Name) word
+word_form : (word : List ℕ) (found : Option ℕ) → is_word word ≡ true → code_of reserved_words word ≡ found
+    → HasForm (option_map_or (λ code. Key code) found Name) word
 word_form word None h e = (h, e)
 word_form word (Some code) h e = e
 
@@ -110,7 +111,8 @@ quoted_is bytes n h =
 
 -- ---- a token's form
 
-text_form : (b : ℕ) (bytes : List ℕ) (found : Option ℕ) (t : Kind × ℕ) → is_quote b ≡ true → text_len bytes ≡ found → option_map {U = Kind × ℕ} (λ n. (Text, n)) found ≡ Some t → HasForm t.0 (take t.1 (b ∷ bytes))
+text_form : (b : ℕ) (bytes : List ℕ) (found : Option ℕ) (t : Kind × ℕ) → is_quote b ≡ true → text_len bytes ≡ found
+    → option_map {U = Kind × ℕ} (λ n. (Text, n)) found ≡ Some t → HasForm t.0 (take t.1 (b ∷ bytes))
 text_form b bytes None t q e h = absurd (none_is_some h)
 text_form b bytes (Some n) t q e h =
     let quoted = quoted_is bytes n e in
@@ -118,11 +120,14 @@ text_form b bytes (Some n) t q e h =
     subst (λ (u : Kind × ℕ). HasForm u.0 (take u.1 (b ∷ bytes))) (some_is h)
     (subst (λ m. IsQuoted (take m (b ∷ bytes))) (sym count) (q, quoted.1))
 
-single_form : (first : ℕ) (bytes : List ℕ) (found : Option ℕ) (t : Kind × ℕ) → code_of symbols (first ∷ []) ≡ found → option_map {U = Kind × ℕ} (λ code. (Sym code, 1)) found ≡ Some t → HasForm t.0 (take t.1 (first ∷ bytes))
+single_form : (first : ℕ) (bytes : List ℕ) (found : Option ℕ) (t : Kind × ℕ) → code_of symbols (first ∷ []) ≡ found
+    → option_map {U = Kind × ℕ} (λ code. (Sym code, 1)) found ≡ Some t → HasForm t.0 (take t.1 (first ∷ bytes))
 single_form first bytes None t e h = absurd (none_is_some h)
 single_form first bytes (Some code) t e h = subst (λ (u : Kind × ℕ). HasForm u.0 (take u.1 (first ∷ bytes))) (some_is h) e
 
-pair_form : (first second : ℕ) (bytes : List ℕ) (found : Option ℕ) (t : Kind × ℕ) → code_of symbols (first ∷ second ∷ []) ≡ found → option_map_or {U = Option (Kind × ℕ)} (λ code. Some (Sym code, 2)) found (single_symbol first) ≡ Some t → HasForm t.0 (take t.1 (first ∷ second ∷ bytes))
+pair_form : (first second : ℕ) (bytes : List ℕ) (found : Option ℕ) (t : Kind × ℕ) → code_of symbols (first ∷ second ∷ []) ≡ found
+    → option_map_or {U = Option (Kind × ℕ)} (λ code. Some (Sym code, 2)) found (single_symbol first) ≡ Some t
+    → HasForm t.0 (take t.1 (first ∷ second ∷ bytes))
 pair_form first second bytes None t e h = single_form first (second ∷ bytes) (code_of symbols (first ∷ [])) t refl h
 pair_form first second bytes (Some code) t e h = subst (λ (u : Kind × ℕ). HasForm u.0 (take u.1 (first ∷ second ∷ bytes))) (some_is h) e
 
@@ -156,11 +161,14 @@ token_form (b ∷ bytes) t h =
 
 -- ---- the tokens of a line
 
-form_before : (first : Lexeme) (rest : Option (List Lexeme)) (all : List Lexeme) → HasForm first.0 first.1 → option_map (λ later. first ∷ later) rest ≡ Some all → ((later : List Lexeme) → rest ≡ Some later → HaveForms later) → HaveForms all
+form_before : (first : Lexeme) (rest : Option (List Lexeme)) (all : List Lexeme) → HasForm first.0 first.1
+    → option_map (λ later. first ∷ later) rest ≡ Some all → ((later : List Lexeme) → rest ≡ Some later → HaveForms later) → HaveForms all
 form_before first None all f h behind = absurd (none_is_some h)
 form_before first (Some later) all f h behind = subst HaveForms (some_is h) (f, behind later refl)
 
-form_found : (b : ℕ) (bytes : List ℕ) (found : Option (Kind × ℕ)) (all : List Lexeme) → token_at (b ∷ bytes) ≡ found → option_and_then (λ t. option_map (λ rest. (t.0, take t.1 (b ∷ bytes)) ∷ rest) (cut (t.1 - 1) bytes)) found ≡ Some all → ((n : ℕ) (later : List Lexeme) → cut n bytes ≡ Some later → HaveForms later) → HaveForms all
+form_found : (b : ℕ) (bytes : List ℕ) (found : Option (Kind × ℕ)) (all : List Lexeme) → token_at (b ∷ bytes) ≡ found
+    → option_and_then (λ t. option_map (λ rest. (t.0, take t.1 (b ∷ bytes)) ∷ rest) (cut (t.1 - 1) bytes)) found ≡ Some all
+    → ((n : ℕ) (later : List Lexeme) → cut n bytes ≡ Some later → HaveForms later) → HaveForms all
 form_found b bytes None all e h behind = absurd (none_is_some h)
 form_found b bytes (Some t) all e h behind = form_before (t.0, take t.1 (b ∷ bytes)) (cut (t.1 - 1) bytes) all (token_form (b ∷ bytes) t e) h (behind (t.1 - 1))
 
@@ -187,7 +195,8 @@ form_at [] i l f h = absurd (none_is_some h)
 form_at (x ∷ all) zero l f h = subst (λ (u : Lexeme). HasForm u.0 u.1) (some_is h) f.0
 form_at (x ∷ all) (suc i) l f h = form_at all i l f.1 h
 
-pub lexeme_form : (line : List ℕ) (i : ℕ) (token : Token) (text : List ℕ) → slice_get (tokens_of line) i ≡ Some token → slice_get (texts_of line) i ≡ Some text → HasForm token.kind text
+pub lexeme_form : (line : List ℕ) (i : ℕ) (token : Token) (text : List ℕ) → slice_get (tokens_of line) i ≡ Some token
+    → slice_get (texts_of line) i ≡ Some text → HasForm token.kind text
 lexeme_form line i token text found bytes =
     let same : bytes_of_token line token ≡ text =
     some_is (ap (option_map (bytes_of_token line)) (sym found) ∙ (sym (slice_get-map (bytes_of_token line) (tokens_of line) i) ∙ bytes)) in

@@ -84,7 +84,9 @@ one_byte (Some code) kind len h = sym (len_is (Sym code) kind 1 len h)
 pub single_symbol_within : (first : ℕ) (kind : Kind) (len : ℕ) → single_symbol first ≡ Some (kind, len) → len ≡ 1
 single_symbol_within first kind len h = one_byte (code_of symbols (first ∷ [])) kind len h
 
-two_bytes : (first : ℕ) (found : Option ℕ) (kind : Kind) (len more : ℕ) → option_map_or {U = Option (Kind × ℕ)} (λ code. Some (Sym code, 2)) found (single_symbol first) ≡ Some (kind, len) → (0 < len) × (len ≤ suc more + 1)
+two_bytes : (first : ℕ) (found : Option ℕ) (kind : Kind) (len more : ℕ)
+    → option_map_or {U = Option (Kind × ℕ)} (λ code. Some (Sym code, 2)) found (single_symbol first) ≡ Some (kind, len) → (0 < len)
+    × (len ≤ suc more + 1)
 two_bytes first None kind len more h = let one = single_symbol_within first kind len h in (omega arith, omega arith)
 two_bytes first (Some code) kind len more h = let two : 2 ≡ len = len_is (Sym code) kind 2 len h in (omega arith, omega arith)
 
@@ -92,7 +94,8 @@ pub symbol_at_within : (first : ℕ) (bytes : List ℕ) (kind : Kind) (len : ℕ
 symbol_at_within first [] kind len h = let one = single_symbol_within first kind len h in (omega arith, omega arith)
 symbol_at_within first (second ∷ bytes) kind len h = two_bytes first (code_of symbols (first ∷ second ∷ [])) kind len (length bytes) h
 
-text_within : (found : Option ℕ) (bytes : List ℕ) (kind : Kind) (len : ℕ) → text_len bytes ≡ found → option_map {U = Kind × ℕ} (λ n. (Text, n)) found ≡ Some (kind, len) → (0 < len) × (len ≤ suc (length bytes))
+text_within : (found : Option ℕ) (bytes : List ℕ) (kind : Kind) (len : ℕ) → text_len bytes ≡ found
+    → option_map {U = Kind × ℕ} (λ n. (Text, n)) found ≡ Some (kind, len) → (0 < len) × (len ≤ suc (length bytes))
 text_within None bytes kind len e h = absurd (none_is_some h)
 text_within (Some n) bytes kind len e h =
     let parts = len_is Text kind n len h in
@@ -175,7 +178,8 @@ front_is_no_blank b bytes front =
     ]
 
 -- a token's bytes are skipped
-behind : (place b : ℕ) (bytes : List ℕ) (len : ℕ) → 0 < len → len ≤ suc (length bytes) → lexed (len - 1) (place + 1) bytes ≡ lexed 0 (place + len) (drop len (b ∷ bytes))
+behind : (place b : ℕ) (bytes : List ℕ) (len : ℕ) → 0 < len → len ≤ suc (length bytes) → lexed (len - 1) (place + 1) bytes
+    ≡ lexed 0 (place + len) (drop len (b ∷ bytes))
 behind place b bytes zero some within = absurd (omega arith)
 behind place b bytes (suc len) some within =
     let less : suc len - 1 ≡ len = omega arith in
@@ -189,7 +193,9 @@ after first (Ok tokens) = Ok (first ++ tokens)
 after first (Err place) = Err place
 
 -- a token stands before those after it
-pub lexed_token : (place : ℕ) (bytes : List ℕ) (kind : Kind) (len : ℕ) → 0 < length bytes → prefix_len is_blank bytes ≡ 0 → token_at bytes ≡ Some (kind, len) → lexed 0 place bytes ≡ before (record { kind = kind; lo = place; hi = place + len }) (lexed 0 (place + len) (drop len bytes))
+pub lexed_token : (place : ℕ) (bytes : List ℕ) (kind : Kind) (len : ℕ) → 0 < length bytes → prefix_len is_blank bytes ≡ 0 → token_at bytes
+    ≡ Some (kind, len) → lexed 0 place bytes ≡ before (record { kind = kind; lo = place; hi = place + len })
+    (lexed 0 (place + len) (drop len bytes))
 unfolding lexed
 lexed_token place [] kind len full front h = absurd (omega arith)
 lexed_token place (b ∷ bytes) kind len full front h =
@@ -205,7 +211,8 @@ lexed_bad place (b ∷ bytes) full front h = rw (front_is_no_blank b bytes front
 -- ---- one step along a line
 
 -- nothing but blanks stand from a place on
-pub step_end : (line : List ℕ) (from blanks : ℕ) → blanks ≡ prefix_len is_blank (drop from line) → from + blanks ≡ length line → lexed 0 from (drop from line) ≡ Ok []
+pub step_end : (line : List ℕ) (from blanks : ℕ) → blanks ≡ prefix_len is_blank (drop from line) → from + blanks ≡ length line
+    → lexed 0 from (drop from line) ≡ Ok []
 unfolding lexed
 step_end line from blanks e h =
     lexed_blanks from (drop from line) ∙ rw (← e, drop-drop blanks from line, drop_all (from + blanks) line (omega arith)) refl
@@ -218,21 +225,27 @@ rest_full line at h = rw length-drop (omega arith)
 rest_front : (line : List ℕ) (from blanks : ℕ) → blanks ≡ prefix_len is_blank (drop from line) → prefix_len is_blank (drop (from + blanks) line) ≡ 0
 rest_front line from blanks e = rw (← drop-drop blanks from line, e) (blanks_end (drop from line))
 
-pub step_within : (line : List ℕ) (at : ℕ) (kind : Kind) (len : ℕ) → at ≤ length line → token_at (drop at line) ≡ Some (kind, len) → (0 < len) × (at + len ≤ length line)
+pub step_within : (line : List ℕ) (at : ℕ) (kind : Kind) (len : ℕ) → at ≤ length line → token_at (drop at line) ≡ Some (kind, len)
+    → (0 < len) × (at + len ≤ length line)
 step_within line at kind len h found =
     let within = token_at_within (drop at line) kind len found in
     (within.0, omega (arith, within.1, length-drop at line))
 
-pub step_token : (line : List ℕ) (from blanks : ℕ) (kind : Kind) (len : ℕ) → blanks ≡ prefix_len is_blank (drop from line) → from + blanks < length line → token_at (drop (from + blanks) line) ≡ Some (kind, len) → lexed 0 from (drop from line) ≡ before (record { kind = kind; lo = from + blanks; hi = from + blanks + len }) (lexed 0 (from + blanks + len) (drop (from + blanks + len) line))
+pub step_token : (line : List ℕ) (from blanks : ℕ) (kind : Kind) (len : ℕ) → blanks ≡ prefix_len is_blank (drop from line)
+    → from + blanks < length line → token_at (drop (from + blanks) line) ≡ Some (kind, len) → lexed 0 from (drop from line)
+    ≡ before (record { kind = kind; lo = from + blanks; hi = from + blanks + len })
+    (lexed 0 (from + blanks + len) (drop (from + blanks + len) line))
 step_token line from blanks kind len e h found =
     let within = step_within line (from + blanks) kind len (omega arith) found in
     lexed_blanks from (drop from line)
     ∙ (ap (λ n. lexed 0 (from + n) (drop n (drop from line))) (sym e)
     ∙ (ap (lexed 0 (from + blanks)) (drop-drop blanks from line)
     ∙ (lexed_token (from + blanks) (drop (from + blanks) line) kind len (rest_full line (from + blanks) h) (rest_front line from blanks e) found
-    ∙ ap (λ rest. before (record { kind = kind; lo = from + blanks; hi = from + blanks + len }) (lexed 0 (from + blanks + len) rest)) (drop-drop len (from + blanks) line))))
+    ∙ ap (λ rest. before (record { kind = kind; lo = from + blanks; hi = from + blanks + len }) (lexed 0 (from + blanks + len) rest))
+    (drop-drop len (from + blanks) line))))
 
-pub step_bad : (line : List ℕ) (from blanks : ℕ) → blanks ≡ prefix_len is_blank (drop from line) → from + blanks < length line → token_at (drop (from + blanks) line) ≡ None → lexed 0 from (drop from line) ≡ Err (from + blanks)
+pub step_bad : (line : List ℕ) (from blanks : ℕ) → blanks ≡ prefix_len is_blank (drop from line) → from + blanks < length line
+    → token_at (drop (from + blanks) line) ≡ None → lexed 0 from (drop from line) ≡ Err (from + blanks)
 step_bad line from blanks e h none =
     lexed_blanks from (drop from line)
     ∙ (ap (λ n. lexed 0 (from + n) (drop n (drop from line))) (sym e)
@@ -241,6 +254,7 @@ step_bad line from blanks e h none =
 
 -- ---- the empty line
 
-pub nothing_lexed : (line : List ℕ) (tokens : List Token) → line ≡ [] → tokens ≡ [] → (tokens ≡ tokens_of line) × (bad_place line ≡ None) × (length line ≤ 16384)
+pub nothing_lexed : (line : List ℕ) (tokens : List Token) → line ≡ [] → tokens ≡ [] → (tokens ≡ tokens_of line) × (bad_place line ≡ None)
+    × (length line ≤ 16384)
 unfolding lexed
 nothing_lexed line tokens l t = (t ∙ sym (ap tokens_of l), ap bad_place l, rw l (lit≤ tt))

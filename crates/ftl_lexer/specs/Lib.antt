@@ -1,6 +1,8 @@
+-- what is promised
 pub mod Cut
 pub mod Faults
 pub mod Forms
 pub mod Laws
 pub mod Tokens
-pub mod Walk
+-- how it is done
+pub mod inner

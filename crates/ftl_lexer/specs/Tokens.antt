@@ -17,7 +17,8 @@ lexed skip place [] = Ok []
 lexed (suc skip) place (b ∷ bytes) = lexed skip (place + 1) bytes
 lexed zero place (b ∷ bytes) =
     if is_blank b then lexed 0 (place + 1) bytes
-    else option_map_or (λ t. before (record { kind = t.0; lo = place; hi = place + t.1 }) (lexed (t.1 - 1) (place + 1) bytes)) (token_at (b ∷ bytes)) (Err place)
+    else option_map_or (λ t. before (record { kind = t.0; lo = place; hi = place + t.1 }) (lexed (t.1 - 1) (place + 1) bytes))
+    (token_at (b ∷ bytes)) (Err place)
 
 -- the tokens of a line, where each byte belongs to one or is blank
 abbrev pub tokens_of : List ℕ → List Token

@@ -1,6 +1,6 @@
 //! What holds of the tokens of every line. Each is a contract with nothing to run.
 
-ghost use Rattle.std.specs.Prelude.{◌≡◌, ℕ, List, [], ◌∷◌, ◌++◌, Some, None, length, IsTrue};
+ghost use Rattle.std.specs.Prelude.{◌≡◌, ℕ, List, [], ◌∷◌, ◌++◌, Some, None, IsTrue};
 ghost use Rattle.case_table.specs.Rows.{code_of};
 ghost use Rattle.case_table.specs.Language.{symbols};
 ghost use Rattle.ftl_lexer.specs.declared.buffer.TheConstants.{LEXER_LIMIT};
@@ -8,12 +8,15 @@ ghost use Rattle.ftl_lexer.specs.declared.kinds.Kind.TheVariants.{Number, Text, 
 ghost use Rattle.ftl_lexer.specs.Forms.{is_blank, name_len, digits_len, fraction_len, word_kind};
 ghost use Rattle.ftl_lexer.specs.Tokens.{bad_place, tokens_of, lexemes};
 ghost use Rattle.ftl_lexer.specs.Cut.{Lexeme, cut, put_before, is_word, is_number, has_no_quote, IsQuoted, stands_alone};
-ghost use Rattle.ftl_lexer.specs.Laws.{SpansAscend, HaveForms};
+ghost use Rattle.ftl_lexer.specs.Laws.{AreTokens};
 
-/// The spans of the tokens of a line ascend and lie in the line.
-#[tactic(auto, using(crate::proofs::Spans::spans_ascend))]
-pub fn spans_ascend()
-    ensures { (line : List ℕ) → SpansAscend 0 (length line) (tokens_of line) }
+/// The tokens of a line where each byte is blank or belongs to one: their spans ascend and lie in the
+/// line, each has the form of its kind, nothing but blanks stands between them, and none is the front of
+/// a longer one. Another line has no tokens.
+#[tactic(auto, using(crate::proofs::Spans::no_tokens))]
+pub fn tokens_are_tokens()
+    ensures tokens { (line : List ℕ) → bad_place line ≡ None → AreTokens line (tokens_of line) }
+    ensures none { (line : List ℕ) (place : ℕ) → bad_place line ≡ Some place → tokens_of line ≡ [] }
 {}
 
 /// The kinds and bytes of a line's tokens don't depend on places: they are what the line is cut into.
@@ -22,12 +25,6 @@ pub fn cut_gives_the_tokens()
     ensures from_cut { (line : List ℕ) (all : List Lexeme) → cut 0 line ≡ Some all
         → (bad_place line ≡ None) × (lexemes line ≡ all) }
     ensures to_cut { (line : List ℕ) → bad_place line ≡ None → cut 0 line ≡ Some (lexemes line) }
-{}
-
-/// Each token of a line has the form of its kind.
-#[tactic(auto, using(crate::proofs::Shapes::tokens_have_forms))]
-pub fn tokens_have_forms()
-    ensures { (line : List ℕ) → HaveForms (lexemes line) }
 {}
 
 /// What is written at the front of a text is read back, whatever stands after it: a name or a reserved

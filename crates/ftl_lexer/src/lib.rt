@@ -14,8 +14,7 @@ pub use buffer::{LEXER_LIMIT, Tokens};
 pub use fault::LexFault;
 pub use kinds::{Kind, Token};
 pub use laws::{
-    cut_gives_the_tokens, limits_in_numbers, spans_ascend, tokens_have_forms,
-    written_tokens_are_read_back,
+    cut_gives_the_tokens, limits_in_numbers, tokens_are_tokens, written_tokens_are_read_back,
 };
 pub use quotes::unquoted;
 pub use walk::bad_token;

@@ -2,7 +2,7 @@
 
 ghost use Rattle.std.specs.Prelude.{◌≡◌, ℕ, ◌≤◌, drop, length};
 ghost use Rattle.ftl_lexer.specs.Tokens.{bad_place};
-ghost use Rattle.ftl_lexer.specs.Walk.{Follows};
+ghost use Rattle.ftl_lexer.specs.inner.Walk.{Follows};
 
 use crate::Kind;
 use crate::scan::{blank_len, token_at};

@@ -16,7 +16,7 @@ use Rattle.ftl_parser.specs.Grammar.{from_part, term_of, signed, SpellsQuery, qu
 use Rattle.ftl_parser.specs.Number.{literal}
 use Rattle.ftl_parser.specs.Marks.{first_unfit}
 use Rattle.ftl_parser.specs.Sizes.{first_too_large}
-use Rattle.ftl_parser.specs.Machine.{start, parsed, taken}
+use Rattle.ftl_parser.specs.inner.Machine.{start, parsed, taken}
 
 abbrev pub o : List ℕ
 o = codes "o"
@@ -48,7 +48,8 @@ pub record ParsesSmallQueries : Type 0 where
   -- TRUE OR FALSE AND TRUE
   pub and_binds_more : parsed start (asking (TRUTH true ∷ OR ∷ TRUTH false ∷ AND ∷ TRUTH true ∷ [])) ≡ Some (asked (Shape.Or always (Shape.And never always)))
   -- TRUE AND FALSE AND TRUE
-  pub and_to_the_left : parsed start (asking (TRUTH true ∷ AND ∷ TRUTH false ∷ AND ∷ TRUTH true ∷ [])) ≡ Some (asked (Shape.And (Shape.And always never) always))
+  pub and_to_the_left : parsed start (asking (TRUTH true ∷ AND ∷ TRUTH false ∷ AND ∷ TRUTH true ∷ []))
+      ≡ Some (asked (Shape.And (Shape.And always never) always))
   -- TRUE UNTIL FALSE UNTIL_WITHIN 5 TRUE
   pub until_to_the_right :
       parsed start (asking (TRUTH true ∷ UNTIL untils.Plain ∷ TRUTH false ∷ UNTIL untils.Within ∷ NUMBER (codes "5") ∷ TRUTH true ∷ []))
@@ -59,18 +60,22 @@ pub record ParsesSmallQueries : Type 0 where
       ≡ Some (asked (Shape.And (Shape.Not always) (Shape.Bounded bounds.Within 7 never)))
   -- [n <- 2 * o.x.function - n] o.x = "a"
   pub assignment :
-      parsed start (asking (OPEN_SQUARE ∷ NAME n ∷ ARROW ∷ NUMBER (codes "2") ∷ STAR ∷ NAME o ∷ POINT ∷ NAME c ∷ POINT ∷ PART subs.Function ∷ MINUS ∷ NAME n ∷ CLOSE_SQUARE
+      parsed start (asking (OPEN_SQUARE ∷ NAME n ∷ ARROW ∷ NUMBER (codes "2") ∷ STAR ∷ NAME o ∷ POINT ∷ NAME c ∷ POINT ∷ PART subs.Function
+      ∷ MINUS ∷ NAME n ∷ CLOSE_SQUARE
       ∷ NAME o ∷ POINT ∷ NAME c ∷ COMPARISON ops.Eq ∷ TEXT (codes "a") ∷ []))
       ≡ Some (asked (Shape.Assign (n, term_of (signed false (Some 2) (units.Sub o c subs.Function) ∷ signed true None (units.Alone n) ∷ []))
       (Shape.Atom (atoms.Compare (term_of (signed false None (units.Attr o c) ∷ [])) ops.Eq (term_of (signed false None (units.Text (codes "a")) ∷ []))))))
   -- - TIME < 0.5 OR WITHIN_SPHERE(3.4,o,n)
   pub term_ends :
-      parsed start (asking (MINUS ∷ TIME ∷ COMPARISON ops.Lt ∷ NUMBER (codes "0.5") ∷ OR ∷ SPHERE ∷ OPEN ∷ NUMBER (codes "3.4") ∷ COMMA ∷ NAME o ∷ COMMA ∷ NAME n ∷ CLOSE ∷ []))
-      ≡ Some (asked (Shape.Or (Shape.Atom (atoms.Compare (term_of (signed true None units.Time ∷ [])) ops.Lt (term_of (signed false None (units.Literal (pos 500)) ∷ []))))
+      parsed start (asking (MINUS ∷ TIME ∷ COMPARISON ops.Lt ∷ NUMBER (codes "0.5") ∷ OR ∷ SPHERE ∷ OPEN ∷ NUMBER (codes "3.4") ∷ COMMA
+      ∷ NAME o ∷ COMMA ∷ NAME n ∷ CLOSE ∷ []))
+      ≡ Some (asked (Shape.Or (Shape.Atom (atoms.Compare (term_of (signed true None units.Time ∷ [])) ops.Lt
+      (term_of (signed false None (units.Literal (pos 500)) ∷ []))))
       (Shape.Atom (atoms.Sphere (pos 3400) (o ∷ n ∷ [])))))
   -- INSIDE(o,c) AND DIST(o,n) >= -1
   pub spatial :
-      parsed start (asking (INSIDE ∷ OPEN ∷ NAME o ∷ COMMA ∷ NAME c ∷ CLOSE ∷ AND ∷ DIST ∷ OPEN ∷ NAME o ∷ COMMA ∷ NAME n ∷ CLOSE ∷ COMPARISON ops.Ge ∷ MINUS ∷ NUMBER (codes "1") ∷ []))
+      parsed start (asking (INSIDE ∷ OPEN ∷ NAME o ∷ COMMA ∷ NAME c ∷ CLOSE ∷ AND ∷ DIST ∷ OPEN ∷ NAME o ∷ COMMA ∷ NAME n ∷ CLOSE
+      ∷ COMPARISON ops.Ge ∷ MINUS ∷ NUMBER (codes "1") ∷ []))
       ≡ Some (asked (Shape.And (Shape.Atom (atoms.Inside o c)) (Shape.Atom (atoms.Dist o n ops.Ge (negsuc 999)))))
   -- a bracket that isn't closed, and one that isn't open
   pub unclosed : parsed start (asking (OPEN ∷ TRUTH true ∷ [])) ≡ None
@@ -82,7 +87,8 @@ pub record StopsAtTheEnd : Type 0 where
   pub no_query : parsed start (asking (TRUTH true ∷ AND ∷ [])) ≡ None
 
 -- DIST(o,n) <= NUMBER, by its rules
-abbrev pub distance : (k : List ℕ) → SpellsQuery (asked (Shape.Atom (atoms.Dist o n ops.Le (literal k)))) (asking (DIST ∷ OPEN ∷ NAME o ∷ COMMA ∷ NAME n ∷ CLOSE ∷ COMPARISON ops.Le ∷ NUMBER k ∷ []))
+abbrev pub distance : (k : List ℕ) → SpellsQuery (asked (Shape.Atom (atoms.Dist o n ops.Le (literal k))))
+    (asking (DIST ∷ OPEN ∷ NAME o ∷ COMMA ∷ NAME n ∷ CLOSE ∷ COMPARISON ops.Le ∷ NUMBER k ∷ []))
 distance k = query names_one parts_one (formula_conj (conj_chain (chain_unary (unary_atom (atom_dist num_plain)))))
 
 -- a number past 10^12 thousandths, and one with four decimals, don't fit

@@ -1,4 +1,6 @@
--- What holds of each query that is read: no list is empty, numbers are in the ranges of their places, a multiplier stands before a name, an attribute or TIME, and names and texts are what a line can have. What is asked of names and of texts is given, N and T.
+-- What holds of each query that is read: no list is empty, numbers are in the ranges of their places, a multiplier
+-- stands before a name, an attribute or TIME, and names and texts are what a line can have. What is asked of names and
+-- of texts is given, N and T.
 use Rattle.std.specs.Prelude.{◌≡◌, ℕ, ◌≤◌, ℤ, pos, negsuc, unsigned_abs, false, List, [], ◌∷◌, length, Option, None, Some, IsTrue}
 use Rattle.std.specs.List.{AllByRecursion}
 use Rattle.fixed_point.specs.declared.short_text.TheConstants.{WORD_LIMIT}

@@ -12,10 +12,5 @@ pub mod Text
 pub mod TextLaws
 pub mod Tree
 pub mod Words
--- how it is read
-pub mod Fits
-pub mod Machine
-pub mod Measure
-pub mod Parses
-pub mod Scan
-pub mod Views
+-- how it is done
+pub mod inner

@@ -1,4 +1,6 @@
--- The names, texts and terms of a query, in the order in which they are written: targets, then the class and the variable of each part of FROM, then the formula; the name of an assignment before its term, and that before the formula after it.
+-- The names, texts and terms of a query, in the order in which they are written: targets, then the class and the
+-- variable of each part of FROM, then the formula; the name of an assignment before its term, and that before the
+-- formula after it.
 use Rattle.std.specs.Prelude.{ℕ, List, [], ◌∷◌, ◌++◌, flat_map}
 use Rattle.formula_shape.specs.Sizes.{gathered}
 use Rattle.ftl_parser.specs.declared.tree.Atom as atom_type

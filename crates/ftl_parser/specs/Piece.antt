@@ -1,4 +1,6 @@
--- The tokens of which the grammar of queries speaks: a constructor for each word and symbol, where those that stand in the same places share one, and names, numbers and texts with their bytes. A name or text of more than 32 bytes is the empty one.
+-- The tokens of which the grammar of queries speaks: a constructor for each word and symbol, where those that stand in
+-- the same places share one, and names, numbers and texts with their bytes. A name or text of more than 32 bytes is the
+-- empty one.
 use Rattle.std.specs.Prelude.{ℕ, ◌-◌, Bool, true, false, not, List, [], ◌∷◌, take, drop, length, map, slice_get, unwrap_or}
 use Rattle.std.specs.List.{list_any}
 use Rattle.fixed_point.specs.declared.variants.BoundForm.{BoundForm}

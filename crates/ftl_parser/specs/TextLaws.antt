@@ -29,11 +29,13 @@ ReadsWhatIsPrinted = (q : QueryTree) → IsPrintable q → IsReadAs q (query_tex
 
 -- what tokens of a line spell is printable, where no name or text among them is too long
 abbrev pub PrintsWhatIsRead : Type 0
-PrintsWhatIsRead = (from : ℕ) (line : List ℕ) (q : QueryTree) → SpellsQuery q (pieces_from from line) → has_long (lexemes_from from line) ≡ false → IsPrintable q
+PrintsWhatIsRead = (from : ℕ) (line : List ℕ) (q : QueryTree) → SpellsQuery q (pieces_from from line) → has_long (lexemes_from from line)
+    ≡ false → IsPrintable q
 
 -- the printed text has at most four bytes for each byte of the tokens
 abbrev pub PrintsShortly : Type 0
-PrintsShortly = (from : ℕ) (line : List ℕ) (q : QueryTree) → SpellsQuery q (pieces_from from line) → length (query_text q) ≤ 4 * bytes_of (lexemes_from from line)
+PrintsShortly = (from : ℕ) (line : List ℕ) (q : QueryTree) → SpellsQuery q (pieces_from from line) → length (query_text q)
+    ≤ 4 * bytes_of (lexemes_from from line)
 
 -- tokens have no more bytes than their line
 abbrev pub TokensFit : Type 0
@@ -45,8 +47,10 @@ PrintsShorterThanFourLines = (from : ℕ) (line : List ℕ) (q : QueryTree) → 
 
 -- a query that was read is read again from its printed text
 abbrev pub ReadsAgain : Type 0
-ReadsAgain = (from : ℕ) (line : List ℕ) (q : QueryTree) → Reads (lexemes_from from line) q → (bad_place (query_text q) ≡ None) × Reads (lexemes (query_text q)) q
+ReadsAgain = (from : ℕ) (line : List ℕ) (q : QueryTree) → Reads (lexemes_from from line) q → (bad_place (query_text q) ≡ None)
+    × Reads (lexemes (query_text q)) q
 
 -- tokens that are read as a query are read as no other, and nothing but want of memory explains that they are not read
 abbrev pub ReadsOneQuery : Type 0
-ReadsOneQuery = (from : ℕ) (tokens : List Lexeme) (q : QueryTree) → Reads tokens q → ((r : QueryTree) → Reads tokens r → r ≡ q) × ((fault : ParseFault) → Explains from tokens fault → fault ≡ NoMemory)
+ReadsOneQuery = (from : ℕ) (tokens : List Lexeme) (q : QueryTree) → Reads tokens q → ((r : QueryTree) → Reads tokens r → r ≡ q)
+    × ((fault : ParseFault) → Explains from tokens fault → fault ≡ NoMemory)

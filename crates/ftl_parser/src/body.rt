@@ -3,11 +3,11 @@
 ghost use Rattle.std.specs.Prelude.{◌≡◌, List, [], ◌∷◌, ◌++◌, IfOk, option_map};
 ghost use Rattle.formula_shape.specs.Shape.{Shape};
 ghost use Rattle.ftl_parser.specs.Grammar.{term_of};
-ghost use Rattle.ftl_parser.specs.Machine as machine;
-ghost use Rattle.ftl_parser.specs.Machine.{behind, closed, term_ended, wanted, body_step, body_end, reduced, alone, compared, whole};
+ghost use Rattle.ftl_parser.specs.inner.Machine as machine;
+ghost use Rattle.ftl_parser.specs.inner.Machine.{behind, closed, term_ended, wanted, body_step, body_end, reduced, alone, compared, whole};
 ghost use Rattle.ftl_parser.specs.Piece.{UNTIL};
 ghost use Rattle.ftl_parser.specs.declared.tree.Atom.TheVariants as atoms;
-ghost use Rattle.ftl_parser.specs.Views.{body_of, behind_whole, in_term, taken_of, with_formula, piece_view, stack_of};
+ghost use Rattle.ftl_parser.specs.inner.Views.{body_of, behind_whole, in_term, taken_of, with_formula, piece_view, stack_of};
 
 use crate::factor::{add_whole, lengthen};
 use crate::frame::{Frame, pop, reduced};

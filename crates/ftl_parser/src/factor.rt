@@ -2,8 +2,8 @@
 
 ghost use Rattle.std.specs.Prelude.{◌≡◌, [], ◌∷◌, ◌++◌, Some, None, IfOk, IsTrue, true, false, MatchBool, MatchOption};
 ghost use Rattle.ftl_parser.specs.Grammar.{signed};
-ghost use Rattle.ftl_parser.specs.Machine.{reference, factor_begun, term_begun, lengthened, whole};
-ghost use Rattle.ftl_parser.specs.Views.{piece_view, AddsWhole};
+ghost use Rattle.ftl_parser.specs.inner.Machine.{reference, factor_begun, term_begun, lengthened, whole};
+ghost use Rattle.ftl_parser.specs.inner.Views.{piece_view, AddsWhole};
 
 use crate::lists::Factors;
 use crate::number::{literal, times, word};

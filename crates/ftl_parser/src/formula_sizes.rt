@@ -1,7 +1,7 @@
 //! What is asked of a formula that was read.
 
 ghost use Rattle.std.specs.Prelude.{◌≡◌};
-ghost use Rattle.ftl_parser.specs.Measure.{saturated};
+ghost use Rattle.ftl_parser.specs.inner.Measure.{saturated};
 ghost use Rattle.ftl_parser.specs.Sizes.{atom_objects, has_circle, has_not, is_circle, nesting, objects};
 ghost use Rattle.ftl_parser.specs.Tree.{view};
 
@@ -9,7 +9,7 @@ use crate::{Atom, Formula};
 
 /// The most assignments in one another. It stays at the largest number; a query that was read has at most
 /// [`NESTING_LIMIT`](crate::NESTING_LIMIT).
-#[tactic(auto, using(crate::proofs::MeasureLemmas::measures))]
+#[tactic(auto, using(crate::proofs::reader::MeasureLemmas::measures))]
 pub fn nesting(formula: &Formula) -> usize
     ensures { result ≡ saturated (nesting (view formula.now)) }
 {

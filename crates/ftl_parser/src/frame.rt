@@ -1,8 +1,8 @@
 //! What waits for a formula on its right.
 
 ghost use Rattle.std.specs.Prelude.{◌≡◌, ◌≤◌, [], ◌∷◌, IfOk, OnOk, MatchBool, MatchOption};
-ghost use Rattle.ftl_parser.specs.Machine.{rank, filled, reduced};
-ghost use Rattle.ftl_parser.specs.Views.{stack_of, SomeIsOnTop, StaysBelow};
+ghost use Rattle.ftl_parser.specs.inner.Machine.{rank, filled, reduced};
+ghost use Rattle.ftl_parser.specs.inner.Views.{stack_of, SomeIsOnTop, StaysBelow};
 
 use crate::Term;
 use crate::measured::Measured;

@@ -1,8 +1,8 @@
 //! A query, token by token.
 
 ghost use Rattle.std.specs.Prelude.{◌≡◌, [], ◌∷◌, ◌++◌, IfOk, option_map};
-ghost use Rattle.ftl_parser.specs.Machine.{heading_step, step, ended, body_end};
-ghost use Rattle.ftl_parser.specs.Views.{kept_view, piece_view, spelled_view, stack_of, state_of};
+ghost use Rattle.ftl_parser.specs.inner.Machine.{heading_step, step, ended, body_end};
+ghost use Rattle.ftl_parser.specs.inner.Views.{kept_view, piece_view, spelled_view, stack_of, state_of};
 
 use crate::FromPart;
 use crate::body::{body_end, body_step};

@@ -2,7 +2,7 @@
 
 ghost use Rattle.std.specs.Prelude.{◌≡◌, ◌<◌, List, [], ◌∷◌, find, length, nat_lt, option_map};
 ghost use Rattle.ftl_parser.specs.Sizes.{first_too_large};
-ghost use Rattle.ftl_parser.specs.Views.{spelled_view};
+ghost use Rattle.ftl_parser.specs.inner.Views.{spelled_view};
 
 use crate::Size;
 use crate::head::Spelled;

@@ -3,7 +3,7 @@
 ghost use Rattle.std.specs.Prelude.{◌≡◌, max, IfOk, length};
 ghost use Rattle.formula_shape.specs.Shape.{Shape};
 ghost use Rattle.ftl_parser.specs.Grammar.{prefixed, term_of};
-ghost use Rattle.ftl_parser.specs.Measure.{measure, leaf, under, assigned, joined};
+ghost use Rattle.ftl_parser.specs.inner.Measure.{measure, leaf, under, assigned, joined};
 ghost use Rattle.ftl_parser.specs.Sizes.{atom_objects, atom_factors};
 ghost use Rattle.ftl_parser.specs.Tree.{view as tree_of};
 
@@ -104,7 +104,7 @@ impl Model for Measured {
     ghost use Rattle.formula_shape.specs.ShapeCode.{shape_code};
     ghost use Rattle.ftl_parser.specs.declared.tree.Atom.{Atom};
     ghost use Rattle.ftl_parser.specs.declared.tree.Term.{Term};
-    ghost use Rattle.ftl_parser.specs.Measure.{measure};
+    ghost use Rattle.ftl_parser.specs.inner.Measure.{measure};
     ghost use Rattle.ftl_parser.specs.Tree.{Tree, view as tree_of};
 
     ghost Value = { Tree };
@@ -116,7 +116,7 @@ impl Model for Measured {
     ghost invariant = { λ a. a.sizes ≡ measure (tree_of a.formula) };
 }
 
-#[tactic(auto, using(crate::proofs::MeasureLemmas::measures))]
+#[tactic(auto, using(crate::proofs::reader::MeasureLemmas::measures))]
 impl Measured {
     pub(crate) fn truth(value: bool) -> Measured
         ensures { result ≡ Shape.Truth value }

@@ -12,7 +12,7 @@ use formula_shape::TIMES_LIMIT;
 use tick_set::LAST_TICK;
 
 // The whole number that digits alone stand for, if it is at most `most`.
-#[tactic(auto, using(crate::proofs::DigitLemmas::whole_steps))]
+#[tactic(auto, using(crate::proofs::reader::DigitLemmas::whole_steps))]
 fn up_to(text: &[u8], most: u32) -> Option<u32>
     ensures { result ≡ up_to most text.now }
 {

@@ -2,11 +2,11 @@
 
 ghost use Rattle.std.specs.Prelude.{◌≡◌, List, Some, IfOk};
 ghost use Rattle.formula_shape.specs.Shape.{Shape};
-ghost use Rattle.ftl_parser.specs.Machine as machine;
-ghost use Rattle.ftl_parser.specs.Machine.{body_step, spatial_step};
+ghost use Rattle.ftl_parser.specs.inner.Machine as machine;
+ghost use Rattle.ftl_parser.specs.inner.Machine.{body_step, spatial_step};
 ghost use Rattle.ftl_parser.specs.Piece.{CLOSE};
 ghost use Rattle.ftl_parser.specs.declared.state.Spatial.TheVariants as spatials;
-ghost use Rattle.ftl_parser.specs.Views.{piece_view, taken_of, HasNames, IsPlain, IsSpatial};
+ghost use Rattle.ftl_parser.specs.inner.Views.{piece_view, taken_of, HasNames, IsPlain, IsSpatial};
 
 use crate::Atom;
 use crate::lists::{Factors, Names};

@@ -4,7 +4,7 @@ ghost use Rattle.std.specs.Prelude.{◌≡◌, ◌<◌, Some, length, map, slice
 ghost use Rattle.ftl_lexer.specs.Cut.{HasForm};
 ghost use Rattle.ftl_lexer.specs.Tokens.{lexemes, tokens_of};
 ghost use Rattle.ftl_parser.specs.Piece.{piece_of, pieces, signs, reserved, OTHER};
-ghost use Rattle.ftl_parser.specs.Views.{piece_view};
+ghost use Rattle.ftl_parser.specs.inner.Views.{piece_view};
 
 use crate::prefix::Prefix;
 use case_table::Op;

@@ -3,7 +3,7 @@
 ghost use Rattle.std.specs.Prelude.{◌≡◌, ℕ, IfOk, IfErr};
 ghost use Rattle.ftl_parser.specs.Fault.{Explains, Reads};
 ghost use Rattle.ftl_parser.specs.Lawful.{IsLawful};
-ghost use Rattle.ftl_parser.specs.Parses.{Parses};
+ghost use Rattle.ftl_parser.specs.inner.Parses.{Parses};
 ghost use Rattle.ftl_parser.specs.Piece.{lexemes_from, pieces_from};
 ghost use Rattle.ftl_parser.specs.Tree.{query_view};
 
@@ -28,7 +28,7 @@ impl From<AllocError> for ParseFault {
 }
 
 // The query that the tokens from a place on spell, up to its numbers and sizes.
-#[tactic(auto, using(crate::proofs::RunLemmas::run_steps))]
+#[tactic(auto, using(crate::proofs::reader::RunLemmas::run_steps))]
 fn spelled(alloc: Global, tokens: &Tokens, from: usize) -> Result<Spelled, ParseFault>
     ensures { Parses from (pieces_from from tokens.now) result }
 {
@@ -54,7 +54,7 @@ fn spelled(alloc: Global, tokens: &Tokens, from: usize) -> Result<Spelled, Parse
 /// the form or range of its place, where the tokens are a query; `TooLarge` the first size in the order of
 /// `Size` that passes its limit, where no number does. No list of the query is empty, its numbers are in
 /// their ranges, and none of its sizes passes its limit (`lawful`).
-#[tactic(auto, using(crate::proofs::Judged::judgements))]
+#[tactic(auto, using(crate::proofs::reader::Judged::judgements))]
 pub fn parse(alloc: Global, tokens: &Tokens, from: usize) -> Result<Query, ParseFault>
     ensures query { IfOk result (λ q. Reads (lexemes_from from tokens.now) (query_view q)) }
     ensures lawful { IfOk result (λ q. IsLawful (query_view q)) }

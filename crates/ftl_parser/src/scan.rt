@@ -5,8 +5,8 @@ ghost use Rattle.ftl_lexer.specs.Cut.{HasForm};
 ghost use Rattle.ftl_lexer.specs.Tokens.{tokens_of, lexemes};
 ghost use Rattle.ftl_parser.specs.Piece.{piece_of, pieces, pieces_from, lexemes_from, is_long, has_long, NUMBER};
 ghost use Rattle.ftl_parser.specs.declared.scan.Coming.TheVariants as comings;
-ghost use Rattle.ftl_parser.specs.Scan.{coming, first_from, mark, scan, star_next};
-ghost use Rattle.ftl_parser.specs.Views.{piece_view};
+ghost use Rattle.ftl_parser.specs.inner.Scan.{coming, first_from, mark, scan, star_next};
+ghost use Rattle.ftl_parser.specs.inner.Views.{piece_view};
 
 use crate::number::{is_short, literal_fits, radius_fits, ticks_fit, times_fit};
 use crate::piece::{Piece, lexeme_at, piece_at, sign, word};
@@ -52,7 +52,7 @@ fn coming_behind(before: Coming, kind: Kind) -> Coming
 }
 
 // Whether the token at a place is `*`.
-#[tactic(auto, using(crate::proofs::TokenLemmas::token_steps))]
+#[tactic(auto, using(crate::proofs::reader::TokenLemmas::token_steps))]
 fn is_star(tokens: &Tokens, at: usize) -> bool
     ensures { result ≡ star_next (pieces_from at tokens.now) }
 {
@@ -82,7 +82,7 @@ fn is_marked(before: Coming, kind: Kind, bytes: &[u8], tokens: &Tokens, next: us
 }
 
 // The first number token from a place on that doesn't fit its place.
-#[tactic(auto, using(crate::proofs::TokenLemmas::token_steps))]
+#[tactic(auto, using(crate::proofs::reader::TokenLemmas::token_steps))]
 pub(crate) fn first_unfit(tokens: &Tokens, from: usize) -> Option<usize>
     ensures { result ≡ first_from from (scan comings.Factor (pieces_from from tokens.now)) }
 {
@@ -110,7 +110,7 @@ fn is_long(kind: Kind, bytes: &[u8]) -> bool
 }
 
 // Whether some name or text from a place on is too long.
-#[tactic(auto, using(crate::proofs::TokenLemmas::token_steps))]
+#[tactic(auto, using(crate::proofs::reader::TokenLemmas::token_steps))]
 pub(crate) fn has_long(tokens: &Tokens, from: usize) -> bool
     ensures { result ≡ has_long (lexemes_from from tokens.now) }
 {

@@ -5,7 +5,7 @@ ghost use Rattle.ftl_parser.specs.TextLaws.{PrintsShorterThanFourLines, PrintsSh
 /// A query that tokens of a line spell, none of them a name or text that is too long, can be printed so
 /// that it is read back: no list of it is empty, its names are name tokens, its texts have no quotes, both
 /// have at most the bytes of a word, and its numbers are in the ranges of their places.
-#[tactic(auto, using(crate::proofs::TextShapes::prints_what_is_read))]
+#[tactic(auto, using(crate::proofs::canonical::TextShapes::prints_what_is_read))]
 pub fn read_queries_are_printable()
     ensures { PrintsWhatIsRead }
 {}
@@ -13,7 +13,7 @@ pub fn read_queries_are_printable()
 /// The printed text of a query that tokens of a line spell has at most four bytes for each byte of these
 /// tokens, and tokens have no more bytes than their line: so that of a query from a line of at most
 /// 4,096 bytes has at most 16,384.
-#[tactic(auto, using(crate::proofs::TextLengths::prints_shortly, crate::proofs::TextLengths::tokens_fit, crate::proofs::TextLengths::prints_shorter))]
+#[tactic(auto, using(crate::proofs::canonical::TextLengths::prints_shortly, crate::proofs::canonical::TextLengths::tokens_fit, crate::proofs::canonical::TextLengths::prints_shorter))]
 pub fn printed_queries_are_short()
     ensures queries { PrintsShortly }
     ensures tokens { TokensFit }

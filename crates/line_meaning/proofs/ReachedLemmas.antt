@@ -22,7 +22,6 @@ use Rattle.history.specs.Catalog.{Catalog, ClassInfo, ObjectInfo, catalog, catal
 use Rattle.history.specs.Write.{Write}
 use Rattle.meaning.specs.Accepted.{are_accepted, are_given, is_given, is_own_class}
 use Rattle.meaning.specs.Reachable.{is_slope, is_slow}
-use Rattle.meaning.specs.SimpleQuestion.{is_present}
 use Rattle.object_store.specs.declared.fault.StoreFault.TheVariants as store_faults
 use Rattle.object_store.specs.Faults.{insert_fault, is_elsewhere, is_past_capacity, repeats_set}
 use Rattle.command_text.specs.declared.reading.TheConstants.{LINE_LIMIT}
@@ -30,18 +29,18 @@ use Rattle.command_text.specs.declared.refusal.Refusal.{Refusal}
 use Rattle.command_text.specs.declared.refusal.Refusal.TheVariants as refusals
 use Rattle.command_text.specs.Journal.{Accepted, spelled}
 use Rattle.command_text.specs.Line.{IsRead, command_in, early_refusal, first_refusal, late_refusal, or_else}
-use Rattle.command_text.specs.Reading.{Read}
+use Rattle.command_text.specs.inner.Reading.{Read}
 use Rattle.command_text.specs.Shape.{AreLegs, IsAt, IsChange, IsLeg, IsMoving, IsPrintable, IsPrintableGiven, IsRate, IsSetting, IsValue}
 use Rattle.command_text.specs.TextLaws.{PrintsWhatIsRead}
 use Rattle.command_text.specs.Tree
 use Rattle.command_text.specs.Tree.{CommandTree}
 use Rattle.line_meaning.specs.declared.role.Role.{Role}
 use Rattle.line_meaning.specs.declared.role.Role.TheVariants.{Blank, Keeping, Telling, Filing, Ending}
-use Rattle.line_meaning.specs.Fault.{fault_among, is_gap, refusal_by_store}
+use Rattle.line_meaning.specs.Fault.{fault_among, is_gap, is_present, refusal_by_store}
 use Rattle.line_meaning.specs.Journal.{clock, world, writes, writes_of}
 use Rattle.line_meaning.specs.Reached.{AreReached, IsNextEntry}
 use Rattle.line_meaning.specs.Role.{is_keeping, is_kept, role_of}
-use Rattle.line_meaning.specs.Step.{Base, Held, fault_by, fault_of, line_refusal, refusal_of, step, step_by}
+use Rattle.line_meaning.specs.Step.{Base, Held, fault_by, fault_of, held_after, line_refusal, refusal_of, step, step_by}
 use Rattle.line_meaning.proofs.CallerLemmas.{or_none}
 use Rattle.line_meaning.proofs.JournalLemmas.{clock_more, writes_more}
 
@@ -149,38 +148,20 @@ accepted_entry : (journal : List Accepted) (now : ℕ) (command : CommandTree) �
     fault_among (world journal) (clock journal) command ≡ None → (last : ℕ) → last ≤ now → (later : List Write) →
     AreAfter (fold catalog_after (catalog (writes journal)) (writes_of now command)) now later →
     are_accepted (catalog (writes journal)) last (writes_of now command ++ later) ≡ true
-accepted_entry journal now (Tree.Class name capacity point attributes) is printable fault last upto later after = after last upto
 accepted_entry journal now (Tree.Insert class name place sets) is printable fault last upto later after =
     let c = catalog (writes journal) in
     let own = insert_is_own c (is_present (world journal).history name (clock journal)) class name place sets fault in
     and_from (nat_le last now && (are_given place sets && is_own_class c class name)) (are_accepted _ now later)
     (and_from (nat_le last now) (are_given place sets && is_own_class c class name) (at_most last now upto)
-    (and_from (are_given place sets) (is_own_class c class name) (change_given place sets printable.2) own))
+    (and_from (are_given place sets) (is_own_class c class name) (change_given place sets printable.1.1.1) own))
     (after now (omega arith))
 accepted_entry journal now (Tree.Update name place sets) is printable fault last upto later after =
     and_from (nat_le last now && are_given place sets) (are_accepted _ now later)
-    (and_from (nat_le last now) (are_given place sets) (at_most last now upto) (change_given place sets printable.1))
+    (and_from (nat_le last now) (are_given place sets) (at_most last now upto) (change_given place sets printable.1.1))
     (after now (omega arith))
 accepted_entry journal now (Tree.Remove name) is printable fault last upto later after =
     and_from (nat_le last now) (are_accepted _ now later) (at_most last now upto) (after now (omega arith))
-accepted_entry journal now Tree.Nothing is printable fault last upto later after = after last upto
-accepted_entry journal now (Tree.Region name points) is printable fault last upto later after = after last upto
-accepted_entry journal now Tree.Listing is printable fault last upto later after = after last upto
-accepted_entry journal now (Tree.Tick ticks) is printable fault last upto later after = after last upto
-accepted_entry journal now (Tree.Ask span q) is printable fault last upto later after = after last upto
-accepted_entry journal now (Tree.Watch name span q) is printable fault last upto later after = after last upto
-accepted_entry journal now (Tree.Keep name span q) is printable fault last upto later after = after last upto
-accepted_entry journal now (Tree.Show name) is printable fault last upto later after = after last upto
-accepted_entry journal now (Tree.Drop name) is printable fault last upto later after = after last upto
-accepted_entry journal now (Tree.Save file) is printable fault last upto later after = after last upto
-accepted_entry journal now (Tree.Import class file) is printable fault last upto later after = after last upto
-accepted_entry journal now (Tree.Export class file) is printable fault last upto later after = after last upto
-accepted_entry journal now (Tree.Nearest span k object class) is printable fault last upto later after = after last upto
-accepted_entry journal now (Tree.Must error span q) is printable fault last upto later after = after last upto
-accepted_entry journal now (Tree.May error span q) is printable fault last upto later after = after last upto
-accepted_entry journal now (Tree.Index class attribute width) is printable fault last upto later after = after last upto
-accepted_entry journal now (Tree.Range span class attribute least greatest) is printable fault last upto later after = after last upto
-accepted_entry journal now Tree.Quit is printable fault last upto later after = after last upto
+accepted_entry journal now command is printable fault last upto later after = after last upto
 
 reached_accepted : (before journal : List Accepted) → AreReached before journal → (last : ℕ) → last ≤ clock before →
     are_accepted (catalog (writes before)) last (writes journal) ≡ true
@@ -228,33 +209,43 @@ built : (gap : Bool) (o : Option Refusal) → (if gap then Some refusals.BadSynt
 built true o is = absurd (cc is)
 built false o is = is
 
+-- a kept command that nothing refuses
+next_entry : (h : Held) (c : CommandTree) → IsPrintable c → fault_of h c ≡ None → is_kept c ≡ true →
+    IsNextEntry h.journal (clock h.journal, c)
+next_entry h c printable none kept = record {
+  tick = refl;
+  kept = kept;
+  printable = printable;
+  accepted = kept_role (role_of c) h c kept (built (is_gap c) (fault_by (role_of c) h c) none);
+}
+
+entries_reached : (journal : List Accepted) (e : Accepted) (kept : Bool) → (kept ≡ true → IsNextEntry journal e) →
+    AreReached [] journal → AreReached [] (journal ++ (if kept then e ∷ [] else []))
+entries_reached journal e true is reached = reached_more [] journal e reached (is refl)
+entries_reached journal e false is reached = subst (λ (j : List Accepted). AreReached [] j) (sym (append-nil journal)) reached
+
+pub command_is_reached : (h : Held) (c : CommandTree) → IsPrintable c → fault_of h c ≡ None → AreReached [] h.journal →
+    AreReached [] (held_after h c).journal
+command_is_reached h c printable none reached =
+    entries_reached h.journal (clock h.journal, c) (is_kept c) (next_entry h c printable none) reached
+
 module _ (prints : PrintsWhatIsRead) where
-  next_entry : (b : Base) (line : List ℕ) → refusal_of b line ≡ None → is_kept (spelled line) ≡ true →
-      IsNextEntry b.held.journal (clock b.held.journal, spelled line)
+  -- what an accepted line is read as is printable, and nothing refuses it
+  accepted_line : (b : Base) (line : List ℕ) → refusal_of b line ≡ None →
+      IsPrintable (spelled line) × (fault_of b.held (spelled line) ≡ None)
   unfolding line_refusal
-  next_entry b line none kept =
+  accepted_line b line none =
       let c = spelled line in
       let both = none_of_both (first_refusal LINE_LIMIT line) (fault_of b.held c) (sym (or_none (line_refusal b.held line)) ∙ none) in
       let late = (none_of_both (early_refusal LINE_LIMIT line) (late_refusal (command_in line)) both.0).1 in
       let read : IsRead LINE_LIMIT line c = record { taken = both.0; command = taken_is (command_in line) late } in
-      record {
-        tick = refl;
-        kept = kept;
-        printable = prints LINE_LIMIT line c read;
-        accepted = kept_role (role_of c) b.held c kept (built (is_gap c) (fault_by (role_of c) b.held c) both.1);
-      }
+      (prints LINE_LIMIT line c read, both.1)
 
-  entries_reached : (journal : List Accepted) (e : Accepted) (kept : Bool) → (kept ≡ true → IsNextEntry journal e) →
-      AreReached [] journal → AreReached [] (journal ++ (if kept then e ∷ [] else []))
-  entries_reached journal e true is reached = reached_more [] journal e reached (is refl)
-  entries_reached journal e false is reached = subst (λ (j : List Accepted). AreReached [] j) (sym (append-nil journal)) reached
-
-  by_refusal : (b : Base) (c : CommandTree) (r : Option Refusal) →
-      (r ≡ None → is_kept c ≡ true → IsNextEntry b.held.journal (clock b.held.journal, c)) →
+  by_refusal : (b : Base) (c : CommandTree) (r : Option Refusal) → (r ≡ None → IsPrintable c × (fault_of b.held c ≡ None)) →
       AreReached [] b.held.journal → AreReached [] (step_by b c r).0.held.journal
   by_refusal b c (Some r) is reached = reached
-  by_refusal b c None is reached = entries_reached b.held.journal (clock b.held.journal, c) (is_kept c) (is refl) reached
+  by_refusal b c None is reached = command_is_reached b.held c (is refl).0 (is refl).1 reached
 
   pub step_is_reached : (b : Base) (line : List ℕ) → AreReached [] b.held.journal → AreReached [] (step b line).0.held.journal
   unfolding step
-  step_is_reached b line reached = by_refusal b (spelled line) (refusal_of b line) (next_entry b line) reached
+  step_is_reached b line reached = by_refusal b (spelled line) (refusal_of b line) (accepted_line b line) reached

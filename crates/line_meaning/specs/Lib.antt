@@ -1,8 +1,10 @@
 pub mod Journal
-pub mod Question
+pub mod Ask
 pub mod Role
 pub mod Fault
 pub mod Reached
 pub mod Reply
 pub mod Answering
+pub mod Looks
 pub mod Step
+pub mod Example

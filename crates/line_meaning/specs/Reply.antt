@@ -1,9 +1,10 @@
 -- The text of replies.
-use Rattle.std.specs.Prelude.{ℕ, length, nat_le, nat_lt, ◌&&◌, List, [], ◌∷◌, ◌++◌, map, codes, decimal, if◌then◌else◌}
+use Rattle.std.specs.Prelude.{ℕ, length, nat_le, nat_lt, ◌&&◌, List, [], ◌∷◌, ◌++◌, map, codes, decimal, slice_get, if◌then◌else◌}
 use Rattle.std.specs.List.{enumerate_from, list_any, flat_map}
+use Rattle.std.specs.Option.{option_map_or}
 use Rattle.geometry.specs.Region.{Region}
 use Rattle.history.specs.Catalog.{Catalog, ClassInfo, names}
-use Rattle.meaning.specs.SimpleQuestion.{Row}
+use Rattle.meaning.specs.Answer.{Row}
 
 abbrev pub line_feed : List ℕ
 line_feed = 10 ∷ []
@@ -23,12 +24,24 @@ time_word now runs =
     else if list_any (λ run. nat_lt now run.1) runs then codes "later"
     else codes "past"
 
--- the line of a row, as `later a : 12..30`
-abbrev pub row_line : ℕ → Row → List ℕ
-row_line now row = time_word now row.runs ++ codes " " ++ row.name ++ codes " :" ++ flat_map run_text row.runs ++ line_feed
+-- a name, with the space before it
+abbrev pub name_text : List ℕ → List ℕ
+name_text name = codes " " ++ name
 
-abbrev pub rows_text : ℕ → List Row → List ℕ
-rows_text now rows = flat_map (row_line now) rows
+-- the line of a row by the names of its objects, as `later a b : 12..30`
+abbrev pub row_line : ℕ → List (List ℕ) → List (ℕ × ℕ) → List ℕ
+row_line now names runs =
+    time_word now runs ++ flat_map name_text names ++ codes " :" ++ flat_map run_text runs ++ line_feed
+
+-- the name of an object by its number
+abbrev pub name_of : Catalog → ℕ → List ℕ
+name_of c id = option_map_or (λ o. o.name) (slice_get c.objects id) []
+
+abbrev pub row_text : Catalog → ℕ → Row → List ℕ
+row_text c now row = row_line now (map (name_of c) row.key) row.runs
+
+abbrev pub rows_text : Catalog → ℕ → List Row → List ℕ
+rows_text c now rows = flat_map (row_text c now) rows
 
 -- `clock 7`
 abbrev pub clock_line : ℕ → List ℕ

@@ -1,15 +1,17 @@
 //! Laws of the step, each a call without a body whose contract is the law.
-ghost use Rattle.std.specs.Prelude.{◌≡◌, ℕ, ◌<◌, ◌++◌, true, List, [], Some, length};
+ghost use Rattle.std.specs.Prelude.{◌≡◌, ℕ, ◌<◌, ◌++◌, true, List, [], None, Some, length};
 ghost use Rattle.command_text.specs.declared.reading.TheConstants.{LINE_LIMIT};
 ghost use Rattle.command_text.specs.declared.refusal.Refusal.TheVariants.{LineTooLong};
 ghost use Rattle.command_text.specs.Refusals.{line_of};
 ghost use Rattle.command_text.specs.Journal.{Accepted};
+ghost use Rattle.command_text.specs.Shape.{IsPrintable};
+ghost use Rattle.command_text.specs.Tree.{CommandTree};
 ghost use Rattle.history.specs.Catalog.{empty_catalog};
 ghost use Rattle.meaning.specs.Accepted.{are_accepted};
 ghost use Rattle.line_meaning.specs.Journal.{writes};
 ghost use Rattle.line_meaning.specs.Reached.{AreReached};
 ghost use Rattle.line_meaning.specs.Reply.{line_feed};
-ghost use Rattle.line_meaning.specs.Step.{Base, Held, line_refusal, step};
+ghost use Rattle.line_meaning.specs.Step.{Base, Held, fault_of, held_after, line_refusal, step};
 
 use command_text::read_commands_are_printable;
 
@@ -27,8 +29,11 @@ pub fn steps_write_what_is_accepted()
     ensures writes { (journal : List Accepted) → AreReached [] journal
         → are_accepted empty_catalog 0 (writes journal) ≡ true }
 
-    // The empty journal is one that steps lead to, and each step leads from one to another.
+    // The empty journal is one that steps lead to, and each accepted command and each step lead from one to
+    // another.
     ensures none { AreReached [] [] }
+    ensures command { (h : Held) (c : CommandTree) → IsPrintable c → fault_of h c ≡ None → AreReached [] h.journal
+        → AreReached [] (held_after h c).journal }
     ensures step { (b : Base) (line : List ℕ) → AreReached [] b.held.journal
         → AreReached [] (step b line).0.held.journal }
 {

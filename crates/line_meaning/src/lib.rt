@@ -1,14 +1,14 @@
 //! What a line means: what a journal tells, which lines are refused, what is replied, and the step from the
 //! state before a line to the state after it. The definitions stand in `specs/`, and nothing here reads or
 //! changes a database.
-//!
-//! `Question` is the one form of query that is answered yet.
 #![tactic(auto)]
 
+mod examples;
 mod laws;
-mod question;
+mod limits;
 mod role;
 
+pub use examples::{asks_are_answered, asks_are_refused};
 pub use laws::{long_lines_step_alike, steps_write_what_is_accepted};
-pub use question::{Asked, Question, read_question};
+pub use limits::{ASSIGNED_SPAN_LIMIT, CIRCLE_NAMES, CIRCLE_SPAN_LIMIT, limits_in_numbers};
 pub use role::{Role, is_gap, role_of};

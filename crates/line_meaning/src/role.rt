@@ -4,7 +4,6 @@ ghost use Rattle.command_text.specs.Tree.{command_view};
 ghost use Rattle.line_meaning.specs.Fault.{is_gap};
 ghost use Rattle.line_meaning.specs.Role.{role_of};
 
-use crate::question::read_question;
 use command_text::Command;
 
 /// What is done with a command.
@@ -37,13 +36,12 @@ pub fn role_of(command: &Command) -> Role
     }
 }
 
-/// Whether a command, or the form of its query, isn't built yet.
+/// Whether a command isn't built yet.
 pub fn is_gap(command: &Command) -> bool
     ensures { result ≡ is_gap (command_view command.now) }
 {
     match command {
-        Command::Ask { query, .. } => read_question(query).is_none(),
-        Command::Nothing | Command::List | Command::Quit => false,
+        Command::Nothing | Command::Ask { .. } | Command::List | Command::Quit => false,
         Command::Class { .. } | Command::Region { .. } | Command::Insert { .. } => false,
         Command::Update { .. } | Command::Remove { .. } | Command::Tick { .. } => false,
         _ => true,

@@ -13,7 +13,6 @@ pub mod Reads
 pub mod ReadsExample
 pub mod Registered
 pub mod Satisfaction
-pub mod SimpleQuestion
 pub mod TimeExample
 pub mod Trace
 pub mod Value

@@ -2,36 +2,55 @@
 ghost use Rattle.std.specs.Prelude.{◌≡◌, ℕ, ◌++◌, ◌∷◌, [], codes, decimal, nat_le, nat_lt, ◌&&◌, OnOk};
 ghost use Rattle.std.specs.List.{flat_map, list_any};
 ghost use Rattle.tick_set.specs.Runs.{pairs};
-ghost use Rattle.line_meaning.specs.Reply.{time_word, run_text, row_line};
+ghost use Rattle.line_meaning.specs.Reply.{name_text, row_line, run_text, time_word};
 ghost use Rattle.reply_text.specs.Begins.{Begins};
 
+use crate::buffer::push;
 use fixed_point::Word;
 use itoa::Buffer;
 use std::alloc::AllocError;
 use tick_set::Span;
 
-/// Writes the line of a row, as `later a : 12..30`. On error `out` still begins with its old contents.
-#[tactic(auto, using(crate::proofs::BeginLemmas::begins_through))]
-pub fn push_row(out: &mut Vec<u8>, now: u32, name: &Word, runs: &[Span]) -> Result<(), AllocError>
-    ensures ok { OnOk result (out.new.items ≡ out.old.items
-        ++ row_line now (record { name = name.now; runs = pairs runs.now })) }
+/// Writes the line of a row by the names of its objects, as `later a b : 12..30`. On error `out` still begins
+/// with its old contents.
+#[tactic(auto, using(crate::proofs::BeginLemmas::begins_through, crate::proofs::BeginLemmas::begins_more))]
+pub fn push_row(
+    out: &mut Vec<u8>,
+    now: u32,
+    names: &[Word],
+    runs: &[Span],
+) -> Result<(), AllocError>
+    ensures ok { OnOk result (out.new.items ≡ out.old.items ++ row_line now names.now (pairs runs.now)) }
     ensures begins { Begins out.old.items out.new.items }
 {
-    push_target(out, time_word(now, runs), name)?;
+    push(out, time_word(now, runs))?;
+    push_names(out, names)?;
+    push(out, b" :")?;
     push_runs(out, runs)?;
-    out.extend_from_slice(b"\n")?;
+    push(out, b"\n")
+}
+
+/// Writes names, each with a space before it.
+#[tactic(auto, using(crate::proofs::BeginLemmas::begins_through))]
+fn push_names(out: &mut Vec<u8>, names: &[Word]) -> Result<(), AllocError>
+    ensures ok { OnOk result (out.new.items ≡ out.old.items ++ flat_map name_text names.now) }
+    ensures begins { Begins out.old.items out.new.items }
+{
+    let mut rest = names;
+    'names: while let Some((name, later)) = rest.split_first() {
+        push_name(out, name)?;
+        rest = later;
+    }
     Ok(())
 }
 
 #[tactic(auto, using(crate::proofs::BeginLemmas::begins_more))]
-fn push_target(out: &mut Vec<u8>, time: &[u8], name: &Word) -> Result<(), AllocError>
-    ensures ok { OnOk result (out.new.items ≡ out.old.items ++ time.now ++ codes " " ++ name.now ++ codes " :") }
+fn push_name(out: &mut Vec<u8>, name: &Word) -> Result<(), AllocError>
+    ensures ok { OnOk result (out.new.items ≡ out.old.items ++ name_text name.now) }
     ensures begins { Begins out.old.items out.new.items }
 {
-    out.extend_from_slice(time)?;
     out.extend_from_slice(b" ")?;
     out.extend_from_slice(name.bytes())?;
-    out.extend_from_slice(b" :")?;
     Ok(())
 }
 

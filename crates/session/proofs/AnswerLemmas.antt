@@ -1,5 +1,5 @@
 -- From what is done with the command of a line to the step of the line.
-use Rattle.std.proofs.Common.{◌≡◌, ℕ, Option, None, Some, List, ◌++◌, refl, sym, ap, subst, ◌∙◌}
+use Rattle.std.proofs.Common.{◌≡◌, ℕ, Option, None, Some, List, ◌++◌, refl, sym, ap, ◌∙◌}
 use Rattle.std.specs.Prelude.{Result, Ok, Err}
 use Rattle.outside.specs.Shelf.{Texts}
 use Rattle.command_text.specs.declared.fault.CommandFault.{CommandFault}
@@ -12,9 +12,8 @@ use Rattle.command_text.specs.Tree.{CommandTree}
 use Rattle.line_meaning.specs.declared.role.Role.{Role}
 use Rattle.line_meaning.specs.declared.role.Role.TheVariants.{Blank, Keeping, Telling, Filing, Ending}
 use Rattle.line_meaning.specs.Role.{role_of}
-use Rattle.line_meaning.specs.Step.{Base, Held, base, held_after, refusal_of, reply_of, step}
+use Rattle.line_meaning.specs.Step.{Base, Held, base, refusal_of, step}
 use Rattle.line_meaning.proofs.CallerLemmas.{refusal_first, refusal_read, refused_line, spelled_is, step_accepted, step_refused}
-use Rattle.session.specs.declared.next.ApplyFault.TheVariants as faults
 use Rattle.session.specs.declared.next.Next.{Next}
 use Rattle.session.specs.declared.next.Next.TheVariants as nexts
 use Rattle.session.specs.Answers.{Answers, Applies, next_by, next_of, next_or_fault}
@@ -80,11 +79,4 @@ refused_applies shelf line old before r first = record {
       let fault : refusal_of b line ≡ Some r = refused_line b line r (refusal_first old line r first) in
       (fault, step_refused b line r fault, refl, refl);
   fails = tt;
-}
-
-pub unread_applies : (shelf : Option Texts) (line : List ℕ) (old : Held) (before : List ℕ) → early_refusal LINE_LIMIT line ≡ None →
-    Applies shelf line old old before before (Err faults.NoMemory)
-unread_applies shelf line old before early = record {
-  answers = λ texts suffices. tt;
-  fails = (refl, early, refl, refl);
 }

@@ -1,13 +1,15 @@
 //! What is done with a command that was read.
-ghost use Rattle.std.specs.Prelude.{◌≡◌, ◌+◌, ◌≤◌, ◌++◌, false, true, length, OnOk, IfErr};
+ghost use Rattle.std.specs.Prelude.{◌≡◌, ◌+◌, ◌≤◌, ◌++◌, false, true, length, IfErr};
 ghost use Rattle.ftl_lexer.specs.declared.buffer.TheConstants.{LEXER_LIMIT};
-ghost use Rattle.command_text.specs.Journal.{Accepted, spelled};
+ghost use Rattle.history.specs.Catalog.{empty_catalog};
+ghost use Rattle.meaning.specs.Accepted.{are_accepted};
+ghost use Rattle.command_text.specs.Journal.{spelled};
 ghost use Rattle.command_text.specs.Text.{text_of};
 ghost use Rattle.command_text.specs.Tree.{command_view};
 ghost use Rattle.line_meaning.specs.declared.role.Role.TheVariants.{Ending, Telling};
-ghost use Rattle.line_meaning.specs.Answering.{looks};
 ghost use Rattle.line_meaning.specs.Fault.{is_gap};
-ghost use Rattle.line_meaning.specs.Journal.{world};
+ghost use Rattle.line_meaning.specs.Journal.{world, writes};
+ghost use Rattle.line_meaning.specs.Looks.{is_query, most_looks};
 ghost use Rattle.line_meaning.specs.Role.{is_kept, role_of};
 ghost use Rattle.line_meaning.specs.Step.{held};
 ghost use Rattle.database.specs.Keeping.{Keeps};
@@ -78,24 +80,28 @@ fn keep(
 }
 
 /// Answers a command that changes nothing. An error changes nothing.
-fn tell<L: Ledger>(
+fn tell<L: Ledger, M: Ledger>(
     alloc: Global,
     journal: &Journal,
     database: &Database,
     command: &Command,
     reads: &mut Steps<L>,
+    probes: &mut Steps<M>,
     out: &mut Vec<u8>,
 ) -> Result<Next, CommandFault>
     requires keeps { Keeps journal.now database.now }
     requires telling { role_of (command_view command.now) ≡ Telling }
     requires gap { is_gap (command_view command.now) ≡ false }
     requires ready { IsReady (command_view command.now) }
+    requires accepted { are_accepted empty_catalog 0 (writes journal.now) ≡ true }
     ensures carried { Carried (held journal.now) (command_view command.now) (held journal.now) out.old.items out.new.items result }
     ensures least { reads.old ≤ reads.new }
-    ensures most { reads.new ≤ reads.old + looks (world journal.now).history.catalog (command_view command.now) }
+    ensures most { reads.new ≤ reads.old + most_looks (world journal.now) (command_view command.now) }
     ensures unread { IfErr result (λ fault. IsRefused fault → reads.new ≡ reads.old) }
+    ensures unprobed { IfErr result (λ fault. IsRefused fault → probes.new ≡ probes.old) }
+    ensures plain { is_query (command_view command.now) ≡ false → probes.new ≡ probes.old }
 {
-    database.tell(alloc, command, reads, out)?;
+    database.tell(alloc, command, reads, probes, out)?;
     Ok(Next::Accepted)
 }
 
@@ -109,24 +115,28 @@ fn quit(journal: &Journal, command: &Command, out: &mut Vec<u8>) -> Result<Next,
 }
 
 /// Answers a command that was read. A refusal and want of memory change nothing.
-pub(crate) fn answer<L: Ledger>(
+pub(crate) fn answer<L: Ledger, M: Ledger>(
     alloc: Global,
     journal: &mut Journal,
     database: &mut Database,
     line: &mut Vec<u8>,
     command: &Command,
     reads: &mut Steps<L>,
+    probes: &mut Steps<M>,
     out: &mut Vec<u8>,
 ) -> Result<Next, CommandFault>
     requires keeps { Keeps journal.old database.old }
     requires ready { IsReady (command_view command.now) }
     requires canonical { spelled (text_of (command_view command.now)) ≡ command_view command.now }
     requires short { length (text_of (command_view command.now)) ≤ LEXER_LIMIT }
+    requires accepted { are_accepted empty_catalog 0 (writes journal.old) ≡ true }
     ensures keeps { Keeps journal.new database.new }
     ensures carried { Carried (held journal.old) (command_view command.now) (held journal.new) out.old.items out.new.items result }
     ensures least { reads.old ≤ reads.new }
-    ensures most { reads.new ≤ reads.old + looks (world journal.old).history.catalog (command_view command.now) }
+    ensures most { reads.new ≤ reads.old + most_looks (world journal.old) (command_view command.now) }
     ensures unread { IfErr result (λ fault. IsRefused fault → reads.new ≡ reads.old) }
+    ensures unprobed { IfErr result (λ fault. IsRefused fault → probes.new ≡ probes.old) }
+    ensures plain { is_query (command_view command.now) ≡ false → probes.new ≡ probes.old }
 {
     if is_gap(command) {
         return Err(CommandFault::Refused(Refusal::BadSyntax));
@@ -134,7 +144,7 @@ pub(crate) fn answer<L: Ledger>(
     match role_of(command) {
         Role::Blank => Ok(Next::Silent),
         Role::Keeping => keep(alloc, journal, database, line, command, out),
-        Role::Telling => tell(alloc, journal, database, command, reads, out),
+        Role::Telling => tell(alloc, journal, database, command, reads, probes, out),
         Role::Ending => quit(journal, command, out),
         Role::Filing => unreachable!(),
     }

@@ -1,8 +1,8 @@
 //! The state of the database, one line at a time.
-ghost use Rattle.std.specs.Prelude.{◌≡◌, ◌+◌, ◌≤◌, [], IfOk};
+ghost use Rattle.std.specs.Prelude.{◌≡◌, ◌+◌, ◌≤◌, false, [], IfOk};
 ghost use Rattle.command_text.specs.Journal.{spelled};
-ghost use Rattle.line_meaning.specs.Answering.{looks};
 ghost use Rattle.line_meaning.specs.Journal.{clock, world};
+ghost use Rattle.line_meaning.specs.Looks.{is_query, most_looks};
 ghost use Rattle.line_meaning.specs.Step.{held};
 ghost use Rattle.session.specs.Answers.{Applies, IsUnread, next_or_fault};
 
@@ -13,6 +13,7 @@ use command_text::{
     canonical_lines_are_short, read_commands_are_printable,
 };
 use database::Database;
+use line_meaning::steps_write_what_is_accepted;
 use outside::Shelf;
 use std::alloc::Global;
 use std::marker::Model;
@@ -32,12 +33,13 @@ pub struct Session {
 }
 
 impl Model for Session {
-    ghost use Rattle.std.specs.Prelude.{ℕ, List, refl};
+    ghost use Rattle.std.specs.Prelude.{ℕ, List, [], refl};
     ghost use Rattle.std.specs.Coded.{codes, code_by};
     ghost use Rattle.formula_shape.specs.ShapeCode.{shape_code};
     ghost use Rattle.ftl_parser.specs.declared.tree.Atom.{Atom};
     ghost use Rattle.ftl_parser.specs.declared.tree.Term.{Term};
     ghost use Rattle.command_text.specs.Journal.{Accepted};
+    ghost use Rattle.line_meaning.specs.Reached.{AreReached};
     ghost use Rattle.line_meaning.specs.Step.{Held, held};
     ghost use Rattle.database.specs.Keeping.{Keeps};
 
@@ -48,7 +50,7 @@ impl Model for Session {
 
     ghost view = { λ a. held a.journal };
 
-    ghost invariant = { λ a. Keeps a.journal a.database };
+    ghost invariant = { λ a. Keeps a.journal a.database × AreReached [] a.journal };
 }
 
 impl Session {
@@ -81,8 +83,9 @@ impl Session {
 
     /// Answers one line, without its line feed. `Accepted` and `Quit` append the reply to `out`; `Silent`
     /// comes exactly of a blank line or a comment; `Refused` carries the first refusal that holds, and
-    /// neither it nor want of memory changes anything. No command calls the shelf or takes a step of
-    /// `probes`. Only a query takes steps of `reads`: at most one for each name of its class.
+    /// neither it nor want of memory changes anything. No command calls the shelf. Only a query takes steps
+    /// of `reads`, at most as many as its bound by the numbers of objects and of ticks, and of `probes`; a
+    /// refused one takes none.
     pub fn apply<F: Shelf, L: Ledger, M: Ledger>(
         &mut self,
         line: &[u8],
@@ -93,10 +96,11 @@ impl Session {
     ) -> Result<Next, ApplyFault>
         ensures applies { Applies (F.texts shelf.old) line.now self.old self.new out.old.items out.new.items result }
         ensures shelf { shelf.new ≡ shelf.old }
-        ensures probes { probes.new ≡ probes.old }
         ensures least { reads.old ≤ reads.new }
-        ensures most { reads.new ≤ reads.old + looks (world self.old.journal).history.catalog (spelled line.now) }
+        ensures most { reads.new ≤ reads.old + most_looks (world self.old.journal) (spelled line.now) }
         ensures unread { IfOk result (λ next. IsUnread next reads.old reads.new) }
+        ensures unprobed { IfOk result (λ next. IsUnread next probes.old probes.new) }
+        ensures plain { is_query (spelled line.now) ≡ false → probes.new ≡ probes.old }
     {
         let command = match self.reader.read(line, LINE_LIMIT) {
             Ok(command) => command,
@@ -104,10 +108,12 @@ impl Session {
             Err(CommandFault::NoMemory) => return Err(ApplyFault::NoMemory),
         };
         // Calls without a body, whose contracts say what `answer` requires: that the command which was read is
-        // printable, that its canonical line is short enough for the reader, and that this line is read back as it.
+        // printable, that its canonical line is short enough for the reader, that this line is read back as it, and
+        // that the journal's writes are accepted ones.
         read_commands_are_printable();
         canonical_lines_are_short();
         canonical_lines_are_read_back();
+        steps_write_what_is_accepted();
         let answered = answer(
             self.alloc,
             &mut self.journal,
@@ -115,6 +121,7 @@ impl Session {
             &mut self.line,
             &command,
             reads,
+            probes,
             out,
         );
         drop(command);

@@ -204,63 +204,136 @@ fn what_is_there_is_listed(rt: HostRuntime) -> Result<(), Fail> {
 }
 
 #[test]
-fn forms_that_are_not_built_are_refused(rt: HostRuntime) -> Result<(), Fail> {
+fn commands_that_are_not_built_are_refused(rt: HostRuntime) -> Result<(), Fail> {
+    check(
+        &rt,
+        &rt,
+        &[Row {
+            lines: &[
+                b"class tank 9 (fuel dyn)",
+                b"watch w 30 RETRIEVE o FROM tank o WHERE o.fuel <= 4",
+                b"keep w 30 RETRIEVE o FROM tank o WHERE TRUE",
+                b"show w",
+                b"drop w",
+                b"save \"s\"",
+                b"import tank \"s\"",
+                b"export tank \"s\"",
+                b"nearest 1 1 a tank",
+                b"index tank fuel 1",
+                b"range 1 tank fuel 1 2",
+            ],
+            replies: "ok\nrefused 4 BadSyntax\nrefused 4 BadSyntax\nrefused 4 BadSyntax\nrefused 4 BadSyntax\nrefused 4 BadSyntax\nrefused 4 BadSyntax\nrefused 4 BadSyntax\nrefused 4 BadSyntax\nrefused 4 BadSyntax\nrefused 4 BadSyntax\n",
+        }],
+    )
+}
+
+#[test]
+fn places_are_asked_for(rt: HostRuntime) -> Result<(), Fail> {
     check(
         &rt,
         &rt,
         &[
             Row {
                 lines: &[
-                    b"class tank 9 (fuel dyn)",
-                    b"watch w 30 RETRIEVE o FROM tank o WHERE o.fuel <= 4",
-                    b"keep w 30 RETRIEVE o FROM tank o WHERE TRUE",
-                    b"show w",
-                    b"drop w",
-                    b"save \"s\"",
-                    b"import tank \"s\"",
-                    b"export tank \"s\"",
-                    b"nearest 1 1 a tank",
-                    b"index tank fuel 1",
-                    b"range 1 tank fuel 1 2",
+                    b"class car 100 point",
+                    b"region P (10,-5) (20,-5) (20,5) (10,5)",
+                    b"insert car a at (0,0) move (1,0)",
+                    b"ask 30 RETRIEVE o FROM car o WHERE INSIDE(o,P)",
+                    b"update a move [(2,0),6] (0,0)",
+                    b"ask 30 RETRIEVE o FROM car o WHERE INSIDE(o,P)",
+                    b"ask 30 RETRIEVE o FROM car o WHERE OUTSIDE(o,P)",
                 ],
-                replies: "ok\nrefused 4 BadSyntax\nrefused 4 BadSyntax\nrefused 4 BadSyntax\nrefused 4 BadSyntax\nrefused 4 BadSyntax\nrefused 4 BadSyntax\nrefused 4 BadSyntax\nrefused 4 BadSyntax\nrefused 4 BadSyntax\nrefused 4 BadSyntax\n",
+                replies: "ok\nok\nok\nlater a : 10..20\nok\nok\nlater a : 5..30\nok\nnow a : 0..4\nok\n",
             },
             Row {
                 lines: &[
-                    b"ask 1 RETRIEVE o FROM c o WHERE TRUE",
-                    b"ask 1 RETRIEVE o FROM c o WHERE 4 >= o.a",
-                    b"ask 1 RETRIEVE o FROM c o WHERE o.a <= 2 * o.a",
-                    b"ask 1 RETRIEVE o FROM c o WHERE - o.a <= 2",
-                    b"ask 1 RETRIEVE o FROM c o WHERE o.a.value <= 2",
-                    b"ask 1 RETRIEVE o,p FROM c o,c p WHERE o.a <= 2",
-                    b"ask 1 RETRIEVE o FROM c o WHERE o.a <= 2000000000000",
+                    b"class car 100 point",
+                    b"class post 10 point",
+                    b"insert car a move (1,0)",
+                    b"insert post b at (5,0)",
+                    b"ask 10 RETRIEVE o FROM car o,post n WHERE DIST(o,n) != 3",
+                    b"ask 10 RETRIEVE n,o FROM car o,post n WHERE DIST(o,n) <= 1",
+                    b"ask 1 RETRIEVE o FROM car o,post n WHERE DIST(o,n) > -1",
+                    b"ask 1 RETRIEVE o FROM car o,post n WHERE DIST(o,n) <= -1",
                 ],
-                replies: "refused 4 BadSyntax\nrefused 4 BadSyntax\nrefused 4 BadSyntax\nrefused 4 BadSyntax\nrefused 4 BadSyntax\nrefused 4 BadSyntax\nrefused 5 NumberRange\n",
+                replies: "ok\nok\nok\nok\nnow a : 0..1 3..7 9..10\nok\nlater b a : 4..6\nok\nnow a : 0..1\nok\nok\n",
+            },
+            Row {
+                lines: &[
+                    b"class pa 1 point",
+                    b"class pb 1 point",
+                    b"class pc 1 point",
+                    b"insert pa p",
+                    b"insert pb q at (6,0)",
+                    b"insert pc r at (3,5)",
+                    b"ask 0 RETRIEVE a FROM pa a,pb b,pc c WHERE WITHIN_SPHERE(3.4,a,b,c)",
+                    b"ask 0 RETRIEVE a FROM pa a,pb b,pc c WHERE WITHIN_SPHERE(3.399,a,b,c)",
+                ],
+                replies: "ok\nok\nok\nok\nok\nok\nnow p : 0..0\nok\nok\n",
             },
         ],
     )
 }
 
 #[test]
-fn a_question_is_refused_by_its_first_fault(rt: HostRuntime) -> Result<(), Fail> {
+fn times_and_values_are_asked_for(rt: HostRuntime) -> Result<(), Fail> {
+    check(
+        &rt,
+        &rt,
+        &[
+            Row {
+                lines: &[
+                    b"class car 100 point",
+                    b"insert car a",
+                    b"ask 20 RETRIEVE o FROM car o WHERE (TIME <= 4 OR TIME >= 6 AND TIME <= 9) UNTIL (TIME = 5 OR TIME = 10)",
+                    b"ask 10 RETRIEVE o FROM car o WHERE ALWAYS_FOR 5 TIME >= 7",
+                    b"ask 10 RETRIEVE o FROM car o WHERE NEXTTIME TRUE",
+                    b"ask 0 RETRIEVE o FROM car o WHERE NEXTTIME TRUE",
+                    b"update a move (2,0)",
+                    b"ask 20 RETRIEVE o FROM car o WHERE [v <- o.x] EVENTUALLY_WITHIN 5 o.x >= v + 10",
+                ],
+                replies: "ok\nok\nnow a : 0..10\nok\nlater a : 7..10\nok\nnow a : 0..9\nok\nok\nok\nnow a : 0..15\nok\n",
+            },
+            Row {
+                lines: &[
+                    b"class car 100 point (plate text)",
+                    b"insert car a move [(5,0),1] [(7,0),1] (10,0)",
+                    b"insert car b plate = \"B\"",
+                    b"ask 20 RETRIEVE o FROM car o WHERE [s <- o.x.function] (EVENTUALLY_WITHIN 10 o.x.function >= 2 * s AND s > 0)",
+                    b"ask 2 RETRIEVE n,o FROM car o,car n WHERE o.plate = \"B\" AND n.plate != \"B\"",
+                ],
+                replies: "ok\nok\nok\nnow a : 0..0\nok\nnow a b : 0..2\nok\n",
+            },
+        ],
+    )
+}
+
+#[test]
+fn an_ask_is_refused_by_its_first_fault(rt: HostRuntime) -> Result<(), Fail> {
     check(
         &rt,
         &rt,
         &[Row {
             lines: &[
-                b"class tank 9 (fuel dyn,plate text)",
-                b"ask 200000000 RETRIEVE o FROM car o WHERE o.fuel <= 4",
-                b"ask 200000000 RETRIEVE p FROM tank o WHERE o.plate <= 4",
-                b"ask 200000000 RETRIEVE o FROM tank o WHERE p.plate <= 4",
-                b"ask 200000000 RETRIEVE o FROM tank o WHERE o.x <= 4",
-                b"ask 200000000 RETRIEVE o FROM tank o WHERE o.plate <= 4",
-                b"ask 100000001 RETRIEVE o FROM tank o WHERE o.fuel <= 4",
-                b"ask 100000000 RETRIEVE o FROM tank o WHERE o.fuel <= 4",
+                b"class tank 101 (fuel dyn,plate text)",
+                b"class car 100 point",
+                b"insert car a",
+                b"ask 200000000 RETRIEVE o FROM boat o WHERE o.fuel <= 4",
+                b"ask 200000000 RETRIEVE o FROM tank o WHERE INSIDE(o,P)",
+                b"ask 200000000 RETRIEVE o,o FROM tank o WHERE o.plate = 1",
+                b"ask 200000000 RETRIEVE o FROM tank o WHERE o.plate <= \"A\"",
+                b"ask 200000000 RETRIEVE o FROM tank o WHERE 1000 * o.fuel <= 4",
+                b"ask 100000001 RETRIEVE o FROM tank o,tank n,tank m WHERE TRUE",
+                b"ask 10001 RETRIEVE o FROM tank o WHERE [v <- o.fuel] TRUE",
+                b"ask 100001 RETRIEVE o FROM car o WHERE WITHIN_SPHERE(1,o,o,o)",
+                b"ask 1 RETRIEVE o FROM tank o,tank n,tank m WHERE TRUE",
+                b"ask 1 RETRIEVE o FROM car o,car n,car m WHERE TRUE",
+                b"ask 1 RETRIEVE o FROM car o WHERE 999 * o.x <= 5",
                 b"tick 1000000000",
-                b"ask 1 RETRIEVE o FROM tank o WHERE o.fuel <= 4",
-                b"ask 0 RETRIEVE o FROM tank o WHERE o.fuel <= 4",
+                b"ask 1 RETRIEVE o FROM car o WHERE TRUE",
+                b"ask 0 RETRIEVE o FROM car o WHERE TRUE",
             ],
-            replies: "ok\nrefused 7 UnknownName\nrefused 7 UnknownName\nrefused 7 UnknownName\nrefused 7 UnknownName\nrefused 9 WrongKind\nrefused 12 SpanRange\nok\nok\nrefused 12 SpanRange\nok\n",
+            replies: "ok\nok\nok\nrefused 7 UnknownName\nrefused 7 UnknownName\nrefused 8 NameTaken\nrefused 9 WrongKind\nrefused 11 TermRange\nrefused 12 SpanRange\nrefused 12 SpanRange\nrefused 12 SpanRange\nrefused 17 BindingLimit\nnow a : 0..1\nok\nnow a : 0..1\nok\nok\nrefused 12 SpanRange\nnow a : 1000000000..1000000000\nok\n",
         }],
     )
 }

@@ -1,7 +1,7 @@
 use Rattle.std.proofs.Common.{refl, sym, ◌∙◌, subst}
-use Rattle.command_text.specs.Standing.{Stops}
-use Rattle.command_text.proofs.Derived.{move_leg_shortens}
-use Rattle.command_text.proofs.ManyLemmas.{goes_on, goes_wrong, all_read}
+use Rattle.command_text.specs.inner.Standing.{Stops}
+use Rattle.command_text.proofs.grammar.Derived.{move_leg_shortens}
+use Rattle.command_text.proofs.grammar.ManyLemmas.{goes_on, goes_wrong, all_read}
 use Rattle.command_text.proofs.legs.move_legs.Goals as goal
 
 pub legs-preserved : goal.legs-preserved

@@ -1,9 +1,9 @@
 use Rattle.std.proofs.Common.{[], length}
 use Rattle.case_table.specs.declared.symbol.TheConstants.{OPEN_SQUARE}
 use Rattle.command_text.specs.Piece.{is_sign}
-use Rattle.command_text.specs.Reading.{begins, move_leg}
-use Rattle.command_text.specs.Standing.{standing}
-use Rattle.command_text.proofs.ManyLemmas.{Goes}
+use Rattle.command_text.specs.inner.Reading.{begins, move_leg}
+use Rattle.command_text.specs.inner.Standing.{standing}
+use Rattle.command_text.proofs.grammar.ManyLemmas.{Goes}
 use Rattle.command_text.proofs.legs.move_legs.Given as goal
 
 -- what was read and what is left make the whole

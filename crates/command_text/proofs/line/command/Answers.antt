@@ -1,5 +1,5 @@
 use Rattle.std.proofs.Common.{◌≡◌, true, false, sym, ◌∙◌}
-use Rattle.command_text.proofs.LineLemmas.{blank_whole, line_either}
+use Rattle.command_text.proofs.reader.LineLemmas.{blank_whole, line_either}
 use Rattle.command_text.proofs.line.command.Goals as goal
 
 pub returns-then-is_empty : goal.returns-then-is_empty

@@ -1,7 +1,7 @@
 use Rattle.std.proofs.Common.{refl, sym, ◌∙◌, subst}
-use Rattle.command_text.specs.Standing.{Stops}
-use Rattle.command_text.proofs.Derived.{point_shortens}
-use Rattle.command_text.proofs.ManyLemmas.{goes_on, goes_wrong, all_read}
+use Rattle.command_text.specs.inner.Standing.{Stops}
+use Rattle.command_text.proofs.grammar.Derived.{point_shortens}
+use Rattle.command_text.proofs.grammar.ManyLemmas.{goes_on, goes_wrong, all_read}
 use Rattle.command_text.proofs.parts.all_points.Goals as goal
 
 pub points-preserved : goal.points-preserved

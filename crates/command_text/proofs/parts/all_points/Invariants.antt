@@ -1,9 +1,9 @@
 use Rattle.std.proofs.Common.{[], length}
 use Rattle.case_table.specs.declared.symbol.TheConstants.{OPEN_ROUND}
 use Rattle.command_text.specs.Piece.{is_sign}
-use Rattle.command_text.specs.Reading.{begins, point}
-use Rattle.command_text.specs.Standing.{standing}
-use Rattle.command_text.proofs.ManyLemmas.{Goes}
+use Rattle.command_text.specs.inner.Reading.{begins, point}
+use Rattle.command_text.specs.inner.Standing.{standing}
+use Rattle.command_text.proofs.grammar.ManyLemmas.{Goes}
 use Rattle.command_text.proofs.parts.all_points.Given as goal
 
 -- what was read and what is left make the whole

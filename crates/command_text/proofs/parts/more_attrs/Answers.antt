@@ -1,7 +1,7 @@
 use Rattle.std.proofs.Common.{refl, sym, ◌∙◌, subst}
-use Rattle.command_text.specs.Standing.{Stops}
-use Rattle.command_text.proofs.Derived.{next_attr_shortens}
-use Rattle.command_text.proofs.ManyLemmas.{goes_on, goes_wrong, goes_to_the_end}
+use Rattle.command_text.specs.inner.Standing.{Stops}
+use Rattle.command_text.proofs.grammar.Derived.{next_attr_shortens}
+use Rattle.command_text.proofs.grammar.ManyLemmas.{goes_on, goes_wrong, goes_to_the_end}
 use Rattle.command_text.proofs.parts.more_attrs.Goals as goal
 
 pub attrs-preserved : goal.attrs-preserved

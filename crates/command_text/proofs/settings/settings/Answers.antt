@@ -1,6 +1,6 @@
 use Rattle.std.proofs.Common.{sym, ◌∙◌}
-use Rattle.command_text.proofs.Derived.{setting_shortens}
-use Rattle.command_text.proofs.ManyLemmas.{goes_on, goes_stopped, all_read}
+use Rattle.command_text.proofs.grammar.Derived.{setting_shortens}
+use Rattle.command_text.proofs.grammar.ManyLemmas.{goes_on, goes_stopped, all_read}
 use Rattle.command_text.proofs.settings.settings.Goals as goal
 
 pub settings-preserved : goal.settings-preserved

@@ -1,8 +1,8 @@
 use Rattle.std.proofs.Common.{[], length}
 use Rattle.command_text.specs.Piece.{is_name}
-use Rattle.command_text.specs.Reading.{begins, setting}
-use Rattle.command_text.specs.Standing.{standing}
-use Rattle.command_text.proofs.ManyLemmas.{Goes}
+use Rattle.command_text.specs.inner.Reading.{begins, setting}
+use Rattle.command_text.specs.inner.Standing.{standing}
+use Rattle.command_text.proofs.grammar.ManyLemmas.{Goes}
 use Rattle.command_text.proofs.settings.settings.Given as goal
 
 -- what was read and what is left make the whole

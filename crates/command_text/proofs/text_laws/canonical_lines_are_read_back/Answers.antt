@@ -1,6 +1,6 @@
 -- By the parts of the commands.
-use Rattle.command_text.proofs.TextReads.{reads_what_is_printed}
-use Rattle.command_text.proofs.TextAgain.{reads_again, reads_lines_again}
+use Rattle.command_text.proofs.canonical.TextReads.{reads_what_is_printed}
+use Rattle.command_text.proofs.canonical.TextAgain.{reads_again, reads_lines_again}
 use Rattle.command_text.proofs.text_laws.canonical_lines_are_read_back.Goals as goal
 
 pub returns-clause-printed : goal.returns-clause-printed

@@ -1,19 +1,20 @@
-use Rattle.std.proofs.Common.{◌≡◌, ◌++◌, ◌+◌, ◌≤◌, ◌<◌, length}
-use Rattle.std.specs.Prelude.{All}
-use Rattle.std.specs.List.{flat_map}
+use Rattle.std.proofs.Common.{◌≡◌, true, ◌++◌, length}
+use Rattle.std.specs.List.{list_all}
+use Rattle.object_store.specs.Contents.{catalog_of}
+use Rattle.answers.specs.Told.{told_rows}
+use Rattle.line_meaning.specs.Reply.{rows_text}
 use Rattle.reply_text.specs.Begins.{Begins}
-use Rattle.database.specs.Rows.{line_of_id}
+use Rattle.database.specs.Rows.{has_objects}
 use Rattle.database.proofs.rows.push_rows.Given as goal
 
--- what was written and the lines of the objects that are left make the whole
+-- what was written and the lines of the rows that are left make the whole
 abbrev pub invariant-rows : goal.invariant-rows
-invariant-rows g l = record {
-  whole : l.out.items ++ flat_map (line_of_id l.store l.sought) l.rest ≡ l.fn.out.items ++ flat_map (line_of_id l.store l.sought) l.ids;
+invariant-rows l = record {
+  whole : l.out.items ++ rows_text (catalog_of l.store) l.tick (told_rows l.rest)
+      ≡ l.fn.out.items ++ rows_text (catalog_of l.store) l.tick (told_rows l.rows);
   begins : Begins l.fn.out.items l.out.items;
-  there : All (λ id. id < length l.store.objects) l.rest;
-  least : l.fn.reads ≤ l.reads;
-  most : l.reads + length l.rest ≤ l.fn.reads + length l.ids;
+  there : list_all (has_objects (length (catalog_of l.store).objects)) (told_rows l.rest) ≡ true;
 }
 
 abbrev pub decreases-rows : goal.decreases-rows
-decreases-rows g l = length l.rest
+decreases-rows l = length l.rest

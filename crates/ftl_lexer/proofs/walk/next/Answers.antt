@@ -26,8 +26,12 @@ returns-in-Some c =
     let counted = c.blank_len.ensures.value ∙ ap (prefix_len is_blank) c.rest_of.ensures in
     let found : token_at (drop (c.args.from + c.blank_len.result) c.args.line.now) ≡ Some (c.in-Some.kind, c.in-Some.len) =
     ap token_at (sym c.rest_of-2.ensures) ∙ (sym c.token_at.ensures ∙ c.in-Some.is) in
-    let within = step_within c.args.line.now (c.args.from + c.blank_len.result) c.in-Some.kind c.in-Some.len (omega arith) found in
-    (omega arith, omega (arith, within.0), within.1, step_token c.args.line.now c.args.from c.blank_len.result c.in-Some.kind c.in-Some.len counted blanks found)
+    let within = step_within c.args.line.now (c.args.from + c.blank_len.result) c.in-Some.kind c.in-Some.len (omega arith) found in (
+      omega arith,
+      omega (arith, within.0),
+      within.1,
+      step_token c.args.line.now c.args.from c.blank_len.result c.in-Some.kind c.in-Some.len counted blanks found,
+    )
 
 pub returns-in-None : goal.returns-in-None
 returns-in-None c =

@@ -1,5 +1,5 @@
 use Rattle.std.proofs.Common.{◌≡◌, ◌<◌, Some, vec_len, arith, rules}
-use Rattle.ftl_parser.proofs.StackLemmas.{popped}
+use Rattle.ftl_parser.proofs.reader.StackLemmas.{popped}
 use Rattle.ftl_parser.proofs.frame.pop_from.Goals as goal
 
 -- the topmost frame is the one that is looked at

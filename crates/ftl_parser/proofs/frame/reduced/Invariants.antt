@@ -1,6 +1,6 @@
 use Rattle.std.proofs.Common.{◌≡◌, length}
-use Rattle.ftl_parser.specs.Machine.{reduced}
-use Rattle.ftl_parser.specs.Views.{stack_of}
+use Rattle.ftl_parser.specs.inner.Machine.{reduced}
+use Rattle.ftl_parser.specs.inner.Views.{stack_of}
 use Rattle.ftl_parser.proofs.frame.reduced.Given as goal
 
 -- what is left to do gives the same

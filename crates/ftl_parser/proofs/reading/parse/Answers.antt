@@ -3,9 +3,9 @@ use Rattle.ftl_parser.specs.Lawful.{IsLawful}
 use Rattle.ftl_parser.specs.Piece.{lexemes_from}
 use Rattle.ftl_parser.specs.Sizes.{first_too_large}
 use Rattle.ftl_parser.specs.Tree.{Tree}
-use Rattle.ftl_parser.specs.Views.{spelled_view}
-use Rattle.ftl_parser.proofs.Judged.{large-explained, reads}
-use Rattle.ftl_parser.proofs.TextShapes.{reads_lawful}
+use Rattle.ftl_parser.specs.inner.Views.{spelled_view}
+use Rattle.ftl_parser.proofs.reader.Judged.{large-explained, reads}
+use Rattle.ftl_parser.proofs.canonical.TextShapes.{reads_lawful}
 use Rattle.ftl_parser.proofs.reading.parse.Goals as goal
 
 -- the size that is told is the first that passes its limit

@@ -1,5 +1,5 @@
-use Rattle.ftl_parser.specs.Views.{kept_view}
-use Rattle.ftl_parser.proofs.RunLemmas.{GoesOn}
+use Rattle.ftl_parser.specs.inner.Views.{kept_view}
+use Rattle.ftl_parser.proofs.reader.RunLemmas.{GoesOn}
 use Rattle.ftl_parser.proofs.reading.spelled.Given as goal
 
 abbrev pub invariant-loop-at : goal.invariant-loop-at

@@ -1,4 +1,4 @@
-use Rattle.ftl_parser.proofs.TokenLemmas.{scan-step}
+use Rattle.ftl_parser.proofs.reader.TokenLemmas.{scan-step}
 use Rattle.ftl_parser.proofs.scan.first_unfit.Goals as goal
 
 pub loop-at-preserved : goal.loop-at-preserved

@@ -1,5 +1,5 @@
 use Rattle.std.proofs.Common.{sym, ◌∙◌}
-use Rattle.ftl_parser.proofs.TokenLemmas.{has_long-step, has_long-found}
+use Rattle.ftl_parser.proofs.reader.TokenLemmas.{has_long-step, has_long-found}
 use Rattle.ftl_parser.proofs.scan.has_long.Goals as goal
 
 pub loop-at-preserved : goal.loop-at-preserved

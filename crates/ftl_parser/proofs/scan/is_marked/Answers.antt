@@ -1,6 +1,6 @@
 use Rattle.std.proofs.Common.{sym}
 use Rattle.ftl_parser.specs.Piece.{pieces_from}
-use Rattle.ftl_parser.proofs.TableLemmas.{unmarked-token}
+use Rattle.ftl_parser.proofs.reader.TableLemmas.{unmarked-token}
 use Rattle.ftl_parser.proofs.scan.is_marked.Goals as goal
 
 pub returns-in_default : goal.returns-in_default

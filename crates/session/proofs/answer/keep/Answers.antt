@@ -7,5 +7,5 @@ pub returns-in_err-change-clause-carried : goal.returns-in_err-change-clause-car
 returns-in_err-change-clause-carried c =
     let p = err_from_is_err_and c.from_residual.result c.from_residual.ensures.1 in
     rw (p.1, p.2)
-    (stopped_carried c.args.journal.now c.args.database.now (command_view c.args.command.now) c.requires.keeps c.requires.gap c.requires.kept
-    c.attempt.new.self c.args.out.now.items _ c.in_err-change.ensures)
+    (stopped_carried c.args.journal.now c.args.database.now c.attempt.new.self (command_view c.args.command.now) c.args.out.now.items _
+    c.requires.keeps c.requires.gap c.requires.kept c.in_err-change.ensures)

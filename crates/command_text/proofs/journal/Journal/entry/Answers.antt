@@ -1,6 +1,6 @@
 use Rattle.std.proofs.Common.{ℕ, ◌+◌, ◌≤◌, List, length, option_map, slice_get, sym, ap, ◌∙◌, subst}
 use Rattle.command_text.specs.Journal.{line_told}
-use Rattle.command_text.specs.JournalParts.{line_in}
+use Rattle.command_text.specs.inner.JournalParts.{line_in}
 use Rattle.command_text.proofs.JournalLemmas.{line_inside, entry_told}
 use Rattle.command_text.proofs.journal.Journal.entry.Goals as goal
 

@@ -13,10 +13,12 @@ add_line-requires c =
 
 pub invariant_of-self : goal.invariant_of-self
 invariant_of-self c =
-    kept_either c.add_line.result c.self.inside.kept.items c.add_line.new.kept.items c.self.inside.text.items c.add_line.new.text.items c.args.line.now c.args.tick c.args.self.now
+    kept_either c.add_line.result c.self.inside.kept.items c.add_line.new.kept.items c.self.inside.text.items
+    c.add_line.new.text.items c.args.line.now c.args.tick c.args.self.now
     c.self.invariant (sym c.self.view_is) c.requires.few c.requires.short c.requires.line c.add_line.ensures.kept c.add_line.ensures.text c.add_line.ensures.err
 
 pub returns-clause-ok : goal.returns-clause-ok
 returns-clause-ok c =
-    told_either c.add_line.result c.self.inside.kept.items c.add_line.new.kept.items c.self.inside.text.items c.add_line.new.text.items c.args.line.now c.args.tick c.args.self.now
+    told_either c.add_line.result c.self.inside.kept.items c.add_line.new.kept.items c.self.inside.text.items
+    c.add_line.new.text.items c.args.line.now c.args.tick c.args.self.now
     c.self.invariant (sym c.self.view_is) c.requires.few c.requires.short c.requires.line c.add_line.ensures.kept c.add_line.ensures.text

@@ -1,3 +1,0 @@
-pub mod CrossLemmas
-pub mod GatherLemmas
-pub mod PairLemmas

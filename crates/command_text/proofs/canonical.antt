@@ -1,0 +1,9 @@
+pub mod TextAgain
+pub mod TextAscii
+pub mod TextCuts
+pub mod TextLengths
+pub mod TextNumbers
+pub mod TextParts
+pub mod TextReads
+pub mod TextShapes
+pub mod TextTails

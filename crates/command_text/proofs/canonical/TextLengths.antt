@@ -1,0 +1,401 @@
+-- A canonical line has at most four bytes for each byte of the tokens that spell its command.
+use Rattle.std.proofs.Common.{◌≡◌, ℕ, zero, suc, ◌+◌, ◌-◌, ◌*◌, ◌≤◌, max, Bool, true, false, List, [], ◌∷◌, ◌++◌, append_assoc, drop, take, length, map, length-append, Option, None, Some, IsTrue, ℤ, pos, refl, sym, ap, subst, arith, leb, inl, inr}
+use Rattle.std.specs.Prelude.{◌⊎◌, codes, if◌then◌else◌}
+use Rattle.std.specs.List.{flat_map}
+use Rattle.std.specs.Fmt.{decimal}
+use Rattle.std.specs.Option.{option_map_or}
+use Rattle.std.proofs.lemmas.Bool.{leb-true, and_parts}
+use Rattle.std.proofs.lemmas.List.{drop_at, take_at, length-drop}
+use Rattle.std.proofs.lemmas.List.Sums.{sum_by-cons}
+use Rattle.case_table.specs.Rows.{code_of}
+use Rattle.case_table.specs.Language.{reserved_words, symbols}
+use Rattle.case_table.specs.declared.key.TheConstants.{RATE as RATE_WORD}
+use Rattle.case_table.specs.declared.symbol.TheConstants.{CLOSE_ROUND, COMMA, CLOSE_SQUARE}
+use Rattle.fixed_point.specs.Canonical.{fix_text}
+use Rattle.fixed_point.specs.declared.number.Point.{Point}
+use Rattle.motion.specs.Function.{Function, are_firsts, level}
+use Rattle.motion.specs.declared.cell.AttrKind.{AttrKind}
+use Rattle.motion.specs.declared.cell.AttrKind.TheVariants as attr_kinds
+use Rattle.motion.specs.declared.cell.Given.{Given}
+use Rattle.motion.specs.declared.cell.NamedSet.{NamedSet}
+use Rattle.motion.specs.declared.cell.Place.{Place}
+use Rattle.ftl_lexer.specs.declared.kinds.Kind.{Kind}
+use Rattle.ftl_lexer.specs.declared.kinds.Kind.TheVariants as kinds
+use Rattle.ftl_lexer.specs.Tokens.{lexemes}
+use Rattle.ftl_lexer.specs.Cut.{Lexeme, HasForm, is_word, is_number, IsQuoted}
+use Rattle.ftl_lexer.specs.Laws.{HaveForms}
+use Rattle.ftl_lexer.proofs.Shapes.{tokens_have_forms}
+use Rattle.ftl_lexer.proofs.Fronts.{unquoted_parts}
+use Rattle.ftl_parser.specs.Tree.{QueryTree}
+use Rattle.ftl_parser.specs.Piece as query
+use Rattle.ftl_parser.specs.Grammar.{SpellsQuery}
+use Rattle.ftl_parser.specs.Text.{query_text}
+use Rattle.ftl_parser.specs.TextLaws.{bytes_of}
+use Rattle.ftl_parser.proofs.canonical.TextLengths.{prints_shortly, tokens_fit}
+use Rattle.command_text.specs.Parts.{Part, Parts, is_verb, parts}
+use Rattle.command_text.specs.Piece.{Piece, KEY, SIGN, NAME, NUMBER, TEXT, piece_of, pieces}
+use Rattle.command_text.specs.Ranges.{SignedPlace, Steps}
+use Rattle.command_text.specs.Sizes.{is_short, short_word, function_of}
+use Rattle.command_text.specs.Tree.{CommandTree}
+use Rattle.command_text.specs.Grammar.{whole_at, legs_of_x, legs_of_y, SpellsNum, num_plain, num_minus, SpellsPair, pair, SpellsAttr, attr_num, attr_text, attr_dyn, SpellsMoreAttrs, no_more_attrs, one_more_attr, SpellsAttrs, no_attrs, some_attrs, SpellsPoints, no_points, one_point, SpellsRateLegs, no_rate_legs, one_rate_leg, SpellsRates, rates, SpellsMoveLegs, no_move_legs, one_move_leg, SpellsMoves, moves, SpellsGiven, given_num, given_both, given_text, given_rate, SpellsSettings, no_settings, one_setting, SpellsAt, not_at, at, SpellsMoving, not_moving, moving, SpellsChange, change, SpellsPointWord, no_point_word, point_word, SpellsTail, token_of, SpellsPart, part_verb, part_name, part_text, part_whole, part_error, part_num, part_point_word, part_attrs, part_points, part_change, SpellsParts, no_parts, last_part, last_query, part_before, SpellsCommand, by_parts}
+use Rattle.command_text.specs.Text as text
+use Rattle.command_text.specs.Text.{quoted, pair_text, rate_leg_text, rates_text, move_leg_text, move_legs_text, moves_text, next_attr_text, attrs_text, points_text, settings_text, at_text, moving_text, change_text, text_of}
+use Rattle.command_text.proofs.grammar.QueryLemmas.{tail_pieces}
+use Rattle.command_text.proofs.canonical.TextAscii.{row_is}
+use Rattle.command_text.proofs.canonical.TextNumbers.{whole_is_short, radius_is_short, signed_is_short, zero_is_short}
+
+-- ---- how many bytes a token has at least
+
+abbrev weight : Piece → ℕ
+weight (KEY code) = 2
+weight (SIGN code) = 1
+weight (NAME n) = max 1 (length n)
+weight (NUMBER n) = max 1 (length n)
+weight (TEXT t) = length t + 2
+
+abbrev load : List Piece → ℕ
+load [] = 0
+load (p ∷ ps) = weight p + load ps
+
+key_long : (word : List ℕ) (code : ℕ) → code_of reserved_words word ≡ Some code → 2 ≤ length word
+unfolding reserved_words
+key_long word code is = leb-true 2 (length word) (row_is (λ w. leb 2 (length w)) reserved_words word code refl is)
+
+sign_long : (word : List ℕ) (code : ℕ) → code_of symbols word ≡ Some code → 1 ≤ length word
+unfolding symbols
+sign_long word code is = leb-true 1 (length word) (row_is (λ w. leb 1 (length w)) symbols word code refl is)
+
+word_long : (word : List ℕ) → IsTrue (is_word word) → max 1 (length word) ≤ length word
+word_long [] word = let bad : false ≡ true = word in absurd (cc)
+word_long (b ∷ bytes) word = omega arith
+
+number_long : (number : List ℕ) → IsTrue (is_number number) → max 1 (length number) ≤ length number
+number_long [] number = let bad : false ≡ true = number in absurd (cc)
+number_long (b ∷ bytes) number = omega arith
+
+text_long : (text : List ℕ) → IsQuoted text → length (query.unquoted text) + 2 ≤ length text
+text_long text is =
+    let same : length text - 1 - 1 ≡ length text - 2 = omega arith in
+    let whole : text ≡ 34 ∷ query.unquoted text ++ 34 ∷ [] = subst (λ (n : ℕ). text ≡ 34 ∷ take n (drop 1 text) ++ 34 ∷ []) same (unquoted_parts text is).0 in
+    let long : length text ≡ suc (length (query.unquoted text ++ 34 ∷ [])) = ap length whole in
+    omega (arith, long, length-append (query.unquoted text) (34 ∷ []))
+
+piece_long : (kind : Kind) (bytes : List ℕ) → HasForm kind bytes → weight (piece_of kind bytes) ≤ length bytes
+piece_long kinds.Name bytes form = word_long bytes form.0
+piece_long kinds.Number bytes form = number_long bytes form
+piece_long kinds.Text bytes form = text_long bytes form
+piece_long (kinds.Sym code) bytes form = sign_long bytes code form
+piece_long (kinds.Key code) bytes form = key_long bytes code form
+
+-- some tokens, and the bytes of those after them
+front_long : (n : ℕ) (tokens : List Lexeme) → HaveForms tokens → load (take n (map (λ t. piece_of t.0 t.1) tokens)) + bytes_of (drop n tokens) ≤ bytes_of tokens
+front_long zero tokens forms = omega arith
+front_long (suc n) [] forms = omega arith
+front_long (suc n) (t ∷ tokens) forms =
+    omega (arith, sum_by-cons (λ (l : Lexeme). length l.1) t tokens, piece_long t.0 t.1 forms.0, front_long n tokens forms.1)
+
+pieces_long : (tokens : List Lexeme) → HaveForms tokens → load (map (λ t. piece_of t.0 t.1) tokens) ≤ bytes_of tokens
+pieces_long [] forms = omega arith
+pieces_long (t ∷ tokens) forms =
+    omega (arith, sum_by-cons (λ (l : Lexeme). length l.1) t tokens, piece_long t.0 t.1 forms.0, pieces_long tokens forms.1)
+
+-- so many bytes are enough for the tokens, and for a query at their end
+record HasRoom (xs : List Piece) (bytes : ℕ) : Type 0 where
+  tokens : load xs ≤ bytes
+  query_bytes : (n : ℕ) (q : QueryTree) → SpellsTail q (drop n xs) → length (query_text q) + 4 * load (take n xs) ≤ 4 * bytes
+
+line_has_room : (line : List ℕ) → HasRoom (pieces line) (length line)
+line_has_room line =
+    let fit = tokens_fit line in
+    let forms = tokens_have_forms line in
+    record {
+      tokens = omega (arith, fit, pieces_long (lexemes line) forms);
+      query_bytes = λ n q d.
+          let short : length (query_text q) ≤ 4 * bytes_of (drop n (lexemes line)) =
+          prints_shortly n line q (subst (SpellsQuery q) (sym (tail_pieces n line).pieces) d) in
+          omega (arith, fit, short, front_long n (lexemes line) forms);
+    }
+
+-- ---- sums over tokens
+
+load_join : (xs ys : List Piece) → load (xs ++ ys) ≡ load xs + load ys
+load_join [] ys = omega arith
+load_join (x ∷ xs) ys = omega (arith, load_join xs ys)
+
+-- ---- words and numbers
+
+word_short : (word : List ℕ) → length (short_word word) ≤ length word
+word_short word = chosen (is_short word)
+  where
+    chosen : (b : Bool) → length (if b then word else []) ≤ length word
+    chosen true = omega arith
+    chosen false = omega arith
+
+-- a number with a sign or none: what it is printed in, and what it has
+record NumShort (v : ℤ) (xs : List Piece) : Type 0 where
+  some : 1 ≤ load xs
+  short : length (fix_text v) ≤ load xs
+
+num_short : {p : SignedPlace} {v : ℤ} {xs : List Piece} → SpellsNum p v xs → NumShort v xs
+num_short (num_plain {place = p} {n = n}) = record { some = omega arith; short = omega (arith, signed_is_short p false n) }
+num_short (num_minus {place = p} {n = n}) = record { some = omega arith; short = omega (arith, signed_is_short p true n) }
+
+-- two numbers, and the three symbols around them
+record PairShort (x y : ℤ) (xs : List Piece) : Type 0 where
+  first : ℕ
+  second : ℕ
+  some_first : 1 ≤ first
+  some_second : 1 ≤ second
+  short_first : length (fix_text x) ≤ first
+  short_second : length (fix_text y) ≤ second
+  within : first + second + 3 ≤ load xs
+
+pair_short : {p : SignedPlace} {x y : ℤ} {xs : List Piece} → SpellsPair p x y xs → PairShort x y xs
+pair_short (pair {xs = xs} {ys = ys} d e) =
+    let x = num_short d in
+    let y = num_short e in
+    record {
+      first = load xs;
+      second = load ys;
+      some_first = x.some;
+      some_second = y.some;
+      short_first = x.short;
+      short_second = y.short;
+      within = omega (arith, load_join xs (SIGN COMMA ∷ (ys ++ SIGN CLOSE_ROUND ∷ [])), load_join ys (SIGN CLOSE_ROUND ∷ []));
+    }
+
+pair_size : (x y : ℤ) → length (pair_text x y) ≡ length (fix_text x) + length (fix_text y) + 3
+pair_size x y = omega (arith, length-append (fix_text x) (44 ∷ (fix_text y ++ 41 ∷ [])), length-append (fix_text y) (41 ∷ []))
+
+-- ---- points
+
+points_short : {ps : List Point} {xs : List Piece} → SpellsPoints ps xs → length (points_text ps) ≤ 4 * load xs
+points_short no_points = omega arith
+points_short (one_point {x = x} {y = y} {xs = xs} {ps = ps} {ys = ys} d e) =
+    let this = pair_short d in
+    omega (
+      arith,
+      length-append (pair_text x y) (points_text ps),
+      pair_size x y,
+      this.short_first,
+      this.short_second,
+      this.within,
+      load_join xs ys,
+      points_short e,
+    )
+
+-- ---- legs
+
+rate_leg_size : (a : ℤ) (n : ℕ) → length (rate_leg_text (a, n)) ≡ length (fix_text a) + length (decimal n) + 4
+rate_leg_size a n = omega (arith, length-append (fix_text a) (44 ∷ (decimal n ++ codes "] ")), length-append (decimal n) (codes "] "))
+
+rate_legs_short : {ls : List (ℤ × ℕ)} {xs : List Piece} → SpellsRateLegs ls xs → length (flat_map rate_leg_text ls) ≤ 4 * load xs
+rate_legs_short no_rate_legs = omega arith
+rate_legs_short (one_rate_leg {a = a} {xs = xs} n {ls = ls} {ys = ys} d e) =
+    let this = num_short d in
+    omega (
+      arith,
+      length-append (rate_leg_text (a, whole_at Steps n)) (flat_map rate_leg_text ls),
+      rate_leg_size a (whole_at Steps n),
+      this.short,
+      whole_is_short Steps n,
+      load_join xs (SIGN COMMA ∷ NUMBER n ∷ SIGN CLOSE_SQUARE ∷ ys),
+      rate_legs_short e,
+    )
+
+-- legs that make no function stand for rest
+function_cases : (ls : List (ℤ × ℕ)) (last : ℤ) → (function_of ls last ≡ record { firsts = ls; last = last }) ⊎ (function_of ls last ≡ level)
+function_cases ls last = chosen (are_firsts ls)
+  where
+    chosen : (b : Bool) → ◌≡◌ {A = Function} (if b then record { firsts = ls; last = last } else level)
+        (record { firsts = ls; last = last }) ⊎ (◌≡◌ {A = Function} (if b then record { firsts = ls; last = last } else level) level)
+    chosen true = inl refl
+    chosen false = inr refl
+
+rates_short : {f : Function} {xs : List Piece} → SpellsRates f xs → length (rates_text f) ≤ 4 * load xs
+rates_short (rates {ls = ls} {xs = xs} {a = a} {ys = ys} d e) =
+    let last = num_short e in
+    let sum = load_join xs ys in
+    let legs = rate_legs_short d in
+    elim (function_cases ls a) [
+      | inl is ↦ rw is (omega (arith, length-append (flat_map rate_leg_text ls) (fix_text a), last.short, sum, legs))
+      | inr is ↦ rw is (omega (arith, zero_is_short, last.some, sum))
+    ]
+
+-- the text of the legs of both coordinates
+abbrev legs_text : List ((ℤ × ℤ) × ℕ) → List ℕ
+legs_text ls = move_legs_text (legs_of_x ls) (legs_of_y ls)
+
+move_leg_size : (x y : ℤ) (n : ℕ) → length (move_leg_text x y n) ≡ length (pair_text x y) + length (decimal n) + 4
+move_leg_size x y n = omega (arith, length-append (pair_text x y) (44 ∷ (decimal n ++ codes "] ")), length-append (decimal n) (codes "] "))
+
+move_legs_short : {ls : List ((ℤ × ℤ) × ℕ)} {xs : List Piece} → SpellsMoveLegs ls xs → length (legs_text ls) ≤ 4 * load xs
+move_legs_short no_move_legs = omega arith
+move_legs_short (one_move_leg {a = a} {b = b} {xs = xs} n {ls = ls} {ys = ys} d e) =
+    let this = pair_short d in
+    omega (
+      arith,
+      length-append (move_leg_text a b (whole_at Steps n)) (legs_text ls),
+      move_leg_size a b (whole_at Steps n),
+      pair_size a b,
+      this.short_first,
+      this.short_second,
+      this.within,
+      whole_is_short Steps n,
+      load_join xs (SIGN COMMA ∷ NUMBER n ∷ SIGN CLOSE_SQUARE ∷ ys),
+      move_legs_short e,
+    )
+
+no_legs : (xs : List (ℤ × ℕ)) → move_legs_text xs [] ≡ []
+no_legs [] = refl
+no_legs (x ∷ xs) = refl
+
+moves_size : (xs ys : List (ℤ × ℕ)) (a b : ℤ) → length (moves_text (record { firsts = xs; last = a }) (record { firsts = ys; last = b }))
+    ≡ length (move_legs_text xs ys) + length (fix_text a) + length (fix_text b) + 3
+moves_size xs ys a b = omega (arith, length-append (move_legs_text xs ys) (pair_text a b), pair_size a b)
+
+moves_short : {m : Function × Function} {xs : List Piece} → SpellsMoves m xs → length (moves_text m.0 m.1) ≤ 4 * load xs
+moves_short (moves {ls = ls} {xs = xs} {a = a} {b = b} {ys = ys} d e) =
+    let last = pair_short e in
+    let sum = load_join xs ys in
+    let legs = move_legs_short d in
+    let us : List (ℤ × ℕ) = legs_of_x ls in
+    let vs : List (ℤ × ℕ) = legs_of_y ls in
+    let none : length (move_legs_text us []) ≡ 0 = ap length (no_legs us) in
+    elim (function_cases us a) [
+      | inl x ↦
+          elim (function_cases vs b) [
+            | inl y ↦ rw (x, y) (omega (arith, moves_size us vs a b, legs, last.short_first, last.short_second, last.within, sum))
+            | inr y ↦ rw (x, y) (omega (arith, moves_size us [] a (pos 0), none, last.short_first, zero_is_short, last.some_second, last.within, sum))
+          ]
+      | inr x ↦
+          elim (function_cases vs b) [
+            | inl y ↦ rw (x, y) (omega (arith, moves_size [] vs (pos 0) b, last.short_second, zero_is_short, last.some_first, last.within, sum))
+            | inr y ↦ rw (x, y) (omega (arith, moves_size [] [] (pos 0) (pos 0), zero_is_short, last.some_first, last.some_second, last.within, sum))
+          ]
+    ]
+
+-- ---- what a command writes
+
+given_short : {g : Given} {xs : List Piece} → SpellsGiven g xs → length (text.given_text g) ≤ 4 * load xs
+given_short (given_num d) = omega (arith, (num_short d).short)
+given_short (given_both {v = v} {xs = xs} {f = f} {ys = ys} d e) =
+    omega (arith, (num_short d).short, rates_short e, length-append (fix_text v) (codes " rate " ++ rates_text f), load_join xs (KEY RATE_WORD ∷ ys))
+given_short (given_text {t = t}) = omega (arith, word_short t, length-append (short_word t) (34 ∷ []))
+given_short (given_rate d) = omega (arith, rates_short d)
+
+settings_short : {ss : List NamedSet} {xs : List Piece} → SpellsSettings ss xs → length (settings_text ss) ≤ 4 * load xs
+settings_short no_settings = omega arith
+settings_short (one_setting {n = n} {g = g} {xs = xs} {ss = ss} {ys = ys} d e) =
+    let name : List ℕ = short_word n in
+    let given : List ℕ = text.given_text g in
+    omega (
+      arith,
+      length-append (name ++ (32 ∷ given)) (settings_text ss),
+      length-append name (32 ∷ given),
+      word_short n,
+      given_short d,
+      load_join xs ys,
+      settings_short e,
+    )
+
+at_short : {p : Option Point} {xs : List Piece} → SpellsAt p xs → length (at_text p) ≤ 4 * load xs
+at_short not_at = omega arith
+at_short (at {x = x} {y = y} d) = let this = pair_short d in omega (arith, pair_size x y, this.short_first, this.short_second, this.within)
+
+moving_short : {m : Option (Function × Function)} {xs : List Piece} → SpellsMoving m xs → length (moving_text m) ≤ 4 * load xs
+moving_short not_moving = omega arith
+moving_short (moving d) = omega (arith, moves_short d)
+
+change_short : {p : Place} {ss : List NamedSet} {xs : List Piece} → SpellsChange p ss xs → length (change_text p ss) ≤ 4 * load xs
+change_short (change {p = p} {xs = xs} {m = m} {ys = ys} {ss = ss} {zs = zs} d e f) =
+    omega (
+      arith,
+      length-append (at_text p) (moving_text m ++ settings_text ss),
+      length-append (moving_text m) (settings_text ss),
+      at_short d,
+      moving_short e,
+      settings_short f,
+      load_join xs (ys ++ zs),
+      load_join ys zs,
+    )
+
+-- ---- attributes
+
+attr_size : (n : List ℕ) (kind : AttrKind) → length (text.attr_text (short_word n, kind)) ≤ length n + 5
+attr_size n attr_kinds.Num = omega (arith, word_short n, length-append (short_word n) (codes " num"))
+attr_size n attr_kinds.Text = omega (arith, word_short n, length-append (short_word n) (codes " text"))
+attr_size n attr_kinds.Dyn = omega (arith, word_short n, length-append (short_word n) (codes " dyn"))
+
+attr_short : {a : List ℕ × AttrKind} {xs : List Piece} → SpellsAttr a xs → length (text.attr_text a) ≤ 4 * load xs
+attr_short (attr_num {n = n}) = omega (arith, attr_size n attr_kinds.Num)
+attr_short (attr_text {n = n}) = omega (arith, attr_size n attr_kinds.Text)
+attr_short (attr_dyn {n = n}) = omega (arith, attr_size n attr_kinds.Dyn)
+
+more_attrs_short : {more : List (List ℕ × AttrKind)} {xs : List Piece} → SpellsMoreAttrs more xs → length (flat_map next_attr_text more) ≤ 4 * load xs
+more_attrs_short no_more_attrs = omega arith
+more_attrs_short (one_more_attr {a = a} {xs = xs} {rest = more} {ys = ys} d e) =
+    omega (arith, length-append (text.attr_text a) (flat_map next_attr_text more), attr_short d, load_join xs ys, more_attrs_short e)
+
+attrs_short : {attrs : List (List ℕ × AttrKind)} {xs : List Piece} → SpellsAttrs attrs xs → length (attrs_text attrs) ≤ 4 * load xs
+attrs_short no_attrs = omega arith
+attrs_short (some_attrs {a = a} {xs = xs} {rest = more} {ys = ys} d e) =
+    omega (
+      arith,
+      length-append (text.attr_text a) (flat_map next_attr_text more ++ codes ")"),
+      length-append (flat_map next_attr_text more) (codes ")"),
+      attr_short d,
+      more_attrs_short e,
+      load_join xs (ys ++ SIGN CLOSE_ROUND ∷ []),
+      load_join ys (SIGN CLOSE_ROUND ∷ []),
+    )
+
+point_word_short : {b : Bool} {xs : List Piece} → SpellsPointWord b xs → length (text.point_word b) ≤ 4 * load xs
+point_word_short no_point_word = omega arith
+point_word_short point_word = omega arith
+
+-- ---- commands
+
+verb_by : (word : List ℕ) (found : Option ℕ) → code_of reserved_words word ≡ found → length word ≤ 7 → suc (length word)
+    ≤ 4 * weight (piece_of (option_map_or (λ code. kinds.Key code) found kinds.Name) word)
+verb_by word None is short = omega arith
+verb_by word (Some code) is short = omega arith
+
+verb_short : (word : List ℕ) → IsTrue (is_verb word) → suc (length word) ≤ 4 * weight (token_of word)
+verb_short word is = verb_by word (code_of reserved_words word) refl (leb-true (length word) 7 (and_parts (is_word word) (leb (length word) 7) is).1)
+
+part_short : {p : Part} {xs : List Piece} → SpellsPart p xs → length (text.part_text p) ≤ 4 * load xs
+part_short (part_verb {w = w} is) = omega (arith, verb_short w is)
+part_short (part_name {n = n}) = omega (arith, word_short n)
+part_short (part_text {t = t}) = omega (arith, word_short t, length-append (short_word t) (34 ∷ []))
+part_short (part_whole {place = p} {n = n}) = omega (arith, whole_is_short p n)
+part_short (part_error {n = n}) = omega (arith, radius_is_short n)
+part_short (part_num d) = let number = num_short d in omega (arith, number.short, number.some)
+part_short (part_point_word d) = point_word_short d
+part_short (part_attrs d) = attrs_short d
+part_short (part_points d) = points_short d
+part_short (part_change d) = change_short d
+
+-- parts after some tokens, in the text of which so many bytes were spent
+parts_short : {ps : Parts} {xs : List Piece} → SpellsParts ps xs → (front : List Piece) (spent bytes : ℕ) → HasRoom (front ++ xs) bytes
+    → spent ≤ 4 * load front → spent + length (text.parts_text ps) ≤ 4 * bytes + 1
+parts_short no_parts front spent bytes room within = omega (arith, room.tokens, within, load_join front [])
+parts_short (last_part {xs = xs} d) front spent bytes room within = omega (arith, room.tokens, within, load_join front xs, part_short d)
+parts_short (last_query {q = q} {xs = xs} d) front spent bytes room within =
+    let behind : drop (length front) (front ++ xs) ≡ xs = drop_at front xs (length front) refl in
+    let before : take (length front) (front ++ xs) ≡ front = take_at front xs (length front) refl in
+    let query : length (query_text q) + 4 * load (take (length front) (front ++ xs)) ≤ 4 * bytes =
+    room.query_bytes (length front) q (subst (SpellsTail q) (sym behind) d) in
+    omega (arith, within, query, ap load before)
+parts_short (part_before {p = p} {ps = ps} {xs = xs} {ys = ys} d e) front spent bytes room within =
+    let later = parts_short e (front ++ xs) (spent + length (text.part_text p)) bytes
+    (subst (λ (zs : List Piece). HasRoom zs bytes) (sym (append_assoc front xs ys)) room)
+    (omega (arith, within, part_short d, load_join front xs)) in
+    omega (arith, later, length-append (text.part_text p) (text.parts_text ps))
+
+command_short : {c : CommandTree} {xs : List Piece} → SpellsCommand c xs → (bytes : ℕ) → HasRoom xs bytes → length (text_of c) ≤ 4 * bytes
+unfolding text_of
+command_short {c = c} (by_parts d) bytes room = omega (arith, parts_short d [] 0 bytes room (omega arith), length-drop 1 (text.parts_text (parts c)))
+
+pub line_short : (line : List ℕ) (c : CommandTree) → SpellsCommand c (pieces line) → length (text_of c) ≤ 4 * length line
+line_short line c d = command_short d (length line) (line_has_room line)

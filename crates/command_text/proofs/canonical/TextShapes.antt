@@ -1,0 +1,433 @@
+-- What tokens of a line spell is printable, where its numbers are in range and its sizes within their limits.
+use Rattle.std.proofs.Common.{◌≡◌, ℕ, zero, suc, ◌+◌, ◌-◌, ◌≤◌, Bool, true, false, ◌&&◌, List, [], ◌∷◌, ◌++◌, take, drop, length, map, Option, None, Some, ℤ, IsTrue, refl, sym, ◌∙◌, ap, subst, arith, leb}
+use Rattle.std.specs.Prelude.{is_some, is_none, slice_get, unwrap_or, if◌then◌else◌}
+use Rattle.std.specs.List.{AllByRecursion, list_all}
+use Rattle.std.proofs.lemmas.Bool.{and_parts, and_from, leb-true}
+use Rattle.std.proofs.lemmas.Bool.Decides.{nat_tests}
+use Rattle.std.proofs.lemmas.List.{length-map, drop_at, drop-drop}
+use Rattle.case_table.specs.declared.symbol.TheConstants.{CLOSE_ROUND}
+use Rattle.fixed_point.specs.declared.number.Point.{Point}
+use Rattle.fixed_point.specs.declared.short_text.TheConstants.{WORD_LIMIT}
+use Rattle.motion.specs.Function.{Function, are_firsts, is_length_of, level}
+use Rattle.motion.specs.declared.legs.TheConstants.{MOST_FIRSTS}
+use Rattle.motion.specs.declared.cell.AttrKind.{AttrKind}
+use Rattle.motion.specs.declared.cell.Given.{Given}
+use Rattle.motion.specs.declared.cell.NamedSet.{NamedSet}
+use Rattle.motion.specs.declared.cell.Place.{Place}
+use Rattle.ftl_lexer.specs.declared.kinds.Kind.{Kind}
+use Rattle.ftl_lexer.specs.declared.kinds.Kind.TheVariants as kinds
+use Rattle.ftl_lexer.specs.Cut.{Lexeme, HasForm, is_number, has_no_quote, IsQuoted}
+use Rattle.ftl_lexer.specs.Laws.{HaveForms}
+use Rattle.ftl_lexer.specs.Tokens.{lexemes}
+use Rattle.ftl_lexer.proofs.Shapes.{tokens_have_forms}
+use Rattle.ftl_lexer.proofs.Fronts.{unquoted_parts}
+use Rattle.ftl_parser.specs.Tree.{QueryTree}
+use Rattle.ftl_parser.specs.Piece as query
+use Rattle.ftl_parser.specs.Grammar.{SpellsQuery}
+use Rattle.ftl_parser.specs.Marks.{first_unfit}
+use Rattle.ftl_parser.specs.Lawful as query_shape
+use Rattle.ftl_parser.specs.Lawful.{IsName}
+use Rattle.tick_set.specs.declared.spans.TheConstants.{LAST_TICK}
+use Rattle.ftl_parser.specs.Sizes.{first_too_large}
+use Rattle.ftl_parser.specs.Order.{piece_lists, texts_alone, token_texts}
+use Rattle.ftl_parser.proofs.grammar.OrderLemmas.{lists-query}
+use Rattle.ftl_parser.proofs.canonical.TextShapes.{prints_what_is_read, small_short, spelled_shape}
+use Rattle.geometry.specs.declared.limits.TheConstants.{VERTEX_LIMIT}
+use Rattle.motion.specs.declared.limits.TheConstants.{ATTRIBUTE_LIMIT}
+use Rattle.command_text.specs.Parts.{Part, Parts}
+use Rattle.command_text.specs.Piece.{Piece, KEY, SIGN, NAME, NUMBER, TEXT, piece_of, pieces, in_query, has_long}
+use Rattle.command_text.specs.Ranges.{Steps, SignedPlace, whole_in, radius_in, signed_in}
+use Rattle.command_text.specs.Sizes.{is_short, short_word, are_few_legs, function_of, are_few_attributes, are_few_vertices}
+use Rattle.command_text.specs.inner.Query.{is_query_small}
+use Rattle.command_text.specs.Tree.{CommandTree}
+use Rattle.command_text.specs.Grammar.{legs_of_x, legs_of_y, SpellsNum, num_plain, num_minus, SpellsPair, pair, SpellsAttr, attr_num, attr_text, attr_dyn, SpellsMoreAttrs, no_more_attrs, one_more_attr, SpellsAttrs, no_attrs, some_attrs, SpellsPoints, no_points, one_point, SpellsRateLegs, no_rate_legs, one_rate_leg, SpellsRates, rates, SpellsMoveLegs, no_move_legs, one_move_leg, SpellsMoves, moves, SpellsGiven, given_num, given_both, given_text, given_rate, SpellsSettings, no_settings, one_setting, SpellsAt, not_at, at, SpellsMoving, not_moving, moving, SpellsChange, change, SpellsTail, SpellsPart, part_verb, part_name, part_text, part_whole, part_error, part_num, part_point_word, part_attrs, part_points, part_change, SpellsParts, no_parts, last_part, last_query, part_before, SpellsCommand, by_parts}
+use Rattle.command_text.specs.Judged.{num_fit, pair_fit, points_fit, rate_legs_fit, rates_fit, move_legs_fit, moves_fit, given_fit, settings_fit, at_fit, moving_fit, change_fit, part_fit, parts_fit, numbers_fit, attr_small, more_attrs_small, attrs_small, rates_small, moves_small, given_small, settings_small, moving_small, change_small, part_small, parts_small, sizes_fit}
+use Rattle.command_text.specs.Shape.{IsFrom, IsAscii, IsShortName, IsShortText, IsRate, IsPoint, IsLeg, AreLegs, AreMoves, IsPrintableGiven, IsSetting, IsAt, IsMoving, IsChange, IsAttribute, AreAttributes, IsQuery, IsPart, AreParts, IsPrintable, IsSignedIn}
+use Rattle.command_text.proofs.grammar.QueryLemmas.{tail_pieces}
+use Rattle.command_text.proofs.canonical.TextAscii.{AreAscii, tokens_ascii, inside_ascii}
+use Rattle.command_text.proofs.canonical.TextNumbers.{whole_in_range, signed_in_range, radius_in_range}
+
+-- ---- lists
+
+pub all_front : {X : Type 0} (P : X → Type 0) (xs ys : List X) → AllByRecursion P (xs ++ ys) → AllByRecursion P xs
+all_front P [] ys all = tt
+all_front P (x ∷ xs) ys all = (all.0, all_front P xs ys all.1)
+
+pub all_back : {X : Type 0} (P : X → Type 0) (xs ys : List X) → AllByRecursion P (xs ++ ys) → AllByRecursion P ys
+all_back P [] ys all = all
+all_back P (x ∷ xs) ys all = all_back P xs ys all.1
+
+-- ---- tokens by what names, numbers and texts they have
+
+abbrev pub HasShape : Piece → Type 0
+HasShape (KEY code) = Unit {0}
+HasShape (SIGN code) = Unit {0}
+HasShape (NAME n) = IsName n × IsAscii n
+HasShape (NUMBER n) = IsTrue (is_number n)
+HasShape (TEXT t) = IsTrue (has_no_quote t) × IsAscii t
+
+abbrev pub HaveShapes : List Piece → Type 0
+HaveShapes = AllByRecursion HasShape
+
+text_has : (text : List ℕ) → IsQuoted text → IsTrue (has_no_quote (query.unquoted text))
+text_has text quoted =
+    let same : length text - 1 - 1 ≡ length text - 2 = omega arith in
+    subst (λ n. IsTrue (has_no_quote (take n (drop 1 text)))) same (unquoted_parts text quoted).1
+
+piece_has : (kind : Kind) (bytes : List ℕ) → HasForm kind bytes → IsAscii bytes → HasShape (piece_of kind bytes)
+piece_has kinds.Name bytes form ascii = (form, ascii)
+piece_has kinds.Number bytes form ascii = form
+piece_has kinds.Text bytes form ascii = (text_has bytes form, inside_ascii bytes ascii)
+piece_has (kinds.Sym code) bytes form ascii = tt
+piece_has (kinds.Key code) bytes form ascii = tt
+
+pieces_have : (tokens : List Lexeme) → HaveForms tokens → AreAscii tokens → HaveShapes (map (λ t. piece_of t.0 t.1) tokens)
+pieces_have [] forms ascii = tt
+pieces_have (t ∷ tokens) forms ascii = (piece_has t.0 t.1 forms.0 ascii.0, pieces_have tokens forms.1 ascii.1)
+
+pub line_has : (line : List ℕ) → IsAscii line → HaveShapes (pieces line)
+line_has line ascii = pieces_have (lexemes line) (tokens_have_forms line) (tokens_ascii line ascii)
+
+-- ---- names and texts that are short
+
+pub word_is : (word : List ℕ) → is_short word ≡ true → short_word word ≡ word
+word_is word short = ap (λ b. if b then word else []) short
+
+short_name : (name : List ℕ) → IsName name → is_short name ≡ true → IsShortName (short_word name)
+short_name name is short = subst IsShortName (sym (word_is name short)) (is, leb-true (length name) WORD_LIMIT short)
+
+short_text : (text : List ℕ) → IsTrue (has_no_quote text) → IsAscii text → is_short text ≡ true → IsShortText (short_word text)
+short_text text none ascii short = subst IsShortText (sym (word_is text short)) (none, ascii, leb-true (length text) WORD_LIMIT short)
+
+-- ---- numbers and points
+
+num_shape : {p : SignedPlace} {v : ℤ} {xs : List Piece} (d : SpellsNum p v xs) (fit : Bool) → num_fit d fit ≡ true → (fit ≡ true) × IsSignedIn p v
+num_shape (num_plain {place = p} {n = n}) fit is = let parts = and_parts fit (is_some (signed_in p false n)) is in (parts.0, signed_in_range p false n parts.1)
+num_shape (num_minus {place = p} {n = n}) fit is = let parts = and_parts fit (is_some (signed_in p true n)) is in (parts.0, signed_in_range p true n parts.1)
+
+pair_shape : {p : SignedPlace} {x y : ℤ} {xs : List Piece} (d : SpellsPair p x y xs) (fit : Bool) → pair_fit d fit ≡ true → (fit ≡ true)
+    × IsSignedIn p x × IsSignedIn p y
+pair_shape (pair d e) fit is = let second = num_shape e (num_fit d fit) is in let first = num_shape d fit second.0 in (first.0, first.1, second.1)
+
+points_shape : {ps : List Point} {xs : List Piece} (d : SpellsPoints ps xs) (fit : Bool) → points_fit d fit ≡ true → (fit ≡ true) × AllByRecursion IsPoint ps
+points_shape no_points fit is = (is, tt)
+points_shape (one_point d e) fit is =
+    let later = points_shape e (pair_fit d fit) is in
+    let this = pair_shape d fit later.0 in
+    (this.0, ((this.1, this.2), later.1))
+
+-- ---- legs
+
+rate_legs_shape : {ls : List (ℤ × ℕ)} {xs : List Piece} (d : SpellsRateLegs ls xs) (fit : Bool) → rate_legs_fit d fit ≡ true → (fit ≡ true)
+    × AllByRecursion IsLeg ls
+rate_legs_shape no_rate_legs fit is = (is, tt)
+rate_legs_shape (one_rate_leg n d e) fit is =
+    let later = rate_legs_shape e (num_fit d fit && is_some (whole_in Steps n)) is in
+    let parts = and_parts (num_fit d fit) (is_some (whole_in Steps n)) later.0 in
+    let slope = num_shape d fit parts.0 in
+    (slope.0, ((slope.1, whole_in_range Steps n parts.1), later.1))
+
+-- a leg of both coordinates
+abbrev IsMoveLeg : (ℤ × ℤ) × ℕ → Type 0
+IsMoveLeg leg = IsLeg (leg.0.0, leg.1) × IsLeg (leg.0.1, leg.1)
+
+move_legs_shape : {ls : List ((ℤ × ℤ) × ℕ)} {xs : List Piece} (d : SpellsMoveLegs ls xs) (fit : Bool) → move_legs_fit d fit ≡ true
+    → (fit ≡ true) × AllByRecursion IsMoveLeg ls
+move_legs_shape no_move_legs fit is = (is, tt)
+move_legs_shape (one_move_leg n d e) fit is =
+    let later = move_legs_shape e (pair_fit d fit && is_some (whole_in Steps n)) is in
+    let parts = and_parts (pair_fit d fit) (is_some (whole_in Steps n)) later.0 in
+    let slopes = pair_shape d fit parts.0 in
+    let ticks = whole_in_range Steps n parts.1 in
+    (slopes.0, (((slopes.1, ticks), (slopes.2, ticks)), later.1))
+
+legs_x : (ls : List ((ℤ × ℤ) × ℕ)) → AllByRecursion IsMoveLeg ls → AllByRecursion IsLeg (legs_of_x ls)
+legs_x [] all = tt
+legs_x (leg ∷ ls) all = (all.0.0, legs_x ls all.1)
+
+legs_y : (ls : List ((ℤ × ℤ) × ℕ)) → AllByRecursion IsMoveLeg ls → AllByRecursion IsLeg (legs_of_y ls)
+legs_y [] all = tt
+legs_y (leg ∷ ls) all = (all.0.1, legs_y ls all.1)
+
+same_lengths : (ls : List ((ℤ × ℤ) × ℕ)) → map (λ leg. leg.1) (legs_of_x ls) ≡ map (λ leg. leg.1) (legs_of_y ls)
+same_lengths [] = refl
+same_lengths (leg ∷ ls) = ap (λ (ns : List ℕ). leg.1 ∷ ns) (same_lengths ls)
+
+length_is : (n : ℕ) → IsFrom 1 LAST_TICK n → is_length_of n ≡ true
+length_is n within = grind (arith, nat_tests, within.0, within.1)
+
+lengths_are : (ls : List (ℤ × ℕ)) → AllByRecursion IsLeg ls → list_all (λ leg. is_length_of leg.1) ls ≡ true
+lengths_are [] all = refl
+lengths_are (leg ∷ ls) all = and_from (is_length_of leg.1) (list_all (λ l. is_length_of l.1) ls) (length_is leg.1 all.0.1) (lengths_are ls all.1)
+
+-- such legs make a function
+pub function_is : (ls : List (ℤ × ℕ)) (last : ℤ) → length ls ≤ MOST_FIRSTS → AllByRecursion IsLeg ls → function_of ls last ≡ record { firsts = ls; last = last }
+function_is ls last few all =
+    let low : leb (length ls) MOST_FIRSTS ≡ true = grind (arith, nat_tests, few) in
+    let are : are_firsts ls ≡ true = and_from (leb (length ls) MOST_FIRSTS) (list_all (λ leg. is_length_of leg.1) ls) low (lengths_are ls all) in
+    ap (λ b. if b then record { firsts = ls; last = last } else level) are
+
+legs_shape : (ls : List (ℤ × ℕ)) (last : ℤ) → length ls ≤ MOST_FIRSTS → AllByRecursion IsLeg ls → IsRate last → AreLegs (record { firsts = ls; last = last })
+legs_shape ls last few all rate = record { few = few; firsts = all; last = rate }
+
+rates_shape : {f : Function} {xs : List Piece} (d : SpellsRates f xs) (fit small : Bool) → rates_fit d fit ≡ true → rates_small d small
+    ≡ true → (fit ≡ true) × (small ≡ true) × AreLegs f
+rates_shape (rates {ls = ls} {a = a} d e) fit small is few =
+    let last = num_shape e (rate_legs_fit d fit) is in
+    let firsts = rate_legs_shape d fit last.0 in
+    let sizes = and_parts small (are_few_legs (length ls)) few in
+    let count : length ls ≤ MOST_FIRSTS = leb-true (length ls) MOST_FIRSTS sizes.1 in
+    (firsts.0, sizes.0, subst AreLegs (sym (function_is ls a count firsts.1)) (legs_shape ls a count firsts.1 last.1))
+
+moves_shape : {m : Function × Function} {xs : List Piece} (d : SpellsMoves m xs) (fit small : Bool) → moves_fit d fit ≡ true
+    → moves_small d small ≡ true → (fit ≡ true) × (small ≡ true) × AreMoves m.0 m.1
+moves_shape (moves {ls = ls} {a = a} {b = b} d e) fit small is few =
+    let last = pair_shape e (move_legs_fit d fit) is in
+    let firsts = move_legs_shape d fit last.0 in
+    let sizes = and_parts small (are_few_legs (length ls)) few in
+    let count : length ls ≤ MOST_FIRSTS = leb-true (length ls) MOST_FIRSTS sizes.1 in
+    let xs : List (ℤ × ℕ) = legs_of_x ls in
+    let ys : List (ℤ × ℕ) = legs_of_y ls in
+    let x_count : length xs ≤ MOST_FIRSTS = rw (length-map {B = ℤ × ℕ} ls (λ leg. (leg.0.0, leg.1))) count in
+    let y_count : length ys ≤ MOST_FIRSTS = rw (length-map {B = ℤ × ℕ} ls (λ leg. (leg.0.1, leg.1))) count in
+    let x_all = legs_x ls firsts.1 in
+    let y_all = legs_y ls firsts.1 in
+    let both : AreMoves (record { firsts = xs; last = a }) (record { firsts = ys; last = b }) =
+    record { x = legs_shape xs a x_count x_all last.1; y = legs_shape ys b y_count y_all last.2; lengths = same_lengths ls } in (
+      firsts.0,
+      sizes.0,
+      subst (λ f. AreMoves f (function_of ys b)) (sym (function_is xs a x_count x_all))
+          (subst (λ g. AreMoves (record { firsts = xs; last = a }) g) (sym (function_is ys b y_count y_all)) both),
+    )
+
+-- ---- what a command writes
+
+given_shape : {g : Given} {xs : List Piece} (d : SpellsGiven g xs) → HaveShapes xs → (fit small : Bool) → given_fit d fit ≡ true
+    → given_small d small ≡ true → (fit ≡ true) × (small ≡ true) × IsPrintableGiven g
+given_shape (given_num d) shapes fit small is few = let value = num_shape d fit is in (value.0, few, value.1)
+given_shape (given_both d e) shapes fit small is few =
+    let legs = rates_shape e (num_fit d fit) small is few in
+    let value = num_shape d fit legs.0 in
+    (value.0, legs.1, (value.1, legs.2))
+given_shape (given_text {t = t}) shapes fit small is few =
+    let sizes = and_parts small (is_short t) few in
+    (is, sizes.0, short_text t shapes.1.0.0 shapes.1.0.1 sizes.1)
+given_shape (given_rate d) shapes fit small is few = rates_shape d fit small is few
+
+settings_shape : {ss : List NamedSet} {xs : List Piece} (d : SpellsSettings ss xs) → HaveShapes xs → (fit small : Bool) → settings_fit d fit
+    ≡ true → settings_small d small ≡ true → (fit ≡ true) × (small ≡ true) × AllByRecursion IsSetting ss
+settings_shape no_settings shapes fit small is few = (is, few, tt)
+settings_shape (one_setting {n = n} {xs = xs} {ys = ys} d e) shapes fit small is few =
+    let later = settings_shape e (all_back HasShape xs ys shapes.1) (given_fit d fit) (given_small d (small && is_short n)) is few in
+    let given = given_shape d (all_front HasShape xs ys shapes.1) fit (small && is_short n) later.0 later.1 in
+    let sizes = and_parts small (is_short n) given.1 in
+    (given.0, sizes.0, ((short_name n shapes.0.0 sizes.1, given.2), later.2))
+
+at_shape : {p : Option Point} {xs : List Piece} (d : SpellsAt p xs) (fit : Bool) → at_fit d fit ≡ true → (fit ≡ true) × IsAt p
+at_shape not_at fit is = (is, tt)
+at_shape (at d) fit is = let point = pair_shape d fit is in (point.0, (point.1, point.2))
+
+moving_shape : {m : Option (Function × Function)} {xs : List Piece} (d : SpellsMoving m xs) (fit small : Bool) → moving_fit d fit ≡ true
+    → moving_small d small ≡ true → (fit ≡ true) × (small ≡ true) × IsMoving m
+moving_shape not_moving fit small is few = (is, few, tt)
+moving_shape (moving d) fit small is few = moves_shape d fit small is few
+
+change_shape : {p : Place} {ss : List NamedSet} {xs : List Piece} (d : SpellsChange p ss xs) → HaveShapes xs → (fit small : Bool)
+    → change_fit d fit ≡ true → change_small d small ≡ true → (fit ≡ true) × (small ≡ true) × IsChange p ss
+change_shape (change {xs = xs} {ys = ys} {zs = zs} d e f) shapes fit small is few =
+    let sets = settings_shape f (all_back HasShape ys zs (all_back HasShape xs (ys ++ zs) shapes)) (moving_fit e (at_fit d fit))
+    (moving_small e small) is few in
+    let legs = moving_shape e (at_fit d fit) small sets.0 sets.1 in
+    let point = at_shape d fit legs.0 in
+    (point.0, legs.1, record { at = point.1; moving = legs.2; settings = sets.2 })
+
+-- ---- attributes
+
+attr_shape : {a : List ℕ × AttrKind} {xs : List Piece} (d : SpellsAttr a xs) → HaveShapes xs → (small : Bool) → attr_small d small ≡ true
+    → (small ≡ true) × IsShortName a.0
+attr_shape (attr_num {n = n}) shapes small few = let sizes = and_parts small (is_short n) few in (sizes.0, short_name n shapes.0.0 sizes.1)
+attr_shape (attr_text {n = n}) shapes small few = let sizes = and_parts small (is_short n) few in (sizes.0, short_name n shapes.0.0 sizes.1)
+attr_shape (attr_dyn {n = n}) shapes small few = let sizes = and_parts small (is_short n) few in (sizes.0, short_name n shapes.0.0 sizes.1)
+
+more_attrs_shape : {more : List (List ℕ × AttrKind)} {xs : List Piece} (d : SpellsMoreAttrs more xs) → HaveShapes xs → (small : Bool)
+    → more_attrs_small d small ≡ true → (small ≡ true) × AllByRecursion IsAttribute more
+more_attrs_shape no_more_attrs shapes small few = (few, tt)
+more_attrs_shape (one_more_attr {xs = xs} {ys = ys} d e) shapes small few =
+    let later = more_attrs_shape e (all_back HasShape xs ys shapes.1) (attr_small d small) few in
+    let this = attr_shape d (all_front HasShape xs ys shapes.1) small later.0 in
+    (this.0, (this.1, later.1))
+
+attrs_shape : {attrs : List (List ℕ × AttrKind)} {xs : List Piece} (d : SpellsAttrs attrs xs) → HaveShapes xs → (small : Bool)
+    → attrs_small d small ≡ true → (small ≡ true) × AreAttributes attrs
+attrs_shape no_attrs shapes small few = (few, record { few = omega arith; each = tt })
+attrs_shape (some_attrs {a = a} {xs = xs} {rest = more} {ys = ys} d e) shapes small few =
+    let sizes = and_parts (more_attrs_small e (attr_small d small)) (are_few_attributes (length (a ∷ more))) few in
+    let later = more_attrs_shape e (all_front HasShape ys (SIGN CLOSE_ROUND ∷ [])
+    (all_back HasShape xs (ys ++ SIGN CLOSE_ROUND ∷ []) shapes.1)) (attr_small d small) sizes.0 in
+    let this = attr_shape d (all_front HasShape xs (ys ++ SIGN CLOSE_ROUND ∷ []) shapes.1) small later.0 in
+    (this.0, record { few = leb-true (length (a ∷ more)) ATTRIBUTE_LIMIT sizes.1; each = (this.1, later.1) })
+
+-- ---- queries
+
+fixed_none : (table : List query.Piece) (code : ℕ) → AllByRecursion (λ p. piece_lists texts_alone p ≡ []) table
+    → piece_lists texts_alone (unwrap_or (slice_get table code) query.OTHER) ≡ []
+fixed_none [] code all = refl
+fixed_none (p ∷ table) zero all = all.0
+fixed_none (p ∷ table) (suc code) all = fixed_none table code all.1
+
+words_none : AllByRecursion (λ p. piece_lists texts_alone p ≡ []) query.reserved
+words_none = (
+  refl,
+  (
+    refl,
+    (
+      refl,
+      (
+        refl,
+        (
+          refl,
+          (
+            refl,
+            (
+              refl,
+              (
+                refl,
+                (
+                  refl,
+                  (
+                    refl,
+                    (
+                      refl,
+                      (
+                        refl,
+                        (
+                          refl,
+                          (
+                            refl,
+                            (
+                              refl,
+                              (
+                                refl,
+                                (refl, (refl, (refl, (refl, (refl, (refl, (refl, (refl, (refl, tt))))))))),
+                              ),
+                            ),
+                          ),
+                        ),
+                      ),
+                    ),
+                  ),
+                ),
+              ),
+            ),
+          ),
+        ),
+      ),
+    ),
+  ),
+)
+
+signs_none : AllByRecursion (λ p. piece_lists texts_alone p ≡ []) query.signs
+signs_none = (refl, (refl, (refl, (refl, (refl, (refl, (refl, (refl, (refl, (refl, (refl, (refl, (refl, (refl, (refl, (refl, tt))))))))))))))))
+
+all_join : {X : Type 0} (P : X → Type 0) (xs ys : List X) → AllByRecursion P xs → AllByRecursion P ys → AllByRecursion P (xs ++ ys)
+all_join P [] ys front back = back
+all_join P (x ∷ xs) ys front back = (front.0, all_join P xs ys front.1 back)
+
+word_ascii : (short : Bool) (word : List ℕ) → IsAscii word → IsAscii (if short then word else [])
+word_ascii true word ascii = ascii
+word_ascii false word ascii = refl
+
+piece_ascii : (p : Piece) → HasShape p → AllByRecursion IsAscii (piece_lists texts_alone (in_query p))
+piece_ascii (KEY code) shape = subst (AllByRecursion IsAscii) (sym (fixed_none query.reserved code words_none)) tt
+piece_ascii (SIGN code) shape = subst (AllByRecursion IsAscii) (sym (fixed_none query.signs code signs_none)) tt
+piece_ascii (NAME n) shape = tt
+piece_ascii (NUMBER n) shape = tt
+piece_ascii (TEXT t) shape = (word_ascii (is_short t) t shape.1, tt)
+
+texts_ascii : (xs : List Piece) → HaveShapes xs → AllByRecursion IsAscii (token_texts (map in_query xs))
+texts_ascii [] shapes = tt
+texts_ascii (p ∷ xs) shapes = all_join IsAscii (piece_lists texts_alone (in_query p)) (token_texts (map in_query xs))
+    (piece_ascii p shapes.0) (texts_ascii xs shapes.1)
+
+small_is : (long : Bool) (q : QueryTree) → is_query_small long q ≡ true → first_too_large long q ≡ None
+unfolding is_query_small
+small_is long q small = none_is (first_too_large long q) small
+  where
+    none_is : {X : Type 0} (found : Option X) → is_none found ≡ true → found ≡ None
+    none_is None is = refl
+    none_is (Some x) is = let bad : false ≡ true = is in absurd (cc)
+
+-- what is known of the queries that stand at the end of the tokens
+pub record IsTail (q : QueryTree) (tokens : List Piece) : Type 0 where
+  pub printable : has_long tokens ≡ false → query_shape.IsPrintable q
+  pub shape : query_shape.HasShape query_shape.IsAny query_shape.IsAny q
+
+abbrev pub AreTails : List Piece → Type 0
+AreTails xs = (n : ℕ) (q : QueryTree) → SpellsTail q (drop n xs) → IsTail q (drop n xs)
+
+query_is : (q : QueryTree) (xs : List Piece) → SpellsTail q xs → HaveShapes xs → IsTail q xs → is_query_small (has_long xs) q ≡ true → IsQuery q
+query_is q xs d shapes tail small =
+    let few : first_too_large (has_long xs) q ≡ None = small_is (has_long xs) q small in
+    let short : has_long xs ≡ false = small_short (has_long xs) q few in
+    record {
+      printable = tail.printable short;
+      lawful = record { shape = tail.shape; small = ap (λ long. first_too_large long q) (sym short) ∙ few };
+      ascii = subst (AllByRecursion IsAscii) (sym (lists-query texts_alone d)) (texts_ascii xs shapes);
+    }
+
+-- tokens at the end of others
+tails_behind : (xs ys : List Piece) → AreTails (xs ++ ys) → AreTails ys
+tails_behind xs ys tails n q d =
+    let same : drop n ys ≡ drop (length xs + n) (xs ++ ys) = ap (drop n) (sym (drop_at xs ys (length xs) refl)) ∙ drop-drop n (length xs) (xs ++ ys) in
+    subst (IsTail q) (sym same) (tails (length xs + n) q (subst (SpellsTail q) same d))
+
+-- ---- commands
+
+part_shape : {p : Part} {xs : List Piece} (d : SpellsPart p xs) → HaveShapes xs → (fit small : Bool) → part_fit d fit ≡ true
+    → part_small d small ≡ true → (fit ≡ true) × (small ≡ true) × IsPart p
+part_shape (part_verb w) shapes fit small is few = (is, few, w)
+part_shape (part_name {n = n}) shapes fit small is few = let sizes = and_parts small (is_short n) few in (is, sizes.0, short_name n shapes.0.0 sizes.1)
+part_shape (part_text {t = t}) shapes fit small is few = let sizes = and_parts small (is_short t) few in
+    (is, sizes.0, short_text t shapes.0.0 shapes.0.1 sizes.1)
+part_shape (part_whole {place = p} {n = n}) shapes fit small is few = let numbers = and_parts fit (is_some (whole_in p n)) is in
+    (numbers.0, few, whole_in_range p n numbers.1)
+part_shape (part_error {n = n}) shapes fit small is few = let numbers = and_parts fit (is_some (radius_in n)) is in
+    (numbers.0, few, radius_in_range n shapes.0 numbers.1)
+part_shape (part_num d) shapes fit small is few = let number = num_shape d fit is in (number.0, few, number.1)
+part_shape (part_point_word d) shapes fit small is few = (is, few, tt)
+part_shape (part_attrs d) shapes fit small is few = let attrs = attrs_shape d shapes small few in (is, attrs.0, attrs.1)
+part_shape (part_points {p = p} {q = q} {r = r} {ps = ps} d) shapes fit small is few =
+    let sizes = and_parts small (are_few_vertices (length (p ∷ q ∷ r ∷ ps))) few in
+    let points = points_shape d fit is in
+    (points.0, sizes.0, record { count = (omega arith, leb-true (length (p ∷ q ∷ r ∷ ps)) VERTEX_LIMIT sizes.1); each = points.1 })
+part_shape (part_change d) shapes fit small is few = change_shape d shapes fit small is few
+
+parts_shape : {ps : Parts} {xs : List Piece} (d : SpellsParts ps xs) → HaveShapes xs → AreTails xs → (fit small : Bool) → parts_fit d fit
+    ≡ true → parts_small d small ≡ true → (fit ≡ true) × (small ≡ true) × AreParts ps
+parts_shape no_parts shapes tails fit small is few = (is, few, tt)
+parts_shape (last_part d) shapes tails fit small is few = part_shape d shapes fit small is few
+parts_shape (last_query {q = q} {xs = xs} d) shapes tails fit small is few =
+    let numbers = and_parts fit (is_none (first_unfit d)) is in
+    let sizes = and_parts small (is_query_small (has_long xs) q) few in
+    (numbers.0, sizes.0, query_is q xs d shapes (tails 0 q d) sizes.1)
+parts_shape (part_before {xs = xs} {ys = ys} d e) shapes tails fit small is few =
+    let later = parts_shape e (all_back HasShape xs ys shapes) (tails_behind xs ys tails) (part_fit d fit) (part_small d small) is few in
+    let this = part_shape d (all_front HasShape xs ys shapes) fit small later.0 later.1 in
+    (this.0, this.1, (this.2, later.2))
+
+command_shape : {c : CommandTree} {xs : List Piece} (d : SpellsCommand c xs) → HaveShapes xs → AreTails xs → numbers_fit d ≡ true
+    → sizes_fit d ≡ true → IsPrintable c
+command_shape (by_parts d) shapes tails is few = (parts_shape d shapes tails true true is few).2
+
+-- queries at the end of a line
+line_tails : (line : List ℕ) → AreTails (pieces line)
+line_tails line n q d =
+    let spelled : SpellsQuery q (query.pieces_from n line) = subst (SpellsQuery q) (sym (tail_pieces n line).pieces) d in
+    record {
+      printable = λ short. prints_what_is_read n line q spelled ((tail_pieces n line).long ∙ short);
+      shape = spelled_shape n line q spelled;
+    }
+
+pub line_shape : (line : List ℕ) (c : CommandTree) (d : SpellsCommand c (pieces line)) → IsAscii line → numbers_fit d ≡ true → sizes_fit d
+    ≡ true → IsPrintable c
+line_shape line c d ascii is few = command_shape d (line_has line ascii) (line_tails line) is few

@@ -1,0 +1,244 @@
+-- What is read of tokens and of lines, and why lines are refused, in words of the grammar.
+use Rattle.std.proofs.Common.{◌≡◌, ℕ, Bool, true, false, List, [], ◌∷◌, Option, Some, None, option_map, refl, sym, ◌∙◌, ap, subst}
+use Rattle.std.specs.Prelude.{Result, Ok, Err, IfOk, IfErr, if◌then◌else◌}
+use Rattle.command_text.specs.declared.command.Command.{Command}
+use Rattle.command_text.specs.declared.fault.CommandFault.{CommandFault}
+use Rattle.command_text.specs.declared.fault.CommandFault.TheVariants as faults
+use Rattle.command_text.specs.declared.refusal.Refusal.{Refusal}
+use Rattle.command_text.specs.declared.refusal.Refusal.TheVariants as refusals
+use Rattle.command_text.specs.Piece.{Piece, pieces}
+use Rattle.command_text.specs.Tree
+use Rattle.command_text.specs.Tree.{CommandTree, command_view}
+use Rattle.command_text.specs.Grammar.{SpellsCommand}
+use Rattle.command_text.specs.Judged.{numbers_fit, sizes_fit}
+use Rattle.command_text.specs.inner.Reading.{Reader, Read, at_first, command_of}
+use Rattle.exact.specs.First.{first_that_holds}
+use Rattle.command_text.specs.Line.{is_comment, is_too_long, has_other_byte, has_bad_token, command_in, early_refusal, late_refusal, first_refusal, or_else, IsRead, Explains}
+use Rattle.command_text.specs.GrammarLaws.{told_of, AreReadByTheGrammar, PassesTheFirstThree, IsJudgedByTokens, SpellsWithinLimits, SpellsNoCommand, IsReadByTheGrammar, IsRefusedByTheGrammar, IsSpelled, IsFaultOf}
+use Rattle.command_text.proofs.grammar.SpelledCommands.{command_spelled, one_command}
+use Rattle.command_text.proofs.grammar.Derived.{map_some}
+use Rattle.command_text.proofs.grammar.DerivedCommands.{command_derived}
+
+pub tokens_are_read : (tokens : List Piece) → AreReadByTheGrammar tokens
+tokens_are_read tokens = record {
+  spelled_is_read = λ c spelled. command_spelled spelled;
+  read_is_spelled = λ c r e. command_derived tokens c r e;
+  one_command = λ c d e f. one_command tokens c d e f;
+}
+
+-- what the reader tells of tokens is what their derivation does
+record ToldBy (tokens : List Piece) (x : CommandTree × Reader) : Type 0 where
+  spelled : SpellsCommand x.0 tokens
+  numbers : numbers_fit spelled ≡ x.1.fit
+  sizes : sizes_fit spelled ≡ x.1.small
+
+told_by : (tokens : List Piece) (x : CommandTree × Reader) → command_of tokens ≡ Some x → ToldBy tokens x
+told_by tokens x e =
+    let d : SpellsCommand x.0 tokens = command_derived tokens x.0 x.1 e in
+    let same : told_of d ≡ x = cc (command_spelled d) in
+    record { spelled = d; numbers = ap (λ (r : CommandTree × Reader). r.1.fit) same; sizes = ap (λ (r : CommandTree × Reader). r.1.small) same }
+
+-- ---- Which refusal is told
+
+-- what a refusal by what was read means
+abbrev LateMeans : Read CommandTree → Refusal → Type 0
+LateMeans found refusals.BadSyntax = found ≡ None
+LateMeans found refusals.NumberRange = (x : CommandTree × Reader) × (found ≡ Some x) × (x.1.fit ≡ false)
+LateMeans found refusals.TooLarge = (x : CommandTree × Reader) × (found ≡ Some x) × (x.1.fit ≡ true) × (x.1.small ≡ false)
+LateMeans found r = ⊥
+
+late_by : (c : CommandTree) (rest : List Piece) (fit small : Bool) (r : Refusal) →
+    late_refusal (Some (c, record { rest = rest; fit = fit; small = small })) ≡ Some r
+    → LateMeans (Some (c, record { rest = rest; fit = fit; small = small })) r
+late_by c rest true true r e = absurd (cc)
+late_by c rest true false r e =
+    let same : refusals.TooLarge ≡ r = cc in
+    subst (LateMeans (Some (c, record { rest = rest; fit = true; small = false }))) same
+    ((c, record { rest = rest; fit = true; small = false }), refl, refl, refl)
+late_by c rest false small r e =
+    let same : refusals.NumberRange ≡ r = cc in
+    subst (LateMeans (Some (c, record { rest = rest; fit = false; small = small }))) same ((c, record { rest = rest; fit = false; small = small }), refl, refl)
+
+late_means : (found : Read CommandTree) (r : Refusal) → late_refusal found ≡ Some r → LateMeans found r
+late_means None r e = let same : refusals.BadSyntax ≡ r = cc in subst (LateMeans None) same refl
+late_means (Some x) r e = late_by x.0 x.1.rest x.1.fit x.1.small r e
+
+late_none : (c : CommandTree) (rest : List Piece) (fit small : Bool)
+    → late_refusal (Some (c, record { rest = rest; fit = fit; small = small })) ≡ None → (fit ≡ true) × (small ≡ true)
+late_none c rest true true e = (refl, refl)
+late_none c rest true false e = absurd (cc)
+late_none c rest false small e = absurd (cc)
+
+-- the first three refusals
+abbrev IsEarly : Refusal → Type 0
+IsEarly refusals.LineTooLong = Unit {0}
+IsEarly refusals.NotAscii = Unit {0}
+IsEarly refusals.BadToken = Unit {0}
+IsEarly r = ⊥
+
+early_by : (long other bad : Bool) (r : Refusal) →
+    first_that_holds ((refusals.LineTooLong, long) ∷ (refusals.NotAscii, other) ∷ (refusals.BadToken, bad) ∷ []) ≡ Some r → IsEarly r
+early_by true other bad r e = let same : refusals.LineTooLong ≡ r = cc in subst IsEarly same tt
+early_by false true bad r e = let same : refusals.NotAscii ≡ r = cc in subst IsEarly same tt
+early_by false false true r e = let same : refusals.BadToken ≡ r = cc in subst IsEarly same tt
+early_by false false false r e = absurd (cc)
+
+early_means : (limit : ℕ) (line : List ℕ) (r : Refusal) → early_refusal limit line ≡ Some r → IsEarly r
+early_means limit line r e = early_by (is_too_long limit line) (has_other_byte line) (has_bad_token line) r e
+
+-- ---- Lines
+
+comment_in : (line : List ℕ) → is_comment line ≡ true → command_in line ≡ Some (Tree.Nothing, at_first [])
+unfolding command_in
+comment_in line e = ap (λ b. if b then Some (Tree.Nothing, at_first []) else command_of (pieces line)) e
+
+tokens_in : (line : List ℕ) → is_comment line ≡ false → command_in line ≡ command_of (pieces line)
+unfolding command_in
+tokens_in line e = ap (λ b. if b then Some (Tree.Nothing, at_first []) else command_of (pieces line)) e
+
+first_of_late : (limit : ℕ) (line : List ℕ) → early_refusal limit line ≡ None → first_refusal limit line ≡ late_refusal (command_in line)
+first_of_late limit line e = ap (λ o. or_else o (late_refusal (command_in line))) e
+
+none_early : (o p : Option Refusal) → or_else o p ≡ None → o ≡ None
+none_early None p e = refl
+none_early (Some r) p e = absurd (cc)
+
+-- the line is refused early, or else by what was read
+one_of_both : {P : Type 0} (o p : Option Refusal) (r : Refusal) → or_else o p ≡ Some r → (o ≡ Some r → P) → (o ≡ None → p ≡ Some r → P) → P
+one_of_both None p r e f g = g refl e
+one_of_both (Some q) p r e f g = f e
+
+passes : (limit : ℕ) (line : List ℕ) (c : CommandTree) → IsRead limit line c → PassesTheFirstThree limit line
+passes limit line c r = none_early (early_refusal limit line) (late_refusal (command_in line)) r.taken
+
+-- the tree of what was read
+abbrev tree_of : CommandTree × Reader → CommandTree
+tree_of found = found.0
+
+-- a comment
+comment_found : (line : List ℕ) → is_comment line ≡ true → option_map tree_of (command_in line) ≡ Some Tree.Nothing
+comment_found line e = ap (option_map tree_of) (comment_in line e)
+
+comment_is_nothing : (limit : ℕ) (line : List ℕ) (c : CommandTree) → is_comment line ≡ true → IsRead limit line c → c ≡ Tree.Nothing
+comment_is_nothing limit line c e r = let found : Some Tree.Nothing ≡ Some c = sym (comment_found line e) ∙ r.command in cc
+
+nothing_is_read : (limit : ℕ) (line : List ℕ) (c : CommandTree) → is_comment line ≡ true → PassesTheFirstThree limit line → c ≡ Tree.Nothing
+    → IsRead limit line c
+nothing_is_read limit line c e early h = record {
+  taken = first_of_late limit line early ∙ ap late_refusal (comment_in line e);
+  command = comment_found line e ∙ ap Some (sym h);
+}
+
+-- a command
+read_is_spelled : (limit : ℕ) (line : List ℕ) (c : CommandTree) → is_comment line ≡ false → IsRead limit line c → SpellsWithinLimits line c
+read_is_spelled limit line c e r =
+    let a = map_some tree_of (command_of (pieces line)) c (sym (ap (option_map tree_of) (tokens_in line e)) ∙ r.command) in
+    let d : SpellsCommand c (pieces line) = subst (λ c. SpellsCommand c (pieces line)) a.2 (told_by (pieces line) a.0 a.1).spelled in
+    let late : late_refusal (Some (told_of d)) ≡ None =
+    sym (ap late_refusal (tokens_in line e ∙ command_spelled d)) ∙ sym (first_of_late limit line (passes limit line c r)) ∙ r.taken in
+    let fit = late_none c [] (numbers_fit d) (sizes_fit d) late in
+    record { spelled = d; numbers = fit.0; sizes = fit.1 }
+
+spelled_is_read : (limit : ℕ) (line : List ℕ) (c : CommandTree) → is_comment line ≡ false → PassesTheFirstThree limit line
+    → SpellsWithinLimits line c → IsRead limit line c
+spelled_is_read limit line c e early d =
+    let found : command_in line ≡ Some (told_of d.spelled) = tokens_in line e ∙ command_spelled d.spelled in
+    record {
+      taken = first_of_late limit line early ∙ ap late_refusal found
+          ∙ ap (λ fit. late_refusal (Some (c, record { rest = []; fit = fit; small = sizes_fit d.spelled }))) d.numbers
+          ∙ ap (λ small. late_refusal (Some (c, record { rest = []; fit = true; small = small }))) d.sizes;
+      command = ap (option_map tree_of) found;
+    }
+
+pub lines_are_read : (limit : ℕ) (line : List ℕ) → IsReadByTheGrammar limit line
+lines_are_read limit line = record {
+  comment = λ e c. ((λ r. (passes limit line c r, comment_is_nothing limit line c e r)), (λ h. nothing_is_read limit line c e h.0 h.1));
+  other = λ e c. ((λ r. (passes limit line c r, read_is_spelled limit line c e r)), (λ h. spelled_is_read limit line c e h.0 h.1));
+}
+
+-- a refusal by what was read is one of a line of tokens
+late_of_tokens : (line : List ℕ) (r : Refusal) (b : Bool) → is_comment line ≡ b → late_refusal (command_in line) ≡ Some r →
+    (is_comment line ≡ false) × LateMeans (command_of (pieces line)) r
+late_of_tokens line r true e h = let bad : None ≡ Some r = sym (ap late_refusal (comment_in line e)) ∙ h in absurd (cc)
+late_of_tokens line r false e h = (e, late_means (command_of (pieces line)) r (sym (ap late_refusal (tokens_in line e)) ∙ h))
+
+-- a refusal that isn't one of the first three
+late_refused : (limit : ℕ) (line : List ℕ) (r : Refusal) → (IsEarly r → ⊥) → Explains limit line (faults.Refused r)
+    → IsJudgedByTokens limit line × LateMeans (command_of (pieces line)) r
+late_refused limit line r late e =
+    one_of_both (early_refusal limit line) (late_refusal (command_in line)) r e
+    (λ h. absurd (late (early_means limit line r h)))
+    (λ passed h. let a = late_of_tokens line r (is_comment line) refl h in (record { passed = passed; no_comment = a.0 }, a.1))
+
+-- one of the others
+early_refused : (limit : ℕ) (line : List ℕ) (r : Refusal) → ((found : Read CommandTree) → LateMeans found r → ⊥)
+    → Explains limit line (faults.Refused r) → early_refusal limit line ≡ Some r
+early_refused limit line r early e =
+    one_of_both (early_refusal limit line) (late_refusal (command_in line)) r e (λ h. h)
+    (λ passed h. absurd (early (command_in line) (late_means (command_in line) r h)))
+
+refused_early : (limit : ℕ) (line : List ℕ) (r : Refusal) → early_refusal limit line ≡ Some r → Explains limit line (faults.Refused r)
+refused_early limit line r e = ap (λ o. or_else o (late_refusal (command_in line))) e
+
+refused_late : (limit : ℕ) (line : List ℕ) (found : Read CommandTree) → IsJudgedByTokens limit line → command_of (pieces line) ≡ found
+    → first_refusal limit line ≡ late_refusal found
+refused_late limit line found o e = first_of_late limit line o.passed ∙ ap late_refusal (tokens_in line o.no_comment ∙ e)
+
+-- no command
+no_command : (line : List ℕ) → command_of (pieces line) ≡ None → SpellsNoCommand line
+no_command line e c d = let read = command_spelled d in cc
+
+none_read : (tokens : List Piece) → ((c : CommandTree) → SpellsCommand c tokens → ⊥) → command_of tokens ≡ None
+none_read tokens none = by_found (command_of tokens) refl
+  where
+    by_found : (o : Read CommandTree) → command_of tokens ≡ o → o ≡ None
+    by_found None e = refl
+    by_found (Some x) e = absurd (none x.0 (command_derived tokens x.0 x.1 e))
+
+pub lines_are_refused : (limit : ℕ) (line : List ℕ) → IsRefusedByTheGrammar limit line
+lines_are_refused limit line refusals.BadSyntax = (
+  (λ e. let a = late_refused limit line refusals.BadSyntax (λ h. h) e in (a.0, no_command line a.1)),
+  (λ h. refused_late limit line None h.0 (none_read (pieces line) h.1)),
+)
+lines_are_refused limit line refusals.NumberRange = (
+  (λ e.
+      let a = late_refused limit line refusals.NumberRange (λ h. h) e in
+      let d = told_by (pieces line) a.1.0 a.1.1 in
+      (a.0, record { command = a.1.0.0; spelled = d.spelled; numbers = d.numbers ∙ a.1.2 })),
+  (λ h.
+      refused_late limit line (Some (told_of h.1.spelled)) h.0 (command_spelled h.1.spelled)
+      ∙ ap (λ fit. late_refusal (Some (h.1.command, record { rest = []; fit = fit; small = sizes_fit h.1.spelled }))) h.1.numbers),
+)
+lines_are_refused limit line refusals.TooLarge = (
+  (λ e.
+      let a = late_refused limit line refusals.TooLarge (λ h. h) e in
+      let d = told_by (pieces line) a.1.0 a.1.1 in
+      (a.0, record { command = a.1.0.0; spelled = d.spelled; numbers = d.numbers ∙ a.1.2; sizes = d.sizes ∙ a.1.3 })),
+  (λ h.
+      refused_late limit line (Some (told_of h.1.spelled)) h.0 (command_spelled h.1.spelled)
+      ∙ ap (λ fit. late_refusal (Some (h.1.command, record { rest = []; fit = fit; small = sizes_fit h.1.spelled }))) h.1.numbers
+      ∙ ap (λ small. late_refusal (Some (h.1.command, record { rest = []; fit = true; small = small }))) h.1.sizes),
+)
+lines_are_refused limit line r = (early_refused limit line r (λ found h. h), refused_early limit line r)
+
+-- ---- What the program answers
+
+read_spelled : (limit : ℕ) (line : List ℕ) (c : CommandTree) → IsRead limit line c → IsSpelled limit line c
+read_spelled limit line c read = record {
+  passed = passes limit line c read;
+  comment = λ comment. comment_is_nothing limit line c comment read;
+  other = λ other. (((lines_are_read limit line).other other c).0 read).1;
+}
+
+fault_told : (limit : ℕ) (line : List ℕ) (fault : CommandFault) → Explains limit line fault → IsFaultOf limit line fault
+fault_told limit line (faults.Refused r) is = (lines_are_refused limit line r).0 is
+fault_told limit line faults.NoMemory is = is
+
+pub answers_spelled : (limit : ℕ) (line : List ℕ) (r : Result Command CommandFault) → IfOk r (λ c. IsRead limit line (command_view c))
+    → IfOk r (λ c. IsSpelled limit line (command_view c))
+answers_spelled limit line (Ok c) is = read_spelled limit line (command_view c) is
+answers_spelled limit line (Err fault) is = tt
+
+pub faults_told : (limit : ℕ) (line : List ℕ) (r : Result Command CommandFault) → IfErr r (Explains limit line) → IfErr r (IsFaultOf limit line)
+faults_told limit line (Ok c) is = tt
+faults_told limit line (Err fault) is = fault_told limit line fault is

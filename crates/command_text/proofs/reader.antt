@@ -1,0 +1,4 @@
+pub mod LineLemmas
+pub mod Refused
+pub mod StandingLemmas
+pub mod Stopping

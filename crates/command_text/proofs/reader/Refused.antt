@@ -1,0 +1,159 @@
+-- What becomes of a part that isn't read, and of a command at the end of its tokens.
+use Rattle.std.proofs.Common.{◌≡◌, ℕ, zero, suc, ◌<◌, ◌≤◌, true, false, List, [], ◌∷◌, length, drop, map, Option, Some, None, option_map, refl, sym, ◌∙◌, ap, subst, arith}
+use Rattle.std.specs.Prelude.{is_none, if◌then◌else◌, Result, Ok, Err, MatchResult}
+use Rattle.std.proofs.lemmas.List.{length-map}
+use Rattle.exact.specs.Options.{◌>>=◌}
+use Rattle.ftl_lexer.specs.declared.kinds.Token.{Token}
+use Rattle.ftl_lexer.specs.Cut.{Lexeme}
+use Rattle.ftl_lexer.specs.Tokens.{lexemes, tokens_of, bytes_of_token}
+use Rattle.command_text.specs.declared.at.At.{At}
+use Rattle.command_text.specs.declared.command.Command.{Command}
+use Rattle.command_text.specs.declared.fault.CommandFault.{CommandFault}
+use Rattle.command_text.specs.declared.fault.CommandFault.TheVariants as faults
+use Rattle.command_text.specs.declared.refusal.Refusal.{Refusal}
+use Rattle.command_text.specs.declared.refusal.Refusal.TheVariants as refusals
+use Rattle.command_text.specs.Tree.{CommandTree, command_view}
+use Rattle.command_text.specs.Piece.{piece_of}
+use Rattle.command_text.specs.inner.Reading.{Reader, Read, front, command_begun, ended, command}
+use Rattle.command_text.specs.inner.Standing.{Stops, standing}
+use Rattle.command_text.specs.Line.{late_refusal}
+use Rattle.command_text.specs.inner.LineParts.{is_at_end, IsWhole, Refuses, Judges}
+use Rattle.command_text.proofs.reader.StandingLemmas.{front_past}
+
+-- where nothing is read
+none_refused : {A : Type 0} (o : Read A) → o ≡ None → Refuses o (faults.Refused refusals.BadSyntax)
+none_refused o e = (ap late_refusal e, ap is_at_end e)
+
+-- a part that isn't there, of a command
+pub no_part : {A B : Type 0} (part : Read A) (rest : A × Reader → Read B) (e : CommandFault) → Stops part e → Refuses (part >>= rest) e
+no_part part rest (faults.Refused r) h =
+    let none : (part >>= rest) ≡ None = ap (λ o. o >>= rest) h.1 in
+    let told = none_refused (part >>= rest) none in
+    (told.0 ∙ ap Some (sym h.0), told.1)
+no_part part rest faults.NoMemory h = tt
+
+-- a part that is there, before one that isn't
+pub behind_part : {A B : Type 0} (part : Read A) (x : A × Reader) (rest : A × Reader → Read B) (e : CommandFault) →
+    part ≡ Some x → Refuses (rest x) e → Refuses (part >>= rest) e
+behind_part part x rest (faults.Refused r) d h = (ap (λ o. late_refusal (o >>= rest)) d ∙ h.0, ap (λ o. is_at_end (o >>= rest)) d ∙ h.1)
+behind_part part x rest faults.NoMemory d h = tt
+
+same_late : {A B : Type 0} (f : A → B) (o : Read A) → late_refusal (o >>= (λ r. Some (f r.0, r.1))) ≡ late_refusal o
+same_late f None = refl
+same_late f (Some x) = refl
+
+same_end : {A B : Type 0} (f : A → B) (o : Read A) → is_at_end (o >>= (λ r. Some (f r.0, r.1))) ≡ is_at_end o
+same_end f None = refl
+same_end f (Some x) = refl
+
+-- a part in a command's tree
+pub mapped_part : {A B : Type 0} (part : Read A) (f : A → B) (e : CommandFault) → Refuses part e → Refuses (part >>= (λ r. Some (f r.0, r.1))) e
+mapped_part part f (faults.Refused r) h = (same_late f part ∙ h.0, same_end f part ∙ h.1)
+mapped_part part f faults.NoMemory h = tt
+
+pub ruleset refused_steps = (no_part, behind_part, mapped_part)
+
+-- tokens that are left, and none that are left
+left_over : (ts : List Lexeme) (place : ℕ) → place < length ts → is_none (front (drop place (map (λ t. piece_of t.0 t.1) ts))) ≡ false
+left_over [] place h = absurd (omega arith)
+left_over (x ∷ ts) zero h = refl
+left_over (x ∷ ts) (suc n) h = let less : n < length ts = omega arith in left_over ts n less
+
+pub ended_early : (line : List ℕ) (at : At) (c : CommandTree) → at.place < length (tokens_of line) → ended (c, standing line at) ≡ None
+ended_early line at c h =
+    let less : at.place < length (lexemes line) = omega (arith, length-map {B = Lexeme} (tokens_of line) (λ (t : Token). (t.kind, bytes_of_token line t))) in
+    ap (λ b. if b then Some (c, standing line at) else None) (left_over (lexemes line) at.place less)
+
+pub ended_whole : (line : List ℕ) (at : At) (c : CommandTree) → length (tokens_of line) ≤ at.place → ended (c, standing line at) ≡ Some (c, standing line at)
+ended_whole line at c h =
+    let past : length (lexemes line) ≤ at.place = omega (arith, length-map {B = Lexeme} (tokens_of line) (λ (t : Token). (t.kind, bytes_of_token line t))) in
+    ap (λ b. if b then Some (c, standing line at) else None) (ap is_none (front_past (lexemes line) at.place past))
+
+at_end : (line : List ℕ) (at : At) → length (tokens_of line) ≤ at.place → is_none (front (standing line at).rest) ≡ true
+at_end line at h =
+    let past : length (lexemes line) ≤ at.place = omega (arith, length-map {B = Lexeme} (tokens_of line) (λ (t : Token). (t.kind, bytes_of_token line t))) in
+    ap is_none (front_past (lexemes line) at.place past)
+
+-- what a command that was read is judged by
+pub judged_early : (line : List ℕ) (at : At) (c : CommandTree) → at.place < length (tokens_of line)
+    → Refuses (ended (c, standing line at)) (faults.Refused refusals.BadSyntax)
+judged_early line at c h = none_refused (ended (c, standing line at)) (ended_early line at c h)
+
+late_unfit : (c : CommandTree) (s : Reader) → s.fit ≡ false → late_refusal (Some (c, s)) ≡ Some refusals.NumberRange
+late_unfit c s e = ap (λ fit. late_refusal (Some (c, record { rest = s.rest; fit = fit; small = s.small }))) e
+
+late_large : (c : CommandTree) (s : Reader) → s.fit ≡ true → s.small ≡ false → late_refusal (Some (c, s)) ≡ Some refusals.TooLarge
+late_large c s e d = ap (λ fit. late_refusal (Some (c, record { rest = s.rest; fit = fit; small = s.small }))) e
+    ∙ ap (λ small. late_refusal (Some (c, record { rest = s.rest; fit = true; small = small }))) d
+
+late_none : (c : CommandTree) (s : Reader) → s.fit ≡ true → s.small ≡ true → late_refusal (Some (c, s)) ≡ None
+late_none c s e d = ap (λ fit. late_refusal (Some (c, record { rest = s.rest; fit = fit; small = s.small }))) e
+    ∙ ap (λ small. late_refusal (Some (c, record { rest = s.rest; fit = true; small = small }))) d
+
+pub judged_unfit : (line : List ℕ) (at : At) (c : CommandTree) → length (tokens_of line) ≤ at.place → at.fit ≡ false →
+    Refuses (ended (c, standing line at)) (faults.Refused refusals.NumberRange)
+judged_unfit line at c h e =
+    (ap late_refusal (ended_whole line at c h) ∙ late_unfit c (standing line at) e, ap is_at_end (ended_whole line at c h) ∙ at_end line at h)
+
+pub judged_large : (line : List ℕ) (at : At) (c : CommandTree) → length (tokens_of line) ≤ at.place → at.fit ≡ true → at.small ≡ false →
+    Refuses (ended (c, standing line at)) (faults.Refused refusals.TooLarge)
+judged_large line at c h e d =
+    (ap late_refusal (ended_whole line at c h) ∙ late_large c (standing line at) e d, ap is_at_end (ended_whole line at c h) ∙ at_end line at h)
+
+pub judged_whole : (line : List ℕ) (at : At) (c : CommandTree) → length (tokens_of line) ≤ at.place → at.fit ≡ true → at.small ≡ true →
+    IsWhole (ended (c, standing line at)) c
+judged_whole line at c h e d =
+    record {
+      taken = ap late_refusal (ended_whole line at c h) ∙ late_none c (standing line at) e d;
+      command =
+          ap (option_map (λ (r : CommandTree × Reader). r.0)) (ended_whole line at c h);
+    }
+
+pub ruleset at_the_end = (judged_early, judged_unfit, judged_large, judged_whole)
+
+-- a command that takes no memory, by its reader
+pub part_gives : (line : List ℕ) (found : Option (Command × At)) (o : Read CommandTree) (result : Result (Command × At) CommandFault) →
+    option_map (λ r. (command_view r.0, standing line r.1)) found ≡ o →
+    MatchResult result (λ r. found ≡ Some r) (λ e. (found ≡ None) × (e ≡ faults.Refused refusals.BadSyntax)) →
+    MatchResult result (λ r. o ≡ Some (command_view r.0, standing line r.1)) (Refuses o)
+part_gives line found o (Ok r) e h = sym e ∙ ap (option_map (λ (r : Command × At). (command_view r.0, standing line r.1))) h
+part_gives line found o (Err fault) e h =
+    subst (Refuses o) (sym h.1) (none_refused o (sym e ∙ ap (option_map (λ (r : Command × At). (command_view r.0, standing line r.1))) h.0))
+
+-- a command that was begun, to its end
+command_by : (s : Reader) (c : CommandTree × Reader) → command_begun s ≡ Some c → command s ≡ ended c
+unfolding command
+command_by s c e = ap (λ o. o >>= ended) e
+
+pub command_whole : (s : Reader) (c : CommandTree × Reader) (t : CommandTree) → command_begun s ≡ Some c → IsWhole (ended c) t → IsWhole (command s) t
+command_whole s c t e h = subst (λ (o : Read CommandTree). IsWhole o t) (sym (command_by s c e)) h
+
+pub command_refused : (s : Reader) (c : CommandTree × Reader) (fault : CommandFault) → command_begun s ≡ Some c → Refuses (ended c) fault
+    → Refuses (command s) fault
+command_refused s c fault e h = subst (λ (o : Read CommandTree). Refuses o fault) (sym (command_by s c e)) h
+
+ended_at_end : (c : CommandTree × Reader) → is_none (front c.1.rest) ≡ true → Some c ≡ ended c
+ended_at_end c e = sym (ap (λ b. if b then Some c else None) e)
+
+by_ended : (o : Read CommandTree) (fault : CommandFault) → Refuses o fault → Refuses (o >>= ended) fault
+by_ended o faults.NoMemory h = tt
+by_ended None (faults.Refused r) h = h
+by_ended (Some c) (faults.Refused r) h = subst (λ (o : Read CommandTree). Refuses o (faults.Refused r)) (ended_at_end c h.1) h
+
+pub command_not_begun : (s : Reader) (fault : CommandFault) → Refuses (command_begun s) fault → Refuses (command s) fault
+unfolding command
+command_not_begun s fault h = by_ended (command_begun s) fault h
+
+-- by what judges it
+pub command_judged : (s : Reader) (c : CommandTree × Reader) (o : Option Refusal) → command_begun s ≡ Some c → Judges c.1 o → o ≡ None → IsWhole (command s) c.0
+command_judged s c None e h is = command_whole s c c.0 e (h c.0)
+command_judged s c (Some r) e h is = absurd (cc is)
+
+pub command_judged_refused : (s : Reader) (c : CommandTree × Reader) (o : Option Refusal) (r : Refusal) → command_begun s ≡ Some c
+    → Judges c.1 o → o ≡ Some r → Refuses (command s) (faults.Refused r)
+command_judged_refused s c None r e h is = absurd (cc is)
+command_judged_refused s c (Some q) r e h is =
+    let same : q ≡ r = cc is in
+    subst (λ (x : Refusal). Refuses (command s) (faults.Refused x)) same (command_refused s c (faults.Refused q) e (h c.0))
+
+pub ruleset command_steps = (command_judged, command_judged_refused, command_not_begun)

@@ -1,0 +1,5 @@
+pub mod JournalParts
+pub mod LineParts
+pub mod Query
+pub mod Reading
+pub mod Standing

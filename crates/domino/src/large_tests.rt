@@ -1,0 +1,83 @@
+//! Asks of many objects, whose answers follow from where the objects are.
+use super::*;
+use run::INPUT_LIMIT;
+use std::alloc::{AllocError, Global};
+use std::process::Abort;
+use std::test::Fail;
+use tests::{assert_ends, plain_trial};
+
+/// Appends a line for each number below `count`, with these texts around the number.
+fn push_lines(
+    alloc: Global,
+    out: &mut Vec<u8>,
+    count: u32,
+    before: &str,
+    after: &str,
+) -> Result<(), AllocError> {
+    for number in 0..count {
+        let line = format!(in alloc; "{before}{number}{after}\n")?;
+        out.extend_from_slice(line.as_bytes())?;
+    }
+    Ok(())
+}
+
+/// Appends `ok` so many times.
+fn push_oks(out: &mut Vec<u8>, count: u32) -> Result<(), AllocError> {
+    for _ in 0..count {
+        out.extend_from_slice(b"ok\n")?;
+    }
+    Ok(())
+}
+
+/// The input is read whole, and answered with this output.
+fn assert_answers(
+    rt: &impl Abort,
+    host: &HostRuntime,
+    input: &[u8],
+    output: &[u8],
+) -> Result<(), Fail> {
+    let mut trial = plain_trial(input);
+    trial.limit = INPUT_LIMIT;
+    trial.cut = 65_536;
+    assert_ends(rt, host, &trial, 0, output)
+}
+
+#[test]
+fn two_thousand_objects_hold_at_all_ticks(rt: HostRuntime) -> Result<(), Fail> {
+    let alloc = rt.alloc();
+    let mut input = Vec::from_slice(alloc, b"class car 2000\n")?;
+    push_lines(alloc, &mut input, 2_000, "insert car c", "")?;
+    input.extend_from_slice(b"ask 1000000 RETRIEVE o FROM car o WHERE EVENTUALLY TRUE\n")?;
+    let mut output = Vec::new(alloc);
+    push_oks(&mut output, 2_001)?;
+    push_lines(alloc, &mut output, 2_000, "now c", " : 0..1000000")?;
+    push_oks(&mut output, 1)?;
+    assert_answers(&rt, &rt, &input, &output)
+}
+
+#[test]
+fn a_hundred_thousand_cars_pass_a_region_and_a_post(rt: HostRuntime) -> Result<(), Fail> {
+    const ASK: &[u8] =
+        b"ask 1000000 RETRIEVE o FROM car o,post n WHERE INSIDE(o,M) OR DIST(o,n) <= 3 OR o.x = 501000\n";
+    let alloc = rt.alloc();
+    let mut input = Vec::from_slice(
+        alloc,
+        b"class car 100000 point\nclass post 1 point\nregion M (500000,-5) (500010,-5) (500010,5) (500000,5)\ninsert post b at (500500,0)\n",
+    )?;
+    push_lines(alloc, &mut input, 100_000, "insert car c", " move (1,0)")?;
+    input.extend_from_slice(ASK)?;
+    input.extend_from_slice(ASK)?;
+    let mut output = Vec::new(alloc);
+    push_oks(&mut output, 100_004)?;
+    for _ in 0..2 {
+        push_lines(
+            alloc,
+            &mut output,
+            100_000,
+            "later c",
+            " : 500000..500010 500497..500503 501000..501000",
+        )?;
+        push_oks(&mut output, 1)?;
+    }
+    assert_answers(&rt, &rt, &input, &output)
+}

@@ -1,0 +1,18 @@
+-- The stack as it is kept.
+use Rattle.std.proofs.Common.{◌≡◌, ℕ, ◌≤◌, List, [], ◌∷◌, ◌++◌, Option, Some, ap, ◌∙◌}
+use Rattle.std.specs.Option.{MatchOption, option_to_list}
+use Rattle.std.proofs.lemmas.List.Sums.{fold-append}
+use Rattle.ftl_parser.specs.inner.Machine.{Frame, rank}
+use Rattle.ftl_parser.specs.inner.Views.{stack_of, StaysBelow}
+
+-- a frame on top of others
+pub stack_of-push : (below : List Frame) (w : Frame) → stack_of (below ++ w ∷ []) ≡ w ∷ stack_of below
+stack_of-push below w = fold-append _ [] below (w ∷ [])
+
+pub popped : (least : ℕ) (top : Frame) (old new : List Frame) (r : Option Frame) →
+    r ≡ Some top → old ≡ new ++ option_to_list r → least ≤ rank top →
+    MatchOption r ((stack_of new ≡ stack_of old) × StaysBelow least (stack_of old))
+    (λ w. (stack_of old ≡ w ∷ stack_of new) × (least ≤ rank w))
+popped least top old new r is items binds =
+    let whole : old ≡ new ++ top ∷ [] = items ∙ ap (λ o. new ++ option_to_list o) is in
+    rw is (ap stack_of whole ∙ stack_of-push new top, binds)

@@ -1,0 +1,13 @@
+//! Lines of `ask` worked out, as calls without a body.
+ghost use Rattle.line_meaning.specs.Example.{AnswersAsks, RefusesAsks};
+
+/// A car that drives through a region and one that stands in it, pairs in the order of their targets, and how many
+/// looks an `ask` may take.
+pub fn asks_are_answered()
+    ensures { AnswersAsks }
+{}
+
+/// Names and kinds before spans, the limits of spans, and the limit of bindings.
+pub fn asks_are_refused()
+    ensures { RefusesAsks }
+{}

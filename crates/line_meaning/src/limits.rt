@@ -1,0 +1,18 @@
+//! The limits of spans.
+ghost use Rattle.std.specs.Prelude.{◌≡◌, ◌^◌};
+
+/// The longest span of a query with an assignment, in ticks.
+pub const ASSIGNED_SPAN_LIMIT: u32 = 10_000;
+
+/// The least number of names of a circle that has a limit of its own.
+pub const CIRCLE_NAMES: usize = 3;
+
+/// The longest span of a query with a circle of [`CIRCLE_NAMES`] names or more, in ticks.
+pub const CIRCLE_SPAN_LIMIT: u32 = 100_000;
+
+/// The limits, in numbers.
+pub fn limits_in_numbers()
+    ensures assigned { ASSIGNED_SPAN_LIMIT ≡ 10 ^ 4 }
+    ensures names { CIRCLE_NAMES ≡ 3 }
+    ensures circle { CIRCLE_SPAN_LIMIT ≡ 10 ^ 5 }
+{}
