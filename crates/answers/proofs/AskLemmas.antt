@@ -1,4 +1,4 @@
--- What may be asked of the store of a session.
+-- For this crate and for the crates above: what may be asked of the store of a session.
 use Rattle.std.proofs.Common.{◌≡◌, ℕ, ◌+◌, ◌-◌, ◌<◌, ◌≤◌, ℤ, unsigned_abs, Bool, true, false, Option, None, Some, List, length, refl, sym, ap, ◌∙◌, subst, arith, if◌then◌else◌}
 use Rattle.std.specs.Prelude.{nat_le, nat_lt, IsTrue, option_and_then, slice_get, slice_index}
 use Rattle.std.specs.Option.{option_map_or}

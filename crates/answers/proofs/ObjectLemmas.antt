@@ -1,4 +1,4 @@
--- The objects of a class by their numbers, and domains of them.
+-- For this crate and for the crates above: the objects of a class by their numbers, and domains of them.
 use Rattle.std.proofs.Common.{◌≡◌, ℕ, zero, suc, ◌+◌, ◌<◌, ◌≤◌, Bool, true, false, Some, List, [], ◌∷◌, length, map, get_or, refl, sym, ap, ◌∙◌, subst, inl, inr, arith, if◌then◌else◌}
 use Rattle.std.specs.Prelude.{◌==◌, slice_get, slice_index}
 use Rattle.std.specs.List.{enumerate_from, filter}

@@ -1,4 +1,4 @@
--- Where each variable has more objects, a query may take more looks.
+-- For this crate and for the crates above: where each variable has more objects, a query may take more looks.
 use Rattle.std.proofs.Common.{◌≡◌, ℕ, ◌+◌, ◌*◌, ◌≤◌, true, false, List, [], ◌∷◌, length, map, sym, ap, subst, inl, inr, arith, add-le-add, if◌then◌else◌}
 use Rattle.std.specs.Prelude.{◌==◌, slice_index}
 use Rattle.std.specs.List.{list_any}

@@ -1,0 +1,130 @@
+-- A query that is registered anew, and what a write makes of a registered one.
+use Rattle.std.proofs.Common.{◌≡◌, ℕ, ◌+◌, ◌<◌, ◌≤◌, Bool, true, false, ◌&&◌, List, [], ◌++◌, length, map, refl, sym, ap, ◌∙◌, subst, arith, if◌then◌else◌}
+use Rattle.std.specs.Prelude.{nat_le}
+use Rattle.std.specs.List.{list_any}
+use Rattle.std.proofs.lemmas.Bool.Decides.{nat_tests}
+use Rattle.std.proofs.lemmas.List.{length-append, length-map}
+use Rattle.tick_set.specs.Runs.{spans_have}
+use Rattle.tick_set.specs.Ticks.{within}
+use Rattle.tick_set.specs.declared.spans.Span.{Span}
+use Rattle.tick_set.specs.declared.spans.TheConstants.{LAST_TICK}
+use Rattle.history.specs.Catalog.{Catalog, ids_of}
+use Rattle.history.specs.World.{World}
+use Rattle.formula.specs.Resolved.{IsResolved}
+use Rattle.formula.specs.Tree.{ResolvedQuery}
+use Rattle.kept_rows.specs.declared.binding.TheConstants.{BINDING_LIMIT}
+use Rattle.kept_rows.specs.declared.change.Change.{Change}
+use Rattle.kept_rows.specs.Changes.{after}
+use Rattle.kept_rows.specs.Exact.{AreRowsOf}
+use Rattle.kept_rows.specs.Numbers.{counts, size_of}
+use Rattle.kept_rows.specs.Rows.{HasRoom}
+use Rattle.meaning.specs.Agreement.{SeesItsClasses}
+use Rattle.meaning.specs.Binding.{holds_full}
+use Rattle.meaning.specs.Fits.{FitsItsClasses}
+use Rattle.object_store.specs.Contents.{Contents, catalog_of}
+use Rattle.live_queries.specs.Asked.{IsBefore, class_in}
+use Rattle.live_queries.specs.Columns.{AreColumnsOf, Column, HaveCapacitiesOf, HaveObjectsOf, capacity_of, gives, most_bindings, object_of, order_of, variables_of}
+use Rattle.live_queries.specs.Current.{row_at}
+use Rattle.live_queries.specs.Kept.{IsKept, KeptQuery}
+use Rattle.live_queries.specs.Prepared.{AreColumnsWith, AreNewRows, HaveRoomFor}
+use Rattle.live_queries.specs.Registering.{IsRegistered}
+use Rattle.live_queries.specs.Told.{Info, info_of}
+use Rattle.live_queries.specs.Written.{HaveObjectsWith, lacks}
+use Rattle.live_queries.proofs.CurrentLemmas.{variable_of_query}
+use Rattle.live_queries.proofs.FormedLemmas.{are_counted, have_capacities, have_objects, variables_are}
+use Rattle.live_queries.proofs.GrowLemmas.{have_room, have_with, lack_tells}
+use Rattle.live_queries.proofs.SizeLemmas.{columns_size}
+
+-- ---- a query that is registered
+
+-- its targets come first
+pub targets_first : (catalog : Catalog) (q : ResolvedQuery) (cs : List Column) → AreColumnsOf catalog q.classes (order_of q) cs →
+    length q.targets ≤ length cs
+targets_first catalog q cs are =
+    let many : length (map (λ (c : Column). c.variable) cs) ≡ length (order_of q) = ap length (variables_are catalog q.classes (order_of q) cs are) in
+    let same : length (map (λ (c : Column). c.variable) cs) ≡ length cs = length-map cs (λ (c : Column). c.variable) in
+    let front : length q.targets ≤ length (order_of q) = shorter q.targets _ in
+    omega (arith, many, same, front)
+  where
+    shorter : (xs ys : List ℕ) → length xs ≤ length (xs ++ ys)
+    shorter xs ys = let e : length (xs ++ ys) ≡ length xs + length ys = length-append xs ys in omega (arith, e)
+
+pub few_numbers : (catalog : Catalog) (q : ResolvedQuery) (cs : List Column) → IsResolved q → AreColumnsOf catalog q.classes (order_of q) cs →
+    most_bindings catalog q.classes ≤ BINDING_LIMIT → size_of (variables_of cs) ≤ BINDING_LIMIT
+few_numbers catalog q cs is are few =
+    let e : size_of (variables_of cs) ≡ most_bindings catalog q.classes = columns_size catalog q cs is are in
+    omega (arith, e, few)
+
+pub anew_is_kept : (catalog : Catalog) (k : KeptQuery) → IsResolved k.query → SeesItsClasses k.query →
+    AreColumnsOf catalog k.query.classes (order_of k.query) k.columns → size_of (variables_of k.columns) ≤ BINDING_LIMIT →
+    HasRoom k.pages (size_of (variables_of k.columns)) → k.entry ≤ k.expiry → k.expiry ≤ LAST_TICK → IsKept k
+anew_is_kept catalog k is sees are few room window last = record {
+  resolved = is;
+  sees = sees;
+  order = variables_are catalog k.query.classes (order_of k.query) k.columns are;
+  counted = are_counted catalog k.query.classes (order_of k.query) k.columns are;
+  size = few;
+  room = room;
+  window = window;
+  last = last;
+}
+
+pub anew_is_registered : (w : World) (given : Info) (k : KeptQuery) → info_of k ≡ given → FitsItsClasses w k.query →
+    AreColumnsOf w.history.catalog k.query.classes (order_of k.query) k.columns →
+    AreRowsOf (row_at k) (counts (variables_of k.columns)) (λ n t. within k.entry k.expiry t && holds_full w k.query k.expiry (object_of k.columns n) t) →
+    IsRegistered w given k.query k
+anew_is_registered w given k info fits are rows = record {
+  info = info;
+  query = refl;
+  current = record { objects = have_objects w.history.catalog k.query.classes (order_of k.query) k.columns are; rows = rows };
+  fits = record { fits = fits; capacities = have_capacities w.history.catalog k.query.classes (order_of k.query) k.columns are };
+}
+
+-- ---- what a write makes of it
+
+-- after its expiry nothing
+pub expired_rows : (w : World) (grows : Bool) (object class now : ℕ) (k : KeptQuery) (changes : List (Change (List Span))) → k.expiry < now → changes ≡ [] →
+    AreNewRows w grows object class now k changes
+expired_rows w grows object class now k changes past none ds made c t =
+    ap (λ (fs : List (Change (List Span))). after spans_have fs (row_at k) c t) none
+    ∙ sym (ap (λ b. if b && (counts (variables_of ds) c && gives ds object c)
+    then (within k.entry k.expiry t && holds_full w k.query k.expiry (object_of ds c) t) else row_at k c t) (not_alive now k.expiry past))
+  where
+    not_alive : (n e : ℕ) → e < n → nat_le n e ≡ false
+    not_alive n e h = grind (arith, nat_tests, h)
+
+alive_rows : (w : World) (grows : Bool) (object class now : ℕ) (k : KeptQuery) (changes : List (Change (List Span))) → now ≤ k.expiry →
+    ((ds : List Column) → AreColumnsWith grows class k.query.classes object k.columns ds → (c t : ℕ) →
+    after spans_have changes (row_at k) c t
+    ≡ (if counts (variables_of ds) c && gives ds object c
+    then (within k.entry k.expiry t && holds_full w k.query k.expiry (object_of ds c) t) else row_at k c t)) →
+    AreNewRows w grows object class now k changes
+alive_rows w grows object class now k changes alive rows ds made c t =
+    rows ds made c t
+    ∙ ap (λ b. if b && (counts (variables_of ds) c && gives ds object c)
+    then (within k.entry k.expiry t && holds_full w k.query k.expiry (object_of ds c) t) else row_at k c t) (sym (is_alive now k.expiry alive))
+  where
+    is_alive : (n e : ℕ) → n ≤ e → nat_le n e ≡ true
+    is_alive n e h = grind (arith, nat_tests, h)
+
+pub alive_rows_as_seen : (w : World) (grows : Bool) (object class now : ℕ) (x k : KeptQuery) → x ≡ k → (changes : List (Change (List Span))) → now ≤ x.expiry →
+    ((ds : List Column) → AreColumnsWith grows class x.query.classes object x.columns ds → (c t : ℕ) →
+    after spans_have changes (row_at x) c t
+    ≡ (if counts (variables_of ds) c && gives ds object c
+    then (within x.entry x.expiry t && holds_full w x.query x.expiry (object_of ds c) t) else row_at x c t)) →
+    AreNewRows w grows object class now k changes
+alive_rows_as_seen w grows object class now x k e changes alive rows =
+    subst (λ (y : KeptQuery). AreNewRows w grows object class now y changes) e (alive_rows w grows object class now x changes alive rows)
+
+module _ (s : Contents) (id class : ℕ) (its : class ≡ class_in s id) (k : KeptQuery) (is : IsKept k) (old : Catalog) (before : IsBefore id old (catalog_of s))
+    (have : HaveObjectsOf old k.query.classes k.columns) (grows : Bool) (classes : List ℕ) (same : classes ≡ k.query.classes) (cs : List Column)
+    (own : cs ≡ k.columns) (count : ℕ) (many : count ≡ length (ids_of (catalog_of s) class)) (lacking : grows ≡ list_any (lacks classes class count) cs) where
+  pub renewed_objects : HaveObjectsWith (catalog_of s) grows class k.query.classes id k.columns
+  renewed_objects =
+      have_with s old id before k.query.classes class its grows k.columns have (variable_of_query k is)
+      (lack_tells s old id before k.query.classes class its grows k.columns have (lacking ∙ (λ i. list_any (lacks (same i) class (many i)) (own i))))
+
+  pub renewed_room : (1 ≤ capacity_of (catalog_of s) class → count ≤ capacity_of (catalog_of s) class) →
+      HaveCapacitiesOf (catalog_of s) k.query.classes k.columns → grows ≡ true → HaveRoomFor class k.query.classes k.columns
+  renewed_room room capacities yes_grows =
+      have_room (catalog_of s) grows class k.query.classes id count (sym many) room k.columns renewed_objects capacities is.counted yes_grows

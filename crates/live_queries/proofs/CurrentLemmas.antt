@@ -1,0 +1,197 @@
+-- Rows that are current stay current.
+use Rattle.std.proofs.Common.{◌≡◌, ℕ, ◌<◌, ◌≤◌, Bool, true, false, ◌&&◌, ◌⊎◌, List, length, map, refl, sym, ap, ◌∙◌, subst, inl, inr, arith, if◌then◌else◌}
+use Rattle.std.specs.Prelude.{◌==◌, nat_le, None}
+use Rattle.std.specs.List.{list_any}
+use Rattle.std.proofs.lemmas.Bool.{cases_Bool, false≢true}
+use Rattle.std.proofs.lemmas.Bool.Decides.{nat_tests}
+use Rattle.tick_set.specs.Ticks.{within}
+use Rattle.tick_set.proofs.Between.{within_parts}
+use Rattle.geometry.specs.Region.{Region}
+use Rattle.history.specs.History.{ChangesFrom, History, cells_at}
+use Rattle.history.specs.World.{World}
+use Rattle.formula.specs.Resolved.{are_distinct}
+use Rattle.formula.specs.Tree.{ResolvedQuery}
+use Rattle.kept_rows.specs.Numbers.{counts}
+use Rattle.meaning.specs.Agreement.{world_with}
+use Rattle.meaning.specs.Binding.{holds_full}
+use Rattle.live_queries.specs.Columns.{Column, HaveObjectsOf, gives, has_variable, object_of, variables_of}
+use Rattle.live_queries.specs.Current.{IsCurrentFor, full_at, row_at}
+use Rattle.live_queries.specs.Kept.{IsKept, KeptQuery}
+use Rattle.live_queries.specs.declared.fresh.Renewal.{Renewal}
+use Rattle.live_queries.specs.Prepared.{IsFreshFor, IsMade}
+use Rattle.live_queries.specs.Renewed.{AddsAtMost, IsRenewed}
+use Rattle.live_queries.proofs.ColumnLemmas.{AreGrown, counts_more, new_or_before, not_given, same_counts, same_objects}
+use Rattle.live_queries.proofs.ObjectLemmas.{grown_columns, none_past, objects_grow}
+use Rattle.live_queries.proofs.OrderLemmas.{columns_are, order_below, order_distinct, order_has}
+
+-- one row at one tick: whether the query is judged anew, the binding has the object, is one now and before, the tick is
+-- in the window, it satisfies the query before and now, and its row before and now
+row_renewed : (a g d c i f f' r r' : Bool) → r ≡ (c && (i && f)) → r' ≡ (if a && (d && g) then (i && f') else r) →
+    (g ≡ false → d ≡ c) → (g ≡ false → i ≡ true → f ≡ f') → (c ≡ true → d ≡ true) → (a ≡ false → i ≡ true → d ≡ true → (c && f) ≡ f') →
+    r' ≡ (d && (i && f'))
+row_renewed true true true c i f f' r r' e e' same agree more stay = e'
+row_renewed true true false true i f f' r r' e e' same agree more stay = absurd (false≢true (more refl))
+row_renewed true true false false i f f' r r' e e' same agree more stay = e' ∙ e
+row_renewed true false true true true f f' r r' e e' same agree more stay = e' ∙ e ∙ agree refl refl
+row_renewed true false true true false f f' r r' e e' same agree more stay = e' ∙ e
+row_renewed true false true false i f f' r r' e e' same agree more stay = absurd (false≢true (sym (same refl)))
+row_renewed true false false true i f f' r r' e e' same agree more stay = absurd (false≢true (same refl))
+row_renewed true false false false i f f' r r' e e' same agree more stay = e' ∙ e
+row_renewed false g true true true f f' r r' e e' same agree more stay = e' ∙ e ∙ stay refl refl refl
+row_renewed false g true true false f f' r r' e e' same agree more stay = e' ∙ e
+row_renewed false g true false true f f' r r' e e' same agree more stay = e' ∙ e ∙ stay refl refl refl
+row_renewed false g true false false f f' r r' e e' same agree more stay = e' ∙ e
+row_renewed false g false true i f f' r r' e e' same agree more stay = absurd (false≢true (more refl))
+row_renewed false g false false i f f' r r' e e' same agree more stay = e' ∙ e
+
+module _ (New : Type 0) (id : ℕ) (cs ds : List Column) (grown : AreGrown New id cs ds) (distinct : are_distinct (map (λ d. d.variable) ds) ≡ true)
+    (alive : Bool) (inside : ℕ → Bool) (full full' : (ℕ → ℕ) → ℕ → Bool) (rows rows' : ℕ → ℕ → Bool) where
+  -- of a binding without the object, of any binding past the expiry, and of one with an object that wasn't there
+  pub rows_renewed :
+      ((b : ℕ → ℕ) → ((v : ℕ) → has_variable ds v ≡ true → (b v == id) ≡ false) → (t : ℕ) → inside t ≡ true → full b t ≡ full' b t) →
+      (alive ≡ false → (b : ℕ → ℕ) (t : ℕ) → inside t ≡ true → full b t ≡ full' b t) →
+      (alive ≡ false → New → (b : ℕ → ℕ) (v : ℕ) → has_variable ds v ≡ true → b v ≡ id → (t : ℕ) → inside t ≡ true → full' b t ≡ false) →
+      ((n t : ℕ) → rows n t ≡ (counts (variables_of cs) n && (inside t && full (object_of cs n) t))) →
+      ((n t : ℕ) → rows' n t ≡ (if alive && (counts (variables_of ds) n && gives ds id n) then (inside t && full' (object_of ds n) t) else rows n t)) →
+      (n t : ℕ) → rows' n t ≡ (counts (variables_of ds) n && (inside t && full' (object_of ds n) t))
+  rows_renewed others expired absent current renewed n t =
+      row_renewed alive (gives ds id n) (counts (variables_of ds) n) (counts (variables_of cs) n) (inside t)
+      (full (object_of cs n) t) (full' (object_of ds n) t) (rows n t) (rows' n t) (current n t) (renewed n t)
+      (same_counts New id cs ds grown n)
+      (λ other in_window.
+      ap (λ (b : ℕ → ℕ). full b t) (λ i v. sym (same_objects New id cs ds grown n v other) i)
+      ∙ others (object_of ds n) (λ v there. not_given ds id n v there other) t in_window)
+      (counts_more New id cs ds grown n)
+      (λ past in_window here. elim (new_or_before New id cs ds grown distinct n here) [
+        | inl new ↦
+            ap (λ b. b && full (object_of cs n) t) new.none
+            ∙ sym (absent past new.new (object_of ds n) new.variable new.there new.object t in_window)
+        | inr before ↦
+            ap (λ b. b && full (object_of cs n) t) before.0
+            ∙ ap (λ (b : ℕ → ℕ). full b t) (λ i v. sym (before.1 v) i)
+            ∙ expired past (object_of ds n) t in_window
+      ])
+
+-- a variable of the columns is one of the query
+module _ (k : KeptQuery) (is : IsKept k) where
+  pub variable_of_query : (v : ℕ) → has_variable k.columns v ≡ true → v < length k.query.classes
+  variable_of_query v has =
+      order_below k.query is.resolved v (ap (λ xs. list_any (λ (u : ℕ). u == v) xs) (sym is.order) ∙ sym (columns_are k.columns v) ∙ has)
+
+  pub variable_of_column : (v : ℕ) → v < length k.query.classes → has_variable k.columns v ≡ true
+  variable_of_column v below =
+      columns_are k.columns v ∙ ap (λ xs. list_any (λ (u : ℕ). u == v) xs) is.order ∙ order_has k.query is.resolved v below
+
+pub columns_grow : (id now : ℕ) (old new : History) → ChangesFrom id now old new → AddsAtMost id old.catalog new.catalog →
+    (regions : List Region) (k k' : KeptQuery) → IsKept k → IsKept k' →
+    IsCurrentFor (world_with old regions) k → IsRenewed (world_with new regions) id now k k' →
+    AreGrown (length old.catalog.objects ≤ id) id k.columns k'.columns
+columns_grow id now old new changes adds regions k k' is is' current renewed =
+    grown_columns id old.catalog new.catalog k.query.classes (objects_grow id now old new changes adds) k.columns k'.columns renewed.head.columns
+    current.objects (subst (λ (q : ResolvedQuery). HaveObjectsOf new.catalog q.classes k'.columns) renewed.head.query renewed.objects)
+    is.counted is'.counted
+
+-- a binding that there was is one still, of the same objects
+pub binding_stays : (id now : ℕ) (old new : History) → ChangesFrom id now old new → AddsAtMost id old.catalog new.catalog →
+    (regions : List Region) (k k' : KeptQuery) → IsKept k → IsKept k' →
+    IsCurrentFor (world_with old regions) k → IsRenewed (world_with new regions) id now k k' →
+    (n : ℕ) → counts (variables_of k.columns) n ≡ true →
+    (counts (variables_of k'.columns) n ≡ true) × ((v : ℕ) → object_of k'.columns n v ≡ object_of k.columns n v)
+binding_stays id now old new changes adds regions k k' is is' current renewed n there =
+    let grown : AreGrown (length old.catalog.objects ≤ id) id k.columns k'.columns =
+    columns_grow id now old new changes adds regions k k' is is' current renewed in
+    let here = counts_more (length old.catalog.objects ≤ id) id k.columns k'.columns grown n there in
+    elim (new_or_before (length old.catalog.objects ≤ id) id k.columns k'.columns grown
+    (ap are_distinct is'.order ∙ order_distinct k'.query is'.resolved) n here) [
+      | inl anew ↦ absurd (false≢true (sym anew.none ∙ there))
+      | inr before ↦ (here, before.1)
+    ]
+
+not_alive : (now e : ℕ) → nat_le now e ≡ false → e < now
+not_alive now e h = grind (arith, nat_tests, h)
+
+pub stays_current : (id now : ℕ) (old new : History) → ChangesFrom id now old new → AddsAtMost id old.catalog new.catalog →
+    (regions : List Region) (k k' : KeptQuery) → IsKept k → IsKept k' →
+    ((b : ℕ → ℕ) → ((v : ℕ) → v < length k.query.classes → (b v == id) ≡ false) → (t : ℕ) → t ≤ k.expiry →
+    holds_full (world_with old regions) k.query k.expiry b t ≡ holds_full (world_with new regions) k.query k.expiry b t) →
+    ((b : ℕ → ℕ) (t : ℕ) → t ≤ k.expiry → k.expiry < now →
+    holds_full (world_with old regions) k.query k.expiry b t ≡ holds_full (world_with new regions) k.query k.expiry b t) →
+    ((b : ℕ → ℕ) (t v : ℕ) → v < length k.query.classes → cells_at new (b v) t ≡ None →
+    holds_full (world_with new regions) k.query k.expiry b t ≡ false) →
+    IsCurrentFor (world_with old regions) k → IsRenewed (world_with new regions) id now k k' → IsCurrentFor (world_with new regions) k'
+stays_current id now old new changes adds regions k k' is is' others expired absent current renewed =
+    let same : (c t : ℕ) → full_at (world_with new regions) k' c t
+    ≡ (within k.entry k.expiry t && holds_full (world_with new regions) k.query k.expiry (object_of k'.columns c) t) =
+    λ c t i. within (renewed.head.entry i) (renewed.head.expiry i) t
+    && holds_full (world_with new regions) (renewed.head.query i) (renewed.head.expiry i) (object_of k'.columns c) t in
+    let classes : length k'.query.classes ≡ length k.query.classes = λ i. length (renewed.head.query i).classes in
+    let grown : AreGrown (length old.catalog.objects ≤ id) id k.columns k'.columns =
+    columns_grow id now old new changes adds regions k k' is is' current renewed in
+    let inside : (t : ℕ) → within k.entry k.expiry t ≡ true → t ≤ k.expiry = λ t h. (within_parts k.entry k.expiry t h).1 in
+    let past : nat_le now k.expiry ≡ false → (t : ℕ) → within k.entry k.expiry t ≡ true → t < now =
+    λ h t l. before now k.expiry t (not_alive now k.expiry h) (inside t l) in
+    record {
+      objects = renewed.objects;
+      rows = λ c t.
+          rows_renewed (length old.catalog.objects ≤ id) id k.columns k'.columns grown (ap are_distinct is'.order ∙ order_distinct k'.query is'.resolved)
+          (nat_le now k.expiry) (within k.entry k.expiry)
+          (holds_full (world_with old regions) k.query k.expiry) (holds_full (world_with new regions) k.query k.expiry) (row_at k) (row_at k')
+          (λ b apart u l. others b (λ v below. apart v (variable_of_column k' is' v (subst (λ (n : ℕ). v < n) (sym classes) below))) u (inside u l))
+          (λ h b u l. expired b u (inside u l) (not_alive now k.expiry h))
+          (λ h none b v there object u l.
+          absent b u v (subst (λ (n : ℕ). v < n) classes (variable_of_query k' is' v there))
+          (ap (λ o. cells_at new o u) object ∙ changes.past u (past h u l) ∙ none_past old id u none))
+          current.rows
+          (λ n u. renewed.rows n u ∙ ap (λ b. if nat_le now k.expiry && (counts (variables_of k'.columns) n && gives k'.columns id n) then b else row_at k n u) (same n u))
+          c t
+          ∙ ap (λ b. counts (variables_of k'.columns) c && b) (sym (same c t));
+    }
+  where
+    before : (n e u : ℕ) → e < n → u ≤ e → u < n
+    before n e u a b = omega (arith, a, b)
+
+-- where what comes after a write is the same for a binding, its row is the same before and after
+pub row_stays : (id now : ℕ) (old new : History) → ChangesFrom id now old new → AddsAtMost id old.catalog new.catalog →
+    (regions : List Region) (k k' : KeptQuery) → IsKept k → IsKept k' →
+    ((b : ℕ → ℕ) → ((v : ℕ) → v < length k.query.classes → (t : ℕ) → now ≤ t → t ≤ k.expiry → cells_at old (b v) t ≡ cells_at new (b v) t) →
+    (t : ℕ) → t ≤ k.expiry →
+    holds_full (world_with old regions) k.query k.expiry b t ≡ holds_full (world_with new regions) k.query k.expiry b t) →
+    IsCurrentFor (world_with old regions) k → IsRenewed (world_with new regions) id now k k' → IsCurrentFor (world_with new regions) k' →
+    (n : ℕ) → counts (variables_of k.columns) n ≡ true →
+    ((v : ℕ) → v < length k.query.classes → (t : ℕ) → now ≤ t → t ≤ k.expiry →
+    cells_at old (object_of k.columns n v) t ≡ cells_at new (object_of k.columns n v) t) →
+    (t : ℕ) → row_at k' n t ≡ row_at k n t
+row_stays id now old new changes adds regions k k' is is' past current renewed current' n there later t =
+    let stays = binding_stays id now old new changes adds regions k k' is is' current renewed n there in
+    let same : full_at (world_with new regions) k' n t
+    ≡ (within k.entry k.expiry t && holds_full (world_with new regions) k.query k.expiry (object_of k.columns n) t) =
+    λ i. within (renewed.head.entry i) (renewed.head.expiry i) t
+    && holds_full (world_with new regions) (renewed.head.query i) (renewed.head.expiry i) (λ v. stays.1 v i) t in
+    current'.rows n t
+    ∙ ap (λ b. b && full_at (world_with new regions) k' n t) (stays.0 ∙ sym there)
+    ∙ ap (λ b. counts (variables_of k.columns) n && b) (same ∙ inside (cases_Bool (within k.entry k.expiry t)))
+    ∙ sym (current.rows n t)
+  where
+    inside : ((within k.entry k.expiry t ≡ true) ⊎ (within k.entry k.expiry t ≡ false)) →
+        (within k.entry k.expiry t && holds_full (world_with new regions) k.query k.expiry (object_of k.columns n) t)
+        ≡ full_at (world_with old regions) k n t
+    inside (inl here) =
+        ap (λ b. within k.entry k.expiry t && b) (sym (past (object_of k.columns n) later t (within_parts k.entry k.expiry t here).1))
+    inside (inr out) =
+        ap (λ b. b && holds_full (world_with new regions) k.query k.expiry (object_of k.columns n) t) out
+        ∙ sym (ap (λ b. b && holds_full (world_with old regions) k.query k.expiry (object_of k.columns n) t) out)
+
+-- what was prepared in a world and made renews a query
+pub made_renews : (w : World) (object class now : ℕ) (r : Renewal) (k k' : KeptQuery) → IsFreshFor w object class now k r → IsMade object class r k k' →
+    IsRenewed w object now k k'
+made_renews w object class now r k k' fresh made =
+    let same : (c t : ℕ) → full_at w k' c t ≡ (within k.entry k.expiry t && holds_full w k.query k.expiry (object_of k'.columns c) t) =
+    λ c t i. within (made.head.entry i) (made.head.expiry i) t
+    && holds_full w (made.head.query i) (made.head.expiry i) (object_of k'.columns c) t in
+    record {
+      head = made.head;
+      objects = subst (λ (q : ResolvedQuery). HaveObjectsOf w.history.catalog q.classes k'.columns) (sym made.head.query) (fresh.objects k'.columns made.columns);
+      rows = λ c t.
+          made.rows c t ∙ fresh.rows k'.columns made.columns c t
+          ∙ ap (λ b. if nat_le now k.expiry && (counts (variables_of k'.columns) c && gives k'.columns object c) then b else row_at k c t) (sym (same c t));
+    }

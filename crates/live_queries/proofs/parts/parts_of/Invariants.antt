@@ -1,0 +1,25 @@
+use Rattle.std.proofs.Common.{◌+◌, ◌-◌, ◌≤◌, List, ◌++◌, length}
+use Rattle.std.specs.Prelude.{All, sum_by}
+use Rattle.formula.specs.Tree.{query_view}
+use Rattle.meaning.specs.Reads.{query_reads}
+use Rattle.object_store.specs.Contents.{catalog_of}
+use Rattle.relation.specs.Frames.{size_of}
+use Rattle.answers.specs.Asking.{world_in}
+use Rattle.answers.specs.Objects.{AreOfItsClasses}
+use Rattle.live_queries.specs.declared.parts.Part.{Part}
+use Rattle.live_queries.specs.Written.{ArePartsOf}
+use Rattle.live_queries.proofs.parts.parts_of.Given as goal
+
+-- the relations so far and those of the rest are those of all, and so are the looks
+abbrev pub invariant-singles : goal.invariant-singles
+invariant-singles g l = record {
+  domains : All (λ s. AreOfItsClasses (catalog_of l.store) (query_view l.query) s.domains) l.rest;
+  made : (more : List Part) → ArePartsOf (world_in l.store l.regions) (query_view l.query) l.w.lo l.w.hi l.rest more
+      → ArePartsOf (world_in l.store l.regions) (query_view l.query) l.w.lo l.w.hi l.singles (l.parts.items ++ more);
+  least : l.fn.reads ≤ l.reads;
+  most : l.reads + sum_by (λ s. query_reads (size_of s.domains) (l.w.hi + 1 - l.w.lo) (query_view l.query)) l.rest
+      ≤ l.fn.reads + sum_by (λ s. query_reads (size_of s.domains) (l.w.hi + 1 - l.w.lo) (query_view l.query)) l.singles;
+}
+
+abbrev pub decreases-singles : goal.decreases-singles
+decreases-singles g l = length l.rest

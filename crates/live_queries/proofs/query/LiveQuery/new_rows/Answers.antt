@@ -1,0 +1,18 @@
+use Rattle.std.proofs.Common.{List, map, sym, ap, ◌∙◌, subst, arith}
+use Rattle.std.proofs.lemmas.Bool.Decides.{nat_tests}
+use Rattle.answers.specs.Asking.{world_in}
+use Rattle.live_queries.specs.Columns.{Column}
+use Rattle.live_queries.specs.Prepared.{AreColumnsWith}
+use Rattle.live_queries.proofs.AnewLemmas.{alive_rows_as_seen}
+use Rattle.live_queries.proofs.query.LiveQuery.new_rows.Goals as goal
+
+pub new_rows-requires-clause-order : goal.new_rows-requires-clause-order
+new_rows-requires-clause-order g c =
+    ap (λ (cs : List Column). map (λ k. k.variable) cs) c.deref.ensures.value ∙ c.self.invariant.0.order
+
+pub returns-clause-rows : goal.returns-clause-rows
+returns-clause-rows g c =
+    alive_rows_as_seen (world_in c.args.store.now c.args.regions.now) c.args.grows c.args.id c.args.class c.args.now _ c.args.self.now c.self.view_is
+    c.in_ok-changes.changes (grind (arith, nat_tests, c.if-self-now.false))
+    (λ ds made. c.in_ok-changes.ensures.rows ds
+    (subst (λ (cs : List Column). AreColumnsWith c.args.grows c.args.class c.self.inside.query.classes c.args.id cs ds) (sym c.deref.ensures.value) made))

@@ -1,0 +1,10 @@
+pub mod Asked
+pub mod Columns
+pub mod Current
+pub mod Kept
+pub mod Kind
+pub mod Prepared
+pub mod Registering
+pub mod Renewed
+pub mod Told
+pub mod Written

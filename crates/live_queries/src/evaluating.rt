@@ -1,0 +1,127 @@
+//! The rows of queries by evaluation.
+ghost use Rattle.std.specs.Prelude.{◌≡◌, ◌<◌, ◌≤◌, ◌+◌, ◌-◌, ◌&&◌, ◌*◌, ℕ, true, List, length, map, IfOk, if◌then◌else◌};
+ghost use Rattle.tick_set.specs.Runs.{spans_have};
+ghost use Rattle.tick_set.specs.Ticks.{within};
+ghost use Rattle.tick_set.specs.declared.spans.TheConstants.{SPAN_LIMIT};
+ghost use Rattle.formula.specs.Resolved.{IsResolved};
+ghost use Rattle.formula.specs.Tree.{query_view};
+ghost use Rattle.kept_rows.specs.declared.binding.TheConstants.{BINDING_LIMIT};
+ghost use Rattle.kept_rows.specs.Changes.{AreReady, AreRising, after};
+ghost use Rattle.kept_rows.specs.Exact.{AreRowsOf};
+ghost use Rattle.kept_rows.specs.Numbers.{counts, size_of};
+ghost use Rattle.kept_rows.specs.Rows.{HasRoom, row_has};
+ghost use Rattle.meaning.specs.Binding.{holds_full};
+ghost use Rattle.meaning.specs.Fits.{FitsItsClasses};
+ghost use Rattle.meaning.specs.Reads.{change_reads, query_reads, sizes_of};
+ghost use Rattle.object_store.specs.Contents.{catalog_of};
+ghost use Rattle.answers.specs.Asking.{world_in};
+ghost use Rattle.answers.specs.Objects.{IsOfAcceptedWrites};
+ghost use Rattle.live_queries.specs.Asked.{class_in};
+ghost use Rattle.live_queries.specs.Columns.{AreColumnsOf, AreCounted, Column, gives, object_of, order_of, variables_of};
+ghost use Rattle.live_queries.specs.Prepared.{AreColumnsWith, HaveRoomFor};
+ghost use Rattle.live_queries.specs.Written.{HaveObjectsWith};
+
+use crate::columns::{numbers_of, numbers_with};
+use crate::judging::{Parts, Whole};
+use crate::objects::{Objects, width};
+use crate::parts::{parts_of, singles};
+use answers::{domains_of, evaluate};
+use formula::{ClassNo, RQuery};
+use interval_set::IntervalSet;
+use kept_rows::{Changes, KeptRows, judge_all, refresh};
+use object_store::Store;
+use polygon::Regions;
+use std::alloc::{AllocError, Global};
+use std::sync::ledger::Ledger;
+use steps::Steps;
+use tick_set::{TickSet, Window};
+
+/// The rows of all bindings of a query, by one evaluation. It fails only where memory is out.
+pub(crate) fn first_rows<L: Ledger, M: Ledger>(
+    alloc: Global,
+    query: &RQuery,
+    columns: &[Objects],
+    store: &Store,
+    regions: &Regions,
+    w: Window,
+    reads: &mut Steps<L>,
+    probes: &mut Steps<M>,
+) -> Result<KeptRows<IntervalSet>, AllocError>
+    requires accepted { IsOfAcceptedWrites store.now }
+    requires resolved { IsResolved (query_view query.now) }
+    requires fits { FitsItsClasses (world_in store.now regions.now) (query_view query.now) }
+    requires columns { AreColumnsOf (catalog_of store.now) query.now.classes (order_of (query_view query.now)) columns.now }
+    requires size { size_of (variables_of columns.now) ≤ BINDING_LIMIT }
+    requires length { w.hi - w.lo ≤ SPAN_LIMIT }
+    ensures room { IfOk result (λ rows. HasRoom rows (size_of (variables_of columns.now))) }
+    ensures rows { IfOk result (λ rows. AreRowsOf (row_has spans_have rows) (counts (variables_of columns.now))
+        (λ n t. within w.lo w.hi t && holds_full (world_in store.now regions.now) (query_view query.now) w.hi (object_of columns.now n) t)) }
+    ensures least { reads.old ≤ reads.new }
+    ensures most { reads.new ≤ reads.old
+        + query_reads (sizes_of (catalog_of store.now) (query_view query.now)) (w.hi + 1 - w.lo) (query_view query.now) }
+{
+    let domains = domains_of(alloc, query, store)?;
+    let full = evaluate(alloc, query, &domains, store, regions, w, reads, probes)?;
+    let mut rows = KeptRows::new(alloc, width(columns))?;
+    let numbers = numbers_of(alloc, columns)?;
+    let judge = Whole {
+        columns,
+        rows: &full,
+        nothing: IntervalSet::empty(alloc),
+    };
+    let changes = judge_all(alloc, &rows, &numbers, &judge)?;
+    changes.commit(&mut rows);
+    Ok(rows)
+}
+
+/// What a write to an object of a class changes of the rows of a query, where each variable of the class has the
+/// object as one more if there is one more. It fails only where memory is out.
+pub(crate) fn new_rows<L: Ledger, M: Ledger>(
+    alloc: Global,
+    query: &RQuery,
+    columns: &[Objects],
+    rows: &KeptRows<IntervalSet>,
+    id: u32,
+    class: ClassNo,
+    grows: bool,
+    store: &Store,
+    regions: &Regions,
+    w: Window,
+    reads: &mut Steps<L>,
+    probes: &mut Steps<M>,
+) -> Result<Changes<IntervalSet>, AllocError>
+    requires accepted { IsOfAcceptedWrites store.now }
+    requires resolved { IsResolved (query_view query.now) }
+    requires fits { FitsItsClasses (world_in store.now regions.now) (query_view query.now) }
+    requires there { id < length store.now.objects }
+    requires class { class ≡ class_in store.now id }
+    requires order { map (λ c. c.variable) columns.now ≡ order_of (query_view query.now) }
+    requires room { grows ≡ true → HaveRoomFor class query.now.classes columns.now }
+    requires objects { HaveObjectsWith (catalog_of store.now) grows class query.now.classes id columns.now }
+    requires counted { AreCounted columns.now }
+    requires size { size_of (variables_of columns.now) ≤ BINDING_LIMIT }
+    requires pages { HasRoom rows.now (size_of (variables_of columns.now)) }
+    requires length { w.hi - w.lo ≤ SPAN_LIMIT }
+    ensures ready { IfOk result (λ f. AreReady spans_have rows.now f) }
+    ensures rising { IfOk result (λ f. AreRising (size_of (variables_of columns.now)) f) }
+    ensures rows { IfOk result (λ f. (ds : List Column) → AreColumnsWith grows class query.now.classes id columns.now ds → (c t : ℕ)
+        → after spans_have f (row_has spans_have rows.now) c t
+        ≡ (if counts (variables_of ds) c && gives ds id c
+        then (within w.lo w.hi t && holds_full (world_in store.now regions.now) (query_view query.now) w.hi (object_of ds c) t)
+        else row_has spans_have rows.now c t)) }
+    ensures least { reads.old ≤ reads.new }
+    ensures most { reads.new ≤ reads.old + change_reads (catalog_of store.now) (query_view query.now) (w.hi + 1 - w.lo) class }
+{
+    let classes = query.classes.items();
+    let singles = singles(alloc, classes, store, class, id)?;
+    let parts = parts_of(alloc, query, &singles, store, regions, w, reads, probes)?;
+    let numbers = numbers_with(alloc, columns, grows, classes, class, id)?;
+    let judge = Parts {
+        columns,
+        object: id,
+        parts: &parts,
+        nothing: IntervalSet::empty(alloc),
+    };
+    let changes = refresh(alloc, rows, &numbers, &judge)?;
+    Ok(changes)
+}

@@ -1,0 +1,100 @@
+//! Bindings judged by relations.
+ghost use Rattle.std.specs.Prelude.{◌≡◌, ◌≤◌, ℕ, false};
+ghost use Rattle.tick_set.specs.Runs.{spans_have};
+ghost use Rattle.kept_rows.specs.declared.binding.TheConstants.{BINDING_LIMIT};
+ghost use Rattle.kept_rows.specs.Numbers.{size_of};
+ghost use Rattle.relation.specs.Rows.{has};
+ghost use Rattle.live_queries.specs.Columns.{object_or, variables_of};
+ghost use Rattle.live_queries.specs.Written.{parts_have};
+
+use crate::objects::{Objects, object_in, objects_of};
+use crate::parts::Part;
+use interval_set::IntervalSet;
+use kept_rows::Judge;
+use relation::Relation;
+
+/// Judges each binding by one relation over all variables.
+#[derive(Drop)]
+pub(crate) struct Whole<'a, 'd> {
+    pub(crate) columns: &'a [Objects],
+    pub(crate) rows: &'a Relation<'d, IntervalSet>,
+    pub(crate) nothing: IntervalSet,
+    pub(crate) ghost size: { size_of (variables_of columns.now) ≤ BINDING_LIMIT },
+    pub(crate) ghost none: { (t : ℕ) → spans_have nothing t ≡ false },
+}
+
+impl Judge<IntervalSet> for Whole<'_, '_> {
+    ghost use Rattle.tick_set.specs.Runs.{spans_have};
+    ghost use Rattle.relation.specs.Rows.{has};
+    ghost use Rattle.live_queries.specs.Columns.{object_of};
+
+    ghost full = { λ j number t. has spans_have j.rows.now (object_of j.columns.now number) t };
+
+    fn judge(&self, number: u32) -> &IntervalSet {
+        row_of(self.rows, self.columns, number, 0, &self.nothing)
+    }
+}
+
+/// Judges each binding that holds an object by the relation in which its first variable that is the object is
+/// nothing else.
+#[derive(Drop)]
+pub(crate) struct Parts<'a, 'd> {
+    pub(crate) columns: &'a [Objects],
+    pub(crate) object: u32,
+    pub(crate) parts: &'a [Part<'d>],
+    pub(crate) nothing: IntervalSet,
+    pub(crate) ghost size: { size_of (variables_of columns.now) ≤ BINDING_LIMIT },
+    pub(crate) ghost none: { (t : ℕ) → spans_have nothing t ≡ false },
+}
+
+impl Judge<IntervalSet> for Parts<'_, '_> {
+    ghost use Rattle.live_queries.specs.Columns.{object_or};
+    ghost use Rattle.live_queries.specs.Written.{parts_have};
+
+    ghost full = { λ j number t. parts_have j.parts.now j.object (object_or j.object j.columns.now number) t };
+
+    fn judge(&self, number: u32) -> &IntervalSet {
+        row_in_parts(self.parts, self.columns, number, self.object, &self.nothing)
+    }
+}
+
+// The row of a binding by its number, or the set without ticks. A place past the last is that of an object that is
+// added.
+fn row_of<'a>(
+    rows: &'a Relation<'_, IntervalSet>,
+    columns: &[Objects],
+    number: u32,
+    added: u32,
+    nothing: &'a IntervalSet,
+) -> &'a IntervalSet
+    requires size { size_of (variables_of columns.now) ≤ BINDING_LIMIT }
+    requires none { (t : ℕ) → spans_have nothing.now t ≡ false }
+    ensures { (t : ℕ) → spans_have result.now t ≡ has spans_have rows.now (object_or added columns.now number) t }
+{
+    let key = objects_of(columns, number, rows.vars(), added);
+    match rows.row(&key) {
+        Some(ticks) => ticks,
+        None => nothing,
+    }
+}
+
+// The row of a binding by its number in the first relation whose variable is the object.
+fn row_in_parts<'a>(
+    parts: &'a [Part<'_>],
+    columns: &[Objects],
+    number: u32,
+    object: u32,
+    nothing: &'a IntervalSet,
+) -> &'a IntervalSet
+    requires size { size_of (variables_of columns.now) ≤ BINDING_LIMIT }
+    requires none { (t : ℕ) → spans_have nothing.now t ≡ false }
+    ensures { (t : ℕ) → spans_have result.now t ≡ parts_have parts.now object (object_or object columns.now number) t }
+{
+    let Some((part, later)) = parts.split_first() else {
+        return nothing;
+    };
+    if object_in(columns, number, part.variable, object) == object {
+        return row_of(&part.rows, columns, number, object, nothing);
+    }
+    row_in_parts(later, columns, number, object, nothing)
+}

@@ -1,0 +1,124 @@
+//! Laws of registered queries and their rows, each a call that does nothing.
+ghost use Rattle.std.specs.Prelude.{◌≡◌, ◌<◌, ◌≤◌, ◌++◌, ℕ, true, All, List, length};
+ghost use Rattle.geometry.specs.Region.{Region};
+ghost use Rattle.history.specs.Catalog.{ClassInfo};
+ghost use Rattle.history.specs.History.{ChangesFrom, History, cells_at};
+ghost use Rattle.history.specs.World.{World};
+ghost use Rattle.meaning.specs.Agreement.{world_with};
+ghost use Rattle.meaning.specs.Fits.{FitsItsClasses};
+ghost use Rattle.tick_set.specs.Runs.{spans_have};
+ghost use Rattle.tick_set.specs.declared.spans.Span.{Span};
+ghost use Rattle.kept_rows.specs.declared.change.Change.{Change};
+ghost use Rattle.kept_rows.specs.Changes.{after};
+ghost use Rattle.kept_rows.specs.Numbers.{counts};
+ghost use Rattle.live_queries.specs.Asked.{FitsWorld};
+ghost use Rattle.live_queries.specs.Columns.{object_of, variables_of};
+ghost use Rattle.live_queries.specs.Current.{AreCurrent, IsCurrentFor, row_at};
+ghost use Rattle.meaning.specs.Registered.{changes_of_tick, changes_of_write, registered_answer};
+ghost use Rattle.live_queries.specs.Kept.{IsKept, KeptQuery, registered};
+ghost use Rattle.live_queries.specs.Told.{answer_of, moves_of, passings_of, told_changes};
+ghost use Rattle.live_queries.specs.Prepared.{AreFreshFor, AreMade, IsFreshFor, IsMade};
+ghost use Rattle.live_queries.specs.declared.fresh.Renewal.{Renewal};
+ghost use Rattle.live_queries.specs.Renewed.{AddsAtMost, ChangesNoObject, IsRenewed, IsSameHead};
+
+use meaning::{
+    absent_objects_satisfy_no_query, expired_queries_stay,
+    interpretations_that_agree_give_the_same_truth, other_objects_stay,
+    queries_go_on_fitting_their_classes, the_past_changes_by_what_comes_after,
+};
+
+/// What is current before a write to an object is current after it, once the bindings that hold the object are
+/// judged anew: another binding has the same states at each tick. The rows of a query whose expiry is before
+/// the write stay as they are.
+pub fn a_write_keeps_queries_current()
+    ensures { (id now : ℕ) (old new : History) → ChangesFrom id now old new → AddsAtMost id old.catalog new.catalog
+        → (regions : List Region) (k k' : KeptQuery) → IsKept k → IsKept k'
+        → IsCurrentFor (world_with old regions) k → IsRenewed (world_with new regions) id now k k'
+        → IsCurrentFor (world_with new regions) k' }
+{
+    other_objects_stay();
+    expired_queries_stay();
+    absent_objects_satisfy_no_query();
+}
+
+/// An insert of a new name moves no number: each binding that there was has its number and its objects still.
+pub fn a_write_moves_no_binding()
+    ensures { (id now : ℕ) (old new : History) → ChangesFrom id now old new → AddsAtMost id old.catalog new.catalog
+        → (regions : List Region) (k k' : KeptQuery) → IsKept k → IsKept k'
+        → IsCurrentFor (world_with old regions) k → IsRenewed (world_with new regions) id now k k'
+        → (n : ℕ) → counts (variables_of k.columns) n ≡ true
+        → (counts (variables_of k'.columns) n ≡ true) × ((v : ℕ) → object_of k'.columns n v ≡ object_of k.columns n v) }
+{}
+
+/// The recorded past is joined to the future that the motions imply: a write changes the row of a binding, before
+/// it too, only where it changes the states of its objects from then on.
+pub fn a_row_changes_by_what_comes_after()
+    ensures { (id now : ℕ) (old new : History) → ChangesFrom id now old new → AddsAtMost id old.catalog new.catalog
+        → (regions : List Region) (k k' : KeptQuery) → IsKept k → IsKept k'
+        → IsCurrentFor (world_with old regions) k → IsRenewed (world_with new regions) id now k k'
+        → (n : ℕ) → counts (variables_of k.columns) n ≡ true
+        → ((v : ℕ) → v < length k.query.classes → (t : ℕ) → now ≤ t → t ≤ k.expiry
+        → cells_at old (object_of k.columns n v) t ≡ cells_at new (object_of k.columns n v) t)
+        → (t : ℕ) → row_at k' n t ≡ row_at k n t }
+{
+    a_write_keeps_queries_current();
+    the_past_changes_by_what_comes_after();
+}
+
+/// A class or a region that is added changes nothing of what is current, and the passing of time doesn't: no
+/// definition here speaks of a clock.
+pub fn writes_to_no_object_keep_queries_current()
+    ensures { (old new : World) → ChangesNoObject old new → (k : KeptQuery) → FitsItsClasses old k.query
+        → IsCurrentFor old k → IsCurrentFor new k }
+{
+    interpretations_that_agree_give_the_same_truth();
+}
+
+/// What is told of a query that is current, by its rows alone, is its answer and what the passing of time changes.
+pub fn current_queries_tell_their_answers()
+    ensures answer { (w : World) (k : KeptQuery) → IsKept k → IsCurrentFor w k
+        → (now : ℕ) → k.entry ≤ now → answer_of k now ≡ registered_answer w (registered k) now }
+    ensures passed { (w : World) (k : KeptQuery) → IsKept k → IsCurrentFor w k
+        → (before now : ℕ) → k.entry ≤ before → before ≤ now
+        → passings_of before now k ≡ told_changes k.name (changes_of_tick w (registered k) before now) }
+{}
+
+/// What changes of rows are told to change, before they are made, is what the write changes for the targets of the
+/// query, where its rows become current by them.
+pub fn prepared_changes_tell_what_a_write_changes()
+    ensures { (id now : ℕ) (old new : History) → ChangesFrom id now old new → AddsAtMost id old.catalog new.catalog
+        → (regions : List Region) (k k' : KeptQuery) → IsKept k → IsKept k'
+        → IsCurrentFor (world_with old regions) k → IsRenewed (world_with new regions) id now k k'
+        → (changes : List (Change (List Span))) → ((c t : ℕ) → row_at k' c t ≡ after spans_have changes (row_at k) c t)
+        → k.entry ≤ now
+        → moves_of id now k changes
+        ≡ told_changes k.name (changes_of_write (world_with old regions) (world_with new regions) (registered k) now) }
+{
+    a_write_keeps_queries_current();
+}
+
+/// What was prepared of a write in a world renews a query once it is made.
+pub fn prepared_writes_renew_queries()
+    ensures { (w : World) (object class now : ℕ) (r : Renewal) (k k' : KeptQuery)
+        → IsFreshFor w object class now k r → IsMade object class r k k' → IsRenewed w object now k k' }
+{}
+
+/// What was prepared of a write for all queries, once it is made, keeps them all current.
+pub fn committed_writes_keep_queries_current()
+    ensures { (id now class : ℕ) (old new : History) → ChangesFrom id now old new → AddsAtMost id old.catalog new.catalog
+        → (regions : List Region) (rs : List Renewal) (live live' : List KeptQuery) → All IsKept live → All IsKept live'
+        → AreCurrent (world_with old regions) live → AreFreshFor (world_with new regions) id class now live rs
+        → AreMade id class rs live live' → AreCurrent (world_with new regions) live' }
+{
+    a_write_keeps_queries_current();
+    prepared_writes_renew_queries();
+}
+
+/// A query goes on fitting a world where classes and regions are added, and once a write to an object is made.
+pub fn queries_go_on_fitting_worlds()
+    ensures { (old new : World) (m : List ClassInfo) (n : List Region)
+        → new.history.catalog.classes ≡ old.history.catalog.classes ++ m → new.regions ≡ old.regions ++ n
+        → (k k' : KeptQuery) → IsSameHead k k' → FitsWorld old k → FitsWorld new k' }
+{
+    queries_go_on_fitting_their_classes();
+}

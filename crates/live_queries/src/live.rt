@@ -1,0 +1,369 @@
+//! The registered queries.
+ghost use Rattle.std.specs.Prelude.{◌≡◌, ◌<◌, ◌≤◌, ◌+◌, ◌-◌, ◌*◌, ℕ, All, [], not, length, map, option_map, slice_get, sum_by, ◌++◌, IfOk, OnErr, OnOk};
+ghost use Rattle.std.specs.List.{filter, flat_map, list_any};
+ghost use Rattle.std.specs.Option.{option_copied};
+ghost use Rattle.std.specs.Str.{bytes_eq};
+ghost use Rattle.tick_set.specs.declared.spans.TheConstants.{LAST_TICK, SPAN_LIMIT};
+ghost use Rattle.formula.specs.Resolved.{IsResolved};
+ghost use Rattle.formula.specs.Tree.{query_view};
+ghost use Rattle.meaning.specs.Fits.{FitsItsClasses};
+ghost use Rattle.meaning.specs.Reads.{query_reads, sizes_of};
+ghost use Rattle.meaning.specs.Registered.{write_reads};
+ghost use Rattle.object_store.specs.Contents.{catalog_of};
+ghost use Rattle.answers.specs.Asking.{world_in};
+ghost use Rattle.answers.specs.Objects.{IsOfAcceptedWrites};
+ghost use Rattle.kept_rows.specs.declared.binding.TheConstants.{BINDING_LIMIT};
+ghost use Rattle.kept_rows.specs.Numbers.{size_of};
+ghost use Rattle.live_queries.specs.declared.live.TheConstants.{QUERY_LIMIT};
+ghost use Rattle.live_queries.specs.Asked.{FitsWorld, HaveObjectsBefore, class_in};
+ghost use Rattle.live_queries.specs.Columns.{most_bindings, variables_of};
+ghost use Rattle.live_queries.specs.Kept.{AreKept, IsKept, registered};
+ghost use Rattle.live_queries.specs.Prepared.{AreFreshFor, AreMade, ArePrepared, IsPrepared};
+ghost use Rattle.live_queries.specs.Registering.{AddsQuery};
+ghost use Rattle.live_queries.specs.Told.{answer_of, changes_of, info_of, passings_of, query_named, told_info};
+
+use crate::fresh::{Fresh, Renewal};
+use crate::query::LiveQuery;
+use crate::told::{AnswerRow, Move, QueryInfo};
+use fixed_point::Word;
+use formula::{ClassNo, RQuery};
+use object_store::Store;
+use polygon::Regions;
+use std::alloc::{AllocError, Global};
+use std::marker::Model;
+use std::sync::ledger::Ledger;
+use std::vec::IntoIter;
+use steps::Steps;
+
+/// The most queries that may be registered.
+pub const QUERY_LIMIT: usize = 256;
+
+/// The registered queries with their rows, in the order of registration. What is told of them is told by their rows
+/// alone.
+#[derive(Drop)]
+pub struct Live {
+    queries: Vec<LiveQuery>,
+}
+
+impl Model for Live {
+    ghost use Rattle.std.specs.Prelude.{ℕ, List};
+    ghost use Rattle.std.specs.Coded.{codes};
+    ghost use Rattle.formula_shape.specs.ShapeCode.{shape_code};
+    ghost use Rattle.formula.specs.declared.tree.RAtom.{RAtom};
+    ghost use Rattle.formula.specs.declared.tree.RTerm.{RTerm};
+    ghost use Rattle.live_queries.specs.Kept.{AreKept, KeptQuery};
+
+    ghost Value = { List KeptQuery };
+
+    ghost coded = { Prim.hlevel (codes, shape_code {A = RAtom} {B = ℕ × RTerm} (Prim.hlevel codes)) };
+
+    ghost view = { λ a. a.queries.items };
+
+    ghost invariant = { λ a. AreKept a.queries.items };
+}
+
+impl Live {
+    /// No query. It takes no memory.
+    pub fn new(alloc: Global) -> Live
+        ensures { result ≡ [] }
+    {
+        Live {
+            queries: Vec::new(alloc),
+        }
+    }
+
+    /// How many queries are registered, at most [`QUERY_LIMIT`].
+    pub fn count(&self) -> u32
+        ensures { result ≡ length self.now }
+    {
+        self.queries.len() as u32
+    }
+
+    /// Whether a query of this name is registered.
+    pub fn has(&self, name: &Word) -> bool
+        ensures { result ≡ list_any (λ k. bytes_eq k.name name.now) self.now }
+    {
+        self.queries.iter().any(|query| query.is_named(name))
+    }
+
+    /// How many numbers the bindings of all queries may have: the sum of the products of their classes' capacities.
+    pub fn bindings(&self) -> u64
+        ensures { result ≡ sum_by (λ k. size_of (variables_of k.columns)) self.now }
+    {
+        bindings_of(&self.queries)
+    }
+
+    /// The registered query of a place in the order of registration, from 0. None exactly where there is none.
+    pub fn query_at(&self, place: usize) -> Option<QueryInfo>
+        ensures { option_map told_info result ≡ option_map info_of (slice_get self.now place) }
+    {
+        match self.queries.get(place) {
+            Some(query) => Some(query.info()),
+            None => None,
+        }
+    }
+
+    /// Takes the query of a name away. Answers whether there was one.
+    pub fn drop_query(&mut self, name: &Word) -> bool
+        ensures had { result ≡ list_any (λ k. bytes_eq k.name name.now) self.old }
+        ensures others { self.new ≡ filter (λ k. not (bytes_eq k.name name.now)) self.old }
+    {
+        let had = self.has(name);
+        self.queries.retain(|query| !query.is_named(name));
+        had
+    }
+
+    /// The answer of the query of a name at a tick, row by row in the order of its targets. None exactly where no
+    /// query has the name. It fails only where memory is out.
+    pub fn answer(
+        &self,
+        alloc: Global,
+        name: &Word,
+        now: u32,
+    ) -> Result<Option<Vec<AnswerRow>>, AllocError>
+        ensures { IfOk result (λ answer. option_map (λ rows. rows.items) answer
+            ≡ option_map (λ k. answer_of k now) (query_named self.now name.now)) }
+    {
+        match self.query(name) {
+            Some(query) => Ok(Some(query.answer(alloc, now)?)),
+            None => Ok(None),
+        }
+    }
+
+    // The query of a name.
+    fn query(&self, name: &Word) -> Option<&LiveQuery>
+        ensures { option_copied result ≡ query_named self.now name.now }
+    {
+        self.queries.iter().find(|query| query.is_named(name))
+    }
+
+    /// Which targets of each query enter and leave as time passes from tick `before` to `now`, in the order of
+    /// registration and then of the targets. It fails only where memory is out.
+    pub fn passed(&self, alloc: Global, before: u32, now: u32) -> Result<Vec<Move>, AllocError>
+        ensures { IfOk result (λ moves. moves.items ≡ flat_map (passings_of before now) self.now) }
+    {
+        let mut moves = Vec::new(alloc);
+        add_passings(alloc, &self.queries, before, now, &mut moves)?;
+        Ok(moves)
+    }
+
+    /// What a write that was prepared changes for the targets of each query at tick `now`, in the order of
+    /// registration and then of the targets. It fails only where memory is out.
+    pub fn changes(&self, alloc: Global, fresh: &Fresh, now: u32) -> Result<Vec<Move>, AllocError>
+        requires { IsPrepared self.now fresh.now }
+        ensures { IfOk result (λ moves. moves.items ≡ changes_of fresh.now.object now self.now fresh.now.renewals) }
+    {
+        let mut moves = Vec::new(alloc);
+        add_changes(
+            alloc,
+            &self.queries,
+            fresh.object,
+            fresh.class,
+            &fresh.renewals,
+            now,
+            &mut moves,
+        )?;
+        Ok(moves)
+    }
+
+    /// Registers a query after the others, with its rows in the store as it is. It fails only where memory is out,
+    /// and then nothing has changed.
+    ///
+    /// The query is right by number and fits the classes and the regions, it has at most 1,000,000 bindings, and it
+    /// has at most 100,000,000 ticks after its entry. `reads` counts the looks at timelines.
+    pub fn register<L: Ledger, M: Ledger>(
+        &mut self,
+        alloc: Global,
+        info: &QueryInfo,
+        query: RQuery,
+        store: &Store,
+        regions: &Regions,
+        reads: &mut Steps<L>,
+        probes: &mut Steps<M>,
+    ) -> Result<(), AllocError>
+        requires few { length self.old < QUERY_LIMIT }
+        requires accepted { IsOfAcceptedWrites store.now }
+        requires resolved { IsResolved (query_view query) }
+        requires fits { FitsItsClasses (world_in store.now regions.now) (query_view query) }
+        requires size { most_bindings (catalog_of store.now) query.classes ≤ BINDING_LIMIT }
+        requires window { info.now.entry ≤ info.now.expiry }
+        requires last { info.now.expiry ≤ LAST_TICK }
+        requires length { info.now.expiry - info.now.entry ≤ SPAN_LIMIT }
+        ensures ok { OnOk result (AddsQuery (world_in store.now regions.now) (told_info info.now) (query_view query) self.old self.new) }
+        ensures err { OnErr result (self.new ≡ self.old) }
+        ensures least { reads.old ≤ reads.new }
+        ensures most { reads.new ≤ reads.old
+            + query_reads (sizes_of (catalog_of store.now) (query_view query)) (info.now.expiry + 1 - info.now.entry) (query_view query) }
+    {
+        let added = LiveQuery::new(alloc, info, query, store, regions, reads, probes)?;
+        self.queries.push(added)?;
+        Ok(())
+    }
+
+    /// What a write at tick `now` to one object makes of the queries, which have the rows from before it. No row is
+    /// judged anew of a binding without the object, and none of a query whose expiry is before the write. It fails
+    /// only where memory is out.
+    ///
+    /// `reads` counts the looks at timelines.
+    pub fn refresh<L: Ledger, M: Ledger>(
+        &self,
+        alloc: Global,
+        id: u32,
+        store: &Store,
+        regions: &Regions,
+        now: u32,
+        reads: &mut Steps<L>,
+        probes: &mut Steps<M>,
+    ) -> Result<Fresh, AllocError>
+        requires accepted { IsOfAcceptedWrites store.now }
+        requires fits { All (FitsWorld (world_in store.now regions.now)) self.now }
+        requires there { id < length store.now.objects }
+        requires before { HaveObjectsBefore id (catalog_of store.now) self.now }
+        ensures object { IfOk result (λ f. f.object ≡ id) }
+        ensures class { IfOk result (λ f. f.class ≡ class_in store.now id) }
+        ensures prepared { IfOk result (IsPrepared self.now) }
+        ensures fresh { IfOk result (λ f. AreFreshFor (world_in store.now regions.now) f.object f.class now self.now f.renewals) }
+        ensures least { reads.old ≤ reads.new }
+        ensures most { reads.new ≤ reads.old + write_reads (catalog_of store.now) (map registered self.now) now (class_in store.now id) }
+    {
+        let class = class_of(store, id);
+        let queries = &self.queries;
+        let renewals = renewals_of(
+            alloc, queries, id, class, store, regions, now, reads, probes,
+        )?;
+        Ok(Fresh {
+            object: id,
+            class,
+            renewals,
+        })
+    }
+
+    /// Makes what was prepared of a write. It takes no memory and can't fail.
+    pub fn commit(&mut self, fresh: Fresh)
+        requires { IsPrepared self.old fresh }
+        ensures { AreMade fresh.object fresh.class fresh.renewals self.old self.new }
+    {
+        commit_each(
+            &mut self.queries,
+            fresh.object,
+            fresh.class,
+            fresh.renewals.into_iter(),
+        );
+    }
+}
+
+// The class of an object.
+fn class_of(store: &Store, id: u32) -> ClassNo
+    requires { id < length store.now.objects }
+    ensures { result ≡ class_in store.now id }
+{
+    match store.class_of(id) {
+        Some(class) => class,
+        None => unreachable!(),
+    }
+}
+
+// What a write to an object of a class makes of each of these queries.
+fn renewals_of<L: Ledger, M: Ledger>(
+    alloc: Global,
+    queries: &[LiveQuery],
+    id: u32,
+    class: ClassNo,
+    store: &Store,
+    regions: &Regions,
+    now: u32,
+    reads: &mut Steps<L>,
+    probes: &mut Steps<M>,
+) -> Result<Vec<Renewal>, AllocError>
+    requires accepted { IsOfAcceptedWrites store.now }
+    requires fits { All (FitsWorld (world_in store.now regions.now)) queries.now }
+    requires there { id < length store.now.objects }
+    requires class { class ≡ class_in store.now id }
+    requires before { HaveObjectsBefore id (catalog_of store.now) queries.now }
+    ensures prepared { IfOk result (λ renewals. ArePrepared class queries.now renewals.items) }
+    ensures fresh { IfOk result (λ renewals. AreFreshFor (world_in store.now regions.now) id class now queries.now renewals.items) }
+    ensures least { reads.old ≤ reads.new }
+    ensures most { reads.new ≤ reads.old + write_reads (catalog_of store.now) (map registered queries.now) now class }
+{
+    let mut renewals = Vec::with_capacity(alloc, queries.len())?;
+    let mut rest = queries;
+    'queries: while let Some((query, later)) = rest.split_first() {
+        let renewal = query.renewal(alloc, id, class, store, regions, now, reads, probes)?;
+        renewals.push(renewal)?;
+        rest = later;
+    }
+    Ok(renewals)
+}
+
+// How many numbers the bindings of these queries may have.
+fn bindings_of(queries: &[LiveQuery]) -> u64
+    requires { length queries.now ≤ QUERY_LIMIT }
+    ensures sum { result ≡ sum_by (λ k. size_of (variables_of k.columns)) queries.now }
+    ensures bound { result ≤ length queries.now * BINDING_LIMIT }
+{
+    match queries.split_first() {
+        Some((query, queries)) => u64::from(query.size()) + bindings_of(queries),
+        None => 0,
+    }
+}
+
+// Adds which targets of these queries enter and leave.
+fn add_passings(
+    alloc: Global,
+    queries: &[LiveQuery],
+    before: u32,
+    now: u32,
+    moves: &mut Vec<Move>,
+) -> Result<(), AllocError>
+    ensures { OnOk result (moves.new.items ≡ moves.old.items ++ flat_map (passings_of before now) queries.now) }
+{
+    let Some((query, queries)) = queries.split_first() else {
+        return Ok(());
+    };
+    query.add_passings(alloc, before, now, moves)?;
+    add_passings(alloc, queries, before, now, moves)
+}
+
+// Adds what changes for the targets of these queries.
+fn add_changes(
+    alloc: Global,
+    queries: &[LiveQuery],
+    object: u32,
+    class: ClassNo,
+    renewals: &[Renewal],
+    now: u32,
+    moves: &mut Vec<Move>,
+) -> Result<(), AllocError>
+    requires { ArePrepared class queries.now renewals.now }
+    ensures { OnOk result (moves.new.items ≡ moves.old.items ++ changes_of object now queries.now renewals.now) }
+{
+    let (Some((query, queries)), Some((renewal, renewals))) = (
+        queries.split_first(),
+        renewals.split_first(),
+    ) else {
+        return Ok(());
+    };
+    query.add_moves(alloc, object, &renewal.changes, now, moves)?;
+    add_changes(alloc, queries, object, class, renewals, now, moves)
+}
+
+// Makes what was prepared of these queries.
+fn commit_each(
+    queries: &mut [LiveQuery],
+    object: u32,
+    class: ClassNo,
+    mut renewals: IntoIter<Renewal>,
+)
+    requires { ArePrepared class queries.old renewals.rest.items }
+    ensures made { AreMade object class renewals.rest.items queries.old queries.new }
+    ensures kept { All IsKept queries.new }
+{
+    let Some((query, queries)) = queries.split_first_mut() else {
+        return;
+    };
+    let Some(renewal) = renewals.next() else {
+        return;
+    };
+    query.commit(object, class, renewal);
+    commit_each(queries, object, class, renewals);
+}

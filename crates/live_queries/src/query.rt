@@ -1,0 +1,440 @@
+//! One registered query with its rows.
+ghost use Rattle.std.specs.Prelude.{◌≡◌, ◌<◌, ◌≤◌, ◌+◌, ◌-◌, ◌*◌, ◌++◌, ◌↔◌, ℕ, All, true, take, drop, length, IsSome, IfSome, IfOk, OnOk};
+ghost use Rattle.std.specs.Str.{bytes_eq};
+ghost use Rattle.meaning.specs.Registered.{first_tick};
+ghost use Rattle.kept_rows.specs.declared.binding.TheConstants.{BINDING_LIMIT};
+ghost use Rattle.tick_set.specs.Runs.{spans_have};
+ghost use Rattle.tick_set.specs.declared.spans.TheConstants.{LAST_TICK, SPAN_LIMIT};
+ghost use Rattle.history.specs.Catalog.{Catalog};
+ghost use Rattle.formula.specs.Resolved.{IsResolved};
+ghost use Rattle.formula.specs.Tree.{query_view};
+ghost use Rattle.meaning.specs.Fits.{FitsItsClasses};
+ghost use Rattle.meaning.specs.Reads.{query_reads, sizes_of};
+ghost use Rattle.object_store.specs.Contents.{catalog_of};
+ghost use Rattle.answers.specs.Asking.{world_in};
+ghost use Rattle.answers.specs.Objects.{IsOfAcceptedWrites};
+ghost use Rattle.kept_rows.specs.Changes.{AreReady, AreRising, after};
+ghost use Rattle.kept_rows.specs.Listing.{lines_upto, passing_of};
+ghost use Rattle.kept_rows.specs.Moves.{move_of};
+ghost use Rattle.kept_rows.specs.Numbers.{size_of};
+ghost use Rattle.live_queries.specs.Asked.{FitsWorld, IsBefore, class_in, renewal_reads};
+ghost use Rattle.live_queries.specs.Columns.{HaveObjectsOf, most_bindings, variables_of};
+ghost use Rattle.live_queries.specs.Current.{row_at};
+ghost use Rattle.live_queries.specs.Kept.{IsKept, registered};
+ghost use Rattle.live_queries.specs.Prepared.{AreNewRows, HaveRoomFor, IsFreshFor, IsMade, IsReadyFor};
+ghost use Rattle.live_queries.specs.Registering.{IsRegistered};
+ghost use Rattle.live_queries.specs.Written.{HaveObjectsWith};
+ghost use Rattle.live_queries.specs.Told.{answer_of, info_of, key_of, lines_of, move as told_move, moves_of, passing as told_passing, passings_of, row_of, target_count, target_times, told_info};
+
+use crate::columns::{class_count, columns_of, lack};
+use crate::evaluating::{first_rows, new_rows};
+use crate::fresh::Renewal;
+use crate::kind::QueryKind;
+use crate::objects::{Objects, add_object, objects_of, width};
+use crate::told::{AnswerRow, Move, QueryInfo};
+use answers::fitting_queries_can_be_asked;
+use fixed_point::Word;
+use formula::{Binding, ClassNo, RQuery};
+use interval_set::IntervalSet;
+use kept_rows::{Changes, KeptRows, Line, Passing, Targets};
+use object_store::Store;
+use polygon::Regions;
+use std::alloc::{AllocError, Global};
+use std::marker::Model;
+use std::sync::ledger::Ledger;
+use steps::Steps;
+use tick_set::Window;
+
+/// A registered query. Its variables stand in the order of the numbers of its bindings: the targets first.
+#[derive(Drop)]
+pub(crate) struct LiveQuery {
+    name: Word,
+    kind: QueryKind,
+    query: RQuery,
+    entry: u32,
+    expiry: u32,
+    columns: Vec<Objects>,
+    targets: Targets,
+    rows: KeptRows<IntervalSet>,
+}
+
+impl Model for LiveQuery {
+    ghost use Rattle.std.specs.Prelude.{◌≡◌, ◌≤◌, ◌-◌, ℕ};
+    ghost use Rattle.std.specs.Coded.{codes};
+    ghost use Rattle.tick_set.specs.declared.spans.TheConstants.{SPAN_LIMIT};
+    ghost use Rattle.formula_shape.specs.ShapeCode.{shape_code};
+    ghost use Rattle.formula.specs.Tree.{query_view};
+    ghost use Rattle.formula.specs.declared.tree.RAtom.{RAtom};
+    ghost use Rattle.formula.specs.declared.tree.RTerm.{RTerm};
+    ghost use Rattle.live_queries.specs.Kept.{IsKept, KeptQuery};
+    ghost use Rattle.live_queries.specs.Kind.{kind_of};
+    ghost use Rattle.live_queries.specs.Told.{target_count, target_width};
+
+    ghost Value = { KeptQuery };
+
+    ghost coded = { Prim.hlevel (codes, shape_code {A = RAtom} {B = ℕ × RTerm} (Prim.hlevel codes)) };
+
+    ghost view = { λ a. record { name = a.name; kind = kind_of a.kind; query = query_view a.query; entry = a.entry; expiry = a.expiry; columns = a.columns.items; pages = a.rows } };
+
+    ghost invariant = { λ a.
+        let k : KeptQuery = record { name = a.name; kind = kind_of a.kind; query = query_view a.query; entry = a.entry; expiry = a.expiry; columns = a.columns.items; pages = a.rows } in
+        IsKept k × (a.targets.count ≡ target_count k) × (a.targets.width ≡ target_width k) × (a.expiry - a.entry ≤ SPAN_LIMIT) };
+}
+
+impl LiveQuery {
+    /// A query that is registered anew, with its rows in the store as it is. It fails only where memory is out.
+    pub(crate) fn new<L: Ledger, M: Ledger>(
+        alloc: Global,
+        info: &QueryInfo,
+        query: RQuery,
+        store: &Store,
+        regions: &Regions,
+        reads: &mut Steps<L>,
+        probes: &mut Steps<M>,
+    ) -> Result<LiveQuery, AllocError>
+        requires accepted { IsOfAcceptedWrites store.now }
+        requires resolved { IsResolved (query_view query) }
+        requires fits { FitsItsClasses (world_in store.now regions.now) (query_view query) }
+        requires size { most_bindings (catalog_of store.now) query.classes ≤ BINDING_LIMIT }
+        requires window { info.now.entry ≤ info.now.expiry }
+        requires last { info.now.expiry ≤ LAST_TICK }
+        requires length { info.now.expiry - info.now.entry ≤ SPAN_LIMIT }
+        ensures registered { IfOk result (IsRegistered (world_in store.now regions.now) (told_info info.now) (query_view query)) }
+        ensures kept { IfOk result IsKept }
+        ensures least { reads.old ≤ reads.new }
+        ensures most { reads.new ≤ reads.old
+            + query_reads (sizes_of (catalog_of store.now) (query_view query)) (info.now.expiry + 1 - info.now.entry) (query_view query) }
+    {
+        fitting_queries_can_be_asked();
+        let w = Window {
+            lo: info.entry,
+            hi: info.expiry,
+        };
+        let columns = columns_of(alloc, &query, store)?;
+        let rows = first_rows(alloc, &query, &columns, store, regions, w, reads, probes)?;
+        let targets = targets_of(&columns, query.targets.items().len());
+        Ok(LiveQuery {
+            name: info.name,
+            kind: info.kind,
+            query,
+            entry: info.entry,
+            expiry: info.expiry,
+            columns,
+            targets,
+            rows,
+        })
+    }
+
+    /// What a write to an object of a class makes of it. It fails only where memory is out.
+    pub(crate) fn renewal<L: Ledger, M: Ledger>(
+        &self,
+        alloc: Global,
+        id: u32,
+        class: ClassNo,
+        store: &Store,
+        regions: &Regions,
+        now: u32,
+        reads: &mut Steps<L>,
+        probes: &mut Steps<M>,
+    ) -> Result<Renewal, AllocError>
+        requires accepted { IsOfAcceptedWrites store.now }
+        requires fits { FitsWorld (world_in store.now regions.now) self.now }
+        requires there { id < length store.now.objects }
+        requires class { class ≡ class_in store.now id }
+        requires before { (old : Catalog) × IsBefore id old (catalog_of store.now) × HaveObjectsOf old self.now.query.classes self.now.columns }
+        ensures ready { IfOk result (IsReadyFor class self.now) }
+        ensures fresh { IfOk result (IsFreshFor (world_in store.now regions.now) id class now self.now) }
+        ensures least { reads.old ≤ reads.new }
+        ensures most { reads.new ≤ reads.old + renewal_reads (catalog_of store.now) now class (registered self.now) }
+    {
+        let count = class_count(store, class);
+        let grows = lack(&self.columns, self.query.classes.items(), class, count);
+        let changes = self.new_rows(alloc, id, class, grows, store, regions, now, reads, probes)?;
+        Ok(Renewal { grows, changes })
+    }
+
+    // What such a write changes of its rows: nothing after its expiry.
+    fn new_rows<L: Ledger, M: Ledger>(
+        &self,
+        alloc: Global,
+        id: u32,
+        class: ClassNo,
+        grows: bool,
+        store: &Store,
+        regions: &Regions,
+        now: u32,
+        reads: &mut Steps<L>,
+        probes: &mut Steps<M>,
+    ) -> Result<Changes<IntervalSet>, AllocError>
+        requires accepted { IsOfAcceptedWrites store.now }
+        requires fits { FitsItsClasses (world_in store.now regions.now) self.now.query }
+        requires there { id < length store.now.objects }
+        requires class { class ≡ class_in store.now id }
+        requires room { grows ≡ true → HaveRoomFor class self.now.query.classes self.now.columns }
+        requires objects { HaveObjectsWith (catalog_of store.now) grows class self.now.query.classes id self.now.columns }
+        ensures ready { IfOk result (AreReady spans_have self.now.pages) }
+        ensures rising { IfOk result (AreRising (size_of (variables_of self.now.columns))) }
+        ensures rows { IfOk result (AreNewRows (world_in store.now regions.now) grows id class now self.now) }
+        ensures least { reads.old ≤ reads.new }
+        ensures most { reads.new ≤ reads.old + renewal_reads (catalog_of store.now) now class (registered self.now) }
+    {
+        if self.expiry < now {
+            return Ok(Changes::new(alloc));
+        }
+        let w = Window {
+            lo: self.entry,
+            hi: self.expiry,
+        };
+        let changes = new_rows(
+            alloc,
+            &self.query,
+            &self.columns,
+            &self.rows,
+            id,
+            class,
+            grows,
+            store,
+            regions,
+            w,
+            reads,
+            probes,
+        )?;
+        Ok(changes)
+    }
+
+    /// Whether it has this name.
+    #[inline]
+    pub(crate) fn is_named(&self, name: &Word) -> bool
+        ensures { result ≡ bytes_eq self.now.name name.now }
+    {
+        self.name == *name
+    }
+
+    /// Its name, its kind and its ticks.
+    pub(crate) fn info(&self) -> QueryInfo
+        ensures { told_info result ≡ info_of self.now }
+    {
+        QueryInfo {
+            name: self.name,
+            kind: self.kind,
+            entry: self.entry,
+            expiry: self.expiry,
+        }
+    }
+
+    /// How many numbers its bindings may have.
+    pub(crate) fn size(&self) -> u32
+        ensures value { result ≡ size_of (variables_of self.now.columns) }
+        ensures limit { result ≤ BINDING_LIMIT }
+    {
+        width(&self.columns)
+    }
+
+    // The first tick of its answer.
+    #[inline]
+    fn first_tick(&self, now: u32) -> u32
+        ensures { result ≡ first_tick self.now.kind self.now.entry now }
+    {
+        match self.kind {
+            QueryKind::Watch => now,
+            QueryKind::Keep => self.entry,
+        }
+    }
+
+    // The objects of a target.
+    fn key(&self, target: u32, added: u32) -> Binding
+        requires { target < target_count self.now }
+        ensures { result ≡ key_of added self.now target }
+    {
+        objects_of(
+            &self.columns,
+            target * self.targets.width,
+            self.query.targets.items(),
+            added,
+        )
+    }
+
+    /// Its answer at a tick. It fails only where memory is out.
+    pub(crate) fn answer(&self, alloc: Global, now: u32) -> Result<Vec<AnswerRow>, AllocError>
+        ensures { IfOk result (λ rows. rows.items ≡ answer_of self.now now) }
+    {
+        let lines = self.lines(alloc, now)?;
+        let mut rows = Vec::with_capacity(alloc, lines.len())?;
+        'told: for line in lines {
+            rows.push(self.row(line))?;
+        }
+        Ok(rows)
+    }
+
+    // The lines of its answer.
+    fn lines(&self, alloc: Global, now: u32) -> Result<Vec<Line>, AllocError>
+        ensures value { IfOk result (λ lines. lines.items ≡ lines_of self.now now) }
+        ensures below { IfOk result (λ lines. All (λ line. line.0 < target_count self.now) lines.items) }
+    {
+        let Some(window) = Window::new(self.first_tick(now), self.expiry) else {
+            return Ok(Vec::new(alloc));
+        };
+        let lines = kept_rows::answer(alloc, &self.rows, self.targets, window)?;
+        Ok(lines)
+    }
+
+    // The row of a line.
+    fn row(&self, line: Line) -> AnswerRow
+        requires { line.0 < target_count self.now }
+        ensures { result ≡ row_of self.now line }
+    {
+        AnswerRow {
+            key: self.key(line.target(), 0),
+            spans: line.into_spans(),
+        }
+    }
+
+    /// Adds which targets enter and leave from tick `before` to `now`. It fails only where memory is out.
+    pub(crate) fn add_passings(
+        &self,
+        alloc: Global,
+        before: u32,
+        now: u32,
+        moves: &mut Vec<Move>,
+    ) -> Result<(), AllocError>
+        ensures { OnOk result (moves.new.items ≡ moves.old.items ++ passings_of before now self.now) }
+    {
+        let passings = self.passings(alloc, before, now)?;
+        'told: for passing in passings {
+            moves.push(self.move_of_passing(alloc, passing))?;
+        }
+        Ok(())
+    }
+
+    // The targets that enter and leave, by number.
+    fn passings(&self, alloc: Global, before: u32, now: u32) -> Result<Vec<Passing>, AllocError>
+        ensures value { IfOk result (λ passings. passings.items
+            ≡ lines_upto (passing_of (target_times self.now (row_at self.now)) self.now.expiry before now) (target_count self.now)) }
+        ensures below { IfOk result (λ passings. All (λ p. p.0 < target_count self.now) passings.items) }
+    {
+        let passings = kept_rows::passed(
+            alloc,
+            &self.rows,
+            self.targets,
+            self.expiry,
+            before,
+            now,
+        )?;
+        Ok(passings)
+    }
+
+    // A target that enters or leaves.
+    fn move_of_passing(&self, alloc: Global, passing: Passing) -> Move
+        requires { passing.0 < target_count self.now }
+        ensures { result ≡ told_passing self.now passing }
+    {
+        Move {
+            query: self.name,
+            key: self.key(passing.target(), 0),
+            gained: Vec::new(alloc),
+            lost: Vec::new(alloc),
+            enters: passing.enters(),
+            leaves: !passing.enters(),
+        }
+    }
+
+    /// Adds what changes of rows change for its targets at tick `now`, where an object may be added. It fails only
+    /// where memory is out.
+    pub(crate) fn add_moves(
+        &self,
+        alloc: Global,
+        added: u32,
+        changes: &Changes<IntervalSet>,
+        now: u32,
+        moves: &mut Vec<Move>,
+    ) -> Result<(), AllocError>
+        requires { AreRising (size_of (variables_of self.now.columns)) changes.now }
+        ensures { OnOk result (moves.new.items ≡ moves.old.items ++ moves_of added now self.now changes.now) }
+    {
+        let Some(window) = self.window(now) else {
+            return Ok(());
+        };
+        let found = self.changes(alloc, changes, window, now)?;
+        'told: for one in found {
+            moves.push(self.move_of_change(one, added))?;
+        }
+        Ok(())
+    }
+
+    // What changes of targets, by number.
+    fn changes(
+        &self,
+        alloc: Global,
+        changes: &Changes<IntervalSet>,
+        window: Window,
+        now: u32,
+    ) -> Result<Vec<kept_rows::Move>, AllocError>
+        requires { AreRising (size_of (variables_of self.now.columns)) changes.now }
+        ensures value { IfOk result (λ found. found.items
+            ≡ lines_upto (move_of (target_times self.now (row_at self.now))
+            (target_times self.now (after spans_have changes.now (row_at self.now))) window.lo window.hi now) (target_count self.now)) }
+        ensures below { IfOk result (λ found. All (λ m. m.target < target_count self.now) found.items) }
+    {
+        let found = kept_rows::moves(alloc, &self.rows, changes, self.targets, window, now)?;
+        Ok(found)
+    }
+
+    // The ticks of its answer, unless it has expired.
+    fn window(&self, now: u32) -> Option<Window>
+        ensures some { IsSome result ↔ (now ≤ self.now.expiry) }
+        ensures ends { IfSome result (λ w. (w.lo ≡ first_tick self.now.kind self.now.entry now) × (w.hi ≡ self.now.expiry)) }
+    {
+        if now > self.expiry {
+            return None;
+        }
+        Window::new(self.first_tick(now), self.expiry)
+    }
+
+    // What changes of one target.
+    fn move_of_change(&self, one: kept_rows::Move, added: u32) -> Move
+        requires { one.target < target_count self.now }
+        ensures { result ≡ told_move added self.now one }
+    {
+        let key = self.key(one.target(), added);
+        let enters = one.enters();
+        let leaves = one.leaves();
+        let (gained, lost) = one.into_runs();
+        Move {
+            query: self.name,
+            key,
+            gained,
+            lost,
+            enters,
+            leaves,
+        }
+    }
+
+    /// Makes what was prepared of a write to an object. It takes no memory.
+    pub(crate) fn commit(&mut self, object: u32, class: ClassNo, renewal: Renewal)
+        requires { IsReadyFor class self.old renewal }
+        ensures made { IsMade object class renewal self.old self.new }
+        ensures kept { IsKept self.new }
+    {
+        add_object(
+            &mut self.columns,
+            renewal.grows,
+            self.query.classes.items(),
+            class,
+            object,
+        );
+        renewal.changes.commit(&mut self.rows);
+    }
+}
+
+// How the numbers of the bindings of columns are shared among the first so many, which are the targets.
+fn targets_of(columns: &[Objects], count: usize) -> Targets
+    requires few { count ≤ length columns.now }
+    requires size { size_of (variables_of columns.now) ≤ BINDING_LIMIT }
+    ensures count { result.count ≡ size_of (variables_of (take count columns.now)) }
+    ensures width { result.width ≡ size_of (variables_of (drop count columns.now)) }
+{
+    Targets {
+        count: width(&columns[..count]),
+        width: width(&columns[count..]),
+    }
+}
