@@ -1,14 +1,9 @@
 -- The lines of a journal, when one is added at the end or taken away there.
-use Rattle.std.proofs.Common.{◌≡◌, ℕ, zero, suc, ◌+◌, ◌<◌, ◌≤◌, List, [], ◌∷◌, ◌++◌, length, map, take, drop, None, Some, option_map, slice_get, refl, sym, ◌∙◌, ap, subst, arith}
-use Rattle.std.proofs.lemmas.List.{take-append-drop, take-append-le, drop-append-le, length-drop, length-take, length-take-le, length-append, map-append}
-use Rattle.std.proofs.lemmas.List.{length-map}
-use Rattle.std.specs.Prelude.{Result, Ok, Err, OnOk, OnErr}
+use Rattle.command_text.proofs.Names.{◌≡◌, ℕ, zero, suc, ◌+◌, ◌<◌, ◌≤◌, List, [], ◌∷◌, ◌++◌, length, map, take, None, Some, option_map, slice_get, refl, sym, ◌∙◌, ap, subst, arith, take-append-drop, take-append-le, drop-append-le, length-drop, length-take, length-take-le, length-append, map-append, length-map, Result, Ok, Err, OnOk, OnErr, sum_by-cons, slice_get-map, text_of}
+use Rattle.std.proofs.Common.{drop}
 use Rattle.std.specs.declared.alloc.AllocError.{AllocError}
-use Rattle.std.proofs.lemmas.List.Sums.{sum_by-cons}
 use Rattle.std.proofs.Math.Seq.{take-append_seam, drop-append_seam}
-use Rattle.std.proofs.lemmas.Option.{slice_get-map}
 use Rattle.command_text.specs.declared.journal.Kept.{Kept}
-use Rattle.command_text.specs.Text.{text_of}
 use Rattle.command_text.specs.Journal.{Accepted, spelled, line_told, line_bytes, bytes_of}
 use Rattle.command_text.specs.declared.journal.TheConstants.{MOST_ENTRIES, MOST_BYTES}
 use Rattle.command_text.specs.inner.JournalParts.{line_in, accepted, AreLines, IsJournal}

@@ -1,4 +1,5 @@
 pub mod JournalLemmas
+pub mod Names
 pub mod RefusalLemmas
 pub mod canonical
 pub mod grammar

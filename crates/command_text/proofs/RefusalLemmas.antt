@@ -1,8 +1,5 @@
 -- Each refusal has the name of its number.
-use Rattle.std.proofs.Common.{◌≡◌, Some, refl}
-use Rattle.case_table.specs.Rows.{word_of}
-use Rattle.case_table.specs.Language.{refusal_names}
-use Rattle.command_text.specs.declared.refusal.Refusal.{Refusal}
+use Rattle.command_text.proofs.Names.{◌≡◌, Some, refl, word_of, refusal_names, Refusal}
 use Rattle.command_text.specs.declared.refusal.Refusal.TheVariants as refusals
 use Rattle.command_text.specs.Refusals.{number_of, name_of}
 

@@ -9,7 +9,7 @@
 --
 -- The rules of the commands stand in Parts.antt. A number out of the form or range of its place stands for 0, a name or
 -- a text of more than 32 bytes for the empty one, and legs that make no function for rest.
-use Rattle.std.specs.Prelude.{ℕ, ℤ, pos, Bool, true, false, List, [], ◌∷◌, ◌++◌, map, Option, None, Some, unwrap_or, IsTrue}
+use Rattle.std.specs.Prelude.{ℕ, ℤ, pos, Bool, true, false, ◌&&◌, List, [], ◌∷◌, ◌++◌, map, length, Option, None, Some, is_some, is_none, unwrap_or, IsTrue}
 use Rattle.case_table.specs.declared.key.TheConstants.{POINT as POINT_WORD, NUM, TEXT as TEXT_WORD, DYN, AT, MOVE, RATE}
 use Rattle.case_table.specs.declared.symbol.TheConstants.{OPEN_ROUND, CLOSE_ROUND, OPEN_SQUARE, CLOSE_SQUARE, COMMA, MINUS, EQUAL}
 use Rattle.fixed_point.specs.declared.number.Point.{Point}
@@ -23,10 +23,12 @@ use Rattle.motion.specs.declared.cell.Place.{Place}
 use Rattle.ftl_lexer.specs.Forms.{word_kind}
 use Rattle.ftl_parser.specs.Tree.{QueryTree}
 use Rattle.ftl_parser.specs.Grammar.{SpellsQuery}
+use Rattle.ftl_parser.specs.Marks.{first_unfit}
 use Rattle.command_text.specs.Parts.{Part, Verb, Name, Quoted, Whole, Error, Num, PointWord, Attrs, Points, Change, Parts, Blank, Last, Asking, ◌▸◌, is_verb, parts}
-use Rattle.command_text.specs.Piece.{Piece, KEY, SIGN, NAME, NUMBER, TEXT, piece_of, in_query}
+use Rattle.command_text.specs.Piece.{Piece, KEY, SIGN, NAME, NUMBER, TEXT, piece_of, in_query, has_long}
 use Rattle.command_text.specs.Ranges.{WholePlace, Steps, whole_in, radius_in, SignedPlace, Value, Rate, signed_in}
-use Rattle.command_text.specs.Sizes.{short_word, function_of}
+use Rattle.command_text.specs.Sizes.{is_short, short_word, are_few_legs, function_of, are_few_attributes, are_few_vertices}
+use Rattle.command_text.specs.inner.Query.{is_query_small}
 use Rattle.command_text.specs.Tree.{CommandTree}
 
 abbrev pub whole_at : WholePlace → List ℕ → ℕ
@@ -54,93 +56,112 @@ legs_of_x = map (λ leg. (leg.0.0, leg.1))
 abbrev pub legs_of_y : List ((ℤ × ℤ) × ℕ) → List (ℤ × ℕ)
 legs_of_y = map (λ leg. (leg.0.1, leg.1))
 
+-- what is known of the numbers and of the sizes so far: whether each is in the range of its place, and within its limit
+abbrev pub Notes : Type 0
+Notes = Bool × Bool
+
+abbrev pub good : Notes
+good = (true, true)
+
+abbrev pub and_number : Notes → Bool → Notes
+and_number s fit = (s.0 && fit, s.1)
+
+abbrev pub and_size : Notes → Bool → Notes
+and_size s small = (s.0, s.1 && small)
+
+-- Each rule leads from what is known before its tokens to what is known after them.
+
 -- num
-pub data SpellsNum : SignedPlace → ℤ → List Piece → Type 0 where
-  num_plain : {place : SignedPlace} {n : List ℕ} → SpellsNum place (signed_at place false n) (NUMBER n ∷ [])
-  num_minus : {place : SignedPlace} {n : List ℕ} → SpellsNum place (signed_at place true n) (SIGN MINUS ∷ NUMBER n ∷ [])
+pub data SpellsNum : SignedPlace → ℤ → Notes → Notes → List Piece → Type 0 where
+  num_plain : {place : SignedPlace} {n : List ℕ} {s : Notes} →
+      SpellsNum place (signed_at place false n) s (and_number s (is_some (signed_in place false n))) (NUMBER n ∷ [])
+  num_minus : {place : SignedPlace} {n : List ℕ} {s : Notes} →
+      SpellsNum place (signed_at place true n) s (and_number s (is_some (signed_in place true n))) (SIGN MINUS ∷ NUMBER n ∷ [])
 
 -- pt, of coordinates or of slopes
-pub data SpellsPair : SignedPlace → ℤ → ℤ → List Piece → Type 0 where
-  pair : {place : SignedPlace} {x y : ℤ} {xs ys : List Piece} →
-      SpellsNum place x xs → SpellsNum place y ys →
-      SpellsPair place x y (SIGN OPEN_ROUND ∷ (xs ++ SIGN COMMA ∷ (ys ++ SIGN CLOSE_ROUND ∷ [])))
+pub data SpellsPair : SignedPlace → ℤ → ℤ → Notes → Notes → List Piece → Type 0 where
+  pair : {place : SignedPlace} {x y : ℤ} {xs ys : List Piece} {s t u : Notes} →
+      SpellsNum place x s t xs → SpellsNum place y t u ys →
+      SpellsPair place x y s u (SIGN OPEN_ROUND ∷ (xs ++ SIGN COMMA ∷ (ys ++ SIGN CLOSE_ROUND ∷ [])))
 
 -- attr
-pub data SpellsAttr : List ℕ × AttrKind → List Piece → Type 0 where
-  attr_num : {n : List ℕ} → SpellsAttr (short_word n, attr_kinds.Num) (NAME n ∷ KEY NUM ∷ [])
-  attr_text : {n : List ℕ} → SpellsAttr (short_word n, attr_kinds.Text) (NAME n ∷ KEY TEXT_WORD ∷ [])
-  attr_dyn : {n : List ℕ} → SpellsAttr (short_word n, attr_kinds.Dyn) (NAME n ∷ KEY DYN ∷ [])
+pub data SpellsAttr : List ℕ × AttrKind → Notes → Notes → List Piece → Type 0 where
+  attr_num : {n : List ℕ} {s : Notes} → SpellsAttr (short_word n, attr_kinds.Num) s (and_size s (is_short n)) (NAME n ∷ KEY NUM ∷ [])
+  attr_text : {n : List ℕ} {s : Notes} → SpellsAttr (short_word n, attr_kinds.Text) s (and_size s (is_short n)) (NAME n ∷ KEY TEXT_WORD ∷ [])
+  attr_dyn : {n : List ℕ} {s : Notes} → SpellsAttr (short_word n, attr_kinds.Dyn) s (and_size s (is_short n)) (NAME n ∷ KEY DYN ∷ [])
 
 -- (',' attr)*
-pub data SpellsMoreAttrs : List (List ℕ × AttrKind) → List Piece → Type 0 where
-  no_more_attrs : SpellsMoreAttrs [] []
-  one_more_attr : {a : List ℕ × AttrKind} {xs : List Piece} {rest : List (List ℕ × AttrKind)} {ys : List Piece} →
-      SpellsAttr a xs → SpellsMoreAttrs rest ys → SpellsMoreAttrs (a ∷ rest) (SIGN COMMA ∷ (xs ++ ys))
+pub data SpellsMoreAttrs : List (List ℕ × AttrKind) → Notes → Notes → List Piece → Type 0 where
+  no_more_attrs : {s : Notes} → SpellsMoreAttrs [] s s []
+  one_more_attr : {a : List ℕ × AttrKind} {xs : List Piece} {rest : List (List ℕ × AttrKind)} {ys : List Piece} {s t u : Notes} →
+      SpellsAttr a s t xs → SpellsMoreAttrs rest t u ys → SpellsMoreAttrs (a ∷ rest) s u (SIGN COMMA ∷ (xs ++ ys))
 
 -- ['(' attr (',' attr)* ')']
-pub data SpellsAttrs : List (List ℕ × AttrKind) → List Piece → Type 0 where
-  no_attrs : SpellsAttrs [] []
-  some_attrs : {a : List ℕ × AttrKind} {xs : List Piece} {rest : List (List ℕ × AttrKind)} {ys : List Piece} →
-      SpellsAttr a xs → SpellsMoreAttrs rest ys → SpellsAttrs (a ∷ rest) (SIGN OPEN_ROUND ∷ (xs ++ (ys ++ SIGN CLOSE_ROUND ∷ [])))
+pub data SpellsAttrs : List (List ℕ × AttrKind) → Notes → Notes → List Piece → Type 0 where
+  no_attrs : {s : Notes} → SpellsAttrs [] s s []
+  some_attrs : {a : List ℕ × AttrKind} {xs : List Piece} {rest : List (List ℕ × AttrKind)} {ys : List Piece} {s t u : Notes} →
+      SpellsAttr a s t xs → SpellsMoreAttrs rest t u ys →
+      SpellsAttrs (a ∷ rest) s (and_size u (are_few_attributes (length (a ∷ rest)))) (SIGN OPEN_ROUND ∷ (xs ++ (ys ++ SIGN CLOSE_ROUND ∷ [])))
 
 -- pt*
-pub data SpellsPoints : List Point → List Piece → Type 0 where
-  no_points : SpellsPoints [] []
-  one_point : {x y : ℤ} {xs : List Piece} {ps : List Point} {ys : List Piece} →
-      SpellsPair Value x y xs → SpellsPoints ps ys → SpellsPoints (point_of x y ∷ ps) (xs ++ ys)
+pub data SpellsPoints : List Point → Notes → Notes → List Piece → Type 0 where
+  no_points : {s : Notes} → SpellsPoints [] s s []
+  one_point : {x y : ℤ} {xs : List Piece} {ps : List Point} {ys : List Piece} {s t u : Notes} →
+      SpellsPair Value x y s t xs → SpellsPoints ps t u ys → SpellsPoints (point_of x y ∷ ps) s u (xs ++ ys)
 
 -- ('[' num ',' NUMBER ']')*
-pub data SpellsRateLegs : List (ℤ × ℕ) → List Piece → Type 0 where
-  no_rate_legs : SpellsRateLegs [] []
-  one_rate_leg : {a : ℤ} {xs : List Piece} (n : List ℕ) {ls : List (ℤ × ℕ)} {ys : List Piece} →
-      SpellsNum Rate a xs → SpellsRateLegs ls ys →
-      SpellsRateLegs ((a, whole_at Steps n) ∷ ls) (SIGN OPEN_SQUARE ∷ (xs ++ SIGN COMMA ∷ NUMBER n ∷ SIGN CLOSE_SQUARE ∷ ys))
+pub data SpellsRateLegs : List (ℤ × ℕ) → Notes → Notes → List Piece → Type 0 where
+  no_rate_legs : {s : Notes} → SpellsRateLegs [] s s []
+  one_rate_leg : {a : ℤ} {xs : List Piece} (n : List ℕ) {ls : List (ℤ × ℕ)} {ys : List Piece} {s t u : Notes} →
+      SpellsNum Rate a s t xs → SpellsRateLegs ls (and_number t (is_some (whole_in Steps n))) u ys →
+      SpellsRateLegs ((a, whole_at Steps n) ∷ ls) s u (SIGN OPEN_SQUARE ∷ (xs ++ SIGN COMMA ∷ NUMBER n ∷ SIGN CLOSE_SQUARE ∷ ys))
 
 -- rates
-pub data SpellsRates : Function → List Piece → Type 0 where
-  rates : {ls : List (ℤ × ℕ)} {xs : List Piece} {a : ℤ} {ys : List Piece} →
-      SpellsRateLegs ls xs → SpellsNum Rate a ys → SpellsRates (function_of ls a) (xs ++ ys)
+pub data SpellsRates : Function → Notes → Notes → List Piece → Type 0 where
+  rates : {ls : List (ℤ × ℕ)} {xs : List Piece} {a : ℤ} {ys : List Piece} {s t u : Notes} →
+      SpellsRateLegs ls s t xs → SpellsNum Rate a t u ys → SpellsRates (function_of ls a) s (and_size u (are_few_legs (length ls))) (xs ++ ys)
 
 -- ('[' pt ',' NUMBER ']')*, each a pair of slopes and a length
-pub data SpellsMoveLegs : List ((ℤ × ℤ) × ℕ) → List Piece → Type 0 where
-  no_move_legs : SpellsMoveLegs [] []
-  one_move_leg : {a b : ℤ} {xs : List Piece} (n : List ℕ) {ls : List ((ℤ × ℤ) × ℕ)} {ys : List Piece} →
-      SpellsPair Rate a b xs → SpellsMoveLegs ls ys →
-      SpellsMoveLegs (((a, b), whole_at Steps n) ∷ ls) (SIGN OPEN_SQUARE ∷ (xs ++ SIGN COMMA ∷ NUMBER n ∷ SIGN CLOSE_SQUARE ∷ ys))
+pub data SpellsMoveLegs : List ((ℤ × ℤ) × ℕ) → Notes → Notes → List Piece → Type 0 where
+  no_move_legs : {s : Notes} → SpellsMoveLegs [] s s []
+  one_move_leg : {a b : ℤ} {xs : List Piece} (n : List ℕ) {ls : List ((ℤ × ℤ) × ℕ)} {ys : List Piece} {s t u : Notes} →
+      SpellsPair Rate a b s t xs → SpellsMoveLegs ls (and_number t (is_some (whole_in Steps n))) u ys →
+      SpellsMoveLegs (((a, b), whole_at Steps n) ∷ ls) s u (SIGN OPEN_SQUARE ∷ (xs ++ SIGN COMMA ∷ NUMBER n ∷ SIGN CLOSE_SQUARE ∷ ys))
 
 -- moves
-pub data SpellsMoves : Function × Function → List Piece → Type 0 where
-  moves : {ls : List ((ℤ × ℤ) × ℕ)} {xs : List Piece} {a b : ℤ} {ys : List Piece} →
-      SpellsMoveLegs ls xs → SpellsPair Rate a b ys → SpellsMoves (function_of (legs_of_x ls) a, function_of (legs_of_y ls) b) (xs ++ ys)
+pub data SpellsMoves : Function × Function → Notes → Notes → List Piece → Type 0 where
+  moves : {ls : List ((ℤ × ℤ) × ℕ)} {xs : List Piece} {a b : ℤ} {ys : List Piece} {s t u : Notes} →
+      SpellsMoveLegs ls s t xs → SpellsPair Rate a b t u ys →
+      SpellsMoves (function_of (legs_of_x ls) a, function_of (legs_of_y ls) b) s (and_size u (are_few_legs (length ls))) (xs ++ ys)
 
 -- what a setting gives, after its name
-pub data SpellsGiven : Given → List Piece → Type 0 where
-  given_num : {v : ℤ} {xs : List Piece} → SpellsNum Value v xs → SpellsGiven (givens.Num v) (SIGN EQUAL ∷ xs)
-  given_both : {v : ℤ} {xs : List Piece} {f : Function} {ys : List Piece} →
-      SpellsNum Value v xs → SpellsRates f ys → SpellsGiven (givens.Both v f) (SIGN EQUAL ∷ (xs ++ KEY RATE ∷ ys))
-  given_text : {t : List ℕ} → SpellsGiven (givens.Text (short_word t)) (SIGN EQUAL ∷ TEXT t ∷ [])
-  given_rate : {f : Function} {xs : List Piece} → SpellsRates f xs → SpellsGiven (givens.Rate f) (KEY RATE ∷ xs)
+pub data SpellsGiven : Given → Notes → Notes → List Piece → Type 0 where
+  given_num : {v : ℤ} {xs : List Piece} {s t : Notes} → SpellsNum Value v s t xs → SpellsGiven (givens.Num v) s t (SIGN EQUAL ∷ xs)
+  given_both : {v : ℤ} {xs : List Piece} {f : Function} {ys : List Piece} {s t u : Notes} →
+      SpellsNum Value v s t xs → SpellsRates f t u ys → SpellsGiven (givens.Both v f) s u (SIGN EQUAL ∷ (xs ++ KEY RATE ∷ ys))
+  given_text : {w : List ℕ} {s : Notes} → SpellsGiven (givens.Text (short_word w)) s (and_size s (is_short w)) (SIGN EQUAL ∷ TEXT w ∷ [])
+  given_rate : {f : Function} {xs : List Piece} {s t : Notes} → SpellsRates f s t xs → SpellsGiven (givens.Rate f) s t (KEY RATE ∷ xs)
 
 -- setting*
-pub data SpellsSettings : List NamedSet → List Piece → Type 0 where
-  no_settings : SpellsSettings [] []
-  one_setting : {n : List ℕ} {g : Given} {xs : List Piece} {ss : List NamedSet} {ys : List Piece} →
-      SpellsGiven g xs → SpellsSettings ss ys → SpellsSettings (set_of (short_word n) g ∷ ss) (NAME n ∷ (xs ++ ys))
+pub data SpellsSettings : List NamedSet → Notes → Notes → List Piece → Type 0 where
+  no_settings : {s : Notes} → SpellsSettings [] s s []
+  one_setting : {n : List ℕ} {g : Given} {xs : List Piece} {ss : List NamedSet} {ys : List Piece} {s t u : Notes} →
+      SpellsGiven g (and_size s (is_short n)) t xs → SpellsSettings ss t u ys → SpellsSettings (set_of (short_word n) g ∷ ss) s u (NAME n ∷ (xs ++ ys))
 
 -- ['at' pt]
-pub data SpellsAt : Option Point → List Piece → Type 0 where
-  not_at : SpellsAt None []
-  at : {x y : ℤ} {xs : List Piece} → SpellsPair Value x y xs → SpellsAt (Some (point_of x y)) (KEY AT ∷ xs)
+pub data SpellsAt : Option Point → Notes → Notes → List Piece → Type 0 where
+  not_at : {s : Notes} → SpellsAt None s s []
+  at : {x y : ℤ} {xs : List Piece} {s t : Notes} → SpellsPair Value x y s t xs → SpellsAt (Some (point_of x y)) s t (KEY AT ∷ xs)
 
 -- ['move' moves]
-pub data SpellsMoving : Option (Function × Function) → List Piece → Type 0 where
-  not_moving : SpellsMoving None []
-  moving : {m : Function × Function} {xs : List Piece} → SpellsMoves m xs → SpellsMoving (Some m) (KEY MOVE ∷ xs)
+pub data SpellsMoving : Option (Function × Function) → Notes → Notes → List Piece → Type 0 where
+  not_moving : {s : Notes} → SpellsMoving None s s []
+  moving : {m : Function × Function} {xs : List Piece} {s t : Notes} → SpellsMoves m s t xs → SpellsMoving (Some m) s t (KEY MOVE ∷ xs)
 
 -- ['at' pt] ['move' moves] setting*
-pub data SpellsChange : Place → List NamedSet → List Piece → Type 0 where
-  change : {p : Option Point} {xs : List Piece} {m : Option (Function × Function)} {ys : List Piece} {ss : List NamedSet} {zs : List Piece} →
-      SpellsAt p xs → SpellsMoving m ys → SpellsSettings ss zs → SpellsChange (place_of p m) ss (xs ++ (ys ++ zs))
+pub data SpellsChange : Place → List NamedSet → Notes → Notes → List Piece → Type 0 where
+  change : {p : Option Point} {xs : List Piece} {m : Option (Function × Function)} {ys : List Piece} {ss : List NamedSet} {zs : List Piece} {s t u v : Notes} →
+      SpellsAt p s t xs → SpellsMoving m t u ys → SpellsSettings ss u v zs → SpellsChange (place_of p m) ss s v (xs ++ (ys ++ zs))
 
 -- ['point']
 pub data SpellsPointWord : Bool → List Piece → Type 0 where
@@ -156,25 +177,29 @@ abbrev pub token_of : List ℕ → Piece
 token_of word = piece_of (word_kind word) word
 
 -- a part of a command
-pub data SpellsPart : Part → List Piece → Type 0 where
-  part_verb : {w : List ℕ} → IsTrue (is_verb w) → SpellsPart (Verb w) (token_of w ∷ [])
-  part_name : {n : List ℕ} → SpellsPart (Name (short_word n)) (NAME n ∷ [])
-  part_text : {t : List ℕ} → SpellsPart (Quoted (short_word t)) (TEXT t ∷ [])
-  part_whole : {place : WholePlace} {n : List ℕ} → SpellsPart (Whole place (whole_at place n)) (NUMBER n ∷ [])
-  part_error : {n : List ℕ} → SpellsPart (Error (radius_at n)) (NUMBER n ∷ [])
-  part_num : {place : SignedPlace} {v : ℤ} {xs : List Piece} → SpellsNum place v xs → SpellsPart (Num place v) xs
-  part_point_word : {b : Bool} {xs : List Piece} → SpellsPointWord b xs → SpellsPart (PointWord b) xs
-  part_attrs : {attrs : List (List ℕ × AttrKind)} {xs : List Piece} → SpellsAttrs attrs xs → SpellsPart (Attrs attrs) xs
-  part_points : {p q r : Point} {ps : List Point} {xs : List Piece} → SpellsPoints (p ∷ q ∷ r ∷ ps) xs → SpellsPart (Points (p ∷ q ∷ r ∷ ps)) xs
-  part_change : {p : Place} {ss : List NamedSet} {xs : List Piece} → SpellsChange p ss xs → SpellsPart (Change p ss) xs
+pub data SpellsPart : Part → Notes → Notes → List Piece → Type 0 where
+  part_verb : {w : List ℕ} {s : Notes} → IsTrue (is_verb w) → SpellsPart (Verb w) s s (token_of w ∷ [])
+  part_name : {n : List ℕ} {s : Notes} → SpellsPart (Name (short_word n)) s (and_size s (is_short n)) (NAME n ∷ [])
+  part_text : {w : List ℕ} {s : Notes} → SpellsPart (Quoted (short_word w)) s (and_size s (is_short w)) (TEXT w ∷ [])
+  part_whole : {place : WholePlace} {n : List ℕ} {s : Notes} →
+      SpellsPart (Whole place (whole_at place n)) s (and_number s (is_some (whole_in place n))) (NUMBER n ∷ [])
+  part_error : {n : List ℕ} {s : Notes} → SpellsPart (Error (radius_at n)) s (and_number s (is_some (radius_in n))) (NUMBER n ∷ [])
+  part_num : {place : SignedPlace} {v : ℤ} {xs : List Piece} {s t : Notes} → SpellsNum place v s t xs → SpellsPart (Num place v) s t xs
+  part_point_word : {b : Bool} {xs : List Piece} {s : Notes} → SpellsPointWord b xs → SpellsPart (PointWord b) s s xs
+  part_attrs : {attrs : List (List ℕ × AttrKind)} {xs : List Piece} {s t : Notes} → SpellsAttrs attrs s t xs → SpellsPart (Attrs attrs) s t xs
+  part_points : {p q r : Point} {ps : List Point} {xs : List Piece} {s t : Notes} →
+      SpellsPoints (p ∷ q ∷ r ∷ ps) s t xs → SpellsPart (Points (p ∷ q ∷ r ∷ ps)) s (and_size t (are_few_vertices (length (p ∷ q ∷ r ∷ ps)))) xs
+  part_change : {p : Place} {ss : List NamedSet} {xs : List Piece} {s t : Notes} → SpellsChange p ss s t xs → SpellsPart (Change p ss) s t xs
 
 -- parts, one after another
-pub data SpellsParts : Parts → List Piece → Type 0 where
-  no_parts : SpellsParts Blank []
-  last_part : {p : Part} {xs : List Piece} → SpellsPart p xs → SpellsParts (Last p) xs
-  last_query : {q : QueryTree} {xs : List Piece} → SpellsTail q xs → SpellsParts (Asking q) xs
-  part_before : {p : Part} {ps : Parts} {xs ys : List Piece} → SpellsPart p xs → SpellsParts ps ys → SpellsParts (p ▸ ps) (xs ++ ys)
+pub data SpellsParts : Parts → Notes → Notes → List Piece → Type 0 where
+  no_parts : {s : Notes} → SpellsParts Blank s s []
+  last_part : {p : Part} {xs : List Piece} {s t : Notes} → SpellsPart p s t xs → SpellsParts (Last p) s t xs
+  last_query : {q : QueryTree} {xs : List Piece} {s : Notes} → (d : SpellsTail q xs) →
+      SpellsParts (Asking q) s (and_size (and_number s (is_none (first_unfit d))) (is_query_small (has_long xs) q)) xs
+  part_before : {p : Part} {ps : Parts} {xs ys : List Piece} {s t u : Notes} →
+      SpellsPart p s t xs → SpellsParts ps t u ys → SpellsParts (p ▸ ps) s u (xs ++ ys)
 
--- a command
-pub data SpellsCommand : CommandTree → List Piece → Type 0 where
-  by_parts : {c : CommandTree} {xs : List Piece} → SpellsParts (parts c) xs → SpellsCommand c xs
+-- a command, and what is known of all its numbers and sizes
+pub data SpellsCommand : CommandTree → Notes → List Piece → Type 0 where
+  by_parts : {c : CommandTree} {xs : List Piece} {s : Notes} → SpellsParts (parts c) good s xs → SpellsCommand c s xs

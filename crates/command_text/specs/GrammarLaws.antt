@@ -1,5 +1,5 @@
 -- What is read and what is refused, in words of the grammar alone.
-use Rattle.std.specs.Prelude.{◌≡◌, ◌↔◌, ℕ, true, false, List, [], Some, None}
+use Rattle.std.specs.Prelude.{◌≡◌, ◌↔◌, ℕ, Bool, true, false, List, [], Some, None}
 use Rattle.command_text.specs.declared.fault.CommandFault.{CommandFault}
 use Rattle.command_text.specs.declared.fault.CommandFault.TheVariants as faults
 use Rattle.command_text.specs.declared.refusal.Refusal.{Refusal}
@@ -7,47 +7,35 @@ use Rattle.command_text.specs.declared.refusal.Refusal.TheVariants as refusals
 use Rattle.command_text.specs.Piece.{Piece, pieces}
 use Rattle.command_text.specs.Tree
 use Rattle.command_text.specs.Tree.{CommandTree}
-use Rattle.command_text.specs.Grammar.{SpellsCommand}
-use Rattle.command_text.specs.Judged.{numbers_fit, sizes_fit}
-use Rattle.command_text.specs.inner.Reading.{Reader, command_of}
+use Rattle.command_text.specs.Grammar.{Notes, good, SpellsCommand}
+use Rattle.command_text.specs.inner.Reading.{Reader, notes, before, command_of}
 use Rattle.command_text.specs.Line.{is_comment, early_refusal, IsRead, Explains}
 
--- what is told of tokens that spell a command: the command, that no token is left, and whether its numbers and its sizes fit
-abbrev pub told_of : {c : CommandTree} {tokens : List Piece} → SpellsCommand c tokens → CommandTree × Reader
-told_of {c = c} spelled = (c, record { rest = []; fit = numbers_fit spelled; small = sizes_fit spelled })
-
--- what tokens spell is what is read from them
+-- what tokens spell is what is read from them, with no token left, and the same is known of its numbers and sizes
 pub record AreReadByTheGrammar (tokens : List Piece) : Type 0 where
-  pub spelled_is_read : (c : CommandTree) (spelled : SpellsCommand c tokens) → command_of tokens ≡ Some (told_of spelled)
-  pub read_is_spelled : (c : CommandTree) (behind : Reader) → command_of tokens ≡ Some (c, behind) → SpellsCommand c tokens
-  pub one_command : (c d : CommandTree) → SpellsCommand c tokens → SpellsCommand d tokens → c ≡ d
+  pub spelled_is_read : (c : CommandTree) (s : Notes) → SpellsCommand c s tokens → command_of tokens ≡ Some (c, before [] s)
+  pub read_is_spelled : (c : CommandTree) (behind : Reader) → command_of tokens ≡ Some (c, behind) → SpellsCommand c (notes behind) tokens
+  pub one_command : (c d : CommandTree) (s t : Notes) → SpellsCommand c s tokens → SpellsCommand d t tokens → c ≡ d
 
 -- the line isn't too long, has no byte that it may not have, and is a comment or is cut into tokens
 abbrev pub PassesTheFirstThree : ℕ → List ℕ → Type 0
 PassesTheFirstThree limit line = early_refusal limit line ≡ None
 
 -- the tokens of the line spell this command, with each number in the range of its place and each size within its limit
-pub record SpellsWithinLimits (line : List ℕ) (c : CommandTree) : Type 0 where
-  pub spelled : SpellsCommand c (pieces line)
-  pub numbers : numbers_fit spelled ≡ true
-  pub sizes : sizes_fit spelled ≡ true
+abbrev pub SpellsWithinLimits : List ℕ → CommandTree → Type 0
+SpellsWithinLimits line c = SpellsCommand c good (pieces line)
 
 -- they spell no command
 abbrev pub SpellsNoCommand : List ℕ → Type 0
-SpellsNoCommand line = (c : CommandTree) → SpellsCommand c (pieces line) → ⊥
+SpellsNoCommand line = (c : CommandTree) (s : Notes) → SpellsCommand c s (pieces line) → ⊥
 
 -- they spell a command with a number out of the range of its place
-pub record SpellsUnfitNumber (line : List ℕ) : Type 0 where
-  pub command : CommandTree
-  pub spelled : SpellsCommand command (pieces line)
-  pub numbers : numbers_fit spelled ≡ false
+abbrev pub SpellsUnfitNumber : List ℕ → Type 0
+SpellsUnfitNumber line = (c : CommandTree) × (small : Bool) × SpellsCommand c (false, small) (pieces line)
 
 -- they spell a command with each number in the range of its place, but a size past its limit
-pub record SpellsLargeSize (line : List ℕ) : Type 0 where
-  pub command : CommandTree
-  pub spelled : SpellsCommand command (pieces line)
-  pub numbers : numbers_fit spelled ≡ true
-  pub sizes : sizes_fit spelled ≡ false
+abbrev pub SpellsLargeSize : List ℕ → Type 0
+SpellsLargeSize line = (c : CommandTree) × SpellsCommand c (true, false) (pieces line)
 
 -- a comment is read as nothing, and any other line as the command that its tokens spell, just where the line passes the first three refusals
 pub record IsReadByTheGrammar (limit : ℕ) (line : List ℕ) : Type 0 where

@@ -2,7 +2,6 @@
 pub mod Grammar
 pub mod GrammarLaws
 pub mod Journal
-pub mod Judged
 pub mod Line
 pub mod Parts
 pub mod Piece

@@ -1,3 +1,4 @@
+pub mod Names
 pub mod canonical
 pub mod grammar
 pub mod reader

@@ -1,17 +1,8 @@
 -- Commands that were read: they are printable, and their canonical lines are short and are read back.
-use Rattle.std.proofs.Common.{◌≡◌, ℕ, ◌*◌, ◌≤◌, Bool, true, false, List, [], ◌∷◌, length, None, refl, sym, subst, arith, ltb, inl, inr}
-use Rattle.std.specs.Prelude.{◌⊎◌}
-use Rattle.std.proofs.lemmas.Bool.Decides.{nat_tests}
+use Rattle.command_text.proofs.Names.{◌≡◌, ℕ, ◌*◌, ◌≤◌, Bool, true, false, List, [], ◌∷◌, length, None, refl, sym, subst, arith, ltb, inl, inr, ◌⊎◌, nat_tests, CommandTree, first_that_holds, is_comment, is_too_long, has_other_byte, has_bad_token, IsRead, PassesTheFirstThree, SpellsWithinLimits, text_of, IsAscii, IsPrintable, PrintsWhatIsRead, PrintsShortly, PrintsWithinFourLimits, ReadsAgain, ReadsLinesAgain}
 use Rattle.command_text.specs.declared.reading.TheConstants.{LINE_LIMIT}
 use Rattle.command_text.specs.declared.refusal.Refusal.TheVariants as refusals
 use Rattle.command_text.specs.Tree
-use Rattle.command_text.specs.Tree.{CommandTree}
-use Rattle.exact.specs.First.{first_that_holds}
-use Rattle.command_text.specs.Line.{is_comment, is_too_long, has_other_byte, has_bad_token, IsRead}
-use Rattle.command_text.specs.GrammarLaws.{PassesTheFirstThree, SpellsWithinLimits}
-use Rattle.command_text.specs.Text.{text_of}
-use Rattle.command_text.specs.Shape.{IsAscii, IsPrintable}
-use Rattle.command_text.specs.TextLaws.{PrintsWhatIsRead, PrintsShortly, PrintsWithinFourLimits, ReadsAgain, ReadsLinesAgain}
 use Rattle.command_text.proofs.grammar.DerivedLines.{lines_are_read}
 use Rattle.command_text.proofs.canonical.TextShapes.{line_shape}
 use Rattle.command_text.proofs.canonical.TextLengths.{line_short}
@@ -49,7 +40,7 @@ prints_what_is_read limit line c read =
     let is : IsLine limit line c = line_is limit line c (is_comment line) refl read in
     elim is.kind [
       | inl nothing ↦ subst IsPrintable (sym nothing) tt
-      | inr d ↦ line_shape line c d.spelled (line_ascii limit line is.passed) d.numbers d.sizes
+      | inr d ↦ line_shape line c d (line_ascii limit line is.passed)
     ]
 
 nothing_short : (n : ℕ) → length (text_of Tree.Nothing) ≤ 4 * n
@@ -61,7 +52,7 @@ prints_shortly limit line c read =
     let is : IsLine limit line c = line_is limit line c (is_comment line) refl read in
     elim is.kind [
       | inl nothing ↦ subst (λ (d : CommandTree). length (text_of d) ≤ 4 * length line) (sym nothing) (nothing_short (length line))
-      | inr d ↦ line_short line c d.spelled
+      | inr d ↦ line_short line c d
     ]
 
 pub prints_within : PrintsWithinFourLimits

@@ -1,27 +1,12 @@
 -- Which bytes tokens have, and lines that are cut into such tokens.
-use Rattle.std.proofs.Common.{◌≡◌, ℕ, zero, suc, ◌+◌, ◌-◌, ◌<◌, Bool, true, false, ◌||◌, not, List, [], ◌∷◌, ◌++◌, drop, take, length, map, Option, None, Some, IsTrue, refl, sym, ap, ap₂, subst, ◌∙◌, arith, eqb, inl, inr, take-append-drop, length-drop}
-use Rattle.std.specs.Prelude.{option_map, option_and_then, bytes_eq}
-use Rattle.std.specs.List.{AllByRecursion, list_all}
-use Rattle.std.specs.Char.{is_ascii_digit}
-use Rattle.std.proofs.lemmas.Bool.{cases_Bool, and_parts, or_parts}
-use Rattle.std.proofs.lemmas.Bool.Decides.{nat_tests, Decides-eqb}
-use Rattle.std.proofs.lemmas.List.{take_all}
+use Rattle.command_text.proofs.Names.{◌≡◌, ℕ, zero, suc, ◌+◌, ◌-◌, ◌<◌, Bool, true, false, ◌||◌, not, List, [], ◌∷◌, ◌++◌, take, length, map, Option, None, Some, IsTrue, refl, sym, ap, ap₂, subst, ◌∙◌, arith, eqb, inl, inr, take-append-drop, length-drop, option_map, option_and_then, bytes_eq, AllByRecursion, list_all, is_ascii_digit, cases_Bool, and_parts, or_parts, nat_tests, Decides-eqb, take_all, bytes_eq-Decides, code_of, reserved_words, symbols, Kind, Token, is_blank, begins_name, continues_name, digits_len, fraction_len, number_len, token_at, lexemes, tokens_of, bytes_of_token, Lexeme, cut, HasForm, is_word, is_number, IsQuoted, is_ascii, has_other_byte, IsAscii}
+use Rattle.std.proofs.Common.{drop}
 use Rattle.std.proofs.lemmas.List.Folds.{list_any-append}
-use Rattle.std.proofs.lemmas.Slice.Eq.{bytes_eq-Decides}
-use Rattle.case_table.specs.Rows.{code_of}
-use Rattle.case_table.specs.Language.{reserved_words, symbols}
-use Rattle.ftl_lexer.specs.declared.kinds.Kind.{Kind}
 use Rattle.ftl_lexer.specs.declared.kinds.Kind.TheVariants as kinds
-use Rattle.ftl_lexer.specs.declared.kinds.Token.{Token}
-use Rattle.ftl_lexer.specs.Forms.{is_blank, begins_name, continues_name, digits_len, fraction_len, number_len, token_at}
-use Rattle.ftl_lexer.specs.Tokens.{lexemes, tokens_of, bytes_of_token}
-use Rattle.ftl_lexer.specs.Cut.{Lexeme, cut, HasForm, is_word, is_number, IsQuoted}
 use Rattle.ftl_lexer.proofs.Shapes.{all_pass, some_is}
 use Rattle.ftl_lexer.proofs.Fronts.{unquoted_parts}
 use Rattle.ftl_lexer.proofs.Steps.{then_part, else_part, none_is_some, token_at_within}
 use Rattle.ftl_parser.specs.Piece as query
-use Rattle.command_text.specs.Line.{is_ascii, has_other_byte}
-use Rattle.command_text.specs.Shape.{IsAscii}
 
 -- ---- parts of bytes
 
@@ -66,7 +51,7 @@ blank_ascii b is = grind (arith, nat_tests)
 
 -- ---- tokens
 
-word_ascii : (word : List ℕ) → IsTrue (is_word word) → IsAscii word
+pub word_ascii : (word : List ℕ) → IsTrue (is_word word) → IsAscii word
 word_ascii [] is = refl
 word_ascii (b ∷ bytes) is =
     let parts = and_parts (begins_name b) (list_all continues_name bytes) is in
@@ -138,10 +123,7 @@ inside_ascii text all = take_ascii (length text - 2) (drop 1 text) (drop_ascii 1
 -- the text in a token of that kind
 abbrev pub inner : Kind → List ℕ → List ℕ
 inner kinds.Text bytes = query.unquoted bytes
-inner kinds.Name bytes = []
-inner kinds.Number bytes = []
-inner (kinds.Sym code) bytes = []
-inner (kinds.Key code) bytes = []
+inner kind bytes = []
 
 pub form_ascii : (kind : Kind) (bytes : List ℕ) → HasForm kind bytes → IsAscii (inner kind bytes) → IsAscii bytes
 form_ascii kinds.Name bytes form text = word_ascii bytes form.0

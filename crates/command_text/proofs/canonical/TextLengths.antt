@@ -1,45 +1,14 @@
 -- A canonical line has at most four bytes for each byte of the tokens that spell its command.
-use Rattle.std.proofs.Common.{◌≡◌, ℕ, zero, suc, ◌+◌, ◌-◌, ◌*◌, ◌≤◌, max, Bool, true, false, List, [], ◌∷◌, ◌++◌, append_assoc, drop, take, length, map, length-append, Option, None, Some, IsTrue, ℤ, pos, refl, sym, ap, subst, arith, leb, inl, inr}
-use Rattle.std.specs.Prelude.{◌⊎◌, codes, if◌then◌else◌}
-use Rattle.std.specs.List.{flat_map}
-use Rattle.std.specs.Fmt.{decimal}
-use Rattle.std.specs.Option.{option_map_or}
-use Rattle.std.proofs.lemmas.Bool.{leb-true, and_parts}
-use Rattle.std.proofs.lemmas.List.{drop_at, take_at, length-drop}
-use Rattle.std.proofs.lemmas.List.Sums.{sum_by-cons}
-use Rattle.case_table.specs.Rows.{code_of}
-use Rattle.case_table.specs.Language.{reserved_words, symbols}
-use Rattle.case_table.specs.declared.key.TheConstants.{RATE as RATE_WORD}
-use Rattle.case_table.specs.declared.symbol.TheConstants.{CLOSE_ROUND, COMMA, CLOSE_SQUARE}
-use Rattle.fixed_point.specs.Canonical.{fix_text}
-use Rattle.fixed_point.specs.declared.number.Point.{Point}
-use Rattle.motion.specs.Function.{Function, are_firsts, level}
-use Rattle.motion.specs.declared.cell.AttrKind.{AttrKind}
+use Rattle.command_text.proofs.Names.{◌≡◌, ℕ, zero, suc, ◌+◌, ◌-◌, ◌*◌, ◌≤◌, max, Bool, true, false, List, [], ◌∷◌, ◌++◌, append_assoc, take, length, map, length-append, Option, None, Some, IsTrue, ℤ, pos, refl, sym, ap, subst, arith, leb, inl, inr, ◌⊎◌, codes, if◌then◌else◌, flat_map, decimal, option_map_or, leb-true, and_parts, drop_at, take_at, length-drop, sum_by-cons, code_of, reserved_words, symbols, RATE_WORD, CLOSE_ROUND, COMMA, CLOSE_SQUARE, fix_text, Point, Function, are_firsts, level, AttrKind, Given, NamedSet, Place, Kind, lexemes, Lexeme, HasForm, is_word, HaveForms, QueryTree, SpellsQuery, query_text, Part, Parts, is_verb, parts, Piece, KEY, SIGN, NAME, NUMBER, TEXT, piece_of, pieces, SignedPlace, Steps, short_word, function_of, CommandTree, Notes, whole_at, legs_of_x, legs_of_y, SpellsNum, num_plain, num_minus, SpellsPair, SpellsAttr, attr_num, attr_text, attr_dyn, SpellsMoreAttrs, no_more_attrs, one_more_attr, SpellsAttrs, no_attrs, SpellsPoints, no_points, one_point, SpellsRateLegs, no_rate_legs, one_rate_leg, SpellsRates, SpellsMoveLegs, no_move_legs, one_move_leg, SpellsMoves, SpellsGiven, given_num, SpellsSettings, no_settings, one_setting, SpellsAt, not_at, SpellsMoving, not_moving, SpellsChange, change, SpellsPointWord, no_point_word, SpellsTail, token_of, SpellsPart, part_verb, part_name, part_text, part_whole, part_error, part_num, part_point_word, part_attrs, part_points, part_change, SpellsParts, no_parts, last_part, last_query, part_before, SpellsCommand, by_parts, pair_text, rate_leg_text, rates_text, move_leg_text, move_legs_text, moves_text, next_attr_text, attrs_text, points_text, settings_text, at_text, moving_text, change_text, text_of}
+use Rattle.std.proofs.Common.{drop}
 use Rattle.motion.specs.declared.cell.AttrKind.TheVariants as attr_kinds
-use Rattle.motion.specs.declared.cell.Given.{Given}
-use Rattle.motion.specs.declared.cell.NamedSet.{NamedSet}
-use Rattle.motion.specs.declared.cell.Place.{Place}
-use Rattle.ftl_lexer.specs.declared.kinds.Kind.{Kind}
 use Rattle.ftl_lexer.specs.declared.kinds.Kind.TheVariants as kinds
-use Rattle.ftl_lexer.specs.Tokens.{lexemes}
-use Rattle.ftl_lexer.specs.Cut.{Lexeme, HasForm, is_word, is_number, IsQuoted}
-use Rattle.ftl_lexer.specs.Laws.{HaveForms}
 use Rattle.ftl_lexer.proofs.Shapes.{tokens_have_forms}
-use Rattle.ftl_lexer.proofs.Fronts.{unquoted_parts}
-use Rattle.ftl_parser.specs.Tree.{QueryTree}
-use Rattle.ftl_parser.specs.Piece as query
-use Rattle.ftl_parser.specs.Grammar.{SpellsQuery}
-use Rattle.ftl_parser.specs.Text.{query_text}
 use Rattle.ftl_parser.specs.TextLaws.{bytes_of}
-use Rattle.ftl_parser.proofs.canonical.TextLengths.{prints_shortly, tokens_fit}
-use Rattle.command_text.specs.Parts.{Part, Parts, is_verb, parts}
-use Rattle.command_text.specs.Piece.{Piece, KEY, SIGN, NAME, NUMBER, TEXT, piece_of, pieces}
-use Rattle.command_text.specs.Ranges.{SignedPlace, Steps}
-use Rattle.command_text.specs.Sizes.{is_short, short_word, function_of}
-use Rattle.command_text.specs.Tree.{CommandTree}
-use Rattle.command_text.specs.Grammar.{whole_at, legs_of_x, legs_of_y, SpellsNum, num_plain, num_minus, SpellsPair, pair, SpellsAttr, attr_num, attr_text, attr_dyn, SpellsMoreAttrs, no_more_attrs, one_more_attr, SpellsAttrs, no_attrs, some_attrs, SpellsPoints, no_points, one_point, SpellsRateLegs, no_rate_legs, one_rate_leg, SpellsRates, rates, SpellsMoveLegs, no_move_legs, one_move_leg, SpellsMoves, moves, SpellsGiven, given_num, given_both, given_text, given_rate, SpellsSettings, no_settings, one_setting, SpellsAt, not_at, at, SpellsMoving, not_moving, moving, SpellsChange, change, SpellsPointWord, no_point_word, point_word, SpellsTail, token_of, SpellsPart, part_verb, part_name, part_text, part_whole, part_error, part_num, part_point_word, part_attrs, part_points, part_change, SpellsParts, no_parts, last_part, last_query, part_before, SpellsCommand, by_parts}
+use Rattle.ftl_parser.proofs.canonical.TextLengths.{word_long, number_long, text_long, prints_shortly, tokens_fit}
+use Rattle.command_text.specs.Sizes.{is_short}
+use Rattle.command_text.specs.Grammar.{pair, some_attrs, rates, moves, given_both, given_text, given_rate, at, moving, point_word}
 use Rattle.command_text.specs.Text as text
-use Rattle.command_text.specs.Text.{quoted, pair_text, rate_leg_text, rates_text, move_leg_text, move_legs_text, moves_text, next_attr_text, attrs_text, points_text, settings_text, at_text, moving_text, change_text, text_of}
 use Rattle.command_text.proofs.grammar.QueryLemmas.{tail_pieces}
 use Rattle.command_text.proofs.canonical.TextAscii.{row_is}
 use Rattle.command_text.proofs.canonical.TextNumbers.{whole_is_short, radius_is_short, signed_is_short, zero_is_short}
@@ -64,21 +33,6 @@ key_long word code is = leb-true 2 (length word) (row_is (λ w. leb 2 (length w)
 sign_long : (word : List ℕ) (code : ℕ) → code_of symbols word ≡ Some code → 1 ≤ length word
 unfolding symbols
 sign_long word code is = leb-true 1 (length word) (row_is (λ w. leb 1 (length w)) symbols word code refl is)
-
-word_long : (word : List ℕ) → IsTrue (is_word word) → max 1 (length word) ≤ length word
-word_long [] word = let bad : false ≡ true = word in absurd (cc)
-word_long (b ∷ bytes) word = omega arith
-
-number_long : (number : List ℕ) → IsTrue (is_number number) → max 1 (length number) ≤ length number
-number_long [] number = let bad : false ≡ true = number in absurd (cc)
-number_long (b ∷ bytes) number = omega arith
-
-text_long : (text : List ℕ) → IsQuoted text → length (query.unquoted text) + 2 ≤ length text
-text_long text is =
-    let same : length text - 1 - 1 ≡ length text - 2 = omega arith in
-    let whole : text ≡ 34 ∷ query.unquoted text ++ 34 ∷ [] = subst (λ (n : ℕ). text ≡ 34 ∷ take n (drop 1 text) ++ 34 ∷ []) same (unquoted_parts text is).0 in
-    let long : length text ≡ suc (length (query.unquoted text ++ 34 ∷ [])) = ap length whole in
-    omega (arith, long, length-append (query.unquoted text) (34 ∷ []))
 
 piece_long : (kind : Kind) (bytes : List ℕ) → HasForm kind bytes → weight (piece_of kind bytes) ≤ length bytes
 piece_long kinds.Name bytes form = word_long bytes form.0
@@ -136,7 +90,7 @@ record NumShort (v : ℤ) (xs : List Piece) : Type 0 where
   some : 1 ≤ load xs
   short : length (fix_text v) ≤ load xs
 
-num_short : {p : SignedPlace} {v : ℤ} {xs : List Piece} → SpellsNum p v xs → NumShort v xs
+num_short : {p : SignedPlace} {v : ℤ} {xs : List Piece} {s t : Notes} → SpellsNum p v s t xs → NumShort v xs
 num_short (num_plain {place = p} {n = n}) = record { some = omega arith; short = omega (arith, signed_is_short p false n) }
 num_short (num_minus {place = p} {n = n}) = record { some = omega arith; short = omega (arith, signed_is_short p true n) }
 
@@ -150,7 +104,7 @@ record PairShort (x y : ℤ) (xs : List Piece) : Type 0 where
   short_second : length (fix_text y) ≤ second
   within : first + second + 3 ≤ load xs
 
-pair_short : {p : SignedPlace} {x y : ℤ} {xs : List Piece} → SpellsPair p x y xs → PairShort x y xs
+pair_short : {p : SignedPlace} {x y : ℤ} {xs : List Piece} {s t : Notes} → SpellsPair p x y s t xs → PairShort x y xs
 pair_short (pair {xs = xs} {ys = ys} d e) =
     let x = num_short d in
     let y = num_short e in
@@ -167,41 +121,28 @@ pair_short (pair {xs = xs} {ys = ys} d e) =
 pair_size : (x y : ℤ) → length (pair_text x y) ≡ length (fix_text x) + length (fix_text y) + 3
 pair_size x y = omega (arith, length-append (fix_text x) (44 ∷ (fix_text y ++ 41 ∷ [])), length-append (fix_text y) (41 ∷ []))
 
+pair_fits : {p : SignedPlace} {x y : ℤ} {xs : List Piece} {s t : Notes} → SpellsPair p x y s t xs → length (pair_text x y) ≤ load xs
+pair_fits {x = x} {y = y} d = let this = pair_short d in omega (arith, pair_size x y, this.short_first, this.short_second, this.within)
+
 -- ---- points
 
-points_short : {ps : List Point} {xs : List Piece} → SpellsPoints ps xs → length (points_text ps) ≤ 4 * load xs
+points_short : {ps : List Point} {xs : List Piece} {s t : Notes} → SpellsPoints ps s t xs → length (points_text ps) ≤ 4 * load xs
 points_short no_points = omega arith
 points_short (one_point {x = x} {y = y} {xs = xs} {ps = ps} {ys = ys} d e) =
-    let this = pair_short d in
-    omega (
-      arith,
-      length-append (pair_text x y) (points_text ps),
-      pair_size x y,
-      this.short_first,
-      this.short_second,
-      this.within,
-      load_join xs ys,
-      points_short e,
-    )
+    omega (arith, length-append (pair_text x y) (points_text ps), pair_size x y, pair_fits d, load_join xs ys, points_short e)
 
 -- ---- legs
 
 rate_leg_size : (a : ℤ) (n : ℕ) → length (rate_leg_text (a, n)) ≡ length (fix_text a) + length (decimal n) + 4
-rate_leg_size a n = omega (arith, length-append (fix_text a) (44 ∷ (decimal n ++ codes "] ")), length-append (decimal n) (codes "] "))
+rate_leg_size a n = simp length-append (omega arith)
 
-rate_legs_short : {ls : List (ℤ × ℕ)} {xs : List Piece} → SpellsRateLegs ls xs → length (flat_map rate_leg_text ls) ≤ 4 * load xs
+rate_legs_short : {ls : List (ℤ × ℕ)} {xs : List Piece} {s t : Notes} → SpellsRateLegs ls s t xs → length (flat_map rate_leg_text ls) ≤ 4 * load xs
 rate_legs_short no_rate_legs = omega arith
 rate_legs_short (one_rate_leg {a = a} {xs = xs} n {ls = ls} {ys = ys} d e) =
-    let this = num_short d in
-    omega (
-      arith,
-      length-append (rate_leg_text (a, whole_at Steps n)) (flat_map rate_leg_text ls),
-      rate_leg_size a (whole_at Steps n),
-      this.short,
-      whole_is_short Steps n,
-      load_join xs (SIGN COMMA ∷ NUMBER n ∷ SIGN CLOSE_SQUARE ∷ ys),
-      rate_legs_short e,
-    )
+    let leg : List ℕ = rate_leg_text (a, whole_at Steps n) in
+    let sum : length (leg ++ flat_map rate_leg_text ls) ≡ length leg + length (flat_map rate_leg_text ls) = length-append leg (flat_map rate_leg_text ls) in
+    let tokens = load_join xs (SIGN COMMA ∷ NUMBER n ∷ SIGN CLOSE_SQUARE ∷ ys) in
+    omega (arith, sum, rate_leg_size a (whole_at Steps n), (num_short d).short, whole_is_short Steps n, tokens, rate_legs_short e)
 
 -- legs that make no function stand for rest
 function_cases : (ls : List (ℤ × ℕ)) (last : ℤ) → (function_of ls last ≡ record { firsts = ls; last = last }) ⊎ (function_of ls last ≡ level)
@@ -212,7 +153,7 @@ function_cases ls last = chosen (are_firsts ls)
     chosen true = inl refl
     chosen false = inr refl
 
-rates_short : {f : Function} {xs : List Piece} → SpellsRates f xs → length (rates_text f) ≤ 4 * load xs
+rates_short : {f : Function} {xs : List Piece} {s t : Notes} → SpellsRates f s t xs → length (rates_text f) ≤ 4 * load xs
 rates_short (rates {ls = ls} {xs = xs} {a = a} {ys = ys} d e) =
     let last = num_short e in
     let sum = load_join xs ys in
@@ -227,24 +168,15 @@ abbrev legs_text : List ((ℤ × ℤ) × ℕ) → List ℕ
 legs_text ls = move_legs_text (legs_of_x ls) (legs_of_y ls)
 
 move_leg_size : (x y : ℤ) (n : ℕ) → length (move_leg_text x y n) ≡ length (pair_text x y) + length (decimal n) + 4
-move_leg_size x y n = omega (arith, length-append (pair_text x y) (44 ∷ (decimal n ++ codes "] ")), length-append (decimal n) (codes "] "))
+move_leg_size x y n = simp length-append (omega arith)
 
-move_legs_short : {ls : List ((ℤ × ℤ) × ℕ)} {xs : List Piece} → SpellsMoveLegs ls xs → length (legs_text ls) ≤ 4 * load xs
+move_legs_short : {ls : List ((ℤ × ℤ) × ℕ)} {xs : List Piece} {s t : Notes} → SpellsMoveLegs ls s t xs → length (legs_text ls) ≤ 4 * load xs
 move_legs_short no_move_legs = omega arith
 move_legs_short (one_move_leg {a = a} {b = b} {xs = xs} n {ls = ls} {ys = ys} d e) =
-    let this = pair_short d in
-    omega (
-      arith,
-      length-append (move_leg_text a b (whole_at Steps n)) (legs_text ls),
-      move_leg_size a b (whole_at Steps n),
-      pair_size a b,
-      this.short_first,
-      this.short_second,
-      this.within,
-      whole_is_short Steps n,
-      load_join xs (SIGN COMMA ∷ NUMBER n ∷ SIGN CLOSE_SQUARE ∷ ys),
-      move_legs_short e,
-    )
+    let leg : List ℕ = move_leg_text a b (whole_at Steps n) in
+    let sum : length (leg ++ legs_text ls) ≡ length leg + length (legs_text ls) = length-append leg (legs_text ls) in
+    let tokens = load_join xs (SIGN COMMA ∷ NUMBER n ∷ SIGN CLOSE_SQUARE ∷ ys) in
+    omega (arith, sum, move_leg_size a b (whole_at Steps n), pair_fits d, whole_is_short Steps n, tokens, move_legs_short e)
 
 no_legs : (xs : List (ℤ × ℕ)) → move_legs_text xs [] ≡ []
 no_legs [] = refl
@@ -254,7 +186,7 @@ moves_size : (xs ys : List (ℤ × ℕ)) (a b : ℤ) → length (moves_text (rec
     ≡ length (move_legs_text xs ys) + length (fix_text a) + length (fix_text b) + 3
 moves_size xs ys a b = omega (arith, length-append (move_legs_text xs ys) (pair_text a b), pair_size a b)
 
-moves_short : {m : Function × Function} {xs : List Piece} → SpellsMoves m xs → length (moves_text m.0 m.1) ≤ 4 * load xs
+moves_short : {m : Function × Function} {xs : List Piece} {s t : Notes} → SpellsMoves m s t xs → length (moves_text m.0 m.1) ≤ 4 * load xs
 moves_short (moves {ls = ls} {xs = xs} {a = a} {b = b} {ys = ys} d e) =
     let last = pair_short e in
     let sum = load_join xs ys in
@@ -277,48 +209,34 @@ moves_short (moves {ls = ls} {xs = xs} {a = a} {b = b} {ys = ys} d e) =
 
 -- ---- what a command writes
 
-given_short : {g : Given} {xs : List Piece} → SpellsGiven g xs → length (text.given_text g) ≤ 4 * load xs
+given_short : {g : Given} {xs : List Piece} {s t : Notes} → SpellsGiven g s t xs → length (text.given_text g) ≤ 4 * load xs
 given_short (given_num d) = omega (arith, (num_short d).short)
 given_short (given_both {v = v} {xs = xs} {f = f} {ys = ys} d e) =
     omega (arith, (num_short d).short, rates_short e, length-append (fix_text v) (codes " rate " ++ rates_text f), load_join xs (KEY RATE_WORD ∷ ys))
-given_short (given_text {t = t}) = omega (arith, word_short t, length-append (short_word t) (34 ∷ []))
+given_short (given_text {w = w}) = omega (arith, word_short w, length-append (short_word w) (34 ∷ []))
 given_short (given_rate d) = omega (arith, rates_short d)
 
-settings_short : {ss : List NamedSet} {xs : List Piece} → SpellsSettings ss xs → length (settings_text ss) ≤ 4 * load xs
+settings_short : {ss : List NamedSet} {xs : List Piece} {s t : Notes} → SpellsSettings ss s t xs → length (settings_text ss) ≤ 4 * load xs
 settings_short no_settings = omega arith
 settings_short (one_setting {n = n} {g = g} {xs = xs} {ss = ss} {ys = ys} d e) =
-    let name : List ℕ = short_word n in
     let given : List ℕ = text.given_text g in
-    omega (
-      arith,
-      length-append (name ++ (32 ∷ given)) (settings_text ss),
-      length-append name (32 ∷ given),
-      word_short n,
-      given_short d,
-      load_join xs ys,
-      settings_short e,
-    )
+    let set : List ℕ = short_word n ++ (32 ∷ given) in
+    let sum : length (set ++ settings_text ss) ≡ length set + length (settings_text ss) = length-append set (settings_text ss) in
+    omega (arith, sum, length-append (short_word n) (32 ∷ given), word_short n, given_short d, load_join xs ys, settings_short e)
 
-at_short : {p : Option Point} {xs : List Piece} → SpellsAt p xs → length (at_text p) ≤ 4 * load xs
+at_short : {p : Option Point} {xs : List Piece} {s t : Notes} → SpellsAt p s t xs → length (at_text p) ≤ 4 * load xs
 at_short not_at = omega arith
-at_short (at {x = x} {y = y} d) = let this = pair_short d in omega (arith, pair_size x y, this.short_first, this.short_second, this.within)
+at_short (at {x = x} {y = y} d) = omega (arith, pair_size x y, pair_fits d)
 
-moving_short : {m : Option (Function × Function)} {xs : List Piece} → SpellsMoving m xs → length (moving_text m) ≤ 4 * load xs
+moving_short : {m : Option (Function × Function)} {xs : List Piece} {s t : Notes} → SpellsMoving m s t xs → length (moving_text m) ≤ 4 * load xs
 moving_short not_moving = omega arith
 moving_short (moving d) = omega (arith, moves_short d)
 
-change_short : {p : Place} {ss : List NamedSet} {xs : List Piece} → SpellsChange p ss xs → length (change_text p ss) ≤ 4 * load xs
+change_short : {p : Place} {ss : List NamedSet} {xs : List Piece} {s t : Notes} → SpellsChange p ss s t xs → length (change_text p ss) ≤ 4 * load xs
 change_short (change {p = p} {xs = xs} {m = m} {ys = ys} {ss = ss} {zs = zs} d e f) =
-    omega (
-      arith,
-      length-append (at_text p) (moving_text m ++ settings_text ss),
-      length-append (moving_text m) (settings_text ss),
-      at_short d,
-      moving_short e,
-      settings_short f,
-      load_join xs (ys ++ zs),
-      load_join ys zs,
-    )
+    let bytes = length-append (at_text p) (moving_text m ++ settings_text ss) in
+    let later = length-append (moving_text m) (settings_text ss) in
+    omega (arith, bytes, later, at_short d, moving_short e, settings_short f, load_join xs (ys ++ zs), load_join ys zs)
 
 -- ---- attributes
 
@@ -327,28 +245,25 @@ attr_size n attr_kinds.Num = omega (arith, word_short n, length-append (short_wo
 attr_size n attr_kinds.Text = omega (arith, word_short n, length-append (short_word n) (codes " text"))
 attr_size n attr_kinds.Dyn = omega (arith, word_short n, length-append (short_word n) (codes " dyn"))
 
-attr_short : {a : List ℕ × AttrKind} {xs : List Piece} → SpellsAttr a xs → length (text.attr_text a) ≤ 4 * load xs
+attr_short : {a : List ℕ × AttrKind} {xs : List Piece} {s t : Notes} → SpellsAttr a s t xs → length (text.attr_text a) ≤ 4 * load xs
 attr_short (attr_num {n = n}) = omega (arith, attr_size n attr_kinds.Num)
 attr_short (attr_text {n = n}) = omega (arith, attr_size n attr_kinds.Text)
 attr_short (attr_dyn {n = n}) = omega (arith, attr_size n attr_kinds.Dyn)
 
-more_attrs_short : {more : List (List ℕ × AttrKind)} {xs : List Piece} → SpellsMoreAttrs more xs → length (flat_map next_attr_text more) ≤ 4 * load xs
+more_attrs_short : {more : List (List ℕ × AttrKind)} {xs : List Piece} {s t : Notes} → SpellsMoreAttrs more s t xs → length
+    (flat_map next_attr_text more) ≤ 4 * load xs
 more_attrs_short no_more_attrs = omega arith
 more_attrs_short (one_more_attr {a = a} {xs = xs} {rest = more} {ys = ys} d e) =
     omega (arith, length-append (text.attr_text a) (flat_map next_attr_text more), attr_short d, load_join xs ys, more_attrs_short e)
 
-attrs_short : {attrs : List (List ℕ × AttrKind)} {xs : List Piece} → SpellsAttrs attrs xs → length (attrs_text attrs) ≤ 4 * load xs
+attrs_short : {attrs : List (List ℕ × AttrKind)} {xs : List Piece} {s t : Notes} → SpellsAttrs attrs s t xs → length (attrs_text attrs) ≤ 4 * load xs
 attrs_short no_attrs = omega arith
 attrs_short (some_attrs {a = a} {xs = xs} {rest = more} {ys = ys} d e) =
-    omega (
-      arith,
-      length-append (text.attr_text a) (flat_map next_attr_text more ++ codes ")"),
-      length-append (flat_map next_attr_text more) (codes ")"),
-      attr_short d,
-      more_attrs_short e,
-      load_join xs (ys ++ SIGN CLOSE_ROUND ∷ []),
-      load_join ys (SIGN CLOSE_ROUND ∷ []),
-    )
+    let first : List ℕ = text.attr_text a in
+    let others : List ℕ = flat_map next_attr_text more in
+    let bytes = length-append first (others ++ codes ")") in
+    let tokens = load_join xs (ys ++ SIGN CLOSE_ROUND ∷ []) in
+    omega (arith, bytes, length-append others (codes ")"), attr_short d, more_attrs_short e, tokens, load_join ys (SIGN CLOSE_ROUND ∷ []))
 
 point_word_short : {b : Bool} {xs : List Piece} → SpellsPointWord b xs → length (text.point_word b) ≤ 4 * load xs
 point_word_short no_point_word = omega arith
@@ -364,10 +279,10 @@ verb_by word (Some code) is short = omega arith
 verb_short : (word : List ℕ) → IsTrue (is_verb word) → suc (length word) ≤ 4 * weight (token_of word)
 verb_short word is = verb_by word (code_of reserved_words word) refl (leb-true (length word) 7 (and_parts (is_word word) (leb (length word) 7) is).1)
 
-part_short : {p : Part} {xs : List Piece} → SpellsPart p xs → length (text.part_text p) ≤ 4 * load xs
+part_short : {p : Part} {xs : List Piece} {s t : Notes} → SpellsPart p s t xs → length (text.part_text p) ≤ 4 * load xs
 part_short (part_verb {w = w} is) = omega (arith, verb_short w is)
 part_short (part_name {n = n}) = omega (arith, word_short n)
-part_short (part_text {t = t}) = omega (arith, word_short t, length-append (short_word t) (34 ∷ []))
+part_short (part_text {w = w}) = omega (arith, word_short w, length-append (short_word w) (34 ∷ []))
 part_short (part_whole {place = p} {n = n}) = omega (arith, whole_is_short p n)
 part_short (part_error {n = n}) = omega (arith, radius_is_short n)
 part_short (part_num d) = let number = num_short d in omega (arith, number.short, number.some)
@@ -377,7 +292,7 @@ part_short (part_points d) = points_short d
 part_short (part_change d) = change_short d
 
 -- parts after some tokens, in the text of which so many bytes were spent
-parts_short : {ps : Parts} {xs : List Piece} → SpellsParts ps xs → (front : List Piece) (spent bytes : ℕ) → HasRoom (front ++ xs) bytes
+parts_short : {ps : Parts} {xs : List Piece} {s t : Notes} → SpellsParts ps s t xs → (front : List Piece) (spent bytes : ℕ) → HasRoom (front ++ xs) bytes
     → spent ≤ 4 * load front → spent + length (text.parts_text ps) ≤ 4 * bytes + 1
 parts_short no_parts front spent bytes room within = omega (arith, room.tokens, within, load_join front [])
 parts_short (last_part {xs = xs} d) front spent bytes room within = omega (arith, room.tokens, within, load_join front xs, part_short d)
@@ -393,9 +308,9 @@ parts_short (part_before {p = p} {ps = ps} {xs = xs} {ys = ys} d e) front spent 
     (omega (arith, within, part_short d, load_join front xs)) in
     omega (arith, later, length-append (text.part_text p) (text.parts_text ps))
 
-command_short : {c : CommandTree} {xs : List Piece} → SpellsCommand c xs → (bytes : ℕ) → HasRoom xs bytes → length (text_of c) ≤ 4 * bytes
+command_short : {c : CommandTree} {xs : List Piece} {s : Notes} → SpellsCommand c s xs → (bytes : ℕ) → HasRoom xs bytes → length (text_of c) ≤ 4 * bytes
 unfolding text_of
 command_short {c = c} (by_parts d) bytes room = omega (arith, parts_short d [] 0 bytes room (omega arith), length-drop 1 (text.parts_text (parts c)))
 
-pub line_short : (line : List ℕ) (c : CommandTree) → SpellsCommand c (pieces line) → length (text_of c) ≤ 4 * length line
+pub line_short : (line : List ℕ) (c : CommandTree) {s : Notes} → SpellsCommand c s (pieces line) → length (text_of c) ≤ 4 * length line
 line_short line c d = command_short d (length line) (line_has_room line)

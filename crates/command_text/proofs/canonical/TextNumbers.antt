@@ -1,30 +1,13 @@
 -- Numbers in the ranges of their places: as they are read, how long they are when they are printed, and that they are read back.
-use Rattle.std.proofs.Common.{◌≡◌, ℕ, zero, suc, ◌+◌, ◌*◌, ◌^◌, ◌<◌, ◌≤◌, max, Bool, true, false, ◌&&◌, List, [], ◌∷◌, ◌++◌, length, append_assoc, Option, None, Some, ℤ, pos, negsuc, unsigned_abs, IsTrue, refl, sym, ap, subst, ◌∙◌, arith, cond, leb}
-use Rattle.std.specs.Prelude.{neg_ℤ, unwrap_or, is_some, option_map, option_and_then, int_le}
-use Rattle.std.specs.List.{list_all}
-use Rattle.std.specs.Char.{is_ascii_digit, digit_value}
-use Rattle.std.specs.Fmt.{decimal, sign_text}
-use Rattle.std.specs.Str.Parse.{AllDigits, digits_value}
-use Rattle.std.proofs.lemmas.Bool.{leb-true}
-use Rattle.std.proofs.lemmas.Bool.Decides.{nat_tests}
+use Rattle.command_text.proofs.Names.{◌≡◌, ℕ, zero, suc, ◌+◌, ◌^◌, ◌<◌, ◌≤◌, max, Bool, true, false, ◌&&◌, List, [], length, Option, None, Some, ℤ, pos, negsuc, unsigned_abs, IsTrue, refl, sym, ap, subst, ◌∙◌, arith, cond, leb, neg_ℤ, unwrap_or, is_some, option_map, option_and_then, int_le, list_all, is_ascii_digit, decimal, digits_value, leb-true, nat_tests, READ_LIMIT, fix_text, is_number, RADIUS_LIMIT, LAST_TICK, up_to, whole_of, IsUnsigned, CAPACITY_LIMIT, WholePlace, Span, Steps, Capacity, Nearest, whole_in, radius_in, SignedPlace, Value, Rate, Width, negated, signed_in, whole_at, radius_at, signed_at, IsFrom, IsWidth, IsWholeIn, IsSignedIn}
 use Rattle.std.proofs.lemmas.Int.{ints}
-use Rattle.std.proofs.lemmas.Fmt.{decimal_is_IsNumeral}
-use Rattle.fixed_point.specs.declared.number.TheConstants.{READ_LIMIT, SLOPE_LIMIT}
-use Rattle.fixed_point.specs.Decimal.{thousandths_of, size_of, IsDecimal, with_sign, decimals_value, point_text}
-use Rattle.fixed_point.specs.Canonical.{fix_text}
+use Rattle.fixed_point.specs.declared.number.TheConstants.{SLOPE_LIMIT}
+use Rattle.fixed_point.specs.Decimal.{thousandths_of, size_of}
 use Rattle.fixed_point.proofs.DecimalLemmas.{decimal_law}
-use Rattle.fixed_point.proofs.CanonicalLemmas.{printed_law}
-use Rattle.ftl_lexer.specs.Cut.{is_number}
-use Rattle.geometry.specs.declared.limits.TheConstants.{RADIUS_LIMIT}
-use Rattle.tick_set.specs.declared.spans.TheConstants.{LAST_TICK}
-use Rattle.ftl_parser.specs.Number.{up_to, whole_of}
-use Rattle.ftl_parser.specs.Lawful.{IsUnsigned}
+use Rattle.ftl_parser.proofs.canonical.TextShapes.{radius_within}
+use Rattle.ftl_parser.proofs.canonical.TextValues.{from_again, read_again}
 use Rattle.ftl_parser.proofs.canonical.TextNumbers.{whole_is, whole_short, fix_short, minus_short}
-use Rattle.motion.specs.declared.limits.TheConstants.{CAPACITY_LIMIT}
 use Rattle.command_text.specs.declared.ranges.TheConstants.{NEAREST_LIMIT}
-use Rattle.command_text.specs.Ranges.{WholePlace, Span, Steps, Capacity, Nearest, whole_in, radius_in, SignedPlace, Value, Rate, Width, negated, signed_in}
-use Rattle.command_text.specs.Grammar.{whole_at, radius_at, signed_at}
-use Rattle.command_text.specs.Shape.{IsFrom, IsValue, IsRate, IsWidth, IsWholeIn, IsSignedIn}
 
 -- what holds of what is found holds of what is there, where something is
 of_found : {X : Type 0} (P : X → Type 0) (found : Option X) (other : X) → ((x : X) → found ≡ Some x → P x) → is_some found ≡ true → P (unwrap_or found other)
@@ -102,29 +85,8 @@ pub signed_in_range : (place : SignedPlace) (minus : Bool) (text : List ℕ) →
     → IsSignedIn place (signed_at place minus text)
 signed_in_range place minus text is = of_found (IsSignedIn place) (signed_in place minus text) (pos 0) (λ v e. signed_found place minus text v e) is
 
--- a number token begins with no sign
-no_sign : (negative : Bool) (text rest : List ℕ) → text ≡ sign_text negative ++ rest → IsTrue (is_number text) → negative ≡ false
-no_sign false text rest spelled number = refl
-no_sign true text rest spelled number = let bad : false ≡ true = subst (λ (t : List ℕ). is_number t ≡ true) spelled number in cc
-
-unsigned_within : (limit : ℕ) (negative : Bool) (size : ℕ) → negative ≡ false → unsigned_abs (with_sign negative size) ≤ limit
-    → IsUnsigned limit (with_sign negative size)
-unsigned_within limit false size none within = within
-unsigned_within limit true size none within = absurd (cc)
-
-radius_found : (text : List ℕ) (v : ℤ) → IsTrue (is_number text) → radius_in text ≡ Some v → IsUnsigned RADIUS_LIMIT v
-radius_found text v number is =
-    let both : IsDecimal text v × (unsigned_abs v ≤ RADIUS_LIMIT) = (decimal_law RADIUS_LIMIT text v).0 is in
-    let spelt : IsDecimal text v = both.0 in
-    let size : ℕ = 1000 * digits_value 10 spelt.whole + decimals_value spelt.decimals in
-    let rest : text ≡ sign_text spelt.negative ++ (spelt.whole ++ point_text spelt.decimals) =
-    spelt.spelled ∙ append_assoc (sign_text spelt.negative) spelt.whole (point_text spelt.decimals) in
-    let plus : spelt.negative ≡ false = no_sign spelt.negative text (spelt.whole ++ point_text spelt.decimals) rest number in
-    let small : unsigned_abs (with_sign spelt.negative size) ≤ RADIUS_LIMIT = subst (λ (w : ℤ). unsigned_abs w ≤ RADIUS_LIMIT) spelt.valued both.1 in
-    subst (IsUnsigned RADIUS_LIMIT) (sym spelt.valued) (unsigned_within RADIUS_LIMIT spelt.negative size plus small)
-
 pub radius_in_range : (text : List ℕ) → IsTrue (is_number text) → is_some (radius_in text) ≡ true → IsUnsigned RADIUS_LIMIT (radius_at text)
-radius_in_range text number is = of_found (IsUnsigned RADIUS_LIMIT) (radius_in text) (pos 0) (λ v e. radius_found text v number e) is
+radius_in_range text number is = radius_within text number
 
 -- ---- numbers are printed with no more bytes than they were written, or with one byte
 
@@ -182,36 +144,17 @@ signed_is_short Width minus text =
 
 -- ---- printed numbers are read back
 
-digit_passes : (byte : ℕ) → digit_value byte < 10 → is_ascii_digit byte ≡ true
-digit_passes byte below = grind (arith, nat_tests)
-
-all_pass : (text : List ℕ) → AllDigits 10 text → list_all is_ascii_digit text ≡ true
-all_pass [] are = refl
-all_pass (byte ∷ text) are = rw (digit_passes byte are.0) (all_pass text are.1)
-
-from_again : (least most n : ℕ) → IsFrom least most n → most < 2 ^ 64 → whole_of least most (decimal n) ≡ Some n
-from_again least most n within small =
-    let number = decimal_is_IsNumeral n (omega (arith, within.1)) in
-    let high : leb n most ≡ true = grind (arith, nat_tests, within.1) in
-    let low : leb least n ≡ true = grind (arith, nat_tests, within.0) in
-    rw (all_pass (decimal n) number.0.1, number.1, high, low) refl
-
 pub whole_again : (place : WholePlace) (n : ℕ) → IsWholeIn place n → whole_in place (decimal n) ≡ Some n
-whole_again Span n within = from_again 0 LAST_TICK n within (omega arith)
-whole_again Steps n within = from_again 1 LAST_TICK n within (omega arith)
-whole_again Capacity n within = from_again 1 CAPACITY_LIMIT n within (omega arith)
-whole_again Nearest n within = from_again 1 NEAREST_LIMIT n within (omega arith)
+whole_again Span n within = from_again 0 LAST_TICK n within.0 within.1 (omega arith)
+whole_again Steps n within = from_again 1 LAST_TICK n within.0 within.1 (omega arith)
+whole_again Capacity n within = from_again 1 CAPACITY_LIMIT n within.0 within.1 (omega arith)
+whole_again Nearest n within = from_again 1 NEAREST_LIMIT n within.0 within.1 (omega arith)
 
 pub whole_small : (place : WholePlace) (n : ℕ) → IsWholeIn place n → n < 2 ^ 64
 whole_small Span n within = omega (arith, within.1)
 whole_small Steps n within = omega (arith, within.1)
 whole_small Capacity n within = omega (arith, within.1)
 whole_small Nearest n within = omega (arith, within.1)
-
-read_again : (limit n : ℕ) → n ≤ limit → limit ≤ READ_LIMIT → thousandths_of limit (fix_text (pos n)) ≡ Some (pos n)
-read_again limit n within small =
-    let read : thousandths_of READ_LIMIT (fix_text (pos n)) ≡ Some (pos n) = printed_law (pos n) (omega (arith, within, small)) in
-    (decimal_law limit (fix_text (pos n)) (pos n)).1 (((decimal_law READ_LIMIT (fix_text (pos n)) (pos n)).0 read).0, within)
 
 pub radius_again : (n : ℕ) → n ≤ RADIUS_LIMIT → radius_in (fix_text (pos n)) ≡ Some (pos n)
 radius_again n within = read_again RADIUS_LIMIT n within (omega arith)

@@ -1,61 +1,17 @@
 -- What tokens of a line spell is printable, where its numbers are in range and its sizes within their limits.
-use Rattle.std.proofs.Common.{◌≡◌, ℕ, zero, suc, ◌+◌, ◌-◌, ◌≤◌, Bool, true, false, ◌&&◌, List, [], ◌∷◌, ◌++◌, take, drop, length, map, Option, None, Some, ℤ, IsTrue, refl, sym, ◌∙◌, ap, subst, arith, leb}
-use Rattle.std.specs.Prelude.{is_some, is_none, slice_get, unwrap_or, if◌then◌else◌}
-use Rattle.std.specs.List.{AllByRecursion, list_all}
-use Rattle.std.proofs.lemmas.Bool.{and_parts, and_from, leb-true}
-use Rattle.std.proofs.lemmas.Bool.Decides.{nat_tests}
-use Rattle.std.proofs.lemmas.List.{length-map, drop_at, drop-drop}
-use Rattle.case_table.specs.declared.symbol.TheConstants.{CLOSE_ROUND}
-use Rattle.fixed_point.specs.declared.number.Point.{Point}
-use Rattle.fixed_point.specs.declared.short_text.TheConstants.{WORD_LIMIT}
-use Rattle.motion.specs.Function.{Function, are_firsts, is_length_of, level}
-use Rattle.motion.specs.declared.legs.TheConstants.{MOST_FIRSTS}
-use Rattle.motion.specs.declared.cell.AttrKind.{AttrKind}
-use Rattle.motion.specs.declared.cell.Given.{Given}
-use Rattle.motion.specs.declared.cell.NamedSet.{NamedSet}
-use Rattle.motion.specs.declared.cell.Place.{Place}
-use Rattle.ftl_lexer.specs.declared.kinds.Kind.{Kind}
+use Rattle.command_text.proofs.Names.{◌≡◌, ℕ, zero, suc, ◌+◌, ◌-◌, ◌≤◌, Bool, true, false, List, [], ◌∷◌, ◌++◌, length, map, Option, None, Some, ℤ, IsTrue, refl, sym, ◌∙◌, ap, subst, arith, leb, is_some, is_none, slice_get, unwrap_or, if◌then◌else◌, AllByRecursion, list_all, and_parts, and_from, leb-true, nat_tests, length-map, drop_at, drop-drop, CLOSE_ROUND, Point, WORD_LIMIT, Function, are_firsts, is_length_of, level, MOST_FIRSTS, AttrKind, Given, NamedSet, Place, Kind, Lexeme, HasForm, is_number, has_no_quote, HaveForms, lexemes, QueryTree, SpellsQuery, first_unfit, IsName, LAST_TICK, first_too_large, piece_lists, texts_alone, token_texts, VERTEX_LIMIT, ATTRIBUTE_LIMIT, Part, Parts, Piece, KEY, SIGN, NAME, NUMBER, TEXT, piece_of, pieces, in_query, has_long, Steps, SignedPlace, whole_in, radius_in, signed_in, short_word, are_few_legs, function_of, are_few_attributes, are_few_vertices, is_query_small, CommandTree, Notes, good, legs_of_x, legs_of_y, SpellsNum, num_plain, num_minus, SpellsPair, SpellsAttr, attr_num, attr_text, attr_dyn, SpellsMoreAttrs, no_more_attrs, one_more_attr, SpellsAttrs, no_attrs, SpellsPoints, no_points, one_point, SpellsRateLegs, no_rate_legs, one_rate_leg, SpellsRates, SpellsMoveLegs, no_move_legs, one_move_leg, SpellsMoves, SpellsGiven, given_num, SpellsSettings, no_settings, one_setting, SpellsAt, not_at, SpellsMoving, not_moving, SpellsChange, change, SpellsTail, SpellsPart, part_verb, part_name, part_text, part_whole, part_error, part_num, part_point_word, part_attrs, part_points, part_change, SpellsParts, no_parts, last_part, last_query, part_before, SpellsCommand, by_parts, IsFrom, IsAscii, IsShortName, IsShortText, IsRate, IsPoint, IsLeg, AreLegs, AreMoves, IsPrintableGiven, IsSetting, IsAt, IsMoving, IsChange, IsAttribute, AreAttributes, IsQuery, IsPart, AreParts, IsPrintable, IsSignedIn}
+use Rattle.std.proofs.Common.{drop}
 use Rattle.ftl_lexer.specs.declared.kinds.Kind.TheVariants as kinds
-use Rattle.ftl_lexer.specs.Cut.{Lexeme, HasForm, is_number, has_no_quote, IsQuoted}
-use Rattle.ftl_lexer.specs.Laws.{HaveForms}
-use Rattle.ftl_lexer.specs.Tokens.{lexemes}
 use Rattle.ftl_lexer.proofs.Shapes.{tokens_have_forms}
-use Rattle.ftl_lexer.proofs.Fronts.{unquoted_parts}
-use Rattle.ftl_parser.specs.Tree.{QueryTree}
 use Rattle.ftl_parser.specs.Piece as query
-use Rattle.ftl_parser.specs.Grammar.{SpellsQuery}
-use Rattle.ftl_parser.specs.Marks.{first_unfit}
 use Rattle.ftl_parser.specs.Lawful as query_shape
-use Rattle.ftl_parser.specs.Lawful.{IsName}
-use Rattle.tick_set.specs.declared.spans.TheConstants.{LAST_TICK}
-use Rattle.ftl_parser.specs.Sizes.{first_too_large}
-use Rattle.ftl_parser.specs.Order.{piece_lists, texts_alone, token_texts}
 use Rattle.ftl_parser.proofs.grammar.OrderLemmas.{lists-query}
-use Rattle.ftl_parser.proofs.canonical.TextShapes.{prints_what_is_read, small_short, spelled_shape}
-use Rattle.geometry.specs.declared.limits.TheConstants.{VERTEX_LIMIT}
-use Rattle.motion.specs.declared.limits.TheConstants.{ATTRIBUTE_LIMIT}
-use Rattle.command_text.specs.Parts.{Part, Parts}
-use Rattle.command_text.specs.Piece.{Piece, KEY, SIGN, NAME, NUMBER, TEXT, piece_of, pieces, in_query, has_long}
-use Rattle.command_text.specs.Ranges.{Steps, SignedPlace, whole_in, radius_in, signed_in}
-use Rattle.command_text.specs.Sizes.{is_short, short_word, are_few_legs, function_of, are_few_attributes, are_few_vertices}
-use Rattle.command_text.specs.inner.Query.{is_query_small}
-use Rattle.command_text.specs.Tree.{CommandTree}
-use Rattle.command_text.specs.Grammar.{legs_of_x, legs_of_y, SpellsNum, num_plain, num_minus, SpellsPair, pair, SpellsAttr, attr_num, attr_text, attr_dyn, SpellsMoreAttrs, no_more_attrs, one_more_attr, SpellsAttrs, no_attrs, some_attrs, SpellsPoints, no_points, one_point, SpellsRateLegs, no_rate_legs, one_rate_leg, SpellsRates, rates, SpellsMoveLegs, no_move_legs, one_move_leg, SpellsMoves, moves, SpellsGiven, given_num, given_both, given_text, given_rate, SpellsSettings, no_settings, one_setting, SpellsAt, not_at, at, SpellsMoving, not_moving, moving, SpellsChange, change, SpellsTail, SpellsPart, part_verb, part_name, part_text, part_whole, part_error, part_num, part_point_word, part_attrs, part_points, part_change, SpellsParts, no_parts, last_part, last_query, part_before, SpellsCommand, by_parts}
-use Rattle.command_text.specs.Judged.{num_fit, pair_fit, points_fit, rate_legs_fit, rates_fit, move_legs_fit, moves_fit, given_fit, settings_fit, at_fit, moving_fit, change_fit, part_fit, parts_fit, numbers_fit, attr_small, more_attrs_small, attrs_small, rates_small, moves_small, given_small, settings_small, moving_small, change_small, part_small, parts_small, sizes_fit}
-use Rattle.command_text.specs.Shape.{IsFrom, IsAscii, IsShortName, IsShortText, IsRate, IsPoint, IsLeg, AreLegs, AreMoves, IsPrintableGiven, IsSetting, IsAt, IsMoving, IsChange, IsAttribute, AreAttributes, IsQuery, IsPart, AreParts, IsPrintable, IsSignedIn}
+use Rattle.ftl_parser.proofs.canonical.TextShapes.{all_front, all_back, text_has, prints_what_is_read, small_short, spelled_shape}
+use Rattle.command_text.specs.Sizes.{is_short}
+use Rattle.command_text.specs.Grammar.{pair, some_attrs, rates, moves, given_both, given_text, given_rate, at, moving}
 use Rattle.command_text.proofs.grammar.QueryLemmas.{tail_pieces}
 use Rattle.command_text.proofs.canonical.TextAscii.{AreAscii, tokens_ascii, inside_ascii}
 use Rattle.command_text.proofs.canonical.TextNumbers.{whole_in_range, signed_in_range, radius_in_range}
-
--- ---- lists
-
-pub all_front : {X : Type 0} (P : X → Type 0) (xs ys : List X) → AllByRecursion P (xs ++ ys) → AllByRecursion P xs
-all_front P [] ys all = tt
-all_front P (x ∷ xs) ys all = (all.0, all_front P xs ys all.1)
-
-pub all_back : {X : Type 0} (P : X → Type 0) (xs ys : List X) → AllByRecursion P (xs ++ ys) → AllByRecursion P ys
-all_back P [] ys all = all
-all_back P (x ∷ xs) ys all = all_back P xs ys all.1
 
 -- ---- tokens by what names, numbers and texts they have
 
@@ -68,11 +24,6 @@ HasShape (TEXT t) = IsTrue (has_no_quote t) × IsAscii t
 
 abbrev pub HaveShapes : List Piece → Type 0
 HaveShapes = AllByRecursion HasShape
-
-text_has : (text : List ℕ) → IsQuoted text → IsTrue (has_no_quote (query.unquoted text))
-text_has text quoted =
-    let same : length text - 1 - 1 ≡ length text - 2 = omega arith in
-    subst (λ n. IsTrue (has_no_quote (take n (drop 1 text)))) same (unquoted_parts text quoted).1
 
 piece_has : (kind : Kind) (bytes : List ℕ) → HasForm kind bytes → IsAscii bytes → HasShape (piece_of kind bytes)
 piece_has kinds.Name bytes form ascii = (form, ascii)
@@ -101,43 +52,48 @@ short_text text none ascii short = subst IsShortText (sym (word_is text short)) 
 
 -- ---- numbers and points
 
-num_shape : {p : SignedPlace} {v : ℤ} {xs : List Piece} (d : SpellsNum p v xs) (fit : Bool) → num_fit d fit ≡ true → (fit ≡ true) × IsSignedIn p v
-num_shape (num_plain {place = p} {n = n}) fit is = let parts = and_parts fit (is_some (signed_in p false n)) is in (parts.0, signed_in_range p false n parts.1)
-num_shape (num_minus {place = p} {n = n}) fit is = let parts = and_parts fit (is_some (signed_in p true n)) is in (parts.0, signed_in_range p true n parts.1)
+-- what is known is good
+abbrev pub IsGood : Notes → Type 0
+IsGood s = (s.0 ≡ true) × (s.1 ≡ true)
 
-pair_shape : {p : SignedPlace} {x y : ℤ} {xs : List Piece} (d : SpellsPair p x y xs) (fit : Bool) → pair_fit d fit ≡ true → (fit ≡ true)
-    × IsSignedIn p x × IsSignedIn p y
-pair_shape (pair d e) fit is = let second = num_shape e (num_fit d fit) is in let first = num_shape d fit second.0 in (first.0, first.1, second.1)
+num_shape : {p : SignedPlace} {v : ℤ} {s t : Notes} {xs : List Piece} → SpellsNum p v s t xs → IsGood t → IsGood s × IsSignedIn p v
+num_shape (num_plain {place = p} {n = n} {s = s}) is =
+    let parts = and_parts s.0 (is_some (signed_in p false n)) is.0 in
+    ((parts.0, is.1), signed_in_range p false n parts.1)
+num_shape (num_minus {place = p} {n = n} {s = s}) is =
+    let parts = and_parts s.0 (is_some (signed_in p true n)) is.0 in
+    ((parts.0, is.1), signed_in_range p true n parts.1)
 
-points_shape : {ps : List Point} {xs : List Piece} (d : SpellsPoints ps xs) (fit : Bool) → points_fit d fit ≡ true → (fit ≡ true) × AllByRecursion IsPoint ps
-points_shape no_points fit is = (is, tt)
-points_shape (one_point d e) fit is =
-    let later = points_shape e (pair_fit d fit) is in
-    let this = pair_shape d fit later.0 in
+pair_shape : {p : SignedPlace} {x y : ℤ} {s t : Notes} {xs : List Piece} → SpellsPair p x y s t xs → IsGood t → IsGood s × IsSignedIn p x × IsSignedIn p y
+pair_shape (pair d e) is = let second = num_shape e is in let first = num_shape d second.0 in (first.0, first.1, second.1)
+
+points_shape : {ps : List Point} {s t : Notes} {xs : List Piece} → SpellsPoints ps s t xs → IsGood t → IsGood s × AllByRecursion IsPoint ps
+points_shape no_points is = (is, tt)
+points_shape (one_point d e) is =
+    let later = points_shape e is in
+    let this = pair_shape d later.0 in
     (this.0, ((this.1, this.2), later.1))
 
 -- ---- legs
 
-rate_legs_shape : {ls : List (ℤ × ℕ)} {xs : List Piece} (d : SpellsRateLegs ls xs) (fit : Bool) → rate_legs_fit d fit ≡ true → (fit ≡ true)
-    × AllByRecursion IsLeg ls
-rate_legs_shape no_rate_legs fit is = (is, tt)
-rate_legs_shape (one_rate_leg n d e) fit is =
-    let later = rate_legs_shape e (num_fit d fit && is_some (whole_in Steps n)) is in
-    let parts = and_parts (num_fit d fit) (is_some (whole_in Steps n)) later.0 in
-    let slope = num_shape d fit parts.0 in
+rate_legs_shape : {ls : List (ℤ × ℕ)} {s t : Notes} {xs : List Piece} → SpellsRateLegs ls s t xs → IsGood t → IsGood s × AllByRecursion IsLeg ls
+rate_legs_shape no_rate_legs is = (is, tt)
+rate_legs_shape (one_rate_leg n {t = t} d e) is =
+    let later = rate_legs_shape e is in
+    let parts = and_parts t.0 (is_some (whole_in Steps n)) later.0.0 in
+    let slope = num_shape d (parts.0, later.0.1) in
     (slope.0, ((slope.1, whole_in_range Steps n parts.1), later.1))
 
 -- a leg of both coordinates
 abbrev IsMoveLeg : (ℤ × ℤ) × ℕ → Type 0
 IsMoveLeg leg = IsLeg (leg.0.0, leg.1) × IsLeg (leg.0.1, leg.1)
 
-move_legs_shape : {ls : List ((ℤ × ℤ) × ℕ)} {xs : List Piece} (d : SpellsMoveLegs ls xs) (fit : Bool) → move_legs_fit d fit ≡ true
-    → (fit ≡ true) × AllByRecursion IsMoveLeg ls
-move_legs_shape no_move_legs fit is = (is, tt)
-move_legs_shape (one_move_leg n d e) fit is =
-    let later = move_legs_shape e (pair_fit d fit && is_some (whole_in Steps n)) is in
-    let parts = and_parts (pair_fit d fit) (is_some (whole_in Steps n)) later.0 in
-    let slopes = pair_shape d fit parts.0 in
+move_legs_shape : {ls : List ((ℤ × ℤ) × ℕ)} {s t : Notes} {xs : List Piece} → SpellsMoveLegs ls s t xs → IsGood t → IsGood s × AllByRecursion IsMoveLeg ls
+move_legs_shape no_move_legs is = (is, tt)
+move_legs_shape (one_move_leg n {t = t} d e) is =
+    let later = move_legs_shape e is in
+    let parts = and_parts t.0 (is_some (whole_in Steps n)) later.0.0 in
+    let slopes = pair_shape d (parts.0, later.0.1) in
     let ticks = whole_in_range Steps n parts.1 in
     (slopes.0, (((slopes.1, ticks), (slopes.2, ticks)), later.1))
 
@@ -170,21 +126,19 @@ function_is ls last few all =
 legs_shape : (ls : List (ℤ × ℕ)) (last : ℤ) → length ls ≤ MOST_FIRSTS → AllByRecursion IsLeg ls → IsRate last → AreLegs (record { firsts = ls; last = last })
 legs_shape ls last few all rate = record { few = few; firsts = all; last = rate }
 
-rates_shape : {f : Function} {xs : List Piece} (d : SpellsRates f xs) (fit small : Bool) → rates_fit d fit ≡ true → rates_small d small
-    ≡ true → (fit ≡ true) × (small ≡ true) × AreLegs f
-rates_shape (rates {ls = ls} {a = a} d e) fit small is few =
-    let last = num_shape e (rate_legs_fit d fit) is in
-    let firsts = rate_legs_shape d fit last.0 in
-    let sizes = and_parts small (are_few_legs (length ls)) few in
+rates_shape : {f : Function} {s t : Notes} {xs : List Piece} → SpellsRates f s t xs → IsGood t → IsGood s × AreLegs f
+rates_shape (rates {ls = ls} {a = a} {u = u} d e) is =
+    let sizes = and_parts u.1 (are_few_legs (length ls)) is.1 in
+    let last = num_shape e (is.0, sizes.0) in
+    let firsts = rate_legs_shape d last.0 in
     let count : length ls ≤ MOST_FIRSTS = leb-true (length ls) MOST_FIRSTS sizes.1 in
-    (firsts.0, sizes.0, subst AreLegs (sym (function_is ls a count firsts.1)) (legs_shape ls a count firsts.1 last.1))
+    (firsts.0, subst AreLegs (sym (function_is ls a count firsts.1)) (legs_shape ls a count firsts.1 last.1))
 
-moves_shape : {m : Function × Function} {xs : List Piece} (d : SpellsMoves m xs) (fit small : Bool) → moves_fit d fit ≡ true
-    → moves_small d small ≡ true → (fit ≡ true) × (small ≡ true) × AreMoves m.0 m.1
-moves_shape (moves {ls = ls} {a = a} {b = b} d e) fit small is few =
-    let last = pair_shape e (move_legs_fit d fit) is in
-    let firsts = move_legs_shape d fit last.0 in
-    let sizes = and_parts small (are_few_legs (length ls)) few in
+moves_shape : {m : Function × Function} {s t : Notes} {xs : List Piece} → SpellsMoves m s t xs → IsGood t → IsGood s × AreMoves m.0 m.1
+moves_shape (moves {ls = ls} {a = a} {b = b} {u = u} d e) is =
+    let sizes = and_parts u.1 (are_few_legs (length ls)) is.1 in
+    let last = pair_shape e (is.0, sizes.0) in
+    let firsts = move_legs_shape d last.0 in
     let count : length ls ≤ MOST_FIRSTS = leb-true (length ls) MOST_FIRSTS sizes.1 in
     let xs : List (ℤ × ℕ) = legs_of_x ls in
     let ys : List (ℤ × ℕ) = legs_of_y ls in
@@ -195,76 +149,71 @@ moves_shape (moves {ls = ls} {a = a} {b = b} d e) fit small is few =
     let both : AreMoves (record { firsts = xs; last = a }) (record { firsts = ys; last = b }) =
     record { x = legs_shape xs a x_count x_all last.1; y = legs_shape ys b y_count y_all last.2; lengths = same_lengths ls } in (
       firsts.0,
-      sizes.0,
       subst (λ f. AreMoves f (function_of ys b)) (sym (function_is xs a x_count x_all))
           (subst (λ g. AreMoves (record { firsts = xs; last = a }) g) (sym (function_is ys b y_count y_all)) both),
     )
 
 -- ---- what a command writes
 
-given_shape : {g : Given} {xs : List Piece} (d : SpellsGiven g xs) → HaveShapes xs → (fit small : Bool) → given_fit d fit ≡ true
-    → given_small d small ≡ true → (fit ≡ true) × (small ≡ true) × IsPrintableGiven g
-given_shape (given_num d) shapes fit small is few = let value = num_shape d fit is in (value.0, few, value.1)
-given_shape (given_both d e) shapes fit small is few =
-    let legs = rates_shape e (num_fit d fit) small is few in
-    let value = num_shape d fit legs.0 in
-    (value.0, legs.1, (value.1, legs.2))
-given_shape (given_text {t = t}) shapes fit small is few =
-    let sizes = and_parts small (is_short t) few in
-    (is, sizes.0, short_text t shapes.1.0.0 shapes.1.0.1 sizes.1)
-given_shape (given_rate d) shapes fit small is few = rates_shape d fit small is few
+given_shape : {g : Given} {s t : Notes} {xs : List Piece} → SpellsGiven g s t xs → HaveShapes xs → IsGood t → IsGood s × IsPrintableGiven g
+given_shape (given_num d) shapes is = num_shape d is
+given_shape (given_both d e) shapes is =
+    let legs = rates_shape e is in
+    let value = num_shape d legs.0 in
+    (value.0, (value.1, legs.1))
+given_shape (given_text {w = w} {s = s}) shapes is =
+    let sizes = and_parts s.1 (is_short w) is.1 in
+    ((is.0, sizes.0), short_text w shapes.1.0.0 shapes.1.0.1 sizes.1)
+given_shape (given_rate d) shapes is = rates_shape d is
 
-settings_shape : {ss : List NamedSet} {xs : List Piece} (d : SpellsSettings ss xs) → HaveShapes xs → (fit small : Bool) → settings_fit d fit
-    ≡ true → settings_small d small ≡ true → (fit ≡ true) × (small ≡ true) × AllByRecursion IsSetting ss
-settings_shape no_settings shapes fit small is few = (is, few, tt)
-settings_shape (one_setting {n = n} {xs = xs} {ys = ys} d e) shapes fit small is few =
-    let later = settings_shape e (all_back HasShape xs ys shapes.1) (given_fit d fit) (given_small d (small && is_short n)) is few in
-    let given = given_shape d (all_front HasShape xs ys shapes.1) fit (small && is_short n) later.0 later.1 in
-    let sizes = and_parts small (is_short n) given.1 in
-    (given.0, sizes.0, ((short_name n shapes.0.0 sizes.1, given.2), later.2))
+settings_shape : {ss : List NamedSet} {s t : Notes} {xs : List Piece} → SpellsSettings ss s t xs → HaveShapes xs → IsGood t
+    → IsGood s × AllByRecursion IsSetting ss
+settings_shape no_settings shapes is = (is, tt)
+settings_shape (one_setting {n = n} {xs = xs} {ys = ys} {s = s} d e) shapes is =
+    let later = settings_shape e (all_back HasShape xs ys shapes.1) is in
+    let given = given_shape d (all_front HasShape xs ys shapes.1) later.0 in
+    let sizes = and_parts s.1 (is_short n) given.0.1 in
+    ((given.0.0, sizes.0), ((short_name n shapes.0.0 sizes.1, given.1), later.1))
 
-at_shape : {p : Option Point} {xs : List Piece} (d : SpellsAt p xs) (fit : Bool) → at_fit d fit ≡ true → (fit ≡ true) × IsAt p
-at_shape not_at fit is = (is, tt)
-at_shape (at d) fit is = let point = pair_shape d fit is in (point.0, (point.1, point.2))
+at_shape : {p : Option Point} {s t : Notes} {xs : List Piece} → SpellsAt p s t xs → IsGood t → IsGood s × IsAt p
+at_shape not_at is = (is, tt)
+at_shape (at d) is = let point = pair_shape d is in (point.0, (point.1, point.2))
 
-moving_shape : {m : Option (Function × Function)} {xs : List Piece} (d : SpellsMoving m xs) (fit small : Bool) → moving_fit d fit ≡ true
-    → moving_small d small ≡ true → (fit ≡ true) × (small ≡ true) × IsMoving m
-moving_shape not_moving fit small is few = (is, few, tt)
-moving_shape (moving d) fit small is few = moves_shape d fit small is few
+moving_shape : {m : Option (Function × Function)} {s t : Notes} {xs : List Piece} → SpellsMoving m s t xs → IsGood t → IsGood s × IsMoving m
+moving_shape not_moving is = (is, tt)
+moving_shape (moving d) is = moves_shape d is
 
-change_shape : {p : Place} {ss : List NamedSet} {xs : List Piece} (d : SpellsChange p ss xs) → HaveShapes xs → (fit small : Bool)
-    → change_fit d fit ≡ true → change_small d small ≡ true → (fit ≡ true) × (small ≡ true) × IsChange p ss
-change_shape (change {xs = xs} {ys = ys} {zs = zs} d e f) shapes fit small is few =
-    let sets = settings_shape f (all_back HasShape ys zs (all_back HasShape xs (ys ++ zs) shapes)) (moving_fit e (at_fit d fit))
-    (moving_small e small) is few in
-    let legs = moving_shape e (at_fit d fit) small sets.0 sets.1 in
-    let point = at_shape d fit legs.0 in
-    (point.0, legs.1, record { at = point.1; moving = legs.2; settings = sets.2 })
+change_shape : {p : Place} {ss : List NamedSet} {s t : Notes} {xs : List Piece} → SpellsChange p ss s t xs → HaveShapes xs → IsGood t
+    → IsGood s × IsChange p ss
+change_shape (change {xs = xs} {ys = ys} {zs = zs} d e f) shapes is =
+    let sets = settings_shape f (all_back HasShape ys zs (all_back HasShape xs (ys ++ zs) shapes)) is in
+    let legs = moving_shape e sets.0 in
+    let point = at_shape d legs.0 in
+    (point.0, record { at = point.1; moving = legs.1; settings = sets.1 })
 
 -- ---- attributes
 
-attr_shape : {a : List ℕ × AttrKind} {xs : List Piece} (d : SpellsAttr a xs) → HaveShapes xs → (small : Bool) → attr_small d small ≡ true
-    → (small ≡ true) × IsShortName a.0
-attr_shape (attr_num {n = n}) shapes small few = let sizes = and_parts small (is_short n) few in (sizes.0, short_name n shapes.0.0 sizes.1)
-attr_shape (attr_text {n = n}) shapes small few = let sizes = and_parts small (is_short n) few in (sizes.0, short_name n shapes.0.0 sizes.1)
-attr_shape (attr_dyn {n = n}) shapes small few = let sizes = and_parts small (is_short n) few in (sizes.0, short_name n shapes.0.0 sizes.1)
+attr_shape : {a : List ℕ × AttrKind} {s t : Notes} {xs : List Piece} → SpellsAttr a s t xs → HaveShapes xs → IsGood t → IsGood s × IsShortName a.0
+attr_shape (attr_num {n = n} {s = s}) shapes is = let sizes = and_parts s.1 (is_short n) is.1 in ((is.0, sizes.0), short_name n shapes.0.0 sizes.1)
+attr_shape (attr_text {n = n} {s = s}) shapes is = let sizes = and_parts s.1 (is_short n) is.1 in ((is.0, sizes.0), short_name n shapes.0.0 sizes.1)
+attr_shape (attr_dyn {n = n} {s = s}) shapes is = let sizes = and_parts s.1 (is_short n) is.1 in ((is.0, sizes.0), short_name n shapes.0.0 sizes.1)
 
-more_attrs_shape : {more : List (List ℕ × AttrKind)} {xs : List Piece} (d : SpellsMoreAttrs more xs) → HaveShapes xs → (small : Bool)
-    → more_attrs_small d small ≡ true → (small ≡ true) × AllByRecursion IsAttribute more
-more_attrs_shape no_more_attrs shapes small few = (few, tt)
-more_attrs_shape (one_more_attr {xs = xs} {ys = ys} d e) shapes small few =
-    let later = more_attrs_shape e (all_back HasShape xs ys shapes.1) (attr_small d small) few in
-    let this = attr_shape d (all_front HasShape xs ys shapes.1) small later.0 in
+more_attrs_shape : {more : List (List ℕ × AttrKind)} {s t : Notes} {xs : List Piece} → SpellsMoreAttrs more s t xs → HaveShapes xs → IsGood t
+    → IsGood s × AllByRecursion IsAttribute more
+more_attrs_shape no_more_attrs shapes is = (is, tt)
+more_attrs_shape (one_more_attr {xs = xs} {ys = ys} d e) shapes is =
+    let later = more_attrs_shape e (all_back HasShape xs ys shapes.1) is in
+    let this = attr_shape d (all_front HasShape xs ys shapes.1) later.0 in
     (this.0, (this.1, later.1))
 
-attrs_shape : {attrs : List (List ℕ × AttrKind)} {xs : List Piece} (d : SpellsAttrs attrs xs) → HaveShapes xs → (small : Bool)
-    → attrs_small d small ≡ true → (small ≡ true) × AreAttributes attrs
-attrs_shape no_attrs shapes small few = (few, record { few = omega arith; each = tt })
-attrs_shape (some_attrs {a = a} {xs = xs} {rest = more} {ys = ys} d e) shapes small few =
-    let sizes = and_parts (more_attrs_small e (attr_small d small)) (are_few_attributes (length (a ∷ more))) few in
-    let later = more_attrs_shape e (all_front HasShape ys (SIGN CLOSE_ROUND ∷ [])
-    (all_back HasShape xs (ys ++ SIGN CLOSE_ROUND ∷ []) shapes.1)) (attr_small d small) sizes.0 in
-    let this = attr_shape d (all_front HasShape xs (ys ++ SIGN CLOSE_ROUND ∷ []) shapes.1) small later.0 in
+attrs_shape : {attrs : List (List ℕ × AttrKind)} {s t : Notes} {xs : List Piece} → SpellsAttrs attrs s t xs → HaveShapes xs → IsGood t
+    → IsGood s × AreAttributes attrs
+attrs_shape no_attrs shapes is = (is, record { few = omega arith; each = tt })
+attrs_shape (some_attrs {a = a} {xs = xs} {rest = more} {ys = ys} {u = u} d e) shapes is =
+    let sizes = and_parts u.1 (are_few_attributes (length (a ∷ more))) is.1 in
+    let behind = all_back HasShape xs (ys ++ SIGN CLOSE_ROUND ∷ []) shapes.1 in
+    let later = more_attrs_shape e (all_front HasShape ys (SIGN CLOSE_ROUND ∷ []) behind) (is.0, sizes.0) in
+    let this = attr_shape d (all_front HasShape xs (ys ++ SIGN CLOSE_ROUND ∷ []) shapes.1) later.0 in
     (this.0, record { few = leb-true (length (a ∷ more)) ATTRIBUTE_LIMIT sizes.1; each = (this.1, later.1) })
 
 -- ---- queries
@@ -276,55 +225,10 @@ fixed_none (p ∷ table) zero all = all.0
 fixed_none (p ∷ table) (suc code) all = fixed_none table code all.1
 
 words_none : AllByRecursion (λ p. piece_lists texts_alone p ≡ []) query.reserved
-words_none = (
-  refl,
-  (
-    refl,
-    (
-      refl,
-      (
-        refl,
-        (
-          refl,
-          (
-            refl,
-            (
-              refl,
-              (
-                refl,
-                (
-                  refl,
-                  (
-                    refl,
-                    (
-                      refl,
-                      (
-                        refl,
-                        (
-                          refl,
-                          (
-                            refl,
-                            (
-                              refl,
-                              (
-                                refl,
-                                (refl, (refl, (refl, (refl, (refl, (refl, (refl, (refl, (refl, tt))))))))),
-                              ),
-                            ),
-                          ),
-                        ),
-                      ),
-                    ),
-                  ),
-                ),
-              ),
-            ),
-          ),
-        ),
-      ),
-    ),
-  ),
-)
+words_none = (refl, (refl, (refl, (refl, (refl, (refl, (refl, (refl, (refl, (refl, (refl, (refl, others_none))))))))))))
+  where
+    others_none : AllByRecursion (λ p. piece_lists texts_alone p ≡ []) (drop 12 query.reserved)
+    others_none = (refl, (refl, (refl, (refl, (refl, (refl, (refl, (refl, (refl, (refl, (refl, (refl, (refl, tt)))))))))))))
 
 signs_none : AllByRecursion (λ p. piece_lists texts_alone p ≡ []) query.signs
 signs_none = (refl, (refl, (refl, (refl, (refl, (refl, (refl, (refl, (refl, (refl, (refl, (refl, (refl, (refl, (refl, (refl, tt))))))))))))))))
@@ -383,41 +287,41 @@ tails_behind xs ys tails n q d =
 
 -- ---- commands
 
-part_shape : {p : Part} {xs : List Piece} (d : SpellsPart p xs) → HaveShapes xs → (fit small : Bool) → part_fit d fit ≡ true
-    → part_small d small ≡ true → (fit ≡ true) × (small ≡ true) × IsPart p
-part_shape (part_verb w) shapes fit small is few = (is, few, w)
-part_shape (part_name {n = n}) shapes fit small is few = let sizes = and_parts small (is_short n) few in (is, sizes.0, short_name n shapes.0.0 sizes.1)
-part_shape (part_text {t = t}) shapes fit small is few = let sizes = and_parts small (is_short t) few in
-    (is, sizes.0, short_text t shapes.0.0 shapes.0.1 sizes.1)
-part_shape (part_whole {place = p} {n = n}) shapes fit small is few = let numbers = and_parts fit (is_some (whole_in p n)) is in
-    (numbers.0, few, whole_in_range p n numbers.1)
-part_shape (part_error {n = n}) shapes fit small is few = let numbers = and_parts fit (is_some (radius_in n)) is in
-    (numbers.0, few, radius_in_range n shapes.0 numbers.1)
-part_shape (part_num d) shapes fit small is few = let number = num_shape d fit is in (number.0, few, number.1)
-part_shape (part_point_word d) shapes fit small is few = (is, few, tt)
-part_shape (part_attrs d) shapes fit small is few = let attrs = attrs_shape d shapes small few in (is, attrs.0, attrs.1)
-part_shape (part_points {p = p} {q = q} {r = r} {ps = ps} d) shapes fit small is few =
-    let sizes = and_parts small (are_few_vertices (length (p ∷ q ∷ r ∷ ps))) few in
-    let points = points_shape d fit is in
-    (points.0, sizes.0, record { count = (omega arith, leb-true (length (p ∷ q ∷ r ∷ ps)) VERTEX_LIMIT sizes.1); each = points.1 })
-part_shape (part_change d) shapes fit small is few = change_shape d shapes fit small is few
+part_shape : {p : Part} {s t : Notes} {xs : List Piece} → SpellsPart p s t xs → HaveShapes xs → IsGood t → IsGood s × IsPart p
+part_shape (part_verb w) shapes is = (is, w)
+part_shape (part_name {n = n} {s = s}) shapes is = let sizes = and_parts s.1 (is_short n) is.1 in ((is.0, sizes.0), short_name n shapes.0.0 sizes.1)
+part_shape (part_text {w = w} {s = s}) shapes is =
+    let sizes = and_parts s.1 (is_short w) is.1 in
+    ((is.0, sizes.0), short_text w shapes.0.0 shapes.0.1 sizes.1)
+part_shape (part_whole {place = p} {n = n} {s = s}) shapes is =
+    let numbers = and_parts s.0 (is_some (whole_in p n)) is.0 in
+    ((numbers.0, is.1), whole_in_range p n numbers.1)
+part_shape (part_error {n = n} {s = s}) shapes is =
+    let numbers = and_parts s.0 (is_some (radius_in n)) is.0 in
+    ((numbers.0, is.1), radius_in_range n shapes.0 numbers.1)
+part_shape (part_num d) shapes is = num_shape d is
+part_shape (part_point_word d) shapes is = (is, tt)
+part_shape (part_attrs d) shapes is = attrs_shape d shapes is
+part_shape (part_points {p = p} {q = q} {r = r} {ps = ps} {t = t} d) shapes is =
+    let sizes = and_parts t.1 (are_few_vertices (length (p ∷ q ∷ r ∷ ps))) is.1 in
+    let points = points_shape d (is.0, sizes.0) in
+    (points.0, record { count = (omega arith, leb-true (length (p ∷ q ∷ r ∷ ps)) VERTEX_LIMIT sizes.1); each = points.1 })
+part_shape (part_change d) shapes is = change_shape d shapes is
 
-parts_shape : {ps : Parts} {xs : List Piece} (d : SpellsParts ps xs) → HaveShapes xs → AreTails xs → (fit small : Bool) → parts_fit d fit
-    ≡ true → parts_small d small ≡ true → (fit ≡ true) × (small ≡ true) × AreParts ps
-parts_shape no_parts shapes tails fit small is few = (is, few, tt)
-parts_shape (last_part d) shapes tails fit small is few = part_shape d shapes fit small is few
-parts_shape (last_query {q = q} {xs = xs} d) shapes tails fit small is few =
-    let numbers = and_parts fit (is_none (first_unfit d)) is in
-    let sizes = and_parts small (is_query_small (has_long xs) q) few in
-    (numbers.0, sizes.0, query_is q xs d shapes (tails 0 q d) sizes.1)
-parts_shape (part_before {xs = xs} {ys = ys} d e) shapes tails fit small is few =
-    let later = parts_shape e (all_back HasShape xs ys shapes) (tails_behind xs ys tails) (part_fit d fit) (part_small d small) is few in
-    let this = part_shape d (all_front HasShape xs ys shapes) fit small later.0 later.1 in
-    (this.0, this.1, (this.2, later.2))
+parts_shape : {ps : Parts} {s t : Notes} {xs : List Piece} → SpellsParts ps s t xs → HaveShapes xs → AreTails xs → IsGood t → IsGood s × AreParts ps
+parts_shape no_parts shapes tails is = (is, tt)
+parts_shape (last_part d) shapes tails is = part_shape d shapes is
+parts_shape (last_query {q = q} {xs = xs} {s = s} d) shapes tails is =
+    let numbers = and_parts s.0 (is_none (first_unfit d)) is.0 in
+    let sizes = and_parts s.1 (is_query_small (has_long xs) q) is.1 in
+    ((numbers.0, sizes.0), query_is q xs d shapes (tails 0 q d) sizes.1)
+parts_shape (part_before {xs = xs} {ys = ys} d e) shapes tails is =
+    let later = parts_shape e (all_back HasShape xs ys shapes) (tails_behind xs ys tails) is in
+    let this = part_shape d (all_front HasShape xs ys shapes) later.0 in
+    (this.0, (this.1, later.1))
 
-command_shape : {c : CommandTree} {xs : List Piece} (d : SpellsCommand c xs) → HaveShapes xs → AreTails xs → numbers_fit d ≡ true
-    → sizes_fit d ≡ true → IsPrintable c
-command_shape (by_parts d) shapes tails is few = (parts_shape d shapes tails true true is few).2
+command_shape : {c : CommandTree} {xs : List Piece} → SpellsCommand c good xs → HaveShapes xs → AreTails xs → IsPrintable c
+command_shape (by_parts d) shapes tails = (parts_shape d shapes tails (refl, refl)).1
 
 -- queries at the end of a line
 line_tails : (line : List ℕ) → AreTails (pieces line)
@@ -428,6 +332,5 @@ line_tails line n q d =
       shape = spelled_shape n line q spelled;
     }
 
-pub line_shape : (line : List ℕ) (c : CommandTree) (d : SpellsCommand c (pieces line)) → IsAscii line → numbers_fit d ≡ true → sizes_fit d
-    ≡ true → IsPrintable c
-line_shape line c d ascii is few = command_shape d (line_has line ascii) (line_tails line) is few
+pub line_shape : (line : List ℕ) (c : CommandTree) → SpellsCommand c good (pieces line) → IsAscii line → IsPrintable c
+line_shape line c d ascii = command_shape d (line_has line ascii) (line_tails line)

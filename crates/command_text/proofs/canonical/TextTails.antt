@@ -1,34 +1,17 @@
 -- The text of a query at the end of a canonical line.
-use Rattle.std.proofs.Common.{◌≡◌, ℕ, Bool, true, false, not, List, [], ◌∷◌, map, None, refl, sym, ap, subst, ◌∙◌}
-use Rattle.std.specs.Prelude.{is_none}
-use Rattle.std.specs.List.{AllByRecursion}
-use Rattle.std.proofs.lemmas.Bool.{or_parts}
-use Rattle.ftl_lexer.specs.declared.kinds.Kind.{Kind}
+use Rattle.command_text.proofs.Names.{◌≡◌, ℕ, Bool, true, false, not, List, [], ◌∷◌, map, None, refl, sym, ap, subst, ◌∙◌, is_none, AllByRecursion, or_parts, Kind, Lexeme, HaveForms, lexemes, QueryTree, SpellsQuery, first_unfit, first_too_large, piece_lists, texts_alone, token_texts, query_text, IsReadAs, Piece, pieces, in_query, has_long, is_query_small, SpellsTail, IsAscii, IsQuery}
 use Rattle.ftl_lexer.specs.declared.kinds.Kind.TheVariants as kinds
-use Rattle.ftl_lexer.specs.Cut.{Lexeme}
-use Rattle.ftl_lexer.specs.Laws.{HaveForms}
-use Rattle.ftl_lexer.specs.Tokens.{lexemes}
 use Rattle.ftl_lexer.proofs.Cuts.{cut_from_good}
 use Rattle.ftl_lexer.proofs.Shapes.{tokens_have_forms}
-use Rattle.ftl_parser.specs.Tree.{QueryTree}
 use Rattle.ftl_parser.specs.Piece as query
-use Rattle.ftl_parser.specs.Grammar.{SpellsQuery}
-use Rattle.ftl_parser.specs.Marks.{first_unfit}
-use Rattle.ftl_parser.specs.Sizes.{first_too_large}
 use Rattle.ftl_parser.specs.Words.{is_short}
-use Rattle.ftl_parser.specs.Order.{piece_lists, texts_alone, token_texts}
-use Rattle.ftl_parser.specs.Text.{query_text}
-use Rattle.ftl_parser.specs.TextLaws.{IsReadAs}
 use Rattle.ftl_parser.proofs.grammar.OrderLemmas.{lists-query}
 use Rattle.ftl_parser.proofs.canonical.TextReads.{reads_what_is_printed}
-use Rattle.command_text.specs.Piece.{Piece, pieces, in_query, has_long}
-use Rattle.command_text.specs.inner.Query.{is_query_small}
-use Rattle.command_text.specs.Grammar.{SpellsTail}
-use Rattle.command_text.specs.Shape.{IsAscii, IsQuery}
 use Rattle.command_text.proofs.grammar.QueryLemmas.{tail_pieces}
-use Rattle.command_text.proofs.canonical.TextAscii.{AreAscii, inner, form_ascii, cut_ascii}
+use Rattle.command_text.proofs.canonical.TextAscii.{AreAscii, inner, form_ascii}
 use Rattle.command_text.proofs.canonical.TextCuts.{IsCut}
-use Rattle.command_text.proofs.canonical.TextShapes.{all_front, all_back, word_is}
+use Rattle.ftl_parser.proofs.canonical.TextShapes.{all_front, all_back}
+use Rattle.command_text.proofs.canonical.TextShapes.{word_is}
 
 not_long : (b : Bool) → not b ≡ false → b ≡ true
 not_long true h = refl
@@ -74,7 +57,6 @@ tail_cut q shape =
     subst (AllByRecursion IsAscii) (lists-query texts_alone read.spelled) shape.ascii in
     let spelled : (d : SpellsQuery q (map in_query (pieces line))) × (first_unfit d ≡ None) =
     subst (λ (xs : List query.Piece). (d : SpellsQuery q xs) × (first_unfit d ≡ None)) (tail_pieces 0 line).pieces (read.spelled, read.fit) in
-    let found = cut_from_good line read.no_bad_token in
     record {
       tokens = pieces line;
       spelled = spelled.0;
@@ -82,8 +64,8 @@ tail_cut q shape =
       small = small_is (has_long (pieces line)) q shape (sym (tail_pieces 0 line).long ∙ read.short);
       is_cut = record {
         lexed = lexemes line;
-        cut_is = found;
+        cut_is = cut_from_good line read.no_bad_token;
         pieces_are = refl;
-        ascii = cut_ascii line (lexemes line) found (lexemes_ascii (lexemes line) (tokens_have_forms line) read.short texts);
+        good = lexemes_ascii (lexemes line) (tokens_have_forms line) read.short texts;
       };
     }

@@ -1,42 +1,25 @@
 -- What is read of tokens and of lines, and why lines are refused, in words of the grammar.
-use Rattle.std.proofs.Common.{◌≡◌, ℕ, Bool, true, false, List, [], ◌∷◌, Option, Some, None, option_map, refl, sym, ◌∙◌, ap, subst}
-use Rattle.std.specs.Prelude.{Result, Ok, Err, IfOk, IfErr, if◌then◌else◌}
-use Rattle.command_text.specs.declared.command.Command.{Command}
-use Rattle.command_text.specs.declared.fault.CommandFault.{CommandFault}
+use Rattle.command_text.proofs.Names.{◌≡◌, ℕ, Bool, true, false, List, [], ◌∷◌, Option, Some, None, option_map, refl, sym, ◌∙◌, ap, ap₂, subst, Result, Ok, Err, IfOk, IfErr, if◌then◌else◌, Command, CommandFault, Refusal, Piece, pieces, CommandTree, command_view, Notes, good, SpellsCommand, Reader, Read, notes, before, at_first, command_of, first_that_holds, is_comment, is_too_long, has_other_byte, has_bad_token, command_in, early_refusal, late_refusal, first_refusal, or_else, IsRead, AreReadByTheGrammar, PassesTheFirstThree, IsJudgedByTokens, SpellsWithinLimits, SpellsNoCommand, IsReadByTheGrammar, IsRefusedByTheGrammar, IsSpelled, IsFaultOf}
 use Rattle.command_text.specs.declared.fault.CommandFault.TheVariants as faults
-use Rattle.command_text.specs.declared.refusal.Refusal.{Refusal}
 use Rattle.command_text.specs.declared.refusal.Refusal.TheVariants as refusals
-use Rattle.command_text.specs.Piece.{Piece, pieces}
 use Rattle.command_text.specs.Tree
-use Rattle.command_text.specs.Tree.{CommandTree, command_view}
-use Rattle.command_text.specs.Grammar.{SpellsCommand}
-use Rattle.command_text.specs.Judged.{numbers_fit, sizes_fit}
-use Rattle.command_text.specs.inner.Reading.{Reader, Read, at_first, command_of}
-use Rattle.exact.specs.First.{first_that_holds}
-use Rattle.command_text.specs.Line.{is_comment, is_too_long, has_other_byte, has_bad_token, command_in, early_refusal, late_refusal, first_refusal, or_else, IsRead, Explains}
-use Rattle.command_text.specs.GrammarLaws.{told_of, AreReadByTheGrammar, PassesTheFirstThree, IsJudgedByTokens, SpellsWithinLimits, SpellsNoCommand, IsReadByTheGrammar, IsRefusedByTheGrammar, IsSpelled, IsFaultOf}
+use Rattle.command_text.specs.Line.{Explains}
 use Rattle.command_text.proofs.grammar.SpelledCommands.{command_spelled, one_command}
 use Rattle.command_text.proofs.grammar.Derived.{map_some}
 use Rattle.command_text.proofs.grammar.DerivedCommands.{command_derived}
 
 pub tokens_are_read : (tokens : List Piece) → AreReadByTheGrammar tokens
 tokens_are_read tokens = record {
-  spelled_is_read = λ c spelled. command_spelled spelled;
+  spelled_is_read = λ c s spelled. command_spelled spelled;
   read_is_spelled = λ c r e. command_derived tokens c r e;
-  one_command = λ c d e f. one_command tokens c d e f;
+  one_command = λ c d s t e f. one_command tokens c d s t e f;
 }
 
--- what the reader tells of tokens is what their derivation does
-record ToldBy (tokens : List Piece) (x : CommandTree × Reader) : Type 0 where
-  spelled : SpellsCommand x.0 tokens
-  numbers : numbers_fit spelled ≡ x.1.fit
-  sizes : sizes_fit spelled ≡ x.1.small
-
-told_by : (tokens : List Piece) (x : CommandTree × Reader) → command_of tokens ≡ Some x → ToldBy tokens x
-told_by tokens x e =
-    let d : SpellsCommand x.0 tokens = command_derived tokens x.0 x.1 e in
-    let same : told_of d ≡ x = cc (command_spelled d) in
-    record { spelled = d; numbers = ap (λ (r : CommandTree × Reader). r.1.fit) same; sizes = ap (λ (r : CommandTree × Reader). r.1.small) same }
+-- what is read, where this is known of its numbers and sizes
+derived_with : (tokens : List Piece) (x : CommandTree × Reader) (s : Notes) → command_of tokens ≡ Some x → x.1.fit ≡ s.0 → x.1.small ≡ s.1
+    → SpellsCommand x.0 s tokens
+derived_with tokens x s e fit small =
+    subst (λ (m : Notes). SpellsCommand x.0 m tokens) (ap₂ (λ (f g : Bool). (f, g)) fit small) (command_derived tokens x.0 x.1 e)
 
 -- ---- Which refusal is told
 
@@ -133,22 +116,16 @@ nothing_is_read limit line c e early h = record {
 read_is_spelled : (limit : ℕ) (line : List ℕ) (c : CommandTree) → is_comment line ≡ false → IsRead limit line c → SpellsWithinLimits line c
 read_is_spelled limit line c e r =
     let a = map_some tree_of (command_of (pieces line)) c (sym (ap (option_map tree_of) (tokens_in line e)) ∙ r.command) in
-    let d : SpellsCommand c (pieces line) = subst (λ c. SpellsCommand c (pieces line)) a.2 (told_by (pieces line) a.0 a.1).spelled in
-    let late : late_refusal (Some (told_of d)) ≡ None =
-    sym (ap late_refusal (tokens_in line e ∙ command_spelled d)) ∙ sym (first_of_late limit line (passes limit line c r)) ∙ r.taken in
-    let fit = late_none c [] (numbers_fit d) (sizes_fit d) late in
-    record { spelled = d; numbers = fit.0; sizes = fit.1 }
+    let late : late_refusal (Some a.0) ≡ None =
+    sym (ap late_refusal (tokens_in line e ∙ a.1)) ∙ sym (first_of_late limit line (passes limit line c r)) ∙ r.taken in
+    let fit = late_none a.0.0 a.0.1.rest a.0.1.fit a.0.1.small late in
+    subst (SpellsWithinLimits line) a.2 (derived_with (pieces line) a.0 good a.1 fit.0 fit.1)
 
 spelled_is_read : (limit : ℕ) (line : List ℕ) (c : CommandTree) → is_comment line ≡ false → PassesTheFirstThree limit line
     → SpellsWithinLimits line c → IsRead limit line c
 spelled_is_read limit line c e early d =
-    let found : command_in line ≡ Some (told_of d.spelled) = tokens_in line e ∙ command_spelled d.spelled in
-    record {
-      taken = first_of_late limit line early ∙ ap late_refusal found
-          ∙ ap (λ fit. late_refusal (Some (c, record { rest = []; fit = fit; small = sizes_fit d.spelled }))) d.numbers
-          ∙ ap (λ small. late_refusal (Some (c, record { rest = []; fit = true; small = small }))) d.sizes;
-      command = ap (option_map tree_of) found;
-    }
+    let found : command_in line ≡ Some (c, before [] good) = tokens_in line e ∙ command_spelled d in
+    record { taken = first_of_late limit line early ∙ ap late_refusal found; command = ap (option_map tree_of) found }
 
 pub lines_are_read : (limit : ℕ) (line : List ℕ) → IsReadByTheGrammar limit line
 lines_are_read limit line = record {
@@ -186,14 +163,14 @@ refused_late limit line found o e = first_of_late limit line o.passed ∙ ap lat
 
 -- no command
 no_command : (line : List ℕ) → command_of (pieces line) ≡ None → SpellsNoCommand line
-no_command line e c d = let read = command_spelled d in cc
+no_command line e c s d = let read = command_spelled d in cc
 
-none_read : (tokens : List Piece) → ((c : CommandTree) → SpellsCommand c tokens → ⊥) → command_of tokens ≡ None
+none_read : (tokens : List Piece) → ((c : CommandTree) (s : Notes) → SpellsCommand c s tokens → ⊥) → command_of tokens ≡ None
 none_read tokens none = by_found (command_of tokens) refl
   where
     by_found : (o : Read CommandTree) → command_of tokens ≡ o → o ≡ None
     by_found None e = refl
-    by_found (Some x) e = absurd (none x.0 (command_derived tokens x.0 x.1 e))
+    by_found (Some x) e = absurd (none x.0 (notes x.1) (command_derived tokens x.0 x.1 e))
 
 pub lines_are_refused : (limit : ℕ) (line : List ℕ) → IsRefusedByTheGrammar limit line
 lines_are_refused limit line refusals.BadSyntax = (
@@ -203,21 +180,15 @@ lines_are_refused limit line refusals.BadSyntax = (
 lines_are_refused limit line refusals.NumberRange = (
   (λ e.
       let a = late_refused limit line refusals.NumberRange (λ h. h) e in
-      let d = told_by (pieces line) a.1.0 a.1.1 in
-      (a.0, record { command = a.1.0.0; spelled = d.spelled; numbers = d.numbers ∙ a.1.2 })),
-  (λ h.
-      refused_late limit line (Some (told_of h.1.spelled)) h.0 (command_spelled h.1.spelled)
-      ∙ ap (λ fit. late_refusal (Some (h.1.command, record { rest = []; fit = fit; small = sizes_fit h.1.spelled }))) h.1.numbers),
+      let x = a.1.0 in
+      (a.0, (x.0, x.1.small, derived_with (pieces line) x (false, x.1.small) a.1.1 a.1.2 refl))),
+  (λ h. refused_late limit line (Some (h.1.0, before [] (false, h.1.1))) h.0 (command_spelled h.1.2)),
 )
 lines_are_refused limit line refusals.TooLarge = (
   (λ e.
       let a = late_refused limit line refusals.TooLarge (λ h. h) e in
-      let d = told_by (pieces line) a.1.0 a.1.1 in
-      (a.0, record { command = a.1.0.0; spelled = d.spelled; numbers = d.numbers ∙ a.1.2; sizes = d.sizes ∙ a.1.3 })),
-  (λ h.
-      refused_late limit line (Some (told_of h.1.spelled)) h.0 (command_spelled h.1.spelled)
-      ∙ ap (λ fit. late_refusal (Some (h.1.command, record { rest = []; fit = fit; small = sizes_fit h.1.spelled }))) h.1.numbers
-      ∙ ap (λ small. late_refusal (Some (h.1.command, record { rest = []; fit = true; small = small }))) h.1.sizes),
+      (a.0, (a.1.0.0, derived_with (pieces line) a.1.0 (true, false) a.1.1 a.1.2 a.1.3))),
+  (λ h. refused_late limit line (Some (h.1.0, before [] (true, false))) h.0 (command_spelled h.1.1)),
 )
 lines_are_refused limit line r = (early_refused limit line r (λ found h. h), refused_early limit line r)
 

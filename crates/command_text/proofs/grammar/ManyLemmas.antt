@@ -1,11 +1,6 @@
 -- Reading items one after another, as a loop does: what was read so far stands before what is left.
-use Rattle.std.proofs.Common.{◌≡◌, ℕ, zero, suc, ◌<◌, ◌≤◌, Bool, true, false, List, [], ◌∷◌, ◌++◌, length, Option, Some, None, refl, sym, ◌∙◌, ap, arith, append_assoc, append-nil}
-use Rattle.std.specs.Prelude.{if◌then◌else◌}
-use Rattle.exact.specs.Options.{◌>>=◌}
-use Rattle.command_text.specs.declared.fault.CommandFault.{CommandFault}
+use Rattle.command_text.proofs.Names.{◌≡◌, ℕ, zero, suc, ◌<◌, ◌≤◌, Bool, true, false, List, [], ◌∷◌, ◌++◌, length, Option, Some, None, refl, sym, ◌∙◌, ap, arith, append_assoc, append-nil, if◌then◌else◌, ◌>>=◌, CommandFault, Stops, Reader, Read, many, all, with_front}
 use Rattle.command_text.specs.declared.fault.CommandFault.TheVariants as faults
-use Rattle.command_text.specs.inner.Standing.{Stops}
-use Rattle.command_text.specs.inner.Reading.{Reader, Read, many, all, with_front}
 use Rattle.command_text.proofs.grammar.Shorter.{Shortens}
 
 same_steps : {A B : Type 0} (o : Option A) (f g : A → Option B) → ((x : A) → o ≡ Some x → f x ≡ g x) → (o >>= f) ≡ (o >>= g)

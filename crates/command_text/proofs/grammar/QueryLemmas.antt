@@ -1,33 +1,16 @@
 -- The parser's answer, for the query at the end of a command.
-use Rattle.std.proofs.Common.{◌≡◌, ℕ, Bool, true, false, ◌&&◌, ◌||◌, List, [], ◌∷◌, drop, map, Option, Some, None, refl, sym, ◌∙◌, ap, subst}
-use Rattle.std.specs.Prelude.{is_none, option_map, if◌then◌else◌}
-use Rattle.std.proofs.lemmas.List.{drop-map}
-use Rattle.ftl_lexer.specs.declared.kinds.Kind.{Kind}
+use Rattle.command_text.proofs.Names.{◌≡◌, ℕ, Bool, true, false, ◌&&◌, ◌||◌, List, [], ◌∷◌, map, Option, Some, None, refl, sym, ◌∙◌, ap, subst, is_none, option_map, if◌then◌else◌, drop-map, Kind, Lexeme, lexemes, QueryTree, SpellsQuery, first_unfit, start, parsed, first_too_large, Reads, CommandFault, Piece, piece_of, pieces, in_query, is_long, has_long, query_of, is_query_fit, is_query_small, fault_by_parser, Reader, Read, notes, before, query, and_number, and_size, late_refusal, is_at_end, Refuses, At, standing}
+use Rattle.std.proofs.Common.{drop}
 use Rattle.ftl_lexer.specs.declared.kinds.Kind.TheVariants as kinds
-use Rattle.ftl_lexer.specs.Cut.{Lexeme}
-use Rattle.ftl_lexer.specs.Tokens.{lexemes}
 use Rattle.ftl_parser.specs.declared.fault.ParseFault.{ParseFault}
 use Rattle.ftl_parser.specs.declared.fault.ParseFault.TheVariants as parse_faults
-use Rattle.ftl_parser.specs.Tree.{QueryTree}
 use Rattle.ftl_parser.specs.Piece as query_piece
-use Rattle.ftl_parser.specs.Grammar.{SpellsQuery}
-use Rattle.ftl_parser.specs.Marks.{first_unfit}
-use Rattle.ftl_parser.specs.inner.Machine.{start, parsed}
-use Rattle.ftl_parser.specs.Sizes.{first_too_large}
-use Rattle.ftl_parser.specs.Fault.{Reads, Explains}
+use Rattle.ftl_parser.specs.Fault.{Explains}
 use Rattle.ftl_parser.proofs.grammar.Drives.{drives_query}
 use Rattle.ftl_parser.proofs.grammar.Found.{found_query}
 use Rattle.ftl_parser.proofs.grammar.Marks.{first_unfit_scan}
-use Rattle.command_text.specs.declared.fault.CommandFault.{CommandFault}
 use Rattle.command_text.specs.declared.fault.CommandFault.TheVariants as faults
 use Rattle.command_text.specs.declared.refusal.Refusal.TheVariants as refusals
-use Rattle.command_text.specs.Piece.{Piece, piece_of, pieces, in_query, is_long, has_long}
-use Rattle.command_text.specs.inner.Query.{query_of, is_query_fit, is_query_small, fault_by_parser}
-use Rattle.command_text.specs.inner.Reading.{Reader, Read, query}
-use Rattle.command_text.specs.Line.{late_refusal}
-use Rattle.command_text.specs.inner.LineParts.{is_at_end, Refuses}
-use Rattle.command_text.specs.declared.at.At.{At}
-use Rattle.command_text.specs.inner.Standing.{standing}
 
 -- a token as the grammar of queries has it
 same_piece : (kind : Kind) (bytes : List ℕ) → query_piece.piece_of kind bytes ≡ in_query (piece_of kind bytes)
@@ -73,7 +56,7 @@ and_false false = refl
 
 -- the query of a reader by its parts
 abbrev query_by : Reader → Bool → Bool → Option QueryTree → Read QueryTree
-query_by s long fit o = option_map (λ q. (q, record { rest = []; fit = s.fit && fit; small = s.small && is_query_small long q })) o
+query_by s long fit o = option_map (λ q. (q, before [] (and_size (and_number (notes s) fit) (is_query_small long q)))) o
 
 query_is : (s : Reader) (tokens : List Lexeme) (fit : Bool) (o : Option QueryTree) → AreThese tokens s.rest →
     is_query_fit (query_piece.pieces tokens) ≡ fit → query_of (query_piece.pieces tokens) ≡ o → query s ≡ query_by s (query_piece.has_long tokens) fit o
@@ -103,8 +86,8 @@ query_read s tokens q these r =
     let long : Bool = query_piece.has_long tokens in
     let small : is_query_small long q ≡ true = small_is long q ∙ ap is_none r.small in
     query_is s tokens true (Some q) these (fit_is (query_piece.pieces tokens) q r.spelled None r.fit) (of_spelled (query_piece.pieces tokens) q r.spelled)
-    ∙ ap (λ fit. Some (q, record { rest = []; fit = fit; small = s.small && is_query_small long q })) (and_true s.fit)
-    ∙ ap (λ small. Some (q, record { rest = []; fit = s.fit; small = small })) (ap (λ b. s.small && b) small ∙ and_true s.small)
+    ∙ ap (λ fit. Some (q, before [] (fit, s.small && is_query_small long q))) (and_true s.fit)
+    ∙ ap (λ small. Some (q, before [] (s.fit, small))) (ap (λ b. s.small && b) small ∙ and_true s.small)
 
 -- no query
 none_spelled : (tokens : List query_piece.Piece) → ((q : QueryTree) → SpellsQuery q tokens → ⊥) → query_of tokens ≡ None
@@ -115,11 +98,7 @@ none_spelled tokens none = by_machine (parsed start tokens) refl
     by_machine None e = refl
     by_machine (Some q) e = absurd (none q (found_query tokens q e))
 
-late_unfit : (q : QueryTree) (small : Bool) → late_refusal (Some (q, record { rest = []; fit = false; small = small })) ≡ Some refusals.NumberRange
-late_unfit q small = refl
-
-late_large : (q : QueryTree) (fit : Bool) → late_refusal (Some (q, record { rest = []; fit = fit; small = false }))
-    ≡ Some (if fit then refusals.TooLarge else refusals.NumberRange)
+late_large : (q : QueryTree) (fit : Bool) → late_refusal (Some (q, before [] (fit, false))) ≡ Some (if fit then refusals.TooLarge else refusals.NumberRange)
 late_large q true = refl
 late_large q false = refl
 
@@ -144,21 +123,13 @@ late_query s tokens from (parse_faults.NumberRange place) these (n, at, unfit) =
     ap late_refusal (query_is s tokens false (Some unfit.q) these
     (fit_is (query_piece.pieces tokens) unfit.q unfit.spelled (Some n) unfit.unfit)
     (of_spelled (query_piece.pieces tokens) unfit.q unfit.spelled))
-    ∙ ap (λ fit. late_refusal (Some (
-      unfit.q,
-      record {
-        rest = [];
-        fit = fit;
-        small =
-            s.small && is_query_small (query_piece.has_long tokens) unfit.q;
-      },
-    ))) (and_false s.fit)
+    ∙ ap (λ fit. late_refusal (Some (unfit.q, before [] (fit, s.small && is_query_small (query_piece.has_long tokens) unfit.q)))) (and_false s.fit)
 late_query s tokens from (parse_faults.TooLarge size) these (q, d, fit, large) =
     let long : Bool = query_piece.has_long tokens in
     let small : is_query_small long q ≡ false = small_is long q ∙ ap is_none large in
     ap late_refusal (query_is s tokens true (Some q) these (fit_is (query_piece.pieces tokens) q d None fit) (of_spelled (query_piece.pieces tokens) q d))
-    ∙ ap (λ b. late_refusal (Some (q, record { rest = []; fit = b; small = s.small && is_query_small long q }))) (and_true s.fit)
-    ∙ ap (λ b. late_refusal (Some (q, record { rest = []; fit = s.fit; small = b }))) (ap (λ b. s.small && b) small ∙ and_false s.small)
+    ∙ ap (λ b. late_refusal (Some (q, before [] (b, s.small && is_query_small long q)))) (and_true s.fit)
+    ∙ ap (λ b. late_refusal (Some (q, before [] (s.fit, b)))) (ap (λ b. s.small && b) small ∙ and_false s.small)
     ∙ late_large q s.fit
 late_query s tokens from parse_faults.NoMemory these h = tt
 

@@ -1,23 +1,9 @@
 -- From the tokens of a line to the line.
-use Rattle.std.proofs.Common.{◌≡◌, ℕ, Bool, true, false, List, [], ◌∷◌, map, Option, Some, None, option_map, refl, sym, ◌∙◌, ap, subst}
-use Rattle.std.specs.Prelude.{Result, Ok, Err, IfOk, MatchResult, is_none, is_some, not, ◌&&◌, if◌then◌else◌}
-use Rattle.ftl_lexer.specs.declared.kinds.Token.{Token}
-use Rattle.ftl_lexer.specs.Cut.{Lexeme}
-use Rattle.ftl_lexer.specs.Tokens.{bad_place, tokens_of, bytes_of_token}
-use Rattle.command_text.specs.declared.at.At.{At}
-use Rattle.command_text.specs.declared.command.Command.{Command}
-use Rattle.command_text.specs.declared.fault.CommandFault.{CommandFault}
+use Rattle.command_text.proofs.Names.{◌≡◌, ℕ, Bool, true, false, List, [], ◌∷◌, map, Option, Some, None, option_map, refl, sym, ◌∙◌, ap, subst, Result, Ok, Err, IfOk, MatchResult, is_none, is_some, not, ◌&&◌, if◌then◌else◌, Token, Lexeme, bad_place, tokens_of, bytes_of_token, At, Command, CommandFault, Refusal, CommandTree, command_view, piece_of, pieces, Reader, Read, front, at_first, command, command_of, standing, first_that_holds, is_comment, is_too_long, has_other_byte, has_bad_token, command_in, early_refusal, late_refusal, first_refusal, or_else, IsRead, refusal_behind, IsWhole, Refuses, TellsBadPlace, IsReadLate, ExplainsLate}
 use Rattle.command_text.specs.declared.fault.CommandFault.TheVariants as faults
-use Rattle.command_text.specs.declared.refusal.Refusal.{Refusal}
 use Rattle.command_text.specs.declared.refusal.Refusal.TheVariants as refusals
 use Rattle.command_text.specs.Tree
-use Rattle.command_text.specs.Tree.{CommandTree, command_view}
-use Rattle.command_text.specs.Piece.{piece_of, pieces}
-use Rattle.command_text.specs.inner.Reading.{Reader, Read, front, at_first, command, command_of}
-use Rattle.command_text.specs.inner.Standing.{standing}
-use Rattle.exact.specs.First.{first_that_holds}
-use Rattle.command_text.specs.Line.{is_comment, is_too_long, has_other_byte, has_bad_token, command_in, early_refusal, late_refusal, first_refusal, or_else, IsRead, Explains}
-use Rattle.command_text.specs.inner.LineParts.{refusal_behind, IsWhole, Refuses, TellsBadPlace, IsReadLate, ExplainsLate}
+use Rattle.command_text.specs.Line.{Explains}
 
 -- where a reader begins
 abbrev first_place : At

@@ -1,23 +1,8 @@
 -- What becomes of a part that isn't read, and of a command at the end of its tokens.
-use Rattle.std.proofs.Common.{◌≡◌, ℕ, zero, suc, ◌<◌, ◌≤◌, true, false, List, [], ◌∷◌, length, drop, map, Option, Some, None, option_map, refl, sym, ◌∙◌, ap, subst, arith}
-use Rattle.std.specs.Prelude.{is_none, if◌then◌else◌, Result, Ok, Err, MatchResult}
-use Rattle.std.proofs.lemmas.List.{length-map}
-use Rattle.exact.specs.Options.{◌>>=◌}
-use Rattle.ftl_lexer.specs.declared.kinds.Token.{Token}
-use Rattle.ftl_lexer.specs.Cut.{Lexeme}
-use Rattle.ftl_lexer.specs.Tokens.{lexemes, tokens_of, bytes_of_token}
-use Rattle.command_text.specs.declared.at.At.{At}
-use Rattle.command_text.specs.declared.command.Command.{Command}
-use Rattle.command_text.specs.declared.fault.CommandFault.{CommandFault}
+use Rattle.command_text.proofs.Names.{◌≡◌, ℕ, zero, suc, ◌<◌, ◌≤◌, true, false, List, [], ◌∷◌, length, map, Option, Some, None, option_map, refl, sym, ◌∙◌, ap, subst, arith, is_none, if◌then◌else◌, Result, Ok, Err, MatchResult, length-map, ◌>>=◌, Token, Lexeme, lexemes, tokens_of, bytes_of_token, At, Command, CommandFault, Refusal, CommandTree, command_view, piece_of, Reader, Read, front, command_begun, ended, command, Stops, standing, late_refusal, is_at_end, IsWhole, Refuses, Judges}
+use Rattle.std.proofs.Common.{drop}
 use Rattle.command_text.specs.declared.fault.CommandFault.TheVariants as faults
-use Rattle.command_text.specs.declared.refusal.Refusal.{Refusal}
 use Rattle.command_text.specs.declared.refusal.Refusal.TheVariants as refusals
-use Rattle.command_text.specs.Tree.{CommandTree, command_view}
-use Rattle.command_text.specs.Piece.{piece_of}
-use Rattle.command_text.specs.inner.Reading.{Reader, Read, front, command_begun, ended, command}
-use Rattle.command_text.specs.inner.Standing.{Stops, standing}
-use Rattle.command_text.specs.Line.{late_refusal}
-use Rattle.command_text.specs.inner.LineParts.{is_at_end, IsWhole, Refuses, Judges}
 use Rattle.command_text.proofs.reader.StandingLemmas.{front_past}
 
 -- where nothing is read

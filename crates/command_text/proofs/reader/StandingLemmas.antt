@@ -1,12 +1,6 @@
 -- A reader at a place of the tokens, and one after the token there.
-use Rattle.std.proofs.Common.{◌≡◌, ℕ, zero, suc, ◌+◌, ◌≤◌, ◌∷◌, [], List, length, drop, map, None, Some, option_map, slice_get, refl, ap, add-one}
-use Rattle.std.proofs.lemmas.Option.{slice_get_past}
-use Rattle.ftl_lexer.specs.Cut.{Lexeme}
-use Rattle.command_text.specs.Piece.{Piece, piece_of}
-use Rattle.ftl_lexer.specs.Tokens.{lexemes}
-use Rattle.command_text.specs.declared.at.At.{At}
-use Rattle.command_text.specs.inner.Reading.{front, next}
-use Rattle.command_text.specs.inner.Standing.{standing}
+use Rattle.command_text.proofs.Names.{◌≡◌, ℕ, zero, suc, ◌+◌, ◌≤◌, ◌∷◌, [], List, length, map, None, Some, option_map, slice_get, refl, ap, add-one, slice_get_past, Lexeme, Piece, piece_of, lexemes, At, front, next, standing}
+use Rattle.std.proofs.Common.{drop}
 
 abbrev pieces_of : List Lexeme → List Piece
 pieces_of = map (λ t. piece_of t.0 t.1)

@@ -1,10 +1,6 @@
 -- What becomes of a part with a part that isn't read.
-use Rattle.std.proofs.Common.{◌≡◌, Option, Some, ◌∙◌, ap}
-use Rattle.exact.specs.Options.{◌>>=◌}
-use Rattle.command_text.specs.declared.fault.CommandFault.{CommandFault}
+use Rattle.command_text.proofs.Names.{◌≡◌, Option, Some, ◌∙◌, ap, ◌>>=◌, CommandFault, Reader, Read, Stops}
 use Rattle.command_text.specs.declared.fault.CommandFault.TheVariants as faults
-use Rattle.command_text.specs.inner.Reading.{Reader, Read}
-use Rattle.command_text.specs.inner.Standing.{Stops}
 
 pub stops_part : {A B : Type 0} (part : Read A) (rest : A × Reader → Read B) (e : CommandFault) → Stops part e → Stops (part >>= rest) e
 stops_part part rest (faults.Refused r) h = (h.0, ap (λ o. o >>= rest) h.1)

@@ -20,7 +20,7 @@ use Rattle.ftl_parser.specs.Tree.{QueryTree}
 use Rattle.command_text.specs.Piece.{Piece, KEY, SIGN, NAME, NUMBER, TEXT, is_key, is_sign, is_name, is_text, in_query, has_long}
 use Rattle.command_text.specs.Ranges.{WholePlace, Span, Steps, Capacity, Nearest, whole_in, radius_in, SignedPlace, Value, Rate, Width, signed_in}
 use Rattle.command_text.specs.Sizes.{is_short, short_word, are_few_legs, function_of, are_few_attributes, are_few_vertices}
-use Rattle.command_text.specs.Grammar.{whole_at, radius_at, signed_at, point_of, set_of, place_of, legs_of_x, legs_of_y}
+use Rattle.command_text.specs.Grammar.{Notes, whole_at, radius_at, signed_at, point_of, set_of, place_of, legs_of_x, legs_of_y}
 use Rattle.command_text.specs.inner.Query.{query_of, is_query_fit, is_query_small}
 use Rattle.command_text.specs.Tree
 use Rattle.command_text.specs.Tree.{CommandTree}
@@ -30,6 +30,13 @@ pub record Reader : Type 0 where
   pub rest : List Piece
   pub fit : Bool
   pub small : Bool
+
+-- what is known of the numbers and sizes where a reader stands, and a reader before some tokens
+abbrev pub notes : Reader → Notes
+notes s = (s.fit, s.small)
+
+abbrev pub before : List Piece → Notes → Reader
+before ps s = record { rest = ps; fit = s.0; small = s.1 }
 
 -- a part that was read, and where the reader stands after it
 abbrev pub Read : Type 0 → Type 0

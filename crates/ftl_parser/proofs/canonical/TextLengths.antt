@@ -1,50 +1,20 @@
 -- For this crate and for the crates above: a printed query has at most four bytes for each byte of the tokens that
 -- spell it.
-use Rattle.std.proofs.Common.{◌≡◌, ℕ, zero, suc, ◌+◌, ◌-◌, ◌*◌, ◌≤◌, max, Bool, true, false, List, [], ◌∷◌, ◌++◌, drop, take, length, map, length-append, Option, None, Some, ℤ, IsTrue, refl, ap, subst, ◌∙◌, arith, leb, inl, inr}
-use Rattle.std.specs.Prelude.{codes, decimal, slice_get, unwrap_or, bytes_eq, if◌then◌else◌}
-use Rattle.std.specs.List.{list_all}
-use Rattle.std.proofs.lemmas.Bool.{cases_Bool, and_parts, leb-true}
-use Rattle.std.proofs.lemmas.List.{length-take}
-use Rattle.std.proofs.lemmas.List.Sums.{sum_by-cons}
-use Rattle.std.proofs.lemmas.Grind.{flat_map-append}
+use Rattle.ftl_parser.proofs.Names.{SpellsUntil, UntilForm, ◌≡◌, ℕ, zero, suc, ◌+◌, ◌-◌, ◌*◌, ◌≤◌, max, Bool, true, false, List, [], ◌∷◌, ◌++◌, drop, take, length, map, length-append, append-nil, Option, None, Some, ℤ, IsTrue, refl, ap, subst, ◌∙◌, arith, leb, inl, inr, codes, decimal, slice_get, unwrap_or, bytes_eq, if◌then◌else◌, list_all, cases_Bool, and_parts, leb-true, length-take, sum_by-cons, flat_map-append, fix_text, BoundForm, SubName, READ_LIMIT, Op, code_of, reserved_words, symbols, Kind, lexemes, tokens_of, bytes_of_token, Lexeme, HasForm, is_word, is_number, IsQuoted, HaveForms, SpansAscend, RADIUS_LIMIT, LAST_TICK, TIMES_LIMIT, Prefix, Signed, FromPart, Tree, QueryTree, Piece, RETRIEVE, FROM, WHERE, AND, OR, TRUTH, PREFIX, BOUNDED, UNTIL, INSIDE, OUTSIDE, DIST, SPHERE, TIME, PART, CLOSE, CLOSE_SQUARE, COMMA, PLUS, MINUS, COMPARISON, NAME, NUMBER, TEXT, OTHER, reserved, signs, unquoted, piece_of, pieces, is_short, ticks, times, literal, radius, SpellsRef, ref_name, ref_attr, ref_part, ref_time, SpellsFactor, factor_number, factor_times, factor_text, factor_ref, SpellsTerm, term_first, term_minus_first, term_plus, term_minus, SpellsNum, num_plain, num_minus, SpellsNames, names_one, names_more, SpellsParts, parts_one, parts_more, SpellsAtom, atom_compare, atom_inside, atom_outside, atom_dist, atom_sphere, Level, Spells, formula_conj, formula_or, conj_chain, conj_and, chain_unary, chain_until, until_plain, until_within, until_after, unary_prefix, unary_bounded, unary_assign, unary_brackets, unary_truth, unary_atom, SpellsQuery, query, prefixed, signed, from_part, term_of, truth_word, bound_word, sub_word, op_word, later_names, names_text, part_text, later_parts, parts_text, unit_text, times_text, first_sign, later_sign, later_factors, factors_text, pair_text, atom_text, until_text, prefix_text, bound_text, assign_text, in_brackets, formula_text, query_text, bytes_of, PrintsShortly, PrintsShorterThanFourLines, TokensFit}
 use Rattle.std.proofs.lemmas.Slice.Eq.{bytes_eq-Decides}
-use Rattle.fixed_point.specs.Canonical.{fix_text}
-use Rattle.fixed_point.specs.declared.variants.BoundForm.{BoundForm}
 use Rattle.fixed_point.specs.declared.variants.BoundForm.TheVariants as bounds
-use Rattle.fixed_point.specs.declared.variants.SubName.{SubName}
 use Rattle.fixed_point.specs.declared.variants.SubName.TheVariants as subs
-use Rattle.fixed_point.specs.declared.variants.UntilForm.TheVariants as untils
-use Rattle.fixed_point.specs.declared.number.TheConstants.{READ_LIMIT}
-use Rattle.case_table.specs.declared.compare.Op.{Op}
 use Rattle.case_table.specs.declared.compare.Op.TheVariants as ops
-use Rattle.case_table.specs.Rows.{code_of}
-use Rattle.case_table.specs.Language.{reserved_words, symbols}
-use Rattle.ftl_lexer.specs.declared.kinds.Kind.{Kind}
 use Rattle.ftl_lexer.specs.declared.kinds.Kind.TheVariants as kinds
 use Rattle.ftl_lexer.specs.declared.kinds.Token.{Token}
-use Rattle.ftl_lexer.specs.Tokens.{lexemes, tokens_of, bytes_of_token}
-use Rattle.ftl_lexer.specs.Cut.{Lexeme, HasForm, is_word, is_number, IsQuoted}
-use Rattle.ftl_lexer.specs.Laws.{HaveForms, SpansAscend}
 use Rattle.ftl_lexer.proofs.Shapes.{tokens_have_forms}
 use Rattle.ftl_lexer.proofs.Spans.{spans_ascend}
 use Rattle.ftl_lexer.proofs.Fronts.{unquoted_parts}
-use Rattle.geometry.specs.declared.limits.TheConstants.{RADIUS_LIMIT}
-use Rattle.tick_set.specs.declared.spans.TheConstants.{LAST_TICK}
-use Rattle.formula_shape.specs.declared.limits.TheConstants.{TIMES_LIMIT}
-use Rattle.ftl_parser.specs.declared.prefix.Prefix.{Prefix}
 use Rattle.ftl_parser.specs.declared.prefix.Prefix.TheVariants as prefixes
 use Rattle.ftl_parser.specs.declared.tree.Atom as atom_type
 use Rattle.ftl_parser.specs.declared.tree.Unit as unit_type
-use Rattle.ftl_parser.specs.declared.tree.Signed.{Signed}
-use Rattle.ftl_parser.specs.declared.tree.FromPart.{FromPart}
-use Rattle.ftl_parser.specs.Tree.{Tree, QueryTree}
-use Rattle.ftl_parser.specs.Piece.{Piece, RETRIEVE, FROM, WHERE, AND, OR, TRUTH, PREFIX, BOUNDED, UNTIL, INSIDE, OUTSIDE, DIST, SPHERE, TIME, PART, CLOSE, CLOSE_SQUARE, COMMA, PLUS, MINUS, COMPARISON, NAME, NUMBER, TEXT, OTHER, reserved, signs, unquoted, piece_of, pieces}
-use Rattle.ftl_parser.specs.Words.{is_short}
-use Rattle.ftl_parser.specs.Number.{ticks, times, literal, radius}
-use Rattle.ftl_parser.specs.Grammar.{SpellsRef, ref_name, ref_attr, ref_part, ref_time, SpellsFactor, factor_number, factor_times, factor_text, factor_ref, SpellsTerm, term_first, term_minus_first, term_plus, term_minus, SpellsNum, num_plain, num_minus, SpellsNames, names_one, names_more, SpellsParts, parts_one, parts_more, SpellsAtom, atom_compare, atom_inside, atom_outside, atom_dist, atom_sphere, Level, Spells, formula_conj, formula_or, conj_chain, conj_and, chain_unary, chain_until, until_plain, until_within, until_after, unary_prefix, unary_bounded, unary_assign, unary_brackets, unary_truth, unary_atom, SpellsQuery, query, prefixed, signed, from_part, term_of}
 use Rattle.ftl_parser.specs.Text as text
-use Rattle.ftl_parser.specs.Text.{truth_word, bound_word, sub_word, op_word, later_names, names_text, part_text, later_parts, parts_text, unit_text, times_text, first_sign, later_sign, later_factors, factors_text, pair_text, atom_text, until_text, prefix_text, bound_text, assign_text, in_brackets, formula_text, query_text}
-use Rattle.ftl_parser.specs.TextLaws.{bytes_of, PrintsShortly, PrintsShorterThanFourLines, TokensFit}
+use Rattle.ftl_parser.proofs.canonical.TextShapes.{later_forms}
 use Rattle.ftl_parser.proofs.canonical.TextNumbers.{fix_short, minus_short, whole_short}
 
 -- ---- the bytes of tokens lie in their line
@@ -116,15 +86,15 @@ signs_long : list_all (λ r. leb (weight (unwrap_or (slice_get signs r.1) OTHER)
 unfolding symbols
 signs_long = refl
 
-word_long : (word : List ℕ) → IsTrue (is_word word) → max 1 (length word) ≤ length word
+pub word_long : (word : List ℕ) → IsTrue (is_word word) → max 1 (length word) ≤ length word
 word_long [] word = let bad : false ≡ true = word in absurd (cc)
 word_long (b ∷ bytes) word = omega arith
 
-number_long : (text : List ℕ) → IsTrue (is_number text) → max 1 (length text) ≤ length text
+pub number_long : (text : List ℕ) → IsTrue (is_number text) → max 1 (length text) ≤ length text
 number_long [] number = let bad : false ≡ true = number in absurd (cc)
 number_long (b ∷ bytes) number = omega arith
 
-text_long : (text : List ℕ) → IsQuoted text → length (unquoted text) + 2 ≤ length text
+pub text_long : (text : List ℕ) → IsQuoted text → length (unquoted text) + 2 ≤ length text
 text_long text quoted =
     let same : length text - 1 - 1 ≡ length text - 2 = omega arith in
     let whole : text ≡ 34 ∷ unquoted text ++ 34 ∷ [] = subst (λ (n : ℕ). text ≡ 34 ∷ take n (drop 1 text) ++ 34 ∷ []) same (unquoted_parts text quoted).0 in
@@ -147,16 +117,11 @@ pieces_long [] forms = omega arith
 pieces_long (t ∷ tokens) forms =
     omega (arith, sum_by-cons (λ (l : Lexeme). length l.1) t tokens, piece_long t.0 t.1 forms.0, pieces_long tokens forms.1)
 
-later_forms : (from : ℕ) (tokens : List Lexeme) → HaveForms tokens → HaveForms (drop from tokens)
-later_forms zero tokens forms = forms
-later_forms (suc from) [] forms = tt
-later_forms (suc from) (t ∷ tokens) forms = later_forms from tokens forms.1
-
 -- ---- sums over tokens
 
-load_at : (xs : List Piece) (p : Piece) (ys : List Piece) → load (xs ++ p ∷ ys) ≡ load xs + (weight p + load ys)
-load_at [] p ys = omega arith
-load_at (x ∷ xs) p ys = omega (arith, load_at xs p ys)
+load_join : (xs ys : List Piece) → load (xs ++ ys) ≡ load xs + load ys
+load_join [] ys = omega arith
+load_join (x ∷ xs) ys = omega (arith, load_join xs ys)
 
 -- ---- short words
 
@@ -206,226 +171,135 @@ prefixed_text prefixes.Always f = refl
 -- ---- the rules of the grammar
 
 ref_short : {u : unit_type.Unit} {xs : List Piece} → SpellsRef u xs → length (unit_text u) ≤ 4 * load xs
-ref_short (ref_name {o = o}) = omega arith
-ref_short (ref_attr {o = o} {a = a}) = omega (arith, length-append o (46 ∷ []), length-append (o ++ 46 ∷ []) a)
-ref_short (ref_part {o = o} {a = a} {s = s}) =
-    omega (
-      arith,
-      length-append o (46 ∷ []),
-      length-append (o ++ 46 ∷ []) a,
-      length-append (o ++ 46 ∷ [] ++ a) (46 ∷ []),
-      length-append (o ++ 46 ∷ [] ++ a ++ 46 ∷ []) (sub_word s),
-      sub_short s,
-    )
+ref_short ref_name = omega arith
+ref_short ref_attr = simp length-append (omega arith)
+ref_short (ref_part {s = s}) = simp length-append (omega (arith, sub_short s))
 ref_short ref_time = omega arith
 
-abbrev factor_size : Option ℕ → unit_type.Unit → ℕ
-factor_size k u = length (times_text k ++ unit_text u)
-
-factor_short : {k : Option ℕ} {u : unit_type.Unit} {xs : List Piece} → SpellsFactor k u xs → factor_size k u ≤ 4 * load xs
+factor_short : {k : Option ℕ} {u : unit_type.Unit} {xs : List Piece} → SpellsFactor k u xs → length (times_text k ++ unit_text u) ≤ 4 * load xs
 factor_short (factor_number {n = n}) = omega (arith, fix_short READ_LIMIT n)
-factor_short (factor_times {n = n} {u = u} {xs = xs} r) =
-    omega (
-      arith,
-      length-append (decimal (times n)) (32 ∷ 42 ∷ 32 ∷ []),
-      length-append (decimal (times n) ++ 32 ∷ 42 ∷ 32 ∷ []) (unit_text u),
-      whole_short TIMES_LIMIT n (omega arith),
-      ref_short r,
-    )
+factor_short (factor_times {n = n} r) = simp length-append (omega (arith, whole_short TIMES_LIMIT n (omega arith), ref_short r))
 factor_short (factor_text {t = t}) = omega (arith, length-append t (34 ∷ []))
 factor_short (factor_ref r) = ref_short r
 
 -- a factor after others
-terms_size : (fs : List Signed) (f : Signed) → length (factors_text (fs ++ f ∷ [])) ≤ length (factors_text fs) + 3 + factor_size f.times f.unit
-terms_size [] f =
-    omega (
-      arith,
-      length-append (first_sign f.minus) (times_text f.times ++ unit_text f.unit),
-      length-append (first_sign f.minus ++ (times_text f.times ++ unit_text f.unit)) [],
-      first_short f.minus,
-    )
-terms_size (g ∷ fs) f =
-    let front : List ℕ = first_sign g.minus ++ text.factor_text g in
-    let last : List ℕ = later_sign f.minus ++ text.factor_text f in
-    let more : later_factors (fs ++ f ∷ []) ≡ later_factors fs ++ later_factors (f ∷ []) =
-    flat_map-append (λ (h : Signed). later_sign h.minus ++ text.factor_text h) fs (f ∷ []) in
-    let size : length (later_factors (fs ++ f ∷ [])) ≡ length (later_factors fs) + length (later_factors (f ∷ [])) = ap length more
-    ∙ length-append (later_factors fs) (later_factors (f ∷ [])) in
-    omega (
-      arith,
-      size,
-      length-append front (later_factors (fs ++ f ∷ [])),
-      length-append front (later_factors fs),
-      length-append last [],
-      length-append (later_sign f.minus) (text.factor_text f),
-      later_short f.minus,
-    )
+later_factors_size : (fs : List Signed) (f : Signed) → length (later_factors (fs ++ f ∷ []))
+    ≤ length (later_factors fs) + 3 + (length (times_text f.times) + length (unit_text f.unit))
+later_factors_size fs f = simp (flat_map-append, length-append) (omega (arith, later_short f.minus))
+
+terms_size : (fs : List Signed) (f : Signed) → length (factors_text (fs ++ f ∷ [])) ≤ length (factors_text fs) + 3 + length (text.factor_text f)
+terms_size [] f = simp length-append (omega (arith, first_short f.minus))
+terms_size (g ∷ fs) f = simp length-append (omega (arith, later_factors_size fs f))
 
 term_short : {fs : List Signed} {xs : List Piece} → SpellsTerm fs xs → length (factors_text fs) ≤ 4 * load xs
-term_short (term_first {k = k} {u = u} d) =
-    omega (arith, factor_short d, length-append (times_text k ++ unit_text u) [])
-term_short (term_minus_first {k = k} {u = u} d) =
-    omega (arith, factor_short d, length-append (times_text k ++ unit_text u) [])
+term_short (term_first {k = k} {u = u} d) = omega (arith, factor_short d, length-append (times_text k ++ unit_text u) [])
+term_short (term_minus_first {k = k} {u = u} d) = omega (arith, factor_short d, length-append (times_text k ++ unit_text u) [])
 term_short (term_plus {fs = fs} {xs = xs} {k = k} {u = u} {ys = ys} d e) =
-    omega (arith, terms_size fs (signed false k u), load_at xs PLUS ys, term_short d, factor_short e)
+    omega (arith, terms_size fs (signed false k u), load_join xs (PLUS ∷ ys), term_short d, factor_short e)
 term_short (term_minus {fs = fs} {xs = xs} {k = k} {u = u} {ys = ys} d e) =
-    omega (arith, terms_size fs (signed true k u), load_at xs MINUS ys, term_short d, factor_short e)
+    omega (arith, terms_size fs (signed true k u), load_join xs (MINUS ∷ ys), term_short d, factor_short e)
 
 num_short : {c : ℤ} {xs : List Piece} → SpellsNum c xs → length (fix_text c) ≤ 4 * load xs
 num_short (num_plain {n = n}) = omega (arith, fix_short READ_LIMIT n)
 num_short (num_minus {n = n}) = omega (arith, fix_short READ_LIMIT n, minus_short (literal n))
 
-later_size : (ns : List (List ℕ)) (n : List ℕ) → length (later_names (ns ++ n ∷ [])) ≡ length (later_names ns) + 1 + length n
-later_size ns n =
-    ap length (flat_map-append (λ (m : List ℕ). 44 ∷ m) ns (n ∷ [])) ∙ omega (arith, length-append (later_names ns) (later_names (n ∷ [])), length-append n [])
+later_names_size : (ns : List (List ℕ)) (n : List ℕ) → length (later_names (ns ++ n ∷ [])) ≤ length (later_names ns) + 1 + length n
+later_names_size ns n = simp (flat_map-append, length-append) (omega arith)
 
 names_size : (ns : List (List ℕ)) (n : List ℕ) → length (names_text (ns ++ n ∷ [])) ≤ length (names_text ns) + 1 + length n
 names_size [] n = omega (arith, length-append n [])
-names_size (m ∷ ns) n = omega (arith, later_size ns n, length-append m (later_names (ns ++ n ∷ [])), length-append m (later_names ns))
+names_size (m ∷ ns) n = simp length-append (omega (arith, later_names_size ns n))
 
 names_short : {ns : List (List ℕ)} {xs : List Piece} → SpellsNames ns xs → length (names_text ns) ≤ 4 * load xs
 names_short (names_one {n = n}) = omega (arith, length-append n [])
-names_short (names_more {ns = ns} {xs = xs} n d) = omega (arith, names_size ns n, load_at xs COMMA (NAME n ∷ []), names_short d)
+names_short (names_more {ns = ns} {xs = xs} n d) = omega (arith, names_size ns n, load_join xs (COMMA ∷ NAME n ∷ []), names_short d)
 
 -- one comma more
 later_first : (ns : List (List ℕ)) → length (later_names ns) ≤ length (names_text ns) + 1
 later_first [] = omega arith
 later_first (n ∷ ns) = omega arith
 
-part_size : (part : FromPart) → length (part_text part) ≡ length part.class + 1 + length part.var
-part_size part = omega (arith, length-append part.class (32 ∷ []), length-append (part.class ++ 32 ∷ []) part.var)
+later_parts_size : (ps : List FromPart) (p : FromPart) → length (later_parts (ps ++ p ∷ []))
+    ≤ length (later_parts ps) + 1 + (length p.class + 1 + length p.var)
+later_parts_size ps p = simp (flat_map-append, length-append) (omega arith)
 
 parts_size : (ps : List FromPart) (p : FromPart) → length (parts_text (ps ++ p ∷ [])) ≤ length (parts_text ps) + 1 + length (part_text p)
 parts_size [] p = omega (arith, length-append (part_text p) [])
-parts_size (q ∷ ps) p =
-    let more : length (later_parts (ps ++ p ∷ [])) ≡ length (later_parts ps) + 1 + length (part_text p) =
-    ap length (flat_map-append (λ (r : FromPart). 44 ∷ part_text r) ps (p ∷ []))
-    ∙ omega (arith, length-append (later_parts ps) (later_parts (p ∷ [])), length-append (part_text p) []) in
-    omega (arith, more, length-append (part_text q) (later_parts (ps ++ p ∷ [])), length-append (part_text q) (later_parts ps))
+parts_size (q ∷ ps) p = simp length-append (omega (arith, later_parts_size ps p))
+
+part_size : (c v : List ℕ) → length (part_text (from_part c v)) ≡ length c + 1 + length v
+part_size c v = simp length-append (omega arith)
 
 parts_short : {ps : List FromPart} {xs : List Piece} → SpellsParts ps xs → length (parts_text ps) ≤ 4 * load xs
-parts_short (parts_one {c = c} {v = v}) = omega (arith, part_size (from_part c v), length-append (part_text (from_part c v)) [])
+parts_short (parts_one {c = c} {v = v}) = omega (arith, part_size c v, length-append (part_text (from_part c v)) [])
 parts_short (parts_more {ps = ps} {xs = xs} c v d) =
-    omega (arith, parts_size ps (from_part c v), part_size (from_part c v), load_at xs COMMA (NAME c ∷ NAME v ∷ []), parts_short d)
+    omega (arith, parts_size ps (from_part c v), part_size c v, load_join xs (COMMA ∷ NAME c ∷ NAME v ∷ []), parts_short d)
 
 pair_size : (o n : List ℕ) → length (pair_text o n) ≡ length o + length n + 3
-pair_size o n = omega (arith, length-append o (44 ∷ []), length-append (o ++ 44 ∷ []) n, length-append (o ++ 44 ∷ [] ++ n) (41 ∷ []))
+pair_size o n = simp length-append (omega arith)
 
 compare_size : (t op u : List ℕ) → length (t ++ codes " " ++ op ++ codes " " ++ u) ≡ length t + length op + length u + 2
-compare_size t op u =
-    omega (
-      arith,
-      length-append t (32 ∷ []),
-      length-append (t ++ 32 ∷ []) op,
-      length-append (t ++ 32 ∷ [] ++ op) (32 ∷ []),
-      length-append (t ++ 32 ∷ [] ++ op ++ 32 ∷ []) u,
-    )
+compare_size t op u = simp length-append (omega arith)
 
 atom_short : {a : atom_type.Atom} {xs : List Piece} → SpellsAtom a xs → length (atom_text a) ≤ 4 * load xs
 atom_short (atom_compare {fs = fs} {gs = gs} {op = op} {xs = xs} {ys = ys} d e) =
-    omega (arith, compare_size (factors_text fs) (op_word op) (factors_text gs), op_short op, load_at xs (COMPARISON op) ys, term_short d, term_short e)
+    let bytes = compare_size (factors_text fs) (op_word op) (factors_text gs) in
+    omega (arith, bytes, op_short op, load_join xs (COMPARISON op ∷ ys), term_short d, term_short e)
 atom_short (atom_inside {o = o} {p = p}) = omega (arith, pair_size o p)
 atom_short (atom_outside {o = o} {p = p}) = omega (arith, pair_size o p)
 atom_short (atom_dist {o = o} {n = n} {op = op} {c = c} d) =
     omega (arith, compare_size (codes "DIST" ++ pair_text o n) (op_word op) (fix_text c), pair_size o n, op_short op, num_short d)
 atom_short (atom_sphere {r = r} {ns = ns} {xs = xs} d) =
-    omega (
-      arith,
-      length-append (fix_text (radius r)) (later_names ns),
-      length-append (fix_text (radius r) ++ later_names ns) (41 ∷ []),
-      fix_short RADIUS_LIMIT r,
-      later_first ns,
-      names_short d,
-      load_at xs CLOSE [],
-    )
+    let number : List ℕ = fix_text (radius r) in
+    let bytes = length-append (number ++ later_names ns) (41 ∷ []) in
+    omega (arith, length-append number (later_names ns), bytes, fix_short RADIUS_LIMIT r, later_first ns, names_short d, load_join xs (CLOSE ∷ []))
 
 brackets_size : (left between right : List ℕ) → length (in_brackets left between right) ≡ length left + length between + length right + 2
-brackets_size left between right =
-    omega (arith, length-append left between, length-append (left ++ between) right, length-append (left ++ between ++ right) (41 ∷ []))
+brackets_size left between right = simp length-append (omega arith)
+
+-- an until, and the brackets around it
+until_short : {form : UntilForm} {n : ℕ} {xs : List Piece} → SpellsUntil form n xs → length (until_text form n) + 2 ≤ 4 * load xs
+until_short until_plain = omega arith
+until_short (until_within {c = c}) = omega (arith, length-append (decimal (ticks c)) (codes " "), whole_short LAST_TICK c (omega arith))
+until_short (until_after {c = c}) = omega (arith, length-append (decimal (ticks c)) (codes " "), whole_short LAST_TICK c (omega arith))
 
 bound_size : (form : BoundForm) (n : ℕ) → length (bound_text form n) ≤ length (decimal n) + 19
-bound_size form n =
-    omega (
-      arith,
-      length-append (bound_word form) (32 ∷ []),
-      length-append (bound_word form ++ 32 ∷ []) (decimal n),
-      length-append (bound_word form ++ 32 ∷ [] ++ decimal n) (32 ∷ []),
-      bound_short form,
-    )
+bound_size form n = simp length-append (omega (arith, bound_short form))
 
 assign_size : (name term : List ℕ) → length (codes "[" ++ name ++ codes " <- " ++ term ++ codes "] ") ≡ length name + length term + 7
-assign_size name term =
-    omega (arith, length-append name (codes " <- "), length-append (name ++ codes " <- ") term, length-append (name ++ codes " <- " ++ term) (codes "] "))
+assign_size name term = simp length-append (omega arith)
 
 formula_short : {l : Level} {f : Tree} {xs : List Piece} → Spells l f xs → length (formula_text f) ≤ 4 * load xs
 formula_short (formula_conj d) = formula_short d
 formula_short (formula_or {f = f} {g = g} {xs = xs} {ys = ys} d e) =
-    omega (arith, brackets_size (formula_text f) (codes " OR ") (formula_text g), load_at xs OR ys, formula_short d, formula_short e)
+    omega (arith, brackets_size (formula_text f) (codes " OR ") (formula_text g), load_join xs (OR ∷ ys), formula_short d, formula_short e)
 formula_short (conj_chain d) = formula_short d
 formula_short (conj_and {f = f} {g = g} {xs = xs} {ys = ys} d e) =
-    omega (arith, brackets_size (formula_text f) (codes " AND ") (formula_text g), load_at xs AND ys, formula_short d, formula_short e)
+    omega (arith, brackets_size (formula_text f) (codes " AND ") (formula_text g), load_join xs (AND ∷ ys), formula_short d, formula_short e)
 formula_short (chain_unary d) = formula_short d
-formula_short (chain_until {f = f} {g = g} {xs = xs} {ys = ys} until_plain d e) =
-    omega (arith, brackets_size (formula_text f) (codes " UNTIL ") (formula_text g), load_at xs (UNTIL untils.Plain) ys, formula_short d, formula_short e)
-formula_short (chain_until {f = f} {g = g} {xs = xs} {ys = ys} (until_within {c = c}) d e) =
-    omega (
-      arith,
-      brackets_size (formula_text f) (until_text untils.Within (ticks c)) (formula_text g),
-      length-append (decimal (ticks c)) (codes " "),
-      load_at xs (UNTIL untils.Within) (NUMBER c ∷ ys),
-      whole_short LAST_TICK c (omega arith),
-      formula_short d,
-      formula_short e,
-    )
-formula_short (chain_until {f = f} {g = g} {xs = xs} {ys = ys} (until_after {c = c}) d e) =
-    omega (
-      arith,
-      brackets_size (formula_text f) (until_text untils.After (ticks c)) (formula_text g),
-      length-append (decimal (ticks c)) (codes " "),
-      load_at xs (UNTIL untils.After) (NUMBER c ∷ ys),
-      whole_short LAST_TICK c (omega arith),
-      formula_short d,
-      formula_short e,
-    )
+formula_short (chain_until {form = form} {n = n} {f = f} {g = g} {xs = xs} {us = us} {ys = ys} u d e) =
+    let bytes = brackets_size (formula_text f) (until_text form n) (formula_text g) in
+    omega (arith, bytes, until_short u, load_join xs (us ++ ys), load_join us ys, formula_short d, formula_short e)
 formula_short (unary_prefix {w = w} {f = f} d) =
     omega (arith, ap length (prefixed_text w f), length-append (prefix_text w) (formula_text f), prefix_short w, formula_short d)
 formula_short (unary_bounded {form = form} {c = c} {f = f} d) =
-    omega (arith, length-append (bound_text form (ticks c)) (formula_text f), bound_size form (ticks c), whole_short LAST_TICK c (omega arith), formula_short d)
+    let bytes = length-append (bound_text form (ticks c)) (formula_text f) in
+    omega (arith, bytes, bound_size form (ticks c), whole_short LAST_TICK c (omega arith), formula_short d)
 formula_short (unary_assign {v = v} {fs = fs} {f = f} {xs = xs} {ys = ys} t d) =
-    omega (
-      arith,
-      length-append (assign_text v (term_of fs)) (formula_text f),
-      assign_size v (factors_text fs),
-      load_at xs CLOSE_SQUARE ys,
-      term_short t,
-      formula_short d,
-    )
-formula_short (unary_brackets {xs = xs} d) = omega (arith, load_at xs CLOSE [], formula_short d)
+    let bytes = length-append (assign_text v (term_of fs)) (formula_text f) in
+    omega (arith, bytes, assign_size v (factors_text fs), load_join xs (CLOSE_SQUARE ∷ ys), term_short t, formula_short d)
+formula_short (unary_brackets {xs = xs} d) = omega (arith, load_join xs (CLOSE ∷ []), formula_short d)
 formula_short (unary_truth {b = b}) = omega (arith, truth_short b)
 formula_short (unary_atom d) = atom_short d
 
 query_size : (names parts formula : List ℕ) → length (codes "RETRIEVE " ++ names ++ codes " FROM " ++ parts ++ codes " WHERE " ++ formula)
     ≡ length names + length parts + length formula + 22
-query_size names parts formula =
-    omega (
-      arith,
-      length-append names (codes " FROM "),
-      length-append (names ++ codes " FROM ") parts,
-      length-append (names ++ codes " FROM " ++ parts) (codes " WHERE "),
-      length-append (names ++ codes " FROM " ++ parts ++ codes " WHERE ") formula,
-    )
+query_size names parts formula = simp length-append (omega arith)
 
 query_short : {q : QueryTree} {xs : List Piece} → SpellsQuery q xs → length (query_text q) ≤ 4 * load xs
 query_short (query {ns = ns} {ps = ps} {f = f} {xs = xs} {ys = ys} {zs = zs} n p d) =
-    omega (
-      arith,
-      query_size (names_text ns) (parts_text ps) (formula_text f),
-      load_at xs FROM (ys ++ WHERE ∷ zs),
-      load_at ys WHERE zs,
-      names_short n,
-      parts_short p,
-      formula_short d,
-    )
+    let bytes = query_size (names_text ns) (parts_text ps) (formula_text f) in
+    omega (arith, bytes, load_join xs (FROM ∷ (ys ++ WHERE ∷ zs)), load_join ys (WHERE ∷ zs), names_short n, parts_short p, formula_short d)
 
 pub prints_shortly : PrintsShortly
 prints_shortly from line q spelled =

@@ -1,22 +1,11 @@
 -- For this crate and for the crates above: canonical numbers: how long they are, and that they are numbers of the
 -- same value.
-use Rattle.std.proofs.Common.{◌≡◌, ℕ, zero, suc, ◌+◌, ◌-◌, ◌*◌, ◌/◌, ◌%◌, ◌^◌, ◌<◌, ◌≤◌, max, Bool, true, false, ◌&&◌, List, [], ◌∷◌, ◌++◌, take, length, length-append, Option, None, Some, ℤ, pos, negsuc, unsigned_abs, refl, sym, ap, subst, ◌∙◌, arith, cond, leb, eqb}
-use Rattle.std.specs.Prelude.{neg_ℤ, option_and_then, unwrap_or}
+use Rattle.ftl_parser.proofs.Names.{◌≡◌, ℕ, zero, suc, ◌+◌, ◌-◌, ◌*◌, ◌/◌, ◌%◌, ◌^◌, ◌<◌, ◌≤◌, max, Bool, true, false, ◌&&◌, List, [], ◌∷◌, ◌++◌, take, length, length-append, Option, None, Some, ℤ, pos, negsuc, unsigned_abs, refl, sym, ap, subst, ◌∙◌, arith, cond, leb, eqb, neg_ℤ, option_and_then, unwrap_or, list_all, is_ascii_digit, is_negative, decimal, sign_text, AllDigits, digits_value, leb-true, and_parts, length-decimal-le, decimal_digit, thousandths_of, IsDecimal, AreDigits, with_sign, decimals_value, point_text, fix_text, three_digits, without_last_zeros, up_to, whole_of}
 use Rattle.std.proofs.Math.Dec.{leb-zero}
-use Rattle.std.specs.List.{list_all}
-use Rattle.std.specs.Char.{is_ascii_digit}
-use Rattle.std.specs.Int.{is_negative}
-use Rattle.std.specs.Fmt.{decimal, sign_text}
-use Rattle.std.specs.Str.Parse.{AllDigits, digits_value}
-use Rattle.std.proofs.lemmas.Bool.{leb-true, and_parts}
-use Rattle.std.proofs.lemmas.Fmt.{length-decimal-le, decimal_digit}
 use Rattle.std.proofs.lemmas.Int.Digits.{digits_value-lt}
 use Rattle.std.proofs.Math.Nat.{pow-le-pow_right}
-use Rattle.fixed_point.specs.Decimal.{thousandths_of, IsDecimal, AreDigits, with_sign, decimals_value, point_text}
-use Rattle.fixed_point.specs.Canonical.{fix_text, three_digits, without_last_zeros}
 use Rattle.fixed_point.proofs.DecimalLemmas.{decimal_law}
 use Rattle.fixed_point.proofs.DigitLemmas.{digit_below_ten}
-use Rattle.ftl_parser.specs.Number.{up_to, whole_of}
 
 -- ---- whole numbers
 
@@ -146,18 +135,7 @@ parts_short negative whole decimals are behind =
     let point : length (point_text (without_last_zeros (three_digits (decimals_value decimals)))) ≤ length (point_text decimals) =
     point_short (without_last_zeros (three_digits (decimals_value decimals))) decimals (decimals_short decimals behind) in
     let sign : length (sign_text (is_negative (with_sign negative size))) ≤ length (sign_text negative) = sign_short negative size in
-    rw (fix_text_is (with_sign negative size), size_again negative size, front, back)
-    (omega (
-      arith,
-      length-append (sign_text (is_negative (with_sign negative size)) ++ decimal (digits_value 10 whole))
-          (point_text (without_last_zeros (three_digits (decimals_value decimals)))),
-      length-append (sign_text (is_negative (with_sign negative size))) (decimal (digits_value 10 whole)),
-      length-append (sign_text negative ++ whole) (point_text decimals),
-      length-append (sign_text negative) whole,
-      digits_are,
-      point,
-      sign,
-    ))
+    rw (fix_text_is (with_sign negative size), size_again negative size, front, back) (simp length-append (omega (arith, digits_are, point, sign)))
 
 zero_text : fix_text (pos 0) ≡ 48 ∷ []
 unfolding fix_text
@@ -194,20 +172,4 @@ one_sign false = omega arith
 -- a sign is one byte
 pub minus_short : (value : ℤ) → length (fix_text (neg_ℤ value)) ≤ length (fix_text value) + 1
 minus_short value =
-    let whole : List ℕ = decimal (unsigned_abs value / 1000) in
-    let point : List ℕ = point_text (without_last_zeros (three_digits (unsigned_abs value % 1000))) in
-    let mine : length (fix_text value) ≡ length (sign_text (is_negative value) ++ whole ++ point) = ap length (fix_text_is value) in
-    let other : length (fix_text (neg_ℤ value)) ≡ length (sign_text (is_negative (neg_ℤ value)) ++ whole ++ point) =
-    ap length (fix_text_is (neg_ℤ value)) ∙ ap (λ (n : ℕ). length
-    (sign_text (is_negative (neg_ℤ value)) ++ decimal (n / 1000) ++ point_text (without_last_zeros (three_digits (n % 1000)))))
-    (size_of_minus value) in
-    omega (
-      arith,
-      mine,
-      other,
-      one_sign (is_negative (neg_ℤ value)),
-      length-append (sign_text (is_negative value) ++ whole) point,
-      length-append (sign_text (is_negative value)) whole,
-      length-append (sign_text (is_negative (neg_ℤ value)) ++ whole) point,
-      length-append (sign_text (is_negative (neg_ℤ value))) whole,
-    )
+    rw (fix_text_is value, fix_text_is (neg_ℤ value), size_of_minus value) (simp length-append (omega (arith, one_sign (is_negative (neg_ℤ value)))))

@@ -1,54 +1,24 @@
 -- For this crate and for the crates above: what tokens of a line spell is printable.
-use Rattle.std.proofs.Common.{◌≡◌, ℕ, zero, suc, ◌+◌, ◌-◌, ◌*◌, ◌≤◌, Bool, true, false, ◌&&◌, List, [], ◌∷◌, ◌++◌, drop, take, length, append_assoc, Option, None, Some, ℤ, pos, negsuc, unsigned_abs, IsTrue, refl, sym, ap, subst, ◌∙◌, arith, cond, leb}
-use Rattle.std.specs.Prelude.{neg_ℤ, not, slice_get, unwrap_or, if◌then◌else◌}
-use Rattle.std.specs.List.{AllByRecursion, list_all}
-use Rattle.std.proofs.lemmas.Bool.{or_parts}
-use Rattle.std.proofs.lemmas.Bool.Decides.{nat_tests}
-use Rattle.std.specs.Char.{is_ascii_digit}
-use Rattle.std.specs.Str.Parse.{digits_value}
-use Rattle.std.specs.Fmt.{sign_text}
-use Rattle.fixed_point.specs.Decimal.{thousandths_of, IsDecimal, with_sign, decimals_value, point_text}
+use Rattle.ftl_parser.proofs.Names.{◌≡◌, ℕ, zero, suc, ◌+◌, ◌-◌, ◌*◌, ◌≤◌, Bool, true, false, ◌&&◌, List, [], ◌∷◌, ◌++◌, drop, take, length, append_assoc, Option, None, Some, ℤ, pos, negsuc, unsigned_abs, IsTrue, refl, sym, ap, subst, ◌∙◌, arith, cond, leb, neg_ℤ, not, slice_get, unwrap_or, if◌then◌else◌, AllByRecursion, list_all, or_parts, nat_tests, is_ascii_digit, digits_value, sign_text, thousandths_of, IsDecimal, with_sign, decimals_value, point_text, Kind, lexemes, Lexeme, HasForm, is_number, has_no_quote, IsQuoted, HaveForms, READ_LIMIT, WORD_LIMIT, UntilForm, RADIUS_LIMIT, LAST_TICK, TIMES_LIMIT, Prefix, Signed, FromPart, Tree, QueryTree, Piece, FROM, WHERE, AND, OR, UNTIL, CLOSE, CLOSE_SQUARE, COMMA, PLUS, MINUS, COMPARISON, NAME, NUMBER, TEXT, reserved, signs, OTHER, piece_of, pieces, pieces_from, lexemes_from, is_long, has_long, unquoted, is_short, whole_of, literal, radius, SpellsUntil, SpellsRef, ref_name, ref_attr, ref_part, ref_time, SpellsFactor, factor_number, factor_times, factor_text, factor_ref, SpellsTerm, term_first, term_minus_first, term_plus, term_minus, SpellsNum, num_plain, num_minus, SpellsNames, names_one, names_more, SpellsParts, parts_one, parts_more, SpellsAtom, atom_compare, atom_inside, atom_outside, atom_dist, atom_sphere, Level, Spells, formula_conj, formula_or, conj_chain, conj_and, chain_unary, chain_until, until_plain, until_within, until_after, unary_prefix, unary_bounded, unary_assign, unary_brackets, unary_truth, unary_atom, SpellsQuery, query, prefixed, signed, from_part, first_too_large, Reads, OneOrMore, IsShortName, IsQuotable, IsPart, IsUnsigned, IsRef, IsUnit, IsMultiple, IsFactor, IsAtom, IsBound, IsFormula, HasShape, IsAny, IsLawful, PrintsWhatIsRead}
 use Rattle.fixed_point.proofs.DecimalLemmas.{decimal_law}
-use Rattle.ftl_lexer.specs.declared.kinds.Kind.{Kind}
 use Rattle.ftl_lexer.specs.declared.kinds.Kind.TheVariants as kinds
-use Rattle.ftl_lexer.specs.Tokens.{lexemes}
-use Rattle.ftl_lexer.specs.Cut.{Lexeme, HasForm, is_number, has_no_quote, IsQuoted}
-use Rattle.ftl_lexer.specs.Laws.{HaveForms}
 use Rattle.ftl_lexer.proofs.Shapes.{tokens_have_forms}
 use Rattle.ftl_lexer.proofs.Fronts.{unquoted_parts}
-use Rattle.fixed_point.specs.declared.number.TheConstants.{READ_LIMIT}
-use Rattle.fixed_point.specs.declared.short_text.TheConstants.{WORD_LIMIT}
-use Rattle.fixed_point.specs.declared.variants.UntilForm.TheVariants as untils
-use Rattle.geometry.specs.declared.limits.TheConstants.{RADIUS_LIMIT}
-use Rattle.tick_set.specs.declared.spans.TheConstants.{LAST_TICK}
-use Rattle.formula_shape.specs.declared.limits.TheConstants.{TIMES_LIMIT}
-use Rattle.ftl_parser.specs.declared.prefix.Prefix.{Prefix}
 use Rattle.ftl_parser.specs.declared.prefix.Prefix.TheVariants as prefixes
 use Rattle.ftl_parser.specs.declared.tree.Atom as atom_type
 use Rattle.ftl_parser.specs.declared.tree.Unit as unit_type
 use Rattle.ftl_parser.specs.declared.tree.Unit.TheVariants as units
-use Rattle.ftl_parser.specs.declared.tree.Signed.{Signed}
-use Rattle.ftl_parser.specs.declared.tree.FromPart.{FromPart}
-use Rattle.ftl_parser.specs.Tree.{Tree, QueryTree}
-use Rattle.ftl_parser.specs.Piece.{Piece, FROM, WHERE, AND, OR, UNTIL, CLOSE, CLOSE_SQUARE, COMMA, PLUS, MINUS, COMPARISON, NAME, NUMBER, TEXT, reserved, signs, OTHER, piece_of, pieces, pieces_from, lexemes_from, is_long, has_long, unquoted}
-use Rattle.ftl_parser.specs.Words.{is_short}
-use Rattle.ftl_parser.specs.Number.{whole_of, literal, radius}
-use Rattle.ftl_parser.specs.Grammar.{SpellsRef, ref_name, ref_attr, ref_part, ref_time, SpellsFactor, factor_number, factor_times, factor_text, factor_ref, SpellsTerm, term_first, term_minus_first, term_plus, term_minus, SpellsNum, num_plain, num_minus, SpellsNames, names_one, names_more, SpellsParts, parts_one, parts_more, SpellsAtom, atom_compare, atom_inside, atom_outside, atom_dist, atom_sphere, Level, Spells, formula_conj, formula_or, conj_chain, conj_and, chain_unary, chain_until, until_plain, until_within, until_after, unary_prefix, unary_bounded, unary_assign, unary_brackets, unary_truth, unary_atom, SpellsQuery, query, prefixed, signed, from_part}
 use Rattle.exact.specs.First.{first_that_holds}
 use Rattle.ftl_parser.specs.declared.fault.Size.TheVariants as sizes
-use Rattle.ftl_parser.specs.Sizes.{first_too_large}
-use Rattle.ftl_parser.specs.Fault.{Reads}
-use Rattle.ftl_parser.specs.Lawful.{OneOrMore, IsShortName, IsQuotable, IsPart, IsUnsigned, IsRef, IsUnit, IsMultiple, IsFactor, IsAtom, IsFormula, HasShape, IsAny, IsLawful}
-use Rattle.ftl_parser.specs.TextLaws.{PrintsWhatIsRead}
 use Rattle.ftl_parser.proofs.canonical.TextNumbers.{whole_is}
 
 -- ---- lists
 
-all_front : {X : Type 0} (P : X → Type 0) (xs ys : List X) → AllByRecursion P (xs ++ ys) → AllByRecursion P xs
+pub all_front : {X : Type 0} (P : X → Type 0) (xs ys : List X) → AllByRecursion P (xs ++ ys) → AllByRecursion P xs
 all_front P [] ys all = tt
 all_front P (x ∷ xs) ys all = (all.0, all_front P xs ys all.1)
 
-all_back : {X : Type 0} (P : X → Type 0) (xs ys : List X) → AllByRecursion P (xs ++ ys) → AllByRecursion P ys
+pub all_back : {X : Type 0} (P : X → Type 0) (xs ys : List X) → AllByRecursion P (xs ++ ys) → AllByRecursion P ys
 all_back P [] ys all = all
 all_back P (x ∷ xs) ys all = all_back P xs ys all.1
 
@@ -77,39 +47,15 @@ fixed_has N T (p ∷ table) zero all = all.0
 fixed_has N T (p ∷ table) (suc code) all = fixed_has N T table code all.1
 
 words_have : (N T : List ℕ → Type 0) → HaveShapes N T reserved
-words_have N T = (
-  tt,
-  (
-    tt,
-    (
-      tt,
-      (
-        tt,
-        (
-          tt,
-          (
-            tt,
-            (
-              tt,
-              (
-                tt,
-                (
-                  tt,
-                  (tt, (tt, (tt, (tt, (tt, (tt, (tt, (tt, (tt, (tt, (tt, (tt, (tt, (tt, (tt, (tt, tt)))))))))))))))),
-                ),
-              ),
-            ),
-          ),
-        ),
-      ),
-    ),
-  ),
-)
+words_have N T = (tt, (tt, (tt, (tt, (tt, (tt, (tt, (tt, (tt, (tt, (tt, (tt, others_have))))))))))))
+  where
+    others_have : HaveShapes N T (drop 12 reserved)
+    others_have = (tt, (tt, (tt, (tt, (tt, (tt, (tt, (tt, (tt, (tt, (tt, (tt, (tt, tt)))))))))))))
 
 signs_have : (N T : List ℕ → Type 0) → HaveShapes N T signs
 signs_have N T = (tt, (tt, (tt, (tt, (tt, (tt, (tt, (tt, (tt, (tt, (tt, (tt, (tt, (tt, (tt, (tt, tt))))))))))))))))
 
-text_has : (text : List ℕ) → IsQuoted text → IsTrue (has_no_quote (unquoted text))
+pub text_has : (text : List ℕ) → IsQuoted text → IsTrue (has_no_quote (unquoted text))
 text_has text quoted =
     let same : length text - 1 - 1 ≡ length text - 2 = omega arith in
     subst (λ n. IsTrue (has_no_quote (take n (drop 1 text)))) same (unquoted_parts text quoted).1
@@ -184,7 +130,7 @@ decimal_within limit text (Some value) number is =
 literal_within : (text : List ℕ) → IsTrue (is_number text) → IsUnsigned READ_LIMIT (literal text)
 literal_within text number = decimal_within READ_LIMIT text (thousandths_of READ_LIMIT text) number refl
 
-radius_within : (text : List ℕ) → IsTrue (is_number text) → IsUnsigned RADIUS_LIMIT (radius text)
+pub radius_within : (text : List ℕ) → IsTrue (is_number text) → IsUnsigned RADIUS_LIMIT (radius text)
 radius_within text number = decimal_within RADIUS_LIMIT text (thousandths_of RADIUS_LIMIT text) number refl
 
 choice_within : (a c : Bool) (value most : ℕ) → leb value most ≡ c → unwrap_or (cond (a && c) (Some value) None) 0 ≤ most
@@ -219,10 +165,7 @@ module _ (N T : List ℕ → Type 0) where
   ref_is_unit : (u : unit_type.Unit) → IsRef N u → IsUnit N T u
   ref_is_unit (units.Literal n) ref = absurd ref
   ref_is_unit (units.Text t) ref = absurd ref
-  ref_is_unit (units.Alone o) ref = ref
-  ref_is_unit (units.Attr o a) ref = ref
-  ref_is_unit (units.Sub o a s) ref = ref
-  ref_is_unit units.Time ref = ref
+  ref_is_unit u ref = ref
 
   factor_shape : {k : Option ℕ} {u : unit_type.Unit} {xs : List Piece} → SpellsFactor k u xs → HaveShapes N T xs → IsMultiple N T k u
   factor_shape (factor_number {n = n}) shapes = literal_within n shapes.0
@@ -270,6 +213,11 @@ module _ (N T : List ℕ → Type 0) where
   prefix_shape prefixes.Eventually f shape = shape
   prefix_shape prefixes.Always f shape = shape
 
+  until_shape : {form : UntilForm} {n : ℕ} {xs : List Piece} → SpellsUntil form n xs → IsBound form n
+  until_shape until_plain = refl
+  until_shape (until_within {c = c}) = whole_within LAST_TICK c
+  until_shape (until_after {c = c}) = whole_within LAST_TICK c
+
   formula_shape : {l : Level} {f : Tree} {xs : List Piece} → Spells l f xs → HaveShapes N T xs → IsFormula N T f
   formula_shape (formula_conj d) shapes = formula_shape d shapes
   formula_shape (formula_or {xs = xs} {ys = ys} d e) shapes =
@@ -278,21 +226,9 @@ module _ (N T : List ℕ → Type 0) where
   formula_shape (conj_and {xs = xs} {ys = ys} d e) shapes =
       (formula_shape d (all_front (PieceHas N T) xs (AND ∷ ys) shapes), formula_shape e (all_back (PieceHas N T) xs (AND ∷ ys) shapes).1)
   formula_shape (chain_unary d) shapes = formula_shape d shapes
-  formula_shape (chain_until {xs = xs} {ys = ys} until_plain d e) shapes = (
-    refl,
-    formula_shape d (all_front (PieceHas N T) xs (UNTIL untils.Plain ∷ ys) shapes),
-    formula_shape e (all_back (PieceHas N T) xs (UNTIL untils.Plain ∷ ys) shapes).1,
-  )
-  formula_shape (chain_until {xs = xs} {ys = ys} (until_within {c = c}) d e) shapes = (
-    whole_within LAST_TICK c,
-    formula_shape d (all_front (PieceHas N T) xs (UNTIL untils.Within ∷ NUMBER c ∷ ys) shapes),
-    formula_shape e (all_back (PieceHas N T) xs (UNTIL untils.Within ∷ NUMBER c ∷ ys) shapes).1.1,
-  )
-  formula_shape (chain_until {xs = xs} {ys = ys} (until_after {c = c}) d e) shapes = (
-    whole_within LAST_TICK c,
-    formula_shape d (all_front (PieceHas N T) xs (UNTIL untils.After ∷ NUMBER c ∷ ys) shapes),
-    formula_shape e (all_back (PieceHas N T) xs (UNTIL untils.After ∷ NUMBER c ∷ ys) shapes).1.1,
-  )
+  formula_shape (chain_until {xs = xs} {us = us} {ys = ys} u d e) shapes =
+      let behind : HaveShapes N T (us ++ ys) = all_back (PieceHas N T) xs (us ++ ys) shapes in
+      (until_shape u, formula_shape d (all_front (PieceHas N T) xs (us ++ ys) shapes), formula_shape e (all_back (PieceHas N T) us ys behind))
   formula_shape (unary_prefix {w = w} {f = f} d) shapes = prefix_shape w f (formula_shape d shapes.1)
   formula_shape (unary_bounded {c = c} d) shapes = (whole_within LAST_TICK c, formula_shape d shapes.1.1)
   formula_shape (unary_assign {xs = xs} {ys = ys} t d) shapes = (

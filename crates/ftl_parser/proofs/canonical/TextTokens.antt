@@ -1,30 +1,17 @@
--- For this crate and for the crates above: texts that are cut into given tokens, and tokens at their fronts.
-use Rattle.std.proofs.Common.{◌≡◌, ℕ, ◌-◌, ◌≤◌, Bool, true, false, not, ◌||◌, List, [], ◌∷◌, ◌++◌, take, length, length-append, Option, Some, IsTrue, refl, sym, ap, ◌∙◌, arith}
-use Rattle.std.specs.Prelude.{codes, slice_get, unwrap_or, if◌then◌else◌}
-use Rattle.std.specs.Option.{option_map_or}
-use Rattle.std.proofs.lemmas.Bool.Decides.{nat_tests}
-use Rattle.std.proofs.lemmas.List.{take_at}
-use Rattle.fixed_point.specs.declared.short_text.TheConstants.{WORD_LIMIT}
-use Rattle.case_table.specs.declared.compare.Op.{Op}
-use Rattle.case_table.specs.declared.compare.Op.TheVariants as ops
-use Rattle.case_table.specs.Rows.{code_of}
-use Rattle.case_table.specs.Language.{reserved_words, symbols}
-use Rattle.ftl_lexer.specs.declared.kinds.Kind.{Kind}
+-- For this crate and for the crates above: texts that are cut into given tokens, part by part, whatever a crate makes of
+-- a token and asks of it.
+use Rattle.ftl_parser.proofs.Names.{◌≡◌, ℕ, ◌-◌, List, [], ◌∷◌, ◌++◌, append_assoc, append-nil, take, map, length, length-append, Option, None, Some, IsTrue, refl, sym, ap, ◌∙◌, arith, AllByRecursion, option_map_or, take_at, code_of, reserved_words, symbols, Kind, name_len, digits_len, fraction_len, word_kind, Lexeme, cut, put_before, is_word, is_number, has_no_quote, stands_alone, unquoted}
 use Rattle.ftl_lexer.specs.declared.kinds.Kind.TheVariants as kinds
-use Rattle.ftl_lexer.specs.Forms.{name_len, digits_len, fraction_len, word_kind, token_at}
-use Rattle.ftl_lexer.specs.Cut.{Lexeme, cut, put_before, is_word, is_number, has_no_quote, stands_alone}
 use Rattle.ftl_lexer.proofs.Fronts.{cut_word, cut_number, cut_text, quoted_form, cut_symbol, cut_blank}
-use Rattle.ftl_parser.specs.Piece.{Piece, NAME, NUMBER, TEXT, COMPARISON, ARROW, OTHER, reserved, signs, unquoted, piece_of, pieces, is_long, has_long}
-use Rattle.ftl_parser.specs.Words.{is_short, short_word}
-use Rattle.ftl_parser.specs.Lawful.{IsName, IsShortName, IsQuotable}
-use Rattle.ftl_parser.specs.Text.{op_word}
 
--- the text is cut into these tokens
-pub record IsCut (bytes : List ℕ) (tokens : List Piece) : Type 0 where
-  pub lexed : List Lexeme
-  pub cut_is : cut 0 bytes ≡ Some lexed
-  pub pieces_are : pieces lexed ≡ tokens
-  pub short : has_long lexed ≡ false
+-- ---- what may stand after a part
+
+abbrev pub Anything : List ℕ → Type 0
+Anything rest = Unit {0}
+
+-- no name goes on here
+abbrev pub NameEnds : List ℕ → Type 0
+NameEnds rest = name_len rest ≡ 0
 
 -- no name and no number goes on here
 pub record Ends (rest : List ℕ) : Type 0 where
@@ -38,96 +25,158 @@ nothing_ends = record { name = refl; digits = refl; fraction = refl }
 pub blank_ends : (rest : List ℕ) → Ends (32 ∷ rest)
 blank_ends rest = record { name = refl; digits = refl; fraction = refl }
 
-pub comma_ends : (rest : List ℕ) → Ends (44 ∷ rest)
-comma_ends rest = record { name = refl; digits = refl; fraction = refl }
+pub open_ends : (rest : List ℕ) → Ends (40 ∷ rest)
+open_ends rest = record { name = refl; digits = refl; fraction = refl }
 
 pub close_ends : (rest : List ℕ) → Ends (41 ∷ rest)
 close_ends rest = record { name = refl; digits = refl; fraction = refl }
 
+pub comma_ends : (rest : List ℕ) → Ends (44 ∷ rest)
+comma_ends rest = record { name = refl; digits = refl; fraction = refl }
+
 pub square_ends : (rest : List ℕ) → Ends (93 ∷ rest)
 square_ends rest = record { name = refl; digits = refl; fraction = refl }
 
-pub nothing_is_cut : IsCut [] []
-unfolding cut
-nothing_is_cut = record { lexed = []; cut_is = refl; pieces_are = refl; short = refl }
+-- ---- texts and their parts; `piece` is what a crate makes of a token, and `Good` what it asks of it
 
--- the same text and tokens, grouped in another way
-pub regrouped : (x y : List ℕ) (ps qs : List Piece) → x ≡ y → ps ≡ qs → IsCut y qs → IsCut x ps
-regrouped x y ps qs text tokens is = record {
-  lexed = is.lexed;
-  cut_is = ap (cut 0) text ∙ is.cut_is;
-  pieces_are = is.pieces_are
-      ∙ sym tokens;
-  short = is.short;
-}
+-- the text is cut into these tokens
+pub record IsCut {P : Type 0} (piece : Lexeme → P) (Good : Lexeme → Type 0) (bytes : List ℕ) (tokens : List P) : Type 0 where
+  pub lexed : List Lexeme
+  pub cut_is : cut 0 bytes ≡ Some lexed
+  pub pieces_are : map piece lexed ≡ tokens
+  pub good : AllByRecursion Good lexed
 
--- a token before others
-put : (kind : Kind) (bytes text rest : List ℕ) (ps : List Piece) → cut 0 text ≡ put_before (kind, bytes) (cut 0 rest) → is_long kind bytes
-    ≡ false → IsCut rest ps → IsCut text (piece_of kind bytes ∷ ps)
-put kind bytes text rest ps front this is = record {
-  lexed = (kind, bytes) ∷ is.lexed;
-  cut_is = front ∙ ap (put_before (kind, bytes)) is.cut_is;
-  pieces_are = ap (λ (qs : List Piece). piece_of kind bytes ∷ qs) is.pieces_are;
-  short = ap (λ b. b || has_long is.lexed) this ∙ is.short;
-}
+-- a part of a text is cut into these tokens, whatever of this kind stands after it
+pub record CutBefore {P : Type 0} (piece : Lexeme → P) (Good : Lexeme → Type 0) (Later : List ℕ → Type 0) (part : List ℕ) (tokens : List P) : Type 0 where
+  pub again : (rest : List ℕ) (ps : List P) → Later rest → IsCut piece Good rest ps → IsCut piece Good (part ++ rest) (tokens ++ ps)
 
--- a name or text that isn't too long stands for itself
-word_is : (b : Bool) (word : List ℕ) → b ≡ true → (if b then word else []) ≡ word
-word_is true word h = refl
-word_is false word h = absurd (cc h)
+-- and the tokens are spelled so
+pub record ReadsBefore {P : Type 0} (piece : Lexeme → P) (Good : Lexeme → Type 0) (Later : List ℕ → Type 0) (part : List ℕ) (S : List P → Type 0) : Type 0 where
+  pub tokens : List P
+  pub spelled : S tokens
+  pub cut : CutBefore piece Good Later part tokens
 
-short_is : (word : List ℕ) → length word ≤ WORD_LIMIT → is_short word ≡ true
-short_is word h = grind (arith, nat_tests, h)
+module _ {P : Type 0} {piece : Lexeme → P} {Good : Lexeme → Type 0} where
+  pub nothing_is_cut : IsCut piece Good [] []
+  unfolding cut
+  nothing_is_cut = record { lexed = []; cut_is = refl; pieces_are = refl; good = tt }
 
-pub read_blank : (rest : List ℕ) (ps : List Piece) → IsCut rest ps → IsCut (32 ∷ rest) ps
-read_blank rest ps is = record { lexed = is.lexed; cut_is = cut_blank 32 rest refl ∙ is.cut_is; pieces_are = is.pieces_are; short = is.short }
+  -- the same text and tokens, grouped in another way
+  pub regrouped : {x y : List ℕ} {ps qs : List P} → x ≡ y → ps ≡ qs → IsCut piece Good y qs → IsCut piece Good x ps
+  regrouped text tokens is =
+      record { lexed = is.lexed; cut_is = ap (cut 0) text ∙ is.cut_is; pieces_are = is.pieces_are ∙ sym tokens; good = is.good }
 
-pub read_name : (name rest : List ℕ) (ps : List Piece) → IsShortName name → name_len rest ≡ 0 → IsCut rest ps → IsCut (name ++ rest) (NAME name ∷ ps)
-read_name name rest ps name_is ends is =
-    let form : IsName name = name_is.0 in
-    let short : is_short name ≡ true = short_is name name_is.1 in
-    let kind : word_kind name ≡ kinds.Name = ap (λ (code : Option ℕ). option_map_or (λ c. kinds.Key c) code kinds.Name) form.1 in
-    regrouped (name ++ rest) (name ++ rest) (NAME name ∷ ps) (NAME (short_word name) ∷ ps) refl
-    (ap (λ (n : List ℕ). NAME n ∷ ps) (sym (word_is (is_short name) name short)))
-    (put kinds.Name name (name ++ rest) rest ps (cut_word name rest form.0 ends ∙ ap (λ (k : Kind). put_before (k, name) (cut 0 rest)) kind) (ap not short) is)
+  pub blank_first : {rest : List ℕ} {ps : List P} → IsCut piece Good rest ps → IsCut piece Good (32 ∷ rest) ps
+  blank_first {rest = rest} is =
+      record { lexed = is.lexed; cut_is = cut_blank 32 rest refl ∙ is.cut_is; pieces_are = is.pieces_are; good = is.good }
 
-pub read_key : (code : ℕ) (word rest : List ℕ) (ps : List Piece) → IsTrue (is_word word) → code_of reserved_words word ≡ Some code
-    → name_len rest ≡ 0 → IsCut rest ps → IsCut (word ++ rest) (unwrap_or (slice_get reserved code) OTHER ∷ ps)
-read_key code word rest ps is_key found ends is =
-    let kind : word_kind word ≡ kinds.Key code = ap (λ (c : Option ℕ). option_map_or (λ d. kinds.Key d) c kinds.Name) found in
-    put (kinds.Key code) word (word ++ rest) rest ps (cut_word word rest is_key ends ∙ ap (λ (k : Kind). put_before (k, word) (cut 0 rest)) kind) refl is
+  -- without the blank in front
+  pub behind_blank : {rest : List ℕ} {ps : List P} → IsCut piece Good (32 ∷ rest) ps → IsCut piece Good rest ps
+  behind_blank {rest = rest} is =
+      record { lexed = is.lexed; cut_is = sym (cut_blank 32 rest refl) ∙ is.cut_is; pieces_are = is.pieces_are; good = is.good }
 
-pub read_number : (number rest : List ℕ) (ps : List Piece) → IsTrue (is_number number) → Ends rest → IsCut rest ps → IsCut (number ++ rest) (NUMBER number ∷ ps)
-read_number number rest ps is_number ends is = put kinds.Number number (number ++ rest) rest ps
-    (cut_number number rest is_number ends.digits ends.fraction) refl is
+  -- a token before others
+  pub put : (kind : Kind) (bytes : List ℕ) {text rest : List ℕ} {ps : List P} → IsCut piece Good rest ps
+      → cut 0 text ≡ put_before (kind, bytes) (cut 0 rest) → Good (kind, bytes) → IsCut piece Good text (piece (kind, bytes) ∷ ps)
+  put kind bytes {ps = ps} is front good = record {
+    lexed = (kind, bytes) ∷ is.lexed;
+    cut_is = front ∙ ap (put_before (kind, bytes)) is.cut_is;
+    pieces_are = ap (λ (qs : List P). piece (kind, bytes) ∷ qs) is.pieces_are;
+    good = (good, is.good);
+  }
 
-inside : (text : List ℕ) → unquoted (34 ∷ text ++ 34 ∷ []) ≡ text
+  pub no_cut : {Later : List ℕ → Type 0} → CutBefore piece Good Later [] []
+  no_cut = record { again = λ rest ps ends is. is }
+
+  -- a word that has this kind
+  pub word_cut : (kind : Kind) (word : List ℕ) → IsTrue (is_word word) → word_kind word ≡ kind → Good (kind, word)
+      → CutBefore piece Good NameEnds word (piece (kind, word) ∷ [])
+  word_cut kind word is_word same good = record {
+    again = λ rest ps ends is.
+        put kind word is (cut_word word rest is_word ends ∙ ap (λ (k : Kind). put_before (k, word) (cut 0 rest)) same) good;
+  }
+
+  pub name_cut : (name : List ℕ) → IsTrue (is_word name) → code_of reserved_words name ≡ None → Good (kinds.Name, name)
+      → CutBefore piece Good NameEnds name (piece (kinds.Name, name) ∷ [])
+  name_cut name is_name none good =
+      word_cut kinds.Name name is_name (ap (λ (code : Option ℕ). option_map_or (λ c. kinds.Key c) code kinds.Name) none) good
+
+  pub key_cut : (code : ℕ) (word : List ℕ) → IsTrue (is_word word) → code_of reserved_words word ≡ Some code → Good (kinds.Key code, word)
+      → CutBefore piece Good NameEnds word (piece (kinds.Key code, word) ∷ [])
+  key_cut code word is_key found good =
+      word_cut (kinds.Key code) word is_key (ap (λ (c : Option ℕ). option_map_or (λ d. kinds.Key d) c kinds.Name) found) good
+
+  pub number_cut : (number : List ℕ) → IsTrue (is_number number) → Good (kinds.Number, number)
+      → CutBefore piece Good Ends number (piece (kinds.Number, number) ∷ [])
+  number_cut number is_number good =
+      record { again = λ rest ps ends is. put kinds.Number number is (cut_number number rest is_number ends.digits ends.fraction) good }
+
+  pub text_cut : {Later : List ℕ → Type 0} (text : List ℕ) → IsTrue (has_no_quote text) → Good (kinds.Text, 34 ∷ text ++ 34 ∷ [])
+      → CutBefore piece Good Later (34 ∷ text ++ 34 ∷ []) (piece (kinds.Text, 34 ∷ text ++ 34 ∷ []) ∷ [])
+  text_cut text none good =
+      record { again = λ rest ps ends is. put kinds.Text (34 ∷ text ++ 34 ∷ []) is (cut_text (34 ∷ text ++ 34 ∷ []) rest (quoted_form text none)) good }
+
+  -- after a symbol of one byte
+  pub led : {Later : List ℕ → Type 0} {part : List ℕ} {tokens : List P} (code symbol : ℕ) → IsTrue (stands_alone symbol)
+      → code_of symbols (symbol ∷ []) ≡ Some code → Good (kinds.Sym code, symbol ∷ []) → CutBefore piece Good Later part tokens
+      → CutBefore piece Good Later (symbol ∷ part) (piece (kinds.Sym code, symbol ∷ []) ∷ tokens)
+  led {part = part} {tokens = tokens} code symbol alone found good cut = record {
+    again = λ rest ps ends is.
+        put (kinds.Sym code) (symbol ∷ []) (cut.again rest ps ends is) (cut_symbol symbol (part ++ rest) code alone found) good;
+  }
+
+  -- after a space
+  pub spaced_cut : {Later : List ℕ → Type 0} {part : List ℕ} {tokens : List P} → CutBefore piece Good Later part tokens
+      → CutBefore piece Good Later (32 ∷ part) tokens
+  spaced_cut cut = record { again = λ rest ps ends is. blank_first (cut.again rest ps ends is) }
+
+  -- what may stand after it is less
+  pub narrowed : {Later Last : List ℕ → Type 0} {part : List ℕ} {tokens : List P} → CutBefore piece Good Later part tokens
+      → ((rest : List ℕ) → Last rest → Later rest) → CutBefore piece Good Last part tokens
+  narrowed cut less = record { again = λ rest ps ends is. cut.again rest ps (less rest ends) is }
+
+  -- where no number may go on either
+  pub closed_word : {part : List ℕ} {tokens : List P} → CutBefore piece Good NameEnds part tokens → CutBefore piece Good Ends part tokens
+  closed_word cut = narrowed cut (λ rest ends. ends.name)
+
+  -- one after the other
+  pub then_cut : {Later Last : List ℕ → Type 0} {x y : List ℕ} {xs ys : List P} → CutBefore piece Good Later x xs → CutBefore piece Good Last y ys
+      → ((rest : List ℕ) → Last rest → Later (y ++ rest)) → CutBefore piece Good Last (x ++ y) (xs ++ ys)
+  then_cut {x = x} {y = y} {xs = xs} {ys = ys} first second between = record {
+    again = λ rest ps ends is.
+        regrouped (append_assoc x y rest) (append_assoc xs ys ps) (first.again (y ++ rest) (ys ++ ps) (between rest ends) (second.again rest ps ends is));
+  }
+
+  pub closed_cut : {Last : List ℕ → Type 0} {x y : List ℕ} {xs ys : List P} → CutBefore piece Good Anything x xs → CutBefore piece Good Last y ys
+      → CutBefore piece Good Last (x ++ y) (xs ++ ys)
+  closed_cut first second = then_cut first second (λ rest ends. tt)
+
+  -- before a byte at which what stands before it ends
+  pub parted : {Later Last : List ℕ → Type 0} {b : ℕ} {x y : List ℕ} {xs ys : List P} → ((rest : List ℕ) → Later (b ∷ rest))
+      → CutBefore piece Good Later x xs → CutBefore piece Good Last (b ∷ y) ys → CutBefore piece Good Last (x ++ (b ∷ y)) (xs ++ ys)
+  parted {y = y} stops first second = then_cut first second (λ rest ends. stops (y ++ rest))
+
+  -- with a space between
+  pub apart_cut : {Last : List ℕ → Type 0} {x y : List ℕ} {xs ys : List P} → CutBefore piece Good Ends x xs → CutBefore piece Good Last y ys
+      → CutBefore piece Good Last (x ++ (32 ∷ y)) (xs ++ ys)
+  apart_cut first second = parted blank_ends first (spaced_cut second)
+
+  -- the same text, grouped in another way
+  pub same_cut : {Later : List ℕ → Type 0} {x y : List ℕ} {tokens : List P} → CutBefore piece Good Later x tokens → y ≡ x
+      → CutBefore piece Good Later y tokens
+  same_cut cut same = record { again = λ rest ps ends is. regrouped (ap (λ (t : List ℕ). t ++ rest) same) refl (cut.again rest ps ends is) }
+
+  pub reads : {Later : List ℕ → Type 0} {part : List ℕ} {Spelled : List P → Type 0} {tokens : List P} → Spelled tokens
+      → CutBefore piece Good Later part tokens → ReadsBefore piece Good Later part Spelled
+  reads {tokens = tokens} spelled cut = record { tokens = tokens; spelled = spelled; cut = cut }
+
+  -- nothing stands after it
+  pub read_last : {part : List ℕ} {Spelled : List P → Type 0} (r : ReadsBefore piece Good Ends part Spelled) → IsCut piece Good part r.tokens
+  read_last {part = part} r =
+      regrouped (sym (append-nil part)) (sym (append-nil r.tokens)) (r.cut.again [] [] nothing_ends nothing_is_cut)
+
+-- what stands between the quotes of a text
+pub inside : (text : List ℕ) → unquoted (34 ∷ text ++ 34 ∷ []) ≡ text
 inside text =
     let size : length (34 ∷ text ++ 34 ∷ []) - 2 ≡ length text = omega (arith, length-append text (34 ∷ [])) in
     ap (λ (n : ℕ). take n (text ++ 34 ∷ [])) size ∙ take_at text (34 ∷ []) (length text) refl
-
-pub read_text : (text rest : List ℕ) (ps : List Piece) → IsQuotable text → IsCut rest ps → IsCut ((34 ∷ text ++ 34 ∷ []) ++ rest) (TEXT text ∷ ps)
-read_text text rest ps text_is is =
-    let quoted : List ℕ = 34 ∷ text ++ 34 ∷ [] in
-    let short : is_short text ≡ true = short_is text text_is.1 in
-    let word : short_word (unquoted quoted) ≡ text = ap short_word (inside text) ∙ word_is (is_short text) text short in
-    regrouped (quoted ++ rest) (quoted ++ rest) (TEXT text ∷ ps) (TEXT (short_word (unquoted quoted)) ∷ ps) refl (ap (λ (t : List ℕ). TEXT t ∷ ps) (sym word))
-    (put kinds.Text quoted (quoted ++ rest) rest ps (cut_text quoted rest (quoted_form text text_is.0)) (ap not (ap is_short (inside text) ∙ short)) is)
-
-pub read_symbol : (code symbol : ℕ) (rest : List ℕ) (ps : List Piece) → IsTrue (stands_alone symbol) → code_of symbols (symbol ∷ [])
-    ≡ Some code → IsCut rest ps → IsCut (symbol ∷ rest) (unwrap_or (slice_get signs code) OTHER ∷ ps)
-read_symbol code symbol rest ps alone found is = put (kinds.Sym code) (symbol ∷ []) (symbol ∷ rest) rest ps (cut_symbol symbol rest code alone found) refl is
-
--- comparisons, which have a blank after them
-pub read_op : (op : Op) (rest : List ℕ) (ps : List Piece) → IsCut rest ps → IsCut (op_word op ++ 32 ∷ rest) (COMPARISON op ∷ ps)
-unfolding cut token_at symbols
-read_op ops.Lt rest ps is = put (kinds.Sym 13) (codes "<") (60 ∷ 32 ∷ rest) (32 ∷ rest) ps refl refl (read_blank rest ps is)
-read_op ops.Le rest ps is = put (kinds.Sym 11) (codes "<=") (60 ∷ 61 ∷ 32 ∷ rest) (32 ∷ rest) ps refl refl (read_blank rest ps is)
-read_op ops.Eq rest ps is = put (kinds.Sym 9) (codes "=") (61 ∷ 32 ∷ rest) (32 ∷ rest) ps refl refl (read_blank rest ps is)
-read_op ops.Ne rest ps is = put (kinds.Sym 10) (codes "!=") (33 ∷ 61 ∷ 32 ∷ rest) (32 ∷ rest) ps refl refl (read_blank rest ps is)
-read_op ops.Ge rest ps is = put (kinds.Sym 12) (codes ">=") (62 ∷ 61 ∷ 32 ∷ rest) (32 ∷ rest) ps refl refl (read_blank rest ps is)
-read_op ops.Gt rest ps is = put (kinds.Sym 14) (codes ">") (62 ∷ 32 ∷ rest) (32 ∷ rest) ps refl refl (read_blank rest ps is)
-
-pub read_arrow : (rest : List ℕ) (ps : List Piece) → IsCut rest ps → IsCut (60 ∷ 45 ∷ rest) (ARROW ∷ ps)
-unfolding cut token_at symbols
-read_arrow rest ps is = put (kinds.Sym 15) (codes "<-") (60 ∷ 45 ∷ rest) rest ps refl refl is

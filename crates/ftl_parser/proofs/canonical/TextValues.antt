@@ -1,27 +1,11 @@
 -- For this crate and for the crates above: canonical numbers are number tokens, and stand for their values.
-use Rattle.std.proofs.Common.{◌≡◌, ℕ, suc, ◌+◌, ◌-◌, ◌/◌, ◌%◌, ◌^◌, ◌<◌, ◌≤◌, Bool, true, false, not, ◌&&◌, List, [], ◌∷◌, ◌++◌, drop, length, append-nil, length-append, Option, Some, ℤ, pos, negsuc, IsTrue, refl, sym, ap, subst, ◌∙◌, arith, cond, leb, eqb}
-use Rattle.std.specs.Prelude.{unwrap_or, is_some}
-use Rattle.std.specs.List.{list_all, suffix_len}
-use Rattle.std.specs.Char.{is_ascii_digit, digit_value}
-use Rattle.std.specs.Int.{is_negative}
-use Rattle.std.specs.Fmt.{decimal, sign_text}
-use Rattle.std.specs.Str.Parse.{AllDigits}
-use Rattle.std.proofs.lemmas.Bool.Decides.{nat_tests}
-use Rattle.std.proofs.lemmas.Fmt.{decimal_is_IsNumeral}
+use Rattle.ftl_parser.proofs.Names.{◌≡◌, ℕ, suc, ◌+◌, ◌-◌, ◌/◌, ◌%◌, ◌^◌, ◌<◌, ◌≤◌, Bool, true, false, not, ◌&&◌, List, [], ◌∷◌, ◌++◌, drop, length, append-nil, length-append, Option, Some, ℤ, pos, negsuc, IsTrue, refl, sym, ap, subst, ◌∙◌, arith, cond, leb, eqb, unwrap_or, is_some, list_all, suffix_len, is_ascii_digit, digit_value, is_negative, decimal, sign_text, AllDigits, nat_tests, decimal_is_IsNumeral, READ_LIMIT, thousandths_of, IsDecimal, point_text, fix_text, three_digits, without_last_zeros, digits_len, fraction_len, number_len, is_number, RADIUS_LIMIT, LAST_TICK, TIMES_LIMIT, whole_of, literal, radius, ticks, times, fits, Literal, Radius, Times}
 use Rattle.std.proofs.Math.Seq.{drop-append_seam}
-use Rattle.fixed_point.specs.declared.number.TheConstants.{READ_LIMIT}
-use Rattle.fixed_point.specs.Decimal.{thousandths_of, IsDecimal, point_text}
-use Rattle.fixed_point.specs.Canonical.{fix_text, three_digits, without_last_zeros}
 use Rattle.fixed_point.proofs.DecimalLemmas.{decimal_law}
 use Rattle.fixed_point.proofs.CanonicalLemmas.{printed_law}
 use Rattle.fixed_point.proofs.DigitLemmas.{digits_taken}
-use Rattle.ftl_lexer.specs.Forms.{digits_len, fraction_len, number_len}
-use Rattle.ftl_lexer.specs.Cut.{is_number}
-use Rattle.geometry.specs.declared.limits.TheConstants.{RADIUS_LIMIT}
-use Rattle.tick_set.specs.declared.spans.TheConstants.{LAST_TICK}
-use Rattle.formula_shape.specs.declared.limits.TheConstants.{TIMES_LIMIT}
-use Rattle.ftl_parser.specs.Number.{whole_of, literal, radius, ticks, times, fits, Literal, Radius, Ticks, Times}
-use Rattle.ftl_parser.proofs.canonical.TextNumbers.{fix_text_is, whole_is}
+use Rattle.ftl_parser.specs.Number.{Ticks}
+use Rattle.ftl_parser.proofs.canonical.TextNumbers.{fix_text_is}
 
 -- ---- digits are counted
 
@@ -94,25 +78,23 @@ fix_is_number n within =
     subst (λ (text : List ℕ). IsTrue (is_number text)) (sym (plain_text n))
     (parts_are_number (decimal (n / 1000)) (without_last_zeros three) number.0.1 number.0.0 behind)
 
-read_again : (n : ℕ) → n ≤ READ_LIMIT → thousandths_of READ_LIMIT (fix_text (pos n)) ≡ Some (pos n)
-read_again n within = printed_law (pos n) within
+pub read_again : (limit n : ℕ) → n ≤ limit → limit ≤ READ_LIMIT → thousandths_of limit (fix_text (pos n)) ≡ Some (pos n)
+read_again limit n within small =
+    let number : IsDecimal (fix_text (pos n)) (pos n) =
+    ((decimal_law READ_LIMIT (fix_text (pos n)) (pos n)).0 (printed_law (pos n) (omega (arith, within, small)))).0 in
+    (decimal_law limit (fix_text (pos n)) (pos n)).1 (number, within)
 
 pub literal_again : (n : ℕ) → n ≤ READ_LIMIT → literal (fix_text (pos n)) ≡ pos n
-literal_again n within = ap (λ (found : Option ℤ). unwrap_or found (pos 0)) (read_again n within)
+literal_again n within = ap (λ (found : Option ℤ). unwrap_or found (pos 0)) (read_again READ_LIMIT n within (omega arith))
 
 pub literal_fits : (n : ℕ) → n ≤ READ_LIMIT → fits Literal (fix_text (pos n)) ≡ true
-literal_fits n within = ap (λ (found : Option ℤ). is_some found) (read_again n within)
-
-read_radius : (n : ℕ) → n ≤ RADIUS_LIMIT → thousandths_of RADIUS_LIMIT (fix_text (pos n)) ≡ Some (pos n)
-read_radius n within =
-    let number : IsDecimal (fix_text (pos n)) (pos n) = ((decimal_law READ_LIMIT (fix_text (pos n)) (pos n)).0 (read_again n (omega arith))).0 in
-    (decimal_law RADIUS_LIMIT (fix_text (pos n)) (pos n)).1 (number, within)
+literal_fits n within = ap (λ (found : Option ℤ). is_some found) (read_again READ_LIMIT n within (omega arith))
 
 pub radius_again : (n : ℕ) → n ≤ RADIUS_LIMIT → radius (fix_text (pos n)) ≡ pos n
-radius_again n within = ap (λ (found : Option ℤ). unwrap_or found (pos 0)) (read_radius n within)
+radius_again n within = ap (λ (found : Option ℤ). unwrap_or found (pos 0)) (read_again RADIUS_LIMIT n within (omega arith))
 
 pub radius_fits : (n : ℕ) → n ≤ RADIUS_LIMIT → fits Radius (fix_text (pos n)) ≡ true
-radius_fits n within = ap (λ (found : Option ℤ). is_some found) (read_radius n within)
+radius_fits n within = ap (λ (found : Option ℤ). is_some found) (read_again RADIUS_LIMIT n within (omega arith))
 
 -- ---- whole numbers
 
@@ -120,20 +102,21 @@ all_pass : (text : List ℕ) → AllDigits 10 text → list_all is_ascii_digit t
 all_pass [] are = refl
 all_pass (byte ∷ text) are = rw (digit_passes byte are.0) (all_pass text are.1)
 
-whole_again : (most n : ℕ) → n ≤ most → most < 2 ^ 64 → whole_of 0 most (decimal n) ≡ Some n
-whole_again most n within small =
-    let number = decimal_is_IsNumeral n (omega arith) in
+pub from_again : (least most n : ℕ) → least ≤ n → n ≤ most → most < 2 ^ 64 → whole_of least most (decimal n) ≡ Some n
+from_again least most n above within small =
+    let number = decimal_is_IsNumeral n (omega (arith, within, small)) in
     let high : leb n most ≡ true = grind (arith, nat_tests, within) in
-    whole_is most (decimal n) ∙ rw (all_pass (decimal n) number.0.1, number.1, high) refl
+    let low : leb least n ≡ true = grind (arith, nat_tests, above) in
+    rw (all_pass (decimal n) number.0.1, number.1, high, low) refl
 
 pub ticks_again : (n : ℕ) → n ≤ LAST_TICK → ticks (decimal n) ≡ n
-ticks_again n within = ap (λ (found : Option ℕ). unwrap_or found 0) (whole_again LAST_TICK n within (omega arith))
+ticks_again n within = ap (λ (found : Option ℕ). unwrap_or found 0) (from_again 0 LAST_TICK n (omega arith) within (omega arith))
 
 pub ticks_fit : (n : ℕ) → n ≤ LAST_TICK → fits Ticks (decimal n) ≡ true
-ticks_fit n within = ap (λ (found : Option ℕ). is_some found) (whole_again LAST_TICK n within (omega arith))
+ticks_fit n within = ap (λ (found : Option ℕ). is_some found) (from_again 0 LAST_TICK n (omega arith) within (omega arith))
 
 pub times_again : (n : ℕ) → n ≤ TIMES_LIMIT → times (decimal n) ≡ n
-times_again n within = ap (λ (found : Option ℕ). unwrap_or found 0) (whole_again TIMES_LIMIT n within (omega arith))
+times_again n within = ap (λ (found : Option ℕ). unwrap_or found 0) (from_again 0 TIMES_LIMIT n (omega arith) within (omega arith))
 
 pub times_fit : (n : ℕ) → n ≤ TIMES_LIMIT → fits Times (decimal n) ≡ true
-times_fit n within = ap (λ (found : Option ℕ). is_some found) (whole_again TIMES_LIMIT n within (omega arith))
+times_fit n within = ap (λ (found : Option ℕ). is_some found) (from_again 0 TIMES_LIMIT n (omega arith) within (omega arith))

@@ -1,15 +1,7 @@
 -- The machine after WHERE alone, and what may stand after a formula.
-use Rattle.std.proofs.Common.{◌≡◌, ℕ, ◌<◌, ◌≤◌, Bool, true, false, List, [], ◌∷◌, Option, None, Some, option_map, option_and_then, refl, IsTrue, arith}
-use Rattle.formula_shape.specs.Shape.{Shape}
+use Rattle.ftl_parser.proofs.Names.{◌≡◌, ℕ, ◌<◌, ◌≤◌, Bool, true, false, List, [], ◌∷◌, Option, None, Some, option_map, option_and_then, refl, IsTrue, arith, Shape, Signed, FromPart, TermPlace, Tree, QueryTree, Piece, AND, OR, UNTIL, CLOSE, POINT, STAR, Level, formula, conj, chain, unary, term_of, Frame, rank, Phase, Body, Within, body_step, body_end, factor_ended, reduced, alone, parsed}
 use Rattle.ftl_parser.specs.declared.tree.Atom.TheVariants as atoms
-use Rattle.ftl_parser.specs.declared.tree.Signed.{Signed}
-use Rattle.ftl_parser.specs.declared.tree.FromPart.{FromPart}
-use Rattle.ftl_parser.specs.declared.state.TermPlace.{TermPlace}
 use Rattle.ftl_parser.specs.declared.state.TermPlace.TheVariants as places
-use Rattle.ftl_parser.specs.Tree.{Tree, QueryTree}
-use Rattle.ftl_parser.specs.Piece.{Piece, AND, OR, UNTIL, CLOSE, POINT, STAR}
-use Rattle.ftl_parser.specs.Grammar.{Level, formula, conj, chain, unary, term_of}
-use Rattle.ftl_parser.specs.inner.Machine.{Frame, rank, Phase, Body, Within, body_step, body_end, factor_ended, reduced, alone, parsed}
 
 -- the formula that the tokens are, from a place of a formula on
 abbrev pub body_parsed : List Frame → Phase → List Piece → Option Tree

@@ -1,26 +1,14 @@
 -- For this crate and for the crates above: what a rule derives, the machine reads.
-use Rattle.std.proofs.Common.{◌≡◌, ℕ, ℤ, ◌<◌, ◌≤◌, Bool, true, false, List, [], ◌∷◌, ◌++◌, Option, None, Some, option_map, IsTrue, refl, sym, ap, ◌∙◌, arith, append_assoc, append-nil}
-use Rattle.std.proofs.lemmas.Bool.Decides.{nat_tests}
-use Rattle.case_table.specs.declared.compare.Op.{Op}
+use Rattle.ftl_parser.proofs.Names.{◌≡◌, ℕ, ℤ, ◌<◌, ◌≤◌, Bool, true, false, List, [], ◌∷◌, ◌++◌, Option, None, Some, option_map, IsTrue, refl, sym, ap, ◌∙◌, arith, append_assoc, append-nil, nat_tests, Op, Shape, Term, Signed, FromPart, TermPlace, Tree, QueryTree, Piece, FROM, WHERE, AND, OR, UNTIL, CLOSE, CLOSE_SQUARE, COMMA, POINT, PLUS, MINUS, STAR, COMPARISON, NAME, NUMBER, ticks, times, literal, radius, ref_name, ref_attr, ref_part, ref_time, SpellsFactor, factor_number, factor_times, factor_text, factor_ref, SpellsTerm, term_first, term_minus_first, term_plus, term_minus, num_plain, num_minus, SpellsNames, names_one, names_more, SpellsParts, parts_one, parts_more, SpellsAtom, atom_compare, atom_inside, atom_outside, atom_dist, atom_sphere, Level, formula, Spells, formula_conj, formula_or, conj_chain, conj_and, chain_unary, chain_until, until_plain, until_within, until_after, unary_prefix, unary_bounded, unary_assign, unary_brackets, unary_truth, unary_atom, SpellsQuery, query, signed, term_of, Frame, Bracket, OrWith, AndWith, UntilWith, PrefixedBy, BoundedBy, Assigning, rank, filled, Want, Have, Reach, InTerm, InSpatial, Heading, start, reduced, closed, alone, parsed}
 use Rattle.fixed_point.specs.declared.variants.UntilForm.TheVariants as untils
-use Rattle.formula_shape.specs.Shape.{Shape}
 use Rattle.ftl_parser.specs.declared.tree.Atom as atom_type
 use Rattle.ftl_parser.specs.declared.tree.Atom.TheVariants as atoms
 use Rattle.ftl_parser.specs.declared.tree.Unit as unit_type
 use Rattle.ftl_parser.specs.declared.tree.Unit.TheVariants as units
-use Rattle.ftl_parser.specs.declared.tree.Term.{Term}
-use Rattle.ftl_parser.specs.declared.tree.Signed.{Signed}
-use Rattle.ftl_parser.specs.declared.tree.FromPart.{FromPart}
-use Rattle.ftl_parser.specs.declared.state.TermPlace.{TermPlace}
 use Rattle.ftl_parser.specs.declared.state.TermPlace.TheVariants as places
 use Rattle.ftl_parser.specs.declared.state.Factor.TheVariants as factors
 use Rattle.ftl_parser.specs.declared.state.Head.TheVariants as heads
 use Rattle.ftl_parser.specs.declared.state.Spatial.TheVariants as spatials
-use Rattle.ftl_parser.specs.Tree.{Tree, QueryTree}
-use Rattle.ftl_parser.specs.Piece.{Piece, FROM, WHERE, AND, OR, UNTIL, CLOSE, CLOSE_SQUARE, COMMA, POINT, PLUS, MINUS, STAR, COMPARISON, NAME, NUMBER}
-use Rattle.ftl_parser.specs.Number.{ticks, times, literal, radius}
-use Rattle.ftl_parser.specs.Grammar.{ref_name, ref_attr, ref_part, ref_time, SpellsFactor, factor_number, factor_times, factor_text, factor_ref, SpellsTerm, term_first, term_minus_first, term_plus, term_minus, num_plain, num_minus, SpellsNames, names_one, names_more, SpellsParts, parts_one, parts_more, SpellsAtom, atom_compare, atom_inside, atom_outside, atom_dist, atom_sphere, Level, formula, Spells, formula_conj, formula_or, conj_chain, conj_and, chain_unary, chain_until, until_plain, until_within, until_after, unary_prefix, unary_bounded, unary_assign, unary_brackets, unary_truth, unary_atom, SpellsQuery, query, signed, term_of}
-use Rattle.ftl_parser.specs.inner.Machine.{Frame, Bracket, OrWith, AndWith, UntilWith, PrefixedBy, BoundedBy, Assigning, rank, filled, Want, Have, Reach, InTerm, InSpatial, Heading, start, reduced, closed, alone, parsed}
 use Rattle.ftl_parser.proofs.grammar.Bodies.{body_parsed, then_parsed, query_with, term_behind, stop, Follows, top, room, cuts, parsed-Within, never, nothing, stop-cuts}
 
 -- frames that bind at least so strongly end

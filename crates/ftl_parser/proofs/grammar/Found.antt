@@ -1,30 +1,14 @@
 -- For this crate and for the crates above: what the machine has read in each state, and that what it parses is
 -- derived by the rules.
-use Rattle.std.proofs.Common.{◌≡◌, ℕ, ◌≤◌, Bool, true, false, List, [], ◌∷◌, ◌++◌, Option, None, Some, option_map, option_and_then, refl, sym, ap, ◌∙◌, subst, arith, append_assoc, append-nil}
-use Rattle.fixed_point.specs.declared.variants.BoundForm.{BoundForm}
-use Rattle.fixed_point.specs.declared.variants.UntilForm.{UntilForm}
+use Rattle.ftl_parser.proofs.Names.{◌≡◌, ℕ, ◌≤◌, Bool, true, false, List, [], ◌∷◌, ◌++◌, Option, None, Some, option_map, option_and_then, refl, sym, ap, ◌∙◌, subst, arith, append_assoc, append-nil, BoundForm, UntilForm, Op, Shape, Signed, FromPart, Head, Pair, TermPlace, Factor, Prefix, Spatial, Tree, QueryTree, Piece, RETRIEVE, FROM, WHERE, AND, OR, TRUTH, PREFIX, BOUNDED, UNTIL, INSIDE, OUTSIDE, DIST, SPHERE, TIME, PART, OPEN, CLOSE, OPEN_SQUARE, CLOSE_SQUARE, COMMA, POINT, PLUS, MINUS, STAR, ARROW, COMPARISON, NAME, NUMBER, TEXT, ticks, times, literal, radius, SpellsRef, ref_name, ref_attr, ref_part, ref_time, SpellsFactor, factor_number, factor_times, factor_text, factor_ref, SpellsTerm, term_first, term_minus_first, term_plus, term_minus, num_plain, num_minus, SpellsNames, names_one, names_more, SpellsParts, parts_one, parts_more, atom_compare, atom_inside, atom_outside, atom_dist, atom_sphere, SpellsUntil, until_plain, until_within, until_after, Level, formula, conj, chain, unary, Spells, formula_conj, formula_or, conj_chain, conj_and, chain_unary, chain_until, unary_prefix, unary_bounded, unary_assign, unary_brackets, unary_truth, unary_atom, SpellsQuery, query, signed, term_of, from_part, Frame, Bracket, OrWith, AndWith, UntilWith, PrefixedBy, BoundedBy, Assigning, Phase, Want, Have, Reach, Variable, Arrow, InTerm, InSpatial, Body, Heading, Within, start, reference, factor_begun, lengthened, whole, reduced, closed, behind, term_ended, factor_ended, behind_factor, longer_or, term_step, spatial_step, wanted, body_step, alone, compared, body_end, parsed}
 use Rattle.fixed_point.specs.declared.variants.UntilForm.TheVariants as untils
-use Rattle.case_table.specs.declared.compare.Op.{Op}
-use Rattle.formula_shape.specs.Shape.{Shape}
 use Rattle.ftl_parser.specs.declared.tree.Unit as unit_type
-use Rattle.ftl_parser.specs.declared.tree.Signed.{Signed}
-use Rattle.ftl_parser.specs.declared.tree.FromPart.{FromPart}
-use Rattle.ftl_parser.specs.declared.state.Head.{Head}
 use Rattle.ftl_parser.specs.declared.state.Head.TheVariants as heads
-use Rattle.ftl_parser.specs.declared.state.Pair.{Pair}
 use Rattle.ftl_parser.specs.declared.state.Pair.TheVariants as pairs
-use Rattle.ftl_parser.specs.declared.state.TermPlace.{TermPlace}
 use Rattle.ftl_parser.specs.declared.state.TermPlace.TheVariants as places
-use Rattle.ftl_parser.specs.declared.state.Factor.{Factor}
 use Rattle.ftl_parser.specs.declared.state.Factor.TheVariants as factors
-use Rattle.ftl_parser.specs.declared.prefix.Prefix.{Prefix}
-use Rattle.ftl_parser.specs.declared.state.Spatial.{Spatial}
 use Rattle.ftl_parser.specs.declared.state.Spatial.TheVariants as spatials
-use Rattle.ftl_parser.specs.Tree.{Tree, QueryTree}
-use Rattle.ftl_parser.specs.Piece.{Piece, RETRIEVE, FROM, WHERE, AND, OR, TRUTH, PREFIX, BOUNDED, UNTIL, INSIDE, OUTSIDE, DIST, SPHERE, TIME, PART, OPEN, CLOSE, OPEN_SQUARE, CLOSE_SQUARE, COMMA, POINT, PLUS, MINUS, STAR, ARROW, COMPARISON, NAME, NUMBER, TEXT}
-use Rattle.ftl_parser.specs.Number.{ticks, times, literal, radius}
-use Rattle.ftl_parser.specs.Grammar.{SpellsRef, ref_name, ref_attr, ref_part, ref_time, SpellsFactor, factor_number, factor_times, factor_text, factor_ref, SpellsTerm, term_first, term_minus_first, term_plus, term_minus, num_plain, num_minus, SpellsNames, names_one, names_more, SpellsParts, parts_one, parts_more, atom_compare, atom_inside, atom_outside, atom_dist, atom_sphere, SpellsUntil, until_plain, until_within, until_after, Level, formula, conj, chain, unary, Spells, formula_conj, formula_or, conj_chain, conj_and, chain_unary, chain_until, unary_prefix, unary_bounded, unary_assign, unary_brackets, unary_truth, unary_atom, SpellsQuery, query, signed, term_of, from_part}
-use Rattle.ftl_parser.specs.inner.Machine.{Frame, Bracket, OrWith, AndWith, UntilWith, PrefixedBy, BoundedBy, Assigning, Phase, Want, Have, Reach, Ticks, Variable, Arrow, InTerm, InSpatial, Body, Heading, Within, start, reference, factor_begun, lengthened, whole, reduced, closed, behind, term_ended, factor_ended, behind_factor, longer_or, term_step, spatial_step, wanted, body_step, alone, compared, body_end, parsed}
+use Rattle.ftl_parser.specs.inner.Machine.{Ticks}
 use Rattle.ftl_parser.proofs.grammar.Bodies.{level_rank, body_parsed, query_with, parsed-Within}
 use Rattle.ftl_parser.proofs.grammar.Drives.{reduced-filled}
 
@@ -154,18 +138,13 @@ raised formula formula below d = d
 raised formula conj below d = formula_conj d
 raised formula chain below d = formula_conj (conj_chain d)
 raised formula unary below d = formula_conj (conj_chain (chain_unary d))
-raised conj formula below d = absurd (omega arith)
 raised conj conj below d = d
 raised conj chain below d = conj_chain d
 raised conj unary below d = conj_chain (chain_unary d)
-raised chain formula below d = absurd (omega arith)
-raised chain conj below d = absurd (omega arith)
 raised chain chain below d = d
 raised chain unary below d = chain_unary d
-raised unary formula below d = absurd (omega arith)
-raised unary conj below d = absurd (omega arith)
-raised unary chain below d = absurd (omega arith)
 raised unary unary below d = d
+raised l m below d = absurd (omega arith)
 
 -- a formula of the level that binds least is one, and one that binds most is below none
 least : (l : Level) → 1 ≤ level_rank l
@@ -264,14 +243,11 @@ TermIf fs (Some u) xs = SpellsTerm (fs ++ u ∷ []) xs
 
 whole-term : {fs : List Signed} {m : Bool} {last : Factor} {xs ys : List Piece} →
     ReadsSign fs m xs → ReadsFactor m last ys → TermIf fs (whole last) (xs ++ ys)
-whole-term s wanted_factor = tt
 whole-term s (number {n = n}) = sign-term s (factor_number {n = n})
-whole-term s times_read = tt
 whole-term s (alone_read t) = sign-term s (times-ref t ref_name)
-whole-term s (dotted t) = tt
 whole-term s (attr t) = sign-term s (times-ref t ref_attr)
-whole-term s (dotted_twice t) = tt
 whole-term s (whole_read d) = sign-term s d
+whole-term s r = tt
 
 -- a factor that may end here is the last one of a term
 term-whole : {fs : List Signed} {last : Factor} {xs : List Piece} → ReadsTerm fs last xs → TermIf fs (whole last) xs
@@ -341,21 +317,13 @@ spelled-same {l = l} {f = f} ys e d = subst (Spells l f) e d
 
 waits-formula : (l : Level) {s : List Frame} {xs : List Piece} → Waits l s xs → level_rank l ≤ 1 → Waits formula s xs
 waits-formula formula w below = w
-waits-formula conj w below = absurd (omega arith)
-waits-formula chain w below = absurd (omega arith)
-waits-formula unary w below = absurd (omega arith)
+waits-formula l w below = absurd (omega arith)
 
 -- a closing bracket
 closed-by : {l : Level} {s : List Frame} {f : Tree} {ys zs : List Piece} (xs : List Piece) → Waits l s ys → Spells formula f zs →
     xs ≡ ys ++ zs → BodyIf (closed (f, s)) (xs ++ CLOSE ∷ [])
-closed-by xs bottom d e = tt
 closed-by {zs = zs} xs (bracket w) d e = reads-body (xs ++ CLOSE ∷ []) w (have (unary_brackets d)) (ap (λ t. t ++ CLOSE ∷ []) e ∙ simp append_assoc)
-closed-by xs (or_with w d) e f = tt
-closed-by xs (and_with w b d) e f = tt
-closed-by xs (until_with w b d u) e f = tt
-closed-by xs (prefixed_by w) e f = tt
-closed-by xs (bounded_by c w) e f = tt
-closed-by xs (assigning w t) e f = tt
+closed-by xs w d e = tt
 
 module _ {l : Level} {s : List Frame} {f : Tree} {ys zs : List Piece} (waits : Waits l s ys) (d : Spells unary f zs) where
   or-behind : (r : Tree × List Frame) → Ends formula r (ys ++ zs) → ReadsBody (OrWith r.0 ∷ r.1) Want ((ys ++ zs) ++ OR ∷ [])
@@ -528,13 +496,7 @@ formula-respelled o xs ys e d = subst (FormulaIf o) e d
 
 alone-by : {l : Level} {s : List Frame} {f : Tree} {ys zs : List Piece} → Waits l s ys → Spells formula f zs → FormulaIf (alone (f, s)) (ys ++ zs)
 alone-by bottom d = d
-alone-by (bracket w) d = tt
-alone-by (or_with w e) d = tt
-alone-by (and_with w b e) d = tt
-alone-by (until_with w b e u) d = tt
-alone-by (prefixed_by w) d = tt
-alone-by (bounded_by c w) d = tt
-alone-by (assigning w t) d = tt
+alone-by w d = tt
 
 reduced-alone : {l : Level} {s : List Frame} {f : Tree} {ys zs : List Piece} → Waits l s ys → Spells unary f zs → FormulaIf (alone (reduced 1 f s)) (ys ++ zs)
 reduced-alone {l = l} {s = s} {f = f} {ys = ys} {zs = zs} w d =
@@ -550,17 +512,9 @@ compared-by {s = s} {gs = gs} op fs zs w t (Some u) d =
 
 -- the end of the tokens
 end-by : {l : Level} {s : List Frame} {phase : Phase} {ys zs : List Piece} → Waits l s ys → Holds l phase zs → FormulaIf (body_end s phase) (ys ++ zs)
-end-by w want = tt
 end-by w (have d) = reduced-alone w d
-end-by w (reach_within below d) = tt
-end-by w (reach_after below d) = tt
-end-by w ticks_wanted = tt
-end-by w variable = tt
-end-by w arrow = tt
-end-by w (in_term left r) = tt
 end-by w (in_term {fs = fs} {last = last} {ys = zs} (right {op = op} t) r) = compared-by op fs zs w t (whole last) (term-whole r)
-end-by w (in_term assigned r) = tt
-end-by w (in_spatial r) = tt
+end-by w h = tt
 
 -- the tokens after WHERE that are parsed spell the formula
 body-spells : (tokens : List Piece) (s : List Frame) (phase : Phase) (xs : List Piece) → ReadsBody s phase xs →

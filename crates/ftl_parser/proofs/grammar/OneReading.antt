@@ -1,14 +1,6 @@
 -- Tokens that are read as a query are read as no other, and in no other way.
-use Rattle.std.proofs.Common.{◌≡◌, ℕ, List, refl, sym, ap, ◌∙◌}
-use Rattle.std.proofs.lemmas.Option.{none-some}
-use Rattle.ftl_parser.specs.declared.fault.ParseFault.{ParseFault}
+use Rattle.ftl_parser.proofs.Names.{◌≡◌, ℕ, List, refl, sym, ap, ◌∙◌, none-some, ParseFault, QueryTree, Lexeme, pieces, has_long, first_too_large, Explains, Reads, HasUnfit, ReadsOneQuery}
 use Rattle.ftl_parser.specs.declared.fault.ParseFault.TheVariants as faults
-use Rattle.ftl_parser.specs.Tree.{QueryTree}
-use Rattle.ftl_lexer.specs.Cut.{Lexeme}
-use Rattle.ftl_parser.specs.Piece.{pieces, has_long}
-use Rattle.ftl_parser.specs.Sizes.{first_too_large}
-use Rattle.ftl_parser.specs.Fault.{Explains, Reads, HasUnfit}
-use Rattle.ftl_parser.specs.TextLaws.{ReadsOneQuery}
 use Rattle.ftl_parser.proofs.grammar.Drives.{one_query}
 use Rattle.ftl_parser.proofs.grammar.Marks.{one_first_unfit}
 

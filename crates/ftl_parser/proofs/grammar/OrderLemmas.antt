@@ -1,19 +1,8 @@
 -- For this crate and for the crates above: names, texts and terms of a query stand in its tokens in the same order.
-use Rattle.std.proofs.Common.{◌≡◌, ℕ, ℤ, true, false, List, [], ◌∷◌, ◌++◌, append_assoc, append-nil, Option, refl, sym, ap, ◌∙◌, subst}
-use Rattle.std.specs.List.{flat_map}
-use Rattle.std.proofs.lemmas.Grind.{flat_map-append}
-use Rattle.fixed_point.specs.declared.variants.UntilForm.TheVariants as untils
-use Rattle.formula_shape.specs.Shape.{Shape}
-use Rattle.ftl_parser.specs.declared.prefix.Prefix.{Prefix}
+use Rattle.ftl_parser.proofs.Names.{◌≡◌, ℕ, ℤ, true, false, List, [], ◌∷◌, ◌++◌, append_assoc, append-nil, Option, refl, sym, ap, ◌∙◌, subst, flat_map, flat_map-append, UntilForm, Shape, Prefix, Signed, Term, FromPart, Tree, QueryTree, Piece, RETRIEVE, FROM, WHERE, AND, OR, PREFIX, BOUNDED, UNTIL, OPEN, CLOSE, OPEN_SQUARE, CLOSE_SQUARE, COMMA, PLUS, MINUS, ARROW, COMPARISON, NAME, NUMBER, SpellsUntil, SpellsRef, ref_name, ref_attr, ref_part, ref_time, SpellsFactor, factor_number, factor_times, factor_text, factor_ref, SpellsTerm, term_first, term_minus_first, term_plus, term_minus, SpellsNum, num_plain, num_minus, SpellsNames, names_one, names_more, SpellsParts, parts_one, parts_more, SpellsAtom, atom_compare, atom_inside, atom_outside, atom_dist, atom_sphere, Level, Spells, formula_conj, formula_or, conj_chain, conj_and, chain_unary, chain_until, until_plain, until_within, until_after, unary_prefix, unary_bounded, unary_assign, unary_brackets, unary_truth, unary_atom, SpellsQuery, query, prefixed, term_of, signed, from_part}
 use Rattle.ftl_parser.specs.declared.prefix.Prefix.TheVariants as prefixes
 use Rattle.ftl_parser.specs.declared.tree.Atom as atom_type
 use Rattle.ftl_parser.specs.declared.tree.Unit as unit_type
-use Rattle.ftl_parser.specs.declared.tree.Signed.{Signed}
-use Rattle.ftl_parser.specs.declared.tree.Term.{Term}
-use Rattle.ftl_parser.specs.declared.tree.FromPart.{FromPart}
-use Rattle.ftl_parser.specs.Tree.{Tree, QueryTree}
-use Rattle.ftl_parser.specs.Piece.{Piece, RETRIEVE, FROM, WHERE, AND, OR, PREFIX, BOUNDED, UNTIL, OPEN, CLOSE, OPEN_SQUARE, CLOSE_SQUARE, COMMA, PLUS, MINUS, ARROW, COMPARISON, NAME, NUMBER}
-use Rattle.ftl_parser.specs.Grammar.{SpellsRef, ref_name, ref_attr, ref_part, ref_time, SpellsFactor, factor_number, factor_times, factor_text, factor_ref, SpellsTerm, term_first, term_minus_first, term_plus, term_minus, SpellsNum, num_plain, num_minus, SpellsNames, names_one, names_more, SpellsParts, parts_one, parts_more, SpellsAtom, atom_compare, atom_inside, atom_outside, atom_dist, atom_sphere, Level, Spells, formula_conj, formula_or, conj_chain, conj_and, chain_unary, chain_until, until_plain, until_within, until_after, unary_prefix, unary_bounded, unary_assign, unary_brackets, unary_truth, unary_atom, SpellsQuery, query, prefixed, term_of, signed, from_part}
 use Rattle.ftl_parser.specs.Order.{Lists, unit_lists, factors_list, term_lists, atom_lists, formula_lists, part_lists, query_lists, piece_lists, token_lists, query_names, token_names, query_texts, token_texts, names_alone, texts_alone, atom_terms, formula_terms, query_terms, TermsIn, no_more_terms, next_term}
 
 -- ---- names and texts, whatever they list
@@ -86,6 +75,11 @@ module _ {R : Type 0} (l : Lists R) where
   lists-prefixed prefixes.Eventually f = refl
   lists-prefixed prefixes.Always f = refl
 
+  lists-until : {form : UntilForm} {n : ℕ} {xs : List Piece} → SpellsUntil form n xs → [] ≡ token_lists l xs
+  lists-until until_plain = refl
+  lists-until until_within = refl
+  lists-until until_after = refl
+
   lists-formula : {level : Level} {f : Tree} {xs : List Piece} → Spells level f xs → formula_lists l f ≡ token_lists l xs
   lists-formula (formula_conj d) = lists-formula d
   lists-formula (formula_or {f = f} {g = g} {xs = xs} {ys = ys} d e) =
@@ -94,12 +88,8 @@ module _ {R : Type 0} (l : Lists R) where
   lists-formula (conj_and {f = f} {g = g} {xs = xs} {ys = ys} d e) =
       joined (formula_lists l f) (formula_lists l g) xs (AND ∷ ys) (lists-formula d) (lists-formula e)
   lists-formula (chain_unary d) = lists-formula d
-  lists-formula (chain_until {f = f} {g = g} {xs = xs} {ys = ys} until_plain d e) =
-      joined (formula_lists l f) (formula_lists l g) xs (UNTIL untils.Plain ∷ ys) (lists-formula d) (lists-formula e)
-  lists-formula (chain_until {f = f} {g = g} {xs = xs} {ys = ys} (until_within {c = c}) d e) =
-      joined (formula_lists l f) (formula_lists l g) xs (UNTIL untils.Within ∷ NUMBER c ∷ ys) (lists-formula d) (lists-formula e)
-  lists-formula (chain_until {f = f} {g = g} {xs = xs} {ys = ys} (until_after {c = c}) d e) =
-      joined (formula_lists l f) (formula_lists l g) xs (UNTIL untils.After ∷ NUMBER c ∷ ys) (lists-formula d) (lists-formula e)
+  lists-formula (chain_until {f = f} {g = g} {xs = xs} {us = us} {ys = ys} u d e) =
+      joined (formula_lists l f) (formula_lists l g) xs (us ++ ys) (lists-formula d) (joined [] (formula_lists l g) us ys (lists-until u) (lists-formula e))
   lists-formula (unary_prefix {w = w} {f = f} d) = lists-prefixed w f ∙ lists-formula d
   lists-formula (unary_bounded d) = lists-formula d
   lists-formula (unary_assign {v = v} {fs = fs} {f = f} {xs = xs} {ys = ys} t d) =

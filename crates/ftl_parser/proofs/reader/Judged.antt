@@ -1,19 +1,9 @@
 -- What is answered of tokens, from what the machine, the scan and the sizes say.
-use Rattle.std.proofs.Common.{◌≡◌, ℕ, ◌+◌, List, Option, None, Some, option_map, Err, refl, sym, ap, ◌∙◌}
-use Rattle.ftl_lexer.specs.Cut.{Lexeme}
-use Rattle.ftl_parser.specs.declared.fault.ParseFault.{ParseFault}
+use Rattle.ftl_parser.proofs.Names.{◌≡◌, ℕ, ◌+◌, List, Option, None, Some, option_map, Err, refl, sym, ap, ◌∙◌, Lexeme, ParseFault, QueryTree, Piece, pieces, has_long, SpellsQuery, first_unfit, first_too_large, start, parsed, taken, scan, first_from, Explains, Reads}
 use Rattle.ftl_parser.specs.declared.fault.ParseFault.TheVariants as faults
 use Rattle.ftl_parser.specs.declared.fault.Size.{Size}
 use Rattle.ftl_parser.specs.declared.scan.Coming.TheVariants as comings
-use Rattle.ftl_parser.specs.Tree.{QueryTree}
-use Rattle.ftl_parser.specs.Piece.{Piece, pieces, has_long}
-use Rattle.ftl_parser.specs.Grammar.{SpellsQuery}
-use Rattle.ftl_parser.specs.Marks.{first_unfit}
-use Rattle.ftl_parser.specs.Sizes.{first_too_large}
-use Rattle.ftl_parser.specs.inner.Machine.{start, parsed, taken}
-use Rattle.ftl_parser.specs.inner.Scan.{scan, first_from}
 use Rattle.ftl_parser.specs.inner.Parses.{Parses}
-use Rattle.ftl_parser.specs.Fault.{Explains, Reads}
 use Rattle.ftl_parser.proofs.reader.TokenLemmas.{first_from-position}
 use Rattle.ftl_parser.proofs.grammar.Found.{found_query}
 use Rattle.ftl_parser.proofs.grammar.Stuck.{stuck}

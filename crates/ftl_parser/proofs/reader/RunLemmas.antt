@@ -1,9 +1,5 @@
 -- The machine on the tokens of a line, one after the other.
-use Rattle.std.proofs.Common.{◌≡◌, ℕ, suc, ◌+◌, ◌≤◌, List, length, None, Some, option_and_then, slice_get, refl, sym, ap, ◌∙◌, arith}
-use Rattle.std.specs.Option.{option_map_or}
-use Rattle.ftl_lexer.specs.Tokens.{lexemes, tokens_of}
-use Rattle.ftl_parser.specs.Piece.{Piece, pieces, pieces_from}
-use Rattle.ftl_parser.specs.inner.Machine.{State, step, parsed, taken, ended, start}
+use Rattle.ftl_parser.proofs.Names.{◌≡◌, ℕ, suc, ◌+◌, ◌≤◌, List, length, None, Some, option_and_then, slice_get, refl, sym, ap, ◌∙◌, arith, option_map_or, lexemes, tokens_of, Piece, pieces, pieces_from, State, step, parsed, taken, ended, start}
 use Rattle.ftl_parser.proofs.reader.TokenLemmas.{pieces_from-step, pieces_from-end}
 
 -- a state from which the tokens that are left give what all tokens give

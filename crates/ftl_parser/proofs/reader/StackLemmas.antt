@@ -1,9 +1,5 @@
 -- The stack as it is kept.
-use Rattle.std.proofs.Common.{◌≡◌, ℕ, ◌≤◌, List, [], ◌∷◌, ◌++◌, Option, Some, ap, ◌∙◌}
-use Rattle.std.specs.Option.{MatchOption, option_to_list}
-use Rattle.std.proofs.lemmas.List.Sums.{fold-append}
-use Rattle.ftl_parser.specs.inner.Machine.{Frame, rank}
-use Rattle.ftl_parser.specs.inner.Views.{stack_of, StaysBelow}
+use Rattle.ftl_parser.proofs.Names.{◌≡◌, ℕ, ◌≤◌, List, [], ◌∷◌, ◌++◌, Option, Some, ap, ◌∙◌, MatchOption, option_to_list, fold-append, Frame, rank, stack_of, StaysBelow}
 
 -- a frame on top of others
 pub stack_of-push : (below : List Frame) (w : Frame) → stack_of (below ++ w ∷ []) ≡ w ∷ stack_of below

@@ -1,11 +1,6 @@
 -- Words and symbols: no name, number or text is among them.
-use Rattle.std.proofs.Common.{◌≡◌, ℕ, zero, suc, Bool, true, false, List, [], ◌∷◌, unwrap_or, slice_get, refl, arith}
-use Rattle.std.specs.List.{list_all}
-use Rattle.ftl_lexer.specs.declared.kinds.Kind.{Kind}
+use Rattle.ftl_parser.proofs.Names.{◌≡◌, ℕ, zero, suc, Bool, true, false, List, [], ◌∷◌, unwrap_or, slice_get, refl, arith, list_all, Kind, Coming, Piece, piece_of, signs, reserved, NAME, NUMBER, TEXT, OTHER, mark}
 use Rattle.ftl_lexer.specs.declared.kinds.Kind.TheVariants as kinds
-use Rattle.ftl_parser.specs.declared.scan.Coming.{Coming}
-use Rattle.ftl_parser.specs.Piece.{Piece, piece_of, signs, reserved, NAME, NUMBER, TEXT, OTHER}
-use Rattle.ftl_parser.specs.inner.Scan.{mark}
 
 -- neither a name nor a number nor a text
 abbrev is_fixed : Piece → Bool

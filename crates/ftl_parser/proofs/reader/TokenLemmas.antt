@@ -1,14 +1,5 @@
 -- The tokens of a line, one after the other.
-use Rattle.std.proofs.Common.{◌≡◌, ℕ, zero, suc, ◌+◌, ◌≤◌, Bool, true, false, List, [], ◌∷◌, ◌||◌, length, drop, Option, None, Some, option_map, position, slice_get, refl, sym, ap, ◌∙◌, arith, add-one, add-zero}
-use Rattle.std.specs.List.{list_any}
-use Rattle.std.proofs.lemmas.Bool.Decides.{nat_tests}
-use Rattle.std.proofs.lemmas.List.{length-map}
-use Rattle.std.proofs.lemmas.Option.{slice_get_within}
-use Rattle.ftl_lexer.specs.Tokens.{lexemes, tokens_of}
-use Rattle.ftl_lexer.specs.Cut.{Lexeme}
-use Rattle.ftl_parser.specs.declared.scan.Coming.{Coming}
-use Rattle.ftl_parser.specs.Piece.{Piece, piece_of, pieces, pieces_from, lexemes_from, is_long, has_long}
-use Rattle.ftl_parser.specs.inner.Scan.{coming, mark, scan, first_from}
+use Rattle.ftl_parser.proofs.Names.{◌≡◌, ℕ, zero, suc, ◌+◌, ◌≤◌, Bool, true, false, List, [], ◌∷◌, ◌||◌, length, drop, Option, None, Some, option_map, position, slice_get, refl, sym, ap, ◌∙◌, arith, add-one, add-zero, list_any, nat_tests, length-map, slice_get_within, lexemes, tokens_of, Lexeme, Coming, Piece, piece_of, pieces, pieces_from, lexemes_from, is_long, has_long, coming, mark, scan, first_from}
 
 -- a token, and those after it
 drop-pieces : (l : List Lexeme) (at : ℕ) (p : Piece) → slice_get (pieces l) at ≡ Some p → pieces (drop at l) ≡ p ∷ pieces (drop (suc at) l)

@@ -1,7 +1,4 @@
-use Rattle.std.proofs.Common.{◌≡◌, ◌≤◌, length}
-use Rattle.std.specs.Char.{is_ascii_digit}
-use Rattle.std.specs.List.{list_all}
-use Rattle.std.specs.Str.Parse.{digits_value, digits_value_after}
+use Rattle.ftl_parser.proofs.Names.{◌≡◌, ◌≤◌, length, is_ascii_digit, list_all, digits_value, digits_value_after}
 use Rattle.ftl_parser.proofs.number.up_to.Given as goal
 
 -- the digits that are left go on from the value

@@ -1,9 +1,4 @@
-use Rattle.std.proofs.Common.{sym, ◌∙◌, ap, subst}
-use Rattle.ftl_parser.specs.Lawful.{IsLawful}
-use Rattle.ftl_parser.specs.Piece.{lexemes_from}
-use Rattle.ftl_parser.specs.Sizes.{first_too_large}
-use Rattle.ftl_parser.specs.Tree.{Tree}
-use Rattle.ftl_parser.specs.inner.Views.{spelled_view}
+use Rattle.ftl_parser.proofs.Names.{sym, ◌∙◌, ap, subst, IsLawful, lexemes_from, first_too_large, Tree, spelled_view}
 use Rattle.ftl_parser.proofs.reader.Judged.{large-explained, reads}
 use Rattle.ftl_parser.proofs.canonical.TextShapes.{reads_lawful}
 use Rattle.ftl_parser.proofs.reading.parse.Goals as goal

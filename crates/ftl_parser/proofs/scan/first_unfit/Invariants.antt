@@ -1,7 +1,5 @@
-use Rattle.std.proofs.Common.{◌≡◌}
+use Rattle.ftl_parser.proofs.Names.{◌≡◌, pieces_from, scan, first_from}
 use Rattle.ftl_parser.specs.declared.scan.Coming.TheVariants as comings
-use Rattle.ftl_parser.specs.Piece.{pieces_from}
-use Rattle.ftl_parser.specs.inner.Scan.{scan, first_from}
 use Rattle.ftl_parser.proofs.scan.first_unfit.Given as goal
 
 -- the tokens that are left tell the same
