@@ -10,7 +10,7 @@ ghost use Rattle.formula.specs.Variables.{has_variable, variables_in};
 ghost use Rattle.formula.specs.declared.value.Env.{Env};
 ghost use Rattle.formula.specs.declared.value.Value.{Value};
 
-use crate::limits::{DYNAMIC_BOUND, TIME_BOUND};
+use crate::limits::{DYNAMIC_BOUND, QUERY_LIMIT, TIME_BOUND};
 use formula_shape::{NESTING_LIMIT, OBJECT_LIMIT};
 use tick_set::LAST_TICK;
 
@@ -18,6 +18,7 @@ use tick_set::LAST_TICK;
 pub fn limits_in_numbers()
     ensures dynamic { DYNAMIC_BOUND ≡ 1001 * 10 ^ 12 }
     ensures time { TIME_BOUND ≡ 1000 * LAST_TICK }
+    ensures queries { QUERY_LIMIT ≡ 2 ^ 8 }
 {}
 
 /// A value is found at the depth at which it was bound last, up to the limit of nesting, and nowhere else.

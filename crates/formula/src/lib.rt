@@ -17,7 +17,8 @@ pub use fixed_point::Items;
 pub use formula_shape::{
     DEPTH_LIMIT, FACTOR_LIMIT, NESTING_LIMIT, NODE_LIMIT, OBJECT_LIMIT, TIMES_LIMIT,
 };
-pub use limits::{DYNAMIC_BOUND, TIME_BOUND};
+pub use kind::QueryKind;
+pub use limits::{DYNAMIC_BOUND, QUERY_LIMIT, TIME_BOUND};
 pub use tree::{ClassNo, RAtom, RFormula, RQuery, RSigned, RTerm, RUnit};
 pub use value::{Env, Value, ValueKind};
 pub use var_set::{VarSet, free, free_in_term};

@@ -8,3 +8,6 @@ pub mod NumberLemmas
 pub mod PageLemmas
 pub mod RisingLemmas
 pub mod SearchLemmas
+pub mod SpanTurnLemmas
+pub mod SteadyLemmas
+pub mod TurnLemmas

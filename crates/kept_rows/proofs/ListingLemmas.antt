@@ -1,5 +1,5 @@
 -- Lists of what there is of each number, and the ticks of the rows of some numbers.
-use Rattle.std.proofs.Common.{◌≡◌, ℕ, zero, suc, ◌+◌, ◌*◌, ◌/◌, ◌-◌, ◌<◌, ◌≤◌, Bool, true, false, ◌&&◌, ◌||◌, leb, Option, None, Some, List, [], ◌∷◌, ◌++◌, refl, ap, sym, ◌∙◌, inl, inr, append_assoc, arith, if◌then◌else◌}
+use Rattle.std.proofs.Common.{◌≡◌, ℕ, zero, suc, ◌+◌, ◌*◌, ◌/◌, ◌-◌, ◌<◌, ◌≤◌, Bool, true, false, ◌&&◌, ◌||◌, Option, None, Some, List, [], ◌∷◌, ◌++◌, refl, ap, sym, ◌∙◌, inl, inr, append_assoc, arith, if◌then◌else◌}
 use Rattle.std.specs.Prelude.{option_to_list}
 use Rattle.std.specs.List.{range_with_len, list_any, cons_option, filter_map, filter}
 use Rattle.std.proofs.lemmas.Bool.{both_ways, cases_lt, false_from_ne_true}
@@ -7,7 +7,7 @@ use Rattle.std.proofs.lemmas.Nat.{div-add-mod', div_below, le-div, mod_below, mu
 use Rattle.tick_set.specs.Runs.{runs_of}
 use Rattle.tick_set.specs.Ticks.{between, listed}
 use Rattle.tick_set.proofs.Between.{any_between_at, any_between_found, same_test}
-use Rattle.kept_rows.specs.Listing.{HaveNone, line_of, lines_between, passing_of, some_row, stands_at, times, when_differ, with_runs}
+use Rattle.kept_rows.specs.Listing.{HaveNone, line_of, lines_between, some_row, times, with_runs}
 
 -- ---- numbers from a up to b
 pub between-first : (a b : ℕ) → a < b → between a b ≡ a ∷ between (a + 1) b
@@ -124,13 +124,6 @@ line-none times from e k none = ap (λ xs. with_runs k (runs_of xs)) (listed-non
 pub and-false : (b : Bool) → (b && false) ≡ false
 and-false true = refl
 and-false false = refl
-
-pub passing-none : (times : ℕ → ℕ → Bool) (e before now k : ℕ) → ((t : ℕ) → times k t ≡ false) → passing_of times e before now k ≡ None
-passing-none times e before now k none =
-    ap (λ b. when_differ k (leb before e && b) (stands_at times e k now)) (none before)
-    ∙ ap (λ b. when_differ k b (stands_at times e k now)) (and-false (leb before e))
-    ∙ ap (λ b. when_differ k false (leb now e && b)) (none now)
-    ∙ ap (λ b. when_differ k false b) (and-false (leb now e))
 
 -- the targets before that of the first row have no ticks
 pub times-none : (rows : ℕ → ℕ → Bool) (width a k first t : ℕ) → HaveNone rows (a * width) first → a ≤ k → k * width + width ≤ first →

@@ -6,3 +6,4 @@ pub mod Moves
 pub mod Numbers
 pub mod Rising
 pub mod Rows
+pub mod Turning

@@ -4,6 +4,7 @@ ghost use Rattle.kept_rows.specs.Rows.{is_made, is_whole, page_has, row_has};
 
 use crate::page::Page;
 use crate::rows::KeptRows;
+use crate::turning::Turning;
 use std::alloc::{AllocError, Global};
 use std::marker::Model;
 use tick_set::TickSet;
@@ -90,6 +91,10 @@ impl<S: TickSet> Changes<S> {
         self.changes.push(change)?;
         Ok(())
     }
+}
+
+impl<S: Turning> Changes<S> {
+    ghost use Rattle.kept_rows.specs.Changes.{AreReady, after};
 
     /// Makes the changes. It takes no memory and can't fail.
     pub fn commit(self, kept: &mut KeptRows<S>)

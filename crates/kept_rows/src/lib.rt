@@ -13,6 +13,8 @@ mod page;
 mod passing;
 mod renewal;
 mod rows;
+mod turning;
+mod turns;
 
 pub use binding::{BINDING_LIMIT, Targets, Variable};
 pub use change::Changes;
@@ -29,6 +31,7 @@ pub use numbers::{number, place, size, size_within};
 pub use passing::{Passing, passed};
 pub use renewal::{Judge, judge_all, refresh};
 pub use rows::KeptRows;
+pub use turning::Turning;
 
 #[cfg(test)]
 mod tests;

@@ -3,7 +3,9 @@ ghost use Rattle.std.specs.Prelude.{◌≡◌, ◌<◌, ◌≤◌, ◌==◌, ◌
 ghost use Rattle.std.specs.Option.{option_copied};
 ghost use Rattle.kept_rows.specs.Listing.{IsNext};
 ghost use Rattle.kept_rows.specs.Rows.{IsPage, is_whole, page_has};
+ghost use Rattle.kept_rows.specs.Turning.{IsSteady};
 
+use crate::turning::Turning;
 use std::alloc::{AllocError, Global};
 use std::marker::Model;
 use tick_set::TickSet;
@@ -117,5 +119,20 @@ impl<S: TickSet> Page<S> {
             ≡ (if i == at then S.member ticks t else page_has S.member self.old i t) }
     {
         self.cells[at] = ticks;
+    }
+}
+
+impl<S: Turning> Page<S> {
+    /// A tick up to which, from `t` on and without it, each place has what it has at `t`.
+    pub(crate) fn steady_until(&self, t: u32) -> u32
+        ensures { (i : ℕ) → IsSteady (page_has S.member self.now i) t result }
+    {
+        let mut end = u32::MAX;
+        let mut at = 0;
+        'cells: while let Some(ticks) = self.get(at) {
+            end = end.min(ticks.steady_until(t));
+            at += 1;
+        }
+        end
     }
 }

@@ -1,8 +1,9 @@
 //! Targets that enter or leave as time passes.
-ghost use Rattle.std.specs.Prelude.{◌≡◌, ◌<◌, ◌≤◌, ◌+◌, ◌*◌, ◌/◌, ◌++◌, ℕ, Bool, [], map, option_to_list, IfOk, OnOk, IfSome, IfNone};
+ghost use Rattle.std.specs.Prelude.{◌≡◌, ◌<◌, ◌≤◌, ◌+◌, ◌*◌, ◌/◌, ◌&&◌, ◌++◌, ℕ, Bool, [], nat_le, map, option_to_list, IfOk, OnOk, IfSome, IfNone};
 ghost use Rattle.std.specs.Option.{option_map};
 ghost use Rattle.kept_rows.specs.Listing.{lines_upto, passing_of, some_row, stands_at, times, when_differ};
 ghost use Rattle.kept_rows.specs.Rows.{row_has};
+ghost use Rattle.kept_rows.specs.Turning.{AreAlike, IsNextTurn};
 
 use crate::binding::Targets;
 use crate::listing::push_some;
@@ -45,7 +46,8 @@ impl Passing {
 }
 
 /// The targets that stand at one of the ticks `before` and `now` and not at the other, in order. None stands at
-/// a tick after the expiry. It fails only where memory is out.
+/// a tick after the expiry. It fails only where memory is out. Where neither tick is after the expiry, it looks only
+/// at rows that may turn, by what [`KeptRows::advance`] found.
 pub fn passed<S: TickSet>(
     alloc: Global,
     kept: &KeptRows<S>,
@@ -60,12 +62,40 @@ pub fn passed<S: TickSet>(
     let mut passings = Vec::new(alloc);
     let mut target = 0;
     let end = targets.count * targets.width;
-    'targets: while let Some(first) = kept.next(target * targets.width, end) {
+    'targets: while let Some(first) = next_passing(
+        kept,
+        target * targets.width,
+        end,
+        expiry,
+        before,
+        now,
+    ) {
         let passing = passing_at(kept, targets, first, expiry, before, now);
         push_some(&mut passings, passing)?;
         target = first / targets.width + 1;
     }
     Ok(passings)
+}
+
+// The first of the numbers from `from` up to `to` whose row may let its target pass.
+fn next_passing<S: TickSet>(
+    kept: &KeptRows<S>,
+    from: u32,
+    to: u32,
+    expiry: u32,
+    before: u32,
+    now: u32,
+) -> Option<u32>
+    ensures some { IfSome result (IsNextTurn (λ c. nat_le before expiry && row_has S.member kept.now c before)
+        (λ c. nat_le now expiry && row_has S.member kept.now c now) from to) }
+    ensures none { IfNone result (AreAlike (λ c. nat_le before expiry && row_has S.member kept.now c before)
+        (λ c. nat_le now expiry && row_has S.member kept.now c now) from to) }
+{
+    match (before <= expiry, now <= expiry) {
+        (true, true) => kept.next_turning(from, to, before, now),
+        (false, false) => None,
+        _ => kept.next(from, to),
+    }
 }
 
 // Whether the target of a binding passes.

@@ -3,8 +3,11 @@ ghost use Rattle.std.specs.Prelude.{◌≡◌, ◌<◌, ◌≤◌, ◌*◌, ◌/
 ghost use Rattle.std.specs.Option.{SomeIff};
 ghost use Rattle.kept_rows.specs.Listing.{HaveNone, IsNext};
 ghost use Rattle.kept_rows.specs.Rows.{HasRoom, is_made, is_whole, page_has, row_has};
+ghost use Rattle.kept_rows.specs.Turning.{AreAlike, IsNextTurn};
 
 use crate::page::{PAGE, Page};
+use crate::turning::Turning;
+use crate::turns::Turns;
 use std::alloc::{AllocError, Global};
 use std::marker::Model;
 use tick_set::TickSet;
@@ -16,28 +19,36 @@ pub struct KeptRows<S: TickSet> {
     pages: Vec<Page<S>>,
     // Lent for a number whose page isn't made.
     nothing: S,
+    // Until when the rows stay as they are: what time passes over.
+    turns: Turns,
 }
 
 impl<S: TickSet> Model for KeptRows<S> {
-    ghost use Rattle.std.specs.Prelude.{◌≡◌, ℕ, List, false};
+    ghost use Rattle.std.specs.Prelude.{◌≡◌, ℕ, List, false, length};
+    ghost use Rattle.kept_rows.specs.Rows.{row_has};
+    ghost use Rattle.kept_rows.specs.Turning.{AreSteady};
 
     ghost Value = { List (List S) };
 
     ghost view = { λ a. a.pages.items };
 
-    ghost invariant = { λ a. (t : ℕ) → S.member a.nothing t ≡ false };
+    ghost invariant = { λ a. ((t : ℕ) → S.member a.nothing t ≡ false)
+        × (length a.turns.pages.items ≡ length a.pages.items)
+        × AreSteady (row_has S.member a.pages.items) a.turns };
 }
 
 impl<S: TickSet> KeptRows<S> {
-    /// A table for the numbers below `size`, without rows. It takes some 1.5 bytes for each number.
+    /// A table for the numbers below `size`, without rows. It takes some 1.8 bytes for each number.
     pub fn new(alloc: Global, size: u32) -> Result<KeptRows<S>, AllocError>
         ensures room { IfOk result (λ rows. HasRoom rows size) }
         ensures none { IfOk result (λ rows. (c t : ℕ) → row_has S.member rows c t ≡ false) }
     {
         let pages = unmade(alloc, size as usize / PAGE + 1)?;
+        let turns = Turns::new(alloc, pages.len())?;
         Ok(KeptRows {
             pages,
             nothing: S::empty(alloc),
+            turns,
         })
     }
 
@@ -82,6 +93,27 @@ impl<S: TickSet> KeptRows<S> {
         self.pages.get(page_at)
     }
 
+    /// The first of the numbers from `from` up to `to`, without `to`, whose row may be another at tick `now` than at
+    /// tick `before`: what stands before it is the same. It passes over pages that [`KeptRows::advance`] found to
+    /// stay as they are.
+    pub fn next_turning(&self, from: u32, to: u32, before: u32, now: u32) -> Option<u32>
+        ensures some { IfSome result (IsNextTurn (λ c. row_has S.member self.now c before) (λ c. row_has S.member self.now c now) from to) }
+        ensures none { IfNone result (AreAlike (λ c. row_has S.member self.now c before) (λ c. row_has S.member self.now c now) from to) }
+    {
+        if before < self.turns.seen || now < before {
+            return self.next(from, to);
+        }
+        let mut number = from;
+        'pages: while let Some(start) = self.turns.unsteady_from(number, to, now) {
+            let end = page_end(start, to);
+            if let Some(found) = self.next(start, end) {
+                return Some(found);
+            }
+            number = end;
+        }
+        None
+    }
+
     /// Whether the page of a number is made.
     #[inline]
     pub(crate) fn has_page(&self, number: u32) -> bool
@@ -92,7 +124,9 @@ impl<S: TickSet> KeptRows<S> {
             None => false,
         }
     }
+}
 
+impl<S: Turning> KeptRows<S> {
     /// Writes the row of a number, into the spare page where the number's page isn't made.
     pub(crate) fn put(&mut self, number: u32, ticks: S, spare: Page<S>)
         requires there { number / 16 < length self.old }
@@ -103,9 +137,34 @@ impl<S: TickSet> KeptRows<S> {
         ensures rows { (c t : ℕ) → row_has S.member self.new c t
             ≡ (if c == number then S.member ticks t else row_has S.member self.old c t) }
     {
+        let end = ticks.steady_until(self.turns.seen);
+        self.turns.lower(number, end);
         let at = number as usize;
         let page = &mut self.pages[at / PAGE];
         page.put(at % PAGE, ticks, spare);
+    }
+
+    /// Notes that time has passed to `now`, so that [`KeptRows::next_turning`] from then on looks only into pages
+    /// that turn. It takes no memory, and no row changes.
+    pub fn advance(&mut self, now: u32)
+        ensures { self.new ≡ self.old }
+    {
+        self.turns.renew(&self.pages, now);
+    }
+}
+
+// The end of the page of a number, or `to` if that comes first.
+#[inline]
+fn page_end(number: u32, to: u32) -> u32
+    requires { number < to }
+    ensures past { number < result }
+    ensures upto { result ≤ to }
+{
+    let left = PAGE as u32 - number % PAGE as u32;
+    if to - number > left {
+        number + left
+    } else {
+        to
     }
 }
 

@@ -3,22 +3,23 @@ ghost use Rattle.kept_rows.specs.Numbers.{size_of};
 ghost use Rattle.kept_rows.specs.Rows.{HasRoom};
 
 use super::*;
+use interval_set::IntervalSet;
 use std::alloc::{AllocError, Global};
 use std::test::Fail;
-use tick_set::{Span, TickList, TickSet, Window};
+use tick_set::{Span, TickSet, Window};
 
 // Gives each binding the same ticks.
 #[derive(Drop)]
 struct Same {
-    ticks: TickList,
+    ticks: IntervalSet,
 }
 
-impl Judge<TickList> for Same {
-    ghost use Rattle.tick_set.specs.TickList.{has};
+impl Judge<IntervalSet> for Same {
+    ghost use Rattle.tick_set.specs.Runs.{spans_have};
 
-    ghost full = { λ s n t. has s.ticks t };
+    ghost full = { λ s n t. spans_have s.ticks t };
 
-    fn judge(&self, _number: u32) -> &TickList {
+    fn judge(&self, _number: u32) -> &IntervalSet {
         &self.ticks
     }
 }
@@ -26,7 +27,7 @@ impl Judge<TickList> for Same {
 fn judge_of(alloc: Global, lo: u32, hi: u32) -> Result<Same, Fail> {
     let span = Span::new(lo, hi).ok_or("no such span")?;
     Ok(Same {
-        ticks: TickList::of_span(alloc, span)?,
+        ticks: IntervalSet::of_span(alloc, span)?,
     })
 }
 
@@ -45,7 +46,7 @@ fn held(alloc: Global, variables: &[Variable]) -> Result<Vec<u32>, Fail> {
 // three being there, and makes the changes. Answers whether there were some.
 fn written(
     alloc: Global,
-    kept: &mut KeptRows<TickList>,
+    kept: &mut KeptRows<IntervalSet>,
     place: u32,
     judge: &Same,
 ) -> Result<bool, Fail>
@@ -137,7 +138,9 @@ fn rows_that_differ_are_changed(rt: HostRuntime) -> Result<(), Fail> {
 }
 
 // Rows over two targets: 0 has 8 and 9 of two bindings, 1 has 8 and 9 of one and 5 and 6 of another.
-fn rows_of_targets(alloc: Global) -> Result<KeptRows<TickList>, Fail> {
+fn rows_of_targets(alloc: Global) -> Result<KeptRows<IntervalSet>, Fail>
+    ensures { IfOk result (λ kept. HasRoom kept 9) }
+{
     let mut kept = KeptRows::new(alloc, 9)?;
     written(alloc, &mut kept, 1, &judge_of(alloc, 5, 6)?)?;
     written(alloc, &mut kept, 0, &judge_of(alloc, 8, 9)?)?;
@@ -175,6 +178,50 @@ fn targets_enter_and_leave_as_time_passes(rt: HostRuntime) -> Result<(), Fail> {
         for passing in &passings {
             assert_eq!(rt; passing.enters(), enters, "from {before} to {now}");
         }
+    }
+    Ok(())
+}
+
+// How many targets pass, time having been told to have passed to a tick.
+fn passes(
+    alloc: Global,
+    kept: &mut KeptRows<IntervalSet>,
+    advanced: u32,
+    before: u32,
+    now: u32,
+) -> Result<usize, Fail> {
+    kept.advance(advanced);
+    let targets = Targets::new(3, 3).ok_or("no such targets")?;
+    let passings = passed(alloc, kept, targets, 20, before, now)?;
+    Ok(passings.len())
+}
+
+#[test]
+fn what_turns_is_told_after_an_advance(rt: HostRuntime) -> Result<(), Fail> {
+    let alloc = rt.alloc();
+    let mut kept = rows_of_targets(alloc)?;
+    for (advanced, before, now, count) in [
+        (5, 5, 6, 0),
+        (5, 6, 7, 1),
+        (7, 7, 8, 2),
+        (8, 9, 10, 2),
+        (8, 4, 5, 1),
+    ] {
+        let found = passes(alloc, &mut kept, advanced, before, now)?;
+        assert_eq!(rt; found, count, "from {before} to {now}");
+    }
+    Ok(())
+}
+
+#[test]
+fn a_row_written_after_an_advance_turns(rt: HostRuntime) -> Result<(), Fail> {
+    let alloc = rt.alloc();
+    let mut kept = rows_of_targets(alloc)?;
+    kept.advance(10);
+    written(alloc, &mut kept, 1, &judge_of(alloc, 12, 13)?)?;
+    for (before, now, count) in [(10, 11, 0), (11, 12, 2), (13, 14, 2)] {
+        let found = passes(alloc, &mut kept, 10, before, now)?;
+        assert_eq!(rt; found, count, "from {before} to {now}");
     }
     Ok(())
 }

@@ -12,7 +12,7 @@ use Rattle.kept_rows.specs.Changes.{after}
 use Rattle.kept_rows.specs.Numbers.{size_of}
 use Rattle.kept_rows.specs.Rows.{row_has}
 use Rattle.live_queries.specs.declared.fresh.Renewal.{Renewal}
-use Rattle.live_queries.specs.declared.live.TheConstants.{QUERY_LIMIT}
+use Rattle.formula.specs.declared.limits.TheConstants.{QUERY_LIMIT}
 use Rattle.live_queries.specs.Columns.{AreCounted, AreSameColumns, Column, variables_of}
 use Rattle.live_queries.specs.Kept.{AreKept, IsKept, KeptQuery}
 use Rattle.live_queries.specs.Prepared.{AreColumnsWith, AreMade, ArePrepared, IsMade, IsReadyFor, Prepared}

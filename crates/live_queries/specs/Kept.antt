@@ -10,7 +10,7 @@ use Rattle.kept_rows.specs.Numbers.{size_of}
 use Rattle.kept_rows.specs.Rows.{HasRoom}
 use Rattle.meaning.specs.Agreement.{SeesItsClasses}
 use Rattle.meaning.specs.Registered.{RegisteredQuery}
-use Rattle.live_queries.specs.declared.live.TheConstants.{QUERY_LIMIT}
+use Rattle.formula.specs.declared.limits.TheConstants.{QUERY_LIMIT}
 use Rattle.live_queries.specs.Columns.{AreCounted, Column, order_of, variables_of}
 
 -- what a contract sees of it. The pages are seen through the rows that they have.

@@ -2,7 +2,6 @@ pub mod Asked
 pub mod Columns
 pub mod Current
 pub mod Kept
-pub mod Kind
 pub mod Prepared
 pub mod Registering
 pub mod Renewed

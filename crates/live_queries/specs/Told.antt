@@ -4,7 +4,7 @@ use Rattle.std.specs.List.{find}
 use Rattle.std.specs.Str.{bytes_eq}
 use Rattle.tick_set.specs.Runs.{spans_have}
 use Rattle.tick_set.specs.declared.spans.Span.{Span}
-use Rattle.formula.specs.declared.kind.QueryKind as meant
+use Rattle.formula.specs.declared.kind.QueryKind.{QueryKind}
 use Rattle.kept_rows.specs.declared.change.Change.{Change}
 use Rattle.kept_rows.specs.Changes.{after}
 use Rattle.kept_rows.specs.Listing.{line_of, lines_upto, passing_of, times}
@@ -17,17 +17,16 @@ use Rattle.live_queries.specs.declared.told.QueryInfo.{QueryInfo}
 use Rattle.live_queries.specs.Columns.{object_or, variables_of}
 use Rattle.live_queries.specs.Current.{row_at}
 use Rattle.live_queries.specs.Kept.{KeptQuery}
-use Rattle.live_queries.specs.Kind.{kind_of}
 
 -- the name of a query, its kind and its ticks
 pub record Info : Type 0 where
   pub name : List ℕ
-  pub kind : meant.QueryKind
+  pub kind : QueryKind
   pub entry : ℕ
   pub expiry : ℕ
 
 abbrev pub told_info : QueryInfo → Info
-told_info i = record { name = i.name; kind = kind_of i.kind; entry = i.entry; expiry = i.expiry }
+told_info i = record { name = i.name; kind = i.kind; entry = i.entry; expiry = i.expiry }
 
 abbrev pub info_of : KeptQuery → Info
 info_of k = record { name = k.name; kind = k.kind; entry = k.entry; expiry = k.expiry }

@@ -14,7 +14,7 @@ ghost use Rattle.answers.specs.Asking.{world_in};
 ghost use Rattle.answers.specs.Objects.{IsOfAcceptedWrites};
 ghost use Rattle.kept_rows.specs.declared.binding.TheConstants.{BINDING_LIMIT};
 ghost use Rattle.kept_rows.specs.Numbers.{size_of};
-ghost use Rattle.live_queries.specs.declared.live.TheConstants.{QUERY_LIMIT};
+ghost use Rattle.formula.specs.declared.limits.TheConstants.{QUERY_LIMIT};
 ghost use Rattle.live_queries.specs.Asked.{FitsWorld, HaveObjectsBefore, class_in};
 ghost use Rattle.live_queries.specs.Columns.{most_bindings, variables_of};
 ghost use Rattle.live_queries.specs.Kept.{AreKept, IsKept, registered};
@@ -34,9 +34,6 @@ use std::marker::Model;
 use std::sync::ledger::Ledger;
 use std::vec::IntoIter;
 use steps::Steps;
-
-/// The most queries that may be registered.
-pub const QUERY_LIMIT: usize = 256;
 
 /// The registered queries with their rows, in the order of registration. What is told of them is told by their rows
 /// alone.
@@ -72,11 +69,18 @@ impl Live {
         }
     }
 
-    /// How many queries are registered, at most [`QUERY_LIMIT`].
+    /// How many queries are registered, at most [`formula::QUERY_LIMIT`].
     pub fn count(&self) -> u32
         ensures { result ≡ length self.now }
     {
         self.queries.len() as u32
+    }
+
+    /// What is so of all registered queries, for a caller's proof. It does nothing.
+    pub fn are_kept(&self)
+        ensures { AreKept self.now }
+    {
+        let _queries = &self.queries;
     }
 
     /// Whether a query of this name is registered.
@@ -145,6 +149,14 @@ impl Live {
         let mut moves = Vec::new(alloc);
         add_passings(alloc, &self.queries, before, now, &mut moves)?;
         Ok(moves)
+    }
+
+    /// Notes that time has passed to `now`, so that the passing of time from then on looks only at rows that turn. It
+    /// takes no memory and changes nothing that is told.
+    pub fn advance(&mut self, now: u32)
+        ensures { self.new ≡ self.old }
+    {
+        advance_each(&mut self.queries, now);
     }
 
     /// What a write that was prepared changes for the targets of each query at tick `now`, in the order of
@@ -322,6 +334,17 @@ fn add_passings(
     };
     query.add_passings(alloc, before, now, moves)?;
     add_passings(alloc, queries, before, now, moves)
+}
+
+// Notes in each of these queries that time has passed to `now`.
+fn advance_each(queries: &mut [LiveQuery], now: u32)
+    ensures { queries.new ≡ queries.old }
+{
+    let Some((query, queries)) = queries.split_first_mut() else {
+        return;
+    };
+    query.advance(now);
+    advance_each(queries, now);
 }
 
 // Adds what changes for the targets of these queries.

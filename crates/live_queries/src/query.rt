@@ -29,12 +29,11 @@ ghost use Rattle.live_queries.specs.Told.{answer_of, info_of, key_of, lines_of, 
 use crate::columns::{class_count, columns_of, lack};
 use crate::evaluating::{first_rows, new_rows};
 use crate::fresh::Renewal;
-use crate::kind::QueryKind;
 use crate::objects::{Objects, add_object, objects_of, width};
 use crate::told::{AnswerRow, Move, QueryInfo};
 use answers::fitting_queries_can_be_asked;
 use fixed_point::Word;
-use formula::{Binding, ClassNo, RQuery};
+use formula::{Binding, ClassNo, QueryKind, RQuery};
 use interval_set::IntervalSet;
 use kept_rows::{Changes, KeptRows, Line, Passing, Targets};
 use object_store::Store;
@@ -67,17 +66,16 @@ impl Model for LiveQuery {
     ghost use Rattle.formula.specs.declared.tree.RAtom.{RAtom};
     ghost use Rattle.formula.specs.declared.tree.RTerm.{RTerm};
     ghost use Rattle.live_queries.specs.Kept.{IsKept, KeptQuery};
-    ghost use Rattle.live_queries.specs.Kind.{kind_of};
     ghost use Rattle.live_queries.specs.Told.{target_count, target_width};
 
     ghost Value = { KeptQuery };
 
     ghost coded = { Prim.hlevel (codes, shape_code {A = RAtom} {B = ℕ × RTerm} (Prim.hlevel codes)) };
 
-    ghost view = { λ a. record { name = a.name; kind = kind_of a.kind; query = query_view a.query; entry = a.entry; expiry = a.expiry; columns = a.columns.items; pages = a.rows } };
+    ghost view = { λ a. record { name = a.name; kind = a.kind; query = query_view a.query; entry = a.entry; expiry = a.expiry; columns = a.columns.items; pages = a.rows } };
 
     ghost invariant = { λ a.
-        let k : KeptQuery = record { name = a.name; kind = kind_of a.kind; query = query_view a.query; entry = a.entry; expiry = a.expiry; columns = a.columns.items; pages = a.rows } in
+        let k : KeptQuery = record { name = a.name; kind = a.kind; query = query_view a.query; entry = a.entry; expiry = a.expiry; columns = a.columns.items; pages = a.rows } in
         IsKept k × (a.targets.count ≡ target_count k) × (a.targets.width ≡ target_width k) × (a.expiry - a.entry ≤ SPAN_LIMIT) };
 }
 
@@ -407,6 +405,14 @@ impl LiveQuery {
             enters,
             leaves,
         }
+    }
+
+    /// Notes that time has passed to `now`. It takes no memory, and no row changes.
+    #[inline]
+    pub(crate) fn advance(&mut self, now: u32)
+        ensures { self.new ≡ self.old }
+    {
+        self.rows.advance(now);
     }
 
     /// Makes what was prepared of a write to an object. It takes no memory.

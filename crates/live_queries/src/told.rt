@@ -2,9 +2,8 @@
 ghost use Rattle.std.specs.Prelude.{◌≡◌};
 ghost use Rattle.tick_set.specs.Runs.{pairs};
 
-use crate::kind::QueryKind;
 use fixed_point::Word;
-use formula::Binding;
+use formula::{Binding, QueryKind};
 use std::marker::Model;
 use tick_set::Span;
 

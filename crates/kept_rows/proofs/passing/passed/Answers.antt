@@ -1,7 +1,8 @@
 use Rattle.std.proofs.Common.{ℕ, ◌+◌, ◌*◌, ◌/◌, ◌<◌, ◌++◌, Bool, Option, ap, ◌∙◌, arith}
 use Rattle.kept_rows.specs.Listing.{passing_of, lines_between, times}
 use Rattle.kept_rows.specs.Rows.{row_has}
-use Rattle.kept_rows.proofs.ListingLemmas.{passing-none, lines-end, lines-more, target-after, target-below, target-upto, target-whole, times-none}
+use Rattle.kept_rows.proofs.ListingLemmas.{lines-end, lines-more, target-after, target-below, target-upto, target-whole}
+use Rattle.kept_rows.proofs.TurnLemmas.{passing-alike}
 use Rattle.kept_rows.proofs.passing.passed.Goals as goal
 
 pub targets-preserved : goal.targets-preserved
@@ -18,7 +19,8 @@ targets-preserved g c =
       passings = ap (λ xs. xs ++ lines_between line (first / width + 1) count) c.in_ok-push_some.ensures
           ∙ lines-more line c.targets.passings.items _ target (first / width) count _
           (target-after target first width c.args.targets.some c.in-Some.ensures.some.least) below
-          (λ k h l. passing-none (times rows width) c.args.expiry c.args.before c.args.now k (λ t. times-none rows width target k first t c.in-Some.ensures.some.before h (target-upto k first width l)))
+          (λ k h l.
+          passing-alike rows width c.args.expiry c.args.before c.args.now target first k c.in-Some.ensures.some.before h (target-upto k first width l))
           c.passing_at-passing.ensures c.targets.invariant.passings;
     }
 
@@ -29,5 +31,6 @@ returns g c =
     let count : ℕ = c.args.targets.count in
     let target : ℕ = c.targets.target in
     lines-end (passing_of (times rows width) c.args.expiry c.args.before c.args.now) c.targets.passings.items target count _ c.targets.invariant.few
-    (λ k h l. passing-none (times rows width) c.args.expiry c.args.before c.args.now k (λ t. times-none rows width target k (count * width) t c.in_default.ensures.none h (target-whole k width count l)))
+    (λ k h l.
+    passing-alike rows width c.args.expiry c.args.before c.args.now target (count * width) k c.in_default.ensures.none h (target-whole k width count l))
     c.targets.invariant.passings

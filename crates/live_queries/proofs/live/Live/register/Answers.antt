@@ -1,5 +1,5 @@
 use Rattle.std.proofs.Common.{◌<◌, List, length, sym, subst}
-use Rattle.live_queries.specs.declared.live.TheConstants.{QUERY_LIMIT}
+use Rattle.formula.specs.declared.limits.TheConstants.{QUERY_LIMIT}
 use Rattle.live_queries.specs.Kept.{KeptQuery}
 use Rattle.live_queries.proofs.MadeLemmas.{one_more_kept}
 use Rattle.live_queries.proofs.live.Live.register.Goals as goal

@@ -1,0 +1,75 @@
+-- Rows that are the same at two ticks, and the targets that then don't pass.
+use Rattle.std.proofs.Common.{◌≡◌, ℕ, ◌+◌, ◌*◌, ◌<◌, ◌≤◌, Bool, true, false, ◌&&◌, leb, None, List, [], ◌∷◌, refl, ap, sym, ◌∙◌, inl, inr, arith}
+use Rattle.std.specs.List.{list_any}
+use Rattle.std.proofs.lemmas.Bool.{cases_lt}
+use Rattle.std.proofs.lemmas.Nat.{mul-le}
+use Rattle.tick_set.specs.Ticks.{between}
+use Rattle.tick_set.proofs.Between.{any_between_at, any_between_found, same_test}
+use Rattle.kept_rows.specs.declared.turns.Turns.{Turns}
+use Rattle.kept_rows.specs.Listing.{HaveNone, IsNext, passing_of, times, when_differ}
+use Rattle.kept_rows.specs.Turning.{AreAlike, AreSteady, AreSteadyIn, IsNextTurn}
+
+-- ---- rows
+pub alike-more : (p q : ℕ → Bool) (from m to : ℕ) → AreAlike p q from m → AreAlike p q m to → AreAlike p q from to
+alike-more p q from m to first second c h k =
+    elim (cases_lt c m) [
+      | inl l ↦ first c h l
+      | inr l ↦ second c l k
+    ]
+
+module _ (rows : ℕ → ℕ → Bool) (before now : ℕ) where
+  alike-steady : (turns : Turns) (from to : ℕ) → AreSteady rows turns → turns.seen ≤ before → before ≤ now → AreSteadyIn turns now from to →
+      AreAlike (λ c. rows c before) (λ c. rows c now) from to
+  alike-steady turns from to steady low up same c h k =
+      same rows steady c h k before low (omega (arith, up)) ∙ sym (same rows steady c h k now (omega (arith, low, up)) (omega arith))
+
+  pub alike-on : (turns : Turns) (from m to : ℕ) → AreSteady rows turns → turns.seen ≤ before → before ≤ now →
+      AreAlike (λ c. rows c before) (λ c. rows c now) from m → AreSteadyIn turns now m to → AreAlike (λ c. rows c before) (λ c. rows c now) from to
+  alike-on turns from m to steady low up first same =
+      alike-more (λ c. rows c before) (λ c. rows c now) from m to first (alike-steady turns m to steady low up same)
+
+  pub alike-none : (from to : ℕ) → HaveNone rows from to → AreAlike (λ c. rows c before) (λ c. rows c now) from to
+  alike-none from to none c h k = none c before h k ∙ sym (none c now h k)
+
+-- the row found in a page that may turn
+pub turn-found : (rows : ℕ → ℕ → Bool) (before now from start end to number : ℕ) →
+    from ≤ start → end ≤ to → AreAlike (λ c. rows c before) (λ c. rows c now) from start → IsNext rows start end number →
+    IsNextTurn (λ c. rows c before) (λ c. rows c now) from to number
+turn-found rows before now from start end to number low up same next =
+    let least : start ≤ number = next.least in
+    let below : number < end = next.below in
+    record {
+      least = omega (arith, low, least);
+      below = omega (arith, below, up);
+      before = alike-more (λ c. rows c before) (λ c. rows c now) from start number same (alike-none rows before now start number next.before);
+    }
+
+-- ---- targets
+any-counted : (b : Bool) (p : ℕ → Bool) (xs : List ℕ) → (b && list_any p xs) ≡ list_any (λ c. b && p c) xs
+any-counted true p xs = refl
+any-counted false p [] = refl
+any-counted false p (x ∷ xs) = any-counted false p xs
+
+any-alike : (p q : ℕ → Bool) (a b : ℕ) → AreAlike p q a b → list_any p (between a b) ≡ list_any q (between a b)
+any-alike p q a b same =
+    same_test (list_any p (between a b)) (list_any q (between a b))
+    (λ e. let s = any_between_found p a b e in any_between_at q a b s.tick s.from s.below (sym (same s.tick s.from s.below) ∙ s.passes))
+    (λ e. let s = any_between_found q a b e in any_between_at p a b s.tick s.from s.below (same s.tick s.from s.below ∙ s.passes))
+
+when-same : (k : ℕ) (x y : Bool) → x ≡ y → when_differ k x y ≡ None
+when-same k x y e = ap (λ z. when_differ k z y) e ∙ same y
+  where
+    same : (y : Bool) → when_differ k y y ≡ None
+    same true = refl
+    same false = refl
+
+pub passing-alike : (rows : ℕ → ℕ → Bool) (width e before now a to k : ℕ) →
+    AreAlike (λ c. leb before e && rows c before) (λ c. leb now e && rows c now) (a * width) to → a ≤ k → k * width + width ≤ to →
+    passing_of (times rows width) e before now k ≡ None
+passing-alike rows width e before now a to k same h l =
+    let start : a * width ≤ k * width = mul-le a width k width h (omega arith) in
+    when-same k (leb before e && times rows width k before) (leb now e && times rows width k now)
+    (any-counted (leb before e) (λ c. rows c before) (between (k * width) (k * width + width))
+    ∙ any-alike (λ c. leb before e && rows c before) (λ c. leb now e && rows c now) (k * width) (k * width + width)
+    (λ c m n. same c (omega (arith, start, m)) (omega (arith, l, n)))
+    ∙ sym (any-counted (leb now e) (λ c. rows c now) (between (k * width) (k * width + width))))

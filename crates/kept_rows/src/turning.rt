@@ -1,0 +1,44 @@
+//! Sets of ticks that tell how long they stay as they are.
+ghost use Rattle.std.specs.Prelude.{◌≡◌, ◌<◌, ◌≤◌, ℕ};
+ghost use Rattle.tick_set.specs.Runs.{IsNormal, spans_have};
+ghost use Rattle.kept_rows.specs.Turning.{AreFrom, IsSteady};
+
+use interval_set::IntervalSet;
+use tick_set::{Span, TickSet};
+
+/// A set of ticks that tells how long it stays as it is, so that a table of many can pass over those that do.
+pub trait Turning: TickSet {
+    /// A tick up to which, from `t` on and without it, nothing turns: each has what `t` has.
+    fn steady_until(&self, t: u32) -> u32
+        ensures { (u : ℕ) → t ≤ u → u < result → Self.member self.now u ≡ Self.member self.now t };
+}
+
+impl Turning for IntervalSet {
+    /// The first tick after `t` that turns, or `u32::MAX` where none does.
+    fn steady_until(&self, t: u32) -> u32 {
+        first_turn(self.spans(), t)
+    }
+}
+
+// The first tick after `t` where a span begins or has ended; `u32::MAX` where there is none.
+fn first_turn(spans: &[Span], t: u32) -> u32
+    requires { IsNormal spans.now }
+    ensures { IsSteady (spans_have spans.now) t result }
+{
+    match from_tick(spans, t).split_first() {
+        Some((s, _)) if s.lo <= t => s.hi + 1,
+        Some((s, _)) => s.lo,
+        None => u32::MAX,
+    }
+}
+
+// The spans without those that end before the tick, by a binary search.
+fn from_tick(spans: &[Span], t: u32) -> &[Span]
+    requires { IsNormal spans.now }
+    ensures { AreFrom t spans.now result.now }
+{
+    match spans.binary_search_by_key(&t, |s| s.hi) {
+        Ok(at) => spans.split_at(at).1,
+        Err(at) => spans.split_at(at).1,
+    }
+}
