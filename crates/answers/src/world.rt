@@ -9,7 +9,7 @@ ghost use Rattle.object_store.specs.Contents.{history_of};
 ghost use Rattle.answers.specs.Asking.{CanAskAtom, CanAskTerm, told_by};
 
 use crate::padding::padded;
-use atoms::{ValueRun, atom_ticks, presence, value_runs};
+use atoms::{ValueRun, absence, atom_ticks, value_runs};
 use evaluator::Interpreter;
 use formula::{Binding, Env, RAtom, RTerm};
 use interval_set::IntervalSet;
@@ -77,14 +77,14 @@ impl Interpreter<IntervalSet> for StoredWorld<'_> {
         Ok(runs)
     }
 
-    fn presence<L: Ledger>(
+    fn absence<L: Ledger>(
         &self,
         alloc: Global,
         id: u32,
         w: Window,
         reads: &mut Steps<L>,
     ) -> Result<IntervalSet, AllocError> {
-        let ticks = presence(alloc, id, self.store, w, reads)?;
+        let ticks = absence(alloc, id, self.store, w, reads)?;
         Ok(ticks)
     }
 

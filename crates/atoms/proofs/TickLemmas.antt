@@ -19,7 +19,7 @@ use Rattle.tick_set.specs.Runs.{IsRuns, spans_have}
 use Rattle.tick_set.specs.declared.spans.Span.{Span}
 use Rattle.atoms.specs.declared.parts.Part.{Part}
 use Rattle.atoms.specs.Parts.{shown, trace_by}
-use Rattle.atoms.specs.Presence.{is_there}
+use Rattle.atoms.specs.Presence.{is_as, is_there}
 use Rattle.atoms.proofs.PartLemmas.{beside-map}
 use Rattle.atoms.proofs.RunLemmas.{within_same}
 
@@ -39,11 +39,13 @@ pub part_value : (q : RTerm) (x : Env) (h : Trace) (part : Part) → IsShown h p
     term_value h q x t ≡ term_value (shown part) q x t
 part_value q x h part are t from up_to = term_same h (shown part) x t q (λ v has. are v t from up_to)
 
-pub part_present : (epochs : List Epoch) (e : Option Epoch) (lo hi : ℕ) (found : List Span) → ((t : ℕ) → lo ≤ t → t ≤ hi → epoch_at epochs t ≡ e) →
-    ((t : ℕ) → spans_have found t ≡ (within lo hi t && is_there e)) →
-    (t : ℕ) → spans_have found t ≡ (within lo hi t && is_some (state_at epochs t))
-part_present epochs e lo hi found are is t =
-    is t ∙ within_same lo hi t (is_there e) (is_some (state_at epochs t)) (λ from up_to. ap is_there (sym (are t from up_to)))
+pub part_present : (there : Bool) (epochs : List Epoch) (e : Option Epoch) (lo hi : ℕ) (found : List Span) →
+    ((t : ℕ) → lo ≤ t → t ≤ hi → epoch_at epochs t ≡ e) → ((t : ℕ) → spans_have found t ≡ (within lo hi t && is_as there (is_there e))) →
+    (t : ℕ) → spans_have found t ≡ (within lo hi t && is_as there (is_some (state_at epochs t)))
+part_present there epochs e lo hi found are is t =
+    is t
+    ∙ within_same lo hi t (is_as there (is_there e)) (is_as there (is_some (state_at epochs t)))
+    (λ from up_to. ap (λ (o : Option Epoch). is_as there (is_there o)) (sym (are t from up_to)))
 
 -- ---- the states of the variables' objects
 

@@ -1,5 +1,5 @@
 //! Atoms and terms of formulas over the objects of a store: the ticks of a window at which an atom holds,
-//! the maximal runs of equal value of a term, and the ticks at which an object is present.
+//! the maximal runs of equal value of a term, and the ticks at which an object is present, or not.
 //!
 //! No window is walked. Each call looks up the timeline of each variable once, and goes over the common
 //! parts of these timelines. In a part no object is written, and each number moves along a line or rests. So
@@ -23,7 +23,7 @@ mod values;
 mod variables;
 
 pub use laws::resolved_atoms_and_terms_are_sized;
-pub use present::presence;
+pub use present::{absence, presence};
 pub use ticks::atom_ticks;
 pub use value_list::ValueRun;
 pub use values::value_runs;

@@ -1,12 +1,12 @@
-//! The ticks of a window at which an object is present.
-ghost use Rattle.std.specs.Prelude.{◌≡◌, ◌+◌, ◌<◌, ◌&&◌, ℕ, is_some, length, option_to_list, IfOk};
+//! The ticks of a window at which an object is present, and those at which it isn't.
+ghost use Rattle.std.specs.Prelude.{◌≡◌, ◌+◌, ◌<◌, ◌&&◌, not, ℕ, is_some, length, option_to_list, IfOk};
 ghost use Rattle.std.specs.Option.{option_copied};
 ghost use Rattle.history.specs.History.{cells_at};
 ghost use Rattle.motion.specs.Timeline.{state_at};
 ghost use Rattle.object_store.specs.Contents.{history_of};
 ghost use Rattle.tick_set.specs.Runs.{IsRuns, spans_have};
 ghost use Rattle.tick_set.specs.Ticks.{within};
-ghost use Rattle.atoms.specs.Presence.{is_there};
+ghost use Rattle.atoms.specs.Presence.{is_as, is_there};
 
 use courses::common_from;
 use interval_set::IntervalSet;
@@ -32,31 +32,65 @@ pub fn presence<L: Ledger>(
     ensures step { reads.new ≡ reads.old + 1 }
 {
     let timeline = store.timeline(id, reads);
-    let runs = present_runs(alloc, timeline, w)?;
+    let runs = runs_where(alloc, true, timeline, w)?;
     Ok(IntervalSet::from_runs(runs))
 }
 
-// The runs of the ticks at which the object of a timeline is present.
-fn present_runs(alloc: Global, timeline: &Timeline, w: Window) -> Result<Vec<Span>, AllocError>
-    ensures { IfOk result (λ runs. IsRuns (λ t. within w.lo w.hi t && is_some (state_at timeline.now t)) runs.items) }
+/// The ticks of the window at which the object, whose id exists, isn't present: no memory is taken where it is
+/// present throughout. It takes one step of `reads`, and fails only where memory is out.
+pub fn absence<L: Ledger>(
+    alloc: Global,
+    id: ObjectId,
+    store: &Store,
+    w: Window,
+    reads: &mut Steps<L>,
+) -> Result<IntervalSet, AllocError>
+    requires { id < length store.now.objects }
+    ensures ticks { IfOk result (λ s. (t : ℕ) → spans_have s t
+        ≡ (within w.lo w.hi t && not (is_some (cells_at (history_of store.now) id t)))) }
+    ensures step { reads.new ≡ reads.old + 1 }
+{
+    let timeline = store.timeline(id, reads);
+    let runs = runs_where(alloc, false, timeline, w)?;
+    Ok(IntervalSet::from_runs(runs))
+}
+
+// The runs of the ticks at which the object of a timeline is present, or those at which it isn't.
+fn runs_where(
+    alloc: Global,
+    there: bool,
+    timeline: &Timeline,
+    w: Window,
+) -> Result<Vec<Span>, AllocError>
+    ensures { IfOk result (λ runs. IsRuns (λ t. within w.lo w.hi t
+        && is_as there (is_some (state_at timeline.now t))) runs.items) }
 {
     let timelines = [timeline];
     let mut runs = Runs::new(alloc);
     let mut at = w.lo;
     'joining: while at <= w.hi {
         let common = common_from(&timelines, at, w.hi);
-        runs.append(present_span(common.epoch(0), common.span))?;
+        runs.append(span_where(there, common.epoch(0), common.span))?;
         at = common.span.hi + 1;
     }
     Ok(runs.finish())
 }
 
-// The span, where the epoch has an object that is there.
-fn present_span(epoch: Option<&Epoch>, span: Span) -> Option<Span>
-    ensures { (t : ℕ) → spans_have (option_to_list result) t ≡ (within span.lo span.hi t && is_there (option_copied epoch.entry)) }
+// The span, where the epoch has an object that is there, or where it has none.
+fn span_where(there: bool, epoch: Option<&Epoch>, span: Span) -> Option<Span>
+    ensures { (t : ℕ) → spans_have (option_to_list result) t
+        ≡ (within span.lo span.hi t && is_as there (is_there (option_copied epoch.entry))) }
+{
+    let is = has_object(epoch);
+    if is == there { Some(span) } else { None }
+}
+
+// Whether an epoch has an object that is there.
+fn has_object(epoch: Option<&Epoch>) -> bool
+    ensures { result ≡ is_there (option_copied epoch.entry) }
 {
     match epoch {
-        Some(epoch) if epoch.is_present() => Some(span),
-        _ => None,
+        Some(epoch) => epoch.is_present(),
+        None => false,
     }
 }

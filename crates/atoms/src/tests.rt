@@ -667,6 +667,7 @@ fn present_by<L: Ledger>(
     host: &HostRuntime,
     blank: Blank,
     store: &Store,
+    there: bool,
     id: u32,
     w: Window,
 ) -> Result<IntervalSet, AllocError>
@@ -676,20 +677,25 @@ fn present_by<L: Ledger>(
     requires id { id < length store.now.objects }
 {
     let mut reads: Steps<L> = Steps::new(host, blank);
-    presence(host.alloc(), id, store, w, &mut reads)
+    if there {
+        presence(host.alloc(), id, store, w, &mut reads)
+    } else {
+        absence(host.alloc(), id, store, w, &mut reads)
+    }
 }
 
-// The object is present at these runs of the window.
+// The object is present, or it isn't, at these runs of the window.
 fn is_there(
     rt: &impl Abort,
     host: &HostRuntime,
     store: &Store,
+    there: bool,
     id: u32,
     ends: (u32, u32),
     wanted: &[(u32, u32)],
 ) -> Result<(), Fail> {
     assert!(rt; id < store.object_count());
-    let set = present_by::<Brand>(host, Blank::new(1), store, id, window(ends)?)?;
+    let set = present_by::<Brand>(host, Blank::new(1), store, there, id, window(ends)?)?;
     let found = pairs(host.alloc(), &set)?;
     assert_eq!(rt; found.as_slice(), wanted);
     Ok(())
@@ -698,13 +704,16 @@ fn is_there(
 #[test]
 fn objects_are_present(rt: HostRuntime) -> Result<(), Fail> {
     let store = cars(&rt, rt.alloc())?;
-    for (id, ends, wanted) in [
-        (0, (0, 20), [(0, 20)].as_slice()),
-        (2, (0, 20), &[(5, 11)]),
-        (2, (7, 8), &[(7, 8)]),
-        (2, (12, 20), &[]),
+    for (there, id, ends, wanted) in [
+        (true, 0, (0, 20), [(0, 20)].as_slice()),
+        (true, 2, (0, 20), &[(5, 11)]),
+        (true, 2, (7, 8), &[(7, 8)]),
+        (true, 2, (12, 20), &[]),
+        (false, 0, (0, 20), &[]),
+        (false, 2, (0, 20), &[(0, 4), (12, 20)]),
+        (false, 2, (7, 8), &[]),
     ] {
-        is_there(&rt, &rt, &store, id, ends, wanted)?;
+        is_there(&rt, &rt, &store, there, id, ends, wanted)?;
     }
     Ok(())
 }

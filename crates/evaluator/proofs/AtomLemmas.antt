@@ -1,8 +1,8 @@
--- The objects of the binding of a key, and of a key of one variable.
-use Rattle.std.proofs.Common.{◌≡◌, ℕ, ◌<◌, Bool, true, false, ◌&&◌, nat_lt, List, [], ◌∷◌, slice_index, sym, ap, subst}
-use Rattle.std.proofs.lemmas.Bool.{and_parts, lt-ltb}
+-- The objects of the binding of a key.
+use Rattle.std.proofs.Common.{◌≡◌, ℕ, ◌<◌, Bool, true, ◌&&◌, nat_lt, List, slice_index, sym, ap, subst}
+use Rattle.std.proofs.lemmas.Bool.{lt-ltb}
 use Rattle.formula.specs.Variables.{variables_in}
-use Rattle.relation.specs.Key.{has_id, ids_of, key_in}
+use Rattle.relation.specs.Key.{key_in}
 use Rattle.evaluator.specs.Interpreting.{IsInFor}
 use Rattle.evaluator.specs.Keys.{binding_of}
 use Rattle.evaluator.proofs.BindingLemmas.{binding_inside}
@@ -16,8 +16,3 @@ inside_at p over vars are domains key inside =
 
 pub known_one : (var count : ℕ) → var < count → (nat_lt var count && true) ≡ true
 known_one var count l = ap (λ (b : Bool). b && true) (lt-ltb var count l)
-
--- the object of a key of one variable
-pub one_inside : (domains : List (List ℕ)) (var : ℕ) (key : List ℕ) → key_in domains (var ∷ []) key ≡ true → has_id (ids_of domains var) (slice_index key 0) ≡ true
-one_inside domains var [] h = absurd (let f : false ≡ true = h in cc)
-one_inside domains var (id ∷ key) h = (and_parts _ _ h).0

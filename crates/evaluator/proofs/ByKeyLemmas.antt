@@ -164,6 +164,11 @@ by_keys domains lo hi vars f h start read i n l m e =
         let more : i * cost ≤ all * cost = fewer i all cost less in
         grind (arith, reads_so, more, bound)
 
+-- those of some keys of one variable, each behind all of some others
+pub by_blocks : (domains : List (List ℕ)) (lo hi : ℕ) (vars : List ℕ) (f : ResolvedTree) → is_over vars f ≡ true → (start read i n m : ℕ) →
+    read ≤ start + i * m * reads_here lo hi f → i ≤ n → n * m ≡ choices (size_of domains) vars → read ≤ start + reads_upto domains lo hi f
+by_blocks domains lo hi vars f h start read i n m r l e = by_keys domains lo hi vars f h start read (i * m) (n * m) r (fewer i n m l) e
+
 -- ---- formulas that have no part
 
 pub truth_over : (vars : List ℕ) (f : ResolvedTree) (b : Bool) → f ≡ shapes.Truth b → is_over vars f ≡ true

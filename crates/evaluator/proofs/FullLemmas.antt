@@ -1,7 +1,8 @@
 -- The rows of a query, variable by variable.
-use Rattle.std.proofs.Common.{◌≡◌, ℕ, zero, suc, ◌+◌, ◌-◌, ◌<◌, ◌≤◌, Bool, true, false, ◌&&◌, ◌||◌, ◌==◌, nat_lt, List, [], ◌∷◌, ◌++◌, refl, sym, ap, ◌∙◌, subst, arith}
+use Rattle.std.proofs.Common.{◌≡◌, ℕ, zero, suc, ◌+◌, ◌-◌, ◌<◌, ◌≤◌, Bool, true, false, not, ◌&&◌, ◌||◌, ◌==◌, nat_lt, List, [], ◌∷◌, ◌++◌, refl, sym, ap, ◌∙◌, subst, arith}
 use Rattle.std.specs.List.{list_all, range_with_len, sum_by}
-use Rattle.std.proofs.lemmas.Bool.{le-ltb, lt-ltb}
+use Rattle.std.specs.List.Sorted.{IsStrictlyIncreasing}
+use Rattle.std.proofs.lemmas.Bool.{and_parts, le-ltb, lt-ltb}
 use Rattle.std.proofs.lemmas.Bool.Decides.{nat_tests}
 use Rattle.std.proofs.lemmas.List.Folds.{list_all-append}
 use Rattle.std.proofs.lemmas.List.Sums.{sum_by-append}
@@ -9,9 +10,10 @@ use Rattle.tick_set.specs.Ticks.{between, within}
 use Rattle.formula.specs.Tree.{ResolvedTree}
 use Rattle.formula.specs.Variables.{has_variable, variables_in, variables_of}
 use Rattle.relation.specs.Frames.{Frame, IsIn, frame, vars_of_both}
+use Rattle.relation.specs.Key.{has_id}
 use Rattle.relation.specs.Rows.{Table, has}
 use Rattle.evaluator.specs.Rows.{AreRowsWhere}
-use Rattle.evaluator.proofs.VariableLemmas.{both_variables, variables_same}
+use Rattle.evaluator.proofs.VariableLemmas.{ascending_variables, both_variables, same_variables_twice, variables_same}
 
 range_more : (a n : ℕ) → range_with_len a (suc n) ≡ range_with_len a n ++ (a + n) ∷ []
 range_more a zero = ap (λ (z : ℕ). z ∷ []) (let e : a ≡ a + 0 = omega arith in e)
@@ -73,8 +75,9 @@ last_test : (x y : Bool) → (x ≡ true → y ≡ true) → (x || y) ≡ y
 last_test true y f = sym (f refl)
 last_test false y f = refl
 
-and_all : (w s a p : Bool) → ((w && (s && a)) && (w && p)) ≡ (w && (s && (a && p)))
-and_all true true true p = refl
+and_all : (w s a p : Bool) → ((w && (s && a)) && not (w && not p)) ≡ (w && (s && (a && p)))
+and_all true true true true = refl
+and_all true true true false = refl
 and_all true true false p = refl
 and_all true false a p = refl
 and_all false s a p = refl
@@ -107,22 +110,33 @@ module _ {S : Type 0} (member : S → ℕ → Bool) (domains : List (List ℕ)) 
     frame = are.frame;
   }
 
-  pub full_more : (n : ℕ) → n < 4 → (r one made : Table S) → AreRowsWhere member domains lo hi (variables_upto f n) (holds_upto holds there n) r →
-      AreRowsWhere member domains lo hi (n ∷ []) (λ b. there (b n)) one →
-      ((b : ℕ → ℕ) → IsIn r.domains b → (t : ℕ) → has member made b t ≡ (has member r b t && has member one b t)) →
-      made.vars ≡ vars_of_both r.vars one.vars → frame made ≡ frame r → AreRowsWhere member domains lo hi (variables_upto f (n + 1)) (holds_upto holds there (n + 1)) made
-  full_more n l r one made are also ticks vars same = record {
+  pub full_more : (n : ℕ) → n < 4 → (r away made : Table S) → AreRowsWhere member domains lo hi (variables_upto f n) (holds_upto holds there n) r →
+      AreRowsWhere member domains lo hi (n ∷ []) (λ b t. not (there (b n) t)) away →
+      ((b : ℕ → ℕ) → IsIn r.domains b → (t : ℕ) → has member made b t ≡ (has member r b t && not (has member away b t))) →
+      made.vars ≡ vars_of_both r.vars (n ∷ []) → frame made ≡ frame r →
+      AreRowsWhere member domains lo hi (variables_upto f (n + 1)) (holds_upto holds there (n + 1)) made
+  full_more n l r away made are also ticks vars same = record {
     ticks = λ b is_in t.
         ticks b (subst (λ (d : List (List ℕ)). IsIn d b) (sym (ap (λ (z : Frame). z.domains) are.frame)) is_in) t
-        ∙ (λ i. are.ticks b is_in t i && also.ticks b is_in t i)
+        ∙ (λ i. are.ticks b is_in t i && not (also.ticks b is_in t i))
         ∙ and_all (within lo hi t) (holds b t) (list_all (λ v. there (b v) t) (between 0 n)) (there (b n) t)
         ∙ ap (λ (y : Bool). within lo hi t && (holds b t && y)) (sym (all_more (λ v. there (b v) t) n));
     vars = vars
-        ∙ (λ i. vars_of_both (are.vars i) ((also.vars ∙ sym (one_variable n l)) i))
+        ∙ (λ i. vars_of_both (are.vars i) (sym (one_variable n l) i))
         ∙ both_variables (λ v. has_variable v f || nat_lt v n) (λ v. v == n)
         ∙ variables_same _ _ (λ v m. next_test (has_variable v f) v n);
     frame = same ∙ are.frame;
   }
+
+  pub full_ascend : (n : ℕ) (r : Table S) → AreRowsWhere member domains lo hi (variables_upto f n) (holds_upto holds there n) r →
+      vars_of_both r.vars r.vars ≡ r.vars
+  full_ascend n r are = (λ i. vars_of_both (are.vars i) (are.vars i)) ∙ same_variables_twice (λ v. has_variable v f || nat_lt v n) ∙ sym are.vars
+
+  pub full_lies : (n : ℕ) (r : Table S) → AreRowsWhere member domains lo hi (variables_upto f n) (holds_upto holds there n) r →
+      (b : ℕ → ℕ) → IsIn r.domains b → (t : ℕ) → has member r b t ≡ true → within r.lo r.hi t ≡ true
+  full_lies n r are b is_in t h =
+      (λ i. within (ap (λ (z : Frame). z.lo) are.frame i) (ap (λ (z : Frame). z.hi) are.frame i) t)
+      ∙ (and_parts _ _ (sym (are.ticks b (subst (λ (d : List (List ℕ)). IsIn d b) (ap (λ (z : Frame). z.domains) are.frame) is_in) t) ∙ h)).0
 
   pub full_all : (n : ℕ) → n ≤ 4 → ((v : ℕ) → has_variable v f ≡ true → v < n) → (r : Table S) → AreRowsWhere member domains lo hi (variables_upto f n) (holds_upto holds there n) r →
       AreRowsWhere member domains lo hi (between 0 n) (λ b t. list_all (λ v. there (b v) t) (between 0 n) && holds b t) r
@@ -131,6 +145,15 @@ module _ {S : Type 0} (member : S → ℕ → Bool) (domains : List (List ℕ)) 
     vars = are.vars ∙ variables_same _ _ (λ v l. last_test (has_variable v f) (nat_lt v n) (λ h. lt-ltb _ _ (over v h))) ∙ first_variables n few;
     frame = are.frame;
   }
+
+-- ---- rows without absences
+
+pub ascend_of : (us : List ℕ) → vars_of_both us us ≡ us → IsStrictlyIncreasing us
+ascend_of us e = subst (λ (vs : List ℕ). IsStrictlyIncreasing vs) e (ascending_variables (λ v. has_id us v || has_id us v))
+
+pub in_window : (x w y : Bool) → (x ≡ true → w ≡ true) → (x && (w && y)) ≡ (x && y)
+in_window true w y f = ap (λ (z : Bool). z && y) (f refl)
+in_window false w y f = refl
 
 -- ---- looks
 
@@ -149,18 +172,18 @@ sum_upto f m n l =
     subst (λ (z : ℕ). sum_by f (between 0 m) ≤ sum_by f (between 0 z)) (let g : m + (n - m) ≡ n = omega (arith, l) in g) (grows f m (n - m))
 
 module _ (f : ℕ → ℕ) (old mid now all part n m : ℕ) (are : all ≡ part + sum_by f (between 0 m)) (first : mid ≤ old + part) where
-  pub presence_done : now ≤ mid + sum_by f (between 0 n) → n ≤ m → now ≤ old + all
-  presence_done h l =
+  pub absence_done : now ≤ mid + sum_by f (between 0 n) → n ≤ m → now ≤ old + all
+  absence_done h l =
       let upto : sum_by f (between 0 n) ≤ sum_by f (between 0 m) = sum_upto f n m l in
       omega (arith, are, first, h, upto)
 
-  pub presence_within : (before : ℕ) → before ≤ mid + sum_by f (between 0 n) → now ≤ before + f n → n < m → now ≤ old + all
-  presence_within before h s l =
+  pub absence_within : (before : ℕ) → before ≤ mid + sum_by f (between 0 n) → now ≤ before + f n → n < m → now ≤ old + all
+  absence_within before h s l =
       let more : sum_by f (between 0 (n + 1)) ≡ sum_by f (between 0 n) + f n = sum_more f n in
       let upto : sum_by f (between 0 (n + 1)) ≤ sum_by f (between 0 m) = sum_upto f (n + 1) m (omega (arith, l)) in
       omega (arith, are, first, h, s, more, upto)
 
-pub presence_step : (f : ℕ → ℕ) (mid before now n : ℕ) → before ≤ mid + sum_by f (between 0 n) → now ≤ before + f n → now ≤ mid + sum_by f (between 0 (n + 1))
-presence_step f mid before now n h s =
+pub absence_step : (f : ℕ → ℕ) (mid before now n : ℕ) → before ≤ mid + sum_by f (between 0 n) → now ≤ before + f n → now ≤ mid + sum_by f (between 0 (n + 1))
+absence_step f mid before now n h s =
     let more : sum_by f (between 0 (n + 1)) ≡ sum_by f (between 0 n) + f n = sum_more f n in
     omega (arith, h, s, more)

@@ -1,5 +1,5 @@
 -- All keys of a list of variables.
-use Rattle.std.proofs.Common.{◌≡◌, ℕ, suc, ◌+◌, ◌*◌, ◌<◌, Bool, true, false, nat_lt, List, [], ◌∷◌, ◌++◌, length, get_or, map, take, append-nil, length-append, refl, sym, ap, ◌∙◌, subst, inl, inr, arith}
+use Rattle.std.proofs.Common.{◌≡◌, ℕ, suc, ◌+◌, ◌*◌, ◌<◌, Bool, true, false, nat_lt, List, [], ◌∷◌, ◌++◌, length, get_or, take, append-nil, length-append, refl, sym, ap, ◌∙◌, subst, inl, inr, arith}
 use Rattle.std.specs.List.{flat_map, list_all}
 use Rattle.std.specs.List.Sorted.{IsStrictlyIncreasing}
 use Rattle.std.specs.Str.{bytes_eq}
@@ -12,13 +12,10 @@ use Rattle.meaning.specs.Reads.{choices}
 use Rattle.relation.specs.Frames.{size_of}
 use Rattle.relation.specs.Key.{has_id, ids_of, key_below, key_in}
 use Rattle.evaluator.specs.Keys.{AreAscending, AreKeys, has_key}
-
--- keys behind one more object
-abbrev pub behind : ℕ → List (List ℕ) → List (List ℕ)
-behind id keys = map (λ key. id ∷ key) keys
+use Rattle.evaluator.specs.inner.Filled.{behind}
 
 -- each number is below all after it
-abbrev Rising : List ℕ → Type 0
+abbrev pub Rising : List ℕ → Type 0
 Rising [] = Unit {0}
 Rising (x ∷ xs) = (list_all (nat_lt x) xs ≡ true) × Rising xs
 
@@ -26,7 +23,7 @@ all_at : {X : Type 0} (p : X → Bool) (xs : List X) → ((k : ℕ) (d : X) → 
 all_at p [] h = refl
 all_at p (x ∷ xs) h = and_from _ _ (h 0 x (omega arith)) (all_at p xs (λ k d l. h (suc k) d (omega (arith, l))))
 
-rising : (xs : List ℕ) → IsStrictlyIncreasing xs → Rising xs
+pub rising : (xs : List ℕ) → IsStrictlyIncreasing xs → Rising xs
 rising xs up = from_pairs xs (AllPairs-from_increasing xs up)
   where
     from_pairs : (ys : List ℕ) → ((i j : ℕ) (d : ℕ) → i < j → j < length ys → get_or ys i d < get_or ys j d) → Rising ys
@@ -73,6 +70,17 @@ ascend_all keys [] up rise = tt
 ascend_all keys (x ∷ ids) up rise =
     ascend_append x keys (flat_map (λ id. behind id keys) ids) (λ key. below_all_larger x key keys ids rise.0) (ascend_behind x keys up) (ascend_all keys ids up rise.1)
 
+pub all_weaker : {X : Type 0} (p q : X → Bool) → ((x : X) → p x ≡ true → q x ≡ true) → (xs : List X) → list_all p xs ≡ true → list_all q xs ≡ true
+all_weaker p q f [] h = refl
+all_weaker p q f (x ∷ xs) h =
+    let parts : (p x ≡ true) × (list_all p xs ≡ true) = and_parts _ _ h in
+    and_from _ _ (f x parts.0) (all_weaker p q f xs parts.1)
+
+pub own_ids : (ids : List ℕ) → list_all (has_id ids) ids ≡ true
+own_ids [] = refl
+own_ids (x ∷ ids) =
+    and_from _ _ (or_left _ _ (eq-eqb x x refl)) (all_weaker (has_id ids) (has_id (x ∷ ids)) (λ y h. or_right _ _ h) ids (own_ids ids))
+
 -- ---- they are in the domains
 
 module _ (domains : List (List ℕ)) (var : ℕ) (vars : List ℕ) where
@@ -90,17 +98,6 @@ module _ (domains : List (List ℕ)) (var : ℕ) (vars : List ℕ) where
       let parts : (has_id (ids_of domains var) x ≡ true) × (list_all (has_id (ids_of domains var)) ids ≡ true) = and_parts _ _ h in
       list_all-append (key_in domains (var ∷ vars)) (behind x keys) (flat_map (λ id. behind id keys) ids)
       ∙ and_from _ _ (inside_behind x keys parts.0 k) (inside_all keys ids parts.1 k)
-
-  all_weaker : {X : Type 0} (p q : X → Bool) → ((x : X) → p x ≡ true → q x ≡ true) → (xs : List X) → list_all p xs ≡ true → list_all q xs ≡ true
-  all_weaker p q f [] h = refl
-  all_weaker p q f (x ∷ xs) h =
-      let parts : (p x ≡ true) × (list_all p xs ≡ true) = and_parts _ _ h in
-      and_from _ _ (f x parts.0) (all_weaker p q f xs parts.1)
-
-  own_ids : (ids : List ℕ) → list_all (has_id ids) ids ≡ true
-  own_ids [] = refl
-  own_ids (x ∷ ids) =
-      and_from _ _ (or_left _ _ (eq-eqb x x refl)) (all_weaker (has_id ids) (has_id (x ∷ ids)) (λ y h. or_right _ _ h) ids (own_ids ids))
 
   -- ---- they are all
 

@@ -20,3 +20,14 @@ looks_within start read i n size vs h l e = within_all (length vs) (choices size
 
 pub one_step : (start read now i len : ℕ) → read ≤ start + i * len → now ≤ read + len → now ≤ start + (i + 1) * len
 one_step start read now i len h l = let more : (i + 1) * len ≡ i * len + len = one_more i len in grind (arith, h, l, more)
+
+-- some steps of many looks each
+pub block_step : (start read now i n c : ℕ) → read ≤ start + i * n * c → now ≤ read + n * c → now ≤ start + (i + 1) * n * c
+block_step start read now i n c h l =
+    let a : (i + 1) * n ≡ i * n + n = one_more i n in
+    let b : (i + 1) * n * c ≡ (i * n + n) * c = ap (λ (z : ℕ). z * c) a in
+    let d : (i * n + n) * c ≡ i * n * c + n * c = grind arith in
+    omega (arith, h, l, b, d)
+
+pub one_of : (start read c : ℕ) → read ≤ start + c → read ≤ start + 1 * c
+one_of start read c h = omega (arith, h)

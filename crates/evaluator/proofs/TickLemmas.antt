@@ -1,10 +1,15 @@
 -- The ticks of a formula at one binding, by those of its parts.
-use Rattle.std.proofs.Common.{◌≡◌, ℕ, zero, suc, ◌+◌, ◌-◌, ◌*◌, ◌<◌, ◌≤◌, Bool, true, false, ◌&&◌, ◌||◌, ◌==◌, if◌then◌else◌, Option, Some, List, [], ◌∷◌, ◌++◌, length, get_or, take, refl, sym, ap, ◌∙◌, subst, inl, inr, arith}
+use Rattle.std.proofs.Common.{◌≡◌, ℕ, zero, suc, ◌+◌, ◌-◌, ◌*◌, ◌<◌, ◌≤◌, min, Bool, true, false, ◌&&◌, ◌||◌, ◌==◌, if◌then◌else◌, Option, Some, List, [], ◌∷◌, ◌++◌, length, get_or, take, refl, sym, ap, ◌∙◌, subst, inl, inr, arith}
 use Rattle.std.specs.List.{list_any}
-use Rattle.std.proofs.lemmas.Bool.{and_parts, cases_Bool}
+use Rattle.std.proofs.lemmas.Bool.{and_parts, cases_Bool, false≢true}
 use Rattle.std.proofs.lemmas.List.{take_all}
 use Rattle.std.proofs.lemmas.List.Folds.{list_any_more}
 use Rattle.tick_set.specs.Ticks.{LiesIn, within}
+use Rattle.tick_set.specs.Operators.{until_in}
+use Rattle.tick_set.proofs.UntilLemmas.{until_in_none}
+use Rattle.fixed_point.specs.declared.variants.UntilForm.{UntilForm}
+use Rattle.fixed_point.specs.declared.variants.UntilForm.TheVariants as untils
+use Rattle.formula.specs.Forms.{until_form_at}
 use Rattle.formula_shape.specs.Shape as shapes
 use Rattle.formula.specs.declared.tree.RAtom.{RAtom}
 use Rattle.formula.specs.declared.tree.RTerm.{RTerm}
@@ -23,8 +28,17 @@ use Rattle.evaluator.specs.inner.ByBinding.{AreTicksOf, CanAskHere, any_member, 
 use Rattle.evaluator.specs.inner.Nodes.{changed_at, changed_tree, paired_in, paired_tree}
 use Rattle.evaluator.proofs.GatherLemmas.{any-push}
 use Rattle.evaluator.proofs.LoopLemmas.{later_looks}
+use Rattle.evaluator.proofs.OperatorLemmas.{cut, until_cut}
 use Rattle.evaluator.proofs.NodeLemmas.{changed_cut, changed_sat, paired_cut, paired_sat}
 use Rattle.evaluator.proofs.RunLemmas.{run_first, runs_all}
+
+none_in : (p q : ℕ → Bool) → ((u : ℕ) → q u ≡ false) → (lo hi t : ℕ) → until_in p q lo hi t ≡ false
+none_in p q none lo hi t = until_in_none p q lo hi t (λ s. false≢true (sym (none s.goal) ∙ s.holds))
+
+none_led : (form : UntilForm) (c : ℕ) (p q : ℕ → Bool) → ((u : ℕ) → q u ≡ false) → (e t : ℕ) → until_form_at form c p q e t ≡ false
+none_led untils.Plain c p q none e t = none_in p q none t e t
+none_led untils.Within c p q none e t = none_in p q none t (min (t + c) e) t
+none_led untils.After c p q none e t = none_in p q none (t + c) e t
 
 module _ {S : Type 0} (member : S → ℕ → Bool) (lo hi : ℕ) where
   -- a set of ticks of the window lies in it
@@ -47,6 +61,19 @@ module _ {S : Type 0} (member : S → ℕ → Bool) (lo hi : ℕ) where
         ∙ (λ i. paired_in p lo hi (λ u. are u i) (λ u. also u i) t)
         ∙ paired_cut lo hi p (sat j f x hi) (sat j g x hi) t
         ∙ ap (λ (y : Bool). within lo hi t && y) (sym (paired_sat j x hi t p f g))
+
+    -- UNTIL holds nowhere where its goal has no tick
+    pub no_goal : (form : UntilForm) (c : ℕ) (f g : ResolvedTree) (goals : S) → AreTicksOf member j lo hi g x goals → ((t : ℕ) → member goals t ≡ false) →
+        AreTicksOf member j lo hi (shapes.Until form c f g) x goals
+    no_goal form c f g goals are none t =
+        none t
+        ∙ sym (and_false (within lo hi t) (until_form_at form c (cut lo hi (sat j f x hi)) (cut lo hi (sat j g x hi)) hi t)
+        (none_led form c (cut lo hi (sat j f x hi)) (cut lo hi (sat j g x hi)) (λ u. sym (are u) ∙ none u) hi t))
+        ∙ until_cut lo hi form c (sat j f x hi) (sat j g x hi) t
+      where
+        and_false : (w p : Bool) → p ≡ false → (w && p) ≡ false
+        and_false true p e = e
+        and_false false p e = refl
 
 -- ---- an assignment
 

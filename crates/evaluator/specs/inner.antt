@@ -1,3 +1,4 @@
 -- How formulas are evaluated. No public clause names these.
 pub mod ByBinding
+pub mod Filled
 pub mod Nodes

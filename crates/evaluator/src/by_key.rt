@@ -1,17 +1,23 @@
 //! The rows of formulas that are evaluated binding by binding.
 
-ghost use Rattle.std.specs.Prelude.{◌≡◌, ◌≤◌, ◌+◌, true, length, IfOk};
+ghost use Rattle.std.specs.Prelude.{◌≡◌, ◌≤◌, ◌+◌, ◌*◌, ◌∷◌, [], ℕ, true, length, IfOk, OnOk};
+ghost use Rattle.std.specs.List.{list_all};
 ghost use Rattle.formula.specs.Tree.{formula_view};
 ghost use Rattle.formula.specs.Variables.{variables_of};
+ghost use Rattle.formula_shape.specs.declared.limits.TheConstants.{OBJECT_LIMIT};
+ghost use Rattle.relation.specs.Key.{key_below, key_in};
+ghost use Rattle.relation.specs.Rows.{IsSameHead, table};
 ghost use Rattle.evaluator.specs.Interpreting.{CanAsk, IsOver};
+ghost use Rattle.evaluator.specs.Keys.{AreAscending};
 ghost use Rattle.evaluator.specs.Rows.{AreRowsOf, reads_upto};
-ghost use Rattle.evaluator.specs.inner.ByBinding.{is_over};
+ghost use Rattle.evaluator.specs.inner.ByBinding.{holds_at, is_over, reads_here};
+ghost use Rattle.evaluator.specs.inner.Filled.{IsFilled, behind};
 
 use crate::Interpreter;
-use crate::keys::keys_of;
+use crate::keys::{keys_of, with_first};
 use crate::ticks::ticks_of;
 use crate::variables::binding_of;
-use formula::{Env, RFormula};
+use formula::{Binding, Env, RFormula};
 use relation::{Domains, Relation};
 use std::alloc::{AllocError, Global};
 use std::sync::ledger::Ledger;
@@ -19,7 +25,7 @@ use steps::Steps;
 use tick_set::Window;
 use until_merge::Temporal;
 
-// The rows of a formula whose atoms all have its variables: no other relation is made.
+// The rows of a formula whose atoms all have its variables: no other relation is made, nor a list of all keys.
 pub(crate) fn rows_by_key<'d, S: Temporal, I: Interpreter<S>, L: Ledger, M: Ledger>(
     alloc: Global,
     source: &I,
@@ -43,12 +49,84 @@ pub(crate) fn rows_by_key<'d, S: Temporal, I: Interpreter<S>, L: Ledger, M: Ledg
 {
     // The number of domains bounds the variables.
     let _ = d.len();
-    let keys = keys_of(alloc, d, vars)?;
     let mut made = Relation::empty(alloc, vars, d, w);
-    'keys: for key in &keys {
-        let binding = binding_of(vars, key);
-        let ticks = ticks_of(alloc, source, f, &binding, env, w, reads, probes)?;
-        made.put(*key, ticks)?;
+    let Some((first, rest)) = vars.split_first() else {
+        let key = Binding::new();
+        put_row(
+            alloc, source, f, vars, key, env, w, &mut made, reads, probes,
+        )?;
+        return Ok(made);
+    };
+    let later = keys_of(alloc, d, rest)?;
+    'ids: for id in d.of(*first) {
+        put_rows(
+            alloc, source, f, vars, *id, &later, env, w, &mut made, reads, probes,
+        )?;
     }
     Ok(made)
+}
+
+// Adds the rows of the keys that have an object in front of one of these.
+fn put_rows<'d, S: Temporal, I: Interpreter<S>, L: Ledger, M: Ledger>(
+    alloc: Global,
+    source: &I,
+    f: &RFormula,
+    vars: &[u8],
+    id: u32,
+    later: &[Binding],
+    env: &Env,
+    w: Window,
+    made: &mut Relation<'d, S>,
+    reads: &mut Steps<L>,
+    probes: &mut Steps<M>,
+) -> Result<(), AllocError>
+    requires vars { vars.now ≡ variables_of (formula_view f.now) }
+    requires over { IsOver OBJECT_LIMIT (formula_view f.now) }
+    requires can { CanAsk (I.interpretation source.now) (I.atom_fits source.now w.lo w.hi)
+        (I.term_fits source.now w.lo w.hi) made.old.domains w.lo w.hi (formula_view f.now) env.now }
+    requires head { IsSameHead (table vars.now made.old.domains w.lo w.hi []) made.old }
+    requires inside { list_all (λ key. key_in made.old.domains vars.now (id ∷ key)) later.now ≡ true }
+    requires ascend { AreAscending later.now }
+    requires above { list_all (λ r. key_below r.key (id ∷ [])) made.old.rows ≡ true }
+    ensures rows { OnOk result (IsFilled S.member (holds_at (I.interpretation source.now) vars.now w.lo w.hi
+        (formula_view f.now) env.now) (behind id later.now) made.old made.new) }
+    ensures least { reads.old ≤ reads.new }
+    ensures most { reads.new ≤ reads.old + length later.now * reads_here w.lo w.hi (formula_view f.now) }
+{
+    'keys: for key in later {
+        let key = with_first(id, key);
+        put_row(alloc, source, f, vars, key, env, w, made, reads, probes)?;
+    }
+    Ok(())
+}
+
+// Adds the row of a key.
+fn put_row<'d, S: Temporal, I: Interpreter<S>, L: Ledger, M: Ledger>(
+    alloc: Global,
+    source: &I,
+    f: &RFormula,
+    vars: &[u8],
+    key: Binding,
+    env: &Env,
+    w: Window,
+    made: &mut Relation<'d, S>,
+    reads: &mut Steps<L>,
+    probes: &mut Steps<M>,
+) -> Result<(), AllocError>
+    requires vars { vars.now ≡ variables_of (formula_view f.now) }
+    requires over { IsOver OBJECT_LIMIT (formula_view f.now) }
+    requires can { CanAsk (I.interpretation source.now) (I.atom_fits source.now w.lo w.hi)
+        (I.term_fits source.now w.lo w.hi) made.old.domains w.lo w.hi (formula_view f.now) env.now }
+    requires head { IsSameHead (table vars.now made.old.domains w.lo w.hi []) made.old }
+    requires inside { key_in made.old.domains vars.now key ≡ true }
+    requires above { list_all (λ r. key_below r.key key) made.old.rows ≡ true }
+    ensures rows { OnOk result (IsFilled S.member (holds_at (I.interpretation source.now) vars.now w.lo w.hi
+        (formula_view f.now) env.now) (key ∷ []) made.old made.new) }
+    ensures least { reads.old ≤ reads.new }
+    ensures most { reads.new ≤ reads.old + reads_here w.lo w.hi (formula_view f.now) }
+{
+    let binding = binding_of(vars, &key);
+    let ticks = ticks_of(alloc, source, f, &binding, env, w, reads, probes)?;
+    made.put(key, ticks)?;
+    Ok(())
 }

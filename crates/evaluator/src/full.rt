@@ -1,18 +1,19 @@
 //! The rows of queries.
 
-ghost use Rattle.std.specs.Prelude.{◌≡◌, ◌≤◌, ◌<◌, ◌+◌, ℕ, [], ◌∷◌, true, length, IfOk};
-ghost use Rattle.tick_set.specs.Ticks.{between};
+ghost use Rattle.std.specs.Prelude.{◌≡◌, ◌≤◌, ◌<◌, ◌+◌, ◌&&◌, not, ℕ, [], ◌∷◌, true, length, IfOk};
+ghost use Rattle.tick_set.specs.Ticks.{between, within};
 ghost use Rattle.formula.specs.Tree.{formula_view, query_view};
 ghost use Rattle.formula.specs.Value.{no_values};
-ghost use Rattle.relation.specs.Frames.{size_of};
+ghost use Rattle.formula_shape.specs.declared.limits.TheConstants.{OBJECT_LIMIT};
+ghost use Rattle.relation.specs.Frames.{IsIn, frame, size_of, vars_of_both};
 ghost use Rattle.relation.specs.Key.{has_id, ids_of};
+ghost use Rattle.relation.specs.Rows.{has};
 ghost use Rattle.evaluator.specs.Interpreting.{CanAsk, IsOver};
 ghost use Rattle.evaluator.specs.Rows.{AreRowsWhere, is_full, query_reads_upto};
 
 use crate::Interpreter;
-use crate::keys::keys_of;
 use crate::rows::rows_of;
-use formula::{Env, RQuery};
+use formula::{Binding, Env, RQuery};
 use relation::{Domains, Relation};
 use std::alloc::{AllocError, Global};
 use std::sync::ledger::Ledger;
@@ -44,14 +45,14 @@ pub fn full_rows<'d, S: Temporal, I: Interpreter<S>, L: Ledger, M: Ledger>(
     let mut made = rows_of(alloc, source, &q.formula, d, &Env::new(), w, reads, probes)?;
     let count = d.len() as u8;
     'vars: for var in 0..count {
-        let there = rows_of_presence(alloc, source, var, d, w, reads)?;
-        made = made.join(alloc, &there)?;
+        let away = rows_of_absence(alloc, source, var, d, w, reads)?;
+        made = while_there(alloc, made, var, &away)?;
     }
     Ok(made)
 }
 
-// The ticks at which each object of a variable is there.
-fn rows_of_presence<'d, S: Temporal, I: Interpreter<S>, L: Ledger>(
+// The ticks at which each object of a variable isn't there: no row of those that are there throughout, as most are.
+fn rows_of_absence<'d, S: Temporal, I: Interpreter<S>, L: Ledger>(
     alloc: Global,
     source: &I,
     var: u8,
@@ -62,15 +63,49 @@ fn rows_of_presence<'d, S: Temporal, I: Interpreter<S>, L: Ledger>(
     requires known { var < length d.now }
     requires objects { (id : ℕ) → has_id (ids_of d.now var) id ≡ true → I.object_fits source.now w.lo w.hi id }
     ensures rows { IfOk result (λ r. AreRowsWhere S.member d.now w.lo w.hi (var ∷ [])
-        (λ b. I.present source.now (b var)) r) }
+        (λ b t. not (I.present source.now (b var) t)) r) }
     ensures least { reads.old ≤ reads.new }
     ensures most { reads.new ≤ reads.old + size_of d.now var }
 {
-    let keys = keys_of(alloc, d, &[var])?;
-    let mut made = Relation::empty(alloc, &[var], d, w);
-    'keys: for key in &keys {
-        let ticks = source.presence(alloc, key.get(0).unwrap_or(0), w, reads)?;
-        made.put(*key, ticks)?;
+    let mut away = Relation::empty(alloc, &[var], d, w);
+    'ids: for id in d.of(var) {
+        let ticks = source.absence(alloc, *id, w, reads)?;
+        away.put(key_of(*id), ticks)?;
     }
+    Ok(away)
+}
+
+fn key_of(id: u32) -> Binding
+    ensures { result ≡ id ∷ [] }
+{
+    let mut key = Binding::new();
+    key.push(id);
+    key
+}
+
+// The rows without the ticks at which the object of a variable is away. Where none is ever away, rows that have the
+// variable stay as they are, and none is copied.
+fn while_there<'d, S: Temporal>(
+    alloc: Global,
+    rows: Relation<'d, S>,
+    var: u8,
+    away: &Relation<'d, S>,
+) -> Result<Relation<'d, S>, AllocError>
+    requires frame { frame away.now ≡ frame rows }
+    requires ascend { vars_of_both rows.vars rows.vars ≡ rows.vars }
+    requires one { away.now.vars ≡ var ∷ [] }
+    requires few { var < OBJECT_LIMIT }
+    requires lies { (b : ℕ → ℕ) → IsIn rows.domains b → (t : ℕ) → has S.member rows b t ≡ true
+        → within rows.lo rows.hi t ≡ true }
+    ensures ticks { IfOk result (λ r. (b : ℕ → ℕ) → IsIn rows.entry.domains b → (t : ℕ) → has S.member r b t
+        ≡ (has S.member rows.entry b t && not (has S.member away.now b t))) }
+    ensures vars { IfOk result (λ r. r.vars ≡ vars_of_both rows.entry.vars (var ∷ [])) }
+    ensures frame { IfOk result (λ r. frame r ≡ frame rows.entry) }
+{
+    if away.is_empty() && rows.vars().contains(&var) {
+        return Ok(rows);
+    }
+    let there = away.complement(alloc)?;
+    let made = rows.join(alloc, &there)?;
     Ok(made)
 }

@@ -1,6 +1,6 @@
 //! What tells the truth of atoms and the values of terms.
 
-ghost use Rattle.std.specs.Prelude.{◌≡◌, ◌≤◌, ◌+◌, ◌&&◌, ℕ, Bool, true, length, slice_index, IfOk};
+ghost use Rattle.std.specs.Prelude.{◌≡◌, ◌≤◌, ◌+◌, ◌&&◌, not, ℕ, Bool, true, length, slice_index, IfOk};
 ghost use Rattle.tick_set.specs.Ticks.{within};
 ghost use Rattle.formula.specs.Variables.{atom_has, term_has};
 ghost use Rattle.formula.specs.declared.tree.RAtom.{RAtom};
@@ -71,8 +71,8 @@ pub trait Interpreter<S: Temporal> {
         ensures least { reads.old ≤ reads.new }
         ensures most { reads.new ≤ reads.old + length (term_variables term.now) };
 
-    /// The ticks of the window at which the object is there.
-    fn presence<L: Ledger>(
+    /// The ticks of the window at which the object isn't there: few objects have any.
+    fn absence<L: Ledger>(
         &self,
         alloc: Global,
         id: u32,
@@ -80,7 +80,8 @@ pub trait Interpreter<S: Temporal> {
         reads: &mut Steps<L>,
     ) -> Result<S, AllocError>
         requires { object_fits self.now w.lo w.hi id }
-        ensures ticks { IfOk result (λ s. (t : ℕ) → S.member s t ≡ (within w.lo w.hi t && present self.now id t)) }
+        ensures ticks { IfOk result (λ s. (t : ℕ) → S.member s t ≡ (within w.lo w.hi t
+            && not (present self.now id t))) }
         ensures least { reads.old ≤ reads.new }
         ensures most { reads.new ≤ reads.old + 1 };
 

@@ -40,7 +40,8 @@ fn push_each(keys: &mut Vec<Binding>, id: u32, later: &[Binding]) -> Result<(), 
     Ok(())
 }
 
-fn with_first(id: u32, key: &Binding) -> Binding
+// A key with an object in front.
+pub(crate) fn with_first(id: u32, key: &Binding) -> Binding
     requires { length key.now < OBJECT_LIMIT }
     ensures { result ≡ id ∷ key.now }
 {

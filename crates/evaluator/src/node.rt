@@ -2,7 +2,7 @@
 
 ghost use Rattle.std.specs.Prelude.{◌≡◌};
 ghost use Rattle.formula.specs.Tree.{formula_view};
-ghost use Rattle.evaluator.specs.inner.Nodes.{node_view};
+ghost use Rattle.evaluator.specs.inner.Nodes.{needs_left, node_view};
 
 use crate::assignment::Assignment;
 use fixed_point::{BoundForm, UntilForm};
@@ -24,6 +24,19 @@ pub(crate) enum Pairing {
     And,
     Or,
     Until(UntilForm, u32),
+}
+
+impl Pairing {
+    // Whether it holds nowhere where its left part does.
+    pub(crate) fn needs_left(self) -> bool
+        ensures { result ≡ needs_left self }
+    {
+        match self {
+            Pairing::And => true,
+            Pairing::Or => false,
+            Pairing::Until(_, _) => false,
+        }
+    }
 }
 
 // The last operator of a formula, with its parts.

@@ -2,14 +2,16 @@
 
 ghost use Rattle.std.specs.Prelude.{◌≡◌, ◌≤◌, ◌+◌, ◌&&◌, ℕ, true, slice_index, IfOk};
 ghost use Rattle.tick_set.specs.Ticks.{within};
+ghost use Rattle.formula_shape.specs.Shape.{Shape};
 ghost use Rattle.formula.specs.Tree.{formula_view};
 ghost use Rattle.evaluator.specs.Assigned.{assignment_view};
 ghost use Rattle.evaluator.specs.inner.ByBinding.{AreTicksOf, CanAskHere, reads_here};
 
 use crate::Interpreter;
 use crate::assignment::Assignment;
-use crate::node::Node;
+use crate::node::{Node, Pairing};
 use crate::sets::{changed, paired, union_of};
+use fixed_point::UntilForm;
 use formula::{Binding, Env, RFormula};
 use std::alloc::{AllocError, Global};
 use std::collections::VecDeque;
@@ -53,7 +55,16 @@ pub(crate) fn ticks_of<S: Temporal, I: Interpreter<S>, L: Ledger, M: Ledger>(
             Ok(made)
         }
         Node::Two(pairing, left, right) => {
+            if let Pairing::Until(form, c) = pairing {
+                let led = ticks_of_until(
+                    alloc, source, form, c, left, right, binding, env, w, reads, probes,
+                )?;
+                return Ok(led);
+            }
             let left = ticks_of(alloc, source, left, binding, env, w, reads, probes)?;
+            if pairing.needs_left() && left.is_empty() {
+                return Ok(left);
+            }
             let right = ticks_of(alloc, source, right, binding, env, w, reads, probes)?;
             let made = paired(alloc, pairing, &left, &right, w)?;
             Ok(made)
@@ -63,6 +74,40 @@ pub(crate) fn ticks_of<S: Temporal, I: Interpreter<S>, L: Ledger, M: Ledger>(
             Ok(made)
         }
     }
+}
+
+// Those of UNTIL. Where its goal has no tick, its guard isn't evaluated.
+#[cycle(ticks)]
+fn ticks_of_until<S: Temporal, I: Interpreter<S>, L: Ledger, M: Ledger>(
+    alloc: Global,
+    source: &I,
+    form: UntilForm,
+    c: u32,
+    guard: &RFormula,
+    goal: &RFormula,
+    binding: &Binding,
+    env: &Env,
+    w: Window,
+    reads: &mut Steps<L>,
+    probes: &mut Steps<M>,
+) -> Result<S, AllocError>
+    requires { CanAskHere (I.interpretation source.now (slice_index binding.now))
+        (I.atom_fits source.now w.lo w.hi (slice_index binding.now))
+        (I.term_fits source.now w.lo w.hi (slice_index binding.now)) w.lo w.hi
+        (Shape.Until form c (formula_view guard.now) (formula_view goal.now)) env.now }
+    ensures ticks { IfOk result (AreTicksOf S.member (I.interpretation source.now (slice_index binding.now))
+        w.lo w.hi (Shape.Until form c (formula_view guard.now) (formula_view goal.now)) env.now) }
+    ensures least { reads.old ≤ reads.new }
+    ensures most { reads.new ≤ reads.old + reads_here w.lo w.hi
+        (Shape.Until form c (formula_view guard.now) (formula_view goal.now)) }
+{
+    let goals = ticks_of(alloc, source, goal, binding, env, w, reads, probes)?;
+    if goals.is_empty() {
+        return Ok(goals);
+    }
+    let guards = ticks_of(alloc, source, guard, binding, env, w, reads, probes)?;
+    let made = paired(alloc, Pairing::Until(form, c), &guards, &goals, w)?;
+    Ok(made)
 }
 
 // All ticks of the window or none.

@@ -134,14 +134,16 @@ impl<S: Temporal> Interpreter<S> for SmallWorld {
         }
     }
 
-    fn presence<L: Ledger>(
+    fn absence<L: Ledger>(
         &self,
         alloc: Global,
         id: u32,
         w: Window,
         _reads: &mut Steps<L>,
     ) -> Result<S, AllocError> {
-        stretch(alloc, id, 4, w)
+        let there: S = stretch(alloc, id, 4, w)?;
+        let away = there.complement(alloc, w)?;
+        Ok(away)
     }
 
     ghost atom_sees = { λ x. atoms_see };

@@ -1,5 +1,5 @@
 -- Formulas that are evaluated binding by binding.
-use Rattle.std.specs.Prelude.{◌≡◌, ⊤, ℕ, ◌+◌, ◌-◌, Bool, true, ◌&&◌, Some, List}
+use Rattle.std.specs.Prelude.{◌≡◌, ⊤, ℕ, ◌+◌, ◌-◌, Bool, true, ◌&&◌, Some, List, slice_index}
 use Rattle.std.specs.List.{list_any}
 use Rattle.std.specs.Str.{bytes_eq}
 use Rattle.tick_set.specs.Ticks.{within}
@@ -12,6 +12,7 @@ use Rattle.formula.specs.Tree.{ResolvedTree}
 use Rattle.formula.specs.Value.{with_value}
 use Rattle.meaning.specs.Reads.{atom_variables, reads, term_variables}
 use Rattle.meaning.specs.Satisfaction.{Interpretation, sat}
+use Rattle.evaluator.specs.Keys.{binding_of}
 
 -- whether each atom of a formula, and each term whose value it binds, has exactly these variables
 abbrev pub is_over : List ℕ → ResolvedTree → Bool
@@ -43,6 +44,10 @@ CanAskHere j P Q lo hi (shapes.Assign (d, q) f) x =
 -- the ticks of lo to hi at which a formula holds
 abbrev pub AreTicksOf : {S : Type 0} → (S → ℕ → Bool) → Interpretation → ℕ → ℕ → ResolvedTree → Env → S → Type 0
 AreTicksOf member j lo hi f x s = (t : ℕ) → member s t ≡ (within lo hi t && sat j f x hi t)
+
+-- whether a formula holds at the binding of a key, at a tick of lo to hi
+abbrev pub holds_at : ((ℕ → ℕ) → Interpretation) → List ℕ → ℕ → ℕ → ResolvedTree → Env → List ℕ → ℕ → Bool
+holds_at j vars lo hi f x key t = within lo hi t && sat (j (slice_index (binding_of vars key))) f x hi t
 
 -- whether one of the sets has the tick
 abbrev pub any_member : {S : Type 0} → (S → ℕ → Bool) → List S → ℕ → Bool

@@ -1,5 +1,5 @@
 -- A formula by its operator and its parts.
-use Rattle.std.specs.Prelude.{ℕ, Bool, not, ◌&&◌, ◌||◌}
+use Rattle.std.specs.Prelude.{ℕ, Bool, true, false, not, ◌&&◌, ◌||◌}
 use Rattle.tick_set.specs.Ticks.{within}
 use Rattle.tick_set.specs.Operators.{always_at, eventually_at, next_at}
 use Rattle.formula_shape.specs.Shape.{Shape}
@@ -26,6 +26,12 @@ abbrev pub paired_tree : Pairing → ResolvedTree → ResolvedTree → ResolvedT
 paired_tree pairings.And f g = Shape.And f g
 paired_tree pairings.Or f g = Shape.Or f g
 paired_tree (pairings.Until form c) f g = Shape.Until form c f g
+
+-- whether an operator holds nowhere where its left part holds nowhere
+abbrev pub needs_left : Pairing → Bool
+needs_left pairings.And = true
+needs_left pairings.Or = false
+needs_left (pairings.Until form c) = false
 
 -- whether the operator holds at a tick of what holds at ticks, where e is the last tick that counts
 abbrev pub changed_at : Change → (ℕ → Bool) → ℕ → ℕ → Bool

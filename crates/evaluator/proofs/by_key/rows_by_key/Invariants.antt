@@ -1,17 +1,14 @@
-use Rattle.std.proofs.Common.{◌+◌, ◌*◌, ◌≤◌, ◌&&◌, slice_index}
-use Rattle.tick_set.specs.Ticks.{within}
+use Rattle.std.proofs.Common.{◌+◌, ◌*◌, ◌≤◌, length, take}
+use Rattle.std.specs.List.{flat_map}
 use Rattle.formula.specs.Tree.{formula_view}
-use Rattle.meaning.specs.Satisfaction.{sat}
-use Rattle.evaluator.specs.Keys.{binding_of}
-use Rattle.evaluator.specs.inner.ByBinding.{reads_here}
-use Rattle.evaluator.proofs.FillingLemmas.{IsFilling}
+use Rattle.evaluator.specs.inner.ByBinding.{holds_at, reads_here}
+use Rattle.evaluator.specs.inner.Filled.{IsFilled, behind}
 use Rattle.evaluator.proofs.by_key.rows_by_key.Given as goal
 
-abbrev pub invariant-keys : goal.invariant-keys
-invariant-keys g l = record {
-  rows : IsFilling g.S.TickSet.member
-      (λ k t. within l.w.lo l.w.hi t && sat (g.I.Interpreter.interpretation l.source (slice_index (binding_of l.vars k))) (formula_view l.f) l.env l.w.hi t)
-      l.key-items l.key-index l.initial.made l.made;
+abbrev pub invariant-ids : goal.invariant-ids
+invariant-ids g l = record {
+  rows : IsFilled g.S.TickSet.member (holds_at (g.I.Interpreter.interpretation l.source) l.vars l.w.lo l.w.hi (formula_view l.f) l.env)
+      (flat_map (λ id. behind id l.later.items) (take l.id-index l.id-items)) l.initial.made l.made;
   least : l.initial.reads ≤ l.reads;
-  most : l.reads ≤ l.initial.reads + l.key-index * reads_here l.w.lo l.w.hi (formula_view l.f);
+  most : l.reads ≤ l.initial.reads + (l.id-index * length l.later.items) * reads_here l.w.lo l.w.hi (formula_view l.f);
 }

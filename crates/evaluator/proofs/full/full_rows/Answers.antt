@@ -1,18 +1,15 @@
-use Rattle.std.proofs.Common.{◌≡◌, ◌||◌, ◌==◌, nat_lt, ℕ, List, length, refl, subst, arith, ◌∙◌, sym}
+use Rattle.std.proofs.Common.{◌≡◌, ℕ, length, refl, subst, arith, sym}
 use Rattle.std.specs.List.{sum_by}
-use Rattle.std.specs.List.Sorted.{IsStrictlyIncreasing}
 use Rattle.tick_set.specs.Ticks.{between}
 use Rattle.formula.specs.declared.value.Env.{Env}
 use Rattle.formula.specs.Tree.{formula_view, query_view}
 use Rattle.formula.specs.Value.{no_values}
-use Rattle.formula.specs.Variables.{has_variable}
 use Rattle.meaning.specs.Satisfaction.{sat}
 use Rattle.relation.specs.Frames.{size_of}
 use Rattle.evaluator.specs.Interpreting.{CanAsk}
 use Rattle.evaluator.specs.Rows.{AreRowsOf, AreRowsWhere, query_reads_upto, reads_upto}
-use Rattle.evaluator.proofs.FullLemmas.{full_all, full_more, full_none, holds_upto, one_variable, presence_done, presence_step, presence_within, variables_upto}
+use Rattle.evaluator.proofs.FullLemmas.{absence_done, absence_step, absence_within, full_all, full_ascend, full_lies, full_more, full_none, holds_upto, variables_upto}
 use Rattle.evaluator.proofs.LoopLemmas.{in_turn, most_first}
-use Rattle.evaluator.proofs.VariableLemmas.{ascending_variables}
 use Rattle.evaluator.proofs.full.full_rows.Goals as goal
 
 pub rows_of-requires-clause-over : goal.rows_of-requires-clause-over
@@ -37,43 +34,40 @@ vars-init g c = record {
   most = omega arith;
 }
 
-pub rows_of_presence-requires-clause-known : goal.rows_of_presence-requires-clause-known
-rows_of_presence-requires-clause-known g c = omega (arith, c.vars-test.true, c.len-count.ensures.count)
+pub rows_of_absence-requires-clause-known : goal.rows_of_absence-requires-clause-known
+rows_of_absence-requires-clause-known g c = omega (arith, c.vars-test.true, c.len-count.ensures.count)
 
-pub rows_of_presence-requires-clause-objects : goal.rows_of_presence-requires-clause-objects
-rows_of_presence-requires-clause-objects g c = λ id h. c.requires.objects c.vars.var id h
+pub rows_of_absence-requires-clause-objects : goal.rows_of_absence-requires-clause-objects
+rows_of_absence-requires-clause-objects g c = λ id h. c.requires.objects c.vars.var id h
 
-pub returns-in_err-there-clause-least : goal.returns-in_err-there-clause-least
-returns-in_err-there-clause-least g c = in_turn _ _ _ c.in_ok-made.ensures.least (in_turn _ _ _ c.vars.invariant.least c.in_err-there.ensures.least)
+pub returns-in_err-away-clause-least : goal.returns-in_err-away-clause-least
+returns-in_err-away-clause-least g c = in_turn _ _ _ c.in_ok-made.ensures.least (in_turn _ _ _ c.vars.invariant.least c.in_err-away.ensures.least)
 
-pub returns-in_err-there-clause-most : goal.returns-in_err-there-clause-most
-returns-in_err-there-clause-most g c =
-    presence_within (size_of c.args.d.now) c.args.reads.now _ _ (query_reads_upto c.args.d.now c.args.w.lo c.args.w.hi (query_view c.args.q.now)) (reads_upto c.args.d.now c.args.w.lo c.args.w.hi (formula_view c.args.q.now.formula)) c.vars.var (length c.args.q.now.classes) refl c.in_ok-made.ensures.most c.vars.reads c.vars.invariant.most c.in_err-there.ensures.most (let n = c.requires.domains in omega (arith, c.vars-test.true, c.len-count.ensures.count, n))
+pub returns-in_err-away-clause-most : goal.returns-in_err-away-clause-most
+returns-in_err-away-clause-most g c =
+    absence_within (size_of c.args.d.now) c.args.reads.now _ _ (query_reads_upto c.args.d.now c.args.w.lo c.args.w.hi (query_view c.args.q.now)) (reads_upto c.args.d.now c.args.w.lo c.args.w.hi (formula_view c.args.q.now.formula)) c.vars.var (length c.args.q.now.classes) refl c.in_ok-made.ensures.most c.vars.reads c.vars.invariant.most c.in_err-away.ensures.most (let n = c.requires.domains in omega (arith, c.vars-test.true, c.len-count.ensures.count, n))
 
 pub returns-in_err-made-2-clause-least : goal.returns-in_err-made-2-clause-least
-returns-in_err-made-2-clause-least g c = in_turn _ _ _ c.in_ok-made.ensures.least (in_turn _ _ _ c.vars.invariant.least c.in_ok-there.ensures.least)
+returns-in_err-made-2-clause-least g c = in_turn _ _ _ c.in_ok-made.ensures.least (in_turn _ _ _ c.vars.invariant.least c.in_ok-away.ensures.least)
 
 pub returns-in_err-made-2-clause-most : goal.returns-in_err-made-2-clause-most
 returns-in_err-made-2-clause-most g c =
-    presence_within (size_of c.args.d.now) c.args.reads.now _ _ (query_reads_upto c.args.d.now c.args.w.lo c.args.w.hi (query_view c.args.q.now)) (reads_upto c.args.d.now c.args.w.lo c.args.w.hi (formula_view c.args.q.now.formula)) c.vars.var (length c.args.q.now.classes) refl c.in_ok-made.ensures.most c.vars.reads c.vars.invariant.most c.in_ok-there.ensures.most (let n = c.requires.domains in omega (arith, c.vars-test.true, c.len-count.ensures.count, n))
+    absence_within (size_of c.args.d.now) c.args.reads.now _ _ (query_reads_upto c.args.d.now c.args.w.lo c.args.w.hi (query_view c.args.q.now)) (reads_upto c.args.d.now c.args.w.lo c.args.w.hi (formula_view c.args.q.now.formula)) c.vars.var (length c.args.q.now.classes) refl c.in_ok-made.ensures.most c.vars.reads c.vars.invariant.most c.in_ok-away.ensures.most (let n = c.requires.domains in omega (arith, c.vars-test.true, c.len-count.ensures.count, n))
 
-pub join-requires-clause-frame : goal.join-requires-clause-frame
-join-requires-clause-frame g c = c.in_ok-there.ensures.rows.frame ∙ sym c.vars.invariant.rows.frame
+pub while_there-requires-clause-ascend : goal.while_there-requires-clause-ascend
+while_there-requires-clause-ascend g c =
+    full_ascend g.S.TickSet.member c.args.d.now c.args.w.lo c.args.w.hi (formula_view c.args.q.now.formula) (λ (b : ℕ → ℕ) (u : ℕ). sat (g.I.Interpreter.interpretation c.args.source.now b) (formula_view c.args.q.now.formula) no_values c.args.w.hi u) (g.I.Interpreter.present c.args.source.now) c.vars.var c.vars.made c.vars.invariant.rows
 
-pub join-requires-clause-left : goal.join-requires-clause-left
-join-requires-clause-left g c =
-    subst (λ (vs : List ℕ). IsStrictlyIncreasing vs) (sym c.vars.invariant.rows.vars) (ascending_variables (λ v. has_variable v (formula_view c.args.q.now.formula) || nat_lt v c.vars.var))
-
-pub join-requires-clause-right : goal.join-requires-clause-right
-join-requires-clause-right g c =
-    subst (λ (vs : List ℕ). IsStrictlyIncreasing vs) (sym (c.in_ok-there.ensures.rows.vars ∙ sym (one_variable c.vars.var (omega (arith, c.vars-test.true, c.len-count.ensures.count, c.len-count.ensures.few))))) (ascending_variables (λ u. u == c.vars.var))
+pub while_there-requires-clause-lies : goal.while_there-requires-clause-lies
+while_there-requires-clause-lies g c =
+    full_lies g.S.TickSet.member c.args.d.now c.args.w.lo c.args.w.hi (formula_view c.args.q.now.formula) (λ (b : ℕ → ℕ) (u : ℕ). sat (g.I.Interpreter.interpretation c.args.source.now b) (formula_view c.args.q.now.formula) no_values c.args.w.hi u) (g.I.Interpreter.present c.args.source.now) c.vars.var c.vars.made c.vars.invariant.rows
 
 pub vars-preserved : goal.vars-preserved
 vars-preserved g c = record {
-  rows = full_more g.S.TickSet.member c.args.d.now c.args.w.lo c.args.w.hi (formula_view c.args.q.now.formula) (λ (b : ℕ → ℕ) (u : ℕ). sat (g.I.Interpreter.interpretation c.args.source.now b) (formula_view c.args.q.now.formula) no_values c.args.w.hi u) (g.I.Interpreter.present c.args.source.now) c.vars.var (omega (arith, c.vars-test.true, c.len-count.ensures.count, c.len-count.ensures.few)) c.vars.made c.in_ok-there.there c.in_ok-made-2.made c.vars.invariant.rows c.in_ok-there.ensures.rows
+  rows = full_more g.S.TickSet.member c.args.d.now c.args.w.lo c.args.w.hi (formula_view c.args.q.now.formula) (λ (b : ℕ → ℕ) (u : ℕ). sat (g.I.Interpreter.interpretation c.args.source.now b) (formula_view c.args.q.now.formula) no_values c.args.w.hi u) (g.I.Interpreter.present c.args.source.now) c.vars.var (omega (arith, c.vars-test.true, c.len-count.ensures.count, c.len-count.ensures.few)) c.vars.made c.in_ok-away.away c.in_ok-made-2.made c.vars.invariant.rows c.in_ok-away.ensures.rows
       c.in_ok-made-2.ensures.ticks c.in_ok-made-2.ensures.vars c.in_ok-made-2.ensures.frame;
-  least = in_turn _ _ _ c.vars.invariant.least c.in_ok-there.ensures.least;
-  most = presence_step (size_of c.args.d.now) _ c.vars.reads _ c.vars.var c.vars.invariant.most c.in_ok-there.ensures.most;
+  least = in_turn _ _ _ c.vars.invariant.least c.in_ok-away.ensures.least;
+  most = absence_step (size_of c.args.d.now) _ c.vars.reads _ c.vars.var c.vars.invariant.most c.in_ok-away.ensures.most;
 }
 
 pub returns-clause-rows : goal.returns-clause-rows
@@ -88,4 +82,4 @@ returns-clause-least g c = in_turn _ _ _ c.in_ok-made.ensures.least c.vars.invar
 
 pub returns-clause-most : goal.returns-clause-most
 returns-clause-most g c =
-    presence_done (size_of c.args.d.now) c.args.reads.now _ _ (query_reads_upto c.args.d.now c.args.w.lo c.args.w.hi (query_view c.args.q.now)) (reads_upto c.args.d.now c.args.w.lo c.args.w.hi (formula_view c.args.q.now.formula)) c.vars.var (length c.args.q.now.classes) refl c.in_ok-made.ensures.most c.vars.invariant.most (let n = c.requires.domains in omega (arith, c.vars.auto.var-end, c.len-count.ensures.count, n))
+    absence_done (size_of c.args.d.now) c.args.reads.now _ _ (query_reads_upto c.args.d.now c.args.w.lo c.args.w.hi (query_view c.args.q.now)) (reads_upto c.args.d.now c.args.w.lo c.args.w.hi (formula_view c.args.q.now.formula)) c.vars.var (length c.args.q.now.classes) refl c.in_ok-made.ensures.most c.vars.invariant.most (let n = c.requires.domains in omega (arith, c.vars.auto.var-end, c.len-count.ensures.count, n))

@@ -2,7 +2,8 @@ use Rattle.std.proofs.Common.{◌≡◌, ℕ, true, List, length, map, get_or, a
 use Rattle.std.specs.List.{list_all, flat_map}
 use Rattle.std.proofs.lemmas.List.{take_all}
 use Rattle.evaluator.specs.Keys.{AreKeys}
-use Rattle.evaluator.proofs.KeyLemmas.{behind, flat_map-step, keys_more, keys_short}
+use Rattle.evaluator.specs.inner.Filled.{behind}
+use Rattle.evaluator.proofs.KeyLemmas.{flat_map-step, keys_more, keys_short}
 use Rattle.evaluator.proofs.keys.+keys_of.Goals as goal
 
 pub push_each-requires : goal.push_each-requires

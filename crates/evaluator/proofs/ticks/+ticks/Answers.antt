@@ -6,13 +6,14 @@ use Rattle.formula.specs.Tree.{ResolvedTree, formula_view}
 use Rattle.meaning.specs.Reads.{atom_variables}
 use Rattle.meaning.specs.Satisfaction.{sat}
 use Rattle.atoms.specs.declared.value_list.ValueRun.{ValueRun}
+use Rattle.evaluator.specs.declared.node.Pairing.TheVariants as pairings
 use Rattle.evaluator.specs.ValueRuns.{AreValueRuns, EachHasItsValue}
 use Rattle.evaluator.specs.inner.ByBinding.{AreTicksOf, CanAskHere, any_member, reads_here}
 use Rattle.evaluator.specs.inner.Nodes.{changed_tree, paired_tree}
 use Rattle.evaluator.proofs.LoopLemmas.{in_turn, most_both, most_first, most_same, none_yet}
 use Rattle.evaluator.proofs.NodeLemmas.{changed_can, changed_nodes, changed_reads, paired_can, paired_nodes, paired_reads}
 use Rattle.evaluator.proofs.ReadLemmas.{one_step}
-use Rattle.evaluator.proofs.TickLemmas.{can_ask_by, lies, one_ticks, reads_of_atom, run_added, runs_done, runs_here, term_here, two_ticks}
+use Rattle.evaluator.proofs.TickLemmas.{can_ask_by, lies, one_ticks, reads_of_atom, run_added, runs_done, runs_here, no_goal, term_here, two_ticks}
 use Rattle.evaluator.proofs.ticks.+ticks.Goals as goal
 
 pub ticks_of-returns-in_ok-made-in-Truth-clause-ticks : goal.ticks_of-returns-in_ok-made-in-Truth-clause-ticks
@@ -254,3 +255,12 @@ ticks_of_assignment-returns-clause-ticks g t c =
     runs_done g.S.TickSet.member (g.I.Interpreter.interpretation c.args.source.now) (slice_index c.args.binding.now) c.args.w.lo c.args.w.hi c.args.a.now.depth (formula_view c.args.a.now.body.now) c.args.env.now c.deref-run-items.result.now c.args.a.now.term.now
     (subst (λ (rs : List ValueRun). AreValueRuns c.args.w.lo c.args.w.hi ((g.I.Interpreter.interpretation c.args.source.now (slice_index c.args.binding.now)).term c.args.a.now.term.now c.args.env.now) rs) (sym c.deref-run-items.ensures.value) c.in_ok-runs.ensures.runs)
     c.each.run-index c.each.parts.items c.in_ok-made.made (omega (arith, c.each-test.false)) c.each.invariant.ticks c.in_ok-made.ensures
+
+pub ticks_of_until-returns-then-is_empty-clause-ticks : goal.ticks_of_until-returns-then-is_empty-clause-ticks
+ticks_of_until-returns-then-is_empty-clause-ticks g t c =
+    no_goal g.S.TickSet.member c.args.w.lo c.args.w.hi (g.I.Interpreter.interpretation c.args.source.now (slice_index c.args.binding.now)) c.args.env.now c.args.form c.args.c (formula_view c.args.guard.now) (formula_view c.args.goal.now) c.in_ok-goals.goals c.in_ok-goals.ensures.ticks (c.is_empty.ensures.0 c.if-is_empty.true)
+
+pub ticks_of_until-returns-clause-ticks : goal.ticks_of_until-returns-clause-ticks
+ticks_of_until-returns-clause-ticks g t c =
+    two_ticks g.S.TickSet.member c.args.w.lo c.args.w.hi (g.I.Interpreter.interpretation c.args.source.now (slice_index c.args.binding.now)) c.args.env.now (pairings.Until c.args.form c.args.c) (formula_view c.args.guard.now) (formula_view c.args.goal.now)
+    c.in_ok-guards.guards c.in_ok-goals.goals c.in_ok-made.made c.in_ok-guards.ensures.ticks c.in_ok-goals.ensures.ticks c.in_ok-made.ensures

@@ -9,6 +9,9 @@ use Rattle.evaluator.proofs.ticks.+ticks.Given as goal
 abbrev pub decreases-ticks_of : goal.decreases-ticks_of
 decreases-ticks_of g l = 2 * nodes (formula_view l.f.now)
 
+abbrev pub decreases-ticks_of_until : goal.decreases-ticks_of_until
+decreases-ticks_of_until g l = 2 * (nodes (formula_view l.guard.now) + nodes (formula_view l.goal.now)) + 1
+
 abbrev pub decreases-ticks_of_assignment : goal.decreases-ticks_of_assignment
 decreases-ticks_of_assignment g l = 2 * nodes (formula_view l.a.now.body.now) + 1
 
