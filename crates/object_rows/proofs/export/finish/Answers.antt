@@ -1,0 +1,4 @@
+use Rattle.object_rows.proofs.export.finish.Goals as goal
+
+pub returns : goal.returns
+returns c = tt

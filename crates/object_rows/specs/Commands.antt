@@ -1,0 +1,26 @@
+-- The commands of rows.
+use Rattle.std.specs.Prelude.{◌≡◌, ℕ, Bool, true, false, Some, None, List}
+use Rattle.std.specs.List.{AllByRecursion}
+use Rattle.motion.specs.declared.cell.Place.{Place}
+use Rattle.history.specs.Write.{Attribute}
+use Rattle.command_text.specs.Shape.{IsPrintable, IsShortName}
+use Rattle.command_text.specs.Tree.{CommandTree, Insert, Update}
+use Rattle.object_rows.specs.declared.rows.ObjectRow.{ObjectRow}
+use Rattle.object_rows.specs.Rows.{rows_in}
+
+abbrev pub nowhere : Place
+nowhere = record { at = None; moving = None }
+
+-- the command of a row: an update where the object is present, else an insert into the class
+abbrev pub command_of : List ℕ → Bool → ObjectRow → CommandTree
+command_of class true row = Update row.name nowhere row.sets
+command_of class false row = Insert class row.name nowhere row.sets
+
+-- a row's command is as if it had been read from a line
+abbrev pub IsRow : List ℕ → ObjectRow → Type 0
+IsRow class row = (present : Bool) → IsPrintable (command_of class present row)
+
+-- so is that of each row of a text, for a class of which this is true
+abbrev pub GivesPrintableCommands : Type 0
+GivesPrintableCommands = (class : List ℕ) (attributes : List Attribute) (text : List ℕ) (rows : List ObjectRow) → IsShortName class
+    → AllByRecursion (λ (a : Attribute). IsShortName a.name) attributes → rows_in attributes text ≡ Some rows → AllByRecursion (IsRow class) rows

@@ -1,0 +1,35 @@
+//! The commands that write the objects of rows.
+ghost use Rattle.std.specs.Prelude.{◌≡◌};
+ghost use Rattle.command_text.specs.Tree.{command_view};
+ghost use Rattle.object_rows.specs.Commands.{command_of};
+
+use crate::ObjectRow;
+use command_text::Command;
+use fixed_point::Word;
+use motion::Place;
+
+impl ObjectRow {
+    /// The command of the row: an update where the object is present, else an insert into the class.
+    pub fn into_command(self, class: Word, present: bool) -> Command
+        ensures { command_view result ≡ command_of class present self }
+    {
+        let place = Place {
+            at: None,
+            moving: None,
+        };
+        if present {
+            Command::Update {
+                name: self.name,
+                place,
+                sets: self.sets,
+            }
+        } else {
+            Command::Insert {
+                class,
+                name: self.name,
+                place,
+                sets: self.sets,
+            }
+        }
+    }
+}
