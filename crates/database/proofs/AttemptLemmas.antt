@@ -1,11 +1,12 @@
 -- What the calls of the store and of the regions make of the database.
 use Rattle.std.proofs.Common.{◌≡◌, ℕ, ◌+◌, ◌-◌, ◌≤◌, ◌<◌, Bool, true, false, Option, None, Some, List, [], ◌∷◌, ◌++◌, length, map, take, refl, sym, ap, subst, ◌∙◌, arith, append-nil}
 use Rattle.std.specs.Prelude.{is_some, not, nat_le, nat_lt, if◌then◌else◌, option_and_then, unwrap_or}
+use Rattle.std.specs.List.{position}
 use Rattle.std.specs.Option.{option_map_or}
 use Rattle.tick_set.specs.declared.spans.TheConstants.{LAST_TICK}
 use Rattle.geometry.specs.Region.{Region}
 use Rattle.history.specs.Write.{Attribute, Write, Class}
-use Rattle.history.specs.History.{history}
+use Rattle.history.specs.History.{ChangesFrom, history}
 use Rattle.std.proofs.Math.Seq.{take-append_seam}
 use Rattle.std.proofs.lemmas.List.{length-append}
 use Rattle.std.proofs.lemmas.Bool.Decides.{nat_tests}
@@ -25,14 +26,14 @@ use Rattle.exact.specs.First.{first_that_holds}
 use Rattle.command_text.specs.Tree
 use Rattle.object_store.specs.declared.fault.StoreFault.{StoreFault}
 use Rattle.object_store.specs.declared.fault.StoreFault.TheVariants as store_faults
-use Rattle.object_store.specs.Contents.{Contents, catalog_of, history_of}
+use Rattle.object_store.specs.Contents.{Contents, catalog_of, history_of, is_named}
 use Rattle.object_store.specs.StandsFor.{GrowsBy}
 use Rattle.command_text.specs.Tree.{CommandTree}
 use Rattle.database.specs.declared.database.Database.{Database}
 use Rattle.command_text.specs.declared.fault.CommandFault.{CommandFault}
 use Rattle.command_text.specs.declared.fault.CommandFault.TheVariants as stops
 use Rattle.database.specs.declared.change.Change.TheVariants as changes
-use Rattle.database.specs.Attempt.{fault_told, Carries, LacksMemory, Stops}
+use Rattle.database.specs.Attempt.{fault_told, Carries, LacksMemory, Stops, written_name}
 use Rattle.line_meaning.specs.Fault.{refusal_by_store, region_refusal}
 use Rattle.line_meaning.specs.Journal.{attribute_of, clock, writes, regions, writes_of, regions_of, ticks_of}
 use Rattle.line_meaning.proofs.JournalLemmas.{world_more, clock_more}
@@ -121,8 +122,9 @@ tick_makes c store rs clock new no-write no-region is in-range written = record 
 pub store_carries : (c : CommandTree) (write : Write) (d : Database) (new : Contents) (done : Done) →
     writes_of d.clock c ≡ write ∷ [] → regions_of c ≡ [] → ticks_of c ≡ 0 → fault_told d c ≡ None → d.clock ≤ LAST_TICK → new.last_tick ≡ d.clock →
     GrowsBy d.store new write → undoing.Undoes done.undo d.store new →
+    ChangesFrom done.id d.clock (history_of d.store) (history_of new) → position (is_named (written_name c)) new.objects ≡ Some done.id →
     Carries c d (record { store = new; regions = d.regions; clock = d.clock }) (changes.Object done)
-store_carries c write d new done writes no-region no-ticks accepted in-range last grows undoes = record {
+store_carries c write d new done writes no-region no-ticks accepted in-range last grows undoes changed id = record {
   accepted = accepted;
   keeps = keeps_more c d (record { store = new; regions = d.regions; clock = d.clock })
       (store_makes c write d.store new d.regions d.clock writes no-region no-ticks in-range (omega (arith, last)) grows);
@@ -130,6 +132,7 @@ store_carries c write d new done writes no-region no-ticks accepted in-range las
     last = undoes.revertible;
     before = ap (λ (s : Contents). let x : Database = record { store = s; regions = d.regions; clock = d.clock } in x) undoes.before;
   };
+  changes = (changed, refl, id);
 }
 
 -- a class was made
@@ -149,6 +152,7 @@ class_carries name capacity point attrs given d new given-is accepted in-range w
         last = (omega (arith, classes), spare);
         before = ap (λ (s : Contents). let x : Database = record { store = s; regions = d.regions; clock = d.clock } in x) before;
       };
+      changes = (is ∙ ap (with_class d.store name capacity point) given-is, refl);
     }
 
 -- the refusals of a region
@@ -196,6 +200,7 @@ region_carries name points d new accepted in-range written is =
         before = ap (λ (rs : List Region). let x : Database = record { store = d.store; regions = rs; clock = d.clock } in x)
             (ap (λ n. take (n - 1) new) count ∙ ap (λ n. take n new) (omega (arith)) ∙ ap (take (length d.regions)) is ∙ take-append_seam d.regions (record { name = name; points = points } ∷ []));
       };
+      changes = (refl, is);
     }
 
 -- a region that is judged without memory: the list of regions is full, or nothing refuses it
@@ -220,4 +225,5 @@ tick_carries ticks d new is in-range written = record {
     last = omega (arith, is);
     before = ap (λ n. let x : Database = record { store = d.store; regions = d.regions; clock = n } in x) (omega (arith, is));
   };
+  changes = refl;
 }

@@ -8,7 +8,7 @@ use Rattle.command_text.specs.Tree.{CommandTree}
 use Rattle.line_meaning.specs.Answering.{answer_lines}
 use Rattle.line_meaning.specs.Fault.{fault_among}
 use Rattle.line_meaning.specs.Journal.{clock, world, writes}
-use Rattle.line_meaning.specs.Looks.{most_looks}
+use Rattle.line_meaning.specs.Looks.{looks_asked}
 use Rattle.database.specs.declared.database.Database.{Database}
 use Rattle.database.specs.Attempt.{fault_told}
 use Rattle.database.specs.Keeping.{clock_of, world_of_database, Keeps, TellsAcceptedWrites}
@@ -22,8 +22,8 @@ pub lines_are_told : (journal : List Accepted) (d : Database) (c : CommandTree) 
 lines_are_told journal d c k = λ i. answer_lines (k.told_is i) (k.clock_is i) c
 
 pub looks_are_told : (journal : List Accepted) (d : Database) (c : CommandTree) → Keeps journal d →
-    most_looks (world_of_database d) c ≡ most_looks (world journal) c
-looks_are_told journal d c k = λ i. most_looks (k.told_is i) c
+    looks_asked (world_of_database d) c ≡ looks_asked (world journal) c
+looks_are_told journal d c k = λ i. looks_asked (k.told_is i) c
 
 -- the objects of a journal that steps lead to are those of writes within their limits
 pub accepted_is_told : (journal : List Accepted) (d : Database) → Keeps journal d → are_accepted empty_catalog 0 (writes journal) ≡ true →

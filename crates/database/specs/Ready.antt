@@ -15,4 +15,6 @@ IsReady (Tree.Insert class name place sets) = AreGiven place sets
 IsReady (Tree.Update name place sets) = AreGiven place sets
 IsReady (Tree.Tick ticks) = ticks ≤ LAST_TICK
 IsReady (Tree.Ask span q) = (span ≤ LAST_TICK) × IsLawful q
+IsReady (Tree.Watch name span q) = (span ≤ LAST_TICK) × IsLawful q
+IsReady (Tree.Keep name span q) = (span ≤ LAST_TICK) × IsLawful q
 IsReady _ = Unit {0}

@@ -8,7 +8,7 @@ use Rattle.command_text.specs.Tree.{CommandTree}
 use Rattle.ftl_parser.specs.Tree.{QueryTree}
 use Rattle.line_meaning.specs.Answering.{answer_lines}
 use Rattle.line_meaning.specs.Ask.{ask_refusal, rows_asked}
-use Rattle.line_meaning.specs.Reply.{ok_line, rows_text}
+use Rattle.line_meaning.specs.Reply.{rows_text}
 use Rattle.database.specs.declared.database.Database.{Database}
 use Rattle.database.specs.Attempt.{fault_told}
 use Rattle.database.specs.Keeping.{clock_of, world_of_database}
@@ -20,14 +20,14 @@ IsStoppedBy refusal faults.NoMemory = refusal ≡ None
 
 abbrev pub Tells : Database → CommandTree → List ℕ → List ℕ → Result (Unit {0}) CommandFault → Type 0
 Tells d c before after (Ok u) =
-    (fault_told d c ≡ None) × (after ≡ before ++ (answer_lines (world_of_database d) (clock_of d) c ++ ok_line))
+    (fault_told d c ≡ None) × (after ≡ before ++ answer_lines (world_of_database d) (clock_of d) c)
 Tells d c before after (Err fault) = IsStoppedBy (fault_told d c) fault
 
 -- the same of a query
 abbrev pub Asks : World → ℕ → ℕ → QueryTree → List ℕ → List ℕ → Result (Unit {0}) CommandFault → Type 0
 Asks w now span q before after (Ok u) =
     (ask_refusal w now span q ≡ None)
-    × (after ≡ before ++ (rows_text w.history.catalog now (rows_asked w now span q) ++ ok_line))
+    × (after ≡ before ++ rows_text w.history.catalog now (rows_asked w now span q))
 Asks w now span q before after (Err fault) = IsStoppedBy (ask_refusal w now span q) fault
 
 -- a refusal, and no want of memory

@@ -27,7 +27,6 @@ use ftl_typer::{TypeFault, resolve};
 use kept_rows::BINDING_LIMIT;
 use line_meaning::{ASSIGNED_SPAN_LIMIT, CIRCLE_NAMES, CIRCLE_SPAN_LIMIT};
 use object_store::Schema;
-use reply_text::push_ok;
 use std::alloc::{AllocError, Global};
 use std::sync::ledger::Ledger;
 use steps::Steps;
@@ -48,7 +47,7 @@ fn span_limit(formula: &Formula) -> u32
 }
 
 /// Whether a span is too long, or reaches past the last tick.
-fn is_past_span(now: u32, span: u32, formula: &Formula) -> bool
+pub fn is_past_span(now: u32, span: u32, formula: &Formula) -> bool
     requires now { now ≤ LAST_TICK }
     requires span { span ≤ LAST_TICK }
     ensures { result ≡ is_past_span now span (view formula.now) }
@@ -69,7 +68,7 @@ fn capacity_of(schema: &Schema, class: &Word) -> u32
 }
 
 /// How many bindings there may come to be of variables of these classes, or the largest number.
-fn most_bindings(schema: &Schema, parts: &[FromPart]) -> u64
+pub fn most_bindings(schema: &Schema, parts: &[FromPart]) -> u64
     ensures { result ≡ min (product (map (capacity_of schema.now) (map (λ part. class_place schema.now part.class) parts.now))) u64.MAX }
 {
     let mut bindings: u64 = 1;
@@ -99,7 +98,7 @@ fn size_refusal(database: &Database, span: u32, query: &Query) -> Option<Refusal
 }
 
 /// The refusal of a fault of names, kinds or bounds. None of want of memory.
-fn refusal_by_type(fault: TypeFault) -> Option<Refusal>
+pub fn refusal_by_type(fault: TypeFault) -> Option<Refusal>
     ensures { result ≡ refusal_by_type fault }
 {
     match fault {
@@ -205,6 +204,5 @@ pub(crate) fn ask<L: Ledger, M: Ledger>(
 {
     let query = judged(alloc, database, span, query)?;
     push_answer(alloc, database, span, &query, reads, probes, out)?;
-    push_ok(out)?;
     Ok(())
 }

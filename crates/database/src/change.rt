@@ -11,7 +11,7 @@ ghost use Rattle.polygon.specs.declared.named.TheConstants.{REGION_LIMIT};
 ghost use Rattle.command_text.specs.Tree as Tree;
 ghost use Rattle.command_text.specs.Tree.{command_view};
 ghost use Rattle.line_meaning.specs.Fault.{is_gap, refusal_by_store};
-ghost use Rattle.line_meaning.specs.Role.{is_kept};
+ghost use Rattle.line_meaning.specs.Role.{is_kept, is_on_queries};
 ghost use Rattle.database.specs.Attempt.{Attempts, IsFlat};
 ghost use Rattle.database.specs.Keeping.{IsTimely};
 ghost use Rattle.database.specs.Ready.{IsReady};
@@ -136,6 +136,7 @@ impl Database {
     pub fn attempt(&mut self, alloc: Global, command: &Command) -> Result<Change, CommandFault>
         requires kept { is_kept (command_view command.now) ≡ true }
         requires gap { is_gap (command_view command.now) ≡ false }
+        requires data { is_on_queries (command_view command.now) ≡ false }
         requires ready { IsReady (command_view command.now) }
         requires timely { IsTimely self.old }
         ensures { Attempts (command_view command.now) self.old self.new result }

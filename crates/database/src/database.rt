@@ -2,7 +2,7 @@
 ghost use Rattle.std.specs.Prelude.{◌≡◌, []};
 ghost use Rattle.database.specs.Keeping.{clock_of, Keeps};
 
-use object_store::Store;
+use object_store::{Schema, Store};
 use polygon::Regions;
 use std::alloc::Global;
 
@@ -26,6 +26,30 @@ impl Database {
             regions: Regions::new(alloc),
             clock: 0,
         }
+    }
+
+    /// The objects.
+    #[inline]
+    pub fn store(&self) -> &Store
+        ensures { result.now ≡ self.now.store }
+    {
+        &self.store
+    }
+
+    /// The classes.
+    #[inline]
+    pub fn schema(&self) -> &Schema
+        ensures { result.now ≡ self.now.store.classes }
+    {
+        self.store.schema()
+    }
+
+    /// The regions.
+    #[inline]
+    pub fn regions(&self) -> &Regions
+        ensures { result.now ≡ self.now.regions }
+    {
+        &self.regions
     }
 
     /// The clock, in ticks since the beginning: at most 10^9.

@@ -10,5 +10,7 @@ mod objects;
 mod rows;
 mod telling;
 
+pub use asking::{is_past_span, most_bindings, refusal_by_type};
 pub use change::Change;
 pub use database::Database;
+pub use rows::set_names;

@@ -25,7 +25,7 @@ fn name_of(store: &Store, id: ObjectId) -> &Word
 }
 
 /// Puts the names of these objects in the place of those before.
-fn set_names(store: &Store, ids: &[ObjectId], names: &mut Vec<Word>) -> Result<(), AllocError>
+pub fn set_names(store: &Store, ids: &[ObjectId], names: &mut Vec<Word>) -> Result<(), AllocError>
     requires { list_all (λ id. nat_lt id (length (catalog_of store.now).objects)) ids.now ≡ true }
     ensures { OnOk result (names.new.items ≡ map (name_of (catalog_of store.now)) ids.now) }
 {

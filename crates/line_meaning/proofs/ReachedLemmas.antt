@@ -1,5 +1,6 @@
--- The writes of a journal that steps lead to are accepted, and a step leads from such a journal to one.
-use Rattle.std.proofs.Common.{◌≡◌, ℕ, ◌+◌, ◌≤◌, ℤ, Bool, true, false, not, ◌&&◌, Option, None, Some, List, [], ◌∷◌, ◌++◌, length, refl, sym, ap, subst, ◌∙◌, inl, inr, append-nil, arith, if◌then◌else◌}
+-- For this crate and for the crates above: the writes of a journal that steps lead to are accepted, and a step leads from such
+-- a journal to one.
+use Rattle.std.proofs.Common.{◌≡◌, ℕ, ◌≤◌, ℤ, Bool, true, false, not, ◌&&◌, Option, None, Some, List, [], ◌∷◌, ◌++◌, length, refl, sym, ap, subst, ◌∙◌, inl, inr, append-nil, arith, if◌then◌else◌}
 use Rattle.std.specs.Prelude.{◌==◌, nat_le, nat_lt, is_none, unwrap_or, option_and_then, option_map, codes}
 use Rattle.std.specs.List.{AllByRecursion, find, fold, list_all, position, position_or_len}
 use Rattle.std.specs.Option.{option_map_or}
@@ -36,9 +37,11 @@ use Rattle.command_text.specs.Tree
 use Rattle.command_text.specs.Tree.{CommandTree}
 use Rattle.line_meaning.specs.declared.role.Role.{Role}
 use Rattle.line_meaning.specs.declared.role.Role.TheVariants.{Blank, Keeping, Telling, Filing, Ending}
-use Rattle.line_meaning.specs.Fault.{fault_among, is_gap, is_present, refusal_by_store}
+use Rattle.line_meaning.specs.Fault.{is_gap, is_present, refusal_by_store}
+use Rattle.line_meaning.specs.QueryFault.{command_fault}
 use Rattle.line_meaning.specs.Journal.{clock, world, writes, writes_of}
 use Rattle.line_meaning.specs.Reached.{AreReached, IsNextEntry}
+use Rattle.line_meaning.specs.Registry.{known}
 use Rattle.line_meaning.specs.Role.{is_keeping, is_kept, role_of}
 use Rattle.line_meaning.specs.Step.{Base, Held, fault_by, fault_of, held_after, line_refusal, refusal_of, step, step_by}
 use Rattle.line_meaning.proofs.CallerLemmas.{or_none}
@@ -98,6 +101,12 @@ change_given place sets h =
     list_all-append (λ (set : NamedSet). is_given set.given) (place_sets place) sets
     ∙ and_from (all_given (place_sets place)) (all_given sets) (place_given place.at place.moving h.at h.moving) (settings_given sets h.settings)
 
+-- ---- where two refusals are none
+
+none_of_both : (first other : Option Refusal) → or_else first other ≡ None → (first ≡ None) × (other ≡ None)
+none_of_both None other is = (refl, is)
+none_of_both (Some r) other is = absurd (cc is)
+
 -- ---- an insert that nothing refuses is into the class of the object
 
 first_two : (a b c d e : Bool) →
@@ -145,12 +154,14 @@ AreAfter c now later = (next : ℕ) → next ≤ now → are_accepted c next lat
 
 -- an entry's writes and those after it, from any last tick up to its own
 accepted_entry : (journal : List Accepted) (now : ℕ) (command : CommandTree) → now ≡ clock journal → IsPrintable command →
-    fault_among (world journal) (clock journal) command ≡ None → (last : ℕ) → last ≤ now → (later : List Write) →
+    command_fault (known journal) command ≡ None → (last : ℕ) → last ≤ now → (later : List Write) →
     AreAfter (fold catalog_after (catalog (writes journal)) (writes_of now command)) now later →
     are_accepted (catalog (writes journal)) last (writes_of now command ++ later) ≡ true
 accepted_entry journal now (Tree.Insert class name place sets) is printable fault last upto later after =
     let c = catalog (writes journal) in
-    let own = insert_is_own c (is_present (world journal).history name (clock journal)) class name place sets fault in
+    let present = is_present (world journal).history name (clock journal) in
+    let accepted = none_of_both (option_and_then refusal_by_store (insert_fault c present class name place sets)) None fault in
+    let own = insert_is_own c present class name place sets accepted.0 in
     and_from (nat_le last now && (are_given place sets && is_own_class c class name)) (are_accepted _ now later)
     (and_from (nat_le last now) (are_given place sets && is_own_class c class name) (at_most last now upto)
     (and_from (are_given place sets) (is_own_class c class name) (change_given place sets printable.1.1.1) own))
@@ -188,18 +199,14 @@ reached_more before (d ∷ journal) e reached is = (
   reached_more (before ++ d ∷ []) journal e reached.1 (subst (λ (j : List Accepted). IsNextEntry j e) (sym (append_assoc before (d ∷ []) journal)) is),
 )
 
-none_of_both : (first other : Option Refusal) → or_else first other ≡ None → (first ≡ None) × (other ≡ None)
-none_of_both None other is = (refl, is)
-none_of_both (Some r) other is = absurd (cc is)
-
 taken_is : (found : Read CommandTree) → late_refusal found ≡ None →
     option_map (λ f. f.0) found ≡ Some (unwrap_or (option_map (λ f. f.0) found) Tree.Nothing)
 taken_is None taken = absurd (cc taken)
 taken_is (Some f) taken = refl
 
 kept_role : (role : Role) (h : Held) (c : CommandTree) → is_keeping role ≡ true → fault_by role h c ≡ None →
-    fault_among (world h.journal) (clock h.journal) c ≡ None
-kept_role Keeping h c kept none = (none_of_both (fault_among (world h.journal) (clock h.journal) c) _ none).0
+    command_fault (known h.journal) c ≡ None
+kept_role Keeping h c kept none = (none_of_both (command_fault (known h.journal) c) _ none).0
 kept_role Blank h c kept none = absurd (false≢true kept)
 kept_role Telling h c kept none = absurd (false≢true kept)
 kept_role Filing h c kept none = absurd (false≢true kept)

@@ -8,6 +8,7 @@ use Rattle.motion.specs.declared.cell.Place.{Place}
 use Rattle.history.specs.World.{World}
 use Rattle.formula_shape.specs.Shape as shapes
 use Rattle.meaning.specs.Answer.{Row}
+use Rattle.command_text.specs.Journal.{Accepted}
 use Rattle.command_text.specs.Tree as commands
 use Rattle.command_text.specs.Tree.{CommandTree}
 use Rattle.command_text.specs.declared.refusal.Refusal.TheVariants as refusals
@@ -21,6 +22,7 @@ use Rattle.line_meaning.specs.Ask.{ask_refusal, rows_asked}
 use Rattle.line_meaning.specs.Journal.{world}
 use Rattle.line_meaning.specs.Looks.{most_looks}
 use Rattle.line_meaning.specs.Reply.{line_feed, row_text, run_text}
+use Rattle.line_meaning.specs.Step.{held}
 
 abbrev pub point : (x y : ℕ) → Point
 point x y = record { x = pos x; y = pos y }
@@ -51,8 +53,11 @@ entries =
     ∷ commands.Insert (codes "car") (codes "b") (place_at 12000 0) []
     ∷ []
 
+abbrev pub cars_journal : List Accepted
+cars_journal = map (λ c. (0, c)) entries
+
 abbrev pub cars : World
-cars = world (map (λ c. (0, c)) entries)
+cars = world cars_journal
 
 -- ---- queries
 
@@ -120,7 +125,7 @@ pub record AnswersAsks : Type 0 where
   pub line_of_past :
       row_text cars.history.catalog 15 (row (1 ∷ []) ((10, 14) ∷ [])) ≡ codes "past b :" ++ flat_map run_text ((10, 14) ∷ []) ++ line_feed
   -- one look for the place and one for the presence of each of two cars
-  pub looks : most_looks cars (commands.Ask 30 (of_cars (inside (codes "P")))) ≡ 4
+  pub looks : most_looks (held cars_journal) (commands.Ask 30 (of_cars (inside (codes "P")))) ≡ 4
 
 pub record RefusesAsks : Type 0 where
   pub unknown_region : ask_refusal cars 0 200000000 (of_cars (inside (codes "Q"))) ≡ Some refusals.UnknownName

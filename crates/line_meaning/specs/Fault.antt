@@ -23,10 +23,6 @@ use Rattle.line_meaning.specs.Role.{is_kept}
 
 -- a command that isn't built yet
 abbrev pub is_gap : CommandTree → Bool
-is_gap (Tree.Watch name span q) = true
-is_gap (Tree.Keep name span q) = true
-is_gap (Tree.Show name) = true
-is_gap (Tree.Drop name) = true
 is_gap (Tree.Save file) = true
 is_gap (Tree.Import class file) = true
 is_gap (Tree.Export class file) = true
@@ -61,7 +57,8 @@ tick_refusal now ticks = first_that_holds ((refusals.ClockEnd, nat_lt LAST_TICK 
 abbrev pub is_present : History → List ℕ → ℕ → Bool
 is_present h o t = is_some (h.state o t)
 
--- the refusals of a command but for those of its line and of the journal, by what a query may ask of and the clock
+-- the refusals of a command but for those of its line, of the registered queries and of the journal, by what a query may
+-- ask of and the clock
 abbrev pub fault_among : World → ℕ → CommandTree → Option Refusal
 fault_among w now (Tree.Class name capacity point attributes) =
     option_and_then refusal_by_store (class_fault w.history.catalog name point (map attribute_of attributes))

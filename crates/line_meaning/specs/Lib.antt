@@ -1,10 +1,14 @@
 pub mod Journal
 pub mod Ask
+pub mod Registry
 pub mod Role
 pub mod Fault
+pub mod QueryFault
 pub mod Reached
 pub mod Reply
+pub mod Changes
 pub mod Answering
-pub mod Looks
 pub mod Step
+pub mod Looks
 pub mod Example
+pub mod QueryExample

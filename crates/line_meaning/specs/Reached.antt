@@ -2,8 +2,9 @@
 use Rattle.std.specs.Prelude.{◌≡◌, true, None, List, [], ◌∷◌, ◌++◌}
 use Rattle.command_text.specs.Journal.{Accepted}
 use Rattle.command_text.specs.Shape.{IsPrintable}
-use Rattle.line_meaning.specs.Fault.{fault_among}
-use Rattle.line_meaning.specs.Journal.{clock, world}
+use Rattle.line_meaning.specs.QueryFault.{command_fault}
+use Rattle.line_meaning.specs.Journal.{clock}
+use Rattle.line_meaning.specs.Registry.{known}
 use Rattle.line_meaning.specs.Role.{is_kept}
 
 -- an entry after those of a journal: at the tick of its clock, of a command that is kept, printable, and refused by
@@ -12,7 +13,7 @@ pub record IsNextEntry (journal : List Accepted) (e : Accepted) : Type 0 where
   pub tick : e.0 ≡ clock journal
   pub kept : is_kept e.1 ≡ true
   pub printable : IsPrintable e.1
-  pub accepted : fault_among (world journal) (clock journal) e.1 ≡ None
+  pub accepted : command_fault (known journal) e.1 ≡ None
 
 -- each entry of the second list is one after all those before it, of which the first are in the first list
 abbrev pub AreReached : List Accepted → List Accepted → Type 0

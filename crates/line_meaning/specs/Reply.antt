@@ -4,7 +4,10 @@ use Rattle.std.specs.List.{enumerate_from, list_any, flat_map}
 use Rattle.std.specs.Option.{option_map_or}
 use Rattle.geometry.specs.Region.{Region}
 use Rattle.history.specs.Catalog.{Catalog, ClassInfo, names}
+use Rattle.formula.specs.declared.kind.QueryKind.{QueryKind}
+use Rattle.formula.specs.declared.kind.QueryKind.TheVariants as kinds
 use Rattle.meaning.specs.Answer.{Row}
+use Rattle.line_meaning.specs.Registry.{Registration}
 
 abbrev pub line_feed : List ℕ
 line_feed = 10 ∷ []
@@ -65,6 +68,17 @@ region_counts name points = counted (codes "region ") name points ++ line_feed
 
 abbrev pub region_line : Region → List ℕ
 region_line r = region_counts r.name (length r.points)
+
+abbrev pub kind_word : QueryKind → List ℕ
+kind_word kinds.Watch = codes "watch"
+kind_word kinds.Keep = codes "keep"
+
+-- `watch w 0..30`
+abbrev pub query_line : List ℕ → List ℕ → ℕ → ℕ → List ℕ
+query_line word name entry expiry = word ++ name_text name ++ run_text (entry, expiry) ++ line_feed
+
+abbrev pub registration_line : Registration → List ℕ
+registration_line r = query_line (kind_word r.query.kind) r.name r.query.entry r.query.expiry
 
 abbrev pub listing : ℕ → Catalog → List Region → List ℕ
 listing now c regions =

@@ -22,6 +22,14 @@ role_of (Tree.Export class file) = Filing
 role_of Tree.Quit = Ending
 role_of _ = Telling
 
+-- a command on registered queries
+abbrev pub is_on_queries : CommandTree → Bool
+is_on_queries (Tree.Watch name span q) = true
+is_on_queries (Tree.Keep name span q) = true
+is_on_queries (Tree.Show name) = true
+is_on_queries (Tree.Drop name) = true
+is_on_queries _ = false
+
 abbrev pub is_keeping : Role → Bool
 is_keeping Keeping = true
 is_keeping _ = false

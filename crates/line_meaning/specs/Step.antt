@@ -7,14 +7,15 @@ use Rattle.command_text.specs.declared.refusal.Refusal.TheVariants.{BadSyntax}
 use Rattle.command_text.specs.Refusals.{line_of}
 use Rattle.command_text.specs.Journal.{Accepted, bytes_of, spelled}
 use Rattle.command_text.specs.Line.{first_refusal, or_else}
-use Rattle.command_text.specs.Tree
 use Rattle.command_text.specs.Tree.{CommandTree}
 use Rattle.line_meaning.specs.declared.role.Role.{Role}
 use Rattle.line_meaning.specs.declared.role.Role.TheVariants.{Blank, Keeping, Telling, Filing, Ending}
-use Rattle.line_meaning.specs.Answering.{answer_lines}
+use Rattle.line_meaning.specs.Answering.{answer_lines, kept_lines, query_lines}
 use Rattle.line_meaning.specs.Journal.{clock, world}
+use Rattle.line_meaning.specs.QueryFault.{command_fault}
+use Rattle.line_meaning.specs.Registry.{known}
 use Rattle.line_meaning.specs.Role.{is_kept, role_of}
-use Rattle.line_meaning.specs.Fault.{fault_among, is_gap, journal_refusal}
+use Rattle.line_meaning.specs.Fault.{is_gap, journal_refusal}
 use Rattle.line_meaning.specs.Reply.{line_feed, ok_line}
 
 -- what the database holds of the lines before: the commands that it accepted, each with its tick
@@ -37,7 +38,7 @@ abbrev pub fault_by : Role → Held → CommandTree → Option Refusal
 fault_by Blank h c = None
 fault_by Ending h c = None
 fault_by role h c =
-    or_else (fault_among (world h.journal) (clock h.journal) c) (journal_refusal (length h.journal) (bytes_of h.journal) c)
+    or_else (command_fault (known h.journal) c) (journal_refusal (length h.journal) (bytes_of h.journal) c)
 
 -- the first refusal of a command that was read, but for those of its texts: BadSyntax where it isn't built yet
 abbrev pub fault_of : Held → CommandTree → Option Refusal
@@ -65,8 +66,8 @@ held_after h c = record { journal = h.journal ++ entries_of (clock h.journal) c 
 
 abbrev pub reply_by : Role → Held → CommandTree → List ℕ
 reply_by Blank h c = []
-reply_by Telling h c = answer_lines (world h.journal) (clock h.journal) c ++ ok_line
-reply_by Keeping h c = ok_line
+reply_by Telling h c = answer_lines (world h.journal) (clock h.journal) c ++ query_lines (known h.journal) c ++ ok_line
+reply_by Keeping h c = kept_lines (known h.journal) (known (held_after h c).journal) c ++ ok_line
 reply_by Filing h c = ok_line
 reply_by Ending h c = ok_line
 

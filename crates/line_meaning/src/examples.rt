@@ -1,5 +1,6 @@
-//! Lines of `ask` worked out, as calls without a body.
+//! Lines of queries worked out, as calls without a body.
 ghost use Rattle.line_meaning.specs.Example.{AnswersAsks, RefusesAsks};
+ghost use Rattle.line_meaning.specs.QueryExample.{AnswersRegistered, RefusesRegistered};
 
 /// A car that drives through a region and one that stands in it, pairs in the order of their targets, and how many
 /// looks an `ask` may take.
@@ -10,4 +11,14 @@ pub fn asks_are_answered()
 /// Names and kinds before spans, the limits of spans, and the limit of bindings.
 pub fn asks_are_refused()
     ensures { RefusesAsks }
+{}
+
+/// What a watch is answered, what is gained and lost by writes, and what enters and leaves.
+pub fn registered_queries_are_answered()
+    ensures { AnswersRegistered }
+{}
+
+/// Names of registered queries that are taken or unknown, and spans.
+pub fn registered_queries_are_refused()
+    ensures { RefusesRegistered }
 {}

@@ -8,7 +8,12 @@ mod laws;
 mod limits;
 mod role;
 
-pub use examples::{asks_are_answered, asks_are_refused};
+pub use examples::{
+    asks_are_answered, asks_are_refused, registered_queries_are_answered,
+    registered_queries_are_refused,
+};
 pub use laws::{long_lines_step_alike, steps_write_what_is_accepted};
-pub use limits::{ASSIGNED_SPAN_LIMIT, CIRCLE_NAMES, CIRCLE_SPAN_LIMIT, limits_in_numbers};
+pub use limits::{
+    ALL_BINDINGS_LIMIT, ASSIGNED_SPAN_LIMIT, CIRCLE_NAMES, CIRCLE_SPAN_LIMIT, limits_in_numbers,
+};
 pub use role::{Role, is_gap, role_of};

@@ -44,6 +44,8 @@ pub fn is_gap(command: &Command) -> bool
         Command::Nothing | Command::Ask { .. } | Command::List | Command::Quit => false,
         Command::Class { .. } | Command::Region { .. } | Command::Insert { .. } => false,
         Command::Update { .. } | Command::Remove { .. } | Command::Tick { .. } => false,
+        Command::Watch { .. } | Command::Keep { .. } => false,
+        Command::Show { .. } | Command::Drop { .. } => false,
         _ => true,
     }
 }

@@ -32,7 +32,7 @@ pub fn push_row(
 
 /// Writes names, each with a space before it.
 #[tactic(auto, using(crate::proofs::BeginLemmas::begins_through))]
-fn push_names(out: &mut Vec<u8>, names: &[Word]) -> Result<(), AllocError>
+pub(crate) fn push_names(out: &mut Vec<u8>, names: &[Word]) -> Result<(), AllocError>
     ensures ok { OnOk result (out.new.items ≡ out.old.items ++ flat_map name_text names.now) }
     ensures begins { Begins out.old.items out.new.items }
 {
@@ -45,7 +45,7 @@ fn push_names(out: &mut Vec<u8>, names: &[Word]) -> Result<(), AllocError>
 }
 
 #[tactic(auto, using(crate::proofs::BeginLemmas::begins_more))]
-fn push_name(out: &mut Vec<u8>, name: &Word) -> Result<(), AllocError>
+pub(crate) fn push_name(out: &mut Vec<u8>, name: &Word) -> Result<(), AllocError>
     ensures ok { OnOk result (out.new.items ≡ out.old.items ++ name_text name.now) }
     ensures begins { Begins out.old.items out.new.items }
 {
@@ -81,7 +81,7 @@ fn has_later_tick(now: u32, runs: &[Span]) -> bool
 }
 
 #[tactic(auto, using(crate::proofs::BeginLemmas::begins_through))]
-fn push_runs(out: &mut Vec<u8>, runs: &[Span]) -> Result<(), AllocError>
+pub(crate) fn push_runs(out: &mut Vec<u8>, runs: &[Span]) -> Result<(), AllocError>
     ensures ok { OnOk result (out.new.items ≡ out.old.items ++ flat_map run_text (pairs runs.now)) }
     ensures begins { Begins out.old.items out.new.items }
 {
@@ -94,7 +94,7 @@ fn push_runs(out: &mut Vec<u8>, runs: &[Span]) -> Result<(), AllocError>
 }
 
 #[tactic(auto, using(crate::proofs::BeginLemmas::begins_more))]
-fn push_run(out: &mut Vec<u8>, lo: u32, hi: u32) -> Result<(), AllocError>
+pub(crate) fn push_run(out: &mut Vec<u8>, lo: u32, hi: u32) -> Result<(), AllocError>
     ensures ok { OnOk result (out.new.items ≡ out.old.items ++ run_text (lo, hi)) }
     ensures begins { Begins out.old.items out.new.items }
 {

@@ -1,4 +1,4 @@
-use Rattle.std.proofs.Common.{◌≡◌, ◌+◌, length, sym, ap, ◌∙◌}
+use Rattle.std.proofs.Common.{◌+◌, length, ap, ◌∙◌}
 use Rattle.std.specs.List.{list_all}
 use Rattle.formula.specs.Tree.{query_view as resolved_view}
 use Rattle.object_store.specs.Contents.{catalog_of}

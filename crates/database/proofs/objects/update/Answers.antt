@@ -12,7 +12,7 @@ use Rattle.database.proofs.objects.update.Goals as goal
 pub returns-in-Ok : goal.returns-in-Ok
 returns-in-Ok c =
     store_carries (Tree.Update c.args.name.now c.args.place.now c.args.sets.now) (Update c.args.database.now.clock c.args.name.now c.args.place.now c.args.sets.now) c.args.database.now c.update.new.self c.in-Ok.done
-    refl refl refl (ap (option_and_then refusal_by_store) c.in-Ok.ensures.accepted) c.requires.timely.in_range c.in-Ok.ensures.last c.in-Ok.ensures.stands c.in-Ok.ensures.undo
+    refl refl refl (ap (option_and_then refusal_by_store) c.in-Ok.ensures.accepted) c.requires.timely.in_range c.in-Ok.ensures.last c.in-Ok.ensures.stands c.in-Ok.ensures.undo c.in-Ok.ensures.changes c.in-Ok.ensures.id
 
 pub returns-in-Err : goal.returns-in-Err
 returns-in-Err c =
