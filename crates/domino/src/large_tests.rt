@@ -1,4 +1,4 @@
-//! Asks of many objects, whose answers follow from where the objects are.
+//! Queries over many objects, whose answers follow from where the objects are.
 use super::*;
 use run::INPUT_LIMIT;
 use std::alloc::{AllocError, Global};
@@ -21,12 +21,17 @@ fn push_lines(
     Ok(())
 }
 
-/// Appends `ok` so many times.
-fn push_oks(out: &mut Vec<u8>, count: u32) -> Result<(), AllocError> {
+/// Appends a text so many times.
+fn push_times(out: &mut Vec<u8>, count: u32, text: &[u8]) -> Result<(), AllocError> {
     for _ in 0..count {
-        out.extend_from_slice(b"ok\n")?;
+        out.extend_from_slice(text)?;
     }
     Ok(())
+}
+
+/// Appends `ok` so many times.
+fn push_oks(out: &mut Vec<u8>, count: u32) -> Result<(), AllocError> {
+    push_times(out, count, b"ok\n")
 }
 
 /// The input is read whole, and answered with this output.
@@ -79,5 +84,32 @@ fn a_hundred_thousand_cars_pass_a_region_and_a_post(rt: HostRuntime) -> Result<(
         )?;
         push_oks(&mut output, 1)?;
     }
+    assert_answers(&rt, &rt, &input, &output)
+}
+
+// The first car and the last one are farther from each other than all others are, and stay so.
+#[test]
+fn a_watch_of_all_pairs_follows_reports_and_ticks(rt: HostRuntime) -> Result<(), Fail> {
+    let alloc = rt.alloc();
+    let mut input = Vec::from_slice(alloc, b"class car 1000 point\n")?;
+    for number in 0..1_000 {
+        let line = format!(in alloc; "insert car c{number} at ({number}0,0)\n")?;
+        input.extend_from_slice(line.as_bytes())?;
+    }
+    input.extend_from_slice(
+        b"watch w 1000000 RETRIEVE o,n FROM car o,car n WHERE DIST(o,n) >= 9990\n",
+    )?;
+    push_lines(alloc, &mut input, 3_000, "update c500 at (5000,", ")")?;
+    push_times(&mut input, 10_000, b"tick 1\n")?;
+    push_times(&mut input, 10_000, b"show w\n")?;
+    let mut output = Vec::new(alloc);
+    push_oks(&mut output, 1_001)?;
+    output.extend_from_slice(b"now c0 c999 : 0..1000000\nnow c999 c0 : 0..1000000\n")?;
+    push_oks(&mut output, 13_001)?;
+    push_times(
+        &mut output,
+        10_000,
+        b"now c0 c999 : 10000..1000000\nnow c999 c0 : 10000..1000000\nok\n",
+    )?;
     assert_answers(&rt, &rt, &input, &output)
 }

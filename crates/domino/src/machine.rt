@@ -3,7 +3,6 @@ ghost use Rattle.std.specs.Prelude.{◌≡◌, ℕ, ◌+◌, ◌≤◌, ◌++◌
 ghost use Rattle.outside.specs.declared.fault.OutFail.TheVariants.{NoMemory};
 ghost use Rattle.command_text.specs.Journal.{spelled};
 ghost use Rattle.command_text.specs.Refusals.{line_of};
-ghost use Rattle.line_meaning.specs.Journal.{world};
 ghost use Rattle.line_meaning.specs.Looks.{most_looks};
 ghost use Rattle.line_meaning.specs.Reply.{line_feed};
 ghost use Rattle.line_meaning.specs.Step.{held};
@@ -56,7 +55,7 @@ pub trait Counting: Drop {
         ensures applies { Applies (F.texts shelf.old) line.now session.old session.new out.old.items out.new.items result }
         ensures shelf { shelf.new ≡ shelf.old }
         ensures least { reads self.old ≤ reads self.new }
-        ensures most { reads self.new ≤ reads self.old + most_looks (world session.old.journal) (spelled line.now) }
+        ensures most { reads self.new ≤ reads self.old + most_looks session.old (spelled line.now) }
         ensures unread { IfOk result (λ next. IsUnread next (reads self.old) (reads self.new)) };
 }
 

@@ -4,8 +4,9 @@ use Rattle.command_text.specs.declared.fault.CommandFault.{CommandFault}
 use Rattle.command_text.specs.declared.fault.CommandFault.TheVariants as faults
 use Rattle.command_text.specs.Tree
 use Rattle.command_text.specs.Tree.{CommandTree}
-use Rattle.line_meaning.specs.Fault.{fault_among, is_gap}
-use Rattle.line_meaning.specs.Journal.{clock, world}
+use Rattle.line_meaning.specs.Fault.{is_gap}
+use Rattle.line_meaning.specs.QueryFault.{command_fault}
+use Rattle.line_meaning.specs.Registry.{known}
 use Rattle.line_meaning.specs.Role.{role_of}
 use Rattle.line_meaning.specs.Step.{Held, fault_of, held_after, reply_by}
 use Rattle.session.specs.declared.next.Next.{Next}
@@ -19,8 +20,21 @@ is_class c = false
 -- a class are copied before it is judged.
 pub record LacksMemory (h : Held) (c : CommandTree) : Type 0 where
   pub built : is_gap c ≡ false
-  pub accepted : is_class c ≡ false → fault_among (world h.journal) (clock h.journal) c ≡ None
+  pub accepted : is_class c ≡ false → command_fault (known h.journal) c ≡ None
 
+-- It is accepted, and its reply stands at the end; or it is refused, or memory is out, and nothing else is held.
+abbrev pub IsDone : Held → CommandTree → Held → List ℕ → List ℕ → Result (Unit {0}) CommandFault → Type 0
+IsDone old c new before after (Ok u) =
+    (fault_of old c ≡ None) × (new ≡ held_after old c) × (after ≡ before ++ reply_by (role_of c) old c)
+IsDone old c new before after (Err (faults.Refused r)) = (fault_of old c ≡ Some r) × (new ≡ old)
+IsDone old c new before after (Err faults.NoMemory) = LacksMemory old c × (new ≡ old)
+
+-- The same, and what becomes of the line that it stands in.
+abbrev pub CarriesOut : Held → CommandTree → Held → List ℕ → List ℕ → Result Next CommandFault → Type 0
+CarriesOut old c new before after (Ok next) = (next ≡ next_of c) × IsDone old c new before after (Ok tt)
+CarriesOut old c new before after (Err fault) = IsDone old c new before after (Err fault)
+
+-- The same, where nothing is written after an error.
 abbrev pub Carried : Held → CommandTree → Held → List ℕ → List ℕ → Result Next CommandFault → Type 0
 Carried old c new before after (Ok next) =
     (fault_of old c ≡ None) × (next ≡ next_of c) × (new ≡ held_after old c) × (after ≡ before ++ reply_by (role_of c) old c)

@@ -1,14 +1,17 @@
 //! The entry of a command in the journal.
-ghost use Rattle.std.specs.Prelude.{◌≡◌, ◌+◌, ◌≤◌, ◌||◌, nat_le, nat_lt, length};
+ghost use Rattle.std.specs.Prelude.{◌≡◌, ◌+◌, ◌≤◌, ◌||◌, ◌++◌, ◌∷◌, [], false, nat_le, nat_lt, length, OnErr, OnOk};
 ghost use Rattle.command_text.specs.declared.journal.TheConstants.{MOST_BYTES};
 ghost use Rattle.ftl_lexer.specs.declared.buffer.TheConstants.{LEXER_LIMIT};
 ghost use Rattle.command_text.specs.Journal.{bytes_of, spelled};
 ghost use Rattle.command_text.specs.Text.{text_of};
+ghost use Rattle.command_text.specs.Tree.{command_view};
 ghost use Rattle.line_meaning.specs.Fault.{passes_limits};
-ghost use Rattle.session.specs.Entering.{Enters};
+ghost use Rattle.line_meaning.specs.Reply.{ok_line};
+ghost use Rattle.session.specs.Entering.{Admits};
 
-use command_text::{CommandFault, Journal, MOST_BYTES, MOST_ENTRIES, Refusal};
+use command_text::{Command, CommandFault, Journal, MOST_BYTES, MOST_ENTRIES, Refusal, print_into};
 use reply_text::push_ok;
+use std::alloc::AllocError;
 
 /// Whether one more entry, whose canonical line has so many bytes, passes the limits of a journal.
 fn is_full(journal: &Journal, line: usize) -> bool
@@ -39,25 +42,42 @@ pub(crate) fn passes(
     entries >= most_entries || bytes + line as u64 + 1 > most_bytes
 }
 
+/// Prints the canonical line of a command, and refuses the command where the journal has no room for it.
+pub(crate) fn admit(
+    journal: &Journal,
+    line: &mut Vec<u8>,
+    command: &Command,
+) -> Result<(), CommandFault>
+    requires short { length (text_of (command_view command.now)) ≤ LEXER_LIMIT }
+    ensures { Admits journal.now (command_view command.now) line.new.items result }
+{
+    print_into(line, command)?;
+    if is_full(journal, line.len()) {
+        return Err(CommandFault::Refused(Refusal::JournalFull));
+    }
+    Ok(())
+}
+
 /// Enters the command of a canonical line into the journal, accepted at tick `now`, and answers it with
-/// `ok`. A refusal and want of memory change nothing.
+/// `ok`. Want of memory changes nothing.
 pub(crate) fn enter(
     journal: &mut Journal,
     now: u32,
     line: &[u8],
     out: &mut Vec<u8>,
-) -> Result<(), CommandFault>
+) -> Result<(), AllocError>
     requires canonical { text_of (spelled line.now) ≡ line.now }
     requires short { length line.now ≤ LEXER_LIMIT }
-    ensures { Enters journal.old now (spelled line.now) journal.new out.old.items out.new.items result }
+    requires room { passes_limits (length journal.old) (bytes_of journal.old) (length line.now) ≡ false }
+    ensures entered { OnOk result (journal.new ≡ journal.old ++ (now, spelled line.now) ∷ []) }
+    ensures said { OnOk result (out.new.items ≡ out.old.items ++ ok_line) }
+    ensures err { OnErr result (journal.new ≡ journal.old) }
+    ensures whole { OnErr result (out.new.items ≡ out.old.items) }
 {
-    if is_full(journal, line.len()) {
-        return Err(CommandFault::Refused(Refusal::JournalFull));
-    }
     journal.push(now, line)?;
     if push_ok(out).is_err() {
         journal.pop();
-        return Err(CommandFault::NoMemory);
+        return Err(AllocError);
     }
     Ok(())
 }

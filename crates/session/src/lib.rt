@@ -1,16 +1,20 @@
 //! One line of input, one step: the state of the database, and `apply`, which answers a line.
 //!
 //! A session is seen as what it holds: its journal, the commands that it has accepted. Beside the journal it
-//! keeps the database that the journal tells.
+//! keeps the database that the journal tells, and the rows of the registered queries.
 #![tactic(auto)]
 
 mod answer;
 mod entering;
+mod keeping;
 mod next;
 mod session;
+mod state;
 
 pub use next::{ApplyFault, Next};
 pub use session::Session;
 
+#[cfg(test)]
+mod live_tests;
 #[cfg(test)]
 mod tests;

@@ -8,11 +8,11 @@ ghost use Rattle.session.specs.Answers.{Applies, IsUnread, next_or_fault};
 
 use crate::answer::answer;
 use crate::next::{ApplyFault, Next};
+use crate::state::State;
 use command_text::{
     CommandFault, Journal, LINE_LIMIT, LineReader, canonical_lines_are_read_back,
     canonical_lines_are_short, read_commands_are_printable,
 };
-use database::Database;
 use line_meaning::steps_write_what_is_accepted;
 use outside::Shelf;
 use std::alloc::Global;
@@ -26,10 +26,7 @@ use steps::Steps;
 pub struct Session {
     alloc: Global,
     reader: LineReader,
-    journal: Journal,
-    database: Database,
-    // The canonical line of the last command that the journal was to keep.
-    line: Vec<u8>,
+    state: State,
 }
 
 impl Model for Session {
@@ -39,18 +36,17 @@ impl Model for Session {
     ghost use Rattle.ftl_parser.specs.declared.tree.Atom.{Atom};
     ghost use Rattle.ftl_parser.specs.declared.tree.Term.{Term};
     ghost use Rattle.command_text.specs.Journal.{Accepted};
-    ghost use Rattle.line_meaning.specs.Reached.{AreReached};
     ghost use Rattle.line_meaning.specs.Step.{Held, held};
-    ghost use Rattle.database.specs.Keeping.{Keeps};
+    ghost use Rattle.session.specs.State.{IsState};
 
     ghost Value = { Held };
 
     ghost coded = { code_by (List Accepted) (Prim.hlevel (codes, shape_code {A = Atom} {B = List ℕ × Term} (Prim.hlevel codes)))
         (λ h. h.journal) (λ j. held j) (λ _. refl) };
 
-    ghost view = { λ a. held a.journal };
+    ghost view = { λ a. held a.state.journal };
 
-    ghost invariant = { λ a. Keeps a.journal a.database × AreReached [] a.journal };
+    ghost invariant = { λ a. IsState a.state.journal a.state };
 }
 
 impl Session {
@@ -61,9 +57,7 @@ impl Session {
         Session {
             alloc,
             reader: LineReader::new(alloc),
-            journal: Journal::new(alloc),
-            database: Database::new(alloc),
-            line: Vec::new(alloc),
+            state: State::new(alloc),
         }
     }
 
@@ -71,14 +65,14 @@ impl Session {
     pub fn now(&self) -> u32
         ensures { result ≡ clock self.now.journal }
     {
-        self.database.clock()
+        self.state.database.clock()
     }
 
     /// What was accepted, in order.
     pub fn journal(&self) -> &Journal
         ensures { result.now ≡ self.now.journal }
     {
-        &self.journal
+        &self.state.journal
     }
 
     /// Answers one line, without its line feed. `Accepted` and `Quit` append the reply to `out`; `Silent`
@@ -97,7 +91,7 @@ impl Session {
         ensures applies { Applies (F.texts shelf.old) line.now self.old self.new out.old.items out.new.items result }
         ensures shelf { shelf.new ≡ shelf.old }
         ensures least { reads.old ≤ reads.new }
-        ensures most { reads.new ≤ reads.old + most_looks (world self.old.journal) (spelled line.now) }
+        ensures most { reads.new ≤ reads.old + most_looks self.old (spelled line.now) }
         ensures unread { IfOk result (λ next. IsUnread next reads.old reads.new) }
         ensures unprobed { IfOk result (λ next. IsUnread next probes.old probes.new) }
         ensures plain { is_query (spelled line.now) ≡ false → probes.new ≡ probes.old }
@@ -114,16 +108,7 @@ impl Session {
         canonical_lines_are_short();
         canonical_lines_are_read_back();
         steps_write_what_is_accepted();
-        let answered = answer(
-            self.alloc,
-            &mut self.journal,
-            &mut self.database,
-            &mut self.line,
-            &command,
-            reads,
-            probes,
-            out,
-        );
+        let answered = answer(self.alloc, &mut self.state, &command, reads, probes, out);
         drop(command);
         next_or_fault(answered)
     }

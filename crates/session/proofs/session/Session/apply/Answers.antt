@@ -7,7 +7,6 @@ use Rattle.command_text.specs.Line.{Explains}
 use Rattle.command_text.specs.Tree
 use Rattle.command_text.specs.Tree.{command_view}
 use Rattle.line_meaning.specs.Step.{Held, held}
-use Rattle.database.proofs.ReadyLemmas.{is_ready}
 use Rattle.session.specs.declared.next.ApplyFault.{ApplyFault}
 use Rattle.session.specs.declared.next.Next.{Next}
 use Rattle.session.specs.declared.next.Next.TheVariants as nexts
@@ -27,11 +26,6 @@ returns-in-Err-Refused-clause-applies g c =
     (subst (Explains LINE_LIMIT line) c.in-Err-Refused.field-0-is
     (subst (λ (x : Result Command CommandFault). IfErr x (Explains LINE_LIMIT line)) c.in-Err-Refused.is c.read.ensures.cause)))
 
-pub answer-answered-requires-clause-ready : goal.answer-answered-requires-clause-ready
-answer-answered-requires-clause-ready g c =
-    is_ready (command_view c.in-Ok.command)
-    (c.read_commands_are_printable.ensures LINE_LIMIT c.args.line.now (command_view c.in-Ok.command) c.in-Ok.ensures.ok)
-
 pub answer-answered-requires-clause-canonical : goal.answer-answered-requires-clause-canonical
 answer-answered-requires-clause-canonical g c =
     ap (λ o. unwrap_or o Tree.Nothing)
@@ -41,7 +35,7 @@ pub returns-clause-applies : goal.returns-clause-applies
 returns-clause-applies g c =
     let shelf = g.F.Shelf.texts c.args.shelf.now in
     let command = command_view c.in-Ok.command in
-    let new = held c.answer-answered.new.journal in
+    let new = held c.answer-answered.new.state.journal in
     let before = c.args.out.now.items in
     let after = c.answer-answered.new.out.items in
     subst (λ (x : Result Next ApplyFault). Applies shelf c.args.line.now c.args.self.now new before after x)

@@ -1,0 +1,187 @@
+-- The refusals of a query that is to be registered, by what was judged of it.
+use Rattle.std.proofs.Common.{◌≡◌, ℕ, ◌+◌, ◌-◌, ◌*◌, ◌≤◌, ◌<◌, Bool, true, false, ◌||◌, Option, None, Some, List, [], ◌∷◌, length, map, refl, sym, ap, ◌∙◌, inl, inr, arith, if◌then◌else◌}
+use Rattle.std.specs.Prelude.{◌^◌, min, nat_le, nat_lt, option_and_then, sum_by, unwrap_or}
+use Rattle.std.specs.List.{list_any}
+use Rattle.std.specs.Str.{bytes_eq}
+use Rattle.std.proofs.lemmas.Bool.{cases_lt, or_parts}
+use Rattle.std.proofs.lemmas.Bool.Decides.{nat_tests}
+use Rattle.std.proofs.lemmas.List.{length-map}
+use Rattle.std.proofs.lemmas.List.Elements.{All-weaker}
+use Rattle.std.proofs.lemmas.List.Sums.{sum_by-le}
+use Rattle.exact.specs.First.{first_that_holds}
+use Rattle.tick_set.specs.declared.spans.TheConstants.{LAST_TICK, SPAN_LIMIT}
+use Rattle.geometry.specs.Region.{Region}
+use Rattle.history.specs.Catalog.{ClassInfo}
+use Rattle.formula.specs.declared.limits.TheConstants.{QUERY_LIMIT}
+use Rattle.kept_rows.specs.declared.binding.TheConstants.{BINDING_LIMIT}
+use Rattle.kept_rows.specs.Numbers.{size_of}
+use Rattle.command_text.specs.Line.{or_else}
+use Rattle.command_text.specs.declared.refusal.Refusal.{Refusal}
+use Rattle.command_text.specs.declared.refusal.Refusal.TheVariants as refusals
+use Rattle.ftl_parser.specs.Sizes.{nesting, objects}
+use Rattle.ftl_parser.specs.Tree.{QueryTree}
+use Rattle.ftl_typer.specs.Faults.{faults}
+use Rattle.ftl_typer.specs.First.{first_fault}
+use Rattle.ftl_typer.specs.declared.fault.TypeFault.{TypeFault}
+use Rattle.ftl_typer.specs.declared.fault.TypeFault.TheVariants as type_faults
+use Rattle.line_meaning.specs.declared.limits.TheConstants.{ALL_BINDINGS_LIMIT, ASSIGNED_SPAN_LIMIT, CIRCLE_NAMES, CIRCLE_SPAN_LIMIT}
+use Rattle.line_meaning.specs.Ask.{is_past_span, most_bindings, query_in, refusal_by_type, span_limit, type_refusal}
+use Rattle.line_meaning.specs.QueryFault.{bindings_of, passes_bindings, register_refusal, register_size_refusal, unknown_among}
+use Rattle.line_meaning.specs.Registry.{Known, is_registered}
+use Rattle.live_queries.specs.Columns.{variables_of}
+use Rattle.live_queries.specs.Kept.{AreKept, IsKept, KeptQuery}
+use Rattle.database.specs.declared.database.Database.{Database}
+use Rattle.database.specs.Keeping.{world_of_database}
+use Rattle.registry.specs.Standing.{Stand, known_of, registration_of}
+use Rattle.registry.proofs.NameLemmas.{named_either, registered_is}
+use Rattle.registry.proofs.SizeLemmas.{all_bindings}
+
+-- ---- counts
+
+abbrev numbers : List KeptQuery → ℕ
+numbers live = sum_by (λ k. size_of (variables_of k.columns)) live
+
+-- the bindings of all registered queries are few
+pub few_numbers : (live : List KeptQuery) → AreKept live → numbers live ≤ 256000000
+few_numbers live are =
+    within (length live) (numbers live) are.few
+    (sum_by-le (λ (k : KeptQuery). size_of (variables_of k.columns)) BINDING_LIMIT live
+    (All-weaker IsKept (λ k. size_of (variables_of k.columns) ≤ BINDING_LIMIT) (λ k is. is.size) live are.each))
+  where
+    within : (n all : ℕ) → n ≤ QUERY_LIMIT → all ≤ n * BINDING_LIMIT → all ≤ 256000000
+    within n all few most = omega (arith, few, most)
+
+-- a count that stays at the largest number passes the limits as the count itself does
+saturated : (b s : ℕ) →
+    (nat_lt BINDING_LIMIT (min b (2 ^ 64 - 1)) || nat_lt ALL_BINDINGS_LIMIT (min b (2 ^ 64 - 1) + s))
+    ≡ (nat_lt BINDING_LIMIT b || nat_lt ALL_BINDINGS_LIMIT (b + s))
+saturated b s = elim (cases_lt (2 ^ 64 - 1) b) [
+  | inl past ↦ grind (arith, nat_tests, past)
+  | inr within ↦
+      let same : min b (2 ^ 64 - 1) ≡ b = omega (arith, within) in
+      ap (λ n. nat_lt BINDING_LIMIT n || nat_lt ALL_BINDINGS_LIMIT (n + s)) same
+]
+
+pub passes_is : (d : Database) (live : List KeptQuery) → AreKept live → Stand d live → (b : ℕ) →
+    (nat_lt BINDING_LIMIT (min b (2 ^ 64 - 1)) || nat_lt ALL_BINDINGS_LIMIT (min b (2 ^ 64 - 1) + numbers live))
+    ≡ passes_bindings (known_of d live) b
+passes_is d live are stand b =
+    saturated b (numbers live)
+    ∙ ap (λ n. nat_lt BINDING_LIMIT b || nat_lt ALL_BINDINGS_LIMIT (b + n)) (all_bindings (world_of_database d) live are.each stand.fits)
+
+-- what was judged of a count that may stay at the largest number
+pub many_is : (d : Database) (live : List KeptQuery) → AreKept live → Stand d live → (q : QueryTree) (passes : Bool) (r : ℕ) →
+    r ≡ min (most_bindings (world_of_database d).history.catalog.classes (query_in (world_of_database d) q)) (2 ^ 64 - 1) →
+    passes ≡ (nat_lt BINDING_LIMIT r || nat_lt ALL_BINDINGS_LIMIT (r + numbers live)) →
+    passes_bindings (known_of d live) (most_bindings (world_of_database d).history.catalog.classes (query_in (world_of_database d) q)) ≡ passes
+many_is d live are stand q passes r is judged =
+    sym (judged
+    ∙ ap (λ n. nat_lt BINDING_LIMIT n || nat_lt ALL_BINDINGS_LIMIT (n + numbers live)) is
+    ∙ passes_is d live are stand (most_bindings (world_of_database d).history.catalog.classes (query_in (world_of_database d) q)))
+
+pub not_full : (live : List KeptQuery) (count : ℕ) → count ≡ length live → count < QUERY_LIMIT → nat_le QUERY_LIMIT (length (map registration_of live)) ≡ false
+not_full live count is few =
+    let same : length (map registration_of live) ≡ length live = length-map live registration_of in
+    grind (arith, nat_tests, is, few, same)
+
+-- the refusals of sizes in their order
+abbrev pub size_of_refusal : Bool → Bool → Bool → Option Refusal
+size_of_refusal past full many =
+    first_that_holds ((refusals.SpanRange, past) ∷ (refusals.StoreFull, full) ∷ (refusals.BindingLimit, many) ∷ [])
+
+pub size_is : (k : Known) (span : ℕ) (q : QueryTree) (past full many : Bool) → is_past_span k.now span q.formula ≡ past →
+    nat_le QUERY_LIMIT (length k.live) ≡ full →
+    passes_bindings k (most_bindings k.world.history.catalog.classes (query_in k.world q)) ≡ many →
+    register_size_refusal k span q ≡ size_of_refusal past full many
+size_is k span q past full many a b c = λ i. size_of_refusal (a i) (b i) (c i)
+
+-- ---- names, kinds and bounds
+
+-- a fault of them, or want of memory where there is none
+type_refusal_is : (first : Option TypeFault) (fault : TypeFault) → fault ≡ unwrap_or first type_faults.NoMemory →
+    option_and_then refusal_by_type first ≡ refusal_by_type fault
+type_refusal_is None fault is = sym (ap refusal_by_type is)
+type_refusal_is (Some f) fault is = sym (ap refusal_by_type is)
+
+-- by the faults that were looked for in the classes and the regions of a database
+module _ (d : Database) (classes : List ClassInfo) (regions : List Region) (q : QueryTree)
+    (same : classes ≡ d.store.classes) (likewise : regions ≡ d.regions) where
+  found : first_fault (faults classes regions q) ≡ first_fault (faults d.store.classes d.regions q)
+  found = λ i. first_fault (faults (same i) (likewise i) q)
+
+  pub fault_refused : (fault : TypeFault) → fault ≡ unwrap_or (first_fault (faults classes regions q)) type_faults.NoMemory →
+      type_refusal (world_of_database d) q ≡ refusal_by_type fault
+  fault_refused fault is =
+      type_refusal_is (first_fault (faults d.store.classes d.regions q)) fault (is ∙ ap (λ first. unwrap_or first type_faults.NoMemory) found)
+
+  pub none_refused : first_fault (faults classes regions q) ≡ None → type_refusal (world_of_database d) q ≡ None
+  none_refused none = ap (option_and_then refusal_by_type) (sym found ∙ none)
+
+-- all refusals in their order
+abbrev pub refusal_of : Option Refusal → Bool → Option Refusal → Option Refusal
+refusal_of type taken size =
+    or_else (unknown_among type) (or_else (first_that_holds ((refusals.NameTaken, taken) ∷ [])) (or_else type size))
+
+pub refusal_is : (d : Database) (live : List KeptQuery) (name : List ℕ) (span : ℕ) (q : QueryTree)
+    (type : Option Refusal) (taken : Bool) (size : Option Refusal) →
+    type_refusal (world_of_database d) q ≡ type → taken ≡ list_any (λ k. bytes_eq k.name name) live →
+    size ≡ register_size_refusal (known_of d live) span q → register_refusal (known_of d live) name span q ≡ refusal_of type taken size
+refusal_is d live name span q type taken size a b c =
+    let named : is_registered (map registration_of live) name ≡ taken = registered_is live name ∙ sym (named_either live name) ∙ sym b in
+    λ i. refusal_of (a i) (named i) (sym c i)
+
+-- ---- what is so of a query that nothing refuses
+
+none_of : (first later : Option Refusal) → or_else first later ≡ None → (first ≡ None) × (later ≡ None)
+none_of None later none = (refl, none)
+none_of (Some r) later none = absurd (cc none)
+
+not_held : (r : Refusal) (holds : Bool) (later : List (Refusal × Bool)) → first_that_holds ((r, holds) ∷ later) ≡ None →
+    (holds ≡ false) × (first_that_holds later ≡ None)
+not_held r true later none = absurd (cc none)
+not_held r false later none = (refl, none)
+
+pub record IsRight (k : Known) (name : List ℕ) (span : ℕ) (q : QueryTree) : Type 0 where
+  pub untaken : is_registered k.live name ≡ false
+  pub short : span ≤ SPAN_LIMIT
+  pub reached : k.now + span ≤ LAST_TICK
+  pub few : length k.live < QUERY_LIMIT
+  pub size : most_bindings k.world.history.catalog.classes (query_in k.world q) ≤ BINDING_LIMIT
+
+-- the longest span is no longer than any
+limit_within : (assigned circle : Bool) → (if assigned then ASSIGNED_SPAN_LIMIT else if circle then CIRCLE_SPAN_LIMIT else SPAN_LIMIT) ≤ SPAN_LIMIT
+limit_within true circle = omega arith
+limit_within false true = omega arith
+limit_within false false = omega arith
+
+within : (a b : ℕ) → nat_lt a b ≡ false → b ≤ a
+within a b h = grind (arith, nat_tests, h)
+
+less : (a b : ℕ) → nat_le a b ≡ false → b < a
+less a b h = grind (arith, nat_tests, h)
+
+pub right_is : (k : Known) (name : List ℕ) (span : ℕ) (q : QueryTree) → register_refusal k name span q ≡ None → IsRight k name span q
+right_is k name span q none =
+    let type = type_refusal k.world q in
+    let few : List (Refusal × Bool) = (refusals.BindingLimit, passes_bindings k (most_bindings k.world.history.catalog.classes (query_in k.world q))) ∷ [] in
+    let later : List (Refusal × Bool) = (refusals.StoreFull, nat_le QUERY_LIMIT (length k.live)) ∷ few in
+    let many = most_bindings k.world.history.catalog.classes (query_in k.world q) in
+    let rest : Option Refusal = or_else type (register_size_refusal k span q) in
+    let held : Option Refusal = first_that_holds ((refusals.NameTaken, is_registered k.live name) ∷ []) in
+    let named = none_of (unknown_among type) (or_else held rest) none in
+    let taken = none_of held rest named.1 in
+    let sized = none_of type (register_size_refusal k span q) taken.1 in
+    let past = not_held refusals.SpanRange (is_past_span k.now span q.formula) later sized.1 in
+    let full = not_held refusals.StoreFull (nat_le QUERY_LIMIT (length k.live)) few past.1 in
+    let bound = not_held refusals.BindingLimit (passes_bindings k many) [] full.1 in
+    let spans = or_parts (nat_lt (span_limit q.formula) span) (nat_lt LAST_TICK (k.now + span)) past.0 in
+    let sums = or_parts (nat_lt BINDING_LIMIT many) (nat_lt ALL_BINDINGS_LIMIT (many + bindings_of k)) bound.0 in
+    let short : span ≤ span_limit q.formula = within (span_limit q.formula) span spans.0 in
+    let most : span_limit q.formula ≤ SPAN_LIMIT = limit_within (nat_lt 0 (nesting q.formula)) (nat_le CIRCLE_NAMES (objects q.formula)) in
+    record {
+      untaken = (not_held refusals.NameTaken (is_registered k.live name) [] taken.0).0;
+      short = omega (arith, short, most);
+      reached = within LAST_TICK (k.now + span) spans.1;
+      few = less QUERY_LIMIT (length k.live) full.0;
+      size = within BINDING_LIMIT many sums.0;
+    }

@@ -1,0 +1,21 @@
+-- The registered queries of a database.
+use Rattle.std.specs.Prelude.{◌≤◌, List, All, map}
+use Rattle.line_meaning.specs.Registry.{Known, Registration}
+use Rattle.live_queries.specs.Asked.{FitsWorld}
+use Rattle.live_queries.specs.Current.{AreCurrent}
+use Rattle.live_queries.specs.Kept.{KeptQuery, registered}
+use Rattle.database.specs.declared.database.Database.{Database}
+use Rattle.database.specs.Keeping.{clock_of, world_of_database}
+
+abbrev pub registration_of : KeptQuery → Registration
+registration_of k = record { name = k.name; query = registered k }
+
+-- what a database and its registered queries tell of which commands are judged
+abbrev pub known_of : Database → List KeptQuery → Known
+known_of d live = record { world = world_of_database d; now = clock_of d; live = map registration_of live }
+
+-- their rows are current, and none was registered later than now
+pub record Stand (d : Database) (live : List KeptQuery) : Type 0 where
+  pub current : AreCurrent (world_of_database d) live
+  pub fits : All (FitsWorld (world_of_database d)) live
+  pub entered : All (λ k. k.entry ≤ clock_of d) live

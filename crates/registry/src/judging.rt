@@ -1,0 +1,108 @@
+//! Why a query that is to be registered is refused.
+ghost use Rattle.std.specs.Prelude.{◌≡◌, ◌+◌, ◌≤◌, ◌||◌, ◌∷◌, [], None, nat_lt, sum_by, IfErr, IfOk, IsOk};
+ghost use Rattle.formula.specs.Resolved.{IsResolved};
+ghost use Rattle.formula.specs.Tree.{query_view as resolved_view};
+ghost use Rattle.meaning.specs.Fits.{FitsItsClasses};
+ghost use Rattle.ftl_parser.specs.Lawful.{IsLawful};
+ghost use Rattle.ftl_parser.specs.Tree.{query_view};
+ghost use Rattle.tick_set.specs.declared.spans.TheConstants.{LAST_TICK};
+ghost use Rattle.line_meaning.specs.Ask.{query_in};
+ghost use Rattle.command_text.specs.Line.{or_else};
+ghost use Rattle.command_text.specs.declared.refusal.Refusal.TheVariants as refusals;
+ghost use Rattle.exact.specs.First.{first_that_holds};
+ghost use Rattle.line_meaning.specs.Ask.{refusal_by_type};
+ghost use Rattle.line_meaning.specs.QueryFault.{register_refusal, register_size_refusal, unknown_among};
+ghost use Rattle.database.specs.Keeping.{world_of_database};
+ghost use Rattle.database.specs.Telling.{IsStoppedBy};
+ghost use Rattle.kept_rows.specs.declared.binding.TheConstants.{BINDING_LIMIT};
+ghost use Rattle.kept_rows.specs.Numbers.{size_of};
+ghost use Rattle.line_meaning.specs.declared.limits.TheConstants.{ALL_BINDINGS_LIMIT};
+ghost use Rattle.live_queries.specs.Columns.{variables_of};
+ghost use Rattle.registry.specs.Standing.{Stand, known_of};
+
+use crate::registering::Request;
+use command_text::{CommandFault, Refusal};
+use database::{Database, is_past_span, most_bindings, refusal_by_type};
+use formula::{QUERY_LIMIT, RQuery};
+use ftl_parser::Query;
+use ftl_typer::{TypeFault, resolve};
+use kept_rows::BINDING_LIMIT;
+use line_meaning::ALL_BINDINGS_LIMIT;
+use live_queries::Live;
+use std::alloc::Global;
+
+/// Whether a query of so many bindings has no room, by itself or beside the registered ones.
+fn is_past_bindings(live: &Live, bindings: u64) -> bool
+    ensures { result ≡ (nat_lt BINDING_LIMIT bindings
+        || nat_lt ALL_BINDINGS_LIMIT (bindings + sum_by (λ k. size_of (variables_of k.columns)) live.now)) }
+{
+    live.are_kept();
+    bindings > u64::from(BINDING_LIMIT)
+        || bindings + live.bindings() > u64::from(ALL_BINDINGS_LIMIT)
+}
+
+/// Why a query whose names, kinds and bounds are right is refused.
+fn size_refusal(database: &Database, live: &Live, span: u32, query: &Query) -> Option<Refusal>
+    requires now { database.now.clock ≤ LAST_TICK }
+    requires span { span ≤ LAST_TICK }
+    requires stand { Stand database.now live.now }
+    ensures { result ≡ register_size_refusal (known_of database.now live.now) span (query_view query.now) }
+{
+    live.are_kept();
+    let bindings = most_bindings(database.schema(), query.from.items());
+    if is_past_span(database.clock(), span, &query.formula) {
+        Some(Refusal::SpanRange)
+    } else if live.count() as usize >= QUERY_LIMIT {
+        Some(Refusal::StoreFull)
+    } else if is_past_bindings(live, bindings) {
+        Some(Refusal::BindingLimit)
+    } else {
+        None
+    }
+}
+
+/// Why a query that could not be made by number is refused. None where memory alone is wanting.
+fn fault_refusal(fault: TypeFault, taken: bool, size: Option<Refusal>) -> Option<Refusal>
+    ensures { result ≡ or_else (unknown_among (refusal_by_type fault)) (or_else (first_that_holds ((refusals.NameTaken, taken) ∷ []))
+        (or_else (refusal_by_type fault) size)) }
+{
+    match refusal_by_type(fault) {
+        Some(Refusal::UnknownName) => Some(Refusal::UnknownName),
+        _ if taken => Some(Refusal::NameTaken),
+        Some(refusal) => Some(refusal),
+        None => size,
+    }
+}
+
+/// The query by number, where nothing refuses that it is registered. Want of memory is told only where nothing does.
+pub fn judge(
+    alloc: Global,
+    database: &Database,
+    live: &Live,
+    request: &Request,
+) -> Result<RQuery, CommandFault>
+    requires lawful { IsLawful (query_view request.now.query.now) }
+    requires now { database.now.clock ≤ LAST_TICK }
+    requires span { request.now.span ≤ LAST_TICK }
+    requires stand { Stand database.now live.now }
+    ensures query { IfOk result (λ q. resolved_view q ≡ query_in (world_of_database database.now) (query_view request.now.query.now)) }
+    ensures sound { IfOk result (λ q. IsResolved (resolved_view q)) }
+    ensures fits { IfOk result (λ q. FitsItsClasses (world_of_database database.now) (resolved_view q)) }
+    ensures right { IsOk result → register_refusal (known_of database.now live.now) request.now.name.now request.now.span (query_view request.now.query.now) ≡ None }
+    ensures cause { IfErr result (λ fault.
+        IsStoppedBy (register_refusal (known_of database.now live.now) request.now.name.now request.now.span (query_view request.now.query.now)) fault) }
+{
+    let taken = live.has(request.name);
+    let size = size_refusal(database, live, request.span, request.query);
+    match resolve(alloc, request.query, database.schema(), database.regions()) {
+        Ok(_) if taken => Err(CommandFault::Refused(Refusal::NameTaken)),
+        Ok(resolved) => match size {
+            Some(refusal) => Err(CommandFault::Refused(refusal)),
+            None => Ok(resolved),
+        },
+        Err(fault) => match fault_refusal(fault, taken, size) {
+            Some(refusal) => Err(CommandFault::Refused(refusal)),
+            None => Err(CommandFault::NoMemory),
+        },
+    }
+}

@@ -1,0 +1,159 @@
+-- The refusal of a command that was read, by the refusals of what is held and of the journal.
+use Rattle.std.proofs.Common.{◌≡◌, ℕ, Bool, true, false, Option, None, Some, List, [], ◌∷◌, ◌++◌, length, refl, sym, ap, ◌∙◌, subst, append-nil, if◌then◌else◌}
+use Rattle.std.specs.Prelude.{◌&&◌, Ok, Err}
+use Rattle.exact.specs.First.{first_that_holds}
+use Rattle.command_text.specs.declared.fault.CommandFault.{CommandFault}
+use Rattle.command_text.specs.declared.fault.CommandFault.TheVariants as stops
+use Rattle.command_text.specs.declared.refusal.Refusal.{Refusal}
+use Rattle.command_text.specs.declared.refusal.Refusal.TheVariants as refusals
+use Rattle.command_text.specs.Journal.{Accepted, bytes_of}
+use Rattle.command_text.specs.Line.{or_else}
+use Rattle.command_text.specs.Text.{text_of}
+use Rattle.command_text.specs.Tree
+use Rattle.command_text.specs.Tree.{CommandTree}
+use Rattle.line_meaning.specs.declared.role.Role.{Role}
+use Rattle.line_meaning.specs.declared.role.Role.TheVariants.{Keeping, Telling}
+use Rattle.line_meaning.specs.Answering.{answer_lines, kept_lines, query_lines}
+use Rattle.line_meaning.specs.Fault.{fault_among, is_gap, journal_refusal, passes_limits}
+use Rattle.line_meaning.specs.Journal.{clock, world}
+use Rattle.line_meaning.specs.QueryFault.{command_fault, query_fault}
+use Rattle.line_meaning.specs.Registry.{Known, known}
+use Rattle.line_meaning.specs.Reply.{ok_line}
+use Rattle.line_meaning.specs.Role.{is_keeping, is_kept, is_on_queries, role_of}
+use Rattle.line_meaning.specs.Step.{Held, fault_by, fault_of, held, held_after, reply_by}
+use Rattle.line_meaning.proofs.CallerLemmas.{or_none}
+use Rattle.database.specs.Telling.{IsStoppedBy}
+use Rattle.session.specs.Carried.{IsDone, is_class}
+use Rattle.session.specs.Entering.{Admits}
+
+-- ---- refusals one after another
+
+pub none_of_both : (first other : Option Refusal) → or_else first other ≡ None → (first ≡ None) × (other ≡ None)
+none_of_both None other is = (refl, is)
+none_of_both (Some r) other is = absurd (cc is)
+
+pub none_holds : (r : Refusal) (b : Bool) → first_that_holds ((r, b) ∷ []) ≡ None → b ≡ false
+none_holds r true is = absurd (cc is)
+none_holds r false is = refl
+
+pub that_holds : (r : Refusal) (b : Bool) → b ≡ true → first_that_holds ((r, b) ∷ []) ≡ Some r
+that_holds r b is = ap (λ x. first_that_holds ((r, x) ∷ [])) is
+
+pub none_that_holds : (r : Refusal) (b : Bool) → b ≡ false → first_that_holds ((r, b) ∷ []) ≡ None
+none_that_holds r b is = ap (λ x. first_that_holds ((r, x) ∷ [])) is
+
+-- ---- by the role
+
+pub kept_role : (role : Role) → is_keeping role ≡ true → role ≡ Keeping
+kept_role Keeping h = refl
+kept_role role h = absurd (cc h)
+
+-- a command that is built is judged by its role
+pub by_role : (h : Held) (c : CommandTree) (role : Role) → is_gap c ≡ false → role_of c ≡ role → fault_of h c ≡ fault_by role h c
+by_role h c role gap is =
+    ap (λ g. if g then Some refusals.BadSyntax else fault_by (role_of c) h c) gap ∙ ap (λ r. fault_by r h c) is
+
+pub gap_fault : (h : Held) (c : CommandTree) → is_gap c ≡ true → fault_of h c ≡ Some refusals.BadSyntax
+gap_fault h c gap = ap (λ g. if g then Some refusals.BadSyntax else fault_by (role_of c) h c) gap
+
+-- a command that isn't on registered queries is refused as one that only the database judges
+no_query_fault : (k : Known) (c : CommandTree) → is_on_queries c ≡ false → query_fault k c ≡ None
+no_query_fault k (Tree.Watch name span q) plain = absurd (cc plain)
+no_query_fault k (Tree.Keep name span q) plain = absurd (cc plain)
+no_query_fault k (Tree.Show name) plain = absurd (cc plain)
+no_query_fault k (Tree.Drop name) plain = absurd (cc plain)
+no_query_fault k c plain = refl
+
+pub data_fault : (k : Known) (c : CommandTree) → is_on_queries c ≡ false → command_fault k c ≡ fault_among k.world k.now c
+data_fault k c plain =
+    ap (λ (r : Option Refusal). or_else (fault_among k.world k.now c) r) (no_query_fault k c plain) ∙ or_none (fault_among k.world k.now c)
+
+-- ---- a command that the journal keeps
+
+module _ (journal : List Accepted) (c : CommandTree) (gap : is_gap c ≡ false) (kept : is_kept c ≡ true) where
+  kept_fault : fault_of (held journal) c
+      ≡ or_else (command_fault (known journal) c) (journal_refusal (length journal) (bytes_of journal) c)
+  kept_fault = by_role (held journal) c Keeping gap (kept_role (role_of c) kept)
+
+  full_by : (full : Bool) → passes_limits (length journal) (bytes_of journal) (length (text_of c)) ≡ full →
+      journal_refusal (length journal) (bytes_of journal) c ≡ first_that_holds ((refusals.JournalFull, full) ∷ [])
+  full_by full is =
+      ap (λ k. first_that_holds ((refusals.JournalFull, k && passes_limits (length journal) (bytes_of journal) (length (text_of c))) ∷ [])) kept
+      ∙ ap (λ f. first_that_holds ((refusals.JournalFull, f) ∷ [])) is
+
+  pub refused : (r : Refusal) → command_fault (known journal) c ≡ Some r → fault_of (held journal) c ≡ Some r
+  refused r is = kept_fault ∙ ap (λ (o : Option Refusal). or_else o (journal_refusal (length journal) (bytes_of journal) c)) is
+
+  pub accepted : command_fault (known journal) c ≡ None → passes_limits (length journal) (bytes_of journal) (length (text_of c)) ≡ false →
+      fault_of (held journal) c ≡ None
+  accepted is room =
+      kept_fault
+      ∙ ap (λ (o : Option Refusal). or_else o (journal_refusal (length journal) (bytes_of journal) c)) is
+      ∙ full_by false room
+
+  pub full : command_fault (known journal) c ≡ None → passes_limits (length journal) (bytes_of journal) (length (text_of c)) ≡ true →
+      fault_of (held journal) c ≡ Some refusals.JournalFull
+  full is room =
+      kept_fault
+      ∙ ap (λ (o : Option Refusal). or_else o (journal_refusal (length journal) (bytes_of journal) c)) is
+      ∙ full_by true room
+
+  -- it was refused by what is known, or memory was out where nothing refuses it
+  pub stopped_done : (before after : List ℕ) (fault : CommandFault) → IsStoppedBy (command_fault (known journal) c) fault →
+      IsDone (held journal) c (held journal) before after (Err fault)
+  stopped_done before after (stops.Refused r) is = (refused r is, refl)
+  stopped_done before after stops.NoMemory is = (record { built = gap; accepted = λ _. is }, refl)
+
+  -- nothing but the journal refuses it
+  pub admits_done : (line before after : List ℕ) (fault : CommandFault) → command_fault (known journal) c ≡ None →
+      Admits journal c line (Err fault) → IsDone (held journal) c (held journal) before after (Err fault)
+  admits_done line before after (stops.Refused r) none is = (full none is.1 ∙ ap Some (sym is.0), refl)
+  admits_done line before after stops.NoMemory none is = (record { built = gap; accepted = λ _. none }, refl)
+
+  -- memory is out, and nothing refuses it but that a class is judged late
+  pub lacks_done : (new : List Accepted) (before after : List ℕ) (fault : CommandFault) → new ≡ journal → fault ≡ stops.NoMemory →
+      (is_class c ≡ false → command_fault (known journal) c ≡ None) → IsDone (held journal) c (held new) before after (Err fault)
+  lacks_done new before after fault same is none =
+      subst (λ (f : CommandFault). IsDone (held journal) c (held new) before after (Err f)) (sym is) (record { built = gap; accepted = none }, ap held same)
+
+  entry_is : held_after (held journal) c ≡ held (journal ++ (clock journal, c) ∷ [])
+  entry_is = ap (λ (k : Bool). held (journal ++ (if k then (clock journal, c) ∷ [] else []))) kept
+
+  -- it is entered, and its lines and `ok` are written
+  pub entered_done : (now : ℕ) (new : List Accepted) (before after lines : List ℕ) → now ≡ clock journal → new ≡ journal ++ (now, c) ∷ [] →
+      fault_of (held journal) c ≡ None → lines ≡ kept_lines (known journal) (known (journal ++ (clock journal, c) ∷ [])) c →
+      after ≡ before ++ (lines ++ ok_line) → IsDone (held journal) c (held new) before after (Ok tt)
+  entered_done now new before after lines tick is none told said = (
+    none,
+    ap held (is ∙ ap (λ t. journal ++ (t, c) ∷ []) tick) ∙ sym entry_is,
+    said
+        ∙ ap (λ ls. before ++ (ls ++ ok_line)) (told ∙ ap (λ (h : Held). kept_lines (known journal) (known h.journal) c) (sym entry_is))
+        ∙ ap (λ (r : Role). before ++ reply_by r (held journal) c) (sym (kept_role (role_of c) kept)),
+  )
+
+-- ---- a command that changes nothing
+
+module _ (journal : List Accepted) (c : CommandTree) (gap : is_gap c ≡ false) (telling : role_of c ≡ Telling) where
+  told_kept : is_kept c ≡ false
+  told_kept = ap is_keeping telling
+
+  told_fault : fault_of (held journal) c ≡ command_fault (known journal) c
+  told_fault =
+      by_role (held journal) c Telling gap telling
+      ∙ ap (λ k. or_else (command_fault (known journal) c)
+      (first_that_holds ((refusals.JournalFull, k && passes_limits (length journal) (bytes_of journal) (length (text_of c))) ∷ []))) told_kept
+      ∙ or_none (command_fault (known journal) c)
+
+  pub told_stopped : (before after : List ℕ) (fault : CommandFault) → IsStoppedBy (command_fault (known journal) c) fault →
+      IsDone (held journal) c (held journal) before after (Err fault)
+  told_stopped before after (stops.Refused r) is = (told_fault ∙ is, refl)
+  told_stopped before after stops.NoMemory is = (record { built = gap; accepted = λ _. is }, refl)
+
+  pub told_done : (before after : List ℕ) → command_fault (known journal) c ≡ None →
+      after ≡ before ++ (answer_lines (world journal) (clock journal) c ++ query_lines (known journal) c ++ ok_line) →
+      IsDone (held journal) c (held journal) before after (Ok tt)
+  told_done before after none said = (
+    told_fault ∙ none,
+    ap held (sym (append-nil journal) ∙ ap (λ (k : Bool). journal ++ (if k then (clock journal, c) ∷ [] else [])) (sym told_kept)),
+    said ∙ ap (λ (r : Role). before ++ reply_by r (held journal) c) (sym telling),
+  )

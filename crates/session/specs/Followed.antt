@@ -1,0 +1,60 @@
+-- What follows a change of the database: lines of what changes for the registered queries, and what a write makes of them.
+use Rattle.std.specs.Prelude.{◌≡◌, ℕ, Bool, true, false, Option, None, Some, List, []}
+use Rattle.std.specs.List.{flat_map}
+use Rattle.object_store.specs.Contents.{catalog_of}
+use Rattle.command_text.specs.Tree
+use Rattle.command_text.specs.Tree.{CommandTree}
+use Rattle.live_queries.specs.Kept.{KeptQuery}
+use Rattle.live_queries.specs.Prepared.{AreFreshFor, AreMade, IsPrepared, Prepared}
+use Rattle.live_queries.specs.Told.{changes_of, passings_of}
+use Rattle.database.specs.declared.change.Change.{Change}
+use Rattle.database.specs.declared.change.Change.TheVariants as changes
+use Rattle.database.specs.declared.database.Database.{Database}
+use Rattle.database.specs.Attempt.{Carries}
+use Rattle.database.specs.Keeping.{clock_of, world_of_database}
+use Rattle.registry.specs.Moves.{moves_text}
+use Rattle.session.specs.declared.state.State.{State}
+use Rattle.session.specs.State.{IsState}
+
+-- the database was changed by a command, and nothing else was since
+pub record IsChanged (c : CommandTree) (before : ℕ) (change : Change) (s : State) : Type 0 where
+  pub old : Database
+  pub state : IsState s.journal (record s { database = old })
+  pub carries : Carries c old s.database change
+  pub tick : before ≡ clock_of old
+
+-- a command that writes to an object
+abbrev pub writes_object : CommandTree → Bool
+writes_object (Tree.Insert class name place sets) = true
+writes_object (Tree.Update name place sets) = true
+writes_object (Tree.Remove name) = true
+writes_object _ = false
+
+-- the object that a change wrote
+abbrev pub object_of_change : Change → Option ℕ
+object_of_change (changes.Object done) = Some done.id
+object_of_change _ = None
+
+-- it is what the write makes of the registered queries
+pub record IsRenewal (c : CommandTree) (change : Change) (d : Database) (live : List KeptQuery) (f : Prepared) : Type 0 where
+  pub write : writes_object c ≡ true
+  pub object : object_of_change change ≡ Some f.object
+  pub prepared : IsPrepared live f
+  pub fresh : AreFreshFor (world_of_database d) f.object f.class (clock_of d) live f.renewals
+
+-- what is prepared of a change: nothing where it wrote to no object
+abbrev pub Prepares : CommandTree → Change → Database → List KeptQuery → Option Prepared → Type 0
+Prepares c change d live None = writes_object c ≡ true → object_of_change change ≡ None
+Prepares c change d live (Some f) = IsRenewal c change d live f
+
+-- the lines of a change by the rows from before it
+abbrev pub lines_told : CommandTree → ℕ → Database → List KeptQuery → Option Prepared → List ℕ
+lines_told c before d live (Some f) = moves_text (catalog_of d.store) (changes_of f.object (clock_of d) live f.renewals)
+lines_told (Tree.Tick ticks) before d live None =
+    moves_text (catalog_of d.store) (flat_map (passings_of before (clock_of d)) live)
+lines_told c before d live None = []
+
+-- what was prepared is made
+abbrev pub Settles : Option Prepared → List KeptQuery → List KeptQuery → Type 0
+Settles None old new = new ≡ old
+Settles (Some f) old new = AreMade f.object f.class f.renewals old new

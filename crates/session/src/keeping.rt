@@ -1,0 +1,325 @@
+//! The commands that the journal keeps.
+ghost use Rattle.std.specs.Prelude.{◌≡◌, ◌+◌, ◌≤◌, ◌++◌, ◌∷◌, [], true, false, None, length, Err, IfErr, IfOk, IfSome};
+ghost use Rattle.ftl_lexer.specs.declared.buffer.TheConstants.{LEXER_LIMIT};
+ghost use Rattle.command_text.specs.Journal.{spelled};
+ghost use Rattle.command_text.specs.Shape.{IsPrintable};
+ghost use Rattle.command_text.specs.Text.{text_of};
+ghost use Rattle.command_text.specs.Tree;
+ghost use Rattle.command_text.specs.Tree.{command_view};
+ghost use Rattle.line_meaning.specs.Fault.{is_gap};
+ghost use Rattle.line_meaning.specs.Looks.{is_query, most_looks};
+ghost use Rattle.line_meaning.specs.Reached.{AreReached};
+ghost use Rattle.line_meaning.specs.Reply.{ok_line};
+ghost use Rattle.line_meaning.specs.Role.{is_kept, is_on_queries};
+ghost use Rattle.line_meaning.specs.Step.{fault_of, held};
+ghost use Rattle.live_queries.specs.Kept.{AreKept};
+ghost use Rattle.live_queries.specs.Prepared.{IsPrepared};
+ghost use Rattle.reply_text.specs.Begins.{Begins};
+ghost use Rattle.database.specs.Telling.{IsRefused};
+ghost use Rattle.session.specs.Asked.{command_of};
+ghost use Rattle.session.specs.Carried.{IsDone};
+ghost use Rattle.session.specs.Followed.{IsChanged, Prepares, Settles, lines_told, writes_object};
+ghost use Rattle.session.specs.State.{IsState};
+
+use crate::entering::{admit, enter};
+use crate::state::State;
+use command_text::{Command, CommandFault, Refusal};
+use database::Change;
+use fixed_point::Word;
+use formula::QueryKind;
+use live_queries::{
+    Fresh, Live, committed_writes_keep_queries_current, current_queries_tell_their_answers,
+    prepared_changes_tell_what_a_write_changes, prepared_writes_renew_queries,
+    queries_go_on_fitting_worlds, writes_to_no_object_keep_queries_current,
+};
+use registry::{Request, judge, pass, register, renew};
+use std::alloc::{AllocError, Global};
+use std::sync::ledger::Ledger;
+use steps::Steps;
+
+/// Carries out a command that the journal keeps, and writes its reply. It is judged before anything is evaluated,
+/// and what it did is taken back where it can't be entered. After an error nothing has changed but that `out` begins
+/// with its old contents.
+pub(crate) fn keep<L: Ledger, M: Ledger>(
+    alloc: Global,
+    state: &mut State,
+    command: &Command,
+    reads: &mut Steps<L>,
+    probes: &mut Steps<M>,
+    out: &mut Vec<u8>,
+) -> Result<(), CommandFault>
+    requires state { IsState state.old.journal state.old }
+    requires printable { IsPrintable (command_view command.now) }
+    requires canonical { spelled (text_of (command_view command.now)) ≡ command_view command.now }
+    requires short { length (text_of (command_view command.now)) ≤ LEXER_LIMIT }
+    requires kept { is_kept (command_view command.now) ≡ true }
+    requires gap { is_gap (command_view command.now) ≡ false }
+    ensures state { IsState state.new.journal state.new }
+    ensures done { IsDone (held state.old.journal) (command_view command.now) (held state.new.journal) out.old.items out.new.items result }
+    ensures begins { Begins out.old.items out.new.items }
+    ensures least { reads.old ≤ reads.new }
+    ensures most { reads.new ≤ reads.old + most_looks (held state.old.journal) (command_view command.now) }
+    ensures unread { IfErr result (λ fault. IsRefused fault → reads.new ≡ reads.old) }
+    ensures unprobed { IfErr result (λ fault. IsRefused fault → probes.new ≡ probes.old) }
+    ensures plain { is_query (command_view command.now) ≡ false → probes.new ≡ probes.old }
+{
+    match command {
+        Command::Watch { name, span, query } => {
+            let request = Request {
+                name,
+                kind: QueryKind::Watch,
+                span: *span,
+                query,
+            };
+            add_query(alloc, state, command, &request, reads, probes, out)
+        }
+        Command::Keep { name, span, query } => {
+            let request = Request {
+                name,
+                kind: QueryKind::Keep,
+                span: *span,
+                query,
+            };
+            add_query(alloc, state, command, &request, reads, probes, out)
+        }
+        Command::Drop { name } => drop_query(state, command, name, out),
+        _ => change(alloc, state, command, reads, probes, out),
+    }
+}
+
+/// Registers a query and enters its command.
+fn add_query<L: Ledger, M: Ledger>(
+    alloc: Global,
+    state: &mut State,
+    command: &Command,
+    request: &Request,
+    reads: &mut Steps<L>,
+    probes: &mut Steps<M>,
+    out: &mut Vec<u8>,
+) -> Result<(), CommandFault>
+    requires state { IsState state.old.journal state.old }
+    requires printable { IsPrintable (command_view command.now) }
+    requires canonical { spelled (text_of (command_view command.now)) ≡ command_view command.now }
+    requires short { length (text_of (command_view command.now)) ≤ LEXER_LIMIT }
+    requires is { command_view command.now ≡ command_of request.now }
+    ensures state { IsState state.new.journal state.new }
+    ensures done { IsDone (held state.old.journal) (command_view command.now) (held state.new.journal) out.old.items out.new.items result }
+    ensures begins { Begins out.old.items out.new.items }
+    ensures least { reads.old ≤ reads.new }
+    ensures most { reads.new ≤ reads.old + most_looks (held state.old.journal) (command_view command.now) }
+    ensures unread { IfErr result (λ fault. IsRefused fault → reads.new ≡ reads.old) }
+    ensures unprobed { IfErr result (λ fault. IsRefused fault → probes.new ≡ probes.old) }
+{
+    let resolved = judge(alloc, &state.database, &state.live, request)?;
+    admit(&state.journal, &mut state.line, command)?;
+    register(
+        alloc,
+        &state.database,
+        &mut state.live,
+        request,
+        resolved,
+        reads,
+        probes,
+        out,
+    )?;
+    let now = state.database.clock();
+    match enter(&mut state.journal, now, &state.line, out) {
+        Ok(()) => Ok(()),
+        Err(AllocError) => {
+            state.live.drop_query(request.name);
+            Err(CommandFault::NoMemory)
+        }
+    }
+}
+
+/// Drops a registered query, once its command is entered.
+fn drop_query(
+    state: &mut State,
+    command: &Command,
+    name: &Word,
+    out: &mut Vec<u8>,
+) -> Result<(), CommandFault>
+    requires state { IsState state.old.journal state.old }
+    requires printable { IsPrintable (command_view command.now) }
+    requires canonical { spelled (text_of (command_view command.now)) ≡ command_view command.now }
+    requires short { length (text_of (command_view command.now)) ≤ LEXER_LIMIT }
+    requires is { command_view command.now ≡ Tree.Drop name.now }
+    ensures state { IsState state.new.journal state.new }
+    ensures done { IsDone (held state.old.journal) (command_view command.now) (held state.new.journal) out.old.items out.new.items result }
+    ensures begins { Begins out.old.items out.new.items }
+{
+    if !state.live.has(name) {
+        return Err(CommandFault::Refused(Refusal::UnknownName));
+    }
+    admit(&state.journal, &mut state.line, command)?;
+    enter(&mut state.journal, state.database.clock(), &state.line, out)?;
+    state.live.drop_query(name);
+    Ok(())
+}
+
+/// Carries out a command that changes the database.
+fn change<L: Ledger, M: Ledger>(
+    alloc: Global,
+    state: &mut State,
+    command: &Command,
+    reads: &mut Steps<L>,
+    probes: &mut Steps<M>,
+    out: &mut Vec<u8>,
+) -> Result<(), CommandFault>
+    requires state { IsState state.old.journal state.old }
+    requires printable { IsPrintable (command_view command.now) }
+    requires canonical { spelled (text_of (command_view command.now)) ≡ command_view command.now }
+    requires short { length (text_of (command_view command.now)) ≤ LEXER_LIMIT }
+    requires kept { is_kept (command_view command.now) ≡ true }
+    requires gap { is_gap (command_view command.now) ≡ false }
+    requires data { is_on_queries (command_view command.now) ≡ false }
+    ensures state { IsState state.new.journal state.new }
+    ensures done { IsDone (held state.old.journal) (command_view command.now) (held state.new.journal) out.old.items out.new.items result }
+    ensures begins { Begins out.old.items out.new.items }
+    ensures least { reads.old ≤ reads.new }
+    ensures most { reads.new ≤ reads.old + most_looks (held state.old.journal) (command_view command.now) }
+    ensures unread { IfErr result (λ fault. IsRefused fault → reads.new ≡ reads.old) }
+    ensures unprobed { IfErr result (λ fault. IsRefused fault → probes.new ≡ probes.old) }
+    ensures plain { is_query (command_view command.now) ≡ false → probes.new ≡ probes.old }
+{
+    let before = state.database.clock();
+    let change = state.database.attempt(alloc, command)?;
+    match follow(alloc, state, command, &change, before, reads, probes, out) {
+        Ok(fresh) => {
+            // The command is entered, so nothing takes its change back any more.
+            drop(change);
+            settle(&mut state.live, fresh, state.database.clock());
+            queries_go_on_fitting_worlds();
+            writes_to_no_object_keep_queries_current();
+            committed_writes_keep_queries_current();
+            prepared_writes_renew_queries();
+            prepared_changes_tell_what_a_write_changes();
+            current_queries_tell_their_answers();
+            Ok(())
+        }
+        Err(fault) => {
+            state.database.take_back(change);
+            Err(fault)
+        }
+    }
+}
+
+/// Makes what was prepared of a write, if it was; else time may have passed to tick `now`.
+fn settle(live: &mut Live, fresh: Option<Fresh>, now: u32)
+    requires { IfSome fresh (IsPrepared live.old) }
+    ensures made { Settles fresh live.old live.new }
+    ensures before { AreKept live.old }
+    ensures after { AreKept live.new }
+{
+    live.are_kept();
+    match fresh {
+        Some(fresh) => live.commit(fresh),
+        None => live.advance(now),
+    }
+    live.are_kept();
+}
+
+/// What follows a change that was made: the lines of what changes for the registered queries, and the entry. Answers
+/// what a write makes of the rows, which is then to be made. After an error the journal and the rows are as before.
+fn follow<L: Ledger, M: Ledger>(
+    alloc: Global,
+    state: &mut State,
+    command: &Command,
+    change: &Change,
+    before: u32,
+    reads: &mut Steps<L>,
+    probes: &mut Steps<M>,
+    out: &mut Vec<u8>,
+) -> Result<Option<Fresh>, CommandFault>
+    requires changed { IsChanged (command_view command.now) before change.now state.old }
+    requires printable { IsPrintable (command_view command.now) }
+    requires canonical { spelled (text_of (command_view command.now)) ≡ command_view command.now }
+    requires short { length (text_of (command_view command.now)) ≤ LEXER_LIMIT }
+    requires kept { is_kept (command_view command.now) ≡ true }
+    requires gap { is_gap (command_view command.now) ≡ false }
+    requires data { is_on_queries (command_view command.now) ≡ false }
+    ensures entered { IfOk result (λ _. state.new.journal ≡ state.old.journal ++ (before, command_view command.now) ∷ []) }
+    ensures accepted { IfOk result (λ _. fault_of (held state.old.journal) (command_view command.now) ≡ None) }
+    ensures prepared { IfOk result (Prepares (command_view command.now) change.now state.old.database state.old.live) }
+    ensures told { IfOk result (λ f. out.new.items
+        ≡ out.old.items ++ lines_told (command_view command.now) before state.old.database state.old.live f ++ ok_line) }
+    ensures stops { IfErr result (λ fault. IsDone (held state.old.journal) (command_view command.now) (held state.new.journal) out.old.items out.new.items (Err fault)) }
+    ensures database { state.new.database ≡ state.old.database }
+    ensures live { state.new.live ≡ state.old.live }
+    ensures begins { Begins out.old.items out.new.items }
+    ensures least { reads.old ≤ reads.new }
+    ensures most { reads.new ≤ reads.old + most_looks (held state.old.journal) (command_view command.now) }
+    ensures unread { IfErr result (λ fault. IsRefused fault → reads.new ≡ reads.old) }
+    ensures unprobed { IfErr result (λ fault. IsRefused fault → probes.new ≡ probes.old) }
+    ensures plain { is_query (command_view command.now) ≡ false → probes.new ≡ probes.old }
+{
+    admit(&state.journal, &mut state.line, command)?;
+    let fresh = tell_change(alloc, state, command, change, before, reads, probes, out)?;
+    enter(&mut state.journal, before, &state.line, out)?;
+    Ok(fresh)
+}
+
+/// Writes what a change that was made changes for the registered queries. Answers what a write makes of the rows.
+fn tell_change<L: Ledger, M: Ledger>(
+    alloc: Global,
+    state: &State,
+    command: &Command,
+    change: &Change,
+    before: u32,
+    reads: &mut Steps<L>,
+    probes: &mut Steps<M>,
+    out: &mut Vec<u8>,
+) -> Result<Option<Fresh>, AllocError>
+    requires changed { IsChanged (command_view command.now) before change.now state.now }
+    requires reached { AreReached [] (state.now.journal ++ (before, command_view command.now) ∷ []) }
+    ensures prepared { IfOk result (Prepares (command_view command.now) change.now state.now.database state.now.live) }
+    ensures told { IfOk result (λ f. out.new.items
+        ≡ out.old.items ++ lines_told (command_view command.now) before state.now.database state.now.live f) }
+    ensures begins { Begins out.old.items out.new.items }
+    ensures least { reads.old ≤ reads.new }
+    ensures most { reads.new ≤ reads.old + most_looks (held state.now.journal) (command_view command.now) }
+    ensures plain { is_query (command_view command.now) ≡ false → probes.new ≡ probes.old }
+{
+    match command {
+        Command::Tick { .. } => {
+            pass(alloc, &state.database, &state.live, before, out)?;
+            Ok(None)
+        }
+        Command::Insert { .. } | Command::Update { .. } | Command::Remove { .. } => {
+            tell_write(alloc, state, command, change, before, reads, probes, out)
+        }
+        _ => Ok(None),
+    }
+}
+
+/// The same of a command that writes to an object.
+fn tell_write<L: Ledger, M: Ledger>(
+    alloc: Global,
+    state: &State,
+    command: &Command,
+    change: &Change,
+    before: u32,
+    reads: &mut Steps<L>,
+    probes: &mut Steps<M>,
+    out: &mut Vec<u8>,
+) -> Result<Option<Fresh>, AllocError>
+    requires changed { IsChanged (command_view command.now) before change.now state.now }
+    requires reached { AreReached [] (state.now.journal ++ (before, command_view command.now) ∷ []) }
+    requires write { writes_object (command_view command.now) ≡ true }
+    ensures prepared { IfOk result (Prepares (command_view command.now) change.now state.now.database state.now.live) }
+    ensures told { IfOk result (λ f. out.new.items
+        ≡ out.old.items ++ lines_told (command_view command.now) before state.now.database state.now.live f) }
+    ensures begins { Begins out.old.items out.new.items }
+    ensures least { reads.old ≤ reads.new }
+    ensures most { reads.new ≤ reads.old + most_looks (held state.now.journal) (command_view command.now) }
+{
+    queries_go_on_fitting_worlds();
+    let (database, live) = (&state.database, &state.live);
+    match change {
+        Change::Object(done) => {
+            let fresh = renew(alloc, database, live, done.id, reads, probes, out)?;
+            Ok(Some(fresh))
+        }
+        Change::Class | Change::Region | Change::Clock(_) => Ok(None),
+    }
+}
