@@ -1,2 +1,1 @@
 pub mod ResolvedLemmas
-pub mod SetLemmas

@@ -22,6 +22,3 @@ pub use limits::{DYNAMIC_BOUND, QUERY_LIMIT, TIME_BOUND};
 pub use tree::{ClassNo, RAtom, RFormula, RQuery, RSigned, RTerm, RUnit};
 pub use value::{Env, Value, ValueKind};
 pub use var_set::{VarSet, free, free_in_term};
-
-#[cfg(test)]
-mod tests;

@@ -1,12 +1,12 @@
 //! The object variables of formulas.
 
-ghost use Rattle.std.specs.Prelude.{◌≡◌, ◌==◌, ◌<◌, ℕ};
+ghost use Rattle.std.specs.Prelude.{◌≡◌, ◌==◌, ◌<◌, ◌||◌, false, ℕ};
 ghost use Rattle.std.specs.List.{list_any};
 ghost use Rattle.formula.specs.Tree.{formula_view};
 ghost use Rattle.formula.specs.VarSet.{has};
 ghost use Rattle.formula.specs.Variables.{atom_has, has_variable, term_has, unit_has};
 
-use crate::{RAtom, RFormula, RTerm, RUnit};
+use crate::{RAtom, RFormula, RSigned, RTerm, RUnit};
 use formula_shape::OBJECT_LIMIT;
 
 /// A set of object variables.
@@ -23,72 +23,97 @@ impl VarSet {
     {
         self.members.get(v as usize).copied().unwrap_or(false)
     }
+
+    // No variable.
+    #[inline]
+    fn none() -> VarSet
+        ensures { (v : ℕ) → has result v ≡ false }
+    {
+        VarSet {
+            members: [false; OBJECT_LIMIT],
+        }
+    }
+
+    // One variable; none where it is past the fourth.
+    #[inline]
+    fn one(object: u8) -> VarSet
+        ensures { (v : ℕ) → v < OBJECT_LIMIT → has result v ≡ (object == v) }
+    {
+        VarSet {
+            members: [object == 0, object == 1, object == 2, object == 3],
+        }
+    }
+
+    // The variables of either.
+    #[inline]
+    fn union(self, other: VarSet) -> VarSet
+        ensures { (v : ℕ) → has result v ≡ (has self v || has other v) }
+    {
+        let [a, b, c, d] = self.members;
+        let [k, l, m, n] = other.members;
+        VarSet {
+            members: [a | k, b | l, c | m, d | n],
+        }
+    }
 }
 
-fn is_listed(objects: &[u8], v: u8) -> bool
-    ensures { result ≡ list_any (λ o. o == v) objects.now }
-{
-    objects.iter().any(|object| *object == v)
-}
-
-fn is_in_unit(unit: &RUnit, v: u8) -> bool
-    ensures { result ≡ unit_has v unit.now }
+// The variable of a factor, if it has one.
+fn free_in_unit(unit: &RUnit) -> VarSet
+    ensures { (v : ℕ) → v < OBJECT_LIMIT → has result v ≡ unit_has v unit.now }
 {
     match unit {
-        RUnit::Attr(object, _, _) | RUnit::Sub(object, _, _) => *object == v,
-        RUnit::Literal(_) | RUnit::Text(_) | RUnit::Var(_, _) | RUnit::Time => false,
+        RUnit::Attr(object, _, _) | RUnit::Sub(object, _, _) => VarSet::one(*object),
+        RUnit::Literal(_) | RUnit::Text(_) | RUnit::Var(_, _) | RUnit::Time => VarSet::none(),
     }
 }
 
-fn is_in_term(term: &RTerm, v: u8) -> bool
-    ensures { result ≡ term_has v term.now }
+// The variables of these factors.
+fn free_in_factors(factors: &[RSigned]) -> VarSet
+    ensures { (v : ℕ) → v < OBJECT_LIMIT → has result v ≡ list_any (λ s. unit_has v s.unit) factors.now }
 {
-    term.factors
-        .items()
-        .iter()
-        .any(|factor| is_in_unit(&factor.unit, v))
+    match factors.split_first() {
+        Some((factor, later)) => free_in_unit(&factor.unit).union(free_in_factors(later)),
+        None => VarSet::none(),
+    }
 }
 
-fn is_in_atom(atom: &RAtom, v: u8) -> bool
-    ensures { result ≡ atom_has v atom.now }
+// These variables as a set.
+fn listed(objects: &[u8]) -> VarSet
+    ensures { (v : ℕ) → v < OBJECT_LIMIT → has result v ≡ list_any (λ o. o == v) objects.now }
+{
+    match objects.split_first() {
+        Some((object, later)) => VarSet::one(*object).union(listed(later)),
+        None => VarSet::none(),
+    }
+}
+
+fn free_in_atom(atom: &RAtom) -> VarSet
+    ensures { (v : ℕ) → v < OBJECT_LIMIT → has result v ≡ atom_has v atom.now }
 {
     match atom {
-        RAtom::Compare(left, _, right) => is_in_term(left, v) || is_in_term(right, v),
-        RAtom::Inside(object, _) | RAtom::Outside(object, _) => *object == v,
-        RAtom::Dist(from, to, _, _) => *from == v || *to == v,
-        RAtom::Sphere(_, objects) => is_listed(objects.items(), v),
+        RAtom::Compare(left, _, right) => free_in_term(left).union(free_in_term(right)),
+        RAtom::Inside(object, _) | RAtom::Outside(object, _) => VarSet::one(*object),
+        RAtom::Dist(from, to, _, _) => VarSet::one(*from).union(VarSet::one(*to)),
+        RAtom::Sphere(_, objects) => listed(objects.items()),
     }
 }
 
-fn is_in_formula(f: &RFormula, v: u8) -> bool
-    ensures { result ≡ has_variable v (formula_view f.now) }
-{
-    match f {
-        RFormula::Truth(_) => false,
-        RFormula::Atom(atom) => is_in_atom(atom, v),
-        RFormula::Not(part) => is_in_formula(part, v),
-        RFormula::And(left, right) => is_in_formula(left, v) || is_in_formula(right, v),
-        RFormula::Or(left, right) => is_in_formula(left, v) || is_in_formula(right, v),
-        RFormula::Next(part) => is_in_formula(part, v),
-        RFormula::Eventually(part) => is_in_formula(part, v),
-        RFormula::Always(part) => is_in_formula(part, v),
-        RFormula::Bounded(_, _, part) => is_in_formula(part, v),
-        RFormula::Until(_, _, left, right) => is_in_formula(left, v) || is_in_formula(right, v),
-        RFormula::Assign(_, term, part) => is_in_term(term, v) || is_in_formula(part, v),
-    }
-}
-
-/// The object variables of a formula. Takes no memory.
+/// The object variables of a formula, by one walk over it. Takes no memory.
 pub fn free(f: &RFormula) -> VarSet
     ensures { (v : ℕ) → v < OBJECT_LIMIT → has result v ≡ has_variable v (formula_view f.now) }
 {
-    VarSet {
-        members: [
-            is_in_formula(f, 0),
-            is_in_formula(f, 1),
-            is_in_formula(f, 2),
-            is_in_formula(f, 3),
-        ],
+    match f {
+        RFormula::Truth(_) => VarSet::none(),
+        RFormula::Atom(atom) => free_in_atom(atom),
+        RFormula::Not(part) => free(part),
+        RFormula::And(left, right) => free(left).union(free(right)),
+        RFormula::Or(left, right) => free(left).union(free(right)),
+        RFormula::Next(part) => free(part),
+        RFormula::Eventually(part) => free(part),
+        RFormula::Always(part) => free(part),
+        RFormula::Bounded(_, _, part) => free(part),
+        RFormula::Until(_, _, left, right) => free(left).union(free(right)),
+        RFormula::Assign(_, term, part) => free_in_term(term).union(free(part)),
     }
 }
 
@@ -96,12 +121,5 @@ pub fn free(f: &RFormula) -> VarSet
 pub fn free_in_term(term: &RTerm) -> VarSet
     ensures { (v : ℕ) → v < OBJECT_LIMIT → has result v ≡ term_has v term.now }
 {
-    VarSet {
-        members: [
-            is_in_term(term, 0),
-            is_in_term(term, 1),
-            is_in_term(term, 2),
-            is_in_term(term, 3),
-        ],
-    }
+    free_in_factors(term.factors.items())
 }
