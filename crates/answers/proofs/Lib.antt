@@ -2,7 +2,6 @@ pub mod AnswerLemmas
 pub mod AskLemmas
 pub mod BelowLemmas
 pub mod ObjectLemmas
-pub mod PadLemmas
 pub mod ProductLemmas
 pub mod QueryLemmas
 pub mod ReadLemmas

@@ -8,7 +8,6 @@
 mod asking;
 mod evaluating;
 mod laws;
-mod padding;
 mod told;
 mod world;
 

@@ -8,7 +8,6 @@ ghost use Rattle.history.specs.History.{cells_at};
 ghost use Rattle.object_store.specs.Contents.{history_of};
 ghost use Rattle.answers.specs.Asking.{CanAskAtom, CanAskTerm, told_by};
 
-use crate::padding::padded;
 use atoms::{ValueRun, absence, atom_ticks, value_runs};
 use evaluator::Interpreter;
 use formula::{Binding, Env, RAtom, RTerm};
@@ -48,11 +47,10 @@ impl Interpreter<IntervalSet> for StoredWorld<'_> {
         reads: &mut Steps<L>,
         probes: &mut Steps<M>,
     ) -> Result<IntervalSet, AllocError> {
-        let binding = padded(binding);
         let ticks = atom_ticks(
             alloc,
             atom,
-            &binding,
+            binding,
             env,
             self.store,
             self.regions,
@@ -72,8 +70,7 @@ impl Interpreter<IntervalSet> for StoredWorld<'_> {
         w: Window,
         reads: &mut Steps<L>,
     ) -> Result<Vec<ValueRun>, AllocError> {
-        let binding = padded(binding);
-        let runs = value_runs(alloc, term, &binding, env, self.store, w, reads)?;
+        let runs = value_runs(alloc, term, binding, env, self.store, w, reads)?;
         Ok(runs)
     }
 

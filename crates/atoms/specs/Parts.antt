@@ -1,7 +1,8 @@
 -- The timelines of some variables, and what a common part of them shows of each variable.
-use Rattle.std.specs.Prelude.{◌≡◌, ℕ, ◌+◌, ◌<◌, ◌≤◌, ◌==◌, ⊤, Option, None, Some, is_some, option_and_then, unwrap_or, List, [], ◌∷◌, length, slice_get, slice_index, IsTrue, if◌then◌else◌}
+use Rattle.std.specs.Prelude.{◌≡◌, ℕ, ◌+◌, ◌<◌, ◌≤◌, ◌==◌, ⊤, Bool, Option, None, Some, is_some, option_and_then, unwrap_or, List, [], ◌∷◌, length, slice_get, slice_index, IsTrue, if◌then◌else◌}
 use Rattle.std.specs.List.{list_all}
 use Rattle.std.specs.Option.{option_copied, option_map_or}
+use Rattle.formula_shape.specs.declared.limits.TheConstants.{OBJECT_LIMIT}
 use Rattle.motion.specs.Pieces.{AreSteadyCells}
 use Rattle.motion.specs.Dynamic.{Dynamic}
 use Rattle.motion.specs.Pieces.{IsLinear}
@@ -12,9 +13,9 @@ use Rattle.object_store.specs.Contents.{Contents}
 use Rattle.meaning.specs.Trace.{Trace}
 use Rattle.atoms.specs.declared.parts.Part.{Part}
 
--- the variable has an object in the binding, and it is one of the store
+-- the variable is one that a query may have, and its object in the binding, which is 0 past the end, is one of the store
 pub record HasObject (b : List ℕ) (s : Contents) (v : ℕ) : Type 0 where
-  pub bound : v < length b
+  pub few : v < OBJECT_LIMIT
   pub stored : slice_index b v < length s.objects
 
 -- the timeline of an object by its number
@@ -61,3 +62,10 @@ AreAscendingFrom low (v ∷ variables) = (low ≤ v) × AreAscendingFrom (v + 1)
 
 abbrev pub AreAscending : List ℕ → Type 0
 AreAscending variables = AreAscendingFrom 0 variables
+
+abbrev pub kept : Bool → ℕ → List ℕ → List ℕ
+kept b v variables = if b then v ∷ variables else variables
+
+-- those of the four variables that are chosen, ascending
+abbrev pub chosen : Bool → Bool → Bool → Bool → List ℕ
+chosen a b c d = kept a 0 (kept b 1 (kept c 2 (kept d 3 [])))

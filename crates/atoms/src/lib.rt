@@ -27,6 +27,3 @@ pub use present::{absence, presence};
 pub use ticks::atom_ticks;
 pub use value_list::ValueRun;
 pub use values::value_runs;
-
-#[cfg(test)]
-mod tests;

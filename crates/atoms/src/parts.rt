@@ -2,7 +2,6 @@
 ghost use Rattle.std.specs.Prelude.{◌≡◌, ◌+◌, ◌<◌, ◌≤◌, ℕ, All, IfSome, None, length, map, slice_index, slice_index_or, take, unwrap_or};
 ghost use Rattle.std.specs.Option.{option_copied};
 ghost use Rattle.tick_set.specs.declared.spans.TheConstants.{LAST_TICK};
-ghost use Rattle.formula_shape.specs.declared.limits.TheConstants.{OBJECT_LIMIT};
 ghost use Rattle.motion.specs.Timeline.{state_at};
 ghost use Rattle.object_store.specs.Contents.{history_of};
 ghost use Rattle.courses.specs.Parts.{epochs_of_each, pieces_of_all};
@@ -11,7 +10,7 @@ ghost use Rattle.meaning.specs.Value.{cell_in};
 ghost use Rattle.atoms.specs.Parts.{AreAscending, AreBegun, AreSteady, HasObject, IsSteadyCell, beside, epoch_of, epochs_of, held, shown, trace_by};
 
 use courses::{MOST_TIMELINES, common_from};
-use formula::{Binding, OBJECT_LIMIT};
+use formula::Binding;
 use motion::{Cell, Epoch, Timeline};
 use object_store::Store;
 use std::sync::ledger::Ledger;
@@ -65,31 +64,35 @@ fn item_at<'a>(epochs: &[Option<&'a Epoch>], place: usize) -> Option<&'a Epoch>
     *epochs.get(place)?
 }
 
-/// The timelines of the objects of some variables, each looked up once. Past the variables the array has
-/// the timeline `none`.
-pub fn timelines_of<'a, L: Ledger>(
-    none: &'a Timeline,
+/// Puts the timelines of the objects of some variables first in an array, each looked up once. The others stay as
+/// they are.
+pub fn fill_timelines<'a, L: Ledger>(
+    timelines: &mut [&'a Timeline; MOST_TIMELINES],
     variables: &[u8],
     b: &Binding,
     store: &'a Store,
     reads: &mut Steps<L>,
-) -> [&'a Timeline; MOST_TIMELINES]
+)
     requires few { length variables.now ≤ MOST_TIMELINES }
     requires there { All (HasObject b.now store.now) variables.now }
-    ensures epochs { take (length variables.now) (epochs_of_each result)
+    ensures epochs { take (length variables.now) (epochs_of_each timelines.new)
         ≡ map (λ v. epochs_of store.now (slice_index b.now v)) variables.now }
     ensures states { All (λ v. (t : ℕ) → trace_of (history_of store.now) (slice_index b.now) v t
         ≡ state_at (epochs_of store.now (slice_index b.now v)) t) variables.now }
     ensures step { reads.new ≡ reads.old + length variables.now }
-    ensures bound { length b.now ≤ OBJECT_LIMIT }
 {
-    let ids = b.ids();
-    let mut timelines = [none; MOST_TIMELINES];
     for k in 0..variables.len() {
-        let id = ids[variables[k] as usize];
+        let id = object_of(b, variables[k]);
         timelines[k] = store.timeline(id, reads);
     }
-    timelines
+}
+
+// The object of a variable in a binding, 0 past its end.
+#[inline]
+fn object_of(b: &Binding, v: u8) -> u32
+    ensures { result ≡ slice_index b.now v }
+{
+    b.get(v as usize).unwrap_or(0)
 }
 
 /// The common part of the timelines of these variables that begins at tick `at`. It ends by `last`, and the

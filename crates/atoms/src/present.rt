@@ -1,5 +1,5 @@
 //! The ticks of a window at which an object is present, and those at which it isn't.
-ghost use Rattle.std.specs.Prelude.{◌≡◌, ◌+◌, ◌<◌, ◌&&◌, not, ℕ, is_some, length, option_to_list, IfOk};
+ghost use Rattle.std.specs.Prelude.{◌≡◌, ◌+◌, ◌<◌, ◌≤◌, ◌&&◌, not, ℕ, true, is_some, length, option_to_list, IfOk, IsTrue};
 ghost use Rattle.std.specs.Option.{option_copied};
 ghost use Rattle.history.specs.History.{cells_at};
 ghost use Rattle.motion.specs.Timeline.{state_at};
@@ -51,8 +51,21 @@ pub fn absence<L: Ledger>(
     ensures step { reads.new ≡ reads.old + 1 }
 {
     let timeline = store.timeline(id, reads);
+    if is_there_from(timeline, w.lo) {
+        return Ok(IntervalSet::from_runs(Vec::new(alloc)));
+    }
     let runs = runs_where(alloc, false, timeline, w)?;
     Ok(IntervalSet::from_runs(runs))
+}
+
+// Whether the last epoch of a timeline is in force at this tick, and has an object: that is there from then on.
+fn is_there_from(timeline: &Timeline, lo: u32) -> bool
+    ensures { IsTrue result → (t : ℕ) → lo ≤ t → is_some (state_at timeline.now t) ≡ true }
+{
+    if !timeline.is_begun_by(lo) {
+        return false;
+    }
+    has_object(timeline.last())
 }
 
 // The runs of the ticks at which the object of a timeline is present, or those at which it isn't.

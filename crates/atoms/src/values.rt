@@ -16,11 +16,11 @@ ghost use Rattle.atoms.specs.Parts.{AreAscending, HasObject, trace_by};
 ghost use Rattle.atoms.specs.Sizes.{is_sized_term};
 ghost use Rattle.atoms.specs.ValueRuns.{AreValueRuns, HasValuesInRange};
 
-use crate::parts::{part_from, timelines_of};
+use crate::parts::{fill_timelines, part_from};
 use crate::terms::{Course, course_of};
 use crate::trends::Trend;
 use crate::value_list::{ValueRun, append_run};
-use crate::variables::Variables;
+use crate::variables::variables_of_term;
 use courses::MOST_TIMELINES;
 use fixed_point::{FIX_LIMIT, Fix};
 use formula::{Binding, Env, FACTOR_LIMIT, RTerm, Value};
@@ -56,9 +56,32 @@ pub fn value_runs<L: Ledger>(
     ensures reads { reads.new ≡ reads.old + length (term_variables term.now) }
 {
     let none = Timeline::new(alloc);
-    let variables = Variables::of_term(term);
-    let variables = variables.items();
-    let timelines = timelines_of(&none, variables, b, store, reads);
+    runs_of(alloc, term, b, env, store, &none, w, reads)
+}
+
+// The same, where a timeline stands for each that isn't asked for.
+fn runs_of<'x, L: Ledger>(
+    alloc: Global,
+    term: &RTerm,
+    b: &Binding,
+    env: &Env,
+    store: &'x Store,
+    none: &'x Timeline,
+    w: Window,
+    reads: &mut Steps<L>,
+) -> Result<Vec<ValueRun>, AllocError>
+    requires sized { IsTrue (is_sized_term term.now) }
+    requires bound { (v : ℕ) → term_has v term.now ≡ true → HasObject b.now store.now v }
+    requires in_range { HasValuesInRange
+        (term_value (trace_of (history_of store.now) (slice_index b.now)) term.now env.now) w.lo (w.hi + 1) }
+    ensures runs { IfOk result (λ runs. AreValueRuns
+        (term_value (trace_of (history_of store.now) (slice_index b.now)) term.now env.now)
+        w.lo (w.hi + 1) runs.items) }
+    ensures reads { reads.new ≡ reads.old + length (term_variables term.now) }
+{
+    let variables = variables_of_term(term);
+    let mut timelines = [none; MOST_TIMELINES];
+    fill_timelines(&mut timelines, variables, b, store, reads);
     let timelines = &timelines[..variables.len()];
     let runs = term_runs(alloc, term, env, variables, timelines, w)?;
     Ok(runs)

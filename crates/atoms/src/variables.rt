@@ -1,85 +1,66 @@
 //! The object variables of atoms and terms.
-ghost use Rattle.std.specs.Prelude.{◌≡◌, ◌==◌, ◌+◌, ◌<◌, ◌≤◌, ◌∷◌, [], ◌++◌, length, if◌then◌else◌};
+ghost use Rattle.std.specs.Prelude.{◌≡◌, ◌==◌};
 ghost use Rattle.std.specs.List.{list_any};
 ghost use Rattle.formula.specs.Variables.{atom_has, term_has, unit_has};
 ghost use Rattle.meaning.specs.Reads.{atom_variables, term_variables};
+ghost use Rattle.atoms.specs.Parts.{chosen};
 
-use formula::{OBJECT_LIMIT, RAtom, RTerm, RUnit};
-use std::marker::Model;
+use formula::{RAtom, RTerm, RUnit};
 
-/// Up to four object variables. A contract sees the list of their numbers.
-#[derive(Debug, Drop)]
-pub struct Variables {
-    // Those past the length are 0.
-    items: [u8; OBJECT_LIMIT],
-    len: u8,
+/// The variables of an atom, ascending, each once.
+pub fn variables_of_atom(atom: &RAtom) -> &'static [u8]
+    ensures { result.now ≡ atom_variables atom.now }
+{
+    match atom {
+        RAtom::Inside(v, _) | RAtom::Outside(v, _) => chosen(*v == 0, *v == 1, *v == 2, *v == 3),
+        RAtom::Dist(v, w, _, _) => chosen(
+            *v == 0 || *w == 0,
+            *v == 1 || *w == 1,
+            *v == 2 || *w == 2,
+            *v == 3 || *w == 3,
+        ),
+        RAtom::Compare(_, _, _) | RAtom::Sphere(_, _) => chosen(
+            is_in_atom(atom, 0),
+            is_in_atom(atom, 1),
+            is_in_atom(atom, 2),
+            is_in_atom(atom, 3),
+        ),
+    }
 }
 
-impl Model for Variables {
-    ghost use Rattle.std.specs.Prelude.{List, ℕ, take};
-    ghost use Rattle.exact.specs.Padded.{IsPadded};
-    ghost use Rattle.formula_shape.specs.declared.limits.TheConstants.{OBJECT_LIMIT};
-
-    ghost Value = { List ℕ };
-
-    ghost view = { λ a. take a.len a.items };
-
-    ghost invariant = { λ a. IsPadded 0 OBJECT_LIMIT a.items a.len };
+/// The variables of a term, ascending, each once.
+pub fn variables_of_term(term: &RTerm) -> &'static [u8]
+    ensures { result.now ≡ term_variables term.now }
+{
+    chosen(
+        is_in_term(term, 0),
+        is_in_term(term, 1),
+        is_in_term(term, 2),
+        is_in_term(term, 3),
+    )
 }
 
-impl Variables {
-    /// The variables of an atom, ascending, each once.
-    pub fn of_atom(atom: &RAtom) -> Variables
-        ensures { result ≡ atom_variables atom.now }
-    {
-        let mut made = Variables::new();
-        made.add(0, is_in_atom(atom, 0));
-        made.add(1, is_in_atom(atom, 1));
-        made.add(2, is_in_atom(atom, 2));
-        made.add(3, is_in_atom(atom, 3));
-        made
-    }
-
-    /// The variables of a term, ascending, each once.
-    pub fn of_term(term: &RTerm) -> Variables
-        ensures { result ≡ term_variables term.now }
-    {
-        let mut made = Variables::new();
-        made.add(0, is_in_term(term, 0));
-        made.add(1, is_in_term(term, 1));
-        made.add(2, is_in_term(term, 2));
-        made.add(3, is_in_term(term, 3));
-        made
-    }
-
-    fn new() -> Variables
-        ensures { result ≡ [] }
-    {
-        Variables {
-            items: [0; OBJECT_LIMIT],
-            len: 0,
-        }
-    }
-
-    // Adds a variable where it is one of them.
-    fn add(&mut self, v: u8, is_one: bool)
-        requires { length self.old < OBJECT_LIMIT }
-        ensures value { self.new ≡ self.old ++ (if is_one then v ∷ [] else []) }
-        ensures few { length self.new ≤ length self.old + 1 }
-    {
-        if is_one {
-            self.items[self.len as usize] = v;
-            self.len += 1;
-        }
-    }
-
-    /// The numbers of the variables.
-    #[inline]
-    pub fn items(&self) -> &[u8]
-        ensures value { result.now ≡ self.now }
-        ensures few { length self.now ≤ OBJECT_LIMIT }
-    {
-        &self.items[..self.len as usize]
+// Those of the four variables that are chosen, ascending.
+fn chosen(a: bool, b: bool, c: bool, d: bool) -> &'static [u8]
+    ensures { result.now ≡ chosen a b c d }
+{
+    match (a, b, c, d) {
+        (false, false, false, false) => &[],
+        (false, false, false, true) => &[3],
+        (false, false, true, false) => &[2],
+        (false, false, true, true) => &[2, 3],
+        (false, true, false, false) => &[1],
+        (false, true, false, true) => &[1, 3],
+        (false, true, true, false) => &[1, 2],
+        (false, true, true, true) => &[1, 2, 3],
+        (true, false, false, false) => &[0],
+        (true, false, false, true) => &[0, 3],
+        (true, false, true, false) => &[0, 2],
+        (true, false, true, true) => &[0, 2, 3],
+        (true, true, false, false) => &[0, 1],
+        (true, true, false, true) => &[0, 1, 3],
+        (true, true, true, false) => &[0, 1, 2],
+        (true, true, true, true) => &[0, 1, 2, 3],
     }
 }
 

@@ -9,7 +9,7 @@ use Rattle.meaning.specs.Reads.{made_single}
 use Rattle.relation.specs.Frames.{IsIn, IsWider, agrees, size_of}
 use Rattle.relation.specs.Key.{are_known, has_id, ids_of, key_in}
 use Rattle.evaluator.specs.Interpreting.{IsInFor}
-use Rattle.evaluator.specs.Keys.{AreNarrowed, binding_of, narrowed_ids, object_in}
+use Rattle.evaluator.specs.Keys.{AreNarrowed, are_first, binding_of, narrowed_ids, object_in}
 use Rattle.evaluator.proofs.VariableLemmas.{has_variables}
 
 -- a key that an assignment gives has the assignment's objects
@@ -184,3 +184,43 @@ module _ (old : List (List ℕ)) (vars key : List ℕ) (new : List (List ℕ)) (
                   | inl l ↦ ap length (is.ids v l) ∙ ap length (same_ids (ids_of old v) (object_in vars key v) (object_in-none vars key v e))
                   | inr g ↦ ap length (get_or_past new v [] (subst (λ (n : ℕ). n ≤ v) (sym is.many) g)) ∙ sym (ap length (get_or_past old v [] g))
                 ]
+
+-- ---- keys of the first variables
+
+nothing_past : (v : ℕ) → slice_index [] v ≡ slice_index (0 ∷ 0 ∷ 0 ∷ 0 ∷ []) v
+nothing_past zero = refl
+nothing_past (suc zero) = refl
+nothing_past (suc (suc zero)) = refl
+nothing_past (suc (suc (suc zero))) = refl
+nothing_past (suc (suc (suc (suc v)))) = refl
+
+one_first : (x v : ℕ) → slice_index (x ∷ []) v ≡ slice_index (x ∷ 0 ∷ 0 ∷ 0 ∷ []) v
+one_first x zero = refl
+one_first x (suc zero) = refl
+one_first x (suc (suc zero)) = refl
+one_first x (suc (suc (suc zero))) = refl
+one_first x (suc (suc (suc (suc v)))) = refl
+
+two_first : (x y v : ℕ) → slice_index (x ∷ y ∷ []) v ≡ slice_index (x ∷ y ∷ 0 ∷ 0 ∷ []) v
+two_first x y zero = refl
+two_first x y (suc zero) = refl
+two_first x y (suc (suc zero)) = refl
+two_first x y (suc (suc (suc zero))) = refl
+two_first x y (suc (suc (suc (suc v)))) = refl
+
+first_key : (vars key : List ℕ) → are_first vars ≡ true → length key ≡ length vars → (v : ℕ) → slice_index key v ≡ slice_index (binding_of vars key) v
+first_key [] key first many v = absurd (let f : false ≡ true = first in cc)
+first_key (a ∷ []) [] first many v = absurd (omega (arith, many))
+first_key (a ∷ []) (x ∷ []) first many v =
+    one_first x v ∙ (let e : a ≡ 0 = eqb-true a 0 first in λ i. slice_index (binding_of (sym e i ∷ []) (x ∷ [])) v)
+first_key (a ∷ []) (x ∷ y ∷ key) first many v = absurd (omega (arith, many))
+first_key (a ∷ b ∷ []) [] first many v = absurd (omega (arith, many))
+first_key (a ∷ b ∷ []) (x ∷ []) first many v = absurd (omega (arith, many))
+first_key (a ∷ b ∷ []) (x ∷ y ∷ []) first many v =
+    let both = and_parts (a == 0) (b == 1) first in
+    two_first x y v ∙ (let e : a ≡ 0 = eqb-true a 0 both.0 in let h : b ≡ 1 = eqb-true b 1 both.1 in λ i. slice_index (binding_of (sym e i ∷ sym h i ∷ []) (x ∷ y ∷ [])) v)
+first_key (a ∷ b ∷ []) (x ∷ y ∷ z ∷ key) first many v = absurd (omega (arith, many))
+first_key (a ∷ b ∷ c ∷ vars) key first many v = absurd (let f : false ≡ true = first in cc)
+
+pub first_binding : (vars key : List ℕ) → are_first vars ≡ true → length key ≡ length vars → slice_index key ≡ slice_index (binding_of vars key)
+first_binding vars key first many = λ i v. first_key vars key first many v i

@@ -58,17 +58,18 @@ paired_has v pairings.And f g = refl
 paired_has v pairings.Or f g = refl
 paired_has v (pairings.Until form c) f g = refl
 
-pub changed_over : (vars : List ℕ) (c : Change) (f : ResolvedTree) → is_over vars (changed_tree c f) ≡ is_over vars f
-changed_over vars changes.Not f = refl
-changed_over vars changes.Next f = refl
-changed_over vars changes.Eventually f = refl
-changed_over vars changes.Always f = refl
-changed_over vars (changes.Bounded form c) f = refl
+pub changed_over : (size : ℕ → ℕ) (vars : List ℕ) (c : Change) (f : ResolvedTree) → is_over size vars (changed_tree c f) ≡ is_over size vars f
+changed_over size vars changes.Not f = refl
+changed_over size vars changes.Next f = refl
+changed_over size vars changes.Eventually f = refl
+changed_over size vars changes.Always f = refl
+changed_over size vars (changes.Bounded form c) f = refl
 
-pub paired_over : (vars : List ℕ) (p : Pairing) (f g : ResolvedTree) → is_over vars (paired_tree p f g) ≡ (is_over vars f && is_over vars g)
-paired_over vars pairings.And f g = refl
-paired_over vars pairings.Or f g = refl
-paired_over vars (pairings.Until form c) f g = refl
+pub paired_over : (size : ℕ → ℕ) (vars : List ℕ) (p : Pairing) (f g : ResolvedTree) →
+    is_over size vars (paired_tree p f g) ≡ (is_over size vars f && is_over size vars g)
+paired_over size vars pairings.And f g = refl
+paired_over size vars pairings.Or f g = refl
+paired_over size vars (pairings.Until form c) f g = refl
 
 -- ---- truth
 

@@ -1,5 +1,5 @@
 -- The keys of a list of variables, and bindings that have them.
-use Rattle.std.specs.Prelude.{◌≡◌, ⊤, ℕ, ◌<◌, Bool, true, ◌==◌, Option, None, Some, unwrap_or, List, [], ◌∷◌, length, map, if◌then◌else◌}
+use Rattle.std.specs.Prelude.{◌≡◌, ⊤, ℕ, ◌<◌, Bool, true, false, ◌==◌, ◌&&◌, Option, None, Some, unwrap_or, List, [], ◌∷◌, length, map, if◌then◌else◌}
 use Rattle.std.specs.List.{list_all, list_any}
 use Rattle.std.specs.Option.{option_map_or}
 use Rattle.std.specs.Str.{bytes_eq}
@@ -31,6 +31,13 @@ object_in (v ∷ vars) (id ∷ key) var = if v == var then Some id else object_i
 -- an assignment by place that gives the variables the objects of a key, and the others object 0
 abbrev pub binding_of : List ℕ → List ℕ → List ℕ
 binding_of vars key = map (λ v. unwrap_or (object_in vars key v) 0) (0 ∷ 1 ∷ 2 ∷ 3 ∷ [])
+
+-- whether these are the first one or two variables in their order
+abbrev pub are_first : List ℕ → Bool
+are_first [] = false
+are_first (a ∷ []) = a == 0
+are_first (a ∷ b ∷ []) = (a == 0) && (b == 1)
+are_first (a ∷ b ∷ c ∷ vars) = false
 
 -- the objects of a variable where those of a key have the object of the key alone
 abbrev pub narrowed_ids : List (List ℕ) → List ℕ → List ℕ → ℕ → List ℕ

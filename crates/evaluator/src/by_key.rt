@@ -5,6 +5,7 @@ ghost use Rattle.std.specs.List.{list_all};
 ghost use Rattle.formula.specs.Tree.{formula_view};
 ghost use Rattle.formula.specs.Variables.{variables_of};
 ghost use Rattle.formula_shape.specs.declared.limits.TheConstants.{OBJECT_LIMIT};
+ghost use Rattle.relation.specs.Frames.{size_of};
 ghost use Rattle.relation.specs.Key.{key_below, key_in};
 ghost use Rattle.relation.specs.Rows.{IsSameHead, table};
 ghost use Rattle.evaluator.specs.Interpreting.{CanAsk, IsOver};
@@ -16,7 +17,7 @@ ghost use Rattle.evaluator.specs.inner.Filled.{IsFilled, behind};
 use crate::Interpreter;
 use crate::keys::{keys_of, with_first};
 use crate::ticks::ticks_of;
-use crate::variables::binding_of;
+use crate::variables::binding_at;
 use formula::{Binding, Env, RFormula};
 use relation::{Domains, Relation};
 use std::alloc::{AllocError, Global};
@@ -25,7 +26,8 @@ use steps::Steps;
 use tick_set::Window;
 use until_merge::Temporal;
 
-// The rows of a formula whose atoms all have its variables: no other relation is made, nor a list of all keys.
+// The rows of a formula whose atoms are asked no more often so than over their own variables: no other relation is made,
+// nor a list of all keys.
 pub(crate) fn rows_by_key<'d, S: Temporal, I: Interpreter<S>, L: Ledger, M: Ledger>(
     alloc: Global,
     source: &I,
@@ -38,7 +40,7 @@ pub(crate) fn rows_by_key<'d, S: Temporal, I: Interpreter<S>, L: Ledger, M: Ledg
     probes: &mut Steps<M>,
 ) -> Result<Relation<'d, S>, AllocError>
     requires vars { vars.now ≡ variables_of (formula_view f.now) }
-    requires alike { is_over vars.now (formula_view f.now) ≡ true }
+    requires alike { is_over (size_of d.now) vars.now (formula_view f.now) ≡ true }
     requires over { IsOver (length d.now) (formula_view f.now) }
     requires can { CanAsk (I.interpretation source.now) (I.atom_fits source.now w.lo w.hi)
         (I.term_fits source.now w.lo w.hi) d.now w.lo w.hi (formula_view f.now) env.now }
@@ -125,7 +127,7 @@ fn put_row<'d, S: Temporal, I: Interpreter<S>, L: Ledger, M: Ledger>(
     ensures least { reads.old ≤ reads.new }
     ensures most { reads.new ≤ reads.old + reads_here w.lo w.hi (formula_view f.now) }
 {
-    let binding = binding_of(vars, &key);
+    let binding = binding_at(vars, &key);
     let ticks = ticks_of(alloc, source, f, &binding, env, w, reads, probes)?;
     made.put(key, ticks)?;
     Ok(())

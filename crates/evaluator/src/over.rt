@@ -1,22 +1,52 @@
-//! Formulas whose atoms all have the same variables.
+//! Formulas that are evaluated binding by binding.
 
-ghost use Rattle.std.specs.Prelude.{◌≡◌};
+ghost use Rattle.std.specs.Prelude.{◌≡◌, ◌<◌, true};
 ghost use Rattle.formula.specs.Tree.{formula_view};
-ghost use Rattle.evaluator.specs.inner.ByBinding.{is_over};
+ghost use Rattle.relation.specs.Frames.{size_of};
+ghost use Rattle.relation.specs.Key.{are_known, has_id};
+ghost use Rattle.evaluator.specs.inner.ByBinding.{adds_no_choice, asks_no_more, is_over};
 
 use crate::node::Node;
 use crate::variables::variables_of;
 use formula::{RFormula, free, free_in_term};
+use relation::Domains;
 
-// Whether each atom of a formula, and each term whose value it binds, has exactly these variables.
-pub(crate) fn is_over(f: &RFormula, vars: &[u8]) -> bool
-    ensures { result ≡ is_over vars.now (formula_view f.now) }
+// Whether no atom of a formula is asked more often at each key of these variables than at each key of its own, and each
+// term whose value it binds has exactly these variables.
+pub(crate) fn is_over(f: &RFormula, vars: &[u8], d: &Domains) -> bool
+    requires { are_known d.now vars.now ≡ true }
+    ensures { result ≡ is_over (size_of d.now) vars.now (formula_view f.now) }
 {
     match Node::of(f) {
         Node::Truth(_) => true,
-        Node::Atom(_) => variables_of(free(f)) == vars,
-        Node::One(_, part) => is_over(part, vars),
-        Node::Two(_, left, right) => is_over(left, vars) && is_over(right, vars),
-        Node::Assign(a) => variables_of(free_in_term(a.term)) == vars && is_over(a.body, vars),
+        Node::Atom(_) => asks_no_more(variables_of(free(f)), vars, d),
+        Node::One(_, part) => is_over(part, vars, d),
+        Node::Two(_, left, right) => is_over(left, vars, d) && is_over(right, vars, d),
+        Node::Assign(a) => variables_of(free_in_term(a.term)) == vars && is_over(a.body, vars, d),
+    }
+}
+
+// Whether there are no more keys of these variables than of an atom's own ones. An atom without a variable takes no look
+// at a timeline.
+fn asks_no_more(own: &[u8], vars: &[u8], d: &Domains) -> bool
+    requires { are_known d.now vars.now ≡ true }
+    ensures { result ≡ asks_no_more (size_of d.now) vars.now own.now }
+{
+    own.is_empty()
+        || adds_no_choice(own, vars, 0, d)
+            && adds_no_choice(own, vars, 1, d)
+            && adds_no_choice(own, vars, 2, d)
+            && adds_no_choice(own, vars, 3, d)
+}
+
+// Whether a variable gives a key of these variables no more choices than it gives one of an atom's own ones.
+fn adds_no_choice(own: &[u8], vars: &[u8], v: u8, d: &Domains) -> bool
+    requires { are_known d.now vars.now ≡ true }
+    ensures { result ≡ adds_no_choice (size_of d.now) vars.now own.now v }
+{
+    if own.contains(&v) {
+        vars.contains(&v)
+    } else {
+        !vars.contains(&v) || d.of(v).len() <= 1
     }
 }

@@ -54,8 +54,11 @@ pub fn rows_of<'d, S: Temporal, I: Interpreter<S>, L: Ledger, M: Ledger>(
     ensures least { reads.old ≤ reads.new }
     ensures most { reads.new ≤ reads.old + reads_upto d.now w.lo w.hi (formula_view f.now) }
 {
-    let vars = variables_of(free(f));
-    if is_over(f, vars) {
+    // The number of domains bounds the variables.
+    let _ = d.len();
+    let set = free(f);
+    let vars = variables_of(set);
+    if is_over(f, vars, d) {
         let made = rows_by_key(alloc, source, f, vars, d, env, w, reads, probes)?;
         return Ok(made);
     }
@@ -74,7 +77,7 @@ pub fn rows_of<'d, S: Temporal, I: Interpreter<S>, L: Ledger, M: Ledger>(
             Ok(made)
         }
         Node::Assign(a) => {
-            let made = rows_of_assignment(alloc, source, &a, free(f), d, env, w, reads, probes)?;
+            let made = rows_of_assignment(alloc, source, &a, set, d, env, w, reads, probes)?;
             Ok(made)
         }
     }

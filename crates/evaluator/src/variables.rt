@@ -1,9 +1,9 @@
 //! The variables of sets, and what keys have for them.
 
-ghost use Rattle.std.specs.Prelude.{◌≡◌, ◌<◌, ◌≤◌, ◌∷◌, ◌++◌, [], length, map, unwrap_or};
+ghost use Rattle.std.specs.Prelude.{◌≡◌, ◌<◌, ◌≤◌, ◌∷◌, ◌++◌, [], length, map, slice_index, unwrap_or};
 ghost use Rattle.formula.specs.Variables.{variables_in};
 ghost use Rattle.formula.specs.VarSet.{has};
-ghost use Rattle.evaluator.specs.Keys.{binding_of, object_in};
+ghost use Rattle.evaluator.specs.Keys.{are_first, binding_of, object_in};
 
 use formula::{Binding, VarSet};
 
@@ -56,4 +56,27 @@ pub(crate) fn binding_of(vars: &[u8], key: &Binding) -> Binding
     made.push(object_in(vars, ids, 2).unwrap_or(0));
     made.push(object_in(vars, ids, 3).unwrap_or(0));
     made
+}
+
+// A binding that has the objects of a key at the places of its variables, and object 0 at the others. Where these are
+// the first variables the key is one.
+#[tactic(auto, using(crate::proofs::BindingLemmas::first_binding))]
+pub(crate) fn binding_at(vars: &[u8], key: &Binding) -> Binding
+    ensures { slice_index result ≡ slice_index (binding_of vars.now key.now) }
+{
+    if are_first(vars) && key.len() == vars.len() {
+        return *key;
+    }
+    binding_of(vars, key)
+}
+
+// Whether these are the first one or two variables in their order.
+fn are_first(vars: &[u8]) -> bool
+    ensures { result ≡ are_first vars.now }
+{
+    match vars {
+        [a] => *a == 0,
+        [a, b] => *a == 0 && *b == 1,
+        _ => false,
+    }
 }

@@ -23,6 +23,3 @@ pub use domains::Domains;
 pub use row::Row;
 pub use table::Relation;
 use variables::Variables;
-
-#[cfg(test)]
-mod tests;

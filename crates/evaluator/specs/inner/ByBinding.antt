@@ -1,5 +1,5 @@
 -- Formulas that are evaluated binding by binding.
-use Rattle.std.specs.Prelude.{◌≡◌, ⊤, ℕ, ◌+◌, ◌-◌, Bool, true, ◌&&◌, Some, List, slice_index}
+use Rattle.std.specs.Prelude.{◌≡◌, ⊤, ℕ, ◌+◌, ◌-◌, Bool, true, ◌&&◌, ◌||◌, not, nat_le, Some, List, [], slice_index, if◌then◌else◌}
 use Rattle.std.specs.List.{list_any}
 use Rattle.std.specs.Str.{bytes_eq}
 use Rattle.tick_set.specs.Ticks.{within}
@@ -12,13 +12,25 @@ use Rattle.formula.specs.Tree.{ResolvedTree}
 use Rattle.formula.specs.Value.{with_value}
 use Rattle.meaning.specs.Reads.{atom_variables, reads, term_variables}
 use Rattle.meaning.specs.Satisfaction.{Interpretation, sat}
+use Rattle.relation.specs.Key.{has_id}
 use Rattle.evaluator.specs.Keys.{binding_of}
 
--- whether each atom of a formula, and each term whose value it binds, has exactly these variables
-abbrev pub is_over : List ℕ → ResolvedTree → Bool
-is_over vars = shapes.fold_shape (record {
+-- whether a variable gives a key of these variables no more choices than it gives one of these others of its own
+abbrev pub adds_no_choice : (ℕ → ℕ) → List ℕ → List ℕ → ℕ → Bool
+adds_no_choice size vars own v = if has_id own v then has_id vars v else (not (has_id vars v) || nat_le (size v) 1)
+
+-- whether there are no more keys of these variables than of these others of its own, where what has them is asked once
+-- for each key; what has none takes no look at a timeline
+abbrev pub asks_no_more : (ℕ → ℕ) → List ℕ → List ℕ → Bool
+asks_no_more size vars own = bytes_eq own []
+    || (adds_no_choice size vars own 0 && (adds_no_choice size vars own 1 && (adds_no_choice size vars own 2 && adds_no_choice size vars own 3)))
+
+-- whether no atom of a formula is asked more often at each key of these variables than at each key of its own, and each
+-- term whose value it binds has exactly these variables
+abbrev pub is_over : (ℕ → ℕ) → List ℕ → ResolvedTree → Bool
+is_over size vars = shapes.fold_shape (record {
   truth = λ _. true;
-  atom = λ a. bytes_eq (atom_variables a) vars;
+  atom = λ a. asks_no_more size vars (atom_variables a);
   negation = λ b. b;
   later = λ b. b;
   binary = λ b c. b && c;

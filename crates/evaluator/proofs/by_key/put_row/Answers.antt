@@ -1,4 +1,4 @@
-use Rattle.std.proofs.Common.{ℕ, ◌&&◌, List, [], slice_index, refl, ap, ◌∙◌, sym, subst}
+use Rattle.std.proofs.Common.{ℕ, ◌&&◌, [], slice_index, refl, ap, ◌∙◌, sym, subst}
 use Rattle.tick_set.specs.Ticks.{within}
 use Rattle.formula.specs.Tree.{formula_view}
 use Rattle.formula.specs.Variables.{has_variable}
@@ -18,8 +18,8 @@ ticks_of-requires g c =
     let vars = c.args.vars.now in
     let here : IsInFor c.args.made.now.domains (λ v. has_variable v f) (slice_index (binding_of vars c.args.key)) =
     inside_at (λ v. has_variable v f) c.requires.over vars c.requires.vars c.args.made.now.domains c.args.key c.requires.inside in
-    subst (λ (b : List ℕ). CanAskHere (g.I.Interpreter.interpretation c.args.source.now (slice_index b)) (g.I.Interpreter.atom_fits c.args.source.now c.args.w.lo c.args.w.hi (slice_index b)) (g.I.Interpreter.term_fits c.args.source.now c.args.w.lo c.args.w.hi (slice_index b)) c.args.w.lo c.args.w.hi f c.args.env.now)
-    (sym c.binding_of-binding.ensures)
+    subst (λ (b : ℕ → ℕ). CanAskHere (g.I.Interpreter.interpretation c.args.source.now b) (g.I.Interpreter.atom_fits c.args.source.now c.args.w.lo c.args.w.hi b) (g.I.Interpreter.term_fits c.args.source.now c.args.w.lo c.args.w.hi b) c.args.w.lo c.args.w.hi f c.args.env.now)
+    (sym c.binding_at-binding.ensures)
     (can_ask_at (g.I.Interpreter.interpretation c.args.source.now) (g.I.Interpreter.atom_fits c.args.source.now c.args.w.lo c.args.w.hi) (g.I.Interpreter.term_fits c.args.source.now c.args.w.lo c.args.w.hi) c.args.made.now.domains c.args.w.lo c.args.w.hi (slice_index (binding_of vars c.args.key)) f c.args.env.now c.requires.can here)
 
 pub put-requires-clause-inside : goal.put-requires-clause-inside
@@ -29,12 +29,12 @@ put-requires-clause-inside g c =
 pub put-requires-clause-lies : goal.put-requires-clause-lies
 put-requires-clause-lies g c =
     fits_lies (table c.args.vars.now c.args.made.now.domains c.args.w.lo c.args.w.hi []) c.args.made.now c.requires.head c.args.vars.now c.args.made.now.domains c.args.w.lo c.args.w.hi refl g.S.TickSet.member c.in_ok-ticks.ticks
-    (sat (g.I.Interpreter.interpretation c.args.source.now (slice_index c.binding_of-binding.result)) (formula_view c.args.f.now) c.args.env.now c.args.w.hi) c.in_ok-ticks.ensures.ticks
+    (sat (g.I.Interpreter.interpretation c.args.source.now (slice_index c.binding_at-binding.result)) (formula_view c.args.f.now) c.args.env.now c.args.w.hi) c.in_ok-ticks.ensures.ticks
 
 pub returns-clause-rows : goal.returns-clause-rows
 returns-clause-rows g c =
     filled_put g.S.TickSet.member (holds_at (g.I.Interpreter.interpretation c.args.source.now) c.args.vars.now c.args.w.lo c.args.w.hi (formula_view c.args.f.now) c.args.env.now)
     c.args.key c.in_ok-ticks.ticks c.args.made.now c.put.new.self
     (λ t. c.in_ok-ticks.ensures.ticks t
-    ∙ ap (λ (b : List ℕ). within c.args.w.lo c.args.w.hi t && sat (g.I.Interpreter.interpretation c.args.source.now (slice_index b)) (formula_view c.args.f.now) c.args.env.now c.args.w.hi t) c.binding_of-binding.ensures)
+    ∙ ap (λ (b : ℕ → ℕ). within c.args.w.lo c.args.w.hi t && sat (g.I.Interpreter.interpretation c.args.source.now b) (formula_view c.args.f.now) c.args.env.now c.args.w.hi t) c.binding_at-binding.ensures)
     c.in_ok-put.ensures.head c.in_ok-put.ensures.ticks c.in_ok-put.ensures.keys

@@ -37,7 +37,7 @@ put_row-requires-clause-over g c = λ v h. (let o = c.requires.over v h in omega
 
 pub returns-in_err-put_row-clause-most : goal.returns-in_err-put_row-clause-most
 returns-in_err-put_row-clause-most g c =
-    by_keys c.args.d.now c.args.w.lo c.args.w.hi c.args.vars.now (formula_view c.args.f.now) c.requires.alike c.args.reads.now c.put_row.new.reads 1 1 (one_of _ _ _ c.in_err-put_row.ensures.most) (omega arith)
+    by_keys c.args.d.now c.args.w.lo c.args.w.hi c.args.vars.now (formula_view c.args.f.now) c.requires.vars c.requires.alike c.args.reads.now c.put_row.new.reads 1 1 (one_of _ _ _ c.in_err-put_row.ensures.most) (omega arith)
     (sym (ap (choices (size_of c.args.d.now)) (nil_from_length c.args.vars.now c.in_default.ensures.cases)))
 
 pub returns-in_default-clause-rows : goal.returns-in_default-clause-rows
@@ -55,7 +55,7 @@ returns-in_default-clause-rows g c =
 
 pub returns-in_default-clause-most : goal.returns-in_default-clause-most
 returns-in_default-clause-most g c =
-    by_keys c.args.d.now c.args.w.lo c.args.w.hi c.args.vars.now (formula_view c.args.f.now) c.requires.alike c.args.reads.now c.put_row.new.reads 1 1 (one_of _ _ _ c.in_ok-put_row.ensures.most) (omega arith)
+    by_keys c.args.d.now c.args.w.lo c.args.w.hi c.args.vars.now (formula_view c.args.f.now) c.requires.vars c.requires.alike c.args.reads.now c.put_row.new.reads 1 1 (one_of _ _ _ c.in_ok-put_row.ensures.most) (omega arith)
     (sym (ap (choices (size_of c.args.d.now)) (nil_from_length c.args.vars.now c.in_default.ensures.cases)))
 
 pub put_rows-requires-clause-over : goal.put_rows-requires-clause-over
@@ -79,7 +79,7 @@ pub returns-in_err-put_rows-clause-most : goal.returns-in_err-put_rows-clause-mo
 returns-in_err-put_rows-clause-most g c =
     let cost = reads_here c.args.w.lo c.args.w.hi (formula_view c.args.f.now) in
     let here = subst (λ (ks : List (List ℕ)). c.put_rows.new.reads ≤ c.ids.reads + length ks * cost) c.deref.ensures.value c.in_err-put_rows.ensures.most in
-    by_blocks c.args.d.now c.args.w.lo c.args.w.hi c.args.vars.now (formula_view c.args.f.now) c.requires.alike c.args.reads.now c.put_rows.new.reads (c.ids.id-index + 1) (length c.of-id-items.result.now) (length c.in_ok-later.later.items)
+    by_blocks c.args.d.now c.args.w.lo c.args.w.hi c.args.vars.now (formula_view c.args.f.now) c.requires.vars c.requires.alike c.args.reads.now c.put_rows.new.reads (c.ids.id-index + 1) (length c.of-id-items.result.now) (length c.in_ok-later.later.items)
     (block_step c.args.reads.now c.ids.reads c.put_rows.new.reads c.ids.id-index (length c.in_ok-later.later.items) cost c.ids.invariant.most here) (omega (arith, c.ids-test.true))
     ((λ i. length (c.of-id-items.ensures.value i) * c.in_ok-later.ensures.count i) ∙ sym (ap (choices (size_of c.args.d.now)) c.in-Some.ensures.cases.0))
 
@@ -117,6 +117,6 @@ returns-clause-rows g c =
 
 pub returns-clause-most : goal.returns-clause-most
 returns-clause-most g c =
-    by_blocks c.args.d.now c.args.w.lo c.args.w.hi c.args.vars.now (formula_view c.args.f.now) c.requires.alike c.args.reads.now c.ids.reads c.ids.id-index (length c.of-id-items.result.now) (length c.in_ok-later.later.items) c.ids.invariant.most
+    by_blocks c.args.d.now c.args.w.lo c.args.w.hi c.args.vars.now (formula_view c.args.f.now) c.requires.vars c.requires.alike c.args.reads.now c.ids.reads c.ids.id-index (length c.of-id-items.result.now) (length c.in_ok-later.later.items) c.ids.invariant.most
     (let l : c.ids.id-index ≤ length c.of-id-items.result.now = c.ids.auto.id-index-end in omega (arith, l))
     ((λ i. length (c.of-id-items.ensures.value i) * c.in_ok-later.ensures.count i) ∙ sym (ap (choices (size_of c.args.d.now)) c.in-Some.ensures.cases.0))

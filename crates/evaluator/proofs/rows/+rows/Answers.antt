@@ -33,8 +33,13 @@ use Rattle.evaluator.proofs.RowLemmas.{one_rows, two_rows}
 use Rattle.evaluator.proofs.VariableLemmas.{ascending_variables, distinct_variables, few_variables, known_variables, variables_same}
 use Rattle.evaluator.proofs.rows.+rows.Goals as goal
 
+pub rows_of-is_over-requires : goal.rows_of-is_over-requires
+rows_of-is_over-requires g t c =
+    subst (λ (vs : List ℕ). are_known c.args.d.now vs ≡ true) (sym c.variables_of-vars.ensures)
+    (known_variables c.args.d.now (has c.free-set.result) (λ v l h. c.requires.over v (sym (c.free-set.ensures v l) ∙ h)))
+
 pub rows_of-rows_by_key-requires-clause-vars : goal.rows_of-rows_by_key-requires-clause-vars
-rows_of-rows_by_key-requires-clause-vars g t c = c.variables_of-vars.ensures ∙ variables_same (has c.free.result) (λ v. has_variable v (formula_view c.args.f.now)) (λ v l. c.free.ensures v l)
+rows_of-rows_by_key-requires-clause-vars g t c = c.variables_of-vars.ensures ∙ variables_same (has c.free-set.result) (λ v. has_variable v (formula_view c.args.f.now)) (λ v l. c.free-set.ensures v l)
 
 pub rows_of-rows_by_key-requires-clause-alike : goal.rows_of-rows_by_key-requires-clause-alike
 rows_of-rows_by_key-requires-clause-alike g t c = sym c.is_over.ensures ∙ c.if-is_over.true
@@ -146,7 +151,7 @@ rows_of-rows_of_assignment-requires g t c κs lives =
     let tree = sym c.in-Assign.ensures in
     let size = ap nodes c.in-Assign.ensures in (
       omega (arith, c.decreases, size),
-      (lives.0, (lives.1.0, (lives.1.1.0, (lives.1.1.1, ((λ v l. c.free-in-Assign.ensures v l ∙ ap (has_variable v) tree), ((λ v h. c.requires.over v (ap (has_variable v) tree ∙ h)), subst (λ (z : ResolvedTree). CanAsk (g.I.Interpreter.interpretation c.args.source.now) (g.I.Interpreter.atom_fits c.args.source.now c.args.w.lo c.args.w.hi) (g.I.Interpreter.term_fits c.args.source.now c.args.w.lo c.args.w.hi) c.args.d.now c.args.w.lo c.args.w.hi z c.args.env.now) tree c.requires.can)))))),
+      (lives.0, (lives.1.0, (lives.1.1.0, (lives.1.1.1, ((λ v l. c.free-set.ensures v l ∙ ap (has_variable v) tree), ((λ v h. c.requires.over v (ap (has_variable v) tree ∙ h)), subst (λ (z : ResolvedTree). CanAsk (g.I.Interpreter.interpretation c.args.source.now) (g.I.Interpreter.atom_fits c.args.source.now c.args.w.lo c.args.w.hi) (g.I.Interpreter.term_fits c.args.source.now c.args.w.lo c.args.w.hi) c.args.d.now c.args.w.lo c.args.w.hi z c.args.env.now) tree c.requires.can)))))),
     )
 
 pub rows_of-returns-in_ok-made-in-Assign-clause-rows : goal.rows_of-returns-in_ok-made-in-Assign-clause-rows
@@ -169,11 +174,11 @@ rows_of-returns-in_ok-made-in-Assign-clause-most g t c =
 
 pub rows_of-unreachable-requires : goal.rows_of-unreachable-requires
 rows_of-unreachable-requires g t c =
-    let f : false ≡ true = sym c.if-is_over.false ∙ c.is_over.ensures ∙ truth_over c.variables_of-vars.result.now (formula_view c.args.f.now) _ (sym c.in-Truth.ensures) in cc
+    let f : false ≡ true = sym c.if-is_over.false ∙ c.is_over.ensures ∙ truth_over (size_of c.args.d.now) c.variables_of-vars.result.now (formula_view c.args.f.now) _ (sym c.in-Truth.ensures) in cc
 
 pub rows_of-unreachable-requires-in-Atom : goal.rows_of-unreachable-requires-in-Atom
 rows_of-unreachable-requires-in-Atom g t c =
-    let f : false ≡ true = sym c.if-is_over.false ∙ c.is_over.ensures ∙ atom_over c.variables_of-vars.result.now (formula_view c.args.f.now) _ (c.variables_of-vars.ensures ∙ variables_same (has c.free.result) (λ v. has_variable v (formula_view c.args.f.now)) (λ v l. c.free.ensures v l)) (sym c.in-Atom.ensures) in cc
+    let f : false ≡ true = sym c.if-is_over.false ∙ c.is_over.ensures ∙ atom_over (size_of c.args.d.now) c.variables_of-vars.result.now (formula_view c.args.f.now) _ (c.variables_of-vars.ensures ∙ variables_same (has c.free-set.result) (λ v. has_variable v (formula_view c.args.f.now)) (λ v l. c.free-set.ensures v l)) (sym c.in-Atom.ensures) in cc
 
 pub rows_of_assignment-keys_of-requires-clause-known : goal.rows_of_assignment-keys_of-requires-clause-known
 rows_of_assignment-keys_of-requires-clause-known g t c =

@@ -1,4 +1,4 @@
-use Rattle.std.proofs.Common.{◌≡◌, ℕ, ◌<◌, List, length, get_or, ap, sym, ◌∙◌, arith, length-set}
+use Rattle.std.proofs.Common.{◌≡◌, ℕ, ◌<◌, length, get_or, ap, sym, ◌∙◌, arith, length-set}
 use Rattle.std.specs.Prelude.{slice_index}
 use Rattle.std.proofs.lemmas.List.Elements.{All-more}
 use Rattle.motion.specs.Timeline.{state_at}
@@ -7,7 +7,7 @@ use Rattle.meaning.specs.Trace.{trace_of}
 use Rattle.object_store.specs.Contents.{history_of}
 use Rattle.atoms.specs.Parts.{epochs_of}
 use Rattle.atoms.proofs.PartLemmas.{epochs_at, timelines_more}
-use Rattle.atoms.proofs.parts.timelines_of.Goals as goal
+use Rattle.atoms.proofs.parts.fill_timelines.Goals as goal
 
 pub loop-k-preserved : goal.loop-k-preserved
 loop-k-preserved g c =
@@ -18,10 +18,9 @@ loop-k-preserved g c =
     let x = c.timeline.result in
     let there : k < length vs = omega arith in
     let room : k < length c.loop-k.timelines = omega (arith, c.loop-k.invariant.size, c.requires.few) in
-    let ids = c.ids-ids.result.now in
-    let id : slice_index ids (get_or vs k 0) ≡ slice_index b (get_or vs k 0) = ap (λ (xs : List ℕ). slice_index xs (get_or vs k 0)) c.ids-ids.ensures.value in
+    let id : c.object_of-id.result ≡ slice_index b (get_or vs k 0) = c.object_of-id.ensures in
     let here : epochs_of s (slice_index b (get_or vs k 0)) ≡ x.now
-    = ap (epochs_of s) (sym id) ∙ epochs_at s (slice_index ids (get_or vs k 0)) x.now c.timeline.ensures.timeline in
+    = ap (epochs_of s) (sym id) ∙ epochs_at s c.object_of-id.result x.now c.timeline.ensures.timeline in
     record {
       size = length-set c.loop-k.timelines k x ∙ c.loop-k.invariant.size;
       epochs = timelines_more (λ v. epochs_of s (slice_index b v)) vs c.loop-k.timelines k x there room c.loop-k.invariant.epochs here;

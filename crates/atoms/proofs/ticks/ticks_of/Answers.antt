@@ -1,4 +1,4 @@
-use Rattle.std.proofs.Common.{◌≡◌, ℕ, ◌<◌, true, ◌&&◌, List, length, map, take, ap, sym, subst, ◌∙◌, arith}
+use Rattle.std.proofs.Common.{◌≡◌, ℕ, ◌<◌, true, ◌&&◌, List, length, map, take, ap, sym, subst, ◌∙◌}
 use Rattle.std.specs.Prelude.{◌==◌, slice_index}
 use Rattle.std.specs.Borrow.{Bor}
 use Rattle.std.specs.List.{list_any}
@@ -14,7 +14,7 @@ use Rattle.tick_set.specs.Ticks.{within}
 use Rattle.atoms.specs.Parts.{epochs_of, trace_by}
 use Rattle.atoms.proofs.PartLemmas.{is_listed}
 use Rattle.atoms.proofs.TickLemmas.{trace_is}
-use Rattle.atoms.proofs.ticks.atom_ticks.Goals as goal
+use Rattle.atoms.proofs.ticks.ticks_of.Goals as goal
 
 pub returns-clause-ticks : goal.returns-clause-ticks
 returns-clause-ticks g c = λ t.
@@ -22,17 +22,17 @@ returns-clause-ticks g c = λ t.
     let a = c.args.a.now in
     let b = c.args.b.now in
     let s = c.args.store.now in
-    let vs = c.items-variables.result.now in
-    let all = c.timelines_of-timelines.result in
+    let vs = c.variables_of_atom-variables.result.now in
+    let all = c.fill_timelines.new.timelines in
     let ts = epochs_of_each (take (length vs) all) in
     let f = λ (v : ℕ). epochs_of s (slice_index b v) in
-    let are : ts ≡ map f vs = sym (take-map (λ (x : Bor (List Epoch)). x.now) (length vs) all) ∙ c.timelines_of-timelines.ensures.epochs in
+    let are : ts ≡ map f vs = sym (take-map (λ (x : Bor (List Epoch)). x.now) (length vs) all) ∙ c.fill_timelines.ensures.epochs in
     ap (λ spans. spans_have spans t) c.from_runs.ensures
     ∙ c.in_ok-runs.ensures.runs.ticks t
     ∙ ap (λ x. within w.lo w.hi t && x)
     (atom_same c.args.regions.now (trace_by vs ts) (trace_of (history_of s) (slice_index b)) a c.args.env.now t
     (λ v has.
-    let small : v < 4 = omega (arith, (c.requires.bound v has).bound, c.timelines_of-timelines.ensures.bound) in
-    trace_is (trace_of (history_of s) (slice_index b)) f vs ts v t are c.timelines_of-timelines.ensures.states
-    (subst (λ (xs : List ℕ). list_any (λ u. u == v) xs ≡ true) (sym (c.items-variables.ensures.value ∙ c.of_atom-variables.ensures))
+    let small : v < 4 = (c.requires.bound v has).few in
+    trace_is (trace_of (history_of s) (slice_index b)) f vs ts v t are c.fill_timelines.ensures.states
+    (subst (λ (xs : List ℕ). list_any (λ u. u == v) xs ≡ true) (sym c.variables_of_atom-variables.ensures)
     (is_listed (λ u. atom_has u a) v small has))))
