@@ -15,6 +15,3 @@ pub use fixed::{refusals, symbols, words};
 pub use keywords::reserved_code;
 pub use laws::limits_in_numbers;
 pub use rows::{ROW_WORD_LIMIT, Table};
-
-#[cfg(test)]
-mod tests;

@@ -1,3 +1,4 @@
+pub mod CallerLemmas
 pub mod JournalLemmas
 pub mod Names
 pub mod RefusalLemmas

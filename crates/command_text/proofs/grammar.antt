@@ -1,6 +1,7 @@
 pub mod Derived
 pub mod DerivedCommands
 pub mod DerivedLines
+pub mod FirstWords
 pub mod ManyLemmas
 pub mod QueryLemmas
 pub mod Shorter

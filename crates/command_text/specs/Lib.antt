@@ -1,4 +1,5 @@
 -- what is promised
+pub mod FirstWord
 pub mod Grammar
 pub mod GrammarLaws
 pub mod Journal

@@ -5,6 +5,7 @@ ghost use Rattle.command_text.specs.Journal.{Accepted, bytes_of, line_told, spel
 
 use std::alloc::{AllocError, Global};
 use std::marker::Model;
+use std::mem::size_of;
 use std::sync::ledger::Ledger;
 use steps::Steps;
 
@@ -22,6 +23,8 @@ pub(crate) struct Kept {
     from: u32,
     size: u32,
 }
+
+const _: () = prove!(size_of::<Kept>() <= 12);
 
 /// The commands that were accepted, each with its tick, in order. A contract sees their list. It is kept
 /// as their canonical lines, which take a fraction of the memory of their trees.

@@ -4,6 +4,7 @@ ghost use Rattle.std.specs.Prelude.{◌≡◌, ◌^◌, List, ℕ};
 ghost use Rattle.command_text.specs.declared.journal.TheConstants.{MOST_BYTES, MOST_ENTRIES};
 ghost use Rattle.command_text.specs.declared.ranges.TheConstants.{NEAREST_LIMIT};
 ghost use Rattle.command_text.specs.declared.reading.TheConstants.{LINE_LIMIT};
+ghost use Rattle.command_text.specs.FirstWord.{BeginsWithItsWord};
 ghost use Rattle.command_text.specs.Piece.{Piece};
 ghost use Rattle.command_text.specs.GrammarLaws.{AreReadByTheGrammar, IsReadByTheGrammar, IsRefusedByTheGrammar};
 
@@ -28,6 +29,13 @@ pub fn lines_are_read_by_the_grammar()
 #[tactic(auto, using(crate::proofs::grammar::DerivedLines::lines_are_refused))]
 pub fn lines_are_refused_by_the_grammar()
     ensures { (limit : ℕ) (line : List ℕ) → IsRefusedByTheGrammar limit line }
+{}
+
+/// After its spaces and tabs a line begins with the first word of the command that it is read as. So a line of `save`,
+/// `import` or `export` is known by its first bytes.
+#[tactic(auto, using(crate::proofs::grammar::FirstWords::begins_with_its_word))]
+pub fn lines_begin_with_their_words()
+    ensures { (line : List ℕ) → BeginsWithItsWord line }
 {}
 
 /// The limits of this crate by their numbers.

@@ -27,7 +27,7 @@ pub use fault::CommandFault;
 pub use journal::{Journal, MOST_BYTES, MOST_ENTRIES};
 pub use laws::{
     limits_in_numbers, lines_are_read_by_the_grammar, lines_are_refused_by_the_grammar,
-    tokens_are_read_by_the_grammar,
+    lines_begin_with_their_words, tokens_are_read_by_the_grammar,
 };
 pub use lists::{Attributes, Points, Settings};
 pub use printing::{print, print_into};
@@ -37,6 +37,3 @@ pub use refusal::{Refusal, RefusalText, refusals_are_named};
 pub use text_laws::{
     canonical_lines_are_read_back, canonical_lines_are_short, read_commands_are_printable,
 };
-
-#[cfg(test)]
-mod tests;

@@ -12,6 +12,3 @@ mod parts;
 pub use laws::{limits_in_numbers, pieces_are_counted};
 pub use lines::line_from;
 pub use parts::{Common, MOST_TIMELINES, common_from};
-
-#[cfg(test)]
-mod tests;

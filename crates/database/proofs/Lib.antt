@@ -1,6 +1,7 @@
 pub mod AskLemmas
 pub mod AttemptLemmas
 pub mod CallerLemmas
+pub mod FileLemmas
 pub mod ListLemmas
 pub mod ReadyLemmas
 pub mod RowLemmas

@@ -5,6 +5,7 @@
 mod asking;
 mod change;
 mod database;
+mod files;
 mod listing;
 mod objects;
 mod rows;

@@ -22,6 +22,3 @@ pub use laws::{
 };
 pub use near::{SHORT_WINDOW, within};
 pub use sphere::{sphere_ticks, together};
-
-#[cfg(test)]
-mod tests;

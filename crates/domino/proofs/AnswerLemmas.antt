@@ -1,8 +1,9 @@
 -- What the database answers of a line is the machine's step.
-use Rattle.std.proofs.Common.{◌≡◌, ℕ, Bool, true, false, ◌||◌, ◌&&◌, Option, None, Some, List, ◌++◌, [], ◌∷◌, refl, sym, ap, subst, ◌∙◌}
+use Rattle.std.proofs.Common.{inl, inr, ◌≡◌, ℕ, Bool, true, false, ◌||◌, ◌&&◌, Option, None, Some, List, ◌++◌, refl, sym, ap, subst, ◌∙◌}
 use Rattle.std.specs.Prelude.{is_none, Result, Ok, Err, IfOk, IfErr, OnOk}
 use Rattle.outside.specs.declared.fault.OutFail.{OutFail}
-use Rattle.outside.specs.declared.fault.OutFail.TheVariants.{NoMemory}
+use Rattle.outside.specs.declared.fault.OutFail.TheVariants.{Failed, NoMemory}
+use Rattle.outside.specs.Faults.{FailCounts, HasCauseOrNoMemory}
 use Rattle.line_loop.specs.Machine as loop
 use Rattle.outside.specs.Shelf.{Texts}
 use Rattle.command_text.specs.declared.refusal.Refusal.{Refusal}
@@ -14,9 +15,10 @@ use Rattle.line_meaning.specs.Reply.{line_feed}
 use Rattle.line_meaning.specs.Role.{role_of}
 use Rattle.line_meaning.specs.Step.{Base, Held, base, refusal_of, step}
 use Rattle.session.specs.declared.next.ApplyFault.{ApplyFault}
+use Rattle.session.specs.declared.next.ApplyFault.TheVariants as apply_faults
 use Rattle.session.specs.declared.next.Next.{Next}
 use Rattle.session.specs.declared.next.Next.TheVariants as nexts
-use Rattle.session.specs.Answers.{Answers, Applies, next_by, next_of}
+use Rattle.session.specs.Answers.{Answers, Applies, Fails, HasCause, next_by, next_of}
 use Rattle.domino.specs.Machine.{State, is_ending, is_last, leaves, machine, state_of}
 
 -- whether a line that was answered so ends the run
@@ -35,7 +37,7 @@ ending_by Ending = refl
 abbrev pub IsStep : Next → Base → List ℕ → Held → List ℕ → List ℕ → Type 0
 IsStep next b line new before after =
     (refusal_of b line ≡ None) × (next ≡ next_of (spelled line)) × (new ≡ (step b line).0.held)
-    × (after ≡ before ++ (step b line).1) × ((step b line).0.texts ≡ b.texts)
+    × (after ≡ before ++ (step b line).1)
 
 -- where a state is told, the texts are, and it is that of what is held
 told_is : (h : Held) (ended : Bool) (texts : Option Texts) (s : State) → state_of h ended texts ≡ Some s →
@@ -44,48 +46,40 @@ told_is h ended None s is = absurd (cc is)
 told_is h ended (Some told) s is = (told, refl, cc is)
 
 -- an accepted line is one step of the machine
-pub stepped : (next : Next) (h new : Held) (ended : Bool) (texts : Option Texts) (s : State) (line before after : List ℕ) →
-    state_of h ended texts ≡ Some s →
-    ((told : Texts) → texts ≡ Some told → IsStep next (base h told) line new before after) →
-    (after ≡ before ++ machine.reply s line) × (state_of new (ended || is_quit next) texts ≡ Some (machine.next s line))
-stepped next h new ended texts s line before after is step_is =
-    let (told, texts_are, s_is) = told_is h ended texts s is in
+stepped : (next : Next) (h new : Held) (ended : Bool) (told : Texts) (left : Option Texts) (line before after : List ℕ) →
+    IsStep next (base h told) line new before after → left ≡ Some (step (base h told) line).0.texts →
+    (s : State) → s ≡ record { base = base h told; ended = ended } →
+    (after ≡ before ++ machine.reply s line) × (state_of new (ended || is_quit next) left ≡ Some (machine.next s line))
+stepped next h new ended told left line before after (fault, next_is, new_is, reply) left_is s s_is =
     let b : Base = base h told in
-    let (fault, next_is, new_is, reply, kept) = step_is told texts_are in
     let quit : is_quit next ≡ is_last b line
     = ap is_quit next_is ∙ ending_by (role_of (spelled line)) ∙ sym (ap (λ r. is_none r && is_ending (role_of (spelled line))) fault) in
     let start : State = record { base = b; ended = ended } in (
       subst (λ (x : State). after ≡ before ++ machine.reply x line) (sym s_is) reply,
-      subst (λ (x : State). state_of new (ended || is_quit next) texts ≡ Some (machine.next x line)) (sym s_is)
-          (subst (λ (t : Option Texts). state_of new (ended || is_quit next) t ≡ Some (machine.next start line)) (sym texts_are)
-          (λ i. Some (record { base = record { held = new_is i; texts = sym kept i }; ended = ended || quit i }))),
+      subst (λ (x : State). state_of new (ended || is_quit next) left ≡ Some (machine.next x line)) (sym s_is)
+          (λ i. state_of (new_is i) (ended || quit i) (left_is i)),
     )
 
+or_false : (x : Bool) → x ≡ (x || false)
+or_false true = refl
+or_false false = refl
+
 -- a refused line leaves the state, and its reply is the refusal's
-pub refused : (r : Refusal) (h new : Held) (ended : Bool) (texts : Option Texts) (s : State) (line before after : List ℕ) →
-    state_of h ended texts ≡ Some s →
-    ((told : Texts) → texts ≡ Some told →
-    (refusal_of (base h told) line ≡ Some r) × (step (base h told) line ≡ (base h told, line_of r ++ line_feed)) × (new ≡ h)) →
-    after ≡ before ++ (line_of r ++ line_feed) →
-    (after ≡ before ++ machine.reply s line) × (state_of new ended texts ≡ Some (machine.next s line))
-refused r h new ended texts s line before after is answer said =
-    let (told, texts_are, s_is) = told_is h ended texts s is in
+refused : (r : Refusal) (h new : Held) (ended : Bool) (told : Texts) (left : Option Texts) (line before after : List ℕ) →
+    refusal_of (base h told) line ≡ Some r → step (base h told) line ≡ (base h told, line_of r ++ line_feed) → new ≡ h →
+    left ≡ Some told → after ≡ before ++ (line_of r ++ line_feed) →
+    (s : State) → s ≡ record { base = base h told; ended = ended } →
+    (after ≡ before ++ machine.reply s line) × (state_of new ended left ≡ Some (machine.next s line))
+refused r h new ended told left line before after fault step_is new_is left_is said s s_is =
     let b : Base = base h told in
-    let (fault, step_is, new_is) = answer told texts_are in
     let on : ended ≡ (ended || is_last b line)
     = or_false ended ∙ ap (λ e. ended || e) (sym (ap (λ f. is_none f && is_ending (role_of (spelled line))) fault)) in
     let start : State = record { base = b; ended = ended } in (
       subst (λ (x : State). after ≡ before ++ machine.reply x line) (sym s_is)
           (said ∙ ap (λ (t : Base × List ℕ). before ++ t.1) (sym step_is)),
-      subst (λ (x : State). state_of new ended texts ≡ Some (machine.next x line)) (sym s_is)
-          (subst (λ (t : Option Texts). state_of new ended t ≡ Some (machine.next start line)) (sym texts_are)
-          (ap (λ (h : Held). state_of h ended (Some told)) new_is
-          ∙ (λ i. Some (record { base = (sym step_is i).0; ended = on i })))),
+      subst (λ (x : State). state_of new ended left ≡ Some (machine.next x line)) (sym s_is)
+          ((λ i. state_of (new_is i) ended (left_is i)) ∙ (λ i. Some (record { base = (sym step_is i).0; ended = on i }))),
     )
-  where
-    or_false : (x : Bool) → x ≡ (x || false)
-    or_false true = refl
-    or_false false = refl
 
 -- a line that isn't refused
 abbrev pub IsAccepted : Next → Type 0
@@ -100,19 +94,29 @@ step_of nexts.Quit b line new before after is h = h
 step_of (nexts.Refused r) b line new before after is h = absurd is
 
 module _ (shelf shelf' : Option Texts) (line : List ℕ) (h new : Held) (ended : Bool) (before after : List ℕ) (result : Result Next ApplyFault)
-    (applies : Applies shelf line h new before after result) (stays : shelf' ≡ shelf) where
+    (applies : Applies shelf shelf' line h new before after result) where
   answers : (next : Next) → result ≡ Ok next → (told : Texts) → shelf ≡ Some told → Answers next (base h told) line new before after
   answers next is told texts_are =
       subst (λ (r : Result Next ApplyFault). IfOk r (λ next. Answers next (base h told) line new before after)) is
       (applies.answers told (λ import. texts_are))
 
+  left_is : (next : Next) → result ≡ Ok next → (told : Texts) → shelf ≡ Some told → shelf' ≡ Some (step (base h told) line).0.texts
+  left_is next is told texts_are =
+      subst (λ (r : Result Next ApplyFault). IfOk r (λ next. shelf' ≡ Some (step (base h told) line).0.texts)) is
+      (applies.texts told texts_are)
+
+  failing : (fault : ApplyFault) → result ≡ Err fault → Fails fault shelf shelf' line h new before after
+  failing fault is =
+      subst (λ (r : Result Next ApplyFault). IfErr r (λ fault. Fails fault shelf shelf' line h new before after)) is applies.fails
+
   pub accepted : (next : Next) (ended' : Bool) → IsAccepted next → result ≡ Ok next → ended' ≡ (ended || is_quit next) →
       (s : State) → state_of h ended shelf ≡ Some s →
       (after ≡ before ++ machine.reply s line) × (state_of new ended' shelf' ≡ Some (machine.next s line))
   accepted next ended' plain is end s start =
-      let (reply, told) = stepped next h new ended shelf s line before after start
-      (λ told texts_are. step_of next (base h told) line new before after plain (answers next is told texts_are)) in
-      (reply, (λ i. state_of new (end i) (stays i)) ∙ told)
+      let (told, texts_are, s_is) = told_is h ended shelf s start in
+      let (reply, state) = stepped next h new ended told shelf' line before after
+      (step_of next (base h told) line new before after plain (answers next is told texts_are)) (left_is next is told texts_are) s s_is in
+      (reply, (λ i. state_of new (end i) shelf') ∙ state)
 
   pub refused_answers : (r : Refusal) (written : Result (Unit {0}) OutFail) (final : List ℕ) → result ≡ Ok (nexts.Refused r) →
       OnOk written (final ≡ after ++ (line_of r ++ line_feed)) → IfErr written (λ fail. fail ≡ NoMemory) →
@@ -121,12 +125,44 @@ module _ (shelf shelf' : Option Texts) (line : List ℕ) (h new : Held) (ended :
   refused_answers r (Ok u) final is said fails s start =
       let (told, texts_are, s_is) = told_is h ended shelf s start in
       let (fault, step_is, new_is, same) = answers (nexts.Refused r) is told texts_are in
-      let (reply, state) = refused r h new ended shelf s line before final start
-      (λ told texts_are. let (fault, step_is, new_is, same) = answers (nexts.Refused r) is told texts_are in (fault, step_is, new_is))
-      (said ∙ ap (λ o. o ++ (line_of r ++ line_feed)) same) in
-      (reply, ap (state_of new ended) stays ∙ state)
+      refused r h new ended told shelf' line before final fault step_is new_is
+      (left_is (nexts.Refused r) is told texts_are ∙ ap (λ (t : Base × List ℕ). Some t.0.texts) step_is)
+      (said ∙ ap (λ o. o ++ (line_of r ++ line_feed)) same) s s_is
   refused_answers r (Err fail) final is said fails s start =
       let (told, texts_are, s_is) = told_is h ended shelf s start in
       let (fault, step_is, new_is, same) = answers (nexts.Refused r) is told texts_are in
+      let left : shelf' ≡ Some told
+      = left_is (nexts.Refused r) is told texts_are ∙ ap (λ (t : Base × List ℕ). Some t.0.texts) step_is in
       subst (λ (f : OutFail). leaves f s line (state_of new ended shelf')) (sym fails)
-      ((λ i. state_of (new_is i) ended (stays i)) ∙ start)
+      (inl ((λ i. state_of (new_is i) ended (left i)) ∙ sym (ap Some s_is)))
+
+  -- what a failure of the shelf leaves
+  pub shelf_failed : result ≡ Err apply_faults.ShelfFault → (s : State) → state_of h ended shelf ≡ Some s →
+      leaves Failed s line (state_of new ended shelf')
+  shelf_failed is s start =
+      let (told, texts_are, s_is) = told_is h ended shelf s start in
+      let f = failing apply_faults.ShelfFault is in
+      let (rest, rest_is, same) = f.texts told texts_are in
+      subst (λ (x : State). leaves Failed x line (state_of new ended shelf')) (sym s_is)
+      (rest, record { asks = f.asks; accepted = f.accepted; others = same }, (λ i. state_of (f.held_stays i) ended (rest_is i)))
+
+  -- and what want of memory leaves
+  pub memory_failed : result ≡ Err apply_faults.NoMemory → (s : State) → state_of h ended shelf ≡ Some s →
+      leaves NoMemory s line (state_of new ended shelf')
+  memory_failed is s start =
+      let (told, texts_are, s_is) = told_is h ended shelf s start in
+      let f = failing apply_faults.NoMemory is in
+      subst (λ (x : State). leaves NoMemory x line (state_of new ended shelf')) (sym s_is)
+      (inr (
+        new,
+        record { late = f.late; rows = f.leaves told (λ import. texts_are) },
+        ap (state_of new ended) (f.texts told texts_are),
+      ))
+
+-- a refusal that was written, or for which memory was out, has no cause in the shelf
+pub refused_cause : (before now : ℕ) (result : Result Next ApplyFault) (r : Refusal) (written : Result (Unit {0}) OutFail) →
+    HasCause before now result → result ≡ Ok (nexts.Refused r) → IfErr written (λ fail. fail ≡ NoMemory) →
+    HasCauseOrNoMemory before now written
+refused_cause before now result r (Ok u) cause is fails = subst (HasCause before now) is cause
+refused_cause before now result r (Err fail) cause is fails =
+    subst (FailCounts before now) (sym fails) (subst (HasCause before now) is cause)

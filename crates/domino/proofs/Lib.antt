@@ -1,3 +1,5 @@
+pub mod AskLemmas
 pub mod AnswerLemmas
 pub mod EndingLemmas
 pub mod LongLines
+pub mod RunLemmas

@@ -1,9 +1,9 @@
--- The whole run: what it is to write, and its status.
+-- The whole run: what it is to write, its status, and the texts that it leaves.
 use Rattle.std.specs.Prelude.{ℕ, Bool, false, List, [], ◌∷◌, ◌++◌, codes, if◌then◌else◌}
 use Rattle.outside.specs.Shelf.{Texts}
 use Rattle.line_loop.specs.Machine.{after}
-use Rattle.line_loop.specs.Run.{is_cut, output}
-use Rattle.line_meaning.specs.Step.{base, held}
+use Rattle.line_loop.specs.Run.{heard, is_cut, output}
+use Rattle.line_meaning.specs.Step.{Held, base, held}
 use Rattle.domino.specs.Machine.{State, machine}
 use Rattle.domino.specs.declared.status.Status.{Status}
 use Rattle.domino.specs.declared.status.Status.TheVariants.{Done, BadWords, InputLimit}
@@ -19,9 +19,9 @@ words_of (name ∷ word ∷ more) = Bad
 abbrev pub bad_words : List ℕ
 bad_words = codes "bad words" ++ 10 ∷ []
 
--- the state before the first line: nothing was accepted
-abbrev pub empty : Texts → State
-empty texts = record { base = base (held []) texts; ended = false }
+-- the state before the first line
+abbrev pub started : Held → Texts → State
+started h texts = record { base = base h texts; ended = false }
 
 -- what a run does: it says something and reads nothing, or it answers the lines of the input, from a state on
 pub data Plan : Type 0 where
@@ -30,7 +30,7 @@ pub data Plan : Type 0 where
 
 abbrev pub plan_of : Words → Texts → Plan
 plan_of Bad texts = Says bad_words BadWords
-plan_of Plain texts = Answers (empty texts)
+plan_of Plain texts = Answers (started (held []) texts)
 
 -- one of these lines is an accepted `quit`
 abbrev pub quits : State → List (List ℕ) → Bool
@@ -39,12 +39,14 @@ quits start lines = (after machine start lines).ended
 pub record Whole : Type 0 where
   pub output : List ℕ
   pub status : Status
+  pub texts : Texts
 
 -- What is said is all. Lines are answered to the end of the input or to the first accepted `quit`; where there are more
 -- bytes than the limit, and no `quit` ends within it, the lines that end within it are answered, and the status says so.
-abbrev pub whole : Plan → ℕ → List ℕ → Whole
-whole (Says said status) limit bytes = record { output = said; status = status }
-whole (Answers start) limit bytes = record {
+abbrev pub whole : Plan → Texts → ℕ → List ℕ → Whole
+whole (Says said status) texts limit bytes = record { output = said; status = status; texts = texts }
+whole (Answers start) texts limit bytes = record {
   output = output machine limit start bytes;
   status = if is_cut machine limit start bytes then InputLimit else Done;
+  texts = (after machine start (heard machine limit start bytes)).base.texts;
 }

@@ -1,18 +1,19 @@
 //! The database as a line machine.
-ghost use Rattle.std.specs.Prelude.{◌≡◌, ℕ, ◌+◌, ◌≤◌, ◌++◌, false, [], IfErr, IfOk, OnOk};
+ghost use Rattle.std.specs.Prelude.{◌≡◌, ℕ, ◌+◌, ◌≤◌, ◌++◌, false, IfErr, IfOk, OnOk};
 ghost use Rattle.outside.specs.declared.fault.OutFail.TheVariants.{NoMemory};
+ghost use Rattle.outside.specs.Shelf.{Texts};
 ghost use Rattle.command_text.specs.Journal.{spelled};
 ghost use Rattle.command_text.specs.Refusals.{line_of};
-ghost use Rattle.line_meaning.specs.Looks.{most_looks};
+ghost use Rattle.line_meaning.specs.Looks.{looks_of};
 ghost use Rattle.line_meaning.specs.Reply.{line_feed};
-ghost use Rattle.line_meaning.specs.Step.{held};
-ghost use Rattle.session.specs.Answers.{Applies, IsUnread};
+ghost use Rattle.line_meaning.specs.Role.{asks_shelf};
+ghost use Rattle.line_meaning.specs.Step.{base};
+ghost use Rattle.session.specs.Answers.{Applies, HasCause, IsUnread, Suffices};
 
-use command_text::{LINE_LIMIT, Refusal};
+use command_text::{LINE_LIMIT, Refusal, lines_begin_with_their_words};
 use line_loop::Handler;
 use outside::{OutFail, Shelf};
 use session::{ApplyFault, Next, Session};
-use std::alloc::Global;
 use std::sync::ledger::Ledger;
 use steps::Steps;
 
@@ -25,13 +26,13 @@ pub struct Database<C: Counting> {
 }
 
 impl<C: Counting> Database<C> {
-    /// An empty database.
-    pub fn new(alloc: Global, counters: C) -> Database<C>
-        ensures session { result.session ≡ held [] }
+    /// The database of a session.
+    pub fn new(session: Session, counters: C) -> Database<C>
+        ensures session { result.session ≡ session }
         ensures ended { result.ended ≡ false }
     {
         Database {
-            session: Session::new(alloc),
+            session,
             ended: false,
             counters,
         }
@@ -44,7 +45,7 @@ pub trait Counting: Drop {
     /// The looks at timelines that were counted.
     ghost reads: { Self → ℕ };
 
-    /// Answers one line, as `Session::apply` does, within its bound of looks. The shelf isn't asked.
+    /// Answers one line, as `Session::apply` does, within its bound of looks.
     fn apply<F: Shelf>(
         &mut self,
         session: &mut Session,
@@ -52,10 +53,12 @@ pub trait Counting: Drop {
         shelf: &mut F,
         out: &mut Vec<u8>,
     ) -> Result<Next, ApplyFault>
-        ensures applies { Applies (F.texts shelf.old) line.now session.old session.new out.old.items out.new.items result }
-        ensures shelf { shelf.new ≡ shelf.old }
+        ensures applies { Applies (F.texts shelf.old) (F.texts shelf.new) line.now session.old session.new out.old.items out.new.items result }
+        ensures cause { HasCause (F.faults shelf.old) (F.faults shelf.new) result }
+        ensures untouched { asks_shelf (spelled line.now) ≡ false → shelf.new ≡ shelf.old }
         ensures least { reads self.old ≤ reads self.new }
-        ensures most { reads self.new ≤ reads self.old + most_looks session.old (spelled line.now) }
+        ensures most { (texts : Texts) → Suffices (F.texts shelf.old) line.now texts →
+            reads self.new ≤ reads self.old + looks_of (base session.old texts) (spelled line.now) }
         ensures unread { IfOk result (λ next. IsUnread next (reads self.old) (reads self.new)) };
 }
 
@@ -104,12 +107,14 @@ impl<F: Shelf, C: Counting> Handler<F> for Database<C> {
         self.ended
     }
 
-    // The commands about files will ask the shelf; each is refused so far.
+    // By the first word alone, so it may answer `true` of a line that is refused too.
     fn asks(&self, line: &[u8]) -> bool {
+        lines_begin_with_their_words();
         let command = line.trim_ascii_start();
-        command.starts_with(b"save")
-            || command.starts_with(b"import")
-            || command.starts_with(b"export")
+        let saves = command.starts_with(b"save");
+        let imports = command.starts_with(b"import");
+        let exports = command.starts_with(b"export");
+        saves | imports | exports
     }
 
     fn answer(&mut self, line: &[u8], shelf: &mut F, out: &mut Vec<u8>) -> Result<(), OutFail> {

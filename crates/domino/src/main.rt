@@ -1,5 +1,5 @@
 //! DOMINO, a moving objects database: reads commands line by line from standard input, and answers on
-//! standard output.
+//! standard output. Texts are saved to the files of the current folder, and read from them.
 #![tactic(auto)]
 
 ghost use Rattle.std.specs.Prelude.{◌≡◌, ◌<◌, map, string_bytes};
@@ -12,7 +12,7 @@ mod run;
 mod status;
 mod words;
 
-use outside::{Shelf, Sink, Source, StdSink, StdSource, SureShelf};
+use outside::{DirShelf, Shelf, Sink, Source, StdSink, StdSource};
 use run::run;
 use status::Status;
 use std::marker::Brand;
@@ -22,12 +22,13 @@ use std::{env, io};
 use steps::Steps;
 
 fn main(rt: HostRuntime) -> io::Result<ExitCode> {
-    let Some(words) = given_words(&rt) else {
+    let files: Result<HostRuntime, _> = rt.clone();
+    let (Some(words), Ok(files)) = (given_words(&rt), files) else {
         return Ok(ExitCode::from(Status::NoMemory.code()));
     };
     let mut source = StdSource::new(rt.reader());
     let mut sink = StdSink::new(io::writer(&rt));
-    let mut shelf = SureShelf::new(rt.alloc());
+    let mut shelf = DirShelf::new(files);
     let status = run_program(&rt, &words, &mut source, &mut sink, &mut shelf);
     Ok(ExitCode::from(status.code()))
 }

@@ -1,17 +1,16 @@
 //! The whole run.
-ghost use Rattle.std.specs.Prelude.{◌≡◌, ◌^◌, ℕ, true, List, Some, map, string_bytes};
-ghost use Rattle.outside.specs.Faults.{Rose};
-ghost use Rattle.outside.specs.Shelf.{Texts};
+ghost use Rattle.std.specs.Prelude.{◌≡◌, ◌^◌, map, string_bytes};
 ghost use Rattle.domino.specs.Whole.{words_of};
-ghost use Rattle.domino.specs.Ends.{CompletesAs, EndsAs, HasCause, KeepsLimit, Refuses, may_end};
+ghost use Rattle.domino.specs.Parts.{AnswersLines, Speaks, status_said};
 ghost use Rattle.domino.specs.Theorem.{RunsAs};
 ghost use Rattle.domino.specs.declared.run.TheConstants.{INPUT_LIMIT};
 
-use crate::machine::{Counters, Database};
+use crate::machine::{Counters, Counting, Database};
 use crate::status::{Status, status_of};
 use crate::words::{Words, words_of};
 use line_loop::{run_lines, write_all};
 use outside::{OutFail, Shelf, Sink, Source};
+use session::Session;
 use std::alloc::Global;
 use std::sync::ledger::Ledger;
 use steps::Steps;
@@ -93,53 +92,65 @@ pub fn run_limited<S: Source, K: Sink, F: Shelf, L: Ledger, M: Ledger>(
         })
         result }
 {
-    run_within(alloc, limit, words, source, sink, shelf, reads, probes)
-}
-
-/// The same, its promises one by one: so each is a goal of its own in each arm, and seven of the ten are found
-/// by the checker. The record would be one goal an arm, to be built by hand.
-fn run_within<S: Source, K: Sink, F: Shelf, L: Ledger, M: Ledger>(
-    alloc: Global,
-    limit: u64,
-    words: &[String],
-    source: &mut S,
-    sink: &mut K,
-    shelf: &mut F,
-    reads: &mut Steps<L>,
-    probes: &mut Steps<M>,
-) -> Status
-    ensures words { may_end (words_of (map string_bytes words.now)) result ≡ true }
-    ensures cause { HasCause result
-        (record { source = S.faults source.old; sink = K.faults sink.old; context = F.faults shelf.old })
-        (record { source = S.faults source.new; sink = K.faults sink.new; context = F.faults shelf.new }) }
-    ensures taken { (bytes : List ℕ) → S.left source.old ≡ Some bytes → KeepsLimit (words_of (map string_bytes words.now)) limit bytes result (S.left source.new) }
-    ensures ends { (bytes written : List ℕ) (texts : Texts) →
-        S.left source.old ≡ Some bytes → K.written sink.old ≡ Some written → F.texts shelf.old ≡ Some texts →
-        EndsAs (record { words = words_of (map string_bytes words.now); limit = limit; bytes = bytes; written = written; texts = texts })
-        result (K.written sink.new) (F.texts shelf.new) (S.left source.new) }
-    ensures complete { (bytes written : List ℕ) (texts : Texts) →
-        S.left source.old ≡ Some bytes → K.written sink.old ≡ Some written → F.texts shelf.old ≡ Some texts →
-        ¬ Rose (S.faults source.old) (S.faults source.new) → ¬ Rose (K.faults sink.old) (K.faults sink.new) →
-        CompletesAs (record { words = words_of (map string_bytes words.now); limit = limit; bytes = bytes; written = written; texts = texts })
-        result (K.written sink.new) (F.texts shelf.new) }
-{
     match words_of(words) {
-        Words::Bad => refuse_words(sink),
-        Words::Plain => {
-            let mut database = Database::new(alloc, Counters { reads, probes });
-            let ending = run_lines(alloc, limit, &mut database, source, sink, shelf);
-            status_of(ending)
-        }
+        Words::Bad => say(sink, b"bad words\n", Status::BadWords),
+        Words::Plain => answer_lines(
+            limit,
+            alloc,
+            Session::new(alloc),
+            source,
+            sink,
+            shelf,
+            Counters { reads, probes },
+        ),
     }
 }
 
-/// Says that the words are bad.
-fn refuse_words<K: Sink>(sink: &mut K) -> Status
-    ensures { Refuses result (K.faults sink.old) (K.faults sink.new) (K.written sink.old) (K.written sink.new) }
+/// Writes what is said, and answers with this status where all of it was written.
+fn say<K: Sink>(sink: &mut K, said: &[u8], end: Status) -> Status
+    ensures { Speaks said.now end result (K.faults sink.old) (K.faults sink.new) (K.written sink.old) (K.written sink.new) }
 {
-    match write_all(sink, b"bad words\n") {
-        Ok(()) => Status::BadWords,
+    let written = write_all(sink, said);
+    status_said(end, written)
+}
+
+/// The status of a run that says something, by how that was written.
+fn status_said(end: Status, written: Result<(), OutFail>) -> Status
+    ensures { result ≡ status_said end written }
+{
+    match written {
+        Ok(()) => end,
         Err(OutFail::Failed) => Status::WriteFault,
         Err(OutFail::NoMemory) => Status::NoMemory,
     }
+}
+
+/// Answers the lines of the source, from a state of the database on.
+fn answer_lines<S: Source, K: Sink, F: Shelf, C: Counting>(
+    limit: u64,
+    alloc: Global,
+    session: Session,
+    source: &mut S,
+    sink: &mut K,
+    shelf: &mut F,
+    counters: C,
+) -> Status
+    ensures { AnswersLines session limit
+        (record {
+          faults = record { source = S.faults source.old; sink = K.faults sink.old; context = F.faults shelf.old };
+          left = S.left source.old;
+          written = K.written sink.old;
+          texts = F.texts shelf.old;
+        })
+        (record {
+          faults = record { source = S.faults source.new; sink = K.faults sink.new; context = F.faults shelf.new };
+          left = S.left source.new;
+          written = K.written sink.new;
+          texts = F.texts shelf.new;
+        })
+        result }
+{
+    let mut database = Database::new(session, counters);
+    let ending = run_lines(alloc, limit, &mut database, source, sink, shelf);
+    status_of(ending)
 }

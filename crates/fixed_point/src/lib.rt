@@ -10,8 +10,6 @@ mod number;
 mod number_text;
 mod reading;
 mod short_text;
-#[cfg(test)]
-mod tests;
 mod variants;
 
 pub use items::Items;

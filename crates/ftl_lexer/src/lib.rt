@@ -19,6 +19,3 @@ pub use laws::{
 pub use quotes::unquoted;
 pub use walk::bad_token;
 pub use whole::tokens;
-
-#[cfg(test)]
-mod tests;

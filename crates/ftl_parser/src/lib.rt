@@ -41,8 +41,3 @@ pub use text_laws::{
     tokens_are_read_as_one_query,
 };
 pub use tree::{Atom, Formula, FromPart, Query, Signed, Term, Unit};
-
-#[cfg(test)]
-mod printing_tests;
-#[cfg(test)]
-mod tests;

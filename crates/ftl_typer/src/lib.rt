@@ -25,6 +25,3 @@ pub use examples::{
 pub use fault::TypeFault;
 pub use laws::{queries_without_fault_are_right, resolved_queries_stay, the_first_fault_is_told};
 pub use resolving::resolve;
-
-#[cfg(test)]
-mod tests;

@@ -11,6 +11,3 @@ mod writing;
 pub use generator::Generator;
 pub use laws::as_many_lines_by_each_number;
 pub use plan::{CARS, LINES, REGIONS, ROUNDS, UPDATES, WATCHES};
-
-#[cfg(test)]
-mod tests;

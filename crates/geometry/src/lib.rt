@@ -7,18 +7,15 @@
 mod limits;
 mod measures;
 
-pub use limits::{LEAST_VERTICES, RADIUS_LIMIT, VERTEX_LIMIT};
-pub use measures::{apart, cross, squared_distance};
-
-#[cfg(test)]
-mod tests;
-
 ghost use Rattle.std.specs.Prelude.{◌≡◌, ◌^◌, pos, negsuc, true, false, [], ◌∷◌};
 ghost use Rattle.case_table.specs.declared.compare.Op.TheVariants.{Lt, Le, Eq, Ne, Ge, Gt};
 ghost use Rattle.geometry.specs.Circle.{fits};
 ghost use Rattle.geometry.specs.Distance.{distance_compares};
 ghost use Rattle.geometry.specs.Plane.{point, cross, squared_distance};
 ghost use Rattle.geometry.specs.Polygon.{is_convex, is_inside};
+
+pub use limits::{LEAST_VERTICES, RADIUS_LIMIT, VERTEX_LIMIT};
+pub use measures::{apart, cross, squared_distance};
 
 /// The limits, in numbers.
 pub fn limits_in_numbers()

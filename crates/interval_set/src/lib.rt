@@ -10,6 +10,3 @@ mod stretch;
 
 pub use cursor::past;
 pub use set::IntervalSet;
-
-#[cfg(test)]
-mod tests;

@@ -143,11 +143,3 @@ stays_exact rows rows' counts counts' holds full full' before grown others local
                 ap (λ b. if b then full' c t else rows c t) gone ∙ before c t ∙ ap (λ b. b && full c t) was ∙ sym (ap (λ b. b && full' c t) gone)
           ]
     ]
-
-if-and : (b x y : Bool) → y ≡ false → (if b then x else y) ≡ (b && x)
-if-and true x y e = refl
-if-and false x y e = e
-
-pub exact_from_nothing : (rows rows' : ℕ → ℕ → Bool) (counts : ℕ → Bool) (full : ℕ → ℕ → Bool) →
-    ((c t : ℕ) → rows c t ≡ false) → ((c t : ℕ) → rows' c t ≡ (if counts c then full c t else rows c t)) → AreRowsOf rows' counts full
-exact_from_nothing rows rows' counts full none anew c t = anew c t ∙ if-and (counts c) (full c t) (rows c t) (none c t)

@@ -110,7 +110,7 @@ impl<S: Turning> Changes<S> {
 }
 
 // A page without ticks, where the page of the number isn't made.
-fn spare_page<S: TickSet>(
+pub(crate) fn spare_page<S: TickSet>(
     alloc: Global,
     kept: &KeptRows<S>,
     number: u32,

@@ -58,14 +58,6 @@ pub fn a_refresh_keeps_rows_exact()
         → AreRowsOf rows' counts' full' }
 {}
 
-/// Rows are exact where each binding was judged, from rows without ticks on.
-pub fn rows_judged_from_nothing_are_exact()
-    ensures { (rows rows' : ℕ → ℕ → Bool) (counts : ℕ → Bool) (full : ℕ → ℕ → Bool)
-        → ((c t : ℕ) → rows c t ≡ false)
-        → ((c t : ℕ) → rows' c t ≡ (if counts c then full c t else rows c t))
-        → AreRowsOf rows' counts full }
-{}
-
 /// Rows that are alike are listed alike: so what is listed of exact rows is told by when bindings are full.
 pub fn rows_alike_are_listed_alike()
     ensures answer { (p q : ℕ → ℕ → Bool) (width from e n : ℕ) → ((c t : ℕ) → p c t ≡ q c t)

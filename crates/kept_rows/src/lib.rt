@@ -22,8 +22,8 @@ pub use held::{all_numbers, held_numbers};
 pub use laws::{
     a_refresh_keeps_rows_exact, an_insert_adds_the_bindings_that_hold_it,
     bindings_are_below_the_size, limits_in_numbers, numbers_have_places, places_have_a_number,
-    rows_alike_are_listed_alike, rows_judged_from_nothing_are_exact, small_bindings_have_numbers,
-    small_rows_change, the_order_is_that_of_bindings,
+    rows_alike_are_listed_alike, small_bindings_have_numbers, small_rows_change,
+    the_order_is_that_of_bindings,
 };
 pub use listing::{Line, answer};
 pub use moving::{Move, moves};
@@ -32,6 +32,3 @@ pub use passing::{Passing, passed};
 pub use renewal::{Judge, judge_all, refresh};
 pub use rows::KeptRows;
 pub use turning::Turning;
-
-#[cfg(test)]
-mod tests;

@@ -161,14 +161,53 @@ fn move_at<S: TickSet>(
         (times (after S.member group.now (row_has S.member kept.now)) targets.width) window.lo window.hi now target)) }
 {
     let from = target * targets.width;
+    let to = from + targets.width;
+    let changed = changed_in(alloc, kept, group, window)?;
+    let left = without_others(alloc, kept, group, from, to, changed)?;
+    let line = move_if_any(alloc, target, &left, now)?;
+    Ok(line)
+}
+
+// The ticks of the window that the changes have and the kept rows of their numbers haven't, and the other way round.
+fn changed_in<S: TickSet>(
+    alloc: Global,
+    kept: &KeptRows<S>,
+    group: &[Change<S>],
+    window: Window,
+) -> Result<Changed<S>, AllocError>
+    ensures gained { IfOk result (λ r. (t : ℕ) → S.member r.gained t
+        ≡ (within window.lo window.hi t && (list_any (λ change. S.member change.ticks t) group.now
+        && not (list_any (λ change. row_has S.member kept.now change.number t) group.now)))) }
+    ensures lost { IfOk result (λ r. (t : ℕ) → S.member r.lost t
+        ≡ (within window.lo window.hi t && (list_any (λ change. row_has S.member kept.now change.number t) group.now
+        && not (list_any (λ change. S.member change.ticks t) group.now)))) }
+{
+    // A change alone is the common case, and its sets need not be copied.
+    if let Some((only, later)) = group.split_first() {
+        if later.is_empty() {
+            return between(alloc, kept.row(only.number), &only.ticks, window);
+        }
+    }
     let anew = ticks_anew(alloc, group)?;
     let old = ticks_kept(alloc, kept, group)?;
-    let gained = difference_in(alloc, &anew, &old, window)?;
-    let lost = difference_in(alloc, &old, &anew, window)?;
-    let to = from + targets.width;
-    let changed = without_others(alloc, kept, group, from, to, Changed { gained, lost })?;
-    let line = move_if_any(alloc, target, &changed, now)?;
-    Ok(line)
+    between(alloc, &old, &anew, window)
+}
+
+// The ticks of the window that the second set has and the first hasn't, and the other way round.
+fn between<S: TickSet>(
+    alloc: Global,
+    old: &S,
+    anew: &S,
+    window: Window,
+) -> Result<Changed<S>, AllocError>
+    ensures gained { IfOk result (λ r. (t : ℕ) → S.member r.gained t
+        ≡ (within window.lo window.hi t && (S.member anew.now t && not (S.member old.now t)))) }
+    ensures lost { IfOk result (λ r. (t : ℕ) → S.member r.lost t
+        ≡ (within window.lo window.hi t && (S.member old.now t && not (S.member anew.now t)))) }
+{
+    let gained = difference_in(alloc, anew, old, window)?;
+    let lost = difference_in(alloc, old, anew, window)?;
+    Ok(Changed { gained, lost })
 }
 
 // The ticks of the window that are in the first set and not in the second.

@@ -2,6 +2,7 @@
 ghost use Rattle.std.specs.Prelude.{◌≡◌, ◌<◌, ◌≤◌, ◌+◌, ◌*◌, ◌&&◌, ℕ, Bool, length, if◌then◌else◌, IfOk, OnOk};
 ghost use Rattle.tick_set.specs.TickList.{has};
 ghost use Rattle.kept_rows.specs.Changes.{AreReady, AreRising, DoDiffer, after};
+ghost use Rattle.kept_rows.specs.Exact.{AreRowsOf};
 ghost use Rattle.kept_rows.specs.Numbers.{counts, holds, size_of};
 ghost use Rattle.kept_rows.specs.Rising.{IsRising};
 ghost use Rattle.kept_rows.specs.Rows.{HasRoom, row_has};
@@ -9,7 +10,9 @@ ghost use Rattle.kept_rows.specs.Rows.{HasRoom, row_has};
 use crate::binding::{BINDING_LIMIT, Variable};
 use crate::change::Changes;
 use crate::held::{all_numbers, held_numbers};
+use crate::numbers::size;
 use crate::rows::KeptRows;
+use crate::turning::Turning;
 use std::alloc::{AllocError, Global};
 use tick_set::TickSet;
 
@@ -43,23 +46,25 @@ pub fn refresh<S: TickSet, J: Judge<S>>(
     judged(alloc, kept, &numbers, judge)
 }
 
-/// What has to change where each binding is judged anew, as for a query that is registered.
-pub fn judge_all<S: TickSet, J: Judge<S>>(
+/// The rows of all bindings, each judged from nothing, as for a query that is registered. It fails only where memory
+/// is out.
+pub fn judge_all<S: Turning, J: Judge<S>>(
     alloc: Global,
-    kept: &KeptRows<S>,
     variables: &[Variable],
     judge: &J,
-) -> Result<Changes<S>, AllocError>
-    requires size { size_of variables.now ≤ BINDING_LIMIT }
-    requires room { HasRoom kept.now (size_of variables.now) }
-    ensures ready { IfOk result (λ f. AreReady S.member kept.now f) }
-    ensures rising { IfOk result (λ f. AreRising (size_of variables.now) f) }
-    ensures differ { IfOk result (λ f. DoDiffer S.member kept.now f) }
-    ensures rows { IfOk result (λ f. (c t : ℕ) → after S.member f (row_has S.member kept.now) c t
-        ≡ (if counts variables.now c then J.full judge.now c t else row_has S.member kept.now c t)) }
+) -> Result<KeptRows<S>, AllocError>
+    requires { size_of variables.now ≤ BINDING_LIMIT }
+    ensures room { IfOk result (λ rows. HasRoom rows (size_of variables.now)) }
+    ensures rows { IfOk result (λ rows. AreRowsOf (row_has S.member rows) (counts variables.now) (J.full judge.now)) }
 {
     let numbers = all_numbers(alloc, variables)?;
-    judged(alloc, kept, &numbers, judge)
+    let mut rows = KeptRows::new(alloc, size(variables))?;
+    let mut rest: &[u32] = &numbers;
+    'numbers: while let Some((number, later)) = rest.split_first() {
+        rows.keep(alloc, *number, judge.judge(*number))?;
+        rest = later;
+    }
+    Ok(rows)
 }
 
 // The rows of these numbers that differ from the kept ones, judged anew.

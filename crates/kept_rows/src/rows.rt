@@ -1,10 +1,11 @@
 //! The rows of all bindings, as a table of pages by number.
-ghost use Rattle.std.specs.Prelude.{◌≡◌, ◌<◌, ◌≤◌, ◌*◌, ◌/◌, ◌^◌, ◌==◌, ◌||◌, ℕ, [], true, false, length, slice_index_or, if◌then◌else◌, IfOk, IfSome, IfNone};
+ghost use Rattle.std.specs.Prelude.{◌≡◌, ◌<◌, ◌≤◌, ◌*◌, ◌/◌, ◌^◌, ◌==◌, ◌||◌, ℕ, [], true, false, length, slice_index_or, if◌then◌else◌, IfOk, IfSome, IfNone, OnErr, OnOk};
 ghost use Rattle.std.specs.Option.{SomeIff};
 ghost use Rattle.kept_rows.specs.Listing.{HaveNone, IsNext};
 ghost use Rattle.kept_rows.specs.Rows.{HasRoom, is_made, is_whole, page_has, row_has};
 ghost use Rattle.kept_rows.specs.Turning.{AreAlike, IsNextTurn};
 
+use crate::change::spare_page;
 use crate::page::{PAGE, Page};
 use crate::turning::Turning;
 use crate::turns::Turns;
@@ -142,6 +143,22 @@ impl<S: Turning> KeptRows<S> {
         let at = number as usize;
         let page = &mut self.pages[at / PAGE];
         page.put(at % PAGE, ticks, spare);
+    }
+
+    /// Writes a copy of these ticks as the row of a number, if they differ from it. On error nothing has changed.
+    pub(crate) fn keep(&mut self, alloc: Global, number: u32, ticks: &S) -> Result<(), AllocError>
+        requires { number / 16 < length self.old }
+        ensures len { length self.new ≡ length self.old }
+        ensures rows { OnOk result ((c t : ℕ) → row_has S.member self.new c t
+            ≡ (if c == number then S.member ticks.now t else row_has S.member self.old c t)) }
+        ensures err { OnErr result (self.new ≡ self.old) }
+    {
+        if ticks.equal(self.row(number)) {
+            return Ok(());
+        }
+        let spare = spare_page(alloc, self, number)?;
+        self.put(number, ticks.copy(alloc)?, spare);
+        Ok(())
     }
 
     /// Notes that time has passed to `now`, so that [`KeptRows::next_turning`] from then on looks only into pages

@@ -20,6 +20,3 @@ pub use handler::Handler;
 pub use laws::{limits_in_numbers, lines_are_those_of_a_text};
 pub use replies::{GATHERED, write_all};
 pub use run::{PIECE, run_lines};
-
-#[cfg(test)]
-mod tests;

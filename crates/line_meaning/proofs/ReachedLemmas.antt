@@ -1,7 +1,7 @@
--- For this crate and for the crates above: the writes of a journal that steps lead to are accepted, and a step leads from such
--- a journal to one.
+-- For this crate and for the crates above: the writes of a journal that steps lead to are accepted, and an accepted command
+-- leads from such a journal to one.
 use Rattle.std.proofs.Common.{◌≡◌, ℕ, ◌≤◌, ℤ, Bool, true, false, not, ◌&&◌, Option, None, Some, List, [], ◌∷◌, ◌++◌, length, refl, sym, ap, subst, ◌∙◌, inl, inr, append-nil, arith, if◌then◌else◌}
-use Rattle.std.specs.Prelude.{◌==◌, nat_le, nat_lt, is_none, unwrap_or, option_and_then, option_map, codes}
+use Rattle.std.specs.Prelude.{◌==◌, nat_le, nat_lt, is_none, option_and_then, option_map, codes}
 use Rattle.std.specs.List.{AllByRecursion, find, fold, list_all, position, position_or_len}
 use Rattle.std.specs.Option.{option_map_or}
 use Rattle.std.specs.Str.{bytes_eq}
@@ -25,26 +25,24 @@ use Rattle.meaning.specs.Accepted.{are_accepted, are_given, is_given, is_own_cla
 use Rattle.meaning.specs.Reachable.{is_slope, is_slow}
 use Rattle.object_store.specs.declared.fault.StoreFault.TheVariants as store_faults
 use Rattle.object_store.specs.Faults.{insert_fault, is_elsewhere, is_past_capacity, repeats_set}
-use Rattle.command_text.specs.declared.reading.TheConstants.{LINE_LIMIT}
 use Rattle.command_text.specs.declared.refusal.Refusal.{Refusal}
 use Rattle.command_text.specs.declared.refusal.Refusal.TheVariants as refusals
-use Rattle.command_text.specs.Journal.{Accepted, spelled}
-use Rattle.command_text.specs.Line.{IsRead, command_in, early_refusal, first_refusal, late_refusal, or_else}
-use Rattle.command_text.specs.inner.Reading.{Read}
+use Rattle.command_text.specs.Journal.{Accepted, bytes_of}
+use Rattle.command_text.specs.Line.{or_else}
 use Rattle.command_text.specs.Shape.{AreLegs, IsAt, IsChange, IsLeg, IsMoving, IsPrintable, IsPrintableGiven, IsRate, IsSetting, IsValue}
-use Rattle.command_text.specs.TextLaws.{PrintsWhatIsRead}
+use Rattle.command_text.specs.Text.{text_of}
 use Rattle.command_text.specs.Tree
 use Rattle.command_text.specs.Tree.{CommandTree}
+use Rattle.session_file.specs.declared.kept.TheConstants.{SESSION_LINE_LIMIT}
 use Rattle.line_meaning.specs.declared.role.Role.{Role}
 use Rattle.line_meaning.specs.declared.role.Role.TheVariants.{Blank, Keeping, Telling, Filing, Ending}
-use Rattle.line_meaning.specs.Fault.{is_gap, is_present, refusal_by_store}
+use Rattle.line_meaning.specs.Fault.{is_gap, is_present, journal_refusal, refusal_by_store}
 use Rattle.line_meaning.specs.QueryFault.{command_fault}
 use Rattle.line_meaning.specs.Journal.{clock, world, writes, writes_of}
 use Rattle.line_meaning.specs.Reached.{AreReached, IsNextEntry}
 use Rattle.line_meaning.specs.Registry.{known}
 use Rattle.line_meaning.specs.Role.{is_keeping, is_kept, role_of}
-use Rattle.line_meaning.specs.Step.{Base, Held, fault_by, fault_of, held_after, line_refusal, refusal_of, step, step_by}
-use Rattle.line_meaning.proofs.CallerLemmas.{or_none}
+use Rattle.line_meaning.specs.Judging.{Held, fault_by, fault_of, held_after}
 use Rattle.line_meaning.proofs.JournalLemmas.{clock_more, writes_more}
 
 -- ---- what a printable command gives
@@ -103,7 +101,7 @@ change_given place sets h =
 
 -- ---- where two refusals are none
 
-none_of_both : (first other : Option Refusal) → or_else first other ≡ None → (first ≡ None) × (other ≡ None)
+pub none_of_both : (first other : Option Refusal) → or_else first other ≡ None → (first ≡ None) × (other ≡ None)
 none_of_both None other is = (refl, is)
 none_of_both (Some r) other is = absurd (cc is)
 
@@ -189,7 +187,7 @@ reached_accepted before ((now, command) ∷ journal) reached last upto =
 pub writes_are_accepted : (journal : List Accepted) → AreReached [] journal → are_accepted empty_catalog 0 (writes journal) ≡ true
 writes_are_accepted journal reached = reached_accepted [] journal reached 0 (omega arith)
 
--- ---- a step
+-- ---- one more entry
 
 reached_more : (before journal : List Accepted) (e : Accepted) → AreReached before journal → IsNextEntry (before ++ journal) e →
     AreReached before (journal ++ e ∷ [])
@@ -199,14 +197,16 @@ reached_more before (d ∷ journal) e reached is = (
   reached_more (before ++ d ∷ []) journal e reached.1 (subst (λ (j : List Accepted). IsNextEntry j e) (sym (append_assoc before (d ∷ []) journal)) is),
 )
 
-taken_is : (found : Read CommandTree) → late_refusal found ≡ None →
-    option_map (λ f. f.0) found ≡ Some (unwrap_or (option_map (λ f. f.0) found) Tree.Nothing)
-taken_is None taken = absurd (cc taken)
-taken_is (Some f) taken = refl
+-- nothing refuses a kept command: neither what the journal tells nor its limits
+record IsAccepted (journal : List Accepted) (c : CommandTree) : Type 0 where
+  pub fault : command_fault (known journal) c ≡ None
+  pub room : journal_refusal (length journal) (bytes_of journal) c ≡ None
 
 kept_role : (role : Role) (h : Held) (c : CommandTree) → is_keeping role ≡ true → fault_by role h c ≡ None →
-    command_fault (known h.journal) c ≡ None
-kept_role Keeping h c kept none = (none_of_both (command_fault (known h.journal) c) _ none).0
+    IsAccepted h.journal c
+kept_role Keeping h c kept none =
+    let both = none_of_both (command_fault (known h.journal) c) (journal_refusal (length h.journal) (bytes_of h.journal) c) none in
+    record { fault = both.0; room = both.1 }
 kept_role Blank h c kept none = absurd (false≢true kept)
 kept_role Telling h c kept none = absurd (false≢true kept)
 kept_role Filing h c kept none = absurd (false≢true kept)
@@ -217,42 +217,18 @@ built true o is = absurd (cc is)
 built false o is = is
 
 -- a kept command that nothing refuses
-next_entry : (h : Held) (c : CommandTree) → IsPrintable c → fault_of h c ≡ None → is_kept c ≡ true →
-    IsNextEntry h.journal (clock h.journal, c)
-next_entry h c printable none kept = record {
-  tick = refl;
-  kept = kept;
-  printable = printable;
-  accepted = kept_role (role_of c) h c kept (built (is_gap c) (fault_by (role_of c) h c) none);
-}
+next_entry : (h : Held) (c : CommandTree) → IsPrintable c → length (text_of c) ≤ SESSION_LINE_LIMIT → fault_of h c ≡ None →
+    is_kept c ≡ true → IsNextEntry h.journal (clock h.journal, c)
+next_entry h c printable short none kept =
+    let accepted = kept_role (role_of c) h c kept (built (is_gap c) (fault_by (role_of c) h c) none) in
+    record { tick = refl; kept = kept; printable = printable; short = short; accepted = accepted.fault; room = accepted.room }
 
 entries_reached : (journal : List Accepted) (e : Accepted) (kept : Bool) → (kept ≡ true → IsNextEntry journal e) →
     AreReached [] journal → AreReached [] (journal ++ (if kept then e ∷ [] else []))
 entries_reached journal e true is reached = reached_more [] journal e reached (is refl)
 entries_reached journal e false is reached = subst (λ (j : List Accepted). AreReached [] j) (sym (append-nil journal)) reached
 
-pub command_is_reached : (h : Held) (c : CommandTree) → IsPrintable c → fault_of h c ≡ None → AreReached [] h.journal →
-    AreReached [] (held_after h c).journal
-command_is_reached h c printable none reached =
-    entries_reached h.journal (clock h.journal, c) (is_kept c) (next_entry h c printable none) reached
-
-module _ (prints : PrintsWhatIsRead) where
-  -- what an accepted line is read as is printable, and nothing refuses it
-  accepted_line : (b : Base) (line : List ℕ) → refusal_of b line ≡ None →
-      IsPrintable (spelled line) × (fault_of b.held (spelled line) ≡ None)
-  unfolding line_refusal
-  accepted_line b line none =
-      let c = spelled line in
-      let both = none_of_both (first_refusal LINE_LIMIT line) (fault_of b.held c) (sym (or_none (line_refusal b.held line)) ∙ none) in
-      let late = (none_of_both (early_refusal LINE_LIMIT line) (late_refusal (command_in line)) both.0).1 in
-      let read : IsRead LINE_LIMIT line c = record { taken = both.0; command = taken_is (command_in line) late } in
-      (prints LINE_LIMIT line c read, both.1)
-
-  by_refusal : (b : Base) (c : CommandTree) (r : Option Refusal) → (r ≡ None → IsPrintable c × (fault_of b.held c ≡ None)) →
-      AreReached [] b.held.journal → AreReached [] (step_by b c r).0.held.journal
-  by_refusal b c (Some r) is reached = reached
-  by_refusal b c None is reached = command_is_reached b.held c (is refl).0 (is refl).1 reached
-
-  pub step_is_reached : (b : Base) (line : List ℕ) → AreReached [] b.held.journal → AreReached [] (step b line).0.held.journal
-  unfolding step
-  step_is_reached b line reached = by_refusal b (spelled line) (refusal_of b line) (accepted_line b line) reached
+pub command_is_reached : (h : Held) (c : CommandTree) → IsPrintable c → length (text_of c) ≤ SESSION_LINE_LIMIT → fault_of h c ≡ None →
+    AreReached [] h.journal → AreReached [] (held_after h c).journal
+command_is_reached h c printable short none reached =
+    entries_reached h.journal (clock h.journal, c) (is_kept c) (next_entry h c printable short none) reached

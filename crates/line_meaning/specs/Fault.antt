@@ -1,10 +1,11 @@
 -- Why a command that was read is refused: the first of these conditions that holds, in the order of the refusals.
-use Rattle.std.specs.Prelude.{ℕ, ◌+◌, Bool, true, false, ◌||◌, ◌&&◌, not, nat_le, nat_lt, is_some, Option, None, Some, option_and_then, List, [], ◌∷◌, map, length}
+use Rattle.std.specs.Prelude.{ℕ, ◌+◌, Bool, true, false, ◌||◌, ◌&&◌, not, nat_le, nat_lt, is_none, is_some, Option, None, Some, option_and_then, List, [], ◌∷◌, map, length}
 use Rattle.fixed_point.specs.declared.number.Point.{Point}
 use Rattle.tick_set.specs.declared.spans.TheConstants.{LAST_TICK}
 use Rattle.geometry.specs.Region.{Region, region_number}
 use Rattle.geometry.specs.Polygon.{is_convex}
 use Rattle.polygon.specs.declared.named.TheConstants.{REGION_LIMIT}
+use Rattle.history.specs.Catalog.{Catalog, number_of_class}
 use Rattle.history.specs.History.{History}
 use Rattle.history.specs.World.{World}
 use Rattle.object_store.specs.declared.fault.StoreFault.{StoreFault}
@@ -57,6 +58,10 @@ tick_refusal now ticks = first_that_holds ((refusals.ClockEnd, nat_lt LAST_TICK 
 abbrev pub is_present : History → List ℕ → ℕ → Bool
 is_present h o t = is_some (h.state o t)
 
+-- the refusal of a class that isn't there
+abbrev pub class_refusal : Catalog → List ℕ → Option Refusal
+class_refusal c class = first_that_holds ((refusals.UnknownName, is_none (number_of_class c class)) ∷ [])
+
 -- the refusals of a command but for those of its line, of the registered queries and of the journal, by what a query may
 -- ask of and the clock
 abbrev pub fault_among : World → ℕ → CommandTree → Option Refusal
@@ -71,6 +76,8 @@ fault_among w now (Tree.Remove name) =
     option_and_then refusal_by_store (remove_fault w.history.catalog (is_present w.history name now) name)
 fault_among w now (Tree.Tick ticks) = tick_refusal now ticks
 fault_among w now (Tree.Ask span q) = ask_refusal w now span q
+fault_among w now (Tree.Import class file) = class_refusal w.history.catalog class
+fault_among w now (Tree.Export class file) = class_refusal w.history.catalog class
 fault_among w now _ = None
 
 -- one more entry of so many bytes passes the limits of a journal of so many entries and bytes

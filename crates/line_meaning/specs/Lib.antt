@@ -4,11 +4,16 @@ pub mod Registry
 pub mod Role
 pub mod Fault
 pub mod QueryFault
-pub mod Reached
 pub mod Reply
 pub mod Changes
 pub mod Answering
+pub mod Judging
+pub mod Import
+pub mod Files
 pub mod Step
+pub mod Loading
+pub mod Reached
 pub mod Looks
 pub mod Example
 pub mod QueryExample
+pub mod FilesExample

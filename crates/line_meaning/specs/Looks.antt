@@ -1,16 +1,20 @@
 -- How many looks at timelines a command may take.
-use Rattle.std.specs.Prelude.{ℕ, ◌+◌, Bool, true, false, List, map}
+use Rattle.std.specs.Prelude.{ℕ, ◌+◌, Bool, true, false, List, [], ◌∷◌, length, map}
 use Rattle.std.specs.Option.{option_map_or}
-use Rattle.history.specs.Catalog.{object_of}
+use Rattle.history.specs.Catalog.{Catalog, ids_of, number_of_class, object_of}
 use Rattle.history.specs.World.{World}
 use Rattle.meaning.specs.Reads.{query_reads, sizes_of}
 use Rattle.meaning.specs.Registered.{write_reads}
+use Rattle.command_text.specs.Journal.{Accepted}
 use Rattle.command_text.specs.Tree
 use Rattle.command_text.specs.Tree.{CommandTree}
 use Rattle.ftl_parser.specs.Tree.{QueryTree}
+use Rattle.object_rows.specs.declared.rows.ObjectRow.{ObjectRow}
 use Rattle.line_meaning.specs.Ask.{query_in}
+use Rattle.line_meaning.specs.Journal.{world}
 use Rattle.line_meaning.specs.Registry.{Known, known}
-use Rattle.line_meaning.specs.Step.{Held, held_after}
+use Rattle.line_meaning.specs.Import.{row_command, with_entry}
+use Rattle.line_meaning.specs.Step.{Base, Held, held, held_after, rows_imported}
 
 -- whether a command evaluates queries
 abbrev pub is_query : CommandTree → Bool
@@ -20,6 +24,7 @@ is_query (Tree.Keep name span q) = true
 is_query (Tree.Insert class name place sets) = true
 is_query (Tree.Update name place sets) = true
 is_query (Tree.Remove name) = true
+is_query (Tree.Import class file) = true
 is_query _ = false
 
 -- over as many ticks as from now to the expiry
@@ -38,8 +43,12 @@ looks_of_write k name =
     (λ o. write_reads k.world.history.catalog (map (λ r. r.query) k.live) k.now o.class)
     (object_of k.world.history.catalog name) 0
 
--- A query that is asked or registered may look at stored motions, and so may a write, by what is known after it. Nothing
--- else does.
+-- the objects of a class by its name, none where it isn't there
+abbrev pub objects_of_class : Catalog → List ℕ → List ℕ
+objects_of_class c class = option_map_or (ids_of c) (number_of_class c class) []
+
+-- A query that is asked or registered may look at stored motions, and so may a write, by what is known after it. A `save`
+-- reads each entry, and an `export` looks at each object of the class. Nothing else does, but for an `import`.
 abbrev pub most_looks : Held → CommandTree → ℕ
 most_looks h (Tree.Ask span q) = most_reads (known h.journal).world span q
 most_looks h (Tree.Watch name span q) = most_reads (known h.journal).world span q
@@ -47,4 +56,19 @@ most_looks h (Tree.Keep name span q) = most_reads (known h.journal).world span q
 most_looks h (Tree.Insert class name place sets) = looks_of_write (known (held_after h (Tree.Insert class name place sets)).journal) name
 most_looks h (Tree.Update name place sets) = looks_of_write (known (held_after h (Tree.Update name place sets)).journal) name
 most_looks h (Tree.Remove name) = looks_of_write (known (held_after h (Tree.Remove name)).journal) name
+most_looks h (Tree.Save file) = length h.journal
+most_looks h (Tree.Export class file) = length (objects_of_class (world h.journal).history.catalog class)
 most_looks h _ = 0
+
+-- ---- With the texts of the shelf
+
+-- those of rows: each row's in the journal after the rows before it
+abbrev pub looks_of_rows : List ℕ → List Accepted → List ObjectRow → ℕ
+looks_of_rows class journal [] = 0
+looks_of_rows class journal (row ∷ rows) =
+    let c = row_command journal class row in
+    most_looks (held journal) c + looks_of_rows class (with_entry journal c) rows
+
+abbrev pub looks_of : Base → CommandTree → ℕ
+looks_of b (Tree.Import class file) = option_map_or (looks_of_rows class b.held.journal) (rows_imported b class file) 0
+looks_of b c = most_looks b.held c

@@ -37,3 +37,16 @@ is_keeping _ = false
 -- a command that the journal keeps
 abbrev pub is_kept : CommandTree → Bool
 is_kept c = is_keeping (role_of c)
+
+-- a command that asks the shelf for a text, or gives it one
+abbrev pub is_filing : Role → Bool
+is_filing Filing = true
+is_filing _ = false
+
+abbrev pub asks_shelf : CommandTree → Bool
+asks_shelf c = is_filing (role_of c)
+
+-- its reply and what it leaves depend on a text of the shelf
+abbrev pub is_import : CommandTree → Bool
+is_import (Tree.Import class file) = true
+is_import _ = false

@@ -1,26 +1,27 @@
 -- The step of one line: the state after it and the reply.
-use Rattle.std.specs.Prelude.{ℕ, Option, None, Some, List, [], ◌∷◌, ◌++◌, length, if◌then◌else◌}
+use Rattle.std.specs.Prelude.{ℕ, Option, None, Some, is_none, option_and_then, unwrap_or, List, [], ◌∷◌, ◌++◌}
+use Rattle.std.specs.Option.{option_map_or}
+use Rattle.exact.specs.First.{first_that_holds}
 use Rattle.outside.specs.Shelf.{Texts}
-use Rattle.command_text.specs.declared.reading.TheConstants.{LINE_LIMIT}
+use Rattle.object_rows.specs.declared.rows.ObjectRow.{ObjectRow}
 use Rattle.command_text.specs.declared.refusal.Refusal.{Refusal}
-use Rattle.command_text.specs.declared.refusal.Refusal.TheVariants.{BadSyntax}
+use Rattle.command_text.specs.declared.refusal.Refusal.TheVariants.{BadFile, NoFile}
 use Rattle.command_text.specs.Refusals.{line_of}
-use Rattle.command_text.specs.Journal.{Accepted, bytes_of, spelled}
-use Rattle.command_text.specs.Line.{first_refusal, or_else}
+use Rattle.command_text.specs.Journal.{Accepted, spelled}
+use Rattle.command_text.specs.Line.{or_else}
+use Rattle.command_text.specs.Tree
 use Rattle.command_text.specs.Tree.{CommandTree}
 use Rattle.line_meaning.specs.declared.role.Role.{Role}
 use Rattle.line_meaning.specs.declared.role.Role.TheVariants.{Blank, Keeping, Telling, Filing, Ending}
 use Rattle.line_meaning.specs.Answering.{answer_lines, kept_lines, query_lines}
+use Rattle.line_meaning.specs.Files.{texts_after}
+use Rattle.line_meaning.specs.Import.{journal_after_text, lines_of_rows, rows_for}
 use Rattle.line_meaning.specs.Journal.{clock, world}
-use Rattle.line_meaning.specs.QueryFault.{command_fault}
 use Rattle.line_meaning.specs.Registry.{known}
-use Rattle.line_meaning.specs.Role.{is_kept, role_of}
-use Rattle.line_meaning.specs.Fault.{is_gap, journal_refusal}
+use Rattle.line_meaning.specs.Role.{role_of}
 use Rattle.line_meaning.specs.Reply.{line_feed, ok_line}
-
--- what the database holds of the lines before: the commands that it accepted, each with its tick
-pub record Held : Type 0 where
-  pub journal : List Accepted
+pub use Rattle.line_meaning.specs.Judging.{Held, entries_of, fault_by, fault_of, held, held_after}
+unfoldable pub use Rattle.line_meaning.specs.Judging.{line_refusal}
 
 -- the whole state, with the texts of the shelf
 pub record Base : Type 0 where
@@ -30,39 +31,36 @@ pub record Base : Type 0 where
 abbrev pub base : Held → Texts → Base
 base h texts = record { held = h; texts = texts }
 
-abbrev pub held : List Accepted → Held
-held journal = record { journal = journal }
+-- ---- An `import`: its text's rows are taken all or none
 
--- the refusals of a command by its role: a blank line and a `quit` have none
-abbrev pub fault_by : Role → Held → CommandTree → Option Refusal
-fault_by Blank h c = None
-fault_by Ending h c = None
-fault_by role h c =
-    or_else (command_fault (known h.journal) c) (journal_refusal (length h.journal) (bytes_of h.journal) c)
+abbrev pub journal_after_import : Base → List ℕ → List ℕ → Option (List Accepted)
+journal_after_import b class file = option_and_then (journal_after_text b.held.journal class) (b.texts file)
 
--- the first refusal of a command that was read, but for those of its texts: BadSyntax where it isn't built yet
-abbrev pub fault_of : Held → CommandTree → Option Refusal
-fault_of h c = if is_gap c then Some BadSyntax else fault_by (role_of c) h c
+abbrev pub rows_imported : Base → List ℕ → List ℕ → Option (List ObjectRow)
+rows_imported b class file = option_and_then (rows_for b.held.journal class) (b.texts file)
 
--- the first refusal of a line that depends on the line and on what is held
-unfoldable pub line_refusal : Held → List ℕ → Option Refusal
-line_refusal h line = or_else (first_refusal LINE_LIMIT line) (fault_of h (spelled line))
+abbrev pub import_lines : Base → List ℕ → List ℕ → List ℕ
+import_lines b class file = option_map_or (lines_of_rows class b.held.journal) (rows_imported b class file) []
 
--- the refusals of what a text holds; no command that reads one is built yet
+-- the refusals by what a text holds
 abbrev pub file_refusal : Base → CommandTree → Option Refusal
-file_refusal b c = None
+file_refusal b (Tree.Import class file) = first_that_holds (
+    (NoFile, is_none (b.texts file))
+    ∷ (BadFile, is_none (journal_after_import b class file))
+    ∷ [])
+file_refusal b _ = None
+
+-- ---- All commands
 
 -- the first refusal of a line, None where it is accepted
 abbrev pub refusal_of : Base → List ℕ → Option Refusal
 refusal_of b line = or_else (line_refusal b.held line) (file_refusal b (spelled line))
 
--- what an accepted command adds to the journal
-abbrev pub entries_of : ℕ → CommandTree → List Accepted
-entries_of now c = if is_kept c then (now, c) ∷ [] else []
-
--- what is held after an accepted command
-abbrev pub held_after : Held → CommandTree → Held
-held_after h c = record { journal = h.journal ++ entries_of (clock h.journal) c }
+-- the state after an accepted command
+abbrev pub base_after : Base → CommandTree → Base
+base_after b (Tree.Import class file) =
+    record b { held = held (unwrap_or (journal_after_import b class file) b.held.journal) }
+base_after b c = record { held = held_after b.held c; texts = texts_after b.held b.texts c }
 
 abbrev pub reply_by : Role → Held → CommandTree → List ℕ
 reply_by Blank h c = []
@@ -73,12 +71,13 @@ reply_by Ending h c = ok_line
 
 -- the reply of an accepted command; a blank line or a comment has none
 abbrev pub reply_of : Base → CommandTree → List ℕ
+reply_of b (Tree.Import class file) = import_lines b class file ++ ok_line
 reply_of b c = reply_by (role_of c) b.held c
 
 -- A refused line changes nothing and answers with its refusal.
 abbrev pub step_by : Base → CommandTree → Option Refusal → Base × List ℕ
 step_by b c (Some refusal) = (b, line_of refusal ++ line_feed)
-step_by b c None = (record b { held = held_after b.held c }, reply_of b c)
+step_by b c None = (base_after b c, reply_of b c)
 
 unfoldable pub step : Base → List ℕ → Base × List ℕ
 step b line = step_by b (spelled line) (refusal_of b line)

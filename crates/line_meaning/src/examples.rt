@@ -1,5 +1,6 @@
-//! Lines of queries worked out, as calls without a body.
+//! Lines of queries and texts of files worked out, as calls without a body.
 ghost use Rattle.line_meaning.specs.Example.{AnswersAsks, RefusesAsks};
+ghost use Rattle.line_meaning.specs.FilesExample.{ImportsRows, LoadsTexts, SavesTexts};
 ghost use Rattle.line_meaning.specs.QueryExample.{AnswersRegistered, RefusesRegistered};
 
 /// A car that drives through a region and one that stands in it, pairs in the order of their targets, and how many
@@ -21,4 +22,19 @@ pub fn registered_queries_are_answered()
 /// Names of registered queries that are taken or unknown, and spans.
 pub fn registered_queries_are_refused()
     ensures { RefusesRegistered }
+{}
+
+/// What a save and an export put on the shelf.
+pub fn texts_are_saved()
+    ensures { SavesTexts }
+{}
+
+/// The entries and the lines of an import, and the refusals by its text.
+pub fn rows_are_imported()
+    ensures { ImportsRows }
+{}
+
+/// What texts of both formats are loaded as, and the lines of their first faults.
+pub fn texts_are_loaded()
+    ensures { LoadsTexts }
 {}

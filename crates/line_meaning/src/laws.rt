@@ -1,19 +1,26 @@
 //! Laws of the step, each a call without a body whose contract is the law.
-ghost use Rattle.std.specs.Prelude.{◌≡◌, ℕ, ◌<◌, ◌++◌, true, List, [], None, Some, length};
+ghost use Rattle.std.specs.Prelude.{◌≡◌, ℕ, ◌<◌, ◌≤◌, ◌++◌, true, List, [], None, Some, length, option_map};
 ghost use Rattle.command_text.specs.declared.reading.TheConstants.{LINE_LIMIT};
 ghost use Rattle.command_text.specs.declared.refusal.Refusal.TheVariants.{LineTooLong};
 ghost use Rattle.command_text.specs.Refusals.{line_of};
-ghost use Rattle.command_text.specs.Journal.{Accepted};
+ghost use Rattle.command_text.specs.Journal.{Accepted, spelled};
 ghost use Rattle.command_text.specs.Shape.{IsPrintable};
-ghost use Rattle.command_text.specs.Tree.{CommandTree};
+ghost use Rattle.command_text.specs.Text.{text_of};
+ghost use Rattle.command_text.specs.Tree.{CommandTree, Save};
+ghost use Rattle.session_file.specs.declared.kept.TheConstants.{SESSION_LINE_LIMIT};
+ghost use Rattle.session_file.specs.Text.{session_text};
+ghost use Rattle.outside.specs.Shelf.{Texts};
 ghost use Rattle.history.specs.Catalog.{empty_catalog};
 ghost use Rattle.meaning.specs.Accepted.{are_accepted};
 ghost use Rattle.line_meaning.specs.Journal.{writes};
-ghost use Rattle.line_meaning.specs.Reached.{AreReached};
+ghost use Rattle.line_meaning.specs.Loading.{Loaded, loading_of};
+ghost use Rattle.line_meaning.specs.Reached.{AreReached, after_lines};
 ghost use Rattle.line_meaning.specs.Reply.{line_feed};
-ghost use Rattle.line_meaning.specs.Step.{Base, Held, fault_of, held_after, line_refusal, step};
+ghost use Rattle.line_meaning.specs.Step.{Base, Held, base, fault_of, held, held_after, line_refusal, refusal_of, step};
 
-use command_text::read_commands_are_printable;
+use command_text::{canonical_lines_are_short, read_commands_are_printable};
+use object_rows::commands_are_printable;
+use session_file::saved_texts_are_loaded;
 
 /// All lines of more than 4,096 bytes are refused by LineTooLong, so that no more of them need be kept.
 pub fn long_lines_step_alike()
@@ -32,10 +39,27 @@ pub fn steps_write_what_is_accepted()
     // The empty journal is one that steps lead to, and each accepted command and each step lead from one to
     // another.
     ensures none { AreReached [] [] }
-    ensures command { (h : Held) (c : CommandTree) → IsPrintable c → fault_of h c ≡ None → AreReached [] h.journal
-        → AreReached [] (held_after h c).journal }
+    ensures command { (h : Held) (c : CommandTree) → IsPrintable c → length (text_of c) ≤ SESSION_LINE_LIMIT
+        → fault_of h c ≡ None → AreReached [] h.journal → AreReached [] (held_after h c).journal }
     ensures step { (b : Base) (line : List ℕ) → AreReached [] b.held.journal
         → AreReached [] (step b line).0.held.journal }
 {
     read_commands_are_printable();
+    canonical_lines_are_short();
+    commands_are_printable();
+}
+
+/// The text of a journal that steps lead to is loaded as this journal; so it is after any lines, from the
+/// empty journal on, and so is what an accepted `save` puts on the shelf.
+pub fn saved_sessions_are_loaded()
+    ensures journals { (journal : List Accepted) → AreReached [] journal
+        → loading_of (session_text journal) ≡ Loaded journal }
+    ensures lines { (texts : Texts) (lines : List (List ℕ)) →
+        let journal = (after_lines (base (held []) texts) lines).held.journal in
+        loading_of (session_text journal) ≡ Loaded journal }
+    ensures saved { (b : Base) (line file : List ℕ) → AreReached [] b.held.journal → refusal_of b line ≡ None
+        → spelled line ≡ Save file → option_map loading_of ((step b line).0.texts file) ≡ Some (Loaded b.held.journal) }
+{
+    saved_texts_are_loaded();
+    steps_write_what_is_accepted();
 }

@@ -16,6 +16,3 @@ pub fn limits_in_numbers()
     ensures rise { RISE_LIMIT ≡ 4 * 10 ^ 24 }
     ensures start { START_LIMIT ≡ 10 ^ 37 }
 {}
-
-#[cfg(test)]
-mod tests;

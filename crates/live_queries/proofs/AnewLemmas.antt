@@ -1,5 +1,5 @@
 -- A query that is registered anew, and what a write makes of a registered one.
-use Rattle.std.proofs.Common.{◌≡◌, ℕ, ◌+◌, ◌<◌, ◌≤◌, Bool, true, false, ◌&&◌, List, [], ◌++◌, length, map, refl, sym, ap, ◌∙◌, subst, arith, if◌then◌else◌}
+use Rattle.std.proofs.Common.{◌≡◌, ℕ, ◌+◌, ◌-◌, ◌<◌, ◌≤◌, Bool, true, false, ◌&&◌, List, [], ◌++◌, length, map, refl, sym, ap, ◌∙◌, subst, arith, if◌then◌else◌}
 use Rattle.std.specs.Prelude.{nat_le}
 use Rattle.std.specs.List.{list_any}
 use Rattle.std.proofs.lemmas.Bool.Decides.{nat_tests}
@@ -21,11 +21,12 @@ use Rattle.kept_rows.specs.Rows.{HasRoom}
 use Rattle.meaning.specs.Agreement.{SeesItsClasses}
 use Rattle.meaning.specs.Binding.{holds_full}
 use Rattle.meaning.specs.Fits.{FitsItsClasses}
+use Rattle.meaning.specs.Reads.{change_reads}
 use Rattle.object_store.specs.Contents.{Contents, catalog_of}
-use Rattle.live_queries.specs.Asked.{IsBefore, class_in}
+use Rattle.live_queries.specs.Asked.{IsBefore, class_in, renewal_reads}
 use Rattle.live_queries.specs.Columns.{AreColumnsOf, Column, HaveCapacitiesOf, HaveObjectsOf, capacity_of, gives, most_bindings, object_of, order_of, variables_of}
-use Rattle.live_queries.specs.Current.{row_at}
-use Rattle.live_queries.specs.Kept.{IsKept, KeptQuery}
+use Rattle.live_queries.specs.Current.{row_at, told_from}
+use Rattle.live_queries.specs.Kept.{IsKept, KeptQuery, registered}
 use Rattle.live_queries.specs.Prepared.{AreColumnsWith, AreNewRows, HaveRoomFor}
 use Rattle.live_queries.specs.Registering.{IsRegistered}
 use Rattle.live_queries.specs.Told.{Info, info_of}
@@ -33,6 +34,7 @@ use Rattle.live_queries.specs.Written.{HaveObjectsWith, lacks}
 use Rattle.live_queries.proofs.CurrentLemmas.{variable_of_query}
 use Rattle.live_queries.proofs.FormedLemmas.{are_counted, have_capacities, have_objects, variables_are}
 use Rattle.live_queries.proofs.GrowLemmas.{have_room, have_with, lack_tells}
+use Rattle.live_queries.proofs.ReadLemmas.{more_of_change}
 use Rattle.live_queries.proofs.SizeLemmas.{columns_size}
 
 -- ---- a query that is registered
@@ -69,14 +71,19 @@ anew_is_kept catalog k is sees are few room window last = record {
   last = last;
 }
 
-pub anew_is_registered : (w : World) (given : Info) (k : KeptQuery) → info_of k ≡ given → FitsItsClasses w k.query →
+pub anew_is_registered : (w : World) (now : ℕ) (given : Info) (k : KeptQuery) (lo : ℕ) → info_of k ≡ given → FitsItsClasses w k.query →
     AreColumnsOf w.history.catalog k.query.classes (order_of k.query) k.columns →
-    AreRowsOf (row_at k) (counts (variables_of k.columns)) (λ n t. within k.entry k.expiry t && holds_full w k.query k.expiry (object_of k.columns n) t) →
-    IsRegistered w given k.query k
-anew_is_registered w given k info fits are rows = record {
+    ((t : ℕ) → told_from k now ≤ t → nat_le lo t ≡ nat_le k.entry t) →
+    AreRowsOf (row_at k) (counts (variables_of k.columns)) (λ n t. within lo k.expiry t && holds_full w k.query k.expiry (object_of k.columns n) t) →
+    IsRegistered w now given k.query k
+anew_is_registered w now given k lo info fits are told rows = record {
   info = info;
   query = refl;
-  current = record { objects = have_objects w.history.catalog k.query.classes (order_of k.query) k.columns are; rows = rows };
+  current = record {
+    objects = have_objects w.history.catalog k.query.classes (order_of k.query) k.columns are;
+    rows = λ c t from. rows c t
+        ∙ ap (λ b. counts (variables_of k.columns) c && ((b && nat_le t k.expiry) && holds_full w k.query k.expiry (object_of k.columns c) t)) (told t from);
+  };
   fits = record { fits = fits; capacities = have_capacities w.history.catalog k.query.classes (order_of k.query) k.columns are };
 }
 
@@ -85,7 +92,7 @@ anew_is_registered w given k info fits are rows = record {
 -- after its expiry nothing
 pub expired_rows : (w : World) (grows : Bool) (object class now : ℕ) (k : KeptQuery) (changes : List (Change (List Span))) → k.expiry < now → changes ≡ [] →
     AreNewRows w grows object class now k changes
-expired_rows w grows object class now k changes past none ds made c t =
+expired_rows w grows object class now k changes past none ds made c t from =
     ap (λ (fs : List (Change (List Span))). after spans_have fs (row_at k) c t) none
     ∙ sym (ap (λ b. if b && (counts (variables_of ds) c && gives ds object c)
     then (within k.entry k.expiry t && holds_full w k.query k.expiry (object_of ds c) t) else row_at k c t) (not_alive now k.expiry past))
@@ -93,28 +100,45 @@ expired_rows w grows object class now k changes past none ds made c t =
     not_alive : (n e : ℕ) → e < n → nat_le n e ≡ false
     not_alive n e h = grind (arith, nat_tests, h)
 
-alive_rows : (w : World) (grows : Bool) (object class now : ℕ) (k : KeptQuery) (changes : List (Change (List Span))) → now ≤ k.expiry →
+alive_rows : (w : World) (grows : Bool) (object class now lo : ℕ) (k : KeptQuery) (changes : List (Change (List Span))) → now ≤ k.expiry →
+    ((t : ℕ) → told_from k now ≤ t → nat_le lo t ≡ nat_le k.entry t) →
     ((ds : List Column) → AreColumnsWith grows class k.query.classes object k.columns ds → (c t : ℕ) →
     after spans_have changes (row_at k) c t
     ≡ (if counts (variables_of ds) c && gives ds object c
-    then (within k.entry k.expiry t && holds_full w k.query k.expiry (object_of ds c) t) else row_at k c t)) →
+    then (within lo k.expiry t && holds_full w k.query k.expiry (object_of ds c) t) else row_at k c t)) →
     AreNewRows w grows object class now k changes
-alive_rows w grows object class now k changes alive rows ds made c t =
+alive_rows w grows object class now lo k changes alive told rows ds made c t from =
     rows ds made c t
+    ∙ ap (λ b. if counts (variables_of ds) c && gives ds object c
+    then ((b && nat_le t k.expiry) && holds_full w k.query k.expiry (object_of ds c) t) else row_at k c t) (told t from)
     ∙ ap (λ b. if b && (counts (variables_of ds) c && gives ds object c)
     then (within k.entry k.expiry t && holds_full w k.query k.expiry (object_of ds c) t) else row_at k c t) (sym (is_alive now k.expiry alive))
   where
     is_alive : (n e : ℕ) → n ≤ e → nat_le n e ≡ true
     is_alive n e h = grind (arith, nat_tests, h)
 
-pub alive_rows_as_seen : (w : World) (grows : Bool) (object class now : ℕ) (x k : KeptQuery) → x ≡ k → (changes : List (Change (List Span))) → now ≤ x.expiry →
+pub alive_rows_as_seen : (w : World) (grows : Bool) (object class now lo : ℕ) (x k : KeptQuery) → x ≡ k → (changes : List (Change (List Span))) → now ≤ x.expiry →
+    ((t : ℕ) → told_from x now ≤ t → nat_le lo t ≡ nat_le x.entry t) →
     ((ds : List Column) → AreColumnsWith grows class x.query.classes object x.columns ds → (c t : ℕ) →
     after spans_have changes (row_at x) c t
     ≡ (if counts (variables_of ds) c && gives ds object c
-    then (within x.entry x.expiry t && holds_full w x.query x.expiry (object_of ds c) t) else row_at x c t)) →
+    then (within lo x.expiry t && holds_full w x.query x.expiry (object_of ds c) t) else row_at x c t)) →
     AreNewRows w grows object class now k changes
-alive_rows_as_seen w grows object class now x k e changes alive rows =
-    subst (λ (y : KeptQuery). AreNewRows w grows object class now y changes) e (alive_rows w grows object class now x changes alive rows)
+alive_rows_as_seen w grows object class now lo x k e changes alive told rows =
+    subst (λ (y : KeptQuery). AreNewRows w grows object class now y changes) e (alive_rows w grows object class now lo x changes alive told rows)
+
+-- over the ticks that are told it looks no more often than over all
+pub renewal_within : (c : Catalog) (now class old new lo : ℕ) (x k : KeptQuery) → x ≡ k → now ≤ x.expiry → x.entry ≤ lo →
+    new ≤ old + change_reads c x.query (x.expiry + 1 - lo) class → new ≤ old + renewal_reads c now class (registered k)
+renewal_within c now class old new lo x k e alive later most =
+    let more : change_reads c x.query (x.expiry + 1 - lo) class ≤ change_reads c x.query (x.expiry + 1 - x.entry) class =
+    more_of_change (x.expiry + 1 - lo) (x.expiry + 1 - x.entry) (omega (arith, later)) c x.query class in
+    let whole : renewal_reads c now class (registered x) ≡ change_reads c x.query (x.expiry + 1 - x.entry) class =
+    ap (λ b. if b then change_reads c x.query (x.expiry + 1 - x.entry) class else 0) (is_alive now x.expiry alive) in
+    subst (λ (y : KeptQuery). new ≤ old + renewal_reads c now class (registered y)) e (omega (arith, most, more, whole))
+  where
+    is_alive : (n h : ℕ) → n ≤ h → nat_le n h ≡ true
+    is_alive n h l = grind (arith, nat_tests, l)
 
 module _ (s : Contents) (id class : ℕ) (its : class ≡ class_in s id) (k : KeptQuery) (is : IsKept k) (old : Catalog) (before : IsBefore id old (catalog_of s))
     (have : HaveObjectsOf old k.query.classes k.columns) (grows : Bool) (classes : List ℕ) (same : classes ≡ k.query.classes) (cs : List Column)

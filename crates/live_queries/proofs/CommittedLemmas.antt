@@ -18,18 +18,18 @@ use Rattle.live_queries.specs.Renewed.{IsRenewed, IsSameHead}
 
 module _ (old new : World) (id class now : ℕ)
     (renews : (r : Renewal) (k k' : KeptQuery) → IsFreshFor new id class now k r → IsMade id class r k k' → IsRenewed new id now k k')
-    (stays : (k k' : KeptQuery) → IsKept k → IsKept k' → IsCurrentFor old k → IsRenewed new id now k k' → IsCurrentFor new k') where
-  pub all_current : (rs : List Renewal) (ks ks' : List KeptQuery) → All IsKept ks → All IsKept ks' → AreCurrent old ks →
-      AreFreshFor new id class now ks rs → AreMade id class rs ks ks' → AreCurrent new ks'
-  all_current [] [] [] kept kept' current fresh made = All-nil (IsCurrentFor new)
+    (stays : (k k' : KeptQuery) → IsKept k → IsKept k' → IsCurrentFor old now k → IsRenewed new id now k k' → IsCurrentFor new now k') where
+  pub all_current : (rs : List Renewal) (ks ks' : List KeptQuery) → All IsKept ks → All IsKept ks' → AreCurrent old now ks →
+      AreFreshFor new id class now ks rs → AreMade id class rs ks ks' → AreCurrent new now ks'
+  all_current [] [] [] kept kept' current fresh made = All-nil (IsCurrentFor new now)
   all_current [] [] (k' ∷ ks') kept kept' current fresh made = absurd made
   all_current [] (k ∷ ks) ks' kept kept' current fresh made = absurd made
   all_current (r ∷ rs) [] ks' kept kept' current fresh made = absurd made
   all_current (r ∷ rs) (k ∷ ks) [] kept kept' current fresh made = absurd made
   all_current (r ∷ rs) (k ∷ ks) (k' ∷ ks') kept kept' current fresh made =
-      All-cons (IsCurrentFor new) k' ks'
-      (stays k k' (All-head IsKept k ks kept) (All-head IsKept k' ks' kept') (All-head (IsCurrentFor old) k ks current) (renews r k k' fresh.0 made.0))
-      (all_current rs ks ks' (All-tail IsKept k ks kept) (All-tail IsKept k' ks' kept') (All-tail (IsCurrentFor old) k ks current) fresh.1 made.1)
+      All-cons (IsCurrentFor new now) k' ks'
+      (stays k k' (All-head IsKept k ks kept) (All-head IsKept k' ks' kept') (All-head (IsCurrentFor old now) k ks current) (renews r k k' fresh.0 made.0))
+      (all_current rs ks ks' (All-tail IsKept k ks kept) (All-tail IsKept k' ks' kept') (All-tail (IsCurrentFor old now) k ks current) fresh.1 made.1)
 
 -- ---- capacities stay where classes are added
 

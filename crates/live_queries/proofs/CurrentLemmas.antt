@@ -14,12 +14,13 @@ use Rattle.formula.specs.Tree.{ResolvedQuery}
 use Rattle.kept_rows.specs.Numbers.{counts}
 use Rattle.meaning.specs.Agreement.{world_with}
 use Rattle.meaning.specs.Binding.{holds_full}
+use Rattle.meaning.specs.Registered.{first_tick}
 use Rattle.live_queries.specs.Columns.{Column, HaveObjectsOf, gives, has_variable, object_of, variables_of}
-use Rattle.live_queries.specs.Current.{IsCurrentFor, full_at, row_at}
+use Rattle.live_queries.specs.Current.{IsCurrentFor, full_at, row_at, told_from}
 use Rattle.live_queries.specs.Kept.{IsKept, KeptQuery}
 use Rattle.live_queries.specs.declared.fresh.Renewal.{Renewal}
 use Rattle.live_queries.specs.Prepared.{IsFreshFor, IsMade}
-use Rattle.live_queries.specs.Renewed.{AddsAtMost, IsRenewed}
+use Rattle.live_queries.specs.Renewed.{AddsAtMost, IsRenewed, IsSameHead}
 use Rattle.live_queries.proofs.ColumnLemmas.{AreGrown, counts_more, new_or_before, not_given, same_counts, same_objects}
 use Rattle.live_queries.proofs.ObjectLemmas.{grown_columns, none_past, objects_grow}
 use Rattle.live_queries.proofs.OrderLemmas.{columns_are, order_below, order_distinct, order_has}
@@ -51,12 +52,12 @@ module _ (New : Type 0) (id : ℕ) (cs ds : List Column) (grown : AreGrown New i
       ((b : ℕ → ℕ) → ((v : ℕ) → has_variable ds v ≡ true → (b v == id) ≡ false) → (t : ℕ) → inside t ≡ true → full b t ≡ full' b t) →
       (alive ≡ false → (b : ℕ → ℕ) (t : ℕ) → inside t ≡ true → full b t ≡ full' b t) →
       (alive ≡ false → New → (b : ℕ → ℕ) (v : ℕ) → has_variable ds v ≡ true → b v ≡ id → (t : ℕ) → inside t ≡ true → full' b t ≡ false) →
-      ((n t : ℕ) → rows n t ≡ (counts (variables_of cs) n && (inside t && full (object_of cs n) t))) →
-      ((n t : ℕ) → rows' n t ≡ (if alive && (counts (variables_of ds) n && gives ds id n) then (inside t && full' (object_of ds n) t) else rows n t)) →
-      (n t : ℕ) → rows' n t ≡ (counts (variables_of ds) n && (inside t && full' (object_of ds n) t))
-  rows_renewed others expired absent current renewed n t =
+      (n t : ℕ) → rows n t ≡ (counts (variables_of cs) n && (inside t && full (object_of cs n) t)) →
+      rows' n t ≡ (if alive && (counts (variables_of ds) n && gives ds id n) then (inside t && full' (object_of ds n) t) else rows n t) →
+      rows' n t ≡ (counts (variables_of ds) n && (inside t && full' (object_of ds n) t))
+  rows_renewed others expired absent n t current renewed =
       row_renewed alive (gives ds id n) (counts (variables_of ds) n) (counts (variables_of cs) n) (inside t)
-      (full (object_of cs n) t) (full' (object_of ds n) t) (rows n t) (rows' n t) (current n t) (renewed n t)
+      (full (object_of cs n) t) (full' (object_of ds n) t) (rows n t) (rows' n t) current renewed
       (same_counts New id cs ds grown n)
       (λ other in_window.
       ap (λ (b : ℕ → ℕ). full b t) (λ i v. sym (same_objects New id cs ds grown n v other) i)
@@ -84,7 +85,7 @@ module _ (k : KeptQuery) (is : IsKept k) where
 
 pub columns_grow : (id now : ℕ) (old new : History) → ChangesFrom id now old new → AddsAtMost id old.catalog new.catalog →
     (regions : List Region) (k k' : KeptQuery) → IsKept k → IsKept k' →
-    IsCurrentFor (world_with old regions) k → IsRenewed (world_with new regions) id now k k' →
+    IsCurrentFor (world_with old regions) now k → IsRenewed (world_with new regions) id now k k' →
     AreGrown (length old.catalog.objects ≤ id) id k.columns k'.columns
 columns_grow id now old new changes adds regions k k' is is' current renewed =
     grown_columns id old.catalog new.catalog k.query.classes (objects_grow id now old new changes adds) k.columns k'.columns renewed.head.columns
@@ -94,7 +95,7 @@ columns_grow id now old new changes adds regions k k' is is' current renewed =
 -- a binding that there was is one still, of the same objects
 pub binding_stays : (id now : ℕ) (old new : History) → ChangesFrom id now old new → AddsAtMost id old.catalog new.catalog →
     (regions : List Region) (k k' : KeptQuery) → IsKept k → IsKept k' →
-    IsCurrentFor (world_with old regions) k → IsRenewed (world_with new regions) id now k k' →
+    IsCurrentFor (world_with old regions) now k → IsRenewed (world_with new regions) id now k k' →
     (n : ℕ) → counts (variables_of k.columns) n ≡ true →
     (counts (variables_of k'.columns) n ≡ true) × ((v : ℕ) → object_of k'.columns n v ≡ object_of k.columns n v)
 binding_stays id now old new changes adds regions k k' is is' current renewed n there =
@@ -107,6 +108,10 @@ binding_stays id now old new changes adds regions k k' is is' current renewed n 
       | inr before ↦ (here, before.1)
     ]
 
+-- the ticks that are told begin at the same tick
+pub same_start : {k k' : KeptQuery} → IsSameHead k k' → (now : ℕ) → told_from k' now ≡ told_from k now
+same_start head now = λ i. first_tick (head.kind i) (head.entry i) now
+
 not_alive : (now e : ℕ) → nat_le now e ≡ false → e < now
 not_alive now e h = grind (arith, nat_tests, h)
 
@@ -118,7 +123,7 @@ pub stays_current : (id now : ℕ) (old new : History) → ChangesFrom id now ol
     holds_full (world_with old regions) k.query k.expiry b t ≡ holds_full (world_with new regions) k.query k.expiry b t) →
     ((b : ℕ → ℕ) (t v : ℕ) → v < length k.query.classes → cells_at new (b v) t ≡ None →
     holds_full (world_with new regions) k.query k.expiry b t ≡ false) →
-    IsCurrentFor (world_with old regions) k → IsRenewed (world_with new regions) id now k k' → IsCurrentFor (world_with new regions) k'
+    IsCurrentFor (world_with old regions) now k → IsRenewed (world_with new regions) id now k k' → IsCurrentFor (world_with new regions) now k'
 stays_current id now old new changes adds regions k k' is is' others expired absent current renewed =
     let same : (c t : ℕ) → full_at (world_with new regions) k' c t
     ≡ (within k.entry k.expiry t && holds_full (world_with new regions) k.query k.expiry (object_of k'.columns c) t) =
@@ -132,7 +137,8 @@ stays_current id now old new changes adds regions k k' is is' others expired abs
     λ h t l. before now k.expiry t (not_alive now k.expiry h) (inside t l) in
     record {
       objects = renewed.objects;
-      rows = λ c t.
+      rows = λ c t from.
+          let told : told_from k now ≤ t = subst (λ (n : ℕ). n ≤ t) (same_start renewed.head now) from in
           rows_renewed (length old.catalog.objects ≤ id) id k.columns k'.columns grown (ap are_distinct is'.order ∙ order_distinct k'.query is'.resolved)
           (nat_le now k.expiry) (within k.entry k.expiry)
           (holds_full (world_with old regions) k.query k.expiry) (holds_full (world_with new regions) k.query k.expiry) (row_at k) (row_at k')
@@ -141,9 +147,8 @@ stays_current id now old new changes adds regions k k' is is' others expired abs
           (λ h none b v there object u l.
           absent b u v (subst (λ (n : ℕ). v < n) classes (variable_of_query k' is' v there))
           (ap (λ o. cells_at new o u) object ∙ changes.past u (past h u l) ∙ none_past old id u none))
-          current.rows
-          (λ n u. renewed.rows n u ∙ ap (λ b. if nat_le now k.expiry && (counts (variables_of k'.columns) n && gives k'.columns id n) then b else row_at k n u) (same n u))
-          c t
+          c t (current.rows c t told)
+          (renewed.rows c t told ∙ ap (λ b. if nat_le now k.expiry && (counts (variables_of k'.columns) c && gives k'.columns id c) then b else row_at k c t) (same c t))
           ∙ ap (λ b. counts (variables_of k'.columns) c && b) (sym (same c t));
     }
   where
@@ -156,21 +161,21 @@ pub row_stays : (id now : ℕ) (old new : History) → ChangesFrom id now old ne
     ((b : ℕ → ℕ) → ((v : ℕ) → v < length k.query.classes → (t : ℕ) → now ≤ t → t ≤ k.expiry → cells_at old (b v) t ≡ cells_at new (b v) t) →
     (t : ℕ) → t ≤ k.expiry →
     holds_full (world_with old regions) k.query k.expiry b t ≡ holds_full (world_with new regions) k.query k.expiry b t) →
-    IsCurrentFor (world_with old regions) k → IsRenewed (world_with new regions) id now k k' → IsCurrentFor (world_with new regions) k' →
+    IsCurrentFor (world_with old regions) now k → IsRenewed (world_with new regions) id now k k' → IsCurrentFor (world_with new regions) now k' →
     (n : ℕ) → counts (variables_of k.columns) n ≡ true →
     ((v : ℕ) → v < length k.query.classes → (t : ℕ) → now ≤ t → t ≤ k.expiry →
     cells_at old (object_of k.columns n v) t ≡ cells_at new (object_of k.columns n v) t) →
-    (t : ℕ) → row_at k' n t ≡ row_at k n t
-row_stays id now old new changes adds regions k k' is is' past current renewed current' n there later t =
+    (t : ℕ) → told_from k now ≤ t → row_at k' n t ≡ row_at k n t
+row_stays id now old new changes adds regions k k' is is' past current renewed current' n there later t from =
     let stays = binding_stays id now old new changes adds regions k k' is is' current renewed n there in
     let same : full_at (world_with new regions) k' n t
     ≡ (within k.entry k.expiry t && holds_full (world_with new regions) k.query k.expiry (object_of k.columns n) t) =
     λ i. within (renewed.head.entry i) (renewed.head.expiry i) t
     && holds_full (world_with new regions) (renewed.head.query i) (renewed.head.expiry i) (λ v. stays.1 v i) t in
-    current'.rows n t
+    current'.rows n t (subst (λ (m : ℕ). m ≤ t) (sym (same_start renewed.head now)) from)
     ∙ ap (λ b. b && full_at (world_with new regions) k' n t) (stays.0 ∙ sym there)
     ∙ ap (λ b. counts (variables_of k.columns) n && b) (same ∙ inside (cases_Bool (within k.entry k.expiry t)))
-    ∙ sym (current.rows n t)
+    ∙ sym (current.rows n t from)
   where
     inside : ((within k.entry k.expiry t ≡ true) ⊎ (within k.entry k.expiry t ≡ false)) →
         (within k.entry k.expiry t && holds_full (world_with new regions) k.query k.expiry (object_of k.columns n) t)
@@ -191,7 +196,7 @@ made_renews w object class now r k k' fresh made =
     record {
       head = made.head;
       objects = subst (λ (q : ResolvedQuery). HaveObjectsOf w.history.catalog q.classes k'.columns) (sym made.head.query) (fresh.objects k'.columns made.columns);
-      rows = λ c t.
-          made.rows c t ∙ fresh.rows k'.columns made.columns c t
+      rows = λ c t from.
+          made.rows c t ∙ fresh.rows k'.columns made.columns c t from
           ∙ ap (λ b. if nat_le now k.expiry && (counts (variables_of k'.columns) c && gives k'.columns object c) then b else row_at k c t) (sym (same c t));
     }

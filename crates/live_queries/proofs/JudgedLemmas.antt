@@ -52,24 +52,21 @@ in_domains w q cs is are n here v below =
     (has_column q cs is (variables_are w.history.catalog q.classes (order_of q) cs are) v within_classes)
 
 pub first_rows_are : (w : World) (q : ResolvedQuery) (lo hi : ℕ) (cs : List Column) (numbers : List Variable) (domains : List (List ℕ)) (full : Table (List Span))
-    (none after rows : ℕ → ℕ → Bool) → IsResolved q → AreColumnsOf w.history.catalog q.classes (order_of q) cs →
+    (rows : ℕ → ℕ → Bool) → IsResolved q → AreColumnsOf w.history.catalog q.classes (order_of q) cs →
     domains ≡ map (ids_of w.history.catalog) q.classes →
     ((b : ℕ → ℕ) → IsIn domains b → (t : ℕ) → has spans_have full b t ≡ (within lo hi t && holds_full w q hi b t)) →
-    numbers ≡ variables_of cs → ((c t : ℕ) → none c t ≡ false) →
-    ((c t : ℕ) → after c t ≡ (if counts numbers c then has spans_have full (object_of cs c) t else none c t)) →
-    ((c t : ℕ) → rows c t ≡ after c t) →
+    numbers ≡ variables_of cs → AreRowsOf rows (counts numbers) (λ c t. has spans_have full (object_of cs c) t) →
     AreRowsOf rows (counts (variables_of cs)) (λ n t. within lo hi t && holds_full w q hi (object_of cs n) t)
-first_rows_are w q lo hi cs numbers domains full none after rows is are all told same nothing judged made c t =
-    made c t ∙ judged c t
-    ∙ ap (λ vs. if counts vs c then has spans_have full (object_of cs c) t else none c t) same
+first_rows_are w q lo hi cs numbers domains full rows is are all told same judged c t =
+    judged c t
+    ∙ ap (λ vs. counts vs c && has spans_have full (object_of cs c) t) same
     ∙ elim (cases_Bool (counts (variables_of cs) c)) [
       | inl here ↦
-          ap (λ b. if b then has spans_have full (object_of cs c) t else none c t) here
+          ap (λ b. b && has spans_have full (object_of cs c) t) here
           ∙ told (object_of cs c) (subst (λ (d : List (List ℕ)). IsIn d (object_of cs c)) (sym all) (in_domains w q cs is are c here)) t
           ∙ ap (λ b. b && (within lo hi t && holds_full w q hi (object_of cs c) t)) (sym here)
       | inr other ↦
-          ap (λ b. if b then has spans_have full (object_of cs c) t else none c t) other
-          ∙ nothing c t
+          ap (λ b. b && has spans_have full (object_of cs c) t) other
           ∙ ap (λ b. b && (within lo hi t && holds_full w q hi (object_of cs c) t)) (sym other)
     ]
 

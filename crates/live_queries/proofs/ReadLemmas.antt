@@ -2,7 +2,7 @@
 use Rattle.std.proofs.Common.{◌≡◌, ℕ, ◌+◌, ◌-◌, ◌*◌, ◌<◌, ◌≤◌, Bool, true, false, ◌||◌, List, [], ◌∷◌, length, refl, sym, ap, ◌∙◌, subst, inl, inr, arith, add-le-add, if◌then◌else◌}
 use Rattle.std.specs.Prelude.{◌==◌, slice_index, sum_by}
 use Rattle.std.specs.List.{flat_map, list_any, range_with_len}
-use Rattle.std.proofs.Math.Nat.{mul-le-mul, mul-le-mul_left, mul-le-mul_right}
+use Rattle.std.proofs.Math.Nat.{mul-le-mul, mul-le-mul_right}
 use Rattle.std.proofs.lemmas.Bool.{cases_lt}
 use Rattle.std.proofs.lemmas.List.{get_or-map, length-map}
 use Rattle.std.proofs.lemmas.List.FromFn.{get_or-range_with_len, length-range_with_len}
@@ -34,27 +34,46 @@ more_singles size more is vs v =
       | false ↦ is v
     ]
 
-more_reads : (ticks : ℕ) (f : ResolvedTree) (size more : ℕ → ℕ) → IsMore size more → reads size ticks f ≤ reads more ticks f
-more_reads ticks (shapes.Truth b) size more is = omega arith
-more_reads ticks (shapes.Atom a) size more is = mul-le-mul_right (length (atom_variables a)) (more_choices size more is (atom_variables a))
-more_reads ticks (shapes.Not f) size more is = more_reads ticks f size more is
-more_reads ticks (shapes.And f g) size more is = add-le-add (more_reads ticks f size more is) (more_reads ticks g size more is)
-more_reads ticks (shapes.Or f g) size more is = add-le-add (more_reads ticks f size more is) (more_reads ticks g size more is)
-more_reads ticks (shapes.Next f) size more is = more_reads ticks f size more is
-more_reads ticks (shapes.Eventually f) size more is = more_reads ticks f size more is
-more_reads ticks (shapes.Always f) size more is = more_reads ticks f size more is
-more_reads ticks (shapes.Bounded form c f) size more is = more_reads ticks f size more is
-more_reads ticks (shapes.Until form c f g) size more is = add-le-add (more_reads ticks f size more is) (more_reads ticks g size more is)
-more_reads ticks (shapes.Assign (d, q) f) size more is =
-    let vs = term_variables q in
-    let part : reads (made_single size vs) ticks f ≤ reads (made_single more vs) ticks f = more_reads ticks f (made_single size vs) (made_single more vs) (more_singles size more is vs) in
-    let each : ticks * reads (made_single size vs) ticks f ≤ ticks * reads (made_single more vs) ticks f = mul-le-mul_left ticks part in
-    let both : length vs + ticks * reads (made_single size vs) ticks f ≤ length vs + ticks * reads (made_single more vs) ticks f = omega (arith, each) in
-    mul-le-mul (more_choices size more is vs) both
+module _ (ticks many : ℕ) (upto : ticks ≤ many) where
+  more_reads : (f : ResolvedTree) (size more : ℕ → ℕ) → IsMore size more → reads size ticks f ≤ reads more many f
+  more_reads (shapes.Truth b) size more is = omega arith
+  more_reads (shapes.Atom a) size more is = mul-le-mul_right (length (atom_variables a)) (more_choices size more is (atom_variables a))
+  more_reads (shapes.Not f) size more is = more_reads f size more is
+  more_reads (shapes.And f g) size more is = add-le-add (more_reads f size more is) (more_reads g size more is)
+  more_reads (shapes.Or f g) size more is = add-le-add (more_reads f size more is) (more_reads g size more is)
+  more_reads (shapes.Next f) size more is = more_reads f size more is
+  more_reads (shapes.Eventually f) size more is = more_reads f size more is
+  more_reads (shapes.Always f) size more is = more_reads f size more is
+  more_reads (shapes.Bounded form c f) size more is = more_reads f size more is
+  more_reads (shapes.Until form c f g) size more is = add-le-add (more_reads f size more is) (more_reads g size more is)
+  more_reads (shapes.Assign (d, q) f) size more is =
+      let vs = term_variables q in
+      let part : reads (made_single size vs) ticks f ≤ reads (made_single more vs) many f = more_reads f (made_single size vs) (made_single more vs) (more_singles size more is vs) in
+      let each : ticks * reads (made_single size vs) ticks f ≤ many * reads (made_single more vs) many f = mul-le-mul upto part in
+      let both : length vs + ticks * reads (made_single size vs) ticks f ≤ length vs + many * reads (made_single more vs) many f = omega (arith, each) in
+      mul-le-mul (more_choices size more is vs) both
 
-more_of_query : (ticks : ℕ) (q : ResolvedQuery) (size more : ℕ → ℕ) → IsMore size more → query_reads size ticks q ≤ query_reads more ticks q
-more_of_query ticks q size more is =
-    add-le-add (more_reads ticks q.formula size more is) (sum_by-le-sum_by size more (between 0 (length q.classes)) is)
+  more_of_query : (q : ResolvedQuery) (size more : ℕ → ℕ) → IsMore size more → query_reads size ticks q ≤ query_reads more many q
+  more_of_query q size more is =
+      add-le-add (more_reads q.formula size more is) (sum_by-le-sum_by size more (between 0 (length q.classes)) is)
+
+  -- over more ticks as many looks or more
+  pub more_in_all : (q : ResolvedQuery) (size : ℕ → ℕ) → query_reads size ticks q ≤ query_reads size many q
+  more_in_all q size = more_of_query q size size (λ v. omega arith)
+
+  pub more_of_change : (c : Catalog) (q : ResolvedQuery) (class : ℕ) → change_reads c q ticks class ≤ change_reads c q many class
+  more_of_change c q class =
+      sum_by-le-sum_by (λ v. if slice_index q.classes v == class then query_reads (made_single (sizes_of c q) (v ∷ [])) ticks q else 0)
+      (λ v. if slice_index q.classes v == class then query_reads (made_single (sizes_of c q) (v ∷ [])) many q else 0)
+      (between 0 (length q.classes)) one
+    where
+      one : (v : ℕ) → (if slice_index q.classes v == class then query_reads (made_single (sizes_of c q) (v ∷ [])) ticks q else 0)
+          ≤ (if slice_index q.classes v == class then query_reads (made_single (sizes_of c q) (v ∷ [])) many q else 0)
+      one v = elim (slice_index q.classes v == class) as (λ b. (if b then query_reads (made_single (sizes_of c q) (v ∷ [])) ticks q else 0)
+          ≤ (if b then query_reads (made_single (sizes_of c q) (v ∷ [])) many q else 0)) [
+            | true ↦ more_in_all q (made_single (sizes_of c q) (v ∷ []))
+            | false ↦ omega arith
+          ]
 
 -- ---- the domains of a part
 
@@ -109,7 +128,7 @@ one_part c q ticks class id v = either (is_of_class q.classes class v) refl
     either false e = omega arith
     either true e =
         let few : query_reads (size_of (domains_for c q.classes id v)) ticks q ≤ query_reads (made_single (sizes_of c q) (v ∷ [])) ticks q =
-        more_of_query ticks q (size_of (domains_for c q.classes id v)) (made_single (sizes_of c q) (v ∷ [])) (single_sizes c q id v) in
+        more_of_query ticks ticks (omega arith) q (size_of (domains_for c q.classes id v)) (made_single (sizes_of c q) (v ∷ [])) (single_sizes c q id v) in
         let alone : sum_by (λ (s : Single). query_reads (size_of s.domains) ticks q) (single ∷ []) ≡ query_reads (size_of (domains_for c q.classes id v)) ticks q + 0 =
         sum_by-cons (λ (s : Single). query_reads (size_of s.domains) ticks q) single [] in
         subst (λ (b : Bool). sum_by (λ (s : Single). query_reads (size_of s.domains) ticks q) (single ∷ [])
@@ -134,3 +153,9 @@ parts_within c q ticks class id singles are =
 
 pub most_within : (old now few more : ℕ) → now ≤ old + few → few ≤ more → now ≤ old + more
 most_within old now few more most within = omega (arith, most, within)
+
+pub most_over : (size : ℕ → ℕ) (q : ResolvedQuery) (old now lo entry hi : ℕ) → entry ≤ lo → now ≤ old + query_reads size (hi + 1 - lo) q →
+    now ≤ old + query_reads size (hi + 1 - entry) q
+most_over size q old now lo entry hi later most =
+    let more : query_reads size (hi + 1 - lo) q ≤ query_reads size (hi + 1 - entry) q = more_in_all (hi + 1 - lo) (hi + 1 - entry) (omega (arith, later)) q size in
+    omega (arith, most, more)

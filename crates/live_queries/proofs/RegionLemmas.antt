@@ -14,6 +14,8 @@ use Rattle.history.specs.World.{World}
 use Rattle.formula_shape.specs.Shape as shapes
 use Rattle.formula.specs.declared.tree.RAtom.{RAtom}
 use Rattle.formula.specs.declared.tree.RAtom.TheVariants as atoms
+use Rattle.formula.specs.declared.kind.QueryKind.{QueryKind}
+use Rattle.formula.specs.declared.kind.QueryKind.TheVariants as kinds
 use Rattle.formula.specs.declared.value.Env.{Env}
 use Rattle.formula.specs.declared.value.ValueKind.{ValueKind}
 use Rattle.formula.specs.Tree.{ResolvedTree}
@@ -22,6 +24,7 @@ use Rattle.meaning.specs.Agreement.{Agree}
 use Rattle.meaning.specs.Atom.{atom_holds, is_in_region, position_in}
 use Rattle.meaning.specs.Binding.{are_present, holds_full}
 use Rattle.meaning.specs.Fits.{FitsItsClasses, atom_fits, formula_fits, is_point_variable, no_kinds, term_kind, with_kind}
+use Rattle.meaning.specs.Registered.{first_tick}
 use Rattle.meaning.specs.Satisfaction.{Interpretation, plain, sat}
 use Rattle.meaning.specs.Trace.{Trace, trace_of}
 use Rattle.kept_rows.specs.Numbers.{counts}
@@ -91,12 +94,18 @@ same_columns old new same classes (c ∷ cs) have = (
 -- passed in
 pub stays_current_without_objects :
     ((j k : Interpretation) (lo hi : ℕ) (f : ResolvedTree) → Agree j k lo hi f → (e : ℕ) → e ≤ hi → (x : Env) → AgreeIn lo hi (sat j f x e) (sat k f x e)) →
-    (old new : World) → ChangesNoObject old new → (k : KeptQuery) → FitsItsClasses old k.query → IsCurrentFor old k → IsCurrentFor new k
-stays_current_without_objects same_truth old new changes k fits current = record {
+    (old new : World) → ChangesNoObject old new → (before now : ℕ) → before ≤ now → (k : KeptQuery) → FitsItsClasses old k.query →
+    IsCurrentFor old before k → IsCurrentFor new now k
+stays_current_without_objects same_truth old new changes before now upto k fits current = record {
   objects = same_columns old.history.catalog new.history.catalog changes.objects k.query.classes k.columns current.objects;
-  rows = λ n t. current.rows n t ∙ ap (λ b. counts (variables_of k.columns) n && b) (same_full n t);
+  rows = λ n t from. current.rows n t (still_told k.kind from) ∙ ap (λ b. counts (variables_of k.columns) n && b) (same_full n t);
 }
   where
+    -- what is told later is told before
+    still_told : (kind : QueryKind) {t : ℕ} → first_tick kind k.entry now ≤ t → first_tick kind k.entry before ≤ t
+    still_told kinds.Watch from = omega (arith, upto, from)
+    still_told kinds.Keep from = from
+
     -- by the states, and then by the regions
     same_full : (n t : ℕ) → full_at old k n t ≡ full_at new k n t
     same_full n t =

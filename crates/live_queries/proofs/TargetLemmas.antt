@@ -16,7 +16,7 @@ use Rattle.kept_rows.specs.Listing.{times}
 use Rattle.kept_rows.specs.Numbers.{counts, size_of}
 use Rattle.meaning.specs.Binding.{holds_full, holds_target, tuple_of}
 use Rattle.live_queries.specs.Columns.{AreCounted, Column, HaveObjectsOf, has_variable, object_of, object_or, variables_of}
-use Rattle.live_queries.specs.Current.{IsCurrentFor, full_at, row_at}
+use Rattle.live_queries.specs.Current.{IsCurrentFor, full_at, row_at, told_from}
 use Rattle.live_queries.specs.Kept.{IsKept, KeptQuery}
 use Rattle.live_queries.specs.Told.{target_count, target_width}
 use Rattle.live_queries.proofs.ColumnLemmas.{equal, later_variable, own}
@@ -119,7 +119,7 @@ back_is_part (suc m) (c ∷ cs) v has = or_right (c.variable == v) (has_variable
 
 -- ---- a query that is current
 
-module _ (w : World) (k : KeptQuery) (is : IsKept k) (current : IsCurrentFor w k) where
+module _ (w : World) (now : ℕ) (k : KeptQuery) (is : IsKept k) (current : IsCurrentFor w now k) where
   abbrev ahead : ℕ
   ahead = length k.query.targets
 
@@ -167,12 +167,12 @@ module _ (w : World) (k : KeptQuery) (is : IsKept k) (current : IsCurrentFor w k
         ∙ objects_are fronts n (ap are_distinct target_variables ∙ is.resolved.differ)
 
     -- no binding has a target that isn't one
-    pub no_times : counts (variables_of fronts) n ≡ false → (t : ℕ) → times (row_at k) width n t ≡ false
-    no_times none t =
+    pub no_times : counts (variables_of fronts) n ≡ false → (t : ℕ) → told_from k now ≤ t → times (row_at k) width n t ≡ false
+    no_times none t from =
         false_from_ne_true (times (row_at k) width n t) (λ h.
         let s = any_between_found (λ c. row_at k c t) (n * width) (n * width + width) h in
         let at : s.tick ≡ n * width + (s.tick - n * width) = omega (arith, s.from) in
-        let parts = and_parts (counts (variables_of k.columns) s.tick) (full_at w k s.tick t) (sym (current.rows s.tick t) ∙ s.passes) in
+        let parts = and_parts (counts (variables_of k.columns) s.tick) (full_at w k s.tick t) (sym (current.rows s.tick t from) ∙ s.passes) in
         both_ways (counts (variables_of k.columns) s.tick)
         (ap (counts (variables_of k.columns)) at ∙ counts_at (s.tick - n * width) (omega (arith, s.from, s.below)) ∙ ap (λ b. b && counts (variables_of backs) (s.tick - n * width)) none)
         parts.0)
@@ -180,7 +180,7 @@ module _ (w : World) (k : KeptQuery) (is : IsKept k) (current : IsCurrentFor w k
     abbrev key : List ℕ
     key = objects_at fronts n
 
-    module _ (there : counts (variables_of fronts) n ≡ true) (t : ℕ) (inside : within k.entry k.expiry t ≡ true) where
+    module _ (there : counts (variables_of fronts) n ≡ true) (t : ℕ) (from : told_from k now ≤ t) (inside : within k.entry k.expiry t ≡ true) where
       abbrev test : List ℕ → Bool
       test b = bytes_eq (tuple_of k.query b) key && holds_full w k.query k.expiry (slice_index b) t
 
@@ -192,7 +192,7 @@ module _ (w : World) (k : KeptQuery) (is : IsKept k) (current : IsCurrentFor w k
           let at : n * width + d ≡ s.tick = omega (arith, s.from) in
           let f : ℕ → ℕ = object_of k.columns s.tick in
           let b : List ℕ = map f (range_with_len 0 (length k.query.classes)) in
-          let parts = and_parts (counts (variables_of k.columns) s.tick) (full_at w k s.tick t) (sym (current.rows s.tick t) ∙ s.passes) in
+          let parts = and_parts (counts (variables_of k.columns) s.tick) (full_at w k s.tick t) (sym (current.rows s.tick t from) ∙ s.passes) in
           let holds : holds_full w k.query k.expiry f t ≡ true = (and_parts (within k.entry k.expiry t) (holds_full w k.query k.expiry f t) parts.1).1 in
           let made : (v : ℕ) → slice_index b v ≡ f v = λ v. elim (cases_lt v (length k.query.classes)) [
             | inl l ↦ index_made f (length k.query.classes) 0 v l ∙ ap f (let e : 0 + v ≡ v = omega arith in e)
@@ -238,7 +238,7 @@ module _ (w : World) (k : KeptQuery) (is : IsKept k) (current : IsCurrentFor w k
                 ]
           ] in
           any_between_at (λ m. row_at k m t) (n * width) (n * width + width) c (omega arith) (omega (arith, rest.below))
-          (current.rows c t
+          (current.rows c t from
           ∙ and_from (counts (variables_of k.columns) c) (full_at w k c t)
           (counts_at rest.number rest.below ∙ and_from _ _ there rest.counted)
           (and_from (within k.entry k.expiry t) (holds_full w k.query k.expiry (object_of k.columns c) t) inside

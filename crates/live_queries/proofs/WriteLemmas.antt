@@ -1,7 +1,7 @@
 -- What a write changes for the targets of a query that is current before and after it.
 use Rattle.std.proofs.Common.{◌≡◌, ℕ, zero, suc, ◌+◌, ◌*◌, ◌/◌, ◌%◌, ◌<◌, ◌≤◌, Bool, true, false, not, ◌&&◌, Option, None, Some, List, [], ◌∷◌, ◌++◌, length, map, take, drop, refl, sym, ap, ◌∙◌, subst, inl, inr, arith, if◌then◌else◌}
 use Rattle.std.specs.Prelude.{◌==◌, nat_le, nat_lt, slice_index, slice_index_or}
-use Rattle.std.specs.List.{enumerate_from, filter, filter_map, list_all}
+use Rattle.std.specs.List.{enumerate_from, filter, filter_map, list_all, list_any}
 use Rattle.std.specs.Str.{bytes_eq}
 use Rattle.std.specs.Option.{option_map}
 use Rattle.std.proofs.lemmas.Bool.{and_parts, both_ways, cases_Bool, false_from_ne_true, false≢true, or_cases}
@@ -26,9 +26,9 @@ use Rattle.kept_rows.specs.Moves.{difference, if_moved, move_between, move_of}
 use Rattle.kept_rows.specs.Numbers.{counts, size_of}
 use Rattle.meaning.specs.Agreement.{world_with}
 use Rattle.meaning.specs.Binding.{holds_full, holds_target, tuple_of, tuples}
-use Rattle.meaning.specs.Registered.{Change, change_of, changes_of_write, first_tick, is_change}
+use Rattle.meaning.specs.Registered.{Change, change_of, changes_of_write, is_change}
 use Rattle.live_queries.specs.Columns.{Column, gives, object_of, object_or, variables_of}
-use Rattle.live_queries.specs.Current.{IsCurrentFor, full_at, row_at}
+use Rattle.live_queries.specs.Current.{IsCurrentFor, full_at, row_at, told_from}
 use Rattle.live_queries.specs.Kept.{IsKept, KeptQuery, registered}
 use Rattle.live_queries.specs.Renewed.{AddsAtMost, IsRenewed}
 use Rattle.live_queries.specs.Told.{Told, key_of, move, moves_of, target_count, target_width, told_changes}
@@ -119,6 +119,35 @@ module _ (p q p' q' : ℕ → Bool) (from e now : ℕ) (inside : within from e n
       (λ none. none_inside (λ t. q' t && not (p' t)) from e now inside none) (λ none. none_inside (λ t. p' t && not (q' t)) from e now inside none)
       ∙ sym (λ i. option_map (told k) (if_change (changed key (runs_of (listed (λ t. q' t && not (p' t)) from e)) (runs_of (listed (λ t. p' t && not (q' t)) from e))
       ((stands_now i && q' now) && not (stands_now i && p' now)) ((stands_now i && p' now) && not (stands_now i && q' now)))))
+
+-- what changes is told by the ticks of the window alone
+same_move : (p q p' q' : ℕ → Bool) (from e now n : ℕ) → AgreeIn from e p p' → AgreeIn from e q q' →
+    move_between p q from e now n ≡ move_between p' q' from e now n
+same_move p q p' q' from e now n before after =
+    λ i. if_moved (record {
+      target = n;
+      gained = gains i;
+      lost = loses i;
+      enters = inside (λ t a b. λ j. after t a b j && not (before t a b j)) i;
+      leaves = inside (λ t a b. λ j. before t a b j && not (after t a b j)) i;
+    }) (gains i) (loses i)
+  where
+    gains : difference q p from e ≡ difference q' p' from e
+    gains = ap runs_of (same_listed (λ t. q t && not (p t)) (λ t. q' t && not (p' t)) from e (λ t a b i. after t a b i && not (before t a b i)))
+
+    loses : difference p q from e ≡ difference p' q' from e
+    loses = ap runs_of (same_listed (λ t. p t && not (q t)) (λ t. p' t && not (q' t)) from e (λ t a b i. before t a b i && not (after t a b i)))
+
+    le_is : (u w : ℕ) → nat_le u w ≡ true → u ≤ w
+    le_is u w h = grind (arith, nat_tests, h)
+
+    inside : {f g : ℕ → Bool} → AgreeIn from e f g → (within from e now && f now) ≡ (within from e now && g now)
+    inside {f} {g} same = elim (cases_Bool (within from e now)) [
+      | inl here ↦
+          let parts = and_parts (nat_le from now) (nat_le now e) here in
+          ap (λ b. within from e now && b) (same now (le_is from now parts.0) (le_is now e parts.1))
+      | inr out ↦ ap (λ b. b && f now) out ∙ sym (ap (λ b. b && g now) out)
+    ]
 
 and_not : (b : Bool) → (b && not b) ≡ false
 and_not true = refl
@@ -211,7 +240,7 @@ abbrev pub with_parts : KeptQuery → List Column → List (List (List Span)) �
 with_parts k ds pages = record k { columns = ds; pages = pages }
 
 module _ (old new : World) (k : KeptQuery) (ds : List Column) (pages : List (List (List Span))) (id : ℕ) (New : Type 0)
-    (is : IsKept k) (is' : IsKept (with_parts k ds pages)) (current : IsCurrentFor old k) (current' : IsCurrentFor new (with_parts k ds pages))
+    (now : ℕ) (is : IsKept k) (is' : IsKept (with_parts k ds pages)) (current : IsCurrentFor old now k) (current' : IsCurrentFor new now (with_parts k ds pages))
     (grown : AreGrown New id k.columns ds) (none : New → (class : ℕ) → has_id (ids_of old.history.catalog class) id ≡ false) where
   abbrev k' : KeptQuery
   k' = with_parts k ds pages
@@ -232,7 +261,7 @@ module _ (old new : World) (k : KeptQuery) (ds : List Column) (pages : List (Lis
   same_width = same_size New id (drop (length k.query.targets) k.columns) (drop (length k.query.targets) ds) (grown_back New id (length k.query.targets) k.columns ds grown)
 
   distinct : are_distinct (map (λ c. c.variable) fronts') ≡ true
-  distinct = ap are_distinct (target_variables new k' is' current') ∙ is'.resolved.differ
+  distinct = ap are_distinct (target_variables new now k' is' current') ∙ is'.resolved.differ
 
   module _ (n : ℕ) (few : n < target_count k) where
     few' : n < target_count k'
@@ -241,18 +270,18 @@ module _ (old new : World) (k : KeptQuery) (ds : List Column) (pages : List (Lis
     added_key : counts (variables_of fronts') n ≡ true → key_of id k n ≡ objects_at fronts' n
     added_key there =
         ap (λ m. map (object_or id k.columns m) k.query.targets) (let e : n * target_width k ≡ n * target_width k + 0 = omega arith in e)
-        ∙ target_objects old k is current n few id 0 (size_some (variables_of (drop (length k.query.targets) k.columns))) k.query.targets
-        (λ v has. front_has old k is current v ∙ has)
+        ∙ target_objects old now k is current n few id 0 (size_some (variables_of (drop (length k.query.targets) k.columns))) k.query.targets
+        (λ v has. front_has old now k is current v ∙ has)
         ∙ (λ i. map (λ v. added_object New id fronts fronts' fronts_grow n there v i) k.query.targets)
-        ∙ ap (map (object_of fronts' n)) (sym (target_variables new k' is' current'))
+        ∙ ap (map (object_of fronts' n)) (sym (target_variables new now k' is' current'))
         ∙ objects_are fronts' n distinct
 
-    module _ (there : counts (variables_of fronts') n ≡ true) (t : ℕ) (inside : within k.entry k.expiry t ≡ true) where
+    module _ (there : counts (variables_of fronts') n ≡ true) (t : ℕ) (told_later : told_from k now ≤ t) (inside : within k.entry k.expiry t ≡ true) where
       abbrev key : List ℕ
       key = objects_at fronts' n
 
       after_times : times (row_at k') (target_width k') n t ≡ holds_target new k.query k.expiry key t
-      after_times = times_are new k' is' current' n few' there t inside
+      after_times = times_are new now k' is' current' n few' there t told_later inside
 
       -- no binding from before has the object that wasn't there
       no_old : counts (variables_of fronts) n ≡ false → holds_target old k.query k.expiry key t ≡ false
@@ -263,7 +292,7 @@ module _ (old new : World) (k : KeptQuery) (ds : List Column) (pages : List (Lis
           let tuple : key ≡ map f (map (λ c. c.variable) fronts') =
           sym (bytes_eq_true (tuple_of k.query found.binding) key
           (and_parts (bytes_eq (tuple_of k.query found.binding) key) (holds_full old k.query k.expiry f t) found.passes).0)
-          ∙ ap (map f) (sym (target_variables new k' is' current')) in
+          ∙ ap (map f) (sym (target_variables new now k' is' current')) in
           elim (new_or_before New id fronts fronts' fronts_grow distinct n there) [
             | inl anew ↦
                 let class : ℕ = slice_index k.query.classes anew.variable in
@@ -272,22 +301,22 @@ module _ (old new : World) (k : KeptQuery) (ds : List Column) (pages : List (Lis
                 ∙ chosen_at (ids_of old.history.catalog) k.query.classes found.binding found.chosen anew.variable
                 (all_less (length k.query.classes) k.query.targets anew.variable
                 (and_parts (is_list_of OBJECT_LIMIT k.query.targets) (list_all (λ u. nat_lt u (length k.query.classes)) k.query.targets) is.resolved.targets).1
-                (sym (front_has new k' is' current' anew.variable) ∙ anew.there)))
+                (sym (front_has new now k' is' current' anew.variable) ∙ anew.there)))
             | inr before ↦ both_ways (counts (variables_of fronts) n) out before.0
           ])
 
       before_times : times (row_at k) (target_width k) n t ≡ holds_target old k.query k.expiry key t
       before_times = elim (cases_Bool (counts (variables_of fronts) n)) [
         | inl was ↦
-            times_are old k is current n few was t inside
+            times_are old now k is current n few was t told_later inside
             ∙ ap (λ own_key. holds_target old k.query k.expiry own_key t) (sym (same_key New id fronts fronts' fronts_grow n was there))
-        | inr out ↦ no_times old k is current n few out t ∙ sym (no_old out)
+        | inr out ↦ no_times old now k is current n few out t told_later ∙ sym (no_old out)
       ]
 
   -- ---- all targets
-  module _ (rows : ℕ → ℕ → Bool) (same_rows : (c t : ℕ) → rows c t ≡ row_at k' c t) (now : ℕ) (entered : k.entry ≤ now) where
+  module _ (rows : ℕ → ℕ → Bool) (same_rows : (c t : ℕ) → rows c t ≡ row_at k' c t) (entered : k.entry ≤ now) where
     abbrev from : ℕ
-    from = first_tick k.kind k.entry now
+    from = told_from k now
 
     abbrev became : List ℕ → Change
     became key = change_of key (holds_target old k.query k.expiry key) (holds_target new k.query k.expiry key) now from k.expiry
@@ -319,12 +348,13 @@ module _ (old new : World) (k : KeptQuery) (ds : List Column) (pages : List (Lis
               change_is (times (row_at k) (target_width k) n) (times rows (target_width k) n)
               (holds_target old k.query k.expiry (objects_at fronts' n)) (holds_target new k.query k.expiry (objects_at fronts' n)) from k.expiry now
               (within_from from k.expiry now (first_before k.kind k.entry now entered) (up_to now k.expiry alive)) alive
-              (λ t a b. before_times n few there t (in_window t a b))
-              (λ t a b. rows_times n t ∙ after_times n few there t (in_window t a b)) id k n (objects_at fronts' n) (added_key n few there)
+              (λ t a b. before_times n few there t a (in_window t a b))
+              (λ t a b. rows_times n t ∙ after_times n few there t a (in_window t a b)) id k n (objects_at fronts' n) (added_key n few there)
               ∙ sym (ap (λ b. if b then told_key (objects_at fronts' n) else None) there)
           | inr out ↦
-              (λ i. option_map (move id k) (move_between (λ t. no_times old k is current n few (no_front n out) t i)
-              (λ t. (rows_times n t ∙ no_times new k' is' current' n (few' n few) out t) i) from k.expiry now n))
+              ap (option_map (move id k)) (same_move (times (row_at k) (target_width k) n) (times rows (target_width k) n) (λ t. false) (λ t. false) from k.expiry now n
+              (λ t a b. no_times old now k is current n few (no_front n out) t a)
+              (λ t a b. rows_times n t ∙ no_times new now k' is' current' n (few' n few) out t a))
               ∙ (λ i. option_map (move id k) (if_moved (record {
                 target = n;
                 gained = nothing i;
@@ -342,7 +372,7 @@ module _ (old new : World) (k : KeptQuery) (ds : List Column) (pages : List (Lis
     all_told =
         ap (map (told k)) (filter_mapped is_change became (tuples new k.query))
         ∙ mapped_filtered (told k) (λ key. if_change (became key)) (tuples new k.query)
-        ∙ listed_targets new k' is' current' told_key
+        ∙ listed_targets new now k' is' current' told_key
 
     moves_are : nat_le now k.expiry ≡ true →
         map (move id k) (lines_upto (move_of (times (row_at k) (target_width k)) (times rows (target_width k)) from k.expiry now) (target_count k))
@@ -356,7 +386,7 @@ module _ (old new : World) (k : KeptQuery) (ds : List Column) (pages : List (Lis
         ∙ sym all_told
 
     -- past the expiry nothing changes
-    no_moves : nat_le now k.expiry ≡ false → ((c t : ℕ) → row_at k' c t ≡ row_at k c t) →
+    no_moves : nat_le now k.expiry ≡ false → ((c t : ℕ) → from ≤ t → row_at k' c t ≡ row_at k c t) →
         map (told k) (filter is_change (map became (tuples new k.query))) ≡ []
     no_moves past stay = all_told ∙ between_none (at_number told_key fronts') 0 (target_count k') (λ n a few. none_told n (subst (λ (m : ℕ). n < m) same_count few))
       where
@@ -365,9 +395,9 @@ module _ (old new : World) (k : KeptQuery) (ds : List Column) (pages : List (Lis
           | inl there ↦
               let key : List ℕ = objects_at fronts' n in
               let same : (t : ℕ) → from ≤ t → t ≤ k.expiry → holds_target new k.query k.expiry key t ≡ holds_target old k.query k.expiry key t = λ t a b.
-              sym (after_times n few there t (in_window t a b))
-              ∙ (λ i. times (λ c u. stay c u i) (same_width i) n t)
-              ∙ before_times n few there t (in_window t a b) in
+              sym (after_times n few there t a (in_window t a b))
+              ∙ (λ i. list_any (λ c. stay c t a i) (between (n * same_width i) (n * same_width i + same_width i)))
+              ∙ before_times n few there t a (in_window t a b) in
               ap (λ b. if b then told_key key else None) there
               ∙ (λ i. option_map (told k) (if_change (changed key
               (all_false (λ t. holds_target new k.query k.expiry key t && not (holds_target old k.query k.expiry key t)) from k.expiry
@@ -379,7 +409,7 @@ module _ (old new : World) (k : KeptQuery) (ds : List Column) (pages : List (Lis
           | inr out ↦ ap (λ b. if b then told_key (objects_at fronts' n) else None) out
         ]
 
-    pub write_is : (nat_le now k.expiry ≡ false → (c t : ℕ) → row_at k' c t ≡ row_at k c t) →
+    pub write_is : (nat_le now k.expiry ≡ false → (c t : ℕ) → from ≤ t → row_at k' c t ≡ row_at k c t) →
         (if nat_le now k.expiry
         then map (move id k) (lines_upto (move_of (times (row_at k) (target_width k)) (times rows (target_width k)) from k.expiry now) (target_count k))
         else []) ≡ map (told k) (filter is_change (map became (tuples new k.query)))
@@ -409,7 +439,7 @@ ids_below class id n (x ∷ objects) there = one (x.class == class) (ids_below c
 
 pub changes_are : (id now : ℕ) (old new : History) → ChangesFrom id now old new → AddsAtMost id old.catalog new.catalog →
     (regions : List Region) (k k' : KeptQuery) → IsKept k → IsKept k' →
-    IsCurrentFor (world_with old regions) k → IsRenewed (world_with new regions) id now k k' → IsCurrentFor (world_with new regions) k' →
+    IsCurrentFor (world_with old regions) now k → IsRenewed (world_with new regions) id now k k' → IsCurrentFor (world_with new regions) now k' →
     (changes : List (RowChange (List Span))) → ((c t : ℕ) → row_at k' c t ≡ after spans_have changes (row_at k) c t) → k.entry ≤ now →
     moves_of id now k changes ≡ told_changes k.name (changes_of_write (world_with old regions) (world_with new regions) (registered k) now)
 changes_are id now old new write adds regions k k' is is' current renewed current' changes same entered =
@@ -423,10 +453,10 @@ changes_are id now old new write adds regions k k' is is' current renewed curren
       pages = k'.pages;
     } in
     write_is (world_with old regions) (world_with new regions) k k'.columns k'.pages id (length old.catalog.objects ≤ id)
-    is (subst IsKept path is') current (subst (IsCurrentFor (world_with new regions)) path current')
+    now is (subst IsKept path is') current (subst (IsCurrentFor (world_with new regions) now) path current')
     (columns_grow id now old new write adds regions k k' is is' current renewed)
     (λ past class. false_from_ne_true (has_id (ids_of old.catalog class) id) (λ there.
     let below : id < 0 + length old.catalog.objects = ids_below class id 0 old.catalog.objects there in omega (arith, below, past)))
-    (after spans_have changes (row_at k)) (λ c t. sym (same c t)) now entered
-    (λ past c t. renewed.rows c t ∙ ap (λ b. if b && (counts (variables_of k'.columns) c && gives k'.columns id c)
+    (after spans_have changes (row_at k)) (λ c t. sym (same c t)) entered
+    (λ past c t from. renewed.rows c t from ∙ ap (λ b. if b && (counts (variables_of k'.columns) c && gives k'.columns id c)
     then full_at (world_with new regions) k' c t else row_at k c t) past)

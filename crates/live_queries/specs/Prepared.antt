@@ -1,5 +1,5 @@
 -- What a write makes of each registered query, before and after it is made.
-use Rattle.std.specs.Prelude.{◌≡◌, ⊤, ℕ, ◌<◌, ◌==◌, Bool, true, false, ◌&&◌, nat_le, List, [], ◌∷◌, ◌++◌, length, slice_get, if◌then◌else◌}
+use Rattle.std.specs.Prelude.{◌≡◌, ⊤, ℕ, ◌<◌, ◌≤◌, ◌==◌, Bool, true, false, ◌&&◌, nat_le, List, [], ◌∷◌, ◌++◌, length, slice_get, if◌then◌else◌}
 use Rattle.std.specs.Option.{option_map_or}
 use Rattle.tick_set.specs.Runs.{spans_have}
 use Rattle.tick_set.specs.Ticks.{within}
@@ -11,7 +11,7 @@ use Rattle.kept_rows.specs.Changes.{AreReady, AreRising, after}
 use Rattle.kept_rows.specs.Numbers.{counts, size_of}
 use Rattle.live_queries.specs.declared.fresh.Renewal.{Renewal}
 use Rattle.live_queries.specs.Columns.{Column, HaveObjectsOf, gives, object_of, variables_of}
-use Rattle.live_queries.specs.Current.{row_at}
+use Rattle.live_queries.specs.Current.{row_at, told_from}
 use Rattle.live_queries.specs.Kept.{KeptQuery}
 use Rattle.live_queries.specs.Renewed.{IsSameHead}
 
@@ -63,10 +63,10 @@ abbrev pub IsPrepared : List KeptQuery → Prepared → Type 0
 IsPrepared live f = ArePrepared f.class live f.renewals
 
 -- the rows of a query that these changes leave: up to its expiry those of the bindings that have the object are what
--- a world tells, by the columns with the object
+-- a world tells, by the columns with the object and at the ticks that are told
 abbrev pub AreNewRows : World → Bool → ℕ → ℕ → ℕ → KeptQuery → List (Change (List Span)) → Type 0
 AreNewRows w grows object class now k changes =
-    (ds : List Column) → AreColumnsWith grows class k.query.classes object k.columns ds → (c t : ℕ) →
+    (ds : List Column) → AreColumnsWith grows class k.query.classes object k.columns ds → (c t : ℕ) → told_from k now ≤ t →
     after spans_have changes (row_at k) c t
     ≡ (if nat_le now k.expiry && (counts (variables_of ds) c && gives ds object c)
     then (within k.entry k.expiry t && holds_full w k.query k.expiry (object_of ds c) t)

@@ -6,7 +6,7 @@ use Rattle.history.specs.History.{cells_at}
 use Rattle.history.specs.World.{World}
 use Rattle.kept_rows.specs.Numbers.{counts}
 use Rattle.live_queries.specs.Columns.{AreSameColumns, HaveObjectsOf, gives, variables_of}
-use Rattle.live_queries.specs.Current.{full_at, row_at}
+use Rattle.live_queries.specs.Current.{full_at, row_at, told_from}
 use Rattle.live_queries.specs.Kept.{KeptQuery}
 
 -- an object that wasn't there before is the one of this number
@@ -29,10 +29,11 @@ pub record IsSameHead (old new : KeptQuery) : Type 0 where
   pub expiry : new.expiry ≡ old.expiry
   pub columns : AreSameColumns old.columns new.columns
 
--- Up to its expiry the bindings that have the object are judged anew in this world; each other row is as before.
+-- Up to its expiry the bindings that have the object are judged anew in this world, at the ticks that are told from the
+-- write on; each other row is as before.
 pub record IsRenewed (w : World) (id now : ℕ) (old new : KeptQuery) : Type 0 where
   pub head : IsSameHead old new
   pub objects : HaveObjectsOf w.history.catalog new.query.classes new.columns
-  pub rows : (c t : ℕ) → row_at new c t
+  pub rows : (c t : ℕ) → told_from old now ≤ t → row_at new c t
       ≡ (if nat_le now old.expiry && (counts (variables_of new.columns) c && gives new.columns id c)
       then full_at w new c t else row_at old c t)

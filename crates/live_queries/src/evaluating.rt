@@ -2,7 +2,7 @@
 ghost use Rattle.std.specs.Prelude.{◌≡◌, ◌<◌, ◌≤◌, ◌+◌, ◌-◌, ◌&&◌, ◌*◌, ℕ, true, List, length, map, IfOk, if◌then◌else◌};
 ghost use Rattle.tick_set.specs.Runs.{spans_have};
 ghost use Rattle.tick_set.specs.Ticks.{within};
-ghost use Rattle.tick_set.specs.declared.spans.TheConstants.{SPAN_LIMIT};
+ghost use Rattle.tick_set.specs.declared.spans.TheConstants.{LAST_TICK, SPAN_LIMIT};
 ghost use Rattle.formula.specs.Resolved.{IsResolved};
 ghost use Rattle.formula.specs.Tree.{query_view};
 ghost use Rattle.kept_rows.specs.declared.binding.TheConstants.{BINDING_LIMIT};
@@ -36,8 +36,41 @@ use std::sync::ledger::Ledger;
 use steps::Steps;
 use tick_set::{TickSet, Window};
 
-/// The rows of all bindings of a query, by one evaluation. It fails only where memory is out.
-pub(crate) fn first_rows<L: Ledger, M: Ledger>(
+/// The rows of all bindings of a query at the ticks from `lo` to `hi`, which there needn't be. It fails only where
+/// memory is out.
+pub(crate) fn rows_between<L: Ledger, M: Ledger>(
+    alloc: Global,
+    query: &RQuery,
+    columns: &[Objects],
+    store: &Store,
+    regions: &Regions,
+    lo: u32,
+    hi: u32,
+    reads: &mut Steps<L>,
+    probes: &mut Steps<M>,
+) -> Result<KeptRows<IntervalSet>, AllocError>
+    requires accepted { IsOfAcceptedWrites store.now }
+    requires resolved { IsResolved (query_view query.now) }
+    requires fits { FitsItsClasses (world_in store.now regions.now) (query_view query.now) }
+    requires columns { AreColumnsOf (catalog_of store.now) query.now.classes (order_of (query_view query.now)) columns.now }
+    requires size { size_of (variables_of columns.now) ≤ BINDING_LIMIT }
+    requires last { hi ≤ LAST_TICK }
+    requires length { hi - lo ≤ SPAN_LIMIT }
+    ensures room { IfOk result (λ rows. HasRoom rows (size_of (variables_of columns.now))) }
+    ensures rows { IfOk result (λ rows. AreRowsOf (row_has spans_have rows) (counts (variables_of columns.now))
+        (λ n t. within lo hi t && holds_full (world_in store.now regions.now) (query_view query.now) hi (object_of columns.now n) t)) }
+    ensures least { reads.old ≤ reads.new }
+    ensures most { reads.new ≤ reads.old
+        + query_reads (sizes_of (catalog_of store.now) (query_view query.now)) (hi + 1 - lo) (query_view query.now) }
+{
+    match Window::new(lo, hi) {
+        Some(w) => first_rows(alloc, query, columns, store, regions, w, reads, probes),
+        None => KeptRows::new(alloc, width(columns)),
+    }
+}
+
+// The same over a window, by one evaluation.
+fn first_rows<L: Ledger, M: Ledger>(
     alloc: Global,
     query: &RQuery,
     columns: &[Objects],
@@ -62,15 +95,13 @@ pub(crate) fn first_rows<L: Ledger, M: Ledger>(
 {
     let domains = domains_of(alloc, query, store)?;
     let full = evaluate(alloc, query, &domains, store, regions, w, reads, probes)?;
-    let mut rows = KeptRows::new(alloc, width(columns))?;
     let numbers = numbers_of(alloc, columns)?;
     let judge = Whole {
         columns,
         rows: &full,
         nothing: IntervalSet::empty(alloc),
     };
-    let changes = judge_all(alloc, &rows, &numbers, &judge)?;
-    changes.commit(&mut rows);
+    let rows = judge_all(alloc, &numbers, &judge)?;
     Ok(rows)
 }
 

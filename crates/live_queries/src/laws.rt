@@ -13,7 +13,7 @@ ghost use Rattle.kept_rows.specs.Changes.{after};
 ghost use Rattle.kept_rows.specs.Numbers.{counts};
 ghost use Rattle.live_queries.specs.Asked.{FitsWorld};
 ghost use Rattle.live_queries.specs.Columns.{object_of, variables_of};
-ghost use Rattle.live_queries.specs.Current.{AreCurrent, IsCurrentFor, row_at};
+ghost use Rattle.live_queries.specs.Current.{AreCurrent, IsCurrentFor, row_at, told_from};
 ghost use Rattle.meaning.specs.Registered.{changes_of_tick, changes_of_write, registered_answer};
 ghost use Rattle.live_queries.specs.Kept.{IsKept, KeptQuery, registered};
 ghost use Rattle.live_queries.specs.Told.{answer_of, moves_of, passings_of, told_changes};
@@ -33,8 +33,8 @@ use meaning::{
 pub fn a_write_keeps_queries_current()
     ensures { (id now : ℕ) (old new : History) → ChangesFrom id now old new → AddsAtMost id old.catalog new.catalog
         → (regions : List Region) (k k' : KeptQuery) → IsKept k → IsKept k'
-        → IsCurrentFor (world_with old regions) k → IsRenewed (world_with new regions) id now k k'
-        → IsCurrentFor (world_with new regions) k' }
+        → IsCurrentFor (world_with old regions) now k → IsRenewed (world_with new regions) id now k k'
+        → IsCurrentFor (world_with new regions) now k' }
 {
     other_objects_stay();
     expired_queries_stay();
@@ -45,41 +45,43 @@ pub fn a_write_keeps_queries_current()
 pub fn a_write_moves_no_binding()
     ensures { (id now : ℕ) (old new : History) → ChangesFrom id now old new → AddsAtMost id old.catalog new.catalog
         → (regions : List Region) (k k' : KeptQuery) → IsKept k → IsKept k'
-        → IsCurrentFor (world_with old regions) k → IsRenewed (world_with new regions) id now k k'
+        → IsCurrentFor (world_with old regions) now k → IsRenewed (world_with new regions) id now k k'
         → (n : ℕ) → counts (variables_of k.columns) n ≡ true
         → (counts (variables_of k'.columns) n ≡ true) × ((v : ℕ) → object_of k'.columns n v ≡ object_of k.columns n v) }
 {}
 
-/// The recorded past is joined to the future that the motions imply: a write changes the row of a binding, before
-/// it too, only where it changes the states of its objects from then on.
+/// The recorded past is joined to the future that the motions imply: a write changes what is told of the row of a
+/// binding, of a kept query before it too, only where it changes the states of its objects from then on.
 pub fn a_row_changes_by_what_comes_after()
     ensures { (id now : ℕ) (old new : History) → ChangesFrom id now old new → AddsAtMost id old.catalog new.catalog
         → (regions : List Region) (k k' : KeptQuery) → IsKept k → IsKept k'
-        → IsCurrentFor (world_with old regions) k → IsRenewed (world_with new regions) id now k k'
+        → IsCurrentFor (world_with old regions) now k → IsRenewed (world_with new regions) id now k k'
         → (n : ℕ) → counts (variables_of k.columns) n ≡ true
         → ((v : ℕ) → v < length k.query.classes → (t : ℕ) → now ≤ t → t ≤ k.expiry
         → cells_at old (object_of k.columns n v) t ≡ cells_at new (object_of k.columns n v) t)
-        → (t : ℕ) → row_at k' n t ≡ row_at k n t }
+        → (t : ℕ) → told_from k now ≤ t → row_at k' n t ≡ row_at k n t }
 {
     a_write_keeps_queries_current();
     the_past_changes_by_what_comes_after();
 }
 
-/// A class or a region that is added changes nothing of what is current, and the passing of time doesn't: no
-/// definition here speaks of a clock.
+/// A class or a region that is added changes nothing of what is current, and the passing of time doesn't: the fewer
+/// ticks are told.
 pub fn writes_to_no_object_keep_queries_current()
-    ensures { (old new : World) → ChangesNoObject old new → (k : KeptQuery) → FitsItsClasses old k.query
-        → IsCurrentFor old k → IsCurrentFor new k }
+    ensures { (old new : World) → ChangesNoObject old new → (before now : ℕ) → before ≤ now
+        → (k : KeptQuery) → FitsItsClasses old k.query
+        → IsCurrentFor old before k → IsCurrentFor new now k }
 {
     interpretations_that_agree_give_the_same_truth();
 }
 
-/// What is told of a query that is current, by its rows alone, is its answer and what the passing of time changes.
+/// What is told of a query that is current, by its rows alone, is its answer at that tick and what the passing of time
+/// changes from then on.
 pub fn current_queries_tell_their_answers()
-    ensures answer { (w : World) (k : KeptQuery) → IsKept k → IsCurrentFor w k
-        → (now : ℕ) → k.entry ≤ now → answer_of k now ≡ registered_answer w (registered k) now }
-    ensures passed { (w : World) (k : KeptQuery) → IsKept k → IsCurrentFor w k
-        → (before now : ℕ) → k.entry ≤ before → before ≤ now
+    ensures answer { (w : World) (k : KeptQuery) → IsKept k → (now : ℕ) → IsCurrentFor w now k
+        → k.entry ≤ now → answer_of k now ≡ registered_answer w (registered k) now }
+    ensures passed { (w : World) (k : KeptQuery) → IsKept k → (before now : ℕ) → IsCurrentFor w before k
+        → k.entry ≤ before → before ≤ now
         → passings_of before now k ≡ told_changes k.name (changes_of_tick w (registered k) before now) }
 {}
 
@@ -88,7 +90,7 @@ pub fn current_queries_tell_their_answers()
 pub fn prepared_changes_tell_what_a_write_changes()
     ensures { (id now : ℕ) (old new : History) → ChangesFrom id now old new → AddsAtMost id old.catalog new.catalog
         → (regions : List Region) (k k' : KeptQuery) → IsKept k → IsKept k'
-        → IsCurrentFor (world_with old regions) k → IsRenewed (world_with new regions) id now k k'
+        → IsCurrentFor (world_with old regions) now k → IsRenewed (world_with new regions) id now k k'
         → (changes : List (Change (List Span))) → ((c t : ℕ) → row_at k' c t ≡ after spans_have changes (row_at k) c t)
         → k.entry ≤ now
         → moves_of id now k changes
@@ -107,8 +109,8 @@ pub fn prepared_writes_renew_queries()
 pub fn committed_writes_keep_queries_current()
     ensures { (id now class : ℕ) (old new : History) → ChangesFrom id now old new → AddsAtMost id old.catalog new.catalog
         → (regions : List Region) (rs : List Renewal) (live live' : List KeptQuery) → All IsKept live → All IsKept live'
-        → AreCurrent (world_with old regions) live → AreFreshFor (world_with new regions) id class now live rs
-        → AreMade id class rs live live' → AreCurrent (world_with new regions) live' }
+        → AreCurrent (world_with old regions) now live → AreFreshFor (world_with new regions) id class now live rs
+        → AreMade id class rs live live' → AreCurrent (world_with new regions) now live' }
 {
     a_write_keeps_queries_current();
     prepared_writes_renew_queries();

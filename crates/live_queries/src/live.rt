@@ -178,8 +178,8 @@ impl Live {
         Ok(moves)
     }
 
-    /// Registers a query after the others, with its rows in the store as it is. It fails only where memory is out,
-    /// and then nothing has changed.
+    /// Registers a query after the others at tick `now`, with its rows in the store as it is: of a watched one those
+    /// from `now` on, which may be after its entry. It fails only where memory is out, and then nothing has changed.
     ///
     /// The query is right by number and fits the classes and the regions, it has at most 1,000,000 bindings, and it
     /// has at most 100,000,000 ticks after its entry. `reads` counts the looks at timelines.
@@ -190,6 +190,7 @@ impl Live {
         query: RQuery,
         store: &Store,
         regions: &Regions,
+        now: u32,
         reads: &mut Steps<L>,
         probes: &mut Steps<M>,
     ) -> Result<(), AllocError>
@@ -201,20 +202,20 @@ impl Live {
         requires window { info.now.entry ≤ info.now.expiry }
         requires last { info.now.expiry ≤ LAST_TICK }
         requires length { info.now.expiry - info.now.entry ≤ SPAN_LIMIT }
-        ensures ok { OnOk result (AddsQuery (world_in store.now regions.now) (told_info info.now) (query_view query) self.old self.new) }
+        ensures ok { OnOk result (AddsQuery (world_in store.now regions.now) now (told_info info.now) (query_view query) self.old self.new) }
         ensures err { OnErr result (self.new ≡ self.old) }
         ensures least { reads.old ≤ reads.new }
         ensures most { reads.new ≤ reads.old
             + query_reads (sizes_of (catalog_of store.now) (query_view query)) (info.now.expiry + 1 - info.now.entry) (query_view query) }
     {
-        let added = LiveQuery::new(alloc, info, query, store, regions, reads, probes)?;
+        let added = LiveQuery::new(alloc, info, query, store, regions, now, reads, probes)?;
         self.queries.push(added)?;
         Ok(())
     }
 
     /// What a write at tick `now` to one object makes of the queries, which have the rows from before it. No row is
-    /// judged anew of a binding without the object, and none of a query whose expiry is before the write. It fails
-    /// only where memory is out.
+    /// judged anew of a binding without the object, and none of a query whose expiry is before the write; of a watched
+    /// query the ticks from `now` on are judged alone. It fails only where memory is out.
     ///
     /// `reads` counts the looks at timelines.
     pub fn refresh<L: Ledger, M: Ledger>(

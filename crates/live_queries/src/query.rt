@@ -1,5 +1,5 @@
 //! One registered query with its rows.
-ghost use Rattle.std.specs.Prelude.{◌≡◌, ◌<◌, ◌≤◌, ◌+◌, ◌-◌, ◌*◌, ◌++◌, ◌↔◌, ℕ, All, true, take, drop, length, IsSome, IfSome, IfOk, OnOk};
+ghost use Rattle.std.specs.Prelude.{◌≡◌, ◌<◌, ◌≤◌, ◌+◌, ◌-◌, ◌*◌, ◌++◌, ◌↔◌, ℕ, All, nat_le, true, take, drop, length, IsSome, IfSome, IfOk, OnOk};
 ghost use Rattle.std.specs.Str.{bytes_eq};
 ghost use Rattle.meaning.specs.Registered.{first_tick};
 ghost use Rattle.kept_rows.specs.declared.binding.TheConstants.{BINDING_LIMIT};
@@ -27,7 +27,7 @@ ghost use Rattle.live_queries.specs.Written.{HaveObjectsWith};
 ghost use Rattle.live_queries.specs.Told.{answer_of, info_of, key_of, lines_of, move as told_move, moves_of, passing as told_passing, passings_of, row_of, target_count, target_times, told_info};
 
 use crate::columns::{class_count, columns_of, lack};
-use crate::evaluating::{first_rows, new_rows};
+use crate::evaluating::{new_rows, rows_between};
 use crate::fresh::Renewal;
 use crate::objects::{Objects, add_object, objects_of, width};
 use crate::told::{AnswerRow, Move, QueryInfo};
@@ -80,13 +80,15 @@ impl Model for LiveQuery {
 }
 
 impl LiveQuery {
-    /// A query that is registered anew, with its rows in the store as it is. It fails only where memory is out.
+    /// A query that is registered anew at tick `now`, with its rows in the store as it is: of a watched one those from
+    /// then on. It fails only where memory is out.
     pub(crate) fn new<L: Ledger, M: Ledger>(
         alloc: Global,
         info: &QueryInfo,
         query: RQuery,
         store: &Store,
         regions: &Regions,
+        now: u32,
         reads: &mut Steps<L>,
         probes: &mut Steps<M>,
     ) -> Result<LiveQuery, AllocError>
@@ -97,19 +99,26 @@ impl LiveQuery {
         requires window { info.now.entry ≤ info.now.expiry }
         requires last { info.now.expiry ≤ LAST_TICK }
         requires length { info.now.expiry - info.now.entry ≤ SPAN_LIMIT }
-        ensures registered { IfOk result (IsRegistered (world_in store.now regions.now) (told_info info.now) (query_view query)) }
+        ensures registered { IfOk result (IsRegistered (world_in store.now regions.now) now (told_info info.now) (query_view query)) }
         ensures kept { IfOk result IsKept }
         ensures least { reads.old ≤ reads.new }
         ensures most { reads.new ≤ reads.old
             + query_reads (sizes_of (catalog_of store.now) (query_view query)) (info.now.expiry + 1 - info.now.entry) (query_view query) }
     {
         fitting_queries_can_be_asked();
-        let w = Window {
-            lo: info.entry,
-            hi: info.expiry,
-        };
         let columns = columns_of(alloc, &query, store)?;
-        let rows = first_rows(alloc, &query, &columns, store, regions, w, reads, probes)?;
+        let lo = first_told(info.kind, info.entry, now);
+        let rows = rows_between(
+            alloc,
+            &query,
+            &columns,
+            store,
+            regions,
+            lo,
+            info.expiry,
+            reads,
+            probes,
+        )?;
         let targets = targets_of(&columns, query.targets.items().len());
         Ok(LiveQuery {
             name: info.name,
@@ -151,7 +160,8 @@ impl LiveQuery {
         Ok(Renewal { grows, changes })
     }
 
-    // What such a write changes of its rows: nothing after its expiry.
+    // What such a write changes of its rows: nothing after its expiry, and of a watched query nothing that is told of
+    // the ticks before the write, which aren't judged.
     fn new_rows<L: Ledger, M: Ledger>(
         &self,
         alloc: Global,
@@ -180,7 +190,7 @@ impl LiveQuery {
             return Ok(Changes::new(alloc));
         }
         let w = Window {
-            lo: self.entry,
+            lo: first_told(self.kind, self.entry, now),
             hi: self.expiry,
         };
         let changes = new_rows(
@@ -429,6 +439,18 @@ impl LiveQuery {
             object,
         );
         renewal.changes.commit(&mut self.rows);
+    }
+}
+
+// The first tick of a query's rows that is told at tick `now` or later: of a watched one none before `now` is.
+fn first_told(kind: QueryKind, entry: u32, now: u32) -> u32
+    ensures least { entry ≤ result }
+    ensures most { (e : ℕ) → entry ≤ e → now ≤ e → result ≤ e }
+    ensures told { (t : ℕ) → first_tick kind entry now ≤ t → nat_le result t ≡ nat_le entry t }
+{
+    match kind {
+        QueryKind::Watch => entry.max(now),
+        QueryKind::Keep => entry,
     }
 }
 

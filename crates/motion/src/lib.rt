@@ -31,8 +31,3 @@ pub use limits::{ATTRIBUTE_LIMIT, CAPACITY_LIMIT};
 pub use pieces::Piece;
 pub use timeline::Timeline;
 pub use vector::Vector;
-
-#[cfg(test)]
-mod tests;
-#[cfg(test)]
-mod timeline_tests;

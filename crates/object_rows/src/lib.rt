@@ -19,6 +19,3 @@ pub use fault::CsvFault;
 pub use laws::{commands_are_printable, objects_are_exported, texts_are_read, texts_are_refused};
 pub use reading::import_rows;
 pub use rows::ObjectRow;
-
-#[cfg(test)]
-mod tests;

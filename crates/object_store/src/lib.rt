@@ -23,6 +23,3 @@ pub use laws::limits_in_numbers;
 pub use objects::{Done, ObjectId, Undo};
 pub use schema::{CLASS_LIMIT, ClassId, Schema};
 pub use store::Store;
-
-#[cfg(test)]
-mod tests;

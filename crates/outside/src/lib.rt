@@ -31,6 +31,3 @@ pub use sink::Sink;
 pub use source::Source;
 pub use std_streams::{StdSink, StdSource};
 pub use sure::{SureShelf, SureSink, SureSource};
-
-#[cfg(test)]
-mod tests;

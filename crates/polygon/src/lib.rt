@@ -19,6 +19,3 @@ pub use shape::Polygon;
 pub fn limits_in_numbers()
     ensures regions { REGION_LIMIT ≡ 1024 }
 {}
-
-#[cfg(test)]
-mod tests;

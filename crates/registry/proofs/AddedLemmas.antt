@@ -49,15 +49,15 @@ not_found (Some k) none = absurd (cc none)
 -- what is registered in the store and the regions of a database at its clock's tick
 pub same_adds : (d : Database) (s : Contents) (r : List Region) (now : ℕ) (kind : QueryKind) (name : List ℕ) (span : ℕ) (q : ResolvedQuery)
     (old new : List KeptQuery) → s ≡ d.store → r ≡ d.regions → now ≡ clock_of d →
-    AddsQuery (record { history = history_of s; regions = r }) (info_for kind now name span) q old new →
-    AddsQuery (world_of_database d) (info_for kind (clock_of d) name span) q old new
+    AddsQuery (record { history = history_of s; regions = r }) now (info_for kind now name span) q old new →
+    AddsQuery (world_of_database d) (clock_of d) (info_for kind (clock_of d) name span) q old new
 same_adds d s r now kind name span q old new store regions clock adds =
-    subst (λ (n : ℕ). AddsQuery (world_of_database d) (info_for kind n name span) q old new) clock
-    (subst (λ (rs : List Region). AddsQuery (record { history = history_of d.store; regions = rs }) (info_for kind now name span) q old new) regions
-    (subst (λ (t : Contents). AddsQuery (record { history = history_of t; regions = r }) (info_for kind now name span) q old new) store adds))
+    subst (λ (n : ℕ). AddsQuery (world_of_database d) n (info_for kind n name span) q old new) clock
+    (subst (λ (rs : List Region). AddsQuery (record { history = history_of d.store; regions = rs }) now (info_for kind now name span) q old new) regions
+    (subst (λ (t : Contents). AddsQuery (record { history = history_of t; regions = r }) now (info_for kind now name span) q old new) store adds))
 
 module _ (d : Database) (name : List ℕ) (kind : QueryKind) (span : ℕ) (q : ResolvedQuery) (old new : List KeptQuery)
-    (adds : AddsQuery (world_of_database d) (info_for kind (clock_of d) name span) q old new) where
+    (adds : AddsQuery (world_of_database d) (clock_of d) (info_for kind (clock_of d) name span) q old new) where
   added_name : adds.added.name ≡ name
   added_name = ap (λ (i : Info). i.name) adds.is.info
 
@@ -67,8 +67,8 @@ module _ (d : Database) (name : List ℕ) (kind : QueryKind) (span : ℕ) (q : R
   -- the queries with the added one stand
   pub still_stand : Stand d old → Stand d new
   still_stand stand = record {
-    current = subst (All (IsCurrentFor (world_of_database d))) (sym adds.list)
-        (All-push (IsCurrentFor (world_of_database d)) old adds.added stand.current adds.is.current);
+    current = subst (All (IsCurrentFor (world_of_database d) (clock_of d))) (sym adds.list)
+        (All-push (IsCurrentFor (world_of_database d) (clock_of d)) old adds.added stand.current adds.is.current);
     fits = subst (All (FitsWorld (world_of_database d))) (sym adds.list)
         (All-push (FitsWorld (world_of_database d)) old adds.added stand.fits adds.is.fits);
     entered = subst (All (λ (k : KeptQuery). k.entry ≤ clock_of d)) (sym adds.list)

@@ -28,7 +28,7 @@ use Rattle.registry.proofs.NameLemmas.{found_is, query_is}
 
 -- that a query which is current tells its answer, as the law of registered queries says
 abbrev pub TellAnswers : Type 0
-TellAnswers = (w : World) (k : KeptQuery) → IsKept k → IsCurrentFor w k → (now : ℕ) → k.entry ≤ now →
+TellAnswers = (w : World) (k : KeptQuery) → IsKept k → (now : ℕ) → IsCurrentFor w now k → k.entry ≤ now →
     answer_of k now ≡ registered_answer w (registered k) now
 
 -- these are the rows of the query of a name
@@ -59,20 +59,20 @@ module _ (d : Database) (live : List KeptQuery) (name : List ℕ) where
       is : IsKept are.query
       is = found_is IsKept (λ k. bytes_eq k.name name) are.query live are.named kept
 
-      current : IsCurrentFor (world_of_database d) are.query
-      current = found_is (IsCurrentFor (world_of_database d)) (λ k. bytes_eq k.name name) are.query live are.named stand.current
+      current : IsCurrentFor (world_of_database d) (clock_of d) are.query
+      current = found_is (IsCurrentFor (world_of_database d) (clock_of d)) (λ k. bytes_eq k.name name) are.query live are.named stand.current
 
       pub rows_below : list_all (has_objects (length (world_of_database d).history.catalog.objects)) rows ≡ true
       rows_below =
           ap (list_all (has_objects (length (world_of_database d).history.catalog.objects))) are.told
-          ∙ answer_below (world_of_database d) are.query is current (clock_of d)
+          ∙ answer_below (world_of_database d) (clock_of d) are.query is current
 
       pub rows_told : TellAnswers →
           rows_text (world_of_database d).history.catalog (clock_of d) rows
           ≡ option_map_or (answer_text (world_of_database d) (clock_of d)) (query_of (map registration_of live) name) []
       rows_told law =
           ap (rows_text (world_of_database d).history.catalog (clock_of d))
-          (are.told ∙ law (world_of_database d) are.query is current (clock_of d)
+          (are.told ∙ law (world_of_database d) are.query is (clock_of d) current
           (found_is (λ k. k.entry ≤ clock_of d) (λ k. bytes_eq k.name name) are.query live are.named stand.entered))
           ∙ sym (ap (λ found. option_map_or (answer_text (world_of_database d) (clock_of d)) found [])
           (query_is live name ∙ ap (option_map registration_of) are.named))

@@ -1,20 +1,14 @@
 -- The refusals of a query that is to be registered, by what was judged of it.
-use Rattle.std.proofs.Common.{◌≡◌, ℕ, ◌+◌, ◌-◌, ◌*◌, ◌≤◌, ◌<◌, Bool, true, false, ◌||◌, Option, None, Some, List, [], ◌∷◌, length, map, refl, sym, ap, ◌∙◌, inl, inr, arith, if◌then◌else◌}
-use Rattle.std.specs.Prelude.{◌^◌, min, nat_le, nat_lt, option_and_then, sum_by, unwrap_or}
-use Rattle.std.specs.List.{list_any}
-use Rattle.std.specs.Str.{bytes_eq}
+use Rattle.std.proofs.Common.{◌≡◌, ℕ, ◌+◌, ◌-◌, ◌≤◌, ◌<◌, Bool, true, false, ◌||◌, Option, None, Some, List, [], ◌∷◌, length, refl, sym, ap, ◌∙◌, inl, inr, arith, if◌then◌else◌}
+use Rattle.std.specs.Prelude.{◌^◌, min, nat_le, nat_lt, option_and_then, unwrap_or}
 use Rattle.std.proofs.lemmas.Bool.{cases_lt, or_parts}
 use Rattle.std.proofs.lemmas.Bool.Decides.{nat_tests}
-use Rattle.std.proofs.lemmas.List.{length-map}
-use Rattle.std.proofs.lemmas.List.Elements.{All-weaker}
-use Rattle.std.proofs.lemmas.List.Sums.{sum_by-le}
 use Rattle.exact.specs.First.{first_that_holds}
 use Rattle.tick_set.specs.declared.spans.TheConstants.{LAST_TICK, SPAN_LIMIT}
 use Rattle.geometry.specs.Region.{Region}
 use Rattle.history.specs.Catalog.{ClassInfo}
 use Rattle.formula.specs.declared.limits.TheConstants.{QUERY_LIMIT}
 use Rattle.kept_rows.specs.declared.binding.TheConstants.{BINDING_LIMIT}
-use Rattle.kept_rows.specs.Numbers.{size_of}
 use Rattle.command_text.specs.Line.{or_else}
 use Rattle.command_text.specs.declared.refusal.Refusal.{Refusal}
 use Rattle.command_text.specs.declared.refusal.Refusal.TheVariants as refusals
@@ -28,31 +22,13 @@ use Rattle.line_meaning.specs.declared.limits.TheConstants.{ALL_BINDINGS_LIMIT, 
 use Rattle.line_meaning.specs.Ask.{is_past_span, most_bindings, query_in, refusal_by_type, span_limit, type_refusal}
 use Rattle.line_meaning.specs.QueryFault.{bindings_of, passes_bindings, register_refusal, register_size_refusal, unknown_among}
 use Rattle.line_meaning.specs.Registry.{Known, is_registered}
-use Rattle.live_queries.specs.Columns.{variables_of}
-use Rattle.live_queries.specs.Kept.{AreKept, IsKept, KeptQuery}
 use Rattle.database.specs.declared.database.Database.{Database}
 use Rattle.database.specs.Keeping.{world_of_database}
-use Rattle.registry.specs.Standing.{Stand, known_of, registration_of}
-use Rattle.registry.proofs.NameLemmas.{named_either, registered_is}
-use Rattle.registry.proofs.SizeLemmas.{all_bindings}
 
 -- ---- counts
 
-abbrev numbers : List KeptQuery → ℕ
-numbers live = sum_by (λ k. size_of (variables_of k.columns)) live
-
--- the bindings of all registered queries are few
-pub few_numbers : (live : List KeptQuery) → AreKept live → numbers live ≤ 256000000
-few_numbers live are =
-    within (length live) (numbers live) are.few
-    (sum_by-le (λ (k : KeptQuery). size_of (variables_of k.columns)) BINDING_LIMIT live
-    (All-weaker IsKept (λ k. size_of (variables_of k.columns) ≤ BINDING_LIMIT) (λ k is. is.size) live are.each))
-  where
-    within : (n all : ℕ) → n ≤ QUERY_LIMIT → all ≤ n * BINDING_LIMIT → all ≤ 256000000
-    within n all few most = omega (arith, few, most)
-
 -- a count that stays at the largest number passes the limits as the count itself does
-saturated : (b s : ℕ) →
+pub saturated : (b s : ℕ) →
     (nat_lt BINDING_LIMIT (min b (2 ^ 64 - 1)) || nat_lt ALL_BINDINGS_LIMIT (min b (2 ^ 64 - 1) + s))
     ≡ (nat_lt BINDING_LIMIT b || nat_lt ALL_BINDINGS_LIMIT (b + s))
 saturated b s = elim (cases_lt (2 ^ 64 - 1) b) [
@@ -61,39 +37,6 @@ saturated b s = elim (cases_lt (2 ^ 64 - 1) b) [
       let same : min b (2 ^ 64 - 1) ≡ b = omega (arith, within) in
       ap (λ n. nat_lt BINDING_LIMIT n || nat_lt ALL_BINDINGS_LIMIT (n + s)) same
 ]
-
-pub passes_is : (d : Database) (live : List KeptQuery) → AreKept live → Stand d live → (b : ℕ) →
-    (nat_lt BINDING_LIMIT (min b (2 ^ 64 - 1)) || nat_lt ALL_BINDINGS_LIMIT (min b (2 ^ 64 - 1) + numbers live))
-    ≡ passes_bindings (known_of d live) b
-passes_is d live are stand b =
-    saturated b (numbers live)
-    ∙ ap (λ n. nat_lt BINDING_LIMIT b || nat_lt ALL_BINDINGS_LIMIT (b + n)) (all_bindings (world_of_database d) live are.each stand.fits)
-
--- what was judged of a count that may stay at the largest number
-pub many_is : (d : Database) (live : List KeptQuery) → AreKept live → Stand d live → (q : QueryTree) (passes : Bool) (r : ℕ) →
-    r ≡ min (most_bindings (world_of_database d).history.catalog.classes (query_in (world_of_database d) q)) (2 ^ 64 - 1) →
-    passes ≡ (nat_lt BINDING_LIMIT r || nat_lt ALL_BINDINGS_LIMIT (r + numbers live)) →
-    passes_bindings (known_of d live) (most_bindings (world_of_database d).history.catalog.classes (query_in (world_of_database d) q)) ≡ passes
-many_is d live are stand q passes r is judged =
-    sym (judged
-    ∙ ap (λ n. nat_lt BINDING_LIMIT n || nat_lt ALL_BINDINGS_LIMIT (n + numbers live)) is
-    ∙ passes_is d live are stand (most_bindings (world_of_database d).history.catalog.classes (query_in (world_of_database d) q)))
-
-pub not_full : (live : List KeptQuery) (count : ℕ) → count ≡ length live → count < QUERY_LIMIT → nat_le QUERY_LIMIT (length (map registration_of live)) ≡ false
-not_full live count is few =
-    let same : length (map registration_of live) ≡ length live = length-map live registration_of in
-    grind (arith, nat_tests, is, few, same)
-
--- the refusals of sizes in their order
-abbrev pub size_of_refusal : Bool → Bool → Bool → Option Refusal
-size_of_refusal past full many =
-    first_that_holds ((refusals.SpanRange, past) ∷ (refusals.StoreFull, full) ∷ (refusals.BindingLimit, many) ∷ [])
-
-pub size_is : (k : Known) (span : ℕ) (q : QueryTree) (past full many : Bool) → is_past_span k.now span q.formula ≡ past →
-    nat_le QUERY_LIMIT (length k.live) ≡ full →
-    passes_bindings k (most_bindings k.world.history.catalog.classes (query_in k.world q)) ≡ many →
-    register_size_refusal k span q ≡ size_of_refusal past full many
-size_is k span q past full many a b c = λ i. size_of_refusal (a i) (b i) (c i)
 
 -- ---- names, kinds and bounds
 
@@ -121,14 +64,6 @@ module _ (d : Database) (classes : List ClassInfo) (regions : List Region) (q : 
 abbrev pub refusal_of : Option Refusal → Bool → Option Refusal → Option Refusal
 refusal_of type taken size =
     or_else (unknown_among type) (or_else (first_that_holds ((refusals.NameTaken, taken) ∷ [])) (or_else type size))
-
-pub refusal_is : (d : Database) (live : List KeptQuery) (name : List ℕ) (span : ℕ) (q : QueryTree)
-    (type : Option Refusal) (taken : Bool) (size : Option Refusal) →
-    type_refusal (world_of_database d) q ≡ type → taken ≡ list_any (λ k. bytes_eq k.name name) live →
-    size ≡ register_size_refusal (known_of d live) span q → register_refusal (known_of d live) name span q ≡ refusal_of type taken size
-refusal_is d live name span q type taken size a b c =
-    let named : is_registered (map registration_of live) name ≡ taken = registered_is live name ∙ sym (named_either live name) ∙ sym b in
-    λ i. refusal_of (a i) (named i) (sym c i)
 
 -- ---- what is so of a query that nothing refuses
 

@@ -10,8 +10,11 @@ use Rattle.std.proofs.lemmas.List.Folds.{list_all-append}
 use Rattle.tick_set.specs.Runs.{runs_of}
 use Rattle.tick_set.specs.Ticks.{between, listed}
 use Rattle.tick_set.specs.declared.spans.Span.{Span}
+use Rattle.tick_set.proofs.CallerLemmas.{same_listed}
 use Rattle.history.specs.Catalog.{Catalog, ObjectInfo, ids_of}
 use Rattle.history.specs.World.{World}
+use Rattle.formula.specs.declared.kind.QueryKind.{QueryKind}
+use Rattle.formula.specs.declared.kind.QueryKind.TheVariants as kinds
 use Rattle.formula.specs.Resolved.{is_list_of}
 use Rattle.formula_shape.specs.declared.limits.TheConstants.{OBJECT_LIMIT}
 use Rattle.kept_rows.specs.declared.change.Change.{Change}
@@ -22,7 +25,7 @@ use Rattle.object_store.specs.Contents.{Contents, catalog_of, object_info}
 use Rattle.live_queries.specs.declared.fresh.Renewal.{Renewal}
 use Rattle.live_queries.specs.Asked.{HaveObjectsBefore, IsBefore, class_in}
 use Rattle.live_queries.specs.Columns.{AreCounted, Column, HaveObjectsOf, object_or, variables_of}
-use Rattle.live_queries.specs.Current.{AreCurrent, IsCurrentFor, full_at, row_at}
+use Rattle.live_queries.specs.Current.{AreCurrent, IsCurrentFor, full_at, row_at, told_from}
 use Rattle.live_queries.specs.Kept.{IsKept, KeptQuery, registered}
 use Rattle.live_queries.specs.Told.{Told, answer_of, changes_of, lines_of, move, moves_of, passing, passings_of, row_of, target_count, target_times, target_width}
 use Rattle.database.specs.Rows.{has_objects}
@@ -108,20 +111,20 @@ no_lines : {X : Type 0} (line : ℕ → Option X) → ((n : ℕ) → line n ≡ 
 unfolding lines_between
 no_lines line none top = no_line line none (between 0 top)
 
-none_listed : (test : ℕ → Bool) (lo hi : ℕ) → ((t : ℕ) → test t ≡ false) → listed test lo hi ≡ []
+all_out : (ts : List ℕ) → filter (λ t. false) ts ≡ []
+all_out [] = refl
+all_out (t ∷ ts) = all_out ts
+
+none_listed : (test : ℕ → Bool) (lo hi : ℕ) → ((t : ℕ) → lo ≤ t → test t ≡ false) → listed test lo hi ≡ []
 unfolding listed
-none_listed test lo hi none = all_out (between lo (hi + 1))
-  where
-    all_out : (ts : List ℕ) → filter test ts ≡ []
-    all_out [] = refl
-    all_out (t ∷ ts) = ap (λ b. if b then t ∷ filter test ts else filter test ts) (none t) ∙ all_out ts
+none_listed test lo hi none = same_listed test (λ t. false) lo hi (λ t a b. none t a) ∙ all_out (between lo (hi + 1))
 
-no_row : (rows : ℕ → ℕ → Bool) → ((c t : ℕ) → rows c t ≡ false) → (t : ℕ) (cs : List ℕ) → list_any (λ c. rows c t) cs ≡ false
-no_row rows none t [] = refl
-no_row rows none t (c ∷ cs) = (λ i. none c t i || no_row rows none t cs i)
+no_row : (rows : ℕ → ℕ → Bool) (t : ℕ) → ((c : ℕ) → rows c t ≡ false) → (cs : List ℕ) → list_any (λ c. rows c t) cs ≡ false
+no_row rows t none [] = refl
+no_row rows t none (c ∷ cs) = (λ i. none c i || no_row rows t none cs i)
 
-no_times : (rows : ℕ → ℕ → Bool) → ((c t : ℕ) → rows c t ≡ false) → (width target t : ℕ) → times rows width target t ≡ false
-no_times rows none width target t = no_row rows none t (between (target * width) (target * width + width))
+no_times : (rows : ℕ → ℕ → Bool) (t : ℕ) → ((c : ℕ) → rows c t ≡ false) → (width target : ℕ) → times rows width target t ≡ false
+no_times rows t none width target = no_row rows t none (between (target * width) (target * width + width))
 
 none_below : (count : ℕ) (ids : List ℕ) → nat_lt 0 count ≡ false → are_below count ids ≡ true → ids ≡ []
 none_below count [] empty all = refl
@@ -153,31 +156,31 @@ some_column k is =
     let some = and_parts (nat_lt 0 (length k.query.targets)) (nat_le (length k.query.targets) OBJECT_LIMIT) parts.0 in
     front_some (λ (c : Column). c.variable) k.columns k.query.targets _ is.order some.0
 
-module _ (w : World) (k : KeptQuery) (is : IsKept k) (current : IsCurrentFor w k) where
+module _ (w : World) (before : ℕ) (k : KeptQuery) (is : IsKept k) (current : IsCurrentFor w before k) where
   abbrev objects : ℕ
   objects = length w.history.catalog.objects
 
   below : AreBelow objects k.columns
   below = columns_below w.history.catalog k.query.classes objects (omega arith) k.columns current.objects
 
-  no_rows : nat_lt 0 objects ≡ false → (c t : ℕ) → row_at k c t ≡ false
-  no_rows empty c t =
-      current.rows c t
+  no_rows : nat_lt 0 objects ≡ false → (t : ℕ) → told_from k before ≤ t → (c : ℕ) → row_at k c t ≡ false
+  no_rows empty t from c =
+      current.rows c t from
       ∙ ap (λ b. b && full_at w k c t) (no_binding objects empty k.columns below is.counted (some_column k is) c)
 
-  no_answer : nat_lt 0 objects ≡ false → (now : ℕ) → lines_of k now ≡ []
-  no_answer empty now =
-      no_lines (line_of (target_times k (row_at k)) (first_tick k.kind k.entry now) k.expiry)
-      (λ n. ap (λ runs. with_runs n runs) (ap runs_of (none_listed (target_times k (row_at k) n) (first_tick k.kind k.entry now) k.expiry
-      (no_times (row_at k) (no_rows empty) (target_width k) n))))
+  no_answer : nat_lt 0 objects ≡ false → lines_of k before ≡ []
+  no_answer empty =
+      no_lines (line_of (target_times k (row_at k)) (told_from k before) k.expiry)
+      (λ n. ap (λ runs. with_runs n runs) (ap runs_of (none_listed (target_times k (row_at k) n) (told_from k before) k.expiry
+      (λ t from. no_times (row_at k) t (no_rows empty t from) (target_width k) n))))
       (target_count k)
 
-  no_passing : nat_lt 0 objects ≡ false → (before now : ℕ) →
+  no_passing : nat_lt 0 objects ≡ false → told_from k before ≤ before → (now : ℕ) → before ≤ now →
       lines_upto (passing_of (target_times k (row_at k)) k.expiry before now) (target_count k) ≡ []
-  no_passing empty before now =
+  no_passing empty told now upto =
       no_lines (passing_of (target_times k (row_at k)) k.expiry before now)
-      (λ n. (λ i. when_differ n (nat_le before k.expiry && no_times (row_at k) (no_rows empty) (target_width k) n before i)
-      (nat_le now k.expiry && no_times (row_at k) (no_rows empty) (target_width k) n now i))
+      (λ n. (λ i. when_differ n (nat_le before k.expiry && no_times (row_at k) before (no_rows empty before told) (target_width k) n i)
+      (nat_le now k.expiry && no_times (row_at k) now (no_rows empty now (omega (arith, told, upto))) (target_width k) n i))
       ∙ both_out n (nat_le before k.expiry) (nat_le now k.expiry))
       (target_count k)
     where
@@ -188,29 +191,36 @@ module _ (w : World) (k : KeptQuery) (is : IsKept k) (current : IsCurrentFor w k
       both_out n false false = refl
 
   -- ---- what is told of a query that is current
-  pub answer_below : (now : ℕ) → list_all (has_objects objects) (answer_of k now) ≡ true
-  answer_below now = elim (cases_Bool (nat_lt 0 objects)) [
+  pub answer_below : list_all (has_objects objects) (answer_of k before) ≡ true
+  answer_below = elim (cases_Bool (nat_lt 0 objects)) [
     | inl some ↦
         all_mapped (has_objects objects) (row_of k) (λ line. key_below objects 0 some k.columns below (line.0 * target_width k) k.query.targets)
-        (lines_of k now)
-    | inr empty ↦ ap (λ lines. list_all (has_objects objects) (map (row_of k) lines)) (no_answer empty now)
+        (lines_of k before)
+    | inr empty ↦ ap (λ lines. list_all (has_objects objects) (map (row_of k) lines)) (no_answer empty)
   ]
 
-  passing_below : (before now : ℕ) → list_all (names_objects objects) (passings_of before now k) ≡ true
-  passing_below before now = elim (cases_Bool (nat_lt 0 objects)) [
+  passing_below : told_from k before ≤ before → (now : ℕ) → before ≤ now → list_all (names_objects objects) (passings_of before now k) ≡ true
+  passing_below told now upto = elim (cases_Bool (nat_lt 0 objects)) [
     | inl some ↦ all_mapped (names_objects objects) (passing k) (λ p. key_below objects 0 some k.columns below (p.0 * target_width k) k.query.targets) _
-    | inr empty ↦ ap (λ lines. list_all (names_objects objects) (map (passing k) lines)) (no_passing empty before now)
+    | inr empty ↦ ap (λ lines. list_all (names_objects objects) (map (passing k) lines)) (no_passing empty told now upto)
   ]
 
 -- what the passing of time changes for queries that are current
-pub passings_below : (w : World) (before now : ℕ) (live : List KeptQuery) → All IsKept live → AreCurrent w live →
+pub passings_below : (w : World) (before now : ℕ) → before ≤ now → (live : List KeptQuery) → All IsKept live → AreCurrent w before live →
+    All (λ k. k.entry ≤ before) live →
     list_all (names_objects (length w.history.catalog.objects)) (flat_map (passings_of before now) live) ≡ true
-passings_below w before now [] kept current = refl
-passings_below w before now (k ∷ live) kept current =
+passings_below w before now upto [] kept current entered = refl
+passings_below w before now upto (k ∷ live) kept current entered =
     list_all-append (names_objects (length w.history.catalog.objects)) (passings_of before now k) (flat_map (passings_of before now) live)
     ∙ and_from (list_all (names_objects (length w.history.catalog.objects)) (passings_of before now k)) _
-    (passing_below w k (All-head IsKept k live kept) (All-head (IsCurrentFor w) k live current) before now)
-    (passings_below w before now live (All-tail IsKept k live kept) (All-tail (IsCurrentFor w) k live current))
+    (passing_below w before k (All-head IsKept k live kept) (All-head (IsCurrentFor w before) k live current)
+    (told_by k.kind (All-head (λ (x : KeptQuery). x.entry ≤ before) k live entered)) now upto)
+    (passings_below w before now upto live (All-tail IsKept k live kept) (All-tail (IsCurrentFor w before) k live current)
+    (All-tail (λ (x : KeptQuery). x.entry ≤ before) k live entered))
+  where
+    told_by : (kind : QueryKind) → k.entry ≤ before → first_tick kind k.entry before ≤ before
+    told_by kinds.Watch h = omega arith
+    told_by kinds.Keep h = h
 
 -- ---- what a write changes
 

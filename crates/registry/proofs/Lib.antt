@@ -5,3 +5,4 @@ pub mod KeyLemmas
 pub mod LineLemmas
 pub mod NameLemmas
 pub mod SizeLemmas
+pub mod BesideLemmas

@@ -1,3 +1,4 @@
 pub mod Standing
 pub mod Registers
 pub mod Moves
+pub mod Beside

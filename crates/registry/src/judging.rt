@@ -1,5 +1,5 @@
 //! Why a query that is to be registered is refused.
-ghost use Rattle.std.specs.Prelude.{◌≡◌, ◌+◌, ◌≤◌, ◌||◌, ◌∷◌, [], None, nat_lt, sum_by, IfErr, IfOk, IsOk};
+ghost use Rattle.std.specs.Prelude.{◌≡◌, ◌≤◌, ◌∷◌, [], None, IfErr, IfOk, IsOk};
 ghost use Rattle.formula.specs.Resolved.{IsResolved};
 ghost use Rattle.formula.specs.Tree.{query_view as resolved_view};
 ghost use Rattle.meaning.specs.Fits.{FitsItsClasses};
@@ -11,14 +11,11 @@ ghost use Rattle.command_text.specs.Line.{or_else};
 ghost use Rattle.command_text.specs.declared.refusal.Refusal.TheVariants as refusals;
 ghost use Rattle.exact.specs.First.{first_that_holds};
 ghost use Rattle.line_meaning.specs.Ask.{refusal_by_type};
-ghost use Rattle.line_meaning.specs.QueryFault.{register_refusal, register_size_refusal, unknown_among};
-ghost use Rattle.database.specs.Keeping.{world_of_database};
+ghost use Rattle.line_meaning.specs.QueryFault.{register_refusal, unknown_among};
+ghost use Rattle.database.specs.Keeping.{clock_of, world_of_database};
 ghost use Rattle.database.specs.Telling.{IsStoppedBy};
-ghost use Rattle.kept_rows.specs.declared.binding.TheConstants.{BINDING_LIMIT};
-ghost use Rattle.kept_rows.specs.Numbers.{size_of};
-ghost use Rattle.line_meaning.specs.declared.limits.TheConstants.{ALL_BINDINGS_LIMIT};
-ghost use Rattle.live_queries.specs.Columns.{variables_of};
-ghost use Rattle.registry.specs.Standing.{Stand, known_of};
+ghost use Rattle.registry.specs.Beside.{passes_beside, refusal_beside, size_refusal_beside};
+ghost use Rattle.registry.specs.Standing.{Stand, known_of, known_with};
 
 use crate::registering::Request;
 use command_text::{CommandFault, Refusal};
@@ -29,32 +26,39 @@ use ftl_typer::{TypeFault, resolve};
 use kept_rows::BINDING_LIMIT;
 use line_meaning::ALL_BINDINGS_LIMIT;
 use live_queries::Live;
+use noted_queries::Noted;
 use std::alloc::Global;
 
+/// What decides of the registered queries whether one more is refused.
+#[derive(Clone, Copy)]
+pub(crate) struct Others {
+    // Whether one of them has its name.
+    taken: bool,
+    count: usize,
+    // How many bindings there may come to be of all of them, or the largest number.
+    bindings: u64,
+}
+
 /// Whether a query of so many bindings has no room, by itself or beside the registered ones.
-fn is_past_bindings(live: &Live, bindings: u64) -> bool
-    ensures { result ≡ (nat_lt BINDING_LIMIT bindings
-        || nat_lt ALL_BINDINGS_LIMIT (bindings + sum_by (λ k. size_of (variables_of k.columns)) live.now)) }
+fn is_past_bindings(bindings: u64, others: &Others) -> bool
+    ensures { result ≡ passes_beside bindings others.now.bindings }
 {
-    live.are_kept();
     bindings > u64::from(BINDING_LIMIT)
-        || bindings + live.bindings() > u64::from(ALL_BINDINGS_LIMIT)
+        || bindings.saturating_add(others.bindings) > u64::from(ALL_BINDINGS_LIMIT)
 }
 
 /// Why a query whose names, kinds and bounds are right is refused.
-fn size_refusal(database: &Database, live: &Live, span: u32, query: &Query) -> Option<Refusal>
+fn size_refusal(database: &Database, others: &Others, span: u32, query: &Query) -> Option<Refusal>
     requires now { database.now.clock ≤ LAST_TICK }
     requires span { span ≤ LAST_TICK }
-    requires stand { Stand database.now live.now }
-    ensures { result ≡ register_size_refusal (known_of database.now live.now) span (query_view query.now) }
+    ensures { result ≡ size_refusal_beside (world_of_database database.now) (clock_of database.now) others.now span (query_view query.now) }
 {
-    live.are_kept();
     let bindings = most_bindings(database.schema(), query.from.items());
     if is_past_span(database.clock(), span, &query.formula) {
         Some(Refusal::SpanRange)
-    } else if live.count() as usize >= QUERY_LIMIT {
+    } else if others.count >= QUERY_LIMIT {
         Some(Refusal::StoreFull)
-    } else if is_past_bindings(live, bindings) {
+    } else if is_past_bindings(bindings, others) {
         Some(Refusal::BindingLimit)
     } else {
         None
@@ -71,6 +75,37 @@ fn fault_refusal(fault: TypeFault, taken: bool, size: Option<Refusal>) -> Option
         _ if taken => Some(Refusal::NameTaken),
         Some(refusal) => Some(refusal),
         None => size,
+    }
+}
+
+/// The query by number, where nothing refuses it beside the others. Want of memory is told only where nothing does.
+fn judge_beside(
+    alloc: Global,
+    database: &Database,
+    others: &Others,
+    request: &Request,
+) -> Result<RQuery, CommandFault>
+    requires lawful { IsLawful (query_view request.now.query.now) }
+    requires now { database.now.clock ≤ LAST_TICK }
+    requires span { request.now.span ≤ LAST_TICK }
+    ensures query { IfOk result (λ q. resolved_view q ≡ query_in (world_of_database database.now) (query_view request.now.query.now)) }
+    ensures sound { IfOk result (λ q. IsResolved (resolved_view q)) }
+    ensures fits { IfOk result (λ q. FitsItsClasses (world_of_database database.now) (resolved_view q)) }
+    ensures right { IsOk result → refusal_beside (world_of_database database.now) (clock_of database.now) others.now request.now.span (query_view request.now.query.now) ≡ None }
+    ensures cause { IfErr result (λ fault.
+        IsStoppedBy (refusal_beside (world_of_database database.now) (clock_of database.now) others.now request.now.span (query_view request.now.query.now)) fault) }
+{
+    let size = size_refusal(database, others, request.span, request.query);
+    match resolve(alloc, request.query, database.schema(), database.regions()) {
+        Ok(_) if others.taken => Err(CommandFault::Refused(Refusal::NameTaken)),
+        Ok(resolved) => match size {
+            Some(refusal) => Err(CommandFault::Refused(refusal)),
+            None => Ok(resolved),
+        },
+        Err(fault) => match fault_refusal(fault, others.taken, size) {
+            Some(refusal) => Err(CommandFault::Refused(refusal)),
+            None => Err(CommandFault::NoMemory),
+        },
     }
 }
 
@@ -92,17 +127,36 @@ pub fn judge(
     ensures cause { IfErr result (λ fault.
         IsStoppedBy (register_refusal (known_of database.now live.now) request.now.name.now request.now.span (query_view request.now.query.now)) fault) }
 {
-    let taken = live.has(request.name);
-    let size = size_refusal(database, live, request.span, request.query);
-    match resolve(alloc, request.query, database.schema(), database.regions()) {
-        Ok(_) if taken => Err(CommandFault::Refused(Refusal::NameTaken)),
-        Ok(resolved) => match size {
-            Some(refusal) => Err(CommandFault::Refused(refusal)),
-            None => Ok(resolved),
-        },
-        Err(fault) => match fault_refusal(fault, taken, size) {
-            Some(refusal) => Err(CommandFault::Refused(refusal)),
-            None => Err(CommandFault::NoMemory),
-        },
-    }
+    live.are_kept();
+    let others = Others {
+        taken: live.has(request.name),
+        count: live.count() as usize,
+        bindings: live.bindings(),
+    };
+    judge_beside(alloc, database, &others, request)
+}
+
+/// The same beside queries that are kept without their rows.
+pub fn judge_noted(
+    alloc: Global,
+    database: &Database,
+    noted: &Noted,
+    request: &Request,
+) -> Result<RQuery, CommandFault>
+    requires lawful { IsLawful (query_view request.now.query.now) }
+    requires now { database.now.clock ≤ LAST_TICK }
+    requires span { request.now.span ≤ LAST_TICK }
+    ensures query { IfOk result (λ q. resolved_view q ≡ query_in (world_of_database database.now) (query_view request.now.query.now)) }
+    ensures sound { IfOk result (λ q. IsResolved (resolved_view q)) }
+    ensures fits { IfOk result (λ q. FitsItsClasses (world_of_database database.now) (resolved_view q)) }
+    ensures right { IsOk result → register_refusal (known_with database.now noted.now) request.now.name.now request.now.span (query_view request.now.query.now) ≡ None }
+    ensures cause { IfErr result (λ fault.
+        IsStoppedBy (register_refusal (known_with database.now noted.now) request.now.name.now request.now.span (query_view request.now.query.now)) fault) }
+{
+    let others = Others {
+        taken: noted.has(request.name),
+        count: noted.count(),
+        bindings: noted.bindings(database.schema()),
+    };
+    judge_beside(alloc, database, &others, request)
 }

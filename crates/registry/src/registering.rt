@@ -55,7 +55,7 @@ pub fn register<L: Ledger, M: Ledger>(
     requires sound { IsResolved (resolved_view resolved) }
     requires fits { FitsItsClasses (world_of_database database.now) (resolved_view resolved) }
     requires right { register_refusal (known_of database.now live.old) request.now.name.now request.now.span (query_view request.now.query.now) ≡ None }
-    ensures added { OnOk result (AddsQuery (world_of_database database.now)
+    ensures added { OnOk result (AddsQuery (world_of_database database.now) (clock_of database.now)
         (info_for request.now.kind (clock_of database.now) request.now.name.now request.now.span) (resolved_view resolved) live.old live.new) }
     ensures told { OnOk result (out.new.items ≡ out.old.items ++ answer_text (world_of_database database.now) (clock_of database.now)
         (registration request.now.kind (world_of_database database.now) (clock_of database.now) request.now.name.now request.now.span (query_view request.now.query.now))) }
@@ -72,7 +72,7 @@ pub fn register<L: Ledger, M: Ledger>(
         expiry: now + request.span,
     };
     let (store, regions) = (database.store(), database.regions());
-    live.register(alloc, &info, resolved, store, regions, reads, probes)?;
+    live.register(alloc, &info, resolved, store, regions, now, reads, probes)?;
     match push_answer(alloc, database, live, request.name, out) {
         Ok(()) => Ok(()),
         Err(AllocError) => {

@@ -169,7 +169,9 @@ pub fn pass(
     before: u32,
     out: &mut Vec<u8>,
 ) -> Result<(), AllocError>
-    requires current { AreCurrent (world_of_database database.now) live.now }
+    requires upto { before ≤ clock_of database.now }
+    requires current { AreCurrent (world_of_database database.now) before live.now }
+    requires entered { All (λ k. k.entry ≤ before) live.now }
     ensures ok { OnOk result (out.new.items ≡ out.old.items
         ++ moves_text (catalog_of database.now.store) (flat_map (passings_of before (clock_of database.now)) live.now)) }
     ensures begins { Begins out.old.items out.new.items }

@@ -1,23 +1,58 @@
 -- From what is done with the command of a line to the step of the line.
-use Rattle.std.proofs.Common.{◌≡◌, ℕ, Option, None, Some, List, ◌++◌, refl, sym, ap, ◌∙◌}
-use Rattle.std.specs.Prelude.{Result, Ok, Err}
+use Rattle.std.proofs.Common.{◌≡◌, ◌≤◌, ℕ, ◌+◌, true, false, Option, None, Some, List, ◌++◌, refl, sym, ap, ◌∙◌, subst, inl, arith}
+use Rattle.std.specs.Prelude.{Result, Ok, Err, IfOk, IfErr}
 use Rattle.outside.specs.Shelf.{Texts}
 use Rattle.command_text.specs.declared.fault.CommandFault.{CommandFault}
 use Rattle.command_text.specs.declared.fault.CommandFault.TheVariants as stops
 use Rattle.command_text.specs.declared.reading.TheConstants.{LINE_LIMIT}
 use Rattle.command_text.specs.declared.refusal.Refusal.{Refusal}
+use Rattle.command_text.specs.declared.refusal.Refusal.TheVariants as refusals
 use Rattle.command_text.specs.Journal.{spelled}
 use Rattle.command_text.specs.Line.{IsRead, early_refusal, first_refusal, late_refusal, command_in, or_else}
+use Rattle.command_text.specs.Refusals.{line_of}
+use Rattle.command_text.specs.Tree
 use Rattle.command_text.specs.Tree.{CommandTree}
 use Rattle.line_meaning.specs.declared.role.Role.{Role}
 use Rattle.line_meaning.specs.declared.role.Role.TheVariants.{Blank, Keeping, Telling, Filing, Ending}
-use Rattle.line_meaning.specs.Role.{role_of}
-use Rattle.line_meaning.specs.Step.{Base, Held, base, refusal_of, step}
-use Rattle.line_meaning.proofs.CallerLemmas.{refusal_first, refusal_read, refused_line, spelled_is, step_accepted, step_refused}
+use Rattle.line_meaning.specs.Looks.{is_query, looks_of, most_looks}
+use Rattle.line_meaning.specs.Reply.{line_feed}
+use Rattle.line_meaning.specs.Role.{asks_shelf, is_filing, is_import, is_kept, role_of}
+use Rattle.line_meaning.specs.Step.{Base, Held, base, base_after, fault_of, file_refusal, held_after, refusal_of, reply_by, reply_of, step}
+use Rattle.line_meaning.proofs.CallerLemmas.{line_refusal_read, or_none, refusal_first, refusal_read_any, refused_line, spelled_is, step_accepted, step_refused}
+use Rattle.session.specs.declared.next.ApplyFault.{ApplyFault}
+use Rattle.session.specs.declared.next.ApplyFault.TheVariants as apply_faults
 use Rattle.session.specs.declared.next.Next.{Next}
 use Rattle.session.specs.declared.next.Next.TheVariants as nexts
-use Rattle.session.specs.Answers.{Answers, Applies, next_by, next_of, next_or_fault}
+use Rattle.session.specs.Answers.{Answers, Applies, Fails, HasCause, IsUnchanged, IsUnread, LeavesHeld, LeavesTexts, Suffices, next_by, next_of, next_or_fault}
+use Rattle.database.specs.Telling.{IsRefused}
 use Rattle.session.specs.Carried.{Carried}
+use Rattle.session.specs.Replayed.{Replays}
+use Rattle.session.proofs.FaultLemmas.{kept_role}
+use Rattle.session.specs.Filed.{Does, FailsWith, IsApplied, SufficesFor, refusal_with, texts_by}
+
+-- ---- a command that asks nothing of the shelf
+
+plain_refusal : (b : Base) (c : CommandTree) → asks_shelf c ≡ false → file_refusal b c ≡ None
+plain_refusal b (Tree.Import class file) plain = absurd (cc plain)
+plain_refusal b c plain = refl
+
+plain_base : (b : Base) (c : CommandTree) → asks_shelf c ≡ false → base_after b c ≡ base (held_after b.held c) b.texts
+plain_base b (Tree.Save file) plain = absurd (cc plain)
+plain_base b (Tree.Import class file) plain = absurd (cc plain)
+plain_base b (Tree.Export class file) plain = absurd (cc plain)
+plain_base b c plain = refl
+
+plain_reply : (b : Base) (c : CommandTree) → asks_shelf c ≡ false → reply_of b c ≡ reply_by (role_of c) b.held c
+plain_reply b (Tree.Import class file) plain = absurd (cc plain)
+plain_reply b c plain = refl
+
+pub plain_looks : (b : Base) (c : CommandTree) → asks_shelf c ≡ false → looks_of b c ≡ most_looks b.held c
+plain_looks b (Tree.Import class file) plain = absurd (cc plain)
+plain_looks b c plain = refl
+
+plain_held : (b : Base) (c : CommandTree) (new : Held) → asks_shelf c ≡ false → new ≡ b.held → LeavesHeld b c new
+plain_held b (Tree.Import class file) new plain same = absurd (cc plain)
+plain_held b c new plain same = same
 
 -- an accepted command is not told as a refused one
 never : (role : Role) (r : Refusal) → nexts.Refused r ≡ next_by role → ⊥
@@ -27,56 +62,244 @@ never Telling r h = cc h
 never Filing r h = cc h
 never Ending r h = cc h
 
-accepted_answers : (next : Next) (b : Base) (line : List ℕ) (new : Held) (before after : List ℕ) (c : CommandTree) → next ≡ next_of c →
-    (refusal_of b line ≡ None) × (next ≡ next_of (spelled line)) × (new ≡ (step b line).0.held)
-    × (after ≡ before ++ (step b line).1) × ((step b line).0.texts ≡ b.texts) → Answers next b line new before after
-accepted_answers nexts.Silent b line new before after c is h = h
-accepted_answers nexts.Accepted b line new before after c is h = h
-accepted_answers nexts.Quit b line new before after c is h = h
-accepted_answers (nexts.Refused r) b line new before after c is h = absurd (never (role_of c) r is)
+pub accepted_does : (next : Next) (b : Base) (c : CommandTree) (new : Held) (before after : List ℕ) → next ≡ next_of c →
+    (refusal_with b c ≡ None) × (next ≡ next_of c) × (new ≡ (base_after b c).held) × (after ≡ before ++ reply_of b c) →
+    Does next b c new before after
+accepted_does nexts.Silent b c new before after is h = h
+accepted_does nexts.Accepted b c new before after is h = h
+accepted_does nexts.Quit b c new before after is h = h
+accepted_does (nexts.Refused r) b c new before after is h = absurd (never (role_of c) r is)
+
+accepted_unchanged : (next : Next) (c : CommandTree) (old new : Held) (before after : List ℕ) → next ≡ next_of c → IsUnchanged next old new before after
+accepted_unchanged nexts.Silent c old new before after is = tt
+accepted_unchanged nexts.Accepted c old new before after is = tt
+accepted_unchanged nexts.Quit c old new before after is = tt
+accepted_unchanged (nexts.Refused r) c old new before after is = absurd (never (role_of c) r is)
+
+plain_texts : (next : Next) (b : Base) (c : CommandTree) → asks_shelf c ≡ false → texts_by next b c ≡ b.texts
+plain_texts (nexts.Refused r) b c plain = refl
+plain_texts nexts.Silent b c plain = ap (λ (x : Base). x.texts) (plain_base b c plain)
+plain_texts nexts.Accepted b c plain = ap (λ (x : Base). x.texts) (plain_base b c plain)
+plain_texts nexts.Quit b c plain = ap (λ (x : Base). x.texts) (plain_base b c plain)
+
+plain_refused : (b : Base) (c : CommandTree) (fault : Option Refusal) → asks_shelf c ≡ false → fault_of b.held c ≡ fault → refusal_with b c ≡ fault
+plain_refused b c fault plain is = (λ i. or_else (is i) (plain_refusal b c plain i)) ∙ or_none fault
+
+module _ (told : Option Texts) (c : CommandTree) (old new : Held) (before after : List ℕ) (plain : asks_shelf c ≡ false) where
+  pub carried_is_applied : (r : Result Next CommandFault) → Carried old c new before after r →
+      IsApplied told told c old new before after (next_or_fault r)
+  carried_is_applied (Ok next) h = record {
+    answers = λ texts suffices.
+        let b : Base = base old texts in
+        accepted_does next b c new before after h.1 (
+          plain_refused b c None plain h.0,
+          h.1,
+          h.2 ∙ sym (ap (λ (x : Base). x.held) (plain_base b c plain)),
+          h.3 ∙ ap (λ reply. before ++ reply) (sym (plain_reply b c plain)),
+        );
+    refused = accepted_unchanged next c old new before after h.1;
+    texts = λ texts is. is ∙ ap Some (sym (plain_texts next (base old texts) c plain));
+    fails = tt;
+  }
+  carried_is_applied (Err (stops.Refused r)) h = record {
+    answers = λ texts suffices. (plain_refused (base old texts) c (Some r) plain h.0, h.1, h.2);
+    refused = (h.1, h.2);
+    texts = λ texts is. is;
+    fails = tt;
+  }
+  carried_is_applied (Err stops.NoMemory) h = record {
+    answers = λ texts suffices. tt;
+    refused = tt;
+    texts = λ texts is. tt;
+    fails = record { said = h.2; texts = λ texts is. is; leaves = λ texts suffices. plain_held (base old texts) c new plain h.1 };
+  }
+
+-- ---- what it is told of the shelf and of steps
+
+pub plain_cause : (faults : ℕ) (r : Result Next CommandFault) → HasCause faults faults (next_or_fault r)
+plain_cause faults (Ok next) = refl
+plain_cause faults (Err (stops.Refused r)) = refl
+plain_cause faults (Err stops.NoMemory) = refl
+
+-- a line without a reply is blank
+blank_only : (c : CommandTree) → nexts.Silent ≡ next_of c → c ≡ Tree.Nothing
+blank_only Tree.Nothing h = refl
+blank_only c h = absurd (cc h)
+
+unread_by : (c : CommandTree) (next : Next) (steps steps' : ℕ) → next ≡ next_of c → (c ≡ Tree.Nothing → steps' ≡ steps) → IsUnread next steps steps'
+unread_by c nexts.Silent steps steps' is blank = blank (blank_only c is)
+unread_by c nexts.Accepted steps steps' is blank = tt
+unread_by c nexts.Quit steps steps' is blank = tt
+unread_by c (nexts.Refused r) steps steps' is blank = absurd (never (role_of c) r is)
+
+pub carried_unread : (c : CommandTree) (old new : Held) (before after : List ℕ) (steps steps' : ℕ) (r : Result Next CommandFault) →
+    Carried old c new before after r → (c ≡ Tree.Nothing → steps' ≡ steps) → IfErr r (λ fault. IsRefused fault → steps' ≡ steps) →
+    IfOk (next_or_fault r) (λ next. IsUnread next steps steps')
+carried_unread c old new before after steps steps' (Ok next) h blank refused = unread_by c next steps steps' h.1 blank
+carried_unread c old new before after steps steps' (Err (stops.Refused r)) h blank refused = refused tt
+carried_unread c old new before after steps steps' (Err stops.NoMemory) h blank refused = tt
+
+pub blank_reads : (old : Held) (c : CommandTree) (reads reads' : ℕ) → reads ≤ reads' → reads' ≤ reads + most_looks old c → c ≡ Tree.Nothing → reads' ≡ reads
+blank_reads old c reads reads' least most is =
+    let none : most_looks old c ≡ 0 = ap (most_looks old) is in omega (arith, least, most, none)
+
+pub blank_probes : (c : CommandTree) (probes probes' : ℕ) → (is_query c ≡ false → probes' ≡ probes) → c ≡ Tree.Nothing → probes' ≡ probes
+blank_probes c probes probes' plain is = plain (ap is_query is)
+
+pub carried_looks : (told : Option Texts) (c : CommandTree) (old : Held) (reads reads' : ℕ) → asks_shelf c ≡ false → reads' ≤ reads + most_looks old c →
+    (texts : Texts) → SufficesFor told c texts → reads' ≤ reads + looks_of (base old texts) c
+carried_looks told c old reads reads' plain most texts suffices =
+    subst (λ n. reads' ≤ reads + n) (sym (plain_looks (base old texts) c plain)) most
+
+pub no_looks : (reads more : ℕ) → reads ≤ reads + more
+no_looks reads more = omega arith
+
+-- ---- a line that is read as a command
 
 -- the refusals that need no memory hold of no line that was read
 none_early : (early late : Option Refusal) → or_else early late ≡ None → early ≡ None
 none_early None late h = refl
 none_early (Some r) late h = absurd (cc h)
 
-module _ (shelf : Option Texts) (line : List ℕ) (c : CommandTree) (old new : Held) (before after : List ℕ) (read : IsRead LINE_LIMIT line c) where
-  pub carried_applies : (r : Result Next CommandFault) → Carried old c new before after r →
-      Applies shelf line old new before after (next_or_fault r)
-  carried_applies (Ok next) h = record {
-    answers = λ texts suffices.
-        let b : Base = base old texts in
-        let fault : refusal_of b line ≡ None = refusal_read b line c None read h.0 in
-        let is : spelled line ≡ c = spelled_is line c read in
-        let stepped = step_accepted b line c fault is in
-        accepted_answers next b line new before after c h.1 (
-          fault,
-          h.1 ∙ ap next_of (sym is),
-          h.2 ∙ sym (ap (λ (s : Base × List ℕ). s.0.held) stepped),
-          h.3 ∙ ap (λ reply. before ++ reply) (sym (ap (λ (s : Base × List ℕ). s.1) stepped)),
-          ap (λ (s : Base × List ℕ). s.0.texts) stepped,
-        );
-    fails = tt;
-  }
-  carried_applies (Err (stops.Refused r)) h = record {
-    answers = λ texts suffices.
-        let b : Base = base old texts in
-        let fault : refusal_of b line ≡ Some r = refusal_read b line c (Some r) read h.0 in
-        (fault, step_refused b line r fault, h.1, h.2);
-    fails = tt;
-  }
-  carried_applies (Err stops.NoMemory) h = record {
-    answers = λ texts suffices. tt;
-    fails = (refl, none_early (early_refusal LINE_LIMIT line) (late_refusal (command_in line)) read.taken, h.1, h.2);
-  }
+module _ (line : List ℕ) (c : CommandTree) (read : IsRead LINE_LIMIT line c) where
+  refusal_is : (b : Base) → refusal_of b line ≡ refusal_with b c
+  refusal_is b = refusal_read_any b line c read
 
--- a line that isn't read
-pub refused_applies : (shelf : Option Texts) (line : List ℕ) (old : Held) (before : List ℕ) (r : Refusal) →
-    first_refusal LINE_LIMIT line ≡ Some r → Applies shelf line old old before before (Ok (nexts.Refused r))
-refused_applies shelf line old before r first = record {
+  step_is : (b : Base) → refusal_with b c ≡ None → step b line ≡ (base_after b c, reply_of b c)
+  step_is b none = step_accepted b line c (refusal_is b ∙ none) (spelled_is line c read)
+
+  did : (next : Next) (b : Base) (new : Held) (before after : List ℕ) →
+      (refusal_with b c ≡ None) × (next ≡ next_of c) × (new ≡ (base_after b c).held) × (after ≡ before ++ reply_of b c) →
+      (refusal_of b line ≡ None) × (next ≡ next_of (spelled line)) × (new ≡ (step b line).0.held) × (after ≡ before ++ (step b line).1)
+  did next b new before after h =
+      let stepped = step_is b h.0 in (
+        refusal_is b ∙ h.0,
+        h.1 ∙ ap next_of (sym (spelled_is line c read)),
+        h.2 ∙ sym (ap (λ (s : Base × List ℕ). s.0.held) stepped),
+        h.3 ∙ ap (λ reply. before ++ reply) (sym (ap (λ (s : Base × List ℕ). s.1) stepped)),
+      )
+
+  does_answers : (next : Next) (b : Base) (new : Held) (before after : List ℕ) → Does next b c new before after →
+      Answers next b line new before after
+  does_answers nexts.Silent b new before after h = did nexts.Silent b new before after h
+  does_answers nexts.Accepted b new before after h = did nexts.Accepted b new before after h
+  does_answers nexts.Quit b new before after h = did nexts.Quit b new before after h
+  does_answers (nexts.Refused r) b new before after h =
+      let fault : refusal_of b line ≡ Some r = refusal_is b ∙ h.0 in (fault, step_refused b line r fault, h.1, h.2)
+
+  does_texts : (next : Next) (b : Base) (new : Held) (before after : List ℕ) → Does next b c new before after →
+      texts_by next b c ≡ (step b line).0.texts
+  does_texts nexts.Silent b new before after h = sym (ap (λ (s : Base × List ℕ). s.0.texts) (step_is b h.0))
+  does_texts nexts.Accepted b new before after h = sym (ap (λ (s : Base × List ℕ). s.0.texts) (step_is b h.0))
+  does_texts nexts.Quit b new before after h = sym (ap (λ (s : Base × List ℕ). s.0.texts) (step_is b h.0))
+  does_texts (nexts.Refused r) b new before after h =
+      sym (ap (λ (s : Base × List ℕ). s.0.texts) (step_refused b line r (refusal_is b ∙ h.0)))
+
+  module _ (told left : Option Texts) (old new : Held) (before after : List ℕ) where
+    suffices_for : (texts : Texts) → Suffices told line texts → SufficesFor told c texts
+    suffices_for texts suffices = λ import. suffices (ap is_import (spelled_is line c read) ∙ import)
+
+    fails_line : (fault : ApplyFault) → FailsWith fault told left c old new before after → Fails fault told left line old new before after
+    fails_line apply_faults.ShelfFault h = record {
+      asks = ap asks_shelf (spelled_is line c read) ∙ h.asks;
+      accepted = line_refusal_read old line c read ∙ h.accepted;
+      held_stays = h.held_stays;
+      said = h.said;
+      texts = subst (λ (d : CommandTree). LeavesTexts d told left) (sym (spelled_is line c read)) h.texts;
+    }
+    fails_line apply_faults.NoMemory h = record {
+      late = none_early (early_refusal LINE_LIMIT line) (late_refusal (command_in line)) read.taken;
+      said = h.said;
+      texts = h.texts;
+      leaves = λ texts suffices.
+          subst (λ (d : CommandTree). LeavesHeld (base old texts) d new) (sym (spelled_is line c read)) (h.leaves texts (suffices_for texts suffices));
+    }
+
+    pub applied_line : (r : Result Next ApplyFault) → IsApplied told left c old new before after r → Applies told left line old new before after r
+    applied_line (Ok next) h = record {
+      answers = λ texts suffices. does_answers next (base old texts) new before after (h.answers texts (suffices_for texts suffices));
+      refused = h.refused;
+      texts = λ texts is.
+          h.texts texts is ∙ ap Some (does_texts next (base old texts) new before after (h.answers texts (λ import. is)));
+      fails = tt;
+    }
+    applied_line (Err fault) h = record {
+      answers = λ texts suffices. tt;
+      refused = tt;
+      texts = λ texts is. tt;
+      fails = fails_line fault h.fails;
+    }
+
+    pub looks_line : (reads reads' : ℕ) → ((texts : Texts) → SufficesFor told c texts → reads' ≤ reads + looks_of (base old texts) c) →
+        (texts : Texts) → Suffices told line texts → reads' ≤ reads + looks_of (base old texts) (spelled line)
+    looks_line reads reads' most texts suffices =
+        subst (λ (d : CommandTree). reads' ≤ reads + looks_of (base old texts) d) (sym (spelled_is line c read)) (most texts (suffices_for texts suffices))
+
+-- ---- a line that isn't read
+
+pub refused_applies : (told : Option Texts) (line : List ℕ) (old : Held) (before : List ℕ) (r : Refusal) →
+    first_refusal LINE_LIMIT line ≡ Some r → Applies told told line old old before before (Ok (nexts.Refused r))
+refused_applies told line old before r first = record {
   answers = λ texts suffices.
       let b : Base = base old texts in
       let fault : refusal_of b line ≡ Some r = refused_line b line r (refusal_first old line r first) in
       (fault, step_refused b line r fault, refl, refl);
+  refused = (refl, refl);
+  texts = λ texts is.
+      let b : Base = base old texts in
+      let fault : refusal_of b line ≡ Some r = refused_line b line r (refusal_first old line r first) in
+      is ∙ ap Some (sym (ap (λ (s : Base × List ℕ). s.0.texts) (step_refused b line r fault)));
   fails = tt;
 }
+
+same_leaves : (b : Base) (c : CommandTree) → LeavesHeld b c b.held
+same_leaves b (Tree.Import class file) = inl refl
+same_leaves b c = refl
+
+pub lacks_applies : (told : Option Texts) (line : List ℕ) (old : Held) (before : List ℕ) → early_refusal LINE_LIMIT line ≡ None →
+    Applies told told line old old before before (Err apply_faults.NoMemory)
+lacks_applies told line old before late = record {
+  answers = λ texts suffices. tt;
+  refused = tt;
+  texts = λ texts is. tt;
+  fails = record { late = late; said = refl; texts = λ texts is. is; leaves = λ texts suffices. same_leaves (base old texts) (spelled line) };
+}
+
+-- ---- by the role
+
+pub not_filing : (role : Role) → (role ≡ Filing → ⊥) → is_filing role ≡ false
+not_filing Blank other = refl
+not_filing Keeping other = refl
+not_filing Telling other = refl
+not_filing Filing other = absurd (other refl)
+not_filing Ending other = refl
+
+-- ---- a command on files, which isn't built
+
+pub gap_refused : (told : Option Texts) (c : CommandTree) (h : Held) (before : List ℕ) → asks_shelf c ≡ true →
+    IsApplied told told c h h before before (Ok (nexts.Refused refusals.BadSyntax))
+gap_refused told (Tree.Save file) h before is =
+    record { answers = λ texts suffices. (refl, refl, refl); refused = (refl, refl); texts = λ texts told-is. told-is; fails = tt }
+gap_refused told (Tree.Import class file) h before is =
+    record { answers = λ texts suffices. (refl, refl, refl); refused = (refl, refl); texts = λ texts told-is. told-is; fails = tt }
+gap_refused told (Tree.Export class file) h before is =
+    record { answers = λ texts suffices. (refl, refl, refl); refused = (refl, refl); texts = λ texts told-is. told-is; fails = tt }
+gap_refused told c h before is = absurd (cc is)
+
+-- ---- a command that is replayed
+
+pub kept_plain : (c : CommandTree) → is_kept c ≡ true → asks_shelf c ≡ false
+kept_plain c kept = ap is_filing (kept_role (role_of c) kept)
+
+kept_next : (c : CommandTree) → is_kept c ≡ true → next_of c ≡ nexts.Accepted
+kept_next c kept = ap next_by (kept_role (role_of c) kept)
+
+pub replayed_accepted : (E : Type 0) (next : Next) (c : CommandTree) (old new : Held) (before after : List ℕ) → is_kept c ≡ true →
+    Carried old c new before after (Ok next) → Replays {E = E} old c new (Ok next)
+replayed_accepted E next c old new before after kept h =
+    subst (λ (n : Next). Replays {E = E} old c new (Ok n)) (sym (h.1 ∙ kept_next c kept)) (h.0, h.2)
+
+pub replayed_unread : (next : Next) (c : CommandTree) (old new : Held) (before after : List ℕ) (steps steps' : ℕ) → is_kept c ≡ true →
+    Carried old c new before after (Ok next) → IsUnread next steps steps'
+replayed_unread next c old new before after steps steps' kept h =
+    subst (λ (n : Next). IsUnread n steps steps') (sym (h.1 ∙ kept_next c kept)) tt

@@ -71,7 +71,7 @@ data_fault k c plain =
 -- ---- a command that the journal keeps
 
 module _ (journal : List Accepted) (c : CommandTree) (gap : is_gap c ≡ false) (kept : is_kept c ≡ true) where
-  kept_fault : fault_of (held journal) c
+  pub kept_fault : fault_of (held journal) c
       ≡ or_else (command_fault (known journal) c) (journal_refusal (length journal) (bytes_of journal) c)
   kept_fault = by_role (held journal) c Keeping gap (kept_role (role_of c) kept)
 

@@ -1,5 +1,5 @@
 -- A database that a command changed, before its command is entered.
-use Rattle.std.proofs.Common.{◌≡◌, ℕ, ◌<◌, true, false, Option, None, Some, List, [], ◌∷◌, ◌++◌, length, map, refl, sym, ap, ◌∙◌, subst, append-nil}
+use Rattle.std.proofs.Common.{◌≡◌, ℕ, ◌+◌, ◌<◌, ◌≤◌, true, false, Option, None, Some, List, [], ◌∷◌, ◌++◌, length, map, refl, sym, ap, ◌∙◌, subst, append-nil, arith}
 use Rattle.std.specs.Prelude.{All, IfSome, Ok, Err, slice_index_or}
 use Rattle.std.proofs.lemmas.List.{append_assoc}
 use Rattle.std.proofs.lemmas.List.Quantifiers.{position-Some}
@@ -15,9 +15,10 @@ use Rattle.command_text.specs.Shape.{IsPrintable}
 use Rattle.command_text.specs.Text.{text_of}
 use Rattle.command_text.specs.Tree
 use Rattle.command_text.specs.Tree.{CommandTree}
+use Rattle.session_file.specs.declared.kept.TheConstants.{SESSION_LINE_LIMIT}
 use Rattle.line_meaning.specs.Answering.{kept_lines}
 use Rattle.line_meaning.specs.Fault.{is_gap, passes_limits}
-use Rattle.line_meaning.specs.Journal.{clock, regions_of, world, writes_of}
+use Rattle.line_meaning.specs.Journal.{clock, regions_of, ticks_of, world, writes_of}
 use Rattle.line_meaning.specs.Looks.{looks_of_write, most_looks}
 use Rattle.line_meaning.specs.QueryFault.{command_fault}
 use Rattle.line_meaning.specs.Reached.{AreReached}
@@ -44,18 +45,13 @@ use Rattle.session.specs.Carried.{IsDone, is_class}
 use Rattle.session.specs.Entering.{Admits}
 use Rattle.session.specs.Followed.{IsChanged, Prepares, Settles, lines_told, object_of_change, writes_object}
 use Rattle.session.specs.State.{IsState}
-use Rattle.session.proofs.ChangeLemmas.{WritesWorld, adds_at_most, by_class, same_world, writes_world}
+use Rattle.session.proofs.ChangeLemmas.{WritesWorld, adds_at_most, by_class, clock_after, same_world, writes_world}
 use Rattle.session.proofs.FaultLemmas.{accepted, admits_done, data_fault, entered_done, lacks_done, refused}
 use Rattle.session.proofs.KnownLemmas.{accepted_told, entered_state, known_is, reached_entry}
+use Rattle.session.proofs.RowLemmas.{write_plain}
 use Rattle.session.proofs.SettleLemmas.{IsSettled, Laws, same_head, settled}
 
 -- ---- by the command
-
-write_plain : (c : CommandTree) → writes_object c ≡ true → is_on_queries c ≡ false
-write_plain (Tree.Insert class name place sets) write = refl
-write_plain (Tree.Update name place sets) write = refl
-write_plain (Tree.Remove name) write = refl
-write_plain c write = absurd (cc write)
 
 plain_live : (w : World) (now : ℕ) (live : List Registration) (c : CommandTree) → is_on_queries c ≡ false → live_after w now live c ≡ live
 plain_live w now live (Tree.Watch name span q) plain = absurd (cc plain)
@@ -94,10 +90,21 @@ module _ (s : State) (c : CommandTree) (before : ℕ) (change : Change) (is : Is
   changed_accepted reached = accepted_told (s.journal ++ (before, c) ∷ []) s.database keeps_entered reached
 
   -- where nothing was written, the rows are current still
-  pub still_current : writes_of before c ≡ [] → regions_of c ≡ [] → AreCurrent (world_of_database s.database) s.live
+  pub still_current : writes_of before c ≡ [] → regions_of c ≡ [] → AreCurrent (world_of_database s.database) before s.live
   still_current no-write no-region =
-      subst (λ (w : World). AreCurrent w s.live)
-      (sym (same_world s.journal before c is.old s.database is.state.keeps keeps_entered no-write no-region)) is.state.stand.current
+      subst (λ (w : World). AreCurrent w before s.live)
+      (sym (same_world s.journal before c is.old s.database is.state.keeps keeps_entered no-write no-region))
+      (subst (λ t. AreCurrent (world_of_database is.old) t s.live) (sym is.tick) is.state.stand.current)
+
+  pub still_entered : All (λ k. k.entry ≤ before) s.live
+  still_entered = subst (λ (t : ℕ). All (λ (k : KeptQuery). k.entry ≤ t) s.live) (sym is.tick) is.state.stand.entered
+
+  -- the clock doesn't go back
+  pub still_before : before ≤ clock_of s.database
+  still_before =
+      let later : clock_of s.database ≡ clock_of is.old + ticks_of c
+      = clock_after s.journal (clock_of is.old) c is.old s.database is.state.keeps (is.carries.keeps s.journal is.state.keeps) in
+      omega (arith, later, is.tick)
 
   known_entered : is_on_queries c ≡ false → known (s.journal ++ (before, c) ∷ []) ≡ known_of s.database s.live
   known_entered plain =
@@ -160,8 +167,8 @@ module _ (s : State) (c : CommandTree) (before : ℕ) (change : Change) (is : Is
       pub changed_fault : fault_of (held s.journal) c ≡ None
       changed_fault = accepted s.journal c gap kept changed_right admits.1
 
-      pub changed_reached : IsPrintable c → AreReached [] (s.journal ++ (before, c) ∷ [])
-      changed_reached printable = reached_entry s.journal before c tick_is kept printable changed_fault is.state.reached
+      pub changed_reached : IsPrintable c → length (text_of c) ≤ SESSION_LINE_LIMIT → AreReached [] (s.journal ++ (before, c) ∷ [])
+      changed_reached printable short = reached_entry s.journal before c tick_is kept printable short changed_fault is.state.reached
 
       pub changed_room : passes_limits (length s.journal) (bytes_of s.journal) (length line) ≡ false
       changed_room = ap (λ l. passes_limits (length s.journal) (bytes_of s.journal) (length l)) admits.0 ∙ admits.1
@@ -184,10 +191,10 @@ module _ (laws : Laws) (s : State) (d : Database) (live : List KeptQuery) (c : C
   all_settled : IsSettled c s.database d s.live live f
   all_settled = settled laws s.journal change s.database d s.live is.keeps is.stand before live after c carries kept plain f prepares settles
 
-  pub changed_state : (n : State) → IsPrintable c → n.journal ≡ s.journal ++ (clock_of s.database, c) ∷ [] → n.database ≡ d → n.live ≡ live →
+  pub changed_state : (n : State) → IsPrintable c → length (text_of c) ≤ SESSION_LINE_LIMIT → n.journal ≡ s.journal ++ (clock_of s.database, c) ∷ [] → n.database ≡ d → n.live ≡ live →
       IsState n.journal n
-  changed_state n printable entered database its =
-      entered_state s.journal (clock_of s.database) c s n refl is is.keeps.clock_is kept printable none entered
+  changed_state n printable short entered database its =
+      entered_state s.journal (clock_of s.database) c s n refl is is.keeps.clock_is kept printable short none entered
       (subst (λ (x : Database). Keeps (s.journal ++ (clock_of s.database, c) ∷ []) x) (sym database) (carries.keeps s.journal is.keeps))
       (ap (map registration_of) its ∙ all_settled.queries ∙ is.queries
       ∙ sym (plain_live (world s.journal) (clock_of s.database) (registered s.journal) c plain))

@@ -1,12 +1,14 @@
 -- What is known of a state is what its journal tells, also with one more entry.
-use Rattle.std.proofs.Common.{◌≡◌, ℕ, ◌+◌, Bool, true, false, None, List, [], ◌∷◌, ◌++◌, map, refl, sym, ap, ◌∙◌, subst, append-nil, arith, if◌then◌else◌}
+use Rattle.std.proofs.Common.{◌≡◌, ◌≤◌, ℕ, ◌+◌, Bool, true, false, None, List, [], ◌∷◌, ◌++◌, length, map, refl, sym, ap, ◌∙◌, subst, append-nil, arith, if◌then◌else◌}
 use Rattle.history.specs.World.{world_of}
 use Rattle.fixed_point.specs.declared.short_text.Word.{Word}
 use Rattle.command_text.specs.declared.command.Command.{Command}
 use Rattle.command_text.specs.declared.command.Command.TheVariants as commands
 use Rattle.command_text.specs.Journal.{Accepted}
 use Rattle.command_text.specs.Shape.{IsPrintable}
+use Rattle.command_text.specs.Text.{text_of}
 use Rattle.command_text.specs.Tree.{CommandTree, command_view}
+use Rattle.session_file.specs.declared.kept.TheConstants.{SESSION_LINE_LIMIT}
 use Rattle.line_meaning.specs.Journal.{clock, regions, regions_of, ticks_of, world, writes, writes_of}
 use Rattle.line_meaning.specs.Reached.{AreReached}
 use Rattle.line_meaning.specs.Registry.{known, live_after, registered}
@@ -42,12 +44,13 @@ same_state s n journal database live is = record {
 -- ---- one more entry
 
 module _ (journal : List Accepted) (now : ℕ) (c : CommandTree) where
-  pub reached_entry : now ≡ clock journal → is_kept c ≡ true → IsPrintable c → fault_of (held journal) c ≡ None → AreReached [] journal →
+  pub reached_entry : now ≡ clock journal → is_kept c ≡ true → IsPrintable c → length (text_of c) ≤ SESSION_LINE_LIMIT →
+      fault_of (held journal) c ≡ None → AreReached [] journal →
       AreReached [] (journal ++ (now, c) ∷ [])
-  reached_entry tick kept printable none reached =
+  reached_entry tick kept printable short none reached =
       subst (λ (j : List Accepted). AreReached [] j)
       (ap (λ (k : Bool). journal ++ (if k then (clock journal, c) ∷ [] else [])) kept ∙ ap (λ t. journal ++ (t, c) ∷ []) (sym tick))
-      (command_is_reached (held journal) c printable none reached)
+      (command_is_reached (held journal) c printable short none reached)
 
   -- a command that writes nothing and moves no clock
   pub keeps_same : (d : Database) → writes_of now c ≡ [] → regions_of c ≡ [] → ticks_of c ≡ 0 → Keeps journal d →
@@ -62,15 +65,15 @@ module _ (journal : List Accepted) (now : ℕ) (c : CommandTree) where
   }
 
   pub entered_state : (s n : State) → s.journal ≡ journal → IsState s.journal s → now ≡ clock journal → is_kept c ≡ true → IsPrintable c →
-      fault_of (held journal) c ≡ None → n.journal ≡ journal ++ (now, c) ∷ [] → Keeps (journal ++ (now, c) ∷ []) n.database →
+      length (text_of c) ≤ SESSION_LINE_LIMIT → fault_of (held journal) c ≡ None → n.journal ≡ journal ++ (now, c) ∷ [] → Keeps (journal ++ (now, c) ∷ []) n.database →
       map registration_of n.live ≡ live_after (world journal) now (registered journal) c → Stand n.database n.live → IsState n.journal n
-  entered_state s n same is tick kept printable none entered keeps queries stand = record {
+  entered_state s n same is tick kept printable short none entered keeps queries stand = record {
     journal_is = refl;
     keeps = subst (λ (j : List Accepted). Keeps j n.database) (sym entered) keeps;
     queries = queries ∙ sym (registered_more journal now c) ∙ ap registered (sym entered);
     stand = stand;
     reached = subst (λ (j : List Accepted). AreReached [] j) (sym entered)
-        (reached_entry tick kept printable none (subst (λ (j : List Accepted). AreReached [] j) same is.reached));
+        (reached_entry tick kept printable short none (subst (λ (j : List Accepted). AreReached [] j) same is.reached));
   }
 
 -- a command that tells, and shows no answer of a registered query, is none on them

@@ -1,4 +1,5 @@
 pub mod FaultLemmas
+pub mod RowLemmas
 pub mod KnownLemmas
 pub mod QueryLemmas
 pub mod ChangeLemmas

@@ -44,16 +44,16 @@ both_lines c name moves more changes rest first others =
 -- ---- of time that passes
 
 module _ (w : World) (c : Catalog) (is : c ≡ w.history.catalog) (before now : ℕ) (upto : before ≤ now)
-    (passed : (k : KeptQuery) → IsKept k → IsCurrentFor w k → k.entry ≤ before →
+    (passed : (k : KeptQuery) → IsKept k → IsCurrentFor w before k → k.entry ≤ before →
     passings_of before now k ≡ told_changes k.name (changes_of_tick w (registered k) before now)) where
-  pub passings_are : (ks : List KeptQuery) → All IsKept ks → AreCurrent w ks → All (λ k. k.entry ≤ before) ks →
+  pub passings_are : (ks : List KeptQuery) → All IsKept ks → AreCurrent w before ks → All (λ k. k.entry ≤ before) ks →
       moves_text c (flat_map (passings_of before now) ks) ≡ tick_lines w before now (map registration_of ks)
   passings_are [] kept current entered = refl
   passings_are (k ∷ ks) kept current entered =
       both_lines c k.name (passings_of before now k) (flat_map (passings_of before now) ks) (changes_of_tick w (registered k) before now)
       (tick_lines w before now (map registration_of ks))
-      (passed k (All-head IsKept k ks kept) (All-head (IsCurrentFor w) k ks current) (All-head (λ (x : KeptQuery). x.entry ≤ before) k ks entered))
-      (passings_are ks (All-tail IsKept k ks kept) (All-tail (IsCurrentFor w) k ks current) (All-tail (λ (x : KeptQuery). x.entry ≤ before) k ks entered))
+      (passed k (All-head IsKept k ks kept) (All-head (IsCurrentFor w before) k ks current) (All-head (λ (x : KeptQuery). x.entry ≤ before) k ks entered))
+      (passings_are ks (All-tail IsKept k ks kept) (All-tail (IsCurrentFor w before) k ks current) (All-tail (λ (x : KeptQuery). x.entry ≤ before) k ks entered))
       ∙ ap (λ (d : Catalog). flat_map (change_text d k.name) (changes_of_tick w (registered k) before now)
       ++ tick_lines w before now (map registration_of ks)) is
 
@@ -61,10 +61,10 @@ module _ (w : World) (c : Catalog) (is : c ≡ w.history.catalog) (before now : 
 
 module _ (old new : World) (id class now : ℕ)
     (renews : (r : Renewal) (k k' : KeptQuery) → IsFreshFor new id class now k r → IsMade id class r k k' → IsRenewed new id now k k')
-    (tells : (k k' : KeptQuery) → IsKept k → IsKept k' → IsCurrentFor old k → IsRenewed new id now k k' →
+    (tells : (k k' : KeptQuery) → IsKept k → IsKept k' → IsCurrentFor old now k → IsRenewed new id now k k' →
     (changes : List (row_changes.Change (List Span))) → ((c t : ℕ) → row_at k' c t ≡ after spans_have changes (row_at k) c t) → k.entry ≤ now →
     moves_of id now k changes ≡ told_changes k.name (changes_of_write old new (registered k) now)) where
-  pub moves_are : (rs : List Renewal) (ks ks' : List KeptQuery) → All IsKept ks → All IsKept ks' → AreCurrent old ks → All (λ k. k.entry ≤ now) ks →
+  pub moves_are : (rs : List Renewal) (ks ks' : List KeptQuery) → All IsKept ks → All IsKept ks' → AreCurrent old now ks → All (λ k. k.entry ≤ now) ks →
       AreFreshFor new id class now ks rs → AreMade id class rs ks ks' →
       moves_text new.history.catalog (changes_of id now ks rs) ≡ write_lines old new now (map registration_of ks)
   moves_are [] [] ks' kept kept' current entered fresh made = refl
@@ -74,9 +74,9 @@ module _ (old new : World) (id class now : ℕ)
   moves_are (r ∷ rs) (k ∷ ks) (k' ∷ ks') kept kept' current entered fresh made =
       both_lines new.history.catalog k.name (moves_of id now k r.changes) (changes_of id now ks rs) (changes_of_write old new (registered k) now)
       (write_lines old new now (map registration_of ks))
-      (tells k k' (All-head IsKept k ks kept) (All-head IsKept k' ks' kept') (All-head (IsCurrentFor old) k ks current)
+      (tells k k' (All-head IsKept k ks kept) (All-head IsKept k' ks' kept') (All-head (IsCurrentFor old now) k ks current)
       (renews r k k' fresh.0 made.0) r.changes made.0.rows (All-head (λ (x : KeptQuery). x.entry ≤ now) k ks entered))
-      (moves_are rs ks ks' (All-tail IsKept k ks kept) (All-tail IsKept k' ks' kept') (All-tail (IsCurrentFor old) k ks current)
+      (moves_are rs ks ks' (All-tail IsKept k ks kept) (All-tail IsKept k' ks' kept') (All-tail (IsCurrentFor old now) k ks current)
       (All-tail (λ (x : KeptQuery). x.entry ≤ now) k ks entered) fresh.1 made.1)
 
 -- ---- of a write that leaves the world as it is: none

@@ -26,6 +26,7 @@ use Rattle.exact.specs.First.{first_that_holds}
 use Rattle.ftl_parser.specs.Lawful.{IsLawful}
 use Rattle.ftl_parser.specs.Tree.{QueryTree, query_view}
 use Rattle.tick_set.specs.declared.spans.TheConstants.{LAST_TICK}
+use Rattle.session_file.specs.declared.kept.TheConstants.{SESSION_LINE_LIMIT}
 use Rattle.line_meaning.specs.Answering.{kept_lines}
 use Rattle.line_meaning.specs.Ask.{query_in, type_refusal}
 use Rattle.line_meaning.specs.Changes.{answer_text}
@@ -132,7 +133,7 @@ added_is kind w now name span q k info query = λ i. record {
 }
 
 module _ (d : Database) (old new : List KeptQuery) (kind : QueryKind) (name : List ℕ) (span : ℕ) (q : QueryTree) (resolved : ResolvedQuery)
-    (adds : AddsQuery (world_of_database d) (info_for kind (clock_of d) name span) resolved old new)
+    (adds : AddsQuery (world_of_database d) (clock_of d) (info_for kind (clock_of d) name span) resolved old new)
     (is : resolved ≡ query_in (world_of_database d) q) where
   pub adds_registration : map registration_of new
       ≡ map registration_of old ++ registration kind (world_of_database d) (clock_of d) name span q ∷ []
@@ -144,7 +145,8 @@ module _ (d : Database) (old new : List KeptQuery) (kind : QueryKind) (name : Li
 
   pub adds_stand : Stand d old → Stand d new
   adds_stand stand = subst (λ (ks : List KeptQuery). Stand d ks) (sym adds.list) (record {
-    current = All-append (IsCurrentFor (world_of_database d)) old (adds.added ∷ []) stand.current (one (IsCurrentFor (world_of_database d)) adds.is.current);
+    current = All-append (IsCurrentFor (world_of_database d) (clock_of d)) old (adds.added ∷ []) stand.current
+        (one (IsCurrentFor (world_of_database d) (clock_of d)) adds.is.current);
     fits = All-append (FitsWorld (world_of_database d)) old (adds.added ∷ []) stand.fits (one (FitsWorld (world_of_database d)) adds.is.fits);
     entered = All-append (λ (k : KeptQuery). k.entry ≤ clock_of d) old (adds.added ∷ []) stand.entered
         (one (λ (k : KeptQuery). k.entry ≤ clock_of d) (let e : adds.added.entry ≡ clock_of d = ap (λ (i : Info). i.entry) adds.is.info in omega (arith, e)));
@@ -197,7 +199,7 @@ drops_registration name (k ∷ ks) =
 
 pub drops_stand : (d : Database) (name : List ℕ) (ks : List KeptQuery) → Stand d ks → Stand d (filter (λ k. not (bytes_eq k.name name)) ks)
 drops_stand d name ks stand = record {
-  current = All-filter (λ (k : KeptQuery). not (bytes_eq k.name name)) (IsCurrentFor (world_of_database d)) ks stand.current;
+  current = All-filter (λ (k : KeptQuery). not (bytes_eq k.name name)) (IsCurrentFor (world_of_database d) (clock_of d)) ks stand.current;
   fits = All-filter (λ (k : KeptQuery). not (bytes_eq k.name name)) (FitsWorld (world_of_database d)) ks stand.fits;
   entered = All-filter (λ (k : KeptQuery). not (bytes_eq k.name name)) (λ (k : KeptQuery). k.entry ≤ clock_of d) ks stand.entered;
 }
@@ -263,12 +265,12 @@ module _ (s : State) (is : IsState s.journal s) (c : CommandTree) (r : Request) 
         entered_is new entered = entered ∙ ap (λ x. s.journal ++ (now, x) ∷ []) (ap spells admits.0 ∙ canonical)
 
         module _ (resolved : ResolvedQuery) (by_number : resolved ≡ query_in (world_of_database s.database) (query_view r.query.now)) (live : List KeptQuery)
-            (adds : AddsQuery (world_of_database s.database) (info_for r.kind (clock_of s.database) r.name.now r.span) resolved s.live live) where
-          pub asked_state : (n : State) → IsPrintable c → n.journal ≡ s.journal ++ (now, spells line) ∷ [] → n.database ≡ s.database →
+            (adds : AddsQuery (world_of_database s.database) (clock_of s.database) (info_for r.kind (clock_of s.database) r.name.now r.span) resolved s.live live) where
+          pub asked_state : (n : State) → IsPrintable c → length (text_of c) ≤ SESSION_LINE_LIMIT → n.journal ≡ s.journal ++ (now, spells line) ∷ [] → n.database ≡ s.database →
               n.live ≡ live → IsState n.journal n
-          asked_state n printable entered database its =
+          asked_state n printable short entered database its =
               let still = request_still now r in
-              entered_state s.journal now c s n refl is (tick ∙ is.keeps.clock_is) asked_kept printable asked_accepted (entered_is n.journal entered)
+              entered_state s.journal now c s n refl is (tick ∙ is.keeps.clock_is) asked_kept printable short asked_accepted (entered_is n.journal entered)
               (subst (λ (d : Database). Keeps (s.journal ++ (now, c) ∷ []) d) (sym database)
               (keeps_same s.journal now c s.database (ap (writes_of now) same ∙ still.0) (ap regions_of same ∙ still.1) (ap ticks_of same ∙ still.2) is.keeps))
               (ap (map registration_of) its
@@ -342,10 +344,10 @@ module _ (s : State) (is : IsState s.journal s) (c : CommandTree) (name : List �
       drop_entered : (new : List Accepted) → new ≡ s.journal ++ (now, spells line) ∷ [] → new ≡ s.journal ++ (now, c) ∷ []
       drop_entered new entered = entered ∙ ap (λ x. s.journal ++ (now, x) ∷ []) (ap spells admits.0 ∙ canonical)
 
-      pub drop_state : (n : State) → IsPrintable c → n.journal ≡ s.journal ++ (now, spells line) ∷ [] → n.database ≡ s.database →
+      pub drop_state : (n : State) → IsPrintable c → length (text_of c) ≤ SESSION_LINE_LIMIT → n.journal ≡ s.journal ++ (now, spells line) ∷ [] → n.database ≡ s.database →
           n.live ≡ filter (λ k. not (bytes_eq k.name name)) s.live → IsState n.journal n
-      drop_state n printable entered database its =
-          entered_state s.journal now c s n refl is (tick ∙ is.keeps.clock_is) drop_kept printable drop_accepted (drop_entered n.journal entered)
+      drop_state n printable short entered database its =
+          entered_state s.journal now c s n refl is (tick ∙ is.keeps.clock_is) drop_kept printable short drop_accepted (drop_entered n.journal entered)
           (subst (λ (d : Database). Keeps (s.journal ++ (now, c) ∷ []) d) (sym database)
           (keeps_same s.journal now c s.database (ap (writes_of now) same) (ap regions_of same) (ap ticks_of same) is.keeps))
           (ap (map registration_of) its ∙ drops_registration name s.live

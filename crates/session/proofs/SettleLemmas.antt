@@ -44,23 +44,24 @@ pub record Laws : Type 0 where
   pub goes_on : (old new : World) (m : List ClassInfo) (n : List Region)
       → new.history.catalog.classes ≡ old.history.catalog.classes ++ m → new.regions ≡ old.regions ++ n
       → (k k' : KeptQuery) → IsSameHead k k' → FitsWorld old k → FitsWorld new k'
-  pub stays : (old new : World) → ChangesNoObject old new → (k : KeptQuery) → FitsItsClasses old k.query
-      → IsCurrentFor old k → IsCurrentFor new k
+  pub stays : (old new : World) → ChangesNoObject old new → (before now : ℕ) → before ≤ now
+      → (k : KeptQuery) → FitsItsClasses old k.query
+      → IsCurrentFor old before k → IsCurrentFor new now k
   pub commits : (id now class : ℕ) (old new : History) → ChangesFrom id now old new → AddsAtMost id old.catalog new.catalog
       → (regions : List Region) (rs : List Renewal) (live live' : List KeptQuery) → All IsKept live → All IsKept live'
-      → AreCurrent (world_with old regions) live → AreFreshFor (world_with new regions) id class now live rs
-      → AreMade id class rs live live' → AreCurrent (world_with new regions) live'
+      → AreCurrent (world_with old regions) now live → AreFreshFor (world_with new regions) id class now live rs
+      → AreMade id class rs live live' → AreCurrent (world_with new regions) now live'
   pub renews : (w : World) (object class now : ℕ) (r : Renewal) (k k' : KeptQuery)
       → IsFreshFor w object class now k r → IsMade object class r k k' → IsRenewed w object now k k'
   pub tells : (id now : ℕ) (old new : History) → ChangesFrom id now old new → AddsAtMost id old.catalog new.catalog
       → (regions : List Region) (k k' : KeptQuery) → IsKept k → IsKept k'
-      → IsCurrentFor (world_with old regions) k → IsRenewed (world_with new regions) id now k k'
+      → IsCurrentFor (world_with old regions) now k → IsRenewed (world_with new regions) id now k k'
       → (changes : List (row_changes.Change (List Span))) → ((c t : ℕ) → row_at k' c t ≡ after spans_have changes (row_at k) c t)
       → k.entry ≤ now
       → moves_of id now k changes
       ≡ told_changes k.name (changes_of_write (world_with old regions) (world_with new regions) (registered k) now)
-  pub passed : (w : World) (k : KeptQuery) → IsKept k → IsCurrentFor w k
-      → (before now : ℕ) → k.entry ≤ before → before ≤ now
+  pub passed : (w : World) (k : KeptQuery) → IsKept k → (before now : ℕ) → IsCurrentFor w before k
+      → k.entry ≤ before → before ≤ now
       → passings_of before now k ≡ told_changes k.name (changes_of_tick w (registered k) before now)
 
 -- ---- queries that stay as they are
@@ -118,7 +119,7 @@ module _ (laws : Laws) (journal : List Accepted) (change : Change) (old new : Da
       let later : clock_of new ≡ clock_of old + ticks = clock_after journal (clock_of old) (Tree.Tick ticks) old new keeps after in
       let upto : clock_of old ≤ clock_of new = omega (arith, later) in
       passings_are (world_of_database old) (catalog_of new.store) (ap (λ (w : World). w.history.catalog) same) (clock_of old) (clock_of new) upto
-      (λ k is current entered. laws.passed (world_of_database old) k is current (clock_of old) (clock_of new) entered upto)
+      (λ k is current entered. laws.passed (world_of_database old) k is (clock_of old) (clock_of new) current entered upto)
       live before.each stand.current stand.entered
   unwritten_lines (Tree.Insert class name place sets) carries kept plain none =
       sym (same_lines (world_of_database old) (world_of_database new) (clock_of old) (map registration_of live)
@@ -142,7 +143,7 @@ module _ (laws : Laws) (journal : List Accepted) (change : Change) (old new : Da
       let adds = adds_to_world journal c change old new keeps carries kept plain none in
       let later = clock_after journal (clock_of old) c old new keeps (carries.keeps journal keeps) in
       record {
-        current = λ i d within. laws.stays (world_of_database old) (world_of_database new) adds.changes (slice_index_or live i d)
+        current = λ i d within. laws.stays (world_of_database old) (world_of_database new) adds.changes (clock_of old) (clock_of new) (omega (arith, later)) (slice_index_or live i d)
             (stand.fits i d within).fits (stand.current i d within);
         fits = λ i d within. laws.goes_on (world_of_database old) (world_of_database new) adds.classes adds.changes.more adds.all_classes
             adds.changes.regions (slice_index_or live i d) (slice_index_or live i d) (same_head (slice_index_or live i d)) (stand.fits i d within);
@@ -165,9 +166,9 @@ module _ (laws : Laws) (journal : List Accepted) (change : Change) (old new : Da
         (subst (λ n. AreFreshFor (world_of_database new) f.object f.class n live f.renewals) still is.fresh) in
         record {
           stand = record {
-            current = subst (λ (v : World). AreCurrent v live') (sym same)
+            current = subst (λ (v : World). AreCurrent v (clock_of new) live') (sym same) (subst (λ n. AreCurrent here n live') (sym still)
                 (laws.commits f.object (clock_of old) f.class (history_of old.store) (history_of new.store) w.changes adds old.regions f.renewals
-                live live' before.each kept'.each stand.current fresh made);
+                live live' before.each kept'.each stand.current fresh made));
             fits = made_all f.object f.class (FitsWorld (world_of_database old)) (FitsWorld (world_of_database new))
                 (laws.goes_on (world_of_database old) (world_of_database new) [] [] (w.changes.classes ∙ sym (append-nil old.store.classes))
                 (w.regions ∙ sym (append-nil old.regions)))

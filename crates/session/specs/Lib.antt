@@ -3,4 +3,7 @@ pub mod Asked
 pub mod Answers
 pub mod Carried
 pub mod Entering
+pub mod Filed
 pub mod Followed
+pub mod Replayed
+pub mod Rows

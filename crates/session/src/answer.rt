@@ -8,7 +8,7 @@ ghost use Rattle.command_text.specs.Tree.{command_view};
 ghost use Rattle.line_meaning.specs.declared.role.Role.TheVariants.{Telling};
 ghost use Rattle.line_meaning.specs.Fault.{is_gap};
 ghost use Rattle.line_meaning.specs.Looks.{is_query, most_looks};
-ghost use Rattle.line_meaning.specs.Role.{role_of};
+ghost use Rattle.line_meaning.specs.Role.{asks_shelf, role_of};
 ghost use Rattle.line_meaning.specs.Step.{held};
 ghost use Rattle.reply_text.specs.Begins.{Begins};
 ghost use Rattle.database.specs.Telling.{IsRefused};
@@ -59,7 +59,7 @@ fn tell<L: Ledger, M: Ledger>(
     Ok(())
 }
 
-/// Carries out a command that was read. After an error nothing has changed but that `out` begins with its old
+/// Carries out a command that was read and asks nothing of the shelf. After an error nothing has changed but that `out` begins with its old
 /// contents.
 fn carry_out<L: Ledger, M: Ledger>(
     alloc: Global,
@@ -73,6 +73,7 @@ fn carry_out<L: Ledger, M: Ledger>(
     requires printable { IsPrintable (command_view command.now) }
     requires canonical { spelled (text_of (command_view command.now)) ≡ command_view command.now }
     requires short { length (text_of (command_view command.now)) ≤ LEXER_LIMIT }
+    requires plain { asks_shelf (command_view command.now) ≡ false }
     ensures state { IsState state.new.journal state.new }
     ensures done { CarriesOut (held state.old.journal) (command_view command.now) (held state.new.journal) out.old.items out.new.items result }
     ensures begins { Begins out.old.items out.new.items }
@@ -103,7 +104,7 @@ fn carry_out<L: Ledger, M: Ledger>(
     }
 }
 
-/// Answers a command that was read. A refusal and want of memory change nothing.
+/// Answers a command that was read and asks nothing of the shelf. A refusal and want of memory change nothing.
 pub(crate) fn answer<L: Ledger, M: Ledger>(
     alloc: Global,
     state: &mut State,
@@ -116,6 +117,7 @@ pub(crate) fn answer<L: Ledger, M: Ledger>(
     requires printable { IsPrintable (command_view command.now) }
     requires canonical { spelled (text_of (command_view command.now)) ≡ command_view command.now }
     requires short { length (text_of (command_view command.now)) ≤ LEXER_LIMIT }
+    requires plain { asks_shelf (command_view command.now) ≡ false }
     ensures state { IsState state.new.journal state.new }
     ensures carried { Carried (held state.old.journal) (command_view command.now) (held state.new.journal) out.old.items out.new.items result }
     ensures least { reads.old ≤ reads.new }

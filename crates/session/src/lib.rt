@@ -6,6 +6,7 @@
 
 mod answer;
 mod entering;
+mod filing;
 mod keeping;
 mod next;
 mod session;

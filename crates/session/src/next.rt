@@ -1,5 +1,6 @@
 //! What is answered of a line.
 use command_text::Refusal;
+use std::alloc::AllocError;
 use thiserror::Error;
 
 /// What was done with a line.
@@ -23,4 +24,15 @@ pub enum ApplyFault {
     ShelfFault,
     #[error("no memory")]
     NoMemory,
+}
+
+impl From<AllocError> for ApplyFault {
+    ghost use Rattle.std.specs.Prelude.{◌≡◌};
+    ghost use Rattle.session.specs.declared.next.ApplyFault.TheVariants.{NoMemory};
+
+    ghost from_gives = { λ _ fault. fault ≡ NoMemory };
+
+    fn from(_: AllocError) -> ApplyFault {
+        ApplyFault::NoMemory
+    }
 }

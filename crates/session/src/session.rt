@@ -1,19 +1,28 @@
 //! The state of the database, one line at a time.
-ghost use Rattle.std.specs.Prelude.{◌≡◌, ◌+◌, ◌≤◌, false, [], IfOk};
+ghost use Rattle.std.specs.Prelude.{◌≡◌, ◌+◌, ◌≤◌, false, [], length, IfOk};
+ghost use Rattle.ftl_lexer.specs.declared.buffer.TheConstants.{LEXER_LIMIT};
 ghost use Rattle.command_text.specs.Journal.{spelled};
+ghost use Rattle.command_text.specs.Shape.{IsPrintable};
+ghost use Rattle.command_text.specs.Text.{text_of};
+ghost use Rattle.command_text.specs.Tree.{command_view};
 ghost use Rattle.line_meaning.specs.Journal.{clock, world};
-ghost use Rattle.line_meaning.specs.Looks.{is_query, most_looks};
-ghost use Rattle.line_meaning.specs.Step.{held};
-ghost use Rattle.session.specs.Answers.{Applies, IsUnread, next_or_fault};
+ghost use Rattle.line_meaning.specs.Looks.{is_query, looks_of};
+ghost use Rattle.line_meaning.specs.Role.{asks_shelf};
+ghost use Rattle.line_meaning.specs.Step.{base, held};
+ghost use Rattle.outside.specs.Shelf.{Texts};
+ghost use Rattle.session.specs.Filed.{IsApplied, SufficesFor};
+ghost use Rattle.session.specs.State.{IsState};
+ghost use Rattle.session.specs.Answers.{Applies, HasCause, IsUnread, Suffices, next_or_fault};
 
 use crate::answer::answer;
+use crate::filing::file;
 use crate::next::{ApplyFault, Next};
 use crate::state::State;
 use command_text::{
-    CommandFault, Journal, LINE_LIMIT, LineReader, canonical_lines_are_read_back,
+    Command, CommandFault, Journal, LINE_LIMIT, LineReader, canonical_lines_are_read_back,
     canonical_lines_are_short, read_commands_are_printable,
 };
-use line_meaning::steps_write_what_is_accepted;
+use line_meaning::{Role, role_of, steps_write_what_is_accepted};
 use outside::Shelf;
 use std::alloc::Global;
 use std::marker::Model;
@@ -76,10 +85,13 @@ impl Session {
     }
 
     /// Answers one line, without its line feed. `Accepted` and `Quit` append the reply to `out`; `Silent`
-    /// comes exactly of a blank line or a comment; `Refused` carries the first refusal that holds, and
-    /// neither it nor want of memory changes anything. No command calls the shelf. Only a query takes steps
-    /// of `reads`, at most as many as its bound by the numbers of objects and of ticks, and of `probes`; a
-    /// refused one takes none.
+    /// comes exactly of a blank line or a comment; `Refused` carries the first refusal that holds, and changes
+    /// nothing. `ShelfFault` comes only where the shelf counted a fault, of a `save`, an `export` or an `import`
+    /// that nothing refuses but its text: the text under the name that was to be written is unknown then, and
+    /// all else as it was. Want of memory changes nothing, but that an `import` may have entered the first of
+    /// its rows. No other command calls the shelf. Steps of `reads` are taken at most as many as the bound of
+    /// the line's command by the numbers of entries, of objects and of ticks; a refused line takes none, and
+    /// none of `probes`.
     pub fn apply<F: Shelf, L: Ledger, M: Ledger>(
         &mut self,
         line: &[u8],
@@ -88,10 +100,11 @@ impl Session {
         reads: &mut Steps<L>,
         probes: &mut Steps<M>,
     ) -> Result<Next, ApplyFault>
-        ensures applies { Applies (F.texts shelf.old) line.now self.old self.new out.old.items out.new.items result }
-        ensures shelf { shelf.new ≡ shelf.old }
+        ensures applies { Applies (F.texts shelf.old) (F.texts shelf.new) line.now self.old self.new out.old.items out.new.items result }
+        ensures cause { HasCause (F.faults shelf.old) (F.faults shelf.new) result }
+        ensures untouched { asks_shelf (spelled line.now) ≡ false → shelf.new ≡ shelf.old }
         ensures least { reads.old ≤ reads.new }
-        ensures most { reads.new ≤ reads.old + most_looks self.old (spelled line.now) }
+        ensures most { (texts : Texts) → Suffices (F.texts shelf.old) line.now texts → reads.new ≤ reads.old + looks_of (base self.old texts) (spelled line.now) }
         ensures unread { IfOk result (λ next. IsUnread next reads.old reads.new) }
         ensures unprobed { IfOk result (λ next. IsUnread next probes.old probes.new) }
         ensures plain { is_query (spelled line.now) ≡ false → probes.new ≡ probes.old }
@@ -108,9 +121,42 @@ impl Session {
         canonical_lines_are_short();
         canonical_lines_are_read_back();
         steps_write_what_is_accepted();
-        let answered = answer(self.alloc, &mut self.state, &command, reads, probes, out);
+        let (alloc, state) = (self.alloc, &mut self.state);
+        let applied = apply_command(alloc, state, &command, shelf, reads, probes, out);
         drop(command);
-        next_or_fault(answered)
+        applied
+    }
+}
+
+/// Carries out a command that was read, and answers it.
+fn apply_command<F: Shelf, L: Ledger, M: Ledger>(
+    alloc: Global,
+    state: &mut State,
+    command: &Command,
+    shelf: &mut F,
+    reads: &mut Steps<L>,
+    probes: &mut Steps<M>,
+    out: &mut Vec<u8>,
+) -> Result<Next, ApplyFault>
+    requires state { IsState state.old.journal state.old }
+    requires printable { IsPrintable (command_view command.now) }
+    requires canonical { spelled (text_of (command_view command.now)) ≡ command_view command.now }
+    requires short { length (text_of (command_view command.now)) ≤ LEXER_LIMIT }
+    ensures state { IsState state.new.journal state.new }
+    ensures applied { IsApplied (F.texts shelf.old) (F.texts shelf.new) (command_view command.now)
+        (held state.old.journal) (held state.new.journal) out.old.items out.new.items result }
+    ensures cause { HasCause (F.faults shelf.old) (F.faults shelf.new) result }
+    ensures untouched { asks_shelf (command_view command.now) ≡ false → shelf.new ≡ shelf.old }
+    ensures least { reads.old ≤ reads.new }
+    ensures most { (texts : Texts) → SufficesFor (F.texts shelf.old) (command_view command.now) texts
+        → reads.new ≤ reads.old + looks_of (base (held state.old.journal) texts) (command_view command.now) }
+    ensures unread { IfOk result (λ next. IsUnread next reads.old reads.new) }
+    ensures unprobed { IfOk result (λ next. IsUnread next probes.old probes.new) }
+    ensures plain { is_query (command_view command.now) ≡ false → probes.new ≡ probes.old }
+{
+    match role_of(command) {
+        Role::Filing => file(alloc, state, command, shelf, reads, probes, out),
+        _ => next_or_fault(answer(alloc, state, command, reads, probes, out)),
     }
 }
 

@@ -2,9 +2,8 @@
 ghost use Rattle.std.specs.Prelude.{◌≡◌, ◌<◌};
 
 use crate::entering::passes;
-use crate::{Next, Session};
-use outside::SureShelf;
-use std::alloc::Global;
+use crate::{ApplyFault, Next, Session};
+use outside::{Shelf, SureShelf};
 use std::marker::Brand;
 use std::process::Abort;
 use std::str;
@@ -13,7 +12,7 @@ use std::test::Fail;
 use steps::Steps;
 
 /// The replies of lines to an empty database, one after another. A refused line is answered by its
-/// refusal, and `quit` by `bye` besides.
+/// refusal, `quit` by `bye` besides, and a line at which the shelf fails by `shelf fault`.
 fn replies(rt: &HostRuntime, lines: &[&[u8]]) -> Result<Vec<u8>, Fail> {
     let (replies, _, _) = after(rt, lines)?;
     Ok(replies)
@@ -21,12 +20,22 @@ fn replies(rt: &HostRuntime, lines: &[&[u8]]) -> Result<Vec<u8>, Fail> {
 
 /// The same, with the clock and the number of entries of the journal after the lines.
 fn after(rt: &HostRuntime, lines: &[&[u8]]) -> Result<(Vec<u8>, u32, usize), Fail> {
-    with_reads::<Brand>(rt, lines, Blank::new(1), Blank::new(1))
+    on_shelf(rt, lines, &mut SureShelf::new(rt.alloc()))
 }
 
-fn with_reads<L: Ledger>(
+/// The same, on a shelf.
+pub(super) fn on_shelf<F: Shelf>(
     rt: &HostRuntime,
     lines: &[&[u8]],
+    shelf: &mut F,
+) -> Result<(Vec<u8>, u32, usize), Fail> {
+    with_reads::<F, Brand>(rt, lines, shelf, Blank::new(1), Blank::new(1))
+}
+
+fn with_reads<F: Shelf, L: Ledger>(
+    rt: &HostRuntime,
+    lines: &[&[u8]],
+    shelf: &mut F,
     reads: Blank,
     probes: Blank,
 ) -> Result<(Vec<u8>, u32, usize), Fail>
@@ -36,12 +45,13 @@ fn with_reads<L: Ledger>(
     requires one { 0 < probes.parts }
 {
     let mut reads: Steps<L> = Steps::new(rt, reads);
-    with_probes::<_, Brand>(rt, lines, &mut reads, probes)
+    with_probes::<F, L, Brand>(rt, lines, shelf, &mut reads, probes)
 }
 
-fn with_probes<L: Ledger, M: Ledger>(
+fn with_probes<F: Shelf, L: Ledger, M: Ledger>(
     rt: &HostRuntime,
     lines: &[&[u8]],
+    shelf: &mut F,
     reads: &mut Steps<L>,
     probes: Blank,
 ) -> Result<(Vec<u8>, u32, usize), Fail>
@@ -50,32 +60,31 @@ fn with_probes<L: Ledger, M: Ledger>(
     requires some { 0 < probes.parts }
 {
     let mut probes: Steps<M> = Steps::new(rt, probes);
-    let alloc = rt.alloc();
-    let mut session = Session::new(alloc);
-    let mut out = Vec::new(alloc);
+    let mut session = Session::new(rt.alloc());
+    let mut out = Vec::new(rt.alloc());
     for line in lines {
-        answer(alloc, &mut session, line, reads, &mut probes, &mut out)?;
+        answer(&mut session, line, shelf, reads, &mut probes, &mut out)?;
     }
     Ok((out, session.now(), session.journal().len()))
 }
 
-fn answer<L: Ledger, M: Ledger>(
-    alloc: Global,
+fn answer<F: Shelf, L: Ledger, M: Ledger>(
     session: &mut Session,
     line: &[u8],
+    shelf: &mut F,
     reads: &mut Steps<L>,
     probes: &mut Steps<M>,
     out: &mut Vec<u8>,
 ) -> Result<(), Fail> {
-    let mut shelf = SureShelf::new(alloc);
-    match session.apply(line, &mut shelf, out, reads, probes) {
+    match session.apply(line, shelf, out, reads, probes) {
         Ok(Next::Refused(refusal)) => {
             out.extend_from_slice(refusal.line().bytes())?;
             out.push(b'\n')?;
         }
         Ok(Next::Quit) => out.extend_from_slice(b"bye\n")?,
         Ok(_) => {}
-        Err(_) => return Err(Fail::from("no memory")),
+        Err(ApplyFault::ShelfFault) => out.extend_from_slice(b"shelf fault\n")?,
+        Err(ApplyFault::NoMemory) => return Err(Fail::from("no memory")),
     }
     Ok(())
 }
@@ -211,14 +220,11 @@ fn commands_that_are_not_built_are_refused(rt: HostRuntime) -> Result<(), Fail> 
         &[Row {
             lines: &[
                 b"class tank 9 (fuel dyn)",
-                b"save \"s\"",
-                b"import tank \"s\"",
-                b"export tank \"s\"",
                 b"nearest 1 1 a tank",
                 b"index tank fuel 1",
                 b"range 1 tank fuel 1 2",
             ],
-            replies: "ok\nrefused 4 BadSyntax\nrefused 4 BadSyntax\nrefused 4 BadSyntax\nrefused 4 BadSyntax\nrefused 4 BadSyntax\nrefused 4 BadSyntax\n",
+            replies: "ok\nrefused 4 BadSyntax\nrefused 4 BadSyntax\nrefused 4 BadSyntax\n",
         }],
     )
 }

@@ -1,5 +1,5 @@
 -- Which lines are commands of a journal.
-use Rattle.std.specs.Prelude.{ℕ, ◌==◌, ◌&&◌, nat_le, is_none, Bool, true, false, Option, Some, None, List, [], ◌∷◌, length, if◌then◌else◌}
+use Rattle.std.specs.Prelude.{◌≡◌, ℕ, ◌==◌, ◌&&◌, nat_le, is_none, Bool, true, false, Option, Some, None, List, [], ◌∷◌, length, if◌then◌else◌}
 use Rattle.ftl_lexer.specs.Forms.{is_blank}
 use Rattle.command_text.specs.Tree
 use Rattle.command_text.specs.Tree.{CommandTree}
@@ -33,3 +33,7 @@ may_be_loaded c = is_kept c && nat_le (length (text_of c)) SESSION_LINE_LIMIT
 -- the command of a line, None where it is refused or no such command
 unfoldable pub kept_in : List ℕ → Option CommandTree
 kept_in line = if is_none (first_refusal SESSION_LINE_LIMIT line) && may_be_loaded (spelled line) then Some (spelled line) else None
+
+-- some line has the command
+abbrev pub HasLine : CommandTree → Type 0
+HasLine c = (line : List ℕ) × (kept_in line ≡ Some c)

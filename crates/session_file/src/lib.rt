@@ -16,9 +16,7 @@ mod save;
 pub use fault::FileFault;
 pub use kept::SESSION_LINE_LIMIT;
 pub use laws::saved_texts_are_loaded;
+pub use lines::line_count;
 pub use loading::{check, load};
 pub use reader::{Loaded, SessionReader};
 pub use save::save_text;
-
-#[cfg(test)]
-mod tests;

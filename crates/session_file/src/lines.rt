@@ -47,6 +47,19 @@ pub(crate) fn split_line(text: &[u8]) -> Option<(&[u8], &[u8])>
     }
 }
 
+/// How many lines a text has. The last one may lack its line feed.
+pub fn line_count(text: &[u8]) -> u64
+    ensures { result ≡ length (lines text.now) }
+{
+    let mut count = 0;
+    let mut rest = text;
+    'lines: while let Some((_, later)) = split_line(rest) {
+        count += 1;
+        rest = later;
+    }
+    count
+}
+
 /// The first line that is neither blank nor a comment, with its number and what follows it, in a text of
 /// which the first line has the number `first`.
 #[tactic(auto, using(crate::proofs::ReadLemmas::read_passed))]

@@ -2,7 +2,7 @@
 ghost use Rattle.std.specs.Prelude.{◌≡◌, ◌+◌, ◌^◌, ◌≤◌, length, IfOk, IfErr, OnErr, IfSome, true, option_map, if◌then◌else◌, None, Some};
 ghost use Rattle.std.specs.Str.Lines.{lines};
 ghost use Rattle.command_text.specs.Tree.{command_view};
-ghost use Rattle.session_file.specs.Kept.{kept_in};
+ghost use Rattle.session_file.specs.Kept.{HasLine, kept_in};
 ghost use Rattle.session_file.specs.Reading.{Explains, GivesNext, StopsBy, ended, may_go_on, read_counted, read_on, reading_of, starting, stops};
 ghost use Rattle.command_text.specs.declared.journal.TheConstants.{MOST_ENTRIES};
 ghost use Rattle.session_file.specs.declared.counts.Counts.{Counts};
@@ -114,6 +114,7 @@ impl<'a> SessionReader<'a> {
     #[tactic(auto, using(crate::proofs::ReadLemmas::read_steps))]
     pub fn next_command(&mut self) -> Result<Option<Loaded>, FileFault>
         ensures ok { IfOk result (GivesNext self.old self.new) }
+        ensures line { IfOk result (λ found. IfSome found (λ loaded. HasLine (command_view loaded.command))) }
         ensures fault { IfErr result (StopsBy self.old) }
         ensures err { OnErr result (self.new ≡ self.old) }
     {

@@ -74,6 +74,7 @@ fn push_entries<L: Ledger>(
     requires { clock journal.now ≤ LAST_TICK }
     ensures text { OnOk result (text.new.items ≡ text.old.items ++ flat_map entry_text journal.now) }
     ensures ticks { IfOk result (λ ticks. ticks ≡ clock journal.now) }
+    ensures least { reads.old ≤ reads.new }
     ensures reads { reads.new ≤ reads.old + length journal.now }
 {
     let mut ticks = 0;
@@ -94,6 +95,7 @@ pub fn save_text<L: Ledger>(
 ) -> Result<Vec<u8>, AllocError>
     requires { clock journal.now ≤ LAST_TICK }
     ensures text { IfOk result (λ text. text.items ≡ session_text journal.now) }
+    ensures least { reads.old ≤ reads.new }
     ensures reads { reads.new ≤ reads.old + length journal.now }
 {
     let mut text = Vec::with_capacity(alloc, journal.bytes() as usize + FRAME)?;

@@ -10,9 +10,6 @@ ghost use Rattle.std.specs.Prelude.{◌≡◌, ◌+◌, ◌<◌};
 use std::marker::Model;
 use std::sync::ledger::{Blank, Book, Ledger, Share};
 
-#[cfg(test)]
-mod tests;
-
 /// How many steps were taken. It has no bytes, and only `step` changes the count.
 #[derive(Drop)]
 pub struct Steps<L: Ledger> {

@@ -23,6 +23,3 @@ pub use runs::Runs;
 pub use set::TickSet;
 pub use spans::{LAST_TICK, SPAN_LIMIT, Span, Window};
 pub use tick_list::TickList;
-
-#[cfg(test)]
-mod tests;

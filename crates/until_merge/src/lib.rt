@@ -8,6 +8,3 @@ mod shapes;
 mod until;
 
 pub use operators::Temporal;
-
-#[cfg(test)]
-mod tests;

@@ -1,4 +1,4 @@
-use Rattle.std.proofs.Common.{ℕ, ◌+◌, ◌*◌, ◌≤◌, ◌&&◌, not, Bool, map, ap, ◌∙◌, arith}
+use Rattle.std.proofs.Common.{ℕ, ◌+◌, ◌*◌, ◌≤◌, Bool, map, ap, arith}
 use Rattle.std.specs.Prelude.{option_to_list}
 use Rattle.std.specs.List.{list_any}
 use Rattle.tick_set.specs.Ticks.{within}
@@ -31,15 +31,11 @@ returns g c =
     (c.in_ok-line.ensures (times rows width c.args.target) (times (after g.S.TickSet.member c.args.group.now rows) width c.args.target) lo hi
     (λ t.
     changed-ticks _ _ (within lo hi t) (anew t) (old t) _ _ _
-    (c.in_ok-changed.ensures.gained t)
-    (c.in_ok-gained.ensures t ∙ ap (λ b. within lo hi t && (b && not (g.S.TickSet.member c.in_ok-old.old t))) (c.in_ok-anew.ensures t)
-    ∙ ap (λ b. within lo hi t && (anew t && not b)) (c.in_ok-old.ensures t))
+    (c.in_ok-left.ensures.gained t) (c.in_ok-changed.ensures.gained t)
     (rows-after g.S.TickSet.member c.args.group.now rows from (from + width) t c.requires.group)
     (rows-before c.args.group.now rows from (from + width) t c.requires.group))
     (λ t.
     changed-ticks _ _ (within lo hi t) (old t) (anew t) _ _ _
-    (c.in_ok-changed.ensures.lost t)
-    (c.in_ok-lost.ensures t ∙ ap (λ b. within lo hi t && (b && not (g.S.TickSet.member c.in_ok-anew.anew t))) (c.in_ok-old.ensures t)
-    ∙ ap (λ b. within lo hi t && (old t && not b)) (c.in_ok-anew.ensures t))
+    (c.in_ok-left.ensures.lost t) (c.in_ok-changed.ensures.lost t)
     (rows-before c.args.group.now rows from (from + width) t c.requires.group)
     (rows-after g.S.TickSet.member c.args.group.now rows from (from + width) t c.requires.group)))

@@ -1,4 +1,5 @@
-use Rattle.line_meaning.proofs.ReachedLemmas.{command_is_reached, step_is_reached, writes_are_accepted}
+use Rattle.line_meaning.proofs.ReachedLemmas.{command_is_reached, writes_are_accepted}
+use Rattle.line_meaning.proofs.StepLemmas.{step_is_reached}
 use Rattle.line_meaning.proofs.laws.steps_write_what_is_accepted.Goals as goal
 
 pub returns-clause-writes : goal.returns-clause-writes
@@ -11,4 +12,5 @@ pub returns-clause-command : goal.returns-clause-command
 returns-clause-command c = command_is_reached
 
 pub returns-clause-step : goal.returns-clause-step
-returns-clause-step c = step_is_reached c.read_commands_are_printable.ensures
+returns-clause-step c =
+    step_is_reached c.commands_are_printable.ensures c.read_commands_are_printable.ensures c.canonical_lines_are_short.ensures.limit

@@ -23,9 +23,9 @@ evaluate-requires-clause-domains g c =
 pub returns-clause-rows : goal.returns-clause-rows
 returns-clause-rows g c =
     first_rows_are (world_in c.args.store.now c.args.regions.now) (query_view c.args.query.now) c.args.w.lo c.args.w.hi c.args.columns.now
-    c.deref.result.now c.in_ok-domains.domains c.in_ok-full.full (row_has spans_have c.in_ok-rows.rows) _ _
-    c.requires.resolved c.requires.columns c.in_ok-domains.ensures c.in_ok-full.ensures.rows (c.deref.ensures.value ∙ c.in_ok-numbers.ensures) c.in_ok-rows.ensures.none
-    c.in_ok-changes.ensures.rows c.commit.ensures.rows
+    c.deref.result.now c.in_ok-domains.domains c.in_ok-full.full (row_has spans_have c.in_ok-rows.rows)
+    c.requires.resolved c.requires.columns c.in_ok-domains.ensures c.in_ok-full.ensures.rows (c.deref.ensures.value ∙ c.in_ok-numbers.ensures)
+    c.in_ok-rows.ensures.rows
 
 pub returns-in_err-full-clause-most : goal.returns-in_err-full-clause-most
 returns-in_err-full-clause-most g c =
@@ -39,11 +39,6 @@ returns-in_err-rows-clause-most g c =
 
 pub returns-in_err-numbers-clause-most : goal.returns-in_err-numbers-clause-most
 returns-in_err-numbers-clause-most g c =
-    most_within _ _ _ _ c.in_ok-full.ensures.most
-    (reads_within (catalog_of c.args.store.now) (query_view c.args.query.now) _ (c.args.w.hi + 1 - c.args.w.lo) c.in_ok-domains.ensures)
-
-pub returns-in_err-changes-clause-most : goal.returns-in_err-changes-clause-most
-returns-in_err-changes-clause-most g c =
     most_within _ _ _ _ c.in_ok-full.ensures.most
     (reads_within (catalog_of c.args.store.now) (query_view c.args.query.now) _ (c.args.w.hi + 1 - c.args.w.lo) c.in_ok-domains.ensures)
 

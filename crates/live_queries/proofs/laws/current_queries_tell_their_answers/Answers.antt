@@ -3,6 +3,6 @@ use Rattle.live_queries.proofs.laws.current_queries_tell_their_answers.Goals as 
 
 pub returns : goal.returns
 returns c = record {
-  answer = λ w k is current now after. answer_is w k is current now (first_after k.kind k.entry now after);
-  passed = passings_are;
+  answer = λ w k is now current after. answer_is w now k is current (first_after k.kind k.entry now after);
+  passed = λ w k is before now current. passings_are w before k is current now;
 }

@@ -51,7 +51,7 @@ pub returns-in-Ok-clause-state : goal.returns-in-Ok-clause-state
 returns-in-Ok-clause-state g c =
     asked_state c.args.state.now c.requires.state (command_view c.args.command.now) c.args.request.now c.requires.is (c.in_ok-resolved.ensures.right (refl {a = true}))
     _ c.in_ok-admit.ensures _ c.clock-now.ensures spelled c.requires.canonical _ c.in_ok-resolved.ensures.query _ c.in_ok-register.ensures.added
-    _ c.requires.printable
+    _ c.requires.printable c.requires.short
     (subst (λ line. c.enter.new.journal ≡ c.args.state.now.journal ++ (c.clock-now.result, spelled line) ∷ []) c.deref.ensures.value
     c.in-Ok.ensures.entered) refl refl
 

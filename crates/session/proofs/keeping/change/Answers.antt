@@ -35,7 +35,7 @@ returns-in-Ok-clause-state g c =
     c.requires.gap c.requires.kept c.requires.data c.in-Ok.ensures.accepted
     (subst (λ (ks : List KeptQuery). AreKept ks) c.in-Ok.ensures.live c.settle.ensures.before) c.settle.ensures.after c.in-Ok.fresh c.in-Ok.ensures.prepared
     (subst (λ (ks : List KeptQuery). Settles c.in-Ok.fresh ks c.settle.new.live) c.in-Ok.ensures.live c.settle.ensures.made)
-    _ c.requires.printable (c.in-Ok.ensures.entered ∙ ap (λ t. c.args.state.now.journal ++ (t, command_view c.args.command.now) ∷ []) c.clock-before.ensures)
+    _ c.requires.printable c.requires.short (c.in-Ok.ensures.entered ∙ ap (λ t. c.args.state.now.journal ++ (t, command_view c.args.command.now) ∷ []) c.clock-before.ensures)
     c.in-Ok.ensures.database refl
 
 pub returns-in-Ok-clause-done : goal.returns-in-Ok-clause-done

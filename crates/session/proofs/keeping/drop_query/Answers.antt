@@ -27,7 +27,7 @@ returns-in_err-enter-clause-done c =
 pub returns-clause-state : goal.returns-clause-state
 returns-clause-state c =
     drop_state c.args.state.now c.requires.state (command_view c.args.command.now) c.args.name.now c.requires.is c.has.result c.has.ensures c.if-not-has.false
-    _ c.in_ok-admit.ensures _ c.clock.ensures spelled c.requires.canonical _ c.requires.printable
+    _ c.in_ok-admit.ensures _ c.clock.ensures spelled c.requires.canonical _ c.requires.printable c.requires.short
     (subst (λ line. c.enter.new.journal ≡ c.args.state.now.journal ++ (c.clock.result, spelled line) ∷ []) c.deref.ensures.value
     c.in_ok-enter.ensures.entered) refl c.drop_query.ensures.others
 

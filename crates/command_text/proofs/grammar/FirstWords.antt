@@ -1,0 +1,183 @@
+-- A line that is read as a command begins with the command's first word.
+use Rattle.command_text.proofs.Names.{◌≡◌, ℕ, zero, suc, ◌+◌, ◌-◌, ◌≤◌, ◌&&◌, nat_le, leb, leb-true, and_parts, Bool, true, false, List, [], ◌∷◌, ◌++◌, take, map, Option, None, Some, option_map, option_and_then, option_map_or, unwrap_or, refl, sym, ap, ◌∙◌, arith, inl, inr, ◌⊎◌, cases_Bool, bytes_eq, bytes_eq-Decides, code_of, reserved_words, Kind, Lexeme, lexemes, bytes_of_token, HasForm, HaveForms, bad_place, cut, token_at, is_blank, Part, Parts, Piece, KEY, NAME, piece_of, pieces, CommandTree, Notes, token_of, SpellsPart, part_verb, SpellsParts, no_parts, last_part, last_query, part_before, SpellsCommand, by_parts, Read, at_first, if◌then◌else◌, command_of, is_comment, command_in}
+use Rattle.std.proofs.Common.{one-add, eqb}
+use Rattle.std.proofs.lemmas.Bool.Decides.{Decides-eqb}
+use Rattle.ftl_lexer.specs.declared.kinds.Kind.TheVariants as kinds
+use Rattle.ftl_lexer.proofs.Cuts.{cut_from_good}
+use Rattle.ftl_lexer.proofs.Shapes.{tokens_have_forms}
+use Rattle.ftl_lexer.proofs.Spans.{no_tokens}
+use Rattle.command_text.specs.Tree
+use Rattle.command_text.specs.FirstWord.{word_in, word_before, first_word, after_blanks, begins_with, BeginsWithItsWord}
+use Rattle.command_text.proofs.grammar.DerivedCommands.{command_derived}
+
+-- ---- The first token's bytes stand after the blanks
+
+-- bytes that stand at the front of what comes after the blanks
+record StandsFirst (line word : List ℕ) : Type 0 where
+  len : ℕ
+  is : word ≡ take len (after_blanks line)
+
+put_first : (first l : Lexeme) (o : Option (List Lexeme)) (rest : List Lexeme) → option_map (λ more. first ∷ more) o ≡ Some (l ∷ rest) → first ≡ l
+put_first first l None rest e = absurd (cc)
+put_first first l (Some more) rest e = let same : first ∷ more ≡ l ∷ rest = cc in cc
+
+token_first : (line : List ℕ) (found : Option (Kind × ℕ)) (l : Lexeme) (rest : List Lexeme) (later : ℕ → Option (List Lexeme)) →
+    option_and_then (λ t. option_map (λ more. (t.0, take t.1 line) ∷ more) (later (t.1 - 1))) found ≡ Some (l ∷ rest)
+    → (n : ℕ) × (l.1 ≡ take n line)
+token_first line None l rest later e = absurd (cc)
+token_first line (Some t) l rest later e =
+    (t.1, sym (ap (λ (x : Lexeme). x.1) (put_first (t.0, take t.1 line) l (later (t.1 - 1)) rest e)))
+
+cut_first : (line : List ℕ) (l : Lexeme) (rest : List Lexeme) → cut 0 line ≡ Some (l ∷ rest) → StandsFirst line l.1
+unfolding cut
+cut_first [] l rest e = absurd (cc)
+cut_first (b ∷ bytes) l rest e =
+    elim (cases_Bool (is_blank b)) [
+      | inl blank ↦
+          let later = cut_first bytes l rest (rw blank at e) in
+          let same : after_blanks (b ∷ bytes) ≡ after_blanks bytes = rw (blank, one-add) refl in
+          record { len = later.len; is = later.is ∙ ap (take later.len) (sym same) }
+      | inr other ↦
+          let here = token_first (b ∷ bytes) (token_at (b ∷ bytes)) l rest (λ n. cut n bytes) (rw other at e) in
+          let same : after_blanks (b ∷ bytes) ≡ b ∷ bytes = rw other refl in
+          record { len = here.0; is = here.1 ∙ ap (take here.0) (sym same) }
+    ]
+
+-- so these bytes begin with them
+begins_by : (n : ℕ) (bytes word : List ℕ) → word ≡ take n bytes → begins_with bytes word ≡ true
+begins_by n bytes [] e = refl
+begins_by zero bytes (w ∷ word) e = absurd (cc)
+begins_by (suc n) [] (w ∷ word) e = absurd (cc)
+begins_by (suc n) (b ∷ bytes) (w ∷ word) e =
+    let first : w ≡ b = cc in
+    let same : eqb w b ≡ true = (Decides-eqb w b).1 first in
+    let later : word ≡ take n bytes = cc in
+    rw same (begins_by n bytes word later)
+
+-- ---- Words and tokens
+
+-- each row has a code above those before it
+abbrev ascends : ℕ → List (List ℕ × ℕ) → Bool
+ascends n [] = true
+ascends n (r ∷ rows) = nat_le n r.1 && ascends (r.1 + 1) rows
+
+-- a code that is found isn't below the first
+code_from : (n : ℕ) (rows : List (List ℕ × ℕ)) (word : List ℕ) (code : ℕ) → ascends n rows ≡ true → code_of rows word ≡ Some code → n ≤ code
+code_from n [] word code up e = absurd (cc)
+code_from n (r ∷ rows) word code up e =
+    let parts = and_parts (leb n r.1) (ascends (r.1 + 1) rows) up in
+    let least : n ≤ r.1 = leb-true n r.1 parts.0 in
+    elim (cases_Bool (bytes_eq r.0 word)) [
+      | inl same ↦ let found : Some r.1 ≡ Some code = rw same at e in let is : r.1 ≡ code = cc in omega arith
+      | inr other ↦ let later = code_from (r.1 + 1) rows word code parts.1 (rw other at e) in omega arith
+    ]
+
+-- two words with the same code are one
+same_code : (n : ℕ) (rows : List (List ℕ × ℕ)) (word other : List ℕ) (code : ℕ) → ascends n rows ≡ true → code_of rows word ≡ Some code
+    → code_of rows other ≡ Some code → word ≡ other
+same_code n [] word other code up e h = absurd (cc)
+same_code n (r ∷ rows) word other code up e h =
+    let parts = and_parts (leb n r.1) (ascends (r.1 + 1) rows) up in
+    elim (cases_Bool (bytes_eq r.0 word)) [
+      | inl a ↦
+          let found : Some r.1 ≡ Some code = rw a at e in
+          let is : r.1 ≡ code = cc in
+          elim (cases_Bool (bytes_eq r.0 other)) [
+            | inl b ↦ sym ((bytes_eq-Decides r.0 word).0 a) ∙ (bytes_eq-Decides r.0 other).0 b
+            | inr b ↦ let later = code_from (r.1 + 1) rows other code parts.1 (rw b at h) in absurd (omega arith)
+          ]
+      | inr a ↦
+          let later : code_of rows word ≡ Some code = rw a at e in
+          elim (cases_Bool (bytes_eq r.0 other)) [
+            | inl b ↦
+                let found : Some r.1 ≡ Some code = rw b at h in
+                let is : r.1 ≡ code = cc in
+                let past = code_from (r.1 + 1) rows word code parts.1 later in
+                absurd (omega arith)
+            | inr b ↦ same_code (r.1 + 1) rows word other code parts.1 later (rw b at h)
+          ]
+    ]
+
+key_word : (kind : Kind) (bytes word : List ℕ) (code : ℕ) → HasForm kind bytes → piece_of kind bytes ≡ KEY code
+    → code_of reserved_words word ≡ Some code → bytes ≡ word
+unfolding reserved_words
+key_word kinds.Name bytes word code form e found = absurd (cc)
+key_word kinds.Number bytes word code form e found = absurd (cc)
+key_word kinds.Text bytes word code form e found = absurd (cc)
+key_word (kinds.Sym k) bytes word code form e found = absurd (cc)
+key_word (kinds.Key k) bytes word code form e found =
+    let same : k ≡ code = cc in
+    same_code 0 reserved_words bytes word code refl (form ∙ ap Some same) found
+
+name_word : (kind : Kind) (bytes word : List ℕ) → piece_of kind bytes ≡ NAME word → bytes ≡ word
+name_word kinds.Name bytes word e = cc
+name_word kinds.Number bytes word e = absurd (cc)
+name_word kinds.Text bytes word e = absurd (cc)
+name_word (kinds.Sym k) bytes word e = absurd (cc)
+name_word (kinds.Key k) bytes word e = absurd (cc)
+
+word_by : (kind : Kind) (bytes word : List ℕ) (o : Option ℕ) → HasForm kind bytes → code_of reserved_words word ≡ o
+    → piece_of kind bytes ≡ piece_of (option_map_or (λ code. kinds.Key code) o kinds.Name) word → bytes ≡ word
+word_by kind bytes word None form found e = name_word kind bytes word e
+word_by kind bytes word (Some code) form found e = key_word kind bytes word code form e found
+
+-- a token that a word spells has the bytes of the word
+same_word : (kind : Kind) (bytes word : List ℕ) → HasForm kind bytes → piece_of kind bytes ≡ token_of word → bytes ≡ word
+same_word kind bytes word form e = word_by kind bytes word (code_of reserved_words word) form refl e
+
+-- ---- The first token of a command
+
+-- what begins with a word has its token first
+abbrev HasFirst : List ℕ → List Piece → Type 0
+HasFirst word xs = (word ≡ []) ⊎ ((later : List Piece) × (xs ≡ token_of word ∷ later))
+
+part_has : {p : Part} {s t : Notes} {xs : List Piece} → SpellsPart p s t xs → HasFirst (word_in p) xs
+part_has (part_verb is) = inr ([], refl)
+part_has _ = inl refl
+
+more_has : (word : List ℕ) (xs ys : List Piece) → HasFirst word xs → HasFirst word (xs ++ ys)
+more_has word xs ys (inl none) = inl none
+more_has word xs ys (inr some) = inr (some.0 ++ ys, ap (λ all. all ++ ys) some.1)
+
+parts_have : {ps : Parts} {s t : Notes} {xs : List Piece} → SpellsParts ps s t xs → HasFirst (word_before ps) xs
+parts_have no_parts = inl refl
+parts_have (last_part d) = part_has d
+parts_have (last_query d) = inl refl
+parts_have (part_before {p = p} {xs = xs} {ys = ys} d e) = more_has (word_in p) xs ys (part_has d)
+
+command_has : {c : CommandTree} {s : Notes} {xs : List Piece} → SpellsCommand c s xs → HasFirst (first_word c) xs
+command_has (by_parts d) = parts_have d
+
+-- ---- The line
+
+-- by the tokens of the line
+line_by : (line word : List ℕ) (all : List Lexeme) (later : List Piece) → cut 0 line ≡ Some all → HaveForms all
+    → map (λ (l : Lexeme). piece_of l.0 l.1) all ≡ token_of word ∷ later → begins_with (after_blanks line) word ≡ true
+line_by line word [] later e forms h = absurd (cc)
+line_by line word (l ∷ all) later e forms h =
+    let first : piece_of l.0 l.1 ≡ token_of word = cc in
+    let at = cut_first line l all e in
+    begins_by at.len (after_blanks line) word (sym (same_word l.0 l.1 word forms.0 first) ∙ at.is)
+
+bad_has_none : (line : List ℕ) (place : ℕ) → bad_place line ≡ Some place → pieces line ≡ []
+bad_has_none line place e = ap (map (λ (l : Lexeme). piece_of l.0 l.1)) (ap (map (λ t. (t.kind, bytes_of_token line t))) (no_tokens line place e))
+
+word_first : (line word : List ℕ) (bad : Option ℕ) → bad_place line ≡ bad → HasFirst word (pieces line) → begins_with (after_blanks line) word ≡ true
+word_first line word bad e (inl none) = rw none refl
+word_first line word (Some place) e (inr some) = let none = bad_has_none line place e in let both : [] ≡ token_of word ∷ some.0 = sym none ∙ some.1 in absurd (cc)
+word_first line word None e (inr some) = line_by line word (lexemes line) some.0 (cut_from_good line e) (tokens_have_forms line) some.1
+
+-- by what was read of it
+found_first : (line : List ℕ) (found : Read CommandTree) → command_of (pieces line) ≡ found
+    → begins_with (after_blanks line) (first_word (unwrap_or (option_map (λ x. x.0) found) Tree.Nothing)) ≡ true
+found_first line None e = refl
+found_first line (Some x) e = word_first line (first_word x.0) (bad_place line) refl (command_has (command_derived (pieces line) x.0 x.1 e))
+
+line_first : (line : List ℕ) (b : Bool) → begins_with (after_blanks line)
+    (first_word (unwrap_or (option_map (λ x. x.0) (if b then Some (Tree.Nothing, at_first []) else command_of (pieces line))) Tree.Nothing)) ≡ true
+line_first line true = refl
+line_first line false = found_first line (command_of (pieces line)) refl
+
+pub begins_with_its_word : (line : List ℕ) → BeginsWithItsWord line
+unfolding command_in
+begins_with_its_word line = line_first line (is_comment line)

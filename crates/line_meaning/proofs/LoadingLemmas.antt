@@ -1,0 +1,190 @@
+-- The text of a journal that steps lead to is loaded as this journal.
+use Rattle.std.proofs.Common.{◌≡◌, ℕ, ◌+◌, ◌≤◌, Bool, true, false, ◌&&◌, Option, None, Some, List, [], ◌∷◌, ◌++◌, length, refl, sym, ap, subst, ◌∙◌, append-nil, length-append, arith, if◌then◌else◌}
+use Rattle.std.specs.Prelude.{is_none, option_map, nat_le, nat_lt, map, sum_by}
+use Rattle.std.specs.List.{AllByRecursion}
+use Rattle.std.specs.Str.Lines.{lines}
+use Rattle.std.proofs.lemmas.Bool.{false≢true, or_parts}
+use Rattle.std.proofs.lemmas.Bool.Decides.{nat_tests}
+use Rattle.std.proofs.lemmas.List.{append_assoc}
+use Rattle.std.proofs.lemmas.Slice.Eq.{bytes_eq-Decides}
+use Rattle.exact.specs.First.{first_that_holds}
+use Rattle.tick_set.specs.declared.spans.TheConstants.{LAST_TICK}
+use Rattle.command_text.specs.declared.journal.TheConstants.{MOST_ENTRIES}
+use Rattle.command_text.specs.declared.refusal.Refusal.{Refusal}
+use Rattle.command_text.specs.declared.refusal.Refusal.TheVariants as refusals
+use Rattle.command_text.specs.Journal.{Accepted, bytes_of, spelled}
+use Rattle.command_text.specs.Line.{or_else}
+use Rattle.command_text.specs.Tree
+use Rattle.command_text.specs.Tree.{CommandTree}
+use Rattle.session_file.specs.Kept as loaded
+use Rattle.session_file.specs.Laws.{IsEntry, IsSavable, LoadsWhatIsSaved, numbered}
+use Rattle.session_file.specs.Reading as read
+use Rattle.session_file.specs.Reading.{Reading, reading_of}
+use Rattle.session_file.specs.Text as saved
+use Rattle.session_file.specs.Text.{session_text}
+use Rattle.line_meaning.specs.declared.role.Role.{Role}
+use Rattle.line_meaning.specs.declared.role.Role.TheVariants.{Blank, Keeping, Telling, Filing, Ending}
+use Rattle.line_meaning.specs.Fault.{is_gap, journal_refusal}
+use Rattle.line_meaning.specs.Journal.{clock, ticks_of}
+use Rattle.line_meaning.specs.Judging.{Held, fault_by, fault_of, held, held_after}
+use Rattle.line_meaning.specs.Loading.{Loaded, BadLine, loading_by, loading_of, replayed}
+use Rattle.line_meaning.specs.QueryFault.{command_fault}
+use Rattle.line_meaning.specs.Reached.{AreReached, IsNextEntry}
+use Rattle.line_meaning.specs.Registry.{known}
+use Rattle.line_meaning.specs.Role.{is_keeping, is_kept, role_of}
+use Rattle.line_meaning.specs.Step.{Base, refusal_of, step}
+use Rattle.line_meaning.proofs.CallerLemmas.{step_accepted}
+use Rattle.line_meaning.proofs.JournalLemmas.{clock_more}
+use Rattle.line_meaning.proofs.ReachedLemmas.{none_of_both}
+
+-- ---- an entry of such a journal is accepted again
+
+both_none : (first other : Option Refusal) → first ≡ None → other ≡ None → or_else first other ≡ None
+both_none None other first rest = rest
+both_none (Some r) other first rest = absurd (cc first)
+
+kept_is_built : (c : CommandTree) → is_kept c ≡ true → is_gap c ≡ false
+kept_is_built (Tree.Save file) kept = absurd (false≢true kept)
+kept_is_built (Tree.Import class file) kept = absurd (false≢true kept)
+kept_is_built (Tree.Export class file) kept = absurd (false≢true kept)
+kept_is_built (Tree.Nearest span k object class) kept = absurd (false≢true kept)
+kept_is_built (Tree.Must error span q) kept = absurd (false≢true kept)
+kept_is_built (Tree.May error span q) kept = absurd (false≢true kept)
+kept_is_built (Tree.Index class attribute width) kept = absurd (false≢true kept)
+kept_is_built (Tree.Range span class attribute least greatest) kept = absurd (false≢true kept)
+kept_is_built c kept = refl
+
+kept_fault : (role : Role) (h : Held) (c : CommandTree) → is_keeping role ≡ true →
+    command_fault (known h.journal) c ≡ None → journal_refusal (length h.journal) (bytes_of h.journal) c ≡ None → fault_by role h c ≡ None
+kept_fault Keeping h c kept fault room =
+    both_none (command_fault (known h.journal) c) (journal_refusal (length h.journal) (bytes_of h.journal) c) fault room
+kept_fault Blank h c kept fault room = refl
+kept_fault Telling h c kept fault room = absurd (false≢true kept)
+kept_fault Filing h c kept fault room = absurd (false≢true kept)
+kept_fault Ending h c kept fault room = refl
+
+accepted_again : (journal : List Accepted) (e : Accepted) → IsNextEntry journal e → fault_of (held journal) e.1 ≡ None
+accepted_again journal e is =
+    ap (λ gap. if gap then Some refusals.BadSyntax else fault_by (role_of e.1) (held journal) e.1) (kept_is_built e.1 is.kept)
+    ∙ kept_fault (role_of e.1) (held journal) e.1 is.kept is.accepted is.room
+
+entered_again : (journal : List Accepted) (e : Accepted) → IsNextEntry journal e → (held_after (held journal) e.1).journal ≡ journal ++ e ∷ []
+entered_again journal e is =
+    let same : (clock journal, e.1) ≡ e = ap (λ (tick : ℕ). (tick, e.1)) (sym is.tick) in
+    ap (λ kept. journal ++ (if kept then (clock journal, e.1) ∷ [] else [])) is.kept
+    ∙ ap (λ (d : Accepted). journal ++ d ∷ []) same
+
+replayed_more : (journal : List Accepted) (e : Accepted) (number : ℕ) (later : List (ℕ × CommandTree)) → IsNextEntry journal e →
+    replayed journal ((number, e.1) ∷ later) ≡ replayed (journal ++ e ∷ []) later
+replayed_more journal e number later is =
+    ap (λ fault. if is_none fault then replayed (held_after (held journal) e.1).journal later else BadLine number) (accepted_again journal e is)
+    ∙ ap (λ next. replayed next later) (entered_again journal e is)
+
+replays : (before journal : List Accepted) (number : ℕ) → AreReached before journal →
+    replayed before (numbered number (map (λ e. e.1) journal)) ≡ Loaded (before ++ journal)
+replays before [] number reached = ap Loaded (sym (append-nil before))
+replays before (e ∷ journal) number reached =
+    replayed_more before e number (numbered (number + 1) (map (λ e. e.1) journal)) reached.0
+    ∙ replays (before ++ e ∷ []) journal (number + 1) reached.1
+    ∙ ap Loaded (append_assoc before (e ∷ []) journal)
+
+-- ---- such a journal may be saved
+
+kept_alike : (c : CommandTree) → is_kept c ≡ true → loaded.is_kept c ≡ true
+kept_alike (Tree.Class name capacity point attributes) kept = refl
+kept_alike (Tree.Region name points) kept = refl
+kept_alike (Tree.Insert class name place sets) kept = refl
+kept_alike (Tree.Update name place sets) kept = refl
+kept_alike (Tree.Remove name) kept = refl
+kept_alike (Tree.Tick ticks) kept = refl
+kept_alike (Tree.Watch name span q) kept = refl
+kept_alike (Tree.Keep name span q) kept = refl
+kept_alike (Tree.Drop name) kept = refl
+kept_alike Tree.Nothing kept = absurd (false≢true kept)
+kept_alike (Tree.Save file) kept = absurd (false≢true kept)
+kept_alike (Tree.Import class file) kept = absurd (false≢true kept)
+kept_alike (Tree.Export class file) kept = absurd (false≢true kept)
+kept_alike Tree.Quit kept = absurd (false≢true kept)
+kept_alike c kept = absurd (false≢true kept)
+
+entries_savable : (before journal : List Accepted) → AreReached before journal → AllByRecursion IsEntry journal
+entries_savable before [] reached = tt
+entries_savable before (e ∷ journal) reached =
+    let is = reached.0 in
+    (record { kept = kept_alike e.1 is.kept; printable = is.printable; short = is.short }, entries_savable (before ++ e ∷ []) journal reached.1)
+
+first_none : (r : Refusal) (holds : Bool) → first_that_holds ((r, holds) ∷ []) ≡ None → holds ≡ false
+first_none r true is = absurd (cc is)
+first_none r false is = refl
+
+not_both : (kept passes : Bool) → kept ≡ true → (kept && passes) ≡ false → passes ≡ false
+not_both true passes kept is = is
+not_both false passes kept is = absurd (false≢true kept)
+
+one_more_fits : (n : ℕ) → nat_le MOST_ENTRIES n ≡ false → n + 1 ≤ MOST_ENTRIES
+one_more_fits n is = grind (arith, nat_tests, is)
+
+has_room : (journal : List Accepted) (e : Accepted) → IsNextEntry journal e → length (journal ++ e ∷ []) ≤ MOST_ENTRIES
+has_room journal e is =
+    let passes = first_none refusals.JournalFull _ is.room in
+    let full = (or_parts (nat_le MOST_ENTRIES (length journal)) _ (not_both (is_kept e.1) _ is.kept passes)).0 in
+    omega (arith, length-append journal (e ∷ []), one_more_fits (length journal) full)
+
+few_entries : (before journal : List Accepted) → AreReached before journal → length before ≤ MOST_ENTRIES →
+    length (before ++ journal) ≤ MOST_ENTRIES
+few_entries before [] reached few = subst (λ (j : List Accepted). length j ≤ MOST_ENTRIES) (sym (append-nil before)) few
+few_entries before (e ∷ journal) reached few =
+    subst (λ (j : List Accepted). length j ≤ MOST_ENTRIES) (append_assoc before (e ∷ []) journal)
+    (few_entries (before ++ e ∷ []) journal reached.1 (has_room before e reached.0))
+
+-- the clock stays within its range
+ticks_fit : (now ticks : ℕ) → nat_lt LAST_TICK (now + ticks) ≡ false → now + ticks ≤ LAST_TICK
+ticks_fit now ticks is = grind (arith, nat_tests, is)
+
+clock_by : (journal : List Accepted) (c : CommandTree) → command_fault (known journal) c ≡ None → clock journal ≤ LAST_TICK →
+    clock journal + ticks_of c ≤ LAST_TICK
+clock_by journal (Tree.Tick ticks) fault fits =
+    ticks_fit (clock journal) ticks
+    (first_none refusals.ClockEnd _ (none_of_both (first_that_holds ((refusals.ClockEnd, nat_lt LAST_TICK (clock journal + ticks)) ∷ [])) None fault).0)
+clock_by journal c fault fits = omega arith
+
+clock_fits : (before journal : List Accepted) → AreReached before journal → clock before ≤ LAST_TICK → clock (before ++ journal) ≤ LAST_TICK
+clock_fits before [] reached fits = subst (λ (j : List Accepted). clock j ≤ LAST_TICK) (sym (append-nil before)) fits
+clock_fits before (e ∷ journal) reached fits =
+    let next = clock_by before e.1 reached.0.accepted fits in
+    subst (λ (j : List Accepted). clock j ≤ LAST_TICK) (append_assoc before (e ∷ []) journal)
+    (clock_fits (before ++ e ∷ []) journal reached.1 (omega (arith, next, clock_more before e.0 e.1)))
+
+ticks_alike : (c : CommandTree) → read.ticks_of c ≡ ticks_of c
+ticks_alike (Tree.Tick ticks) = refl
+ticks_alike c = refl
+
+clock_alike : (journal : List Accepted) → saved.clock journal ≡ clock journal
+clock_alike journal = λ i. sum_by (λ (e : Accepted). ticks_alike e.1 i) journal
+
+is_savable : (journal : List Accepted) → AreReached [] journal → IsSavable journal
+is_savable journal reached = record {
+  entries = entries_savable [] journal reached;
+  few = few_entries [] journal reached (omega arith);
+  ticks = omega (arith, clock_alike journal, clock_fits [] journal reached (omega arith));
+}
+
+-- ---- its text is loaded as it
+
+module _ (loads : LoadsWhatIsSaved) where
+  pub saved_is_loaded : (journal : List Accepted) → AreReached [] journal → loading_of (session_text journal) ≡ Loaded journal
+  unfolding loading_of
+  saved_is_loaded journal reached =
+      let text = session_text journal in
+      let commands = numbered 3 (map (λ e. e.1) journal) in
+      let is : reading_of text ≡ record { commands = commands; fault = None } = loads journal (is_savable journal reached) in
+      ap (λ (reading : Reading). loading_by (length (lines text)) reading reading.fault) is
+      ∙ replays [] journal 3 reached
+
+  -- so it is from the name of an accepted `save`
+  pub save_is_loaded : (b : Base) (line file : List ℕ) → AreReached [] b.held.journal → refusal_of b line ≡ None →
+      spelled line ≡ Tree.Save file → option_map loading_of ((step b line).0.texts file) ≡ Some (Loaded b.held.journal)
+  save_is_loaded b line file reached accepted is =
+      ap (λ (s : Base × List ℕ). option_map loading_of (s.0.texts file)) (step_accepted b line (Tree.Save file) accepted is)
+      ∙ ap (λ same. option_map loading_of (if same then Some (session_text b.held.journal) else b.texts file)) ((bytes_eq-Decides file file).1 refl)
+      ∙ ap Some (saved_is_loaded b.held.journal reached)

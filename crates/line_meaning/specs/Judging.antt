@@ -1,0 +1,45 @@
+-- Which commands and lines are refused, by what is held of the lines before; and what the journal keeps.
+use Rattle.std.specs.Prelude.{ℕ, Option, None, Some, List, [], ◌∷◌, ◌++◌, length, if◌then◌else◌}
+use Rattle.command_text.specs.declared.reading.TheConstants.{LINE_LIMIT}
+use Rattle.command_text.specs.declared.refusal.Refusal.{Refusal}
+use Rattle.command_text.specs.declared.refusal.Refusal.TheVariants.{BadSyntax}
+use Rattle.command_text.specs.Journal.{Accepted, bytes_of, spelled}
+use Rattle.command_text.specs.Line.{first_refusal, or_else}
+use Rattle.command_text.specs.Tree.{CommandTree}
+use Rattle.line_meaning.specs.declared.role.Role.{Role}
+use Rattle.line_meaning.specs.declared.role.Role.TheVariants.{Blank, Ending}
+use Rattle.line_meaning.specs.Fault.{is_gap, journal_refusal}
+use Rattle.line_meaning.specs.Journal.{clock}
+use Rattle.line_meaning.specs.QueryFault.{command_fault}
+use Rattle.line_meaning.specs.Registry.{known}
+use Rattle.line_meaning.specs.Role.{is_kept, role_of}
+
+-- what the database holds of the lines before: the commands that it accepted, each with its tick
+pub record Held : Type 0 where
+  pub journal : List Accepted
+
+abbrev pub held : List Accepted → Held
+held journal = record { journal = journal }
+
+-- the refusals of a command by its role: a blank line and a `quit` have none
+abbrev pub fault_by : Role → Held → CommandTree → Option Refusal
+fault_by Blank h c = None
+fault_by Ending h c = None
+fault_by role h c =
+    or_else (command_fault (known h.journal) c) (journal_refusal (length h.journal) (bytes_of h.journal) c)
+
+-- the first refusal of a command that was read, but for those of its texts: BadSyntax where it isn't built yet
+abbrev pub fault_of : Held → CommandTree → Option Refusal
+fault_of h c = if is_gap c then Some BadSyntax else fault_by (role_of c) h c
+
+-- the first refusal of a line that depends on the line and on what is held
+unfoldable pub line_refusal : Held → List ℕ → Option Refusal
+line_refusal h line = or_else (first_refusal LINE_LIMIT line) (fault_of h (spelled line))
+
+-- what an accepted command adds to the journal
+abbrev pub entries_of : ℕ → CommandTree → List Accepted
+entries_of now c = if is_kept c then (now, c) ∷ [] else []
+
+-- what is held after an accepted command, but for an `import`
+abbrev pub held_after : Held → CommandTree → Held
+held_after h c = record { journal = h.journal ++ entries_of (clock h.journal) c }

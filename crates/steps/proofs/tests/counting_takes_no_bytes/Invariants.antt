@@ -1,5 +1,0 @@
--- The ledger is the new one.
-use Rattle.steps.proofs.tests.counting_takes_no_bytes.Given as goal
-
-abbrev pub ghosts-bytes_after : goal.ghosts-bytes_after
-ghosts-bytes_after g a = record { name = a.blank.name; parts = a.blank.parts }
