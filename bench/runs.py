@@ -1,5 +1,6 @@
 """What `asks` and `updates` share: user times of DOMINO and of a plain program on the same lines."""
 
+import glob
 import os
 import subprocess
 import sys
@@ -22,11 +23,21 @@ class Input:
 
 
 def plain_program(name):
-    """Builds plain/NAME.rs and gives the path of the program."""
+    """The path of the program of plain/NAME.rs, built where a file under plain/ is newer than it."""
     os.makedirs(BUILD, exist_ok=True)
     program, source = os.path.join(BUILD, name), os.path.join(HERE, "plain", name + ".rs")
-    subprocess.run(["rustc", "--edition", "2024", "-O", "-o", program, source], check=True)
+    sources = glob.glob(os.path.join(HERE, "plain", "**", "*.rs"), recursive=True)
+    if not os.path.exists(program) or os.path.getmtime(program) < max(map(os.path.getmtime, sources)):
+        subprocess.run(["rustc", "--edition", "2024", "-O", "-o", program, source], check=True)
     return program
+
+
+def preloaded(name):
+    """The path of the library of plain/NAME.c, which is built for LD_PRELOAD."""
+    os.makedirs(BUILD, exist_ok=True)
+    library, source = os.path.join(BUILD, name + ".so"), os.path.join(HERE, "plain", name + ".c")
+    subprocess.run(["gcc", "-O2", "-shared", "-fPIC", "-fno-builtin", "-o", library, source], check=True)
+    return library
 
 
 def domino_program():

@@ -27,23 +27,27 @@ use store::Store;
 
 const PIECE: usize = 1 << 16;
 
+/// Answers a line. Whether it has a reply.
 fn step(
     line: &[u8],
     store: &mut Store,
     tokens: &mut Vec<grammar::Token>,
     free: &mut Buffers,
     out: &mut Vec<u8>,
-) -> Result<(), Refusal> {
+) -> Result<bool, Refusal> {
     match grammar::read(line, tokens)? {
+        Command::Nothing => Ok(false),
         Command::Ask(span, query) => {
             let (query, faults) = resolve::resolve(&store.history, &query, span);
             resolve::first(faults)?;
             let now = store.history.clock;
             answer::put_answer(store, &query, (now, now + span), free, out);
-            Ok(())
+            Ok(true)
         }
-        command @ (Command::Class(..) | Command::Region(..) | Command::Tick(_)) => store.apply(command).map(|_| ()),
-        command @ (Command::Insert(..) | Command::Update(..) | Command::Remove(_)) => store.apply(command).map(|_| ()),
+        command @ (Command::Class(..) | Command::Region(..) | Command::Tick(_)) => store.apply(command).map(|_| true),
+        command @ (Command::Insert(..) | Command::Update(..) | Command::Remove(_)) => {
+            store.apply(command).map(|_| true)
+        }
         _ => Err(Refusal::BadSyntax),
     }
 }
@@ -55,9 +59,12 @@ fn main() -> io::Result<()> {
     let (mut store, mut free) = (Store::default(), Buffers::default());
     let (mut tokens, mut out) = (Vec::new(), Vec::new());
     for line in input.split_inclusive(|byte| *byte == b'\n') {
-        let line = line.strip_suffix(b"\n").unwrap_or(line);
+        let line = match line.strip_suffix(b"\n") {
+            Some(line) => line.strip_suffix(b"\r").unwrap_or(line),
+            None => line,
+        };
         match step(line, &mut store, &mut tokens, &mut free, &mut out) {
-            Ok(()) => out.extend_from_slice(b"ok\n"),
+            Ok(has_reply) => out.extend_from_slice(if has_reply { b"ok\n" } else { b"" }),
             Err(refusal) => writeln!(out, "refused {} {refusal:?}", refusal as u8)?,
         }
         if out.len() >= PIECE {

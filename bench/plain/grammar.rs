@@ -6,7 +6,7 @@ use std::io::Read;
 use std::time::Instant;
 
 #[rustfmt::skip]
-const WORDS: [&str; 48] = [
+pub const WORDS: [&str; 48] = [
     "RETRIEVE", "FROM", "WHERE", "TRUE", "FALSE", "NOT", "AND", "OR", "UNTIL", "UNTIL_WITHIN", "UNTIL_AFTER",
     "NEXTTIME", "EVENTUALLY", "EVENTUALLY_WITHIN", "EVENTUALLY_AFTER", "ALWAYS", "ALWAYS_FOR", "INSIDE",
     "OUTSIDE", "DIST", "WITHIN_SPHERE", "TIME", "value", "updatetime", "function", "class", "region", "insert",

@@ -1,23 +1,23 @@
 // The inputs of `session` and `compare_session`, each line a function of the seed.
 use std::io::{self, Write};
 
-struct Draw(u64);
+pub struct Draw(u64);
 
 impl Draw {
-    fn new(seed: u64) -> Draw {
+    pub fn new(seed: u64) -> Draw {
         Draw(seed.wrapping_mul(0x9e37_79b9_7f4a_7c15))
     }
 
-    fn below(&mut self, n: usize) -> usize {
+    pub fn below(&mut self, n: usize) -> usize {
         self.0 = self.0.wrapping_mul(6_364_136_223_846_793_005).wrapping_add(1_442_695_040_888_963_407);
         ((self.0 >> 33) % n as u64) as usize
     }
 
-    fn percent(&mut self, n: usize) -> bool {
+    pub fn percent(&mut self, n: usize) -> bool {
         self.below(100) < n
     }
 
-    fn one_of<'a>(&mut self, items: &[&'a str]) -> &'a str {
+    pub fn one_of<'a>(&mut self, items: &[&'a str]) -> &'a str {
         items[self.below(items.len())]
     }
 
@@ -89,7 +89,7 @@ pub fn generate(seed: u64, count: u64) -> io::Result<()> {
     out.flush()
 }
 
-const CLASSES: [(&str, &str, &[&str]); 5] = [
+pub const CLASSES: [(&str, &str, &[&str]); 5] = [
     ("car", "40 point ( fuel dyn , plate text , load num )", &["x", "y", "fuel", "plate", "load"]),
     ("post", "3 point", &["x", "y"]),
     ("tank", "9 ( fuel dyn , label text )", &["fuel", "label"]),
@@ -100,9 +100,9 @@ const SPANS: [&str; 12] =
     ["0", "1", "5", "20", "100", "100", "100", "1000", "1000000", "100000000", "100000001", "1000000000"];
 /// Spans of what is judged tick by tick.
 const SHORT_SPANS: [&str; 8] = ["0", "1", "5", "20", "20", "100", "100000001", "1000000000"];
-const OPS: [&str; 6] = ["<", "<=", "=", "!=", ">=", ">"];
+pub const OPS: [&str; 6] = ["<", "<=", "=", "!=", ">=", ">"];
 #[rustfmt::skip]
-const ODD: [&str; 48] = [
+pub const ODD: [&str; 48] = [
     "?", "!", "\"open", "\u{e9}", "\u{7f}", "\u{1}", "#", "(", ")", "[", "]", ",", ".", "-", "*", "<-", "!=",
     "name_of_33_letters_is_one_too_big", "name_of_32_letters_is_just_right", "\"text of 33 letters is one too lon\"",
     "\"text of 32 letters is just good.\"", "\"\"", "\"tab\there\"", "nosuch", "other", "x", "y", "fuel", "plate",
@@ -111,13 +111,13 @@ const ODD: [&str; 48] = [
 ];
 
 /// The words of one line.
-type Line = Vec<String>;
+pub type Line = Vec<String>;
 
-fn words(text: &str) -> Line {
+pub fn words(text: &str) -> Line {
     text.split(' ').map(str::to_string).collect()
 }
 
-fn value(draw: &mut Draw) -> Line {
+pub fn value(draw: &mut Draw) -> Line {
     let size = [1_000_000_001, 12, 12, 12, 12, 200, 200, 200, 200, 200, 200, 200][draw.below(12)];
     signed(draw, size)
 }
@@ -171,12 +171,12 @@ fn slopes(draw: &mut Draw) -> Line {
     pair(draw, slope)
 }
 
-fn object(draw: &mut Draw) -> String {
+pub fn object(draw: &mut Draw) -> String {
     // the letter suggests the class
     format!("{}{}", draw.one_of(&["c", "c", "p", "t", "b", "s"]), draw.below(8))
 }
 
-fn class_of(object: &str) -> usize {
+pub fn class_of(object: &str) -> usize {
     match object.as_bytes().first() {
         Some(b'p') => 1,
         Some(b't') => 2,
@@ -186,7 +186,7 @@ fn class_of(object: &str) -> usize {
     }
 }
 
-fn settings(draw: &mut Draw, class: usize) -> Line {
+pub fn settings(draw: &mut Draw, class: usize) -> Line {
     let mut line = Line::new();
     let point = class != 2 && class != 3;
     if draw.percent(if point { 50 } else { 5 }) {
@@ -305,7 +305,7 @@ fn formula(draw: &mut Draw, depth: usize) -> Line {
     line
 }
 
-fn query(draw: &mut Draw) -> Line {
+pub fn query(draw: &mut Draw) -> Line {
     let mut line = words(draw.one_of(&[
         "RETRIEVE o FROM car o WHERE",
         "RETRIEVE o , n FROM car o , post n WHERE",
@@ -359,7 +359,7 @@ fn other(draw: &mut Draw) -> Line {
     line
 }
 
-fn region(draw: &mut Draw, names: usize) -> Line {
+pub fn region(draw: &mut Draw, names: usize) -> Line {
     let mut line = words(&format!("region r{}", draw.below(names)));
     let mut points: Vec<(i64, i64)> = match draw.below(20) {
         0 => vec![(0, 10), (6, -8), (-10, 3), (10, 3), (-6, -8)],
@@ -390,7 +390,7 @@ fn region(draw: &mut Draw, names: usize) -> Line {
     line
 }
 
-fn class(draw: &mut Draw) -> Line {
+pub fn class(draw: &mut Draw) -> Line {
     if draw.percent(10) {
         let (name, rest, _) = CLASSES[draw.below(5)];
         return words(&format!("class {name} {rest}"));
@@ -417,7 +417,7 @@ fn class(draw: &mut Draw) -> Line {
     line
 }
 
-fn change(draw: &mut Draw, line: &mut Line) {
+pub fn change(draw: &mut Draw, line: &mut Line) {
     let at = draw.below(line.len().max(1));
     match draw.below(6) {
         0 if !line.is_empty() => {
@@ -449,7 +449,7 @@ fn need_space(left: &str, right: &str) -> bool {
     is_part(last) && is_part(first) || is_symbol(last) && is_symbol(first) || left.contains('.') && right == "."
 }
 
-fn text(draw: &mut Draw, line: &[String]) -> Vec<u8> {
+pub fn text(draw: &mut Draw, line: &[String]) -> Vec<u8> {
     let style = draw.below(4);
     let mut text = Vec::new();
     for (i, word) in line.iter().enumerate() {
