@@ -99,23 +99,22 @@ fn lines_are_cut_into_tokens(rt: HostRuntime) -> Result<(), Fail> {
     Ok(())
 }
 
-const BAD_LINES: [(&[u8], usize); 10] = [
-    (b"show ?", 5),
-    (b"!", 0),
-    (b"a ! =", 2),
-    (b"!a", 0),
-    (b"\"", 0),
-    (b"a \"b", 2),
-    (b"\"a\" \"", 4),
-    (b"ab\xC3", 2),
-    (b"\t# list", 1),
-    (b"1;?", 1),
-];
-
 #[test]
 fn bad_bytes_have_their_place(rt: HostRuntime) -> Result<(), Fail> {
+    let lines: [(&[u8], usize); 10] = [
+        (b"show ?", 5),
+        (b"!", 0),
+        (b"a ! =", 2),
+        (b"!a", 0),
+        (b"\"", 0),
+        (b"a \"b", 2),
+        (b"\"a\" \"", 4),
+        (b"ab\xC3", 2),
+        (b"\t# list", 1),
+        (b"1;?", 1),
+    ];
     let mut reused = Tokens::new(rt.alloc());
-    for (line, place) in BAD_LINES {
+    for (line, place) in lines {
         assert_eq!(rt; bad_token(line), Some(place), "{line:?}");
         reused.read(b"class car")?;
         assert!(rt;
