@@ -24,9 +24,6 @@ use Rattle.line_meaning.specs.Role.{is_kept}
 
 -- a command that isn't built yet
 abbrev pub is_gap : CommandTree → Bool
-is_gap (Tree.Save file) = true
-is_gap (Tree.Import class file) = true
-is_gap (Tree.Export class file) = true
 is_gap (Tree.Nearest span k object class) = true
 is_gap (Tree.Must error span q) = true
 is_gap (Tree.May error span q) = true

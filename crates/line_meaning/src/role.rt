@@ -46,6 +46,7 @@ pub fn is_gap(command: &Command) -> bool
         Command::Update { .. } | Command::Remove { .. } | Command::Tick { .. } => false,
         Command::Watch { .. } | Command::Keep { .. } => false,
         Command::Show { .. } | Command::Drop { .. } => false,
+        Command::Save { .. } | Command::Import { .. } | Command::Export { .. } => false,
         _ => true,
     }
 }

@@ -1,12 +1,11 @@
 -- From what is done with the command of a line to the step of the line.
 use Rattle.std.proofs.Common.{◌≡◌, ◌≤◌, ℕ, ◌+◌, true, false, Option, None, Some, List, ◌++◌, refl, sym, ap, ◌∙◌, subst, inl, arith}
-use Rattle.std.specs.Prelude.{Result, Ok, Err, IfOk, IfErr}
+use Rattle.std.specs.Prelude.{Result, Ok, Err, IfOk, IfErr, MatchResult, OnErr}
 use Rattle.outside.specs.Shelf.{Texts}
 use Rattle.command_text.specs.declared.fault.CommandFault.{CommandFault}
 use Rattle.command_text.specs.declared.fault.CommandFault.TheVariants as stops
 use Rattle.command_text.specs.declared.reading.TheConstants.{LINE_LIMIT}
 use Rattle.command_text.specs.declared.refusal.Refusal.{Refusal}
-use Rattle.command_text.specs.declared.refusal.Refusal.TheVariants as refusals
 use Rattle.command_text.specs.Journal.{spelled}
 use Rattle.command_text.specs.Line.{IsRead, early_refusal, first_refusal, late_refusal, command_in, or_else}
 use Rattle.command_text.specs.Refusals.{line_of}
@@ -26,7 +25,7 @@ use Rattle.session.specs.declared.next.Next.TheVariants as nexts
 use Rattle.session.specs.Answers.{Answers, Applies, Fails, HasCause, IsUnchanged, IsUnread, LeavesHeld, LeavesTexts, Suffices, next_by, next_of, next_or_fault}
 use Rattle.database.specs.Telling.{IsRefused}
 use Rattle.session.specs.Carried.{Carried}
-use Rattle.session.specs.Replayed.{Replays}
+use Rattle.session.specs.Replayed.{ReplaysAs}
 use Rattle.session.proofs.FaultLemmas.{kept_role}
 use Rattle.session.specs.Filed.{Does, FailsWith, IsApplied, SufficesFor, refusal_with, texts_by}
 
@@ -274,18 +273,6 @@ not_filing Telling other = refl
 not_filing Filing other = absurd (other refl)
 not_filing Ending other = refl
 
--- ---- a command on files, which isn't built
-
-pub gap_refused : (told : Option Texts) (c : CommandTree) (h : Held) (before : List ℕ) → asks_shelf c ≡ true →
-    IsApplied told told c h h before before (Ok (nexts.Refused refusals.BadSyntax))
-gap_refused told (Tree.Save file) h before is =
-    record { answers = λ texts suffices. (refl, refl, refl); refused = (refl, refl); texts = λ texts told-is. told-is; fails = tt }
-gap_refused told (Tree.Import class file) h before is =
-    record { answers = λ texts suffices. (refl, refl, refl); refused = (refl, refl); texts = λ texts told-is. told-is; fails = tt }
-gap_refused told (Tree.Export class file) h before is =
-    record { answers = λ texts suffices. (refl, refl, refl); refused = (refl, refl); texts = λ texts told-is. told-is; fails = tt }
-gap_refused told c h before is = absurd (cc is)
-
 -- ---- a command that is replayed
 
 pub kept_plain : (c : CommandTree) → is_kept c ≡ true → asks_shelf c ≡ false
@@ -294,12 +281,31 @@ kept_plain c kept = ap is_filing (kept_role (role_of c) kept)
 kept_next : (c : CommandTree) → is_kept c ≡ true → next_of c ≡ nexts.Accepted
 kept_next c kept = ap next_by (kept_role (role_of c) kept)
 
-pub replayed_accepted : (E : Type 0) (next : Next) (c : CommandTree) (old new : Held) (before after : List ℕ) → is_kept c ≡ true →
-    Carried old c new before after (Ok next) → Replays {E = E} old c new (Ok next)
-replayed_accepted E next c old new before after kept h =
-    subst (λ (n : Next). Replays {E = E} old c new (Ok n)) (sym (h.1 ∙ kept_next c kept)) (h.0, h.2)
+module _ (c : CommandTree) (old new : Held) (before after : List ℕ) (kept : is_kept c ≡ true) where
+  by_result : (r : Result Next CommandFault) → Carried old c new before after r →
+      MatchResult (next_or_fault r) (ReplaysAs old c new) (λ _. new ≡ old)
+  by_result (Ok next) h = subst (ReplaysAs old c new) (sym (h.1 ∙ kept_next c kept)) (h.0, h.2)
+  by_result (Err (stops.Refused r)) h = (h.0, h.1)
+  by_result (Err stops.NoMemory) h = h.1
 
-pub replayed_unread : (next : Next) (c : CommandTree) (old new : Held) (before after : List ℕ) (steps steps' : ℕ) → is_kept c ≡ true →
-    Carried old c new before after (Ok next) → IsUnread next steps steps'
-replayed_unread next c old new before after steps steps' kept h =
-    subst (λ (n : Next). IsUnread n steps steps') (sym (h.1 ∙ kept_next c kept)) tt
+  -- by what was told of it
+  pub replays_as : {E : Type 0} (x : Result Next E) (r : Result Next CommandFault) → Carried old c new before after r →
+      IfOk x (λ next. next_or_fault r ≡ Ok next) → OnErr x (next_or_fault r ≡ Err apply_faults.NoMemory) →
+      MatchResult x (ReplaysAs old c new) (λ _. new ≡ old)
+  replays_as (Ok next) r h ok err =
+      subst (λ (y : Result Next ApplyFault). MatchResult y (ReplaysAs old c new) (λ _. new ≡ old)) ok (by_result r h)
+  replays_as (Err lack) r h ok err =
+      subst (λ (y : Result Next ApplyFault). MatchResult y (ReplaysAs old c new) (λ _. new ≡ old)) err (by_result r h)
+
+  unread_result : (steps steps' : ℕ) (r : Result Next CommandFault) → Carried old c new before after r →
+      IfErr r (λ fault. IsRefused fault → steps' ≡ steps) → IfOk (next_or_fault r) (λ next. IsUnread next steps steps')
+  unread_result steps steps' (Ok next) h refused = subst (λ (n : Next). IsUnread n steps steps') (sym (h.1 ∙ kept_next c kept)) tt
+  unread_result steps steps' (Err (stops.Refused r)) h refused = refused tt
+  unread_result steps steps' (Err stops.NoMemory) h refused = tt
+
+  pub replays_unread : {E : Type 0} (steps steps' : ℕ) (x : Result Next E) (r : Result Next CommandFault) → Carried old c new before after r →
+      IfOk x (λ next. next_or_fault r ≡ Ok next) → IfErr r (λ fault. IsRefused fault → steps' ≡ steps) →
+      IfOk x (λ next. IsUnread next steps steps')
+  replays_unread steps steps' (Ok next) r h ok refused =
+      subst (λ (y : Result Next ApplyFault). IfOk y (λ next. IsUnread next steps steps')) ok (unread_result steps steps' r h refused)
+  replays_unread steps steps' (Err lack) r h ok refused = tt

@@ -7,3 +7,6 @@ pub mod LineLemmas
 pub mod SettleLemmas
 pub mod FollowLemmas
 pub mod AnswerLemmas
+pub mod TrialLemmas
+pub mod EnterLemmas
+pub mod FileLemmas

@@ -7,3 +7,5 @@ pub mod Filed
 pub mod Followed
 pub mod Replayed
 pub mod Rows
+pub mod Trial
+pub mod Imported

@@ -7,10 +7,12 @@
 mod answer;
 mod entering;
 mod filing;
+mod importing;
 mod keeping;
 mod next;
 mod session;
 mod state;
+mod trying;
 
 pub use next::{ApplyFault, Next};
 pub use session::Session;

@@ -1,17 +1,19 @@
 //! The state of the database, one line at a time.
-ghost use Rattle.std.specs.Prelude.{◌≡◌, ◌+◌, ◌≤◌, false, [], length, IfOk};
+ghost use Rattle.std.specs.Prelude.{◌≡◌, ◌+◌, ◌≤◌, true, false, [], length, IfOk, Ok, Err, OnErr};
 ghost use Rattle.ftl_lexer.specs.declared.buffer.TheConstants.{LEXER_LIMIT};
 ghost use Rattle.command_text.specs.Journal.{spelled};
 ghost use Rattle.command_text.specs.Shape.{IsPrintable};
 ghost use Rattle.command_text.specs.Text.{text_of};
 ghost use Rattle.command_text.specs.Tree.{command_view};
 ghost use Rattle.line_meaning.specs.Journal.{clock, world};
-ghost use Rattle.line_meaning.specs.Looks.{is_query, looks_of};
-ghost use Rattle.line_meaning.specs.Role.{asks_shelf};
+ghost use Rattle.line_meaning.specs.Looks.{is_query, looks_of, most_looks};
+ghost use Rattle.line_meaning.specs.Role.{asks_shelf, is_kept};
 ghost use Rattle.line_meaning.specs.Step.{base, held};
 ghost use Rattle.outside.specs.Shelf.{Texts};
 ghost use Rattle.session.specs.Filed.{IsApplied, SufficesFor};
+ghost use Rattle.session.specs.Replayed.{Replays};
 ghost use Rattle.session.specs.State.{IsState};
+ghost use Rattle.session.specs.declared.next.ApplyFault.TheVariants as faults;
 ghost use Rattle.session.specs.Answers.{Applies, HasCause, IsUnread, Suffices, next_or_fault};
 
 use crate::answer::answer;
@@ -24,7 +26,7 @@ use command_text::{
 };
 use line_meaning::{Role, role_of, steps_write_what_is_accepted};
 use outside::Shelf;
-use std::alloc::Global;
+use std::alloc::{AllocError, Global};
 use std::marker::Model;
 use std::sync::ledger::Ledger;
 use steps::Steps;
@@ -126,6 +128,38 @@ impl Session {
         drop(command);
         applied
     }
+
+    /// Carries out a command that a journal keeps, as `apply` does with its line, but without a reply: it is
+    /// `Accepted`, or `Refused` by the first refusal that holds. A refusal and want of memory change nothing.
+    pub fn replay<L: Ledger, M: Ledger>(
+        &mut self,
+        command: Command,
+        reads: &mut Steps<L>,
+        probes: &mut Steps<M>,
+    ) -> Result<Next, AllocError>
+        requires kept { is_kept (command_view command) ≡ true }
+        requires printable { IsPrintable (command_view command) }
+        requires canonical { spelled (text_of (command_view command)) ≡ command_view command }
+        requires short { length (text_of (command_view command)) ≤ LEXER_LIMIT }
+        ensures replayed { Replays self.old (command_view command) self.new result }
+        ensures least { reads.old ≤ reads.new }
+        ensures most { reads.new ≤ reads.old + most_looks self.old (command_view command) }
+        ensures unread { IfOk result (λ next. IsUnread next reads.old reads.new) }
+        ensures unprobed { IfOk result (λ next. IsUnread next probes.old probes.new) }
+    {
+        let mut out = Vec::new(self.alloc);
+        let answered = answer(
+            self.alloc,
+            &mut self.state,
+            &command,
+            reads,
+            probes,
+            &mut out,
+        );
+        drop(command);
+        drop(out);
+        next_or_lack(answered)
+    }
 }
 
 /// Carries out a command that was read, and answers it.
@@ -168,5 +202,17 @@ fn next_or_fault(answered: Result<Next, CommandFault>) -> Result<Next, ApplyFaul
         Ok(next) => Ok(next),
         Err(CommandFault::Refused(refusal)) => Ok(Next::Refused(refusal)),
         Err(CommandFault::NoMemory) => Err(ApplyFault::NoMemory),
+    }
+}
+
+/// The same without a shelf, where the only fault is want of memory.
+fn next_or_lack(answered: Result<Next, CommandFault>) -> Result<Next, AllocError>
+    ensures ok { IfOk result (λ next. next_or_fault answered ≡ Ok next) }
+    ensures err { OnErr result (next_or_fault answered ≡ Err faults.NoMemory) }
+{
+    match answered {
+        Ok(next) => Ok(next),
+        Err(CommandFault::Refused(refusal)) => Ok(Next::Refused(refusal)),
+        Err(CommandFault::NoMemory) => Err(AllocError),
     }
 }

@@ -1,0 +1,14 @@
+use Rattle.std.proofs.Common.{◌≡◌, ◌≤◌, List, ℕ, refl, sym, ap, ◌∙◌, subst}
+use Rattle.tick_set.specs.declared.spans.TheConstants.{LAST_TICK}
+use Rattle.session_file.specs.Text.{session_text}
+use Rattle.session.specs.Filed.{Puts}
+use Rattle.session.proofs.FileLemmas.{put_unread, same_clock, save_is_applied, save_lacks}
+use Rattle.session.proofs.filing.save.Goals as goal
+
+pub save_text-requires : goal.save_text-requires
+save_text-requires g c =
+    subst (λ n. n ≤ LAST_TICK) (c.requires.keeps.clock_is ∙ sym (same_clock c.args.state.now.journal)) c.requires.keeps.timely.in_range
+
+pub returns-in-Err-clause-applied : goal.returns-in-Err-clause-applied
+returns-in-Err-clause-applied g c =
+    save_lacks (g.F.Shelf.texts c.args.shelf.now) (g.F.Shelf.texts c.args.shelf.now) c.args.state.now.journal c.args.file.now c.args.out.now.items refl

@@ -1,0 +1,28 @@
+use Rattle.std.proofs.Common.{◌≡◌, ◌++◌, None, Some, refl, sym, ap, ◌∙◌, subst}
+use Rattle.std.specs.Prelude.{unwrap_or}
+use Rattle.ftl_lexer.specs.declared.buffer.TheConstants.{LEXER_LIMIT}
+use Rattle.command_text.specs.Tree
+use Rattle.command_text.specs.Tree.{command_view}
+use Rattle.line_meaning.specs.Step.{Held}
+use Rattle.reply_text.specs.Begins.{Begins}
+use Rattle.session.proofs.EnterLemmas.{without_ok}
+use Rattle.session.proofs.RowLemmas.{reply_is, taken_right, taken_short, write_built, write_kept}
+use Rattle.session.proofs.importing.enter_row.Goals as goal
+
+pub keep-requires-clause-printable : goal.keep-requires-clause-printable
+keep-requires-clause-printable g c = c.requires.row.0
+
+pub keep-requires-clause-canonical : goal.keep-requires-clause-canonical
+keep-requires-clause-canonical g c =
+    ap (λ o. unwrap_or o Tree.Nothing)
+    (c.canonical_lines_are_read_back.ensures.printed LEXER_LIMIT (command_view c.args.command.now) c.requires.row.0
+    (taken_short c.args.state.now.journal (command_view c.args.command.now) c.requires.taken)).command
+
+pub keep-requires-clause-short : goal.keep-requires-clause-short
+keep-requires-clause-short g c = taken_short c.args.state.now.journal (command_view c.args.command.now) c.requires.taken
+
+pub keep-requires-clause-kept : goal.keep-requires-clause-kept
+keep-requires-clause-kept g c = write_kept (command_view c.args.command.now) c.requires.row.1
+
+pub keep-requires-clause-gap : goal.keep-requires-clause-gap
+keep-requires-clause-gap g c = write_built (command_view c.args.command.now) c.requires.row.1

@@ -1,0 +1,84 @@
+//! The rows of an import, entered one after another.
+ghost use Rattle.std.specs.Prelude.{◌≡◌, ◌+◌, ◌≤◌, ◌++◌, true, length, map, is_some, Some, List, ℕ, OnOk, OnErr};
+ghost use Rattle.std.specs.List.{AllByRecursion};
+ghost use Rattle.command_text.specs.Tree.{command_view};
+ghost use Rattle.line_meaning.specs.Import.{entry_lines, is_taken, with_entry};
+ghost use Rattle.line_meaning.specs.Looks.{most_looks};
+ghost use Rattle.line_meaning.specs.Reply.{ok_line};
+ghost use Rattle.line_meaning.specs.Step.{held};
+ghost use Rattle.reply_text.specs.Begins.{Begins};
+ghost use Rattle.session.specs.Rows.{IsRowCommand, LeavesSome, journal_after_commands, lines_of_commands, looks_of_commands};
+ghost use Rattle.session.specs.State.{IsState};
+
+use crate::keeping::keep;
+use crate::state::State;
+use command_text::{Command, CommandFault, canonical_lines_are_read_back};
+use reply_text::push_ok;
+use std::alloc::{AllocError, Global};
+use std::sync::ledger::Ledger;
+use steps::Steps;
+
+// The bytes of the line `ok`.
+const OK_BYTES: usize = 3;
+
+/// Enters the command of a row that nothing refuses, and puts its lines before the `ok` at the end. Want of memory
+/// changes no more than the end of `out`.
+fn enter_row<L: Ledger, M: Ledger>(
+    alloc: Global,
+    state: &mut State,
+    command: &Command,
+    reads: &mut Steps<L>,
+    probes: &mut Steps<M>,
+    out: &mut Vec<u8>,
+) -> Result<(), AllocError>
+    requires state { IsState state.old.journal state.old }
+    requires row { IsRowCommand (command_view command.now) }
+    requires taken { is_taken state.old.journal (command_view command.now) ≡ true }
+    requires ok { OK_BYTES ≤ length out.old.items }
+    ensures state { IsState state.new.journal state.new }
+    ensures entered { OnOk result (state.new.journal ≡ with_entry state.old.journal (command_view command.now)) }
+    ensures told { (start : List ℕ) → out.old.items ≡ start ++ ok_line
+        → OnOk result (out.new.items ≡ start ++ (entry_lines state.old.journal (command_view command.now) ++ ok_line)) }
+    ensures begins { (start : List ℕ) → out.old.items ≡ start ++ ok_line → Begins start out.new.items }
+    ensures err { OnErr result (state.new.journal ≡ state.old.journal) }
+    ensures least { reads.old ≤ reads.new }
+    ensures most { reads.new ≤ reads.old + most_looks (held state.old.journal) (command_view command.now) }
+{
+    canonical_lines_are_read_back();
+    out.truncate(out.len() - OK_BYTES);
+    match keep(alloc, state, command, reads, probes, out) {
+        Ok(()) => Ok(()),
+        Err(CommandFault::NoMemory) => Err(AllocError),
+        Err(CommandFault::Refused(_)) => unreachable!(),
+    }
+}
+
+/// Enters the commands of rows that nothing refuses, and writes their lines with one `ok` at the end. Want of memory
+/// leaves the first of them entered, if any, but not the last, and the old contents of `out` in front.
+pub(crate) fn enter_rows<L: Ledger, M: Ledger>(
+    alloc: Global,
+    state: &mut State,
+    commands: &[Command],
+    reads: &mut Steps<L>,
+    probes: &mut Steps<M>,
+    out: &mut Vec<u8>,
+) -> Result<(), AllocError>
+    requires state { IsState state.old.journal state.old }
+    requires rows { AllByRecursion IsRowCommand (map command_view commands.now) }
+    requires taken { is_some (journal_after_commands state.old.journal (map command_view commands.now)) ≡ true }
+    ensures state { IsState state.new.journal state.new }
+    ensures entered { OnOk result (journal_after_commands state.old.journal (map command_view commands.now) ≡ Some state.new.journal) }
+    ensures told { OnOk result (out.new.items ≡ out.old.items ++ (lines_of_commands state.old.journal (map command_view commands.now) ++ ok_line)) }
+    ensures begins { Begins out.old.items out.new.items }
+    ensures err { OnErr result (LeavesSome state.old.journal (map command_view commands.now) state.new.journal) }
+    ensures least { reads.old ≤ reads.new }
+    ensures most { reads.new ≤ reads.old + looks_of_commands state.old.journal (map command_view commands.now) }
+{
+    push_ok(out)?;
+    let mut rest = commands;
+    'rows: while let Some((command, later)) = rest.split_first() {
+        enter_row(alloc, state, command, reads, probes, out)?;
+        rest = later;
+    }
+    Ok(())
+}
