@@ -18,6 +18,8 @@ pub use next::{ApplyFault, Next};
 pub use session::Session;
 
 #[cfg(test)]
+mod file_tests;
+#[cfg(test)]
 mod live_tests;
 #[cfg(test)]
 mod tests;
