@@ -7,6 +7,7 @@ pub mod PlaceLemmas
 pub mod ProbeLemmas
 pub mod RunLemmas
 pub mod SizeLemmas
+pub mod StraightLemmas
 pub mod TickLemmas
 pub mod TrendLemmas
 pub mod ValueRunLemmas

@@ -1,8 +1,9 @@
 //! The ticks of a part at which the distance of two objects compares with a number.
-ghost use Rattle.std.specs.Prelude.{◌≡◌, ◌+◌, ◌-◌, ◌≤◌, ◌&&◌, None, IsTrue, nat_le, if◌then◌else◌};
+ghost use Rattle.std.specs.Prelude.{◌≡◌, ◌+◌, ◌-◌, ◌≤◌, ◌&&◌, None, Some, IsTrue, nat_le, if◌then◌else◌};
 ghost use Rattle.distance_crossing.specs.declared.near.TheConstants.{SHORT_WINDOW};
 ghost use Rattle.fixed_point.specs.declared.number.TheConstants.{READ_LIMIT};
 ghost use Rattle.formula.specs.Resolved.{is_within};
+ghost use Rattle.linear_crossing.specs.Moving.{IsInReach, position_after};
 ghost use Rattle.meaning.specs.Atom.{distance_holds, position_in};
 ghost use Rattle.tick_set.specs.Ticks.{within};
 ghost use Rattle.tick_set.specs.declared.spans.TheConstants.{SPAN_LIMIT};
@@ -15,9 +16,10 @@ use crate::places::line_of;
 use case_table::Op;
 use distance_crossing::{Triple, compare};
 use fixed_point::Fix;
-use linear_crossing::Quad;
+use linear_crossing::{Line, Quad};
 use std::sync::ledger::Ledger;
 use steps::Steps;
+use tick_set::Window;
 
 /// The ticks of the part at which the objects of two variables have places whose distance compares so with a
 /// number of thousandths.
@@ -40,12 +42,32 @@ pub fn at_distance<M: Ledger>(
 {
     match line_of(part, from) {
         Some(first) => match line_of(part, to) {
-            Some(second) => {
-                let between = Quad::between(&first, &second);
-                compare(&between, op, c, part.span.window(), probes)
-            }
+            Some(second) => { apart(&first, &second, op, c, part.span.window(), probes) }
             None => nowhere(),
         },
         None => nowhere(),
     }
+}
+
+/// The ticks of the window at which the distance of two objects that move along lines compares so with a number of
+/// thousandths.
+#[inline(always)]
+pub fn apart<M: Ledger>(
+    first: &Line,
+    second: &Line,
+    op: Op,
+    c: Fix,
+    w: Window,
+    probes: &mut Steps<M>,
+) -> Triple
+    requires sized { IsTrue (is_within READ_LIMIT c) }
+    requires first_in_reach { IsInReach first.now }
+    requires second_in_reach { IsInReach second.now }
+    requires length { w.hi - w.lo ≤ SPAN_LIMIT }
+    ensures runs { AreFound (λ t. within w.lo w.hi t
+        && distance_holds op c (Some (position_after first.now (t - w.lo))) (Some (position_after second.now (t - w.lo)))) result }
+    ensures cost { probes.new ≤ probes.old + (if nat_le (w.hi - w.lo) SHORT_WINDOW then 47 else 63) }
+{
+    let between = Quad::between(first, second);
+    compare(&between, op, c, w, probes)
 }

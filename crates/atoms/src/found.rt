@@ -1,5 +1,5 @@
 //! Runs of ticks of one part, and runs that are gathered part by part.
-ghost use Rattle.std.specs.Prelude.{◌≡◌, ◌<◌, ◌≤◌, ◌&&◌, ◌||◌, ◌+◌, ℕ, [], true, not, nat_le, nat_lt, OnOk, option_to_list};
+ghost use Rattle.std.specs.Prelude.{◌≡◌, ◌<◌, ◌≤◌, ◌&&◌, ◌||◌, ◌+◌, ℕ, Bool, [], true, not, nat_le, nat_lt, IfOk, OnOk, option_to_list};
 ghost use Rattle.distance_crossing.specs.Triples.{triple_spans};
 ghost use Rattle.linear_crossing.specs.Zones.{spans_of};
 ghost use Rattle.tick_set.specs.Runs.{IsNormal, IsRuns, spans_have};
@@ -9,7 +9,7 @@ ghost use Rattle.tick_set.specs.declared.spans.TheConstants.{LAST_TICK};
 
 use distance_crossing::Triple;
 use linear_crossing::Pair;
-use std::alloc::AllocError;
+use std::alloc::{AllocError, Global};
 use tick_set::{LAST_TICK, Runs, Span};
 
 /// No tick.
@@ -97,4 +97,15 @@ pub fn append(runs: &mut Runs, found: &Triple) -> Result<(), AllocError>
     runs.append(found.first)?;
     runs.append(found.second)?;
     runs.append(found.third)
+}
+
+/// The runs that were found.
+#[inline(always)]
+pub fn runs_of(alloc: Global, found: &Triple) -> Result<Vec<Span>, AllocError>
+    requires { IsNormal (triple_spans found.now) }
+    ensures { (test : ℕ → Bool) → AreFound test found.now → IfOk result (λ runs. IsRuns test runs.items) }
+{
+    let mut runs = Runs::new(alloc);
+    append(&mut runs, found)?;
+    Ok(runs.finish())
 }

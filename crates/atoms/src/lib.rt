@@ -15,6 +15,7 @@ mod laws;
 mod parts;
 mod places;
 mod present;
+mod straight;
 mod terms;
 mod ticks;
 mod trends;

@@ -51,9 +51,10 @@ pub fn outside(v: u8, n: u32, part: &Part, regions: &Regions) -> Triple
     }
 }
 
-// The ticks of the span at which a moving point is in the region of a number; none where there is no such
-// region.
-fn inside_run(line: &Line, n: u32, span: Span, regions: &Regions) -> Option<Span>
+/// The ticks of the span at which a moving point is in the region of a number; none where there is no such
+/// region.
+#[inline(always)]
+pub fn inside_run(line: &Line, n: u32, span: Span, regions: &Regions) -> Option<Span>
     ensures { IsRuns (λ t. within span.lo span.hi t && is_in_region regions.now n (position_after line.now (t - span.lo)))
         (option_to_list result) }
 {

@@ -13,9 +13,10 @@ ghost use Rattle.atoms.specs.Parts.{HasObject, trace_by};
 ghost use Rattle.atoms.specs.Probes.{atom_timelines, probe_limit};
 ghost use Rattle.atoms.specs.Sizes.{is_sized};
 
-use crate::found::append;
+use crate::found::{append, runs_of};
 use crate::judged::judged;
 use crate::parts::{fill_timelines, part_from};
+use crate::straight::straight_ticks;
 use crate::variables::variables_of_atom;
 use courses::MOST_TIMELINES;
 use formula::{Binding, Env, RAtom};
@@ -89,6 +90,33 @@ fn ticks_of<'x, L: Ledger, M: Ledger>(
 
 // The runs of these ticks, where the variables of the atom have these timelines.
 fn atom_runs<'a, M: Ledger>(
+    alloc: Global,
+    a: &RAtom,
+    env: &Env,
+    regions: &Regions,
+    variables: &'a [u8],
+    timelines: &[&'a Timeline],
+    w: Window,
+    probes: &mut Steps<M>,
+) -> Result<Vec<Span>, AllocError>
+    requires sized { IsTrue (is_sized a.now) }
+    requires variables { variables.now ≡ atom_variables a.now }
+    requires few { length timelines.now ≤ MOST_TIMELINES }
+    requires same { length variables.now ≡ length timelines.now }
+    requires length { w.hi - w.lo ≤ SPAN_LIMIT }
+    ensures runs { IfOk result (λ runs. IsRuns (λ t. within w.lo w.hi t
+        && atom_holds regions.now (trace_by variables.now (epochs_of_each timelines.now)) a.now env.now t) runs.items) }
+    ensures cost { probes.new ≤ probes.old
+        + probe_limit a.now (w.hi - w.lo) * pieces_of_all (epochs_of_each timelines.now) w.lo w.hi }
+{
+    match straight_ticks(a, regions, variables, timelines, w, probes) {
+        Some(found) => runs_of(alloc, &found),
+        None => runs_by_parts(alloc, a, env, regions, variables, timelines, w, probes),
+    }
+}
+
+// The same, by the common parts of these timelines.
+fn runs_by_parts<'a, M: Ledger>(
     alloc: Global,
     a: &RAtom,
     env: &Env,

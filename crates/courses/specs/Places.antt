@@ -1,10 +1,10 @@
 -- The place of a point object while an epoch is in force.
-use Rattle.std.specs.Prelude.{◌≡◌, ℕ, Option, None, Some, option_and_then, slice_get}
+use Rattle.std.specs.Prelude.{ℕ, Option, None, Some, option_and_then, List, slice_get}
 use Rattle.std.specs.Option.{option_map}
 use Rattle.fixed_point.specs.declared.number.Point.{Point}
 use Rattle.geometry.specs.Plane.{point}
 use Rattle.motion.specs.Dynamic.{Dynamic, value_at}
-use Rattle.motion.specs.Timeline.{Epoch, cells_of}
+use Rattle.motion.specs.Timeline.{Epoch, cells_of, epoch_at}
 use Rattle.motion.specs.declared.cell.Cell.{Cell}
 use Rattle.motion.specs.declared.cell.Cell.TheVariants as cells
 
@@ -24,3 +24,7 @@ place_by x y t = option_and_then (λ u. option_map (λ v. point (value_at u t) (
 -- where the object is at tick t, by its first two attributes: None where it is absent, or one of these doesn't move
 abbrev pub place_of : Epoch → ℕ → Option Point
 place_of p t = place_by (dynamic_at p 0) (dynamic_at p 1) t
+
+-- where an object with this timeline is at tick t
+abbrev pub place_at : List Epoch → ℕ → Option Point
+place_at epochs t = option_and_then (λ p. place_of p t) (epoch_at epochs t)

@@ -4,7 +4,7 @@ use Rattle.meaning.specs.Atom.{atom_holds}
 use Rattle.atoms.specs.Gathered.{IsGathered}
 use Rattle.atoms.specs.Parts.{trace_by}
 use Rattle.atoms.specs.Probes.{probe_limit}
-use Rattle.atoms.proofs.ticks.atom_runs.Given as goal
+use Rattle.atoms.proofs.ticks.runs_by_parts.Given as goal
 
 -- the ticks before `at` are settled, and the probes so far are of the pieces that are passed
 abbrev pub invariant-joining : goal.invariant-joining
