@@ -13,6 +13,7 @@ use Rattle.relation.specs.Frames.{Frame, IsIn, frame, vars_of_both}
 use Rattle.relation.specs.Key.{has_id}
 use Rattle.relation.specs.Rows.{Table, has}
 use Rattle.evaluator.specs.Rows.{AreRowsWhere}
+use Rattle.evaluator.specs.inner.Away.{AreAwayFor}
 use Rattle.evaluator.proofs.VariableLemmas.{ascending_variables, both_variables, same_variables_twice, variables_same}
 
 range_more : (a n : ℕ) → range_with_len a (suc n) ≡ range_with_len a n ++ (a + n) ∷ []
@@ -82,6 +83,10 @@ and_all true true false p = refl
 and_all true false a p = refl
 and_all false s a p = refl
 
+and_among : (x y z : Bool) → (x ≡ true → y ≡ z) → (x && not y) ≡ (x && not z)
+and_among true y z f = ap not (f refl)
+and_among false y z f = refl
+
 and_swap : (w s a : Bool) → (w && (s && a)) ≡ (w && (a && s))
 and_swap true true true = refl
 and_swap true true false = refl
@@ -111,14 +116,16 @@ module _ {S : Type 0} (member : S → ℕ → Bool) (domains : List (List ℕ)) 
   }
 
   pub full_more : (n : ℕ) → n < 4 → (r away made : Table S) → AreRowsWhere member domains lo hi (variables_upto f n) (holds_upto holds there n) r →
-      AreRowsWhere member domains lo hi (n ∷ []) (λ b t. not (there (b n) t)) away →
+      AreAwayFor member there lo hi n r away →
       ((b : ℕ → ℕ) → IsIn r.domains b → (t : ℕ) → has member made b t ≡ (has member r b t && not (has member away b t))) →
       made.vars ≡ vars_of_both r.vars (n ∷ []) → frame made ≡ frame r →
       AreRowsWhere member domains lo hi (variables_upto f (n + 1)) (holds_upto holds there (n + 1)) made
   full_more n l r away made are also ticks vars same = record {
     ticks = λ b is_in t.
-        ticks b (subst (λ (d : List (List ℕ)). IsIn d b) (sym (ap (λ (z : Frame). z.domains) are.frame)) is_in) t
-        ∙ (λ i. are.ticks b is_in t i && not (also.ticks b is_in t i))
+        let own = subst (λ (d : List (List ℕ)). IsIn d b) (sym (ap (λ (z : Frame). z.domains) are.frame)) is_in in
+        ticks b own t
+        ∙ and_among (has member r b t) (has member away b t) (within lo hi t && not (there (b n) t)) (also b own t)
+        ∙ (λ i. are.ticks b is_in t i && not (within lo hi t && not (there (b n) t)))
         ∙ and_all (within lo hi t) (holds b t) (list_all (λ v. there (b v) t) (between 0 n)) (there (b n) t)
         ∙ ap (λ (y : Bool). within lo hi t && (holds b t && y)) (sym (all_more (λ v. there (b v) t) n));
     vars = vars

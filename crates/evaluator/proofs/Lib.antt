@@ -1,6 +1,7 @@
 pub mod AssignLemmas
 pub mod AtomLemmas
 pub mod AtomRunLemmas
+pub mod AwayLemmas
 pub mod BindingLemmas
 pub mod ByKeyLemmas
 pub mod FillingLemmas

@@ -1,3 +1,4 @@
+pub mod Away
 -- How formulas are evaluated. No public clause names these.
 pub mod ByBinding
 pub mod Filled

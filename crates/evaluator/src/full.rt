@@ -5,11 +5,12 @@ ghost use Rattle.tick_set.specs.Ticks.{between, within};
 ghost use Rattle.formula.specs.Tree.{formula_view, query_view};
 ghost use Rattle.formula.specs.Value.{no_values};
 ghost use Rattle.formula_shape.specs.declared.limits.TheConstants.{OBJECT_LIMIT};
-ghost use Rattle.relation.specs.Frames.{IsIn, frame, size_of, vars_of_both};
+ghost use Rattle.relation.specs.Frames.{IsIn, frame, frame_of, size_of, vars_of_both};
 ghost use Rattle.relation.specs.Key.{has_id, ids_of};
 ghost use Rattle.relation.specs.Rows.{has};
 ghost use Rattle.evaluator.specs.Interpreting.{CanAsk, IsOver};
 ghost use Rattle.evaluator.specs.Rows.{AreRowsWhere, is_full, query_reads_upto};
+ghost use Rattle.evaluator.specs.inner.Away.{AreAwayFor};
 
 use crate::Interpreter;
 use crate::rows::rows_of;
@@ -45,10 +46,71 @@ pub fn full_rows<'d, S: Temporal, I: Interpreter<S>, L: Ledger, M: Ledger>(
     let mut made = rows_of(alloc, source, &q.formula, d, &Env::new(), w, reads, probes)?;
     let count = d.len() as u8;
     'vars: for var in 0..count {
-        let away = rows_of_absence(alloc, source, var, d, w, reads)?;
+        let away = absence_for_rows(alloc, source, var, &made, d, w, reads)?;
         made = while_there(alloc, made, var, &away)?;
     }
     Ok(made)
+}
+
+// The ticks at which the objects of a variable aren't there, as far as rows have such ticks. Where these rows have this
+// variable alone, no other object is asked for.
+fn absence_for_rows<'d, S: Temporal, I: Interpreter<S>, L: Ledger>(
+    alloc: Global,
+    source: &I,
+    var: u8,
+    rows: &Relation<'d, S>,
+    d: &'d Domains,
+    w: Window,
+    reads: &mut Steps<L>,
+) -> Result<Relation<'d, S>, AllocError>
+    requires frame { frame rows.now ≡ frame_of d.now w.lo w.hi }
+    requires known { var < length d.now }
+    requires objects { (id : ℕ) → has_id (ids_of d.now var) id ≡ true → I.object_fits source.now w.lo w.hi id }
+    ensures ticks { IfOk result (AreAwayFor S.member (I.present source.now) w.lo w.hi var rows.now) }
+    ensures vars { IfOk result (λ r. r.vars ≡ var ∷ []) }
+    ensures frame { IfOk result (λ r. frame r ≡ frame_of d.now w.lo w.hi) }
+    ensures least { reads.old ≤ reads.new }
+    ensures most { reads.new ≤ reads.old + size_of d.now var }
+{
+    if rows.vars() == &[var][..] {
+        let away = absence_of_rows(alloc, source, var, rows, d, w, reads)?;
+        Ok(away)
+    } else {
+        let away = rows_of_absence(alloc, source, var, d, w, reads)?;
+        Ok(away)
+    }
+}
+
+// The same where the rows have this variable alone.
+fn absence_of_rows<'d, S: Temporal, I: Interpreter<S>, L: Ledger>(
+    alloc: Global,
+    source: &I,
+    var: u8,
+    rows: &Relation<'d, S>,
+    d: &'d Domains,
+    w: Window,
+    reads: &mut Steps<L>,
+) -> Result<Relation<'d, S>, AllocError>
+    requires frame { frame rows.now ≡ frame_of d.now w.lo w.hi }
+    requires one { rows.now.vars ≡ var ∷ [] }
+    requires known { var < length d.now }
+    requires objects { (id : ℕ) → has_id (ids_of d.now var) id ≡ true → I.object_fits source.now w.lo w.hi id }
+    ensures ticks { IfOk result (AreAwayFor S.member (I.present source.now) w.lo w.hi var rows.now) }
+    ensures vars { IfOk result (λ r. r.vars ≡ var ∷ []) }
+    ensures frame { IfOk result (λ r. frame r ≡ frame_of d.now w.lo w.hi) }
+    ensures least { reads.old ≤ reads.new }
+    ensures most { reads.new ≤ reads.old + size_of d.now var }
+{
+    rows.rows_stand_in_order();
+    // Each domain ascends.
+    let _ = d.of(var);
+    let mut away = Relation::empty(alloc, &[var], d, w);
+    'places: for place in 0..rows.len() {
+        let key = rows.key_at(place).unwrap();
+        let ticks = source.absence(alloc, key.get(0).unwrap_or(0), w, reads)?;
+        away.put(key, ticks)?;
+    }
+    Ok(away)
 }
 
 // The ticks at which each object of a variable isn't there: no row of those that are there throughout, as most are.

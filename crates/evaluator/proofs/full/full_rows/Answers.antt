@@ -34,11 +34,11 @@ vars-init g c = record {
   most = omega arith;
 }
 
-pub rows_of_absence-requires-clause-known : goal.rows_of_absence-requires-clause-known
-rows_of_absence-requires-clause-known g c = omega (arith, c.vars-test.true, c.len-count.ensures.count)
+pub absence_for_rows-requires-clause-known : goal.absence_for_rows-requires-clause-known
+absence_for_rows-requires-clause-known g c = omega (arith, c.vars-test.true, c.len-count.ensures.count)
 
-pub rows_of_absence-requires-clause-objects : goal.rows_of_absence-requires-clause-objects
-rows_of_absence-requires-clause-objects g c = λ id h. c.requires.objects c.vars.var id h
+pub absence_for_rows-requires-clause-objects : goal.absence_for_rows-requires-clause-objects
+absence_for_rows-requires-clause-objects g c = λ id h. c.requires.objects c.vars.var id h
 
 pub returns-in_err-away-clause-least : goal.returns-in_err-away-clause-least
 returns-in_err-away-clause-least g c = in_turn _ _ _ c.in_ok-made.ensures.least (in_turn _ _ _ c.vars.invariant.least c.in_err-away.ensures.least)
@@ -64,7 +64,7 @@ while_there-requires-clause-lies g c =
 
 pub vars-preserved : goal.vars-preserved
 vars-preserved g c = record {
-  rows = full_more g.S.TickSet.member c.args.d.now c.args.w.lo c.args.w.hi (formula_view c.args.q.now.formula) (λ (b : ℕ → ℕ) (u : ℕ). sat (g.I.Interpreter.interpretation c.args.source.now b) (formula_view c.args.q.now.formula) no_values c.args.w.hi u) (g.I.Interpreter.present c.args.source.now) c.vars.var (omega (arith, c.vars-test.true, c.len-count.ensures.count, c.len-count.ensures.few)) c.vars.made c.in_ok-away.away c.in_ok-made-2.made c.vars.invariant.rows c.in_ok-away.ensures.rows
+  rows = full_more g.S.TickSet.member c.args.d.now c.args.w.lo c.args.w.hi (formula_view c.args.q.now.formula) (λ (b : ℕ → ℕ) (u : ℕ). sat (g.I.Interpreter.interpretation c.args.source.now b) (formula_view c.args.q.now.formula) no_values c.args.w.hi u) (g.I.Interpreter.present c.args.source.now) c.vars.var (omega (arith, c.vars-test.true, c.len-count.ensures.count, c.len-count.ensures.few)) c.vars.made c.in_ok-away.away c.in_ok-made-2.made c.vars.invariant.rows c.in_ok-away.ensures.ticks
       c.in_ok-made-2.ensures.ticks c.in_ok-made-2.ensures.vars c.in_ok-made-2.ensures.frame;
   least = in_turn _ _ _ c.vars.invariant.least c.in_ok-away.ensures.least;
   most = absence_step (size_of c.args.d.now) _ c.vars.reads _ c.vars.var c.vars.invariant.most c.in_ok-away.ensures.most;
