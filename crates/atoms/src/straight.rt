@@ -18,7 +18,7 @@ use crate::places::inside_run;
 use courses::straight_line;
 use distance_crossing::Triple;
 use formula::RAtom;
-use linear_crossing::Line;
+use linear_crossing::{Line, Quad};
 use motion::Timeline;
 use polygon::Regions;
 use std::sync::ledger::Ledger;
@@ -57,7 +57,8 @@ pub fn straight_ticks<M: Ledger>(
         RAtom::Dist(from, to, op, c) => {
             let first = line_of(*from, variables, timelines, w)?;
             let second = line_of(*to, variables, timelines, w)?;
-            Some(apart(&first, &second, *op, *c, w, probes))
+            let between = Quad::between(&first, &second);
+            Some(apart(&between, *op, *c, w, probes))
         }
         RAtom::Compare(_, _, _) | RAtom::Sphere(_, _) => None,
     }
