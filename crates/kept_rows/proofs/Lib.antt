@@ -1,10 +1,12 @@
 pub mod ChangeLemmas
+pub mod FilledLemmas
 pub mod HeldLemmas
 pub mod LawLemmas
 pub mod ListingLemmas
 pub mod MoveLemmas
 pub mod NextLemmas
 pub mod NumberLemmas
+pub mod OneLemmas
 pub mod PageLemmas
 pub mod RisingLemmas
 pub mod SearchLemmas

@@ -50,7 +50,7 @@ same_number c n e =
       | inr other ↦ ne_eqb (c % 16) (n % 16) (λ h. other (omega (arith, e, h))) ∙ sym (ne_eqb c n other)
     ]
 
-pub row_has-set : {S : Type 0} (member : S → ℕ → Bool) (pages : List (List S)) (n : ℕ) (page : List S) (x : S) → n / 16 < length pages →
+row_has-set : {S : Type 0} (member : S → ℕ → Bool) (pages : List (List S)) (n : ℕ) (page : List S) (x : S) → n / 16 < length pages →
     ((i t : ℕ) → page_has member page i t ≡ (if eqb i (n % 16) then member x t else page_has member (page_of pages n) i t)) →
     (c t : ℕ) → row_has member (set pages (n / 16) page) c t ≡ (if eqb c n then member x t else row_has member pages c t)
 row_has-set member pages n page x there has c t =
@@ -65,6 +65,14 @@ row_has-set member pages n page x there has c t =
           ap (λ b. page_has member (if b then page else page_of pages c) (c % 16) t) (ne_eqb (c / 16) (n / 16) other)
           ∙ ap (λ b. if b then member x t else row_has member pages c t) (sym (ne_eqb c n (λ e. other (ap (λ k. k / 16) e))))
     ]
+
+-- a set is written into the page of its number
+pub row_has-put : {S : Type 0} (member : S → ℕ → Bool) (pages : List (List S)) (n : ℕ) (page old : List S) (x : S) → n / 16 < length pages →
+    old ≡ page_of pages n → ((i t : ℕ) → page_has member page i t ≡ (if eqb i (n % 16) then member x t else page_has member old i t)) →
+    (c t : ℕ) → row_has member (set pages (n / 16) page) c t ≡ (if eqb c n then member x t else row_has member pages c t)
+row_has-put member pages n page old x there is has =
+    row_has-set member pages n page x there
+    (λ i t. has i t ∙ ap (λ xs. if eqb i (n % 16) then member x t else page_has member xs i t) is)
 
 -- a made page stays made
 if_both : (b : Bool) (x y : Bool) → x ≡ true → y ≡ true → (if b then x else y) ≡ true

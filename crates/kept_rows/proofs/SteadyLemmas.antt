@@ -7,6 +7,7 @@ use Rattle.kept_rows.specs.Turning.{AreSteady, AreSteadyIn}
 -- rows that are alike
 pub steady-alike : (rows rows' : ℕ → ℕ → Bool) (turns : Turns) → ((c t : ℕ) → rows' c t ≡ rows c t) → AreSteady rows turns → AreSteady rows' turns
 steady-alike rows rows' turns same steady = record {
+  own = λ c u h k. same c u ∙ steady.own c u h k ∙ sym (same c turns.seen);
   pages = λ c u h k. same c u ∙ steady.pages c u h k ∙ sym (same c turns.seen);
   groups = λ c u h k. same c u ∙ steady.groups c u h k ∙ sym (same c turns.seen);
 }

@@ -1,48 +1,33 @@
 -- Rows that are the same at two ticks, and the targets that then don't pass.
-use Rattle.std.proofs.Common.{◌≡◌, ℕ, ◌+◌, ◌*◌, ◌<◌, ◌≤◌, Bool, true, false, ◌&&◌, leb, None, List, [], ◌∷◌, refl, ap, sym, ◌∙◌, inl, inr, arith}
+use Rattle.std.proofs.Common.{◌≡◌, ℕ, ◌+◌, ◌*◌, ◌<◌, ◌≤◌, Bool, true, false, ◌&&◌, leb, Option, None, Some, List, [], ◌∷◌, refl, ap, sym, ◌∙◌, arith}
+use Rattle.std.specs.Prelude.{IfNone, IfSome}
 use Rattle.std.specs.List.{list_any}
-use Rattle.std.proofs.lemmas.Bool.{cases_lt}
 use Rattle.std.proofs.lemmas.Nat.{mul-le}
 use Rattle.tick_set.specs.Ticks.{between}
 use Rattle.tick_set.proofs.Between.{any_between_at, any_between_found, same_test}
 use Rattle.kept_rows.specs.declared.turns.Turns.{Turns}
-use Rattle.kept_rows.specs.Listing.{HaveNone, IsNext, passing_of, times, when_differ}
+use Rattle.kept_rows.specs.Listing.{passing_of, times, when_differ}
 use Rattle.kept_rows.specs.Turning.{AreAlike, AreSteady, AreSteadyIn, IsNextTurn}
 
 -- ---- rows
-pub alike-more : (p q : ℕ → Bool) (from m to : ℕ) → AreAlike p q from m → AreAlike p q m to → AreAlike p q from to
-alike-more p q from m to first second c h k =
-    elim (cases_lt c m) [
-      | inl l ↦ first c h l
-      | inr l ↦ second c l k
-    ]
-
 module _ (rows : ℕ → ℕ → Bool) (before now : ℕ) where
   alike-steady : (turns : Turns) (from to : ℕ) → AreSteady rows turns → turns.seen ≤ before → before ≤ now → AreSteadyIn turns now from to →
       AreAlike (λ c. rows c before) (λ c. rows c now) from to
   alike-steady turns from to steady low up same c h k =
       same rows steady c h k before low (omega (arith, up)) ∙ sym (same rows steady c h k now (omega (arith, low, up)) (omega arith))
 
-  pub alike-on : (turns : Turns) (from m to : ℕ) → AreSteady rows turns → turns.seen ≤ before → before ≤ now →
-      AreAlike (λ c. rows c before) (λ c. rows c now) from m → AreSteadyIn turns now m to → AreAlike (λ c. rows c before) (λ c. rows c now) from to
-  alike-on turns from m to steady low up first same =
-      alike-more (λ c. rows c before) (λ c. rows c now) from m to first (alike-steady turns m to steady low up same)
+  -- the first number that may turn
+  pub turn-next : (turns : Turns) (from to : ℕ) (o : Option ℕ) → AreSteady rows turns → turns.seen ≤ before → before ≤ now →
+      IfSome o (λ n. from ≤ n) → IfSome o (λ n. n < to) → IfSome o (AreSteadyIn turns now from) →
+      IfSome o (IsNextTurn (λ c. rows c before) (λ c. rows c now) from to)
+  turn-next turns from to None steady low up least below same = tt
+  turn-next turns from to (Some n) steady low up least below same =
+      record { least = least; below = below; before = alike-steady turns from n steady low up same }
 
-  pub alike-none : (from to : ℕ) → HaveNone rows from to → AreAlike (λ c. rows c before) (λ c. rows c now) from to
-  alike-none from to none c h k = none c before h k ∙ sym (none c now h k)
-
--- the row found in a page that may turn
-pub turn-found : (rows : ℕ → ℕ → Bool) (before now from start end to number : ℕ) →
-    from ≤ start → end ≤ to → AreAlike (λ c. rows c before) (λ c. rows c now) from start → IsNext rows start end number →
-    IsNextTurn (λ c. rows c before) (λ c. rows c now) from to number
-turn-found rows before now from start end to number low up same next =
-    let least : start ≤ number = next.least in
-    let below : number < end = next.below in
-    record {
-      least = omega (arith, low, least);
-      below = omega (arith, below, up);
-      before = alike-more (λ c. rows c before) (λ c. rows c now) from start number same (alike-none rows before now start number next.before);
-    }
+  pub turn-none : (turns : Turns) (from to : ℕ) (o : Option ℕ) → AreSteady rows turns → turns.seen ≤ before → before ≤ now →
+      IfNone o (AreSteadyIn turns now from to) → IfNone o (AreAlike (λ c. rows c before) (λ c. rows c now) from to)
+  turn-none turns from to None steady low up same = alike-steady turns from to steady low up same
+  turn-none turns from to (Some n) steady low up same = tt
 
 -- ---- targets
 any-counted : (b : Bool) (p : ℕ → Bool) (xs : List ℕ) → (b && list_any p xs) ≡ list_any (λ c. b && p c) xs

@@ -13,8 +13,13 @@ IsSteady ticks from end = (u : ℕ) → from ≤ u → u < end → ticks u ≡ t
 abbrev pub HaveEnds : ℕ → (ℕ → ℕ → Bool) → ℕ → List ℕ → Type 0
 HaveEnds width rows seen ends = (c : ℕ) → IsSteady (rows c) seen (slice_index_or ends (c / width) 0)
 
--- the rows are steady up to the ends of their pages, and up to those of their groups of pages
+-- each row has an end of its own, up to which it is steady
+abbrev pub HaveOwnEnds : (ℕ → ℕ → Bool) → ℕ → List ℕ → Type 0
+HaveOwnEnds rows seen ends = (c : ℕ) → IsSteady (rows c) seen (slice_index_or ends c 0)
+
+-- the rows are steady up to their own ends, up to those of their pages, and up to those of their groups of pages
 pub record AreSteady (rows : ℕ → ℕ → Bool) (turns : Turns) : Type 0 where
+  pub own : HaveOwnEnds rows turns.seen turns.rows.items
   pub pages : HaveEnds 16 rows turns.seen turns.pages.items
   pub groups : HaveEnds 1024 rows turns.seen turns.groups.items
 

@@ -4,6 +4,7 @@
 
 mod binding;
 mod change;
+mod filled;
 mod held;
 mod laws;
 mod listing;

@@ -123,16 +123,13 @@ impl<S: TickSet> Page<S> {
 }
 
 impl<S: Turning> Page<S> {
-    /// A tick up to which, from `t` on and without it, each place has what it has at `t`.
-    pub(crate) fn steady_until(&self, t: u32) -> u32
-        ensures { (i : ℕ) → IsSteady (page_has S.member self.now i) t result }
+    /// A tick up to which, from `t` on and without it, a place has what it has at `t`.
+    pub(crate) fn steady_until(&self, at: usize, t: u32) -> u32
+        ensures { IsSteady (page_has S.member self.now at) t result }
     {
-        let mut end = u32::MAX;
-        let mut at = 0;
-        'cells: while let Some(ticks) = self.get(at) {
-            end = end.min(ticks.steady_until(t));
-            at += 1;
+        match self.get(at) {
+            Some(ticks) => ticks.steady_until(t),
+            None => u32::MAX,
         }
-        end
     }
 }

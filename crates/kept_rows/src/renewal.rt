@@ -1,5 +1,5 @@
 //! Rows judged anew.
-ghost use Rattle.std.specs.Prelude.{◌≡◌, ◌<◌, ◌≤◌, ◌+◌, ◌*◌, ◌&&◌, ℕ, Bool, length, if◌then◌else◌, IfOk, OnOk};
+ghost use Rattle.std.specs.Prelude.{◌≡◌, ◌<◌, ◌≤◌, ◌+◌, ◌*◌, ◌&&◌, ◌∷◌, ℕ, Bool, [], length, if◌then◌else◌, IfOk, OnOk};
 ghost use Rattle.tick_set.specs.TickList.{has};
 ghost use Rattle.kept_rows.specs.Changes.{AreReady, AreRising, DoDiffer, after};
 ghost use Rattle.kept_rows.specs.Exact.{AreRowsOf};
@@ -42,8 +42,36 @@ pub fn refresh<S: TickSet, J: Judge<S>>(
     ensures rows { IfOk result (λ f. (c t : ℕ) → after S.member f (row_has S.member kept.now) c t
         ≡ (if counts variables.now c && holds variables.now c then J.full judge.now c t else row_has S.member kept.now c t)) }
 {
+    if let Some((only, later)) = variables.split_first() {
+        if later.is_empty() {
+            return refresh_one(alloc, kept, only, judge);
+        }
+    }
     let numbers = held_numbers(alloc, variables)?;
     judged(alloc, kept, &numbers, judge)
+}
+
+// The same where there is one variable, so that a binding is an object.
+fn refresh_one<S: TickSet, J: Judge<S>>(
+    alloc: Global,
+    kept: &KeptRows<S>,
+    variable: &Variable,
+    judge: &J,
+) -> Result<Changes<S>, AllocError>
+    requires room { HasRoom kept.now (size_of (variable.now ∷ [])) }
+    ensures ready { IfOk result (λ f. AreReady S.member kept.now f) }
+    ensures rising { IfOk result (λ f. AreRising (size_of (variable.now ∷ [])) f) }
+    ensures differ { IfOk result (λ f. DoDiffer S.member kept.now f) }
+    ensures rows { IfOk result (λ f. (c t : ℕ) → after S.member f (row_has S.member kept.now) c t
+        ≡ (if counts (variable.now ∷ []) c && holds (variable.now ∷ []) c then J.full judge.now c t else row_has S.member kept.now c t)) }
+{
+    let mut changes = Changes::new(alloc);
+    let own = variable.own;
+    if own >= variable.count {
+        return Ok(changes);
+    }
+    changes.note(alloc, kept, own, judge.judge(own))?;
+    Ok(changes)
 }
 
 /// The rows of all bindings, each judged from nothing, as for a query that is registered. It fails only where memory

@@ -6,6 +6,7 @@ ghost use Rattle.kept_rows.specs.Rows.{HasRoom, is_made, is_whole, page_has, row
 ghost use Rattle.kept_rows.specs.Turning.{AreAlike, IsNextTurn};
 
 use crate::change::spare_page;
+use crate::filled::Filled;
 use crate::page::{PAGE, Page};
 use crate::turning::Turning;
 use crate::turns::Turns;
@@ -18,6 +19,8 @@ use tick_set::TickSet;
 #[derive(Drop)]
 pub struct KeptRows<S: TickSet> {
     pages: Vec<Page<S>>,
+    // Which numbers may have a row.
+    filled: Filled,
     // Lent for a number whose page isn't made.
     nothing: S,
     // Until when the rows stay as they are: what time passes over.
@@ -25,7 +28,8 @@ pub struct KeptRows<S: TickSet> {
 }
 
 impl<S: TickSet> Model for KeptRows<S> {
-    ghost use Rattle.std.specs.Prelude.{◌≡◌, ℕ, List, false, length};
+    ghost use Rattle.std.specs.Prelude.{◌≡◌, ◌*◌, ℕ, List, false, length};
+    ghost use Rattle.kept_rows.specs.Filled.{AreFilled};
     ghost use Rattle.kept_rows.specs.Rows.{row_has};
     ghost use Rattle.kept_rows.specs.Turning.{AreSteady};
 
@@ -34,20 +38,24 @@ impl<S: TickSet> Model for KeptRows<S> {
     ghost view = { λ a. a.pages.items };
 
     ghost invariant = { λ a. ((t : ℕ) → S.member a.nothing t ≡ false)
+        × (length a.turns.rows.items ≡ length a.pages.items * 16)
         × (length a.turns.pages.items ≡ length a.pages.items)
-        × AreSteady (row_has S.member a.pages.items) a.turns };
+        × AreSteady (row_has S.member a.pages.items) a.turns
+        × AreFilled (row_has S.member a.pages.items) a.filled };
 }
 
 impl<S: TickSet> KeptRows<S> {
-    /// A table for the numbers below `size`, without rows. It takes some 1.8 bytes for each number.
+    /// A table for the numbers below `size`, without rows. It takes some 6.8 bytes for each number.
     pub fn new(alloc: Global, size: u32) -> Result<KeptRows<S>, AllocError>
         ensures room { IfOk result (λ rows. HasRoom rows size) }
         ensures none { IfOk result (λ rows. (c t : ℕ) → row_has S.member rows c t ≡ false) }
     {
         let pages = unmade(alloc, size as usize / PAGE + 1)?;
         let turns = Turns::new(alloc, pages.len())?;
+        let filled = Filled::new(alloc, pages.len() * PAGE)?;
         Ok(KeptRows {
             pages,
+            filled,
             nothing: S::empty(alloc),
             turns,
         })
@@ -59,6 +67,9 @@ impl<S: TickSet> KeptRows<S> {
         ensures { (t : ℕ) → S.member result.now t ≡ row_has S.member self.now number t }
     {
         let at = number as usize;
+        if self.filled.has_none(at) {
+            return &self.nothing;
+        }
         match self.pages.get(at / PAGE) {
             Some(page) => page.get(at % PAGE).unwrap_or(&self.nothing),
             None => &self.nothing,
@@ -70,14 +81,12 @@ impl<S: TickSet> KeptRows<S> {
         ensures some { IfSome result (IsNext (row_has S.member self.now) from to) }
         ensures none { IfNone result (HaveNone (row_has S.member self.now) from to) }
     {
-        let mut page_at = from as usize / PAGE;
-        let mut at = from as usize % PAGE;
-        'pages: while let Some(page) = self.page_below(page_at, to) {
-            if let Some(found) = page.next(at) {
-                return number_below(page_at * PAGE + found, to);
+        let mut number = self.filled.past_none(from as usize, to);
+        'pages: while let Some(page) = self.page_below(number / PAGE, to) {
+            if let Some(found) = page.next(number % PAGE) {
+                return number_below(number / PAGE * PAGE + found, to);
             }
-            page_at += 1;
-            at = 0;
+            number = self.filled.past_none((number / PAGE + 1) * PAGE, to);
         }
         None
     }
@@ -104,15 +113,7 @@ impl<S: TickSet> KeptRows<S> {
         if before < self.turns.seen || now < before {
             return self.next(from, to);
         }
-        let mut number = from;
-        'pages: while let Some(start) = self.turns.unsteady_from(number, to, now) {
-            let end = page_end(start, to);
-            if let Some(found) = self.next(start, end) {
-                return Some(found);
-            }
-            number = end;
-        }
-        None
+        self.turns.unsteady_from(from, to, now)
     }
 
     /// Whether the page of a number is made.
@@ -139,8 +140,9 @@ impl<S: Turning> KeptRows<S> {
             ≡ (if c == number then S.member ticks t else row_has S.member self.old c t) }
     {
         let end = ticks.steady_until(self.turns.seen);
-        self.turns.lower(number, end);
         let at = number as usize;
+        self.turns.lower(number, end);
+        self.filled.note(at, !ticks.is_empty());
         let page = &mut self.pages[at / PAGE];
         page.put(at % PAGE, ticks, spare);
     }
@@ -167,21 +169,6 @@ impl<S: Turning> KeptRows<S> {
         ensures { self.new ≡ self.old }
     {
         self.turns.renew(&self.pages, now);
-    }
-}
-
-// The end of the page of a number, or `to` if that comes first.
-#[inline]
-fn page_end(number: u32, to: u32) -> u32
-    requires { number < to }
-    ensures past { number < result }
-    ensures upto { result ≤ to }
-{
-    let left = PAGE as u32 - number % PAGE as u32;
-    if to - number > left {
-        number + left
-    } else {
-        to
     }
 }
 

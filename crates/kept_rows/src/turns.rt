@@ -1,7 +1,7 @@
 //! Until when rows stay as they are.
-ghost use Rattle.std.specs.Prelude.{◌≡◌, ◌<◌, ◌≤◌, ◌+◌, ◌*◌, ◌^◌, ◌==◌, ℕ, Bool, length, slice_index_or, if◌then◌else◌, IfOk, IfSome, IfNone};
+ghost use Rattle.std.specs.Prelude.{◌≡◌, ◌<◌, ◌≤◌, ◌+◌, ◌*◌, ◌/◌, ◌^◌, ◌==◌, ℕ, Bool, length, slice_index_or, if◌then◌else◌, IfOk, IfSome, IfNone};
 ghost use Rattle.kept_rows.specs.Rows.{row_has};
-ghost use Rattle.kept_rows.specs.Turning.{AreSteady, AreSteadyIn, HaveEnds, IsSteady};
+ghost use Rattle.kept_rows.specs.Turning.{AreSteady, AreSteadyIn, HaveEnds, HaveOwnEnds, IsSteady};
 
 use crate::page::{PAGE, Page};
 use crate::turning::Turning;
@@ -10,12 +10,13 @@ use std::alloc::{AllocError, Global};
 // How many pages share a group.
 const GROUP: usize = 64;
 
-/// Until when the rows of a table stay what they are at a tick: a tick for each page, and one for each group of
-/// pages, so that the passing of time looks at few numbers.
+/// Until when the rows of a table stay what they are at a tick: a tick for each row, one for each page and one for
+/// each group of pages, so that the passing of time looks at few numbers and at the rows that turn.
 #[derive(Drop)]
 pub(crate) struct Turns {
     /// The tick from which on the ends are told.
     pub(crate) seen: u32,
+    rows: Vec<u32>,
     pages: Vec<u32>,
     groups: Vec<u32>,
 }
@@ -23,10 +24,13 @@ pub(crate) struct Turns {
 impl Turns {
     /// For so many pages without ticks.
     pub(crate) fn new(alloc: Global, pages: usize) -> Result<Turns, AllocError>
-        ensures { IfOk result (λ turns. length turns.pages.items ≡ pages) }
+        requires { pages < 2 ^ 32 }
+        ensures rows { IfOk result (λ turns. length turns.rows.items ≡ pages * 16) }
+        ensures pages { IfOk result (λ turns. length turns.pages.items ≡ pages) }
     {
         Ok(Turns {
             seen: 0,
+            rows: vec![in alloc; u32::MAX; pages * PAGE]?,
             pages: vec![in alloc; u32::MAX; pages]?,
             groups: vec![in alloc; u32::MAX; pages / GROUP + 1]?,
         })
@@ -64,6 +68,8 @@ impl Turns {
             (group + 1) * GROUP * PAGE
         } else if end_at(&self.pages, page) > now {
             (page + 1) * PAGE
+        } else if end_at(&self.rows, number) > now {
+            number + 1
         } else {
             number
         }
@@ -72,11 +78,14 @@ impl Turns {
     /// Notes that the row of a number is written, with ticks that stay as they are up to `end`.
     pub(crate) fn lower(&mut self, number: u32, end: u32)
         ensures seen { self.new.seen ≡ self.old.seen }
-        ensures len { length self.new.pages.items ≡ length self.old.pages.items }
+        ensures rows { length self.new.rows.items ≡ length self.old.rows.items }
+        ensures pages { length self.new.pages.items ≡ length self.old.pages.items }
         ensures steady { (rows : ℕ → ℕ → Bool) (ticks : ℕ → Bool) → AreSteady rows self.old → IsSteady ticks self.old.seen end
             → AreSteady (λ c t. if c == number then ticks t else rows c t) self.new }
     {
-        let page = number as usize / PAGE;
+        let row = number as usize;
+        let page = row / PAGE;
+        lower_at(&mut self.rows, row, end);
         lower_at(&mut self.pages, page, end);
         lower_at(&mut self.groups, page / GROUP, end);
     }
@@ -84,9 +93,11 @@ impl Turns {
     /// Tells until when the rows of these pages stay as they are from tick `now` on, if that is after the tick that
     /// was seen. It looks only into pages that turn by then.
     pub(crate) fn renew<S: Turning>(&mut self, pages: &[Page<S>], now: u32)
-        requires len { length self.old.pages.items ≡ length pages.now }
+        requires rows { length self.old.rows.items ≡ length pages.now * 16 }
+        requires pages { length self.old.pages.items ≡ length pages.now }
         requires steady { AreSteady (row_has S.member pages.now) self.old }
-        ensures len { length self.new.pages.items ≡ length self.old.pages.items }
+        ensures rows { length self.new.rows.items ≡ length self.old.rows.items }
+        ensures pages { length self.new.pages.items ≡ length self.old.pages.items }
         ensures steady { AreSteady (row_has S.member pages.now) self.new }
     {
         if now <= self.seen {
@@ -98,9 +109,11 @@ impl Turns {
 
     // Tells anew until when the groups stay as they are that don't from the tick that was seen on.
     fn renew_groups<S: Turning>(&mut self, pages: &[Page<S>])
-        requires len { length self.old.pages.items ≡ length pages.now }
+        requires rows { length self.old.rows.items ≡ length pages.now * 16 }
+        requires pages { length self.old.pages.items ≡ length pages.now }
         requires steady { AreSteady (row_has S.member pages.now) self.old }
-        ensures len { length self.new.pages.items ≡ length self.old.pages.items }
+        ensures rows { length self.new.rows.items ≡ length self.old.rows.items }
+        ensures pages { length self.new.pages.items ≡ length self.old.pages.items }
         ensures steady { AreSteady (row_has S.member pages.now) self.new }
     {
         let count = self.groups.len().min(self.pages.len() / GROUP + 1);
@@ -115,16 +128,18 @@ impl Turns {
     fn renew_group<S: Turning>(&mut self, pages: &[Page<S>], group: usize)
         requires there { group < length self.old.groups.items }
         requires within { group * 64 ≤ length self.old.pages.items }
-        requires len { length self.old.pages.items ≡ length pages.now }
+        requires rows { length self.old.rows.items ≡ length pages.now * 16 }
+        requires pages { length self.old.pages.items ≡ length pages.now }
         requires steady { AreSteady (row_has S.member pages.now) self.old }
-        ensures len { length self.new.pages.items ≡ length self.old.pages.items }
+        ensures rows { length self.new.rows.items ≡ length self.old.rows.items }
+        ensures pages { length self.new.pages.items ≡ length self.old.pages.items }
         ensures groups { length self.new.groups.items ≡ length self.old.groups.items }
         ensures steady { AreSteady (row_has S.member pages.now) self.new }
     {
         if self.groups[group] > self.seen {
             return;
         }
-        let end = renew_pages(&mut self.pages, pages, group, self.seen);
+        let end = renew_pages(&mut self.pages, &mut self.rows, pages, group, self.seen);
         self.groups[group] = end;
     }
 }
@@ -153,11 +168,21 @@ fn lower_at(ends: &mut [u32], at: usize, end: u32)
 
 // Tells anew until when the pages of a group stay as they are that don't from tick `seen` on, and gives the least of
 // the group's ends.
-fn renew_pages<S: Turning>(ends: &mut [u32], pages: &[Page<S>], group: usize, seen: u32) -> u32
+fn renew_pages<S: Turning>(
+    ends: &mut [u32],
+    row_ends: &mut [u32],
+    pages: &[Page<S>],
+    group: usize,
+    seen: u32,
+) -> u32
     requires within { group * 64 ≤ length ends.old }
+    requires rows { length row_ends.old ≡ length pages.now * 16 }
     requires len { length ends.old ≡ length pages.now }
+    requires own { HaveOwnEnds (row_has S.member pages.now) seen row_ends.old }
     requires steady { HaveEnds 16 (row_has S.member pages.now) seen ends.old }
+    ensures rows { length row_ends.new ≡ length row_ends.old }
     ensures len { length ends.new ≡ length ends.old }
+    ensures own { HaveOwnEnds (row_has S.member pages.now) seen row_ends.new }
     ensures steady { HaveEnds 16 (row_has S.member pages.now) seen ends.new }
     ensures least { (i : ℕ) → group * 64 ≤ i → i < group * 64 + 64 → i < length ends.new → result ≤ slice_index_or ends.new i 0 }
 {
@@ -165,7 +190,7 @@ fn renew_pages<S: Turning>(ends: &mut [u32], pages: &[Page<S>], group: usize, se
     let mut at = group * GROUP;
     let to = ends.len().min(at + GROUP);
     'pages: while at < to {
-        renew_page(ends, pages, at, seen);
+        renew_page(ends, row_ends, pages, at, seen);
         least = least.min(ends[at]);
         at += 1;
     }
@@ -173,15 +198,60 @@ fn renew_pages<S: Turning>(ends: &mut [u32], pages: &[Page<S>], group: usize, se
 }
 
 // Tells anew until when a page stays as it is, if it doesn't from tick `seen` on.
-fn renew_page<S: Turning>(ends: &mut [u32], pages: &[Page<S>], at: usize, seen: u32)
+fn renew_page<S: Turning>(
+    ends: &mut [u32],
+    row_ends: &mut [u32],
+    pages: &[Page<S>],
+    at: usize,
+    seen: u32,
+)
     requires there { at < length ends.old }
+    requires rows { length row_ends.old ≡ length pages.now * 16 }
     requires len { length ends.old ≡ length pages.now }
+    requires own { HaveOwnEnds (row_has S.member pages.now) seen row_ends.old }
     requires steady { HaveEnds 16 (row_has S.member pages.now) seen ends.old }
+    ensures rows { length row_ends.new ≡ length row_ends.old }
     ensures len { length ends.new ≡ length ends.old }
     ensures others { (i : ℕ) → i < at → slice_index_or ends.new i 0 ≡ slice_index_or ends.old i 0 }
+    ensures own { HaveOwnEnds (row_has S.member pages.now) seen row_ends.new }
     ensures steady { HaveEnds 16 (row_has S.member pages.now) seen ends.new }
 {
     if ends[at] <= seen {
-        ends[at] = pages[at].steady_until(seen);
+        ends[at] = renew_rows(row_ends, pages, at, seen);
+    }
+}
+
+// Tells anew until when the rows of a page stay as they are that don't from tick `seen` on, and gives the least of
+// the page's ends.
+fn renew_rows<S: Turning>(ends: &mut [u32], pages: &[Page<S>], page: usize, seen: u32) -> u32
+    requires there { page < length pages.now }
+    requires len { length ends.old ≡ length pages.now * 16 }
+    requires own { HaveOwnEnds (row_has S.member pages.now) seen ends.old }
+    ensures len { length ends.new ≡ length ends.old }
+    ensures own { HaveOwnEnds (row_has S.member pages.now) seen ends.new }
+    ensures least { (c : ℕ) → c / 16 ≡ page → result ≤ slice_index_or ends.new c 0 }
+{
+    let mut least = u32::MAX;
+    let mut row = page * PAGE;
+    let to = row + PAGE;
+    'rows: while row < to {
+        renew_row(ends, pages, row, seen);
+        least = least.min(ends[row]);
+        row += 1;
+    }
+    least
+}
+
+// Tells anew until when a row stays as it is, if it doesn't from tick `seen` on.
+fn renew_row<S: Turning>(ends: &mut [u32], pages: &[Page<S>], row: usize, seen: u32)
+    requires there { row < length ends.old }
+    requires len { length ends.old ≡ length pages.now * 16 }
+    requires own { HaveOwnEnds (row_has S.member pages.now) seen ends.old }
+    ensures len { length ends.new ≡ length ends.old }
+    ensures others { (i : ℕ) → i < row → slice_index_or ends.new i 0 ≡ slice_index_or ends.old i 0 }
+    ensures own { HaveOwnEnds (row_has S.member pages.now) seen ends.new }
+{
+    if ends[row] <= seen {
+        ends[row] = pages[row / PAGE].steady_until(row % PAGE, seen);
     }
 }

@@ -1,25 +1,34 @@
-use Rattle.std.proofs.Common.{◌≡◌, ℕ, ◌/◌, ◌%◌, ◌<◌, eqb, Bool, length, length-set, ap, sym, subst, ◌∙◌, if◌then◌else◌}
+use Rattle.std.proofs.Common.{◌≡◌, ℕ, ◌*◌, ◌/◌, ◌<◌, eqb, Bool, length, length-set, set, ap, sym, subst, ◌∙◌, arith, if◌then◌else◌}
+use Rattle.std.proofs.lemmas.Bool.{not-false}
 use Rattle.std.proofs.lemmas.List.{get_or_default}
-use Rattle.kept_rows.specs.Rows.{page_has, row_has}
-use Rattle.kept_rows.proofs.PageLemmas.{row_has-set}
+use Rattle.kept_rows.specs.Rows.{row_has}
+use Rattle.kept_rows.proofs.FilledLemmas.{filled-alike}
+use Rattle.kept_rows.proofs.PageLemmas.{row_has-put}
 use Rattle.kept_rows.proofs.SteadyLemmas.{steady-alike}
 use Rattle.kept_rows.proofs.rows.KeptRows.put.Goals as goal
+
+pub returns-clause-rows : goal.returns-clause-rows
+returns-clause-rows g c = λ n t.
+    let there : c.args.number / 16 < length c.self.inside.pages.items = subst (λ xs. c.args.number / 16 < length xs) (sym c.self.view_is) c.requires.there in
+    row_has-put g.S.TickSet.member c.self.inside.pages.items c.args.number c.put.new.self c.index_mut-page.result.now c.args.ticks there
+    (c.index_mut-page.ensures.value ∙ get_or_default c.self.inside.pages.items (c.args.number / 16) _ _ there) c.put.ensures.has n t
+    ∙ ap (λ xs. if eqb n c.args.number then g.S.TickSet.member c.args.ticks t else row_has g.S.TickSet.member xs n t) c.self.view_is
 
 pub invariant_of-self : goal.invariant_of-self
 invariant_of-self g c =
     let member = g.S.TickSet.member in
     let rows : ℕ → ℕ → Bool = row_has g.S.TickSet.member c.self.inside.pages.items in
-    let len : length c.lower.new.self.pages.items ≡ length c.self.inside.pages.items = c.lower.ensures.len ∙ c.self.invariant.1 in
-    let has : (i t : ℕ) → page_has g.S.TickSet.member c.put.new.self i t
-    ≡ (if eqb i (c.args.number % 16) then g.S.TickSet.member c.args.ticks t else page_has g.S.TickSet.member c.index_mut-page.result.now i t) =
-    c.put.ensures.has in
-    let there : c.args.number / 16 < length c.self.inside.pages.items = subst (λ xs. c.args.number / 16 < length xs) (sym c.self.view_is) c.requires.there in (
+    let after : ℕ → ℕ → Bool = λ n t. if eqb n c.args.number then g.S.TickSet.member c.args.ticks t else rows n t in
+    let there : c.args.number / 16 < length c.self.inside.pages.items = subst (λ xs. c.args.number / 16 < length xs) (sym c.self.view_is) c.requires.there in
+    let len : length c.lower.new.self.pages.items ≡ length c.self.inside.pages.items = c.lower.ensures.pages ∙ c.self.invariant.2 in
+    let row_len : length c.lower.new.self.rows.items ≡ length c.self.inside.pages.items * 16 = c.lower.ensures.rows ∙ c.self.invariant.1 in
+    let written : (n t : ℕ) → row_has g.S.TickSet.member (set c.self.inside.pages.items (c.args.number / 16) c.put.new.self) n t ≡ after n t =
+    row_has-put g.S.TickSet.member c.self.inside.pages.items c.args.number c.put.new.self c.index_mut-page.result.now c.args.ticks there
+    (c.index_mut-page.ensures.value ∙ get_or_default c.self.inside.pages.items (c.args.number / 16) _ _ there) c.put.ensures.has in (
       c.self.invariant.0,
+      row_len ∙ ap (λ n. n * 16) (sym (length-set c.self.inside.pages.items (c.args.number / 16) c.put.new.self)),
       len ∙ sym (length-set c.self.inside.pages.items (c.args.number / 16) c.put.new.self),
-      steady-alike (λ n t. if eqb n c.args.number then member c.args.ticks t else rows n t) _ c.lower.new.self
-          (row_has-set member c.self.inside.pages.items c.args.number c.put.new.self c.args.ticks
-          there
-          (λ i t. has i t ∙ ap (λ xs. if eqb i (c.args.number % 16) then member c.args.ticks t else page_has member xs i t)
-          (c.index_mut-page.ensures.value ∙ get_or_default c.self.inside.pages.items (c.args.number / 16) _ _ there)))
-          (c.lower.ensures.steady rows (member c.args.ticks) c.self.invariant.2 c.steady_until-end.ensures),
+      steady-alike after _ c.lower.new.self written (c.lower.ensures.steady rows (member c.args.ticks) c.self.invariant.3 c.steady_until-end.ensures),
+      filled-alike after _ c.note.new.self written
+          (c.note.ensures rows (member c.args.ticks) c.self.invariant.4 (λ e. c.is_empty.ensures.0 (grind (arith, not-false, e)))),
     )
