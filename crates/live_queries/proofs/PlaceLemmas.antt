@@ -47,7 +47,7 @@ once xs ascend i j a b same = elim (cases_lt i j) [
 is_equal : (u w : ℕ) → u ≡ w → (u == w) ≡ true
 is_equal u w e = grind (arith, nat_tests, e)
 
-at_place : (xs : List ℕ) → IsStrictlyIncreasing xs → (at id : ℕ) → at < length xs → slice_index xs at ≡ id →
+pub at_place : (xs : List ℕ) → IsStrictlyIncreasing xs → (at id : ℕ) → at < length xs → slice_index xs at ≡ id →
     (p : ℕ) → p < length xs → (p == at) ≡ (slice_index xs p == id)
 at_place xs ascend at id there object p l =
     same_test (p == at) (slice_index xs p == id)

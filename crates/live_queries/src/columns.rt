@@ -101,7 +101,7 @@ pub(crate) fn numbers_of(alloc: Global, columns: &[Objects]) -> Result<Vec<Varia
 }
 
 /// The same with an object more for the variables of its class, if there is one more, and with the place of this
-/// object for each. It fails only where memory is out.
+/// object for each, which is looked for at a likely one first. It fails only where memory is out.
 pub(crate) fn numbers_with(
     alloc: Global,
     columns: &[Objects],
@@ -109,6 +109,7 @@ pub(crate) fn numbers_with(
     classes: &[ClassNo],
     class: ClassNo,
     id: u32,
+    likely: usize,
 ) -> Result<Vec<Variable>, AllocError>
     requires room { grows ≡ true → HaveRoomFor class classes.now columns.now }
     requires ascending { DoAscendWith grows class classes.now id columns.now }
@@ -118,7 +119,7 @@ pub(crate) fn numbers_with(
     let mut rest = columns;
     'columns: while let Some((column, later)) = rest.split_first() {
         let takes = grows && is_of_class(classes, column.variable(), class);
-        numbers.push(column.numbers_with(takes, id))?;
+        numbers.push(column.numbers_with(takes, id, likely))?;
         rest = later;
     }
     Ok(numbers)

@@ -114,6 +114,7 @@ pub(crate) fn new_rows<L: Ledger, M: Ledger>(
     rows: &KeptRows<IntervalSet>,
     id: u32,
     class: ClassNo,
+    likely: usize,
     grows: bool,
     store: &Store,
     regions: &Regions,
@@ -146,7 +147,7 @@ pub(crate) fn new_rows<L: Ledger, M: Ledger>(
     let classes = query.classes.items();
     let singles = singles(alloc, classes, store, class, id)?;
     let parts = parts_of(alloc, query, &singles, store, regions, w, reads, probes)?;
-    let numbers = numbers_with(alloc, columns, grows, classes, class, id)?;
+    let numbers = numbers_with(alloc, columns, grows, classes, class, id, likely)?;
     let judge = Parts {
         columns,
         object: id,

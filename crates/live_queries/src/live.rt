@@ -276,6 +276,15 @@ fn class_of(store: &Store, id: u32) -> ClassNo
     }
 }
 
+// Where the columns of a class are likely to have an object: at its place in the class. A hint alone, so that it is
+// searched for once and not again in each column.
+fn likely_place(store: &Store, class: ClassNo, id: u32) -> usize {
+    match store.class_names(class).binary_search(&id) {
+        Ok(place) => place,
+        Err(place) => place,
+    }
+}
+
 // What a write to an object of a class makes of each of these queries.
 fn renewals_of<L: Ledger, M: Ledger>(
     alloc: Global,
@@ -298,10 +307,11 @@ fn renewals_of<L: Ledger, M: Ledger>(
     ensures least { reads.old ≤ reads.new }
     ensures most { reads.new ≤ reads.old + write_reads (catalog_of store.now) (map registered queries.now) now class }
 {
+    let likely = likely_place(store, class, id);
     let mut renewals = Vec::with_capacity(alloc, queries.len())?;
     let mut rest = queries;
     'queries: while let Some((query, later)) = rest.split_first() {
-        let renewal = query.renewal(alloc, id, class, store, regions, now, reads, probes)?;
+        let renewal = query.renewal(alloc, id, class, likely, store, regions, now, reads, probes)?;
         renewals.push(renewal)?;
         rest = later;
     }

@@ -80,8 +80,8 @@ impl Objects {
     }
 
     /// How many objects there are and may be, with one more if the variable takes it, and the place of that object
-    /// among them.
-    pub(crate) fn numbers_with(&self, takes: bool, id: u32) -> Variable
+    /// among them, which is looked for at a likely one first.
+    pub(crate) fn numbers_with(&self, takes: bool, id: u32, likely: usize) -> Variable
         requires room { takes ≡ true → self.now.numbers.count < self.now.numbers.capacity }
         requires ascending { IsStrictlyIncreasing (ids_with takes id self.now) }
         ensures { IsVariableWith takes id self.now result }
@@ -97,7 +97,7 @@ impl Objects {
         Variable {
             count: numbers.count,
             capacity: numbers.capacity,
-            own: place_of(&self.ids, id, numbers.capacity),
+            own: place_of(&self.ids, id, likely, numbers.capacity),
         }
     }
 
@@ -186,16 +186,28 @@ pub(crate) fn add_object(
     add_object(later, grows, classes, class, id);
 }
 
-// The place of an object in a list that ascends, or another one where it isn't there.
-fn place_of(ids: &[u32], id: u32, other: u32) -> u32
+// The place of an object in a list that ascends, which is looked for at a likely one first, or another one where it
+// isn't there.
+fn place_of(ids: &[u32], id: u32, likely: usize, other: u32) -> u32
     requires ascending { IsStrictlyIncreasing ids.now }
     requires other { length ids.now ≤ other }
     ensures { (p : ℕ) → p < length ids.now → (p == result) ≡ (slice_index ids.now p == id) }
 {
+    if is_at(ids, likely, id) {
+        return likely as u32;
+    }
     match ids.binary_search(&id) {
         Ok(place) => place as u32,
         Err(_) => other,
     }
+}
+
+// Whether an object stands at this place.
+#[inline]
+fn is_at(ids: &[u32], place: usize, id: u32) -> bool
+    ensures { result ≡ true → (place < length ids.now) × (slice_index ids.now place ≡ id) }
+{
+    place < ids.len() && ids[place] == id
 }
 
 /// Whether a variable is of the class.

@@ -132,12 +132,14 @@ impl LiveQuery {
         })
     }
 
-    /// What a write to an object of a class makes of it. It fails only where memory is out.
+    /// What a write to an object of a class makes of it. The object's place is looked for at a likely one first. It
+    /// fails only where memory is out.
     pub(crate) fn renewal<L: Ledger, M: Ledger>(
         &self,
         alloc: Global,
         id: u32,
         class: ClassNo,
+        likely: usize,
         store: &Store,
         regions: &Regions,
         now: u32,
@@ -156,7 +158,9 @@ impl LiveQuery {
     {
         let count = class_count(store, class);
         let grows = lack(&self.columns, self.query.classes.items(), class, count);
-        let changes = self.new_rows(alloc, id, class, grows, store, regions, now, reads, probes)?;
+        let changes = self.new_rows(
+            alloc, id, class, likely, grows, store, regions, now, reads, probes,
+        )?;
         Ok(Renewal { grows, changes })
     }
 
@@ -167,6 +171,7 @@ impl LiveQuery {
         alloc: Global,
         id: u32,
         class: ClassNo,
+        likely: usize,
         grows: bool,
         store: &Store,
         regions: &Regions,
@@ -200,6 +205,7 @@ impl LiveQuery {
             &self.rows,
             id,
             class,
+            likely,
             grows,
             store,
             regions,
