@@ -11,6 +11,7 @@ pub mod ListLemmas
 pub mod MadeLemmas
 pub mod NumberingLemmas
 pub mod ObjectLemmas
+pub mod OneLemmas
 pub mod OrderLemmas
 pub mod PartLemmas
 pub mod PlaceLemmas

@@ -1,5 +1,5 @@
 //! The rows of queries by evaluation.
-ghost use Rattle.std.specs.Prelude.{◌≡◌, ◌<◌, ◌≤◌, ◌+◌, ◌-◌, ◌&&◌, ◌*◌, ℕ, true, List, length, map, IfOk, if◌then◌else◌};
+ghost use Rattle.std.specs.Prelude.{◌≡◌, ◌<◌, ◌≤◌, ◌+◌, ◌-◌, ◌&&◌, ◌*◌, ◌∷◌, ℕ, [], true, List, length, map, IfOk, if◌then◌else◌};
 ghost use Rattle.tick_set.specs.Runs.{spans_have};
 ghost use Rattle.tick_set.specs.Ticks.{within};
 ghost use Rattle.tick_set.specs.declared.spans.TheConstants.{LAST_TICK, SPAN_LIMIT};
@@ -19,12 +19,12 @@ ghost use Rattle.answers.specs.Objects.{IsOfAcceptedWrites};
 ghost use Rattle.live_queries.specs.Asked.{class_in};
 ghost use Rattle.live_queries.specs.Columns.{AreColumnsOf, AreCounted, Column, gives, object_of, order_of, variables_of};
 ghost use Rattle.live_queries.specs.Prepared.{AreColumnsWith, HaveRoomFor};
-ghost use Rattle.live_queries.specs.Written.{HaveObjectsWith};
+ghost use Rattle.live_queries.specs.Written.{HaveObjectsWith, takes};
 
 use crate::columns::{numbers_of, numbers_with};
 use crate::judging::{Parts, Whole};
-use crate::objects::{Objects, width};
-use crate::parts::{parts_of, singles};
+use crate::objects::{Objects, is_of_class, width};
+use crate::parts::{Part, domains_for, parts_of, singles};
 use answers::{domains_of, evaluate};
 use formula::{ClassNo, RQuery};
 use interval_set::IntervalSet;
@@ -32,6 +32,7 @@ use kept_rows::{Changes, KeptRows, judge_all, refresh};
 use object_store::Store;
 use polygon::Regions;
 use std::alloc::{AllocError, Global};
+use std::slice::from_ref;
 use std::sync::ledger::Ledger;
 use steps::Steps;
 use tick_set::{TickSet, Window};
@@ -145,6 +146,14 @@ pub(crate) fn new_rows<L: Ledger, M: Ledger>(
     ensures most { reads.new ≤ reads.old + change_reads (catalog_of store.now) (query_view query.now) (w.hi + 1 - w.lo) class }
 {
     let classes = query.classes.items();
+    if let Some((column, later)) = columns.split_first() {
+        if later.is_empty() && is_alone(classes, class) {
+            return new_row(
+                alloc, query, column, rows, id, class, likely, grows, store, regions, w, reads,
+                probes,
+            );
+        }
+    }
     let singles = singles(alloc, classes, store, class, id)?;
     let parts = parts_of(alloc, query, &singles, store, regions, w, reads, probes)?;
     let numbers = numbers_with(alloc, columns, grows, classes, class, id, likely)?;
@@ -156,4 +165,81 @@ pub(crate) fn new_rows<L: Ledger, M: Ledger>(
     };
     let changes = refresh(alloc, rows, &numbers, &judge)?;
     Ok(changes)
+}
+
+/// The same of a query of one variable, which is of the object's class: the one binding that holds the object is judged,
+/// and no list is made on the way.
+fn new_row<L: Ledger, M: Ledger>(
+    alloc: Global,
+    query: &RQuery,
+    column: &Objects,
+    rows: &KeptRows<IntervalSet>,
+    id: u32,
+    class: ClassNo,
+    likely: usize,
+    grows: bool,
+    store: &Store,
+    regions: &Regions,
+    w: Window,
+    reads: &mut Steps<L>,
+    probes: &mut Steps<M>,
+) -> Result<Changes<IntervalSet>, AllocError>
+    requires accepted { IsOfAcceptedWrites store.now }
+    requires resolved { IsResolved (query_view query.now) }
+    requires fits { FitsItsClasses (world_in store.now regions.now) (query_view query.now) }
+    requires there { id < length store.now.objects }
+    requires class { class ≡ class_in store.now id }
+    requires alone { query.now.classes ≡ class ∷ [] }
+    requires order { map (λ c. c.variable) (column.now ∷ []) ≡ order_of (query_view query.now) }
+    requires room { grows ≡ true → HaveRoomFor class query.now.classes (column.now ∷ []) }
+    requires objects { HaveObjectsWith (catalog_of store.now) grows class query.now.classes id (column.now ∷ []) }
+    requires counted { AreCounted (column.now ∷ []) }
+    requires size { size_of (variables_of (column.now ∷ [])) ≤ BINDING_LIMIT }
+    requires pages { HasRoom rows.now (size_of (variables_of (column.now ∷ []))) }
+    requires length { w.hi - w.lo ≤ SPAN_LIMIT }
+    ensures ready { IfOk result (λ f. AreReady spans_have rows.now f) }
+    ensures rising { IfOk result (λ f. AreRising (size_of (variables_of (column.now ∷ []))) f) }
+    ensures rows { IfOk result (λ f. (ds : List Column) → AreColumnsWith grows class query.now.classes id (column.now ∷ []) ds → (c t : ℕ)
+        → after spans_have f (row_has spans_have rows.now) c t
+        ≡ (if counts (variables_of ds) c && gives ds id c
+        then (within w.lo w.hi t && holds_full (world_in store.now regions.now) (query_view query.now) w.hi (object_of ds c) t)
+        else row_has spans_have rows.now c t)) }
+    ensures least { reads.old ≤ reads.new }
+    ensures most { reads.new ≤ reads.old + change_reads (catalog_of store.now) (query_view query.now) (w.hi + 1 - w.lo) class }
+{
+    let classes = query.classes.items();
+    let domains = domains_for(alloc, classes, store, id, 0)?;
+    let full = evaluate(alloc, query, &domains, store, regions, w, reads, probes)?;
+    let part = Part {
+        variable: 0,
+        rows: full,
+    };
+    let numbers = column.numbers_with(does_take(grows, classes, class, column), id, likely);
+    let judge = Parts {
+        columns: from_ref(column),
+        object: id,
+        parts: from_ref(&part),
+        nothing: IntervalSet::empty(alloc),
+    };
+    let changes = refresh(alloc, rows, from_ref(&numbers), &judge)?;
+    Ok(changes)
+}
+
+// Whether a column takes an object of the class as one more.
+#[inline]
+fn does_take(grows: bool, classes: &[ClassNo], class: ClassNo, column: &Objects) -> bool
+    ensures { result ≡ takes grows class classes.now column.now }
+{
+    grows && is_of_class(classes, column.variable(), class)
+}
+
+// Whether there is one class alone, which is this one.
+#[inline]
+fn is_alone(classes: &[ClassNo], class: ClassNo) -> bool
+    ensures { result ≡ true → classes.now ≡ class ∷ [] }
+{
+    match classes.split_first() {
+        Some((first, later)) => later.is_empty() && *first == class,
+        None => false,
+    }
 }
