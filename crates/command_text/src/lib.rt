@@ -4,6 +4,7 @@
 
 mod at;
 mod command;
+mod end;
 mod fault;
 mod forms;
 mod journal;

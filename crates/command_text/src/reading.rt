@@ -4,7 +4,7 @@ ghost use Rattle.std.specs.List.{list_any};
 ghost use Rattle.command_text.specs.Tree.{command_view};
 ghost use Rattle.command_text.specs.Line.{is_comment, is_ascii, has_other_byte, IsRead, Explains};
 ghost use Rattle.command_text.specs.GrammarLaws.{IsSpelled, IsFaultOf};
-ghost use Rattle.command_text.specs.inner.LineParts.{TellsBadPlace, IsReadLate, ExplainsLate};
+ghost use Rattle.command_text.specs.inner.LineParts.{IsBegun, TellsBadPlace};
 ghost use Rattle.ftl_lexer.specs.Tokens.{bad_place};
 ghost use Rattle.ftl_lexer.specs.declared.buffer.TheConstants.{LEXER_LIMIT};
 
@@ -59,30 +59,12 @@ fn cut(tokens: &mut Tokens, line: &[u8]) -> Result<(), CommandFault>
     }
 }
 
-/// The command of a line that has no byte too many and none other than a tab and 0x20 to 0x7E.
-#[tactic(auto, using(crate::proofs::reader::LineLemmas::late_steps))]
-fn read_ascii(alloc: Global, tokens: &mut Tokens, line: &[u8]) -> Result<Command, CommandFault>
-    requires { length line.now ≤ LEXER_LIMIT }
-    ensures ok { IfOk result (λ c. IsReadLate line.now (command_view c)) }
-    ensures cause { IfErr result (ExplainsLate line.now) }
-{
-    if is_comment(line) {
-        return Ok(Command::Nothing);
-    }
-    cut(tokens, line)?;
-    command(alloc, tokens)
-}
-
-/// The command of a line of at most `limit` bytes, or the first refusal that holds of it.
-#[tactic(auto, using(crate::proofs::reader::LineLemmas::first_steps))]
-fn read_line(
-    alloc: Global,
-    tokens: &mut Tokens,
-    line: &[u8],
-    limit: usize,
-) -> Result<Command, CommandFault>
+/// Whether a line of at most `limit` bytes is a comment, or the first of the first three refusals that holds. If it isn't
+/// one, its tokens are put in place of those of the line before.
+#[tactic(auto, using(crate::proofs::reader::LineLemmas::begin_steps))]
+fn begin(tokens: &mut Tokens, line: &[u8], limit: usize) -> Result<bool, CommandFault>
     requires { limit ≤ LEXER_LIMIT }
-    ensures ok { IfOk result (λ c. IsRead limit line.now (command_view c)) }
+    ensures ok { IfOk result (IsBegun limit line.now tokens.new) }
     ensures cause { IfErr result (Explains limit line.now) }
 {
     if line.len() > limit {
@@ -91,7 +73,11 @@ fn read_line(
     if has_other_byte(line) {
         return Err(CommandFault::Refused(Refusal::NotAscii));
     }
-    read_ascii(alloc, tokens, line)
+    if is_comment(line) {
+        return Ok(true);
+    }
+    cut(tokens, line)?;
+    Ok(false)
 }
 
 /// Reads lines one after another, and asks for memory for tokens only where a line is longer than all
@@ -114,7 +100,7 @@ impl LineReader {
     /// Reads a line of at most `limit` bytes: the command that its tokens spell. Refuses it by the first
     /// of the refusals 1 to 6 that holds; the first three are told without memory. `spelled` and `refused`
     /// say it by the grammar alone, `ok` and `cause` by the reader that computes it.
-    #[tactic(auto, using(crate::proofs::grammar::DerivedLines::answers_spelled))]
+    #[tactic(auto, using(crate::proofs::grammar::DerivedLines::answers_spelled, crate::proofs::grammar::DerivedLines::fault_told))]
     pub fn read(&mut self, line: &[u8], limit: usize) -> Result<Command, CommandFault>
         requires { limit ≤ LEXER_LIMIT }
         ensures spelled { IfOk result (λ c. IsSpelled limit line.now (command_view c)) }
@@ -122,7 +108,11 @@ impl LineReader {
         ensures ok { IfOk result (λ c. IsRead limit line.now (command_view c)) }
         ensures cause { IfErr result (Explains limit line.now) }
     {
-        read_line(self.alloc, &mut self.tokens, line, limit)
+        let comment = begin(&mut self.tokens, line, limit)?;
+        if comment {
+            return Ok(Command::Nothing);
+        }
+        command(self.alloc, &self.tokens)
     }
 }
 

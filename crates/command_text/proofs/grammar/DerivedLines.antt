@@ -201,7 +201,7 @@ read_spelled limit line c read = record {
   other = λ other. (((lines_are_read limit line).other other c).0 read).1;
 }
 
-fault_told : (limit : ℕ) (line : List ℕ) (fault : CommandFault) → Explains limit line fault → IsFaultOf limit line fault
+pub fault_told : (limit : ℕ) (line : List ℕ) (fault : CommandFault) → Explains limit line fault → IsFaultOf limit line fault
 fault_told limit line (faults.Refused r) is = (lines_are_refused limit line r).0 is
 fault_told limit line faults.NoMemory is = is
 

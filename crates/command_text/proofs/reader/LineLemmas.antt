@@ -1,7 +1,8 @@
 -- From the tokens of a line to the line.
-use Rattle.command_text.proofs.Names.{◌≡◌, ℕ, Bool, true, false, List, [], ◌∷◌, map, Option, Some, None, option_map, refl, sym, ◌∙◌, ap, subst, Result, Ok, Err, IfOk, MatchResult, is_none, is_some, not, ◌&&◌, if◌then◌else◌, Token, Lexeme, bad_place, tokens_of, bytes_of_token, At, Command, CommandFault, Refusal, CommandTree, command_view, piece_of, pieces, Reader, Read, front, at_first, command, command_of, standing, first_that_holds, is_comment, is_too_long, has_other_byte, has_bad_token, command_in, early_refusal, late_refusal, first_refusal, or_else, IsRead, refusal_behind, IsWhole, Refuses, TellsBadPlace, IsReadLate, ExplainsLate}
+use Rattle.command_text.proofs.Names.{◌≡◌, ℕ, Bool, true, false, List, [], ◌∷◌, Option, Some, None, option_map, refl, sym, ◌∙◌, ap, subst, Result, Ok, Err, IfOk, IfErr, MatchResult, is_none, is_some, not, ◌&&◌, if◌then◌else◌, ◌>>=◌, bad_place, At, Command, CommandFault, Refusal, CommandTree, command_view, Kind, Piece, piece_of, pieces, Reader, Read, front, next, at_first, by_token, ended, to_end, command_begun, command, command_of, standing, first_that_holds, is_comment, is_too_long, has_other_byte, has_bad_token, command_in, early_refusal, late_refusal, first_refusal, or_else, IsBegun, IsRead, IsWhole, Refuses, TellsBadPlace}
 use Rattle.command_text.specs.declared.fault.CommandFault.TheVariants as faults
 use Rattle.command_text.specs.declared.refusal.Refusal.TheVariants as refusals
+use Rattle.ftl_lexer.specs.declared.kinds.Kind.TheVariants as kinds
 use Rattle.command_text.specs.Tree
 use Rattle.command_text.specs.Line.{Explains}
 
@@ -9,43 +10,52 @@ use Rattle.command_text.specs.Line.{Explains}
 abbrev first_place : At
 first_place = record { place = 0; fit = true; small = true }
 
-front_of_none : (line : List ℕ) (ts : List Token) → ts ≡ [] → is_none
-    (front (map (λ (l : Lexeme). piece_of l.0 l.1) (map (λ (t : Token). (t.kind, bytes_of_token line t)) ts))) ≡ true
-front_of_none line [] e = refl
-front_of_none line (t ∷ ts) e = absurd (cc)
+-- a line of which the reader finds no token, or a first one
+front_past_none : (ps : List Piece) (fit small : Bool) → next (record { rest = ps; fit = fit; small = small }) ≡ None → is_none (front ps) ≡ true
+unfolding next
+front_past_none [] fit small e = refl
+front_past_none (p ∷ ps) fit small e = absurd (cc e)
 
-front_of_some : (line : List ℕ) (ts : List Token) → (ts ≡ [] → ⊥)
-    → is_none (front (map (λ (l : Lexeme). piece_of l.0 l.1) (map (λ (t : Token). (t.kind, bytes_of_token line t)) ts))) ≡ false
-front_of_some line [] h = absurd (h refl)
-front_of_some line (t ∷ ts) h = refl
+front_of_some : (ps : List Piece) (fit small : Bool) (t : Piece × Reader) → next (record { rest = ps; fit = fit; small = small }) ≡ Some t
+    → is_none (front ps) ≡ false
+unfolding next
+front_of_some [] fit small t e = absurd (cc e)
+front_of_some (p ∷ ps) fit small t e = refl
 
-blank_line : (line : List ℕ) → tokens_of line ≡ [] → command_of (pieces line) ≡ Some (Tree.Nothing, at_first [])
+blank_line : (line : List ℕ) → next (standing line first_place) ≡ None → command_of (pieces line) ≡ Some (Tree.Nothing, at_first [])
 unfolding command_of
-blank_line line e = ap (λ b. if b then Some (Tree.Nothing, at_first []) else command (at_first (pieces line))) (front_of_none line (tokens_of line) e)
+blank_line line e =
+    ap (λ b. if b then Some (Tree.Nothing, at_first []) else command (at_first (pieces line))) (front_past_none (pieces line) true true e)
 
-other_line : (line : List ℕ) → (tokens_of line ≡ [] → ⊥) → command_of (pieces line) ≡ command (standing line first_place)
-unfolding command_of
-other_line line h = ap (λ b. if b then Some (Tree.Nothing, at_first []) else command (at_first (pieces line))) (front_of_some line (tokens_of line) h)
+begun_line : (line : List ℕ) (t : Piece × Reader) → next (standing line first_place) ≡ Some t
+    → command_of (pieces line) ≡ (to_end (by_token t.0 t.1))
+unfolding command_of command command_begun
+begun_line line t e =
+    ap (λ b. if b then Some (Tree.Nothing, at_first []) else command (at_first (pieces line))) (front_of_some (pieces line) true true t e)
+    ∙ ap (λ (o : Read Piece). to_end (o >>= (λ t. by_token t.0 t.1))) e
 
-pub blank_whole : (line : List ℕ) → tokens_of line ≡ [] → IsWhole (command_of (pieces line)) Tree.Nothing
+pub blank_whole : (line : List ℕ) → next (standing line first_place) ≡ None → IsWhole (command_of (pieces line)) Tree.Nothing
 blank_whole line e = record { taken = ap late_refusal (blank_line line e); command = ap (option_map (λ (r : CommandTree × Reader). r.0)) (blank_line line e) }
 
-pub line_whole : (line : List ℕ) (c : CommandTree) → (tokens_of line ≡ [] → ⊥) → IsWhole (command (standing line first_place)) c
-    → IsWhole (command_of (pieces line)) c
-line_whole line c h w = subst (λ (o : Read CommandTree). IsWhole o c) (sym (other_line line h)) w
-
-pub line_refused : (line : List ℕ) (e : CommandFault) → (tokens_of line ≡ [] → ⊥) → Refuses (command (standing line first_place)) e
-    → Refuses (command_of (pieces line)) e
-line_refused line e h r = subst (λ (o : Read CommandTree). Refuses o e) (sym (other_line line h)) r
-
 -- a line with tokens, whatever its command answers
-pub line_either : (line : List ℕ) (r : Result Command CommandFault) → (tokens_of line ≡ [] → ⊥) →
-    MatchResult r (λ c. IsWhole (command (standing line first_place)) (command_view c)) (Refuses (command (standing line first_place))) →
+pub begun_either : (line : List ℕ) (t : Piece × Reader) (r : Result Command CommandFault) → next (standing line first_place) ≡ Some t →
+    MatchResult r (λ c. IsWhole (to_end (by_token t.0 t.1)) (command_view c)) (Refuses (to_end (by_token t.0 t.1))) →
     MatchResult r (λ c. IsWhole (command_of (pieces line)) (command_view c)) (Refuses (command_of (pieces line)))
-line_either line (Ok c) h w = line_whole line (command_view c) h w
-line_either line (Err e) h r = line_refused line e h r
+begun_either line t r e h =
+    subst (λ (o : Read CommandTree). MatchResult r (λ c. IsWhole o (command_view c)) (Refuses o)) (sym (begun_line line t e)) h
 
-pub ruleset line_steps = (blank_whole, line_whole, line_refused)
+-- a line whose first token begins no command
+pub nothing_begun : (line : List ℕ) (t : Piece × Reader) (e : CommandFault) → next (standing line first_place) ≡ Some t
+    → Refuses (to_end (by_token t.0 t.1)) e → Refuses (command_of (pieces line)) e
+nothing_begun line t fault e h = subst (λ (o : Read CommandTree). Refuses o fault) (sym (begun_line line t e)) h
+
+pub other_token : (k : Kind) (bytes : List ℕ) (s : Reader) (fault : CommandFault) → ((code : ℕ) → k ≡ kinds.Key code → ⊥) → (k ≡ kinds.Name → ⊥)
+    → fault ≡ faults.Refused refusals.BadSyntax → Refuses (to_end (by_token (piece_of k bytes) s)) fault
+other_token (kinds.Key code) bytes s fault key name e = absurd (key code refl)
+other_token kinds.Name bytes s fault key name e = absurd (name refl)
+other_token kinds.Number bytes s fault key name e = subst (λ (f : CommandFault). Refuses {A = CommandTree} None f) (sym e) (refl, refl)
+other_token kinds.Text bytes s fault key name e = subst (λ (f : CommandFault). Refuses {A = CommandTree} None f) (sym e) (refl, refl)
+other_token (kinds.Sym code) bytes s fault key name e = subst (λ (f : CommandFault). Refuses {A = CommandTree} None f) (sym e) (refl, refl)
 
 comment_in : (line : List ℕ) → is_comment line ≡ true → command_in line ≡ Some (Tree.Nothing, at_first [])
 unfolding command_in
@@ -61,81 +71,92 @@ bad_in_comment line e = ap (λ b. not b && is_some (bad_place line)) e
 bad_in_other : (line : List ℕ) (o : Option ℕ) → is_comment line ≡ false → bad_place line ≡ o → has_bad_token line ≡ is_some o
 bad_in_other line o e d = ap (λ b. not b && is_some (bad_place line)) e ∙ ap is_some d
 
-behind_good : (line : List ℕ) (found : Read CommandTree) → has_bad_token line ≡ false → command_in line ≡ found → refusal_behind line ≡ late_refusal found
-behind_good line found e d = ap (λ b. if b then Some refusals.BadToken else late_refusal (command_in line)) e ∙ ap late_refusal d
-
-behind_bad : (line : List ℕ) → has_bad_token line ≡ true → refusal_behind line ≡ Some refusals.BadToken
-behind_bad line e = ap (λ b. if b then Some refusals.BadToken else late_refusal (command_in line)) e
-
-pub comment_read : (line : List ℕ) → is_comment line ≡ true → IsReadLate line Tree.Nothing
-comment_read line e = record {
-  taken = behind_good line (Some (Tree.Nothing, at_first [])) (bad_in_comment line e) (comment_in line e);
-  command = ap (option_map (λ (r : CommandTree × Reader). r.0)) (comment_in line e);
-}
-
-pub other_read : (line : List ℕ) (c : CommandTree) → is_comment line ≡ false → bad_place line ≡ None → IsWhole (command_of (pieces line)) c → IsReadLate line c
-other_read line c e d w = record {
-  taken = behind_good line (command_of (pieces line)) (bad_in_other line None e d) (other_in line e) ∙ w.taken;
-  command = ap (option_map (λ (r : CommandTree × Reader). r.0)) (other_in line e) ∙ w.command;
-}
-
-pub other_refused : (line : List ℕ) (fault : CommandFault) → is_comment line ≡ false → bad_place line ≡ None
-    → Refuses (command_of (pieces line)) fault → ExplainsLate line fault
-other_refused line (faults.Refused r) e d h = behind_good line (command_of (pieces line)) (bad_in_other line None e d) (other_in line e) ∙ h.0
-other_refused line faults.NoMemory e d h = bad_in_other line None e d
-
-pub bad_refused : (line : List ℕ) (fault : CommandFault) → is_comment line ≡ false → TellsBadPlace line fault → ExplainsLate line fault
-bad_refused line (faults.Refused r) e h = behind_bad line (bad_in_other line (bad_place line) e refl ∙ h.1) ∙ ap Some (sym h.0)
-bad_refused line faults.NoMemory e h = bad_in_other line None e h
-
--- a line that is no comment, whatever its command answers
-pub other_either : (line tokens : List ℕ) (r : Result Command CommandFault) → is_comment line ≡ false → tokens ≡ line → bad_place line ≡ None →
-    MatchResult r (λ c. IsWhole (command_of (pieces tokens)) (command_view c)) (Refuses (command_of (pieces tokens)))
-    → IfOk r (λ c. IsReadLate line (command_view c))
-other_either line tokens (Ok c) e same good w = other_read line (command_view c) e good
-    (subst (λ (l : List ℕ). IsWhole (command_of (pieces l)) (command_view c)) same w)
-other_either line tokens (Err fault) e same good r = tt
-
-pub ruleset late_steps = (comment_read, other_read, other_refused, bad_refused)
-
 -- the first refusal by whether the first three hold
-abbrev first_by : Bool → Bool → Bool → Read CommandTree → Option Refusal
-first_by long other bad found =
-    or_else (first_that_holds ((refusals.LineTooLong, long) ∷ (refusals.NotAscii, other) ∷ (refusals.BadToken, bad) ∷ [])) (late_refusal found)
+abbrev early_by : Bool → Bool → Bool → Option Refusal
+early_by long other bad = first_that_holds ((refusals.LineTooLong, long) ∷ (refusals.NotAscii, other) ∷ (refusals.BadToken, bad) ∷ [])
 
-behind_three : (bad : Bool) (found : Read CommandTree) → first_by false false bad found ≡ (if bad then Some refusals.BadToken else late_refusal found)
-behind_three true found = refl
-behind_three false found = refl
+early_first : (limit : ℕ) (line : List ℕ) (r : Refusal) → early_refusal limit line ≡ Some r → first_refusal limit line ≡ Some r
+early_first limit line r e = ap (λ o. or_else o (late_refusal (command_in line))) e
 
-first_behind : (limit : ℕ) (line : List ℕ) → is_too_long limit line ≡ false → has_other_byte line ≡ false → first_refusal limit line ≡ refusal_behind line
-first_behind limit line e d =
-    ap (λ long. first_by long (has_other_byte line) (has_bad_token line) (command_in line)) e
-    ∙ ap (λ other. first_by false other (has_bad_token line) (command_in line)) d
-    ∙ behind_three (has_bad_token line) (command_in line)
-
-early_behind : (limit : ℕ) (line : List ℕ) → is_too_long limit line ≡ false → has_other_byte line ≡ false → has_bad_token line ≡ false
-    → early_refusal limit line ≡ None
-early_behind limit line e d b =
-    ap (λ long. first_that_holds ((refusals.LineTooLong, long) ∷ (refusals.NotAscii, has_other_byte line) ∷ (refusals.BadToken, has_bad_token line) ∷ [])) e
-    ∙ ap (λ other. first_that_holds ((refusals.LineTooLong, false) ∷ (refusals.NotAscii, other) ∷ (refusals.BadToken, has_bad_token line) ∷ [])) d
-    ∙ ap (λ bad. first_that_holds ((refusals.LineTooLong, false) ∷ (refusals.NotAscii, false) ∷ (refusals.BadToken, bad) ∷ [])) b
-
-pub line_read : (limit : ℕ) (line : List ℕ) (c : CommandTree) → is_too_long limit line ≡ false → has_other_byte line ≡ false
-    → IsReadLate line c → IsRead limit line c
-line_read limit line c e d r = record { taken = first_behind limit line e d ∙ r.taken; command = r.command }
-
-pub line_explained : (limit : ℕ) (line : List ℕ) (fault : CommandFault) → is_too_long limit line ≡ false → has_other_byte line ≡ false
-    → ExplainsLate line fault → Explains limit line fault
-line_explained limit line (faults.Refused r) e d h = first_behind limit line e d ∙ h
-line_explained limit line faults.NoMemory e d h = early_behind limit line e d h
+early_passed : (limit : ℕ) (line : List ℕ) (bad : Bool) → is_too_long limit line ≡ false → has_other_byte line ≡ false → has_bad_token line ≡ bad
+    → early_refusal limit line ≡ early_by false false bad
+early_passed limit line bad e d b =
+    ap (λ long. early_by long (has_other_byte line) (has_bad_token line)) e ∙ ap (λ other. early_by false other (has_bad_token line)) d
+    ∙ ap (early_by false false) b
 
 pub too_long : (limit : ℕ) (line : List ℕ) → is_too_long limit line ≡ true → Explains limit line (faults.Refused refusals.LineTooLong)
-too_long limit line e = ap (λ long. first_by long (has_other_byte line) (has_bad_token line) (command_in line)) e
+too_long limit line e =
+    early_first limit line refusals.LineTooLong (ap (λ long. early_by long (has_other_byte line) (has_bad_token line)) e)
 
 pub not_ascii : (limit : ℕ) (line : List ℕ) → is_too_long limit line ≡ false → has_other_byte line ≡ true
     → Explains limit line (faults.Refused refusals.NotAscii)
 not_ascii limit line e d =
-    ap (λ long. first_by long (has_other_byte line) (has_bad_token line) (command_in line)) e
-    ∙ ap (λ other. first_by false other (has_bad_token line) (command_in line)) d
+    early_first limit line refusals.NotAscii
+    (ap (λ long. early_by long (has_other_byte line) (has_bad_token line)) e ∙ ap (λ other. early_by false other (has_bad_token line)) d)
 
-pub ruleset first_steps = (line_read, line_explained, too_long, not_ascii)
+pub comment_begun : (limit : ℕ) (line tokens : List ℕ) → is_too_long limit line ≡ false → has_other_byte line ≡ false → is_comment line ≡ true
+    → IsBegun limit line tokens true
+comment_begun limit line tokens e d c = record {
+  early = early_passed limit line false e d (bad_in_comment line c);
+  comment = c;
+  cut = λ clash. absurd (cc clash);
+}
+
+pub cut_begun : (limit : ℕ) (line tokens : List ℕ) → is_too_long limit line ≡ false → has_other_byte line ≡ false → is_comment line ≡ false
+    → tokens ≡ line → bad_place line ≡ None → IsBegun limit line tokens false
+cut_begun limit line tokens e d c same good = record {
+  early = early_passed limit line false e d (bad_in_other line None c good);
+  comment = c;
+  cut = λ other. same;
+}
+
+pub bad_explained : (limit : ℕ) (line : List ℕ) (fault : CommandFault) → is_too_long limit line ≡ false → has_other_byte line ≡ false
+    → is_comment line ≡ false → TellsBadPlace line fault → Explains limit line fault
+bad_explained limit line (faults.Refused r) e d c h =
+    early_first limit line r (early_passed limit line true e d (bad_in_other line (bad_place line) c refl ∙ h.1) ∙ ap Some (sym h.0))
+bad_explained limit line faults.NoMemory e d c h = early_passed limit line false e d (bad_in_other line None c h)
+
+pub ruleset begin_steps = (too_long, not_ascii, comment_begun, cut_begun, bad_explained)
+
+-- what is read of a line that was begun
+late_first : (limit : ℕ) (line : List ℕ) (found : Read CommandTree) → early_refusal limit line ≡ None → command_in line ≡ found
+    → first_refusal limit line ≡ late_refusal found
+late_first limit line found e d = ap (λ o. or_else o (late_refusal (command_in line))) e ∙ ap late_refusal d
+
+pub comment_read : (limit : ℕ) (line tokens : List ℕ) (told : Bool) → IsBegun limit line tokens told → told ≡ true → IsRead limit line Tree.Nothing
+comment_read limit line tokens told begun is =
+    let comment : is_comment line ≡ true = begun.comment ∙ is in
+    record {
+      taken = late_first limit line (Some (Tree.Nothing, at_first [])) begun.early (comment_in line comment);
+      command = ap (option_map (λ (r : CommandTree × Reader). r.0)) (comment_in line comment);
+    }
+
+pub other_read : (limit : ℕ) (line tokens : List ℕ) (told : Bool) (c : CommandTree) → IsBegun limit line tokens told → told ≡ false
+    → IsWhole (command_of (pieces line)) c → IsRead limit line c
+other_read limit line tokens told c begun is whole =
+    let other : is_comment line ≡ false = begun.comment ∙ is in
+    record {
+      taken = late_first limit line (command_of (pieces line)) begun.early (other_in line other) ∙ whole.taken;
+      command = ap (option_map (λ (r : CommandTree × Reader). r.0)) (other_in line other) ∙ whole.command;
+    }
+
+pub whole_read : (limit : ℕ) (line tokens : List ℕ) (told : Bool) (r : Result Command CommandFault) → IsBegun limit line tokens told → told ≡ false →
+    MatchResult r (λ c. IsWhole (command_of (pieces tokens)) (command_view c)) (Refuses (command_of (pieces tokens)))
+    → IfOk r (λ c. IsRead limit line (command_view c))
+whole_read limit line tokens told (Err fault) begun is h = tt
+whole_read limit line tokens told (Ok c) begun is h =
+    other_read limit line tokens told (command_view c) begun is
+    (subst (λ (l : List ℕ). IsWhole (command_of (pieces l)) (command_view c)) (begun.cut is) h)
+
+refused_read : (limit : ℕ) (line : List ℕ) (fault : CommandFault) → early_refusal limit line ≡ None → is_comment line ≡ false
+    → Refuses (command_of (pieces line)) fault → Explains limit line fault
+refused_read limit line (faults.Refused r) e d h = late_first limit line (command_of (pieces line)) e (other_in line d) ∙ h.0
+refused_read limit line faults.NoMemory e d h = e
+
+pub whole_explained : (limit : ℕ) (line tokens : List ℕ) (told : Bool) (r : Result Command CommandFault) → IsBegun limit line tokens told →
+    told ≡ false → MatchResult r (λ c. IsWhole (command_of (pieces tokens)) (command_view c)) (Refuses (command_of (pieces tokens)))
+    → IfErr r (Explains limit line)
+whole_explained limit line tokens told (Ok c) begun is h = tt
+whole_explained limit line tokens told (Err fault) begun is h =
+    refused_read limit line fault begun.early (begun.comment ∙ is)
+    (subst (λ (l : List ℕ). Refuses (command_of (pieces l)) fault) (begun.cut is) h)

@@ -1,5 +1,5 @@
 -- What becomes of a part that isn't read, and of a command at the end of its tokens.
-use Rattle.command_text.proofs.Names.{◌≡◌, ℕ, zero, suc, ◌<◌, ◌≤◌, true, false, List, [], ◌∷◌, length, map, Option, Some, None, option_map, refl, sym, ◌∙◌, ap, subst, arith, is_none, if◌then◌else◌, Result, Ok, Err, MatchResult, length-map, ◌>>=◌, Token, Lexeme, lexemes, tokens_of, bytes_of_token, At, Command, CommandFault, Refusal, CommandTree, command_view, piece_of, Reader, Read, front, command_begun, ended, command, Stops, standing, late_refusal, is_at_end, IsWhole, Refuses, Judges}
+use Rattle.command_text.proofs.Names.{◌≡◌, ℕ, zero, suc, ◌<◌, ◌≤◌, true, false, List, [], ◌∷◌, length, map, Some, None, option_map, refl, sym, ◌∙◌, ap, subst, arith, is_none, if◌then◌else◌, length-map, ◌>>=◌, Token, Lexeme, lexemes, tokens_of, bytes_of_token, At, CommandFault, CommandTree, piece_of, Reader, Read, front, ended, to_end, Stops, standing, late_refusal, is_at_end, IsWhole, Refuses, RefusesAtEnd}
 use Rattle.std.proofs.Common.{drop}
 use Rattle.command_text.specs.declared.fault.CommandFault.TheVariants as faults
 use Rattle.command_text.specs.declared.refusal.Refusal.TheVariants as refusals
@@ -36,8 +36,6 @@ pub mapped_part : {A B : Type 0} (part : Read A) (f : A → B) (e : CommandFault
 mapped_part part f (faults.Refused r) h = (same_late f part ∙ h.0, same_end f part ∙ h.1)
 mapped_part part f faults.NoMemory h = tt
 
-pub ruleset refused_steps = (no_part, behind_part, mapped_part)
-
 -- tokens that are left, and none that are left
 left_over : (ts : List Lexeme) (place : ℕ) → place < length ts → is_none (front (drop place (map (λ t. piece_of t.0 t.1) ts))) ≡ false
 left_over [] place h = absurd (omega arith)
@@ -60,9 +58,9 @@ at_end line at h =
     ap is_none (front_past (lexemes line) at.place past)
 
 -- what a command that was read is judged by
-pub judged_early : (line : List ℕ) (at : At) (c : CommandTree) → at.place < length (tokens_of line)
-    → Refuses (ended (c, standing line at)) (faults.Refused refusals.BadSyntax)
-judged_early line at c h = none_refused (ended (c, standing line at)) (ended_early line at c h)
+pub judged_early : (line : List ℕ) (at : At) → at.place < length (tokens_of line)
+    → RefusesAtEnd (standing line at) (faults.Refused refusals.BadSyntax)
+judged_early line at h = record { refuses = λ c. none_refused (ended (c, standing line at)) (ended_early line at c h) }
 
 late_unfit : (c : CommandTree) (s : Reader) → s.fit ≡ false → late_refusal (Some (c, s)) ≡ Some refusals.NumberRange
 late_unfit c s e = ap (λ fit. late_refusal (Some (c, record { rest = s.rest; fit = fit; small = s.small }))) e
@@ -75,15 +73,23 @@ late_none : (c : CommandTree) (s : Reader) → s.fit ≡ true → s.small ≡ tr
 late_none c s e d = ap (λ fit. late_refusal (Some (c, record { rest = s.rest; fit = fit; small = s.small }))) e
     ∙ ap (λ small. late_refusal (Some (c, record { rest = s.rest; fit = true; small = small }))) d
 
-pub judged_unfit : (line : List ℕ) (at : At) (c : CommandTree) → length (tokens_of line) ≤ at.place → at.fit ≡ false →
-    Refuses (ended (c, standing line at)) (faults.Refused refusals.NumberRange)
-judged_unfit line at c h e =
-    (ap late_refusal (ended_whole line at c h) ∙ late_unfit c (standing line at) e, ap is_at_end (ended_whole line at c h) ∙ at_end line at h)
+pub judged_unfit : (line : List ℕ) (at : At) → length (tokens_of line) ≤ at.place → at.fit ≡ false
+    → RefusesAtEnd (standing line at) (faults.Refused refusals.NumberRange)
+judged_unfit line at h e = record {
+  refuses = λ c. (
+    ap late_refusal (ended_whole line at c h) ∙ late_unfit c (standing line at) e,
+    ap is_at_end (ended_whole line at c h) ∙ at_end line at h,
+  );
+}
 
-pub judged_large : (line : List ℕ) (at : At) (c : CommandTree) → length (tokens_of line) ≤ at.place → at.fit ≡ true → at.small ≡ false →
-    Refuses (ended (c, standing line at)) (faults.Refused refusals.TooLarge)
-judged_large line at c h e d =
-    (ap late_refusal (ended_whole line at c h) ∙ late_large c (standing line at) e d, ap is_at_end (ended_whole line at c h) ∙ at_end line at h)
+pub judged_large : (line : List ℕ) (at : At) → length (tokens_of line) ≤ at.place → at.fit ≡ true → at.small ≡ false
+    → RefusesAtEnd (standing line at) (faults.Refused refusals.TooLarge)
+judged_large line at h e d = record {
+  refuses = λ c. (
+    ap late_refusal (ended_whole line at c h) ∙ late_large c (standing line at) e d,
+    ap is_at_end (ended_whole line at c h) ∙ at_end line at h,
+  );
+}
 
 pub judged_whole : (line : List ℕ) (at : At) (c : CommandTree) → length (tokens_of line) ≤ at.place → at.fit ≡ true → at.small ≡ true →
     IsWhole (ended (c, standing line at)) c
@@ -96,49 +102,30 @@ judged_whole line at c h e d =
 
 pub ruleset at_the_end = (judged_early, judged_unfit, judged_large, judged_whole)
 
--- a command that takes no memory, by its reader
-pub part_gives : (line : List ℕ) (found : Option (Command × At)) (o : Read CommandTree) (result : Result (Command × At) CommandFault) →
-    option_map (λ r. (command_view r.0, standing line r.1)) found ≡ o →
-    MatchResult result (λ r. found ≡ Some r) (λ e. (found ≡ None) × (e ≡ faults.Refused refusals.BadSyntax)) →
-    MatchResult result (λ r. o ≡ Some (command_view r.0, standing line r.1)) (Refuses o)
-part_gives line found o (Ok r) e h = sym e ∙ ap (option_map (λ (r : Command × At). (command_view r.0, standing line r.1))) h
-part_gives line found o (Err fault) e h =
-    subst (Refuses o) (sym h.1) (none_refused o (sym e ∙ ap (option_map (λ (r : Command × At). (command_view r.0, standing line r.1))) h.0))
-
--- a command that was begun, to its end
-command_by : (s : Reader) (c : CommandTree × Reader) → command_begun s ≡ Some c → command s ≡ ended c
-unfolding command
-command_by s c e = ap (λ o. o >>= ended) e
-
-pub command_whole : (s : Reader) (c : CommandTree × Reader) (t : CommandTree) → command_begun s ≡ Some c → IsWhole (ended c) t → IsWhole (command s) t
-command_whole s c t e h = subst (λ (o : Read CommandTree). IsWhole o t) (sym (command_by s c e)) h
-
-pub command_refused : (s : Reader) (c : CommandTree × Reader) (fault : CommandFault) → command_begun s ≡ Some c → Refuses (ended c) fault
-    → Refuses (command s) fault
-command_refused s c fault e h = subst (λ (o : Read CommandTree). Refuses o fault) (sym (command_by s c e)) h
-
 ended_at_end : (c : CommandTree × Reader) → is_none (front c.1.rest) ≡ true → Some c ≡ ended c
 ended_at_end c e = sym (ap (λ b. if b then Some c else None) e)
 
-by_ended : (o : Read CommandTree) (fault : CommandFault) → Refuses o fault → Refuses (o >>= ended) fault
+-- a command that isn't read, before its end
+pub by_ended : (o : Read CommandTree) (fault : CommandFault) → Refuses o fault → Refuses (to_end o) fault
 by_ended o faults.NoMemory h = tt
 by_ended None (faults.Refused r) h = h
 by_ended (Some c) (faults.Refused r) h = subst (λ (o : Read CommandTree). Refuses o (faults.Refused r)) (ended_at_end c h.1) h
 
-pub command_not_begun : (s : Reader) (fault : CommandFault) → Refuses (command_begun s) fault → Refuses (command s) fault
-unfolding command
-command_not_begun s fault h = by_ended (command_begun s) fault h
+-- a command that is read, and taken at its end
+pub ended_is_whole : (o : Read CommandTree) (s : Reader) (c : CommandTree) → ((c : CommandTree) → IsWhole (ended (c, s)) c) → o ≡ Some (c, s)
+    → IsWhole (to_end o) c
+ended_is_whole o s c h e = subst (λ (o : Read CommandTree). IsWhole (to_end o) c) (sym e) (h c)
 
--- by what judges it
-pub command_judged : (s : Reader) (c : CommandTree × Reader) (o : Option Refusal) → command_begun s ≡ Some c → Judges c.1 o → o ≡ None → IsWhole (command s) c.0
-command_judged s c None e h is = command_whole s c c.0 e (h c.0)
-command_judged s c (Some r) e h is = absurd (cc is)
+-- a command that is read, and refused at its end
+pub ended_is_refused : (o : Read CommandTree) (s : Reader) (fault : CommandFault) → RefusesAtEnd s fault
+    → option_map (λ (r : CommandTree × Reader). r.1) o ≡ Some s → Refuses (to_end o) fault
+ended_is_refused None s fault h e = absurd (cc e)
+ended_is_refused (Some c) s fault h e =
+    let same : c.1 ≡ s = cc e in
+    subst (λ (x : Reader). Refuses (ended (c.0, x)) fault) (sym same) (h.refuses c.0)
 
-pub command_judged_refused : (s : Reader) (c : CommandTree × Reader) (o : Option Refusal) (r : Refusal) → command_begun s ≡ Some c
-    → Judges c.1 o → o ≡ Some r → Refuses (command s) (faults.Refused r)
-command_judged_refused s c None r e h is = absurd (cc is)
-command_judged_refused s c (Some q) r e h is =
-    let same : q ≡ r = cc is in
-    subst (λ (x : Refusal). Refuses (command s) (faults.Refused x)) same (command_refused s c (faults.Refused q) e (h c.0))
+-- the same of a command of one word
+pub word_is_refused : (s : Reader) (c : CommandTree) (fault : CommandFault) → RefusesAtEnd s fault → Refuses (ended (c, s)) fault
+word_is_refused s c fault h = h.refuses c
 
-pub ruleset command_steps = (command_judged, command_judged_refused, command_not_begun)
+pub ruleset form_steps = (no_part, behind_part, mapped_part, by_ended, ended_is_whole, ended_is_refused, word_is_refused)

@@ -521,6 +521,9 @@ command_begun s = do
 abbrev pub ended : CommandTree × Reader → Read CommandTree
 ended (c, s) = if is_none (front s.rest) then Some (c, s) else None
 
+abbrev pub to_end : Read CommandTree → Read CommandTree
+to_end found = found >>= ended
+
 unfoldable pub command : Reader → Read CommandTree
 command s = do
   c ← command_begun s

@@ -1,12 +1,27 @@
-use Rattle.std.proofs.Common.{◌≡◌, true, false, sym, ◌∙◌}
-use Rattle.command_text.proofs.reader.LineLemmas.{blank_whole, line_either}
+use Rattle.std.proofs.Common.{◌≡◌, Some, sym, ◌∙◌, ap}
+use Rattle.command_text.specs.Piece.{KEY, NAME, piece_of}
+use Rattle.command_text.specs.inner.Standing.{standing}
+use Rattle.command_text.proofs.reader.LineLemmas.{blank_whole, begun_either, nothing_begun, other_token}
 use Rattle.command_text.proofs.line.command.Goals as goal
 
-pub returns-then-is_empty : goal.returns-then-is_empty
-returns-then-is_empty c = blank_whole c.args.tokens.now (c.is_empty.ensures.0 c.if-is_empty.true)
+pub returns-in_default : goal.returns-in_default
+returns-in_default c = blank_whole c.args.tokens.now (sym c.in_default.ensures.value)
 
-pub returns : goal.returns
-returns c =
-    line_either c.args.tokens.now c.whole_command.result
-    (λ none. let clash : true ≡ false = sym (c.is_empty.ensures.1 none) ∙ c.if-is_empty.false in cc clash)
-    c.whole_command.ensures
+pub returns-in-Key : goal.returns-in-Key
+returns-in-Key c =
+    begun_either c.args.tokens.now (KEY c.in-Key.code, standing c.args.tokens.now c.in-Some.at) c.by_key.result
+    (sym c.in-Some.ensures.value ∙ ap (λ k. Some (piece_of k c.in-Some.text.now, standing c.args.tokens.now c.in-Some.at)) c.in-Key.is)
+    c.by_key.ensures
+
+pub returns-in-Name : goal.returns-in-Name
+returns-in-Name c =
+    begun_either c.args.tokens.now (NAME c.in-Some.text.now, standing c.args.tokens.now c.in-Some.at) c.by_name.result
+    (sym c.in-Some.ensures.value ∙ ap (λ k. Some (piece_of k c.in-Some.text.now, standing c.args.tokens.now c.in-Some.at)) c.in-Name.is)
+    c.by_name.ensures
+
+pub returns-in_default-kind : goal.returns-in_default-kind
+returns-in_default-kind c =
+    nothing_begun c.args.tokens.now (piece_of c.in-Some.kind c.in-Some.text.now, standing c.args.tokens.now c.in-Some.at) c.bad_syntax.result
+    (sym c.in-Some.ensures.value)
+    (other_token c.in-Some.kind c.in-Some.text.now (standing c.args.tokens.now c.in-Some.at) c.bad_syntax.result
+    c.in_default-kind.not-Key c.in_default-kind.not-Name c.bad_syntax.ensures)
