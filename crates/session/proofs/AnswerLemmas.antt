@@ -8,13 +8,11 @@ use Rattle.command_text.specs.declared.reading.TheConstants.{LINE_LIMIT}
 use Rattle.command_text.specs.declared.refusal.Refusal.{Refusal}
 use Rattle.command_text.specs.Journal.{spelled}
 use Rattle.command_text.specs.Line.{IsRead, early_refusal, first_refusal, late_refusal, command_in, or_else}
-use Rattle.command_text.specs.Refusals.{line_of}
 use Rattle.command_text.specs.Tree
 use Rattle.command_text.specs.Tree.{CommandTree}
 use Rattle.line_meaning.specs.declared.role.Role.{Role}
 use Rattle.line_meaning.specs.declared.role.Role.TheVariants.{Blank, Keeping, Telling, Filing, Ending}
 use Rattle.line_meaning.specs.Looks.{is_query, looks_of, most_looks}
-use Rattle.line_meaning.specs.Reply.{line_feed}
 use Rattle.line_meaning.specs.Role.{asks_shelf, is_filing, is_import, is_kept, role_of}
 use Rattle.line_meaning.specs.Step.{Base, Held, base, base_after, fault_of, file_refusal, held_after, refusal_of, reply_by, reply_of, step}
 use Rattle.line_meaning.proofs.CallerLemmas.{line_refusal_read, or_none, refusal_first, refusal_read_any, refused_line, spelled_is, step_accepted, step_refused}

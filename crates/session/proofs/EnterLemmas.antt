@@ -1,15 +1,13 @@
 -- The commands of rows, entered one after another.
-use Rattle.std.proofs.Common.{◌≡◌, ℕ, ◌+◌, ◌-◌, ◌≤◌, true, false, Option, Some, List, [], ◌∷◌, ◌++◌, length, refl, sym, ap, ◌∙◌, subst, append-nil, arith}
+use Rattle.std.proofs.Common.{◌≡◌, ℕ, ◌+◌, ◌-◌, true, Some, List, [], ◌∷◌, ◌++◌, length, refl, sym, ap, ◌∙◌, append-nil, arith}
 use Rattle.std.specs.Prelude.{take}
 use Rattle.std.proofs.lemmas.List.{append_assoc, length-append}
 use Rattle.std.proofs.Math.Seq.{take-append_seam}
 use Rattle.command_text.specs.Journal.{Accepted}
 use Rattle.command_text.specs.Tree.{CommandTree}
 use Rattle.line_meaning.specs.Import.{entry_lines, is_taken, with_entry}
-use Rattle.line_meaning.specs.Looks.{most_looks}
 use Rattle.line_meaning.specs.Reply.{ok_line}
-use Rattle.line_meaning.specs.Step.{held}
-use Rattle.session.specs.Rows.{AreEntered, AreWritten, HasFirstCommands, LeavesSome, journal_after_commands, lines_of_commands, looks_of_commands}
+use Rattle.session.specs.Rows.{AreEntered, AreWritten, HasFirstCommands, journal_after_commands, lines_of_commands}
 use Rattle.session.proofs.RowLemmas.{first_more}
 
 -- before the first

@@ -1,5 +1,5 @@
 -- What is done with the commands on files.
-use Rattle.std.proofs.Common.{◌≡◌, ℕ, ◌+◌, ◌≤◌, ◌⊎◌, Bool, true, false, Option, None, Some, List, [], ◌∷◌, ◌++◌, length, map, refl, sym, ap, ◌∙◌, subst, inl, inr, append-nil, arith}
+use Rattle.std.proofs.Common.{◌≡◌, ℕ, ◌+◌, ◌≤◌, true, false, Option, None, Some, List, [], ◌∷◌, ◌++◌, length, map, refl, sym, ap, ◌∙◌, subst, inl, inr, append-nil, arith}
 use Rattle.std.specs.Prelude.{is_none, is_some, option_and_then, option_map, unwrap_or, is_err, MatchOption, OnOk, IfOk, Result, Ok, Err, sum_by}
 use Rattle.std.specs.Option.{option_map_or}
 use Rattle.std.specs.List.{AllByRecursion}
@@ -29,15 +29,15 @@ use Rattle.line_meaning.specs.Journal.{clock, ticks_of, world}
 use Rattle.line_meaning.specs.Looks.{looks_of, looks_of_rows, objects_of_class}
 use Rattle.line_meaning.specs.Reply.{ok_line}
 use Rattle.line_meaning.specs.Role.{asks_shelf}
-use Rattle.line_meaning.specs.Step.{Base, Held, base, base_after, fault_of, file_refusal, held, import_lines, journal_after_import, reply_of, rows_imported}
+use Rattle.line_meaning.specs.Step.{Held, base, fault_of, file_refusal, held, journal_after_import, rows_imported}
 use Rattle.session.specs.declared.next.ApplyFault.{ApplyFault}
 use Rattle.session.specs.declared.next.ApplyFault.TheVariants as apply_faults
 use Rattle.session.specs.declared.next.Next.{Next}
 use Rattle.session.specs.declared.next.Next.TheVariants as nexts
-use Rattle.session.specs.Answers.{HasCause, HasFirstRows, IsUnread, LeavesHeld}
+use Rattle.session.specs.Answers.{HasCause, IsUnread, LeavesHeld}
 use Rattle.session.specs.Filed.{IsApplied, Puts, refusal_with, said_after}
-use Rattle.session.specs.Imported.{EntersFirst, EntersRows, Imports}
-use Rattle.session.specs.Rows.{HasFirstCommands, IsRowCommand, LeavesSome, journal_after_commands, lines_of_commands, looks_of_commands, row_commands}
+use Rattle.session.specs.Imported.{Imports}
+use Rattle.session.specs.Rows.{IsRowCommand, LeavesSome, journal_after_commands, lines_of_commands, looks_of_commands}
 use Rattle.session.specs.Trial.{AreImported, AreTaken}
 use Rattle.line_meaning.proofs.CallerLemmas.{or_none}
 use Rattle.database.specs.declared.database.Database.{Database}

@@ -10,3 +10,4 @@ pub mod AnswerLemmas
 pub mod TrialLemmas
 pub mod EnterLemmas
 pub mod FileLemmas
+pub mod LoadLemmas

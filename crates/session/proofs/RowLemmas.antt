@@ -1,10 +1,10 @@
 -- The commands of rows: what they write, whether they are taken, and what they lead to.
-use Rattle.std.proofs.Common.{◌≡◌, ℕ, ◌+◌, ◌≤◌, ◌⊎◌, Bool, true, false, not, ◌&&◌, Option, None, Some, List, [], ◌∷◌, ◌++◌, length, map, refl, sym, ap, ◌∙◌, subst, inl, inr, arith, append-nil, if◌then◌else◌}
+use Rattle.std.proofs.Common.{◌≡◌, ℕ, ◌+◌, ◌≤◌, Bool, true, false, not, ◌&&◌, Option, None, Some, List, [], ◌∷◌, ◌++◌, length, refl, ap, ◌∙◌, arith, if◌then◌else◌}
 use Rattle.std.specs.Prelude.{nat_le, is_none, is_some, unwrap_or}
 use Rattle.std.specs.List.{AllByRecursion}
-use Rattle.std.proofs.lemmas.Bool.{and_from, and_parts, false≢true}
+use Rattle.std.proofs.lemmas.Bool.{and_from, and_parts}
 use Rattle.std.proofs.lemmas.Bool.Decides.{nat_tests}
-use Rattle.std.proofs.lemmas.List.{append_assoc, length-append}
+use Rattle.std.proofs.lemmas.List.{length-append}
 use Rattle.std.proofs.lemmas.List.Sums.{sum_by_push}
 use Rattle.exact.specs.First.{first_that_holds}
 use Rattle.object_rows.specs.declared.rows.ObjectRow.{ObjectRow}
@@ -20,8 +20,6 @@ use Rattle.command_text.specs.Text.{text_of}
 use Rattle.command_text.specs.Tree
 use Rattle.command_text.specs.Tree.{CommandTree}
 use Rattle.line_meaning.specs.declared.role.Role.{Role}
-use Rattle.line_meaning.specs.declared.role.Role.TheVariants.{Keeping}
-use Rattle.line_meaning.specs.Answering.{kept_lines}
 use Rattle.line_meaning.specs.Fault.{is_gap, is_present, journal_refusal, passes_limits}
 use Rattle.line_meaning.specs.Import.{entry_lines, is_taken, journal_after_rows, lines_of_rows, row_command, with_entry}
 use Rattle.line_meaning.specs.Journal.{clock, world}
@@ -30,9 +28,9 @@ use Rattle.line_meaning.specs.QueryFault.{command_fault}
 use Rattle.line_meaning.specs.Registry.{known}
 use Rattle.line_meaning.specs.Reply.{ok_line}
 use Rattle.line_meaning.specs.Role.{is_kept, is_on_queries, role_of}
-use Rattle.line_meaning.specs.Step.{Held, fault_of, held, held_after, reply_by}
+use Rattle.line_meaning.specs.Step.{fault_of, held, reply_by}
 use Rattle.session.specs.Followed.{writes_object}
-use Rattle.session.specs.Rows.{HasFirstCommands, IsRowCommand, LeavesSome, journal_after_commands, lines_of_commands, looks_of_commands, row_commands}
+use Rattle.session.specs.Rows.{IsRowCommand, journal_after_commands, lines_of_commands, looks_of_commands, row_commands}
 use Rattle.session.proofs.FaultLemmas.{accepted, kept_fault, kept_role}
 
 -- ---- a command that writes to an object

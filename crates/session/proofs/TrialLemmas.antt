@@ -1,5 +1,5 @@
 -- What is tried of rows, and how it is taken back.
-use Rattle.std.proofs.Common.{◌≡◌, ℕ, ◌+◌, ◌<◌, ◌≤◌, Bool, true, false, not, ◌&&◌, Option, None, Some, List, [], ◌∷◌, ◌++◌, length, map, refl, sym, ap, ◌∙◌, subst, arith, append-nil, if◌then◌else◌}
+use Rattle.std.proofs.Common.{◌≡◌, ℕ, ◌+◌, ◌≤◌, Bool, true, false, not, ◌&&◌, Option, None, Some, List, [], ◌∷◌, ◌++◌, length, map, refl, sym, ap, ◌∙◌, subst, arith, append-nil, if◌then◌else◌}
 use Rattle.std.specs.Prelude.{nat_le, is_some, Result, Ok, Err, IfOk, IfSome, OnErr}
 use Rattle.std.proofs.lemmas.Bool.{and_parts}
 use Rattle.std.proofs.lemmas.List.{append_assoc, length-append, map-append}
@@ -14,8 +14,7 @@ use Rattle.command_text.specs.Journal.{Accepted, bytes_of}
 use Rattle.command_text.specs.Text.{text_of}
 use Rattle.command_text.specs.Tree.{CommandTree, command_view}
 use Rattle.line_meaning.specs.Fault.{is_present, passes_limits}
-use Rattle.line_meaning.specs.Import.{is_taken, journal_after_rows, row_command, with_entry}
-use Rattle.line_meaning.specs.Journal.{clock}
+use Rattle.line_meaning.specs.Import.{journal_after_rows, row_command, with_entry}
 use Rattle.line_meaning.specs.QueryFault.{command_fault}
 use Rattle.line_meaning.specs.Registry.{known}
 use Rattle.database.specs.declared.change.Change.{Change}

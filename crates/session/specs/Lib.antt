@@ -6,6 +6,7 @@ pub mod Entering
 pub mod Filed
 pub mod Followed
 pub mod Replayed
+pub mod Loads
 pub mod Rows
 pub mod Trial
 pub mod Imported

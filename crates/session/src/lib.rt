@@ -9,11 +9,13 @@ mod entering;
 mod filing;
 mod importing;
 mod keeping;
+mod loading;
 mod next;
 mod session;
 mod state;
 mod trying;
 
+pub use loading::{LoadFault, load};
 pub use next::{ApplyFault, Next};
 pub use session::Session;
 
@@ -21,5 +23,7 @@ pub use session::Session;
 mod file_tests;
 #[cfg(test)]
 mod live_tests;
+#[cfg(test)]
+mod load_tests;
 #[cfg(test)]
 mod tests;

@@ -68,7 +68,7 @@ fn with_probes<F: Shelf, L: Ledger, M: Ledger>(
     Ok((out, session.now(), session.journal().len()))
 }
 
-fn answer<F: Shelf, L: Ledger, M: Ledger>(
+pub(super) fn answer<F: Shelf, L: Ledger, M: Ledger>(
     session: &mut Session,
     line: &[u8],
     shelf: &mut F,

@@ -1,4 +1,4 @@
-use Rattle.std.proofs.Common.{◌≡◌, None, Vec, Global, List}
+use Rattle.std.proofs.Common.{None, Vec, Global}
 use Rattle.object_rows.specs.declared.rows.ObjectRow.{ObjectRow}
 use Rattle.command_text.specs.declared.command.Command.{Command}
 use Rattle.line_meaning.proofs.ImportLemmas.{named_rows_are_printable}

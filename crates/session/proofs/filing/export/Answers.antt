@@ -1,4 +1,4 @@
-use Rattle.std.proofs.Common.{◌≡◌, List, ℕ, None, true, refl, ◌∙◌, subst}
+use Rattle.std.proofs.Common.{List, ℕ, None, true, refl, ◌∙◌, subst}
 use Rattle.session.specs.Filed.{Puts}
 use Rattle.session.proofs.FileLemmas.{class_told, export_is_applied, text_told}
 use Rattle.session.proofs.filing.export.Goals as goal

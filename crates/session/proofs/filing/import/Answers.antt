@@ -1,4 +1,4 @@
-use Rattle.std.proofs.Common.{◌≡◌, None, Some, sym, ap, ◌∙◌}
+use Rattle.std.proofs.Common.{None, Some, sym, ap, ◌∙◌}
 use Rattle.session.proofs.FileLemmas.{class_told, found_text, import_is_applied}
 use Rattle.session.proofs.filing.import.Goals as goal
 

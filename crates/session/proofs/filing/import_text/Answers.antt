@@ -1,4 +1,4 @@
-use Rattle.std.proofs.Common.{◌≡◌, ◌≤◌, ◌+◌, List, Option, None, true, map, refl, sym, ap, ◌∙◌, subst, Vec, Global}
+use Rattle.std.proofs.Common.{◌≡◌, ◌≤◌, ◌+◌, Option, None, map, ◌∙◌, subst, Vec, Global}
 use Rattle.std.specs.Prelude.{MatchOption, is_some}
 use Rattle.command_text.specs.declared.command.Command.{Command}
 use Rattle.command_text.specs.Tree.{command_view}

@@ -1,8 +1,6 @@
-use Rattle.std.proofs.Common.{◌≡◌, ◌≤◌, List, ℕ, refl, sym, ap, ◌∙◌, subst}
+use Rattle.std.proofs.Common.{◌≤◌, refl, sym, ◌∙◌, subst}
 use Rattle.tick_set.specs.declared.spans.TheConstants.{LAST_TICK}
-use Rattle.session_file.specs.Text.{session_text}
-use Rattle.session.specs.Filed.{Puts}
-use Rattle.session.proofs.FileLemmas.{put_unread, same_clock, save_is_applied, save_lacks}
+use Rattle.session.proofs.FileLemmas.{same_clock, save_lacks}
 use Rattle.session.proofs.filing.save.Goals as goal
 
 pub save_text-requires : goal.save_text-requires

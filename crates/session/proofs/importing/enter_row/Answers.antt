@@ -1,12 +1,9 @@
-use Rattle.std.proofs.Common.{◌≡◌, ◌++◌, None, Some, refl, sym, ap, ◌∙◌, subst}
+use Rattle.std.proofs.Common.{ap}
 use Rattle.std.specs.Prelude.{unwrap_or}
 use Rattle.ftl_lexer.specs.declared.buffer.TheConstants.{LEXER_LIMIT}
 use Rattle.command_text.specs.Tree
 use Rattle.command_text.specs.Tree.{command_view}
-use Rattle.line_meaning.specs.Step.{Held}
-use Rattle.reply_text.specs.Begins.{Begins}
-use Rattle.session.proofs.EnterLemmas.{without_ok}
-use Rattle.session.proofs.RowLemmas.{reply_is, taken_right, taken_short, write_built, write_kept}
+use Rattle.session.proofs.RowLemmas.{taken_short, write_built, write_kept}
 use Rattle.session.proofs.importing.enter_row.Goals as goal
 
 pub keep-requires-clause-printable : goal.keep-requires-clause-printable

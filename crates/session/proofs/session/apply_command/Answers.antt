@@ -1,8 +1,6 @@
-use Rattle.std.proofs.Common.{ap, refl, sym, ◌∙◌}
-use Rattle.command_text.specs.Tree.{command_view}
+use Rattle.std.proofs.Common.{ap, sym, ◌∙◌}
 use Rattle.line_meaning.specs.Role.{is_filing}
-use Rattle.line_meaning.specs.Step.{held}
-use Rattle.session.proofs.AnswerLemmas.{blank_probes, blank_reads, carried_is_applied, carried_looks, carried_unread, not_filing, plain_cause}
+use Rattle.session.proofs.AnswerLemmas.{not_filing}
 use Rattle.session.proofs.session.apply_command.Goals as goal
 
 pub file-requires-clause-filing : goal.file-requires-clause-filing

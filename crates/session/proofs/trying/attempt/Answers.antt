@@ -1,9 +1,9 @@
-use Rattle.std.proofs.Common.{◌≡◌, refl, sym, ap, ◌∙◌, subst}
+use Rattle.std.proofs.Common.{refl, sym, ◌∙◌}
 use Rattle.command_text.specs.Tree.{command_view}
 use Rattle.database.proofs.ReadyLemmas.{is_ready}
 use Rattle.session.specs.Trial.{journal_of}
 use Rattle.session.proofs.RowLemmas.{write_built, write_kept, write_plain}
-use Rattle.session.proofs.TrialLemmas.{tried, tried_refused, tried_without_room}
+use Rattle.session.proofs.TrialLemmas.{tried_without_room}
 use Rattle.session.proofs.trying.attempt.Goals as goal
 
 pub has_room-requires : goal.has_room-requires

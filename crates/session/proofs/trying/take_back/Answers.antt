@@ -1,4 +1,4 @@
-use Rattle.std.proofs.Common.{◌≡◌, List, ◌++◌, ◌∷◌, [], sym, ap, ◌∙◌, subst}
+use Rattle.std.proofs.Common.{List, sym, ap, ◌∙◌, subst}
 use Rattle.database.specs.declared.change.Change.{Change}
 use Rattle.database.specs.declared.database.Database.{Database}
 use Rattle.session.specs.Trial.{IsStack, bottom}

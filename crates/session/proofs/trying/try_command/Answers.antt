@@ -1,4 +1,3 @@
-use Rattle.std.proofs.Common.{refl}
 use Rattle.command_text.specs.Tree.{command_view}
 use Rattle.session.proofs.TrialLemmas.{same_told, tries_command}
 use Rattle.session.proofs.trying.try_command.Goals as goal

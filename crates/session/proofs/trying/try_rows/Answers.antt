@@ -1,4 +1,4 @@
-use Rattle.std.proofs.Common.{◌≡◌, ◌+◌, refl, sym, ap, ◌∙◌, subst, arith}
+use Rattle.std.proofs.Common.{◌+◌, ap, ◌∙◌, arith}
 use Rattle.std.specs.Prelude.{Ok}
 use Rattle.session.proofs.TrialLemmas.{rest_each, row_taken, trial_off, trial_on}
 use Rattle.session.proofs.trying.try_rows.Goals as goal

@@ -1,4 +1,4 @@
-use Rattle.std.proofs.Common.{◌≡◌, subst}
+use Rattle.std.proofs.Common.{subst}
 use Rattle.command_text.specs.Tree.{command_view}
 use Rattle.line_meaning.specs.Step.{Held, held}
 use Rattle.session.specs.Carried.{Carried}

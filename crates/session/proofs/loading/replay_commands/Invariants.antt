@@ -1,0 +1,14 @@
+-- what was carried out and what is left lead to the same as all
+use Rattle.std.proofs.Common.{◌≡◌, [], length}
+use Rattle.session_file.specs.Reading.{reading_of}
+use Rattle.line_meaning.specs.Loading.{replayed}
+use Rattle.session.proofs.loading.replay_commands.Given as goal
+
+abbrev pub invariant-commands : goal.invariant-commands
+invariant-commands g l = record {
+  same : replayed [] (reading_of l.text).commands ≡ replayed l.session.journal l.reader.commands;
+  fault : (reading_of l.text).fault ≡ l.reader.fault;
+}
+
+abbrev pub decreases-commands : goal.decreases-commands
+decreases-commands g l = length l.reader.commands
