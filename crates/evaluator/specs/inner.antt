@@ -1,5 +1,5 @@
-pub mod Away
 -- How formulas are evaluated. No public clause names these.
+pub mod Away
 pub mod ByBinding
 pub mod Filled
 pub mod Nodes

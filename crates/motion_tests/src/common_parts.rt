@@ -3,7 +3,7 @@ ghost use Rattle.motion.specs.Cells.{AreCellsAt, IsCellAt};
 ghost use Rattle.motion.specs.Pieces.{AreSteadyCells};
 
 use crate::made::{fix, slope};
-use courses::{common_from, line_from};
+use courses::{common_from, line_from, straight_line};
 use linear_crossing::Line;
 use motion::{AttrKind, Cell, Epoch, Legs, Timeline, Vector};
 use std::alloc::Global;
@@ -121,5 +121,24 @@ fn a_resting_attribute_gives_no_line(rt: HostRuntime) -> Result<(), Fail> {
     assert_eq!(rt; common.span.hi, 7);
     assert!(rt; common.epoch(0).is_some());
     assert_eq!(rt; line_of(common.epoch(0), common.span), None);
+    Ok(())
+}
+
+#[test]
+fn a_last_epoch_of_one_leg_each_tells_a_line(rt: HostRuntime) -> Result<(), Fail> {
+    let van = timeline_of(
+        rt.alloc(),
+        5,
+        &[steady(5, 1000, 2000)?, steady(5, 0, -500)?],
+    )?;
+    let car = second_car(rt.alloc())?;
+    let later = Span::new(8, 30).ok_or("no such span")?;
+    let early = Span::new(4, 30).ok_or("no such span")?;
+    assert_eq!(rt;
+        numbers(straight_line(&van, later)),
+        Some((7000, -1500, 2000, -500))
+    );
+    assert_eq!(rt; numbers(straight_line(&van, early)), None);
+    assert_eq!(rt; numbers(straight_line(&car, later)), None);
     Ok(())
 }
