@@ -1,8 +1,9 @@
 -- The lines of what a change changes for the registered queries.
-use Rattle.std.proofs.Common.{◌≡◌, ℕ, ◌+◌, ◌≤◌, Bool, true, false, not, ◌&&◌, ◌||◌, List, [], ◌∷◌, ◌++◌, map, refl, ap, ◌∙◌, if◌then◌else◌}
+use Rattle.std.proofs.Common.{◌≡◌, ℕ, ◌+◌, ◌≤◌, Bool, true, false, not, ◌&&◌, ◌||◌, List, [], ◌∷◌, ◌++◌, length, map, refl, sym, ap, ◌∙◌, append-nil, if◌then◌else◌}
 use Rattle.std.specs.Prelude.{All}
 use Rattle.std.specs.List.{filter, flat_map}
 use Rattle.std.proofs.lemmas.Grind.{flat_map-append}
+use Rattle.std.proofs.lemmas.List.{nil_from_length}
 use Rattle.std.proofs.lemmas.List.Elements.{All-head, All-tail}
 use Rattle.std.proofs.lemmas.List.Folds.{flat_map-map}
 use Rattle.tick_set.specs.Runs.{runs_of, spans_have}
@@ -133,3 +134,10 @@ lines_of_write old new (Tree.Insert class name place sets) write = refl
 lines_of_write old new (Tree.Update name place sets) write = refl
 lines_of_write old new (Tree.Remove name) write = refl
 lines_of_write old new c write = absurd (cc write)
+
+-- ---- where no query is registered
+
+pub nothing_passes : (c : Catalog) (out : List ℕ) (passings : KeptQuery → List Told) (live : List KeptQuery) → length live ≡ 0
+    → out ≡ out ++ moves_text c (flat_map passings live)
+nothing_passes c out passings live none =
+    sym (ap (λ (ks : List KeptQuery). out ++ moves_text c (flat_map passings ks)) (nil_from_length live none) ∙ append-nil out)

@@ -1,5 +1,6 @@
 //! The commands that the journal keeps.
-ghost use Rattle.std.specs.Prelude.{◌≡◌, ◌+◌, ◌≤◌, ◌++◌, ◌∷◌, [], true, false, None, length, Err, IfErr, IfOk, IfSome};
+ghost use Rattle.std.specs.Prelude.{◌≡◌, ◌+◌, ◌≤◌, ◌++◌, ◌∷◌, [], true, false, None, length, All, Err, IfErr, IfOk, IfSome, OnOk};
+ghost use Rattle.std.specs.List.{flat_map};
 ghost use Rattle.ftl_lexer.specs.declared.buffer.TheConstants.{LEXER_LIMIT};
 ghost use Rattle.command_text.specs.Journal.{spelled};
 ghost use Rattle.command_text.specs.Shape.{IsPrintable};
@@ -12,10 +13,15 @@ ghost use Rattle.line_meaning.specs.Reached.{AreReached};
 ghost use Rattle.line_meaning.specs.Reply.{ok_line};
 ghost use Rattle.line_meaning.specs.Role.{is_kept, is_on_queries};
 ghost use Rattle.line_meaning.specs.Step.{fault_of, held};
+ghost use Rattle.object_store.specs.Contents.{catalog_of};
+ghost use Rattle.live_queries.specs.Current.{AreCurrent};
 ghost use Rattle.live_queries.specs.Kept.{AreKept};
 ghost use Rattle.live_queries.specs.Prepared.{IsPrepared};
+ghost use Rattle.live_queries.specs.Told.{passings_of};
 ghost use Rattle.reply_text.specs.Begins.{Begins};
+ghost use Rattle.database.specs.Keeping.{clock_of, world_of_database};
 ghost use Rattle.database.specs.Telling.{IsRefused};
+ghost use Rattle.registry.specs.Moves.{moves_text};
 ghost use Rattle.session.specs.Asked.{command_of};
 ghost use Rattle.session.specs.Carried.{IsDone};
 ghost use Rattle.session.specs.Followed.{IsChanged, Prepares, Settles, lines_told, writes_object};
@@ -24,7 +30,7 @@ ghost use Rattle.session.specs.State.{IsState};
 use crate::entering::{admit, enter};
 use crate::state::State;
 use command_text::{Command, CommandFault, Refusal};
-use database::Change;
+use database::{Change, Database};
 use fixed_point::Word;
 use formula::QueryKind;
 use live_queries::{
@@ -32,7 +38,7 @@ use live_queries::{
     prepared_changes_tell_what_a_write_changes, prepared_writes_renew_queries,
     queries_go_on_fitting_worlds, writes_to_no_object_keep_queries_current,
 };
-use registry::{Request, judge, pass, register, renew};
+use registry::{Request, judge, register, renew};
 use std::alloc::{AllocError, Global};
 use std::sync::ledger::Ledger;
 use steps::Steps;
@@ -257,6 +263,29 @@ fn follow<L: Ledger, M: Ledger>(
     let fresh = tell_change(alloc, state, command, change, before, reads, probes, out)?;
     enter(&mut state.journal, before, &state.line, out)?;
     Ok(fresh)
+}
+
+/// Writes which targets enter and leave as the clock moves from tick `before` to its tick. Where no query is registered
+/// there are none, and no memory is taken.
+#[tactic(auto, using(crate::proofs::LineLemmas::nothing_passes))]
+fn pass(
+    alloc: Global,
+    database: &Database,
+    live: &Live,
+    before: u32,
+    out: &mut Vec<u8>,
+) -> Result<(), AllocError>
+    requires upto { before ≤ clock_of database.now }
+    requires current { AreCurrent (world_of_database database.now) before live.now }
+    requires entered { All (λ k. k.entry ≤ before) live.now }
+    ensures ok { OnOk result (out.new.items ≡ out.old.items
+        ++ moves_text (catalog_of database.now.store) (flat_map (passings_of before (clock_of database.now)) live.now)) }
+    ensures begins { Begins out.old.items out.new.items }
+{
+    if live.count() == 0 {
+        return Ok(());
+    }
+    registry::pass(alloc, database, live, before, out)
 }
 
 /// Writes what a change that was made changes for the registered queries. Answers what a write makes of the rows.
