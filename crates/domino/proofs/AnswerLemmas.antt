@@ -86,7 +86,7 @@ abbrev pub IsAccepted : Next → Type 0
 IsAccepted (nexts.Refused r) = ⊥
 IsAccepted next = Unit {0}
 
-step_of : (next : Next) (b : Base) (line : List ℕ) (new : Held) (before after : List ℕ) → IsAccepted next →
+pub step_of : (next : Next) (b : Base) (line : List ℕ) (new : Held) (before after : List ℕ) → IsAccepted next →
     Answers next b line new before after → IsStep next b line new before after
 step_of nexts.Silent b line new before after is h = h
 step_of nexts.Accepted b line new before after is h = h
@@ -95,13 +95,13 @@ step_of (nexts.Refused r) b line new before after is h = absurd is
 
 module _ (shelf shelf' : Option Texts) (line : List ℕ) (h new : Held) (ended : Bool) (before after : List ℕ) (result : Result Next ApplyFault)
     (applies : Applies shelf shelf' line h new before after result) where
-  answers : (next : Next) → result ≡ Ok next → (told : Texts) → shelf ≡ Some told → Answers next (base h told) line new before after
-  answers next is told texts_are =
+  pub answered : (next : Next) → result ≡ Ok next → (told : Texts) → shelf ≡ Some told → Answers next (base h told) line new before after
+  answered next is told texts_are =
       subst (λ (r : Result Next ApplyFault). IfOk r (λ next. Answers next (base h told) line new before after)) is
       (applies.answers told (λ import. texts_are))
 
-  left_is : (next : Next) → result ≡ Ok next → (told : Texts) → shelf ≡ Some told → shelf' ≡ Some (step (base h told) line).0.texts
-  left_is next is told texts_are =
+  pub left_after : (next : Next) → result ≡ Ok next → (told : Texts) → shelf ≡ Some told → shelf' ≡ Some (step (base h told) line).0.texts
+  left_after next is told texts_are =
       subst (λ (r : Result Next ApplyFault). IfOk r (λ next. shelf' ≡ Some (step (base h told) line).0.texts)) is
       (applies.texts told texts_are)
 
@@ -115,7 +115,7 @@ module _ (shelf shelf' : Option Texts) (line : List ℕ) (h new : Held) (ended :
   accepted next ended' plain is end s start =
       let (told, texts_are, s_is) = told_is h ended shelf s start in
       let (reply, state) = stepped next h new ended told shelf' line before after
-      (step_of next (base h told) line new before after plain (answers next is told texts_are)) (left_is next is told texts_are) s s_is in
+      (step_of next (base h told) line new before after plain (answered next is told texts_are)) (left_after next is told texts_are) s s_is in
       (reply, (λ i. state_of new (end i) shelf') ∙ state)
 
   pub refused_answers : (r : Refusal) (written : Result (Unit {0}) OutFail) (final : List ℕ) → result ≡ Ok (nexts.Refused r) →
@@ -124,15 +124,15 @@ module _ (shelf shelf' : Option Texts) (line : List ℕ) (h new : Held) (ended :
       loop.Answers machine leaves s line written before final (state_of new ended shelf')
   refused_answers r (Ok u) final is said fails s start =
       let (told, texts_are, s_is) = told_is h ended shelf s start in
-      let (fault, step_is, new_is, same) = answers (nexts.Refused r) is told texts_are in
+      let (fault, step_is, new_is, same) = answered (nexts.Refused r) is told texts_are in
       refused r h new ended told shelf' line before final fault step_is new_is
-      (left_is (nexts.Refused r) is told texts_are ∙ ap (λ (t : Base × List ℕ). Some t.0.texts) step_is)
+      (left_after (nexts.Refused r) is told texts_are ∙ ap (λ (t : Base × List ℕ). Some t.0.texts) step_is)
       (said ∙ ap (λ o. o ++ (line_of r ++ line_feed)) same) s s_is
   refused_answers r (Err fail) final is said fails s start =
       let (told, texts_are, s_is) = told_is h ended shelf s start in
-      let (fault, step_is, new_is, same) = answers (nexts.Refused r) is told texts_are in
+      let (fault, step_is, new_is, same) = answered (nexts.Refused r) is told texts_are in
       let left : shelf' ≡ Some told
-      = left_is (nexts.Refused r) is told texts_are ∙ ap (λ (t : Base × List ℕ). Some t.0.texts) step_is in
+      = left_after (nexts.Refused r) is told texts_are ∙ ap (λ (t : Base × List ℕ). Some t.0.texts) step_is in
       subst (λ (f : OutFail). leaves f s line (state_of new ended shelf')) (sym fails)
       (inl ((λ i. state_of (new_is i) ended (left i)) ∙ sym (ap Some s_is)))
 

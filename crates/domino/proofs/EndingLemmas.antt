@@ -1,5 +1,5 @@
 -- How the read loop ends, said of the whole run.
-use Rattle.std.proofs.Common.{inl, inr, ◌⊎◌, ◌≡◌, ℕ, Bool, List, [], ◌∷◌, take, Option, None, Some, ap, sym, if◌then◌else◌, arith}
+use Rattle.std.proofs.Common.{inl, inr, ◌⊎◌, ◌≡◌, ℕ, Bool, List, [], ◌∷◌, take, Option, None, Some, ap, subst, sym, if◌then◌else◌, arith}
 use Rattle.outside.specs.Faults.{Rose}
 use Rattle.outside.specs.Shelf.{Texts}
 use Rattle.line_meaning.specs.Step.{Held, base}
@@ -12,11 +12,11 @@ use Rattle.line_loop.specs.Run.{heard}
 use Rattle.line_loop.specs.Stop.{LacksMemory}
 use Rattle.domino.specs.Machine.{State, machine, leaves, state_of}
 use Rattle.domino.specs.Whole.{Plan, Says, Answers}
-use Rattle.domino.specs.Ends.{Setting, EndsAs, CompletesAs, KeepsLimit, HasCause, QuitsWithin}
+use Rattle.domino.specs.Ends.{Setting, EndsAs, EndsBy, CompletesAs, KeepsLimit, HasCause, QuitsWithin}
 use Rattle.domino.specs.Status.{status_of}
 use Rattle.domino.specs.declared.status.Status.{Status}
-use Rattle.domino.specs.declared.status.Status.TheVariants.{Done, BadWords, ReadFault, WriteFault, ShelfFault, NoMemory, InputLimit}
-use Rattle.domino.specs.declared.words.Words.TheVariants.{Plain}
+use Rattle.domino.specs.declared.status.Status.TheVariants.{Done, BadWords, BadSession, ReadFault, WriteFault, ShelfFault, NoMemory, InputLimit}
+use Rattle.domino.specs.Words.{Words, Plain}
 
 -- the texts that a told state tells
 texts_told : (h : Held) (ended : Bool) (told : Option Texts) (s : State) → state_of h ended told ≡ Some s → told ≡ Some s.base.texts
@@ -49,7 +49,7 @@ finished_is start limit bytes written left (inr h) = inr (record { count = h.cou
 pub loop_ends : (ending : Ending) (start : State) (limit : ℕ) (bytes written : List ℕ) (now : Held) (ended : Bool)
     (new : Option (List ℕ)) (told : Option Texts) (left : Option (List ℕ)) →
     loop.EndsAs machine leaves limit (record { state = start; written = written }) bytes ending (state_of now ended told) new left →
-    EndsAs (answering start limit bytes written) (status_of ending) new told left
+    EndsBy (Answers start) (answering start limit bytes written) (status_of ending) new told left
 loop_ends endings.Done start limit bytes written now ended new told left h = (
   record {
     status_is = ap (λ cut. if cut then InputLimit else Done) (sym h.whole);
@@ -134,22 +134,30 @@ module _ (limit : ℕ) (bytes written : List ℕ) (texts : Texts) (old new : loo
   given plan = record { plan = plan; limit = limit; bytes = bytes; written = written; texts = texts }
 
   -- then it is the whole run, or there was no memory
-  pub completes : (plan : Plan) (status : Status) → HasCause status old new → EndsAs (given plan) status out told left →
+  by_plan : (plan : Plan) (status : Status) → HasCause status old new → EndsBy plan (given plan) status out told left →
       CompletesAs (given plan) status out told
-  completes (Says said status) Done cause h = h
-  completes (Says said status) BadWords cause h = h
-  completes (Says said status) InputLimit cause h = absurd h
-  completes (Says said status) ReadFault cause h = h
-  completes (Says said status) WriteFault cause h = none.sink cause.0
-  completes (Says said status) ShelfFault cause h = h
-  completes (Says said status) NoMemory cause h = h
-  completes (Answers start) Done cause h = h.0
-  completes (Answers start) BadWords cause h = absurd h
-  completes (Answers start) InputLimit cause h = h.0
-  completes (Answers start) ReadFault cause h = none.source cause.0
-  completes (Answers start) WriteFault cause h = none.sink cause.0
-  completes (Answers start) ShelfFault cause h = none.context cause.0
-  completes (Answers start) NoMemory cause h = h
+  by_plan (Says said status) Done cause h = h
+  by_plan (Says said status) BadWords cause h = h
+  by_plan (Says said status) BadSession cause h = h
+  by_plan (Says said status) InputLimit cause h = absurd h
+  by_plan (Says said status) ReadFault cause h = h
+  by_plan (Says said status) WriteFault cause h = none.sink cause.0
+  by_plan (Says said status) ShelfFault cause h = h
+  by_plan (Says said status) NoMemory cause h = h
+  by_plan (Answers start) Done cause h = h.0
+  by_plan (Answers start) BadWords cause h = absurd h
+  by_plan (Answers start) BadSession cause h = absurd h
+  by_plan (Answers start) InputLimit cause h = h.0
+  by_plan (Answers start) ReadFault cause h = none.source cause.0
+  by_plan (Answers start) WriteFault cause h = none.sink cause.0
+  by_plan (Answers start) ShelfFault cause h = none.context cause.0
+  by_plan (Answers start) NoMemory cause h = h
+
+  pub completes : (words : Words) (plan : Plan) (status : Status) → HasCause status old new →
+      EndsAs words (given plan) status out told left → CompletesAs (given plan) status out told
+  completes words plan status cause (inl h) = by_plan plan status cause h
+  completes words plan status cause (inr h) =
+      absurd (none.context (subst (λ (s : Status). HasCause s old new) h.status_is cause).0)
 
 pub loop_taken : (ending : Ending) (limit : ℕ) (bytes : List ℕ) (left : Option (List ℕ)) →
     loop.KeepsLimit limit bytes ending left → KeepsLimit Plain limit bytes (status_of ending) left

@@ -1,4 +1,6 @@
 pub mod Machine
+pub mod Words
+pub mod Summary
 pub mod Whole
 pub mod Ends
 pub mod Theorem

@@ -3,12 +3,13 @@ use Rattle.std.specs.Prelude.{ℕ}
 use Rattle.line_loop.specs.declared.ending.Ending.{Ending}
 use Rattle.line_loop.specs.declared.ending.Ending.TheVariants as endings
 use Rattle.domino.specs.declared.status.Status.{Status}
-use Rattle.domino.specs.declared.status.Status.TheVariants.{Done, BadWords, ReadFault, WriteFault, ShelfFault, NoMemory, InputLimit}
+use Rattle.domino.specs.declared.status.Status.TheVariants.{Done, BadWords, BadSession, ReadFault, WriteFault, ShelfFault, NoMemory, InputLimit}
 
 -- the exit status of the program
 abbrev pub code_of : Status → ℕ
 code_of Done = 0
 code_of BadWords = 1
+code_of BadSession = 2
 code_of ReadFault = 3
 code_of WriteFault = 4
 code_of ShelfFault = 5

@@ -6,7 +6,7 @@ use Rattle.line_loop.specs.Ending.{Counts}
 use Rattle.domino.specs.Ends.{Setting, CompletesAs, EndsAs, HasCause, KeepsLimit, may_end}
 use Rattle.domino.specs.Whole.{plan_of}
 use Rattle.domino.specs.declared.status.Status.{Status}
-use Rattle.domino.specs.declared.words.Words.{Words}
+use Rattle.domino.specs.Words.{Words}
 
 -- what is seen of the outside at one moment: the counts of faults, and what each object tells
 pub record Seen : Type 0 where
@@ -26,7 +26,7 @@ pub record RunsAs (limit : ℕ) (words : Words) (before after : Seen) (status : 
   pub cause : HasCause status before.faults after.faults
   pub taken : (bytes : List ℕ) → before.left ≡ Some bytes → KeepsLimit words limit bytes status after.left
   pub ends : (bytes written : List ℕ) (texts : Texts) → before.left ≡ Some bytes → before.written ≡ Some written → before.texts ≡ Some texts →
-      EndsAs (given words limit bytes written texts) status after.written after.texts after.left
+      EndsAs words (given words limit bytes written texts) status after.written after.texts after.left
   pub complete : (bytes written : List ℕ) (texts : Texts) → before.left ≡ Some bytes → before.written ≡ Some written → before.texts ≡ Some texts →
       ¬ Rose before.faults.source after.faults.source → ¬ Rose before.faults.sink after.faults.sink →
       ¬ Rose before.faults.context after.faults.context →

@@ -1,23 +1,22 @@
 -- The whole run: what it is to write, its status, and the texts that it leaves.
-use Rattle.std.specs.Prelude.{ℕ, Bool, false, List, [], ◌∷◌, ◌++◌, codes, if◌then◌else◌}
+use Rattle.std.specs.Prelude.{ℕ, Bool, false, Option, None, Some, List, [], ◌∷◌, ◌++◌, codes, if◌then◌else◌}
 use Rattle.outside.specs.Shelf.{Texts}
 use Rattle.line_loop.specs.Machine.{after}
 use Rattle.line_loop.specs.Run.{heard, is_cut, output}
+use Rattle.line_meaning.specs.Loading.{Loading, Loaded, BadLine, loading_of}
 use Rattle.line_meaning.specs.Step.{Held, base, held}
 use Rattle.domino.specs.Machine.{State, machine}
+use Rattle.domino.specs.Summary.{number_line, summary}
+use Rattle.domino.specs.Words.{Words, Bad, Plain, Generated, Stored}
 use Rattle.domino.specs.declared.status.Status.{Status}
-use Rattle.domino.specs.declared.status.Status.TheVariants.{Done, BadWords, InputLimit}
-use Rattle.domino.specs.declared.words.Words.{Words}
-use Rattle.domino.specs.declared.words.Words.TheVariants.{Bad, Plain}
-
--- the program's name alone asks for a plain run
-abbrev pub words_of : List (List ℕ) → Words
-words_of [] = Bad
-words_of (name ∷ []) = Plain
-words_of (name ∷ word ∷ more) = Bad
+use Rattle.domino.specs.declared.status.Status.TheVariants.{Done, BadWords, BadSession, InputLimit}
 
 abbrev pub bad_words : List ℕ
 bad_words = codes "bad words" ++ 10 ∷ []
+
+-- with the number of the line of its first fault, or with 0 where there is no text
+abbrev pub bad_session : ℕ → List ℕ
+bad_session number = number_line (codes "bad session ") number
 
 -- the state before the first line
 abbrev pub started : Held → Texts → State
@@ -28,9 +27,19 @@ pub data Plan : Type 0 where
   Says : List ℕ → Status → Plan
   Answers : State → Plan
 
+abbrev pub plan_loaded : Loading → Texts → Plan
+plan_loaded (Loaded journal) texts = Answers (started (held journal) texts)
+plan_loaded (BadLine number) texts = Says (bad_session number) BadSession
+
+abbrev pub plan_stored : Option (List ℕ) → Texts → Plan
+plan_stored None texts = Says (bad_session 0) BadSession
+plan_stored (Some text) texts = plan_loaded (loading_of text) texts
+
 abbrev pub plan_of : Words → Texts → Plan
 plan_of Bad texts = Says bad_words BadWords
 plan_of Plain texts = Answers (started (held []) texts)
+plan_of (Generated number) texts = Says (summary number) Done
+plan_of (Stored name) texts = plan_stored (texts name) texts
 
 -- one of these lines is an accepted `quit`
 abbrev pub quits : State → List (List ℕ) → Bool

@@ -137,7 +137,7 @@ impl<F: Shelf, C: Counting> Handler<F> for Database<C> {
 }
 
 /// Writes the line of a refusal.
-fn push_refusal(out: &mut Vec<u8>, refusal: Refusal) -> Result<(), OutFail>
+pub fn push_refusal(out: &mut Vec<u8>, refusal: Refusal) -> Result<(), OutFail>
     ensures ok { OnOk result (out.new.items ≡ out.old.items ++ (line_of refusal ++ line_feed)) }
     ensures err { IfErr result (λ fail. fail ≡ NoMemory) }
 {

@@ -3,13 +3,16 @@
 #![tactic(auto)]
 
 ghost use Rattle.std.specs.Prelude.{◌≡◌, ◌<◌, map, string_bytes};
-ghost use Rattle.domino.specs.Whole.{words_of};
+ghost use Rattle.domino.specs.Words.{words_of};
 ghost use Rattle.domino.specs.Theorem.{RunsAs};
 ghost use Rattle.domino.specs.declared.run.TheConstants.{INPUT_LIMIT};
 
 mod machine;
+mod opening;
 mod run;
 mod status;
+mod summary;
+mod tally;
 mod words;
 
 use outside::{DirShelf, Shelf, Sink, Source, StdSink, StdSource};

@@ -11,6 +11,8 @@ pub enum Status {
     Done,
     /// The words of the program are of none of its forms.
     BadWords,
+    /// There is no text of the session's name, or it is no session.
+    BadSession,
     /// A read of the input failed.
     ReadFault,
     /// A write of a reply failed.
@@ -31,6 +33,7 @@ impl Status {
         match self {
             Status::Done => 0,
             Status::BadWords => 1,
+            Status::BadSession => 2,
             Status::ReadFault => 3,
             Status::WriteFault => 4,
             Status::ShelfFault => 5,

@@ -2,7 +2,7 @@ ghost use Rattle.std.specs.Prelude.{◌≡◌, ◌<◌};
 
 use super::*;
 use command_text::LINE_LIMIT;
-use outside::{MemSink, MemSource, SureShelf};
+use outside::{MemShelf, MemSink, MemSource};
 use run::run_limited;
 use std::alloc::AllocError;
 use std::process::Abort;
@@ -13,32 +13,51 @@ const INPUT: &[u8] =
 
 const OUTPUT: &[u8] = b"ok\nok\nlater a : 12..30\nok\n";
 
-// What is given to a run: the limit, how many words, the input, the size of the pieces in which bytes
-// come and go, and the numbers of the reads and the writes that fail.
+// What is given to a run: the limit, the words, the input, the size of the pieces in which bytes come and
+// go, a text of the shelf, and the numbers of the reads, the writes and the calls of the shelf that fail.
 #[derive(Clone, Copy)]
 pub(super) struct Trial<'a> {
     pub(super) limit: u64,
-    pub(super) words: usize,
+    words: &'a [&'static str],
     pub(super) input: &'a [u8],
     pub(super) cut: usize,
+    text: Option<&'a [u8]>,
     reads: &'a [u64],
     writes: &'a [u64],
+    calls: &'a [u64],
     ghost moves: { 0 < cut },
 }
 
-pub(super) fn plain_trial(input: &[u8]) -> Trial<'_> {
+// The name of the text.
+const NAME: &[u8] = b"text";
+
+fn trial_of<'a>(
+    words: &'a [&'static str],
+    input: &'a [u8],
+    text: Option<&'a [u8]>,
+    reads: &'a [u64],
+    calls: &'a [u64],
+) -> Trial<'a> {
     Trial {
         limit: 1_000_000,
-        words: 1,
+        words,
         input,
         cut: 100,
-        reads: &[],
+        text,
+        reads,
         writes: &[],
+        calls,
     }
 }
 
-// The exit status of the run, and what it wrote.
-fn outcome(rt: &HostRuntime, trial: &Trial) -> Result<(u8, Vec<u8>), AllocError> {
+pub(super) fn plain_trial(input: &[u8]) -> Trial<'_> {
+    trial_of(&["domino"], input, None, &[], &[])
+}
+
+// The exit status of the run, what it wrote, and the text that is left.
+type Outcome = (u8, Vec<u8>, Option<Vec<u8>>);
+
+fn outcome(rt: &HostRuntime, trial: &Trial) -> Result<Outcome, AllocError> {
     with_reads::<Brand>(rt, trial, Blank::new(1), Blank::new(1))
 }
 
@@ -47,7 +66,7 @@ fn with_reads<L: Ledger>(
     trial: &Trial,
     reads: Blank,
     probes: Blank,
-) -> Result<(u8, Vec<u8>), AllocError>
+) -> Result<Outcome, AllocError>
     requires name { reads.name ≡ L.name }
     requires parts { reads.parts ≡ L.parts }
     requires some { 0 < reads.parts }
@@ -62,7 +81,7 @@ fn with_probes<L: Ledger, M: Ledger>(
     trial: &Trial,
     reads: &mut Steps<L>,
     probes: Blank,
-) -> Result<(u8, Vec<u8>), AllocError>
+) -> Result<Outcome, AllocError>
     requires name { probes.name ≡ M.name }
     requires parts { probes.parts ≡ M.parts }
     requires some { 0 < probes.parts }
@@ -70,8 +89,8 @@ fn with_probes<L: Ledger, M: Ledger>(
     let mut probes: Steps<M> = Steps::new(rt, probes);
     let alloc = rt.alloc();
     let mut words = Vec::new(alloc);
-    for _ in 0..trial.words {
-        words.push(String::from_str(alloc, "domino")?)?;
+    for word in trial.words {
+        words.push(String::from_str(alloc, word)?)?;
     }
     let mut source = MemSource::new(
         Vec::from_slice(alloc, trial.input)?,
@@ -79,7 +98,10 @@ fn with_probes<L: Ledger, M: Ledger>(
         Vec::from_slice(alloc, trial.reads)?,
     );
     let mut sink = MemSink::new(alloc, trial.cut, Vec::from_slice(alloc, trial.writes)?);
-    let mut shelf = SureShelf::new(alloc);
+    let mut shelf = MemShelf::new(alloc, Vec::from_slice(alloc, trial.calls)?);
+    if let Some(text) = trial.text {
+        shelf.put(NAME, text)?;
+    }
     let status = run_limited(
         alloc,
         trial.limit,
@@ -90,10 +112,14 @@ fn with_probes<L: Ledger, M: Ledger>(
         reads,
         &mut probes,
     );
-    Ok((status.code(), Vec::from_slice(alloc, sink.bytes())?))
+    let left = match shelf.get(NAME) {
+        Some(text) => Some(Vec::from_slice(alloc, text)?),
+        None => None,
+    };
+    Ok((status.code(), Vec::from_slice(alloc, sink.bytes())?, left))
 }
 
-// The run ends with this status, and has written this.
+// The run ends with this status, has written this, and leaves the text as it was.
 pub(super) fn assert_ends(
     rt: &impl Abort,
     host: &HostRuntime,
@@ -101,7 +127,7 @@ pub(super) fn assert_ends(
     status: u8,
     output: &[u8],
 ) -> Result<(), Fail> {
-    let (found, written) = outcome(host, trial)?;
+    let (found, written, left) = outcome(host, trial)?;
     assert_eq!(rt;
         found,
         status,
@@ -115,6 +141,7 @@ pub(super) fn assert_ends(
         trial.limit,
         trial.cut
     );
+    assert_eq!(rt; left.as_deref(), trial.text);
     Ok(())
 }
 
@@ -169,15 +196,64 @@ fn lines_have_at_most_4096_bytes(rt: HostRuntime) -> Result<(), Fail> {
     )
 }
 
+// Nothing is read with bad words, and the shelf isn't asked.
+fn assert_bad(rt: &impl Abort, host: &HostRuntime, words: &[&'static str]) -> Result<(), Fail> {
+    let trial = trial_of(words, INPUT, None, &[1], &[1]);
+    assert_ends(rt, host, &trial, 1, b"bad words\n")
+}
+
 #[test]
-fn only_the_name_of_the_program_is_a_good_word(rt: HostRuntime) -> Result<(), Fail> {
-    for (words, status, output) in [
-        (0, 1, b"bad words\n".as_slice()),
-        (1, 0, OUTPUT),
-        (2, 1, b"bad words\n"),
-    ] {
-        let mut trial = plain_trial(INPUT);
-        trial.words = words;
+fn words_of_no_form_are_bad(rt: HostRuntime) -> Result<(), Fail> {
+    assert_bad(&rt, &rt, &[])?;
+    assert_bad(&rt, &rt, &["domino", "--help"])?;
+    assert_bad(&rt, &rt, &["domino", "--session"])?;
+    assert_bad(&rt, &rt, &["domino", "--gen", ""])?;
+    assert_bad(&rt, &rt, &["domino", "--gen", "+1"])?;
+    assert_bad(&rt, &rt, &["domino", "--gen", "1234567890"])?;
+    assert_bad(&rt, &rt, &["domino", "--list", "1"])?;
+    assert_bad(&rt, &rt, &["domino", "--gen", "1", "2"])
+}
+
+// What an independent program counts of the lines of number 1. Nothing is read, and the shelf isn't asked.
+#[test]
+fn the_lines_of_a_number_are_counted(rt: HostRuntime) -> Result<(), Fail> {
+    let trial = trial_of(&["domino", "--gen", "1"], INPUT, None, &[1], &[1]);
+    assert_ends(
+        &rt,
+        &rt,
+        &trial,
+        0,
+        b"lines 887\nrefused 0\nbytes 32873\nsum 2014983\n",
+    )
+}
+
+const SESSION: &[u8] = b"domino-session 2\nentries 2 clock 5\nclass car 9\ntick 5\nend\n";
+
+// The statuses and what is written with the name of a session, by the text of this name and the call of the
+// shelf that fails.
+#[test]
+fn sessions_are_loaded_without_replies(rt: HostRuntime) -> Result<(), Fail> {
+    let cases: [(Option<&[u8]>, &[u64], u8, &[u8]); 7] = [
+        (Some(SESSION), &[], 0, b"clock 5\nclass car 0/9\nok\n"),
+        (Some(SESSION), &[1], 5, b""),
+        (None, &[], 2, b"bad session 0\n"),
+        (Some(b""), &[], 2, b"bad session 1\n"),
+        (Some(b"domino-session 1\n"), &[], 2, b"bad session 2\n"),
+        (
+            Some(b"domino-session 1\ntick 1\nlist\nend\n"),
+            &[],
+            2,
+            b"bad session 3\n",
+        ),
+        (
+            Some(b"domino-session 1\ntick 1\ndrop w\nend\n"),
+            &[],
+            2,
+            b"bad session 3\n",
+        ),
+    ];
+    for (text, calls, status, output) in cases {
+        let trial = trial_of(&["domino", "--session", "text"], b"list", text, &[], calls);
         assert_ends(&rt, &rt, &trial, status, output)?;
     }
     Ok(())

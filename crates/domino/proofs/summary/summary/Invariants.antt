@@ -1,0 +1,17 @@
+use Rattle.std.proofs.Common.{◌≡◌, ◌+◌, length}
+use Rattle.std.specs.Prelude.{fold}
+use Rattle.outside.specs.Shelf.{texts_of}
+use Rattle.generator.specs.declared.plan.TheConstants.{LINES}
+use Rattle.generator.specs.Lines.{lines_of}
+use Rattle.line_meaning.specs.Step.{base}
+use Rattle.domino.specs.Summary.{counted_line, first_state}
+use Rattle.domino.proofs.summary.summary.Given as goal
+
+-- What is counted so far goes on to what all lines come to, and there are as many lines as a number has.
+abbrev pub invariant-lines : goal.invariant-lines
+invariant-lines g l =
+    (fold counted_line (base l.session (texts_of l.shelf), l.tally) l.lines ≡ fold counted_line first_state (lines_of l.number))
+    × (l.tally.lines + length l.lines ≡ LINES)
+
+abbrev pub decreases-lines : goal.decreases-lines
+decreases-lines g l = length l.lines
