@@ -1,6 +1,8 @@
 // Watched queries in plain Rust without proofs: the yardstick of `updates`. The rows of each query are kept from now
 // to its expiry. A writing judges the bindings of the written object alone, and a tick looks at the rows that begin or
-// end before it, by a queue of those ticks. The targets must be all variables in the order of FROM.
+// end before it, by a queue of those ticks. The targets must be all variables in the order of FROM. With the words
+// `--session NAME` it goes on from a text that was saved: the yardstick of `load`. Such a text has only the commands that
+// it answers.
 #[allow(dead_code)]
 #[path = "asks/answer.rs"]
 mod answer;
@@ -14,6 +16,8 @@ mod grammar;
 #[allow(dead_code)]
 #[path = "session/history.rs"]
 mod history;
+#[path = "updates/loading.rs"]
+mod loading;
 #[path = "session/resolve.rs"]
 mod resolve;
 #[path = "asks/spans.rs"]
@@ -29,6 +33,7 @@ use spans::Span;
 use std::cmp::Reverse;
 use std::collections::BinaryHeap;
 use std::io::{self, Read, Write};
+use std::{env, fs};
 use store::{Place, Store};
 
 const PIECE: usize = 1 << 16;
@@ -179,6 +184,17 @@ impl Watch {
         changes
     }
 
+    /// Renews the rows of the written object.
+    fn renew(&mut self, written: Place, store: &Store, free: &mut Buffers) {
+        let now = store.history.clock;
+        if now > self.expiry {
+            return;
+        }
+        for Change { number, new, .. } in self.changes(written, store, free) {
+            self.replace(number, &new, now);
+        }
+    }
+
     /// Renews the rows of the written object and adds the lines of what changed.
     fn refresh(&mut self, written: Place, store: &Store, free: &mut Buffers, out: &mut Vec<u8>) {
         let now = store.history.clock;
@@ -200,9 +216,8 @@ impl Watch {
         }
     }
 
-    /// Adds the lines of the rows that hold at one of both ticks alone.
-    fn pass(&mut self, before: u32, store: &Store, out: &mut Vec<u8>) {
-        let now = store.history.clock;
+    /// The rows that may have turned until now, in order.
+    fn due(&mut self, now: u32) -> Vec<u32> {
         let mut due = Vec::new();
         while let Some(Reverse((_, number))) = self.turns.peek().copied().filter(|first| first.0.0 <= now) {
             self.turns.pop();
@@ -210,13 +225,29 @@ impl Watch {
         }
         due.sort_unstable();
         due.dedup();
-        for number in due {
+        due
+    }
+
+    /// Waits for the next turn of a row; one that has none is over.
+    fn wait(&mut self, number: u32, now: u32) {
+        match turn(self.rows.get(number), now) {
+            Some(tick) => self.turns.push(Reverse((tick, number))),
+            None => self.rows.put(number, &[]),
+        }
+    }
+
+    /// Lets time pass.
+    fn advance(&mut self, now: u32) {
+        self.due(now).into_iter().for_each(|number| self.wait(number, now));
+    }
+
+    /// Lets time pass and adds the lines of the rows that hold at one of both ticks alone.
+    fn pass(&mut self, before: u32, store: &Store, out: &mut Vec<u8>) {
+        let now = store.history.clock;
+        for number in self.due(now) {
             let spans = self.rows.get(number);
             self.put_turn(out, store, number, holds(spans, before), holds(spans, now));
-            match turn(spans, now) {
-                Some(tick) => self.turns.push(Reverse((tick, number))),
-                None => self.rows.put(number, &[]),
-            }
+            self.wait(number, now);
         }
     }
 
@@ -294,7 +325,13 @@ fn main() -> io::Result<()> {
     let mut input = Vec::new();
     io::stdin().lock().read_to_end(&mut input)?;
     let mut output = io::stdout().lock();
-    let mut session = Session::default();
+    let words: Vec<String> = env::args().skip(1).collect();
+    let mut session = match words.as_slice() {
+        [word, name] if word == "--session" => {
+            loading::load(&fs::read(name)?).map_err(|line| io::Error::other(format!("bad session {line}")))?
+        }
+        _ => Session::default(),
+    };
     let (mut tokens, mut out) = (Vec::new(), Vec::new());
     for line in input.split_inclusive(|byte| *byte == b'\n') {
         let line = line.strip_suffix(b"\n").unwrap_or(line);
