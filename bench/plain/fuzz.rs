@@ -470,6 +470,7 @@ impl Maker {
             Command::Insert(..) | Command::Update(..) | Command::Remove(_) => true,
             Command::Ask(span, query) => self.is_quick(*span, query, NEAR_ASK),
             _ if self.built == Built::Ask => false,
+            Command::Save(file) | Command::Import(_, file) | Command::Export(_, file) => is_file(file.text()),
             Command::Watch(_, span, query) | Command::Keep(_, span, query) => self.is_quick(*span, query, NEAR_WATCH),
             Command::Must(_, span, query) | Command::May(_, span, query) => self.is_quick(*span, query, NEAR_WATCH),
             Command::Nearest(span, ..) | Command::Range(span, ..) => !self.near || *span <= NEAR_ASK[0],
@@ -520,6 +521,11 @@ impl Maker {
         }
         all
     }
+}
+
+/// Whether a file may have the name: any other ends the session.
+fn is_file(name: &[u8]) -> bool {
+    !matches!(name, b"" | b"." | b"..") && !name.contains(&b'/')
 }
 
 /// The assignments on one way from the root.
