@@ -7,7 +7,7 @@ use std::test::Fail;
 use tests::{assert_ends, plain_trial};
 
 /// Appends a line for each number below `count`, with these texts around the number.
-fn push_lines(
+pub(super) fn push_lines(
     alloc: Global,
     out: &mut Vec<u8>,
     count: u32,
@@ -22,7 +22,7 @@ fn push_lines(
 }
 
 /// Appends a text so many times.
-fn push_times(out: &mut Vec<u8>, count: u32, text: &[u8]) -> Result<(), AllocError> {
+pub(super) fn push_times(out: &mut Vec<u8>, count: u32, text: &[u8]) -> Result<(), AllocError> {
     for _ in 0..count {
         out.extend_from_slice(text)?;
     }
@@ -30,12 +30,12 @@ fn push_times(out: &mut Vec<u8>, count: u32, text: &[u8]) -> Result<(), AllocErr
 }
 
 /// Appends `ok` so many times.
-fn push_oks(out: &mut Vec<u8>, count: u32) -> Result<(), AllocError> {
+pub(super) fn push_oks(out: &mut Vec<u8>, count: u32) -> Result<(), AllocError> {
     push_times(out, count, b"ok\n")
 }
 
 /// The input is read whole, and answered with this output.
-fn assert_answers(
+pub(super) fn assert_answers(
     rt: &impl Abort,
     host: &HostRuntime,
     input: &[u8],

@@ -138,6 +138,10 @@ fn count_probes<S: Source, K: Sink, F: Shelf, L: Ledger, M: Ledger>(
 }
 
 #[cfg(test)]
+mod failing_tests;
+#[cfg(test)]
 mod large_tests;
+#[cfg(test)]
+mod limit_tests;
 #[cfg(test)]
 mod tests;

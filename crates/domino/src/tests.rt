@@ -21,17 +21,17 @@ pub(super) struct Trial<'a> {
     words: &'a [&'static str],
     pub(super) input: &'a [u8],
     pub(super) cut: usize,
-    text: Option<&'a [u8]>,
-    reads: &'a [u64],
-    writes: &'a [u64],
-    calls: &'a [u64],
+    pub(super) text: Option<&'a [u8]>,
+    pub(super) reads: &'a [u64],
+    pub(super) writes: &'a [u64],
+    pub(super) calls: &'a [u64],
     ghost moves: { 0 < cut },
 }
 
 // The name of the text.
 const NAME: &[u8] = b"text";
 
-fn trial_of<'a>(
+pub(super) fn trial_of<'a>(
     words: &'a [&'static str],
     input: &'a [u8],
     text: Option<&'a [u8]>,
@@ -127,6 +127,18 @@ pub(super) fn assert_ends(
     status: u8,
     output: &[u8],
 ) -> Result<(), Fail> {
+    assert_leaves(rt, host, trial, status, output, trial.text)
+}
+
+// The run ends with this status, has written this, and leaves this text.
+pub(super) fn assert_leaves(
+    rt: &impl Abort,
+    host: &HostRuntime,
+    trial: &Trial,
+    status: u8,
+    output: &[u8],
+    text: Option<&[u8]>,
+) -> Result<(), Fail> {
     let (found, written, left) = outcome(host, trial)?;
     assert_eq!(rt;
         found,
@@ -141,7 +153,7 @@ pub(super) fn assert_ends(
         trial.limit,
         trial.cut
     );
-    assert_eq!(rt; left.as_deref(), trial.text);
+    assert_eq!(rt; left.as_deref(), text);
     Ok(())
 }
 
@@ -262,12 +274,16 @@ fn sessions_are_loaded_without_replies(rt: HostRuntime) -> Result<(), Fail> {
 // A line that didn't end within the limit has no reply.
 #[test]
 fn bytes_past_the_limit_end_a_run(rt: HostRuntime) -> Result<(), Fail> {
-    let cases: [(u64, &[u8], u8, &[u8]); 7] = [
+    let cases: [(u64, &[u8], u8, &[u8]); 11] = [
         (0, INPUT, 7, b""),
         (23, INPUT, 7, b""),
         (24, INPUT, 7, b"ok\n"),
         (INPUT.len() as u64 - 1, INPUT, 7, b"ok\nok\n"),
         (INPUT.len() as u64, INPUT, 0, OUTPUT),
+        (4, b"list\n", 7, b""),
+        (5, b"list\n", 0, b"clock 0\nok\n"),
+        (4, b"list", 0, b"clock 0\nok\n"),
+        (7, b"list\nlist\n", 7, b"clock 0\nok\n"),
         (4, b"quit\nlist\n", 7, b""),
         (5, b"quit\nlist\n", 0, b"ok\n"),
     ];
