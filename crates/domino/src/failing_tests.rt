@@ -1,4 +1,6 @@
 //! Each call of the outside fails in turn, and moves few bytes at a time.
+ghost use Rattle.std.specs.Prelude.{◌<◌};
+
 use super::*;
 use std::alloc::{AllocError, Global};
 use std::process::Abort;
@@ -27,9 +29,12 @@ const ROWS: &[u8] = b"name,x,x.rate\na,0,1\nb,10,0\n";
 const EXPORTED: &[u8] = b"name,x,x.rate,y,y.rate\na,3,1,0,0\nb,10,0,0,0\n";
 
 /// The replies that are written together where all lines come in one read: none waits while a text is asked for.
-const SENDS: [&[u8]; 3] = [
+const SENDS: [&[u8]; 6] = [
     b"ok\nok\nok\n",
     b"gain w a : 10..20\ngain w b : 0..30\nenter w b\nok\nok\n",
+    b"",
+    b"",
+    b"",
     b"ok\n",
 ];
 
@@ -119,18 +124,20 @@ fn each_read_of_an_import_fails(rt: HostRuntime) -> Result<(), Fail> {
 fn fail_writes(
     rt: &impl Abort,
     host: &HostRuntime,
-    trial: &Trial,
+    input: &[u8],
+    cut: usize,
     reply: &[u8],
     left: &[u8],
     number: &mut u64,
     written: &mut Vec<u8>,
-) -> Result<(), Fail> {
-    for piece in reply.chunks(trial.cut) {
+) -> Result<(), Fail>
+    requires { 0 < cut }
+{
+    for piece in reply.chunks(cut) {
         *number = number.saturating_add(1);
         let failing = [*number];
-        let mut failed = *trial;
-        failed.writes = &failing;
-        assert_leaves(rt, host, &failed, 4, written, Some(left))?;
+        let trial = import_trial(input, cut, &[], &failing, &[]);
+        assert_leaves(rt, host, &trial, 4, written, Some(left))?;
         written.extend_from_slice(piece)?;
     }
     Ok(())
@@ -140,18 +147,28 @@ fn fail_writes(
 fn fail_replies(
     rt: &impl Abort,
     host: &HostRuntime,
-    trial: &Trial,
-    replies: &[&[u8]],
-) -> Result<(), Fail> {
+    input: &[u8],
+    cut: usize,
+    replies: [&[u8]; 6],
+) -> Result<(), Fail>
+    requires { 0 < cut }
+{
     let mut number = 0;
     let mut written = Vec::new(host.alloc());
-    let mut rest = replies;
-    while let Some((reply, later)) = rest.split_first() {
-        let left = if later.is_empty() { EXPORTED } else { ROWS };
-        fail_writes(rt, host, trial, reply, left, &mut number, &mut written)?;
-        rest = later;
+    let [a, b, c, d, e, last] = replies;
+    for reply in [a, b, c, d, e] {
+        fail_writes(rt, host, input, cut, reply, ROWS, &mut number, &mut written)?;
     }
-    Ok(())
+    fail_writes(
+        rt,
+        host,
+        input,
+        cut,
+        last,
+        EXPORTED,
+        &mut number,
+        &mut written,
+    )
 }
 
 #[test]
@@ -159,11 +176,9 @@ fn each_write_of_an_import_fails(rt: HostRuntime) -> Result<(), Fail> {
     let input = input(rt.alloc())?;
     let [(_, a), (_, b), (_, c), (_, d), (_, e), (_, f)] = LINES;
     for cut in [1, 2, 3, 7] {
-        let trial = import_trial(&input, cut, &[], &[], &[]);
-        fail_replies(&rt, &rt, &trial, &[a, b, c, d, e, f])?;
+        fail_replies(&rt, &rt, &input, cut, [a, b, c, d, e, f])?;
     }
-    let trial = import_trial(&input, 4096, &[], &[], &[]);
-    fail_replies(&rt, &rt, &trial, &SENDS)
+    fail_replies(&rt, &rt, &input, 4096, SENDS)
 }
 
 // The first call is that of the import, and the second that of the export.
