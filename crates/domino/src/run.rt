@@ -5,6 +5,7 @@ ghost use Rattle.domino.specs.Words.{Stored, words_of};
 ghost use Rattle.domino.specs.Parts.{AnswersLines, Speaks, status_said};
 ghost use Rattle.domino.specs.Theorem.{RunsAs};
 ghost use Rattle.domino.specs.declared.run.TheConstants.{INPUT_LIMIT};
+ghost use Rattle.domino.specs.declared.words.TheConstants.{MOST_DIGITS};
 
 use crate::machine::{Counters, Counting, Database};
 use crate::opening::{OpenFault, open};
@@ -22,9 +23,10 @@ use steps::Steps;
 /// The most bytes that the program takes.
 pub const INPUT_LIMIT: u64 = 1_073_741_824;
 
-/// The limit, in numbers.
+/// The limits, in numbers.
 pub fn limits_in_numbers()
-    ensures { INPUT_LIMIT ≡ 2 ^ 30 }
+    ensures input { INPUT_LIMIT ≡ 2 ^ 30 }
+    ensures digits { MOST_DIGITS ≡ 9 }
 {}
 
 /// The program over an outside: answers the lines of the source, and writes the replies to the sink, under

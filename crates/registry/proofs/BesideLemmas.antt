@@ -1,6 +1,6 @@
 -- The refusals of a query beside registered ones, by what decides of those.
-use Rattle.std.proofs.Common.{◌≡◌, ℕ, ◌-◌, ◌<◌, Bool, false, Option, List, length, sym, ap, ◌∙◌, arith}
-use Rattle.std.specs.Prelude.{◌^◌, min, nat_le, sum_by}
+use Rattle.std.proofs.Common.{◌≡◌, ℕ, ◌<◌, Bool, false, Option, List, length, sym, ap, ◌∙◌, arith}
+use Rattle.std.specs.Prelude.{nat_le, sum_by}
 use Rattle.std.specs.List.{list_any}
 use Rattle.std.specs.Str.{bytes_eq}
 use Rattle.std.proofs.lemmas.Bool.Decides.{nat_tests}
@@ -12,21 +12,17 @@ use Rattle.command_text.specs.declared.refusal.Refusal.{Refusal}
 use Rattle.ftl_parser.specs.Tree.{QueryTree}
 use Rattle.line_meaning.specs.Ask.{is_past_span, most_bindings, query_in, type_refusal}
 use Rattle.line_meaning.specs.QueryFault.{bindings_of, register_refusal}
-use Rattle.line_meaning.specs.Registry.{Known, Registration, is_registered}
+use Rattle.line_meaning.specs.Registry.{Known, is_registered}
 use Rattle.live_queries.specs.Columns.{variables_of}
 use Rattle.live_queries.specs.Kept.{AreKept, KeptQuery}
 use Rattle.database.specs.declared.database.Database.{Database}
 use Rattle.database.specs.Keeping.{clock_of, world_of_database}
 use Rattle.registry.specs.declared.judging.Others.{Others}
 use Rattle.registry.specs.Beside.{passes_beside, refusal_beside, size_refusal_beside, size_refusal_by}
-use Rattle.registry.specs.Standing.{Stand, known_of, known_with, registration_of}
+use Rattle.registry.specs.Standing.{Stand, known_of, registration_of}
 use Rattle.registry.proofs.JudgeLemmas.{refusal_of}
 use Rattle.registry.proofs.NameLemmas.{named_either, registered_is}
 use Rattle.registry.proofs.SizeLemmas.{all_bindings}
-
--- counts that stay at the largest number pass the limits as the counts themselves do
-pub all_saturated : (b all : ℕ) → passes_beside b (min all (2 ^ 64 - 1)) ≡ passes_beside b all
-all_saturated b all = grind (arith, nat_tests)
 
 pub few_count : (n : ℕ) → n < QUERY_LIMIT → nat_le QUERY_LIMIT n ≡ false
 few_count n few = grind (arith, nat_tests, few)
@@ -44,14 +40,6 @@ known_beside : (k : Known) (others : Others) (name : List ℕ) (span : ℕ) (q :
 known_beside k others name span q taken count all = λ i. refusal_of (type_refusal k.world q) (taken i)
     (size_refusal_by (is_past_span k.now span q.formula) (nat_le QUERY_LIMIT (count i))
     (all (most_bindings k.world.history.catalog.classes (query_in k.world q)) i))
-
-pub noted_beside : (d : Database) (live : List Registration) (others : Others) (name : List ℕ) (span : ℕ) (q : QueryTree) →
-    others.taken ≡ is_registered live name → others.count ≡ length live →
-    others.bindings ≡ min (sum_by (λ r. most_bindings d.store.classes r.query.query) live) (2 ^ 64 - 1) →
-    refusal_beside (world_of_database d) (clock_of d) others span q ≡ register_refusal (known_with d live) name span q
-noted_beside d live others name span q taken count all =
-    known_beside (known_with d live) others name span q taken count
-    (λ b. ap (passes_beside b) all ∙ all_saturated b (bindings_of (known_with d live)))
 
 pub live_beside : (d : Database) (live : List KeptQuery) → AreKept live → Stand d live → (others : Others) (name : List ℕ) (span : ℕ) (q : QueryTree) →
     others.taken ≡ list_any (λ k. bytes_eq k.name name) live → others.count ≡ length live →

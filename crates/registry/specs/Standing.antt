@@ -14,10 +14,6 @@ registration_of k = record { name = k.name; query = registered k }
 abbrev pub known_of : Database → List KeptQuery → Known
 known_of d live = record { world = world_of_database d; now = clock_of d; live = map registration_of live }
 
--- the same of queries that are kept without their rows
-abbrev pub known_with : Database → List Registration → Known
-known_with d live = record { world = world_of_database d; now = clock_of d; live = live }
-
 -- their rows are current at the clock's tick, and none was registered later
 pub record Stand (d : Database) (live : List KeptQuery) : Type 0 where
   pub current : AreCurrent (world_of_database d) (clock_of d) live

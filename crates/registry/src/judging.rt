@@ -15,7 +15,7 @@ ghost use Rattle.line_meaning.specs.QueryFault.{register_refusal, unknown_among}
 ghost use Rattle.database.specs.Keeping.{clock_of, world_of_database};
 ghost use Rattle.database.specs.Telling.{IsStoppedBy};
 ghost use Rattle.registry.specs.Beside.{passes_beside, refusal_beside, size_refusal_beside};
-ghost use Rattle.registry.specs.Standing.{Stand, known_of, known_with};
+ghost use Rattle.registry.specs.Standing.{Stand, known_of};
 
 use crate::registering::Request;
 use command_text::{CommandFault, Refusal};
@@ -26,7 +26,6 @@ use ftl_typer::{TypeFault, resolve};
 use kept_rows::BINDING_LIMIT;
 use line_meaning::ALL_BINDINGS_LIMIT;
 use live_queries::Live;
-use noted_queries::Noted;
 use std::alloc::Global;
 
 /// What decides of the registered queries whether one more is refused.
@@ -132,31 +131,6 @@ pub fn judge(
         taken: live.has(request.name),
         count: live.count() as usize,
         bindings: live.bindings(),
-    };
-    judge_beside(alloc, database, &others, request)
-}
-
-/// The same beside queries that are kept without their rows.
-pub fn judge_noted(
-    alloc: Global,
-    database: &Database,
-    noted: &Noted,
-    request: &Request,
-) -> Result<RQuery, CommandFault>
-    requires lawful { IsLawful (query_view request.now.query.now) }
-    requires now { database.now.clock ≤ LAST_TICK }
-    requires span { request.now.span ≤ LAST_TICK }
-    ensures query { IfOk result (λ q. resolved_view q ≡ query_in (world_of_database database.now) (query_view request.now.query.now)) }
-    ensures sound { IfOk result (λ q. IsResolved (resolved_view q)) }
-    ensures fits { IfOk result (λ q. FitsItsClasses (world_of_database database.now) (resolved_view q)) }
-    ensures right { IsOk result → register_refusal (known_with database.now noted.now) request.now.name.now request.now.span (query_view request.now.query.now) ≡ None }
-    ensures cause { IfErr result (λ fault.
-        IsStoppedBy (register_refusal (known_with database.now noted.now) request.now.name.now request.now.span (query_view request.now.query.now)) fault) }
-{
-    let others = Others {
-        taken: noted.has(request.name),
-        count: noted.count(),
-        bindings: noted.bindings(database.schema()),
     };
     judge_beside(alloc, database, &others, request)
 }

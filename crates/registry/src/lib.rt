@@ -6,6 +6,6 @@ mod judging;
 mod registering;
 mod telling;
 
-pub use judging::{judge, judge_noted};
+pub use judging::judge;
 pub use registering::{Request, register};
 pub use telling::{pass, push_queries, renew, show};
