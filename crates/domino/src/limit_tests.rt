@@ -161,8 +161,9 @@ fn memory_is_there_for_what_is_allowed(rt: HostRuntime) -> Result<(), Fail> {
         alloc,
         b"class one 1 (a num,b num,c num,d num,e num,f num,g num,h num,i num,j num,k num,l num,m num,n num,o num,p num)\ninsert one s\nupdate s a = 1 b = 1 c = 1 d = 1 e = 1 f = 1 g = 1 h = 1 i = 1 j = 1 k = 1 l = 1 m = 1 n = 1 o = 1 p = 1\nregion P",
     )?;
-    for x in 0..64 {
-        let point = format!(in alloc; " ({x},{})", x * x)?;
+    for x in 0..64_u32 {
+        let y = x.wrapping_mul(x);
+        let point = format!(in alloc; " ({x},{y})")?;
         input.extend_from_slice(point.as_bytes())?;
     }
     input.extend_from_slice(b"\n")?;
