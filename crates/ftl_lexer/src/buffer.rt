@@ -1,9 +1,11 @@
 //! The tokens of a line, kept with the line.
 
-ghost use Rattle.std.specs.Prelude.{◌≡◌, ℕ, ◌≤◌, ◌<◌, ◌+◌, [], length, vec_len, vec_capacity, OnOk, OnErr, IfErr, IsTrue, ◌↔◌, slice_get, slice_range, option_map, IfSome};
+ghost use Rattle.std.specs.Prelude.{◌≡◌, ℕ, ◌≤◌, ◌<◌, ◌+◌, [], Err, length, vec_len, vec_capacity, OnOk, OnErr, IfErr, IsTrue, ◌↔◌, slice_get, slice_range, option_map, IfSome};
 ghost use Rattle.ftl_lexer.specs.Tokens.{bad_place, tokens_of, texts_of, lexemes};
 ghost use Rattle.ftl_lexer.specs.Cut.{HasForm};
 ghost use Rattle.ftl_lexer.specs.Faults.{Explains, StandsAfter};
+ghost use Rattle.ftl_lexer.specs.inner.Room.{room_of, HoldLine, BuffersStandAfter};
+ghost use Rattle.ftl_lexer.specs.declared.fault.LexFault.TheVariants.{NoMemory};
 
 use crate::walk::{Step, bad_token, next};
 use crate::{Kind, LexFault, Token};
@@ -40,15 +42,43 @@ fn fill(tokens: &mut Vec<Token>, line: &[u8]) -> Option<usize>
     }
 }
 
-// Room for a line of this length and for its tokens, of which there are no more than bytes.
+// Room for a line of this length and for its tokens, of which there are no more than bytes. Fails only
+// where the line or the tokens had no room.
 fn make_room(line: &mut Vec<u8>, tokens: &mut Vec<Token>, len: usize) -> Result<(), AllocError>
     ensures line { line.new.items ≡ line.old.items }
     ensures tokens { tokens.new.items ≡ tokens.old.items }
-    ensures room { OnOk result ((len ≤ vec_capacity line.new) × (len ≤ vec_capacity tokens.new)) }
-    ensures full { OnErr result (0 < len) }
+    ensures kept { vec_capacity tokens.old ≤ vec_capacity tokens.new }
+    ensures room { OnOk result (len ≤ room_of line.new tokens.new) }
+    ensures full { OnErr result (room_of line.old tokens.old < len) }
 {
     line.reserve(len.saturating_sub(line.len()))?;
     tokens.reserve(len.saturating_sub(tokens.len()))
+}
+
+// Reads a line and its tokens in place of those before. Wants no memory where both have room for it.
+fn read_into(held: &mut Vec<u8>, tokens: &mut Vec<Token>, line: &[u8]) -> Result<(), LexFault>
+    requires { length line.now ≤ LEXER_LIMIT }
+    ensures ok { OnOk result (HoldLine line.now held.new tokens.new) }
+    ensures cause { IfErr result (Explains line.now) }
+    ensures stands { IfErr result (BuffersStandAfter held.old tokens.old held.new tokens.new) }
+    ensures room { result ≡ Err NoMemory → room_of held.old tokens.old < length line.now }
+{
+    if make_room(held, tokens, line.len()).is_err() {
+        let Some(place) = bad_token(line) else {
+            return Err(LexFault::NoMemory);
+        };
+        held.clear();
+        tokens.clear();
+        return Err(LexFault::BadToken(place));
+    }
+    held.clear();
+    tokens.clear();
+    if let Some(place) = fill(tokens, line) {
+        tokens.clear();
+        return Err(LexFault::BadToken(place));
+    }
+    held.extend_from_slice(line).unwrap();
+    Ok(())
 }
 
 #[inline]
@@ -70,7 +100,7 @@ pub struct Tokens {
 }
 
 impl Model for Tokens {
-    ghost use Rattle.std.specs.Prelude.{◌≡◌, ◌≤◌, ℕ, List, None, length};
+    ghost use Rattle.std.specs.Prelude.{◌≡◌, ◌≤◌, ℕ, List, None, length, vec_capacity};
     ghost use Rattle.ftl_lexer.specs.Tokens.{bad_place, tokens_of};
     ghost use Rattle.ftl_lexer.specs.declared.buffer.TheConstants.{LEXER_LIMIT};
 
@@ -80,7 +110,8 @@ impl Model for Tokens {
 
     ghost invariant = { λ t. (t.tokens.items ≡ tokens_of t.line.items)
         × (bad_place t.line.items ≡ None)
-        × (length t.line.items ≤ LEXER_LIMIT) };
+        × (length t.line.items ≤ LEXER_LIMIT)
+        × (length t.line.items ≤ vec_capacity t.tokens) };
 }
 
 impl Tokens {
@@ -96,29 +127,17 @@ impl Tokens {
 
     /// Reads a line of at most 16,384 bytes in place of the one before. Answers `BadToken` with the
     /// first byte at which no token begins, also where there is no memory; it then holds the empty line.
-    /// After `NoMemory` it holds what it held.
+    /// After `NoMemory` it holds what it held, which the line is longer than.
     pub fn read(&mut self, line: &[u8]) -> Result<(), LexFault>
         requires { length line.now ≤ LEXER_LIMIT }
         ensures ok { OnOk result ((self.new ≡ line.now) × (bad_place line.now ≡ None)) }
         ensures cause { IfErr result (Explains line.now) }
         ensures stands { IfErr result (StandsAfter self.old self.new) }
+
+        // A line that is no longer than the one it holds has room where that one stands.
+        ensures room { result ≡ Err NoMemory → length self.old < length line.now }
     {
-        if make_room(&mut self.line, &mut self.tokens, line.len()).is_err() {
-            let Some(place) = bad_token(line) else {
-                return Err(LexFault::NoMemory);
-            };
-            self.line.clear();
-            self.tokens.clear();
-            return Err(LexFault::BadToken(place));
-        }
-        self.line.clear();
-        self.tokens.clear();
-        if let Some(place) = fill(&mut self.tokens, line) {
-            self.tokens.clear();
-            return Err(LexFault::BadToken(place));
-        }
-        self.line.extend_from_slice(line).unwrap();
-        Ok(())
+        read_into(&mut self.line, &mut self.tokens, line)
     }
 
     /// The number of tokens.

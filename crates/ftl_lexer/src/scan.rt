@@ -153,6 +153,7 @@ fn symbol_at(first: u8, rest: &[u8]) -> Option<(Kind, usize)>
 }
 
 // The token at the front, by its kind and its number of bytes. None where no token begins there.
+#[inline(always)]
 #[tactic(auto, unfolding(crate::specs::Forms::token_at))]
 pub(crate) fn token_at(bytes: &[u8]) -> Option<(Kind, usize)>
     ensures { result ≡ token_at bytes.now }

@@ -23,6 +23,7 @@ pub(crate) enum Step {
     Bad(usize),
 }
 
+#[inline(always)]
 pub(crate) fn next(line: &[u8], from: usize) -> Step
     requires { from ≤ length line.now }
     ensures { Follows line.now from result }

@@ -1,11 +1,8 @@
--- After a fault the empty line stands, which has no tokens.
-use Rattle.ftl_lexer.proofs.Steps.{nothing_lexed}
+-- What is read agrees with the line, and what stands after a fault agrees as before.
+use Rattle.ftl_lexer.proofs.Rooms.{agree_after}
 use Rattle.ftl_lexer.proofs.buffer.Tokens.read.Goals as goal
 
-pub invariant_of-self-then-is_err : goal.invariant_of-self-then-is_err
-invariant_of-self-then-is_err c =
-    nothing_lexed c.clear.new.self.items c.clear-then-is_err.new.self.items c.clear.ensures.items c.clear-then-is_err.ensures.items
-
-pub invariant_of-self-in-Some-fill : goal.invariant_of-self-in-Some-fill
-invariant_of-self-in-Some-fill c =
-    nothing_lexed c.clear-2.new.self.items c.clear-in-Some-fill.new.self.items c.clear-2.ensures.items c.clear-in-Some-fill.ensures.items
+pub invariant_of-self : goal.invariant_of-self
+invariant_of-self c =
+    agree_after c.read_into.result c.args.line.now c.self.inside.line c.self.inside.tokens c.read_into.new.held c.read_into.new.tokens
+    c.requires c.self.invariant c.read_into.ensures.ok c.read_into.ensures.stands
