@@ -1,6 +1,6 @@
 -- Writes to cells, by index and by name.
-use Rattle.std.proofs.Common.{◌≡◌, ℕ, zero, suc, ◌+◌, ◌<◌, ◌≤◌, Bool, true, false, cond, Option, None, Some, List, [], ◌∷◌, ◌++◌, map, length, set, get_or, take, refl, sym, ap, ◌∙◌, arith, if◌then◌else◌, All}
-use Rattle.std.specs.Prelude.{option_map}
+use Rattle.std.proofs.Common.{◌≡◌, ℕ, zero, suc, ◌+◌, ◌<◌, ◌≤◌, Bool, true, false, cond, Option, None, Some, List, [], ◌∷◌, ◌++◌, map, length, set, get_or, take, drop, refl, sym, ap, ◌∙◌, arith, if◌then◌else◌, All}
+use Rattle.std.specs.Prelude.{option_map, codes}
 use Rattle.std.specs.List.{fold, filter_map, cons_option, position}
 use Rattle.std.specs.Option.{option_map_or}
 use Rattle.std.specs.Str.{bytes_eq}
@@ -9,11 +9,12 @@ use Rattle.motion.specs.declared.cell.Cell.{Cell}
 use Rattle.motion.specs.declared.cell.Given.{Given}
 use Rattle.motion.specs.declared.cell.NamedSet.{NamedSet}
 use Rattle.motion.specs.declared.cell.Place.{Place}
-use Rattle.motion.specs.Cells.{fresh, set_at, set_named, written, changed, place_sets, cells_after, IsGiven}
+use Rattle.motion.specs.Cells.{fresh, set_at, set_named, written, changed, place_sets, setting_of, given_of, cells_after, IsGiven}
 use Rattle.history.specs.Write.{Attribute}
+use Rattle.history.specs.Catalog.{coordinates}
 use Rattle.history.specs.State.{attribute_names, inserted, updated}
 use Rattle.object_store.specs.Changes.{change_of, changes_of, fresh_cells}
-use Rattle.std.proofs.lemmas.List.{map-append, take_more}
+use Rattle.std.proofs.lemmas.List.{map-append, take-append-drop, take_more}
 use Rattle.object_store.proofs.Lists.{index_in, index_is}
 
 bytes_eq_flip : (a b : List ℕ) → bytes_eq a b ≡ bytes_eq b a
@@ -55,6 +56,36 @@ changed-cells now attributes (s ∷ sets) cells =
 
 pub changed-inserted : (now : ℕ) (attributes : List Attribute) (place : Place) (sets : List NamedSet) → changed now (changes_of attributes (place_sets place ++ sets)) (fresh_cells now attributes) ≡ inserted now attributes place sets
 changed-inserted now attributes place sets = changed-cells now attributes (place_sets place ++ sets) (fresh_cells now attributes)
+
+-- ---- a point class begins with x and y
+
+x_at : (rest : List Attribute) → position (λ a. bytes_eq (codes "x") a.name) (coordinates ++ rest) ≡ Some 0
+x_at rest = index_is (λ (a : Attribute). bytes_eq (codes "x") a.name) (coordinates ++ rest)
+
+y_at : (rest : List Attribute) → position (λ a. bytes_eq (codes "y") a.name) (coordinates ++ rest) ≡ Some 1
+y_at rest = index_is (λ (a : Attribute). bytes_eq (codes "y") a.name) (coordinates ++ rest)
+
+-- changes of x and y, where something is given for them
+abbrev given_both : Option Given → Option Given → List (ℕ × Given)
+given_both x y =
+    cons_option (option_map (λ given. (0, given)) x) (cons_option (option_map (λ given. (1, given)) y) [])
+
+both_named : (rest : List Attribute) (x y : Option Given) → changes_of (coordinates ++ rest) (setting_of (codes "x") x ++ setting_of (codes "y") y) ≡ given_both x y
+both_named rest None None = refl
+both_named rest (Some x) None = ap (λ r. cons_option (option_map (λ index. (index, x)) r) []) (x_at rest)
+both_named rest None (Some y) = ap (λ r. cons_option (option_map (λ index. (index, y)) r) []) (y_at rest)
+both_named rest (Some x) (Some y) = λ i.
+    cons_option (option_map (λ index. (index, x)) (x_at rest i)) (cons_option (option_map (λ index. (index, y)) (y_at rest i)) [])
+
+-- what a place gives is written to the first two attributes
+pub placed_both : (attributes : List Attribute) (place : Place) → take 2 attributes ≡ coordinates
+    → changes_of attributes (place_sets place) ≡ changes_of coordinates (place_sets place)
+placed_both attributes place first =
+    let x = given_of (option_map (λ p. p.x) place.at) (option_map (λ m. m.0) place.moving) in
+    let y = given_of (option_map (λ p. p.y) place.at) (option_map (λ m. m.1) place.moving) in
+    ap (λ attributes. changes_of attributes (place_sets place)) (sym (take-append-drop 2 attributes) ∙ ap (λ front. front ++ drop 2 attributes) first)
+    ∙ both_named (drop 2 attributes) x y
+    ∙ sym (both_named [] x y)
 
 -- the cells of a class, as far as the code has come
 pub fresh_more : (now : ℕ) (attributes : List Attribute) (i : ℕ) (d : Attribute) → i < length attributes → fresh_cells now (take (i + 1) attributes) ≡ fresh_cells now (take i attributes) ++ fresh now (get_or attributes i d).kind ∷ []

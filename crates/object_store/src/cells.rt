@@ -3,6 +3,7 @@ ghost use Rattle.std.specs.Prelude.{◌≡◌, ◌<◌, ◌≤◌, ◌++◌, ◌
 ghost use Rattle.std.specs.Option.{option_map_or};
 ghost use Rattle.motion.specs.Cells.{AreCellsAt, AreChanges, changed, place_sets};
 ghost use Rattle.tick_set.specs.declared.spans.TheConstants.{LAST_TICK};
+ghost use Rattle.history.specs.Catalog.{coordinates};
 ghost use Rattle.object_store.specs.Changes.{changes_of, fresh_cells};
 
 use crate::class::Class;
@@ -15,6 +16,7 @@ use tick_set::LAST_TICK;
 pub type Changes = Vec<(usize, Given)>;
 
 /// Fills the buffer with what a command writes.
+#[tactic(auto, using(crate::proofs::CellLemmas::placed_both))]
 pub fn fill(
     changes: &mut Changes,
     class: &Class,
@@ -24,14 +26,41 @@ pub fn fill(
     ensures { OnOk result (changes.new.items ≡ changes_of class.now.attributes (place_sets place.now ++ sets.now)) }
 {
     changes.clear();
-    if let Some(coordinates) = coordinates(place) {
-        push(changes, class, &coordinates)?;
+    if class.is_point() {
+        push_place(changes, place)?;
+    } else if let Some(sets) = coordinates(place) {
+        push(changes, class, &sets)?;
     }
     push(changes, class, sets)?;
     Ok(())
 }
 
-/// What a place gives for x and y.
+/// Appends what a place gives for x and y, the first two attributes of a point class.
+fn push_place(changes: &mut Changes, place: &Place) -> Result<(), AllocError>
+    ensures { OnOk result (changes.new.items ≡ changes.old.items ++ changes_of coordinates (place_sets place.now)) }
+{
+    match (&place.at, &place.moving) {
+        (None, None) => Ok(()),
+        (Some(at), None) => push_both(changes, Given::Num(at.x), Given::Num(at.y)),
+        (None, Some(moving)) => push_both(changes, Given::Rate(moving.0), Given::Rate(moving.1)),
+        (Some(at), Some(moving)) => push_both(
+            changes,
+            Given::Both(at.x, moving.0),
+            Given::Both(at.y, moving.1),
+        ),
+    }
+}
+
+/// Appends what is given for the first two attributes.
+fn push_both(changes: &mut Changes, x: Given, y: Given) -> Result<(), AllocError>
+    ensures { OnOk result (changes.new.items ≡ changes.old.items ++ (0, x) ∷ (1, y) ∷ []) }
+{
+    changes.push((0, x))?;
+    changes.push((1, y))?;
+    Ok(())
+}
+
+/// What a place gives for x and y by their names.
 fn coordinates(place: &Place) -> Option<[NamedSet; 2]>
     ensures { place_sets place.now ≡ option_map_or (λ sets. sets) result [] }
 {

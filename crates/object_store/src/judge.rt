@@ -119,6 +119,9 @@ fn is_placed(place: &Place) -> bool
 fn repeats_set(place: &Place, sets: &[NamedSet]) -> bool
     ensures { result ≡ repeats_set place.now sets.now }
 {
+    if sets.is_empty() {
+        return false;
+    }
     let placed = is_placed(place);
     if placed && names_set(sets, &x_name()) {
         return true;
