@@ -3,4 +3,5 @@ pub mod Padding
 pub mod Dynamic
 pub mod Cells
 pub mod Timeline
+pub mod Straight
 pub mod Pieces

@@ -15,6 +15,7 @@ mod laws;
 mod legs;
 mod limits;
 mod pieces;
+mod straight;
 mod timeline;
 mod vector;
 
@@ -29,5 +30,6 @@ pub use laws::{
 pub use legs::{LONGEST_LEG, Legs, MOST_FIRSTS};
 pub use limits::{ATTRIBUTE_LIMIT, CAPACITY_LIMIT};
 pub use pieces::Piece;
+pub use straight::Straight;
 pub use timeline::Timeline;
 pub use vector::Vector;

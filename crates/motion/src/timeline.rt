@@ -6,11 +6,13 @@ ghost use Rattle.tick_set.specs.declared.spans.TheConstants.{LAST_TICK};
 ghost use Rattle.tick_set.specs.Ticks.{within};
 ghost use Rattle.motion.specs.Cells.{AreCellsAt, AreChanges, changed};
 ghost use Rattle.motion.specs.Timeline.{Epoch, put, epoch_at, state_at, restored, AreBegunBy, IsRising, IsEpoch, StandsAsLeft, TakesBack};
+ghost use Rattle.motion.specs.Straight.{IsStraightOf};
 ghost use Rattle.motion.specs.Pieces.{ArePieces, IsPiece, IsSteady, pieces_have};
 
 use crate::cell::{Cell, Given};
 use crate::epoch::Epoch;
 use crate::pieces::{Piece, begun_count, piece_from, pieces};
+use crate::straight::{Straight, straight_of};
 use std::alloc::{AllocError, Global};
 use std::marker::Model;
 use std::mem;
@@ -21,17 +23,20 @@ use tick_set::{LAST_TICK, Window};
 #[derive(Debug, Drop)]
 pub struct Timeline {
     epochs: Vec<Epoch>,
+    // A reader of a place needs no look at the epochs where the last one tells it by one line.
+    straight: Option<Straight>,
 }
 
 impl Model for Timeline {
     ghost use Rattle.std.specs.Prelude.{List};
-    ghost use Rattle.motion.specs.Timeline.{Epoch, IsRising};
+    ghost use Rattle.motion.specs.Timeline.{Epoch};
+    ghost use Rattle.motion.specs.Straight.{AreTimelineFields};
 
     ghost Value = { List Epoch };
 
     ghost view = { λ a. a.epochs.items };
 
-    ghost invariant = { λ a. IsRising a.epochs.items };
+    ghost invariant = { λ a. AreTimelineFields a.epochs.items a.straight };
 }
 
 impl Timeline {
@@ -41,6 +46,7 @@ impl Timeline {
     {
         Timeline {
             epochs: Vec::new(alloc),
+            straight: None,
         }
     }
 
@@ -72,7 +78,7 @@ impl Timeline {
         ensures replaced { IfOk result (λ replaced. TakesBack self.old self.new replaced) }
         ensures err { OnErr result (self.new ≡ self.old) }
     {
-        put(&mut self.epochs, Epoch::of(now, cells))
+        self.put(Epoch::of(now, cells))
     }
 
     /// Writes these values at tick `now` to the cells of these indexes, in their order. What doesn't fit
@@ -94,7 +100,7 @@ impl Timeline {
     {
         let alloc = *self.epochs.allocator();
         let epoch = epoch_after(alloc, &self.epochs, now, changes)?;
-        put(&mut self.epochs, epoch)
+        self.put(epoch)
     }
 
     /// The object is absent from tick `now` on, which isn't before its last epoch.
@@ -108,7 +114,7 @@ impl Timeline {
         ensures err { OnErr result (self.new ≡ self.old) }
     {
         let alloc = *self.epochs.allocator();
-        put(&mut self.epochs, Epoch::absent(alloc, now))
+        self.put(Epoch::absent(alloc, now))
     }
 
     /// Takes a writing call back that answered `replaced`, the timeline standing as that call left it. It
@@ -118,6 +124,20 @@ impl Timeline {
         ensures { self.new ≡ restored self.old replaced }
     {
         restore(&mut self.epochs, replaced);
+        self.straight = straight_of(&self.epochs);
+    }
+
+    /// Writes an epoch after the last one, or over it where that begins at the same tick.
+    fn put(&mut self, epoch: Epoch) -> Result<Option<Epoch>, AllocError>
+        requires { AreBegunBy self.old epoch.from }
+        ensures ok { OnOk result (self.new ≡ put self.old epoch) }
+        ensures appended { IfOk result (λ r. IsNone r ↔ (self.new ≡ self.old ++ epoch ∷ [])) }
+        ensures replaced { IfOk result (λ replaced. TakesBack self.old self.new replaced) }
+        ensures err { OnErr result (self.new ≡ self.old) }
+    {
+        let replaced = put(&mut self.epochs, epoch)?;
+        self.straight = straight_of(&self.epochs);
+        Ok(replaced)
     }
 
     /// The epoch in force at tick `t`. None exactly where `t` is before the first epoch. It takes no memory.
@@ -169,6 +189,15 @@ impl Timeline {
         ensures in_force { (t : ℕ) → AreBegunBy self.now t → option_copied result ≡ epoch_at self.now t }
     {
         self.epochs.last()
+    }
+
+    /// The line along which the object's first two attributes move from the first tick of its last epoch
+    /// on. It takes no look at the epochs. None tells nothing.
+    #[inline]
+    pub fn straight(&self) -> Option<&Straight>
+        ensures { IfSome result (λ line. IsStraightOf self.now line.now) }
+    {
+        self.straight.as_ref()
     }
 
     /// The parts of the window, in order, in each of which one epoch is in force and each dynamic
