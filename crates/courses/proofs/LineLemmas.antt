@@ -1,29 +1,23 @@
--- How attributes of one leg move.
-use Rattle.std.proofs.Common.{◌≡◌, ℕ, ℤ, pos, ◌+◌, ◌-◌, ◌*ℤ◌, ◌+ℤ◌, ◌≤◌, [], sym, ap, ◌∙◌, arith}
+-- How the line that a timeline tells goes on from a later tick.
+use Rattle.std.proofs.Common.{◌≡◌, ℕ, ℤ, pos, ◌-◌, ◌*ℤ◌, ◌+ℤ◌, ◌≤◌, Some, List, ap, ◌∙◌, arith}
+use Rattle.std.specs.Prelude.{option_and_then}
 use Rattle.std.proofs.lemmas.Int.{ints}
-use Rattle.motion.specs.Dynamic.{Dynamic, value_at}
-use Rattle.motion.specs.Function.{legs_rise}
+use Rattle.geometry.specs.Plane.{point}
+use Rattle.motion.specs.declared.straight.Straight.{Straight}
+use Rattle.motion.specs.Timeline.{Epoch}
+use Rattle.motion.specs.Straight.{IsStraightOf}
+use Rattle.motion.proofs.StraightLemmas.{climbed_on}
+use Rattle.courses.specs.Places.{dynamic_of, place_at, place_by, place_of}
 
-climbed : (k : ℤ) (d w : ℕ) → k *ℤ pos (d + w) ≡ k *ℤ pos d +ℤ k *ℤ pos w
-climbed k d w = omega (arith, ints)
+-- the place by the line, from its first tick on
+pub place_at-straight : (epochs : List Epoch) (line : Straight) (t : ℕ) → IsStraightOf epochs line → line.from ≤ t
+    → place_at epochs t ≡ Some (point (line.x +ℤ line.dx *ℤ pos (t - line.from)) (line.y +ℤ line.dy *ℤ pos (t - line.from)))
+place_at-straight epochs line t told later =
+    ap (option_and_then (λ p. place_of p t)) (told.in_force t later)
+    ∙ (λ i. place_by (option_and_then dynamic_of (told.x.cell i)) (option_and_then dynamic_of (told.y.cell i)) t)
+    ∙ (λ i. Some (point (told.x.value t later i) (told.y.value t later i)))
 
-climbed_on : (k : ℤ) (u lo t : ℕ) → u ≤ lo → lo ≤ t → k *ℤ pos (t - u) ≡ k *ℤ pos (lo - u) +ℤ k *ℤ pos (t - lo)
-climbed_on k u lo t written later =
-    let parts : t - u ≡ (lo - u) + (t - lo) = omega arith in
-    ap (λ n. k *ℤ pos n) parts ∙ climbed k (lo - u) (t - lo)
-
--- the value by the one leg
-by_leg : (v : Dynamic) (t : ℕ) → v.function.firsts ≡ [] → value_at v t ≡ v.value +ℤ v.function.last *ℤ pos (t - v.updatetime)
-by_leg v t one = ap (λ legs. v.value +ℤ legs_rise legs v.function.last (t - v.updatetime)) one
-
-pub value_on : (v : Dynamic) (lo t : ℕ) → v.function.firsts ≡ [] → v.updatetime ≤ lo → lo ≤ t →
-    value_at v t ≡ value_at v lo +ℤ v.function.last *ℤ pos (t - lo)
-value_on v lo t one written later =
-    let here = by_leg v lo one in
-    let there = by_leg v t one in
-    let on = climbed_on v.function.last v.updatetime lo t written later in
-    omega (arith, ints, here, there, on)
-
--- the same by what calls answered
-pub on_line : (there here at slope last : ℤ) (d : ℕ) → there ≡ here +ℤ slope *ℤ pos d → at ≡ here → last ≡ slope → there ≡ at +ℤ last *ℤ pos d
-on_line there here at slope last d is begins same = is ∙ (λ i. sym begins i +ℤ sym same i *ℤ pos d)
+-- a value that moves by one slope, by its value `at` at a later tick
+pub moved_on : (start slope at : ℤ) (from lo t : ℕ) → at ≡ start +ℤ slope *ℤ pos (lo - from) → from ≤ lo → lo ≤ t
+    → start +ℤ slope *ℤ pos (t - from) ≡ at +ℤ slope *ℤ pos (t - lo)
+moved_on start slope at from lo t is order later = let on = climbed_on slope from lo t order later in omega (arith, ints, on, is)

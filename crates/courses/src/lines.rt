@@ -1,15 +1,17 @@
 //! The line along which a point object moves.
-ghost use Rattle.std.specs.Prelude.{◌≡◌, ◌<◌, ◌-◌, ◌≤◌, ℕ, Some, None, [], IfSome, IfNone, IsTrue, ◌↔◌};
+ghost use Rattle.std.specs.Prelude.{◌≡◌, ◌<◌, ◌+◌, ◌*◌, ◌-◌, ◌≤◌, ℕ, pos, ◌+ℤ◌, ◌*ℤ◌, unsigned_abs, Some, None, IfSome, IfNone};
 ghost use Rattle.std.specs.Option.{option_copied};
+ghost use Rattle.fixed_point.specs.declared.number.TheConstants.{READ_LIMIT, SLOPE_LIMIT};
 ghost use Rattle.geometry.specs.Plane.{point};
 ghost use Rattle.motion.specs.Dynamic.{value_at};
 ghost use Rattle.motion.specs.Pieces.{AreSteadyCells, IsLinear};
 ghost use Rattle.linear_crossing.specs.Moving.{IsInReach, position_after};
+ghost use Rattle.linear_crossing.specs.declared.quad.TheConstants.{COORDINATE_LIMIT};
 ghost use Rattle.tick_set.specs.declared.spans.TheConstants.{LAST_TICK};
 ghost use Rattle.courses.specs.Parts.{piece_count};
 ghost use Rattle.courses.specs.Places.{dynamic_at, place_at, place_of};
 
-use fixed_point::Point;
+use fixed_point::{Fix, Point, Slope};
 use linear_crossing::Line;
 use motion::{Cell, Epoch, Timeline, Vector};
 use tick_set::{LAST_TICK, Span};
@@ -29,8 +31,8 @@ pub fn line_from(epoch: &Epoch, span: Span) -> Option<Line>
     Some(line(x, y, span))
 }
 
-/// The line along which a point object moves throughout the span, where its last epoch tells it at once: that is in force
-/// from the first tick on, and the object's first two attributes have one leg each. None tells nothing.
+/// The line along which a point object moves throughout the span, where its timeline tells it at once: the last epoch is in
+/// force from the first tick on, and the object's first two attributes have one leg each. None tells nothing.
 #[inline(always)]
 pub fn straight_line(timeline: &Timeline, span: Span) -> Option<Line>
     ensures reach { IfSome result IsInReach }
@@ -38,57 +40,40 @@ pub fn straight_line(timeline: &Timeline, span: Span) -> Option<Line>
         → place_at timeline.now t ≡ Some (position_after l (t - span.lo))) }
     ensures counted { IfSome result (λ l. 0 < piece_count timeline.now span.lo span.hi) }
 {
-    if !timeline.is_begun_by(span.lo) {
+    let line = timeline.straight()?;
+    if span.lo < line.from {
         return None;
     }
-    straight_by(timeline.last()?, span.lo)
-}
-
-// The same of an epoch that begins by a tick, while it is in force.
-#[inline(always)]
-fn straight_by(epoch: &Epoch, from: u32) -> Option<Line>
-    requires begun { epoch.now.from ≤ from }
-    requires tick { from ≤ LAST_TICK }
-    ensures reach { IfSome result IsInReach }
-    ensures places { IfSome result (λ l. (t : ℕ) → from ≤ t
-        → place_of epoch.now t ≡ Some (position_after l (t - from))) }
-{
-    let x = vector(epoch, 0)?;
-    let y = vector(epoch, 1)?;
-    if has_one_leg(x) && has_one_leg(y) {
-        Some(straight(x, y, from))
-    } else {
-        None
-    }
-}
-
-#[inline(always)]
-fn has_one_leg(vector: &Vector) -> bool
-    ensures { IsTrue result ↔ (vector.now.function.firsts ≡ []) }
-{
-    vector.function().firsts().is_empty()
-}
-
-// The line of two attributes of one leg each.
-#[inline(always)]
-fn straight(x: &Vector, y: &Vector, from: u32) -> Line
-    requires x_one { x.now.function.firsts ≡ [] }
-    requires y_one { y.now.function.firsts ≡ [] }
-    requires x_written { x.now.updatetime ≤ from }
-    requires y_written { y.now.updatetime ≤ from }
-    requires tick { from ≤ LAST_TICK }
-    ensures reach { IsInReach result }
-    ensures places { (t : ℕ) → from ≤ t
-        → point (value_at x.now t) (value_at y.now t) ≡ position_after result (t - from) }
-{
-    Line {
+    Some(Line {
         at: Point {
-            x: x.at(from),
-            y: y.at(from),
+            x: value_after(line.x, line.dx, line.from, span.lo),
+            y: value_after(line.y, line.dy, line.from, span.lo),
         },
-        dx: x.function().last(),
-        dy: y.function().last(),
-    }
+        dx: line.dx,
+        dy: line.dy,
+    })
+}
+
+// The value at tick `to` of what moves by one slope, and has the value `start` at tick `from`.
+#[inline(always)]
+fn value_after(start: Fix, slope: Slope, from: u32, to: u32) -> Fix
+    requires order { from ≤ to }
+    requires tick { to ≤ LAST_TICK }
+    requires near { unsigned_abs start ≤ READ_LIMIT + SLOPE_LIMIT * from }
+    ensures value { result ≡ start +ℤ slope *ℤ pos (to - from) }
+    ensures reach { unsigned_abs result ≤ COORDINATE_LIMIT }
+{
+    Fix::of(start.raw() + rise(slope, to - from)).unwrap()
+}
+
+// How far a slope rises in these ticks, in thousandths.
+#[inline(always)]
+fn rise(slope: Slope, ticks: u32) -> i64
+    requires { ticks ≤ LAST_TICK }
+    ensures value { result ≡ slope *ℤ pos ticks }
+    ensures in_range { unsigned_abs slope ≤ SLOPE_LIMIT }
+{
+    slope.raw() * i64::from(ticks)
 }
 
 // The dynamic attribute of an index.

@@ -10,7 +10,7 @@ use Rattle.motion.proofs.TimelineLemmas.{begun_by_last, epoch_at-last}
 climbed : (k : ℤ) (d w : ℕ) → k *ℤ pos (d + w) ≡ k *ℤ pos d +ℤ k *ℤ pos w
 climbed k d w = omega (arith, ints)
 
-climbed_on : (k : ℤ) (u from t : ℕ) → u ≤ from → from ≤ t → k *ℤ pos (t - u) ≡ k *ℤ pos (from - u) +ℤ k *ℤ pos (t - from)
+pub climbed_on : (k : ℤ) (u from t : ℕ) → u ≤ from → from ≤ t → k *ℤ pos (t - u) ≡ k *ℤ pos (from - u) +ℤ k *ℤ pos (t - from)
 climbed_on k u from t written later =
     let parts : t - u ≡ (from - u) + (t - from) = omega arith in
     ap (λ n. k *ℤ pos n) parts ∙ climbed k (from - u) (t - from)
