@@ -25,11 +25,17 @@ fn is_ascii(byte: u8) -> bool
     byte == b'\t' || (32 <= byte && byte <= 126)
 }
 
-/// Whether a line has a byte other than a tab and 0x20 to 0x7E.
+/// Whether a line has a byte other than a tab and 0x20 to 0x7E. It looks at all of them, which a compiler does
+/// many at a time, where a walk that ends at the first one goes byte by byte.
+#[tactic(auto, using(std::proofs::lemmas::List::Folds::list_any_more))]
 fn has_other_byte(line: &[u8]) -> bool
     ensures { result ≡ has_other_byte line.now }
 {
-    line.iter().any(|byte| !is_ascii(*byte))
+    let mut found = false;
+    'bytes: for byte in line {
+        found |= !is_ascii(*byte);
+    }
+    found
 }
 
 /// Whether the first byte of a line that is neither a space nor a tab is `#`.

@@ -1,3 +1,4 @@
+pub mod GroupLemmas
 pub mod LinesLemmas
 pub mod MachineLemmas
 pub mod StopLemmas

@@ -1,5 +1,6 @@
 // Lines are answered as they end.
-ghost use Rattle.std.specs.Prelude.{◌≡◌, ◌++◌, ◌∷◌, [], ℕ, List, length, OnOk, position, ◌==◌};
+ghost use Rattle.std.specs.Prelude.{◌≡◌, ◌≤◌, ◌++◌, ◌∷◌, ◌+◌, ◌-◌, [], ℕ, List, length, OnOk, position, ◌==◌};
+ghost use Rattle.std.specs.List.{list_any, position_or_len};
 ghost use Rattle.std.specs.Str.Lines.{strip_carriage_return};
 ghost use Rattle.line_loop.specs.Lines.{ended_from, open_from, line_feed};
 ghost use Rattle.line_loop.specs.Kept.{IsKept, kept_part};
@@ -12,11 +13,53 @@ use crate::replies::{most_waiting, send};
 use crate::stop::Stop;
 use outside::{OutFail, Sink};
 
-// The place of the first line feed.
-fn line_end(bytes: &[u8]) -> Option<usize>
+// The bytes that are looked at together for a line feed, which a compiler does many at a time.
+const GROUP: usize = 32;
+
+#[tactic(auto, using(std::proofs::lemmas::List::Folds::list_any_more))]
+fn has_line_feed(group: &[u8; GROUP]) -> bool
+    ensures { result ≡ list_any (λ byte. byte == line_feed) group.now }
+{
+    let mut found = false;
+    'bytes: for byte in group {
+        found |= *byte == b'\n';
+    }
+    found
+}
+
+// What is left of the bytes after the groups in front that have no line feed.
+#[tactic(auto, using(crate::proofs::GroupLemmas::passed_group))]
+fn after_groups(bytes: &[u8]) -> &[u8]
+    ensures part { length result.now ≤ length bytes.now }
+    ensures place { position_or_len (λ byte. byte == line_feed) bytes.now
+        ≡ length bytes.now - length result.now + position_or_len (λ byte. byte == line_feed) result.now }
+{
+    let mut rest = bytes;
+    'groups: while let Some((group, later)) = rest.split_first_chunk::<GROUP>() {
+        if has_line_feed(group) {
+            break;
+        }
+        rest = later;
+    }
+    rest
+}
+
+fn first_line_feed(bytes: &[u8]) -> Option<usize>
     ensures { result ≡ position (λ byte. byte == line_feed) bytes.now }
 {
     bytes.iter().position(|byte| *byte == b'\n')
+}
+
+// The place of the first line feed.
+#[tactic(auto, using(crate::proofs::GroupLemmas::place_behind))]
+fn line_end(bytes: &[u8]) -> Option<usize>
+    ensures { result ≡ position (λ byte. byte == line_feed) bytes.now }
+{
+    let rest = after_groups(bytes);
+    match first_line_feed(rest) {
+        Some(place) => Some(bytes.len() - rest.len() + place),
+        None => None,
+    }
 }
 
 /// Answers a line, unless the machine is done. The reply is gathered after the earlier ones; these are written before,
