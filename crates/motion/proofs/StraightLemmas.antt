@@ -1,4 +1,4 @@
--- How an attribute of one leg moves, and what the last epoch tells from its first tick on.
+-- For this crate and for the crates above: how an attribute of one leg moves, and what the last epoch tells from its first tick on.
 use Rattle.std.proofs.Common.{◌≡◌, ℕ, ℤ, pos, ◌+◌, ◌-◌, ◌*ℤ◌, ◌+ℤ◌, ◌≤◌, Some, List, [], length, ap, ◌∙◌, arith}
 use Rattle.std.specs.Prelude.{slice_get}
 use Rattle.std.proofs.lemmas.Int.{ints}
