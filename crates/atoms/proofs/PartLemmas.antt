@@ -161,23 +161,22 @@ is_listed test v small passes = listed_in test v (0 ∷ 1 ∷ 2 ∷ 3 ∷ []) pa
 
 -- ---- a search for a variable
 
-pub beside_found : (variables : List ℕ) (epochs : List (Option (Bor Epoch))) (v k : ℕ) → k < length variables →
-    ((j : ℕ) → j < k → (get_or variables j 0 == v) ≡ false) → (get_or variables k 0 == v) ≡ true →
-    unwrap_or (beside variables epochs v) None ≡ get_or epochs k None
-beside_found [] epochs v k there below here = absurd (omega arith)
-beside_found (u ∷ variables) [] v k there below here = refl
-beside_found (u ∷ variables) (e ∷ epochs) v zero there below here = ap (λ (same : Bool). unwrap_or (if same then Some e else beside variables epochs v) None) here
-beside_found (u ∷ variables) (e ∷ epochs) v (suc k) there below here =
-    ap (λ (same : Bool). unwrap_or (if same then Some e else beside variables epochs v) None) (below 0 (omega arith))
-    ∙ beside_found variables epochs v k (omega arith) (λ j l. below (suc j) (omega arith)) here
+pub found_beside : {A : Type 0} (variables : List ℕ) (xs : List A) (v k : ℕ) → k < length variables →
+    ((j : ℕ) → j < k → (get_or variables j 0 == v) ≡ false) → (get_or variables k 0 == v) ≡ true → beside variables xs v ≡ slice_get xs k
+found_beside {A} [] xs v k there below here = absurd (omega arith)
+found_beside {A} (u ∷ variables) [] v k there below here = refl
+found_beside {A} (u ∷ variables) (x ∷ xs) v zero there below here = ap (λ (same : Bool). if same then Some x else beside variables xs v) here
+found_beside {A} (u ∷ variables) (x ∷ xs) v (suc k) there below here =
+    ap (λ (same : Bool). if same then Some x else beside variables xs v) (below 0 (omega arith))
+    ∙ found_beside variables xs v k (omega arith) (λ j l. below (suc j) (omega arith)) here
 
-pub beside_none : (variables : List ℕ) (epochs : List (Option (Bor Epoch))) (v : ℕ) → ((j : ℕ) → j < length variables → (get_or variables j 0 == v) ≡ false) →
-    unwrap_or (beside variables epochs v) None ≡ None
-beside_none [] epochs v below = refl
-beside_none (u ∷ variables) [] v below = refl
-beside_none (u ∷ variables) (e ∷ epochs) v below =
-    ap (λ (same : Bool). unwrap_or (if same then Some e else beside variables epochs v) None) (below 0 (omega arith))
-    ∙ beside_none variables epochs v (λ j l. below (suc j) (omega arith))
+pub none_beside : {A : Type 0} (variables : List ℕ) (xs : List A) (v : ℕ) → ((j : ℕ) → j < length variables → (get_or variables j 0 == v) ≡ false) →
+    beside variables xs v ≡ None
+none_beside {A} [] xs v below = refl
+none_beside {A} (u ∷ variables) [] v below = refl
+none_beside {A} (u ∷ variables) (x ∷ xs) v below =
+    ap (λ (same : Bool). if same then Some x else beside variables xs v) (below 0 (omega arith))
+    ∙ none_beside variables xs v (λ j l. below (suc j) (omega arith))
 
 -- ---- the timelines of the variables' objects
 

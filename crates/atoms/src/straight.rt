@@ -1,5 +1,5 @@
 //! The ticks at which an atom holds whose objects move along one line each throughout the window, as most do.
-ghost use Rattle.std.specs.Prelude.{◌≡◌, ◌+◌, ◌-◌, ◌*◌, ◌<◌, ◌≤◌, ◌&&◌, ℕ, not, Some, IfNone, IfSome, IsTrue, length, option_to_list};
+ghost use Rattle.std.specs.Prelude.{◌≡◌, ◌+◌, ◌-◌, ◌*◌, ◌<◌, ◌≤◌, ◌&&◌, ℕ, not, Some, IfNone, IfSome, IsTrue, slice_get};
 ghost use Rattle.std.specs.Option.{option_copied};
 ghost use Rattle.courses.specs.Parts.{epochs_of_each, pieces_of_all};
 ghost use Rattle.formula.specs.declared.value.Env.{Env};
@@ -77,18 +77,21 @@ fn line_of(v: u8, variables: &[u8], timelines: &[&Timeline], w: Window) -> Optio
 }
 
 // The timeline of a variable.
+#[inline(always)]
 fn timeline_of<'a>(v: u8, variables: &[u8], timelines: &[&'a Timeline]) -> Option<&'a Timeline>
     ensures { option_copied result ≡ beside variables.now (epochs_of_each timelines.now) v }
 {
-    let (Some((first, variables)), Some((timeline, timelines))) = (
-        variables.split_first(),
-        timelines.split_first(),
-    ) else {
-        return None;
-    };
-    if *first == v {
-        Some(timeline)
-    } else {
-        timeline_of(v, variables, timelines)
+    for k in 0..variables.len() {
+        if variables[k] == v {
+            return timeline_at(timelines, k);
+        }
     }
+    None
+}
+
+#[inline(always)]
+fn timeline_at<'a>(timelines: &[&'a Timeline], place: usize) -> Option<&'a Timeline>
+    ensures { option_copied result ≡ slice_get (epochs_of_each timelines.now) place }
+{
+    timelines.get(place).copied()
 }
