@@ -8,7 +8,7 @@ ghost use Rattle.tick_set.specs.Runs.{IsRuns, spans_have};
 ghost use Rattle.tick_set.specs.Ticks.{within};
 ghost use Rattle.atoms.specs.Presence.{is_as, is_there};
 
-use courses::common_from;
+use courses::{common_from, straight_line};
 use interval_set::IntervalSet;
 use motion::{Epoch, Timeline};
 use object_store::{ObjectId, Store};
@@ -51,11 +51,19 @@ pub fn absence<L: Ledger>(
     ensures step { reads.new ≡ reads.old + 1 }
 {
     let timeline = store.timeline(id, reads);
-    if is_there_from(timeline, w.lo) {
+    if is_there_throughout(timeline, w) {
         return Ok(IntervalSet::from_runs(Vec::new(alloc)));
     }
     let runs = runs_where(alloc, false, timeline, w)?;
     Ok(IntervalSet::from_runs(runs))
+}
+
+// Whether it is told at once that the object of a timeline is there throughout the window. That of one that moves along a
+// line is, with no look at its epochs.
+fn is_there_throughout(timeline: &Timeline, w: Window) -> bool
+    ensures { IsTrue result → (t : ℕ) → w.lo ≤ t → t ≤ w.hi → is_some (state_at timeline.now t) ≡ true }
+{
+    straight_line(timeline, w.span()).is_some() || is_there_from(timeline, w.lo)
 }
 
 // Whether the last epoch of a timeline is in force at this tick, and has an object: that is there from then on.

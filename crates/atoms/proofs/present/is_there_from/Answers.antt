@@ -1,4 +1,4 @@
-use Rattle.std.proofs.Common.{◌≡◌, true, ◌∙◌, ap, sym}
+use Rattle.std.proofs.Common.{◌∙◌, ap, sym}
 use Rattle.motion.proofs.CallerLemmas.{AreBegunBy-later}
 use Rattle.motion.specs.Timeline.{AreBegunBy}
 use Rattle.atoms.specs.Presence.{is_there}
