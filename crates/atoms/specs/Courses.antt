@@ -1,5 +1,6 @@
 -- What a term has in a part: a text that stays, or a number that moves along a line.
-use Rattle.std.specs.Prelude.{ℕ, ◌*◌, ◌^◌, ◌≤◌, unsigned_abs, ⊤, Option, option_map}
+use Rattle.std.specs.Prelude.{ℕ, ◌*◌, ◌^◌, ◌≤◌, ◌==◌, ℤ, unsigned_abs, ⊤, Option, None, Some, option_map, if◌then◌else◌}
+use Rattle.fixed_point.specs.declared.number.Point.{Point}
 use Rattle.linear_crossing.specs.Zones.{line_at}
 use Rattle.formula.specs.declared.value.Value.{Value}
 use Rattle.formula.specs.declared.value.Value.TheVariants as values
@@ -33,3 +34,7 @@ pub record IsUnitTrend (m : Trend) : Type 0 where
 abbrev pub IsUnitCourse : Course → Type 0
 IsUnitCourse (courses.Number m) = IsUnitTrend m
 IsUnitCourse (courses.Text s) = ⊤
+
+-- x and y as the coordinates of the indices 0 and 1
+abbrev pub coordinate : Point → ℕ → Option ℤ
+coordinate p a = if a == 0 then Some p.x else if a == 1 then Some p.y else None

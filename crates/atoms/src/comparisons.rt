@@ -53,7 +53,8 @@ fn courses_compared(left: &Option<Course>, op: Op, right: &Option<Course>, span:
     }
 }
 
-fn numbers_compared(left: Trend, op: Op, right: Trend, span: Span) -> Triple
+/// The ticks of the span at which two numbers compare.
+pub fn numbers_compared(left: Trend, op: Op, right: Trend, span: Span) -> Triple
     requires left_small { IsTrendOf FACTOR_LIMIT left }
     requires right_small { IsTrendOf FACTOR_LIMIT right }
     ensures { AreFound (λ t. within span.lo span.hi t

@@ -6,7 +6,7 @@ ghost use Rattle.formula_shape.specs.declared.limits.TheConstants.{FACTOR_LIMIT,
 ghost use Rattle.formula.specs.declared.value.Value.TheVariants as values;
 ghost use Rattle.motion.specs.Dynamic.{slope_at, value_at};
 ghost use Rattle.motion.specs.Pieces.{IsLinear};
-ghost use Rattle.meaning.specs.Value.{cell_value, factor_value, part_at, part_value, plus, term_value, unit_value};
+ghost use Rattle.meaning.specs.Value.{cell_value, factor_value, part_at, part_value, plus, term_value, unit_value, with_sign};
 ghost use Rattle.atoms.specs.Courses.{IsCourseOf, IsUnitCourse, course_value, value_along};
 ghost use Rattle.atoms.specs.Parts.{AreSteady, IsSteadyCell, shown};
 ghost use Rattle.atoms.specs.Sizes.{is_sized_factor, is_sized_term};
@@ -71,7 +71,7 @@ fn sum_of(left: &Option<Course>, right: &Option<Course>) -> Option<Course>
     }
 }
 
-// The course of a factor. A text takes neither a sign nor a multiplier.
+// The course of a factor.
 fn course_of_factor(factor: &RSigned, part: &Part, env: &Env) -> Option<Course>
     requires sized { IsTrue (is_sized_factor factor.now) }
     requires steady { AreSteady part.now }
@@ -79,7 +79,17 @@ fn course_of_factor(factor: &RSigned, part: &Part, env: &Env) -> Option<Course>
         → factor_value (shown part.now) env.now t factor.now ≡ value_along result part.now.span.lo t }
     ensures small { IfSome result (IsCourseOf 1) }
 {
-    match course_of_unit(&factor.unit, part, env)? {
+    signed(course_of_unit(&factor.unit, part, env)?, factor)
+}
+
+/// The course of a unit with the sign and the multiplier of its factor, of which a text takes neither.
+pub fn signed(unit: Course, factor: &RSigned) -> Option<Course>
+    requires sized { IsTrue (is_sized_factor factor.now) }
+    requires small { IsUnitCourse unit }
+    ensures value { (lo t : ℕ) → value_along result lo t ≡ with_sign factor.now.minus factor.now.times (course_value lo t unit) }
+    ensures small { IfSome result (IsCourseOf 1) }
+{
+    match unit {
         Course::Number(trend) => {
             let count = factor.times.unwrap_or(1);
             Some(Course::Number(trend.scaled(factor.minus, count)))
@@ -110,16 +120,16 @@ fn course_of_unit(unit: &RUnit, part: &Part, env: &Env) -> Option<Course>
     }
 }
 
-// A number that rests.
-fn resting(number: Fix) -> Course
+/// A number that rests.
+pub fn resting(number: Fix) -> Course
     ensures value { (lo t : ℕ) → course_value lo t result ≡ values.Num number }
     ensures small { IsUnitCourse result }
 {
     Course::Number(Trend::constant(i128::from(number.raw())))
 }
 
-// A value that is bound.
-fn course_of_value(value: &Value) -> Course
+/// A value that is bound.
+pub fn course_of_value(value: &Value) -> Course
     ensures value { (lo t : ℕ) → course_value lo t result ≡ value.now }
     ensures small { IsUnitCourse result }
 {
@@ -193,8 +203,8 @@ fn slope_in_force(vector: &Vector, tick: u32) -> Course
     Course::Number(Trend::constant(i128::from(vector.slope_at(tick).raw())))
 }
 
-// TIME in a part that begins at this tick.
-fn time_from(lo: u32) -> Course
+/// TIME in a part that begins at this tick.
+pub fn time_from(lo: u32) -> Course
     requires { lo ≤ LAST_TICK }
     ensures value { (t : ℕ) → course_value lo t result ≡ values.Num (pos (1000 * t)) }
     ensures small { IsUnitCourse result }

@@ -109,7 +109,7 @@ fn atom_runs<'a, M: Ledger>(
     ensures cost { probes.new ≤ probes.old
         + probe_limit a.now (w.hi - w.lo) * pieces_of_all (epochs_of_each timelines.now) w.lo w.hi }
 {
-    match straight_ticks(a, regions, variables, timelines, w, probes) {
+    match straight_ticks(a, env, regions, variables, timelines, w, probes) {
         Some(found) => runs_of(alloc, &found),
         None => runs_by_parts(alloc, a, env, regions, variables, timelines, w, probes),
     }

@@ -2,7 +2,7 @@ use Rattle.std.proofs.Common.{sym, ◌∙◌, arith}
 use Rattle.std.proofs.lemmas.Bool.Decides.{nat_tests}
 use Rattle.courses.specs.Parts.{epochs_of_each}
 use Rattle.atoms.proofs.PartLemmas.{found_beside, none_beside}
-use Rattle.atoms.proofs.straight.timeline_of.Goals as goal
+use Rattle.atoms.proofs.lines.timeline_of.Goals as goal
 
 pub returns-then-variables-k : goal.returns-then-variables-k
 returns-then-variables-k c =

@@ -2,7 +2,7 @@ use Rattle.std.proofs.Common.{◌≡◌, ◌<◌, ap, sym, subst, ◌∙◌}
 use Rattle.std.specs.Option.{option_copied}
 use Rattle.courses.specs.Parts.{epochs_of_each, piece_count, pieces_of_all}
 use Rattle.atoms.proofs.StraightLemmas.{counted_beside, counted_line}
-use Rattle.atoms.proofs.straight.line_of.Goals as goal
+use Rattle.atoms.proofs.lines.line_of.Goals as goal
 
 pub returns-clause-counted : goal.returns-clause-counted
 returns-clause-counted c =

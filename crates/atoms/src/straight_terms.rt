@@ -1,0 +1,101 @@
+//! The course of a term of one factor, whose object moves along one line throughout the window.
+ghost use Rattle.std.specs.Prelude.{◌≡◌, ℕ, ◌-◌, ◌≤◌, pos, ◌+ℤ◌, ◌*ℤ◌, Some, IfSome, IsTrue, option_map, [], ◌∷◌};
+ghost use Rattle.courses.specs.Parts.{epochs_of_each};
+ghost use Rattle.formula.specs.declared.value.Value.TheVariants as values;
+ghost use Rattle.formula_shape.specs.declared.limits.TheConstants.{FACTOR_LIMIT};
+ghost use Rattle.linear_crossing.specs.Moving.{IsInReach, position_after};
+ghost use Rattle.linear_crossing.specs.Zones.{line_at};
+ghost use Rattle.meaning.specs.Value.{term_value, unit_value};
+ghost use Rattle.atoms.specs.Courses.{IsTrendOf, IsUnitCourse, coordinate, course_value, value_along};
+ghost use Rattle.atoms.specs.Parts.{trace_by};
+ghost use Rattle.atoms.specs.Sizes.{is_sized_term};
+
+use crate::lines::line_of;
+use crate::terms::{Course, course_of_value, resting, signed, time_from};
+use crate::trends::Trend;
+use fixed_point::{Fix, Slope};
+use formula::{Env, RSigned, RTerm, RUnit};
+use linear_crossing::Line;
+use motion::Timeline;
+use tick_set::Window;
+
+/// How a term goes throughout the window, where it is one number. None tells nothing.
+pub fn straight_trend(
+    term: &RTerm,
+    variables: &[u8],
+    timelines: &[&Timeline],
+    env: &Env,
+    w: Window,
+) -> Option<Trend>
+    requires sized { IsTrue (is_sized_term term.now) }
+    ensures value { IfSome result (λ trend. (t : ℕ) → w.lo ≤ t → t ≤ w.hi
+        → term_value (trace_by variables.now (epochs_of_each timelines.now)) term.now env.now t
+        ≡ Some (values.Num (line_at trend.rise trend.start w.lo t))) }
+    ensures small { IfSome result (IsTrendOf FACTOR_LIMIT) }
+{
+    let factor = only(term.factors.items())?;
+    let unit = straight_unit(&factor.unit, variables, timelines, env, w)?;
+    match signed(unit, factor)? {
+        Course::Number(trend) => Some(trend),
+        Course::Text(_) => None,
+    }
+}
+
+// The factor of a term that has one.
+#[inline]
+fn only(factors: &[RSigned]) -> Option<&RSigned>
+    ensures { IfSome result (λ factor. factors.now ≡ factor.now ∷ []) }
+{
+    let (first, later) = factors.split_first()?;
+    if later.is_empty() { Some(first) } else { None }
+}
+
+// The course of a unit throughout the window. None tells nothing.
+fn straight_unit(
+    unit: &RUnit,
+    variables: &[u8],
+    timelines: &[&Timeline],
+    env: &Env,
+    w: Window,
+) -> Option<Course>
+    ensures value { IfSome result (λ course. (t : ℕ) → w.lo ≤ t → t ≤ w.hi
+        → unit_value (trace_by variables.now (epochs_of_each timelines.now)) env.now unit.now t
+        ≡ Some (course_value w.lo t course)) }
+    ensures small { IfSome result IsUnitCourse }
+{
+    match unit {
+        RUnit::Literal(number) => Some(resting(*number)),
+        RUnit::Var(depth, _) => Some(course_of_value(&env.get(*depth)?)),
+        RUnit::Attr(v, a, _) => {
+            let line = line_of(*v, variables, timelines, w)?;
+            coordinate_along(&line, *a)
+        }
+        RUnit::Time => Some(time_from(w.lo)),
+        RUnit::Text(_) | RUnit::Sub(_, _, _) => None,
+    }
+}
+
+// The coordinate of an index along a line.
+#[inline]
+fn coordinate_along(line: &Line, a: u8) -> Option<Course>
+    ensures value { (lo t : ℕ) → lo ≤ t → value_along result lo t
+        ≡ option_map values.Num (coordinate (position_after line.now (t - lo)) a) }
+    ensures small { IfSome result IsUnitCourse }
+{
+    match a {
+        0 => Some(along(line.at.x, line.dx)),
+        1 => Some(along(line.at.y, line.dy)),
+        _ => None,
+    }
+}
+
+#[inline]
+fn along(start: Fix, slope: Slope) -> Course
+    ensures value { (lo t : ℕ) → lo ≤ t → course_value lo t result ≡ values.Num (start +ℤ slope *ℤ pos (t - lo)) }
+    ensures small { IsUnitCourse result }
+{
+    Course::Number(Trend {
+        rise: i128::from(slope.raw()),
+        start: i128::from(start.raw()),
+    })
+}
