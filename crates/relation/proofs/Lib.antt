@@ -2,6 +2,7 @@ pub mod ChangeLemmas
 pub mod ColumnLemmas
 pub mod EntryLemmas
 pub mod GroupLemmas
+pub mod HeldLemmas
 pub mod KeyLemmas
 pub mod OperatorLemmas
 pub mod OrderLemmas

@@ -1,6 +1,7 @@
 pub mod Entries
 pub mod Frames
 pub mod Group
+pub mod Held
 pub mod Key
 pub mod Operations
 pub mod Order
