@@ -10,7 +10,7 @@ use Rattle.relation.specs.Frames.{IsIn, IsWider, agrees, size_of}
 use Rattle.relation.specs.Key.{are_known, has_id, ids_of, key_in}
 use Rattle.evaluator.specs.Interpreting.{IsInFor}
 use Rattle.evaluator.specs.Keys.{AreNarrowed, are_first, binding_of, narrowed_ids, object_in}
-use Rattle.evaluator.proofs.VariableLemmas.{has_variables}
+use Rattle.evaluator.proofs.VariableLemmas.{has_variables, known_one}
 
 -- a key that an assignment gives has the assignment's objects
 pub object_in-map : (b : ℕ → ℕ) (vars : List ℕ) (v : ℕ) → has_id vars v ≡ true → object_in vars (map b vars) v ≡ Some (b v)
@@ -158,20 +158,11 @@ module _ (old : List (List ℕ)) (vars key : List ℕ) (new : List (List ℕ)) (
     pub narrowed_sizes : are_known old vars ≡ true → size_of new ≡ made_single (size_of old) vars
     narrowed_sizes known = λ i v. at v i
       where
-        not_known : (vs : List ℕ) (v : ℕ) → are_known old vs ≡ true → has_id vs v ≡ true → v < length old
-        not_known [] v k h = absurd (let f : false ≡ true = h in cc)
-        not_known (u ∷ us) v k h =
-            let parts : (nat_lt u (length old) ≡ true) × (are_known old us ≡ true) = and_parts _ _ k in
-            elim (or_cases _ _ h) [
-              | inl e ↦ subst (λ (z : ℕ). z < length old) (let same : u ≡ v = eqb-true u v e in same) (ltb-true _ _ parts.0)
-              | inr e ↦ not_known us v parts.1 e
-            ]
-
         at : (v : ℕ) → size_of new v ≡ made_single (size_of old) vars v
         at v =
             elim (cases_Bool (has_id vars v)) [
               | inl e ↦
-                  ap length (is.ids v (not_known vars v known e))
+                  ap length (is.ids v (known_one old vars v known e))
                   ∙ ap length (single (ids_of old v) (object_in vars key v) (unwrap_or (object_in vars key v) 0) (object_in-some old vars key v inside e))
                   ∙ sym (ap (λ (c : Bool). if c then 1 else size_of old v) e)
               | inr e ↦

@@ -11,6 +11,7 @@ pub mod KeyLemmas
 pub mod LoopLemmas
 pub mod NodeLemmas
 pub mod OperatorLemmas
+pub mod OverLemmas
 pub mod ReadLemmas
 pub mod RowLemmas
 pub mod RunLemmas

@@ -2,7 +2,7 @@
 use Rattle.std.proofs.Common.{◌≡◌, ℕ, zero, suc, ◌+◌, ◌<◌, ◌≤◌, Bool, true, false, ◌&&◌, ◌||◌, ◌==◌, nat_lt, if◌then◌else◌, List, [], ◌∷◌, length, get_or, refl, sym, ap, ◌∙◌, subst, inl, inr, arith}
 use Rattle.std.specs.List.{filter, list_all}
 use Rattle.std.specs.List.Sorted.{IsStrictlyIncreasing}
-use Rattle.std.proofs.lemmas.Bool.{and_from, cases_Bool, eq-eqb, eqb-true, lt-ltb, or_cases, or_left}
+use Rattle.std.proofs.lemmas.Bool.{and_from, and_parts, cases_Bool, eq-eqb, eqb-true, lt-ltb, ltb-true, or_cases, or_left}
 use Rattle.std.proofs.lemmas.List.Kept.{IsStrictlyIncreasing-filter}
 use Rattle.formula.specs.Variables.{variables_in}
 use Rattle.relation.specs.Frames.{vars_of_both}
@@ -11,6 +11,16 @@ use Rattle.relation.proofs.UnionLemmas.{distinct_union, few_in_union}
 
 abbrev keep : Bool → ℕ → List ℕ → List ℕ
 keep b x xs = if b then x ∷ xs else xs
+
+-- a variable of these has a domain
+pub known_one : (domains : List (List ℕ)) (vars : List ℕ) (v : ℕ) → are_known domains vars ≡ true → has_id vars v ≡ true → v < length domains
+known_one domains [] v known here = absurd (let e : false ≡ true = here in cc)
+known_one domains (u ∷ vars) v known here =
+    let parts : (nat_lt u (length domains) ≡ true) × (are_known domains vars ≡ true) = and_parts _ _ known in
+    elim (or_cases _ _ here) [
+      | inl e ↦ subst (λ (w : ℕ). w < length domains) (let same : u ≡ v = eqb-true u v e in same) (ltb-true _ _ parts.0)
+      | inr e ↦ known_one domains vars v parts.1 e
+    ]
 
 -- tests that agree on the variables that there are
 pub variables_same : (p q : ℕ → Bool) → ((v : ℕ) → v < 4 → p v ≡ q v) → variables_in p ≡ variables_in q

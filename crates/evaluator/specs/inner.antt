@@ -2,4 +2,5 @@
 pub mod Away
 pub mod ByBinding
 pub mod Filled
+pub mod HeldKeys
 pub mod Nodes

@@ -59,10 +59,11 @@ pub(crate) fn rows_by_key<'d, S: Temporal, I: Interpreter<S>, L: Ledger, M: Ledg
         )?;
         return Ok(made);
     };
-    let later = keys_of(alloc, d, rest)?;
+    let keys = keys_of(alloc, d, rest)?;
+    let later = keys.all();
     'ids: for id in d.of(*first) {
         put_rows(
-            alloc, source, f, vars, *id, &later, env, w, &mut made, reads, probes,
+            alloc, source, f, vars, *id, later, env, w, &mut made, reads, probes,
         )?;
     }
     Ok(made)

@@ -14,6 +14,7 @@ ghost use Rattle.evaluator.specs.inner.Away.{AreAwayFor};
 
 use crate::Interpreter;
 use crate::rows::rows_of;
+use crate::variables::has_variable;
 use formula::{Binding, Env, RQuery};
 use relation::{Domains, Relation};
 use std::alloc::{AllocError, Global};
@@ -164,7 +165,7 @@ fn while_there<'d, S: Temporal>(
     ensures vars { IfOk result (λ r. r.vars ≡ vars_of_both rows.entry.vars (var ∷ [])) }
     ensures frame { IfOk result (λ r. frame r ≡ frame rows.entry) }
 {
-    if away.is_empty() && rows.vars().contains(&var) {
+    if away.is_empty() && has_variable(rows.vars(), var) {
         return Ok(rows);
     }
     let there = away.complement(alloc)?;

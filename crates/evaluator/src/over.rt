@@ -1,13 +1,13 @@
 //! Formulas that are evaluated binding by binding.
 
-ghost use Rattle.std.specs.Prelude.{◌≡◌, ◌<◌, true};
+ghost use Rattle.std.specs.Prelude.{◌≡◌, ◌<◌, true, IsTrue};
 ghost use Rattle.formula.specs.Tree.{formula_view};
 ghost use Rattle.relation.specs.Frames.{size_of};
 ghost use Rattle.relation.specs.Key.{are_known, has_id};
 ghost use Rattle.evaluator.specs.inner.ByBinding.{adds_no_choice, asks_no_more, is_over};
 
 use crate::node::Node;
-use crate::variables::variables_of;
+use crate::variables::{has_variable, variables_of};
 use formula::{RFormula, free, free_in_term};
 use relation::Domains;
 
@@ -27,11 +27,15 @@ pub(crate) fn is_over(f: &RFormula, vars: &[u8], d: &Domains) -> bool
 }
 
 // Whether there are no more keys of these variables than of an atom's own ones. An atom without a variable takes no look
-// at a timeline.
+// at a timeline. One that has the one variable of these is told at once, as most are.
+#[tactic(auto, using(crate::proofs::OverLemmas::asks_for_own))]
 fn asks_no_more(own: &[u8], vars: &[u8], d: &Domains) -> bool
     requires { are_known d.now vars.now ≡ true }
     ensures { result ≡ asks_no_more (size_of d.now) vars.now own.now }
 {
+    if are_same_one(own, vars) {
+        return true;
+    }
     own.is_empty()
         || adds_no_choice(own, vars, 0, d)
             && adds_no_choice(own, vars, 1, d)
@@ -39,14 +43,26 @@ fn asks_no_more(own: &[u8], vars: &[u8], d: &Domains) -> bool
             && adds_no_choice(own, vars, 3, d)
 }
 
+// Whether these and those are one variable, and the same.
+#[inline]
+fn are_same_one(own: &[u8], vars: &[u8]) -> bool
+    ensures { IsTrue result → own.now ≡ vars.now }
+{
+    match (own, vars) {
+        ([one], [other]) => *one == *other,
+        _ => false,
+    }
+}
+
 // Whether a variable gives a key of these variables no more choices than it gives one of an atom's own ones.
+#[tactic(auto, using(crate::proofs::VariableLemmas::known_one))]
 fn adds_no_choice(own: &[u8], vars: &[u8], v: u8, d: &Domains) -> bool
     requires { are_known d.now vars.now ≡ true }
     ensures { result ≡ adds_no_choice (size_of d.now) vars.now own.now v }
 {
-    if own.contains(&v) {
-        vars.contains(&v)
+    if has_variable(own, v) {
+        has_variable(vars, v)
     } else {
-        !vars.contains(&v) || d.of(v).len() <= 1
+        !has_variable(vars, v) || d.of(v).len() <= 1
     }
 }

@@ -3,6 +3,7 @@
 ghost use Rattle.std.specs.Prelude.{◌≡◌, ◌<◌, ◌≤◌, ◌∷◌, ◌++◌, [], length, map, slice_index, unwrap_or};
 ghost use Rattle.formula.specs.Variables.{variables_in};
 ghost use Rattle.formula.specs.VarSet.{has};
+ghost use Rattle.relation.specs.Key.{has_id};
 ghost use Rattle.evaluator.specs.Keys.{are_first, binding_of, object_in};
 
 use formula::{Binding, VarSet};
@@ -29,6 +30,21 @@ pub(crate) fn variables_of(set: VarSet) -> &'static [u8]
         (true, true, true, false) => &[0, 1, 2],
         (true, true, true, true) => &[0, 1, 2, 3],
     }
+}
+
+// Whether a variable is one of these. There are few, so that each is looked at in place.
+#[inline]
+pub(crate) fn has_variable(vars: &[u8], var: u8) -> bool
+    ensures { result ≡ has_id vars.now var }
+{
+    let mut rest = vars;
+    while let Some((first, later)) = rest.split_first() {
+        if *first == var {
+            return true;
+        }
+        rest = later;
+    }
+    false
 }
 
 // The object that a key has for a variable, if it is one of the key's variables.

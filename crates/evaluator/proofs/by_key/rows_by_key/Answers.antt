@@ -63,45 +63,46 @@ put_rows-requires-clause-over g c = λ v h. (let o = c.requires.over v h in omeg
 
 pub put_rows-requires-clause-inside : goal.put_rows-requires-clause-inside
 put_rows-requires-clause-inside g c =
+    let are = subst (AreKeys c.args.d.now c.in-Some.rest.now) (sym c.all-later.ensures) c.in_ok-keys.ensures in
     let id = get_or c.of-id-items.result.now c.ids.id-index 0 in
     let own = subst (λ (z : List ℕ). has_id z id ≡ true) c.of-id-items.ensures.value (own_at c.of-id-items.result.now c.ids.id-index 0 (omega (arith, c.ids-test.true))) in
     let domains : c.ids.made.domains ≡ c.args.d.now = c.ids.invariant.rows.head.domains ∙ ap (λ (r : Table g.row.S.Denot). r.domains) c.empty-made.ensures in
-    (λ i. list_all (λ key. key_in (domains i) (c.in-Some.ensures.cases.0 i) (id ∷ key)) (c.deref.ensures.value i))
-    ∙ first_inside c.args.d.now c.in-Some.first.now c.in-Some.rest.now id c.in_ok-later.later.items own c.in_ok-later.ensures.inside
+    (λ i. list_all (λ key. key_in (domains i) (c.in-Some.ensures.cases.0 i) (id ∷ key)) c.all-later.result.now)
+    ∙ first_inside c.args.d.now c.in-Some.first.now c.in-Some.rest.now id c.all-later.result.now own are.inside
 
 pub put_rows-requires-clause-above : goal.put_rows-requires-clause-above
 put_rows-requires-clause-above g c =
     block_above g.S.TickSet.member (holds_at (g.I.Interpreter.interpretation c.args.source.now) c.args.vars.now c.args.w.lo c.args.w.hi (formula_view c.args.f.now) c.args.env.now)
-    c.in_ok-later.later.items c.of-id-items.result.now c.ids.id-index 0 c.empty-made.result c.ids.made (omega (arith, c.ids-test.true))
+    c.all-later.result.now c.of-id-items.result.now c.ids.id-index 0 c.empty-made.result c.ids.made (omega (arith, c.ids-test.true))
     (ap (λ (r : Table g.row.S.Denot). r.rows) c.empty-made.ensures) c.of-id-items.ensures.ascending c.ids.invariant.rows
 
 pub returns-in_err-put_rows-clause-most : goal.returns-in_err-put_rows-clause-most
 returns-in_err-put_rows-clause-most g c =
+    let are = subst (AreKeys c.args.d.now c.in-Some.rest.now) (sym c.all-later.ensures) c.in_ok-keys.ensures in
     let cost = reads_here c.args.w.lo c.args.w.hi (formula_view c.args.f.now) in
-    let here = subst (λ (ks : List (List ℕ)). c.put_rows.new.reads ≤ c.ids.reads + length ks * cost) c.deref.ensures.value c.in_err-put_rows.ensures.most in
-    by_blocks c.args.d.now c.args.w.lo c.args.w.hi c.args.vars.now (formula_view c.args.f.now) c.requires.vars c.requires.alike c.args.reads.now c.put_rows.new.reads (c.ids.id-index + 1) (length c.of-id-items.result.now) (length c.in_ok-later.later.items)
-    (block_step c.args.reads.now c.ids.reads c.put_rows.new.reads c.ids.id-index (length c.in_ok-later.later.items) cost c.ids.invariant.most here) (omega (arith, c.ids-test.true))
-    ((λ i. length (c.of-id-items.ensures.value i) * c.in_ok-later.ensures.count i) ∙ sym (ap (choices (size_of c.args.d.now)) c.in-Some.ensures.cases.0))
+    by_blocks c.args.d.now c.args.w.lo c.args.w.hi c.args.vars.now (formula_view c.args.f.now) c.requires.vars c.requires.alike c.args.reads.now c.put_rows.new.reads (c.ids.id-index + 1) (length c.of-id-items.result.now) (length c.all-later.result.now)
+    (block_step c.args.reads.now c.ids.reads c.put_rows.new.reads c.ids.id-index (length c.all-later.result.now) cost c.ids.invariant.most c.in_err-put_rows.ensures.most) (omega (arith, c.ids-test.true))
+    ((λ i. length (c.of-id-items.ensures.value i) * are.count i) ∙ sym (ap (choices (size_of c.args.d.now)) c.in-Some.ensures.cases.0))
 
 pub ids-preserved : goal.ids-preserved
 ids-preserved g c =
     let id = get_or c.of-id-items.result.now c.ids.id-index 0 in
     let truth = holds_at (g.I.Interpreter.interpretation c.args.source.now) c.args.vars.now c.args.w.lo c.args.w.hi (formula_view c.args.f.now) c.args.env.now in
     let cost = reads_here c.args.w.lo c.args.w.hi (formula_view c.args.f.now) in
-    let here = subst (λ (ks : List (List ℕ)). c.put_rows.new.reads ≤ c.ids.reads + length ks * cost) c.deref.ensures.value c.in_ok-put_rows.ensures.most in
     record {
-      rows = filled_block g.S.TickSet.member truth c.in_ok-later.later.items c.of-id-items.result.now c.ids.id-index 0 c.empty-made.result c.ids.made c.put_rows.new.made (omega (arith, c.ids-test.true)) c.ids.invariant.rows
-          (subst (λ (ks : List (List ℕ)). IsFilled g.S.TickSet.member truth (behind id ks) c.ids.made c.put_rows.new.made) c.deref.ensures.value c.in_ok-put_rows.ensures.rows);
+      rows = filled_block g.S.TickSet.member truth c.all-later.result.now c.of-id-items.result.now c.ids.id-index 0 c.empty-made.result c.ids.made c.put_rows.new.made (omega (arith, c.ids-test.true)) c.ids.invariant.rows
+          c.in_ok-put_rows.ensures.rows;
       least = in_turn _ _ _ c.ids.invariant.least c.in_ok-put_rows.ensures.least;
-      most = block_step c.args.reads.now c.ids.reads c.put_rows.new.reads c.ids.id-index (length c.in_ok-later.later.items) cost c.ids.invariant.most here;
+      most = block_step c.args.reads.now c.ids.reads c.put_rows.new.reads c.ids.id-index (length c.all-later.result.now) cost c.ids.invariant.most c.in_ok-put_rows.ensures.most;
     }
 
 pub returns-clause-rows : goal.returns-clause-rows
 returns-clause-rows g c =
+    let are = subst (AreKeys c.args.d.now c.in-Some.rest.now) (sym c.all-later.ensures) c.in_ok-keys.ensures in
     let f = formula_view c.args.f.now in
     let vars = c.args.vars.now in
     let j = g.I.Interpreter.interpretation c.args.source.now in
-    let later = c.in_ok-later.later.items in
+    let later = c.all-later.result.now in
     let ids = c.of-id-items.result.now in
     let truth = holds_at j vars c.args.w.lo c.args.w.hi f c.args.env.now in
     let known = known_variables c.args.d.now (λ v. has_variable v f) (λ v l h. c.requires.over v h) in
@@ -110,13 +111,14 @@ returns-clause-rows g c =
     (subst (λ (z : List ℕ). IsFilled g.S.TickSet.member truth (flat_map (λ id. behind id later) z) c.empty-made.result c.ids.made) (take_all c.ids.id-index ids (omega (arith, c.ids-test.false))) c.ids.invariant.rows)
     c.empty-made.ensures
     (subst (λ (vs : List ℕ). AreKeys c.args.d.now vs (flat_map (λ id. behind id later) ids)) (sym c.in-Some.ensures.cases.0)
-    (keys_more c.args.d.now c.in-Some.first.now c.in-Some.rest.now later ids c.of-id-items.ensures.value c.of-id-items.ensures.ascending c.in_ok-later.ensures))
+    (keys_more c.args.d.now c.in-Some.first.now c.in-Some.rest.now later ids c.of-id-items.ensures.value c.of-id-items.ensures.ascending are))
     (subst (λ (vs : List ℕ). are_known c.args.d.now vs ≡ true) (sym c.requires.vars) known)
     (λ b is_in t. key_says j (λ p q a e x u. g.met.I.Interpreter.atom_sees c.args.source.now p q a e x u) (λ p q a e x u. g.met.I.Interpreter.term_sees c.args.source.now p q a e x u)
     f (λ v h. (let o = c.requires.over v h in omega (arith, o, c.len.ensures.count, c.len.ensures.few))) vars c.requires.vars c.args.env.now c.args.w.lo c.args.w.hi b t))
 
 pub returns-clause-most : goal.returns-clause-most
 returns-clause-most g c =
-    by_blocks c.args.d.now c.args.w.lo c.args.w.hi c.args.vars.now (formula_view c.args.f.now) c.requires.vars c.requires.alike c.args.reads.now c.ids.reads c.ids.id-index (length c.of-id-items.result.now) (length c.in_ok-later.later.items) c.ids.invariant.most
+    let are = subst (AreKeys c.args.d.now c.in-Some.rest.now) (sym c.all-later.ensures) c.in_ok-keys.ensures in
+    by_blocks c.args.d.now c.args.w.lo c.args.w.hi c.args.vars.now (formula_view c.args.f.now) c.requires.vars c.requires.alike c.args.reads.now c.ids.reads c.ids.id-index (length c.of-id-items.result.now) (length c.all-later.result.now) c.ids.invariant.most
     (let l : c.ids.id-index ≤ length c.of-id-items.result.now = c.ids.auto.id-index-end in omega (arith, l))
-    ((λ i. length (c.of-id-items.ensures.value i) * c.in_ok-later.ensures.count i) ∙ sym (ap (choices (size_of c.args.d.now)) c.in-Some.ensures.cases.0))
+    ((λ i. length (c.of-id-items.ensures.value i) * are.count i) ∙ sym (ap (choices (size_of c.args.d.now)) c.in-Some.ensures.cases.0))
