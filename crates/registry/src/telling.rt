@@ -107,6 +107,9 @@ fn push_moves(
     ensures ok { OnOk result (out.new.items ≡ out.old.items ++ moves_text (catalog_of store.now) moves.now) }
     ensures begins { Begins out.old.items out.new.items }
 {
+    if moves.is_empty() {
+        return Ok(());
+    }
     let mut names = Vec::with_capacity(alloc, OBJECT_LIMIT)?;
     let mut rest = moves;
     'moves: while let Some((change, later)) = rest.split_first() {
