@@ -1,6 +1,6 @@
 //! All keys of a list of variables.
 
-ghost use Rattle.std.specs.Prelude.{◌≡◌, ◌<◌, ◌≤◌, ◌∷◌, ◌++◌, [], true, length, map, nat_lt, IfOk, OnOk};
+ghost use Rattle.std.specs.Prelude.{◌≡◌, ◌<◌, ◌≤◌, ◌∷◌, ◌++◌, ◌+◌, [], true, length, map, nat_lt, IfOk, OnOk};
 ghost use Rattle.std.specs.List.{flat_map, list_all};
 ghost use Rattle.formula_shape.specs.declared.limits.TheConstants.{OBJECT_LIMIT};
 ghost use Rattle.relation.specs.Key.{are_known};
@@ -104,9 +104,21 @@ pub(crate) fn with_first(id: u32, key: &Binding) -> Binding
 {
     let mut made = Binding::new();
     made.push(id);
-    let ids = key.ids();
-    'ids: for later in ids {
-        made.push(*later);
+    match key.ids() {
+        [] => {}
+        // Most keys have one or two objects: a loop would be a call that copies memory.
+        [later] => made.push(*later),
+        ids => add_ids(&mut made, ids),
     }
     made
+}
+
+// Adds these objects.
+fn add_ids(made: &mut Binding, ids: &[u32])
+    requires { length made.old + length ids.now ≤ OBJECT_LIMIT }
+    ensures { made.new ≡ made.old ++ ids.now }
+{
+    'ids: for id in ids {
+        made.push(*id);
+    }
 }
