@@ -277,8 +277,11 @@ fn class_of(store: &Store, id: u32) -> ClassNo
 }
 
 // Where the columns of a class are likely to have an object: at its place in the class. A hint alone, so that it is
-// searched for once and not again in each column.
-fn likely_place(store: &Store, class: ClassNo, id: u32) -> usize {
+// searched for once and not again in each column, and not where there is no query.
+fn likely_place(queries: &[LiveQuery], store: &Store, class: ClassNo, id: u32) -> usize {
+    if queries.is_empty() {
+        return 0;
+    }
     match store.class_names(class).binary_search(&id) {
         Ok(place) => place,
         Err(place) => place,
@@ -307,7 +310,7 @@ fn renewals_of<L: Ledger, M: Ledger>(
     ensures least { reads.old ≤ reads.new }
     ensures most { reads.new ≤ reads.old + write_reads (catalog_of store.now) (map registered queries.now) now class }
 {
-    let likely = likely_place(store, class, id);
+    let likely = likely_place(queries, store, class, id);
     let mut renewals = Vec::with_capacity(alloc, queries.len())?;
     let mut rest = queries;
     'queries: while let Some((query, later)) = rest.split_first() {
