@@ -1,5 +1,5 @@
 //! Runs of ticks of one part, and runs that are gathered part by part.
-ghost use Rattle.std.specs.Prelude.{◌≡◌, ◌<◌, ◌≤◌, ◌&&◌, ◌||◌, ◌+◌, ℕ, Bool, [], true, not, nat_le, nat_lt, IfOk, OnOk, option_to_list};
+ghost use Rattle.std.specs.Prelude.{◌≡◌, ◌<◌, ◌≤◌, ◌&&◌, ◌||◌, ◌+◌, ℕ, Bool, [], true, not, nat_le, nat_lt, IfOk, IsTrue, OnOk, option_to_list};
 ghost use Rattle.distance_crossing.specs.Triples.{triple_spans};
 ghost use Rattle.linear_crossing.specs.Zones.{spans_of};
 ghost use Rattle.tick_set.specs.Runs.{IsNormal, IsRuns, spans_have};
@@ -99,9 +99,28 @@ pub fn append(runs: &mut Runs, found: &Triple) -> Result<(), AllocError>
     runs.append(found.third)
 }
 
-/// The runs that were found.
+// Whether no run was found.
+#[inline(always)]
+fn is_nowhere(found: &Triple) -> bool
+    ensures { IsTrue result → triple_spans found.now ≡ [] }
+{
+    found.first.is_none() && found.second.is_none() && found.third.is_none()
+}
+
+/// The runs that were found. Where there is none, as at most bindings of a distance, nothing is gathered.
 #[inline(always)]
 pub fn runs_of(alloc: Global, found: &Triple) -> Result<Vec<Span>, AllocError>
+    requires { IsNormal (triple_spans found.now) }
+    ensures { (test : ℕ → Bool) → AreFound test found.now → IfOk result (λ runs. IsRuns test runs.items) }
+{
+    if is_nowhere(found) {
+        return Ok(Vec::new(alloc));
+    }
+    gathered(alloc, found)
+}
+
+// The runs that were found, one after the other.
+fn gathered(alloc: Global, found: &Triple) -> Result<Vec<Span>, AllocError>
     requires { IsNormal (triple_spans found.now) }
     ensures { (test : ℕ → Bool) → AreFound test found.now → IfOk result (λ runs. IsRuns test runs.items) }
 {
