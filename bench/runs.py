@@ -41,7 +41,9 @@ def preloaded(name):
 
 
 def domino_program():
-    """The path of the program that is compared: that of the variable DOMINO, or DOMINO itself, built where it isn't."""
+    """The path of the program that is compared: that of the variable DOMINO, or DOMINO itself, built where it isn't.
+    Makes the folder for what scripts write, too."""
+    os.makedirs(BUILD, exist_ok=True)
     if "DOMINO" in os.environ:
         return os.environ["DOMINO"]
     subprocess.run([os.path.join(HERE, "..", "domino")], stdin=subprocess.DEVNULL, check=True)
