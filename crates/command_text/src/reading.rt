@@ -86,8 +86,8 @@ fn begin(tokens: &mut Tokens, line: &[u8], limit: usize) -> Result<bool, Command
     Ok(false)
 }
 
-/// Reads lines one after another, and asks for memory for tokens only where a line is longer than all
-/// before it.
+/// Reads lines one after another. A line that is no longer than the one that was cut into tokens last wants no
+/// memory for its tokens.
 #[derive(Debug, Drop)]
 pub struct LineReader {
     alloc: Global,

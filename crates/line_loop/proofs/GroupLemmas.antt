@@ -22,14 +22,14 @@ pub place_behind : (p : ℕ → Bool) (xs rest : List ℕ) → length rest ≤ l
     → position p xs ≡ option_map (λ place. length xs - length rest + place) (position p rest)
 place_behind p xs rest fits place = grind (arith, common_steps, fits, place)
 
--- one more group is passed
-pub past_group : (p : ℕ → Bool) (bytes rest group later : List ℕ)
+-- one more group of this size is passed
+pub past_group : (size : ℕ) (p : ℕ → Bool) (bytes rest group later : List ℕ)
     → (length rest ≤ length bytes) × (position_or_len p bytes ≡ length bytes - length rest + position_or_len p rest)
-    → (group ≡ take 32 rest) × (later ≡ drop 32 rest) × (length later + 32 ≡ length rest)
+    → (group ≡ take size rest) × (later ≡ drop size rest) × (length later + size ≡ length rest)
     → list_any p group ≡ false
     → (length later ≤ length bytes) × (position_or_len p bytes ≡ length bytes - length later + position_or_len p later)
-past_group p bytes rest group later before (g, l, len) none =
-    let fits : 32 ≤ length rest = omega (arith, len) in
-    let moved : position_or_len p rest ≡ 32 + position_or_len p later =
-    passed_group p rest 32 fits (ap (list_any p) (sym g) ∙ none) ∙ ap (λ r. 32 + position_or_len p r) (sym l) in
+past_group size p bytes rest group later before (g, l, len) none =
+    let fits : size ≤ length rest = omega (arith, len) in
+    let moved : position_or_len p rest ≡ size + position_or_len p later =
+    passed_group p rest size fits (ap (list_any p) (sym g) ∙ none) ∙ ap (λ r. size + position_or_len p r) (sym l) in
     (omega (arith, before.0, len), omega (arith, before.0, before.1, moved, len))

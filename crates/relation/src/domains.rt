@@ -1,6 +1,6 @@
 //! The objects that each variable ranges over.
 
-ghost use Rattle.std.specs.Prelude.{◌≡◌, ◌<◌, ◌≤◌, ℕ, ◌∷◌, [], ◌++◌, length, slice_index_or, IfOk, OnOk, OnErr};
+ghost use Rattle.std.specs.Prelude.{◌≡◌, ◌<◌, ◌≤◌, ℕ, ◌∷◌, [], ◌++◌, length, slice_index_or, IsOk, IfOk, OnOk, OnErr};
 ghost use Rattle.std.specs.List.Sorted.{IsStrictlyIncreasing};
 ghost use Rattle.relation.specs.Key.{ids_of};
 
@@ -48,9 +48,11 @@ impl Ids {
     #[inline]
     fn from_slice(alloc: Global, ids: &[u32]) -> Result<Ids, AllocError>
         requires { IsStrictlyIncreasing ids.now }
-        ensures { IfOk result (λ made. made ≡ ids.now) }
+        ensures objects { IfOk result (λ made. made ≡ ids.now) }
+        ensures memory { length ids.now ≤ 1 → IsOk result }
     {
         let held = match ids {
+            [] => Held::Any(Vec::new(alloc)),
             [id] => Held::One([*id]),
             _ => Held::Any(Vec::from_slice(alloc, ids)?),
         };
@@ -104,13 +106,14 @@ impl Domains {
         }
     }
 
-    /// Adds the objects of the next variable. One object takes no memory. An `Err` changes nothing.
+    /// Adds the objects of the next variable. None or one takes no memory. An `Err` changes nothing.
     #[tactic(auto, using(crate::proofs::HeldLemmas::held_more, crate::proofs::HeldLemmas::held_front))]
     pub fn push(&mut self, alloc: Global, ids: &[u32]) -> Result<(), AllocError>
         requires ascending { IsStrictlyIncreasing ids.now }
         requires few { length self.old < OBJECT_LIMIT }
         ensures ok { OnOk result (self.new ≡ self.old ++ ids.now ∷ []) }
         ensures err { OnErr result (self.new ≡ self.old) }
+        ensures memory { length ids.now ≤ 1 → IsOk result }
     {
         let ids = Ids::from_slice(alloc, ids)?;
         self.lists[self.count] = ids;
