@@ -1,5 +1,5 @@
 -- A function of the whole numbers that falls to `nearest` and rises from there is at most a limit on one stretch round it. Each end is found by halves.
-use Rattle.std.proofs.Common.{◌≡◌, ℕ, ◌+◌, ◌-◌, ◌*◌, ◌^◌, ◌<◌, ◌≤◌, ◌&&◌, ⊎_elim, ℤ, ◌≤ℤ◌, ◌<ℤ◌, nat_le, int_le, false, [], ◌∷◌, subst, sym, arith}
+use Rattle.std.proofs.Common.{◌≡◌, ℕ, ◌+◌, ◌-◌, ◌*◌, ◌^◌, ◌<◌, ◌≤◌, ◌&&◌, ⊎_elim, ℤ, ◌≤ℤ◌, ◌<ℤ◌, Bool, nat_le, int_le, true, false, [], ◌∷◌, subst, sym, arith}
 use Rattle.std.proofs.lemmas.Bool.{cases_lt}
 use Rattle.std.proofs.lemmas.Bool.Decides.{nat_tests}
 use Rattle.std.proofs.lemmas.Int.{ints}
@@ -10,17 +10,9 @@ use Rattle.tick_set.specs.Runs.{IsRuns}
 use Rattle.tick_set.specs.Ticks.{within}
 use Rattle.tick_set.specs.declared.spans.Span.{Span}
 use Rattle.tick_set.specs.declared.spans.Window.{Window}
+use Rattle.distance_crossing.specs.Ends.{IsLeft, IsRight}
 
--- ---- the first number: below `low` the value is above the limit, at `high` it is not
-pub record IsLeft (f : ℕ → ℤ) (limit : ℤ) (nearest low high : ℕ) : Type 0 where
-  pub ordered : low ≤ high
-  pub bound : high ≤ nearest
-  pub near : f high ≤ℤ limit
-  pub far : (k : ℕ) → k < low → limit <ℤ f k
-
-pub left_start : (f : ℕ → ℤ) (limit : ℤ) (nearest : ℕ) → f nearest ≤ℤ limit → IsLeft f limit nearest 0 nearest
-left_start f limit nearest h = record { ordered = omega arith; bound = omega arith; near = h; far = λ k l. absurd (omega arith) }
-
+-- ---- the first number
 pub left_near : (f : ℕ → ℤ) (limit : ℤ) (nearest low high middle : ℕ) → IsLeft f limit nearest low high → low ≤ middle → middle ≤ high
     → f middle ≤ℤ limit → IsLeft f limit nearest low middle
 left_near f limit nearest low high middle h l m near = record { ordered = l; bound = omega (arith, h.bound); near = near; far = h.far }
@@ -34,6 +26,30 @@ left_far f limit nearest low high middle fall h m far = record {
   far = λ k l. let before = falls f nearest fall k middle (omega arith) (omega (arith, h.bound)) in omega (arith, ints);
 }
 
+-- round the first by one value: past a number that is above the limit, at the next number, and at a number with none at most the limit before it
+pub left_past : (f : ℕ → ℤ) (limit : ℤ) (nearest k low : ℕ) → FallsTo f nearest → f nearest ≤ℤ limit → k < nearest → limit <ℤ f k → low ≡ k + 1
+    → IsLeft f limit nearest low nearest
+left_past f limit nearest k low fall near l far e = record {
+  ordered = omega arith;
+  bound = omega arith;
+  near = near;
+  far = λ i m. let before = falls f nearest fall i k (omega arith) (omega arith) in omega (arith, ints);
+}
+
+pub left_next : (f : ℕ → ℤ) (limit : ℤ) (nearest k : ℕ) → FallsTo f nearest → f nearest ≤ℤ limit → k < nearest → limit <ℤ f k → f (k + 1) ≤ℤ limit
+    → IsLeft f limit nearest (k + 1) (k + 1)
+left_next f limit nearest k fall near l far next =
+    left_near f limit nearest (k + 1) nearest (k + 1) (left_past f limit nearest k (k + 1) fall near l far (omega arith)) (omega arith) (omega arith) next
+
+pub left_exact : (f : ℕ → ℤ) (limit : ℤ) (nearest k : ℕ) → FallsTo f nearest → k ≤ nearest → f k ≤ℤ limit → (0 < k → limit <ℤ f (k - 1))
+    → IsLeft f limit nearest k k
+left_exact f limit nearest k fall l near far = record {
+  ordered = omega arith;
+  bound = l;
+  near = near;
+  far = λ i m. let at = far (omega arith) in let before = falls f nearest fall i (k - 1) (omega arith) (omega arith) in omega (arith, ints);
+}
+
 pub left_found : (f : ℕ → ℤ) (limit : ℤ) (nearest low high : ℕ) → FallsTo f nearest → IsLeft f limit nearest low high → high ≤ low
     → (k : ℕ) → k ≤ nearest → int_le (f k) limit ≡ nat_le high k
 left_found f limit nearest low high fall h m k l =
@@ -42,24 +58,7 @@ left_found f limit nearest low high fall h m k l =
     (λ (b : high ≤ k). let near = h.near in let after = falls f nearest fall high k b l in grind (arith, ints, nat_tests))
     (cases_lt k high)
 
--- where the value is at most the limit at 0, it is up to `nearest`
-pub near_from_0 : (f : ℕ → ℤ) (limit : ℤ) (nearest : ℕ) → FallsTo f nearest → f 0 ≤ℤ limit
-    → (k : ℕ) → k ≤ nearest → int_le (f k) limit ≡ nat_le 0 k
-near_from_0 f limit nearest fall h =
-    left_found f limit nearest 0 0 fall
-    (record { ordered = omega arith; bound = omega arith; near = h; far = λ k l. absurd (omega arith) }) (omega arith)
-
--- ---- the last number: above `high` the value is above the limit, at `low` it is not
-pub record IsRight (f : ℕ → ℤ) (limit : ℤ) (nearest last low high : ℕ) : Type 0 where
-  pub from : nearest ≤ low
-  pub ordered : low ≤ high
-  pub bound : high ≤ last
-  pub near : f low ≤ℤ limit
-  pub far : (k : ℕ) → high < k → k ≤ last → limit <ℤ f k
-
-pub right_start : (f : ℕ → ℤ) (limit : ℤ) (nearest last : ℕ) → nearest ≤ last → f nearest ≤ℤ limit → IsRight f limit nearest last nearest last
-right_start f limit nearest last l h = record { from = omega arith; ordered = l; bound = omega arith; near = h; far = λ k m n. absurd (omega arith) }
-
+-- ---- the last number
 pub right_near : (f : ℕ → ℤ) (limit : ℤ) (nearest last low high middle : ℕ) → IsRight f limit nearest last low high → low ≤ middle → middle ≤ high
     → f middle ≤ℤ limit → IsRight f limit nearest last middle high
 right_near f limit nearest last low high middle h l m near = record { from = omega (arith, h.from); ordered = m; bound = h.bound; near = near; far = h.far }
@@ -76,6 +75,32 @@ right_far f limit nearest last low high middle rise h m top far =
       far = λ k l n. let after = rises f nearest last rise middle k (omega arith) (omega arith) n in omega (arith, ints);
     }
 
+-- round the last by one value
+pub right_past : (f : ℕ → ℤ) (limit : ℤ) (nearest last k high : ℕ) → RisesIn f nearest last → f nearest ≤ℤ limit → nearest < k → k ≤ last → limit <ℤ f k → high + 1 ≡ k
+    → IsRight f limit nearest last nearest high
+right_past f limit nearest last k high rise near l m far e = record {
+  from = omega arith;
+  ordered = omega arith;
+  bound = omega arith;
+  near = near;
+  far = λ i n b. let after = rises f nearest last rise k i (omega arith) (omega arith) b in omega (arith, ints);
+}
+
+pub right_next : (f : ℕ → ℤ) (limit : ℤ) (nearest last k high : ℕ) → RisesIn f nearest last → f nearest ≤ℤ limit → nearest < k → k ≤ last → limit <ℤ f k → high + 1 ≡ k
+    → f high ≤ℤ limit → IsRight f limit nearest last high high
+right_next f limit nearest last k high rise near l m far e next =
+    right_near f limit nearest last nearest high high (right_past f limit nearest last k high rise near l m far e) (omega arith) (omega arith) next
+
+pub right_exact : (f : ℕ → ℤ) (limit : ℤ) (nearest last k : ℕ) → RisesIn f nearest last → nearest ≤ k → k ≤ last → f k ≤ℤ limit → (k < last → limit <ℤ f (k + 1))
+    → IsRight f limit nearest last k k
+right_exact f limit nearest last k rise l m near far = record {
+  from = l;
+  ordered = omega arith;
+  bound = m;
+  near = near;
+  far = λ i n b. let at = far (omega arith) in let after = rises f nearest last rise (k + 1) i (omega arith) (omega arith) b in omega (arith, ints);
+}
+
 pub right_found : (f : ℕ → ℤ) (limit : ℤ) (nearest last low high : ℕ) → RisesIn f nearest last → IsRight f limit nearest last low high → high ≤ low
     → (k : ℕ) → nearest ≤ k → k ≤ last → int_le (f k) limit ≡ nat_le k low
 right_found f limit nearest last low high rise h m k l n =
@@ -83,13 +108,6 @@ right_found f limit nearest last low high rise h m k l n =
     (λ (b : low < k). let far = h.far k (omega arith) n in grind (arith, ints, nat_tests))
     (λ (b : k ≤ low). let near = h.near in let before = rises f nearest last rise k low l b (omega (arith, h.ordered, h.bound)) in grind (arith, ints, nat_tests))
     (cases_lt low k)
-
--- where the value is at most the limit at the last number, it is from `nearest` on
-pub near_to_last : (f : ℕ → ℤ) (limit : ℤ) (nearest last : ℕ) → RisesIn f nearest last → nearest ≤ last → f last ≤ℤ limit
-    → (k : ℕ) → nearest ≤ k → k ≤ last → int_le (f k) limit ≡ nat_le k last
-near_to_last f limit nearest last rise l h =
-    right_found f limit nearest last last last rise
-    (record { from = l; ordered = omega arith; bound = omega arith; near = h; far = λ k m n. absurd (omega arith) }) (omega arith)
 
 -- ---- both: the numbers with a value at most the limit are one stretch round `nearest`
 pub one_stretch : (f : ℕ → ℤ) (limit : ℤ) (nearest last first end : ℕ) → first ≤ nearest → nearest ≤ end
@@ -145,6 +163,23 @@ halved_more whole left less before now next h p q e = record {
 
 pub halved_found : (whole left before now : ℕ) → IsHalved whole left before now → (n : ℕ) → whole < 2 ^ n → now ≤ before + n
 halved_found whole left before now h n l = omega (arith, h.counted, h.halved n l)
+
+-- of two sides of fewer than twice 2 ^ n numbers together, one has fewer than 2 ^ n
+pub ends_cost : (n left right before middle after : ℕ) → left < 2 ^ (n + 1) → right < 2 ^ (n + 1) → left + right < 2 * 2 ^ n
+    → ((i : ℕ) → left < 2 ^ i → middle ≤ before + i + 2) → ((i : ℕ) → right < 2 ^ i → after ≤ middle + i + 2)
+    → after ≤ before + (2 * n + 5)
+ends_cost n left right before middle after most_left most_right together to_middle to_after =
+    ⊎_elim
+    (λ (l : left < 2 ^ n). let a = to_middle n l in let b = to_after (n + 1) most_right in omega (arith, a, b))
+    (λ (l : 2 ^ n ≤ left). let a = to_middle (n + 1) most_left in let b = to_after n (omega arith) in omega (arith, a, b))
+    (cases_lt left (2 ^ n))
+
+-- ---- a value that is compared with the limit
+pub near_by : (x read limit : ℤ) (b : Bool) → read ≡ limit → b ≡ int_le x read → b ≡ true → x ≤ℤ limit
+near_by x read limit b same e h = grind (arith, ints)
+
+pub far_by : (x read limit : ℤ) (b : Bool) → read ≡ limit → b ≡ int_le x read → b ≡ false → limit <ℤ x
+far_by x read limit b same e h = grind (arith, ints)
 
 -- ---- a value that is computed at k
 pub near_at : (f : ℕ → ℤ) (k : ℕ) (value limit : ℤ) → value ≡ f k → value ≤ℤ limit → f k ≤ℤ limit

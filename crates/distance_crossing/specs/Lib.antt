@@ -1,5 +1,6 @@
 pub mod Circles
 pub mod Close
+pub mod Ends
 pub mod LeastCircle
 pub mod NearTicks
 pub mod Trials

@@ -1,9 +1,9 @@
 //! The exact ticks at which two motions along lines are within a distance of each other, or their distance
-//! compares with a constant, and at which up to four motions fit a circle. Everything is whole numbers and fractions of them:
-//! nothing is rounded and nothing is rooted. The ticks at which a squared distance is at most a limit are one
-//! span round the least distance, and so are the ticks at which motions fit a circle, since the least circle
-//! round them first shrinks and then grows. The ends of such a span are found by bisections, so no window is
-//! walked.
+//! compares with a constant, and at which up to four motions fit a circle. Everything is whole numbers and
+//! fractions of them: no answer is rounded or rooted. The ticks at which a squared distance is at most a limit are
+//! one span round the least distance, and so are the ticks at which motions fit a circle, since the least circle
+//! round them first shrinks and then grows. The ends of such a span are found by probes and bisections, so no
+//! window is walked. A guess by floating point says only where to probe a distance first.
 #![tactic(auto)]
 
 mod circle;

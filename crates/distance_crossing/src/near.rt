@@ -3,6 +3,7 @@ ghost use Rattle.std.specs.Prelude.{◌≡◌, ℕ, ◌+◌, ◌-◌, ◌^◌, �
 ghost use Rattle.exact.specs.Rising.{DropsTo, RisesIn};
 ghost use Rattle.linear_crossing.specs.Relative.{squared_distance_at};
 ghost use Rattle.tick_set.specs.Runs.{IsRuns};
+ghost use Rattle.distance_crossing.specs.Ends.{IsLeft, IsRight};
 ghost use Rattle.distance_crossing.specs.NearTicks.{is_near};
 
 use linear_crossing::Quad;
@@ -17,8 +18,8 @@ pub const SHORT_WINDOW: u32 = 1_000_000;
 /// The ticks of the window at which the squared distance is at most `limit`, in square thousandths. They are
 /// one span; None exactly where there is none. The window has up to [`SPAN_LIMIT`] ticks after its first.
 ///
-/// It takes no memory. It probes the least distance and the two ends of the window, and bisects on each side
-/// whose end is not near.
+/// It takes no memory. It probes the least distance, and on each side a guess of the end and a number next to it,
+/// and bisects what is left where the end is at neither.
 pub fn within<M: Ledger>(q: &Quad, limit: i128, w: Window, probes: &mut Steps<M>) -> Option<Span>
     requires { w.hi - w.lo ≤ SPAN_LIMIT }
     ensures runs { IsRuns (is_near q.now limit w) (option_to_list result) }
@@ -31,44 +32,91 @@ pub fn within<M: Ledger>(q: &Quad, limit: i128, w: Window, probes: &mut Steps<M>
     if q.at(nearest, probes) > limit {
         return None;
     }
-    let first = first_near(q, limit, nearest, probes);
-    let end = last_near(q, limit, nearest, last, probes);
+    let (first, end) = q.reach(limit, last);
+    let first = first_near(q, limit, first.min(nearest), nearest, probes);
+    let end = last_near(q, limit, end.max(nearest), nearest, last, probes);
     Some(Span {
         lo: w.lo + first,
         hi: w.lo + end,
     })
 }
 
-// The first number at which the value is at most the limit. It falls up to `nearest`, where it is. Where motions
-// are near from the window's first tick on, as those at rest are, one probe tells it.
-fn first_near<M: Ledger>(q: &Quad, limit: i128, nearest: u32, probes: &mut Steps<M>) -> u32
-    requires falls { DropsTo (squared_distance_at q.now) nearest }
-    requires near { squared_distance_at q.now nearest ≤ℤ limit }
-    ensures bound { result ≤ nearest }
-    ensures first { (k : ℕ) → k ≤ nearest → int_le (squared_distance_at q.now k) limit ≡ nat_le result k }
-    ensures cost { (n : ℕ) → nearest < 2 ^ n → probes.new ≤ probes.old + n + 1 }
-    ensures least { probes.old ≤ probes.new }
+// Whether the value is at most the limit.
+#[inline]
+fn is_within<M: Ledger>(q: &Quad, limit: i128, k: u32, probes: &mut Steps<M>) -> bool
+    ensures value { result ≡ int_le (squared_distance_at q.now k) limit }
+    ensures cost { probes.new ≡ probes.old + 1 }
 {
-    if nearest == 0 {
-        return 0;
-    }
-    if q.at(0, probes) <= limit {
-        return 0;
-    }
-    bisect_first(q, limit, nearest, probes)
+    q.at(k, probes) <= limit
 }
 
-// The same by a bisection.
-fn bisect_first<M: Ledger>(q: &Quad, limit: i128, nearest: u32, probes: &mut Steps<M>) -> u32
+// The first number at which the value is at most the limit. It falls up to `nearest`, where it is.
+fn first_near<M: Ledger>(
+    q: &Quad,
+    limit: i128,
+    guess: u32,
+    nearest: u32,
+    probes: &mut Steps<M>,
+) -> u32
+    requires guessed { guess ≤ nearest }
     requires falls { DropsTo (squared_distance_at q.now) nearest }
     requires near { squared_distance_at q.now nearest ≤ℤ limit }
     ensures bound { result ≤ nearest }
     ensures first { (k : ℕ) → k ≤ nearest → int_le (squared_distance_at q.now k) limit ≡ nat_le result k }
-    ensures cost { (n : ℕ) → nearest < 2 ^ n → probes.new ≤ probes.old + n }
+    ensures cost { (n : ℕ) → nearest < 2 ^ n → probes.new ≤ probes.old + n + 2 }
     ensures least { probes.old ≤ probes.new }
 {
-    let mut low = 0;
-    let mut high = nearest;
+    let (low, high) = around_first(q, limit, guess, nearest, probes);
+    bisect_first(q, limit, low, high, nearest, probes)
+}
+
+// Two numbers round the first at which the value is at most the limit: it is above below the one, and not at the
+// other. They are the same where that is the guess or next after it.
+fn around_first<M: Ledger>(
+    q: &Quad,
+    limit: i128,
+    guess: u32,
+    nearest: u32,
+    probes: &mut Steps<M>,
+) -> (u32, u32)
+    requires guessed { guess ≤ nearest }
+    requires falls { DropsTo (squared_distance_at q.now) nearest }
+    requires near { squared_distance_at q.now nearest ≤ℤ limit }
+    ensures round { IsLeft (squared_distance_at q.now) limit nearest result.0 result.1 }
+    ensures cost { probes.new ≤ probes.old + 2 }
+    ensures least { probes.old ≤ probes.new }
+{
+    if guess < nearest && !is_within(q, limit, guess, probes) {
+        if guess + 1 < nearest && !is_within(q, limit, guess + 1, probes) {
+            (guess + 2, nearest)
+        } else {
+            (guess + 1, guess + 1)
+        }
+    } else if 0 < guess && is_within(q, limit, guess - 1, probes) {
+        (0, guess - 1)
+    } else {
+        (guess, guess)
+    }
+}
+
+// The first number at which the value is at most the limit, by a bisection between two numbers round it.
+fn bisect_first<M: Ledger>(
+    q: &Quad,
+    limit: i128,
+    from: u32,
+    until: u32,
+    nearest: u32,
+    probes: &mut Steps<M>,
+) -> u32
+    requires falls { DropsTo (squared_distance_at q.now) nearest }
+    requires round { IsLeft (squared_distance_at q.now) limit nearest from until }
+    ensures bound { result ≤ nearest }
+    ensures first { (k : ℕ) → k ≤ nearest → int_le (squared_distance_at q.now k) limit ≡ nat_le result k }
+    ensures cost { (n : ℕ) → until - from < 2 ^ n → probes.new ≤ probes.old + n }
+    ensures least { probes.old ≤ probes.new }
+{
+    let mut low = from;
+    let mut high = until;
     // The value is above the limit below `low`, and not at `high`.
     while low < high {
         let middle = low + (high - low) / 2;
@@ -81,52 +129,80 @@ fn bisect_first<M: Ledger>(q: &Quad, limit: i128, nearest: u32, probes: &mut Ste
     high
 }
 
-// The last number of `nearest..=last` at which the value is at most the limit. It rises from `nearest`,
-// where it is. Where motions are near up to the last number, one probe tells it.
+// The last number of `nearest..=last` at which the value is at most the limit. It rises from `nearest`, where it is.
 fn last_near<M: Ledger>(
     q: &Quad,
     limit: i128,
+    guess: u32,
     nearest: u32,
     last: u32,
     probes: &mut Steps<M>,
 ) -> u32
-    requires ordered { nearest ≤ last }
+    requires guessed { nearest ≤ guess }
+    requires guess_bound { guess ≤ last }
     requires rises { RisesIn (squared_distance_at q.now) nearest last }
     requires near { squared_distance_at q.now nearest ≤ℤ limit }
     ensures from { nearest ≤ result }
     ensures bound { result ≤ last }
     ensures last { (k : ℕ) → nearest ≤ k → k ≤ last → int_le (squared_distance_at q.now k) limit ≡ nat_le k result }
-    ensures cost { (n : ℕ) → last - nearest < 2 ^ n → probes.new ≤ probes.old + n + 1 }
+    ensures cost { (n : ℕ) → last - nearest < 2 ^ n → probes.new ≤ probes.old + n + 2 }
     ensures least { probes.old ≤ probes.new }
 {
-    if nearest == last {
-        return last;
-    }
-    if q.at(last, probes) <= limit {
-        return last;
-    }
-    bisect_last(q, limit, nearest, last, probes)
+    let (low, high) = around_last(q, limit, guess, nearest, last, probes);
+    bisect_last(q, limit, low, high, nearest, last, probes)
 }
 
-// The same by a bisection.
+// Two numbers round the last at which the value is at most the limit: it is not above at the one, and above past the
+// other. They are the same where that is the guess or next before it.
+fn around_last<M: Ledger>(
+    q: &Quad,
+    limit: i128,
+    guess: u32,
+    nearest: u32,
+    last: u32,
+    probes: &mut Steps<M>,
+) -> (u32, u32)
+    requires guessed { nearest ≤ guess }
+    requires guess_bound { guess ≤ last }
+    requires rises { RisesIn (squared_distance_at q.now) nearest last }
+    requires near { squared_distance_at q.now nearest ≤ℤ limit }
+    ensures round { IsRight (squared_distance_at q.now) limit nearest last result.0 result.1 }
+    ensures cost { probes.new ≤ probes.old + 2 }
+    ensures least { probes.old ≤ probes.new }
+{
+    if nearest < guess && !is_within(q, limit, guess, probes) {
+        if nearest < guess - 1 && !is_within(q, limit, guess - 1, probes) {
+            (nearest, guess - 2)
+        } else {
+            (guess - 1, guess - 1)
+        }
+    } else if guess < last && is_within(q, limit, guess + 1, probes) {
+        (guess + 1, last)
+    } else {
+        (guess, guess)
+    }
+}
+
+// The last number at which the value is at most the limit, by a bisection between two numbers round it.
 fn bisect_last<M: Ledger>(
     q: &Quad,
     limit: i128,
+    from: u32,
+    until: u32,
     nearest: u32,
     last: u32,
     probes: &mut Steps<M>,
 ) -> u32
-    requires ordered { nearest ≤ last }
     requires rises { RisesIn (squared_distance_at q.now) nearest last }
-    requires near { squared_distance_at q.now nearest ≤ℤ limit }
+    requires round { IsRight (squared_distance_at q.now) limit nearest last from until }
     ensures from { nearest ≤ result }
     ensures bound { result ≤ last }
     ensures last { (k : ℕ) → nearest ≤ k → k ≤ last → int_le (squared_distance_at q.now k) limit ≡ nat_le k result }
-    ensures cost { (n : ℕ) → last - nearest < 2 ^ n → probes.new ≤ probes.old + n }
+    ensures cost { (n : ℕ) → until - from < 2 ^ n → probes.new ≤ probes.old + n }
     ensures least { probes.old ≤ probes.new }
 {
-    let mut low = nearest;
-    let mut high = last;
+    let mut low = from;
+    let mut high = until;
     // The value is above the limit above `high`, and not at `low`.
     while low < high {
         let middle = high - (high - low) / 2;

@@ -1,5 +1,6 @@
 //! Exact first and last ticks for functions of the tick that are linear, and for the squared distance of two
-//! linear motions. Everything is whole numbers: nothing is rounded, and no window is walked.
+//! linear motions. Everything is whole numbers: nothing is rounded, and no window is walked. One call alone,
+//! `Quad::reach`, gives a guess by floating point, on which nothing exact stands.
 #![tactic(auto)]
 
 mod linear;

@@ -7,6 +7,7 @@ use exact::{plus, times};
 use fixed_point::{Fix, Point, SLOPE_LIMIT, Slope};
 use geometry::apart;
 use std::marker::Model;
+use std::num::{nearest_u64_to_f64, saturating_f64_to_u32};
 use std::sync::ledger::Ledger;
 use steps::Steps;
 
@@ -115,6 +116,44 @@ impl Quad {
         let start = plus(speed, times(2, drift));
         first_reached(2 * speed.unsigned_abs(), start, last)
     }
+
+    /// A guess, by floating point, of the first and the last number of `0..=last` at which the value is at most
+    /// `limit`. Mostly the number that is sought is the guess, or the next one towards the valley. Nothing but the
+    /// range is promised: who uses a guess probes the values there.
+    pub fn reach(&self, limit: i128, last: u32) -> (u32, u32)
+        ensures first { result.0 ≤ last }
+        ensures end { result.1 ≤ last }
+    {
+        let (x, y) = (self.x as f64, self.y as f64);
+        let (dx, dy) = (self.dx as f64, self.dy as f64);
+        let speed = dx * dx + dy * dy;
+        if speed == 0.0 {
+            return (0, last);
+        }
+        let cross = x * dy - y * dx;
+        let middle = -(x * dx + y * dy);
+        // Where the least value is close to the limit, rounding can take the difference below 0.
+        let half = (rounded(limit) * speed - cross * cross).max(0.0).sqrt();
+        (
+            closest((middle - half) / speed, last),
+            closest((middle + half) / speed, last),
+        )
+    }
+}
+
+// The number of `0..=last` that is closest to a root.
+fn closest(root: f64, last: u32) -> u32
+    ensures { result ≤ last }
+{
+    saturating_f64_to_u32(root + 0.5).min(last)
+}
+
+// A number as a float, by its two halves; 0 for a negative one.
+fn rounded(number: i128) -> f64 {
+    let size = number.max(0).unsigned_abs();
+    let high = (size >> 64) as u64;
+    let low = (size & 0xffff_ffff_ffff_ffff) as u64;
+    nearest_u64_to_f64(high) * 18446744073709551616.0 + nearest_u64_to_f64(low)
 }
 
 // A coordinate after `k` ticks.

@@ -6,7 +6,7 @@ use Rattle.linear_crossing.specs.Relative.{squared_distance_at}
 use Rattle.tick_set.specs.Runs.{IsRuns}
 use Rattle.tick_set.specs.Ticks.{within}
 use Rattle.tick_set.specs.declared.spans.Span.{Span}
-use Rattle.distance_crossing.proofs.Bisection.{near_span}
+use Rattle.distance_crossing.proofs.Bisection.{near_span, ends_cost}
 use Rattle.distance_crossing.proofs.near.within.Goals as goal
 
 pub returns-clause-runs : goal.returns-clause-runs
@@ -23,13 +23,15 @@ returns-clause-runs g c =
 
 pub returns-clause-cost : goal.returns-clause-cost
 returns-clause-cost g c =
-    let left = c.first_near-first.ensures.cost 27 (omega arith) in
-    let right = c.last_near-end.ensures.cost 27 (omega arith) in
-    omega arith
+    let nearest = c.valley-nearest.result in
+    let counted = ends_cost 26 nearest (c.args.w.hi - c.args.w.lo - nearest) _ _ _ (omega arith) (omega arith) (omega arith)
+    c.first_near-first.ensures.cost c.last_near-end.ensures.cost in
+    omega (arith, counted)
 
 pub returns-clause-short_cost : goal.returns-clause-short_cost
 returns-clause-short_cost g c =
     λ short.
-    let left = c.first_near-first.ensures.cost 20 (omega arith) in
-    let right = c.last_near-end.ensures.cost 20 (omega arith) in
-    omega arith
+    let nearest = c.valley-nearest.result in
+    let counted = ends_cost 19 nearest (c.args.w.hi - c.args.w.lo - nearest) _ _ _ (omega arith) (omega arith) (omega arith)
+    c.first_near-first.ensures.cost c.last_near-end.ensures.cost in
+    omega (arith, counted)
