@@ -1,6 +1,8 @@
 -- The line along which an object moves from its last epoch on.
-use Rattle.std.specs.Prelude.{◌≡◌, ℕ, ℤ, pos, ◌+◌, ◌-◌, ◌*◌, ◌+ℤ◌, ◌*ℤ◌, ◌≤◌, unsigned_abs, Option, IfSome, Some, List, length, slice_get}
+use Rattle.std.specs.Prelude.{◌≡◌, ℕ, ℤ, pos, ◌+◌, ◌-◌, ◌*◌, ◌+ℤ◌, ◌*ℤ◌, ◌≤◌, ◌==◌, Bool, false, ◌&&◌, unsigned_abs, Option, IfSome, Some, is_some, List, length, slice_get}
+use Rattle.std.specs.Option.{option_map_or}
 use Rattle.fixed_point.specs.declared.number.TheConstants.{READ_LIMIT, SLOPE_LIMIT}
+use Rattle.motion.specs.declared.cell.Cell.{Cell}
 use Rattle.motion.specs.declared.cell.Cell.TheVariants as cells
 use Rattle.motion.specs.declared.straight.Straight.{Straight}
 use Rattle.motion.specs.Dynamic.{Dynamic, value_at}
@@ -23,7 +25,22 @@ pub record IsStraightOf (epochs : List Epoch) (line : Straight) : Type 0 where
   pub x : MovesFrom epoch 0 line.from line.x line.dx
   pub y : MovesFrom epoch 1 line.from line.y line.dy
 
--- what holds of the fields of a `Timeline`: its line, where it has one, is that of its epochs
+-- whether a cell is dynamic, with one leg alone
+abbrev pub has_one_leg : Cell → Bool
+has_one_leg (cells.Num n) = false
+has_one_leg (cells.Text w) = false
+has_one_leg (cells.Dyn v) = length v.function.firsts == 0
+
+-- whether the attribute of an index, counted from 0, is there and has one leg alone
+abbrev pub moves_by_one_leg : Epoch → ℕ → Bool
+moves_by_one_leg p index = option_map_or has_one_leg (slice_get (cells_of p) index) false
+
+-- whether the last epoch tells a line: its first two attributes have one leg alone each
+abbrev pub tells_line : List Epoch → Bool
+tells_line epochs = option_map_or (λ p. moves_by_one_leg p 0 && moves_by_one_leg p 1) (slice_get epochs (length epochs - 1)) false
+
+-- what holds of the fields of a `Timeline`: it has a line exactly where its epochs tell one, and that line
 pub record AreTimelineFields (epochs : List Epoch) (straight : Option Straight) : Type 0 where
   pub rising : IsRising epochs
   pub told : IfSome straight (IsStraightOf epochs)
+  pub exact : is_some straight ≡ tells_line epochs

@@ -6,7 +6,7 @@ ghost use Rattle.tick_set.specs.declared.spans.TheConstants.{LAST_TICK};
 ghost use Rattle.tick_set.specs.Ticks.{within};
 ghost use Rattle.motion.specs.Cells.{AreCellsAt, AreChanges, changed};
 ghost use Rattle.motion.specs.Timeline.{Epoch, put, epoch_at, state_at, restored, AreBegunBy, IsRising, IsEpoch, StandsAsLeft, TakesBack};
-ghost use Rattle.motion.specs.Straight.{IsStraightOf};
+ghost use Rattle.motion.specs.Straight.{IsStraightOf, tells_line};
 ghost use Rattle.motion.specs.Pieces.{ArePieces, IsPiece, IsSteady, pieces_have};
 
 use crate::cell::{Cell, Given};
@@ -192,10 +192,12 @@ impl Timeline {
     }
 
     /// The line along which the object's first two attributes move from the first tick of its last epoch
-    /// on. It takes no look at the epochs. None tells nothing.
+    /// on. It takes no look at the epochs. None exactly where it was never written, the object is absent from
+    /// the last epoch on, or one of these attributes isn't dynamic or has several legs.
     #[inline]
     pub fn straight(&self) -> Option<&Straight>
-        ensures { IfSome result (λ line. IsStraightOf self.now line.now) }
+        ensures exact { is_some result ≡ tells_line self.now }
+        ensures told { IfSome result (λ line. IsStraightOf self.now line.now) }
     {
         self.straight.as_ref()
     }

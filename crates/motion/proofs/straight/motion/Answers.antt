@@ -3,8 +3,8 @@ use Rattle.std.proofs.lemmas.Grind.{common_steps}
 use Rattle.motion.proofs.StraightLemmas.{value_on}
 use Rattle.motion.proofs.straight.motion.Goals as goal
 
-pub returns : goal.returns
-returns c = record {
+pub returns-clause-moves : goal.returns-clause-moves
+returns-clause-moves c = record {
   vector = c.in_ok-vector.vector.now;
   cell = c.in_ok-vector.ensures.cell;
   near = search rules;
