@@ -1,10 +1,11 @@
 -- The place of a point object while an epoch is in force.
-use Rattle.std.specs.Prelude.{ℕ, Option, None, Some, option_and_then, List, slice_get}
-use Rattle.std.specs.Option.{option_map}
+use Rattle.std.specs.Prelude.{ℕ, ◌-◌, nat_le, Bool, false, ◌&&◌, Option, None, Some, option_and_then, List, length, slice_get}
+use Rattle.std.specs.Option.{option_map, option_map_or}
 use Rattle.fixed_point.specs.declared.number.Point.{Point}
 use Rattle.geometry.specs.Plane.{point}
 use Rattle.motion.specs.Dynamic.{Dynamic, value_at}
 use Rattle.motion.specs.Timeline.{Epoch, cells_of, epoch_at}
+use Rattle.motion.specs.Straight.{tells_line}
 use Rattle.motion.specs.declared.cell.Cell.{Cell}
 use Rattle.motion.specs.declared.cell.Cell.TheVariants as cells
 
@@ -28,3 +29,7 @@ place_of p t = place_by (dynamic_at p 0) (dynamic_at p 1) t
 -- where an object with this timeline is at tick t
 abbrev pub place_at : List Epoch → ℕ → Option Point
 place_at epochs t = option_and_then (λ p. place_of p t) (epoch_at epochs t)
+
+-- whether the last epoch begins by tick t and tells a line, along which the object moves from t on
+abbrev pub tells_line_from : List Epoch → ℕ → Bool
+tells_line_from epochs t = tells_line epochs && option_map_or (λ p. nat_le p.from t) (slice_get epochs (length epochs - 1)) false

@@ -1,5 +1,5 @@
 //! The line along which a point object moves.
-ghost use Rattle.std.specs.Prelude.{◌≡◌, ◌<◌, ◌+◌, ◌*◌, ◌-◌, ◌≤◌, ℕ, pos, ◌+ℤ◌, ◌*ℤ◌, unsigned_abs, Some, None, IfSome, IfNone};
+ghost use Rattle.std.specs.Prelude.{◌≡◌, ◌<◌, ◌+◌, ◌*◌, ◌-◌, ◌≤◌, ℕ, pos, ◌+ℤ◌, ◌*ℤ◌, unsigned_abs, Some, None, is_some, IfSome, IfNone};
 ghost use Rattle.std.specs.Option.{option_copied};
 ghost use Rattle.fixed_point.specs.declared.number.TheConstants.{READ_LIMIT, SLOPE_LIMIT};
 ghost use Rattle.geometry.specs.Plane.{point};
@@ -9,7 +9,7 @@ ghost use Rattle.linear_crossing.specs.Moving.{IsInReach, position_after};
 ghost use Rattle.linear_crossing.specs.declared.quad.TheConstants.{COORDINATE_LIMIT};
 ghost use Rattle.tick_set.specs.declared.spans.TheConstants.{LAST_TICK};
 ghost use Rattle.courses.specs.Parts.{piece_count};
-ghost use Rattle.courses.specs.Places.{dynamic_at, place_at, place_of};
+ghost use Rattle.courses.specs.Places.{dynamic_at, place_at, place_of, tells_line_from};
 
 use fixed_point::{Fix, Point, Slope};
 use linear_crossing::Line;
@@ -32,12 +32,14 @@ pub fn line_from(epoch: &Epoch, span: Span) -> Option<Line>
 }
 
 /// The line along which a point object moves throughout the span, where its timeline tells it at once: the last epoch is in
-/// force from the first tick on, and the object's first two attributes have one leg each. None tells nothing.
+/// force from the first tick on, and the object's first two attributes have one leg each. None exactly where the timeline
+/// tells no line, or its last epoch begins after `span.lo`.
 #[inline(always)]
 pub fn straight_line(timeline: &Timeline, span: Span) -> Option<Line>
     ensures reach { IfSome result IsInReach }
     ensures places { IfSome result (λ l. (t : ℕ) → span.lo ≤ t → t ≤ span.hi
         → place_at timeline.now t ≡ Some (position_after l (t - span.lo))) }
+    ensures exact { is_some result ≡ tells_line_from timeline.now span.lo }
     ensures counted { IfSome result (λ l. 0 < piece_count timeline.now span.lo span.hi) }
 {
     let line = timeline.straight()?;
