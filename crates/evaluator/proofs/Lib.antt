@@ -1,3 +1,4 @@
+pub mod AloneLemmas
 pub mod AssignLemmas
 pub mod AtomLemmas
 pub mod AtomRunLemmas

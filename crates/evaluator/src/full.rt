@@ -138,7 +138,8 @@ fn rows_of_absence<'d, S: Temporal, I: Interpreter<S>, L: Ledger>(
     Ok(away)
 }
 
-fn key_of(id: u32) -> Binding
+// The key of one object.
+pub(crate) fn key_of(id: u32) -> Binding
     ensures { result ≡ id ∷ [] }
 {
     let mut key = Binding::new();

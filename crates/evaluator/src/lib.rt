@@ -2,6 +2,7 @@
 //! whatever tells the ticks of atoms and the values of terms.
 #![tactic(auto)]
 
+mod alone;
 mod assignment;
 mod by_key;
 mod full;
@@ -17,6 +18,7 @@ mod sets;
 mod ticks;
 mod variables;
 
+pub use alone::ticks_alone;
 pub use atoms::ValueRun;
 pub use full::full_rows;
 pub use interpreter::Interpreter;
