@@ -1,6 +1,6 @@
 //! Queries over a store and its regions.
 
-ghost use Rattle.std.specs.Prelude.{◌≡◌, ◌≤◌, ◌+◌, ◌-◌, ◌&&◌, ℕ, length, map, IfOk};
+ghost use Rattle.std.specs.Prelude.{◌≡◌, ◌≤◌, ◌+◌, ◌-◌, ◌&&◌, ◌∷◌, ℕ, [], length, map, IfOk};
 ghost use Rattle.tick_set.specs.Runs.{spans_have};
 ghost use Rattle.tick_set.specs.Ticks.{between, within};
 ghost use Rattle.tick_set.specs.declared.spans.TheConstants.{SPAN_LIMIT};
@@ -19,7 +19,7 @@ ghost use Rattle.answers.specs.Objects.{AreOfItsClasses, IsOfAcceptedWrites};
 
 use crate::laws::fitting_queries_can_be_asked;
 use crate::world::StoredWorld;
-use evaluator::full_rows;
+use evaluator::{full_rows, ticks_alone};
 use formula::RQuery;
 use interval_set::IntervalSet;
 use object_store::Store;
@@ -75,4 +75,37 @@ pub fn evaluate<'d, L: Ledger, M: Ledger>(
     let world = StoredWorld { store, regions };
     let rows = full_rows(alloc, &world, q, d, w, reads, probes)?;
     Ok(rows)
+}
+
+/// The ticks of the window at which one object of the class of a query of one variable is there and the formula holds
+/// with this object, where nothing after the window's last tick counts: its row of [`evaluate`], where no relation is
+/// made. It fails only where memory is out.
+///
+/// The query is right by number and fits the classes and the regions, and the window has at most
+/// 100,000,000 ticks after its first. `reads` counts the looks at timelines.
+pub fn evaluate_alone<L: Ledger, M: Ledger>(
+    alloc: Global,
+    q: &RQuery,
+    id: u32,
+    store: &Store,
+    regions: &Regions,
+    w: Window,
+    reads: &mut Steps<L>,
+    probes: &mut Steps<M>,
+) -> Result<IntervalSet, AllocError>
+    requires accepted { IsOfAcceptedWrites store.now }
+    requires resolved { IsResolved (query_view q.now) }
+    requires fits { FitsItsClasses (world_in store.now regions.now) (query_view q.now) }
+    requires object { AreOfItsClasses (catalog_of store.now) (query_view q.now) ((id ∷ []) ∷ []) }
+    requires length { w.hi - w.lo ≤ SPAN_LIMIT }
+    ensures ticks { IfOk result (λ s. (b : ℕ → ℕ) → b 0 ≡ id → (t : ℕ) → spans_have s t
+        ≡ (within w.lo w.hi t && holds_full (world_in store.now regions.now) (query_view q.now) w.hi b t)) }
+    ensures least { reads.old ≤ reads.new }
+    ensures most { reads.new ≤ reads.old
+        + query_reads (size_of ((id ∷ []) ∷ [])) (w.hi + 1 - w.lo) (query_view q.now) }
+{
+    fitting_queries_can_be_asked();
+    let world = StoredWorld { store, regions };
+    let ticks = ticks_alone(alloc, &world, q, id, w, reads, probes)?;
+    Ok(ticks)
 }
