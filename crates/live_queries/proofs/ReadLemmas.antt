@@ -20,7 +20,7 @@ use Rattle.live_queries.specs.Prepared.{is_of_class}
 use Rattle.live_queries.specs.Written.{domains_for, ids_for, single_for}
 use Rattle.live_queries.proofs.PartLemmas.{class_of_variable}
 
-abbrev IsMore : (ℕ → ℕ) → (ℕ → ℕ) → Type 0
+abbrev pub IsMore : (ℕ → ℕ) → (ℕ → ℕ) → Type 0
 IsMore size more = (v : ℕ) → size v ≤ more v
 
 more_choices : (size more : ℕ → ℕ) → IsMore size more → (vs : List ℕ) → choices size vs ≤ choices more vs
@@ -53,7 +53,7 @@ module _ (ticks many : ℕ) (upto : ticks ≤ many) where
       let both : length vs + ticks * reads (made_single size vs) ticks f ≤ length vs + many * reads (made_single more vs) many f = omega (arith, each) in
       mul-le-mul (more_choices size more is vs) both
 
-  more_of_query : (q : ResolvedQuery) (size more : ℕ → ℕ) → IsMore size more → query_reads size ticks q ≤ query_reads more many q
+  pub more_of_query : (q : ResolvedQuery) (size more : ℕ → ℕ) → IsMore size more → query_reads size ticks q ≤ query_reads more many q
   more_of_query q size more is =
       add-le-add (more_reads q.formula size more is) (sum_by-le-sum_by size more (between 0 (length q.classes)) is)
 

@@ -22,10 +22,10 @@ ghost use Rattle.live_queries.specs.Prepared.{AreColumnsWith, HaveRoomFor};
 ghost use Rattle.live_queries.specs.Written.{HaveObjectsWith, takes};
 
 use crate::columns::{numbers_of, numbers_with};
-use crate::judging::{Parts, Whole};
+use crate::judging::{Alone, Parts, Whole};
 use crate::objects::{Objects, is_of_class, width};
-use crate::parts::{Part, domains_for, parts_of, singles};
-use answers::{domains_of, evaluate};
+use crate::parts::{parts_of, singles};
+use answers::{domains_of, evaluate, evaluate_alone};
 use formula::{ClassNo, RQuery};
 use interval_set::IntervalSet;
 use kept_rows::{Changes, KeptRows, judge_all, refresh};
@@ -167,8 +167,8 @@ pub(crate) fn new_rows<L: Ledger, M: Ledger>(
     Ok(changes)
 }
 
-/// The same of a query of one variable, which is of the object's class: the one binding that holds the object is judged,
-/// and no list is made on the way.
+/// The same of a query of one variable, which is of the object's class: the one binding that holds the object is judged
+/// by its own ticks, and no list or relation is made on the way.
 fn new_row<L: Ledger, M: Ledger>(
     alloc: Global,
     query: &RQuery,
@@ -207,20 +207,10 @@ fn new_row<L: Ledger, M: Ledger>(
     ensures least { reads.old ≤ reads.new }
     ensures most { reads.new ≤ reads.old + change_reads (catalog_of store.now) (query_view query.now) (w.hi + 1 - w.lo) class }
 {
-    let classes = query.classes.items();
-    let domains = domains_for(alloc, classes, store, id, 0)?;
-    let full = evaluate(alloc, query, &domains, store, regions, w, reads, probes)?;
-    let part = Part {
-        variable: 0,
-        rows: full,
-    };
-    let numbers = column.numbers_with(does_take(grows, classes, class, column), id, likely);
-    let judge = Parts {
-        columns: from_ref(column),
-        object: id,
-        parts: from_ref(&part),
-        nothing: IntervalSet::empty(alloc),
-    };
+    let ticks = evaluate_alone(alloc, query, id, store, regions, w, reads, probes)?;
+    let one_more = does_take(grows, query.classes.items(), class, column);
+    let numbers = column.numbers_with(one_more, id, likely);
+    let judge = Alone { ticks };
     let changes = refresh(alloc, rows, from_ref(&numbers), &judge)?;
     Ok(changes)
 }

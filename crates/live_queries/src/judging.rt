@@ -1,4 +1,4 @@
-//! Bindings judged by relations.
+//! Bindings judged by what an evaluation told.
 ghost use Rattle.std.specs.Prelude.{◌≡◌, ◌≤◌, ℕ, false};
 ghost use Rattle.tick_set.specs.Runs.{spans_have};
 ghost use Rattle.kept_rows.specs.declared.binding.TheConstants.{BINDING_LIMIT};
@@ -55,6 +55,22 @@ impl Judge<IntervalSet> for Parts<'_, '_> {
 
     fn judge(&self, number: u32) -> &IntervalSet {
         row_in_parts(self.parts, self.columns, number, self.object, &self.nothing)
+    }
+}
+
+/// Judges the one binding that holds an object, of a query of one variable, by the ticks of this object.
+#[derive(Drop)]
+pub(crate) struct Alone {
+    pub(crate) ticks: IntervalSet,
+}
+
+impl Judge<IntervalSet> for Alone {
+    ghost use Rattle.tick_set.specs.Runs.{spans_have};
+
+    ghost full = { λ j number t. spans_have j.ticks t };
+
+    fn judge(&self, _number: u32) -> &IntervalSet {
+        &self.ticks
     }
 }
 

@@ -82,8 +82,8 @@ fn add_single(
     Ok(())
 }
 
-/// What each variable ranges over where this one is the object alone. It fails only where memory is out.
-pub(crate) fn domains_for(
+// What each variable ranges over where this one is the object alone.
+fn domains_for(
     alloc: Global,
     classes: &[ClassNo],
     store: &Store,
