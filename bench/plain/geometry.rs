@@ -114,45 +114,69 @@ impl Quad {
         let drift = x * dx + y * dy;
         first_reached(2 * speed.unsigned_abs(), speed + 2 * drift, last)
     }
+
+    /// A guess of the first and the last number of `0..=last` at which the value is at most the limit.
+    fn reach(&self, limit: i128, last: u32) -> (u32, u32) {
+        let (x, y, dx, dy) = (self.x as f64, self.y as f64, self.dx as f64, self.dy as f64);
+        let speed = dx * dx + dy * dy;
+        if speed == 0.0 {
+            return (0, last);
+        }
+        let cross = x * dy - y * dx;
+        let middle = -(x * dx + y * dy);
+        let half = (limit as f64 * speed - cross * cross).max(0.0).sqrt();
+        let closest = |root: f64| ((root + 0.5) as u32).min(last);
+        (closest((middle - half) / speed), closest((middle + half) / speed))
+    }
 }
 
-/// The ticks at which the squared distance is at most `limit`, by the valley, the two ends of the window, and a
-/// bisection on each side whose end is too far. `probe` is called once for each value that is looked at.
+/// The ticks at which the squared distance is at most `limit`, by the valley, and on each side by a guess of the end
+/// and a number next to it, and a bisection of what is left where the end is at neither. `probe` is called once for
+/// each value that is looked at.
 fn within(q: &Quad, limit: i128, w: (u32, u32), mut probe: impl FnMut()) -> Span {
-    let mut at = |k| {
+    let mut near = |k| {
         probe();
-        q.at(k)
+        q.at(k) <= limit
     };
     let last = w.1 - w.0;
     let nearest = q.valley(last);
-    if at(nearest) > limit {
+    if !near(nearest) {
         return None;
     }
-    let (mut low, mut first) = (0, nearest);
-    if first > 0 && at(0) <= limit {
-        first = 0;
-    }
-    while low < first {
-        let middle = low + (first - low) / 2;
-        if at(middle) <= limit {
-            first = middle;
+    let (first, end) = q.reach(limit, last);
+    let (first, end) = (first.min(nearest), end.max(nearest));
+    let (mut low, mut high) = if first < nearest && !near(first) {
+        if first + 1 < nearest && !near(first + 1) { (first + 2, nearest) } else { (first + 1, first + 1) }
+    } else if 0 < first && near(first - 1) {
+        (0, first - 1)
+    } else {
+        (first, first)
+    };
+    while low < high {
+        let middle = low + (high - low) / 2;
+        if near(middle) {
+            high = middle;
         } else {
             low = middle + 1;
         }
     }
-    let (mut end, mut high) = (nearest, last);
-    if end < last && at(last) <= limit {
-        end = last;
-    }
-    while end < high {
-        let middle = high - (high - end) / 2;
-        if at(middle) <= limit {
-            end = middle;
+    let first = high;
+    (low, high) = if nearest < end && !near(end) {
+        if nearest < end - 1 && !near(end - 1) { (nearest, end - 2) } else { (end - 1, end - 1) }
+    } else if end < last && near(end + 1) {
+        (end + 1, last)
+    } else {
+        (end, end)
+    };
+    while low < high {
+        let middle = high - (high - low) / 2;
+        if near(middle) {
+            low = middle;
         } else {
             high = middle - 1;
         }
     }
-    Some((w.0 + first, w.0 + end))
+    Some((w.0 + first, w.0 + low))
 }
 
 fn cross(p: Point, q: Point, r: Point) -> i128 {
