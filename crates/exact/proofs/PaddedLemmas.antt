@@ -1,9 +1,7 @@
 -- For this crate and for the crates above: what is in the front of an array, and the array again.
-use Rattle.std.proofs.Common.{◌≡◌, ℕ, ◌+◌, ◌-◌, ◌≤◌, List, ◌++◌, length, take, drop, replicate, ◌∙◌, ap, sym, arith, length-append, length-drop, length-take-le, take-append-drop}
-use Rattle.std.proofs.lemmas.List.{drop-replicate, length-replicate, drop-drop}
-use Rattle.std.proofs.lemmas.Slice.{drop-put_mid}
+use Rattle.std.proofs.Common.{◌≡◌, ℕ, ◌≤◌, List, ◌++◌, length, take, drop, replicate, ◌∙◌, ap, arith, length-append, length-drop, length-take-le, take-append-drop}
+use Rattle.std.proofs.lemmas.List.{drop-replicate, length-replicate}
 use Rattle.std.proofs.Math.Seq.{drop-append_seam}
-use borrow.Rule.Slice.PartMut.{put_mid}
 use Rattle.exact.specs.Padded.{padded, IsPadded}
 
 pub length-front : {A : Type 0} (filler : A) (room : ℕ) (places : List A) (count : ℕ) → IsPadded filler room places count → length (take count places) ≡ count
@@ -23,19 +21,3 @@ padded_over {A} filler room items fillers fits are = record {
   full = let long : length fillers ≡ room = ap length are ∙ length-replicate {A = A} room filler in omega (arith, length-append {A = A}, length-drop {A = A});
   unused = drop-append_seam items (drop (length items) fillers) ∙ ap (drop (length items)) are ∙ drop-replicate (length items) room filler;
 }
-
--- more items after those that are there
-pub padded_behind : {A : Type 0} (filler : A) (room : ℕ) (places part : List A) (count : ℕ) → IsPadded filler room places count → count + length part ≤ room → IsPadded filler room (put_mid count (count + length part - count) places part) (count + length part)
-padded_behind {A} filler room places part count was fits =
-    let within : count ≤ length places = omega (arith, was.fits, was.full) in
-    let same : length part ≡ count + length part - count = omega arith in
-    record {
-      fits = fits;
-      full = omega (arith, length-append {A = A}, length-drop {A = A}, length-take-le count places within, was.full);
-      unused =
-          drop-put_mid count (count + length part - count) places part (count + length part) (omega arith) within same
-          ∙ sym (drop-drop (length part) count places)
-          ∙ ap (drop (length part)) was.unused
-          ∙ drop-replicate (length part) (room - count) filler
-          ∙ ap (λ n. replicate n filler) (omega arith);
-    }

@@ -1,28 +1,40 @@
 -- For this crate and for the crates above: a canonical text is a number by its parts, so it is read.
-use Rattle.std.proofs.Common.{◌≡◌, ℕ, ◌+◌, ◌-◌, ◌*◌, ◌/◌, ◌%◌, ◌^◌, ◌<◌, ◌≤◌, Bool, true, false, cond, eqb, List, [], ◌∷◌, ◌++◌, length, take, ℤ, pos, negsuc, unsigned_abs, refl, ap, ◌∙◌, arith, length-append}
+use Rattle.std.proofs.Common.{◌≡◌, ℕ, ◌+◌, ◌-◌, ◌*◌, ◌/◌, ◌%◌, ◌^◌, ◌<◌, ◌≤◌, Bool, true, false, cond, eqb, List, [], ◌∷◌, ◌++◌, length, take, ℤ, pos, negsuc, unsigned_abs, refl, ap, ◌∙◌, arith, append-nil, append_assoc, length-append}
 use Rattle.std.proofs.lemmas.Fmt.{length-decimal-le, decimal_is_IsNumeral}
+use Rattle.std.proofs.lemmas.List.{length-take}
 use Rattle.std.proofs.lemmas.Bool.Decides.{nat_tests}
 use Rattle.std.specs.Char.{digit_value}
-use Rattle.std.specs.Fmt.{decimal, sign_text}
+use Rattle.std.specs.Fmt.{decimal}
 use Rattle.std.specs.Int.{is_negative}
-use Rattle.fixed_point.specs.Decimal.{AreDigits, IsDecimal, decimals_value, with_sign}
+use Rattle.std.specs.List.{suffix_len}
+use Rattle.fixed_point.specs.Decimal.{AreDigits, IsDecimal, decimals_value, point_text, with_sign}
 use Rattle.fixed_point.specs.Canonical.{three_digits, without_last_zeros, fix_text}
 use Rattle.fixed_point.specs.Laws.{ReadsWhatIsPrinted}
 use Rattle.fixed_point.proofs.DecimalLemmas.{decimal_law}
+use Rattle.fixed_point.proofs.DigitLemmas.{digit_of}
 
-length_sign : (negative : Bool) → length (sign_text negative) ≤ 1
-length_sign true = omega arith
-length_sign false = omega arith
+point_length : (digits : List ℕ) → length (point_text digits) ≤ length digits + 1
+point_length [] = omega arith
+point_length (digit ∷ digits) = omega arith
 
--- a sign and a whole part leave room for a point and three decimals
-pub room_for_decimals : (negative : Bool) (whole : ℕ) → whole ≤ 10 ^ 15 → length (sign_text negative ++ decimal whole) + 4 ≤ 21
-room_for_decimals negative whole small =
-    let sign : length (sign_text negative) ≤ 1 = length_sign negative in
-    let digits : length (decimal whole) ≤ 16 = length-decimal-le 16 whole (omega arith) (omega arith) (omega arith) in
-    omega (arith, length-append (sign_text negative) (decimal whole), sign, digits)
+decimals_length : (n : ℕ) → length (without_last_zeros (three_digits n)) ≤ 3
+decimals_length n =
+    let count : ℕ = 3 - suffix_len (λ digit. eqb digit 48) (three_digits n) in
+    omega (arith, length-take count (three_digits n))
 
-digit_of : (digit : ℕ) → digit < 10 → digit_value (48 + digit) ≡ digit
-digit_of digit below = grind (arith, nat_tests)
+-- up to 16 digits and up to three decimals leave room for a sign
+room_with : (digits decimals : List ℕ) → length digits ≤ 16 → length decimals ≤ 3 → length (digits ++ (point_text decimals ++ [])) + 1 ≤ 21
+room_with digits decimals short few =
+    omega (arith, length-append digits (point_text decimals ++ []), length-append (point_text decimals) [], point_length decimals)
+
+-- so do the whole part and the decimals of a number
+pub room_for_sign : (whole n : ℕ) (text : List ℕ) → text ≡ point_text (without_last_zeros (three_digits n)) ++ [] → whole ≤ 10 ^ 15
+    → length (decimal whole ++ text) + 1 ≤ 21
+room_for_sign whole n text is small =
+    let short : length (decimal whole) ≤ 16 = length-decimal-le 16 whole (omega arith) (omega arith) (omega arith) in
+    rw is (room_with (decimal whole) (without_last_zeros (three_digits n)) short (decimals_length n))
+
+pub ruleset print_steps = (room_for_sign, append-nil, append_assoc)
 
 digit_below : (digit : ℕ) → digit < 10 → digit_value (48 + digit) < 10
 digit_below digit below = omega (arith, digit_of digit below)

@@ -1,7 +1,8 @@
 -- For this crate and for the crates above: digits at the front of a text, and the number that they write.
-use Rattle.std.proofs.Common.{◌≡◌, ℕ, zero, suc, ◌+◌, ◌-◌, ◌*◌, ◌^◌, ◌<◌, ◌≤◌, Bool, true, false, cond, List, [], ◌∷◌, length, take, get_or, refl, ap, subst, ◌∙◌, arith, length-take-le, add_comm, add-one}
-use Rattle.std.proofs.lemmas.List.{take_all}
-use Rattle.std.proofs.lemmas.Int.Digits.{digits_value-lt, digits_value_more}
+use Rattle.std.proofs.Common.{◌≡◌, ℕ, zero, suc, ◌+◌, ◌-◌, ◌*◌, ◌^◌, ◌<◌, ◌≤◌, Bool, true, false, cond, List, [], ◌∷◌, length, take, drop, get_or, refl, ap, subst, sym, ◌∙◌, arith, length-drop, length-take-le, add_comm, add-one}
+use Rattle.std.proofs.lemmas.List.{drop-drop, get_or-drop}
+use Rattle.std.proofs.lemmas.Grind.{pow_more}
+use Rattle.std.proofs.lemmas.Int.Digits.{digits_value_more}
 use Rattle.std.proofs.lemmas.Str.Parse.{digit_at}
 use Rattle.std.proofs.lemmas.List.Sums.{prefix_len-le-length}
 use Rattle.std.proofs.lemmas.Bool.Decides.{nat_tests}
@@ -11,6 +12,7 @@ use Rattle.std.specs.Int.{IsInRange}
 use Rattle.std.specs.List.{prefix_len}
 use Rattle.std.specs.Str.Parse.{AllDigits, digits_value}
 use Rattle.fixed_point.specs.Decimal.{AreDigits}
+use Rattle.fixed_point.specs.Digits.{IsFirstDigit}
 
 pub digit_below_ten : (byte : ℕ) → is_ascii_digit byte ≡ true → digit_value byte < 10
 digit_below_ten byte is_digit = grind (arith, nat_tests)
@@ -38,19 +40,6 @@ digits_taken zero digits are = tt
 digits_taken (suc i) [] are = tt
 digits_taken (suc i) (digit ∷ digits) are = (are.0, digits_taken i digits are.1)
 
--- at most ten digits write a number below 10^10
-pub ten_digits_below : (digits : List ℕ) → AllDigits 10 digits → length digits ≤ 10 → digits_value 10 digits < 10 ^ 10
-ten_digits_below digits are few =
-    let below : digits_value 10 digits < 10 ^ length digits = digits_value-lt 10 digits are in
-    let most : 10 ^ length digits ≤ 10 ^ 10 = pow-le-pow_right (omega arith) few in
-    omega (arith, below, most)
-
--- so do their fronts
-pub digits_below : (digits : List ℕ) (i : ℕ) → AreDigits 0 10 digits → i ≤ length digits → digits_value 10 (take i digits) < 10 ^ 10
-digits_below digits i are within =
-    let long : length (take i digits) ≡ i = length-take-le i digits within in
-    ten_digits_below (take i digits) (digits_taken i digits are.digits) (omega (arith, long, are.few))
-
 -- the digit at a place
 pub digit_within : (digits : List ℕ) (i : ℕ) → AreDigits 0 10 digits → i < length digits → IsInRange 48 57 (get_or digits i 0)
 digit_within digits i are within = digit_at digits i are.digits within
@@ -60,14 +49,7 @@ pub number_with_digit : (digits : List ℕ) (i : ℕ) → AreDigits 0 10 digits 
 number_with_digit digits i are within =
     digits_value_more 10 digits i within ∙ ap (λ digit. digits_value 10 (take i digits) * 10 + digit) (digit_value_is (get_or digits i 0) (digit_within digits i are within))
 
--- a front is the whole where it is as long
-pub whole_below : (digits : List ℕ) (i : ℕ) → AreDigits 0 10 digits → length digits ≤ i → digits_value 10 (take i digits) < 10 ^ length digits
-whole_below digits i are whole = rw (take_all i digits whole) (digits_value-lt 10 digits are.digits)
-
--- what digits write is below a power of ten, here for each count that is needed
-pub below_ten : (n k : ℕ) → n < 10 ^ k → k ≡ 1 → n < 10
-below_ten n k below is = let h : n < 10 ^ 1 = subst (λ (j : ℕ). n < 10 ^ j) is below in omega (arith, h)
-
+-- what two or three digits write
 pub below_hundred : (n k : ℕ) → n < 10 ^ k → k ≡ 2 → n < 100
 below_hundred n k below is = let h : n < 10 ^ 2 = subst (λ (j : ℕ). n < 10 ^ j) is below in omega (arith, h)
 
@@ -75,12 +57,46 @@ pub below_thousand : (n k : ℕ) → n < 10 ^ k → k ≤ 3 → n < 1000
 below_thousand n k below few =
     let most : 10 ^ k ≤ 10 ^ 3 = pow-le-pow_right (omega arith) few in omega (arith, below, most)
 
+pub ruleset power_steps = (below_hundred, below_thousand)
+
+-- what up to ten digits write
 pub ten_digits_are_few : (n k : ℕ) → n < 10 ^ k → k ≤ 10 → n < 10 ^ 10
 ten_digits_are_few n k below few =
     let most : 10 ^ k ≤ 10 ^ 10 = pow-le-pow_right (omega arith) few in omega (arith, below, most)
 
-pub ruleset power_steps = (below_ten, below_hundred, below_thousand)
+-- A text is read so far: `count` of the digits at its front, the number that they write, and what follows them.
+pub record IsReadTo (text : List ℕ) (most number count : ℕ) (rest : List ℕ) : Type 0 where
+  pub few : count ≤ most
+  pub follows : rest ≡ drop count text
+  pub fits : count ≤ length text
+  pub digits : prefix_len is_ascii_digit text ≡ count + prefix_len is_ascii_digit rest
+  pub valued : number ≡ digits_value 10 (take count text)
+  pub small : number < 10 ^ count
 
-pub ruleset number_steps = (digits_below, digit_within, number_with_digit, whole_below)
+is_digit_of : (digit : ℕ) → digit < 10 → is_ascii_digit (48 + digit) ≡ true
+is_digit_of digit below = grind (arith, nat_tests)
 
-pub ruleset front_steps = (digits_in_front, prefix_len-le-length)
+-- a digit's value is the digit
+pub digit_of : (digit : ℕ) → digit < 10 → digit_value (48 + digit) ≡ digit
+digit_of digit below = grind (arith, nat_tests)
+
+-- a digit more
+pub read_more : (text : List ℕ) (most number count digit : ℕ) (rest later : List ℕ) → IsReadTo text most number count rest → count < most → IsFirstDigit rest digit later
+    → IsReadTo text most (number * 10 + digit) (count + 1) later
+read_more text most number count digit rest later so_far room first =
+    let left : drop count text ≡ (48 + digit) ∷ later = sym so_far.follows ∙ first.spelled in
+    let within : count < length text = omega (arith, length-drop count text, ap length left) in
+    let read : get_or text count 0 ≡ 48 + digit = ap (λ i. get_or text i 0) (omega arith) ∙ sym (get_or-drop count text 0 0) ∙ ap (λ bytes. get_or bytes 0 0) left in
+    record {
+      few = omega (arith, room);
+      follows = sym (ap (drop 1) left) ∙ drop-drop 1 count text;
+      fits = omega (arith, within);
+      digits =
+          so_far.digits ∙ ap (λ bytes. count + prefix_len is_ascii_digit bytes) first.spelled
+          ∙ ap (λ b. count + cond b (1 + prefix_len is_ascii_digit later) 0) (is_digit_of digit first.below) ∙ omega arith;
+      valued =
+          let more : digits_value 10 (take (count + 1) text) ≡ digits_value 10 (take count text) * 10 + digit_value (48 + digit) =
+          digits_value_more 10 text count within ∙ ap (λ byte. digits_value 10 (take count text) * 10 + digit_value byte) read in
+          omega (arith, more, so_far.valued, digit_of digit first.below);
+      small = omega (arith, pow_more 10 count, so_far.small, first.below);
+    }

@@ -1,3 +1,4 @@
 pub mod CanonicalLemmas
 pub mod DecimalLemmas
 pub mod DigitLemmas
+pub mod WholeLemmas

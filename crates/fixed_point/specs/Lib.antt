@@ -1,3 +1,5 @@
+pub mod AtEnd
 pub mod Canonical
 pub mod Decimal
+pub mod Digits
 pub mod Laws

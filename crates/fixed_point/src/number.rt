@@ -5,7 +5,6 @@ ghost use Rattle.fixed_point.specs.Canonical.{fix_text};
 
 use crate::number_text::FixText;
 use crate::reading::read_thousandths;
-use itoa::Buffer;
 use std::marker::Model;
 
 /// The largest size of a `Fix`, in thousandths.
@@ -72,14 +71,17 @@ impl Fix {
     /// The canonical text: a `-` where the number is negative, the whole part without zeros in front,
     /// and a point with the decimals without zeros at their end where they are not all zeros. `0`,
     /// `-0.5`, `3.4` and `1000000000` are such texts.
-    #[tactic(auto, using(crate::proofs::CanonicalLemmas::room_for_decimals), unfolding(crate::specs::Canonical::fix_text))]
+    #[tactic(auto, using(crate::proofs::CanonicalLemmas::print_steps), unfolding(crate::specs::Canonical::fix_text))]
     pub fn print(self) -> FixText
         ensures { result ≡ fix_text self }
     {
         let size = self.thousandths.unsigned_abs();
-        let mut text = FixText::of_sign(self.thousandths < 0);
-        text.append(Buffer::new().format(size / 1000).as_bytes());
-        text.append_decimals(size % 1000);
+        let mut text = FixText::empty();
+        text.prepend_decimals(size % 1000);
+        text.prepend_whole(size / 1000);
+        if self.thousandths < 0 {
+            text.prepend(b'-');
+        }
         text
     }
 }

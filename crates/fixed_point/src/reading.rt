@@ -1,10 +1,10 @@
 //! Reading a number with up to three decimals.
-ghost use Rattle.std.specs.Prelude.{◌≡◌, ◌<◌, ◌≤◌, ◌^◌, length, unsigned_abs, IfSome, IsTrue};
+ghost use Rattle.std.specs.Prelude.{◌≡◌, ◌↔◌, ◌<◌, ◌≤◌, ◌-◌, ◌*◌, ◌^◌, unsigned_abs, IfSome, IsNone};
 ghost use Rattle.std.specs.Option.{option_map};
 ghost use Rattle.std.specs.Char.{is_ascii_digit};
 ghost use Rattle.std.specs.List.{prefix_len};
-ghost use Rattle.std.specs.Str.Parse.{digits_value};
-ghost use Rattle.fixed_point.specs.Decimal.{AreDigits, digits_at, decimals_value, decimals_of, size_of, thousandths_of};
+ghost use Rattle.fixed_point.specs.Decimal.{digits_at, decimals_of, size_of, thousandths_of};
+ghost use Rattle.fixed_point.specs.Digits.{IsFirstDigit, number_of};
 
 /// The most digits of the whole part of a number that is read.
 pub const WHOLE_DIGITS_LIMIT: usize = 10;
@@ -12,51 +12,57 @@ pub const WHOLE_DIGITS_LIMIT: usize = 10;
 /// The most decimals of a number that is read.
 pub const DECIMALS_LIMIT: usize = 3;
 
-// How many digits stand at the front.
-#[tactic(auto, using(std::proofs::lemmas::List::Sums::prefix_len_is))]
-fn digit_count(text: &[u8]) -> usize
-    ensures { result ≡ prefix_len is_ascii_digit text.now }
+// The digit at the front, and what follows it.
+#[inline]
+fn first_digit(text: &[u8]) -> Option<(u64, &[u8])>
+    ensures none { IsNone result ↔ (prefix_len is_ascii_digit text.now ≡ 0) }
+    ensures digit { IfSome result (λ parts. IsFirstDigit text.now parts.0 parts.1.now) }
 {
-    text.iter().take_while(|byte| byte.is_ascii_digit()).count()
-}
-
-// The digits at the front and what follows them, if there are from one to `most` digits.
-#[tactic(auto, using(crate::proofs::DigitLemmas::front_steps))]
-fn split_digits(text: &[u8], most: usize) -> Option<(&[u8], &[u8])>
-    ensures value { option_map (λ parts. (parts.0.now, parts.1.now)) result ≡ digits_at most text.now }
-    ensures digits { IfSome result (λ parts. AreDigits 1 most parts.0.now) }
-{
-    let count = digit_count(text);
-    if 1 <= count && count <= most {
-        Some(text.split_at(count))
+    let (byte, rest) = text.split_first()?;
+    if byte.is_ascii_digit() {
+        Some((u64::from(byte - b'0'), rest))
     } else {
         None
     }
 }
 
-// The number that digits write.
-#[tactic(auto, using(crate::proofs::DigitLemmas::number_steps))]
-fn number_of(digits: &[u8]) -> u64
-    requires { AreDigits 0 WHOLE_DIGITS_LIMIT digits.now }
-    ensures value { result ≡ digits_value 10 digits.now }
-    ensures small { result < 10 ^ length digits.now }
+// The number that from one to `most` digits at the front write, how many they are, and what follows them.
+fn split_number(text: &[u8], most: usize) -> Option<(u64, usize, &[u8])>
+    requires { most ≤ WHOLE_DIGITS_LIMIT }
+    ensures value { option_map (λ parts. (parts.0, parts.1, parts.2.now)) result ≡ option_map number_of (digits_at most text.now) }
+    ensures small { IfSome result (λ parts. parts.0 < 10 ^ parts.1) }
+    ensures some { IfSome result (λ parts. 1 ≤ parts.1) }
+    ensures few { IfSome result (λ parts. parts.1 ≤ most) }
 {
     let mut number = 0;
-    for digit in digits {
-        number = number * 10 + u64::from(digit - b'0');
+    let mut count = 0;
+    let mut rest = text;
+    while let Some((digit, later)) = first_digit(rest) {
+        if count == most {
+            return None;
+        }
+        number = number * 10 + digit;
+        count += 1;
+        rest = later;
     }
-    number
+    if count == 0 {
+        None
+    } else {
+        Some((number, count, rest))
+    }
 }
 
-// The thousandths that up to three digits after a point stand for.
+// The thousandths that `count` digits after a point stand for.
+#[inline]
 #[tactic(auto, using(crate::proofs::DigitLemmas::power_steps))]
-fn value_of_decimals(digits: &[u8]) -> u64
-    requires { AreDigits 1 DECIMALS_LIMIT digits.now }
-    ensures value { result ≡ decimals_value digits.now }
+fn in_thousandths(number: u64, count: usize) -> u64
+    requires some { 1 ≤ count }
+    requires few { count ≤ DECIMALS_LIMIT }
+    requires below { number < 10 ^ count }
+    ensures value { result ≡ number * 10 ^ (DECIMALS_LIMIT - count) }
     ensures small { result < 1000 }
 {
-    let number = number_of(digits);
-    match digits.len() {
+    match count {
         1 => number * 100,
         2 => number * 10,
         _ => number,
@@ -75,9 +81,9 @@ fn read_decimals(text: &[u8]) -> Option<u64>
     if *first != b'.' {
         return None;
     }
-    let (decimals, after) = split_digits(rest, DECIMALS_LIMIT)?;
+    let (number, count, after) = split_number(rest, DECIMALS_LIMIT)?;
     if after.is_empty() {
-        Some(value_of_decimals(decimals))
+        Some(in_thousandths(number, count))
     } else {
         None
     }
@@ -89,9 +95,9 @@ fn read_size(text: &[u8]) -> Option<u64>
     ensures value { result ≡ size_of text.now }
     ensures small { IfSome result (λ size. size < 10 ^ 13) }
 {
-    let (whole, rest) = split_digits(text, WHOLE_DIGITS_LIMIT)?;
+    let (whole, _, rest) = split_number(text, WHOLE_DIGITS_LIMIT)?;
     let decimals = read_decimals(rest)?;
-    Some(1000 * number_of(whole) + decimals)
+    Some(1000 * whole + decimals)
 }
 
 /// The thousandths of a number: a `-` or none, from one to ten digits, and a point with from one to

@@ -1,3 +1,4 @@
+pub mod DigitLemmas
 pub mod KeptLemmas
 pub mod LineLemmas
 pub mod ReadLemmas

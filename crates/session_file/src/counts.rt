@@ -108,7 +108,7 @@ fn digit_count(text: &[u8]) -> usize
 }
 
 // The digits at the front and what follows them, if there are from one to ten.
-#[tactic(auto, using(fixed_point::proofs::DigitLemmas::front_steps))]
+#[tactic(auto, using(crate::proofs::DigitLemmas::front_steps))]
 fn digits_at(text: &[u8]) -> Option<(&[u8], &[u8])>
     ensures value { option_map (λ parts. (parts.0.now, parts.1.now)) result ≡ digits_at WHOLE_DIGITS_LIMIT text.now }
     ensures digits { IfSome result (λ parts. AreDigits 1 WHOLE_DIGITS_LIMIT parts.0.now) }
@@ -122,7 +122,7 @@ fn digits_at(text: &[u8]) -> Option<(&[u8], &[u8])>
 }
 
 // The number that digits write.
-#[tactic(auto, using(fixed_point::proofs::DigitLemmas::number_steps))]
+#[tactic(auto, using(crate::proofs::DigitLemmas::number_steps))]
 fn number_of(digits: &[u8]) -> u64
     requires { AreDigits 0 WHOLE_DIGITS_LIMIT digits.now }
     ensures { result ≡ digits_value 10 digits.now }
