@@ -1,9 +1,9 @@
 //! The tree of a line, with everything by its name.
 
 use crate::lists::{Attributes, Points, Settings};
+use crate::placement::Placement;
 use fixed_point::{Fix, Word};
 use ftl_parser::Query;
-use motion::Place;
 
 /// What a line asks for. Numbers are in the ranges of their places, and a span counts ticks.
 #[derive(Debug, Drop)]
@@ -28,13 +28,13 @@ pub enum Command {
     Insert {
         class: Word,
         name: Word,
-        place: Place,
+        place: Placement,
         sets: Settings,
     },
     /// What changes of an object.
     Update {
         name: Word,
-        place: Place,
+        place: Placement,
         sets: Settings,
     },
     Remove {

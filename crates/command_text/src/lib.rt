@@ -15,6 +15,7 @@ mod line;
 mod lists;
 mod numbers;
 mod parts;
+mod placement;
 mod printing;
 mod queries;
 mod ranges;
@@ -31,6 +32,7 @@ pub use laws::{
     lines_begin_with_their_words, tokens_are_read_by_the_grammar,
 };
 pub use lists::{Attributes, Points, Settings};
+pub use placement::{Moving, Placement};
 pub use printing::{print, print_into};
 pub use ranges::NEAREST_LIMIT;
 pub use reading::{LINE_LIMIT, LineReader, read};

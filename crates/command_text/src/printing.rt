@@ -2,7 +2,7 @@
 ghost use Rattle.std.specs.Prelude.{◌≡◌, ◌++◌, [], IfOk, OnOk, OnErr, codes};
 ghost use Rattle.std.specs.List.{flat_map};
 ghost use Rattle.std.specs.Fmt.{decimal};
-ghost use Rattle.command_text.specs.Tree.{command_view};
+ghost use Rattle.command_text.specs.Tree.{command_view, moving_view, placement_view};
 ghost use Rattle.ftl_parser.specs.Tree.{query_view};
 ghost use Rattle.command_text.specs.Tree as Tree;
 ghost use Rattle.ftl_parser.specs.Text.{query_text};
@@ -11,9 +11,10 @@ ghost use Rattle.fixed_point.specs.Canonical.{fix_text};
 
 use crate::Command;
 use crate::lists::{Attributes, Points, Settings};
+use crate::placement::{Moving, Placement};
 use fixed_point::{Fix, Point, Slope, Word};
 use ftl_parser::{Query, print_onto, push_number};
-use motion::{AttrKind, Given, Legs, NamedSet, Place};
+use motion::{AttrKind, Given, Legs, NamedSet};
 use std::alloc::{AllocError, Global};
 
 fn put(out: &mut Vec<u8>, bytes: &[u8]) -> Result<(), AllocError>
@@ -32,7 +33,14 @@ fn put_word(out: &mut Vec<u8>, word: &Word) -> Result<(), AllocError>
 fn put_number(out: &mut Vec<u8>, number: Fix) -> Result<(), AllocError>
     ensures { OnOk result (out.new.items ≡ out.old.items ++ fix_text number) }
 {
-    put(out, number.print().bytes())
+    // A few bytes that were just written: to copy them at once would wait for each of them.
+    let text = number.print();
+    let mut rest = text.bytes();
+    'digits: while let Some((byte, later)) = rest.split_first() {
+        out.push(*byte)?;
+        rest = later;
+    }
+    Ok(())
 }
 
 fn put_slope(out: &mut Vec<u8>, slope: Slope) -> Result<(), AllocError>
@@ -263,19 +271,25 @@ fn put_at(out: &mut Vec<u8>, at: &Option<Point>) -> Result<(), AllocError>
     put_pair(out, point.x, point.y)
 }
 
-fn put_moving(out: &mut Vec<u8>, moving: &Option<(Legs, Legs)>) -> Result<(), AllocError>
-    ensures { OnOk result (out.new.items ≡ out.old.items ++ moving_text moving.now) }
+fn put_moving(out: &mut Vec<u8>, moving: &Moving) -> Result<(), AllocError>
+    ensures { OnOk result (out.new.items ≡ out.old.items ++ moving_text (moving_view moving.now)) }
 {
-    let Some(both) = moving else {
-        return Ok(());
-    };
-    put(out, b" move ")?;
-    put_moves(out, &both.0, &both.1)
+    match moving {
+        Moving::Unset => Ok(()),
+        Moving::Steady(x, y) => {
+            put(out, b" move ")?;
+            put_slopes(out, *x, *y)
+        }
+        Moving::Turning(both) => {
+            put(out, b" move ")?;
+            put_moves(out, &both.0, &both.1)
+        }
+    }
 }
 
 /// What a command changes of an object, after a space.
-fn put_change(out: &mut Vec<u8>, place: &Place, sets: &Settings) -> Result<(), AllocError>
-    ensures { OnOk result (out.new.items ≡ out.old.items ++ change_text place.now sets.now) }
+fn put_change(out: &mut Vec<u8>, place: &Placement, sets: &Settings) -> Result<(), AllocError>
+    ensures { OnOk result (out.new.items ≡ out.old.items ++ change_text (placement_view place.now) sets.now) }
 {
     put_at(out, &place.at)?;
     put_moving(out, &place.moving)?;
@@ -336,10 +350,10 @@ fn put_insert(
     out: &mut Vec<u8>,
     class: &Word,
     name: &Word,
-    place: &Place,
+    place: &Placement,
     sets: &Settings,
 ) -> Result<(), AllocError>
-    ensures { OnOk result (out.new.items ≡ out.old.items ++ text_of (Tree.Insert class.now name.now place.now sets.now)) }
+    ensures { OnOk result (out.new.items ≡ out.old.items ++ text_of (Tree.Insert class.now name.now (placement_view place.now) sets.now)) }
 {
     put_head(out, b"insert ", class)?;
     put_word(out, name)?;
@@ -350,10 +364,10 @@ fn put_insert(
 fn put_update(
     out: &mut Vec<u8>,
     name: &Word,
-    place: &Place,
+    place: &Placement,
     sets: &Settings,
 ) -> Result<(), AllocError>
-    ensures { OnOk result (out.new.items ≡ out.old.items ++ text_of (Tree.Update name.now place.now sets.now)) }
+    ensures { OnOk result (out.new.items ≡ out.old.items ++ text_of (Tree.Update name.now (placement_view place.now) sets.now)) }
 {
     put(out, b"update ")?;
     put_word(out, name)?;

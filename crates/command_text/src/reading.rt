@@ -106,6 +106,8 @@ impl LineReader {
     /// Reads a line of at most `limit` bytes: the command that its tokens spell. Refuses it by the first
     /// of the refusals 1 to 6 that holds; the first three are told without memory. `spelled` and `refused`
     /// say it by the grammar alone, `ok` and `cause` by the reader that computes it.
+    // Inline, so that the command isn't copied once more on its way out.
+    #[inline(always)]
     #[tactic(auto, using(crate::proofs::grammar::DerivedLines::answers_spelled, crate::proofs::grammar::DerivedLines::fault_told))]
     pub fn read(&mut self, line: &[u8], limit: usize) -> Result<Command, CommandFault>
         requires { limit ≤ LEXER_LIMIT }

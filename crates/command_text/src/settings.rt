@@ -1,18 +1,23 @@
 //! What an insert or an update gives.
-ghost use Rattle.std.specs.Prelude.{◌≡◌, Some, option_map, MatchResult};
-ghost use Rattle.command_text.specs.inner.Reading.{rate, given_both, given_value, given_text, given_rate, given_equal, given, setting, settings, at as placed, some_moves, moving, place};
+ghost use Rattle.std.specs.Prelude.{◌≡◌, false, Option, Some, option_map, MatchResult};
+ghost use Rattle.motion.specs.Function.{Function};
+ghost use Rattle.case_table.specs.declared.symbol.TheConstants.{OPEN_SQUARE};
+ghost use Rattle.command_text.specs.Piece.{is_sign};
+ghost use Rattle.command_text.specs.Tree.{moving_view, placement_view};
+ghost use Rattle.command_text.specs.inner.Reading.{Reader, rate, given_both, given_value, given_text, given_rate, given_equal, given, setting, settings, at as placed, begins, moves, some_moves, moving, place};
 ghost use Rattle.command_text.specs.inner.Standing.{standing, Stops};
 
-use crate::at::{At, begins_key, begins_name, begins_text, key, sign};
+use crate::at::{At, begins_key, begins_name, begins_sign, begins_text, key, noting_small, sign};
 use crate::fault::{CommandFault, bad_syntax};
 use crate::legs::{moves, rates};
 use crate::lists::Settings;
 use crate::numbers::{name, text, value};
-use crate::parts::point;
+use crate::parts::{point, slopes};
+use crate::placement::{Moving, Placement};
 use case_table::{key, symbol};
 use fixed_point::{Fix, Point};
 use ftl_lexer::Tokens;
-use motion::{Given, Legs, NamedSet, Place};
+use motion::{Given, Legs, NamedSet};
 use std::alloc::Global;
 
 /// The legs after `rate`.
@@ -155,51 +160,69 @@ fn position(tokens: &Tokens, at: At) -> Option<(Option<Point>, At)>
     }
 }
 
+/// The legs of both coordinates, of which the first ends.
+#[tactic(auto, using(crate::proofs::reader::Stopping::stop_steps))]
+fn turning(alloc: Global, tokens: &Tokens, at: At) -> Result<(Moving, At), CommandFault>
+    ensures { MatchResult result (λ r. option_map {U = Option (Function × Function) × Reader} (λ m. (Some m.0, m.1)) (moves (standing tokens.now at)) ≡ Some (moving_view r.0, standing tokens.now r.1))
+        (Stops (moves (standing tokens.now at))) }
+{
+    let (both, at) = moves(alloc, tokens, at)?;
+    Ok((Moving::Turning(Box::new(alloc, both)?), at))
+}
+
+/// The one leg of both coordinates, where none ends.
+#[tactic(auto, using(crate::proofs::grammar::ManyLemmas::steady_moves))]
+fn steady(tokens: &Tokens, at: At) -> Option<(Moving, At)>
+    requires { begins (is_sign OPEN_SQUARE) (standing tokens.now at) ≡ false }
+    ensures { option_map {U = Option (Function × Function) × Reader} (λ r. (moving_view r.0, standing tokens.now r.1)) result ≡ option_map {U = Option (Function × Function) × Reader} (λ m. (Some m.0, m.1)) (moves (standing tokens.now at)) }
+{
+    let ((x, y), at) = slopes(tokens, at)?;
+    Some((Moving::Steady(x, y), noting_small(at, true)))
+}
+
+/// The legs after `move`.
 #[tactic(auto, using(crate::proofs::reader::Stopping::stop_steps), unfolding(crate::specs::inner::Reading::some_moves))]
-fn some_moves(
-    alloc: Global,
-    tokens: &Tokens,
-    at: At,
-) -> Result<(Option<(Legs, Legs)>, At), CommandFault>
-    ensures { MatchResult result (λ r. some_moves (standing tokens.now at) ≡ Some (r.0, standing tokens.now r.1))
+fn some_moves(alloc: Global, tokens: &Tokens, at: At) -> Result<(Moving, At), CommandFault>
+    ensures { MatchResult result (λ r. some_moves (standing tokens.now at) ≡ Some (moving_view r.0, standing tokens.now r.1))
         (Stops (some_moves (standing tokens.now at))) }
 {
     let Some(at) = key(tokens, at, key::MOVE) else {
         return Err(bad_syntax());
     };
-    let (both, at) = moves(alloc, tokens, at)?;
-    Ok((Some(both), at))
+    if begins_sign(tokens, at, symbol::OPEN_SQUARE) {
+        return turning(alloc, tokens, at);
+    }
+    match steady(tokens, at) {
+        Some(both) => Ok(both),
+        None => Err(bad_syntax()),
+    }
 }
 
 #[tactic(auto, using(crate::proofs::reader::Stopping::stop_steps), unfolding(crate::specs::inner::Reading::moving))]
-fn moving(
-    alloc: Global,
-    tokens: &Tokens,
-    at: At,
-) -> Result<(Option<(Legs, Legs)>, At), CommandFault>
-    ensures { MatchResult result (λ r. moving (standing tokens.now at) ≡ Some (r.0, standing tokens.now r.1))
+fn moving(alloc: Global, tokens: &Tokens, at: At) -> Result<(Moving, At), CommandFault>
+    ensures { MatchResult result (λ r. moving (standing tokens.now at) ≡ Some (moving_view r.0, standing tokens.now r.1))
         (Stops (moving (standing tokens.now at))) }
 {
     if begins_key(tokens, at, key::MOVE) {
         some_moves(alloc, tokens, at)
     } else {
-        Ok((None, at))
+        Ok((Moving::Unset, at))
     }
 }
 
 /// Where an object is, and how it moves.
 #[tactic(auto, using(crate::proofs::reader::Stopping::stop_steps), unfolding(crate::specs::inner::Reading::place))]
-pub(crate) fn place(alloc: Global, tokens: &Tokens, at: At) -> Result<(Place, At), CommandFault>
-    ensures { MatchResult result (λ r. place (standing tokens.now at) ≡ Some (r.0, standing tokens.now r.1))
+pub(crate) fn place(alloc: Global, tokens: &Tokens, at: At) -> Result<(Placement, At), CommandFault>
+    ensures { MatchResult result (λ r. place (standing tokens.now at) ≡ Some (placement_view r.0, standing tokens.now r.1))
         (Stops (place (standing tokens.now at))) }
 {
     let Some((position, at)) = position(tokens, at) else {
         return Err(bad_syntax());
     };
     let (moving, at) = moving(alloc, tokens, at)?;
-    let place = Place {
+    let placement = Placement {
         at: position,
         moving,
     };
-    Ok((place, at))
+    Ok((placement, at))
 }

@@ -133,6 +133,7 @@ fn tick(database: &mut Database, ticks: u32) -> Result<Change, CommandFault>
 impl Database {
     /// Carries out a command that the journal keeps, so that it can be taken back. A refusal and want of
     /// memory change nothing, and want of memory is told only where no refusal holds.
+    #[inline(always)]
     pub fn attempt(&mut self, alloc: Global, command: &Command) -> Result<Change, CommandFault>
         requires kept { is_kept (command_view command.now) ≡ true }
         requires gap { is_gap (command_view command.now) ≡ false }
@@ -154,9 +155,9 @@ impl Database {
                 name,
                 place,
                 sets,
-            } => objects::insert(self, class, name, place, sets.items()),
+            } => objects::insert(self, class, name, &place.place(), sets.items()),
             Command::Update { name, place, sets } => {
-                objects::update(self, name, place, sets.items())
+                objects::update(self, name, &place.place(), sets.items())
             }
             Command::Remove { name } => objects::remove(self, name),
             Command::Tick { ticks } => tick(self, *ticks),

@@ -42,24 +42,23 @@ impl Cell {
         }
     }
 
-    /// The cell after a write at tick `now`, which isn't before its last one. What doesn't fit its kind
-    /// leaves it as it is.
-    pub fn written(&self, now: u32, given: &Given) -> Cell
+    /// Writes at tick `now`, which isn't before its last write. What doesn't fit its kind leaves it as it is.
+    pub fn write(&mut self, now: u32, given: &Given)
         requires tick { now ≤ LAST_TICK }
-        requires after { IsCellAt self.now now }
+        requires after { IsCellAt self.old now }
         requires limits { IsGiven given.now }
-        ensures value { result ≡ written now self.now given.now }
-        ensures written { IsCellAt result now }
+        ensures value { self.new ≡ written now self.old given.now }
+        ensures written { IsCellAt self.new now }
     {
         match (self, given) {
-            (Cell::Num(_), Given::Num(number)) => Cell::Num(*number),
-            (Cell::Text(_), Given::Text(text)) => Cell::Text(*text),
-            (Cell::Dyn(vector), Given::Num(value)) => Cell::Dyn(vector.moved(now, *value)),
-            (Cell::Dyn(vector), Given::Rate(legs)) => Cell::Dyn(vector.turned(now, *legs)),
-            (Cell::Dyn(_), Given::Both(value, legs)) => Cell::Dyn(Vector::begun(
-                now, *value, *legs,
-            )),
-            _ => *self,
+            (Cell::Num(number), Given::Num(new)) => *number = *new,
+            (Cell::Text(text), Given::Text(new)) => *text = *new,
+            (Cell::Dyn(vector), Given::Num(value)) => *vector = vector.moved(now, *value),
+            (Cell::Dyn(vector), Given::Rate(legs)) => *vector = vector.turned(now, *legs),
+            (Cell::Dyn(vector), Given::Both(value, legs)) => {
+                *vector = Vector::begun(now, *value, *legs);
+            }
+            _ => {}
         }
     }
 }

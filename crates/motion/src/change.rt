@@ -51,6 +51,6 @@ fn set(cells: &mut [Cell], now: u32, index: usize, given: &Given)
     ensures written { AreCellsAt cells.new now }
 {
     if index < cells.len() {
-        cells[index] = cells[index].written(now, given);
+        cells[index].write(now, given);
     }
 }

@@ -61,7 +61,9 @@ fn vectors_move_and_turn(rt: HostRuntime) -> Result<(), Fail> {
 fn number_after(rt: &impl Abort, kind: AttrKind, given: &Given) -> Option<i64>
     requires { IsGiven given.now }
 {
-    match &Cell::fresh(kind, 5).written(6, given) {
+    let mut cell = Cell::fresh(kind, 5);
+    cell.write(6, given);
+    match &cell {
         Cell::Num(number) => Some(number.raw()),
         Cell::Text(_) => None,
         Cell::Dyn(vector) => {

@@ -4,18 +4,17 @@ ghost use Rattle.command_text.specs.Tree.{command_view};
 ghost use Rattle.object_rows.specs.Commands.{command_of};
 
 use crate::ObjectRow;
-use command_text::Command;
+use command_text::{Command, Moving, Placement};
 use fixed_point::Word;
-use motion::Place;
 
 impl ObjectRow {
     /// The command of the row: an update where the object is present, else an insert into the class.
     pub fn into_command(self, class: Word, present: bool) -> Command
         ensures { command_view result ≡ command_of class present self }
     {
-        let place = Place {
+        let place = Placement {
             at: None,
-            moving: None,
+            moving: Moving::Unset,
         };
         if present {
             Command::Update {

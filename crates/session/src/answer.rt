@@ -61,6 +61,7 @@ fn tell<L: Ledger, M: Ledger>(
 
 /// Carries out a command that was read and asks nothing of the shelf. After an error nothing has changed but that `out` begins with its old
 /// contents.
+#[inline(always)]
 fn carry_out<L: Ledger, M: Ledger>(
     alloc: Global,
     state: &mut State,
@@ -105,6 +106,7 @@ fn carry_out<L: Ledger, M: Ledger>(
 }
 
 /// Answers a command that was read and asks nothing of the shelf. A refusal and want of memory change nothing.
+#[inline(always)]
 pub(crate) fn answer<L: Ledger, M: Ledger>(
     alloc: Global,
     state: &mut State,

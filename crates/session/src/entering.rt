@@ -60,6 +60,7 @@ pub(crate) fn admit(
 
 /// Enters the command of a canonical line into the journal, accepted at tick `now`, and answers it with
 /// `ok`. Want of memory changes nothing.
+#[inline(always)]
 pub(crate) fn enter(
     journal: &mut Journal,
     now: u32,
