@@ -1,8 +1,8 @@
 -- For this crate and for the crates above: what may be asked of the store of a session.
-use Rattle.std.proofs.Common.{◌≡◌, ℕ, ◌+◌, ◌-◌, ◌<◌, ◌≤◌, ℤ, unsigned_abs, Bool, true, false, Option, None, Some, List, length, refl, sym, ap, ◌∙◌, subst, arith, if◌then◌else◌}
+use Rattle.std.proofs.Common.{◌≡◌, ℕ, ◌+◌, ◌-◌, ◌<◌, ◌≤◌, ℤ, unsigned_abs, Bool, true, false, ◌||◌, Option, None, Some, List, length, refl, sym, ap, ◌∙◌, subst, arith, if◌then◌else◌}
 use Rattle.std.specs.Prelude.{nat_le, nat_lt, IsTrue, option_and_then, slice_get, slice_index}
 use Rattle.std.specs.Option.{option_map_or}
-use Rattle.std.proofs.lemmas.Bool.{false≢true, and_parts}
+use Rattle.std.proofs.lemmas.Bool.{false≢true, and_from, and_parts}
 use Rattle.std.proofs.lemmas.Bool.Decides.{nat_tests}
 use Rattle.std.proofs.lemmas.Option.{get_or_from_slice_get, slice_get_within}
 use Rattle.fixed_point.specs.declared.number.TheConstants.{FIX_LIMIT}
@@ -19,7 +19,7 @@ use Rattle.formula.specs.Bounds.{term_bound}
 use Rattle.formula.specs.Resolved.{IsResolved, Scope, is_atom, is_formula, is_term, with_bound}
 use Rattle.formula.specs.Tree.{ResolvedQuery, ResolvedTree}
 use Rattle.formula.specs.Value.{with_value}
-use Rattle.formula.specs.Variables.{atom_has, term_has}
+use Rattle.formula.specs.Variables.{atom_has, has_variable, term_has}
 use Rattle.formula.specs.declared.tree.RAtom.{RAtom}
 use Rattle.formula.specs.declared.tree.RTerm.{RTerm}
 use Rattle.formula.specs.declared.value.Env.{Env}
@@ -38,7 +38,6 @@ use Rattle.atoms.specs.Sizes.{is_sized, is_sized_term}
 use Rattle.evaluator.specs.Interpreting.{CanAsk, IsInFor}
 use Rattle.answers.specs.Asking.{CanAskAtom, CanAskTerm, HasStored, told_by}
 use Rattle.answers.specs.Objects.{AreOfItsClasses, IsOfAcceptedWrites}
-use Rattle.answers.proofs.BelowLemmas.{atom_below, term_below}
 use Rattle.answers.proofs.ObjectLemmas.{placed, stored_objects}
 
 -- ---- the laws of the crates below that are used here
@@ -61,6 +60,10 @@ KeepsValuesWithin = (c : Catalog) (classes : List ℕ) (scope : Scope) (known : 
     (q : RTerm) → is_term count scope q ≡ true → (k : ValueKind) → term_kind c classes known q ≡ Some k →
     (d : ℕ) (v : Value) → term_value h q x t ≡ Some v →
     AreWithinBounds (with_bound scope d (term_bound q)) (with_value x d v)
+
+abbrev pub HasVariablesThatThereAre : Type 0
+HasVariablesThatThereAre = (count around : ℕ) (scope : Scope) (f : ResolvedTree) → is_formula count around scope f ≡ true →
+    (v : ℕ) → has_variable v f ≡ true → v < count
 
 -- ---- states of the objects of some variables
 
@@ -115,7 +118,7 @@ some_kind (Some k) p holds = (k, refl, holds)
 module _ (reachable : LeadsToReachable) (term_within : KeepsTermsWithin) (value_within : KeepsValuesWithin)
     (sized_atom : (count : ℕ) (scope : Scope) (a : RAtom) → is_atom count scope a ≡ true → IsTrue (is_sized a))
     (sized_term : (count : ℕ) (scope : Scope) (q : RTerm) → is_term count scope q ≡ true → IsTrue (is_sized_term q))
-    (s : Contents) (regions : List Region) (q : ResolvedQuery) (domains : List (List ℕ)) (lo hi : ℕ)
+    (below : HasVariablesThatThereAre) (s : Contents) (regions : List Region) (q : ResolvedQuery) (domains : List (List ℕ)) (lo hi : ℕ)
     (of : IsOfAcceptedWrites s) (are : AreOfItsClasses (catalog_of s) q domains) (few : length q.classes ≤ OBJECT_LIMIT)
     (last : hi ≤ LAST_TICK) (short : hi - lo ≤ SPAN_LIMIT) where
   stored : (test : ℕ → Bool) (b : ℕ → ℕ) → IsInFor domains test b → ((v : ℕ) → test v ≡ true → v < length q.classes) →
@@ -124,6 +127,15 @@ module _ (reachable : LeadsToReachable) (term_within : KeepsTermsWithin) (value_
     few = (let l : v < length q.classes = below v has in omega (arith, l, few));
     stored = stored_objects s q domains are v (b v) (inside v has);
   }
+
+  atom_below : (scope : Scope) (a : RAtom) → is_atom (length q.classes) scope a ≡ true → (v : ℕ) → atom_has v a ≡ true → v < length q.classes
+  atom_below scope a right = below (length q.classes) 0 scope (shapes.Atom a) right
+
+  -- those of a formula that binds the term, and has no other
+  term_below : (scope : Scope) (p : RTerm) → is_term (length q.classes) scope p ≡ true → (v : ℕ) → term_has v p ≡ true → v < length q.classes
+  term_below scope p right v has =
+      below (length q.classes) 0 scope (shapes.Assign (0, p) (shapes.Truth true)) (and_from (is_term (length q.classes) scope p) true right refl) v
+      (ap (λ b. b || false) has)
 
   states : (p : RTerm) (b : ℕ → ℕ) → IsInFor domains (λ v. term_has v p) b → (t : ℕ) →
       AreReachable (catalog_of s) q.classes (shown_for (λ v. term_has v p) (trace_of (history_of s) b)) t
@@ -140,7 +152,7 @@ module _ (reachable : LeadsToReachable) (term_within : KeepsTermsWithin) (value_
       (b : ℕ → ℕ) → IsInFor domains (λ v. term_has v p) b → CanAskTerm s lo hi b p x
   can_ask_term scope known x near p right k kind b inside = record {
     sized = sized_term (length q.classes) scope p right;
-    objects = stored (λ v. term_has v p) b inside (term_below (length q.classes) scope p right);
+    objects = stored (λ v. term_has v p) b inside (term_below scope p right);
     in_range = λ t from upto n value.
         let bound : unsigned_abs n ≤ term_bound p =
         term_within (catalog_of s) q.classes scope known (shown_for (λ v. term_has v p) (trace_of (history_of s) b)) x t (length q.classes)
@@ -156,7 +168,7 @@ module _ (reachable : LeadsToReachable) (term_within : KeepsTermsWithin) (value_
   can_ask (shapes.Truth holds) around scope known x right fits near = tt
   can_ask (shapes.Atom a) around scope known x right fits near = λ b inside. record {
     sized = sized_atom (length q.classes) scope a right;
-    objects = stored (λ v. atom_has v a) b inside (atom_below (length q.classes) scope a right);
+    objects = stored (λ v. atom_has v a) b inside (atom_below scope a right);
     short = short;
   }
   can_ask (shapes.Not f) around scope known x right fits near = can_ask f around scope known x right fits near

@@ -1,6 +1,5 @@
 pub mod AnswerLemmas
 pub mod AskLemmas
-pub mod BelowLemmas
 pub mod ObjectLemmas
 pub mod ProductLemmas
 pub mod QueryLemmas

@@ -1,8 +1,9 @@
--- For this crate and for the crates above: where each variable has more objects, a query may take more looks.
+-- For this crate and for the crates above: where each variable has more objects, or there are more ticks, a query may
+-- take more looks.
 use Rattle.std.proofs.Common.{◌≡◌, ℕ, ◌+◌, ◌*◌, ◌≤◌, true, false, List, [], ◌∷◌, length, map, sym, ap, subst, inl, inr, arith, add-le-add, if◌then◌else◌}
 use Rattle.std.specs.Prelude.{◌==◌, slice_index}
 use Rattle.std.specs.List.{list_any}
-use Rattle.std.proofs.Math.Nat.{mul-le-mul, mul-le-mul_left, mul-le-mul_right}
+use Rattle.std.proofs.Math.Nat.{mul-le-mul, mul-le-mul_right}
 use Rattle.std.proofs.lemmas.Bool.{cases_lt}
 use Rattle.std.proofs.lemmas.List.Sums.{sum_by-le-sum_by}
 use Rattle.tick_set.specs.Ticks.{between}
@@ -15,7 +16,7 @@ use Rattle.relation.specs.Key.{ids_of}
 use Rattle.answers.proofs.ObjectLemmas.{domain_at, no_domain}
 use Rattle.std.proofs.lemmas.List.{length-map}
 
-abbrev IsMore : (ℕ → ℕ) → (ℕ → ℕ) → Type 0
+abbrev pub IsMore : (ℕ → ℕ) → (ℕ → ℕ) → Type 0
 IsMore size more = (v : ℕ) → size v ≤ more v
 
 more_choices : (size more : ℕ → ℕ) → IsMore size more → (vs : List ℕ) → choices size vs ≤ choices more vs
@@ -29,27 +30,29 @@ more_singles size more is vs v =
       | false ↦ is v
     ]
 
-more_reads : (ticks : ℕ) (f : ResolvedTree) (size more : ℕ → ℕ) → IsMore size more → reads size ticks f ≤ reads more ticks f
-more_reads ticks (shapes.Truth b) size more is = omega arith
-more_reads ticks (shapes.Atom a) size more is = mul-le-mul_right (length (atom_variables a)) (more_choices size more is (atom_variables a))
-more_reads ticks (shapes.Not f) size more is = more_reads ticks f size more is
-more_reads ticks (shapes.And f g) size more is = add-le-add (more_reads ticks f size more is) (more_reads ticks g size more is)
-more_reads ticks (shapes.Or f g) size more is = add-le-add (more_reads ticks f size more is) (more_reads ticks g size more is)
-more_reads ticks (shapes.Next f) size more is = more_reads ticks f size more is
-more_reads ticks (shapes.Eventually f) size more is = more_reads ticks f size more is
-more_reads ticks (shapes.Always f) size more is = more_reads ticks f size more is
-more_reads ticks (shapes.Bounded form c f) size more is = more_reads ticks f size more is
-more_reads ticks (shapes.Until form c f g) size more is = add-le-add (more_reads ticks f size more is) (more_reads ticks g size more is)
-more_reads ticks (shapes.Assign (d, q) f) size more is =
-    let vs = term_variables q in
-    let part : reads (made_single size vs) ticks f ≤ reads (made_single more vs) ticks f = more_reads ticks f (made_single size vs) (made_single more vs) (more_singles size more is vs) in
-    let each : ticks * reads (made_single size vs) ticks f ≤ ticks * reads (made_single more vs) ticks f = mul-le-mul_left ticks part in
-    let both : length vs + ticks * reads (made_single size vs) ticks f ≤ length vs + ticks * reads (made_single more vs) ticks f = omega (arith, each) in
-    mul-le-mul (more_choices size more is vs) both
+-- over as many ticks or more
+module _ (ticks many : ℕ) (upto : ticks ≤ many) where
+  more_reads : (f : ResolvedTree) (size more : ℕ → ℕ) → IsMore size more → reads size ticks f ≤ reads more many f
+  more_reads (shapes.Truth b) size more is = omega arith
+  more_reads (shapes.Atom a) size more is = mul-le-mul_right (length (atom_variables a)) (more_choices size more is (atom_variables a))
+  more_reads (shapes.Not f) size more is = more_reads f size more is
+  more_reads (shapes.And f g) size more is = add-le-add (more_reads f size more is) (more_reads g size more is)
+  more_reads (shapes.Or f g) size more is = add-le-add (more_reads f size more is) (more_reads g size more is)
+  more_reads (shapes.Next f) size more is = more_reads f size more is
+  more_reads (shapes.Eventually f) size more is = more_reads f size more is
+  more_reads (shapes.Always f) size more is = more_reads f size more is
+  more_reads (shapes.Bounded form c f) size more is = more_reads f size more is
+  more_reads (shapes.Until form c f g) size more is = add-le-add (more_reads f size more is) (more_reads g size more is)
+  more_reads (shapes.Assign (d, q) f) size more is =
+      let vs = term_variables q in
+      let part : reads (made_single size vs) ticks f ≤ reads (made_single more vs) many f = more_reads f (made_single size vs) (made_single more vs) (more_singles size more is vs) in
+      let each : ticks * reads (made_single size vs) ticks f ≤ many * reads (made_single more vs) many f = mul-le-mul upto part in
+      let both : length vs + ticks * reads (made_single size vs) ticks f ≤ length vs + many * reads (made_single more vs) many f = omega (arith, each) in
+      mul-le-mul (more_choices size more is vs) both
 
-more_of_query : (ticks : ℕ) (q : ResolvedQuery) (size more : ℕ → ℕ) → IsMore size more → query_reads size ticks q ≤ query_reads more ticks q
-more_of_query ticks q size more is =
-    add-le-add (more_reads ticks q.formula size more is) (sum_by-le-sum_by size more (between 0 (length q.classes)) is)
+  pub more_of_query : (q : ResolvedQuery) (size more : ℕ → ℕ) → IsMore size more → query_reads size ticks q ≤ query_reads more many q
+  more_of_query q size more is =
+      add-le-add (more_reads q.formula size more is) (sum_by-le-sum_by size more (between 0 (length q.classes)) is)
 
 sizes_within : (c : Catalog) (q : ResolvedQuery) → IsMore (size_of (map (ids_of_class c) q.classes)) (sizes_of c q)
 sizes_within c q v =
@@ -68,7 +71,7 @@ pub reads_within : (c : Catalog) (q : ResolvedQuery) (domains : List (List ℕ))
     query_reads (size_of domains) ticks q ≤ query_reads (sizes_of c q) ticks q
 reads_within c q domains ticks is =
     subst (λ (d : List (List ℕ)). query_reads (size_of d) ticks q ≤ query_reads (sizes_of c q) ticks q) (sym is)
-    (more_of_query ticks q (size_of (map (ids_of_class c) q.classes)) (sizes_of c q) (sizes_within c q))
+    (more_of_query ticks ticks (omega arith) q (size_of (map (ids_of_class c) q.classes)) (sizes_of c q) (sizes_within c q))
 
 pub most_within : (old now few more : ℕ) → now ≤ old + few → few ≤ more → now ≤ old + more
 most_within old now few more most within = omega (arith, most, within)

@@ -14,6 +14,7 @@ ghost use Rattle.answers.specs.Asking.{CanAskAtom, CanAskTerm, told_by, world_in
 ghost use Rattle.answers.specs.Objects.{AreOfItsClasses, IsOfAcceptedWrites};
 
 use atoms::resolved_atoms_and_terms_are_sized;
+use formula::a_resolved_formula_has_the_variables_that_there_are;
 use meaning::{accepted_writes_lead_to_reachable_states, values_are_within_their_bounds};
 
 /// Of the store of a session each atom and term of a query may be asked that is right by number and fits its
@@ -34,4 +35,5 @@ pub fn fitting_queries_can_be_asked()
     accepted_writes_lead_to_reachable_states();
     values_are_within_their_bounds();
     resolved_atoms_and_terms_are_sized();
+    a_resolved_formula_has_the_variables_that_there_are();
 }

@@ -1,4 +1,4 @@
--- The objects of an answer's rows, and the lines of the rows.
+-- For this crate and for the crates above: the objects of an answer's rows, and the lines of the rows.
 use Rattle.std.proofs.Common.{◌≡◌, ℕ, zero, suc, ◌+◌, ◌<◌, ◌≤◌, Bool, true, false, List, [], ◌∷◌, ◌++◌, length, map, refl, sym, ap, ◌∙◌, arith, if◌then◌else◌}
 use Rattle.std.specs.Prelude.{◌==◌, nat_lt, slice_get, slice_index}
 use Rattle.std.specs.List.{enumerate_from, filter, flat_map, list_all}
@@ -19,7 +19,7 @@ use Rattle.object_store.specs.Contents.{Contents, StoredObject, catalog_of, obje
 use Rattle.line_meaning.specs.Reply.{name_of, row_line, row_text, rows_text}
 use Rattle.database.specs.Rows.{has_objects}
 
-abbrev are_below : ℕ → List ℕ → Bool
+abbrev pub are_below : ℕ → List ℕ → Bool
 are_below count ids = list_all (λ id. nat_lt id count) ids
 
 -- ---- the ids of a class are those of objects
@@ -38,8 +38,8 @@ ids_from [] class n count few = refl
 ids_from (o ∷ objects) class n count few =
     one_more count n class o objects (o.class == class) (omega (arith, few)) (ids_from objects class (n + 1) count (omega (arith, few)))
 
-ids_below : (c : Catalog) (class : ℕ) → are_below (length c.objects) (ids_of c class) ≡ true
-ids_below c class = ids_from c.objects class 0 (length c.objects) (omega arith)
+pub ids_below : (c : Catalog) (class count : ℕ) → length c.objects ≤ count → are_below count (ids_of c class) ≡ true
+ids_below c class count few = ids_from c.objects class 0 count (omega (arith, few))
 
 -- ---- and so are those of tuples
 
@@ -68,7 +68,7 @@ lists_below : (c : Catalog) (class : ℕ → ℕ) (vs : List ℕ) →
     list_all (are_below (length c.objects)) (map (λ v. ids_of c (class v)) vs) ≡ true
 lists_below c class [] = refl
 lists_below c class (v ∷ vs) =
-    and_from (are_below (length c.objects) (ids_of c (class v))) _ (ids_below c (class v)) (lists_below c class vs)
+    and_from (are_below (length c.objects) (ids_of c (class v))) _ (ids_below c (class v) (length c.objects) (omega arith)) (lists_below c class vs)
 
 tuples_below : (w : World) (q : ResolvedQuery) → list_all (are_below (length w.history.catalog.objects)) (tuples w q) ≡ true
 tuples_below w q =

@@ -18,6 +18,7 @@ pub use formula_shape::{
     DEPTH_LIMIT, FACTOR_LIMIT, NESTING_LIMIT, NODE_LIMIT, OBJECT_LIMIT, TIMES_LIMIT,
 };
 pub use kind::QueryKind;
+pub use laws::a_resolved_formula_has_the_variables_that_there_are;
 pub use limits::{DYNAMIC_BOUND, QUERY_LIMIT, TIME_BOUND};
 pub use tree::{ClassNo, RAtom, RFormula, RQuery, RSigned, RTerm, RUnit};
 pub use value::{Env, Value, ValueKind};

@@ -15,7 +15,7 @@ use Rattle.answers.proofs.ObjectLemmas.{no_domain}
 use Rattle.live_queries.specs.Asked.{class_in}
 use Rattle.live_queries.proofs.ColumnLemmas.{equal, own}
 use Rattle.live_queries.proofs.PartLemmas.{object_of_its_class}
-use Rattle.live_queries.proofs.ReadLemmas.{IsMore, more_of_query}
+use Rattle.answers.proofs.ReadLemmas.{IsMore, more_of_query}
 
 -- the object is one of the variable's class
 pub one_of_class : (s : Contents) (q : ResolvedQuery) (class id : ℕ) → class ≡ class_in s id → q.classes ≡ class ∷ [] → id < length s.objects →

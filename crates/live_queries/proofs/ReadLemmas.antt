@@ -15,51 +15,16 @@ use Rattle.meaning.specs.Reads.{atom_variables, change_reads, choices, made_sing
 use Rattle.relation.specs.Frames.{size_of}
 use Rattle.relation.specs.Key.{ids_of}
 use Rattle.answers.proofs.ObjectLemmas.{no_domain}
+use Rattle.answers.proofs.ReadLemmas.{IsMore, more_of_query}
 use Rattle.live_queries.specs.declared.parts.Single.{Single}
 use Rattle.live_queries.specs.Prepared.{is_of_class}
 use Rattle.live_queries.specs.Written.{domains_for, ids_for, single_for}
 use Rattle.live_queries.proofs.PartLemmas.{class_of_variable}
 
-abbrev pub IsMore : (ℕ → ℕ) → (ℕ → ℕ) → Type 0
-IsMore size more = (v : ℕ) → size v ≤ more v
-
-more_choices : (size more : ℕ → ℕ) → IsMore size more → (vs : List ℕ) → choices size vs ≤ choices more vs
-more_choices size more is [] = omega arith
-more_choices size more is (v ∷ vs) = mul-le-mul (is v) (more_choices size more is vs)
-
-more_singles : (size more : ℕ → ℕ) → IsMore size more → (vs : List ℕ) → IsMore (made_single size vs) (made_single more vs)
-more_singles size more is vs v =
-    elim (list_any (λ u. u == v) vs) as (λ b. (if b then 1 else size v) ≤ (if b then 1 else more v)) [
-      | true ↦ omega arith
-      | false ↦ is v
-    ]
-
 module _ (ticks many : ℕ) (upto : ticks ≤ many) where
-  more_reads : (f : ResolvedTree) (size more : ℕ → ℕ) → IsMore size more → reads size ticks f ≤ reads more many f
-  more_reads (shapes.Truth b) size more is = omega arith
-  more_reads (shapes.Atom a) size more is = mul-le-mul_right (length (atom_variables a)) (more_choices size more is (atom_variables a))
-  more_reads (shapes.Not f) size more is = more_reads f size more is
-  more_reads (shapes.And f g) size more is = add-le-add (more_reads f size more is) (more_reads g size more is)
-  more_reads (shapes.Or f g) size more is = add-le-add (more_reads f size more is) (more_reads g size more is)
-  more_reads (shapes.Next f) size more is = more_reads f size more is
-  more_reads (shapes.Eventually f) size more is = more_reads f size more is
-  more_reads (shapes.Always f) size more is = more_reads f size more is
-  more_reads (shapes.Bounded form c f) size more is = more_reads f size more is
-  more_reads (shapes.Until form c f g) size more is = add-le-add (more_reads f size more is) (more_reads g size more is)
-  more_reads (shapes.Assign (d, q) f) size more is =
-      let vs = term_variables q in
-      let part : reads (made_single size vs) ticks f ≤ reads (made_single more vs) many f = more_reads f (made_single size vs) (made_single more vs) (more_singles size more is vs) in
-      let each : ticks * reads (made_single size vs) ticks f ≤ many * reads (made_single more vs) many f = mul-le-mul upto part in
-      let both : length vs + ticks * reads (made_single size vs) ticks f ≤ length vs + many * reads (made_single more vs) many f = omega (arith, each) in
-      mul-le-mul (more_choices size more is vs) both
-
-  pub more_of_query : (q : ResolvedQuery) (size more : ℕ → ℕ) → IsMore size more → query_reads size ticks q ≤ query_reads more many q
-  more_of_query q size more is =
-      add-le-add (more_reads q.formula size more is) (sum_by-le-sum_by size more (between 0 (length q.classes)) is)
-
   -- over more ticks as many looks or more
   pub more_in_all : (q : ResolvedQuery) (size : ℕ → ℕ) → query_reads size ticks q ≤ query_reads size many q
-  more_in_all q size = more_of_query q size size (λ v. omega arith)
+  more_in_all q size = more_of_query ticks many upto q size size (λ v. omega arith)
 
   pub more_of_change : (c : Catalog) (q : ResolvedQuery) (class : ℕ) → change_reads c q ticks class ≤ change_reads c q many class
   more_of_change c q class =
@@ -150,9 +115,6 @@ parts_within c q ticks class id singles are =
     (sum_by-le-sum_by (λ v. sum_by (λ s. query_reads (size_of s.domains) ticks q) (single_for c q.classes class id v))
     (λ v. if slice_index q.classes v == class then query_reads (made_single (sizes_of c q) (v ∷ [])) ticks q else 0)
     (between 0 (length q.classes)) (λ v. one_part c q ticks class id v))
-
-pub most_within : (old now few more : ℕ) → now ≤ old + few → few ≤ more → now ≤ old + more
-most_within old now few more most within = omega (arith, most, within)
 
 pub most_over : (size : ℕ → ℕ) (q : ResolvedQuery) (old now lo entry hi : ℕ) → entry ≤ lo → now ≤ old + query_reads size (hi + 1 - lo) q →
     now ≤ old + query_reads size (hi + 1 - entry) q

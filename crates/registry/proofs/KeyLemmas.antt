@@ -29,29 +29,8 @@ use Rattle.live_queries.specs.Current.{AreCurrent, IsCurrentFor, full_at, row_at
 use Rattle.live_queries.specs.Kept.{IsKept, KeptQuery, registered}
 use Rattle.live_queries.specs.Told.{Told, answer_of, changes_of, lines_of, move, moves_of, passing, passings_of, row_of, target_count, target_times, target_width}
 use Rattle.database.specs.Rows.{has_objects}
+use Rattle.database.proofs.RowLemmas.{are_below, ids_below}
 use Rattle.registry.specs.Moves.{names_objects}
-
-abbrev pub are_below : ℕ → List ℕ → Bool
-are_below count ids = list_all (λ id. nat_lt id count) ids
-
--- ---- the ids of a class are those of objects
-
-one_more : (count n class : ℕ) (o : ObjectInfo) (objects : List ObjectInfo) (of : Bool) → n < count →
-    are_below count (map (λ (e : ℕ × ObjectInfo). e.0) (filter (λ (e : ℕ × ObjectInfo). e.1.class == class) (enumerate_from (n + 1) objects))) ≡ true →
-    are_below count (map (λ (e : ℕ × ObjectInfo). e.0)
-    (if of then (n, o) ∷ filter (λ (e : ℕ × ObjectInfo). e.1.class == class) (enumerate_from (n + 1) objects)
-    else filter (λ (e : ℕ × ObjectInfo). e.1.class == class) (enumerate_from (n + 1) objects))) ≡ true
-one_more count n class o objects true here rest = and_from (nat_lt n count) _ (grind (arith, nat_tests, here)) rest
-one_more count n class o objects false here rest = rest
-
-ids_from : (objects : List ObjectInfo) (class n count : ℕ) → n + length objects ≤ count →
-    are_below count (map (λ (e : ℕ × ObjectInfo). e.0) (filter (λ (e : ℕ × ObjectInfo). e.1.class == class) (enumerate_from n objects))) ≡ true
-ids_from [] class n count few = refl
-ids_from (o ∷ objects) class n count few =
-    one_more count n class o objects (o.class == class) (omega (arith, few)) (ids_from objects class (n + 1) count (omega (arith, few)))
-
-ids_below : (c : Catalog) (class count : ℕ) → length c.objects ≤ count → are_below count (ids_of c class) ≡ true
-ids_below c class count few = ids_from c.objects class 0 count (omega (arith, few))
 
 -- ---- the objects of columns are some of so many
 

@@ -7,9 +7,8 @@ use Rattle.answers.specs.Asking.{world_in}
 use Rattle.answers.specs.Objects.{AreOfItsClasses}
 use Rattle.answers.proofs.AskLemmas.{few_classes}
 use Rattle.answers.proofs.ObjectLemmas.{domains_are_of_classes}
-use Rattle.answers.proofs.ReadLemmas.{reads_within}
+use Rattle.answers.proofs.ReadLemmas.{most_within, reads_within}
 use Rattle.live_queries.proofs.JudgedLemmas.{first_rows_are}
-use Rattle.live_queries.proofs.ReadLemmas.{most_within}
 use Rattle.live_queries.proofs.evaluating.first_rows.Goals as goal
 
 pub domains_of-requires : goal.domains_of-requires

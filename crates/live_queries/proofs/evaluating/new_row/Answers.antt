@@ -12,7 +12,7 @@ use Rattle.live_queries.proofs.GrowLemmas.{do_ascend}
 use Rattle.live_queries.proofs.JudgedLemmas.{one_object, rows_are}
 use Rattle.live_queries.proofs.MadeLemmas.{same_order}
 use Rattle.live_queries.proofs.OneLemmas.{one_of_class, one_within}
-use Rattle.live_queries.proofs.ReadLemmas.{most_within}
+use Rattle.answers.proofs.ReadLemmas.{most_within}
 use Rattle.live_queries.proofs.evaluating.new_row.Goals as goal
 
 pub evaluate_alone-requires-clause-object : goal.evaluate_alone-requires-clause-object

@@ -13,7 +13,8 @@ use Rattle.answers.proofs.AskLemmas.{few_classes}
 use Rattle.live_queries.specs.Written.{ArePartsOf, AreVariablesWith, DoAscendWith, single_for}
 use Rattle.live_queries.proofs.GrowLemmas.{do_ascend, size_with}
 use Rattle.live_queries.proofs.JudgedLemmas.{new_rows_are, parts_are_of_classes}
-use Rattle.live_queries.proofs.ReadLemmas.{most_within, parts_within}
+use Rattle.answers.proofs.ReadLemmas.{most_within}
+use Rattle.live_queries.proofs.ReadLemmas.{parts_within}
 use Rattle.live_queries.proofs.evaluating.new_rows.Goals as goal
 
 pub singles-requires : goal.singles-requires
