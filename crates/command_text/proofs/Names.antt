@@ -47,6 +47,6 @@ pub use Rattle.command_text.specs.declared.refusal.Refusal.{Refusal}
 pub use Rattle.command_text.specs.inner.LineParts.{IsBegun, IsWhole, Refuses, RefusesAtEnd, TellsBadPlace, is_at_end}
 pub use Rattle.command_text.specs.inner.Query.{fault_by_parser}
 unfoldable pub use Rattle.command_text.specs.inner.Query.{is_query_fit, is_query_small, query_of}
-pub use Rattle.command_text.specs.inner.Reading.{Read, Reader, all, at_first, before, by_key, by_name, by_token, ended, front, to_end, kind_in, name_in, notes, noting_fit, noting_small, number_in, settings, text_in, with_front}
+pub use Rattle.command_text.specs.inner.Reading.{Read, Reader, all, at_first, before, by_key, by_name, by_token, ended, front, given_moves, to_end, kind_in, name_in, notes, noting_fit, noting_small, number_in, settings, text_in, with_front}
 unfoldable pub use Rattle.command_text.specs.inner.Reading.{ask, attr, attrs, begins, class, class_head, command, command_begun, command_of, export, first_attr, given, given_both as read_both, given_equal, given_rate as read_rate, given_text as read_text, given_value, import, index, insert, insert_head, keep, key, many, may, minus, move_leg, must, must_head, name, nearest, next, next_attr, num, number, place, point, points, query, radius, range, rate, rate_leg, region, remove, save, setting, show, sign, signed_number, some_moves, text, tick, update, watch, watch_head, whole}
 pub use Rattle.command_text.specs.inner.Standing.{Stops, standing}

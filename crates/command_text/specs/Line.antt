@@ -1,5 +1,5 @@
 -- Which lines are refused before anything is asked of the database, and what the others are.
-use Rattle.std.specs.Prelude.{◌≡◌, ℕ, Bool, true, false, not, ◌==◌, ◌||◌, ◌&&◌, nat_lt, nat_le, is_some, is_none, Option, None, Some, option_map, List, [], ◌∷◌, length, if◌then◌else◌}
+use Rattle.std.specs.Prelude.{◌≡◌, ℕ, Bool, false, not, ◌==◌, ◌||◌, ◌&&◌, nat_lt, nat_le, is_some, is_none, Option, None, Some, option_map, List, [], ◌∷◌, length, if◌then◌else◌}
 use Rattle.std.specs.Option.{option_map_or}
 use Rattle.std.specs.List.{list_any}
 use Rattle.ftl_lexer.specs.Forms.{is_blank}

@@ -36,11 +36,9 @@ in_query (TEXT bytes) = query.TEXT (short_word bytes)
 
 -- a name or a text that has more bytes than a word
 abbrev pub is_long : Piece → Bool
-is_long (KEY code) = false
-is_long (SIGN code) = false
 is_long (NAME bytes) = not (is_short bytes)
-is_long (NUMBER bytes) = false
 is_long (TEXT bytes) = not (is_short bytes)
+is_long p = false
 
 -- there is such a one among the tokens
 abbrev pub has_long : List Piece → Bool
@@ -48,28 +46,16 @@ has_long = list_any is_long
 
 abbrev pub is_key : ℕ → Piece → Bool
 is_key code (KEY k) = k == code
-is_key code (SIGN k) = false
-is_key code (NAME bytes) = false
-is_key code (NUMBER bytes) = false
-is_key code (TEXT bytes) = false
+is_key code p = false
 
 abbrev pub is_sign : ℕ → Piece → Bool
-is_sign code (KEY k) = false
 is_sign code (SIGN k) = k == code
-is_sign code (NAME bytes) = false
-is_sign code (NUMBER bytes) = false
-is_sign code (TEXT bytes) = false
+is_sign code p = false
 
 abbrev pub is_name : Piece → Bool
-is_name (KEY k) = false
-is_name (SIGN k) = false
 is_name (NAME bytes) = true
-is_name (NUMBER bytes) = false
-is_name (TEXT bytes) = false
+is_name p = false
 
 abbrev pub is_text : Piece → Bool
-is_text (KEY k) = false
-is_text (SIGN k) = false
-is_text (NAME bytes) = false
-is_text (NUMBER bytes) = false
 is_text (TEXT bytes) = true
+is_text p = false

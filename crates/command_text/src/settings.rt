@@ -1,10 +1,9 @@
 //! What an insert or an update gives.
-ghost use Rattle.std.specs.Prelude.{◌≡◌, false, Option, Some, option_map, MatchResult};
-ghost use Rattle.motion.specs.Function.{Function};
+ghost use Rattle.std.specs.Prelude.{◌≡◌, false, Some, option_map, MatchResult};
 ghost use Rattle.case_table.specs.declared.symbol.TheConstants.{OPEN_SQUARE};
 ghost use Rattle.command_text.specs.Piece.{is_sign};
 ghost use Rattle.command_text.specs.Tree.{moving_view, placement_view};
-ghost use Rattle.command_text.specs.inner.Reading.{Reader, rate, given_both, given_value, given_text, given_rate, given_equal, given, setting, settings, at as placed, begins, moves, some_moves, moving, place};
+ghost use Rattle.command_text.specs.inner.Reading.{rate, given_both, given_value, given_text, given_rate, given_equal, given, setting, settings, at as placed, begins, moves, given_moves, some_moves, moving, place};
 ghost use Rattle.command_text.specs.inner.Standing.{standing, Stops};
 
 use crate::at::{At, begins_key, begins_name, begins_sign, begins_text, key, noting_small, sign};
@@ -163,7 +162,7 @@ fn position(tokens: &Tokens, at: At) -> Option<(Option<Point>, At)>
 /// The legs of both coordinates, of which the first ends.
 #[tactic(auto, using(crate::proofs::reader::Stopping::stop_steps))]
 fn turning(alloc: Global, tokens: &Tokens, at: At) -> Result<(Moving, At), CommandFault>
-    ensures { MatchResult result (λ r. option_map {U = Option (Function × Function) × Reader} (λ m. (Some m.0, m.1)) (moves (standing tokens.now at)) ≡ Some (moving_view r.0, standing tokens.now r.1))
+    ensures { MatchResult result (λ r. given_moves (moves (standing tokens.now at)) ≡ Some (moving_view r.0, standing tokens.now r.1))
         (Stops (moves (standing tokens.now at))) }
 {
     let (both, at) = moves(alloc, tokens, at)?;
@@ -174,9 +173,10 @@ fn turning(alloc: Global, tokens: &Tokens, at: At) -> Result<(Moving, At), Comma
 #[tactic(auto, using(crate::proofs::grammar::ManyLemmas::steady_moves))]
 fn steady(tokens: &Tokens, at: At) -> Option<(Moving, At)>
     requires { begins (is_sign OPEN_SQUARE) (standing tokens.now at) ≡ false }
-    ensures { option_map {U = Option (Function × Function) × Reader} (λ r. (moving_view r.0, standing tokens.now r.1)) result ≡ option_map {U = Option (Function × Function) × Reader} (λ m. (Some m.0, m.1)) (moves (standing tokens.now at)) }
+    ensures { option_map (λ r. (moving_view r.0, standing tokens.now r.1)) result ≡ given_moves (moves (standing tokens.now at)) }
 {
     let ((x, y), at) = slopes(tokens, at)?;
+    // One leg is no more than there may be.
     Some((Moving::Steady(x, y), noting_small(at, true)))
 }
 

@@ -1,5 +1,5 @@
 -- A canonical line has at most four bytes for each byte of the tokens that spell its command.
-use Rattle.command_text.proofs.Names.{◌≡◌, ℕ, zero, suc, ◌+◌, ◌-◌, ◌*◌, ◌≤◌, max, Bool, true, false, List, [], ◌∷◌, ◌++◌, append_assoc, take, length, map, length-append, Option, None, Some, IsTrue, ℤ, pos, refl, sym, ap, subst, arith, leb, inl, inr, ◌⊎◌, codes, if◌then◌else◌, flat_map, decimal, option_map_or, leb-true, and_parts, drop_at, take_at, length-drop, sum_by-cons, code_of, reserved_words, symbols, RATE_WORD, CLOSE_ROUND, COMMA, CLOSE_SQUARE, fix_text, Point, Function, are_firsts, level, AttrKind, Given, NamedSet, Place, Kind, lexemes, Lexeme, HasForm, is_word, HaveForms, QueryTree, SpellsQuery, query_text, Part, Parts, is_verb, parts, Piece, KEY, SIGN, NAME, NUMBER, TEXT, piece_of, pieces, SignedPlace, Steps, short_word, function_of, CommandTree, Notes, whole_at, legs_of_x, legs_of_y, SpellsNum, num_plain, num_minus, SpellsPair, SpellsAttr, attr_num, attr_text, attr_dyn, SpellsMoreAttrs, no_more_attrs, one_more_attr, SpellsAttrs, no_attrs, SpellsPoints, no_points, one_point, SpellsRateLegs, no_rate_legs, one_rate_leg, SpellsRates, SpellsMoveLegs, no_move_legs, one_move_leg, SpellsMoves, SpellsGiven, given_num, SpellsSettings, no_settings, one_setting, SpellsAt, not_at, SpellsMoving, not_moving, SpellsChange, change, SpellsPointWord, no_point_word, SpellsTail, token_of, SpellsPart, part_verb, part_name, part_text, part_whole, part_error, part_num, part_point_word, part_attrs, part_points, part_change, SpellsParts, no_parts, last_part, last_query, part_before, SpellsCommand, by_parts, pair_text, rate_leg_text, rates_text, move_leg_text, move_legs_text, moves_text, next_attr_text, attrs_text, points_text, settings_text, at_text, moving_text, change_text, text_of}
+use Rattle.command_text.proofs.Names.{◌≡◌, ℕ, zero, suc, ◌+◌, ◌*◌, ◌≤◌, max, Bool, true, false, List, [], ◌∷◌, ◌++◌, append_assoc, take, length, map, length-append, Option, None, Some, IsTrue, ℤ, pos, refl, sym, ap, subst, arith, leb, inl, inr, ◌⊎◌, codes, if◌then◌else◌, flat_map, decimal, option_map_or, leb-true, and_parts, drop_at, take_at, length-drop, sum_by-cons, code_of, reserved_words, symbols, RATE_WORD, CLOSE_ROUND, COMMA, CLOSE_SQUARE, fix_text, Point, Function, are_firsts, level, AttrKind, Given, NamedSet, Place, Kind, lexemes, Lexeme, HasForm, is_word, HaveForms, QueryTree, SpellsQuery, query_text, Part, Parts, is_verb, parts, Piece, KEY, SIGN, NAME, NUMBER, TEXT, piece_of, pieces, SignedPlace, Steps, short_word, function_of, CommandTree, Notes, whole_at, legs_of_x, legs_of_y, SpellsNum, num_plain, num_minus, SpellsPair, SpellsAttr, attr_num, attr_text, attr_dyn, SpellsMoreAttrs, no_more_attrs, one_more_attr, SpellsAttrs, no_attrs, SpellsPoints, no_points, one_point, SpellsRateLegs, no_rate_legs, one_rate_leg, SpellsRates, SpellsMoveLegs, no_move_legs, one_move_leg, SpellsMoves, SpellsGiven, given_num, SpellsSettings, no_settings, one_setting, SpellsAt, not_at, SpellsMoving, not_moving, SpellsChange, change, SpellsPointWord, no_point_word, SpellsTail, token_of, SpellsPart, part_verb, part_name, part_text, part_whole, part_error, part_num, part_point_word, part_attrs, part_points, part_change, SpellsParts, no_parts, last_part, last_query, part_before, SpellsCommand, by_parts, pair_text, rate_leg_text, rates_text, move_leg_text, move_legs_text, moves_text, next_attr_text, attrs_text, points_text, settings_text, at_text, moving_text, change_text, text_of}
 use Rattle.std.proofs.Common.{drop}
 use Rattle.motion.specs.declared.cell.AttrKind.TheVariants as attr_kinds
 use Rattle.ftl_lexer.specs.declared.kinds.Kind.TheVariants as kinds

@@ -1,5 +1,5 @@
 -- What tokens of a line spell is printable, where its numbers are in range and its sizes within their limits.
-use Rattle.command_text.proofs.Names.{◌≡◌, ℕ, zero, suc, ◌+◌, ◌-◌, ◌≤◌, Bool, true, false, List, [], ◌∷◌, ◌++◌, length, map, Option, None, Some, ℤ, IsTrue, refl, sym, ◌∙◌, ap, subst, arith, leb, is_some, is_none, slice_get, unwrap_or, if◌then◌else◌, AllByRecursion, list_all, and_parts, and_from, leb-true, nat_tests, length-map, drop_at, drop-drop, CLOSE_ROUND, Point, WORD_LIMIT, Function, are_firsts, is_length_of, level, MOST_FIRSTS, AttrKind, Given, NamedSet, Place, Kind, Lexeme, HasForm, is_number, has_no_quote, HaveForms, lexemes, QueryTree, SpellsQuery, first_unfit, IsName, LAST_TICK, first_too_large, piece_lists, texts_alone, token_texts, VERTEX_LIMIT, ATTRIBUTE_LIMIT, Part, Parts, Piece, KEY, SIGN, NAME, NUMBER, TEXT, piece_of, pieces, in_query, has_long, Steps, SignedPlace, whole_in, radius_in, signed_in, short_word, are_few_legs, function_of, are_few_attributes, are_few_vertices, is_query_small, CommandTree, Notes, good, legs_of_x, legs_of_y, SpellsNum, num_plain, num_minus, SpellsPair, SpellsAttr, attr_num, attr_text, attr_dyn, SpellsMoreAttrs, no_more_attrs, one_more_attr, SpellsAttrs, no_attrs, SpellsPoints, no_points, one_point, SpellsRateLegs, no_rate_legs, one_rate_leg, SpellsRates, SpellsMoveLegs, no_move_legs, one_move_leg, SpellsMoves, SpellsGiven, given_num, SpellsSettings, no_settings, one_setting, SpellsAt, not_at, SpellsMoving, not_moving, SpellsChange, change, SpellsTail, SpellsPart, part_verb, part_name, part_text, part_whole, part_error, part_num, part_point_word, part_attrs, part_points, part_change, SpellsParts, no_parts, last_part, last_query, part_before, SpellsCommand, by_parts, IsFrom, IsAscii, IsShortName, IsShortText, IsRate, IsPoint, IsLeg, AreLegs, AreMoves, IsPrintableGiven, IsSetting, IsAt, IsMoving, IsChange, IsAttribute, AreAttributes, IsQuery, IsPart, AreParts, IsPrintable, IsSignedIn}
+use Rattle.command_text.proofs.Names.{◌≡◌, ℕ, zero, suc, ◌+◌, ◌≤◌, Bool, true, false, List, [], ◌∷◌, ◌++◌, length, map, Option, None, Some, ℤ, IsTrue, refl, sym, ◌∙◌, ap, subst, arith, leb, is_some, is_none, slice_get, unwrap_or, if◌then◌else◌, AllByRecursion, list_all, and_parts, and_from, leb-true, nat_tests, length-map, drop_at, drop-drop, CLOSE_ROUND, Point, WORD_LIMIT, Function, are_firsts, is_length_of, level, MOST_FIRSTS, AttrKind, Given, NamedSet, Place, Kind, Lexeme, HasForm, is_number, has_no_quote, HaveForms, lexemes, QueryTree, SpellsQuery, first_unfit, IsName, LAST_TICK, first_too_large, piece_lists, texts_alone, token_texts, VERTEX_LIMIT, ATTRIBUTE_LIMIT, Part, Parts, Piece, KEY, SIGN, NAME, NUMBER, TEXT, piece_of, pieces, in_query, has_long, Steps, SignedPlace, whole_in, radius_in, signed_in, short_word, are_few_legs, function_of, are_few_attributes, are_few_vertices, is_query_small, CommandTree, Notes, good, legs_of_x, legs_of_y, SpellsNum, num_plain, num_minus, SpellsPair, SpellsAttr, attr_num, attr_text, attr_dyn, SpellsMoreAttrs, no_more_attrs, one_more_attr, SpellsAttrs, no_attrs, SpellsPoints, no_points, one_point, SpellsRateLegs, no_rate_legs, one_rate_leg, SpellsRates, SpellsMoveLegs, no_move_legs, one_move_leg, SpellsMoves, SpellsGiven, given_num, SpellsSettings, no_settings, one_setting, SpellsAt, not_at, SpellsMoving, not_moving, SpellsChange, change, SpellsTail, SpellsPart, part_verb, part_name, part_text, part_whole, part_error, part_num, part_point_word, part_attrs, part_points, part_change, SpellsParts, no_parts, last_part, last_query, part_before, SpellsCommand, by_parts, IsFrom, IsAscii, IsShortName, IsShortText, IsRate, IsPoint, IsLeg, AreLegs, AreMoves, IsPrintableGiven, IsSetting, IsAt, IsMoving, IsChange, IsAttribute, AreAttributes, IsQuery, IsPart, AreParts, IsPrintable, IsSignedIn}
 use Rattle.std.proofs.Common.{drop}
 use Rattle.ftl_lexer.specs.declared.kinds.Kind.TheVariants as kinds
 use Rattle.ftl_lexer.proofs.Shapes.{tokens_have_forms}

@@ -608,8 +608,9 @@ unfolding some_moves
 some_moves_follow =
     follows λ s t x e.
     key_first MOVE s _ e λ l1 word e.
-    part_first moves_follow (before l1 (notes s)) _ e λ m s2 d e.
-    ends SpellsMoving (Some m) x s2 t e (took_both word d.split) (Grammar.moving d.spelled)
+    let m = map_some _ (moves (before l1 (notes s))) (x, t) e in
+    let d = moves_follow.derived (before l1 (notes s)) m.0.1 m.0.0 m.1 in
+    ends SpellsMoving (Some m.0.0) x m.0.1 t (ap Some m.2) (took_both word d.split) (Grammar.moving d.spelled)
 
 moving_follows : Follows moving SpellsMoving
 unfolding moving

@@ -47,7 +47,7 @@ step_taken more item k s later x begun read =
     ∙ as_front x (many more item k later)
 
 -- one item, and then the others
-all_step : {A : Type 0} (more : Reader → Bool) (item : Reader → Read A) → Shortens item → (s later : Reader) (x : A) →
+pub all_step : {A : Type 0} (more : Reader → Bool) (item : Reader → Read A) → Shortens item → (s later : Reader) (x : A) →
     more s ≡ true → item s ≡ Some (x, later) → all more item s ≡ with_front (x ∷ []) (all more item later)
 all_step more item shorter s later x begun read =
     let less : length later.rest < length s.rest = shorter.fewer s later x read in

@@ -1,23 +1,12 @@
 -- What a rule derives the reader reads: the same tree, and the same of numbers and sizes.
-use Rattle.command_text.proofs.Names.{◌≡◌, ℕ, ℤ, Bool, true, false, List, [], ◌∷◌, ◌++◌, length, Option, Some, None, refl, ◌∙◌, ap, append_assoc, if◌then◌else◌, is_some, ◌>>=◌, AT, MOVE, RATE, CLOSE_ROUND, OPEN_SQUARE, CLOSE_SQUARE, COMMA, Point, Function, Given, NamedSet, Place, Piece, SIGN, NAME, NUMBER, is_key, is_sign, is_name, Steps, whole_in, SignedPlace, Value, Rate, signed_in, short_word, are_few_legs, function_of, Notes, and_number, and_size, whole_at, signed_at, point_of, set_of, place_of, legs_of_x, legs_of_y, SpellsNum, num_plain, num_minus, SpellsPair, SpellsRateLegs, no_rate_legs, one_rate_leg, SpellsRates, SpellsMoveLegs, no_move_legs, one_move_leg, SpellsMoves, SpellsGiven, given_num, SpellsSettings, no_settings, one_setting, SpellsAt, not_at, SpellsMoving, not_moving, SpellsChange, change, Reader, Read, before, noting_small, next, begins, key, sign, name, text, number, whole, minus, signed_number, num, point, all, with_front, rate_leg, move_leg, rate, read_both, given_value, read_text, read_rate, given_equal, given, setting, settings, some_moves, place}
+use Rattle.command_text.proofs.Names.{◌≡◌, ℕ, ℤ, Bool, true, false, List, [], ◌∷◌, ◌++◌, length, Option, Some, None, refl, ◌∙◌, ap, append_assoc, if◌then◌else◌, is_some, ◌>>=◌, AT, MOVE, RATE, CLOSE_ROUND, OPEN_SQUARE, CLOSE_SQUARE, COMMA, Point, Function, Given, NamedSet, Place, Piece, SIGN, NAME, NUMBER, is_key, is_sign, is_name, Steps, whole_in, SignedPlace, Value, Rate, signed_in, short_word, are_few_legs, function_of, Notes, and_number, and_size, whole_at, signed_at, point_of, set_of, place_of, legs_of_x, legs_of_y, SpellsNum, num_plain, num_minus, SpellsPair, SpellsRateLegs, no_rate_legs, one_rate_leg, SpellsRates, SpellsMoveLegs, no_move_legs, one_move_leg, SpellsMoves, SpellsGiven, given_num, SpellsSettings, no_settings, one_setting, SpellsAt, not_at, SpellsMoving, not_moving, SpellsChange, change, Reader, Read, before, noting_small, next, begins, key, sign, name, text, number, whole, minus, signed_number, num, point, all, with_front, rate_leg, move_leg, rate, read_both, given_value, read_text, read_rate, given_equal, given, setting, settings, some_moves, place, given_moves}
 use Rattle.motion.specs.declared.cell.Given.TheVariants as givens
 use Rattle.command_text.specs.Sizes.{is_short}
 use Rattle.command_text.specs.Grammar
 use Rattle.command_text.specs.Grammar.{given_both}
 use Rattle.command_text.specs.inner.Reading.{pair, rates, moves, at, moving}
-use Rattle.command_text.proofs.grammar.Shorter.{Shortens}
-use Rattle.command_text.proofs.grammar.ManyLemmas.{goes_begun, goes_on, all_stop}
+use Rattle.command_text.proofs.grammar.ManyLemmas.{all_step, all_stop}
 use Rattle.command_text.proofs.grammar.Derived.{rate_leg_shortens, move_leg_shortens, setting_shortens}
-
-front_nil : {A : Type 0} (o : Read (List A)) → o ≡ with_front [] o
-front_nil None = refl
-front_nil (Some r) = refl
-
--- one item, and then the others
-pub all_step : {A : Type 0} (more : Reader → Bool) (item : Reader → Read A) → Shortens item → (s later : Reader) (x : A) →
-    more s ≡ true → item s ≡ Some (x, later) → all more item s ≡ with_front (x ∷ []) (all more item later)
-all_step more item shorter s later x begun read =
-    front_nil (all more item s) ∙ (goes_on more item shorter [] s s later [] x (goes_begun more item [] s) begun read).on
 
 pub num_spelled : {p : SignedPlace} {v : ℤ} {s t : Notes} {xs : List Piece} → SpellsNum p v s t xs → (later : List Piece) →
     num p (before (xs ++ later) s) ≡ Some (v, before later t)
@@ -176,7 +165,7 @@ pub moving_spelled : {m : Option (Function × Function)} {s t : Notes} {xs : Lis
 unfolding moving some_moves begins key next
 moving_spelled (not_moving {s = s}) later stop =
     ap (λ b. if b then some_moves (before later s) else Some (None, before later s)) (stop.stops s)
-moving_spelled (Grammar.moving d) later stop = ap (λ o. o >>= (λ m. Some (Some m.0, m.1))) (moves_spelled d later)
+moving_spelled (Grammar.moving d) later stop = ap given_moves (moves_spelled d later)
 
 settings_stop_move : {ss : List NamedSet} {s t : Notes} {xs : List Piece} → SpellsSettings ss s t xs → Stop (is_key MOVE) xs
 unfolding begins

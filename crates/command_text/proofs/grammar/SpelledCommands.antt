@@ -5,10 +5,10 @@ use Rattle.command_text.specs.Sizes.{is_short}
 use Rattle.command_text.specs.Tree
 use Rattle.command_text.specs.Grammar
 use Rattle.command_text.specs.inner.Reading.{some_attrs, point_word, drop}
-use Rattle.command_text.proofs.grammar.ManyLemmas.{all_stop}
+use Rattle.command_text.proofs.grammar.ManyLemmas.{all_step, all_stop}
 use Rattle.command_text.proofs.grammar.QueryLemmas.{fit_is}
 use Rattle.command_text.proofs.grammar.Derived.{same_parts, next_attr_shortens, point_shortens}
-use Rattle.command_text.proofs.grammar.Spelled.{all_step, num_spelled, point_spelled, change_spelled}
+use Rattle.command_text.proofs.grammar.Spelled.{num_spelled, point_spelled, change_spelled}
 
 attr_spelled : {a : List ℕ × AttrKind} {s t : Notes} {xs : List Piece} → SpellsAttr a s t xs → (later : List Piece) →
     attr (before (xs ++ later) s) ≡ Some (a, before later t)

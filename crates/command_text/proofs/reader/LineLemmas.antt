@@ -1,5 +1,5 @@
 -- From the tokens of a line to the line.
-use Rattle.command_text.proofs.Names.{◌≡◌, ℕ, Bool, true, false, List, [], ◌∷◌, Option, Some, None, option_map, refl, sym, ◌∙◌, ap, subst, Result, Ok, Err, IfOk, IfErr, MatchResult, is_none, is_some, not, ◌&&◌, if◌then◌else◌, ◌>>=◌, bad_place, At, Command, CommandFault, Refusal, CommandTree, command_view, Kind, Piece, piece_of, pieces, Reader, Read, front, next, at_first, by_token, ended, to_end, command_begun, command, command_of, standing, first_that_holds, is_comment, is_too_long, has_other_byte, has_bad_token, command_in, early_refusal, late_refusal, first_refusal, or_else, IsBegun, IsRead, IsWhole, Refuses, TellsBadPlace}
+use Rattle.command_text.proofs.Names.{◌≡◌, ℕ, Bool, true, false, List, [], ◌∷◌, Option, Some, None, option_map, refl, sym, ◌∙◌, ap, subst, Result, Ok, Err, IfOk, IfErr, MatchResult, is_none, is_some, not, ◌&&◌, if◌then◌else◌, ◌>>=◌, bad_place, At, Command, CommandFault, Refusal, CommandTree, command_view, Kind, Piece, piece_of, pieces, Reader, Read, front, next, at_first, by_token, to_end, command_begun, command, command_of, standing, first_that_holds, is_comment, is_too_long, has_other_byte, has_bad_token, command_in, early_refusal, late_refusal, first_refusal, or_else, IsBegun, IsRead, IsWhole, Refuses, TellsBadPlace}
 use Rattle.command_text.specs.declared.fault.CommandFault.TheVariants as faults
 use Rattle.command_text.specs.declared.refusal.Refusal.TheVariants as refusals
 use Rattle.ftl_lexer.specs.declared.kinds.Kind.TheVariants as kinds

@@ -17,7 +17,7 @@ use Rattle.motion.specs.declared.cell.Given.TheVariants as givens
 use Rattle.motion.specs.declared.cell.NamedSet.{NamedSet}
 use Rattle.motion.specs.declared.cell.Place.{Place}
 use Rattle.ftl_parser.specs.Tree.{QueryTree}
-use Rattle.command_text.specs.Piece.{Piece, KEY, SIGN, NAME, NUMBER, TEXT, is_key, is_sign, is_name, is_text, in_query, has_long}
+use Rattle.command_text.specs.Piece.{Piece, KEY, NAME, NUMBER, TEXT, is_key, is_sign, is_name, is_text, in_query, has_long}
 use Rattle.command_text.specs.Ranges.{WholePlace, Span, Steps, Capacity, Nearest, whole_in, radius_in, SignedPlace, Value, Rate, Width, signed_in}
 use Rattle.command_text.specs.Sizes.{is_short, short_word, are_few_legs, function_of, are_few_attributes, are_few_vertices}
 use Rattle.command_text.specs.Grammar.{Notes, whole_at, radius_at, signed_at, point_of, set_of, place_of, legs_of_x, legs_of_y}
@@ -72,25 +72,16 @@ sign code s = do
   if is_sign code t.0 then Some t.1 else None
 
 abbrev pub name_in : Piece → Option (List ℕ)
-name_in (KEY k) = None
-name_in (SIGN k) = None
 name_in (NAME bytes) = Some bytes
-name_in (NUMBER bytes) = None
-name_in (TEXT bytes) = None
+name_in p = None
 
 abbrev pub number_in : Piece → Option (List ℕ)
-number_in (KEY k) = None
-number_in (SIGN k) = None
-number_in (NAME bytes) = None
 number_in (NUMBER bytes) = Some bytes
-number_in (TEXT bytes) = None
+number_in p = None
 
 abbrev pub text_in : Piece → Option (List ℕ)
-text_in (KEY k) = None
-text_in (SIGN k) = None
-text_in (NAME bytes) = None
-text_in (NUMBER bytes) = None
 text_in (TEXT bytes) = Some bytes
+text_in p = None
 
 unfoldable pub name : Reader → Read (List ℕ)
 name s = do
@@ -176,10 +167,7 @@ kind_in (KEY k) =
     if k == NUM then Some attr_kinds.Num
     else (if k == TEXT_WORD then Some attr_kinds.Text
     else (if k == DYN then Some attr_kinds.Dyn else None))
-kind_in (SIGN k) = None
-kind_in (NAME bytes) = None
-kind_in (NUMBER bytes) = None
-kind_in (TEXT bytes) = None
+kind_in p = None
 
 unfoldable pub attr : Reader → Read (List ℕ × AttrKind)
 attr s = do
@@ -300,12 +288,15 @@ at s =
       Some (Some p.0, p.1))
     else Some (None, s)
 
+-- legs that a command has
+abbrev pub given_moves : Read (Function × Function) → Read (Option (Function × Function))
+given_moves o = option_map (λ m. (Some m.0, m.1)) o
+
 -- the legs after `move`
 unfoldable pub some_moves : Reader → Read (Option (Function × Function))
 some_moves s = do
   s ← key MOVE s
-  m ← moves s
-  Some (Some m.0, m.1)
+  given_moves (moves s)
 
 unfoldable pub moving : Reader → Read (Option (Function × Function))
 moving s = if begins (is_key MOVE) s then some_moves s else Some (None, s)
@@ -506,10 +497,8 @@ by_name word s =
 -- the command of a first token
 abbrev pub by_token : Piece → Reader → Read CommandTree
 by_token (KEY code) s = by_key code s
-by_token (SIGN code) s = None
 by_token (NAME word) s = by_name word s
-by_token (NUMBER bytes) s = None
-by_token (TEXT bytes) s = None
+by_token p s = None
 
 -- the command that the first token begins
 unfoldable pub command_begun : Reader → Read CommandTree

@@ -1,4 +1,4 @@
-use Rattle.std.proofs.Common.{◌≡◌, Some, sym, ◌∙◌, ap}
+use Rattle.std.proofs.Common.{Some, sym, ◌∙◌, ap}
 use Rattle.command_text.specs.Piece.{KEY, NAME, piece_of}
 use Rattle.command_text.specs.inner.Standing.{standing}
 use Rattle.command_text.proofs.reader.LineLemmas.{blank_whole, begun_either, nothing_begun, other_token}
