@@ -2,3 +2,4 @@ pub mod LineLemmas
 pub mod Refused
 pub mod StandingLemmas
 pub mod Stopping
+pub mod TableLemmas

@@ -7,15 +7,16 @@ use Rattle.command_text.specs.declared.refusal.Refusal.TheVariants as refusals
 use Rattle.command_text.specs.Piece.{Piece, pieces}
 use Rattle.command_text.specs.Tree
 use Rattle.command_text.specs.Tree.{CommandTree}
-use Rattle.command_text.specs.Grammar.{Notes, good, SpellsCommand}
+use Rattle.command_text.specs.Grammar.{Notes, good, first_notes, SpellsCommand}
 use Rattle.command_text.specs.inner.Reading.{Reader, notes, before, command_of}
 use Rattle.command_text.specs.Line.{is_comment, early_refusal, IsRead, Explains}
 
 -- what tokens spell is what is read from them, with no token left, and the same is known of its numbers and sizes
 pub record AreReadByTheGrammar (tokens : List Piece) : Type 0 where
-  pub spelled_is_read : (c : CommandTree) (s : Notes) → SpellsCommand c s tokens → command_of tokens ≡ Some (c, before [] s)
-  pub read_is_spelled : (c : CommandTree) (behind : Reader) → command_of tokens ≡ Some (c, behind) → SpellsCommand c (notes behind) tokens
-  pub one_command : (c d : CommandTree) (s t : Notes) → SpellsCommand c s tokens → SpellsCommand d t tokens → c ≡ d
+  pub spelled_is_read : (c : CommandTree) (s t : Notes) → SpellsCommand c s t tokens → command_of (before tokens s) ≡ Some (c, before [] t)
+  pub read_is_spelled : (c : CommandTree) (s : Notes) (behind : Reader) → command_of (before tokens s) ≡ Some (c, behind)
+      → SpellsCommand c s (notes behind) tokens
+  pub one_command : (c d : CommandTree) (s t u : Notes) → SpellsCommand c s t tokens → SpellsCommand d s u tokens → c ≡ d
 
 -- the line isn't too long, has no byte that it may not have, and is a comment or is cut into tokens
 abbrev pub PassesTheFirstThree : ℕ → List ℕ → Type 0
@@ -23,19 +24,19 @@ PassesTheFirstThree limit line = early_refusal limit line ≡ None
 
 -- the tokens of the line spell this command, with each number in the range of its place and each size within its limit
 abbrev pub SpellsWithinLimits : List ℕ → CommandTree → Type 0
-SpellsWithinLimits line c = SpellsCommand c good (pieces line)
+SpellsWithinLimits line c = SpellsCommand c (first_notes line) good (pieces line)
 
 -- they spell no command
 abbrev pub SpellsNoCommand : List ℕ → Type 0
-SpellsNoCommand line = (c : CommandTree) (s : Notes) → SpellsCommand c s (pieces line) → ⊥
+SpellsNoCommand line = (c : CommandTree) (s : Notes) → SpellsCommand c (first_notes line) s (pieces line) → ⊥
 
 -- they spell a command with a number out of the range of its place
 abbrev pub SpellsUnfitNumber : List ℕ → Type 0
-SpellsUnfitNumber line = (c : CommandTree) × (small : Bool) × SpellsCommand c (false, small) (pieces line)
+SpellsUnfitNumber line = (c : CommandTree) × (small : Bool) × SpellsCommand c (first_notes line) (false, small) (pieces line)
 
 -- they spell a command with each number in the range of its place, but a size past its limit
 abbrev pub SpellsLargeSize : List ℕ → Type 0
-SpellsLargeSize line = (c : CommandTree) × SpellsCommand c (true, false) (pieces line)
+SpellsLargeSize line = (c : CommandTree) × SpellsCommand c (first_notes line) (true, false) (pieces line)
 
 -- a comment is read as nothing, and any other line as the command that its tokens spell, just where the line passes the first three refusals
 pub record IsReadByTheGrammar (limit : ℕ) (line : List ℕ) : Type 0 where

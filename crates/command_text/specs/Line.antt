@@ -9,8 +9,8 @@ use Rattle.command_text.specs.declared.fault.CommandFault.{CommandFault}
 use Rattle.command_text.specs.declared.fault.CommandFault.TheVariants as faults
 use Rattle.command_text.specs.declared.refusal.Refusal.{Refusal}
 use Rattle.command_text.specs.declared.refusal.Refusal.TheVariants as refusals
-use Rattle.command_text.specs.Piece.{pieces}
-use Rattle.command_text.specs.inner.Reading.{Read, at_first, command_of}
+use Rattle.command_text.specs.Grammar.{good}
+use Rattle.command_text.specs.inner.Reading.{Read, before, at_first, command_of}
 use Rattle.command_text.specs.Tree
 use Rattle.command_text.specs.Tree.{CommandTree}
 
@@ -21,7 +21,7 @@ is_comment (b ∷ bytes) = if is_blank b then is_comment bytes else b == 35
 
 -- the command of a line, and whether its numbers and sizes are within their limits; None where its tokens are no command
 unfoldable pub command_in : List ℕ → Read CommandTree
-command_in line = if is_comment line then Some (Tree.Nothing, at_first []) else command_of (pieces line)
+command_in line = if is_comment line then Some (Tree.Nothing, before [] good) else command_of (at_first line)
 
 -- LineTooLong
 abbrev pub is_too_long : ℕ → List ℕ → Bool

@@ -1,6 +1,10 @@
 -- The parts of each command, in the order in which they are written. A command's rule, its canonical line, what is
 -- asked of its numbers and sizes, and what holds of it where it is read follow from its row here.
-use Rattle.std.specs.Prelude.{ℕ, ℤ, Bool, ◌&&◌, nat_le, List, length, codes}
+use Rattle.std.specs.Prelude.{ℕ, ℤ, Bool, true, ◌&&◌, nat_le, List, length, codes}
+use Rattle.std.specs.Option.{option_map_or}
+use Rattle.case_table.specs.Language.{reserved_words}
+use Rattle.case_table.specs.Rows.{code_of}
+use Rattle.case_table.specs.declared.key.TheConstants.{CLASS}
 use Rattle.fixed_point.specs.declared.number.Point.{Point}
 use Rattle.motion.specs.declared.cell.AttrKind.{AttrKind}
 use Rattle.motion.specs.declared.cell.NamedSet.{NamedSet}
@@ -41,9 +45,13 @@ pub data Parts : Type 0 where
   Asking : QueryTree → Parts
   ◌▸◌ : Part → Parts → Parts
 
--- a word of at most seven bytes
+-- no query has the word of this code
+abbrev pub is_of_commands : ℕ → Bool
+is_of_commands code = nat_le CLASS code
+
+-- a word of at most seven bytes that no query has
 abbrev pub is_verb : List ℕ → Bool
-is_verb word = is_word word && nat_le (length word) 7
+is_verb word = is_word word && (nat_le (length word) 7 && option_map_or is_of_commands (code_of reserved_words word) true)
 
 abbrev pub parts : CommandTree → Parts
 -- a blank line, or a comment

@@ -1,6 +1,5 @@
 -- The sizes of a command that have limits, and what stands for a part that passes its limit. Those of names, texts and queries are the parser's.
 use Rattle.std.specs.Prelude.{ℕ, ℤ, Bool, nat_le, List, if◌then◌else◌}
-pub use Rattle.ftl_parser.specs.Words.{is_short, short_word}
 use Rattle.motion.specs.declared.legs.TheConstants.{MOST_FIRSTS}
 use Rattle.motion.specs.Function.{Function, are_firsts, level}
 use Rattle.geometry.specs.declared.limits.TheConstants.{VERTEX_LIMIT}

@@ -3,3 +3,4 @@ pub mod LineParts
 pub mod Query
 pub mod Reading
 pub mod Standing
+pub mod Tests

@@ -1,15 +1,18 @@
 //! Where a reader stands in the tokens of a line.
-ghost use Rattle.std.specs.Prelude.{◌≡◌, ◌&&◌, IfSome, option_map};
+ghost use Rattle.std.specs.Prelude.{◌≡◌, ◌<◌, ◌≤◌, ◌&&◌, IfSome, option_map};
+ghost use Rattle.case_table.specs.declared.key.TheConstants.{CLASS};
+ghost use Rattle.case_table.specs.declared.symbol.TheConstants.{ASSIGN};
 ghost use Rattle.ftl_lexer.specs.Cut.{HasForm};
-ghost use Rattle.command_text.specs.Piece.{piece_of, is_key, is_sign, is_name, is_text};
+ghost use Rattle.command_text.specs.Piece.{piece_of};
 ghost use Rattle.command_text.specs.inner.Reading.{next, begins, key, sign, noting_fit, noting_small};
 ghost use Rattle.command_text.specs.inner.Standing.{standing};
+ghost use Rattle.command_text.specs.inner.Tests.{is_key, is_sign, is_name, is_text};
 
 use crate::kinds::{is_key, is_name, is_sign, is_text};
 use ftl_lexer::{Kind, Tokens};
 
 /// The token that comes next, whether each number so far is in the range of its place, and whether each
-/// size so far is within its limit.
+/// size so far is within its limit, but for the lengths of names and texts, at which `end` looks.
 #[derive(Clone, Copy, Debug)]
 pub(crate) struct At {
     pub place: usize,
@@ -62,6 +65,7 @@ pub(crate) fn next<'a>(tokens: &'a Tokens, at: At) -> Option<(Kind, &'a [u8], At
 /// Whether the reserved word of this code comes next.
 #[tactic(auto, unfolding(crate::specs::inner::Reading::begins, crate::specs::inner::Reading::next))]
 pub(crate) fn begins_key(tokens: &Tokens, at: At, code: u8) -> bool
+    requires { CLASS ≤ code }
     ensures { result ≡ begins (is_key code) (standing tokens.now at) }
 {
     match next(tokens, at) {
@@ -73,6 +77,7 @@ pub(crate) fn begins_key(tokens: &Tokens, at: At, code: u8) -> bool
 /// Whether the symbol of this code comes next.
 #[tactic(auto, unfolding(crate::specs::inner::Reading::begins, crate::specs::inner::Reading::next))]
 pub(crate) fn begins_sign(tokens: &Tokens, at: At, code: u8) -> bool
+    requires { code < ASSIGN }
     ensures { result ≡ begins (is_sign code) (standing tokens.now at) }
 {
     match next(tokens, at) {
@@ -106,6 +111,7 @@ pub(crate) fn begins_text(tokens: &Tokens, at: At) -> bool
 /// The place after the reserved word of this code.
 #[tactic(auto, unfolding(crate::specs::inner::Reading::key))]
 pub(crate) fn key(tokens: &Tokens, at: At, code: u8) -> Option<At>
+    requires { CLASS ≤ code }
     ensures { option_map (standing tokens.now) result ≡ key code (standing tokens.now at) }
 {
     let (kind, _, behind) = next(tokens, at)?;
@@ -119,6 +125,7 @@ pub(crate) fn key(tokens: &Tokens, at: At, code: u8) -> Option<At>
 /// The place after the symbol of this code.
 #[tactic(auto, unfolding(crate::specs::inner::Reading::sign))]
 pub(crate) fn sign(tokens: &Tokens, at: At, code: u8) -> Option<At>
+    requires { code < ASSIGN }
     ensures { option_map (standing tokens.now) result ≡ sign code (standing tokens.now at) }
 {
     let (kind, _, behind) = next(tokens, at)?;

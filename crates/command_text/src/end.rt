@@ -9,6 +9,7 @@ use crate::at::At;
 use crate::fault::{CommandFault, bad_syntax};
 use crate::refusal::Refusal;
 use ftl_lexer::Tokens;
+use ftl_parser::has_long;
 
 /// Ends a command of which all tokens before a place were read, or tells why it is refused. A form ends before it
 /// builds its command, so that a tree of some 200 bytes isn't handed on with the place after it.
@@ -23,7 +24,8 @@ pub(crate) fn end(tokens: &Tokens, at: At) -> Result<(), CommandFault>
     if !at.fit {
         return Err(CommandFault::Refused(Refusal::NumberRange));
     }
-    if !at.small {
+    // A name or a text that is too long was read as the empty one.
+    if !at.small || has_long(tokens, 0) {
         return Err(CommandFault::Refused(Refusal::TooLarge));
     }
     Ok(())

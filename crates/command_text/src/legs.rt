@@ -3,7 +3,7 @@ ghost use Rattle.std.specs.Prelude.{◌≡◌, Some, option_map, IfOk, MatchResu
 ghost use Rattle.command_text.specs.Sizes.{function_of};
 ghost use Rattle.command_text.specs.inner.Reading.{rate_leg, rates, move_leg, moves, all, begins};
 ghost use Rattle.command_text.specs.Grammar.{legs_of_x, legs_of_y};
-ghost use Rattle.command_text.specs.Piece.{is_sign};
+ghost use Rattle.command_text.specs.inner.Tests.{is_sign};
 ghost use Rattle.case_table.specs.declared.symbol.TheConstants.{OPEN_SQUARE};
 ghost use Rattle.command_text.specs.inner.Standing.{standing, Stops};
 

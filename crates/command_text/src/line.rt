@@ -1,8 +1,7 @@
 //! A command from its first word to the end of its line.
 ghost use Rattle.std.specs.Prelude.{MatchResult};
 ghost use Rattle.command_text.specs.Tree.{command_view};
-ghost use Rattle.command_text.specs.Piece.{pieces};
-ghost use Rattle.command_text.specs.inner.Reading.{by_key, by_name, to_end, command_of};
+ghost use Rattle.command_text.specs.inner.Reading.{at_first, by_key, by_name, to_end, command_of};
 ghost use Rattle.command_text.specs.inner.Standing.{standing};
 ghost use Rattle.command_text.specs.inner.LineParts.{IsWhole, Refuses};
 
@@ -61,7 +60,7 @@ fn by_name(alloc: Global, tokens: &Tokens, word: &[u8], at: At) -> Result<Comman
 
 /// The command that all tokens of a line are. No token is a blank line.
 pub(crate) fn command(alloc: Global, tokens: &Tokens) -> Result<Command, CommandFault>
-    ensures { MatchResult result (λ c. IsWhole (command_of (pieces tokens.now)) (command_view c)) (Refuses (command_of (pieces tokens.now))) }
+    ensures { MatchResult result (λ c. IsWhole (command_of (at_first tokens.now)) (command_view c)) (Refuses (command_of (at_first tokens.now))) }
 {
     let start = At {
         place: 0,

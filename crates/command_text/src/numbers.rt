@@ -1,52 +1,43 @@
 //! Names, texts and numbers.
-ghost use Rattle.std.specs.Prelude.{◌≡◌, ◌&&◌, pos, option_map};
+ghost use Rattle.std.specs.Prelude.{◌≡◌, pos, option_map};
 ghost use Rattle.command_text.specs.Ranges.{Span, Steps, Capacity, Nearest, Value, Rate, Width, negated, signed_in};
-ghost use Rattle.command_text.specs.Sizes.{is_short, short_word};
 ghost use Rattle.command_text.specs.inner.Reading.{name, text, number, whole, radius, minus, signed_number, num};
 ghost use Rattle.command_text.specs.inner.Standing.{standing};
 
-use crate::at::{At, next, noting_fit, noting_small, sign};
+use crate::at::{At, next, noting_fit, sign};
 use crate::ranges::NEAREST_LIMIT;
 use case_table::symbol;
 use fixed_point::{Fix, Slope, Word};
 use ftl_lexer::{Kind, Tokens, unquoted};
-use ftl_parser::{is_short, read_radius, whole, word, zero};
+use ftl_parser::{read_radius, whole, word, zero};
 use motion::CAPACITY_LIMIT;
 use tick_set::LAST_TICK;
 
-/// A word that was read, and the place after it.
-fn noted(bytes: &[u8], at: At) -> (Word, At)
-    ensures word { result.0 ≡ short_word bytes.now }
-    ensures at { result.1 ≡ record { place = at.place; fit = at.fit; small = at.small && is_short bytes.now } }
-{
-    (word(bytes), noting_small(at, is_short(bytes)))
-}
-
-#[tactic(auto, unfolding(crate::specs::inner::Reading::name))]
+#[tactic(auto, using(crate::proofs::reader::TableLemmas::token_tests), unfolding(crate::specs::inner::Reading::name))]
 pub(crate) fn name(tokens: &Tokens, at: At) -> Option<(Word, At)>
     ensures { option_map (λ r. (r.0, standing tokens.now r.1)) result ≡ name (standing tokens.now at) }
 {
     let (kind, bytes, behind) = next(tokens, at)?;
     match kind {
-        Kind::Name => Some(noted(bytes, behind)),
+        Kind::Name => Some((word(bytes), behind)),
         _ => None,
     }
 }
 
 /// A text, without its quotes.
-#[tactic(auto, unfolding(crate::specs::inner::Reading::text))]
+#[tactic(auto, using(crate::proofs::reader::TableLemmas::token_tests), unfolding(crate::specs::inner::Reading::text))]
 pub(crate) fn text(tokens: &Tokens, at: At) -> Option<(Word, At)>
     ensures { option_map (λ r. (r.0, standing tokens.now r.1)) result ≡ text (standing tokens.now at) }
 {
     let (kind, bytes, behind) = next(tokens, at)?;
     match kind {
-        Kind::Text => Some(noted(unquoted(bytes), behind)),
+        Kind::Text => Some((word(unquoted(bytes)), behind)),
         _ => None,
     }
 }
 
 /// The bytes of a number.
-#[tactic(auto, unfolding(crate::specs::inner::Reading::number))]
+#[tactic(auto, using(crate::proofs::reader::TableLemmas::token_tests), unfolding(crate::specs::inner::Reading::number))]
 fn number<'a>(tokens: &'a Tokens, at: At) -> Option<(&'a [u8], At)>
     ensures { option_map (λ r. (r.0.now, standing tokens.now r.1)) result ≡ number (standing tokens.now at) }
 {

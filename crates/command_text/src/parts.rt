@@ -2,7 +2,7 @@
 ghost use Rattle.std.specs.Prelude.{◌≡◌, Some, option_map, MatchResult};
 ghost use Rattle.command_text.specs.Ranges.{Value, Rate};
 ghost use Rattle.command_text.specs.inner.Reading.{pair, point, attr, next_attr, first_attr, some_attrs, attrs, points, all, begins, with_front};
-ghost use Rattle.command_text.specs.Piece.{is_sign};
+ghost use Rattle.command_text.specs.inner.Tests.{is_sign};
 ghost use Rattle.case_table.specs.declared.symbol.TheConstants.{OPEN_ROUND, COMMA};
 ghost use Rattle.command_text.specs.inner.Standing.{standing, Stops};
 

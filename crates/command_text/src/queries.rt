@@ -1,6 +1,7 @@
 //! The query at the end of a command.
-ghost use Rattle.std.specs.Prelude.{◌≡◌, [], Some, MatchResult};
+ghost use Rattle.std.specs.Prelude.{◌≡◌, ◌&&◌, [], Some, MatchResult};
 ghost use Rattle.ftl_parser.specs.Tree.{query_view};
+ghost use Rattle.command_text.specs.Piece.{has_short_words};
 ghost use Rattle.command_text.specs.inner.LineParts.{Refuses};
 ghost use Rattle.command_text.specs.inner.Reading.{query};
 ghost use Rattle.command_text.specs.inner.Standing.{standing};
@@ -29,7 +30,7 @@ fn fault_by_parser(fault: ParseFault, fit: bool) -> CommandFault
 
 /// The end of the tokens.
 fn end(tokens: &Tokens, at: At) -> At
-    ensures { standing tokens.now result ≡ record { rest = []; fit = at.fit; small = at.small } }
+    ensures { standing tokens.now result ≡ record { rest = []; fit = at.fit; small = has_short_words tokens.now && at.small } }
 {
     At {
         place: tokens.len(),

@@ -1,7 +1,7 @@
 //! What an insert or an update gives.
 ghost use Rattle.std.specs.Prelude.{◌≡◌, false, Some, option_map, MatchResult};
 ghost use Rattle.case_table.specs.declared.symbol.TheConstants.{OPEN_SQUARE};
-ghost use Rattle.command_text.specs.Piece.{is_sign};
+ghost use Rattle.command_text.specs.inner.Tests.{is_sign};
 ghost use Rattle.command_text.specs.Tree.{moving_view, placement_view};
 ghost use Rattle.command_text.specs.inner.Reading.{rate, given_both, given_value, given_text, given_rate, given_equal, given, setting, settings, at as placed, begins, moves, given_moves, some_moves, moving, place};
 ghost use Rattle.command_text.specs.inner.Standing.{standing, Stops};

@@ -41,7 +41,7 @@ pub use Rattle.ftl_parser.specs.Grammar.{Level, Spells, SpellsAtom, SpellsFactor
 pub use Rattle.ftl_parser.specs.Lawful.{HasShape, IsAny, IsAtom, IsBound, IsFactor, IsFormula, IsLawful, IsMultiple, IsPart, IsPrintable, IsQuotable, IsRef, IsShortName, IsUnit, IsUnsigned, OneOrMore}
 pub use Rattle.ftl_parser.specs.Marks.{atom_marks, clear, factor_marks, first_unfit, marks, num_marks, query_marks, term_marks, unfit, until_marks}
 pub use Rattle.ftl_parser.specs.Number.{Literal, Radius, Times, fits, literal, radius, ticks, times, up_to, whole_of}
-pub use Rattle.ftl_parser.specs.Piece.{AND, ARROW, BOUNDED, CLOSE, CLOSE_SQUARE, COMMA, COMPARISON, DIST, FROM, INSIDE, MINUS, NAME, NUMBER, OPEN, OPEN_SQUARE, OR, OTHER, OUTSIDE, PART, PLUS, POINT, PREFIX, Piece, RETRIEVE, SPHERE, STAR, TEXT, TIME, TRUTH, UNTIL, WHERE, has_long, is_long, lexemes_from, piece_of, pieces, pieces_from, reserved, signs, unquoted}
+pub use Rattle.ftl_parser.specs.Piece.{AND, ARROW, BOUNDED, CLOSE, CLOSE_SQUARE, COMMA, COMPARISON, DIST, FROM, INSIDE, MINUS, NAME, NUMBER, OPEN, OPEN_SQUARE, OR, OUTSIDE, PART, PLUS, POINT, PREFIX, Piece, RETRIEVE, SPHERE, STAR, TEXT, TIME, TRUTH, UNTIL, WHERE, WORD, has_long, is_long, lexemes_from, piece_of, pieces, pieces_from, reserved, signs, unquoted}
 pub use Rattle.ftl_parser.specs.Sizes.{first_too_large}
 pub use Rattle.ftl_parser.specs.Text.{assign_text, atom_text, bound_text, bound_word, factors_text, first_sign, formula_text, in_brackets, later_factors, later_names, later_parts, later_sign, names_text, op_word, pair_text, part_text, parts_text, query_text, sub_word, times_text, truth_word, unit_text, until_text}
 unfoldable pub use Rattle.ftl_parser.specs.Text.{prefix_text}

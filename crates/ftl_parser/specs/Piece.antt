@@ -1,6 +1,6 @@
--- The tokens of which the grammar of queries speaks: a constructor for each word and symbol, where those that stand in
--- the same places share one, and names, numbers and texts with their bytes. A name or text of more than 32 bytes is the
--- empty one.
+-- The tokens of which the grammars of queries and of commands speak: a constructor for each word of queries and each
+-- symbol, where those that stand in the same places share one, and names, numbers and texts with their bytes. A name or
+-- text of more than 32 bytes is the empty one.
 use Rattle.std.specs.Prelude.{ℕ, ◌-◌, Bool, true, false, not, List, [], ◌∷◌, take, drop, length, map, slice_get, unwrap_or}
 use Rattle.std.specs.List.{list_any}
 use Rattle.fixed_point.specs.declared.variants.BoundForm.{BoundForm}
@@ -57,8 +57,8 @@ pub data Piece : Type 0 where
   NUMBER : List ℕ → Piece
   -- a text by what stands between its quotes
   TEXT : List ℕ → Piece
-  -- a word that no query has
-  OTHER : Piece
+  -- a word that no query has, by its code
+  WORD : ℕ → Piece
 
 -- the words of queries and the parts of attributes, in the order of their codes
 abbrev pub reserved : List Piece
@@ -85,8 +85,9 @@ abbrev pub piece_of : Kind → List ℕ → Piece
 piece_of kinds.Name bytes = NAME (short_word bytes)
 piece_of kinds.Number bytes = NUMBER bytes
 piece_of kinds.Text bytes = TEXT (short_word (unquoted bytes))
-piece_of (kinds.Sym code) bytes = unwrap_or (slice_get signs code) OTHER
-piece_of (kinds.Key code) bytes = unwrap_or (slice_get reserved code) OTHER
+-- no symbol has a code after that of the last one
+piece_of (kinds.Sym code) bytes = unwrap_or (slice_get signs code) ARROW
+piece_of (kinds.Key code) bytes = unwrap_or (slice_get reserved code) (WORD code)
 
 -- tokens by their kinds and bytes
 abbrev pub pieces : List Lexeme → List Piece

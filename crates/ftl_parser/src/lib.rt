@@ -36,6 +36,7 @@ pub use lists::{Factors, FromParts, Names};
 pub use number::{is_short, read_radius, whole, word, zero};
 pub use printing::{print, print_onto, push_number};
 pub use reading::parse;
+pub use scan::has_long;
 pub use text_laws::{
     printed_queries_are_read_back, printed_queries_are_short, read_queries_are_printable,
     tokens_are_read_as_one_query,

@@ -3,7 +3,7 @@
 ghost use Rattle.std.specs.Prelude.{◌≡◌, ◌<◌, Some, length, map, slice_get, unwrap_or};
 ghost use Rattle.ftl_lexer.specs.Cut.{HasForm};
 ghost use Rattle.ftl_lexer.specs.Tokens.{lexemes, tokens_of};
-ghost use Rattle.ftl_parser.specs.Piece.{piece_of, pieces, signs, reserved, OTHER};
+ghost use Rattle.ftl_parser.specs.Piece.{piece_of, pieces, signs, reserved, ARROW, WORD};
 ghost use Rattle.ftl_parser.specs.inner.Views.{piece_view};
 
 use crate::prefix::Prefix;
@@ -50,8 +50,8 @@ pub(crate) enum Piece<'a> {
     Number(&'a [u8]),
     /// A text without its quotes.
     Text(&'a [u8]),
-    /// A word that no query has.
-    Other,
+    /// A word that no query has, by its code.
+    Word(u8),
 }
 
 // The words of queries and the parts of attributes, in the order of their codes.
@@ -103,28 +103,28 @@ const SIGNS: [Piece<'static>; 16] = [
     Piece::Arrow,
 ];
 
-// The word or symbol of this code in its table.
-fn at(table: &'static [Piece<'static>], code: u8) -> Piece<'static>
-    ensures { piece_view result ≡ unwrap_or (slice_get (map piece_view table.now) code) OTHER }
+// The word or symbol of this code in its table, or else the other one.
+fn at(table: &'static [Piece<'static>], code: u8, other: Piece<'static>) -> Piece<'static>
+    ensures { piece_view result ≡ unwrap_or (slice_get (map piece_view table.now) code) (piece_view other.entry) }
 {
     match table.get(usize::from(code)) {
         Some(piece) => *piece,
-        None => Piece::Other,
+        None => other,
     }
 }
 
 // The symbol of this code.
 pub(crate) fn sign(code: u8) -> Piece<'static>
-    ensures { piece_view result ≡ unwrap_or (slice_get signs code) OTHER }
+    ensures { piece_view result ≡ unwrap_or (slice_get signs code) ARROW }
 {
-    at(&SIGNS, code)
+    at(&SIGNS, code, Piece::Arrow)
 }
 
 // The word of this code.
 pub(crate) fn word(code: u8) -> Piece<'static>
-    ensures { piece_view result ≡ unwrap_or (slice_get reserved code) OTHER }
+    ensures { piece_view result ≡ unwrap_or (slice_get reserved code) (WORD code) }
 {
-    at(&WORDS, code)
+    at(&WORDS, code, Piece::Word(code))
 }
 
 // A token by its kind and its bytes.

@@ -97,11 +97,16 @@ pub(crate) fn first_unfit(tokens: &Tokens, from: usize) -> Option<usize>
     None
 }
 
-// Whether a token is a name or a text that is too long.
+// Whether a token is a name or a text that is too long. Few tokens have so many bytes, which is looked at first.
+#[inline]
+#[tactic(auto, using(crate::proofs::reader::TokenLemmas::few_bytes))]
 fn is_long(kind: Kind, bytes: &[u8]) -> bool
     requires { HasForm kind bytes.now }
     ensures { result ≡ is_long kind bytes.now }
 {
+    if is_short(bytes) {
+        return false;
+    }
     match kind {
         Kind::Name => !is_short(bytes),
         Kind::Text => !is_short(unquoted(bytes)),
@@ -109,9 +114,9 @@ fn is_long(kind: Kind, bytes: &[u8]) -> bool
     }
 }
 
-// Whether some name or text from a place on is too long.
+/// Whether some name or text from a token on has more than 32 bytes, and so stands for the empty one.
 #[tactic(auto, using(crate::proofs::reader::TokenLemmas::token_steps))]
-pub(crate) fn has_long(tokens: &Tokens, from: usize) -> bool
+pub fn has_long(tokens: &Tokens, from: usize) -> bool
     ensures { result ≡ has_long (lexemes_from from tokens.now) }
 {
     for at in from..tokens.len() {

@@ -1,7 +1,7 @@
 use crate::texts::{line_of, repeated};
 use ftl_lexer::{LEXER_LIMIT, Tokens, tokens};
 use ftl_parser::{
-    Formula, ParseFault, Query, Size, has_circle, has_not, most_names, nesting, parse,
+    Formula, ParseFault, Query, Size, has_circle, has_long, has_not, most_names, nesting, parse,
 };
 use std::alloc::{AllocError, Global};
 use std::process::Abort;
@@ -66,6 +66,33 @@ fn a_number_counts_the_tokens_before_the_query(rt: HostRuntime) -> Result<(), Fa
     let line = tokens(alloc, b"ask 30 RETRIEVE o FROM c o WHERE 2.5 * o.x = 1")?;
     let read = parse(alloc, &line, 2);
     assert!(rt; matches!(&read, Err(ParseFault::NumberRange(8))));
+    Ok(())
+}
+
+fn has_long_word(alloc: Global, line: &[u8]) -> Option<bool> {
+    if line.len() > LEXER_LIMIT {
+        return None;
+    }
+    match tokens(alloc, line) {
+        Ok(tokens) => Some(has_long(&tokens, 1)),
+        Err(_) => None,
+    }
+}
+
+const WORDS: [(&[u8], bool); 5] = [
+    (b"remove aaaaaaaaaaaaaaaaaaaaaaaaaaaaaaaa", false),
+    (b"remove aaaaaaaaaaaaaaaaaaaaaaaaaaaaaaaaa", true),
+    (b"save \"aaaaaaaaaaaaaaaaaaaaaaaaaaaaaaaa\"", false),
+    (b"save \"aaaaaaaaaaaaaaaaaaaaaaaaaaaaaaaaa\"", true),
+    (b"aaaaaaaaaaaaaaaaaaaaaaaaaaaaaaaaa tick 1", false),
+];
+
+#[test]
+fn long_words_are_found(rt: HostRuntime) -> Result<(), Fail> {
+    for (line, long) in WORDS {
+        let found = has_long_word(rt.alloc(), line);
+        assert!(rt; found == Some(long), "{line:?}");
+    }
     Ok(())
 }
 

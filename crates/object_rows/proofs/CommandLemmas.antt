@@ -208,6 +208,7 @@ name_is field h =
 
 row_printable : (class name : List ℕ) (sets : List NamedSet) (present : Bool) → IsShortName class → IsShortName name → AllByRecursion IsSetting sets
     → IsPrintable (command_of class present (record { name = name; sets = sets }))
+unfolding reserved_words
 row_printable class name sets true short is all = (refl, (is, record { at = tt; moving = tt; settings = all }))
 row_printable class name sets false short is all = (refl, (short, (is, record { at = tt; moving = tt; settings = all })))
 

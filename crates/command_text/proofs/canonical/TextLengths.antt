@@ -1,45 +1,19 @@
 -- A canonical line has at most four bytes for each byte of the tokens that spell its command.
-use Rattle.command_text.proofs.Names.{◌≡◌, ℕ, zero, suc, ◌+◌, ◌*◌, ◌≤◌, max, Bool, true, false, List, [], ◌∷◌, ◌++◌, append_assoc, take, length, map, length-append, Option, None, Some, IsTrue, ℤ, pos, refl, sym, ap, subst, arith, leb, inl, inr, ◌⊎◌, codes, if◌then◌else◌, flat_map, decimal, option_map_or, leb-true, and_parts, drop_at, take_at, length-drop, sum_by-cons, code_of, reserved_words, symbols, RATE_WORD, CLOSE_ROUND, COMMA, CLOSE_SQUARE, fix_text, Point, Function, are_firsts, level, AttrKind, Given, NamedSet, Place, Kind, lexemes, Lexeme, HasForm, is_word, HaveForms, QueryTree, SpellsQuery, query_text, Part, Parts, is_verb, parts, Piece, KEY, SIGN, NAME, NUMBER, TEXT, piece_of, pieces, SignedPlace, Steps, short_word, function_of, CommandTree, Notes, whole_at, legs_of_x, legs_of_y, SpellsNum, num_plain, num_minus, SpellsPair, SpellsAttr, attr_num, attr_text, attr_dyn, SpellsMoreAttrs, no_more_attrs, one_more_attr, SpellsAttrs, no_attrs, SpellsPoints, no_points, one_point, SpellsRateLegs, no_rate_legs, one_rate_leg, SpellsRates, SpellsMoveLegs, no_move_legs, one_move_leg, SpellsMoves, SpellsGiven, given_num, SpellsSettings, no_settings, one_setting, SpellsAt, not_at, SpellsMoving, not_moving, SpellsChange, change, SpellsPointWord, no_point_word, SpellsTail, token_of, SpellsPart, part_verb, part_name, part_text, part_whole, part_error, part_num, part_point_word, part_attrs, part_points, part_change, SpellsParts, no_parts, last_part, last_query, part_before, SpellsCommand, by_parts, pair_text, rate_leg_text, rates_text, move_leg_text, move_legs_text, moves_text, next_attr_text, attrs_text, points_text, settings_text, at_text, moving_text, change_text, text_of}
+use Rattle.command_text.proofs.Names.{◌≡◌, ℕ, zero, suc, ◌+◌, ◌*◌, ◌≤◌, Bool, true, false, List, [], ◌∷◌, ◌++◌, append_assoc, take, length, map, length-append, Option, None, Some, IsTrue, ℤ, pos, refl, sym, ap, subst, arith, leb, inl, inr, ◌⊎◌, codes, if◌then◌else◌, flat_map, decimal, option_map_or, leb-true, and_parts, drop_at, take_at, length-drop, sum_by-cons, code_of, reserved_words, RATE_WORD, COMMA, CLOSE_SQUARE, fix_text, Point, Function, are_firsts, level, AttrKind, Given, NamedSet, Place, lexemes, Lexeme, is_word, HaveForms, QueryTree, SpellsQuery, query_text, Part, Parts, is_verb, parts, Piece, NUMBER, piece_of, pieces, SignedPlace, Steps, function_of, CommandTree, Notes, whole_at, legs_of_x, legs_of_y, SpellsNum, num_plain, num_minus, SpellsPair, SpellsAttr, attr_num, attr_text, attr_dyn, SpellsMoreAttrs, no_more_attrs, one_more_attr, SpellsAttrs, no_attrs, SpellsPoints, no_points, one_point, SpellsRateLegs, no_rate_legs, one_rate_leg, SpellsRates, SpellsMoveLegs, no_move_legs, one_move_leg, SpellsMoves, SpellsGiven, given_num, SpellsSettings, no_settings, one_setting, SpellsAt, not_at, SpellsMoving, not_moving, SpellsChange, change, SpellsPointWord, no_point_word, token_of, SpellsPart, part_verb, part_name, part_text, part_whole, part_error, part_num, part_point_word, part_attrs, part_points, part_change, SpellsParts, no_parts, last_part, last_query, part_before, SpellsCommand, by_parts, pair_text, rate_leg_text, rates_text, move_leg_text, move_legs_text, moves_text, next_attr_text, attrs_text, points_text, settings_text, at_text, moving_text, change_text, text_of, CLOSE, WORD, reserved, slice_get, slice_get_past}
 use Rattle.std.proofs.Common.{drop}
 use Rattle.motion.specs.declared.cell.AttrKind.TheVariants as attr_kinds
 use Rattle.ftl_lexer.specs.declared.kinds.Kind.TheVariants as kinds
 use Rattle.ftl_lexer.proofs.Shapes.{tokens_have_forms}
 use Rattle.ftl_parser.specs.TextLaws.{bytes_of}
-use Rattle.ftl_parser.proofs.canonical.TextLengths.{word_long, number_long, text_long, prints_shortly, tokens_fit}
-use Rattle.command_text.specs.Sizes.{is_short}
+use Rattle.ftl_parser.proofs.canonical.TextTokens.{few_is, word_is}
+use Rattle.ftl_parser.proofs.canonical.TextLengths.{weight, load, load_join, piece_long, pieces_long, prints_shortly, tokens_fit}
+use Rattle.command_text.specs.Parts.{is_of_commands}
 use Rattle.command_text.specs.Grammar.{pair, some_attrs, rates, moves, given_both, given_text, given_rate, at, moving, point_word}
 use Rattle.command_text.specs.Text as text
-use Rattle.command_text.proofs.grammar.QueryLemmas.{tail_pieces}
-use Rattle.command_text.proofs.canonical.TextAscii.{row_is}
+use Rattle.command_text.proofs.grammar.QueryLemmas.{tail_is}
 use Rattle.command_text.proofs.canonical.TextNumbers.{whole_is_short, radius_is_short, signed_is_short, zero_is_short}
 
--- ---- how many bytes a token has at least
-
-abbrev weight : Piece → ℕ
-weight (KEY code) = 2
-weight (SIGN code) = 1
-weight (NAME n) = max 1 (length n)
-weight (NUMBER n) = max 1 (length n)
-weight (TEXT t) = length t + 2
-
-abbrev load : List Piece → ℕ
-load [] = 0
-load (p ∷ ps) = weight p + load ps
-
-key_long : (word : List ℕ) (code : ℕ) → code_of reserved_words word ≡ Some code → 2 ≤ length word
-unfolding reserved_words
-key_long word code is = leb-true 2 (length word) (row_is (λ w. leb 2 (length w)) reserved_words word code refl is)
-
-sign_long : (word : List ℕ) (code : ℕ) → code_of symbols word ≡ Some code → 1 ≤ length word
-unfolding symbols
-sign_long word code is = leb-true 1 (length word) (row_is (λ w. leb 1 (length w)) symbols word code refl is)
-
-piece_long : (kind : Kind) (bytes : List ℕ) → HasForm kind bytes → weight (piece_of kind bytes) ≤ length bytes
-piece_long kinds.Name bytes form = word_long bytes form.0
-piece_long kinds.Number bytes form = number_long bytes form
-piece_long kinds.Text bytes form = text_long bytes form
-piece_long (kinds.Sym code) bytes form = sign_long bytes code form
-piece_long (kinds.Key code) bytes form = key_long bytes code form
+-- ---- the bytes of tokens
 
 -- some tokens, and the bytes of those after them
 front_long : (n : ℕ) (tokens : List Lexeme) → HaveForms tokens → load (take n (map (λ t. piece_of t.0 t.1) tokens)) + bytes_of (drop n tokens) ≤ bytes_of tokens
@@ -48,15 +22,10 @@ front_long (suc n) [] forms = omega arith
 front_long (suc n) (t ∷ tokens) forms =
     omega (arith, sum_by-cons (λ (l : Lexeme). length l.1) t tokens, piece_long t.0 t.1 forms.0, front_long n tokens forms.1)
 
-pieces_long : (tokens : List Lexeme) → HaveForms tokens → load (map (λ t. piece_of t.0 t.1) tokens) ≤ bytes_of tokens
-pieces_long [] forms = omega arith
-pieces_long (t ∷ tokens) forms =
-    omega (arith, sum_by-cons (λ (l : Lexeme). length l.1) t tokens, piece_long t.0 t.1 forms.0, pieces_long tokens forms.1)
-
 -- so many bytes are enough for the tokens, and for a query at their end
 record HasRoom (xs : List Piece) (bytes : ℕ) : Type 0 where
   tokens : load xs ≤ bytes
-  query_bytes : (n : ℕ) (q : QueryTree) → SpellsTail q (drop n xs) → length (query_text q) + 4 * load (take n xs) ≤ 4 * bytes
+  query_bytes : (n : ℕ) (q : QueryTree) → SpellsQuery q (drop n xs) → length (query_text q) + 4 * load (take n xs) ≤ 4 * bytes
 
 line_has_room : (line : List ℕ) → HasRoom (pieces line) (length line)
 line_has_room line =
@@ -66,24 +35,11 @@ line_has_room line =
       tokens = omega (arith, fit, pieces_long (lexemes line) forms);
       query_bytes = λ n q d.
           let short : length (query_text q) ≤ 4 * bytes_of (drop n (lexemes line)) =
-          prints_shortly n line q (subst (SpellsQuery q) (sym (tail_pieces n line).pieces) d) in
+          prints_shortly n line q (subst (SpellsQuery q) (sym (tail_is n line)) d) in
           omega (arith, fit, short, front_long n (lexemes line) forms);
     }
 
--- ---- sums over tokens
-
-load_join : (xs ys : List Piece) → load (xs ++ ys) ≡ load xs + load ys
-load_join [] ys = omega arith
-load_join (x ∷ xs) ys = omega (arith, load_join xs ys)
-
--- ---- words and numbers
-
-word_short : (word : List ℕ) → length (short_word word) ≤ length word
-word_short word = chosen (is_short word)
-  where
-    chosen : (b : Bool) → length (if b then word else []) ≤ length word
-    chosen true = omega arith
-    chosen false = omega arith
+-- ---- numbers
 
 -- a number with a sign or none: what it is printed in, and what it has
 record NumShort (v : ℤ) (xs : List Piece) : Type 0 where
@@ -115,7 +71,7 @@ pair_short (pair {xs = xs} {ys = ys} d e) =
       some_second = y.some;
       short_first = x.short;
       short_second = y.short;
-      within = omega (arith, load_join xs (SIGN COMMA ∷ (ys ++ SIGN CLOSE_ROUND ∷ [])), load_join ys (SIGN CLOSE_ROUND ∷ []));
+      within = omega (arith, load_join xs (COMMA ∷ (ys ++ CLOSE ∷ [])), load_join ys (CLOSE ∷ []));
     }
 
 pair_size : (x y : ℤ) → length (pair_text x y) ≡ length (fix_text x) + length (fix_text y) + 3
@@ -141,7 +97,7 @@ rate_legs_short no_rate_legs = omega arith
 rate_legs_short (one_rate_leg {a = a} {xs = xs} n {ls = ls} {ys = ys} d e) =
     let leg : List ℕ = rate_leg_text (a, whole_at Steps n) in
     let sum : length (leg ++ flat_map rate_leg_text ls) ≡ length leg + length (flat_map rate_leg_text ls) = length-append leg (flat_map rate_leg_text ls) in
-    let tokens = load_join xs (SIGN COMMA ∷ NUMBER n ∷ SIGN CLOSE_SQUARE ∷ ys) in
+    let tokens = load_join xs (COMMA ∷ NUMBER n ∷ CLOSE_SQUARE ∷ ys) in
     omega (arith, sum, rate_leg_size a (whole_at Steps n), (num_short d).short, whole_is_short Steps n, tokens, rate_legs_short e)
 
 -- legs that make no function stand for rest
@@ -175,7 +131,7 @@ move_legs_short no_move_legs = omega arith
 move_legs_short (one_move_leg {a = a} {b = b} {xs = xs} n {ls = ls} {ys = ys} d e) =
     let leg : List ℕ = move_leg_text a b (whole_at Steps n) in
     let sum : length (leg ++ legs_text ls) ≡ length leg + length (legs_text ls) = length-append leg (legs_text ls) in
-    let tokens = load_join xs (SIGN COMMA ∷ NUMBER n ∷ SIGN CLOSE_SQUARE ∷ ys) in
+    let tokens = load_join xs (COMMA ∷ NUMBER n ∷ CLOSE_SQUARE ∷ ys) in
     omega (arith, sum, move_leg_size a b (whole_at Steps n), pair_fits d, whole_is_short Steps n, tokens, move_legs_short e)
 
 no_legs : (xs : List (ℤ × ℕ)) → move_legs_text xs [] ≡ []
@@ -212,17 +168,17 @@ moves_short (moves {ls = ls} {xs = xs} {a = a} {b = b} {ys = ys} d e) =
 given_short : {g : Given} {xs : List Piece} {s t : Notes} → SpellsGiven g s t xs → length (text.given_text g) ≤ 4 * load xs
 given_short (given_num d) = omega (arith, (num_short d).short)
 given_short (given_both {v = v} {xs = xs} {f = f} {ys = ys} d e) =
-    omega (arith, (num_short d).short, rates_short e, length-append (fix_text v) (codes " rate " ++ rates_text f), load_join xs (KEY RATE_WORD ∷ ys))
-given_short (given_text {w = w}) = omega (arith, word_short w, length-append (short_word w) (34 ∷ []))
+    omega (arith, (num_short d).short, rates_short e, length-append (fix_text v) (codes " rate " ++ rates_text f), load_join xs (WORD RATE_WORD ∷ ys))
+given_short (given_text {w = w}) = omega (arith, length-append w (34 ∷ []))
 given_short (given_rate d) = omega (arith, rates_short d)
 
 settings_short : {ss : List NamedSet} {xs : List Piece} {s t : Notes} → SpellsSettings ss s t xs → length (settings_text ss) ≤ 4 * load xs
 settings_short no_settings = omega arith
 settings_short (one_setting {n = n} {g = g} {xs = xs} {ss = ss} {ys = ys} d e) =
     let given : List ℕ = text.given_text g in
-    let set : List ℕ = short_word n ++ (32 ∷ given) in
+    let set : List ℕ = n ++ (32 ∷ given) in
     let sum : length (set ++ settings_text ss) ≡ length set + length (settings_text ss) = length-append set (settings_text ss) in
-    omega (arith, sum, length-append (short_word n) (32 ∷ given), word_short n, given_short d, load_join xs ys, settings_short e)
+    omega (arith, sum, length-append n (32 ∷ given), given_short d, load_join xs ys, settings_short e)
 
 at_short : {p : Option Point} {xs : List Piece} {s t : Notes} → SpellsAt p s t xs → length (at_text p) ≤ 4 * load xs
 at_short not_at = omega arith
@@ -240,10 +196,10 @@ change_short (change {p = p} {xs = xs} {m = m} {ys = ys} {ss = ss} {zs = zs} d e
 
 -- ---- attributes
 
-attr_size : (n : List ℕ) (kind : AttrKind) → length (text.attr_text (short_word n, kind)) ≤ length n + 5
-attr_size n attr_kinds.Num = omega (arith, word_short n, length-append (short_word n) (codes " num"))
-attr_size n attr_kinds.Text = omega (arith, word_short n, length-append (short_word n) (codes " text"))
-attr_size n attr_kinds.Dyn = omega (arith, word_short n, length-append (short_word n) (codes " dyn"))
+attr_size : (n : List ℕ) (kind : AttrKind) → length (text.attr_text (n, kind)) ≤ length n + 5
+attr_size n attr_kinds.Num = omega (arith, length-append n (codes " num"))
+attr_size n attr_kinds.Text = omega (arith, length-append n (codes " text"))
+attr_size n attr_kinds.Dyn = omega (arith, length-append n (codes " dyn"))
 
 attr_short : {a : List ℕ × AttrKind} {xs : List Piece} {s t : Notes} → SpellsAttr a s t xs → length (text.attr_text a) ≤ 4 * load xs
 attr_short (attr_num {n = n}) = omega (arith, attr_size n attr_kinds.Num)
@@ -262,8 +218,8 @@ attrs_short (some_attrs {a = a} {xs = xs} {rest = more} {ys = ys} d e) =
     let first : List ℕ = text.attr_text a in
     let others : List ℕ = flat_map next_attr_text more in
     let bytes = length-append first (others ++ codes ")") in
-    let tokens = load_join xs (ys ++ SIGN CLOSE_ROUND ∷ []) in
-    omega (arith, bytes, length-append others (codes ")"), attr_short d, more_attrs_short e, tokens, load_join ys (SIGN CLOSE_ROUND ∷ []))
+    let tokens = load_join xs (ys ++ CLOSE ∷ []) in
+    omega (arith, bytes, length-append others (codes ")"), attr_short d, more_attrs_short e, tokens, load_join ys (CLOSE ∷ []))
 
 point_word_short : {b : Bool} {xs : List Piece} → SpellsPointWord b xs → length (text.point_word b) ≤ 4 * load xs
 point_word_short no_point_word = omega arith
@@ -271,18 +227,22 @@ point_word_short point_word = omega arith
 
 -- ---- commands
 
-verb_by : (word : List ℕ) (found : Option ℕ) → code_of reserved_words word ≡ found → length word ≤ 7 → suc (length word)
-    ≤ 4 * weight (piece_of (option_map_or (λ code. kinds.Key code) found kinds.Name) word)
-verb_by word None is short = omega arith
-verb_by word (Some code) is short = omega arith
+verb_by : (word : List ℕ) (found : Option ℕ) → option_map_or is_of_commands found true ≡ true → length word ≤ 7
+    → suc (length word) ≤ 4 * weight (piece_of (option_map_or (λ code. kinds.Key code) found kinds.Name) word)
+verb_by word None own few = rw (word_is word (few_is word (omega (arith, few)))) (omega (arith, few))
+verb_by word (Some code) own few =
+    let past : slice_get reserved code ≡ None = slice_get_past reserved code (leb-true 25 code own) in
+    rw past (omega (arith, few))
 
 verb_short : (word : List ℕ) → IsTrue (is_verb word) → suc (length word) ≤ 4 * weight (token_of word)
-verb_short word is = verb_by word (code_of reserved_words word) refl (leb-true (length word) 7 (and_parts (is_word word) (leb (length word) 7) is).1)
+verb_short word is =
+    let parts = and_parts (leb (length word) 7) _ (and_parts (is_word word) _ is).1 in
+    verb_by word (code_of reserved_words word) parts.1 (leb-true (length word) 7 parts.0)
 
 part_short : {p : Part} {xs : List Piece} {s t : Notes} → SpellsPart p s t xs → length (text.part_text p) ≤ 4 * load xs
 part_short (part_verb {w = w} is) = omega (arith, verb_short w is)
-part_short (part_name {n = n}) = omega (arith, word_short n)
-part_short (part_text {w = w}) = omega (arith, word_short w, length-append (short_word w) (34 ∷ []))
+part_short (part_name {n = n}) = omega arith
+part_short (part_text {w = w}) = omega (arith, length-append w (34 ∷ []))
 part_short (part_whole {place = p} {n = n}) = omega (arith, whole_is_short p n)
 part_short (part_error {n = n}) = omega (arith, radius_is_short n)
 part_short (part_num d) = let number = num_short d in omega (arith, number.short, number.some)
@@ -300,7 +260,7 @@ parts_short (last_query {q = q} {xs = xs} d) front spent bytes room within =
     let behind : drop (length front) (front ++ xs) ≡ xs = drop_at front xs (length front) refl in
     let before : take (length front) (front ++ xs) ≡ front = take_at front xs (length front) refl in
     let query : length (query_text q) + 4 * load (take (length front) (front ++ xs)) ≤ 4 * bytes =
-    room.query_bytes (length front) q (subst (SpellsTail q) (sym behind) d) in
+    room.query_bytes (length front) q (subst (SpellsQuery q) (sym behind) d) in
     omega (arith, within, query, ap load before)
 parts_short (part_before {p = p} {ps = ps} {xs = xs} {ys = ys} d e) front spent bytes room within =
     let later = parts_short e (front ++ xs) (spent + length (text.part_text p)) bytes
@@ -308,9 +268,9 @@ parts_short (part_before {p = p} {ps = ps} {xs = xs} {ys = ys} d e) front spent 
     (omega (arith, within, part_short d, load_join front xs)) in
     omega (arith, later, length-append (text.part_text p) (text.parts_text ps))
 
-command_short : {c : CommandTree} {xs : List Piece} {s : Notes} → SpellsCommand c s xs → (bytes : ℕ) → HasRoom xs bytes → length (text_of c) ≤ 4 * bytes
+command_short : {c : CommandTree} {xs : List Piece} {s t : Notes} → SpellsCommand c s t xs → (bytes : ℕ) → HasRoom xs bytes → length (text_of c) ≤ 4 * bytes
 unfolding text_of
 command_short {c = c} (by_parts d) bytes room = omega (arith, parts_short d [] 0 bytes room (omega arith), length-drop 1 (text.parts_text (parts c)))
 
-pub line_short : (line : List ℕ) (c : CommandTree) {s : Notes} → SpellsCommand c s (pieces line) → length (text_of c) ≤ 4 * length line
+pub line_short : (line : List ℕ) (c : CommandTree) {s t : Notes} → SpellsCommand c s t (pieces line) → length (text_of c) ≤ 4 * length line
 line_short line c d = command_short d (length line) (line_has_room line)

@@ -1,5 +1,5 @@
 -- Numbers in the ranges of their places: as they are read, how long they are when they are printed, and that they are read back.
-use Rattle.command_text.proofs.Names.{◌≡◌, ℕ, zero, suc, ◌+◌, ◌^◌, ◌<◌, ◌≤◌, max, Bool, true, false, ◌&&◌, List, [], length, Option, None, Some, ℤ, pos, negsuc, unsigned_abs, IsTrue, refl, sym, ap, subst, ◌∙◌, arith, cond, leb, neg_ℤ, unwrap_or, is_some, option_map, option_and_then, int_le, list_all, is_ascii_digit, decimal, digits_value, leb-true, nat_tests, READ_LIMIT, fix_text, is_number, RADIUS_LIMIT, LAST_TICK, up_to, whole_of, IsUnsigned, CAPACITY_LIMIT, WholePlace, Span, Steps, Capacity, Nearest, whole_in, radius_in, SignedPlace, Value, Rate, Width, negated, signed_in, whole_at, radius_at, signed_at, IsFrom, IsWidth, IsWholeIn, IsSignedIn}
+use Rattle.command_text.proofs.Names.{◌≡◌, ℕ, zero, suc, ◌+◌, ◌^◌, ◌<◌, ◌≤◌, max, Bool, true, false, ◌&&◌, List, length, Option, None, Some, ℤ, pos, negsuc, unsigned_abs, IsTrue, refl, sym, ap, subst, ◌∙◌, arith, cond, leb, neg_ℤ, unwrap_or, is_some, option_map, option_and_then, int_le, list_all, is_ascii_digit, decimal, digits_value, leb-true, nat_tests, READ_LIMIT, fix_text, is_number, RADIUS_LIMIT, LAST_TICK, up_to, whole_of, IsUnsigned, CAPACITY_LIMIT, WholePlace, Span, Steps, Capacity, Nearest, whole_in, radius_in, SignedPlace, Value, Rate, Width, negated, signed_in, whole_at, radius_at, signed_at, IsFrom, IsWidth, IsWholeIn, IsSignedIn, []}
 use Rattle.std.proofs.lemmas.Int.{ints}
 use Rattle.fixed_point.specs.declared.number.TheConstants.{SLOPE_LIMIT}
 use Rattle.fixed_point.specs.Decimal.{thousandths_of, size_of}

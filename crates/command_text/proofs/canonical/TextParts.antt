@@ -1,20 +1,14 @@
 -- The parts of canonical lines are cut into tokens that spell them, with numbers in range and sizes within their limits.
-use Rattle.command_text.proofs.Names.{◌≡◌, ℕ, suc, ◌≤◌, Bool, true, false, List, [], ◌∷◌, ◌++◌, length, map, append_assoc, Option, None, Some, ℤ, pos, negsuc, refl, sym, ap, ap₂, subst, ◌∙◌, arith, codes, is_some, unwrap_or, if◌then◌else◌, AllByRecursion, flat_map, decimal, nat_tests, reserved_words, symbols, POINT_WORD, NUM, TEXT_WORD, DYN, AT, MOVE, RATE_WORD, OPEN_ROUND, CLOSE_ROUND, OPEN_SQUARE, CLOSE_SQUARE, COMMA, MINUS, EQUAL, fix_text, Point, Function, MOST_FIRSTS, AttrKind, Given, NamedSet, Place, Piece, KEY, SIGN, NAME, NUMBER, TEXT, WholePlace, Steps, SignedPlace, Value, Rate, are_few_legs, function_of, are_few_attributes, good, whole_at, set_of, legs_of_x, legs_of_y, SpellsNum, num_plain, num_minus, SpellsPair, SpellsAttr, attr_num, attr_text, attr_dyn, SpellsMoreAttrs, no_more_attrs, one_more_attr, SpellsAttrs, no_attrs, SpellsPoints, no_points, one_point, SpellsRateLegs, no_rate_legs, one_rate_leg, SpellsRates, SpellsMoveLegs, no_move_legs, one_move_leg, SpellsMoves, SpellsGiven, given_num, SpellsSettings, no_settings, one_setting, SpellsAt, not_at, SpellsMoving, not_moving, SpellsChange, change, SpellsPointWord, no_point_word, IsShortName, IsPoint, IsLeg, AreLegs, AreMoves, IsPrintableGiven, IsSetting, IsAt, IsMoving, IsChange, IsAttribute, AreAttributes, IsWholeIn, IsSignedIn, pair_text, rate_leg_text, rates_text, move_legs_text, moves_text, next_attr_text, attrs_text, points_text, settings_text, at_text, moving_text, change_text}
+use Rattle.command_text.proofs.Names.{◌≡◌, ℕ, suc, ◌≤◌, Bool, true, false, List, [], ◌∷◌, ◌++◌, length, map, append_assoc, Option, None, Some, ℤ, pos, negsuc, refl, sym, ap, ap₂, subst, ◌∙◌, arith, codes, is_some, unwrap_or, AllByRecursion, flat_map, decimal, nat_tests, reserved_words, symbols, POINT_WORD, NUM, TEXT_WORD, DYN, AT, MOVE, RATE_WORD, OPEN_SQUARE, CLOSE_SQUARE, COMMA, MINUS, fix_text, Point, Function, MOST_FIRSTS, AttrKind, Given, NamedSet, Place, Piece, NUMBER, WholePlace, Steps, SignedPlace, Value, Rate, are_few_legs, function_of, are_few_attributes, good, whole_at, legs_of_x, legs_of_y, SpellsNum, num_plain, num_minus, SpellsPair, SpellsAttr, attr_num, attr_text, attr_dyn, SpellsMoreAttrs, no_more_attrs, one_more_attr, SpellsAttrs, no_attrs, SpellsPoints, no_points, one_point, SpellsRateLegs, no_rate_legs, one_rate_leg, SpellsRates, SpellsMoveLegs, no_move_legs, one_move_leg, SpellsMoves, SpellsGiven, given_num, SpellsSettings, no_settings, one_setting, SpellsAt, not_at, SpellsMoving, not_moving, SpellsChange, change, SpellsPointWord, no_point_word, IsShortName, IsPoint, IsLeg, AreLegs, AreMoves, IsPrintableGiven, IsSetting, IsAt, IsMoving, IsChange, IsAttribute, AreAttributes, IsWholeIn, IsSignedIn, pair_text, rate_leg_text, rates_text, move_legs_text, moves_text, next_attr_text, attrs_text, points_text, settings_text, at_text, moving_text, change_text, CLOSE, CLOSE_SIGN, CLOSE_SQUARE_SIGN, COMMA_SIGN, EQUAL_SIGN, MINUS_SIGN, OPEN, OPEN_SIGN, OPEN_SQUARE_SIGN, WORD}
 use Rattle.motion.specs.declared.cell.AttrKind.TheVariants as attr_kinds
 use Rattle.motion.specs.declared.cell.Given.TheVariants as givens
 use Rattle.ftl_parser.proofs.canonical.TextTokens.{Ends, blank_ends, comma_ends, close_ends, square_ends, no_cut, led, spaced_cut, then_cut, closed_cut, parted, apart_cut, same_cut, reads}
 use Rattle.ftl_parser.proofs.canonical.TextValues.{decimal_is_number, fix_is_number, minus_text}
-use Rattle.command_text.specs.Sizes.{is_short}
 use Rattle.command_text.specs.Grammar.{pair, some_attrs, rates, moves, given_both, given_text, given_rate, at, moving, point_word}
 use Rattle.command_text.specs.Text as text
 use Rattle.command_text.proofs.canonical.TextNumbers.{whole_again, whole_small, plain_again, minus_again, plain_small, minus_small}
 use Rattle.command_text.proofs.canonical.TextShapes.{function_is}
 use Rattle.command_text.proofs.canonical.TextCuts.{CutBefore, Closes, Reads, name_cut, key_cut, number_cut, text_cut}
-
--- ---- names
-
-pub name_short : (name : List ℕ) → IsShortName name → is_short name ≡ true
-name_short name shape = grind (arith, nat_tests, shape.1)
 
 -- ---- numbers
 
@@ -33,9 +27,9 @@ num_reads p (pos n) within =
     (number_cut size (fix_is_number n (plain_small p n within)))
 num_reads p (negsuc n) within =
     let size : List ℕ = fix_text (pos (suc n)) in
-    reads (subst (λ (o : Option ℤ). SpellsNum p (unwrap_or o (pos 0)) good (is_some o, true) (SIGN MINUS ∷ NUMBER size ∷ [])) (minus_again p n within)
+    reads (subst (λ (o : Option ℤ). SpellsNum p (unwrap_or o (pos 0)) good (is_some o, true) (MINUS ∷ NUMBER size ∷ [])) (minus_again p n within)
     (num_minus {n = size}))
-    (same_cut (led MINUS 45 refl refl refl (number_cut size (fix_is_number (suc n) (minus_small p n within)))) (minus_text n))
+    (same_cut (led MINUS_SIGN 45 refl refl refl (number_cut size (fix_is_number (suc n) (minus_small p n within)))) (minus_text n))
 
 pub pair_reads : (p : SignedPlace) (x y : ℤ) → IsSignedIn p x → IsSignedIn p y → Closes (pair_text x y) (SpellsPair p x y good good)
 unfolding symbols
@@ -43,8 +37,8 @@ pair_reads p x y x_is y_is =
     let a : Reads (fix_text x) (SpellsNum p x good good) = num_reads p x x_is in
     let b : Reads (fix_text y) (SpellsNum p y good good) = num_reads p y y_is in
     reads (pair a.spelled b.spelled)
-    (led OPEN_ROUND 40 refl refl refl
-    (parted comma_ends a.cut (led COMMA 44 refl refl refl (parted close_ends b.cut (led CLOSE_ROUND 41 refl refl refl no_cut)))))
+    (led OPEN_SIGN 40 refl refl refl
+    (parted comma_ends a.cut (led COMMA_SIGN 44 refl refl refl (parted close_ends b.cut (led CLOSE_SIGN 41 refl refl refl no_cut)))))
 
 -- ---- points
 
@@ -67,12 +61,12 @@ rate_legs_read (leg ∷ ls) shape =
     let number : List ℕ = decimal leg.1 in
     let slope : Reads (fix_text leg.0) (SpellsNum Rate leg.0 good good) = num_reads Rate leg.0 shape.0.0 in
     let later : Closes (flat_map rate_leg_text ls) (SpellsRateLegs ls good good) = rate_legs_read ls shape.1 in
-    let tokens : List Piece = SIGN OPEN_SQUARE ∷ (slope.tokens ++ SIGN COMMA ∷ NUMBER number ∷ SIGN CLOSE_SQUARE ∷ later.tokens) in
+    let tokens : List Piece = OPEN_SQUARE ∷ (slope.tokens ++ COMMA ∷ NUMBER number ∷ CLOSE_SQUARE ∷ later.tokens) in
     let noted = subst (λ (o : Option ℕ). SpellsRateLegs ls (is_some o, true) good later.tokens) (sym (whole_again Steps leg.1 shape.0.1)) later.spelled in
     reads (subst (λ (n : ℕ). SpellsRateLegs ((leg.0, n) ∷ ls) good good tokens) (whole_at_again Steps leg.1 shape.0.1)
     (one_rate_leg number slope.spelled noted))
-    (same_cut (led OPEN_SQUARE 91 refl refl refl (parted comma_ends slope.cut (led COMMA 44 refl refl refl
-    (parted square_ends (whole_cut Steps leg.1 shape.0.1) (led CLOSE_SQUARE 93 refl refl refl (spaced_cut later.cut)))))) (simp append_assoc))
+    (same_cut (led OPEN_SQUARE_SIGN 91 refl refl refl (parted comma_ends slope.cut (led COMMA_SIGN 44 refl refl refl
+    (parted square_ends (whole_cut Steps leg.1 shape.0.1) (led CLOSE_SQUARE_SIGN 93 refl refl refl (spaced_cut later.cut)))))) (simp append_assoc))
 
 pub rates_read : (f : Function) → AreLegs f → Reads (rates_text f) (SpellsRates f good good)
 rates_read f shape =
@@ -119,13 +113,13 @@ move_legs_read (x ∷ xs) (y ∷ ys) x_shape y_shape =
     let number : List ℕ = decimal x.1 in
     let read : Closes (pair_text x.0 y.0) (SpellsPair Rate x.0 y.0 good good) = pair_reads Rate x.0 y.0 x_shape.0.0 y_shape.0.0 in
     let later : Closes (move_legs_text xs ys) (SpellsMoveLegs (both xs ys) good good) = move_legs_read xs ys x_shape.1 y_shape.1 in
-    let tokens : List Piece = SIGN OPEN_SQUARE ∷ (read.tokens ++ SIGN COMMA ∷ NUMBER number ∷ SIGN CLOSE_SQUARE ∷ later.tokens) in
+    let tokens : List Piece = OPEN_SQUARE ∷ (read.tokens ++ COMMA ∷ NUMBER number ∷ CLOSE_SQUARE ∷ later.tokens) in
     let noted = subst (λ (o : Option ℕ). SpellsMoveLegs (both xs ys) (is_some o, true) good later.tokens)
     (sym (whole_again Steps x.1 x_shape.0.1)) later.spelled in
     reads (subst (λ (n : ℕ). SpellsMoveLegs (((x.0, y.0), n) ∷ both xs ys) good good tokens) (whole_at_again Steps x.1 x_shape.0.1)
     (one_move_leg number read.spelled noted))
-    (same_cut (led OPEN_SQUARE 91 refl refl refl (closed_cut read.cut (led COMMA 44 refl refl refl
-    (parted square_ends (whole_cut Steps x.1 x_shape.0.1) (led CLOSE_SQUARE 93 refl refl refl (spaced_cut later.cut)))))) (simp append_assoc))
+    (same_cut (led OPEN_SQUARE_SIGN 91 refl refl refl (closed_cut read.cut (led COMMA_SIGN 44 refl refl refl
+    (parted square_ends (whole_cut Steps x.1 x_shape.0.1) (led CLOSE_SQUARE_SIGN 93 refl refl refl (spaced_cut later.cut)))))) (simp append_assoc))
 
 pub moves_read : (f g : Function) → AreMoves f g → Closes (moves_text f g) (SpellsMoves (f, g) good good)
 moves_read f g shape =
@@ -144,7 +138,7 @@ moves_read f g shape =
 
 -- ---- settings
 
-rate_cut : CutBefore Ends (codes "rate") (KEY RATE_WORD ∷ [])
+rate_cut : CutBefore Ends (codes "rate") (WORD RATE_WORD ∷ [])
 unfolding reserved_words
 rate_cut = key_cut RATE_WORD (codes "rate") refl refl
 
@@ -152,18 +146,15 @@ pub given_reads : (g : Given) → IsPrintableGiven g → Reads (text.given_text 
 unfolding symbols
 given_reads (givens.Num v) shape =
     let r : Reads (fix_text v) (SpellsNum Value v good good) = num_reads Value v shape in
-    reads (given_num r.spelled) (led EQUAL 61 refl refl refl (spaced_cut r.cut))
-given_reads (givens.Text t) shape =
-    let short : is_short t ≡ true = grind (arith, nat_tests, shape.2) in
-    reads (subst (λ (b : Bool). SpellsGiven (givens.Text (if b then t else [])) good (true, b) (SIGN EQUAL ∷ TEXT t ∷ [])) short (given_text {w = t}))
-    (led EQUAL 61 refl refl refl (spaced_cut (text_cut t shape.0 shape.1)))
+    reads (given_num r.spelled) (led EQUAL_SIGN 61 refl refl refl (spaced_cut r.cut))
+given_reads (givens.Text t) shape = reads given_text (led EQUAL_SIGN 61 refl refl refl (spaced_cut (text_cut t shape)))
 given_reads (givens.Rate f) shape =
     let r : Reads (rates_text f) (SpellsRates f good good) = rates_read f shape in
     reads (given_rate r.spelled) (apart_cut rate_cut r.cut)
 given_reads (givens.Both v f) shape =
     let a : Reads (fix_text v) (SpellsNum Value v good good) = num_reads Value v shape.0 in
     let r : Reads (rates_text f) (SpellsRates f good good) = rates_read f shape.1 in
-    reads (given_both a.spelled r.spelled) (led EQUAL 61 refl refl refl (spaced_cut (apart_cut a.cut (apart_cut rate_cut r.cut))))
+    reads (given_both a.spelled r.spelled) (led EQUAL_SIGN 61 refl refl refl (spaced_cut (apart_cut a.cut (apart_cut rate_cut r.cut))))
 
 settings_end : (ss : List NamedSet) (rest : List ℕ) → Ends rest → Ends (settings_text ss ++ rest)
 settings_end [] rest ends = ends
@@ -172,14 +163,10 @@ settings_end (s ∷ ss) rest ends = blank_ends (((s.name ++ (32 ∷ text.given_t
 pub settings_read : (ss : List NamedSet) → AllByRecursion IsSetting ss → Reads (settings_text ss) (SpellsSettings ss good good)
 settings_read [] shape = reads no_settings no_cut
 settings_read (s ∷ ss) shape =
-    let name : List ℕ = s.name in
-    let short : is_short name ≡ true = name_short name shape.0.0 in
     let g : Reads (text.given_text s.given) (SpellsGiven s.given good good) = given_reads s.given shape.0.1 in
     let later : Reads (settings_text ss) (SpellsSettings ss good good) = settings_read ss shape.1 in
-    let noted = subst (λ (b : Bool). SpellsGiven s.given (true, b) good g.tokens) (sym short) g.spelled in
-    reads (subst (λ (b : Bool). SpellsSettings (set_of (if b then name else []) s.given ∷ ss) good good (NAME name ∷ (g.tokens ++ later.tokens))) short
-    (one_setting noted later.spelled))
-    (same_cut (spaced_cut (apart_cut (name_cut name shape.0.0.0) (then_cut g.cut later.cut (settings_end ss)))) (simp append_assoc))
+    reads (one_setting g.spelled later.spelled)
+    (same_cut (spaced_cut (apart_cut (name_cut s.name shape.0.0) (then_cut g.cut later.cut (settings_end ss)))) (simp append_assoc))
 
 -- ---- what a command changes of an object
 
@@ -208,18 +195,9 @@ change_reads p ss shape =
 
 attr_reads : (n : List ℕ) (kind : AttrKind) → IsShortName n → Reads (text.attr_text (n, kind)) (SpellsAttr (n, kind) good good)
 unfolding reserved_words
-attr_reads n attr_kinds.Num shape =
-    reads (subst (λ (b : Bool). SpellsAttr (if b then n else [], attr_kinds.Num) good (true, b) (NAME n ∷ KEY NUM ∷ [])) (name_short n shape)
-    (attr_num {n = n}))
-    (apart_cut (name_cut n shape.0) (key_cut NUM (codes "num") refl refl))
-attr_reads n attr_kinds.Text shape =
-    reads (subst (λ (b : Bool). SpellsAttr (if b then n else [], attr_kinds.Text) good (true, b) (NAME n ∷ KEY TEXT_WORD ∷ [])) (name_short n shape)
-    (attr_text {n = n}))
-    (apart_cut (name_cut n shape.0) (key_cut TEXT_WORD (codes "text") refl refl))
-attr_reads n attr_kinds.Dyn shape =
-    reads (subst (λ (b : Bool). SpellsAttr (if b then n else [], attr_kinds.Dyn) good (true, b) (NAME n ∷ KEY DYN ∷ [])) (name_short n shape)
-    (attr_dyn {n = n}))
-    (apart_cut (name_cut n shape.0) (key_cut DYN (codes "dyn") refl refl))
+attr_reads n attr_kinds.Num shape = reads attr_num (apart_cut (name_cut n shape) (key_cut NUM (codes "num") refl refl))
+attr_reads n attr_kinds.Text shape = reads attr_text (apart_cut (name_cut n shape) (key_cut TEXT_WORD (codes "text") refl refl))
+attr_reads n attr_kinds.Dyn shape = reads attr_dyn (apart_cut (name_cut n shape) (key_cut DYN (codes "dyn") refl refl))
 
 more_attrs_end : (more : List (List ℕ × AttrKind)) (rest : List ℕ) → Ends rest → Ends (flat_map next_attr_text more ++ rest)
 more_attrs_end [] rest ends = ends
@@ -231,7 +209,7 @@ more_attrs_read [] shape = reads no_more_attrs no_cut
 more_attrs_read (a ∷ more) shape =
     let this : Reads (text.attr_text a) (SpellsAttr a good good) = attr_reads a.0 a.1 shape.0 in
     let later : Reads (flat_map next_attr_text more) (SpellsMoreAttrs more good good) = more_attrs_read more shape.1 in
-    reads (one_more_attr this.spelled later.spelled) (led COMMA 44 refl refl refl (then_cut this.cut later.cut (more_attrs_end more)))
+    reads (one_more_attr this.spelled later.spelled) (led COMMA_SIGN 44 refl refl refl (then_cut this.cut later.cut (more_attrs_end more)))
 
 pub attrs_read : (attrs : List (List ℕ × AttrKind)) → AreAttributes attrs → Closes (attrs_text attrs) (SpellsAttrs attrs good good)
 unfolding symbols
@@ -241,9 +219,9 @@ attrs_read (a ∷ more) shape =
     let this : Reads (text.attr_text a) (SpellsAttr a good good) = attr_reads a.0 a.1 shape.each.0 in
     let others : List ℕ = flat_map next_attr_text more in
     let later : Reads others (SpellsMoreAttrs more good good) = more_attrs_read more shape.each.1 in
-    let tokens : List Piece = SIGN OPEN_ROUND ∷ (this.tokens ++ (later.tokens ++ SIGN CLOSE_ROUND ∷ [])) in
+    let tokens : List Piece = OPEN ∷ (this.tokens ++ (later.tokens ++ CLOSE ∷ [])) in
     reads (subst (λ (b : Bool). SpellsAttrs (a ∷ more) good (true, b) tokens) few (some_attrs this.spelled later.spelled))
-    (spaced_cut (led OPEN_ROUND 40 refl refl refl (then_cut this.cut (parted close_ends later.cut (led CLOSE_ROUND 41 refl refl refl no_cut))
+    (spaced_cut (led OPEN_SIGN 40 refl refl refl (then_cut this.cut (parted close_ends later.cut (led CLOSE_SIGN 41 refl refl refl no_cut))
     (λ rest ends. subst Ends (sym (append_assoc others (41 ∷ []) rest)) (more_attrs_end more (41 ∷ rest) (close_ends rest))))))
 
 -- the word `point` or not

@@ -1,18 +1,17 @@
 -- Canonical lines are read back.
-use Rattle.command_text.proofs.Names.{◌≡◌, ℕ, Bool, true, false, ◌||◌, not, List, [], ◌∷◌, ◌++◌, length, map, Option, None, Some, option_map, ℤ, pos, negsuc, refl, sym, ap, ap₂, subst, ◌∙◌, arith, inl, inr, eqb-true, ◌==◌, is_some, unwrap_or, if◌then◌else◌, list_any, decimal, cases_Bool, and_parts, or_parts, nat_tests, symbols, fix_text, Point, Function, NamedSet, Lexeme, cut, is_word, is_blank, token_at, bad_place, lexemes, Part, Verb, Name, Quoted, Whole, Error, Num, PointWord, Attrs, Points, Change, Parts, Blank, Last, Asking, ◌▸◌, parts, Piece, NAME, NUMBER, TEXT, piece_of, pieces, are_few_vertices, CommandTree, Notes, good, SpellsPart, part_verb, part_name, part_text, part_whole, part_error, part_num, part_point_word, part_attrs, part_points, part_change, SpellsParts, no_parts, last_part, last_query, part_before, SpellsCommand, by_parts, Reader, before, command_of, is_ascii, is_comment, has_other_byte, is_too_long, late_refusal, IsBegun, IsWhole, at_text, moving_text, settings_text, parts_text, text_of, IsAscii, IsShortText, AreVertices, IsPart, AreParts, IsPrintable, PrintsLines, ReadsWhatIsPrinted}
+use Rattle.command_text.proofs.Names.{◌≡◌, ℕ, Bool, true, false, ◌||◌, not, List, [], ◌∷◌, ◌++◌, length, map, Option, None, Some, option_map, ℤ, pos, negsuc, refl, sym, ap, ap₂, subst, ◌∙◌, arith, inl, inr, eqb-true, ◌==◌, is_some, unwrap_or, list_any, decimal, cases_Bool, and_parts, or_parts, nat_tests, symbols, fix_text, Point, Function, NamedSet, Lexeme, cut, is_word, is_blank, token_at, bad_place, lexemes, Part, Verb, Name, Quoted, Whole, Error, Num, PointWord, Attrs, Points, Change, Parts, Blank, Last, Asking, ◌▸◌, parts, Piece, NUMBER, piece_of, pieces, are_few_vertices, CommandTree, Notes, good, SpellsPart, part_verb, part_name, part_text, part_whole, part_error, part_num, part_point_word, part_attrs, part_points, part_change, SpellsParts, no_parts, last_part, last_query, part_before, SpellsCommand, by_parts, Reader, before, command_of, is_ascii, is_comment, has_other_byte, is_too_long, late_refusal, IsBegun, IsWhole, at_text, moving_text, settings_text, parts_text, text_of, IsAscii, AreVertices, IsPart, AreParts, IsPrintable, PrintsLines, ReadsWhatIsPrinted, at_first, first_notes, has_long, has_short_words, leb, leb-true, ◌≤◌}
 use Rattle.std.proofs.Common.{drop}
 use Rattle.ftl_lexer.proofs.Cuts.{lexemes_from_cut}
 use Rattle.ftl_lexer.proofs.Steps.{none_is_some}
-use Rattle.ftl_parser.proofs.canonical.TextTokens.{Ends, nothing_ends, blank_ends, nothing_is_cut, blank_first, behind_blank, narrowed, spaced_cut, reads, read_last}
+use Rattle.ftl_parser.proofs.canonical.TextTokens.{Ends, few_is, nothing_ends, blank_ends, nothing_is_cut, blank_first, behind_blank, narrowed, spaced_cut, reads, read_last}
 use Rattle.ftl_parser.proofs.canonical.TextValues.{fix_is_number}
-use Rattle.command_text.specs.Sizes.{is_short}
 use Rattle.command_text.specs.Text as text
 use Rattle.command_text.proofs.grammar.SpelledCommands.{command_spelled}
 use Rattle.command_text.proofs.reader.LineLemmas.{cut_begun, other_read}
 use Rattle.command_text.proofs.canonical.TextNumbers.{whole_again, radius_again}
 use Rattle.command_text.proofs.canonical.TextAscii.{cut_ascii}
 use Rattle.command_text.proofs.canonical.TextCuts.{IsCut, Reads, word_cut, name_cut, number_cut, text_cut}
-use Rattle.command_text.proofs.canonical.TextParts.{name_short, whole_cut, num_reads, points_read, change_reads, attrs_read, point_word_reads}
+use Rattle.command_text.proofs.canonical.TextParts.{whole_cut, num_reads, points_read, change_reads, attrs_read, point_word_reads}
 use Rattle.command_text.proofs.canonical.TextTails.{Tail, tail_cut}
 
 -- ---- what stands after a part
@@ -65,9 +64,6 @@ parts_apart (p ▸ ps) = both_apart (part_apart p) (parts_apart ps)
 
 -- ---- parts
 
-text_short : (t : List ℕ) → IsShortText t → is_short t ≡ true
-text_short t shape = grind (arith, nat_tests, shape.2)
-
 error_reads : (e : ℤ) → IsPart (Error e) → Reads (fix_text e) (SpellsPart (Error e) good good)
 error_reads (pos n) within =
     let size : List ℕ = fix_text (pos n) in
@@ -87,14 +83,11 @@ vertices_read (p ∷ q ∷ r ∷ ps) shape =
 
 part_reads : (p : Part) → IsPart p → Reads (text.part_text p) (SpellsPart p good good)
 part_reads (Verb w) is =
-    let word : is_word w ≡ true = (and_parts (is_word w) _ is).0 in
-    reads (part_verb is) (spaced_cut (word_cut w word))
-part_reads (Name n) is =
-    reads (subst (λ (b : Bool). SpellsPart (Name (if b then n else [])) good (true, b) (NAME n ∷ [])) (name_short n is) (part_name {n = n}))
-    (spaced_cut (name_cut n is.0))
-part_reads (Quoted t) is =
-    reads (subst (λ (b : Bool). SpellsPart (Quoted (if b then t else [])) good (true, b) (TEXT t ∷ [])) (text_short t is) (part_text {w = t}))
-    (spaced_cut (text_cut t is.0 is.1))
+    let parts = and_parts (is_word w) _ is in
+    let few : length w ≤ 7 = leb-true (length w) 7 (and_parts (leb (length w) 7) _ parts.1).0 in
+    reads (part_verb is) (spaced_cut (word_cut w parts.0 (few_is w (omega (arith, few)))))
+part_reads (Name n) is = reads part_name (spaced_cut (name_cut n is))
+part_reads (Quoted t) is = reads part_text (spaced_cut (text_cut t is))
 part_reads (Whole place n) is =
     reads (subst (λ (o : Option ℕ). SpellsPart (Whole place (unwrap_or o 0)) good (is_some o, true) (NUMBER (decimal n) ∷ [])) (whole_again place n is)
     (part_whole {n = decimal n}))
@@ -135,7 +128,7 @@ parts_cut (p ▸ ps) are =
 -- the canonical line is cut into tokens that spell the command
 record CommandCut (c : CommandTree) : Type 0 where
   tokens : List Piece
-  spelled : SpellsCommand c good tokens
+  spelled : SpellsCommand c good good tokens
   is_cut : IsCut (text_of c) tokens
 
 without_blank : {bytes : List ℕ} (tokens : List Piece) → IsApart bytes → IsCut bytes tokens → IsCut (drop 1 bytes) tokens
@@ -172,9 +165,9 @@ no_comment bytes tokens is =
       | inr other ↦ other
     ]
 
-whole_command : (c : CommandTree) (xs : List Piece) → SpellsCommand c good xs → IsWhole (command_of xs) c
-whole_command c xs spelled =
-    let read : command_of xs ≡ Some (c, before [] good) = command_spelled spelled in
+whole_command : (c : CommandTree) (line : List ℕ) → SpellsCommand c (first_notes line) good (pieces line) → IsWhole (command_of (at_first line)) c
+whole_command c line spelled =
+    let read : command_of (at_first line) ≡ Some (c, before [] good) = command_spelled spelled in
     record { taken = ap late_refusal read; command = ap (option_map (λ (r : CommandTree × Reader). r.0)) read }
 
 line_ascii : (c : CommandTree) (r : CommandCut c) → IsAscii (text_of c)
@@ -189,7 +182,10 @@ reads_what_is_printed limit c shape fits =
     let short : is_too_long limit line ≡ false = grind (arith, nat_tests, fits) in
     let other : is_comment line ≡ false = no_comment line r.is_cut.lexed r.is_cut.cut_is in
     let begun : IsBegun limit line line false = cut_begun limit line line short (line_ascii c r) other refl found.0 in
-    other_read limit line line false c begun refl (whole_command c (pieces line) (subst (SpellsCommand c good) tokens r.spelled))
+    let words : has_short_words line ≡ true = ap (λ ts. not (has_long ts)) found.1 ∙ ap not r.is_cut.short in
+    let spelled : SpellsCommand c (first_notes line) good (pieces line) =
+    subst (λ (b : Bool). SpellsCommand c (true, b) good (pieces line)) (sym words) (subst (SpellsCommand c good good) tokens r.spelled) in
+    other_read limit line line false c begun refl (whole_command c line spelled)
 
 -- ---- and have no line feed
 

@@ -1,9 +1,9 @@
 -- What a part's reader reads, the part's rule derives from the tokens that the reader took. Parts that have no rule of their own have one here.
-use Rattle.command_text.proofs.Names.{◌≡◌, ℕ, ℤ, zero, suc, Bool, true, false, List, [], ◌∷◌, ◌++◌, length, map, Option, Some, None, option_map, refl, sym, ◌∙◌, ap, subst, append_assoc, append-nil, eqb-true, arith, ◌<◌, length-append, if◌then◌else◌, ◌==◌, is_some, is_none, nat_le, option_map_or, ◌>>=◌, AT, MOVE, RATE, POINT_WORD, NUM, TEXT_WORD, DYN, OPEN_ROUND, CLOSE_ROUND, OPEN_SQUARE, CLOSE_SQUARE, COMMA, MINUS, EQUAL, Point, Function, AttrKind, Given, NamedSet, Place, QueryTree, Name, Quoted, Whole, Error, PointWord, Points, Asking, Piece, KEY, SIGN, NAME, NUMBER, TEXT, is_key, is_sign, is_name, is_text, in_query, has_long, WholePlace, Steps, whole_in, radius_in, SignedPlace, Value, Rate, signed_in, short_word, are_few_legs, function_of, are_few_attributes, are_few_vertices, query_of, is_query_fit, is_query_small, Notes, and_number, and_size, whole_at, radius_at, signed_at, point_of, set_of, place_of, legs_of_x, legs_of_y, SpellsNum, num_plain, num_minus, SpellsPair, SpellsAttr, attr_num, attr_text, attr_dyn, SpellsMoreAttrs, no_more_attrs, one_more_attr, SpellsAttrs, no_attrs, SpellsPoints, no_points, one_point, SpellsRateLegs, no_rate_legs, one_rate_leg, SpellsRates, SpellsMoveLegs, no_move_legs, one_move_leg, SpellsMoves, SpellsGiven, given_num, SpellsSettings, no_settings, one_setting, SpellsAt, not_at, SpellsMoving, not_moving, SpellsChange, change, no_point_word, SpellsTail, SpellsPart, part_name, part_text, part_whole, part_error, part_point_word, part_points, SpellsParts, last_query, Reader, Read, notes, before, next, begins, key, sign, name_in, number_in, text_in, name, text, number, whole, radius, minus, signed_number, num, point, many, all, kind_in, attr, next_attr, first_attr, attrs, points, rate_leg, move_leg, rate, given_value, given_equal, given, setting, settings, some_moves, place, query, noting_fit, noting_small, first_unfit}
+use Rattle.command_text.proofs.Names.{◌≡◌, ℕ, ℤ, zero, suc, Bool, true, false, List, [], ◌∷◌, ◌++◌, length, Option, Some, None, option_map, refl, sym, ◌∙◌, ap, subst, append_assoc, append-nil, eqb-true, arith, ◌<◌, length-append, if◌then◌else◌, ◌==◌, is_some, is_none, nat_le, option_map_or, ◌>>=◌, AT, MOVE, RATE, POINT_WORD, NUM, TEXT_WORD, DYN, OPEN_SQUARE, CLOSE_SQUARE, COMMA, MINUS, Point, Function, AttrKind, Given, NamedSet, Place, QueryTree, Name, Quoted, Whole, Error, PointWord, Points, Asking, Piece, NAME, NUMBER, TEXT, is_key, is_sign, is_name, is_text, WholePlace, Steps, whole_in, radius_in, SignedPlace, Value, Rate, signed_in, are_few_legs, function_of, are_few_attributes, are_few_vertices, query_of, is_query_fit, is_query_small, Notes, and_number, and_size, whole_at, radius_at, signed_at, point_of, set_of, place_of, legs_of_x, legs_of_y, SpellsNum, num_plain, num_minus, SpellsPair, SpellsAttr, attr_num, attr_text, attr_dyn, SpellsMoreAttrs, no_more_attrs, one_more_attr, SpellsAttrs, no_attrs, SpellsPoints, no_points, one_point, SpellsRateLegs, no_rate_legs, one_rate_leg, SpellsRates, SpellsMoveLegs, no_move_legs, one_move_leg, SpellsMoves, SpellsGiven, given_num, SpellsSettings, no_settings, one_setting, SpellsAt, not_at, SpellsMoving, not_moving, SpellsChange, change, no_point_word, SpellsPart, part_name, part_text, part_whole, part_error, part_point_word, part_points, SpellsParts, last_query, Reader, Read, notes, before, next, begins, key, sign, name_in, number_in, text_in, name, text, number, whole, radius, minus, signed_number, num, point, many, all, kind_in, attr, next_attr, first_attr, attrs, points, rate_leg, move_leg, rate, given_value, given_equal, given, setting, settings, some_moves, place, query, noting_fit, noting_small, first_unfit, ARROW, CLOSE, COMMA_SIGN, COMPARISON, MINUS_SIGN, OPEN, OPEN_SIGN, OPEN_SQUARE_SIGN, PLUS, POINT, STAR, SpellsQuery, WORD, inl, inr, sign_code, signs, slice_get, ◌⊎◌}
+use Rattle.case_table.specs.declared.compare.Op.TheVariants as ops
 use Rattle.motion.specs.declared.cell.AttrKind.TheVariants as attr_kinds
 use Rattle.motion.specs.declared.cell.Given.TheVariants as givens
 use Rattle.ftl_parser.proofs.grammar.Found.{found_query}
-use Rattle.command_text.specs.Sizes.{is_short}
 use Rattle.command_text.specs.Grammar
 use Rattle.command_text.specs.inner.Reading.{pair, some_attrs, rates, moves, given_both, given_text, given_rate, at, moving, point_word}
 use Rattle.command_text.proofs.grammar.Shorter.{bind_some, passed, Shortens}
@@ -86,12 +86,36 @@ map_first f (Some x) rest e k = k x refl e
 pub took_this : {tokens left : List Piece} (p q : Piece) → p ≡ q → Split tokens (p ∷ []) left → Split tokens (q ∷ []) left
 took_this {tokens = tokens} {left = left} p q e split = subst (λ p. Split tokens (p ∷ []) left) e split
 
-the_sign : (code : ℕ) (p : Piece) → is_sign code p ≡ true → p ≡ SIGN code
-the_sign code (SIGN k) e = ap SIGN (eqb-true k code e)
-the_sign code p e = absurd (cc)
+-- a symbol by its code
+by_sign_code : (p : Piece) → (sign_code p ≡ 16) ⊎ (slice_get signs (sign_code p) ≡ Some p)
+by_sign_code OPEN = inr refl
+by_sign_code CLOSE = inr refl
+by_sign_code OPEN_SQUARE = inr refl
+by_sign_code CLOSE_SQUARE = inr refl
+by_sign_code COMMA = inr refl
+by_sign_code POINT = inr refl
+by_sign_code PLUS = inr refl
+by_sign_code MINUS = inr refl
+by_sign_code STAR = inr refl
+by_sign_code (COMPARISON ops.Eq) = inr refl
+by_sign_code (COMPARISON ops.Ne) = inr refl
+by_sign_code (COMPARISON ops.Le) = inr refl
+by_sign_code (COMPARISON ops.Ge) = inr refl
+by_sign_code (COMPARISON ops.Lt) = inr refl
+by_sign_code (COMPARISON ops.Gt) = inr refl
+by_sign_code ARROW = inr refl
+by_sign_code p = inl refl
 
-the_key : (code : ℕ) (p : Piece) → is_key code p ≡ true → p ≡ KEY code
-the_key code (KEY k) e = ap KEY (eqb-true k code e)
+the_sign : (q : Piece) → slice_get signs (sign_code q) ≡ Some q → (p : Piece) → is_sign (sign_code q) p ≡ true → p ≡ q
+the_sign q found p e =
+    let same : sign_code p ≡ sign_code q = eqb-true (sign_code p) (sign_code q) e in
+    elim (by_sign_code p) [
+      | inl none ↦ let past : slice_get signs 16 ≡ Some q = subst (λ (n : ℕ). slice_get signs n ≡ Some q) (sym same ∙ none) found in absurd (cc)
+      | inr at ↦ let both : Some p ≡ Some q = sym at ∙ ap (slice_get signs) same ∙ found in cc
+    ]
+
+the_key : (code : ℕ) (p : Piece) → is_key code p ≡ true → p ≡ WORD code
+the_key code (WORD k) e = ap WORD (eqb-true k code e)
 the_key code p e = absurd (cc)
 
 the_name : (p : Piece) (n : List ℕ) → name_in p ≡ Some n → p ≡ NAME n
@@ -128,15 +152,15 @@ tested_by {P = P} test q only (p ∷ ps) m rest {y = y} e k = by (test p) refl e
     by true h e = k ps (record { is = ap (λ p. p ∷ ps) (only p h) }) e
     by false h e = absurd (cc)
 
-pub sign_first : {B P : Type 0} (code : ℕ) (s : Reader) (rest : Reader → Option B) {y : B} → (sign code s >>= rest) ≡ Some y →
-    ((left : List Piece) → Split s.rest (SIGN code ∷ []) left → rest (before left (notes s)) ≡ Some y → P) → P
+pub sign_first : {B P : Type 0} (q : Piece) → slice_get signs (sign_code q) ≡ Some q → (s : Reader) (rest : Reader → Option B) {y : B}
+    → (sign (sign_code q) s >>= rest) ≡ Some y → ((left : List Piece) → Split s.rest (q ∷ []) left → rest (before left (notes s)) ≡ Some y → P) → P
 unfolding sign
-sign_first code s rest e k = tested_by (is_sign code) (SIGN code) (the_sign code) s.rest (notes s) rest e k
+sign_first q found s rest e k = tested_by (is_sign (sign_code q)) q (the_sign q found) s.rest (notes s) rest e k
 
 pub key_first : {B P : Type 0} (code : ℕ) (s : Reader) (rest : Reader → Option B) {y : B} → (key code s >>= rest) ≡ Some y →
-    ((left : List Piece) → Split s.rest (KEY code ∷ []) left → rest (before left (notes s)) ≡ Some y → P) → P
+    ((left : List Piece) → Split s.rest (WORD code ∷ []) left → rest (before left (notes s)) ≡ Some y → P) → P
 unfolding key
-key_first code s rest e k = tested_by (is_key code) (KEY code) (the_key code) s.rest (notes s) rest e k
+key_first code s rest e k = tested_by (is_key code) (WORD code) (the_key code) s.rest (notes s) rest e k
 
 -- after such a token the reader stands before the others
 same_place : {m : Notes} {ps : List Piece} {t : Reader} → ◌≡◌ {A = Option Reader} (Some (before ps m)) (Some t) → before ps m ≡ t
@@ -161,11 +185,11 @@ pub data SpellsDigits : List ℕ → Notes → Notes → List Piece → Type 0 w
 
 pub data SpellsMinus : Bool → Notes → Notes → List Piece → Type 0 where
   no_minus : {s : Notes} → SpellsMinus false s s []
-  a_minus : {s : Notes} → SpellsMinus true s s (SIGN MINUS ∷ [])
+  a_minus : {s : Notes} → SpellsMinus true s s (MINUS ∷ [])
 
 pub data SpellsSigned : Bool × List ℕ → Notes → Notes → List Piece → Type 0 where
   unsigned : {n : List ℕ} {s : Notes} → SpellsSigned (false, n) s s (NUMBER n ∷ [])
-  negative : {n : List ℕ} {s : Notes} → SpellsSigned (true, n) s s (SIGN MINUS ∷ NUMBER n ∷ [])
+  negative : {n : List ℕ} {s : Notes} → SpellsSigned (true, n) s s (MINUS ∷ NUMBER n ∷ [])
 
 pub name_follows : Follows name SpellsName
 unfolding name
@@ -173,7 +197,7 @@ name_follows =
     follows λ s t x e.
     next_first s _ e λ p left token e.
     option_first (name_in p) _ e λ n same e.
-    ends SpellsName (short_word n) x (noting_small (is_short n) (before left (notes s))) t e (took_this p (NAME n) (the_name p n same) token) part_name
+    ends SpellsName n x (before left (notes s)) t e (took_this p (NAME n) (the_name p n same) token) part_name
 
 pub text_follows : Follows text SpellsText
 unfolding text
@@ -181,7 +205,7 @@ text_follows =
     follows λ s t x e.
     next_first s _ e λ p left token e.
     option_first (text_in p) _ e λ n same e.
-    ends SpellsText (short_word n) x (noting_small (is_short n) (before left (notes s))) t e (took_this p (TEXT n) (the_text p n same) token) part_text
+    ends SpellsText n x (before left (notes s)) t e (took_this p (TEXT n) (the_text p n same) token) part_text
 
 pub number_follows : Follows number SpellsDigits
 unfolding number
@@ -212,17 +236,17 @@ radius_follows =
     part_first number_follows s _ e λ n s1 d e.
     ends SpellsError (radius_at n) x (noting_fit (is_some (radius_in n)) s1) t e d.split (radius_by d.spelled)
 
-minus_of_sign : (s : Reader) (o : Option Reader) → sign MINUS s ≡ o →
+minus_of_sign : (s : Reader) (o : Option Reader) → sign MINUS_SIGN s ≡ o →
     Derived SpellsMinus (option_map_or {U = Bool × Reader} (λ behind. (true, behind)) o (false, s)).0 s
     (option_map_or {U = Bool × Reader} (λ behind. (true, behind)) o (false, s)).1
 minus_of_sign s None e = record { taken = []; split = took_none s.rest; spelled = no_minus }
 minus_of_sign s (Some behind) e =
-    sign_first MINUS s Some (ap (λ o. o >>= Some) e) λ left token e.
-    subst (Derived SpellsMinus true s) (same_place e) (record { taken = SIGN MINUS ∷ []; split = token; spelled = a_minus })
+    sign_first MINUS refl s Some (ap (λ o. o >>= Some) e) λ left token e.
+    subst (Derived SpellsMinus true s) (same_place e) (record { taken = MINUS ∷ []; split = token; spelled = a_minus })
 
 minus_follows : (s : Reader) → Derived SpellsMinus (minus s).0 s (minus s).1
 unfolding minus
-minus_follows s = minus_of_sign s (sign MINUS s) refl
+minus_follows s = minus_of_sign s (sign MINUS_SIGN s) refl
 
 signed_by : {b : Bool} {xs : List Piece} {n : List ℕ} {ys : List Piece} {s t u : Notes} → SpellsMinus b s t xs → SpellsDigits n t u ys
     → SpellsSigned (b, n) s u (xs ++ ys)
@@ -258,11 +282,11 @@ pub pair_follows : (place : SignedPlace) → Follows (pair place) (SpellsBoth pl
 unfolding pair
 pair_follows place =
     follows λ s t x e.
-    sign_first OPEN_ROUND s _ e λ l1 opened e.
+    sign_first OPEN refl s _ e λ l1 opened e.
     part_first (num_follows place) (before l1 (notes s)) _ e λ a s2 first e.
-    sign_first COMMA s2 _ e λ l3 comma e.
+    sign_first COMMA refl s2 _ e λ l3 comma e.
     part_first (num_follows place) (before l3 (notes s2)) _ e λ b s4 second e.
-    sign_first CLOSE_ROUND s4 _ e λ l5 closed e.
+    sign_first CLOSE refl s4 _ e λ l5 closed e.
     ends (SpellsBoth place) (a, b) x (before l5 (notes s4)) t e (took_both opened (took_both first.split (took_both comma (took_both second.split closed))))
     (Grammar.pair first.spelled second.spelled)
 
@@ -316,20 +340,20 @@ all_follow more none one = follows λ s t x e. many_follow more none one (length
 -- ---- Attributes
 
 data SpellsKind : AttrKind → List Piece → Type 0 where
-  kind_num : SpellsKind attr_kinds.Num (KEY NUM ∷ [])
-  kind_text : SpellsKind attr_kinds.Text (KEY TEXT_WORD ∷ [])
-  kind_dyn : SpellsKind attr_kinds.Dyn (KEY DYN ∷ [])
+  kind_num : SpellsKind attr_kinds.Num (WORD NUM ∷ [])
+  kind_text : SpellsKind attr_kinds.Text (WORD TEXT_WORD ∷ [])
+  kind_dyn : SpellsKind attr_kinds.Dyn (WORD DYN ∷ [])
 
-kind_by : (k code : ℕ) (kind x : AttrKind) (o : Option AttrKind) → SpellsKind kind (KEY code ∷ []) → (o ≡ Some x → SpellsKind x (KEY k ∷ [])) →
-    (b : Bool) → (k == code) ≡ b → (if b then Some kind else o) ≡ Some x → SpellsKind x (KEY k ∷ [])
+kind_by : (k code : ℕ) (kind x : AttrKind) (o : Option AttrKind) → SpellsKind kind (WORD code ∷ []) → (o ≡ Some x → SpellsKind x (WORD k ∷ [])) →
+    (b : Bool) → (k == code) ≡ b → (if b then Some kind else o) ≡ Some x → SpellsKind x (WORD k ∷ [])
 kind_by k code kind x o d f true h e =
     let same : kind ≡ x = cc in
     let this : code ≡ k = sym (eqb-true k code h) in
-    subst (λ x. SpellsKind x (KEY k ∷ [])) same (subst (λ k. SpellsKind kind (KEY k ∷ [])) this d)
+    subst (λ x. SpellsKind x (WORD k ∷ [])) same (subst (λ k. SpellsKind kind (WORD k ∷ [])) this d)
 kind_by k code kind x o d f false h e = f e
 
 the_kind : (p : Piece) (x : AttrKind) → kind_in p ≡ Some x → SpellsKind x (p ∷ [])
-the_kind (KEY k) x e =
+the_kind (WORD k) x e =
     kind_by k NUM attr_kinds.Num x (if k == TEXT_WORD then Some attr_kinds.Text else (if k == DYN then Some attr_kinds.Dyn else None)) kind_num
     (λ e. kind_by k TEXT_WORD attr_kinds.Text x (if k == DYN then Some attr_kinds.Dyn else None) kind_text
     (λ e. kind_by k DYN attr_kinds.Dyn x None kind_dyn (λ e. absurd (cc)) (k == DYN) refl e)
@@ -355,28 +379,28 @@ next_attr_follows : Follows next_attr (Starts SpellsMoreAttrs)
 unfolding next_attr
 next_attr_follows =
     follows λ s t x e.
-    sign_first COMMA s _ e λ l1 comma e.
+    sign_first COMMA refl s _ e λ l1 comma e.
     let d = attr_follows.derived (before l1 (notes s)) t x e in
-    let starts : Starts SpellsMoreAttrs x (notes s) (notes t) (SIGN COMMA ∷ d.taken) =
-    record { ahead = λ more u ys rest. one_more_attr d.spelled rest; some = some_tokens (SIGN COMMA) d.taken } in
-    record { taken = SIGN COMMA ∷ d.taken; split = took_both comma d.split; spelled = starts }
+    let starts : Starts SpellsMoreAttrs x (notes s) (notes t) (COMMA ∷ d.taken) =
+    record { ahead = λ more u ys rest. one_more_attr d.spelled rest; some = some_tokens (COMMA) d.taken } in
+    record { taken = COMMA ∷ d.taken; split = took_both comma d.split; spelled = starts }
 
 pub next_attr_shortens : Shortens next_attr
 next_attr_shortens = shortens next_attr SpellsMoreAttrs next_attr_follows
 
 data SpellsFirstAttr : List ℕ × AttrKind → Notes → Notes → List Piece → Type 0 where
-  first : {a : List ℕ × AttrKind} {xs : List Piece} {s t : Notes} → SpellsAttr a s t xs → SpellsFirstAttr a s t (SIGN OPEN_ROUND ∷ xs)
+  first : {a : List ℕ × AttrKind} {xs : List Piece} {s t : Notes} → SpellsAttr a s t xs → SpellsFirstAttr a s t (OPEN ∷ xs)
 
 first_attr_follows : Follows first_attr SpellsFirstAttr
 unfolding first_attr
 first_attr_follows =
     follows λ s t x e.
-    sign_first OPEN_ROUND s _ e λ l1 opened e.
+    sign_first OPEN refl s _ e λ l1 opened e.
     let d = attr_follows.derived (before l1 (notes s)) t x e in
-    record { taken = SIGN OPEN_ROUND ∷ d.taken; split = took_both opened d.split; spelled = first d.spelled }
+    record { taken = OPEN ∷ d.taken; split = took_both opened d.split; spelled = first d.spelled }
 
 attrs_by : {a : List ℕ × AttrKind} {more : List (List ℕ × AttrKind)} {xs ys : List Piece} {s t u : Notes} → SpellsFirstAttr a s t xs
-    → SpellsMoreAttrs more t u ys → SpellsAttrs (a ∷ more) s (and_size u (are_few_attributes (length (a ∷ more)))) (xs ++ (ys ++ SIGN CLOSE_ROUND ∷ []))
+    → SpellsMoreAttrs more t u ys → SpellsAttrs (a ∷ more) s (and_size u (are_few_attributes (length (a ∷ more)))) (xs ++ (ys ++ CLOSE ∷ []))
 attrs_by (first d) e = Grammar.some_attrs d e
 
 some_attrs_follow : Follows some_attrs SpellsAttrs
@@ -384,9 +408,9 @@ unfolding some_attrs
 some_attrs_follow =
     follows λ s t x e.
     part_first first_attr_follows s _ e λ a s1 one e.
-    map_first (λ r. (a ∷ r.0, r.1)) (all (begins (is_sign COMMA)) next_attr s1) _ e λ more h e.
-    let others = (all_follow (begins (is_sign COMMA)) (λ m. no_more_attrs) next_attr_follows).derived s1 more.1 more.0 h in
-    sign_first CLOSE_ROUND more.1 _ e λ l2 closed e.
+    map_first (λ r. (a ∷ r.0, r.1)) (all (begins (is_sign COMMA_SIGN)) next_attr s1) _ e λ more h e.
+    let others = (all_follow (begins (is_sign COMMA_SIGN)) (λ m. no_more_attrs) next_attr_follows).derived s1 more.1 more.0 h in
+    sign_first CLOSE refl more.1 _ e λ l2 closed e.
     ends SpellsAttrs (a ∷ more.0) x (noting_small (are_few_attributes (length (a ∷ more.0))) (before l2 (notes more.1))) t e
     (took_both one.split (took_both others.split closed)) (attrs_by one.spelled others.spelled)
 
@@ -394,7 +418,7 @@ pub attrs_follow : Follows attrs SpellsAttrs
 unfolding attrs
 attrs_follow =
     follows λ s t x e.
-    either_way (begins (is_sign OPEN_ROUND) s) _ _ e
+    either_way (begins (is_sign OPEN_SIGN) s) _ _ e
     (λ e. some_attrs_follow.derived s t x e)
     (λ e. ends SpellsAttrs [] x s t e (took_none s.rest) no_attrs)
 
@@ -403,7 +427,7 @@ attrs_follow =
 starts_points : {p : Point} {s t : Notes} {xs : List Piece} → SpellsPoint p s t xs → Starts SpellsPoints p s t xs
 starts_points (a_point (Grammar.pair {xs = xs} {ys = ys} d e)) = record {
   ahead = λ more u zs rest. one_point (Grammar.pair d e) rest;
-  some = some_tokens (SIGN OPEN_ROUND) (xs ++ SIGN COMMA ∷ (ys ++ SIGN CLOSE_ROUND ∷ []));
+  some = some_tokens (OPEN) (xs ++ COMMA ∷ (ys ++ CLOSE ∷ []));
 }
 
 one_point_follows : Follows point (Starts SpellsPoints)
@@ -427,7 +451,7 @@ pub points_follow : Follows points SpellsVertices
 unfolding points
 points_follow =
     follows λ s t x e.
-    part_first (all_follow (begins (is_sign OPEN_ROUND)) (λ m. no_points) one_point_follows) s _ e λ ps s1 d e.
+    part_first (all_follow (begins (is_sign OPEN_SIGN)) (λ m. no_points) one_point_follows) s _ e λ ps s1 d e.
     let there : List Point × Reader = (ps, noting_small (are_few_vertices (length ps)) s1) in
     let many : nat_le 3 (length ps) ≡ true = held (nat_le 3 (length ps)) there (x, t) e in
     let same : there ≡ (x, t) = passed (nat_le 3 (length ps)) there (x, t) e in
@@ -436,23 +460,23 @@ points_follow =
 -- ---- Legs
 
 rate_leg_by : {a : ℤ} {k : ℕ} {s t u : Notes} {xs ys : List Piece} → SpellsNum Rate a s t xs → SpellsWhole Steps k t u ys →
-    Starts SpellsRateLegs (a, k) s u (SIGN OPEN_SQUARE ∷ (xs ++ SIGN COMMA ∷ (ys ++ SIGN CLOSE_SQUARE ∷ [])))
+    Starts SpellsRateLegs (a, k) s u (OPEN_SQUARE ∷ (xs ++ COMMA ∷ (ys ++ CLOSE_SQUARE ∷ [])))
 rate_leg_by {a = a} {s = s} {xs = xs} d (part_whole {n = n}) = record {
   ahead = λ more u zs rest.
-      subst (λ ps. SpellsRateLegs ((a, whole_at Steps n) ∷ more) s u (SIGN OPEN_SQUARE ∷ ps))
-      (sym (append_assoc xs (SIGN COMMA ∷ NUMBER n ∷ SIGN CLOSE_SQUARE ∷ []) zs)) (one_rate_leg n d rest);
-  some = some_tokens (SIGN OPEN_SQUARE) (xs ++ SIGN COMMA ∷ NUMBER n ∷ SIGN CLOSE_SQUARE ∷ []);
+      subst (λ ps. SpellsRateLegs ((a, whole_at Steps n) ∷ more) s u (OPEN_SQUARE ∷ ps))
+      (sym (append_assoc xs (COMMA ∷ NUMBER n ∷ CLOSE_SQUARE ∷ []) zs)) (one_rate_leg n d rest);
+  some = some_tokens (OPEN_SQUARE) (xs ++ COMMA ∷ NUMBER n ∷ CLOSE_SQUARE ∷ []);
 }
 
 rate_leg_follows : Follows rate_leg (Starts SpellsRateLegs)
 unfolding rate_leg
 rate_leg_follows =
     follows λ s t x e.
-    sign_first OPEN_SQUARE s _ e λ l1 opened e.
+    sign_first OPEN_SQUARE refl s _ e λ l1 opened e.
     part_first (num_follows Rate) (before l1 (notes s)) _ e λ a s2 slope e.
-    sign_first COMMA s2 _ e λ l3 comma e.
+    sign_first COMMA refl s2 _ e λ l3 comma e.
     part_first (whole_follows Steps) (before l3 (notes s2)) _ e λ k s4 ticks e.
-    sign_first CLOSE_SQUARE s4 _ e λ l5 closed e.
+    sign_first CLOSE_SQUARE refl s4 _ e λ l5 closed e.
     ends (Starts SpellsRateLegs) (a, k) x (before l5 (notes s4)) t e (took_both opened
     (took_both slope.split (took_both comma (took_both ticks.split closed)))) (rate_leg_by slope.spelled ticks.spelled)
 
@@ -463,29 +487,29 @@ rates_follow : Follows rates SpellsRates
 unfolding rates
 rates_follow =
     follows λ s t x e.
-    part_first (all_follow (begins (is_sign OPEN_SQUARE)) (λ m. no_rate_legs) rate_leg_follows) s _ e λ ls s1 legs e.
+    part_first (all_follow (begins (is_sign OPEN_SQUARE_SIGN)) (λ m. no_rate_legs) rate_leg_follows) s _ e λ ls s1 legs e.
     part_first (num_follows Rate) s1 _ e λ a s2 last e.
     ends SpellsRates (function_of ls a) x (noting_small (are_few_legs (length ls)) s2) t e (took_both legs.split last.split)
     (Grammar.rates legs.spelled last.spelled)
 
 move_leg_by : {p : ℤ × ℤ} {k : ℕ} {s t u : Notes} {xs ys : List Piece} → SpellsPair Rate p.0 p.1 s t xs → SpellsWhole Steps k t u ys →
-    Starts SpellsMoveLegs (p, k) s u (SIGN OPEN_SQUARE ∷ (xs ++ SIGN COMMA ∷ (ys ++ SIGN CLOSE_SQUARE ∷ [])))
+    Starts SpellsMoveLegs (p, k) s u (OPEN_SQUARE ∷ (xs ++ COMMA ∷ (ys ++ CLOSE_SQUARE ∷ [])))
 move_leg_by {p = p} {s = s} {xs = xs} d (part_whole {n = n}) = record {
   ahead = λ more u zs rest.
-      subst (λ ps. SpellsMoveLegs ((p, whole_at Steps n) ∷ more) s u (SIGN OPEN_SQUARE ∷ ps))
-      (sym (append_assoc xs (SIGN COMMA ∷ NUMBER n ∷ SIGN CLOSE_SQUARE ∷ []) zs)) (one_move_leg n d rest);
-  some = some_tokens (SIGN OPEN_SQUARE) (xs ++ SIGN COMMA ∷ NUMBER n ∷ SIGN CLOSE_SQUARE ∷ []);
+      subst (λ ps. SpellsMoveLegs ((p, whole_at Steps n) ∷ more) s u (OPEN_SQUARE ∷ ps))
+      (sym (append_assoc xs (COMMA ∷ NUMBER n ∷ CLOSE_SQUARE ∷ []) zs)) (one_move_leg n d rest);
+  some = some_tokens (OPEN_SQUARE) (xs ++ COMMA ∷ NUMBER n ∷ CLOSE_SQUARE ∷ []);
 }
 
 move_leg_follows : Follows move_leg (Starts SpellsMoveLegs)
 unfolding move_leg
 move_leg_follows =
     follows λ s t x e.
-    sign_first OPEN_SQUARE s _ e λ l1 opened e.
+    sign_first OPEN_SQUARE refl s _ e λ l1 opened e.
     part_first (pair_follows Rate) (before l1 (notes s)) _ e λ p s2 slopes e.
-    sign_first COMMA s2 _ e λ l3 comma e.
+    sign_first COMMA refl s2 _ e λ l3 comma e.
     part_first (whole_follows Steps) (before l3 (notes s2)) _ e λ k s4 ticks e.
-    sign_first CLOSE_SQUARE s4 _ e λ l5 closed e.
+    sign_first CLOSE_SQUARE refl s4 _ e λ l5 closed e.
     ends (Starts SpellsMoveLegs) (p, k) x (before l5 (notes s4)) t e (took_both opened
     (took_both slopes.split (took_both comma (took_both ticks.split closed)))) (move_leg_by slopes.spelled ticks.spelled)
 
@@ -496,7 +520,7 @@ moves_follow : Follows moves SpellsMoves
 unfolding moves
 moves_follow =
     follows λ s t x e.
-    part_first (all_follow (begins (is_sign OPEN_SQUARE)) (λ m. no_move_legs) move_leg_follows) s _ e λ ls s1 legs e.
+    part_first (all_follow (begins (is_sign OPEN_SQUARE_SIGN)) (λ m. no_move_legs) move_leg_follows) s _ e λ ls s1 legs e.
     part_first (pair_follows Rate) s1 _ e λ p s2 last e.
     ends SpellsMoves (function_of (legs_of_x ls) p.0, function_of (legs_of_y ls) p.1) x (noting_small (are_few_legs (length ls)) s2) t e
     (took_both legs.split last.split) (Grammar.moves legs.spelled last.spelled)
@@ -504,7 +528,7 @@ moves_follow =
 -- ---- Settings
 
 data SpellsRate : Function → Notes → Notes → List Piece → Type 0 where
-  a_rate : {f : Function} {xs : List Piece} {s t : Notes} → SpellsRates f s t xs → SpellsRate f s t (KEY RATE ∷ xs)
+  a_rate : {f : Function} {xs : List Piece} {s t : Notes} → SpellsRates f s t xs → SpellsRate f s t (WORD RATE ∷ xs)
 
 rate_follows : Follows rate SpellsRate
 unfolding rate
@@ -512,11 +536,11 @@ rate_follows =
     follows λ s t x e.
     key_first RATE s _ e λ l1 word e.
     let d = rates_follow.derived (before l1 (notes s)) t x e in
-    record { taken = KEY RATE ∷ d.taken; split = took_both word d.split; spelled = a_rate d.spelled }
+    record { taken = WORD RATE ∷ d.taken; split = took_both word d.split; spelled = a_rate d.spelled }
 
 -- after the `=` of a setting
 abbrev SpellsValue : Given → Notes → Notes → List Piece → Type 0
-SpellsValue g s t xs = SpellsGiven g s t (SIGN EQUAL ∷ xs)
+SpellsValue g s t xs = SpellsGiven g s t (COMPARISON ops.Eq ∷ xs)
 
 both_by : {v : ℤ} {f : Function} {s t u : Notes} {xs ys : List Piece} → SpellsNum Value v s t xs → SpellsRate f t u ys
     → SpellsValue (givens.Both v f) s u (xs ++ ys)
@@ -557,11 +581,11 @@ given_equal_follows : Follows given_equal SpellsGiven
 unfolding given_equal
 given_equal_follows =
     follows λ s t x e.
-    sign_first EQUAL s _ e λ l1 equal e.
+    sign_first (COMPARISON ops.Eq) refl s _ e λ l1 equal e.
     let value : Derived SpellsValue x (before l1 (notes s)) t =
     either_way (begins is_text (before l1 (notes s))) _ _ e (λ e. given_text_follows.derived (before l1 (notes s)) t x e)
     (λ e. given_value_follows.derived (before l1 (notes s)) t x e) in
-    record { taken = SIGN EQUAL ∷ value.taken; split = took_both equal value.split; spelled = value.spelled }
+    record { taken = COMPARISON ops.Eq ∷ value.taken; split = took_both equal value.split; spelled = value.spelled }
 
 given_follows : Follows given SpellsGiven
 unfolding given
@@ -589,7 +613,7 @@ settings_follow = all_follow (begins is_name) (λ m. no_settings) setting_follow
 
 -- ---- Places
 
-at_by : {p : Point} {s t : Notes} {xs : List Piece} → SpellsPoint p s t xs → SpellsAt (Some p) s t (KEY AT ∷ xs)
+at_by : {p : Point} {s t : Notes} {xs : List Piece} → SpellsPoint p s t xs → SpellsAt (Some p) s t (WORD AT ∷ xs)
 at_by (a_point d) = Grammar.at d
 
 at_follows : Follows at SpellsAt
@@ -639,9 +663,9 @@ change_by {ss = ss} {s = s} {u = v} {ys = zs} (placed {p = p} {xs = xs} {m = m} 
 
 -- ---- Queries
 
-found_tail : (xs : List Piece) (q : QueryTree) → query_of (map in_query xs) ≡ Some q → SpellsTail q xs
+found_tail : (xs : List Piece) (q : QueryTree) → query_of xs ≡ Some q → SpellsQuery q xs
 unfolding query_of
-found_tail xs q e = found_query (map in_query xs) q e
+found_tail xs q e = found_query xs q e
 
 abbrev pub SpellsAsked : QueryTree → Notes → Notes → List Piece → Type 0
 SpellsAsked q = SpellsParts (Asking q)
@@ -650,11 +674,11 @@ pub query_follows : Follows query SpellsAsked
 unfolding query
 query_follows =
     follows λ s t x e.
-    let a = map_some _ (query_of (map in_query s.rest)) (x, t) e in
-    let d : SpellsTail a.0 s.rest = found_tail s.rest a.0 a.1 in
-    let fit : is_none (first_unfit d) ≡ is_query_fit (map in_query s.rest) = sym (fit_is (map in_query s.rest) a.0 d (first_unfit d) refl) in
-    let told : Bool → Notes = λ b. and_size (and_number (notes s) b) (is_query_small (has_long s.rest) a.0) in
-    ends SpellsAsked a.0 x (before [] (told (is_query_fit (map in_query s.rest)))) t (ap Some a.2) (record { is = sym (append-nil s.rest) })
+    let a = map_some _ (query_of s.rest) (x, t) e in
+    let d : SpellsQuery a.0 s.rest = found_tail s.rest a.0 a.1 in
+    let fit : is_none (first_unfit d) ≡ is_query_fit s.rest = sym (fit_is s.rest a.0 d (first_unfit d) refl) in
+    let told : Bool → Notes = λ b. and_size (and_number (notes s) b) (is_query_small a.0) in
+    ends SpellsAsked a.0 x (before [] (told (is_query_fit s.rest))) t (ap Some a.2) (record { is = sym (append-nil s.rest) })
     (subst (λ b. SpellsAsked a.0 (notes s) (told b) s.rest) fit (last_query d))
 
 -- ---- The word `point`
@@ -668,7 +692,7 @@ point_of_key : (s : Reader) (o : Option Reader) → key POINT_WORD s ≡ o →
 point_of_key s None e = record { taken = []; split = took_none s.rest; spelled = part_point_word no_point_word }
 point_of_key s (Some behind) e =
     key_first POINT_WORD s Some (ap (λ o. o >>= Some) e) λ left token e.
-    subst (Derived SpellsPointPart true s) (same_place e) (record { taken = KEY POINT_WORD ∷ []; split = token; spelled = part_point_word Grammar.point_word })
+    subst (Derived SpellsPointPart true s) (same_place e) (record { taken = WORD POINT_WORD ∷ []; split = token; spelled = part_point_word Grammar.point_word })
 
 pub point_word_follows : (s : Reader) → Derived SpellsPointPart (point_word s).0 s (point_word s).1
 unfolding point_word

@@ -1,5 +1,5 @@
 -- What is read as a command, the rules derive.
-use Rattle.command_text.proofs.Names.{◌≡◌, ℕ, ℤ, Bool, true, false, List, [], ◌∷◌, ◌++◌, Some, None, IsTrue, refl, sym, ◌∙◌, ap, subst, append_assoc, append-nil, eqb-true, if◌then◌else◌, ◌==◌, is_none, codes, bytes_eq, bytes_eq-Decides, ◌>>=◌, reserved_words, CLASS, REGION, INSERT, UPDATE, REMOVE, TICK, ASK, WATCH, KEEP, SHOW, DROP, LIST, SAVE, IMPORT, EXPORT, QUIT, AttrKind, Part, Verb, Name, Whole, Error, PointWord, Attrs, Parts, Last, ◌▸◌, is_verb, parts, Piece, KEY, NAME, Span, Steps, Capacity, Nearest, Value, Width, CommandTree, Notes, token_of, SpellsAttrs, SpellsPart, part_verb, part_num, part_attrs, part_change, SpellsParts, no_parts, last_part, part_before, SpellsCommand, by_parts, Reader, Read, notes, before, front, at_first, class_head, class, region, insert_head, insert, update, remove, tick, ask, watch_head, watch, keep, show, save, import, export, nearest, must_head, must, may, index, range, by_key, by_name, by_token, command_begun, ended, command, command_of}
+use Rattle.command_text.proofs.Names.{◌≡◌, ℕ, ℤ, Bool, true, false, List, [], ◌∷◌, ◌++◌, Some, None, IsTrue, refl, sym, ◌∙◌, ap, subst, append_assoc, append-nil, eqb-true, if◌then◌else◌, ◌==◌, is_none, codes, bytes_eq, bytes_eq-Decides, ◌>>=◌, reserved_words, CLASS, REGION, INSERT, UPDATE, REMOVE, TICK, ASK, WATCH, KEEP, SHOW, DROP, LIST, SAVE, IMPORT, EXPORT, QUIT, AttrKind, Part, Verb, Name, Whole, Error, PointWord, Attrs, Parts, Last, ◌▸◌, is_verb, parts, Piece, NAME, Span, Steps, Capacity, Nearest, Value, Width, CommandTree, Notes, token_of, SpellsAttrs, SpellsPart, part_verb, part_num, part_attrs, part_change, SpellsParts, no_parts, last_part, part_before, SpellsCommand, by_parts, Reader, Read, notes, before, front, class_head, class, region, insert_head, insert, update, remove, tick, ask, watch_head, watch, keep, show, save, import, export, nearest, must_head, must, may, index, range, by_key, by_name, by_token, command_begun, ended, command, command_of, WORD}
 use Rattle.command_text.specs.Tree
 use Rattle.command_text.specs.inner.Reading.{point_word, drop}
 use Rattle.command_text.proofs.grammar.Derived.{took_none, took_both, Derived, derived_as, Follows, follows, part_first, ends, next_first, SpellsName, SpellsWhole, name_follows, text_follows, whole_follows, radius_follows, num_follows, attrs_follow, points_follow, settings_follow, place_follows, change_by, query_follows, SpellsPointPart, point_word_follows}
@@ -98,72 +98,72 @@ two_follow word make one other by =
     ends (Behind word) (make a b) x s2 t e (took_both d.split d'.split) (by a b (notes s) (notes s1) (notes s2) d.taken d'.taken d.spelled d'.spelled)
 
 remove_follows : Follows remove (Behind (codes "remove"))
-unfolding remove
+unfolding remove reserved_words
 remove_follows = one_follows (codes "remove") (λ n. Tree.Remove n) name_follows (λ n s t xs d. begun refl (last_part d))
 
 tick_follows : Follows tick (Behind (codes "tick"))
-unfolding tick
+unfolding tick reserved_words
 tick_follows = one_follows (codes "tick") (λ k. Tree.Tick k) (whole_follows Steps) (λ k s t xs d. begun refl (last_part d))
 
 show_follows : Follows show (Behind (codes "show"))
-unfolding show
+unfolding show reserved_words
 show_follows = one_follows (codes "show") (λ n. Tree.Show n) name_follows (λ n s t xs d. begun refl (last_part d))
 
 drop_follows : Follows drop (Behind (codes "drop"))
-unfolding drop
+unfolding drop reserved_words
 drop_follows = one_follows (codes "drop") (λ n. Tree.Drop n) name_follows (λ n s t xs d. begun refl (last_part d))
 
 save_follows : Follows save (Behind (codes "save"))
-unfolding save
+unfolding save reserved_words
 save_follows = one_follows (codes "save") (λ w. Tree.Save w) text_follows (λ w s t xs d. begun refl (last_part d))
 
 class_follows : Follows class (Behind (codes "class"))
-unfolding class
+unfolding class reserved_words
 class_follows = two_follow (codes "class") (λ h attrs. Tree.Class h.0 h.1 h.2 attrs) class_head_follows attrs_follow
     (λ h attrs s t u xs ys d e. begun refl (d attrs u ys e))
 
 region_follows : Follows region (Behind (codes "region"))
-unfolding region
+unfolding region reserved_words
 region_follows = two_follow (codes "region") (λ n ps. Tree.Region n ps) name_follows points_follow
     (λ n ps s t u xs ys d e. begun refl (part_before d (last_part e)))
 
 import_follows : Follows import (Behind (codes "import"))
-unfolding import
+unfolding import reserved_words
 import_follows = two_follow (codes "import") (λ n w. Tree.Import n w) name_follows text_follows
     (λ n w s t u xs ys d e. begun refl (part_before d (last_part e)))
 
 export_follows : Follows export (Behind (codes "export"))
-unfolding export
+unfolding export reserved_words
 export_follows = two_follow (codes "export") (λ n w. Tree.Export n w) name_follows text_follows
     (λ n w s t u xs ys d e. begun refl (part_before d (last_part e)))
 
 ask_follows : Follows ask (Behind (codes "ask"))
-unfolding ask
+unfolding ask reserved_words
 ask_follows = two_follow (codes "ask") (λ k q. Tree.Ask k q) (whole_follows Span) query_follows (λ k q s t u xs ys d e. begun refl (part_before d e))
 
 watch_follows : Follows watch (Behind (codes "watch"))
-unfolding watch
+unfolding watch reserved_words
 watch_follows = two_follow (codes "watch") (λ h q. Tree.Watch h.0 h.1 q) watch_head_follows query_follows
     (λ h q s t u xs ys d e. begun refl (two_before d e))
 
 keep_follows : Follows keep (Behind (codes "keep"))
-unfolding keep
+unfolding keep reserved_words
 keep_follows = two_follow (codes "keep") (λ h q. Tree.Keep h.0 h.1 q) watch_head_follows query_follows
     (λ h q s t u xs ys d e. begun refl (two_before d e))
 
 must_follows : Follows must (Behind (codes "must"))
-unfolding must
+unfolding must reserved_words
 must_follows = two_follow (codes "must") (λ h q. Tree.Must h.0 h.1 q) must_head_follows query_follows
     (λ h q s t u xs ys d e. begun refl (two_before d e))
 
 may_follows : Follows may (Behind (codes "may"))
-unfolding may
+unfolding may reserved_words
 may_follows = two_follow (codes "may") (λ h q. Tree.May h.0 h.1 q) must_head_follows query_follows (λ h q s t u xs ys d e. begun refl (two_before d e))
 
 -- ---- Other commands
 
 insert_follows : Follows insert (Behind (codes "insert"))
-unfolding insert
+unfolding insert reserved_words
 insert_follows =
     follows λ s t x e.
     part_first insert_head_follows s _ e λ x1 s1 h e.
@@ -173,7 +173,7 @@ insert_follows =
     (begun refl (two_before h.spelled (last_part (part_change (change_by p.spelled ss.spelled)))))
 
 update_follows : Follows update (Behind (codes "update"))
-unfolding update
+unfolding update reserved_words
 update_follows =
     follows λ s t x e.
     part_first name_follows s _ e λ x1 s1 n e.
@@ -183,7 +183,7 @@ update_follows =
     (begun refl (part_before n.spelled (last_part (part_change (change_by p.spelled ss.spelled)))))
 
 nearest_follows : Follows nearest (Behind (codes "nearest"))
-unfolding nearest
+unfolding nearest reserved_words
 nearest_follows =
     follows λ s t x e.
     part_first (whole_follows Span) s _ e λ x1 s1 span e.
@@ -195,7 +195,7 @@ nearest_follows =
     (begun refl (part_before span.spelled (part_before count.spelled (part_before object.spelled (last_part class.spelled)))))
 
 index_follows : Follows index (Behind (codes "index"))
-unfolding index
+unfolding index reserved_words
 index_follows =
     follows λ s t x e.
     part_first name_follows s _ e λ x1 s1 class e.
@@ -205,7 +205,7 @@ index_follows =
     (begun refl (part_before class.spelled (part_before attr.spelled (last_part (part_num width.spelled)))))
 
 range_follows : Follows range (Behind (codes "range"))
-unfolding range
+unfolding range reserved_words
 range_follows =
     follows λ s t x e.
     part_first (whole_follows Span) s _ e λ x1 s1 span e.
@@ -219,9 +219,11 @@ range_follows =
     (part_before attr.spelled (part_before (part_num least.spelled) (last_part (part_num greatest.spelled)))))))
 
 listing_follows : Follows (λ s. Some (Tree.Listing, s)) (Behind (codes "list"))
+unfolding reserved_words
 listing_follows = follows λ s t x e. ends (Behind (codes "list")) Tree.Listing x s t e (took_none s.rest) (last_part (part_verb refl))
 
 quit_follows : Follows (λ s. Some (Tree.Quit, s)) (Behind (codes "quit"))
+unfolding reserved_words
 quit_follows = follows λ s t x e. ends (Behind (codes "quit")) Tree.Quit x s t e (took_none s.rest) (last_part (part_verb refl))
 
 -- ---- By the first token
@@ -238,10 +240,10 @@ tested first word follows s t x o true same e other =
     derived_as (Behind word) (After first) (λ xs d. subst (λ (p : Piece). After p x (notes s) (notes t) xs) (same refl) d) (follows.derived s t x e)
 tested first word follows s t x o false same e other = other e
 
-one_key : (code k : ℕ) (word : List ℕ) → token_of word ≡ KEY k → {f : Reader → Read CommandTree} → Follows f (Behind word)
+one_key : (code k : ℕ) (word : List ℕ) → token_of word ≡ WORD k → {f : Reader → Read CommandTree} → Follows f (Behind word)
     → (s t : Reader) (x : CommandTree) (o : Read CommandTree)
-    → (if code == k then f s else o) ≡ Some (x, t) → (o ≡ Some (x, t) → Derived (After (KEY code)) x s t) → Derived (After (KEY code)) x s t
-one_key code k word token follows s t x o e other = tested (KEY code) word follows s t x o (code == k) (λ is. token ∙ ap KEY (sym (eqb-true code k is))) e other
+    → (if code == k then f s else o) ≡ Some (x, t) → (o ≡ Some (x, t) → Derived (After (WORD code)) x s t) → Derived (After (WORD code)) x s t
+one_key code k word token follows s t x o e other = tested (WORD code) word follows s t x o (code == k) (λ is. token ∙ ap WORD (sym (eqb-true code k is))) e other
 
 one_name : (name word : List ℕ) → token_of word ≡ NAME word → {f : Reader → Read CommandTree} → Follows f (Behind word)
     → (s t : Reader) (x : CommandTree) (o : Read CommandTree)
@@ -250,7 +252,7 @@ one_name : (name word : List ℕ) → token_of word ≡ NAME word → {f : Reade
 one_name name word token follows s t x o e other =
     tested (NAME name) word follows s t x o (bytes_eq name word) (λ is. token ∙ ap NAME (sym ((bytes_eq-Decides name word).0 is))) e other
 
-by_key_follows : (code : ℕ) (s t : Reader) (x : CommandTree) → by_key code s ≡ Some (x, t) → Derived (After (KEY code)) x s t
+by_key_follows : (code : ℕ) (s t : Reader) (x : CommandTree) → by_key code s ≡ Some (x, t) → Derived (After (WORD code)) x s t
 unfolding reserved_words
 by_key_follows code s t x e =
     one_key code CLASS (codes "class") refl class_follows s t x _ e λ e.
@@ -282,7 +284,7 @@ by_name_follows word s t x e =
     absurd (cc)
 
 by_token_follows : (p : Piece) (s t : Reader) (x : CommandTree) → by_token p s ≡ Some (x, t) → Derived (After p) x s t
-by_token_follows (KEY code) s t x e = by_key_follows code s t x e
+by_token_follows (WORD code) s t x e = by_key_follows code s t x e
 by_token_follows (NAME word) s t x e = by_name_follows word s t x e
 by_token_follows p s t x e = absurd (cc)
 
@@ -310,18 +312,18 @@ ended_at_end : (c y : CommandTree × Reader) (b : Bool) → is_none (front c.1.r
 ended_at_end c y true h e = record { same = cc; end = nothing_left c.1.rest h }
 ended_at_end c y false h e = absurd (cc)
 
-command_spells : (xs : List Piece) (t : Reader) (c : CommandTree) → command (at_first xs) ≡ Some (c, t) → SpellsCommand c (notes t) xs
+command_spells : (xs : List Piece) (s : Notes) (t : Reader) (c : CommandTree) → command (before xs s) ≡ Some (c, t) → SpellsCommand c s (notes t) xs
 unfolding command
-command_spells xs t c e =
-    part_first begun_follows (at_first xs) ended e λ x s1 d e.
+command_spells xs s t c e =
+    part_first begun_follows (before xs s) ended e λ x s1 d e.
     let last = ended_at_end (x, s1) (c, t) (is_none (front s1.rest)) refl e in
     let tokens : d.taken ≡ xs = sym (d.split.is ∙ ap (λ left. d.taken ++ left) last.end ∙ append-nil d.taken) in
-    subst (λ (r : CommandTree × Reader). SpellsCommand r.0 (notes r.1) xs) last.same (subst (SpellsCommand x (notes s1)) tokens (by_parts d.spelled))
+    subst (λ (r : CommandTree × Reader). SpellsCommand r.0 s (notes r.1) xs) last.same (subst (SpellsCommand x s (notes s1)) tokens (by_parts d.spelled))
 
 -- what is read as a command, the rules derive
-pub command_derived : (xs : List Piece) (c : CommandTree) (s : Reader) → command_of xs ≡ Some (c, s) → SpellsCommand c (notes s) xs
+pub command_derived : (xs : List Piece) (c : CommandTree) (s : Notes) (t : Reader) → command_of (before xs s) ≡ Some (c, t) → SpellsCommand c s (notes t) xs
 unfolding command_of
-command_derived [] c s e =
-    let same : ◌≡◌ {A = CommandTree × Reader} (Tree.Nothing, at_first []) (c, s) = cc in
-    subst (λ (r : CommandTree × Reader). SpellsCommand r.0 (notes r.1) []) same (by_parts no_parts)
-command_derived (p ∷ xs) c s e = command_spells (p ∷ xs) s c e
+command_derived [] c s t e =
+    let same : ◌≡◌ {A = CommandTree × Reader} (Tree.Nothing, before [] s) (c, t) = cc in
+    subst (λ (r : CommandTree × Reader). SpellsCommand r.0 s (notes r.1) []) same (by_parts no_parts)
+command_derived (p ∷ xs) c s t e = command_spells (p ∷ xs) s t c e

@@ -1,25 +1,27 @@
 -- What is read of tokens and of lines, and why lines are refused, in words of the grammar.
-use Rattle.command_text.proofs.Names.{◌≡◌, ℕ, Bool, true, false, List, [], ◌∷◌, Option, Some, None, option_map, refl, sym, ◌∙◌, ap, ap₂, subst, Result, Ok, Err, IfOk, IfErr, if◌then◌else◌, Command, CommandFault, Refusal, Piece, pieces, CommandTree, command_view, Notes, good, SpellsCommand, Reader, Read, notes, before, at_first, command_of, first_that_holds, is_comment, is_too_long, has_other_byte, has_bad_token, command_in, early_refusal, late_refusal, first_refusal, or_else, IsRead, AreReadByTheGrammar, PassesTheFirstThree, IsJudgedByTokens, SpellsWithinLimits, SpellsNoCommand, IsReadByTheGrammar, IsRefusedByTheGrammar, IsSpelled, IsFaultOf}
+use Rattle.command_text.proofs.Names.{◌≡◌, ℕ, Bool, true, false, List, [], ◌∷◌, Option, Some, None, option_map, refl, sym, ◌∙◌, ap, ap₂, subst, Result, Ok, Err, IfOk, IfErr, Command, CommandFault, Refusal, Piece, pieces, CommandTree, command_view, Notes, good, SpellsCommand, Reader, Read, notes, before, at_first, command_of, first_that_holds, is_comment, is_too_long, has_other_byte, has_bad_token, command_in, early_refusal, late_refusal, first_refusal, or_else, IsRead, AreReadByTheGrammar, PassesTheFirstThree, IsJudgedByTokens, SpellsWithinLimits, SpellsNoCommand, IsReadByTheGrammar, IsRefusedByTheGrammar, IsSpelled, IsFaultOf, first_notes}
 use Rattle.command_text.specs.declared.fault.CommandFault.TheVariants as faults
 use Rattle.command_text.specs.declared.refusal.Refusal.TheVariants as refusals
 use Rattle.command_text.specs.Tree
 use Rattle.command_text.specs.Line.{Explains}
 use Rattle.command_text.proofs.grammar.SpelledCommands.{command_spelled, one_command}
+use Rattle.command_text.proofs.reader.LineLemmas.{comment_in, other_in}
 use Rattle.command_text.proofs.grammar.Derived.{map_some}
 use Rattle.command_text.proofs.grammar.DerivedCommands.{command_derived}
 
 pub tokens_are_read : (tokens : List Piece) → AreReadByTheGrammar tokens
 tokens_are_read tokens = record {
-  spelled_is_read = λ c s spelled. command_spelled spelled;
-  read_is_spelled = λ c r e. command_derived tokens c r e;
-  one_command = λ c d s t e f. one_command tokens c d s t e f;
+  spelled_is_read = λ c s t spelled. command_spelled spelled;
+  read_is_spelled = λ c s r e. command_derived tokens c s r e;
+  one_command = λ c d s t u e f. one_command tokens c d s t u e f;
 }
 
--- what is read, where this is known of its numbers and sizes
-derived_with : (tokens : List Piece) (x : CommandTree × Reader) (s : Notes) → command_of tokens ≡ Some x → x.1.fit ≡ s.0 → x.1.small ≡ s.1
-    → SpellsCommand x.0 s tokens
-derived_with tokens x s e fit small =
-    subst (λ (m : Notes). SpellsCommand x.0 m tokens) (ap₂ (λ (f g : Bool). (f, g)) fit small) (command_derived tokens x.0 x.1 e)
+-- what is read of a line, where this is known of its numbers and sizes
+derived_with : (line : List ℕ) (x : CommandTree × Reader) (t : Notes) → command_of (at_first line) ≡ Some x → x.1.fit ≡ t.0 → x.1.small ≡ t.1
+    → SpellsCommand x.0 (first_notes line) t (pieces line)
+derived_with line x t e fit small =
+    subst (λ (m : Notes). SpellsCommand x.0 (first_notes line) m (pieces line)) (ap₂ (λ (f g : Bool). (f, g)) fit small)
+    (command_derived (pieces line) x.0 (first_notes line) x.1 e)
 
 -- ---- Which refusal is told
 
@@ -71,14 +73,6 @@ early_means limit line r e = early_by (is_too_long limit line) (has_other_byte l
 
 -- ---- Lines
 
-comment_in : (line : List ℕ) → is_comment line ≡ true → command_in line ≡ Some (Tree.Nothing, at_first [])
-unfolding command_in
-comment_in line e = ap (λ b. if b then Some (Tree.Nothing, at_first []) else command_of (pieces line)) e
-
-tokens_in : (line : List ℕ) → is_comment line ≡ false → command_in line ≡ command_of (pieces line)
-unfolding command_in
-tokens_in line e = ap (λ b. if b then Some (Tree.Nothing, at_first []) else command_of (pieces line)) e
-
 first_of_late : (limit : ℕ) (line : List ℕ) → early_refusal limit line ≡ None → first_refusal limit line ≡ late_refusal (command_in line)
 first_of_late limit line e = ap (λ o. or_else o (late_refusal (command_in line))) e
 
@@ -115,16 +109,16 @@ nothing_is_read limit line c e early h = record {
 -- a command
 read_is_spelled : (limit : ℕ) (line : List ℕ) (c : CommandTree) → is_comment line ≡ false → IsRead limit line c → SpellsWithinLimits line c
 read_is_spelled limit line c e r =
-    let a = map_some tree_of (command_of (pieces line)) c (sym (ap (option_map tree_of) (tokens_in line e)) ∙ r.command) in
+    let a = map_some tree_of (command_of (at_first line)) c (sym (ap (option_map tree_of) (other_in line e)) ∙ r.command) in
     let late : late_refusal (Some a.0) ≡ None =
-    sym (ap late_refusal (tokens_in line e ∙ a.1)) ∙ sym (first_of_late limit line (passes limit line c r)) ∙ r.taken in
+    sym (ap late_refusal (other_in line e ∙ a.1)) ∙ sym (first_of_late limit line (passes limit line c r)) ∙ r.taken in
     let fit = late_none a.0.0 a.0.1.rest a.0.1.fit a.0.1.small late in
-    subst (SpellsWithinLimits line) a.2 (derived_with (pieces line) a.0 good a.1 fit.0 fit.1)
+    subst (SpellsWithinLimits line) a.2 (derived_with line a.0 good a.1 fit.0 fit.1)
 
 spelled_is_read : (limit : ℕ) (line : List ℕ) (c : CommandTree) → is_comment line ≡ false → PassesTheFirstThree limit line
     → SpellsWithinLimits line c → IsRead limit line c
 spelled_is_read limit line c e early d =
-    let found : command_in line ≡ Some (c, before [] good) = tokens_in line e ∙ command_spelled d in
+    let found : command_in line ≡ Some (c, before [] good) = other_in line e ∙ command_spelled d in
     record { taken = first_of_late limit line early ∙ ap late_refusal found; command = ap (option_map tree_of) found }
 
 pub lines_are_read : (limit : ℕ) (line : List ℕ) → IsReadByTheGrammar limit line
@@ -135,13 +129,13 @@ lines_are_read limit line = record {
 
 -- a refusal by what was read is one of a line of tokens
 late_of_tokens : (line : List ℕ) (r : Refusal) (b : Bool) → is_comment line ≡ b → late_refusal (command_in line) ≡ Some r →
-    (is_comment line ≡ false) × LateMeans (command_of (pieces line)) r
+    (is_comment line ≡ false) × LateMeans (command_of (at_first line)) r
 late_of_tokens line r true e h = let bad : None ≡ Some r = sym (ap late_refusal (comment_in line e)) ∙ h in absurd (cc)
-late_of_tokens line r false e h = (e, late_means (command_of (pieces line)) r (sym (ap late_refusal (tokens_in line e)) ∙ h))
+late_of_tokens line r false e h = (e, late_means (command_of (at_first line)) r (sym (ap late_refusal (other_in line e)) ∙ h))
 
 -- a refusal that isn't one of the first three
 late_refused : (limit : ℕ) (line : List ℕ) (r : Refusal) → (IsEarly r → ⊥) → Explains limit line (faults.Refused r)
-    → IsJudgedByTokens limit line × LateMeans (command_of (pieces line)) r
+    → IsJudgedByTokens limit line × LateMeans (command_of (at_first line)) r
 late_refused limit line r late e =
     one_of_both (early_refusal limit line) (late_refusal (command_in line)) r e
     (λ h. absurd (late (early_means limit line r h)))
@@ -157,37 +151,37 @@ early_refused limit line r early e =
 refused_early : (limit : ℕ) (line : List ℕ) (r : Refusal) → early_refusal limit line ≡ Some r → Explains limit line (faults.Refused r)
 refused_early limit line r e = ap (λ o. or_else o (late_refusal (command_in line))) e
 
-refused_late : (limit : ℕ) (line : List ℕ) (found : Read CommandTree) → IsJudgedByTokens limit line → command_of (pieces line) ≡ found
+refused_late : (limit : ℕ) (line : List ℕ) (found : Read CommandTree) → IsJudgedByTokens limit line → command_of (at_first line) ≡ found
     → first_refusal limit line ≡ late_refusal found
-refused_late limit line found o e = first_of_late limit line o.passed ∙ ap late_refusal (tokens_in line o.no_comment ∙ e)
+refused_late limit line found o e = first_of_late limit line o.passed ∙ ap late_refusal (other_in line o.no_comment ∙ e)
 
 -- no command
-no_command : (line : List ℕ) → command_of (pieces line) ≡ None → SpellsNoCommand line
+no_command : (line : List ℕ) → command_of (at_first line) ≡ None → SpellsNoCommand line
 no_command line e c s d = let read = command_spelled d in cc
 
-none_read : (tokens : List Piece) → ((c : CommandTree) (s : Notes) → SpellsCommand c s tokens → ⊥) → command_of tokens ≡ None
-none_read tokens none = by_found (command_of tokens) refl
+none_read : (line : List ℕ) → SpellsNoCommand line → command_of (at_first line) ≡ None
+none_read line none = by_found (command_of (at_first line)) refl
   where
-    by_found : (o : Read CommandTree) → command_of tokens ≡ o → o ≡ None
+    by_found : (o : Read CommandTree) → command_of (at_first line) ≡ o → o ≡ None
     by_found None e = refl
-    by_found (Some x) e = absurd (none x.0 (notes x.1) (command_derived tokens x.0 x.1 e))
+    by_found (Some x) e = absurd (none x.0 (notes x.1) (command_derived (pieces line) x.0 (first_notes line) x.1 e))
 
 pub lines_are_refused : (limit : ℕ) (line : List ℕ) → IsRefusedByTheGrammar limit line
 lines_are_refused limit line refusals.BadSyntax = (
   (λ e. let a = late_refused limit line refusals.BadSyntax (λ h. h) e in (a.0, no_command line a.1)),
-  (λ h. refused_late limit line None h.0 (none_read (pieces line) h.1)),
+  (λ h. refused_late limit line None h.0 (none_read line h.1)),
 )
 lines_are_refused limit line refusals.NumberRange = (
   (λ e.
       let a = late_refused limit line refusals.NumberRange (λ h. h) e in
       let x = a.1.0 in
-      (a.0, (x.0, x.1.small, derived_with (pieces line) x (false, x.1.small) a.1.1 a.1.2 refl))),
+      (a.0, (x.0, x.1.small, derived_with line x (false, x.1.small) a.1.1 a.1.2 refl))),
   (λ h. refused_late limit line (Some (h.1.0, before [] (false, h.1.1))) h.0 (command_spelled h.1.2)),
 )
 lines_are_refused limit line refusals.TooLarge = (
   (λ e.
       let a = late_refused limit line refusals.TooLarge (λ h. h) e in
-      (a.0, (a.1.0.0, derived_with (pieces line) a.1.0 (true, false) a.1.1 a.1.2 a.1.3))),
+      (a.0, (a.1.0.0, derived_with line a.1.0 (true, false) a.1.1 a.1.2 a.1.3))),
   (λ h. refused_late limit line (Some (h.1.0, before [] (true, false))) h.0 (command_spelled h.1.1)),
 )
 lines_are_refused limit line r = (early_refused limit line r (λ found h. h), refused_early limit line r)

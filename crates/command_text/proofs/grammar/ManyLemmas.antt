@@ -1,5 +1,5 @@
 -- Reading items one after another, as a loop does: what was read so far stands before what is left.
-use Rattle.command_text.proofs.Names.{◌≡◌, ℕ, zero, suc, ◌<◌, ◌≤◌, Bool, true, false, List, [], ◌∷◌, ◌++◌, length, Option, Some, None, refl, sym, ◌∙◌, ap, arith, append_assoc, append-nil, if◌then◌else◌, ◌>>=◌, CommandFault, Stops, Rate, OPEN_SQUARE, is_sign, are_few_legs, function_of, legs_of_x, legs_of_y, Reader, Read, begins, many, all, with_front, move_leg, noting_small}
+use Rattle.command_text.proofs.Names.{◌≡◌, ℕ, zero, suc, ◌<◌, ◌≤◌, Bool, true, false, List, [], ◌∷◌, ◌++◌, length, Option, Some, None, refl, sym, ◌∙◌, ap, arith, append_assoc, append-nil, if◌then◌else◌, ◌>>=◌, CommandFault, Stops, Rate, is_sign, are_few_legs, function_of, legs_of_x, legs_of_y, Reader, Read, begins, many, all, with_front, move_leg, noting_small, OPEN_SQUARE_SIGN}
 use Rattle.command_text.specs.inner.Reading.{pair, moves}
 use Rattle.command_text.specs.declared.fault.CommandFault.TheVariants as faults
 use Rattle.command_text.proofs.grammar.Shorter.{Shortens}
@@ -127,10 +127,10 @@ goes_stopped more item there start s so_far faults.NoMemory before begun stops =
 pub ruleset loop_steps = (goes_begun, goes_on, goes_to_the_end, all_read, goes_wrong)
 
 -- no leg ends where none begins, so both coordinates have one
-pub steady_moves : (s : Reader) → begins (is_sign OPEN_SQUARE) s ≡ false →
+pub steady_moves : (s : Reader) → begins (is_sign OPEN_SQUARE_SIGN) s ≡ false →
     moves s ≡ (pair Rate s >>= (λ last. Some ((record { firsts = []; last = last.0.0 }, record { firsts = []; last = last.0.1 }), noting_small true last.1)))
 unfolding moves
 steady_moves s e =
     ap (λ o. o >>= (λ legs. pair Rate legs.1
     >>= (λ last. Some ((function_of (legs_of_x legs.0) last.0.0, function_of (legs_of_y legs.0) last.0.1), noting_small (are_few_legs (length legs.0)) last.1))))
-    (all_stop (begins (is_sign OPEN_SQUARE)) move_leg s e)
+    (all_stop (begins (is_sign OPEN_SQUARE_SIGN)) move_leg s e)

@@ -1,7 +1,6 @@
 -- What a rule derives the reader reads: the same tree, and the same of numbers and sizes.
-use Rattle.command_text.proofs.Names.{◌≡◌, ℕ, ℤ, Bool, true, false, List, [], ◌∷◌, ◌++◌, length, Option, Some, None, refl, ◌∙◌, ap, append_assoc, if◌then◌else◌, is_some, ◌>>=◌, AT, MOVE, RATE, CLOSE_ROUND, OPEN_SQUARE, CLOSE_SQUARE, COMMA, Point, Function, Given, NamedSet, Place, Piece, SIGN, NAME, NUMBER, is_key, is_sign, is_name, Steps, whole_in, SignedPlace, Value, Rate, signed_in, short_word, are_few_legs, function_of, Notes, and_number, and_size, whole_at, signed_at, point_of, set_of, place_of, legs_of_x, legs_of_y, SpellsNum, num_plain, num_minus, SpellsPair, SpellsRateLegs, no_rate_legs, one_rate_leg, SpellsRates, SpellsMoveLegs, no_move_legs, one_move_leg, SpellsMoves, SpellsGiven, given_num, SpellsSettings, no_settings, one_setting, SpellsAt, not_at, SpellsMoving, not_moving, SpellsChange, change, Reader, Read, before, noting_small, next, begins, key, sign, name, text, number, whole, minus, signed_number, num, point, all, with_front, rate_leg, move_leg, rate, read_both, given_value, read_text, read_rate, given_equal, given, setting, settings, some_moves, place, given_moves}
+use Rattle.command_text.proofs.Names.{◌≡◌, ℕ, ℤ, Bool, true, false, List, [], ◌∷◌, ◌++◌, length, Option, Some, None, refl, ◌∙◌, ap, append_assoc, if◌then◌else◌, is_some, ◌>>=◌, AT, MOVE, RATE, OPEN_SQUARE, CLOSE_SQUARE, COMMA, Point, Function, Given, NamedSet, Place, Piece, NAME, NUMBER, is_key, is_sign, is_name, Steps, whole_in, SignedPlace, Value, Rate, signed_in, are_few_legs, function_of, Notes, and_number, whole_at, signed_at, point_of, set_of, place_of, legs_of_x, legs_of_y, SpellsNum, num_plain, num_minus, SpellsPair, SpellsRateLegs, no_rate_legs, one_rate_leg, SpellsRates, SpellsMoveLegs, no_move_legs, one_move_leg, SpellsMoves, SpellsGiven, given_num, SpellsSettings, no_settings, one_setting, SpellsAt, not_at, SpellsMoving, not_moving, SpellsChange, change, Reader, Read, before, noting_small, next, begins, key, sign, name, text, number, whole, minus, signed_number, num, point, all, with_front, rate_leg, move_leg, rate, read_both, given_value, read_text, read_rate, given_equal, given, setting, settings, some_moves, place, given_moves, CLOSE, CLOSE_SIGN, CLOSE_SQUARE_SIGN, COMMA_SIGN, OPEN_SQUARE_SIGN}
 use Rattle.motion.specs.declared.cell.Given.TheVariants as givens
-use Rattle.command_text.specs.Sizes.{is_short}
 use Rattle.command_text.specs.Grammar
 use Rattle.command_text.specs.Grammar.{given_both}
 use Rattle.command_text.specs.inner.Reading.{pair, rates, moves, at, moving}
@@ -18,13 +17,13 @@ pub pair_spelled : {p : SignedPlace} {x y : ℤ} {s u : Notes} {xs : List Piece}
     pair p (before (xs ++ later) s) ≡ Some ((x, y), before later u)
 unfolding pair sign next
 pair_spelled {p = p} (Grammar.pair {x = x} {y = y} {xs = xs} {ys = ys} {s = s} {t = t} d e) later =
-    let ends : List Piece = (ys ++ SIGN CLOSE_ROUND ∷ []) ++ later in
-    let second : ℤ × Reader → Read (ℤ × ℤ) = λ r. sign CLOSE_ROUND r.1 >>= (λ s. Some ((x, r.0), s)) in
-    let first : ℤ × Reader → Read (ℤ × ℤ) = λ r. sign COMMA r.1 >>= (λ s. num p s >>= (λ r2. sign CLOSE_ROUND r2.1 >>= (λ s2. Some ((r.0, r2.0), s2)))) in
-    ap (λ ps. num p (before ps s) >>= first) (append_assoc xs (SIGN COMMA ∷ (ys ++ SIGN CLOSE_ROUND ∷ [])) later)
-    ∙ ap (λ o. o >>= first) (num_spelled d (SIGN COMMA ∷ ends))
-    ∙ ap (λ ps. num p (before ps t) >>= second) (append_assoc ys (SIGN CLOSE_ROUND ∷ []) later)
-    ∙ ap (λ o. o >>= second) (num_spelled e (SIGN CLOSE_ROUND ∷ later))
+    let ends : List Piece = (ys ++ CLOSE ∷ []) ++ later in
+    let second : ℤ × Reader → Read (ℤ × ℤ) = λ r. sign CLOSE_SIGN r.1 >>= (λ s. Some ((x, r.0), s)) in
+    let first : ℤ × Reader → Read (ℤ × ℤ) = λ r. sign COMMA_SIGN r.1 >>= (λ s. num p s >>= (λ r2. sign CLOSE_SIGN r2.1 >>= (λ s2. Some ((r.0, r2.0), s2)))) in
+    ap (λ ps. num p (before ps s) >>= first) (append_assoc xs (COMMA ∷ (ys ++ CLOSE ∷ [])) later)
+    ∙ ap (λ o. o >>= first) (num_spelled d (COMMA ∷ ends))
+    ∙ ap (λ ps. num p (before ps t) >>= second) (append_assoc ys (CLOSE ∷ []) later)
+    ∙ ap (λ o. o >>= second) (num_spelled e (CLOSE ∷ later))
 
 pub point_spelled : {x y : ℤ} {s t : Notes} {xs : List Piece} → SpellsPair Value x y s t xs → (later : List Piece) →
     point (before (xs ++ later) s) ≡ Some (point_of x y, before later t)
@@ -36,29 +35,29 @@ pub record Stop (test : Piece → Bool) (ps : List Piece) : Type 0 where
   pub stops : (s : Notes) → begins test (before ps s) ≡ false
 
 pub rate_leg_spelled : {a : ℤ} {s t : Notes} {xs : List Piece} → SpellsNum Rate a s t xs → (n : List ℕ) (later : List Piece) →
-    rate_leg (before (SIGN OPEN_SQUARE ∷ (xs ++ (SIGN COMMA ∷ NUMBER n ∷ SIGN CLOSE_SQUARE ∷ later))) s)
+    rate_leg (before (OPEN_SQUARE ∷ (xs ++ (COMMA ∷ NUMBER n ∷ CLOSE_SQUARE ∷ later))) s)
     ≡ Some ((a, whole_at Steps n), before later (and_number t (is_some (whole_in Steps n))))
 unfolding rate_leg sign next whole number
 rate_leg_spelled d n later =
-    ap (λ o. o >>= (λ a. sign COMMA a.1 >>= (λ s. whole Steps s >>= (λ n. sign CLOSE_SQUARE n.1 >>= (λ s. Some ((a.0, n.0), s))))))
-    (num_spelled d (SIGN COMMA ∷ NUMBER n ∷ SIGN CLOSE_SQUARE ∷ later))
+    ap (λ o. o >>= (λ a. sign COMMA_SIGN a.1 >>= (λ s. whole Steps s >>= (λ n. sign CLOSE_SQUARE_SIGN n.1 >>= (λ s. Some ((a.0, n.0), s))))))
+    (num_spelled d (COMMA ∷ NUMBER n ∷ CLOSE_SQUARE ∷ later))
 
-open_square : (ps : List Piece) (s : Notes) → begins (is_sign OPEN_SQUARE) (before (SIGN OPEN_SQUARE ∷ ps) s) ≡ true
+open_square : (ps : List Piece) (s : Notes) → begins (is_sign OPEN_SQUARE_SIGN) (before (OPEN_SQUARE ∷ ps) s) ≡ true
 unfolding begins
 open_square ps s = refl
 
 pub rate_legs_spelled : {ls : List (ℤ × ℕ)} {s u : Notes} {xs : List Piece} → SpellsRateLegs ls s u xs → (later : List Piece)
-    → Stop (is_sign OPEN_SQUARE) later → all (begins (is_sign OPEN_SQUARE)) rate_leg (before (xs ++ later) s) ≡ Some (ls, before later u)
-rate_legs_spelled (no_rate_legs {s = s}) later stop = all_stop (begins (is_sign OPEN_SQUARE)) rate_leg (before later s) (stop.stops s)
+    → Stop (is_sign OPEN_SQUARE_SIGN) later → all (begins (is_sign OPEN_SQUARE_SIGN)) rate_leg (before (xs ++ later) s) ≡ Some (ls, before later u)
+rate_legs_spelled (no_rate_legs {s = s}) later stop = all_stop (begins (is_sign OPEN_SQUARE_SIGN)) rate_leg (before later s) (stop.stops s)
 rate_legs_spelled (one_rate_leg {a = a} {xs = xs} n {ls = ls} {ys = ys} {s = s} {t = t} d e) later stop =
-    let rest : List Piece = xs ++ (SIGN COMMA ∷ NUMBER n ∷ SIGN CLOSE_SQUARE ∷ (ys ++ later)) in
-    ap (λ ps. all (begins (is_sign OPEN_SQUARE)) rate_leg (before (SIGN OPEN_SQUARE ∷ ps) s))
-    (append_assoc xs (SIGN COMMA ∷ NUMBER n ∷ SIGN CLOSE_SQUARE ∷ ys) later)
-    ∙ all_step (begins (is_sign OPEN_SQUARE)) rate_leg rate_leg_shortens (before (SIGN OPEN_SQUARE ∷ rest) s)
+    let rest : List Piece = xs ++ (COMMA ∷ NUMBER n ∷ CLOSE_SQUARE ∷ (ys ++ later)) in
+    ap (λ ps. all (begins (is_sign OPEN_SQUARE_SIGN)) rate_leg (before (OPEN_SQUARE ∷ ps) s))
+    (append_assoc xs (COMMA ∷ NUMBER n ∷ CLOSE_SQUARE ∷ ys) later)
+    ∙ all_step (begins (is_sign OPEN_SQUARE_SIGN)) rate_leg rate_leg_shortens (before (OPEN_SQUARE ∷ rest) s)
     (before (ys ++ later) (and_number t (is_some (whole_in Steps n)))) (a, whole_at Steps n) (open_square rest s) (rate_leg_spelled d n (ys ++ later))
     ∙ ap (with_front ((a, whole_at Steps n) ∷ [])) (rate_legs_spelled e later stop)
 
-num_stops : {p : SignedPlace} {v : ℤ} {s t : Notes} {xs : List Piece} → SpellsNum p v s t xs → (later : List Piece) → Stop (is_sign OPEN_SQUARE) (xs ++ later)
+num_stops : {p : SignedPlace} {v : ℤ} {s t : Notes} {xs : List Piece} → SpellsNum p v s t xs → (later : List Piece) → Stop (is_sign OPEN_SQUARE_SIGN) (xs ++ later)
 unfolding begins
 num_stops num_plain later = record { stops = λ s. refl }
 num_stops num_minus later = record { stops = λ s. refl }
@@ -70,30 +69,30 @@ rates_spelled (Grammar.rates {ls = ls} {xs = xs} {a = a} {ys = ys} {s = s} d e) 
     let ended : List (ℤ × ℕ) → ℤ × Reader → Read Function =
     λ legs last. Some (function_of legs last.0, noting_small (are_few_legs (length legs)) last.1) in
     let last : List (ℤ × ℕ) × Reader → Read Function = λ legs. num Rate legs.1 >>= ended legs.0 in
-    ap (λ ps. all (begins (is_sign OPEN_SQUARE)) rate_leg (before ps s) >>= last) (append_assoc xs ys later)
+    ap (λ ps. all (begins (is_sign OPEN_SQUARE_SIGN)) rate_leg (before ps s) >>= last) (append_assoc xs ys later)
     ∙ ap (λ o. o >>= last) (rate_legs_spelled d (ys ++ later) (num_stops e later))
     ∙ ap (λ o. o >>= ended ls) (num_spelled e later)
 
 pub move_leg_spelled : {a b : ℤ} {s t : Notes} {xs : List Piece} → SpellsPair Rate a b s t xs → (n : List ℕ) (later : List Piece) →
-    move_leg (before (SIGN OPEN_SQUARE ∷ (xs ++ (SIGN COMMA ∷ NUMBER n ∷ SIGN CLOSE_SQUARE ∷ later))) s)
+    move_leg (before (OPEN_SQUARE ∷ (xs ++ (COMMA ∷ NUMBER n ∷ CLOSE_SQUARE ∷ later))) s)
     ≡ Some (((a, b), whole_at Steps n), before later (and_number t (is_some (whole_in Steps n))))
 unfolding move_leg sign next whole number
 move_leg_spelled d n later =
-    ap (λ o. o >>= (λ p. sign COMMA p.1 >>= (λ s. whole Steps s >>= (λ n. sign CLOSE_SQUARE n.1 >>= (λ s. Some ((p.0, n.0), s))))))
-    (pair_spelled d (SIGN COMMA ∷ NUMBER n ∷ SIGN CLOSE_SQUARE ∷ later))
+    ap (λ o. o >>= (λ p. sign COMMA_SIGN p.1 >>= (λ s. whole Steps s >>= (λ n. sign CLOSE_SQUARE_SIGN n.1 >>= (λ s. Some ((p.0, n.0), s))))))
+    (pair_spelled d (COMMA ∷ NUMBER n ∷ CLOSE_SQUARE ∷ later))
 
 pub move_legs_spelled : {ls : List ((ℤ × ℤ) × ℕ)} {s u : Notes} {xs : List Piece} → SpellsMoveLegs ls s u xs → (later : List Piece)
-    → Stop (is_sign OPEN_SQUARE) later → all (begins (is_sign OPEN_SQUARE)) move_leg (before (xs ++ later) s) ≡ Some (ls, before later u)
-move_legs_spelled (no_move_legs {s = s}) later stop = all_stop (begins (is_sign OPEN_SQUARE)) move_leg (before later s) (stop.stops s)
+    → Stop (is_sign OPEN_SQUARE_SIGN) later → all (begins (is_sign OPEN_SQUARE_SIGN)) move_leg (before (xs ++ later) s) ≡ Some (ls, before later u)
+move_legs_spelled (no_move_legs {s = s}) later stop = all_stop (begins (is_sign OPEN_SQUARE_SIGN)) move_leg (before later s) (stop.stops s)
 move_legs_spelled (one_move_leg {a = a} {b = b} {xs = xs} n {ls = ls} {ys = ys} {s = s} {t = t} d e) later stop =
-    let rest : List Piece = xs ++ (SIGN COMMA ∷ NUMBER n ∷ SIGN CLOSE_SQUARE ∷ (ys ++ later)) in
-    ap (λ ps. all (begins (is_sign OPEN_SQUARE)) move_leg (before (SIGN OPEN_SQUARE ∷ ps) s))
-    (append_assoc xs (SIGN COMMA ∷ NUMBER n ∷ SIGN CLOSE_SQUARE ∷ ys) later)
-    ∙ all_step (begins (is_sign OPEN_SQUARE)) move_leg move_leg_shortens (before (SIGN OPEN_SQUARE ∷ rest) s)
+    let rest : List Piece = xs ++ (COMMA ∷ NUMBER n ∷ CLOSE_SQUARE ∷ (ys ++ later)) in
+    ap (λ ps. all (begins (is_sign OPEN_SQUARE_SIGN)) move_leg (before (OPEN_SQUARE ∷ ps) s))
+    (append_assoc xs (COMMA ∷ NUMBER n ∷ CLOSE_SQUARE ∷ ys) later)
+    ∙ all_step (begins (is_sign OPEN_SQUARE_SIGN)) move_leg move_leg_shortens (before (OPEN_SQUARE ∷ rest) s)
     (before (ys ++ later) (and_number t (is_some (whole_in Steps n)))) ((a, b), whole_at Steps n) (open_square rest s) (move_leg_spelled d n (ys ++ later))
     ∙ ap (with_front (((a, b), whole_at Steps n) ∷ [])) (move_legs_spelled e later stop)
 
-pair_stops : {p : SignedPlace} {x y : ℤ} {s t : Notes} {xs : List Piece} → SpellsPair p x y s t xs → (later : List Piece) → Stop (is_sign OPEN_SQUARE)
+pair_stops : {p : SignedPlace} {x y : ℤ} {s t : Notes} {xs : List Piece} → SpellsPair p x y s t xs → (later : List Piece) → Stop (is_sign OPEN_SQUARE_SIGN)
     (xs ++ later)
 unfolding begins
 pair_stops (Grammar.pair d e) later = record { stops = λ s. refl }
@@ -108,7 +107,7 @@ moves_spelled (Grammar.moves {ls = ls} {xs = xs} {ys = ys} {s = s} d e) later =
       noting_small (are_few_legs (length legs)) last.1,
     ) in
     let last : List ((ℤ × ℤ) × ℕ) × Reader → Read (Function × Function) = λ legs. pair Rate legs.1 >>= ended legs.0 in
-    ap (λ ps. all (begins (is_sign OPEN_SQUARE)) move_leg (before ps s) >>= last) (append_assoc xs ys later)
+    ap (λ ps. all (begins (is_sign OPEN_SQUARE_SIGN)) move_leg (before ps s) >>= last) (append_assoc xs ys later)
     ∙ ap (λ o. o >>= last) (move_legs_spelled d (ys ++ later) (pair_stops e later))
     ∙ ap (λ o. o >>= ended ls) (pair_spelled e later)
 
@@ -133,10 +132,10 @@ unfolding begins
 settings_stop_rate no_settings = record { stops = λ s. refl }
 settings_stop_rate (one_setting d e) = record { stops = λ s. refl }
 
-setting_spelled : (n : List ℕ) (s : Notes) {g : Given} {t : Notes} {xs : List Piece} → SpellsGiven g (and_size s (is_short n)) t xs → (later : List Piece)
-    → Stop (is_key RATE) later → setting (before (NAME n ∷ (xs ++ later)) s) ≡ Some (set_of (short_word n) g, before later t)
+setting_spelled : (n : List ℕ) (s : Notes) {g : Given} {t : Notes} {xs : List Piece} → SpellsGiven g s t xs → (later : List Piece)
+    → Stop (is_key RATE) later → setting (before (NAME n ∷ (xs ++ later)) s) ≡ Some (set_of n g, before later t)
 unfolding setting name next
-setting_spelled n s d later stop = ap (λ o. o >>= (λ g. Some (set_of (short_word n) g.0, g.1))) (given_spelled d later stop)
+setting_spelled n s d later stop = ap (λ o. o >>= (λ g. Some (set_of n g.0, g.1))) (given_spelled d later stop)
 
 name_begins : (n : List ℕ) (ps : List Piece) (s : Notes) → begins is_name (before (NAME n ∷ ps) s) ≡ true
 unfolding begins
@@ -149,9 +148,9 @@ none_begins s = refl
 pub settings_spelled : {ss : List NamedSet} {s t : Notes} {xs : List Piece} → SpellsSettings ss s t xs → settings (before xs s) ≡ Some (ss, before [] t)
 settings_spelled (no_settings {s = s}) = all_stop (begins is_name) setting (before [] s) (none_begins s)
 settings_spelled (one_setting {n = n} {g = g} {xs = xs} {ss = ss} {ys = ys} {s = s} {t = t} d e) =
-    all_step (begins is_name) setting setting_shortens (before (NAME n ∷ (xs ++ ys)) s) (before ys t) (set_of (short_word n) g)
+    all_step (begins is_name) setting setting_shortens (before (NAME n ∷ (xs ++ ys)) s) (before ys t) (set_of n g)
     (name_begins n (xs ++ ys) s) (setting_spelled n s d ys (settings_stop_rate e))
-    ∙ ap (with_front (set_of (short_word n) g ∷ [])) (settings_spelled e)
+    ∙ ap (with_front (set_of n g ∷ [])) (settings_spelled e)
 
 pub at_spelled : {p : Option Point} {s t : Notes} {xs : List Piece} → SpellsAt p s t xs → (later : List Piece) → Stop (is_key AT) later →
     at (before (xs ++ later) s) ≡ Some (p, before later t)

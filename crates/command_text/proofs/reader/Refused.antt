@@ -1,8 +1,9 @@
 -- What becomes of a part that isn't read, and of a command at the end of its tokens.
-use Rattle.command_text.proofs.Names.{◌≡◌, ℕ, zero, suc, ◌<◌, ◌≤◌, true, false, List, [], ◌∷◌, length, map, Some, None, option_map, refl, sym, ◌∙◌, ap, subst, arith, is_none, if◌then◌else◌, length-map, ◌>>=◌, Token, Lexeme, lexemes, tokens_of, bytes_of_token, At, CommandFault, CommandTree, piece_of, Reader, Read, front, ended, to_end, Stops, standing, late_refusal, is_at_end, IsWhole, Refuses, RefusesAtEnd}
+use Rattle.command_text.proofs.Names.{◌≡◌, ℕ, zero, suc, ◌<◌, ◌≤◌, true, false, List, [], ◌∷◌, length, map, Some, None, option_map, refl, sym, ◌∙◌, ap, subst, arith, is_none, if◌then◌else◌, length-map, ◌>>=◌, Token, Lexeme, lexemes, tokens_of, bytes_of_token, At, CommandFault, CommandTree, piece_of, Reader, Read, front, ended, to_end, Stops, standing, late_refusal, is_at_end, IsWhole, Refuses, RefusesAtEnd, ◌&&◌, not, has_long, has_short_words, lexemes_from}
 use Rattle.std.proofs.Common.{drop}
 use Rattle.command_text.specs.declared.fault.CommandFault.TheVariants as faults
 use Rattle.command_text.specs.declared.refusal.Refusal.TheVariants as refusals
+use Rattle.command_text.proofs.grammar.QueryLemmas.{and_false}
 use Rattle.command_text.proofs.reader.StandingLemmas.{front_past}
 
 -- where nothing is read
@@ -82,7 +83,7 @@ judged_unfit line at h e = record {
   );
 }
 
-pub judged_large : (line : List ℕ) (at : At) → length (tokens_of line) ≤ at.place → at.fit ≡ true → at.small ≡ false
+judged_large : (line : List ℕ) (at : At) → length (tokens_of line) ≤ at.place → at.fit ≡ true → (has_short_words line && at.small) ≡ false
     → RefusesAtEnd (standing line at) (faults.Refused refusals.TooLarge)
 judged_large line at h e d = record {
   refuses = λ c. (
@@ -91,16 +92,26 @@ judged_large line at h e d = record {
   );
 }
 
-pub judged_whole : (line : List ℕ) (at : At) (c : CommandTree) → length (tokens_of line) ≤ at.place → at.fit ≡ true → at.small ≡ true →
-    IsWhole (ended (c, standing line at)) c
-judged_whole line at c h e d =
+pub judged_listed : (line : List ℕ) (at : At) → length (tokens_of line) ≤ at.place → at.fit ≡ true → at.small ≡ false
+    → RefusesAtEnd (standing line at) (faults.Refused refusals.TooLarge)
+judged_listed line at h e d = judged_large line at h e (ap (λ b. has_short_words line && b) d ∙ and_false (has_short_words line))
+
+pub judged_long : (line : List ℕ) (at : At) → length (tokens_of line) ≤ at.place → at.fit ≡ true → has_long (lexemes_from 0 line) ≡ true
+    → RefusesAtEnd (standing line at) (faults.Refused refusals.TooLarge)
+judged_long line at h e long = judged_large line at h e (ap (λ b. not b && at.small) long)
+
+pub judged_whole : (line : List ℕ) (at : At) (c : CommandTree) → length (tokens_of line) ≤ at.place → at.fit ≡ true → at.small ≡ true
+    → has_long (lexemes_from 0 line) ≡ false → IsWhole (ended (c, standing line at)) c
+judged_whole line at c h e d short =
     record {
-      taken = ap late_refusal (ended_whole line at c h) ∙ late_none c (standing line at) e d;
+      taken =
+          ap late_refusal (ended_whole line at c h)
+          ∙ late_none c (standing line at) e (ap (λ b. not b && at.small) short ∙ d);
       command =
           ap (option_map (λ (r : CommandTree × Reader). r.0)) (ended_whole line at c h);
     }
 
-pub ruleset at_the_end = (judged_early, judged_unfit, judged_large, judged_whole)
+pub ruleset at_the_end = (judged_early, judged_unfit, judged_listed, judged_long, judged_whole)
 
 ended_at_end : (c : CommandTree × Reader) → is_none (front c.1.rest) ≡ true → Some c ≡ ended c
 ended_at_end c e = sym (ap (λ b. if b then Some c else None) e)

@@ -1,5 +1,5 @@
 -- A reader at a place of the tokens, and one after the token there.
-use Rattle.command_text.proofs.Names.{◌≡◌, ℕ, zero, suc, ◌+◌, ◌≤◌, ◌∷◌, [], List, length, map, None, Some, option_map, slice_get, refl, ap, add-one, slice_get_past, Lexeme, Piece, piece_of, lexemes, At, front, next, standing}
+use Rattle.command_text.proofs.Names.{◌≡◌, ℕ, zero, suc, ◌+◌, ◌≤◌, [], ◌∷◌, List, length, map, None, Some, option_map, slice_get, refl, ap, add-one, slice_get_past, Lexeme, Piece, piece_of, lexemes, At, front, next, standing, has_short_words, ◌&&◌}
 use Rattle.std.proofs.Common.{drop}
 
 abbrev pieces_of : List Lexeme → List Piece
@@ -29,12 +29,12 @@ pub next_some : (line : List ℕ) (at : At) (t : Lexeme) → slice_get (lexemes 
     next (standing line at) ≡ Some (piece_of t.0 t.1, standing line (record { place = at.place + 1; fit = at.fit; small = at.small }))
 unfolding next
 next_some line at t e =
-    ap (option_map (λ (r : Piece × List Piece). (r.0, record { rest = r.1; fit = at.fit; small = at.small }))) (front_some (lexemes line) at.place t e)
+    ap (option_map (λ (r : Piece × List Piece). (r.0, record { rest = r.1; fit = at.fit; small = has_short_words line && at.small }))) (front_some (lexemes line) at.place t e)
 
 pub next_none : (line : List ℕ) (at : At) → slice_get (lexemes line) at.place ≡ None → next (standing line at) ≡ None
 unfolding next
 next_none line at e =
-    ap (option_map (λ (r : Piece × List Piece). (r.0, record { rest = r.1; fit = at.fit; small = at.small }))) (front_none (lexemes line) at.place e)
+    ap (option_map (λ (r : Piece × List Piece). (r.0, record { rest = r.1; fit = at.fit; small = has_short_words line && at.small }))) (front_none (lexemes line) at.place e)
 
 pub next_past : (line : List ℕ) (at : At) → length (lexemes line) ≤ at.place → next (standing line at) ≡ None
 next_past line at h = next_none line at (slice_get_past (lexemes line) at.place h)

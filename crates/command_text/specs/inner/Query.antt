@@ -1,5 +1,5 @@
 -- The query at the end of a command, by the parser's machine.
-use Rattle.std.specs.Prelude.{Bool, is_none, List, Option, if◌then◌else◌}
+use Rattle.std.specs.Prelude.{Bool, false, is_none, List, Option, if◌then◌else◌}
 use Rattle.ftl_parser.specs.declared.fault.ParseFault.{ParseFault}
 use Rattle.ftl_parser.specs.declared.fault.ParseFault.TheVariants as parse_faults
 use Rattle.ftl_parser.specs.Tree.{QueryTree}
@@ -19,9 +19,9 @@ query_of tokens = parsed start tokens
 unfoldable pub is_query_fit : List Piece → Bool
 is_query_fit tokens = number_tokens_fit tokens
 
--- no size of the query passes its limit, where what is said of the lengths of its names and texts is given
-unfoldable pub is_query_small : Bool → QueryTree → Bool
-is_query_small long q = is_none (first_too_large long q)
+-- no size of the query passes its limit; the lengths of its names and texts are judged with those of the line
+unfoldable pub is_query_small : QueryTree → Bool
+is_query_small q = is_none (first_too_large false q)
 
 -- what the parser's fault means for a command, the numbers of which before the query are in their ranges or not
 abbrev pub fault_by_parser : ParseFault → Bool → CommandFault

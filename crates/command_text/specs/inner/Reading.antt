@@ -1,7 +1,7 @@
 -- Reading a command from its tokens: each part takes its tokens from the front, and answers with those after it. A part
 -- is read by its tokens' kinds alone; whether its numbers are in range and its sizes within their limits is noted on
 -- the way.
-use Rattle.std.specs.Prelude.{ℕ, zero, suc, ℤ, Bool, true, false, ◌==◌, ◌&&◌, nat_le, is_some, is_none, Option, None, Some, option_map, List, [], ◌∷◌, ◌++◌, length, map, codes, if◌then◌else◌}
+use Rattle.std.specs.Prelude.{ℕ, zero, suc, ℤ, Bool, true, false, ◌==◌, ◌&&◌, nat_le, is_some, is_none, Option, None, Some, option_map, List, [], ◌∷◌, ◌++◌, length, codes, if◌then◌else◌}
 use Rattle.std.specs.Str.{bytes_eq}
 use Rattle.std.specs.Option.{option_map_or}
 use Rattle.exact.specs.Options.{◌>>=◌}
@@ -17,10 +17,11 @@ use Rattle.motion.specs.declared.cell.Given.TheVariants as givens
 use Rattle.motion.specs.declared.cell.NamedSet.{NamedSet}
 use Rattle.motion.specs.declared.cell.Place.{Place}
 use Rattle.ftl_parser.specs.Tree.{QueryTree}
-use Rattle.command_text.specs.Piece.{Piece, KEY, NAME, NUMBER, TEXT, is_key, is_sign, is_name, is_text, in_query, has_long}
+use Rattle.command_text.specs.Piece.{Piece, NAME, WORD, pieces}
 use Rattle.command_text.specs.Ranges.{WholePlace, Span, Steps, Capacity, Nearest, whole_in, radius_in, SignedPlace, Value, Rate, Width, signed_in}
-use Rattle.command_text.specs.Sizes.{is_short, short_word, are_few_legs, function_of, are_few_attributes, are_few_vertices}
-use Rattle.command_text.specs.Grammar.{Notes, whole_at, radius_at, signed_at, point_of, set_of, place_of, legs_of_x, legs_of_y}
+use Rattle.command_text.specs.Sizes.{are_few_legs, function_of, are_few_attributes, are_few_vertices}
+use Rattle.command_text.specs.Grammar.{Notes, first_notes, whole_at, radius_at, signed_at, point_of, set_of, place_of, legs_of_x, legs_of_y}
+use Rattle.command_text.specs.inner.Tests.{is_key, is_sign, is_name, is_text, name_in, number_in, text_in}
 use Rattle.command_text.specs.inner.Query.{query_of, is_query_fit, is_query_small}
 use Rattle.command_text.specs.Tree
 use Rattle.command_text.specs.Tree.{CommandTree}
@@ -71,29 +72,17 @@ sign code s = do
   t ← next s
   if is_sign code t.0 then Some t.1 else None
 
-abbrev pub name_in : Piece → Option (List ℕ)
-name_in (NAME bytes) = Some bytes
-name_in p = None
-
-abbrev pub number_in : Piece → Option (List ℕ)
-number_in (NUMBER bytes) = Some bytes
-number_in p = None
-
-abbrev pub text_in : Piece → Option (List ℕ)
-text_in (TEXT bytes) = Some bytes
-text_in p = None
-
 unfoldable pub name : Reader → Read (List ℕ)
 name s = do
   t ← next s
   word ← name_in t.0
-  Some (short_word word, noting_small (is_short word) t.1)
+  Some (word, t.1)
 
 unfoldable pub text : Reader → Read (List ℕ)
 text s = do
   t ← next s
   word ← text_in t.0
-  Some (short_word word, noting_small (is_short word) t.1)
+  Some (word, t.1)
 
 -- the bytes of a number
 unfoldable pub number : Reader → Read (List ℕ)
@@ -161,12 +150,15 @@ all more item s = many more item (length s.rest) s
 abbrev pub with_front : {A : Type 0} → List A → Read (List A) → Read (List A)
 with_front xs o = option_map (λ r. (xs ++ r.0, r.1)) o
 
--- a word of a kind
-abbrev pub kind_in : Piece → Option AttrKind
-kind_in (KEY k) =
+-- the kind of attribute that a word names, by its code
+abbrev pub kind_of : ℕ → Option AttrKind
+kind_of k =
     if k == NUM then Some attr_kinds.Num
     else (if k == TEXT_WORD then Some attr_kinds.Text
     else (if k == DYN then Some attr_kinds.Dyn else None))
+
+abbrev pub kind_in : Piece → Option AttrKind
+kind_in (WORD k) = kind_of k
 kind_in p = None
 
 unfoldable pub attr : Reader → Read (List ℕ × AttrKind)
@@ -288,7 +280,7 @@ at s =
       Some (Some p.0, p.1))
     else Some (None, s)
 
--- legs that a command has
+-- the legs of both coordinates, as a command that gives them has them
 abbrev pub given_moves : Read (Function × Function) → Read (Option (Function × Function))
 given_moves o = option_map (λ m. (Some m.0, m.1)) o
 
@@ -310,8 +302,7 @@ place s = do
 -- a query, which takes all tokens that are left
 unfoldable pub query : Reader → Read QueryTree
 query s =
-    let tokens = map in_query s.rest in
-    option_map (λ q. (q, record { rest = []; fit = s.fit && is_query_fit tokens; small = s.small && is_query_small (has_long s.rest) q })) (query_of tokens)
+    option_map (λ q. (q, record { rest = []; fit = s.fit && is_query_fit s.rest; small = s.small && is_query_small q })) (query_of s.rest)
 
 -- the commands, each after its first word
 -- whether `point` stands at the front, and the place after it or else the same place
@@ -496,7 +487,7 @@ by_name word s =
 
 -- the command of a first token
 abbrev pub by_token : Piece → Reader → Read CommandTree
-by_token (KEY code) s = by_key code s
+by_token (WORD code) s = by_key code s
 by_token (NAME word) s = by_name word s
 by_token p s = None
 
@@ -518,9 +509,10 @@ command s = do
   c ← command_begun s
   ended c
 
-abbrev pub at_first : List Piece → Reader
-at_first tokens = record { rest = tokens; fit = true; small = true }
+-- a reader before the first token of a line
+abbrev pub at_first : List ℕ → Reader
+at_first line = before (pieces line) (first_notes line)
 
--- the command of all tokens of a line; no token is a blank line
-unfoldable pub command_of : List Piece → Read CommandTree
-command_of tokens = if is_none (front tokens) then Some (Tree.Nothing, at_first []) else command (at_first tokens)
+-- the command of all tokens; no token is a blank line
+unfoldable pub command_of : Reader → Read CommandTree
+command_of s = if is_none (front s.rest) then Some (Tree.Nothing, s) else command s

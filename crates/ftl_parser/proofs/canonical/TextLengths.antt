@@ -1,6 +1,6 @@
 -- For this crate and for the crates above: a printed query has at most four bytes for each byte of the tokens that
 -- spell it.
-use Rattle.ftl_parser.proofs.Names.{SpellsUntil, UntilForm, ◌≡◌, ℕ, zero, suc, ◌+◌, ◌-◌, ◌*◌, ◌≤◌, max, Bool, true, false, List, [], ◌∷◌, ◌++◌, drop, take, length, map, length-append, append-nil, Option, None, Some, ℤ, IsTrue, refl, ap, subst, ◌∙◌, arith, leb, inl, inr, codes, decimal, slice_get, unwrap_or, bytes_eq, if◌then◌else◌, list_all, cases_Bool, and_parts, leb-true, length-take, sum_by-cons, flat_map-append, fix_text, BoundForm, SubName, READ_LIMIT, Op, code_of, reserved_words, symbols, Kind, lexemes, tokens_of, bytes_of_token, Lexeme, HasForm, is_word, is_number, IsQuoted, HaveForms, SpansAscend, RADIUS_LIMIT, LAST_TICK, TIMES_LIMIT, Prefix, Signed, FromPart, Tree, QueryTree, Piece, RETRIEVE, FROM, WHERE, AND, OR, TRUTH, PREFIX, BOUNDED, UNTIL, INSIDE, OUTSIDE, DIST, SPHERE, TIME, PART, CLOSE, CLOSE_SQUARE, COMMA, PLUS, MINUS, COMPARISON, NAME, NUMBER, TEXT, OTHER, reserved, signs, unquoted, piece_of, pieces, is_short, ticks, times, literal, radius, SpellsRef, ref_name, ref_attr, ref_part, ref_time, SpellsFactor, factor_number, factor_times, factor_text, factor_ref, SpellsTerm, term_first, term_minus_first, term_plus, term_minus, SpellsNum, num_plain, num_minus, SpellsNames, names_one, names_more, SpellsParts, parts_one, parts_more, SpellsAtom, atom_compare, atom_inside, atom_outside, atom_dist, atom_sphere, Level, Spells, formula_conj, formula_or, conj_chain, conj_and, chain_unary, chain_until, until_plain, until_within, until_after, unary_prefix, unary_bounded, unary_assign, unary_brackets, unary_truth, unary_atom, SpellsQuery, query, prefixed, signed, from_part, term_of, truth_word, bound_word, sub_word, op_word, later_names, names_text, part_text, later_parts, parts_text, unit_text, times_text, first_sign, later_sign, later_factors, factors_text, pair_text, atom_text, until_text, prefix_text, bound_text, assign_text, in_brackets, formula_text, query_text, bytes_of, PrintsShortly, PrintsShorterThanFourLines, TokensFit}
+use Rattle.ftl_parser.proofs.Names.{SpellsUntil, UntilForm, ◌≡◌, ℕ, zero, suc, ◌+◌, ◌-◌, ◌*◌, ◌≤◌, max, Bool, true, false, List, [], ◌∷◌, ◌++◌, drop, take, length, map, length-append, Option, None, Some, ℤ, IsTrue, refl, ap, subst, arith, leb, inl, inr, codes, decimal, slice_get, unwrap_or, bytes_eq, if◌then◌else◌, list_all, cases_Bool, and_parts, leb-true, length-take, sum_by-cons, flat_map-append, fix_text, BoundForm, SubName, READ_LIMIT, Op, code_of, reserved_words, symbols, Kind, lexemes, tokens_of, bytes_of_token, Lexeme, HasForm, is_word, is_number, IsQuoted, HaveForms, SpansAscend, RADIUS_LIMIT, LAST_TICK, TIMES_LIMIT, Prefix, Signed, FromPart, Tree, QueryTree, Piece, RETRIEVE, FROM, WHERE, AND, OR, TRUTH, PREFIX, BOUNDED, UNTIL, INSIDE, OUTSIDE, DIST, SPHERE, TIME, PART, CLOSE, CLOSE_SQUARE, COMMA, PLUS, MINUS, COMPARISON, NAME, NUMBER, TEXT, ARROW, WORD, reserved, signs, unquoted, piece_of, pieces, is_short, ticks, literal, radius, SpellsRef, ref_name, ref_attr, ref_part, ref_time, SpellsFactor, factor_number, factor_times, factor_text, factor_ref, SpellsTerm, term_first, term_minus_first, term_plus, term_minus, SpellsNum, num_plain, num_minus, SpellsNames, names_one, names_more, SpellsParts, parts_one, parts_more, SpellsAtom, atom_compare, atom_inside, atom_outside, atom_dist, atom_sphere, Level, Spells, formula_conj, formula_or, conj_chain, conj_and, chain_unary, chain_until, until_plain, until_within, until_after, unary_prefix, unary_bounded, unary_assign, unary_brackets, unary_truth, unary_atom, SpellsQuery, query, prefixed, signed, from_part, term_of, truth_word, bound_word, sub_word, op_word, later_names, names_text, part_text, later_parts, parts_text, unit_text, times_text, first_sign, later_sign, later_factors, factors_text, pair_text, atom_text, until_text, prefix_text, bound_text, assign_text, in_brackets, formula_text, query_text, bytes_of, PrintsShortly, PrintsShorterThanFourLines, TokensFit}
 use Rattle.std.proofs.lemmas.Slice.Eq.{bytes_eq-Decides}
 use Rattle.fixed_point.specs.declared.variants.BoundForm.TheVariants as bounds
 use Rattle.fixed_point.specs.declared.variants.SubName.TheVariants as subs
@@ -37,7 +37,7 @@ tokens_fit line =
 
 -- ---- how many bytes a token has at least
 
-abbrev weight : Piece → ℕ
+abbrev pub weight : Piece → ℕ
 weight RETRIEVE = 3
 weight FROM = 3
 weight WHERE = 3
@@ -56,9 +56,10 @@ weight (PART part) = 3
 weight (NAME n) = max 1 (length n)
 weight (NUMBER n) = max 1 (length n)
 weight (TEXT t) = length t + 2
+weight (WORD code) = 2
 weight p = 1
 
-abbrev load : List Piece → ℕ
+abbrev pub load : List Piece → ℕ
 load [] = 0
 load (p ∷ ps) = weight p + load ps
 
@@ -78,11 +79,11 @@ row_long need (r ∷ rows) word code all is =
       | inr other ↦ row_long need rows word code parts.1 (rw other at is)
     ]
 
-words_long : list_all (λ r. leb (weight (unwrap_or (slice_get reserved r.1) OTHER)) (length r.0)) reserved_words ≡ true
+words_long : list_all (λ r. leb (weight (unwrap_or (slice_get reserved r.1) (WORD r.1))) (length r.0)) reserved_words ≡ true
 unfolding reserved_words
 words_long = refl
 
-signs_long : list_all (λ r. leb (weight (unwrap_or (slice_get signs r.1) OTHER)) (length r.0)) symbols ≡ true
+signs_long : list_all (λ r. leb (weight (unwrap_or (slice_get signs r.1) ARROW)) (length r.0)) symbols ≡ true
 unfolding symbols
 signs_long = refl
 
@@ -105,21 +106,21 @@ word_shorter : (b : Bool) (word : List ℕ) → length (if b then word else []) 
 word_shorter true word = omega arith
 word_shorter false word = omega arith
 
-piece_long : (kind : Kind) (bytes : List ℕ) → HasForm kind bytes → weight (piece_of kind bytes) ≤ length bytes
+pub piece_long : (kind : Kind) (bytes : List ℕ) → HasForm kind bytes → weight (piece_of kind bytes) ≤ length bytes
 piece_long kinds.Name bytes form = omega (arith, word_long bytes form.0, word_shorter (is_short bytes) bytes)
 piece_long kinds.Number bytes form = number_long bytes form
 piece_long kinds.Text bytes form = omega (arith, text_long bytes form, word_shorter (is_short (unquoted bytes)) (unquoted bytes))
-piece_long (kinds.Sym code) bytes form = row_long (λ (c : ℕ). weight (unwrap_or (slice_get signs c) OTHER)) symbols bytes code signs_long form
-piece_long (kinds.Key code) bytes form = row_long (λ (c : ℕ). weight (unwrap_or (slice_get reserved c) OTHER)) reserved_words bytes code words_long form
+piece_long (kinds.Sym code) bytes form = row_long (λ (c : ℕ). weight (unwrap_or (slice_get signs c) ARROW)) symbols bytes code signs_long form
+piece_long (kinds.Key code) bytes form = row_long (λ (c : ℕ). weight (unwrap_or (slice_get reserved c) (WORD c))) reserved_words bytes code words_long form
 
-pieces_long : (tokens : List Lexeme) → HaveForms tokens → load (pieces tokens) ≤ bytes_of tokens
+pub pieces_long : (tokens : List Lexeme) → HaveForms tokens → load (pieces tokens) ≤ bytes_of tokens
 pieces_long [] forms = omega arith
 pieces_long (t ∷ tokens) forms =
     omega (arith, sum_by-cons (λ (l : Lexeme). length l.1) t tokens, piece_long t.0 t.1 forms.0, pieces_long tokens forms.1)
 
 -- ---- sums over tokens
 
-load_join : (xs ys : List Piece) → load (xs ++ ys) ≡ load xs + load ys
+pub load_join : (xs ys : List Piece) → load (xs ++ ys) ≡ load xs + load ys
 load_join [] ys = omega arith
 load_join (x ∷ xs) ys = omega (arith, load_join xs ys)
 

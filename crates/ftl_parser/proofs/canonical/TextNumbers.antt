@@ -1,6 +1,6 @@
 -- For this crate and for the crates above: canonical numbers: how long they are, and that they are numbers of the
 -- same value.
-use Rattle.ftl_parser.proofs.Names.{◌≡◌, ℕ, zero, suc, ◌+◌, ◌-◌, ◌*◌, ◌/◌, ◌%◌, ◌^◌, ◌<◌, ◌≤◌, max, Bool, true, false, ◌&&◌, List, [], ◌∷◌, ◌++◌, take, length, length-append, Option, None, Some, ℤ, pos, negsuc, unsigned_abs, refl, sym, ap, subst, ◌∙◌, arith, cond, leb, eqb, neg_ℤ, option_and_then, unwrap_or, list_all, is_ascii_digit, is_negative, decimal, sign_text, AllDigits, digits_value, leb-true, and_parts, length-decimal-le, decimal_digit, thousandths_of, IsDecimal, AreDigits, with_sign, decimals_value, point_text, fix_text, three_digits, without_last_zeros, up_to, whole_of}
+use Rattle.ftl_parser.proofs.Names.{◌≡◌, ℕ, zero, suc, ◌+◌, ◌-◌, ◌*◌, ◌/◌, ◌%◌, ◌^◌, ◌<◌, ◌≤◌, max, Bool, true, false, ◌&&◌, List, [], ◌∷◌, ◌++◌, take, length, length-append, Option, None, Some, ℤ, pos, negsuc, unsigned_abs, refl, sym, ap, subst, arith, cond, leb, eqb, neg_ℤ, option_and_then, unwrap_or, list_all, is_ascii_digit, is_negative, decimal, sign_text, AllDigits, digits_value, leb-true, and_parts, length-decimal-le, decimal_digit, thousandths_of, IsDecimal, AreDigits, with_sign, decimals_value, point_text, fix_text, three_digits, without_last_zeros, up_to, whole_of}
 use Rattle.std.proofs.Math.Dec.{leb-zero}
 use Rattle.std.proofs.lemmas.Int.Digits.{digits_value-lt}
 use Rattle.std.proofs.Math.Nat.{pow-le-pow_right}

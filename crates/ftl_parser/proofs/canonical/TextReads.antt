@@ -1,6 +1,6 @@
 -- For this crate and for the crates above: a printed query is read back: its text is cut into tokens that spell
 -- it, and its numbers are in the ranges of their places.
-use Rattle.ftl_parser.proofs.Names.{◌≡◌, ℕ, suc, ◌≤◌, Bool, true, false, not, ◌||◌, List, [], ◌∷◌, ◌++◌, length, append_assoc, append-nil, Option, None, Some, ℤ, pos, negsuc, IsTrue, refl, sym, ap, ap₂, subst, ◌∙◌, arith, cond, ltb, codes, decimal, position, neg_ℤ, unsigned_abs, if◌then◌else◌, AllByRecursion, flat_map, prefix_len, nat_tests, fix_text, READ_LIMIT, BoundForm, UntilForm, SubName, Op, code_of, reserved_words, symbols, token_at, Lexeme, cut, is_word, is_number, lexemes, bad_place, LAST_TICK, Shape, Prefix, Signed, FromPart, Tree, QueryTree, Piece, RETRIEVE, FROM, WHERE, AND, OR, TRUTH, PREFIX, BOUNDED, UNTIL, INSIDE, OUTSIDE, DIST, SPHERE, TIME, PART, OPEN, CLOSE, OPEN_SQUARE, CLOSE_SQUARE, COMMA, POINT, PLUS, MINUS, STAR, ARROW, COMPARISON, NAME, NUMBER, TEXT, unquoted, piece_of, pieces, pieces_from, lexemes_from, is_long, has_long, is_short, short_word, WORD_LIMIT, fits, Literal, Radius, Times, SpellsRef, ref_name, ref_attr, ref_part, ref_time, SpellsFactor, factor_number, factor_times, factor_text, factor_ref, SpellsTerm, term_first, term_minus_first, term_plus, term_minus, SpellsNum, num_plain, num_minus, SpellsNames, names_one, names_more, SpellsParts, parts_one, parts_more, SpellsAtom, atom_compare, atom_inside, atom_outside, atom_dist, atom_sphere, SpellsUntil, formula, unary, Spells, formula_conj, formula_or, conj_chain, conj_and, chain_unary, chain_until, until_plain, until_within, until_after, unary_prefix, unary_bounded, unary_assign, unary_brackets, unary_truth, unary_atom, SpellsQuery, query, prefixed, signed, from_part, term_of, unfit, clear, factor_marks, term_marks, num_marks, atom_marks, until_marks, marks, query_marks, first_unfit, first_too_large, OneOrMore, IsShortName, IsQuotable, IsPart, IsRef, IsUnit, IsMultiple, IsFactor, IsAtom, IsBound, IsFormula, IsPrintable, truth_word, bound_word, sub_word, op_word, later_names, names_text, part_text, parts_text, unit_text, times_text, first_sign, later_sign, factors_text, pair_text, atom_text, until_text, prefix_text, bound_text, assign_text, in_brackets, formula_text, query_text, IsReadAs, ReadsWhatIsPrinted, ReadsAgain}
+use Rattle.ftl_parser.proofs.Names.{◌≡◌, ℕ, suc, ◌≤◌, Bool, true, false, not, List, [], ◌∷◌, ◌++◌, length, append_assoc, append-nil, Option, None, Some, ℤ, pos, negsuc, IsTrue, refl, sym, ap, subst, ◌∙◌, arith, cond, ltb, codes, decimal, position, neg_ℤ, unsigned_abs, AllByRecursion, flat_map, prefix_len, nat_tests, fix_text, READ_LIMIT, BoundForm, UntilForm, SubName, Op, code_of, reserved_words, symbols, token_at, Lexeme, cut, is_word, lexemes, bad_place, LAST_TICK, Shape, Prefix, Signed, FromPart, Tree, QueryTree, Piece, TRUTH, PREFIX, BOUNDED, UNTIL, SPHERE, PART, OPEN, CLOSE, OPEN_SQUARE, CLOSE_SQUARE, COMMA, POINT, MINUS, STAR, ARROW, COMPARISON, NAME, NUMBER, piece_of, pieces, pieces_from, lexemes_from, has_long, fits, Literal, Radius, Times, SpellsRef, ref_name, ref_attr, ref_part, ref_time, SpellsFactor, factor_number, factor_times, factor_text, factor_ref, SpellsTerm, term_first, term_minus_first, term_plus, term_minus, SpellsNum, num_plain, num_minus, SpellsNames, names_one, names_more, SpellsParts, parts_one, parts_more, SpellsAtom, atom_compare, atom_inside, atom_outside, atom_dist, atom_sphere, SpellsUntil, formula, unary, Spells, formula_conj, formula_or, conj_chain, conj_and, chain_unary, chain_until, until_plain, until_within, until_after, unary_prefix, unary_bounded, unary_assign, unary_brackets, unary_truth, unary_atom, SpellsQuery, query, prefixed, signed, term_of, unfit, clear, factor_marks, term_marks, num_marks, atom_marks, until_marks, marks, query_marks, first_unfit, first_too_large, OneOrMore, IsShortName, IsQuotable, IsPart, IsRef, IsUnit, IsMultiple, IsFactor, IsAtom, IsBound, IsFormula, IsPrintable, truth_word, bound_word, sub_word, op_word, later_names, names_text, part_text, parts_text, unit_text, times_text, first_sign, later_sign, factors_text, pair_text, atom_text, until_text, prefix_text, assign_text, in_brackets, formula_text, query_text, IsReadAs, ReadsWhatIsPrinted, ReadsAgain}
 use Rattle.fixed_point.specs.declared.variants.BoundForm.TheVariants as bounds
 use Rattle.fixed_point.specs.declared.variants.UntilForm.TheVariants as untils
 use Rattle.fixed_point.specs.declared.variants.SubName.TheVariants as subs
@@ -16,7 +16,7 @@ use Rattle.ftl_parser.specs.declared.tree.Unit.TheVariants as units
 use Rattle.ftl_parser.specs.Number.{Ticks}
 use Rattle.ftl_parser.specs.Text as text
 use Rattle.ftl_parser.proofs.canonical.TextShapes.{prints_what_is_read, small_short}
-use Rattle.ftl_parser.proofs.canonical.TextTokens.{Anything, NameEnds, Ends, blank_ends, open_ends, close_ends, comma_ends, square_ends, IsCut, CutBefore, ReadsBefore, blank_first, put, no_cut, name_cut, key_cut, number_cut, text_cut, led, spaced_cut, closed_word, then_cut, closed_cut, parted, apart_cut, same_cut, reads, read_last, inside}
+use Rattle.ftl_parser.proofs.canonical.TextTokens.{Anything, Ends, blank_ends, open_ends, close_ends, comma_ends, square_ends, IsCut, CutBefore, ReadsBefore, blank_first, put, no_cut, name_cut, key_cut, number_cut, text_cut, led, spaced_cut, closed_word, then_cut, closed_cut, parted, apart_cut, same_cut, reads, read_last}
 use Rattle.ftl_parser.proofs.canonical.TextValues.{decimal_is_number, fix_is_number, minus_text, literal_again, literal_fits, radius_again, radius_fits, ticks_again, ticks_fit, times_again, times_fit}
 
 -- ---- marks, none of which is set
@@ -47,52 +47,25 @@ none_found ms c =
 fitting : (b : Bool) → b ≡ true → not b ≡ false
 fitting b h = rw h refl
 
--- ---- the tokens of queries, none of them too long
+-- ---- the tokens of queries, of which nothing more is asked
 
-abbrev piece_as : Lexeme → Piece
-piece_as t = piece_of t.0 t.1
-
-abbrev IsFit : Lexeme → Type 0
-IsFit t = is_long t.0 t.1 ≡ false
-
-none_long : (tokens : List Lexeme) → AllByRecursion IsFit tokens → has_long tokens ≡ false
-none_long [] all = refl
-none_long (t ∷ tokens) all = ap₂ (λ b c. b || c) all.0 (none_long tokens all.1)
+abbrev Anyhow : Lexeme → Type 0
+Anyhow t = Unit {0}
 
 abbrev Cut : (List ℕ → Type 0) → List ℕ → List Piece → Type 0
-Cut = CutBefore piece_as IsFit
+Cut = CutBefore Anyhow
 
 -- a part that may end with a name or a number
 abbrev Reads : List ℕ → (List Piece → Type 0) → Type 0
-Reads = ReadsBefore piece_as IsFit Ends
-
--- a name or text that isn't too long stands for itself
-word_is : (b : Bool) (word : List ℕ) → b ≡ true → (if b then word else []) ≡ word
-word_is true word h = refl
-word_is false word h = absurd (cc h)
-
-short_is : (word : List ℕ) → length word ≤ WORD_LIMIT → is_short word ≡ true
-short_is word h = grind (arith, nat_tests, h)
-
-name_first : (name : List ℕ) → IsShortName name → Cut NameEnds name (NAME name ∷ [])
-name_first name is =
-    let short : is_short name ≡ true = short_is name is.1 in
-    subst (λ (word : List ℕ). Cut NameEnds name (NAME word ∷ [])) (word_is (is_short name) name short) (name_cut name is.0.0 is.0.1 (ap not short))
+Reads = ReadsBefore Anyhow Ends
 
 name_reads : (name : List ℕ) → IsShortName name → Cut Ends name (NAME name ∷ [])
-name_reads name is = closed_word (name_first name is)
-
-text_reads : (text : List ℕ) → IsQuotable text → Cut Ends (34 ∷ text ++ 34 ∷ []) (TEXT text ∷ [])
-text_reads text is =
-    let quoted : List ℕ = 34 ∷ text ++ 34 ∷ [] in
-    let short : is_short text ≡ true = short_is text is.1 in
-    let word : short_word (unquoted quoted) ≡ text = ap short_word (inside text) ∙ word_is (is_short text) text short in
-    subst (λ (t : List ℕ). Cut Ends quoted (TEXT t ∷ [])) word (text_cut text is.0 (ap not (ap is_short (inside text) ∙ short)))
+name_reads name is = closed_word (name_cut name is tt)
 
 -- a reserved word at the end of a part, and one with a space after it
 key_last : (code : ℕ) (word : List ℕ) → IsTrue (is_word word) → code_of reserved_words word ≡ Some code
     → Cut Ends word (piece_of (kinds.Key code) word ∷ [])
-key_last code word is found = closed_word (key_cut code word is found refl)
+key_last code word is found = closed_word (key_cut code word is found tt)
 
 key_first : (code : ℕ) (word : List ℕ) → IsTrue (is_word word) → code_of reserved_words word ≡ Some code
     → Cut Anything (word ++ (32 ∷ [])) (piece_of (kinds.Key code) word ∷ [])
@@ -102,16 +75,16 @@ key_first code word is found = apart_cut (key_last code word is found) no_cut
 compared : {Later : List ℕ → Type 0} {part : List ℕ} {tokens : List Piece} (op : Op) → Cut Later part tokens
     → Cut Later (op_word op ++ (32 ∷ part)) (COMPARISON op ∷ tokens)
 unfolding cut token_at symbols
-compared ops.Lt c = record { again = λ rest ps ends is. put (kinds.Sym 13) (codes "<") (blank_first (c.again rest ps ends is)) refl refl }
-compared ops.Le c = record { again = λ rest ps ends is. put (kinds.Sym 11) (codes "<=") (blank_first (c.again rest ps ends is)) refl refl }
-compared ops.Eq c = record { again = λ rest ps ends is. put (kinds.Sym 9) (codes "=") (blank_first (c.again rest ps ends is)) refl refl }
-compared ops.Ne c = record { again = λ rest ps ends is. put (kinds.Sym 10) (codes "!=") (blank_first (c.again rest ps ends is)) refl refl }
-compared ops.Ge c = record { again = λ rest ps ends is. put (kinds.Sym 12) (codes ">=") (blank_first (c.again rest ps ends is)) refl refl }
-compared ops.Gt c = record { again = λ rest ps ends is. put (kinds.Sym 14) (codes ">") (blank_first (c.again rest ps ends is)) refl refl }
+compared ops.Lt c = record { again = λ rest ps ends is. put (kinds.Sym 13) (codes "<") (blank_first (c.again rest ps ends is)) refl refl tt }
+compared ops.Le c = record { again = λ rest ps ends is. put (kinds.Sym 11) (codes "<=") (blank_first (c.again rest ps ends is)) refl refl tt }
+compared ops.Eq c = record { again = λ rest ps ends is. put (kinds.Sym 9) (codes "=") (blank_first (c.again rest ps ends is)) refl refl tt }
+compared ops.Ne c = record { again = λ rest ps ends is. put (kinds.Sym 10) (codes "!=") (blank_first (c.again rest ps ends is)) refl refl tt }
+compared ops.Ge c = record { again = λ rest ps ends is. put (kinds.Sym 12) (codes ">=") (blank_first (c.again rest ps ends is)) refl refl tt }
+compared ops.Gt c = record { again = λ rest ps ends is. put (kinds.Sym 14) (codes ">") (blank_first (c.again rest ps ends is)) refl refl tt }
 
 bound_to : {Later : List ℕ → Type 0} {part : List ℕ} {tokens : List Piece} → Cut Later part tokens → Cut Later (60 ∷ 45 ∷ part) (ARROW ∷ tokens)
 unfolding cut token_at symbols
-bound_to c = record { again = λ rest ps ends is. put (kinds.Sym 15) (codes "<-") (c.again rest ps ends is) refl refl }
+bound_to c = record { again = λ rest ps ends is. put (kinds.Sym 15) (codes "<-") (c.again rest ps ends is) refl refl tt }
 
 -- ---- names, attributes and their parts
 
@@ -124,7 +97,7 @@ sub_cut subs.Function = key_last 24 (codes "function") refl refl
 -- a name and a point before others
 dotted : (o : List ℕ) {part : List ℕ} {tokens : List Piece} → IsShortName o → Cut Ends part tokens → Cut Ends (o ++ (46 ∷ part)) (NAME o ∷ POINT ∷ tokens)
 unfolding symbols
-dotted o is later = parted (λ rest. refl) (name_first o is) (led signs.POINT 46 refl refl refl later)
+dotted o is later = parted (λ rest. refl) (name_cut o is tt) (led signs.POINT 46 refl refl tt later)
 
 ref_reads : (u : unit_type.Unit) → IsRef IsShortName u → Reads (unit_text u) (SpellsRef u)
 unfolding reserved_words
@@ -147,9 +120,9 @@ unit_reads : (u : unit_type.Unit) → IsUnit IsShortName IsQuotable u → Reads 
 unit_reads (units.Literal (pos n)) shape =
     let number : List ℕ = fix_text (pos n) in
     reads (subst (λ (v : ℤ). FactorOf None (units.Literal v) (NUMBER number ∷ [])) (literal_again n shape)
-    (factor_number, (fitting (fits Literal number) (literal_fits n shape), tt))) (number_cut number (fix_is_number n shape) refl)
+    (factor_number, (fitting (fits Literal number) (literal_fits n shape), tt))) (number_cut number (fix_is_number n shape) tt)
 unit_reads (units.Literal (negsuc n)) shape = absurd shape
-unit_reads (units.Text t) shape = reads (factor_text, (refl, tt)) (text_reads t shape)
+unit_reads (units.Text t) shape = reads (factor_text, (refl, tt)) (text_cut t shape tt)
 unit_reads u shape = plain_ref u (ref_reads u shape)
 
 factor_reads : (k : Option ℕ) (u : unit_type.Unit) → IsMultiple IsShortName IsQuotable k u → Reads (times_text k ++ unit_text u) (FactorOf k u)
@@ -157,10 +130,10 @@ unfolding symbols
 factor_reads None u shape = unit_reads u shape
 factor_reads (Some k) u shape =
     let r : Reads (unit_text u) (SpellsRef u) = ref_reads u shape.1 in
-    let number : Cut Ends (decimal k) (NUMBER (decimal k) ∷ []) = number_cut (decimal k) (decimal_is_number k (omega (arith, shape.0))) refl in
+    let number : Cut Ends (decimal k) (NUMBER (decimal k) ∷ []) = number_cut (decimal k) (decimal_is_number k (omega (arith, shape.0))) tt in
     reads (subst (λ (n : ℕ). FactorOf (Some n) u (NUMBER (decimal k) ∷ STAR ∷ r.tokens)) (times_again k shape.0)
     (factor_times r.spelled, (fitting (fits Times (decimal k)) (times_fit k shape.0), (refl, no_marks r.tokens))))
-    (same_cut (apart_cut number (led signs.TIMES 42 refl refl refl (spaced_cut r.cut))) (simp append_assoc))
+    (same_cut (apart_cut number (led signs.TIMES 42 refl refl tt (spaced_cut r.cut))) (simp append_assoc))
 
 -- ---- what may stand any number of times
 
@@ -188,11 +161,11 @@ unfolding symbols
 factor_behind fs front r false k u shape =
     let f : Reads (times_text k ++ unit_text u) (FactorOf k u) = factor_reads k u shape in
     reads (term_plus r.spelled.0 f.spelled.0, joined (term_marks r.spelled.0) (false ∷ factor_marks f.spelled.0) r.spelled.1 (refl, f.spelled.1))
-    (apart_cut r.cut (led signs.PLUS 43 refl refl refl (spaced_cut f.cut)))
+    (apart_cut r.cut (led signs.PLUS 43 refl refl tt (spaced_cut f.cut)))
 factor_behind fs front r true k u shape =
     let f : Reads (times_text k ++ unit_text u) (FactorOf k u) = factor_reads k u shape in
     reads (term_minus r.spelled.0 f.spelled.0, joined (term_marks r.spelled.0) (false ∷ factor_marks f.spelled.0) r.spelled.1 (refl, f.spelled.1))
-    (apart_cut r.cut (led signs.MINUS 45 refl refl refl (spaced_cut f.cut)))
+    (apart_cut r.cut (led signs.MINUS 45 refl refl tt (spaced_cut f.cut)))
 
 first_factor : (minus : Bool) (k : Option ℕ) (u : unit_type.Unit) → IsMultiple IsShortName IsQuotable k u
     → Reads (first_sign minus ++ (times_text k ++ unit_text u)) (TermOf (signed minus k u ∷ []))
@@ -202,7 +175,7 @@ first_factor false k u shape =
     reads (term_first f.spelled.0, f.spelled.1) f.cut
 first_factor true k u shape =
     let f : Reads (times_text k ++ unit_text u) (FactorOf k u) = factor_reads k u shape in
-    reads (term_minus_first f.spelled.0, (refl, f.spelled.1)) (led signs.MINUS 45 refl refl refl f.cut)
+    reads (term_minus_first f.spelled.0, (refl, f.spelled.1)) (led signs.MINUS 45 refl refl tt f.cut)
 
 factors_read : (fs : List Signed) → OneOrMore (IsFactor IsShortName IsQuotable) fs → Reads (factors_text fs) (TermOf fs)
 factors_read [] shape = absurd shape
@@ -216,7 +189,7 @@ factors_read (f ∷ fs) shape =
 -- after a comma
 behind_comma : {x y : List ℕ} {xs ys : List Piece} → Cut Ends x xs → Cut Ends y ys → Cut Ends (x ++ (44 ∷ y)) (xs ++ (COMMA ∷ ys))
 unfolding symbols
-behind_comma first second = parted comma_ends first (led signs.COMMA 44 refl refl refl second)
+behind_comma first second = parted comma_ends first (led signs.COMMA 44 refl refl tt second)
 
 names_read : (ns : List (List ℕ)) → OneOrMore IsShortName ns → Reads (names_text ns) (SpellsNames ns)
 names_read [] shape = absurd shape
@@ -244,22 +217,22 @@ unfolding symbols
 num_reads (pos n) within =
     let size : List ℕ = fix_text (pos n) in
     reads (subst (λ (v : ℤ). NumOf v (NUMBER size ∷ [])) (literal_again n within) (num_plain, (fitting (fits Literal size) (literal_fits n within), tt)))
-    (number_cut size (fix_is_number n within) refl)
+    (number_cut size (fix_is_number n within) tt)
 num_reads (negsuc n) within =
     let size : List ℕ = fix_text (pos (suc n)) in
     reads (subst (λ (v : ℤ). NumOf (neg_ℤ v) (MINUS ∷ NUMBER size ∷ [])) (literal_again (suc n) within)
     (num_minus, (refl, (fitting (fits Literal size) (literal_fits (suc n) within), tt))))
-    (same_cut (led signs.MINUS 45 refl refl refl (number_cut size (fix_is_number (suc n) within) refl)) (minus_text n))
+    (same_cut (led signs.MINUS 45 refl refl tt (number_cut size (fix_is_number (suc n) within) tt)) (minus_text n))
 
 -- a bracket that closes, after what may end with a name or a number
 closing : {Later : List ℕ → Type 0} {x y : List ℕ} {xs ys : List Piece} → Cut Ends x xs → Cut Later y ys
     → Cut Later (x ++ (41 ∷ y)) (xs ++ (CLOSE ∷ ys))
 unfolding symbols
-closing first second = parted close_ends first (led signs.CLOSE_ROUND 41 refl refl refl second)
+closing first second = parted close_ends first (led signs.CLOSE_ROUND 41 refl refl tt second)
 
 opening : {Later : List ℕ → Type 0} {part : List ℕ} {tokens : List Piece} → Cut Later part tokens → Cut Later (40 ∷ part) (OPEN ∷ tokens)
 unfolding symbols
-opening later = led signs.OPEN_ROUND 40 refl refl refl later
+opening later = led signs.OPEN_ROUND 40 refl refl tt later
 
 -- a reserved word before a bracket
 before_open : {part : List ℕ} {tokens : List Piece} (code : ℕ) (word : List ℕ) → IsTrue (is_word word) → code_of reserved_words word ≡ Some code
@@ -304,7 +277,7 @@ atom_reads (atoms.Sphere (pos r) (name ∷ names)) shape =
     let number : List ℕ = fix_text (pos r) in
     let all : List (List ℕ) = name ∷ names in
     let n : Reads (names_text all) (SpellsNames all) = names_read all shape.1 in
-    let size : Cut Ends number (NUMBER number ∷ []) = number_cut number (fix_is_number r (omega (arith, shape.0))) refl in
+    let size : Cut Ends number (NUMBER number ∷ []) = number_cut number (fix_is_number r (omega (arith, shape.0))) tt in
     let unmarked : AreClear (false ∷ false ∷ unfit Radius number ∷ false ∷ (clear n.tokens ++ false ∷ [])) =
     (refl, (refl, (fitting (fits Radius number) (radius_fits r shape.0), (refl, joined (clear n.tokens) (false ∷ []) (no_marks n.tokens) (refl, tt))))) in
     reads (subst (λ (v : ℤ). AtomOf (atoms.Sphere v all) (SPHERE ∷ OPEN ∷ NUMBER number ∷ COMMA ∷ (n.tokens ++ CLOSE ∷ []))) (radius_again r shape.0)
@@ -330,10 +303,10 @@ abbrev UntilOf : UntilForm → ℕ → List Piece → Type 0
 UntilOf form n xs = (d : SpellsUntil form n xs) × AreClear (until_marks d)
 
 abbrev UntilReads : UntilForm → ℕ → Type 0
-UntilReads form n = ReadsBefore piece_as IsFit Anything (until_text form n) (UntilOf form n)
+UntilReads form n = ReadsBefore Anyhow Anything (until_text form n) (UntilOf form n)
 
 ticks_cut : (n : ℕ) → n ≤ LAST_TICK → Cut Ends (decimal n) (NUMBER (decimal n) ∷ [])
-ticks_cut n within = number_cut (decimal n) (decimal_is_number n (omega (arith, within))) refl
+ticks_cut n within = number_cut (decimal n) (decimal_is_number n (omega (arith, within))) tt
 
 ticks_clear : (n : ℕ) → n ≤ LAST_TICK → unfit Ticks (decimal n) ≡ false
 ticks_clear n within = fitting (fits Ticks (decimal n)) (ticks_fit n within)
@@ -383,8 +356,8 @@ assigned : {part : List ℕ} {tokens xs : List Piece} (v : List ℕ) (fs : List 
     → Cut Ends (assign_text v (term_of fs) ++ part) (OPEN_SQUARE ∷ NAME v ∷ ARROW ∷ (xs ++ CLOSE_SQUARE ∷ tokens))
 unfolding symbols
 assigned v fs v_is term later =
-    same_cut (led signs.OPEN_SQUARE 91 refl refl refl (apart_cut (name_reads v v_is) (bound_to (spaced_cut
-    (parted square_ends term (led signs.CLOSE_SQUARE 93 refl refl refl (spaced_cut later))))))) (simp append_assoc)
+    same_cut (led signs.OPEN_SQUARE 91 refl refl tt (apart_cut (name_reads v v_is) (bound_to (spaced_cut
+    (parted square_ends term (led signs.CLOSE_SQUARE 93 refl refl tt (spaced_cut later))))))) (simp append_assoc)
 
 formula_reads : (f : Tree) → IsFormula IsShortName IsQuotable f → Reads (formula_text f) (UnaryOf f)
 unfolding reserved_words
@@ -453,12 +426,12 @@ query_reads q shape =
 pub reads_what_is_printed : ReadsWhatIsPrinted
 reads_what_is_printed q shape =
     let r : Reads (query_text q) (QueryOf q) = query_reads q shape in
-    let is : IsCut piece_as IsFit (query_text q) r.tokens = read_last r in
+    let is : IsCut Anyhow (query_text q) r.tokens = read_last r in
     let found : (bad_place (query_text q) ≡ None) × (lexemes (query_text q) ≡ is.lexed) = lexemes_from_cut (query_text q) is.lexed is.cut_is in
     let tokens : r.tokens ≡ pieces_from 0 (query_text q) = sym (ap pieces found.1 ∙ is.pieces_are) in
     let read : (d : SpellsQuery q (pieces_from 0 (query_text q))) × (first_unfit d ≡ None) =
     subst (λ (xs : List Piece). (d : SpellsQuery q xs) × (first_unfit d ≡ None)) tokens (r.spelled.0, none_found (query_marks r.spelled.0) r.spelled.1) in
-    record { no_bad_token = found.0; spelled = read.0; fit = read.1; short = ap has_long found.1 ∙ none_long is.lexed is.good }
+    record { no_bad_token = found.0; spelled = read.0; fit = read.1; short = ap has_long found.1 ∙ is.short }
 
 pub reads_again : ReadsAgain
 reads_again from line q read =

@@ -1,5 +1,5 @@
 -- For this crate and for the crates above: what tokens of a line spell is printable.
-use Rattle.ftl_parser.proofs.Names.{◌≡◌, ℕ, zero, suc, ◌+◌, ◌-◌, ◌*◌, ◌≤◌, Bool, true, false, ◌&&◌, List, [], ◌∷◌, ◌++◌, drop, take, length, append_assoc, Option, None, Some, ℤ, pos, negsuc, unsigned_abs, IsTrue, refl, sym, ap, subst, ◌∙◌, arith, cond, leb, neg_ℤ, not, slice_get, unwrap_or, if◌then◌else◌, AllByRecursion, list_all, or_parts, nat_tests, is_ascii_digit, digits_value, sign_text, thousandths_of, IsDecimal, with_sign, decimals_value, point_text, Kind, lexemes, Lexeme, HasForm, is_number, has_no_quote, IsQuoted, HaveForms, READ_LIMIT, WORD_LIMIT, UntilForm, RADIUS_LIMIT, LAST_TICK, TIMES_LIMIT, Prefix, Signed, FromPart, Tree, QueryTree, Piece, FROM, WHERE, AND, OR, UNTIL, CLOSE, CLOSE_SQUARE, COMMA, PLUS, MINUS, COMPARISON, NAME, NUMBER, TEXT, reserved, signs, OTHER, piece_of, pieces, pieces_from, lexemes_from, is_long, has_long, unquoted, is_short, whole_of, literal, radius, SpellsUntil, SpellsRef, ref_name, ref_attr, ref_part, ref_time, SpellsFactor, factor_number, factor_times, factor_text, factor_ref, SpellsTerm, term_first, term_minus_first, term_plus, term_minus, SpellsNum, num_plain, num_minus, SpellsNames, names_one, names_more, SpellsParts, parts_one, parts_more, SpellsAtom, atom_compare, atom_inside, atom_outside, atom_dist, atom_sphere, Level, Spells, formula_conj, formula_or, conj_chain, conj_and, chain_unary, chain_until, until_plain, until_within, until_after, unary_prefix, unary_bounded, unary_assign, unary_brackets, unary_truth, unary_atom, SpellsQuery, query, prefixed, signed, from_part, first_too_large, Reads, OneOrMore, IsShortName, IsQuotable, IsPart, IsUnsigned, IsRef, IsUnit, IsMultiple, IsFactor, IsAtom, IsBound, IsFormula, HasShape, IsAny, IsLawful, PrintsWhatIsRead}
+use Rattle.ftl_parser.proofs.Names.{◌≡◌, ℕ, zero, suc, ◌+◌, ◌-◌, ◌*◌, ◌≤◌, Bool, true, false, ◌&&◌, List, [], ◌∷◌, ◌++◌, drop, take, length, append_assoc, Option, None, Some, ℤ, pos, negsuc, unsigned_abs, IsTrue, refl, sym, ap, subst, ◌∙◌, arith, cond, leb, neg_ℤ, not, slice_get, unwrap_or, if◌then◌else◌, AllByRecursion, list_all, or_parts, nat_tests, is_ascii_digit, digits_value, sign_text, thousandths_of, IsDecimal, with_sign, decimals_value, point_text, Kind, lexemes, Lexeme, HasForm, is_number, has_no_quote, IsQuoted, HaveForms, READ_LIMIT, WORD_LIMIT, UntilForm, RADIUS_LIMIT, LAST_TICK, TIMES_LIMIT, Prefix, Signed, FromPart, Tree, QueryTree, Piece, FROM, WHERE, AND, OR, CLOSE, CLOSE_SQUARE, COMMA, PLUS, MINUS, COMPARISON, NAME, NUMBER, TEXT, ARROW, WORD, reserved, signs, piece_of, pieces, pieces_from, lexemes_from, is_long, has_long, unquoted, is_short, whole_of, literal, radius, SpellsUntil, SpellsRef, ref_name, ref_attr, ref_part, ref_time, SpellsFactor, factor_number, factor_times, factor_text, factor_ref, SpellsTerm, term_first, term_minus_first, term_plus, term_minus, SpellsNum, num_plain, num_minus, SpellsNames, names_one, names_more, SpellsParts, parts_one, parts_more, SpellsAtom, atom_compare, atom_inside, atom_outside, atom_dist, atom_sphere, Level, Spells, formula_conj, formula_or, conj_chain, conj_and, chain_unary, chain_until, until_plain, until_within, until_after, unary_prefix, unary_bounded, unary_assign, unary_brackets, unary_truth, unary_atom, SpellsQuery, query, prefixed, signed, from_part, first_too_large, Reads, OneOrMore, IsShortName, IsQuotable, IsPart, IsUnsigned, IsRef, IsUnit, IsMultiple, IsFactor, IsAtom, IsBound, IsFormula, HasShape, IsAny, IsLawful, PrintsWhatIsRead}
 use Rattle.fixed_point.proofs.DecimalLemmas.{decimal_law}
 use Rattle.ftl_lexer.specs.declared.kinds.Kind.TheVariants as kinds
 use Rattle.ftl_lexer.proofs.Shapes.{tokens_have_forms}
@@ -10,6 +10,7 @@ use Rattle.ftl_parser.specs.declared.tree.Unit as unit_type
 use Rattle.ftl_parser.specs.declared.tree.Unit.TheVariants as units
 use Rattle.exact.specs.First.{first_that_holds}
 use Rattle.ftl_parser.specs.declared.fault.Size.TheVariants as sizes
+use Rattle.ftl_parser.proofs.reader.TableLemmas.{is_fixed, sign_fixed, word_fixed}
 use Rattle.ftl_parser.proofs.canonical.TextNumbers.{whole_is}
 
 -- ---- lists
@@ -41,19 +42,17 @@ PieceHas N T p = Unit {0}
 abbrev pub HaveShapes : (N T : List ℕ → Type 0) → List Piece → Type 0
 HaveShapes N T = AllByRecursion (PieceHas N T)
 
-fixed_has : (N T : List ℕ → Type 0) (table : List Piece) (code : ℕ) → HaveShapes N T table → PieceHas N T (unwrap_or (slice_get table code) OTHER)
-fixed_has N T [] code all = tt
-fixed_has N T (p ∷ table) zero all = all.0
-fixed_has N T (p ∷ table) (suc code) all = fixed_has N T table code all.1
+fixed_has : (N T : List ℕ → Type 0) (p : Piece) → is_fixed p ≡ true → PieceHas N T p
+fixed_has N T (NAME n) h = absurd (cc)
+fixed_has N T (NUMBER n) h = absurd (cc)
+fixed_has N T (TEXT t) h = absurd (cc)
+fixed_has N T p h = tt
 
-words_have : (N T : List ℕ → Type 0) → HaveShapes N T reserved
-words_have N T = (tt, (tt, (tt, (tt, (tt, (tt, (tt, (tt, (tt, (tt, (tt, (tt, others_have))))))))))))
-  where
-    others_have : HaveShapes N T (drop 12 reserved)
-    others_have = (tt, (tt, (tt, (tt, (tt, (tt, (tt, (tt, (tt, (tt, (tt, (tt, (tt, tt)))))))))))))
+pub sign_has : (N T : List ℕ → Type 0) (code : ℕ) → PieceHas N T (unwrap_or (slice_get signs code) ARROW)
+sign_has N T code = fixed_has N T (unwrap_or (slice_get signs code) ARROW) (sign_fixed code)
 
-signs_have : (N T : List ℕ → Type 0) → HaveShapes N T signs
-signs_have N T = (tt, (tt, (tt, (tt, (tt, (tt, (tt, (tt, (tt, (tt, (tt, (tt, (tt, (tt, (tt, (tt, tt))))))))))))))))
+pub word_has : (N T : List ℕ → Type 0) (code : ℕ) → PieceHas N T (unwrap_or (slice_get reserved code) (WORD code))
+word_has N T code = fixed_has N T (unwrap_or (slice_get reserved code) (WORD code)) (word_fixed code)
 
 pub text_has : (text : List ℕ) → IsQuoted text → IsTrue (has_no_quote (unquoted text))
 text_has text quoted =
@@ -68,13 +67,13 @@ short_is : (word : List ℕ) → not (is_short word) ≡ false → length word �
 short_is word h = grind (arith, nat_tests, h)
 
 -- a name or text that isn't too long stands for itself
-short_piece : (kind : Kind) (bytes : List ℕ) → HasForm kind bytes → is_long kind bytes ≡ false → PieceHas IsShortName IsQuotable (piece_of kind bytes)
+pub short_piece : (kind : Kind) (bytes : List ℕ) → HasForm kind bytes → is_long kind bytes ≡ false → PieceHas IsShortName IsQuotable (piece_of kind bytes)
 short_piece kinds.Name bytes form short = subst IsShortName (sym (word_is (is_short bytes) bytes short)) (form, short_is bytes short)
 short_piece kinds.Number bytes form short = form
 short_piece kinds.Text bytes form short =
     subst IsQuotable (sym (word_is (is_short (unquoted bytes)) (unquoted bytes) short)) (text_has bytes form, short_is (unquoted bytes) short)
-short_piece (kinds.Sym code) bytes form short = fixed_has IsShortName IsQuotable signs code (signs_have IsShortName IsQuotable)
-short_piece (kinds.Key code) bytes form short = fixed_has IsShortName IsQuotable reserved code (words_have IsShortName IsQuotable)
+short_piece (kinds.Sym code) bytes form short = sign_has IsShortName IsQuotable code
+short_piece (kinds.Key code) bytes form short = word_has IsShortName IsQuotable code
 
 short_pieces : (tokens : List Lexeme) → HaveForms tokens → has_long tokens ≡ false → HaveShapes IsShortName IsQuotable (pieces tokens)
 short_pieces [] forms short = tt
@@ -87,8 +86,8 @@ any_piece : (kind : Kind) (bytes : List ℕ) → HasForm kind bytes → PieceHas
 any_piece kinds.Name bytes form = tt
 any_piece kinds.Number bytes form = form
 any_piece kinds.Text bytes form = tt
-any_piece (kinds.Sym code) bytes form = fixed_has IsAny IsAny signs code (signs_have IsAny IsAny)
-any_piece (kinds.Key code) bytes form = fixed_has IsAny IsAny reserved code (words_have IsAny IsAny)
+any_piece (kinds.Sym code) bytes form = sign_has IsAny IsAny code
+any_piece (kinds.Key code) bytes form = word_has IsAny IsAny code
 
 any_pieces : (tokens : List Lexeme) → HaveForms tokens → HaveShapes IsAny IsAny (pieces tokens)
 any_pieces [] forms = tt
@@ -273,11 +272,11 @@ pub spelled_shape : (from : ℕ) (line : List ℕ) (q : QueryTree) → SpellsQue
 spelled_shape from line q spelled = query_shape IsAny IsAny spelled
     (any_pieces (lexemes_from from line) (later_forms from (lexemes line) (tokens_have_forms line)))
 
--- a query that is read is lawful
+-- no size of a query that is read passes its limit
+pub reads_small : (tokens : List Lexeme) (q : QueryTree) → Reads tokens q → first_too_large false q ≡ None
+reads_small tokens q read = ap (λ b. first_too_large b q) (sym (small_short (has_long tokens) q read.small)) ∙ read.small
+
+-- and it is lawful
 pub reads_lawful : (from : ℕ) (line : List ℕ) (q : QueryTree) → Reads (lexemes_from from line) q → IsLawful q
 reads_lawful from line q read =
-    let long : Bool = has_long (lexemes_from from line) in
-    record {
-      shape = spelled_shape from line q read.spelled;
-      small = ap (λ b. first_too_large b q) (sym (small_short long q read.small)) ∙ read.small;
-    }
+    record { shape = spelled_shape from line q read.spelled; small = reads_small (lexemes_from from line) q read }

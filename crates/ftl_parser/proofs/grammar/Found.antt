@@ -1,6 +1,6 @@
 -- For this crate and for the crates above: what the machine has read in each state, and that what it parses is
 -- derived by the rules.
-use Rattle.ftl_parser.proofs.Names.{◌≡◌, ℕ, ◌≤◌, Bool, true, false, List, [], ◌∷◌, ◌++◌, Option, None, Some, option_map, option_and_then, refl, sym, ap, ◌∙◌, subst, arith, append_assoc, append-nil, BoundForm, UntilForm, Op, Shape, Signed, FromPart, Head, Pair, TermPlace, Factor, Prefix, Spatial, Tree, QueryTree, Piece, RETRIEVE, FROM, WHERE, AND, OR, TRUTH, PREFIX, BOUNDED, UNTIL, INSIDE, OUTSIDE, DIST, SPHERE, TIME, PART, OPEN, CLOSE, OPEN_SQUARE, CLOSE_SQUARE, COMMA, POINT, PLUS, MINUS, STAR, ARROW, COMPARISON, NAME, NUMBER, TEXT, ticks, times, literal, radius, SpellsRef, ref_name, ref_attr, ref_part, ref_time, SpellsFactor, factor_number, factor_times, factor_text, factor_ref, SpellsTerm, term_first, term_minus_first, term_plus, term_minus, num_plain, num_minus, SpellsNames, names_one, names_more, SpellsParts, parts_one, parts_more, atom_compare, atom_inside, atom_outside, atom_dist, atom_sphere, SpellsUntil, until_plain, until_within, until_after, Level, formula, conj, chain, unary, Spells, formula_conj, formula_or, conj_chain, conj_and, chain_unary, chain_until, unary_prefix, unary_bounded, unary_assign, unary_brackets, unary_truth, unary_atom, SpellsQuery, query, signed, term_of, from_part, Frame, Bracket, OrWith, AndWith, UntilWith, PrefixedBy, BoundedBy, Assigning, Phase, Want, Have, Reach, Variable, Arrow, InTerm, InSpatial, Body, Heading, Within, start, reference, factor_begun, lengthened, whole, reduced, closed, behind, term_ended, factor_ended, behind_factor, longer_or, term_step, spatial_step, wanted, body_step, alone, compared, body_end, parsed}
+use Rattle.ftl_parser.proofs.Names.{◌≡◌, ℕ, ◌≤◌, Bool, true, false, List, [], ◌∷◌, ◌++◌, Option, None, Some, option_map, option_and_then, refl, sym, ap, ◌∙◌, subst, arith, append_assoc, append-nil, BoundForm, UntilForm, Op, Signed, FromPart, Head, Pair, TermPlace, Factor, Prefix, Spatial, Tree, QueryTree, Piece, RETRIEVE, FROM, WHERE, AND, OR, TRUTH, PREFIX, BOUNDED, UNTIL, INSIDE, OUTSIDE, DIST, SPHERE, TIME, PART, OPEN, CLOSE, OPEN_SQUARE, CLOSE_SQUARE, COMMA, POINT, PLUS, MINUS, STAR, ARROW, COMPARISON, NAME, NUMBER, TEXT, ticks, times, literal, radius, SpellsRef, ref_name, ref_attr, ref_part, ref_time, SpellsFactor, factor_number, factor_times, factor_text, factor_ref, SpellsTerm, term_first, term_minus_first, term_plus, term_minus, num_plain, num_minus, SpellsNames, names_one, names_more, SpellsParts, parts_one, parts_more, atom_compare, atom_inside, atom_outside, atom_dist, atom_sphere, SpellsUntil, until_plain, until_within, until_after, Level, formula, conj, chain, unary, Spells, formula_conj, formula_or, conj_chain, conj_and, chain_unary, chain_until, unary_prefix, unary_bounded, unary_assign, unary_brackets, unary_truth, unary_atom, SpellsQuery, query, signed, term_of, from_part, Frame, Bracket, OrWith, AndWith, UntilWith, PrefixedBy, BoundedBy, Assigning, Phase, Want, Have, Reach, Variable, Arrow, InTerm, InSpatial, Body, Heading, Within, start, reference, factor_begun, lengthened, whole, reduced, closed, behind, term_ended, factor_ended, behind_factor, longer_or, term_step, spatial_step, wanted, body_step, alone, compared, body_end, parsed}
 use Rattle.fixed_point.specs.declared.variants.UntilForm.TheVariants as untils
 use Rattle.ftl_parser.specs.declared.tree.Unit as unit_type
 use Rattle.ftl_parser.specs.declared.state.Head.TheVariants as heads

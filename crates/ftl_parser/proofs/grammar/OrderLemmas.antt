@@ -1,9 +1,9 @@
 -- For this crate and for the crates above: names, texts and terms of a query stand in its tokens in the same order.
-use Rattle.ftl_parser.proofs.Names.{◌≡◌, ℕ, ℤ, true, false, List, [], ◌∷◌, ◌++◌, append_assoc, append-nil, Option, refl, sym, ap, ◌∙◌, subst, flat_map, flat_map-append, UntilForm, Shape, Prefix, Signed, Term, FromPart, Tree, QueryTree, Piece, RETRIEVE, FROM, WHERE, AND, OR, PREFIX, BOUNDED, UNTIL, OPEN, CLOSE, OPEN_SQUARE, CLOSE_SQUARE, COMMA, PLUS, MINUS, ARROW, COMPARISON, NAME, NUMBER, SpellsUntil, SpellsRef, ref_name, ref_attr, ref_part, ref_time, SpellsFactor, factor_number, factor_times, factor_text, factor_ref, SpellsTerm, term_first, term_minus_first, term_plus, term_minus, SpellsNum, num_plain, num_minus, SpellsNames, names_one, names_more, SpellsParts, parts_one, parts_more, SpellsAtom, atom_compare, atom_inside, atom_outside, atom_dist, atom_sphere, Level, Spells, formula_conj, formula_or, conj_chain, conj_and, chain_unary, chain_until, until_plain, until_within, until_after, unary_prefix, unary_bounded, unary_assign, unary_brackets, unary_truth, unary_atom, SpellsQuery, query, prefixed, term_of, signed, from_part}
+use Rattle.ftl_parser.proofs.Names.{◌≡◌, ℕ, ℤ, true, false, List, [], ◌∷◌, ◌++◌, append_assoc, append-nil, Option, refl, sym, ap, ◌∙◌, subst, flat_map, flat_map-append, UntilForm, Prefix, Signed, Term, FromPart, Tree, QueryTree, Piece, RETRIEVE, FROM, WHERE, AND, OR, PREFIX, BOUNDED, OPEN, CLOSE, OPEN_SQUARE, CLOSE_SQUARE, COMMA, PLUS, MINUS, ARROW, COMPARISON, NAME, NUMBER, SpellsUntil, SpellsRef, ref_name, ref_attr, ref_part, ref_time, SpellsFactor, factor_number, factor_times, factor_text, factor_ref, SpellsTerm, term_first, term_minus_first, term_plus, term_minus, SpellsNum, num_plain, num_minus, SpellsNames, names_one, names_more, SpellsParts, parts_one, parts_more, SpellsAtom, atom_compare, atom_inside, atom_outside, atom_dist, atom_sphere, Level, Spells, formula_conj, formula_or, conj_chain, conj_and, chain_unary, chain_until, until_plain, until_within, until_after, unary_prefix, unary_bounded, unary_assign, unary_brackets, unary_truth, unary_atom, SpellsQuery, query, prefixed, term_of, signed, from_part}
 use Rattle.ftl_parser.specs.declared.prefix.Prefix.TheVariants as prefixes
 use Rattle.ftl_parser.specs.declared.tree.Atom as atom_type
 use Rattle.ftl_parser.specs.declared.tree.Unit as unit_type
-use Rattle.ftl_parser.specs.Order.{Lists, unit_lists, factors_list, term_lists, atom_lists, formula_lists, part_lists, query_lists, piece_lists, token_lists, query_names, token_names, query_texts, token_texts, names_alone, texts_alone, atom_terms, formula_terms, query_terms, TermsIn, no_more_terms, next_term}
+use Rattle.ftl_parser.specs.Order.{Lists, unit_lists, factors_list, atom_lists, formula_lists, part_lists, query_lists, piece_lists, token_lists, query_names, token_names, query_texts, token_texts, names_alone, texts_alone, atom_terms, formula_terms, query_terms, TermsIn, no_more_terms, next_term}
 
 -- ---- names and texts, whatever they list
 

@@ -1,5 +1,8 @@
 -- The tokens of a line, one after the other.
-use Rattle.ftl_parser.proofs.Names.{◌≡◌, ℕ, zero, suc, ◌+◌, ◌≤◌, Bool, true, false, List, [], ◌∷◌, ◌||◌, length, drop, Option, None, Some, option_map, position, slice_get, refl, sym, ap, ◌∙◌, arith, add-one, add-zero, list_any, nat_tests, length-map, slice_get_within, lexemes, tokens_of, Lexeme, Coming, Piece, piece_of, pieces, pieces_from, lexemes_from, is_long, has_long, coming, mark, scan, first_from}
+use Rattle.ftl_parser.proofs.Names.{◌≡◌, ℕ, zero, suc, ◌+◌, ◌≤◌, Bool, true, false, List, [], ◌∷◌, ◌||◌, length, drop, Option, None, Some, option_map, position, slice_get, refl, sym, ap, ◌∙◌, arith, add-one, add-zero, nat_tests, length-map, slice_get_within, lexemes, tokens_of, Lexeme, Coming, Piece, piece_of, pieces, pieces_from, lexemes_from, is_long, has_long, coming, mark, scan, first_from, ◌-◌, Kind, not, length-take, is_short, unquoted, WORD_LIMIT}
+use Rattle.std.proofs.lemmas.List.{length-drop}
+use Rattle.std.specs.Prelude.{nat_le}
+use Rattle.ftl_lexer.specs.declared.kinds.Kind.TheVariants as kinds
 
 -- a token, and those after it
 drop-pieces : (l : List Lexeme) (at : ℕ) (p : Piece) → slice_get (pieces l) at ≡ Some p → pieces (drop at l) ≡ p ∷ pieces (drop (suc at) l)
@@ -72,6 +75,19 @@ pub has_long-end : (line : List ℕ) (at : ℕ) → length (tokens_of line) ≤ 
 has_long-end line at h =
     let short : length (lexemes line) ≤ at = simp length-map h in
     ap has_long (drop-past (lexemes line) at short)
+
+-- a token of no more bytes than a word is not long, nor is a text with what stands between its quotes
+pub few_bytes : (kind : Kind) (bytes : List ℕ) → is_short bytes ≡ true → is_long kind bytes ≡ false
+few_bytes kinds.Name bytes few = ap not few
+few_bytes kinds.Number bytes few = refl
+few_bytes kinds.Text bytes few =
+    let inner : length (unquoted bytes) ≤ length bytes = omega (arith, length-take (length bytes - 2) (drop 1 bytes), length-drop 1 bytes) in
+    ap not (within (length (unquoted bytes)) (length bytes) inner few)
+  where
+    within : (n m : ℕ) → n ≤ m → nat_le m WORD_LIMIT ≡ true → nat_le n WORD_LIMIT ≡ true
+    within n m h few = grind (arith, nat_tests, h, few)
+few_bytes (kinds.Sym code) bytes few = refl
+few_bytes (kinds.Key code) bytes few = refl
 
 -- a long token
 pub has_long-found : (line : List ℕ) (at : ℕ) (t : Lexeme) → slice_get (lexemes line) at ≡ Some t → is_long t.0 t.1 ≡ true

@@ -1,8 +1,6 @@
 -- The parser: a machine that takes one token at a time and never goes back. Formulas that wait for their right side, and open brackets, stand on a stack.
 use Rattle.std.specs.Prelude.{ℕ, suc, neg_ℤ, Bool, true, false, nat_le, List, [], ◌∷◌, ◌++◌, Option, None, Some, option_map, option_and_then, if◌then◌else◌}
 use Rattle.std.specs.Option.{option_map_or}
-use Rattle.fixed_point.specs.declared.variants.BoundForm.{BoundForm}
-use Rattle.fixed_point.specs.declared.variants.UntilForm.{UntilForm}
 use Rattle.fixed_point.specs.declared.variants.UntilForm.TheVariants as untils
 use Rattle.case_table.specs.declared.compare.Op.{Op}
 use Rattle.formula_shape.specs.Shape.{Shape}
@@ -11,7 +9,6 @@ use Rattle.ftl_parser.specs.declared.tree.Unit.TheVariants as units
 use Rattle.ftl_parser.specs.declared.tree.Term.{Term}
 use Rattle.ftl_parser.specs.declared.tree.Signed.{Signed}
 use Rattle.ftl_parser.specs.declared.tree.FromPart.{FromPart}
-use Rattle.ftl_parser.specs.declared.prefix.Prefix.{Prefix}
 use Rattle.ftl_parser.specs.declared.state.Pair.TheVariants as pairs
 use Rattle.ftl_parser.specs.declared.state.Head.{Head}
 use Rattle.ftl_parser.specs.declared.state.Head.TheVariants as heads

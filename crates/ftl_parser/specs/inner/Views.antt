@@ -10,8 +10,8 @@ use Rattle.ftl_parser.specs.declared.piece.Piece as piece_type
 use Rattle.ftl_parser.specs.declared.piece.Piece.TheVariants as pieces
 use Rattle.ftl_parser.specs.Tree.{QueryTree}
 use Rattle.ftl_parser.specs.Words.{short_word}
-use Rattle.ftl_parser.specs.inner.Machine.{Frame, Bracket, OrWith, AndWith, UntilWith, PrefixedBy, BoundedBy, Assigning, rank, Phase, Want, Have, Reach, Ticks, Variable, Arrow, InTerm, InSpatial, Body, State, Heading, Within, term_step, factor_ended, body_step}
-use Rattle.ftl_parser.specs.Piece.{Piece, RETRIEVE, FROM, WHERE, AND, OR, TRUTH, PREFIX, BOUNDED, UNTIL, INSIDE, OUTSIDE, DIST, SPHERE, TIME, PART, OPEN, CLOSE, OPEN_SQUARE, CLOSE_SQUARE, COMMA, POINT, PLUS, MINUS, STAR, ARROW, COMPARISON, NAME, NUMBER, TEXT, OTHER}
+use Rattle.ftl_parser.specs.inner.Machine.{Frame, rank, Phase, Have, Reach, InTerm, InSpatial, Body, State, Heading, Within, term_step, factor_ended, body_step}
+use Rattle.ftl_parser.specs.Piece.{Piece, RETRIEVE, FROM, WHERE, AND, OR, TRUTH, PREFIX, BOUNDED, UNTIL, INSIDE, OUTSIDE, DIST, SPHERE, TIME, PART, OPEN, CLOSE, OPEN_SQUARE, CLOSE_SQUARE, COMMA, POINT, PLUS, MINUS, STAR, ARROW, COMPARISON, NAME, NUMBER, TEXT, WORD}
 
 -- a token
 abbrev pub piece_view : piece_type.Piece → Piece
@@ -44,7 +44,7 @@ piece_view (pieces.Comparison op) = COMPARISON op
 piece_view (pieces.Name n) = NAME (short_word n.now)
 piece_view (pieces.Number n) = NUMBER n.now
 piece_view (pieces.Text t) = TEXT (short_word t.now)
-piece_view pieces.Other = OTHER
+piece_view (pieces.Word code) = WORD code
 
 -- the stack, whose topmost frame is the last one kept
 abbrev pub stack_of : List Frame → List Frame

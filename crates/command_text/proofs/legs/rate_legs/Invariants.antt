@@ -1,6 +1,6 @@
 use Rattle.std.proofs.Common.{[], length}
 use Rattle.case_table.specs.declared.symbol.TheConstants.{OPEN_SQUARE}
-use Rattle.command_text.specs.Piece.{is_sign}
+use Rattle.command_text.specs.inner.Tests.{is_sign}
 use Rattle.command_text.specs.inner.Reading.{begins, rate_leg}
 use Rattle.command_text.specs.inner.Standing.{standing}
 use Rattle.command_text.proofs.grammar.ManyLemmas.{Goes}

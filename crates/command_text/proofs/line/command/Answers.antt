@@ -1,7 +1,7 @@
 use Rattle.std.proofs.Common.{Some, sym, ◌∙◌, ap}
-use Rattle.command_text.specs.Piece.{KEY, NAME, piece_of}
+use Rattle.command_text.specs.Piece.{piece_of}
 use Rattle.command_text.specs.inner.Standing.{standing}
-use Rattle.command_text.proofs.reader.LineLemmas.{blank_whole, begun_either, nothing_begun, other_token}
+use Rattle.command_text.proofs.reader.LineLemmas.{blank_whole, begun_by_key, begun_by_name, nothing_begun, other_token}
 use Rattle.command_text.proofs.line.command.Goals as goal
 
 pub returns-in_default : goal.returns-in_default
@@ -9,13 +9,13 @@ returns-in_default c = blank_whole c.args.tokens.now (sym c.in_default.ensures.v
 
 pub returns-in-Key : goal.returns-in-Key
 returns-in-Key c =
-    begun_either c.args.tokens.now (KEY c.in-Key.code, standing c.args.tokens.now c.in-Some.at) c.by_key.result
+    begun_by_key c.args.tokens.now c.in-Key.code c.in-Some.text.now (standing c.args.tokens.now c.in-Some.at) c.by_key.result
     (sym c.in-Some.ensures.value ∙ ap (λ k. Some (piece_of k c.in-Some.text.now, standing c.args.tokens.now c.in-Some.at)) c.in-Key.is)
     c.by_key.ensures
 
 pub returns-in-Name : goal.returns-in-Name
 returns-in-Name c =
-    begun_either c.args.tokens.now (NAME c.in-Some.text.now, standing c.args.tokens.now c.in-Some.at) c.by_name.result
+    begun_by_name c.args.tokens.now c.in-Some.text.now (standing c.args.tokens.now c.in-Some.at) c.by_name.result
     (sym c.in-Some.ensures.value ∙ ap (λ k. Some (piece_of k c.in-Some.text.now, standing c.args.tokens.now c.in-Some.at)) c.in-Name.is)
     c.by_name.ensures
 

@@ -1,6 +1,6 @@
 use Rattle.std.proofs.Common.{length}
 use Rattle.case_table.specs.declared.symbol.TheConstants.{COMMA}
-use Rattle.command_text.specs.Piece.{is_sign}
+use Rattle.command_text.specs.inner.Tests.{is_sign}
 use Rattle.command_text.specs.inner.Reading.{begins, next_attr}
 use Rattle.command_text.specs.inner.Standing.{standing}
 use Rattle.command_text.proofs.grammar.ManyLemmas.{Goes}

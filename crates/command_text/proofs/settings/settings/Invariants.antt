@@ -1,5 +1,5 @@
 use Rattle.std.proofs.Common.{[], length}
-use Rattle.command_text.specs.Piece.{is_name}
+use Rattle.command_text.specs.inner.Tests.{is_name}
 use Rattle.command_text.specs.inner.Reading.{begins, setting}
 use Rattle.command_text.specs.inner.Standing.{standing}
 use Rattle.command_text.proofs.grammar.ManyLemmas.{Goes}
