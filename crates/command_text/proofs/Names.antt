@@ -1,5 +1,6 @@
 -- The names of which lemmas speak, each passed on by one line.
 pub use Rattle.std.specs.Prelude.{Err, IfErr, IfOk, MatchResult, Ok, OnErr, OnOk, Result, int_le, is_none, nat_le, ◌==◌, ◌⊎◌}
+unfoldable pub use Rattle.std.specs.Fmt.{digits}
 pub use Rattle.std.proofs.Common.{eqb-true}
 pub use Rattle.std.proofs.lemmas.Bool.{and_from}
 pub use Rattle.std.proofs.lemmas.Bool.Decides.{Decides-eqb}
@@ -11,7 +12,7 @@ pub use Rattle.exact.specs.Options.{◌>>=◌}
 unfoldable pub use Rattle.case_table.specs.Language.{refusal_names}
 pub use Rattle.case_table.specs.Rows.{word_of}
 pub use Rattle.case_table.specs.declared.key.TheConstants.{ASK, AT, CLASS, DROP, DYN, EXPORT, IMPORT, INSERT, KEEP, LIST, MOVE, NUM, POINT as POINT_WORD, QUIT, RATE, RATE as RATE_WORD, REGION, REMOVE, SAVE, SHOW, TEXT as TEXT_WORD, TICK, UPDATE, WATCH}
-pub use Rattle.case_table.specs.declared.symbol.TheConstants.{CLOSE_ROUND as CLOSE_SIGN, CLOSE_SQUARE as CLOSE_SQUARE_SIGN, COMMA as COMMA_SIGN, EQUAL as EQUAL_SIGN, MINUS as MINUS_SIGN, OPEN_ROUND as OPEN_SIGN, OPEN_SQUARE as OPEN_SQUARE_SIGN}
+pub use Rattle.case_table.specs.declared.symbol.TheConstants.{ASSIGN, CLOSE_ROUND as CLOSE_SIGN, CLOSE_SQUARE as CLOSE_SQUARE_SIGN, COMMA as COMMA_SIGN, EQUAL as EQUAL_SIGN, MINUS as MINUS_SIGN, OPEN_ROUND as OPEN_SIGN, OPEN_SQUARE as OPEN_SQUARE_SIGN}
 pub use Rattle.fixed_point.specs.declared.number.Point.{Point}
 pub use Rattle.geometry.specs.declared.limits.TheConstants.{VERTEX_LIMIT}
 pub use Rattle.motion.specs.Function.{Function, are_firsts, is_length_of, level}

@@ -96,6 +96,7 @@ impl RefusalText {
     }
 }
 
+#[tactic(auto, unfolding(crate::specs::Refusals::line_of, case_table::specs::Language::refusal_names, crate::proofs::Names::digits))]
 fn text_of(refusal: Refusal) -> &'static [u8]
     ensures { result.now ≡ line_of refusal }
 {

@@ -97,7 +97,7 @@ row_is p (r ∷ rows) word code all is =
       | inr other ↦ row_is p rows word code parts.1 (rw other at is)
     ]
 
-not_true : (b : Bool) → not b ≡ true → b ≡ false
+pub not_true : (b : Bool) → not b ≡ true → b ≡ false
 not_true true is = let bad : false ≡ true = is in absurd (cc)
 not_true false is = refl
 

@@ -1,9 +1,10 @@
 -- A canonical line has at most four bytes for each byte of the tokens that spell its command.
-use Rattle.command_text.proofs.Names.{◌≡◌, ℕ, zero, suc, ◌+◌, ◌*◌, ◌≤◌, Bool, true, false, List, [], ◌∷◌, ◌++◌, append_assoc, take, length, map, length-append, Option, None, Some, IsTrue, ℤ, pos, refl, sym, ap, subst, arith, leb, inl, inr, ◌⊎◌, codes, if◌then◌else◌, flat_map, decimal, option_map_or, leb-true, and_parts, drop_at, take_at, length-drop, sum_by-cons, code_of, reserved_words, RATE_WORD, COMMA, CLOSE_SQUARE, fix_text, Point, Function, are_firsts, level, AttrKind, Given, NamedSet, Place, lexemes, Lexeme, is_word, HaveForms, QueryTree, SpellsQuery, query_text, Part, Parts, is_verb, parts, Piece, NUMBER, piece_of, pieces, SignedPlace, Steps, function_of, CommandTree, Notes, whole_at, legs_of_x, legs_of_y, SpellsNum, num_plain, num_minus, SpellsPair, SpellsAttr, attr_num, attr_text, attr_dyn, SpellsMoreAttrs, no_more_attrs, one_more_attr, SpellsAttrs, no_attrs, SpellsPoints, no_points, one_point, SpellsRateLegs, no_rate_legs, one_rate_leg, SpellsRates, SpellsMoveLegs, no_move_legs, one_move_leg, SpellsMoves, SpellsGiven, given_num, SpellsSettings, no_settings, one_setting, SpellsAt, not_at, SpellsMoving, not_moving, SpellsChange, change, SpellsPointWord, no_point_word, token_of, SpellsPart, part_verb, part_name, part_text, part_whole, part_error, part_num, part_point_word, part_attrs, part_points, part_change, SpellsParts, no_parts, last_part, last_query, part_before, SpellsCommand, by_parts, pair_text, rate_leg_text, rates_text, move_leg_text, move_legs_text, moves_text, next_attr_text, attrs_text, points_text, settings_text, at_text, moving_text, change_text, text_of, CLOSE, WORD, reserved, slice_get, slice_get_past}
+use Rattle.command_text.proofs.Names.{◌≡◌, ℕ, zero, suc, ◌+◌, ◌*◌, ◌≤◌, Bool, true, false, List, [], ◌∷◌, ◌++◌, append_assoc, take, length, length-append, Option, None, Some, IsTrue, ℤ, pos, refl, sym, ap, subst, arith, leb, inl, inr, ◌⊎◌, codes, if◌then◌else◌, flat_map, decimal, option_map_or, leb-true, and_parts, drop_at, take_at, length-drop, sum_by-cons, code_of, reserved_words, RATE_WORD, COMMA, CLOSE_SQUARE, fix_text, Point, Function, are_firsts, level, AttrKind, Given, NamedSet, Place, lexemes, Lexeme, is_word, HaveForms, QueryTree, SpellsQuery, query_text, Part, Parts, is_verb, parts, Piece, NUMBER, piece_of, pieces, SignedPlace, Steps, function_of, CommandTree, Notes, whole_at, legs_of_x, legs_of_y, SpellsNum, num_plain, num_minus, SpellsPair, SpellsAttr, attr_num, attr_text, attr_dyn, SpellsMoreAttrs, no_more_attrs, one_more_attr, SpellsAttrs, no_attrs, SpellsPoints, no_points, one_point, SpellsRateLegs, no_rate_legs, one_rate_leg, SpellsRates, SpellsMoveLegs, no_move_legs, one_move_leg, SpellsMoves, SpellsGiven, given_num, SpellsSettings, no_settings, one_setting, SpellsAt, not_at, SpellsMoving, not_moving, SpellsChange, change, SpellsPointWord, no_point_word, token_of, SpellsPart, part_verb, part_name, part_text, part_whole, part_error, part_num, part_point_word, part_attrs, part_points, part_change, SpellsParts, no_parts, last_part, last_query, part_before, SpellsCommand, by_parts, pair_text, rate_leg_text, rates_text, move_leg_text, move_legs_text, moves_text, next_attr_text, attrs_text, points_text, settings_text, at_text, moving_text, change_text, text_of, CLOSE, WORD, reserved, slice_get, slice_get_past, CLASS}
 use Rattle.std.proofs.Common.{drop}
 use Rattle.motion.specs.declared.cell.AttrKind.TheVariants as attr_kinds
 use Rattle.ftl_lexer.specs.declared.kinds.Kind.TheVariants as kinds
 use Rattle.ftl_lexer.proofs.Shapes.{tokens_have_forms}
+use Rattle.ftl_parser.specs.Piece as token
 use Rattle.ftl_parser.specs.TextLaws.{bytes_of}
 use Rattle.ftl_parser.proofs.canonical.TextTokens.{few_is, word_is}
 use Rattle.ftl_parser.proofs.canonical.TextLengths.{weight, load, load_join, piece_long, pieces_long, prints_shortly, tokens_fit}
@@ -16,7 +17,7 @@ use Rattle.command_text.proofs.canonical.TextNumbers.{whole_is_short, radius_is_
 -- ---- the bytes of tokens
 
 -- some tokens, and the bytes of those after them
-front_long : (n : ℕ) (tokens : List Lexeme) → HaveForms tokens → load (take n (map (λ t. piece_of t.0 t.1) tokens)) + bytes_of (drop n tokens) ≤ bytes_of tokens
+front_long : (n : ℕ) (tokens : List Lexeme) → HaveForms tokens → load (take n (token.pieces tokens)) + bytes_of (drop n tokens) ≤ bytes_of tokens
 front_long zero tokens forms = omega arith
 front_long (suc n) [] forms = omega arith
 front_long (suc n) (t ∷ tokens) forms =
@@ -231,7 +232,7 @@ verb_by : (word : List ℕ) (found : Option ℕ) → option_map_or is_of_command
     → suc (length word) ≤ 4 * weight (piece_of (option_map_or (λ code. kinds.Key code) found kinds.Name) word)
 verb_by word None own few = rw (word_is word (few_is word (omega (arith, few)))) (omega (arith, few))
 verb_by word (Some code) own few =
-    let past : slice_get reserved code ≡ None = slice_get_past reserved code (leb-true 25 code own) in
+    let past : slice_get reserved code ≡ None = slice_get_past reserved code (leb-true CLASS code own) in
     rw past (omega (arith, few))
 
 verb_short : (word : List ℕ) → IsTrue (is_verb word) → suc (length word) ≤ 4 * weight (token_of word)

@@ -1,5 +1,5 @@
 -- What tokens of a line spell is printable, where its numbers are in range and its sizes within their limits.
-use Rattle.command_text.proofs.Names.{◌≡◌, ℕ, ◌+◌, ◌≤◌, Bool, true, false, List, [], ◌∷◌, ◌++◌, length, map, Option, None, Some, ℤ, refl, sym, ◌∙◌, ap, subst, arith, leb, is_some, is_none, if◌then◌else◌, AllByRecursion, list_all, and_parts, and_from, leb-true, nat_tests, length-map, drop_at, drop-drop, Point, Function, are_firsts, is_length_of, level, MOST_FIRSTS, AttrKind, Given, NamedSet, Place, Kind, Lexeme, HasForm, HaveForms, lexemes, QueryTree, SpellsQuery, first_unfit, LAST_TICK, first_too_large, piece_lists, texts_alone, token_texts, VERTEX_LIMIT, ATTRIBUTE_LIMIT, Part, Parts, Piece, TEXT, piece_of, pieces, has_long, Steps, SignedPlace, whole_in, radius_in, signed_in, are_few_legs, function_of, are_few_attributes, are_few_vertices, is_query_small, CommandTree, Notes, legs_of_x, legs_of_y, SpellsNum, num_plain, num_minus, SpellsPair, SpellsAttr, attr_num, attr_text, attr_dyn, SpellsMoreAttrs, no_more_attrs, one_more_attr, SpellsAttrs, no_attrs, SpellsPoints, no_points, one_point, SpellsRateLegs, no_rate_legs, one_rate_leg, SpellsRates, SpellsMoveLegs, no_move_legs, one_move_leg, SpellsMoves, SpellsGiven, given_num, SpellsSettings, no_settings, one_setting, SpellsAt, not_at, SpellsMoving, not_moving, SpellsChange, change, SpellsPart, part_verb, part_name, part_text, part_whole, part_error, part_num, part_point_word, part_attrs, part_points, part_change, SpellsParts, no_parts, last_part, last_query, part_before, by_parts, IsFrom, IsAscii, IsShortName, IsShortText, IsRate, IsPoint, IsLeg, AreLegs, AreMoves, IsPrintableGiven, IsSetting, IsAt, IsMoving, IsChange, IsAttribute, AreAttributes, IsQuery, IsPart, AreParts, IsPrintable, IsSignedIn, CLOSE, SpellsWithinLimits, is_long, is_short, not, or_parts, pieces_from, unquoted}
+use Rattle.command_text.proofs.Names.{◌≡◌, ℕ, ◌+◌, ◌≤◌, Bool, true, false, List, [], ◌∷◌, ◌++◌, length, map, Option, None, Some, ℤ, refl, sym, ◌∙◌, ap, subst, arith, leb, is_some, is_none, if◌then◌else◌, AllByRecursion, list_all, and_parts, and_from, leb-true, nat_tests, length-map, drop_at, drop-drop, Point, Function, are_firsts, is_length_of, level, MOST_FIRSTS, AttrKind, Given, NamedSet, Place, Kind, Lexeme, HasForm, HaveForms, lexemes, QueryTree, SpellsQuery, first_unfit, LAST_TICK, first_too_large, piece_lists, texts_alone, token_texts, VERTEX_LIMIT, ATTRIBUTE_LIMIT, Part, Parts, Piece, TEXT, piece_of, pieces, has_long, Steps, SignedPlace, whole_in, radius_in, signed_in, are_few_legs, function_of, are_few_attributes, are_few_vertices, is_query_small, CommandTree, Notes, legs_of_x, legs_of_y, SpellsNum, num_plain, num_minus, SpellsPair, SpellsAttr, attr_num, attr_text, attr_dyn, SpellsMoreAttrs, no_more_attrs, one_more_attr, SpellsAttrs, no_attrs, SpellsPoints, no_points, one_point, SpellsRateLegs, no_rate_legs, one_rate_leg, SpellsRates, SpellsMoveLegs, no_move_legs, one_move_leg, SpellsMoves, SpellsGiven, given_num, SpellsSettings, no_settings, one_setting, SpellsAt, not_at, SpellsMoving, not_moving, SpellsChange, change, SpellsPart, part_verb, part_name, part_text, part_whole, part_error, part_num, part_point_word, part_attrs, part_points, part_change, SpellsParts, no_parts, last_part, last_query, part_before, by_parts, IsFrom, IsAscii, IsShortName, IsShortText, IsRate, IsPoint, IsLeg, AreLegs, AreMoves, IsPrintableGiven, IsSetting, IsAt, IsMoving, IsChange, IsAttribute, AreAttributes, IsQuery, IsPart, AreParts, IsPrintable, IsSignedIn, CLOSE, SpellsWithinLimits, is_long, is_short, or_parts, pieces_from, unquoted}
 use Rattle.std.proofs.Common.{drop}
 use Rattle.ftl_lexer.specs.declared.kinds.Kind.TheVariants as kinds
 use Rattle.ftl_lexer.proofs.Shapes.{tokens_have_forms}
@@ -9,7 +9,7 @@ use Rattle.ftl_parser.proofs.grammar.OrderLemmas.{lists-query}
 use Rattle.ftl_parser.proofs.canonical.TextShapes.{PieceHas, all_front, all_back, prints_what_is_read, short_piece, sign_has, spelled_shape, word_has}
 use Rattle.command_text.specs.Grammar.{pair, some_attrs, rates, moves, given_both, given_text, given_rate, at, moving}
 use Rattle.command_text.proofs.grammar.QueryLemmas.{short_behind, tail_is}
-use Rattle.command_text.proofs.canonical.TextAscii.{AreAscii, tokens_ascii, inside_ascii}
+use Rattle.command_text.proofs.canonical.TextAscii.{AreAscii, tokens_ascii, inside_ascii, not_true}
 use Rattle.command_text.proofs.canonical.TextNumbers.{whole_in_range, signed_in_range, radius_in_range}
 
 -- ---- tokens by what names, numbers and texts they have
@@ -300,10 +300,6 @@ line_tails line short n q d =
       printable = prints_what_is_read n line q spelled (short_behind n (lexemes line) short);
       shape = spelled_shape n line q spelled;
     }
-
-not_true : (b : Bool) → not b ≡ true → b ≡ false
-not_true true h = absurd (cc)
-not_true false h = refl
 
 pub line_shape : (line : List ℕ) (c : CommandTree) → SpellsWithinLimits line c → IsAscii line → IsPrintable c
 line_shape line c (by_parts d) ascii =

@@ -87,7 +87,7 @@ pub took_this : {tokens left : List Piece} (p q : Piece) → p ≡ q → Split t
 took_this {tokens = tokens} {left = left} p q e split = subst (λ p. Split tokens (p ∷ []) left) e split
 
 -- a symbol by its code
-by_sign_code : (p : Piece) → (sign_code p ≡ 16) ⊎ (slice_get signs (sign_code p) ≡ Some p)
+by_sign_code : (p : Piece) → (sign_code p ≡ length signs) ⊎ (slice_get signs (sign_code p) ≡ Some p)
 by_sign_code OPEN = inr refl
 by_sign_code CLOSE = inr refl
 by_sign_code OPEN_SQUARE = inr refl
@@ -110,7 +110,7 @@ the_sign : (q : Piece) → slice_get signs (sign_code q) ≡ Some q → (p : Pie
 the_sign q found p e =
     let same : sign_code p ≡ sign_code q = eqb-true (sign_code p) (sign_code q) e in
     elim (by_sign_code p) [
-      | inl none ↦ let past : slice_get signs 16 ≡ Some q = subst (λ (n : ℕ). slice_get signs n ≡ Some q) (sym same ∙ none) found in absurd (cc)
+      | inl none ↦ let past : slice_get signs (length signs) ≡ Some q = subst (λ (n : ℕ). slice_get signs n ≡ Some q) (sym same ∙ none) found in absurd (cc)
       | inr at ↦ let both : Some p ≡ Some q = sym at ∙ ap (slice_get signs) same ∙ found in cc
     ]
 

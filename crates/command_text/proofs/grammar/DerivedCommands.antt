@@ -1,222 +1,231 @@
 -- What is read as a command, the rules derive.
-use Rattle.command_text.proofs.Names.{◌≡◌, ℕ, ℤ, Bool, true, false, List, [], ◌∷◌, ◌++◌, Some, None, IsTrue, refl, sym, ◌∙◌, ap, subst, append_assoc, append-nil, eqb-true, if◌then◌else◌, ◌==◌, is_none, codes, bytes_eq, bytes_eq-Decides, ◌>>=◌, reserved_words, CLASS, REGION, INSERT, UPDATE, REMOVE, TICK, ASK, WATCH, KEEP, SHOW, DROP, LIST, SAVE, IMPORT, EXPORT, QUIT, AttrKind, Part, Verb, Name, Whole, Error, PointWord, Attrs, Parts, Last, ◌▸◌, is_verb, parts, Piece, NAME, Span, Steps, Capacity, Nearest, Value, Width, CommandTree, Notes, token_of, SpellsAttrs, SpellsPart, part_verb, part_num, part_attrs, part_change, SpellsParts, no_parts, last_part, part_before, SpellsCommand, by_parts, Reader, Read, notes, before, front, class_head, class, region, insert_head, insert, update, remove, tick, ask, watch_head, watch, keep, show, save, import, export, nearest, must_head, must, may, index, range, by_key, by_name, by_token, command_begun, ended, command, command_of, WORD}
+use Rattle.command_text.proofs.Names.{◌≡◌, ℕ, Bool, true, false, List, [], ◌∷◌, ◌++◌, Some, None, IsTrue, refl, sym, ◌∙◌, ap, subst, append_assoc, append-nil, eqb-true, if◌then◌else◌, ◌==◌, is_none, codes, bytes_eq, bytes_eq-Decides, ◌>>=◌, reserved_words, CLASS, REGION, INSERT, UPDATE, REMOVE, TICK, ASK, WATCH, KEEP, SHOW, DROP, LIST, SAVE, IMPORT, EXPORT, QUIT, Part, Verb, Name, Whole, Error, PointWord, Attrs, Parts, Last, ◌▸◌, is_verb, parts, Piece, NAME, Span, Steps, Capacity, Nearest, Value, Width, CommandTree, Notes, token_of, SpellsPart, part_verb, part_num, part_attrs, part_change, SpellsParts, no_parts, last_part, part_before, SpellsCommand, by_parts, Reader, Read, notes, before, front, class_head, class, region, insert_head, insert, update, remove, tick, ask, watch_head, watch, keep, show, save, import, export, nearest, must_head, must, may, index, range, by_key, by_name, by_token, command_begun, ended, command, command_of, WORD, SignedPlace, Num, attrs, QueryTree, Asking, Place, NamedSet, Change, place, settings, query, num}
 use Rattle.command_text.specs.Tree
 use Rattle.command_text.specs.inner.Reading.{point_word, drop}
-use Rattle.command_text.proofs.grammar.Derived.{took_none, took_both, Derived, derived_as, Follows, follows, part_first, ends, next_first, SpellsName, SpellsWhole, name_follows, text_follows, whole_follows, radius_follows, num_follows, attrs_follow, points_follow, settings_follow, place_follows, change_by, query_follows, SpellsPointPart, point_word_follows}
+use Rattle.command_text.proofs.grammar.Derived.{took_none, took_both, Derived, derived_as, Follows, follows, part_first, ends, next_first, name_follows, text_follows, whole_follows, radius_follows, num_follows, attrs_follow, points_follow, settings_follow, place_follows, change_by, query_follows, point_word_follows}
 
 -- the tokens of a command after its first word
 abbrev Behind : List ℕ → CommandTree → Notes → Notes → List Piece → Type 0
 Behind word c s t xs = SpellsParts (parts c) s t (token_of word ∷ xs)
 
--- a first word before other parts
-begun : {word : List ℕ} {ps : Parts} {s t : Notes} {xs : List Piece} → IsTrue (is_verb word) → SpellsParts ps s t xs
-    → SpellsParts (Verb word ▸ ps) s t (token_of word ∷ xs)
-begun is d = part_before (part_verb is) d
+-- ---- Parts that stand before others, and what is read of a command after them
+
+record Ahead (front : Parts → Parts) (s t : Notes) (xs : List Piece) : Type 0 where
+  before : (ps : Parts) (u : Notes) (ys : List Piece) → SpellsParts ps t u ys → SpellsParts (front ps) s u (xs ++ ys)
+
+both : {f g : Parts → Parts} {s t u : Notes} {xs ys : List Piece} → Ahead f s t xs → Ahead g t u ys → Ahead (λ ps. f (g ps)) s u (xs ++ ys)
+both {f = f} {g = g} {s = s} {xs = xs} {ys = ys} d e = record {
+  before = λ ps v zs rest.
+      subst (SpellsParts (f (g ps)) s v) (sym (append_assoc xs ys zs)) (d.before (g ps) v (ys ++ zs) (e.before ps v zs rest));
+}
+
+-- the parts of the command are others after these, and the tokens spell the others
+record Rest (front : Parts → Parts) (c : CommandTree) (s t : Notes) (xs : List Piece) : Type 0 where
+  others : Parts
+  are : parts c ≡ front others
+  spelled : SpellsParts others s t xs
+
+begun : {word : List ℕ} {c : CommandTree} {s t : Notes} {xs : List Piece} → IsTrue (is_verb word) → Rest (λ ps. Verb word ▸ ps) c s t xs
+    → Behind word c s t xs
+begun {word = word} {s = s} {t = t} {xs = xs} is d = subst (λ ps. SpellsParts ps s t (token_of word ∷ xs)) (sym d.are) (part_before (part_verb is) d.spelled)
+
+behind : {word : List ℕ} {f : Reader → Read CommandTree} → IsTrue (is_verb word)
+    → ((s t : Reader) (c : CommandTree) → f s ≡ Some (c, t) → Derived (Rest (λ ps. Verb word ▸ ps)) c s t) → Follows f (Behind word)
+behind {word = word} is read =
+    follows λ s t c e. derived_as (Rest (λ ps. Verb word ▸ ps)) (Behind word) (λ xs d. begun is d) (read s t c e)
+
+-- a part by its own rule
+as_part : {A : Type 0} {f : Reader → Read A} {R : A → Notes → Notes → List Piece → Type 0} (p : A → Part) → Follows f R
+    → ((a : A) (s t : Notes) (xs : List Piece) → R a s t xs → SpellsPart (p a) s t xs) → Follows f (λ a. SpellsPart (p a))
+as_part {R = R} p one by = follows λ s t a e. derived_as R (λ a. SpellsPart (p a)) (λ xs d. by a (notes s) (notes t) xs d) (one.derived s t a e)
+
+num_part : (place : SignedPlace) → Follows (num place) (λ v. SpellsPart (Num place v))
+num_part place = as_part (Num place) (num_follows place) (λ v s t xs d. part_num d)
+
+attrs_part : Follows attrs (λ a. SpellsPart (Attrs a))
+attrs_part = as_part Attrs attrs_follow (λ a s t xs d. part_attrs d)
+
+module _ {front : Parts → Parts} {c : CommandTree} {t : Reader} where
+  -- some parts, and those after them
+  all_ahead : {A : Type 0} {f : Reader → Read A} {add : A → Parts → Parts} → Follows f (λ a. Ahead (add a)) → (s : Reader)
+      (rest : A × Reader → Read CommandTree) → (f s >>= rest) ≡ Some (c, t)
+      → ((a : A) (s1 : Reader) → rest (a, s1) ≡ Some (c, t) → Derived (Rest (λ ps. front (add a ps))) c s1 t) → Derived (Rest front) c s t
+  all_ahead {add = add} some s rest e k =
+      part_first some s rest e λ a s1 d e.
+      let later = k a s1 e in
+      record {
+        taken = d.taken ++ later.taken;
+        split = took_both d.split later.split;
+        spelled = record {
+          others = add a later.spelled.others;
+          are = later.spelled.are;
+          spelled = d.spelled.before later.spelled.others (notes t) later.taken later.spelled.spelled;
+        };
+      }
+
+  -- the last part
+  final : {A : Type 0} {f : Reader → Read A} {p : A → Part} → Follows f (λ a. SpellsPart (p a)) → (s : Reader) (make : A → CommandTree)
+      → ◌>>=◌ {B = CommandTree × Reader} (f s) (λ a. Some (make a.0, a.1)) ≡ Some (c, t) → ((a : A) → parts (make a) ≡ front (Last (p a))) → Derived (Rest front) c s t
+  final {p = p} one s make e is =
+      part_first one s _ e λ a s1 d e. ends (Rest front) (make a) c s1 t e d.split (record { others = Last (p a); are = is a; spelled = last_part d.spelled })
+
+  -- a query, which is the last
+  asking : (s : Reader) (make : QueryTree → CommandTree) → ◌>>=◌ {B = CommandTree × Reader} (query s) (λ q. Some (make q.0, q.1)) ≡ Some (c, t)
+      → ((q : QueryTree) → parts (make q) ≡ front (Asking q)) → Derived (Rest front) c s t
+  asking s make e is = part_first query_follows s _ e λ q s1 d e. ends (Rest front) (make q) c s1 t e d.split (record { others = Asking q; are = is q; spelled = d.spelled })
+
+  -- a place and settings, which are the last
+  changing : (s : Reader) (make : Place → List NamedSet → CommandTree)
+      → (place s >>= (λ p. ◌>>=◌ {B = CommandTree × Reader} (settings p.1) (λ ss. Some (make p.0 ss.0, ss.1)))) ≡ Some (c, t)
+      → ((p : Place) (ss : List NamedSet) → parts (make p ss) ≡ front (Last (Change p ss))) → Derived (Rest front) c s t
+  changing s make e is =
+      part_first place_follows s _ e λ p s1 first e.
+      part_first settings_follow s1 _ e λ ss s2 second e.
+      ends (Rest front) (make p ss) c s2 t e (took_both first.split second.split)
+      (record { others = Last (Change p ss); are = is p ss; spelled = last_part (part_change (change_by first.spelled second.spelled)) })
+
+-- one part before others
+one : {A : Type 0} {f : Reader → Read A} {p : A → Part} → Follows f (λ a. SpellsPart (p a)) → Follows f (λ a. Ahead (λ ps. p a ▸ ps))
+one {p = p} part =
+    follows λ s t a e.
+    derived_as (λ a. SpellsPart (p a)) (λ a. Ahead (λ ps. p a ▸ ps)) (λ xs d. record { before = λ ps u ys rest. part_before d rest })
+    (part.derived s t a e)
 
 -- ---- Two and three parts that stand at the front of several commands
 
-data SpellsTwo (p q : Part) : Notes → Notes → List Piece → Type 0 where
-  two_parts : {s t u : Notes} {xs ys : List Piece} → SpellsPart p s t xs → SpellsPart q t u ys → SpellsTwo p q s u (xs ++ ys)
+abbrev Two : {A B : Type 0} → (A → Part) → (B → Part) → A × B → Notes → Notes → List Piece → Type 0
+Two p q head = Ahead (λ ps. p head.0 ▸ q head.1 ▸ ps)
 
-two_before : {p q : Part} {ps : Parts} {s t u : Notes} {xs ys : List Piece} → SpellsTwo p q s t xs → SpellsParts ps t u ys
-    → SpellsParts (p ▸ q ▸ ps) s u (xs ++ ys)
-two_before {p = p} {q = q} {ps = ps} {s = s} {u = u} {ys = zs} (two_parts {xs = xs} {ys = ys} d e) f =
-    subst (SpellsParts (p ▸ q ▸ ps) s u) (sym (append_assoc xs ys zs)) (part_before d (part_before e f))
-
-abbrev SpellsNames : List ℕ × List ℕ → Notes → Notes → List Piece → Type 0
-SpellsNames names = SpellsTwo (Name names.0) (Name names.1)
-
-abbrev SpellsWatch : List ℕ × ℕ → Notes → Notes → List Piece → Type 0
-SpellsWatch head = SpellsTwo (Name head.0) (Whole Span head.1)
-
-abbrev SpellsMust : ℤ × ℕ → Notes → Notes → List Piece → Type 0
-SpellsMust head = SpellsTwo (Error head.0) (Whole Span head.1)
-
-insert_head_follows : Follows insert_head SpellsNames
+insert_head_follows : Follows insert_head (Two Name Name)
 unfolding insert_head
 insert_head_follows =
     follows λ s t x e.
-    part_first name_follows s _ e λ x1 s1 c e.
-    part_first name_follows s1 _ e λ x2 s2 n e.
-    ends SpellsNames (x1, x2) x s2 t e (took_both c.split n.split) (two_parts c.spelled n.spelled)
+    part_first (one name_follows) s _ e λ c s1 d e.
+    part_first (one name_follows) s1 _ e λ n s2 d' e.
+    ends (Two Name Name) (c, n) x s2 t e (took_both d.split d'.split) (both d.spelled d'.spelled)
 
-watch_head_follows : Follows watch_head SpellsWatch
+watch_head_follows : Follows watch_head (Two Name (Whole Span))
 unfolding watch_head
 watch_head_follows =
     follows λ s t x e.
-    part_first name_follows s _ e λ x1 s1 n e.
-    part_first (whole_follows Span) s1 _ e λ x2 s2 k e.
-    ends SpellsWatch (x1, x2) x s2 t e (took_both n.split k.split) (two_parts n.spelled k.spelled)
+    part_first (one name_follows) s _ e λ n s1 d e.
+    part_first (one (whole_follows Span)) s1 _ e λ k s2 d' e.
+    ends (Two Name (Whole Span)) (n, k) x s2 t e (took_both d.split d'.split) (both d.spelled d'.spelled)
 
-must_head_follows : Follows must_head SpellsMust
+must_head_follows : Follows must_head (Two Error (Whole Span))
 unfolding must_head
 must_head_follows =
     follows λ s t x e.
-    part_first radius_follows s _ e λ x1 s1 r e.
-    part_first (whole_follows Span) s1 _ e λ x2 s2 k e.
-    ends SpellsMust (x1, x2) x s2 t e (took_both r.split k.split) (two_parts r.spelled k.spelled)
+    part_first (one radius_follows) s _ e λ r s1 d e.
+    part_first (one (whole_follows Span)) s1 _ e λ k s2 d' e.
+    ends (Two Error (Whole Span)) (r, k) x s2 t e (took_both d.split d'.split) (both d.spelled d'.spelled)
 
--- the name, the capacity and the word `point` of a class, before its attributes
-abbrev SpellsClass : List ℕ × ℕ × Bool → Notes → Notes → List Piece → Type 0
-SpellsClass head s t xs = (attrs : List (List ℕ × AttrKind)) (u : Notes) (ys : List Piece) → SpellsAttrs attrs t u ys
-    → SpellsParts (Name head.0 ▸ Whole Capacity head.1 ▸ PointWord head.2 ▸ Last (Attrs attrs)) s u (xs ++ ys)
+-- the name, the capacity and the word `point` of a class
+abbrev ClassHead : List ℕ × ℕ × Bool → Notes → Notes → List Piece → Type 0
+ClassHead head = Ahead (λ ps. Name head.0 ▸ Whole Capacity head.1 ▸ PointWord head.2 ▸ ps)
 
-class_head_by : (n : List ℕ) (k : ℕ) (b : Bool) {s t u v : Notes} (xs ys zs : List Piece) → SpellsName n s t xs → SpellsWhole Capacity k t u ys
-    → SpellsPointPart b u v zs → SpellsClass (n, k, b) s v (xs ++ (ys ++ zs))
-class_head_by n k b {s = s} xs ys zs d e f = λ attrs w us g.
-    subst (SpellsParts (Name n ▸ Whole Capacity k ▸ PointWord b ▸ Last (Attrs attrs)) s w)
-    (sym (append_assoc xs (ys ++ zs) us ∙ ap (λ more. xs ++ more) (append_assoc ys zs us)))
-    (part_before d (part_before e (part_before f (last_part (part_attrs g)))))
-
-class_head_follows : Follows class_head SpellsClass
+class_head_follows : Follows class_head ClassHead
 unfolding class_head
 class_head_follows =
     follows λ s t x e.
-    part_first name_follows s _ e λ x1 s1 n e.
-    part_first (whole_follows Capacity) s1 _ e λ x2 s2 k e.
+    part_first (one name_follows) s _ e λ n s1 d e.
+    part_first (one (whole_follows Capacity)) s1 _ e λ k s2 d' e.
     let w = point_word_follows s2 in
-    ends SpellsClass (x1, x2, (point_word s2).0) x (point_word s2).1 t e (took_both n.split (took_both k.split w.split))
-    (class_head_by x1 x2 (point_word s2).0 n.taken k.taken w.taken n.spelled k.spelled w.spelled)
+    ends ClassHead (n, k, (point_word s2).0) x (point_word s2).1 t e (took_both d.split (took_both d'.split w.split))
+    (both d.spelled (both d'.spelled (record { before = λ ps u ys rest. part_before w.spelled rest })))
 
--- ---- Commands of one part and of two
-
-one_follows : {A : Type 0} {f : Reader → Read A} {R : A → Notes → Notes → List Piece → Type 0} (word : List ℕ) (make : A → CommandTree) → Follows f R →
-    ((a : A) (s t : Notes) (xs : List Piece) → R a s t xs → Behind word (make a) s t xs) → Follows (λ s. f s >>= (λ a. Some (make a.0, a.1))) (Behind word)
-one_follows word make one by =
-    follows λ s t x e.
-    part_first one s _ e λ a s1 d e.
-    ends (Behind word) (make a) x s1 t e d.split (by a (notes s) (notes s1) d.taken d.spelled)
-
-two_follow : {A B : Type 0} {f : Reader → Read A} {g : Reader → Read B} {R : A → Notes → Notes → List Piece → Type 0}
-    {S : B → Notes → Notes → List Piece → Type 0} (word : List ℕ) (make : A → B → CommandTree) → Follows f R → Follows g S →
-    ((a : A) (b : B) (s t u : Notes) (xs ys : List Piece) → R a s t xs → S b t u ys → Behind word (make a b) s u (xs ++ ys))
-    → Follows (λ s. f s >>= (λ a. g a.1 >>= (λ b. Some (make a.0 b.0, b.1)))) (Behind word)
-two_follow word make one other by =
-    follows λ s t x e.
-    part_first one s _ e λ a s1 d e.
-    part_first other s1 _ e λ b s2 d' e.
-    ends (Behind word) (make a b) x s2 t e (took_both d.split d'.split) (by a b (notes s) (notes s1) (notes s2) d.taken d'.taken d.spelled d'.spelled)
-
-remove_follows : Follows remove (Behind (codes "remove"))
-unfolding remove reserved_words
-remove_follows = one_follows (codes "remove") (λ n. Tree.Remove n) name_follows (λ n s t xs d. begun refl (last_part d))
-
-tick_follows : Follows tick (Behind (codes "tick"))
-unfolding tick reserved_words
-tick_follows = one_follows (codes "tick") (λ k. Tree.Tick k) (whole_follows Steps) (λ k s t xs d. begun refl (last_part d))
-
-show_follows : Follows show (Behind (codes "show"))
-unfolding show reserved_words
-show_follows = one_follows (codes "show") (λ n. Tree.Show n) name_follows (λ n s t xs d. begun refl (last_part d))
-
-drop_follows : Follows drop (Behind (codes "drop"))
-unfolding drop reserved_words
-drop_follows = one_follows (codes "drop") (λ n. Tree.Drop n) name_follows (λ n s t xs d. begun refl (last_part d))
-
-save_follows : Follows save (Behind (codes "save"))
-unfolding save reserved_words
-save_follows = one_follows (codes "save") (λ w. Tree.Save w) text_follows (λ w s t xs d. begun refl (last_part d))
+-- ---- The commands
 
 class_follows : Follows class (Behind (codes "class"))
 unfolding class reserved_words
-class_follows = two_follow (codes "class") (λ h attrs. Tree.Class h.0 h.1 h.2 attrs) class_head_follows attrs_follow
-    (λ h attrs s t u xs ys d e. begun refl (d attrs u ys e))
+class_follows = behind refl λ s t x e. all_ahead class_head_follows s _ e λ h s1 e. final attrs_part s1 (λ a. Tree.Class h.0 h.1 h.2 a) e (λ a. refl)
 
 region_follows : Follows region (Behind (codes "region"))
 unfolding region reserved_words
-region_follows = two_follow (codes "region") (λ n ps. Tree.Region n ps) name_follows points_follow
-    (λ n ps s t u xs ys d e. begun refl (part_before d (last_part e)))
-
-import_follows : Follows import (Behind (codes "import"))
-unfolding import reserved_words
-import_follows = two_follow (codes "import") (λ n w. Tree.Import n w) name_follows text_follows
-    (λ n w s t u xs ys d e. begun refl (part_before d (last_part e)))
-
-export_follows : Follows export (Behind (codes "export"))
-unfolding export reserved_words
-export_follows = two_follow (codes "export") (λ n w. Tree.Export n w) name_follows text_follows
-    (λ n w s t u xs ys d e. begun refl (part_before d (last_part e)))
-
-ask_follows : Follows ask (Behind (codes "ask"))
-unfolding ask reserved_words
-ask_follows = two_follow (codes "ask") (λ k q. Tree.Ask k q) (whole_follows Span) query_follows (λ k q s t u xs ys d e. begun refl (part_before d e))
-
-watch_follows : Follows watch (Behind (codes "watch"))
-unfolding watch reserved_words
-watch_follows = two_follow (codes "watch") (λ h q. Tree.Watch h.0 h.1 q) watch_head_follows query_follows
-    (λ h q s t u xs ys d e. begun refl (two_before d e))
-
-keep_follows : Follows keep (Behind (codes "keep"))
-unfolding keep reserved_words
-keep_follows = two_follow (codes "keep") (λ h q. Tree.Keep h.0 h.1 q) watch_head_follows query_follows
-    (λ h q s t u xs ys d e. begun refl (two_before d e))
-
-must_follows : Follows must (Behind (codes "must"))
-unfolding must reserved_words
-must_follows = two_follow (codes "must") (λ h q. Tree.Must h.0 h.1 q) must_head_follows query_follows
-    (λ h q s t u xs ys d e. begun refl (two_before d e))
-
-may_follows : Follows may (Behind (codes "may"))
-unfolding may reserved_words
-may_follows = two_follow (codes "may") (λ h q. Tree.May h.0 h.1 q) must_head_follows query_follows (λ h q s t u xs ys d e. begun refl (two_before d e))
-
--- ---- Other commands
+region_follows = behind refl λ s t x e. all_ahead (one name_follows) s _ e λ n s1 e. final points_follow s1 (λ ps. Tree.Region n ps) e (λ ps. refl)
 
 insert_follows : Follows insert (Behind (codes "insert"))
 unfolding insert reserved_words
-insert_follows =
-    follows λ s t x e.
-    part_first insert_head_follows s _ e λ x1 s1 h e.
-    part_first place_follows s1 _ e λ x2 s2 p e.
-    part_first settings_follow s2 _ e λ x3 s3 ss e.
-    ends (Behind (codes "insert")) (Tree.Insert x1.0 x1.1 x2 x3) x s3 t e (took_both h.split (took_both p.split ss.split))
-    (begun refl (two_before h.spelled (last_part (part_change (change_by p.spelled ss.spelled)))))
+insert_follows = behind refl λ s t x e. all_ahead insert_head_follows s _ e λ h s1 e. changing s1 (λ p ss. Tree.Insert h.0 h.1 p ss) e (λ p ss. refl)
 
 update_follows : Follows update (Behind (codes "update"))
 unfolding update reserved_words
-update_follows =
-    follows λ s t x e.
-    part_first name_follows s _ e λ x1 s1 n e.
-    part_first place_follows s1 _ e λ x2 s2 p e.
-    part_first settings_follow s2 _ e λ x3 s3 ss e.
-    ends (Behind (codes "update")) (Tree.Update x1 x2 x3) x s3 t e (took_both n.split (took_both p.split ss.split))
-    (begun refl (part_before n.spelled (last_part (part_change (change_by p.spelled ss.spelled)))))
+update_follows = behind refl λ s t x e. all_ahead (one name_follows) s _ e λ n s1 e. changing s1 (λ p ss. Tree.Update n p ss) e (λ p ss. refl)
+
+remove_follows : Follows remove (Behind (codes "remove"))
+unfolding remove reserved_words
+remove_follows = behind refl λ s t x e. final name_follows s (λ n. Tree.Remove n) e (λ n. refl)
+
+tick_follows : Follows tick (Behind (codes "tick"))
+unfolding tick reserved_words
+tick_follows = behind refl λ s t x e. final (whole_follows Steps) s (λ k. Tree.Tick k) e (λ k. refl)
+
+ask_follows : Follows ask (Behind (codes "ask"))
+unfolding ask reserved_words
+ask_follows = behind refl λ s t x e. all_ahead (one (whole_follows Span)) s _ e λ k s1 e. asking s1 (λ q. Tree.Ask k q) e (λ q. refl)
+
+watch_follows : Follows watch (Behind (codes "watch"))
+unfolding watch reserved_words
+watch_follows = behind refl λ s t x e. all_ahead watch_head_follows s _ e λ h s1 e. asking s1 (λ q. Tree.Watch h.0 h.1 q) e (λ q. refl)
+
+keep_follows : Follows keep (Behind (codes "keep"))
+unfolding keep reserved_words
+keep_follows = behind refl λ s t x e. all_ahead watch_head_follows s _ e λ h s1 e. asking s1 (λ q. Tree.Keep h.0 h.1 q) e (λ q. refl)
+
+show_follows : Follows show (Behind (codes "show"))
+unfolding show reserved_words
+show_follows = behind refl λ s t x e. final name_follows s (λ n. Tree.Show n) e (λ n. refl)
+
+drop_follows : Follows drop (Behind (codes "drop"))
+unfolding drop reserved_words
+drop_follows = behind refl λ s t x e. final name_follows s (λ n. Tree.Drop n) e (λ n. refl)
+
+save_follows : Follows save (Behind (codes "save"))
+unfolding save reserved_words
+save_follows = behind refl λ s t x e. final text_follows s (λ w. Tree.Save w) e (λ w. refl)
+
+import_follows : Follows import (Behind (codes "import"))
+unfolding import reserved_words
+import_follows = behind refl λ s t x e. all_ahead (one name_follows) s _ e λ n s1 e. final text_follows s1 (λ w. Tree.Import n w) e (λ w. refl)
+
+export_follows : Follows export (Behind (codes "export"))
+unfolding export reserved_words
+export_follows = behind refl λ s t x e. all_ahead (one name_follows) s _ e λ n s1 e. final text_follows s1 (λ w. Tree.Export n w) e (λ w. refl)
 
 nearest_follows : Follows nearest (Behind (codes "nearest"))
 unfolding nearest reserved_words
 nearest_follows =
-    follows λ s t x e.
-    part_first (whole_follows Span) s _ e λ x1 s1 span e.
-    part_first (whole_follows Nearest) s1 _ e λ x2 s2 count e.
-    part_first name_follows s2 _ e λ x3 s3 object e.
-    part_first name_follows s3 _ e λ x4 s4 class e.
-    ends (Behind (codes "nearest")) (Tree.Nearest x1 x2 x3 x4) x s4 t e
-    (took_both span.split (took_both count.split (took_both object.split class.split)))
-    (begun refl (part_before span.spelled (part_before count.spelled (part_before object.spelled (last_part class.spelled)))))
+    behind refl λ s t x e.
+    all_ahead (one (whole_follows Span)) s _ e λ k s1 e.
+    all_ahead (one (whole_follows Nearest)) s1 _ e λ n s2 e.
+    all_ahead (one name_follows) s2 _ e λ o s3 e.
+    final name_follows s3 (λ c. Tree.Nearest k n o c) e (λ c. refl)
+
+must_follows : Follows must (Behind (codes "must"))
+unfolding must reserved_words
+must_follows = behind refl λ s t x e. all_ahead must_head_follows s _ e λ h s1 e. asking s1 (λ q. Tree.Must h.0 h.1 q) e (λ q. refl)
+
+may_follows : Follows may (Behind (codes "may"))
+unfolding may reserved_words
+may_follows = behind refl λ s t x e. all_ahead must_head_follows s _ e λ h s1 e. asking s1 (λ q. Tree.May h.0 h.1 q) e (λ q. refl)
 
 index_follows : Follows index (Behind (codes "index"))
 unfolding index reserved_words
 index_follows =
-    follows λ s t x e.
-    part_first name_follows s _ e λ x1 s1 class e.
-    part_first name_follows s1 _ e λ x2 s2 attr e.
-    part_first (num_follows Width) s2 _ e λ x3 s3 width e.
-    ends (Behind (codes "index")) (Tree.Index x1 x2 x3) x s3 t e (took_both class.split (took_both attr.split width.split))
-    (begun refl (part_before class.spelled (part_before attr.spelled (last_part (part_num width.spelled)))))
+    behind refl λ s t x e.
+    all_ahead (one name_follows) s _ e λ c s1 e.
+    all_ahead (one name_follows) s1 _ e λ a s2 e.
+    final (num_part Width) s2 (λ w. Tree.Index c a w) e (λ w. refl)
 
 range_follows : Follows range (Behind (codes "range"))
 unfolding range reserved_words
 range_follows =
-    follows λ s t x e.
-    part_first (whole_follows Span) s _ e λ x1 s1 span e.
-    part_first name_follows s1 _ e λ x2 s2 class e.
-    part_first name_follows s2 _ e λ x3 s3 attr e.
-    part_first (num_follows Value) s3 _ e λ x4 s4 least e.
-    part_first (num_follows Value) s4 _ e λ x5 s5 greatest e.
-    ends (Behind (codes "range")) (Tree.Range x1 x2 x3 x4 x5) x s5 t e
-    (took_both span.split (took_both class.split (took_both attr.split (took_both least.split greatest.split))))
-    (begun refl (part_before span.spelled (part_before class.spelled
-    (part_before attr.spelled (part_before (part_num least.spelled) (last_part (part_num greatest.spelled)))))))
+    behind refl λ s t x e.
+    all_ahead (one (whole_follows Span)) s _ e λ k s1 e.
+    all_ahead (one name_follows) s1 _ e λ c s2 e.
+    all_ahead (one name_follows) s2 _ e λ a s3 e.
+    all_ahead (one (num_part Value)) s3 _ e λ l s4 e.
+    final (num_part Value) s4 (λ g. Tree.Range k c a l g) e (λ g. refl)
 
 listing_follows : Follows (λ s. Some (Tree.Listing, s)) (Behind (codes "list"))
 unfolding reserved_words

@@ -1,5 +1,5 @@
 -- A line that is read as a command begins with the command's first word.
-use Rattle.command_text.proofs.Names.{◌≡◌, ℕ, zero, suc, ◌+◌, ◌-◌, ◌≤◌, ◌&&◌, nat_le, leb, leb-true, and_parts, Bool, true, false, List, [], ◌∷◌, ◌++◌, take, map, Option, None, Some, option_map, option_and_then, option_map_or, unwrap_or, refl, sym, ap, ◌∙◌, arith, inl, inr, ◌⊎◌, cases_Bool, bytes_eq, bytes_eq-Decides, code_of, reserved_words, Kind, Lexeme, lexemes, bytes_of_token, HasForm, HaveForms, bad_place, cut, token_at, is_blank, Part, Parts, Piece, NAME, piece_of, pieces, CommandTree, Notes, token_of, SpellsPart, part_verb, SpellsParts, no_parts, last_part, last_query, part_before, SpellsCommand, by_parts, Read, at_first, if◌then◌else◌, command_of, is_comment, command_in, IsTrue, WORD, WORD_LIMIT, before, first_notes, good, is_short, is_verb, is_word, length, nat_tests, reserved, short_word, slice_get_past, ◌<◌}
+use Rattle.command_text.proofs.Names.{◌≡◌, ℕ, zero, suc, ◌+◌, ◌-◌, ◌≤◌, ◌&&◌, nat_le, leb, leb-true, and_parts, Bool, true, false, List, [], ◌∷◌, ◌++◌, take, map, Option, None, Some, option_map, option_and_then, option_map_or, unwrap_or, refl, sym, ap, ◌∙◌, arith, inl, inr, ◌⊎◌, cases_Bool, bytes_eq, bytes_eq-Decides, code_of, reserved_words, Kind, Lexeme, lexemes, bytes_of_token, HasForm, HaveForms, bad_place, cut, token_at, is_blank, Part, Parts, Piece, NAME, piece_of, pieces, CommandTree, Notes, token_of, SpellsPart, part_verb, SpellsParts, no_parts, last_part, last_query, part_before, SpellsCommand, by_parts, Read, at_first, if◌then◌else◌, command_of, is_comment, command_in, IsTrue, WORD, before, first_notes, good, is_short, is_verb, is_word, length, reserved, short_word, slice_get_past, ◌<◌, CLASS}
 use Rattle.std.proofs.Common.{one-add, eqb}
 use Rattle.std.proofs.lemmas.Bool.Decides.{Decides-eqb}
 use Rattle.ftl_lexer.specs.declared.kinds.Kind.TheVariants as kinds
@@ -8,6 +8,8 @@ use Rattle.ftl_lexer.proofs.Shapes.{tokens_have_forms}
 use Rattle.ftl_lexer.proofs.Spans.{no_tokens}
 use Rattle.command_text.specs.Tree
 use Rattle.command_text.specs.FirstWord.{word_in, word_before, first_word, after_blanks, begins_with, BeginsWithItsWord}
+use Rattle.ftl_parser.specs.Piece as token
+use Rattle.ftl_parser.proofs.canonical.TextTokens.{few_is}
 use Rattle.ftl_parser.proofs.reader.TableLemmas.{is_fixed, sign_fixed, word_fixed}
 use Rattle.command_text.specs.Parts.{is_of_commands}
 use Rattle.command_text.proofs.grammar.DerivedCommands.{command_derived}
@@ -121,20 +123,17 @@ verb_is : (word : List ℕ) → IsTrue (is_verb word) → IsFirst word
 verb_is word verb =
     let parts = and_parts (is_word word) _ verb in
     let others = and_parts (leb (length word) 7) _ parts.1 in
-    record { some = not_empty word parts.0; short = is_few (length word) others.0; coded = λ code found. by_code code found others.1 }
+    record { some = not_empty word parts.0; short = few_is word (omega (arith, leb-true (length word) 7 others.0)); coded = λ code found. by_code code found others.1 }
   where
     not_empty : (word : List ℕ) → is_word word ≡ true → 0 < length word
     not_empty [] h = absurd (cc)
     not_empty (b ∷ bytes) h = omega arith
 
-    is_few : (n : ℕ) → leb n 7 ≡ true → nat_le n WORD_LIMIT ≡ true
-    is_few n h = grind (arith, nat_tests, h)
-
     by_code : (code : ℕ) → code_of reserved_words word ≡ Some code → option_map_or is_of_commands (code_of reserved_words word) true ≡ true
         → piece_of (kinds.Key code) word ≡ WORD code
     by_code code found h =
-        let high : nat_le 25 code ≡ true = sym (ap (λ o. option_map_or is_of_commands o true) found) ∙ h in
-        ap (λ (o : Option Piece). unwrap_or o (WORD code)) (slice_get_past reserved code (leb-true 25 code high))
+        let high : nat_le CLASS code ≡ true = sym (ap (λ o. option_map_or is_of_commands o true) found) ∙ h in
+        ap (λ (o : Option Piece). unwrap_or o (WORD code)) (slice_get_past reserved code (leb-true CLASS code high))
 
 -- a short word that stands for itself, or for a longer one
 short_is : (bytes word : List ℕ) → IsFirst word → NAME (short_word bytes) ≡ NAME (short_word word) → bytes ≡ word
@@ -193,7 +192,7 @@ command_has (by_parts d) = parts_have d
 
 -- by the tokens of the line
 line_by : (line word : List ℕ) (all : List Lexeme) (later : List Piece) → cut 0 line ≡ Some all → HaveForms all → IsTrue (is_verb word)
-    → map (λ (l : Lexeme). piece_of l.0 l.1) all ≡ token_of word ∷ later → begins_with (after_blanks line) word ≡ true
+    → token.pieces all ≡ token_of word ∷ later → begins_with (after_blanks line) word ≡ true
 line_by line word [] later e forms verb h = absurd (cc)
 line_by line word (l ∷ all) later e forms verb h =
     let first : piece_of l.0 l.1 ≡ token_of word = cc in
@@ -201,7 +200,7 @@ line_by line word (l ∷ all) later e forms verb h =
     begins_by at.len (after_blanks line) word (sym (same_word l.0 l.1 word forms.0 verb first) ∙ at.is)
 
 bad_has_none : (line : List ℕ) (place : ℕ) → bad_place line ≡ Some place → pieces line ≡ []
-bad_has_none line place e = ap (map (λ (l : Lexeme). piece_of l.0 l.1)) (ap (map (λ t. (t.kind, bytes_of_token line t))) (no_tokens line place e))
+bad_has_none line place e = ap token.pieces (ap (map (λ t. (t.kind, bytes_of_token line t))) (no_tokens line place e))
 
 word_first : (line word : List ℕ) (bad : Option ℕ) → bad_place line ≡ bad → HasFirst word (pieces line) → begins_with (after_blanks line) word ≡ true
 word_first line word bad e (inl none) = rw none refl

@@ -1,8 +1,9 @@
 -- From the tokens of a line to the line.
-use Rattle.command_text.proofs.Names.{◌≡◌, ℕ, Bool, true, false, List, [], ◌∷◌, Option, Some, None, option_map, refl, sym, ◌∙◌, ap, subst, Result, Ok, Err, IfOk, IfErr, MatchResult, is_none, is_some, not, ◌&&◌, if◌then◌else◌, ◌>>=◌, bad_place, At, Command, CommandFault, Refusal, CommandTree, command_view, Kind, Piece, piece_of, pieces, Reader, Read, front, next, at_first, by_token, to_end, command_begun, command, command_of, standing, first_that_holds, is_comment, is_too_long, has_other_byte, has_bad_token, command_in, early_refusal, late_refusal, first_refusal, or_else, IsBegun, IsRead, IsWhole, Refuses, TellsBadPlace, Lexeme, NAME, before, by_key, by_name, good, has_long, has_short_words, lexemes, short_word, map}
+use Rattle.command_text.proofs.Names.{◌≡◌, ℕ, Bool, true, false, List, [], ◌∷◌, Option, Some, None, option_map, refl, sym, ◌∙◌, ap, subst, Result, Ok, Err, IfOk, IfErr, MatchResult, is_none, is_some, not, ◌&&◌, if◌then◌else◌, ◌>>=◌, bad_place, At, Command, CommandFault, Refusal, CommandTree, command_view, Kind, Piece, piece_of, pieces, Reader, Read, front, next, at_first, by_token, to_end, command_begun, command, command_of, standing, first_that_holds, is_comment, is_too_long, has_other_byte, has_bad_token, command_in, early_refusal, late_refusal, first_refusal, or_else, IsBegun, IsRead, IsWhole, Refuses, TellsBadPlace, Lexeme, NAME, before, by_key, by_name, good, has_long, has_short_words, lexemes, short_word}
 use Rattle.command_text.specs.declared.fault.CommandFault.TheVariants as faults
 use Rattle.command_text.specs.declared.refusal.Refusal.TheVariants as refusals
 use Rattle.ftl_lexer.specs.declared.kinds.Kind.TheVariants as kinds
+use Rattle.ftl_parser.specs.Piece as token
 use Rattle.command_text.specs.Tree
 use Rattle.command_text.specs.Line.{Explains}
 use Rattle.command_text.proofs.grammar.QueryLemmas.{and_true}
@@ -29,7 +30,7 @@ first_is : (line : List ℕ) → standing line first_place ≡ at_first line
 first_is line = ap (λ b. before (pieces line) (true, b)) (and_true (has_short_words line))
 
 -- a line without tokens
-none_left : (tokens : List Lexeme) → is_none (front (map (λ t. piece_of t.0 t.1) tokens)) ≡ true → tokens ≡ []
+none_left : (tokens : List Lexeme) → is_none (front (token.pieces tokens)) ≡ true → tokens ≡ []
 none_left [] e = refl
 none_left (t ∷ tokens) e = absurd (cc)
 

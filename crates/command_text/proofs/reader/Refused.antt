@@ -1,6 +1,7 @@
 -- What becomes of a part that isn't read, and of a command at the end of its tokens.
-use Rattle.command_text.proofs.Names.{◌≡◌, ℕ, zero, suc, ◌<◌, ◌≤◌, true, false, List, [], ◌∷◌, length, map, Some, None, option_map, refl, sym, ◌∙◌, ap, subst, arith, is_none, if◌then◌else◌, length-map, ◌>>=◌, Token, Lexeme, lexemes, tokens_of, bytes_of_token, At, CommandFault, CommandTree, piece_of, Reader, Read, front, ended, to_end, Stops, standing, late_refusal, is_at_end, IsWhole, Refuses, RefusesAtEnd, ◌&&◌, not, has_long, has_short_words, lexemes_from}
+use Rattle.command_text.proofs.Names.{◌≡◌, ℕ, zero, suc, ◌<◌, ◌≤◌, true, false, List, [], ◌∷◌, length, Some, None, option_map, refl, sym, ◌∙◌, ap, subst, arith, is_none, if◌then◌else◌, length-map, ◌>>=◌, Token, Lexeme, lexemes, tokens_of, bytes_of_token, At, CommandFault, CommandTree, Reader, Read, front, ended, to_end, Stops, standing, late_refusal, is_at_end, IsWhole, Refuses, RefusesAtEnd, ◌&&◌, not, has_long, has_short_words, lexemes_from}
 use Rattle.std.proofs.Common.{drop}
+use Rattle.ftl_parser.specs.Piece as token
 use Rattle.command_text.specs.declared.fault.CommandFault.TheVariants as faults
 use Rattle.command_text.specs.declared.refusal.Refusal.TheVariants as refusals
 use Rattle.command_text.proofs.grammar.QueryLemmas.{and_false}
@@ -38,7 +39,7 @@ mapped_part part f (faults.Refused r) h = (same_late f part ∙ h.0, same_end f 
 mapped_part part f faults.NoMemory h = tt
 
 -- tokens that are left, and none that are left
-left_over : (ts : List Lexeme) (place : ℕ) → place < length ts → is_none (front (drop place (map (λ t. piece_of t.0 t.1) ts))) ≡ false
+left_over : (ts : List Lexeme) (place : ℕ) → place < length ts → is_none (front (drop place (token.pieces ts))) ≡ false
 left_over [] place h = absurd (omega arith)
 left_over (x ∷ ts) zero h = refl
 left_over (x ∷ ts) (suc n) h = let less : n < length ts = omega arith in left_over ts n less

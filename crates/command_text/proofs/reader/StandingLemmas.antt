@@ -1,27 +1,25 @@
 -- A reader at a place of the tokens, and one after the token there.
-use Rattle.command_text.proofs.Names.{◌≡◌, ℕ, zero, suc, ◌+◌, ◌≤◌, [], ◌∷◌, List, length, map, None, Some, option_map, slice_get, refl, ap, add-one, slice_get_past, Lexeme, Piece, piece_of, lexemes, At, front, next, standing, has_short_words, ◌&&◌}
+use Rattle.command_text.proofs.Names.{◌≡◌, ℕ, zero, suc, ◌+◌, ◌≤◌, [], ◌∷◌, List, length, None, Some, option_map, slice_get, refl, ap, add-one, slice_get_past, Lexeme, Piece, piece_of, lexemes, At, front, next, standing, has_short_words, ◌&&◌}
 use Rattle.std.proofs.Common.{drop}
-
-abbrev pieces_of : List Lexeme → List Piece
-pieces_of = map (λ t. piece_of t.0 t.1)
+use Rattle.ftl_parser.specs.Piece as token
 
 -- a token at a place, and those after it
 pub front_some : (ts : List Lexeme) (place : ℕ) (t : Lexeme) → slice_get ts place ≡ Some t →
-    front (drop place (map (λ t. piece_of t.0 t.1) ts)) ≡ Some (piece_of t.0 t.1, drop (place + 1) (map (λ t. piece_of t.0 t.1) ts))
+    front (drop place (token.pieces ts)) ≡ Some (piece_of t.0 t.1, drop (place + 1) (token.pieces ts))
 front_some [] place t e = cc
-front_some (x ∷ ts) zero t e = let same : x ≡ t = cc in ap (λ t. Some (piece_of t.0 t.1, pieces_of ts)) same
+front_some (x ∷ ts) zero t e = let same : x ≡ t = cc in ap (λ t. Some (piece_of t.0 t.1, token.pieces ts)) same
 front_some (x ∷ ts) (suc n) t e = rw add-one (rw add-one at (front_some ts n t e))
 
 -- no token at a place
 pub front_none : (ts : List Lexeme) (place : ℕ) → slice_get ts place ≡ None →
-    front (drop place (map (λ t. piece_of t.0 t.1) ts)) ≡ None
+    front (drop place (token.pieces ts)) ≡ None
 front_none [] zero e = refl
 front_none [] (suc n) e = refl
 front_none (x ∷ ts) zero e = cc
 front_none (x ∷ ts) (suc n) e = front_none ts n e
 
 pub front_past : (ts : List Lexeme) (place : ℕ) → length ts ≤ place →
-    front (drop place (map (λ t. piece_of t.0 t.1) ts)) ≡ None
+    front (drop place (token.pieces ts)) ≡ None
 front_past ts place h = front_none ts place (slice_get_past ts place h)
 
 -- the token where a reader of the program stands

@@ -1,5 +1,5 @@
 -- What the reader's tests say of words and symbols, by their codes.
-use Rattle.command_text.proofs.Names.{◌≡◌, ℕ, zero, suc, ◌+◌, ◌<◌, ◌≤◌, Bool, true, false, ◌==◌, List, [], ◌∷◌, Option, Some, None, length, refl, sym, ap, ◌∙◌, arith, inl, inr, cases_Bool, eqb-true, if◌then◌else◌, nat_tests, nat_le, ltb, codes, bytes_eq, bytes_eq-Decides, slice_get, slice_get_past, slice_get_within, unwrap_or, is_short, short_word, WORD_LIMIT, Piece, NUMBER, ARROW, NAME, TEXT, WORD, RETRIEVE, reserved, signs, is_key, is_sign, sign_code, kind_in, kind_of, name_in, number_in, text_in, Reader, by_key, by_name, by_token, Kind, piece_of}
+use Rattle.command_text.proofs.Names.{◌≡◌, ℕ, zero, suc, ◌+◌, ◌<◌, ◌≤◌, Bool, true, false, ◌==◌, List, [], ◌∷◌, Option, Some, None, length, refl, sym, ap, ◌∙◌, arith, inl, inr, cases_Bool, eqb-true, if◌then◌else◌, nat_tests, nat_le, ltb, codes, bytes_eq, bytes_eq-Decides, slice_get, slice_get_past, slice_get_within, unwrap_or, is_short, short_word, WORD_LIMIT, Piece, NUMBER, ARROW, NAME, TEXT, WORD, RETRIEVE, reserved, signs, is_key, is_sign, sign_code, kind_in, kind_of, name_in, number_in, text_in, Reader, by_key, by_name, by_token, Kind, piece_of, ASSIGN, CLASS}
 use Rattle.ftl_lexer.specs.declared.kinds.Kind.TheVariants as kinds
 use Rattle.ftl_parser.proofs.reader.TableLemmas.{is_fixed, in_table, sign_fixed, word_fixed}
 
@@ -19,31 +19,31 @@ signs_ascend : AscendFrom 0 signs
 signs_ascend = (refl, (refl, (refl, (refl, (refl, (refl, (refl, (refl, (refl, (refl, (refl, (refl, (refl, (refl, (refl, (refl, tt))))))))))))))))
 
 -- a symbol has the code of its place; past the table stands the last one
-pub sign_of_sign : (code k : ℕ) → code < 15 → is_sign code (unwrap_or (slice_get signs k) ARROW) ≡ (k == code)
+pub sign_of_sign : (code k : ℕ) → code < ASSIGN → is_sign code (unwrap_or (slice_get signs k) ARROW) ≡ (k == code)
 sign_of_sign code k low =
-    elim (cases_Bool (ltb k 16)) [
+    elim (cases_Bool (ltb k (length signs))) [
       | inl within ↦ ap (λ (n : ℕ). n == code) (code_at signs 0 k signs_ascend (grind (arith, nat_tests, within)) ∙ omega arith)
       | inr past ↦
-          let all : 16 ≤ k = grind (arith, nat_tests, past) in
-          let last : sign_code (unwrap_or (slice_get signs k) ARROW) ≡ 15 = ap (λ (o : Option Piece). sign_code (unwrap_or o ARROW)) (slice_get_past signs k all) in
+          let all : length signs ≤ k = grind (arith, nat_tests, past) in
+          let last : sign_code (unwrap_or (slice_get signs k) ARROW) ≡ ASSIGN = ap (λ (o : Option Piece). sign_code (unwrap_or o ARROW)) (slice_get_past signs k all) in
           ap (λ (n : ℕ). n == code) last ∙ unlike code k low all
     ]
   where
-    unlike : (code k : ℕ) → code < 15 → 16 ≤ k → (15 == code) ≡ (k == code)
+    unlike : (code k : ℕ) → code < ASSIGN → length signs ≤ k → (ASSIGN == code) ≡ (k == code)
     unlike code k low all = grind (arith, nat_tests, low, all)
 
 -- no other token is a symbol
-pub no_sign : (code : ℕ) (kind : Kind) (bytes : List ℕ) → code < 15 → ((k : ℕ) → kind ≡ kinds.Sym k → ⊥) → is_sign code (piece_of kind bytes) ≡ false
+pub no_sign : (code : ℕ) (kind : Kind) (bytes : List ℕ) → code < ASSIGN → ((k : ℕ) → kind ≡ kinds.Sym k → ⊥) → is_sign code (piece_of kind bytes) ≡ false
 no_sign code kind bytes low other = ap (λ (n : ℕ). n == code) (none kind other) ∙ unlike code low
   where
-    none : (kind : Kind) → ((k : ℕ) → kind ≡ kinds.Sym k → ⊥) → sign_code (piece_of kind bytes) ≡ 16
+    none : (kind : Kind) → ((k : ℕ) → kind ≡ kinds.Sym k → ⊥) → sign_code (piece_of kind bytes) ≡ length signs
     none kinds.Name other = refl
     none kinds.Number other = refl
     none kinds.Text other = refl
     none (kinds.Sym k) other = absurd (other k refl)
-    none (kinds.Key k) other = eqb-true (sign_code (piece_of (kinds.Key k) bytes)) 16 (in_table (λ p. sign_code p == 16) reserved k (WORD k) refl refl)
+    none (kinds.Key k) other = eqb-true (sign_code (piece_of (kinds.Key k) bytes)) (length signs) (in_table (λ p. sign_code p == length signs) reserved k (WORD k) refl refl)
 
-    unlike : (code : ℕ) → code < 15 → (16 == code) ≡ false
+    unlike : (code : ℕ) → code < ASSIGN → (length signs == code) ≡ false
     unlike code low = grind (arith, nat_tests, low)
 
 -- ---- words
@@ -54,7 +54,7 @@ no_word (WORD k) = false
 no_word p = true
 
 -- what is told of a word is told of those of queries and of those by their codes
-by_word : {X : Type 0} (f : Piece → X) (g : ℕ → X) (k : ℕ) → ((p : Piece) → is_fixed p ≡ true → no_word p ≡ true → k < 25 → f p ≡ g k)
+by_word : {X : Type 0} (f : Piece → X) (g : ℕ → X) (k : ℕ) → ((p : Piece) → is_fixed p ≡ true → no_word p ≡ true → k < CLASS → f p ≡ g k)
     → f (WORD k) ≡ g k → f (unwrap_or (slice_get reserved k) (WORD k)) ≡ g k
 by_word f g k first other = by_row (slice_get reserved k) refl
   where
@@ -87,10 +87,10 @@ no_key : (code : ℕ) (p : Piece) → no_word p ≡ true → is_key code p ≡ f
 no_key code (WORD k) h = absurd (cc)
 no_key code p h = refl
 
-pub key_of_word : (code k : ℕ) → 25 ≤ code → is_key code (unwrap_or (slice_get reserved k) (WORD k)) ≡ (k == code)
+pub key_of_word : (code k : ℕ) → CLASS ≤ code → is_key code (unwrap_or (slice_get reserved k) (WORD k)) ≡ (k == code)
 key_of_word code k high = by_word (is_key code) (λ n. n == code) k (λ p fixed old low. no_key code p old ∙ unlike code k high low) refl
   where
-    unlike : (code k : ℕ) → 25 ≤ code → k < 25 → false ≡ (k == code)
+    unlike : (code k : ℕ) → CLASS ≤ code → k < CLASS → false ≡ (k == code)
     unlike code k high low = grind (arith, nat_tests, high, low)
 
 pub key_of_sign : (code k : ℕ) → is_key code (unwrap_or (slice_get signs k) ARROW) ≡ false
@@ -103,7 +103,7 @@ no_kind p h = refl
 pub kind_of_word : (k : ℕ) → kind_in (unwrap_or (slice_get reserved k) (WORD k)) ≡ kind_of k
 kind_of_word k = by_word kind_in kind_of k (λ p fixed old low. no_kind p old ∙ none_low k low) refl
   where
-    none_low : (k : ℕ) → k < 25 → None ≡ kind_of k
+    none_low : (k : ℕ) → k < CLASS → None ≡ kind_of k
     none_low k low = grind (arith, nat_tests, low)
 
 pub kind_not_in : (kind : Kind) (bytes : List ℕ) → ((k : ℕ) → kind ≡ kinds.Key k → ⊥) → kind_in (piece_of kind bytes) ≡ None
@@ -161,7 +161,7 @@ pub key_begins : (code : ℕ) (s : Reader) → by_token (unwrap_or (slice_get re
 key_begins code s =
     by_word (λ p. by_token p s) (λ k. by_key k s) code (λ p fixed old low. none_begins p s fixed old ∙ none_low code s low) refl
   where
-    none_low : (k : ℕ) (s : Reader) → k < 25 → None ≡ by_key k s
+    none_low : (k : ℕ) (s : Reader) → k < CLASS → None ≡ by_key k s
     none_low k s low = grind (arith, nat_tests, low)
 
 pub sign_begins : (code : ℕ) (s : Reader) → by_token (unwrap_or (slice_get signs code) ARROW) s ≡ None
