@@ -3,10 +3,10 @@ ghost use Rattle.std.specs.Prelude.{◌≡◌, ◌<◌, ◌≤◌, length, IfSom
 
 use crate::fault::counted;
 use crate::{Failed, OutFail, Sink, Source};
-use std::io::{Read, Write};
+use std::io::{ErrorKind, Read, Write};
 use std::marker::Model;
 
-/// A reader as a source. Each error of the reader is a fault.
+/// A reader as a source. A read that a signal interrupts is made again; each other error of the reader is a fault.
 #[derive(Drop)]
 pub struct StdSource<R> {
     reader: R,
@@ -34,12 +34,25 @@ impl<R: Read> Source for StdSource<R> {
     ghost faults = { λ s. s };
 
     fn read(&mut self, buf: &mut [u8]) -> Result<usize, Failed> {
-        counted(&mut self.faults, self.reader.read(buf).ok())
+        counted(&mut self.faults, read_some(&mut self.reader, buf))
     }
 }
 
-/// A writer as a sink, which is flushed after each write. Each error of the writer is a fault, and so is a write
-/// that takes no byte.
+// How many bytes the reader moved. `None` where it failed.
+fn read_some<R: Read>(reader: &mut R, buf: &mut [u8]) -> Option<usize>
+    ensures { IfSome result (λ n. n ≤ length buf.new) }
+{
+    for _ in 0..u64::MAX {
+        match reader.read(buf) {
+            Err(error) if error.kind() == ErrorKind::Interrupted => {}
+            moved => return moved.ok(),
+        }
+    }
+    None
+}
+
+/// A writer as a sink, which is flushed after each write. A write that a signal interrupts is made again; each other error
+/// of the writer is a fault, and so is a write that takes no byte.
 #[derive(Drop)]
 pub struct StdSink<W> {
     writer: W,
@@ -76,7 +89,19 @@ impl<W: Write> Sink for StdSink<W> {
 fn write_and_flush<W: Write>(writer: &mut W, piece: &[u8]) -> Option<usize>
     ensures { IfSome result (λ n. (0 < n) × (n ≤ length piece.now)) }
 {
-    let len = writer.write(piece).ok()?;
+    let len = write_some(writer, piece)?;
     writer.flush().ok()?;
     if len == 0 { None } else { Some(len) }
+}
+
+fn write_some<W: Write>(writer: &mut W, piece: &[u8]) -> Option<usize>
+    ensures { IfSome result (λ n. n ≤ length piece.now) }
+{
+    for _ in 0..u64::MAX {
+        match writer.write(piece) {
+            Err(error) if error.kind() == ErrorKind::Interrupted => {}
+            taken => return taken.ok(),
+        }
+    }
+    None
 }
