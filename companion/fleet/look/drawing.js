@@ -1,0 +1,574 @@
+// Draws a scene on a canvas, and a timeline as SVG. It knows nothing of where they come from, and keeps nothing but the
+// pictures of symbols.
+//
+// A scene is what is there at one tick:
+//
+//     { regions: [{ name, points: [[x, y], ..] }],
+//       classes: [{ name, names, x, y, dx, dy, isMarked, trail, ways }],
+//       reach }
+//
+// A class has columns, a number or name for each object: its name, its place (x, y) and how that moves in a tick (dx, dy).
+// These may be left out: `isMarked`, whether the object is ringed; `trail`, where the objects were, oldest first, and `ways`,
+// where they will be, each a list of columns { x, y } with NaN for an object that wasn't there. Without ways an object has a
+// line for as many ticks as `reach`. The y axis points up.
+//
+// A view is the place in the middle of the map and how many pixels a unit has: { x, y, scale }.
+//
+// A timeline is what holds when:
+//
+//     { clock, from, to, at, groups: [{ name, note, rows: [{ label, spans: [[first, last], ..] }], more }] }
+//
+// where `from` and `to` are the ticks at its ends, `at` a tick that is looked at (or null), and `more` how many rows of the
+// group aren't among them.
+
+export const LIGHT = {
+  ground: "#fcfcfa", grid: "#e8eae6", axis: "#c9cec8", text: "#55616a", ink: "#1c2830", region: "rgba(20, 110, 120, 0.08)",
+  regionLine: "#2f6f78", mark: "#b3261e", bar: "#2f7f8a", barNow: "#0d4f5c", barPast: "#a9bcc0", band: "#f1f3f0", clock: "#b3261e",
+  thin: "#a8bfcc",
+  classes: ["#0b62a3", "#a14a00", "#00735a", "#8f3f7d", "#6b5b00", "#44505a"],
+};
+
+export const DARK = {
+  ground: "#14191d", grid: "#232b31", axis: "#3b464e", text: "#a3afb7", ink: "#e6ecef", region: "rgba(110, 200, 205, 0.10)",
+  regionLine: "#5fa8ae", mark: "#ff9a8f", bar: "#5fb0b8", barNow: "#a5e3e6", barPast: "#4a5a61", band: "#1a2126", clock: "#ff9a8f",
+  thin: "#3d5468",
+  classes: ["#7fbdf2", "#f2a765", "#5fd0b0", "#e3a0d3", "#d9c95c", "#b4bfc7"],
+};
+
+const FONT = "12px system-ui, sans-serif";
+const BOLD = "600 12px system-ui, sans-serif";
+const SYMBOL = 16;
+const SMALL_SYMBOL = 10;
+// with more objects in view none has its name beside it
+const MOST_IN_VIEW = 150;
+// more objects than that have small symbols and plain thin lines, which take a browser far less time
+const MOST_ARROWS = 400;
+// more objects than that are dots, without motions
+const MANY = 1_500;
+
+// ---- the map
+
+/// The least rectangle with all that a scene has, or null where it is empty.
+export function boundsOf(scene) {
+  const bounds = { left: Infinity, right: -Infinity, bottom: Infinity, top: -Infinity };
+  const add = (x, y) => {
+    if (x < bounds.left) bounds.left = x;
+    if (x > bounds.right) bounds.right = x;
+    if (y < bounds.bottom) bounds.bottom = y;
+    if (y > bounds.top) bounds.top = y;
+  };
+  for (const region of scene.regions) for (const [x, y] of region.points) add(x, y);
+  for (const { x, y, ways = [] } of scene.classes) {
+    for (const places of [{ x, y }, ...ways]) for (let at = 0; at < places.x.length; at++) add(places.x[at], places.y[at]);
+  }
+  return bounds.left <= bounds.right ? bounds : null;
+}
+
+/// The view in which the rectangle fills a map of this size, with a margin.
+export function fitted(bounds, width, height, margin = 44) {
+  if (bounds === null) return { x: 0, y: 0, scale: 10 };
+  const [across, up] = [bounds.right - bounds.left, bounds.top - bounds.bottom];
+  const room = (pixels) => Math.max(pixels - 2 * margin, 20);
+  const scale = Math.min(room(width) / Math.max(across, 1), room(height) / Math.max(up, 1));
+  return { x: (bounds.left + bounds.right) / 2, y: (bounds.bottom + bounds.top) / 2, scale };
+}
+
+/// Whether all corners of the rectangle can be seen.
+export function isInView(bounds, view, width, height) {
+  if (bounds === null) return true;
+  const [half, tall] = [width / 2 / view.scale, height / 2 / view.scale];
+  return bounds.left >= view.x - half && bounds.right <= view.x + half && bounds.bottom >= view.y - tall && bounds.top <= view.y + tall;
+}
+
+/// The place on the plane of a pixel.
+export function placeOf(view, width, height, left, top) {
+  return [view.x + (left - width / 2) / view.scale, view.y - (top - height / 2) / view.scale];
+}
+
+/// The object that is drawn nearest to a pixel and not far from it, as { className, name }, or null.
+export function objectAt(scene, view, width, height, left, top, after = 0) {
+  const [x, y] = placeOf(view, width, height, left, top);
+  let best = null, least = (14 / view.scale) ** 2;
+  for (const one of scene.classes) {
+    for (let at = 0; at < one.x.length; at++) {
+      const distance = (one.x[at] + after * one.dx[at] - x) ** 2 + (one.y[at] + after * one.dy[at] - y) ** 2;
+      if (distance < least) [best, least] = [{ className: one.name, name: one.names[at] }, distance];
+    }
+  }
+  return best;
+}
+
+/// Draws the scene as it is a part of a tick later, `after`, from 0 to 1.
+export function drawMap(canvas, scene, view, theme, after = 0) {
+  const { context, width, height } = prepared(canvas);
+  const map = {
+    context, theme, view, width, height, after,
+    left: (x) => width / 2 + (x - view.x) * view.scale,
+    top: (y) => height / 2 - (y - view.y) * view.scale,
+  };
+  context.fillStyle = theme.ground;
+  context.fillRect(0, 0, width, height);
+  drawGrid(map);
+  for (const region of scene.regions) drawRegion(map, region);
+  if (scene.classes.reduce((sum, one) => sum + one.x.length, 0) > MANY) {
+    drawDots(map, scene);
+  } else {
+    scene.classes.forEach((one, number) => drawWays(map, one, colourOf(theme, number), scene.reach));
+    drawSymbols(map, scene);
+    drawMarks(map, scene);
+  }
+  drawLabels(map, scene);
+  drawLegend(map, scene);
+}
+
+function ratioOfPixels() {
+  return globalThis.devicePixelRatio || 1;
+}
+
+function prepared(canvas) {
+  const ratio = ratioOfPixels();
+  const [width, height] = [canvas.clientWidth, canvas.clientHeight];
+  if (canvas.width !== Math.round(width * ratio) || canvas.height !== Math.round(height * ratio)) {
+    canvas.width = Math.round(width * ratio);
+    canvas.height = Math.round(height * ratio);
+  }
+  const context = canvas.getContext("2d");
+  context.setTransform(ratio, 0, 0, ratio, 0, 0);
+  return { context, width, height };
+}
+
+function colourOf(theme, number) {
+  return theme.classes[number % theme.classes.length];
+}
+
+/// The least of 1, 2, 5, 10, 20 .. that is not below the number.
+export function niceStep(least) {
+  const power = 10 ** Math.floor(Math.log10(least));
+  return [1, 2, 5, 10].map((one) => one * power).find((step) => step >= least * 0.999);
+}
+
+function stepsIn(first, last, step) {
+  const found = [];
+  for (let at = Math.ceil(first / step); at * step <= last; at++) found.push(at * step);
+  return found;
+}
+
+function shown(number) {
+  return String(Number(number.toPrecision(9)));
+}
+
+function drawGrid(map) {
+  const { context, theme, view, width, height, left, top } = map;
+  const step = niceStep(70 / view.scale);
+  const [x0, y0] = placeOf(view, width, height, 0, height);
+  const [x1, y1] = placeOf(view, width, height, width, 0);
+  const [xs, ys] = [stepsIn(x0, x1, step), stepsIn(y0, y1, step)];
+  const isZero = (number) => number === 0;
+  drawRules(map, xs, ys, theme.grid);
+  drawRules(map, xs.filter(isZero), ys.filter(isZero), theme.axis);
+  context.font = FONT;
+  context.fillStyle = theme.text;
+  context.textBaseline = "bottom";
+  context.textAlign = "left";
+  xs.forEach((x) => context.fillText(shown(x), left(x) + 3, height - 3));
+  ys.filter((y) => top(y) < height - 22).forEach((y) => context.fillText(shown(y), 4, top(y) - 2));
+}
+
+// lines of one pixel up and across
+function drawRules({ context, width, height, left, top }, xs, ys, colour) {
+  context.strokeStyle = colour;
+  context.lineWidth = 1;
+  stroke(context, () => {
+    for (const at of xs.map((x) => Math.round(left(x)) + 0.5)) {
+      context.moveTo(at, 0);
+      context.lineTo(at, height);
+    }
+    for (const at of ys.map((y) => Math.round(top(y)) + 0.5)) {
+      context.moveTo(0, at);
+      context.lineTo(width, at);
+    }
+  });
+}
+
+function drawRegion({ context, theme, left, top }, { name, points }) {
+  context.beginPath();
+  points.forEach(([x, y], at) => (at === 0 ? context.moveTo(left(x), top(y)) : context.lineTo(left(x), top(y))));
+  context.closePath();
+  context.fillStyle = theme.region;
+  context.fill();
+  context.strokeStyle = theme.regionLine;
+  context.lineWidth = 1.25;
+  context.stroke();
+  context.font = FONT;
+  context.fillStyle = theme.regionLine;
+  context.textAlign = "left";
+  context.textBaseline = "bottom";
+  // the name stands over the highest corner, the left one of two
+  const isHigher = ([x, y], best) => y > best[1] || (y === best[1] && x < best[0]);
+  const [x, y] = points.reduce((best, point) => (isHigher(point, best) ? point : best));
+  context.fillText(name, left(x), top(y) - 4);
+}
+
+function drawWays(map, one, colour, reach) {
+  const { context, theme } = map;
+  const each = (draw) => stroke(context, () => one.names.forEach((_, at) => draw(at)));
+  const isFew = one.names.length <= MOST_ARROWS;
+  context.strokeStyle = isFew ? colour : theme.thin;
+  context.globalAlpha = isFew ? 0.5 : 1;
+  context.lineWidth = isFew ? 1.5 : 1;
+  if (one.trail) each((at) => drawLine(map, [...one.trail.map((place) => [place.x[at], place.y[at]]), placeNow(map, one, at)]));
+  context.strokeStyle = colour;
+  context.globalAlpha = isFew ? 0.85 : 1;
+  context.setLineDash(isFew ? [1.5, 4] : []);
+  context.lineCap = "round";
+  if (one.ways) each((at) => drawLine(map, [placeNow(map, one, at), ...one.ways.map((place) => [place.x[at], place.y[at]])]));
+  context.setLineDash([]);
+  context.lineCap = "butt";
+  context.lineWidth = 1;
+  if (!one.ways) each((at) => drawMotion(map, one, at, reach));
+  context.globalAlpha = 1;
+}
+
+function stroke(context, draw) {
+  context.beginPath();
+  draw();
+  context.stroke();
+}
+
+function placeNow({ after }, { x, y, dx, dy }, at) {
+  return [x[at] + after * dx[at], y[at] + after * dy[at]];
+}
+
+function pixelNow(map, one, at) {
+  const [x, y] = placeNow(map, one, at);
+  return [map.left(x), map.top(y)];
+}
+
+// a line through places, with gaps where there is none
+function drawLine({ context, left, top }, places) {
+  let isOn = false;
+  for (const [x, y] of places) {
+    const isThere = !Number.isNaN(x);
+    if (isThere && isOn) context.lineTo(left(x), top(y));
+    else if (isThere) context.moveTo(left(x), top(y));
+    isOn = isThere;
+  }
+}
+
+function drawMotion(map, one, at, reach) {
+  const { context, left, top } = map;
+  if (one.dx[at] === 0 && one.dy[at] === 0) return;
+  const [x, y] = pixelNow(map, one, at);
+  const [toX, toY] = [left(one.x[at] + reach * one.dx[at]), top(one.y[at] + reach * one.dy[at])];
+  context.moveTo(x, y);
+  context.lineTo(toX, toY);
+  if (one.names.length > MOST_ARROWS || Math.hypot(toX - x, toY - y) < 10) return;
+  const along = Math.atan2(toY - y, toX - x);
+  for (const turn of [2.6, -2.6]) {
+    context.moveTo(toX, toY);
+    context.lineTo(toX + 6 * Math.cos(along + turn), toY + 6 * Math.sin(along + turn));
+  }
+}
+
+// the symbols of classes differ in form too, so that colour isn't needed to tell them apart
+const FORMS = [
+  (context, r) => context.arc(0, 0, r, 0, 2 * Math.PI),
+  (context, r) => context.rect(-r * 0.9, -r * 0.9, r * 1.8, r * 1.8),
+  (context, r) => polygon(context, [[0, -r * 1.15], [r * 1.1, r * 0.85], [-r * 1.1, r * 0.85]]),
+  (context, r) => polygon(context, [[0, -r * 1.25], [r * 1.25, 0], [0, r * 1.25], [-r * 1.25, 0]]),
+  (context, r) => polygon(context, [[0, r * 1.15], [r * 1.1, -r * 0.85], [-r * 1.1, -r * 0.85]]),
+  (context, r) => [context.rect(-r * 1.2, -r * 0.45, r * 2.4, r * 0.9), context.rect(-r * 0.45, -r * 1.2, r * 0.9, r * 2.4)],
+];
+
+function polygon(context, points) {
+  points.forEach(([x, y], at) => (at === 0 ? context.moveTo(x, y) : context.lineTo(x, y)));
+  context.closePath();
+}
+
+function drawSymbol(context, number, theme) {
+  context.translate(SYMBOL / 2, SYMBOL / 2);
+  context.beginPath();
+  FORMS[number % FORMS.length](context, SYMBOL / 3);
+  context.fillStyle = colourOf(theme, number);
+  context.fill();
+  context.strokeStyle = theme.ground;
+  context.lineWidth = SYMBOL / 12;
+  context.stroke();
+}
+
+const pictures = new Map();
+
+function pictureOf(number, theme) {
+  const ratio = ratioOfPixels();
+  const key = `${number} ${colourOf(theme, number)} ${theme.ground} ${ratio}`;
+  if (!pictures.has(key)) {
+    const picture = document.createElement("canvas");
+    picture.width = picture.height = Math.ceil(SYMBOL * ratio);
+    const context = picture.getContext("2d");
+    context.scale(ratio, ratio);
+    drawSymbol(context, number, theme);
+    pictures.set(key, picture);
+  }
+  return pictures.get(key);
+}
+
+// Visits the objects that can be seen: the class, the object's number in it, its pixel, and the number of the class.
+function eachInView(map, { classes }, visit) {
+  const { width, height } = map;
+  classes.forEach((one, number) => {
+    for (let at = 0; at < one.x.length; at++) {
+      const [x, y] = pixelNow(map, one, at);
+      if (x > -SYMBOL && y > -SYMBOL && x < width + SYMBOL && y < height + SYMBOL) visit(one, at, x, y, number);
+    }
+  });
+}
+
+function drawSymbols(map, scene) {
+  const { context, theme } = map;
+  const symbols = scene.classes.map((_, number) => pictureOf(number, theme));
+  const sizes = scene.classes.map((one) => (one.names.length <= MOST_ARROWS ? SYMBOL : SMALL_SYMBOL));
+  eachInView(map, scene, (one, at, x, y, number) => {
+    const size = sizes[number];
+    context.drawImage(symbols[number], x - size / 2, y - size / 2, size, size);
+  });
+}
+
+// the forms of dots, as places around the middle: these differ by class too
+const DOTS = [
+  [[0, 0], [1, 0], [-1, 0], [0, 1], [0, -1], [1, 1], [1, -1], [-1, 1], [-1, -1]],
+  [[-1, -1], [0, -1], [1, -1], [-1, 1], [0, 1], [1, 1], [-1, 0], [1, 0], [2, -1], [2, 0], [2, 1], [2, 2], [1, 2], [0, 2], [-1, 2]],
+  [[0, -1], [-1, 0], [0, 0], [1, 0], [-2, 1], [-1, 1], [0, 1], [1, 1], [2, 1]],
+  [[0, -2], [-1, -1], [1, -1], [-2, 0], [2, 0], [-1, 1], [1, 1], [0, 2]],
+  [[-2, -2], [-1, -1], [0, 0], [1, 1], [2, 2], [2, -2], [1, -1], [-1, 1], [-2, 2]],
+  [[0, -2], [0, -1], [0, 0], [0, 1], [0, 2], [-2, 0], [-1, 0], [1, 0], [2, 0]],
+];
+
+const RING = Array.from({ length: 16 }, (_, at) => [Math.cos, Math.sin].map((of) => Math.round(3.4 * of((at * Math.PI) / 8))));
+
+let sheet = null;
+
+// Many objects are put as pixels into a sheet of their own, which takes a few milliseconds for ten thousand.
+function drawDots(map, { classes }) {
+  const { context, theme, after } = map;
+  const { width, height } = context.canvas;
+  if (sheet?.canvas.width !== width || sheet.canvas.height !== height) sheet = newSheet(width, height);
+  const image = new ImageData(width, height);
+  const put = dotter(map, new Uint32Array(image.data.buffer), width);
+  for (const one of classes) for (const place of one.trail ?? []) put({ ...one, ...place }, 0, [[0, 0]], theme.text, 0x50);
+  classes.forEach((one, number) => put(one, after, DOTS[number % DOTS.length], colourOf(theme, number), 0xff));
+  for (const one of classes) if (one.isMarked) put(one, after, RING, theme.mark, 0xff, one.isMarked);
+  sheet.putImageData(image, 0, 0);
+  context.drawImage(sheet.canvas, 0, 0, map.width, map.height);
+}
+
+function newSheet(width, height) {
+  const canvas = document.createElement("canvas");
+  [canvas.width, canvas.height] = [width, height];
+  return canvas.getContext("2d", { willReadFrequently: true });
+}
+
+// What puts a dot into the pixels for each object, or for those that are chosen.
+function dotter({ left, top, width, height }, pixels, wide) {
+  const ratio = wide / width;
+  return ({ x, y, dx, dy }, after, dot, colour, alpha, chosen) => {
+    const pixel = pixelOf(colour, alpha);
+    const places = Int32Array.from(dot, ([toRight, toBottom]) => toBottom * wide + toRight);
+    for (let at = 0; at < x.length; at++) {
+      if (chosen && !chosen[at]) continue;
+      const across = left(x[at] + after * dx[at]);
+      const down = top(y[at] + after * dy[at]);
+      if (!(across > 6 && down > 6 && across < width - 6 && down < height - 6)) continue;
+      const middle = Math.round(down * ratio) * wide + Math.round(across * ratio);
+      for (let part = 0; part < places.length; part++) pixels[middle + places[part]] = pixel;
+    }
+  };
+}
+
+// red is the first byte of a pixel, and the highest one of the number of a colour
+function pixelOf(colour, alpha) {
+  const number = parseInt(colour.slice(1), 16);
+  return ((alpha << 24) | ((number & 0xff) << 16) | (number & 0xff00) | (number >> 16)) >>> 0;
+}
+
+function drawMarks(map, scene) {
+  const { context, theme } = map;
+  context.strokeStyle = theme.mark;
+  context.lineWidth = 2;
+  stroke(context, () => eachInView(map, scene, (one, at, x, y) => {
+    if (!one.isMarked?.[at]) return;
+    context.moveTo(x + 10, y);
+    context.arc(x, y, 10, 0, 2 * Math.PI);
+  }));
+}
+
+// names stand beside their objects where there is room, first those of marked ones, and not where very many are in view
+function drawLabels(map, scene) {
+  const { context, theme } = map;
+  const labels = [];
+  eachInView(map, scene, (one, at, x, y) => labels.push({ name: one.names[at], isMarked: Boolean(one.isMarked?.[at]), x, y }));
+  if (labels.length > MOST_IN_VIEW) return;
+  context.textAlign = "left";
+  context.textBaseline = "middle";
+  context.fillStyle = theme.ink;
+  const taken = new Set();
+  for (const label of labels) if (label.isMarked) drawLabel(context, label, taken);
+  for (const label of labels) if (!label.isMarked) drawLabel(context, label, taken);
+}
+
+function drawLabel(context, { name, isMarked, x, y }, taken) {
+  context.font = isMarked ? BOLD : FONT;
+  const [left, top] = [x + 9, y - (isMarked ? 12 : 10)];
+  const cells = cellsOf(left, top, context.measureText(name).width);
+  if (cells.some((cell) => taken.has(cell))) return;
+  cells.forEach((cell) => taken.add(cell));
+  context.fillText(name, left, top);
+}
+
+function cellsOf(x, y, wide) {
+  const cells = [];
+  for (let at = Math.floor(x / 20); at <= Math.floor((x + wide) / 20); at++) cells.push(`${at} ${Math.round(y / 16)}`);
+  return cells;
+}
+
+function drawLegend({ context, theme }, { classes }) {
+  context.font = FONT;
+  context.textAlign = "left";
+  context.textBaseline = "middle";
+  classes.forEach(({ name, names }, number) => {
+    const [x, y] = [10, 10 + 20 * number];
+    const words = `${name} ${names.length}`;
+    context.globalAlpha = 0.85;
+    context.fillStyle = theme.ground;
+    context.fillRect(x - 4, y - 2, 28 + context.measureText(words).width, 20);
+    context.globalAlpha = 1;
+    context.drawImage(pictureOf(number, theme), x, y, SYMBOL, SYMBOL);
+    context.fillStyle = theme.ink;
+    context.fillText(words, x + SYMBOL + 4, y + SYMBOL / 2);
+  });
+}
+
+// ---- the timeline
+
+const LABELS = 132, RIGHT = 16, ROW = 20, HEAD = 26, AXIS = 24;
+const MOST_LETTERS = 16;
+const SVG = "http://www.w3.org/2000/svg";
+
+// pixels that a timeline's ticks have for themselves, beside the labels of its rows
+function roomOf(width) {
+  return Math.max(width - LABELS - RIGHT, 1);
+}
+
+function ticksOf({ from, to }) {
+  return Math.max(to - from, 1);
+}
+
+/// The tick at a pixel of a timeline that is so wide, or null beside its ticks.
+export function tickAt(timeline, width, left) {
+  const part = (left - LABELS) / roomOf(width);
+  if (part < -0.02 || part > 1.02) return null;
+  return Math.round(timeline.from + Math.min(Math.max(part, 0), 1) * ticksOf(timeline));
+}
+
+/// Draws the timeline into an svg element, so wide, in place of what is in it.
+export function drawTimeline(svg, timeline, theme, width) {
+  const rows = timeline.groups.flatMap((group) => [{ group }, ...group.rows, ...(group.more > 0 ? [{ more: group.more }] : [])]);
+  const height = AXIS + rows.reduce((sum, row) => sum + heightOf(row), 0) + 8;
+  const left = (tick) => LABELS + ((tick - timeline.from) / ticksOf(timeline)) * roomOf(width);
+  const frame = { timeline, theme, width, height, left };
+  const parts = [pastOf(frame), ...axisOf(frame)];
+  const heads = [];
+  let top = AXIS;
+  for (const row of rows) {
+    if (row.group) heads.push(...headOf(row.group, frame, top));
+    else if (row.more) parts.push(textOf(12, top + ROW / 2, `and ${row.more} more`, theme.text));
+    else parts.push(rowOf(row, frame, top));
+    top += heightOf(row);
+  }
+  svg.replaceChildren(...parts, ...linesOf(frame), ...heads);
+  svg.setAttribute("viewBox", `0 0 ${width} ${height}`);
+  svg.setAttribute("width", width);
+  svg.setAttribute("height", height);
+}
+
+function heightOf(row) {
+  return row.group ? HEAD : ROW;
+}
+
+function element(name, attributes) {
+  const made = document.createElementNS(SVG, name);
+  for (const [key, value] of Object.entries(attributes)) made.setAttribute(key, value);
+  return made;
+}
+
+function textOf(x, y, words, fill, more = {}) {
+  const made = element("text", { x, y, fill, "dominant-baseline": "central", "font-size": 12, ...more });
+  made.textContent = words;
+  return made;
+}
+
+function isOnTimeline({ from, to }, tick) {
+  return from <= tick && tick <= to;
+}
+
+// the ground of the ticks that are past
+function pastOf({ timeline, theme, width, height, left }) {
+  const end = Math.min(Math.max(left(timeline.clock), LABELS), width - RIGHT);
+  return element("rect", { x: LABELS, y: AXIS, width: end - LABELS, height: height - AXIS, fill: theme.band });
+}
+
+function axisOf({ timeline, theme, width, height, left }) {
+  const step = Math.max(niceStep((56 * ticksOf(timeline)) / roomOf(width)), 1);
+  return stepsIn(timeline.from, timeline.to, step).flatMap((tick) => [
+    element("line", { x1: left(tick), x2: left(tick), y1: AXIS, y2: height, stroke: theme.grid }),
+    textOf(left(tick), AXIS / 2, shown(tick), theme.text, { "text-anchor": "middle" }),
+  ]);
+}
+
+// the clock, and the tick that is looked at
+function linesOf({ timeline, theme, height, left }) {
+  const { clock, at } = timeline;
+  const lines = [{ tick: clock, stroke: theme.clock }];
+  if (at !== null && at !== clock) lines.push({ tick: at, stroke: theme.ink, "stroke-dasharray": "3 3" });
+  return lines.filter(({ tick }) => isOnTimeline(timeline, tick)).map(({ tick, ...more }) =>
+    element("line", { x1: left(tick), x2: left(tick), y1: AXIS - 3, y2: height, "stroke-width": 1.5, ...more }));
+}
+
+function headOf({ name, note }, { theme }, top) {
+  const clear = { stroke: theme.ground, "stroke-width": 4, "paint-order": "stroke" };
+  return [
+    textOf(4, top + HEAD / 2, cut(name), theme.ink, { "font-weight": 600 }),
+    textOf(LABELS + 4, top + HEAD / 2, note, theme.text, { "font-size": 11, ...clear }),
+  ];
+}
+
+function cut(words) {
+  return words.length > MOST_LETTERS ? words.slice(0, MOST_LETTERS - 1) + "…" : words;
+}
+
+function rowOf({ label, spans }, frame, top) {
+  const { timeline, theme } = frame;
+  const looked = timeline.at ?? timeline.clock;
+  const isNow = spans.some(([first, last]) => first <= looked && looked <= last);
+  const told = spans.map(([first, last]) => (first === last ? `${first}` : `${first} to ${last}`)).join(", ");
+  const row = element("g", { role: "listitem", "aria-label": `${label}: ${told}${isNow ? ", now" : ""}` });
+  const title = element("title", {});
+  title.textContent = `${label} : ${told}`;
+  row.append(title, textOf(20, top + ROW / 2, cut(label), theme.ink, isNow ? { "font-weight": 600 } : {}));
+  if (isNow) row.append(element("circle", { cx: 11, cy: top + ROW / 2, r: 3.5, fill: theme.mark }));
+  row.append(...spans.flatMap((span) => barsOf(span, frame, top)));
+  return row;
+}
+
+// a run of ticks goes from half a tick before its first to half a tick after its last one; what is past is paler and lower
+function barsOf([first, last], { timeline, theme, width, left }, top) {
+  const { clock } = timeline;
+  const [from, to] = [first - 0.5, last + 0.5];
+  const bars = [];
+  if (first < clock) bars.push([from, Math.min(to, clock), 5, theme.barPast]);
+  if (last >= clock) bars.push([first < clock ? clock : from, to, 11, first <= clock ? theme.barNow : theme.bar]);
+  const within = (tick) => Math.min(Math.max(left(tick), LABELS), width - RIGHT);
+  return bars.filter((bar) => bar[1] >= timeline.from && bar[0] <= timeline.to).map(([begin, end, tall, fill]) => {
+    const wide = Math.max(within(end) - within(begin), 2);
+    return element("rect", { x: within(begin), y: top + (ROW - tall) / 2, width: wide, height: tall, rx: 2, fill });
+  });
+}
