@@ -46,8 +46,8 @@ def domino_program():
     os.makedirs(BUILD, exist_ok=True)
     if "DOMINO" in os.environ:
         return os.environ["DOMINO"]
-    subprocess.run([os.path.join(HERE, "..", "domino")], stdin=subprocess.DEVNULL, check=True)
-    return os.path.join(HERE, "..", "crates", "domino", "out", "domino")
+    proved = [os.path.join(HERE, "..", "tools", "proved"), "domino"]
+    return subprocess.run(proved, stdout=subprocess.PIPE, text=True, check=True).stdout.strip()
 
 
 def run(program, path, out):

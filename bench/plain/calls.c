@@ -1,10 +1,12 @@
 // Preloaded by `failing_calls`: a read of standard input or of a file moves at most CUT bytes, and so does a write of
 // standard output or to a file. The read of standard input with the number FAILING_READ fails, the write of standard
 // output with the number FAILING_WRITE, and the call on a file with the number FAILING_FILE, which is one of open, statx,
-// read and write; with the error FAULT. The name of that file is written to the open file TOLD.
+// read, write, fchmod, fsync, rename and unlink; with the error FAULT, or by the end of the program where KILLED is set. The
+// name of that file is written to the open file TOLD.
 #define _GNU_SOURCE
 #include <errno.h>
 #include <fcntl.h>
+#include <signal.h>
 #include <stdarg.h>
 #include <stdlib.h>
 #include <string.h>
@@ -32,6 +34,7 @@ static int file_fails(const char *name) {
     if (++file_calls != number("FAILING_FILE", 0)) return 0;
     int told = (int)number("TOLD", 0);
     if (told > 0 && syscall(SYS_write, told, name, strlen(name)) < 0) _exit(99);
+    if (getenv("KILLED")) kill(getpid(), SIGKILL);
     errno = (int)number("FAULT", EIO);
     return 1;
 }
@@ -50,8 +53,28 @@ int open(const char *name, int flags, ...) {
 }
 
 int statx(int file, const char *restrict name, int flags, unsigned mask, struct statx *restrict found) {
-    if (is_file(file) && file_fails(names[file])) return -1;
+    if (is_file(file) ? file_fails(names[file]) : file == AT_FDCWD && file_fails(name)) return -1;
     return (int)syscall(SYS_statx, file, name, flags, mask, found);
+}
+
+int fchmod(int file, mode_t mode) {
+    if (is_file(file) && file_fails(names[file])) return -1;
+    return (int)syscall(SYS_fchmod, file, mode);
+}
+
+int fsync(int file) {
+    if (is_file(file) && file_fails(names[file])) return -1;
+    return (int)syscall(SYS_fsync, file);
+}
+
+int rename(const char *from, const char *to) {
+    if (file_fails(to)) return -1;
+    return (int)syscall(SYS_rename, from, to);
+}
+
+int unlink(const char *name) {
+    if (file_fails(name)) return -1;
+    return (int)syscall(SYS_unlink, name);
 }
 
 static size_t cut(size_t size) {

@@ -1,7 +1,6 @@
 ghost use Rattle.std.specs.Prelude.{◌≡◌, ◌<◌};
 
 use super::*;
-use command_text::LINE_LIMIT;
 use outside::{MemShelf, MemSink, MemSource};
 use run::run_limited;
 use std::alloc::AllocError;
@@ -158,34 +157,6 @@ pub(super) fn assert_leaves(
 }
 
 #[test]
-fn lines_are_answered(rt: HostRuntime) -> Result<(), Fail> {
-    let cases: [(&[u8], &[u8]); 9] = [
-        (INPUT, OUTPUT),
-        (
-            b"class tank 9 (fuel dyn)\r\ninsert tank a fuel = 10 rate -0.5\r\nask 30 RETRIEVE o FROM tank o WHERE o.fuel <= 4",
-            OUTPUT,
-        ),
-        (
-            b"ask 1 RETRIEVE o FROM tank o WHERE o.fuel <= 4",
-            b"refused 7 UnknownName\n",
-        ),
-        (b"", b""),
-        (b"# a comment\n\n \t\r\nlist", b"clock 0\nok\n"),
-        (b"\xff\x00\n\r", b"refused 2 NotAscii\nrefused 2 NotAscii\n"),
-        (b"tick 5\nquit\nlist\nquit\n", b"ok\nok\n"),
-        (
-            b"quit now\ntick 5\nlist\r\nquit\r\nlist",
-            b"refused 4 BadSyntax\nok\nclock 5\nok\nok\n",
-        ),
-        (b"quit", b"ok\n"),
-    ];
-    for (input, output) in cases {
-        assert_ends(&rt, &rt, &plain_trial(input), 0, output)?;
-    }
-    Ok(())
-}
-
-#[test]
 fn pieces_do_not_matter(rt: HostRuntime) -> Result<(), Fail> {
     for cut in 1..51 {
         let mut trial = plain_trial(INPUT);
@@ -195,35 +166,25 @@ fn pieces_do_not_matter(rt: HostRuntime) -> Result<(), Fail> {
     Ok(())
 }
 
-#[test]
-fn lines_have_at_most_4096_bytes(rt: HostRuntime) -> Result<(), Fail> {
-    let comment = vec![in rt.alloc(); b'#'; LINE_LIMIT + 1]?;
-    assert_ends(&rt, &rt, &plain_trial(&comment[..LINE_LIMIT]), 0, b"")?;
-    assert_ends(
-        &rt,
-        &rt,
-        &plain_trial(&comment),
-        0,
-        b"refused 1 LineTooLong\n",
-    )
-}
+const BAD_WORDS: [&[&'static str]; 8] = [
+    &[],
+    &["domino", "--help"],
+    &["domino", "--session"],
+    &["domino", "--gen", ""],
+    &["domino", "--gen", "+1"],
+    &["domino", "--gen", "1234567890"],
+    &["domino", "--list", "1"],
+    &["domino", "--gen", "1", "2"],
+];
 
 // Nothing is read with bad words, and the shelf isn't asked.
-fn assert_bad(rt: &impl Abort, host: &HostRuntime, words: &[&'static str]) -> Result<(), Fail> {
-    let trial = trial_of(words, INPUT, None, &[1], &[1]);
-    assert_ends(rt, host, &trial, 1, b"bad words\n")
-}
-
 #[test]
 fn words_of_no_form_are_bad(rt: HostRuntime) -> Result<(), Fail> {
-    assert_bad(&rt, &rt, &[])?;
-    assert_bad(&rt, &rt, &["domino", "--help"])?;
-    assert_bad(&rt, &rt, &["domino", "--session"])?;
-    assert_bad(&rt, &rt, &["domino", "--gen", ""])?;
-    assert_bad(&rt, &rt, &["domino", "--gen", "+1"])?;
-    assert_bad(&rt, &rt, &["domino", "--gen", "1234567890"])?;
-    assert_bad(&rt, &rt, &["domino", "--list", "1"])?;
-    assert_bad(&rt, &rt, &["domino", "--gen", "1", "2"])
+    for words in BAD_WORDS {
+        let trial = trial_of(words, INPUT, None, &[1], &[1]);
+        assert_ends(&rt, &rt, &trial, 1, b"bad words\n")?;
+    }
+    Ok(())
 }
 
 // What an independent program counts of the lines of number 1. Nothing is read, and the shelf isn't asked.
@@ -241,53 +202,116 @@ fn the_lines_of_a_number_are_counted(rt: HostRuntime) -> Result<(), Fail> {
 
 const SESSION: &[u8] = b"domino-session 2\nentries 2 clock 5\nclass car 9\ntick 5\nend\n";
 
-// The statuses and what is written with the name of a session, by the text of this name and the call of the
-// shelf that fails.
+// The text under the name of a session, the status, and what is written where `list` is the input.
+const SESSIONS: [(&[u8], u8, &[u8]); 21] = [
+    (SESSION, 0, b"clock 5\nclass car 0/9\nok\n"),
+    (b"domino-session 1\n# none\nend", 0, b"clock 0\nok\n"),
+    (b"", 2, b"bad session 1\n"),
+    (b"domino-session 3\nend\n", 2, b"bad session 1\n"),
+    (b"domino-session 1\n", 2, b"bad session 2\n"),
+    (
+        b"domino-session 1\nsave \"s\"\nend\n",
+        2,
+        b"bad session 2\n",
+    ),
+    (
+        b"domino-session 1\ndrop w\ntick 1\nend\n",
+        2,
+        b"bad session 2\n",
+    ),
+    (
+        b"domino-session 1\ndrop w\nlist\nend\n",
+        2,
+        b"bad session 3\n",
+    ),
+    (b"domino-session 1\ndrop w\n", 2, b"bad session 3\n"),
+    (
+        b"domino-session 1\ntick 1\nlist\nend\n",
+        2,
+        b"bad session 3\n",
+    ),
+    (
+        b"domino-session 1\ntick 1\ndrop w\nend\n",
+        2,
+        b"bad session 3\n",
+    ),
+    (b"domino-session 1\ntick 3\n end\n", 2, b"bad session 3\n"),
+    (b"domino-session 1\nend\n# more\n", 2, b"bad session 3\n"),
+    (
+        b"domino-session 1\n\nclass car 9\ninsert boat a\nend\n",
+        2,
+        b"bad session 4\n",
+    ),
+    (b"domino-session 2\nentries 1\nend\n", 2, b"bad session 2\n"),
+    (
+        b"domino-session 2\nentries 00 clock 0\nend\n",
+        2,
+        b"bad session 2\n",
+    ),
+    (
+        b"domino-session 2\nentries 0 clock 0\ntick 3\nend\n",
+        2,
+        b"bad session 3\n",
+    ),
+    (
+        b"domino-session 2\nentries 1 clock 3\nend\ntick 3\nend\n",
+        2,
+        b"bad session 3\n",
+    ),
+    (
+        b"domino-session 2\nentries 1 clock 3\ntick 3\ntick 1\nend\n",
+        2,
+        b"bad session 4\n",
+    ),
+    (
+        b"domino-session 2\nentries 1 clock 4\ntick 3\nend\n",
+        2,
+        b"bad session 4\n",
+    ),
+    (
+        b"domino-session 2\nentries 2 clock 3\ntick 3\nend\n",
+        2,
+        b"bad session 4\n",
+    ),
+];
+
+// The words with the name of a session.
+const STORED: &[&'static str] = &["domino", "--session", "text"];
+
 #[test]
 fn sessions_are_loaded_without_replies(rt: HostRuntime) -> Result<(), Fail> {
-    let cases: [(Option<&[u8]>, &[u64], u8, &[u8]); 7] = [
-        (Some(SESSION), &[], 0, b"clock 5\nclass car 0/9\nok\n"),
-        (Some(SESSION), &[1], 5, b""),
-        (None, &[], 2, b"bad session 0\n"),
-        (Some(b""), &[], 2, b"bad session 1\n"),
-        (Some(b"domino-session 1\n"), &[], 2, b"bad session 2\n"),
-        (
-            Some(b"domino-session 1\ntick 1\nlist\nend\n"),
-            &[],
-            2,
-            b"bad session 3\n",
-        ),
-        (
-            Some(b"domino-session 1\ntick 1\ndrop w\nend\n"),
-            &[],
-            2,
-            b"bad session 3\n",
-        ),
-    ];
-    for (text, calls, status, output) in cases {
-        let trial = trial_of(&["domino", "--session", "text"], b"list", text, &[], calls);
+    for (text, status, output) in SESSIONS {
+        let trial = trial_of(STORED, b"list", Some(text), &[], &[]);
         assert_ends(&rt, &rt, &trial, status, output)?;
     }
     Ok(())
 }
 
+#[test]
+fn a_session_that_is_not_there_is_bad(rt: HostRuntime) -> Result<(), Fail> {
+    let trial = trial_of(STORED, b"list", None, &[], &[]);
+    assert_ends(&rt, &rt, &trial, 2, b"bad session 0\n")
+}
+
 // A line that didn't end within the limit has no reply.
+const LIMITED: [(u64, &[u8], u8, &[u8]); 12] = [
+    (0, INPUT, 7, b""),
+    (23, INPUT, 7, b""),
+    (24, INPUT, 7, b"ok\n"),
+    (INPUT.len() as u64 - 1, INPUT, 7, b"ok\nok\n"),
+    (INPUT.len() as u64, INPUT, 0, OUTPUT),
+    (4, b"list\n", 7, b""),
+    (5, b"list\n", 0, b"clock 0\nok\n"),
+    (4, b"list", 0, b"clock 0\nok\n"),
+    (1, b"\r", 0, b"refused 2 NotAscii\n"),
+    (7, b"list\nlist\n", 7, b"clock 0\nok\n"),
+    (4, b"quit\nlist\n", 7, b""),
+    (5, b"quit\nlist\n", 0, b"ok\n"),
+];
+
 #[test]
 fn bytes_past_the_limit_end_a_run(rt: HostRuntime) -> Result<(), Fail> {
-    let cases: [(u64, &[u8], u8, &[u8]); 11] = [
-        (0, INPUT, 7, b""),
-        (23, INPUT, 7, b""),
-        (24, INPUT, 7, b"ok\n"),
-        (INPUT.len() as u64 - 1, INPUT, 7, b"ok\nok\n"),
-        (INPUT.len() as u64, INPUT, 0, OUTPUT),
-        (4, b"list\n", 7, b""),
-        (5, b"list\n", 0, b"clock 0\nok\n"),
-        (4, b"list", 0, b"clock 0\nok\n"),
-        (7, b"list\nlist\n", 7, b"clock 0\nok\n"),
-        (4, b"quit\nlist\n", 7, b""),
-        (5, b"quit\nlist\n", 0, b"ok\n"),
-    ];
-    for (limit, input, status, output) in cases {
+    for (limit, input, status, output) in LIMITED {
         let mut trial = plain_trial(input);
         trial.limit = limit;
         assert_ends(&rt, &rt, &trial, status, output)?;
@@ -327,10 +351,4 @@ fn failing_writes_end_a_run(rt: HostRuntime) -> Result<(), Fail> {
         assert_ends(&rt, &rt, &trial, 4, output)?;
     }
     Ok(())
-}
-
-#[test]
-fn statuses_have_their_codes(rt: HostRuntime) {
-    assert_eq!(rt; status::Status::ShelfFault.code(), 5);
-    assert_eq!(rt; status::Status::NoMemory.code(), 6);
 }

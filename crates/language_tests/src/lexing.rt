@@ -1,5 +1,5 @@
 use case_table::{key, symbol};
-use ftl_lexer::{Kind, LexFault, Token, Tokens, bad_token, tokens, unquoted};
+use ftl_lexer::{Kind, Token, Tokens, bad_token, tokens};
 use std::process::Abort;
 use std::test::Fail;
 
@@ -17,6 +17,7 @@ const ASSIGN: Kind = Kind::Sym(symbol::ASSIGN);
 
 fn has_tokens(rt: &impl Abort, read: &Tokens, line: &[u8], expected: &[(Kind, u16, u16)]) {
     assert_eq!(rt; read.len(), expected.len(), "{line:?}");
+    assert_eq!(rt; read.is_empty(), expected.is_empty(), "{line:?}");
     for (i, (kind, lo, hi)) in expected.iter().enumerate() {
         let token = Token {
             kind: *kind,
@@ -95,53 +96,6 @@ fn lines_are_cut_into_tokens(rt: HostRuntime) -> Result<(), Fail> {
         has_tokens(&rt, &fresh, line, expected);
         reused.read(line)?;
         has_tokens(&rt, &reused, line, expected);
-    }
-    Ok(())
-}
-
-// The place of the bad byte by which a line was refused.
-fn fault_place<T: Drop>(read: Result<T, LexFault>) -> Option<usize> {
-    match read {
-        Err(LexFault::BadToken(place)) => Some(place),
-        Err(LexFault::NoMemory) | Ok(_) => None,
-    }
-}
-
-#[test]
-fn bad_bytes_have_their_place(rt: HostRuntime) -> Result<(), Fail> {
-    let lines: [(&[u8], usize); 10] = [
-        (b"show ?", 5),
-        (b"!", 0),
-        (b"a ! =", 2),
-        (b"!a", 0),
-        (b"\"", 0),
-        (b"a \"b", 2),
-        (b"\"a\" \"", 4),
-        (b"ab\xC3", 2),
-        (b"\t# list", 1),
-        (b"1;?", 1),
-    ];
-    let mut reused = Tokens::new(rt.alloc());
-    for (line, place) in lines {
-        assert_eq!(rt; bad_token(line), Some(place), "{line:?}");
-        assert_eq!(rt;
-            fault_place(tokens(rt.alloc(), line)),
-            Some(place),
-            "{line:?}"
-        );
-        reused.read(b"class car")?;
-        assert_eq!(rt; fault_place(reused.read(line)), Some(place), "{line:?}");
-        assert!(rt; reused.is_empty(), "{line:?}");
-    }
-    Ok(())
-}
-
-#[test]
-fn texts_lose_their_quotes(rt: HostRuntime) -> Result<(), Fail> {
-    let read = tokens(rt.alloc(), b"save \"a b\"")?;
-    match read.lexeme(1) {
-        Some((Kind::Text, text)) => assert!(rt; unquoted(text) == b"a b".as_slice()),
-        _ => assert!(rt; false),
     }
     Ok(())
 }

@@ -1,5 +1,5 @@
-//! Tests of the language, by the public calls of its crates: tokens, queries, commands, the texts of sessions, and
-//! the lines of workloads.
+//! Tests of the language, by the public calls of its crates, of what no reply of the program shows: tokens, the texts of
+//! queries and of commands, the lines of sessions, and those of workloads.
 #![tactic(auto)]
 
 #[cfg(test)]
@@ -7,12 +7,8 @@ mod commands;
 #[cfg(test)]
 mod lexing;
 #[cfg(test)]
-mod parsing;
-#[cfg(test)]
 mod printing;
 #[cfg(test)]
 mod session_texts;
-#[cfg(test)]
-mod texts;
 #[cfg(test)]
 mod workloads;

@@ -1,31 +1,25 @@
-use crate::texts::line_of;
 use ftl_lexer::{LEXER_LIMIT, tokens};
-use ftl_parser::{Query, parse, print, print_onto};
+use ftl_parser::{Query, has_circle, has_not, parse, print};
 use std::alloc::Global;
 use std::process::Abort;
 use std::test::Fail;
 
-fn read(rt: &impl Abort, alloc: Global, line: &[u8]) -> Result<Query, Fail> {
+// What stands before a formula.
+const HEAD: &[u8] = b"RETRIEVE o FROM c o WHERE ";
+
+fn read(rt: &impl Abort, alloc: Global, formula: &[u8]) -> Result<Query, Fail> {
+    let mut line = HEAD.to_vec(alloc)?;
+    line.extend_from_slice(formula)?;
     assert!(rt; line.len() <= LEXER_LIMIT);
-    let tokens = tokens(alloc, line)?;
-    let query = parse(alloc, &tokens, 0)?;
+    let query = parse(alloc, &tokens(alloc, &line)?, 0)?;
     Ok(query)
 }
 
-// Each is read, printed, and read and printed again.
-fn is_printed(rt: &impl Abort, alloc: Global, line: &[u8], text: &[u8]) -> Result<(), Fail> {
-    let printed = print(alloc, &read(rt, alloc, line)?)?;
-    assert!(rt; printed.as_slice() == text, "{line:?}");
-    let again = print(alloc, &read(rt, alloc, text)?)?;
-    assert!(rt; again.as_slice() == text, "{text:?}");
-    Ok(())
-}
-
-fn are_printed(rt: &impl Abort, alloc: Global, formulas: &[(&[u8], &[u8])]) -> Result<(), Fail> {
-    for (formula, text) in formulas {
-        let line = line_of(alloc, formula)?;
-        let text = line_of(alloc, text)?;
-        is_printed(rt, alloc, &line, &text)?;
+fn are_printed(rt: &impl Abort, alloc: Global, rows: &[(&[u8], &[u8])]) -> Result<(), Fail> {
+    for (formula, text) in rows {
+        let printed = print(alloc, &read(rt, alloc, formula)?)?;
+        assert!(rt; printed.starts_with(HEAD), "{formula:?}");
+        assert!(rt; printed.get(HEAD.len()..) == Some(*text), "{formula:?}");
     }
     Ok(())
 }
@@ -95,14 +89,32 @@ fn atoms_are_printed(rt: HostRuntime) -> Result<(), Fail> {
     are_printed(&rt, rt.alloc(), &ATOMS)
 }
 
+// Whether there is a NOT in it, and whether a circle.
+const PARTS: [(&[u8], bool, bool); 4] = [
+    (b"TRUE", false, false),
+    (
+        b"[a <- 1] ([b <- 1] TRUE OR NOT [c <- 1] FALSE)",
+        true,
+        false,
+    ),
+    (
+        b"WITHIN_SPHERE(1,a) AND ALWAYS WITHIN_SPHERE(2,a,b,c)",
+        false,
+        true,
+    ),
+    (
+        b"[a <- 1] WITHIN_SPHERE(1,a,b) UNTIL [b <- 1] NOT TRUE",
+        true,
+        true,
+    ),
+];
+
 #[test]
-fn a_query_is_printed_behind_what_stands(rt: HostRuntime) -> Result<(), Fail> {
-    let line = b"RETRIEVE o , n FROM car o , car n WHERE o.x=n.x";
-    let text = b"RETRIEVE o,n FROM car o,car n WHERE o.x = n.x";
-    is_printed(&rt, rt.alloc(), line, text)?;
-    let mut out = Vec::from_slice(rt.alloc(), b"ask 30 ")?;
-    print_onto(&read(&rt, rt.alloc(), line)?, &mut out)?;
-    let expected = b"ask 30 RETRIEVE o,n FROM car o,car n WHERE o.x = n.x";
-    assert!(rt; out.as_slice() == expected.as_slice());
+fn formulas_tell_of_nots_and_circles(rt: HostRuntime) -> Result<(), Fail> {
+    for (text, not, circle) in PARTS {
+        let query = read(&rt, rt.alloc(), text)?;
+        assert_eq!(rt; has_not(&query.formula), not, "{text:?}");
+        assert_eq!(rt; has_circle(&query.formula), circle, "{text:?}");
+    }
     Ok(())
 }

@@ -1,47 +1,16 @@
-ghost use Rattle.std.specs.Prelude.{◌≡◌, ◌-◌, ◌<◌, ◌≤◌, unsigned_abs, IfSome};
-ghost use Rattle.linear_crossing.specs.Moving.{IsInReach};
+ghost use Rattle.std.specs.Prelude.{◌≡◌, ◌<◌, ◌≤◌, unsigned_abs, IfSome};
 
-use crate::made::{OPS, Way, covers, drawn, ends, line, moving, next, window};
+use crate::made::{Ends, Way, ends, quad, window};
 use case_table::Op;
-use distance_crossing::{Triple, compare, within};
-use exact::{plus, times};
+use distance_crossing::{compare, within};
 use fixed_point::{Fix, READ_LIMIT};
-use linear_crossing::{Line, Quad};
 use std::marker::Brand;
+use std::process::Abort;
 use std::sync::ledger::{Blank, Ledger};
-use std::test::Fail;
 use steps::Steps;
-use tick_set::{SPAN_LIMIT, Span, Window};
 
-// The ticks at which two motions are near, with a counter of its own.
-fn near_by<M: Ledger>(
-    rt: &HostRuntime,
-    blank: Blank,
-    p: &Line,
-    q: &Line,
-    limit: i128,
-    w: Window,
-) -> Option<Span>
-    requires name { blank.name ≡ M.name }
-    requires parts { blank.parts ≡ M.parts }
-    requires some_part { 0 < blank.parts }
-    requires p_in_reach { IsInReach p.now }
-    requires q_in_reach { IsInReach q.now }
-    requires length { w.hi - w.lo ≤ SPAN_LIMIT }
-{
-    let mut probes: Steps<M> = Steps::new(rt, blank);
-    within(&Quad::between(p, q), limit, w, &mut probes)
-}
-
-fn near(rt: &HostRuntime, p: &Line, q: &Line, limit: i128, w: Window) -> Option<Span>
-    requires p_in_reach { IsInReach p.now }
-    requires q_in_reach { IsInReach q.now }
-    requires length { w.hi - w.lo ≤ SPAN_LIMIT }
-{
-    near_by::<Brand>(rt, Blank::new(1), p, q, limit, w)
-}
-
-const MEETINGS: [(Way, Way, i128, (u32, u32), Option<(u32, u32)>); 13] = [
+// Two motions, the most that their squared distance may be, the window, and the ticks.
+const MEETINGS: [(Way, Way, i128, Ends, Option<Ends>); 13] = [
     (
         (0, 3000, 1000, 0),
         (10_000, 0, 0, 0),
@@ -99,56 +68,32 @@ const MEETINGS: [(Way, Way, i128, (u32, u32), Option<(u32, u32)>); 13] = [
     ),
 ];
 
-#[test]
-fn motions_that_meet(rt: HostRuntime) -> Result<(), Fail> {
-    for (p, q, limit, w, want) in MEETINGS {
-        let p = moving(p)?;
-        let q = moving(q)?;
-        let w = window(w.0, w.1).ok_or("no window")?;
-        let found = near(&rt, &p, &q, limit, w);
-        assert_eq!(rt; ends(found), want, "at most {limit}");
-    }
-    Ok(())
+fn near<M: Ledger>(
+    p: Way,
+    q: Way,
+    limit: i128,
+    w: Ends,
+    probes: &mut Steps<M>,
+) -> Option<Option<Ends>> {
+    let quad = quad(p, q)?;
+    Some(ends(within(&quad, limit, window(w)?, probes)))
 }
 
-// The ticks at which the distance compares, with a counter of its own.
-fn compared_by<M: Ledger>(
-    rt: &HostRuntime,
-    blank: Blank,
-    p: &Line,
-    q: &Line,
-    op: Op,
-    c: Fix,
-    w: Window,
-) -> Triple
+fn meetings_are_found<M: Ledger>(rt: &impl Abort, host: &HostRuntime, blank: Blank)
     requires name { blank.name ≡ M.name }
     requires parts { blank.parts ≡ M.parts }
     requires some_part { 0 < blank.parts }
-    requires p_in_reach { IsInReach p.now }
-    requires q_in_reach { IsInReach q.now }
-    requires c_size { unsigned_abs c ≤ READ_LIMIT }
-    requires length { w.hi - w.lo ≤ SPAN_LIMIT }
 {
-    let mut probes: Steps<M> = Steps::new(rt, blank);
-    compare(&Quad::between(p, q), op, c, w, &mut probes)
-}
-
-fn compared(rt: &HostRuntime, p: &Line, q: &Line, op: Op, c: Fix, w: Window) -> Triple
-    requires p_in_reach { IsInReach p.now }
-    requires q_in_reach { IsInReach q.now }
-    requires c_size { unsigned_abs c ≤ READ_LIMIT }
-    requires length { w.hi - w.lo ≤ SPAN_LIMIT }
-{
-    compared_by::<Brand>(rt, Blank::new(1), p, q, op, c, w)
-}
-
-fn constant(c: i64) -> Option<Fix>
-    ensures { IfSome result (λ f. unsigned_abs f ≤ READ_LIMIT) }
-{
-    if c.unsigned_abs() > 1_000_000_000_000 {
-        return None;
+    let mut probes: Steps<M> = Steps::new(host, blank);
+    for (p, q, limit, w, want) in MEETINGS {
+        let found = near(p, q, limit, w, &mut probes);
+        assert_eq!(rt; found, Some(want), "{p:?} and {q:?} at most {limit}");
     }
-    Fix::of(c)
+}
+
+#[test]
+fn motions_that_meet(rt: HostRuntime) {
+    meetings_are_found::<Brand>(&rt, &rt, Blank::new(1));
 }
 
 const CAR: Way = (0, 0, 1000, 0);
@@ -159,7 +104,8 @@ const BESIDE: Way = (3000, 4000, 1000, 0);
 
 const FAR: i64 = 1_001_000_000_000_000;
 
-const COMPARED: [(Way, Way, Op, i64, (u32, u32), [Option<(u32, u32)>; 3]); 26] = [
+// Two motions, how their distance compares with a constant, the window, and the runs.
+const COMPARED: [(Way, Way, Op, i64, Ends, [Option<Ends>; 3]); 26] = [
     (
         CAR,
         POST,
@@ -294,115 +240,41 @@ const COMPARED: [(Way, Way, Op, i64, (u32, u32), [Option<(u32, u32)>; 3]); 26] =
     ),
 ];
 
-#[test]
-fn distances_that_compare(rt: HostRuntime) -> Result<(), Fail> {
+fn constant(c: i64) -> Option<Fix>
+    ensures { IfSome result (λ f. unsigned_abs f ≤ READ_LIMIT) }
+{
+    if c.unsigned_abs() > READ_LIMIT {
+        return None;
+    }
+    Fix::of(c)
+}
+
+fn compared<M: Ledger>(
+    p: Way,
+    q: Way,
+    op: Op,
+    c: i64,
+    w: Ends,
+    probes: &mut Steps<M>,
+) -> Option<[Option<Ends>; 3]> {
+    let quad = quad(p, q)?;
+    let found = compare(&quad, op, constant(c)?, window(w)?, probes);
+    Some([ends(found.first), ends(found.second), ends(found.third)])
+}
+
+fn comparisons_are_found<M: Ledger>(rt: &impl Abort, host: &HostRuntime, blank: Blank)
+    requires name { blank.name ≡ M.name }
+    requires parts { blank.parts ≡ M.parts }
+    requires some_part { 0 < blank.parts }
+{
+    let mut probes: Steps<M> = Steps::new(host, blank);
     for (p, q, op, c, w, want) in COMPARED {
-        let p = moving(p)?;
-        let q = moving(q)?;
-        let c = constant(c).ok_or("no constant")?;
-        let w = window(w.0, w.1).ok_or("no window")?;
-        let found = compared(&rt, &p, &q, op, c, w);
-        assert_eq!(rt; ends(found.first), want[0]);
-        assert_eq!(rt; ends(found.second), want[1]);
-        assert_eq!(rt; ends(found.third), want[2]);
+        let found = compared(p, q, op, c, w, &mut probes);
+        assert_eq!(rt; found, Some(want), "{p:?} and {q:?} {op:?} {c}");
     }
-    Ok(())
 }
 
-// A coordinate after `k` ticks.
-fn moved(x: i64, dx: i64, k: u32) -> i64
-    requires x_size { unsigned_abs x ≤ 10000 }
-    requires dx_size { unsigned_abs dx ≤ 128 }
-    requires k { k ≤ 200 }
-    ensures { unsigned_abs result ≤ 40000 }
-{
-    x + dx * i64::from(k)
-}
-
-// Whether the distance of a point at (x, y) from the origin compares with `c` as `op` says, by the squares.
-fn expected(x: i64, y: i64, op: Op, c: i64) -> bool
-    requires x_size { unsigned_abs x ≤ 40000 }
-    requires y_size { unsigned_abs y ≤ 40000 }
-    requires c_size { unsigned_abs c ≤ 40000 }
-{
-    if c < 0 {
-        return match op {
-            Op::Lt | Op::Le | Op::Eq => false,
-            Op::Ne | Op::Ge | Op::Gt => true,
-        };
-    }
-    op.compares(plus(square(x), square(y)), square(c))
-}
-
-fn square(x: i64) -> i128
-    requires { unsigned_abs x ≤ 40000 }
-    ensures { unsigned_abs result ≤ 1600000000 }
-{
-    let x = i128::from(x);
-    times(x, x)
-}
-
-// Whether the runs are those of a scan over 200 ticks, for a point that moves as another sees it.
-fn agrees(found: Triple, x: i64, y: i64, dx: i64, dy: i64, op: Op, c: i64) -> bool
-    requires x_size { unsigned_abs x ≤ 10000 }
-    requires y_size { unsigned_abs y ≤ 10000 }
-    requires dx_size { unsigned_abs dx ≤ 128 }
-    requires dy_size { unsigned_abs dy ≤ 128 }
-    requires c_size { unsigned_abs c ≤ 40000 }
-{
-    for k in 0..200 {
-        let wanted = expected(moved(x, dx, k), moved(y, dy, k), op, c);
-        let t = 1000 + k;
-        let had = covers(found.first, t) || covers(found.second, t) || covers(found.third, t);
-        if had != wanted {
-            return false;
-        }
-    }
-    true
-}
-
-// Whether all six comparisons agree with a scan. The second motion is seen from the first, which moves too.
-fn all_agree(rt: &HostRuntime, x: i64, y: i64, dx: i64, dy: i64, c: i64) -> Option<bool>
-    requires x_size { unsigned_abs x ≤ 10000 }
-    requires y_size { unsigned_abs y ≤ 10000 }
-    requires dx_size { unsigned_abs dx ≤ 128 }
-    requires dy_size { unsigned_abs dy ≤ 128 }
-    requires c_size { unsigned_abs c ≤ 40000 }
-{
-    let w = window(1000, 1199)?;
-    let p = line(70, -7, -dx, 5)?;
-    let q = line(70 + x, y - 7, 0, dy + 5)?;
-    let constant = constant(c)?;
-    for op in OPS {
-        let found = compared(rt, &p, &q, op, constant, w);
-        if !agrees(found, x, y, dx, dy, op, c) {
-            return Some(false);
-        }
-    }
-    Some(true)
-}
-
-// Motions along one line at the distance of some tick, and any motions.
 #[test]
-fn comparisons_agree_with_a_scan(rt: HostRuntime) -> Result<(), Fail> {
-    let mut seed = 1;
-    for _ in 0..30 {
-        seed = next(seed);
-        let x = drawn(seed) * 100;
-        let y = drawn(seed / 5);
-        let dx = drawn(next(seed));
-        let dy = drawn(seed / 7);
-        let c = drawn(seed / 3) * 50;
-        assert_eq!(rt;
-            all_agree(&rt, x, 0, dx, 0, moved(x, dx, 50)),
-            Some(true),
-            "from {x} by {dx}"
-        );
-        assert_eq!(rt;
-            all_agree(&rt, x, y, dx, dy, c),
-            Some(true),
-            "from {x} {y} by {dx} {dy} at {c}"
-        );
-    }
-    Ok(())
+fn distances_that_compare(rt: HostRuntime) {
+    comparisons_are_found::<Brand>(&rt, &rt, Blank::new(1));
 }

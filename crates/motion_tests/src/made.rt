@@ -1,87 +1,86 @@
-//! Numbers, places and motions, which several of the tests make.
-ghost use Rattle.std.specs.Prelude.{◌≡◌, ◌-◌, ◌≤◌, IfOk, IfSome, unsigned_abs};
-ghost use Rattle.fixed_point.specs.declared.number.TheConstants.{READ_LIMIT};
+//! Places, motions and windows by their numbers, and runs as pairs of ticks.
+ghost use Rattle.std.specs.Prelude.{◌≡◌, ◌-◌, ◌≤◌, length, IfSome};
 ghost use Rattle.linear_crossing.specs.Moving.{IsInReach};
 
-use case_table::Op;
 use fixed_point::{Fix, Point, Slope};
-use linear_crossing::{COORDINATE_LIMIT, Line};
-use std::test::Fail;
+use linear_crossing::{COORDINATE_LIMIT, Line, Quad};
 use tick_set::{SPAN_LIMIT, Span, Window};
 
-pub(crate) const OPS: [Op; 6] = [Op::Lt, Op::Le, Op::Eq, Op::Ne, Op::Ge, Op::Gt];
-
-// A number of thousandths, as a command may give it.
-pub(crate) fn fix(thousandths: i32) -> Result<Fix, Fail>
-    ensures value { IfOk result (λ f. f ≡ thousandths) }
-    ensures size { IfOk result (λ f. unsigned_abs f ≤ READ_LIMIT) }
-{
-    Ok(Fix::of(i64::from(thousandths)).ok_or("a number past its range")?)
-}
-
-pub(crate) fn slope(thousandths: i32) -> Result<Slope, Fail> {
-    Ok(Slope::of(i64::from(thousandths)).ok_or("a slope past its range")?)
-}
-
-pub(crate) fn place(x: i64, y: i64) -> Option<Point> {
-    Some(Point {
-        x: Fix::of(x)?,
-        y: Fix::of(y)?,
-    })
-}
+// The coordinates of a place, in thousandths.
+pub(crate) type Spot = (i64, i64);
 
 // A place, and the way at each tick, in thousandths.
 pub(crate) type Way = (i64, i64, i64, i64);
 
-// A motion, where its numbers are in range.
-pub(crate) fn line(x: i64, y: i64, dx: i64, dy: i64) -> Option<Line>
-    ensures { IfSome result IsInReach }
+// The first and the last tick.
+pub(crate) type Ends = (u32, u32);
+
+fn place(spot: Spot) -> Option<Point>
+    ensures x { IfSome result (λ p. p.x ≡ spot.0) }
+    ensures y { IfSome result (λ p. p.y ≡ spot.1) }
 {
-    if x.unsigned_abs() > COORDINATE_LIMIT || y.unsigned_abs() > COORDINATE_LIMIT {
+    let x = Fix::of(spot.0)?;
+    let y = Fix::of(spot.1)?;
+    Some(Point { x, y })
+}
+
+fn place_at(spots: &[Spot], index: usize) -> Option<Point> {
+    match spots.get(index) {
+        Some(spot) => place(*spot),
+        None => place((0, 0)),
+    }
+}
+
+// The places of up to four spots, and after them the origin.
+pub(crate) fn places(spots: &[Spot]) -> Option<[Point; 4]>
+    ensures { IfSome result (λ _. length spots.now ≤ 4) }
+{
+    if spots.len() > 4 {
         return None;
     }
-    let at = Point {
-        x: Fix::of(x)?,
-        y: Fix::of(y)?,
-    };
-    let dx = Slope::of(dx)?;
-    let dy = Slope::of(dy)?;
+    let p = place_at(spots, 0)?;
+    let q = place_at(spots, 1)?;
+    let s = place_at(spots, 2)?;
+    let u = place_at(spots, 3)?;
+    Some([p, q, s, u])
+}
+
+pub(crate) fn line(way: Way) -> Option<Line>
+    ensures x { IfSome result (λ l. l.at.x ≡ way.0) }
+    ensures y { IfSome result (λ l. l.at.y ≡ way.1) }
+{
+    let at = place((way.0, way.1))?;
+    let dx = Slope::of(way.2)?;
+    let dy = Slope::of(way.3)?;
     Some(Line { at, dx, dy })
 }
 
-pub(crate) fn moving(way: Way) -> Result<Line, Fail>
-    ensures { IfOk result IsInReach }
+// A motion that begins where one may begin that is compared with others.
+pub(crate) fn line_in_reach(way: Way) -> Option<Line>
+    ensures { IfSome result IsInReach }
 {
-    Ok(line(way.0, way.1, way.2, way.3).ok_or("no motion")?)
+    if way.0.unsigned_abs() > COORDINATE_LIMIT || way.1.unsigned_abs() > COORDINATE_LIMIT {
+        return None;
+    }
+    line(way)
+}
+
+pub(crate) fn quad(p: Way, q: Way) -> Option<Quad> {
+    let p = line_in_reach(p)?;
+    let q = line_in_reach(q)?;
+    Some(Quad::between(&p, &q))
 }
 
 // A window that is no longer than a span may be.
-pub(crate) fn window(lo: u32, hi: u32) -> Option<Window>
+pub(crate) fn window(ends: Ends) -> Option<Window>
     ensures { IfSome result (λ w. w.hi - w.lo ≤ SPAN_LIMIT) }
 {
-    if hi.saturating_sub(lo) > SPAN_LIMIT {
+    if ends.1.saturating_sub(ends.0) > SPAN_LIMIT {
         return None;
     }
-    Window::new(lo, hi)
+    Window::new(ends.0, ends.1)
 }
 
-pub(crate) fn ends(run: Option<Span>) -> Option<(u32, u32)> {
+pub(crate) fn ends(run: Option<Span>) -> Option<Ends> {
     run.map(|s| (s.lo, s.hi))
-}
-
-pub(crate) fn covers(run: Option<Span>, t: u32) -> bool {
-    run.is_some_and(|s| s.lo <= t && t <= s.hi)
-}
-
-// The next number of a seeded row of numbers.
-pub(crate) fn next(seed: u64) -> u64 {
-    seed.wrapping_mul(6_364_136_223_846_793_005)
-        .wrapping_add(1_442_695_040_888_963_407)
-}
-
-// A number from -64 to 64 of a seed.
-pub(crate) fn drawn(seed: u64) -> i64
-    ensures { unsigned_abs result ≤ 64 }
-{
-    (seed / 65_536 % 129) as i64 - 64
 }

@@ -18,12 +18,3 @@ mod trying;
 pub use loading::{LoadFault, load};
 pub use next::{ApplyFault, Next};
 pub use session::Session;
-
-#[cfg(test)]
-mod file_tests;
-#[cfg(test)]
-mod live_tests;
-#[cfg(test)]
-mod load_tests;
-#[cfg(test)]
-mod tests;

@@ -1,20 +1,20 @@
-//! Tests of values, by the public calls of their crates: numbers and counters, tables of words, the plane, and
-//! sets of ticks with the operators on them.
+//! Tests of values, by the public calls of their crates: numbers and words, tables of words, sets of ticks with the
+//! operators on them, and those calls on formulas, relations and kept rows that no program makes.
 #![tactic(auto)]
 
 #[cfg(test)]
 mod counters;
 #[cfg(test)]
+mod formulas;
+#[cfg(test)]
 mod numbers;
 #[cfg(test)]
 mod operators;
 #[cfg(test)]
-mod plane;
+mod relations;
 #[cfg(test)]
-mod products;
+mod rows;
 #[cfg(test)]
 mod sets;
-#[cfg(test)]
-mod spans;
 #[cfg(test)]
 mod tables;

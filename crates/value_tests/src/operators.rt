@@ -1,44 +1,19 @@
-ghost use Rattle.std.specs.Prelude.{◌<◌, IfOk};
+ghost use Rattle.std.specs.Prelude.{IfOk};
 ghost use Rattle.tick_set.specs.Ticks.{LiesIn};
 
-use crate::spans::only_run;
 use interval_set::IntervalSet;
 use std::alloc::{AllocError, Global};
 use std::test::Fail;
 use tick_set::{Span, TickList, TickSet, Window};
 use until_merge::Temporal;
 
-// The ticks of these spans that are in the window.
-fn set_of<S: TickSet>(alloc: Global, spans: &[(u32, u32)], w: Window) -> Result<S, Fail>
-    ensures { IfOk result (λ s. LiesIn w.lo w.hi (S.member s)) }
-{
-    let mut set = S::empty(alloc);
-    for (lo, hi) in spans {
-        let span = Span::new(*lo, *hi).ok_or("no such span")?;
-        let ticks = S::of_span(alloc, span)?;
-        set = set.union(alloc, &ticks)?;
-    }
-    let inside = set.clip(alloc, w)?;
-    Ok(inside)
-}
-
-// Adds the runs of a set as pairs, after a pair that is no run.
-fn add_runs<S: TickSet>(
-    alloc: Global,
-    pairs: &mut Vec<(u32, u32)>,
-    set: &S,
-) -> Result<(), AllocError> {
-    pairs.push((1, 0))?;
-    let spans = set.runs(alloc)?;
-    for s in &spans {
-        pairs.push((s.lo, s.hi))?;
-    }
-    Ok(())
-}
-
-// An operator of time, with its ticks where it has some.
+// An operator on sets of ticks, with its ticks where it has some.
 #[derive(Clone, Copy, Debug)]
 enum Operator {
+    Union,
+    Meet,
+    Without,
+    Complement,
     Next,
     Until,
     UntilWithin(u32),
@@ -48,7 +23,41 @@ enum Operator {
     AlwaysFor(u32),
 }
 
-// What an operator makes of a guard, of a goal, or of both.
+type Ends = (u32, u32);
+
+// The window, the ticks of the first and of the second set, of which those in the window count, and what the operator
+// makes of them.
+const ROWS: [(Operator, Ends, Ends, Ends, Ends); 14] = [
+    (Operator::Union, (0, 10), (0, 4), (4, 8), (0, 8)),
+    // Neighbors are one run.
+    (Operator::Union, (0, 10), (3, 5), (6, 9), (3, 9)),
+    (Operator::Meet, (0, 10), (0, 4), (4, 8), (4, 4)),
+    (Operator::Meet, (3, 8), (0, 4), (0, 10), (3, 4)),
+    (Operator::Without, (0, 10), (0, 4), (4, 8), (0, 3)),
+    (Operator::Complement, (3, 8), (0, 4), (4, 8), (5, 8)),
+    (Operator::Next, (0, 10), (0, 4), (5, 5), (0, 3)),
+    (Operator::Until, (0, 10), (0, 4), (5, 5), (0, 5)),
+    // Over a gap.
+    (Operator::Until, (0, 10), (0, 4), (6, 6), (6, 6)),
+    (Operator::UntilWithin(1), (0, 10), (0, 4), (5, 5), (4, 5)),
+    (Operator::UntilAfter(2), (0, 10), (0, 4), (5, 5), (0, 3)),
+    (
+        Operator::EventuallyWithin(2),
+        (0, 10),
+        (0, 4),
+        (5, 5),
+        (3, 5),
+    ),
+    (
+        Operator::EventuallyAfter(2),
+        (0, 10),
+        (0, 4),
+        (5, 5),
+        (0, 3),
+    ),
+    (Operator::AlwaysFor(2), (0, 10), (3, 6), (5, 5), (3, 4)),
+];
+
 fn applied<S: Temporal>(
     alloc: Global,
     operator: Operator,
@@ -56,10 +65,14 @@ fn applied<S: Temporal>(
     h: &S,
     w: Window,
 ) -> Result<S, AllocError>
-    requires guard { LiesIn w.lo w.hi (S.member g.now) }
-    requires goal { LiesIn w.lo w.hi (S.member h.now) }
+    requires first { LiesIn w.lo w.hi (S.member g.now) }
+    requires second { LiesIn w.lo w.hi (S.member h.now) }
 {
     match operator {
+        Operator::Union => g.union(alloc, h),
+        Operator::Meet => g.meet(alloc, h),
+        Operator::Without => g.without(alloc, h),
+        Operator::Complement => g.complement(alloc, w),
         Operator::Next => g.next(alloc, w),
         Operator::Until => g.until(alloc, h, w),
         Operator::UntilWithin(c) => g.until_within(alloc, h, c, w),
@@ -70,118 +83,45 @@ fn applied<S: Temporal>(
     }
 }
 
-// What each operator answers of two sets.
-fn answers<S: Temporal>(
-    alloc: Global,
-    g: &S,
-    h: &S,
-    c: u32,
-    w: Window,
-) -> Result<Vec<(u32, u32)>, AllocError>
-    requires guard { LiesIn w.lo w.hi (S.member g.now) }
-    requires goal { LiesIn w.lo w.hi (S.member h.now) }
+// The ticks of a span that are in the window.
+fn set_of<S: TickSet>(alloc: Global, ends: Ends, w: Window) -> Result<S, Fail>
+    ensures { IfOk result (λ s. LiesIn w.lo w.hi (S.member s)) }
 {
-    let mut pairs = Vec::new(alloc);
-    for operator in [
-        Operator::Next,
-        Operator::Until,
-        Operator::UntilWithin(c),
-        Operator::UntilAfter(c),
-        Operator::EventuallyWithin(c),
-        Operator::EventuallyAfter(c),
-        Operator::AlwaysFor(c),
-    ] {
-        let made = applied(alloc, operator, g, h, w)?;
-        add_runs(alloc, &mut pairs, &made)?;
-    }
-    Ok(pairs)
+    let span = Span::new(ends.0, ends.1).ok_or("no such span")?;
+    let all = S::of_span(alloc, span)?;
+    let inside = all.clip(alloc, w)?;
+    Ok(inside)
 }
 
-// The run that an operator answers of a guard and a goal in the window 0 to 10.
+// The run of a set that has one.
+fn only_run<S: TickSet>(alloc: Global, set: &S) -> Result<Ends, Fail> {
+    match set.runs(alloc)?.as_slice() {
+        [s] => Ok((s.lo, s.hi)),
+        _ => Err("not one run".into()),
+    }
+}
+
 fn run_of<S: Temporal>(
     alloc: Global,
     operator: Operator,
-    g: (u32, u32),
-    h: (u32, u32),
-) -> Result<(u32, u32), Fail> {
-    let w = Window::new(0, 10).ok_or("no such window")?;
-    let guard: S = set_of(alloc, &[g], w)?;
-    let goal: S = set_of(alloc, &[h], w)?;
-    let made = applied(alloc, operator, &guard, &goal, w)?;
+    w: Ends,
+    g: Ends,
+    h: Ends,
+) -> Result<Ends, Fail> {
+    let w = Window::new(w.0, w.1).ok_or("no such window")?;
+    let g: S = set_of(alloc, g, w)?;
+    let h: S = set_of(alloc, h, w)?;
+    let made = applied(alloc, operator, &g, &h, w)?;
     only_run(alloc, &made)
 }
 
 #[test]
 fn operators_hold_where_they_should(rt: HostRuntime) -> Result<(), Fail> {
-    for (operator, g, h, wanted) in [
-        (Operator::Next, (0, 4), (5, 5), (0, 3)),
-        (Operator::Until, (0, 4), (5, 5), (0, 5)),
-        (Operator::UntilWithin(1), (0, 4), (5, 5), (4, 5)),
-        (Operator::UntilAfter(2), (0, 4), (5, 5), (0, 3)),
-        (Operator::EventuallyWithin(2), (0, 4), (5, 5), (3, 5)),
-        (Operator::EventuallyAfter(2), (0, 4), (5, 5), (0, 3)),
-        (Operator::AlwaysFor(2), (3, 6), (5, 5), (3, 4)),
-        // Over a gap.
-        (Operator::Until, (0, 4), (6, 6), (6, 6)),
-    ] {
-        let listed = run_of::<TickList>(rt.alloc(), operator, g, h)?;
+    for (operator, w, g, h, wanted) in ROWS {
+        let listed = run_of::<TickList>(rt.alloc(), operator, w, g, h)?;
         assert_eq!(rt; listed, wanted, "{operator:?} tick by tick");
-        let on_spans = run_of::<IntervalSet>(rt.alloc(), operator, g, h)?;
+        let on_spans = run_of::<IntervalSet>(rt.alloc(), operator, w, g, h)?;
         assert_eq!(rt; on_spans, wanted, "{operator:?} on spans");
-    }
-    Ok(())
-}
-
-// A small generator of numbers: a linear congruence, of which the high bits are taken.
-#[derive(Drop)]
-struct Numbers {
-    state: u64,
-}
-
-impl Numbers {
-    // A number below `bound`, which is not 0.
-    fn below(&mut self, bound: u32) -> u32
-        requires { 0 < bound }
-        ensures { result < bound }
-    {
-        self.state = self
-            .state
-            .wrapping_mul(6_364_136_223_846_793_005)
-            .wrapping_add(1_442_695_040_888_963_407);
-        (self.state >> 33) as u32 % bound
-    }
-}
-
-// Up to five spans of ticks below 40.
-fn some_spans(alloc: Global, numbers: &mut Numbers) -> Result<Vec<(u32, u32)>, AllocError> {
-    let mut spans = Vec::new(alloc);
-    for _ in 0..numbers.below(6) {
-        let lo = numbers.below(40);
-        spans.push((lo, lo + numbers.below(6)))?;
-    }
-    Ok(spans)
-}
-
-#[test]
-fn both_sets_answer_alike(rt: HostRuntime) -> Result<(), Fail> {
-    let alloc = rt.alloc();
-    let w = Window::new(3, 41).ok_or("no such window")?;
-    let mut numbers = Numbers { state: 7 };
-    for round in 0..200 {
-        let first = some_spans(alloc, &mut numbers)?;
-        let second = some_spans(alloc, &mut numbers)?;
-        let c = [0, 1, 2, 3, 7, 38, 39, u32::MAX][numbers.below(8) as usize];
-        let plain_g: TickList = set_of(alloc, &first, w)?;
-        let plain_h: TickList = set_of(alloc, &second, w)?;
-        let fast_g: IntervalSet = set_of(alloc, &first, w)?;
-        let fast_h: IntervalSet = set_of(alloc, &second, w)?;
-        let plain = answers(alloc, &plain_g, &plain_h, c, w)?;
-        let fast = answers(alloc, &fast_g, &fast_h, c, w)?;
-        assert_eq!(rt;
-            plain.as_slice(),
-            fast.as_slice(),
-            "round {round}: {first:?}, {second:?}, {c}"
-        );
     }
     Ok(())
 }

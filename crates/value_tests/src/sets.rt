@@ -1,97 +1,61 @@
-use crate::spans::{only_run, pairs_of, span};
-use interval_set::{IntervalSet, past};
+use interval_set::IntervalSet;
 use std::alloc::Global;
+use std::process::Abort;
 use std::test::Fail;
-use tick_set::{LAST_TICK, TickList, TickSet};
+use tick_set::{Runs, Span, TickList, TickSet};
 
-#[derive(Clone, Copy, Debug)]
-enum Operation {
-    Union,
-    Meet,
-    Without,
-    Complement,
-    Clip,
+fn span(lo: u32, hi: u32) -> Result<Span, Fail> {
+    Ok(Span::new(lo, hi).ok_or("no such span")?)
 }
 
-// The run that an operation makes of the ticks 0 to 4, with 4 to 8 or in the window 3 to 8.
-fn put_together<S: TickSet>(alloc: Global, operation: Operation) -> Result<(u32, u32), Fail> {
-    let set = S::of_span(alloc, span(0, 4)?)?;
-    let other = S::of_span(alloc, span(4, 8)?)?;
-    let window = span(3, 8)?.window();
-    let made = match operation {
-        Operation::Union => set.union(alloc, &other),
-        Operation::Meet => set.meet(alloc, &other),
-        Operation::Without => set.without(alloc, &other),
-        Operation::Complement => set.complement(alloc, window),
-        Operation::Clip => set.clip(alloc, window),
-    };
-    only_run(alloc, &made?)
+// A copy of the set of the ticks 9 to 12.
+fn copied<S: TickSet>(alloc: Global) -> Result<S, Fail> {
+    let set = S::of_runs(alloc, &[span(9, 12)?])?;
+    let copy = set.copy(alloc)?;
+    if !copy.equal(&set) || copy.equal(&S::empty(alloc)) {
+        return Err("not equal to the copied set alone".into());
+    }
+    Ok(copy)
 }
 
-#[test]
-fn sets_are_put_together(rt: HostRuntime) -> Result<(), Fail> {
-    for (operation, wanted) in [
-        (Operation::Union, (0, 8)),
-        (Operation::Meet, (4, 4)),
-        (Operation::Without, (0, 3)),
-        (Operation::Complement, (5, 8)),
-        (Operation::Clip, (3, 4)),
-    ] {
-        let listed = put_together::<TickList>(rt.alloc(), operation)?;
-        assert_eq!(rt; listed, wanted, "{operation:?} of lists");
-        let on_spans = put_together::<IntervalSet>(rt.alloc(), operation)?;
-        assert_eq!(rt; on_spans, wanted, "{operation:?} on spans");
+const TICKS: [(u32, bool); 5] = [
+    (8, false),
+    (9, true),
+    (12, true),
+    (13, false),
+    (u32::MAX, false),
+];
+
+fn knows_its_ticks<S: TickSet>(rt: &impl Abort, alloc: Global) -> Result<(), Fail> {
+    let set: S = copied(alloc)?;
+    assert!(rt; !set.is_empty());
+    for (t, wanted) in TICKS {
+        assert_eq!(rt; set.has(t), wanted, "the tick {t}");
     }
     Ok(())
 }
 
 #[test]
-fn a_list_knows_its_ticks(rt: HostRuntime) -> Result<(), Fail> {
-    let alloc = rt.alloc();
-    let mut set = TickList::empty(alloc);
-    assert!(rt; set.is_empty());
-    set.push(7)?;
-    let same = TickList::of_runs(alloc, &[span(7, 7)?])?;
-    assert!(rt; same.equal(&set));
-    let copy = set.copy(alloc)?;
-    assert!(rt; copy.has(7) && !copy.has(8) && !copy.has(u32::MAX));
+fn sets_know_their_ticks(rt: HostRuntime) -> Result<(), Fail> {
+    knows_its_ticks::<IntervalSet>(&rt, rt.alloc())?;
+    knows_its_ticks::<TickList>(&rt, rt.alloc())
+}
+
+#[test]
+fn a_tick_is_pushed_to_a_list(rt: HostRuntime) -> Result<(), Fail> {
+    let mut list = TickList::empty(rt.alloc());
+    list.push(7)?;
+    assert!(rt; list.has(7));
     Ok(())
 }
 
 #[test]
-fn an_interval_set_knows_its_ticks(rt: HostRuntime) -> Result<(), Fail> {
-    let alloc = rt.alloc();
-    assert!(rt; IntervalSet::empty(alloc).is_empty());
-    let set = IntervalSet::of_runs(alloc, &[span(9, 12)?])?;
-    assert_eq!(rt; set.spans(), [span(9, 12)?].as_slice());
-    let copy = set.copy(alloc)?;
-    for (t, wanted) in [
-        (8, false),
-        (9, true),
-        (12, true),
-        (13, false),
-        (u32::MAX, false),
-    ] {
-        assert_eq!(rt; copy.has(t), wanted, "the tick {t}");
-    }
-    Ok(())
-}
-
-#[test]
-fn neighbors_are_one_run(rt: HostRuntime) -> Result<(), Fail> {
-    let alloc = rt.alloc();
-    let set = IntervalSet::of_span(alloc, span(3, 5)?)?;
-    let both = set.union(alloc, &IntervalSet::of_span(alloc, span(6, 9)?)?)?;
-    let runs = both.runs(alloc)?;
-    assert_eq!(rt; pairs_of(alloc, &runs)?.as_slice(), [(3, 9)].as_slice());
-    assert!(rt; IntervalSet::from_runs(runs).equal(&both));
-    Ok(())
-}
-
-#[test]
-fn spans_that_end_early_are_passed(rt: HostRuntime) -> Result<(), Fail> {
-    let spans = [span(9, 12)?];
-    assert_eq!(rt; past(&spans, 12).len(), 1);
-    assert_eq!(rt; past(&spans, LAST_TICK).len(), 0);
+fn runs_are_built_and_cleared(rt: HostRuntime) -> Result<(), Fail> {
+    let first = span(3, 5)?;
+    let mut runs = Runs::new(rt.alloc());
+    runs.append(Some(first))?;
+    assert_eq!(rt; runs.spans(), [first].as_slice());
+    runs.clear();
+    assert!(rt; runs.spans().is_empty());
     Ok(())
 }

@@ -1,0 +1,159 @@
+ghost use Rattle.std.specs.Prelude.{◌≡◌, ◌<◌, ◌∷◌, [], None, false, length, IfOk};
+ghost use Rattle.formula.specs.declared.tree.RUnit.TheVariants as units;
+
+use atoms::{ValueRun, presence, value_runs};
+use fixed_point::Word;
+use formula::{Binding, Env, Items, RSigned, RTerm, RUnit, Value};
+use interval_set::IntervalSet;
+use motion::Place;
+use object_store::Store;
+use std::alloc::{AllocError, Global};
+use std::marker::Brand;
+use std::process::Abort;
+use std::sync::ledger::{Blank, Ledger};
+use std::test::Fail;
+use steps::Steps;
+use tick_set::Window;
+
+fn word(text: &[u8]) -> Result<Word, Fail> {
+    Ok(Word::of(text).ok_or("a word past its length")?)
+}
+
+fn window(ends: (u32, u32)) -> Result<Window, Fail> {
+    Ok(Window::new(ends.0, ends.1).ok_or("no such window")?)
+}
+
+const NOWHERE: Place = Place {
+    at: None,
+    moving: None,
+};
+
+// One car, which is there from tick 5 to 11.
+fn one_car(rt: &impl Abort, alloc: Global) -> Result<Store, Fail> {
+    let class = word(b"car")?;
+    let name = word(b"a")?;
+    let mut store = Store::new(alloc);
+    store.add_class(class, 9, true, &[])?;
+    assert!(rt; store.last_tick() <= 5);
+    store.insert(5, &class, &name, &NOWHERE, &[])?;
+    assert!(rt; store.last_tick() <= 12);
+    store.remove(12, &name)?;
+    Ok(store)
+}
+
+#[test]
+fn a_class_is_taken_back(rt: HostRuntime) -> Result<(), Fail> {
+    let mut store = Store::new(rt.alloc());
+    store.add_class(word(b"car")?, 1, false, &[])?;
+    store.remove_last_class();
+    assert_eq!(rt; store.schema().count(), 0);
+    Ok(())
+}
+
+#[derive(Clone, Copy)]
+enum Asked {
+    Presence,
+    Values,
+}
+
+// Asks with a counter of the looks at timelines.
+fn with_reads<L: Ledger>(
+    rt: &impl Abort,
+    host: &HostRuntime,
+    blank: Blank,
+    asked: Asked,
+) -> Result<(), Fail>
+    requires name { blank.name ≡ L.name }
+    requires parts { blank.parts ≡ L.parts }
+    requires some_part { 0 < blank.parts }
+{
+    let store = one_car(rt, host.alloc())?;
+    let mut reads: Steps<L> = Steps::new(host, blank);
+    match asked {
+        Asked::Presence => is_there_at_times(rt, host.alloc(), &store, &mut reads),
+        Asked::Values => time_runs_for_a_tick(rt, host.alloc(), &store, &mut reads),
+    }
+}
+
+fn answers(rt: &impl Abort, host: &HostRuntime, asked: Asked) -> Result<(), Fail> {
+    with_reads::<Brand>(rt, host, Blank::new(1), asked)
+}
+
+// A window, and the ticks of it at which the car is there.
+const PRESENCE: [((u32, u32), Option<(u32, u32)>); 3] = [
+    ((0, 20), Some((5, 11))),
+    ((7, 8), Some((7, 8))),
+    ((12, 20), None),
+];
+
+fn only_run(set: &IntervalSet) -> Option<(u32, u32)> {
+    let run = set.spans().first()?;
+    Some((run.lo, run.hi))
+}
+
+fn is_there_at_times<L: Ledger>(
+    rt: &impl Abort,
+    alloc: Global,
+    store: &Store,
+    reads: &mut Steps<L>,
+) -> Result<(), Fail> {
+    assert!(rt; 0 < store.object_count());
+    for (ends, run) in PRESENCE {
+        let found = presence(alloc, 0, store, window(ends)?, reads)?;
+        assert_eq!(rt; only_run(&found), run, "in {ends:?}");
+    }
+    Ok(())
+}
+
+#[test]
+fn an_object_is_there_from_its_insert_to_its_removal(rt: HostRuntime) -> Result<(), Fail> {
+    answers(&rt, &rt, Asked::Presence)
+}
+
+fn time(alloc: Global) -> Result<RTerm, AllocError>
+    ensures { IfOk result (λ q. q.factors ≡ record { minus = false; times = None; unit = units.Time } ∷ []) }
+{
+    let mut factors = Items::new(alloc);
+    factors.push(RSigned {
+        minus: false,
+        times: None,
+        unit: RUnit::Time,
+    })?;
+    Ok(RTerm { factors })
+}
+
+const VALUES: [Option<(u32, u32, i64)>; 4] = [
+    Some((7, 7, 7000)),
+    Some((8, 8, 8000)),
+    Some((9, 9, 9000)),
+    None,
+];
+
+fn number_at(runs: &[ValueRun], index: usize) -> Option<(u32, u32, i64)> {
+    let run = runs.get(index)?;
+    match run.value {
+        Value::Num(number) => Some((run.span.lo, run.span.hi, number.raw())),
+        Value::Text(_) => None,
+    }
+}
+
+fn time_runs_for_a_tick<L: Ledger>(
+    rt: &impl Abort,
+    alloc: Global,
+    store: &Store,
+    reads: &mut Steps<L>,
+) -> Result<(), Fail> {
+    let time = time(alloc)?;
+    let w = window((7, 9))?;
+    let none = Binding::new();
+    let runs = value_runs(alloc, &time, &none, &Env::new(), store, w, reads)?;
+    for (index, run) in VALUES.into_iter().enumerate() {
+        assert_eq!(rt; number_at(&runs, index), run, "run {index}");
+    }
+    Ok(())
+}
+
+#[test]
+fn a_number_that_moves_runs_for_a_tick(rt: HostRuntime) -> Result<(), Fail> {
+    answers(&rt, &rt, Asked::Values)
+}

@@ -1,5 +1,0 @@
--- The ledger is the new one.
-use Rattle.small_world.proofs.tests.has_rows_by.Given as goal
-
-abbrev pub ghosts-with_reads : goal.ghosts-with_reads
-ghosts-with_reads g a = record { name = a.reads.name; parts = a.reads.parts }
