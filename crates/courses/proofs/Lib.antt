@@ -1,3 +1,4 @@
+pub mod CallerLemmas
 pub mod PartLemmas
 pub mod CountLemmas
 pub mod LineLemmas

@@ -10,5 +10,5 @@ mod lines;
 mod parts;
 
 pub use laws::{limits_in_numbers, pieces_are_counted};
-pub use lines::{line_from, straight_line};
-pub use parts::{Common, MOST_TIMELINES, common_from};
+pub use lines::{line_from, place_line, straight_line};
+pub use parts::{Common, MOST_TIMELINES, begun_by, common_for, common_from};

@@ -9,7 +9,7 @@ ghost use Rattle.linear_crossing.specs.Moving.{IsInReach, position_after};
 ghost use Rattle.linear_crossing.specs.declared.quad.TheConstants.{COORDINATE_LIMIT};
 ghost use Rattle.tick_set.specs.declared.spans.TheConstants.{LAST_TICK};
 ghost use Rattle.courses.specs.Parts.{piece_count};
-ghost use Rattle.courses.specs.Places.{dynamic_at, place_at, place_of, tells_line_from};
+ghost use Rattle.courses.specs.Places.{dynamic_at, place_at, place_of, tells_line_from, IsPlaceSteady};
 
 use fixed_point::{Fix, Point, Slope};
 use linear_crossing::Line;
@@ -21,6 +21,18 @@ use tick_set::{LAST_TICK, Span};
 /// tick. None exactly where the object is absent, or one of its first two attributes isn't dynamic.
 pub fn line_from(epoch: &Epoch, span: Span) -> Option<Line>
     requires { AreSteadyCells epoch.now span.lo span.hi }
+    ensures reach { IfSome result IsInReach }
+    ensures places { IfSome result (λ l. (t : ℕ) → span.lo ≤ t → t ≤ span.hi
+        → place_of epoch.now t ≡ Some (position_after l (t - span.lo))) }
+    ensures none { IfNone result ((t : ℕ) → place_of epoch.now t ≡ None) }
+{
+    place_line(epoch, span)
+}
+
+/// As [`line_from`], where of the epoch's dynamic attributes the first two are steady in the ticks of the span, and the others
+/// may turn.
+pub fn place_line(epoch: &Epoch, span: Span) -> Option<Line>
+    requires { IsPlaceSteady epoch.now span.lo span.hi }
     ensures reach { IfSome result IsInReach }
     ensures places { IfSome result (λ l. (t : ℕ) → span.lo ≤ t → t ≤ span.hi
         → place_of epoch.now t ≡ Some (position_after l (t - span.lo))) }

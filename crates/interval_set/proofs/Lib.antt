@@ -3,3 +3,4 @@ pub mod MergeLemmas
 pub mod OverlapLemmas
 pub mod Search
 pub mod SpanLemmas
+mod SpliceLemmas

@@ -1,5 +1,9 @@
 -- Two lists of spans merged into one.
-use Rattle.std.proofs.Common.{◌≡◌, ℕ, ◌+◌, ◌<◌, ◌≤◌, true, ◌||◌, List, [], ◌∷◌, ◌++◌, length, ◌∙◌, inl, inr, arith}
+use Rattle.std.proofs.Common.{◌≡◌, ℕ, suc, ◌+◌, ◌<◌, ◌≤◌, true, false, ◌||◌, List, [], ◌∷◌, ◌++◌, length, get_or, refl, ap, sym, ◌∙◌, inl, inr, arith}
+use Rattle.std.specs.List.{list_any}
+use Rattle.std.specs.List.Sorted.{IsNonDecreasingBy, IsPermutation}
+use Rattle.std.proofs.lemmas.List.Sorted.{list_any-IsPermutation}
+use Rattle.interval_set.specs.Cursor.{BeginFrom}
 use Rattle.std.proofs.lemmas.Bool.{false≢true, both_ways, or_cases, cases_lt}
 use Rattle.std.proofs.lemmas.Bool.Decides.{nat_tests}
 use Rattle.tick_set.specs.declared.spans.Span.{Span}
@@ -81,3 +85,63 @@ none_kept (s ∷ later) from none = absurd (omega arith)
 
 pub grown_both : (made : List Span) (run s : Span) (u : ℕ) → (spans_have (made ++ run ∷ []) u || within s.lo s.hi u) ≡ (spans_have made u || within run.lo run.hi u || within s.lo s.hi u)
 grown_both made run s u = grind (arith, grown_ticks made run u)
+
+-- ---- spans in the order of their first ticks
+none_have : (rest : List Span) (u : ℕ) → length rest ≡ 0 → spans_have rest u ≡ false
+none_have [] u e = refl
+none_have (s ∷ later) u e = absurd (omega arith)
+
+-- the spans that are done are in made, run may still grow, and the rest begins no earlier than it
+pub record JoinedSoFar (spans made : List Span) (run : Span) (rest : List Span) : Type 0 where
+  pub normal : IsNormal made
+  pub apart : (u : ℕ) → spans_have made u ≡ true → u + 2 ≤ run.lo
+  pub begins : BeginFrom run.lo rest
+  pub ticks : (u : ℕ) → spans_have spans u ≡ (spans_have made u || within run.lo run.hi u || spans_have rest u)
+
+begin_later : (from at : ℕ) (spans : List Span) → from ≤ at → BeginFrom at spans → BeginFrom from spans
+begin_later from at [] l h = tt
+begin_later from at (s ∷ rest) l h = (omega (arith, h.0), h.1)
+
+pub joined_none : (spans later : List Span) (s : Span) → spans ≡ s ∷ later → BeginFrom 0 spans → JoinedSoFar spans [] s later
+joined_none spans later s e h = record {
+  normal = tt;
+  apart = λ u k. absurd (false≢true k);
+  begins = (rw e at h).1;
+  ticks = λ u. rw e (grind arith);
+}
+
+module _ (spans made : List Span) (run : Span) (rest : List Span) (so_far : JoinedSoFar spans made run rest) where
+  pub joined_ascends : (s : Span) (later : List Span) → rest ≡ s ∷ later → run.lo ≤ s.lo
+  joined_ascends s later e = (rw e at so_far.begins).0
+
+  pub joined_more : (s : Span) (later made' : List Span) (run' : Span) → rest ≡ s ∷ later
+      → IsNormal made' → ((u : ℕ) → spans_have made' u ≡ true → u + 2 ≤ run'.lo) → run'.lo ≤ s.lo
+      → ((u : ℕ) → (spans_have made' u || within run'.lo run'.hi u) ≡ (spans_have made u || within run.lo run.hi u || within s.lo s.hi u))
+      → JoinedSoFar spans made' run' later
+  joined_more s later made' run' e normal apart lo grown = record {
+    normal = normal;
+    apart = apart;
+    begins = begin_later run'.lo s.lo later lo (rw e at so_far.begins).1;
+    ticks = λ u. let all = rw e at (so_far.ticks u) in grind (arith, all, grown u);
+  }
+
+  pub joined_normal : IsNormal (made ++ run ∷ [])
+  joined_normal = IsNormalFrom-push made 0 run so_far.normal so_far.apart (omega arith)
+
+  pub joined_ticks : length rest ≡ 0 → (u : ℕ) → spans_have (made ++ run ∷ []) u ≡ spans_have spans u
+  joined_ticks e u = grind (arith, spans_have-append made (run ∷ []) u, so_far.ticks u, none_have rest u e)
+
+-- the order that sorting by the first ticks makes
+pub begin_sorted : (from : ℕ) (spans : List Span) → IsNonDecreasingBy (λ s. s.lo) spans → ((d : Span) → 0 < length spans → from ≤ (get_or spans 0 d).lo) → BeginFrom from spans
+begin_sorted from [] h first = tt
+begin_sorted from (s ∷ rest) h first =
+    (first s (omega arith), begin_sorted s.lo rest (λ i j d l k. h (suc i) (suc j) d (omega arith) (omega arith)) (λ d l. h 0 1 d (omega arith) (omega arith)))
+
+-- a test of spans is the test of the spans in another order
+pub have_any : (spans : List Span) (t : ℕ) → spans_have spans t ≡ list_any (λ s. within s.lo s.hi t) spans
+have_any [] t = refl
+have_any (s ∷ rest) t = ap (λ b. within s.lo s.hi t || b) (have_any rest t)
+
+pub have_sorted : (spans sorted : List Span) → IsPermutation spans sorted → (t : ℕ) → spans_have sorted t ≡ spans_have spans t
+have_sorted spans sorted p t =
+    have_any sorted t ∙ sym (list_any-IsPermutation (λ s. within s.lo s.hi t) spans sorted p) ∙ sym (have_any spans t)

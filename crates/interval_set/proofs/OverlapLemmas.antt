@@ -127,3 +127,53 @@ module _ (lo hi : ℕ) (spans made rest : List Span) (s : Span) (later : List Sp
             ];
         clipped = λ u. grind (arith, so_far.clipped u, more u, piece u, in_rest u);
       }
+
+-- ---- whether two lists of spans share a tick
+-- what they share is in what is left of them
+pub record SharedSoFar (first second rest_first rest_second : List Span) : Type 0 where
+  pub first_rest : IsNormal rest_first
+  pub second_rest : IsNormal rest_second
+  pub shared : (u : ℕ) → (spans_have first u && spans_have second u) ≡ (spans_have rest_first u && spans_have rest_second u)
+
+-- a span that ends before the first of a list shares nothing with it
+ends_before : (s t : Span) (later : List Span) → IsNormal (t ∷ later) → s.hi < t.lo → (u : ℕ) → (within s.lo s.hi u && spans_have (t ∷ later) u) ≡ false
+ends_before s t later h l u =
+    let begins : IsNormalFrom t.lo (t ∷ later) = (omega arith, h.1) in
+    grind (arith, nat_tests, spans_have-below (t ∷ later) t.lo u begins)
+
+module _ (first second rest_first rest_second : List Span) (s t : Span) (later_first later_second : List Span) (so_far : SharedSoFar first second rest_first rest_second)
+    (first_begins : rest_first ≡ s ∷ later_first) (second_begins : rest_second ≡ t ∷ later_second) where
+  here : IsNormal (s ∷ later_first)
+  here = rw first_begins at so_far.first_rest
+
+  there : IsNormal (t ∷ later_second)
+  there = rw second_begins at so_far.second_rest
+
+  pub shared_now : s.lo ≤ t.hi → t.lo ≤ s.hi → (u : ℕ) × ((spans_have first u && spans_have second u) ≡ true)
+  shared_now h k =
+      let s_ordered : s.lo ≤ s.hi = s.ordered in
+      let t_ordered : t.lo ≤ t.hi = t.ordered in
+      let in_s : within s.lo s.hi (max s.lo t.lo) ≡ true = within_from s.lo s.hi (max s.lo t.lo) (omega arith) (omega arith) in
+      let in_t : within t.lo t.hi (max s.lo t.lo) ≡ true = within_from t.lo t.hi (max s.lo t.lo) (omega arith) (omega arith) in
+      (max s.lo t.lo, so_far.shared (max s.lo t.lo) ∙ rw (first_begins, second_begins) (grind (arith, in_s, in_t)))
+
+  pub shared_past_first : s.hi < t.lo → SharedSoFar first second later_first rest_second
+  shared_past_first l = record {
+    first_rest = IsNormalFrom-weaker (s.hi + 2) 0 later_first (omega arith) here.1;
+    second_rest = so_far.second_rest;
+    shared = λ u. so_far.shared u ∙ rw (first_begins, second_begins) (grind (arith, ends_before s t later_second there l u));
+  }
+
+  pub shared_past_second : t.hi < s.lo → SharedSoFar first second rest_first later_second
+  shared_past_second l = record {
+    first_rest = so_far.first_rest;
+    second_rest = IsNormalFrom-weaker (t.hi + 2) 0 later_second (omega arith) there.1;
+    shared = λ u. so_far.shared u ∙ rw (first_begins, second_begins) (grind (arith, ends_before t s later_first here l u));
+  }
+
+-- of two spans that don't meet, the one that ends first lies before the other
+pub ends_first : (s t : Span) → t.hi < s.lo → s.hi ≤ t.hi → s.hi < t.lo
+ends_first s t h l = let order : s.lo ≤ s.hi = s.ordered in omega arith
+
+pub ends_second : (s t : Span) → s.hi < t.lo → t.hi < s.hi → t.hi < s.lo
+ends_second s t h l = let order : t.lo ≤ t.hi = t.ordered in omega arith

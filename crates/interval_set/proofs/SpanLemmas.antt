@@ -70,6 +70,10 @@ none_iff (s ∷ rest) len e =
     let order : s.lo ≤ s.hi = s.ordered in
     (λ h. absurd (omega (arith, e, eqb-true len 0 h)), λ h. absurd (false≢true (grind (arith, nat_tests, h s.lo))))
 
+pub no_ticks : (spans : List Span) → ((t : ℕ) → spans_have spans t ≡ false) → spans ≡ []
+no_ticks [] h = refl
+no_ticks (s ∷ rest) h = let order : s.lo ≤ s.hi = s.ordered in absurd (false≢true (grind (arith, nat_tests, h s.lo)))
+
 module _ (same : Span → Span → Bool) (same_is : (a b : Span) → same a b ≡ (eqb a.lo b.lo && eqb a.hi b.hi)) where
   pairs_of_same : (xs ys : List Span) → pointwise same xs ys ≡ true → pairs xs ≡ pairs ys
   pairs_of_same [] [] h = refl

@@ -14,3 +14,8 @@ pub record IsPast (at : ℕ) (spans rest : List Span) : Type 0 where
   pub whole : spans ≡ dropped ++ rest
   pub ended : (u : ℕ) → spans_have dropped u ≡ true → u < at
   pub ends : EndsFrom at rest
+
+-- the first span begins no earlier than the tick, and each other no earlier than the one before it
+abbrev pub BeginFrom : ℕ → List Span → Type 0
+BeginFrom at [] = ⊤
+BeginFrom at (s ∷ rest) = (at ≤ s.lo) × BeginFrom s.lo rest

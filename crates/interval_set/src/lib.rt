@@ -6,6 +6,7 @@ mod gaps;
 mod merge;
 mod overlap;
 mod set;
+mod splice;
 mod stretch;
 
 pub use cursor::past;

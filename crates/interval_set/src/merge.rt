@@ -1,6 +1,7 @@
-//! The ticks of either of two sets, by a merge of their spans.
+//! The ticks of either of two sets and of any of many, by a merge of their spans.
 ghost use Rattle.std.specs.Prelude.{◌≡◌, ◌≤◌, ◌<◌, ◌+◌, ◌||◌, ℕ, true, [], length, vec_len, vec_capacity, IfNone, IfOk, IfSome};
 ghost use Rattle.tick_set.specs.Runs.{IsNormal, IsNormalFrom, spans_have};
+ghost use Rattle.interval_set.specs.Cursor.{BeginFrom};
 ghost use Rattle.tick_set.specs.Ticks.{within};
 
 use std::alloc::{AllocError, Global};
@@ -26,6 +27,39 @@ pub fn union_of(alloc: Global, first: &[Span], second: &[Span]) -> Result<Vec<Sp
         run = grown(&mut made, run, s);
         rest_first = later_first;
         rest_second = later_second;
+    }
+    made.push_reserved(run);
+    Ok(made)
+}
+
+/// The ticks of spans in any order, which may share ticks: they are sorted by their first ticks, and joined in one
+/// walk.
+pub fn union_of_spans(alloc: Global, spans: Vec<Span>) -> Result<Vec<Span>, AllocError>
+    ensures normal { IfOk result (λ r. IsNormal r.items) }
+    ensures ticks { IfOk result (λ r. (t : ℕ) → spans_have r.items t ≡ spans_have spans.items t) }
+{
+    let mut sorted = spans;
+    sorted.sort_unstable_by_key(|s| s.lo);
+    let union = joined(alloc, &sorted)?;
+    Ok(union)
+}
+
+// The ticks of spans of which each begins no earlier than the one before it.
+fn joined(alloc: Global, spans: &[Span]) -> Result<Vec<Span>, AllocError>
+    requires { BeginFrom 0 spans.now }
+    ensures normal { IfOk result (λ r. IsNormal r.items) }
+    ensures ticks { IfOk result (λ r. (t : ℕ) → spans_have r.items t ≡ spans_have spans.now t) }
+{
+    let Some((first, later)) = spans.split_first() else {
+        return Ok(Vec::new(alloc));
+    };
+    let mut made = Vec::with_capacity(alloc, spans.len())?;
+    // The run that may still grow.
+    let mut run = *first;
+    let mut rest = later;
+    'spans: while let Some((s, later)) = rest.split_first() {
+        run = grown(&mut made, run, *s);
+        rest = later;
     }
     made.push_reserved(run);
     Ok(made)

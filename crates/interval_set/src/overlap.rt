@@ -1,5 +1,5 @@
 //! The ticks of both of two sets, and those of a set in a window, span by span.
-ghost use Rattle.std.specs.Prelude.{◌≡◌, ◌&&◌, ℕ, IfOk};
+ghost use Rattle.std.specs.Prelude.{◌≡◌, ◌&&◌, ℕ, true, false, [], IsTrue, IsOk, IfOk};
 ghost use Rattle.tick_set.specs.Runs.{IsNormal, spans_have};
 ghost use Rattle.tick_set.specs.Ticks.{within};
 
@@ -8,14 +8,48 @@ use crate::stretch::add_stretch;
 use std::alloc::{AllocError, Global};
 use tick_set::{Span, Window};
 
-/// The ticks of both, in time linear in the spans of both up to the end of the one that ends first.
+/// Whether a tick is in both, in time linear in the spans of both up to the first shared tick, or to the end of the
+/// one that ends first.
+pub fn have_shared(first: &[Span], second: &[Span]) -> bool
+    requires first { IsNormal first.now }
+    requires second { IsNormal second.now }
+    ensures some { IsTrue result
+        → (t : ℕ) × ((spans_have first.now t && spans_have second.now t) ≡ true) }
+    ensures none { result ≡ false
+        → (t : ℕ) → (spans_have first.now t && spans_have second.now t) ≡ false }
+{
+    let mut rest_first = first;
+    let mut rest_second = second;
+    'both: while let (Some((s, later_first)), Some((t, later_second))) = (
+        rest_first.split_first(),
+        rest_second.split_first(),
+    ) {
+        if s.lo <= t.hi && t.lo <= s.hi {
+            return true;
+        }
+        if t.hi < s.hi {
+            rest_second = later_second;
+        } else {
+            rest_first = later_first;
+        }
+    }
+    false
+}
+
+/// The ticks of both, in time linear in the spans of both up to the end of the one that ends first. It takes no
+/// memory where one has no span.
 pub fn meet_of(alloc: Global, first: &[Span], second: &[Span]) -> Result<Vec<Span>, AllocError>
     requires first { IsNormal first.now }
     requires second { IsNormal second.now }
+    ensures none_first { first.now ≡ [] → IsOk result }
+    ensures none_second { second.now ≡ [] → IsOk result }
     ensures normal { IfOk result (λ r. IsNormal r.items) }
     ensures ticks { IfOk result
         (λ r. (t : ℕ) → spans_have r.items t ≡ (spans_have first.now t && spans_have second.now t)) }
 {
+    if first.is_empty() || second.is_empty() {
+        return Ok(Vec::new(alloc));
+    }
     let mut made = Vec::with_capacity(alloc, first.len() + second.len())?;
     let mut rest_first = first;
     let mut rest_second = second;

@@ -5,4 +5,5 @@ pub mod StraightLemmas
 pub mod LegLemmas
 pub mod CellLemmas
 pub mod PieceLemmas
+mod RangeLemmas
 pub mod CallerLemmas

@@ -1,12 +1,12 @@
 -- How the pieces of a timeline lie.
-use Rattle.std.proofs.Common.{◌≡◌, ℕ, pos, zero, suc, ◌+◌, ◌-◌, ◌+ℤ◌, ◌*ℤ◌, ◌<◌, ◌≤◌, ◌⊎◌, true, false, ◌||◌, ◌&&◌, max, min, None, Some, is_some, List, [], ◌∷◌, ◌++◌, length, take, take_all, get_or, refl, sym, ap, subst, ◌∙◌, inl, inr, arith}
+use Rattle.std.proofs.Common.{◌≡◌, ℕ, pos, zero, suc, ◌+◌, ◌-◌, ◌+ℤ◌, ◌*ℤ◌, ◌<◌, ◌≤◌, ◌⊎◌, Bool, true, false, ◌||◌, ◌&&◌, max, min, None, Some, is_some, List, [], ◌∷◌, ◌++◌, length, take, take_all, get_or, refl, sym, ap, subst, ◌∙◌, inl, inr, arith}
 use Rattle.std.specs.Prelude.{◌==◌, IfSome, slice_get, if◌then◌else◌}
 use Rattle.std.specs.List.{list_any}
 use Rattle.std.specs.Option.{option_map_or}
 use Rattle.std.proofs.lemmas.List.{take_more, get_or_default}
 use Rattle.std.proofs.lemmas.List.Folds.{list_any-append}
 use Rattle.std.proofs.lemmas.Option.{slice_get-get_or, slice_get_read, get_or_from_slice_get, slice_get_within}
-use Rattle.std.proofs.lemmas.Bool.{cases_lt}
+use Rattle.std.proofs.lemmas.Bool.{cases_eq, cases_lt, false≢true}
 use Rattle.std.proofs.lemmas.Bool.Decides.{nat_tests}
 use Rattle.std.proofs.lemmas.Int.{ints}
 use Rattle.tick_set.specs.Ticks.{within}
@@ -17,7 +17,9 @@ use Rattle.motion.specs.declared.cell.Cell.TheVariants as kinds
 use Rattle.motion.specs.declared.pieces.Piece.{Piece}
 use Rattle.motion.specs.Cells.{cell_turns, IsCellAt, AreCellsAt}
 use Rattle.motion.specs.Timeline.{Epoch, cells_of, epoch_at, IsRising, IsRisingFrom, AreBegunUpTo}
-use Rattle.motion.specs.Pieces.{changes_at, is_cut, IsFirstOrEnd, IsPiece, ArePiecesFrom, ArePieces, IsLinear, IsSteady, pieces_have}
+use Rattle.motion.specs.declared.asked.Asked.{Asked}
+use Rattle.motion.specs.declared.asked.Asked.TheVariants as which
+use Rattle.motion.specs.Pieces.{changes_for, is_asked, is_cut_for, legs_end, AreSteadyFor, IsFirstOrEnd, IsPiece, IsPieceFor, ArePiecesFrom, ArePieces, IsLinear, IsSteadyFor, pieces_have}
 use Rattle.motion.proofs.LegLemmas.{NoneEnds, legs_slope-steady, legs_rise-steady}
 use Rattle.motion.proofs.TimelineLemmas.{at_each, closed, each_past, epoch_at-split, from_each, in_force_of, opened}
 
@@ -89,6 +91,36 @@ some_begun epochs t count some first split =
           absurd (omega (arith, at_each (λ p. p.from ≤ t) epochs 0 first some d, (opened epochs t count split).later 0 d none some))
     ]
 
+-- the first tick at which the cell of one more index turns
+first_among_more : (seen : List ℕ) (index : ℕ) (cells : List Cell) (at end first next : ℕ)
+    → IsFirstOrEnd (λ t. list_any (λ i. option_map_or (cell_turns t) (slice_get cells i) false) seen) at end first
+    → IsFirstOrEnd (λ t. option_map_or (cell_turns t) (slice_get cells index) false) at first next
+    → IsFirstOrEnd (λ t. list_any (λ i. option_map_or (cell_turns t) (slice_get cells i) false) (seen ++ index ∷ [])) at end next
+first_among_more seen index cells at end first next before one =
+    let turns : ℕ → ℕ → Bool = λ t i. option_map_or (cell_turns t) (slice_get cells i) false in
+    let both : (t : ℕ) → list_any (turns t) (seen ++ index ∷ []) ≡ (list_any (turns t) seen || turns t index)
+    = λ t. grind (arith, list_any-append (turns t) seen (index ∷ [])) in
+    record {
+      past = one.past;
+      within = omega (arith, one.within, before.within);
+      none = λ t past first. both t ∙ grind (arith, before.none t past (omega (arith, one.within)), one.none t past first);
+      some = ap (λ b. next == end || b) (both next) ∙ grind (arith, nat_tests, before.some, one.some);
+    }
+
+pub first_among_at : (indexes : List ℕ) (k index : ℕ) (cells : List Cell) (at end first next : ℕ) → k < length indexes → index ≡ get_or indexes k 0
+    → IsFirstOrEnd (λ t. list_any (λ i. option_map_or (cell_turns t) (slice_get cells i) false) (take k indexes)) at end first
+    → IsFirstOrEnd (λ t. option_map_or (cell_turns t) (slice_get cells index) false) at first next
+    → IsFirstOrEnd (λ t. list_any (λ i. option_map_or (cell_turns t) (slice_get cells i) false) (take (k + 1) indexes)) at end next
+first_among_at indexes k index cells at end first next some is before one =
+    let more : take (k + 1) indexes ≡ take k indexes ++ index ∷ [] = take_more indexes k 0 some ∙ ap (λ i. take k indexes ++ i ∷ []) (sym is) in
+    rw more (first_among_more (take k indexes) index cells at end first next before one)
+
+pub first_among_all : (indexes : List ℕ) (k : ℕ) (cells : List Cell) (at end first : ℕ) → length indexes ≤ k
+    → IsFirstOrEnd (λ t. list_any (λ i. option_map_or (cell_turns t) (slice_get cells i) false) (take k indexes)) at end first
+    → IsFirstOrEnd (λ t. list_any (λ i. option_map_or (cell_turns t) (slice_get cells i) false) indexes) at end first
+first_among_all indexes k cells at end first all is =
+    subst (λ seen. IsFirstOrEnd (λ t. list_any (λ i. option_map_or (cell_turns t) (slice_get cells i) false) seen) at end first) (take_all k indexes all) is
+
 -- which of the two bounds is reached
 pub begin_reached : (epochs : List Epoch) (index last first : ℕ) (next : Epoch) → index < length epochs → next ≡ get_or epochs index next → first ≡ min next.from (last + 1)
     → (first ≡ last + 1) ⊎ ((index < length epochs) × IfSome (slice_get epochs index) (λ p. p.from ≡ first))
@@ -127,31 +159,35 @@ in_force : (epochs : List Epoch) (p : Epoch) (t count : ℕ) → 0 < count → A
 in_force epochs p t count some split is = grind (arith, nat_tests, epoch_at-split epochs t count split)
 
 -- What holds where a piece is cut from tick `at` on: how many epochs have begun, which is in force, and the tick `first` that is past the piece.
-pub record IsCutting (epochs : List Epoch) (p : Epoch) (count at last next first : ℕ) : Type 0 where
+pub record IsCutting (asked : Asked) (epochs : List Epoch) (p : Epoch) (count at last next first : ℕ) : Type 0 where
   pub rising : IsRising epochs
   pub some : 0 < count
   pub begun : AreBegunUpTo epochs at count
   pub is : slice_get epochs (count - 1) ≡ Some p
   pub before : IfSome (slice_get epochs count) (λ p. next ≤ p.from)
   pub reached : (next ≡ last + 1) ⊎ ((count < length epochs) × IfSome (slice_get epochs count) (λ p. p.from ≡ next))
-  pub turn : IsFirstOrEnd (λ t. list_any (cell_turns t) (cells_of p)) at next first
+  pub turn : IsFirstOrEnd (λ t. legs_end asked t (cells_of p)) at next first
   pub within : next ≤ last + 1
 
-pub cutting : (epochs : List Epoch) (p : Epoch) (cells : List Cell) (count at last next first : ℕ) → IsRising epochs → 0 < count → AreBegunUpTo epochs at count
+pub cutting : (asked : Asked) (epochs : List Epoch) (p : Epoch) (cells : List Cell) (count at last next first : ℕ) → IsRising epochs → 0 < count → AreBegunUpTo epochs at count
     → p ≡ get_or epochs (count - 1) p → cells ≡ cells_of p
     → IfSome (slice_get epochs count) (λ p. next ≤ p.from)
     → (next ≡ last + 1) ⊎ ((count < length epochs) × IfSome (slice_get epochs count) (λ p. p.from ≡ next))
-    → IsFirstOrEnd (λ t. list_any (cell_turns t) cells) at next first → next ≤ last + 1 → IsCutting epochs p count at last next first
-cutting epochs p cells count at last next first rising some begun is of before reached turn within = record {
+    → IsFirstOrEnd (λ t. legs_end asked t cells) at next first → next ≤ last + 1 → IsCutting asked epochs p count at last next first
+cutting asked epochs p cells count at last next first rising some begun is of before reached turn within = record {
   rising = rising;
   some = some;
   begun = begun;
   is = slice_get_read epochs (length epochs) (count - 1) p refl (omega (arith, begun.within)) is;
   before = before;
   reached = reached;
-  turn = subst (λ xs. IsFirstOrEnd (λ t. list_any (cell_turns t) xs) at next first) of turn;
+  turn = subst (λ xs. IsFirstOrEnd (λ t. legs_end asked t xs) at next first) of turn;
   within = within;
 }
+
+or_none : (x y : Bool) → (x || y) ≡ false → (x ≡ false) × (y ≡ false)
+or_none true y none = absurd (false≢true (sym none))
+or_none false y none = (refl, none)
 
 -- a cell turns only where one of them does
 none_turns : (cells : List Cell) (a t : ℕ) (cell : Cell) → list_any (cell_turns t) cells ≡ false → slice_get cells a ≡ Some cell → cell_turns t cell ≡ false
@@ -159,13 +195,37 @@ none_turns [] a t cell none is = cc
 none_turns (c ∷ cells) zero t cell none is = let same : c ≡ cell = cc in grind (arith, ap (cell_turns t) same)
 none_turns (c ∷ cells) (suc a) t cell none is = none_turns cells a t cell (grind arith) is
 
+-- the same of the cells of some indexes
+none_turns_among : (indexes : List ℕ) (cells : List Cell) (a t : ℕ) (cell : Cell) → list_any (λ index. option_map_or (cell_turns t) (slice_get cells index) false) indexes ≡ false
+    → list_any (λ index. index == a) indexes ≡ true → slice_get cells a ≡ Some cell → cell_turns t cell ≡ false
+none_turns_among [] cells a t cell none is_asked is = absurd (false≢true is_asked)
+none_turns_among (index ∷ indexes) cells a t cell none is_asked is =
+    elim (cases_eq index a) [
+      | inl here ↦
+          let found : option_map_or (cell_turns t) (slice_get cells index) false ≡ cell_turns t cell
+          = ap (λ i. option_map_or (cell_turns t) (slice_get cells i) false) here ∙ ap (λ c. option_map_or (cell_turns t) c false) is in
+          sym found ∙ (or_none _ _ none).0
+      | inr other ↦ none_turns_among indexes cells a t cell (or_none _ _ none).1 (grind (arith, nat_tests)) is
+    ]
+
 written_dynamic : (cells : List Cell) (a s : ℕ) (v : Dynamic) → AreCellsAt cells s → slice_get cells a ≡ Some (kinds.Dyn v) → v.updatetime ≤ s
 written_dynamic cells a s v written here =
     subst (λ cell. IsCellAt cell s) (get_or_from_slice_get cells a (kinds.Dyn v) (kinds.Dyn v) here)
     (written a (kinds.Dyn v) (slice_get_within cells a (kinds.Dyn v) here))
 
+-- a leg of an asked attribute ends only where one of them does
+asked_turns : (asked : Asked) (cells : List Cell) (a t : ℕ) (v : Dynamic) → legs_end asked t cells ≡ false → is_asked asked a ≡ true → slice_get cells a ≡ Some (kinds.Dyn v)
+    → turns_at v t ≡ false
+asked_turns which.All cells a t v none asks is = none_turns cells a t (kinds.Dyn v) none is
+asked_turns (which.These indexes) cells a t v none asks is = none_turns_among indexes.now cells a t (kinds.Dyn v) none asks is
+
+steady_for : (asked : Asked) (p : Epoch) (lo hi : ℕ) → ((a : ℕ) (v : Dynamic) → is_asked asked a ≡ true → slice_get (cells_of p) a ≡ Some (kinds.Dyn v) → IsLinear v lo hi)
+    → AreSteadyFor asked p lo hi
+steady_for which.All p lo hi each = λ a v cell. each a v refl cell
+steady_for (which.These indexes) p lo hi each = each
+
 -- where no leg ends past `lo` up to `hi`, one slope moves the value
-linear : (v : Dynamic) (lo hi : ℕ) → v.updatetime ≤ lo → ((t : ℕ) → lo < t → t ≤ hi → turns_at v t ≡ false) → IsLinear v lo hi
+pub linear : (v : Dynamic) (lo hi : ℕ) → v.updatetime ≤ lo → ((t : ℕ) → lo < t → t ≤ hi → turns_at v t ≡ false) → IsLinear v lo hi
 linear v lo hi written none =
     let quiet : (t : ℕ) → t ≤ hi → NoneEnds v.function.firsts (lo - v.updatetime) (t - v.updatetime)
     = λ t by w past up_to.
@@ -182,7 +242,7 @@ linear v lo hi written none =
           ap (λ r. v.value +ℤ r) rises ∙ omega (arith, ints);
     }
 
-module _ (epochs : List Epoch) (p : Epoch) (count at last next first : ℕ) (cut : IsCutting epochs p count at last next first) where
+module _ (asked : Asked) (epochs : List Epoch) (p : Epoch) (count at last next first : ℕ) (cut : IsCutting asked epochs p count at last next first) where
   -- the same epochs have begun at each tick before the next one
   pub begun_at : (t : ℕ) → at ≤ t → t < next → AreBegunUpTo epochs t count
   begun_at t h before =
@@ -196,15 +256,15 @@ module _ (epochs : List Epoch) (p : Epoch) (count at last next first : ℕ) (cut
       let is : get_or epochs (count - 1) p ≡ p = get_or_from_slice_get epochs (count - 1) p p cut.is in
       omega (arith, (opened epochs at count cut.begun).begun (count - 1) p (omega (arith, cut.some)), ap (λ q. q.from) is)
 
-  changes_in : (t : ℕ) → at ≤ t → t < next → is_cut epochs t ≡ changes_at t p
-  changes_in t h before = ap (λ q. option_map_or (changes_at t) q false) (epoch_in t h before)
+  changes_in : (t : ℕ) → at ≤ t → t < next → is_cut_for asked epochs t ≡ changes_for asked t p
+  changes_in t h before = ap (λ q. option_map_or (changes_for asked t) q false) (epoch_in t h before)
 
-  not_cut : (t : ℕ) → at < t → t < first → is_cut epochs t ≡ false
+  not_cut : (t : ℕ) → at < t → t < first → is_cut_for asked epochs t ≡ false
   not_cut t past before =
       changes_in t (omega arith) (omega (arith, cut.turn.within)) ∙ grind (arith, nat_tests, begins_before, cut.turn.none t past before)
 
   -- the next epoch begins
-  cut_next : first ≡ next → (count < length epochs) × IfSome (slice_get epochs count) (λ q. q.from ≡ next) → is_cut epochs first ≡ true
+  cut_next : first ≡ next → (count < length epochs) × IfSome (slice_get epochs count) (λ q. q.from ≡ next) → is_cut_for asked epochs first ≡ true
   cut_next same begins =
       let each = at_each (λ q. q.from ≡ next) epochs count begins.1 begins.0 in
       let here : slice_get epochs (count + 1 - 1) ≡ Some (get_or epochs count p)
@@ -212,27 +272,27 @@ module _ (epochs : List Epoch) (p : Epoch) (count at last next first : ℕ) (cut
       let split : AreBegunUpTo epochs first (count + 1) = AreBegunUpTo-next epochs at first count cut.rising begins.0 (λ d. each d ∙ sym same) cut.begun in
       let now : epoch_at epochs first ≡ Some (get_or epochs count p) = in_force epochs (get_or epochs count p) first (count + 1) (omega arith) split here in
       let begun : (get_or epochs count p).from ≡ first = each p ∙ sym same in
-      ap (λ q. option_map_or (changes_at first) q false) now ∙ grind (arith, nat_tests, begun)
+      ap (λ q. option_map_or (changes_for asked first) q false) now ∙ grind (arith, nat_tests, begun)
 
-  ends : (first == last + 1 || is_cut epochs first) ≡ true
+  ends : (first == last + 1 || is_cut_for asked epochs first) ≡ true
   ends =
       elim (cases_lt first next) [
         | inl before ↦
-            let turns : list_any (cell_turns first) (cells_of p) ≡ true = grind (arith, nat_tests, cut.turn.some) in
-            let is : is_cut epochs first ≡ true = changes_in first (omega (arith, cut.turn.past)) before ∙ grind (arith, turns) in
+            let turns : legs_end asked first (cells_of p) ≡ true = grind (arith, nat_tests, cut.turn.some) in
+            let is : is_cut_for asked epochs first ≡ true = changes_in first (omega (arith, cut.turn.past)) before ∙ grind (arith, turns) in
             grind (arith, is)
         | inr past ↦
             let same : first ≡ next = omega (arith, cut.turn.within) in
             elim cut.reached [
               | inl at_end ↦ grind (arith, nat_tests)
-              | inr begins ↦ let is : is_cut epochs first ≡ true = cut_next same begins in grind (arith, is)
+              | inr begins ↦ let is : is_cut_for asked epochs first ≡ true = cut_next same begins in grind (arith, is)
             ]
       ]
 
-  pub piece_is : (piece : Piece) → piece.span.lo ≡ at → piece.span.hi + 1 ≡ first → piece.epoch ≡ count - 1 → IsPiece epochs at last piece
+  pub piece_is : (piece : Piece) → piece.span.lo ≡ at → piece.span.hi + 1 ≡ first → piece.epoch ≡ count - 1 → IsPieceFor asked epochs at last piece
   piece_is piece lo hi epoch =
       let back : (piece.span.hi == last) ≡ (first == last + 1) = grind (arith, nat_tests) in
-      let next_is : is_cut epochs (piece.span.hi + 1) ≡ is_cut epochs first = ap (is_cut epochs) hi in
+      let next_is : is_cut_for asked epochs (piece.span.hi + 1) ≡ is_cut_for asked epochs first = ap (is_cut_for asked epochs) hi in
       record {
         begins = lo;
         within = omega (arith, cut.turn.within, cut.within);
@@ -241,16 +301,17 @@ module _ (epochs : List Epoch) (p : Epoch) (count at last next first : ℕ) (cut
         ends = grind (arith, back, next_is, ends);
       }
 
-  pub steady_is : (piece : Piece) → AreCellsAt (cells_of p) p.from → piece.span.lo ≡ at → piece.span.hi + 1 ≡ first → piece.epoch ≡ count - 1 → IsSteady epochs piece
+  pub steady_is : (piece : Piece) → AreCellsAt (cells_of p) p.from → piece.span.lo ≡ at → piece.span.hi + 1 ≡ first → piece.epoch ≡ count - 1 → IsSteadyFor asked epochs piece
   steady_is piece written lo hi epoch = record {
     within = omega (arith, cut.some, cut.begun.within);
     in_force = λ t from up_to. epoch_in t (omega arith) (omega (arith, cut.turn.within)) ∙ sym cut.is ∙ ap (slice_get epochs) (sym epoch);
-    linear = λ q a v is cell.
-        let same : q ≡ p = let at_index : slice_get epochs (count - 1) ≡ Some q = ap (slice_get epochs) (sym epoch) ∙ is in grind (arith, cut.is) in
-        let here : slice_get (cells_of p) a ≡ Some (kinds.Dyn v) = ap (λ r. slice_get (cells_of r) a) (sym same) ∙ cell in
-        let by_then : v.updatetime ≤ p.from = written_dynamic (cells_of p) a p.from v written here in
+    linear = λ q is.
+        let same : p ≡ q = let at_index : slice_get epochs (count - 1) ≡ Some q = ap (slice_get epochs) (sym epoch) ∙ is in grind (arith, cut.is) in
+        subst (λ r. AreSteadyFor asked r piece.span.lo piece.span.hi) same
+        (steady_for asked p piece.span.lo piece.span.hi (λ a v asks cell.
+        let by_then : v.updatetime ≤ p.from = written_dynamic (cells_of p) a p.from v written cell in
         linear v piece.span.lo piece.span.hi (omega (arith, begins_before))
-        (λ t past up_to. none_turns (cells_of p) a t (kinds.Dyn v) (cut.turn.none t (omega arith) (omega arith)) here);
+        (λ t past up_to. asked_turns asked (cells_of p) a t v (cut.turn.none t (omega arith) (omega arith)) asks cell)));
   }
 
 -- pieces without a gap from tick `from` to the tick before `at`

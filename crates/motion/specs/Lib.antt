@@ -5,3 +5,4 @@ pub mod Cells
 pub mod Timeline
 pub mod Straight
 pub mod Pieces
+pub mod Range

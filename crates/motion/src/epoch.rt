@@ -13,7 +13,7 @@ use tick_set::LAST_TICK;
 
 /// What an object has from a tick on, until it is written again: one cell for each of its attributes,
 /// or nothing where it is absent. It is written once for all writes of its first tick.
-#[derive(Debug, Drop)]
+#[derive(Drop)]
 pub struct Epoch {
     from: u32,
     present: bool,

@@ -8,6 +8,7 @@
 //! stays. Its pieces are the ticks in which each dynamic attribute moves by one slope.
 #![tactic(auto)]
 
+mod asked;
 mod cell;
 mod change;
 mod epoch;
@@ -15,10 +16,12 @@ mod laws;
 mod legs;
 mod limits;
 mod pieces;
+mod range;
 mod straight;
 mod timeline;
 mod vector;
 
+pub use asked::Asked;
 pub use cell::{AttrKind, Cell, Given, NamedSet, Place};
 pub use change::write_cells;
 pub use epoch::Epoch;

@@ -1,11 +1,13 @@
 //! Pieces: the parts of a window in which each dynamic attribute of an object moves by one slope.
-ghost use Rattle.std.specs.Prelude.{◌≡◌, ◌≤◌, ◌<◌, ◌+◌, ◌⊎◌, All, IfOk, IfSome, length, slice_get};
+ghost use Rattle.std.specs.Prelude.{◌≡◌, ℕ, ◌≤◌, ◌<◌, ◌+◌, ◌⊎◌, false, All, IfOk, IfSome, length, slice_get};
 ghost use Rattle.std.specs.List.{list_any};
+ghost use Rattle.std.specs.Option.{option_copied, option_map_or};
 ghost use Rattle.tick_set.specs.declared.spans.TheConstants.{LAST_TICK};
 ghost use Rattle.motion.specs.Cells.{AreCellsAt, IsCellAt, cell_turns};
 ghost use Rattle.motion.specs.Timeline.{Epoch, AreBegunUpTo, IsRising};
-ghost use Rattle.motion.specs.Pieces.{ArePieces, ArePiecesFrom, IsFirstOrEnd, IsPiece, IsSteady};
+ghost use Rattle.motion.specs.Pieces.{legs_end, ArePieces, ArePiecesFrom, IsFirstOrEnd, IsPieceFor, IsSteady, IsSteadyFor};
 
+use crate::asked::Asked;
 use crate::cell::Cell;
 use crate::epoch::Epoch;
 use std::alloc::{AllocError, Global};
@@ -57,7 +59,7 @@ fn pieces_from(
     let mut at = start;
     let mut count = begun_count(epochs, start);
     'cutting: while at <= last {
-        let piece = piece_from(epochs, count, at, last);
+        let piece = piece_for(Asked::All, epochs, count, at, last);
         made.push(piece)?;
         count = begun_next(epochs, count, piece.span.hi);
         at = piece.span.hi + 1;
@@ -65,19 +67,20 @@ fn pieces_from(
     Ok(made)
 }
 
-/// The piece that begins at tick `at` and ends by `last`. As many epochs as `count` begin by `at`.
-pub fn piece_from(epochs: &[Epoch], count: usize, at: u32, last: u32) -> Piece
+/// The piece of the asked attributes that begins at tick `at` and ends by `last`. As many epochs as `count` begin
+/// by `at`.
+pub fn piece_for(asked: Asked, epochs: &[Epoch], count: usize, at: u32, last: u32) -> Piece
     requires rising { IsRising epochs.now }
     requires some { 0 < count }
     requires begun { AreBegunUpTo epochs.now at count }
     requires order { at ≤ last }
     requires tick { last ≤ LAST_TICK }
-    ensures piece { IsPiece epochs.now at last result }
-    ensures steady { IsSteady epochs.now result }
+    ensures piece { IsPieceFor asked.entry epochs.now at last result }
+    ensures steady { IsSteadyFor asked.entry epochs.now result }
     ensures begun { AreBegunUpTo epochs.now result.span.hi count }
 {
     let epoch = &epochs[count - 1];
-    let first = first_turn(epoch.cells(), at, next_begin(epochs, count, last));
+    let first = first_end(asked, epoch.cells(), at, next_begin(epochs, count, last));
     Piece {
         span: Span {
             lo: at,
@@ -102,7 +105,7 @@ fn next_begin(epochs: &[Epoch], index: usize, last: u32) -> u32
 }
 
 /// How many epochs begin by the tick past `t`, where as many as `count` begin by `t`.
-fn begun_next(epochs: &[Epoch], count: usize, t: u32) -> usize
+pub fn begun_next(epochs: &[Epoch], count: usize, t: u32) -> usize
     requires rising { IsRising epochs.now }
     requires begun { AreBegunUpTo epochs.now t count }
     requires tick { t ≤ LAST_TICK }
@@ -112,6 +115,55 @@ fn begun_next(epochs: &[Epoch], count: usize, t: u32) -> usize
     match epochs.get(count) {
         Some(next) => count + usize::from(next.from() == t + 1),
         None => count,
+    }
+}
+
+/// The first tick past `at` and before `end` at which a leg of an asked cell ends, else `end`.
+fn first_end(asked: Asked, cells: &[Cell], at: u32, end: u32) -> u32
+    requires written { AreCellsAt cells.now at }
+    requires tick { at ≤ LAST_TICK }
+    requires order { at < end }
+    ensures { IsFirstOrEnd (λ t. legs_end asked.entry t cells.now) at end result }
+{
+    match asked {
+        Asked::All => first_turn(cells, at, end),
+        Asked::These(indexes) => first_turn_among(indexes, cells, at, end),
+    }
+}
+
+/// The same of the cells of these indexes.
+fn first_turn_among(indexes: &[u8], cells: &[Cell], at: u32, end: u32) -> u32
+    requires written { AreCellsAt cells.now at }
+    requires tick { at ≤ LAST_TICK }
+    requires order { at < end }
+    ensures { IsFirstOrEnd
+        (λ t. list_any (λ index. option_map_or (cell_turns t) (slice_get cells.now index) false) indexes.now) at end result }
+{
+    let mut first = end;
+    for index in indexes {
+        first = turn_if_any(cell_at(cells, *index), at, first);
+    }
+    first
+}
+
+/// The cell of an index, counted from 0.
+fn cell_at(cells: &[Cell], index: u8) -> Option<&Cell>
+    ensures value { option_copied result ≡ slice_get cells.now index }
+    ensures written { (at : ℕ) → AreCellsAt cells.now at → IfSome result (λ cell. IsCellAt cell.now at) }
+{
+    cells.get(usize::from(index))
+}
+
+/// The first tick past `at` and before `end` at which a leg of this cell ends, if there is one, else `end`.
+fn turn_if_any(cell: Option<&Cell>, at: u32, end: u32) -> u32
+    requires written { IfSome cell (λ c. IsCellAt c.now at) }
+    requires tick { at ≤ LAST_TICK }
+    requires order { at < end }
+    ensures { IsFirstOrEnd (λ t. option_map_or (cell_turns t) (option_copied cell.entry) false) at end result }
+{
+    match cell {
+        Some(cell) => turn(cell, at, end),
+        None => end,
     }
 }
 
@@ -137,7 +189,7 @@ fn turn(cell: &Cell, at: u32, end: u32) -> u32
     ensures { IsFirstOrEnd (λ t. cell_turns t cell.now) at end result }
 {
     match cell {
-        Cell::Dyn(vector) => vector.next_end(at).map_or(end, |tick| tick.min(end)),
+        Cell::Dyn(vector) => vector.turn_before(at, end),
         _ => end,
     }
 }

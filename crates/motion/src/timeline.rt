@@ -5,13 +5,14 @@ ghost use Rattle.std.specs.Option.{option_copied, option_map};
 ghost use Rattle.tick_set.specs.declared.spans.TheConstants.{LAST_TICK};
 ghost use Rattle.tick_set.specs.Ticks.{within};
 ghost use Rattle.motion.specs.Cells.{AreCellsAt, AreChanges, changed};
-ghost use Rattle.motion.specs.Timeline.{Epoch, put, epoch_at, state_at, restored, AreBegunBy, IsRising, IsEpoch, StandsAsLeft, TakesBack};
+ghost use Rattle.motion.specs.Timeline.{Epoch, put, epoch_at, state_at, restored, AreBegunBy, AreBegunUpTo, IsRising, IsEpoch, StandsAsLeft, TakesBack};
 ghost use Rattle.motion.specs.Straight.{IsStraightOf, tells_line};
-ghost use Rattle.motion.specs.Pieces.{ArePieces, IsPiece, IsSteady, pieces_have};
+ghost use Rattle.motion.specs.Pieces.{ArePieces, IsPiece, IsPieceFor, IsSteady, IsSteadyFor, pieces_have};
 
+use crate::asked::Asked;
 use crate::cell::{Cell, Given};
 use crate::epoch::Epoch;
-use crate::pieces::{Piece, begun_count, piece_from, pieces};
+use crate::pieces::{Piece, begun_count, begun_next, piece_for, pieces};
 use crate::straight::{Straight, straight_of};
 use std::alloc::{AllocError, Global};
 use std::marker::Model;
@@ -20,7 +21,7 @@ use tick_set::{LAST_TICK, Window};
 
 /// The epochs of one object, one for each tick at which it was written. They ascend, and the recorded
 /// past stays: a write changes no state before its tick.
-#[derive(Debug, Drop)]
+#[derive(Drop)]
 pub struct Timeline {
     epochs: Vec<Epoch>,
     // A reader of a place needs no look at the epochs where the last one tells it by one line.
@@ -224,11 +225,46 @@ impl Timeline {
         ensures none { IfNone result (epoch_at self.now at ≡ None) }
         ensures rising { IsRising self.now }
     {
-        let count = begun_count(&self.epochs, at);
+        self.piece_for(Asked::All, self.begun_by(at), at, last)
+    }
+
+    /// How many epochs begin by tick `t`. It takes no memory.
+    pub fn begun_by(&self, t: u32) -> usize
+        ensures begun { AreBegunUpTo self.now t result }
+        ensures rising { IsRising self.now }
+    {
+        begun_count(&self.epochs, t)
+    }
+
+    /// How many epochs begin by the tick past `t`, where as many as `count` begin by `t`: one epoch is looked at.
+    pub fn begun_next(&self, count: usize, t: u32) -> usize
+        requires begun { AreBegunUpTo self.now t count }
+        requires tick { t ≤ LAST_TICK }
+        ensures { AreBegunUpTo self.now (t + 1) result }
+    {
+        begun_next(&self.epochs, count, t)
+    }
+
+    /// The piece of the asked attributes that begins at tick `at` and ends by tick `last`: it ends with the tick before
+    /// one at which an epoch begins or a leg of one of these ends. As many epochs as `count` begin by `at`, so none is
+    /// searched for, and as many begin by the piece's end. None exactly where `at` is before the first epoch, so that none
+    /// has begun. It takes no memory.
+    pub fn piece_for(&self, asked: Asked, count: usize, at: u32, last: u32) -> Option<Piece>
+        requires begun { AreBegunUpTo self.now at count }
+        requires order { at ≤ last }
+        requires tick { last ≤ LAST_TICK }
+        ensures piece { IfSome result (IsPieceFor asked.entry self.now at last) }
+        ensures steady { IfSome result (IsSteadyFor asked.entry self.now) }
+        ensures begun { IfSome result (λ piece. AreBegunUpTo self.now piece.span.hi count) }
+        ensures none { IfNone result (epoch_at self.now at ≡ None) }
+        ensures unbegun { IfNone result (count ≡ 0) }
+        ensures rising { IsRising self.now }
+    {
+        let epochs = self.epochs.as_slice();
         if count == 0 {
             return None;
         }
-        Some(piece_from(&self.epochs, count, at, last))
+        Some(piece_for(asked, epochs, count, at, last))
     }
 }
 

@@ -1,3 +1,5 @@
+pub mod AmongLemmas
+pub mod BoundLemmas
 pub mod EdgeLemmas
 pub mod KeptLemmas
 pub mod NamedLemmas

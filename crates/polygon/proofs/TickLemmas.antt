@@ -8,7 +8,7 @@ use Rattle.case_table.specs.declared.compare.Op.TheVariants.{Ge}
 use Rattle.fixed_point.specs.declared.number.Point.{Point}
 use Rattle.geometry.specs.Plane.{cross, is_right_of}
 use Rattle.geometry.specs.Polygon.{edges_back_to, is_within}
-use Rattle.tick_set.specs.Runs.{IsRuns, spans_have}
+use Rattle.tick_set.specs.Runs.{IsRuns}
 use Rattle.tick_set.specs.Ticks.{within}
 use Rattle.tick_set.specs.declared.spans.Span.{Span}
 use Rattle.tick_set.specs.declared.spans.Window.{Window}

@@ -1,3 +1,4 @@
+pub mod Bounds
 pub mod Faults
 pub mod Given
 pub mod Inside

@@ -3,19 +3,15 @@
 //! walked.
 #![tactic(auto)]
 
+mod bounds;
 mod crossing;
 mod fault;
+mod laws;
 mod named;
 mod shape;
 mod sides;
 
-ghost use Rattle.std.specs.Prelude.{◌≡◌};
-
 pub use fault::PolygonFault;
+pub use laws::{limits_in_numbers, polygons_lie_among_their_vertices};
 pub use named::{REGION_LIMIT, Regions};
 pub use shape::Polygon;
-
-/// The limit, in numbers.
-pub fn limits_in_numbers()
-    ensures regions { REGION_LIMIT ≡ 1024 }
-{}

@@ -2,11 +2,13 @@
 ghost use Rattle.std.specs.Prelude.{◌≡◌, length, slice_get, IfOk, OnOk, IfErr, option_to_list};
 ghost use Rattle.geometry.specs.Polygon.{edges, is_inside, counterclockwise_points};
 ghost use Rattle.tick_set.specs.Runs.{IsRuns};
+ghost use Rattle.polygon.specs.Bounds.{AreBounds};
 ghost use Rattle.polygon.specs.Faults.{Explains, IsPolygon};
 ghost use Rattle.polygon.specs.Given.{given, IsStoredPolygon};
 ghost use Rattle.polygon.specs.Inside.{is_inside_at};
 ghost use Rattle.polygon.specs.declared.fault.PolygonFault.TheVariants.{NoMemory};
 
+use crate::bounds::bounds_of;
 use crate::crossing::ticks_within;
 use crate::fault::PolygonFault;
 use crate::sides::{end_of_edge, is_counterclockwise, is_within};
@@ -19,7 +21,7 @@ use tick_set::{Span, Window};
 
 /// A closed convex polygon. A contract sees it as the list of its points, in the order in which they were
 /// given.
-#[derive(Debug, Drop)]
+#[derive(Drop)]
 pub struct Polygon {
     // In counterclockwise order.
     points: Vec<Point>,
@@ -85,6 +87,13 @@ impl Polygon {
         ensures polygon { IsPolygon self.now }
     {
         self.points.len()
+    }
+
+    /// The least coordinates of its points, and the greatest ones. Each is one of some point.
+    pub fn bounds(&self) -> (Point, Point)
+        ensures { AreBounds self.now result.0 result.1 }
+    {
+        bounds_of(&self.points[0], &self.points[1..])
     }
 
     /// The ticks of the window at which the moving point is inside or on the boundary: one span, None exactly

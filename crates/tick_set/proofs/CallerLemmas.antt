@@ -43,28 +43,39 @@ until_in_same g g' h h' lo hi t guards goals =
     (until_in_goes_over g g' h h' lo hi t guards goals)
     (until_in_goes_over g' g h' h lo hi t (λ u l k. sym (guards u l k)) (λ u l k. sym (goals u l k)))
 
--- ---- an operator at t sees the ticks from t to e
-narrowed : (lo hi from upto : ℕ) (p q : ℕ → Bool) → AgreeIn lo hi p q → lo ≤ from → upto ≤ hi → AgreeIn from upto p q
-narrowed lo hi from upto p q same l k u a b = same u (omega (arith, l, a)) (omega (arith, k, b))
-
-min_most : (n e : ℕ) → min n e ≤ e
-min_most n e = omega arith
-
-pub next_same : (g g' : ℕ → Bool) (e t : ℕ) → AgreeIn t e g g' → next_at g e t ≡ next_at g' e t
-next_same g g' e t same =
+-- ---- a bounded operator at t sees no further than it reaches
+pub next_seen : (g g' : ℕ → Bool) (e t : ℕ) → AgreeIn t (min (t + 1) e) g g' → next_at g e t ≡ next_at g' e t
+next_seen g g' e t same =
     elim (cases_lt t e) [
       | inl below ↦ ap (λ b. ltb t e && b) (same (t + 1) (omega arith) (omega (arith, below)))
       | inr past ↦ grind (arith, nat_tests)
     ]
 
+pub until_within_seen : (c : ℕ) (g g' h h' : ℕ → Bool) (e t : ℕ) → AgreeIn t (min (t + c) e) g g' → AgreeIn t (min (t + c) e) h h'
+    → until_within_at c g h e t ≡ until_within_at c g' h' e t
+until_within_seen c g g' h h' e t guards goals = until_in_same g g' h h' t (min (t + c) e) t guards goals
+
+pub eventually_within_seen : (c : ℕ) (g g' : ℕ → Bool) (e t : ℕ) → AgreeIn t (min (t + c) e) g g' → eventually_within_at c g e t ≡ eventually_within_at c g' e t
+eventually_within_seen c g g' e t same = some_in_same g g' t (min (t + c) e) same
+
+pub always_for_seen : (c : ℕ) (g g' : ℕ → Bool) (e t : ℕ) → AgreeIn t (min (t + c) e) g g' → always_for_at c g e t ≡ always_for_at c g' e t
+always_for_seen c g g' e t same = all_in_same g g' t (min (t + c) e) same
+
+-- ---- an operator at t sees the ticks from t to e
+narrowed : (lo hi from upto : ℕ) (p q : ℕ → Bool) → AgreeIn lo hi p q → lo ≤ from → upto ≤ hi → AgreeIn from upto p q
+narrowed lo hi from upto p q same l k u a b = same u (omega (arith, l, a)) (omega (arith, k, b))
+
+up_to : (n e t : ℕ) (p q : ℕ → Bool) → AgreeIn t e p q → AgreeIn t (min n e) p q
+up_to n e t p q same = narrowed t e t (min n e) p q same (omega arith) (omega arith)
+
+pub next_same : (g g' : ℕ → Bool) (e t : ℕ) → AgreeIn t e g g' → next_at g e t ≡ next_at g' e t
+next_same g g' e t same = next_seen g g' e t (up_to (t + 1) e t g g' same)
+
 pub until_same : (g g' h h' : ℕ → Bool) (e t : ℕ) → AgreeIn t e g g' → AgreeIn t e h h' → until_at g h e t ≡ until_at g' h' e t
 until_same g g' h h' e t guards goals = until_in_same g g' h h' t e t guards goals
 
 pub until_within_same : (c : ℕ) (g g' h h' : ℕ → Bool) (e t : ℕ) → AgreeIn t e g g' → AgreeIn t e h h' → until_within_at c g h e t ≡ until_within_at c g' h' e t
-until_within_same c g g' h h' e t guards goals =
-    until_in_same g g' h h' t (min (t + c) e) t
-    (narrowed t e t (min (t + c) e) g g' guards (omega arith) (min_most (t + c) e))
-    (narrowed t e t (min (t + c) e) h h' goals (omega arith) (min_most (t + c) e))
+until_within_same c g g' h h' e t guards goals = until_within_seen c g g' h h' e t (up_to (t + c) e t g g' guards) (up_to (t + c) e t h h' goals)
 
 pub until_after_same : (c : ℕ) (g g' h h' : ℕ → Bool) (e t : ℕ) → AgreeIn t e g g' → AgreeIn t e h h' → until_after_at c g h e t ≡ until_after_at c g' h' e t
 until_after_same c g g' h h' e t guards goals =
@@ -74,8 +85,7 @@ pub eventually_same : (g g' : ℕ → Bool) (e t : ℕ) → AgreeIn t e g g' →
 eventually_same g g' e t same = some_in_same g g' t e same
 
 pub eventually_within_same : (c : ℕ) (g g' : ℕ → Bool) (e t : ℕ) → AgreeIn t e g g' → eventually_within_at c g e t ≡ eventually_within_at c g' e t
-eventually_within_same c g g' e t same =
-    some_in_same g g' t (min (t + c) e) (narrowed t e t (min (t + c) e) g g' same (omega arith) (min_most (t + c) e))
+eventually_within_same c g g' e t same = eventually_within_seen c g g' e t (up_to (t + c) e t g g' same)
 
 pub eventually_after_same : (c : ℕ) (g g' : ℕ → Bool) (e t : ℕ) → AgreeIn t e g g' → eventually_after_at c g e t ≡ eventually_after_at c g' e t
 eventually_after_same c g g' e t same = some_in_same g g' (t + c) e (narrowed t e (t + c) e g g' same (omega arith) (omega arith))
@@ -84,8 +94,7 @@ pub always_same : (g g' : ℕ → Bool) (e t : ℕ) → AgreeIn t e g g' → alw
 always_same g g' e t same = all_in_same g g' t e same
 
 pub always_for_same : (c : ℕ) (g g' : ℕ → Bool) (e t : ℕ) → AgreeIn t e g g' → always_for_at c g e t ≡ always_for_at c g' e t
-always_for_same c g g' e t same =
-    all_in_same g g' t (min (t + c) e) (narrowed t e t (min (t + c) e) g g' same (omega arith) (min_most (t + c) e))
+always_for_same c g g' e t same = always_for_seen c g g' e t (up_to (t + c) e t g g' same)
 
 -- ---- what the tests over a range say
 pub some_in_iff : (p : ℕ → Bool) (lo hi : ℕ) → IsTrue (some_in p lo hi) ↔ ((t : ℕ) × (lo ≤ t) × (t ≤ hi) × (p t ≡ true))

@@ -1,6 +1,6 @@
 -- Lists of ticks that ascend.
-use Rattle.std.proofs.Common.{sym, ◌≡◌, ℕ, ◌+◌, ◌<◌, ◌≤◌, true, false, refl, ◌&&◌, ◌||◌, eqb, ltb, length, List, [], ◌∷◌, ◌++◌, ap, ◌∙◌, inl, inr, zero, suc, get_or, Result, Ok, Err, is_ok, IsTrue, ◌↔◌, arith}
-use Rattle.std.proofs.lemmas.Bool.{false≢true, or_left, or_right, or_cases, or_from, eqb-true, ne_eqb, cases_eq, cases_lt, cases_order}
+use Rattle.std.proofs.Common.{sym, ◌≡◌, ℕ, ◌+◌, ◌<◌, ◌≤◌, Bool, true, false, refl, ◌&&◌, ◌||◌, eqb, leb, ltb, if◌then◌else◌, length, List, [], ◌∷◌, ◌++◌, ap, ◌∙◌, inl, inr, zero, suc, get_or, Result, Ok, Err, is_ok, IsTrue, ◌↔◌, arith}
+use Rattle.std.proofs.lemmas.Bool.{false≢true, cases_Bool, or_left, or_right, or_cases, or_from, eqb-true, ne_eqb, cases_eq, cases_lt, cases_order}
 use Rattle.std.proofs.lemmas.Bool.Decides.{nat_tests}
 use Rattle.std.proofs.lemmas.Grind.{common_steps}
 use Rattle.std.proofs.lemmas.List.Folds.{list_any-append}
@@ -61,11 +61,11 @@ pub record MergedSoFar (operation : SetOperation) (first second made front behin
   pub apart : (u v : ℕ) → has made u ≡ true → (has front v || has behind v) ≡ true → u < v
   pub ticks : (u : ℕ) → kept operation (has first u) (has second u) ≡ (has made u || kept operation (has front u) (has behind u))
 
--- the ticks of a list that are settled are in made, if they are within lo to hi, and the rest is left
-pub record ClippedSoFar (lo hi : ℕ) (ticks made rest : List ℕ) : Type 0 where
+-- the ticks of a list that are settled are added to old in made, if they are inside, and the rest is left
+pub record PartSoFar (inside : ℕ → Bool) (old ticks made rest : List ℕ) : Type 0 where
   pub ascending : IsAscending rest
-  pub apart : (u v : ℕ) → has made u ≡ true → has rest v ≡ true → u < v
-  pub clipped : (u : ℕ) → (within lo hi u && has ticks u) ≡ (has made u || (within lo hi u && has rest u))
+  pub apart : (u v : ℕ) → has made u ≡ true → has rest v ≡ true → inside v ≡ true → u < v
+  pub all : (u : ℕ) → (has old u || (inside u && has ticks u)) ≡ (has made u || (inside u && has rest u))
 
 -- the ticks of a list that are settled are in spans, and the rest is left
 pub record RunsSoFar (ticks : List ℕ) (spans : List Span) (rest : List ℕ) : Type 0 where
@@ -127,29 +127,88 @@ is_after_first ticks later t e h =
     let begins : IsAscendingFrom t (t ∷ later) = (omega arith, h'.1, h'.2) in
     record { begins = rw e begins; ascending = h'.2; others = λ u. has_behind ticks later t u e (rw e begins) }
 
-module _ (lo hi : ℕ) (ticks made rest later : List ℕ) (t : ℕ) (so_far : ClippedSoFar lo hi ticks made rest) (first : rest ≡ t ∷ later) where
+module _ (inside : ℕ → Bool) (old ticks made rest later : List ℕ) (t : ℕ) (so_far : PartSoFar inside old ticks made rest) (first : rest ≡ t ∷ later) where
   after : IsAfter t rest later
   after = is_after_first rest later t first so_far.ascending
 
-  pub clipped_drops : within lo hi t ≡ false → ClippedSoFar lo hi ticks made later
-  clipped_drops e = record {
+  pub part_drops : inside t ≡ false → PartSoFar inside old ticks made later
+  part_drops e = record {
     ascending = IsAscendingFrom-weaker (t + 1) 0 later (omega arith) after.ascending;
-    apart = λ u v h k. so_far.apart u v h (grind (arith, after.others v));
-    clipped = λ u. so_far.clipped u ∙ elim (cases_eq u t) [
+    apart = λ u v h k i. so_far.apart u v h (grind (arith, after.others v)) i;
+    all = λ u. so_far.all u ∙ elim (cases_eq u t) [
       | inl here ↦ rw here (grind (arith, e))
       | inr other ↦ rw (kept_elsewhere t rest later after u other)
     ];
   }
 
-  pub clipped_keeps : (made' : List ℕ) → ((u : ℕ) → has made' u ≡ (has made u || eqb t u)) → within lo hi t ≡ true → ClippedSoFar lo hi ticks made' later
-  clipped_keeps made' m e = record {
+  pub part_keeps : (made' : List ℕ) → ((u : ℕ) → has made' u ≡ (has made u || eqb t u)) → inside t ≡ true → PartSoFar inside old ticks made' later
+  part_keeps made' m e = record {
     ascending = IsAscendingFrom-weaker (t + 1) 0 later (omega arith) after.ascending;
-    apart = λ u v h k. grind (arith, nat_tests, so_far.apart u v, after.others v, m u);
-    clipped = λ u. so_far.clipped u ∙ elim (cases_eq u t) [
+    apart = λ u v h k i. grind (arith, nat_tests, so_far.apart u v, after.others v, m u);
+    all = λ u. so_far.all u ∙ elim (cases_eq u t) [
       | inl here ↦ rw (here, first) (grind (arith, nat_tests, m t, e))
       | inr other ↦ rw (kept_elsewhere t rest later after u other) (grind (arith, nat_tests, m u))
     ];
   }
+
+-- whether u is from one tick up to another, without that
+abbrev pub in_part : ℕ → ℕ → ℕ → Bool
+in_part from until u = leb from u && ltb u until
+
+pub part_none : (from until : ℕ) (old ticks : List ℕ) → IsAscending ticks → ((u : ℕ) → has old u ≡ true → u < from) → PartSoFar (in_part from until) old ticks old ticks
+part_none from until old ticks h before = record {
+  ascending = h;
+  apart = λ u v e k i. grind (arith, nat_tests, before u e);
+  all = λ u. refl;
+}
+
+-- the ticks of a list before a tick, and those of another from it on
+pub spliced : (first second front made : List ℕ) (at : ℕ) → IsAscending second
+    → ((u : ℕ) → has front u ≡ (has [] u || (in_part 0 at u && has first u))) → ((u : ℕ) → has made u ≡ (has front u || (in_part at 1000000001 u && has second u)))
+    → (t : ℕ) → has made t ≡ if ltb t at then has first t else has second t
+spliced first second front made at h f g t =
+    elim (cases_lt t at) [
+      | inl before ↦ grind (arith, nat_tests, f t, g t)
+      | inr from ↦ elim (cases_Bool (has second t)) [
+        | inl e ↦ let bound = has_in_range second 0 t h e in grind (arith, nat_tests, f t, g t)
+        | inr e ↦ grind (arith, nat_tests, f t, g t)
+      ]
+    ]
+
+-- what two lists share is in what is left of them
+pub record SharedSoFar (first second rest_first rest_second : List ℕ) : Type 0 where
+  pub first_ascends : IsAscending rest_first
+  pub second_ascends : IsAscending rest_second
+  pub shared : (v : ℕ) → (has first v && has second v) ≡ (has rest_first v && has rest_second v)
+
+-- a tick that comes before the first of another list isn't there
+before_first : (t u v : ℕ) (later : List ℕ) → IsAscending (u ∷ later) → t < u → (has (t ∷ []) v && has (u ∷ later) v) ≡ false
+before_first t u v later h l = grind (arith, nat_tests, has_below (u ∷ later) u v (omega arith, h.1, h.2))
+
+module _ (first second rest_first rest_second : List ℕ) (t u : ℕ) (later_first later_second : List ℕ) (so_far : SharedSoFar first second rest_first rest_second)
+    (begins_first : rest_first ≡ t ∷ later_first) (begins_second : rest_second ≡ u ∷ later_second) where
+  pub shared_now : t ≡ u → (v : ℕ) × ((has first v && has second v) ≡ true)
+  shared_now e = (t, so_far.shared t ∙ rw (begins_first, begins_second) (grind (arith, nat_tests)))
+
+  pub shared_past_first : t < u → SharedSoFar first second later_first rest_second
+  shared_past_first l =
+      let here = rw begins_first at so_far.first_ascends in
+      let there = rw begins_second at so_far.second_ascends in
+      record {
+        first_ascends = IsAscendingFrom-weaker (t + 1) 0 later_first (omega arith) here.2;
+        second_ascends = so_far.second_ascends;
+        shared = λ v. so_far.shared v ∙ rw (begins_first, begins_second) (grind (arith, before_first t u v later_second there l));
+      }
+
+  pub shared_past_second : u < t → SharedSoFar first second rest_first later_second
+  shared_past_second l =
+      let here = rw begins_first at so_far.first_ascends in
+      let there = rw begins_second at so_far.second_ascends in
+      record {
+        first_ascends = so_far.first_ascends;
+        second_ascends = IsAscendingFrom-weaker (u + 1) 0 later_second (omega arith) there.2;
+        shared = λ v. so_far.shared v ∙ rw (begins_first, begins_second) (grind (arith, before_first u t v later_first here l));
+      }
 
 module _ (ticks : List ℕ) (spans : List Span) (rest : List ℕ) (s : Span) (after : List ℕ) (so_far : RunsSoFar ticks spans rest)
     (begins : IsAscendingFrom (s.hi + 2) after) (members : (u : ℕ) → has rest u ≡ (within s.lo s.hi u || has after u)) where

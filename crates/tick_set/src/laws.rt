@@ -1,5 +1,5 @@
 //! Laws of ticks, of runs and of the temporal operators, each a call without a body whose contract is the law.
-ghost use Rattle.std.specs.Prelude.{◌≡◌, ◌↔◌, ◌≤◌, ℕ, Bool, true, not, ◌&&◌, List, IsTrue};
+ghost use Rattle.std.specs.Prelude.{◌≡◌, ◌↔◌, ◌≤◌, ◌+◌, min, ℕ, Bool, true, not, ◌&&◌, List, IsTrue};
 ghost use Rattle.tick_set.specs.Operators.{Leads, always_at, always_for_at, eventually_after_at, eventually_at, eventually_within_at, next_at, until_after_at, until_at, until_in, until_within_at};
 ghost use Rattle.tick_set.specs.Runs.{IsRuns, pairs, runs_of};
 ghost use Rattle.tick_set.specs.TickList.{has};
@@ -87,5 +87,19 @@ pub fn operators_see_the_ticks_ahead_alone()
     ensures always { (g g' : ℕ → Bool) (e t : ℕ) → AgreeIn t e g g'
         → always_at g e t ≡ always_at g' e t }
     ensures always_for { (c : ℕ) (g g' : ℕ → Bool) (e t : ℕ) → AgreeIn t e g g'
+        → always_for_at c g e t ≡ always_for_at c g' e t }
+{}
+
+/// At a tick t an operator of a bounded form sees its parts up to so many ticks ahead, if no more than the last
+/// tick e that counts, and nowhere else.
+pub fn bounded_operators_see_so_far_ahead_alone()
+    ensures next { (g g' : ℕ → Bool) (e t : ℕ) → AgreeIn t (min (t + 1) e) g g'
+        → next_at g e t ≡ next_at g' e t }
+    ensures until_within { (c : ℕ) (g g' h h' : ℕ → Bool) (e t : ℕ)
+        → AgreeIn t (min (t + c) e) g g' → AgreeIn t (min (t + c) e) h h'
+        → until_within_at c g h e t ≡ until_within_at c g' h' e t }
+    ensures eventually_within { (c : ℕ) (g g' : ℕ → Bool) (e t : ℕ) → AgreeIn t (min (t + c) e) g g'
+        → eventually_within_at c g e t ≡ eventually_within_at c g' e t }
+    ensures always_for { (c : ℕ) (g g' : ℕ → Bool) (e t : ℕ) → AgreeIn t (min (t + c) e) g g'
         → always_for_at c g e t ≡ always_for_at c g' e t }
 {}

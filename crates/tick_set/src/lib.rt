@@ -13,10 +13,10 @@ mod spans;
 mod tick_list;
 
 pub use laws::{
-    all_in_says_that_each_tick_passes, derived_operators_are_derived, limits_in_numbers,
-    listed_ticks_are_those_that_pass, operators_see_the_ticks_ahead_alone,
-    runs_are_those_of_the_list, same_ticks_have_the_same_runs, some_in_says_that_there_is_a_tick,
-    until_holds_where_a_goal_is_led_to,
+    all_in_says_that_each_tick_passes, bounded_operators_see_so_far_ahead_alone,
+    derived_operators_are_derived, limits_in_numbers, listed_ticks_are_those_that_pass,
+    operators_see_the_ticks_ahead_alone, runs_are_those_of_the_list, same_ticks_have_the_same_runs,
+    some_in_says_that_there_is_a_tick, until_holds_where_a_goal_is_led_to,
 };
 pub use operation::SetOperation;
 pub use runs::Runs;

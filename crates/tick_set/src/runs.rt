@@ -1,5 +1,5 @@
 //! Runs that are built from the first tick to the last.
-ghost use Rattle.std.specs.Prelude.{◌≡◌, ◌+◌, ◌<◌, ◌≤◌, ◌||◌, ℕ, true, [], length, option_to_list, slice_get, IfNone, IfSome, OnErr, OnOk};
+ghost use Rattle.std.specs.Prelude.{◌≡◌, ◌+◌, ◌<◌, ◌≤◌, ◌||◌, ℕ, true, [], length, option_to_list, slice_get, IfNone, IfSome, IfOk, OnErr, OnOk};
 ghost use Rattle.std.specs.Option.{ForSome};
 ghost use Rattle.tick_set.specs.Runs.{IsNormal, spans_have};
 ghost use Rattle.tick_set.specs.Ticks.{within};
@@ -10,7 +10,7 @@ use std::alloc::{AllocError, Global};
 use std::marker::Model;
 
 /// The maximal runs of a set of ticks that grows at its end.
-#[derive(Debug, Drop)]
+#[derive(Drop)]
 pub struct Runs {
     spans: Vec<Span>,
 }
@@ -36,6 +36,16 @@ impl Runs {
         Runs {
             spans: Vec::new(alloc),
         }
+    }
+
+    /// No runs, with memory for `room` of them.
+    #[inline]
+    pub fn with_capacity(alloc: Global, room: usize) -> Result<Runs, AllocError>
+        ensures { IfOk result (λ runs. runs ≡ []) }
+    {
+        Ok(Runs {
+            spans: Vec::with_capacity(alloc, room)?,
+        })
     }
 
     /// Adds the ticks of a run, if there is one, which begins past all ticks that are there. Where no tick

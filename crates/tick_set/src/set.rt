@@ -1,5 +1,6 @@
 //! What a set of ticks is.
-ghost use Rattle.std.specs.Prelude.{◌≡◌, ◌≤◌, ◌↔◌, ℕ, Bool, true, false, not, ◌&&◌, ◌||◌, IsTrue, IfOk};
+ghost use Rattle.std.specs.Prelude.{◌≡◌, ◌≤◌, ◌↔◌, ℕ, Bool, true, false, not, ◌&&◌, ◌||◌, nat_lt, if◌then◌else◌, IsTrue, IsOk, IfOk};
+ghost use Rattle.std.specs.List.{list_any};
 ghost use Rattle.tick_set.specs.Ticks.{within};
 ghost use Rattle.tick_set.specs.Runs.{IsNormal, IsRuns, spans_have};
 
@@ -39,6 +40,13 @@ pub trait TickSet: Drop {
     fn equal(&self, other: &Self) -> bool
         ensures { IsTrue result ↔ ((t : ℕ) → member self.now t ≡ member other.now t) };
 
+    /// Whether both sets have a tick in common. It takes no memory.
+    fn shares_tick(&self, other: &Self) -> bool
+        ensures some { IsTrue result
+            → (t : ℕ) × ((member self.now t && member other.now t) ≡ true) }
+        ensures none { result ≡ false
+            → (t : ℕ) → (member self.now t && member other.now t) ≡ false };
+
     /// The same ticks.
     fn copy(&self, alloc: Global) -> Result<Self, AllocError>
         ensures { IfOk result (λ r. (t : ℕ) → member r t ≡ member self.now t) };
@@ -48,10 +56,17 @@ pub trait TickSet: Drop {
         ensures { IfOk result
             (λ r. (t : ℕ) → member r t ≡ (member self.now t || member other.now t)) };
 
-    /// The ticks of both sets.
-    fn meet(&self, alloc: Global, other: &Self) -> Result<Self, AllocError>
+    /// The ticks of any of the sets.
+    fn union_all(alloc: Global, sets: &[&Self]) -> Result<Self, AllocError>
         ensures { IfOk result
-            (λ r. (t : ℕ) → member r t ≡ (member self.now t && member other.now t)) };
+            (λ r. (t : ℕ) → member r t ≡ list_any (λ s. member s.now t) sets.now) };
+
+    /// The ticks of both sets. It takes no memory where one of them has no tick.
+    fn meet(&self, alloc: Global, other: &Self) -> Result<Self, AllocError>
+        ensures ticks { IfOk result
+            (λ r. (t : ℕ) → member r t ≡ (member self.now t && member other.now t)) }
+        ensures none_here { ((t : ℕ) → member self.now t ≡ false) → IsOk result }
+        ensures none_there { ((t : ℕ) → member other.now t ≡ false) → IsOk result };
 
     /// The ticks of this set that are not in the other.
     fn without(&self, alloc: Global, other: &Self) -> Result<Self, AllocError>
@@ -67,6 +82,11 @@ pub trait TickSet: Drop {
     fn clip(&self, alloc: Global, w: Window) -> Result<Self, AllocError>
         ensures { IfOk result
             (λ r. (t : ℕ) → member r t ≡ (within w.lo w.hi t && member self.now t)) };
+
+    /// The ticks of this set before the tick `at`, and those of the later set from it on.
+    fn splice(&self, alloc: Global, at: u32, later: &Self) -> Result<Self, AllocError>
+        ensures { IfOk result (λ r. (t : ℕ) → member r t
+            ≡ (if nat_lt t at then member self.now t else member later.now t)) };
 
     /// The maximal runs of consecutive ticks, ascending. Sets with the same ticks have the same runs.
     fn runs(&self, alloc: Global) -> Result<Vec<Span>, AllocError>

@@ -1,5 +1,5 @@
 //! The plain set: a list of its ticks.
-ghost use Rattle.std.specs.Prelude.{◌≡◌, ◌≤◌, ◌<◌, ◌+◌, ◌&&◌, ◌||◌, ◌==◌, ◌++◌, [], ◌∷◌, ℕ, true, length, nat_lt, if◌then◌else◌, IfSome, IfNone, IfOk, OnOk, OnErr};
+ghost use Rattle.std.specs.Prelude.{◌≡◌, ◌≤◌, ◌<◌, ◌+◌, ◌&&◌, ◌||◌, ◌==◌, ◌++◌, [], ◌∷◌, ℕ, true, false, length, nat_le, nat_lt, IsTrue, if◌then◌else◌, IfSome, IfNone, IfOk, OnOk, OnErr};
 ghost use Rattle.tick_set.specs.Ticks.{within};
 ghost use Rattle.tick_set.specs.TickList.{has, IsAscending, IsAscendingFrom};
 ghost use Rattle.tick_set.specs.SetOperation.{kept};
@@ -10,7 +10,7 @@ use std::alloc::{AllocError, Global};
 use std::marker::Model;
 
 /// A set of ticks as the ascending list of them.
-#[derive(Debug, Drop)]
+#[derive(Drop)]
 pub struct TickList {
     ticks: Vec<u32>,
 }
@@ -46,6 +46,24 @@ impl TickList {
     {
         for t in s.lo..=s.hi {
             self.push(t)?;
+        }
+        Ok(())
+    }
+
+    // Adds the ticks of an ascending list from `from` up to `until`, without `until`. All that are there are
+    // before `from`.
+    fn push_part(&mut self, ticks: &[u32], from: u32, until: u32) -> Result<(), AllocError>
+        requires ascending { IsAscending ticks.now }
+        requires before { (u : ℕ) → has self.old u ≡ true → u < from }
+        ensures { OnOk result ((u : ℕ) → has self.new u
+            ≡ (has self.old u || (nat_le from u && nat_lt u until && has ticks.now u))) }
+    {
+        let mut rest = ticks;
+        'ticks: while let Some((t, later)) = rest.split_first() {
+            if from <= *t && *t < until {
+                self.push(*t)?;
+            }
+            rest = later;
         }
         Ok(())
     }
@@ -97,6 +115,10 @@ impl TickSet for TickList {
         self.ticks.as_slice() == other.ticks.as_slice()
     }
 
+    fn shares_tick(&self, other: &Self) -> bool {
+        have_shared(&self.ticks, &other.ticks)
+    }
+
     fn copy(&self, alloc: Global) -> Result<Self, AllocError> {
         Ok(TickList {
             ticks: Vec::from_slice(alloc, &self.ticks)?,
@@ -107,7 +129,18 @@ impl TickSet for TickList {
         merged(alloc, SetOperation::Union, &self.ticks, &other.ticks)
     }
 
+    fn union_all(alloc: Global, sets: &[&Self]) -> Result<Self, AllocError> {
+        let mut made = TickList::empty(alloc);
+        for set in sets {
+            made = made.union(alloc, set)?;
+        }
+        Ok(made)
+    }
+
     fn meet(&self, alloc: Global, other: &Self) -> Result<Self, AllocError> {
+        if self.is_empty() || other.is_empty() {
+            return Ok(TickList::empty(alloc));
+        }
         merged(alloc, SetOperation::Meet, &self.ticks, &other.ticks)
     }
 
@@ -121,13 +154,14 @@ impl TickSet for TickList {
 
     fn clip(&self, alloc: Global, w: Window) -> Result<Self, AllocError> {
         let mut made = TickList::empty(alloc);
-        let mut rest = self.ticks.as_slice();
-        while let Some((t, later)) = rest.split_first() {
-            if w.lo <= *t && *t <= w.hi {
-                made.push(*t)?;
-            }
-            rest = later;
-        }
+        made.push_part(&self.ticks, w.lo, w.hi + 1)?;
+        Ok(made)
+    }
+
+    fn splice(&self, alloc: Global, at: u32, later: &Self) -> Result<Self, AllocError> {
+        let mut made = TickList::with_room(alloc, self.ticks.len() + later.ticks.len())?;
+        made.push_part(&self.ticks, 0, at)?;
+        made.push_part(&later.ticks, at, LAST_TICK + 1)?;
         Ok(made)
     }
 
@@ -141,6 +175,31 @@ impl TickSet for TickList {
         }
         Ok(spans)
     }
+}
+
+// Whether two ascending lists have a tick in common.
+fn have_shared(first: &[u32], second: &[u32]) -> bool
+    requires first { IsAscending first.now }
+    requires second { IsAscending second.now }
+    ensures some { IsTrue result → (t : ℕ) × ((has first.now t && has second.now t) ≡ true) }
+    ensures none { result ≡ false → (t : ℕ) → (has first.now t && has second.now t) ≡ false }
+{
+    let mut rest_first = first;
+    let mut rest_second = second;
+    'both: while let (Some((t, later_first)), Some((u, later_second))) = (
+        rest_first.split_first(),
+        rest_second.split_first(),
+    ) {
+        if *t == *u {
+            return true;
+        }
+        if *t < *u {
+            rest_first = later_first;
+        } else {
+            rest_second = later_second;
+        }
+    }
+    false
 }
 
 // The ticks of two ascending lists that the operation keeps.

@@ -17,10 +17,10 @@ pub cutting-preserved : goal.cutting-preserved
 cutting-preserved c = record {
   pieces =
       rw c.in_ok-push.ensures.items
-      (ArePiecesTo-push c.args.epochs.now c.args.start c.args.last c.cutting.made.items c.cutting.at c.piece_from-piece.result c.cutting.invariant.pieces c.piece_from-piece.ensures.piece);
+      (ArePiecesTo-push c.args.epochs.now c.args.start c.args.last c.cutting.made.items c.cutting.at c.piece_for-piece.result c.cutting.invariant.pieces c.piece_for-piece.ensures.piece);
   steady =
       subst (λ pieces. All (IsSteady c.args.epochs.now) pieces) (sym c.in_ok-push.ensures.items)
-      (All-push (IsSteady c.args.epochs.now) c.cutting.made.items c.piece_from-piece.result c.cutting.invariant.steady c.piece_from-piece.ensures.steady);
+      (All-push (IsSteady c.args.epochs.now) c.cutting.made.items c.piece_for-piece.result c.cutting.invariant.steady c.piece_for-piece.ensures.steady);
   begun = c.begun_next-count.ensures.begun;
   some = omega (arith, c.cutting.invariant.some, c.begun_next-count.ensures.more);
 }

@@ -1,0 +1,2 @@
+mod BendLemmas
+pub mod CallerLemmas

@@ -1,0 +1,3 @@
+pub mod Bends
+pub mod Parabola
+pub mod Stretch

@@ -1,0 +1,9 @@
+use Rattle.std.proofs.Common.{◌+◌, length}
+use Rattle.interval_set.proofs.OverlapLemmas.{SharedSoFar}
+use Rattle.interval_set.proofs.overlap.have_shared.Given as goal
+
+abbrev pub invariant-both : goal.invariant-both
+invariant-both l = SharedSoFar l.first l.second l.rest_first l.rest_second
+
+abbrev pub decreases-both : goal.decreases-both
+decreases-both l = length l.rest_first + length l.rest_second

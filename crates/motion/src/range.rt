@@ -1,0 +1,56 @@
+//! The least and the greatest value of a dynamic attribute over ticks.
+ghost use Rattle.std.specs.Prelude.{◌≡◌, ◌≤◌, ◌<◌};
+ghost use Rattle.std.specs.Int.{int_min, int_max};
+ghost use Rattle.tick_set.specs.declared.spans.TheConstants.{LAST_TICK};
+ghost use Rattle.motion.specs.Dynamic.{turns_at};
+ghost use Rattle.motion.specs.Pieces.{IsFirstOrEnd};
+ghost use Rattle.motion.specs.Range.{IsRange};
+
+use crate::vector::Vector;
+use fixed_point::Fix;
+use tick_set::LAST_TICK;
+
+impl Vector {
+    /// The least and the greatest value over the ticks from `lo`, which isn't before the update, to `hi`, in
+    /// thousandths. They are among the values at these two ticks and at those between at which a leg ends.
+    pub fn range(&self, lo: u32, hi: u32) -> (Fix, Fix)
+        requires after { self.now.updatetime ≤ lo }
+        requires order { lo ≤ hi }
+        requires tick { hi ≤ LAST_TICK }
+        ensures { IsRange self.now lo hi result.0 result.1 }
+    {
+        let first = self.at(lo);
+        let mut least = first;
+        let mut greatest = first;
+        let mut at = lo;
+        'legs: while at < hi {
+            at = self.turn_before(at, hi);
+            let value = self.at(at);
+            least = lesser(least, value);
+            greatest = greater(greatest, value);
+        }
+        (least, greatest)
+    }
+
+    /// The first tick past `at`, which isn't before the update, and before `end` at which a leg ends, else `end`.
+    pub(crate) fn turn_before(&self, at: u32, end: u32) -> u32
+        requires after { self.now.updatetime ≤ at }
+        requires tick { at ≤ LAST_TICK }
+        requires order { at < end }
+        ensures { IsFirstOrEnd (turns_at self.now) at end result }
+    {
+        self.next_end(at).map_or(end, |tick| tick.min(end))
+    }
+}
+
+fn lesser(a: Fix, b: Fix) -> Fix
+    ensures { result ≡ int_min a b }
+{
+    if b < a { b } else { a }
+}
+
+fn greater(a: Fix, b: Fix) -> Fix
+    ensures { result ≡ int_max a b }
+{
+    if a < b { b } else { a }
+}
