@@ -11,8 +11,7 @@ use Rattle.formula.specs.declared.tree.RTerm.{RTerm}
 use Rattle.formula.specs.declared.tree.RUnit.{RUnit}
 use Rattle.formula.specs.declared.tree.RUnit.TheVariants as units
 use Rattle.formula.specs.Bounds.{term_bound}
-use Rattle.formula.specs.Resolved.{any_scope, are_distinct, is_atom, is_formula, is_term, no_scope}
-use Rattle.formula.specs.Sizes.{objects, factors}
+use Rattle.formula.specs.Resolved.{are_distinct, is_atom, is_formula, is_term, no_scope, with_bound}
 use Rattle.formula.specs.Tree.{ResolvedTree}
 use Rattle.formula.specs.Variables.{has_variable, variables_of}
 
@@ -69,9 +68,6 @@ pub record HasSizes : Type 0 where
   pub depth_is : depth sample ≡ 5
   pub nesting_is : nesting sample ≡ 1
   pub not_is_there : has_not sample ≡ true
-  pub objects_are : objects sample ≡ 3
-  pub factors_are : factors sample ≡ 2
-  pub factors_of_an_assignment : factors (Shape.Assign (0, left) (Shape.Truth true)) ≡ 2
 
 abbrev pub compared : ResolvedTree
 compared = Shape.Atom (atoms.Compare left ops.Le right)
@@ -88,7 +84,7 @@ pub record IsRightByNumber : Type 0 where
   pub a_variable_past_the_last : is_formula 3 0 no_scope sample ≡ false
   pub at_another_depth : is_formula 4 1 no_scope sample ≡ false
   pub out_of_scope : is_formula 4 0 no_scope compared ≡ false
-  pub atom_alone : is_atom 4 any_scope (atoms.Compare left ops.Le right) ≡ true
+  pub atom_alone : is_atom 4 (with_bound no_scope 0 1000000000) (atoms.Compare left ops.Le right) ≡ true
   pub with_another_bound : is_formula 4 0 no_scope (Shape.Assign (0, right) compared) ≡ false
   pub a_third_assignment :
       is_formula 1 0 no_scope

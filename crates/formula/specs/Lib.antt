@@ -1,8 +1,8 @@
 pub mod Bounds
 pub mod Example
 pub mod Forms
+pub mod Reach
 pub mod Resolved
-pub mod Sizes
 pub mod Tree
 pub mod Value
 pub mod Variables

@@ -31,10 +31,6 @@ no_scope d bound = false
 abbrev pub with_bound : Scope → ℕ → ℕ → ℕ → ℤ → Bool
 with_bound scope d bound e beside = if e == d then int_eq beside (pos bound) else scope e beside
 
--- where it isn't told what is bound: each depth that there is, with any bound from 0 to 10^18
-abbrev pub any_scope : ℕ → ℤ → Bool
-any_scope d bound = nat_lt d NESTING_LIMIT && int_le (pos 0) bound && int_le bound (pos FIX_LIMIT)
-
 -- at least one, and at most so many
 abbrev pub is_list_of : {A : Type 0} → ℕ → List A → Bool
 is_list_of limit xs = nat_lt 0 (length xs) && nat_le (length xs) limit
@@ -97,7 +93,7 @@ abbrev pub are_distinct : List ℕ → Bool
 are_distinct [] = true
 are_distinct (x ∷ xs) = not (list_any (λ y. y == x) xs) && are_distinct xs
 
--- 1 to 4 variables and as many different targets among them, with a formula of these variables within the limits
+-- 1 to 4 variables, and 1 to 4 different targets among them, with a formula of these variables within the limits
 pub record IsResolved (q : ResolvedQuery) : Type 0 where
   pub variables : IsTrue (is_list_of OBJECT_LIMIT q.classes)
   pub targets : IsTrue (is_list_of OBJECT_LIMIT q.targets && list_all (λ v. nat_lt v (length q.classes)) q.targets)

@@ -10,7 +10,7 @@ use fixed_point::{BoundForm, Fix, Items, SubName, UntilForm, Word};
 pub type ClassNo = u32;
 
 /// `RETRIEVE targets FROM classes WHERE formula`; each object variable ranges over the objects of its class.
-#[derive(Debug, Drop)]
+#[derive(Drop)]
 pub struct RQuery {
     pub targets: Items<u8>,
     pub classes: Items<ClassNo>,
@@ -18,7 +18,7 @@ pub struct RQuery {
 }
 
 /// What is judged at a tick.
-#[derive(Debug, Drop)]
+#[derive(Drop)]
 pub enum RFormula {
     /// TRUE or FALSE.
     Truth(bool),
@@ -39,7 +39,7 @@ pub enum RFormula {
 }
 
 /// A formula without parts that are formulas.
-#[derive(Debug, Drop)]
+#[derive(Drop)]
 pub enum RAtom {
     Compare(RTerm, Op, RTerm),
     /// A variable in a region.
@@ -53,13 +53,13 @@ pub enum RAtom {
 }
 
 /// A sum of factors.
-#[derive(Debug, Drop)]
+#[derive(Drop)]
 pub struct RTerm {
     pub factors: Items<RSigned>,
 }
 
 /// A factor, taken away where `minus` holds, and taken so many times where there is a multiplier.
-#[derive(Clone, Copy, Debug)]
+#[derive(Clone, Copy)]
 pub struct RSigned {
     pub minus: bool,
     pub times: Option<u32>,
@@ -67,7 +67,7 @@ pub struct RSigned {
 }
 
 /// What a factor is made of. A bound is the largest size that a value has, in thousandths, and 0 for a text.
-#[derive(Clone, Copy, Debug)]
+#[derive(Clone, Copy)]
 pub enum RUnit {
     Literal(Fix),
     Text(Word),

@@ -13,9 +13,12 @@ use Rattle.tick_set.specs.Ticks.{listed, within}
 use Rattle.tick_set.proofs.CallerLemmas.{has_listed}
 use Rattle.history.specs.Catalog.{ids_of}
 use Rattle.history.specs.World.{World}
+use Rattle.formula.specs.declared.kind.QueryKind.{QueryKind}
+use Rattle.formula.specs.declared.kind.QueryKind.TheVariants.{Keep, Watch}
 use Rattle.formula.specs.Tree.{ResolvedQuery}
 use Rattle.meaning.specs.Answer.{Row, answer, full_rows, has_ticks, row_where, rows_have, rows_where, runs_have}
 use Rattle.meaning.specs.Binding.{bindings, holds_full, holds_target, product, tuple_of, tuples}
+use Rattle.meaning.specs.Registered.{RegisteredQuery, first_tick, registered_answer}
 
 -- ---- the ticks of runs
 
@@ -230,3 +233,17 @@ answer_of_kept w q targets entry from e upto key t =
     ∙ full_rows_have w q from e test t
     ∙ within_later entry from e t some upto
     ∙ ap (λ b. nat_le from t && b) (sym (full_rows_have w q entry e test t))
+
+first_tick_later : (kind : QueryKind) (entry n m : ℕ) → n ≤ m → first_tick kind entry n ≤ first_tick kind entry m
+first_tick_later Watch entry n m later = later
+first_tick_later Keep entry n m later = omega arith
+
+-- what a query that stays answers later is what is left of what it answered
+pub answer_is_left : (w : World) (r : RegisteredQuery) → HasTargets r.query → (n m : ℕ) → n ≤ m → (key : List ℕ) (t : ℕ) →
+    rows_have (registered_answer w r m) (λ k. bytes_eq k key) t
+    ≡ (nat_le (first_tick r.kind r.entry m) t && rows_have (registered_answer w r n) (λ k. bytes_eq k key) t)
+answer_is_left w r targets n m later key t =
+    let first = first_tick r.kind r.entry n in
+    let from = first_tick r.kind r.entry m in
+    answer_of_kept w r.query targets first from r.expiry (first_tick_later r.kind r.entry n m later) key t
+    ∙ ap (λ b. nat_le from t && b) (sym (answer_is_union w r.query targets first r.expiry key t))

@@ -18,9 +18,8 @@ use Rattle.formula.specs.Bounds.{sub_bound}
 use Rattle.formula.specs.declared.limits.TheConstants.{DYNAMIC_BOUND}
 use Rattle.formula.specs.declared.value.Value.{Value}
 use Rattle.formula.specs.declared.value.Value.TheVariants as values
-use Rattle.meaning.specs.Fits.{attribute_bound}
 use Rattle.meaning.specs.Reachable.{is_reachable, is_reached, is_slope, is_slow, kind_of}
-use Rattle.meaning.specs.Value.{cell_value, part_at}
+use Rattle.meaning.specs.Value.{attribute_bound, cell_value, part_at}
 
 abbrev is_text : Value → Bool
 is_text (values.Num n) = false

@@ -1,11 +1,14 @@
 pub mod AbsenceLemmas
+pub mod AheadLemmas
 pub mod AnswerLemmas
 pub mod BindingLemmas
 pub mod BoundLemmas
 pub mod GrowthLemmas
 pub mod LocalityLemmas
 pub mod MoreLemmas
+pub mod NeedLemmas
 pub mod QueryLemmas
 pub mod ReachLemmas
+pub mod ReadsLemmas
 pub mod StateLemmas
 pub mod TermLemmas

@@ -36,10 +36,10 @@ use Rattle.meaning.specs.Agreement.{Agree, SameStates}
 
 -- ---- interpretations that agree
 
-same_both : (a a' b b' : Bool) → a ≡ a' → b ≡ b' → (a && b) ≡ (a' && b')
+pub same_both : (a a' b b' : Bool) → a ≡ a' → b ≡ b' → (a && b) ≡ (a' && b')
 same_both a a' b b' e f = ap (λ c. c && b) e ∙ ap (λ c. a' && c) f
 
-same_either : (a a' b b' : Bool) → a ≡ a' → b ≡ b' → (a || b) ≡ (a' || b')
+pub same_either : (a a' b b' : Bool) → a ≡ a' → b ≡ b' → (a || b) ≡ (a' || b')
 same_either a a' b b' e f = ap (λ c. c || b) e ∙ ap (λ c. a' || c) f
 
 ahead : (lo hi e t : ℕ) (p q : ℕ → Bool) → AgreeIn lo hi p q → e ≤ hi → lo ≤ t → AgreeIn t e p q
@@ -61,7 +61,7 @@ tests_same : (o : Option Value) (p q : Value → Bool) → ((v : Value) → p v 
 tests_same None p q same = refl
 tests_same (Some v) p q same = same v
 
-bound_same : (o o' : Option Value) (p q : Value → Bool) → o ≡ o' → ((v : Value) → p v ≡ q v) →
+pub bound_same : (o o' : Option Value) (p q : Value → Bool) → o ≡ o' → ((v : Value) → p v ≡ q v) →
     option_map_or p o false ≡ option_map_or q o' false
 bound_same o o' p q e same = tests_same o p q same ∙ ap (λ (v : Option Value). option_map_or q v false) e
 

@@ -1,5 +1,5 @@
 -- Bindings of objects that are absent, that stand for two variables, and that a write leaves alone.
-use Rattle.std.proofs.Common.{◌≡◌, ℕ, ◌<◌, ◌≤◌, ℤ, pos, ◌+ℤ◌, ◌-ℤ◌, false, ◌&&◌, Option, None, Some, List, length, refl, sym, ap, ◌∙◌, inl, inr, arith}
+use Rattle.std.proofs.Common.{◌≡◌, ℕ, ◌+◌, ◌<◌, ◌≤◌, min, ℤ, pos, ◌+ℤ◌, ◌-ℤ◌, false, ◌&&◌, Option, None, Some, List, length, refl, sym, ap, ◌∙◌, inl, inr, arith}
 use Rattle.std.specs.Prelude.{◌==◌, is_some}
 use Rattle.std.specs.Option.{option_map_or}
 use Rattle.std.proofs.lemmas.Bool.{both_ways, cases_eq, cases_lt, false_from_ne_true, ne_eqb}
@@ -14,6 +14,7 @@ use Rattle.history.specs.History.{History, ChangesFrom, cells_at}
 use Rattle.history.specs.World.{World}
 use Rattle.formula.specs.declared.tree.RAtom.TheVariants as atoms
 use Rattle.formula.specs.declared.value.Env.{Env}
+use Rattle.formula.specs.Reach.{reach}
 use Rattle.formula.specs.Tree.{ResolvedQuery}
 use Rattle.formula.specs.Value.{no_values}
 use Rattle.meaning.specs.Trace.{trace_of}
@@ -21,7 +22,8 @@ use Rattle.meaning.specs.Atom.{atom_holds, distance_holds, position_in}
 use Rattle.meaning.specs.Satisfaction.{plain, sat}
 use Rattle.meaning.specs.Agreement.{SameStates, SeesItsClasses, world_with}
 use Rattle.meaning.specs.Binding.{are_present, holds_full}
-use Rattle.meaning.proofs.LocalityLemmas.{sees_its_variables}
+use Rattle.meaning.proofs.AheadLemmas.{seen_so_far}
+use Rattle.meaning.proofs.LocalityLemmas.{sees_its_variables, states_agree}
 
 -- ---- absent objects
 
@@ -115,3 +117,16 @@ past_stays_with_the_future id now old new changes regions q sees b e later t to 
       | inl before ↦ past_of_each id now old new changes (b v) u before
       | inr after ↦ later v within u after upto
     ]) t (omega arith) to
+
+-- what is further back than the formula's reach stays
+pub past_stays_beyond_the_reach : (id now : ℕ) (old new : History) → ChangesFrom id now old new → (regions : List Region) (q : ResolvedQuery) → SeesItsClasses q →
+    (n : ℕ) → reach q.formula ≡ Some n → (b : ℕ → ℕ) (e t : ℕ) → t ≤ e → t + n < now →
+    holds_full (world_with old regions) q e b t ≡ holds_full (world_with new regions) q e b t
+past_stays_beyond_the_reach id now old new changes regions q sees n is b e t to before =
+    let states : SameStates (trace_of old b) (trace_of new b) t (min (t + n) e) q.formula =
+    λ v has u from upto. past_of_each id now old new changes (b v) u (omega (arith, upto, before)) in
+    ap (λ present. present && sat (plain regions (trace_of old b)) q.formula no_values e t)
+    (same_present old new regions q b t (λ v within. past_of_each id now old new changes (b v) t (omega (arith, before))))
+    ∙ ap (λ holds. are_present (world_with new regions) q b t && holds)
+    (seen_so_far (plain regions (trace_of old b)) (plain regions (trace_of new b)) q.formula n is e t to
+    (states_agree regions (trace_of old b) (trace_of new b) t (min (t + n) e) q.formula states) no_values)

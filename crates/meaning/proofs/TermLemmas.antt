@@ -26,10 +26,10 @@ use Rattle.formula.specs.declared.value.Value.{Value}
 use Rattle.formula.specs.declared.value.Value.TheVariants as values
 use Rattle.formula.specs.declared.value.ValueKind.{ValueKind}
 use Rattle.formula.specs.declared.value.ValueKind.TheVariants.{Number, Text}
-use Rattle.meaning.specs.Fits.{attribute_bound, class_of_variable, factor_kind, kind_beside, kind_of_parts, kind_of_sum, kind_with_sign, term_kind, unit_kind}
+use Rattle.meaning.specs.Fits.{class_of_variable, factor_kind, kind_beside, kind_of_parts, kind_of_sum, kind_with_sign, term_kind, unit_kind}
 use Rattle.meaning.specs.Reachable.{AreReachable, AreWithinBounds, IsReachable, is_reachable, kind_of}
 use Rattle.meaning.specs.Trace.{Trace}
-use Rattle.meaning.specs.Value.{cell_in, cell_value, factor_value, part_at, part_value, plus, term_value, unit_value, with_sign}
+use Rattle.meaning.specs.Value.{attribute_bound, cell_in, cell_value, factor_value, part_at, part_value, plus, term_value, unit_value, with_sign}
 use Rattle.meaning.proofs.BoundLemmas.{cell_near, no_number, part_near}
 
 -- each number that it may be is within the bound

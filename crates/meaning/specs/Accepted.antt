@@ -22,7 +22,7 @@ is_given (givens.Both n f) = nat_le (unsigned_abs n) READ_LIMIT && is_slow f
 abbrev pub are_given : Place → List NamedSet → Bool
 are_given place sets = list_all (λ set. is_given set.given) (place_sets place ++ sets)
 
--- the class is there, and an object of the name is of it
+-- the class is there, and the object of the name, where there is one, is of it
 abbrev pub is_own_class : Catalog → List ℕ → List ℕ → Bool
 is_own_class c class name =
     option_map_or

@@ -5,7 +5,7 @@ use Rattle.tick_set.specs.Ticks.{listed, within}
 use Rattle.tick_set.specs.Runs.{runs_of}
 use Rattle.history.specs.World.{World}
 use Rattle.formula.specs.Tree.{ResolvedQuery}
-use Rattle.meaning.specs.Binding.{bindings, holds_full, holds_target, tuples}
+use Rattle.meaning.specs.Binding.{bindings, holds_full, target_where, tuples}
 
 -- objects by their numbers, and the maximal runs of the ticks at which they satisfy the query, each as its first and last
 -- tick
@@ -32,9 +32,13 @@ row_where holds from e key = record { key = key; runs = runs_of (listed (holds k
 abbrev pub rows_where : List (List ℕ) → (List ℕ → ℕ → Bool) → ℕ → ℕ → List Row
 rows_where keys holds from e = filter (λ row. has_ticks row.runs) (map (row_where holds from e) keys)
 
--- a row for each tuple of target objects, in the order of first insertion, variable by variable
+-- a row for each tuple of target objects, in the order of first insertion, variable by variable, by a test of bindings
+abbrev pub answer_where : World → ResolvedQuery → ((ℕ → ℕ) → ℕ → Bool) → ℕ → ℕ → List Row
+answer_where w q holds from e = rows_where (tuples w q) (target_where w q holds) from e
+
+-- the rows of what satisfies the query
 abbrev pub answer : World → ResolvedQuery → ℕ → ℕ → List Row
-answer w q from e = rows_where (tuples w q) (holds_target w q e) from e
+answer w q from e = answer_where w q (holds_full w q e) from e
 
 -- a row for each binding: what is kept of a query, and what its answer is made of
 abbrev pub full_rows : World → ResolvedQuery → ℕ → ℕ → List Row

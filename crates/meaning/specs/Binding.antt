@@ -8,7 +8,7 @@ use Rattle.history.specs.World.{World}
 use Rattle.formula.specs.Tree.{ResolvedQuery}
 use Rattle.formula.specs.Value.{no_values}
 use Rattle.meaning.specs.Trace.{trace_of}
-use Rattle.meaning.specs.Satisfaction.{plain, sat}
+use Rattle.meaning.specs.Satisfaction.{Interpretation, plain, sat}
 
 -- every list that has one member of each of these lists, those of the first list in its order, and so on
 abbrev pub product : List (List ℕ) → List (List ℕ)
@@ -31,12 +31,19 @@ tuple_of q b = map (slice_index b) q.targets
 abbrev pub are_present : World → ResolvedQuery → (ℕ → ℕ) → ℕ → Bool
 are_present w q b t = list_all (λ v. is_some (trace_of w.history b v t)) (between 0 (length q.classes))
 
--- whether a binding satisfies the query at a tick: all its objects are present, and the formula holds
-abbrev pub holds_full : World → ResolvedQuery → ℕ → (ℕ → ℕ) → ℕ → Bool
-holds_full w q e b t =
-    are_present w q b t && sat (plain w.regions (trace_of w.history b)) q.formula no_values e t
+-- whether all objects of a binding are present at a tick and the formula holds, by what an interpretation tells of them
+abbrev pub holds_by : ((ℕ → ℕ) → Interpretation) → World → ResolvedQuery → ℕ → (ℕ → ℕ) → ℕ → Bool
+holds_by j w q e b t = are_present w q b t && sat (j b) q.formula no_values e t
 
--- whether some binding that gives the targets these objects satisfies it
+-- whether a binding satisfies the query at a tick
+abbrev pub holds_full : World → ResolvedQuery → ℕ → (ℕ → ℕ) → ℕ → Bool
+holds_full w q e = holds_by (λ b. plain w.regions (trace_of w.history b)) w q e
+
+-- whether some binding that gives the targets these objects passes a test at a tick
+abbrev pub target_where : World → ResolvedQuery → ((ℕ → ℕ) → ℕ → Bool) → List ℕ → ℕ → Bool
+target_where w q holds key t =
+    list_any (λ b. bytes_eq (tuple_of q b) key && holds (slice_index b) t) (bindings w q)
+
+-- whether some binding that gives the targets these objects satisfies the query
 abbrev pub holds_target : World → ResolvedQuery → ℕ → List ℕ → ℕ → Bool
-holds_target w q e key t =
-    list_any (λ b. bytes_eq (tuple_of q b) key && holds_full w q e (slice_index b) t) (bindings w q)
+holds_target w q e = target_where w q (holds_full w q e)

@@ -1,18 +1,16 @@
 -- Whether a query by number fits the classes of its variables: each attribute is there, each value is of a kind that
 -- its place takes, and the bound beside each attribute is that of its kind.
-use Rattle.std.specs.Prelude.{◌≡◌, ℕ, ℤ, pos, ◌<◌, ◌==◌, unsigned_abs, Bool, true, false, ◌&&◌, nat_lt, nat_le, Option, None, Some, is_some, unwrap_or, option_map, option_and_then, List, length, map, slice_get, slice_index, IsTrue, if◌then◌else◌}
+use Rattle.std.specs.Prelude.{◌≡◌, ℕ, ℤ, pos, ◌<◌, ◌==◌, Bool, true, false, ◌&&◌, nat_lt, Option, None, Some, unwrap_or, option_map, option_and_then, List, length, map, slice_get, slice_index, IsTrue, if◌then◌else◌}
 use Rattle.std.specs.List.{list_all, list_any, reduce}
 use Rattle.std.specs.Option.{option_map_or}
 use Rattle.std.specs.Ordering.{int_eq}
 use Rattle.case_table.specs.declared.compare.Op.{Op}
 use Rattle.case_table.specs.declared.compare.Op.TheVariants as ops
-use Rattle.fixed_point.specs.declared.number.TheConstants.{READ_LIMIT}
 use Rattle.motion.specs.declared.cell.AttrKind.{AttrKind}
 use Rattle.motion.specs.declared.cell.AttrKind.TheVariants as kinds
 use Rattle.history.specs.Catalog.{Catalog, ClassInfo, ids_of}
 use Rattle.history.specs.World.{World}
 use Rattle.formula_shape.specs.Shape as shapes
-use Rattle.formula.specs.declared.limits.TheConstants.{DYNAMIC_BOUND}
 use Rattle.formula.specs.declared.tree.RAtom.{RAtom}
 use Rattle.formula.specs.declared.tree.RAtom.TheVariants as atoms
 use Rattle.formula.specs.declared.tree.RSigned.{RSigned}
@@ -24,25 +22,19 @@ use Rattle.formula.specs.declared.value.Value.{Value}
 use Rattle.formula.specs.declared.value.Value.TheVariants as values
 use Rattle.formula.specs.declared.value.ValueKind.{ValueKind}
 use Rattle.formula.specs.declared.value.ValueKind.TheVariants.{Number, Text}
-use Rattle.formula.specs.Resolved.{any_scope, is_atom, is_term}
 use Rattle.formula.specs.Tree.{ResolvedQuery, ResolvedTree}
 use Rattle.formula.specs.Value.{value_in}
-use Rattle.formula.specs.Variables.{atom_has, term_has}
+use Rattle.meaning.specs.Value.{attribute_bound}
 
 abbrev pub value_kind : Value → ValueKind
 value_kind (values.Num n) = Number
 value_kind (values.Text s) = Text
 
--- what an attribute's values are, and how large they can be, in thousandths
+-- what an attribute's values are
 abbrev pub kind_of_values : AttrKind → ValueKind
 kind_of_values kinds.Num = Number
 kind_of_values kinds.Text = Text
 kind_of_values kinds.Dyn = Number
-
-abbrev pub attribute_bound : AttrKind → ℕ
-attribute_bound kinds.Num = READ_LIMIT
-attribute_bound kinds.Text = 0
-attribute_bound kinds.Dyn = DYNAMIC_BOUND
 
 -- the class of an object variable, where each variable has the number of its class
 abbrev pub class_of_variable : Catalog → List ℕ → ℕ → Option ClassInfo
@@ -150,53 +142,6 @@ formula_fits c classes regions scope (shapes.Assign (d, q) f) =
 pub record FitsItsClasses (w : World) (q : ResolvedQuery) : Type 0 where
   pub classes : IsTrue (list_all (λ k. nat_lt k (length w.history.catalog.classes)) q.classes)
   pub formula : IsTrue (formula_fits w.history.catalog q.classes (length w.regions) no_kinds q.formula)
-
--- The classes of a binding's objects, by their numbers. An object that isn't there has a class that isn't there.
-abbrev pub classes_of : Catalog → List ℕ → List ℕ
-classes_of c b = map (λ id. option_map_or (λ o. o.class) (slice_get c.objects id) (length c.classes)) b
-
--- a value within the bound that stands beside its variable
-abbrev pub is_near : ℤ → Value → Bool
-is_near bound (values.Num n) = nat_le (unsigned_abs n) (unsigned_abs bound)
-is_near bound (values.Text s) = true
-
--- whether each value variable of a factor, a term, an atom has a value that is within the bound beside it
-abbrev pub unit_is_near : Env → RUnit → Bool
-unit_is_near x (units.Literal n) = true
-unit_is_near x (units.Text s) = true
-unit_is_near x (units.Var d bound) = option_map_or (is_near bound) (value_in x d) false
-unit_is_near x (units.Attr v a bound) = true
-unit_is_near x (units.Sub v a part) = true
-unit_is_near x units.Time = true
-
-abbrev pub term_is_near : Env → RTerm → Bool
-term_is_near x q = list_all (λ s. unit_is_near x s.unit) q.factors
-
-abbrev pub atom_is_near : Env → RAtom → Bool
-atom_is_near x (atoms.Compare q op r) = term_is_near x q && term_is_near x r
-atom_is_near x (atoms.Inside v n) = true
-atom_is_near x (atoms.Outside v n) = true
-atom_is_near x (atoms.Dist v u op c) = true
-atom_is_near x (atoms.Sphere r vs) = true
-
--- each variable that passes a test has in the binding the number of an object of the catalog
-abbrev pub BindsObjects : Catalog → List ℕ → (ℕ → Bool) → Type 0
-BindsObjects c b has = (v : ℕ) → has v ≡ true
-    → IsTrue (option_map_or (λ id. nat_lt id (length c.objects)) (slice_get b v) false)
-
--- What holds of a term, and of an atom, where it is judged by itself: of one binding, and of values that are bound.
-pub record TermFits (w : World) (b : List ℕ) (x : Env) (q : RTerm) : Type 0 where
-  pub right : IsTrue (is_term (length b) any_scope q)
-  pub objects : BindsObjects w.history.catalog b (λ v. term_has v q)
-  pub kinds : IsTrue (is_some (term_kind w.history.catalog (classes_of w.history.catalog b) (kinds_in x) q))
-  pub near : IsTrue (term_is_near x q)
-
-pub record AtomFits (w : World) (b : List ℕ) (x : Env) (a : RAtom) : Type 0 where
-  pub right : IsTrue (is_atom (length b) any_scope a)
-  pub objects : BindsObjects w.history.catalog b (λ v. atom_has v a)
-  pub kinds :
-      IsTrue (atom_fits w.history.catalog (classes_of w.history.catalog b) (length w.regions) (kinds_in x) a)
-  pub near : IsTrue (atom_is_near x a)
 
 -- a binding gives each variable an object of its class
 abbrev pub BindsItsClasses : World → ResolvedQuery → (ℕ → ℕ) → Type 0

@@ -6,9 +6,12 @@ pub mod Binding
 pub mod ExampleParts
 pub mod Fits
 pub mod FitsExample
+pub mod Needs
+pub mod NeedsExample
 pub mod PastExample
 pub mod PlaceExample
 pub mod Reachable
+pub mod ReachExample
 pub mod Reads
 pub mod ReadsExample
 pub mod Registered

@@ -81,6 +81,7 @@ again = removed ++ Insert 6 (codes "car") (codes "a") nowhere [] ∷ []
 
 pub record AnswersTheRemovedCar : Type 0 where
   pub at_first : registered_answer (world present) (kept 10 not_inside) 0 ≡ first_has ((0, 10) ∷ [])
+  pub joined_at_the_clock : registered_answer (world present) (kept 10 not_inside) 4 ≡ first_has ((0, 10) ∷ [])
   pub loses : changes_of_write (world present) (world removed) (kept 10 not_inside) 4
       ≡ record { key = 0 ∷ []; gained = []; lost = (4, 10) ∷ []; enters = false; leaves = true } ∷ []
   pub past_alone : registered_answer (world removed) (kept 10 not_inside) 6 ≡ first_has ((0, 3) ∷ [])
@@ -136,4 +137,5 @@ pub record AnswersAsTimePasses : Type 0 where
   pub leaves : changes_of_tick (world at_one) (watched 30 inside) 20 21 ≡ passage false ∷ []
   pub passes_through : changes_of_tick (world at_one) (watched 30 inside) 9 21 ≡ []
   pub expires : changes_of_tick (world at_one) (watched 15 inside) 15 16 ≡ passage false ∷ []
+  pub from_now_on : registered_answer (world at_one) (watched 30 inside) 15 ≡ first_has ((15, 20) ∷ [])
   pub watched_no_more : registered_answer (world at_one) (watched 15 inside) 16 ≡ []

@@ -1,5 +1,5 @@
 -- How many looks at the timelines of objects a query may take, by the number of objects of each variable.
-use Rattle.std.specs.Prelude.{ℕ, ◌+◌, ◌*◌, ◌==◌, List, [], ◌∷◌, length, sum_by, slice_index, if◌then◌else◌}
+use Rattle.std.specs.Prelude.{ℕ, ◌+◌, ◌-◌, ◌*◌, ◌==◌, nat_le, List, [], ◌∷◌, length, sum_by, slice_index, if◌then◌else◌}
 use Rattle.std.specs.List.{list_any}
 use Rattle.tick_set.specs.Ticks.{between}
 use Rattle.history.specs.Catalog.{Catalog, ids_of}
@@ -8,6 +8,7 @@ use Rattle.formula.specs.declared.tree.RAtom.{RAtom}
 use Rattle.formula.specs.declared.tree.RTerm.{RTerm}
 use Rattle.formula.specs.Tree.{ResolvedQuery, ResolvedTree}
 use Rattle.formula.specs.Variables.{atom_has, term_has, variables_in}
+use Rattle.meaning.specs.Registered.{RegisteredQuery}
 
 -- how many choices of an object for each of these variables there are
 abbrev pub choices : (ℕ → ℕ) → List ℕ → ℕ
@@ -60,3 +61,10 @@ change_reads c q ticks class =
     sum_by
     (λ v. if slice_index q.classes v == class then query_reads (made_single (sizes_of c q) (v ∷ [])) ticks q else 0)
     (between 0 (length q.classes))
+
+-- How many looks at timelines a write to an object of a class may take: those of each query up to its expiry.
+abbrev pub write_reads : Catalog → List RegisteredQuery → ℕ → ℕ → ℕ
+write_reads c queries now class =
+    sum_by
+    (λ r. if nat_le now r.expiry then change_reads c r.query (r.expiry + 1 - r.entry) class else 0)
+    queries

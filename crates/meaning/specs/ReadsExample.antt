@@ -9,8 +9,8 @@ use Rattle.formula.specs.declared.tree.RUnit.TheVariants as units
 use Rattle.formula.specs.declared.kind.QueryKind.TheVariants.{Keep, Watch}
 use Rattle.formula.specs.Tree.{ResolvedQuery, ResolvedTree}
 use Rattle.meaning.specs.ExampleParts.{alone, car_class, compare, dynamic, literal, nowhere, pairs_query, whole}
-use Rattle.meaning.specs.Reads.{change_reads, query_reads, reads}
-use Rattle.meaning.specs.Registered.{RegisteredQuery, write_reads}
+use Rattle.meaning.specs.Reads.{change_reads, query_reads, reads, write_reads}
+use Rattle.meaning.specs.Registered.{RegisteredQuery}
 
 -- each variable has three objects
 abbrev pub three : ℕ → ℕ

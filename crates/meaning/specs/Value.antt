@@ -5,11 +5,15 @@ use Rattle.std.specs.Str.{bytes_eq}
 use Rattle.case_table.specs.declared.compare.Op.{Op}
 use Rattle.case_table.specs.declared.compare.Op.TheVariants as ops
 use Rattle.case_table.specs.Comparison.{compares}
+use Rattle.fixed_point.specs.declared.number.TheConstants.{READ_LIMIT}
 use Rattle.fixed_point.specs.declared.variants.SubName.{SubName}
 use Rattle.fixed_point.specs.declared.variants.SubName.TheVariants as subs
 use Rattle.motion.specs.Dynamic.{Dynamic, slope_at, value_at}
+use Rattle.motion.specs.declared.cell.AttrKind.{AttrKind}
+use Rattle.motion.specs.declared.cell.AttrKind.TheVariants as kinds
 use Rattle.motion.specs.declared.cell.Cell.{Cell}
 use Rattle.motion.specs.declared.cell.Cell.TheVariants as cells
+use Rattle.formula.specs.declared.limits.TheConstants.{DYNAMIC_BOUND}
 use Rattle.formula.specs.declared.tree.RSigned.{RSigned}
 use Rattle.formula.specs.declared.tree.RTerm.{RTerm}
 use Rattle.formula.specs.declared.tree.RUnit.{RUnit}
@@ -29,6 +33,12 @@ abbrev pub cell_value : Cell → ℕ → Value
 cell_value (cells.Num n) t = values.Num n
 cell_value (cells.Text s) t = values.Text s
 cell_value (cells.Dyn v) t = values.Num (value_at v t)
+
+-- how large the values of an attribute of a kind can be, in thousandths
+abbrev pub attribute_bound : AttrKind → ℕ
+attribute_bound kinds.Num = READ_LIMIT
+attribute_bound kinds.Text = 0
+attribute_bound kinds.Dyn = DYNAMIC_BOUND
 
 -- the parts of a dynamic attribute: the value at its update, 1000 for each tick up to the update, the slope in force
 abbrev pub part_at : SubName → Dynamic → ℕ → ℤ

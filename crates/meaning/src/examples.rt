@@ -1,7 +1,9 @@
 //! Small queries worked out, as calls without a body.
 ghost use Rattle.meaning.specs.FitsExample.{FitsTheClasses};
+ghost use Rattle.meaning.specs.NeedsExample.{NeedPlaces};
 ghost use Rattle.meaning.specs.PastExample.{AnswersAsTimePasses, AnswersTheDoubledSpeed, AnswersTheRemovedCar};
 ghost use Rattle.meaning.specs.PlaceExample.{AnswersByPlace};
+ghost use Rattle.meaning.specs.ReachExample.{SeesAhead};
 ghost use Rattle.meaning.specs.ReadsExample.{TakesReads};
 ghost use Rattle.meaning.specs.TimeExample.{AnswersByTime, AnswersByValue};
 
@@ -45,4 +47,14 @@ pub fn queries_fit_their_classes()
 /// The read bound of atoms, of a query, of an assignment and of a write.
 pub fn reads_are_counted()
     ensures { TakesReads }
+{}
+
+/// The atoms that formulas need, of those of places.
+pub fn atoms_are_needed()
+    ensures { NeedPlaces }
+{}
+
+/// How far ahead atoms, operators and assignments see, alone and within one another.
+pub fn reaches_are_worked_out()
+    ensures { SeesAhead }
 {}

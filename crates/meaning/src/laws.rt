@@ -1,5 +1,5 @@
 //! Laws of the definitions, as calls without a body.
-ghost use Rattle.std.specs.Prelude.{◌≡◌, ◌==◌, ◌<◌, ◌≤◌, ◌↔◌, ℕ, ℤ, pos, unsigned_abs, true, false, nat_le, nat_lt, ◌&&◌, Option, None, Some, List, ◌++◌, length, slice_get};
+ghost use Rattle.std.specs.Prelude.{◌≡◌, ◌==◌, ◌<◌, ◌≤◌, ◌↔◌, ◌+◌, ℕ, ℤ, pos, unsigned_abs, Bool, true, false, min, nat_le, nat_lt, ◌&&◌, Option, None, Some, List, ◌++◌, length, slice_get};
 ghost use Rattle.std.specs.List.{list_all};
 ghost use Rattle.std.specs.Option.{option_map_or};
 ghost use Rattle.std.specs.Str.{bytes_eq};
@@ -15,6 +15,7 @@ ghost use Rattle.history.specs.Write.{Write};
 ghost use Rattle.history.specs.World.{World, world_of};
 ghost use Rattle.formula_shape.specs.Sizes.{has_not};
 ghost use Rattle.formula.specs.Bounds.{term_bound};
+ghost use Rattle.formula.specs.Reach.{reach};
 ghost use Rattle.formula.specs.Resolved.{Scope, is_term, no_scope, with_bound};
 ghost use Rattle.formula.specs.Tree.{ResolvedQuery, ResolvedTree};
 ghost use Rattle.formula.specs.Value.{no_values, with_value};
@@ -32,7 +33,10 @@ ghost use Rattle.meaning.specs.Answer.{answer, full_rows, rows_have};
 ghost use Rattle.meaning.specs.Atom.{atom_holds, position_in};
 ghost use Rattle.meaning.specs.Binding.{holds_full, tuple_of};
 ghost use Rattle.meaning.specs.Fits.{BindsItsClasses, BindsKinds, FitsItsClasses, term_kind, value_kind};
+ghost use Rattle.meaning.specs.Needs.{Needs, needs_of};
 ghost use Rattle.meaning.specs.Reachable.{AreReachable, AreWithinBounds, FitTheirClasses, IsReachable};
+ghost use Rattle.meaning.specs.Reads.{query_reads};
+ghost use Rattle.meaning.specs.Registered.{RegisteredQuery, first_tick, registered_answer};
 ghost use Rattle.meaning.specs.Satisfaction.{Interpretation, plain, sat};
 ghost use Rattle.meaning.specs.Trace.{Trace, trace_of};
 ghost use Rattle.meaning.specs.Value.{term_value};
@@ -43,6 +47,21 @@ ghost use Rattle.meaning.specs.Value.{term_value};
 pub fn interpretations_that_agree_give_the_same_truth()
     ensures { (j k : Interpretation) (lo hi : ℕ) (f : ResolvedTree) → Agree j k lo hi f
         → (e : ℕ) → e ≤ hi → (x : Env) → AgreeIn lo hi (sat j f x e) (sat k f x e) }
+{}
+
+/// At a tick a formula sees the ticks from it on as far as its reach, if no further than the last tick that
+/// counts, and nowhere else.
+pub fn formulas_see_so_far_ahead_alone()
+    ensures { (j k : Interpretation) (f : ResolvedTree) (n : ℕ) → reach f ≡ Some n → (e t : ℕ) → t ≤ e
+        → Agree j k t (min (t + n) e) f → (x : Env) → sat j f x e t ≡ sat k f x e t }
+{}
+
+/// Where none of the atoms that a formula needs holds at a tick, the formula holds at none.
+pub fn formulas_need_their_atoms()
+    ensures needed { (passes : RAtom → Bool) (is_better : List RAtom → List RAtom → Bool) (f : ResolvedTree)
+        (atoms : List RAtom) → needs_of passes is_better f ≡ Some atoms → Needs f atoms }
+    ensures passing { (passes : RAtom → Bool) (is_better : List RAtom → List RAtom → Bool) (f : ResolvedTree)
+        (atoms : List RAtom) → needs_of passes is_better f ≡ Some atoms → list_all passes atoms ≡ true }
 {}
 
 /// A formula sees the states of its own variables, and nothing else of a history.
@@ -71,6 +90,16 @@ pub fn the_answer_is_the_union_of_the_full_rows()
         → (entry from e : ℕ) → entry ≤ from → (key : List ℕ) (t : ℕ)
         → rows_have (answer w q from e) (λ k. bytes_eq k key) t
         ≡ (nat_le from t && rows_have (full_rows w q entry e) (λ b. bytes_eq (tuple_of q b) key) t) }
+{}
+
+/// What a registered query answers later is what is left of what it answered, from the first tick that it
+/// still tells: of a watched query from then on, and of a kept one all.
+pub fn a_later_answer_is_what_is_left()
+    ensures { (w : World) (r : RegisteredQuery)
+        → list_all (λ v. nat_lt v (length r.query.classes)) r.query.targets ≡ true
+        → (n m : ℕ) → n ≤ m → (key : List ℕ) (t : ℕ)
+        → rows_have (registered_answer w r m) (λ k. bytes_eq k key) t
+        ≡ (nat_le (first_tick r.kind r.entry m) t && rows_have (registered_answer w r n) (λ k. bytes_eq k key) t) }
 {}
 
 /// A binding of an object that is absent at a tick doesn't satisfy the query there, whatever its formula is.
@@ -116,6 +145,14 @@ pub fn the_past_changes_by_what_comes_after()
         → ((v : ℕ) → v < length q.classes → (t : ℕ) → now ≤ t → t ≤ e
         → cells_at old (b v) t ≡ cells_at new (b v) t)
         → (t : ℕ) → t ≤ e
+        → holds_full (world_with old regions) q e b t ≡ holds_full (world_with new regions) q e b t }
+{}
+
+/// A write changes what a binding satisfies no further back than the formula's reach.
+pub fn the_past_changes_as_far_back_as_the_reach()
+    ensures { (id now : ℕ) (old new : History) → ChangesFrom id now old new → (regions : List Region)
+        (q : ResolvedQuery) → SeesItsClasses q → (n : ℕ) → reach q.formula ≡ Some n → (b : ℕ → ℕ) (e t : ℕ)
+        → t ≤ e → t + n < now
         → holds_full (world_with old regions) q e b t ≡ holds_full (world_with new regions) q e b t }
 {}
 
@@ -172,4 +209,10 @@ pub fn values_are_within_their_bounds()
         → (q : RTerm) → is_term count scope q ≡ true → (k : ValueKind) → term_kind c classes known q ≡ Some k
         → (d : ℕ) (v : Value) → term_value h q x t ≡ Some v
         → AreWithinBounds (with_bound scope d (term_bound q)) (with_value x d v) }
+{}
+
+/// The fewer objects the variables have, the fewer looks at timelines a query may take.
+pub fn fewer_objects_take_fewer_looks()
+    ensures { (fewer more : ℕ → ℕ) → ((v : ℕ) → fewer v ≤ more v) → (ticks : ℕ) (q : ResolvedQuery)
+        → query_reads fewer ticks q ≤ query_reads more ticks q }
 {}

@@ -7,6 +7,7 @@ pub returns : goal.returns
 unfolding all_in between listed some_in until_in
 returns c = record {
   at_first = refl;
+  joined_at_the_clock = refl;
   loses = refl;
   past_alone = refl;
   gains = refl;

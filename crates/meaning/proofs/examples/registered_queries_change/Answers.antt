@@ -15,5 +15,6 @@ returns c = record {
   leaves = refl;
   passes_through = refl;
   expires = refl;
+  from_now_on = refl;
   watched_no_more = refl;
 }
