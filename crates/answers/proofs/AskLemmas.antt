@@ -36,7 +36,7 @@ use Rattle.object_store.specs.Contents.{Contents, catalog_of, history_of}
 use Rattle.relation.specs.Key.{has_id}
 use Rattle.atoms.specs.Sizes.{is_sized, is_sized_term}
 use Rattle.evaluator.specs.Interpreting.{CanAsk, IsInFor}
-use Rattle.answers.specs.Asking.{CanAskAtom, CanAskTerm, HasStored, told_by}
+use Rattle.atoms.specs.Asked.{CanAskAtom, CanAskTerm, HasStored, told_by}
 use Rattle.answers.specs.Objects.{AreOfItsClasses, IsOfAcceptedWrites}
 use Rattle.answers.proofs.ObjectLemmas.{placed, stored_objects}
 

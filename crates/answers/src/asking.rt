@@ -14,7 +14,7 @@ ghost use Rattle.relation.specs.Frames.{frame};
 ghost use Rattle.relation.specs.Key.{are_distinct, has_id};
 ghost use Rattle.relation.specs.Projection.{IsPicked};
 ghost use Rattle.relation.specs.Rows.{has};
-ghost use Rattle.answers.specs.Asking.{world_in};
+ghost use Rattle.atoms.specs.Asked.{world_in};
 ghost use Rattle.answers.specs.Objects.{IsOfAcceptedWrites};
 
 use crate::evaluating::{domains_of, evaluate};

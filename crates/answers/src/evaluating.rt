@@ -14,11 +14,11 @@ ghost use Rattle.meaning.specs.Reads.{query_reads};
 ghost use Rattle.object_store.specs.Contents.{catalog_of};
 ghost use Rattle.relation.specs.Frames.{IsIn, frame, frame_of, size_of};
 ghost use Rattle.relation.specs.Rows.{has};
-ghost use Rattle.answers.specs.Asking.{world_in};
+ghost use Rattle.atoms.specs.Asked.{world_in};
 ghost use Rattle.answers.specs.Objects.{AreOfItsClasses, IsOfAcceptedWrites};
 
 use crate::laws::fitting_queries_can_be_asked;
-use crate::world::StoredWorld;
+use atoms::StoredWorld;
 use evaluator::{full_rows, ticks_alone};
 use formula::RQuery;
 use interval_set::IntervalSet;

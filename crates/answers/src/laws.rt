@@ -10,7 +10,7 @@ ghost use Rattle.meaning.specs.Fits.{FitsItsClasses};
 ghost use Rattle.object_store.specs.Contents.{Contents, catalog_of};
 ghost use Rattle.relation.specs.Key.{has_id, ids_of};
 ghost use Rattle.evaluator.specs.Interpreting.{CanAsk, IsOver};
-ghost use Rattle.answers.specs.Asking.{CanAskAtom, CanAskTerm, told_by, world_in};
+ghost use Rattle.atoms.specs.Asked.{CanAskAtom, CanAskTerm, told_by, world_in};
 ghost use Rattle.answers.specs.Objects.{AreOfItsClasses, IsOfAcceptedWrites};
 
 use atoms::resolved_atoms_and_terms_are_sized;

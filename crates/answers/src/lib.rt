@@ -9,10 +9,9 @@ mod asking;
 mod evaluating;
 mod laws;
 mod told;
-mod world;
 
 pub use asking::ask;
+pub use atoms::StoredWorld;
 pub use evaluating::{domains_of, evaluate, evaluate_alone};
 pub use laws::fitting_queries_can_be_asked;
 pub use told::{Answer, spans_of};
-pub use world::StoredWorld;

@@ -15,8 +15,9 @@ use Rattle.exact.proofs.Lists.{bytes_eq_true}
 use Rattle.tick_set.specs.Ticks.{within}
 use Rattle.formula.specs.declared.value.Value.{Value}
 use Rattle.formula.specs.declared.value.Value.TheVariants as values
-use Rattle.atoms.specs.declared.value_list.ValueRun.{ValueRun}
-use Rattle.atoms.specs.ValueRuns.{AreValueRuns, EachFollows, Follows, IsJoined, IsRunOf, are_equal, goes_on, runs_have}
+use Rattle.interpreting.specs.declared.value_run.ValueRun.{ValueRun}
+use Rattle.interpreting.specs.ValueRuns.{IsRunOf, runs_have}
+use Rattle.atoms.specs.ValueRuns.{AreMaximalRuns, EachFollows, Follows, IsJoined, are_equal, goes_on}
 
 pub equal_values : (v w : Value) → are_equal v w ≡ true → v ≡ w
 equal_values (values.Num m) (values.Num n) same = let is : m ≡ n = grind (arith, ints, nat_tests, same) in ap values.Num is
@@ -76,24 +77,26 @@ module _ (value : ℕ → Option Value) (from at : ℕ) (run : ValueRun) (order 
   own : IsRunOf value from (run.span.hi + 1) run
   own = record { begins = order; ends = omega arith; has = has }
 
-  pushed : (runs : List ValueRun) → AreValueRuns value from at runs → EachFollows (runs ++ run ∷ []) → AreValueRuns value from (run.span.hi + 1) (runs ++ run ∷ [])
+  pushed : (runs : List ValueRun) → AreMaximalRuns value from at runs → EachFollows (runs ++ run ∷ []) → AreMaximalRuns value from (run.span.hi + 1) (runs ++ run ∷ [])
   unfolding wider own
   pushed runs are follow =
       let o : run.span.lo ≤ run.span.hi = run.span.ordered in
       record {
-        each = All-push (IsRunOf value from (run.span.hi + 1)) runs run (All-weaker (IsRunOf value from at) (IsRunOf value from (run.span.hi + 1)) wider runs are.each) own;
-        all = λ t begun before some.
-            list_any-append (λ r. within r.span.lo r.span.hi t) runs (run ∷ [])
-            ∙ elim (cases_lt t run.span.lo) [
-              | inl early ↦ or_left _ _ (are.all t begun (omega arith) some)
-              | inr now ↦ or_right (runs_have runs t) _ (grind (arith, nat_tests))
-            ];
+        of_values = record {
+          each = All-push (IsRunOf value from (run.span.hi + 1)) runs run (All-weaker (IsRunOf value from at) (IsRunOf value from (run.span.hi + 1)) wider runs are.of_values.each) own;
+          all = λ t begun before some.
+              list_any-append (λ r. within r.span.lo r.span.hi t) runs (run ∷ [])
+              ∙ elim (cases_lt t run.span.lo) [
+                | inl early ↦ or_left _ _ (are.of_values.all t begun (omega arith) some)
+                | inr now ↦ or_right (runs_have runs t) _ (grind (arith, nat_tests))
+              ];
+          few = omega (arith, are.of_values.few, length-append runs (run ∷ []));
+        };
         maximal = follow;
-        few = omega (arith, are.few, length-append runs (run ∷ []));
       }
 
-  lengthened : (front : List ValueRun) (last both : ValueRun) → AreValueRuns value from at (front ++ last ∷ []) → goes_on last run ≡ true → both.span.lo ≡ last.span.lo
-      → both.span.hi ≡ run.span.hi → both.value ≡ last.value → AreValueRuns value from (run.span.hi + 1) (front ++ both ∷ [])
+  lengthened : (front : List ValueRun) (last both : ValueRun) → AreMaximalRuns value from at (front ++ last ∷ []) → goes_on last run ≡ true → both.span.lo ≡ last.span.lo
+      → both.span.hi ≡ run.span.hi → both.value ≡ last.value → AreMaximalRuns value from (run.span.hi + 1) (front ++ both ∷ [])
   unfolding wider
   lengthened front last both are on begins ends same =
       let o : run.span.lo ≤ run.span.hi = run.span.ordered in
@@ -102,51 +105,53 @@ module _ (value : ℕ → Option Value) (from at : ℕ) (run : ValueRun) (order 
       let next : last.span.hi + 1 ≡ run.span.lo = grind (arith, nat_tests, parts.0) in
       let equal : last.value ≡ run.value = equal_values last.value run.value parts.1 in
       let seam : length front < length (front ++ last ∷ []) = omega (arith, length-append front (last ∷ [])) in
-      let before : IsRunOf value from at last = subst (IsRunOf value from at) (get_or_push front last last (length front) refl) (are.each (length front) last seam) in
+      let before : IsRunOf value from at last = subst (IsRunOf value from at) (get_or_push front last last (length front) refl) (are.of_values.each (length front) last seam) in
       let firsts : All (IsRunOf value from at) front = λ k d l.
-      subst (IsRunOf value from at) (get_or_append_left front (last ∷ []) d k l) (are.each k d (omega (arith, l, length-append front (last ∷ [])))) in
+      subst (IsRunOf value from at) (get_or_append_left front (last ∷ []) d k l) (are.of_values.each k d (omega (arith, l, length-append front (last ∷ [])))) in
       record {
-        each =
-            All-push (IsRunOf value from (run.span.hi + 1)) front both
-            (All-weaker (IsRunOf value from at) (IsRunOf value from (run.span.hi + 1)) wider front firsts)
-            (record {
-              begins = omega (arith, before.begins);
-              ends = omega arith;
-              has = λ t a b. elim (cases_lt t run.span.lo) [
-                | inl early ↦ before.has t (omega arith) (omega arith) ∙ ap Some (sym same)
-                | inr now ↦ has t now (omega arith) ∙ ap Some (sym equal ∙ sym same)
+        of_values = record {
+          each =
+              All-push (IsRunOf value from (run.span.hi + 1)) front both
+              (All-weaker (IsRunOf value from at) (IsRunOf value from (run.span.hi + 1)) wider front firsts)
+              (record {
+                begins = omega (arith, before.begins);
+                ends = omega arith;
+                has = λ t a b. elim (cases_lt t run.span.lo) [
+                  | inl early ↦ before.has t (omega arith) (omega arith) ∙ ap Some (sym same)
+                  | inr now ↦ has t now (omega arith) ∙ ap Some (sym equal ∙ sym same)
+                ];
+              });
+          all = λ t begun upto some.
+              list_any-append (λ r. within r.span.lo r.span.hi t) front (both ∷ [])
+              ∙ elim (cases_lt t run.span.lo) [
+                | inl early ↦
+                    elim (or_cases (runs_have front t) (runs_have (last ∷ []) t)
+                    (sym (list_any-append (λ r. within r.span.lo r.span.hi t) front (last ∷ [])) ∙ are.of_values.all t begun (omega arith) some)) [
+                      | inl old ↦ or_left _ _ old
+                      | inr end ↦ or_right (runs_have front t) _ (grind (arith, nat_tests, end))
+                    ]
+                | inr now ↦ or_right (runs_have front t) _ (grind (arith, nat_tests))
               ];
-            });
-        all = λ t begun upto some.
-            list_any-append (λ r. within r.span.lo r.span.hi t) front (both ∷ [])
-            ∙ elim (cases_lt t run.span.lo) [
-              | inl early ↦
-                  elim (or_cases (runs_have front t) (runs_have (last ∷ []) t)
-                  (sym (list_any-append (λ r. within r.span.lo r.span.hi t) front (last ∷ [])) ∙ are.all t begun (omega arith) some)) [
-                    | inl old ↦ or_left _ _ old
-                    | inr end ↦ or_right (runs_have front t) _ (grind (arith, nat_tests, end))
-                  ]
-              | inr now ↦ or_right (runs_have front t) _ (grind (arith, nat_tests))
-            ];
+          few = omega (arith, are.of_values.few, length-append front (last ∷ []), length-append front (both ∷ []));
+        };
         maximal = follows_both front last both begins same are.maximal;
-        few = omega (arith, are.few, length-append front (last ∷ []), length-append front (both ∷ []));
       }
 
   -- the last run goes on
-  pub joined_more : (runs : List ValueRun) (both : ValueRun) (place : ℕ) → AreValueRuns value from at runs → IsJoined runs run both → place + 1 ≡ length runs
-      → AreValueRuns value from (run.span.hi + 1) (set runs place both)
+  pub joined_more : (runs : List ValueRun) (both : ValueRun) (place : ℕ) → AreMaximalRuns value from at runs → IsJoined runs run both → place + 1 ≡ length runs
+      → AreMaximalRuns value from (run.span.hi + 1) (set runs place both)
   joined_more runs both place are joined at_end =
       let end = ends_with runs (length runs - 1) joined.last (omega arith) joined.is in
       let same : place ≡ length end.front = omega (arith, end.place) in
       let made : set runs place both ≡ end.front ++ both ∷ []
       = (λ i. set (end.is i) (same i) both) ∙ set-append_seam end.front joined.last [] both in
-      subst (AreValueRuns value from (run.span.hi + 1)) (sym made)
-      (lengthened end.front joined.last both (subst (AreValueRuns value from at) end.is are) joined.on joined.begins joined.ends joined.value)
+      subst (AreMaximalRuns value from (run.span.hi + 1)) (sym made)
+      (lengthened end.front joined.last both (subst (AreMaximalRuns value from at) end.is are) joined.on joined.begins joined.ends joined.value)
 
   -- another run begins
-  pub pushed_more : (runs : List ValueRun) → AreValueRuns value from at runs
+  pub pushed_more : (runs : List ValueRun) → AreMaximalRuns value from at runs
       → IfSome (slice_get runs (length runs - 1)) (λ last. goes_on last run ≡ false)
-      → AreValueRuns value from (run.span.hi + 1) (runs ++ run ∷ [])
+      → AreMaximalRuns value from (run.span.hi + 1) (runs ++ run ∷ [])
   pushed_more [] are apart = pushed [] are tt
   pushed_more (first ∷ runs) are apart =
       let n : ℕ = length (first ∷ runs) - 1 in
@@ -155,32 +160,36 @@ module _ (value : ℕ → Option Value) (from at : ℕ) (run : ValueRun) (order 
       let is : slice_get (first ∷ runs) n ≡ Some last = slice_get-get_or (first ∷ runs) n first there in
       let end = ends_with (first ∷ runs) n last (omega arith) is in
       let differs : goes_on last run ≡ false = subst (λ (o : Option ValueRun). IfSome o (λ r. goes_on r run ≡ false)) is apart in
-      let before : IsRunOf value from at last = are.each n first there in
+      let before : IsRunOf value from at last = are.of_values.each n first there in
       let follows : Follows last run = record { past = omega (arith, before.ends); differ = λ next. apart_values last run next differs } in
       pushed (first ∷ runs) are
       (subst (λ rs. EachFollows (rs ++ run ∷ [])) (sym end.is) (follows_more end.front last run follows (subst EachFollows end.is are.maximal)))
 
 -- at first there is no run
-pub no_runs : (value : ℕ → Option Value) (from : ℕ) → AreValueRuns value from from []
+pub no_runs : (value : ℕ → Option Value) (from : ℕ) → AreMaximalRuns value from from []
 no_runs value from = record {
-  each = λ k d l. absurd (omega arith);
-  all = λ t begun before. absurd (omega arith);
+  of_values = record {
+    each = λ k d l. absurd (omega arith);
+    all = λ t begun before. absurd (omega arith);
+    few = omega arith;
+  };
   maximal = tt;
-  few = omega arith;
 }
 
 -- ticks without a value add none
-pub no_more_runs : (value : ℕ → Option Value) (from at until : ℕ) (runs : List ValueRun) → at ≤ until → AreValueRuns value from at runs →
-    ((t : ℕ) → at ≤ t → t < until → value t ≡ None) → AreValueRuns value from until runs
+pub no_more_runs : (value : ℕ → Option Value) (from at until : ℕ) (runs : List ValueRun) → at ≤ until → AreMaximalRuns value from at runs →
+    ((t : ℕ) → at ≤ t → t < until → value t ≡ None) → AreMaximalRuns value from until runs
 no_more_runs value from at until runs later are none = record {
-  each = All-weaker (IsRunOf value from at) (IsRunOf value from until) (λ r is. record { begins = is.begins; ends = omega (arith, is.ends); has = is.has }) runs are.each;
-  all = λ t begun before some.
-      elim (cases_lt t at) [
-        | inl early ↦ are.all t begun early some
-        | inr late ↦ absurd (false≢true (sym (ap is_some (none t late before)) ∙ some))
-      ];
+  of_values = record {
+    each = All-weaker (IsRunOf value from at) (IsRunOf value from until) (λ r is. record { begins = is.begins; ends = omega (arith, is.ends); has = is.has }) runs are.of_values.each;
+    all = λ t begun before some.
+        elim (cases_lt t at) [
+          | inl early ↦ are.of_values.all t begun early some
+          | inr late ↦ absurd (false≢true (sym (ap is_some (none t late before)) ∙ some))
+        ];
+    few = omega (arith, are.of_values.few);
+  };
   maximal = are.maximal;
-  few = omega (arith, are.few);
 }
 
 -- what follows of a call that had memory
@@ -189,10 +198,12 @@ on_ok {T} {E} (Ok x) P Q follows told = follows told
 on_ok {T} {E} (Err e) P Q follows told = told
 
 -- the same runs serve values that are equal
-pub runs_of_equal : (f h : ℕ → Option Value) (from until : ℕ) (runs : List ValueRun) → ((t : ℕ) → f t ≡ h t) → AreValueRuns f from until runs → AreValueRuns h from until runs
+pub runs_of_equal : (f h : ℕ → Option Value) (from until : ℕ) (runs : List ValueRun) → ((t : ℕ) → f t ≡ h t) → AreMaximalRuns f from until runs → AreMaximalRuns h from until runs
 runs_of_equal f h from until runs same are = record {
-  each = All-weaker (IsRunOf f from until) (IsRunOf h from until) (λ r is. record { begins = is.begins; ends = is.ends; has = λ t a b. sym (same t) ∙ is.has t a b }) runs are.each;
-  all = λ t begun before some. are.all t begun before (ap is_some (same t) ∙ some);
+  of_values = record {
+    each = All-weaker (IsRunOf f from until) (IsRunOf h from until) (λ r is. record { begins = is.begins; ends = is.ends; has = λ t a b. sym (same t) ∙ is.has t a b }) runs are.of_values.each;
+    all = λ t begun before some. are.of_values.all t begun before (ap is_some (same t) ∙ some);
+    few = are.of_values.few;
+  };
   maximal = are.maximal;
-  few = are.few;
 }

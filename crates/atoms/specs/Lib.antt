@@ -1,3 +1,4 @@
+pub mod Asked
 pub mod Courses
 pub mod Found
 pub mod Gathered

@@ -1,8 +1,7 @@
 -- The timelines of some variables, and what a common part of them shows of each variable.
-use Rattle.std.specs.Prelude.{◌≡◌, ℕ, ◌+◌, ◌<◌, ◌≤◌, ◌==◌, ⊤, Bool, Option, None, Some, is_some, option_and_then, unwrap_or, List, [], ◌∷◌, length, slice_get, slice_index, IsTrue, if◌then◌else◌}
+use Rattle.std.specs.Prelude.{◌≡◌, ℕ, ◌+◌, ◌≤◌, ◌==◌, ⊤, Bool, Option, None, Some, is_some, option_and_then, unwrap_or, List, [], ◌∷◌, slice_get, slice_index, IsTrue, if◌then◌else◌}
 use Rattle.std.specs.List.{list_all}
 use Rattle.std.specs.Option.{option_copied, option_map_or}
-use Rattle.formula_shape.specs.declared.limits.TheConstants.{OBJECT_LIMIT}
 use Rattle.motion.specs.Pieces.{AreSteadyCells}
 use Rattle.motion.specs.Dynamic.{Dynamic}
 use Rattle.motion.specs.Pieces.{IsLinear}
@@ -12,11 +11,11 @@ use Rattle.motion.specs.declared.cell.Cell.TheVariants as cells
 use Rattle.object_store.specs.Contents.{Contents}
 use Rattle.meaning.specs.Trace.{Trace}
 use Rattle.atoms.specs.declared.parts.Part.{Part}
+use Rattle.atoms.specs.Asked.{HasStored}
 
 -- the variable is one that a query may have, and its object in the binding, which is 0 past the end, is one of the store
-pub record HasObject (b : List ℕ) (s : Contents) (v : ℕ) : Type 0 where
-  pub few : v < OBJECT_LIMIT
-  pub stored : slice_index b v < length s.objects
+abbrev pub HasObject : List ℕ → Contents → ℕ → Type 0
+HasObject b s v = HasStored s (slice_index b) v
 
 -- the timeline of an object by its number
 abbrev pub epochs_of : Contents → ℕ → List Epoch

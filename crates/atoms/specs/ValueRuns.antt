@@ -1,28 +1,17 @@
 -- The maximal runs of equal value.
-use Rattle.std.specs.Prelude.{◌≡◌, ℕ, ◌+◌, ◌-◌, ◌<◌, ◌≤◌, ◌==◌, ℤ, unsigned_abs, ⊤, Bool, true, false, ◌&&◌, All, Option, Some, is_some, List, [], ◌∷◌, length, slice_get}
-use Rattle.std.specs.List.{list_any}
+use Rattle.std.specs.Prelude.{◌≡◌, ℕ, ◌+◌, ◌-◌, ◌<◌, ◌≤◌, ◌==◌, ℤ, unsigned_abs, ⊤, Bool, true, false, ◌&&◌, Option, Some, List, [], ◌∷◌, length, slice_get}
 use Rattle.std.specs.Ordering.{int_eq}
 use Rattle.std.specs.Str.{bytes_eq}
 use Rattle.fixed_point.specs.declared.number.TheConstants.{FIX_LIMIT}
-use Rattle.tick_set.specs.Ticks.{within}
 use Rattle.formula.specs.declared.value.Value.{Value}
 use Rattle.formula.specs.declared.value.Value.TheVariants as values
-use Rattle.atoms.specs.declared.value_list.ValueRun.{ValueRun}
+use Rattle.interpreting.specs.declared.value_run.ValueRun.{ValueRun}
+use Rattle.interpreting.specs.ValueRuns.{AreValueRuns}
 
 abbrev pub are_equal : Value → Value → Bool
 are_equal (values.Num m) (values.Num n) = int_eq m n
 are_equal (values.Text s) (values.Text u) = bytes_eq s u
 are_equal _ _ = false
-
--- whether a tick is in one of the runs
-abbrev pub runs_have : List ValueRun → ℕ → Bool
-runs_have runs t = list_any (λ run. within run.span.lo run.span.hi t) runs
-
--- the run lies in the ticks from `from` up to `until`, without `until`, and each tick of it has its value
-pub record IsRunOf (value : ℕ → Option Value) (from until : ℕ) (run : ValueRun) : Type 0 where
-  pub begins : from ≤ run.span.lo
-  pub ends : run.span.hi < until
-  pub has : (t : ℕ) → run.span.lo ≤ t → t ≤ run.span.hi → value t ≡ Some run.value
 
 -- the second run begins past the first, and where no tick is between them their values differ
 pub record Follows (first second : ValueRun) : Type 0 where
@@ -34,13 +23,10 @@ EachFollows [] = ⊤
 EachFollows (run ∷ []) = ⊤
 EachFollows (run ∷ next ∷ runs) = Follows run next × EachFollows (next ∷ runs)
 
--- The maximal runs of equal value among the ticks from `from` up to `until`, without `until`, ascending. A tick without
--- a value is in none.
-pub record AreValueRuns (value : ℕ → Option Value) (from until : ℕ) (runs : List ValueRun) : Type 0 where
-  pub each : All (IsRunOf value from until) runs
-  pub all : (t : ℕ) → from ≤ t → t < until → is_some (value t) ≡ true → runs_have runs t ≡ true
+-- the maximal runs of equal value among the ticks from `from` up to `until`, without `until`, ascending
+pub record AreMaximalRuns (value : ℕ → Option Value) (from until : ℕ) (runs : List ValueRun) : Type 0 where
+  pub of_values : AreValueRuns value from until runs
   pub maximal : EachFollows runs
-  pub few : length runs ≤ until - from
 
 -- each number there is within 10^18 thousandths of 0
 abbrev pub HasValuesInRange : (ℕ → Option Value) → ℕ → ℕ → Type 0

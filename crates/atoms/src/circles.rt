@@ -25,7 +25,7 @@ use std::sync::ledger::Ledger;
 use steps::Steps;
 
 // The lines of up to four objects.
-#[derive(Clone, Copy, Debug)]
+#[derive(Clone, Copy)]
 struct Lines {
     items: [Line; OBJECT_LIMIT],
     len: usize,

@@ -24,9 +24,10 @@ mod trends;
 mod value_list;
 mod values;
 mod variables;
+mod world;
 
 pub use laws::resolved_atoms_and_terms_are_sized;
 pub use present::{absence, presence};
 pub use ticks::atom_ticks;
-pub use value_list::ValueRun;
 pub use values::value_runs;
+pub use world::StoredWorld;

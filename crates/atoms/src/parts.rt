@@ -19,7 +19,7 @@ use tick_set::{LAST_TICK, Span};
 
 /// Ticks in which the object of each of some variables has one epoch in force, or none yet, and each dynamic
 /// attribute moves by one slope.
-#[derive(Clone, Copy, Debug)]
+#[derive(Clone, Copy)]
 pub struct Part<'a> {
     pub span: Span,
     /// The variables, and their epochs in the same order.

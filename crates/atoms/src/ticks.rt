@@ -18,6 +18,7 @@ use crate::judged::judged;
 use crate::parts::{fill_timelines, part_from};
 use crate::straight::straight_ticks;
 use crate::variables::variables_of_atom;
+use crate::world::StoredWorld;
 use courses::MOST_TIMELINES;
 use formula::{Binding, Env, RAtom};
 use interval_set::IntervalSet;
@@ -55,7 +56,8 @@ pub fn atom_ticks<L: Ledger, M: Ledger>(
         + probe_limit a.now (w.hi - w.lo) * pieces_of_all (atom_timelines store.now b.now a.now) w.lo w.hi }
 {
     let none = Timeline::new(alloc);
-    ticks_of(alloc, a, b, env, store, &none, regions, w, reads, probes)
+    let world = StoredWorld { store, regions };
+    ticks_of(alloc, a, b, env, &world, &none, w, reads, probes)
 }
 
 // The same, where a timeline stands for each that isn't asked for.
@@ -64,27 +66,35 @@ fn ticks_of<'x, L: Ledger, M: Ledger>(
     a: &RAtom,
     b: &Binding,
     env: &Env,
-    store: &'x Store,
+    world: &StoredWorld<'x>,
     none: &'x Timeline,
-    regions: &Regions,
     w: Window,
     reads: &mut Steps<L>,
     probes: &mut Steps<M>,
 ) -> Result<IntervalSet, AllocError>
     requires sized { IsTrue (is_sized a.now) }
-    requires bound { (v : ℕ) → atom_has v a.now ≡ true → HasObject b.now store.now v }
+    requires bound { (v : ℕ) → atom_has v a.now ≡ true → HasObject b.now world.now.store.now v }
     requires length { w.hi - w.lo ≤ SPAN_LIMIT }
     ensures ticks { IfOk result (λ s. (t : ℕ) → spans_have s t ≡ (within w.lo w.hi t
-        && atom_holds regions.now (trace_of (history_of store.now) (slice_index b.now)) a.now env.now t)) }
+        && atom_holds world.now.regions.now (trace_of (history_of world.now.store.now) (slice_index b.now)) a.now env.now t)) }
     ensures reads { reads.new ≡ reads.old + length (atom_variables a.now) }
     ensures probes { probes.new ≤ probes.old
-        + probe_limit a.now (w.hi - w.lo) * pieces_of_all (atom_timelines store.now b.now a.now) w.lo w.hi }
+        + probe_limit a.now (w.hi - w.lo) * pieces_of_all (atom_timelines world.now.store.now b.now a.now) w.lo w.hi }
 {
     let variables = variables_of_atom(a);
     let mut timelines = [none; MOST_TIMELINES];
-    fill_timelines(&mut timelines, variables, b, store, reads);
+    fill_timelines(&mut timelines, variables, b, world.store, reads);
     let timelines = &timelines[..variables.len()];
-    let runs = atom_runs(alloc, a, env, regions, variables, timelines, w, probes)?;
+    let runs = atom_runs(
+        alloc,
+        a,
+        env,
+        world.regions,
+        variables,
+        timelines,
+        w,
+        probes,
+    )?;
     Ok(IntervalSet::from_runs(runs))
 }
 

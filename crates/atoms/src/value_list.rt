@@ -1,26 +1,20 @@
 //! Runs of equal value that are gathered from the first tick to the last.
 ghost use Rattle.std.specs.Prelude.{◌≡◌, ◌+◌, ◌-◌, ◌≤◌, ℕ, false, Some, IfSome, IfNone, OnOk, Option, length, slice_get};
 ghost use Rattle.formula.specs.declared.value.Value.{Value};
-ghost use Rattle.atoms.specs.ValueRuns.{AreValueRuns, IsJoined, are_equal, goes_on};
+ghost use Rattle.atoms.specs.ValueRuns.{AreMaximalRuns, IsJoined, are_equal, goes_on};
 
 use formula::Value;
+use interpreting::ValueRun;
 use std::alloc::AllocError;
 use tick_set::Span;
-
-/// Ticks without a gap at each of which a term has the same value.
-#[derive(Clone, Copy, Debug)]
-pub struct ValueRun {
-    pub span: Span,
-    pub value: Value,
-}
 
 /// Adds the ticks of a run, which begins with the first tick that isn't told yet. Where it goes on with the
 /// value of the tick before, it makes the last run longer.
 pub fn append_run(runs: &mut Vec<ValueRun>, run: ValueRun) -> Result<(), AllocError>
     ensures { OnOk result ((value : ℕ → Option Value) (from : ℕ) → from ≤ run.span.lo
-        → AreValueRuns value from run.span.lo runs.old.items
+        → AreMaximalRuns value from run.span.lo runs.old.items
         → ((t : ℕ) → run.span.lo ≤ t → t ≤ run.span.hi → value t ≡ Some run.value)
-        → AreValueRuns value from (run.span.hi + 1) runs.new.items) }
+        → AreMaximalRuns value from (run.span.hi + 1) runs.new.items) }
 {
     match joined(runs, &run) {
         Some(longer) => {

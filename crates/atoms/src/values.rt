@@ -14,16 +14,17 @@ ghost use Rattle.object_store.specs.Contents.{history_of};
 ghost use Rattle.atoms.specs.Courses.{IsCourseOf, IsTrendOf, course_value, value_along};
 ghost use Rattle.atoms.specs.Parts.{AreAscending, HasObject, trace_by};
 ghost use Rattle.atoms.specs.Sizes.{is_sized_term};
-ghost use Rattle.atoms.specs.ValueRuns.{AreValueRuns, HasValuesInRange};
+ghost use Rattle.atoms.specs.ValueRuns.{AreMaximalRuns, HasValuesInRange};
 
 use crate::parts::{fill_timelines, part_from};
 use crate::terms::{Course, course_of};
 use crate::trends::Trend;
-use crate::value_list::{ValueRun, append_run};
+use crate::value_list::append_run;
 use crate::variables::variables_of_term;
 use courses::MOST_TIMELINES;
 use fixed_point::{FIX_LIMIT, Fix};
 use formula::{Binding, Env, FACTOR_LIMIT, RTerm, Value};
+use interpreting::ValueRun;
 use motion::Timeline;
 use object_store::Store;
 use std::alloc::{AllocError, Global};
@@ -50,7 +51,7 @@ pub fn value_runs<L: Ledger>(
     requires bound { (v : ℕ) → term_has v term.now ≡ true → HasObject b.now store.now v }
     requires in_range { HasValuesInRange
         (term_value (trace_of (history_of store.now) (slice_index b.now)) term.now env.now) w.lo (w.hi + 1) }
-    ensures runs { IfOk result (λ runs. AreValueRuns
+    ensures runs { IfOk result (λ runs. AreMaximalRuns
         (term_value (trace_of (history_of store.now) (slice_index b.now)) term.now env.now)
         w.lo (w.hi + 1) runs.items) }
     ensures reads { reads.new ≡ reads.old + length (term_variables term.now) }
@@ -74,7 +75,7 @@ fn runs_of<'x, L: Ledger>(
     requires bound { (v : ℕ) → term_has v term.now ≡ true → HasObject b.now store.now v }
     requires in_range { HasValuesInRange
         (term_value (trace_of (history_of store.now) (slice_index b.now)) term.now env.now) w.lo (w.hi + 1) }
-    ensures runs { IfOk result (λ runs. AreValueRuns
+    ensures runs { IfOk result (λ runs. AreMaximalRuns
         (term_value (trace_of (history_of store.now) (slice_index b.now)) term.now env.now)
         w.lo (w.hi + 1) runs.items) }
     ensures reads { reads.new ≡ reads.old + length (term_variables term.now) }
@@ -102,7 +103,7 @@ fn term_runs<'a>(
     requires ascending { AreAscending variables.now }
     requires in_range { HasValuesInRange
         (term_value (trace_by variables.now (epochs_of_each timelines.now)) term.now env.now) w.lo (w.hi + 1) }
-    ensures { IfOk result (λ runs. AreValueRuns
+    ensures { IfOk result (λ runs. AreMaximalRuns
         (term_value (trace_by variables.now (epochs_of_each timelines.now)) term.now env.now)
         w.lo (w.hi + 1) runs.items) }
 {
@@ -124,9 +125,9 @@ fn append_course(
 ) -> Result<(), AllocError>
     requires small { IfSome course.now (IsCourseOf FACTOR_LIMIT) }
     requires in_range { HasValuesInRange (value_along course.now span.lo) span.lo (span.hi + 1) }
-    ensures { OnOk result ((value : ℕ → Option Value) (from : ℕ) → from ≤ span.lo → AreValueRuns value from span.lo runs.old.items
+    ensures { OnOk result ((value : ℕ → Option Value) (from : ℕ) → from ≤ span.lo → AreMaximalRuns value from span.lo runs.old.items
         → ((t : ℕ) → span.lo ≤ t → t ≤ span.hi → value t ≡ value_along course.now span.lo t)
-        → AreValueRuns value from (span.hi + 1) runs.new.items) }
+        → AreMaximalRuns value from (span.hi + 1) runs.new.items) }
 {
     match course {
         Some(course) => append_values(runs, course, span),
@@ -138,9 +139,9 @@ fn append_course(
 fn append_values(runs: &mut Vec<ValueRun>, course: &Course, span: Span) -> Result<(), AllocError>
     requires small { IsCourseOf FACTOR_LIMIT course.now }
     requires in_range { HasValuesInRange (λ t. Some (course_value span.lo t course.now)) span.lo (span.hi + 1) }
-    ensures { OnOk result ((value : ℕ → Option Value) (from : ℕ) → from ≤ span.lo → AreValueRuns value from span.lo runs.old.items
+    ensures { OnOk result ((value : ℕ → Option Value) (from : ℕ) → from ≤ span.lo → AreMaximalRuns value from span.lo runs.old.items
         → ((t : ℕ) → span.lo ≤ t → t ≤ span.hi → value t ≡ Some (course_value span.lo t course.now))
-        → AreValueRuns value from (span.hi + 1) runs.new.items) }
+        → AreMaximalRuns value from (span.hi + 1) runs.new.items) }
 {
     match course {
         Course::Number(trend) => append_trend(runs, *trend, span),
@@ -158,9 +159,9 @@ fn append_values(runs: &mut Vec<ValueRun>, course: &Course, span: Span) -> Resul
 fn append_trend(runs: &mut Vec<ValueRun>, trend: Trend, span: Span) -> Result<(), AllocError>
     requires small { IsTrendOf FACTOR_LIMIT trend }
     requires in_range { (t : ℕ) → span.lo ≤ t → t ≤ span.hi → unsigned_abs (line_at trend.rise trend.start span.lo t) ≤ FIX_LIMIT }
-    ensures { OnOk result ((value : ℕ → Option Value) (from : ℕ) → from ≤ span.lo → AreValueRuns value from span.lo runs.old.items
+    ensures { OnOk result ((value : ℕ → Option Value) (from : ℕ) → from ≤ span.lo → AreMaximalRuns value from span.lo runs.old.items
         → ((t : ℕ) → span.lo ≤ t → t ≤ span.hi → value t ≡ Some (values.Num (line_at trend.rise trend.start span.lo t)))
-        → AreValueRuns value from (span.hi + 1) runs.new.items) }
+        → AreMaximalRuns value from (span.hi + 1) runs.new.items) }
 {
     if trend.rise == 0 {
         append_run(
@@ -179,9 +180,9 @@ fn append_trend(runs: &mut Vec<ValueRun>, trend: Trend, span: Span) -> Result<()
 fn append_each(runs: &mut Vec<ValueRun>, trend: Trend, span: Span) -> Result<(), AllocError>
     requires small { IsTrendOf FACTOR_LIMIT trend }
     requires in_range { (t : ℕ) → span.lo ≤ t → t ≤ span.hi → unsigned_abs (line_at trend.rise trend.start span.lo t) ≤ FIX_LIMIT }
-    ensures { OnOk result ((value : ℕ → Option Value) (from : ℕ) → from ≤ span.lo → AreValueRuns value from span.lo runs.old.items
+    ensures { OnOk result ((value : ℕ → Option Value) (from : ℕ) → from ≤ span.lo → AreMaximalRuns value from span.lo runs.old.items
         → ((t : ℕ) → span.lo ≤ t → t ≤ span.hi → value t ≡ Some (values.Num (line_at trend.rise trend.start span.lo t)))
-        → AreValueRuns value from (span.hi + 1) runs.new.items) }
+        → AreMaximalRuns value from (span.hi + 1) runs.new.items) }
 {
     for tick in span.lo..span.hi + 1 {
         let value = number(trend.after(tick - span.lo));

@@ -1,9 +1,11 @@
 -- The rows of an assignment, key by key and run by run.
 use Rattle.std.proofs.Common.{◌≡◌, ℕ, zero, suc, ◌+◌, ◌<◌, ◌≤◌, Bool, true, false, ◌&&◌, ◌||◌, Option, Some, slice_index, List, [], ◌∷◌, ◌++◌, length, get_or, take, map, refl, sym, ap, ◌∙◌, subst, inl, inr, arith}
+use Rattle.std.specs.Prelude.{All}
 use Rattle.std.specs.Option.{option_map_or}
 use Rattle.std.specs.Str.{bytes_eq}
 use Rattle.std.proofs.lemmas.Bool.{cases_Bool}
 use Rattle.std.proofs.lemmas.List.{take_all}
+use Rattle.std.proofs.lemmas.List.Elements.{All-head, All-tail}
 use Rattle.std.proofs.lemmas.List.Folds.{list_any_more}
 use Rattle.tick_set.specs.Ticks.{within}
 use Rattle.formula_shape.specs.Shape as shapes
@@ -19,16 +21,16 @@ use Rattle.meaning.specs.Satisfaction.{Interpretation, sat}
 use Rattle.relation.specs.Frames.{Frame, IsIn, IsWider, agrees, frame, vars_of_both}
 use Rattle.relation.specs.Key.{are_known}
 use Rattle.relation.specs.Rows.{Table, has}
-use Rattle.atoms.specs.declared.value_list.ValueRun.{ValueRun}
+use Rattle.interpreting.specs.declared.value_run.ValueRun.{ValueRun}
 use Rattle.evaluator.specs.Assigned.{CanAskEach, run_holds}
 use Rattle.evaluator.specs.Gathered.{any_has}
 use Rattle.evaluator.specs.Interpreting.{CanAsk, IsInFor}
 use Rattle.evaluator.specs.Keys.{AreKeys, AreNarrowed, binding_of, has_key}
 use Rattle.evaluator.specs.Rows.{AreRowsOf, AreRowsWhere}
-use Rattle.evaluator.specs.ValueRuns.{AreValueRuns, EachHasItsValue, run_has}
+use Rattle.interpreting.specs.ValueRuns.{AreValueRuns, IsRunOf, run_has}
 use Rattle.evaluator.proofs.BindingLemmas.{agreeing_key, binding_of-map, key_in-map, narrowed_has}
 use Rattle.evaluator.proofs.GatherLemmas.{any_has-push}
-use Rattle.evaluator.proofs.RunLemmas.{run_first, runs_all}
+use Rattle.evaluator.proofs.RunLemmas.{at_run, run_first, runs_all}
 use Rattle.evaluator.proofs.VariableLemmas.{both_variables}
 
 module _ (j : (ℕ → ℕ) → Interpretation) (P : (ℕ → ℕ) → RAtom → Env → Type 0) (Q : (ℕ → ℕ) → RTerm → Env → Type 0) (lo hi : ℕ) where
@@ -54,12 +56,12 @@ module _ (j : (ℕ → ℕ) → Interpretation) (P : (ℕ → ℕ) → RAtom →
   -- each run of a term's value has a tick at which the term has it
   pub can_ask_each : (new old : List (List ℕ)) → IsWider new old → (depth : ℕ) (q : RTerm) (f : ResolvedTree) (x : Env) (b : ℕ → ℕ) →
       ((t : ℕ) → within lo hi t ≡ true → (v : Value) → (j b).term q x t ≡ Some v → CanAsk j P Q old lo hi f (with_value x depth v)) →
-      (runs : List ValueRun) → EachHasItsValue lo hi ((j b).term q x) runs → CanAskEach j P Q new lo hi depth f x runs
+      (runs : List ValueRun) → All (IsRunOf ((j b).term q x) lo (hi + 1)) runs → CanAskEach j P Q new lo hi depth f x runs
   can_ask_each new old wider depth q f x b can [] each = tt
   can_ask_each new old wider depth q f x b can (r ∷ rest) each =
-      let own = each.0 r.span.lo (run_first r) in (
+      let own = at_run lo hi ((j b).term q x) r (All-head (IsRunOf ((j b).term q x) lo (hi + 1)) r rest each) r.span.lo (run_first r) in (
         can_ask_narrower new old wider f (with_value x depth r.value) (can r.span.lo own.0 r.value own.1),
-        can_ask_each new old wider depth q f x b can rest each.1,
+        can_ask_each new old wider depth q f x b can rest (All-tail (IsRunOf ((j b).term q x) lo (hi + 1)) r rest each),
       )
 
   pub can_ask_run : (domains : List (List ℕ)) (depth : ℕ) (f : ResolvedTree) (x : Env) (runs : List ValueRun) (i : ℕ) (d : ValueRun) → i < length runs →
@@ -145,7 +147,7 @@ module _ {S : Type 0} (member : S → ℕ → Bool) (j : (ℕ → ℕ) → Inter
 
   pub rows_at_key : (key : List ℕ) (new : List (List ℕ)) (runs : List ValueRun) (rows wide own made : Table S) →
       AreNarrowed old vars key new →
-      AreValueRuns lo hi ((j (slice_index (binding_of vars key))).term q x) runs →
+      AreValueRuns ((j (slice_index (binding_of vars key))).term q x) lo (hi + 1) runs →
       AreRowsWhere member new lo hi (variables_of f) (run_holds j depth f x hi runs) rows →
       ((b : ℕ → ℕ) (t : ℕ) → has member wide b t ≡ has member rows b t) → wide.vars ≡ rows.vars →
       AreRowsWhere member old lo hi vars (λ b t. agrees vars key b) own →

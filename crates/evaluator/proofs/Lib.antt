@@ -1,7 +1,6 @@
 pub mod AloneLemmas
 pub mod AssignLemmas
 pub mod AtomLemmas
-pub mod AtomRunLemmas
 pub mod AwayLemmas
 pub mod BindingLemmas
 pub mod ByKeyLemmas

@@ -10,7 +10,7 @@ use Rattle.meaning.specs.Reads.{choices, made_single, reads, term_variables}
 use Rattle.meaning.specs.Satisfaction.{Interpretation}
 use Rattle.relation.specs.Frames.{Frame, frame, frame_of, size_of}
 use Rattle.relation.specs.Rows.{IsSameHead, Table, table}
-use Rattle.atoms.specs.declared.value_list.ValueRun.{ValueRun}
+use Rattle.interpreting.specs.declared.value_run.ValueRun.{ValueRun}
 use Rattle.evaluator.specs.Assigned.{CanAskEach}
 use Rattle.evaluator.specs.Gathered.{AreAlike}
 use Rattle.evaluator.specs.Interpreting.{CanAsk}

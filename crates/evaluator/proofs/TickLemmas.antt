@@ -1,5 +1,6 @@
 -- The ticks of a formula at one binding, by those of its parts.
-use Rattle.std.proofs.Common.{◌≡◌, ℕ, zero, suc, ◌+◌, ◌-◌, ◌*◌, ◌<◌, ◌≤◌, min, Bool, true, false, ◌&&◌, ◌||◌, ◌==◌, if◌then◌else◌, Option, Some, List, [], ◌∷◌, ◌++◌, length, get_or, take, refl, sym, ap, ◌∙◌, subst, inl, inr, arith}
+use Rattle.std.proofs.Common.{◌≡◌, ℕ, ◌+◌, ◌-◌, ◌*◌, ◌<◌, ◌≤◌, min, Bool, true, false, ◌&&◌, ◌||◌, ◌==◌, if◌then◌else◌, List, [], ◌∷◌, ◌++◌, length, get_or, take, refl, sym, ap, ◌∙◌, subst, inl, inr, arith}
+use Rattle.std.specs.Prelude.{All}
 use Rattle.std.specs.List.{list_any}
 use Rattle.std.proofs.lemmas.Bool.{and_parts, cases_Bool, false≢true}
 use Rattle.std.proofs.lemmas.List.{take_all}
@@ -14,23 +15,22 @@ use Rattle.formula_shape.specs.Shape as shapes
 use Rattle.formula.specs.declared.tree.RAtom.{RAtom}
 use Rattle.formula.specs.declared.tree.RTerm.{RTerm}
 use Rattle.formula.specs.declared.value.Env.{Env}
-use Rattle.formula.specs.declared.value.Value.{Value}
 use Rattle.formula.specs.Tree.{ResolvedTree}
 use Rattle.formula.specs.Value.{with_value}
 use Rattle.meaning.specs.Reads.{atom_variables, choices, made_single, reads, term_variables}
 use Rattle.meaning.specs.Satisfaction.{Interpretation, sat}
 use Rattle.evaluator.specs.declared.node.Change.{Change}
 use Rattle.evaluator.specs.declared.node.Pairing.{Pairing}
-use Rattle.atoms.specs.declared.value_list.ValueRun.{ValueRun}
+use Rattle.interpreting.specs.declared.value_run.ValueRun.{ValueRun}
 use Rattle.evaluator.specs.Assigned.{run_holds}
-use Rattle.evaluator.specs.ValueRuns.{AreValueRuns, EachHasItsValue, run_has}
+use Rattle.interpreting.specs.ValueRuns.{AreValueRuns, IsRunOf, run_has}
 use Rattle.evaluator.specs.inner.ByBinding.{AreTicksOf, CanAskHere, any_member, reads_here}
 use Rattle.evaluator.specs.inner.Nodes.{changed_at, changed_tree, paired_in, paired_tree}
 use Rattle.evaluator.proofs.GatherLemmas.{any-push}
 use Rattle.evaluator.proofs.LoopLemmas.{later_looks}
 use Rattle.evaluator.proofs.OperatorLemmas.{cut, until_cut}
 use Rattle.evaluator.proofs.NodeLemmas.{changed_cut, changed_sat, paired_cut, paired_sat}
-use Rattle.evaluator.proofs.RunLemmas.{run_first, runs_all}
+use Rattle.evaluator.proofs.RunLemmas.{at_run, run_first, runs_all}
 
 none_in : (p q : ℕ → Bool) → ((u : ℕ) → q u ≡ false) → (lo hi t : ℕ) → until_in p q lo hi t ≡ false
 none_in p q none lo hi t = until_in_none p q lo hi t (λ s. false≢true (sym (none s.goal) ∙ s.holds))
@@ -82,18 +82,12 @@ run_step true h r s = refl
 run_step false h true s = refl
 run_step false h false s = refl
 
-each_at : (lo hi : ℕ) (value : ℕ → Option Value) (runs : List ValueRun) (i : ℕ) (d : ValueRun) → i < length runs → EachHasItsValue lo hi value runs →
-    (t : ℕ) → run_has t (get_or runs i d) ≡ true → (within lo hi t ≡ true) × (value t ≡ Some (get_or runs i d).value)
-each_at lo hi value [] i d l each = absurd (omega (arith, l))
-each_at lo hi value (r ∷ rest) zero d l each = each.0
-each_at lo hi value (r ∷ rest) (suc i) d l each = each_at lo hi value rest i d (omega (arith, l)) each.1
-
 -- what may be asked of an assignment may be asked by the value of each run
 pub can_ask_by : (j : Interpretation) (P : RAtom → Env → Type 0) (Q : RTerm → Env → Type 0) (lo hi depth : ℕ) (q : RTerm) (f : ResolvedTree) (x : Env) →
-    CanAskHere j P Q lo hi (shapes.Assign (depth, q) f) x → (runs : List ValueRun) → EachHasItsValue lo hi (j.term q x) runs →
+    CanAskHere j P Q lo hi (shapes.Assign (depth, q) f) x → (runs : List ValueRun) → All (IsRunOf (j.term q x) lo (hi + 1)) runs →
     (i : ℕ) (run : ValueRun) → i < length runs → run ≡ get_or runs i run → CanAskHere j P Q lo hi f (with_value x depth run.value)
 can_ask_by j P Q lo hi depth q f x can runs each i run l at =
-    let own = each_at lo hi (j.term q x) runs i run l each (get_or runs i run).span.lo (run_first (get_or runs i run)) in
+    let own = at_run lo hi (j.term q x) (get_or runs i run) (each i run l) (get_or runs i run).span.lo (run_first (get_or runs i run)) in
     subst (λ (r : ValueRun). CanAskHere j P Q lo hi f (with_value x depth r.value)) (sym at)
     (can.1 (get_or runs i run).span.lo own.0 (get_or runs i run).value own.1)
 
@@ -113,7 +107,7 @@ module _ {S : Type 0} (member : S → ℕ → Bool) (j : (ℕ → ℕ) → Inter
       ∙ ap (λ (r : ValueRun). run_holds j depth f x hi (take i runs) b t || (run_has t r && sat (j b) f (with_value x depth r.value) hi t)) (sym at)))
 
   -- those of all runs
-  pub runs_done : (q : RTerm) → AreValueRuns lo hi ((j b).term q x) runs → (i : ℕ) (parts : List S) (made : S) → length runs ≤ i →
+  pub runs_done : (q : RTerm) → AreValueRuns ((j b).term q x) lo (hi + 1) runs → (i : ℕ) (parts : List S) (made : S) → length runs ≤ i →
       ((t : ℕ) → any_member member parts t ≡ (within lo hi t && run_holds j depth f x hi (take i runs) b t)) →
       ((t : ℕ) → member made t ≡ any_member member parts t) → AreTicksOf member (j b) lo hi (shapes.Assign (depth, q) f) x made
   runs_done q are i parts made l before says t =

@@ -9,9 +9,9 @@ use Rattle.formula.specs.Tree.{ResolvedTree, formula_view}
 use Rattle.formula.specs.Value.{with_value}
 use Rattle.meaning.specs.Satisfaction.{Interpretation, sat}
 use Rattle.evaluator.specs.declared.assignment.Assignment.{Assignment}
-use Rattle.atoms.specs.declared.value_list.ValueRun.{ValueRun}
+use Rattle.interpreting.specs.declared.value_run.ValueRun.{ValueRun}
 use Rattle.evaluator.specs.Interpreting.{CanAsk}
-use Rattle.evaluator.specs.ValueRuns.{run_has}
+use Rattle.interpreting.specs.ValueRuns.{run_has}
 
 -- the tree of an assignment
 abbrev pub assignment_view : Assignment → ResolvedTree

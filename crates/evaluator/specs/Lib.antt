@@ -3,5 +3,4 @@ pub mod Gathered
 pub mod Interpreting
 pub mod Keys
 pub mod Rows
-pub mod ValueRuns
 pub mod inner

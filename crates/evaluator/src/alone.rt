@@ -7,10 +7,10 @@ ghost use Rattle.formula.specs.Value.{no_values};
 ghost use Rattle.evaluator.specs.Interpreting.{CanAsk, IsOver};
 ghost use Rattle.evaluator.specs.Rows.{is_full, query_reads_upto};
 
-use crate::Interpreter;
 use crate::full::key_of;
 use crate::ticks::ticks_of;
 use formula::{Env, RQuery};
+use interpreting::Interpreter;
 use std::alloc::{AllocError, Global};
 use std::sync::ledger::Ledger;
 use steps::Steps;

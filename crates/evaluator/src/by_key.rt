@@ -14,11 +14,11 @@ ghost use Rattle.evaluator.specs.Rows.{AreRowsOf, reads_upto};
 ghost use Rattle.evaluator.specs.inner.ByBinding.{holds_at, is_over, reads_here};
 ghost use Rattle.evaluator.specs.inner.Filled.{IsFilled, behind};
 
-use crate::Interpreter;
 use crate::keys::{keys_of, with_first};
 use crate::ticks::ticks_of;
 use crate::variables::binding_at;
 use formula::{Binding, Env, RFormula};
+use interpreting::Interpreter;
 use relation::{Domains, Relation};
 use std::alloc::{AllocError, Global};
 use std::sync::ledger::Ledger;

@@ -12,10 +12,10 @@ ghost use Rattle.evaluator.specs.Interpreting.{CanAsk, IsOver};
 ghost use Rattle.evaluator.specs.Rows.{AreRowsWhere, is_full, query_reads_upto};
 ghost use Rattle.evaluator.specs.inner.Away.{AreAwayFor};
 
-use crate::Interpreter;
 use crate::rows::rows_of;
 use crate::variables::has_variable;
 use formula::{Binding, Env, RQuery};
+use interpreting::Interpreter;
 use relation::{Domains, Relation};
 use std::alloc::{AllocError, Global};
 use std::sync::ledger::Ledger;

@@ -7,7 +7,6 @@ mod assignment;
 mod by_key;
 mod full;
 mod gathering;
-mod interpreter;
 mod keys;
 mod narrowing;
 mod node;
@@ -19,7 +18,5 @@ mod ticks;
 mod variables;
 
 pub use alone::ticks_alone;
-pub use atoms::ValueRun;
 pub use full::full_rows;
-pub use interpreter::Interpreter;
 pub use rows::rows_of;

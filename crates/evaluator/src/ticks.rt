@@ -7,12 +7,12 @@ ghost use Rattle.formula.specs.Tree.{formula_view};
 ghost use Rattle.evaluator.specs.Assigned.{assignment_view};
 ghost use Rattle.evaluator.specs.inner.ByBinding.{AreTicksOf, CanAskHere, reads_here};
 
-use crate::Interpreter;
 use crate::assignment::Assignment;
 use crate::node::{Node, Pairing};
 use crate::sets::{changed, paired, union_of};
 use fixed_point::UntilForm;
 use formula::{Binding, Env, RFormula};
+use interpreting::Interpreter;
 use std::alloc::{AllocError, Global};
 use std::collections::VecDeque;
 use std::sync::ledger::Ledger;

@@ -19,7 +19,7 @@ use Rattle.object_store.specs.Contents.{Contents, catalog_of}
 use Rattle.relation.specs.Frames.{IsIn}
 use Rattle.relation.specs.Key.{has_id}
 use Rattle.relation.specs.Rows.{Table, has}
-use Rattle.answers.specs.Asking.{world_in}
+use Rattle.atoms.specs.Asked.{world_in}
 use Rattle.answers.specs.Objects.{AreOfItsClasses}
 use Rattle.answers.proofs.ObjectLemmas.{domain_at}
 use Rattle.std.proofs.lemmas.List.{length-map}

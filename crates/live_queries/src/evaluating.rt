@@ -14,7 +14,7 @@ ghost use Rattle.meaning.specs.Binding.{holds_full};
 ghost use Rattle.meaning.specs.Fits.{FitsItsClasses};
 ghost use Rattle.meaning.specs.Reads.{change_reads, query_reads, sizes_of};
 ghost use Rattle.object_store.specs.Contents.{catalog_of};
-ghost use Rattle.answers.specs.Asking.{world_in};
+ghost use Rattle.atoms.specs.Asked.{told_world};
 ghost use Rattle.answers.specs.Objects.{IsOfAcceptedWrites};
 ghost use Rattle.live_queries.specs.Asked.{class_in};
 ghost use Rattle.live_queries.specs.Columns.{AreColumnsOf, AreCounted, Column, gives, object_of, order_of, variables_of};
@@ -25,12 +25,10 @@ use crate::columns::{numbers_of, numbers_with};
 use crate::judging::{Alone, Parts, Whole};
 use crate::objects::{Objects, is_of_class, width};
 use crate::parts::{parts_of, singles};
-use answers::{domains_of, evaluate, evaluate_alone};
+use answers::{StoredWorld, domains_of, evaluate, evaluate_alone};
 use formula::{ClassNo, RQuery};
 use interval_set::IntervalSet;
 use kept_rows::{Changes, KeptRows, judge_all, refresh};
-use object_store::Store;
-use polygon::Regions;
 use std::alloc::{AllocError, Global};
 use std::slice::from_ref;
 use std::sync::ledger::Ledger;
@@ -43,29 +41,28 @@ pub(crate) fn rows_between<L: Ledger, M: Ledger>(
     alloc: Global,
     query: &RQuery,
     columns: &[Objects],
-    store: &Store,
-    regions: &Regions,
+    world: &StoredWorld,
     lo: u32,
     hi: u32,
     reads: &mut Steps<L>,
     probes: &mut Steps<M>,
 ) -> Result<KeptRows<IntervalSet>, AllocError>
-    requires accepted { IsOfAcceptedWrites store.now }
+    requires accepted { IsOfAcceptedWrites world.now.store.now }
     requires resolved { IsResolved (query_view query.now) }
-    requires fits { FitsItsClasses (world_in store.now regions.now) (query_view query.now) }
-    requires columns { AreColumnsOf (catalog_of store.now) query.now.classes (order_of (query_view query.now)) columns.now }
+    requires fits { FitsItsClasses (told_world world.now) (query_view query.now) }
+    requires columns { AreColumnsOf (catalog_of world.now.store.now) query.now.classes (order_of (query_view query.now)) columns.now }
     requires size { size_of (variables_of columns.now) ≤ BINDING_LIMIT }
     requires last { hi ≤ LAST_TICK }
     requires length { hi - lo ≤ SPAN_LIMIT }
     ensures room { IfOk result (λ rows. HasRoom rows (size_of (variables_of columns.now))) }
     ensures rows { IfOk result (λ rows. AreRowsOf (row_has spans_have rows) (counts (variables_of columns.now))
-        (λ n t. within lo hi t && holds_full (world_in store.now regions.now) (query_view query.now) hi (object_of columns.now n) t)) }
+        (λ n t. within lo hi t && holds_full (told_world world.now) (query_view query.now) hi (object_of columns.now n) t)) }
     ensures least { reads.old ≤ reads.new }
     ensures most { reads.new ≤ reads.old
-        + query_reads (sizes_of (catalog_of store.now) (query_view query.now)) (hi + 1 - lo) (query_view query.now) }
+        + query_reads (sizes_of (catalog_of world.now.store.now) (query_view query.now)) (hi + 1 - lo) (query_view query.now) }
 {
     match Window::new(lo, hi) {
-        Some(w) => first_rows(alloc, query, columns, store, regions, w, reads, probes),
+        Some(w) => first_rows(alloc, query, columns, world, w, reads, probes),
         None => KeptRows::new(alloc, width(columns)),
     }
 }
@@ -75,27 +72,35 @@ fn first_rows<L: Ledger, M: Ledger>(
     alloc: Global,
     query: &RQuery,
     columns: &[Objects],
-    store: &Store,
-    regions: &Regions,
+    world: &StoredWorld,
     w: Window,
     reads: &mut Steps<L>,
     probes: &mut Steps<M>,
 ) -> Result<KeptRows<IntervalSet>, AllocError>
-    requires accepted { IsOfAcceptedWrites store.now }
+    requires accepted { IsOfAcceptedWrites world.now.store.now }
     requires resolved { IsResolved (query_view query.now) }
-    requires fits { FitsItsClasses (world_in store.now regions.now) (query_view query.now) }
-    requires columns { AreColumnsOf (catalog_of store.now) query.now.classes (order_of (query_view query.now)) columns.now }
+    requires fits { FitsItsClasses (told_world world.now) (query_view query.now) }
+    requires columns { AreColumnsOf (catalog_of world.now.store.now) query.now.classes (order_of (query_view query.now)) columns.now }
     requires size { size_of (variables_of columns.now) ≤ BINDING_LIMIT }
     requires length { w.hi - w.lo ≤ SPAN_LIMIT }
     ensures room { IfOk result (λ rows. HasRoom rows (size_of (variables_of columns.now))) }
     ensures rows { IfOk result (λ rows. AreRowsOf (row_has spans_have rows) (counts (variables_of columns.now))
-        (λ n t. within w.lo w.hi t && holds_full (world_in store.now regions.now) (query_view query.now) w.hi (object_of columns.now n) t)) }
+        (λ n t. within w.lo w.hi t && holds_full (told_world world.now) (query_view query.now) w.hi (object_of columns.now n) t)) }
     ensures least { reads.old ≤ reads.new }
     ensures most { reads.new ≤ reads.old
-        + query_reads (sizes_of (catalog_of store.now) (query_view query.now)) (w.hi + 1 - w.lo) (query_view query.now) }
+        + query_reads (sizes_of (catalog_of world.now.store.now) (query_view query.now)) (w.hi + 1 - w.lo) (query_view query.now) }
 {
-    let domains = domains_of(alloc, query, store)?;
-    let full = evaluate(alloc, query, &domains, store, regions, w, reads, probes)?;
+    let domains = domains_of(alloc, query, world.store)?;
+    let full = evaluate(
+        alloc,
+        query,
+        &domains,
+        world.store,
+        world.regions,
+        w,
+        reads,
+        probes,
+    )?;
     let numbers = numbers_of(alloc, columns)?;
     let judge = Whole {
         columns,
@@ -117,20 +122,19 @@ pub(crate) fn new_rows<L: Ledger, M: Ledger>(
     class: ClassNo,
     likely: usize,
     grows: bool,
-    store: &Store,
-    regions: &Regions,
+    world: &StoredWorld,
     w: Window,
     reads: &mut Steps<L>,
     probes: &mut Steps<M>,
 ) -> Result<Changes<IntervalSet>, AllocError>
-    requires accepted { IsOfAcceptedWrites store.now }
+    requires accepted { IsOfAcceptedWrites world.now.store.now }
     requires resolved { IsResolved (query_view query.now) }
-    requires fits { FitsItsClasses (world_in store.now regions.now) (query_view query.now) }
-    requires there { id < length store.now.objects }
-    requires class { class ≡ class_in store.now id }
+    requires fits { FitsItsClasses (told_world world.now) (query_view query.now) }
+    requires there { id < length world.now.store.now.objects }
+    requires class { class ≡ class_in world.now.store.now id }
     requires order { map (λ c. c.variable) columns.now ≡ order_of (query_view query.now) }
     requires room { grows ≡ true → HaveRoomFor class query.now.classes columns.now }
-    requires objects { HaveObjectsWith (catalog_of store.now) grows class query.now.classes id columns.now }
+    requires objects { HaveObjectsWith (catalog_of world.now.store.now) grows class query.now.classes id columns.now }
     requires counted { AreCounted columns.now }
     requires size { size_of (variables_of columns.now) ≤ BINDING_LIMIT }
     requires pages { HasRoom rows.now (size_of (variables_of columns.now)) }
@@ -140,22 +144,21 @@ pub(crate) fn new_rows<L: Ledger, M: Ledger>(
     ensures rows { IfOk result (λ f. (ds : List Column) → AreColumnsWith grows class query.now.classes id columns.now ds → (c t : ℕ)
         → after spans_have f (row_has spans_have rows.now) c t
         ≡ (if counts (variables_of ds) c && gives ds id c
-        then (within w.lo w.hi t && holds_full (world_in store.now regions.now) (query_view query.now) w.hi (object_of ds c) t)
+        then (within w.lo w.hi t && holds_full (told_world world.now) (query_view query.now) w.hi (object_of ds c) t)
         else row_has spans_have rows.now c t)) }
     ensures least { reads.old ≤ reads.new }
-    ensures most { reads.new ≤ reads.old + change_reads (catalog_of store.now) (query_view query.now) (w.hi + 1 - w.lo) class }
+    ensures most { reads.new ≤ reads.old + change_reads (catalog_of world.now.store.now) (query_view query.now) (w.hi + 1 - w.lo) class }
 {
     let classes = query.classes.items();
     if let Some((column, later)) = columns.split_first() {
         if later.is_empty() && is_alone(classes, class) {
             return new_row(
-                alloc, query, column, rows, id, class, likely, grows, store, regions, w, reads,
-                probes,
+                alloc, query, column, rows, id, class, likely, grows, world, w, reads, probes,
             );
         }
     }
-    let singles = singles(alloc, classes, store, class, id)?;
-    let parts = parts_of(alloc, query, &singles, store, regions, w, reads, probes)?;
+    let singles = singles(alloc, classes, world.store, class, id)?;
+    let parts = parts_of(alloc, query, &singles, world, w, reads, probes)?;
     let numbers = numbers_with(alloc, columns, grows, classes, class, id, likely)?;
     let judge = Parts {
         columns,
@@ -178,21 +181,20 @@ fn new_row<L: Ledger, M: Ledger>(
     class: ClassNo,
     likely: usize,
     grows: bool,
-    store: &Store,
-    regions: &Regions,
+    world: &StoredWorld,
     w: Window,
     reads: &mut Steps<L>,
     probes: &mut Steps<M>,
 ) -> Result<Changes<IntervalSet>, AllocError>
-    requires accepted { IsOfAcceptedWrites store.now }
+    requires accepted { IsOfAcceptedWrites world.now.store.now }
     requires resolved { IsResolved (query_view query.now) }
-    requires fits { FitsItsClasses (world_in store.now regions.now) (query_view query.now) }
-    requires there { id < length store.now.objects }
-    requires class { class ≡ class_in store.now id }
+    requires fits { FitsItsClasses (told_world world.now) (query_view query.now) }
+    requires there { id < length world.now.store.now.objects }
+    requires class { class ≡ class_in world.now.store.now id }
     requires alone { query.now.classes ≡ class ∷ [] }
     requires order { map (λ c. c.variable) (column.now ∷ []) ≡ order_of (query_view query.now) }
     requires room { grows ≡ true → HaveRoomFor class query.now.classes (column.now ∷ []) }
-    requires objects { HaveObjectsWith (catalog_of store.now) grows class query.now.classes id (column.now ∷ []) }
+    requires objects { HaveObjectsWith (catalog_of world.now.store.now) grows class query.now.classes id (column.now ∷ []) }
     requires counted { AreCounted (column.now ∷ []) }
     requires size { size_of (variables_of (column.now ∷ [])) ≤ BINDING_LIMIT }
     requires pages { HasRoom rows.now (size_of (variables_of (column.now ∷ []))) }
@@ -202,12 +204,21 @@ fn new_row<L: Ledger, M: Ledger>(
     ensures rows { IfOk result (λ f. (ds : List Column) → AreColumnsWith grows class query.now.classes id (column.now ∷ []) ds → (c t : ℕ)
         → after spans_have f (row_has spans_have rows.now) c t
         ≡ (if counts (variables_of ds) c && gives ds id c
-        then (within w.lo w.hi t && holds_full (world_in store.now regions.now) (query_view query.now) w.hi (object_of ds c) t)
+        then (within w.lo w.hi t && holds_full (told_world world.now) (query_view query.now) w.hi (object_of ds c) t)
         else row_has spans_have rows.now c t)) }
     ensures least { reads.old ≤ reads.new }
-    ensures most { reads.new ≤ reads.old + change_reads (catalog_of store.now) (query_view query.now) (w.hi + 1 - w.lo) class }
+    ensures most { reads.new ≤ reads.old + change_reads (catalog_of world.now.store.now) (query_view query.now) (w.hi + 1 - w.lo) class }
 {
-    let ticks = evaluate_alone(alloc, query, id, store, regions, w, reads, probes)?;
+    let ticks = evaluate_alone(
+        alloc,
+        query,
+        id,
+        world.store,
+        world.regions,
+        w,
+        reads,
+        probes,
+    )?;
     let one_more = does_take(grows, query.classes.items(), class, column);
     let numbers = column.numbers_with(one_more, id, likely);
     let judge = Alone { ticks };

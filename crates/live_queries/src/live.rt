@@ -7,10 +7,9 @@ ghost use Rattle.tick_set.specs.declared.spans.TheConstants.{LAST_TICK, SPAN_LIM
 ghost use Rattle.formula.specs.Resolved.{IsResolved};
 ghost use Rattle.formula.specs.Tree.{query_view};
 ghost use Rattle.meaning.specs.Fits.{FitsItsClasses};
-ghost use Rattle.meaning.specs.Reads.{query_reads, sizes_of};
-ghost use Rattle.meaning.specs.Registered.{write_reads};
+ghost use Rattle.meaning.specs.Reads.{query_reads, sizes_of, write_reads};
 ghost use Rattle.object_store.specs.Contents.{catalog_of};
-ghost use Rattle.answers.specs.Asking.{world_in};
+ghost use Rattle.atoms.specs.Asked.{told_world, world_in};
 ghost use Rattle.answers.specs.Objects.{IsOfAcceptedWrites};
 ghost use Rattle.kept_rows.specs.declared.binding.TheConstants.{BINDING_LIMIT};
 ghost use Rattle.kept_rows.specs.Numbers.{size_of};
@@ -25,6 +24,7 @@ ghost use Rattle.live_queries.specs.Told.{answer_of, changes_of, info_of, passin
 use crate::fresh::{Fresh, Renewal};
 use crate::query::LiveQuery;
 use crate::told::{AnswerRow, Move, QueryInfo};
+use answers::StoredWorld;
 use fixed_point::Word;
 use formula::{ClassNo, RQuery};
 use object_store::Store;
@@ -208,7 +208,8 @@ impl Live {
         ensures most { reads.new ≤ reads.old
             + query_reads (sizes_of (catalog_of store.now) (query_view query)) (info.now.expiry + 1 - info.now.entry) (query_view query) }
     {
-        let added = LiveQuery::new(alloc, info, query, store, regions, now, reads, probes)?;
+        let world = StoredWorld { store, regions };
+        let added = LiveQuery::new(alloc, info, query, &world, now, reads, probes)?;
         self.queries.push(added)?;
         Ok(())
     }
@@ -240,10 +241,9 @@ impl Live {
         ensures most { reads.new ≤ reads.old + write_reads (catalog_of store.now) (map registered self.now) now (class_in store.now id) }
     {
         let class = class_of(store, id);
+        let world = StoredWorld { store, regions };
         let queries = &self.queries;
-        let renewals = renewals_of(
-            alloc, queries, id, class, store, regions, now, reads, probes,
-        )?;
+        let renewals = renewals_of(alloc, queries, id, class, &world, now, reads, probes)?;
         Ok(Fresh {
             object: id,
             class,
@@ -294,27 +294,26 @@ fn renewals_of<L: Ledger, M: Ledger>(
     queries: &[LiveQuery],
     id: u32,
     class: ClassNo,
-    store: &Store,
-    regions: &Regions,
+    world: &StoredWorld,
     now: u32,
     reads: &mut Steps<L>,
     probes: &mut Steps<M>,
 ) -> Result<Vec<Renewal>, AllocError>
-    requires accepted { IsOfAcceptedWrites store.now }
-    requires fits { All (FitsWorld (world_in store.now regions.now)) queries.now }
-    requires there { id < length store.now.objects }
-    requires class { class ≡ class_in store.now id }
-    requires before { HaveObjectsBefore id (catalog_of store.now) queries.now }
+    requires accepted { IsOfAcceptedWrites world.now.store.now }
+    requires fits { All (FitsWorld (told_world world.now)) queries.now }
+    requires there { id < length world.now.store.now.objects }
+    requires class { class ≡ class_in world.now.store.now id }
+    requires before { HaveObjectsBefore id (catalog_of world.now.store.now) queries.now }
     ensures prepared { IfOk result (λ renewals. ArePrepared class queries.now renewals.items) }
-    ensures fresh { IfOk result (λ renewals. AreFreshFor (world_in store.now regions.now) id class now queries.now renewals.items) }
+    ensures fresh { IfOk result (λ renewals. AreFreshFor (told_world world.now) id class now queries.now renewals.items) }
     ensures least { reads.old ≤ reads.new }
-    ensures most { reads.new ≤ reads.old + write_reads (catalog_of store.now) (map registered queries.now) now class }
+    ensures most { reads.new ≤ reads.old + write_reads (catalog_of world.now.store.now) (map registered queries.now) now class }
 {
-    let likely = likely_place(queries, store, class, id);
+    let likely = likely_place(queries, world.store, class, id);
     let mut renewals = Vec::with_capacity(alloc, queries.len())?;
     let mut rest = queries;
     'queries: while let Some((query, later)) = rest.split_first() {
-        let renewal = query.renewal(alloc, id, class, likely, store, regions, now, reads, probes)?;
+        let renewal = query.renewal(alloc, id, class, likely, world, now, reads, probes)?;
         renewals.push(renewal)?;
         rest = later;
     }

@@ -11,16 +11,15 @@ ghost use Rattle.meaning.specs.Fits.{FitsItsClasses};
 ghost use Rattle.meaning.specs.Reads.{query_reads};
 ghost use Rattle.object_store.specs.Contents.{catalog_of};
 ghost use Rattle.relation.specs.Frames.{size_of};
-ghost use Rattle.answers.specs.Asking.{world_in};
+ghost use Rattle.atoms.specs.Asked.{told_world};
 ghost use Rattle.answers.specs.Objects.{AreOfItsClasses, IsOfAcceptedWrites};
 ghost use Rattle.live_queries.specs.Written.{ArePartsOf, domains_for, ids_for, single_for};
 
 use crate::objects::is_of_class;
-use answers::evaluate;
+use answers::{StoredWorld, evaluate};
 use formula::{ClassNo, RQuery};
 use interval_set::IntervalSet;
 use object_store::Store;
-use polygon::Regions;
 use relation::{Domains, Relation};
 use std::alloc::{AllocError, Global};
 use std::sync::ledger::Ledger;
@@ -124,18 +123,17 @@ pub(crate) fn parts_of<'d, L: Ledger, M: Ledger>(
     alloc: Global,
     query: &RQuery,
     singles: &'d [Single],
-    store: &Store,
-    regions: &Regions,
+    world: &StoredWorld,
     w: Window,
     reads: &mut Steps<L>,
     probes: &mut Steps<M>,
 ) -> Result<Vec<Part<'d>>, AllocError>
-    requires accepted { IsOfAcceptedWrites store.now }
+    requires accepted { IsOfAcceptedWrites world.now.store.now }
     requires resolved { IsResolved (query_view query.now) }
-    requires fits { FitsItsClasses (world_in store.now regions.now) (query_view query.now) }
-    requires domains { All (λ s. AreOfItsClasses (catalog_of store.now) (query_view query.now) s.domains) singles.now }
+    requires fits { FitsItsClasses (told_world world.now) (query_view query.now) }
+    requires domains { All (λ s. AreOfItsClasses (catalog_of world.now.store.now) (query_view query.now) s.domains) singles.now }
     requires length { w.hi - w.lo ≤ SPAN_LIMIT }
-    ensures parts { IfOk result (λ parts. ArePartsOf (world_in store.now regions.now) (query_view query.now) w.lo w.hi singles.now parts.items) }
+    ensures parts { IfOk result (λ parts. ArePartsOf (told_world world.now) (query_view query.now) w.lo w.hi singles.now parts.items) }
     ensures least { reads.old ≤ reads.new }
     ensures most { reads.new ≤ reads.old
         + sum_by (λ s. query_reads (size_of s.domains) (w.hi + 1 - w.lo) (query_view query.now)) singles.now }
@@ -144,7 +142,16 @@ pub(crate) fn parts_of<'d, L: Ledger, M: Ledger>(
     let mut rest = singles;
     'singles: while let Some((single, later)) = rest.split_first() {
         let domains = &single.domains;
-        let rows = evaluate(alloc, query, domains, store, regions, w, reads, probes)?;
+        let rows = evaluate(
+            alloc,
+            query,
+            domains,
+            world.store,
+            world.regions,
+            w,
+            reads,
+            probes,
+        )?;
         parts.push(Part {
             variable: single.variable,
             rows,

@@ -11,7 +11,7 @@ ghost use Rattle.formula.specs.Tree.{query_view};
 ghost use Rattle.meaning.specs.Fits.{FitsItsClasses};
 ghost use Rattle.meaning.specs.Reads.{query_reads, sizes_of};
 ghost use Rattle.object_store.specs.Contents.{catalog_of};
-ghost use Rattle.answers.specs.Asking.{world_in};
+ghost use Rattle.atoms.specs.Asked.{told_world};
 ghost use Rattle.answers.specs.Objects.{IsOfAcceptedWrites};
 ghost use Rattle.kept_rows.specs.Changes.{AreReady, AreRising, after};
 ghost use Rattle.kept_rows.specs.Listing.{lines_upto, passing_of};
@@ -31,13 +31,11 @@ use crate::evaluating::{new_rows, rows_between};
 use crate::fresh::Renewal;
 use crate::objects::{Objects, add_object, objects_of, width};
 use crate::told::{AnswerRow, Move, QueryInfo};
-use answers::fitting_queries_can_be_asked;
+use answers::{StoredWorld, fitting_queries_can_be_asked};
 use fixed_point::Word;
 use formula::{Binding, ClassNo, QueryKind, RQuery};
 use interval_set::IntervalSet;
 use kept_rows::{Changes, KeptRows, Line, Passing, Targets};
-use object_store::Store;
-use polygon::Regions;
 use std::alloc::{AllocError, Global};
 use std::marker::Model;
 use std::sync::ledger::Ledger;
@@ -86,34 +84,32 @@ impl LiveQuery {
         alloc: Global,
         info: &QueryInfo,
         query: RQuery,
-        store: &Store,
-        regions: &Regions,
+        world: &StoredWorld,
         now: u32,
         reads: &mut Steps<L>,
         probes: &mut Steps<M>,
     ) -> Result<LiveQuery, AllocError>
-        requires accepted { IsOfAcceptedWrites store.now }
+        requires accepted { IsOfAcceptedWrites world.now.store.now }
         requires resolved { IsResolved (query_view query) }
-        requires fits { FitsItsClasses (world_in store.now regions.now) (query_view query) }
-        requires size { most_bindings (catalog_of store.now) query.classes ≤ BINDING_LIMIT }
+        requires fits { FitsItsClasses (told_world world.now) (query_view query) }
+        requires size { most_bindings (catalog_of world.now.store.now) query.classes ≤ BINDING_LIMIT }
         requires window { info.now.entry ≤ info.now.expiry }
         requires last { info.now.expiry ≤ LAST_TICK }
         requires length { info.now.expiry - info.now.entry ≤ SPAN_LIMIT }
-        ensures registered { IfOk result (IsRegistered (world_in store.now regions.now) now (told_info info.now) (query_view query)) }
+        ensures registered { IfOk result (IsRegistered (told_world world.now) now (told_info info.now) (query_view query)) }
         ensures kept { IfOk result IsKept }
         ensures least { reads.old ≤ reads.new }
         ensures most { reads.new ≤ reads.old
-            + query_reads (sizes_of (catalog_of store.now) (query_view query)) (info.now.expiry + 1 - info.now.entry) (query_view query) }
+            + query_reads (sizes_of (catalog_of world.now.store.now) (query_view query)) (info.now.expiry + 1 - info.now.entry) (query_view query) }
     {
         fitting_queries_can_be_asked();
-        let columns = columns_of(alloc, &query, store)?;
+        let columns = columns_of(alloc, &query, world.store)?;
         let lo = first_told(info.kind, info.entry, now);
         let rows = rows_between(
             alloc,
             &query,
             &columns,
-            store,
-            regions,
+            world,
             lo,
             info.expiry,
             reads,
@@ -140,27 +136,24 @@ impl LiveQuery {
         id: u32,
         class: ClassNo,
         likely: usize,
-        store: &Store,
-        regions: &Regions,
+        world: &StoredWorld,
         now: u32,
         reads: &mut Steps<L>,
         probes: &mut Steps<M>,
     ) -> Result<Renewal, AllocError>
-        requires accepted { IsOfAcceptedWrites store.now }
-        requires fits { FitsWorld (world_in store.now regions.now) self.now }
-        requires there { id < length store.now.objects }
-        requires class { class ≡ class_in store.now id }
-        requires before { (old : Catalog) × IsBefore id old (catalog_of store.now) × HaveObjectsOf old self.now.query.classes self.now.columns }
+        requires accepted { IsOfAcceptedWrites world.now.store.now }
+        requires fits { FitsWorld (told_world world.now) self.now }
+        requires there { id < length world.now.store.now.objects }
+        requires class { class ≡ class_in world.now.store.now id }
+        requires before { (old : Catalog) × IsBefore id old (catalog_of world.now.store.now) × HaveObjectsOf old self.now.query.classes self.now.columns }
         ensures ready { IfOk result (IsReadyFor class self.now) }
-        ensures fresh { IfOk result (IsFreshFor (world_in store.now regions.now) id class now self.now) }
+        ensures fresh { IfOk result (IsFreshFor (told_world world.now) id class now self.now) }
         ensures least { reads.old ≤ reads.new }
-        ensures most { reads.new ≤ reads.old + renewal_reads (catalog_of store.now) now class (registered self.now) }
+        ensures most { reads.new ≤ reads.old + renewal_reads (catalog_of world.now.store.now) now class (registered self.now) }
     {
-        let count = class_count(store, class);
+        let count = class_count(world.store, class);
         let grows = lack(&self.columns, self.query.classes.items(), class, count);
-        let changes = self.new_rows(
-            alloc, id, class, likely, grows, store, regions, now, reads, probes,
-        )?;
+        let changes = self.new_rows(alloc, id, class, likely, grows, world, now, reads, probes)?;
         Ok(Renewal { grows, changes })
     }
 
@@ -173,23 +166,22 @@ impl LiveQuery {
         class: ClassNo,
         likely: usize,
         grows: bool,
-        store: &Store,
-        regions: &Regions,
+        world: &StoredWorld,
         now: u32,
         reads: &mut Steps<L>,
         probes: &mut Steps<M>,
     ) -> Result<Changes<IntervalSet>, AllocError>
-        requires accepted { IsOfAcceptedWrites store.now }
-        requires fits { FitsItsClasses (world_in store.now regions.now) self.now.query }
-        requires there { id < length store.now.objects }
-        requires class { class ≡ class_in store.now id }
+        requires accepted { IsOfAcceptedWrites world.now.store.now }
+        requires fits { FitsItsClasses (told_world world.now) self.now.query }
+        requires there { id < length world.now.store.now.objects }
+        requires class { class ≡ class_in world.now.store.now id }
         requires room { grows ≡ true → HaveRoomFor class self.now.query.classes self.now.columns }
-        requires objects { HaveObjectsWith (catalog_of store.now) grows class self.now.query.classes id self.now.columns }
+        requires objects { HaveObjectsWith (catalog_of world.now.store.now) grows class self.now.query.classes id self.now.columns }
         ensures ready { IfOk result (AreReady spans_have self.now.pages) }
         ensures rising { IfOk result (AreRising (size_of (variables_of self.now.columns))) }
-        ensures rows { IfOk result (AreNewRows (world_in store.now regions.now) grows id class now self.now) }
+        ensures rows { IfOk result (AreNewRows (told_world world.now) grows id class now self.now) }
         ensures least { reads.old ≤ reads.new }
-        ensures most { reads.new ≤ reads.old + renewal_reads (catalog_of store.now) now class (registered self.now) }
+        ensures most { reads.new ≤ reads.old + renewal_reads (catalog_of world.now.store.now) now class (registered self.now) }
     {
         if self.expiry < now {
             return Ok(Changes::new(alloc));
@@ -207,8 +199,7 @@ impl LiveQuery {
             class,
             likely,
             grows,
-            store,
-            regions,
+            world,
             w,
             reads,
             probes,

@@ -18,7 +18,7 @@ pub struct QueryInfo {
 
 /// A row of an answer: target objects by their numbers, and the runs of the ticks at which they satisfy the query.
 /// Contracts see the numbers and the first and last ticks of the runs.
-#[derive(Debug, Drop)]
+#[derive(Drop)]
 pub struct AnswerRow {
     pub(crate) key: Binding,
     pub(crate) spans: Vec<Span>,
@@ -53,7 +53,7 @@ impl AnswerRow {
 
 /// What becomes otherwise for target objects of a query: the runs of the ticks that they gain and lose, and whether
 /// they enter or leave now. Contracts see the runs as their first and last ticks.
-#[derive(Debug, Drop)]
+#[derive(Drop)]
 pub struct Move {
     pub(crate) query: Word,
     pub(crate) key: Binding,

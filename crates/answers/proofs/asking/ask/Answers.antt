@@ -8,7 +8,7 @@ use Rattle.relation.specs.Frames.{Frame, IsIn}
 use Rattle.relation.specs.Key.{are_distinct, has_id}
 use Rattle.relation.specs.Projection.{IsPicked}
 use Rattle.relation.specs.Rows.{has}
-use Rattle.answers.specs.Asking.{world_in}
+use Rattle.atoms.specs.Asked.{world_in}
 use Rattle.answers.specs.Objects.{AreOfItsClasses}
 use Rattle.answers.specs.Told.{told_rows}
 use Rattle.answers.proofs.AnswerLemmas.{AreInOrder, inside_domains, row_there, rows_are_the_answer}

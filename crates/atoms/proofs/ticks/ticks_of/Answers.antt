@@ -21,7 +21,7 @@ returns-clause-ticks g c = λ t.
     let w = c.args.w in
     let a = c.args.a.now in
     let b = c.args.b.now in
-    let s = c.args.store.now in
+    let s = c.args.world.now.store.now in
     let vs = c.variables_of_atom-variables.result.now in
     let all = c.fill_timelines.new.timelines in
     let ts = epochs_of_each (take (length vs) all) in
@@ -30,7 +30,7 @@ returns-clause-ticks g c = λ t.
     ap (λ spans. spans_have spans t) c.from_runs.ensures
     ∙ c.in_ok-runs.ensures.runs.ticks t
     ∙ ap (λ x. within w.lo w.hi t && x)
-    (atom_same c.args.regions.now (trace_by vs ts) (trace_of (history_of s) (slice_index b)) a c.args.env.now t
+    (atom_same c.args.world.now.regions.now (trace_by vs ts) (trace_of (history_of s) (slice_index b)) a c.args.env.now t
     (λ v has.
     let small : v < 4 = (c.requires.bound v has).few in
     trace_is (trace_of (history_of s) (slice_index b)) f vs ts v t are c.fill_timelines.ensures.states

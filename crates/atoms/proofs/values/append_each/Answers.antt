@@ -6,7 +6,7 @@ use Rattle.fixed_point.specs.declared.number.TheConstants.{FIX_LIMIT}
 use Rattle.linear_crossing.specs.Zones.{line_at}
 use Rattle.formula.specs.declared.value.Value.TheVariants as values
 use Rattle.atoms.proofs.CourseLemmas.{counted_from}
-use Rattle.atoms.specs.ValueRuns.{AreValueRuns}
+use Rattle.atoms.specs.ValueRuns.{AreMaximalRuns}
 use Rattle.atoms.proofs.values.append_each.Goals as goal
 
 pub number-value-requires : goal.number-value-requires
@@ -35,4 +35,4 @@ loop-tick-preserved c = λ value from order are has.
 pub returns : goal.returns
 returns c = λ value from order are has.
     let all : c.loop-tick.tick ≡ c.args.span.hi + 1 = omega arith in
-    subst (λ until. AreValueRuns value from until c.loop-tick.runs.items) all (c.loop-tick.invariant value from order are has)
+    subst (λ until. AreMaximalRuns value from until c.loop-tick.runs.items) all (c.loop-tick.invariant value from order are has)

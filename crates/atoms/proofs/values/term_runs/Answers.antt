@@ -2,7 +2,7 @@ use Rattle.std.proofs.Common.{sym, subst, ◌∙◌, arith}
 use Rattle.courses.specs.Parts.{epochs_of_each}
 use Rattle.meaning.specs.Value.{term_value}
 use Rattle.atoms.specs.Parts.{trace_by}
-use Rattle.atoms.specs.ValueRuns.{AreValueRuns}
+use Rattle.atoms.specs.ValueRuns.{AreMaximalRuns}
 use Rattle.atoms.proofs.TickLemmas.{part_value}
 use Rattle.atoms.proofs.values.term_runs.Goals as goal
 
@@ -25,6 +25,6 @@ joining-preserved c =
       until = omega (arith, c.part_from-part.ensures.within);
       runs =
           c.in_ok-append_course.ensures value c.args.w.lo (omega (arith, begins, c.joining.invariant.from))
-          (subst (λ at. AreValueRuns value c.args.w.lo at c.joining.runs.items) (sym begins) c.joining.invariant.runs)
+          (subst (λ at. AreMaximalRuns value c.args.w.lo at c.joining.runs.items) (sym begins) c.joining.invariant.runs)
           (λ t a b. part_value c.args.term.now c.args.env.now trace part c.part_from-part.ensures.shown t a b ∙ c.course_of.ensures.value t a b);
     }

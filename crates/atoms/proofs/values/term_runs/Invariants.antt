@@ -2,7 +2,7 @@ use Rattle.std.proofs.Common.{◌+◌, ◌-◌, ◌≤◌}
 use Rattle.courses.specs.Parts.{epochs_of_each}
 use Rattle.meaning.specs.Value.{term_value}
 use Rattle.atoms.specs.Parts.{trace_by}
-use Rattle.atoms.specs.ValueRuns.{AreValueRuns}
+use Rattle.atoms.specs.ValueRuns.{AreMaximalRuns}
 use Rattle.atoms.proofs.values.term_runs.Given as goal
 
 -- the runs of the ticks before `at`
@@ -10,7 +10,7 @@ abbrev pub invariant-joining : goal.invariant-joining
 invariant-joining l = record {
   from : l.w.lo ≤ l.at;
   until : l.at ≤ l.w.hi + 1;
-  runs : AreValueRuns (term_value (trace_by l.variables (epochs_of_each l.timelines)) l.term l.env) l.w.lo l.at l.runs.items;
+  runs : AreMaximalRuns (term_value (trace_by l.variables (epochs_of_each l.timelines)) l.term l.env) l.w.lo l.at l.runs.items;
 }
 
 abbrev pub decreases-joining : goal.decreases-joining

@@ -13,13 +13,13 @@ use Rattle.meaning.specs.Satisfaction.{sat}
 use Rattle.relation.specs.Frames.{Frame, IsWider, size_of}
 use Rattle.relation.specs.Key.{are_distinct, are_known, key_in}
 use Rattle.relation.specs.Rows.{Table, has as has_tick}
-use Rattle.atoms.specs.declared.value_list.ValueRun.{ValueRun}
+use Rattle.interpreting.specs.declared.value_run.ValueRun.{ValueRun}
 use Rattle.evaluator.specs.Assigned.{CanAskEach, assignment_view, run_holds}
 use Rattle.evaluator.specs.Gathered.{AreAlike, any_has}
 use Rattle.evaluator.specs.Interpreting.{CanAsk, IsInFor}
 use Rattle.evaluator.specs.Keys.{AreKeys}
 use Rattle.evaluator.specs.Rows.{AreRowsOf, AreRowsWhere, reads_at_key, reads_upto}
-use Rattle.evaluator.specs.ValueRuns.{AreValueRuns}
+use Rattle.interpreting.specs.ValueRuns.{AreValueRuns}
 use Rattle.evaluator.specs.inner.Nodes.{changed_tree, paired_tree}
 use Rattle.evaluator.proofs.AssignLemmas.{all_keys, can_ask_each, key_more, rows_at_key, run_more}
 use Rattle.evaluator.proofs.AtomLemmas.{inside_at}
@@ -341,7 +341,7 @@ pub rows_at_key-returns-clause-rows : goal.rows_at_key-returns-clause-rows
 rows_at_key-returns-clause-rows g t c = rows_at_key g.S.TickSet.member (g.I.Interpreter.interpretation c.args.source.now) c.args.d.now c.args.w.lo c.args.w.hi c.args.a.now.depth c.args.a.now.term.now (formula_view c.args.a.now.body.now) c.args.env.now
     (λ p r e u. g.met.I.Interpreter.term_sees c.args.source.now p r c.args.a.now.term.now e c.args.env.now u)
     (λ v h. (let o = c.requires.over v (or_left (term_has v c.args.a.now.term.now) (has_variable v (formula_view c.args.a.now.body.now)) h) in omega (arith, o, c.len.ensures.count, c.len.ensures.few))) c.args.term_vars.now c.requires.vars c.args.key.now c.in_ok-narrow.narrow c.in_ok-runs.runs.items c.in_ok-rows.rows c.in_ok-rows-2.rows c.in_ok-own.own c.in_ok-made.made c.in_ok-narrow.ensures
-    (subst (λ (b : List ℕ). AreValueRuns c.args.w.lo c.args.w.hi ((g.I.Interpreter.interpretation c.args.source.now (slice_index b)).term c.args.a.now.term.now c.args.env.now) c.in_ok-runs.runs.items) c.binding_of-binding.ensures c.in_ok-runs.ensures.runs)
+    (subst (λ (b : List ℕ). AreValueRuns ((g.I.Interpreter.interpretation c.args.source.now (slice_index b)).term c.args.a.now.term.now c.args.env.now) c.args.w.lo (c.args.w.hi + 1) c.in_ok-runs.runs.items) c.binding_of-binding.ensures c.in_ok-runs.ensures.runs)
     (subst (λ (rs : List ValueRun). AreRowsWhere g.S.TickSet.member c.in_ok-narrow.narrow c.args.w.lo c.args.w.hi (variables_of (formula_view c.args.a.now.body.now)) (run_holds (g.I.Interpreter.interpretation c.args.source.now) c.args.a.now.depth (formula_view c.args.a.now.body.now) c.args.env.now c.args.w.hi rs) c.in_ok-rows.rows) c.deref.ensures.value c.in_ok-rows.ensures.rows)
     c.in_ok-rows-2.ensures.ticks c.in_ok-rows-2.ensures.head.vars c.in_ok-own.ensures c.in_ok-made.ensures.ticks c.in_ok-made.ensures.vars c.in_ok-made.ensures.frame
 

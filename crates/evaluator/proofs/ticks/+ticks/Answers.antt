@@ -1,13 +1,14 @@
 use Rattle.std.proofs.Common.{◌≡◌, ◌+◌, ◌-◌, ◌≤◌, ◌&&◌, List, length, slice_index, ap, subst, arith, ◌∙◌, sym}
+use Rattle.std.specs.Prelude.{All}
 use Rattle.tick_set.specs.Ticks.{within}
 use Rattle.formula_shape.specs.Sizes.{nodes}
 use Rattle.formula.specs.declared.value.Env.{Env}
 use Rattle.formula.specs.Tree.{ResolvedTree, formula_view}
 use Rattle.meaning.specs.Reads.{atom_variables}
 use Rattle.meaning.specs.Satisfaction.{sat}
-use Rattle.atoms.specs.declared.value_list.ValueRun.{ValueRun}
+use Rattle.interpreting.specs.declared.value_run.ValueRun.{ValueRun}
 use Rattle.evaluator.specs.declared.node.Pairing.TheVariants as pairings
-use Rattle.evaluator.specs.ValueRuns.{AreValueRuns, EachHasItsValue}
+use Rattle.interpreting.specs.ValueRuns.{AreValueRuns, IsRunOf}
 use Rattle.evaluator.specs.inner.ByBinding.{AreTicksOf, CanAskHere, any_member, reads_here}
 use Rattle.evaluator.specs.inner.Nodes.{changed_tree, paired_tree}
 use Rattle.evaluator.proofs.LoopLemmas.{in_turn, most_both, most_first, most_same, none_yet}
@@ -187,7 +188,7 @@ ticks_of_assignment-ticks_of-requires g t c κs lives = (
         (
           lives.1.1.1,
           subst (λ (x : Env). CanAskHere (g.I.Interpreter.interpretation c.args.source.now (slice_index c.args.binding.now)) (g.I.Interpreter.atom_fits c.args.source.now c.args.w.lo c.args.w.hi (slice_index c.args.binding.now)) (g.I.Interpreter.term_fits c.args.source.now c.args.w.lo c.args.w.hi (slice_index c.args.binding.now)) c.args.w.lo c.args.w.hi (formula_view c.args.a.now.body.now) x) (sym c.with-bound.ensures)
-              (can_ask_by (g.I.Interpreter.interpretation c.args.source.now (slice_index c.args.binding.now)) (g.I.Interpreter.atom_fits c.args.source.now c.args.w.lo c.args.w.hi (slice_index c.args.binding.now)) (g.I.Interpreter.term_fits c.args.source.now c.args.w.lo c.args.w.hi (slice_index c.args.binding.now)) c.args.w.lo c.args.w.hi c.args.a.now.depth c.args.a.now.term.now (formula_view c.args.a.now.body.now) c.args.env.now c.requires c.deref-run-items.result.now (subst (λ (rs : List ValueRun). EachHasItsValue c.args.w.lo c.args.w.hi ((g.I.Interpreter.interpretation c.args.source.now (slice_index c.args.binding.now)).term c.args.a.now.term.now c.args.env.now) rs) (sym c.deref-run-items.ensures.value) c.in_ok-runs.ensures.runs.each) c.each.run-index c.run-item.result (omega (arith, c.each-test.true)) c.run-item.is),
+              (can_ask_by (g.I.Interpreter.interpretation c.args.source.now (slice_index c.args.binding.now)) (g.I.Interpreter.atom_fits c.args.source.now c.args.w.lo c.args.w.hi (slice_index c.args.binding.now)) (g.I.Interpreter.term_fits c.args.source.now c.args.w.lo c.args.w.hi (slice_index c.args.binding.now)) c.args.w.lo c.args.w.hi c.args.a.now.depth c.args.a.now.term.now (formula_view c.args.a.now.body.now) c.args.env.now c.requires c.deref-run-items.result.now (subst (λ (rs : List ValueRun). All (IsRunOf ((g.I.Interpreter.interpretation c.args.source.now (slice_index c.args.binding.now)).term c.args.a.now.term.now c.args.env.now) c.args.w.lo (c.args.w.hi + 1)) rs) (sym c.deref-run-items.ensures.value) c.in_ok-runs.ensures.runs.each) c.each.run-index c.run-item.result (omega (arith, c.each-test.true)) c.run-item.is),
         ),
       ),
     ),
@@ -253,7 +254,7 @@ ticks_of_assignment-each-preserved g t c = record {
 pub ticks_of_assignment-returns-clause-ticks : goal.ticks_of_assignment-returns-clause-ticks
 ticks_of_assignment-returns-clause-ticks g t c =
     runs_done g.S.TickSet.member (g.I.Interpreter.interpretation c.args.source.now) (slice_index c.args.binding.now) c.args.w.lo c.args.w.hi c.args.a.now.depth (formula_view c.args.a.now.body.now) c.args.env.now c.deref-run-items.result.now c.args.a.now.term.now
-    (subst (λ (rs : List ValueRun). AreValueRuns c.args.w.lo c.args.w.hi ((g.I.Interpreter.interpretation c.args.source.now (slice_index c.args.binding.now)).term c.args.a.now.term.now c.args.env.now) rs) (sym c.deref-run-items.ensures.value) c.in_ok-runs.ensures.runs)
+    (subst (λ (rs : List ValueRun). AreValueRuns ((g.I.Interpreter.interpretation c.args.source.now (slice_index c.args.binding.now)).term c.args.a.now.term.now c.args.env.now) c.args.w.lo (c.args.w.hi + 1) rs) (sym c.deref-run-items.ensures.value) c.in_ok-runs.ensures.runs)
     c.each.run-index c.each.parts.items c.in_ok-made.made (omega (arith, c.each-test.false)) c.each.invariant.ticks c.in_ok-made.ensures
 
 pub ticks_of_until-returns-then-is_empty-clause-ticks : goal.ticks_of_until-returns-then-is_empty-clause-ticks

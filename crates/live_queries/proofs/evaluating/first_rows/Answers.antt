@@ -3,7 +3,7 @@ use Rattle.formula.specs.Tree.{query_view}
 use Rattle.kept_rows.specs.Rows.{row_has}
 use Rattle.tick_set.specs.Runs.{spans_have}
 use Rattle.object_store.specs.Contents.{catalog_of}
-use Rattle.answers.specs.Asking.{world_in}
+use Rattle.atoms.specs.Asked.{told_world}
 use Rattle.answers.specs.Objects.{AreOfItsClasses}
 use Rattle.answers.proofs.AskLemmas.{few_classes}
 use Rattle.answers.proofs.ObjectLemmas.{domains_are_of_classes}
@@ -16,12 +16,12 @@ domains_of-requires g c = few_classes (query_view c.args.query.now) c.requires.r
 
 pub evaluate-requires-clause-domains : goal.evaluate-requires-clause-domains
 evaluate-requires-clause-domains g c =
-    subst (AreOfItsClasses (catalog_of c.args.store.now) (query_view c.args.query.now)) (sym c.in_ok-domains.ensures)
-    (domains_are_of_classes (catalog_of c.args.store.now) (query_view c.args.query.now))
+    subst (AreOfItsClasses (catalog_of c.args.world.now.store.now) (query_view c.args.query.now)) (sym c.in_ok-domains.ensures)
+    (domains_are_of_classes (catalog_of c.args.world.now.store.now) (query_view c.args.query.now))
 
 pub returns-clause-rows : goal.returns-clause-rows
 returns-clause-rows g c =
-    first_rows_are (world_in c.args.store.now c.args.regions.now) (query_view c.args.query.now) c.args.w.lo c.args.w.hi c.args.columns.now
+    first_rows_are (told_world c.args.world.now) (query_view c.args.query.now) c.args.w.lo c.args.w.hi c.args.columns.now
     c.deref.result.now c.in_ok-domains.domains c.in_ok-full.full (row_has spans_have c.in_ok-rows.rows)
     c.requires.resolved c.requires.columns c.in_ok-domains.ensures c.in_ok-full.ensures.rows (c.deref.ensures.value ∙ c.in_ok-numbers.ensures)
     c.in_ok-rows.ensures.rows
@@ -29,19 +29,19 @@ returns-clause-rows g c =
 pub returns-in_err-full-clause-most : goal.returns-in_err-full-clause-most
 returns-in_err-full-clause-most g c =
     most_within _ _ _ _ c.in_err-full.ensures.most
-    (reads_within (catalog_of c.args.store.now) (query_view c.args.query.now) _ (c.args.w.hi + 1 - c.args.w.lo) c.in_ok-domains.ensures)
+    (reads_within (catalog_of c.args.world.now.store.now) (query_view c.args.query.now) _ (c.args.w.hi + 1 - c.args.w.lo) c.in_ok-domains.ensures)
 
 pub returns-in_err-rows-clause-most : goal.returns-in_err-rows-clause-most
 returns-in_err-rows-clause-most g c =
     most_within _ _ _ _ c.in_ok-full.ensures.most
-    (reads_within (catalog_of c.args.store.now) (query_view c.args.query.now) _ (c.args.w.hi + 1 - c.args.w.lo) c.in_ok-domains.ensures)
+    (reads_within (catalog_of c.args.world.now.store.now) (query_view c.args.query.now) _ (c.args.w.hi + 1 - c.args.w.lo) c.in_ok-domains.ensures)
 
 pub returns-in_err-numbers-clause-most : goal.returns-in_err-numbers-clause-most
 returns-in_err-numbers-clause-most g c =
     most_within _ _ _ _ c.in_ok-full.ensures.most
-    (reads_within (catalog_of c.args.store.now) (query_view c.args.query.now) _ (c.args.w.hi + 1 - c.args.w.lo) c.in_ok-domains.ensures)
+    (reads_within (catalog_of c.args.world.now.store.now) (query_view c.args.query.now) _ (c.args.w.hi + 1 - c.args.w.lo) c.in_ok-domains.ensures)
 
 pub returns-clause-most : goal.returns-clause-most
 returns-clause-most g c =
     most_within _ _ _ _ c.in_ok-full.ensures.most
-    (reads_within (catalog_of c.args.store.now) (query_view c.args.query.now) _ (c.args.w.hi + 1 - c.args.w.lo) c.in_ok-domains.ensures)
+    (reads_within (catalog_of c.args.world.now.store.now) (query_view c.args.query.now) _ (c.args.w.hi + 1 - c.args.w.lo) c.in_ok-domains.ensures)

@@ -17,7 +17,7 @@ use Rattle.live_queries.proofs.evaluating.new_row.Goals as goal
 
 pub evaluate_alone-requires-clause-object : goal.evaluate_alone-requires-clause-object
 evaluate_alone-requires-clause-object g c =
-    one_of_class c.args.store.now (query_view c.args.query.now) c.args.class c.args.id c.requires.class c.requires.alone c.requires.there
+    one_of_class c.args.world.now.store.now (query_view c.args.query.now) c.args.class c.args.id c.requires.class c.requires.alone c.requires.there
 
 pub numbers_with-numbers-requires-clause-room : goal.numbers_with-numbers-requires-clause-room
 numbers_with-numbers-requires-clause-room g c = λ e.
@@ -30,11 +30,11 @@ pub numbers_with-numbers-requires-clause-ascending : goal.numbers_with-numbers-r
 numbers_with-numbers-requires-clause-ascending g c =
     subst (λ (b : Bool). IsStrictlyIncreasing (ids_with b c.args.id c.args.column.now))
     (sym (c.does_take-one_more.ensures ∙ ap (λ (ks : List ℕ). takes c.args.grows c.args.class ks c.args.column.now) c.items.ensures))
-    (do_ascend (catalog_of c.args.store.now) c.args.grows c.args.class c.args.query.now.classes c.args.id (c.args.column.now ∷ []) c.requires.objects).0
+    (do_ascend (catalog_of c.args.world.now.store.now) c.args.grows c.args.class c.args.query.now.classes c.args.id (c.args.column.now ∷ []) c.requires.objects).0
 
 pub returns-clause-rows : goal.returns-clause-rows
 returns-clause-rows g c = λ ds made.
-    rows_are c.args.store.now c.args.regions.now (query_view c.args.query.now) c.requires.resolved c.args.class c.args.id c.requires.class
+    rows_are c.args.world.now.store.now c.args.world.now.regions.now (query_view c.args.query.now) c.requires.resolved c.args.class c.args.id c.requires.class
     c.args.w.lo c.args.w.hi c.args.grows (c.args.column.now ∷ []) c.from_ref.result.now
     (subst (AreVariablesWith c.args.grows c.args.class c.args.query.now.classes c.args.id (c.args.column.now ∷ [])) (sym c.from_ref.ensures.value) (
       subst (λ (b : Bool). IsVariableWith b c.args.id c.args.column.now c.numbers_with-numbers.result)
@@ -51,14 +51,14 @@ returns-clause-rows g c = λ ds made.
 pub returns-in_err-ticks-clause-most : goal.returns-in_err-ticks-clause-most
 returns-in_err-ticks-clause-most g c =
     most_within _ _ _ _ c.in_err-ticks.ensures.most
-    (one_within (catalog_of c.args.store.now) (query_view c.args.query.now) (c.args.w.hi + 1 - c.args.w.lo) c.args.class c.args.id c.requires.alone)
+    (one_within (catalog_of c.args.world.now.store.now) (query_view c.args.query.now) (c.args.w.hi + 1 - c.args.w.lo) c.args.class c.args.id c.requires.alone)
 
 pub returns-in_err-changes-clause-most : goal.returns-in_err-changes-clause-most
 returns-in_err-changes-clause-most g c =
     most_within _ _ _ _ c.in_ok-ticks.ensures.most
-    (one_within (catalog_of c.args.store.now) (query_view c.args.query.now) (c.args.w.hi + 1 - c.args.w.lo) c.args.class c.args.id c.requires.alone)
+    (one_within (catalog_of c.args.world.now.store.now) (query_view c.args.query.now) (c.args.w.hi + 1 - c.args.w.lo) c.args.class c.args.id c.requires.alone)
 
 pub returns-clause-most : goal.returns-clause-most
 returns-clause-most g c =
     most_within _ _ _ _ c.in_ok-ticks.ensures.most
-    (one_within (catalog_of c.args.store.now) (query_view c.args.query.now) (c.args.w.hi + 1 - c.args.w.lo) c.args.class c.args.id c.requires.alone)
+    (one_within (catalog_of c.args.world.now.store.now) (query_view c.args.query.now) (c.args.w.hi + 1 - c.args.w.lo) c.args.class c.args.id c.requires.alone)

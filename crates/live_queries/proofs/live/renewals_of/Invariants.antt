@@ -1,8 +1,8 @@
 use Rattle.std.proofs.Common.{◌+◌, ◌≤◌, List, ◌++◌, length, map}
 use Rattle.std.specs.Prelude.{All}
 use Rattle.object_store.specs.Contents.{catalog_of}
-use Rattle.answers.specs.Asking.{world_in}
-use Rattle.meaning.specs.Registered.{write_reads}
+use Rattle.atoms.specs.Asked.{told_world}
+use Rattle.meaning.specs.Reads.{write_reads}
 use Rattle.live_queries.specs.declared.fresh.Renewal.{Renewal}
 use Rattle.live_queries.specs.Asked.{FitsWorld, HaveObjectsBefore}
 use Rattle.live_queries.specs.Kept.{registered}
@@ -12,14 +12,14 @@ use Rattle.live_queries.proofs.live.renewals_of.Given as goal
 -- what is prepared so far and for the rest is prepared for all, and so are the looks
 abbrev pub invariant-queries : goal.invariant-queries
 invariant-queries g l = record {
-  fits : All (FitsWorld (world_in l.store l.regions)) l.rest;
-  before : HaveObjectsBefore l.id (catalog_of l.store) l.rest;
+  fits : All (FitsWorld (told_world l.world)) l.rest;
+  before : HaveObjectsBefore l.id (catalog_of l.world.store.now) l.rest;
   prepared : (more : List Renewal) → ArePrepared l.class l.rest more → ArePrepared l.class l.queries (l.renewals.items ++ more);
-  fresh : (more : List Renewal) → AreFreshFor (world_in l.store l.regions) l.id l.class l.now l.rest more
-      → AreFreshFor (world_in l.store l.regions) l.id l.class l.now l.queries (l.renewals.items ++ more);
+  fresh : (more : List Renewal) → AreFreshFor (told_world l.world) l.id l.class l.now l.rest more
+      → AreFreshFor (told_world l.world) l.id l.class l.now l.queries (l.renewals.items ++ more);
   least : l.fn.reads ≤ l.reads;
-  most : l.reads + write_reads (catalog_of l.store) (map registered l.rest) l.now l.class
-      ≤ l.fn.reads + write_reads (catalog_of l.store) (map registered l.queries) l.now l.class;
+  most : l.reads + write_reads (catalog_of l.world.store.now) (map registered l.rest) l.now l.class
+      ≤ l.fn.reads + write_reads (catalog_of l.world.store.now) (map registered l.queries) l.now l.class;
 }
 
 abbrev pub decreases-queries : goal.decreases-queries

@@ -1,7 +1,7 @@
 use Rattle.std.proofs.Common.{List, map, sym, ap, ◌∙◌, subst, arith}
 use Rattle.std.proofs.lemmas.Bool.Decides.{nat_tests}
 use Rattle.object_store.specs.Contents.{catalog_of}
-use Rattle.answers.specs.Asking.{world_in}
+use Rattle.atoms.specs.Asked.{told_world}
 use Rattle.live_queries.specs.Columns.{Column}
 use Rattle.live_queries.specs.Prepared.{AreColumnsWith}
 use Rattle.live_queries.proofs.AnewLemmas.{alive_rows_as_seen, renewal_within}
@@ -13,17 +13,17 @@ new_rows-requires-clause-order g c =
 
 pub returns-clause-rows : goal.returns-clause-rows
 returns-clause-rows g c =
-    alive_rows_as_seen (world_in c.args.store.now c.args.regions.now) c.args.grows c.args.id c.args.class c.args.now c.first_told.result _ c.args.self.now c.self.view_is
+    alive_rows_as_seen (told_world c.args.world.now) c.args.grows c.args.id c.args.class c.args.now c.first_told.result _ c.args.self.now c.self.view_is
     c.in_ok-changes.changes (grind (arith, nat_tests, c.if-self-now.false)) c.first_told.ensures.told
     (λ ds made. c.in_ok-changes.ensures.rows ds
     (subst (λ (cs : List Column). AreColumnsWith c.args.grows c.args.class c.self.inside.query.classes c.args.id cs ds) (sym c.deref.ensures.value) made))
 
 pub returns-in_err-changes-clause-most : goal.returns-in_err-changes-clause-most
 returns-in_err-changes-clause-most g c =
-    renewal_within (catalog_of c.args.store.now) c.args.now c.args.class _ _ c.first_told.result _ c.args.self.now c.self.view_is
+    renewal_within (catalog_of c.args.world.now.store.now) c.args.now c.args.class _ _ c.first_told.result _ c.args.self.now c.self.view_is
     (grind (arith, nat_tests, c.if-self-now.false)) c.first_told.ensures.least c.in_err-changes.ensures.most
 
 pub returns-clause-most : goal.returns-clause-most
 returns-clause-most g c =
-    renewal_within (catalog_of c.args.store.now) c.args.now c.args.class _ _ c.first_told.result _ c.args.self.now c.self.view_is
+    renewal_within (catalog_of c.args.world.now.store.now) c.args.now c.args.class _ _ c.first_told.result _ c.args.self.now c.self.view_is
     (grind (arith, nat_tests, c.if-self-now.false)) c.first_told.ensures.least c.in_ok-changes.ensures.most

@@ -7,7 +7,7 @@ use Rattle.live_queries.proofs.query.LiveQuery.renewal.Goals as goal
 
 pub new_rows-requires-clause-room : goal.new_rows-requires-clause-room
 new_rows-requires-clause-room g c =
-    renewed_room c.args.store.now c.args.id c.args.class c.requires.class c.args.self.now (subst IsKept c.self.view_is c.self.invariant.0)
+    renewed_room c.args.world.now.store.now c.args.id c.args.class c.requires.class c.args.self.now (subst IsKept c.self.view_is c.self.invariant.0)
     c.requires.before.0 c.requires.before.1 c.requires.before.2 c.lack-grows.result
     c.items.result.now (c.items.ensures ∙ ap (λ (k : KeptQuery). k.query.classes) c.self.view_is)
     c.deref.result.now (c.deref.ensures.value ∙ ap (λ (k : KeptQuery). k.columns) c.self.view_is)
@@ -16,7 +16,7 @@ new_rows-requires-clause-room g c =
 
 pub new_rows-requires-clause-objects : goal.new_rows-requires-clause-objects
 new_rows-requires-clause-objects g c =
-    renewed_objects c.args.store.now c.args.id c.args.class c.requires.class c.args.self.now (subst IsKept c.self.view_is c.self.invariant.0)
+    renewed_objects c.args.world.now.store.now c.args.id c.args.class c.requires.class c.args.self.now (subst IsKept c.self.view_is c.self.invariant.0)
     c.requires.before.0 c.requires.before.1 c.requires.before.2 c.lack-grows.result
     c.items.result.now (c.items.ensures ∙ ap (λ (k : KeptQuery). k.query.classes) c.self.view_is)
     c.deref.result.now (c.deref.ensures.value ∙ ap (λ (k : KeptQuery). k.columns) c.self.view_is)
@@ -26,7 +26,7 @@ pub returns-clause-ready : goal.returns-clause-ready
 returns-clause-ready g c = record {
   ready = c.in_ok-changes.ensures.ready;
   rising = c.in_ok-changes.ensures.rising;
-  room = renewed_room c.args.store.now c.args.id c.args.class c.requires.class c.args.self.now (subst IsKept c.self.view_is c.self.invariant.0)
+  room = renewed_room c.args.world.now.store.now c.args.id c.args.class c.requires.class c.args.self.now (subst IsKept c.self.view_is c.self.invariant.0)
       c.requires.before.0 c.requires.before.1 c.requires.before.2 c.lack-grows.result
       c.items.result.now (c.items.ensures ∙ ap (λ (k : KeptQuery). k.query.classes) c.self.view_is)
       c.deref.result.now (c.deref.ensures.value ∙ ap (λ (k : KeptQuery). k.columns) c.self.view_is)
@@ -36,9 +36,9 @@ returns-clause-ready g c = record {
 
 pub returns-clause-fresh : goal.returns-clause-fresh
 returns-clause-fresh g c = record {
-  objects = λ ds made. objects_with (catalog_of c.args.store.now) c.lack-grows.result c.args.class c.args.self.now.query.classes c.args.id
+  objects = λ ds made. objects_with (catalog_of c.args.world.now.store.now) c.lack-grows.result c.args.class c.args.self.now.query.classes c.args.id
       c.args.self.now.columns ds made
-      (renewed_objects c.args.store.now c.args.id c.args.class c.requires.class c.args.self.now (subst IsKept c.self.view_is c.self.invariant.0)
+      (renewed_objects c.args.world.now.store.now c.args.id c.args.class c.requires.class c.args.self.now (subst IsKept c.self.view_is c.self.invariant.0)
       c.requires.before.0 c.requires.before.1 c.requires.before.2 c.lack-grows.result
       c.items.result.now (c.items.ensures ∙ ap (λ (k : KeptQuery). k.query.classes) c.self.view_is)
       c.deref.result.now (c.deref.ensures.value ∙ ap (λ (k : KeptQuery). k.columns) c.self.view_is)

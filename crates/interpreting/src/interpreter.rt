@@ -8,9 +8,9 @@ ghost use Rattle.formula.specs.declared.tree.RTerm.{RTerm};
 ghost use Rattle.formula.specs.declared.value.Env.{Env};
 ghost use Rattle.meaning.specs.Reads.{atom_variables, term_variables};
 ghost use Rattle.meaning.specs.Satisfaction.{Interpretation};
-ghost use Rattle.evaluator.specs.ValueRuns.{AreValueRuns};
+ghost use Rattle.interpreting.specs.ValueRuns.{AreValueRuns};
 
-use crate::ValueRun;
+use crate::value_run::ValueRun;
 use formula::{Binding, Env, RAtom, RTerm};
 use std::alloc::{AllocError, Global};
 use std::sync::ledger::Ledger;
@@ -66,8 +66,8 @@ pub trait Interpreter<S: Temporal> {
         reads: &mut Steps<L>,
     ) -> Result<Vec<ValueRun>, AllocError>
         requires { term_fits self.now w.lo w.hi (slice_index binding.now) term.now env.now }
-        ensures runs { IfOk result (λ runs. AreValueRuns w.lo w.hi
-            ((interpretation self.now (slice_index binding.now)).term term.now env.now) runs.items) }
+        ensures runs { IfOk result (λ runs. AreValueRuns
+            ((interpretation self.now (slice_index binding.now)).term term.now env.now) w.lo (w.hi + 1) runs.items) }
         ensures least { reads.old ≤ reads.new }
         ensures most { reads.new ≤ reads.old + length (term_variables term.now) };
 

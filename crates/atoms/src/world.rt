@@ -6,11 +6,13 @@ ghost use Rattle.meaning.proofs.LocalityLemmas.{atom_same, term_same};
 ghost use Rattle.meaning.specs.Trace.{trace_of};
 ghost use Rattle.history.specs.History.{cells_at};
 ghost use Rattle.object_store.specs.Contents.{history_of};
-ghost use Rattle.answers.specs.Asking.{CanAskAtom, CanAskTerm, told_by};
+ghost use Rattle.atoms.specs.Asked.{CanAskAtom, CanAskTerm, told_by};
 
-use atoms::{ValueRun, absence, atom_ticks, value_runs};
-use evaluator::Interpreter;
+use crate::present::absence;
+use crate::ticks::atom_ticks;
+use crate::values::value_runs;
 use formula::{Binding, Env, RAtom, RTerm};
+use interpreting::{Interpreter, ValueRun};
 use interval_set::IntervalSet;
 use object_store::Store;
 use polygon::Regions;

@@ -13,12 +13,17 @@ use Rattle.meaning.specs.Satisfaction.{Interpretation, plain}
 use Rattle.meaning.specs.Trace.{trace_of}
 use Rattle.meaning.specs.Value.{term_value}
 use Rattle.object_store.specs.Contents.{Contents, history_of}
+use Rattle.atoms.specs.declared.world.StoredWorld.{StoredWorld}
 use Rattle.atoms.specs.Sizes.{is_sized, is_sized_term}
 use Rattle.atoms.specs.ValueRuns.{HasValuesInRange}
 
 -- what a query may ask of
 abbrev pub world_in : Contents → List Region → World
 world_in s regions = world_with (history_of s) regions
+
+-- the same of a store and its regions in one
+abbrev pub told_world : StoredWorld → World
+told_world world = world_in world.store.now world.regions.now
 
 -- what they tell where an assignment gives each variable an object
 abbrev pub told_by : Contents → List Region → (ℕ → ℕ) → Interpretation
