@@ -1,9 +1,10 @@
 ghost use Rattle.std.specs.Prelude.{◌≡◌, ◌<◌, ◌∷◌, [], None, false, length, IfOk};
 ghost use Rattle.formula.specs.declared.tree.RUnit.TheVariants as units;
 
-use atoms::{ValueRun, presence, value_runs};
+use atoms::{presence, value_runs};
 use fixed_point::Word;
 use formula::{Binding, Env, Items, RSigned, RTerm, RUnit, Value};
+use interpreting::ValueRun;
 use interval_set::IntervalSet;
 use motion::Place;
 use object_store::Store;

@@ -10,7 +10,7 @@ pub const ROW_WORD_LIMIT: usize = 20;
 
 // A word by its first `len` bytes, with its code. The bytes after the word are 0, so that equal rows
 // have equal fields.
-#[derive(Clone, Copy, Debug)]
+#[derive(Clone, Copy)]
 struct Row {
     bytes: [u8; ROW_WORD_LIMIT],
     len: usize,
@@ -78,7 +78,7 @@ fn word_in(rows: &[Row], code: u8) -> Option<&[u8]>
 
 /// A table of at most `N` rows, each with a word of at most 20 bytes and a code. No two rows have the
 /// same word or the same code. A contract sees the rows in the order in which they were added.
-#[derive(Debug, Drop)]
+#[derive(Drop)]
 pub struct Table<const N: usize> {
     rows: [Row; N],
     len: usize,

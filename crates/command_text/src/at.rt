@@ -13,7 +13,7 @@ use ftl_lexer::{Kind, Tokens};
 
 /// The token that comes next, whether each number so far is in the range of its place, and whether each
 /// size so far is within its limit, but for the lengths of names and texts, at which `end` looks.
-#[derive(Clone, Copy, Debug)]
+#[derive(Clone, Copy)]
 pub(crate) struct At {
     pub place: usize,
     pub fit: bool,

@@ -6,7 +6,7 @@ use fixed_point::{Fix, Word};
 use ftl_parser::Query;
 
 /// What a line asks for. Numbers are in the ranges of their places, and a span counts ticks.
-#[derive(Debug, Drop)]
+#[derive(Drop)]
 pub enum Command {
     /// A blank line or a comment.
     Nothing,

@@ -17,7 +17,7 @@ pub const MOST_BYTES: u64 = 268_435_456;
 
 // When a command was accepted, and where its canonical line begins and how many bytes it has, without
 // its line feed.
-#[derive(Clone, Copy, Debug)]
+#[derive(Clone, Copy)]
 pub(crate) struct Kept {
     tick: u32,
     from: u32,
@@ -28,7 +28,7 @@ const _: () = prove!(size_of::<Kept>() <= 12);
 
 /// The commands that were accepted, each with its tick, in order. A contract sees their list. It is kept
 /// as their canonical lines, which take a fraction of the memory of their trees.
-#[derive(Debug, Drop)]
+#[derive(Drop)]
 pub struct Journal {
     kept: Vec<Kept>,
     // The lines, each with a line feed.

@@ -6,7 +6,7 @@ use fixed_point::{Point, Slope};
 use motion::{Legs, Place};
 
 /// How an insert or an update says that an object moves.
-#[derive(Debug, Drop)]
+#[derive(Drop)]
 pub enum Moving {
     /// It doesn't say so.
     Unset,
@@ -18,7 +18,7 @@ pub enum Moving {
 
 /// What an insert or an update gives for the position: a `Place` in less room, since most objects move along one
 /// leg, and a command is moved several times.
-#[derive(Debug, Drop)]
+#[derive(Drop)]
 pub struct Placement {
     pub at: Option<Point>,
     pub moving: Moving,

@@ -88,7 +88,7 @@ fn begin(tokens: &mut Tokens, line: &[u8], limit: usize) -> Result<bool, Command
 
 /// Reads lines one after another. A line that is no longer than the one that was cut into tokens last wants no
 /// memory for its tokens.
-#[derive(Debug, Drop)]
+#[derive(Drop)]
 pub struct LineReader {
     alloc: Global,
     tokens: Tokens,

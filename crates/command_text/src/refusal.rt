@@ -72,7 +72,7 @@ impl Refusal {
 }
 
 /// The line that answers a refused line. A contract sees its bytes.
-#[derive(Debug, Drop)]
+#[derive(Drop)]
 pub struct RefusalText {
     refusal: Refusal,
 }

@@ -1,6 +1,6 @@
 -- The refusals of a query, by what was judged of it.
-use Rattle.std.proofs.Common.{◌≡◌, ℕ, zero, suc, ◌+◌, ◌-◌, ◌*◌, ◌≤◌, ◌<◌, Bool, true, false, ◌||◌, Option, None, Some, List, [], ◌∷◌, map, refl, sym, ap, ◌∙◌, inl, inr, arith, if◌then◌else◌}
-use Rattle.std.specs.Prelude.{◌^◌, length, min, nat_le, nat_lt, option_and_then, unwrap_or}
+use Rattle.std.proofs.Common.{◌≡◌, ℕ, zero, suc, ◌+◌, ◌-◌, ◌*◌, ◌≤◌, Bool, true, false, Option, None, Some, List, [], ◌∷◌, map, refl, sym, ap, ◌∙◌, inl, inr, arith, if◌then◌else◌}
+use Rattle.std.specs.Prelude.{◌^◌, length, min, nat_le, nat_lt, option_and_then, unwrap_or, Result, Ok, Err}
 use Rattle.std.specs.Option.{option_or}
 use Rattle.std.proofs.Math.Nat.{le-mul_of_pos_right, mul-one, mul-zero}
 use Rattle.std.proofs.lemmas.Bool.{cases_lt, or_parts}
@@ -8,6 +8,8 @@ use Rattle.std.proofs.lemmas.Bool.Decides.{nat_tests}
 use Rattle.exact.specs.First.{first_that_holds}
 use Rattle.tick_set.specs.declared.spans.TheConstants.{LAST_TICK, SPAN_LIMIT}
 use Rattle.command_text.specs.Line.{or_else}
+use Rattle.command_text.specs.Tree
+use Rattle.command_text.specs.declared.fault.CommandFault.{CommandFault}
 use Rattle.command_text.specs.declared.refusal.Refusal.{Refusal}
 use Rattle.command_text.specs.declared.refusal.Refusal.TheVariants as refusals
 use Rattle.history.specs.World.{World}
@@ -18,6 +20,9 @@ use Rattle.ftl_typer.specs.declared.fault.TypeFault.TheVariants as type_faults
 use Rattle.kept_rows.specs.declared.binding.TheConstants.{BINDING_LIMIT}
 use Rattle.line_meaning.specs.Ask.{ask_refusal, is_past_span, most_bindings, product, query_in, refusal_by_type, span_limit, type_refusal}
 use Rattle.line_meaning.specs.declared.limits.TheConstants.{ASSIGNED_SPAN_LIMIT, CIRCLE_NAMES, CIRCLE_SPAN_LIMIT}
+use Rattle.database.specs.declared.database.Database.{Database}
+use Rattle.database.specs.Keeping.{clock_of, world_of_database}
+use Rattle.database.specs.Telling.{Asks, Tells}
 
 -- ---- counts that stay at the largest number
 
@@ -97,3 +102,9 @@ accepted_span w now span q accepted =
     let short : span ≤ span_limit q.formula = grind (arith, nat_tests, parts.0) in
     let within : span_limit q.formula ≤ SPAN_LIMIT = limit_within (nat_lt 0 (nesting q.formula)) (nat_le CIRCLE_NAMES (objects q.formula)) in
     (omega (arith, short, within), grind (arith, nat_tests, parts.1))
+
+-- what is asked is what is told of an `ask`
+pub asks_tell : (d : Database) (span : ℕ) (q : QueryTree) (before after : List ℕ) (result : Result (Unit {0}) CommandFault) →
+    Asks (world_of_database d) (clock_of d) span q before after result → Tells d (Tree.Ask span q) before after result
+asks_tell d span q before after (Ok u) asked = asked
+asks_tell d span q before after (Err fault) asked = asked

@@ -93,7 +93,7 @@ fn part(line: &[u8], lo: u16, hi: u16) -> &[u8]
 /// The tokens of a line, with a copy of the line. A contract sees the line: the tokens are `tokens_of`
 /// it, and each of its bytes is blank or belongs to a token. One value can be read into again and
 /// again, and wants no memory for a line that is no longer than the one that it holds.
-#[derive(Debug, Drop)]
+#[derive(Drop)]
 pub struct Tokens {
     line: Vec<u8>,
     tokens: Vec<Token>,

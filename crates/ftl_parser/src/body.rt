@@ -1,6 +1,6 @@
 //! A formula, token by token.
 
-ghost use Rattle.std.specs.Prelude.{◌≡◌, List, [], ◌∷◌, ◌++◌, IfOk, option_map};
+ghost use Rattle.std.specs.Prelude.{◌≡◌, List, [], ◌∷◌, ◌++◌, IfOk, Some, option_map};
 ghost use Rattle.formula_shape.specs.Shape.{Shape};
 ghost use Rattle.ftl_parser.specs.Grammar.{term_of};
 ghost use Rattle.ftl_parser.specs.inner.Machine as machine;
@@ -22,6 +22,15 @@ use case_table::Op;
 use fixed_point::{BoundForm, UntilForm, Word};
 use std::alloc::{AllocError, Global};
 use std::mem;
+
+// Puts a frame on the stack, which waits for a formula. The token that says so is always taken.
+fn push_frame(stack: &mut Vec<Frame>, phase: &mut Phase, frame: Frame) -> Result<bool, AllocError>
+    ensures { IfOk result (λ taken. body_of taken stack.new.items phase.new ≡ Some (frame ∷ stack_of stack.old.items, machine.Want)) }
+{
+    stack.push(frame)?;
+    *phase = Phase::Want;
+    Ok(true)
+}
 
 // A closing bracket after a formula.
 fn closed(
@@ -53,13 +62,12 @@ fn until(
 {
     let left = reduced(alloc, 4, formula, stack)?;
     match form {
-        UntilForm::Plain => {
-            stack.push(Frame::UntilWith(form, 0, left))?;
-            *phase = Phase::Want;
+        UntilForm::Plain => push_frame(stack, phase, Frame::UntilWith(form, 0, left)),
+        _ => {
+            *phase = Phase::Reach(form, left);
+            Ok(true)
         }
-        _ => *phase = Phase::Reach(form, left),
     }
-    Ok(true)
 }
 
 // A token after a formula.
@@ -75,15 +83,11 @@ fn behind(
     match piece {
         Piece::Or => {
             let left = reduced(alloc, 1, formula, stack)?;
-            stack.push(Frame::OrWith(left))?;
-            *phase = Phase::Want;
-            Ok(true)
+            push_frame(stack, phase, Frame::OrWith(left))
         }
         Piece::And => {
             let left = reduced(alloc, 2, formula, stack)?;
-            stack.push(Frame::AndWith(left))?;
-            *phase = Phase::Want;
-            Ok(true)
+            push_frame(stack, phase, Frame::AndWith(left))
         }
         Piece::Until(form) => until(alloc, stack, phase, form, formula),
         Piece::Close => closed(alloc, stack, phase, formula),
@@ -122,9 +126,7 @@ fn term_ended(
         }
         TermPlace::Assigned(name) => match piece {
             Piece::CloseSquare => {
-                stack.push(Frame::Assigning(name, Term { factors }))?;
-                *phase = Phase::Want;
-                Ok(true)
+                push_frame(stack, phase, Frame::Assigning(name, Term { factors }))
             }
             _ => Ok(false),
         },
@@ -234,9 +236,7 @@ fn reached(
 {
     match piece {
         Piece::Number(number) => {
-            stack.push(Frame::UntilWith(form, ticks(number), left))?;
-            *phase = Phase::Want;
-            Ok(true)
+            push_frame(stack, phase, Frame::UntilWith(form, ticks(number), left))
         }
         _ => Ok(false),
     }
@@ -254,11 +254,7 @@ fn bounded(
     ensures { IfOk result (λ taken. body_of taken stack.new.items phase.new ≡ body_step (stack_of stack.old.items) (machine.Ticks form) (piece_view piece.entry)) }
 {
     match piece {
-        Piece::Number(number) => {
-            stack.push(Frame::BoundedBy(form, ticks(number)))?;
-            *phase = Phase::Want;
-            Ok(true)
-        }
+        Piece::Number(number) => { push_frame(stack, phase, Frame::BoundedBy(form, ticks(number))) }
         _ => Ok(false),
     }
 }

@@ -11,7 +11,7 @@ use fixed_point::{BoundForm, UntilForm, Word};
 use std::alloc::{AllocError, Global};
 
 /// An open bracket, or an operator with what stands to its left.
-#[derive(Debug, Drop)]
+#[derive(Drop)]
 pub(crate) enum Frame {
     Bracket,
     OrWith(Measured),

@@ -16,14 +16,14 @@ use crate::state::Head;
 use std::alloc::{AllocError, Global};
 
 /// What is read of a query: before WHERE, or after it.
-#[derive(Debug, Drop)]
+#[derive(Drop)]
 pub(crate) enum State {
     Heading(Head),
     Within(Phase),
 }
 
 /// The lists of a query that is read.
-#[derive(Debug, Drop)]
+#[derive(Drop)]
 pub(crate) struct Kept {
     pub(crate) targets: Names,
     pub(crate) from: FromParts,
@@ -31,7 +31,7 @@ pub(crate) struct Kept {
 }
 
 /// A query that is spelled, with the sizes of its formula.
-#[derive(Debug, Drop)]
+#[derive(Drop)]
 pub(crate) struct Spelled {
     pub(crate) targets: Names,
     pub(crate) from: FromParts,

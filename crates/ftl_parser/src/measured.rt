@@ -15,7 +15,7 @@ use std::alloc::{AllocError, Global};
 use std::marker::Model;
 
 /// The sizes of a formula that have limits. The first three stay at the largest number.
-#[derive(Clone, Copy, Debug)]
+#[derive(Clone, Copy)]
 pub(crate) struct Sizes {
     pub(crate) nodes: usize,
     pub(crate) depth: usize,
@@ -92,7 +92,7 @@ fn factors_of(atom: &Atom) -> usize
 }
 
 /// A formula with its sizes. A contract sees the tree of the formula.
-#[derive(Debug, Drop)]
+#[derive(Drop)]
 pub(crate) struct Measured {
     formula: Formula,
     sizes: Sizes,

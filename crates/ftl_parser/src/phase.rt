@@ -6,7 +6,7 @@ ghost use Rattle.ftl_parser.specs.inner.Machine as machine;
 ghost use Rattle.ftl_parser.specs.inner.Machine.{body_step, spatial_step};
 ghost use Rattle.ftl_parser.specs.Piece.{CLOSE};
 ghost use Rattle.ftl_parser.specs.declared.state.Spatial.TheVariants as spatials;
-ghost use Rattle.ftl_parser.specs.inner.Views.{piece_view, taken_of, HasNames, IsPlain, IsSpatial};
+ghost use Rattle.ftl_parser.specs.inner.Views.{piece_view, taken_of, HasNames, IsCircle, IsDist, IsPair, IsPlain, IsSpatial};
 
 use crate::Atom;
 use crate::lists::{Factors, Names};
@@ -19,7 +19,7 @@ use fixed_point::{BoundForm, Fix, UntilForm, Word};
 use std::alloc::{AllocError, Global};
 use std::mem;
 
-#[derive(Debug, Drop)]
+#[derive(Drop)]
 pub(crate) enum Phase {
     /// A formula.
     Want,
@@ -56,52 +56,62 @@ fn pair_closed(pair: Pair, first: Word, second: Word) -> Phase
     }
 }
 
-// A token in an atom that begins with its word, where no names of a circle are read.
-// Not inlined: the loop over the tokens would clear its long values for each token.
-#[inline(never)]
-fn plain_step(alloc: Global, phase: &mut Phase, piece: Piece<'_>) -> bool
-    requires { IsPlain phase.old }
-    ensures { (s : List machine.Frame) → taken_of result s phase.new ≡ body_step s phase.old (piece_view piece.entry) }
+// What comes next after a token in the brackets round two names.
+fn pair_step(at: &Spatial, piece: Piece<'_>) -> Option<Phase>
+    requires { IsPair at.now }
+    ensures { result ≡ spatial_step at.now (piece_view piece.entry) }
 {
-    let Phase::InSpatial(at) = phase else {
-        return false;
-    };
-    match (&*at, piece) {
-        (Spatial::PairOpen(pair), Piece::Open) => *at = Spatial::PairFirst(*pair),
-        (Spatial::PairFirst(pair), Piece::Name(name)) => {
-            *at = Spatial::PairComma(*pair, word(name))
-        }
-        (Spatial::PairComma(pair, first), Piece::Comma) => {
-            *at = Spatial::PairSecond(*pair, *first)
-        }
+    let next = match (at, piece) {
+        (Spatial::PairOpen(pair), Piece::Open) => Spatial::PairFirst(*pair),
+        (Spatial::PairFirst(pair), Piece::Name(name)) => Spatial::PairComma(*pair, word(name)),
+        (Spatial::PairComma(pair, first), Piece::Comma) => Spatial::PairSecond(*pair, *first),
         (Spatial::PairSecond(pair, first), Piece::Name(name)) => {
-            *at = Spatial::PairClose(*pair, *first, word(name))
+            Spatial::PairClose(*pair, *first, word(name))
         }
         (Spatial::PairClose(pair, first, second), Piece::Close) => {
-            *phase = pair_closed(*pair, *first, *second)
+            return Some(pair_closed(*pair, *first, *second));
         }
+        _ => return None,
+    };
+    Some(Phase::InSpatial(next))
+}
+
+// What comes next after a token behind the names of a distance.
+fn dist_step(at: &Spatial, piece: Piece<'_>) -> Option<Phase>
+    requires { IsDist at.now }
+    ensures { result ≡ spatial_step at.now (piece_view piece.entry) }
+{
+    match (at, piece) {
         (Spatial::DistOp(first, second), Piece::Comparison(op)) => {
-            *at = Spatial::DistNum(*first, *second, op)
+            Some(Phase::InSpatial(Spatial::DistNum(*first, *second, op)))
         }
         (Spatial::DistNum(first, second, op), Piece::Number(number)) => {
-            *phase = have(Atom::Dist(*first, *second, *op, literal(number)))
+            Some(have(Atom::Dist(*first, *second, *op, literal(number))))
         }
         (Spatial::DistNum(first, second, op), Piece::Minus) => {
-            *at = Spatial::DistMinus(*first, *second, *op)
+            Some(Phase::InSpatial(Spatial::DistMinus(*first, *second, *op)))
         }
         (Spatial::DistMinus(first, second, op), Piece::Number(number)) => {
-            *phase = have(Atom::Dist(*first, *second, *op, negated(literal(number))))
+            Some(have(Atom::Dist(*first, *second, *op, negated(literal(number)))))
         }
-        (Spatial::SphereOpen, Piece::Open) => *at = Spatial::SphereRadius,
-        (Spatial::SphereRadius, Piece::Number(number)) => {
-            *at = Spatial::SphereComma(radius(number))
-        }
-        (Spatial::SphereComma(radius), Piece::Comma) => {
-            *at = Spatial::SphereName(*radius, Names::new(alloc))
-        }
-        _ => return false,
+        _ => None,
     }
-    true
+}
+
+// What comes next after a token before the names of a circle.
+fn circle_step(alloc: Global, at: &Spatial, piece: Piece<'_>) -> Option<Phase>
+    requires { IsCircle at.now }
+    ensures { result ≡ spatial_step at.now (piece_view piece.entry) }
+{
+    let next = match (at, piece) {
+        (Spatial::SphereOpen, Piece::Open) => Spatial::SphereRadius,
+        (Spatial::SphereRadius, Piece::Number(number)) => Spatial::SphereComma(radius(number)),
+        (Spatial::SphereComma(radius), Piece::Comma) => {
+            Spatial::SphereName(*radius, Names::new(alloc))
+        }
+        _ => return None,
+    };
+    Some(Phase::InSpatial(next))
 }
 
 // A token where names of a circle are read.
@@ -138,7 +148,23 @@ fn names_step(phase: &mut Phase, piece: Piece<'_>) -> Result<bool, AllocError>
     }
 }
 
+// What comes next after a token in an atom that begins with its word, where no names of a circle are read.
+fn plain_step(alloc: Global, at: &Spatial, piece: Piece<'_>) -> Option<Phase>
+    requires { IsPlain at.now }
+    ensures { result ≡ spatial_step at.now (piece_view piece.entry) }
+{
+    match at {
+        Spatial::DistOp(..) | Spatial::DistNum(..) | Spatial::DistMinus(..) => dist_step(at, piece),
+        Spatial::SphereOpen | Spatial::SphereRadius | Spatial::SphereComma(_) => {
+            circle_step(alloc, at, piece)
+        }
+        _ => pair_step(at, piece),
+    }
+}
+
 // A token in an atom that begins with its word.
+// Not inlined: the loop over the tokens would clear its long values for each token.
+#[inline(never)]
 pub(crate) fn spatial_step(
     alloc: Global,
     phase: &mut Phase,
@@ -147,10 +173,18 @@ pub(crate) fn spatial_step(
     requires { IsSpatial phase.old }
     ensures { IfOk result (λ taken. (s : List machine.Frame) → taken_of taken s phase.new ≡ body_step s phase.old (piece_view piece.entry)) }
 {
-    match phase {
+    let next = match phase {
         Phase::InSpatial(Spatial::SphereName(..) | Spatial::SphereNames(..)) => {
-            names_step(phase, piece)
+            return names_step(phase, piece);
         }
-        _ => Ok(plain_step(alloc, phase, piece)),
+        Phase::InSpatial(at) => plain_step(alloc, at, piece),
+        _ => None,
+    };
+    match next {
+        Some(next) => {
+            *phase = next;
+            Ok(true)
+        }
+        None => Ok(false),
     }
 }

@@ -13,7 +13,7 @@ use ftl_lexer::{Kind, Tokens, unquoted};
 
 /// A token: words and symbols that stand in the same places share a variant; names, numbers and texts
 /// have their bytes.
-#[derive(Clone, Copy, Debug)]
+#[derive(Clone, Copy)]
 pub(crate) enum Piece<'a> {
     Retrieve,
     From,

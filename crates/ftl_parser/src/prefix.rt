@@ -1,7 +1,7 @@
 //! The words before a formula, which the grammar has besides the words of the tree.
 
 /// A word that stands before one formula.
-#[derive(Clone, Copy, Debug, PartialEq, Eq)]
+#[derive(Clone, Copy, PartialEq, Eq)]
 pub(crate) enum Prefix {
     Not,
     Next,

@@ -14,7 +14,7 @@ use fixed_point::UntilForm;
 use ftl_lexer::{Kind, Tokens, unquoted};
 
 /// What the next number token is, by the tokens before it.
-#[derive(Clone, Copy, Debug, PartialEq, Eq)]
+#[derive(Clone, Copy, PartialEq, Eq)]
 pub(crate) enum Coming {
     /// A factor, its multiplier, or the number of a DIST.
     Factor,

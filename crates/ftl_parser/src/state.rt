@@ -6,7 +6,7 @@ use case_table::Op;
 use fixed_point::{Fix, Word};
 
 /// A word that stands before two names in brackets.
-#[derive(Clone, Copy, Debug, PartialEq, Eq)]
+#[derive(Clone, Copy, PartialEq, Eq)]
 pub(crate) enum Pair {
     Inside,
     Outside,
@@ -14,7 +14,7 @@ pub(crate) enum Pair {
 }
 
 /// What comes next before WHERE.
-#[derive(Clone, Copy, Debug)]
+#[derive(Clone, Copy)]
 pub(crate) enum Head {
     /// RETRIEVE.
     Start,
@@ -31,7 +31,7 @@ pub(crate) enum Head {
 }
 
 /// Where a term stands.
-#[derive(Debug, Drop)]
+#[derive(Drop)]
 pub(crate) enum TermPlace {
     /// Before a comparison.
     Left,
@@ -42,7 +42,7 @@ pub(crate) enum TermPlace {
 }
 
 /// What has been read of a factor: first whether it is taken away, then its multiplier.
-#[derive(Clone, Copy, Debug)]
+#[derive(Clone, Copy)]
 pub(crate) enum Factor {
     /// Nothing; a sign may come.
     First,
@@ -65,7 +65,7 @@ pub(crate) enum Factor {
 }
 
 /// What comes next in an atom that begins with its word.
-#[derive(Debug, Drop)]
+#[derive(Drop)]
 pub(crate) enum Spatial {
     /// `(`, after a word before two names.
     PairOpen(Pair),

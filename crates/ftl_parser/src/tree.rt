@@ -5,7 +5,7 @@ use case_table::Op;
 use fixed_point::{BoundForm, Fix, SubName, UntilForm, Word};
 
 /// `RETRIEVE targets FROM from WHERE formula`
-#[derive(Debug, Drop)]
+#[derive(Drop)]
 pub struct Query {
     pub targets: Names,
     pub from: FromParts,
@@ -13,14 +13,14 @@ pub struct Query {
 }
 
 /// A class and a variable that stands for its objects.
-#[derive(Clone, Copy, Debug)]
+#[derive(Clone, Copy)]
 pub struct FromPart {
     pub class: Word,
     pub var: Word,
 }
 
 /// What is judged at a tick.
-#[derive(Debug, Drop)]
+#[derive(Drop)]
 pub enum Formula {
     /// TRUE or FALSE.
     Truth(bool),
@@ -41,7 +41,7 @@ pub enum Formula {
 }
 
 /// A formula without parts that are formulas.
-#[derive(Debug, Drop)]
+#[derive(Drop)]
 pub enum Atom {
     Compare(Term, Op, Term),
     /// A variable in a region.
@@ -55,13 +55,13 @@ pub enum Atom {
 }
 
 /// A sum of factors.
-#[derive(Debug, Drop)]
+#[derive(Drop)]
 pub struct Term {
     pub factors: Factors,
 }
 
 /// A factor, taken away where `minus` holds, and taken so many times where there is a multiplier.
-#[derive(Clone, Copy, Debug)]
+#[derive(Clone, Copy)]
 pub struct Signed {
     pub minus: bool,
     pub times: Option<u32>,
@@ -69,7 +69,7 @@ pub struct Signed {
 }
 
 /// What a factor is made of.
-#[derive(Clone, Copy, Debug)]
+#[derive(Clone, Copy)]
 pub enum Unit {
     Literal(Fix),
     Text(Word),

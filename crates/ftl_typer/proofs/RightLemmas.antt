@@ -25,6 +25,7 @@ use Rattle.formula.specs.Bounds.{term_bound}
 use Rattle.formula.specs.Resolved.{is_atom, is_factor, is_formula, is_list_of, is_term, is_unit, is_until, is_within, with_bound}
 use Rattle.formula_shape.specs.declared.limits.TheConstants as limits
 use Rattle.meaning.specs.Fits as fits
+use Rattle.meaning.specs.Value.{attribute_bound}
 use Rattle.ftl_parser.specs.declared.tree.Atom as atom_type
 use Rattle.ftl_parser.specs.declared.tree.Atom.TheVariants as atoms
 use Rattle.ftl_parser.specs.declared.tree.FromPart.{FromPart}
@@ -90,7 +91,7 @@ abbrev number : Option ValueKind
 number = Some Number
 
 kind_of_attribute : (r : Option AttrKind) → is_none r ≡ false →
-    option_and_then (fits.kind_beside (pos (option_map_or fits.attribute_bound r 0))) r
+    option_and_then (fits.kind_beside (pos (option_map_or attribute_bound r 0))) r
     ≡ Some (kind_where (option_map_or is_text_kind r false))
 kind_of_attribute None has = absurd (true≢false has)
 kind_of_attribute (Some attribute_kinds.Num) has = refl
@@ -208,7 +209,7 @@ module _ (c : Catalog) (regions : List Region) (from : List FromPart) (there : A
     unit_kind_is at (units.Alone name) h = value_kind_is s name (value_variable at name h)
     unit_kind_is at (units.Attr o a) h =
         let has = has_attribute at o a h in
-        ap (option_and_then (fits.kind_beside (pos (option_map_or fits.attribute_bound (attribute_kind s o a) 0))))
+        ap (option_and_then (fits.kind_beside (pos (option_map_or attribute_bound (attribute_kind s o a) 0))))
         (attribute_is c regions from there vs o a has.0 has.1)
         ∙ kind_of_attribute (attribute_kind s o a) has.1
     unit_kind_is at (units.Sub o a part) h =

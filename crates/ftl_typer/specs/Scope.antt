@@ -13,7 +13,7 @@ use Rattle.formula.specs.declared.tree.RSigned.{RSigned}
 use Rattle.formula.specs.declared.tree.RTerm.{RTerm}
 use Rattle.formula.specs.declared.tree.RUnit.{RUnit}
 use Rattle.formula.specs.declared.tree.RUnit.TheVariants as runits
-use Rattle.meaning.specs.Fits.{attribute_bound}
+use Rattle.meaning.specs.Value.{attribute_bound}
 use Rattle.ftl_parser.specs.declared.tree.FromPart.{FromPart}
 use Rattle.ftl_parser.specs.declared.tree.Signed.{Signed}
 use Rattle.ftl_parser.specs.declared.tree.Term.{Term}

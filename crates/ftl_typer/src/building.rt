@@ -1,5 +1,5 @@
 //! Trees by number. A name that isn't there stands for 0: trees are built only where there is no fault.
-ghost use Rattle.std.specs.Prelude.{◌≡◌, ◌+◌, ◌<◌, ◌≤◌, length, map, IfOk};
+ghost use Rattle.std.specs.Prelude.{◌≡◌, ◌+◌, ◌<◌, ◌≤◌, length, map, IfOk, Ok};
 ghost use Rattle.formula.specs.Tree.{formula_view};
 ghost use Rattle.formula_shape.specs.declared.limits.TheConstants.{NESTING_LIMIT};
 ghost use Rattle.formula_shape.specs.Sizes.{nesting};
@@ -151,6 +151,14 @@ fn build_atom(alloc: Global, scope: &Scope, atom: &Atom) -> Result<RAtom, AllocE
     Ok(built)
 }
 
+// The formula that was built, in a box.
+fn boxed(alloc: Global, built: Result<RFormula, AllocError>) -> Result<Box<RFormula>, AllocError>
+    ensures { IfOk result (λ formula. built ≡ Ok formula.value) }
+{
+    let formula = Box::new(alloc, built?)?;
+    Ok(formula)
+}
+
 /// A formula by number. The scope has room for the assignments in it.
 pub fn build_formula(
     alloc: Global,
@@ -164,51 +172,34 @@ pub fn build_formula(
     let built = match formula {
         Formula::Truth(truth) => RFormula::Truth(*truth),
         Formula::Atom(atom) => RFormula::Atom(build_atom(alloc, scope, atom)?),
-        Formula::Not(part) => {
-            let part = build_formula(alloc, scope, part)?;
-            RFormula::Not(Box::new(alloc, part)?)
-        }
+        Formula::Not(part) => RFormula::Not(boxed(alloc, build_formula(alloc, scope, part))?),
         Formula::And(left, right) => {
-            let left = build_formula(alloc, scope, left)?;
-            let right = build_formula(alloc, scope, right)?;
-            RFormula::And(Box::new(alloc, left)?, Box::new(alloc, right)?)
+            let left = boxed(alloc, build_formula(alloc, scope, left))?;
+            RFormula::And(left, boxed(alloc, build_formula(alloc, scope, right))?)
         }
         Formula::Or(left, right) => {
-            let left = build_formula(alloc, scope, left)?;
-            let right = build_formula(alloc, scope, right)?;
-            RFormula::Or(Box::new(alloc, left)?, Box::new(alloc, right)?)
+            let left = boxed(alloc, build_formula(alloc, scope, left))?;
+            RFormula::Or(left, boxed(alloc, build_formula(alloc, scope, right))?)
         }
-        Formula::Next(part) => {
-            let part = build_formula(alloc, scope, part)?;
-            RFormula::Next(Box::new(alloc, part)?)
-        }
+        Formula::Next(part) => RFormula::Next(boxed(alloc, build_formula(alloc, scope, part))?),
         Formula::Eventually(part) => {
-            let part = build_formula(alloc, scope, part)?;
-            RFormula::Eventually(Box::new(alloc, part)?)
+            RFormula::Eventually(boxed(alloc, build_formula(alloc, scope, part))?)
         }
-        Formula::Always(part) => {
-            let part = build_formula(alloc, scope, part)?;
-            RFormula::Always(Box::new(alloc, part)?)
-        }
+        Formula::Always(part) => RFormula::Always(boxed(alloc, build_formula(alloc, scope, part))?),
         Formula::Bounded(form, ticks, part) => {
-            let part = build_formula(alloc, scope, part)?;
-            RFormula::Bounded(*form, *ticks, Box::new(alloc, part)?)
+            let part = boxed(alloc, build_formula(alloc, scope, part))?;
+            RFormula::Bounded(*form, *ticks, part)
         }
         Formula::Until(form, ticks, left, right) => {
-            let left = build_formula(alloc, scope, left)?;
-            let right = build_formula(alloc, scope, right)?;
-            RFormula::Until(
-                *form,
-                *ticks,
-                Box::new(alloc, left)?,
-                Box::new(alloc, right)?,
-            )
+            let left = boxed(alloc, build_formula(alloc, scope, left))?;
+            let right = boxed(alloc, build_formula(alloc, scope, right))?;
+            RFormula::Until(*form, *ticks, left, right)
         }
         Formula::Assign(name, term, part) => {
             let bound = build_term(alloc, scope, term)?;
             let inner = scope.inside(assigned(scope, name, term));
-            let part = build_formula(alloc, &inner, part)?;
-            RFormula::Assign(scope.depth(), bound, Box::new(alloc, part)?)
+            let part = boxed(alloc, build_formula(alloc, &inner, part))?;
+            RFormula::Assign(scope.depth(), bound, part)
         }
     };
     Ok(built)

@@ -7,7 +7,7 @@ ghost use Rattle.formula.specs.Bounds.{factor_bound, sub_bound, term_bound, unit
 ghost use Rattle.ftl_parser.specs.Order.{factors_list, names_alone, term_names};
 ghost use Rattle.formula_shape.specs.declared.limits.TheConstants.{FACTOR_LIMIT};
 ghost use Rattle.ftl_parser.specs.declared.tree.Unit.TheVariants as units;
-ghost use Rattle.meaning.specs.Fits.{attribute_bound};
+ghost use Rattle.meaning.specs.Value.{attribute_bound};
 ghost use Rattle.ftl_typer.specs.Faults.{factors_faults, term_faults};
 ghost use Rattle.ftl_typer.specs.Context.{scope_in};
 ghost use Rattle.ftl_typer.specs.First.{found_after};

@@ -8,7 +8,7 @@ use fixed_point::Fix;
 const STATES: u64 = 1 << 31;
 
 /// The state from which the next number is drawn.
-#[derive(Clone, Copy, Debug)]
+#[derive(Clone, Copy)]
 pub(crate) struct Draws {
     state: u32,
     ghost small: { state < 2 ^ 31 },

@@ -10,7 +10,7 @@ use std::alloc::AllocError;
 use std::marker::Model;
 
 /// The lines that are still to come. A contract sees their list.
-#[derive(Debug, Drop)]
+#[derive(Drop)]
 pub struct Generator {
     draws: Draws,
     // The place of the next line, from 0.

@@ -35,7 +35,7 @@ const FIRST_SHOW: u32 = FIRST_ROUND + ROUNDS * ROUND;
 const END: u32 = FIRST_SHOW + WATCHES;
 
 /// What a line is, and of which number it is where there are several.
-#[derive(Clone, Copy, Debug)]
+#[derive(Clone, Copy)]
 pub(crate) enum Line {
     Class,
     Region(u32),

@@ -12,7 +12,7 @@ use tick_set::{Span, TickSet, Window, runs_are_those_of_the_list};
 
 /// A target, by its number, and the runs of its ticks. Contracts see the number and the first and last ticks of
 /// the runs.
-#[derive(Debug, Drop)]
+#[derive(Drop)]
 pub struct Line {
     target: u32,
     spans: Vec<Span>,

@@ -20,7 +20,7 @@ use tick_set::{Span, TickSet, Window, runs_are_those_of_the_list};
 
 /// A target, by its number, whose ticks change: the runs of those that it gains and loses, and whether it enters
 /// or leaves now. Contracts see the runs as their first and last ticks.
-#[derive(Debug, Drop)]
+#[derive(Drop)]
 pub struct Move {
     target: u32,
     gained: Vec<Span>,

@@ -13,7 +13,7 @@ use std::marker::Model;
 use tick_set::TickSet;
 
 /// A target, by its number, that stands at one of two ticks alone. Contracts see the number and whether it enters.
-#[derive(Debug, Drop)]
+#[derive(Drop)]
 pub struct Passing {
     target: u32,
     enters: bool,

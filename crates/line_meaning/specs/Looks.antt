@@ -3,8 +3,7 @@ use Rattle.std.specs.Prelude.{ℕ, ◌+◌, Bool, true, false, List, [], ◌∷�
 use Rattle.std.specs.Option.{option_map_or}
 use Rattle.history.specs.Catalog.{Catalog, ids_of, number_of_class, object_of}
 use Rattle.history.specs.World.{World}
-use Rattle.meaning.specs.Reads.{query_reads, sizes_of}
-use Rattle.meaning.specs.Registered.{write_reads}
+use Rattle.meaning.specs.Reads.{query_reads, sizes_of, write_reads}
 use Rattle.command_text.specs.Journal.{Accepted}
 use Rattle.command_text.specs.Tree
 use Rattle.command_text.specs.Tree.{CommandTree}

@@ -46,6 +46,27 @@ fn the_first_edge_of_a_square(rt: HostRuntime) -> Result<(), Fail> {
     Ok(())
 }
 
+// The corners of a polygon, and its least and greatest coordinates.
+const BOUNDED: [(&[Spot], Spot, Spot); 3] = [
+    (&[(3, 7), (-2, 1), (8, -4)], (-2, -4), (8, 7)),
+    (&[(8, -4), (-2, 1), (3, 7)], (-2, -4), (8, 7)),
+    (
+        &[(-5, -9), (-3, -9), (-3, -6), (-5, -7)],
+        (-5, -9),
+        (-3, -6),
+    ),
+];
+
+#[test]
+fn polygons_in_boxes(rt: HostRuntime) -> Result<(), Fail> {
+    for (corners, least, greatest) in BOUNDED {
+        let ends = places(&[least, greatest]).ok_or("no places")?;
+        let found = polygon(rt.alloc(), corners)?.bounds();
+        assert!(rt; found == (ends[0], ends[1]), "{corners:?}");
+    }
+    Ok(())
+}
+
 #[test]
 fn a_region_is_taken_back(rt: HostRuntime) -> Result<(), Fail> {
     let triangle = polygon(rt.alloc(), &[(0, 0), (10, 0), (10, 10)])?;

@@ -13,7 +13,7 @@ use motion::{Given, NamedSet};
 use std::alloc::{AllocError, Global};
 
 /// An object of a text: its name, and what the columns give its attributes.
-#[derive(Debug, Drop)]
+#[derive(Drop)]
 pub struct ObjectRow {
     pub name: Word,
     pub sets: Items<NamedSet>,

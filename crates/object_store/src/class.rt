@@ -33,7 +33,7 @@ impl Model for AttrDef {
 
 /// A class of objects: how many may ever be inserted, and their attributes in order. No two
 /// attributes have the same name.
-#[derive(Debug, Drop)]
+#[derive(Drop)]
 pub struct Class {
     name: Word,
     capacity: u32,

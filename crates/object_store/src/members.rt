@@ -5,7 +5,7 @@ use std::alloc::{AllocError, Global};
 use std::marker::Model;
 
 /// The ids of the objects of one class, in the order of first insertion.
-#[derive(Debug, Drop)]
+#[derive(Drop)]
 pub struct Members {
     ids: Vec<u32>,
 }

@@ -23,7 +23,7 @@ use tick_set::LAST_TICK;
 pub type ObjectId = u32;
 
 /// An object that was ever inserted.
-#[derive(Debug, Drop)]
+#[derive(Drop)]
 pub struct Object {
     pub class: u32,
     pub timeline: Timeline,
@@ -33,7 +33,7 @@ pub struct Object {
 pub type Objects = IndexMap<Word, Object>;
 
 /// What a writing call made of its object, by which it can be taken back.
-#[derive(Debug, Drop)]
+#[derive(Drop)]
 pub struct Undo {
     pub(crate) id: u32,
     /// The name was new.
@@ -45,7 +45,7 @@ pub struct Undo {
 }
 
 /// What an accepted write to an object answers.
-#[derive(Debug, Drop)]
+#[derive(Drop)]
 pub struct Done {
     /// The object that was written.
     pub id: ObjectId,

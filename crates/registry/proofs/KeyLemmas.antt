@@ -20,7 +20,8 @@ use Rattle.formula_shape.specs.declared.limits.TheConstants.{OBJECT_LIMIT}
 use Rattle.kept_rows.specs.declared.change.Change.{Change}
 use Rattle.kept_rows.specs.Listing.{line_of, lines_between, lines_upto, passing_of, times, when_differ, with_runs}
 use Rattle.kept_rows.specs.Numbers.{counts, size_of}
-use Rattle.meaning.specs.Registered.{first_tick, write_reads}
+use Rattle.meaning.specs.Reads.{write_reads}
+use Rattle.meaning.specs.Registered.{first_tick}
 use Rattle.object_store.specs.Contents.{Contents, catalog_of, object_info}
 use Rattle.live_queries.specs.declared.fresh.Renewal.{Renewal}
 use Rattle.live_queries.specs.Asked.{HaveObjectsBefore, IsBefore, class_in}

@@ -2,7 +2,7 @@
 ghost use Rattle.std.specs.Prelude.{◌≡◌, ◌++◌, ◌+◌, ◌<◌, ◌≤◌, [], true, length, map, slice_get, All, IfErr, IfOk, OnOk};
 ghost use Rattle.std.specs.List.{flat_map, list_all};
 ghost use Rattle.std.specs.Option.{option_map_or};
-ghost use Rattle.meaning.specs.Registered.{write_reads};
+ghost use Rattle.meaning.specs.Reads.{write_reads};
 ghost use Rattle.object_store.specs.Contents.{catalog_of};
 ghost use Rattle.line_meaning.specs.Changes.{answer_text};
 ghost use Rattle.line_meaning.specs.Registry.{query_of};

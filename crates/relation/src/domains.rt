@@ -9,14 +9,14 @@ use std::alloc::{AllocError, Global};
 use std::marker::Model;
 
 // One number stands in the value itself, so that a variable of one object takes no memory.
-#[derive(Debug, Drop)]
+#[derive(Drop)]
 enum Held {
     One([u32; 1]),
     Any(Vec<u32>),
 }
 
 // The objects of one variable, by their numbers, ascending.
-#[derive(Debug, Drop)]
+#[derive(Drop)]
 struct Ids {
     held: Held,
 }
@@ -72,7 +72,7 @@ impl Ids {
 }
 
 /// An ascending list of objects for each variable, by their numbers. A contract sees the list of these lists.
-#[derive(Debug, Drop)]
+#[derive(Drop)]
 pub struct Domains {
     // Those past the count have no object.
     lists: [Ids; OBJECT_LIMIT],

@@ -11,7 +11,7 @@ use std::alloc::{AllocError, Global};
 use until_merge::Temporal;
 
 // A key, and the place of the row that has the set for it.
-#[derive(Clone, Copy, Debug)]
+#[derive(Clone, Copy)]
 pub(crate) struct Entry {
     pub(crate) key: Binding,
     pub(crate) place: usize,

@@ -10,7 +10,7 @@ use tick_set::Window;
 use until_merge::Temporal;
 
 /// How the sets of two bindings are put together.
-#[derive(Clone, Copy, Debug, PartialEq, Eq)]
+#[derive(Clone, Copy, PartialEq, Eq)]
 pub(crate) enum Operation {
     /// The ticks of both.
     Meet,
@@ -23,7 +23,7 @@ pub(crate) enum Operation {
 }
 
 /// What becomes of the set of one binding.
-#[derive(Clone, Copy, Debug, PartialEq, Eq)]
+#[derive(Clone, Copy, PartialEq, Eq)]
 pub(crate) enum Change {
     Copy,
     Clip(Window),

@@ -6,7 +6,7 @@ use formula::OBJECT_LIMIT;
 use std::marker::Model;
 
 // At most four object variables, by their numbers. A contract sees the list of the numbers.
-#[derive(Clone, Copy, Debug)]
+#[derive(Clone, Copy)]
 pub(crate) struct Variables {
     // Those past the length are 0, so that a list has one form alone.
     vars: [u8; OBJECT_LIMIT],

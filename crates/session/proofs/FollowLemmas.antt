@@ -5,7 +5,8 @@ use Rattle.std.proofs.lemmas.List.{append_assoc}
 use Rattle.std.proofs.lemmas.List.Quantifiers.{position-Some}
 use Rattle.history.specs.Catalog.{ClassInfo}
 use Rattle.history.specs.World.{World}
-use Rattle.meaning.specs.Registered.{RegisteredQuery, write_reads}
+use Rattle.meaning.specs.Reads.{write_reads}
+use Rattle.meaning.specs.Registered.{RegisteredQuery}
 use Rattle.geometry.specs.Region.{Region}
 use Rattle.object_store.specs.Contents.{catalog_of, is_named}
 use Rattle.command_text.specs.declared.fault.CommandFault.{CommandFault}

@@ -16,14 +16,14 @@ use fixed_point::WHOLE_DIGITS_LIMIT;
 use tick_set::LAST_TICK;
 
 /// Commands, and the ticks that they let pass.
-#[derive(Clone, Copy, Debug)]
+#[derive(Clone, Copy)]
 pub(crate) struct Counts {
     pub commands: u64,
     pub ticks: u64,
 }
 
 /// What a text of format 2 says it has, and what came of it. Of format 1 nothing is counted.
-#[derive(Clone, Copy, Debug)]
+#[derive(Clone, Copy)]
 pub(crate) struct Progress {
     pub said: Option<Counts>,
     pub seen: Counts,

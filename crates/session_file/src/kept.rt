@@ -91,10 +91,14 @@ fn if_loaded(alloc: Global, line: &[u8], command: Command) -> Result<Option<Comm
     requires { IsRead SESSION_LINE_LIMIT line.now (command_view command) }
     ensures { IfOk result (λ found. option_map command_view found ≡ kept_in line.now) }
 {
-    if may_be_loaded(alloc, line, &command)? {
-        Ok(Some(command))
-    } else {
-        Ok(None)
+    // On each way the command goes into a call: let go by a `?` or an `else`, each of its variants would be
+    // opened there.
+    match may_be_loaded(alloc, line, &command) {
+        Ok(may) => Ok(may.then_some(command)),
+        Err(fault) => {
+            drop(command);
+            Err(fault)
+        }
     }
 }
 

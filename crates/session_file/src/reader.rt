@@ -17,7 +17,7 @@ use std::alloc::Global;
 use std::marker::Model;
 
 /// A command that was read from a line of a text.
-#[derive(Debug, Drop)]
+#[derive(Drop)]
 pub struct Loaded {
     /// The number of the line, counted from 1.
     pub line: u64,
@@ -25,7 +25,7 @@ pub struct Loaded {
 }
 
 /// The commands of a session's text that are left, and the first fault after them. A contract sees both.
-#[derive(Debug, Drop)]
+#[derive(Drop)]
 pub struct SessionReader<'a> {
     alloc: Global,
     reader: LineReader,

@@ -1,5 +1,5 @@
-//! Tests of values, by the public calls of their crates: numbers and words, tables of words, sets of ticks with the
-//! operators on them, and those calls on formulas, relations and kept rows that no program makes.
+//! Tests of values, by the public calls of their crates: numbers and words, tables of words, convex functions, sets of
+//! ticks with the operators on them, and those calls on formulas, relations and kept rows that no program makes.
 #![tactic(auto)]
 
 #[cfg(test)]
@@ -18,3 +18,5 @@ mod rows;
 mod sets;
 #[cfg(test)]
 mod tables;
+#[cfg(test)]
+mod valleys;

@@ -41,6 +41,34 @@ fn sets_know_their_ticks(rt: HostRuntime) -> Result<(), Fail> {
     knows_its_ticks::<TickList>(&rt, rt.alloc())
 }
 
+// The set of the ticks of some spans.
+fn set_of<S: TickSet>(alloc: Global, spans: &[(u32, u32)]) -> Result<S, Fail> {
+    let mut set = S::empty(alloc);
+    for (lo, hi) in spans {
+        let ticks = S::of_span(alloc, span(*lo, *hi)?)?;
+        set = set.union(alloc, &ticks)?;
+    }
+    Ok(set)
+}
+
+fn sets_are_joined<S: TickSet>(rt: &impl Abort, alloc: Global) -> Result<(), Fail> {
+    let first: S = set_of(alloc, &[(3, 5), (9, 12)])?;
+    let second = set_of(alloc, &[(12, 20)])?;
+    let wanted = set_of(alloc, &[(3, 5), (9, 10), (12, 20)])?;
+    assert!(rt; first.splice(alloc, 11, &second)?.equal(&wanted));
+    let far = set_of(alloc, &[(6, 6)])?;
+    let wanted = set_of(alloc, &[(3, 6), (9, 20)])?;
+    assert!(rt; S::union_all(alloc, &[&second, &first, &far])?.equal(&wanted));
+    assert!(rt; first.shares_tick(&second) && !second.shares_tick(&far));
+    Ok(())
+}
+
+#[test]
+fn sets_are_spliced_and_joined(rt: HostRuntime) -> Result<(), Fail> {
+    sets_are_joined::<IntervalSet>(&rt, rt.alloc())?;
+    sets_are_joined::<TickList>(&rt, rt.alloc())
+}
+
 #[test]
 fn a_tick_is_pushed_to_a_list(rt: HostRuntime) -> Result<(), Fail> {
     let mut list = TickList::empty(rt.alloc());

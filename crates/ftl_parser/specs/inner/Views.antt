@@ -5,6 +5,7 @@ use Rattle.ftl_parser.specs.declared.head.State as state_type
 use Rattle.ftl_parser.specs.declared.head.State.TheVariants as states
 use Rattle.ftl_parser.specs.declared.head.Kept.{Kept}
 use Rattle.ftl_parser.specs.declared.head.Spelled.{Spelled}
+use Rattle.ftl_parser.specs.declared.state.Spatial.{Spatial}
 use Rattle.ftl_parser.specs.declared.state.Spatial.TheVariants as spatials
 use Rattle.ftl_parser.specs.declared.piece.Piece as piece_type
 use Rattle.ftl_parser.specs.declared.piece.Piece.TheVariants as pieces
@@ -71,11 +72,34 @@ HasNames (InSpatial (spatials.SphereName r ns)) = Unit {0}
 HasNames (InSpatial (spatials.SphereNames r ns)) = Unit {0}
 HasNames phase = ⊥
 
--- an atom that begins with its word is read, and no names of a circle
-abbrev pub IsPlain : Phase → Type 0
-IsPlain (InSpatial (spatials.SphereName r ns)) = ⊥
-IsPlain (InSpatial (spatials.SphereNames r ns)) = ⊥
-IsPlain phase = IsSpatial phase
+-- something in the brackets round two names is waited for
+abbrev pub IsPair : Spatial → Type 0
+IsPair (spatials.PairOpen w) = Unit {0}
+IsPair (spatials.PairFirst w) = Unit {0}
+IsPair (spatials.PairComma w o) = Unit {0}
+IsPair (spatials.PairSecond w o) = Unit {0}
+IsPair (spatials.PairClose w o p) = Unit {0}
+IsPair x = ⊥
+
+-- something behind the names of a distance is waited for
+abbrev pub IsDist : Spatial → Type 0
+IsDist (spatials.DistOp o n) = Unit {0}
+IsDist (spatials.DistNum o n op) = Unit {0}
+IsDist (spatials.DistMinus o n op) = Unit {0}
+IsDist x = ⊥
+
+-- something before the names of a circle is waited for
+abbrev pub IsCircle : Spatial → Type 0
+IsCircle spatials.SphereOpen = Unit {0}
+IsCircle spatials.SphereRadius = Unit {0}
+IsCircle (spatials.SphereComma r) = Unit {0}
+IsCircle x = ⊥
+
+-- no names of a circle are waited for
+abbrev pub IsPlain : Spatial → Type 0
+IsPlain (spatials.SphereName r ns) = ⊥
+IsPlain (spatials.SphereNames r ns) = ⊥
+IsPlain x = Unit {0}
 
 -- the stack is another with one frame more
 abbrev pub SomeIsOnTop : List Frame → List Frame → Type 0
