@@ -1,0 +1,18 @@
+// Elements of the document.
+
+export const byId = (id) => document.getElementById(id);
+
+/// An element with a class and a text.
+export function made(name, className, words) {
+  const element = document.createElement(name);
+  if (className) element.className = className;
+  if (words !== undefined) element.textContent = words;
+  return element;
+}
+
+export function button(words, act) {
+  const element = made("button", "", words);
+  element.type = "button";
+  element.onclick = act;
+  return element;
+}
