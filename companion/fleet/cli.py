@@ -40,6 +40,8 @@ PACKAGES: dict[str, str] = {
     "pyproj": "python3-pyproj",
     "gpxpy": "python3-gpxpy",
     "pynmea2": "python3-nmea2",
+    "paho": "python3-paho-mqtt",
+    "redis": "python3-redis",
 }
 """The Debian package of each module that only some parts need."""
 

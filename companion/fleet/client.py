@@ -124,7 +124,7 @@ class Client:
     `directory` is the folder whose files `save`, `import` and `export` name. `patience` is how many seconds the program
     may write nothing while a reply is awaited; None waits as long as it takes.
 
-    It reads while it writes, so it can't deadlock. One thread at a time may use it.
+    It reads while it writes, so it can't deadlock. One thread at a time may use it, but for `interrupt`.
 
     Raises NotBuilt, BadName or BadSession; Ended where the session couldn't be read; OSError where the folder can't be
     gone into.
@@ -252,6 +252,10 @@ class Client:
     def kill(self) -> None:
         """Ends the program at once. What wasn't saved is lost."""
         self._process.kill()
+
+    def interrupt(self) -> None:
+        """Ends the program at once, from any thread: one that waits for a reply raises Ended."""
+        self._process.interrupt()
 
     def _queue(self, line: str | bytes, replies: deque[Reply]) -> _Sent | None:
         """Takes a line to be sent; None where it has no reply, and then it needn't be sent."""

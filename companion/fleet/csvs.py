@@ -14,9 +14,9 @@ from itertools import islice
 from pathlib import Path
 from typing import Literal
 
-from fleet.grammar import thousandths
 from fleet.hints import near
 from fleet.schema import Object, ObjectClass, Schema
+from fleet.tokens import thousandths
 from fleet.words import FILE_LIMIT, JOURNAL_ENTRIES, NAME_LIMIT, RESERVED
 
 Form = Literal["number", "rate", "text"]
@@ -124,7 +124,7 @@ def _header_causes(header: Row, its_class: ObjectClass, forms: dict[str, Form]) 
     for column, title in enumerate(fields[1:], 2):
         if title in fields[1 : column - 1]:
             yield Cause(header.line, column, f"the column {title} is given twice")
-        elif title not in forms:
+        elif title not in forms and (title != NAME or fields[0] == NAME):
             yield Cause(header.line, column, _column_fault(title, its_class, forms))
 
 

@@ -17,7 +17,7 @@ from lark.lexer import Lexer, PatternStr
 from lark.parsers.lalr_analysis import Shift
 
 from fleet import hints
-from fleet.tokens import BadToken, Token, tokens as tokens_of
+from fleet.tokens import BadToken, Token, thousandths, tokens as tokens_of
 from fleet.trees import leaf, parts, place_of
 from fleet.words import COMMANDS, LATER_COMMANDS, LINE_LIMIT, NAME_LIMIT, REFUSALS
 
@@ -125,15 +125,6 @@ OPERATORS: frozenset[str] = frozenset(
     ("or", "and", "until", "until_within", "until_after", "not", "nexttime", "eventually", "always")
     + ("eventually_within", "eventually_after", "always_for", "assign")
 )
-_DECIMAL = re.compile(r"[0-9]{1,10}(?:\.[0-9]{1,3})?")
-
-
-def thousandths(text: str) -> int | None:
-    """The thousandths of a number without a sign, None where it hasn't one to ten digits and at most three decimals."""
-    if not _DECIMAL.fullmatch(text):
-        return None
-    units, _, decimals = text.partition(".")
-    return 1000 * int(units) + int(decimals.ljust(3, "0"))
 
 
 def whole(text: str) -> int | None:

@@ -9,10 +9,10 @@ from dataclasses import dataclass
 
 from lark import Token as Leaf, Tree
 
-from fleet.grammar import thousandths
 from fleet.names import unknown_names
 from fleet.query_kinds import QueryKinds
 from fleet.schema import ObjectClass, Schema
+from fleet.tokens import thousandths
 from fleet.trees import leaf, name_in, optional_part, part, parts, place_of, whole_in
 from fleet.words import (
     CLASS_LIMIT,

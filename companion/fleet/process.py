@@ -84,6 +84,10 @@ class Process:
             self._process.kill()
             self._end(None)
 
+    def interrupt(self) -> None:
+        """Ends it at once, from any thread: one that waits for it comes to the end of its output."""
+        self._process.kill()
+
     def _wait_for_room(self, wanted: bool) -> None:
         if wanted and not self._waits_for_room:
             self._selector.register(self._input, selectors.EVENT_WRITE)

@@ -5,9 +5,10 @@ from dataclasses import dataclass
 
 from lark import Token as Leaf, Tree
 
-from fleet.grammar import ATOMS, OPERATORS, thousandths
+from fleet.grammar import ATOMS, OPERATORS
 from fleet.names import QueryNames
 from fleet.schema import AttributeKind, Schema
+from fleet.tokens import thousandths
 from fleet.trees import leaf, name_in, optional_part, part, parts, whole_in
 
 TERM_LIMIT = 10**18

@@ -21,6 +21,7 @@ _TOKEN = re.compile(
 _BLANKS = re.compile(r"[ \t]+")
 _PRINTABLE = re.compile(rb"[\t -~]*")
 _SILENT = re.compile(rb"[ \t]*(?:#.*)?", re.DOTALL)
+_DECIMAL = re.compile(r"[0-9]{1,10}(?:\.[0-9]{1,3})?")
 
 
 @dataclass(frozen=True, slots=True)
@@ -91,6 +92,14 @@ def tokens(line: str | bytes) -> list[Token]:
 def _after_blanks(text: str, at: int) -> int:
     blanks = _BLANKS.match(text, at)
     return blanks.end() if blanks else at
+
+
+def thousandths(text: str) -> int | None:
+    """The thousandths of a number without a sign, None where it hasn't one to ten digits and at most three decimals."""
+    if not _DECIMAL.fullmatch(text):
+        return None
+    units, _, decimals = text.partition(".")
+    return 1000 * int(units) + int(decimals.ljust(3, "0"))
 
 
 def is_silent(line: str | bytes) -> bool:

@@ -6,6 +6,7 @@ from pathlib import Path
 from typing import Any
 
 from selenium import webdriver
+from selenium.common.exceptions import SessionNotCreatedException
 from selenium.webdriver.chrome.service import Service
 from selenium.webdriver.common.action_chains import ActionChains
 from selenium.webdriver.common.by import By
@@ -13,6 +14,8 @@ from selenium.webdriver.support.wait import WebDriverWait
 
 WAIT = 60.0
 """The most seconds that a test waits for anything."""
+TRIES = 5
+"""How often a browser is begun that doesn't come."""
 WORDS = ("--headless=new", "--no-sandbox", "--disable-gpu", "--disable-dev-shm-usage", "--window-size=1200,900")
 
 
@@ -55,6 +58,14 @@ class Browser:
         return [element.get_attribute("aria-label") or "" for element in found]
 
 
+def _begun(options: webdriver.ChromeOptions) -> webdriver.Chrome:
+    """A browser that has begun. The driver gives one up that takes long, as on a machine that is very busy."""
+    for _ in range(TRIES - 1):
+        with contextlib.suppress(SessionNotCreatedException):
+            return webdriver.Chrome(service=Service("/usr/bin/chromedriver"), options=options)
+    return webdriver.Chrome(service=Service("/usr/bin/chromedriver"), options=options)
+
+
 @contextlib.contextmanager
 def browsing(folder: Path) -> Iterator[Browser]:
     """A browser with its profile in a folder, which is ended with the block."""
@@ -62,7 +73,7 @@ def browsing(folder: Path) -> Iterator[Browser]:
     for word in (*WORDS, f"--user-data-dir={folder}", "--host-resolver-rules=MAP * ~NOTFOUND, EXCLUDE 127.0.0.1"):
         options.add_argument(word)
     options.set_capability("goog:loggingPrefs", {"browser": "ALL"})
-    driver = webdriver.Chrome(service=Service("/usr/bin/chromedriver"), options=options)
+    driver = _begun(options)
     try:
         yield Browser(driver)
     finally:

@@ -12,9 +12,15 @@ import time
 from collections.abc import Iterator
 from pathlib import Path
 
+from fleet.serve.process import with_its_parent
+
 COMPANION = Path(__file__).resolve().parents[1]
+WITH_TESTS = with_its_parent()
+"""The words before those of a server with which it ends as soon as the tests do, however they end."""
 WAIT = 60.0
 """The most seconds that a test waits for anything."""
+PATIENCE = 60
+"""The seconds that a line may take, unless a test gives others: the machine may be very busy."""
 
 
 class Gone(Exception):
@@ -117,16 +123,19 @@ class Serving:
 
     def __init__(self, program: Path, log: Path, *options: str, environment: dict[str, str] | None = None) -> None:
         self.log = log
+        if "--patience" not in options:
+            options = (*options, "--patience", str(PATIENCE))
         self.stderr = Path(tempfile.mkdtemp(dir=os.environ["HOME"])) / "err"
         with self.stderr.open("ab") as error:
             self.process = subprocess.Popen(
-                [sys.executable, str(COMPANION / "bin" / "fleet"), "serve", "--port", "0", "--log", str(log),
-                 "--program", str(program), *options],
+                [*WITH_TESTS, sys.executable, str(COMPANION / "bin" / "fleet"), "serve", "--port", "0",
+                 "--log", str(log), "--program", str(program), *options],
                 stdin=subprocess.DEVNULL, stdout=subprocess.PIPE, stderr=error, text=True,
                 env=os.environ | (environment or {}),
             )  # fmt: skip
         assert self.process.stdout is not None
-        self.told = [self.process.stdout.readline().rstrip("\n") for _ in range(5 if "--ws-port" in options else 4)]
+        count = 4 + sum(option in options for option in ("--ws-port", "--redis", "--mqtt"))
+        self.told = [self.process.stdout.readline().rstrip("\n") for _ in range(count)]
 
     @property
     def address(self) -> tuple[str, int]:
@@ -186,6 +195,30 @@ def serving(program: Path, log: Path, *options: str, **more: dict[str, str]) -> 
         server.end()
 
 
+LONG_LINE = (
+    "ask 10000 RETRIEVE o FROM big o WHERE [v <- o.x] EVENTUALLY [w <- o.y] EVENTUALLY (o.a > v OR o.b > w)"
+)
+"""A line that takes minutes over the objects of `big_class`."""
+
+
+def big_class() -> list[str]:
+    """The commands of a class of 100 objects."""
+    objects = [
+        f"insert big o{i} at ({i},{i % 7}) move [(1,0.5),{i + 1}] [(-1,-0.5),{i + 2}] (0.3,1) a = {i} rate 0.1"
+        for i in range(100)
+    ]
+    return ["class big 100 point (a dyn,b dyn)", *objects]
+
+
+def hanging(folder: Path, replies: int) -> tuple[Path, Path]:
+    """A program that accepts some lines and hangs with the next one, and the file that has its number then."""
+    program, pid = folder / "hanging", folder / "pid"
+    lines = ["#!/bin/sh", *["read -r line; echo ok"] * replies, "read -r line", f"printf %s $$ >'{pid}.new'"]
+    program.write_text("\n".join([*lines, f"mv '{pid}.new' '{pid}'", "exec sleep 3600", ""]))
+    program.chmod(0o755)
+    return program, pid
+
+
 def until(holds: object, what: str = "it") -> None:
     """Waits until a condition holds."""
     end = time.monotonic() + WAIT
@@ -212,9 +245,9 @@ def accepted(client: LineClient, *lines: str) -> None:
 
 
 def commands_of(log: Path) -> list[str]:
-    """The commands of the log as it stands."""
+    """The commands of the log as it stands, those that are whole."""
     path = max(log.glob("log-*"))
-    return [line for line in path.read_text().splitlines()[1:] if not line.startswith("#")]
+    return [line for line in path.read_text().split("\n")[1:-1] if not line.startswith("#")]
 
 
 class Model:

@@ -187,6 +187,12 @@ def test_tells_all_faults(tmp_path: Path) -> None:
     assert [cause[:2] for cause in causes_of(tmp_path, text)] == [(2, 2), (3, 1), (3, 2), (4, 1), (6, 3)]
 
 
+def test_a_name_that_does_not_stand_first_is_one_fault(tmp_path: Path) -> None:
+    assert [cause[:2] for cause in causes_of(tmp_path, "x,name,name\n")] == [(1, 1), (1, 3)]
+    assert [cause[:2] for cause in causes_of(tmp_path, "index,name,x\na,a,1\n")] == [(1, 1)]
+    assert [cause[:2] for cause in causes_of(tmp_path, "name,name\na,b\n")] == [(1, 2)]
+
+
 def test_objects_of_another_class_are_updated_where_they_can_be(client: Client, tmp_path: Path) -> None:
     lines = ["class car 5 point", "class bike 5 point (gears num)", "class shed 2"]
     lines += ["insert bike b", "insert bike c", "remove c"]

@@ -326,7 +326,7 @@ def test_version_is_that_of_the_change_log(fleet_command: list[str]) -> None:
     assert told == f"fleet {__version__}\n"
 
 
-@pytest.mark.parametrize("of", [*DOCUMENTS, CHANGELOG, document("companion/README.md")], ids=document_name)
+@pytest.mark.parametrize("of", [*DOCUMENTS, CHANGELOG, document("companion/README.md"), document("docs/SCALE.md")], ids=document_name)
 def test_links_lead_to_files(of: Document) -> None:
     folder = (TOP / of.name).parent
     links = [target.partition("#")[0] for target in re.findall(r"\]\(([^)\s]+)\)", of.text) if "://" not in target]

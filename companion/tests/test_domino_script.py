@@ -10,7 +10,7 @@ import pytest
 from documents import TOP
 from fleet.words import RESERVED
 
-SECONDS = 30
+SECONDS = 60
 NOT_BUILT = "the program isn't built yet"
 
 

@@ -8,11 +8,12 @@ import threading
 from collections import deque
 from collections.abc import AsyncIterator, Callable, Coroutine
 from contextlib import asynccontextmanager
+from copy import copy
 from pathlib import Path
 from typing import cast
 
 import pytest
-from servers import WAIT
+from servers import LONG_LINE, PATIENCE, WAIT, big_class
 
 from fleet.roll import Rolled
 from fleet.serve import connections, engine, renewal, rolling
@@ -22,7 +23,7 @@ from fleet.serve.gate import BadGate, Gate, check_host, gate_of
 from fleet.serve.log import Log, LogFull, LogUnsure
 from fleet.serve.options import add_arguments
 from fleet.serve.peers import MOST_WAITING_LINES, Item, Outbox, Peer, _pieces
-from fleet.serve.process import Answer
+from fleet.serve.process import Answer, Program
 from fleet.serve.records import Record
 from fleet.serve.runner import Runner
 from fleet.serve.server import Server
@@ -35,6 +36,8 @@ OK = Answer(b"ok\n", b"ok")
 
 class Source:
     """A source of lines that keeps what it is replied."""
+
+    share = 1
 
     def __init__(self, *lines: bytes, is_quick: bool = True) -> None:
         self.waiting = deque(Item(self, Kind.KEPT, line, is_quick) for line in lines)
@@ -64,12 +67,29 @@ class SlowLog:
         pass
 
 
-def run(test: Coroutine[object, object, None]) -> None:
+class Jumping(asyncio.SelectorEventLoop):
+    """A loop whose time stands while anything can go on, and then jumps to what is due next, by a microsecond at least."""
+
+    _now = 0.0
+
+    def time(self) -> float:
+        return self._now
+
+    def _run_once(self) -> None:
+        if not self._ready and self._scheduled:  # type: ignore[attr-defined]
+            self._now = max(self._now + 1e-6, self._scheduled[0].when())  # type: ignore[attr-defined]
+        super()._run_once()  # type: ignore[misc]
+
+
+def run(
+    test: Coroutine[object, object, None], loop: Callable[[], asyncio.AbstractEventLoop] = asyncio.new_event_loop
+) -> None:
     async def within() -> None:
         async with asyncio.timeout(WAIT):
             await test
 
-    asyncio.run(within())
+    with asyncio.Runner(loop_factory=loop) as runner:
+        runner.run(within())
 
 
 async def until(holds: Callable[[], bool]) -> None:
@@ -190,6 +210,19 @@ def test_sources_have_their_lines_in_turn() -> None:
     run(test())
 
 
+def test_a_source_has_its_share_in_its_turn() -> None:
+    async def test() -> None:
+        turns = Turns()
+        many, slow = Source(*(b"m%d" % i for i in range(7))), Source(b"s", b"t", is_quick=False)
+        many.share = 3
+        turns.give(many)  # type: ignore[arg-type]
+        turns.give(slow)  # type: ignore[arg-type]
+        taken = [[item.text for item in await turns.take(9)] for _ in range(5)]
+        assert taken == [[b"m0", b"m1", b"m2"], [b"s"], [b"m3", b"m4", b"m5"], [b"t"], [b"m6"]]
+
+    run(test())
+
+
 def test_a_client_has_so_many_lines_that_wait() -> None:
     async def test() -> None:
         peer = Peer("test", Gate(), lambda _: None)
@@ -245,17 +278,16 @@ def test_blocks_are_sent_in_pieces_of_whole_lines() -> None:
 def test_the_clock_makes_up_for_ticks() -> None:
     async def test() -> None:
         turns = Turns()
-        clock = Clock(0.02, turns.give)
+        clock = Clock(1 / 64, turns.give)
         task = asyncio.create_task(clock.run())
         (item,) = await turns.take(9)
         await asyncio.sleep(0.1)
-        first = int(clock.line().split()[1])
-        assert first >= 5
+        assert clock.line() == b"tick 7"
         clock.reply(b"refused 104 OutOfPatience\n")
         (item,) = await turns.take(9)
-        assert item.source is clock and int(clock.line().split()[1]) > first
+        assert item.source is clock and clock.line() == b"tick 8"
         clock.reply(b"enter w a\nok\n")
-        assert clock.line() == b"" or int(clock.line().split()[1]) <= 2
+        assert clock.line() == b""
         await until(lambda: clock.line() not in (b"", b"tick 1"))
         clock.reply(b"refused 13 ClockEnd\n")
         assert clock.fault == ""
@@ -264,7 +296,7 @@ def test_the_clock_makes_up_for_ticks() -> None:
         await task
         assert clock.fault == "refused 13 ClockEnd"
 
-    run(test())
+    run(test(), Jumping)
 
 
 @pytest.mark.parametrize(
@@ -372,6 +404,11 @@ class InProcess:
         self.reader, self.writer = await asyncio.open_connection("127.0.0.1", self.port)
         assert (await self.reader.readline()).startswith(b"* fleet")
 
+    async def listed(self) -> bytes:
+        """What `list` tells."""
+        self.writer.write(b"list\n")
+        return await self.reader.readuntil(b"ok\n")
+
     async def asks(self, *lines: str) -> list[str]:
         """Sends lines and gives the last line of the reply to each."""
         self.writer.write("".join(f"{line}\n" for line in lines).encode())
@@ -395,6 +432,8 @@ def in_process(
         parser = argparse.ArgumentParser()
         add_arguments(parser)
         arguments = parser.parse_args(["--port", "0", "--log", str(tmp_path / "log"), *options])
+        assert arguments.patience == 10
+        arguments.patience = PATIENCE
         log, thread = Log(arguments.log), Thread()
         log.begin([])
         server = Server(arguments, program, Gate(), log, thread)
@@ -416,6 +455,34 @@ def in_process(
             log.close()
 
     return begin
+
+
+def test_patience_ends_a_line_and_nothing_else(
+    in_process: Callable[..., object], monkeypatch: pytest.MonkeyPatch
+) -> None:
+    answers, watched = Program.answers, LONG_LINE.replace("ask", "watch w")
+
+    def hurried(self: Program, lines: list[bytes], patience: float | None) -> AsyncIterator[Answer]:
+        """Has no patience with the lines that take minutes, and much with all others."""
+        is_long = lines in ([LONG_LINE.encode()], [watched.encode()])
+        return answers(self, lines, 0.1 if is_long else WAIT)
+
+    monkeypatch.setattr(Program, "answers", hurried)
+
+    async def test() -> None:
+        async with in_process() as running:  # type: ignore[attr-defined]
+            other = copy(running)
+            await other.connect()
+            assert set(await running.asks(*big_class(), "tick 3")) == {"ok"}
+            long = asyncio.create_task(running.asks("tick 1", LONG_LINE, "list"))
+            assert await other.asks("update o1 at (1,1)", "tick 2", "list") == ["ok"] * 3
+            assert await long == ["ok", "refused 104 OutOfPatience", "ok"]
+            assert (await running.listed()).startswith(b"clock 6\n")
+            assert await running.asks(":client me", f"@1 {watched}", "@2 tick 1") == ["ok", "refused 104 OutOfPatience", "ok"]
+            assert await running.listed() == b"clock 7\nclass big 100/100\nok\n"
+            other.writer.close()
+
+    run(test())
 
 
 def test_a_program_that_has_read_enough_is_started_anew(

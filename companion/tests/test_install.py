@@ -17,7 +17,7 @@ COMPANION = TOP / "companion"
 
 def said_by(*words: str | Path, status: int = 0, **options: object) -> str:
     """What a command writes; it has to end with the status."""
-    said = subprocess.run(words, capture_output=True, text=True, timeout=170, check=False, **options)  # type: ignore[call-overload]
+    said = subprocess.run(words, capture_output=True, text=True, timeout=600, check=False, **options)  # type: ignore[call-overload]
     assert said.returncode == status, said.stdout + said.stderr
     return str(said.stdout + said.stderr)
 

@@ -9,6 +9,7 @@ from pathlib import Path
 
 import pytest
 
+from fleet.serve.closed import NoLog, open_session
 from fleet.serve.locks import FolderInUse
 from fleet.serve.log import Log, LogFull
 from fleet.serve.outcomes import MOST_CLIENTS, MOST_NUMBERS, Number, Outcome, Outcomes, Unknown
@@ -76,6 +77,40 @@ def test_a_copy_is_closed(tmp_path: Path) -> None:
         commands = [entry.text for entry in entries(text)]
     assert commands == [record.command for records in GROUPS for record in records if record.command]
     log.close()
+
+
+PLANES = (b"# fleet plane EPSG:32632", b"# fleet plane local 1,2")
+
+
+def test_it_has_the_first_plane(tmp_path: Path) -> None:
+    log = Log(tmp_path)
+    log.begin([])
+    for plane in PLANES:
+        assert log.plane in (b"", PLANES[0])
+        records = [Record(b"tick 1"), Record(None, plane=plane)]
+        log.commit(records)
+        log.took(records)
+    log.close()
+    log = Log(tmp_path)
+    log.open()
+    assert log.plane == PLANES[0] and log.entries == 2
+    log.begin([b"tick 1"], plane=PLANES[1])
+    assert log.plane == PLANES[0] and log.path.read_bytes().splitlines()[2:4] == [PLANES[0], b"tick 1"]
+    log.close()
+
+
+def test_it_is_read_as_a_session(tmp_path: Path) -> None:
+    path = written(tmp_path / "log")
+    with path.open("ab") as file:
+        file.write(b"tick 1\n")
+    for name in (path, path.parent):
+        with open_session(name) as text:
+            assert [entry.text for entry in entries(text)][-1] == b"tick 1" and len(list(path.parent.iterdir())) == 2
+    (tmp_path / "saved").write_bytes(b"domino-session 1\ntick 1\nend\n")
+    with open_session(tmp_path / "saved") as text:
+        assert [entry.text for entry in entries(text)] == [b"tick 1"]
+    with pytest.raises(NoLog):
+        open_session(tmp_path)
 
 
 TAILS = {

@@ -4,7 +4,9 @@ import asyncio
 import contextlib
 import http.client
 import json
+import os
 import signal
+import socket
 import subprocess
 import sys
 from collections.abc import Iterator
@@ -14,15 +16,17 @@ import pytest
 from websockets.client import connect
 from websockets.exceptions import InvalidStatusCode
 
-from browsers import Browser, browsing
+from browsers import WAIT, Browser, browsing
 from conftest import TOP
 from fleet.look import follow
 from fleet.look.changing import Changing
-from fleet.look.follow import Follower, NoLog
+from fleet.look.follow import Follower
 from fleet.look.history import History
+from fleet.look.sources import GONE, LIVE
+from fleet.serve.closed import NoLog
 from fleet.serve.log import Log
 from fleet.serve.records import Record, mark
-from servers import Serving, accepted, serving
+from servers import Serving, accepted, hanging, serving, until
 from sessions import EXAMPLE, POINT_CLASSES, commands_of, made_session, place_texts
 
 FIRST = b"class van 3 point"
@@ -45,20 +49,34 @@ def added(log: Log, *commands: bytes) -> None:
 
 
 @contextlib.contextmanager
-def living(program: Path, folder: Path) -> Iterator[tuple[subprocess.Popen[str], str]]:
-    """A page of the log in a folder: the process that serves it, and its address."""
-    words = [sys.executable, str(TOP / "companion" / "bin" / "fleet"), "look", "live", str(folder), "--port", "0"]
-    process = subprocess.Popen([*words, "--program", str(program)], stdout=subprocess.PIPE, text=True)
-    try:
+def living(program: Path, log: str | Path, *options: str) -> Iterator[tuple[subprocess.Popen[str], str]]:
+    """A page of a log, by its folder or its server: the process that serves it, and its address."""
+    with started(program, log, *options) as process:
         assert process.stdout is not None
         told = process.stdout.readline()
         assert told.startswith("live on http://127.0.0.1:")
         yield process, told.split()[-1]
+
+
+def words_of(program: Path, log: str | Path, *options: str) -> list[str]:
+    fleet = str(TOP / "companion" / "bin" / "fleet")
+    return [sys.executable, fleet, "look", "live", str(log), "--port", "0", "--program", str(program), *options]
+
+
+@contextlib.contextmanager
+def started(program: Path, log: str | Path, *options: str) -> Iterator[subprocess.Popen[str]]:
+    process = subprocess.Popen(words_of(program, log, *options), stdout=subprocess.PIPE, text=True)
+    try:
+        yield process
     finally:
-        process.kill()
-        process.wait()
-        assert process.stdout is not None
-        process.stdout.close()
+        process.terminate()
+        try:
+            process.wait(WAIT)
+        finally:
+            process.kill()
+            process.wait()
+            assert process.stdout is not None
+            process.stdout.close()
 
 
 def test_groups_are_followed_when_they_are_whole(log: Log, monkeypatch: pytest.MonkeyPatch) -> None:
@@ -170,12 +188,13 @@ def place_and_rows(browser: Browser, server: Serving) -> None:
         assert browser.run("return look.recording.holding(look.recording.queries[0], look.tick).flat()") == now
 
 
-def test_the_page_goes_on_with_the_server(browser: Browser, program: Path, tmp_path: Path) -> None:
+@pytest.mark.parametrize("by", ["folder", "server"])
+def test_the_page_goes_on_with_the_server(browser: Browser, program: Path, tmp_path: Path, by: str) -> None:
     split = LINES.index("tick 20")
-    with serving(program, tmp_path / "log") as server:
+    with serving(program, tmp_path / "log", "--ws-port", "0") as server:
         with server.client() as client:
             accepted(client, *LINES[:split])
-        with living(program, server.log) as (process, address):
+        with living(program, server.log if by == "folder" else server.websocket) as (process, address):
             browser.open(address)
             tick_of(browser, 0)
             place_and_rows(browser, server)
@@ -189,8 +208,85 @@ def test_the_page_goes_on_with_the_server(browser: Browser, program: Path, tmp_p
             browser.wait("return look.recording.clock === 305")
             assert browser.run("return look.tick") == 100
             process.send_signal(signal.SIGTERM)
-            assert process.wait(60) == 0
+            assert process.wait(WAIT) == 0
         browser.wait("return document.getElementById('about').textContent.startsWith('the connection is lost')")
+
+
+def test_the_page_waits_for_a_server_that_is_gone(browser: Browser, program: Path, tmp_path: Path) -> None:
+    token = tmp_path / "token"
+    token.write_text("a-word-of-24-characters")
+    options = ("--token", str(token))
+    with serving(program, tmp_path / "log", "--ws-port", "0", *options) as server:
+        port = server.websocket.rpartition(":")[2]
+        with server.client() as client:
+            accepted(client, f":token {token.read_text()}", *LINES)
+        with living(program, server.websocket, *options) as (process, address):
+            browser.open(address)
+            tick_of(browser, 300)
+            server.kill()
+            browser.wait(f"return document.getElementById('about').textContent === '{GONE}'")
+            with serving(program, server.log, "--ws-port", port, *options) as again, again.client() as client:
+                browser.wait(f"return document.getElementById('about').textContent === '{LIVE}'")
+                accepted(client, f":token {token.read_text()}", "tick 7")
+                tick_of(browser, 307)
+                accepted(client, 'export van "e.csv"', 'import van "e.csv"', "tick 3")
+                tick_of(browser, 310)
+                for pid in children_of(process.pid):
+                    os.kill(pid, signal.SIGKILL)
+                accepted(client, "tick 4")
+                tick_of(browser, 314)
+                assert browser.text("about") == LIVE
+
+
+def children_of(pid: int) -> list[int]:
+    """The processes that a process has started itself."""
+    found = []
+    for status in Path("/proc").glob("[0-9]*/status"):
+        with contextlib.suppress(OSError):
+            if f"\nPPid:\t{pid}\n" in status.read_text():
+                found.append(int(status.parent.name))
+    return found
+
+
+def test_a_server_that_does_not_tell_is_told_of(program: Path, tmp_path: Path) -> None:
+    (tmp_path / "token").write_text("a-word-of-24-characters")
+    (tmp_path / "other").write_text("another-word-of-24-chars")
+    options = ("--token", str(tmp_path / "token"))
+    with serving(program, tmp_path / "log", "--ws-port", "0", *options) as server:
+        for log, more, cause in (
+            (server.websocket, (), "needs the token of --token: refused 101 NotAllowed"),
+            (server.websocket, ("--token", str(tmp_path / "other")), "needs the token of --token: refused 101 NotAllowed"),
+            (f"ws://{':'.join(map(str, server.address))}", (), "can't be reached: "),
+            ("ws://127.0.0.1:0", (), "can't be reached: "),
+            ("ws://127.0.0.1:7/x", (), "is no address of the form ws://HOST:PORT"),
+        ):
+            words = words_of(program, log, *more)
+            ended = subprocess.run(words, capture_output=True, text=True, timeout=WAIT, check=False)
+            assert (ended.returncode, ended.stdout) == (1, "") and cause in ended.stderr, ended
+
+
+@pytest.mark.parametrize("number", [signal.SIGTERM, signal.SIGINT])
+def test_a_connection_that_is_never_used_holds_no_end_up(program: Path, log: Log, number: signal.Signals) -> None:
+    with living(program, log.folder) as (process, address):
+        host, _, port = address.split("/")[2].partition(":")
+        with socket.create_connection((host, int(port)), timeout=WAIT), socket.create_connection((host, int(port))) as half:
+            half.sendall(b"GET / HTTP/1.1\r\n")
+            assert answered(address, "/other")[0] == 404
+            process.send_signal(number)
+            assert process.wait(WAIT) == 0
+
+
+@pytest.mark.parametrize("replies", [0, 1])
+def test_a_program_that_hangs_holds_no_end_up(tmp_path: Path, log: Log, replies: int) -> None:
+    program, pid = hanging(tmp_path, replies)
+    with started(program, log.folder) as process:
+        if replies:
+            assert process.stdout is not None and process.stdout.readline().startswith("live on ")
+            added(log, b"insert van a")
+        until(pid.exists, "the line with which it hangs")
+        process.send_signal(signal.SIGTERM)
+        assert process.wait(WAIT) == 0
+    until(lambda: not Path("/proc", pid.read_text()).exists(), "the end of the program")
 
 
 def test_the_page_begins_anew_with_another_log(browser: Browser, program: Path, log: Log) -> None:
@@ -236,8 +332,8 @@ def test_it_is_for_its_own_page_on_this_machine_alone(program: Path, log: Log) -
 
 def test_a_session_that_is_not_loaded_ends_it(program: Path, log: Log) -> None:
     added(log, b"update nobody at (0,0)")
-    words = [sys.executable, str(TOP / "companion" / "bin" / "fleet"), "look", "live", str(log.folder), "--port", "0"]
-    ended = subprocess.run([*words, "--program", str(program)], capture_output=True, text=True, timeout=120, check=False)
+    words = words_of(program, log.folder)
+    ended = subprocess.run(words, capture_output=True, text=True, timeout=WAIT, check=False)
     assert (ended.returncode, ended.stdout) == (1, "")
     assert ended.stderr == "fleet: the program refuses a command of the session by 7 UnknownName: update nobody at (0,0)\n"
 

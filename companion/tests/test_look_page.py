@@ -27,9 +27,7 @@ from sessions import (
 )  # fmt: skip
 
 SHARED = ("drawing.js", "map.js")
-"""The scripts that this page has in common with the one that runs the program."""
-FRAME = 16.0
-"""The milliseconds that a frame may take."""
+"""The scripts that this page has in common with the one that runs the program, of which `page/build` makes copies."""
 
 
 @pytest.fixture(scope="module")
@@ -213,11 +211,14 @@ def test_what_a_page_is_made_of_is_installed() -> None:
     assert len(others) >= 8 and all(any(path.match(kind) for kind in kinds) for path in others)
 
 
-@pytest.mark.parametrize("name", SHARED)
-def test_what_two_pages_have_in_common_is_the_same(name: str) -> None:
-    other = TOP / "page" / name
-    if other.exists():
-        assert part(name) == other.read_text(encoding="utf-8")
+def test_the_page_of_the_program_finds_its_drawing_here() -> None:
+    taken: set[tuple[str, str]] = set()
+    for script in (TOP / "page").glob("*.js"):
+        found = re.findall(r'^import \{ ([^}]*) \} from "\./out/(.*)";$', script.read_text(encoding="utf-8"), re.MULTILINE)
+        taken |= {(of, name) for names, of in found for name in names.split(", ")}
+    assert taken and {of for of, _ in taken} <= set(SHARED)
+    exported = {(of, name) for of in SHARED for name in re.findall(r"^export [a-z]+ (\w+)", part(of), re.MULTILINE)}
+    assert taken <= exported
 
 
 PIXEL = bytes.fromhex(
@@ -288,27 +289,3 @@ def test_addresses_that_are_none_of_tiles_are_refused(capsys: pytest.CaptureFixt
     with pytest.raises(SystemExit):
         cli.main(["look", "play", "-", "--tiles", address])
     assert "argument --tiles: " in capsys.readouterr().err
-
-
-@pytest.mark.long
-def test_a_frame_of_a_thousand_objects_is_drawn_in_time(browser: Browser, program: Path, tmp_path: Path) -> None:
-    """By the page's own clock: its work for a frame. How many frames a browser without a graphics card shows in a second
-    is told and not judged: a machine that is busy with something else keeps it from its turn."""
-    lines = ["class van 1000 point", "region yard (0,0) (900,0) (900,900) (0,900)"]
-    for i in range(1000):
-        lines.append(f"insert van v{i} at ({i * 37 % 4000},{i * 91 % 4000}) move ({i % 19 - 9},{i % 23 - 11})")
-    lines += ["watch town 100000 RETRIEVE o FROM van o WHERE INSIDE(o,yard)"]
-    for tick in range(1, 120):
-        lines.append("tick 1")
-        lines += [f"update v{i} move ({(i + tick) % 19 - 9},{(i * tick) % 23 - 11})" for i in range(tick % 30, 1000, 30)]
-    browser.open(page_of(saved_session(program, tmp_path, lines)).as_uri())
-    browser.run("document.getElementById('pace').value = 10")
-    medians, rates = [], []
-    for _ in range(5):
-        browser.run("look.go(0); look.frames.length = 0; globalThis.begun = performance.now(); look.play()")
-        browser.wait("return look.frames.length >= 60")
-        frames, seconds = browser.run("look.pause(); return [look.frames, (performance.now() - begun) / 1000]")
-        medians.append(sorted(frames)[len(frames) // 2])
-        rates.append(len(frames) / seconds)
-    print(f"a frame of 1,000 objects: {min(medians):.1f} ms of work, {max(rates):.0f} frames a second")
-    assert min(medians) <= FRAME

@@ -15,26 +15,16 @@ from pathlib import Path
 
 import pytest
 from servers import (
-    WAIT, Gone, LineClient, Model, Serving, accepted, check_models, commands_of, programs_of, serving, until,
+    PATIENCE, WAIT, Gone, LineClient, Model, Serving, accepted, big_class, check_models, commands_of, hanging, programs_of,
+    serving, until,
 )  # fmt: skip
 
 from fleet import cli
+from fleet.client import Client
+from fleet.serve.log import Log
 from fleet.serve.wire import Refusal
 from fleet.session_text import entries
-
-LONG_LINE = (
-    "ask 10000 RETRIEVE o FROM big o WHERE [v <- o.x] EVENTUALLY [w <- o.y] EVENTUALLY (o.a > v OR o.b > w)"
-)
-"""A line that takes minutes over the objects of `big_class`."""
-
-
-def big_class() -> list[str]:
-    objects = [
-        f"insert big o{i} at ({i},{i % 7}) move [(1,0.5),{i + 1}] [(-1,-0.5),{i + 2}] (0.3,1) a = {i} rate 0.1"
-        for i in range(100)
-    ]
-    return ["class big 100 point (a dyn,b dyn)", *objects]
-
+from ways import Said, fleet
 
 @pytest.fixture
 def log(tmp_path: Path) -> Path:
@@ -50,9 +40,9 @@ def server(program: Path, log: Path) -> Iterator[Serving]:
 def test_it_tells_how_it_serves(server: Serving, log: Path) -> None:
     assert server.told[0].startswith("fleet serve 0.1.0")
     assert server.told[2] == f"log {log}/log-00000001: 0 entries, at tick 0, lines synced in groups"
-    assert server.told[3] == "patience 10 seconds, ticks by clients alone"
+    assert server.told[3] == f"patience {PATIENCE} seconds, ticks by clients alone"
     with server.client() as client:
-        assert client.greeting == "* fleet 1 clock 0 patience 10"
+        assert client.greeting == f"* fleet 1 clock 0 patience {PATIENCE}"
 
 
 def test_replies_are_the_programs(server: Serving, program: Path, tmp_path: Path) -> None:
@@ -254,22 +244,14 @@ def test_names_of_files(server: Serving, log: Path) -> None:
     assert "started anew" not in server.said()
 
 
-def test_patience_ends_a_line_and_nothing_else(program: Path, log: Path) -> None:
-    with serving(program, log, "--patience", "2") as server, server.client() as client, server.client() as other:
-        assert client.greeting == "* fleet 1 clock 0 patience 2"
-        accepted(client, *big_class(), "tick 3")
-        client.write("tick 1", LONG_LINE, "list")
-        other.write("update o1 at (1,1)", "tick 2", "list")
-        assert [client.reply() for _ in range(2)] == [["ok"], ["refused 104 OutOfPatience"]]
-        assert [other.reply()[-1] for _ in range(3)] == ["ok", "ok", "ok"]
-        assert client.reply()[-1] == "ok" and client.ask("list")[0] == "clock 6"
-        accepted(client, ":client me")
-        assert client.asks(f"@1 {LONG_LINE.replace('ask', 'watch w')}", "@2 tick 1") == [
-            ["refused 104 OutOfPatience"],
-            ["ok"],
-        ]
-        assert client.ask("list") == ["clock 7", "class big 100/100", "ok"]
-        assert len(programs_of(log)) == 1
+def test_a_line_may_take_as_long_as_the_patience(log: Path, tmp_path: Path) -> None:
+    program, pid = hanging(tmp_path, 1)
+    with serving(program, log, "--patience", "0.2") as server, server.client() as client:
+        assert client.greeting == "* fleet 1 clock 0 patience 0.2"
+        for _ in range(2):
+            assert client.ask("tick 1") == ["refused 104 OutOfPatience"]
+            until(lambda: not Path("/proc", pid.read_text()).exists(), "the end of the program")
+        assert commands_of(log) == []
 
 
 FAKE = """#!/bin/sh
@@ -382,6 +364,128 @@ def test_a_log_may_begin_from_a_saved_session(program: Path, log: Path, tmp_path
     assert commands_of(log) == ["class   van 3 point", "tick 2", "tick 3", "tick 1"]
 
 
+def _commands(client: LineClient, count: int) -> list[str]:
+    """The next commands of the log that a client is told of."""
+    lines = [client.next_told() for _ in range(count)]
+    assert all(line.startswith("* command ") for line in lines), lines
+    return [line.removeprefix("* command ") for line in lines]
+
+
+def test_a_client_is_told_of_the_log(program: Path, log: Path) -> None:
+    first = ["class van 3 point", "insert van a", "tick 2"]
+    with serving(program, log) as server, server.client() as writer, server.client() as reader:
+        accepted(writer, *first)
+        assert reader.ask(":log") == ["ok"]
+        assert reader.next_told() == "* log log-00000001 0 3" and _commands(reader, 3) == first
+        accepted(writer, ":client me", "@1  update  a at (1,2)", "list")
+        assert writer.ask("insert van a") == ["refused 14 Presence"]
+        writer.write("# fleet plane EPSG:32632")
+        accepted(reader, "tick 1")
+        assert _commands(reader, 1) == ["update  a at (1,2)"]
+        assert {reader.next_told(), reader.next_told()} == {"* plane EPSG:32632", "* command tick 1"}
+        for words, told, rest in (
+            ("log-00000001 4", "log-00000001 4 5", ["tick 1"]),
+            ("log-00000001 5", "log-00000001 5 5", []),
+            ("log-00000001 6", "log-00000001 0 5", [*first, "update  a at (1,2)", "tick 1"]),
+            ("log-00000002 4", "log-00000001 0 5", [*first, "update  a at (1,2)", "tick 1"]),
+        ):
+            with server.client() as other:
+                assert other.ask(f":log {words}") == ["ok"] and other.next_told() == f"* log {told}"
+                found = [line for line in (other.next_told() for _ in range(len(rest) + 1)) if "plane" not in line]
+                assert [line.removeprefix("* command ") for line in found] == rest
+        accepted(writer, 'export van "e.csv"', 'import van "e.csv"', "tick 4")
+        assert reader.next_told() == "* log log-00000002 0 6" and reader.next_told() == "* plane EPSG:32632"
+        assert _commands(reader, 7) == commands_of(log)
+        assert reader.ask(":log log-00000002 7") == ["ok"]
+        server.kill()
+    with serving(program, log) as server, server.client() as reader:
+        accepted(reader, ":log log-00000002 6")
+        assert [reader.next_told() for _ in range(2)] == ["* log log-00000002 6 7", "* plane EPSG:32632"]
+        assert _commands(reader, 1) == ["tick 4"]
+        for word in (":log x", ":log log-1 2", ":log log-00000002", ":log log-00000002 -1", ":log log-00000002 1 2"):
+            assert reader.ask(word) == ["refused 102 BadWord"], word
+
+
+def test_a_log_that_is_taken_slowly_is_told_whole(program: Path, log: Path) -> None:
+    begun = Log(log)
+    begun.begin([b"class van 3 point", b"insert van a", *(b"update a at (%d,0)" % number for number in range(150_000))])
+    begun.close()
+    with serving(program, log, "--roll-at", "160000") as server, server.client() as writer:
+        slow = LineClient(server.address, system_bytes=4_096)
+        accepted(slow, ":follow *", ":log")
+        assert slow.next_told() == "* log log-00000001 0 150002"
+        accepted(writer, *["tick 1"] * 100, "watch w 5 RETRIEVE o FROM van o WHERE o.x > 0", "update a at (0,0)")
+        wanted, commands, others = commands_of(log), [], []
+        while len(commands) < len(wanted):
+            line = slow.line()
+            (commands if line.startswith("* command ") else others).append(line.removeprefix("* command "))
+        assert commands == wanted
+        assert others == ["* 100 watch w 100..105", "* 100 lose w a : 100..105", "* 100 leave w a"]
+        assert _peak_bytes(server) < 200 << 20
+        slow.close()
+        assert writer.ask("list")[0] == "clock 100"
+
+
+PLANE = "# fleet plane local 11.5755,48.1374"
+
+
+def test_the_plane_is_kept(program: Path, log: Path) -> None:
+    told = f"* plane {PLANE.removeprefix('# fleet plane ')}"
+    with serving(program, log, "--roll-at", "120") as server, server.client() as client, server.client() as other:
+        accepted(client, "class van 5 point")
+        assert "the comment `# fleet plane EPSG:CODE`, sent to the server, is kept" in fleet("to", "geojson", log).told[0]
+        client.write("# a comment", "# fleet plane EPSG:12", f"{PLANE}\r", PLANE)
+        accepted(client, "insert van a at (10,20)")
+        assert client.told == [told, told]
+        other.write("# fleet plane EPSG:32632")
+        assert other.ask("@1 # fleet plane EPSG:32632") == ["refused 102 BadWord"] and other.told == [told]
+        assert fleet("to", "geojson", log) == fleet("to", "geojson", max(log.glob("log-*"))) == _written(program, log)
+        accepted(client, 'export van "e.csv"', 'import van "e.csv"')
+        assert max(log.glob("log-*")).read_text().count("# fleet plane") == 1
+        client.told.clear()
+        while not any(line.startswith("* rolled") for line in client.told):
+            accepted(client, "tick 1", "update a at (10,20)")
+        assert fleet("to", "geojson", log) == _written(program, log)
+        server.kill()
+    (past,) = log.glob("past-*")
+    for each in (past, max(log.glob("log-*"))):
+        assert each.read_text().count("# fleet plane") == each.read_text().count(PLANE) == 1
+    with serving(program, log) as server, server.client() as client:
+        client.write("# fleet plane EPSG:32632")
+        accepted(client, ":status")
+        assert [line for line in client.told if "plane" in line] == [told, f"* status {told.removeprefix('* ')}"]
+
+
+def _written(program: Path, log: Path) -> Said:
+    """What `fleet to geojson` writes of what the server has, which the program saves."""
+    with Client(program, directory=log.parent, patience=WAIT) as client:
+        for _ in client.send_many([*commands_of(log), 'save "saved"']):
+            pass
+    return fleet("to", "geojson", log.parent / "saved", "--local", PLANE.split()[-1])
+
+
+def test_the_plane_of_a_saved_session_is_kept(program: Path, log: Path, tmp_path: Path) -> None:
+    (tmp_path / "saved").write_text(f"domino-session 1\nclass van 3 point\n{PLANE}\ninsert van a\nend\n")
+    with serving(program, log, "--session", str(tmp_path / "saved")):
+        assert fleet("to", "geojson", log) == fleet("to", "geojson", tmp_path / "saved")
+    (tmp_path / "two").write_text(f"domino-session 1\n{PLANE}\n# fleet plane EPSG:32632\nend\n")
+    with serving(program, tmp_path / "other", "--session", str(tmp_path / "two")) as server:
+        assert server.process.wait(WAIT) == 1 and "it names two planes" in server.said()
+
+
+def test_a_log_that_is_full_keeps_no_plane(program: Path, log: Path) -> None:
+    with serving(program, log) as server, server.client() as client:
+        pid, path = server.process.pid, max(log.glob("log-*"))
+        limits = resource.prlimit(pid, resource.RLIMIT_FSIZE)
+        resource.prlimit(pid, resource.RLIMIT_FSIZE, (path.stat().st_size + 5, limits[1]))
+        client.write(PLANE, PLANE)
+        assert [client.next_told() for _ in range(2)] == ["* plane none"] * 2
+        resource.prlimit(pid, resource.RLIMIT_FSIZE, limits)
+        until(lambda: client.ask("tick 1") == ["ok"], "room")
+        client.write(PLANE)
+        assert client.next_told() == f"* plane {PLANE.removeprefix('# fleet plane ')}"
+
+
 HOSTILE = {
     "zero": (b"list\0\n", "a byte 0"),
     "zero after a line": (b"list\n\0\n", "a byte 0"),
@@ -416,7 +520,7 @@ def test_a_client_that_reads_too_slowly_is_lost_alone(server: Serving) -> None:
         for follower in (reader, slow):
             accepted(follower, ":follow *")
         received, rounds = 0, 0
-        while "too slowly" not in server.said():
+        while "lost its connection: it takes" not in server.said():
             for place in (-1, 1):
                 replies = writer.asks(*(f"update v{i} at ({place},0)" for i in range(40)))
                 assert [len(reply) for reply in replies] == [41] * 40
@@ -456,14 +560,14 @@ def test_lines_of_a_client_that_floods_do_not_hold_others_up(server: Serving) ->
     with server.client() as flood, server.client() as other:
         accepted(flood, *big_class())
         ask = "ask 9000 RETRIEVE o FROM big o,big p,big q WHERE DIST(o,p) <= 5 AND DIST(p,q) <= 7"
-        flood.write(*[ask] * 30)
+        flood.write(*[ask] * 120)
         accepted(other, "tick 1")
         flood.socket.setblocking(False)
         got = b""
         with contextlib.suppress(BlockingIOError):
             while piece := flood.socket.recv(1 << 20):
                 got += piece
-        assert got.count(b"ok\n") < 30
+        assert got.count(b"ok\n") < 120
 
 
 def test_the_clock_goes_by_real_time(program: Path, log: Path) -> None:
@@ -477,7 +581,7 @@ def test_the_clock_goes_by_real_time(program: Path, log: Path) -> None:
         before = int(client.next_told().split()[1])
         ticks = [int(client.next_told().split()[1]) for _ in range(30)]
         assert before < ticks[0] and ticks == sorted(set(ticks))
-    assert server.told[3] == "patience 10 seconds, a tick each 0.05 seconds"
+    assert server.told[3] == f"patience {PATIENCE} seconds, a tick each 0.05 seconds"
 
 
 def test_the_clock_stands_where_it_ends(program: Path, log: Path) -> None:
@@ -510,6 +614,30 @@ def test_it_ends_cleanly(program: Path, log: Path) -> None:
             assert server.told[2].startswith(f"log {log}/log-00000001: {entries_told}")
 
 
+def test_a_websocket_that_is_never_used_holds_no_end_up(program: Path, log: Path) -> None:
+    with serving(program, log, "--ws-port", "0") as server:
+        host, _, port = server.websocket.removeprefix("ws://").partition(":")
+        with socket.create_connection((host, int(port))), _upgraded(server) as raw:
+            assert server.stop() == 0
+            raw.settimeout(WAIT)
+            while raw.recv(65_536):
+                pass
+
+
+def test_a_program_that_is_not_there_yet_holds_no_end_up(fleet_command: list[str], log: Path, tmp_path: Path) -> None:
+    program, pid = hanging(tmp_path, 0)
+    words = [*fleet_command, "serve", "--port", "0", "--log", str(log), "--program", str(program)]
+    process = subprocess.Popen(words, stdout=subprocess.PIPE)
+    try:
+        until(pid.exists, "the line with which it hangs")
+        process.terminate()
+        assert process.communicate(timeout=WAIT) == (b"", None) and process.returncode == 0
+    finally:
+        process.kill()
+        process.communicate()
+    until(lambda: not Path("/proc", pid.read_text()).exists(), "the end of the program")
+
+
 def test_it_rolls_by_itself(program: Path, log: Path) -> None:
     with serving(program, log, "--roll-at", "200") as server, server.client() as client:
         accepted(client, ":client me", "@1 class van 5 point (fuel dyn)", "insert van gone", "remove gone")
@@ -520,7 +648,7 @@ def test_it_rolls_by_itself(program: Path, log: Path) -> None:
         while not any(line.startswith("* rolled kept") for line in client.told):
             accepted(client, "tick 1", f"update a fuel = {ticks}")
             ticks += 1
-            assert ticks < 10_000
+            assert ticks < 100_000
         told = [line for line in client.told if line.startswith("* rolled")]
         assert told[0].startswith("* rolled ") and told[0].endswith(f"at tick {told[0].split()[-1]}")
         assert told[1:] == [
@@ -590,7 +718,7 @@ def test_websocket(program: Path, log: Path) -> None:
 
     async def talk(server: Serving) -> None:
         async with connect(server.websocket) as socket:
-            assert await socket.recv() == "* fleet 1 clock 0 patience 10"
+            assert await socket.recv() == f"* fleet 1 clock 0 patience {PATIENCE}"
             await socket.send("class van 3 point\n:follow *\r\nwatch w 9 RETRIEVE o FROM van o WHERE o.x > 3\n")
             assert await _lines(socket, 3) == ["ok", "ok", "ok"]
             with server.client() as client:
@@ -658,18 +786,19 @@ def test_websocket_alone_needs_its_package(fleet_command: list[str], program: Pa
 PROTOCOL = Path(__file__).resolve().parents[2] / "docs" / "PROTOCOL.md"
 
 
-def test_the_example_of_the_protocol(server: Serving) -> None:
+def test_the_example_of_the_protocol(program: Path, log: Path) -> None:
     chapter = PROTOCOL.read_text().partition("\n## The server\n")[2]
     example = chapter.split("```")[1].strip().splitlines()
-    clients = {name: LineClient(server.address, greeted=False) for name in ("A", "B")}
-    for line in example:
-        name, sign, text = line.split(" ", 2)
-        if sign == ">":
-            clients[name].write(text)
-        else:
-            assert clients[name].line() == text, line
-    assert clients["A"].rest() == []
-    clients["B"].close()
+    with serving(program, log, "--patience", "10") as server:
+        clients = {name: LineClient(server.address, greeted=False) for name in ("A", "B")}
+        for line in example:
+            name, sign, text = line.split(" ", 2)
+            if sign == ">":
+                clients[name].write(text)
+            else:
+                assert clients[name].line() == text, line
+        assert clients["A"].rest() == []
+        clients["B"].close()
 
 
 def test_the_protocol_has_each_refusal_of_the_server() -> None:

@@ -257,7 +257,7 @@ def test_a_program_that_a_full_disk_keeps_from_starting_is_waited_for(
 
 
 def test_a_full_journal_rolls_by_itself(program: Path, log: Path) -> None:
-    with serving(program, log, "--patience", "60") as server, server.client() as client:
+    with serving(program, log) as server, server.client() as client:
         accepted(client, "class van 1000 point (fuel dyn)", *(f"insert van v{i} move (1,0)" for i in range(1_000)))
         accepted(client, "watch w 100000000 RETRIEVE o FROM van o WHERE o.x >= 1000000")
         client.socket.settimeout(1_800)  # lines wait for a roll where they come quicker than it is worked out

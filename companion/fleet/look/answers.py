@@ -59,7 +59,6 @@ class Query:
             versions.pop()
         versions.append((tick, spans))
 
-
     def forget_before(self, tick: int) -> None:
         """Forgets what was known before a tick alone."""
         for targets, versions in list(self.rows.items()):
@@ -92,6 +91,10 @@ class Replay:
         """Ends the program."""
         self._client.kill()
         self._folder.cleanup()
+
+    def interrupt(self) -> None:
+        """Ends the program, from any thread: what is being run raises Ended."""
+        self._client.interrupt()
 
     def run(self, commands: Iterable[bytes]) -> Iterator[tuple[bytes, Reply]]:
         """Runs commands, and gives each with its reply. Raises NotAnswered where the program refuses one of them."""

@@ -30,6 +30,10 @@ class Changing:
         """Ends the program."""
         self._replay.close()
 
+    def interrupt(self) -> None:
+        """Ends the program, from any thread: what is being taken raises Ended."""
+        self._replay.interrupt()
+
     def whole(self) -> dict[str, Any]:
         """The data of a page that begins now, as play.py tells it."""
         clock = self._history.clock

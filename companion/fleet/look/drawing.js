@@ -42,9 +42,9 @@ const SMALL_SYMBOL = 10;
 // with more objects in view none has its name beside it
 const MOST_IN_VIEW = 150;
 // more objects than that have small symbols and plain thin lines, which take a browser far less time
-const MOST_ARROWS = 400;
+const MOST_ARROWS = 150;
 // more objects than that are dots, without motions
-const MANY = 1_500;
+const MANY = 1_100;
 
 // ---- the map
 
@@ -216,12 +216,15 @@ function drawWays(map, one, colour, reach) {
   context.strokeStyle = isFew ? colour : theme.thin;
   context.globalAlpha = isFew ? 0.5 : 1;
   context.lineWidth = isFew ? 1.5 : 1;
-  if (one.trail) each((at) => drawLine(map, [...one.trail.map((place) => [place.x[at], place.y[at]]), placeNow(map, one, at)]));
+  const now = nowOf(map, one);
+  const trail = [...(one.trail ?? []), now];
+  if (one.trail) each((at) => drawLine(map, trail, at));
   context.strokeStyle = colour;
   context.globalAlpha = isFew ? 0.85 : 1;
   context.setLineDash(isFew ? [1.5, 4] : []);
   context.lineCap = "round";
-  if (one.ways) each((at) => drawLine(map, [placeNow(map, one, at), ...one.ways.map((place) => [place.x[at], place.y[at]])]));
+  const ways = [now, ...(one.ways ?? [])];
+  if (one.ways) each((at) => drawLine(map, ways, at));
   context.setLineDash([]);
   context.lineCap = "butt";
   context.lineWidth = 1;
@@ -235,22 +238,21 @@ function stroke(context, draw) {
   context.stroke();
 }
 
-function placeNow({ after }, { x, y, dx, dy }, at) {
-  return [x[at] + after * dx[at], y[at] + after * dy[at]];
+function nowOf({ after }, { x, y, dx, dy }) {
+  return { x: x.map((place, at) => place + after * dx[at]), y: y.map((place, at) => place + after * dy[at]) };
 }
 
-function pixelNow(map, one, at) {
-  const [x, y] = placeNow(map, one, at);
-  return [map.left(x), map.top(y)];
+function pixelNow({ after, left, top }, { x, y, dx, dy }, at) {
+  return [left(x[at] + after * dx[at]), top(y[at] + after * dy[at])];
 }
 
-// a line through places, with gaps where there is none
-function drawLine({ context, left, top }, places) {
+// a line through the places that an object has in columns, with gaps where there is none
+function drawLine({ context, left, top }, columns, at) {
   let isOn = false;
-  for (const [x, y] of places) {
-    const isThere = !Number.isNaN(x);
-    if (isThere && isOn) context.lineTo(left(x), top(y));
-    else if (isThere) context.moveTo(left(x), top(y));
+  for (const { x, y } of columns) {
+    const isThere = !Number.isNaN(x[at]);
+    if (isThere && isOn) context.lineTo(left(x[at]), top(y[at]));
+    else if (isThere) context.moveTo(left(x[at]), top(y[at]));
     isOn = isThere;
   }
 }
@@ -285,28 +287,28 @@ function polygon(context, points) {
   context.closePath();
 }
 
-function drawSymbol(context, number, theme) {
-  context.translate(SYMBOL / 2, SYMBOL / 2);
+function drawSymbol(context, number, theme, size) {
+  context.translate(size / 2, size / 2);
   context.beginPath();
-  FORMS[number % FORMS.length](context, SYMBOL / 3);
+  FORMS[number % FORMS.length](context, size / 3);
   context.fillStyle = colourOf(theme, number);
   context.fill();
   context.strokeStyle = theme.ground;
-  context.lineWidth = SYMBOL / 12;
+  context.lineWidth = size / 12;
   context.stroke();
 }
 
 const pictures = new Map();
 
-function pictureOf(number, theme) {
+function pictureOf(number, theme, size) {
   const ratio = ratioOfPixels();
-  const key = `${number} ${colourOf(theme, number)} ${theme.ground} ${ratio}`;
+  const key = `${number} ${colourOf(theme, number)} ${theme.ground} ${ratio} ${size}`;
   if (!pictures.has(key)) {
     const picture = document.createElement("canvas");
-    picture.width = picture.height = Math.ceil(SYMBOL * ratio);
+    picture.width = picture.height = Math.ceil(size * ratio);
     const context = picture.getContext("2d");
     context.scale(ratio, ratio);
-    drawSymbol(context, number, theme);
+    drawSymbol(context, number, theme, size);
     pictures.set(key, picture);
   }
   return pictures.get(key);
@@ -325,11 +327,16 @@ function eachInView(map, { classes }, visit) {
 
 function drawSymbols(map, scene) {
   const { context, theme } = map;
-  const symbols = scene.classes.map((_, number) => pictureOf(number, theme));
-  const sizes = scene.classes.map((one) => (one.names.length <= MOST_ARROWS ? SYMBOL : SMALL_SYMBOL));
+  const ratio = ratioOfPixels();
+  const symbols = scene.classes.map((one, number) => {
+    const isFew = one.names.length <= MOST_ARROWS;
+    const picture = pictureOf(number, theme, isFew ? SYMBOL : SMALL_SYMBOL);
+    // of many each lies on whole pixels, which are then copied as they are
+    return { picture, size: picture.width / ratio, on: (at) => (isFew ? at : Math.round(at * ratio) / ratio) };
+  });
   eachInView(map, scene, (one, at, x, y, number) => {
-    const size = sizes[number];
-    context.drawImage(symbols[number], x - size / 2, y - size / 2, size, size);
+    const { picture, size, on } = symbols[number];
+    context.drawImage(picture, on(x - size / 2), on(y - size / 2), size, size);
   });
 }
 
@@ -404,9 +411,11 @@ function drawMarks(map, scene) {
 // names stand beside their objects where there is room, first those of marked ones, and not where very many are in view
 function drawLabels(map, scene) {
   const { context, theme } = map;
+  let count = 0;
+  eachInView(map, scene, () => count++);
+  if (count > MOST_IN_VIEW) return;
   const labels = [];
   eachInView(map, scene, (one, at, x, y) => labels.push({ name: one.names[at], isMarked: Boolean(one.isMarked?.[at]), x, y }));
-  if (labels.length > MOST_IN_VIEW) return;
   context.textAlign = "left";
   context.textBaseline = "middle";
   context.fillStyle = theme.ink;
@@ -441,7 +450,7 @@ function drawLegend({ context, theme }, { classes }) {
     context.fillStyle = theme.ground;
     context.fillRect(x - 4, y - 2, 28 + context.measureText(words).width, 20);
     context.globalAlpha = 1;
-    context.drawImage(pictureOf(number, theme), x, y, SYMBOL, SYMBOL);
+    context.drawImage(pictureOf(number, theme, SYMBOL), x, y, SYMBOL, SYMBOL);
     context.fillStyle = theme.ink;
     context.fillText(words, x + SYMBOL + 4, y + SYMBOL / 2);
   });

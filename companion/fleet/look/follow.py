@@ -1,20 +1,14 @@
 """Follows the log of a server: the commands that it has, and those that are added. Nothing is written or locked."""
 
-import re
 import zlib
 from io import BytesIO
 from pathlib import Path
 
-from fleet.errors import FleetError
+from fleet.serve.closed import NoLog, last_log
 from fleet.serve.records import FIRST, mark
 
-_LOG = re.compile(r"log-[0-9]{8}")
 _PIECE = 1 << 24
 """The most bytes that are read at once, but for a group that is longer."""
-
-
-class NoLog(FleetError):
-    """The folder has no log, or one that can't be followed."""
 
 
 class Follower:
@@ -27,17 +21,17 @@ class Follower:
     def __init__(self, folder: Path) -> None:
         """Raises NoLog."""
         self._folder = folder
-        self._path = self._last()
+        self._path = last_log(folder)
         self._at = 0
 
     @property
     def has_other(self) -> bool:
         """Whether another log has taken the place of the one that is followed. Raises NoLog."""
-        return self._last() != self._path
+        return last_log(self._folder) != self._path
 
     def start_over(self) -> None:
         """Follows the log that the folder has now, from its beginning. Raises NoLog."""
-        self._path, self._at = self._last(), 0
+        self._path, self._at = last_log(self._folder), 0
 
     def more(self) -> list[bytes]:
         """The commands that were added since. Raises NoLog where what was added isn't that of a log."""
@@ -78,13 +72,3 @@ class Follower:
             taken += len(text) + len(line)
             group = []
         return taken
-
-    def _last(self) -> Path:
-        """The log with the highest number. Raises NoLog."""
-        try:
-            found = [path for path in self._folder.iterdir() if _LOG.fullmatch(path.name)]
-        except OSError as error:
-            raise NoLog(f"{self._folder} can't be read: {error.strerror}") from None
-        if not found:
-            raise NoLog(f"{self._folder} has no log of a server")
-        return max(found, key=lambda path: path.name)

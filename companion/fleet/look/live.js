@@ -37,9 +37,9 @@ function say(words) {
 function connect() {
   const socket = new WebSocket(`ws://${location.host}/live`);
   socket.onmessage = ({ data }) => {
-    const { whole, update } = JSON.parse(data);
-    say("live");
-    if (whole) begin(whole);
+    const { whole, update, state } = JSON.parse(data);
+    if (state) say(state);
+    else if (whole) begin(whole);
     else goOn(update);
   };
   socket.onclose = () => {

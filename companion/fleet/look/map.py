@@ -36,7 +36,10 @@ Box = tuple[float, float, float, float]
 def add_arguments(parser: argparse.ArgumentParser) -> None:
     """Adds the options of the word."""
     parser.description = DESCRIPTION
-    parser.add_argument("session", metavar="SESSION", help="the file of the saved session, `-` for standard input")
+    parser.add_argument(
+        "session", metavar="SESSION",
+        help="the file of the saved session, the folder of a server's log, or `-` for standard input",
+    )  # fmt: skip
     parser.add_argument("--at", metavar="TICK", type=tick, help="the tick to be drawn (the session's clock)")
     parser.add_argument(
         "--ahead", metavar="TICKS", type=lambda text: number(text, 0, 1_000_000), default=60,

@@ -7,6 +7,7 @@ from pathlib import Path
 
 from fleet.look import chart
 from fleet.look.chart import MOST_ROWS, Chart
+from fleet.serve.closed import open_session
 from fleet.words import FILE_LIMIT, TICK_LIMIT
 
 SVG_WIDTH, LEAST_WIDTH, MOST_WIDTH = 900, 300, 10_000
@@ -64,7 +65,8 @@ def read_input(name: str) -> tuple[bytes, str]:
     """The bytes of a file or of standard input, and the name that is told of it. Raises OSError."""
     if name == STANDARD:
         return sys.stdin.buffer.read(FILE_LIMIT), "standard input"
-    return Path(name).read_bytes(), Path(name).name
+    with open_session(Path(name)) as text:
+        return text.read(), Path(name).name
 
 
 def write_output(text: str, name: str) -> None:

@@ -22,9 +22,10 @@ export class Player {
   // when what stands beside the map may be drawn again
   #beside = 0;
   #back;
-  // when the work for the last frame began, and how long it took for each of some
+  // when the work for the last frame began, how long it took for each of some, and what comes when the browser has drawn
   #begun = 0;
   #frames = [];
+  #drawn = new MessageChannel();
   #dark = matchMedia("(prefers-color-scheme: dark)");
   #still = matchMedia("(prefers-reduced-motion: reduce)");
 
@@ -36,6 +37,7 @@ export class Player {
     this.#present = recording.clock;
     this.map = new Map(byId("map"), () => this.#theme, (found) => this.#pick(found));
     byId("trails").checked = this.#back > 0;
+    this.#drawn.port1.onmessage = ({ data }) => this.#count(performance.now() - data);
     this.#fillChoices();
     this.#listen();
     this.#fit();
@@ -50,7 +52,7 @@ export class Player {
     return this.#tick;
   }
 
-  /// How many milliseconds of work each of the last frames took, by the page's own clock.
+  /// How many milliseconds each of the last frames took, by the page's own clock: the work for it and its drawing.
   get frames() {
     return this.#frames;
   }
@@ -164,9 +166,14 @@ export class Player {
       this.#show();
       if (now > this.#beside) this.#showBeside();
     }
-    this.#frames.push(performance.now() - this.#begun);
-    if (this.#frames.length > FRAMES_KEPT) this.#frames.shift();
+    // a message that is sent now comes after the browser has drawn
+    this.#drawn.port2.postMessage(this.#begun);
     this.#nextFrame();
+  }
+
+  #count(milliseconds) {
+    this.#frames.push(milliseconds);
+    if (this.#frames.length > FRAMES_KEPT) this.#frames.shift();
   }
 
   // At the next turn the map is drawn, and then comes the next step.

@@ -39,7 +39,10 @@ ASKED = "asked"
 def add_arguments(parser: argparse.ArgumentParser) -> None:
     """Adds the options of the word."""
     parser.description = DESCRIPTION
-    parser.add_argument("session", metavar="SESSION", help="the file of the saved session, `-` for standard input")
+    parser.add_argument(
+        "session", metavar="SESSION",
+        help="the file of the saved session, the folder of a server's log, or `-` for standard input",
+    )  # fmt: skip
     parser.add_argument(
         "--from", metavar="TICK", type=tick, dest="first", help=f"the first tick ({BACK:,} before the session's clock)"
     )

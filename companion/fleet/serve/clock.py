@@ -23,6 +23,7 @@ class Clock:
     """
 
     def __init__(self, seconds: float, give: Callable[["Clock"], None]) -> None:
+        self.share = 1
         self.waiting: deque[Item] = deque()
         self.fault = ""
         self._seconds = seconds

@@ -101,7 +101,7 @@ class Connections:
             peer.tell(told("fleet", VERSION, self._greeting() if peer.is_allowed else "token"))
             await self._talk(peer, lines, send)
         finally:
-            self._hub.peers.discard(peer)
+            self._hub.leave(peer)
             self._tasks.discard(task)
             peer.lose("it is gone")
 

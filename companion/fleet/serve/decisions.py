@@ -25,6 +25,7 @@ class Decisions:
         self._words = words
         self._flying: set[tuple[str, int]] = set()
         self.log_is_full = False
+        self.only_reads = False
 
     def lift(self, item: Item) -> bool:
         """Notes that the line is being carried out; not where another of its number is, since what comes of that one
@@ -43,13 +44,19 @@ class Decisions:
 
     def decided(self, item: Item) -> Done | None:
         """The reply to a line that the server answers by itself; None where the program is asked."""
+        if item.record is not None:
+            return None if item.record.command is not None else Done(item, record=item.record)
         if item.kind is Kind.WORD:
             assert isinstance(item.source, Peer)
             return Done(item, block=partial(self._words.answer, item.source, item.text))
         if item.kind is Kind.QUIT:
             return Done(item, block=b"ok\n")
-        block = self._of_number(item.number) or self._of_files(item) or self._of_log(item)
+        block = self._of_number(item.number) or self._of_reader(item) or self._of_files(item) or self._of_log(item)
         return Done(item, block=block) if block else None
+
+    def _of_reader(self, item: Item) -> bytes:
+        is_change = item.kind in (Kind.KEPT, Kind.IMPORT)
+        return Refusal.READER.reply() if self.only_reads and is_change else b""
 
     def _of_number(self, number: Number | None) -> bytes:
         if number is None:

@@ -15,11 +15,12 @@ from fleet.serve.peers import Item
 from fleet.serve.process import Answer, OutOfPatience, Program, ProgramEnded
 from fleet.serve.records import Record
 from fleet.serve.renewal import Renewal
-from fleet.serve.rolling import Roller
+from fleet.serve.rolling import Roller, Rolling
 from fleet.serve.runner import Runner
 from fleet.serve.thread import Thread
 from fleet.serve.turns import Turns
 from fleet.serve.wire import Kind, Refusal, told
+from fleet.ways.planes import plane_in
 from fleet.words import INPUT_LIMIT, REFUSALS
 
 MOST_LINES = 64
@@ -54,7 +55,8 @@ class Engine:
     """
 
     def __init__(
-        self, log: Log, runner: Runner, thread: Thread, hub: Hub, turns: Turns, decisions: Decisions, settings: Settings
+        self, log: Log, runner: Runner, thread: Thread, hub: Hub, turns: Turns, decisions: Decisions, settings: Settings,
+        roller: Rolling | None = None,
     ) -> None:
         self.committer = Committer(log, thread, self._pass_on, self._refuse_unkept, each=settings.each)
         self._log = log
@@ -65,7 +67,7 @@ class Engine:
         self._decisions = decisions
         self._patience = settings.patience
         self._renewal = Renewal(log, runner, thread)
-        self._roller = Roller(log, runner, thread, settings.most_entries, turns.wake)
+        self._roller = roller or Roller(log, runner, thread, settings.most_entries, turns.wake)
         self._program: Program
         self.known: Known
         self._stopping = False
@@ -88,6 +90,8 @@ class Engine:
             await self._look_after()
             if items and items[0].kind is Kind.IMPORT:
                 await self._import(items[0])
+            elif items and items[0].kind is Kind.PLANE:
+                await self._take_plane(items[0])
             elif items:
                 await self._carry_out(self._lifted(items))
         self._roller.stop()
@@ -102,7 +106,7 @@ class Engine:
     def refuse_waiting(self) -> None:
         """Refuses the lines that wait, since the server ends."""
         for item in self._turns.take_all():
-            self.committer.put(Done(item, block=Refusal.STOPPING.reply()))
+            self.committer.put(Done(item, block=b"" if item.kind is Kind.PLANE else Refusal.STOPPING.reply()))
 
     async def close(self) -> None:
         """Ends the program."""
@@ -131,9 +135,11 @@ class Engine:
         lines = [item.text for item, done in plan if done is None]
         self._one_by_one = max(0, self._one_by_one - 1)
         self._put_decided(plan)
+        # What a writer has accepted is to be carried out, however long it takes here.
+        patience = None if len(items) == 1 and items[0].record is not None else self._patience
         begun = asyncio.get_running_loop().time()
         try:
-            async for answer in self._program.answers(lines, self._patience):
+            async for answer in self._program.answers(lines, patience):
                 item, _ = plan.popleft()
                 self._put_answered(item, answer)
                 self._put_decided(plan)
@@ -224,6 +230,15 @@ class Engine:
             await self._settle()
             self._decisions.log_is_full = not await self._thread.run(self._log.has_room)
 
+    async def _take_plane(self, item: Item) -> None:
+        """Keeps the plane that a comment names, where the log names none yet, and tells which one it is."""
+        await self._settle()
+        is_kept = not (self._log.plane or self._decisions.log_is_full or self._decisions.only_reads)
+        self.committer.put(Done(item, block=self._told_plane, record=Record(None, plane=item.text) if is_kept else None))
+
+    def _told_plane(self) -> bytes:
+        return told("plane", plane_in([self._log.plane]) or "none")
+
     async def _import(self, item: Item) -> None:
         """Carries an import out. Its rows stand in no line, so a new log begins from what the program then saves."""
         await self._settle()
@@ -244,7 +259,7 @@ class Engine:
             self._put_answered(item, answer)
             return
         try:
-            await self._renewal.renew(self._program, [item.number] if item.number is not None else [])
+            await self._renewal.renew(self._program, imported=[item.number] if item.number is not None else [])
         except (OSError, ProgramEnded) as fault:
             _LOGGER.error("a new log can't be begun: %s", fault)
             if isinstance(fault, ProgramEnded) and fault.status < 0:
@@ -265,6 +280,8 @@ class Engine:
             self._renewal.put_off()
             if isinstance(fault, ProgramEnded):
                 await self._restart()
+        else:
+            self._hub.grow(self._log)
 
     async def _roll(self) -> None:
         """Goes on from a rolled log where there is one, and tells all clients what was lost."""
@@ -274,6 +291,7 @@ class Engine:
             return
         await self._program.kill()
         self._program, self.known, rolled = taken
+        self._hub.grow(self._log)
         for line in rolled.lines():
             _LOGGER.info("rolled: %s", line)
         self._hub.tell_all(told("rolled", line) for line in rolled.lines())
@@ -282,12 +300,14 @@ class Engine:
         """Passes a reply on, and what it changes to those who follow."""
         item, answer = done.item, done.answer
         self._decisions.land(item)
+        self._hub.grow(self._log)
         if answer is None:
             item.source.reply(done.block() if callable(done.block) else done.block)
             return
         item.source.reply(answer.block)
         if answer.is_ok and item.kind in (Kind.KEPT, Kind.IMPORT):
             self._hub.push(self.known.take(item.text, answer), but=item.source)
+            self._hub.accepted(item.text)
 
     def _refuse_unkept(self, item: Item) -> None:
         """Refuses a line that the log couldn't keep, or whose reply may rest on one."""
@@ -297,6 +317,8 @@ class Engine:
 
 def _record(item: Item, answer: Answer) -> Record | None:
     """What the log keeps of a line: an accepted command, and the outcome of a number."""
+    if item.record is not None:
+        return item.record if answer.is_ok else None
     if item.kind is Kind.KEPT and answer.is_ok:
         return Record(item.text.strip(b" \t"), item.number)
     if item.kind in (Kind.KEPT, Kind.IMPORT) and item.number is not None:

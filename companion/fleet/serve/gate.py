@@ -41,13 +41,16 @@ class Gate:
 
 
 def gate_of(file: Path | None) -> Gate:
-    """The gate with the token that a file has, without the blanks round it. Raises BadGate and OSError."""
-    if file is None:
-        return Gate()
+    """The gate with the token that a file has. Raises BadGate and OSError."""
+    return Gate() if file is None else Gate(token_of(file))
+
+
+def token_of(file: Path) -> bytes:
+    """The token that a file has, without the blanks round it. Raises BadGate and OSError."""
     token = file.read_bytes().strip()
     if len(token) < LEAST_TOKEN or not token.isascii() or len(token.split()) != 1:
         raise BadGate(f"{file} has no token: one word of at least {LEAST_TOKEN} characters of ASCII")
-    return Gate(token)
+    return token
 
 
 def check_host(host: str, gate: Gate) -> None:

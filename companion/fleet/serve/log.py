@@ -17,8 +17,9 @@ from pathlib import Path
 from fleet.errors import FleetError
 from fleet.serve.locks import lock
 from fleet.serve.outcomes import Number, Outcomes
-from fleet.serve.records import DamagedLog, Found, Record, commands_from, group, head, read_log
+from fleet.serve.records import ACCEPTED, DamagedLog, Found, Record, commands_from, group, head, read_log
 from fleet.session_text import END, sync_folder
+from fleet.streams.positions import Position
 
 _LOG = re.compile(r"log-([0-9]{8})")
 _BEGUN = ".log-begun"
@@ -48,6 +49,7 @@ class Log:
         self._lock = lock(folder / "lock", folder)
         self._file = -1
         self._number = 0
+        self._is_synced = True
         self._found = Found()
         (folder / _BEGUN).unlink(missing_ok=True)
 
@@ -81,9 +83,29 @@ class Log:
         return self._found.command_bytes
 
     @property
+    def plane(self) -> bytes:
+        """The comment that names the plane on which the places lie; empty where none does."""
+        return self._found.plane
+
+    @property
+    def is_rolled(self) -> bool:
+        """Whether it goes on from a log that was rolled."""
+        return self._found.is_rolled
+
+    @property
     def outcomes(self) -> Outcomes:
         """What came of numbered lines."""
         return self._found.outcomes
+
+    @property
+    def position(self) -> Position | None:
+        """Its place in a stream; None where it isn't of one."""
+        return self._found.position
+
+    @property
+    def status(self) -> dict[str, object]:
+        """What it tells of itself besides its entries and its file."""
+        return {}
 
     def open(self) -> int:
         """Opens the log that is there, cuts off what a crash left unfinished, and gives how many bytes that was."""
@@ -97,23 +119,31 @@ class Log:
             self._put_away(number)
         return self._found.cut
 
-    def begin(self, commands: Iterable[bytes], numbers: Iterable[Number] = ()) -> None:
+    def begin(self, commands: Iterable[bytes], numbers: Iterable[Number] = (), *, plane: bytes = b"") -> None:
         """Begins a new log that goes on from these commands, in place of the old one.
 
-        It has the numbers that are known, and these, whose lines were accepted. Raises OSError, and then the old log
-        stands, and LogUnsure.
+        It has the numbers that are known, and these, whose lines were accepted; and the old one's plane, else this one.
+        Raises OSError, and then the old log stands, and LogUnsure.
         """
-        self.adopt(self.prepare(commands, numbers))
+        self.adopt(self.prepare(commands, numbers, plane=plane))
 
     def prepare(
-        self, commands: Iterable[bytes], numbers: Iterable[Number] = (), *, is_rolled: bool = False
+        self, commands: Iterable[bytes], numbers: Iterable[Number] = (), *, is_rolled: bool = False, plane: bytes = b""
     ) -> Path:
         """Writes a new log that isn't used yet, and gives its file. `is_rolled` says that the old one has what this one
         hasn't. Raises OSError."""
+        plane = self.plane or plane
+        position = self._position_of_next()
+        return self.write_beside(
+            head(commands, self.outcomes, numbers, is_rolled=is_rolled, plane=plane, position=position)
+        )
+
+    def write_beside(self, pieces: Iterable[bytes]) -> Path:
+        """Writes the text of a new log that isn't used yet, and gives its file. Raises OSError."""
         beside = self.folder / _BEGUN
         try:
             with beside.open("wb") as file:
-                file.writelines(head(commands, self.outcomes, numbers, is_rolled=is_rolled))
+                file.writelines(pieces)
                 file.flush()
                 os.fsync(file.fileno())
         except BaseException:
@@ -139,6 +169,11 @@ class Log:
         self._file, self._found = file, found
         self._put_away(old)
 
+    def begin_imported(self, commands: Iterable[bytes], numbers: Iterable[Number]) -> None:
+        """Goes on from these commands, of which those that the log hasn't are the rows of an import. Raises as `begin`
+        does."""
+        self.begin(commands, numbers)
+
     def commit(self, records: list[Record]) -> None:
         """Adds the records and waits until they are on the disk.
 
@@ -151,7 +186,8 @@ class Log:
             self._take_back()
             raise LogFull(f"{self.path} can't be written: {error.strerror}") from error
         try:
-            os.fsync(self._file)
+            if self._is_synced:
+                os.fsync(self._file)
         except OSError as error:
             raise LogUnsure(f"{self.path} can't be synced: {error.strerror}") from error
         self._found.size += len(text)
@@ -173,7 +209,15 @@ class Log:
                 self._found.entries += 1
                 self._found.command_bytes += len(record.command) + 1
             if record.number is not None:
-                self.outcomes.record(record.number, record.refusal)
+                self.outcomes.record(record.number, "" if record.refusal == ACCEPTED else record.refusal)
+            self._found.plane = self._found.plane or record.plane
+            self._found.position = record.position or self._found.position
+
+    def name_plane(self, plane: bytes) -> None:
+        """Adds the comment that names the plane, where it has none yet. Raises as `commit` does."""
+        records = [Record(None, plane=plane)]
+        self.commit(records)
+        self.took(records)
 
     def commands_since(self, first: int) -> Iterable[bytes]:
         """The commands from a place in bytes on, where a commit ended; all from 0 on."""
@@ -191,12 +235,19 @@ class Log:
                 left -= len(piece)
             target.write(END + b"\n")
 
+    def end_soon(self) -> None:
+        """Says that the server ends, so that from now on nothing is waited for that is away."""
+
     def close(self) -> None:
         """Lets go of the folder. Nothing is lost: all that was committed is on the disk."""
         if self._file >= 0:
             os.close(self._file)
             self._file = -1
         os.close(self._lock)
+
+    def _position_of_next(self) -> Position | None:
+        """The place in a stream with which a log begins that is prepared."""
+        return None
 
     def _take_back(self) -> None:
         """Takes away what was written of a commit that failed."""

@@ -3,8 +3,10 @@
 import argparse
 from pathlib import Path
 
+from fleet.brokers.options import add_broker_arguments
 from fleet.program import add_program_argument
 from fleet.serve.rolling import DEFAULT_ENTRIES
+from fleet.streams.options import add_stream_arguments
 from fleet.words import JOURNAL_ENTRIES
 
 DEFAULT_PORT = 7171
@@ -36,6 +38,8 @@ def add_arguments(parser: argparse.ArgumentParser) -> None:
     )  # fmt: skip
     parser.add_argument("--clients", metavar="NUMBER", type=_count, default=256, help="the most clients at once (256)")
     add_program_argument(parser)
+    add_stream_arguments(parser)
+    add_broker_arguments(parser)
 
 
 def _add_addresses(parser: argparse.ArgumentParser) -> None:

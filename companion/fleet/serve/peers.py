@@ -8,6 +8,7 @@ from typing import Protocol
 
 from fleet.serve.gate import Gate
 from fleet.serve.outcomes import Number
+from fleet.serve.records import Record
 from fleet.serve.wire import Hostile, Kind, Parsed, Refusal, client_named, is_http, is_quick, parsed, told
 
 MOST_WAITING_LINES = 128
@@ -26,7 +27,8 @@ class Item:
     """A line that waits to be carried out, and where its reply goes.
 
     One that isn't `quick` may take long, and is sent to the program alone. `tries` counts how often a signal has ended
-    the program with it alone.
+    the program with it alone. `record` is what the log keeps of it where that is known before: it is a line of a stream,
+    which was accepted elsewhere.
     """
 
     source: "Source"
@@ -35,12 +37,14 @@ class Item:
     is_quick: bool
     number: Number | None = None
     tries: int = 0
+    record: Record | None = None
 
 
 class Source(Protocol):
-    """Where lines come from: a client, or the clock."""
+    """Where lines come from: a client, or the clock. `share` is how many lines it has carried out in its turn."""
 
     waiting: deque[Item]
+    share: int
 
     def reply(self, block: bytes) -> None:
         """Takes the reply to that of its lines which is the next to be answered."""
@@ -133,6 +137,7 @@ class Peer:
     def __init__(self, name: str, gate: Gate, give: Callable[["Peer"], None]) -> None:
         """`name` is its address; `gate` says whether it may come in; `give` is called when it has a line that waits."""
         self.name = name
+        self.share = 1
         self.waiting: deque[Item] = deque()
         self.follows = Follows()
         self.is_allowed = gate.is_open
@@ -194,6 +199,14 @@ class Peer:
             self.lose("it takes what is sent to it too slowly")
         else:
             self._outbox.put(block, is_reply=False)
+
+    async def room(self) -> None:
+        """Waits until no more waits to be sent than may."""
+        await self._outbox.room()
+
+    def give(self, block: bytes) -> None:
+        """Sends what is no reply, of which no more comes than there was room for."""
+        self._outbox.put(block)
 
     def lose(self, why: str) -> None:
         """Ends the connection at once."""

@@ -32,8 +32,8 @@ class Renewal:
         """Waits until the log has grown on, after a new one couldn't be begun."""
         self._most = self._log.growth + MOST_GROWTH // 8
 
-    async def renew(self, program: Program, numbers: Iterable[Number] = ()) -> None:
-        """Begins a new log from what the program holds, with numbers of accepted lines that the old one hasn't.
+    async def renew(self, program: Program, imported: Iterable[Number] | None = None) -> None:
+        """Begins a new log from what the program holds; after an import with the numbers of its line.
 
         Raises OSError and ProgramEnded, and then the old log stands; and LogUnsure.
         """
@@ -41,11 +41,15 @@ class Renewal:
             answer = await program.answer(f'save "{self._saved.name}"'.encode(), None)
             if not answer.is_ok:
                 raise OSError(f"the session can't be saved: refused {answer.refusal}")
-            await self._thread.run(self._begin, list(numbers))
+            await self._thread.run(self._begin, imported)
         finally:
             self._saved.unlink(missing_ok=True)
         self._most = MOST_GROWTH
 
-    def _begin(self, numbers: list[Number]) -> None:
+    def _begin(self, imported: Iterable[Number] | None) -> None:
         with self._saved.open("rb") as text:
-            self._log.begin((entry.text for entry in entries(text)), numbers)
+            commands = (entry.text for entry in entries(text))
+            if imported is None:
+                self._log.begin(commands)
+            else:
+                self._log.begin_imported(commands, imported)

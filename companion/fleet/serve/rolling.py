@@ -14,6 +14,7 @@ import sys
 from collections.abc import Callable, Iterator
 from dataclasses import dataclass
 from pathlib import Path
+from typing import Protocol
 
 from fleet.roll import Rolled
 from fleet.serve.known import Known
@@ -36,6 +37,32 @@ _DROP = re.compile(rb"[ \t]*drop[ \t]+([A-Za-z_][A-Za-z0-9_]*)[ \t]*")
 _PACKAGES = Path(__file__).resolve().parents[2]
 
 _LOGGER = logging.getLogger("fleet.serve")
+
+
+class Tells(Protocol):
+    """What tells clients what was lost."""
+
+    def lines(self) -> list[str]: ...
+
+
+class Rolling(Protocol):
+    """What the engine asks of it where a log is to follow the present one."""
+
+    @property
+    def must_wait(self) -> bool: ...
+
+    @property
+    def is_ready(self) -> bool: ...
+
+    def look(self) -> None: ...
+
+    def hurry(self) -> None: ...
+
+    async def wait(self) -> None: ...
+
+    def stop(self) -> None: ...
+
+    async def take_over(self, clock: int) -> "tuple[Program, Known, Tells] | None": ...
 
 
 @dataclass(slots=True)

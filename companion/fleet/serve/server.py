@@ -9,8 +9,10 @@ import socket
 import sys
 from collections.abc import AsyncIterator, Awaitable, Iterable
 from pathlib import Path
+from typing import TYPE_CHECKING
 
 from fleet import __version__
+from fleet.brokers.options import broker_of
 from fleet.errors import FleetError
 from fleet.program import find_program
 from fleet.roll import loaded_clock
@@ -28,6 +30,14 @@ from fleet.serve.turns import Turns
 from fleet.serve.wire import MOST_LINE_BYTES, told
 from fleet.serve.words import Words, log_status
 from fleet.session_text import entries
+from fleet.sockets import websockets_on
+from fleet.streams.options import address_of
+from fleet.waiting import ended
+from fleet.ways.planes import comment, plane_of_file
+
+if TYPE_CHECKING:
+    from fleet.brokers.bridge import Bridge
+    from fleet.streams.serving import Streaming
 
 _MESSAGE_BYTES = 1 << 16
 """The most bytes of a message over WebSocket."""
@@ -49,11 +59,14 @@ def main(arguments: argparse.Namespace) -> int:
     logging.basicConfig(stream=sys.stderr, level=logging.INFO, format="fleet serve: %(message)s")
     logging.getLogger("websockets").setLevel(logging.CRITICAL)
     logging.getLogger("asyncio").setLevel(logging.ERROR)
+    # That a package is missing is told before anything is begun.
     if arguments.ws_port is not None:
-        import websockets  # noqa: F401  (that it is missing is told before anything is begun)
+        import websockets  # noqa: F401
+    if broker_of(arguments) is not None:
+        import fleet.brokers.bridge  # noqa: F401
     gate, program = gate_of(arguments.token), find_program(arguments.program)
     check_host(arguments.host, gate)
-    log, thread = Log(arguments.log), Thread()
+    log, thread = _log_of(arguments), Thread()
     try:
         _open(log, arguments, program)
         asyncio.run(Server(arguments, program, gate, log, thread).run())
@@ -61,6 +74,35 @@ def main(arguments: argparse.Namespace) -> int:
         thread.close()
         log.close()
     return 0
+
+
+def _log_of(arguments: argparse.Namespace) -> Log:
+    """The log of the folder, or of a stream. Raises FleetError and OSError."""
+    address = address_of(arguments)
+    if address is None:
+        return Log(arguments.log)
+    from fleet.streams.serving import joined
+
+    return joined(arguments.log, address, writes=not arguments.follow)
+
+
+def _streaming_of(log: Log, runner: Runner, thread: Thread, turns: Turns) -> "Streaming | None":
+    """What is to be done for a stream; without one nothing is imported."""
+    if type(log) is Log:
+        return None
+    from fleet.streams.serving import streaming_of
+
+    return streaming_of(log, runner, thread, turns)
+
+
+def _bridge_of(arguments: argparse.Namespace, log: Log, hub: Hub, turns: Turns) -> "Bridge | None":
+    """What serves a broker; without one nothing is imported. Raises FleetError and OSError."""
+    address = broker_of(arguments)
+    if address is None:
+        return None
+    from fleet.brokers.bridge import Bridge
+
+    return Bridge(arguments, address, log, hub, turns)
 
 
 def _open(log: Log, arguments: argparse.Namespace, program: Path) -> None:
@@ -75,8 +117,9 @@ def _open(log: Log, arguments: argparse.Namespace, program: Path) -> None:
         log.begin([])
     else:
         loaded_clock(arguments.session, program)
+        plane = plane_of_file(arguments.session)
         with arguments.session.open("rb") as text:
-            log.begin(entry.text for entry in entries(text))
+            log.begin((entry.text for entry in entries(text)), plane=comment(plane).encode() if plane else b"")
 
 
 class Server:
@@ -92,9 +135,13 @@ class Server:
         folder = arguments.files or log.folder / "files"
         self._runner = Runner(program, folder, log, thread)
         settings = Settings(arguments.patience, arguments.roll_at, arguments.sync == "each")
-        decisions = Decisions(log, folder, Words(log, self._status))
-        self._engine = Engine(log, self._runner, thread, self._hub, self._turns, decisions, settings)
+        decisions = Decisions(log, folder, Words(log, self._hub, self._status))
+        self._streaming = _streaming_of(log, self._runner, thread, self._turns)
+        follower = self._streaming.follower if self._streaming else None
+        decisions.only_reads = follower is not None
+        self._engine = Engine(log, self._runner, thread, self._hub, self._turns, decisions, settings, follower)
         self._connections = Connections(self._hub, self._turns, gate, arguments.clients, self._greeting)
+        self._bridge = _bridge_of(arguments, log, self._hub, self._turns)
         self._stop = asyncio.Event()
 
     async def run(self) -> None:
@@ -103,15 +150,28 @@ class Server:
         for number in (signal.SIGTERM, signal.SIGINT):
             loop.add_signal_handler(number, self._stop.set)
         try:
-            await self._engine.start()
+            starting = asyncio.create_task(self._engine.start())
+            await _first_of(self._stop.wait(), starting)
+            if starting.done():
+                await self._serve()
+            else:
+                await ended(starting)
         except ProgramEnded as error:
             raise CannotServe(str(error)) from None
+        finally:
+            self._runner.close()
+
+    async def _serve(self) -> None:
         committing = asyncio.create_task(self._engine.committer.run())
         carrying = asyncio.create_task(self._engine.run())
         ticking = asyncio.create_task(self._tick())
+        besides = [asyncio.create_task(each.run()) for each in (self._streaming, self._bridge) if each is not None]
         try:
             async with self._listening():
-                await _first_of(self._stop.wait(), committing, carrying)
+                try:
+                    await _first_of(self._stop.wait(), committing, carrying, *besides)
+                finally:
+                    self._log.end_soon()
                 _LOGGER.info("ending")
                 self._connections.take_no_more()
                 self._engine.stop()
@@ -120,11 +180,9 @@ class Server:
                         await _first_of(carrying, committing)
                 await self._connections.close()
         finally:
-            for task in (ticking, carrying, committing):
-                task.cancel()
+            await ended(ticking, carrying, committing, *besides)
             await self._connections.close()
             await self._engine.close()
-            self._runner.close()
 
     @contextlib.asynccontextmanager
     async def _listening(self) -> AsyncIterator[None]:
@@ -137,14 +195,13 @@ class Server:
             stack.callback(lines.close)
             told_lines = [f"fleet serve {__version__}", f"lines on {_address(lines.sockets)}"]
             if arguments.ws_port is not None:
-                from websockets.server import serve
-
-                sockets = await serve(
-                    self._connections.take_websocket, arguments.host, arguments.ws_port,
-                    origins=[None, *arguments.origin], max_size=_MESSAGE_BYTES, compression=None,
-                    ping_interval=_PING_SECONDS, ping_timeout=_PING_SECONDS, close_timeout=1, write_limit=0,
+                sockets = await stack.enter_async_context(
+                    websockets_on(
+                        self._connections.take_websocket, arguments.host, arguments.ws_port,
+                        origins=[None, *arguments.origin], max_size=_MESSAGE_BYTES,
+                        ping_interval=_PING_SECONDS, ping_timeout=_PING_SECONDS, write_limit=0,
+                    )
                 )  # fmt: skip
-                stack.callback(sockets.close)
                 told_lines.append(f"WebSocket on {_address(sockets.sockets)}")
             print("\n".join(told_lines + self._told()), flush=True)
             yield
@@ -153,9 +210,11 @@ class Server:
         arguments = self._arguments
         sync = "each line synced by itself" if arguments.sync == "each" else "lines synced in groups"
         tick = f"a tick each {arguments.tick:g} seconds" if arguments.tick else "ticks by clients alone"
+        told_besides = [each.told() for each in (self._streaming, self._bridge) if each is not None]
         return [
             f"log {self._log.path}: {self._log.entries} entries, at tick {self._engine.known.clock}, {sync}",
             f"patience {arguments.patience:g} seconds, {tick}",
+            *told_besides,
         ]
 
     def _greeting(self) -> str:
@@ -164,7 +223,7 @@ class Server:
     def _status(self) -> dict[str, object]:
         """What `:status` tells."""
         told_of_server = {"clock": self._engine.known.clock, "clients": len(self._hub.peers)}
-        return told_of_server | log_status(self._log)
+        return told_of_server | log_status(self._log) | (self._bridge.status() if self._bridge else {})
 
     async def _tick(self) -> None:
         """Lets the clock go on, as long as its ticks are accepted."""

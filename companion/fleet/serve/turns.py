@@ -12,6 +12,7 @@ class Turns:
 
     def __init__(self) -> None:
         self._ready: deque[Source] = deque()
+        self._taken = 0
         self._changed = asyncio.Event()
 
     def give(self, source: Source) -> None:
@@ -25,7 +26,7 @@ class Turns:
         self._changed.set()
 
     async def take(self, most: int) -> list[Item]:
-        """Waits for lines and takes some, one of each source in turn; one that may take long comes alone.
+        """Waits for lines and takes some, of each source its share in turn; one that may take long comes alone.
 
         There are none where it was woken.
         """
@@ -37,14 +38,21 @@ class Turns:
             if comes_alone and items:
                 break
             items.append(source.waiting.popleft())
-            self._ready.popleft()
-            if source.waiting:
-                self._ready.append(source)
+            self._taken += 1
+            if not source.waiting or self._taken >= source.share:
+                self._pass_on(source)
             if comes_alone:
                 break
         if not self._ready:
             self._changed.clear()
         return items
+
+    def _pass_on(self, source: Source) -> None:
+        """Lets the next source have its turn."""
+        self._taken = 0
+        self._ready.popleft()
+        if source.waiting:
+            self._ready.append(source)
 
     def put_back(self, items: Iterable[Item]) -> None:
         """Lets lines that were taken wait again, before all others."""

@@ -10,6 +10,7 @@ from enum import Enum
 
 from fleet.session_text import first_word, is_kept
 from fleet.tokens import BadToken, is_silent, tokens
+from fleet.ways.planes import plane_in
 from fleet.words import FILE_COMMANDS
 
 VERSION = 1
@@ -30,6 +31,7 @@ class Kind(Enum):
     """What the server does with a line."""
 
     SILENT = "nothing: it has no reply"
+    PLANE = "kept in the log where that names no plane yet; it has no reply"
     WORD = "one of its own words"
     QUIT = "the end of the connection"
     KEPT = "sent to the program, and kept in the log where it is accepted"
@@ -50,6 +52,7 @@ class Refusal(Enum):
     NUMBER_TAKEN = 107
     LOG_FULL = 108
     STOPPING = 109
+    READER = 110
 
     def reply(self) -> bytes:
         """The line of the reply."""
@@ -82,7 +85,7 @@ def parsed(line: bytes) -> Parsed:
     if match is None or not 1 <= int(match.group(1)) <= MOST_NUMBER:
         return Parsed(Kind.WORD, line)
     kind = _kind(match.group(2))
-    if kind is Kind.SILENT:
+    if kind in (Kind.SILENT, Kind.PLANE):
         return Parsed(Kind.WORD, line)
     return Parsed(kind, match.group(2), int(match.group(1)))
 
@@ -122,7 +125,7 @@ def _check(line: bytes) -> None:
 
 def _kind(line: bytes) -> Kind:
     if is_silent(line):
-        return Kind.SILENT
+        return Kind.SILENT if plane_in([line]) is None else Kind.PLANE
     word = first_word(line)
     if word == b"quit" and _is_quit(line):
         return Kind.QUIT

@@ -71,6 +71,16 @@ def class_of(name: str | None, schema: Schema) -> ObjectClass:
     return schema.classes[name]
 
 
+def written(beginning: str, place: Place | None, move: Move | None, settings: Iterable[str]) -> str:
+    """The insert or update that begins so, and writes a place, a motion and settings."""
+    parts = [beginning]
+    if place is not None:
+        parts.append(f"at {point_text(place)}")
+    if move is not None and not (move == REST and beginning.startswith("insert")):
+        parts.append(move.text())
+    return " ".join([*parts, *settings])
+
+
 class Writer:
     """Makes the commands of objects of a class, each after those before it: an insert where the object isn't present,
     else an update. The schema takes what is made."""
@@ -85,12 +95,7 @@ class Writer:
         self, identifier: str, place: Place | None, move: Move | None = None, settings: Iterable[str] = ()
     ) -> str:
         """The command that writes a place, a motion and settings. Raises Unfit."""
-        parts = [self._beginning(identifier)]
-        if place is not None:
-            parts.append(f"at {point_text(place)}")
-        if move is not None and not (move == REST and parts[0].startswith("insert")):
-            parts.append(move.text())
-        command = " ".join([*parts, *settings])
+        command = written(self._beginning(identifier), place, move, settings)
         self._schema.record(command)
         return command
 

@@ -133,7 +133,7 @@ class Columns:
         return f"= {number_text(thousandths(value, title))}"
 
 
-def add_column_arguments(parser: argparse.ArgumentParser, column: str) -> None:
+def add_column_arguments(parser: argparse._ActionsContainer, column: str) -> None:
     """Adds the options that say which column, or property, says what."""
     upper = column.upper()
     parser.add_argument(

@@ -59,13 +59,31 @@ class Names:
         self._is_unwritten = True
         return name
 
+    def has(self, identifier: str) -> bool:
+        """Whether an id has a name already, or is one."""
+        return identifier in self._names or (not name_fault(identifier) and identifier not in self._used)
+
+    def identifiers(self) -> dict[str, str]:
+        """The ids of the names of the map, by name."""
+        return {name: identifier for identifier, name in self._names.items()}
+
+    def unwritten(self) -> bytes:
+        """The text of the map where it has names that aren't written, which counts as written then; else nothing."""
+        if self.path is None or not self._is_unwritten:
+            return b""
+        self._is_unwritten = False
+        text = io.StringIO()
+        csv.writer(text, lineterminator="\n").writerows([COLUMNS, *self._names.items()])
+        return text.getvalue().encode("utf-8")
+
+    def set_unwritten(self) -> None:
+        """Takes over that what `unwritten` gave wasn't written."""
+        self._is_unwritten = True
+
     def write(self) -> None:
         """Writes the map where it has names that aren't written. Raises OSError."""
-        if self.path is not None and self._is_unwritten:
-            text = io.StringIO()
-            csv.writer(text, lineterminator="\n").writerows([COLUMNS, *self._names.items()])
-            write_whole(self.path, [text.getvalue().encode("utf-8")])
-            self._is_unwritten = False
+        if self.path is not None and (text := self.unwritten()):
+            write_whole(self.path, [text])
 
     def _new(self, base: str) -> str:
         """The base, or the first of the base with a number that is free."""

@@ -10,11 +10,12 @@ from typing import BinaryIO, Self
 
 from fleet.errors import FleetError
 from fleet.schema import Schema
+from fleet.serve.closed import open_session
 from fleet.session_text import entries
 from fleet.tokens import BadToken, read_lines
 from fleet.ways.faults import Faults, Unfit, counted
 from fleet.ways.identifiers import Names
-from fleet.ways.planes import AUTO, Plane, PlaneFault, comment, plane_of_file, settled, wanted_plane
+from fleet.ways.planes import AUTO, Plane, PlaneFault, comment, plane_of, settled, wanted_plane
 from fleet.ways.projection import Projection, check_point, zone_for
 
 STANDARD_INPUT = "-"
@@ -65,7 +66,7 @@ class Base:
         """That of the options and of the first file. Raises BadFile, BadMap, PlaneFault and BadSessionText."""
         path = Path(arguments.session or arguments.schema) if arguments.session or arguments.schema else None
         schema = _schema(path, is_session=bool(arguments.session)) if path else Schema()
-        kept = plane_of_file(path) if path else None
+        kept = _plane_in(path) if path else None
         plane = settled(wanted_plane(arguments), kept, path)
         names_path = Path(arguments.names) if arguments.names else _beside(file)
         names = Names(names_path, lambda name: name in schema.objects or name in schema.regions)
@@ -121,12 +122,17 @@ def _is_point(point: tuple[float, float]) -> bool:
     return True
 
 
+def _plane_in(path: Path) -> Plane | None:
+    with open_session(path) as text:
+        return plane_of(text, path)
+
+
 def _schema(path: Path, *, is_session: bool) -> Schema:
     """The names of a saved session, which the program has to accept, or after the lines of a file that it accepts."""
     try:
         if not is_session:
             return _schema_of_commands(path)
-        with path.open("rb") as text:
+        with open_session(path) as text:
             return Schema.of_lines(entry.text for entry in entries(text))
     except OSError as error:
         raise BadFile(f"{path}: {error.strerror}") from None

@@ -64,7 +64,9 @@ def main(arguments: argparse.Namespace) -> int:
 def _add_common(parser: argparse.ArgumentParser) -> None:
     add_plane_arguments(parser, can_choose=True)
     before = parser.add_mutually_exclusive_group()
-    before.add_argument("--session", metavar="FILE", help="the saved session that the lines go on from")
+    before.add_argument(
+        "--session", metavar="FILE", help="the saved session, or the folder of a log, that the lines go on from"
+    )
     before.add_argument("--schema", metavar="FILE", help="or a file of commands that they go on from")
     parser.add_argument(
         "--class", dest="class_name", metavar="CLASS", help="the class of the objects (else the only one with a place)"

@@ -6,11 +6,12 @@ from pathlib import Path
 
 from fleet.csvs import RATE
 from fleet.present import ClassOf, Function, ObjectOf, Present, Vector, number_text, pieces, thousandths
+from fleet.serve.closed import open_session
 from fleet.session_text import entries, ticks_of
 from fleet.ways.commands import Place
 from fleet.ways.fields import PARTS
 from fleet.ways.inputs import BadFile
-from fleet.ways.planes import PlaneFault, plane_of_file, settled, wanted_plane
+from fleet.ways.planes import BEGINNING, PlaneFault, plane_of, settled, wanted_plane
 from fleet.ways.projection import Projection
 
 OTHERS = frozenset(("name", "kind", "class", "tick", *PARTS))
@@ -25,15 +26,19 @@ def read(arguments: argparse.Namespace) -> tuple[list[bytes], Projection]:
     BadFile, BadSessionText and PlaneFault."""
     path = arguments.session
     try:
-        with path.open("rb") as text:
+        with open_session(path) as text:
             commands = [entry.text for entry in entries(text)]
-        plane = settled(wanted_plane(arguments), plane_of_file(path), path)
+            text.seek(0)
+            plane = settled(wanted_plane(arguments), plane_of(text, path), path)
     except OSError as error:
         raise BadFile(f"{path}: {error.strerror}") from None
     if plane is None:
+        lasting = (
+            f"the comment `{BEGINNING.decode()} EPSG:CODE`, sent to the server, is kept" if path.is_dir()
+            else f"`fleet roll {path} NEW` with one of these writes a session that does"
+        )  # fmt: skip
         raise PlaneFault(
-            f"{path} doesn't say on which plane its places lie: --zone EPSG:CODE or --local LON,LAT says it, and "
-            f"`fleet roll {path} NEW` with one of these writes a session that does"
+            f"{path} doesn't say on which plane its places lie: --zone EPSG:CODE or --local LON,LAT says it, and {lasting}"
         )
     return commands, Projection(plane)
 

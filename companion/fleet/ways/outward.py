@@ -11,9 +11,9 @@ from fleet.ways.planes import add_plane_arguments
 from fleet.words import TICK_LIMIT
 
 DESCRIPTION = """
-Reads a saved session and writes its objects with longitude and latitude to standard output. The plane on which the
-places lie is the one that a comment of the session names, else that of --zone or --local; without one nothing is
-written.
+Reads a saved session, or the log of a server that may run meanwhile, and writes its objects with longitude and latitude
+to standard output. The plane on which the places lie is the one that a comment of the session names, else that of --zone
+or --local; without one nothing is written.
 What can't be written is told on standard error, and the status is 1 then.
 """
 
@@ -38,7 +38,7 @@ def add_arguments(parser: argparse.ArgumentParser) -> None:
     formats = parser.add_subparsers(title="forms", metavar="FORM", dest="form", required=True)
     for name, (_, help_line) in FORMATS.items():
         below = formats.add_parser(name, help=help_line, description=help_line, allow_abbrev=False)
-        below.add_argument("session", metavar="SESSION", type=Path, help="the saved session")
+        below.add_argument("session", metavar="SESSION", type=Path, help="the saved session, or the folder of a log")
         add_plane_arguments(below, can_choose=False)
         below.add_argument(
             "--class", dest="class_name", metavar="CLASS", help="the objects of this class alone, and no regions"

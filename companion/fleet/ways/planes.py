@@ -17,13 +17,14 @@ from fleet.errors import FleetError
 
 AUTO = "auto"
 """What stands for the zone that suits the data."""
+BEGINNING = b"# fleet plane"
+"""What the comment begins with."""
 WEST_EAST, SOUTH_NORTH = 180, 90
 """The largest longitude and latitude, in degrees."""
 
 _ZONE = re.compile(r"(?:EPSG:)?([1-9][0-9]{3,5})", re.IGNORECASE)
 _LOCAL = re.compile(r"(-?[0-9]{1,3}(?:\.[0-9]{1,9})?),(-?[0-9]{1,2}(?:\.[0-9]{1,9})?)")
 _COMMENT = re.compile(rb"# fleet plane (?:EPSG:([1-9][0-9]{3,5})|local ([^ ]+))")
-_BEGINNING = b"# fleet plane"
 
 
 class PlaneFault(FleetError):
@@ -69,7 +70,7 @@ def plane_in(lines: Iterable[bytes]) -> Plane | None:
     """The plane that a comment among the lines names, None where none does. Raises PlaneFault where two differ."""
     found: Plane | None = None
     for line in lines:
-        if line.startswith(_BEGINNING):
+        if line.startswith(BEGINNING):
             plane = _of_comment(line.rstrip(b"\r\n"))
             if found is not None and plane is not None and plane != found:
                 raise PlaneFault(f"it names two planes, {found} and {plane}")
@@ -80,10 +81,15 @@ def plane_in(lines: Iterable[bytes]) -> Plane | None:
 def plane_of_file(path: Path) -> Plane | None:
     """The plane that a session, or a file of commands, names in a comment. Raises PlaneFault and OSError."""
     with path.open("rb") as lines:
-        try:
-            return plane_in(lines)
-        except PlaneFault as fault:
-            raise PlaneFault(f"{path}: {fault}") from None
+        return plane_of(lines, path)
+
+
+def plane_of(lines: Iterable[bytes], path: Path) -> Plane | None:
+    """The plane that the lines of a file name in a comment. Raises PlaneFault, with the name of the file."""
+    try:
+        return plane_in(lines)
+    except PlaneFault as fault:
+        raise PlaneFault(f"{path}: {fault}") from None
 
 
 def settled(wanted: Plane | None, kept: Plane | None, path: Path | None) -> Plane | None:
@@ -93,7 +99,7 @@ def settled(wanted: Plane | None, kept: Plane | None, path: Path | None) -> Plan
     return wanted or kept
 
 
-def add_plane_arguments(parser: argparse.ArgumentParser, *, can_choose: bool) -> None:
+def add_plane_arguments(parser: argparse._ActionsContainer, *, can_choose: bool) -> None:
     """Adds the options that name a plane; `can_choose` lets the zone be chosen by the data."""
     group = parser.add_mutually_exclusive_group()
     auto = ", or `auto` for the zone of UTM in which the middle of the data lies" if can_choose else ""

@@ -82,12 +82,18 @@ class Reporter:
             self._faults.add(report.where, unfit)
 
     def _command(self, report: Report, age: int) -> str:
-        place, move = self._projection.place(report.lon, report.lat), None
-        _, speed, course = report.told
-        if speed is not None and course is not None:
-            velocity = self._projection.velocity(report.lon, report.lat, speed, course)
-            place, move = carried(place, velocity, age, self._pace)
+        place, move = located(report, age, self._projection, self._pace)
         return self._writer.command(report.identifier, place, move, report.settings)
+
+
+def located(report: Report, age: int, projection: Projection, pace: Pace) -> tuple[Place, Move | None]:
+    """Where an object is that many microseconds after its report, and the motion from there on where the report tells
+    one. Raises Unfit."""
+    place = projection.place(report.lon, report.lat)
+    _, speed, course = report.told
+    if speed is None or course is None:
+        return place, None
+    return carried(place, projection.velocity(report.lon, report.lat, speed, course), age, pace)
 
 
 def carried(place: Place, velocity: tuple[float, float], age: int, pace: Pace) -> tuple[Place, Move]:
