@@ -218,7 +218,7 @@ def test_hostile_messages_are_counted_and_told(program: Path, tmp_path: Path, br
             counted(client, "faulty")
             assert "--class says of which class the objects are" in server.said()
             accepted(client, *SCHEMA)
-            for number in range(300):
+            for _ in range(300):
                 person.say(f"fleet/positions/{chance.choice(['v1', 'AB-12', 'ü', '$'])}", hostile(chance))
             person.report("fleet/positions/v1", lon=11.57, lat=48.13)
             counted(client, "written")

@@ -64,6 +64,8 @@ def main(arguments: argparse.Namespace) -> int:
         import websockets  # noqa: F401
     if broker_of(arguments) is not None:
         import fleet.brokers.bridge  # noqa: F401
+    if address_of(arguments) is not None:
+        import redis  # noqa: F401
     gate, program = gate_of(arguments.token), find_program(arguments.program)
     check_host(arguments.host, gate)
     log, thread = _log_of(arguments), Thread()

@@ -101,6 +101,8 @@ class LiveObjects:
             self._tally.add("late")
             return
         try:
+            # What can't be written is no reason to leave a report out that waits.
+            located(report, 0, self._projection, self._pace)
             reporting = self._reporting(report.identifier, heard)
         except Unfit as unfit:
             self._tally.fault("faulty", f"{report.where.of(unfit.field)}: fault: {unfit}")
