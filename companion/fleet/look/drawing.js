@@ -42,9 +42,9 @@ const SMALL_SYMBOL = 10;
 // with more objects in view none has its name beside it
 const MOST_IN_VIEW = 150;
 // more objects than that have small symbols and plain thin lines, which take a browser far less time
-const MOST_ARROWS = 150;
+const FEW = 150;
 // more objects than that are dots, without motions
-const MANY = 1_100;
+const MANY = 1_500;
 
 // ---- the map
 
@@ -101,8 +101,9 @@ export function objectAt(scene, view, width, height, left, top, after = 0) {
 /// Draws the scene as it is a part of a tick later, `after`, from 0 to 1.
 export function drawMap(canvas, scene, view, theme, after = 0) {
   const { context, width, height } = prepared(canvas);
+  const count = scene.classes.reduce((sum, one) => sum + one.x.length, 0);
   const map = {
-    context, theme, view, width, height, after,
+    context, theme, view, width, height, after, isFew: count <= FEW,
     left: (x) => width / 2 + (x - view.x) * view.scale,
     top: (y) => height / 2 - (y - view.y) * view.scale,
   };
@@ -110,11 +111,12 @@ export function drawMap(canvas, scene, view, theme, after = 0) {
   context.fillRect(0, 0, width, height);
   drawGrid(map);
   for (const region of scene.regions) drawRegion(map, region);
-  if (scene.classes.reduce((sum, one) => sum + one.x.length, 0) > MANY) {
+  if (count > MANY) {
     drawDots(map, scene);
   } else {
     scene.classes.forEach((one, number) => drawWays(map, one, colourOf(theme, number), scene.reach));
-    drawSymbols(map, scene);
+    if (map.isFew) drawSymbols(map, scene);
+    else drawSmallSymbols(map, scene);
     drawMarks(map, scene);
   }
   drawLabels(map, scene);
@@ -210,9 +212,8 @@ function drawRegion({ context, theme, left, top }, { name, points }) {
 }
 
 function drawWays(map, one, colour, reach) {
-  const { context, theme } = map;
+  const { context, theme, isFew } = map;
   const each = (draw) => stroke(context, () => one.names.forEach((_, at) => draw(at)));
-  const isFew = one.names.length <= MOST_ARROWS;
   context.strokeStyle = isFew ? colour : theme.thin;
   context.globalAlpha = isFew ? 0.5 : 1;
   context.lineWidth = isFew ? 1.5 : 1;
@@ -258,13 +259,13 @@ function drawLine({ context, left, top }, columns, at) {
 }
 
 function drawMotion(map, one, at, reach) {
-  const { context, left, top } = map;
+  const { context, left, top, isFew } = map;
   if (one.dx[at] === 0 && one.dy[at] === 0) return;
   const [x, y] = pixelNow(map, one, at);
   const [toX, toY] = [left(one.x[at] + reach * one.dx[at]), top(one.y[at] + reach * one.dy[at])];
   context.moveTo(x, y);
   context.lineTo(toX, toY);
-  if (one.names.length > MOST_ARROWS || Math.hypot(toX - x, toY - y) < 10) return;
+  if (!isFew || Math.hypot(toX - x, toY - y) < 10) return;
   const along = Math.atan2(toY - y, toX - x);
   for (const turn of [2.6, -2.6]) {
     context.moveTo(toX, toY);
@@ -306,7 +307,7 @@ function pictureOf(number, theme, size) {
   if (!pictures.has(key)) {
     const picture = document.createElement("canvas");
     picture.width = picture.height = Math.ceil(size * ratio);
-    const context = picture.getContext("2d");
+    const context = picture.getContext("2d", { willReadFrequently: size === SMALL_SYMBOL });
     context.scale(ratio, ratio);
     drawSymbol(context, number, theme, size);
     pictures.set(key, picture);
@@ -327,17 +328,14 @@ function eachInView(map, { classes }, visit) {
 
 function drawSymbols(map, scene) {
   const { context, theme } = map;
-  const ratio = ratioOfPixels();
-  const symbols = scene.classes.map((one, number) => {
-    const isFew = one.names.length <= MOST_ARROWS;
-    const picture = pictureOf(number, theme, isFew ? SYMBOL : SMALL_SYMBOL);
-    // of many each lies on whole pixels, which are then copied as they are
-    return { picture, size: picture.width / ratio, on: (at) => (isFew ? at : Math.round(at * ratio) / ratio) };
-  });
+  const symbols = scene.classes.map((_, number) => pictureOf(number, theme, SYMBOL));
   eachInView(map, scene, (one, at, x, y, number) => {
-    const { picture, size, on } = symbols[number];
-    context.drawImage(picture, on(x - size / 2), on(y - size / 2), size, size);
+    context.drawImage(symbols[number], x - SYMBOL / 2, y - SYMBOL / 2, SYMBOL, SYMBOL);
   });
+}
+
+function drawSmallSymbols(map, { classes }) {
+  drawSheet(map, (put, wide) => classes.forEach((one, number) => put(one, map.after, symbolStamp(number, map.theme, wide))));
 }
 
 // the forms of dots, as places around the middle: these differ by class too
@@ -352,20 +350,27 @@ const DOTS = [
 
 const RING = Array.from({ length: 16 }, (_, at) => [Math.cos, Math.sin].map((of) => Math.round(3.4 * of((at * Math.PI) / 8))));
 
+function drawDots(map, { classes }) {
+  const { theme, after } = map;
+  drawSheet(map, (put, wide) => {
+    const step = dotStamp([[0, 0]], theme.text, 0x50, wide);
+    for (const one of classes) for (const place of one.trail ?? []) put({ ...one, ...place }, 0, step);
+    classes.forEach((one, number) => put(one, after, dotStamp(DOTS[number % DOTS.length], colourOf(theme, number), 0xff, wide)));
+    const ring = dotStamp(RING, theme.mark, 0xff, wide);
+    for (const one of classes) if (one.isMarked) put(one, after, ring, one.isMarked);
+  });
+}
+
 let sheet = null;
 
 // Many objects are put as pixels into a sheet of their own, which takes a few milliseconds for ten thousand.
-function drawDots(map, { classes }) {
-  const { context, theme, after } = map;
-  const { width, height } = context.canvas;
+function drawSheet(map, fill) {
+  const { width, height } = map.context.canvas;
   if (sheet?.canvas.width !== width || sheet.canvas.height !== height) sheet = newSheet(width, height);
   const image = new ImageData(width, height);
-  const put = dotter(map, new Uint32Array(image.data.buffer), width);
-  for (const one of classes) for (const place of one.trail ?? []) put({ ...one, ...place }, 0, [[0, 0]], theme.text, 0x50);
-  classes.forEach((one, number) => put(one, after, DOTS[number % DOTS.length], colourOf(theme, number), 0xff));
-  for (const one of classes) if (one.isMarked) put(one, after, RING, theme.mark, 0xff, one.isMarked);
+  fill(stamper(map, new Uint32Array(image.data.buffer), width), width);
   sheet.putImageData(image, 0, 0);
-  context.drawImage(sheet.canvas, 0, 0, map.width, map.height);
+  map.context.drawImage(sheet.canvas, 0, 0, map.width, map.height);
 }
 
 function newSheet(width, height) {
@@ -374,19 +379,33 @@ function newSheet(width, height) {
   return canvas.getContext("2d", { willReadFrequently: true });
 }
 
-// What puts a dot into the pixels for each object, or for those that are chosen.
-function dotter({ left, top, width, height }, pixels, wide) {
+// A stamp has the pixels of one object: where each lies from the object's own pixel in a sheet that is so wide, and what it
+// is.
+function dotStamp(dot, colour, alpha, wide) {
+  const places = Int32Array.from(dot, ([toRight, toBottom]) => toBottom * wide + toRight);
+  return { places, colours: new Uint32Array(places.length).fill(pixelOf(colour, alpha)) };
+}
+
+function symbolStamp(number, theme, wide) {
+  const picture = pictureOf(number, theme, SMALL_SYMBOL);
+  const { width, height } = picture;
+  const all = new Uint32Array(picture.getContext("2d").getImageData(0, 0, width, height).data.buffer);
+  const seen = [...all.keys()].filter((at) => all[at] >>> 24 > 0);
+  const placeOfPixel = (at) => (Math.floor(at / width) - (height >> 1)) * wide + (at % width) - (width >> 1);
+  return { places: Int32Array.from(seen, placeOfPixel), colours: Uint32Array.from(seen, (at) => all[at]) };
+}
+
+// What puts a stamp into the pixels for each object, or for those that are chosen.
+function stamper({ left, top, width, height }, pixels, wide) {
   const ratio = wide / width;
-  return ({ x, y, dx, dy }, after, dot, colour, alpha, chosen) => {
-    const pixel = pixelOf(colour, alpha);
-    const places = Int32Array.from(dot, ([toRight, toBottom]) => toBottom * wide + toRight);
+  return ({ x, y, dx, dy }, after, { places, colours }, chosen) => {
     for (let at = 0; at < x.length; at++) {
       if (chosen && !chosen[at]) continue;
       const across = left(x[at] + after * dx[at]);
       const down = top(y[at] + after * dy[at]);
       if (!(across > 6 && down > 6 && across < width - 6 && down < height - 6)) continue;
       const middle = Math.round(down * ratio) * wide + Math.round(across * ratio);
-      for (let part = 0; part < places.length; part++) pixels[middle + places[part]] = pixel;
+      for (let part = 0; part < places.length; part++) pixels[middle + places[part]] = colours[part];
     }
   };
 }
