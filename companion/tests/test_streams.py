@@ -201,10 +201,11 @@ def test_the_plane_and_the_log_come_to_each_server(program: Path, tmp_path: Path
                 accepted(writer, "update v0 at (1,1)")
             caught_up(reader, writer)
             assert status(reader, "plane") == PLANE
-            told = reader.told[next(i for i, each in enumerate(reader.told) if each.startswith("* log ")) :]
-            assert told[0].startswith("* log log-00000002 0 ") and told[1] == f"* plane {PLANE}"
+            while not (begun := reader.next_told()).startswith("* log "):
+                pass
+            assert begun.startswith("* log log-00000002 0 ") and reader.next_told() == f"* plane {PLANE}"
             wanted = [f"* command {each}" for each in commands_of(tmp_path / "r")]
-            told = [each for each in told if each.startswith("* command ")]
+            told: list[str] = []
             while len(told) < len(wanted):
                 told += [each for each in (reader.next_told(),) if each.startswith("* command ")]
             assert told == wanted and commands_of(tmp_path / "r") == commands_of(tmp_path / "w")
