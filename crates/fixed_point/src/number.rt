@@ -1,5 +1,6 @@
 //! Numbers with three decimals, slopes and points.
 ghost use Rattle.std.specs.Prelude.{◌≡◌, ◌≤◌, unsigned_abs, IfSome, SomeIff};
+ghost use Rattle.std.specs.Int.{int_min, int_max};
 ghost use Rattle.fixed_point.specs.Decimal.{thousandths_of};
 ghost use Rattle.fixed_point.specs.Canonical.{fix_text};
 
@@ -55,6 +56,22 @@ impl Fix {
         ensures in_range { unsigned_abs self ≤ FIX_LIMIT }
     {
         self.thousandths
+    }
+
+    /// The lesser of two numbers.
+    #[inline]
+    pub fn lesser(self, other: Fix) -> Fix
+        ensures { result ≡ int_min self other }
+    {
+        if other < self { other } else { self }
+    }
+
+    /// The greater of two numbers.
+    #[inline]
+    pub fn greater(self, other: Fix) -> Fix
+        ensures { result ≡ int_max self other }
+    {
+        if self < other { other } else { self }
     }
 
     /// The number that the text writes: a `-` or none, from one to ten digits, and a point with from

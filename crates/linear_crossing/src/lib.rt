@@ -14,6 +14,6 @@ pub use quad::{COORDINATE_LIMIT, Line, Quad};
 /// The limits, in numbers.
 pub fn limits_in_numbers()
     ensures coordinate { COORDINATE_LIMIT ≡ 1001 * 10 ^ 12 }
-    ensures rise { RISE_LIMIT ≡ 4 * 10 ^ 24 }
-    ensures start { START_LIMIT ≡ 10 ^ 37 }
+    ensures rise { RISE_LIMIT ≡ 8 * 10 ^ 24 }
+    ensures start { START_LIMIT ≡ 12 * 10 ^ 36 }
 {}

@@ -30,10 +30,10 @@ impl Pair {
 }
 
 /// The largest size of the way at each tick of a function that is solved.
-pub const RISE_LIMIT: u128 = 4_000_000_000_000_000_000_000_000;
+pub const RISE_LIMIT: u128 = 8_000_000_000_000_000_000_000_000;
 
 /// The largest size of the first value of a function that is solved.
-pub const START_LIMIT: u128 = 10_000_000_000_000_000_000_000_000_000_000_000_000;
+pub const START_LIMIT: u128 = 12_000_000_000_000_000_000_000_000_000_000_000_000;
 
 /// The ticks t of the window at which `a * (t - w.lo) + b op 0`, as maximal runs in order.
 ///

@@ -1,6 +1,5 @@
 //! The least and the greatest value of a dynamic attribute over ticks.
 ghost use Rattle.std.specs.Prelude.{◌≡◌, ◌≤◌, ◌<◌};
-ghost use Rattle.std.specs.Int.{int_min, int_max};
 ghost use Rattle.tick_set.specs.declared.spans.TheConstants.{LAST_TICK};
 ghost use Rattle.motion.specs.Dynamic.{turns_at};
 ghost use Rattle.motion.specs.Pieces.{IsFirstOrEnd};
@@ -26,8 +25,8 @@ impl Vector {
         'legs: while at < hi {
             at = self.turn_before(at, hi);
             let value = self.at(at);
-            least = lesser(least, value);
-            greatest = greater(greatest, value);
+            least = least.lesser(value);
+            greatest = greatest.greater(value);
         }
         (least, greatest)
     }
@@ -41,16 +40,4 @@ impl Vector {
     {
         self.next_end(at).map_or(end, |tick| tick.min(end))
     }
-}
-
-fn lesser(a: Fix, b: Fix) -> Fix
-    ensures { result ≡ int_min a b }
-{
-    if b < a { b } else { a }
-}
-
-fn greater(a: Fix, b: Fix) -> Fix
-    ensures { result ≡ int_max a b }
-{
-    if a < b { b } else { a }
 }

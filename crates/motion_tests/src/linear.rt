@@ -9,9 +9,9 @@ use std::sync::ledger::{Blank, Ledger};
 use steps::Steps;
 use tick_set::Window;
 
-const LEAST: i128 = -10_000_000_000_000_000_000_000_000_000_000_000_000;
+const LEAST: i128 = -12_000_000_000_000_000_000_000_000_000_000_000_000;
 
-const STEEPEST: i128 = 4_000_000_000_000_000_000_000_000;
+const STEEPEST: i128 = 8_000_000_000_000_000_000_000_000;
 
 const LAST: u32 = 1_000_000_000;
 
@@ -33,7 +33,7 @@ const CROSSINGS: [(i128, i128, Op, u32, [Option<Ends>; 2]); 14] = [
     (-STEEPEST, LEAST, Op::Lt, LAST, [Some((0, LAST)), None]),
     (
         STEEPEST,
-        -4_000_000_000_000_000_000_000_000_000_000_000,
+        -8_000_000_000_000_000_000_000_000_000_000_000,
         Op::Eq,
         LAST,
         [Some((LAST, LAST)), None],

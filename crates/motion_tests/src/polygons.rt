@@ -1,6 +1,6 @@
 use crate::made::{Ends, Spot, Way, ends, line, places};
-use fixed_point::Word;
-use polygon::{Polygon, PolygonFault, Regions};
+use fixed_point::{Fix, Slope, Word};
+use polygon::{Margin, Polygon, PolygonFault, Regions};
 use std::alloc::Global;
 use std::test::Fail;
 use tick_set::Window;
@@ -131,6 +131,84 @@ fn motions_through_polygons(rt: HostRuntime) -> Result<(), Fail> {
     for (corners, way, last, want) in CROSSED {
         let found = crossed(rt.alloc(), corners, way, last)?;
         assert_eq!(rt; found, want, "{way:?} through {corners:?}");
+    }
+    Ok(())
+}
+
+// The corner is cut off where x and y are 8000 together: of a margin it takes twice as much as the other sides.
+const CORNER: &[Spot] = &[(0, 0), (8_000, 0), (0, 8_000)];
+
+// A polygon, a motion, a margin at tick 0 and its rise, the last tick, and the ticks at which the motion is inside by it.
+const BY_MARGINS: [(&[Spot], Way, (i64, i64), u32, Option<Ends>); 14] = [
+    (SQUARE, (0, 0, 1_000, 0), (0, 0), 30, Some((10, 20))),
+    (SQUARE, (0, 0, 1_000, 0), (2_000, 0), 30, Some((12, 18))),
+    (SQUARE, (0, 0, 1_000, 0), (-2_000, 0), 30, Some((8, 22))),
+    (SQUARE, (0, 0, 1_000, 0), (5_000, 0), 30, Some((15, 15))),
+    (SQUARE, (0, 0, 1_000, 0), (5_001, 0), 30, None),
+    // A margin that rises by 100 from tick to tick, or falls.
+    (SQUARE, (0, 0, 1_000, 0), (0, 100), 30, Some((12, 18))),
+    (SQUARE, (0, 0, 1_000, 0), (-1_000, -100), 30, Some((9, 23))),
+    (SQUARE, (0, 0, 1_000, 0), (-1_000, 100), 30, Some((10, 19))),
+    // A side that isn't along an axis.
+    (CORNER, (1_000, 3_000, 500, 0), (1_000, 0), 30, Some((0, 4))),
+    (
+        CORNER,
+        (1_000, 3_000, 500, 0),
+        (-1_000, 0),
+        30,
+        Some((0, 12)),
+    ),
+    (
+        CORNER,
+        (1_000, 3_000, 500, 0),
+        (-1_000, -125),
+        30,
+        Some((0, 24)),
+    ),
+    // Coordinates and margins at the limits.
+    (WHOLE, (0, 0, 0, 0), (FAR, FAST), LAST, Some((0, 0))),
+    (
+        WHOLE,
+        (FAR, FAR, FAST, FAST),
+        (-FAR, -FAST),
+        LAST,
+        Some((0, LAST)),
+    ),
+    (
+        HALF,
+        (-FAR, -FAR, -FAST, -FAST),
+        (-FAR, -FAST),
+        LAST,
+        Some((0, LAST)),
+    ),
+];
+
+fn margin((first, rise): (i64, i64)) -> Option<Margin> {
+    Some(Margin {
+        first: Fix::of(first)?,
+        rise: Slope::of(rise)?,
+    })
+}
+
+fn inside_by(
+    alloc: Global,
+    corners: &[Spot],
+    way: Way,
+    by: (i64, i64),
+    last: u32,
+) -> Result<Option<Ends>, Fail> {
+    let line = line(way).ok_or("no motion")?;
+    let margin = margin(by).ok_or("no margin")?;
+    let w = Window::new(0, last).ok_or("no window")?;
+    let polygon = polygon(alloc, corners)?;
+    Ok(ends(polygon.inside_ticks_by(&line, &margin, w)))
+}
+
+#[test]
+fn motions_through_polygons_by_margins(rt: HostRuntime) -> Result<(), Fail> {
+    for (corners, way, by, last, want) in BY_MARGINS {
+        let found = inside_by(rt.alloc(), corners, way, by, last)?;
+        assert_eq!(rt; found, want, "{way:?} through {corners:?} by {by:?}");
     }
     Ok(())
 }

@@ -1,4 +1,4 @@
--- The ticks at which a moving point is not strictly on the right of an edge, and of each of several.
+-- The ticks at which a moving point is on the left of an edge, or on it, by a margin, and of each of several.
 use Rattle.std.proofs.Common.{◌≡◌, ℕ, suc, zero, ◌+◌, ◌-◌, ◌<◌, ◌≤◌, Bool, true, false, not, ◌&&◌, ◌||◌, ℤ, pos, negsuc, ◌+ℤ◌, ◌-ℤ◌, ◌*ℤ◌, ◌≤ℤ◌, Option, None, Some, List, [], ◌∷◌, refl, ap, sym, ◌∙◌, arith, option_to_list}
 use Rattle.std.specs.Prelude.{int_lt, int_le}
 use Rattle.std.proofs.lemmas.Bool.Decides.{nat_tests}
@@ -6,8 +6,9 @@ use Rattle.std.proofs.lemmas.Int.{ints}
 use Rattle.exact.proofs.Ring.{part, number, sum, difference, product, same, at_most}
 use Rattle.case_table.specs.declared.compare.Op.TheVariants.{Ge}
 use Rattle.fixed_point.specs.declared.number.Point.{Point}
+use Rattle.geometry.specs.Margin.{extent, is_left_by, is_within_by}
 use Rattle.geometry.specs.Plane.{cross, is_right_of}
-use Rattle.geometry.specs.Polygon.{edges_back_to, is_within}
+use Rattle.geometry.specs.Polygon.{counterclockwise_points, edges, edges_back_to, is_within}
 use Rattle.tick_set.specs.Runs.{IsRuns}
 use Rattle.tick_set.specs.Ticks.{within}
 use Rattle.tick_set.specs.declared.spans.Span.{Span}
@@ -15,6 +16,9 @@ use Rattle.tick_set.specs.declared.spans.Window.{Window}
 use Rattle.linear_crossing.specs.declared.linear.Pair.{Pair}
 use Rattle.linear_crossing.specs.declared.quad.Line.{Line}
 use Rattle.linear_crossing.specs.Moving.{position_after}
+use Rattle.polygon.specs.declared.margin.Margin.{Margin}
+use Rattle.polygon.specs.Inside.{is_inside_at}
+use Rattle.polygon.specs.Margin.{margin_after, is_inside_by_at}
 use Rattle.polygon.proofs.EdgeLemmas.{end_of, all_step, all_past}
 use Rattle.linear_crossing.specs.Zones.{line_at, solves, IsPairOf}
 
@@ -53,19 +57,33 @@ not_below v = grind (arith, ints)
 in_window : (lo hi t : ℕ) (f g : Bool) → (lo ≤ t → f ≡ g) → (within lo hi t && f) ≡ (within lo hi t && g)
 in_window lo hi t f g h = grind (arith, nat_tests)
 
--- the moving point is not strictly on the right of the edge from p to q, at a tick of the window
-abbrev pub is_beside : Point → Point → Line → Window → ℕ → Bool
-is_beside p q l w t = within w.lo w.hi t && not (is_right_of (p, q) (position_after l (t - w.lo)))
+-- the margin of an edge of the extent e, which rises by r from f on, taken from the cross product
+past_margin : (g c r f e k : ℤ) → (g -ℤ r *ℤ e) *ℤ k +ℤ (c -ℤ f *ℤ e) ≡ (g *ℤ k +ℤ c) -ℤ (f +ℤ r *ℤ k) *ℤ e
+past_margin g c r f e k =
+    same (sum (product (difference (part g) (product (part r) (part e))) (part k)) (difference (part c) (product (part f) (part e))))
+    (difference (sum (product (part g) (part k)) (part c)) (product (sum (part f) (product (part r) (part k))) (part e))) (omega arith)
 
-pub beside_by_sign : (p q : Point) (l : Line) (w : Window) (a b : ℤ) → a ≡ growth p q l → b ≡ cross p q l.at → (t : ℕ) → solves a b Ge w t ≡ is_beside p q l w t
-beside_by_sign p q l w a b e f t =
-    in_window w.lo w.hi t (int_le (pos 0) (line_at a b w.lo t)) (not (int_lt (cross p q (position_after l (t - w.lo))) (pos 0)))
+at_least : (v m : ℤ) → int_le (pos 0) (v -ℤ m) ≡ int_le m v
+at_least v m = grind (arith, ints)
+
+-- the moving point is on the left of the edge from p to q, or on it, by the margin, at a tick of the window
+abbrev pub is_beside : Point → Point → Line → Margin → Window → ℕ → Bool
+is_beside p q l m w t = within w.lo w.hi t && is_left_by (margin_after m (t - w.lo)) (p, q) (position_after l (t - w.lo))
+
+pub beside_by_sign : (p q : Point) (l : Line) (m : Margin) (w : Window) (a b : ℤ) → a ≡ growth p q l -ℤ m.rise *ℤ pos (extent (p, q)) → b ≡ cross p q l.at -ℤ m.first *ℤ pos (extent (p, q))
+    → (t : ℕ) → solves a b Ge w t ≡ is_beside p q l m w t
+beside_by_sign p q l m w a b e f t =
+    let width = margin_after m (t - w.lo) *ℤ pos (extent (p, q)) in
+    let there = cross p q (position_after l (t - w.lo)) in
+    in_window w.lo w.hi t (int_le (pos 0) (line_at a b w.lo t)) (int_le width there)
     (λ since.
     let ticks : pos t -ℤ pos w.lo ≡ pos (t - w.lo) = omega (arith, ints) in
-    let value : line_at a b w.lo t ≡ cross p q (position_after l (t - w.lo)) =
-    (λ i. e i *ℤ ticks i +ℤ f i) ∙ sym (cross_after p q l (t - w.lo))
+    let value : line_at a b w.lo t ≡ there -ℤ width =
+    (λ i. e i *ℤ ticks i +ℤ f i)
+    ∙ past_margin (growth p q l) (cross p q l.at) m.rise m.first (pos (extent (p, q))) (pos (t - w.lo))
+    ∙ ap (λ v. v -ℤ width) (sym (cross_after p q l (t - w.lo)))
     in
-    ap (int_le (pos 0)) value ∙ not_below (cross p q (position_after l (t - w.lo))))
+    ap (int_le (pos 0)) value ∙ at_least there width)
 
 -- ---- where a linear function is not negative at two ticks, it is so between them: there is one span
 not_above : (a : ℤ) (n : ℕ) → a ≤ℤ pos 0 → (a *ℤ pos n) ≤ℤ pos 0
@@ -130,62 +148,85 @@ runs_by : (f g : ℕ → Bool) (spans : List Span) → ((t : ℕ) → f t ≡ g 
 runs_by f g spans e h = record { normal = h.normal; ticks = λ t. h.ticks t ∙ e t }
 
 -- the first run of the solutions has the ticks at which the moving point is beside the edge
-pub beside_runs : (p q : Point) (l : Line) (w : Window) (a b : ℤ) (x : Pair) → a ≡ growth p q l → b ≡ cross p q l.at → IsPairOf (solves a b Ge w) x → IsRuns (is_beside p q l w) (option_to_list x.first)
-beside_runs p q l w a b x e f h = runs_by (solves a b Ge w) (is_beside p q l w) (option_to_list x.first) (beside_by_sign p q l w a b e f) (one_run a b w x.first x.second h)
+pub beside_runs : (p q : Point) (l : Line) (m : Margin) (w : Window) (a b : ℤ) (x : Pair) → a ≡ growth p q l -ℤ m.rise *ℤ pos (extent (p, q)) → b ≡ cross p q l.at -ℤ m.first *ℤ pos (extent (p, q))
+    → IsPairOf (solves a b Ge w) x → IsRuns (is_beside p q l m w) (option_to_list x.first)
+beside_runs p q l m w a b x e f h = runs_by (solves a b Ge w) (is_beside p q l m w) (option_to_list x.first) (beside_by_sign p q l m w a b e f) (one_run a b w x.first x.second h)
+
+-- ---- a margin of 0 is none
+no_width : (n : ℕ) → pos 0 *ℤ pos n ≡ pos 0
+no_width n = same (product (number 0) (number n)) (number 0) (omega arith)
+
+left_by_0 : (p : Point) (s : Point × Point) → is_left_by (pos 0) s p ≡ not (is_right_of s p)
+left_by_0 p s = ap (λ z. int_le z (cross s.0 s.1 p)) (no_width (extent s)) ∙ not_below (cross s.0 s.1 p)
+
+pub within_by_0 : (sides : List (Point × Point)) (p : Point) → is_within_by (pos 0) sides p ≡ is_within sides p
+within_by_0 [] p = refl
+within_by_0 (s ∷ sides) p = λ i. left_by_0 p s i && within_by_0 sides p i
+
+no_rise : (f r : ℤ) (k : ℕ) → f ≡ pos 0 → r ≡ pos 0 → f +ℤ r *ℤ pos k ≡ pos 0
+no_rise f r k e g = (λ i. e i +ℤ g i *ℤ pos k) ∙ ap (λ z. pos 0 +ℤ z) (no_width k)
+
+pub without_margin : (points : List Point) (l : Line) (m : Margin) (w : Window) (spans : List Span) → m.first ≡ pos 0 → m.rise ≡ pos 0 → IsRuns (is_inside_by_at points l m w) spans → IsRuns (is_inside_at points l w) spans
+without_margin points l m w spans e f h =
+    let sides = edges (counterclockwise_points points) in
+    runs_by (is_inside_by_at points l m w) (is_inside_at points l w) spans
+    (λ t. let p = position_after l (t - w.lo) in
+    ap (λ b. within w.lo w.hi t && b) (ap (λ z. is_within_by z sides p) (no_rise m.first m.rise (t - w.lo) e f) ∙ within_by_0 sides p))
+    h
 
 -- ---- the edges one after another
-abbrev pub is_within_at : Point → List Point → Line → Window → ℕ → Bool
-is_within_at first points l w t = is_within (edges_back_to first points) (position_after l (t - w.lo))
+abbrev pub is_within_at : Point → List Point → Line → Margin → Window → ℕ → Bool
+is_within_at first points l m w t = is_within_by (margin_after m (t - w.lo)) (edges_back_to first points) (position_after l (t - w.lo))
 
 -- where the span that is kept has the ticks that passed the edges before the rest
-pub record Narrowed (first : Point) (points rest : List Point) (l : Line) (w : Window) (kept : Span) : Type 0 where
-  pub ticks : (t : ℕ) → (within kept.lo kept.hi t && is_within_at first rest l w t) ≡ (within w.lo w.hi t && is_within_at first points l w t)
+pub record Narrowed (first : Point) (points rest : List Point) (l : Line) (m : Margin) (w : Window) (kept : Span) : Type 0 where
+  pub ticks : (t : ℕ) → (within kept.lo kept.hi t && is_within_at first rest l m w t) ≡ (within w.lo w.hi t && is_within_at first points l m w t)
 
-pub narrowed_first : (first : Point) (points : List Point) (l : Line) (w : Window) (kept : Span) → kept.lo ≡ w.lo → kept.hi ≡ w.hi → Narrowed first points points l w kept
-narrowed_first first points l w kept e f = record { ticks = λ t. ap (λ b. b && is_within_at first points l w t) (λ i. within (e i) (f i) t) }
+pub narrowed_first : (first : Point) (points : List Point) (l : Line) (m : Margin) (w : Window) (kept : Span) → kept.lo ≡ w.lo → kept.hi ≡ w.hi → Narrowed first points points l m w kept
+narrowed_first first points l m w kept e f = record { ticks = λ t. ap (λ b. b && is_within_at first points l m w t) (λ i. within (e i) (f i) t) }
 
 both_tests : (k x r d q : Bool) → (k && (r && d)) ≡ (x && q) → ((k && (x && r)) && d) ≡ (x && q)
 both_tests true true r d q h = h
 both_tests true false r d q h = refl
 both_tests false x r d q h = h
 
-step_ticks : (first start : Point) (points rest later : List Point) (l : Line) (w : Window) (kept : Span) (t : ℕ) → Narrowed first points rest l w kept → rest ≡ start ∷ later
-    → ((within kept.lo kept.hi t && is_beside start (end_of first later) l w t) && is_within_at first later l w t) ≡ (within w.lo w.hi t && is_within_at first points l w t)
-step_ticks first start points rest later l w kept t h e =
-    both_tests (within kept.lo kept.hi t) (within w.lo w.hi t) (not (is_right_of (start, end_of first later) (position_after l (t - w.lo)))) (is_within_at first later l w t) (is_within_at first points l w t)
-    (ap (λ b. within kept.lo kept.hi t && b) (sym (all_step (λ (s : Point × Point). not (is_right_of s (position_after l (t - w.lo)))) first start rest later e)) ∙ h.ticks t)
+step_ticks : (first start : Point) (points rest later : List Point) (l : Line) (m : Margin) (w : Window) (kept : Span) (t : ℕ) → Narrowed first points rest l m w kept → rest ≡ start ∷ later
+    → ((within kept.lo kept.hi t && is_beside start (end_of first later) l m w t) && is_within_at first later l m w t) ≡ (within w.lo w.hi t && is_within_at first points l m w t)
+step_ticks first start points rest later l m w kept t h e =
+    both_tests (within kept.lo kept.hi t) (within w.lo w.hi t) (is_left_by (margin_after m (t - w.lo)) (start, end_of first later) (position_after l (t - w.lo))) (is_within_at first later l m w t) (is_within_at first points l m w t)
+    (ap (λ b. within kept.lo kept.hi t && b) (sym (all_step (λ (s : Point × Point). is_left_by (margin_after m (t - w.lo)) s (position_after l (t - w.lo))) first start rest later e)) ∙ h.ticks t)
 
-pub narrowed_step : (first start : Point) (points rest later : List Point) (l : Line) (w : Window) (kept ticks new : Span) → Narrowed first points rest l w kept → rest ≡ start ∷ later
-    → IsRuns (is_beside start (end_of first later) l w) (ticks ∷ []) → IsRuns (λ t. within kept.lo kept.hi t && within ticks.lo ticks.hi t) (new ∷ []) → Narrowed first points later l w new
-narrowed_step first start points rest later l w kept ticks new h e g m = record {
+pub narrowed_step : (first start : Point) (points rest later : List Point) (l : Line) (m : Margin) (w : Window) (kept ticks new : Span) → Narrowed first points rest l m w kept → rest ≡ start ∷ later
+    → IsRuns (is_beside start (end_of first later) l m w) (ticks ∷ []) → IsRuns (λ t. within kept.lo kept.hi t && within ticks.lo ticks.hi t) (new ∷ []) → Narrowed first points later l m w new
+narrowed_step first start points rest later l m w kept ticks new h e g met = record {
   ticks = λ t.
-      ap (λ b. b && is_within_at first later l w t) (sym (or_false (within new.lo new.hi t)) ∙ m.ticks t ∙ ap (λ b. within kept.lo kept.hi t && b) (sym (or_false (within ticks.lo ticks.hi t)) ∙ g.ticks t))
-      ∙ step_ticks first start points rest later l w kept t h e;
+      ap (λ b. b && is_within_at first later l m w t) (sym (or_false (within new.lo new.hi t)) ∙ met.ticks t ∙ ap (λ b. within kept.lo kept.hi t && b) (sym (or_false (within ticks.lo ticks.hi t)) ∙ g.ticks t))
+      ∙ step_ticks first start points rest later l m w kept t h e;
 }
 
 nothing : (k b d q : Bool) → ((k && b) && d) ≡ q → false ≡ (k && b) → false ≡ q
 nothing k b d q h e = ap (λ v. v && d) e ∙ h
 
 -- no tick passes the edge
-pub narrowed_out : (first start : Point) (points rest later : List Point) (l : Line) (w : Window) (kept : Span) → Narrowed first points rest l w kept → rest ≡ start ∷ later
-    → IsRuns (is_beside start (end_of first later) l w) [] → IsRuns (λ t. within w.lo w.hi t && is_within_at first points l w t) []
-narrowed_out first start points rest later l w kept h e g = record {
+pub narrowed_out : (first start : Point) (points rest later : List Point) (l : Line) (m : Margin) (w : Window) (kept : Span) → Narrowed first points rest l m w kept → rest ≡ start ∷ later
+    → IsRuns (is_beside start (end_of first later) l m w) [] → IsRuns (λ t. within w.lo w.hi t && is_within_at first points l m w t) []
+narrowed_out first start points rest later l m w kept h e g = record {
   normal = tt;
-  ticks = λ t. nothing (within kept.lo kept.hi t) (is_beside start (end_of first later) l w t) _ _ (step_ticks first start points rest later l w kept t h e)
-      (sym (and_false (within kept.lo kept.hi t) (is_beside start (end_of first later) l w t) (sym (g.ticks t))));
+  ticks = λ t. nothing (within kept.lo kept.hi t) (is_beside start (end_of first later) l m w t) _ _ (step_ticks first start points rest later l m w kept t h e)
+      (sym (and_false (within kept.lo kept.hi t) (is_beside start (end_of first later) l m w t) (sym (g.ticks t))));
 }
 
 -- no tick that is kept passes the edge
-pub narrowed_apart : (first start : Point) (points rest later : List Point) (l : Line) (w : Window) (kept ticks : Span) → Narrowed first points rest l w kept → rest ≡ start ∷ later
-    → IsRuns (is_beside start (end_of first later) l w) (ticks ∷ []) → IsRuns (λ t. within kept.lo kept.hi t && within ticks.lo ticks.hi t) [] → IsRuns (λ t. within w.lo w.hi t && is_within_at first points l w t) []
-narrowed_apart first start points rest later l w kept ticks h e g m = record {
+pub narrowed_apart : (first start : Point) (points rest later : List Point) (l : Line) (m : Margin) (w : Window) (kept ticks : Span) → Narrowed first points rest l m w kept → rest ≡ start ∷ later
+    → IsRuns (is_beside start (end_of first later) l m w) (ticks ∷ []) → IsRuns (λ t. within kept.lo kept.hi t && within ticks.lo ticks.hi t) [] → IsRuns (λ t. within w.lo w.hi t && is_within_at first points l m w t) []
+narrowed_apart first start points rest later l m w kept ticks h e g met = record {
   normal = tt;
-  ticks = λ t. nothing (within kept.lo kept.hi t) (is_beside start (end_of first later) l w t) _ _ (step_ticks first start points rest later l w kept t h e)
-      (m.ticks t ∙ ap (λ b. within kept.lo kept.hi t && b) (sym (or_false (within ticks.lo ticks.hi t)) ∙ g.ticks t));
+  ticks = λ t. nothing (within kept.lo kept.hi t) (is_beside start (end_of first later) l m w t) _ _ (step_ticks first start points rest later l m w kept t h e)
+      (met.ticks t ∙ ap (λ b. within kept.lo kept.hi t && b) (sym (or_false (within ticks.lo ticks.hi t)) ∙ g.ticks t));
 }
 
-pub narrowed_last : (first : Point) (points rest : List Point) (l : Line) (w : Window) (kept : Span) → Narrowed first points rest l w kept → rest ≡ [] → IsRuns (λ t. within w.lo w.hi t && is_within_at first points l w t) (kept ∷ [])
-narrowed_last first points rest l w kept h e = record {
+pub narrowed_last : (first : Point) (points rest : List Point) (l : Line) (m : Margin) (w : Window) (kept : Span) → Narrowed first points rest l m w kept → rest ≡ [] → IsRuns (λ t. within w.lo w.hi t && is_within_at first points l m w t) (kept ∷ [])
+narrowed_last first points rest l m w kept h e = record {
   normal = (omega arith, tt);
-  ticks = λ t. or_false (within kept.lo kept.hi t) ∙ sym (and_true (within kept.lo kept.hi t)) ∙ ap (λ b. within kept.lo kept.hi t && b) (sym (all_past (λ (s : Point × Point). not (is_right_of s (position_after l (t - w.lo)))) first rest e)) ∙ h.ticks t;
+  ticks = λ t. or_false (within kept.lo kept.hi t) ∙ sym (and_true (within kept.lo kept.hi t)) ∙ ap (λ b. within kept.lo kept.hi t && b) (sym (all_past (λ (s : Point × Point). is_left_by (margin_after m (t - w.lo)) s (position_after l (t - w.lo))) first rest e)) ∙ h.ticks t;
 }

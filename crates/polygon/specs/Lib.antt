@@ -2,4 +2,5 @@ pub mod Bounds
 pub mod Faults
 pub mod Given
 pub mod Inside
+pub mod Margin
 pub mod Named

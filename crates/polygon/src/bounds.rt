@@ -23,8 +23,8 @@ fn least_of(p: Point, q: &Point) -> Point
     ensures { result ≡ point (int_min p.x q.now.x) (int_min p.y q.now.y) }
 {
     Point {
-        x: lesser(p.x, q.x),
-        y: lesser(p.y, q.y),
+        x: p.x.lesser(q.x),
+        y: p.y.lesser(q.y),
     }
 }
 
@@ -32,19 +32,7 @@ fn greatest_of(p: Point, q: &Point) -> Point
     ensures { result ≡ point (int_max p.x q.now.x) (int_max p.y q.now.y) }
 {
     Point {
-        x: greater(p.x, q.x),
-        y: greater(p.y, q.y),
+        x: p.x.greater(q.x),
+        y: p.y.greater(q.y),
     }
-}
-
-fn lesser(a: Fix, b: Fix) -> Fix
-    ensures { result ≡ int_min a b }
-{
-    if b < a { b } else { a }
-}
-
-fn greater(a: Fix, b: Fix) -> Fix
-    ensures { result ≡ int_max a b }
-{
-    if a < b { b } else { a }
 }

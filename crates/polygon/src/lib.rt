@@ -7,11 +7,16 @@ mod bounds;
 mod crossing;
 mod fault;
 mod laws;
+mod margin;
 mod named;
 mod shape;
 mod sides;
 
 pub use fault::PolygonFault;
-pub use laws::{limits_in_numbers, polygons_lie_among_their_vertices};
+pub use laws::{
+    corners_stand_together, limits_in_numbers, near_places_stand_together,
+    polygons_lie_among_their_vertices,
+};
+pub use margin::Margin;
 pub use named::{REGION_LIMIT, Regions};
 pub use shape::Polygon;

@@ -6,11 +6,13 @@ ghost use Rattle.polygon.specs.Bounds.{AreBounds};
 ghost use Rattle.polygon.specs.Faults.{Explains, IsPolygon};
 ghost use Rattle.polygon.specs.Given.{given, IsStoredPolygon};
 ghost use Rattle.polygon.specs.Inside.{is_inside_at};
+ghost use Rattle.polygon.specs.Margin.{is_inside_by_at};
 ghost use Rattle.polygon.specs.declared.fault.PolygonFault.TheVariants.{NoMemory};
 
 use crate::bounds::bounds_of;
 use crate::crossing::ticks_within;
 use crate::fault::PolygonFault;
+use crate::margin::Margin;
 use crate::sides::{end_of_edge, is_counterclockwise, is_within};
 use fixed_point::Point;
 use geometry::{LEAST_VERTICES, VERTEX_LIMIT};
@@ -101,7 +103,15 @@ impl Polygon {
     pub fn inside_ticks(&self, l: &Line, w: Window) -> Option<Span>
         ensures { IsRuns (is_inside_at self.now l.now w) (option_to_list result) }
     {
-        ticks_within(&self.points[0], &self.points, l, w)
+        self.inside_ticks_by(l, &Margin::none(), w)
+    }
+
+    /// The ticks of the window at which the moving point is inside by the margin of that tick: one span, None
+    /// exactly where there is no such tick. It takes no memory.
+    pub fn inside_ticks_by(&self, l: &Line, margin: &Margin, w: Window) -> Option<Span>
+        ensures { IsRuns (is_inside_by_at self.now l.now margin.now w) (option_to_list result) }
+    {
+        ticks_within(&self.points[0], &self.points, l, margin, w)
     }
 
     /// The two ends of an edge, in its direction: the edge that begins at point `i`, counted from 0, of the

@@ -5,4 +5,4 @@ use Rattle.polygon.proofs.crossing.ticks_left_of.Goals as goal
 
 pub returns : goal.returns
 returns c =
-    beside_runs c.args.start.now c.args.end.now c.args.l.now c.args.w _ _ c.solve.result (grind (arith, steps)) (grind (arith, steps)) c.solve.ensures
+    beside_runs c.args.start.now c.args.end.now c.args.l.now c.args.margin.now c.args.w _ _ c.solve.result (grind (arith, steps)) (grind (arith, steps)) c.solve.ensures
