@@ -19,7 +19,7 @@ pub enum Op {
 }
 
 impl Op {
-    /// The place of the comparison in the order of its declaration, from 0 to 5.
+    /// The place of the comparison in the order of its declaration, from 0 to 5: its code in `comparisons`.
     #[inline]
     pub fn code(self) -> u8
         ensures { result ≡ op_code self }
@@ -42,25 +42,11 @@ impl Op {
             Op::Gt => sign > 0,
         }
     }
-
-    /// Whether `left op right` holds.
-    #[inline]
-    pub fn compares(self, left: i128, right: i128) -> bool
-        ensures { result ≡ compares self left right }
-    {
-        match self {
-            Op::Lt => left < right,
-            Op::Le => left <= right,
-            Op::Eq => left == right,
-            Op::Ne => left != right,
-            Op::Ge => left >= right,
-            Op::Gt => left > right,
-        }
-    }
 }
 
 /// A table of codes, no two alike, each with a truth for the signs -1, 0 and 1. A contract sees the
-/// rows in their order.
+/// rows in their order. It gives the comparisons as data, for who prints or checks a language; the program itself
+/// asks `Op::holds`.
 #[derive(Clone, Copy, Debug)]
 pub struct Signs<const N: usize> {
     rows: [(u8, bool, bool, bool); N],
@@ -130,7 +116,7 @@ impl<const N: usize> Signs<N> {
     }
 }
 
-/// The truth of the comparisons by the sign of left minus right, each under the code of its `Op`.
+/// The truth of the comparisons by the sign of left minus right, each under the code of its `Op`. Tests alone call it.
 pub fn comparisons() -> Signs<6>
     ensures rows { result ≡ comparison_rows }
     ensures meaning { (op : Op) (sign : ℤ) → truth_of result (op_code op) sign ≡ Some (sign_holds op sign) }

@@ -28,7 +28,7 @@ macro_rules! table_from {
 }
 
 /// The reserved words: the words of queries, the sub-attributes, the commands and the parts of
-/// commands. The code of a word is its place in this list, from 0.
+/// commands. The code of a word is its place in this list, from 0. Tests alone call it.
 #[tactic(auto, unfolding(crate::specs::Language::reserved_words))]
 pub fn words() -> Table<48>
     ensures { result ≡ reserved_words }
@@ -43,7 +43,7 @@ pub fn words() -> Table<48>
         b"point" b"num" b"text" b"dyn" b"at" b"move" b"rate")
 }
 
-/// The symbols. The code of a symbol is its place in this list, from 0.
+/// The symbols. The code of a symbol is its place in this list, from 0. Tests alone call it.
 #[tactic(auto, unfolding(crate::specs::Language::symbols))]
 pub fn symbols() -> Table<16>
     ensures { result ≡ symbols }
@@ -53,7 +53,7 @@ pub fn symbols() -> Table<16>
 }
 
 /// The names of the refusals, in the order in which they are judged. The code of a name is the number
-/// of the refusal, from 1.
+/// of the refusal, from 1. Tests alone call it.
 #[tactic(auto, unfolding(crate::specs::Language::refusal_names))]
 pub fn refusals() -> Table<20>
     ensures { result ≡ refusal_names }

@@ -77,7 +77,8 @@ fn word_in(rows: &[Row], code: u8) -> Option<&[u8]>
 }
 
 /// A table of at most `N` rows, each with a word of at most 20 bytes and a code. No two rows have the
-/// same word or the same code. A contract sees the rows in the order in which they were added.
+/// same word or the same code. A contract sees the rows in the order in which they were added. It gives the fixed
+/// words as data; the program itself asks `reserved_code`.
 #[derive(Drop)]
 pub struct Table<const N: usize> {
     rows: [Row; N],
