@@ -1,4 +1,4 @@
--- The rows of a query's targets are those of its answer.
+-- The rows of a query's targets are those of its answer, by any test of assignments.
 use Rattle.std.proofs.Common.{◌≡◌, ℕ, ◌+◌, ◌-◌, ◌<◌, ◌≤◌, Bool, true, false, not, ◌&&◌, ◌||◌, List, [], ◌∷◌, length, map, get_or, refl, sym, ap, ◌∙◌, subst, inl, inr, arith, if◌then◌else◌}
 use Rattle.std.specs.Prelude.{◌==◌, nat_lt, slice_index}
 use Rattle.std.specs.List.{filter, list_all, list_any, range_with_len}
@@ -16,12 +16,13 @@ use Rattle.tick_set.proofs.Between.{any_between_at, any_between_found, same_test
 use Rattle.history.specs.Catalog.{ids_of as ids_of_class}
 use Rattle.history.specs.World.{World}
 use Rattle.formula.specs.Tree.{ResolvedQuery}
-use Rattle.meaning.specs.Answer.{answer, has_ticks, row_where}
+use Rattle.meaning.specs.Answer.{answer_where, has_ticks, row_where}
 use Rattle.meaning.specs.Answer as answers
-use Rattle.meaning.specs.Binding.{holds_full, holds_target, tuple_of}
+use Rattle.meaning.specs.Binding.{target_where, tuple_of}
 use Rattle.relation.specs.declared.row.Row.{Row}
 use Rattle.relation.specs.Frames.{IsIn}
-use Rattle.relation.specs.Key.{are_distinct, has_id, ids_of, key_in}
+use Rattle.formula.specs.Resolved.{are_distinct}
+use Rattle.relation.specs.Key.{has_id, ids_of, key_in}
 use Rattle.relation.specs.Order.{has_row, keys_over}
 use Rattle.relation.specs.Projection.{IsPicked}
 use Rattle.relation.specs.Rows.{Table, has, has_at}
@@ -106,10 +107,11 @@ has_below n v has_v =
     let same : s.tick ≡ v = grind (arith, nat_tests, s.passes) in
     omega (arith, below, same)
 
-module _ (w : World) (q : ResolvedQuery) (targets : list_all (λ v. nat_lt v (length q.classes)) q.targets ≡ true) (distinct : are_distinct q.targets ≡ true)
+module _ (w : World) (q : ResolvedQuery) (holds : (ℕ → ℕ) → ℕ → Bool)
+    (targets : list_all (λ v. nat_lt v (length q.classes)) q.targets ≡ true) (distinct : are_distinct q.targets ≡ true)
     (lo hi : ℕ) (order : lo ≤ hi) (last : hi ≤ LAST_TICK) (full r : Table (List Span))
     (domains : full.domains ≡ map (ids_of_class w.history.catalog) q.classes) (vars : full.vars ≡ between 0 (length q.classes))
-    (full_ticks : (b : ℕ → ℕ) → IsIn full.domains b → (t : ℕ) → has spans_have full b t ≡ (within lo hi t && holds_full w q hi b t))
+    (full_ticks : (b : ℕ → ℕ) → IsIn full.domains b → (t : ℕ) → has spans_have full b t ≡ (within lo hi t && holds b t))
     (full_inside : (key : List ℕ) (t : ℕ) → has_at spans_have full.rows key t ≡ true → key_in full.domains full.vars key ≡ true)
     (r_vars : r.vars ≡ q.targets) (r_domains : r.domains ≡ map (ids_of_class w.history.catalog) q.classes)
     (all : (b : ℕ → ℕ) (t : ℕ) → has spans_have full b t ≡ true → has spans_have r b t ≡ true)
@@ -122,9 +124,9 @@ module _ (w : World) (q : ResolvedQuery) (targets : list_all (λ v. nat_lt v (le
   unfolding lists
   many = length-map q.classes (ids_of_class w.history.catalog)
 
-  -- a binding that has the tick in the relation over all variables is one of the query, and satisfies it
+  -- an assignment that has the tick in the relation over all variables is one of the query, and passes the test
   at_other : (b : ℕ → ℕ) (t : ℕ) → has spans_have full b t ≡ true →
-      (within lo hi t ≡ true) × (holds_target w q hi (map b q.targets) t ≡ true)
+      (within lo hi t ≡ true) × (target_where w q holds (map b q.targets) t ≡ true)
   unfolding lists
   at_other b t has_it =
       let bound = map b (between 0 (length q.classes)) in
@@ -140,24 +142,24 @@ module _ (w : World) (q : ResolvedQuery) (targets : list_all (λ v. nat_lt v (le
       let there : has spans_have full (slice_index bound) t ≡ true =
       ap (λ (key : List ℕ). has_at spans_have full.rows key t)
       (same_key full.vars (slice_index bound) b (λ v has_v. same v (below_vars v has_v))) ∙ has_it in
-      let holds = and_parts (within lo hi t) (holds_full w q hi (slice_index bound) t) (sym (full_ticks (slice_index bound) is_in t) ∙ there) in
+      let both = and_parts (within lo hi t) (holds (slice_index bound) t) (sym (full_ticks (slice_index bound) is_in t) ∙ there) in
       let tuple : tuple_of q bound ≡ map b q.targets =
       same_key q.targets (slice_index bound) b (λ v has_v. same v (each_below (length q.classes) q.targets targets v has_v)) in (
-        holds.0,
-        product_any (λ c. bytes_eq (tuple_of q c) (map b q.targets) && holds_full w q hi (slice_index c) t) lists bound
+        both.0,
+        product_any (λ c. bytes_eq (tuple_of q c) (map b q.targets) && holds (slice_index c) t) lists bound
             (members_upto lists b in_lists (length q.classes) (sym many))
-            (and_from (bytes_eq (tuple_of q bound) (map b q.targets)) (holds_full w q hi (slice_index bound) t)
-            (ap (λ (k : List ℕ). bytes_eq k (map b q.targets)) tuple ∙ bytes_eq_refl (map b q.targets)) holds.1),
+            (and_from (bytes_eq (tuple_of q bound) (map b q.targets)) (holds (slice_index bound) t)
+            (ap (λ (k : List ℕ). bytes_eq k (map b q.targets)) tuple ∙ bytes_eq_refl (map b q.targets)) both.1),
       )
     where
       below_vars : (v : ℕ) → has_id full.vars v ≡ true → v < length q.classes
       below_vars v has_v =
           has_below (length q.classes) v (ap (λ (us : List ℕ). has_id us v) (sym vars) ∙ has_v)
 
-  target_ticks : (key : List ℕ) (t : ℕ) → has_at spans_have r.rows key t ≡ (within lo hi t && holds_target w q hi key t)
-  target_ticks key t = same_test (has_at spans_have r.rows key t) (within lo hi t && holds_target w q hi key t) to from
+  target_ticks : (key : List ℕ) (t : ℕ) → has_at spans_have r.rows key t ≡ (within lo hi t && target_where w q holds key t)
+  target_ticks key t = same_test (has_at spans_have r.rows key t) (within lo hi t && target_where w q holds key t) to from
     where
-      to : has_at spans_have r.rows key t ≡ true → (within lo hi t && holds_target w q hi key t) ≡ true
+      to : has_at spans_have r.rows key t ≡ true → (within lo hi t && target_where w q holds key t) ≡ true
       to there =
           let b : ℕ → ℕ = assigned q.targets key in
           let inside : key_in r.domains q.targets key ≡ true =
@@ -168,8 +170,8 @@ module _ (w : World) (q : ResolvedQuery) (targets : list_all (λ v. nat_lt v (le
           let picked = some b t here in
           let target : map picked.other q.targets ≡ key = same_key q.targets picked.other b (λ v has_v. picked.same v (kept_variable v has_v)) ∙ is in
           let found = at_other picked.other t picked.here in
-          and_from (within lo hi t) (holds_target w q hi key t) found.0
-          (ap (λ (k : List ℕ). holds_target w q hi k t) (sym target) ∙ found.1)
+          and_from (within lo hi t) (target_where w q holds key t) found.0
+          (ap (λ (k : List ℕ). target_where w q holds k t) (sym target) ∙ found.1)
         where
           not_both : (x y : Bool) → y ≡ true → (x && not y) ≡ false
           not_both true true is = refl
@@ -179,17 +181,17 @@ module _ (w : World) (q : ResolvedQuery) (targets : list_all (λ v. nat_lt v (le
           kept_variable : (v : ℕ) → has_id q.targets v ≡ true → (has_id full.vars v && not (has_id q.targets v)) ≡ false
           kept_variable v has_v = not_both (has_id full.vars v) (has_id q.targets v) has_v
 
-      from : (within lo hi t && holds_target w q hi key t) ≡ true → has_at spans_have r.rows key t ≡ true
-      from holds =
-          let parts = and_parts (within lo hi t) (holds_target w q hi key t) holds in
-          let s = product_found (λ c. bytes_eq (tuple_of q c) key && holds_full w q hi (slice_index c) t) (map (ids_of_class w.history.catalog) q.classes) parts.1 in
-          let both = and_parts (bytes_eq (tuple_of q s.choice) key) (holds_full w q hi (slice_index s.choice) t) s.passes in
+      from : (within lo hi t && target_where w q holds key t) ≡ true → has_at spans_have r.rows key t ≡ true
+      from passes =
+          let parts = and_parts (within lo hi t) (target_where w q holds key t) passes in
+          let s = product_found (λ c. bytes_eq (tuple_of q c) key && holds (slice_index c) t) (map (ids_of_class w.history.catalog) q.classes) parts.1 in
+          let both = and_parts (bytes_eq (tuple_of q s.choice) key) (holds (slice_index s.choice) t) s.passes in
           let is_in : IsIn full.domains (slice_index s.choice) = λ v within.
           let l : length full.domains ≡ length (map (ids_of_class w.history.catalog) q.classes) = ap length domains in
           ap (λ (d : List (List ℕ)). has_id (ids_of d v) (slice_index s.choice v)) domains
           ∙ member_at (map (ids_of_class w.history.catalog) q.classes) s.choice s.are v (omega (arith, within, l)) in
           let there : has spans_have full (slice_index s.choice) t ≡ true =
-          full_ticks (slice_index s.choice) is_in t ∙ and_from (within lo hi t) (holds_full w q hi (slice_index s.choice) t) parts.0 both.1 in
+          full_ticks (slice_index s.choice) is_in t ∙ and_from (within lo hi t) (holds (slice_index s.choice) t) parts.0 both.1 in
           ap (λ (k : List ℕ). has_at spans_have r.rows k t) (sym (bytes_eq_true (tuple_of q s.choice) key both.0))
           ∙ ap (λ (us : List ℕ). has_at spans_have r.rows (map (slice_index s.choice) us) t) (sym r_vars)
           ∙ all (slice_index s.choice) t there
@@ -198,33 +200,33 @@ module _ (w : World) (q : ResolvedQuery) (targets : list_all (λ v. nat_lt v (le
   made_row : List ℕ → (ℕ → Bool) → answers.Row
   made_row key p = record { key = key; runs = runs_of (listed p 0 LAST_TICK) }
 
-  same_row : (key : List ℕ) → made_row key (has_at spans_have r.rows key) ≡ row_where (holds_target w q hi) lo hi key
+  same_row : (key : List ℕ) → made_row key (has_at spans_have r.rows key) ≡ row_where (target_where w q holds) lo hi key
   unfolding made_row
   same_row key =
       ap (λ (ticks : List ℕ). record { key = key; runs = runs_of ticks })
-      (narrowed (has_at spans_have r.rows key) (holds_target w q hi key) lo hi LAST_TICK last order (target_ticks key))
+      (narrowed (has_at spans_have r.rows key) (target_where w q holds key) lo hi LAST_TICK last order (target_ticks key))
 
-  kept_row : (key : List ℕ) → has_row r.rows key ≡ has_ticks (row_where (holds_target w q hi) lo hi key).runs
-  kept_row key = same_test (has_row r.rows key) (has_ticks (row_where (holds_target w q hi) lo hi key).runs) to from
+  kept_row : (key : List ℕ) → has_row r.rows key ≡ has_ticks (row_where (target_where w q holds) lo hi key).runs
+  kept_row key = same_test (has_row r.rows key) (has_ticks (row_where (target_where w q holds) lo hi key).runs) to from
     where
-      to : has_row r.rows key ≡ true → has_ticks (row_where (holds_target w q hi) lo hi key).runs ≡ true
+      to : has_row r.rows key ≡ true → has_ticks (row_where (target_where w q holds) lo hi key).runs ≡ true
       to there =
-          elim (cases_Bool (has_ticks (row_where (holds_target w q hi) lo hi key).runs)) [
+          elim (cases_Bool (has_ticks (row_where (target_where w q holds) lo hi key).runs)) [
             | inl is ↦ is
-            | inr not' ↦ absurd (in_order.some key there (λ t. target_ticks key t ∙ no_ticks_from (holds_target w q hi key) lo hi not' t))
+            | inr not' ↦ absurd (in_order.some key there (λ t. target_ticks key t ∙ no_ticks_from (target_where w q holds key) lo hi not' t))
           ]
 
-      from : has_ticks (row_where (holds_target w q hi) lo hi key).runs ≡ true → has_row r.rows key ≡ true
+      from : has_ticks (row_where (target_where w q holds) lo hi key).runs ≡ true → has_row r.rows key ≡ true
       from ticks =
           elim (cases_Bool (has_row r.rows key)) [
             | inl is ↦ is
-            | inr not' ↦ absurd (some_ticks_from (holds_target w q hi key) lo hi ticks (λ t. sym (target_ticks key t) ∙ in_order.none key not' t))
+            | inr not' ↦ absurd (some_ticks_from (target_where w q holds key) lo hi ticks (λ t. sym (target_ticks key t) ∙ in_order.none key not' t))
           ]
 
-  pub rows_are_the_answer : told_rows r.rows ≡ answer w q lo hi
+  pub rows_are_the_answer : told_rows r.rows ≡ answer_where w q holds lo hi
   unfolding made_row
   rows_are_the_answer =
       told_in_order spans_have made_row r.rows (filter (has_row r.rows) (keys_over r.domains r.vars)) in_order.keys in_order.ticks
-      ∙ kept_made (has_row r.rows) (λ key. made_row key (has_at spans_have r.rows key)) (row_where (holds_target w q hi) lo hi) (λ row. has_ticks row.runs) same_row kept_row (keys_over r.domains r.vars)
-      ∙ ap (λ (keys : List (List ℕ)). filter (λ row. has_ticks row.runs) (map (row_where (holds_target w q hi) lo hi) keys))
+      ∙ kept_made (has_row r.rows) (λ key. made_row key (has_at spans_have r.rows key)) (row_where (target_where w q holds) lo hi) (λ row. has_ticks row.runs) same_row kept_row (keys_over r.domains r.vars)
+      ∙ ap (λ (keys : List (List ℕ)). filter (λ row. has_ticks row.runs) (map (row_where (target_where w q holds) lo hi) keys))
       ((λ i. keys_over (r_domains i) (r_vars i)) ∙ keys_are_tuples (ids_of_class w.history.catalog) q.classes q.targets targets)

@@ -1,14 +1,14 @@
 -- Choices of one member of each of some lists, and the keys of relations as such choices.
-use Rattle.std.proofs.Common.{◌≡◌, ℕ, zero, suc, ◌+◌, ◌<◌, Bool, true, false, not, ◌&&◌, ◌||◌, List, [], ◌∷◌, length, map, refl, sym, ap, ◌∙◌, inl, inr, arith, if◌then◌else◌}
+use Rattle.std.proofs.Common.{◌≡◌, ℕ, zero, suc, ◌+◌, ◌<◌, Bool, true, false, not, ◌||◌, List, [], ◌∷◌, length, map, refl, sym, ap, ◌∙◌, inl, inr, arith, if◌then◌else◌}
 use Rattle.std.specs.Prelude.{◌==◌, nat_lt, slice_index}
 use Rattle.std.specs.List.{flat_map, list_all, list_any, range_with_len}
 use Rattle.std.proofs.lemmas.Bool.{false≢true, and_from, and_parts, or_cases, or_left, or_parts, or_right}
 use Rattle.std.proofs.lemmas.Bool.Decides.{nat_tests}
 use Rattle.std.proofs.lemmas.List.Folds.{list_any-append}
-use Rattle.relation.specs.Key.{are_distinct, has_id, ids_of, key_in}
+use Rattle.formula.specs.Resolved.{are_distinct}
+use Rattle.relation.specs.Key.{has_id, ids_of, key_in}
 use Rattle.relation.specs.Order.{keys_over}
 use Rattle.meaning.specs.Binding.{product}
-use Rattle.formula.specs.Resolved as resolved
 use Rattle.answers.proofs.ObjectLemmas.{domain_at}
 
 -- ---- members of a product
@@ -137,10 +137,6 @@ not_there u id g (w ∷ us) none =
     let parts = or_parts (w == u) (has_id us u) none in
     let apart : (u == w) ≡ false = grind (arith, nat_tests, parts.0) in
     λ i. (if apart i then id else g w) ∷ not_there u id g us parts.1 i
-
-pub same_distinct : (us : List ℕ) → resolved.are_distinct us ≡ are_distinct us
-same_distinct [] = refl
-same_distinct (u ∷ us) = ap (λ (b : Bool). not (has_id us u) && b) (same_distinct us)
 
 not_true : (b : Bool) → not b ≡ true → b ≡ false
 not_true true is = sym is

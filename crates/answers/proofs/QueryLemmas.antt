@@ -1,22 +1,21 @@
 -- The targets of a query that is right by number.
-use Rattle.std.proofs.Common.{◌≡◌, ℕ, ◌<◌, true, List, [], ◌∷◌, length, refl, sym, ◌∙◌, arith}
+use Rattle.std.proofs.Common.{◌≡◌, ℕ, ◌<◌, true, List, [], ◌∷◌, length, refl, arith}
 use Rattle.std.specs.Prelude.{nat_lt}
 use Rattle.std.specs.List.{list_all}
 use Rattle.std.proofs.lemmas.Bool.{and_from, and_parts}
 use Rattle.std.proofs.lemmas.Bool.Decides.{nat_tests}
 use Rattle.tick_set.specs.Ticks.{between}
 use Rattle.formula_shape.specs.declared.limits.TheConstants.{OBJECT_LIMIT}
-use Rattle.formula.specs.Resolved.{IsResolved, is_list_of}
+use Rattle.formula.specs.Resolved.{IsResolved, are_distinct, is_list_of}
 use Rattle.formula.specs.Tree.{ResolvedQuery}
-use Rattle.relation.specs.Key.{are_distinct, has_id}
+use Rattle.relation.specs.Key.{has_id}
 use Rattle.answers.proofs.AnswerLemmas.{between_has}
-use Rattle.answers.proofs.ProductLemmas.{same_distinct}
 
 pub known_targets : (q : ResolvedQuery) → IsResolved q → list_all (λ v. nat_lt v (length q.classes)) q.targets ≡ true
 known_targets q right = (and_parts (is_list_of OBJECT_LIMIT q.targets) (list_all (λ v. nat_lt v (length q.classes)) q.targets) right.targets).1
 
 pub distinct_targets : (q : ResolvedQuery) → IsResolved q → are_distinct q.targets ≡ true
-distinct_targets q right = sym (same_distinct q.targets) ∙ right.differ
+distinct_targets q right = right.differ
 
 among_those : (n : ℕ) (targets : List ℕ) → list_all (λ v. nat_lt v n) targets ≡ true → list_all (has_id (between 0 n)) targets ≡ true
 among_those n [] below = refl

@@ -1,17 +1,20 @@
 //! The answer to a query.
 
-ghost use Rattle.std.specs.Prelude.{◌≡◌, ◌≤◌, ◌+◌, ◌-◌, ℕ, true, IfOk};
+ghost use Rattle.std.specs.Prelude.{◌≡◌, ◌≤◌, ◌+◌, ◌-◌, ◌&&◌, ℕ, Bool, true, length, map, IfOk};
 ghost use Rattle.std.specs.List.{list_all};
 ghost use Rattle.tick_set.specs.Runs.{spans_have};
+ghost use Rattle.tick_set.specs.Ticks.{between, within};
 ghost use Rattle.tick_set.specs.declared.spans.TheConstants.{SPAN_LIMIT};
-ghost use Rattle.formula.specs.Resolved.{IsResolved};
+ghost use Rattle.history.specs.Catalog.{ids_of};
+ghost use Rattle.history.specs.World.{World};
+ghost use Rattle.formula.specs.Resolved.{IsResolved, are_distinct};
 ghost use Rattle.formula.specs.Tree.{query_view};
-ghost use Rattle.meaning.specs.Answer.{answer};
+ghost use Rattle.meaning.specs.Answer.{answer, answer_where};
 ghost use Rattle.meaning.specs.Fits.{FitsItsClasses};
 ghost use Rattle.meaning.specs.Reads.{query_reads, sizes_of};
 ghost use Rattle.object_store.specs.Contents.{catalog_of};
-ghost use Rattle.relation.specs.Frames.{frame};
-ghost use Rattle.relation.specs.Key.{are_distinct, has_id};
+ghost use Rattle.relation.specs.Frames.{IsIn, frame};
+ghost use Rattle.relation.specs.Key.{has_id};
 ghost use Rattle.relation.specs.Projection.{IsPicked};
 ghost use Rattle.relation.specs.Rows.{has};
 ghost use Rattle.atoms.specs.Asked.{world_in};
@@ -54,6 +57,31 @@ pub fn ask<L: Ledger, M: Ledger>(
 {
     let domains = domains_of(alloc, q, store)?;
     let full = evaluate(alloc, q, &domains, store, regions, w, reads, probes)?;
+    let answer = answer_over(alloc, full, q, w)?;
+    Ok(answer)
+}
+
+/// The answer of rows over all variables of a query: those of its targets, with the ticks at which a test holds of
+/// some assignment of objects to the other variables. There is a row for each choice of objects for the targets
+/// that has such a tick, in the order of first insertion, target by target. It fails only where memory is out.
+///
+/// The query is right by number; only its targets and classes count. `full` is over its variables in their order,
+/// and has for each assignment of objects of their classes the ticks of the window `w` at which the test holds, as
+/// [`evaluate`] makes it for the test of the query itself.
+pub fn answer_over<'d>(
+    alloc: Global,
+    full: Relation<'d, IntervalSet>,
+    q: &RQuery,
+    w: Window,
+) -> Result<Answer, AllocError>
+    requires resolved { IsResolved (query_view q.now) }
+    requires vars { full.vars ≡ between 0 (length q.now.classes) }
+    ensures rows { IfOk result (λ a. (u : World) (holds : (ℕ → ℕ) → ℕ → Bool)
+        → full.entry.domains ≡ map (ids_of u.history.catalog) (query_view q.now).classes
+        → ((b : ℕ → ℕ) → IsIn full.entry.domains b → (t : ℕ) → has spans_have full.entry b t
+        ≡ (within w.lo w.hi t && holds b t))
+        → a ≡ answer_where u (query_view q.now) holds w.lo w.hi) }
+{
     full.rows_stand_in_order();
     let rows = over_targets(alloc, full, q.targets.items())?;
     rows.rows_stand_in_order();

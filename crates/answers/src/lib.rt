@@ -10,7 +10,7 @@ mod evaluating;
 mod laws;
 mod told;
 
-pub use asking::ask;
+pub use asking::{answer_over, ask};
 pub use atoms::StoredWorld;
 pub use evaluating::{domains_of, evaluate, evaluate_alone};
 pub use laws::fitting_queries_can_be_asked;

@@ -1,5 +1,5 @@
 -- The timelines of some variables, and what a common part of them shows of each variable.
-use Rattle.std.specs.Prelude.{◌≡◌, ℕ, ◌+◌, ◌≤◌, ◌==◌, ⊤, Bool, Option, None, Some, is_some, option_and_then, unwrap_or, List, [], ◌∷◌, slice_get, slice_index, IsTrue, if◌then◌else◌}
+use Rattle.std.specs.Prelude.{◌≡◌, ℕ, ◌+◌, ◌≤◌, ◌==◌, ⊤, Option, None, Some, is_some, option_and_then, unwrap_or, List, [], ◌∷◌, slice_get, slice_index, IsTrue, if◌then◌else◌}
 use Rattle.std.specs.List.{list_all}
 use Rattle.std.specs.Option.{option_copied, option_map_or}
 use Rattle.motion.specs.Pieces.{AreSteadyCells}
@@ -61,10 +61,3 @@ AreAscendingFrom low (v ∷ variables) = (low ≤ v) × AreAscendingFrom (v + 1)
 
 abbrev pub AreAscending : List ℕ → Type 0
 AreAscending variables = AreAscendingFrom 0 variables
-
-abbrev pub kept : Bool → ℕ → List ℕ → List ℕ
-kept b v variables = if b then v ∷ variables else variables
-
--- those of the four variables that are chosen, ascending
-abbrev pub chosen : Bool → Bool → Bool → Bool → List ℕ
-chosen a b c d = kept a 0 (kept b 1 (kept c 2 (kept d 3 [])))

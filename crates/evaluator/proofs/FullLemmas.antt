@@ -14,7 +14,8 @@ use Rattle.relation.specs.Key.{has_id}
 use Rattle.relation.specs.Rows.{Table, has}
 use Rattle.evaluator.specs.Rows.{AreRowsWhere}
 use Rattle.evaluator.specs.inner.Away.{AreAwayFor}
-use Rattle.evaluator.proofs.VariableLemmas.{ascending_variables, both_variables, same_variables_twice, variables_same}
+use Rattle.formula.proofs.CallerLemmas.{variables_same}
+use Rattle.evaluator.proofs.VariableLemmas.{ascending_variables, both_variables, same_variables_twice}
 
 range_more : (a n : ℕ) → range_with_len a (suc n) ≡ range_with_len a n ++ (a + n) ∷ []
 range_more a zero = ap (λ (z : ℕ). z ∷ []) (let e : a ≡ a + 0 = omega arith in e)

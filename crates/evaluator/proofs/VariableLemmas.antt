@@ -5,12 +5,11 @@ use Rattle.std.specs.List.Sorted.{IsStrictlyIncreasing}
 use Rattle.std.proofs.lemmas.Bool.{and_from, and_parts, cases_Bool, eq-eqb, eqb-true, lt-ltb, ltb-true, or_cases, or_left}
 use Rattle.std.proofs.lemmas.List.Kept.{IsStrictlyIncreasing-filter}
 use Rattle.formula.specs.Variables.{variables_in}
+use Rattle.formula.proofs.CallerLemmas.{variables_same}
 use Rattle.relation.specs.Frames.{vars_of_both}
-use Rattle.relation.specs.Key.{are_distinct, are_known, has_id}
+use Rattle.formula.specs.Resolved.{are_distinct}
+use Rattle.relation.specs.Key.{are_known, has_id}
 use Rattle.relation.proofs.UnionLemmas.{distinct_union, few_in_union}
-
-abbrev keep : Bool → ℕ → List ℕ → List ℕ
-keep b x xs = if b then x ∷ xs else xs
 
 -- a variable of these has a domain
 pub known_one : (domains : List (List ℕ)) (vars : List ℕ) (v : ℕ) → are_known domains vars ≡ true → has_id vars v ≡ true → v < length domains
@@ -21,10 +20,6 @@ known_one domains (u ∷ vars) v known here =
       | inl e ↦ subst (λ (w : ℕ). w < length domains) (let same : u ≡ v = eqb-true u v e in same) (ltb-true _ _ parts.0)
       | inr e ↦ known_one domains vars v parts.1 e
     ]
-
--- tests that agree on the variables that there are
-pub variables_same : (p q : ℕ → Bool) → ((v : ℕ) → v < 4 → p v ≡ q v) → variables_in p ≡ variables_in q
-variables_same p q h = λ i. keep (h 0 (omega arith) i) 0 (keep (h 1 (omega arith) i) 1 (keep (h 2 (omega arith) i) 2 (keep (h 3 (omega arith) i) 3 [])))
 
 -- what is kept of a list
 kept_same : (a h c d : Bool) → a ≡ true → d ≡ c → (if d then a || (h && c) else h && c) ≡ ((a || h) && c)

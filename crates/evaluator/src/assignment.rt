@@ -3,7 +3,8 @@
 ghost use Rattle.std.specs.Prelude.{◌≡◌, ◌≤◌, true, length, IfOk};
 ghost use Rattle.formula_shape.specs.declared.limits.TheConstants.{OBJECT_LIMIT};
 ghost use Rattle.relation.specs.Frames.{agrees};
-ghost use Rattle.relation.specs.Key.{are_distinct, are_known, key_in};
+ghost use Rattle.formula.specs.Resolved.{are_distinct};
+ghost use Rattle.relation.specs.Key.{are_known, key_in};
 ghost use Rattle.evaluator.specs.Rows.{AreRowsWhere};
 
 use formula::{Binding, RFormula, RTerm};

@@ -8,7 +8,6 @@ ghost use Rattle.relation.specs.Frames.{IsIn, frame, frame_of};
 ghost use Rattle.relation.specs.Rows.{has};
 ghost use Rattle.evaluator.specs.Gathered.{AreAlike, any_has};
 
-use crate::variables::variables_of;
 use formula::VarSet;
 use relation::{Domains, Relation};
 use std::alloc::{AllocError, Global};
@@ -41,5 +40,5 @@ pub(crate) fn united<'d, S: Temporal>(
         let both = first.unite(alloc, &second)?;
         parts.push_back(both)?;
     }
-    Ok(Relation::empty(alloc, variables_of(set), d, w))
+    Ok(Relation::empty(alloc, set.list(), d, w))
 }

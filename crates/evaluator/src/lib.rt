@@ -8,6 +8,7 @@ mod by_key;
 mod full;
 mod gathering;
 mod keys;
+mod laws;
 mod narrowing;
 mod node;
 mod operators;
@@ -19,4 +20,5 @@ mod variables;
 
 pub use alone::ticks_alone;
 pub use full::full_rows;
+pub use laws::both_kinds_of_sets_have_the_same_runs;
 pub use rows::rows_of;

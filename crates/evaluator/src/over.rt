@@ -7,7 +7,7 @@ ghost use Rattle.relation.specs.Key.{are_known, has_id};
 ghost use Rattle.evaluator.specs.inner.ByBinding.{adds_no_choice, asks_no_more, is_over};
 
 use crate::node::Node;
-use crate::variables::{has_variable, variables_of};
+use crate::variables::has_variable;
 use formula::{RFormula, free, free_in_term};
 use relation::Domains;
 
@@ -19,10 +19,10 @@ pub(crate) fn is_over(f: &RFormula, vars: &[u8], d: &Domains) -> bool
 {
     match Node::of(f) {
         Node::Truth(_) => true,
-        Node::Atom(_) => asks_no_more(variables_of(free(f)), vars, d),
+        Node::Atom(_) => asks_no_more(free(f).list(), vars, d),
         Node::One(_, part) => is_over(part, vars, d),
         Node::Two(_, left, right) => is_over(left, vars, d) && is_over(right, vars, d),
-        Node::Assign(a) => variables_of(free_in_term(a.term)) == vars && is_over(a.body, vars, d),
+        Node::Assign(a) => free_in_term(a.term).list() == vars && is_over(a.body, vars, d),
     }
 }
 

@@ -21,7 +21,7 @@ use crate::narrowing::narrowed;
 use crate::node::Node;
 use crate::operators::{changed_rows, paired_rows};
 use crate::over::is_over;
-use crate::variables::{binding_of, variables_of};
+use crate::variables::binding_of;
 use formula::{Binding, Env, RFormula, VarSet, free, free_in_term};
 use interpreting::{Interpreter, ValueRun};
 use relation::{Domains, Relation};
@@ -57,7 +57,7 @@ pub fn rows_of<'d, S: Temporal, I: Interpreter<S>, L: Ledger, M: Ledger>(
     // The number of domains bounds the variables.
     let _ = d.len();
     let set = free(f);
-    let vars = variables_of(set);
+    let vars = set.list();
     if is_over(f, vars, d) {
         let made = rows_by_key(alloc, source, f, vars, d, env, w, reads, probes)?;
         return Ok(made);
@@ -107,7 +107,7 @@ fn rows_of_assignment<'d, S: Temporal, I: Interpreter<S>, L: Ledger, M: Ledger>(
 {
     // The number of domains bounds the variables.
     let _ = d.len();
-    let term_vars = variables_of(free_in_term(a.term));
+    let term_vars = free_in_term(a.term).list();
     let keys = keys_of(alloc, d, term_vars)?;
     let mut parts = VecDeque::new(alloc);
     'keys: for key in keys.all() {

@@ -2,12 +2,10 @@
 
 ghost use Rattle.std.specs.Prelude.{◌≡◌, ◌&&◌, ℕ, IfOk};
 ghost use Rattle.tick_set.specs.Ticks.{LiesIn, within};
-ghost use Rattle.formula.specs.Forms.{bounded_at, until_form_at};
 ghost use Rattle.evaluator.specs.inner.ByBinding.{any_member};
 ghost use Rattle.evaluator.specs.inner.Nodes.{changed_at, paired_in};
 
 use crate::node::{Change, Pairing};
-use fixed_point::{BoundForm, UntilForm};
 use std::alloc::{AllocError, Global};
 use std::collections::VecDeque;
 use tick_set::{LAST_TICK, TickSet, Window};
@@ -29,25 +27,7 @@ pub(crate) fn changed<S: Temporal>(
         Change::Next => set.next(alloc, w),
         Change::Eventually => set.eventually_after(alloc, 0, w),
         Change::Always => set.always_for(alloc, LAST_TICK, w),
-        Change::Bounded(form, c) => bounded(alloc, form, c, set, w),
-    }
-}
-
-fn bounded<S: Temporal>(
-    alloc: Global,
-    form: BoundForm,
-    c: u32,
-    set: &S,
-    w: Window,
-) -> Result<S, AllocError>
-    requires { LiesIn w.lo w.hi (S.member set.now) }
-    ensures { IfOk result (λ s. (t : ℕ) → S.member s t
-        ≡ (within w.lo w.hi t && bounded_at form c (S.member set.now) w.hi t)) }
-{
-    match form {
-        BoundForm::Within => set.eventually_within(alloc, c, w),
-        BoundForm::After => set.eventually_after(alloc, c, w),
-        BoundForm::Always => set.always_for(alloc, c, w),
+        Change::Bounded(form, c) => set.bounded_by(alloc, form, c, w),
     }
 }
 
@@ -67,27 +47,7 @@ pub(crate) fn paired<S: Temporal>(
     match pairing {
         Pairing::And => left.meet(alloc, right),
         Pairing::Or => left.union(alloc, right),
-        Pairing::Until(form, c) => until(alloc, form, c, left, right, w),
-    }
-}
-
-fn until<S: Temporal>(
-    alloc: Global,
-    form: UntilForm,
-    c: u32,
-    guard: &S,
-    goal: &S,
-    w: Window,
-) -> Result<S, AllocError>
-    requires guard { LiesIn w.lo w.hi (S.member guard.now) }
-    requires goal { LiesIn w.lo w.hi (S.member goal.now) }
-    ensures { IfOk result (λ s. (t : ℕ) → S.member s t
-        ≡ (within w.lo w.hi t && until_form_at form c (S.member guard.now) (S.member goal.now) w.hi t)) }
-{
-    match form {
-        UntilForm::Plain => guard.until(alloc, goal, w),
-        UntilForm::Within => guard.until_within(alloc, goal, c, w),
-        UntilForm::After => guard.until_after(alloc, goal, c, w),
+        Pairing::Until(form, c) => left.until_by(alloc, form, right, c, w),
     }
 }
 

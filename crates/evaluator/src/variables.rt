@@ -1,36 +1,10 @@
-//! The variables of sets, and what keys have for them.
+//! Variables, and what keys have for them.
 
 ghost use Rattle.std.specs.Prelude.{◌≡◌, ◌<◌, ◌≤◌, ◌∷◌, ◌++◌, [], length, map, slice_index, unwrap_or};
-ghost use Rattle.formula.specs.Variables.{variables_in};
-ghost use Rattle.formula.specs.VarSet.{has};
 ghost use Rattle.relation.specs.Key.{has_id};
 ghost use Rattle.evaluator.specs.Keys.{are_first, binding_of, object_in};
 
-use formula::{Binding, VarSet};
-
-// The variables of a set, ascending.
-pub(crate) fn variables_of(set: VarSet) -> &'static [u8]
-    ensures { result.now ≡ variables_in (has set) }
-{
-    match (set.has(0), set.has(1), set.has(2), set.has(3)) {
-        (false, false, false, false) => &[],
-        (false, false, false, true) => &[3],
-        (false, false, true, false) => &[2],
-        (false, false, true, true) => &[2, 3],
-        (false, true, false, false) => &[1],
-        (false, true, false, true) => &[1, 3],
-        (false, true, true, false) => &[1, 2],
-        (false, true, true, true) => &[1, 2, 3],
-        (true, false, false, false) => &[0],
-        (true, false, false, true) => &[0, 3],
-        (true, false, true, false) => &[0, 2],
-        (true, false, true, true) => &[0, 2, 3],
-        (true, true, false, false) => &[0, 1],
-        (true, true, false, true) => &[0, 1, 3],
-        (true, true, true, false) => &[0, 1, 2],
-        (true, true, true, true) => &[0, 1, 2, 3],
-    }
-}
+use formula::Binding;
 
 // Whether a variable is one of these. There are few, so that each is looked at in place.
 #[inline]

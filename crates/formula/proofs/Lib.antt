@@ -1,2 +1,3 @@
+pub mod CallerLemmas
 pub mod ReachLemmas
 pub mod ResolvedLemmas

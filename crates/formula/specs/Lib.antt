@@ -1,6 +1,7 @@
 pub mod Bounds
 pub mod Example
 pub mod Forms
+pub mod Kinds
 pub mod Reach
 pub mod Resolved
 pub mod Tree

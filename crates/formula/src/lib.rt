@@ -25,4 +25,4 @@ pub use limits::{DYNAMIC_BOUND, QUERY_LIMIT, TIME_BOUND};
 pub use reach::reach_of;
 pub use tree::{ClassNo, RAtom, RFormula, RQuery, RSigned, RTerm, RUnit};
 pub use value::{Env, Value, ValueKind};
-pub use var_set::{VarSet, free, free_in_term};
+pub use var_set::{VarSet, free, free_in_atom, free_in_term};

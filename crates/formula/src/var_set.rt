@@ -4,7 +4,7 @@ ghost use Rattle.std.specs.Prelude.{◌≡◌, ◌==◌, ◌<◌, ◌||◌, fals
 ghost use Rattle.std.specs.List.{list_any};
 ghost use Rattle.formula.specs.Tree.{formula_view};
 ghost use Rattle.formula.specs.VarSet.{has};
-ghost use Rattle.formula.specs.Variables.{atom_has, has_variable, term_has, unit_has};
+ghost use Rattle.formula.specs.Variables.{atom_has, has_variable, term_has, unit_has, variables_in};
 
 use crate::{RAtom, RFormula, RSigned, RTerm, RUnit};
 use formula_shape::OBJECT_LIMIT;
@@ -22,6 +22,30 @@ impl VarSet {
         ensures { result ≡ has self v }
     {
         self.members.get(v as usize).copied().unwrap_or(false)
+    }
+
+    /// The variables of the set, ascending, each once.
+    pub fn list(self) -> &'static [u8]
+        ensures { result.now ≡ variables_in (has self) }
+    {
+        match (self.has(0), self.has(1), self.has(2), self.has(3)) {
+            (false, false, false, false) => &[],
+            (false, false, false, true) => &[3],
+            (false, false, true, false) => &[2],
+            (false, false, true, true) => &[2, 3],
+            (false, true, false, false) => &[1],
+            (false, true, false, true) => &[1, 3],
+            (false, true, true, false) => &[1, 2],
+            (false, true, true, true) => &[1, 2, 3],
+            (true, false, false, false) => &[0],
+            (true, false, false, true) => &[0, 3],
+            (true, false, true, false) => &[0, 2],
+            (true, false, true, true) => &[0, 2, 3],
+            (true, true, false, false) => &[0, 1],
+            (true, true, false, true) => &[0, 1, 3],
+            (true, true, true, false) => &[0, 1, 2],
+            (true, true, true, true) => &[0, 1, 2, 3],
+        }
     }
 
     // No variable.
@@ -87,7 +111,8 @@ fn listed(objects: &[u8]) -> VarSet
     }
 }
 
-fn free_in_atom(atom: &RAtom) -> VarSet
+/// The object variables of an atom. Takes no memory.
+pub fn free_in_atom(atom: &RAtom) -> VarSet
     ensures { (v : ℕ) → v < OBJECT_LIMIT → has result v ≡ atom_has v atom.now }
 {
     match atom {

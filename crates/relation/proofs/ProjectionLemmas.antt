@@ -10,7 +10,8 @@ use Rattle.relation.specs.declared.entries.Entry.{Entry}
 use Rattle.relation.specs.declared.row.Row.{Row}
 use Rattle.relation.specs.Entries.{AreEntries, HasGathered, IsBefore, IsEntry, entries_have, entry_has, row_has}
 use Rattle.relation.specs.Frames.{IsIn}
-use Rattle.relation.specs.Key.{are_distinct, are_known, has_id, ids_of, key_in}
+use Rattle.formula.specs.Resolved.{are_distinct}
+use Rattle.relation.specs.Key.{are_known, has_id, ids_of, key_in}
 use Rattle.relation.specs.Projection.{IsPicked, picked, place_of, rows_over}
 use Rattle.relation.specs.Rows.{AreRows, IsRow, IsTable, Table, has, has_at, table}
 use Rattle.relation.proofs.ChangeLemmas.{own_key, same_key}

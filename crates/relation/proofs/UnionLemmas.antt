@@ -7,7 +7,8 @@ use Rattle.std.proofs.lemmas.List.{map-id}
 use Rattle.formula_shape.specs.declared.limits.TheConstants.{OBJECT_LIMIT}
 use Rattle.formula.specs.Variables.{variables_in}
 use Rattle.relation.specs.Frames.{vars_of_both}
-use Rattle.relation.specs.Key.{are_distinct, are_known, has_id}
+use Rattle.formula.specs.Resolved.{are_distinct}
+use Rattle.relation.specs.Key.{are_known, has_id}
 use Rattle.relation.specs.Walk.{covers}
 use Rattle.relation.proofs.RowLemmas.{all_at}
 use Rattle.relation.proofs.SearchLemmas.{all_from_at, has_id-at}

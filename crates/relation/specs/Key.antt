@@ -1,5 +1,5 @@
 -- Keys: the objects of a list of variables, in the order of the variables.
-use Rattle.std.specs.Prelude.{◌≤◌, ℕ, Bool, true, false, not, ◌&&◌, ◌||◌, ◌==◌, nat_lt, List, [], ◌∷◌, length, slice_index_or}
+use Rattle.std.specs.Prelude.{◌≤◌, ℕ, Bool, true, false, ◌&&◌, ◌||◌, ◌==◌, nat_lt, List, [], ◌∷◌, length, slice_index_or}
 use Rattle.std.specs.List.{list_any, list_all}
 use Rattle.std.specs.List.Sorted.{IsStrictlyIncreasing}
 use Rattle.formula_shape.specs.declared.limits.TheConstants.{OBJECT_LIMIT}
@@ -7,11 +7,6 @@ use Rattle.formula_shape.specs.declared.limits.TheConstants.{OBJECT_LIMIT}
 -- whether a number is in a list
 abbrev pub has_id : List ℕ → ℕ → Bool
 has_id ids id = list_any (λ i. i == id) ids
-
--- whether no number is twice in a list
-abbrev pub are_distinct : List ℕ → Bool
-are_distinct [] = true
-are_distinct (x ∷ xs) = not (has_id xs x) && are_distinct xs
 
 -- the objects of a variable
 abbrev pub ids_of : List (List ℕ) → ℕ → List ℕ

@@ -4,7 +4,8 @@ use Rattle.std.specs.List.{list_any, list_all}
 use Rattle.std.specs.Str.{bytes_eq}
 use Rattle.tick_set.specs.Ticks.{LiesIn}
 use Rattle.relation.specs.declared.row.Row.{Row}
-use Rattle.relation.specs.Key.{are_distinct, are_known, key_below, key_in}
+use Rattle.formula.specs.Resolved.{are_distinct}
+use Rattle.relation.specs.Key.{are_known, key_below, key_in}
 
 -- whether a row of this key has the tick
 abbrev pub has_at : {S : Type 0} → (S → ℕ → Bool) → List (Row S) → List ℕ → ℕ → Bool

@@ -49,30 +49,10 @@ impl Operation {
         let set = match self {
             Operation::Meet => left.meet(alloc, right)?,
             Operation::Union => left.union(alloc, right)?,
-            Operation::Until(form, c) => until_form(alloc, form, c, left, right, w)?,
+            Operation::Until(form, c) => left.until_by(alloc, form, right, c, w)?,
             Operation::Complement => left.complement(alloc, w)?,
         };
         Ok(set)
-    }
-}
-
-fn until_form<S: Temporal>(
-    alloc: Global,
-    form: UntilForm,
-    c: u32,
-    guard: &S,
-    goal: &S,
-    w: Window,
-) -> Result<S, AllocError>
-    requires guard { LiesIn w.lo w.hi (S.member guard.now) }
-    requires goal { LiesIn w.lo w.hi (S.member goal.now) }
-    ensures { IfOk result (λ s. (t : ℕ) → S.member s t
-        ≡ combined (Operation.Until form c) w.lo w.hi (S.member guard.now) (S.member goal.now) t) }
-{
-    match form {
-        UntilForm::Plain => guard.until(alloc, goal, w),
-        UntilForm::Within => guard.until_within(alloc, goal, c, w),
-        UntilForm::After => guard.until_after(alloc, goal, c, w),
     }
 }
 
@@ -93,26 +73,8 @@ impl Change {
             Change::Copy => set.copy(alloc)?,
             Change::Clip(part) => set.clip(alloc, part)?,
             Change::Next => set.next(alloc, w)?,
-            Change::Bounded(form, c) => bounded(alloc, form, c, set, w)?,
+            Change::Bounded(form, c) => set.bounded_by(alloc, form, c, w)?,
         };
         Ok(set)
-    }
-}
-
-fn bounded<S: Temporal>(
-    alloc: Global,
-    form: BoundForm,
-    c: u32,
-    set: &S,
-    w: Window,
-) -> Result<S, AllocError>
-    requires { LiesIn w.lo w.hi (S.member set.now) }
-    ensures { IfOk result (λ s. (t : ℕ) → S.member s t
-        ≡ changed (Change.Bounded form c) w.lo w.hi (S.member set.now) t) }
-{
-    match form {
-        BoundForm::Within => set.eventually_within(alloc, c, w),
-        BoundForm::After => set.eventually_after(alloc, c, w),
-        BoundForm::Always => set.always_for(alloc, c, w),
     }
 }

@@ -5,7 +5,8 @@ ghost use Rattle.std.specs.List.{All, list_all};
 ghost use Rattle.formula_shape.specs.declared.limits.TheConstants.{OBJECT_LIMIT};
 ghost use Rattle.relation.specs.Entries.{AreEntries, IsEntry, entries_have};
 ghost use Rattle.relation.specs.Frames.{frame};
-ghost use Rattle.relation.specs.Key.{are_distinct, has_id};
+ghost use Rattle.formula.specs.Resolved.{are_distinct};
+ghost use Rattle.relation.specs.Key.{has_id};
 ghost use Rattle.relation.specs.Projection.{IsPicked, place_of, picked, rows_over};
 ghost use Rattle.relation.specs.Rows.{AreRows, has};
 

@@ -34,7 +34,8 @@ impl<'d, S: Temporal> Model for Relation<'d, S> {
 }
 
 impl<'d, S: Temporal> Relation<'d, S> {
-    ghost use Rattle.relation.specs.Key.{are_distinct, are_known, key_below, key_in};
+    ghost use Rattle.formula.specs.Resolved.{are_distinct};
+    ghost use Rattle.relation.specs.Key.{are_known, key_below, key_in};
     ghost use Rattle.relation.specs.Rows.{IsSameHead, IsTable, has_at, table};
 
     /// No row, over these variables. Takes no memory; `alloc` serves what is put into it.

@@ -3,7 +3,9 @@ ghost use Rattle.std.specs.Prelude.{◌≡◌, ◌&&◌, ℕ, IfOk};
 ghost use Rattle.tick_set.specs.Ticks.{LiesIn, within};
 ghost use Rattle.tick_set.specs.Operators.{next_at, until_at, until_within_at, until_after_at};
 ghost use Rattle.tick_set.specs.Operators.{eventually_within_at, eventually_after_at, always_for_at};
+ghost use Rattle.formula.specs.Forms.{bounded_at, until_form_at};
 
+use fixed_point::{BoundForm, UntilForm};
 use std::alloc::{AllocError, Global};
 use tick_set::{TickSet, Window};
 
@@ -59,4 +61,44 @@ pub trait Temporal: TickSet {
         requires { LiesIn w.lo w.hi (Self.member self.now) }
         ensures { IfOk result (λ r. (t : ℕ) → Self.member r t ≡ (within w.lo w.hi t
             && always_for_at c (Self.member self.now) w.hi t)) };
+
+    /// The operator of UNTIL that a form and a number `c` of ticks choose.
+    fn until_by(
+        &self,
+        alloc: Global,
+        form: UntilForm,
+        h: &Self,
+        c: u32,
+        w: Window,
+    ) -> Result<Self, AllocError>
+        requires guard { LiesIn w.lo w.hi (Self.member self.now) }
+        requires goal { LiesIn w.lo w.hi (Self.member h.now) }
+        ensures { IfOk result (λ r. (t : ℕ) → Self.member r t ≡ (within w.lo w.hi t
+            && until_form_at form c (Self.member self.now) (Self.member h.now) w.hi t)) }
+    {
+        match form {
+            UntilForm::Plain => self.until(alloc, h, w),
+            UntilForm::Within => self.until_within(alloc, h, c, w),
+            UntilForm::After => self.until_after(alloc, h, c, w),
+        }
+    }
+
+    /// The operator of one set that a form and a number `c` of ticks choose.
+    fn bounded_by(
+        &self,
+        alloc: Global,
+        form: BoundForm,
+        c: u32,
+        w: Window,
+    ) -> Result<Self, AllocError>
+        requires { LiesIn w.lo w.hi (Self.member self.now) }
+        ensures { IfOk result (λ r. (t : ℕ) → Self.member r t ≡ (within w.lo w.hi t
+            && bounded_at form c (Self.member self.now) w.hi t)) }
+    {
+        match form {
+            BoundForm::Within => self.eventually_within(alloc, c, w),
+            BoundForm::After => self.eventually_after(alloc, c, w),
+            BoundForm::Always => self.always_for(alloc, c, w),
+        }
+    }
 }

@@ -6,7 +6,8 @@ use Rattle.formula.specs.Variables.{has_variable}
 use Rattle.meaning.specs.Reads.{choices}
 use Rattle.meaning.specs.Satisfaction.{sat}
 use Rattle.relation.specs.Frames.{size_of}
-use Rattle.relation.specs.Key.{are_distinct, are_known, has_id, key_in}
+use Rattle.formula.specs.Resolved.{are_distinct}
+use Rattle.relation.specs.Key.{are_known, has_id, key_in}
 use Rattle.relation.specs.Rows.{Table}
 use Rattle.evaluator.specs.Keys.{AreKeys}
 use Rattle.evaluator.specs.Rows.{AreRowsWhere}

@@ -31,7 +31,7 @@ unite-requires-clause-right g c =
 
 pub empty-requires-clause-known : goal.empty-requires-clause-known
 empty-requires-clause-known g c =
-    subst (λ (vs : List ℕ). are_known c.args.d.now vs ≡ true) (sym c.variables_of.ensures)
+    subst (λ (vs : List ℕ). are_known c.args.d.now vs ≡ true) (sym c.list.ensures)
     (known_variables c.args.d.now (has c.args.set) (λ v l h. c.requires.known v l h))
 
 pub parts-preserved : goal.parts-preserved

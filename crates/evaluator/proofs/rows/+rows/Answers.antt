@@ -11,7 +11,8 @@ use Rattle.formula.specs.Variables.{has_variable, term_has, variables_in, variab
 use Rattle.meaning.specs.Reads.{term_variables}
 use Rattle.meaning.specs.Satisfaction.{sat}
 use Rattle.relation.specs.Frames.{Frame, IsWider, size_of}
-use Rattle.relation.specs.Key.{are_distinct, are_known, key_in}
+use Rattle.formula.specs.Resolved.{are_distinct}
+use Rattle.relation.specs.Key.{are_known, key_in}
 use Rattle.relation.specs.Rows.{Table, has as has_tick}
 use Rattle.interpreting.specs.declared.value_run.ValueRun.{ValueRun}
 use Rattle.evaluator.specs.Assigned.{CanAskEach, assignment_view, run_holds}
@@ -30,16 +31,17 @@ use Rattle.evaluator.proofs.LoopLemmas.{can_ask_item, head_frame, in_turn, key_w
 use Rattle.evaluator.proofs.NodeLemmas.{changed_asks, changed_has, changed_nodes, changed_reads, paired_asks, paired_has, paired_nodes, paired_reads}
 use Rattle.evaluator.proofs.ReadLemmas.{one_step}
 use Rattle.evaluator.proofs.RowLemmas.{one_rows, two_rows}
-use Rattle.evaluator.proofs.VariableLemmas.{ascending_variables, distinct_variables, few_variables, known_variables, variables_same}
+use Rattle.formula.proofs.CallerLemmas.{variables_same}
+use Rattle.evaluator.proofs.VariableLemmas.{ascending_variables, distinct_variables, few_variables, known_variables}
 use Rattle.evaluator.proofs.rows.+rows.Goals as goal
 
 pub rows_of-is_over-requires : goal.rows_of-is_over-requires
 rows_of-is_over-requires g t c =
-    subst (λ (vs : List ℕ). are_known c.args.d.now vs ≡ true) (sym c.variables_of-vars.ensures)
+    subst (λ (vs : List ℕ). are_known c.args.d.now vs ≡ true) (sym c.list-vars.ensures)
     (known_variables c.args.d.now (has c.free-set.result) (λ v l h. c.requires.over v (sym (c.free-set.ensures v l) ∙ h)))
 
 pub rows_of-rows_by_key-requires-clause-vars : goal.rows_of-rows_by_key-requires-clause-vars
-rows_of-rows_by_key-requires-clause-vars g t c = c.variables_of-vars.ensures ∙ variables_same (has c.free-set.result) (λ v. has_variable v (formula_view c.args.f.now)) (λ v l. c.free-set.ensures v l)
+rows_of-rows_by_key-requires-clause-vars g t c = c.list-vars.ensures ∙ variables_same (has c.free-set.result) (λ v. has_variable v (formula_view c.args.f.now)) (λ v l. c.free-set.ensures v l)
 
 pub rows_of-rows_by_key-requires-clause-alike : goal.rows_of-rows_by_key-requires-clause-alike
 rows_of-rows_by_key-requires-clause-alike g t c = sym c.is_over.ensures ∙ c.if-is_over.true
@@ -174,19 +176,19 @@ rows_of-returns-in_ok-made-in-Assign-clause-most g t c =
 
 pub rows_of-unreachable-requires : goal.rows_of-unreachable-requires
 rows_of-unreachable-requires g t c =
-    let f : false ≡ true = sym c.if-is_over.false ∙ c.is_over.ensures ∙ truth_over (size_of c.args.d.now) c.variables_of-vars.result.now (formula_view c.args.f.now) _ (sym c.in-Truth.ensures) in cc
+    let f : false ≡ true = sym c.if-is_over.false ∙ c.is_over.ensures ∙ truth_over (size_of c.args.d.now) c.list-vars.result.now (formula_view c.args.f.now) _ (sym c.in-Truth.ensures) in cc
 
 pub rows_of-unreachable-requires-in-Atom : goal.rows_of-unreachable-requires-in-Atom
 rows_of-unreachable-requires-in-Atom g t c =
-    let f : false ≡ true = sym c.if-is_over.false ∙ c.is_over.ensures ∙ atom_over (size_of c.args.d.now) c.variables_of-vars.result.now (formula_view c.args.f.now) _ (c.variables_of-vars.ensures ∙ variables_same (has c.free-set.result) (λ v. has_variable v (formula_view c.args.f.now)) (λ v l. c.free-set.ensures v l)) (sym c.in-Atom.ensures) in cc
+    let f : false ≡ true = sym c.if-is_over.false ∙ c.is_over.ensures ∙ atom_over (size_of c.args.d.now) c.list-vars.result.now (formula_view c.args.f.now) _ (c.list-vars.ensures ∙ variables_same (has c.free-set.result) (λ v. has_variable v (formula_view c.args.f.now)) (λ v l. c.free-set.ensures v l)) (sym c.in-Atom.ensures) in cc
 
 pub rows_of_assignment-keys_of-requires-clause-known : goal.rows_of_assignment-keys_of-requires-clause-known
 rows_of_assignment-keys_of-requires-clause-known g t c =
-    subst (λ (vs : List ℕ). are_known c.args.d.now vs ≡ true) (sym c.variables_of-term_vars.ensures)
+    subst (λ (vs : List ℕ). are_known c.args.d.now vs ≡ true) (sym c.list-term_vars.ensures)
     (known_variables c.args.d.now (has c.free_in_term.result) (λ v l h. c.requires.over v (or_left (term_has v c.args.a.now.term.now) (has_variable v (formula_view c.args.a.now.body.now)) (sym (c.free_in_term.ensures v l) ∙ h))))
 
 pub rows_of_assignment-keys_of-requires-clause-few : goal.rows_of_assignment-keys_of-requires-clause-few
-rows_of_assignment-keys_of-requires-clause-few g t c = subst (λ (vs : List ℕ). length vs ≤ 4) (sym c.variables_of-term_vars.ensures) (few_variables (has c.free_in_term.result))
+rows_of_assignment-keys_of-requires-clause-few g t c = subst (λ (vs : List ℕ). length vs ≤ 4) (sym c.list-term_vars.ensures) (few_variables (has c.free_in_term.result))
 
 pub rows_of_assignment-keys-init : goal.rows_of_assignment-keys-init
 rows_of_assignment-keys-init g t c = record {
@@ -198,9 +200,9 @@ rows_of_assignment-keys-init g t c = record {
 
 pub rows_of_assignment-rows_at_key-requires : goal.rows_of_assignment-rows_at_key-requires
 rows_of_assignment-rows_at_key-requires g t c κs lives =
-    let same_vars : c.variables_of-term_vars.result.now ≡ term_variables c.args.a.now.term.now = c.variables_of-term_vars.ensures ∙ variables_same (has c.free_in_term.result) (λ v. term_has v c.args.a.now.term.now) (λ v l. c.free_in_term.ensures v l) in
-    let are = subst (λ (ks : List (List ℕ)). AreKeys c.args.d.now c.variables_of-term_vars.result.now ks) (sym c.all-key-items.ensures) c.in_ok-keys.ensures in
-    let inside = subst (λ (k : List ℕ). key_in c.args.d.now c.variables_of-term_vars.result.now k ≡ true) (sym c.key-item.is) (at_key (key_in c.args.d.now c.variables_of-term_vars.result.now) c.all-key-items.result.now c.keys.key-index c.key-item.result are.inside (omega (arith, c.keys-test.true))) in (
+    let same_vars : c.list-term_vars.result.now ≡ term_variables c.args.a.now.term.now = c.list-term_vars.ensures ∙ variables_same (has c.free_in_term.result) (λ v. term_has v c.args.a.now.term.now) (λ v l. c.free_in_term.ensures v l) in
+    let are = subst (λ (ks : List (List ℕ)). AreKeys c.args.d.now c.list-term_vars.result.now ks) (sym c.all-key-items.ensures) c.in_ok-keys.ensures in
+    let inside = subst (λ (k : List ℕ). key_in c.args.d.now c.list-term_vars.result.now k ≡ true) (sym c.key-item.is) (at_key (key_in c.args.d.now c.list-term_vars.result.now) c.all-key-items.result.now c.keys.key-index c.key-item.result are.inside (omega (arith, c.keys-test.true))) in (
       omega (arith, c.decreases),
       (lives.0, (lives.1.0, (lives.1.1.0, (lives.1.1.1, (same_vars, (inside, (c.requires.over, c.requires.can))))))),
     )
@@ -210,9 +212,9 @@ rows_of_assignment-returns-in_err-rows-clause-least g t c = in_turn _ _ _ c.keys
 
 pub rows_of_assignment-returns-in_err-rows-clause-most : goal.rows_of_assignment-returns-in_err-rows-clause-most
 rows_of_assignment-returns-in_err-rows-clause-most g t c =
-    let same_vars : c.variables_of-term_vars.result.now ≡ term_variables c.args.a.now.term.now = c.variables_of-term_vars.ensures ∙ variables_same (has c.free_in_term.result) (λ v. term_has v c.args.a.now.term.now) (λ v l. c.free_in_term.ensures v l) in
-    keys_within c.args.d.now c.args.w.lo c.args.w.hi c.variables_of-term_vars.result.now c.args.a.now.depth c.args.a.now.term.now (formula_view c.args.a.now.body.now) same_vars _ _ (c.keys.key-index + 1) (length c.in_ok-keys.keys)
-    (one_step c.args.reads.now c.keys.reads _ c.keys.key-index (reads_at_key c.args.d.now c.args.w.lo c.args.w.hi c.variables_of-term_vars.result.now (formula_view c.args.a.now.body.now)) c.keys.invariant.most c.in_err-rows.ensures.most)
+    let same_vars : c.list-term_vars.result.now ≡ term_variables c.args.a.now.term.now = c.list-term_vars.ensures ∙ variables_same (has c.free_in_term.result) (λ v. term_has v c.args.a.now.term.now) (λ v l. c.free_in_term.ensures v l) in
+    keys_within c.args.d.now c.args.w.lo c.args.w.hi c.list-term_vars.result.now c.args.a.now.depth c.args.a.now.term.now (formula_view c.args.a.now.body.now) same_vars _ _ (c.keys.key-index + 1) (length c.in_ok-keys.keys)
+    (one_step c.args.reads.now c.keys.reads _ c.keys.key-index (reads_at_key c.args.d.now c.args.w.lo c.args.w.hi c.list-term_vars.result.now (formula_view c.args.a.now.body.now)) c.keys.invariant.most c.in_err-rows.ensures.most)
     (let l = c.keys-test.true in let e = ap length c.all-key-items.ensures in omega (arith, l, e)) c.in_ok-keys.ensures.count
 
 pub rows_of_assignment-returns-in_err-push_back-clause-least : goal.rows_of_assignment-returns-in_err-push_back-clause-least
@@ -220,9 +222,9 @@ rows_of_assignment-returns-in_err-push_back-clause-least g t c = in_turn _ _ _ c
 
 pub rows_of_assignment-returns-in_err-push_back-clause-most : goal.rows_of_assignment-returns-in_err-push_back-clause-most
 rows_of_assignment-returns-in_err-push_back-clause-most g t c =
-    let same_vars : c.variables_of-term_vars.result.now ≡ term_variables c.args.a.now.term.now = c.variables_of-term_vars.ensures ∙ variables_same (has c.free_in_term.result) (λ v. term_has v c.args.a.now.term.now) (λ v l. c.free_in_term.ensures v l) in
-    keys_within c.args.d.now c.args.w.lo c.args.w.hi c.variables_of-term_vars.result.now c.args.a.now.depth c.args.a.now.term.now (formula_view c.args.a.now.body.now) same_vars _ _ (c.keys.key-index + 1) (length c.in_ok-keys.keys)
-    (one_step c.args.reads.now c.keys.reads _ c.keys.key-index (reads_at_key c.args.d.now c.args.w.lo c.args.w.hi c.variables_of-term_vars.result.now (formula_view c.args.a.now.body.now)) c.keys.invariant.most c.in_ok-rows.ensures.most)
+    let same_vars : c.list-term_vars.result.now ≡ term_variables c.args.a.now.term.now = c.list-term_vars.ensures ∙ variables_same (has c.free_in_term.result) (λ v. term_has v c.args.a.now.term.now) (λ v l. c.free_in_term.ensures v l) in
+    keys_within c.args.d.now c.args.w.lo c.args.w.hi c.list-term_vars.result.now c.args.a.now.depth c.args.a.now.term.now (formula_view c.args.a.now.body.now) same_vars _ _ (c.keys.key-index + 1) (length c.in_ok-keys.keys)
+    (one_step c.args.reads.now c.keys.reads _ c.keys.key-index (reads_at_key c.args.d.now c.args.w.lo c.args.w.hi c.list-term_vars.result.now (formula_view c.args.a.now.body.now)) c.keys.invariant.most c.in_ok-rows.ensures.most)
     (let l = c.keys-test.true in let e = ap length c.all-key-items.ensures in omega (arith, l, e)) c.in_ok-keys.ensures.count
 
 pub rows_of_assignment-returns-in_err-made-clause-least : goal.rows_of_assignment-returns-in_err-made-clause-least
@@ -230,8 +232,8 @@ rows_of_assignment-returns-in_err-made-clause-least g t c = c.keys.invariant.lea
 
 pub rows_of_assignment-returns-in_err-made-clause-most : goal.rows_of_assignment-returns-in_err-made-clause-most
 rows_of_assignment-returns-in_err-made-clause-most g t c =
-    let same_vars : c.variables_of-term_vars.result.now ≡ term_variables c.args.a.now.term.now = c.variables_of-term_vars.ensures ∙ variables_same (has c.free_in_term.result) (λ v. term_has v c.args.a.now.term.now) (λ v l. c.free_in_term.ensures v l) in
-    keys_within c.args.d.now c.args.w.lo c.args.w.hi c.variables_of-term_vars.result.now c.args.a.now.depth c.args.a.now.term.now (formula_view c.args.a.now.body.now) same_vars _ _ c.keys.key-index (length c.in_ok-keys.keys) c.keys.invariant.most
+    let same_vars : c.list-term_vars.result.now ≡ term_variables c.args.a.now.term.now = c.list-term_vars.ensures ∙ variables_same (has c.free_in_term.result) (λ v. term_has v c.args.a.now.term.now) (λ v l. c.free_in_term.ensures v l) in
+    keys_within c.args.d.now c.args.w.lo c.args.w.hi c.list-term_vars.result.now c.args.a.now.depth c.args.a.now.term.now (formula_view c.args.a.now.body.now) same_vars _ _ c.keys.key-index (length c.in_ok-keys.keys) c.keys.invariant.most
     (let l : c.keys.key-index ≤ length c.all-key-items.result.now = c.keys.auto.key-index-end in let e = ap length c.all-key-items.ensures in omega (arith, l, e)) c.in_ok-keys.ensures.count
 
 pub rows_of_assignment-returns-clause-least : goal.rows_of_assignment-returns-clause-least
@@ -239,8 +241,8 @@ rows_of_assignment-returns-clause-least g t c = c.keys.invariant.least
 
 pub rows_of_assignment-returns-clause-most : goal.rows_of_assignment-returns-clause-most
 rows_of_assignment-returns-clause-most g t c =
-    let same_vars : c.variables_of-term_vars.result.now ≡ term_variables c.args.a.now.term.now = c.variables_of-term_vars.ensures ∙ variables_same (has c.free_in_term.result) (λ v. term_has v c.args.a.now.term.now) (λ v l. c.free_in_term.ensures v l) in
-    keys_within c.args.d.now c.args.w.lo c.args.w.hi c.variables_of-term_vars.result.now c.args.a.now.depth c.args.a.now.term.now (formula_view c.args.a.now.body.now) same_vars _ _ c.keys.key-index (length c.in_ok-keys.keys) c.keys.invariant.most
+    let same_vars : c.list-term_vars.result.now ≡ term_variables c.args.a.now.term.now = c.list-term_vars.ensures ∙ variables_same (has c.free_in_term.result) (λ v. term_has v c.args.a.now.term.now) (λ v l. c.free_in_term.ensures v l) in
+    keys_within c.args.d.now c.args.w.lo c.args.w.hi c.list-term_vars.result.now c.args.a.now.depth c.args.a.now.term.now (formula_view c.args.a.now.body.now) same_vars _ _ c.keys.key-index (length c.in_ok-keys.keys) c.keys.invariant.most
     (let l : c.keys.key-index ≤ length c.all-key-items.result.now = c.keys.auto.key-index-end in let e = ap length c.all-key-items.ensures in omega (arith, l, e)) c.in_ok-keys.ensures.count
 
 pub rows_of_assignment-keys-preserved : goal.rows_of_assignment-keys-preserved
@@ -249,10 +251,10 @@ rows_of_assignment-keys-preserved g t c = record {
       (c.in_ok-rows.ensures.rows.vars ∙ sym (variables_same (has c.args.set) (λ v. has_variable v (assignment_view c.args.a.now)) (λ v l. c.requires.set v l))) c.in_ok-rows.ensures.rows.frame;
   ticks = λ b is_in u.
       ap (λ (rs : (List (Table g.row.S.Denot))). any_has g.S.TickSet.member rs b u) c.in_ok-push_back.ensures.items
-      ∙ key_more g.S.TickSet.member c.args.d.now c.args.w.lo c.args.w.hi c.variables_of-term_vars.result.now (λ (b : ℕ → ℕ) (u : ℕ). sat (g.I.Interpreter.interpretation c.args.source.now b) (assignment_view c.args.a.now) c.args.env.now c.args.w.hi u) c.all-key-items.result.now (variables_of (assignment_view c.args.a.now)) c.keys.key-index c.key-item.result c.keys.parts.items c.in_ok-rows.rows
+      ∙ key_more g.S.TickSet.member c.args.d.now c.args.w.lo c.args.w.hi c.list-term_vars.result.now (λ (b : ℕ → ℕ) (u : ℕ). sat (g.I.Interpreter.interpretation c.args.source.now b) (assignment_view c.args.a.now) c.args.env.now c.args.w.hi u) c.all-key-items.result.now (variables_of (assignment_view c.args.a.now)) c.keys.key-index c.key-item.result c.keys.parts.items c.in_ok-rows.rows
       (omega (arith, c.keys-test.true)) c.key-item.is c.keys.invariant.ticks c.in_ok-rows.ensures.rows b is_in u;
   least = in_turn _ _ _ c.keys.invariant.least c.in_ok-rows.ensures.least;
-  most = one_step c.args.reads.now c.keys.reads _ c.keys.key-index (reads_at_key c.args.d.now c.args.w.lo c.args.w.hi c.variables_of-term_vars.result.now (formula_view c.args.a.now.body.now)) c.keys.invariant.most c.in_ok-rows.ensures.most;
+  most = one_step c.args.reads.now c.keys.reads _ c.keys.key-index (reads_at_key c.args.d.now c.args.w.lo c.args.w.hi c.list-term_vars.result.now (formula_view c.args.a.now.body.now)) c.keys.invariant.most c.in_ok-rows.ensures.most;
 }
 
 pub rows_of_assignment-united-requires-clause-alike : goal.rows_of_assignment-united-requires-clause-alike
@@ -263,12 +265,12 @@ rows_of_assignment-united-requires-clause-known g t c = λ v l h. c.requires.ove
 
 pub rows_of_assignment-returns-clause-rows : goal.rows_of_assignment-returns-clause-rows
 rows_of_assignment-returns-clause-rows g t c =
-    let are = subst (λ (ks : List (List ℕ)). AreKeys c.args.d.now c.variables_of-term_vars.result.now ks) (sym c.all-key-items.ensures) c.in_ok-keys.ensures in
-    let known = subst (λ (vs : List ℕ). are_known c.args.d.now vs ≡ true) (sym c.variables_of-term_vars.ensures) (known_variables c.args.d.now (has c.free_in_term.result) (λ v l h. c.requires.over v (or_left (term_has v c.args.a.now.term.now) (has_variable v (formula_view c.args.a.now.body.now)) (sym (c.free_in_term.ensures v l) ∙ h)))) in
+    let are = subst (λ (ks : List (List ℕ)). AreKeys c.args.d.now c.list-term_vars.result.now ks) (sym c.all-key-items.ensures) c.in_ok-keys.ensures in
+    let known = subst (λ (vs : List ℕ). are_known c.args.d.now vs ≡ true) (sym c.list-term_vars.ensures) (known_variables c.args.d.now (has c.free_in_term.result) (λ v l h. c.requires.over v (or_left (term_has v c.args.a.now.term.now) (has_variable v (formula_view c.args.a.now.body.now)) (sym (c.free_in_term.ensures v l) ∙ h)))) in
     record {
       ticks = λ b is_in u.
           c.in_ok-made.ensures.ticks b is_in u
-          ∙ all_keys g.S.TickSet.member c.args.d.now c.args.w.lo c.args.w.hi c.variables_of-term_vars.result.now (λ (b : ℕ → ℕ) (u : ℕ). sat (g.I.Interpreter.interpretation c.args.source.now b) (assignment_view c.args.a.now) c.args.env.now c.args.w.hi u) c.all-key-items.result.now c.keys.key-index c.keys.parts.items (omega (arith, c.keys-test.false)) are known c.keys.invariant.ticks b is_in u;
+          ∙ all_keys g.S.TickSet.member c.args.d.now c.args.w.lo c.args.w.hi c.list-term_vars.result.now (λ (b : ℕ → ℕ) (u : ℕ). sat (g.I.Interpreter.interpretation c.args.source.now b) (assignment_view c.args.a.now) c.args.env.now c.args.w.hi u) c.all-key-items.result.now c.keys.key-index c.keys.parts.items (omega (arith, c.keys-test.false)) are known c.keys.invariant.ticks b is_in u;
       vars = c.in_ok-made.ensures.vars ∙ variables_same (has c.args.set) (λ v. has_variable v (assignment_view c.args.a.now)) (λ v l. c.requires.set v l);
       frame = c.in_ok-made.ensures.frame;
     }
