@@ -1,3 +1,4 @@
+pub mod CutLemmas
 pub mod DigitLemmas
 pub mod KeptLemmas
 pub mod LineLemmas

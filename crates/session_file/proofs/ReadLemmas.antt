@@ -24,7 +24,7 @@ unfolding part_of
 is_part_other p line o h e is = rw (h, e, is) refl
 
 -- what lines are read as by what the first of them is
-abbrev by_part : Progress → ℕ → List (List ℕ) → Part → Reading
+abbrev pub by_part : Progress → ℕ → List (List ℕ) → Part → Reading
 by_part p number rest Passed = read_on p (number + 1) rest
 by_part p number rest End = ended (number + 1) rest
 by_part p number rest (Command c) = with_first (number, c) (read_on (counted p c) (number + 1) rest)

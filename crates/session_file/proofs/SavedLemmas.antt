@@ -13,7 +13,7 @@ use Rattle.std.specs.Str.Parse.{AllDigits}
 use Rattle.std.specs.Str.Lines.{lines, lines_of_parts}
 use Rattle.command_text.specs.Tree
 use Rattle.command_text.specs.Tree.{CommandTree}
-use Rattle.command_text.specs.Journal.{Accepted}
+use Rattle.command_text.specs.Journal.{Accepted, clock, is_kept, ticks_of}
 use Rattle.command_text.specs.Line.{is_ascii, has_other_byte}
 use Rattle.command_text.specs.Text.{text_of}
 use Rattle.command_text.specs.TextLaws.{PrintsLines, ReadsWhatIsPrinted}
@@ -21,10 +21,10 @@ use Rattle.session_file.specs.declared.counts.Counts.{Counts}
 use Rattle.session_file.specs.declared.counts.Progress.{Progress}
 use Rattle.session_file.specs.declared.fault.FileFault.TheVariants as faults
 use Rattle.session_file.specs.Counts.{counts_line, counts_of, whole_at}
-use Rattle.session_file.specs.Kept.{is_kept, is_passed, kept_in, may_be_loaded}
+use Rattle.session_file.specs.Kept.{is_passed, kept_in, may_be_loaded}
 use Rattle.session_file.specs.Laws.{IsEntry, LoadsWhatIsSaved, numbered}
-use Rattle.session_file.specs.Reading.{finished, header, may_end, read_lines, read_on, reading_of, starting, stops, ticks_of, with_first}
-use Rattle.session_file.specs.Text.{clock, counts_in, entry_text, session_text, written}
+use Rattle.session_file.specs.Reading.{finished, header, may_end, read_lines, read_on, reading_of, starting, stops, with_first}
+use Rattle.session_file.specs.Text.{counts_in, entry_text, session_text, written}
 use Rattle.session_file.proofs.KeptLemmas.{kept_taken}
 use Rattle.session_file.proofs.LineLemmas.{part_before}
 use Rattle.session_file.proofs.ReadLemmas.{read_command, read_end}
@@ -32,14 +32,14 @@ use Rattle.session_file.proofs.TextLemmas.{whole_again}
 
 -- ---- Lines that are written one after another
 
-or_false : (a b : Bool) → (a || b) ≡ false → (a ≡ false) × (b ≡ false)
+pub or_false : (a b : Bool) → (a || b) ≡ false → (a ≡ false) × (b ≡ false)
 or_false true b h = absurd (cc h)
 or_false false b h = (refl, h)
 
-ascii_is : (byte : ℕ) → is_ascii byte ≡ true → ((byte == 10) ≡ false) × ((byte == 13) ≡ false)
+pub ascii_is : (byte : ℕ) → is_ascii byte ≡ true → ((byte == 10) ≡ false) × ((byte == 13) ≡ false)
 ascii_is byte h = (grind (arith, nat_tests, h), grind (arith, nat_tests, h))
 
-not_false : (b : Bool) → not b ≡ false → b ≡ true
+pub not_false : (b : Bool) → not b ≡ false → b ≡ true
 not_false true h = refl
 not_false false h = absurd (cc h)
 
@@ -55,7 +55,7 @@ no_return_at [] i h = refl
 no_return_at (x ∷ xs) zero h = (ascii_is x (not_false (is_ascii x) (or_false (not (is_ascii x)) (has_other_byte xs) h).0)).1
 no_return_at (x ∷ xs) (suc i) h = no_return_at xs i (or_false (not (is_ascii x)) (has_other_byte xs) h).1
 
-line_then : (line rest : List ℕ) → has_other_byte line ≡ false → lines (written line ++ rest) ≡ line ∷ lines rest
+pub line_then : (line rest : List ℕ) → has_other_byte line ≡ false → lines (written line ++ rest) ≡ line ∷ lines rest
 line_then line rest h =
     ap lines (append_assoc line (10 ∷ []) rest)
     ∙ ap lines_of_parts (split_at line rest h)
@@ -77,7 +77,7 @@ decimal_ascii n small = digits_ascii (decimal n) (decimal_is_IsNumeral n (omega 
 joined_ascii : (a b : List ℕ) → has_other_byte a ≡ false → has_other_byte b ≡ false → has_other_byte (a ++ b) ≡ false
 joined_ascii a b ha hb = list_any-append (λ byte. not (is_ascii byte)) a b ∙ ap (λ t. t || has_other_byte b) ha ∙ hb
 
-counts_ascii : (n t : ℕ) → n < 10 ^ 10 → t < 10 ^ 10 → has_other_byte (counts_line (record { commands = n; ticks = t })) ≡ false
+pub counts_ascii : (n t : ℕ) → n < 10 ^ 10 → t < 10 ^ 10 → has_other_byte (counts_line (record { commands = n; ticks = t })) ≡ false
 counts_ascii n t hn ht =
     joined_ascii (decimal n) (codes " clock " ++ decimal t) (decimal_ascii n hn) (decimal_ascii t ht)
 

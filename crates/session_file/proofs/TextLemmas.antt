@@ -15,11 +15,11 @@ use Rattle.exact.specs.Options.{◌>>=◌}
 use Rattle.fixed_point.specs.Decimal.{AreDigits, digits_at}
 use Rattle.command_text.specs.Tree
 use Rattle.command_text.specs.Tree.{CommandTree}
-use Rattle.command_text.specs.Journal.{Accepted, line_told}
+use Rattle.command_text.specs.Journal.{Accepted, clock, line_told, ticks_of}
 use Rattle.command_text.specs.Text.{text_of}
 use Rattle.session_file.specs.Counts.{counts_line, has_spare_zero, whole_at}
-use Rattle.session_file.specs.Reading.{header, ticks_of}
-use Rattle.session_file.specs.Text.{clock, counts_in, entry_text, session_text, written}
+use Rattle.session_file.specs.Reading.{header}
+use Rattle.session_file.specs.Text.{counts_in, entry_text, session_text, written}
 
 -- ---- Whole numbers as they are printed
 

@@ -1,25 +1,11 @@
 -- Which lines are commands of a journal.
-use Rattle.std.specs.Prelude.{◌≡◌, ℕ, ◌==◌, ◌&&◌, nat_le, is_none, Bool, true, false, Option, Some, None, List, [], ◌∷◌, length, if◌then◌else◌}
+use Rattle.std.specs.Prelude.{◌≡◌, ℕ, ◌==◌, ◌&&◌, nat_le, is_none, Bool, true, Option, Some, None, List, [], ◌∷◌, length, if◌then◌else◌}
 use Rattle.ftl_lexer.specs.Forms.{is_blank}
-use Rattle.command_text.specs.Tree
 use Rattle.command_text.specs.Tree.{CommandTree}
-use Rattle.command_text.specs.Journal.{spelled}
+use Rattle.command_text.specs.Journal.{is_kept, spelled}
 use Rattle.command_text.specs.Line.{first_refusal}
 use Rattle.command_text.specs.Text.{text_of}
 use Rattle.session_file.specs.declared.kept.TheConstants.{SESSION_LINE_LIMIT}
-
--- a command that a journal keeps
-abbrev pub is_kept : CommandTree → Bool
-is_kept (Tree.Class name capacity point attributes) = true
-is_kept (Tree.Region name points) = true
-is_kept (Tree.Insert class name place sets) = true
-is_kept (Tree.Update name place sets) = true
-is_kept (Tree.Remove name) = true
-is_kept (Tree.Tick ticks) = true
-is_kept (Tree.Watch name span q) = true
-is_kept (Tree.Keep name span q) = true
-is_kept (Tree.Drop name) = true
-is_kept _ = false
 
 -- nothing but spaces and tabs, or after them a `#`
 abbrev pub is_passed : List ℕ → Bool

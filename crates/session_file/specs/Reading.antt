@@ -3,7 +3,7 @@ use Rattle.std.specs.Prelude.{◌≡◌, ℕ, ◌+◌, ◌==◌, ◌&&◌, nat_l
 use Rattle.std.specs.Option.{option_map_or}
 use Rattle.std.specs.Str.{bytes_eq}
 use Rattle.std.specs.Str.Lines.{lines}
-use Rattle.command_text.specs.Tree
+use Rattle.command_text.specs.Journal.{ticks_of}
 use Rattle.command_text.specs.Tree.{CommandTree, command_view}
 use Rattle.session_file.specs.declared.counts.Counts.{Counts}
 use Rattle.session_file.specs.declared.counts.Progress.{Progress}
@@ -28,11 +28,6 @@ abbrev pub with_first : ℕ × CommandTree → Reading → Reading
 with_first c rest = record { commands = c ∷ rest.commands; fault = rest.fault }
 
 -- ---- Where a command and the end may stand: anywhere, unless the text said how many commands there are
-
--- by how many ticks a command moves the clock
-abbrev pub ticks_of : CommandTree → ℕ
-ticks_of (Tree.Tick ticks) = ticks
-ticks_of _ = 0
 
 abbrev pub may_go_on : Progress → Bool
 may_go_on p = option_map_or (λ (said : Counts). nat_lt p.seen.commands said.commands) p.said true

@@ -1,15 +1,11 @@
 -- The text of a journal, in format 2.
-use Rattle.std.specs.Prelude.{ℕ, List, [], ◌∷◌, ◌++◌, length, sum_by, codes}
+use Rattle.std.specs.Prelude.{ℕ, List, [], ◌∷◌, ◌++◌, length, codes}
 use Rattle.std.specs.List.{flat_map}
-use Rattle.command_text.specs.Journal.{Accepted}
+use Rattle.command_text.specs.Journal.{Accepted, clock}
 use Rattle.command_text.specs.Text.{text_of}
 use Rattle.session_file.specs.declared.counts.Counts.{Counts}
 use Rattle.session_file.specs.Counts.{counts_line}
-use Rattle.session_file.specs.Reading.{header, ticks_of}
-
--- the clock: the sum of all ticks that passed
-abbrev pub clock : List Accepted → ℕ
-clock journal = sum_by (λ e. ticks_of e.1) journal
+use Rattle.session_file.specs.Reading.{header}
 
 -- a line with its line feed
 abbrev pub written : List ℕ → List ℕ

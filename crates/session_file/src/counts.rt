@@ -8,7 +8,8 @@ ghost use Rattle.fixed_point.specs.declared.reading.TheConstants.{WHOLE_DIGITS_L
 ghost use Rattle.command_text.specs.declared.journal.TheConstants.{MOST_ENTRIES};
 ghost use Rattle.command_text.specs.Tree.{command_view};
 ghost use Rattle.session_file.specs.Counts.{after_word, counts_of, has_spare_zero, whole_at};
-ghost use Rattle.session_file.specs.Reading.{counted, may_end, may_go_on, ticks_of};
+ghost use Rattle.command_text.specs.Journal.{ticks_of};
+ghost use Rattle.session_file.specs.Reading.{counted, may_end, may_go_on};
 ghost use Rattle.session_file.specs.Fits.{Fits};
 
 use command_text::{Command, MOST_ENTRIES};

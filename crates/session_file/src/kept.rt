@@ -3,7 +3,8 @@ ghost use Rattle.std.specs.Prelude.{◌≡◌, ◌≤◌, ◌&&◌, nat_le, leng
 ghost use Rattle.command_text.specs.Tree.{command_view};
 ghost use Rattle.command_text.specs.Line.{IsRead};
 ghost use Rattle.command_text.specs.Text.{text_of};
-ghost use Rattle.session_file.specs.Kept.{is_kept, is_passed, kept_in, may_be_loaded};
+ghost use Rattle.command_text.specs.Journal.{is_kept};
+ghost use Rattle.session_file.specs.Kept.{is_passed, kept_in, may_be_loaded};
 ghost use Rattle.session_file.specs.declared.fault.FileFault.TheVariants as faults;
 
 use crate::FileFault;

@@ -15,7 +15,7 @@ mod save;
 
 pub use fault::FileFault;
 pub use kept::SESSION_LINE_LIMIT;
-pub use laws::saved_texts_are_loaded;
+pub use laws::{cut_texts_are_bad, saved_texts_are_loaded};
 pub use lines::line_count;
 pub use loading::{check, load};
 pub use reader::{Loaded, SessionReader};

@@ -5,8 +5,9 @@ ghost use Rattle.tick_set.specs.declared.spans.TheConstants.{LAST_TICK};
 ghost use Rattle.command_text.specs.Tree.{CommandTree};
 ghost use Rattle.command_text.specs.Text.{text_of};
 ghost use Rattle.session_file.specs.Counts.{counts_line};
-ghost use Rattle.session_file.specs.Reading.{header, ticks_of};
-ghost use Rattle.session_file.specs.Text.{clock, entry_text, session_text, written};
+ghost use Rattle.command_text.specs.Journal.{clock, ticks_of};
+ghost use Rattle.session_file.specs.Reading.{header};
+ghost use Rattle.session_file.specs.Text.{entry_text, session_text, written};
 
 use crate::counts::whole_at;
 use command_text::Journal;

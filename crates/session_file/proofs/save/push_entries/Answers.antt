@@ -1,5 +1,5 @@
 use Rattle.std.proofs.Common.{◌∙◌, ◌≤◌, ◌^◌, ap, sym, slice_get, option_map, arith}
-use Rattle.session_file.specs.Reading.{ticks_of}
+use Rattle.command_text.specs.Journal.{ticks_of}
 use Rattle.session_file.proofs.TextLemmas.{told_is, text_more, clock_more, ticks_of_entry}
 use Rattle.session_file.proofs.save.push_entries.Goals as goal
 

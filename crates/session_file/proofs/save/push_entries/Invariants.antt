@@ -1,7 +1,8 @@
 -- the entries before this one are written, and their ticks are summed
 use Rattle.std.proofs.Common.{◌≡◌, ◌+◌, ◌++◌, take}
 use Rattle.std.specs.List.{flat_map}
-use Rattle.session_file.specs.Text.{clock, entry_text}
+use Rattle.command_text.specs.Journal.{clock}
+use Rattle.session_file.specs.Text.{entry_text}
 use Rattle.session_file.proofs.save.push_entries.Given as goal
 
 abbrev pub invariant-entries : goal.invariant-entries
