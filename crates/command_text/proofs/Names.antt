@@ -30,7 +30,8 @@ pub use Rattle.ftl_parser.proofs.Names.{ARROW, PLUS, POINT, RETRIEVE, STAR, has_
 unfoldable pub use Rattle.ftl_parser.proofs.Names.{cut, reserved_words, symbols, token_at}
 pub use Rattle.command_text.specs.Grammar.{Notes, SpellsAt, SpellsAttr, SpellsAttrs, SpellsChange, SpellsCommand, SpellsGiven, SpellsMoreAttrs, SpellsMoveLegs, SpellsMoves, SpellsMoving, SpellsNum, SpellsPair, SpellsPart, SpellsParts, SpellsPointWord, SpellsPoints, SpellsRateLegs, SpellsRates, SpellsSettings, and_number, and_size, attr_dyn, attr_num, attr_text, by_parts, change, first_notes, given_num, good, last_part, last_query, legs_of_x, legs_of_y, no_attrs, no_more_attrs, no_move_legs, no_parts, no_point_word, no_points, no_rate_legs, no_settings, not_at, not_moving, num_minus, num_plain, one_more_attr, one_move_leg, one_point, one_rate_leg, one_setting, part_attrs, part_before, part_change, part_error, part_name, part_num, part_point_word, part_points, part_text, part_verb, part_whole, place_of, point_of, radius_at, set_of, signed_at, token_of, whole_at}
 pub use Rattle.command_text.specs.GrammarLaws.{AreReadByTheGrammar, IsFaultOf, IsJudgedByTokens, IsReadByTheGrammar, IsRefusedByTheGrammar, IsSpelled, PassesTheFirstThree, SpellsNoCommand, SpellsWithinLimits}
-pub use Rattle.command_text.specs.Line.{IsRead, early_refusal, first_refusal, has_bad_token, has_other_byte, is_ascii, is_comment, is_too_long, late_refusal, or_else}
+pub use Rattle.exact.specs.First.{or_else}
+pub use Rattle.command_text.specs.Line.{IsRead, early_refusal, first_refusal, has_bad_token, has_other_byte, is_ascii, is_comment, is_too_long, late_refusal}
 unfoldable pub use Rattle.command_text.specs.Line.{command_in}
 pub use Rattle.command_text.specs.Parts.{Asking, Attrs, Blank, Change, Error, Last, Name, Num, Part, Parts, PointWord, Points, Quoted, Verb, Whole, is_verb, parts, ◌▸◌}
 pub use Rattle.command_text.specs.Piece.{CLOSE, CLOSE_SQUARE, COMMA, COMPARISON, MINUS, NAME, NUMBER, OPEN, OPEN_SQUARE, Piece, TEXT, WORD, has_short_words, piece_of, pieces}

@@ -4,7 +4,7 @@ use Rattle.std.specs.Option.{option_map_or}
 use Rattle.std.specs.List.{list_any}
 use Rattle.ftl_lexer.specs.Forms.{is_blank}
 use Rattle.ftl_lexer.specs.Tokens.{bad_place}
-pub use Rattle.exact.specs.First.{first_that_holds}
+pub use Rattle.exact.specs.First.{first_that_holds, or_else}
 use Rattle.command_text.specs.declared.fault.CommandFault.{CommandFault}
 use Rattle.command_text.specs.declared.fault.CommandFault.TheVariants as faults
 use Rattle.command_text.specs.declared.refusal.Refusal.{Refusal}
@@ -72,10 +72,6 @@ early_refusal limit line = first_that_holds (early limit line)
 
 abbrev pub late_refusal : {A : Type 0} → Read A → Option Refusal
 late_refusal found = first_that_holds (late found)
-
-abbrev pub or_else : Option Refusal → Option Refusal → Option Refusal
-or_else None other = other
-or_else (Some r) other = Some r
 
 -- the first refusal that holds of a line
 abbrev pub first_refusal : ℕ → List ℕ → Option Refusal

@@ -1,13 +1,12 @@
 -- The refusals of a query, by what was judged of it.
-use Rattle.std.proofs.Common.{◌≡◌, ℕ, zero, suc, ◌+◌, ◌-◌, ◌*◌, ◌≤◌, Bool, true, false, Option, None, Some, List, [], ◌∷◌, map, refl, sym, ap, ◌∙◌, inl, inr, arith, if◌then◌else◌}
+use Rattle.std.proofs.Common.{◌≡◌, ℕ, zero, suc, ◌+◌, ◌-◌, ◌*◌, ◌≤◌, Bool, true, false, Option, None, Some, List, [], ◌∷◌, map, refl, sym, ap, subst, ◌∙◌, inl, inr, arith, if◌then◌else◌}
 use Rattle.std.specs.Prelude.{◌^◌, length, min, nat_le, nat_lt, option_and_then, unwrap_or, Result, Ok, Err}
 use Rattle.std.specs.Option.{option_or}
 use Rattle.std.proofs.Math.Nat.{le-mul_of_pos_right, mul-one, mul-zero}
 use Rattle.std.proofs.lemmas.Bool.{cases_lt, or_parts}
 use Rattle.std.proofs.lemmas.Bool.Decides.{nat_tests}
-use Rattle.exact.specs.First.{first_that_holds}
+use Rattle.exact.specs.First.{first_that_holds, or_else}
 use Rattle.tick_set.specs.declared.spans.TheConstants.{LAST_TICK, SPAN_LIMIT}
-use Rattle.command_text.specs.Line.{or_else}
 use Rattle.command_text.specs.Tree
 use Rattle.command_text.specs.declared.fault.CommandFault.{CommandFault}
 use Rattle.command_text.specs.declared.refusal.Refusal.{Refusal}
@@ -18,11 +17,14 @@ use Rattle.ftl_parser.specs.Tree.{QueryTree}
 use Rattle.ftl_typer.specs.declared.fault.TypeFault.{TypeFault}
 use Rattle.ftl_typer.specs.declared.fault.TypeFault.TheVariants as type_faults
 use Rattle.kept_rows.specs.declared.binding.TheConstants.{BINDING_LIMIT}
-use Rattle.line_meaning.specs.Ask.{ask_refusal, is_past_span, most_bindings, product, query_in, refusal_by_type, span_limit, type_refusal}
+use Rattle.history.specs.Catalog.{product_of}
+use Rattle.line_meaning.specs.Ask.{ask_refusal, bindings_asked, is_past_span, span_limit}
+use Rattle.line_meaning.specs.FirstFault.{asked_refusal, refusal_by_type, type_refusal}
+use Rattle.line_meaning.proofs.RefusalLemmas.{asked_by_fault}
 use Rattle.line_meaning.specs.declared.limits.TheConstants.{ASSIGNED_SPAN_LIMIT, CIRCLE_NAMES, CIRCLE_SPAN_LIMIT}
 use Rattle.database.specs.declared.database.Database.{Database}
 use Rattle.database.specs.Keeping.{clock_of, world_of_database}
-use Rattle.database.specs.Telling.{Asks, Tells}
+use Rattle.database.specs.Telling.{Asks, IsStoppedBy, Tells}
 
 -- ---- counts that stay at the largest number
 
@@ -54,7 +56,7 @@ product_saturated a (suc b) most =
 
 -- no factor is left
 pub product_done : {X : Type 0} (place : X → ℕ) (own : ℕ → ℕ) (xs : List X) (n most whole : ℕ) → length xs ≡ 0 → n ≤ most →
-    min (n * product (map own (map place xs))) most ≡ whole → n ≡ whole
+    min (n * product_of (map own (map place xs))) most ≡ whole → n ≡ whole
 product_done place own [] n most whole none within is =
     let same : n ≡ min n most = omega (arith, within) in
     same ∙ ap (λ m. min m most) (sym (mul-one n)) ∙ is
@@ -97,11 +99,21 @@ pub accepted_span : (w : World) (now span : ℕ) (q : QueryTree) → ask_refusal
     (span ≤ SPAN_LIMIT) × (now + span ≤ LAST_TICK)
 accepted_span w now span q accepted =
     let inside : is_past_span now span q.formula ≡ false =
-    not_past (type_refusal w q) (is_past_span now span q.formula) (nat_lt BINDING_LIMIT (most_bindings w.history.catalog.classes (query_in w q))) accepted in
+    not_past (type_refusal w q) (is_past_span now span q.formula) (nat_lt BINDING_LIMIT (bindings_asked w q))
+    (sym (asked_by_fault w now span q) ∙ accepted) in
     let parts = or_parts (nat_lt (span_limit q.formula) span) (nat_lt LAST_TICK (now + span)) inside in
     let short : span ≤ span_limit q.formula = grind (arith, nat_tests, parts.0) in
     let within : span_limit q.formula ≤ SPAN_LIMIT = limit_within (nat_lt 0 (nesting q.formula)) (nat_le CIRCLE_NAMES (objects q.formula)) in
     (omega (arith, short, within), grind (arith, nat_tests, parts.1))
+
+-- ---- by the first fault of a query
+
+pub right_as_asked : (w : World) (now span : ℕ) (q : QueryTree) → asked_refusal w now span q ≡ None → ask_refusal w now span q ≡ None
+right_as_asked w now span q right = asked_by_fault w now span q ∙ right
+
+pub stopped_as_asked : (w : World) (now span : ℕ) (q : QueryTree) (fault : CommandFault) →
+    IsStoppedBy (asked_refusal w now span q) fault → IsStoppedBy (ask_refusal w now span q) fault
+stopped_as_asked w now span q fault = subst (λ (r : Option Refusal). IsStoppedBy r fault) (sym (asked_by_fault w now span q))
 
 -- what is asked is what is told of an `ask`
 pub asks_tell : (d : Database) (span : ℕ) (q : QueryTree) (before after : List ℕ) (result : Result (Unit {0}) CommandFault) →

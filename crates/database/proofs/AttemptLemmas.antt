@@ -35,10 +35,10 @@ use Rattle.command_text.specs.declared.fault.CommandFault.TheVariants as stops
 use Rattle.database.specs.declared.change.Change.TheVariants as changes
 use Rattle.database.specs.Attempt.{fault_told, Carries, LacksMemory, Stops, written_name}
 use Rattle.line_meaning.specs.Fault.{refusal_by_store, region_refusal}
-use Rattle.line_meaning.specs.Journal.{attribute_of, clock, writes, regions, writes_of, regions_of, ticks_of}
+use Rattle.line_meaning.specs.Journal.{attribute_of, writes, regions, writes_of, regions_of}
 use Rattle.line_meaning.proofs.JournalLemmas.{world_more, clock_more}
 use Rattle.history.specs.World.{World}
-use Rattle.command_text.specs.Journal.{Accepted}
+use Rattle.command_text.specs.Journal.{Accepted, clock, ticks_of}
 use Rattle.database.specs.Keeping.{clock_of, Keeps}
 
 -- What an accepted command made of the database, from which the rest follows.

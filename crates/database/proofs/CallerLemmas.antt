@@ -3,11 +3,11 @@ use Rattle.std.proofs.Common.{◌≡◌, List, true, ap}
 use Rattle.history.specs.Catalog.{empty_catalog}
 use Rattle.history.specs.World.{World}
 use Rattle.meaning.specs.Accepted.{are_accepted}
-use Rattle.command_text.specs.Journal.{Accepted}
+use Rattle.command_text.specs.Journal.{Accepted, clock}
 use Rattle.command_text.specs.Tree.{CommandTree}
 use Rattle.line_meaning.specs.Answering.{answer_lines}
 use Rattle.line_meaning.specs.Fault.{fault_among}
-use Rattle.line_meaning.specs.Journal.{clock, world, writes}
+use Rattle.line_meaning.specs.Journal.{world, writes}
 use Rattle.line_meaning.specs.Looks.{looks_asked}
 use Rattle.database.specs.declared.database.Database.{Database}
 use Rattle.database.specs.Attempt.{fault_told}

@@ -8,7 +8,7 @@ use Rattle.std.proofs.lemmas.Bool.Decides.{nat_tests}
 use Rattle.std.proofs.lemmas.List.{append_assoc}
 use Rattle.std.proofs.lemmas.List.Folds.{list_all-append}
 use Rattle.tick_set.specs.declared.spans.Span.{Span}
-use Rattle.history.specs.Catalog.{Catalog, ObjectInfo, ids_of}
+use Rattle.history.specs.Catalog.{Catalog, ObjectInfo, ids_of, name_of}
 use Rattle.history.specs.World.{World}
 use Rattle.formula.specs.Tree.{ResolvedQuery}
 use Rattle.relation.specs.declared.row.Row as kept
@@ -16,7 +16,7 @@ use Rattle.answers.specs.Told.{told_row, told_rows}
 use Rattle.meaning.specs.Answer.{Row, answer, has_ticks, row_where}
 use Rattle.meaning.specs.Binding.{holds_target, product, tuples}
 use Rattle.object_store.specs.Contents.{Contents, StoredObject, catalog_of, object_info, object_name}
-use Rattle.line_meaning.specs.Reply.{name_of, row_line, row_text, rows_text}
+use Rattle.line_meaning.specs.Reply.{row_line, row_text, rows_text}
 use Rattle.database.specs.Rows.{has_objects}
 
 abbrev pub are_below : ℕ → List ℕ → Bool

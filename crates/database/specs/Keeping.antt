@@ -4,8 +4,8 @@ use Rattle.tick_set.specs.declared.spans.TheConstants.{LAST_TICK}
 use Rattle.history.specs.World.{World}
 use Rattle.object_store.specs.Contents.{history_of}
 use Rattle.answers.specs.Objects.{IsOfAcceptedWrites}
-use Rattle.command_text.specs.Journal.{Accepted}
-use Rattle.line_meaning.specs.Journal.{clock, world}
+use Rattle.command_text.specs.Journal.{Accepted, clock}
+use Rattle.line_meaning.specs.Journal.{world}
 use Rattle.database.specs.declared.database.Database.{Database}
 
 -- all that a query may ask of

@@ -10,7 +10,9 @@ ghost use Rattle.meaning.specs.Answer.{answer};
 ghost use Rattle.meaning.specs.Fits.{FitsItsClasses};
 ghost use Rattle.meaning.specs.Reads.{query_reads, sizes_of};
 ghost use Rattle.object_store.specs.Contents.{catalog_of};
-ghost use Rattle.line_meaning.specs.Ask.{ask_refusal, capacity_of, is_past_span, product, query_in, refusal_by_type, size_refusal, span_limit};
+ghost use Rattle.history.specs.Catalog.{capacity_of, product_of};
+ghost use Rattle.line_meaning.specs.Ask.{is_past_span, query_in, span_limit};
+ghost use Rattle.line_meaning.specs.FirstFault.{asked_refusal, refusal_by_type, size_refusal};
 ghost use Rattle.line_meaning.specs.Looks.{most_reads};
 ghost use Rattle.line_meaning.specs.Reply.{rows_text};
 ghost use Rattle.reply_text.specs.Begins.{Begins};
@@ -69,7 +71,7 @@ fn capacity_of(schema: &Schema, class: &Word) -> u32
 
 /// How many bindings there may come to be of variables of these classes, or the largest number.
 pub fn most_bindings(schema: &Schema, parts: &[FromPart]) -> u64
-    ensures { result ≡ min (product (map (capacity_of schema.now) (map (λ part. class_place schema.now part.class) parts.now))) u64.MAX }
+    ensures { result ≡ min (product_of (map (capacity_of schema.now) (map (λ part. class_place schema.now part.class) parts.now))) u64.MAX }
 {
     let mut bindings: u64 = 1;
     let mut rest = parts;
@@ -124,9 +126,9 @@ fn judged(
     ensures query { IfOk result (λ q. resolved_view q ≡ query_in (world_of_database database.now) (query_view query.now)) }
     ensures sound { IfOk result (λ q. IsResolved (resolved_view q)) }
     ensures fits { IfOk result (λ q. FitsItsClasses (world_of_database database.now) (resolved_view q)) }
-    ensures right { IsOk result → ask_refusal (world_of_database database.now) database.now.clock span (query_view query.now) ≡ None }
+    ensures right { IsOk result → asked_refusal (world_of_database database.now) database.now.clock span (query_view query.now) ≡ None }
     ensures cause { IfErr result (λ fault.
-        IsStoppedBy (ask_refusal (world_of_database database.now) database.now.clock span (query_view query.now)) fault) }
+        IsStoppedBy (asked_refusal (world_of_database database.now) database.now.clock span (query_view query.now)) fault) }
 {
     let size = size_refusal(database, span, query);
     match resolve(alloc, query, database.store.schema(), &database.regions) {

@@ -3,7 +3,8 @@ ghost use Rattle.std.specs.Prelude.{◌≡◌, ◌<◌, ◌++◌, true, nat_lt, 
 ghost use Rattle.std.specs.List.{list_all};
 ghost use Rattle.object_store.specs.Contents.{catalog_of, object_name};
 ghost use Rattle.answers.specs.Told.{told_rows};
-ghost use Rattle.line_meaning.specs.Reply.{name_of, rows_text};
+ghost use Rattle.history.specs.Catalog.{name_of};
+ghost use Rattle.line_meaning.specs.Reply.{rows_text};
 ghost use Rattle.reply_text.specs.Begins.{Begins};
 ghost use Rattle.database.specs.Rows.{has_objects};
 

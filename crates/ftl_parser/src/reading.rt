@@ -1,9 +1,11 @@
 //! From tokens to a query.
 
-ghost use Rattle.std.specs.Prelude.{◌≡◌, ℕ, IfOk, IfErr};
+ghost use Rattle.std.specs.Prelude.{◌≡◌, ◌+◌, ℕ, Err, IfOk, IfErr};
 ghost use Rattle.ftl_parser.specs.Fault.{Explains, Reads};
 ghost use Rattle.ftl_parser.specs.Lawful.{IsLawful};
+ghost use Rattle.ftl_parser.specs.inner.Machine.{ended, parsed, start, taken};
 ghost use Rattle.ftl_parser.specs.inner.Parses.{Parses};
+ghost use Rattle.ftl_parser.specs.inner.Views.{kept_view};
 ghost use Rattle.ftl_parser.specs.Piece.{lexemes_from, pieces_from};
 ghost use Rattle.ftl_parser.specs.Tree.{query_view};
 
@@ -28,7 +30,6 @@ impl From<AllocError> for ParseFault {
 }
 
 // The query that the tokens from a place on spell, up to its numbers and sizes.
-#[tactic(auto, using(crate::proofs::reader::RunLemmas::run_steps))]
 fn spelled(alloc: Global, tokens: &Tokens, from: usize) -> Result<Spelled, ParseFault>
     ensures { Parses from (pieces_from from tokens.now) result }
 {
@@ -38,15 +39,34 @@ fn spelled(alloc: Global, tokens: &Tokens, from: usize) -> Result<Spelled, Parse
         stack: Vec::new(alloc),
     };
     let mut state = State::Heading(Head::Start);
+    let past = take_all(alloc, &mut kept, &mut state, tokens, from)?;
+    match ended(alloc, kept, state)? {
+        Some(query) => Ok(query),
+        None => Err(ParseFault::BadSyntax(past)),
+    }
+}
+
+// Takes the tokens from a place on into a query of which nothing was read, and gives the place past them. A function of
+// its own, since each way out of a function that owns what is kept makes its proof longer.
+#[tactic(auto, using(crate::proofs::reader::RunLemmas::run_steps))]
+fn take_all(
+    alloc: Global,
+    kept: &mut Kept,
+    state: &mut State,
+    tokens: &Tokens,
+    from: usize,
+) -> Result<usize, ParseFault>
+    requires { kept_view kept.now state.now ≡ start }
+    ensures query { IfOk result (λ _. ended (kept_view kept.new state.new) ≡ parsed start (pieces_from from tokens.now)) }
+    ensures place { IfOk result (λ past. past ≡ from + taken start (pieces_from from tokens.now)) }
+    ensures cause { IfErr result (λ fault. Parses from (pieces_from from tokens.now) (Err fault)) }
+{
     for at in from..tokens.len() {
-        if !step(alloc, &mut kept, &mut state, piece_at(tokens, at))? {
+        if !step(alloc, kept, state, piece_at(tokens, at))? {
             return Err(ParseFault::BadSyntax(at));
         }
     }
-    match ended(alloc, kept, state)? {
-        Some(query) => Ok(query),
-        None => Err(ParseFault::BadSyntax(from.max(tokens.len()))),
-    }
+    Ok(from.max(tokens.len()))
 }
 
 /// The query that the tokens from `from` to the end spell. `BadSyntax` tells the index just past the

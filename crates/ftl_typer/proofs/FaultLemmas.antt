@@ -4,7 +4,8 @@ use Rattle.std.specs.Prelude.{min}
 use Rattle.std.specs.List.{fold}
 use Rattle.ftl_typer.specs.declared.found.FaultKind.{FaultKind}
 use Rattle.ftl_typer.specs.declared.found.FaultKind.TheVariants.{UnknownName, NameTaken, WrongKind, TermRange}
-use Rattle.ftl_typer.specs.First.{Fault, fault_if, first_fault, first_found, found_after, lesser, nothing_found, places_of}
+use Rattle.ftl_typer.specs.Fault.{Fault, fault_if}
+use Rattle.ftl_typer.specs.First.{first_fault, first_found, found_after, lesser, nothing_found, places_of}
 
 none_found : (unknown taken kind range : Option ℕ) →
     first_found (record { unknown = unknown; taken = taken; kind = kind; range = range }) ≡ None →

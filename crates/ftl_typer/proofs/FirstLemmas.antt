@@ -1,13 +1,14 @@
--- What is told of faults is the first of them.
+-- What is told of faults is the first of them, and which kinds are found, for this crate and for the crates above.
 use Rattle.std.proofs.Common.{◌≡◌, ℕ, ◌+◌, ◌≤◌, Bool, true, false, cond, not, ◌&&◌, ◌||◌, List, [], ◌∷◌, map, Option, None, Some, ◌⊎◌, inl, inr, refl, sym, ap, subst, ◌∙◌, arith}
-use Rattle.std.specs.Prelude.{◌==◌, Contains, min, nat_le, nat_lt}
+use Rattle.std.specs.Prelude.{◌==◌, Contains, is_some, min, nat_le, nat_lt}
 use Rattle.std.specs.List.{filter, fold, list_all}
 use Rattle.std.proofs.lemmas.Bool.{and_from, and_parts, cases_Bool, false≢true, le-leb}
 use Rattle.std.proofs.lemmas.Bool.Decides.{nat_tests}
 use Rattle.std.proofs.lemmas.List.Elements.{Contains-append_right}
 use Rattle.ftl_typer.specs.declared.found.FaultKind.{FaultKind}
 use Rattle.ftl_typer.specs.declared.found.FaultKind.TheVariants.{UnknownName, NameTaken, WrongKind, TermRange}
-use Rattle.ftl_typer.specs.First.{Fault, IsFirst, first_fault, first_found, found_after, is_no_later, least_place, lesser, nothing_found, rank}
+use Rattle.ftl_typer.specs.Fault.{Fault, has_kind, rank}
+use Rattle.ftl_typer.specs.First.{IsFirst, first_fault, first_found, found_after, is_no_later, least_place, lesser, nothing_found}
 use Rattle.ftl_typer.proofs.FaultLemmas.{no_faults}
 
 here : (f g : Fault) (fs : List Fault) → f ≡ g → Contains (f ∷ fs) g
@@ -244,4 +245,32 @@ first_is_first fs =
                       ]
                 ]
           ]
+    ]
+
+-- ---- which kinds are found
+
+one_found : (before : Option ℕ) (place : ℕ) → is_some (lesser before place) ≡ true
+one_found None place = refl
+one_found (Some least) place = refl
+
+found_here : (here before now later : Bool) → here ≡ true → now ≡ true → (now || later) ≡ (before || (here || later))
+found_here here before now later is found = grind (arith, is, found)
+
+found_later : (here before later : Bool) → here ≡ false → (before || later) ≡ (before || (here || later))
+found_later here before later other = grind (arith, other)
+
+-- a kind has a least place where one was found before, or one of the faults is of it
+pub least_is_some : (kind : FaultKind) (before : Option ℕ) (fs : List Fault) → is_some (least_place kind before fs) ≡ (is_some before || has_kind kind fs)
+least_is_some kind before [] = grind (arith)
+least_is_some kind before (f ∷ fs) =
+    let of_it : Bool = rank f.kind == rank kind in
+    elim (cases_Bool (rank f.kind == rank kind)) [
+      | inl same ↦
+          ap is_some (of_kind kind before f fs same)
+          ∙ least_is_some kind (lesser before f.place) fs
+          ∙ found_here of_it (is_some before) (is_some (lesser before f.place)) (has_kind kind fs) same (one_found before f.place)
+      | inr other ↦
+          ap is_some (of_other kind before f fs other)
+          ∙ least_is_some kind before fs
+          ∙ found_later of_it (is_some before) (has_kind kind fs) other
     ]

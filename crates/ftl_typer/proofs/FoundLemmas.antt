@@ -8,7 +8,8 @@ use Rattle.std.proofs.lemmas.List.Sums.{fold-append}
 use Rattle.ftl_typer.specs.declared.found.FaultKind.{FaultKind}
 use Rattle.ftl_typer.specs.declared.found.FaultKind.TheVariants.{UnknownName, NameTaken, WrongKind, TermRange}
 use Rattle.ftl_typer.specs.declared.found.Found.{Found}
-use Rattle.ftl_typer.specs.First.{Fault, found_after, least_place, lesser, places_of, rank}
+use Rattle.ftl_typer.specs.Fault.{Fault, rank}
+use Rattle.ftl_typer.specs.First.{found_after, least_place, lesser, places_of}
 
 places_on : (kind : FaultKind) (fs gs : List Fault) → places_of kind (fs ++ gs) ≡ places_of kind fs ++ places_of kind gs
 places_on kind fs gs =

@@ -12,7 +12,7 @@ use Rattle.std.proofs.lemmas.List.Quantifiers.{position-Some}
 use Rattle.exact.proofs.Lists.{bytes_eq_true}
 use Rattle.geometry.specs.Region.{Region}
 use Rattle.motion.specs.declared.cell.AttrKind.{AttrKind}
-use Rattle.history.specs.Catalog.{Catalog, ClassInfo}
+use Rattle.history.specs.Catalog.{Catalog, ClassInfo, class_number}
 use Rattle.history.specs.Write.{Attribute}
 use Rattle.formula.specs.declared.value.ValueKind.{ValueKind}
 use Rattle.formula.specs.declared.value.ValueKind.TheVariants.{Number, Text}
@@ -22,7 +22,7 @@ use Rattle.object_store.proofs.Lists.{find_is}
 use Rattle.ftl_parser.specs.declared.tree.FromPart.{FromPart}
 use Rattle.ftl_typer.specs.declared.values.Assigned.{Assigned}
 use Rattle.ftl_typer.specs.Resolved.{class_place}
-use Rattle.ftl_typer.specs.Scope.{Scope, attribute_kind, attribute_number, bound_of_value, class_named, class_number, is_point, is_text, is_value, is_variable, scope_with, value_named, value_of, variable_number}
+use Rattle.ftl_typer.specs.Scope.{Scope, attribute_kind, attribute_number, bound_of_value, class_named, is_point, is_text, is_value, is_variable, scope_with, value_named, value_of, variable_number}
 
 -- ---- what is found has a place
 

@@ -8,7 +8,7 @@ use Rattle.std.proofs.lemmas.List.{length-map}
 use Rattle.std.proofs.lemmas.Map.Steps.{length-le_from_distinct_below}
 use Rattle.exact.proofs.Lists.{bytes_eq_refl}
 use Rattle.geometry.specs.Region.{Region}
-use Rattle.history.specs.Catalog.{Catalog, ClassInfo}
+use Rattle.history.specs.Catalog.{Catalog, ClassInfo, class_number}
 use Rattle.history.specs.World.{World}
 use Rattle.formula_shape.specs.Shape as shapes
 use Rattle.formula_shape.specs.Sizes.{depth, nesting, nodes}
@@ -20,9 +20,10 @@ use Rattle.ftl_parser.specs.Lawful.{IsAny, IsLawful, IsPart}
 use Rattle.ftl_parser.specs.Tree.{QueryTree, Tree}
 use Rattle.ftl_typer.specs.declared.found.FaultKind.TheVariants.{UnknownName, NameTaken}
 use Rattle.ftl_typer.specs.Faults.{faults, formula_faults, parts_faults, targets_faults}
-use Rattle.ftl_typer.specs.First.{fault_if, first_fault}
+use Rattle.ftl_typer.specs.Fault.{fault_if}
+use Rattle.ftl_typer.specs.First.{first_fault}
 use Rattle.ftl_typer.specs.Resolved.{class_place, resolved, resolved_formula}
-use Rattle.ftl_typer.specs.Scope.{Scope, class_number, is_variable, scope_of, variable_number, with_value}
+use Rattle.ftl_typer.specs.Scope.{Scope, is_variable, scope_of, variable_number, with_value}
 use Rattle.ftl_typer.proofs.FaultLemmas.{no_faults, none_if, parts_of_none}
 use Rattle.ftl_typer.proofs.PlaceLemmas.{AreThere, numbers_of, one_name, place_below, some_there, variable_below}
 use Rattle.ftl_typer.proofs.RightLemmas.{formula_right, some_items}

@@ -41,8 +41,9 @@ use Rattle.ftl_typer.specs.declared.found.FaultKind.TheVariants.{UnknownName, Wr
 use Rattle.ftl_typer.specs.declared.values.Assigned.{Assigned}
 use Rattle.formula.specs.declared.value.ValueKind.{ValueKind}
 use Rattle.formula.specs.declared.value.ValueKind.TheVariants.{Number, Text}
-use Rattle.ftl_typer.specs.Faults.{assigned_faults, atom_faults, attribute_faults, factors_faults, formula_faults, may_compare, object_faults, point_faults, points_faults, region_faults, term_faults, unit_faults}
-use Rattle.ftl_typer.specs.First.{fault_if}
+use Rattle.formula.specs.Kinds.{may_compare}
+use Rattle.ftl_typer.specs.Faults.{assigned_faults, atom_faults, attribute_faults, factors_faults, formula_faults, object_faults, point_faults, points_faults, region_faults, term_faults, unit_faults}
+use Rattle.ftl_typer.specs.Fault.{fault_if}
 use Rattle.ftl_typer.specs.Resolved.{region_place, resolved_atom, resolved_formula}
 use Rattle.ftl_typer.specs.Scope.{Scope, assigned, attribute_kind, bound_in_range, has_no_parts, has_text, is_bare, is_misplaced, is_no_object, is_no_point, is_past_range, is_point, is_static, is_text, is_text_kind, is_text_unit, is_unknown, is_value, is_variable, lacks_attribute, resolved_factor, resolved_term, resolved_unit, scope_with, term_kind, variable_number, with_value}
 use Rattle.ftl_typer.proofs.FaultLemmas.{none_if, parts_of_none}

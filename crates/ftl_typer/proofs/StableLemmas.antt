@@ -6,7 +6,7 @@ use Rattle.std.specs.Str.{bytes_eq}
 use Rattle.std.proofs.lemmas.Bool.Decides.{nat_tests}
 use Rattle.std.proofs.lemmas.List.Folds.{prefix_len-append}
 use Rattle.geometry.specs.Region.{Region, region_number}
-use Rattle.history.specs.Catalog.{ClassInfo}
+use Rattle.history.specs.Catalog.{ClassInfo, class_number}
 use Rattle.formula_shape.specs.Shape as shapes
 use Rattle.formula.specs.declared.tree.RAtom.TheVariants as ratoms
 use Rattle.ftl_parser.specs.declared.tree.Atom as atom_type
@@ -16,9 +16,10 @@ use Rattle.ftl_parser.specs.Order.{formula_names, formula_terms, term_names}
 use Rattle.ftl_parser.specs.Tree.{QueryTree, Tree}
 use Rattle.ftl_typer.specs.declared.found.FaultKind.TheVariants.{UnknownName, NameTaken}
 use Rattle.ftl_typer.specs.Faults.{atom_faults, faults, formula_faults, parts_faults, point_faults, region_faults, targets_faults, term_faults, assigned_faults}
-use Rattle.ftl_typer.specs.First.{Fault, fault_if, first_fault}
+use Rattle.ftl_typer.specs.Fault.{Fault, fault_if}
+use Rattle.ftl_typer.specs.First.{first_fault}
 use Rattle.ftl_typer.specs.Resolved.{class_place, resolved, resolved_atom, resolved_formula}
-use Rattle.ftl_typer.specs.Scope.{Scope, class_named, class_number, is_variable, resolved_term, scope_of, variable_number, with_value}
+use Rattle.ftl_typer.specs.Scope.{Scope, class_named, is_variable, resolved_term, scope_of, variable_number, with_value}
 use Rattle.ftl_typer.proofs.FaultLemmas.{joined, no_faults, no_fault_is_first, none_if, parts_of_none}
 
 -- ---- more regions

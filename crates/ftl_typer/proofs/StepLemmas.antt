@@ -4,15 +4,16 @@ use Rattle.std.specs.Prelude.{is_none}
 use Rattle.std.specs.List.{list_any}
 use Rattle.std.specs.Str.{bytes_eq}
 use Rattle.std.proofs.lemmas.List.{at_drop_more, take_more}
-use Rattle.history.specs.Catalog.{ClassInfo}
+use Rattle.history.specs.Catalog.{ClassInfo, class_number}
 use Rattle.ftl_parser.specs.declared.tree.FromPart.{FromPart}
 use Rattle.ftl_parser.specs.declared.tree.Signed.{Signed}
 use Rattle.ftl_parser.specs.Order.{unit_names}
 use Rattle.ftl_typer.specs.declared.found.FaultKind.TheVariants.{UnknownName, NameTaken}
 use Rattle.ftl_typer.specs.declared.found.Found.{Found}
 use Rattle.ftl_typer.specs.Faults.{factors_faults, parts_faults, point_faults, points_faults, targets_faults, unit_faults}
-use Rattle.ftl_typer.specs.First.{fault_if, found_after}
-use Rattle.ftl_typer.specs.Scope.{Scope, class_number, is_variable}
+use Rattle.ftl_typer.specs.Fault.{fault_if}
+use Rattle.ftl_typer.specs.First.{found_after}
+use Rattle.ftl_typer.specs.Scope.{Scope, is_variable}
 use Rattle.ftl_typer.proofs.FoundLemmas.{found_none, found_three, found_two}
 
 empty : {X : Type 0} (xs : List X) → length xs ≡ 0 → xs ≡ []

@@ -1,12 +1,11 @@
 -- What is wrong with the names, kinds and bounds of a query, and where. `at` is the number of names that are written before
 -- a part, and `nth` the number of terms.
-use Rattle.std.specs.Prelude.{ℕ, ◌+◌, ◌*◌, Bool, true, false, not, is_none, List, [], ◌∷◌, ◌++◌, length}
+use Rattle.std.specs.Prelude.{ℕ, ◌+◌, ◌*◌, not, is_none, List, [], ◌∷◌, ◌++◌, length}
 use Rattle.std.specs.List.{list_any}
 use Rattle.std.specs.Str.{bytes_eq}
 use Rattle.case_table.specs.declared.compare.Op.{Op}
-use Rattle.case_table.specs.declared.compare.Op.TheVariants as ops
 use Rattle.geometry.specs.Region.{Region}
-use Rattle.history.specs.Catalog.{ClassInfo}
+use Rattle.history.specs.Catalog.{ClassInfo, class_number}
 use Rattle.formula_shape.specs.Shape as shapes
 use Rattle.ftl_parser.specs.declared.tree.Atom as atom_type
 use Rattle.ftl_parser.specs.declared.tree.Atom.TheVariants as atoms
@@ -18,10 +17,9 @@ use Rattle.ftl_parser.specs.declared.tree.Unit.TheVariants as units
 use Rattle.ftl_parser.specs.Order.{unit_names, term_names, formula_names, formula_terms}
 use Rattle.ftl_parser.specs.Tree.{QueryTree, Tree}
 use Rattle.ftl_typer.specs.declared.found.FaultKind.TheVariants.{UnknownName, NameTaken, WrongKind, TermRange}
-use Rattle.formula.specs.declared.value.ValueKind.{ValueKind}
-use Rattle.formula.specs.declared.value.ValueKind.TheVariants.{Number, Text}
-use Rattle.ftl_typer.specs.First.{Fault, fault_if}
-use Rattle.ftl_typer.specs.Scope.{Scope, class_number, has_no_parts, is_misplaced, is_no_object, is_no_point, is_past_range, is_taken, is_unknown, is_variable, lacks_attribute, scope_of, term_kind, with_value}
+use Rattle.formula.specs.Kinds.{may_compare}
+use Rattle.ftl_typer.specs.Fault.{Fault, fault_if}
+use Rattle.ftl_typer.specs.Scope.{Scope, has_no_parts, is_misplaced, is_no_object, is_no_point, is_past_range, is_taken, is_unknown, is_variable, lacks_attribute, scope_of, term_kind, with_value}
 
 -- ---- names in formulas
 
@@ -70,17 +68,6 @@ term_faults s at nth t =
     ++ (factors_faults s at t.factors ++ fault_if (is_past_range s t) TermRange nth)
 
 -- ---- atoms
-
-abbrev pub is_equality : Op → Bool
-is_equality ops.Eq = true
-is_equality ops.Ne = true
-is_equality _ = false
-
--- numbers compare with numbers, and texts with texts by `=` and `!=` alone
-abbrev pub may_compare : ValueKind → Op → ValueKind → Bool
-may_compare Number op Number = true
-may_compare Text op Text = is_equality op
-may_compare _ op _ = false
 
 abbrev pub points_faults : Scope → ℕ → List (List ℕ) → List Fault
 points_faults s at [] = []

@@ -1,28 +1,14 @@
--- Faults of a query, and the first of them: the least kind in the order in which kinds are declared, and of these the
--- least place.
-use Rattle.std.specs.Prelude.{◌≡◌, ℕ, ◌==◌, ◌&&◌, ◌||◌, min, nat_le, nat_lt, Bool, true, Contains, Option, None, Some, List, [], ◌∷◌, map, if◌then◌else◌}
+-- The first of the faults of a query: the least kind in the order in which kinds are declared, and of these the least
+-- place.
+use Rattle.std.specs.Prelude.{◌≡◌, ℕ, ◌==◌, ◌&&◌, ◌||◌, min, nat_le, nat_lt, Bool, true, Contains, Option, None, Some, List, [], map}
 use Rattle.std.specs.List.{filter, fold, list_all}
+use Rattle.exact.specs.First.{or_else}
 use Rattle.ftl_typer.specs.declared.fault.TypeFault.{TypeFault}
 use Rattle.ftl_typer.specs.declared.fault.TypeFault.TheVariants as type_faults
 use Rattle.ftl_typer.specs.declared.found.FaultKind.{FaultKind}
 use Rattle.ftl_typer.specs.declared.found.FaultKind.TheVariants.{UnknownName, NameTaken, WrongKind, TermRange}
 use Rattle.ftl_typer.specs.declared.found.Found.{Found}
-
--- what is wrong, and where: the index of a name or of a term, in the order of writing
-pub record Fault : Type 0 where
-  pub kind : FaultKind
-  pub place : ℕ
-
--- a fault there where a test holds
-abbrev pub fault_if : Bool → FaultKind → ℕ → List Fault
-fault_if wrong kind place = if wrong then record { kind = kind; place = place } ∷ [] else []
-
--- the place of a kind in the order of faults
-abbrev pub rank : FaultKind → ℕ
-rank UnknownName = 0
-rank NameTaken = 1
-rank WrongKind = 2
-rank TermRange = 3
+use Rattle.ftl_typer.specs.Fault.{Fault, rank}
 
 -- a fault as it is told
 abbrev pub told_at : FaultKind → ℕ → TypeFault
@@ -67,11 +53,6 @@ found_after before faults = record {
 
 abbrev pub nothing_found : Found
 nothing_found = record { unknown = None; taken = None; kind = None; range = None }
-
--- an option, or else another
-abbrev pub or_else : {A : Type 0} → Option A → Option A → Option A
-or_else (Some x) other = Some x
-or_else None other = other
 
 abbrev pub fault_at : (ℕ → TypeFault) → Option ℕ → Option TypeFault
 fault_at fault None = None

@@ -1,4 +1,5 @@
 pub mod Context
+pub mod Fault
 pub mod Faults
 pub mod First
 pub mod Resolved

@@ -2,7 +2,7 @@
 -- has no fault.
 use Rattle.std.specs.Prelude.{ℕ, unwrap_or, List, length, map}
 use Rattle.geometry.specs.Region.{Region}
-use Rattle.history.specs.Catalog.{ClassInfo}
+use Rattle.history.specs.Catalog.{ClassInfo, class_number}
 use Rattle.formula_shape.specs.Shape as shapes
 use Rattle.formula.specs.Tree.{ResolvedQuery, ResolvedTree}
 use Rattle.formula.specs.declared.tree.RAtom.{RAtom}
@@ -10,7 +10,7 @@ use Rattle.formula.specs.declared.tree.RAtom.TheVariants as ratoms
 use Rattle.ftl_parser.specs.declared.tree.Atom as atom_type
 use Rattle.ftl_parser.specs.declared.tree.Atom.TheVariants as atoms
 use Rattle.ftl_parser.specs.Tree.{QueryTree, Tree}
-use Rattle.ftl_typer.specs.Scope.{Scope, class_number, resolved_term, scope_of, variable_number, with_value}
+use Rattle.ftl_typer.specs.Scope.{Scope, resolved_term, scope_of, variable_number, with_value}
 
 abbrev pub region_place : Scope → List ℕ → ℕ
 region_place s name = unwrap_or (s.region name) 0

@@ -7,7 +7,7 @@ use Rattle.fixed_point.specs.declared.number.TheConstants.{FIX_LIMIT}
 use Rattle.geometry.specs.Region.{Region, region_number}
 use Rattle.motion.specs.declared.cell.AttrKind.{AttrKind}
 use Rattle.motion.specs.declared.cell.AttrKind.TheVariants as kinds
-use Rattle.history.specs.Catalog.{ClassInfo}
+use Rattle.history.specs.Catalog.{ClassInfo, class_number}
 use Rattle.formula.specs.Bounds.{term_bound}
 use Rattle.formula.specs.declared.tree.RSigned.{RSigned}
 use Rattle.formula.specs.declared.tree.RTerm.{RTerm}
@@ -32,9 +32,6 @@ pub record Scope : Type 0 where
   -- the number of the region of that name
   pub region : List ℕ → Option ℕ
   pub values : List Assigned
-
-abbrev pub class_number : List ClassInfo → List ℕ → Option ℕ
-class_number classes name = position (λ k. bytes_eq name k.name) classes
 
 abbrev pub class_named : List ClassInfo → List ℕ → Option ClassInfo
 class_named classes name = option_and_then (slice_get classes) (class_number classes name)

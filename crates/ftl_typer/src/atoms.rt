@@ -3,7 +3,8 @@ ghost use Rattle.std.specs.Prelude.{◌≡◌, ◌+◌, ◌<◌, ◌≤◌, leng
 ghost use Rattle.ftl_parser.specs.Order.{atom_names, atom_terms, term_names};
 ghost use Rattle.ftl_parser.specs.Sizes.{atom_factors};
 ghost use Rattle.formula_shape.specs.declared.limits.TheConstants.{FACTOR_LIMIT};
-ghost use Rattle.ftl_typer.specs.Faults.{atom_faults, compare_faults, is_equality, may_compare, points_faults};
+ghost use Rattle.formula.specs.Kinds.{is_equality, may_compare};
+ghost use Rattle.ftl_typer.specs.Faults.{atom_faults, compare_faults, points_faults};
 ghost use Rattle.ftl_typer.specs.Context.{scope_in};
 ghost use Rattle.ftl_typer.specs.First.{found_after};
 

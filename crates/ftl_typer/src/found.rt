@@ -1,6 +1,7 @@
 //! The faults of a query that were found so far: the least place of each kind.
 ghost use Rattle.std.specs.Prelude.{◌≡◌, ◌∷◌, []};
-ghost use Rattle.ftl_typer.specs.First.{fault_if, first_found, found_after, lesser, nothing_found};
+ghost use Rattle.ftl_typer.specs.Fault.{fault_if};
+ghost use Rattle.ftl_typer.specs.First.{first_found, found_after, lesser, nothing_found};
 
 use crate::TypeFault;
 

@@ -5,7 +5,7 @@ ghost use Rattle.std.specs.Str.{bytes_eq};
 ghost use Rattle.ftl_typer.specs.Faults.{parts_faults, targets_faults};
 ghost use Rattle.ftl_typer.specs.Context.{scope_in};
 ghost use Rattle.ftl_typer.specs.First.{found_after};
-ghost use Rattle.ftl_typer.specs.Scope.{class_number};
+ghost use Rattle.history.specs.Catalog.{class_number};
 
 use crate::found::{FaultKind, Found};
 use crate::scope::Scope;

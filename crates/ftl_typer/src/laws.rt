@@ -8,7 +8,8 @@ ghost use Rattle.meaning.specs.Fits.{FitsItsClasses};
 ghost use Rattle.ftl_parser.specs.Lawful.{IsLawful};
 ghost use Rattle.ftl_parser.specs.Tree.{QueryTree};
 ghost use Rattle.ftl_typer.specs.Faults.{faults};
-ghost use Rattle.ftl_typer.specs.First.{Fault, IsFirst, first_fault};
+ghost use Rattle.ftl_typer.specs.Fault.{Fault};
+ghost use Rattle.ftl_typer.specs.First.{IsFirst, first_fault};
 ghost use Rattle.ftl_typer.specs.Resolved.{resolved};
 
 /// What is told of faults is the first of them, by kind and then by place.

@@ -1,6 +1,7 @@
 -- The classes and the names of objects, as the writes tell them.
-use Rattle.std.specs.Prelude.{ℕ, ◌==◌, Bool, Option, None, Some, List, [], ◌∷◌, ◌++◌, map, codes, if◌then◌else◌}
+use Rattle.std.specs.Prelude.{ℕ, ◌==◌, ◌*◌, Bool, Option, None, Some, slice_get, List, [], ◌∷◌, ◌++◌, map, codes, if◌then◌else◌}
 use Rattle.std.specs.List.{enumerate_from, filter, find, list_any, fold, position}
+use Rattle.std.specs.Option.{option_map_or}
 use Rattle.std.specs.Str.{bytes_eq}
 use Rattle.motion.specs.declared.cell.AttrKind.TheVariants as kinds
 use Rattle.history.specs.Write.{Attribute, Write, Class, Insert, Update, Remove}
@@ -36,8 +37,24 @@ with_coordinates point attributes = if point then (coordinates ++ attributes) el
 abbrev pub class_of : Catalog → List ℕ → Option ClassInfo
 class_of c name = find (λ k. bytes_eq name k.name) c.classes
 
+-- the number of a class by its name
+abbrev pub class_number : List ClassInfo → List ℕ → Option ℕ
+class_number classes name = position (λ k. bytes_eq name k.name) classes
+
 abbrev pub number_of_class : Catalog → List ℕ → Option ℕ
-number_of_class c name = position (λ k. bytes_eq name k.name) c.classes
+number_of_class c name = class_number c.classes name
+
+-- how many objects a class may have, none where it isn't there
+abbrev pub capacity_of : List ClassInfo → ℕ → ℕ
+capacity_of classes class = option_map_or (λ k. k.capacity) (slice_get classes class) 0
+
+abbrev pub product_of : List ℕ → ℕ
+product_of [] = 1
+product_of (n ∷ ns) = n * product_of ns
+
+-- how many bindings there may come to be of objects of these classes
+abbrev pub most_bindings : List ClassInfo → List ℕ → ℕ
+most_bindings classes numbers = product_of (map (capacity_of classes) numbers)
 
 abbrev pub object_of : Catalog → List ℕ → Option ObjectInfo
 object_of c name = find (λ o. bytes_eq name o.name) c.objects
@@ -68,6 +85,10 @@ catalog writes = fold catalog_after empty_catalog writes
 abbrev pub attributes_of_class : Option ClassInfo → List Attribute
 attributes_of_class None = []
 attributes_of_class (Some k) = k.attributes
+
+-- the name of an object, by its number
+abbrev pub name_of : Catalog → ℕ → List ℕ
+name_of c id = option_map_or (λ o. o.name) (slice_get c.objects id) []
 
 -- the numbers of the objects of a class, ascending
 abbrev pub ids_of : Catalog → ℕ → List ℕ

@@ -6,7 +6,8 @@ use Rattle.command_text.specs.declared.reading.TheConstants.{LINE_LIMIT}
 use Rattle.command_text.specs.declared.refusal.Refusal.{Refusal}
 use Rattle.command_text.specs.Refusals.{line_of}
 use Rattle.command_text.specs.Journal.{spelled}
-use Rattle.command_text.specs.Line.{first_refusal, or_else, IsRead}
+use Rattle.exact.specs.First.{or_else}
+use Rattle.command_text.specs.Line.{first_refusal, IsRead}
 use Rattle.command_text.specs.Tree
 use Rattle.command_text.specs.Tree.{CommandTree}
 use Rattle.line_meaning.specs.Files.{texts_after}

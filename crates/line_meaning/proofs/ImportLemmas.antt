@@ -17,16 +17,15 @@ use Rattle.history.specs.Write.{Attribute}
 use Rattle.object_rows.specs.declared.rows.ObjectRow.{ObjectRow}
 use Rattle.object_rows.specs.Commands.{GivesPrintableCommands, IsRow}
 use Rattle.command_text.specs.declared.refusal.Refusal.{Refusal}
-use Rattle.command_text.specs.Journal.{Accepted}
+use Rattle.command_text.specs.Journal.{Accepted, clock, is_kept}
 use Rattle.command_text.specs.Shape.{IsAttribute, IsPrintable, IsShortName}
 use Rattle.command_text.specs.Text.{text_of}
 use Rattle.command_text.specs.Tree
 use Rattle.command_text.specs.Tree.{CommandTree}
 use Rattle.session_file.specs.declared.kept.TheConstants.{SESSION_LINE_LIMIT}
-use Rattle.session_file.specs.Kept.{is_kept}
 use Rattle.line_meaning.specs.Fault.{is_present}
 use Rattle.line_meaning.specs.Import.{entry_lines, is_taken, journal_after_rows, lines_of_rows, row_command, rows_for, with_entry}
-use Rattle.line_meaning.specs.Journal.{attribute_of, clock, world, writes, writes_of}
+use Rattle.line_meaning.specs.Journal.{attribute_of, world, writes, writes_of}
 use Rattle.line_meaning.specs.Judging.{fault_of, held}
 use Rattle.line_meaning.specs.Looks.{looks_of_rows}
 use Rattle.line_meaning.specs.Reached.{AreReached}

@@ -4,9 +4,9 @@ use Rattle.std.proofs.lemmas.Grind.{flat_map-append}
 use Rattle.std.proofs.lemmas.List.{append_assoc}
 use Rattle.std.proofs.lemmas.List.Sums.{sum_by_push}
 use Rattle.history.specs.World.{world_of}
-use Rattle.command_text.specs.Journal.{Accepted}
+use Rattle.command_text.specs.Journal.{Accepted, clock, ticks_of}
 use Rattle.command_text.specs.Tree.{CommandTree}
-use Rattle.line_meaning.specs.Journal.{clock, regions, world, writes, writes_of, regions_of, ticks_of}
+use Rattle.line_meaning.specs.Journal.{regions, world, writes, writes_of, regions_of}
 use Rattle.line_meaning.specs.Registry.{Registration, live_after, registered, registered_from}
 
 pub writes_more : (journal : List Accepted) (tick : ℕ) (c : CommandTree) →

@@ -4,4 +4,7 @@ pub mod JournalLemmas
 pub mod LoadingLemmas
 pub mod LongLemmas
 pub mod ReachedLemmas
+pub mod RefusalLemmas
+pub mod RefusingLemmas
+pub mod RoleLemmas
 pub mod StepLemmas

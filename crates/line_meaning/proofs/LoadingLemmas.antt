@@ -1,41 +1,38 @@
 -- The text of a journal that steps lead to is loaded as this journal.
 use Rattle.std.proofs.Common.{◌≡◌, ℕ, ◌+◌, ◌≤◌, Bool, true, false, ◌&&◌, Option, None, Some, List, [], ◌∷◌, ◌++◌, length, refl, sym, ap, subst, ◌∙◌, append-nil, length-append, arith, if◌then◌else◌}
-use Rattle.std.specs.Prelude.{is_none, option_map, nat_le, nat_lt, map, sum_by}
+use Rattle.std.specs.Prelude.{◌<◌, IsSome, is_none, option_map, nat_le, nat_lt, map, take}
 use Rattle.std.specs.List.{AllByRecursion}
 use Rattle.std.specs.Str.Lines.{lines}
 use Rattle.std.proofs.lemmas.Bool.{false≢true, or_parts}
 use Rattle.std.proofs.lemmas.Bool.Decides.{nat_tests}
 use Rattle.std.proofs.lemmas.List.{append_assoc}
 use Rattle.std.proofs.lemmas.Slice.Eq.{bytes_eq-Decides}
-use Rattle.exact.specs.First.{first_that_holds}
+use Rattle.exact.specs.First.{first_that_holds, or_else}
 use Rattle.tick_set.specs.declared.spans.TheConstants.{LAST_TICK}
 use Rattle.command_text.specs.declared.journal.TheConstants.{MOST_ENTRIES}
 use Rattle.command_text.specs.declared.refusal.Refusal.{Refusal}
 use Rattle.command_text.specs.declared.refusal.Refusal.TheVariants as refusals
-use Rattle.command_text.specs.Journal.{Accepted, bytes_of, spelled}
-use Rattle.command_text.specs.Line.{or_else}
+use Rattle.command_text.specs.Journal.{Accepted, bytes_of, clock, is_kept, spelled, ticks_of}
 use Rattle.command_text.specs.Tree
 use Rattle.command_text.specs.Tree.{CommandTree}
-use Rattle.session_file.specs.Kept as loaded
-use Rattle.session_file.specs.Laws.{IsEntry, IsSavable, LoadsWhatIsSaved, numbered}
-use Rattle.session_file.specs.Reading as read
+use Rattle.session_file.specs.Laws.{CutTextsAreBad, IsEntry, IsSavable, LastFeedMayLack, LoadsWhatIsSaved, numbered}
+use Rattle.session_file.specs.declared.fault.FileFault.{FileFault}
 use Rattle.session_file.specs.Reading.{Reading, reading_of}
-use Rattle.session_file.specs.Text as saved
 use Rattle.session_file.specs.Text.{session_text}
 use Rattle.line_meaning.specs.declared.role.Role.{Role}
-use Rattle.line_meaning.specs.declared.role.Role.TheVariants.{Blank, Keeping, Telling, Filing, Ending}
+use Rattle.line_meaning.specs.declared.role.Role.TheVariants.{Keeping}
 use Rattle.line_meaning.specs.Fault.{is_gap, journal_refusal}
-use Rattle.line_meaning.specs.Journal.{clock, ticks_of}
 use Rattle.line_meaning.specs.Judging.{Held, fault_by, fault_of, held, held_after}
-use Rattle.line_meaning.specs.Loading.{Loaded, BadLine, loading_by, loading_of, replayed}
+use Rattle.line_meaning.specs.Loading.{IsBadLine, Loaded, BadLine, line_of_fault, loading_by, loading_of, replayed}
 use Rattle.line_meaning.specs.QueryFault.{command_fault}
 use Rattle.line_meaning.specs.Reached.{AreReached, IsNextEntry}
 use Rattle.line_meaning.specs.Registry.{known}
-use Rattle.line_meaning.specs.Role.{is_keeping, is_kept, role_of}
+use Rattle.line_meaning.specs.Role.{role_of}
 use Rattle.line_meaning.specs.Step.{Base, refusal_of, step}
 use Rattle.line_meaning.proofs.CallerLemmas.{step_accepted}
 use Rattle.line_meaning.proofs.JournalLemmas.{clock_more}
 use Rattle.line_meaning.proofs.ReachedLemmas.{none_of_both}
+use Rattle.line_meaning.proofs.RoleLemmas.{kept_is_keeping}
 
 -- ---- an entry of such a journal is accepted again
 
@@ -51,19 +48,16 @@ kept_is_built (Tree.Index class attribute width) kept = absurd (false≢true kep
 kept_is_built (Tree.Range span class attribute least greatest) kept = absurd (false≢true kept)
 kept_is_built c kept = refl
 
-kept_fault : (role : Role) (h : Held) (c : CommandTree) → is_keeping role ≡ true →
+kept_fault : (role : Role) (h : Held) (c : CommandTree) → role ≡ Keeping →
     command_fault (known h.journal) c ≡ None → journal_refusal (length h.journal) (bytes_of h.journal) c ≡ None → fault_by role h c ≡ None
-kept_fault Keeping h c kept fault room =
-    both_none (command_fault (known h.journal) c) (journal_refusal (length h.journal) (bytes_of h.journal) c) fault room
-kept_fault Blank h c kept fault room = refl
-kept_fault Telling h c kept fault room = absurd (false≢true kept)
-kept_fault Filing h c kept fault room = absurd (false≢true kept)
-kept_fault Ending h c kept fault room = refl
+kept_fault role h c keeping fault room =
+    ap (λ (r : Role). fault_by r h c) keeping
+    ∙ both_none (command_fault (known h.journal) c) (journal_refusal (length h.journal) (bytes_of h.journal) c) fault room
 
 accepted_again : (journal : List Accepted) (e : Accepted) → IsNextEntry journal e → fault_of (held journal) e.1 ≡ None
 accepted_again journal e is =
     ap (λ gap. if gap then Some refusals.BadSyntax else fault_by (role_of e.1) (held journal) e.1) (kept_is_built e.1 is.kept)
-    ∙ kept_fault (role_of e.1) (held journal) e.1 is.kept is.accepted is.room
+    ∙ kept_fault (role_of e.1) (held journal) e.1 (kept_is_keeping e.1 is.kept) is.accepted is.room
 
 entered_again : (journal : List Accepted) (e : Accepted) → IsNextEntry journal e → (held_after (held journal) e.1).journal ≡ journal ++ e ∷ []
 entered_again journal e is =
@@ -87,28 +81,11 @@ replays before (e ∷ journal) number reached =
 
 -- ---- such a journal may be saved
 
-kept_alike : (c : CommandTree) → is_kept c ≡ true → loaded.is_kept c ≡ true
-kept_alike (Tree.Class name capacity point attributes) kept = refl
-kept_alike (Tree.Region name points) kept = refl
-kept_alike (Tree.Insert class name place sets) kept = refl
-kept_alike (Tree.Update name place sets) kept = refl
-kept_alike (Tree.Remove name) kept = refl
-kept_alike (Tree.Tick ticks) kept = refl
-kept_alike (Tree.Watch name span q) kept = refl
-kept_alike (Tree.Keep name span q) kept = refl
-kept_alike (Tree.Drop name) kept = refl
-kept_alike Tree.Nothing kept = absurd (false≢true kept)
-kept_alike (Tree.Save file) kept = absurd (false≢true kept)
-kept_alike (Tree.Import class file) kept = absurd (false≢true kept)
-kept_alike (Tree.Export class file) kept = absurd (false≢true kept)
-kept_alike Tree.Quit kept = absurd (false≢true kept)
-kept_alike c kept = absurd (false≢true kept)
-
 entries_savable : (before journal : List Accepted) → AreReached before journal → AllByRecursion IsEntry journal
 entries_savable before [] reached = tt
 entries_savable before (e ∷ journal) reached =
     let is = reached.0 in
-    (record { kept = kept_alike e.1 is.kept; printable = is.printable; short = is.short }, entries_savable (before ++ e ∷ []) journal reached.1)
+    (record { kept = is.kept; printable = is.printable; short = is.short }, entries_savable (before ++ e ∷ []) journal reached.1)
 
 first_none : (r : Refusal) (holds : Bool) → first_that_holds ((r, holds) ∷ []) ≡ None → holds ≡ false
 first_none r true is = absurd (cc is)
@@ -152,18 +129,11 @@ clock_fits before (e ∷ journal) reached fits =
     subst (λ (j : List Accepted). clock j ≤ LAST_TICK) (append_assoc before (e ∷ []) journal)
     (clock_fits (before ++ e ∷ []) journal reached.1 (omega (arith, next, clock_more before e.0 e.1)))
 
-ticks_alike : (c : CommandTree) → read.ticks_of c ≡ ticks_of c
-ticks_alike (Tree.Tick ticks) = refl
-ticks_alike c = refl
-
-clock_alike : (journal : List Accepted) → saved.clock journal ≡ clock journal
-clock_alike journal = λ i. sum_by (λ (e : Accepted). ticks_alike e.1 i) journal
-
 is_savable : (journal : List Accepted) → AreReached [] journal → IsSavable journal
 is_savable journal reached = record {
   entries = entries_savable [] journal reached;
   few = few_entries [] journal reached (omega arith);
-  ticks = omega (arith, clock_alike journal, clock_fits [] journal reached (omega arith));
+  ticks = clock_fits [] journal reached (omega arith);
 }
 
 -- ---- its text is loaded as it
@@ -185,3 +155,27 @@ module _ (loads : LoadsWhatIsSaved) where
       ap (λ (s : Base × List ℕ). option_map loading_of (s.0.texts file)) (step_accepted b line (Tree.Save file) accepted is)
       ∙ ap (λ same. option_map loading_of (if same then Some (session_text b.held.journal) else b.texts file)) ((bytes_eq-Decides file file).1 refl)
       ∙ ap Some (saved_is_loaded b.held.journal reached)
+
+-- ---- of a part of its text
+
+fault_is_bad : (count : ℕ) (reading : Reading) (fault : Option FileFault) → IsSome fault → IsBadLine (loading_by count reading fault)
+fault_is_bad count reading None is = absurd (false≢true is)
+fault_is_bad count reading (Some fault) is = (line_of_fault count fault, refl)
+
+pub cut_is_bad : CutTextsAreBad → (journal : List Accepted) (n : ℕ) → AreReached [] journal → n + 1 < length (session_text journal) →
+    IsBadLine (loading_of (take n (session_text journal)))
+unfolding loading_of
+cut_is_bad cuts journal n reached within =
+    let text = take n (session_text journal) in
+    fault_is_bad (length (lines text)) (reading_of text) (reading_of text).fault (cuts journal n (is_savable journal reached) within)
+
+pub uncut_is_loaded : LastFeedMayLack → LoadsWhatIsSaved → (journal : List Accepted) (n : ℕ) → AreReached [] journal →
+    n + 1 ≡ length (session_text journal) → loading_of (take n (session_text journal)) ≡ Loaded journal
+unfolding loading_of
+uncut_is_loaded lacks loads journal n reached all =
+    let text = take n (session_text journal) in
+    let savable = is_savable journal reached in
+    let commands = numbered 3 (map (λ e. e.1) journal) in
+    let is : reading_of text ≡ record { commands = commands; fault = None } = lacks journal n savable all ∙ loads journal savable in
+    ap (λ (reading : Reading). loading_by (length (lines text)) reading reading.fault) is
+    ∙ replays [] journal 3 reached

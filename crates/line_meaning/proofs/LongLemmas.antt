@@ -5,8 +5,8 @@ use Rattle.command_text.specs.declared.reading.TheConstants.{LINE_LIMIT}
 use Rattle.command_text.specs.declared.refusal.Refusal.{Refusal}
 use Rattle.command_text.specs.declared.refusal.Refusal.TheVariants as refusals
 use Rattle.command_text.specs.Refusals.{line_of}
-use Rattle.exact.specs.First.{first_that_holds}
-use Rattle.command_text.specs.Line.{command_in, has_bad_token, has_other_byte, is_too_long, late_refusal, or_else}
+use Rattle.exact.specs.First.{first_that_holds, or_else}
+use Rattle.command_text.specs.Line.{command_in, has_bad_token, has_other_byte, is_too_long, late_refusal}
 use Rattle.line_meaning.specs.Reply.{line_feed}
 use Rattle.line_meaning.specs.Step.{Base, Held, line_refusal, step}
 use Rattle.line_meaning.proofs.CallerLemmas.{refusal_first, refused_line, step_refused}

@@ -11,7 +11,7 @@ use Rattle.std.proofs.lemmas.List.{append_assoc}
 use Rattle.std.proofs.lemmas.List.Folds.{find_at, list_all-append}
 use Rattle.std.proofs.lemmas.List.Sums.{fold-append}
 use Rattle.std.proofs.lemmas.Option.{slice_get_past}
-use Rattle.exact.specs.First.{first_that_holds}
+use Rattle.exact.specs.First.{first_that_holds, or_else}
 use Rattle.fixed_point.specs.declared.number.Point.{Point}
 use Rattle.motion.specs.Cells.{given_of, place_sets, setting_of}
 use Rattle.motion.specs.Function.{Function}
@@ -27,23 +27,23 @@ use Rattle.object_store.specs.declared.fault.StoreFault.TheVariants as store_fau
 use Rattle.object_store.specs.Faults.{insert_fault, is_elsewhere, is_past_capacity, repeats_set}
 use Rattle.command_text.specs.declared.refusal.Refusal.{Refusal}
 use Rattle.command_text.specs.declared.refusal.Refusal.TheVariants as refusals
-use Rattle.command_text.specs.Journal.{Accepted, bytes_of}
-use Rattle.command_text.specs.Line.{or_else}
+use Rattle.command_text.specs.Journal.{Accepted, bytes_of, clock, is_kept}
 use Rattle.command_text.specs.Shape.{AreLegs, IsAt, IsChange, IsLeg, IsMoving, IsPrintable, IsPrintableGiven, IsRate, IsSetting, IsValue}
 use Rattle.command_text.specs.Text.{text_of}
 use Rattle.command_text.specs.Tree
 use Rattle.command_text.specs.Tree.{CommandTree}
 use Rattle.session_file.specs.declared.kept.TheConstants.{SESSION_LINE_LIMIT}
 use Rattle.line_meaning.specs.declared.role.Role.{Role}
-use Rattle.line_meaning.specs.declared.role.Role.TheVariants.{Blank, Keeping, Telling, Filing, Ending}
+use Rattle.line_meaning.specs.declared.role.Role.TheVariants.{Keeping}
 use Rattle.line_meaning.specs.Fault.{is_gap, is_present, journal_refusal, refusal_by_store}
 use Rattle.line_meaning.specs.QueryFault.{command_fault}
-use Rattle.line_meaning.specs.Journal.{clock, world, writes, writes_of}
+use Rattle.line_meaning.specs.Journal.{world, writes, writes_of}
 use Rattle.line_meaning.specs.Reached.{AreReached, IsNextEntry}
 use Rattle.line_meaning.specs.Registry.{known}
-use Rattle.line_meaning.specs.Role.{is_keeping, is_kept, role_of}
+use Rattle.line_meaning.specs.Role.{role_of}
 use Rattle.line_meaning.specs.Judging.{Held, fault_by, fault_of, held_after}
 use Rattle.line_meaning.proofs.JournalLemmas.{clock_more, writes_more}
+use Rattle.line_meaning.proofs.RoleLemmas.{kept_is_keeping}
 
 -- ---- what a printable command gives
 
@@ -202,15 +202,11 @@ record IsAccepted (journal : List Accepted) (c : CommandTree) : Type 0 where
   pub fault : command_fault (known journal) c ≡ None
   pub room : journal_refusal (length journal) (bytes_of journal) c ≡ None
 
-kept_role : (role : Role) (h : Held) (c : CommandTree) → is_keeping role ≡ true → fault_by role h c ≡ None →
-    IsAccepted h.journal c
-kept_role Keeping h c kept none =
-    let both = none_of_both (command_fault (known h.journal) c) (journal_refusal (length h.journal) (bytes_of h.journal) c) none in
+accepted_by : (role : Role) (h : Held) (c : CommandTree) → role ≡ Keeping → fault_by role h c ≡ None → IsAccepted h.journal c
+accepted_by role h c keeping none =
+    let both = none_of_both (command_fault (known h.journal) c) (journal_refusal (length h.journal) (bytes_of h.journal) c)
+    (ap (λ (r : Role). fault_by r h c) (sym keeping) ∙ none) in
     record { fault = both.0; room = both.1 }
-kept_role Blank h c kept none = absurd (false≢true kept)
-kept_role Telling h c kept none = absurd (false≢true kept)
-kept_role Filing h c kept none = absurd (false≢true kept)
-kept_role Ending h c kept none = absurd (false≢true kept)
 
 built : (gap : Bool) (o : Option Refusal) → (if gap then Some refusals.BadSyntax else o) ≡ None → o ≡ None
 built true o is = absurd (cc is)
@@ -220,7 +216,7 @@ built false o is = is
 next_entry : (h : Held) (c : CommandTree) → IsPrintable c → length (text_of c) ≤ SESSION_LINE_LIMIT → fault_of h c ≡ None →
     is_kept c ≡ true → IsNextEntry h.journal (clock h.journal, c)
 next_entry h c printable short none kept =
-    let accepted = kept_role (role_of c) h c kept (built (is_gap c) (fault_by (role_of c) h c) none) in
+    let accepted = accepted_by (role_of c) h c (kept_is_keeping c kept) (built (is_gap c) (fault_by (role_of c) h c) none) in
     record { tick = refl; kept = kept; printable = printable; short = short; accepted = accepted.fault; room = accepted.room }
 
 entries_reached : (journal : List Accepted) (e : Accepted) (kept : Bool) → (kept ≡ true → IsNextEntry journal e) →

@@ -17,7 +17,7 @@ answer_lines w now Tree.Listing = listing now w.history.catalog w.regions
 answer_lines w now (Tree.Ask span q) = rows_text w.history.catalog now (rows_asked w now span q)
 answer_lines w now _ = []
 
--- those of the registered queries, which come after them
+-- the lines that tell of registered queries; in a `list` they come after the others
 abbrev pub query_lines : Known → CommandTree → List ℕ
 query_lines k Tree.Listing = flat_map registration_line k.live
 query_lines k (Tree.Show name) = option_map_or (answer_text k.world k.now) (query_of k.live name) []

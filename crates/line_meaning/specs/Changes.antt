@@ -1,12 +1,12 @@
 -- The lines of what a write or the passing of time changes for the registered queries.
 use Rattle.std.specs.Prelude.{ℕ, Bool, List, [], ◌++◌, map, codes, if◌then◌else◌}
 use Rattle.std.specs.List.{flat_map}
-use Rattle.history.specs.Catalog.{Catalog}
+use Rattle.history.specs.Catalog.{Catalog, name_of}
 use Rattle.history.specs.World.{World}
 use Rattle.meaning.specs.Answer.{has_ticks}
 use Rattle.meaning.specs.Registered.{Change, changes_of_tick, changes_of_write, registered_answer}
 use Rattle.line_meaning.specs.Registry.{Registration}
-use Rattle.line_meaning.specs.Reply.{line_feed, name_of, name_text, rows_text, run_text}
+use Rattle.line_meaning.specs.Reply.{line_feed, name_text, rows_text, run_text}
 
 -- the word, the query and the target objects, as `gain q a b`
 abbrev pub change_head : List ℕ → List ℕ → List (List ℕ) → List ℕ

@@ -1,16 +1,18 @@
 -- The rows that answer an `ask`, their lines, and refusals, worked out by hand.
-use Rattle.std.specs.Prelude.{◌≡◌, ℕ, pos, negsuc, true, false, None, Some, List, [], ◌∷◌, ◌++◌, codes, map}
-use Rattle.std.specs.List.{flat_map}
+use Rattle.std.specs.Prelude.{◌≡◌, ℕ, pos, negsuc, true, false, Option, None, Some, List, [], ◌∷◌, ◌++◌, codes, map}
+use Rattle.std.specs.List.{filter, flat_map}
 use Rattle.case_table.specs.declared.compare.Op.TheVariants.{Eq, Le}
 use Rattle.fixed_point.specs.declared.number.Point.{Point}
 use Rattle.motion.specs.Function.{level}
 use Rattle.motion.specs.declared.cell.Place.{Place}
 use Rattle.history.specs.World.{World}
 use Rattle.formula_shape.specs.Shape as shapes
+use Rattle.outside.specs.Shelf.{texts_of}
 use Rattle.meaning.specs.Answer.{Row}
 use Rattle.command_text.specs.Journal.{Accepted}
 use Rattle.command_text.specs.Tree as commands
 use Rattle.command_text.specs.Tree.{CommandTree}
+use Rattle.command_text.specs.declared.refusal.Refusal.{Refusal}
 use Rattle.command_text.specs.declared.refusal.Refusal.TheVariants as refusals
 use Rattle.ftl_parser.specs.Tree.{QueryTree, Tree}
 use Rattle.ftl_parser.specs.declared.tree.Atom.TheVariants as atoms
@@ -22,7 +24,8 @@ use Rattle.line_meaning.specs.Ask.{ask_refusal, rows_asked}
 use Rattle.line_meaning.specs.Journal.{world}
 use Rattle.line_meaning.specs.Looks.{most_looks}
 use Rattle.line_meaning.specs.Reply.{line_feed, row_text, run_text}
-use Rattle.line_meaning.specs.Step.{held}
+use Rattle.line_meaning.specs.Refusing.{all_refusals, refuses}
+use Rattle.line_meaning.specs.Step.{base, held, refusal_of}
 
 abbrev pub point : (x y : ℕ) → Point
 point x y = record { x = pos x; y = pos y }
@@ -141,3 +144,20 @@ pub record RefusesAsks : Type 0 where
   pub least_that_applies : ask_refusal cars 0 10001 (of_cars (shapes.And assigned (circle (o ∷ o ∷ o ∷ [])))) ≡ Some refusals.SpanRange
   pub most_bindings : ask_refusal cars 0 1 (of_three (codes "car")) ≡ None
   pub too_many_bindings : ask_refusal cars 0 1 (of_three (codes "big")) ≡ Some refusals.BindingLimit
+
+-- ---- lines with two faults
+
+-- all refusals that hold of a line, and the one that it is refused by
+abbrev pub judged : List ℕ → List Refusal × Option Refusal
+judged line =
+    let b = base (held cars_journal) (texts_of []) in
+    (filter (refuses b line) all_refusals, refusal_of b line)
+
+pub record RefusesByTheFirst : Type 0 where
+  pub unknown_and_absent : judged (codes "remove c") ≡ (refusals.UnknownName ∷ refusals.Presence ∷ [], Some refusals.UnknownName)
+  pub out_of_range_and_taken : judged (codes "class car 0") ≡ (refusals.NumberRange ∷ refusals.NameTaken ∷ [], Some refusals.NumberRange)
+  pub twice_and_present :
+      judged (codes "insert car a y = 1 y = 2") ≡ (refusals.NameTaken ∷ refusals.Presence ∷ [], Some refusals.NameTaken)
+  -- a command that isn't built yet, of a class that isn't there
+  pub not_built : judged (codes "index bus fuel 1") ≡ (refusals.BadSyntax ∷ [], Some refusals.BadSyntax)
+  pub accepted : judged (codes "remove a") ≡ ([], None)

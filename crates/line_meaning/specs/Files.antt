@@ -8,7 +8,8 @@ use Rattle.object_rows.specs.Exported.{exported}
 use Rattle.session_file.specs.Text.{session_text}
 use Rattle.command_text.specs.Tree
 use Rattle.command_text.specs.Tree.{CommandTree}
-use Rattle.line_meaning.specs.Journal.{clock, world}
+use Rattle.command_text.specs.Journal.{clock}
+use Rattle.line_meaning.specs.Journal.{world}
 use Rattle.line_meaning.specs.Judging.{Held}
 
 -- the objects of a class that are present at a tick, as a text of csv

@@ -5,11 +5,11 @@ use Rattle.object_rows.specs.declared.rows.ObjectRow.{ObjectRow}
 use Rattle.object_rows.specs.Commands.{command_of}
 use Rattle.object_rows.specs.Rows.{rows_in}
 use Rattle.session_file.specs.Kept.{may_be_loaded}
-use Rattle.command_text.specs.Journal.{Accepted}
+use Rattle.command_text.specs.Journal.{Accepted, clock}
 use Rattle.command_text.specs.Tree.{CommandTree}
 use Rattle.line_meaning.specs.Answering.{kept_lines}
 use Rattle.line_meaning.specs.Fault.{is_present}
-use Rattle.line_meaning.specs.Journal.{clock, world}
+use Rattle.line_meaning.specs.Journal.{world}
 use Rattle.line_meaning.specs.Judging.{fault_of, held, held_after}
 use Rattle.line_meaning.specs.Registry.{known}
 

@@ -1,5 +1,5 @@
--- What a journal tells: what was written, the regions and the clock.
-use Rattle.std.specs.Prelude.{ℕ, List, [], ◌∷◌, map, flat_map, sum_by}
+-- What a journal tells: what was written, and the regions.
+use Rattle.std.specs.Prelude.{ℕ, List, [], ◌∷◌, map, flat_map}
 use Rattle.motion.specs.declared.cell.AttrKind.{AttrKind}
 use Rattle.geometry.specs.Region.{Region}
 use Rattle.history.specs.Write.{Attribute, Write, Class, Insert, Update, Remove}
@@ -24,20 +24,11 @@ abbrev pub regions_of : CommandTree → List Region
 regions_of (Tree.Region name points) = record { name = name; points = points } ∷ []
 regions_of _ = []
 
--- by how many ticks a command moves the clock
-abbrev pub ticks_of : CommandTree → ℕ
-ticks_of (Tree.Tick ticks) = ticks
-ticks_of _ = 0
-
 abbrev pub writes : List Accepted → List Write
 writes journal = flat_map (λ e. writes_of e.0 e.1) journal
 
 abbrev pub regions : List Accepted → List Region
 regions journal = flat_map (λ e. regions_of e.1) journal
-
--- the clock: the sum of all ticks that passed
-abbrev pub clock : List Accepted → ℕ
-clock journal = sum_by (λ e. ticks_of e.1) journal
 
 -- what a query may ask of
 abbrev pub world : List Accepted → World

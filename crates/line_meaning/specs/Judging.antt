@@ -3,16 +3,16 @@ use Rattle.std.specs.Prelude.{ℕ, Option, None, Some, List, [], ◌∷◌, ◌+
 use Rattle.command_text.specs.declared.reading.TheConstants.{LINE_LIMIT}
 use Rattle.command_text.specs.declared.refusal.Refusal.{Refusal}
 use Rattle.command_text.specs.declared.refusal.Refusal.TheVariants.{BadSyntax}
-use Rattle.command_text.specs.Journal.{Accepted, bytes_of, spelled}
-use Rattle.command_text.specs.Line.{first_refusal, or_else}
+use Rattle.command_text.specs.Journal.{Accepted, bytes_of, clock, is_kept, spelled}
+use Rattle.exact.specs.First.{or_else}
+use Rattle.command_text.specs.Line.{first_refusal}
 use Rattle.command_text.specs.Tree.{CommandTree}
 use Rattle.line_meaning.specs.declared.role.Role.{Role}
 use Rattle.line_meaning.specs.declared.role.Role.TheVariants.{Blank, Ending}
 use Rattle.line_meaning.specs.Fault.{is_gap, journal_refusal}
-use Rattle.line_meaning.specs.Journal.{clock}
 use Rattle.line_meaning.specs.QueryFault.{command_fault}
 use Rattle.line_meaning.specs.Registry.{known}
-use Rattle.line_meaning.specs.Role.{is_kept, role_of}
+use Rattle.line_meaning.specs.Role.{role_of}
 
 -- what the database holds of the lines before: the commands that it accepted, each with its tick
 pub record Held : Type 0 where

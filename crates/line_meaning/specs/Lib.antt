@@ -4,6 +4,7 @@ pub mod Registry
 pub mod Role
 pub mod Fault
 pub mod QueryFault
+pub mod FirstFault
 pub mod Reply
 pub mod Changes
 pub mod Answering
@@ -11,6 +12,7 @@ pub mod Judging
 pub mod Import
 pub mod Files
 pub mod Step
+pub mod Refusing
 pub mod Loading
 pub mod Reached
 pub mod Looks

@@ -1,5 +1,5 @@
 -- What the text of a session leads to.
-use Rattle.std.specs.Prelude.{ℕ, ◌+◌, is_none, Option, None, Some, List, [], ◌∷◌, length, if◌then◌else◌}
+use Rattle.std.specs.Prelude.{◌≡◌, ℕ, ◌+◌, is_none, Option, None, Some, List, [], ◌∷◌, length, if◌then◌else◌}
 use Rattle.std.specs.Str.Lines.{lines}
 use Rattle.command_text.specs.Journal.{Accepted}
 use Rattle.command_text.specs.Tree.{CommandTree}
@@ -12,6 +12,10 @@ use Rattle.line_meaning.specs.Judging.{fault_of, held, held_after}
 pub data Loading : Type 0 where
   Loaded : List Accepted → Loading
   BadLine : ℕ → Loading
+
+-- some line is bad, and nothing is loaded
+abbrev pub IsBadLine : Loading → Type 0
+IsBadLine loading = (number : ℕ) × (loading ≡ BadLine number)
 
 -- commands with the numbers of their lines, one after another from a journal on, up to the first that is refused
 abbrev pub replayed : List Accepted → List (ℕ × CommandTree) → Loading

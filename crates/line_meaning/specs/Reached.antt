@@ -1,15 +1,13 @@
 -- The journals that steps lead to, and what lines lead to.
 use Rattle.std.specs.Prelude.{◌≡◌, ◌≤◌, true, None, ℕ, List, [], ◌∷◌, ◌++◌, length}
 use Rattle.std.specs.List.{fold}
-use Rattle.command_text.specs.Journal.{Accepted, bytes_of}
+use Rattle.command_text.specs.Journal.{Accepted, bytes_of, clock, is_kept}
 use Rattle.command_text.specs.Shape.{IsPrintable}
 use Rattle.command_text.specs.Text.{text_of}
 use Rattle.session_file.specs.declared.kept.TheConstants.{SESSION_LINE_LIMIT}
 use Rattle.line_meaning.specs.Fault.{journal_refusal}
 use Rattle.line_meaning.specs.QueryFault.{command_fault}
-use Rattle.line_meaning.specs.Journal.{clock}
 use Rattle.line_meaning.specs.Registry.{known}
-use Rattle.line_meaning.specs.Role.{is_kept}
 use Rattle.line_meaning.specs.Step.{Base, step}
 
 -- an entry after those of a journal: at the tick of its clock, of a command that is kept, printable, with a canonical line

@@ -6,12 +6,12 @@ use Rattle.formula.specs.declared.kind.QueryKind.{QueryKind}
 use Rattle.formula.specs.declared.kind.QueryKind.TheVariants as kinds
 use Rattle.history.specs.World.{World}
 use Rattle.meaning.specs.Registered.{RegisteredQuery}
-use Rattle.command_text.specs.Journal.{Accepted}
+use Rattle.command_text.specs.Journal.{Accepted, clock}
 use Rattle.command_text.specs.Tree
 use Rattle.command_text.specs.Tree.{CommandTree}
 use Rattle.ftl_parser.specs.Tree.{QueryTree}
 use Rattle.line_meaning.specs.Ask.{query_in}
-use Rattle.line_meaning.specs.Journal.{clock, world}
+use Rattle.line_meaning.specs.Journal.{world}
 
 pub record Registration : Type 0 where
   pub name : List ℕ
@@ -49,7 +49,7 @@ registered_from before live (e ∷ later) =
 abbrev pub registered : List Accepted → List Registration
 registered journal = registered_from [] [] journal
 
--- what a journal tells of which commands are judged
+-- what a journal tells by which commands are judged
 pub record Known : Type 0 where
   pub world : World
   pub now : ℕ

@@ -1,9 +1,8 @@
 -- The text of replies.
-use Rattle.std.specs.Prelude.{ℕ, length, nat_le, nat_lt, ◌&&◌, List, [], ◌∷◌, ◌++◌, map, codes, decimal, slice_get, if◌then◌else◌}
+use Rattle.std.specs.Prelude.{ℕ, length, nat_le, nat_lt, ◌&&◌, List, [], ◌∷◌, ◌++◌, map, codes, decimal, if◌then◌else◌}
 use Rattle.std.specs.List.{enumerate_from, list_any, flat_map}
-use Rattle.std.specs.Option.{option_map_or}
 use Rattle.geometry.specs.Region.{Region}
-use Rattle.history.specs.Catalog.{Catalog, ClassInfo, names}
+use Rattle.history.specs.Catalog.{Catalog, ClassInfo, name_of, names}
 use Rattle.formula.specs.declared.kind.QueryKind.{QueryKind}
 use Rattle.formula.specs.declared.kind.QueryKind.TheVariants as kinds
 use Rattle.meaning.specs.Answer.{Row}
@@ -35,10 +34,6 @@ name_text name = codes " " ++ name
 abbrev pub row_line : ℕ → List (List ℕ) → List (ℕ × ℕ) → List ℕ
 row_line now names runs =
     time_word now runs ++ flat_map name_text names ++ codes " :" ++ flat_map run_text runs ++ line_feed
-
--- the name of an object by its number
-abbrev pub name_of : Catalog → ℕ → List ℕ
-name_of c id = option_map_or (λ o. o.name) (slice_get c.objects id) []
 
 abbrev pub row_text : Catalog → ℕ → Row → List ℕ
 row_text c now row = row_line now (map (name_of c) row.key) row.runs

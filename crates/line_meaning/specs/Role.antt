@@ -5,6 +5,7 @@ use Rattle.command_text.specs.Tree.{CommandTree}
 use Rattle.line_meaning.specs.declared.role.Role.{Role}
 use Rattle.line_meaning.specs.declared.role.Role.TheVariants.{Blank, Keeping, Telling, Filing, Ending}
 
+-- each command has a row, so that one more command needs a row too
 abbrev pub role_of : CommandTree → Role
 role_of Tree.Nothing = Blank
 role_of (Tree.Class name capacity point attributes) = Keeping
@@ -16,11 +17,18 @@ role_of (Tree.Tick ticks) = Keeping
 role_of (Tree.Watch name span q) = Keeping
 role_of (Tree.Keep name span q) = Keeping
 role_of (Tree.Drop name) = Keeping
+role_of Tree.Listing = Telling
+role_of (Tree.Ask span q) = Telling
+role_of (Tree.Show name) = Telling
+role_of (Tree.Nearest span k object class) = Telling
+role_of (Tree.Must error span q) = Telling
+role_of (Tree.May error span q) = Telling
+role_of (Tree.Index class attribute width) = Telling
+role_of (Tree.Range span class attribute least greatest) = Telling
 role_of (Tree.Save file) = Filing
 role_of (Tree.Import class file) = Filing
 role_of (Tree.Export class file) = Filing
 role_of Tree.Quit = Ending
-role_of _ = Telling
 
 -- a command on registered queries
 abbrev pub is_on_queries : CommandTree → Bool
@@ -29,14 +37,6 @@ is_on_queries (Tree.Keep name span q) = true
 is_on_queries (Tree.Show name) = true
 is_on_queries (Tree.Drop name) = true
 is_on_queries _ = false
-
-abbrev pub is_keeping : Role → Bool
-is_keeping Keeping = true
-is_keeping _ = false
-
--- a command that the journal keeps
-abbrev pub is_kept : CommandTree → Bool
-is_kept c = is_keeping (role_of c)
 
 -- a command that asks the shelf for a text, or gives it one
 abbrev pub is_filing : Role → Bool

@@ -1,14 +1,13 @@
 -- The step of one line: the state after it and the reply.
 use Rattle.std.specs.Prelude.{ℕ, Option, None, Some, is_none, option_and_then, unwrap_or, List, [], ◌∷◌, ◌++◌}
 use Rattle.std.specs.Option.{option_map_or}
-use Rattle.exact.specs.First.{first_that_holds}
+use Rattle.exact.specs.First.{first_that_holds, or_else}
 use Rattle.outside.specs.Shelf.{Texts}
 use Rattle.object_rows.specs.declared.rows.ObjectRow.{ObjectRow}
 use Rattle.command_text.specs.declared.refusal.Refusal.{Refusal}
 use Rattle.command_text.specs.declared.refusal.Refusal.TheVariants.{BadFile, NoFile}
 use Rattle.command_text.specs.Refusals.{line_of}
-use Rattle.command_text.specs.Journal.{Accepted, spelled}
-use Rattle.command_text.specs.Line.{or_else}
+use Rattle.command_text.specs.Journal.{Accepted, clock, spelled}
 use Rattle.command_text.specs.Tree
 use Rattle.command_text.specs.Tree.{CommandTree}
 use Rattle.line_meaning.specs.declared.role.Role.{Role}
@@ -16,7 +15,7 @@ use Rattle.line_meaning.specs.declared.role.Role.TheVariants.{Blank, Keeping, Te
 use Rattle.line_meaning.specs.Answering.{answer_lines, kept_lines, query_lines}
 use Rattle.line_meaning.specs.Files.{texts_after}
 use Rattle.line_meaning.specs.Import.{journal_after_text, lines_of_rows, rows_for}
-use Rattle.line_meaning.specs.Journal.{clock, world}
+use Rattle.line_meaning.specs.Journal.{world}
 use Rattle.line_meaning.specs.Registry.{known}
 use Rattle.line_meaning.specs.Role.{role_of}
 use Rattle.line_meaning.specs.Reply.{line_feed, ok_line}

@@ -1,5 +1,5 @@
 //! Lines of queries and texts of files worked out, as calls without a body.
-ghost use Rattle.line_meaning.specs.Example.{AnswersAsks, RefusesAsks};
+ghost use Rattle.line_meaning.specs.Example.{AnswersAsks, RefusesAsks, RefusesByTheFirst};
 ghost use Rattle.line_meaning.specs.FilesExample.{ImportsRows, LoadsTexts, SavesTexts};
 ghost use Rattle.line_meaning.specs.QueryExample.{AnswersRegistered, RefusesRegistered};
 
@@ -12,6 +12,11 @@ pub fn asks_are_answered()
 /// Names and kinds before spans, the limits of spans, and the limit of bindings.
 pub fn asks_are_refused()
     ensures { RefusesAsks }
+{}
+
+/// Lines with two faults: both refusals hold, and the first is the answer.
+pub fn first_faults_refuse()
+    ensures { RefusesByTheFirst }
 {}
 
 /// What a watch is answered, what is gained and lost by writes, and what enters and leaves.

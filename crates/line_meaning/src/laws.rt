@@ -1,8 +1,9 @@
 //! Laws of the step, each a call without a body whose contract is the law.
-ghost use Rattle.std.specs.Prelude.{◌≡◌, ℕ, ◌<◌, ◌≤◌, ◌++◌, true, List, [], None, Some, length, option_map};
+ghost use Rattle.std.specs.Prelude.{◌≡◌, ℕ, ◌+◌, ◌-◌, ◌<◌, ◌≤◌, ◌++◌, true, List, [], None, Some, find, length, option_map, slice_get, take};
 ghost use Rattle.command_text.specs.declared.reading.TheConstants.{LINE_LIMIT};
 ghost use Rattle.command_text.specs.declared.refusal.Refusal.TheVariants.{LineTooLong};
-ghost use Rattle.command_text.specs.Refusals.{line_of};
+ghost use Rattle.command_text.specs.declared.refusal.Refusal.{Refusal};
+ghost use Rattle.command_text.specs.Refusals.{line_of, number_of};
 ghost use Rattle.command_text.specs.Journal.{Accepted, spelled};
 ghost use Rattle.command_text.specs.Shape.{IsPrintable};
 ghost use Rattle.command_text.specs.Text.{text_of};
@@ -13,14 +14,15 @@ ghost use Rattle.outside.specs.Shelf.{Texts};
 ghost use Rattle.history.specs.Catalog.{empty_catalog};
 ghost use Rattle.meaning.specs.Accepted.{are_accepted};
 ghost use Rattle.line_meaning.specs.Journal.{writes};
-ghost use Rattle.line_meaning.specs.Loading.{Loaded, loading_of};
+ghost use Rattle.line_meaning.specs.Loading.{IsBadLine, Loaded, loading_of};
 ghost use Rattle.line_meaning.specs.Reached.{AreReached, after_lines};
+ghost use Rattle.line_meaning.specs.Refusing.{all_refusals, refuses};
 ghost use Rattle.line_meaning.specs.Reply.{line_feed};
 ghost use Rattle.line_meaning.specs.Step.{Base, Held, base, fault_of, held, held_after, line_refusal, refusal_of, step};
 
 use command_text::{canonical_lines_are_short, read_commands_are_printable};
 use object_rows::commands_are_printable;
-use session_file::saved_texts_are_loaded;
+use session_file::{cut_texts_are_bad, saved_texts_are_loaded};
 
 /// All lines of more than 4,096 bytes are refused by LineTooLong, so that no more of them need be kept.
 pub fn long_lines_step_alike()
@@ -63,3 +65,24 @@ pub fn saved_sessions_are_loaded()
     saved_texts_are_loaded();
     steps_write_what_is_accepted();
 }
+
+/// The text of a journal that steps lead to, cut anywhere, is bad at a line: it is never loaded as another journal.
+/// Without the last line feed alone it is loaded as the whole one.
+pub fn cut_sessions_are_bad()
+    ensures cut { (journal : List Accepted) (n : ℕ) → AreReached [] journal → n + 1 < length (session_text journal)
+        → IsBadLine (loading_of (take n (session_text journal))) }
+    ensures feed { (journal : List Accepted) (n : ℕ) → AreReached [] journal → n + 1 ≡ length (session_text journal)
+        → loading_of (take n (session_text journal)) ≡ Loaded journal }
+{
+    cut_texts_are_bad();
+    saved_texts_are_loaded();
+}
+
+/// A line is refused by the first of the twenty refusals that holds of it, in the order of their numbers, and
+/// accepted where none holds.
+pub fn refusals_come_in_order()
+    ensures first { (b : Base) (line : List ℕ) → refusal_of b line ≡ find (refuses b line) all_refusals }
+
+    // Each refusal stands in the list at the place of its number.
+    ensures places { (r : Refusal) → slice_get all_refusals (number_of r - 1) ≡ Some r }
+{}

@@ -8,7 +8,7 @@ use Rattle.tick_set.specs.Runs.{spans_have}
 use Rattle.tick_set.specs.Ticks.{within}
 use Rattle.tick_set.specs.declared.spans.Span.{Span}
 use Rattle.tick_set.specs.declared.spans.TheConstants.{LAST_TICK}
-use Rattle.history.specs.Catalog.{Catalog, ids_of}
+use Rattle.history.specs.Catalog.{Catalog, capacity_of, ids_of, most_bindings}
 use Rattle.history.specs.World.{World}
 use Rattle.formula.specs.Resolved.{IsResolved}
 use Rattle.formula.specs.Tree.{ResolvedQuery}
@@ -21,10 +21,10 @@ use Rattle.kept_rows.specs.Rows.{HasRoom}
 use Rattle.meaning.specs.Agreement.{SeesItsClasses}
 use Rattle.meaning.specs.Binding.{holds_full}
 use Rattle.meaning.specs.Fits.{FitsItsClasses}
-use Rattle.meaning.specs.Reads.{change_reads}
+use Rattle.meaning.specs.Reads.{change_reads, renewal_reads}
 use Rattle.object_store.specs.Contents.{Contents, catalog_of}
-use Rattle.live_queries.specs.Asked.{IsBefore, class_in, renewal_reads}
-use Rattle.live_queries.specs.Columns.{AreColumnsOf, Column, HaveCapacitiesOf, HaveObjectsOf, capacity_of, gives, most_bindings, object_of, order_of, variables_of}
+use Rattle.live_queries.specs.Asked.{IsBefore, class_in}
+use Rattle.live_queries.specs.Columns.{AreColumnsOf, Column, HaveCapacitiesOf, HaveObjectsOf, gives, object_of, order_of, variables_of}
 use Rattle.live_queries.specs.Current.{row_at, told_from}
 use Rattle.live_queries.specs.Kept.{IsKept, KeptQuery, registered}
 use Rattle.live_queries.specs.Prepared.{AreColumnsWith, AreNewRows, HaveRoomFor}
@@ -52,9 +52,9 @@ targets_first catalog q cs are =
     shorter xs ys = let e : length (xs ++ ys) ≡ length xs + length ys = length-append xs ys in omega (arith, e)
 
 pub few_numbers : (catalog : Catalog) (q : ResolvedQuery) (cs : List Column) → IsResolved q → AreColumnsOf catalog q.classes (order_of q) cs →
-    most_bindings catalog q.classes ≤ BINDING_LIMIT → size_of (variables_of cs) ≤ BINDING_LIMIT
+    most_bindings catalog.classes q.classes ≤ BINDING_LIMIT → size_of (variables_of cs) ≤ BINDING_LIMIT
 few_numbers catalog q cs is are few =
-    let e : size_of (variables_of cs) ≡ most_bindings catalog q.classes = columns_size catalog q cs is are in
+    let e : size_of (variables_of cs) ≡ most_bindings catalog.classes q.classes = columns_size catalog q cs is are in
     omega (arith, e, few)
 
 pub anew_is_kept : (catalog : Catalog) (k : KeptQuery) → IsResolved k.query → SeesItsClasses k.query →
@@ -148,7 +148,7 @@ module _ (s : Contents) (id class : ℕ) (its : class ≡ class_in s id) (k : Ke
       have_with s old id before k.query.classes class its grows k.columns have (variable_of_query k is)
       (lack_tells s old id before k.query.classes class its grows k.columns have (lacking ∙ (λ i. list_any (lacks (same i) class (many i)) (own i))))
 
-  pub renewed_room : (1 ≤ capacity_of (catalog_of s) class → count ≤ capacity_of (catalog_of s) class) →
+  pub renewed_room : (1 ≤ capacity_of (catalog_of s).classes class → count ≤ capacity_of (catalog_of s).classes class) →
       HaveCapacitiesOf (catalog_of s) k.query.classes k.columns → grows ≡ true → HaveRoomFor class k.query.classes k.columns
   renewed_room room capacities yes_grows =
       have_room (catalog_of s) grows class k.query.classes id count (sym many) room k.columns renewed_objects capacities is.counted yes_grows

@@ -3,14 +3,14 @@ use Rattle.std.proofs.Common.{◌≡◌, ℕ, zero, suc, ◌≤◌, Option, None
 use Rattle.std.specs.Prelude.{All, slice_get, slice_index}
 use Rattle.std.specs.Option.{option_map_or}
 use Rattle.std.proofs.lemmas.List.Elements.{All-cons, All-head, All-nil, All-tail}
-use Rattle.history.specs.Catalog.{Catalog, ClassInfo}
+use Rattle.history.specs.Catalog.{Catalog, ClassInfo, capacity_of}
 use Rattle.history.specs.World.{World}
 use Rattle.formula.specs.Tree.{ResolvedQuery}
 use Rattle.meaning.specs.Fits.{FitsItsClasses}
 use Rattle.std.proofs.Common.{subst}
 use Rattle.live_queries.specs.declared.fresh.Renewal.{Renewal}
 use Rattle.live_queries.specs.Asked.{FitsWorld}
-use Rattle.live_queries.specs.Columns.{AreSameColumns, Column, HaveCapacitiesOf, capacity_of}
+use Rattle.live_queries.specs.Columns.{AreSameColumns, Column, HaveCapacitiesOf}
 use Rattle.live_queries.specs.Current.{AreCurrent, IsCurrentFor}
 use Rattle.live_queries.specs.Kept.{IsKept, KeptQuery}
 use Rattle.live_queries.specs.Prepared.{AreFreshFor, AreMade, IsFreshFor, IsMade}
@@ -41,13 +41,13 @@ get_more [] later i k e = absurd (nothing e)
 get_more (x ∷ infos) later zero k e = e
 get_more (x ∷ infos) later (suc i) k e = get_more infos later i k e
 
-same_capacity : (old new : Catalog) (m : List ClassInfo) → new.classes ≡ old.classes ++ m → (class : ℕ) → 1 ≤ capacity_of old class →
-    capacity_of old class ≡ capacity_of new class
+same_capacity : (old new : Catalog) (m : List ClassInfo) → new.classes ≡ old.classes ++ m → (class : ℕ) → 1 ≤ capacity_of old.classes class →
+    capacity_of old.classes class ≡ capacity_of new.classes class
 same_capacity old new m more class some = either (slice_get old.classes class) refl
   where
-    either : (o : Option ClassInfo) → slice_get old.classes class ≡ o → capacity_of old class ≡ capacity_of new class
+    either : (o : Option ClassInfo) → slice_get old.classes class ≡ o → capacity_of old.classes class ≡ capacity_of new.classes class
     either None e =
-        let none : capacity_of old class ≡ 0 = ap (λ (o : Option ClassInfo). option_map_or (λ k. k.capacity) o 0) e in
+        let none : capacity_of old.classes class ≡ 0 = ap (λ (o : Option ClassInfo). option_map_or (λ k. k.capacity) o 0) e in
         absurd (omega (arith, none, some))
     either (Some k) e =
         ap (λ (o : Option ClassInfo). option_map_or (λ i. i.capacity) o 0)
@@ -60,10 +60,10 @@ capacities_stay old new m more classes [] (d ∷ ds) same have = absurd same
 capacities_stay old new m more classes (c ∷ cs) [] same have = tt
 capacities_stay old new m more classes (c ∷ cs) (d ∷ ds) same have =
     let class : ℕ = slice_index classes c.variable in
-    let told : c.numbers.capacity ≡ capacity_of old class = have.0 in (
+    let told : c.numbers.capacity ≡ capacity_of old.classes class = have.0 in (
       same.1 ∙ told
           ∙ same_capacity old new m more class (omega (arith, told, c.numbers.some))
-          ∙ ap (λ v. capacity_of new (slice_index classes v)) (sym same.0),
+          ∙ ap (λ v. capacity_of new.classes (slice_index classes v)) (sym same.0),
       capacities_stay old new m more classes cs ds same.2 have.1,
     )
 

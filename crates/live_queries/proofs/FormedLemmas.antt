@@ -1,9 +1,9 @@
 -- What is so of the columns of a query that is registered.
 use Rattle.std.proofs.Common.{◌≡◌, ℕ, ◌<◌, true, List, [], ◌∷◌, length, map, refl, sym, ap, ◌∙◌}
-use Rattle.history.specs.Catalog.{Catalog, ids_of}
+use Rattle.history.specs.Catalog.{Catalog, capacity_of, ids_of}
 use Rattle.formula.specs.Resolved.{IsResolved}
 use Rattle.formula.specs.Tree.{ResolvedQuery}
-use Rattle.live_queries.specs.Columns.{AreColumnsOf, AreCounted, Column, HaveCapacitiesOf, HaveObjectsOf, capacity_of, has_variable, order_of}
+use Rattle.live_queries.specs.Columns.{AreColumnsOf, AreCounted, Column, HaveCapacitiesOf, HaveObjectsOf, has_variable, order_of}
 use Rattle.live_queries.proofs.OrderLemmas.{among, columns_are, order_has}
 use Rattle.std.specs.Prelude.{slice_index}
 
@@ -32,7 +32,7 @@ module _ (catalog : Catalog) (classes : List ℕ) where
   have_capacities [] (c ∷ cs) are = absurd are
   have_capacities (v ∷ vs) [] are = absurd are
   have_capacities (v ∷ vs) (c ∷ cs) are =
-      (are.0.capacity ∙ ap (λ u. capacity_of catalog (slice_index classes u)) (sym are.0.variable), have_capacities vs cs are.1)
+      (are.0.capacity ∙ ap (λ u. capacity_of catalog.classes (slice_index classes u)) (sym are.0.variable), have_capacities vs cs are.1)
 
 -- each variable of the query has a column
 pub has_column : (q : ResolvedQuery) (cs : List Column) → IsResolved q → map (λ c. c.variable) cs ≡ order_of q →

@@ -8,7 +8,7 @@ use Rattle.std.proofs.lemmas.Bool.{and_parts, both_ways, cases_Bool, false≢tru
 use Rattle.std.proofs.lemmas.Bool.Decides.{nat_tests}
 use Rattle.std.proofs.lemmas.List.{take-append-drop}
 use Rattle.std.proofs.lemmas.List.Folds.{list_any-append}
-use Rattle.history.specs.Catalog.{Catalog, ClassInfo, ids_of}
+use Rattle.history.specs.Catalog.{Catalog, ClassInfo, capacity_of, ids_of}
 use Rattle.kept_rows.specs.declared.binding.Variable.{Variable}
 use Rattle.kept_rows.specs.Numbers.{counts, holds, size_of}
 use Rattle.object_store.specs.Contents.{Contents, catalog_of, ids_in}
@@ -16,7 +16,7 @@ use Rattle.object_store.specs.Sound.{IsSound}
 use Rattle.relation.specs.Key.{has_id}
 use Rattle.answers.proofs.ObjectLemmas.{ids_ascend}
 use Rattle.live_queries.specs.Asked.{IsBefore, class_in}
-use Rattle.live_queries.specs.Columns.{AreCounted, Column, HaveCapacitiesOf, HaveObjectsOf, capacity_of, gives, has_variable, variables_of}
+use Rattle.live_queries.specs.Columns.{AreCounted, Column, HaveCapacitiesOf, HaveObjectsOf, gives, has_variable, variables_of}
 use Rattle.live_queries.specs.Prepared.{AreColumnsWith, HaveRoomFor, is_of_class}
 use Rattle.live_queries.specs.Written.{AreVariablesWith, DoAscendWith, HaveObjectsWith, lacks, takes}
 use Rattle.live_queries.proofs.ColumnLemmas.{AreGrown, equal, one_more, own}
@@ -151,7 +151,7 @@ module _ (catalog : Catalog) (grows : Bool) (class : ℕ) (classes : List ℕ) (
   do_ascend (c ∷ cs) have = (subst IsStrictlyIncreasing (sym have.0) (ids_ascend catalog (slice_index classes c.variable)), do_ascend cs have.1)
 
   -- there is room for the object
-  pub have_room : (count : ℕ) → length (ids_of catalog class) ≡ count → (1 ≤ capacity_of catalog class → count ≤ capacity_of catalog class) →
+  pub have_room : (count : ℕ) → length (ids_of catalog class) ≡ count → (1 ≤ capacity_of catalog.classes class → count ≤ capacity_of catalog.classes class) →
       (cs : List Column) → HaveObjectsWith catalog grows class classes id cs → HaveCapacitiesOf catalog classes cs → AreCounted cs →
       grows ≡ true → HaveRoomFor class classes cs
   have_room count is room [] have capacities counted yes_grows = tt
@@ -162,8 +162,8 @@ module _ (catalog : Catalog) (grows : Bool) (class : ℕ) (classes : List ℕ) (
         (λ i. if sym yes_grows i && sym here i then c.ids ++ id ∷ [] else c.ids) ∙ have.0 ∙ ap (ids_of catalog) same in
         let many : length (c.ids ++ id ∷ []) ≡ length (ids_of catalog class) = ap length ids in
         let longer : length (c.ids ++ id ∷ []) ≡ length c.ids + 1 = one_more c.ids id in
-        let capacity : c.numbers.capacity ≡ capacity_of catalog class = capacities.0 ∙ ap (capacity_of catalog) same in
-        let within : count ≤ capacity_of catalog class = room (omega (arith, c.numbers.some, capacity)) in
+        let capacity : c.numbers.capacity ≡ capacity_of catalog.classes class = capacities.0 ∙ ap (capacity_of catalog.classes) same in
+        let within : count ≤ capacity_of catalog.classes class = room (omega (arith, c.numbers.some, capacity)) in
         omega (arith, counted.0, many, longer, is, within, capacity),
     have_room count is room cs have.1 capacities.1 counted.1 yes_grows,
   )
@@ -247,15 +247,15 @@ module _ (catalog : Catalog) (grows : Bool) (class : ℕ) (classes : List ℕ) (
 -- ---- a class has no more objects than it may have
 
 pub within_capacity : (s : Contents) (class : ℕ) → IsSound s → (ids : List ℕ) → ids ≡ ids_in s.objects class →
-    1 ≤ capacity_of (catalog_of s) class → length ids ≤ capacity_of (catalog_of s) class
+    1 ≤ capacity_of (catalog_of s).classes class → length ids ≤ capacity_of (catalog_of s).classes class
 within_capacity s class sound ids are some = either (slice_get s.classes class) refl
   where
-    either : (o : Option ClassInfo) → slice_get s.classes class ≡ o → length ids ≤ capacity_of (catalog_of s) class
+    either : (o : Option ClassInfo) → slice_get s.classes class ≡ o → length ids ≤ capacity_of (catalog_of s).classes class
     either None e =
-        let none : capacity_of (catalog_of s) class ≡ 0 = ap (λ (o : Option ClassInfo). option_map_or (λ k. k.capacity) o 0) e in
+        let none : capacity_of (catalog_of s).classes class ≡ 0 = ap (λ (o : Option ClassInfo). option_map_or (λ k. k.capacity) o 0) e in
         absurd (omega (arith, none, some))
     either (Some k) e =
         let within : length (ids_in s.objects class) ≤ k.capacity = sound.objects.within class k e in
-        let its : capacity_of (catalog_of s) class ≡ k.capacity = ap (λ (o : Option ClassInfo). option_map_or (λ i. i.capacity) o 0) e in
+        let its : capacity_of (catalog_of s).classes class ≡ k.capacity = ap (λ (o : Option ClassInfo). option_map_or (λ i. i.capacity) o 0) e in
         let many : length ids ≡ length (ids_in s.objects class) = ap length are in
         omega (arith, within, its, many)

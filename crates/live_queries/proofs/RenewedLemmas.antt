@@ -3,8 +3,7 @@ use Rattle.std.proofs.Common.{◌≡◌, ℕ, ◌+◌, ◌-◌, ◌≤◌, List,
 use Rattle.std.specs.Prelude.{nat_le}
 use Rattle.std.proofs.lemmas.List.Sums.{sum_by-cons}
 use Rattle.history.specs.Catalog.{Catalog}
-use Rattle.meaning.specs.Reads.{change_reads, write_reads}
-use Rattle.live_queries.specs.Asked.{renewal_reads}
+use Rattle.meaning.specs.Reads.{change_reads, renewal_reads, write_reads}
 use Rattle.live_queries.specs.Kept.{KeptQuery, registered}
 
 module _ (c : Catalog) (now class : ℕ) where

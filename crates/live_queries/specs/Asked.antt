@@ -1,11 +1,9 @@
 -- What a world and a store must be for queries to be judged in them.
-use Rattle.std.specs.Prelude.{◌≡◌, ℕ, ◌+◌, ◌-◌, nat_le, List, All, length, slice_get, take, if◌then◌else◌}
+use Rattle.std.specs.Prelude.{◌≡◌, ℕ, ◌-◌, List, All, length, slice_get, take}
 use Rattle.std.specs.Option.{option_map_or}
 use Rattle.history.specs.Catalog.{Catalog}
 use Rattle.history.specs.World.{World}
 use Rattle.meaning.specs.Fits.{FitsItsClasses}
-use Rattle.meaning.specs.Reads.{change_reads}
-use Rattle.meaning.specs.Registered.{RegisteredQuery}
 use Rattle.object_store.specs.Contents.{Contents}
 use Rattle.live_queries.specs.Columns.{HaveCapacitiesOf, HaveObjectsOf}
 use Rattle.live_queries.specs.Kept.{KeptQuery}
@@ -30,7 +28,3 @@ pub record HaveObjectsBefore (id : ℕ) (new : Catalog) (live : List KeptQuery) 
 -- the class of an object, by its number
 abbrev pub class_in : Contents → ℕ → ℕ
 class_in s id = option_map_or (λ o. o.class) (slice_get s.objects id) 0
-
--- how many looks at timelines a write to an object of a class may take for one query, up to its expiry
-abbrev pub renewal_reads : Catalog → ℕ → ℕ → RegisteredQuery → ℕ
-renewal_reads c now class r = if nat_le now r.expiry then change_reads c r.query (r.expiry + 1 - r.entry) class else 0

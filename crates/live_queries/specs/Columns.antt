@@ -1,8 +1,7 @@
 -- The variables of a registered query in the order of its numbers, and the objects that a number gives them.
-use Rattle.std.specs.Prelude.{◌≡◌, ⊤, ℕ, ◌*◌, ◌/◌, ◌%◌, ◌==◌, Bool, false, not, ◌&&◌, ◌||◌, nat_lt, List, [], ◌∷◌, ◌++◌, length, map, slice_get, slice_index, slice_index_or, if◌then◌else◌}
+use Rattle.std.specs.Prelude.{◌≡◌, ⊤, ℕ, ◌/◌, ◌%◌, ◌==◌, Bool, false, not, ◌&&◌, ◌||◌, nat_lt, List, [], ◌∷◌, ◌++◌, length, map, slice_index, slice_index_or, if◌then◌else◌}
 use Rattle.std.specs.List.{list_any}
-use Rattle.std.specs.Option.{option_map_or}
-use Rattle.history.specs.Catalog.{Catalog, ids_of}
+use Rattle.history.specs.Catalog.{Catalog, capacity_of, ids_of}
 use Rattle.formula.specs.Tree.{ResolvedQuery}
 use Rattle.formula.specs.Variables.{variables_in}
 use Rattle.kept_rows.specs.declared.binding.Variable.{Variable}
@@ -50,27 +49,18 @@ HaveObjectsOf catalog classes [] = ⊤
 HaveObjectsOf catalog classes (c ∷ cs) =
     (c.ids ≡ ids_of catalog (slice_index classes c.variable)) × HaveObjectsOf catalog classes cs
 
--- how many objects a class may have
-abbrev pub capacity_of : Catalog → ℕ → ℕ
-capacity_of catalog class = option_map_or (λ k. k.capacity) (slice_get catalog.classes class) 0
-
 -- there may be as many objects in each column as in its variable's class
 abbrev pub HaveCapacitiesOf : Catalog → List ℕ → List Column → Type 0
 HaveCapacitiesOf catalog classes [] = ⊤
 HaveCapacitiesOf catalog classes (c ∷ cs) =
-    (c.numbers.capacity ≡ capacity_of catalog (slice_index classes c.variable)) × HaveCapacitiesOf catalog classes cs
-
--- how many bindings of objects of these classes there may come to be
-abbrev pub most_bindings : Catalog → List ℕ → ℕ
-most_bindings catalog [] = 1
-most_bindings catalog (class ∷ classes) = capacity_of catalog class * most_bindings catalog classes
+    (c.numbers.capacity ≡ capacity_of catalog.classes (slice_index classes c.variable)) × HaveCapacitiesOf catalog classes cs
 
 -- a column is that of a variable, with all objects of its class
 pub record IsColumnOf (catalog : Catalog) (classes : List ℕ) (v : ℕ) (c : Column) : Type 0 where
   pub variable : c.variable ≡ v
   pub counted : c.numbers.count ≡ length c.ids
   pub objects : c.ids ≡ ids_of catalog (slice_index classes v)
-  pub capacity : c.numbers.capacity ≡ capacity_of catalog (slice_index classes v)
+  pub capacity : c.numbers.capacity ≡ capacity_of catalog.classes (slice_index classes v)
 
 -- those of some variables
 abbrev pub AreColumnsOf : Catalog → List ℕ → List ℕ → List Column → Type 0

@@ -1,11 +1,11 @@
 //! The columns of a query: its variables in the order of the numbers of its bindings, with their objects.
 ghost use Rattle.std.specs.Prelude.{◌≡◌, ◌<◌, ◌≤◌, ◌==◌, ◌&&◌, true, nat_lt, not, length, IfOk};
 ghost use Rattle.std.specs.List.{list_any, list_all};
-ghost use Rattle.history.specs.Catalog.{ids_of};
+ghost use Rattle.history.specs.Catalog.{capacity_of, ids_of};
 ghost use Rattle.formula.specs.Resolved.{IsResolved};
 ghost use Rattle.formula.specs.Tree.{query_view};
 ghost use Rattle.object_store.specs.Contents.{catalog_of, ids_in};
-ghost use Rattle.live_queries.specs.Columns.{AreColumnsOf, IsColumnOf, capacity_of, order_of, variables_of};
+ghost use Rattle.live_queries.specs.Columns.{AreColumnsOf, IsColumnOf, order_of, variables_of};
 ghost use Rattle.live_queries.specs.Prepared.{HaveRoomFor};
 ghost use Rattle.live_queries.specs.Written.{AreVariablesWith, DoAscendWith, lacks};
 
@@ -69,7 +69,7 @@ fn column(alloc: Global, query: &RQuery, store: &Store, variable: u8) -> Result<
 // How many objects a class may have, which are at least as many as it has.
 fn capacity(store: &Store, class: ClassNo) -> u32
     requires { class < length store.now.classes }
-    ensures value { result ≡ capacity_of (catalog_of store.now) class }
+    ensures value { result ≡ capacity_of (catalog_of store.now).classes class }
     ensures some { 1 ≤ result }
     ensures room { length (ids_in store.now.objects class) ≤ result }
 {
@@ -83,7 +83,7 @@ fn capacity(store: &Store, class: ClassNo) -> u32
 /// How many objects a class has: no more than it may have.
 pub(crate) fn class_count(store: &Store, class: ClassNo) -> usize
     ensures value { result ≡ length (ids_of (catalog_of store.now) class) }
-    ensures room { 1 ≤ capacity_of (catalog_of store.now) class → result ≤ capacity_of (catalog_of store.now) class }
+    ensures room { 1 ≤ capacity_of (catalog_of store.now).classes class → result ≤ capacity_of (catalog_of store.now).classes class }
 {
     let _ = store.object_count();
     store.class_names(class).len()

@@ -15,7 +15,8 @@ ghost use Rattle.kept_rows.specs.declared.binding.TheConstants.{BINDING_LIMIT};
 ghost use Rattle.kept_rows.specs.Numbers.{size_of};
 ghost use Rattle.formula.specs.declared.limits.TheConstants.{QUERY_LIMIT};
 ghost use Rattle.live_queries.specs.Asked.{FitsWorld, HaveObjectsBefore, class_in};
-ghost use Rattle.live_queries.specs.Columns.{most_bindings, variables_of};
+ghost use Rattle.history.specs.Catalog.{most_bindings};
+ghost use Rattle.live_queries.specs.Columns.{variables_of};
 ghost use Rattle.live_queries.specs.Kept.{AreKept, IsKept, registered};
 ghost use Rattle.live_queries.specs.Prepared.{AreFreshFor, AreMade, ArePrepared, IsPrepared};
 ghost use Rattle.live_queries.specs.Registering.{AddsQuery};
@@ -198,7 +199,7 @@ impl Live {
         requires accepted { IsOfAcceptedWrites store.now }
         requires resolved { IsResolved (query_view query) }
         requires fits { FitsItsClasses (world_in store.now regions.now) (query_view query) }
-        requires size { most_bindings (catalog_of store.now) query.classes ≤ BINDING_LIMIT }
+        requires size { most_bindings (catalog_of store.now).classes query.classes ≤ BINDING_LIMIT }
         requires window { info.now.entry ≤ info.now.expiry }
         requires last { info.now.expiry ≤ LAST_TICK }
         requires length { info.now.expiry - info.now.entry ≤ SPAN_LIMIT }

@@ -5,11 +5,11 @@ ghost use Rattle.meaning.specs.Registered.{first_tick};
 ghost use Rattle.kept_rows.specs.declared.binding.TheConstants.{BINDING_LIMIT};
 ghost use Rattle.tick_set.specs.Runs.{spans_have};
 ghost use Rattle.tick_set.specs.declared.spans.TheConstants.{LAST_TICK, SPAN_LIMIT};
-ghost use Rattle.history.specs.Catalog.{Catalog};
+ghost use Rattle.history.specs.Catalog.{Catalog, most_bindings};
 ghost use Rattle.formula.specs.Resolved.{IsResolved};
 ghost use Rattle.formula.specs.Tree.{query_view};
 ghost use Rattle.meaning.specs.Fits.{FitsItsClasses};
-ghost use Rattle.meaning.specs.Reads.{query_reads, sizes_of};
+ghost use Rattle.meaning.specs.Reads.{query_reads, renewal_reads, sizes_of};
 ghost use Rattle.object_store.specs.Contents.{catalog_of};
 ghost use Rattle.atoms.specs.Asked.{told_world};
 ghost use Rattle.answers.specs.Objects.{IsOfAcceptedWrites};
@@ -17,8 +17,8 @@ ghost use Rattle.kept_rows.specs.Changes.{AreReady, AreRising, after};
 ghost use Rattle.kept_rows.specs.Listing.{lines_upto, passing_of};
 ghost use Rattle.kept_rows.specs.Moves.{move_of};
 ghost use Rattle.kept_rows.specs.Numbers.{size_of};
-ghost use Rattle.live_queries.specs.Asked.{FitsWorld, IsBefore, class_in, renewal_reads};
-ghost use Rattle.live_queries.specs.Columns.{HaveObjectsOf, most_bindings, variables_of};
+ghost use Rattle.live_queries.specs.Asked.{FitsWorld, IsBefore, class_in};
+ghost use Rattle.live_queries.specs.Columns.{HaveObjectsOf, variables_of};
 ghost use Rattle.live_queries.specs.Current.{row_at};
 ghost use Rattle.live_queries.specs.Kept.{IsKept, registered};
 ghost use Rattle.live_queries.specs.Prepared.{AreNewRows, HaveRoomFor, IsFreshFor, IsMade, IsReadyFor};
@@ -92,7 +92,7 @@ impl LiveQuery {
         requires accepted { IsOfAcceptedWrites world.now.store.now }
         requires resolved { IsResolved (query_view query) }
         requires fits { FitsItsClasses (told_world world.now) (query_view query) }
-        requires size { most_bindings (catalog_of world.now.store.now) query.classes ≤ BINDING_LIMIT }
+        requires size { most_bindings (catalog_of world.now.store.now).classes query.classes ≤ BINDING_LIMIT }
         requires window { info.now.entry ≤ info.now.expiry }
         requires last { info.now.expiry ≤ LAST_TICK }
         requires length { info.now.expiry - info.now.entry ≤ SPAN_LIMIT }

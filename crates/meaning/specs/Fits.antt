@@ -5,7 +5,6 @@ use Rattle.std.specs.List.{list_all, list_any, reduce}
 use Rattle.std.specs.Option.{option_map_or}
 use Rattle.std.specs.Ordering.{int_eq}
 use Rattle.case_table.specs.declared.compare.Op.{Op}
-use Rattle.case_table.specs.declared.compare.Op.TheVariants as ops
 use Rattle.motion.specs.declared.cell.AttrKind.{AttrKind}
 use Rattle.motion.specs.declared.cell.AttrKind.TheVariants as kinds
 use Rattle.history.specs.Catalog.{Catalog, ClassInfo, ids_of}
@@ -22,6 +21,7 @@ use Rattle.formula.specs.declared.value.Value.{Value}
 use Rattle.formula.specs.declared.value.Value.TheVariants as values
 use Rattle.formula.specs.declared.value.ValueKind.{ValueKind}
 use Rattle.formula.specs.declared.value.ValueKind.TheVariants.{Number, Text}
+use Rattle.formula.specs.Kinds.{may_compare}
 use Rattle.formula.specs.Tree.{ResolvedQuery, ResolvedTree}
 use Rattle.formula.specs.Value.{value_in}
 use Rattle.meaning.specs.Value.{attribute_bound}
@@ -86,15 +86,9 @@ kind_of_sum _ _ = None
 abbrev pub term_kind : Catalog → List ℕ → (ℕ → Option ValueKind) → RTerm → Option ValueKind
 term_kind c classes scope q = unwrap_or (reduce kind_of_sum (map (factor_kind c classes scope) q.factors)) None
 
--- texts compare by `=` and `!=` alone
-abbrev pub compares_texts : Op → Bool
-compares_texts ops.Eq = true
-compares_texts ops.Ne = true
-compares_texts _ = false
-
+-- two sides that have kinds, and kinds that may be compared
 abbrev pub kinds_compare : Op → Option ValueKind → Option ValueKind → Bool
-kinds_compare op (Some Number) (Some Number) = true
-kinds_compare op (Some Text) (Some Text) = compares_texts op
+kinds_compare op (Some left) (Some right) = may_compare left op right
 kinds_compare op _ _ = false
 
 -- where there are so many regions

@@ -62,9 +62,10 @@ change_reads c q ticks class =
     (λ v. if slice_index q.classes v == class then query_reads (made_single (sizes_of c q) (v ∷ [])) ticks q else 0)
     (between 0 (length q.classes))
 
--- How many looks at timelines a write to an object of a class may take: those of each query up to its expiry.
+-- how many a write to an object of a class may take for one query, up to its expiry
+abbrev pub renewal_reads : Catalog → ℕ → ℕ → RegisteredQuery → ℕ
+renewal_reads c now class r = if nat_le now r.expiry then change_reads c r.query (r.expiry + 1 - r.entry) class else 0
+
+-- and for all of them
 abbrev pub write_reads : Catalog → List RegisteredQuery → ℕ → ℕ → ℕ
-write_reads c queries now class =
-    sum_by
-    (λ r. if nat_le now r.expiry then change_reads c r.query (r.expiry + 1 - r.entry) class else 0)
-    queries
+write_reads c queries now class = sum_by (renewal_reads c now class) queries

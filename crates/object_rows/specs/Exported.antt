@@ -1,13 +1,12 @@
 -- The text of a class's objects: every column of the class, and a row for each present object.
 use Rattle.std.specs.Prelude.{ℕ, Option, None, Some, List, [], ◌∷◌, slice_get}
 use Rattle.std.specs.List.{flat_map}
-use Rattle.std.specs.Option.{option_map_or}
 use Rattle.csv.specs.Writing.{default_writer, row_text}
 use Rattle.fixed_point.specs.Canonical.{fix_text}
 use Rattle.motion.specs.declared.cell.Cell.{Cell}
 use Rattle.motion.specs.declared.cell.Cell.TheVariants as cells
 use Rattle.motion.specs.Dynamic.{slope_at, value_at}
-use Rattle.history.specs.Catalog.{Catalog, attributes_of_class, ids_of}
+use Rattle.history.specs.Catalog.{Catalog, attributes_of_class, ids_of, name_of}
 use Rattle.history.specs.History.{History, cells_at}
 use Rattle.history.specs.Write.{Attribute}
 use Rattle.object_rows.specs.Columns.{header_of}
@@ -20,9 +19,6 @@ cell_fields now (cells.Dyn v) = fix_text (value_at v now) ∷ fix_text (slope_at
 
 abbrev pub object_fields : ℕ → List ℕ → List Cell → List (List ℕ)
 object_fields now name object = name ∷ flat_map (cell_fields now) object
-
-abbrev pub name_of : Catalog → ℕ → List ℕ
-name_of catalog id = option_map_or (λ o. o.name) (slice_get catalog.objects id) []
 
 -- the row of an object with these cells, none where it is absent
 abbrev pub state_rows : ℕ → List ℕ → Option (List Cell) → List (List (List ℕ))

@@ -7,7 +7,6 @@ use Rattle.std.proofs.lemmas.Bool.Decides.{nat_tests}
 use Rattle.std.proofs.lemmas.List.{map-append}
 use Rattle.std.proofs.lemmas.Option.{same_Some}
 use Rattle.exact.proofs.Lists.{bytes_eq_refl}
-use Rattle.motion.specs.declared.cell.Cell.{Cell}
 use Rattle.motion.specs.declared.cell.NamedSet.{NamedSet}
 use Rattle.motion.specs.declared.cell.Place.{Place}
 use Rattle.motion.specs.Timeline.{Epoch, put, state_at}
@@ -16,7 +15,7 @@ use Rattle.history.specs.Catalog.{ObjectInfo, class_of, object_of, attributes_of
 use Rattle.history.specs.State.{inserted, updated, attributes_of_object}
 use Rattle.history.specs.History.{ChangesFrom}
 use Rattle.object_store.specs.Contents.{StoredObject, Contents, catalog_of, history_of, is_named, object_info, state_of}
-use Rattle.object_store.specs.Effects.{put_named, with_epoch_of, with_object, class_number, after_insert, after_update, after_remove}
+use Rattle.object_store.specs.Effects.{put_named, with_epoch_of, with_object, number_or_first, after_insert, after_update, after_remove}
 use Rattle.object_store.specs.Sound.{IsSound}
 use Rattle.object_store.proofs.Lists.{index_in, index_is, is_some-find}
 use Rattle.object_store.proofs.NumberLemmas.{cells_in, cells_at_index}
@@ -144,7 +143,7 @@ pub insert_changes : (s : Contents) (now : ℕ) (class name : List ℕ) (place :
     → IsSound (after_insert s now class name place sets) → position (is_named name) (after_insert s now class name place sets).objects ≡ Some id
     → ChangesFrom id now (history_of s) (history_of (after_insert s now class name place sets))
 insert_changes s now class name place sets id sound after at =
-    insert_changes_if (list_any (is_named name) s.objects) s (class_number s.classes class) name
+    insert_changes_if (list_any (is_named name) s.objects) s (number_or_first s.classes class) name
     (record { from = now; cells = Some (inserted now (attributes_of_class (class_of (catalog_of s) class)) place sets) }) id refl sound after at
 
 pub update_changes : (s : Contents) (now : ℕ) (name : List ℕ) (place : Place) (sets : List NamedSet) (id : ℕ) → IsSound s

@@ -1,11 +1,11 @@
 -- Commands, by what the code looks up.
-use Rattle.std.proofs.Common.{◌≡◌, ℕ, zero, suc, ◌+◌, ◌<◌, ◌≤◌, ◌==◌, Bool, true, false, cond, ◌&&◌, ◌||◌, not, Option, None, Some, List, [], ◌∷◌, ◌++◌, map, length, get_or, codes, refl, sym, ap, subst, ◌∙◌, arith, if◌then◌else◌}
-use Rattle.std.specs.Prelude.{All, IfSome, IsSome, IsSomeAnd, slice_get, option_and_then, option_map, is_some, is_none, nat_le, unsigned_abs, unwrap_or}
-use Rattle.std.specs.List.{find, list_any, position, filter_map, cons_option}
+use Rattle.std.proofs.Common.{◌≡◌, ℕ, zero, suc, ◌+◌, ◌<◌, ◌==◌, Bool, true, false, ◌&&◌, ◌||◌, not, Option, None, Some, List, [], ◌∷◌, ◌++◌, length, refl, sym, ap, subst, ◌∙◌, arith, if◌then◌else◌}
+use Rattle.std.specs.Prelude.{All, IsSome, IsSomeAnd, slice_get, option_and_then, option_map, is_some, is_none, nat_le, unwrap_or}
+use Rattle.std.specs.List.{find, list_any, position, cons_option}
 use Rattle.std.specs.Option.{option_map_or, option_copied}
 use Rattle.std.specs.Str.{bytes_eq}
 use Rattle.std.proofs.lemmas.Bool.Decides.{nat_tests}
-use Rattle.std.proofs.lemmas.Option.{same_Some, none-some, slice_get_within}
+use Rattle.std.proofs.lemmas.Option.{none-some}
 use Rattle.std.specs.Borrow.{Bor}
 use Rattle.std.proofs.lemmas.List.Elements.{All-append}
 use Rattle.exact.specs.First.{first_that_holds}
@@ -17,16 +17,16 @@ use Rattle.motion.specs.declared.cell.NamedSet.{NamedSet}
 use Rattle.motion.specs.declared.cell.Place.{Place}
 use Rattle.motion.specs.Timeline.{Epoch, state_at}
 use Rattle.history.specs.Write.{Attribute, Insert}
-use Rattle.history.specs.Catalog.{Catalog, ClassInfo, ObjectInfo, class_of, object_of, attributes_of_class}
-use Rattle.history.specs.State.{inserted, updated, attributes_of_object}
+use Rattle.history.specs.Catalog.{ClassInfo, ObjectInfo, class_of, object_of, attributes_of_class}
+use Rattle.history.specs.State.{inserted, updated}
 use Rattle.object_store.specs.declared.fault.StoreFault.{StoreFault}
 use Rattle.object_store.specs.declared.fault.StoreFault.TheVariants as faults
-use Rattle.object_store.specs.Changes.{change_of, changes_of, fresh_cells, AreGiven}
-use Rattle.object_store.specs.Contents.{StoredObject, Contents, object_info, attributes_of_number, catalog_of, is_named, state_of, ids_in, is_present_at}
-use Rattle.object_store.specs.Effects.{class_number, with_epoch_of, with_object, after_insert, after_update}
+use Rattle.object_store.specs.Changes.{changes_of, fresh_cells, AreGiven}
+use Rattle.object_store.specs.Contents.{StoredObject, Contents, object_info, attributes_of_number, catalog_of, is_named, state_of, ids_in}
+use Rattle.object_store.specs.Effects.{number_or_first, with_epoch_of, with_object, after_insert}
 use Rattle.object_store.specs.Faults.{is_elsewhere, is_past_capacity, is_misplaced, has_misfit, has_unknown, repeats_set, insert_fault, update_fault, remove_fault, fault_of_insert, fault_of_update}
-use Rattle.object_store.specs.Invariant.{HasRoom, IsKept}
-use Rattle.object_store.specs.Sound.{AreCellsOf, AreClasses}
+use Rattle.object_store.specs.Invariant.{HasRoom}
+use Rattle.object_store.specs.Sound.{AreCellsOf}
 use Rattle.object_store.proofs.Lists.{find_is, is_some-find}
 use Rattle.object_store.proofs.CellLemmas.{changed-cells, changed-inserted}
 use Rattle.object_store.proofs.JudgeLemmas.{HasClass, info_found, state_of_found, elsewhere_found, past_found, number_is, attributes_are}
@@ -135,15 +135,15 @@ module _ (s : Contents) (class : List ℕ) (number : ℕ) (k : ClassInfo) (has :
   after_known o found =
       let p : List Cell → Epoch = λ cs. record { from = now; cells = Some cs } in
       let there : list_any (is_named name) s.objects ≡ true = sym (is_some-find (is_named name) s.objects) ∙ ap is_some found in
-      ap (λ b. if b then with_epoch_of s name (p (inserted now (attributes_of_class (class_of (catalog_of s) class)) place sets)) else with_object s (class_number s.classes class) name (p (inserted now (attributes_of_class (class_of (catalog_of s) class)) place sets))) there
+      ap (λ b. if b then with_epoch_of s name (p (inserted now (attributes_of_class (class_of (catalog_of s) class)) place sets)) else with_object s (number_or_first s.classes class) name (p (inserted now (attributes_of_class (class_of (catalog_of s) class)) place sets))) there
       ∙ ap (λ cs. with_epoch_of s name (p cs)) cells_are
 
   pub after_new : find (is_named name) s.objects ≡ None → after_insert s now class name place sets ≡ with_object s number name (record { from = now; cells = Some cells })
   after_new new =
       let p : List Cell → Epoch = λ cs. record { from = now; cells = Some cs } in
       let there : list_any (is_named name) s.objects ≡ false = sym (is_some-find (is_named name) s.objects) ∙ ap is_some new in
-      ap (λ b. if b then with_epoch_of s name (p (inserted now (attributes_of_class (class_of (catalog_of s) class)) place sets)) else with_object s (class_number s.classes class) name (p (inserted now (attributes_of_class (class_of (catalog_of s) class)) place sets))) there
-      ∙ ap (λ cs. with_object s (class_number s.classes class) name (p cs)) cells_are
+      ap (λ b. if b then with_epoch_of s name (p (inserted now (attributes_of_class (class_of (catalog_of s) class)) place sets)) else with_object s (number_or_first s.classes class) name (p (inserted now (attributes_of_class (class_of (catalog_of s) class)) place sets))) there
+      ∙ ap (λ cs. with_object s (number_or_first s.classes class) name (p cs)) cells_are
       ∙ ap (λ n. with_object s n name (p cells)) (number_is s.classes class number k has)
 
 -- ---- an update

@@ -1,24 +1,20 @@
 -- The faults of a store, by the places that the code found.
-use Rattle.std.proofs.Common.{◌≡◌, ℕ, zero, suc, ◌+◌, ◌<◌, ◌≤◌, ◌==◌, Bool, true, false, cond, ◌&&◌, ◌||◌, not, Option, None, Some, List, [], ◌∷◌, map, length, refl, sym, ap, subst, ◌∙◌, arith}
-use Rattle.std.specs.Prelude.{All, slice_get, option_and_then, option_map, unwrap_or, is_some, is_none, nat_le}
-use Rattle.std.specs.List.{find, position, IsDistinct, AllByRecursion}
+use Rattle.std.proofs.Common.{◌≡◌, ℕ, ◌<◌, ◌==◌, Bool, true, false, cond, ◌&&◌, not, Option, None, Some, List, [], ◌∷◌, map, length, refl, sym, ap, subst, ◌∙◌}
+use Rattle.std.specs.Prelude.{slice_get, option_and_then, option_map, unwrap_or, is_some, is_none, nat_le}
+use Rattle.std.specs.List.{find, position}
 use Rattle.std.specs.Option.{option_map_or}
 use Rattle.std.specs.Str.{bytes_eq}
-use Rattle.std.specs.Cmp.Lexicographic.{nat_list_eq_equiv}
-use Rattle.std.proofs.lemmas.Map.Keys.{IsDistinct-head, IsDistinct-tail}
 use Rattle.std.proofs.lemmas.Option.{same_Some, none-some, slice_get_within}
 use Rattle.std.proofs.lemmas.List.{length-map}
 use Rattle.motion.specs.declared.cell.NamedSet.{NamedSet}
 use Rattle.motion.specs.declared.cell.Place.{Place}
 use Rattle.motion.specs.Timeline.{state_at}
-use Rattle.history.specs.Write.{Attribute}
-use Rattle.history.specs.Catalog.{Catalog, ClassInfo, ObjectInfo, class_of, number_of_class, object_of, attributes_of_class, names_in}
+use Rattle.history.specs.Catalog.{ClassInfo, ObjectInfo, class_of, number_of_class, object_of, attributes_of_class, names_in}
 use Rattle.history.specs.State.{attributes_of_object}
 use Rattle.object_store.specs.Contents.{StoredObject, Contents, attributes_of_number, object_info, catalog_of, is_named, state_of, ids_in, object_name, is_present_at}
-use Rattle.object_store.specs.Effects.{class_number}
+use Rattle.object_store.specs.Effects.{number_or_first}
 use Rattle.object_store.specs.Faults.{class_of_object, is_elsewhere, is_past_capacity, insert_fault, update_fault, fault_of_insert, fault_of_update}
-use Rattle.object_store.proofs.Lists.{find_is, find-map, All-find}
-use Rattle.object_store.proofs.ClassLemmas.{name_of}
+use Rattle.object_store.proofs.Lists.{find_is, find-map}
 use Rattle.object_store.proofs.IdLemmas.{names-ids}
 
 -- ---- the object of a name
@@ -62,7 +58,7 @@ find_passes q [] x found = absurd (none-some x found)
 find_passes q (y ∷ ys) x found = passes_step q (q y) y x (find q ys) refl found (find_passes q ys x)
 
 module _ (classes : List ClassInfo) (class : List ℕ) (number : ℕ) (k : ClassInfo) (has : HasClass classes class number k) where
-  pub number_is : class_number classes class ≡ number
+  pub number_is : number_or_first classes class ≡ number
   number_is = ap (λ r. unwrap_or r 0) has.first
 
   pub within_classes : number < length classes

@@ -1,28 +1,27 @@
 -- A store goes on standing for its writes.
-use Rattle.std.proofs.Common.{◌≡◌, ℕ, zero, suc, ◌+◌, ◌-◌, ◌<◌, ◌≤◌, Bool, true, false, cond, ◌&&◌, ◌||◌, nat_le, Option, None, Some, List, [], ◌∷◌, ◌++◌, map, length, refl, sym, ap, subst, ◌∙◌, arith, if◌then◌else◌}
-use Rattle.std.specs.Prelude.{option_and_then, option_map, slice_get, is_some, All}
-use Rattle.std.specs.List.{find, list_any, fold, AllByRecursion}
-use Rattle.std.specs.Option.{option_or, option_map_or}
+use Rattle.std.proofs.Common.{◌≡◌, ℕ, ◌+◌, ◌-◌, ◌≤◌, Bool, true, false, cond, ◌&&◌, nat_le, Option, None, Some, List, [], ◌∷◌, ◌++◌, map, refl, sym, ap, ◌∙◌, arith, if◌then◌else◌}
+use Rattle.std.specs.Prelude.{option_and_then, option_map, is_some, All}
+use Rattle.std.specs.List.{find, list_any}
+use Rattle.std.specs.Option.{option_or}
 use Rattle.std.specs.Str.{bytes_eq}
-use Rattle.std.proofs.lemmas.List.{map-append, append-nil}
+use Rattle.std.proofs.lemmas.List.{map-append}
 use Rattle.std.proofs.lemmas.List.Folds.{find-append}
-use Rattle.std.proofs.lemmas.List.Elements.{recursion_from_All}
 use Rattle.std.proofs.lemmas.Bool.Decides.{nat_tests}
 use Rattle.exact.proofs.Lists.{bytes_eq_true}
 use Rattle.motion.specs.declared.cell.Cell.{Cell}
 use Rattle.motion.specs.declared.cell.NamedSet.{NamedSet}
 use Rattle.motion.specs.declared.cell.Place.{Place}
-use Rattle.motion.specs.Timeline.{Epoch, put, state_at, epoch_at, AreBegunBy}
+use Rattle.motion.specs.Timeline.{Epoch, put, state_at, AreBegunBy}
 use Rattle.motion.proofs.CallerLemmas.{state_at_put, settled}
 use Rattle.history.specs.Write.{Attribute, Write, Class, Insert, Update, Remove}
-use Rattle.history.specs.Catalog.{Catalog, ClassInfo, ObjectInfo, catalog_after, has_object, class_of, number_of_class, object_of, attributes_of_class, with_coordinates, with_new_object}
+use Rattle.history.specs.Catalog.{Catalog, ObjectInfo, catalog_after, has_object, class_of, number_of_class, object_of, attributes_of_class, with_new_object}
 use Rattle.history.specs.State.{cells_after_write, inserted, updated, attributes_of_object}
 use Rattle.history.specs.History.{History, history}
 use Rattle.history.proofs.HistoryLemmas.{same_history, catalog-append, state-append}
 use Rattle.object_store.specs.Contents.{StoredObject, Contents, object_info, catalog_of, is_named, state_of, history_of}
-use Rattle.object_store.specs.Effects.{put_named, with_epoch_of, with_object, class_number, with_class, after_insert, after_update, after_remove}
+use Rattle.object_store.specs.Effects.{put_named, with_epoch_of, with_object, number_or_first, with_class, after_insert, after_update, after_remove}
 use Rattle.object_store.specs.StandsFor.{GrowsBy}
-use Rattle.object_store.proofs.Lists.{list_any-map, All-find, is_some-find, slice_get-append}
+use Rattle.object_store.proofs.Lists.{list_any-map, All-find, is_some-find}
 
 -- ---- one more write
 
@@ -212,9 +211,9 @@ follows_insert_if false s number now class name place sets there known =
       state = λ o t. state-insert false number name o now cells t s.objects there;
     }
 
-pub follows_insert : (s : Contents) (now : ℕ) (class name : List ℕ) (place : Place) (sets : List NamedSet) → number_of_class (catalog_of s) class ≡ Some (class_number s.classes class) → Follows s (after_insert s now class name place sets) (Insert now class name place sets)
+pub follows_insert : (s : Contents) (now : ℕ) (class name : List ℕ) (place : Place) (sets : List NamedSet) → number_of_class (catalog_of s) class ≡ Some (number_or_first s.classes class) → Follows s (after_insert s now class name place sets) (Insert now class name place sets)
 follows_insert s now class name place sets known =
-    follows_insert_if (list_any (is_named name) s.objects) s (class_number s.classes class) now class name place sets refl known
+    follows_insert_if (list_any (is_named name) s.objects) s (number_or_first s.classes class) now class name place sets refl known
 
 -- a class
 pub follows_class : (s : Contents) (name : List ℕ) (capacity : ℕ) (point : Bool) (attributes : List Attribute) → Follows s (with_class s name capacity point attributes) (Class name capacity point attributes)

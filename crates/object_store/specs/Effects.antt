@@ -1,13 +1,13 @@
 -- The contents of a store after an accepted write.
-use Rattle.std.specs.Prelude.{ℕ, Bool, Option, Some, None, List, [], ◌∷◌, ◌++◌, unwrap_or, if◌then◌else◌}
-use Rattle.std.specs.List.{list_any, position}
+use Rattle.std.specs.Prelude.{ℕ, Bool, Some, None, List, [], ◌∷◌, ◌++◌, unwrap_or, if◌then◌else◌}
+use Rattle.std.specs.List.{list_any}
 use Rattle.std.specs.Str.{bytes_eq}
 use Rattle.std.specs.Option.{option_map}
 use Rattle.motion.specs.declared.cell.NamedSet.{NamedSet}
 use Rattle.motion.specs.declared.cell.Place.{Place}
 use Rattle.motion.specs.Timeline.{Epoch, put}
 use Rattle.history.specs.Write.{Attribute}
-use Rattle.history.specs.Catalog.{ClassInfo, with_coordinates, attributes_of_class, class_of, object_of}
+use Rattle.history.specs.Catalog.{ClassInfo, class_number, with_coordinates, attributes_of_class, class_of, object_of}
 use Rattle.history.specs.State.{inserted, updated, attributes_of_object}
 use Rattle.object_store.specs.Contents.{StoredObject, Contents, catalog_of, is_named, state_of}
 
@@ -17,9 +17,9 @@ put_named name p [] = []
 put_named name p (o ∷ os) =
     if bytes_eq name o.name then (record o { epochs = put o.epochs p } ∷ os) else (o ∷ put_named name p os)
 
--- the number of a class by its name
-abbrev pub class_number : List ClassInfo → List ℕ → ℕ
-class_number classes name = unwrap_or (position (λ k. bytes_eq name k.name) classes) 0
+-- the number of a class by its name, 0 where it isn't there
+abbrev pub number_or_first : List ClassInfo → List ℕ → ℕ
+number_or_first classes name = unwrap_or (class_number classes name) 0
 
 abbrev pub with_class : Contents → List ℕ → ℕ → Bool → List Attribute → Contents
 with_class s name capacity point attributes = record s {
@@ -43,7 +43,7 @@ abbrev pub after_insert : Contents → ℕ → List ℕ → List ℕ → Place �
 after_insert s now class name place sets =
     let cells = inserted now (attributes_of_class (class_of (catalog_of s) class)) place sets in
     let p : Epoch = record { from = now; cells = Some cells } in
-    if list_any (is_named name) s.objects then with_epoch_of s name p else with_object s (class_number s.classes class) name p
+    if list_any (is_named name) s.objects then with_epoch_of s name p else with_object s (number_or_first s.classes class) name p
 
 -- An update writes what it names.
 abbrev pub after_update : Contents → ℕ → List ℕ → Place → List NamedSet → Contents

@@ -3,13 +3,12 @@ use Rattle.std.proofs.Common.{◌≡◌, ℕ, ◌+◌, ◌-◌, ◌≤◌, ◌<�
 use Rattle.std.specs.Prelude.{◌^◌, min, nat_le, nat_lt, option_and_then, unwrap_or}
 use Rattle.std.proofs.lemmas.Bool.{cases_lt, or_parts}
 use Rattle.std.proofs.lemmas.Bool.Decides.{nat_tests}
-use Rattle.exact.specs.First.{first_that_holds}
+use Rattle.exact.specs.First.{first_that_holds, or_else}
 use Rattle.tick_set.specs.declared.spans.TheConstants.{LAST_TICK, SPAN_LIMIT}
 use Rattle.geometry.specs.Region.{Region}
 use Rattle.history.specs.Catalog.{ClassInfo}
 use Rattle.formula.specs.declared.limits.TheConstants.{QUERY_LIMIT}
 use Rattle.kept_rows.specs.declared.binding.TheConstants.{BINDING_LIMIT}
-use Rattle.command_text.specs.Line.{or_else}
 use Rattle.command_text.specs.declared.refusal.Refusal.{Refusal}
 use Rattle.command_text.specs.declared.refusal.Refusal.TheVariants as refusals
 use Rattle.ftl_parser.specs.Sizes.{nesting, objects}
@@ -19,9 +18,11 @@ use Rattle.ftl_typer.specs.First.{first_fault}
 use Rattle.ftl_typer.specs.declared.fault.TypeFault.{TypeFault}
 use Rattle.ftl_typer.specs.declared.fault.TypeFault.TheVariants as type_faults
 use Rattle.line_meaning.specs.declared.limits.TheConstants.{ALL_BINDINGS_LIMIT, ASSIGNED_SPAN_LIMIT, CIRCLE_NAMES, CIRCLE_SPAN_LIMIT}
-use Rattle.line_meaning.specs.Ask.{is_past_span, most_bindings, query_in, refusal_by_type, span_limit, type_refusal}
-use Rattle.line_meaning.specs.QueryFault.{bindings_of, passes_bindings, register_refusal, register_size_refusal, unknown_among}
+use Rattle.line_meaning.specs.Ask.{bindings_asked, is_past_span, span_limit}
+use Rattle.line_meaning.specs.FirstFault.{refusal_by_type, register_size_refusal, type_refusal, unknown_among}
+use Rattle.line_meaning.specs.QueryFault.{bindings_of, passes_bindings, register_refusal}
 use Rattle.line_meaning.specs.Registry.{Known, is_registered}
+use Rattle.line_meaning.proofs.RefusalLemmas.{registered_by_fault}
 use Rattle.database.specs.declared.database.Database.{Database}
 use Rattle.database.specs.Keeping.{world_of_database}
 
@@ -60,11 +61,6 @@ module _ (d : Database) (classes : List ClassInfo) (regions : List Region) (q : 
   pub none_refused : first_fault (faults classes regions q) ≡ None → type_refusal (world_of_database d) q ≡ None
   none_refused none = ap (option_and_then refusal_by_type) (sym found ∙ none)
 
--- all refusals in their order
-abbrev pub refusal_of : Option Refusal → Bool → Option Refusal → Option Refusal
-refusal_of type taken size =
-    or_else (unknown_among type) (or_else (first_that_holds ((refusals.NameTaken, taken) ∷ [])) (or_else type size))
-
 -- ---- what is so of a query that nothing refuses
 
 none_of : (first later : Option Refusal) → or_else first later ≡ None → (first ≡ None) × (later ≡ None)
@@ -81,7 +77,7 @@ pub record IsRight (k : Known) (name : List ℕ) (span : ℕ) (q : QueryTree) : 
   pub short : span ≤ SPAN_LIMIT
   pub reached : k.now + span ≤ LAST_TICK
   pub few : length k.live < QUERY_LIMIT
-  pub size : most_bindings k.world.history.catalog.classes (query_in k.world q) ≤ BINDING_LIMIT
+  pub size : bindings_asked k.world q ≤ BINDING_LIMIT
 
 -- the longest span is no longer than any
 limit_within : (assigned circle : Bool) → (if assigned then ASSIGNED_SPAN_LIMIT else if circle then CIRCLE_SPAN_LIMIT else SPAN_LIMIT) ≤ SPAN_LIMIT
@@ -98,12 +94,12 @@ less a b h = grind (arith, nat_tests, h)
 pub right_is : (k : Known) (name : List ℕ) (span : ℕ) (q : QueryTree) → register_refusal k name span q ≡ None → IsRight k name span q
 right_is k name span q none =
     let type = type_refusal k.world q in
-    let few : List (Refusal × Bool) = (refusals.BindingLimit, passes_bindings k (most_bindings k.world.history.catalog.classes (query_in k.world q))) ∷ [] in
+    let many = bindings_asked k.world q in
+    let few : List (Refusal × Bool) = (refusals.BindingLimit, passes_bindings k many) ∷ [] in
     let later : List (Refusal × Bool) = (refusals.StoreFull, nat_le QUERY_LIMIT (length k.live)) ∷ few in
-    let many = most_bindings k.world.history.catalog.classes (query_in k.world q) in
     let rest : Option Refusal = or_else type (register_size_refusal k span q) in
     let held : Option Refusal = first_that_holds ((refusals.NameTaken, is_registered k.live name) ∷ []) in
-    let named = none_of (unknown_among type) (or_else held rest) none in
+    let named = none_of (unknown_among type) (or_else held rest) (sym (registered_by_fault k name span q) ∙ none) in
     let taken = none_of held rest named.1 in
     let sized = none_of type (register_size_refusal k span q) taken.1 in
     let past = not_held refusals.SpanRange (is_past_span k.now span q.formula) later sized.1 in

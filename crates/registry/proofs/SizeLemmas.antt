@@ -6,16 +6,15 @@ use Rattle.std.proofs.lemmas.Bool.{and_parts, false≢true, or_cases}
 use Rattle.std.proofs.lemmas.Bool.Decides.{nat_tests}
 use Rattle.std.proofs.lemmas.List.Elements.{All-head, All-tail}
 use Rattle.std.proofs.lemmas.List.Sums.{sum_by-cons}
-use Rattle.history.specs.Catalog.{Catalog}
+use Rattle.history.specs.Catalog.{Catalog, capacity_of, most_bindings}
 use Rattle.history.specs.World.{World}
 use Rattle.formula.specs.Resolved.{IsResolved, are_distinct, is_list_of}
 use Rattle.formula.specs.Tree.{ResolvedQuery}
 use Rattle.formula_shape.specs.declared.limits.TheConstants.{OBJECT_LIMIT}
 use Rattle.kept_rows.specs.Numbers.{size_of}
-use Rattle.line_meaning.specs.Ask as asked
 use Rattle.line_meaning.specs.Registry.{Registration}
 use Rattle.live_queries.specs.Asked.{FitsWorld}
-use Rattle.live_queries.specs.Columns.{Column, HaveCapacitiesOf, capacity_of, most_bindings, order_of, variables_of}
+use Rattle.live_queries.specs.Columns.{Column, HaveCapacitiesOf, order_of, variables_of}
 use Rattle.live_queries.specs.Kept.{IsKept, KeptQuery}
 use Rattle.registry.specs.Standing.{registration_of}
 
@@ -131,10 +130,10 @@ among_below n (x ∷ xs) all v has =
 -- ---- the numbers of a query's bindings
 
 abbrev capacity_at : Catalog → List ℕ → ℕ → ℕ
-capacity_at catalog classes v = capacity_of catalog (slice_index classes v)
+capacity_at catalog classes v = capacity_of catalog.classes (slice_index classes v)
 
 all_chosen : (catalog : Catalog) (classes : List ℕ) → nat_le (length classes) 4 ≡ true →
-    chosen (capacity_at catalog classes) (λ v. nat_lt v (length classes)) four ≡ asked.product (map (asked.capacity_of catalog.classes) classes)
+    chosen (capacity_at catalog classes) (λ v. nat_lt v (length classes)) four ≡ most_bindings catalog.classes classes
 all_chosen catalog [] few = refl
 all_chosen catalog (a ∷ []) few = refl
 all_chosen catalog (a ∷ b ∷ []) few = refl
@@ -161,7 +160,7 @@ order_product f q is =
 
 -- the numbers of a registered query are as many as there may be bindings
 query_bindings : (w : World) (k : KeptQuery) → IsKept k → FitsWorld w k →
-    size_of (variables_of k.columns) ≡ asked.most_bindings w.history.catalog.classes k.query
+    size_of (variables_of k.columns) ≡ most_bindings w.history.catalog.classes k.query.classes
 query_bindings w k is fits =
     sizes w.history.catalog k.query.classes k.columns fits.capacities
     ∙ ap (product_over (capacity_at w.history.catalog k.query.classes)) is.order
@@ -172,16 +171,11 @@ query_bindings w k is fits =
 -- and so for all of them
 pub all_bindings : (w : World) (live : List KeptQuery) → All IsKept live → All (FitsWorld w) live →
     sum_by (λ k. size_of (variables_of k.columns)) live
-    ≡ sum_by (λ (r : Registration). asked.most_bindings w.history.catalog.classes r.query.query) (map registration_of live)
+    ≡ sum_by (λ (r : Registration). most_bindings w.history.catalog.classes r.query.query.classes) (map registration_of live)
 all_bindings w [] kept fits = refl
 all_bindings w (k ∷ live) kept fits =
     let own = query_bindings w k (All-head IsKept k live kept) (All-head (FitsWorld w) k live fits) in
     let rest = all_bindings w live (All-tail IsKept k live kept) (All-tail (FitsWorld w) k live fits) in
     sum_by-cons (λ (q : KeptQuery). size_of (variables_of q.columns)) k live
     ∙ (λ i. own i + rest i)
-    ∙ sym (sum_by-cons (λ (r : Registration). asked.most_bindings w.history.catalog.classes r.query.query) (registration_of k) (map registration_of live))
-
--- the same product in the words of the layer below
-pub same_bindings : (c : Catalog) (classes : List ℕ) → most_bindings c classes ≡ asked.product (map (asked.capacity_of c.classes) classes)
-same_bindings c [] = refl
-same_bindings c (class ∷ classes) = ap (λ n. capacity_of c class * n) (same_bindings c classes)
+    ∙ sym (sum_by-cons (λ (r : Registration). most_bindings w.history.catalog.classes r.query.query.classes) (registration_of k) (map registration_of live))

@@ -10,7 +10,7 @@ use Rattle.database.specs.Keeping.{clock_of, world_of_database}
 abbrev pub registration_of : KeptQuery → Registration
 registration_of k = record { name = k.name; query = registered k }
 
--- what a database and its registered queries tell of which commands are judged
+-- what a database and its registered queries tell by which commands are judged
 abbrev pub known_of : Database → List KeptQuery → Known
 known_of d live = record { world = world_of_database d; now = clock_of d; live = map registration_of live }
 

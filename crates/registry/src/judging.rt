@@ -7,14 +7,11 @@ ghost use Rattle.ftl_parser.specs.Lawful.{IsLawful};
 ghost use Rattle.ftl_parser.specs.Tree.{query_view};
 ghost use Rattle.tick_set.specs.declared.spans.TheConstants.{LAST_TICK};
 ghost use Rattle.line_meaning.specs.Ask.{query_in};
-ghost use Rattle.command_text.specs.Line.{or_else};
-ghost use Rattle.command_text.specs.declared.refusal.Refusal.TheVariants as refusals;
-ghost use Rattle.exact.specs.First.{first_that_holds};
-ghost use Rattle.line_meaning.specs.Ask.{refusal_by_type};
-ghost use Rattle.line_meaning.specs.QueryFault.{register_refusal, unknown_among};
+ghost use Rattle.line_meaning.specs.FirstFault.{refusal_by_type, refusal_in_order};
 ghost use Rattle.database.specs.Keeping.{clock_of, world_of_database};
 ghost use Rattle.database.specs.Telling.{IsStoppedBy};
-ghost use Rattle.registry.specs.Beside.{passes_beside, refusal_beside, size_refusal_beside};
+ghost use Rattle.line_meaning.specs.QueryFault.{passes_beside, register_refusal};
+ghost use Rattle.registry.specs.Beside.{refusal_beside, size_refusal_beside};
 ghost use Rattle.registry.specs.Standing.{Stand, known_of};
 
 use crate::registering::Request;
@@ -66,8 +63,7 @@ fn size_refusal(database: &Database, others: &Others, span: u32, query: &Query) 
 
 /// Why a query that could not be made by number is refused. None where memory alone is wanting.
 fn fault_refusal(fault: TypeFault, taken: bool, size: Option<Refusal>) -> Option<Refusal>
-    ensures { result ≡ or_else (unknown_among (refusal_by_type fault)) (or_else (first_that_holds ((refusals.NameTaken, taken) ∷ []))
-        (or_else (refusal_by_type fault) size)) }
+    ensures { result ≡ refusal_in_order (refusal_by_type fault) taken size }
 {
     match refusal_by_type(fault) {
         Some(Refusal::UnknownName) => Some(Refusal::UnknownName),

@@ -6,14 +6,15 @@ use Rattle.command_text.specs.declared.fault.CommandFault.{CommandFault}
 use Rattle.command_text.specs.declared.fault.CommandFault.TheVariants as stops
 use Rattle.command_text.specs.declared.reading.TheConstants.{LINE_LIMIT}
 use Rattle.command_text.specs.declared.refusal.Refusal.{Refusal}
-use Rattle.command_text.specs.Journal.{spelled}
-use Rattle.command_text.specs.Line.{IsRead, early_refusal, first_refusal, late_refusal, command_in, or_else}
+use Rattle.command_text.specs.Journal.{is_kept, spelled}
+use Rattle.exact.specs.First.{or_else}
+use Rattle.command_text.specs.Line.{IsRead, early_refusal, first_refusal, late_refusal, command_in}
 use Rattle.command_text.specs.Tree
 use Rattle.command_text.specs.Tree.{CommandTree}
 use Rattle.line_meaning.specs.declared.role.Role.{Role}
 use Rattle.line_meaning.specs.declared.role.Role.TheVariants.{Blank, Keeping, Telling, Filing, Ending}
 use Rattle.line_meaning.specs.Looks.{is_query, looks_of, most_looks}
-use Rattle.line_meaning.specs.Role.{asks_shelf, is_filing, is_import, is_kept, role_of}
+use Rattle.line_meaning.specs.Role.{asks_shelf, is_filing, is_import, role_of}
 use Rattle.line_meaning.specs.Step.{Base, Held, base, base_after, fault_of, file_refusal, held_after, refusal_of, reply_by, reply_of, step}
 use Rattle.line_meaning.proofs.CallerLemmas.{line_refusal_read, or_none, refusal_first, refusal_read_any, refused_line, spelled_is, step_accepted, step_refused}
 use Rattle.session.specs.declared.next.ApplyFault.{ApplyFault}
@@ -24,7 +25,7 @@ use Rattle.session.specs.Answers.{Answers, Applies, Fails, HasCause, IsUnchanged
 use Rattle.database.specs.Telling.{IsRefused}
 use Rattle.session.specs.Carried.{Carried}
 use Rattle.session.specs.Replayed.{ReplaysAs}
-use Rattle.session.proofs.FaultLemmas.{kept_role}
+use Rattle.line_meaning.proofs.RoleLemmas.{kept_is_keeping}
 use Rattle.session.specs.Filed.{Does, FailsWith, IsApplied, SufficesFor, refusal_with, texts_by}
 
 -- ---- a command that asks nothing of the shelf
@@ -274,10 +275,10 @@ not_filing Ending other = refl
 -- ---- a command that is replayed
 
 pub kept_plain : (c : CommandTree) → is_kept c ≡ true → asks_shelf c ≡ false
-kept_plain c kept = ap is_filing (kept_role (role_of c) kept)
+kept_plain c kept = ap is_filing (kept_is_keeping c kept)
 
 kept_next : (c : CommandTree) → is_kept c ≡ true → next_of c ≡ nexts.Accepted
-kept_next c kept = ap next_by (kept_role (role_of c) kept)
+kept_next c kept = ap next_by (kept_is_keeping c kept)
 
 module _ (c : CommandTree) (old new : Held) (before after : List ℕ) (kept : is_kept c ≡ true) where
   by_result : (r : Result Next CommandFault) → Carried old c new before after r →

@@ -18,11 +18,11 @@ use Rattle.history.specs.World.{World, world_of}
 use Rattle.history.specs.Write.{Class, Insert, Remove, Update, Write}
 use Rattle.history.proofs.HistoryLemmas.{catalog-append}
 use Rattle.object_store.specs.Contents.{Contents, StoredObject, catalog_of, history_of, is_named, object_info}
-use Rattle.command_text.specs.Journal.{Accepted}
+use Rattle.command_text.specs.Journal.{Accepted, clock, is_kept, ticks_of}
 use Rattle.command_text.specs.Tree
 use Rattle.command_text.specs.Tree.{CommandTree}
-use Rattle.line_meaning.specs.Journal.{attribute_of, clock, regions, regions_of, ticks_of, writes, writes_of}
-use Rattle.line_meaning.specs.Role.{is_kept, is_on_queries}
+use Rattle.line_meaning.specs.Journal.{attribute_of, regions, regions_of, writes, writes_of}
+use Rattle.line_meaning.specs.Role.{is_on_queries}
 use Rattle.line_meaning.proofs.JournalLemmas.{clock_more, regions_more, world_more, writes_more}
 use Rattle.live_queries.specs.Asked.{class_in}
 use Rattle.live_queries.specs.Renewed.{AddsAtMost, ChangesNoObject}

@@ -1,13 +1,12 @@
 -- The refusal of a command that was read, by the refusals of what is held and of the journal.
 use Rattle.std.proofs.Common.{◌≡◌, ℕ, Bool, true, false, Option, None, Some, List, [], ◌∷◌, ◌++◌, length, refl, sym, ap, ◌∙◌, subst, append-nil, if◌then◌else◌}
 use Rattle.std.specs.Prelude.{◌&&◌, Ok, Err}
-use Rattle.exact.specs.First.{first_that_holds}
+use Rattle.exact.specs.First.{first_that_holds, or_else}
 use Rattle.command_text.specs.declared.fault.CommandFault.{CommandFault}
 use Rattle.command_text.specs.declared.fault.CommandFault.TheVariants as stops
 use Rattle.command_text.specs.declared.refusal.Refusal.{Refusal}
 use Rattle.command_text.specs.declared.refusal.Refusal.TheVariants as refusals
-use Rattle.command_text.specs.Journal.{Accepted, bytes_of}
-use Rattle.command_text.specs.Line.{or_else}
+use Rattle.command_text.specs.Journal.{Accepted, bytes_of, clock, is_kept}
 use Rattle.command_text.specs.Text.{text_of}
 use Rattle.command_text.specs.Tree
 use Rattle.command_text.specs.Tree.{CommandTree}
@@ -15,13 +14,14 @@ use Rattle.line_meaning.specs.declared.role.Role.{Role}
 use Rattle.line_meaning.specs.declared.role.Role.TheVariants.{Keeping, Telling}
 use Rattle.line_meaning.specs.Answering.{answer_lines, kept_lines, query_lines}
 use Rattle.line_meaning.specs.Fault.{fault_among, is_gap, journal_refusal, passes_limits}
-use Rattle.line_meaning.specs.Journal.{clock, world}
+use Rattle.line_meaning.specs.Journal.{world}
 use Rattle.line_meaning.specs.QueryFault.{command_fault, query_fault}
 use Rattle.line_meaning.specs.Registry.{Known, known}
 use Rattle.line_meaning.specs.Reply.{ok_line}
-use Rattle.line_meaning.specs.Role.{is_keeping, is_kept, is_on_queries, role_of}
+use Rattle.line_meaning.specs.Role.{is_on_queries, role_of}
 use Rattle.line_meaning.specs.Step.{Held, fault_by, fault_of, held, held_after, reply_by}
 use Rattle.line_meaning.proofs.CallerLemmas.{or_none}
+use Rattle.line_meaning.proofs.RoleLemmas.{kept_is_keeping, telling_is_not_kept}
 use Rattle.database.specs.Telling.{IsStoppedBy}
 use Rattle.session.specs.Carried.{IsDone, is_class}
 use Rattle.session.specs.Entering.{Admits}
@@ -43,10 +43,6 @@ pub none_that_holds : (r : Refusal) (b : Bool) → b ≡ false → first_that_ho
 none_that_holds r b is = ap (λ x. first_that_holds ((r, x) ∷ [])) is
 
 -- ---- by the role
-
-pub kept_role : (role : Role) → is_keeping role ≡ true → role ≡ Keeping
-kept_role Keeping h = refl
-kept_role role h = absurd (cc h)
 
 -- a command that is built is judged by its role
 pub by_role : (h : Held) (c : CommandTree) (role : Role) → is_gap c ≡ false → role_of c ≡ role → fault_of h c ≡ fault_by role h c
@@ -73,7 +69,7 @@ data_fault k c plain =
 module _ (journal : List Accepted) (c : CommandTree) (gap : is_gap c ≡ false) (kept : is_kept c ≡ true) where
   pub kept_fault : fault_of (held journal) c
       ≡ or_else (command_fault (known journal) c) (journal_refusal (length journal) (bytes_of journal) c)
-  kept_fault = by_role (held journal) c Keeping gap (kept_role (role_of c) kept)
+  kept_fault = by_role (held journal) c Keeping gap (kept_is_keeping c kept)
 
   full_by : (full : Bool) → passes_limits (length journal) (bytes_of journal) (length (text_of c)) ≡ full →
       journal_refusal (length journal) (bytes_of journal) c ≡ first_that_holds ((refusals.JournalFull, full) ∷ [])
@@ -128,14 +124,14 @@ module _ (journal : List Accepted) (c : CommandTree) (gap : is_gap c ≡ false) 
     ap held (is ∙ ap (λ t. journal ++ (t, c) ∷ []) tick) ∙ sym entry_is,
     said
         ∙ ap (λ ls. before ++ (ls ++ ok_line)) (told ∙ ap (λ (h : Held). kept_lines (known journal) (known h.journal) c) (sym entry_is))
-        ∙ ap (λ (r : Role). before ++ reply_by r (held journal) c) (sym (kept_role (role_of c) kept)),
+        ∙ ap (λ (r : Role). before ++ reply_by r (held journal) c) (sym (kept_is_keeping c kept)),
   )
 
 -- ---- a command that changes nothing
 
 module _ (journal : List Accepted) (c : CommandTree) (gap : is_gap c ≡ false) (telling : role_of c ≡ Telling) where
   told_kept : is_kept c ≡ false
-  told_kept = ap is_keeping telling
+  told_kept = telling_is_not_kept c telling
 
   told_fault : fault_of (held journal) c ≡ command_fault (known journal) c
   told_fault =

@@ -1,31 +1,28 @@
 -- What is done with the commands on files.
 use Rattle.std.proofs.Common.{◌≡◌, ℕ, ◌+◌, ◌≤◌, true, false, Option, None, Some, List, [], ◌∷◌, ◌++◌, length, map, refl, sym, ap, ◌∙◌, subst, inl, inr, append-nil, arith}
-use Rattle.std.specs.Prelude.{is_none, is_some, option_and_then, option_map, unwrap_or, is_err, MatchOption, OnOk, IfOk, Result, Ok, Err, sum_by}
+use Rattle.std.specs.Prelude.{is_none, is_some, option_and_then, option_map, unwrap_or, is_err, MatchOption, OnOk, IfOk, Result, Ok, Err}
 use Rattle.std.specs.Option.{option_map_or}
 use Rattle.std.specs.List.{AllByRecursion}
-use Rattle.exact.specs.First.{first_that_holds}
+use Rattle.exact.specs.First.{first_that_holds, or_else}
 use Rattle.outside.specs.Shelf.{Texts}
 use Rattle.history.specs.Catalog.{attributes_of_class, class_of}
 use Rattle.history.specs.World.{World}
 use Rattle.object_rows.specs.declared.rows.ObjectRow.{ObjectRow}
 use Rattle.object_rows.specs.Commands.{IsRow}
 use Rattle.object_rows.specs.Rows.{rows_in}
-use Rattle.session_file.specs.Reading as reading
-use Rattle.session_file.specs.Text as saved
 use Rattle.session_file.specs.Text.{session_text}
 use Rattle.fixed_point.specs.declared.short_text.Word.{Word}
 use Rattle.command_text.specs.declared.command.Command.{Command}
 use Rattle.command_text.specs.declared.command.Command.TheVariants as commands
 use Rattle.command_text.specs.declared.refusal.Refusal.{Refusal}
 use Rattle.command_text.specs.declared.refusal.Refusal.TheVariants as refusals
-use Rattle.command_text.specs.Journal.{Accepted}
-use Rattle.command_text.specs.Line.{or_else}
+use Rattle.command_text.specs.Journal.{Accepted, clock}
 use Rattle.command_text.specs.Tree
 use Rattle.command_text.specs.Tree.{CommandTree, command_view}
 use Rattle.line_meaning.specs.Fault.{class_refusal}
 use Rattle.line_meaning.specs.Files.{class_text}
 use Rattle.line_meaning.specs.Import.{journal_after_rows, journal_after_text, lines_of_rows, rows_for}
-use Rattle.line_meaning.specs.Journal.{clock, ticks_of, world}
+use Rattle.line_meaning.specs.Journal.{world}
 use Rattle.line_meaning.specs.Looks.{looks_of, looks_of_rows, objects_of_class}
 use Rattle.line_meaning.specs.Reply.{ok_line}
 use Rattle.line_meaning.specs.Role.{asks_shelf}
@@ -43,15 +40,6 @@ use Rattle.line_meaning.proofs.CallerLemmas.{or_none}
 use Rattle.database.specs.declared.database.Database.{Database}
 use Rattle.database.specs.Keeping.{Keeps, clock_of, world_of_database}
 use Rattle.session.proofs.RowLemmas.{first_rows, journals_are, lines_are, looks_are, rows_are as rows_are_ready}
-
--- ---- the clock of a journal, as a session's text has it
-
-same_ticks : (c : CommandTree) → reading.ticks_of c ≡ ticks_of c
-same_ticks (Tree.Tick ticks) = refl
-same_ticks c = refl
-
-pub same_clock : (journal : List Accepted) → saved.clock journal ≡ clock journal
-same_clock journal = λ i. sum_by (λ (e : Accepted). same_ticks e.1 i) journal
 
 -- ---- `save`
 

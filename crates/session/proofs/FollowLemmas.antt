@@ -11,7 +11,7 @@ use Rattle.geometry.specs.Region.{Region}
 use Rattle.object_store.specs.Contents.{catalog_of, is_named}
 use Rattle.command_text.specs.declared.fault.CommandFault.{CommandFault}
 use Rattle.command_text.specs.declared.fault.CommandFault.TheVariants as stops
-use Rattle.command_text.specs.Journal.{Accepted, bytes_of}
+use Rattle.command_text.specs.Journal.{Accepted, bytes_of, clock, is_kept, ticks_of}
 use Rattle.command_text.specs.Shape.{IsPrintable}
 use Rattle.command_text.specs.Text.{text_of}
 use Rattle.command_text.specs.Tree
@@ -19,13 +19,13 @@ use Rattle.command_text.specs.Tree.{CommandTree}
 use Rattle.session_file.specs.declared.kept.TheConstants.{SESSION_LINE_LIMIT}
 use Rattle.line_meaning.specs.Answering.{kept_lines}
 use Rattle.line_meaning.specs.Fault.{is_gap, passes_limits}
-use Rattle.line_meaning.specs.Journal.{clock, regions_of, ticks_of, world, writes_of}
+use Rattle.line_meaning.specs.Journal.{regions_of, world, writes_of}
 use Rattle.line_meaning.specs.Looks.{looks_of_write, most_looks}
 use Rattle.line_meaning.specs.QueryFault.{command_fault}
 use Rattle.line_meaning.specs.Reached.{AreReached}
 use Rattle.line_meaning.specs.Registry.{Known, Registration, known, live_after, registered}
 use Rattle.line_meaning.specs.Reply.{ok_line}
-use Rattle.line_meaning.specs.Role.{is_kept, is_on_queries}
+use Rattle.line_meaning.specs.Role.{is_on_queries}
 use Rattle.line_meaning.specs.Step.{fault_of, held}
 use Rattle.line_meaning.proofs.JournalLemmas.{registered_more}
 use Rattle.live_queries.specs.Asked.{FitsWorld, HaveObjectsBefore, class_in}

@@ -4,16 +4,16 @@ use Rattle.history.specs.World.{world_of}
 use Rattle.fixed_point.specs.declared.short_text.Word.{Word}
 use Rattle.command_text.specs.declared.command.Command.{Command}
 use Rattle.command_text.specs.declared.command.Command.TheVariants as commands
-use Rattle.command_text.specs.Journal.{Accepted}
+use Rattle.command_text.specs.Journal.{Accepted, clock, is_kept, ticks_of}
 use Rattle.command_text.specs.Shape.{IsPrintable}
 use Rattle.command_text.specs.Text.{text_of}
 use Rattle.command_text.specs.Tree.{CommandTree, command_view}
 use Rattle.session_file.specs.declared.kept.TheConstants.{SESSION_LINE_LIMIT}
-use Rattle.line_meaning.specs.Journal.{clock, regions, regions_of, ticks_of, world, writes, writes_of}
+use Rattle.line_meaning.specs.Journal.{regions, regions_of, world, writes, writes_of}
 use Rattle.line_meaning.specs.Reached.{AreReached}
 use Rattle.line_meaning.specs.Registry.{known, live_after, registered}
 use Rattle.line_meaning.specs.declared.role.Role.TheVariants.{Telling}
-use Rattle.line_meaning.specs.Role.{is_kept, is_on_queries, role_of}
+use Rattle.line_meaning.specs.Role.{is_on_queries, role_of}
 use Rattle.line_meaning.specs.Step.{fault_of, held}
 use Rattle.line_meaning.proofs.JournalLemmas.{clock_more, registered_more, world_more}
 use Rattle.line_meaning.proofs.ReachedLemmas.{command_is_reached, writes_are_accepted}

@@ -9,7 +9,7 @@ use Rattle.std.proofs.lemmas.Bool.Decides.{nat_tests}
 use Rattle.ftl_lexer.specs.declared.buffer.TheConstants.{LEXER_LIMIT}
 use Rattle.command_text.specs.declared.refusal.Refusal.{Refusal}
 use Rattle.command_text.specs.inner.Reading.{Read}
-use Rattle.command_text.specs.Journal.{spelled}
+use Rattle.command_text.specs.Journal.{is_kept, spelled}
 use Rattle.command_text.specs.Line.{IsRead, command_in, early_refusal, first_refusal, late_refusal}
 use Rattle.command_text.specs.Shape.{IsPrintable}
 use Rattle.command_text.specs.Text.{text_of}
@@ -18,12 +18,10 @@ use Rattle.command_text.specs.Tree
 use Rattle.command_text.specs.Tree.{CommandTree}
 use Rattle.session_file.specs.declared.fault.FileFault.{FileFault}
 use Rattle.session_file.specs.declared.kept.TheConstants.{SESSION_LINE_LIMIT}
-use Rattle.session_file.specs.Kept as kept
 use Rattle.session_file.specs.Kept.{HasLine, kept_in, may_be_loaded}
 use Rattle.session_file.specs.declared.reader.Loaded as file
 use Rattle.session_file.specs.Reading.{GivesNext, Reading, finished, reading_of}
 use Rattle.line_meaning.specs.Loading.{Loaded, BadLine, line_of_fault, loading_by, loading_of, replayed}
-use Rattle.line_meaning.specs.Role.{is_kept}
 use Rattle.line_meaning.specs.Step.{Held, fault_of, held_after}
 use Rattle.line_meaning.proofs.ReachedLemmas.{none_of_both}
 
@@ -95,18 +93,6 @@ read_is : (found : Read CommandTree) → late_refusal found ≡ None →
 read_is None h = absurd (cc h)
 read_is (Some f) h = refl
 
-kept_alike : (c : CommandTree) → kept.is_kept c ≡ true → is_kept c ≡ true
-kept_alike (Tree.Class name capacity point attributes) h = refl
-kept_alike (Tree.Region name points) h = refl
-kept_alike (Tree.Insert class name place sets) h = refl
-kept_alike (Tree.Update name place sets) h = refl
-kept_alike (Tree.Remove name) h = refl
-kept_alike (Tree.Tick ticks) h = refl
-kept_alike (Tree.Watch name span q) h = refl
-kept_alike (Tree.Keep name span q) h = refl
-kept_alike (Tree.Drop name) h = refl
-kept_alike c h = absurd (cc h)
-
 at_most : (m n : ℕ) → nat_le m n ≡ true → m ≤ n
 at_most m n h = grind (arith, nat_tests, h)
 
@@ -119,10 +105,10 @@ module _ (prints : PrintsWhatIsRead) (again : ReadsWhatIsPrinted) where
   by_line line c none may is =
       let late = (none_of_both (early_refusal SESSION_LINE_LIMIT line) (late_refusal (command_in line)) none).1 in
       let read : IsRead SESSION_LINE_LIMIT line c = record { taken = none; command = read_is (command_in line) late ∙ ap Some is } in
-      let two = both (kept.is_kept c) (nat_le (length (text_of c)) SESSION_LINE_LIMIT) (subst (λ d. may_be_loaded d ≡ true) is may) in
+      let two = both (is_kept c) (nat_le (length (text_of c)) SESSION_LINE_LIMIT) (subst (λ d. may_be_loaded d ≡ true) is may) in
       let short = at_most (length (text_of c)) SESSION_LINE_LIMIT two.1 in
       let printable = prints SESSION_LINE_LIMIT line c read in
-      (kept_alike c two.0, printable, ap (λ o. unwrap_or o Tree.Nothing) (again SESSION_LINE_LIMIT c printable short).command, short)
+      (two.0, printable, ap (λ o. unwrap_or o Tree.Nothing) (again SESSION_LINE_LIMIT c printable short).command, short)
 
   pub is_loadable : (c : CommandTree) → HasLine c → IsLoadable c
   unfolding kept_in

@@ -16,28 +16,28 @@ use Rattle.command_text.specs.declared.fault.CommandFault.{CommandFault}
 use Rattle.command_text.specs.declared.fault.CommandFault.TheVariants as stops
 use Rattle.command_text.specs.declared.refusal.Refusal.{Refusal}
 use Rattle.command_text.specs.declared.refusal.Refusal.TheVariants as refusals
-use Rattle.command_text.specs.Journal.{Accepted, bytes_of}
-use Rattle.command_text.specs.Line.{or_else}
+use Rattle.command_text.specs.Journal.{Accepted, bytes_of, clock, is_kept, ticks_of}
 use Rattle.command_text.specs.Shape.{IsPrintable}
 use Rattle.command_text.specs.Text.{text_of}
 use Rattle.command_text.specs.Tree
 use Rattle.command_text.specs.Tree.{CommandTree}
-use Rattle.exact.specs.First.{first_that_holds}
+use Rattle.exact.specs.First.{first_that_holds, or_else}
 use Rattle.ftl_parser.specs.Lawful.{IsLawful}
 use Rattle.ftl_parser.specs.Tree.{QueryTree, query_view}
 use Rattle.tick_set.specs.declared.spans.TheConstants.{LAST_TICK}
 use Rattle.session_file.specs.declared.kept.TheConstants.{SESSION_LINE_LIMIT}
 use Rattle.line_meaning.specs.Answering.{kept_lines}
-use Rattle.line_meaning.specs.Ask.{query_in, type_refusal}
+use Rattle.line_meaning.specs.Ask.{query_in}
 use Rattle.line_meaning.specs.Changes.{answer_text}
 use Rattle.line_meaning.specs.Fault.{is_gap, passes_limits}
-use Rattle.line_meaning.specs.Journal.{clock, regions_of, ticks_of, world, writes_of}
+use Rattle.line_meaning.specs.FirstFault.{register_size_refusal, type_refusal, unknown_among}
+use Rattle.line_meaning.specs.Journal.{regions_of, world, writes_of}
 use Rattle.line_meaning.specs.Looks.{most_looks, most_reads}
-use Rattle.line_meaning.specs.QueryFault.{command_fault, register_refusal, register_size_refusal, unknown_among}
+use Rattle.line_meaning.specs.QueryFault.{command_fault, register_refusal}
 use Rattle.line_meaning.specs.Registry.{Known, Registration, has_name, is_registered, known, live_after, registered, registration}
-use Rattle.line_meaning.specs.Role.{is_kept}
 use Rattle.line_meaning.specs.Reply.{ok_line}
 use Rattle.line_meaning.specs.Step.{fault_of, held}
+use Rattle.line_meaning.proofs.RefusalLemmas.{registered_by_fault}
 use Rattle.live_queries.specs.Asked.{FitsWorld}
 use Rattle.live_queries.specs.Current.{IsCurrentFor}
 use Rattle.live_queries.specs.Kept.{KeptQuery}
@@ -211,7 +211,7 @@ unregistered k name there is = ap (λ b. first_that_holds ((refusals.UnknownName
 
 pub name_is_free : (k : Known) (name : List ℕ) (span : ℕ) (q : QueryTree) → register_refusal k name span q ≡ None → is_registered k.live name ≡ false
 name_is_free k name span q none =
-    let later = (none_of_both (unknown_among (type_refusal k.world q)) _ none).1 in
+    let later = (none_of_both (unknown_among (type_refusal k.world q)) _ (sym (registered_by_fault k name span q) ∙ none)).1 in
     none_holds refusals.NameTaken (is_registered k.live name)
     (none_of_both (first_that_holds ((refusals.NameTaken, is_registered k.live name) ∷ []))
     (or_else (type_refusal k.world q) (register_size_refusal k span q)) later).0

@@ -6,32 +6,31 @@ use Rattle.std.proofs.lemmas.Bool.{and_from, and_parts}
 use Rattle.std.proofs.lemmas.Bool.Decides.{nat_tests}
 use Rattle.std.proofs.lemmas.List.{length-append}
 use Rattle.std.proofs.lemmas.List.Sums.{sum_by_push}
-use Rattle.exact.specs.First.{first_that_holds}
+use Rattle.exact.specs.First.{first_that_holds, or_else}
 use Rattle.object_rows.specs.declared.rows.ObjectRow.{ObjectRow}
 use Rattle.object_rows.specs.Commands.{IsRow, command_of}
 use Rattle.session_file.specs.declared.kept.TheConstants.{SESSION_LINE_LIMIT}
-use Rattle.session_file.specs.Kept as saved
 use Rattle.session_file.specs.Kept.{may_be_loaded}
 use Rattle.command_text.specs.declared.refusal.Refusal.{Refusal}
 use Rattle.command_text.specs.declared.refusal.Refusal.TheVariants as refusals
-use Rattle.command_text.specs.Journal.{Accepted, bytes_of, line_bytes}
-use Rattle.command_text.specs.Line.{or_else}
+use Rattle.command_text.specs.Journal.{Accepted, bytes_of, clock, is_kept, line_bytes}
 use Rattle.command_text.specs.Text.{text_of}
 use Rattle.command_text.specs.Tree
 use Rattle.command_text.specs.Tree.{CommandTree}
 use Rattle.line_meaning.specs.declared.role.Role.{Role}
 use Rattle.line_meaning.specs.Fault.{is_gap, is_present, journal_refusal, passes_limits}
 use Rattle.line_meaning.specs.Import.{entry_lines, is_taken, journal_after_rows, lines_of_rows, row_command, with_entry}
-use Rattle.line_meaning.specs.Journal.{clock, world}
+use Rattle.line_meaning.specs.Journal.{world}
 use Rattle.line_meaning.specs.Looks.{looks_of_rows, most_looks}
 use Rattle.line_meaning.specs.QueryFault.{command_fault}
 use Rattle.line_meaning.specs.Registry.{known}
 use Rattle.line_meaning.specs.Reply.{ok_line}
-use Rattle.line_meaning.specs.Role.{is_kept, is_on_queries, role_of}
+use Rattle.line_meaning.specs.Role.{is_on_queries, role_of}
 use Rattle.line_meaning.specs.Step.{fault_of, held, reply_by}
 use Rattle.session.specs.Followed.{writes_object}
 use Rattle.session.specs.Rows.{IsRowCommand, journal_after_commands, lines_of_commands, looks_of_commands, row_commands}
-use Rattle.session.proofs.FaultLemmas.{accepted, kept_fault, kept_role}
+use Rattle.line_meaning.proofs.RoleLemmas.{kept_is_keeping}
+use Rattle.session.proofs.FaultLemmas.{accepted, kept_fault}
 
 -- ---- a command that writes to an object
 
@@ -52,12 +51,6 @@ write_plain (Tree.Insert class name place sets) write = refl
 write_plain (Tree.Update name place sets) write = refl
 write_plain (Tree.Remove name) write = refl
 write_plain c write = absurd (cc write)
-
-write_saved : (c : CommandTree) → writes_object c ≡ true → saved.is_kept c ≡ true
-write_saved (Tree.Insert class name place sets) write = refl
-write_saved (Tree.Update name place sets) write = refl
-write_saved (Tree.Remove name) write = refl
-write_saved c write = absurd (cc write)
 
 and_false : (b : Bool) → (b && false) ≡ false
 and_false true = refl
@@ -84,8 +77,8 @@ module _ (journal : List Accepted) (c : CommandTree) (write : writes_object c �
 
   long_untaken : nat_le (length (text_of c)) SESSION_LINE_LIMIT ≡ false → is_taken journal c ≡ false
   long_untaken long =
-      ap (λ n. is_none (fault_of (held journal) c) && (saved.is_kept c && n)) long
-      ∙ ap (λ b. is_none (fault_of (held journal) c) && b) (and_false (saved.is_kept c))
+      ap (λ n. is_none (fault_of (held journal) c) && (is_kept c && n)) long
+      ∙ ap (λ b. is_none (fault_of (held journal) c) && b) (and_false (is_kept c))
       ∙ and_false (is_none (fault_of (held journal) c))
 
   full_untaken : passes_limits (length journal) (bytes_of journal) (length (text_of c)) ≡ true → is_taken journal c ≡ false
@@ -112,7 +105,7 @@ module _ (journal : List Accepted) (c : CommandTree) (write : writes_object c �
   taken_by short room right =
       and_from (is_none (fault_of (held journal) c)) (may_be_loaded c)
       (ap is_none (accepted journal c (write_built c write) (write_kept c write) right room))
-      (and_from (saved.is_kept c) (nat_le (length (text_of c)) SESSION_LINE_LIMIT) (write_saved c write) short)
+      (and_from (is_kept c) (nat_le (length (text_of c)) SESSION_LINE_LIMIT) (write_kept c write) short)
 
 -- what is taken has no fault, and a short line
 none_is : (f : Option Refusal) → is_none f ≡ true → f ≡ None
@@ -124,13 +117,13 @@ taken_right journal c taken = none_is (fault_of (held journal) c) (and_parts (is
 
 pub taken_short : (journal : List Accepted) (c : CommandTree) → is_taken journal c ≡ true → length (text_of c) ≤ SESSION_LINE_LIMIT
 taken_short journal c taken =
-    let short = (and_parts (saved.is_kept c) (nat_le (length (text_of c)) SESSION_LINE_LIMIT)
+    let short = (and_parts (is_kept c) (nat_le (length (text_of c)) SESSION_LINE_LIMIT)
     (and_parts (is_none (fault_of (held journal) c)) (may_be_loaded c) taken).1).1 in
     grind (arith, nat_tests, short)
 
 -- its reply is its lines with an `ok` at the end
 pub reply_is : (journal : List Accepted) (c : CommandTree) → writes_object c ≡ true → reply_by (role_of c) (held journal) c ≡ entry_lines journal c ++ ok_line
-reply_is journal c write = ap (λ (r : Role). reply_by r (held journal) c) (kept_role (role_of c) (write_kept c write))
+reply_is journal c write = ap (λ (r : Role). reply_by r (held journal) c) (kept_is_keeping c (write_kept c write))
 
 -- ---- the first of some commands
 

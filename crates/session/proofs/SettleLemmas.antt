@@ -14,13 +14,12 @@ use Rattle.meaning.specs.Agreement.{world_with}
 use Rattle.meaning.specs.Fits.{FitsItsClasses}
 use Rattle.meaning.specs.Registered.{changes_of_tick, changes_of_write}
 use Rattle.object_store.specs.Contents.{catalog_of, history_of}
-use Rattle.command_text.specs.Journal.{Accepted}
+use Rattle.command_text.specs.Journal.{Accepted, is_kept, ticks_of}
 use Rattle.command_text.specs.Tree
 use Rattle.command_text.specs.Tree.{CommandTree}
 use Rattle.line_meaning.specs.Answering.{kept_lines}
 use Rattle.line_meaning.specs.Changes.{write_lines}
-use Rattle.line_meaning.specs.Journal.{ticks_of}
-use Rattle.line_meaning.specs.Role.{is_kept, is_on_queries}
+use Rattle.line_meaning.specs.Role.{is_on_queries}
 use Rattle.live_queries.specs.declared.fresh.Renewal.{Renewal}
 use Rattle.live_queries.specs.Asked.{FitsWorld}
 use Rattle.live_queries.specs.Columns.{AreSameColumns, Column}

@@ -2,7 +2,7 @@
 use Rattle.std.specs.Prelude.{◌≡◌, ℕ, List, ◌++◌, true, Option, None, Some, Result, Ok, Err, IfOk, IfErr}
 use Rattle.outside.specs.Shelf.{SameButAt, Texts, put}
 use Rattle.command_text.specs.declared.refusal.Refusal.{Refusal}
-use Rattle.command_text.specs.Line.{or_else}
+use Rattle.exact.specs.First.{or_else}
 use Rattle.command_text.specs.Tree.{CommandTree}
 use Rattle.line_meaning.specs.Role.{asks_shelf, is_import}
 use Rattle.line_meaning.specs.Step.{Base, Held, base, base_after, fault_of, file_refusal, reply_of}

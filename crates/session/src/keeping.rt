@@ -2,7 +2,7 @@
 ghost use Rattle.std.specs.Prelude.{◌≡◌, ◌+◌, ◌≤◌, ◌++◌, ◌∷◌, [], true, false, None, length, All, Err, IfErr, IfOk, IfSome, OnOk};
 ghost use Rattle.std.specs.List.{flat_map};
 ghost use Rattle.ftl_lexer.specs.declared.buffer.TheConstants.{LEXER_LIMIT};
-ghost use Rattle.command_text.specs.Journal.{spelled};
+ghost use Rattle.command_text.specs.Journal.{is_kept, spelled};
 ghost use Rattle.command_text.specs.Shape.{IsPrintable};
 ghost use Rattle.command_text.specs.Text.{text_of};
 ghost use Rattle.command_text.specs.Tree;
@@ -11,7 +11,7 @@ ghost use Rattle.line_meaning.specs.Fault.{is_gap};
 ghost use Rattle.line_meaning.specs.Looks.{is_query, most_looks};
 ghost use Rattle.line_meaning.specs.Reached.{AreReached};
 ghost use Rattle.line_meaning.specs.Reply.{ok_line};
-ghost use Rattle.line_meaning.specs.Role.{is_kept, is_on_queries};
+ghost use Rattle.line_meaning.specs.Role.{is_on_queries};
 ghost use Rattle.line_meaning.specs.Step.{fault_of, held};
 ghost use Rattle.object_store.specs.Contents.{catalog_of};
 ghost use Rattle.live_queries.specs.Current.{AreCurrent};

@@ -1,13 +1,13 @@
 //! The state of the database, one line at a time.
 ghost use Rattle.std.specs.Prelude.{◌≡◌, ◌+◌, ◌≤◌, true, false, [], length, IfOk, Ok, Err, OnErr};
 ghost use Rattle.ftl_lexer.specs.declared.buffer.TheConstants.{LEXER_LIMIT};
-ghost use Rattle.command_text.specs.Journal.{spelled};
+ghost use Rattle.command_text.specs.Journal.{clock, is_kept, spelled};
 ghost use Rattle.command_text.specs.Shape.{IsPrintable};
 ghost use Rattle.command_text.specs.Text.{text_of};
 ghost use Rattle.command_text.specs.Tree.{command_view};
-ghost use Rattle.line_meaning.specs.Journal.{clock, world};
+ghost use Rattle.line_meaning.specs.Journal.{world};
 ghost use Rattle.line_meaning.specs.Looks.{is_query, looks_of, most_looks};
-ghost use Rattle.line_meaning.specs.Role.{asks_shelf, is_kept};
+ghost use Rattle.line_meaning.specs.Role.{asks_shelf};
 ghost use Rattle.line_meaning.specs.Step.{base, held};
 ghost use Rattle.outside.specs.Shelf.{Texts};
 ghost use Rattle.session.specs.Filed.{IsApplied, SufficesFor};

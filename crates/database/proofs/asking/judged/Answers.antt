@@ -1,12 +1,12 @@
 use Rattle.std.proofs.Common.{refl, sym, ap, ◌∙◌}
 use Rattle.std.specs.Prelude.{unwrap_or}
 use Rattle.std.specs.Option.{option_or}
-use Rattle.command_text.specs.Line.{or_else}
+use Rattle.exact.specs.First.{or_else}
 use Rattle.ftl_parser.specs.Tree.{query_view}
 use Rattle.ftl_typer.specs.Faults.{faults}
 use Rattle.ftl_typer.specs.First.{first_fault}
 use Rattle.ftl_typer.specs.declared.fault.TypeFault.TheVariants as type_faults
-use Rattle.line_meaning.specs.Ask.{type_refusal}
+use Rattle.line_meaning.specs.FirstFault.{type_refusal}
 use Rattle.database.specs.Keeping.{world_of_database}
 use Rattle.database.proofs.AskLemmas.{told_refusal}
 use Rattle.database.proofs.asking.judged.Goals as goal

@@ -1,6 +1,6 @@
 use Rattle.std.proofs.Common.{length, map}
 use Rattle.object_store.specs.Contents.{catalog_of}
-use Rattle.line_meaning.specs.Reply.{name_of}
+use Rattle.history.specs.Catalog.{name_of}
 use Rattle.database.proofs.RowLemmas.{ids_step, name_step}
 use Rattle.database.proofs.rows.set_names.Goals as goal
 

@@ -2,7 +2,7 @@ use Rattle.std.proofs.Common.{◌≡◌, true, ◌++◌, length, map}
 use Rattle.std.specs.Prelude.{nat_lt}
 use Rattle.std.specs.List.{list_all}
 use Rattle.object_store.specs.Contents.{catalog_of}
-use Rattle.line_meaning.specs.Reply.{name_of}
+use Rattle.history.specs.Catalog.{name_of}
 use Rattle.database.proofs.rows.set_names.Given as goal
 
 -- the names so far and those that are left make all

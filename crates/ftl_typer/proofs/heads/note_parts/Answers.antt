@@ -1,6 +1,7 @@
 use Rattle.std.proofs.Common.{◌≡◌, ◌+◌, take, drop, length, length-drop, sym, ap, ◌∙◌, arith}
 use Rattle.ftl_typer.specs.declared.found.FaultKind.TheVariants.{UnknownName, NameTaken}
-use Rattle.ftl_typer.specs.First.{fault_if, found_after}
+use Rattle.ftl_typer.specs.Fault.{fault_if}
+use Rattle.ftl_typer.specs.First.{found_after}
 use Rattle.ftl_typer.proofs.StepLemmas.{part_step, parts_end}
 use Rattle.ftl_typer.proofs.heads.note_parts.Goals as goal
 

@@ -1,9 +1,7 @@
 use Rattle.std.proofs.Common.{refl}
-use Rattle.ftl_typer.specs.First.{found_after}
 use Rattle.line_meaning.proofs.examples.asks_are_refused.Goals as goal
 
 pub returns : goal.returns
-unfolding found_after
 returns c = record {
   unknown_region = refl;
   of_another_kind = refl;

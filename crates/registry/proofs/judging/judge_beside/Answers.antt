@@ -1,6 +1,6 @@
 use Rattle.std.proofs.Common.{refl, sym, ◌∙◌}
 use Rattle.ftl_parser.specs.Tree.{query_view}
-use Rattle.line_meaning.specs.Ask.{refusal_by_type}
+use Rattle.line_meaning.specs.FirstFault.{refusal_by_type}
 use Rattle.database.specs.Keeping.{clock_of, world_of_database}
 use Rattle.registry.proofs.BesideLemmas.{beside_is}
 use Rattle.registry.proofs.JudgeLemmas.{fault_refused}

@@ -1,17 +1,16 @@
 use Rattle.std.proofs.Common.{◌≡◌, false, sym, ap, ◌∙◌, arith}
 use Rattle.std.specs.List.{list_any}
 use Rattle.std.specs.Str.{bytes_eq}
-use Rattle.formula.specs.Tree.{query_view as resolved_view}
+use Rattle.formula.specs.Tree.{ResolvedQuery, query_view as resolved_view}
 use Rattle.object_store.specs.Contents.{catalog_of}
 use Rattle.ftl_parser.specs.Tree.{query_view}
-use Rattle.line_meaning.specs.Ask as asked
-use Rattle.live_queries.specs.Columns.{most_bindings}
+use Rattle.line_meaning.specs.Ask.{query_in}
+use Rattle.history.specs.Catalog.{most_bindings}
 use Rattle.database.specs.Keeping.{world_of_database}
 use Rattle.registry.specs.Standing.{known_of}
 use Rattle.registry.proofs.AddedLemmas.{added_told, same_adds, still_stand, taken_away}
 use Rattle.registry.proofs.JudgeLemmas.{right_is}
 use Rattle.registry.proofs.NameLemmas.{registered_is}
-use Rattle.registry.proofs.SizeLemmas.{same_bindings}
 use Rattle.registry.proofs.registering.register.Goals as goal
 
 pub register-requires-clause-size : goal.register-requires-clause-size
@@ -20,11 +19,10 @@ register-requires-clause-size g c =
     let r = c.args.request.now in
     let q = query_view r.query.now in
     let few = (right_is (known_of d c.args.live.now) r.name.now r.span q c.requires.right).size in
-    let same : most_bindings (catalog_of c.store-store.result.now) c.args.resolved.classes
-    ≡ asked.most_bindings (catalog_of d.store).classes (asked.query_in (world_of_database d) q)
-    = (λ i. most_bindings (catalog_of (c.store-store.ensures i)) c.args.resolved.classes)
-    ∙ same_bindings (catalog_of d.store) c.args.resolved.classes
-    ∙ ap (asked.most_bindings (catalog_of d.store).classes) c.requires.query in
+    let same : most_bindings (catalog_of c.store-store.result.now).classes c.args.resolved.classes
+    ≡ most_bindings (catalog_of d.store).classes (query_in (world_of_database d) q).classes
+    = (λ i. most_bindings (catalog_of (c.store-store.ensures i)).classes c.args.resolved.classes)
+    ∙ ap (λ (r : ResolvedQuery). most_bindings (catalog_of d.store).classes r.classes) c.requires.query in
     omega (arith, same, few)
 
 pub push_answer-requires : goal.push_answer-requires

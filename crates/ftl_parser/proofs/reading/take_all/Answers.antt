@@ -1,7 +1,7 @@
 use Rattle.std.proofs.Common.{true, sym, ◌∙◌, ap}
 use Rattle.ftl_parser.specs.inner.Views.{state_of}
 use Rattle.ftl_parser.proofs.reader.RunLemmas.{goes-on}
-use Rattle.ftl_parser.proofs.reading.spelled.Goals as goal
+use Rattle.ftl_parser.proofs.reading.take_all.Goals as goal
 
 pub loop-at-preserved : goal.loop-at-preserved
 loop-at-preserved c =

@@ -1,0 +1,32 @@
+-- The roles of the commands that a journal keeps and of those that it doesn't, also for the crates above.
+use Rattle.std.proofs.Common.{◌≡◌, true, false, refl}
+use Rattle.std.proofs.lemmas.Bool.{false≢true}
+use Rattle.command_text.specs.Journal.{is_kept}
+use Rattle.command_text.specs.Tree
+use Rattle.command_text.specs.Tree.{CommandTree}
+use Rattle.line_meaning.specs.declared.role.Role.TheVariants.{Keeping, Telling}
+use Rattle.line_meaning.specs.Role.{role_of}
+
+pub kept_is_keeping : (c : CommandTree) → is_kept c ≡ true → role_of c ≡ Keeping
+kept_is_keeping (Tree.Class name capacity point attributes) kept = refl
+kept_is_keeping (Tree.Region name points) kept = refl
+kept_is_keeping (Tree.Insert class name place sets) kept = refl
+kept_is_keeping (Tree.Update name place sets) kept = refl
+kept_is_keeping (Tree.Remove name) kept = refl
+kept_is_keeping (Tree.Tick ticks) kept = refl
+kept_is_keeping (Tree.Watch name span q) kept = refl
+kept_is_keeping (Tree.Keep name span q) kept = refl
+kept_is_keeping (Tree.Drop name) kept = refl
+kept_is_keeping c kept = absurd (false≢true kept)
+
+pub telling_is_not_kept : (c : CommandTree) → role_of c ≡ Telling → is_kept c ≡ false
+telling_is_not_kept (Tree.Class name capacity point attributes) telling = absurd (cc telling)
+telling_is_not_kept (Tree.Region name points) telling = absurd (cc telling)
+telling_is_not_kept (Tree.Insert class name place sets) telling = absurd (cc telling)
+telling_is_not_kept (Tree.Update name place sets) telling = absurd (cc telling)
+telling_is_not_kept (Tree.Remove name) telling = absurd (cc telling)
+telling_is_not_kept (Tree.Tick ticks) telling = absurd (cc telling)
+telling_is_not_kept (Tree.Watch name span q) telling = absurd (cc telling)
+telling_is_not_kept (Tree.Keep name span q) telling = absurd (cc telling)
+telling_is_not_kept (Tree.Drop name) telling = absurd (cc telling)
+telling_is_not_kept c telling = refl

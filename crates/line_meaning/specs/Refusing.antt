@@ -1,0 +1,213 @@
+-- The twenty refusals of a line, each with when it holds. A line is refused by the first that holds, in the order of their
+-- numbers; others may hold beside it. A refusal never holds of a command that has no row of its own below. Of a command that
+-- isn't built yet only the first six are asked.
+use Rattle.std.specs.Prelude.{ℕ, ◌+◌, Bool, false, not, ◌||◌, ◌&&◌, is_none, is_some, nat_le, nat_lt, Option, List, [], ◌∷◌, length, map}
+use Rattle.tick_set.specs.declared.spans.TheConstants.{LAST_TICK}
+use Rattle.geometry.specs.Polygon.{is_convex}
+use Rattle.geometry.specs.Region.{region_number}
+use Rattle.polygon.specs.declared.named.TheConstants.{REGION_LIMIT}
+use Rattle.motion.specs.declared.cell.NamedSet.{NamedSet}
+use Rattle.motion.specs.declared.cell.Place.{Place}
+use Rattle.history.specs.Catalog.{Catalog, ClassInfo, attributes_of_class, class_of, number_of_class, object_of, with_coordinates}
+use Rattle.formula.specs.declared.limits.TheConstants.{QUERY_LIMIT}
+use Rattle.kept_rows.specs.declared.binding.TheConstants.{BINDING_LIMIT}
+use Rattle.object_store.specs.declared.schema.TheConstants.{CLASS_LIMIT}
+use Rattle.object_store.specs.Faults.{class_of_object, has_misfit, has_unknown, is_elsewhere, is_misplaced, is_past_capacity, repeats_attribute, repeats_set}
+use Rattle.ftl_typer.specs.declared.found.FaultKind.TheVariants as kinds
+use Rattle.command_text.specs.declared.reading.TheConstants.{LINE_LIMIT}
+use Rattle.command_text.specs.declared.refusal.Refusal.{Refusal}
+use Rattle.command_text.specs.declared.refusal.Refusal.TheVariants as refusals
+use Rattle.command_text.specs.Journal.{Accepted, bytes_of, is_kept, spelled}
+use Rattle.command_text.specs.Line.{command_in, has_bad_token, has_large_size, has_other_byte, has_unfit_number, is_no_command, is_too_long}
+use Rattle.command_text.specs.Text.{text_of}
+use Rattle.command_text.specs.Tree
+use Rattle.command_text.specs.Tree.{CommandTree}
+use Rattle.line_meaning.specs.Ask.{bindings_asked, has_fault, is_past_span}
+use Rattle.line_meaning.specs.Fault.{is_gap, is_present, passes_limits}
+use Rattle.line_meaning.specs.Journal.{attribute_of}
+use Rattle.line_meaning.specs.QueryFault.{passes_bindings}
+use Rattle.line_meaning.specs.Registry.{Known, is_registered, known}
+use Rattle.line_meaning.specs.Step.{Base, journal_after_import}
+
+abbrev pub catalog_of : Known → Catalog
+catalog_of k = k.world.history.catalog
+
+-- 4: a command that isn't built yet, with all its numbers and sizes within their limits
+abbrev pub is_unbuilt : List ℕ → Bool
+is_unbuilt line = is_gap (spelled line) && not (has_unfit_number (command_in line)) && not (has_large_size (command_in line))
+
+-- ---- 7: a class, region, object, attribute, variable or registered query isn't known
+
+-- the class isn't there, or it hasn't an attribute that is named
+abbrev pub lacks : Option ClassInfo → List NamedSet → Bool
+lacks class sets = is_none class || has_unknown (attributes_of_class class) sets
+
+abbrev pub names_unknown : Known → CommandTree → Bool
+names_unknown k (Tree.Insert class name place sets) = lacks (class_of (catalog_of k) class) sets
+names_unknown k (Tree.Update name place sets) = lacks (class_of_object (catalog_of k) name) sets
+names_unknown k (Tree.Remove name) = is_none (object_of (catalog_of k) name)
+names_unknown k (Tree.Ask span q) = has_fault kinds.UnknownName k.world q
+names_unknown k (Tree.Watch name span q) = has_fault kinds.UnknownName k.world q
+names_unknown k (Tree.Keep name span q) = has_fault kinds.UnknownName k.world q
+names_unknown k (Tree.Show name) = not (is_registered k.live name)
+names_unknown k (Tree.Drop name) = not (is_registered k.live name)
+names_unknown k (Tree.Import class file) = is_none (number_of_class (catalog_of k) class)
+names_unknown k (Tree.Export class file) = is_none (number_of_class (catalog_of k) class)
+names_unknown k _ = false
+
+-- ---- 8: the name is taken, or names that must differ are alike
+
+abbrev pub has_taken_name : Known → CommandTree → Bool
+has_taken_name k (Tree.Class name capacity point attributes) =
+    is_some (class_of (catalog_of k) name) || repeats_attribute (with_coordinates point (map attribute_of attributes))
+has_taken_name k (Tree.Region name points) = is_some (region_number k.world.regions name)
+has_taken_name k (Tree.Insert class name place sets) = is_elsewhere (catalog_of k) class name || repeats_set place sets
+has_taken_name k (Tree.Update name place sets) = repeats_set place sets
+has_taken_name k (Tree.Ask span q) = has_fault kinds.NameTaken k.world q
+has_taken_name k (Tree.Watch name span q) = has_fault kinds.NameTaken k.world q || is_registered k.live name
+has_taken_name k (Tree.Keep name span q) = has_fault kinds.NameTaken k.world q || is_registered k.live name
+has_taken_name k _ = false
+
+-- ---- 9: a name or a value is of a kind that its place doesn't take
+
+-- a place is written of a class without positions, or an attribute is given what it doesn't take
+abbrev pub misfits : Option ClassInfo → Place → List NamedSet → Bool
+misfits class place sets = is_misplaced class place || has_misfit (attributes_of_class class) sets
+
+abbrev pub is_of_wrong_kind : Known → CommandTree → Bool
+is_of_wrong_kind k (Tree.Insert class name place sets) = misfits (class_of (catalog_of k) class) place sets
+is_of_wrong_kind k (Tree.Update name place sets) = misfits (class_of_object (catalog_of k) name) place sets
+is_of_wrong_kind k (Tree.Ask span q) = has_fault kinds.WrongKind k.world q
+is_of_wrong_kind k (Tree.Watch name span q) = has_fault kinds.WrongKind k.world q
+is_of_wrong_kind k (Tree.Keep name span q) = has_fault kinds.WrongKind k.world q
+is_of_wrong_kind k _ = false
+
+-- ---- 10: the points are no convex polygon
+
+abbrev pub is_not_convex : CommandTree → Bool
+is_not_convex (Tree.Region name points) = not (is_convex points)
+is_not_convex _ = false
+
+-- ---- 11: a term may pass 10^18 thousandths
+
+abbrev pub passes_bound : Known → CommandTree → Bool
+passes_bound k (Tree.Ask span q) = has_fault kinds.TermRange k.world q
+passes_bound k (Tree.Watch name span q) = has_fault kinds.TermRange k.world q
+passes_bound k (Tree.Keep name span q) = has_fault kinds.TermRange k.world q
+passes_bound k _ = false
+
+-- ---- 12: the span passes its limit, or reaches past the last tick
+
+abbrev pub passes_span : Known → CommandTree → Bool
+passes_span k (Tree.Ask span q) = is_past_span k.now span q.formula
+passes_span k (Tree.Watch name span q) = is_past_span k.now span q.formula
+passes_span k (Tree.Keep name span q) = is_past_span k.now span q.formula
+passes_span k _ = false
+
+-- ---- 13: the clock would pass the last tick
+
+abbrev pub passes_clock : Known → CommandTree → Bool
+passes_clock k (Tree.Tick ticks) = nat_lt LAST_TICK (k.now + ticks)
+passes_clock k _ = false
+
+-- ---- 14: an insert of a present object, or an update or removal of one that isn't present
+
+-- whether the object of a name is present now
+abbrev pub is_there : Known → List ℕ → Bool
+is_there k name = is_present k.world.history name k.now
+
+abbrev pub has_wrong_presence : Known → CommandTree → Bool
+has_wrong_presence k (Tree.Insert class name place sets) = is_there k name
+has_wrong_presence k (Tree.Update name place sets) = not (is_there k name)
+has_wrong_presence k (Tree.Remove name) = not (is_there k name)
+has_wrong_presence k _ = false
+
+-- ---- 15: a new name for a class that has had as many names as its capacity
+
+abbrev pub passes_capacity : Known → CommandTree → Bool
+passes_capacity k (Tree.Insert class name place sets) = is_past_capacity (catalog_of k) class name
+passes_capacity k _ = false
+
+-- ---- 16: there is no room for one more class, region or registered query
+
+abbrev pub is_full : Known → CommandTree → Bool
+is_full k (Tree.Class name capacity point attributes) = nat_le CLASS_LIMIT (length (catalog_of k).classes)
+is_full k (Tree.Region name points) = nat_le REGION_LIMIT (length k.world.regions)
+is_full k (Tree.Watch name span q) = nat_le QUERY_LIMIT (length k.live)
+is_full k (Tree.Keep name span q) = nat_le QUERY_LIMIT (length k.live)
+is_full k _ = false
+
+-- ---- 17: the classes of the query have too many objects, by themselves or beside those of the registered ones
+
+abbrev pub has_many_bindings : Known → CommandTree → Bool
+has_many_bindings k (Tree.Ask span q) = nat_lt BINDING_LIMIT (bindings_asked k.world q)
+has_many_bindings k (Tree.Watch name span q) = passes_bindings k (bindings_asked k.world q)
+has_many_bindings k (Tree.Keep name span q) = passes_bindings k (bindings_asked k.world q)
+has_many_bindings k _ = false
+
+-- ---- 18: the journal has no room for the command
+
+abbrev pub passes_journal : List Accepted → CommandTree → Bool
+passes_journal journal c = is_kept c && passes_limits (length journal) (bytes_of journal) (length (text_of c))
+
+-- ---- 19: the shelf has no text of that name
+
+abbrev pub lacks_text : Base → CommandTree → Bool
+lacks_text b (Tree.Import class file) = is_none (b.texts file)
+lacks_text b _ = false
+
+-- ---- 20: the text isn't of the form, or the command of one of its rows would be refused after those before it
+
+abbrev pub has_bad_text : Base → CommandTree → Bool
+has_bad_text b (Tree.Import class file) = is_none (journal_after_import b class file)
+has_bad_text b _ = false
+
+-- ---- All of them
+
+-- whether a refusal holds of a line
+abbrev pub refuses : Base → List ℕ → Refusal → Bool
+refuses b line refusals.LineTooLong = is_too_long LINE_LIMIT line
+refuses b line refusals.NotAscii = has_other_byte line
+refuses b line refusals.BadToken = has_bad_token line
+refuses b line refusals.BadSyntax = is_no_command (command_in line) || is_unbuilt line
+refuses b line refusals.NumberRange = has_unfit_number (command_in line)
+refuses b line refusals.TooLarge = has_large_size (command_in line)
+refuses b line refusals.UnknownName = names_unknown (known b.held.journal) (spelled line)
+refuses b line refusals.NameTaken = has_taken_name (known b.held.journal) (spelled line)
+refuses b line refusals.WrongKind = is_of_wrong_kind (known b.held.journal) (spelled line)
+refuses b line refusals.NotConvex = is_not_convex (spelled line)
+refuses b line refusals.TermRange = passes_bound (known b.held.journal) (spelled line)
+refuses b line refusals.SpanRange = passes_span (known b.held.journal) (spelled line)
+refuses b line refusals.ClockEnd = passes_clock (known b.held.journal) (spelled line)
+refuses b line refusals.Presence = has_wrong_presence (known b.held.journal) (spelled line)
+refuses b line refusals.ClassFull = passes_capacity (known b.held.journal) (spelled line)
+refuses b line refusals.StoreFull = is_full (known b.held.journal) (spelled line)
+refuses b line refusals.BindingLimit = has_many_bindings (known b.held.journal) (spelled line)
+refuses b line refusals.JournalFull = passes_journal b.held.journal (spelled line)
+refuses b line refusals.NoFile = lacks_text b (spelled line)
+refuses b line refusals.BadFile = has_bad_text b (spelled line)
+
+-- in the order of their numbers
+abbrev pub all_refusals : List Refusal
+all_refusals =
+    refusals.LineTooLong
+    ∷ refusals.NotAscii
+    ∷ refusals.BadToken
+    ∷ refusals.BadSyntax
+    ∷ refusals.NumberRange
+    ∷ refusals.TooLarge
+    ∷ refusals.UnknownName
+    ∷ refusals.NameTaken
+    ∷ refusals.WrongKind
+    ∷ refusals.NotConvex
+    ∷ refusals.TermRange
+    ∷ refusals.SpanRange
+    ∷ refusals.ClockEnd
+    ∷ refusals.Presence
+    ∷ refusals.ClassFull
+    ∷ refusals.StoreFull
+    ∷ refusals.BindingLimit
+    ∷ refusals.JournalFull
+    ∷ refusals.NoFile
+    ∷ refusals.BadFile
+    ∷ []
