@@ -1,11 +1,9 @@
 //! The ticks of a part at which the distance of two objects compares with a number.
-ghost use Rattle.std.specs.Prelude.{◌≡◌, ◌+◌, ◌-◌, ◌≤◌, ◌&&◌, ℕ, None, Some, IsTrue, nat_le, if◌then◌else◌};
+ghost use Rattle.std.specs.Prelude.{◌≡◌, ◌+◌, ◌-◌, ◌≤◌, ◌&&◌, None, Some, IsTrue, nat_le, if◌then◌else◌};
 ghost use Rattle.distance_crossing.specs.declared.near.TheConstants.{SHORT_WINDOW};
 ghost use Rattle.fixed_point.specs.declared.number.TheConstants.{READ_LIMIT};
 ghost use Rattle.formula.specs.Resolved.{is_within};
-ghost use Rattle.linear_crossing.specs.Moving.{distance_after, position_after};
-ghost use Rattle.linear_crossing.specs.Relative.{squared_distance_at};
-ghost use Rattle.linear_crossing.specs.declared.quad.Line.{Line};
+ghost use Rattle.linear_crossing.specs.Moving.{IsInReach, position_after};
 ghost use Rattle.meaning.specs.Atom.{distance_holds, position_in};
 ghost use Rattle.tick_set.specs.Ticks.{within};
 ghost use Rattle.tick_set.specs.declared.spans.TheConstants.{SPAN_LIMIT};
@@ -16,9 +14,9 @@ use crate::found::nowhere;
 use crate::parts::Part;
 use crate::places::line_of;
 use case_table::Op;
-use distance_crossing::{Triple, compare};
+use distance_crossing::{Triple, compare_motions};
 use fixed_point::Fix;
-use linear_crossing::Quad;
+use linear_crossing::Line;
 use std::sync::ledger::Ledger;
 use steps::Steps;
 use tick_set::Window;
@@ -44,10 +42,7 @@ pub fn at_distance<M: Ledger>(
 {
     match line_of(part, from) {
         Some(first) => match line_of(part, to) {
-            Some(second) => {
-                let between = Quad::between(&first, &second);
-                compare(&between, op, c, part.span.window(), probes)
-            }
+            Some(second) => compare_motions(&first, &second, op, c, part.span.window(), probes),
             None => nowhere(),
         },
         None => nowhere(),
@@ -55,13 +50,21 @@ pub fn at_distance<M: Ledger>(
 }
 
 /// The ticks of the window at which the distance of two motions compares so with a number of thousandths.
-pub fn apart<M: Ledger>(between: &Quad, op: Op, c: Fix, w: Window, probes: &mut Steps<M>) -> Triple
+pub fn apart<M: Ledger>(
+    first: &Line,
+    second: &Line,
+    op: Op,
+    c: Fix,
+    w: Window,
+    probes: &mut Steps<M>,
+) -> Triple
+    requires first_in_reach { IsInReach first.now }
+    requires second_in_reach { IsInReach second.now }
     requires sized { IsTrue (is_within READ_LIMIT c) }
     requires length { w.hi - w.lo ≤ SPAN_LIMIT }
-    ensures runs { (p q : Line) → ((k : ℕ) → squared_distance_at between.now k ≡ distance_after p q k)
-        → AreFound (λ t. within w.lo w.hi t
-        && distance_holds op c (Some (position_after p (t - w.lo))) (Some (position_after q (t - w.lo)))) result }
+    ensures runs { AreFound (λ t. within w.lo w.hi t
+        && distance_holds op c (Some (position_after first.now (t - w.lo))) (Some (position_after second.now (t - w.lo)))) result }
     ensures cost { probes.new ≤ probes.old + (if nat_le (w.hi - w.lo) SHORT_WINDOW then 47 else 63) }
 {
-    compare(between, op, c, w, probes)
+    compare_motions(first, second, op, c, w, probes)
 }

@@ -17,7 +17,6 @@ use crate::places::inside_run;
 use crate::straight_terms::straight_trend;
 use distance_crossing::Triple;
 use formula::{Env, RAtom};
-use linear_crossing::Quad;
 use motion::Timeline;
 use polygon::Regions;
 use std::sync::ledger::Ledger;
@@ -57,8 +56,7 @@ pub fn straight_ticks<M: Ledger>(
         RAtom::Dist(from, to, op, c) => {
             let first = line_of(*from, variables, timelines, w)?;
             let second = line_of(*to, variables, timelines, w)?;
-            let between = Quad::between(&first, &second);
-            Some(apart(&between, *op, *c, w, probes))
+            Some(apart(&first, &second, *op, *c, w, probes))
         }
         RAtom::Compare(left, op, right) => {
             let left = straight_trend(left, variables, timelines, env, w)?;

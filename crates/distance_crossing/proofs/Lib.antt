@@ -4,6 +4,7 @@ pub mod ByDistance
 pub mod Centres
 pub mod Chords
 pub mod CircleTicks
+pub mod FarLemmas
 pub mod LeastCircles
 pub mod Pairwise
 pub mod RunLists

@@ -6,14 +6,13 @@ use Rattle.std.proofs.lemmas.Int.{ints}
 use Rattle.std.proofs.lemmas.List.Elements.{All-head, All-tail}
 use Rattle.geometry.specs.Circle.{fits, squared_width, three_fit}
 use Rattle.linear_crossing.specs.Moving.{IsInReach, position_after, distance_after}
-use Rattle.linear_crossing.specs.Relative.{Relative, squared_distance_at}
 use Rattle.linear_crossing.specs.declared.quad.Line.{Line}
 use Rattle.tick_set.specs.Ticks.{within}
 use Rattle.tick_set.specs.Runs.{spans_have, IsRuns}
 use Rattle.tick_set.specs.declared.spans.Span.{Span}
 use Rattle.tick_set.specs.declared.spans.Window.{Window}
 use Rattle.distance_crossing.specs.Close.{ArePositionsClose}
-use Rattle.distance_crossing.specs.NearTicks.{all_near, pairs_near, positions_after, is_near, are_together}
+use Rattle.distance_crossing.specs.NearTicks.{all_near, are_near, pairs_near, positions_after, are_together}
 use Rattle.distance_crossing.proofs.LeastCircles.{swapped}
 use Rattle.distance_crossing.proofs.RunLists.{runs_by}
 use Rattle.distance_crossing.proofs.Triangles.{three_pairs}
@@ -85,8 +84,7 @@ all_common w span rest all e before = record {
 }
 
 -- one more of the motions is near the first one
-module _ (r : ℤ) (w : Window) (span : Span) (p q : Line) (rest later others : List Line) (m : Relative) (limit : ℤ) (e : rest ≡ q ∷ later) (width : limit ≡ squared_width r)
-    (value : (k : ℕ) → squared_distance_at m k ≡ distance_after p q k)
+module _ (r : ℤ) (w : Window) (span : Span) (p q : Line) (rest later others : List Line) (e : rest ≡ q ∷ later)
     (before : (t : ℕ) → (within span.lo span.hi t && all_near r p rest (t - w.lo)) ≡ (within w.lo w.hi t && all_near r p others (t - w.lo))) where
   abbrev is_this_near : ℕ → Bool
   is_this_near t = int_le (distance_after p q (t - w.lo)) (squared_width r)
@@ -97,24 +95,21 @@ module _ (r : ℤ) (w : Window) (span : Span) (p q : Line) (rest later others : 
   abbrev are_others_near : ℕ → Bool
   are_others_near t = all_near r p others (t - w.lo)
 
-  this_near : (xs : List Span) → IsRuns (is_near m limit w) xs → IsRuns (λ t. within w.lo w.hi t && is_this_near t) xs
-  this_near xs h = runs_by _ _ xs h (λ t i. within w.lo w.hi t && int_le (value (t - w.lo) i) (width i))
-
   near_before : (t : ℕ) → (within span.lo span.hi t && (is_this_near t && are_later_near t)) ≡ (within w.lo w.hi t && are_others_near t)
   near_before t =
       let P : List Line → Type 0 = λ lines. (within span.lo span.hi t && all_near r p lines (t - w.lo)) ≡ (within w.lo w.hi t && are_others_near t) in
       subst P e (before t)
 
-  pub all_near_none : IsRuns (is_near m limit w) [] → IsRuns (λ t. within w.lo w.hi t && all_near r p others (t - w.lo)) []
-  all_near_none h = none_here w span is_this_near are_later_near are_others_near near_before (this_near [] h)
+  pub all_near_none : IsRuns (are_near r p q w) [] → IsRuns (λ t. within w.lo w.hi t && all_near r p others (t - w.lo)) []
+  all_near_none h = none_here w span is_this_near are_later_near are_others_near near_before h
 
-  module _ (near : Span) (one : IsRuns (is_near m limit w) (near ∷ [])) where
+  module _ (near : Span) (one : IsRuns (are_near r p q w) (near ∷ [])) where
     pub all_near_apart : IsRuns (λ t. within span.lo span.hi t && within near.lo near.hi t) [] → IsRuns (λ t. within w.lo w.hi t && all_near r p others (t - w.lo)) []
-    all_near_apart both = none_common w span is_this_near are_later_near are_others_near near_before near (this_near (near ∷ []) one) both.ticks
+    all_near_apart both = none_common w span is_this_near are_later_near are_others_near near_before near one both.ticks
 
     pub all_near_more : (met : Span) → IsRuns (λ t. within span.lo span.hi t && within near.lo near.hi t) (met ∷ [])
         → (t : ℕ) → (within met.lo met.hi t && all_near r p later (t - w.lo)) ≡ (within w.lo w.hi t && all_near r p others (t - w.lo))
-    all_near_more met both = common w span is_this_near are_later_near are_others_near near_before near (this_near (near ∷ []) one) met both.ticks
+    all_near_more met both = common w span is_this_near are_later_near are_others_near near_before near one met both.ticks
 
 pub none_left : (r : ℤ) (p : Line) (rest : List Line) (k : ℕ) → length rest ≡ 0 → all_near r p rest k ≡ true
 none_left r p [] k e = refl

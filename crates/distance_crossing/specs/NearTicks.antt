@@ -19,6 +19,14 @@ is_near m limit w t = within w.lo w.hi t && int_le (squared_distance_at m (t - w
 abbrev pub distance_holds : Relative → Op → ℤ → Window → ℕ → Bool
 distance_holds m op c w t = within w.lo w.hi t && distance_compares op c (squared_distance_at m (t - w.lo))
 
+-- the tick t is in the window, and the distance of the two motions there compares with c as `op` says
+abbrev pub motions_compare : Line → Line → Op → ℤ → Window → ℕ → Bool
+motions_compare p q op c w t = within w.lo w.hi t && distance_compares op c (distance_after p q (t - w.lo))
+
+-- the tick t is in the window, and the two motions are within the diameter of a circle of radius r there
+abbrev pub are_near : ℤ → Line → Line → Window → ℕ → Bool
+are_near r p q w t = within w.lo w.hi t && int_le (distance_after p q (t - w.lo)) (squared_width r)
+
 -- the positions of all motions, k ticks after the window's first
 abbrev pub positions_after : List Line → ℕ → List Point
 positions_after lines k = map (λ l. position_after l k) lines

@@ -1,18 +1,21 @@
 //! The ticks at which the distance of two motions compares with a constant.
 ghost use Rattle.std.specs.Prelude.{◌≡◌, ℕ, ◌+◌, ◌-◌, ◌-ℤ◌, ◌^◌, ◌≤◌, ◌≤ℤ◌, ◌&&◌, true, pos, not, nat_le, int_le, nat_lt, unsigned_abs, option_to_list, ◌++◌, IsNone, IfSome, MatchOption};
 ghost use Rattle.std.specs.Ordering.{int_eq};
+ghost use Rattle.linear_crossing.specs.Moving.{IsInReach};
 ghost use Rattle.linear_crossing.specs.Relative.{squared_distance_at};
 ghost use Rattle.linear_crossing.specs.Zones.{IsPairOf, spans_of};
 ghost use Rattle.tick_set.specs.Runs.{IsNormal, IsRuns, spans_have};
 ghost use Rattle.tick_set.specs.Ticks.{within};
-ghost use Rattle.distance_crossing.specs.NearTicks.{distance_holds, is_near};
+ghost use Rattle.distance_crossing.specs.Far.{pass_by};
+ghost use Rattle.distance_crossing.specs.NearTicks.{distance_holds, is_near, motions_compare};
 ghost use Rattle.distance_crossing.specs.Triples.{IsPacked, IsTripleOf, triple_spans};
 
+use crate::far::pass_by;
 use crate::near::{SHORT_WINDOW, within};
 use case_table::Op;
 use exact::times;
 use fixed_point::{Fix, READ_LIMIT};
-use linear_crossing::{Pair, Quad};
+use linear_crossing::{Line, Pair, Quad};
 use std::sync::ledger::Ledger;
 use steps::Steps;
 use tick_set::{LAST_TICK, SPAN_LIMIT, Span, Window};
@@ -23,6 +26,36 @@ pub struct Triple {
     pub first: Option<Span>,
     pub second: Option<Span>,
     pub third: Option<Span>,
+}
+
+/// The ticks of the window at which the distance of two motions compares with `c` as `op` says, as maximal runs in
+/// order. `c` is in thousandths, within 10^12 of 0, and the coordinates of the first positions are within
+/// [`linear_crossing::COORDINATE_LIMIT`] of 0. Motions that are further apart than `c` on one axis, on one side of each
+/// other, at the window's first and last tick are so at each tick between: no distance is looked at.
+///
+/// It takes no memory.
+pub fn compare_motions<M: Ledger>(
+    p: &Line,
+    q: &Line,
+    op: Op,
+    c: Fix,
+    w: Window,
+    probes: &mut Steps<M>,
+) -> Triple
+    requires p_in_reach { IsInReach p.now }
+    requires q_in_reach { IsInReach q.now }
+    requires length { w.hi - w.lo ≤ SPAN_LIMIT }
+    requires c_size { unsigned_abs c ≤ READ_LIMIT }
+    ensures runs { IsTripleOf (motions_compare p.now q.now op c w) result }
+    ensures cost { probes.new ≤ probes.old + 63 }
+    ensures short_cost { w.hi - w.lo ≤ SHORT_WINDOW → probes.new ≤ probes.old + 47 }
+    ensures least { probes.old ≤ probes.new }
+    ensures far { pass_by c p.now q.now (w.hi - w.lo) ≡ true → probes.new ≡ probes.old }
+{
+    if pass_by(p, q, c, w.hi - w.lo) {
+        return everywhere(op.holds(1), w);
+    }
+    compare(&Quad::between(p, q), op, c, w, probes)
 }
 
 /// The ticks of the window at which the distance compares with `c` as `op` says, as maximal runs in order. `c` is in

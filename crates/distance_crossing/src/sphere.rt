@@ -1,13 +1,15 @@
 //! The ticks at which up to four motions fit a circle.
-ghost use Rattle.std.specs.Prelude.{◌≡◌, ℕ, ◌+◌, ◌-◌, ◌*◌, ◌<◌, ◌≤◌, ◌&&◌, pos, ◌≤ℤ◌, true, length, option_to_list, All, IfOk};
+ghost use Rattle.std.specs.Prelude.{◌≡◌, ℕ, ◌+◌, ◌-◌, ◌*◌, ◌<◌, ◌≤◌, ◌&&◌, pos, ◌*ℤ◌, ◌≤ℤ◌, true, length, option_to_list, All, IfOk};
 ghost use Rattle.geometry.specs.Circle.{three_fit};
 ghost use Rattle.linear_crossing.specs.Moving.{position_after, IsInReach};
 ghost use Rattle.tick_set.specs.Ticks.{within};
 ghost use Rattle.tick_set.specs.Runs.{IsRuns, spans_have};
-ghost use Rattle.distance_crossing.specs.NearTicks.{all_near, are_together, pairs_near};
+ghost use Rattle.distance_crossing.specs.Far.{pass_by};
+ghost use Rattle.distance_crossing.specs.NearTicks.{all_near, are_near, are_together, pairs_near};
 ghost use Rattle.distance_crossing.specs.Close.{ArePositionsClose};
 
 use crate::circle::squared_width;
+use crate::far::pass_by;
 use crate::near::within;
 use crate::search::fitting;
 use crate::trial::Trial;
@@ -132,13 +134,38 @@ fn all_near<M: Ledger>(
     ensures cost { probes.new ≤ probes.old + 60 * length others.now }
     ensures least { probes.old ≤ probes.new }
 {
-    let width = squared_width(r);
     let mut span = w.span();
     let mut rest = others;
     while let Some((q, later)) = rest.split_first() {
-        let near = within(&Quad::between(p, q), width, w, probes)?;
+        let near = near_run(r, p, q, w, probes)?;
         span = span.meet(near)?;
         rest = later;
     }
     Some(span)
+}
+
+// The ticks of the window at which two motions are within the diameter of each other.
+fn near_run<M: Ledger>(r: Fix, p: &Line, q: &Line, w: Window, probes: &mut Steps<M>) -> Option<Span>
+    requires least { pos 0 ≤ℤ r }
+    requires most { r ≤ℤ pos RADIUS_LIMIT }
+    requires p_in_reach { IsInReach p.now }
+    requires q_in_reach { IsInReach q.now }
+    requires length { w.hi - w.lo ≤ SPAN_LIMIT }
+    ensures runs { IsRuns (are_near r p.now q.now w) (option_to_list result) }
+    ensures cost { probes.new ≤ probes.old + 60 }
+    ensures least { probes.old ≤ probes.new }
+    ensures far { pass_by (pos 2 *ℤ r) p.now q.now (w.hi - w.lo) ≡ true → probes.new ≡ probes.old }
+{
+    if pass_by(p, q, diameter(r), w.hi - w.lo) {
+        return None;
+    }
+    within(&Quad::between(p, q), squared_width(r), w, probes)
+}
+
+fn diameter(r: Fix) -> Fix
+    requires least { pos 0 ≤ℤ r }
+    requires most { r ≤ℤ pos RADIUS_LIMIT }
+    ensures { result ≡ pos 2 *ℤ r }
+{
+    Fix::of(2 * r.raw()).unwrap()
 }

@@ -1,8 +1,8 @@
 ghost use Rattle.std.specs.Prelude.{◌≡◌, ◌<◌, ◌≤◌, unsigned_abs, IfSome};
 
-use crate::made::{Ends, Way, ends, quad, window};
+use crate::made::{Ends, Way, ends, line_in_reach, quad, window};
 use case_table::Op;
-use distance_crossing::{compare, within};
+use distance_crossing::{Triple, compare, compare_motions, within};
 use fixed_point::{Fix, READ_LIMIT};
 use std::marker::Brand;
 use std::process::Abort;
@@ -249,6 +249,111 @@ fn constant(c: i64) -> Option<Fix>
     Fix::of(c)
 }
 
+// Motions that are further apart than a constant on one axis at both ends of the window, and such that are so at one
+// end alone, at the two ends on the two sides of each other, or at the two ends on the two axes.
+const PASSING: [(Way, Way, Op, i64, Ends, [Option<Ends>; 3]); 28] = [
+    // 5 and 4 ahead of the car, on either axis and either side.
+    (CAR, POST, Op::Lt, 3000, (0, 1), [None, None, None]),
+    (CAR, POST, Op::Le, 3000, (0, 1), [None, None, None]),
+    (CAR, POST, Op::Eq, 3000, (0, 1), [None, None, None]),
+    (CAR, POST, Op::Ne, 3000, (0, 1), [Some((0, 1)), None, None]),
+    (CAR, POST, Op::Ge, 3000, (0, 1), [Some((0, 1)), None, None]),
+    (CAR, POST, Op::Gt, 3000, (0, 1), [Some((0, 1)), None, None]),
+    (POST, CAR, Op::Le, 3000, (0, 1), [None, None, None]),
+    (POST, CAR, Op::Gt, 3000, (0, 1), [Some((0, 1)), None, None]),
+    (UP, ABOVE, Op::Le, 3000, (0, 1), [None, None, None]),
+    (ABOVE, UP, Op::Le, 3000, (0, 1), [None, None, None]),
+    (ABOVE, UP, Op::Ge, 3000, (0, 1), [Some((0, 1)), None, None]),
+    // At the last tick just as far, or nearer.
+    (CAR, POST, Op::Le, 3000, (0, 2), [Some((2, 2)), None, None]),
+    (CAR, POST, Op::Lt, 3000, (0, 2), [None, None, None]),
+    (CAR, POST, Op::Lt, 3000, (0, 3), [Some((3, 3)), None, None]),
+    (UP, ABOVE, Op::Eq, 3000, (0, 2), [Some((2, 2)), None, None]),
+    // At the first tick just as far, or further by the least there is.
+    (
+        CAR,
+        BEHIND,
+        Op::Le,
+        3000,
+        (7, 9),
+        [Some((7, 7)), None, None],
+    ),
+    (
+        CAR,
+        BEHIND,
+        Op::Gt,
+        3000,
+        (7, 9),
+        [Some((8, 9)), None, None],
+    ),
+    (CAR, BEHIND, Op::Le, 2999, (7, 9), [None, None, None]),
+    (
+        BEHIND,
+        CAR,
+        Op::Ne,
+        2999,
+        (7, 9),
+        [Some((7, 9)), None, None],
+    ),
+    // As far on the other side at the last tick as at the first.
+    (CAR, POST, Op::Le, 3000, (0, 10), [Some((2, 8)), None, None]),
+    (UP, ABOVE, Op::Le, 3000, (0, 10), [Some((2, 8)), None, None]),
+    // (5, 0) away at the first tick and (0, 5) at the last: the squares between are 17, 13, 13 and 17.
+    (
+        POST,
+        ROUND,
+        Op::Le,
+        3606,
+        (0, 5),
+        [Some((2, 3)), None, None],
+    ),
+    (POST, ROUND, Op::Le, 3605, (0, 5), [None, None, None]),
+    (
+        POST,
+        ROUND,
+        Op::Lt,
+        5000,
+        (0, 5),
+        [Some((1, 4)), None, None],
+    ),
+    // Each distance is above a constant below 0.
+    (CAR, CAR, Op::Le, -1, (4, 6), [None, None, None]),
+    (CAR, CAR, Op::Gt, -1, (4, 6), [Some((4, 6)), None, None]),
+    // As far and as fast as may be.
+    (
+        FARTHEST,
+        OPPOSITE,
+        Op::Le,
+        1_000_000_000_000,
+        (0, 100_000_000),
+        [None, None, None],
+    ),
+    (
+        OPPOSITE,
+        FARTHEST,
+        Op::Ge,
+        1_000_000_000_000,
+        (0, 100_000_000),
+        [Some((0, 100_000_000)), None, None],
+    ),
+];
+
+const UP: Way = (0, 0, 0, 1000);
+
+const ABOVE: Way = (0, 5000, 0, 0);
+
+const BEHIND: Way = (-3000, 0, 0, 0);
+
+const ROUND: Way = (10_000, 0, -1000, 1000);
+
+const FARTHEST: Way = (FAR, FAR, 1_000_000, 1_000_000);
+
+const OPPOSITE: Way = (-FAR, -FAR, -1_000_000, -1_000_000);
+
+fn runs(found: Triple) -> [Option<Ends>; 3] {
+    [ends(found.first), ends(found.second), ends(found.third)]
+}
+
 fn compared<M: Ledger>(
     p: Way,
     q: Way,
@@ -258,8 +363,20 @@ fn compared<M: Ledger>(
     probes: &mut Steps<M>,
 ) -> Option<[Option<Ends>; 3]> {
     let quad = quad(p, q)?;
-    let found = compare(&quad, op, constant(c)?, window(w)?, probes);
-    Some([ends(found.first), ends(found.second), ends(found.third)])
+    Some(runs(compare(&quad, op, constant(c)?, window(w)?, probes)))
+}
+
+fn motions_compared<M: Ledger>(
+    p: Way,
+    q: Way,
+    op: Op,
+    c: i64,
+    w: Ends,
+    probes: &mut Steps<M>,
+) -> Option<[Option<Ends>; 3]> {
+    let first = line_in_reach(p)?;
+    let second = line_in_reach(q)?;
+    Some(runs(compare_motions(&first, &second, op, constant(c)?, window(w)?, probes)))
 }
 
 fn comparisons_are_found<M: Ledger>(rt: &impl Abort, host: &HostRuntime, blank: Blank)
@@ -271,10 +388,31 @@ fn comparisons_are_found<M: Ledger>(rt: &impl Abort, host: &HostRuntime, blank: 
     for (p, q, op, c, w, want) in COMPARED {
         let found = compared(p, q, op, c, w, &mut probes);
         assert_eq!(rt; found, Some(want), "{p:?} and {q:?} {op:?} {c}");
+        let found = motions_compared(p, q, op, c, w, &mut probes);
+        assert_eq!(rt; found, Some(want), "motions {p:?} and {q:?} {op:?} {c}");
     }
 }
 
 #[test]
 fn distances_that_compare(rt: HostRuntime) {
     comparisons_are_found::<Brand>(&rt, &rt, Blank::new(1));
+}
+
+fn passing_motions_are_told<M: Ledger>(rt: &impl Abort, host: &HostRuntime, blank: Blank)
+    requires name { blank.name ≡ M.name }
+    requires parts { blank.parts ≡ M.parts }
+    requires some_part { 0 < blank.parts }
+{
+    let mut probes: Steps<M> = Steps::new(host, blank);
+    for (p, q, op, c, w, want) in PASSING {
+        let found = motions_compared(p, q, op, c, w, &mut probes);
+        assert_eq!(rt; found, Some(want), "{p:?} and {q:?} {op:?} {c}");
+        let found = compared(p, q, op, c, w, &mut probes);
+        assert_eq!(rt; found, Some(want), "quads {p:?} and {q:?} {op:?} {c}");
+    }
+}
+
+#[test]
+fn motions_that_pass_by(rt: HostRuntime) {
+    passing_motions_are_told::<Brand>(&rt, &rt, Blank::new(1));
 }

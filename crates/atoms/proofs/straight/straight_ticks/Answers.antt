@@ -15,7 +15,7 @@ returns-in_ok-second-in-Dist-clause-runs g c =
     let first = λ (t : ℕ). Some (position_after c.in_ok-first-in-Dist.first (t - w.lo)) in
     let second = λ (t : ℕ). Some (position_after c.in_ok-second-in-Dist.second (t - w.lo)) in
     runs_within w.lo w.hi (λ t. distance_holds d.op d.c (first t) (second t)) (λ t. atom_holds c.args.regions.now trace c.args.a.now c.args.env.now t)
-    (triple_spans c.apart.result) (triple_spans c.apart.result) (c.apart.ensures.runs c.in_ok-first-in-Dist.first c.in_ok-second-in-Dist.second c.between-between.ensures) refl
+    (triple_spans c.apart.result) (triple_spans c.apart.result) c.apart.ensures.runs refl
     (λ t from up_to.
     (λ i. distance_holds d.op d.c (sym (c.in_ok-first-in-Dist.ensures.places t from up_to) i) (sym (c.in_ok-second-in-Dist.ensures.places t from up_to) i))
     ∙ ap (λ a. atom_holds c.args.regions.now trace a c.args.env.now t) (sym d.is))
