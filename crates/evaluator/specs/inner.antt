@@ -2,5 +2,4 @@
 pub mod Away
 pub mod ByBinding
 pub mod Filled
-pub mod HeldKeys
 pub mod Nodes

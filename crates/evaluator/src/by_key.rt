@@ -60,7 +60,7 @@ pub(crate) fn rows_by_key<'d, S: Temporal, I: Interpreter<S>, L: Ledger, M: Ledg
         return Ok(made);
     };
     let keys = keys_of(alloc, d, rest)?;
-    let later = keys.all();
+    let later = keys.items();
     'ids: for id in d.of(*first) {
         put_rows(
             alloc, source, f, vars, *id, later, env, w, &mut made, reads, probes,

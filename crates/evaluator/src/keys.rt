@@ -7,83 +7,36 @@ ghost use Rattle.relation.specs.Key.{are_known};
 ghost use Rattle.evaluator.specs.Keys.{AreKeys};
 
 use formula::Binding;
-use relation::Domains;
+use relation::{Domains, Few};
 use std::alloc::{AllocError, Global};
-use std::marker::Model;
-
-// One key stands in the value itself, so that it takes no memory.
-#[derive(Drop)]
-enum Held {
-    One([Binding; 1]),
-    Any(Vec<Binding>),
-}
-
-// Keys, in order. A contract sees their list.
-#[derive(Drop)]
-pub(crate) struct Keys {
-    held: Held,
-}
-
-impl Model for Keys {
-    ghost use Rattle.std.specs.Prelude.{List, ℕ};
-    ghost use Rattle.evaluator.specs.inner.HeldKeys.{held_keys};
-
-    ghost Value = { List (List ℕ) };
-
-    ghost view = { λ a. held_keys a.held };
-}
-
-impl Keys {
-    #[inline]
-    fn one(key: Binding) -> Keys
-        ensures { result ≡ key ∷ [] }
-    {
-        Keys {
-            held: Held::One([key]),
-        }
-    }
-
-    // All of them.
-    #[inline]
-    pub(crate) fn all(&self) -> &[Binding]
-        ensures { result.now ≡ self.now }
-    {
-        match &self.held {
-            Held::One(key) => key,
-            Held::Any(keys) => keys,
-        }
-    }
-}
 
 // The keys of these variables: each choice of an object of each one's domain, ascending.
-pub(crate) fn keys_of(alloc: Global, d: &Domains, vars: &[u8]) -> Result<Keys, AllocError>
+pub(crate) fn keys_of(alloc: Global, d: &Domains, vars: &[u8]) -> Result<Few<Binding>, AllocError>
     requires known { are_known d.now vars.now ≡ true }
     requires few { length vars.now ≤ OBJECT_LIMIT }
     ensures { IfOk result (λ keys. AreKeys d.now vars.now keys) }
 {
     let Some((var, vars)) = vars.split_first() else {
-        return Ok(Keys::one(Binding::new()));
+        return Ok(Few::one(Binding::new()));
     };
     let later = keys_of(alloc, d, vars)?;
-    let keys = keys_with(alloc, d.of(*var), later.all())?;
+    let keys = keys_with(alloc, d.of(*var), later.items())?;
     Ok(keys)
 }
 
 // These keys with each of these objects in front.
-fn keys_with(alloc: Global, ids: &[u32], later: &[Binding]) -> Result<Keys, AllocError>
+fn keys_with(alloc: Global, ids: &[u32], later: &[Binding]) -> Result<Few<Binding>, AllocError>
     requires { list_all (λ key. nat_lt (length key) OBJECT_LIMIT) later.now ≡ true }
     ensures { IfOk result (λ keys. keys ≡ flat_map (λ id. map (λ key. id ∷ key) later.now) ids.now) }
 {
     if let ([id], [key]) = (ids, later) {
-        return Ok(Keys::one(with_first(*id, key)));
+        return Ok(Few::one(with_first(*id, key)));
     }
     let mut keys = Vec::with_capacity(alloc, ids.len())?;
     'ids: for id in ids {
         push_each(&mut keys, *id, later)?;
     }
-    Ok(Keys {
-        held: Held::Any(keys),
-    })
+    Ok(Few::from_vec(keys))
 }
 
 // Adds each of these keys with an object in front.

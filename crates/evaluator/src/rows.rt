@@ -110,7 +110,7 @@ fn rows_of_assignment<'d, S: Temporal, I: Interpreter<S>, L: Ledger, M: Ledger>(
     let term_vars = free_in_term(a.term).list();
     let keys = keys_of(alloc, d, term_vars)?;
     let mut parts = VecDeque::new(alloc);
-    'keys: for key in keys.all() {
+    'keys: for key in keys.items() {
         let rows = rows_at_key(alloc, source, a, term_vars, key, d, env, w, reads, probes)?;
         parts.push_back(rows)?;
     }

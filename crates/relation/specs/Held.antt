@@ -1,13 +1,13 @@
--- How the objects of variables are held.
+-- How values are held, and the objects of variables.
 use Rattle.std.specs.Prelude.{◌≡◌, ◌≤◌, ℕ, List, length, take}
 use Rattle.formula_shape.specs.declared.limits.TheConstants.{OBJECT_LIMIT}
 use Rattle.relation.specs.Key.{AreDomains}
-use Rattle.relation.specs.declared.domains.Held.{Held}
+use Rattle.relation.specs.declared.few.Held.{Held}
 
--- the objects
-abbrev pub held_ids : Held → List ℕ
-held_ids (Held.One ids) = ids
-held_ids (Held.Any ids) = ids.items
+-- the values
+abbrev pub held_values : {T : Type 0} → Held T → List T
+held_values (Held.One values) = values
+held_values (Held.Any values) = values.items
 
 -- places of which the first ones have the lists of domains
 pub record AreHeld (lists : List (List ℕ)) (count : ℕ) : Type 0 where

@@ -6,6 +6,7 @@ mod changes;
 mod columns;
 mod domains;
 mod entries;
+mod few;
 mod next;
 mod operation;
 mod operators;
@@ -20,6 +21,7 @@ mod variables;
 mod walk;
 
 pub use domains::Domains;
+pub use few::Few;
 pub use row::Row;
 pub use table::Relation;
 use variables::Variables;

@@ -64,25 +64,25 @@ put_rows-requires-clause-over g c = λ v h. (let o = c.requires.over v h in omeg
 
 pub put_rows-requires-clause-inside : goal.put_rows-requires-clause-inside
 put_rows-requires-clause-inside g c =
-    let are = subst (AreKeys c.args.d.now c.in-Some.rest.now) (sym c.all-later.ensures) c.in_ok-keys.ensures in
+    let are = subst (AreKeys c.args.d.now c.in-Some.rest.now) (sym c.items-later.ensures) c.in_ok-keys.ensures in
     let id = get_or c.of-id-items.result.now c.ids.id-index 0 in
     let own = subst (λ (z : List ℕ). has_id z id ≡ true) c.of-id-items.ensures.value (own_at c.of-id-items.result.now c.ids.id-index 0 (omega (arith, c.ids-test.true))) in
     let domains : c.ids.made.domains ≡ c.args.d.now = c.ids.invariant.rows.head.domains ∙ ap (λ (r : Table g.row.S.Denot). r.domains) c.empty-made.ensures in
-    (λ i. list_all (λ key. key_in (domains i) (c.in-Some.ensures.cases.0 i) (id ∷ key)) c.all-later.result.now)
-    ∙ first_inside c.args.d.now c.in-Some.first.now c.in-Some.rest.now id c.all-later.result.now own are.inside
+    (λ i. list_all (λ key. key_in (domains i) (c.in-Some.ensures.cases.0 i) (id ∷ key)) c.items-later.result.now)
+    ∙ first_inside c.args.d.now c.in-Some.first.now c.in-Some.rest.now id c.items-later.result.now own are.inside
 
 pub put_rows-requires-clause-above : goal.put_rows-requires-clause-above
 put_rows-requires-clause-above g c =
     block_above g.S.TickSet.member (holds_at (g.I.Interpreter.interpretation c.args.source.now) c.args.vars.now c.args.w.lo c.args.w.hi (formula_view c.args.f.now) c.args.env.now)
-    c.all-later.result.now c.of-id-items.result.now c.ids.id-index 0 c.empty-made.result c.ids.made (omega (arith, c.ids-test.true))
+    c.items-later.result.now c.of-id-items.result.now c.ids.id-index 0 c.empty-made.result c.ids.made (omega (arith, c.ids-test.true))
     (ap (λ (r : Table g.row.S.Denot). r.rows) c.empty-made.ensures) c.of-id-items.ensures.ascending c.ids.invariant.rows
 
 pub returns-in_err-put_rows-clause-most : goal.returns-in_err-put_rows-clause-most
 returns-in_err-put_rows-clause-most g c =
-    let are = subst (AreKeys c.args.d.now c.in-Some.rest.now) (sym c.all-later.ensures) c.in_ok-keys.ensures in
+    let are = subst (AreKeys c.args.d.now c.in-Some.rest.now) (sym c.items-later.ensures) c.in_ok-keys.ensures in
     let cost = reads_here c.args.w.lo c.args.w.hi (formula_view c.args.f.now) in
-    by_blocks c.args.d.now c.args.w.lo c.args.w.hi c.args.vars.now (formula_view c.args.f.now) c.requires.vars c.requires.alike c.args.reads.now c.put_rows.new.reads (c.ids.id-index + 1) (length c.of-id-items.result.now) (length c.all-later.result.now)
-    (block_step c.args.reads.now c.ids.reads c.put_rows.new.reads c.ids.id-index (length c.all-later.result.now) cost c.ids.invariant.most c.in_err-put_rows.ensures.most) (omega (arith, c.ids-test.true))
+    by_blocks c.args.d.now c.args.w.lo c.args.w.hi c.args.vars.now (formula_view c.args.f.now) c.requires.vars c.requires.alike c.args.reads.now c.put_rows.new.reads (c.ids.id-index + 1) (length c.of-id-items.result.now) (length c.items-later.result.now)
+    (block_step c.args.reads.now c.ids.reads c.put_rows.new.reads c.ids.id-index (length c.items-later.result.now) cost c.ids.invariant.most c.in_err-put_rows.ensures.most) (omega (arith, c.ids-test.true))
     ((λ i. length (c.of-id-items.ensures.value i) * are.count i) ∙ sym (ap (choices (size_of c.args.d.now)) c.in-Some.ensures.cases.0))
 
 pub ids-preserved : goal.ids-preserved
@@ -91,19 +91,19 @@ ids-preserved g c =
     let truth = holds_at (g.I.Interpreter.interpretation c.args.source.now) c.args.vars.now c.args.w.lo c.args.w.hi (formula_view c.args.f.now) c.args.env.now in
     let cost = reads_here c.args.w.lo c.args.w.hi (formula_view c.args.f.now) in
     record {
-      rows = filled_block g.S.TickSet.member truth c.all-later.result.now c.of-id-items.result.now c.ids.id-index 0 c.empty-made.result c.ids.made c.put_rows.new.made (omega (arith, c.ids-test.true)) c.ids.invariant.rows
+      rows = filled_block g.S.TickSet.member truth c.items-later.result.now c.of-id-items.result.now c.ids.id-index 0 c.empty-made.result c.ids.made c.put_rows.new.made (omega (arith, c.ids-test.true)) c.ids.invariant.rows
           c.in_ok-put_rows.ensures.rows;
       least = in_turn _ _ _ c.ids.invariant.least c.in_ok-put_rows.ensures.least;
-      most = block_step c.args.reads.now c.ids.reads c.put_rows.new.reads c.ids.id-index (length c.all-later.result.now) cost c.ids.invariant.most c.in_ok-put_rows.ensures.most;
+      most = block_step c.args.reads.now c.ids.reads c.put_rows.new.reads c.ids.id-index (length c.items-later.result.now) cost c.ids.invariant.most c.in_ok-put_rows.ensures.most;
     }
 
 pub returns-clause-rows : goal.returns-clause-rows
 returns-clause-rows g c =
-    let are = subst (AreKeys c.args.d.now c.in-Some.rest.now) (sym c.all-later.ensures) c.in_ok-keys.ensures in
+    let are = subst (AreKeys c.args.d.now c.in-Some.rest.now) (sym c.items-later.ensures) c.in_ok-keys.ensures in
     let f = formula_view c.args.f.now in
     let vars = c.args.vars.now in
     let j = g.I.Interpreter.interpretation c.args.source.now in
-    let later = c.all-later.result.now in
+    let later = c.items-later.result.now in
     let ids = c.of-id-items.result.now in
     let truth = holds_at j vars c.args.w.lo c.args.w.hi f c.args.env.now in
     let known = known_variables c.args.d.now (λ v. has_variable v f) (λ v l h. c.requires.over v h) in
@@ -119,7 +119,7 @@ returns-clause-rows g c =
 
 pub returns-clause-most : goal.returns-clause-most
 returns-clause-most g c =
-    let are = subst (AreKeys c.args.d.now c.in-Some.rest.now) (sym c.all-later.ensures) c.in_ok-keys.ensures in
-    by_blocks c.args.d.now c.args.w.lo c.args.w.hi c.args.vars.now (formula_view c.args.f.now) c.requires.vars c.requires.alike c.args.reads.now c.ids.reads c.ids.id-index (length c.of-id-items.result.now) (length c.all-later.result.now) c.ids.invariant.most
+    let are = subst (AreKeys c.args.d.now c.in-Some.rest.now) (sym c.items-later.ensures) c.in_ok-keys.ensures in
+    by_blocks c.args.d.now c.args.w.lo c.args.w.hi c.args.vars.now (formula_view c.args.f.now) c.requires.vars c.requires.alike c.args.reads.now c.ids.reads c.ids.id-index (length c.of-id-items.result.now) (length c.items-later.result.now) c.ids.invariant.most
     (let l : c.ids.id-index ≤ length c.of-id-items.result.now = c.ids.auto.id-index-end in omega (arith, l))
     ((λ i. length (c.of-id-items.ensures.value i) * are.count i) ∙ sym (ap (choices (size_of c.args.d.now)) c.in-Some.ensures.cases.0))

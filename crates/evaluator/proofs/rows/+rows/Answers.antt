@@ -201,8 +201,8 @@ rows_of_assignment-keys-init g t c = record {
 pub rows_of_assignment-rows_at_key-requires : goal.rows_of_assignment-rows_at_key-requires
 rows_of_assignment-rows_at_key-requires g t c κs lives =
     let same_vars : c.list-term_vars.result.now ≡ term_variables c.args.a.now.term.now = c.list-term_vars.ensures ∙ variables_same (has c.free_in_term.result) (λ v. term_has v c.args.a.now.term.now) (λ v l. c.free_in_term.ensures v l) in
-    let are = subst (λ (ks : List (List ℕ)). AreKeys c.args.d.now c.list-term_vars.result.now ks) (sym c.all-key-items.ensures) c.in_ok-keys.ensures in
-    let inside = subst (λ (k : List ℕ). key_in c.args.d.now c.list-term_vars.result.now k ≡ true) (sym c.key-item.is) (at_key (key_in c.args.d.now c.list-term_vars.result.now) c.all-key-items.result.now c.keys.key-index c.key-item.result are.inside (omega (arith, c.keys-test.true))) in (
+    let are = subst (λ (ks : List (List ℕ)). AreKeys c.args.d.now c.list-term_vars.result.now ks) (sym c.items-key-items.ensures) c.in_ok-keys.ensures in
+    let inside = subst (λ (k : List ℕ). key_in c.args.d.now c.list-term_vars.result.now k ≡ true) (sym c.key-item.is) (at_key (key_in c.args.d.now c.list-term_vars.result.now) c.items-key-items.result.now c.keys.key-index c.key-item.result are.inside (omega (arith, c.keys-test.true))) in (
       omega (arith, c.decreases),
       (lives.0, (lives.1.0, (lives.1.1.0, (lives.1.1.1, (same_vars, (inside, (c.requires.over, c.requires.can))))))),
     )
@@ -215,7 +215,7 @@ rows_of_assignment-returns-in_err-rows-clause-most g t c =
     let same_vars : c.list-term_vars.result.now ≡ term_variables c.args.a.now.term.now = c.list-term_vars.ensures ∙ variables_same (has c.free_in_term.result) (λ v. term_has v c.args.a.now.term.now) (λ v l. c.free_in_term.ensures v l) in
     keys_within c.args.d.now c.args.w.lo c.args.w.hi c.list-term_vars.result.now c.args.a.now.depth c.args.a.now.term.now (formula_view c.args.a.now.body.now) same_vars _ _ (c.keys.key-index + 1) (length c.in_ok-keys.keys)
     (one_step c.args.reads.now c.keys.reads _ c.keys.key-index (reads_at_key c.args.d.now c.args.w.lo c.args.w.hi c.list-term_vars.result.now (formula_view c.args.a.now.body.now)) c.keys.invariant.most c.in_err-rows.ensures.most)
-    (let l = c.keys-test.true in let e = ap length c.all-key-items.ensures in omega (arith, l, e)) c.in_ok-keys.ensures.count
+    (let l = c.keys-test.true in let e = ap length c.items-key-items.ensures in omega (arith, l, e)) c.in_ok-keys.ensures.count
 
 pub rows_of_assignment-returns-in_err-push_back-clause-least : goal.rows_of_assignment-returns-in_err-push_back-clause-least
 rows_of_assignment-returns-in_err-push_back-clause-least g t c = in_turn _ _ _ c.keys.invariant.least c.in_ok-rows.ensures.least
@@ -225,7 +225,7 @@ rows_of_assignment-returns-in_err-push_back-clause-most g t c =
     let same_vars : c.list-term_vars.result.now ≡ term_variables c.args.a.now.term.now = c.list-term_vars.ensures ∙ variables_same (has c.free_in_term.result) (λ v. term_has v c.args.a.now.term.now) (λ v l. c.free_in_term.ensures v l) in
     keys_within c.args.d.now c.args.w.lo c.args.w.hi c.list-term_vars.result.now c.args.a.now.depth c.args.a.now.term.now (formula_view c.args.a.now.body.now) same_vars _ _ (c.keys.key-index + 1) (length c.in_ok-keys.keys)
     (one_step c.args.reads.now c.keys.reads _ c.keys.key-index (reads_at_key c.args.d.now c.args.w.lo c.args.w.hi c.list-term_vars.result.now (formula_view c.args.a.now.body.now)) c.keys.invariant.most c.in_ok-rows.ensures.most)
-    (let l = c.keys-test.true in let e = ap length c.all-key-items.ensures in omega (arith, l, e)) c.in_ok-keys.ensures.count
+    (let l = c.keys-test.true in let e = ap length c.items-key-items.ensures in omega (arith, l, e)) c.in_ok-keys.ensures.count
 
 pub rows_of_assignment-returns-in_err-made-clause-least : goal.rows_of_assignment-returns-in_err-made-clause-least
 rows_of_assignment-returns-in_err-made-clause-least g t c = c.keys.invariant.least
@@ -234,7 +234,7 @@ pub rows_of_assignment-returns-in_err-made-clause-most : goal.rows_of_assignment
 rows_of_assignment-returns-in_err-made-clause-most g t c =
     let same_vars : c.list-term_vars.result.now ≡ term_variables c.args.a.now.term.now = c.list-term_vars.ensures ∙ variables_same (has c.free_in_term.result) (λ v. term_has v c.args.a.now.term.now) (λ v l. c.free_in_term.ensures v l) in
     keys_within c.args.d.now c.args.w.lo c.args.w.hi c.list-term_vars.result.now c.args.a.now.depth c.args.a.now.term.now (formula_view c.args.a.now.body.now) same_vars _ _ c.keys.key-index (length c.in_ok-keys.keys) c.keys.invariant.most
-    (let l : c.keys.key-index ≤ length c.all-key-items.result.now = c.keys.auto.key-index-end in let e = ap length c.all-key-items.ensures in omega (arith, l, e)) c.in_ok-keys.ensures.count
+    (let l : c.keys.key-index ≤ length c.items-key-items.result.now = c.keys.auto.key-index-end in let e = ap length c.items-key-items.ensures in omega (arith, l, e)) c.in_ok-keys.ensures.count
 
 pub rows_of_assignment-returns-clause-least : goal.rows_of_assignment-returns-clause-least
 rows_of_assignment-returns-clause-least g t c = c.keys.invariant.least
@@ -243,7 +243,7 @@ pub rows_of_assignment-returns-clause-most : goal.rows_of_assignment-returns-cla
 rows_of_assignment-returns-clause-most g t c =
     let same_vars : c.list-term_vars.result.now ≡ term_variables c.args.a.now.term.now = c.list-term_vars.ensures ∙ variables_same (has c.free_in_term.result) (λ v. term_has v c.args.a.now.term.now) (λ v l. c.free_in_term.ensures v l) in
     keys_within c.args.d.now c.args.w.lo c.args.w.hi c.list-term_vars.result.now c.args.a.now.depth c.args.a.now.term.now (formula_view c.args.a.now.body.now) same_vars _ _ c.keys.key-index (length c.in_ok-keys.keys) c.keys.invariant.most
-    (let l : c.keys.key-index ≤ length c.all-key-items.result.now = c.keys.auto.key-index-end in let e = ap length c.all-key-items.ensures in omega (arith, l, e)) c.in_ok-keys.ensures.count
+    (let l : c.keys.key-index ≤ length c.items-key-items.result.now = c.keys.auto.key-index-end in let e = ap length c.items-key-items.ensures in omega (arith, l, e)) c.in_ok-keys.ensures.count
 
 pub rows_of_assignment-keys-preserved : goal.rows_of_assignment-keys-preserved
 rows_of_assignment-keys-preserved g t c = record {
@@ -251,7 +251,7 @@ rows_of_assignment-keys-preserved g t c = record {
       (c.in_ok-rows.ensures.rows.vars ∙ sym (variables_same (has c.args.set) (λ v. has_variable v (assignment_view c.args.a.now)) (λ v l. c.requires.set v l))) c.in_ok-rows.ensures.rows.frame;
   ticks = λ b is_in u.
       ap (λ (rs : (List (Table g.row.S.Denot))). any_has g.S.TickSet.member rs b u) c.in_ok-push_back.ensures.items
-      ∙ key_more g.S.TickSet.member c.args.d.now c.args.w.lo c.args.w.hi c.list-term_vars.result.now (λ (b : ℕ → ℕ) (u : ℕ). sat (g.I.Interpreter.interpretation c.args.source.now b) (assignment_view c.args.a.now) c.args.env.now c.args.w.hi u) c.all-key-items.result.now (variables_of (assignment_view c.args.a.now)) c.keys.key-index c.key-item.result c.keys.parts.items c.in_ok-rows.rows
+      ∙ key_more g.S.TickSet.member c.args.d.now c.args.w.lo c.args.w.hi c.list-term_vars.result.now (λ (b : ℕ → ℕ) (u : ℕ). sat (g.I.Interpreter.interpretation c.args.source.now b) (assignment_view c.args.a.now) c.args.env.now c.args.w.hi u) c.items-key-items.result.now (variables_of (assignment_view c.args.a.now)) c.keys.key-index c.key-item.result c.keys.parts.items c.in_ok-rows.rows
       (omega (arith, c.keys-test.true)) c.key-item.is c.keys.invariant.ticks c.in_ok-rows.ensures.rows b is_in u;
   least = in_turn _ _ _ c.keys.invariant.least c.in_ok-rows.ensures.least;
   most = one_step c.args.reads.now c.keys.reads _ c.keys.key-index (reads_at_key c.args.d.now c.args.w.lo c.args.w.hi c.list-term_vars.result.now (formula_view c.args.a.now.body.now)) c.keys.invariant.most c.in_ok-rows.ensures.most;
@@ -265,12 +265,12 @@ rows_of_assignment-united-requires-clause-known g t c = λ v l h. c.requires.ove
 
 pub rows_of_assignment-returns-clause-rows : goal.rows_of_assignment-returns-clause-rows
 rows_of_assignment-returns-clause-rows g t c =
-    let are = subst (λ (ks : List (List ℕ)). AreKeys c.args.d.now c.list-term_vars.result.now ks) (sym c.all-key-items.ensures) c.in_ok-keys.ensures in
+    let are = subst (λ (ks : List (List ℕ)). AreKeys c.args.d.now c.list-term_vars.result.now ks) (sym c.items-key-items.ensures) c.in_ok-keys.ensures in
     let known = subst (λ (vs : List ℕ). are_known c.args.d.now vs ≡ true) (sym c.list-term_vars.ensures) (known_variables c.args.d.now (has c.free_in_term.result) (λ v l h. c.requires.over v (or_left (term_has v c.args.a.now.term.now) (has_variable v (formula_view c.args.a.now.body.now)) (sym (c.free_in_term.ensures v l) ∙ h)))) in
     record {
       ticks = λ b is_in u.
           c.in_ok-made.ensures.ticks b is_in u
-          ∙ all_keys g.S.TickSet.member c.args.d.now c.args.w.lo c.args.w.hi c.list-term_vars.result.now (λ (b : ℕ → ℕ) (u : ℕ). sat (g.I.Interpreter.interpretation c.args.source.now b) (assignment_view c.args.a.now) c.args.env.now c.args.w.hi u) c.all-key-items.result.now c.keys.key-index c.keys.parts.items (omega (arith, c.keys-test.false)) are known c.keys.invariant.ticks b is_in u;
+          ∙ all_keys g.S.TickSet.member c.args.d.now c.args.w.lo c.args.w.hi c.list-term_vars.result.now (λ (b : ℕ → ℕ) (u : ℕ). sat (g.I.Interpreter.interpretation c.args.source.now b) (assignment_view c.args.a.now) c.args.env.now c.args.w.hi u) c.items-key-items.result.now c.keys.key-index c.keys.parts.items (omega (arith, c.keys-test.false)) are known c.keys.invariant.ticks b is_in u;
       vars = c.in_ok-made.ensures.vars ∙ variables_same (has c.args.set) (λ v. has_variable v (assignment_view c.args.a.now)) (λ v l. c.requires.set v l);
       frame = c.in_ok-made.ensures.frame;
     }

@@ -8,4 +8,4 @@ pub invariant_of-self : goal.invariant_of-self
 invariant_of-self c =
     held_more c.self.inside.lists c.self.inside.count c.in_ok-ids.ids c.self.invariant
     (subst (λ (lists : List (List ℕ)). length lists < OBJECT_LIMIT) (sym c.self.view_is) c.requires.few)
-    (subst IsStrictlyIncreasing (sym c.in_ok-ids.ensures.objects) c.requires.ascending)
+    (subst IsStrictlyIncreasing (sym c.in_ok-ids.ensures.items) c.requires.ascending)
