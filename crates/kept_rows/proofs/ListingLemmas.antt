@@ -3,6 +3,7 @@ use Rattle.std.proofs.Common.{◌≡◌, ℕ, zero, suc, ◌+◌, ◌*◌, ◌/�
 use Rattle.std.specs.Prelude.{option_to_list}
 use Rattle.std.specs.List.{range_with_len, list_any, cons_option, filter_map, filter}
 use Rattle.std.proofs.lemmas.Bool.{both_ways, cases_lt, false_from_ne_true}
+use Rattle.std.proofs.lemmas.List.Folds.{list_any-append}
 use Rattle.std.proofs.lemmas.Nat.{div-add-mod', div_below, le-div, mod_below, mul-le, row_fits}
 use Rattle.tick_set.specs.Runs.{runs_of}
 use Rattle.tick_set.specs.Ticks.{between, listed}
@@ -58,6 +59,26 @@ pub some_row-all : (rows : ℕ → ℕ → Bool) (from to t : ℕ) (ticks whole 
     (ticks || some_row rows from to t) ≡ whole → ticks ≡ whole
 some_row-all rows from to t ticks whole none before =
     or-none ticks ∙ ap (λ b. ticks || b) (sym (some_row-none rows from to t none)) ∙ before
+
+-- a row more is in the list of rows
+pub some_row-pushed : {X : Type 0} (has : X → Bool) (xs ys : List X) (row : X) (rows : ℕ → ℕ → Bool) (from number to t : ℕ) (whole : Bool) →
+    ys ≡ xs ++ row ∷ [] → has row ≡ rows number t → from ≤ number → number < to → HaveNone rows from number →
+    (list_any has xs || some_row rows from to t) ≡ whole → (list_any has ys || some_row rows (number + 1) to t) ≡ whole
+some_row-pushed has xs ys row rows from number to t whole pushed is h k none before =
+    ap (λ b. b || some_row rows (number + 1) to t)
+    (ap (λ zs. list_any has zs) pushed ∙ list_any-append has xs (row ∷ []) ∙ ap (λ b. list_any has xs || b) (sym (or-none (has row)) ∙ is))
+    ∙ some_row-joined rows from number to t (list_any has xs) whole h k none before
+
+-- a first row alone, and one with those from the next row on
+pub some_row-alone : (rows : ℕ → ℕ → Bool) (first to t : ℕ) → first < to → HaveNone rows (first + 1) to → rows first t ≡ some_row rows first to t
+some_row-alone rows first to t k none = some_row-all rows (first + 1) to t (rows first t) _ none (sym (some_row-first rows first to t k))
+
+pub some_row-begun : {X : Type 0} (has : X → Bool) (ys : List X) (row : X) (rows : ℕ → ℕ → Bool) (first second to t : ℕ) →
+    ys ≡ row ∷ [] → has row ≡ rows first t → first < to → first + 1 ≤ second → HaveNone rows (first + 1) second →
+    (list_any has ys || some_row rows second to t) ≡ some_row rows first to t
+some_row-begun has ys row rows first second to t begun is k h none =
+    ap (λ b. b || some_row rows second to t) (ap (λ zs. list_any has zs) begun ∙ sym (or-none (has row)) ∙ is)
+    ∙ ap (λ b. rows first t || b) (sym (some_row-skip rows (first + 1) second to t h none)) ∙ sym (some_row-first rows first to t k)
 
 -- a row without the tick is passed over
 pub some_row-over : (rows : ℕ → ℕ → Bool) (from number to t : ℕ) (whole : Bool) → from ≤ number → number < to → HaveNone rows from number → rows number t ≡ false →

@@ -1,5 +1,6 @@
 //! The rows of an answer.
-ghost use Rattle.std.specs.Prelude.{◌≡◌, ◌<◌, ◌≤◌, ◌+◌, ◌*◌, ◌/◌, ◌++◌, ℕ, Bool, [], option_to_list, IfOk, OnOk, IfSome, IfNone};
+ghost use Rattle.std.specs.Prelude.{◌≡◌, ◌<◌, ◌≤◌, ◌+◌, ◌*◌, ◌/◌, ◌++◌, ◌||◌, ℕ, Bool, [], option_to_list, IfOk, OnOk, IfSome, IfNone};
+ghost use Rattle.std.specs.List.{list_any};
 ghost use Rattle.tick_set.specs.Runs.{pairs};
 ghost use Rattle.kept_rows.specs.Listing.{HaveNone, line_of, lines_upto, some_row, times, with_runs};
 ghost use Rattle.kept_rows.specs.Rows.{row_has};
@@ -105,8 +106,8 @@ fn line_if_any(target: u32, spans: Vec<Span>) -> Option<Line>
     Some(Line { target, spans })
 }
 
-// The ticks of the rows of the numbers from `first` up to `to`.
-pub(crate) fn union_of<S: TickSet>(
+// The ticks of the rows of the numbers from `first` up to `to`, put together at once.
+fn union_of<S: TickSet>(
     alloc: Global,
     kept: &KeptRows<S>,
     first: u32,
@@ -115,13 +116,34 @@ pub(crate) fn union_of<S: TickSet>(
     requires { first < to }
     ensures { IfOk result (λ s. (t : ℕ) → S.member s t ≡ some_row (row_has S.member kept.now) first to t) }
 {
-    let mut ticks = kept.row(first).copy(alloc)?;
-    let mut from = first + 1;
+    // A row alone is the common case, and needs no list.
+    let Some(second) = kept.next(first + 1, to) else {
+        let ticks = kept.row(first).copy(alloc)?;
+        return Ok(ticks);
+    };
+    let mut rows = Vec::new(alloc);
+    rows.push(kept.row(first))?;
+    push_rows(&mut rows, kept, second, to)?;
+    let ticks = S::union_all(alloc, &rows)?;
+    Ok(ticks)
+}
+
+// Pushes the rows that have a tick, of the numbers from `first` up to `to`.
+fn push_rows<'k, S: TickSet>(
+    rows: &mut Vec<&'k S>,
+    kept: &'k KeptRows<S>,
+    first: u32,
+    to: u32,
+) -> Result<(), AllocError>
+    ensures { OnOk result ((t : ℕ) → list_any (λ row. S.member row.now t) rows.new.items
+        ≡ (list_any (λ row. S.member row.now t) rows.old.items || some_row (row_has S.member kept.now) first to t)) }
+{
+    let mut from = first;
     'rows: while let Some(number) = kept.next(from, to) {
-        ticks = ticks.union(alloc, kept.row(number))?;
+        rows.push(kept.row(number))?;
         from = number + 1;
     }
-    Ok(ticks)
+    Ok(())
 }
 
 // Pushes what there is.

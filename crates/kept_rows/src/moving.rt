@@ -1,5 +1,5 @@
 //! What changes of targets.
-ghost use Rattle.std.specs.Prelude.{◌≡◌, ◌<◌, ◌≤◌, ◌+◌, ◌*◌, ◌/◌, ◌==◌, ◌&&◌, ◌++◌, ℕ, Bool, false, not, [], All, take, drop, length, map, option_to_list, slice_get, IfOk, IfSome, IfNone};
+ghost use Rattle.std.specs.Prelude.{◌≡◌, ◌<◌, ◌≤◌, ◌+◌, ◌*◌, ◌/◌, ◌==◌, ◌&&◌, ◌++◌, ℕ, Bool, false, not, [], All, take, drop, length, map, option_to_list, slice_get, IfOk, IfSome, IfNone, IsOk};
 ghost use Rattle.std.specs.List.{list_any};
 ghost use Rattle.std.specs.Option.{option_copied};
 ghost use Rattle.tick_set.specs.Runs.{pairs};
@@ -317,9 +317,20 @@ fn without_row<S: TickSet>(
     }
     let row = kept.row(number);
     Ok(Changed {
-        gained: left.gained.without(alloc, row)?,
-        lost: left.lost.without(alloc, row)?,
+        gained: rest_of(alloc, left.gained, row)?,
+        lost: rest_of(alloc, left.lost, row)?,
     })
+}
+
+// The ticks that aren't in a row. They stay where they are, without memory, where none of them is in it.
+fn rest_of<S: TickSet>(alloc: Global, ticks: S, row: &S) -> Result<S, AllocError>
+    ensures rest { IfOk result (λ rest. (t : ℕ) → S.member rest t ≡ (S.member ticks t && not (S.member row.now t))) }
+    ensures apart { ((t : ℕ) → (S.member ticks t && S.member row.now t) ≡ false) → IsOk result }
+{
+    if ticks.shares_tick(row) {
+        return ticks.without(alloc, row);
+    }
+    Ok(ticks)
 }
 
 // Whether a change is of this number, by a binary search.
