@@ -1,0 +1,6 @@
+mod PlaceLemmas
+mod SweepLemmas
+mod SquareLemmas
+mod OrderLemmas
+mod PartLemmas
+mod RowLemmas

@@ -1,0 +1,55 @@
+-- Objects of a class and how they move, as seen from the object that is asked for.
+use Rattle.std.specs.Prelude.{◌≡◌, ℕ, ℤ, ◌-◌, ◌≤◌, nat_lt, Bool, ◌&&◌, Option, None, Some, is_some, option_and_then, IfSome, List, count_by, slice_index_or}
+use Rattle.std.specs.Option.{option_copied}
+use Rattle.fixed_point.specs.declared.number.Point.{Point}
+use Rattle.tick_set.specs.declared.spans.Window.{Window}
+use Rattle.motion.specs.Timeline.{Epoch, state_at}
+use Rattle.motion.specs.Pieces.{AreSteadyCells}
+use Rattle.courses.specs.Places.{place_at, place_of}
+use Rattle.courses.specs.declared.parts.Common.{Common}
+use Rattle.history.specs.History.{cells_at}
+use Rattle.object_store.specs.Contents.{Contents, history_of}
+use Rattle.nearness.specs.Nearest.{squared_between, stands_before}
+use Rattle.nearest.specs.Order.{separation_after}
+use Rattle.nearest.specs.declared.course.Course.{Course}
+use Rattle.nearest.specs.declared.squares.Separation.{Separation}
+
+-- the square of the distance of two objects with these timelines at a tick, None where one of them has no place
+abbrev pub squared_along : List Epoch → List Epoch → ℕ → Option ℤ
+squared_along from to t = squared_between (place_at from t) (place_at to t)
+
+-- whether one object stands before another at a tick, as seen from an object with the timeline `from`
+abbrev pub goes_before : List Epoch → Course → Course → ℕ → Bool
+goes_before from p o t = stands_before (squared_along from p.timeline.now t) p.id (squared_along from o.timeline.now t) o.id
+
+-- how many of these objects stand before another
+abbrev pub rank_along : List Epoch → List Course → Course → ℕ → ℕ
+rank_along from courses o t = count_by (λ p. goes_before from p o t) courses
+
+abbrev pub is_near_along : List Epoch → List Course → ℕ → Course → ℕ → Bool
+is_near_along from courses k o t = is_some (squared_along from o.timeline.now t) && nat_lt (rank_along from courses o t) k
+
+-- the separation tells the square of the distance at each tick of the window, by the ticks since the window's first
+abbrev pub TellsSquares : List Epoch → List Epoch → Window → Separation → Type 0
+TellsSquares from to w s = (t : ℕ) → w.lo ≤ t → t ≤ w.hi → squared_along from to t ≡ Some (separation_after s (t - w.lo))
+
+abbrev pub IsStraightFrom : List Epoch → Window → Course → Type 0
+IsStraightFrom from w c = IfSome c.straight (TellsSquares from c.timeline.now w)
+
+-- the timeline of a course is that of its object in the store
+abbrev pub IsOfStore : Contents → Course → Type 0
+IsOfStore s c = (t : ℕ) → cells_at (history_of s) c.id t ≡ state_at c.timeline.now t
+
+-- ---- common parts
+
+-- where the object of the timeline of an index is, while the epochs of a common part are in force
+abbrev pub place_in : Common → ℕ → ℕ → Option Point
+place_in common k t = option_and_then (λ p. place_of p t) (option_copied (slice_index_or common.epochs k None))
+
+-- the square of its distance from the object of the first timeline
+abbrev pub squared_in : Common → ℕ → ℕ → Option ℤ
+squared_in common k t = squared_between (place_in common 0 t) (place_in common k t)
+
+abbrev pub IsSteadyPart : Common → Type 0
+IsSteadyPart common =
+    (k : ℕ) → IfSome (slice_index_or common.epochs k None) (λ epoch. AreSteadyCells epoch.now common.span.lo common.span.hi)

@@ -1,0 +1,4 @@
+pub mod Depth
+pub mod Order
+pub mod Courses
+pub mod Rows
