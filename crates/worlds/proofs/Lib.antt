@@ -1,0 +1,6 @@
+mod ApartLemmas
+mod MovedLemmas
+mod AtomLemmas
+mod BetweenLemmas
+mod ExactLemmas
+pub mod CallerLemmas
