@@ -30,6 +30,8 @@ CIRCLE_SPAN_LIMIT = 100_000
 """That of a query with a WITHIN_SPHERE of three names or more."""
 ASSIGNMENT_SPAN_LIMIT = 10_000
 """That of a query with an assignment."""
+NEAREST_SPAN_LIMIT = 1_000_000
+"""That of `nearest`."""
 
 
 @dataclass(frozen=True, slots=True)
@@ -255,6 +257,24 @@ def _register(tree: Tree, schema: Schema) -> Iterator[Verdict]:
         yield _at(17, part(query, "from"), f"{message} {PRODUCT_SUM_LIMIT:,} is allowed")
 
 
+def _nearest(tree: Tree, schema: Schema) -> Iterator[Verdict]:
+    span, name, class_name = part(tree, "span"), part(tree, "object_name"), part(tree, "class_name")
+    known = schema.objects.get(name_in(tree, "object_name"))
+    if known and not schema.classes[known.class_name].is_point:
+        yield _at(9, name, f"{known.class_name}, the class of {leaf(name)}, isn't a point class", is_of_objects=True)
+    among = schema.classes[name_in(tree, "class_name")]
+    if not among.is_point:
+        yield _at(9, class_name, f"{leaf(class_name)} isn't a point class")
+    last = schema.clock + whole_in(tree, "span")
+    if last - schema.clock > NEAREST_SPAN_LIMIT:
+        yield _at(12, span, f"the span of such a command is at most {NEAREST_SPAN_LIMIT:,}")
+    elif last > TICK_LIMIT:
+        yield _at(12, span, f"the last tick, {last:,}, would pass {TICK_LIMIT:,}")
+    if among.capacity**2 > PRODUCT_LIMIT:
+        message = f"the capacity of {leaf(class_name)} times itself is {among.capacity**2:,}, and at most"
+        yield _at(17, class_name, f"{message} {PRODUCT_LIMIT:,} is allowed")
+
+
 def query_product(query: Tree, schema: Schema) -> int:
     """The product of the capacities of the query's classes, which are there."""
     return schema.product_of(name_in(each, "class_name") for each in parts(part(query, "from"), "from_part"))
@@ -278,4 +298,5 @@ _JUDGES: dict[str, Callable[[Tree, Schema], Iterator[Verdict]]] = {
     "ask": _ask,
     "watch": _register,
     "keep": _register,
+    "nearest": _nearest,
 }

@@ -84,6 +84,13 @@ def test_past_rows_and_columns_by_name(client: Client) -> None:
     assert client.queries == {}
 
 
+def test_rows_of_the_nearest_by_their_class(client: Client) -> None:
+    for line in ("class post 9 point", "insert post p at (2,0)", "insert post q at (3,0)", "insert post r"):
+        client.send(line)
+    near = client.send("nearest 9 1 r post")
+    assert near is not None and near.records == [Row("now", ("p",), ((0, 9),), ("post",), 0)]
+
+
 def test_a_refused_line_moves_nothing(client: Client) -> None:
     client.send("tick 5")
     for line in ("tick 0", "tick 1000000000", "tick 5 5", "tick 1.5"):

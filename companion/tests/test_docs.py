@@ -188,7 +188,7 @@ def _whole(line: str) -> str:
 
 def test_what_is_not_answered_yet_is_bad_syntax(program: Path, tmp_path: Path) -> None:
     lines = [code_spans(example)[0] for _, example in LANGUAGE.table("Command", "What isn't answered yet")]
-    assert {line.split()[0] for line in lines} == set(LATER_COMMANDS)
+    assert {line.split()[0] for line in lines} < set(LATER_COMMANDS)
     assert answered(program, tmp_path, lines).replies == [("refused 4 BadSyntax",)] * len(lines)
 
 

@@ -73,7 +73,10 @@ def test_foretells_limits_of_queries(client: Client) -> None:
         *(f"ask 1 RETRIEVE o FROM a o WHERE {n} * o.x < 1" for n in (998, 999, 1000)),
         *(f"ask 1 RETRIEVE o FROM a o WHERE {n} * TIME < 1" for n in (999_999, 1_000_000)),
         *(f"ask 1 RETRIEVE o FROM a o WHERE 1000000 * TIME {more} < 1" for more in ("+ 0.001", "- 0", "- 1")),
+        "class e 1001 point", "insert b q",
+        *(f"nearest {n} 1 {words}" for n in (1_000_000, 1_000_001) for words in ("p a", "p b", "p e", "q a", "z a", "p z")),
         "tick 999999990", *(f"ask {n} RETRIEVE o FROM a o WHERE TRUE" for n in (10, 11)),
+        *(f"nearest {n} 1 p a" for n in (10, 11)),
         "tick 11", "tick 10", "tick 1",
     ]
     schema = Schema()
@@ -223,11 +226,11 @@ def check(tmp_path: Path, monkeypatch: pytest.MonkeyPatch, capsys: pytest.Captur
 
 
 def test_runs_no_program(fleet_command: list[str], tmp_path: Path) -> None:
-    (tmp_path / "f.domino").write_text("class van 2\nnearest 1 1 a van\nlist\n")
+    (tmp_path / "f.domino").write_text("class van 2\nrange 1 van x 0 1\nlist\n")
     words = [*fleet_command, "check", "f.domino"]
     done = subprocess.run(words, capture_output=True, cwd=tmp_path, env={"DOMINO": "/nosuch"}, timeout=60, text=True)
     assert done.stdout.splitlines()[0] == (
-        "f.domino:2:1: fault: refused 4 BadSyntax: nearest is not built yet: the program reads it and refuses it"
+        "f.domino:2:1: fault: refused 4 BadSyntax: range is not built yet: the program reads it and refuses it"
     )
     assert (done.returncode, done.stderr) == (1, "f.domino: 1 fault, 0 warnings\n")
 

@@ -19,7 +19,7 @@ insert van zo\xeb
 ask 60 retrieve o from van o
 list;
 ask 0 RETRIEVE o FROM van o WHERE o.feul < 3
-nearest 60 3 v1 van
+index van fuel 2.5
 tick 0
 region r (0,0) (4,0) (4,4) (0,0)
 list
@@ -37,9 +37,9 @@ fleet.domino:7: refused 3 BadToken: no token begins here; a command ends with it
 fleet.domino:8: refused 7 UnknownName: feul: no attribute of van; fuel?
     ask 0 RETRIEVE o FROM van o WHERE o.feul < 3
                                         ^~~~
-fleet.domino:9: refused 4 BadSyntax: nearest is not built yet: the program reads it and refuses it
-    nearest 60 3 v1 van
-    ^~~~~~~
+fleet.domino:9: refused 4 BadSyntax: index is not built yet: the program reads it and refuses it
+    index van fuel 2.5
+    ^~~~~
 fleet.domino:10: refused 5 NumberRange: a number of ticks is a whole number from 1 to 1,000,000,000
     tick 0
          ^

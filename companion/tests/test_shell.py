@@ -116,7 +116,7 @@ def test_answers_and_shows_places_and_near_names(shells: Shells) -> None:
     assert shell("ask 60 RETRIEVE o FROM van o WHERE o.feul < 3") == (
         "                                        ^~~~\nrefused 7 UnknownName: feul: no attribute of van; fuel?\n"
     )
-    assert "refused 4 BadSyntax: nearest is not built yet: the program reads it" in shell("nearest 1 1 a van")
+    assert "refused 4 BadSyntax: index is not built yet: the program reads it" in shell("index van fuel 1")
     assert shell("class van 3") == "         ^~~\nrefused 8 NameTaken: van is a class already\n"
     assert "three after it" in shell("insert van a x = 0.0001")
     assert "^" in shell("insert van zoë").splitlines()[0]
@@ -302,7 +302,7 @@ FLEET = (
     "class van 20 point (fuel dyn,plate text)", "class depot 5 point", "region yard (0,0) (4,0) (4,4)", "insert van v1",
     "insert van v2", "remove v2", "insert depot north", "watch low 9 RETRIEVE o FROM van o WHERE o.fuel < 3",
 )
-BUILT = ALL_COMMANDS - {"nearest", "must", "may", "index", "range"}
+BUILT = ALL_COMMANDS - {"must", "may", "index", "range"}
 
 
 @pytest.mark.parametrize(

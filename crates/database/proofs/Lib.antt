@@ -3,5 +3,6 @@ pub mod AttemptLemmas
 pub mod CallerLemmas
 pub mod FileLemmas
 pub mod ListLemmas
+pub mod NearLemmas
 pub mod ReadyLemmas
 pub mod RowLemmas

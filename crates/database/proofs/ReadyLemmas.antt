@@ -43,4 +43,5 @@ is_ready (Tree.Tick ticks) h = h.1.1
 is_ready (Tree.Ask span q) h = (h.1.0.1, h.1.1.lawful)
 is_ready (Tree.Watch name span q) h = (h.1.1.0.1, h.1.1.1.lawful)
 is_ready (Tree.Keep name span q) h = (h.1.1.0.1, h.1.1.1.lawful)
+is_ready (Tree.Nearest span k object class) h = h.1.0.1
 is_ready c h = tt

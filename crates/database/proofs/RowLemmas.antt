@@ -1,5 +1,5 @@
 -- For this crate and for the crates above: the objects of an answer's rows, and the lines of the rows.
-use Rattle.std.proofs.Common.{◌≡◌, ℕ, zero, suc, ◌+◌, ◌<◌, ◌≤◌, Bool, true, false, List, [], ◌∷◌, ◌++◌, length, map, refl, sym, ap, ◌∙◌, arith, if◌then◌else◌}
+use Rattle.std.proofs.Common.{◌≡◌, ℕ, zero, suc, ◌+◌, ◌<◌, ◌≤◌, Bool, true, false, not, List, [], ◌∷◌, ◌++◌, length, map, refl, sym, ap, ◌∙◌, arith, if◌then◌else◌}
 use Rattle.std.specs.Prelude.{◌==◌, nat_lt, slice_get, slice_index}
 use Rattle.std.specs.List.{enumerate_from, filter, flat_map, list_all}
 use Rattle.std.specs.Option.{option_map_or}
@@ -9,10 +9,15 @@ use Rattle.std.proofs.lemmas.List.{append_assoc}
 use Rattle.std.proofs.lemmas.List.Folds.{list_all-append}
 use Rattle.tick_set.specs.declared.spans.Span.{Span}
 use Rattle.history.specs.Catalog.{Catalog, ObjectInfo, ids_of, name_of}
+use Rattle.history.specs.History.{History}
 use Rattle.history.specs.World.{World}
 use Rattle.formula.specs.Tree.{ResolvedQuery}
 use Rattle.relation.specs.declared.row.Row as kept
 use Rattle.answers.specs.Told.{told_row, told_rows}
+use Rattle.nearness.specs.Nearest.{is_near, near, others_of, squared_to}
+use Rattle.nearest.specs.Rows.{told_near}
+use Rattle.nearest.specs.Rows as near_rows
+use Rattle.nearest.specs.declared.rows.NearRow.{NearRow}
 use Rattle.meaning.specs.Answer.{Row, answer, has_ticks, row_where}
 use Rattle.meaning.specs.Binding.{holds_target, product, tuples}
 use Rattle.object_store.specs.Contents.{Contents, StoredObject, catalog_of, object_info, object_name}
@@ -94,6 +99,29 @@ pub answer_has_objects : (w : World) (q : ResolvedQuery) (from e : ℕ) →
 answer_has_objects w q from e =
     rows_below (length w.history.catalog.objects) (holds_target w q e) from e (tuples w q) (tuples_below w q)
 
+-- ---- and of the rows of the nearest
+
+kept_below : (count : ℕ) (passes : ℕ → Bool) (ids : List ℕ) → are_below count ids ≡ true →
+    list_all (are_below count) (map (λ (id : ℕ). id ∷ []) (filter passes ids)) ≡ true
+kept_below count passes [] all = refl
+kept_below count passes (id ∷ ids) all =
+    let both = and_parts (nat_lt id count) (are_below count ids) all in
+    kept_key count id (passes id) _ both.0 (kept_below count passes ids both.1)
+  where
+    kept_key : (count id : ℕ) (there : Bool) (ids : List ℕ) → nat_lt id count ≡ true →
+        list_all (are_below count) (map (λ (id : ℕ). id ∷ []) ids) ≡ true →
+        list_all (are_below count) (map (λ (id : ℕ). id ∷ []) (if there then id ∷ ids else ids)) ≡ true
+    kept_key count id true ids here all = and_from (are_below count (id ∷ [])) _ (and_from (nat_lt id count) true here refl) all
+    kept_key count id false ids here all = all
+
+pub near_has_objects : (h : History) (class to k from e : ℕ) → list_all (has_objects (length h.catalog.objects)) (near h class to k from e) ≡ true
+near_has_objects h class to k from e =
+    rows_below (length h.catalog.objects)
+    (λ key t. is_near (squared_to h to t) (others_of h class to) k (slice_index key 0)) from e
+    (map (λ (id : ℕ). id ∷ []) (others_of h class to))
+    (kept_below (length h.catalog.objects) (λ id. not (id == to)) (ids_of h.catalog class)
+    (ids_below h.catalog class (length h.catalog.objects) (omega arith)))
+
 -- ---- names
 
 pub stored_name : (s : Contents) (id : ℕ) → object_name s.objects id ≡ name_of (catalog_of s) id
@@ -138,3 +166,23 @@ pub rows_step : (count : ℕ) (row : kept.Row (List Span)) (later rest : List (k
 rows_step count row later rest split all =
     and_parts (are_below count row.key) (list_all (has_objects count) (told_rows later))
     (ap (λ rows. list_all (has_objects count) (told_rows rows)) (sym split) ∙ all)
+
+-- one more line of the nearest
+pub near_step : (s : Contents) (tick : ℕ) (name : List ℕ) (runs : List (ℕ × ℕ)) (row : NearRow) (later rest : List NearRow)
+    (out next whole : List ℕ) → rest ≡ row ∷ later → name ≡ object_name s.objects row.id → runs ≡ (near_rows.told_row row).runs →
+    next ≡ out ++ row_line tick (name ∷ []) runs → out ++ rows_text (catalog_of s) tick (told_near rest) ≡ whole →
+    next ++ rows_text (catalog_of s) tick (told_near later) ≡ whole
+near_step s tick name runs row later rest out next whole split named same written so_far =
+    let line : row_line tick (name ∷ []) runs ≡ row_text (catalog_of s) tick (near_rows.told_row row) =
+    λ i. row_line tick ((named ∙ stored_name s row.id) i ∷ []) (same i) in
+    ap (λ o. o ++ rows_text (catalog_of s) tick (told_near later)) (written ∙ ap (λ l. out ++ l) line)
+    ∙ append_assoc out (row_text (catalog_of s) tick (near_rows.told_row row)) (rows_text (catalog_of s) tick (told_near later))
+    ∙ ap (λ rows. out ++ rows_text (catalog_of s) tick (told_near rows)) (sym split)
+    ∙ so_far
+
+pub near_rest : (count : ℕ) (row : NearRow) (later rest : List NearRow) → rest ≡ row ∷ later →
+    list_all (has_objects count) (told_near rest) ≡ true → (row.id < count) × (list_all (has_objects count) (told_near later) ≡ true)
+near_rest count row later rest split all =
+    let both = and_parts (are_below count (row.id ∷ [])) (list_all (has_objects count) (told_near later))
+    (ap (λ rows. list_all (has_objects count) (told_near rows)) (sym split) ∙ all) in
+    (grind (arith, nat_tests, (and_parts (nat_lt row.id count) true both.0).0), both.1)

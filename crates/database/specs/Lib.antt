@@ -3,4 +3,5 @@ pub mod Taking
 pub mod Attempt
 pub mod Telling
 pub mod Ready
+pub mod Near
 pub mod Rows

@@ -17,4 +17,5 @@ IsReady (Tree.Tick ticks) = ticks ≤ LAST_TICK
 IsReady (Tree.Ask span q) = (span ≤ LAST_TICK) × IsLawful q
 IsReady (Tree.Watch name span q) = (span ≤ LAST_TICK) × IsLawful q
 IsReady (Tree.Keep name span q) = (span ≤ LAST_TICK) × IsLawful q
+IsReady (Tree.Nearest span k object class) = span ≤ LAST_TICK
 IsReady _ = Unit {0}

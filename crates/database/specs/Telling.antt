@@ -18,17 +18,17 @@ abbrev pub IsStoppedBy : Option Refusal → CommandFault → Type 0
 IsStoppedBy refusal (faults.Refused r) = refusal ≡ Some r
 IsStoppedBy refusal faults.NoMemory = refusal ≡ None
 
+-- by its refusal and its lines
+abbrev pub Answers : Option Refusal → (lines before after : List ℕ) → Result (Unit {0}) CommandFault → Type 0
+Answers refusal lines before after (Ok u) = (refusal ≡ None) × (after ≡ before ++ lines)
+Answers refusal lines before after (Err fault) = IsStoppedBy refusal fault
+
 abbrev pub Tells : Database → CommandTree → List ℕ → List ℕ → Result (Unit {0}) CommandFault → Type 0
-Tells d c before after (Ok u) =
-    (fault_told d c ≡ None) × (after ≡ before ++ answer_lines (world_of_database d) (clock_of d) c)
-Tells d c before after (Err fault) = IsStoppedBy (fault_told d c) fault
+Tells d c = Answers (fault_told d c) (answer_lines (world_of_database d) (clock_of d) c)
 
 -- the same of a query
 abbrev pub Asks : World → ℕ → ℕ → QueryTree → List ℕ → List ℕ → Result (Unit {0}) CommandFault → Type 0
-Asks w now span q before after (Ok u) =
-    (ask_refusal w now span q ≡ None)
-    × (after ≡ before ++ rows_text w.history.catalog now (rows_asked w now span q))
-Asks w now span q before after (Err fault) = IsStoppedBy (ask_refusal w now span q) fault
+Asks w now span q = Answers (ask_refusal w now span q) (rows_text w.history.catalog now (rows_asked w now span q))
 
 -- a refusal, and no want of memory
 abbrev pub IsRefused : CommandFault → Type 0

@@ -7,6 +7,7 @@ mod change;
 mod database;
 mod files;
 mod listing;
+mod near;
 mod objects;
 mod rows;
 mod telling;

@@ -13,6 +13,7 @@ ghost use Rattle.database.specs.Telling.{IsRefused, Tells};
 use crate::asking::ask;
 use crate::database::Database;
 use crate::listing::push_listing;
+use crate::near::{Sought, tell_nearest};
 use command_text::{Command, CommandFault};
 use std::alloc::Global;
 use std::sync::ledger::Ledger;
@@ -22,7 +23,7 @@ impl Database {
     /// Answers a command that changes nothing, but for what is told of registered queries and the `ok`: its lines are
     /// added to `out`, or it is refused. Want of memory is told only where no refusal holds. After an error `out`
     /// still begins with its old contents. A query takes at most as many steps of `reads` as its bound by the numbers of
-    /// objects and of ticks, and every other command takes none. Nothing that is refused takes a step.
+    /// objects and of ticks, a `nearest` one for its object and one for each of its class, and every other command takes none. Nothing that is refused takes a step.
     pub fn tell<L: Ledger, M: Ledger>(
         &self,
         alloc: Global,
@@ -51,6 +52,20 @@ impl Database {
                 Ok(())
             }
             Command::Ask { span, query } => ask(alloc, self, *span, query, reads, probes, out),
+            Command::Nearest {
+                span,
+                k,
+                object,
+                class,
+            } => {
+                let sought = Sought {
+                    span: *span,
+                    k: *k,
+                    object,
+                    class,
+                };
+                tell_nearest(alloc, self, &sought, reads, probes, out)
+            }
             _ => unreachable!(),
         }
     }

@@ -1,4 +1,4 @@
-//! Queries over many objects, whose answers follow from where the objects are.
+//! Questions over many objects, whose answers follow from where the objects are.
 use super::*;
 use run::INPUT_LIMIT;
 use std::alloc::{AllocError, Global};
@@ -111,5 +111,36 @@ fn a_watch_of_all_pairs_follows_reports_and_ticks(rt: HostRuntime) -> Result<(),
         10_000,
         b"now c0 c999 : 10000..1000000\nnow c999 c0 : 10000..1000000\nok\n",
     )?;
+    assert_answers(&rt, &rt, &input, &output)
+}
+
+// Appends the cars' turns to be nearest: each from half way to the car before up to half way to the next, where the
+// first of both still is.
+fn push_turns(alloc: Global, out: &mut Vec<u8>) -> Result<(), AllocError> {
+    out.extend_from_slice(b"now c0 : 0..500\nlater c1 : 501..1500\n")?;
+    for number in 1..998u32 {
+        let next = number.saturating_add(1);
+        let line = format!(in alloc; "later c{next} : {number}501..{next}500\n")?;
+        out.extend_from_slice(line.as_bytes())?;
+    }
+    out.extend_from_slice(b"later c999 : 998501..1000000\nok\n")
+}
+
+// The cars stand a unit apart, and the post goes on by a thousandth a tick.
+#[test]
+fn a_post_passes_a_thousand_cars(rt: HostRuntime) -> Result<(), Fail> {
+    let alloc = rt.alloc();
+    let mut input = Vec::from_slice(
+        alloc,
+        b"class car 1000 point\nclass post 1 point\ninsert post b move (0.001,0)\n",
+    )?;
+    for number in 0..1_000 {
+        let line = format!(in alloc; "insert car c{number} at ({number},0)\n")?;
+        input.extend_from_slice(line.as_bytes())?;
+    }
+    input.extend_from_slice(b"nearest 1000000 1 b car\n")?;
+    let mut output = Vec::new(alloc);
+    push_oks(&mut output, 1_003)?;
+    push_turns(alloc, &mut output)?;
     assert_answers(&rt, &rt, &input, &output)
 }

@@ -175,7 +175,7 @@ by_command b (Tree.Import class file) built =
     ∙ joined ((refusals.UnknownName, names_unknown (known b.held.journal) c) ∷ [])
     ((refusals.NoFile, lacks_text b c) ∷ (refusals.BadFile, has_bad_text b c) ∷ [])
 by_command b (Tree.Export class file) built = told_row _ ∙ or_none _
-by_command b (Tree.Nearest span k object class) built = absurd (false≢true (sym built))
+by_command b (Tree.Nearest span k object class) built = told_row _ ∙ or_none _
 by_command b (Tree.Must error span q) built = absurd (false≢true (sym built))
 by_command b (Tree.May error span q) built = absurd (false≢true (sym built))
 by_command b (Tree.Index class attribute width) built = absurd (false≢true (sym built))

@@ -8,6 +8,7 @@ use Rattle.command_text.specs.Tree
 use Rattle.command_text.specs.Tree.{CommandTree}
 use Rattle.line_meaning.specs.Ask.{rows_asked}
 use Rattle.line_meaning.specs.Changes.{answer_text, tick_lines, write_lines}
+use Rattle.line_meaning.specs.Near.{rows_near}
 use Rattle.line_meaning.specs.Registry.{Known, query_of, registration}
 use Rattle.line_meaning.specs.Reply.{listing, registration_line, rows_text}
 
@@ -15,6 +16,7 @@ use Rattle.line_meaning.specs.Reply.{listing, registration_line, rows_text}
 abbrev pub answer_lines : World → ℕ → CommandTree → List ℕ
 answer_lines w now Tree.Listing = listing now w.history.catalog w.regions
 answer_lines w now (Tree.Ask span q) = rows_text w.history.catalog now (rows_asked w now span q)
+answer_lines w now (Tree.Nearest span k object class) = rows_text w.history.catalog now (rows_near w now span k object class)
 answer_lines w now _ = []
 
 -- the lines that tell of registered queries; in a `list` they come after the others

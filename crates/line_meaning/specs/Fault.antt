@@ -20,6 +20,7 @@ use Rattle.command_text.specs.Tree
 use Rattle.command_text.specs.Tree.{CommandTree}
 use Rattle.line_meaning.specs.Ask.{ask_refusal}
 use Rattle.line_meaning.specs.Journal.{attribute_of}
+use Rattle.line_meaning.specs.Near.{near_refusal}
 use Rattle.command_text.specs.Journal.{is_kept}
 
 -- a command that isn't built yet; each command has a row, so that one more command needs a row too
@@ -41,7 +42,7 @@ is_gap (Tree.Drop name) = false
 is_gap (Tree.Save file) = false
 is_gap (Tree.Import class file) = false
 is_gap (Tree.Export class file) = false
-is_gap (Tree.Nearest span k object class) = true
+is_gap (Tree.Nearest span k object class) = false
 is_gap (Tree.Must error span q) = true
 is_gap (Tree.May error span q) = true
 is_gap (Tree.Index class attribute width) = true
@@ -89,6 +90,7 @@ fault_among w now (Tree.Remove name) =
     option_and_then refusal_by_store (remove_fault w.history.catalog (is_present w.history name now) name)
 fault_among w now (Tree.Tick ticks) = tick_refusal now ticks
 fault_among w now (Tree.Ask span q) = ask_refusal w now span q
+fault_among w now (Tree.Nearest span k object class) = near_refusal w.history.catalog now span object class
 fault_among w now (Tree.Import class file) = class_refusal w.history.catalog class
 fault_among w now (Tree.Export class file) = class_refusal w.history.catalog class
 fault_among w now _ = None

@@ -16,6 +16,8 @@ pub mod Refusing
 pub mod Loading
 pub mod Reached
 pub mod Looks
+pub mod Near
 pub mod Example
+pub mod NearExample
 pub mod QueryExample
 pub mod FilesExample

@@ -30,9 +30,18 @@ is_query _ = false
 abbrev pub most_reads : World → ℕ → QueryTree → ℕ
 most_reads w span q = query_reads (sizes_of w.history.catalog (query_in w q)) (span + 1) (query_in w q)
 
+-- the objects of a class by its name, none where it isn't there
+abbrev pub objects_of_class : Catalog → List ℕ → List ℕ
+objects_of_class c class = option_map_or (ids_of c) (number_of_class c class) []
+
+-- one for the object that is asked for, and one for each of the class
+abbrev pub looks_near : Catalog → List ℕ → ℕ
+looks_near c class = length (objects_of_class c class) + 1
+
 -- those of a command that changes nothing
 abbrev pub looks_asked : World → CommandTree → ℕ
 looks_asked w (Tree.Ask span q) = most_reads w span q
+looks_asked w (Tree.Nearest span k object class) = looks_near w.history.catalog class
 looks_asked w _ = 0
 
 -- those of the registered queries, each with the object that was written in place of all of its class
@@ -42,14 +51,11 @@ looks_of_write k name =
     (λ o. write_reads k.world.history.catalog (map (λ r. r.query) k.live) k.now o.class)
     (object_of k.world.history.catalog name) 0
 
--- the objects of a class by its name, none where it isn't there
-abbrev pub objects_of_class : Catalog → List ℕ → List ℕ
-objects_of_class c class = option_map_or (ids_of c) (number_of_class c class) []
-
--- A query that is asked or registered may look at stored motions, and so may a write, by what is known after it. A `save`
--- reads each entry, and an `export` looks at each object of the class. Nothing else does, but for an `import`.
+-- A query that is asked or registered may look at stored motions, and so may a write, by what is known after it, and a
+-- `nearest`. A `save` reads each entry, and an `export` looks at each object of the class. Nothing else does, but for an `import`.
 abbrev pub most_looks : Held → CommandTree → ℕ
 most_looks h (Tree.Ask span q) = most_reads (known h.journal).world span q
+most_looks h (Tree.Nearest span k object class) = looks_near (world h.journal).history.catalog class
 most_looks h (Tree.Watch name span q) = most_reads (known h.journal).world span q
 most_looks h (Tree.Keep name span q) = most_reads (known h.journal).world span q
 most_looks h (Tree.Insert class name place sets) = looks_of_write (known (held_after h (Tree.Insert class name place sets)).journal) name

@@ -25,6 +25,7 @@ use Rattle.command_text.specs.Tree.{CommandTree}
 use Rattle.line_meaning.specs.Ask.{bindings_asked, has_fault, is_past_span}
 use Rattle.line_meaning.specs.Fault.{is_gap, is_present, passes_limits}
 use Rattle.line_meaning.specs.Journal.{attribute_of}
+use Rattle.line_meaning.specs.Near.{is_near_crowded, is_near_past, is_near_placeless, is_near_unknown}
 use Rattle.line_meaning.specs.QueryFault.{passes_bindings}
 use Rattle.line_meaning.specs.Registry.{Known, is_registered, known}
 use Rattle.line_meaning.specs.Step.{Base, journal_after_import}
@@ -51,6 +52,7 @@ names_unknown k (Tree.Watch name span q) = has_fault kinds.UnknownName k.world q
 names_unknown k (Tree.Keep name span q) = has_fault kinds.UnknownName k.world q
 names_unknown k (Tree.Show name) = not (is_registered k.live name)
 names_unknown k (Tree.Drop name) = not (is_registered k.live name)
+names_unknown k (Tree.Nearest span n object class) = is_near_unknown (catalog_of k) object class
 names_unknown k (Tree.Import class file) = is_none (number_of_class (catalog_of k) class)
 names_unknown k (Tree.Export class file) = is_none (number_of_class (catalog_of k) class)
 names_unknown k _ = false
@@ -80,6 +82,7 @@ is_of_wrong_kind k (Tree.Update name place sets) = misfits (class_of_object (cat
 is_of_wrong_kind k (Tree.Ask span q) = has_fault kinds.WrongKind k.world q
 is_of_wrong_kind k (Tree.Watch name span q) = has_fault kinds.WrongKind k.world q
 is_of_wrong_kind k (Tree.Keep name span q) = has_fault kinds.WrongKind k.world q
+is_of_wrong_kind k (Tree.Nearest span n object class) = is_near_placeless (catalog_of k) object class
 is_of_wrong_kind k _ = false
 
 -- ---- 10: the points are no convex polygon
@@ -102,6 +105,7 @@ abbrev pub passes_span : Known → CommandTree → Bool
 passes_span k (Tree.Ask span q) = is_past_span k.now span q.formula
 passes_span k (Tree.Watch name span q) = is_past_span k.now span q.formula
 passes_span k (Tree.Keep name span q) = is_past_span k.now span q.formula
+passes_span k (Tree.Nearest span n object class) = is_near_past k.now span
 passes_span k _ = false
 
 -- ---- 13: the clock would pass the last tick
@@ -143,6 +147,7 @@ abbrev pub has_many_bindings : Known → CommandTree → Bool
 has_many_bindings k (Tree.Ask span q) = nat_lt BINDING_LIMIT (bindings_asked k.world q)
 has_many_bindings k (Tree.Watch name span q) = passes_bindings k (bindings_asked k.world q)
 has_many_bindings k (Tree.Keep name span q) = passes_bindings k (bindings_asked k.world q)
+has_many_bindings k (Tree.Nearest span n object class) = is_near_crowded (catalog_of k) class
 has_many_bindings k _ = false
 
 -- ---- 18: the journal has no room for the command

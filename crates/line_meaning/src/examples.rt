@@ -1,6 +1,7 @@
 //! Lines of queries and texts of files worked out, as calls without a body.
 ghost use Rattle.line_meaning.specs.Example.{AnswersAsks, RefusesAsks, RefusesByTheFirst};
 ghost use Rattle.line_meaning.specs.FilesExample.{ImportsRows, LoadsTexts, SavesTexts};
+ghost use Rattle.line_meaning.specs.NearExample.{AnswersNearest, RefusesNearest};
 ghost use Rattle.line_meaning.specs.QueryExample.{AnswersRegistered, RefusesRegistered};
 
 /// A car that drives through a region and one that stands in it, pairs in the order of their targets, and how many
@@ -17,6 +18,16 @@ pub fn asks_are_refused()
 /// Lines with two faults: both refusals hold, and the first is the answer.
 pub fn first_faults_refuse()
     ensures { RefusesByTheFirst }
+{}
+
+/// The nearest cars to a post: a tie, an object that isn't near itself or is absent, the lines, and how many looks are taken.
+pub fn nearest_are_answered()
+    ensures { AnswersNearest }
+{}
+
+/// Names before kinds before spans before the limit of pairs.
+pub fn nearest_are_refused()
+    ensures { RefusesNearest }
 {}
 
 /// What a watch is answered, what is gained and lost by writes, and what enters and leaves.

@@ -10,6 +10,9 @@ pub const CIRCLE_NAMES: usize = 3;
 /// The longest span of a query with a circle of [`CIRCLE_NAMES`] names or more, in ticks.
 pub const CIRCLE_SPAN_LIMIT: u32 = 100_000;
 
+/// The longest span of a `nearest`, in ticks.
+pub const NEAREST_SPAN_LIMIT: u32 = 1_000_000;
+
 /// The most bindings that there may come to be of all registered queries together.
 pub const ALL_BINDINGS_LIMIT: u32 = 4_000_000;
 
@@ -18,5 +21,6 @@ pub fn limits_in_numbers()
     ensures assigned { ASSIGNED_SPAN_LIMIT ≡ 10 ^ 4 }
     ensures names { CIRCLE_NAMES ≡ 3 }
     ensures circle { CIRCLE_SPAN_LIMIT ≡ 10 ^ 5 }
+    ensures nearest { NEAREST_SPAN_LIMIT ≡ 10 ^ 6 }
     ensures bindings { ALL_BINDINGS_LIMIT ≡ 4 * 10 ^ 6 }
 {}
