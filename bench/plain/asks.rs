@@ -12,6 +12,8 @@ mod grammar;
 #[allow(dead_code)]
 #[path = "session/history.rs"]
 mod history;
+#[path = "asks/nearest.rs"]
+mod nearest;
 #[path = "session/resolve.rs"]
 mod resolve;
 #[path = "asks/spans.rs"]
@@ -43,6 +45,9 @@ fn step(
             let now = store.history.clock;
             answer::put_answer(store, &query, (now, now + span), free, out);
             Ok(true)
+        }
+        Command::Nearest(span, k, to, class) => {
+            nearest::put_nearest(store, (span, k), (&to, &class), out).map(|()| true)
         }
         command @ (Command::Class(..) | Command::Region(..) | Command::Tick(_)) => store.apply(command).map(|_| true),
         command @ (Command::Insert(..) | Command::Update(..) | Command::Remove(_)) => {

@@ -40,6 +40,7 @@ enum Built {
     Ask,
     Live,
     Files,
+    Nearest,
     All,
 }
 
@@ -258,12 +259,17 @@ impl Maker {
         }
     }
 
+    fn nearest(&mut self) -> Line {
+        let span = self.span();
+        let object = self.one_of(&["c0", "c1", "c2", "p1"]);
+        words(&format!("nearest {span} {} {object} car", 1 + self.draw.below(4)))
+    }
+
     fn on_all(&mut self) -> Line {
         let span = self.span();
-        match self.draw.below(4) {
-            0 => words(&format!("nearest {span} {} c1 car", 1 + self.draw.below(4))),
-            1 => words(&format!("index car {} 2.5", self.draw.one_of(&["x", "fuel"]))),
-            2 => words(&format!("range {span} car {} - 3 5", self.draw.one_of(&["x", "fuel"]))),
+        match self.draw.below(3) {
+            0 => words(&format!("index car {} 2.5", self.draw.one_of(&["x", "fuel"]))),
+            1 => words(&format!("range {span} car {} - 3 5", self.draw.one_of(&["x", "fuel"]))),
             _ => {
                 let word = self.one_of(&["must", "may"]);
                 let mut line = words(&format!("{word} 0.5 {span}"));
@@ -287,7 +293,8 @@ impl Maker {
             89 if self.built >= Built::Live => words("list"),
             90 => words("# comment ?"),
             91..96 if self.built >= Built::Files => self.on_files(),
-            96..100 if self.built == Built::All => self.on_all(),
+            96..98 if self.built >= Built::Nearest => self.nearest(),
+            98..100 if self.built == Built::All => self.on_all(),
             _ => self.ask(),
         }
     }
@@ -541,13 +548,14 @@ fn assignments(formula: &Formula) -> usize {
 fn start(words: &[String]) -> io::Result<()> {
     let words: Vec<&str> = words.iter().map(String::as_str).collect();
     let [seed, count, built, reach @ ("near" | "far")] = words[..] else {
-        return Err(io::Error::other("SEED COUNT ask|live|files|all near|far"));
+        return Err(io::Error::other("SEED COUNT ask|live|files|nearest|all near|far"));
     };
     let number = |word: &str| word.parse::<u64>().map_err(io::Error::other);
     let built = match built {
         "ask" => Built::Ask,
         "live" => Built::Live,
         "files" => Built::Files,
+        "nearest" => Built::Nearest,
         _ => Built::All,
     };
     let mut maker = Maker { draw: Draw::new(number(seed)?), built, near: reach == "near" };

@@ -44,6 +44,7 @@ enum Built {
     Ask,
     Live,
     Files,
+    Nearest,
     #[default]
     All,
 }
@@ -55,6 +56,7 @@ impl Built {
             "ask" => Some(Built::Ask),
             "live" => Some(Built::Live),
             "files" => Some(Built::Files),
+            "nearest" => Some(Built::Nearest),
             "all" => Some(Built::All),
             _ => None,
         }
@@ -66,7 +68,8 @@ impl Built {
             Command::Ask(_, query) => self >= Built::Ask || Question::of(query).is_some(),
             Watch(..) | Keep(..) | Show(_) | Drop(_) => self >= Built::Live,
             Save(_) | Import(..) | Export(..) => self >= Built::Files,
-            Nearest(..) | Must(..) | May(..) | Index(..) | Range(..) => self >= Built::All,
+            Nearest(..) => self >= Built::Nearest,
+            Must(..) | May(..) | Index(..) | Range(..) => self >= Built::All,
             _ => true,
         }
     }
@@ -288,7 +291,7 @@ fn start(words: &[String]) -> io::Result<u8> {
     let number = |word: &str| word.parse::<u64>().map_err(io::Error::other);
     let mut built = Built::All;
     if let ["--built", word, ..] = words[..] {
-        built = Built::named(word).ok_or_else(|| io::Error::other("data, ask, live, files or all"))?;
+        built = Built::named(word).ok_or_else(|| io::Error::other("data, ask, live, files, nearest or all"))?;
         words.drain(..2);
     }
     let session = Session { built, ..Session::default() };

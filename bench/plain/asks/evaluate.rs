@@ -16,7 +16,7 @@ enum Value {
 }
 
 /// The first tick of the next leg; past all ticks where there is none.
-fn turn(vector: &Vector, tick: u32) -> u32 {
+pub fn turn(vector: &Vector, tick: u32) -> u32 {
     let Legs { firsts, .. } = &vector.function;
     let mut at = u64::from(vector.updatetime);
     for (_, length) in firsts {

@@ -169,7 +169,7 @@ impl Quad {
         Quad { a: sum(dx, dx, dy, dy), b: sum(x, dx, y, dy), c: sum(x, x, y, y) }
     }
 
-    fn at(&self, k: i64) -> i128 {
+    pub fn at(&self, k: i64) -> i128 {
         let k = i128::from(k);
         (self.a * k + 2 * self.b) * k + self.c
     }

@@ -46,7 +46,7 @@ pub struct Store {
     pub history: History,
     pub classes: Vec<Objects>,
     /// The place of each object in its class.
-    places: Vec<usize>,
+    pub places: Vec<usize>,
 }
 
 /// The class and the place in it of an object.
