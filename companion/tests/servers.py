@@ -9,7 +9,7 @@ import subprocess
 import sys
 import tempfile
 import time
-from collections.abc import Iterator
+from collections.abc import Callable, Iterator
 from pathlib import Path
 
 from fleet.serve.process import with_its_parent
@@ -248,6 +248,27 @@ def commands_of(log: Path) -> list[str]:
     """The commands of the log as it stands, those that are whole."""
     path = max(log.glob("log-*"))
     return [line for line in path.read_text().split("\n")[1:-1] if not line.startswith("#")]
+
+
+def prepare_flood(writer: LineClient) -> None:
+    """Has a class and queries such that followers are told much of each update."""
+    accepted(writer, "class van 40 point", *(f"insert van v{i}" for i in range(40)))
+    accepted(writer, *(f"watch w{i} 90000 RETRIEVE o FROM van o WHERE o.x >= 0" for i in range(20)))
+
+
+def flood(writer: LineClient, follower: LineClient, is_enough: Callable[[], bool], most: int) -> None:
+    """Sends rounds of updates, fewer than `most`, until that is enough, and checks that a follower is told all of them."""
+    received, rounds = 0, 0
+    while not is_enough():
+        for place in (-1, 1):
+            replies = writer.asks(*(f"update v{i} at ({place},0)" for i in range(40)))
+            assert [len(reply) for reply in replies] == [41] * 40
+        rounds += 1
+        follower.ask("list")
+        received += len(follower.told)
+        follower.told.clear()
+        assert rounds < most
+    assert received == rounds * 2 * 40 * 40
 
 
 class Model:

@@ -11,11 +11,11 @@ from pathlib import Path
 import pytest
 
 from browsers import Browser, browsing
+from loads import Loads
 from servers import Model, Serving, accepted, programs_of
 from sessions import place_texts, saved_session
 from test_look_live import children_of, living, tick_of
 from test_look_page import page_of
-from test_serve_long import Load
 
 pytestmark = pytest.mark.long
 
@@ -41,32 +41,26 @@ def test_a_page_goes_on_through_kills(browser: Browser, program: Path, tmp_path:
     log, killed = tmp_path / "log", {"server": 0, "its program": 0, "the page's program": 0}
     servers = [Serving(program, log, "--ws-port", "0", "--roll-at", "20000")]
     port = servers[0].websocket.rpartition(":")[2]
-    loads = [Load(Model(f"v{i}"), servers) for i in range(4)]
     try:
         with servers[0].client() as client:
             accepted(client, "class van 10 point")
         with living(program, servers[0].websocket) as (process, address):
             browser.open(address)
-            for load in loads:
-                load.start()
-            for _ in range(KILLS):
-                time.sleep(chance.uniform(0, MOST_SECONDS))
-                what = chance.choice(sorted(killed))
-                killed[what] += 1
-                for pid in {"its program": programs_of(log), "the page's program": children_of(process.pid)}.get(what, []):
-                    os.kill(pid, signal.SIGKILL)
-                if what == "server":
-                    servers[-1].kill()
-                    servers.append(Serving(program, log, "--ws-port", port, "--roll-at", "20000"))
-                    servers[-2].end()
-                assert [load.fault for load in loads if load.fault is not None or not load.is_alive()] == []
-            for load in loads:
-                load.is_ending = True
-                load.join()
-            for load in loads:
-                load.model.connect(servers[-1])
-                load.model.send(100)
-            assert min(killed.values()) > 5 and sum(load.model.replied for load in loads) > 10 * KILLS
+            with Loads([Model(f"v{i}") for i in range(4)], servers) as loads:
+                for _ in range(KILLS):
+                    time.sleep(chance.uniform(0, MOST_SECONDS))
+                    what = chance.choice(sorted(killed))
+                    killed[what] += 1
+                    programs = {"its program": programs_of(log), "the page's program": children_of(process.pid)}
+                    for pid in programs.get(what, []):
+                        os.kill(pid, signal.SIGKILL)
+                    if what == "server":
+                        servers[-1].kill()
+                        servers.append(Serving(program, log, "--ws-port", port, "--roll-at", "20000"))
+                        servers[-2].end()
+                    loads.check()
+                loads.end(servers[-1], 100)
+            assert min(killed.values()) > 5 and loads.replied > 10 * KILLS
             with servers[-1].client() as client:
                 accepted(client, "tick 1")
                 tick_of(browser, int(client.ask("list")[0].split()[1]))
@@ -78,8 +72,6 @@ def test_a_page_goes_on_through_kills(browser: Browser, program: Path, tmp_path:
             }
             assert process.poll() is None
     finally:
-        for load in loads:
-            load.is_ending = True
         for server in servers:
             server.end()
 

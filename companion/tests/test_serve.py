@@ -15,8 +15,8 @@ from pathlib import Path
 
 import pytest
 from servers import (
-    PATIENCE, WAIT, Gone, LineClient, Model, Serving, accepted, big_class, check_models, commands_of, hanging, programs_of,
-    serving, until,
+    PATIENCE, WAIT, Gone, LineClient, Model, Serving, accepted, big_class, check_models, commands_of, flood, hanging,
+    prepare_flood, programs_of, serving, until,
 )  # fmt: skip
 
 from fleet import cli
@@ -515,21 +515,10 @@ def test_hostile_bytes_end_their_connection_alone(server: Serving) -> None:
 def test_a_client_that_reads_too_slowly_is_lost_alone(server: Serving) -> None:
     slow = LineClient(server.address, system_bytes=4_096)
     with slow, server.client() as writer, server.client() as reader:
-        accepted(writer, "class van 40 point", *(f"insert van v{i}" for i in range(40)))
-        accepted(writer, *(f"watch w{i} 90000 RETRIEVE o FROM van o WHERE o.x >= 0" for i in range(20)))
+        prepare_flood(writer)
         for follower in (reader, slow):
             accepted(follower, ":follow *")
-        received, rounds = 0, 0
-        while "lost its connection: it takes" not in server.said():
-            for place in (-1, 1):
-                replies = writer.asks(*(f"update v{i} at ({place},0)" for i in range(40)))
-                assert [len(reply) for reply in replies] == [41] * 40
-            rounds += 1
-            reader.ask("list")
-            received += len(reader.told)
-            reader.told.clear()
-            assert rounds < 200
-        assert received == rounds * 2 * 40 * 40
+        flood(writer, reader, lambda: "lost its connection: it takes" in server.said(), 200)
         assert writer.ask("list")[0] == "clock 0"
         with contextlib.suppress(Gone):
             slow.rest()

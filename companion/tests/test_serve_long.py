@@ -5,14 +5,15 @@ import os
 import random
 import signal
 import subprocess
-import threading
 import time
 from collections.abc import Iterator
 from pathlib import Path
 
 import pytest
+from loads import Loads
 from servers import (
-    Gone, ImportModel, LineClient, Model, Serving, accepted, check_models, commands_of, programs_of, serving, until,
+    Gone, ImportModel, LineClient, Model, Serving, accepted, check_models, commands_of, flood, prepare_flood, programs_of,
+    serving, until,
 )  # fmt: skip
 
 from fleet.session_text import entries
@@ -27,36 +28,6 @@ HOSTILE_STRINGS = 10_000
 @pytest.fixture
 def log(tmp_path: Path) -> Path:
     return tmp_path / "log"
-
-
-class Load(threading.Thread):
-    """A client that sends lines until it is told to end, over whatever server there is."""
-
-    def __init__(self, model: Model, servers: list[Serving]) -> None:
-        super().__init__()
-        self.model = model
-        self.is_ending = False
-        self.fault: BaseException | None = None
-        self._servers = servers
-        self._random = random.Random(model.name)
-
-    def run(self) -> None:
-        try:
-            while not self.is_ending:
-                with contextlib.suppress(Gone, OSError):
-                    self.model.connect(self._servers[-1])
-                    self._send_on()
-                time.sleep(0.01)
-        except BaseException as fault:  # noqa: BLE001  (told by the test)
-            self.fault = fault
-
-    def _send_on(self) -> None:
-        while not self.is_ending:
-            before = self.model.replied
-            count = self._random.randint(1, 100)
-            self.model.send(count)
-            if self.model.replied < before + count:
-                raise Gone
 
 
 KILLED = {"group": ["--sync", "group"], "each": ["--sync", "each"], "rolled": ["--roll-at", "500"]}
@@ -75,27 +46,17 @@ def test_kills_at_random_moments_under_load(program: Path, log: Path, kind: str)
         with servers[0].client() as client:
             accepted(client, "class van 10 point")
         imports.write_file(log / "files")
-        loads = [Load(model, servers) for model in models]
-        for load in loads:
-            load.start()
-        for _ in range(KILLS // len(KILLED) + 1):
-            time.sleep(chance.uniform(0, MOST_SECONDS[kind]))
-            _kill(chance.choice(["server", "program", "both"]), servers, program, KILLED[kind], models)
-            assert [load.fault for load in loads if load.fault is not None or not load.is_alive()] == []
-        if kind == "rolled":
-            until(lambda: list(log.glob("past-*")), "a roll")
-        for load in loads:
-            load.is_ending = True
-        for load in loads:
-            load.join()
-            assert load.fault is None
-        for model in models:
-            # What was sent last and not replied to may have been carried out or not; sent again it is carried out once.
-            model.connect(servers[-1])
-            model.send(200)
+        with Loads(models, servers) as loads:
+            for _ in range(KILLS // len(KILLED) + 1):
+                time.sleep(chance.uniform(0, MOST_SECONDS[kind]))
+                _kill(chance.choice(["server", "program", "both"]), servers, program, KILLED[kind], models)
+                loads.check()
+            if kind == "rolled":
+                until(lambda: list(log.glob("past-*")), "a roll")
+            loads.end(servers[-1], 200)
         check_models(models, servers[-1], is_rolled=kind == "rolled")
         assert bool(list(log.glob("past-*"))) == (kind == "rolled")
-        assert sum(model.replied for model in models) > 10 * KILLS
+        assert loads.replied > 10 * KILLS
     finally:
         for server in servers:
             server.end()
@@ -119,23 +80,12 @@ def _kill(what: str, servers: list[Serving], program: Path, options: list[str], 
 def test_slow_clients(program: Path, log: Path) -> None:
     with serving(program, log, "--clients", str(SLOW_CLIENTS + 10)) as server, contextlib.ExitStack() as stack:
         writer, reader = stack.enter_context(server.client()), stack.enter_context(server.client())
-        accepted(writer, "class van 40 point", *(f"insert van v{i}" for i in range(40)))
-        accepted(writer, *(f"watch w{i} 90000 RETRIEVE o FROM van o WHERE o.x >= 0" for i in range(20)))
+        prepare_flood(writer)
         accepted(reader, ":follow *")
         slow = [stack.enter_context(LineClient(server.address, system_bytes=4_096)) for _ in range(SLOW_CLIENTS)]
         for client in slow:
             accepted(client, ":follow *")
-        received, rounds = 0, 0
-        while server.said().count("lost its connection: it takes") < SLOW_CLIENTS:
-            for place in (-1, 1):
-                replies = writer.asks(*(f"update v{i} at ({place},0)" for i in range(40)))
-                assert [len(reply) for reply in replies] == [41] * 40
-            rounds += 1
-            reader.ask("list")
-            received += len(reader.told)
-            reader.told.clear()
-            assert rounds < 500
-        assert received == rounds * 2 * 40 * 40
+        flood(writer, reader, lambda: server.said().count("lost its connection: it takes") >= SLOW_CLIENTS, 500)
         until(lambda: _clients(writer) == 2, "the end of the slow clients")
 
 
