@@ -7,9 +7,9 @@ from pathlib import Path
 from typing import TYPE_CHECKING
 
 from fleet.errors import FleetError
+from fleet.options import some_ticks, whole
 from fleet.ways.fields import add_column_arguments
 from fleet.ways.planes import Plane, add_plane_arguments, comment, plane_in, settled, wanted_plane
-from fleet.words import TICK_LIMIT
 
 if TYPE_CHECKING:
     from fleet.serve.log import Log
@@ -70,11 +70,11 @@ def add_broker_arguments(parser: argparse.ArgumentParser) -> None:
         help=f"a csv of the names that ids have which are no names ({_NAMES} in the log's folder)",
     )  # fmt: skip
     group.add_argument(
-        "--hold", metavar="TICKS", type=_ticks,
+        "--hold", metavar="TICKS", type=some_ticks,
         help="for how long a speed holds; from then on the object counts as standing (else it goes on)",
     )  # fmt: skip
     group.add_argument(
-        "--silent", metavar="SECONDS", type=_silent,
+        "--silent", metavar="SECONDS", type=whole(1, 31_536_000, "seconds"),
         help="remove an object of which nothing is heard for so long, until it reports again; reports that are as old "
         "aren't taken (else all stay)",
     )  # fmt: skip
@@ -125,15 +125,3 @@ def _prefix(text: str) -> str:
     if not re.fullmatch(r"[A-Za-z0-9_.-]+(/[A-Za-z0-9_.-]+)*", text):
         raise argparse.ArgumentTypeError(f"{text} isn't a topic of letters, digits, _, ., - and /")
     return text
-
-
-def _ticks(text: str) -> int:
-    if not text.isdecimal() or not 1 <= int(text) <= TICK_LIMIT:
-        raise argparse.ArgumentTypeError(f"{text} isn't a number of ticks from 1 to {TICK_LIMIT:,}")
-    return int(text)
-
-
-def _silent(text: str) -> int:
-    if not text.isdecimal() or not 1 <= int(text) <= 31_536_000:
-        raise argparse.ArgumentTypeError(f"{text} isn't a number of seconds from 1 to 31,536,000")
-    return int(text)

@@ -17,10 +17,11 @@ from typing import TYPE_CHECKING
 
 from fleet.client import Ended
 from fleet.look.changing import Changing
-from fleet.look.options import number
+from fleet.look.options import MOST_TICKS, add_ways
 from fleet.look.page import SCRIPTS, Parts, page
 from fleet.look.play import AHEAD, TRAIL
 from fleet.look.sources import AGAIN_SECONDS, LIVE, SERVER, FolderSource, ServerSource, Source
+from fleet.options import port, whole
 from fleet.program import add_program_argument
 from fleet.serve.gate import token_of
 from fleet.sockets import websockets_on
@@ -59,21 +60,14 @@ def add_arguments(parser: argparse.ArgumentParser) -> None:
     )  # fmt: skip
     parser.add_argument("--token", metavar="FILE", type=Path, help="the file with the token that the server asks for")
     parser.add_argument(
-        "--port", metavar="NUMBER", type=lambda text: number(text, 0, 65_535), default=DEFAULT_PORT,
+        "--port", metavar="NUMBER", type=port, default=DEFAULT_PORT,
         help=f"the port of the page ({DEFAULT_PORT}); 0 takes a free one",
     )  # fmt: skip
     parser.add_argument(
-        "--keep", metavar="TICKS", type=lambda text: number(text, 1, 1_000_000), default=KEEP,
+        "--keep", metavar="TICKS", type=whole(1, MOST_TICKS), default=KEEP,
         help=f"how many past ticks the page has ({KEEP})",
     )  # fmt: skip
-    parser.add_argument(
-        "--ahead", metavar="TICKS", type=lambda text: number(text, 0, 1_000_000), default=TRAIL,
-        help=f"the ticks for which it is drawn where the objects go ({TRAIL})",
-    )  # fmt: skip
-    parser.add_argument(
-        "--back", metavar="TICKS", type=lambda text: number(text, 0, 1_000_000), default=TRAIL,
-        help=f"the ticks for which it is drawn where they were ({TRAIL})",
-    )  # fmt: skip
+    add_ways(parser, ahead=TRAIL, back=TRAIL)
     add_program_argument(parser)
 
 

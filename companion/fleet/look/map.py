@@ -9,7 +9,7 @@ from io import BytesIO
 from fleet.look import svg
 from fleet.look.answers import ask_at, query_at
 from fleet.look.history import History, Motion, Place, Track, commands_in
-from fleet.look.options import add_output, add_width, number, read_input, svg_width, tick, write_output
+from fleet.look.options import add_output, add_session, add_ways, add_width, read_input, svg_width, tick, write_output
 from fleet.look.svg import Element, add, add_text
 from fleet.look.timeline import spans_text
 from fleet.present import number_text
@@ -36,19 +36,9 @@ Box = tuple[float, float, float, float]
 def add_arguments(parser: argparse.ArgumentParser) -> None:
     """Adds the options of the word."""
     parser.description = DESCRIPTION
-    parser.add_argument(
-        "session", metavar="SESSION",
-        help="the file of the saved session, the folder of a server's log, or `-` for standard input",
-    )  # fmt: skip
+    add_session(parser)
     parser.add_argument("--at", metavar="TICK", type=tick, help="the tick to be drawn (the session's clock)")
-    parser.add_argument(
-        "--ahead", metavar="TICKS", type=lambda text: number(text, 0, 1_000_000), default=60,
-        help="the ticks for which it is drawn where the objects go (60)",
-    )  # fmt: skip
-    parser.add_argument(
-        "--back", metavar="TICKS", type=lambda text: number(text, 0, 1_000_000), default=0,
-        help="the ticks for which it is drawn where they were (0)",
-    )  # fmt: skip
+    add_ways(parser, ahead=60, back=0)
     asked = parser.add_mutually_exclusive_group()
     asked.add_argument("--query", metavar="NAME", help="ring the objects of this registered query")
     asked.add_argument(

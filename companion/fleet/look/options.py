@@ -7,6 +7,7 @@ from pathlib import Path
 
 from fleet.look import chart
 from fleet.look.chart import MOST_ROWS, Chart
+from fleet.options import whole
 from fleet.serve.closed import open_session
 from fleet.words import FILE_LIMIT, TICK_LIMIT
 
@@ -15,18 +16,31 @@ SVG_WIDTH, LEAST_WIDTH, MOST_WIDTH = 900, 300, 10_000
 TEXT_WIDTH = 100
 """The characters of a line where no terminal is written to."""
 STANDARD = "-"
+MOST_TICKS = 1_000_000
+"""How many ticks before or after the one that is drawn may be drawn with it."""
+
+tick = whole(0, TICK_LIMIT)
+"""A tick, as an option gives it."""
 
 
-def tick(text: str) -> int:
-    """A tick, as an option gives it."""
-    return number(text, 0, TICK_LIMIT)
+def add_session(parser: argparse.ArgumentParser) -> None:
+    """Adds the name of the session that is drawn."""
+    parser.add_argument(
+        "session", metavar="SESSION",
+        help="the file of the saved session, the folder of a server's log, or `-` for standard input",
+    )  # fmt: skip
 
 
-def number(text: str, least: int, most: int) -> int:
-    """A whole number between two others, as an option gives it."""
-    if not (text.isascii() and text.isdecimal() and least <= int(text) <= most):
-        raise argparse.ArgumentTypeError(f"{text} isn't a number from {least:,} to {most:,}")
-    return int(text)
+def add_ways(parser: argparse.ArgumentParser, *, ahead: int, back: int) -> None:
+    """Adds the options of how far ways and trails go, and how far they go without them."""
+    parser.add_argument(
+        "--ahead", metavar="TICKS", type=whole(0, MOST_TICKS), default=ahead,
+        help=f"the ticks for which it is drawn where the objects go ({ahead})",
+    )  # fmt: skip
+    parser.add_argument(
+        "--back", metavar="TICKS", type=whole(0, MOST_TICKS), default=back,
+        help=f"the ticks for which it is drawn where they were ({back})",
+    )  # fmt: skip
 
 
 def add_output(parser: argparse.ArgumentParser) -> None:
@@ -37,7 +51,7 @@ def add_output(parser: argparse.ArgumentParser) -> None:
 def add_width(parser: argparse.ArgumentParser, more: str = "") -> None:
     """Adds the option of the width; `more` tells what it is where no SVG is written."""
     parser.add_argument(
-        "--width", metavar="NUMBER", type=lambda text: number(text, 20, MOST_WIDTH),
+        "--width", metavar="NUMBER", type=whole(20, MOST_WIDTH),
         help=f"pixels of the SVG ({SVG_WIDTH}){more}",
     )  # fmt: skip
 
@@ -50,7 +64,7 @@ def add_form(parser: argparse.ArgumentParser) -> None:
     parser.add_argument("--from", metavar="TICK", type=tick, dest="first", help="the first tick of the axis")
     parser.add_argument("--to", metavar="TICK", type=tick, dest="last", help="the last tick of the axis")
     parser.add_argument(
-        "--rows", metavar="NUMBER", type=lambda text: number(text, 1, 100_000), default=MOST_ROWS,
+        "--rows", metavar="NUMBER", type=whole(1, 100_000), default=MOST_ROWS,
         help=f"the most rows of an answer that are drawn ({MOST_ROWS})",
     )  # fmt: skip
     add_width(parser, f", or characters of a line (as the terminal has, or {TEXT_WIDTH})")

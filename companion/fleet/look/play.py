@@ -20,7 +20,7 @@ from typing import Any
 from fleet.look import tiles
 from fleet.look.answers import Query, ask_at, queries_of
 from fleet.look.history import Change, History, Region, commands_in
-from fleet.look.options import add_output, number, read_input, tick, write_output
+from fleet.look.options import add_output, add_session, add_ways, read_input, tick, write_output
 from fleet.look.page import SCRIPTS, Parts, page
 from fleet.program import add_program_argument
 from fleet.words import TICK_LIMIT
@@ -39,22 +39,12 @@ ASKED = "asked"
 def add_arguments(parser: argparse.ArgumentParser) -> None:
     """Adds the options of the word."""
     parser.description = DESCRIPTION
-    parser.add_argument(
-        "session", metavar="SESSION",
-        help="the file of the saved session, the folder of a server's log, or `-` for standard input",
-    )  # fmt: skip
+    add_session(parser)
     parser.add_argument(
         "--from", metavar="TICK", type=tick, dest="first", help=f"the first tick ({BACK:,} before the session's clock)"
     )
     parser.add_argument("--to", metavar="TICK", type=tick, dest="last", help=f"the last tick ({AHEAD} after the clock)")
-    parser.add_argument(
-        "--ahead", metavar="TICKS", type=lambda text: number(text, 0, 1_000_000), default=TRAIL,
-        help=f"the ticks for which it is drawn where the objects go ({TRAIL})",
-    )  # fmt: skip
-    parser.add_argument(
-        "--back", metavar="TICKS", type=lambda text: number(text, 0, 1_000_000), default=TRAIL,
-        help=f"the ticks for which it is drawn where they were ({TRAIL})",
-    )  # fmt: skip
+    add_ways(parser, ahead=TRAIL, back=TRAIL)
     parser.add_argument(
         "--ask", metavar="TEXT",
         help="show the answer of this query too, which begins with RETRIEVE, asked at the session's clock",

@@ -4,6 +4,7 @@ import argparse
 from pathlib import Path
 
 from fleet.brokers.options import add_broker_arguments
+from fleet.options import port, whole
 from fleet.program import add_program_argument
 from fleet.serve.rolling import DEFAULT_ENTRIES
 from fleet.streams.options import add_stream_arguments
@@ -36,7 +37,9 @@ def add_arguments(parser: argparse.ArgumentParser) -> None:
         help="how long one line may take (10). One that takes longer isn't carried out: the program is ended, and "
         "another goes on from the log",
     )  # fmt: skip
-    parser.add_argument("--clients", metavar="NUMBER", type=_count, default=256, help="the most clients at once (256)")
+    parser.add_argument(
+        "--clients", metavar="NUMBER", type=whole(1, 10_000), default=256, help="the most clients at once (256)"
+    )
     add_program_argument(parser)
     add_stream_arguments(parser)
     add_broker_arguments(parser)
@@ -48,11 +51,11 @@ def _add_addresses(parser: argparse.ArgumentParser) -> None:
         help="the address to be reached at (127.0.0.1: this machine alone); another than the loopback needs --token",
     )  # fmt: skip
     parser.add_argument(
-        "--port", metavar="NUMBER", type=_port, default=DEFAULT_PORT,
+        "--port", metavar="NUMBER", type=port, default=DEFAULT_PORT,
         help=f"the port of the line protocol ({DEFAULT_PORT}); 0 takes a free one",
     )  # fmt: skip
     parser.add_argument(
-        "--ws-port", metavar="NUMBER", type=_port, help="the port of the same lines over WebSocket; none without it"
+        "--ws-port", metavar="NUMBER", type=port, help="the port of the same lines over WebSocket; none without it"
     )
     parser.add_argument(
         "--origin", metavar="URL", action="append", default=[],
@@ -83,28 +86,10 @@ def _add_log(parser: argparse.ArgumentParser) -> None:
         "line is on the disk",
     )  # fmt: skip
     parser.add_argument(
-        "--roll-at", metavar="ENTRIES", type=_entries, default=DEFAULT_ENTRIES,
+        "--roll-at", metavar="ENTRIES", type=whole(1, JOURNAL_ENTRIES), default=DEFAULT_ENTRIES,
         help=f"how many entries the log may have before it is rolled ({DEFAULT_ENTRIES}; the program takes "
         f"{JOURNAL_ENTRIES})",
     )  # fmt: skip
-
-
-def _number(text: str, least: int, most: int) -> int:
-    if not text.isdecimal() or not least <= int(text) <= most:
-        raise argparse.ArgumentTypeError(f"{text} isn't a number from {least} to {most}")
-    return int(text)
-
-
-def _port(text: str) -> int:
-    return _number(text, 0, 65_535)
-
-
-def _count(text: str) -> int:
-    return _number(text, 1, 10_000)
-
-
-def _entries(text: str) -> int:
-    return _number(text, 1, JOURNAL_ENTRIES)
 
 
 def _seconds(text: str) -> float:

@@ -6,6 +6,7 @@ from dataclasses import dataclass
 from pathlib import Path
 
 from fleet.errors import FleetError
+from fleet.options import whole
 
 DEFAULT_KEY = "fleet"
 _SERVER = re.compile(r"([A-Za-z0-9_.-]+|\[[0-9A-Fa-f:]+\])(?::([0-9]{1,5}))?")
@@ -52,7 +53,7 @@ def add_stream_arguments(parser: argparse.ArgumentParser) -> None:
         "lines that change something are refused",
     )  # fmt: skip
     group.add_argument(
-        "--replicas", metavar="NUMBER", type=_replicas, default=0,
+        "--replicas", metavar="NUMBER", type=whole(0, MOST_REPLICAS), default=0,
         help="how many replicas of Redis must have an entry before its lines are answered (0)",
     )  # fmt: skip
     group.add_argument(
@@ -88,9 +89,3 @@ def _key(text: str) -> str:
     if not re.fullmatch(r"[!-~]{1,200}", text):
         raise argparse.ArgumentTypeError(f"{text} is no key of 1 to 200 characters of ASCII without a blank")
     return text
-
-
-def _replicas(text: str) -> int:
-    if not text.isdecimal() or int(text) > MOST_REPLICAS:
-        raise argparse.ArgumentTypeError(f"{text} isn't a number from 0 to {MOST_REPLICAS}")
-    return int(text)

@@ -5,11 +5,11 @@ import importlib
 from decimal import Decimal
 from typing import Any, NamedTuple
 
+from fleet.options import some_ticks
 from fleet.ways.faults import Faults, Unfit
 from fleet.ways.fields import add_column_arguments
 from fleet.ways.measures import SECOND, moment_in, number, tick_length
 from fleet.ways.planes import add_plane_arguments
-from fleet.words import TICK_LIMIT
 
 DESCRIPTION = """
 Reads a file of another program and writes commands to standard output, for the program, a server or a file; it sends
@@ -148,7 +148,7 @@ def _add_reports(parser: argparse.ArgumentParser) -> None:
 
 def _add_hold(parser: argparse.ArgumentParser) -> None:
     parser.add_argument(
-        "--hold", metavar="TICKS", type=_ticks,
+        "--hold", metavar="TICKS", type=some_ticks,
         help="for how long a speed holds; from then on the object counts as standing (else it goes on)",
     )  # fmt: skip
 
@@ -164,12 +164,6 @@ def _millimetres(text: str) -> int:
     if not 0 <= found <= Decimal(1_000_000):
         raise argparse.ArgumentTypeError(f"{text} isn't from 0 to 1,000,000 metres")
     return round(found * 1000)
-
-
-def _ticks(text: str) -> int:
-    if not text.isdecimal() or not 1 <= int(text) <= TICK_LIMIT:
-        raise argparse.ArgumentTypeError(f"{text} isn't a number of ticks from 1 to {TICK_LIMIT:,}")
-    return int(text)
 
 
 def _encoding(text: str) -> str:
