@@ -26,7 +26,7 @@ from sessions import (
     POINT_CLASSES, at_tick, commands_of, example_session, exported, made_session, place_texts, saved_session,
 )  # fmt: skip
 
-SHARED = ("drawing.js", "map.js")
+SHARED = ("sheet.js", "drawing.js", "map.js")
 """The scripts that this page has in common with the one that runs the program, of which `page/build` makes copies."""
 
 

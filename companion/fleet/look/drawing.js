@@ -1,5 +1,5 @@
 // Draws a scene on a canvas, and a timeline as SVG. It knows nothing of where they come from, and keeps nothing but the
-// pictures of symbols.
+// pictures and stamps of symbols.
 //
 // A scene is what is there at one tick:
 //
@@ -21,6 +21,8 @@
 // where `from` and `to` are the ticks at its ends, `at` a tick that is looked at (or null), and `more` how many rows of the
 // group aren't among them.
 
+import { dotStamp, emptySheet, pictureStamp, pixelOf } from "./sheet.js";
+
 export const LIGHT = {
   ground: "#fcfcfa", grid: "#e8eae6", axis: "#c9cec8", text: "#55616a", ink: "#1c2830", region: "rgba(20, 110, 120, 0.08)",
   regionLine: "#2f6f78", mark: "#b3261e", bar: "#2f7f8a", barNow: "#0d4f5c", barPast: "#a9bcc0", band: "#f1f3f0", clock: "#b3261e",
@@ -39,9 +41,12 @@ const FONT = "12px system-ui, sans-serif";
 const BOLD = "600 12px system-ui, sans-serif";
 const SYMBOL = 16;
 const SMALL_SYMBOL = 10;
+// the radius of a ring around an object, and the size of a picture that holds it
+const RING = 10;
+const RING_PICTURE = 24;
 // with more objects in view none has its name beside it
 const MOST_IN_VIEW = 150;
-// more objects than that have small symbols and plain thin lines, which take a browser far less time
+// more objects than that have small symbols and plain thin lines, as pixels of a sheet
 const FEW = 150;
 // more objects than that are dots, without motions
 const MANY = 1_500;
@@ -103,7 +108,7 @@ export function drawMap(canvas, scene, view, theme, after = 0) {
   const { context, width, height } = prepared(canvas);
   const count = scene.classes.reduce((sum, one) => sum + one.x.length, 0);
   const map = {
-    context, theme, view, width, height, after, isFew: count <= FEW,
+    context, theme, view, width, height, after,
     left: (x) => width / 2 + (x - view.x) * view.scale,
     top: (y) => height / 2 - (y - view.y) * view.scale,
   };
@@ -112,11 +117,12 @@ export function drawMap(canvas, scene, view, theme, after = 0) {
   drawGrid(map);
   for (const region of scene.regions) drawRegion(map, region);
   if (count > MANY) {
-    drawDots(map, scene);
+    drawOnSheet(map, (sheet) => putDots(map, sheet, scene));
+  } else if (count > FEW) {
+    drawOnSheet(map, (sheet) => putSmallSymbols(map, sheet, scene));
   } else {
     scene.classes.forEach((one, number) => drawWays(map, one, colourOf(theme, number), scene.reach));
-    if (map.isFew) drawSymbols(map, scene);
-    else drawSmallSymbols(map, scene);
+    drawSymbols(map, scene);
     drawMarks(map, scene);
   }
   drawLabels(map, scene);
@@ -212,17 +218,16 @@ function drawRegion({ context, theme, left, top }, { name, points }) {
 }
 
 function drawWays(map, one, colour, reach) {
-  const { context, theme, isFew } = map;
+  const { context } = map;
   const each = (draw) => stroke(context, () => one.names.forEach((_, at) => draw(at)));
-  context.strokeStyle = isFew ? colour : theme.thin;
-  context.globalAlpha = isFew ? 0.5 : 1;
-  context.lineWidth = isFew ? 1.5 : 1;
+  context.strokeStyle = colour;
+  context.lineWidth = 1.5;
+  context.globalAlpha = 0.5;
   const now = nowOf(map, one);
   const trail = [...(one.trail ?? []), now];
   if (one.trail) each((at) => drawLine(map, trail, at));
-  context.strokeStyle = colour;
-  context.globalAlpha = isFew ? 0.85 : 1;
-  context.setLineDash(isFew ? [1.5, 4] : []);
+  context.globalAlpha = 0.85;
+  context.setLineDash([1.5, 4]);
   context.lineCap = "round";
   const ways = [now, ...(one.ways ?? [])];
   if (one.ways) each((at) => drawLine(map, ways, at));
@@ -259,13 +264,13 @@ function drawLine({ context, left, top }, columns, at) {
 }
 
 function drawMotion(map, one, at, reach) {
-  const { context, left, top, isFew } = map;
+  const { context, left, top } = map;
   if (one.dx[at] === 0 && one.dy[at] === 0) return;
   const [x, y] = pixelNow(map, one, at);
   const [toX, toY] = [left(one.x[at] + reach * one.dx[at]), top(one.y[at] + reach * one.dy[at])];
   context.moveTo(x, y);
   context.lineTo(toX, toY);
-  if (!isFew || Math.hypot(toX - x, toY - y) < 10) return;
+  if (Math.hypot(toX - x, toY - y) < 10) return;
   const along = Math.atan2(toY - y, toX - x);
   for (const turn of [2.6, -2.6]) {
     context.moveTo(toX, toY);
@@ -301,18 +306,38 @@ function drawSymbol(context, number, theme, size) {
 
 const pictures = new Map();
 
-function pictureOf(number, theme, size) {
+// a picture of so many units, drawn where there is none of this name yet
+function pictureOf(name, size, draw) {
   const ratio = ratioOfPixels();
-  const key = `${number} ${colourOf(theme, number)} ${theme.ground} ${ratio} ${size}`;
+  const key = `${name} ${ratio} ${size}`;
   if (!pictures.has(key)) {
     const picture = document.createElement("canvas");
     picture.width = picture.height = Math.ceil(size * ratio);
-    const context = picture.getContext("2d", { willReadFrequently: size === SMALL_SYMBOL });
+    const context = picture.getContext("2d", { willReadFrequently: size !== SYMBOL });
     context.scale(ratio, ratio);
-    drawSymbol(context, number, theme, size);
+    draw(context);
     pictures.set(key, picture);
   }
   return pictures.get(key);
+}
+
+function symbolOf(number, theme, size) {
+  return pictureOf(`${number} ${colourOf(theme, number)} ${theme.ground}`, size, (context) => drawSymbol(context, number, theme, size));
+}
+
+function ringOf(theme) {
+  return pictureOf(`ring ${theme.mark}`, RING_PICTURE, (context) => {
+    context.strokeStyle = theme.mark;
+    context.lineWidth = 2;
+    stroke(context, () => context.arc(RING_PICTURE / 2, RING_PICTURE / 2, RING, 0, 2 * Math.PI));
+  });
+}
+
+const stamps = new WeakMap();
+
+function stampOf(picture) {
+  if (!stamps.has(picture)) stamps.set(picture, pictureStamp(picture));
+  return stamps.get(picture);
 }
 
 // Visits the objects that can be seen: the class, the object's number in it, its pixel, and the number of the class.
@@ -328,14 +353,48 @@ function eachInView(map, { classes }, visit) {
 
 function drawSymbols(map, scene) {
   const { context, theme } = map;
-  const symbols = scene.classes.map((_, number) => pictureOf(number, theme, SYMBOL));
+  const symbols = scene.classes.map((_, number) => symbolOf(number, theme, SYMBOL));
   eachInView(map, scene, (one, at, x, y, number) => {
     context.drawImage(symbols[number], x - SYMBOL / 2, y - SYMBOL / 2, SYMBOL, SYMBOL);
   });
 }
 
-function drawSmallSymbols(map, { classes }) {
-  drawSheet(map, (put, wide) => classes.forEach((one, number) => put(one, map.after, symbolStamp(number, map.theme, wide))));
+function drawOnSheet(map, put) {
+  const { context, width, height } = map;
+  const { width: across, height: down } = context.canvas;
+  const sheet = emptySheet(across, down, across / width);
+  put(sheet);
+  sheet.show(context, width, height);
+}
+
+function putSmallSymbols(map, sheet, { classes, reach }) {
+  const { theme, after } = map;
+  classes.forEach((one, number) => putWays(map, sheet, one, colourOf(theme, number), reach));
+  classes.forEach((one, number) => putStamps(map, sheet, one, after, stampOf(symbolOf(number, theme, SMALL_SYMBOL))));
+  for (const one of classes) if (one.isMarked) putStamps(map, sheet, one, after, stampOf(ringOf(theme)), one.isMarked);
+}
+
+function putWays(map, sheet, one, colour, reach) {
+  const now = nowOf(map, one);
+  const ways = one.ways ?? [nowOf({ after: reach }, one)];
+  putLines(map, sheet, [...(one.trail ?? []), now], pixelOf(map.theme.thin));
+  putLines(map, sheet, [now, ...ways], pixelOf(colour));
+}
+
+// lines through the places that objects have in columns, with gaps where there is none
+function putLines({ left, top }, sheet, columns, pixel) {
+  for (let next = 1; next < columns.length; next++) {
+    const [from, to] = [columns[next - 1], columns[next]];
+    for (let at = 0; at < to.x.length; at++) sheet.line(left(from.x[at]), top(from.y[at]), left(to.x[at]), top(to.y[at]), pixel);
+  }
+}
+
+// a stamp for each object as it is a part of a tick later, or for those that are chosen
+function putStamps({ left, top }, sheet, { x, y, dx, dy }, after, stamp, chosen) {
+  const put = sheet.stamper(stamp);
+  for (let at = 0; at < x.length; at++) {
+    if (!chosen || chosen[at]) put(left(x[at] + after * dx[at]), top(y[at] + after * dy[at]));
+  }
 }
 
 // the forms of dots, as places around the middle: these differ by class too
@@ -348,72 +407,17 @@ const DOTS = [
   [[0, -2], [0, -1], [0, 0], [0, 1], [0, 2], [-2, 0], [-1, 0], [1, 0], [2, 0]],
 ];
 
-const RING = Array.from({ length: 16 }, (_, at) => [Math.cos, Math.sin].map((of) => Math.round(3.4 * of((at * Math.PI) / 8))));
+const DOTTED_RING = Array.from({ length: 16 }, (_, at) => [Math.cos, Math.sin].map((of) => Math.round(3.4 * of((at * Math.PI) / 8))));
 
-function drawDots(map, { classes }) {
+function putDots(map, sheet, { classes }) {
   const { theme, after } = map;
-  drawSheet(map, (put, wide) => {
-    const step = dotStamp([[0, 0]], theme.text, 0x50, wide);
-    for (const one of classes) for (const place of one.trail ?? []) put({ ...one, ...place }, 0, step);
-    classes.forEach((one, number) => put(one, after, dotStamp(DOTS[number % DOTS.length], colourOf(theme, number), 0xff, wide)));
-    const ring = dotStamp(RING, theme.mark, 0xff, wide);
-    for (const one of classes) if (one.isMarked) put(one, after, ring, one.isMarked);
+  const step = dotStamp([[0, 0]], pixelOf(theme.text, 0x50));
+  for (const one of classes) for (const place of one.trail ?? []) putStamps(map, sheet, { ...one, ...place }, 0, step);
+  classes.forEach((one, number) => {
+    putStamps(map, sheet, one, after, dotStamp(DOTS[number % DOTS.length], pixelOf(colourOf(theme, number))));
   });
-}
-
-let sheet = null;
-
-// Many objects are put as pixels into a sheet of their own, which takes a few milliseconds for ten thousand.
-function drawSheet(map, fill) {
-  const { width, height } = map.context.canvas;
-  if (sheet?.canvas.width !== width || sheet.canvas.height !== height) sheet = newSheet(width, height);
-  const image = new ImageData(width, height);
-  fill(stamper(map, new Uint32Array(image.data.buffer), width), width);
-  sheet.putImageData(image, 0, 0);
-  map.context.drawImage(sheet.canvas, 0, 0, map.width, map.height);
-}
-
-function newSheet(width, height) {
-  const canvas = document.createElement("canvas");
-  [canvas.width, canvas.height] = [width, height];
-  return canvas.getContext("2d", { willReadFrequently: true });
-}
-
-// A stamp has the pixels of one object: where each lies from the object's own pixel in a sheet that is so wide, and what it
-// is.
-function dotStamp(dot, colour, alpha, wide) {
-  const places = Int32Array.from(dot, ([toRight, toBottom]) => toBottom * wide + toRight);
-  return { places, colours: new Uint32Array(places.length).fill(pixelOf(colour, alpha)) };
-}
-
-function symbolStamp(number, theme, wide) {
-  const picture = pictureOf(number, theme, SMALL_SYMBOL);
-  const { width, height } = picture;
-  const all = new Uint32Array(picture.getContext("2d").getImageData(0, 0, width, height).data.buffer);
-  const seen = [...all.keys()].filter((at) => all[at] >>> 24 > 0);
-  const placeOfPixel = (at) => (Math.floor(at / width) - (height >> 1)) * wide + (at % width) - (width >> 1);
-  return { places: Int32Array.from(seen, placeOfPixel), colours: Uint32Array.from(seen, (at) => all[at]) };
-}
-
-// What puts a stamp into the pixels for each object, or for those that are chosen.
-function stamper({ left, top, width, height }, pixels, wide) {
-  const ratio = wide / width;
-  return ({ x, y, dx, dy }, after, { places, colours }, chosen) => {
-    for (let at = 0; at < x.length; at++) {
-      if (chosen && !chosen[at]) continue;
-      const across = left(x[at] + after * dx[at]);
-      const down = top(y[at] + after * dy[at]);
-      if (!(across > 6 && down > 6 && across < width - 6 && down < height - 6)) continue;
-      const middle = Math.round(down * ratio) * wide + Math.round(across * ratio);
-      for (let part = 0; part < places.length; part++) pixels[middle + places[part]] = colours[part];
-    }
-  };
-}
-
-// red is the first byte of a pixel, and the highest one of the number of a colour
-function pixelOf(colour, alpha) {
-  const number = parseInt(colour.slice(1), 16);
-  return ((alpha << 24) | ((number & 0xff) << 16) | (number & 0xff00) | (number >> 16)) >>> 0;
+  const ring = dotStamp(DOTTED_RING, pixelOf(theme.mark));
+  for (const one of classes) if (one.isMarked) putStamps(map, sheet, one, after, ring, one.isMarked);
 }
 
 function drawMarks(map, scene) {
@@ -422,8 +426,8 @@ function drawMarks(map, scene) {
   context.lineWidth = 2;
   stroke(context, () => eachInView(map, scene, (one, at, x, y) => {
     if (!one.isMarked?.[at]) return;
-    context.moveTo(x + 10, y);
-    context.arc(x, y, 10, 0, 2 * Math.PI);
+    context.moveTo(x + RING, y);
+    context.arc(x, y, RING, 0, 2 * Math.PI);
   }));
 }
 
@@ -469,7 +473,7 @@ function drawLegend({ context, theme }, { classes }) {
     context.fillStyle = theme.ground;
     context.fillRect(x - 4, y - 2, 28 + context.measureText(words).width, 20);
     context.globalAlpha = 1;
-    context.drawImage(pictureOf(number, theme, SYMBOL), x, y, SYMBOL, SYMBOL);
+    context.drawImage(symbolOf(number, theme, SYMBOL), x, y, SYMBOL, SYMBOL);
     context.fillStyle = theme.ink;
     context.fillText(words, x + SYMBOL + 4, y + SYMBOL / 2);
   });

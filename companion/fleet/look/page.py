@@ -12,8 +12,9 @@ from typing import Any
 
 FOLDER = Path(__file__).parent
 """Where the parts of pages lie."""
-SCRIPTS = ("drawing.js", "map.js", "motion.js", "recording.js", "play.js")
+SCRIPTS = ("sheet.js", "drawing.js", "map.js", "motion.js", "recording.js", "play.js")
 """The scripts of each page, each after those that it uses."""
+STYLES = ("base.css", "page.css")
 
 _EXPORT = re.compile(r"^export (?=(?:async function|function|const|class) ([A-Za-z_$][\w$]*))", re.MULTILINE)
 _IMPORT = re.compile(r'^import \{([^}]*)\} from "\./([a-z]+)\.js";$', re.MULTILINE)
@@ -36,7 +37,7 @@ class Parts:
 
 def page(title: str, about: str, data: dict[str, Any], parts: Parts) -> str:
     """The text of the page."""
-    style, script = "".join([*parts.styles, part("page.css")]), bundled(parts.scripts)
+    style, script = "".join([*parts.styles, *map(part, STYLES)]), bundled(parts.scripts)
     assert not any("</script" in library.lower() or "<!--" in library for library in parts.libraries)
     sources = {
         "script-src": " ".join(map(_hash, [*parts.libraries, script])),

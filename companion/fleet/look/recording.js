@@ -132,14 +132,15 @@ function thereAt(objects, tick) {
 
 // the places of objects at a tick, in units, by the motion that `motionOf` gives of each; NaN where it gives none
 function columns(objects, motionOf, tick) {
-  const found = { x: [], y: [], dx: [], dy: [] };
-  for (const object of objects) {
-    const motion = motionOf(object);
+  const column = () => new Float64Array(objects.length);
+  const found = { x: column(), y: column(), dx: column(), dy: column() };
+  for (let at = 0; at < objects.length; at++) {
+    const motion = motionOf(objects[at]);
     const { x, y, dx, dy } = motion === null ? NOWHERE : placeBy(motion, tick);
-    found.x.push(x / 1000);
-    found.y.push(y / 1000);
-    found.dx.push(dx / 1000);
-    found.dy.push(dy / 1000);
+    found.x[at] = x / 1000;
+    found.y[at] = y / 1000;
+    found.dx[at] = dx / 1000;
+    found.dy[at] = dy / 1000;
   }
   return found;
 }
