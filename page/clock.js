@@ -1,15 +1,19 @@
 // The clock by real time: calls a function so many times a second, and tells which part of a tick has passed.
 
-// seconds in which no tick may be late before the clock counts as in time again
+// for so many seconds after a tick was late the clock counts as behind
 const CALM = 2;
+// ticks that are late by more seconds than these are left out, as where the page slept
+const MOST_LATE = 1;
 
 export class Clock {
   #timer = null;
   #pace = 1;
-  #tickedAt = 0;
+  // when the next tick is due, when the last one came, and until when the clock counts as behind
+  #due = 0;
+  #movedAt = 0;
+  #behindUntil = 0;
   #isTicking = false;
-  #beatsToCalm = 0;
-  /// What is done at each tick; the next one waits until its promise is kept.
+  /// What is done at each tick; the next one waits until its promise is kept. A late one comes at once.
   onTick = async () => {};
 
   get isRunning() {
@@ -19,7 +23,8 @@ export class Clock {
   start(pace) {
     this.stop();
     this.#pace = pace;
-    this.#timer = setInterval(() => this.#tick(), 1000 / pace);
+    this.#due = performance.now() + this.#beat;
+    this.#timer = setInterval(() => this.#tick(), this.#beat);
   }
 
   stop() {
@@ -27,29 +32,48 @@ export class Clock {
     this.#timer = null;
   }
 
+  // milliseconds from one tick to the next
+  get #beat() {
+    return 1000 / this.#pace;
+  }
+
+  // (a timer may be a little early)
+  get #isDue() {
+    return this.isRunning && performance.now() > this.#due - this.#beat / 10;
+  }
+
   /// Whether a tick was late a short time ago, so that there is no time for more than them.
   get isBehind() {
-    return this.#beatsToCalm > 0;
+    return performance.now() < this.#behindUntil;
   }
 
   async #tick() {
-    this.#beatsToCalm = this.#isTicking ? CALM * this.#pace : Math.max(this.#beatsToCalm - 1, 0);
     if (this.#isTicking) return;
     this.#isTicking = true;
     try {
-      await this.onTick();
+      while (this.#isDue) {
+        this.#goOn();
+        await this.onTick();
+        if (performance.now() > this.#due) this.#behindUntil = performance.now() + CALM * 1000;
+      }
     } finally {
       this.#isTicking = false;
     }
   }
 
+  // the next tick is due a beat later, or so many beats that it isn't too late
+  #goOn() {
+    const tooLate = performance.now() - this.#due - MOST_LATE * 1000;
+    this.#due += this.#beat * Math.max(Math.floor(tooLate / this.#beat), 1);
+  }
+
   /// What is shown is of this moment.
   moved() {
-    this.#tickedAt = performance.now();
+    this.#movedAt = performance.now();
   }
 
   /// Which part of a tick has passed since, while the clock runs.
   after() {
-    return this.isRunning ? Math.min(((performance.now() - this.#tickedAt) / 1000) * this.#pace, 1) : 0;
+    return this.isRunning ? Math.min((performance.now() - this.#movedAt) / this.#beat, 1) : 0;
   }
 }

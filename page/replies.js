@@ -1,4 +1,4 @@
-// What the program writes, read: replies, the list, the texts of csv and of sessions.
+// What the program writes, read: replies, the list, and the texts of sessions.
 
 const ACCEPTED = /(?:^|\n)ok\n$/;
 const REFUSED = /^refused (\d+) (\w+)\n$/;
@@ -59,7 +59,11 @@ export function countRows(reply) {
 
 /// The targets of the rows of an answer that hold at the tick at which it was given.
 export function targetsNow(reply) {
-  return [...reply.matchAll(/^now (.+) :/gm)].flatMap((found) => found[1].split(" "));
+  const found = [];
+  for (const line of reply.split("\n")) {
+    if (line.startsWith("now ")) found.push(...line.slice(4, line.indexOf(" :")).split(" "));
+  }
+  return found;
 }
 
 /// The reply to `list`.
@@ -86,42 +90,4 @@ export function regionsOf(session) {
     regions.push({ name: found[1], points });
   }
   return regions;
-}
-
-// a line of csv as fields. No text of the program's has a line feed or a quote in it
-function fieldsOf(line) {
-  return line.includes('"') ? [...line.matchAll(/(?:^|,)(?:"([^"]*)"|([^,]*))/g)].map((field) => field[1] ?? field[2]) : line.split(",");
-}
-
-/// The objects of an export: their names, places and motions where the class has them, and the text itself. Of ten thousand
-/// objects only what is drawn is read.
-export function objectsOf(text) {
-  const head = text.indexOf("\n");
-  // the columns of a place stand right after the name
-  const isPoint = /^name,x,x\.rate,y,y\.rate[,\n]/.test(text);
-  const names = [];
-  const places = { x: [], y: [], dx: [], dy: [] };
-  const columns = [places.x, places.dx, places.y, places.dy];
-  for (let at = head + 1; at > 0 && at < text.length; ) {
-    let to = text.indexOf("\n", at);
-    const end = to;
-    to = text.indexOf(",", at);
-    names.push(text.slice(at, to < 0 || to > end ? end : to));
-    for (const column of isPoint ? columns : []) {
-      at = to + 1;
-      to = text.indexOf(",", at);
-      if (to < 0 || to > end) to = end;
-      column.push(Number(text.slice(at, to)));
-    }
-    at = end + 1;
-  }
-  for (const key of Object.keys(places)) places[key] = Float64Array.from(places[key]);
-  return { names, places: isPoint ? places : null, text };
-}
-
-/// The values of one object of an export by their columns, or null.
-export function valuesOf(text, name) {
-  const [head, ...lines] = text.split("\n");
-  const line = lines.find((one) => one.startsWith(`${name},`));
-  return line === undefined ? null : { columns: head.split(","), values: fieldsOf(line) };
 }

@@ -1,6 +1,7 @@
 // A session: what the program is told and what is kept of it, and what the page asks the program for itself.
+import { objectsOf } from "./exports.js";
 import { Ended, RepeatedRun, Shelf, askOwn } from "./program.js";
-import { countReplies, firstWord, isAccepted, isKept, listOf, objectsOf, regionsOf, ticksOf } from "./replies.js";
+import { countReplies, firstWord, isAccepted, isKept, listOf, regionsOf, ticksOf } from "./replies.js";
 
 // After so many milliseconds, what was answered is kept and passed on.
 const PATIENCE = 50;
@@ -23,6 +24,8 @@ export class Session {
   #run;
   #shelf = new Shelf(new Map());
   #regions;
+  // what each class's last export told
+  #objects = new Map();
   #clock = 0;
   // bytes of what another run would be told
   #size;
@@ -59,7 +62,8 @@ export class Session {
   }
 
   /// Answers the lines in their order up to one by which the program ends, and calls `tell` with entries once they are kept.
-  /// Of lines of the page's clock the lines are kept, and what was said only where something changed.
+  /// Of lines of the page's clock the lines are kept, and what was said only where something changed. It gives `kept`, a
+  /// promise that all is: the program may be asked for more meanwhile.
   async answer(lines, isByClock, tell) {
     let keeping = Promise.resolve();
     for (let at = 0; at < lines.length && !this.end; ) {
@@ -69,7 +73,9 @@ export class Session {
       await keeping;
       keeping = this.#keep(group, isByClock).then(() => tell(group.entries));
     }
-    await keeping;
+    // (it may fail before it is waited for)
+    keeping.catch(() => {});
+    return { kept: keeping };
   }
 
   async #keep({ entries, kept, session }, isByClock) {
@@ -168,7 +174,10 @@ export class Session {
     if (list.regions.length !== this.#regions.length) {
       this.#regions = regionsOf(new TextDecoder().decode(yield* this.#saved()));
     }
-    for (const one of list.classes) Object.assign(one, yield* objectsNow(shelf, one.name));
+    const objects = new Map();
+    for (const { name } of list.classes) objects.set(name, yield* objectsNow(shelf, name, this.#objects.get(name)));
+    this.#objects = objects;
+    for (const one of list.classes) Object.assign(one, objects.get(one.name));
     for (const query of list.queries) query.answer = yield* askOwn(shelf, `show ${query.name}`);
     return { ...list, regions: this.#regions };
   }
@@ -196,9 +205,9 @@ function withPlaces(seen) {
   return seen.classes.filter((one) => one.places !== null);
 }
 
-function* objectsNow(shelf, name) {
+function* objectsNow(shelf, name, before) {
   yield* askOwn(shelf, `export ${name} "${ASKED}"`);
-  return objectsOf(new TextDecoder().decode(shelf.own.get(ASKED)));
+  return objectsOf(shelf.own.get(ASKED), before);
 }
 
 function* placesAt(shelf, clock, ticks, classes) {

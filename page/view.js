@@ -8,6 +8,8 @@ import { client, clock, scenery } from "./parts.js";
 // for how many ticks the ways ahead are drawn
 const WAYS = 20;
 const LAST_TICK = 1_000_000_000;
+// while the clock is behind, what stands beside the map may take a part of the time of one in so many
+const BESIDE_PART = 8;
 
 const darkColours = matchMedia("(prefers-color-scheme: dark)");
 const lessMotion = matchMedia("(prefers-reduced-motion: reduce)");
@@ -36,13 +38,23 @@ export function forget() {
 
 function draw() {
   map.show(scenery.scene(byId("marked").value), partOfTick);
+  byId("map").setAttribute("aria-label", `Map at tick ${scenery.tick}: ${scenery.count} objects, ${scenery.regions.length} regions`);
+  if (!clock.isRunning || !clock.isBehind || performance.now() >= besideFrom) drawBeside();
+}
+
+// when what stands beside the map may be drawn again while the clock is behind
+let besideFrom = 0;
+
+function drawBeside() {
+  const begun = performance.now();
   const timeline = timelineNow();
   const isEmpty = timeline.groups.length === 0;
   byId("no-queries").hidden = !isEmpty;
   byId("timeline").style.display = isEmpty ? "none" : "";
   if (!isEmpty) drawTimeline(byId("timeline"), timeline, themeNow(), byId("timeline-frame").clientWidth);
   showTable();
-  byId("map").setAttribute("aria-label", `Map at tick ${scenery.tick}: ${scenery.count} objects, ${scenery.regions.length} regions`);
+  const now = performance.now();
+  besideFrom = now + BESIDE_PART * (now - begun);
 }
 
 // while the clock runs in time, moving objects are drawn on their way from one tick to the next
@@ -58,8 +70,12 @@ function animate() {
 
 /// Starts or stops the clock.
 export function run(isOn) {
-  if (isOn) clock.start(Number(byId("pace").value));
-  else clock.stop();
+  if (isOn) {
+    clock.start(Number(byId("pace").value));
+  } else {
+    clock.stop();
+    draw();
+  }
   byId("run").setAttribute("aria-pressed", String(isOn));
   byId("run").textContent = isOn ? "Pause" : "Run";
   animate();

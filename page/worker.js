@@ -1,7 +1,7 @@
 // The worker in which the program runs, so that the page stays awake beside it. It does what the page asks, one thing after
 // the other.
+import { valuesOf } from "./exports.js";
 import { RepeatedRun, SuspendedRun, canSuspend, hasWideMemory } from "./program.js";
-import { valuesOf } from "./replies.js";
 import { Session, inWords } from "./session.js";
 import { openStore } from "./store.js";
 
@@ -29,8 +29,10 @@ const calls = {
   },
 
   async answer(lines, isByClock) {
-    await session.answer(lines, isByClock, (entries) => self.postMessage({ entries }));
-    return state();
+    const { kept } = await session.answer(lines, isByClock, (entries) => self.postMessage({ entries }));
+    const now = await state();
+    await kept;
+    return now;
   },
 
   async goOn() {
@@ -57,7 +59,7 @@ const calls = {
   /// The values of an object as they are now.
   object(className, name) {
     const found = seen.classes.find((one) => one.name === className);
-    return found ? valuesOf(found.text, name) : null;
+    return found ? valuesOf(found.bytes, name) : null;
   },
 
   file: (name) => session.files.get(name) ?? null,
@@ -81,8 +83,8 @@ async function state() {
 }
 
 function lighter({ name, used, capacity, names, places }) {
-  const old = sentNames.get(name);
-  const isSame = old?.length === names.length && old.every((one, at) => one === names[at]);
+  // (names that are the same are the same array)
+  const isSame = sentNames.get(name) === names;
   sentNames.set(name, names);
   return { name, used, capacity, names: isSame ? null : names, places };
 }
