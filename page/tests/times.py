@@ -13,7 +13,9 @@ from compare import NODE, PAGE, native
 
 FIRST_ANSWER, OPENED = 1_000, 5
 UPDATED, WARM, MEASURED, RUNS, MOST_TIMES = 1_000, 60_000, 300_000, 5, 5
-OBJECTS, TICKS, PACE = 10_000, 100, 10
+OBJECTS, TICKS = 10_000, 200
+# ticks a second: what is wanted, and what shows that there is room; so many parts of it must be made
+PACE, WITH_ROOM, PART = 10, 13, 0.99
 # types a line as soon as the page takes one, and notes when it was answered
 AT_ONCE = """
 addEventListener('DOMContentLoaded', () => {
@@ -34,11 +36,13 @@ window.moved = [];
 window.frames = [];
 window.took = [];
 let begun = NaN;
-new MutationObserver(() => {
+new MutationObserver((changes) => {
   const now = performance.now();
-  if (document.body.dataset.waits === '0') window.took.push(now - begun);
-  else begun = now;
-}).observe(document.body, { attributes: true, attributeFilter: ['data-waits'] });
+  for (const { oldValue } of changes) {
+    if (oldValue === '0') begun = now;
+    else window.took.push(now - begun);
+  }
+}).observe(document.body, { attributes: true, attributeOldValue: true, attributeFilter: ['data-waits'] });
 new MutationObserver(() => window.moved.push(performance.now())).observe(document.getElementById('clock'), { childList: true });
 const frame = (now) => { window.frames.push(now); requestAnimationFrame(frame); };
 requestAnimationFrame(frame);
@@ -63,24 +67,24 @@ def fleet(draw, count=OBJECTS):
     return [*lines, "watch town 1000 RETRIEVE o FROM car o WHERE INSIDE(o,town)"]
 
 
-def running_clock():
-    """How many ticks a second the clock makes with so many objects, and milliseconds: in which a quarter and half of the ticks
-    are made, and half of the frames come."""
+def running_clock(pace):
+    """How many ticks a second the clock makes with so many objects where it is asked for so many, from the press of the button
+    on; and milliseconds: in which half and nine tenths of the ticks are made, and half of the frames come. What is late is
+    made up for, but never more ticks are made than are due."""
     with tempfile.TemporaryDirectory(prefix="page-profile-", ignore_cleanup_errors=True) as profile:
         with served() as (address, _), Browser(profile) as browser:
             browser.open(address)
             paste(browser, fleet(random.Random(1)))
             browser.wait("document.body.dataset.waits === '0'", "the fleet is there")
-            browser.script(f"document.getElementById('pace').value = {PACE}")
-            browser.find("run").click()
-            browser.wait("Number(document.getElementById('clock').textContent.slice(5)) >= 10", "the clock runs")
             browser.script(CLOCK)
-            browser.wait(f"window.moved.length > {TICKS}", "the ticks")
-            moved, took, frames = browser.script(f"return [window.moved.slice(0, {TICKS} + 1), window.took, window.frames]")
-            # (the first one may have begun before it was looked at)
-            quarter, half, _ = statistics.quantiles(took[1:], n=4)
+            # (the page offers ten at most)
+            browser.script(f"document.getElementById('pace').append(new Option('', {pace}, true, true))")
+            browser.script("window.pressed = performance.now(); document.getElementById('run').click()")
+            browser.wait(f"window.moved.length >= {TICKS}", "the ticks")
+            seconds, took, frames = browser.script(
+                f"return [(window.moved[{TICKS - 1}] - window.pressed) / 1000, window.took, window.frames]")
             between = [later - earlier for earlier, later in zip(frames, frames[1:])]
-            return 1000 * TICKS / (moved[TICKS] - moved[0]), quarter, half, statistics.median(between)
+            return TICKS / seconds, statistics.median(took), statistics.quantiles(took, n=10)[-1], statistics.median(between)
 
 
 def updates(draw, count):
@@ -127,10 +131,10 @@ def measure_all():
     print(f"an update in {by_native:.1f} microseconds by the native program, in {by_module:.1f} by the module")
     if by_module > MOST_TIMES * by_native:
         slow.append("lines")
-    pace, quarter, half, frame = running_clock()
-    print(f"{OBJECTS} objects: {pace:.1f} ticks a second of {PACE}; a quarter of them within {quarter:.0f} ms and half within "
-          f"{half:.0f}; half of the frames within {frame:.0f} ms")
-    # other work on the machine makes ticks longer, and none shorter
-    if quarter > 1000 / PACE:
-        slow.append("the clock")
+    for pace in (PACE, WITH_ROOM):
+        made, half, most, frame = running_clock(pace)
+        print(f"{OBJECTS} objects: {made:.2f} ticks a second of {pace}; half of them made within {half:.0f} ms and nine tenths "
+              f"within {most:.0f}; half of the frames within {frame:.0f} ms")
+        if made < PART * pace:
+            slow.append(f"the clock with {pace} ticks a second")
     return slow
