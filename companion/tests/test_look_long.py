@@ -24,7 +24,10 @@ MOST_SECONDS = 2.0
 """How long all that is killed lives at most."""
 FRAME = 16.0
 """The milliseconds that a frame may take."""
-ROUNDS = 20
+FRAMES, ROUNDS = 100, 40
+"""The frames of a round, and how many rounds there may be."""
+ROUND = 30_000
+"""The milliseconds after which a round ends, with fewer frames where the machine is very busy."""
 BEFORE_OTHERS = -10
 """The priority of a browser whose frames are timed."""
 
@@ -90,27 +93,78 @@ def first_browser(tmp_path: Path) -> Iterator[Browser]:
         yield browser
 
 
-def test_a_frame_of_a_thousand_objects_is_drawn_in_time(first_browser: Browser, program: Path, tmp_path: Path) -> None:
-    """By the page's own clock: its work for a frame and the drawing of it, by the processor, since a browser without a
-    window has no graphics card. A machine that is busy with something else may keep it from its turn all the same, so
-    one round in time is enough. How many frames are shown in a second is told and not judged."""
-    browser = first_browser
+def moving_thousand() -> list[str]:
+    """The commands of a session of 1,000 objects, of which each changes its motion every 30 ticks, under a watch."""
     lines = ["class van 1000 point", "region yard (0,0) (900,0) (900,900) (0,900)"]
     for i in range(1000):
         lines.append(f"insert van v{i} at ({i * 37 % 4000},{i * 91 % 4000}) move ({i % 19 - 9},{i % 23 - 11})")
-    lines += ["watch town 100000 RETRIEVE o FROM van o WHERE INSIDE(o,yard)"]
+    lines.append("watch town 100000 RETRIEVE o FROM van o WHERE INSIDE(o,yard)")
     for tick in range(1, 120):
         lines.append("tick 1")
         lines += [f"update v{i} move ({(i + tick) % 19 - 9},{(i * tick) % 23 - 11})" for i in range(tick % 30, 1000, 30)]
-    browser.open(page_of(saved_session(program, tmp_path, lines)).as_uri())
+    return lines
+
+
+def descendants_of(pid: int) -> list[int]:
+    """A process, and all that it and those have started."""
+    return [pid, *(one for child in children_of(pid) for one in descendants_of(child))]
+
+
+class Machine:
+    """What tells how long the machine kept a page from being drawn."""
+
+    def __init__(self, browser: Browser) -> None:
+        processes = [Path(f"/proc/{pid}") for pid in descendants_of(browser.driver.service.process.pid)]
+        self._renderers = [path for path in processes if b"--type=renderer" in (path / "cmdline").read_bytes()]
+        assert self._renderers
+
+    def away(self) -> float:
+        """The milliseconds, up to now, for which the threads that draw could go on and had no processor, and for which
+        processors of this machine were taken by another one."""
+        threads = [thread for path in self._renderers for thread in path.glob("task/[0-9]*") if _draws(thread)]
+        waited = sum(int((thread / "schedstat").read_text().split()[1]) for thread in threads)
+        stolen = int(Path("/proc/stat").read_text().split(maxsplit=9)[8])
+        return waited / 1e6 + stolen * 1_000 / os.sysconf("SC_CLK_TCK")
+
+
+def _draws(thread: Path) -> bool:
+    """Whether a thread of a renderer is its main one, or the compositor."""
+    return thread.name == thread.parents[1].name or (thread / "comm").read_text() == "Compositor\n"
+
+
+def frames_of_a_round(browser: Browser) -> list[float]:
+    """The milliseconds that each of the first frames took of a session that is played from its beginning."""
+    browser.run("look.go(0); look.frames.length = 0; globalThis.begun = performance.now(); look.play()")
+    browser.wait(f"return look.frames.length >= {FRAMES} || performance.now() - begun > {ROUND}")
+    frames: list[float] = browser.run("look.pause(); return look.frames")
+    return frames[:FRAMES]
+
+
+def test_each_frame_of_a_thousand_objects_is_drawn_in_time(
+    first_browser: Browser, program: Path, tmp_path: Path
+) -> None:
+    """All frames of one round of 100 take 16 ms at most by the page's own clock, ten ticks a second: from the beginning
+    of the page's work for a frame until the browser comes to what was sent it after that work, which is once it has
+    drawn. It draws by the processor, since a browser without a window has no graphics card. How many frames are shown
+    in a second isn't judged.
+
+    Two rounds go before, by which the browser compiles the page's code. A round with longer frames is repeated, and
+    counted, where in it the machine kept the page from a processor for at least as long as these were too long
+    together; else it fails. On a machine that never leaves the page a round it fails in the end.
+    """
+    browser = first_browser
+    browser.open(page_of(saved_session(program, tmp_path, moving_thousand())).as_uri())
     browser.run("document.getElementById('pace').value = 10")
-    medians, rates = [], []
-    while len(medians) < ROUNDS and min(medians, default=FRAME + 1) > FRAME:
-        browser.run("look.go(0); look.frames.length = 0; globalThis.begun = performance.now(); look.play()")
-        browser.wait("return look.frames.length >= 60")
-        frames, seconds = browser.run("look.pause(); return [look.frames, (performance.now() - begun) / 1000]")
-        medians.append(sorted(frames)[len(frames) // 2])
-        rates.append(len(frames) / seconds)
-    told = f"half of them within {medians[-1]:.1f} ms, {rates[-1]:.0f} a second, in round {len(medians)}"
-    print(f"frames of 1,000 objects: {told}; the load is {os.getloadavg()[0]:.0f}")
-    assert medians[-1] <= FRAME
+    for _ in range(2):
+        frames_of_a_round(browser)
+    machine = Machine(browser)
+    for count in range(1, ROUNDS + 1):
+        before = machine.away()
+        frames = sorted(frames_of_a_round(browser))
+        away, over = machine.away() - before, sum(frame - FRAME for frame in frames if frame > FRAME)
+        told = f"half of {len(frames)} within {frames[len(frames) // 2]:.1f} ms, all within {frames[-1]:.1f}, round {count}"
+        print(f"frames of 1,000 objects: {told}, {away:.0f} ms without a processor; the load is {os.getloadavg()[0]:.0f}")
+        if not over and len(frames) == FRAMES:
+            return
+        assert away >= over, f"{over:.1f} ms are too many, and the machine was away for {away:.1f}"
+    pytest.fail(f"the machine was away in each of {ROUNDS} rounds, so nothing is told of the page")
