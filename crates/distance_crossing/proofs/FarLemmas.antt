@@ -11,6 +11,7 @@ use Rattle.exact.proofs.Ring.{part, number, sum, difference, product, opposite, 
 use Rattle.geometry.specs.Circle.{squared_width}
 use Rattle.geometry.specs.Distance.{distance_compares}
 use Rattle.geometry.specs.Plane.{square}
+use Rattle.linear_crossing.proofs.Apart.{apart}
 use Rattle.linear_crossing.specs.Moving.{distance_after}
 use Rattle.linear_crossing.specs.Relative.{Relative, squared_distance_at}
 use Rattle.linear_crossing.specs.declared.quad.Line.{Line}
@@ -164,12 +165,6 @@ sum_above_by_second s u v l p = omega (arith, ints)
 abbrev pub IsFar : ℤ → Line → Line → ℕ → Type 0
 IsFar c p q last = pos 0 ≤ℤ c → (k : ℕ) → k ≤ last → square c <ℤ distance_after p q k
 
--- the difference of two coordinates that change
-regrouped : (x y v w k : ℤ) → (x -ℤ y) +ℤ (v -ℤ w) *ℤ k ≡ (x +ℤ v *ℤ k) -ℤ (y +ℤ w *ℤ k)
-regrouped x y v w k =
-    same (sum (difference (part x) (part y)) (product (difference (part v) (part w)) (part k)))
-    (difference (sum (part x) (product (part v) (part k))) (sum (part y) (product (part w) (part k)))) (omega arith)
-
 module _ (p q : Line) where
   -- the second motion as the first one sees it
   abbrev seen : Relative
@@ -185,10 +180,7 @@ module _ (p q : Line) where
       ]
 
   seen_is : (k : ℕ) → squared_distance_at seen k ≡ distance_after p q k
-  seen_is k =
-      let x = regrouped q.at.x p.at.x q.dx p.dx (pos k) in
-      let y = regrouped q.at.y p.at.y q.dy p.dy (pos k) in
-      λ i. square (x i) +ℤ square (y i)
+  seen_is k = apart p q seen k refl refl refl refl
 
   pub passes_far : (c : ℤ) (last : ℕ) → pass_by c p q last ≡ true → IsFar c p q last
   passes_far c last e = λ positive k l.

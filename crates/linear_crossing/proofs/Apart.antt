@@ -1,4 +1,4 @@
--- One motion as another sees it.
+-- For this crate and for the crates above: one motion as another sees it.
 use Rattle.std.proofs.Common.{◌≡◌, ℕ, ℤ, pos, ◌+ℤ◌, ◌-ℤ◌, ◌*ℤ◌, ◌∙◌, arith}
 use Rattle.exact.proofs.Ring.{part, sum, difference, product, same}
 use Rattle.geometry.specs.Plane.{square}
