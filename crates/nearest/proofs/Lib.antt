@@ -3,4 +3,6 @@ mod SweepLemmas
 mod SquareLemmas
 mod OrderLemmas
 mod PartLemmas
+mod ThinLemmas
+mod FoundLemmas
 mod RowLemmas

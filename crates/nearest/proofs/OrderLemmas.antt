@@ -34,7 +34,7 @@ three_orders d e =
       ]
     ]
 
-less_test : (d e : ℤ) → d <ℤ e → int_lt d e ≡ true
+pub less_test : (d e : ℤ) → d <ℤ e → int_lt d e ≡ true
 less_test d e less = grind (arith, ints, nat_tests)
 
 not_less_test : (d e : ℤ) → e ≤ℤ d → int_lt d e ≡ false
@@ -60,7 +60,7 @@ below_in_a_tie ties d e same =
     let at_least : e ≤ℤ d = omega (arith, ints) in
     λ i. not_less_test d e at_least i || ((Decides-int_eq d e).1 same i && ties)
 
-at_most_test : (d limit : ℤ) → d ≤ℤ limit → int_le d limit ≡ true
+pub at_most_test : (d limit : ℤ) → d ≤ℤ limit → int_le d limit ≡ true
 at_most_test d limit low = grind (arith, ints, nat_tests)
 
 above_test : (d limit : ℤ) → limit <ℤ d → int_le d limit ≡ false

@@ -1,7 +1,7 @@
 -- One object before another, in the common parts of their timelines and along the window.
 use Rattle.std.proofs.Common.{◌≡◌, ℕ, ◌+◌, ◌≤◌, ℤ, Bool, true, false, ◌&&◌, nat_le, nat_lt, inl, inr, Option, None, Some, is_some, Ok, Err, List, refl, sym, ap, ◌∙◌, arith}
 use Rattle.std.specs.Prelude.{option_and_then, slice_index_or, OnOk, Result}
-use Rattle.std.specs.Option.{IfSome, option_copied, option_map}
+use Rattle.std.specs.Option.{option_copied, option_map}
 use Rattle.std.proofs.lemmas.Bool.{false≢true, cases_Bool, cases_lt}
 use Rattle.std.proofs.lemmas.Bool.Decides.{nat_tests}
 use Rattle.fixed_point.specs.declared.number.Point.{Point}
@@ -13,8 +13,11 @@ use Rattle.courses.specs.declared.parts.Common.{Common}
 use Rattle.nearness.specs.Nearest.{squared_between, stands_before}
 use Rattle.tick_set.specs.Ticks.{within}
 use Rattle.tick_set.specs.declared.spans.Window.{Window}
-use Rattle.nearest.specs.Courses.{TellsSquares, place_in, squared_along, squared_in}
+use Rattle.nearest.specs.Courses.{place_in, squared_along, squared_in}
 use Rattle.nearest.specs.Depth.{one_if}
+use Rattle.nearest.specs.Sights.{IsSight, is_straight}
+use Rattle.nearest.specs.declared.sight.Sight.{Sight}
+use Rattle.nearest.specs.declared.sight.Sight.TheVariants as sights
 use Rattle.nearest.specs.declared.squares.Separation.{Separation}
 
 -- ---- squares
@@ -66,11 +69,12 @@ on_ok (Err e) P Q f is = is
 pub added : (new middle old first second both : ℕ) → new ≡ middle + second → middle ≡ old + first → both ≡ first + second → new ≡ old + both
 added new middle old first second both later before is = omega arith
 
--- where the separation is told of the whole window, both have places there
-pub straight_there : (from to : List Epoch) (w : Window) (told : Option Separation) → is_some told ≡ true → IfSome told (TellsSquares from to w) →
+-- where both move along lines throughout the slice they have places there
+pub straight_there : (from to : List Epoch) (w : Window) (sight : Sight) → is_straight sight ≡ true → IsSight from to w sight →
     (t : ℕ) → w.lo ≤ t → t ≤ w.hi → is_some (squared_along from to t) ≡ true
-straight_there from to w None some tells t begun up_to = absurd (false≢true some)
-straight_there from to w (Some s) some tells t begun up_to = ap is_some (tells t begun up_to)
+straight_there from to w (sights.Straight band) straight is t begun up_to = ap is_some (is.tells t begun up_to)
+straight_there from to w sights.Absent straight is t begun up_to = absurd (false≢true straight)
+straight_there from to w sights.Unknown straight is t begun up_to = absurd (false≢true straight)
 
 -- ---- part by part
 

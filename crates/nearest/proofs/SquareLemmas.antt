@@ -1,11 +1,18 @@
 -- The square of a distance is a parabola of the ticks.
-use Rattle.std.proofs.Common.{◌≡◌, ℕ, ◌+◌, ◌-◌, ◌*◌, ◌≤◌, ℤ, pos, negsuc, unsigned_abs, ◌+ℤ◌, ◌-ℤ◌, ◌*ℤ◌, refl, ap, ◌∙◌, arith}
+use Rattle.std.proofs.Common.{◌≡◌, ℕ, ◌+◌, ◌-◌, ◌*◌, ◌≤◌, ℤ, pos, negsuc, unsigned_abs, ◌+ℤ◌, ◌-ℤ◌, ◌*ℤ◌, ◌≤ℤ◌, ◌<ℤ◌, inl, inr, refl, ap, ◌∙◌, arith}
+use Rattle.std.proofs.lemmas.Int.{ints}
+use Rattle.std.proofs.lemmas.Bool.{cases_lt}
+use Rattle.std.proofs.lemmas.Nat.{mul-le}
+use Rattle.exact.specs.Rising.{FallsTo, RisesIn}
+use Rattle.exact.proofs.Convex.{falls, rises}
 use Rattle.exact.proofs.Ring.{Parts, part, number, sum, difference, product, same}
 use Rattle.convex.specs.Parabola.{parabola}
 use Rattle.geometry.specs.Plane.{square}
+use Rattle.linear_crossing.proofs.Apart.{apart}
 use Rattle.linear_crossing.specs.declared.quad.Line.{Line}
 use Rattle.linear_crossing.specs.Moving.{distance_after}
-use Rattle.linear_crossing.specs.Relative.{Relative, squared_distance_at}
+use Rattle.linear_crossing.specs.Relative.{Relative}
+use Rattle.nearest.specs.Order.{rise_after}
 
 -- ---- sizes
 
@@ -30,20 +37,6 @@ both_axes a b c d e f k =
     (sum (sum (sum (product (part a) (squared_ticks k)) (product (product (number 2) (part b)) (number k))) (part c))
     (sum (sum (product (part d) (squared_ticks k)) (product (product (number 2) (part e)) (number k))) (part f))) (omega arith)
 
--- a coordinate of one motion as another sees it
-coordinate : (x y v w u d k : ℤ) → u ≡ x -ℤ y → d ≡ v -ℤ w → u +ℤ d *ℤ k ≡ (x +ℤ v *ℤ k) -ℤ (y +ℤ w *ℤ k)
-coordinate x y v w u d k e f =
-    (λ i. e i +ℤ f i *ℤ k)
-    ∙ same (sum (difference (part x) (part y)) (product (difference (part v) (part w)) (part k)))
-    (difference (sum (part x) (product (part v) (part k))) (sum (part y) (product (part w) (part k)))) (omega arith)
-
-seen_is : (p q : Line) (m : Relative) (k : ℕ) → m.x ≡ q.at.x -ℤ p.at.x → m.y ≡ q.at.y -ℤ p.at.y → m.dx ≡ q.dx -ℤ p.dx →
-    m.dy ≡ q.dy -ℤ p.dy → squared_distance_at m k ≡ distance_after p q k
-seen_is p q m k a b c d =
-    let x = coordinate q.at.x p.at.x q.dx p.dx m.x m.dx (pos k) a c in
-    let y = coordinate q.at.y p.at.y q.dy p.dy m.y m.dy (pos k) b d in
-    λ i. square (x i) +ℤ square (y i)
-
 -- the parabola of these coefficients tells the square of the distance of two motions
 pub separated : (p q : Line) (m : Relative) (a : ℕ) (b c : ℤ) →
     m.x ≡ q.at.x -ℤ p.at.x → m.y ≡ q.at.y -ℤ p.at.y → m.dx ≡ q.dx -ℤ p.dx → m.dy ≡ q.dy -ℤ p.dy →
@@ -53,7 +46,7 @@ separated p q m a b c x y dx dy quadratic linear constant k =
     (λ i. quadratic i *ℤ (pos k *ℤ pos k) +ℤ linear i *ℤ pos k +ℤ constant i)
     ∙ both_axes (m.dx *ℤ m.dx) (m.x *ℤ m.dx) (m.x *ℤ m.x) (m.dy *ℤ m.dy) (m.y *ℤ m.dy) (m.y *ℤ m.y) k
     ∙ (λ i. one_axis m.x m.dx k i +ℤ one_axis m.y m.dy k i)
-    ∙ seen_is p q m k x y dx dy
+    ∙ apart p q m k x y dx dy
 
 -- ---- one less another
 
@@ -69,3 +62,49 @@ differs n a b c e f g h k less linear constant =
     (λ i. parabola (n - a) (linear i) (constant i) k)
     ∙ differs_by (n - a) a b c e f k
     ∙ ap (λ m. parabola m b c k -ℤ parabola a e f k) back
+
+-- ---- falling and rising
+
+abbrev parabola_parts : (a : ℕ) (b c : ℤ) (k : ℕ) → Parts (parabola a b c k)
+parabola_parts a b c k = sum (sum (product (number a) (squared_ticks k)) (product (part b) (number k))) (part c)
+
+rises_by : (a : ℕ) (b c : ℤ) (k : ℕ) → parabola a b c (k + 1) ≡ parabola a b c k +ℤ rise_after a b k
+rises_by a b c k =
+    same (parabola_parts a b c (k + 1)) (sum (parabola_parts a b c k) (sum (product (number a) (number (2 * k + 1))) (part b))) (omega arith)
+
+rises_less : (a : ℕ) (b : ℤ) (k m : ℕ) → k ≤ m → rise_after a b k ≤ℤ rise_after a b m
+rises_less a b k m before =
+    let odd : 2 * k + 1 ≤ 2 * m + 1 = omega arith in
+    let more = mul-le a (2 * k + 1) a (2 * m + 1) (omega arith) odd in
+    omega (arith, ints, more)
+
+pub falls_by : (a : ℕ) (b c : ℤ) (m : ℕ) → rise_after a b m <ℤ pos 0 → FallsTo (parabola a b c) (m + 1)
+falls_by a b c m falls k below =
+    let step = rises_by a b c k in
+    let less = rises_less a b k m (omega arith) in
+    omega (arith, ints, step, less, falls)
+
+pub rises_on : (a : ℕ) (b c : ℤ) (m n : ℕ) → pos 0 ≤ℤ rise_after a b m → RisesIn (parabola a b c) m n
+rises_on a b c m n rises k from below =
+    let step = rises_by a b c k in
+    let more = rises_less a b m k from in
+    omega (arith, ints, step, more, rises)
+
+-- where it falls and then rises it is least between, and at most as much as at one of its ends
+pub between_bounds : (f : ℕ → ℤ) (v last : ℕ) (most : ℤ) → FallsTo f v → RisesIn f v last → v ≤ last → f 0 ≤ℤ most → f last ≤ℤ most →
+    (k : ℕ) → k ≤ last → (f v ≤ℤ f k) × (f k ≤ℤ most)
+between_bounds f v last most fall rise inside first end k below =
+    elim (cases_lt k v) [
+      | inl before ↦
+          let down = falls f v fall 0 k (omega arith) (omega arith) in
+          let up = falls f v fall k v (omega arith) (omega arith) in
+          (up, omega (arith, ints, down, first))
+      | inr past ↦
+          let up = rises f v last rise v k (omega arith) past below in
+          let on = rises f v last rise k last past below (omega arith) in
+          (up, omega (arith, ints, on, end))
+    ]
+
+pub at_most_size : (z : ℤ) → z ≤ℤ pos (unsigned_abs z)
+at_most_size (pos n) = omega (arith, ints)
+at_most_size (negsuc n) = omega (arith, ints)

@@ -12,7 +12,7 @@ use Rattle.nearest.specs.Depth.{AreComeBy, count_to, depth}
 
 -- ---- counts
 
-count_to-cons : (x t : ℕ) (xs : List ℕ) → count_to (x ∷ xs) t ≡ cond (nat_le x t) 1 0 + count_to xs t
+pub count_to-cons : (x t : ℕ) (xs : List ℕ) → count_to (x ∷ xs) t ≡ cond (nat_le x t) 1 0 + count_to xs t
 count_to-cons x t xs = sum_by-cons (λ u. cond (nat_le u t) 1 0) x xs
 
 -- one stretch adds to the depth while it has begun and not ended

@@ -1,8 +1,8 @@
 -- Objects of a class and how they move, as seen from the object that is asked for.
-use Rattle.std.specs.Prelude.{◌≡◌, ℕ, ℤ, ◌-◌, ◌≤◌, nat_lt, Bool, ◌&&◌, Option, None, Some, is_some, option_and_then, IfSome, List, count_by, slice_index_or}
+use Rattle.std.specs.Prelude.{◌≡◌, ℕ, ℤ, ◌+◌, ◌<◌, ◌≤◌, ◌==◌, nat_lt, Bool, ◌&&◌, Option, None, is_some, option_and_then, IfSome, List, [], ◌∷◌, count_by, slice_index_or, ⊤}
+use Rattle.std.specs.List.{list_any}
 use Rattle.std.specs.Option.{option_copied}
 use Rattle.fixed_point.specs.declared.number.Point.{Point}
-use Rattle.tick_set.specs.declared.spans.Window.{Window}
 use Rattle.motion.specs.Timeline.{Epoch, state_at}
 use Rattle.motion.specs.Pieces.{AreSteadyCells}
 use Rattle.courses.specs.Places.{place_at, place_of}
@@ -10,9 +10,7 @@ use Rattle.courses.specs.declared.parts.Common.{Common}
 use Rattle.history.specs.History.{cells_at}
 use Rattle.object_store.specs.Contents.{Contents, history_of}
 use Rattle.nearness.specs.Nearest.{squared_between, stands_before}
-use Rattle.nearest.specs.Order.{separation_after}
 use Rattle.nearest.specs.declared.course.Course.{Course}
-use Rattle.nearest.specs.declared.squares.Separation.{Separation}
 
 -- the square of the distance of two objects with these timelines at a tick, None where one of them has no place
 abbrev pub squared_along : List Epoch → List Epoch → ℕ → Option ℤ
@@ -29,16 +27,25 @@ rank_along from courses o t = count_by (λ p. goes_before from p o t) courses
 abbrev pub is_near_along : List Epoch → List Course → ℕ → Course → ℕ → Bool
 is_near_along from courses k o t = is_some (squared_along from o.timeline.now t) && nat_lt (rank_along from courses o t) k
 
--- the separation tells the square of the distance at each tick of the window, by the ticks since the window's first
-abbrev pub TellsSquares : List Epoch → List Epoch → Window → Separation → Type 0
-TellsSquares from to w s = (t : ℕ) → w.lo ≤ t → t ≤ w.hi → squared_along from to t ≡ Some (separation_after s (t - w.lo))
-
-abbrev pub IsStraightFrom : List Epoch → Window → Course → Type 0
-IsStraightFrom from w c = IfSome c.straight (TellsSquares from c.timeline.now w)
+-- whether the object of an index is near, if it is among `some` of these
+abbrev pub index_near : List Epoch → List Course → ℕ → List Course → ℕ → ℕ → Bool
+index_near from courses k some i t = list_any (λ c. (c.index == i) && is_near_along from courses k c t) some
 
 -- the timeline of a course is that of its object in the store
 abbrev pub IsOfStore : Contents → Course → Type 0
 IsOfStore s c = (t : ℕ) → cells_at (history_of s) c.id t ≡ state_at c.timeline.now t
+
+-- ---- indexes
+
+-- the courses have the numbers from `first` on as their indexes
+abbrev pub AreNumbered : ℕ → List Course → Type 0
+AreNumbered first [] = ⊤
+AreNumbered first (c ∷ courses) = (c.index ≡ first) × AreNumbered (first + 1) courses
+
+-- their indexes ascend, from `least` on and below n
+abbrev pub AreAscending : ℕ → ℕ → List Course → Type 0
+AreAscending least n [] = ⊤
+AreAscending least n (c ∷ courses) = (least ≤ c.index) × ((c.index < n) × AreAscending (c.index + 1) n courses)
 
 -- ---- common parts
 

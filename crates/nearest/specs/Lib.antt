@@ -1,4 +1,6 @@
 pub mod Depth
 pub mod Order
 pub mod Courses
+pub mod Sights
+pub mod Found
 pub mod Rows

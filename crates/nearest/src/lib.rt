@@ -3,16 +3,27 @@
 //! No window is walked. Where two objects move along lines, the difference of the squares of their distances from a third
 //! is a parabola: so the ticks at which one stands before the other are one stretch, or all but one. Each object's
 //! stretches are swept once, from the first tick to the last: it is near while fewer than k of them are under way.
+//!
+//! The window is halved into slices of time for as long as many objects may be near in one. An object is left out of a
+//! slice if it stays farther away there than k others ever are. Where slices would cost more than all pairs of objects,
+//! the rest of the window is one slice.
 #![tactic(auto)]
 
+mod band;
 mod course;
+mod found;
 mod nearer;
 mod order;
 mod pairs;
+mod parabola;
 mod parts;
 mod placed;
 mod rows;
+mod sight;
+mod slice;
+mod slices;
 mod squares;
 mod sweep;
+mod thinning;
 
 pub use rows::{NearRow, nearest_rows};

@@ -1,9 +1,10 @@
 //! The difference of two separations, which is convex where it opens upwards.
 ghost use Rattle.std.specs.Prelude.{◌≡◌, ◌*◌, ◌^◌, ◌≤◌, ℕ, ◌-ℤ◌, unsigned_abs};
 
+use crate::parabola::parabola_at;
 use crate::squares::Separation;
 use convex::Convex;
-use exact::{minus, plus, times};
+use exact::minus;
 
 /// One separation less another, whose quadratic part is no greater: a parabola that opens upwards, or a line.
 #[derive(Clone, Copy)]
@@ -42,12 +43,7 @@ impl Convex for Difference {
     ghost reach = { λ _. LAST_TICK };
 
     fn at(&self, k: u32) -> i128 {
-        let ticks = i128::from(k);
-        let squared = times(ticks, ticks);
-        let bend = times(i128::from(self.quadratic), squared);
-        let line = times(self.linear, ticks);
-        let rise = plus(bend, line);
-        plus(rise, self.constant)
+        parabola_at(self.quadratic, self.linear, self.constant, k)
     }
 
     ghost bends = { λ d. parabola_bends d.quadratic d.linear d.constant };

@@ -2,12 +2,14 @@
 ghost use Rattle.std.specs.Prelude.{◌≡◌, ◌+◌, ◌&&◌, ℕ, All, OnOk, count_by, option_to_list};
 ghost use Rattle.linear_crossing.specs.Zones.{spans_of};
 ghost use Rattle.tick_set.specs.Ticks.{within};
-ghost use Rattle.nearest.specs.Courses.{IsStraightFrom, goes_before};
+ghost use Rattle.nearest.specs.Courses.{goes_before};
 ghost use Rattle.nearest.specs.Depth.{depth, one_if};
+ghost use Rattle.nearest.specs.Sights.{IsSeenFrom};
 
 use crate::course::Course;
 use crate::nearer::nearer;
 use crate::parts::before_in;
+use crate::sight::Sight;
 use courses::common_from;
 use linear_crossing::Pair;
 use motion::Timeline;
@@ -23,8 +25,8 @@ pub fn gather(
     target: &Timeline,
     w: Window,
 ) -> Result<(), AllocError>
-    requires straight { All (IsStraightFrom target.now w) courses.now }
-    requires o_straight { IsStraightFrom target.now w o.now }
+    requires seen { All (IsSeenFrom target.now w) courses.now }
+    requires o_seen { IsSeenFrom target.now w o.now }
     ensures { OnOk result ((t : ℕ) → depth stretches.new.items t ≡ depth stretches.old.items t
         + count_by (λ p. within w.lo w.hi t && goes_before target.now p o.now t) courses.now) }
 {
@@ -42,14 +44,15 @@ fn add_before(
     target: &Timeline,
     w: Window,
 ) -> Result<(), AllocError>
-    requires p_straight { IsStraightFrom target.now w p.now }
-    requires o_straight { IsStraightFrom target.now w o.now }
+    requires p_seen { IsSeenFrom target.now w p.now }
+    requires o_seen { IsSeenFrom target.now w o.now }
     ensures { OnOk result ((t : ℕ) → depth stretches.new.items t ≡ depth stretches.old.items t
         + one_if (within w.lo w.hi t && goes_before target.now p.now o.now t)) }
 {
-    if let Some(first) = &p.straight {
-        if let Some(second) = &o.straight {
-            return add(stretches, &nearer(first, second, p.id < o.id, w));
+    if let Sight::Straight(first) = &p.sight {
+        if let Sight::Straight(second) = &o.sight {
+            let found = nearer(&first.separation, &second.separation, p.id < o.id, w);
+            return add(stretches, &found);
         }
     }
     add_by_parts(stretches, p, o, target, w)

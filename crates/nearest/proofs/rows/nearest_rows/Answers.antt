@@ -1,7 +1,11 @@
-use Rattle.std.proofs.Common.{ap, ◌∙◌}
+use Rattle.std.proofs.Common.{sym, ap, subst, ◌∙◌}
+use Rattle.nearest.specs.Courses.{AreNumbered}
 use Rattle.nearest.specs.Rows.{rows_along}
 use Rattle.nearest.proofs.RowLemmas.{rows_near}
 use Rattle.nearest.proofs.rows.nearest_rows.Goals as goal
+
+pub rows_of-requires : goal.rows_of-requires
+rows_of-requires g c = subst (AreNumbered 0) (sym c.deref.ensures.value) c.in_ok-courses.ensures.numbered
 
 pub returns-clause-rows : goal.returns-clause-rows
 returns-clause-rows g c =

@@ -1,0 +1,88 @@
+//! The ticks of one slice of time at which objects are near.
+ghost use Rattle.std.specs.Prelude.{◌≡◌, ◌+◌, ◌&&◌, ℕ, nat_lt, All, IfOk, OnOk, length};
+ghost use Rattle.tick_set.specs.Runs.{IsRuns, spans_have};
+ghost use Rattle.tick_set.specs.Ticks.{within};
+ghost use Rattle.nearest.specs.Courses.{is_near_along, rank_along};
+ghost use Rattle.nearest.specs.Found.{AreReady, HaveMore};
+ghost use Rattle.nearest.specs.Sights.{IsSeenFrom};
+
+use crate::course::Course;
+use crate::found::append_at;
+use crate::pairs::gather;
+use crate::placed::placed_runs;
+use crate::sweep::ticks_below;
+use interval_set::IntervalSet;
+use motion::Timeline;
+use std::alloc::{AllocError, Global};
+use tick_set::{Runs, Span, TickSet, Window};
+
+/// Adds the ticks of the slice at which each of the courses' objects is near among them, to the runs of its index.
+pub fn add_near(
+    found: &mut Vec<Runs>,
+    alloc: Global,
+    courses: &[Course],
+    target: &Timeline,
+    k: u32,
+    slice: Window,
+) -> Result<(), AllocError>
+    requires { AreReady target.now slice courses.now found.old.items }
+    ensures length { length found.new.items ≡ length found.old.items }
+    ensures found { OnOk result
+        (HaveMore target.now courses.now k slice.lo (slice.hi + 1) found.old.items found.new.items) }
+{
+    let mut stretches = Vec::new(alloc);
+    'objects: for o in courses {
+        let ticks = near_ticks(alloc, &mut stretches, courses, o, target, k, slice)?;
+        append_at(found, o.index, ticks.spans())?;
+    }
+    Ok(())
+}
+
+// The ticks of the slice at which one of the objects is near: it has a place, as the object of the timeline `target` has,
+// and fewer than `k` stand before it.
+fn near_ticks(
+    alloc: Global,
+    stretches: &mut Vec<Span>,
+    courses: &[Course],
+    o: &Course,
+    target: &Timeline,
+    k: u32,
+    slice: Window,
+) -> Result<IntervalSet, AllocError>
+    requires seen { All (IsSeenFrom target.now slice) courses.now }
+    requires o_seen { IsSeenFrom target.now slice o.now }
+    ensures { IfOk result (λ ticks. (t : ℕ) → spans_have ticks t
+        ≡ (within slice.lo slice.hi t && is_near_along target.now courses.now k o.now t)) }
+{
+    let below = few_before(alloc, stretches, courses, o, target, k, slice)?;
+    let few = IntervalSet::from_runs(below);
+    if o.sight.is_straight() {
+        return Ok(few);
+    }
+    let there = placed_runs(alloc, target, o.timeline, slice)?;
+    let placed = IntervalSet::from_runs(there);
+    let both = few.meet(alloc, &placed)?;
+    Ok(both)
+}
+
+// The ticks of the slice at which fewer than `k` of the objects stand before one of them. The stretches are for the
+// memory that they have.
+fn few_before(
+    alloc: Global,
+    stretches: &mut Vec<Span>,
+    courses: &[Course],
+    o: &Course,
+    target: &Timeline,
+    k: u32,
+    slice: Window,
+) -> Result<Vec<Span>, AllocError>
+    requires seen { All (IsSeenFrom target.now slice) courses.now }
+    requires o_seen { IsSeenFrom target.now slice o.now }
+    ensures { IfOk result (λ runs. IsRuns (λ t. within slice.lo slice.hi t
+        && nat_lt (rank_along target.now courses.now o.now t) k) runs.items) }
+{
+    stretches.clear();
+    gather(stretches, courses, o, target, slice)?;
+    let runs = ticks_below(alloc, stretches, k, slice)?;
+    Ok(runs)
+}

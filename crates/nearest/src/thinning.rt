@@ -1,0 +1,148 @@
+//! The objects that suffice in a slice of time.
+ghost use Rattle.std.specs.Prelude.{◌≡◌, ◌+◌, ◌≤◌, ℕ, pos, int_le, All, IfOk, IfSome, OnOk, count_by, map};
+ghost use Rattle.std.specs.List.{filter};
+ghost use Rattle.std.specs.List.Sorted.{IsNonDecreasing};
+ghost use Rattle.nearest.specs.Courses.{AreAscending};
+ghost use Rattle.nearest.specs.Depth.{count_to, one_if};
+ghost use Rattle.nearest.specs.Sights.{AreEnough, IsSeenFrom, body_of, is_kept, is_within};
+
+use crate::course::Course;
+use crate::sight::{Sight, sight_of};
+use motion::Timeline;
+use std::alloc::{AllocError, Global};
+use tick_set::Window;
+
+/// Those of the courses that suffice to tell who is near at the ticks of the slice, with what is seen of each there. Left
+/// out are those that are absent, and those that stay farther away than `k` of the others ever are.
+pub fn thinned<'a>(
+    alloc: Global,
+    courses: &[Course<'a>],
+    target: &Timeline,
+    k: u32,
+    slice: Window,
+) -> Result<Vec<Course<'a>>, AllocError>
+    ensures seen { IfOk result (λ few. All (IsSeenFrom target.now slice) few.items) }
+    ensures ascending { IfOk result (λ few. (n : ℕ) → AreAscending 0 n courses.now → AreAscending 0 n few.items) }
+    ensures enough { IfOk result (λ few. AreEnough target.now k slice few.items courses.now) }
+{
+    let seen = seen_in(alloc, courses, target, slice)?;
+    let bound = bound_of(alloc, &seen, k)?;
+    let few = kept(alloc, &seen, bound)?;
+    Ok(few)
+}
+
+// The courses with what is seen of each in the slice.
+fn seen_in<'a>(
+    alloc: Global,
+    courses: &[Course<'a>],
+    target: &Timeline,
+    slice: Window,
+) -> Result<Vec<Course<'a>>, AllocError>
+    ensures bodies { IfOk result (λ seen. map body_of seen.items ≡ map body_of courses.now) }
+    ensures seen { IfOk result (λ seen. All (IsSeenFrom target.now slice) seen.items) }
+{
+    let mut seen = Vec::with_capacity(alloc, courses.len())?;
+    'courses: for c in courses {
+        let now = sight_of(target, c.timeline, slice);
+        seen.push(Course {
+            id: c.id,
+            index: c.index,
+            timeline: c.timeline,
+            sight: now,
+        })?;
+    }
+    Ok(seen)
+}
+
+// A square that `k` of the objects never pass. None tells nothing.
+fn bound_of(alloc: Global, seen: &[Course], k: u32) -> Result<Option<u128>, AllocError>
+    ensures { IfOk result (λ bound. IfSome bound (λ m. k ≤ count_by (λ c. is_within m c.sight) seen.now)) }
+{
+    let found = mosts_of(alloc, seen)?;
+    let mosts = ascending(found);
+    Ok(least_of(&mosts, k))
+}
+
+// The squares that the objects never pass, as far as they are known.
+fn mosts_of(alloc: Global, seen: &[Course]) -> Result<Vec<u128>, AllocError>
+    ensures { IfOk result (λ mosts. (m : ℕ) → count_to mosts.items m ≡ count_by (λ c. is_within m c.sight) seen.now) }
+{
+    let mut mosts = Vec::with_capacity(alloc, seen.len())?;
+    'courses: for c in seen {
+        add_most(&mut mosts, &c.sight)?;
+    }
+    Ok(mosts)
+}
+
+fn add_most(mosts: &mut Vec<u128>, sight: &Sight) -> Result<(), AllocError>
+    ensures { OnOk result ((m : ℕ) → count_to mosts.new.items m
+        ≡ count_to mosts.old.items m + one_if (is_within m sight.now)) }
+{
+    match sight {
+        Sight::Straight(band) => {
+            mosts.push(band.most)?;
+            Ok(())
+        }
+        Sight::Absent => Ok(()),
+        Sight::Unknown => Ok(()),
+    }
+}
+
+// The same numbers, ascending.
+fn ascending(numbers: Vec<u128>) -> Vec<u128>
+    ensures sorted { IsNonDecreasing result.items }
+    ensures counts { (m : ℕ) → count_to result.items m ≡ count_to numbers.items m }
+{
+    let mut numbers = numbers;
+    numbers.sort_unstable();
+    numbers
+}
+
+// The number that as many as `k` are at most. None where there are fewer than `k`, or `k` is 0.
+fn least_of(ascending: &[u128], k: u32) -> Option<u128>
+    requires { IsNonDecreasing ascending.now }
+    ensures { IfSome result (λ m. k ≤ count_to ascending.now m) }
+{
+    let count = k as usize;
+    if count == 0 || ascending.len() < count {
+        return None;
+    }
+    Some(ascending[count - 1])
+}
+
+// The courses without those that are absent or stay past the bound.
+fn kept<'a>(
+    alloc: Global,
+    seen: &[Course<'a>],
+    bound: Option<u128>,
+) -> Result<Vec<Course<'a>>, AllocError>
+    ensures { IfOk result (λ few. few.items ≡ filter (λ c. is_kept bound c.sight) seen.now) }
+{
+    let mut few = Vec::new(alloc);
+    'courses: for c in seen {
+        if is_kept(&c.sight, bound) {
+            few.push(*c)?;
+        }
+    }
+    Ok(few)
+}
+
+// Whether an object may come within the bound.
+fn is_kept(sight: &Sight, bound: Option<u128>) -> bool
+    ensures { result ≡ is_kept bound sight.now }
+{
+    match sight {
+        Sight::Straight(band) => match bound {
+            Some(most) => is_at_most(band.least, most),
+            None => true,
+        },
+        Sight::Absent => false,
+        Sight::Unknown => true,
+    }
+}
+
+fn is_at_most(least: i128, most: u128) -> bool
+    ensures { result ≡ int_le least (pos most) }
+{
+    least <= 0 || least.unsigned_abs() <= most
+}
