@@ -1,12 +1,27 @@
--- For the crates above: the squares of the least and of the greatest distance of objects that move along lines.
-use Rattle.std.proofs.Common.{◌≡◌, ℕ, ◌+◌, ◌-◌, ◌*◌, ◌≤◌, ℤ, pos, negsuc, ◌+ℤ◌, ◌-ℤ◌, ◌*ℤ◌, ◌≤ℤ◌, unsigned_abs, inl, inr, subst, arith}
-use Rattle.std.proofs.lemmas.Bool.{cases_lt}
+-- For the crates above: the squares of the least and of the greatest distance of objects that move along lines, and what an
+-- atom sees.
+use Rattle.std.proofs.Common.{◌≡◌, ℕ, ◌+◌, ◌-◌, ◌*◌, ◌≤◌, Bool, true, false, not, ℤ, pos, negsuc, ◌+ℤ◌, ◌-ℤ◌, ◌*ℤ◌, ◌≤ℤ◌, unsigned_abs, ap, inl, inr, subst, arith}
+use Rattle.std.specs.Prelude.{◌==◌, if◌then◌else◌}
+use Rattle.std.specs.Option.{option_map_or}
+use Rattle.std.proofs.lemmas.Bool.{cases_lt, or_left, or_right}
+use Rattle.std.proofs.lemmas.Bool.Decides.{nat_tests}
 use Rattle.std.proofs.lemmas.Int.{ints}
 use Rattle.std.proofs.lemmas.Nat.{mul-le}
 use Rattle.exact.proofs.Ring.{part, number, sum, product, same}
 use Rattle.fixed_point.specs.declared.number.Point.{Point}
 use Rattle.geometry.specs.Plane.{square}
-use Rattle.worlds.specs.Apart.{farthest_square, least_apart, most_apart, nearest_square}
+use Rattle.formula.specs.declared.tree.RAtom.{RAtom}
+use Rattle.formula.specs.declared.tree.RAtom.TheVariants as atoms
+use Rattle.formula.specs.declared.value.Env.{Env}
+use Rattle.formula.specs.Variables.{atom_has}
+use Rattle.history.specs.History.{cells_at}
+use Rattle.history.specs.World.{World}
+use Rattle.meaning.specs.Atom.{position_in}
+use Rattle.meaning.specs.Trace.{trace_of}
+use Rattle.meaning.proofs.LocalityLemmas.{atom_same}
+use Rattle.worlds.specs.Apart.{farthest_square, least_apart, most_apart, nearest_square, possibly_compares, surely_compares}
+use Rattle.worlds.specs.Blurred.{blurred, distance_holds_by, is_in_region_by, possibly_holds, surely_holds}
+use Rattle.worlds.specs.Inside.{is_possibly_inside, is_surely_inside}
 use Rattle.worlds.proofs.ApartLemmas.{squares_rise}
 
 -- ---- they are convex
@@ -92,3 +107,44 @@ nearest_at_most error p q =
     let y = q.y -ℤ p.y in
     rise_on_both (square (pos (least_apart error x))) (square (pos (most_apart error x))) (square (pos (least_apart error y))) (square (pos (most_apart error y)))
     (squares_rise (least_apart error x) (most_apart error x) (omega arith)) (squares_rise (least_apart error y) (most_apart error y) (omega arith))
+
+-- ---- what an atom sees
+
+own : (v : ℕ) → (v == v) ≡ true
+own v = grind (arith, nat_tests)
+
+surely_sees : (error : ℕ) (w : World) (b c : ℕ → ℕ) (a : RAtom) → ((v : ℕ) → atom_has v a ≡ true → b v ≡ c v) → (x : Env) (t : ℕ)
+    → surely_holds error w.regions (trace_of w.history b) b a x t ≡ surely_holds error w.regions (trace_of w.history c) c a x t
+surely_sees error w b c (atoms.Compare q op r) same x t =
+    atom_same w.regions (trace_of w.history b) (trace_of w.history c) (atoms.Compare q op r) x t (λ v has. ap (λ id. cells_at w.history id t) (same v has))
+surely_sees error w b c (atoms.Inside v n) same x t =
+    ap (λ id. option_map_or (is_in_region_by (is_surely_inside error) w.regions n) (position_in t (cells_at w.history id t)) false) (same v (own v))
+surely_sees error w b c (atoms.Outside v n) same x t =
+    ap (λ id. option_map_or (λ p. not (is_in_region_by (is_possibly_inside error) w.regions n p)) (position_in t (cells_at w.history id t)) false) (same v (own v))
+surely_sees error w b c (atoms.Dist v u op k) same x t =
+    let first = same v (or_left (v == v) (u == v) (own v)) in
+    let second = same u (or_right (v == u) (u == u) (own u)) in
+    λ i. distance_holds_by surely_compares (if first i == second i then 0 else error) op k (position_in t (cells_at w.history (first i) t)) (position_in t (cells_at w.history (second i) t))
+surely_sees error w b c (atoms.Sphere r vs) same x t =
+    atom_same w.regions (trace_of w.history b) (trace_of w.history c) (atoms.Sphere r vs) x t (λ v has. ap (λ id. cells_at w.history id t) (same v has))
+
+possibly_sees : (error : ℕ) (w : World) (b c : ℕ → ℕ) (a : RAtom) → ((v : ℕ) → atom_has v a ≡ true → b v ≡ c v) → (x : Env) (t : ℕ)
+    → possibly_holds error w.regions (trace_of w.history b) b a x t ≡ possibly_holds error w.regions (trace_of w.history c) c a x t
+possibly_sees error w b c (atoms.Compare q op r) same x t =
+    atom_same w.regions (trace_of w.history b) (trace_of w.history c) (atoms.Compare q op r) x t (λ v has. ap (λ id. cells_at w.history id t) (same v has))
+possibly_sees error w b c (atoms.Inside v n) same x t =
+    ap (λ id. option_map_or (is_in_region_by (is_possibly_inside error) w.regions n) (position_in t (cells_at w.history id t)) false) (same v (own v))
+possibly_sees error w b c (atoms.Outside v n) same x t =
+    ap (λ id. option_map_or (λ p. not (is_in_region_by (is_surely_inside error) w.regions n p)) (position_in t (cells_at w.history id t)) false) (same v (own v))
+possibly_sees error w b c (atoms.Dist v u op k) same x t =
+    let first = same v (or_left (v == v) (u == v) (own v)) in
+    let second = same u (or_right (v == u) (u == u) (own u)) in
+    λ i. distance_holds_by possibly_compares (if first i == second i then 0 else error) op k (position_in t (cells_at w.history (first i) t)) (position_in t (cells_at w.history (second i) t))
+possibly_sees error w b c (atoms.Sphere r vs) same x t =
+    atom_same w.regions (trace_of w.history b) (trace_of w.history c) (atoms.Sphere r vs) x t (λ v has. ap (λ id. cells_at w.history id t) (same v has))
+
+-- an atom depends on the objects of its own variables alone
+pub blurred_sees : (sure : Bool) (error : ℕ) (w : World) (b c : ℕ → ℕ) (a : RAtom) → ((v : ℕ) → atom_has v a ≡ true → b v ≡ c v) → (x : Env) (t : ℕ)
+    → (blurred sure error w b).atom a x t ≡ (blurred sure error w c).atom a x t
+blurred_sees true error w = surely_sees error w
+blurred_sees false error w = possibly_sees error w

@@ -1,0 +1,9 @@
+mod AddedLemmas
+mod ComparedLemmas
+mod PlaceLemmas
+mod BoundLemmas
+mod PartLemmas
+mod PlaceStateLemmas
+mod ReadLemmas
+mod AskLemmas
+mod QueryLemmas

@@ -1,0 +1,26 @@
+-- Where an object is, by its cells and by its timeline.
+use Rattle.std.proofs.Common.{◌≡◌, ℕ, Option, None, Some, List, refl, sym, ap, ◌∙◌}
+use Rattle.std.specs.Prelude.{option_and_then, slice_get, unwrap_or, []}
+use Rattle.motion.specs.Timeline.{Epoch, epoch_at, state_at}
+use Rattle.motion.specs.declared.cell.Cell.{Cell}
+use Rattle.motion.specs.declared.cell.Cell.TheVariants as cells
+use Rattle.courses.specs.Places as moving
+use Rattle.meaning.specs.Atom as meant
+
+same_dynamic : (cell : Option Cell) → option_and_then meant.dynamic_of cell ≡ option_and_then moving.dynamic_of cell
+same_dynamic None = refl
+same_dynamic (Some (cells.Num n)) = refl
+same_dynamic (Some (cells.Text s)) = refl
+same_dynamic (Some (cells.Dyn v)) = refl
+
+dynamic_there : (there : Option (List Cell)) (a : ℕ) → meant.dynamic_in there a ≡ option_and_then moving.dynamic_of (slice_get (unwrap_or there []) a)
+dynamic_there None a = refl
+dynamic_there (Some cells) a = same_dynamic (slice_get cells a)
+
+place_by_epoch : (epoch : Option Epoch) (t : ℕ) → meant.position_in t (option_and_then (λ p. p.cells) epoch) ≡ option_and_then (λ p. moving.place_of p t) epoch
+place_by_epoch None t = refl
+place_by_epoch (Some p) t = λ i. moving.place_by (dynamic_there p.cells 0 i) (dynamic_there p.cells 1 i) t
+
+-- the place by a timeline is that by the cells that it tells
+pub place_by_cells : (epochs : List Epoch) (cells : Option (List Cell)) (t : ℕ) → cells ≡ state_at epochs t → moving.place_at epochs t ≡ meant.position_in t cells
+place_by_cells epochs cells t is = sym (ap (meant.position_in t) is ∙ place_by_epoch (epoch_at epochs t) t)

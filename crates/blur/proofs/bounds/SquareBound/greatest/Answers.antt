@@ -1,0 +1,7 @@
+use Rattle.std.proofs.Common.{◌∙◌, arith}
+use Rattle.linear_crossing.specs.Moving.{position_after}
+use Rattle.blur.proofs.BoundLemmas.{most_is}
+use Rattle.blur.proofs.bounds.SquareBound.greatest.Goals as goal
+
+pub returns : goal.returns
+returns c = λ k. c.between.ensures k ∙ most_is c.args.error _ (position_after c.args.from.now k) (position_after c.args.to.now k) (omega arith)

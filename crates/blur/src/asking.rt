@@ -1,0 +1,69 @@
+//! Queries over a store and its regions, where positions may be off.
+ghost use Rattle.std.specs.Prelude.{◌≡◌, ◌≤◌, ◌+◌, ◌-◌, ℕ, true, false, length, IfOk, List};
+ghost use Rattle.answers.specs.Objects.{AreOfItsClasses, IsOfAcceptedWrites};
+ghost use Rattle.evaluator.specs.Rows.{AreRowsWhere};
+ghost use Rattle.formula.specs.Resolved.{IsResolved};
+ghost use Rattle.formula.specs.Tree.{query_view};
+ghost use Rattle.formula_shape.specs.Sizes.{has_not};
+ghost use Rattle.meaning.specs.Fits.{FitsItsClasses};
+ghost use Rattle.meaning.specs.Reads.{query_reads};
+ghost use Rattle.object_store.specs.Contents.{catalog_of};
+ghost use Rattle.relation.specs.Frames.{IsIn, size_of};
+ghost use Rattle.relation.specs.Rows.{has};
+ghost use Rattle.tick_set.specs.Runs.{spans_have};
+ghost use Rattle.tick_set.specs.Ticks.{between, within};
+ghost use Rattle.tick_set.specs.declared.spans.TheConstants.{SPAN_LIMIT};
+ghost use Rattle.worlds.specs.Moved.{Move, is_world};
+ghost use Rattle.blur.specs.Answered.{HoldsInEachWorld, holds_blurred, holds_moved, told_in};
+
+use crate::objects::BlurredWorld;
+use answers::fitting_queries_can_be_asked;
+use evaluator::full_rows;
+use formula::RQuery;
+use interval_set::IntervalSet;
+use relation::{Domains, Relation};
+use std::alloc::{AllocError, Global};
+use std::sync::ledger::Ledger;
+use steps::Steps;
+use tick_set::Window;
+use worlds::worlds_lie_between;
+
+/// The rows of a query over all its variables: for each binding of objects of the domains the ticks of the window at which
+/// all its objects are there and the formula holds, surely or possibly, where nothing after the window's last tick counts.
+/// It fails only where memory is out.
+///
+/// The query is right by number and fits the classes and the regions, and the window has at most 100,000,000 ticks after
+/// its first. `reads` counts the looks at timelines.
+pub fn blurred<'d, L: Ledger, M: Ledger>(
+    alloc: Global,
+    q: &RQuery,
+    d: &'d Domains,
+    world: &BlurredWorld,
+    w: Window,
+    reads: &mut Steps<L>,
+    probes: &mut Steps<M>,
+) -> Result<Relation<'d, IntervalSet>, AllocError>
+    requires accepted { IsOfAcceptedWrites world.now.store.now }
+    requires resolved { IsResolved (query_view q.now) }
+    requires fits { FitsItsClasses (told_in world.now) (query_view q.now) }
+    requires domains { AreOfItsClasses (catalog_of world.now.store.now) (query_view q.now) d.now }
+    requires length { w.hi - w.lo ≤ SPAN_LIMIT }
+    ensures rows { IfOk result (AreRowsWhere spans_have d.now w.lo w.hi (between 0 (length q.now.classes))
+        (holds_blurred world.now (query_view q.now) w.hi)) }
+
+    // Without a NOT, what surely holds, holds in each world, and what holds in some world, possibly holds.
+    ensures surely { world.now.blur.sure ≡ true → has_not (query_view q.now).formula ≡ false
+        → IfOk result (λ r. (b : ℕ → ℕ) → IsIn d.now b → (t : ℕ) → has spans_have r b t ≡ true
+        → HoldsInEachWorld world.now (query_view q.now) w.hi b t) }
+    ensures possibly { world.now.blur.sure ≡ false → has_not (query_view q.now).formula ≡ false
+        → IfOk result (λ r. (b : ℕ → ℕ) → IsIn d.now b → (t : ℕ) → within w.lo w.hi t ≡ true
+        → (moves : List Move) → is_world world.now.blur.error moves ≡ true
+        → holds_moved moves world.now (query_view q.now) w.hi b t ≡ true → has spans_have r b t ≡ true) }
+    ensures least { reads.old ≤ reads.new }
+    ensures most { reads.new ≤ reads.old + query_reads (size_of d.now) (w.hi + 1 - w.lo) (query_view q.now) }
+{
+    fitting_queries_can_be_asked();
+    worlds_lie_between();
+    let rows = full_rows(alloc, world, q, d, w, reads, probes)?;
+    Ok(rows)
+}

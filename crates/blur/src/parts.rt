@@ -1,0 +1,149 @@
+//! The ticks of a window at which objects that may be off are in a region, or so far apart, part by part of their
+//! timelines.
+ghost use Rattle.std.specs.Prelude.{◌≡◌, ◌-◌, ◌≤◌, ◌&&◌, ℕ, false, option_map, IfOk, IfSome, OnOk};
+ghost use Rattle.std.specs.Option.{option_map_or};
+ghost use Rattle.courses.specs.Places.{place_at};
+ghost use Rattle.linear_crossing.specs.Moving.{IsInReach, position_after};
+ghost use Rattle.tick_set.specs.Runs.{IsRuns};
+ghost use Rattle.tick_set.specs.Ticks.{within};
+ghost use Rattle.worlds.specs.Blurred.{distance_holds_by};
+ghost use Rattle.blur.specs.Added.{Adds, AreBefore};
+ghost use Rattle.blur.specs.Asked.{comparison, is_on_side};
+ghost use Rattle.blur.specs.Parts.{IsSteadyPart, place_in};
+
+use crate::distances::add_apart;
+use crate::places::{add_inside, add_outside};
+use crate::question::Blur;
+use case_table::Op;
+use courses::{Common, common_from, line_from};
+use fixed_point::Fix;
+use linear_crossing::Line;
+use motion::Timeline;
+use polygon::Regions;
+use std::alloc::{AllocError, Global};
+use tick_set::{Runs, Span, Window};
+
+/// The runs of the ticks of the window at which the object of a timeline is in the region of a number, or has a place that
+/// isn't in it, surely or possibly.
+pub fn region_runs(
+    alloc: Global,
+    timeline: &Timeline,
+    inside: bool,
+    n: u32,
+    blur: Blur,
+    regions: &Regions,
+    w: Window,
+) -> Result<Vec<Span>, AllocError>
+    ensures { IfOk result (λ runs. IsRuns (λ t. within w.lo w.hi t
+        && option_map_or (is_on_side inside blur.sure blur.error regions.now n) (place_at timeline.now t) false) runs.items) }
+{
+    let timelines = [timeline];
+    let mut runs = Runs::new(alloc);
+    let mut at = w.lo;
+    'joining: while at <= w.hi {
+        let common = common_from(&timelines, at, w.hi);
+        add_region_part(&mut runs, &common, inside, n, blur, regions)?;
+        at = common.span.hi + 1;
+    }
+    Ok(runs.finish())
+}
+
+/// The runs of the ticks of the window at which the objects of two timelines, which are different objects, have places whose
+/// distance compares so with a number of thousandths, surely or possibly.
+pub fn distance_runs(
+    alloc: Global,
+    from: &Timeline,
+    to: &Timeline,
+    op: Op,
+    c: Fix,
+    blur: Blur,
+    w: Window,
+) -> Result<Vec<Span>, AllocError>
+    ensures { IfOk result (λ runs. IsRuns (λ t. within w.lo w.hi t
+        && distance_holds_by (comparison blur.sure) blur.error op c (place_at from.now t) (place_at to.now t)) runs.items) }
+{
+    let timelines = [from, to];
+    let mut runs = Runs::new(alloc);
+    let mut at = w.lo;
+    'joining: while at <= w.hi {
+        let common = common_from(&timelines, at, w.hi);
+        add_distance_part(&mut runs, &common, op, c, blur)?;
+        at = common.span.hi + 1;
+    }
+    Ok(runs.finish())
+}
+
+// Adds those of one part, in which the object of the first timeline moves along a line or has no place.
+fn add_region_part(
+    runs: &mut Runs,
+    common: &Common,
+    inside: bool,
+    n: u32,
+    blur: Blur,
+    regions: &Regions,
+) -> Result<(), AllocError>
+    requires steady { IsSteadyPart common.now }
+    requires before { AreBefore common.now.span.lo runs.old }
+    ensures { OnOk result (Adds (λ t. within common.now.span.lo common.now.span.hi t
+        && option_map_or (is_on_side inside blur.sure blur.error regions.now n) (place_in common.now 0 t) false)
+        runs.old runs.new) }
+{
+    match line_in(common, 0) {
+        Some(line) => add_side(runs, &line, inside, n, blur, regions, common.span.window()),
+        None => Ok(()),
+    }
+}
+
+// Adds those of a window in which the object moves along a line.
+fn add_side(
+    runs: &mut Runs,
+    line: &Line,
+    inside: bool,
+    n: u32,
+    blur: Blur,
+    regions: &Regions,
+    w: Window,
+) -> Result<(), AllocError>
+    requires { AreBefore w.lo runs.old }
+    ensures { OnOk result (Adds (λ t. within w.lo w.hi t
+        && is_on_side inside blur.sure blur.error regions.now n (position_after line.now (t - w.lo))) runs.old runs.new) }
+{
+    if inside {
+        add_inside(runs, line, n, blur, regions, w)
+    } else {
+        add_outside(runs, line, n, blur, regions, w)
+    }
+}
+
+// Adds the ticks of one part, in which the objects of the first two timelines move along lines or have no place.
+fn add_distance_part(
+    runs: &mut Runs,
+    common: &Common,
+    op: Op,
+    c: Fix,
+    blur: Blur,
+) -> Result<(), AllocError>
+    requires steady { IsSteadyPart common.now }
+    requires before { AreBefore common.now.span.lo runs.old }
+    ensures { OnOk result (Adds (λ t. within common.now.span.lo common.now.span.hi t
+        && distance_holds_by (comparison blur.sure) blur.error op c (place_in common.now 0 t) (place_in common.now 1 t))
+        runs.old runs.new) }
+{
+    match line_in(common, 0) {
+        Some(from) => match line_in(common, 1) {
+            Some(to) => add_apart(runs, &from, &to, op, c, blur, common.span.window()),
+            None => Ok(()),
+        },
+        None => Ok(()),
+    }
+}
+
+// The line along which the object of the timeline of an index moves in the part. None where it has no place.
+fn line_in(common: &Common, index: usize) -> Option<Line>
+    requires { IsSteadyPart common.now }
+    ensures reach { IfSome result IsInReach }
+    ensures places { (t : ℕ) → common.now.span.lo ≤ t → t ≤ common.now.span.hi
+        → place_in common.now index t ≡ option_map (λ l. position_after l (t - common.now.span.lo)) result }
+{
+    line_from(common.epoch(index)?, common.span)
+}

@@ -1,0 +1,137 @@
+//! What a store and its regions tell of atoms, of terms and of the presence of objects, where positions may be off.
+ghost use Rattle.std.specs.Prelude.{◌≡◌, ◌≤◌, ◌+◌, ◌<◌, ◌&&◌, ℕ, IfOk, is_some, length, slice_index};
+ghost use Rattle.std.proofs.Common.{ap};
+ghost use Rattle.atoms.specs.Asked.{CanAskAtom, CanAskTerm, world_in};
+ghost use Rattle.history.specs.History.{cells_at};
+ghost use Rattle.meaning.proofs.LocalityLemmas.{term_same};
+ghost use Rattle.meaning.specs.Reads.{atom_variables};
+ghost use Rattle.meaning.specs.Trace.{trace_of};
+ghost use Rattle.object_store.specs.Contents.{history_of};
+ghost use Rattle.tick_set.specs.Runs.{spans_have};
+ghost use Rattle.tick_set.specs.Ticks.{within};
+ghost use Rattle.worlds.proofs.CallerLemmas.{blurred_sees};
+ghost use Rattle.blur.specs.World.{blurred_by};
+
+use crate::objects::{BlurredWorld, distance_ticks, region_ticks};
+use atoms::{absence, atom_ticks, value_runs};
+use formula::{Binding, Env, RAtom, RTerm};
+use interpreting::{Interpreter, ValueRun};
+use interval_set::IntervalSet;
+use object_store::ObjectId;
+use std::alloc::{AllocError, Global};
+use std::sync::ledger::Ledger;
+use steps::Steps;
+use tick_set::Window;
+
+impl Interpreter<IntervalSet> for BlurredWorld<'_> {
+    ghost interpretation = { λ x. blurred_by x.blur x.store.now x.regions.now };
+
+    ghost present = { λ x id t. is_some (cells_at (history_of x.store.now) id t) };
+
+    ghost atom_fits = { λ x lo hi b a env. CanAskAtom x.store.now lo hi b a };
+
+    ghost term_fits = { λ x lo hi b q env. CanAskTerm x.store.now lo hi b q env };
+
+    ghost object_fits = { λ x lo hi id. id < length x.store.now.objects };
+
+    fn atom<L: Ledger, M: Ledger>(
+        &self,
+        alloc: Global,
+        atom: &RAtom,
+        binding: &Binding,
+        env: &Env,
+        w: Window,
+        reads: &mut Steps<L>,
+        probes: &mut Steps<M>,
+    ) -> Result<IntervalSet, AllocError> {
+        blurred_ticks(alloc, atom, binding, env, self, w, reads, probes)
+    }
+
+    fn runs<L: Ledger>(
+        &self,
+        alloc: Global,
+        term: &RTerm,
+        binding: &Binding,
+        env: &Env,
+        w: Window,
+        reads: &mut Steps<L>,
+    ) -> Result<Vec<ValueRun>, AllocError> {
+        let runs = value_runs(alloc, term, binding, env, self.store, w, reads)?;
+        Ok(runs)
+    }
+
+    fn absence<L: Ledger>(
+        &self,
+        alloc: Global,
+        id: u32,
+        w: Window,
+        reads: &mut Steps<L>,
+    ) -> Result<IntervalSet, AllocError> {
+        let ticks = absence(alloc, id, self.store, w, reads)?;
+        Ok(ticks)
+    }
+
+    ghost atom_sees = { λ x b c a same env t. blurred_sees x.blur.sure x.blur.error
+        (world_in x.store.now x.regions.now) b c a same env t };
+
+    ghost term_sees = { λ x b c q same env t. term_same
+        (trace_of (history_of x.store.now) b) (trace_of (history_of x.store.now) c) env t q
+        (λ v has. ap (λ id. cells_at (history_of x.store.now) id t) (same v has)) };
+}
+
+// The ticks of the window at which an atom holds of the objects of a binding, surely or possibly.
+fn blurred_ticks<L: Ledger, M: Ledger>(
+    alloc: Global,
+    atom: &RAtom,
+    binding: &Binding,
+    env: &Env,
+    world: &BlurredWorld,
+    w: Window,
+    reads: &mut Steps<L>,
+    probes: &mut Steps<M>,
+) -> Result<IntervalSet, AllocError>
+    requires { CanAskAtom world.now.store.now w.lo w.hi (slice_index binding.now) atom.now }
+    ensures ticks { IfOk result (λ s. (t : ℕ) → spans_have s t ≡ (within w.lo w.hi t
+        && (blurred_by world.now.blur world.now.store.now world.now.regions.now (slice_index binding.now)).atom atom.now env.now t)) }
+    ensures least { reads.old ≤ reads.new }
+    ensures most { reads.new ≤ reads.old + length (atom_variables atom.now) }
+{
+    match atom {
+        RAtom::Inside(v, n) => region_ticks(
+            alloc,
+            object_of(binding, *v),
+            true,
+            *n,
+            world,
+            w,
+            reads,
+        ),
+        RAtom::Outside(v, n) => region_ticks(
+            alloc,
+            object_of(binding, *v),
+            false,
+            *n,
+            world,
+            w,
+            reads,
+        ),
+        RAtom::Dist(v, u, op, c) => {
+            let first = object_of(binding, *v);
+            let second = object_of(binding, *u);
+            distance_ticks(alloc, first, second, *op, *c, world, w, reads)
+        }
+        RAtom::Compare(_, _, _) | RAtom::Sphere(_, _) => {
+            let (store, regions) = (world.store, world.regions);
+            let ticks = atom_ticks(alloc, atom, binding, env, store, regions, w, reads, probes)?;
+            Ok(ticks)
+        }
+    }
+}
+
+// The object of a variable in a binding, 0 past its end.
+#[inline]
+fn object_of(b: &Binding, v: u8) -> ObjectId
+    ensures { result ≡ slice_index b.now v }
+{
+    b.get(v as usize).unwrap_or(0)
+}
