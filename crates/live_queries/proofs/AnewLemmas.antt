@@ -2,6 +2,7 @@
 use Rattle.std.proofs.Common.{◌≡◌, ℕ, ◌+◌, ◌-◌, ◌<◌, ◌≤◌, Bool, true, false, ◌&&◌, List, [], ◌++◌, length, map, refl, sym, ap, ◌∙◌, subst, arith, if◌then◌else◌}
 use Rattle.std.specs.Prelude.{nat_le}
 use Rattle.std.specs.List.{list_any}
+use Rattle.std.proofs.lemmas.Bool.{false≢true}
 use Rattle.std.proofs.lemmas.Bool.Decides.{nat_tests}
 use Rattle.std.proofs.lemmas.List.{length-append, length-map}
 use Rattle.tick_set.specs.Runs.{spans_have}
@@ -29,6 +30,7 @@ use Rattle.live_queries.specs.Current.{row_at, told_from}
 use Rattle.live_queries.specs.Kept.{IsKept, KeptQuery, registered}
 use Rattle.live_queries.specs.Prepared.{AreColumnsWith, AreNewRows, HaveRoomFor}
 use Rattle.live_queries.specs.Registering.{IsRegistered}
+use Rattle.live_queries.specs.Renewed.{is_judged}
 use Rattle.live_queries.specs.Told.{Info, info_of}
 use Rattle.live_queries.specs.Written.{HaveObjectsWith, lacks}
 use Rattle.live_queries.proofs.CurrentLemmas.{variable_of_query}
@@ -92,10 +94,11 @@ anew_is_registered w now given k lo info fits are told rows = record {
 -- after its expiry nothing
 pub expired_rows : (w : World) (grows : Bool) (object class now : ℕ) (k : KeptQuery) (changes : List (Change (List Span))) → k.expiry < now → changes ≡ [] →
     AreNewRows w grows object class now k changes
-expired_rows w grows object class now k changes past none ds made c t from =
-    ap (λ (fs : List (Change (List Span))). after spans_have fs (row_at k) c t) none
-    ∙ sym (ap (λ b. if b && (counts (variables_of ds) c && gives ds object c)
-    then (within k.entry k.expiry t && holds_full w k.query k.expiry (object_of ds c) t) else row_at k c t) (not_alive now k.expiry past))
+expired_rows w grows object class now k changes past none ds made = record {
+  stay = λ c other t. ap (λ (fs : List (Change (List Span))). after spans_have fs (row_at k) c t) none;
+  anew = λ c judged t from.
+      absurd (false≢true (sym (ap (λ b. b && (counts (variables_of ds) c && gives ds object c)) (not_alive now k.expiry past)) ∙ judged));
+}
   where
     not_alive : (n e : ℕ) → e < n → nat_le n e ≡ false
     not_alive n e h = grind (arith, nat_tests, h)
@@ -107,15 +110,22 @@ alive_rows : (w : World) (grows : Bool) (object class now lo : ℕ) (k : KeptQue
     ≡ (if counts (variables_of ds) c && gives ds object c
     then (within lo k.expiry t && holds_full w k.query k.expiry (object_of ds c) t) else row_at k c t)) →
     AreNewRows w grows object class now k changes
-alive_rows w grows object class now lo k changes alive told rows ds made c t from =
-    rows ds made c t
-    ∙ ap (λ b. if counts (variables_of ds) c && gives ds object c
-    then ((b && nat_le t k.expiry) && holds_full w k.query k.expiry (object_of ds c) t) else row_at k c t) (told t from)
-    ∙ ap (λ b. if b && (counts (variables_of ds) c && gives ds object c)
-    then (within k.entry k.expiry t && holds_full w k.query k.expiry (object_of ds c) t) else row_at k c t) (sym (is_alive now k.expiry alive))
+alive_rows w grows object class now lo k changes alive told rows ds made = record {
+  stay = λ c other t. rows ds made c t ∙ ap (λ b. if b then there c t else row_at k c t) (judged_is c ∙ other);
+  anew = λ c judged t from.
+      rows ds made c t
+      ∙ ap (λ b. if b then there c t else row_at k c t) (judged_is c ∙ judged)
+      ∙ ap (λ b. (b && nat_le t k.expiry) && holds_full w k.query k.expiry (object_of ds c) t) (told t from);
+}
   where
     is_alive : (n e : ℕ) → n ≤ e → nat_le n e ≡ true
     is_alive n e h = grind (arith, nat_tests, h)
+
+    there : ℕ → ℕ → Bool
+    there c t = within lo k.expiry t && holds_full w k.query k.expiry (object_of ds c) t
+
+    judged_is : (c : ℕ) → (counts (variables_of ds) c && gives ds object c) ≡ is_judged object now k ds c
+    judged_is c = sym (ap (λ b. b && (counts (variables_of ds) c && gives ds object c)) (is_alive now k.expiry alive))
 
 pub alive_rows_as_seen : (w : World) (grows : Bool) (object class now lo : ℕ) (x k : KeptQuery) → x ≡ k → (changes : List (Change (List Span))) → now ≤ x.expiry →
     ((t : ℕ) → told_from x now ≤ t → nat_le lo t ≡ nat_le x.entry t) →

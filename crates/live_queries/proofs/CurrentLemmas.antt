@@ -20,7 +20,7 @@ use Rattle.live_queries.specs.Current.{IsCurrentFor, full_at, row_at, told_from}
 use Rattle.live_queries.specs.Kept.{IsKept, KeptQuery}
 use Rattle.live_queries.specs.declared.fresh.Renewal.{Renewal}
 use Rattle.live_queries.specs.Prepared.{IsFreshFor, IsMade}
-use Rattle.live_queries.specs.Renewed.{AddsAtMost, IsRenewed, IsSameHead}
+use Rattle.live_queries.specs.Renewed.{AddsAtMost, AreRenewedRows, IsRenewed, IsSameHead, is_judged}
 use Rattle.live_queries.proofs.ColumnLemmas.{AreGrown, counts_more, new_or_before, not_given, same_counts, same_objects}
 use Rattle.live_queries.proofs.ObjectLemmas.{grown_columns, none_past, objects_grow}
 use Rattle.live_queries.proofs.OrderLemmas.{columns_are, order_below, order_distinct, order_has}
@@ -115,6 +115,18 @@ same_start head now = λ i. first_tick (head.kind i) (head.entry i) now
 not_alive : (now e : ℕ) → nat_le now e ≡ false → e < now
 not_alive now e h = grind (arith, nat_tests, h)
 
+-- a renewed row at a tick that is told
+renewed_row : (w : World) (id now : ℕ) (k : KeptQuery) (columns : List Column) (rows : ℕ → ℕ → Bool) → AreRenewedRows w id now k columns rows →
+    (c t : ℕ) → told_from k now ≤ t → rows c t
+    ≡ (if is_judged id now k columns c then (within k.entry k.expiry t && holds_full w k.query k.expiry (object_of columns c) t) else row_at k c t)
+renewed_row w id now k columns rows renewed c t from = elim (cases_Bool (is_judged id now k columns c)) [
+  | inl judged ↦ renewed.anew c judged t from ∙ sym (ap (λ b. if b then there else row_at k c t) judged)
+  | inr other ↦ renewed.stay c other t ∙ sym (ap (λ b. if b then there else row_at k c t) other)
+]
+  where
+    there : Bool
+    there = within k.entry k.expiry t && holds_full w k.query k.expiry (object_of columns c) t
+
 pub stays_current : (id now : ℕ) (old new : History) → ChangesFrom id now old new → AddsAtMost id old.catalog new.catalog →
     (regions : List Region) (k k' : KeptQuery) → IsKept k → IsKept k' →
     ((b : ℕ → ℕ) → ((v : ℕ) → v < length k.query.classes → (b v == id) ≡ false) → (t : ℕ) → t ≤ k.expiry →
@@ -148,7 +160,7 @@ stays_current id now old new changes adds regions k k' is is' others expired abs
           absent b u v (subst (λ (n : ℕ). v < n) classes (variable_of_query k' is' v there))
           (ap (λ o. cells_at new o u) object ∙ changes.past u (past h u l) ∙ none_past old id u none))
           c t (current.rows c t told)
-          (renewed.rows c t told ∙ ap (λ b. if nat_le now k.expiry && (counts (variables_of k'.columns) c && gives k'.columns id c) then b else row_at k c t) (same c t))
+          (renewed_row (world_with new regions) id now k k'.columns (row_at k') renewed.rows c t told)
           ∙ ap (λ b. counts (variables_of k'.columns) c && b) (sym (same c t));
     }
   where
@@ -190,13 +202,28 @@ row_stays id now old new changes adds regions k k' is is' past current renewed c
 pub made_renews : (w : World) (object class now : ℕ) (r : Renewal) (k k' : KeptQuery) → IsFreshFor w object class now k r → IsMade object class r k k' →
     IsRenewed w object now k k'
 made_renews w object class now r k k' fresh made =
-    let same : (c t : ℕ) → full_at w k' c t ≡ (within k.entry k.expiry t && holds_full w k.query k.expiry (object_of k'.columns c) t) =
-    λ c t i. within (made.head.entry i) (made.head.expiry i) t
-    && holds_full w (made.head.query i) (made.head.expiry i) (object_of k'.columns c) t in
     record {
       head = made.head;
       objects = subst (λ (q : ResolvedQuery). HaveObjectsOf w.history.catalog q.classes k'.columns) (sym made.head.query) (fresh.objects k'.columns made.columns);
-      rows = λ c t from.
-          made.rows c t ∙ fresh.rows k'.columns made.columns c t from
-          ∙ ap (λ b. if nat_le now k.expiry && (counts (variables_of k'.columns) c && gives k'.columns object c) then b else row_at k c t) (sym (same c t));
+      rows = record {
+        stay = λ c other t. made.rows c t ∙ (fresh.rows k'.columns made.columns).stay c other t;
+        anew = λ c judged t from. made.rows c t ∙ (fresh.rows k'.columns made.columns).anew c judged t from;
+      };
     }
+
+-- a binding without the object isn't judged, and none is past the expiry
+pub others_stay : (w : World) (id now : ℕ) (k k' : KeptQuery) → IsRenewed w id now k k' → (n : ℕ) → gives k'.columns id n ≡ false → (t : ℕ) →
+    row_at k' n t ≡ row_at k n t
+others_stay w id now k k' renewed n other t = renewed.rows.stay n (not_judged (nat_le now k.expiry) (counts (variables_of k'.columns) n) (gives k'.columns id n) other) t
+  where
+    not_judged : (a c g : Bool) → g ≡ false → (a && (c && g)) ≡ false
+    not_judged true true g e = e
+    not_judged true false g e = refl
+    not_judged false c g e = refl
+
+pub expired_stay : (w : World) (id now : ℕ) (k k' : KeptQuery) → IsRenewed w id now k k' → k.expiry < now → (n t : ℕ) → row_at k' n t ≡ row_at k n t
+expired_stay w id now k k' renewed past n t =
+    renewed.rows.stay n (ap (λ b. b && (counts (variables_of k'.columns) n && gives k'.columns id n)) (is_past now k.expiry past)) t
+  where
+    is_past : (m e : ℕ) → e < m → nat_le m e ≡ false
+    is_past m e h = grind (arith, nat_tests, h)

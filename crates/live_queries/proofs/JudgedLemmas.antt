@@ -73,12 +73,12 @@ first_rows_are w q lo hi cs numbers domains full rows is are all told same judge
 -- ---- relations in which one variable is one object alone
 
 -- a binding that holds an object has a variable that is this object
-record HasObject (ds : List Column) (id n : ℕ) : Type 0 where
-  variable : ℕ
-  there : has_variable ds variable ≡ true
-  object : object_of ds n variable ≡ id
+pub record HasObject (ds : List Column) (id n : ℕ) : Type 0 where
+  pub variable : ℕ
+  pub there : has_variable ds variable ≡ true
+  pub object : object_of ds n variable ≡ id
 
-given : (ds : List Column) (id n : ℕ) → are_distinct (map (λ d. d.variable) ds) ≡ true → gives ds id n ≡ true → HasObject ds id n
+pub given : (ds : List Column) (id n : ℕ) → are_distinct (map (λ d. d.variable) ds) ≡ true → gives ds id n ≡ true → HasObject ds id n
 given [] id n distinct has = absurd (false≢true has)
 given (d ∷ ds) id n distinct has =
     let w : ℕ = size_of (variables_of ds) in

@@ -21,5 +21,7 @@ pub mod ReadLemmas
 pub mod RegionLemmas
 pub mod RenewedLemmas
 pub mod SizeLemmas
+pub mod SpreadLemmas
 pub mod TargetLemmas
+pub mod UntouchedLemmas
 pub mod WriteLemmas

@@ -1,6 +1,6 @@
 -- Lists of what there is of each number.
 use Rattle.std.proofs.Common.{◌≡◌, ℕ, zero, suc, ◌+◌, ◌-◌, ◌<◌, ◌≤◌, Option, None, Some, List, [], ◌∷◌, ◌++◌, length, map, refl, sym, ap, ◌∙◌, subst, arith}
-use Rattle.std.proofs.lemmas.List.{append-nil}
+use Rattle.std.proofs.lemmas.List.{append-nil, length-append}
 use Rattle.std.specs.Prelude.{All, option_to_list, sum_by}
 use Rattle.std.specs.List.{cons_option, filter_map, range_with_len}
 use Rattle.std.proofs.lemmas.List.Elements.{All-cons, All-head, All-nil}
@@ -67,6 +67,14 @@ module _ {A B : Type 0} (P : List A → List B → Type 0) (all : List A) where
   pairs_go_on rest later x made more_made y e f step before more is =
       subst (λ (ys : List B). P all (ys ++ more)) (sym f)
       (subst (P all) (sym (snoc_append made y more)) (before (y ∷ more) (subst (λ (xs : List A). P xs (y ∷ more)) (sym e) (step more is))))
+
+  -- as many are made as are no longer to come
+  pub counts_go_on : (rest later : List A) (x : A) (made more_made : List B) (y : B) (total : ℕ) → rest ≡ x ∷ later → more_made ≡ made ++ y ∷ [] →
+      length made + length rest ≡ total → length more_made + length later ≡ total
+  counts_go_on rest later x made more_made y total e f before =
+      let fewer : length rest ≡ suc (length later) = ap length e in
+      let more : length more_made ≡ length made + 1 = ap length f ∙ length-append made (y ∷ []) in
+      omega (arith, fewer, more, before)
 
   pub pairs_end : (rest : List A) (made : List B) → length rest ≡ 0 → P [] [] → ((more : List B) → P rest more → P all (made ++ more)) → P all made
   pairs_end rest made none is before = subst (P all) (append-nil made) (before [] (at_none rest none))

@@ -28,7 +28,7 @@ use Rattle.meaning.specs.Agreement.{world_with}
 use Rattle.meaning.specs.Binding.{holds_full, holds_target, tuple_of, tuples}
 use Rattle.meaning.specs.Registered.{Change, change_of, changes_of_write, is_change}
 use Rattle.live_queries.specs.Columns.{Column, gives, object_of, object_or, variables_of}
-use Rattle.live_queries.specs.Current.{IsCurrentFor, full_at, row_at, told_from}
+use Rattle.live_queries.specs.Current.{IsCurrentFor, row_at, told_from}
 use Rattle.live_queries.specs.Kept.{IsKept, KeptQuery, registered}
 use Rattle.live_queries.specs.Renewed.{AddsAtMost, IsRenewed}
 use Rattle.live_queries.specs.Told.{Told, key_of, move, moves_of, target_count, target_width, told_changes}
@@ -458,5 +458,4 @@ changes_are id now old new write adds regions k k' is is' current renewed curren
     (λ past class. false_from_ne_true (has_id (ids_of old.catalog class) id) (λ there.
     let below : id < 0 + length old.catalog.objects = ids_below class id 0 old.catalog.objects there in omega (arith, below, past)))
     (after spans_have changes (row_at k)) (λ c t. sym (same c t)) entered
-    (λ past c t from. renewed.rows c t from ∙ ap (λ b. if b && (counts (variables_of k'.columns) c && gives k'.columns id c)
-    then full_at (world_with new regions) k' c t else row_at k c t) past)
+    (λ past c t from. renewed.rows.stay c (ap (λ b. b && (counts (variables_of k'.columns) c && gives k'.columns id c)) past) t)

@@ -6,4 +6,5 @@ pub mod Prepared
 pub mod Registering
 pub mod Renewed
 pub mod Told
+pub mod Untouched
 pub mod Written

@@ -1,19 +1,17 @@
 -- What a write makes of each registered query, before and after it is made.
-use Rattle.std.specs.Prelude.{◌≡◌, ⊤, ℕ, ◌<◌, ◌≤◌, ◌==◌, Bool, true, false, ◌&&◌, nat_le, List, [], ◌∷◌, ◌++◌, length, slice_get, if◌then◌else◌}
+use Rattle.std.specs.Prelude.{◌≡◌, ⊤, ℕ, ◌<◌, ◌==◌, Bool, true, false, ◌&&◌, List, [], ◌∷◌, ◌++◌, length, slice_get, if◌then◌else◌}
 use Rattle.std.specs.Option.{option_map_or}
 use Rattle.tick_set.specs.Runs.{spans_have}
-use Rattle.tick_set.specs.Ticks.{within}
 use Rattle.tick_set.specs.declared.spans.Span.{Span}
 use Rattle.history.specs.World.{World}
-use Rattle.meaning.specs.Binding.{holds_full}
 use Rattle.kept_rows.specs.declared.change.Change.{Change}
 use Rattle.kept_rows.specs.Changes.{AreReady, AreRising, after}
-use Rattle.kept_rows.specs.Numbers.{counts, size_of}
+use Rattle.kept_rows.specs.Numbers.{size_of}
 use Rattle.live_queries.specs.declared.fresh.Renewal.{Renewal}
-use Rattle.live_queries.specs.Columns.{Column, HaveObjectsOf, gives, object_of, variables_of}
-use Rattle.live_queries.specs.Current.{row_at, told_from}
+use Rattle.live_queries.specs.Columns.{Column, HaveObjectsOf, variables_of}
+use Rattle.live_queries.specs.Current.{row_at}
 use Rattle.live_queries.specs.Kept.{KeptQuery}
-use Rattle.live_queries.specs.Renewed.{IsSameHead}
+use Rattle.live_queries.specs.Renewed.{AreRenewedRows, IsSameHead}
 
 -- what is prepared of a write to an object of a class, query by query
 pub record Prepared : Type 0 where
@@ -62,15 +60,11 @@ ArePrepared class (k ∷ ks) (r ∷ rs) = IsReadyFor class k r × ArePrepared cl
 abbrev pub IsPrepared : List KeptQuery → Prepared → Type 0
 IsPrepared live f = ArePrepared f.class live f.renewals
 
--- the rows of a query that these changes leave: up to its expiry those of the bindings that have the object are what
--- a world tells, by the columns with the object and at the ticks that are told
+-- the rows of a query that these changes leave are renewed, by the columns with the object
 abbrev pub AreNewRows : World → Bool → ℕ → ℕ → ℕ → KeptQuery → List (Change (List Span)) → Type 0
 AreNewRows w grows object class now k changes =
-    (ds : List Column) → AreColumnsWith grows class k.query.classes object k.columns ds → (c t : ℕ) → told_from k now ≤ t →
-    after spans_have changes (row_at k) c t
-    ≡ (if nat_le now k.expiry && (counts (variables_of ds) c && gives ds object c)
-    then (within k.entry k.expiry t && holds_full w k.query k.expiry (object_of ds c) t)
-    else row_at k c t)
+    (ds : List Column) → AreColumnsWith grows class k.query.classes object k.columns ds →
+    AreRenewedRows w object now k ds (after spans_have changes (row_at k))
 
 -- it is what a write to an object of a class at tick `now` makes of a query in a world, by the columns with the object
 pub record IsFreshFor (w : World) (object class now : ℕ) (k : KeptQuery) (r : Renewal) : Type 0 where

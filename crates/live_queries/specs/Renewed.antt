@@ -1,12 +1,14 @@
 -- What a write to an object makes of a registered query.
-use Rattle.std.specs.Prelude.{◌≡◌, ℕ, ◌<◌, ◌≤◌, ◌&&◌, nat_le, List, ◌++◌, length, if◌then◌else◌}
+use Rattle.std.specs.Prelude.{◌≡◌, ℕ, ◌<◌, ◌≤◌, Bool, true, false, ◌&&◌, nat_le, List, ◌++◌, length}
+use Rattle.tick_set.specs.Ticks.{within}
 use Rattle.geometry.specs.Region.{Region}
 use Rattle.history.specs.Catalog.{Catalog}
 use Rattle.history.specs.History.{cells_at}
 use Rattle.history.specs.World.{World}
 use Rattle.kept_rows.specs.Numbers.{counts}
-use Rattle.live_queries.specs.Columns.{AreSameColumns, HaveObjectsOf, gives, variables_of}
-use Rattle.live_queries.specs.Current.{full_at, row_at, told_from}
+use Rattle.meaning.specs.Binding.{holds_full}
+use Rattle.live_queries.specs.Columns.{AreSameColumns, Column, HaveObjectsOf, gives, object_of, variables_of}
+use Rattle.live_queries.specs.Current.{row_at, told_from}
 use Rattle.live_queries.specs.Kept.{KeptQuery}
 
 -- an object that wasn't there before is the one of this number
@@ -29,11 +31,19 @@ pub record IsSameHead (old new : KeptQuery) : Type 0 where
   pub expiry : new.expiry ≡ old.expiry
   pub columns : AreSameColumns old.columns new.columns
 
--- Up to its expiry the bindings that have the object are judged anew in this world, at the ticks that are told from the
--- write on; each other row is as before.
+-- whether the row of a number is judged anew: the query runs still, and the binding has the object
+abbrev pub is_judged : ℕ → ℕ → KeptQuery → List Column → ℕ → Bool
+is_judged id now k columns c = nat_le now k.expiry && (counts (variables_of columns) c && gives columns id c)
+
+-- Each row that isn't judged stays, at every tick. A judged one has, of the ticks that are told from the write on, those
+-- at which its binding satisfies the query in this world.
+pub record AreRenewedRows (w : World) (id now : ℕ) (k : KeptQuery) (columns : List Column) (rows : ℕ → ℕ → Bool) : Type 0 where
+  pub stay : (c : ℕ) → is_judged id now k columns c ≡ false → (t : ℕ) → rows c t ≡ row_at k c t
+  pub anew : (c : ℕ) → is_judged id now k columns c ≡ true → (t : ℕ) → told_from k now ≤ t →
+      rows c t ≡ (within k.entry k.expiry t && holds_full w k.query k.expiry (object_of columns c) t)
+
+-- its variables range over the objects of this world, and its rows are renewed
 pub record IsRenewed (w : World) (id now : ℕ) (old new : KeptQuery) : Type 0 where
   pub head : IsSameHead old new
   pub objects : HaveObjectsOf w.history.catalog new.query.classes new.columns
-  pub rows : (c t : ℕ) → told_from old now ≤ t → row_at new c t
-      ≡ (if nat_le now old.expiry && (counts (variables_of new.columns) c && gives new.columns id c)
-      then full_at w new c t else row_at old c t)
+  pub rows : AreRenewedRows w id now old new.columns (row_at new)

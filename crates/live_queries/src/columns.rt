@@ -125,6 +125,14 @@ pub(crate) fn numbers_with(
     Ok(numbers)
 }
 
+/// Whether one of these classes is this one.
+#[inline]
+pub(crate) fn has_class(classes: &[ClassNo], class: ClassNo) -> bool
+    ensures { result ≡ list_any (λ k. k == class) classes.now }
+{
+    classes.iter().any(|k| *k == class)
+}
+
 /// Whether a column of the class has fewer objects than there are.
 pub(crate) fn lack(columns: &[Objects], classes: &[ClassNo], class: ClassNo, count: usize) -> bool
     ensures { result ≡ list_any (lacks classes.now class count) columns.now }

@@ -1,5 +1,5 @@
 //! Laws of registered queries and their rows, each a call that does nothing.
-ghost use Rattle.std.specs.Prelude.{◌≡◌, ◌<◌, ◌≤◌, ◌++◌, ℕ, true, All, List, length};
+ghost use Rattle.std.specs.Prelude.{◌≡◌, ◌<◌, ◌≤◌, ◌++◌, ℕ, false, true, All, List, length};
 ghost use Rattle.geometry.specs.Region.{Region};
 ghost use Rattle.history.specs.Catalog.{ClassInfo};
 ghost use Rattle.history.specs.History.{ChangesFrom, History, cells_at};
@@ -12,7 +12,7 @@ ghost use Rattle.kept_rows.specs.declared.change.Change.{Change};
 ghost use Rattle.kept_rows.specs.Changes.{after};
 ghost use Rattle.kept_rows.specs.Numbers.{counts};
 ghost use Rattle.live_queries.specs.Asked.{FitsWorld};
-ghost use Rattle.live_queries.specs.Columns.{object_of, variables_of};
+ghost use Rattle.live_queries.specs.Columns.{gives, object_of, variables_of};
 ghost use Rattle.live_queries.specs.Current.{AreCurrent, IsCurrentFor, row_at, told_from};
 ghost use Rattle.meaning.specs.Registered.{changes_of_tick, changes_of_write, registered_answer};
 ghost use Rattle.live_queries.specs.Kept.{IsKept, KeptQuery, registered};
@@ -40,6 +40,15 @@ pub fn a_write_keeps_queries_current()
     expired_queries_stay();
     absent_objects_satisfy_no_query();
 }
+
+/// A write changes no row of a binding that doesn't hold its object, at any tick, and no row of a query whose expiry is
+/// before it. So it is of watched queries too, of whose rows nothing else is said at the ticks before the write.
+pub fn other_rows_stay()
+    ensures others { (w : World) (id now : ℕ) (k k' : KeptQuery) → IsRenewed w id now k k'
+        → (n : ℕ) → gives k'.columns id n ≡ false → (t : ℕ) → row_at k' n t ≡ row_at k n t }
+    ensures expired { (w : World) (id now : ℕ) (k k' : KeptQuery) → IsRenewed w id now k k'
+        → k.expiry < now → (n t : ℕ) → row_at k' n t ≡ row_at k n t }
+{}
 
 /// An insert of a new name moves no number: each binding that there was has its number and its objects still.
 pub fn a_write_moves_no_binding()

@@ -16,7 +16,7 @@ mod told;
 pub use fresh::Fresh;
 pub use laws::{
     a_row_changes_by_what_comes_after, a_write_keeps_queries_current, a_write_moves_no_binding,
-    committed_writes_keep_queries_current, current_queries_tell_their_answers,
+    committed_writes_keep_queries_current, current_queries_tell_their_answers, other_rows_stay,
     prepared_changes_tell_what_a_write_changes, prepared_writes_renew_queries,
     queries_go_on_fitting_worlds, writes_to_no_object_keep_queries_current,
 };

@@ -1,5 +1,5 @@
 //! The registered queries.
-ghost use Rattle.std.specs.Prelude.{◌≡◌, ◌<◌, ◌≤◌, ◌+◌, ◌-◌, ◌*◌, ℕ, All, [], not, length, map, option_map, slice_get, sum_by, ◌++◌, IfOk, OnErr, OnOk};
+ghost use Rattle.std.specs.Prelude.{◌≡◌, ◌<◌, ◌≤◌, ◌+◌, ◌-◌, ◌*◌, ℕ, All, [], not, drop, length, map, option_map, slice_get, sum_by, ◌++◌, IfOk, OnErr, OnOk};
 ghost use Rattle.std.specs.List.{filter, flat_map, list_any};
 ghost use Rattle.std.specs.Option.{option_copied};
 ghost use Rattle.std.specs.Str.{bytes_eq};
@@ -20,9 +20,10 @@ ghost use Rattle.live_queries.specs.Columns.{variables_of};
 ghost use Rattle.live_queries.specs.Kept.{AreKept, IsKept, registered};
 ghost use Rattle.live_queries.specs.Prepared.{AreFreshFor, AreMade, ArePrepared, IsPrepared};
 ghost use Rattle.live_queries.specs.Registering.{AddsQuery};
+ghost use Rattle.live_queries.specs.Untouched.{spread};
 ghost use Rattle.live_queries.specs.Told.{answer_of, changes_of, info_of, passings_of, query_named, told_info};
 
-use crate::fresh::{Fresh, Renewal};
+use crate::fresh::{Fresh, Renewals, Touched};
 use crate::query::LiveQuery;
 use crate::told::{AnswerRow, Move, QueryInfo};
 use answers::StoredWorld;
@@ -167,12 +168,14 @@ impl Live {
         ensures { IfOk result (λ moves. moves.items ≡ changes_of fresh.now.object now self.now fresh.now.renewals) }
     {
         let mut moves = Vec::new(alloc);
+        let (touched, rest) = fresh.renewals.parts();
         add_changes(
             alloc,
             &self.queries,
             fresh.object,
             fresh.class,
-            &fresh.renewals,
+            touched,
+            rest,
             now,
             &mut moves,
         )?;
@@ -257,12 +260,8 @@ impl Live {
         requires { IsPrepared self.old fresh }
         ensures { AreMade fresh.object fresh.class fresh.renewals self.old self.new }
     {
-        commit_each(
-            &mut self.queries,
-            fresh.object,
-            fresh.class,
-            fresh.renewals.into_iter(),
-        );
+        let (touched, rest) = fresh.renewals.into_parts();
+        commit_each(&mut self.queries, fresh.object, fresh.class, touched, rest);
     }
 }
 
@@ -289,7 +288,7 @@ fn likely_place(queries: &[LiveQuery], store: &Store, class: ClassNo, id: u32) -
     }
 }
 
-// What a write to an object of a class makes of each of these queries.
+// What a write to an object of a class makes of each of these queries. One that it doesn't touch takes no memory.
 fn renewals_of<L: Ledger, M: Ledger>(
     alloc: Global,
     queries: &[LiveQuery],
@@ -299,23 +298,24 @@ fn renewals_of<L: Ledger, M: Ledger>(
     now: u32,
     reads: &mut Steps<L>,
     probes: &mut Steps<M>,
-) -> Result<Vec<Renewal>, AllocError>
+) -> Result<Renewals, AllocError>
+    requires few { length queries.now ≤ QUERY_LIMIT }
     requires accepted { IsOfAcceptedWrites world.now.store.now }
     requires fits { All (FitsWorld (told_world world.now)) queries.now }
     requires there { id < length world.now.store.now.objects }
     requires class { class ≡ class_in world.now.store.now id }
     requires before { HaveObjectsBefore id (catalog_of world.now.store.now) queries.now }
-    ensures prepared { IfOk result (λ renewals. ArePrepared class queries.now renewals.items) }
-    ensures fresh { IfOk result (λ renewals. AreFreshFor (told_world world.now) id class now queries.now renewals.items) }
+    ensures prepared { IfOk result (λ renewals. ArePrepared class queries.now renewals) }
+    ensures fresh { IfOk result (λ renewals. AreFreshFor (told_world world.now) id class now queries.now renewals) }
     ensures least { reads.old ≤ reads.new }
     ensures most { reads.new ≤ reads.old + write_reads (catalog_of world.now.store.now) (map registered queries.now) now class }
 {
     let likely = likely_place(queries, world.store, class, id);
-    let mut renewals = Vec::with_capacity(alloc, queries.len())?;
+    let mut renewals = Renewals::new(alloc);
     let mut rest = queries;
     'queries: while let Some((query, later)) = rest.split_first() {
         let renewal = query.renewal(alloc, id, class, likely, world, now, reads, probes)?;
-        renewals.push(renewal)?;
+        renewals.add(renewal)?;
         rest = later;
     }
     Ok(renewals)
@@ -361,46 +361,59 @@ fn advance_each(queries: &mut [LiveQuery], now: u32)
     advance_each(queries, now);
 }
 
-// Adds what changes for the targets of these queries.
+// Adds what changes for the targets of these queries, of which some are touched and so many stand after the last one.
 fn add_changes(
     alloc: Global,
     queries: &[LiveQuery],
     object: u32,
     class: ClassNo,
-    renewals: &[Renewal],
+    touched: &[Touched],
+    rest: usize,
     now: u32,
     moves: &mut Vec<Move>,
 ) -> Result<(), AllocError>
-    requires { ArePrepared class queries.now renewals.now }
-    ensures { OnOk result (moves.new.items ≡ moves.old.items ++ changes_of object now queries.now renewals.now) }
+    requires { ArePrepared class queries.now (spread touched.now rest) }
+    ensures { OnOk result (moves.new.items ≡ moves.old.items ++ changes_of object now queries.now (spread touched.now rest)) }
 {
-    let (Some((query, queries)), Some((renewal, renewals))) = (
-        queries.split_first(),
-        renewals.split_first(),
-    ) else {
+    let Some((first, touched)) = touched.split_first() else {
         return Ok(());
     };
-    query.add_moves(alloc, object, &renewal.changes, now, moves)?;
-    add_changes(alloc, queries, object, class, renewals, now, moves)
+    let Some((query, queries)) = after(queries, first.passed).split_first() else {
+        return Ok(());
+    };
+    query.add_moves(alloc, object, &first.renewal.changes, now, moves)?;
+    add_changes(alloc, queries, object, class, touched, rest, now, moves)
 }
 
-// Makes what was prepared of these queries.
+// The queries after the first so many.
+#[inline]
+fn after(queries: &[LiveQuery], count: usize) -> &[LiveQuery]
+    requires { count ≤ length queries.now }
+    ensures { result.now ≡ drop count queries.now }
+{
+    &queries[count..]
+}
+
+// Makes what was prepared of these queries, of which some are touched and so many stand after the last one.
 fn commit_each(
     queries: &mut [LiveQuery],
     object: u32,
     class: ClassNo,
-    mut renewals: IntoIter<Renewal>,
+    mut touched: IntoIter<Touched>,
+    rest: usize,
 )
-    requires { ArePrepared class queries.old renewals.rest.items }
-    ensures made { AreMade object class renewals.rest.items queries.old queries.new }
+    requires kept { All IsKept queries.old }
+    requires prepared { ArePrepared class queries.old (spread touched.rest.items rest) }
+    ensures made { AreMade object class (spread touched.rest.items rest) queries.old queries.new }
     ensures kept { All IsKept queries.new }
 {
+    let Some(first) = touched.next() else {
+        return;
+    };
+    let (_, queries) = queries.split_at_mut(first.passed);
     let Some((query, queries)) = queries.split_first_mut() else {
         return;
     };
-    let Some(renewal) = renewals.next() else {
-        return;
-    };
-    query.commit(object, class, renewal);
-    commit_each(queries, object, class, renewals);
+    query.commit(object, class, first.renewal);
+    commit_each(queries, object, class, touched, rest);
 }

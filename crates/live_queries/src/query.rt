@@ -1,11 +1,12 @@
 //! One registered query with its rows.
-ghost use Rattle.std.specs.Prelude.{◌≡◌, ◌<◌, ◌≤◌, ◌+◌, ◌-◌, ◌*◌, ◌++◌, ◌↔◌, ℕ, All, nat_le, true, take, drop, length, IsSome, IfSome, IfOk, OnOk};
+ghost use Rattle.std.specs.Prelude.{◌≡◌, ◌<◌, ◌≤◌, ◌+◌, ◌-◌, ◌*◌, ◌++◌, ◌&&◌, ◌↔◌, ℕ, All, nat_le, nat_lt, not, true, take, drop, length, IsSome, IfSome, IfOk, OnOk};
 ghost use Rattle.std.specs.Str.{bytes_eq};
 ghost use Rattle.meaning.specs.Registered.{first_tick};
 ghost use Rattle.kept_rows.specs.declared.binding.TheConstants.{BINDING_LIMIT};
 ghost use Rattle.tick_set.specs.Runs.{spans_have};
 ghost use Rattle.tick_set.specs.declared.spans.TheConstants.{LAST_TICK, SPAN_LIMIT};
 ghost use Rattle.history.specs.Catalog.{Catalog, most_bindings};
+ghost use Rattle.formula.specs.declared.kind.QueryKind.TheVariants.{Watch};
 ghost use Rattle.formula.specs.Resolved.{IsResolved};
 ghost use Rattle.formula.specs.Tree.{query_view};
 ghost use Rattle.meaning.specs.Fits.{FitsItsClasses};
@@ -23,10 +24,11 @@ ghost use Rattle.live_queries.specs.Current.{row_at};
 ghost use Rattle.live_queries.specs.Kept.{IsKept, registered};
 ghost use Rattle.live_queries.specs.Prepared.{AreNewRows, HaveRoomFor, IsFreshFor, IsMade, IsReadyFor};
 ghost use Rattle.live_queries.specs.Registering.{IsRegistered};
+ghost use Rattle.live_queries.specs.Untouched.{IsTouched, or_untouched};
 ghost use Rattle.live_queries.specs.Written.{HaveObjectsWith};
 ghost use Rattle.live_queries.specs.Told.{answer_of, info_of, key_of, lines_of, move as told_move, moves_of, passing as told_passing, passings_of, row_of, target_count, target_times, told_info};
 
-use crate::columns::{class_count, columns_of, lack};
+use crate::columns::{class_count, columns_of, has_class, lack};
 use crate::evaluating::{new_rows, rows_between};
 use crate::fresh::Renewal;
 use crate::objects::{Objects, add_object, objects_of, width};
@@ -128,8 +130,9 @@ impl LiveQuery {
         })
     }
 
-    /// What a write to an object of a class makes of it. The object's place is looked for at a likely one first. It
-    /// fails only where memory is out.
+    /// What a write to an object of a class makes of it. None where it stays as it is: it has no variable of the class,
+    /// or its expiry is before the write and the class has no object more. The object's place is looked for at a likely
+    /// one first. It fails only where memory is out.
     pub(crate) fn renewal<L: Ledger, M: Ledger>(
         &self,
         alloc: Global,
@@ -140,21 +143,38 @@ impl LiveQuery {
         now: u32,
         reads: &mut Steps<L>,
         probes: &mut Steps<M>,
-    ) -> Result<Renewal, AllocError>
+    ) -> Result<Option<Renewal>, AllocError>
         requires accepted { IsOfAcceptedWrites world.now.store.now }
         requires fits { FitsWorld (told_world world.now) self.now }
         requires there { id < length world.now.store.now.objects }
         requires class { class ≡ class_in world.now.store.now id }
         requires before { (old : Catalog) × IsBefore id old (catalog_of world.now.store.now) × HaveObjectsOf old self.now.query.classes self.now.columns }
-        ensures ready { IfOk result (IsReadyFor class self.now) }
-        ensures fresh { IfOk result (IsFreshFor (told_world world.now) id class now self.now) }
+        ensures ready { IfOk result (λ r. IsReadyFor class self.now (or_untouched r)) }
+        ensures fresh { IfOk result (λ r. IsFreshFor (told_world world.now) id class now self.now (or_untouched r)) }
+        ensures touched { IfOk result (λ r. IfSome r (IsTouched class now self.now)) }
         ensures least { reads.old ≤ reads.new }
         ensures most { reads.new ≤ reads.old + renewal_reads (catalog_of world.now.store.now) now class (registered self.now) }
     {
+        let classes = self.query.classes.items();
+        if !has_class(classes, class) {
+            return Ok(None);
+        }
         let count = class_count(world.store, class);
-        let grows = lack(&self.columns, self.query.classes.items(), class, count);
+        let grows = lack(&self.columns, classes, class, count);
+        if self.stays(now, grows) {
+            return Ok(None);
+        }
         let changes = self.new_rows(alloc, id, class, likely, grows, world, now, reads, probes)?;
-        Ok(Renewal { grows, changes })
+        Ok(Some(Renewal { grows, changes }))
+    }
+
+    // Whether a write to an object of one of its classes changes nothing of it: its expiry is before the write, and it
+    // gets no object more.
+    #[inline]
+    fn stays(&self, now: u32, grows: bool) -> bool
+        ensures { result ≡ (nat_lt self.now.expiry now && not grows) }
+    {
+        self.expiry < now && !grows
     }
 
     // What such a write changes of its rows: nothing after its expiry, and of a watched query nothing that is told of
@@ -444,6 +464,7 @@ fn first_told(kind: QueryKind, entry: u32, now: u32) -> u32
     ensures least { entry ≤ result }
     ensures most { (e : ℕ) → entry ≤ e → now ≤ e → result ≤ e }
     ensures told { (t : ℕ) → first_tick kind entry now ≤ t → nat_le result t ≡ nat_le entry t }
+    ensures watched { kind ≡ Watch → now ≤ result }
 {
     match kind {
         QueryKind::Watch => entry.max(now),

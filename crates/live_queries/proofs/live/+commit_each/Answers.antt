@@ -1,42 +1,58 @@
 use Rattle.std.proofs.Common.{sym, ◌∙◌, rules}
-use Rattle.std.proofs.lemmas.List.Elements.{All-cons}
-use Rattle.live_queries.specs.Kept.{IsKept}
-use Rattle.live_queries.proofs.MadeLemmas.{never_spent, none_kept, none_made, one_made, prepared_parts}
+use Rattle.live_queries.proofs.SpreadLemmas.{behind_kept, next_kept, next_made, next_missing, next_ready, next_there, none_touched}
 use Rattle.live_queries.proofs.live.+commit_each.Goals as goal
 
 pub returns-in_default-clause-made : goal.returns-in_default-clause-made
-returns-in_default-clause-made t c = none_made c.args.object c.args.class c.args.renewals.rest.items c.args.queries.now c.in_default.ensures.cases c.requires
+returns-in_default-clause-made t c =
+    none_touched c.args.object c.args.class c.args.queries.now c.args.touched.rest.items c.args.rest
+    (sym c.args.touched.rest.ok.0 ∙ c.in_default.ensures.cases.0) c.requires.kept c.requires.prepared
 
-pub returns-in_default-next-clause-made : goal.returns-in_default-next-clause-made
-returns-in_default-next-clause-made t c =
-    absurd (never_spent c.args.class c.args.queries.now c.args.renewals.rest.items c.in-Some.query.now c.in-Some.queries.now
-    c.in-Some.ensures.cases.0 (sym c.args.renewals.rest.ok.0 ∙ c.in_default-next.ensures.cases.0) c.requires)
+pub split_at_mut-queries-requires : goal.split_at_mut-queries-requires
+split_at_mut-queries-requires t c =
+    next_there c.args.queries.now c.args.queries.now c.args.touched.rest.items c.next.new.self.rest.items c.in-Some.first c.args.rest
+    c.in-Some.ensures.cases.0 c.args.class c.requires.prepared
+
+pub returns-in_default-split_first_mut-clause-made : goal.returns-in_default-split_first_mut-clause-made
+returns-in_default-split_first_mut-clause-made t c =
+    absurd (next_missing c.args.queries.now c.split_at_mut-queries.result.1.now c.args.touched.rest.items c.next.new.self.rest.items c.in-Some.first c.args.rest
+    c.in-Some.ensures.cases.0 c.args.class c.requires.prepared c.split_at_mut-queries.ensures.back c.in_default-split_first_mut.ensures.cases)
+
+pub returns-in_default-split_first_mut-clause-kept : goal.returns-in_default-split_first_mut-clause-kept
+returns-in_default-split_first_mut-clause-kept t c =
+    absurd (next_missing c.args.queries.now c.split_at_mut-queries.result.1.now c.args.touched.rest.items c.next.new.self.rest.items c.in-Some.first c.args.rest
+    c.in-Some.ensures.cases.0 c.args.class c.requires.prepared c.split_at_mut-queries.ensures.back c.in_default-split_first_mut.ensures.cases)
 
 pub commit-requires : goal.commit-requires
 commit-requires t c =
-    (prepared_parts c.args.class c.args.queries.now c.args.renewals.rest.items c.in-Some.query.now c.in-Some.queries.now
-    c.in-Some-next.renewal c.next.new.self.rest.items c.in-Some.ensures.cases.0 c.in-Some-next.ensures.cases.0 c.requires).0
+    (next_ready c.args.queries.now c.split_at_mut-queries.result.1.now c.args.touched.rest.items c.next.new.self.rest.items c.in-Some.first c.args.rest
+    c.in-Some.ensures.cases.0 c.args.class c.requires.prepared c.split_at_mut-queries.ensures.back
+    c.in-Some-split_first_mut.query.now c.in-Some-split_first_mut.queries.now c.in-Some-split_first_mut.ensures.cases.0).0
 
 pub commit_each-requires : goal.commit_each-requires
 commit_each-requires t c = (
   search rules,
-  (prepared_parts c.args.class c.args.queries.now c.args.renewals.rest.items c.in-Some.query.now c.in-Some.queries.now
-      c.in-Some-next.renewal c.next.new.self.rest.items c.in-Some.ensures.cases.0 c.in-Some-next.ensures.cases.0 c.requires).1,
+  (
+    behind_kept c.args.queries.now c.split_at_mut-queries.result.1.now c.args.touched.rest.items c.next.new.self.rest.items c.in-Some.first c.args.rest
+        c.in-Some.ensures.cases.0 c.split_at_mut-queries.ensures.back
+        c.in-Some-split_first_mut.query.now c.in-Some-split_first_mut.queries.now c.in-Some-split_first_mut.ensures.cases.0 c.requires.kept,
+    (next_ready c.args.queries.now c.split_at_mut-queries.result.1.now c.args.touched.rest.items c.next.new.self.rest.items c.in-Some.first c.args.rest
+        c.in-Some.ensures.cases.0 c.args.class c.requires.prepared c.split_at_mut-queries.ensures.back
+        c.in-Some-split_first_mut.query.now c.in-Some-split_first_mut.queries.now c.in-Some-split_first_mut.ensures.cases.0).1,
+  ),
 )
 
 pub returns-clause-made : goal.returns-clause-made
 returns-clause-made t c =
-    one_made c.args.object c.args.class c.args.queries.now c.args.renewals.rest.items c.in-Some.query.now c.commit.new.self
-    c.in-Some.queries.now c.commit_each.new.queries c.in-Some-next.renewal c.next.new.self.rest.items
-    c.in-Some.ensures.cases.0 c.in-Some-next.ensures.cases.0 c.commit.ensures.made c.commit_each.ensures.made
-
-pub returns-in_default-clause-kept : goal.returns-in_default-clause-kept
-returns-in_default-clause-kept t c = none_kept c.args.queries.now c.in_default.ensures.cases
-
-pub returns-in_default-next-clause-kept : goal.returns-in_default-next-clause-kept
-returns-in_default-next-clause-kept t c =
-    absurd (never_spent c.args.class c.args.queries.now c.args.renewals.rest.items c.in-Some.query.now c.in-Some.queries.now
-    c.in-Some.ensures.cases.0 (sym c.args.renewals.rest.ok.0 ∙ c.in_default-next.ensures.cases.0) c.requires)
+    next_made c.args.queries.now c.split_at_mut-queries.result.1.now c.args.touched.rest.items c.next.new.self.rest.items c.in-Some.first c.args.rest
+    c.in-Some.ensures.cases.0 c.split_at_mut-queries.ensures.back
+    c.in-Some-split_first_mut.query.now c.in-Some-split_first_mut.queries.now c.in-Some-split_first_mut.ensures.cases.0 c.requires.kept
+    c.split_at_mut-queries.result.0.now c.split_at_mut-queries.ensures.front c.commit.new.self c.commit_each.new.queries
+    c.args.object c.args.class c.commit.ensures.made c.commit_each.ensures.made
 
 pub returns-clause-kept : goal.returns-clause-kept
-returns-clause-kept t c = All-cons IsKept c.commit.new.self c.commit_each.new.queries c.commit.ensures.kept c.commit_each.ensures.kept
+returns-clause-kept t c =
+    next_kept c.args.queries.now c.split_at_mut-queries.result.1.now c.args.touched.rest.items c.next.new.self.rest.items c.in-Some.first c.args.rest
+    c.in-Some.ensures.cases.0 c.split_at_mut-queries.ensures.back
+    c.in-Some-split_first_mut.query.now c.in-Some-split_first_mut.queries.now c.in-Some-split_first_mut.ensures.cases.0 c.requires.kept
+    c.split_at_mut-queries.result.0.now c.split_at_mut-queries.ensures.front c.commit.new.self c.commit_each.new.queries
+    c.commit.ensures.kept c.commit_each.ensures.kept

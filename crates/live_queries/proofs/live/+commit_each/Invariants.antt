@@ -2,4 +2,4 @@ use Rattle.std.proofs.Common.{length}
 use Rattle.live_queries.proofs.live.+commit_each.Given as goal
 
 abbrev pub decreases-commit_each : goal.decreases-commit_each
-decreases-commit_each l = length l.queries.now
+decreases-commit_each l = length l.touched.rest.items

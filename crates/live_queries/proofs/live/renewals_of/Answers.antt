@@ -1,13 +1,15 @@
-use Rattle.std.proofs.Common.{refl, subst, arith}
+use Rattle.std.proofs.Common.{◌≡◌, suc, ◌+◌, List, length, refl, ap, subst, arith}
 use Rattle.std.specs.Prelude.{All}
 use Rattle.std.proofs.lemmas.List.Elements.{All-head, All-rest}
 use Rattle.object_store.specs.Contents.{catalog_of}
 use Rattle.atoms.specs.Asked.{told_world}
+use Rattle.live_queries.specs.declared.fresh.Renewal.{Renewal}
 use Rattle.live_queries.specs.Asked.{FitsWorld}
 use Rattle.live_queries.specs.Columns.{HaveObjectsOf}
 use Rattle.live_queries.specs.Kept.{KeptQuery}
 use Rattle.live_queries.specs.Prepared.{AreFreshFor, ArePrepared}
-use Rattle.live_queries.proofs.ListLemmas.{pairs_begin, pairs_end, pairs_go_on}
+use Rattle.live_queries.specs.Untouched.{or_untouched}
+use Rattle.live_queries.proofs.ListLemmas.{counts_go_on, pairs_begin, pairs_end, pairs_go_on}
 use Rattle.live_queries.proofs.RenewedLemmas.{looks_end, looks_go_on, looks_stop}
 use Rattle.live_queries.proofs.live.renewals_of.Goals as goal
 
@@ -15,12 +17,18 @@ pub queries-init : goal.queries-init
 queries-init g c = record {
   fits = c.requires.fits;
   before = c.requires.before;
-  prepared = pairs_begin (ArePrepared c.args.class) c.args.queries.now c.args.queries.now c.in_ok-renewals.renewals.items refl c.in_ok-renewals.ensures.items;
+  prepared = pairs_begin (ArePrepared c.args.class) c.args.queries.now c.args.queries.now c.new-renewals.result refl c.new-renewals.ensures;
   fresh = pairs_begin (AreFreshFor (told_world c.args.world.now) c.args.id c.args.class c.args.now) c.args.queries.now c.args.queries.now
-      c.in_ok-renewals.renewals.items refl c.in_ok-renewals.ensures.items;
+      c.new-renewals.result refl c.new-renewals.ensures;
+  many = (let none : length c.new-renewals.result ≡ 0 = ap length c.new-renewals.ensures in omega (arith, none));
   least = omega arith;
   most = omega arith;
 }
+
+pub add-requires : goal.add-requires
+add-requires g c =
+    let left : length c.queries.rest.now ≡ suc (length c.in-Some.later.now) = ap length c.in-Some.ensures.cases.0 in
+    omega (arith, left, c.queries.invariant.many, c.requires.few)
 
 pub renewal-requires : goal.renewal-requires
 renewal-requires g c = record {
@@ -48,12 +56,15 @@ queries-preserved g c = record {
         c.queries.rest.now c.in-Some.ensures.cases.0 c.queries.invariant.before.objects;
   };
   prepared = pairs_go_on (ArePrepared c.args.class) c.args.queries.now c.queries.rest.now c.in-Some.later.now c.in-Some.query.now
-      c.queries.renewals.items c.push.new.self.items c.in_ok-renewal.renewal c.in-Some.ensures.cases.0 c.in_ok-push.ensures.items
+      c.queries.renewals c.add.new.self (or_untouched c.in_ok-renewal.renewal) c.in-Some.ensures.cases.0 c.in_ok-add.ensures.added
       (λ more is. (c.in_ok-renewal.ensures.ready, is)) c.queries.invariant.prepared;
   fresh = pairs_go_on (AreFreshFor (told_world c.args.world.now) c.args.id c.args.class c.args.now) c.args.queries.now
       c.queries.rest.now c.in-Some.later.now c.in-Some.query.now
-      c.queries.renewals.items c.push.new.self.items c.in_ok-renewal.renewal c.in-Some.ensures.cases.0 c.in_ok-push.ensures.items
+      c.queries.renewals c.add.new.self (or_untouched c.in_ok-renewal.renewal) c.in-Some.ensures.cases.0 c.in_ok-add.ensures.added
       (λ more is. (c.in_ok-renewal.ensures.fresh, is)) c.queries.invariant.fresh;
+  many = counts_go_on (ArePrepared c.args.class) c.args.queries.now c.queries.rest.now c.in-Some.later.now c.in-Some.query.now
+      c.queries.renewals c.add.new.self (or_untouched c.in_ok-renewal.renewal) (length c.args.queries.now) c.in-Some.ensures.cases.0 c.in_ok-add.ensures.added
+      c.queries.invariant.many;
   least = omega (arith, c.queries.invariant.least, c.in_ok-renewal.ensures.least);
   most = looks_go_on (catalog_of c.args.world.now.store.now) c.args.now c.args.class c.queries.rest.now c.in-Some.later.now c.in-Some.query.now
       c.queries.reads c.renewal.new.reads _ c.in-Some.ensures.cases.0 c.in_ok-renewal.ensures.most c.queries.invariant.most;
@@ -61,12 +72,12 @@ queries-preserved g c = record {
 
 pub returns-clause-prepared : goal.returns-clause-prepared
 returns-clause-prepared g c =
-    pairs_end (ArePrepared c.args.class) c.args.queries.now c.queries.rest.now c.queries.renewals.items c.in_default.ensures.cases tt c.queries.invariant.prepared
+    pairs_end (ArePrepared c.args.class) c.args.queries.now c.queries.rest.now c.queries.renewals c.in_default.ensures.cases tt c.queries.invariant.prepared
 
 pub returns-clause-fresh : goal.returns-clause-fresh
 returns-clause-fresh g c =
     pairs_end (AreFreshFor (told_world c.args.world.now) c.args.id c.args.class c.args.now) c.args.queries.now
-    c.queries.rest.now c.queries.renewals.items c.in_default.ensures.cases tt c.queries.invariant.fresh
+    c.queries.rest.now c.queries.renewals c.in_default.ensures.cases tt c.queries.invariant.fresh
 
 pub returns-clause-most : goal.returns-clause-most
 returns-clause-most g c =
@@ -77,7 +88,7 @@ returns-in_err-renewal-clause-most g c =
     looks_stop (catalog_of c.args.world.now.store.now) c.args.now c.args.class c.queries.rest.now c.in-Some.later.now c.in-Some.query.now
     c.queries.reads _ _ c.in-Some.ensures.cases.0 c.in_err-renewal.ensures.most c.queries.invariant.most
 
-pub returns-in_err-push-clause-most : goal.returns-in_err-push-clause-most
-returns-in_err-push-clause-most g c =
+pub returns-in_err-add-clause-most : goal.returns-in_err-add-clause-most
+returns-in_err-add-clause-most g c =
     looks_stop (catalog_of c.args.world.now.store.now) c.args.now c.args.class c.queries.rest.now c.in-Some.later.now c.in-Some.query.now
     c.queries.reads _ _ c.in-Some.ensures.cases.0 c.in_ok-renewal.ensures.most c.queries.invariant.most

@@ -1,4 +1,4 @@
-use Rattle.std.proofs.Common.{◌+◌, ◌≤◌, List, ◌++◌, length, map}
+use Rattle.std.proofs.Common.{◌≡◌, ◌+◌, ◌≤◌, List, ◌++◌, length, map}
 use Rattle.std.specs.Prelude.{All}
 use Rattle.object_store.specs.Contents.{catalog_of}
 use Rattle.atoms.specs.Asked.{told_world}
@@ -14,9 +14,10 @@ abbrev pub invariant-queries : goal.invariant-queries
 invariant-queries g l = record {
   fits : All (FitsWorld (told_world l.world)) l.rest;
   before : HaveObjectsBefore l.id (catalog_of l.world.store.now) l.rest;
-  prepared : (more : List Renewal) → ArePrepared l.class l.rest more → ArePrepared l.class l.queries (l.renewals.items ++ more);
+  prepared : (more : List Renewal) → ArePrepared l.class l.rest more → ArePrepared l.class l.queries (l.renewals ++ more);
   fresh : (more : List Renewal) → AreFreshFor (told_world l.world) l.id l.class l.now l.rest more
-      → AreFreshFor (told_world l.world) l.id l.class l.now l.queries (l.renewals.items ++ more);
+      → AreFreshFor (told_world l.world) l.id l.class l.now l.queries (l.renewals ++ more);
+  many : length l.renewals + length l.rest ≡ length l.queries;
   least : l.fn.reads ≤ l.reads;
   most : l.reads + write_reads (catalog_of l.world.store.now) (map registered l.rest) l.now l.class
       ≤ l.fn.reads + write_reads (catalog_of l.world.store.now) (map registered l.queries) l.now l.class;

@@ -1,15 +1,16 @@
-use Rattle.std.proofs.Common.{ap, ◌∙◌, subst}
+use Rattle.std.proofs.Common.{sym, ap, ◌∙◌, subst}
 use Rattle.object_store.specs.Contents.{catalog_of}
 use Rattle.live_queries.specs.Kept.{IsKept, KeptQuery}
 use Rattle.live_queries.proofs.AnewLemmas.{renewed_objects, renewed_room}
 use Rattle.live_queries.proofs.GrowLemmas.{objects_with}
+use Rattle.live_queries.proofs.UntouchedLemmas.{expired_untouched, is_touched, other_untouched, untouched_ready}
 use Rattle.live_queries.proofs.query.LiveQuery.renewal.Goals as goal
 
 pub new_rows-requires-clause-room : goal.new_rows-requires-clause-room
 new_rows-requires-clause-room g c =
     renewed_room c.args.world.now.store.now c.args.id c.args.class c.requires.class c.args.self.now (subst IsKept c.self.view_is c.self.invariant.0)
     c.requires.before.0 c.requires.before.1 c.requires.before.2 c.lack-grows.result
-    c.items.result.now (c.items.ensures ∙ ap (λ (k : KeptQuery). k.query.classes) c.self.view_is)
+    c.items-classes.result.now (c.items-classes.ensures ∙ ap (λ (k : KeptQuery). k.query.classes) c.self.view_is)
     c.deref.result.now (c.deref.ensures.value ∙ ap (λ (k : KeptQuery). k.columns) c.self.view_is)
     c.class_count-count.result c.class_count-count.ensures.value c.lack-grows.ensures
     c.class_count-count.ensures.room c.requires.fits.capacities
@@ -18,7 +19,7 @@ pub new_rows-requires-clause-objects : goal.new_rows-requires-clause-objects
 new_rows-requires-clause-objects g c =
     renewed_objects c.args.world.now.store.now c.args.id c.args.class c.requires.class c.args.self.now (subst IsKept c.self.view_is c.self.invariant.0)
     c.requires.before.0 c.requires.before.1 c.requires.before.2 c.lack-grows.result
-    c.items.result.now (c.items.ensures ∙ ap (λ (k : KeptQuery). k.query.classes) c.self.view_is)
+    c.items-classes.result.now (c.items-classes.ensures ∙ ap (λ (k : KeptQuery). k.query.classes) c.self.view_is)
     c.deref.result.now (c.deref.ensures.value ∙ ap (λ (k : KeptQuery). k.columns) c.self.view_is)
     c.class_count-count.result c.class_count-count.ensures.value c.lack-grows.ensures
 
@@ -28,7 +29,7 @@ returns-clause-ready g c = record {
   rising = c.in_ok-changes.ensures.rising;
   room = renewed_room c.args.world.now.store.now c.args.id c.args.class c.requires.class c.args.self.now (subst IsKept c.self.view_is c.self.invariant.0)
       c.requires.before.0 c.requires.before.1 c.requires.before.2 c.lack-grows.result
-      c.items.result.now (c.items.ensures ∙ ap (λ (k : KeptQuery). k.query.classes) c.self.view_is)
+      c.items-classes.result.now (c.items-classes.ensures ∙ ap (λ (k : KeptQuery). k.query.classes) c.self.view_is)
       c.deref.result.now (c.deref.ensures.value ∙ ap (λ (k : KeptQuery). k.columns) c.self.view_is)
       c.class_count-count.result c.class_count-count.ensures.value c.lack-grows.ensures
       c.class_count-count.ensures.room c.requires.fits.capacities;
@@ -40,8 +41,36 @@ returns-clause-fresh g c = record {
       c.args.self.now.columns ds made
       (renewed_objects c.args.world.now.store.now c.args.id c.args.class c.requires.class c.args.self.now (subst IsKept c.self.view_is c.self.invariant.0)
       c.requires.before.0 c.requires.before.1 c.requires.before.2 c.lack-grows.result
-      c.items.result.now (c.items.ensures ∙ ap (λ (k : KeptQuery). k.query.classes) c.self.view_is)
+      c.items-classes.result.now (c.items-classes.ensures ∙ ap (λ (k : KeptQuery). k.query.classes) c.self.view_is)
       c.deref.result.now (c.deref.ensures.value ∙ ap (λ (k : KeptQuery). k.columns) c.self.view_is)
       c.class_count-count.result c.class_count-count.ensures.value c.lack-grows.ensures);
   rows = c.in_ok-changes.ensures.rows;
 }
+
+pub returns-then-not-has_class-clause-ready : goal.returns-then-not-has_class-clause-ready
+returns-then-not-has_class-clause-ready g c = untouched_ready c.args.class c.args.self.now
+
+pub returns-then-not-has_class-clause-fresh : goal.returns-then-not-has_class-clause-fresh
+returns-then-not-has_class-clause-fresh g c =
+    other_untouched c.args.world.now.store.now c.args.world.now.regions.now c.args.id c.args.class c.args.now c.requires.class c.args.self.now
+    (subst IsKept c.self.view_is c.self.invariant.0) c.requires.before.0 c.requires.before.1 c.requires.before.2
+    c.items-classes.result.now (c.items-classes.ensures ∙ ap (λ (k : KeptQuery). k.query.classes) c.self.view_is)
+    c.has_class.result c.has_class.ensures c.if-not-has_class.true
+
+pub returns-then-stays-clause-ready : goal.returns-then-stays-clause-ready
+returns-then-stays-clause-ready g c = untouched_ready c.args.class c.args.self.now
+
+pub returns-then-stays-clause-fresh : goal.returns-then-stays-clause-fresh
+returns-then-stays-clause-fresh g c =
+    expired_untouched c.args.world.now.store.now c.args.world.now.regions.now c.args.id c.args.class c.args.now c.requires.class c.args.self.now
+    (subst IsKept c.self.view_is c.self.invariant.0) c.requires.before.0 c.requires.before.1 c.requires.before.2
+    c.items-classes.result.now (c.items-classes.ensures ∙ ap (λ (k : KeptQuery). k.query.classes) c.self.view_is)
+    c.lack-grows.result c.deref.result.now (c.deref.ensures.value ∙ ap (λ (k : KeptQuery). k.columns) c.self.view_is)
+    c.class_count-count.result c.class_count-count.ensures.value c.lack-grows.ensures (sym c.stays.ensures ∙ c.if-stays.true)
+
+pub returns-clause-touched : goal.returns-clause-touched
+returns-clause-touched g c =
+    is_touched c.args.class c.args.now c.args.self.now
+    c.items-classes.result.now (c.items-classes.ensures ∙ ap (λ (k : KeptQuery). k.query.classes) c.self.view_is)
+    c.has_class.result c.has_class.ensures c.if-not-has_class.false
+    (record { grows = c.lack-grows.result; changes = c.in_ok-changes.changes }) (sym c.stays.ensures ∙ c.if-stays.false)
