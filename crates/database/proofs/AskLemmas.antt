@@ -65,7 +65,7 @@ product_done place own (x ∷ xs) n most whole none within is = absurd (omega (a
 -- ---- names, kinds and bounds
 
 -- a fault of them, or want of memory where there is none
-type_refusal_is : (first : Option TypeFault) (fault : TypeFault) → fault ≡ unwrap_or first type_faults.NoMemory →
+pub type_refusal_is : (first : Option TypeFault) (fault : TypeFault) → fault ≡ unwrap_or first type_faults.NoMemory →
     option_and_then refusal_by_type first ≡ refusal_by_type fault
 type_refusal_is None fault is = sym (ap refusal_by_type is)
 type_refusal_is (Some f) fault is = sym (ap refusal_by_type is)

@@ -1,5 +1,6 @@
 pub mod AskLemmas
 pub mod AttemptLemmas
+pub mod BlurredLemmas
 pub mod CallerLemmas
 pub mod FileLemmas
 pub mod ListLemmas

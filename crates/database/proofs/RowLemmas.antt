@@ -18,8 +18,8 @@ use Rattle.nearness.specs.Nearest.{is_near, near, others_of, squared_to}
 use Rattle.nearest.specs.Rows.{told_near}
 use Rattle.nearest.specs.Rows as near_rows
 use Rattle.nearest.specs.declared.rows.NearRow.{NearRow}
-use Rattle.meaning.specs.Answer.{Row, answer, has_ticks, row_where}
-use Rattle.meaning.specs.Binding.{holds_target, product, tuples}
+use Rattle.meaning.specs.Answer.{Row, answer_where, has_ticks, row_where}
+use Rattle.meaning.specs.Binding.{product, target_where, tuples}
 use Rattle.object_store.specs.Contents.{Contents, StoredObject, catalog_of, object_info, object_name}
 use Rattle.line_meaning.specs.Reply.{row_line, row_text, rows_text}
 use Rattle.database.specs.Rows.{has_objects}
@@ -94,10 +94,11 @@ rows_below count holds from e (key ∷ keys) all =
     let both = and_parts (are_below count key) (list_all (are_below count) keys) all in
     kept_or_not count (row_where holds from e key) (has_ticks (row_where holds from e key).runs) _ both.0 (rows_below count holds from e keys both.1)
 
-pub answer_has_objects : (w : World) (q : ResolvedQuery) (from e : ℕ) →
-    list_all (has_objects (length w.history.catalog.objects)) (answer w q from e) ≡ true
-answer_has_objects w q from e =
-    rows_below (length w.history.catalog.objects) (holds_target w q e) from e (tuples w q) (tuples_below w q)
+-- by any test of what objects are given the variables
+pub answer_has_objects : (w : World) (q : ResolvedQuery) (holds : (ℕ → ℕ) → ℕ → Bool) (from e : ℕ) →
+    list_all (has_objects (length w.history.catalog.objects)) (answer_where w q holds from e) ≡ true
+answer_has_objects w q holds from e =
+    rows_below (length w.history.catalog.objects) (target_where w q holds) from e (tuples w q) (tuples_below w q)
 
 -- ---- and of the rows of the nearest
 

@@ -1,8 +1,8 @@
 -- The sizes and numbers of a command that was read, as far as the database relies on them.
-use Rattle.std.specs.Prelude.{◌<◌, ◌≤◌, length}
+use Rattle.std.specs.Prelude.{◌<◌, ◌≤◌, unsigned_abs, length}
 use Rattle.object_store.specs.Changes.{AreGiven}
 use Rattle.motion.specs.declared.limits.TheConstants.{ATTRIBUTE_LIMIT, CAPACITY_LIMIT}
-use Rattle.geometry.specs.declared.limits.TheConstants.{LEAST_VERTICES, VERTEX_LIMIT}
+use Rattle.geometry.specs.declared.limits.TheConstants.{LEAST_VERTICES, RADIUS_LIMIT, VERTEX_LIMIT}
 use Rattle.tick_set.specs.declared.spans.TheConstants.{LAST_TICK}
 use Rattle.ftl_parser.specs.Lawful.{IsLawful}
 use Rattle.command_text.specs.Tree
@@ -18,4 +18,6 @@ IsReady (Tree.Ask span q) = (span ≤ LAST_TICK) × IsLawful q
 IsReady (Tree.Watch name span q) = (span ≤ LAST_TICK) × IsLawful q
 IsReady (Tree.Keep name span q) = (span ≤ LAST_TICK) × IsLawful q
 IsReady (Tree.Nearest span k object class) = span ≤ LAST_TICK
+IsReady (Tree.Must error span q) = (unsigned_abs error ≤ RADIUS_LIMIT) × (span ≤ LAST_TICK) × IsLawful q
+IsReady (Tree.May error span q) = (unsigned_abs error ≤ RADIUS_LIMIT) × (span ≤ LAST_TICK) × IsLawful q
 IsReady _ = Unit {0}

@@ -3,7 +3,6 @@ ghost use Rattle.std.specs.Prelude.{◌≡◌, ◌+◌, ◌≤◌, ◌++◌, Non
 ghost use Rattle.tick_set.specs.declared.spans.TheConstants.{LAST_TICK, SPAN_LIMIT};
 ghost use Rattle.formula.specs.Resolved.{IsResolved};
 ghost use Rattle.formula.specs.Tree.{query_view as resolved_view};
-ghost use Rattle.ftl_parser.specs.Lawful.{IsLawful};
 ghost use Rattle.ftl_parser.specs.Tree.{query_view, view};
 ghost use Rattle.ftl_typer.specs.Resolved.{class_place};
 ghost use Rattle.meaning.specs.Answer.{answer};
@@ -15,9 +14,8 @@ ghost use Rattle.line_meaning.specs.Ask.{is_past_span, query_in, span_limit};
 ghost use Rattle.line_meaning.specs.FirstFault.{asked_refusal, refusal_by_type, size_refusal};
 ghost use Rattle.line_meaning.specs.Looks.{most_reads};
 ghost use Rattle.line_meaning.specs.Reply.{rows_text};
-ghost use Rattle.reply_text.specs.Begins.{Begins};
 ghost use Rattle.database.specs.Keeping.{TellsAcceptedWrites, world_of_database};
-ghost use Rattle.database.specs.Telling.{Asks, IsRefused, IsStoppedBy};
+ghost use Rattle.database.specs.Telling.{Asks, IsStoppedBy, IsToAsk, RefusesFreely, TakesAtMost, tally};
 
 use crate::database::Database;
 use crate::rows::push_rows;
@@ -120,9 +118,7 @@ fn judged(
     span: u32,
     query: &Query,
 ) -> Result<RQuery, CommandFault>
-    requires lawful { IsLawful (query_view query.now) }
-    requires now { database.now.clock ≤ LAST_TICK }
-    requires span { span ≤ LAST_TICK }
+    requires asked { IsToAsk database.now span (query_view query.now) }
     ensures query { IfOk result (λ q. resolved_view q ≡ query_in (world_of_database database.now) (query_view query.now)) }
     ensures sound { IfOk result (λ q. IsResolved (resolved_view q)) }
     ensures fits { IfOk result (λ q. FitsItsClasses (world_of_database database.now) (resolved_view q)) }
@@ -161,10 +157,8 @@ fn push_answer<L: Ledger, M: Ledger>(
     requires reached { database.now.clock + span ≤ LAST_TICK }
     ensures ok { OnOk result (out.new.items ≡ out.old.items ++ rows_text (catalog_of database.now.store) database.now.clock
         (answer (world_of_database database.now) (resolved_view query.now) database.now.clock (database.now.clock + span))) }
-    ensures begins { Begins out.old.items out.new.items }
-    ensures least { reads.old ≤ reads.new }
-    ensures most { reads.new ≤ reads.old
-        + query_reads (sizes_of (catalog_of database.now.store) (resolved_view query.now)) (span + 1) (resolved_view query.now) }
+    ensures takes { TakesAtMost (query_reads (sizes_of (catalog_of database.now.store) (resolved_view query.now)) (span + 1) (resolved_view query.now))
+        (tally out.old.items reads.old probes.old) (tally out.new.items reads.new probes.new) }
 {
     let window = Window {
         lo: database.clock,
@@ -193,16 +187,12 @@ pub(crate) fn ask<L: Ledger, M: Ledger>(
     probes: &mut Steps<M>,
     out: &mut Vec<u8>,
 ) -> Result<(), CommandFault>
-    requires lawful { IsLawful (query_view query.now) }
-    requires span { span ≤ LAST_TICK }
-    requires in_range { database.now.clock ≤ LAST_TICK }
+    requires query { IsToAsk database.now span (query_view query.now) }
     requires accepted { TellsAcceptedWrites database.now }
     ensures asked { Asks (world_of_database database.now) database.now.clock span (query_view query.now) out.old.items out.new.items result }
-    ensures begins { Begins out.old.items out.new.items }
-    ensures least { reads.old ≤ reads.new }
-    ensures most { reads.new ≤ reads.old + most_reads (world_of_database database.now) span (query_view query.now) }
-    ensures unread { IfErr result (λ fault. IsRefused fault → reads.new ≡ reads.old) }
-    ensures unprobed { IfErr result (λ fault. IsRefused fault → probes.new ≡ probes.old) }
+    ensures takes { TakesAtMost (most_reads (world_of_database database.now) span (query_view query.now))
+        (tally out.old.items reads.old probes.old) (tally out.new.items reads.new probes.new) }
+    ensures free { RefusesFreely (tally out.old.items reads.old probes.old) (tally out.new.items reads.new probes.new) result }
 {
     let query = judged(alloc, database, span, query)?;
     push_answer(alloc, database, span, &query, reads, probes, out)?;

@@ -3,6 +3,7 @@
 #![tactic(auto)]
 
 mod asking;
+mod blurred;
 mod change;
 mod database;
 mod files;

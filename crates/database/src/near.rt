@@ -6,10 +6,9 @@ ghost use Rattle.history.specs.Catalog.{number_of_class};
 ghost use Rattle.line_meaning.specs.Looks.{looks_near};
 ghost use Rattle.line_meaning.specs.Near.{has_places, is_near_past, is_near_unknown, near_refusal, number_of_object, pairs_in, rows_near};
 ghost use Rattle.line_meaning.specs.Reply.{rows_text};
-ghost use Rattle.reply_text.specs.Begins.{Begins};
 ghost use Rattle.database.specs.Keeping.{world_of_database};
 ghost use Rattle.database.specs.Near.{refusal_of_found};
-ghost use Rattle.database.specs.Telling.{Answers, IsRefused};
+ghost use Rattle.database.specs.Telling.{Answers, RefusesFreely, TakesAtMost, tally};
 
 use crate::database::Database;
 use crate::rows::push_near;
@@ -131,10 +130,9 @@ pub(crate) fn tell_nearest<L: Ledger, M: Ledger>(
         (rows_text (catalog_of database.now.store) database.now.clock
         (rows_near (world_of_database database.now) database.now.clock sought.now.span sought.now.k sought.now.object.now sought.now.class.now))
         out.old.items out.new.items result }
-    ensures begins { Begins out.old.items out.new.items }
-    ensures least { reads.old ≤ reads.new }
-    ensures most { reads.new ≤ reads.old + looks_near (catalog_of database.now.store) sought.now.class.now }
-    ensures unread { IfErr result (λ fault. IsRefused fault → reads.new ≡ reads.old) }
+    ensures takes { TakesAtMost (looks_near (catalog_of database.now.store) sought.now.class.now)
+        (tally out.old.items reads.old probes.old) (tally out.new.items reads.new probes.new) }
+    ensures free { RefusesFreely (tally out.old.items reads.old probes.old) (tally out.new.items reads.new probes.new) result }
     ensures unprobed { probes.new ≡ probes.old }
 {
     let Some(found) = find(&database.store, sought) else {

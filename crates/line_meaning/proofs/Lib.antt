@@ -8,3 +8,4 @@ pub mod RefusalLemmas
 pub mod RefusingLemmas
 pub mod RoleLemmas
 pub mod StepLemmas
+mod WorldLemmas

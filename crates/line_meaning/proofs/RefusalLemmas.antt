@@ -14,7 +14,8 @@ use Rattle.ftl_typer.specs.First.{first_found, found_after, least_place}
 use Rattle.ftl_typer.specs.declared.found.FaultKind.TheVariants as kinds
 use Rattle.ftl_typer.proofs.FirstLemmas.{least_is_some}
 use Rattle.line_meaning.specs.Ask.{ask_refusal, bindings_asked, has_fault, is_past_span}
-use Rattle.line_meaning.specs.FirstFault.{asked_refusal, refusal_by_type, register_size_refusal, registered_refusal, size_refusal, type_refusal, unknown_among}
+use Rattle.line_meaning.specs.Blurred.{blurred_refusal, is_barred, is_blurred_crowded, is_blurred_past}
+use Rattle.line_meaning.specs.FirstFault.{asked_refusal, blurred_size_refusal, first_blurred_refusal, refusal_by_type, refusal_if_barred, register_size_refusal, registered_refusal, size_refusal, type_refusal, unknown_among}
 use Rattle.line_meaning.specs.QueryFault.{passes_bindings, register_refusal}
 use Rattle.line_meaning.specs.Registry.{Known, is_registered}
 
@@ -62,6 +63,30 @@ asked_by_fault w now span q =
     in_order (has_fault kinds.UnknownName w q) (has_fault kinds.NameTaken w q) (has_fault kinds.WrongKind w q) (has_fault kinds.TermRange w q)
     ((refusals.SpanRange, is_past_span now span q.formula) ∷ (refusals.BindingLimit, nat_lt BINDING_LIMIT (bindings_asked w q)) ∷ [])
     ∙ ap (λ (first : Option Refusal). or_else first (size_refusal w now span q)) (sym (type_by_kind w q))
+
+-- ---- queries of a `must` or a `may`
+
+-- with a NOT or a circle, or without
+barred : (unknown taken wrong past bars : Bool) (later : List (Refusal × Bool)) →
+    first_that_holds (by_kind unknown taken (wrong || bars) past later)
+    ≡ or_else (refusal_if_barred bars (first_that_holds (by_kind unknown taken wrong past []))) (first_that_holds later)
+barred true taken wrong past true later = refl
+barred true taken wrong past false later = refl
+barred false true wrong past true later = refl
+barred false true wrong past false later = refl
+barred false false true past true later = refl
+barred false false true past false later = refl
+barred false false false true true later = refl
+barred false false false true false later = refl
+barred false false false false true later = refl
+barred false false false false false later = refl
+
+pub blurred_by_fault : (w : World) (now span : ℕ) (q : QueryTree) → blurred_refusal w now span q ≡ first_blurred_refusal w now span q
+blurred_by_fault w now span q =
+    barred (has_fault kinds.UnknownName w q) (has_fault kinds.NameTaken w q) (has_fault kinds.WrongKind w q) (has_fault kinds.TermRange w q)
+    (is_barred q.formula)
+    ((refusals.SpanRange, is_blurred_past now span) ∷ (refusals.BindingLimit, is_blurred_crowded w q) ∷ [])
+    ∙ ap (λ (first : Option Refusal). or_else (refusal_if_barred (is_barred q.formula) first) (blurred_size_refusal w now span q)) (sym (type_by_kind w q))
 
 -- ---- queries that are to be registered
 

@@ -176,8 +176,8 @@ by_command b (Tree.Import class file) built =
     ((refusals.NoFile, lacks_text b c) ∷ (refusals.BadFile, has_bad_text b c) ∷ [])
 by_command b (Tree.Export class file) built = told_row _ ∙ or_none _
 by_command b (Tree.Nearest span k object class) built = told_row _ ∙ or_none _
-by_command b (Tree.Must error span q) built = absurd (false≢true (sym built))
-by_command b (Tree.May error span q) built = absurd (false≢true (sym built))
+by_command b (Tree.Must error span q) built = told_row _ ∙ or_none _
+by_command b (Tree.May error span q) built = told_row _ ∙ or_none _
 by_command b (Tree.Index class attribute width) built = absurd (false≢true (sym built))
 by_command b (Tree.Range span class attribute least greatest) built = absurd (false≢true (sym built))
 

@@ -1,5 +1,5 @@
 -- What a command is answered before its `ok`.
-use Rattle.std.specs.Prelude.{ℕ, List, []}
+use Rattle.std.specs.Prelude.{ℕ, true, false, List, []}
 use Rattle.std.specs.List.{flat_map}
 use Rattle.std.specs.Option.{option_map_or}
 use Rattle.history.specs.World.{World}
@@ -7,6 +7,7 @@ use Rattle.formula.specs.declared.kind.QueryKind.TheVariants as kinds
 use Rattle.command_text.specs.Tree
 use Rattle.command_text.specs.Tree.{CommandTree}
 use Rattle.line_meaning.specs.Ask.{rows_asked}
+use Rattle.line_meaning.specs.Blurred.{rows_blurred}
 use Rattle.line_meaning.specs.Changes.{answer_text, tick_lines, write_lines}
 use Rattle.line_meaning.specs.Near.{rows_near}
 use Rattle.line_meaning.specs.Registry.{Known, query_of, registration}
@@ -17,6 +18,8 @@ abbrev pub answer_lines : World → ℕ → CommandTree → List ℕ
 answer_lines w now Tree.Listing = listing now w.history.catalog w.regions
 answer_lines w now (Tree.Ask span q) = rows_text w.history.catalog now (rows_asked w now span q)
 answer_lines w now (Tree.Nearest span k object class) = rows_text w.history.catalog now (rows_near w now span k object class)
+answer_lines w now (Tree.Must error span q) = rows_text w.history.catalog now (rows_blurred true w now span error q)
+answer_lines w now (Tree.May error span q) = rows_text w.history.catalog now (rows_blurred false w now span error q)
 answer_lines w now _ = []
 
 -- the lines that tell of registered queries; in a `list` they come after the others

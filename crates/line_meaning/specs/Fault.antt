@@ -19,6 +19,7 @@ use Rattle.command_text.specs.Text.{text_of}
 use Rattle.command_text.specs.Tree
 use Rattle.command_text.specs.Tree.{CommandTree}
 use Rattle.line_meaning.specs.Ask.{ask_refusal}
+use Rattle.line_meaning.specs.Blurred.{blurred_refusal}
 use Rattle.line_meaning.specs.Journal.{attribute_of}
 use Rattle.line_meaning.specs.Near.{near_refusal}
 use Rattle.command_text.specs.Journal.{is_kept}
@@ -43,8 +44,8 @@ is_gap (Tree.Save file) = false
 is_gap (Tree.Import class file) = false
 is_gap (Tree.Export class file) = false
 is_gap (Tree.Nearest span k object class) = false
-is_gap (Tree.Must error span q) = true
-is_gap (Tree.May error span q) = true
+is_gap (Tree.Must error span q) = false
+is_gap (Tree.May error span q) = false
 is_gap (Tree.Index class attribute width) = true
 is_gap (Tree.Range span class attribute least greatest) = true
 
@@ -91,6 +92,8 @@ fault_among w now (Tree.Remove name) =
 fault_among w now (Tree.Tick ticks) = tick_refusal now ticks
 fault_among w now (Tree.Ask span q) = ask_refusal w now span q
 fault_among w now (Tree.Nearest span k object class) = near_refusal w.history.catalog now span object class
+fault_among w now (Tree.Must error span q) = blurred_refusal w now span q
+fault_among w now (Tree.May error span q) = blurred_refusal w now span q
 fault_among w now (Tree.Import class file) = class_refusal w.history.catalog class
 fault_among w now (Tree.Export class file) = class_refusal w.history.catalog class
 fault_among w now _ = None

@@ -1,6 +1,6 @@
 -- How a query is judged: by the first of its faults, and else by its sizes. What refuses it so is what the tables of its
 -- refusals say, which a lemma for the crates above shows.
-use Rattle.std.specs.Prelude.{ℕ, Bool, Option, None, Some, option_and_then, List, [], ◌∷◌, nat_le, nat_lt, length}
+use Rattle.std.specs.Prelude.{ℕ, Bool, true, false, Option, None, Some, option_and_then, List, [], ◌∷◌, nat_le, nat_lt, length}
 use Rattle.exact.specs.First.{first_that_holds, or_else}
 use Rattle.history.specs.World.{World}
 use Rattle.formula.specs.declared.limits.TheConstants.{QUERY_LIMIT}
@@ -13,6 +13,7 @@ use Rattle.ftl_typer.specs.First.{first_fault}
 use Rattle.ftl_typer.specs.declared.fault.TypeFault.{TypeFault}
 use Rattle.ftl_typer.specs.declared.fault.TypeFault.TheVariants as type_faults
 use Rattle.line_meaning.specs.Ask.{bindings_asked, is_past_span}
+use Rattle.line_meaning.specs.Blurred.{is_barred, is_blurred_crowded, is_blurred_past}
 use Rattle.line_meaning.specs.QueryFault.{passes_bindings}
 use Rattle.line_meaning.specs.Registry.{Known, is_registered}
 
@@ -36,6 +37,31 @@ size_refusal w now span q = first_that_holds (
 
 abbrev pub asked_refusal : World → ℕ → ℕ → QueryTree → Option Refusal
 asked_refusal w now span q = or_else (type_refusal w q) (size_refusal w now span q)
+
+-- ---- a query of a `must` or a `may`
+
+-- without that of a bound
+abbrev pub without_range : Option Refusal → Option Refusal
+without_range (Some refusals.TermRange) = None
+without_range refusal = refusal
+
+-- the refusal of names, kinds and bounds, where the formula has a NOT or a circle or has none: these come before bounds
+abbrev pub refusal_if_barred : Bool → Option Refusal → Option Refusal
+refusal_if_barred true type = or_else (without_range type) (Some refusals.WrongKind)
+refusal_if_barred false type = type
+
+-- those by its span and by how many bindings there may be
+abbrev pub blurred_size_refusal : World → (now span : ℕ) → QueryTree → Option Refusal
+blurred_size_refusal w now span q = first_that_holds (
+    (refusals.SpanRange, is_blurred_past now span)
+    ∷ (refusals.BindingLimit, is_blurred_crowded w q)
+    ∷ [])
+
+abbrev pub first_blurred_refusal : World → (now span : ℕ) → QueryTree → Option Refusal
+first_blurred_refusal w now span q =
+    or_else (refusal_if_barred (is_barred q.formula) (type_refusal w q)) (blurred_size_refusal w now span q)
+
+-- ---- a query that is to be registered
 
 -- the refusal of an unknown name, which comes before that of a taken one
 abbrev pub unknown_among : Option Refusal → Option Refusal

@@ -17,7 +17,10 @@ pub mod Loading
 pub mod Reached
 pub mod Looks
 pub mod Near
+pub mod Blurred
+pub mod InWorlds
 pub mod Example
 pub mod NearExample
+pub mod BlurredExample
 pub mod QueryExample
 pub mod FilesExample

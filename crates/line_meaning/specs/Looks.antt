@@ -20,6 +20,8 @@ abbrev pub is_query : CommandTree → Bool
 is_query (Tree.Ask span q) = true
 is_query (Tree.Watch name span q) = true
 is_query (Tree.Keep name span q) = true
+is_query (Tree.Must error span q) = true
+is_query (Tree.May error span q) = true
 is_query (Tree.Insert class name place sets) = true
 is_query (Tree.Update name place sets) = true
 is_query (Tree.Remove name) = true
@@ -42,6 +44,8 @@ looks_near c class = length (objects_of_class c class) + 1
 abbrev pub looks_asked : World → CommandTree → ℕ
 looks_asked w (Tree.Ask span q) = most_reads w span q
 looks_asked w (Tree.Nearest span k object class) = looks_near w.history.catalog class
+looks_asked w (Tree.Must error span q) = most_reads w span q
+looks_asked w (Tree.May error span q) = most_reads w span q
 looks_asked w _ = 0
 
 -- those of the registered queries, each with the object that was written in place of all of its class
@@ -56,6 +60,8 @@ looks_of_write k name =
 abbrev pub most_looks : Held → CommandTree → ℕ
 most_looks h (Tree.Ask span q) = most_reads (known h.journal).world span q
 most_looks h (Tree.Nearest span k object class) = looks_near (world h.journal).history.catalog class
+most_looks h (Tree.Must error span q) = most_reads (known h.journal).world span q
+most_looks h (Tree.May error span q) = most_reads (known h.journal).world span q
 most_looks h (Tree.Watch name span q) = most_reads (known h.journal).world span q
 most_looks h (Tree.Keep name span q) = most_reads (known h.journal).world span q
 most_looks h (Tree.Insert class name place sets) = looks_of_write (known (held_after h (Tree.Insert class name place sets)).journal) name

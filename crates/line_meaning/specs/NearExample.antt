@@ -1,5 +1,5 @@
 -- The rows that answer a `nearest`, their lines, and refusals, worked out by hand.
-use Rattle.std.specs.Prelude.{◌≡◌, ℕ, pos, negsuc, true, false, None, Some, List, [], ◌∷◌, ◌++◌, codes, map}
+use Rattle.std.specs.Prelude.{◌≡◌, ℕ, negsuc, true, false, None, Some, List, [], ◌∷◌, ◌++◌, codes, map}
 use Rattle.motion.specs.Function.{level}
 use Rattle.motion.specs.declared.cell.Place.{Place}
 use Rattle.history.specs.Catalog.{Catalog}

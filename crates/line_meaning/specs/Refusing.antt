@@ -23,6 +23,7 @@ use Rattle.command_text.specs.Text.{text_of}
 use Rattle.command_text.specs.Tree
 use Rattle.command_text.specs.Tree.{CommandTree}
 use Rattle.line_meaning.specs.Ask.{bindings_asked, has_fault, is_past_span}
+use Rattle.line_meaning.specs.Blurred.{is_barred, is_blurred_crowded, is_blurred_past}
 use Rattle.line_meaning.specs.Fault.{is_gap, is_present, passes_limits}
 use Rattle.line_meaning.specs.Journal.{attribute_of}
 use Rattle.line_meaning.specs.Near.{is_near_crowded, is_near_past, is_near_placeless, is_near_unknown}
@@ -53,6 +54,8 @@ names_unknown k (Tree.Keep name span q) = has_fault kinds.UnknownName k.world q
 names_unknown k (Tree.Show name) = not (is_registered k.live name)
 names_unknown k (Tree.Drop name) = not (is_registered k.live name)
 names_unknown k (Tree.Nearest span n object class) = is_near_unknown (catalog_of k) object class
+names_unknown k (Tree.Must error span q) = has_fault kinds.UnknownName k.world q
+names_unknown k (Tree.May error span q) = has_fault kinds.UnknownName k.world q
 names_unknown k (Tree.Import class file) = is_none (number_of_class (catalog_of k) class)
 names_unknown k (Tree.Export class file) = is_none (number_of_class (catalog_of k) class)
 names_unknown k _ = false
@@ -68,9 +71,11 @@ has_taken_name k (Tree.Update name place sets) = repeats_set place sets
 has_taken_name k (Tree.Ask span q) = has_fault kinds.NameTaken k.world q
 has_taken_name k (Tree.Watch name span q) = has_fault kinds.NameTaken k.world q || is_registered k.live name
 has_taken_name k (Tree.Keep name span q) = has_fault kinds.NameTaken k.world q || is_registered k.live name
+has_taken_name k (Tree.Must error span q) = has_fault kinds.NameTaken k.world q
+has_taken_name k (Tree.May error span q) = has_fault kinds.NameTaken k.world q
 has_taken_name k _ = false
 
--- ---- 9: a name or a value is of a kind that its place doesn't take
+-- ---- 9: a name or a value is of a kind that its place doesn't take, or a formula is
 
 -- a place is written of a class without positions, or an attribute is given what it doesn't take
 abbrev pub misfits : Option ClassInfo → Place → List NamedSet → Bool
@@ -83,6 +88,8 @@ is_of_wrong_kind k (Tree.Ask span q) = has_fault kinds.WrongKind k.world q
 is_of_wrong_kind k (Tree.Watch name span q) = has_fault kinds.WrongKind k.world q
 is_of_wrong_kind k (Tree.Keep name span q) = has_fault kinds.WrongKind k.world q
 is_of_wrong_kind k (Tree.Nearest span n object class) = is_near_placeless (catalog_of k) object class
+is_of_wrong_kind k (Tree.Must error span q) = has_fault kinds.WrongKind k.world q || is_barred q.formula
+is_of_wrong_kind k (Tree.May error span q) = has_fault kinds.WrongKind k.world q || is_barred q.formula
 is_of_wrong_kind k _ = false
 
 -- ---- 10: the points are no convex polygon
@@ -97,6 +104,8 @@ abbrev pub passes_bound : Known → CommandTree → Bool
 passes_bound k (Tree.Ask span q) = has_fault kinds.TermRange k.world q
 passes_bound k (Tree.Watch name span q) = has_fault kinds.TermRange k.world q
 passes_bound k (Tree.Keep name span q) = has_fault kinds.TermRange k.world q
+passes_bound k (Tree.Must error span q) = has_fault kinds.TermRange k.world q
+passes_bound k (Tree.May error span q) = has_fault kinds.TermRange k.world q
 passes_bound k _ = false
 
 -- ---- 12: the span passes its limit, or reaches past the last tick
@@ -106,6 +115,8 @@ passes_span k (Tree.Ask span q) = is_past_span k.now span q.formula
 passes_span k (Tree.Watch name span q) = is_past_span k.now span q.formula
 passes_span k (Tree.Keep name span q) = is_past_span k.now span q.formula
 passes_span k (Tree.Nearest span n object class) = is_near_past k.now span
+passes_span k (Tree.Must error span q) = is_blurred_past k.now span
+passes_span k (Tree.May error span q) = is_blurred_past k.now span
 passes_span k _ = false
 
 -- ---- 13: the clock would pass the last tick
@@ -148,6 +159,8 @@ has_many_bindings k (Tree.Ask span q) = nat_lt BINDING_LIMIT (bindings_asked k.w
 has_many_bindings k (Tree.Watch name span q) = passes_bindings k (bindings_asked k.world q)
 has_many_bindings k (Tree.Keep name span q) = passes_bindings k (bindings_asked k.world q)
 has_many_bindings k (Tree.Nearest span n object class) = is_near_crowded (catalog_of k) class
+has_many_bindings k (Tree.Must error span q) = is_blurred_crowded k.world q
+has_many_bindings k (Tree.May error span q) = is_blurred_crowded k.world q
 has_many_bindings k _ = false
 
 -- ---- 18: the journal has no room for the command

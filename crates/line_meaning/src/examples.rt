@@ -1,4 +1,5 @@
 //! Lines of queries and texts of files worked out, as calls without a body.
+ghost use Rattle.line_meaning.specs.BlurredExample.{AnswersBlurred, RefusesBlurred};
 ghost use Rattle.line_meaning.specs.Example.{AnswersAsks, RefusesAsks, RefusesByTheFirst};
 ghost use Rattle.line_meaning.specs.FilesExample.{ImportsRows, LoadsTexts, SavesTexts};
 ghost use Rattle.line_meaning.specs.NearExample.{AnswersNearest, RefusesNearest};
@@ -13,6 +14,17 @@ pub fn asks_are_answered()
 /// Names and kinds before spans, the limits of spans, and the limit of bindings.
 pub fn asks_are_refused()
     ensures { RefusesAsks }
+{}
+
+/// What surely and what possibly holds of a car that drives through a region and past a post, the lines, and how many looks
+/// are taken.
+pub fn blurred_are_answered()
+    ensures { AnswersBlurred }
+{}
+
+/// Names before kinds and formulas with a NOT or a circle, these before bounds, and the limits of spans and of bindings.
+pub fn blurred_are_refused()
+    ensures { RefusesBlurred }
 {}
 
 /// Lines with two faults: both refusals hold, and the first is the answer.

@@ -13,6 +13,7 @@ ghost use Rattle.session_file.specs.Text.{session_text};
 ghost use Rattle.outside.specs.Shelf.{Texts};
 ghost use Rattle.history.specs.Catalog.{empty_catalog};
 ghost use Rattle.meaning.specs.Accepted.{are_accepted};
+ghost use Rattle.line_meaning.specs.InWorlds.{AskLiesBetween, SurelyIsSo, WhatIsSoMayBe};
 ghost use Rattle.line_meaning.specs.Journal.{writes};
 ghost use Rattle.line_meaning.specs.Loading.{IsBadLine, Loaded, loading_of};
 ghost use Rattle.line_meaning.specs.Reached.{AreReached, after_lines};
@@ -23,6 +24,7 @@ ghost use Rattle.line_meaning.specs.Step.{Base, Held, base, fault_of, held, held
 use command_text::{canonical_lines_are_short, read_commands_are_printable};
 use object_rows::commands_are_printable;
 use session_file::{cut_texts_are_bad, saved_texts_are_loaded};
+use worlds::worlds_lie_between;
 
 /// All lines of more than 4,096 bytes are refused by LineTooLong, so that no more of them need be kept.
 pub fn long_lines_step_alike()
@@ -86,3 +88,15 @@ pub fn refusals_come_in_order()
     // Each refusal stands in the list at the place of its number.
     ensures places { (r : Refusal) → slice_get all_refusals (number_of r - 1) ≡ Some r }
 {}
+
+/// Of a query that a `must` and a `may` are answered: what `must` tells is so in each world in which no object is off by more
+/// than the error, along an axis at any tick, and what is so in some such world, `may` tells.
+pub fn answers_lie_between()
+    ensures surely { SurelyIsSo }
+    ensures possibly { WhatIsSoMayBe }
+
+    // So the answer of an `ask` lies between the two.
+    ensures between { AskLiesBetween }
+{
+    worlds_lie_between();
+}

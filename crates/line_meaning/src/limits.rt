@@ -1,4 +1,4 @@
-//! The limits of spans, and of all registered queries together.
+//! The limits of spans, of the bindings of a `must` or a `may`, and of all registered queries together.
 ghost use Rattle.std.specs.Prelude.{◌≡◌, ◌*◌, ◌^◌};
 
 /// The longest span of a query with an assignment, in ticks.
@@ -13,6 +13,12 @@ pub const CIRCLE_SPAN_LIMIT: u32 = 100_000;
 /// The longest span of a `nearest`, in ticks.
 pub const NEAREST_SPAN_LIMIT: u32 = 1_000_000;
 
+/// The longest span of a `must` or a `may`, in ticks.
+pub const BLURRED_SPAN_LIMIT: u32 = 10_000;
+
+/// The most bindings that there may come to be of the query of a `must` or a `may`.
+pub const BLURRED_BINDING_LIMIT: u32 = 10_000;
+
 /// The most bindings that there may come to be of all registered queries together.
 pub const ALL_BINDINGS_LIMIT: u32 = 4_000_000;
 
@@ -22,5 +28,7 @@ pub fn limits_in_numbers()
     ensures names { CIRCLE_NAMES ≡ 3 }
     ensures circle { CIRCLE_SPAN_LIMIT ≡ 10 ^ 5 }
     ensures nearest { NEAREST_SPAN_LIMIT ≡ 10 ^ 6 }
+    ensures blurred { BLURRED_SPAN_LIMIT ≡ 10 ^ 4 }
+    ensures blurred_bindings { BLURRED_BINDING_LIMIT ≡ 10 ^ 4 }
     ensures bindings { ALL_BINDINGS_LIMIT ≡ 4 * 10 ^ 6 }
 {}

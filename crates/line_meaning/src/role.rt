@@ -45,7 +45,8 @@ pub fn is_gap(command: &Command) -> bool
         Command::Class { .. } | Command::Region { .. } | Command::Insert { .. } => false,
         Command::Update { .. } | Command::Remove { .. } | Command::Tick { .. } => false,
         Command::Watch { .. } | Command::Keep { .. } => false,
-        Command::Show { .. } | Command::Drop { .. } | Command::Nearest { .. } => false,
+        Command::Show { .. } | Command::Drop { .. } => false,
+        Command::Nearest { .. } | Command::Must { .. } | Command::May { .. } => false,
         Command::Save { .. } | Command::Import { .. } | Command::Export { .. } => false,
         _ => true,
     }

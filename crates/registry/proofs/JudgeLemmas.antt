@@ -1,6 +1,6 @@
 -- The refusals of a query that is to be registered, by what was judged of it.
 use Rattle.std.proofs.Common.{◌≡◌, ℕ, ◌+◌, ◌-◌, ◌≤◌, ◌<◌, Bool, true, false, ◌||◌, Option, None, Some, List, [], ◌∷◌, length, refl, sym, ap, ◌∙◌, inl, inr, arith, if◌then◌else◌}
-use Rattle.std.specs.Prelude.{◌^◌, min, nat_le, nat_lt, option_and_then, unwrap_or}
+use Rattle.std.specs.Prelude.{◌^◌, min, nat_le, nat_lt, option_and_then, unwrap_or, IfOk, IsOk, Result, Ok, Err}
 use Rattle.std.proofs.lemmas.Bool.{cases_lt, or_parts}
 use Rattle.std.proofs.lemmas.Bool.Decides.{nat_tests}
 use Rattle.exact.specs.First.{first_that_holds, or_else}
@@ -8,23 +8,30 @@ use Rattle.tick_set.specs.declared.spans.TheConstants.{LAST_TICK, SPAN_LIMIT}
 use Rattle.geometry.specs.Region.{Region}
 use Rattle.history.specs.Catalog.{ClassInfo}
 use Rattle.formula.specs.declared.limits.TheConstants.{QUERY_LIMIT}
+use Rattle.formula.specs.Resolved.{IsResolved}
+use Rattle.formula.specs.Tree.{ResolvedQuery}
+use Rattle.meaning.specs.Fits.{FitsItsClasses}
 use Rattle.kept_rows.specs.declared.binding.TheConstants.{BINDING_LIMIT}
 use Rattle.command_text.specs.declared.refusal.Refusal.{Refusal}
 use Rattle.command_text.specs.declared.refusal.Refusal.TheVariants as refusals
 use Rattle.ftl_parser.specs.Sizes.{nesting, objects}
-use Rattle.ftl_parser.specs.Tree.{QueryTree}
+use Rattle.ftl_parser.specs.Tree.{QueryTree, query_view}
 use Rattle.ftl_typer.specs.Faults.{faults}
 use Rattle.ftl_typer.specs.First.{first_fault}
 use Rattle.ftl_typer.specs.declared.fault.TypeFault.{TypeFault}
 use Rattle.ftl_typer.specs.declared.fault.TypeFault.TheVariants as type_faults
 use Rattle.line_meaning.specs.declared.limits.TheConstants.{ALL_BINDINGS_LIMIT, ASSIGNED_SPAN_LIMIT, CIRCLE_NAMES, CIRCLE_SPAN_LIMIT}
-use Rattle.line_meaning.specs.Ask.{bindings_asked, is_past_span, span_limit}
+use Rattle.line_meaning.specs.Ask.{bindings_asked, is_past_span, query_in, span_limit}
 use Rattle.line_meaning.specs.FirstFault.{refusal_by_type, register_size_refusal, type_refusal, unknown_among}
 use Rattle.line_meaning.specs.QueryFault.{bindings_of, passes_bindings, register_refusal}
 use Rattle.line_meaning.specs.Registry.{Known, is_registered}
 use Rattle.line_meaning.proofs.RefusalLemmas.{registered_by_fault}
 use Rattle.database.specs.declared.database.Database.{Database}
 use Rattle.database.specs.Keeping.{world_of_database}
+use Rattle.live_queries.specs.Kept.{KeptQuery}
+use Rattle.registry.specs.declared.registering.Request.{Request}
+use Rattle.registry.specs.Judged.{IsJudged}
+use Rattle.registry.specs.Standing.{known_of}
 
 -- ---- counts
 
@@ -116,3 +123,12 @@ right_is k name span q none =
       few = less QUERY_LIMIT (length k.live) full.0;
       size = within BINDING_LIMIT many sums.0;
     }
+
+-- ---- a query that was judged beside the others
+
+pub judged_by : {V E : Type 0} (d : Database) (live : List KeptQuery) (r : Request) (view : V → ResolvedQuery) (x : Result V E) →
+    IfOk x (λ q. view q ≡ query_in (world_of_database d) (query_view r.query.now)) → IfOk x (λ q. IsResolved (view q)) →
+    IfOk x (λ q. FitsItsClasses (world_of_database d) (view q)) →
+    (IsOk x → register_refusal (known_of d live) r.name.now r.span (query_view r.query.now) ≡ None) → IfOk x (λ q. IsJudged d live r (view q))
+judged_by d live r view (Ok q) query sound fits right = record { query = query; sound = sound; fits = fits; right = right refl }
+judged_by d live r view (Err fault) query sound fits right = tt

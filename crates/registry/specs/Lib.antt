@@ -2,3 +2,4 @@ pub mod Standing
 pub mod Registers
 pub mod Moves
 pub mod Beside
+pub mod Judged

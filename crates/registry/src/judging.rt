@@ -3,15 +3,15 @@ ghost use Rattle.std.specs.Prelude.{◌≡◌, ◌≤◌, ◌∷◌, [], None, I
 ghost use Rattle.formula.specs.Resolved.{IsResolved};
 ghost use Rattle.formula.specs.Tree.{query_view as resolved_view};
 ghost use Rattle.meaning.specs.Fits.{FitsItsClasses};
-ghost use Rattle.ftl_parser.specs.Lawful.{IsLawful};
 ghost use Rattle.ftl_parser.specs.Tree.{query_view};
 ghost use Rattle.tick_set.specs.declared.spans.TheConstants.{LAST_TICK};
 ghost use Rattle.line_meaning.specs.Ask.{query_in};
 ghost use Rattle.line_meaning.specs.FirstFault.{refusal_by_type, refusal_in_order};
 ghost use Rattle.database.specs.Keeping.{clock_of, world_of_database};
-ghost use Rattle.database.specs.Telling.{IsStoppedBy};
+ghost use Rattle.database.specs.Telling.{IsStoppedBy, IsToAsk};
 ghost use Rattle.line_meaning.specs.QueryFault.{passes_beside, register_refusal};
 ghost use Rattle.registry.specs.Beside.{refusal_beside, size_refusal_beside};
+ghost use Rattle.registry.specs.Judged.{IsJudged};
 ghost use Rattle.registry.specs.Standing.{Stand, known_of};
 
 use crate::registering::Request;
@@ -80,9 +80,7 @@ fn judge_beside(
     others: &Others,
     request: &Request,
 ) -> Result<RQuery, CommandFault>
-    requires lawful { IsLawful (query_view request.now.query.now) }
-    requires now { database.now.clock ≤ LAST_TICK }
-    requires span { request.now.span ≤ LAST_TICK }
+    requires asked { IsToAsk database.now request.now.span (query_view request.now.query.now) }
     ensures query { IfOk result (λ q. resolved_view q ≡ query_in (world_of_database database.now) (query_view request.now.query.now)) }
     ensures sound { IfOk result (λ q. IsResolved (resolved_view q)) }
     ensures fits { IfOk result (λ q. FitsItsClasses (world_of_database database.now) (resolved_view q)) }
@@ -111,14 +109,9 @@ pub fn judge(
     live: &Live,
     request: &Request,
 ) -> Result<RQuery, CommandFault>
-    requires lawful { IsLawful (query_view request.now.query.now) }
-    requires now { database.now.clock ≤ LAST_TICK }
-    requires span { request.now.span ≤ LAST_TICK }
+    requires asked { IsToAsk database.now request.now.span (query_view request.now.query.now) }
     requires stand { Stand database.now live.now }
-    ensures query { IfOk result (λ q. resolved_view q ≡ query_in (world_of_database database.now) (query_view request.now.query.now)) }
-    ensures sound { IfOk result (λ q. IsResolved (resolved_view q)) }
-    ensures fits { IfOk result (λ q. FitsItsClasses (world_of_database database.now) (resolved_view q)) }
-    ensures right { IsOk result → register_refusal (known_of database.now live.now) request.now.name.now request.now.span (query_view request.now.query.now) ≡ None }
+    ensures judged { IfOk result (λ q. IsJudged database.now live.now request.now (resolved_view q)) }
     ensures cause { IfErr result (λ fault.
         IsStoppedBy (register_refusal (known_of database.now live.now) request.now.name.now request.now.span (query_view request.now.query.now)) fault) }
 {

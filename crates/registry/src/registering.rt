@@ -1,20 +1,13 @@
 //! Registering a query.
-ghost use Rattle.std.specs.Prelude.{◌≡◌, ◌+◌, ◌≤◌, ◌++◌, None, OnErr, OnOk};
-ghost use Rattle.formula.specs.Resolved.{IsResolved};
+ghost use Rattle.std.specs.Prelude.{◌≤◌};
 ghost use Rattle.formula.specs.Tree.{query_view as resolved_view};
-ghost use Rattle.meaning.specs.Fits.{FitsItsClasses};
 ghost use Rattle.ftl_parser.specs.Tree.{query_view};
 ghost use Rattle.tick_set.specs.declared.spans.TheConstants.{LAST_TICK};
-ghost use Rattle.line_meaning.specs.Ask.{query_in};
-ghost use Rattle.line_meaning.specs.Changes.{answer_text};
 ghost use Rattle.line_meaning.specs.Looks.{most_reads};
-ghost use Rattle.line_meaning.specs.QueryFault.{register_refusal};
-ghost use Rattle.line_meaning.specs.Registry.{registration};
-ghost use Rattle.live_queries.specs.Registering.{AddsQuery};
-ghost use Rattle.reply_text.specs.Begins.{Begins};
-ghost use Rattle.database.specs.Keeping.{IsTimely, TellsAcceptedWrites, clock_of, world_of_database};
-ghost use Rattle.registry.specs.Registers.{info_for};
-ghost use Rattle.registry.specs.Standing.{Stand, known_of};
+ghost use Rattle.database.specs.Keeping.{IsTimely, TellsAcceptedWrites, world_of_database};
+ghost use Rattle.database.specs.Telling.{TakesAtMost, tally};
+ghost use Rattle.registry.specs.Judged.{IsJudged, Registers};
+ghost use Rattle.registry.specs.Standing.{Stand};
 
 use crate::telling::push_answer;
 use database::Database;
@@ -51,18 +44,10 @@ pub fn register<L: Ledger, M: Ledger>(
     requires timely { IsTimely database.now }
     requires accepted { TellsAcceptedWrites database.now }
     requires stand { Stand database.now live.old }
-    requires query { resolved_view resolved ≡ query_in (world_of_database database.now) (query_view request.now.query.now) }
-    requires sound { IsResolved (resolved_view resolved) }
-    requires fits { FitsItsClasses (world_of_database database.now) (resolved_view resolved) }
-    requires right { register_refusal (known_of database.now live.old) request.now.name.now request.now.span (query_view request.now.query.now) ≡ None }
-    ensures added { OnOk result (AddsQuery (world_of_database database.now) (clock_of database.now)
-        (info_for request.now.kind (clock_of database.now) request.now.name.now request.now.span) (resolved_view resolved) live.old live.new) }
-    ensures told { OnOk result (out.new.items ≡ out.old.items ++ answer_text (world_of_database database.now) (clock_of database.now)
-        (registration request.now.kind (world_of_database database.now) (clock_of database.now) request.now.name.now request.now.span (query_view request.now.query.now))) }
-    ensures err { OnErr result (live.new ≡ live.old) }
-    ensures begins { Begins out.old.items out.new.items }
-    ensures least { reads.old ≤ reads.new }
-    ensures most { reads.new ≤ reads.old + most_reads (world_of_database database.now) request.now.span (query_view request.now.query.now) }
+    requires judged { IsJudged database.now live.old request.now (resolved_view resolved) }
+    ensures registers { Registers database.now request.now (resolved_view resolved) live.old live.new out.old.items out.new.items result }
+    ensures takes { TakesAtMost (most_reads (world_of_database database.now) request.now.span (query_view request.now.query.now))
+        (tally out.old.items reads.old probes.old) (tally out.new.items reads.new probes.new) }
 {
     let now = database.clock();
     let info = QueryInfo {

@@ -8,16 +8,15 @@ ghost use Rattle.line_meaning.specs.Changes.{answer_text};
 ghost use Rattle.line_meaning.specs.Registry.{query_of};
 ghost use Rattle.line_meaning.specs.Reply.{kind_word, registration_line, rows_text};
 ghost use Rattle.live_queries.specs.Asked.{HaveObjectsBefore, FitsWorld, class_in};
-ghost use Rattle.live_queries.specs.Current.{AreCurrent};
 ghost use Rattle.live_queries.specs.Kept.{registered};
-ghost use Rattle.live_queries.specs.Prepared.{AreFreshFor, IsPrepared};
 ghost use Rattle.live_queries.specs.Told.{changes_of, passings_of};
 ghost use Rattle.reply_text.specs.Begins.{Begins};
 ghost use Rattle.database.specs.Keeping.{TellsAcceptedWrites, clock_of, world_of_database};
 ghost use Rattle.database.specs.Rows.{has_objects};
+ghost use Rattle.database.specs.Telling.{TakesAtMost, tally};
 ghost use Rattle.registry.specs.Moves.{moves_text, names_objects};
 ghost use Rattle.registry.specs.Registers.{Shows};
-ghost use Rattle.registry.specs.Standing.{Stand, known_of, registration_of};
+ghost use Rattle.registry.specs.Standing.{Renews, Stand, StoodAt, known_of, registration_of};
 
 use command_text::{CommandFault, Refusal};
 use database::{Database, set_names};
@@ -144,16 +143,11 @@ pub fn renew<L: Ledger, M: Ledger>(
     requires there { id < length database.now.store.objects }
     requires fits { All (FitsWorld (world_of_database database.now)) live.now }
     requires before { HaveObjectsBefore id (catalog_of database.now.store) live.now }
-    ensures object { IfOk result (λ f. f.object ≡ id) }
-    ensures class { IfOk result (λ f. f.class ≡ class_in database.now.store id) }
-    ensures prepared { IfOk result (IsPrepared live.now) }
-    ensures fresh { IfOk result (λ f. AreFreshFor (world_of_database database.now) f.object f.class (clock_of database.now) live.now f.renewals) }
+    ensures renews { IfOk result (Renews database.now live.now id) }
     ensures told { IfOk result (λ f. out.new.items ≡ out.old.items
         ++ moves_text (catalog_of database.now.store) (changes_of id (clock_of database.now) live.now f.renewals)) }
-    ensures begins { Begins out.old.items out.new.items }
-    ensures least { reads.old ≤ reads.new }
-    ensures most { reads.new ≤ reads.old
-        + write_reads (catalog_of database.now.store) (map registered live.now) (clock_of database.now) (class_in database.now.store id) }
+    ensures takes { TakesAtMost (write_reads (catalog_of database.now.store) (map registered live.now) (clock_of database.now) (class_in database.now.store id))
+        (tally out.old.items reads.old probes.old) (tally out.new.items reads.new probes.new) }
 {
     let now = database.clock();
     let (store, regions) = (database.store(), database.regions());
@@ -172,9 +166,7 @@ pub fn pass(
     before: u32,
     out: &mut Vec<u8>,
 ) -> Result<(), AllocError>
-    requires upto { before ≤ clock_of database.now }
-    requires current { AreCurrent (world_of_database database.now) before live.now }
-    requires entered { All (λ k. k.entry ≤ before) live.now }
+    requires stood { StoodAt database.now before live.now }
     ensures ok { OnOk result (out.new.items ≡ out.old.items
         ++ moves_text (catalog_of database.now.store) (flat_map (passings_of before (clock_of database.now)) live.now)) }
     ensures begins { Begins out.old.items out.new.items }

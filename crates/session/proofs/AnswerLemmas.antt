@@ -1,8 +1,7 @@
 -- From what is done with the command of a line to the step of the line.
-use Rattle.std.proofs.Common.{◌≡◌, ◌≤◌, ℕ, ◌+◌, true, false, Option, None, Some, List, ◌++◌, refl, sym, ap, ◌∙◌, subst, inl, arith}
-use Rattle.std.specs.Prelude.{Result, Ok, Err, IfOk, IfErr, MatchResult, OnErr}
+use Rattle.std.proofs.Common.{◌≡◌, ◌≤◌, ℕ, ◌+◌, true, false, Option, None, Some, List, ◌++◌, refl, sym, ap, ◌∙◌, subst, append-nil, append_assoc, inl, arith}
+use Rattle.std.specs.Prelude.{Result, Ok, Err}
 use Rattle.outside.specs.Shelf.{Texts}
-use Rattle.command_text.specs.declared.fault.CommandFault.{CommandFault}
 use Rattle.command_text.specs.declared.fault.CommandFault.TheVariants as stops
 use Rattle.command_text.specs.declared.reading.TheConstants.{LINE_LIMIT}
 use Rattle.command_text.specs.declared.refusal.Refusal.{Refusal}
@@ -21,12 +20,11 @@ use Rattle.session.specs.declared.next.ApplyFault.{ApplyFault}
 use Rattle.session.specs.declared.next.ApplyFault.TheVariants as apply_faults
 use Rattle.session.specs.declared.next.Next.{Next}
 use Rattle.session.specs.declared.next.Next.TheVariants as nexts
-use Rattle.session.specs.Answers.{Answers, Applies, Fails, HasCause, IsUnchanged, IsUnread, LeavesHeld, LeavesTexts, Suffices, next_by, next_of, next_or_fault}
-use Rattle.database.specs.Telling.{IsRefused}
-use Rattle.session.specs.Carried.{Carried}
-use Rattle.session.specs.Replayed.{ReplaysAs}
+use Rattle.session.specs.Answers.{Answers, Applies, Fails, IsUnchanged, IsUnread, LeavesHeld, LeavesTexts, Suffices, next_by, next_of}
+use Rattle.session.specs.Carried.{Carried, CarriedAs, Carries, IsAccepted, IsLacking, LacksMemory, Moment, end_of, lines_by, moment}
+use Rattle.session.specs.Replayed.{Replays, ReplaysAs}
 use Rattle.line_meaning.proofs.RoleLemmas.{kept_is_keeping}
-use Rattle.session.specs.Filed.{Does, FailsWith, IsApplied, SufficesFor, refusal_with, texts_by}
+use Rattle.session.specs.Filed.{Does, FailsWith, IsAnswered, IsApplied, SufficesFor, refusal_with, texts_by}
 
 -- ---- a command that asks nothing of the shelf
 
@@ -83,41 +81,64 @@ plain_texts nexts.Quit b c plain = ap (λ (x : Base). x.texts) (plain_base b c p
 plain_refused : (b : Base) (c : CommandTree) (fault : Option Refusal) → asks_shelf c ≡ false → fault_of b.held c ≡ fault → refusal_with b c ≡ fault
 plain_refused b c fault plain is = (λ i. or_else (is i) (plain_refusal b c plain i)) ∙ or_none fault
 
-module _ (told : Option Texts) (c : CommandTree) (old new : Held) (before after : List ℕ) (plain : asks_shelf c ≡ false) where
-  pub carried_is_applied : (r : Result Next CommandFault) → Carried old c new before after r →
-      IsApplied told told c old new before after (next_or_fault r)
-  carried_is_applied (Ok next) h = record {
+-- the reply of a command is its lines, and its end by what is told of it
+reply_parts : (role : Role) (h : Held) (c : CommandTree) → reply_by role h c ≡ lines_by role h c ++ end_of (next_by role)
+reply_parts Blank h c = refl
+reply_parts Telling h c = refl
+reply_parts Keeping h c = refl
+reply_parts Filing h c = refl
+reply_parts Ending h c = refl
+
+replied : (c : CommandTree) (m n : Moment) (after : List ℕ) (next : Next) → next ≡ next_of c → n.tally.said ≡ m.tally.said ++ lines_by (role_of c) m.holds c →
+    after ≡ n.tally.said ++ end_of next → after ≡ m.tally.said ++ reply_by (role_of c) m.holds c
+replied c m n after next is said ends =
+    let lines : List ℕ = lines_by (role_of c) m.holds c in
+    ends
+    ∙ (λ i. said i ++ end_of (is i))
+    ∙ append_assoc m.tally.said lines (end_of (next_of c))
+    ∙ ap (λ reply. m.tally.said ++ reply) (sym (reply_parts (role_of c) m.holds c))
+
+module _ (told : Option Texts) (c : CommandTree) (m n : Moment) (after : List ℕ) (plain : asks_shelf c ≡ false) where
+  accepted_applied : (next : Next) → next ≡ next_of c → IsAccepted c m.holds n.holds m.tally.said n.tally.said → after ≡ n.tally.said ++ end_of next →
+      IsApplied told told c m.holds n.holds m.tally.said after (Ok next)
+  accepted_applied next is a ends = record {
     answers = λ texts suffices.
-        let b : Base = base old texts in
-        accepted_does next b c new before after h.1 (
-          plain_refused b c None plain h.0,
-          h.1,
-          h.2 ∙ sym (ap (λ (x : Base). x.held) (plain_base b c plain)),
-          h.3 ∙ ap (λ reply. before ++ reply) (sym (plain_reply b c plain)),
+        let b : Base = base m.holds texts in
+        accepted_does next b c n.holds m.tally.said after is (
+          plain_refused b c None plain a.accepted,
+          is,
+          a.goes_on ∙ sym (ap (λ (x : Base). x.held) (plain_base b c plain)),
+          replied c m n after next is a.said ends ∙ ap (λ reply. m.tally.said ++ reply) (sym (plain_reply b c plain)),
         );
-    refused = accepted_unchanged next c old new before after h.1;
-    texts = λ texts is. is ∙ ap Some (sym (plain_texts next (base old texts) c plain));
+    refused = accepted_unchanged next c m.holds n.holds m.tally.said after is;
+    texts = λ texts told-is. told-is ∙ ap Some (sym (plain_texts next (base m.holds texts) c plain));
     fails = tt;
   }
-  carried_is_applied (Err (stops.Refused r)) h = record {
-    answers = λ texts suffices. (plain_refused (base old texts) c (Some r) plain h.0, h.1, h.2);
-    refused = (h.1, h.2);
-    texts = λ texts is. is;
-    fails = tt;
-  }
-  carried_is_applied (Err stops.NoMemory) h = record {
+
+  next_applied : (next : Next) → CarriedAs next c m.holds n.holds m.tally.said n.tally.said → after ≡ n.tally.said ++ end_of next →
+      IsApplied told told c m.holds n.holds m.tally.said after (Ok next)
+  next_applied nexts.Silent h ends = accepted_applied nexts.Silent h.0 h.1 ends
+  next_applied nexts.Accepted h ends = accepted_applied nexts.Accepted h.0 h.1 ends
+  next_applied nexts.Quit h ends = accepted_applied nexts.Quit h.0 h.1 ends
+  next_applied (nexts.Refused r) h ends =
+      let cut : after ≡ m.tally.said = ends ∙ append-nil n.tally.said ∙ h.2 in
+      record {
+        answers = λ texts suffices. (plain_refused (base m.holds texts) c (Some r) plain h.0, h.1, cut);
+        refused = (h.1, cut);
+        texts = λ texts is. is;
+        fails = tt;
+      }
+
+  lacking_applied : IsLacking c m.holds n.holds m.tally.said n.tally.said →
+      IsApplied told told c m.holds n.holds m.tally.said n.tally.said (Err apply_faults.NoMemory)
+  lacking_applied h = record {
     answers = λ texts suffices. tt;
     refused = tt;
     texts = λ texts is. tt;
-    fails = record { said = h.2; texts = λ texts is. is; leaves = λ texts suffices. plain_held (base old texts) c new plain h.1 };
+    fails = record { said = h.cut; texts = λ texts is. is; leaves = λ texts suffices. plain_held (base m.holds texts) c n.holds plain h.same };
   }
 
 -- ---- what it is told of the shelf and of steps
-
-pub plain_cause : (faults : ℕ) (r : Result Next CommandFault) → HasCause faults faults (next_or_fault r)
-plain_cause faults (Ok next) = refl
-plain_cause faults (Err (stops.Refused r)) = refl
-plain_cause faults (Err stops.NoMemory) = refl
 
 -- a line without a reply is blank
 blank_only : (c : CommandTree) → nexts.Silent ≡ next_of c → c ≡ Tree.Nothing
@@ -130,24 +151,86 @@ unread_by c nexts.Accepted steps steps' is blank = tt
 unread_by c nexts.Quit steps steps' is blank = tt
 unread_by c (nexts.Refused r) steps steps' is blank = absurd (never (role_of c) r is)
 
-pub carried_unread : (c : CommandTree) (old new : Held) (before after : List ℕ) (steps steps' : ℕ) (r : Result Next CommandFault) →
-    Carried old c new before after r → (c ≡ Tree.Nothing → steps' ≡ steps) → IfErr r (λ fault. IsRefused fault → steps' ≡ steps) →
-    IfOk (next_or_fault r) (λ next. IsUnread next steps steps')
-carried_unread c old new before after steps steps' (Ok next) h blank refused = unread_by c next steps steps' h.1 blank
-carried_unread c old new before after steps steps' (Err (stops.Refused r)) h blank refused = refused tt
-carried_unread c old new before after steps steps' (Err stops.NoMemory) h blank refused = tt
-
-pub blank_reads : (old : Held) (c : CommandTree) (reads reads' : ℕ) → reads ≤ reads' → reads' ≤ reads + most_looks old c → c ≡ Tree.Nothing → reads' ≡ reads
+blank_reads : (old : Held) (c : CommandTree) (reads reads' : ℕ) → reads ≤ reads' → reads' ≤ reads + most_looks old c → c ≡ Tree.Nothing → reads' ≡ reads
 blank_reads old c reads reads' least most is =
     let none : most_looks old c ≡ 0 = ap (most_looks old) is in omega (arith, least, most, none)
 
-pub blank_probes : (c : CommandTree) (probes probes' : ℕ) → (is_query c ≡ false → probes' ≡ probes) → c ≡ Tree.Nothing → probes' ≡ probes
+blank_probes : (c : CommandTree) (probes probes' : ℕ) → (is_query c ≡ false → probes' ≡ probes) → c ≡ Tree.Nothing → probes' ≡ probes
 blank_probes c probes probes' plain is = plain (ap is_query is)
 
-pub carried_looks : (told : Option Texts) (c : CommandTree) (old : Held) (reads reads' : ℕ) → asks_shelf c ≡ false → reads' ≤ reads + most_looks old c →
+carried_looks : (told : Option Texts) (c : CommandTree) (old : Held) (reads reads' : ℕ) → asks_shelf c ≡ false → reads' ≤ reads + most_looks old c →
     (texts : Texts) → SufficesFor told c texts → reads' ≤ reads + looks_of (base old texts) c
 carried_looks told c old reads reads' plain most texts suffices =
     subst (λ n. reads' ≤ reads + n) (sym (plain_looks (base old texts) c plain)) most
+
+-- a command that was carried out is answered once its reply is ended, whatever the shelf tells
+pub carried_is_answered : {E : Type 0} (told : Option Texts) (c : CommandTree) (m n : Moment) (after : List ℕ) (next : Next) →
+    asks_shelf c ≡ false → Carried {E = E} c m n (Ok next) → after ≡ n.tally.said ++ end_of next →
+    IsAnswered told told c m (moment n.holds after n.tally.reads n.tally.probes) (Ok next)
+carried_is_answered told c m n after next plain h ends = record {
+  applied = next_applied told c m n after plain next h.carried ends;
+  steps = record { least = h.least; unread = h.unread; unprobed = h.unprobed };
+  most = carried_looks told c m.holds m.tally.reads n.tally.reads plain h.most;
+  plain = h.plain;
+}
+
+pub lacking_is_answered : {E : Type 0} (told : Option Texts) (c : CommandTree) (m n : Moment) (fault : E) → asks_shelf c ≡ false →
+    Carried c m n (Err fault) → IsAnswered told told c m n (Err apply_faults.NoMemory)
+lacking_is_answered told c m n fault plain h = record {
+  applied = lacking_applied told c m n n.tally.said plain h.lacks;
+  steps = record { least = h.least; unread = tt; unprobed = tt };
+  most = carried_looks told c m.holds m.tally.reads n.tally.reads plain h.most;
+  plain = h.plain;
+}
+
+-- ---- what was performed is carried out, where what was written is cut off after an error
+
+performed_as : (next : Next) (c : CommandTree) (m n : Moment) → next ≡ next_of c → IsAccepted c m.holds n.holds m.tally.said n.tally.said →
+    CarriedAs next c m.holds n.holds m.tally.said n.tally.said
+performed_as nexts.Silent c m n is a = (is, a)
+performed_as nexts.Accepted c m n is a = (is, a)
+performed_as nexts.Quit c m n is a = (is, a)
+performed_as (nexts.Refused r) c m n is a = absurd (never (role_of c) r is)
+
+pub performed : {E : Type 0} (c : CommandTree) (m n : Moment) (next : Next) → Carries {T = Next} c m n (Ok next) → next ≡ next_of c →
+    Carried {E = E} c m n (Ok next)
+performed c m n next h is = record {
+  carried = performed_as next c m n is h.accepted;
+  lacks = tt;
+  least = h.spends.within.least;
+  most = h.spends.within.most;
+  plain = h.spends.plain;
+  unread = unread_by c next m.tally.reads n.tally.reads is (blank_reads m.holds c m.tally.reads n.tally.reads h.spends.within.least h.spends.within.most);
+  unprobed = unread_by c next m.tally.probes n.tally.probes is (blank_probes c m.tally.probes n.tally.probes h.spends.plain);
+}
+
+pub performed_refused : {E : Type 0} (c : CommandTree) (m n : Moment) (after : List ℕ) (r : Refusal) → Carries {T = Next} c m n (Err (stops.Refused r)) →
+    after ≡ m.tally.said → Carried {E = E} c m (moment n.holds after n.tally.reads n.tally.probes) (Ok (nexts.Refused r))
+performed_refused c m n after r h cut =
+    let stopped : (fault_of m.holds c ≡ Some r) × (n.holds ≡ m.holds) = h.stopped in
+    record {
+      carried = (stopped.0, stopped.1, cut);
+      lacks = tt;
+      least = h.spends.within.least;
+      most = h.spends.within.most;
+      plain = h.spends.plain;
+      unread = h.free.unread tt;
+      unprobed = h.free.unprobed tt;
+    }
+
+pub performed_lacking : {E : Type 0} (c : CommandTree) (m n : Moment) (after : List ℕ) (fault : E) → Carries {T = Next} c m n (Err stops.NoMemory) →
+    after ≡ m.tally.said → Carried c m (moment n.holds after n.tally.reads n.tally.probes) (Err fault)
+performed_lacking c m n after fault h cut =
+    let stopped : LacksMemory m.holds c × (n.holds ≡ m.holds) = h.stopped in
+    record {
+      carried = tt;
+      lacks = record { lacks = stopped.0; same = stopped.1; cut = cut };
+      least = h.spends.within.least;
+      most = h.spends.within.most;
+      plain = h.spends.plain;
+      unread = tt;
+      unprobed = tt;
+    }
 
 pub no_looks : (reads more : ℕ) → reads ≤ reads + more
 no_looks reads more = omega arith
@@ -280,31 +363,13 @@ kept_plain c kept = ap is_filing (kept_is_keeping c kept)
 kept_next : (c : CommandTree) → is_kept c ≡ true → next_of c ≡ nexts.Accepted
 kept_next c kept = ap next_by (kept_is_keeping c kept)
 
-module _ (c : CommandTree) (old new : Held) (before after : List ℕ) (kept : is_kept c ≡ true) where
-  by_result : (r : Result Next CommandFault) → Carried old c new before after r →
-      MatchResult (next_or_fault r) (ReplaysAs old c new) (λ _. new ≡ old)
-  by_result (Ok next) h = subst (ReplaysAs old c new) (sym (h.1 ∙ kept_next c kept)) (h.0, h.2)
-  by_result (Err (stops.Refused r)) h = (h.0, h.1)
-  by_result (Err stops.NoMemory) h = h.1
+module _ (c : CommandTree) (m n : Moment) (kept : is_kept c ≡ true) where
+  by_next : (next : Next) → CarriedAs next c m.holds n.holds m.tally.said n.tally.said → ReplaysAs m.holds c n.holds next
+  by_next nexts.Accepted h = (h.1.accepted, h.1.goes_on)
+  by_next (nexts.Refused r) h = (h.0, h.1)
+  by_next nexts.Silent h = absurd (cc (h.0 ∙ kept_next c kept))
+  by_next nexts.Quit h = absurd (cc (h.0 ∙ kept_next c kept))
 
-  -- by what was told of it
-  pub replays_as : {E : Type 0} (x : Result Next E) (r : Result Next CommandFault) → Carried old c new before after r →
-      IfOk x (λ next. next_or_fault r ≡ Ok next) → OnErr x (next_or_fault r ≡ Err apply_faults.NoMemory) →
-      MatchResult x (ReplaysAs old c new) (λ _. new ≡ old)
-  replays_as (Ok next) r h ok err =
-      subst (λ (y : Result Next ApplyFault). MatchResult y (ReplaysAs old c new) (λ _. new ≡ old)) ok (by_result r h)
-  replays_as (Err lack) r h ok err =
-      subst (λ (y : Result Next ApplyFault). MatchResult y (ReplaysAs old c new) (λ _. new ≡ old)) err (by_result r h)
-
-  unread_result : (steps steps' : ℕ) (r : Result Next CommandFault) → Carried old c new before after r →
-      IfErr r (λ fault. IsRefused fault → steps' ≡ steps) → IfOk (next_or_fault r) (λ next. IsUnread next steps steps')
-  unread_result steps steps' (Ok next) h refused = subst (λ (n : Next). IsUnread n steps steps') (sym (h.1 ∙ kept_next c kept)) tt
-  unread_result steps steps' (Err (stops.Refused r)) h refused = refused tt
-  unread_result steps steps' (Err stops.NoMemory) h refused = tt
-
-  pub replays_unread : {E : Type 0} (steps steps' : ℕ) (x : Result Next E) (r : Result Next CommandFault) → Carried old c new before after r →
-      IfOk x (λ next. next_or_fault r ≡ Ok next) → IfErr r (λ fault. IsRefused fault → steps' ≡ steps) →
-      IfOk x (λ next. IsUnread next steps steps')
-  replays_unread steps steps' (Ok next) r h ok refused =
-      subst (λ (y : Result Next ApplyFault). IfOk y (λ next. IsUnread next steps steps')) ok (unread_result steps steps' r h refused)
-  replays_unread steps steps' (Err lack) r h ok refused = tt
+  pub replays_as : {E : Type 0} (r : Result Next E) → Carried c m n r → Replays m.holds c n.holds r
+  replays_as (Ok next) h = by_next next h.carried
+  replays_as (Err fault) h = let l : IsLacking c m.holds n.holds m.tally.said n.tally.said = h.lacks in l.same

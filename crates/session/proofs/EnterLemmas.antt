@@ -1,8 +1,6 @@
 -- The commands of rows, entered one after another.
-use Rattle.std.proofs.Common.{◌≡◌, ℕ, ◌+◌, ◌-◌, true, Some, List, [], ◌∷◌, ◌++◌, length, refl, sym, ap, ◌∙◌, append-nil, arith}
-use Rattle.std.specs.Prelude.{take}
-use Rattle.std.proofs.lemmas.List.{append_assoc, length-append}
-use Rattle.std.proofs.Math.Seq.{take-append_seam}
+use Rattle.std.proofs.Common.{◌≡◌, ℕ, true, Some, List, [], ◌∷◌, ◌++◌, refl, sym, ap, ◌∙◌, append-nil}
+use Rattle.std.proofs.lemmas.List.{append_assoc}
 use Rattle.command_text.specs.Journal.{Accepted}
 use Rattle.command_text.specs.Tree.{CommandTree}
 use Rattle.line_meaning.specs.Import.{entry_lines, is_taken, with_entry}
@@ -14,19 +12,20 @@ use Rattle.session.proofs.RowLemmas.{first_more}
 pub none_entered : (start : List Accepted) (cs : List CommandTree) → AreEntered start cs start cs
 none_entered start cs = record { first = []; all = refl; entered = refl }
 
-pub none_written : (start : List Accepted) (cs : List CommandTree) (before after : List ℕ) → after ≡ before ++ ok_line →
+pub none_written : (start : List Accepted) (cs : List CommandTree) (before after : List ℕ) → after ≡ before →
     AreWritten start cs start cs before after
-none_written start cs before after is = record { said = []; out = is ∙ ap (λ b. b ++ ok_line) (sym (append-nil before)); lines = refl }
+none_written start cs before after is = record { said = []; out = is ∙ sym (append-nil before); lines = refl }
 
 -- after the last
 pub all_entered : (start : List Accepted) (cs : List CommandTree) (journal : List Accepted) → AreEntered start cs journal [] →
     journal_after_commands start cs ≡ Some journal
 all_entered start cs journal is = ap (journal_after_commands start) (is.all ∙ append-nil is.first) ∙ is.entered
 
-pub all_written : (start : List Accepted) (cs : List CommandTree) (journal : List Accepted) (before after : List ℕ) →
-    AreWritten start cs journal [] before after → after ≡ before ++ (lines_of_commands start cs ++ ok_line)
-all_written start cs journal before after is =
-    is.out ∙ append_assoc before is.said ok_line ∙ ap (λ ls. before ++ (ls ++ ok_line)) (sym (is.lines ∙ append-nil is.said))
+pub all_written : (start : List Accepted) (cs : List CommandTree) (journal : List Accepted) (before mid after : List ℕ) →
+    AreWritten start cs journal [] before mid → after ≡ mid ++ ok_line → after ≡ before ++ (lines_of_commands start cs ++ ok_line)
+all_written start cs journal before mid after is ends =
+    ends ∙ ap (λ out. out ++ ok_line) is.out ∙ append_assoc before is.said ok_line
+    ∙ ap (λ ls. before ++ (ls ++ ok_line)) (sym (is.lines ∙ append-nil is.said))
 
 module _ (start : List Accepted) (cs : List CommandTree) (journal : List Accepted) (c : CommandTree) (rest : List CommandTree) where
   pub some_entered : AreEntered start cs journal (c ∷ rest) → HasFirstCommands start cs journal
@@ -40,18 +39,11 @@ module _ (start : List Accepted) (cs : List CommandTree) (journal : List Accepte
   }
 
   pub one_more_written : (before old new : List ℕ) → (is : AreWritten start cs journal (c ∷ rest) before old) →
-      new ≡ (before ++ is.said) ++ (entry_lines journal c ++ ok_line) → AreWritten start cs (with_entry journal c) rest before new
+      new ≡ old ++ entry_lines journal c → AreWritten start cs (with_entry journal c) rest before new
   one_more_written before old new is told =
       let lines = entry_lines journal c in
       record {
         said = is.said ++ lines;
-        out = told ∙ sym (append_assoc (before ++ is.said) lines ok_line) ∙ ap (λ b. b ++ ok_line) (append_assoc before is.said lines);
+        out = told ∙ ap (λ out. out ++ lines) is.out ∙ append_assoc before is.said lines;
         lines = is.lines ∙ sym (append_assoc is.said lines (lines_of_commands (with_entry journal c) rest));
       }
-
--- the `ok` at the end is cut off
-pub without_ok : (start : List ℕ) (out : List ℕ) → out ≡ start ++ ok_line → take (length out - 3) out ≡ start
-without_ok start out is =
-    let count : length out ≡ length start + 3 = ap length is ∙ length-append start ok_line in
-    let n : length out - 3 ≡ length start = omega (arith, count) in
-    ap (λ k. take k out) n ∙ ap (take (length start)) is ∙ take-append_seam start ok_line

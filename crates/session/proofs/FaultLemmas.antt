@@ -1,6 +1,6 @@
 -- The refusal of a command that was read, by the refusals of what is held and of the journal.
 use Rattle.std.proofs.Common.{◌≡◌, ℕ, Bool, true, false, Option, None, Some, List, [], ◌∷◌, ◌++◌, length, refl, sym, ap, ◌∙◌, subst, append-nil, if◌then◌else◌}
-use Rattle.std.specs.Prelude.{◌&&◌, Ok, Err}
+use Rattle.std.specs.Prelude.{◌&&◌, Err}
 use Rattle.exact.specs.First.{first_that_holds, or_else}
 use Rattle.command_text.specs.declared.fault.CommandFault.{CommandFault}
 use Rattle.command_text.specs.declared.fault.CommandFault.TheVariants as stops
@@ -17,13 +17,12 @@ use Rattle.line_meaning.specs.Fault.{fault_among, is_gap, journal_refusal, passe
 use Rattle.line_meaning.specs.Journal.{world}
 use Rattle.line_meaning.specs.QueryFault.{command_fault, query_fault}
 use Rattle.line_meaning.specs.Registry.{Known, known}
-use Rattle.line_meaning.specs.Reply.{ok_line}
 use Rattle.line_meaning.specs.Role.{is_on_queries, role_of}
-use Rattle.line_meaning.specs.Step.{Held, fault_by, fault_of, held, held_after, reply_by}
+use Rattle.line_meaning.specs.Step.{Held, fault_by, fault_of, held, held_after}
 use Rattle.line_meaning.proofs.CallerLemmas.{or_none}
 use Rattle.line_meaning.proofs.RoleLemmas.{kept_is_keeping, telling_is_not_kept}
 use Rattle.database.specs.Telling.{IsStoppedBy}
-use Rattle.session.specs.Carried.{IsDone, is_class}
+use Rattle.session.specs.Carried.{IsAccepted, IsStopped, is_class, lines_by}
 use Rattle.session.specs.Entering.{Admits}
 
 -- ---- refusals one after another
@@ -95,37 +94,36 @@ module _ (journal : List Accepted) (c : CommandTree) (gap : is_gap c ≡ false) 
       ∙ full_by true room
 
   -- it was refused by what is known, or memory was out where nothing refuses it
-  pub stopped_done : (before after : List ℕ) (fault : CommandFault) → IsStoppedBy (command_fault (known journal) c) fault →
-      IsDone (held journal) c (held journal) before after (Err fault)
-  stopped_done before after (stops.Refused r) is = (refused r is, refl)
-  stopped_done before after stops.NoMemory is = (record { built = gap; accepted = λ _. is }, refl)
+  pub stopped_by : (fault : CommandFault) → IsStoppedBy (command_fault (known journal) c) fault → IsStopped c (held journal) (held journal) fault
+  stopped_by (stops.Refused r) is = (refused r is, refl)
+  stopped_by stops.NoMemory is = (record { built = gap; accepted = λ _. is }, refl)
 
   -- nothing but the journal refuses it
-  pub admits_done : (line before after : List ℕ) (fault : CommandFault) → command_fault (known journal) c ≡ None →
-      Admits journal c line (Err fault) → IsDone (held journal) c (held journal) before after (Err fault)
-  admits_done line before after (stops.Refused r) none is = (full none is.1 ∙ ap Some (sym is.0), refl)
-  admits_done line before after stops.NoMemory none is = (record { built = gap; accepted = λ _. none }, refl)
+  pub stopped_full : (line : List ℕ) (fault : CommandFault) → command_fault (known journal) c ≡ None →
+      Admits journal c line (Err fault) → IsStopped c (held journal) (held journal) fault
+  stopped_full line (stops.Refused r) none is = (full none is.1 ∙ ap Some (sym is.0), refl)
+  stopped_full line stops.NoMemory none is = (record { built = gap; accepted = λ _. none }, refl)
 
   -- memory is out, and nothing refuses it but that a class is judged late
-  pub lacks_done : (new : List Accepted) (before after : List ℕ) (fault : CommandFault) → new ≡ journal → fault ≡ stops.NoMemory →
-      (is_class c ≡ false → command_fault (known journal) c ≡ None) → IsDone (held journal) c (held new) before after (Err fault)
-  lacks_done new before after fault same is none =
-      subst (λ (f : CommandFault). IsDone (held journal) c (held new) before after (Err f)) (sym is) (record { built = gap; accepted = none }, ap held same)
+  pub stopped_lacking : (new : List Accepted) (fault : CommandFault) → new ≡ journal → fault ≡ stops.NoMemory →
+      (is_class c ≡ false → command_fault (known journal) c ≡ None) → IsStopped c (held journal) (held new) fault
+  stopped_lacking new fault same is none =
+      subst (λ (f : CommandFault). IsStopped c (held journal) (held new) f) (sym is) (record { built = gap; accepted = none }, ap held same)
 
   entry_is : held_after (held journal) c ≡ held (journal ++ (clock journal, c) ∷ [])
   entry_is = ap (λ (k : Bool). held (journal ++ (if k then (clock journal, c) ∷ [] else []))) kept
 
-  -- it is entered, and its lines and `ok` are written
-  pub entered_done : (now : ℕ) (new : List Accepted) (before after lines : List ℕ) → now ≡ clock journal → new ≡ journal ++ (now, c) ∷ [] →
+  -- it is entered, and its lines are written
+  pub accepted_kept : (now : ℕ) (new : List Accepted) (before after lines : List ℕ) → now ≡ clock journal → new ≡ journal ++ (now, c) ∷ [] →
       fault_of (held journal) c ≡ None → lines ≡ kept_lines (known journal) (known (journal ++ (clock journal, c) ∷ [])) c →
-      after ≡ before ++ (lines ++ ok_line) → IsDone (held journal) c (held new) before after (Ok tt)
-  entered_done now new before after lines tick is none told said = (
-    none,
-    ap held (is ∙ ap (λ t. journal ++ (t, c) ∷ []) tick) ∙ sym entry_is,
-    said
-        ∙ ap (λ ls. before ++ (ls ++ ok_line)) (told ∙ ap (λ (h : Held). kept_lines (known journal) (known h.journal) c) (sym entry_is))
-        ∙ ap (λ (r : Role). before ++ reply_by r (held journal) c) (sym (kept_is_keeping c kept)),
-  )
+      after ≡ before ++ lines → IsAccepted c (held journal) (held new) before after
+  accepted_kept now new before after lines tick is none told written = record {
+    accepted = none;
+    goes_on = ap held (is ∙ ap (λ t. journal ++ (t, c) ∷ []) tick) ∙ sym entry_is;
+    said = written
+        ∙ ap (λ ls. before ++ ls) (told ∙ ap (λ (h : Held). kept_lines (known journal) (known h.journal) c) (sym entry_is))
+        ∙ ap (λ (r : Role). before ++ lines_by r (held journal) c) (sym (kept_is_keeping c kept));
+  }
 
 -- ---- a command that changes nothing
 
@@ -140,16 +138,15 @@ module _ (journal : List Accepted) (c : CommandTree) (gap : is_gap c ≡ false) 
       (first_that_holds ((refusals.JournalFull, k && passes_limits (length journal) (bytes_of journal) (length (text_of c))) ∷ []))) told_kept
       ∙ or_none (command_fault (known journal) c)
 
-  pub told_stopped : (before after : List ℕ) (fault : CommandFault) → IsStoppedBy (command_fault (known journal) c) fault →
-      IsDone (held journal) c (held journal) before after (Err fault)
-  told_stopped before after (stops.Refused r) is = (told_fault ∙ is, refl)
-  told_stopped before after stops.NoMemory is = (record { built = gap; accepted = λ _. is }, refl)
+  pub told_stopped : (fault : CommandFault) → IsStoppedBy (command_fault (known journal) c) fault → IsStopped c (held journal) (held journal) fault
+  told_stopped (stops.Refused r) is = (told_fault ∙ is, refl)
+  told_stopped stops.NoMemory is = (record { built = gap; accepted = λ _. is }, refl)
 
-  pub told_done : (before after : List ℕ) → command_fault (known journal) c ≡ None →
-      after ≡ before ++ (answer_lines (world journal) (clock journal) c ++ query_lines (known journal) c ++ ok_line) →
-      IsDone (held journal) c (held journal) before after (Ok tt)
-  told_done before after none said = (
-    told_fault ∙ none,
-    ap held (sym (append-nil journal) ∙ ap (λ (k : Bool). journal ++ (if k then (clock journal, c) ∷ [] else [])) (sym told_kept)),
-    said ∙ ap (λ (r : Role). before ++ reply_by r (held journal) c) (sym telling),
-  )
+  pub told_accepted : (before after : List ℕ) → command_fault (known journal) c ≡ None →
+      after ≡ before ++ (answer_lines (world journal) (clock journal) c ++ query_lines (known journal) c) →
+      IsAccepted c (held journal) (held journal) before after
+  told_accepted before after none written = record {
+    accepted = told_fault ∙ none;
+    goes_on = ap held (sym (append-nil journal) ∙ ap (λ (k : Bool). journal ++ (if k then (clock journal, c) ∷ [] else [])) (sym told_kept));
+    said = written ∙ ap (λ (r : Role). before ++ lines_by r (held journal) c) (sym telling);
+  }

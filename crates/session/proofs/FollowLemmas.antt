@@ -24,7 +24,6 @@ use Rattle.line_meaning.specs.Looks.{looks_of_write, most_looks}
 use Rattle.line_meaning.specs.QueryFault.{command_fault}
 use Rattle.line_meaning.specs.Reached.{AreReached}
 use Rattle.line_meaning.specs.Registry.{Known, Registration, known, live_after, registered}
-use Rattle.line_meaning.specs.Reply.{ok_line}
 use Rattle.line_meaning.specs.Role.{is_on_queries}
 use Rattle.line_meaning.specs.Step.{fault_of, held}
 use Rattle.line_meaning.proofs.JournalLemmas.{registered_more}
@@ -42,12 +41,12 @@ use Rattle.database.specs.Keeping.{Keeps, TellsAcceptedWrites, clock_of, world_o
 use Rattle.database.proofs.CallerLemmas.{fault_is_told}
 use Rattle.registry.specs.Standing.{Stand, known_of, registration_of}
 use Rattle.session.specs.declared.state.State.{State}
-use Rattle.session.specs.Carried.{IsDone, is_class}
+use Rattle.session.specs.Carried.{IsAccepted, IsStopped, is_class}
 use Rattle.session.specs.Entering.{Admits}
 use Rattle.session.specs.Followed.{IsChanged, Prepares, Settles, lines_told, object_of_change, writes_object}
 use Rattle.session.specs.State.{IsState}
 use Rattle.session.proofs.ChangeLemmas.{WritesWorld, adds_at_most, by_class, clock_after, same_world, writes_world}
-use Rattle.session.proofs.FaultLemmas.{accepted, admits_done, data_fault, entered_done, lacks_done, refused}
+use Rattle.session.proofs.FaultLemmas.{accepted, accepted_kept, data_fault, refused, stopped_full, stopped_lacking}
 use Rattle.session.proofs.KnownLemmas.{accepted_told, entered_state, known_is, reached_entry}
 use Rattle.session.proofs.RowLemmas.{write_plain}
 use Rattle.session.proofs.SettleLemmas.{IsSettled, Laws, same_head, settled}
@@ -156,13 +155,13 @@ module _ (s : State) (c : CommandTree) (before : ℕ) (change : Change) (is : Is
     changed_right : command_fault (known s.journal) c ≡ None
     changed_right = data_fault (known s.journal) c plain ∙ sym (fault_is_told s.journal is.old c is.state.keeps) ∙ is.carries.accepted
 
-    pub changed_full : (line before after : List ℕ) (fault : CommandFault) → Admits s.journal c line (Err fault) →
-        IsDone (held s.journal) c (held s.journal) before after (Err fault)
-    changed_full line before after fault admits = admits_done s.journal c gap kept line before after fault changed_right admits
+    pub changed_full : (line : List ℕ) (fault : CommandFault) → Admits s.journal c line (Err fault) →
+        IsStopped c (held s.journal) (held s.journal) fault
+    changed_full line fault admits = stopped_full s.journal c gap kept line fault changed_right admits
 
-    pub changed_lacks : (new : List Accepted) (before after : List ℕ) (fault : CommandFault) → new ≡ s.journal → fault ≡ stops.NoMemory →
-        IsDone (held s.journal) c (held new) before after (Err fault)
-    changed_lacks new before after fault still lacks = lacks_done s.journal c gap kept new before after fault still lacks (λ other. changed_right)
+    pub changed_lacks : (new : List Accepted) (fault : CommandFault) → new ≡ s.journal → fault ≡ stops.NoMemory →
+        IsStopped c (held s.journal) (held new) fault
+    changed_lacks new fault still lacks = stopped_lacking s.journal c gap kept new fault still lacks (λ other. changed_right)
 
     module _ (line : List ℕ) (admits : Admits s.journal c line (Ok tt)) where
       pub changed_fault : fault_of (held s.journal) c ≡ None
@@ -210,12 +209,12 @@ module _ (laws : Laws) (s : State) (d : Database) (live : List KeptQuery) (c : C
       λ i. record { world = sym keeps.told_is i; now = sym keeps.clock_is i; live = same i }
 
   pub changed_done : (new : List Accepted) (out out' : List ℕ) → new ≡ s.journal ++ (clock_of s.database, c) ∷ [] →
-      out' ≡ out ++ lines_told c (clock_of s.database) d s.live f ++ ok_line → IsDone (held s.journal) c (held new) out out' (Ok tt)
+      out' ≡ out ++ lines_told c (clock_of s.database) d s.live f → IsAccepted c (held s.journal) (held new) out out'
   changed_done new out out' entered said =
       let lines : List ℕ = lines_told c (clock_of s.database) d s.live f in
-      entered_done s.journal c gap kept (clock_of s.database) new out out' lines is.keeps.clock_is entered none
+      accepted_kept s.journal c gap kept (clock_of s.database) new out out' lines is.keeps.clock_is entered none
       (all_settled.lines ∙ (λ i. kept_lines (known_is s.journal s is i) (sym known_later i) c))
-      (said ∙ append_assoc out lines ok_line)
+      said
 
 -- ---- an attempt that was stopped
 
@@ -225,13 +224,12 @@ attempt_lacks journal d (Tree.Class name capacity point attributes) keeps lacks 
 attempt_lacks journal d (Tree.Tick ticks) keeps lacks plain other = absurd lacks
 attempt_lacks journal d c keeps lacks plain other = data_fault (known journal) c plain ∙ sym (fault_is_told journal d c keeps) ∙ lacks
 
-pub attempt_stopped : (journal : List Accepted) (d new : Database) (c : CommandTree) (before after : List ℕ) (fault : CommandFault) → Keeps journal d →
-    is_gap c ≡ false → is_kept c ≡ true → is_on_queries c ≡ false → Stops c d new fault →
-    IsDone (held journal) c (held journal) before after (Err fault)
-attempt_stopped journal d new c before after (stops.Refused r) keeps gap kept plain is =
+pub attempt_stopped : (journal : List Accepted) (d new : Database) (c : CommandTree) (fault : CommandFault) → Keeps journal d →
+    is_gap c ≡ false → is_kept c ≡ true → is_on_queries c ≡ false → Stops c d new fault → IsStopped c (held journal) (held journal) fault
+attempt_stopped journal d new c (stops.Refused r) keeps gap kept plain is =
     (refused journal c gap kept r (data_fault (known journal) c plain ∙ sym (fault_is_told journal d c keeps) ∙ is.0), refl)
-attempt_stopped journal d new c before after stops.NoMemory keeps gap kept plain is =
-    lacks_done journal c gap kept journal before after stops.NoMemory refl refl (attempt_lacks journal d c keeps is.0 plain)
+attempt_stopped journal d new c stops.NoMemory keeps gap kept plain is =
+    stopped_lacking journal c gap kept journal stops.NoMemory refl refl (attempt_lacks journal d c keeps is.0 plain)
 
 pub attempt_same : (c : CommandTree) (d new : Database) (fault : CommandFault) → Stops c d new fault → new ≡ d
 attempt_same c d new (stops.Refused r) is = is.1

@@ -7,12 +7,10 @@ use Rattle.command_text.specs.declared.command.Command.TheVariants as commands
 use Rattle.command_text.specs.Journal.{Accepted, clock, is_kept, ticks_of}
 use Rattle.command_text.specs.Shape.{IsPrintable}
 use Rattle.command_text.specs.Text.{text_of}
-use Rattle.command_text.specs.Tree
 use Rattle.command_text.specs.Tree.{CommandTree, command_view}
 use Rattle.session_file.specs.declared.kept.TheConstants.{SESSION_LINE_LIMIT}
 use Rattle.line_meaning.specs.Journal.{regions, regions_of, world, writes, writes_of}
 use Rattle.line_meaning.specs.Reached.{AreReached}
-use Rattle.line_meaning.specs.Looks.{looks_asked, looks_near, most_looks, most_reads}
 use Rattle.line_meaning.specs.Registry.{known, live_after, registered}
 use Rattle.line_meaning.specs.declared.role.Role.TheVariants.{Telling}
 use Rattle.line_meaning.specs.Role.{is_on_queries, role_of}
@@ -21,7 +19,7 @@ use Rattle.line_meaning.proofs.JournalLemmas.{clock_more, registered_more, world
 use Rattle.line_meaning.proofs.ReachedLemmas.{command_is_reached, writes_are_accepted}
 use Rattle.live_queries.specs.Kept.{KeptQuery}
 use Rattle.database.specs.declared.database.Database.{Database}
-use Rattle.database.specs.Keeping.{Keeps, TellsAcceptedWrites, clock_of, world_of_database}
+use Rattle.database.specs.Keeping.{Keeps, TellsAcceptedWrites, clock_of}
 use Rattle.database.proofs.CallerLemmas.{accepted_is_told}
 use Rattle.registry.specs.Standing.{Stand, known_of, registration_of}
 use Rattle.session.specs.declared.state.State.{State}
@@ -86,15 +84,3 @@ shown (commands.Watch name span q) telling other = absurd (cc telling)
 shown (commands.Keep name span q) telling other = absurd (cc telling)
 shown (commands.Drop name) telling other = absurd (cc telling)
 shown command telling other = refl
-
--- a command that tells takes no more looks at what the database tells than it may by what the journal tells
-pub asked_looks : (journal : List Accepted) (d : Database) (c : CommandTree) → Keeps journal d →
-    looks_asked (world_of_database d) c ≤ most_looks (held journal) c
-asked_looks journal d (Tree.Ask span q) keeps =
-    let same : most_reads (world_of_database d) span q ≡ most_reads (world journal) span q = ap (λ w. most_reads w span q) keeps.told_is in
-    omega (arith, same)
-asked_looks journal d (Tree.Nearest span k object class) keeps =
-    let same : looks_near (world_of_database d).history.catalog class ≡ looks_near (world journal).history.catalog class =
-    ap (λ w. looks_near w.history.catalog class) keeps.told_is in
-    omega (arith, same)
-asked_looks journal d c keeps = omega arith

@@ -8,6 +8,7 @@ pub mod SettleLemmas
 pub mod FollowLemmas
 pub mod AnswerLemmas
 pub mod TrialLemmas
+pub mod CarriedLemmas
 pub mod EnterLemmas
 pub mod FileLemmas
 pub mod LoadLemmas

@@ -6,12 +6,10 @@ use Rattle.std.specs.Str.Lines.{lines, lines_of_parts}
 use Rattle.std.proofs.lemmas.List.Splits.{length-slice_split}
 use Rattle.std.proofs.lemmas.List.Sums.{count_by-le-length}
 use Rattle.std.proofs.lemmas.Bool.Decides.{nat_tests}
-use Rattle.ftl_lexer.specs.declared.buffer.TheConstants.{LEXER_LIMIT}
 use Rattle.command_text.specs.declared.refusal.Refusal.{Refusal}
 use Rattle.command_text.specs.inner.Reading.{Read}
 use Rattle.command_text.specs.Journal.{is_kept, spelled}
 use Rattle.command_text.specs.Line.{IsRead, command_in, early_refusal, first_refusal, late_refusal}
-use Rattle.command_text.specs.Shape.{IsPrintable}
 use Rattle.command_text.specs.Text.{text_of}
 use Rattle.command_text.specs.TextLaws.{PrintsWhatIsRead, ReadsWhatIsPrinted}
 use Rattle.command_text.specs.Tree
@@ -24,6 +22,7 @@ use Rattle.session_file.specs.Reading.{GivesNext, Reading, finished, reading_of}
 use Rattle.line_meaning.specs.Loading.{Loaded, BadLine, line_of_fault, loading_by, loading_of, replayed}
 use Rattle.line_meaning.specs.Step.{Held, fault_of, held_after}
 use Rattle.line_meaning.proofs.ReachedLemmas.{none_of_both}
+use Rattle.session.specs.Carried.{IsLegible}
 
 -- ---- a text
 
@@ -97,7 +96,7 @@ at_most : (m n : ℕ) → nat_le m n ≡ true → m ≤ n
 at_most m n h = grind (arith, nat_tests, h)
 
 abbrev pub IsLoadable : CommandTree → Type 0
-IsLoadable c = (is_kept c ≡ true) × IsPrintable c × (spelled (text_of c) ≡ c) × (length (text_of c) ≤ LEXER_LIMIT)
+IsLoadable c = (is_kept c ≡ true) × IsLegible c
 
 module _ (prints : PrintsWhatIsRead) (again : ReadsWhatIsPrinted) where
   by_line : (line : List ℕ) (c : CommandTree) → first_refusal SESSION_LINE_LIMIT line ≡ None → may_be_loaded (spelled line) ≡ true →
@@ -108,7 +107,7 @@ module _ (prints : PrintsWhatIsRead) (again : ReadsWhatIsPrinted) where
       let two = both (is_kept c) (nat_le (length (text_of c)) SESSION_LINE_LIMIT) (subst (λ d. may_be_loaded d ≡ true) is may) in
       let short = at_most (length (text_of c)) SESSION_LINE_LIMIT two.1 in
       let printable = prints SESSION_LINE_LIMIT line c read in
-      (two.0, printable, ap (λ o. unwrap_or o Tree.Nothing) (again SESSION_LINE_LIMIT c printable short).command, short)
+      (two.0, record { printable = printable; canonical = ap (λ o. unwrap_or o Tree.Nothing) (again SESSION_LINE_LIMIT c printable short).command; short = short })
 
   pub is_loadable : (c : CommandTree) → HasLine c → IsLoadable c
   unfolding kept_in

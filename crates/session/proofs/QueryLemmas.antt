@@ -1,10 +1,10 @@
 -- The registered queries once one is added or dropped.
-use Rattle.std.proofs.Common.{◌≡◌, ℕ, ◌≤◌, Bool, true, false, not, ◌||◌, Option, None, List, [], ◌∷◌, ◌++◌, map, refl, sym, ap, ◌∙◌, subst, arith, if◌then◌else◌}
+use Rattle.std.proofs.Common.{◌≡◌, ℕ, ◌≤◌, Bool, true, false, not, ◌||◌, Option, None, List, [], ◌∷◌, ◌++◌, map, refl, sym, ap, ◌∙◌, subst, append-nil, arith, if◌then◌else◌}
 use Rattle.std.specs.Prelude.{All, length, Ok, Err}
 use Rattle.std.specs.List.{filter, list_any}
 use Rattle.std.specs.Str.{bytes_eq}
 use Rattle.std.proofs.lemmas.Bool.{or_parts}
-use Rattle.std.proofs.lemmas.List.{append_assoc, map-append}
+use Rattle.std.proofs.lemmas.List.{map-append}
 use Rattle.std.proofs.lemmas.List.Elements.{All-append, All-cons, All-filter, All-nil}
 use Rattle.std.proofs.lemmas.Slice.Eq.{bytes_eq-Decides}
 use Rattle.std.specs.Cmp.Lexicographic.{nat_list_eq_equiv}
@@ -32,10 +32,9 @@ use Rattle.line_meaning.specs.Changes.{answer_text}
 use Rattle.line_meaning.specs.Fault.{is_gap, passes_limits}
 use Rattle.line_meaning.specs.FirstFault.{register_size_refusal, type_refusal, unknown_among}
 use Rattle.line_meaning.specs.Journal.{regions_of, world, writes_of}
-use Rattle.line_meaning.specs.Looks.{most_looks, most_reads}
+use Rattle.line_meaning.specs.Looks.{is_query, most_looks, most_reads}
 use Rattle.line_meaning.specs.QueryFault.{command_fault, register_refusal}
 use Rattle.line_meaning.specs.Registry.{Known, Registration, has_name, is_registered, known, live_after, registered, registration}
-use Rattle.line_meaning.specs.Reply.{ok_line}
 use Rattle.line_meaning.specs.Step.{fault_of, held}
 use Rattle.line_meaning.proofs.RefusalLemmas.{registered_by_fault}
 use Rattle.live_queries.specs.Asked.{FitsWorld}
@@ -52,10 +51,10 @@ use Rattle.registry.specs.Registers.{info_for}
 use Rattle.registry.specs.Standing.{Stand, known_of, registration_of}
 use Rattle.session.specs.Asked.{command_by, command_of}
 use Rattle.session.specs.declared.state.State.{State}
-use Rattle.session.specs.Carried.{IsDone}
+use Rattle.session.specs.Carried.{IsAccepted, IsStopped}
 use Rattle.session.specs.Entering.{Admits}
 use Rattle.session.specs.State.{IsState}
-use Rattle.session.proofs.FaultLemmas.{accepted, admits_done, entered_done, lacks_done, none_holds, none_of_both, stopped_done}
+use Rattle.session.proofs.FaultLemmas.{accepted, accepted_kept, none_holds, none_of_both, stopped_by, stopped_full, stopped_lacking}
 use Rattle.session.proofs.KnownLemmas.{entered_state, keeps_same, known_is}
 
 -- ---- a command that registers a query, of either kind
@@ -86,6 +85,13 @@ pub request_fault : (k : Known) (r : Request) → command_fault k (command_of r)
 request_fault k r = by_kind r.kind
   where
     by_kind : (kind : QueryKind) → command_fault k (command_by kind r) ≡ register_refusal k r.name.now r.span (query_view r.query.now)
+    by_kind Watch = refl
+    by_kind Keep = refl
+
+request_evaluates : (r : Request) → is_query (command_of r) ≡ true
+request_evaluates r = by_kind r.kind
+  where
+    by_kind : (k : QueryKind) → is_query (command_by k r) ≡ true
     by_kind Watch = refl
     by_kind Keep = refl
 
@@ -235,23 +241,27 @@ module _ (s : State) (is : IsState s.journal s) (c : CommandTree) (r : Request) 
       ap (most_looks (held s.journal)) same ∙ request_looks s.journal r
       ∙ ap (λ (w : World). most_reads w r.span (query_view r.query.now)) (sym is.keeps.told_is)
 
-  pub asked_stopped : (before after : List ℕ) (fault : CommandFault) →
+  -- it evaluates a query, so it may take probes
+  pub asked_plain : (probes probes' : ℕ) → is_query c ≡ false → probes' ≡ probes
+  asked_plain probes probes' plain = absurd (cc (plain, ap is_query same ∙ request_evaluates r))
+
+  pub asked_stopped : (fault : CommandFault) →
       IsStoppedBy (register_refusal (known_of s.database s.live) r.name.now r.span (query_view r.query.now)) fault →
-      IsDone (held s.journal) c (held s.journal) before after (Err fault)
-  asked_stopped before after fault stopped =
-      stopped_done s.journal c asked_gap asked_kept before after fault
+      IsStopped c (held s.journal) (held s.journal) fault
+  asked_stopped fault stopped =
+      stopped_by s.journal c asked_gap asked_kept fault
       (subst (λ (o : Option Refusal). IsStoppedBy o fault) (sym asked_fault) stopped)
 
   module _ (right : register_refusal (known_of s.database s.live) r.name.now r.span (query_view r.query.now) ≡ None) where
-    pub asked_full : (line before after : List ℕ) (fault : CommandFault) → Admits s.journal c line (Err fault) →
-        IsDone (held s.journal) c (held s.journal) before after (Err fault)
-    asked_full line before after fault admits =
-        admits_done s.journal c asked_gap asked_kept line before after fault (asked_fault ∙ right) admits
+    pub asked_full : (line : List ℕ) (fault : CommandFault) → Admits s.journal c line (Err fault) →
+        IsStopped c (held s.journal) (held s.journal) fault
+    asked_full line fault admits =
+        stopped_full s.journal c asked_gap asked_kept line fault (asked_fault ∙ right) admits
 
-    pub asked_lacks : (new : List Accepted) (before after : List ℕ) (fault : CommandFault) → new ≡ s.journal → fault ≡ stops.NoMemory →
-        IsDone (held s.journal) c (held new) before after (Err fault)
-    asked_lacks new before after fault still lacks =
-        lacks_done s.journal c asked_gap asked_kept new before after fault still lacks (λ other. asked_fault ∙ right)
+    pub asked_lacks : (new : List Accepted) (fault : CommandFault) → new ≡ s.journal → fault ≡ stops.NoMemory →
+        IsStopped c (held s.journal) (held new) fault
+    asked_lacks new fault still lacks =
+        stopped_lacking s.journal c asked_gap asked_kept new fault still lacks (λ other. asked_fault ∙ right)
 
     module _ (line : List ℕ) (admits : Admits s.journal c line (Ok tt)) where
       asked_accepted : fault_of (held s.journal) c ≡ None
@@ -287,19 +297,19 @@ module _ (s : State) (is : IsState s.journal s) (c : CommandTree) (r : Request) 
               dropped_again s.database s.live live r.kind r.name.now r.span (query_view r.query.now) resolved adds by_number
               (name_is_free (known_of s.database s.live) r.name.now r.span (query_view r.query.now) right)
 
-        pub asked_done : (new : List Accepted) (before told after : List ℕ) → new ≡ s.journal ++ (now, spells line) ∷ [] →
-            told ≡ before ++ answer_text (world_of_database s.database) (clock_of s.database)
+        pub asked_done : (new : List Accepted) (before after : List ℕ) → new ≡ s.journal ++ (now, spells line) ∷ [] →
+            after ≡ before ++ answer_text (world_of_database s.database) (clock_of s.database)
             (registration r.kind (world_of_database s.database) (clock_of s.database) r.name.now r.span (query_view r.query.now)) →
-            after ≡ told ++ ok_line → IsDone (held s.journal) c (held new) before after (Ok tt)
-        asked_done new before told after entered first said =
+            IsAccepted c (held s.journal) (held new) before after
+        asked_done new before after entered said =
             let lines : List ℕ = answer_text (world_of_database s.database) (clock_of s.database)
             (registration r.kind (world_of_database s.database) (clock_of s.database) r.name.now r.span (query_view r.query.now)) in
             let later : Known = known (s.journal ++ (clock s.journal, c) ∷ []) in
-            entered_done s.journal c asked_gap asked_kept now new before after lines (tick ∙ is.keeps.clock_is) (entered_is new entered) asked_accepted
+            accepted_kept s.journal c asked_gap asked_kept now new before after lines (tick ∙ is.keeps.clock_is) (entered_is new entered) asked_accepted
             (ap (λ (k : Known). answer_text k.world k.now (registration r.kind k.world k.now r.name.now r.span (query_view r.query.now)))
             (known_is s.journal s is)
             ∙ sym (request_lines (known s.journal) later r) ∙ ap (kept_lines (known s.journal) later) (sym same))
-            (said ∙ ap (λ o. o ++ ok_line) first ∙ append_assoc before lines ok_line)
+            said
 
 -- ---- a query is dropped
 
@@ -317,24 +327,23 @@ module _ (s : State) (is : IsState s.journal s) (c : CommandTree) (name : List �
   drop_kept : is_kept c ≡ true
   drop_kept = ap is_kept same
 
-  pub drop_unknown : (before after : List ℕ) → there ≡ false →
-      IsDone (held s.journal) c (held s.journal) before after (Err (stops.Refused refusals.UnknownName))
-  drop_unknown before after absent =
-      stopped_done s.journal c drop_gap drop_kept before after (stops.Refused refusals.UnknownName)
+  pub drop_unknown : there ≡ false → IsStopped c (held s.journal) (held s.journal) (stops.Refused refusals.UnknownName)
+  drop_unknown absent =
+      stopped_by s.journal c drop_gap drop_kept (stops.Refused refusals.UnknownName)
       (drop_fault ∙ ap (λ b. first_that_holds ((refusals.UnknownName, not b) ∷ [])) absent)
 
   module _ (present : there ≡ true) where
     drop_right : command_fault (known s.journal) c ≡ None
     drop_right = drop_fault ∙ ap (λ b. first_that_holds ((refusals.UnknownName, not b) ∷ [])) present
 
-    pub drop_full : (line before after : List ℕ) (fault : CommandFault) → Admits s.journal c line (Err fault) →
-        IsDone (held s.journal) c (held s.journal) before after (Err fault)
-    drop_full line before after fault admits = admits_done s.journal c drop_gap drop_kept line before after fault drop_right admits
+    pub drop_full : (line : List ℕ) (fault : CommandFault) → Admits s.journal c line (Err fault) →
+        IsStopped c (held s.journal) (held s.journal) fault
+    drop_full line fault admits = stopped_full s.journal c drop_gap drop_kept line fault drop_right admits
 
-    pub drop_lacks : (new : List Accepted) (before after : List ℕ) (fault : CommandFault) → new ≡ s.journal → fault ≡ stops.NoMemory →
-        IsDone (held s.journal) c (held new) before after (Err fault)
-    drop_lacks new before after fault still lacks =
-        lacks_done s.journal c drop_gap drop_kept new before after fault still lacks (λ other. drop_right)
+    pub drop_lacks : (new : List Accepted) (fault : CommandFault) → new ≡ s.journal → fault ≡ stops.NoMemory →
+        IsStopped c (held s.journal) (held new) fault
+    drop_lacks new fault still lacks =
+        stopped_lacking s.journal c drop_gap drop_kept new fault still lacks (λ other. drop_right)
 
     module _ (line : List ℕ) (admits : Admits s.journal c line (Ok tt)) (now : ℕ) (tick : now ≡ clock_of s.database) (spells : List ℕ → CommandTree)
         (canonical : spells (text_of c) ≡ c) where
@@ -356,8 +365,8 @@ module _ (s : State) (is : IsState s.journal s) (c : CommandTree) (name : List �
           (subst (λ (d : Database). Stand d n.live) (sym database)
           (subst (λ (ks : List KeptQuery). Stand s.database ks) (sym its) (drops_stand s.database name s.live is.stand)))
 
-      pub drop_done : (new : List Accepted) (before after : List ℕ) → new ≡ s.journal ++ (now, spells line) ∷ [] → after ≡ before ++ ok_line →
-          IsDone (held s.journal) c (held new) before after (Ok tt)
+      pub drop_done : (new : List Accepted) (before after : List ℕ) → new ≡ s.journal ++ (now, spells line) ∷ [] → after ≡ before →
+          IsAccepted c (held s.journal) (held new) before after
       drop_done new before after entered said =
-          entered_done s.journal c drop_gap drop_kept now new before after [] (tick ∙ is.keeps.clock_is) (drop_entered new entered) drop_accepted
-          (ap (kept_lines (known s.journal) (known (s.journal ++ (clock s.journal, c) ∷ []))) (sym same)) said
+          accepted_kept s.journal c drop_gap drop_kept now new before after [] (tick ∙ is.keeps.clock_is) (drop_entered new entered) drop_accepted
+          (ap (kept_lines (known s.journal) (known (s.journal ++ (clock s.journal, c) ∷ []))) (sym same)) (said ∙ sym (append-nil before))

@@ -21,12 +21,12 @@ use Rattle.line_meaning.specs.declared.role.Role.{Role}
 use Rattle.line_meaning.specs.Fault.{is_gap, is_present, journal_refusal, passes_limits}
 use Rattle.line_meaning.specs.Import.{entry_lines, is_taken, journal_after_rows, lines_of_rows, row_command, with_entry}
 use Rattle.line_meaning.specs.Journal.{world}
-use Rattle.line_meaning.specs.Looks.{looks_of_rows, most_looks}
+use Rattle.line_meaning.specs.Looks.{is_query, looks_of_rows, most_looks}
 use Rattle.line_meaning.specs.QueryFault.{command_fault}
 use Rattle.line_meaning.specs.Registry.{known}
-use Rattle.line_meaning.specs.Reply.{ok_line}
 use Rattle.line_meaning.specs.Role.{is_on_queries, role_of}
-use Rattle.line_meaning.specs.Step.{fault_of, held, reply_by}
+use Rattle.line_meaning.specs.Step.{fault_of, held}
+use Rattle.session.specs.Carried.{lines_by}
 use Rattle.session.specs.Followed.{writes_object}
 use Rattle.session.specs.Rows.{IsRowCommand, journal_after_commands, lines_of_commands, looks_of_commands, row_commands}
 use Rattle.line_meaning.proofs.RoleLemmas.{kept_is_keeping}
@@ -51,6 +51,13 @@ write_plain (Tree.Insert class name place sets) write = refl
 write_plain (Tree.Update name place sets) write = refl
 write_plain (Tree.Remove name) write = refl
 write_plain c write = absurd (cc write)
+
+-- it evaluates the registered queries, so it may take probes
+pub write_probes : (c : CommandTree) (probes probes' : ℕ) → writes_object c ≡ true → is_query c ≡ false → probes' ≡ probes
+write_probes (Tree.Insert class name place sets) probes probes' write plain = absurd (cc plain)
+write_probes (Tree.Update name place sets) probes probes' write plain = absurd (cc plain)
+write_probes (Tree.Remove name) probes probes' write plain = absurd (cc plain)
+write_probes c probes probes' write plain = absurd (cc write)
 
 and_false : (b : Bool) → (b && false) ≡ false
 and_false true = refl
@@ -121,9 +128,9 @@ taken_short journal c taken =
     (and_parts (is_none (fault_of (held journal) c)) (may_be_loaded c) taken).1).1 in
     grind (arith, nat_tests, short)
 
--- its reply is its lines with an `ok` at the end
-pub reply_is : (journal : List Accepted) (c : CommandTree) → writes_object c ≡ true → reply_by (role_of c) (held journal) c ≡ entry_lines journal c ++ ok_line
-reply_is journal c write = ap (λ (r : Role). reply_by r (held journal) c) (kept_is_keeping c (write_kept c write))
+-- its lines are those of its entry
+pub lines_is : (journal : List Accepted) (c : CommandTree) → writes_object c ≡ true → lines_by (role_of c) (held journal) c ≡ entry_lines journal c
+lines_is journal c write = ap (λ (r : Role). lines_by r (held journal) c) (kept_is_keeping c (write_kept c write))
 
 -- ---- the first of some commands
 

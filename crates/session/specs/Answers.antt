@@ -1,10 +1,8 @@
 -- What `apply` answers of a line.
-use Rattle.std.specs.Prelude.{◌≡◌, ◌⊎◌, ℕ, List, ◌∷◌, ◌++◌, true, Option, None, Some, Result, Ok, Err, IfOk, IfErr, MatchResult}
+use Rattle.std.specs.Prelude.{◌≡◌, ◌⊎◌, ℕ, List, ◌∷◌, ◌++◌, true, Option, None, Some, Result, IfOk, IfErr, MatchResult}
 use Rattle.outside.specs.Faults.{Rose}
 use Rattle.outside.specs.Shelf.{SameButAt, Texts}
 use Rattle.object_rows.specs.declared.rows.ObjectRow.{ObjectRow}
-use Rattle.command_text.specs.declared.fault.CommandFault.{CommandFault}
-use Rattle.command_text.specs.declared.fault.CommandFault.TheVariants as stops
 use Rattle.command_text.specs.declared.reading.TheConstants.{LINE_LIMIT}
 use Rattle.command_text.specs.Journal.{spelled}
 use Rattle.command_text.specs.Line.{early_refusal}
@@ -112,12 +110,6 @@ FaultCounts before now apply_faults.NoMemory = now ≡ before
 
 abbrev pub HasCause : ℕ → ℕ → Result Next ApplyFault → Type 0
 HasCause before now result = MatchResult result (λ _. now ≡ before) (FaultCounts before now)
-
--- what whoever applied a line is told of what was done with its command
-abbrev pub next_or_fault : Result Next CommandFault → Result Next ApplyFault
-next_or_fault (Ok next) = Ok next
-next_or_fault (Err (stops.Refused r)) = Ok (nexts.Refused r)
-next_or_fault (Err stops.NoMemory) = Err apply_faults.NoMemory
 
 -- a refused line and one without a reply look at no object
 abbrev pub IsUnread : Next → ℕ → ℕ → Type 0

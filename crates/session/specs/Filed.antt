@@ -1,16 +1,24 @@
 -- What is done with a command, by what was held and told of the shelf before it, and what is after it.
-use Rattle.std.specs.Prelude.{◌≡◌, ℕ, List, ◌++◌, true, Option, None, Some, Result, Ok, Err, IfOk, IfErr}
+use Rattle.std.specs.Prelude.{◌≡◌, ◌≤◌, ◌+◌, ℕ, List, ◌++◌, true, false, Option, None, Some, Result, Ok, Err, IfOk, IfErr}
 use Rattle.outside.specs.Shelf.{SameButAt, Texts, put}
 use Rattle.command_text.specs.declared.refusal.Refusal.{Refusal}
 use Rattle.exact.specs.First.{or_else}
+use Rattle.command_text.specs.Shape.{IsPrintable}
 use Rattle.command_text.specs.Tree.{CommandTree}
+use Rattle.line_meaning.specs.Looks.{is_query, looks_of}
 use Rattle.line_meaning.specs.Role.{asks_shelf, is_import}
 use Rattle.line_meaning.specs.Step.{Base, Held, base, base_after, fault_of, file_refusal, reply_of}
 use Rattle.session.specs.declared.next.ApplyFault.{ApplyFault}
 use Rattle.session.specs.declared.next.ApplyFault.TheVariants as apply_faults
 use Rattle.session.specs.declared.next.Next.{Next}
 use Rattle.session.specs.declared.next.Next.TheVariants as nexts
-use Rattle.session.specs.Answers.{IsUnchanged, LeavesHeld, LeavesTexts, next_of}
+use Rattle.session.specs.Answers.{IsUnchanged, IsUnread, LeavesHeld, LeavesTexts, next_of}
+use Rattle.session.specs.Carried.{Moment}
+
+-- a command that asks the shelf
+pub record IsFiling (c : CommandTree) : Type 0 where
+  pub printable : IsPrintable c
+  pub asks : asks_shelf c ≡ true
 
 -- the refusal of a command, also by what a text of the shelf holds
 abbrev pub refusal_with : Base → CommandTree → Option Refusal
@@ -55,6 +63,19 @@ pub record IsApplied (told left : Option Texts) (c : CommandTree) (old new : Hel
   pub refused : IfOk result (λ next. IsUnchanged next old new before after)
   pub texts : (texts : Texts) → told ≡ Some texts → IfOk result (λ next. left ≡ Some (texts_by next (base old texts) c))
   pub fails : IfErr result (λ fault. FailsWith fault told left c old new before after)
+
+-- of a command that is refused, and of one without a reply, no step is taken
+pub record TakesSteps (reads reads' probes probes' : ℕ) (result : Result Next ApplyFault) : Type 0 where
+  pub least : reads ≤ reads'
+  pub unread : IfOk result (λ next. IsUnread next reads reads')
+  pub unprobed : IfOk result (λ next. IsUnread next probes probes')
+
+-- all that is done with a command from one moment to the next, and the steps that it takes
+pub record IsAnswered (told left : Option Texts) (c : CommandTree) (old new : Moment) (result : Result Next ApplyFault) : Type 0 where
+  pub applied : IsApplied told left c old.holds new.holds old.tally.said new.tally.said result
+  pub steps : TakesSteps old.tally.reads new.tally.reads old.tally.probes new.tally.probes result
+  pub most : (texts : Texts) → SufficesFor told c texts → new.tally.reads ≤ old.tally.reads + looks_of (base old.holds texts) c
+  pub plain : is_query c ≡ false → new.tally.probes ≡ old.tally.probes
 
 -- the bytes after what was done, where those after an error are cut off
 abbrev pub said_after : {T E : Type 0} → Result T E → List ℕ → List ℕ → List ℕ

@@ -1,9 +1,11 @@
 -- What follows a change of the database: lines of what changes for the registered queries, and what a write makes of them.
-use Rattle.std.specs.Prelude.{◌≡◌, ℕ, Bool, true, false, Option, None, Some, List, []}
+use Rattle.std.specs.Prelude.{◌≡◌, ℕ, Bool, true, false, Option, None, Some, List, [], ◌∷◌, ◌++◌, Result, IfErr, IfOk}
 use Rattle.std.specs.List.{flat_map}
 use Rattle.object_store.specs.Contents.{catalog_of}
+use Rattle.command_text.specs.declared.fault.CommandFault.{CommandFault}
 use Rattle.command_text.specs.Tree
 use Rattle.command_text.specs.Tree.{CommandTree}
+use Rattle.line_meaning.specs.Step.{fault_of, held}
 use Rattle.live_queries.specs.Kept.{KeptQuery}
 use Rattle.live_queries.specs.Prepared.{AreFreshFor, AreMade, IsPrepared, Prepared}
 use Rattle.live_queries.specs.Told.{changes_of, passings_of}
@@ -14,6 +16,7 @@ use Rattle.database.specs.Attempt.{Carries}
 use Rattle.database.specs.Keeping.{clock_of, world_of_database}
 use Rattle.registry.specs.Moves.{moves_text}
 use Rattle.session.specs.declared.state.State.{State}
+use Rattle.session.specs.Carried.{IsStopped}
 use Rattle.session.specs.State.{IsState}
 
 -- the database was changed by a command, and nothing else was since
@@ -58,3 +61,14 @@ lines_told c before d live None = []
 abbrev pub Settles : Option Prepared → List KeptQuery → List KeptQuery → Type 0
 Settles None old new = new ≡ old
 Settles (Some f) old new = AreMade f.object f.class f.renewals old new
+
+-- what follows a change from tick `before`: what it changes is told, and the command is entered; or it is stopped
+pub record Follows (c : CommandTree) (before : ℕ) (change : Change) (old new : State) (said later : List ℕ)
+    (result : Result (Option Prepared) CommandFault) : Type 0 where
+  pub entered : IfOk result (λ _. new.journal ≡ old.journal ++ (before, c) ∷ [])
+  pub accepted : IfOk result (λ _. fault_of (held old.journal) c ≡ None)
+  pub prepared : IfOk result (Prepares c change old.database old.live)
+  pub told : IfOk result (λ f. later ≡ said ++ lines_told c before old.database old.live f)
+  pub stopped : IfErr result (IsStopped c (held old.journal) (held new.journal))
+  pub database : new.database ≡ old.database
+  pub live : new.live ≡ old.live

@@ -3,8 +3,11 @@ use Rattle.std.specs.Prelude.{◌≡◌, ◌⊎◌, ℕ, None, Some, List, ◌++
 use Rattle.command_text.specs.declared.command.Command.{Command}
 use Rattle.command_text.specs.declared.refusal.Refusal.TheVariants as refusals
 use Rattle.command_text.specs.Journal.{Accepted}
+use Rattle.command_text.specs.Shape.{IsShortName}
 use Rattle.command_text.specs.Tree.{command_view}
+use Rattle.line_meaning.specs.Fault.{class_refusal}
 use Rattle.line_meaning.specs.Import.{journal_after_text}
+use Rattle.line_meaning.specs.Journal.{world}
 use Rattle.line_meaning.specs.Reply.{ok_line}
 use Rattle.session.specs.declared.next.ApplyFault.{ApplyFault}
 use Rattle.session.specs.declared.next.ApplyFault.TheVariants as apply_faults
@@ -12,6 +15,11 @@ use Rattle.session.specs.declared.next.Next.{Next}
 use Rattle.session.specs.declared.next.Next.TheVariants as nexts
 use Rattle.session.specs.Rows.{LeavesSome, journal_after_commands, lines_of_commands}
 use Rattle.session.specs.Trial.{AreImported}
+
+-- a class that is there, by a name that lines may have
+pub record IsThere (journal : List Accepted) (class : List ℕ) : Type 0 where
+  pub known : class_refusal (world journal).history.catalog class ≡ None
+  pub name : IsShortName class
 
 -- all rows were entered
 pub record EntersRows (class text : List ℕ) (old new : List Accepted) (before after : List ℕ) : Type 0 where

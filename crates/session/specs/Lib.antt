@@ -2,6 +2,7 @@ pub mod State
 pub mod Asked
 pub mod Answers
 pub mod Carried
+pub mod Told
 pub mod Entering
 pub mod Filed
 pub mod Followed

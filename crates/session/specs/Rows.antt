@@ -1,5 +1,5 @@
 -- Commands of rows, one after another.
-use Rattle.std.specs.Prelude.{◌≡◌, ◌⊎◌, ℕ, ◌+◌, true, Option, None, Some, List, [], ◌∷◌, ◌++◌, if◌then◌else◌}
+use Rattle.std.specs.Prelude.{◌≡◌, ◌⊎◌, ℕ, ◌+◌, true, Option, None, Some, Result, Ok, Err, List, [], ◌∷◌, ◌++◌, if◌then◌else◌}
 use Rattle.object_rows.specs.declared.rows.ObjectRow.{ObjectRow}
 use Rattle.command_text.specs.Journal.{Accepted}
 use Rattle.command_text.specs.Shape.{IsPrintable}
@@ -47,6 +47,12 @@ pub record HasFirstCommands (journal : List Accepted) (cs : List CommandTree) (n
 abbrev pub LeavesSome : List Accepted → List CommandTree → List Accepted → Type 0
 LeavesSome journal cs new = (new ≡ journal) ⊎ HasFirstCommands journal cs new
 
+-- all were entered, and their lines are written with an `ok` at the end; or memory is out
+abbrev pub EntersCommands : {E : Type 0} → List CommandTree → List Accepted → List Accepted → List ℕ → List ℕ → Result (Unit {0}) E → Type 0
+EntersCommands cs journal new before after (Ok u) =
+    (journal_after_commands journal cs ≡ Some new) × (after ≡ before ++ (lines_of_commands journal cs ++ ok_line))
+EntersCommands cs journal new before after (Err fault) = LeavesSome journal cs new
+
 -- ---- Some of them were entered, and the rest is to be
 
 pub record AreEntered (start : List Accepted) (cs : List CommandTree) (journal : List Accepted) (rest : List CommandTree) : Type 0 where
@@ -54,8 +60,8 @@ pub record AreEntered (start : List Accepted) (cs : List CommandTree) (journal :
   pub all : cs ≡ first ++ rest
   pub entered : journal_after_commands start first ≡ Some journal
 
--- their lines were written, with an `ok` at the end
+-- their lines were written
 pub record AreWritten (start : List Accepted) (cs : List CommandTree) (journal : List Accepted) (rest : List CommandTree) (before after : List ℕ) : Type 0 where
   pub said : List ℕ
-  pub out : after ≡ (before ++ said) ++ ok_line
+  pub out : after ≡ before ++ said
   pub lines : lines_of_commands start cs ≡ said ++ lines_of_commands journal rest

@@ -1,32 +1,61 @@
 //! What is done with a command that was read.
-ghost use Rattle.std.specs.Prelude.{◌≡◌, ◌+◌, ◌≤◌, false, length, IfErr};
-ghost use Rattle.ftl_lexer.specs.declared.buffer.TheConstants.{LEXER_LIMIT};
-ghost use Rattle.command_text.specs.Journal.{spelled};
-ghost use Rattle.command_text.specs.Shape.{IsPrintable};
-ghost use Rattle.command_text.specs.Text.{text_of};
+ghost use Rattle.std.specs.Prelude.{◌≡◌, ◌++◌, IfErr, IfOk, OnOk};
 ghost use Rattle.command_text.specs.Tree.{command_view};
-ghost use Rattle.line_meaning.specs.declared.role.Role.TheVariants.{Telling};
-ghost use Rattle.line_meaning.specs.Fault.{is_gap};
-ghost use Rattle.line_meaning.specs.Looks.{is_query, most_looks};
-ghost use Rattle.line_meaning.specs.Role.{asks_shelf, role_of};
 ghost use Rattle.line_meaning.specs.Step.{held};
-ghost use Rattle.reply_text.specs.Begins.{Begins};
-ghost use Rattle.database.specs.Telling.{IsRefused};
-ghost use Rattle.session.specs.Carried.{Carried, CarriesOut, IsDone};
+ghost use Rattle.database.specs.Telling.{RefusesFreely, tally};
+ghost use Rattle.session.specs.Answers.{next_of};
+ghost use Rattle.session.specs.Carried.{Carried, Carries, HasRoom, HasRoomFor, IsStopped, IsTelling, IsToCarryOut, Spends, end_of, moment};
 ghost use Rattle.session.specs.State.{IsState};
+ghost use Rattle.session.specs.Told.{IsTold};
 
+use crate::entering::{end_reply, make_room};
 use crate::keeping::keep;
 use crate::next::Next;
 use crate::state::State;
 use command_text::{Command, CommandFault, Refusal};
 use line_meaning::{Role, is_gap, role_of};
 use registry::{push_queries, show};
-use reply_text::push_ok;
-use std::alloc::Global;
+use std::alloc::{AllocError, Global};
 use std::sync::ledger::Ledger;
 use steps::Steps;
 
-/// Answers a command that changes nothing. On want of memory `out` still begins with its old contents.
+/// Writes the lines that answer a command which changes nothing. On want of memory `out` still begins with its old
+/// contents.
+fn tell_lines<L: Ledger, M: Ledger>(
+    alloc: Global,
+    state: &State,
+    command: &Command,
+    reads: &mut Steps<L>,
+    probes: &mut Steps<M>,
+    out: &mut Vec<u8>,
+) -> Result<(), CommandFault>
+    requires state { IsState state.now.journal state.now }
+    requires telling { IsTelling (command_view command.now) }
+    ensures told { IfOk result (λ _. IsTold state.now.journal (command_view command.now) out.old.items out.new.items) }
+    ensures stopped { IfErr result (IsStopped (command_view command.now) (held state.now.journal) (held state.now.journal)) }
+    ensures spends { Spends (command_view command.now)
+        (moment (held state.now.journal) out.old.items reads.old probes.old)
+        (moment (held state.now.journal) out.new.items reads.new probes.new) }
+    ensures free { RefusesFreely (tally out.old.items reads.old probes.old) (tally out.new.items reads.new probes.new) result }
+{
+    match command {
+        Command::Show { name } => {
+            show(alloc, &state.database, &state.live, name, out)?;
+            Ok(())
+        }
+        Command::List => {
+            state.database.tell(alloc, command, reads, probes, out)?;
+            push_queries(&state.live, out)?;
+            Ok(())
+        }
+        _ => {
+            state.database.tell(alloc, command, reads, probes, out)?;
+            Ok(())
+        }
+    }
+}
+
+/// The same, with room for an `ok` after them.
 fn tell<L: Ledger, M: Ledger>(
     alloc: Global,
     state: &State,
@@ -36,33 +65,21 @@ fn tell<L: Ledger, M: Ledger>(
     out: &mut Vec<u8>,
 ) -> Result<(), CommandFault>
     requires state { IsState state.now.journal state.now }
-    requires printable { IsPrintable (command_view command.now) }
-    requires telling { role_of (command_view command.now) ≡ Telling }
-    requires gap { is_gap (command_view command.now) ≡ false }
-    ensures done { IsDone (held state.now.journal) (command_view command.now) (held state.now.journal) out.old.items out.new.items result }
-    ensures begins { Begins out.old.items out.new.items }
-    ensures least { reads.old ≤ reads.new }
-    ensures most { reads.new ≤ reads.old + most_looks (held state.now.journal) (command_view command.now) }
-    ensures unread { IfErr result (λ fault. IsRefused fault → reads.new ≡ reads.old) }
-    ensures unprobed { IfErr result (λ fault. IsRefused fault → probes.new ≡ probes.old) }
-    ensures plain { is_query (command_view command.now) ≡ false → probes.new ≡ probes.old }
+    requires telling { IsTelling (command_view command.now) }
+    ensures carries { Carries (command_view command.now)
+        (moment (held state.now.journal) out.old.items reads.old probes.old)
+        (moment (held state.now.journal) out.new.items reads.new probes.new) result }
+    ensures room { OnOk result (HasRoom out.new) }
 {
-    match command {
-        Command::Show { name } => show(alloc, &state.database, &state.live, name, out)?,
-        Command::List => {
-            state.database.tell(alloc, command, reads, probes, out)?;
-            push_queries(&state.live, out)?;
-        }
-        _ => state.database.tell(alloc, command, reads, probes, out)?,
-    }
-    push_ok(out)?;
+    tell_lines(alloc, state, command, reads, probes, out)?;
+    make_room(out)?;
     Ok(())
 }
 
-/// Carries out a command that was read and asks nothing of the shelf. After an error nothing has changed but that `out` begins with its old
-/// contents.
+/// Does what a command has to that was read and asks nothing of the shelf. After an error nothing has changed but that
+/// `out` begins with its old contents.
 #[inline(always)]
-fn carry_out<L: Ledger, M: Ledger>(
+fn perform<L: Ledger, M: Ledger>(
     alloc: Global,
     state: &mut State,
     command: &Command,
@@ -71,18 +88,13 @@ fn carry_out<L: Ledger, M: Ledger>(
     out: &mut Vec<u8>,
 ) -> Result<Next, CommandFault>
     requires state { IsState state.old.journal state.old }
-    requires printable { IsPrintable (command_view command.now) }
-    requires canonical { spelled (text_of (command_view command.now)) ≡ command_view command.now }
-    requires short { length (text_of (command_view command.now)) ≤ LEXER_LIMIT }
-    requires plain { asks_shelf (command_view command.now) ≡ false }
+    requires command { IsToCarryOut (command_view command.now) }
     ensures state { IsState state.new.journal state.new }
-    ensures done { CarriesOut (held state.old.journal) (command_view command.now) (held state.new.journal) out.old.items out.new.items result }
-    ensures begins { Begins out.old.items out.new.items }
-    ensures least { reads.old ≤ reads.new }
-    ensures most { reads.new ≤ reads.old + most_looks (held state.old.journal) (command_view command.now) }
-    ensures unread { IfErr result (λ fault. IsRefused fault → reads.new ≡ reads.old) }
-    ensures unprobed { IfErr result (λ fault. IsRefused fault → probes.new ≡ probes.old) }
-    ensures plain { is_query (command_view command.now) ≡ false → probes.new ≡ probes.old }
+    ensures carries { Carries (command_view command.now)
+        (moment (held state.old.journal) out.old.items reads.old probes.old)
+        (moment (held state.new.journal) out.new.items reads.new probes.new) result }
+    ensures next { IfOk result (λ next. next ≡ next_of (command_view command.now)) }
+    ensures room { IfOk result (λ next. HasRoomFor next out.new) }
 {
     if is_gap(command) {
         return Err(CommandFault::Refused(Refusal::BadSyntax));
@@ -98,40 +110,55 @@ fn carry_out<L: Ledger, M: Ledger>(
             Ok(Next::Accepted)
         }
         Role::Ending => {
-            push_ok(out)?;
+            make_room(out)?;
             Ok(Next::Quit)
         }
         Role::Filing => unreachable!(),
     }
 }
 
-/// Answers a command that was read and asks nothing of the shelf. A refusal and want of memory change nothing.
+/// Carries out a command that was read and asks nothing of the shelf, and writes the lines of its reply but for the `ok`
+/// at the end, for which there is room then. A refusal and want of memory change nothing.
 #[inline(always)]
-pub(crate) fn answer<L: Ledger, M: Ledger>(
+pub(crate) fn carry_out<L: Ledger, M: Ledger>(
     alloc: Global,
     state: &mut State,
     command: &Command,
     reads: &mut Steps<L>,
     probes: &mut Steps<M>,
     out: &mut Vec<u8>,
-) -> Result<Next, CommandFault>
+) -> Result<Next, AllocError>
     requires state { IsState state.old.journal state.old }
-    requires printable { IsPrintable (command_view command.now) }
-    requires canonical { spelled (text_of (command_view command.now)) ≡ command_view command.now }
-    requires short { length (text_of (command_view command.now)) ≤ LEXER_LIMIT }
-    requires plain { asks_shelf (command_view command.now) ≡ false }
+    requires command { IsToCarryOut (command_view command.now) }
     ensures state { IsState state.new.journal state.new }
-    ensures carried { Carried (held state.old.journal) (command_view command.now) (held state.new.journal) out.old.items out.new.items result }
-    ensures least { reads.old ≤ reads.new }
-    ensures most { reads.new ≤ reads.old + most_looks (held state.old.journal) (command_view command.now) }
-    ensures unread { IfErr result (λ fault. IsRefused fault → reads.new ≡ reads.old) }
-    ensures unprobed { IfErr result (λ fault. IsRefused fault → probes.new ≡ probes.old) }
-    ensures plain { is_query (command_view command.now) ≡ false → probes.new ≡ probes.old }
+    ensures carried { Carried (command_view command.now)
+        (moment (held state.old.journal) out.old.items reads.old probes.old)
+        (moment (held state.new.journal) out.new.items reads.new probes.new) result }
+    ensures room { IfOk result (λ next. HasRoomFor next out.new) }
 {
     let before = out.len();
-    let answered = carry_out(alloc, state, command, reads, probes, out);
-    if answered.is_err() {
-        out.truncate(before);
+    match perform(alloc, state, command, reads, probes, out) {
+        Ok(next) => Ok(next),
+        Err(CommandFault::Refused(refusal)) => {
+            out.truncate(before);
+            Ok(Next::Refused(refusal))
+        }
+        Err(CommandFault::NoMemory) => {
+            out.truncate(before);
+            Err(AllocError)
+        }
     }
-    answered
+}
+
+/// Ends the reply of a command that was carried out: with `ok`, where it was accepted and isn't blank.
+pub(crate) fn end(next: Next, out: &mut Vec<u8>)
+    requires { HasRoomFor next out.old }
+    ensures { out.new.items ≡ out.old.items ++ end_of next }
+{
+    match next {
+        Next::Accepted => end_reply(out),
+        Next::Quit => end_reply(out),
+        Next::Silent => {}
+        Next::Refused(_) => {}
+    }
 }

@@ -7,11 +7,14 @@ ghost use Rattle.command_text.specs.Text.{text_of};
 ghost use Rattle.command_text.specs.Tree.{command_view};
 ghost use Rattle.line_meaning.specs.Fault.{passes_limits};
 ghost use Rattle.line_meaning.specs.Reply.{ok_line};
+ghost use Rattle.session.specs.Carried.{HasRoom};
 ghost use Rattle.session.specs.Entering.{Admits};
 
 use command_text::{Command, CommandFault, Journal, MOST_BYTES, MOST_ENTRIES, Refusal, print_into};
-use reply_text::push_ok;
 use std::alloc::AllocError;
+
+// The bytes of the line `ok`.
+const OK_BYTES: usize = 3;
 
 /// Whether one more entry, whose canonical line has so many bytes, passes the limits of a journal.
 fn is_full(journal: &Journal, line: usize) -> bool
@@ -58,8 +61,8 @@ pub(crate) fn admit(
     Ok(())
 }
 
-/// Enters the command of a canonical line into the journal, accepted at tick `now`, and answers it with
-/// `ok`. Want of memory changes nothing.
+/// Enters the command of a canonical line into the journal, accepted at tick `now`, where `out` has or gets room
+/// for an `ok`. Want of memory changes nothing.
 #[inline(always)]
 pub(crate) fn enter(
     journal: &mut Journal,
@@ -71,14 +74,26 @@ pub(crate) fn enter(
     requires short { length line.now ≤ LEXER_LIMIT }
     requires room { passes_limits (length journal.old) (bytes_of journal.old) (length line.now) ≡ false }
     ensures entered { OnOk result (journal.new ≡ journal.old ++ (now, spelled line.now) ∷ []) }
-    ensures said { OnOk result (out.new.items ≡ out.old.items ++ ok_line) }
     ensures err { OnErr result (journal.new ≡ journal.old) }
-    ensures whole { OnErr result (out.new.items ≡ out.old.items) }
+    ensures room { OnOk result (HasRoom out.new) }
+    ensures same { out.new.items ≡ out.old.items }
 {
-    journal.push(now, line)?;
-    if push_ok(out).is_err() {
-        journal.pop();
-        return Err(AllocError);
-    }
-    Ok(())
+    make_room(out)?;
+    journal.push(now, line)
+}
+
+/// Makes room for an `ok` at the end.
+pub(crate) fn make_room(out: &mut Vec<u8>) -> Result<(), AllocError>
+    ensures room { OnOk result (HasRoom out.new) }
+    ensures same { out.new.items ≡ out.old.items }
+{
+    out.reserve(OK_BYTES)
+}
+
+/// Ends a reply with `ok`, for which there is room. It takes no memory.
+pub(crate) fn end_reply(out: &mut Vec<u8>)
+    requires { HasRoom out.old }
+    ensures { out.new.items ≡ out.old.items ++ ok_line }
+{
+    out.extend_from_slice(b"ok\n").unwrap();
 }

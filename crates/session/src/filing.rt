@@ -1,21 +1,18 @@
 //! The commands that ask the shelf for a text, or give it one.
-ghost use Rattle.std.specs.Prelude.{◌≡◌, ◌+◌, ◌≤◌, ◌++◌, true, false, None, Some, List, ℕ, length, IfOk, MatchOption, OnOk};
-ghost use Rattle.command_text.specs.Shape.{IsPrintable, IsShortName};
+ghost use Rattle.std.specs.Prelude.{◌≡◌, ◌+◌, ◌≤◌, ◌++◌, None, Some, List, ℕ, length, IfOk, MatchOption, OnOk};
+ghost use Rattle.command_text.specs.Shape.{IsShortName};
 ghost use Rattle.command_text.specs.Tree as Tree;
 ghost use Rattle.command_text.specs.Tree.{command_view};
-ghost use Rattle.outside.specs.Shelf.{Texts};
 ghost use Rattle.object_rows.specs.declared.rows.ObjectRow.{ObjectRow};
-ghost use Rattle.line_meaning.specs.Fault.{class_refusal};
 ghost use Rattle.line_meaning.specs.Import.{journal_after_text, rows_for};
-ghost use Rattle.line_meaning.specs.Journal.{world};
-ghost use Rattle.line_meaning.specs.Looks.{is_query, looks_of, looks_of_rows, most_looks};
+ghost use Rattle.line_meaning.specs.Looks.{looks_of_rows, most_looks};
 ghost use Rattle.line_meaning.specs.Reply.{ok_line};
-ghost use Rattle.line_meaning.specs.Role.{asks_shelf};
-ghost use Rattle.line_meaning.specs.Step.{base, held};
+ghost use Rattle.line_meaning.specs.Step.{held};
 ghost use Rattle.reply_text.specs.Begins.{Begins};
 ghost use Rattle.session.specs.Answers.{HasCause, IsUnread};
-ghost use Rattle.session.specs.Filed.{IsApplied, Puts, SufficesFor, said_after};
-ghost use Rattle.session.specs.Imported.{Imports};
+ghost use Rattle.session.specs.Carried.{moment};
+ghost use Rattle.session.specs.Filed.{IsAnswered, IsApplied, IsFiling, Puts, TakesSteps, said_after};
+ghost use Rattle.session.specs.Imported.{Imports, IsThere};
 ghost use Rattle.session.specs.State.{IsState};
 ghost use Rattle.session.specs.Trial.{AreImported};
 
@@ -112,8 +109,7 @@ fn commands_in(
     text: &[u8],
 ) -> Result<Option<Vec<Command>>, AllocError>
     requires state { IsState state.old.journal state.old }
-    requires known { class_refusal (world state.old.journal).history.catalog class.now ≡ None }
-    requires name { IsShortName class.now }
+    requires class { IsThere state.old.journal class.now }
     ensures state { IsState state.new.journal state.new }
     ensures same { state.new.journal ≡ state.old.journal }
     ensures found { IfOk result (λ found. MatchOption found (journal_after_text state.old.journal class.now text.now ≡ None)
@@ -144,17 +140,14 @@ fn import_text<L: Ledger, M: Ledger>(
     out: &mut Vec<u8>,
 ) -> Result<Next, ApplyFault>
     requires state { IsState state.old.journal state.old }
-    requires known { class_refusal (world state.old.journal).history.catalog class.now ≡ None }
-    requires name { IsShortName class.now }
+    requires class { IsThere state.old.journal class.now }
     ensures state { IsState state.new.journal state.new }
     ensures imports { Imports class.now text.now state.old.journal state.new.journal out.old.items out.new.items result }
     ensures begins { Begins out.old.items out.new.items }
-    ensures least { reads.old ≤ reads.new }
+    ensures steps { TakesSteps reads.old reads.new probes.old probes.new result }
     ensures most { (rows : List ObjectRow) → rows_for state.old.journal class.now text.now ≡ Some rows
         → reads.new ≤ reads.old + looks_of_rows class.now state.old.journal rows }
     ensures idle { rows_for state.old.journal class.now text.now ≡ None → reads.new ≡ reads.old }
-    ensures unread { IfOk result (λ next. IsUnread next reads.old reads.new) }
-    ensures unprobed { IfOk result (λ next. IsUnread next probes.old probes.new) }
 {
     match commands_in(alloc, state, class, text) {
         Ok(Some(commands)) => {
@@ -184,15 +177,11 @@ fn import<F: Shelf, L: Ledger, M: Ledger>(
     requires state { IsState state.old.journal state.old }
     requires name { IsShortName class.now }
     ensures state { IsState state.new.journal state.new }
-    ensures applied { IsApplied (F.texts shelf.old) (F.texts shelf.new) (Tree.Import class.now file.now) (held state.old.journal) (held state.new.journal)
-        out.old.items (said_after result out.old.items out.new.items) result }
+    ensures answered { IsAnswered (F.texts shelf.old) (F.texts shelf.new) (Tree.Import class.now file.now)
+        (moment (held state.old.journal) out.old.items reads.old probes.old)
+        (moment (held state.new.journal) (said_after result out.old.items out.new.items) reads.new probes.new) result }
     ensures cause { HasCause (F.faults shelf.old) (F.faults shelf.new) result }
     ensures begins { Begins out.old.items out.new.items }
-    ensures least { reads.old ≤ reads.new }
-    ensures most { (texts : Texts) → F.texts shelf.old ≡ Some texts
-        → reads.new ≤ reads.old + looks_of (base (held state.old.journal) texts) (Tree.Import class.now file.now) }
-    ensures unread { IfOk result (λ next. IsUnread next reads.old reads.new) }
-    ensures unprobed { IfOk result (λ next. IsUnread next probes.old probes.new) }
 {
     if let Some(refusal) = state.database.class_refusal(class) {
         return Ok(Next::Refused(refusal));
@@ -216,19 +205,13 @@ fn carry_out<F: Shelf, L: Ledger, M: Ledger>(
     out: &mut Vec<u8>,
 ) -> Result<Next, ApplyFault>
     requires state { IsState state.old.journal state.old }
-    requires printable { IsPrintable (command_view command.now) }
-    requires filing { asks_shelf (command_view command.now) ≡ true }
+    requires filing { IsFiling (command_view command.now) }
     ensures state { IsState state.new.journal state.new }
-    ensures applied { IsApplied (F.texts shelf.old) (F.texts shelf.new) (command_view command.now) (held state.old.journal) (held state.new.journal)
-        out.old.items (said_after result out.old.items out.new.items) result }
+    ensures answered { IsAnswered (F.texts shelf.old) (F.texts shelf.new) (command_view command.now)
+        (moment (held state.old.journal) out.old.items reads.old probes.old)
+        (moment (held state.new.journal) (said_after result out.old.items out.new.items) reads.new probes.new) result }
     ensures cause { HasCause (F.faults shelf.old) (F.faults shelf.new) result }
     ensures begins { Begins out.old.items out.new.items }
-    ensures least { reads.old ≤ reads.new }
-    ensures most { (texts : Texts) → SufficesFor (F.texts shelf.old) (command_view command.now) texts
-        → reads.new ≤ reads.old + looks_of (base (held state.old.journal) texts) (command_view command.now) }
-    ensures unread { IfOk result (λ next. IsUnread next reads.old reads.new) }
-    ensures unprobed { IfOk result (λ next. IsUnread next probes.old probes.new) }
-    ensures plain { is_query (command_view command.now) ≡ false → probes.new ≡ probes.old }
 {
     match command {
         Command::Save { file } => save(alloc, state, file, shelf, reads, out),
@@ -252,18 +235,12 @@ pub(crate) fn file<F: Shelf, L: Ledger, M: Ledger>(
     out: &mut Vec<u8>,
 ) -> Result<Next, ApplyFault>
     requires state { IsState state.old.journal state.old }
-    requires printable { IsPrintable (command_view command.now) }
-    requires filing { asks_shelf (command_view command.now) ≡ true }
+    requires filing { IsFiling (command_view command.now) }
     ensures state { IsState state.new.journal state.new }
-    ensures applied { IsApplied (F.texts shelf.old) (F.texts shelf.new) (command_view command.now) (held state.old.journal) (held state.new.journal)
-        out.old.items out.new.items result }
+    ensures answered { IsAnswered (F.texts shelf.old) (F.texts shelf.new) (command_view command.now)
+        (moment (held state.old.journal) out.old.items reads.old probes.old)
+        (moment (held state.new.journal) out.new.items reads.new probes.new) result }
     ensures cause { HasCause (F.faults shelf.old) (F.faults shelf.new) result }
-    ensures least { reads.old ≤ reads.new }
-    ensures most { (texts : Texts) → SufficesFor (F.texts shelf.old) (command_view command.now) texts
-        → reads.new ≤ reads.old + looks_of (base (held state.old.journal) texts) (command_view command.now) }
-    ensures unread { IfOk result (λ next. IsUnread next reads.old reads.new) }
-    ensures unprobed { IfOk result (λ next. IsUnread next probes.old probes.new) }
-    ensures plain { is_query (command_view command.now) ≡ false → probes.new ≡ probes.old }
 {
     let before = out.len();
     let filed = carry_out(alloc, state, command, shelf, reads, probes, out);

@@ -1,28 +1,24 @@
 //! The rows of an import, entered one after another.
-ghost use Rattle.std.specs.Prelude.{◌≡◌, ◌+◌, ◌≤◌, ◌++◌, true, length, map, is_some, Some, List, ℕ, OnOk, OnErr};
+ghost use Rattle.std.specs.Prelude.{◌≡◌, ◌+◌, ◌≤◌, ◌++◌, true, map, is_some, OnOk, OnErr};
 ghost use Rattle.std.specs.List.{AllByRecursion};
 ghost use Rattle.command_text.specs.Tree.{command_view};
 ghost use Rattle.line_meaning.specs.Import.{entry_lines, is_taken, with_entry};
-ghost use Rattle.line_meaning.specs.Looks.{most_looks};
-ghost use Rattle.line_meaning.specs.Reply.{ok_line};
 ghost use Rattle.line_meaning.specs.Step.{held};
 ghost use Rattle.reply_text.specs.Begins.{Begins};
-ghost use Rattle.session.specs.Rows.{IsRowCommand, LeavesSome, journal_after_commands, lines_of_commands, looks_of_commands};
+ghost use Rattle.session.specs.Carried.{HasRoom, Spends, moment};
+ghost use Rattle.session.specs.Rows.{EntersCommands, IsRowCommand, journal_after_commands, looks_of_commands};
 ghost use Rattle.session.specs.State.{IsState};
 
+use crate::entering::{end_reply, make_room};
 use crate::keeping::keep;
 use crate::state::State;
 use command_text::{Command, CommandFault, canonical_lines_are_read_back};
-use reply_text::push_ok;
 use std::alloc::{AllocError, Global};
 use std::sync::ledger::Ledger;
 use steps::Steps;
 
-// The bytes of the line `ok`.
-const OK_BYTES: usize = 3;
-
-/// Enters the command of a row that nothing refuses, and puts its lines before the `ok` at the end. Want of memory
-/// changes no more than the end of `out`.
+/// Enters the command of a row that nothing refuses, and writes its lines. Want of memory changes no more than the end of
+/// `out`.
 fn enter_row<L: Ledger, M: Ledger>(
     alloc: Global,
     state: &mut State,
@@ -34,18 +30,16 @@ fn enter_row<L: Ledger, M: Ledger>(
     requires state { IsState state.old.journal state.old }
     requires row { IsRowCommand (command_view command.now) }
     requires taken { is_taken state.old.journal (command_view command.now) ≡ true }
-    requires ok { OK_BYTES ≤ length out.old.items }
     ensures state { IsState state.new.journal state.new }
     ensures entered { OnOk result (state.new.journal ≡ with_entry state.old.journal (command_view command.now)) }
-    ensures told { (start : List ℕ) → out.old.items ≡ start ++ ok_line
-        → OnOk result (out.new.items ≡ start ++ (entry_lines state.old.journal (command_view command.now) ++ ok_line)) }
-    ensures begins { (start : List ℕ) → out.old.items ≡ start ++ ok_line → Begins start out.new.items }
+    ensures told { OnOk result (out.new.items ≡ out.old.items ++ entry_lines state.old.journal (command_view command.now)) }
     ensures err { OnErr result (state.new.journal ≡ state.old.journal) }
-    ensures least { reads.old ≤ reads.new }
-    ensures most { reads.new ≤ reads.old + most_looks (held state.old.journal) (command_view command.now) }
+    ensures spends { Spends (command_view command.now)
+        (moment (held state.old.journal) out.old.items reads.old probes.old)
+        (moment (held state.new.journal) out.new.items reads.new probes.new) }
+    ensures room { OnOk result (HasRoom out.new) }
 {
     canonical_lines_are_read_back();
-    out.truncate(out.len() - OK_BYTES);
     match keep(alloc, state, command, reads, probes, out) {
         Ok(()) => Ok(()),
         Err(CommandFault::NoMemory) => Err(AllocError),
@@ -67,18 +61,17 @@ pub(crate) fn enter_rows<L: Ledger, M: Ledger>(
     requires rows { AllByRecursion IsRowCommand (map command_view commands.now) }
     requires taken { is_some (journal_after_commands state.old.journal (map command_view commands.now)) ≡ true }
     ensures state { IsState state.new.journal state.new }
-    ensures entered { OnOk result (journal_after_commands state.old.journal (map command_view commands.now) ≡ Some state.new.journal) }
-    ensures told { OnOk result (out.new.items ≡ out.old.items ++ (lines_of_commands state.old.journal (map command_view commands.now) ++ ok_line)) }
+    ensures entered { EntersCommands (map command_view commands.now) state.old.journal state.new.journal out.old.items out.new.items result }
     ensures begins { Begins out.old.items out.new.items }
-    ensures err { OnErr result (LeavesSome state.old.journal (map command_view commands.now) state.new.journal) }
     ensures least { reads.old ≤ reads.new }
     ensures most { reads.new ≤ reads.old + looks_of_commands state.old.journal (map command_view commands.now) }
 {
-    push_ok(out)?;
+    make_room(out)?;
     let mut rest = commands;
     'rows: while let Some((command, later)) = rest.split_first() {
         enter_row(alloc, state, command, reads, probes, out)?;
         rest = later;
     }
+    end_reply(out);
     Ok(())
 }

@@ -1,30 +1,24 @@
 //! The commands that the journal keeps.
-ghost use Rattle.std.specs.Prelude.{◌≡◌, ◌+◌, ◌≤◌, ◌++◌, ◌∷◌, [], true, false, None, length, All, Err, IfErr, IfOk, IfSome, OnOk};
+ghost use Rattle.std.specs.Prelude.{◌≡◌, ◌++◌, ◌∷◌, [], true, false, IfErr, IfOk, IfSome, OnOk};
 ghost use Rattle.std.specs.List.{flat_map};
-ghost use Rattle.ftl_lexer.specs.declared.buffer.TheConstants.{LEXER_LIMIT};
-ghost use Rattle.command_text.specs.Journal.{is_kept, spelled};
-ghost use Rattle.command_text.specs.Shape.{IsPrintable};
-ghost use Rattle.command_text.specs.Text.{text_of};
+ghost use Rattle.command_text.specs.Journal.{is_kept};
 ghost use Rattle.command_text.specs.Tree;
 ghost use Rattle.command_text.specs.Tree.{command_view};
 ghost use Rattle.line_meaning.specs.Fault.{is_gap};
-ghost use Rattle.line_meaning.specs.Looks.{is_query, most_looks};
 ghost use Rattle.line_meaning.specs.Reached.{AreReached};
-ghost use Rattle.line_meaning.specs.Reply.{ok_line};
-ghost use Rattle.line_meaning.specs.Role.{is_on_queries};
-ghost use Rattle.line_meaning.specs.Step.{fault_of, held};
+ghost use Rattle.line_meaning.specs.Step.{held};
 ghost use Rattle.object_store.specs.Contents.{catalog_of};
-ghost use Rattle.live_queries.specs.Current.{AreCurrent};
 ghost use Rattle.live_queries.specs.Kept.{AreKept};
 ghost use Rattle.live_queries.specs.Prepared.{IsPrepared};
 ghost use Rattle.live_queries.specs.Told.{passings_of};
 ghost use Rattle.reply_text.specs.Begins.{Begins};
-ghost use Rattle.database.specs.Keeping.{clock_of, world_of_database};
-ghost use Rattle.database.specs.Telling.{IsRefused};
+ghost use Rattle.database.specs.Keeping.{clock_of};
+ghost use Rattle.database.specs.Telling.{RefusesFreely, tally};
 ghost use Rattle.registry.specs.Moves.{moves_text};
+ghost use Rattle.registry.specs.Standing.{StoodAt};
 ghost use Rattle.session.specs.Asked.{command_of};
-ghost use Rattle.session.specs.Carried.{IsDone};
-ghost use Rattle.session.specs.Followed.{IsChanged, Prepares, Settles, lines_told, writes_object};
+ghost use Rattle.session.specs.Carried.{Carries, HasRoom, IsAccepted, IsLegible, IsOnData, IsStopped, Spends, moment};
+ghost use Rattle.session.specs.Followed.{Follows, IsChanged, Prepares, Settles, lines_told, writes_object};
 ghost use Rattle.session.specs.State.{IsState};
 
 use crate::entering::{admit, enter};
@@ -43,9 +37,9 @@ use std::alloc::{AllocError, Global};
 use std::sync::ledger::Ledger;
 use steps::Steps;
 
-/// Carries out a command that the journal keeps, and writes its reply. It is judged before anything is evaluated,
-/// and what it did is taken back where it can't be entered. After an error nothing has changed but that `out` begins
-/// with its old contents.
+/// Carries out a command that the journal keeps, and writes the lines of its reply. It is judged before anything is
+/// evaluated, and what it did is taken back where it can't be entered. After an error nothing has changed but that `out`
+/// begins with its old contents.
 pub(crate) fn keep<L: Ledger, M: Ledger>(
     alloc: Global,
     state: &mut State,
@@ -55,19 +49,14 @@ pub(crate) fn keep<L: Ledger, M: Ledger>(
     out: &mut Vec<u8>,
 ) -> Result<(), CommandFault>
     requires state { IsState state.old.journal state.old }
-    requires printable { IsPrintable (command_view command.now) }
-    requires canonical { spelled (text_of (command_view command.now)) ≡ command_view command.now }
-    requires short { length (text_of (command_view command.now)) ≤ LEXER_LIMIT }
+    requires legible { IsLegible (command_view command.now) }
     requires kept { is_kept (command_view command.now) ≡ true }
     requires gap { is_gap (command_view command.now) ≡ false }
     ensures state { IsState state.new.journal state.new }
-    ensures done { IsDone (held state.old.journal) (command_view command.now) (held state.new.journal) out.old.items out.new.items result }
-    ensures begins { Begins out.old.items out.new.items }
-    ensures least { reads.old ≤ reads.new }
-    ensures most { reads.new ≤ reads.old + most_looks (held state.old.journal) (command_view command.now) }
-    ensures unread { IfErr result (λ fault. IsRefused fault → reads.new ≡ reads.old) }
-    ensures unprobed { IfErr result (λ fault. IsRefused fault → probes.new ≡ probes.old) }
-    ensures plain { is_query (command_view command.now) ≡ false → probes.new ≡ probes.old }
+    ensures carries { Carries (command_view command.now)
+        (moment (held state.old.journal) out.old.items reads.old probes.old)
+        (moment (held state.new.journal) out.new.items reads.new probes.new) result }
+    ensures room { OnOk result (HasRoom out.new) }
 {
     match command {
         Command::Watch { name, span, query } => {
@@ -104,17 +93,13 @@ fn add_query<L: Ledger, M: Ledger>(
     out: &mut Vec<u8>,
 ) -> Result<(), CommandFault>
     requires state { IsState state.old.journal state.old }
-    requires printable { IsPrintable (command_view command.now) }
-    requires canonical { spelled (text_of (command_view command.now)) ≡ command_view command.now }
-    requires short { length (text_of (command_view command.now)) ≤ LEXER_LIMIT }
+    requires legible { IsLegible (command_view command.now) }
     requires is { command_view command.now ≡ command_of request.now }
     ensures state { IsState state.new.journal state.new }
-    ensures done { IsDone (held state.old.journal) (command_view command.now) (held state.new.journal) out.old.items out.new.items result }
-    ensures begins { Begins out.old.items out.new.items }
-    ensures least { reads.old ≤ reads.new }
-    ensures most { reads.new ≤ reads.old + most_looks (held state.old.journal) (command_view command.now) }
-    ensures unread { IfErr result (λ fault. IsRefused fault → reads.new ≡ reads.old) }
-    ensures unprobed { IfErr result (λ fault. IsRefused fault → probes.new ≡ probes.old) }
+    ensures carries { Carries (command_view command.now)
+        (moment (held state.old.journal) out.old.items reads.old probes.old)
+        (moment (held state.new.journal) out.new.items reads.new probes.new) result }
+    ensures room { OnOk result (HasRoom out.new) }
 {
     let resolved = judge(alloc, &state.database, &state.live, request)?;
     admit(&state.journal, &mut state.line, command)?;
@@ -146,12 +131,12 @@ fn drop_query(
     out: &mut Vec<u8>,
 ) -> Result<(), CommandFault>
     requires state { IsState state.old.journal state.old }
-    requires printable { IsPrintable (command_view command.now) }
-    requires canonical { spelled (text_of (command_view command.now)) ≡ command_view command.now }
-    requires short { length (text_of (command_view command.now)) ≤ LEXER_LIMIT }
+    requires legible { IsLegible (command_view command.now) }
     requires is { command_view command.now ≡ Tree.Drop name.now }
     ensures state { IsState state.new.journal state.new }
-    ensures done { IsDone (held state.old.journal) (command_view command.now) (held state.new.journal) out.old.items out.new.items result }
+    ensures accepted { IfOk result (λ _. IsAccepted (command_view command.now) (held state.old.journal) (held state.new.journal) out.old.items out.new.items) }
+    ensures stopped { IfErr result (IsStopped (command_view command.now) (held state.old.journal) (held state.new.journal)) }
+    ensures room { OnOk result (HasRoom out.new) }
     ensures begins { Begins out.old.items out.new.items }
 {
     if !state.live.has(name) {
@@ -173,20 +158,13 @@ fn change<L: Ledger, M: Ledger>(
     out: &mut Vec<u8>,
 ) -> Result<(), CommandFault>
     requires state { IsState state.old.journal state.old }
-    requires printable { IsPrintable (command_view command.now) }
-    requires canonical { spelled (text_of (command_view command.now)) ≡ command_view command.now }
-    requires short { length (text_of (command_view command.now)) ≤ LEXER_LIMIT }
-    requires kept { is_kept (command_view command.now) ≡ true }
-    requires gap { is_gap (command_view command.now) ≡ false }
-    requires data { is_on_queries (command_view command.now) ≡ false }
+    requires legible { IsLegible (command_view command.now) }
+    requires data { IsOnData (command_view command.now) }
     ensures state { IsState state.new.journal state.new }
-    ensures done { IsDone (held state.old.journal) (command_view command.now) (held state.new.journal) out.old.items out.new.items result }
-    ensures begins { Begins out.old.items out.new.items }
-    ensures least { reads.old ≤ reads.new }
-    ensures most { reads.new ≤ reads.old + most_looks (held state.old.journal) (command_view command.now) }
-    ensures unread { IfErr result (λ fault. IsRefused fault → reads.new ≡ reads.old) }
-    ensures unprobed { IfErr result (λ fault. IsRefused fault → probes.new ≡ probes.old) }
-    ensures plain { is_query (command_view command.now) ≡ false → probes.new ≡ probes.old }
+    ensures carries { Carries (command_view command.now)
+        (moment (held state.old.journal) out.old.items reads.old probes.old)
+        (moment (held state.new.journal) out.new.items reads.new probes.new) result }
+    ensures room { OnOk result (HasRoom out.new) }
 {
     let before = state.database.clock();
     let change = state.database.attempt(alloc, command)?;
@@ -238,26 +216,14 @@ fn follow<L: Ledger, M: Ledger>(
     out: &mut Vec<u8>,
 ) -> Result<Option<Fresh>, CommandFault>
     requires changed { IsChanged (command_view command.now) before change.now state.old }
-    requires printable { IsPrintable (command_view command.now) }
-    requires canonical { spelled (text_of (command_view command.now)) ≡ command_view command.now }
-    requires short { length (text_of (command_view command.now)) ≤ LEXER_LIMIT }
-    requires kept { is_kept (command_view command.now) ≡ true }
-    requires gap { is_gap (command_view command.now) ≡ false }
-    requires data { is_on_queries (command_view command.now) ≡ false }
-    ensures entered { IfOk result (λ _. state.new.journal ≡ state.old.journal ++ (before, command_view command.now) ∷ []) }
-    ensures accepted { IfOk result (λ _. fault_of (held state.old.journal) (command_view command.now) ≡ None) }
-    ensures prepared { IfOk result (Prepares (command_view command.now) change.now state.old.database state.old.live) }
-    ensures told { IfOk result (λ f. out.new.items
-        ≡ out.old.items ++ lines_told (command_view command.now) before state.old.database state.old.live f ++ ok_line) }
-    ensures stops { IfErr result (λ fault. IsDone (held state.old.journal) (command_view command.now) (held state.new.journal) out.old.items out.new.items (Err fault)) }
-    ensures database { state.new.database ≡ state.old.database }
-    ensures live { state.new.live ≡ state.old.live }
-    ensures begins { Begins out.old.items out.new.items }
-    ensures least { reads.old ≤ reads.new }
-    ensures most { reads.new ≤ reads.old + most_looks (held state.old.journal) (command_view command.now) }
-    ensures unread { IfErr result (λ fault. IsRefused fault → reads.new ≡ reads.old) }
-    ensures unprobed { IfErr result (λ fault. IsRefused fault → probes.new ≡ probes.old) }
-    ensures plain { is_query (command_view command.now) ≡ false → probes.new ≡ probes.old }
+    requires legible { IsLegible (command_view command.now) }
+    requires data { IsOnData (command_view command.now) }
+    ensures follows { Follows (command_view command.now) before change.now state.old state.new out.old.items out.new.items result }
+    ensures spends { Spends (command_view command.now)
+        (moment (held state.old.journal) out.old.items reads.old probes.old)
+        (moment (held state.new.journal) out.new.items reads.new probes.new) }
+    ensures free { RefusesFreely (tally out.old.items reads.old probes.old) (tally out.new.items reads.new probes.new) result }
+    ensures room { OnOk result (HasRoom out.new) }
 {
     admit(&state.journal, &mut state.line, command)?;
     let fresh = tell_change(alloc, state, command, change, before, reads, probes, out)?;
@@ -275,9 +241,7 @@ fn pass(
     before: u32,
     out: &mut Vec<u8>,
 ) -> Result<(), AllocError>
-    requires upto { before ≤ clock_of database.now }
-    requires current { AreCurrent (world_of_database database.now) before live.now }
-    requires entered { All (λ k. k.entry ≤ before) live.now }
+    requires stood { StoodAt database.now before live.now }
     ensures ok { OnOk result (out.new.items ≡ out.old.items
         ++ moves_text (catalog_of database.now.store) (flat_map (passings_of before (clock_of database.now)) live.now)) }
     ensures begins { Begins out.old.items out.new.items }
@@ -304,10 +268,9 @@ fn tell_change<L: Ledger, M: Ledger>(
     ensures prepared { IfOk result (Prepares (command_view command.now) change.now state.now.database state.now.live) }
     ensures told { IfOk result (λ f. out.new.items
         ≡ out.old.items ++ lines_told (command_view command.now) before state.now.database state.now.live f) }
-    ensures begins { Begins out.old.items out.new.items }
-    ensures least { reads.old ≤ reads.new }
-    ensures most { reads.new ≤ reads.old + most_looks (held state.now.journal) (command_view command.now) }
-    ensures plain { is_query (command_view command.now) ≡ false → probes.new ≡ probes.old }
+    ensures spends { Spends (command_view command.now)
+        (moment (held state.now.journal) out.old.items reads.old probes.old)
+        (moment (held state.now.journal) out.new.items reads.new probes.new) }
 {
     match command {
         Command::Tick { .. } => {
@@ -338,9 +301,9 @@ fn tell_write<L: Ledger, M: Ledger>(
     ensures prepared { IfOk result (Prepares (command_view command.now) change.now state.now.database state.now.live) }
     ensures told { IfOk result (λ f. out.new.items
         ≡ out.old.items ++ lines_told (command_view command.now) before state.now.database state.now.live f) }
-    ensures begins { Begins out.old.items out.new.items }
-    ensures least { reads.old ≤ reads.new }
-    ensures most { reads.new ≤ reads.old + most_looks (held state.now.journal) (command_view command.now) }
+    ensures spends { Spends (command_view command.now)
+        (moment (held state.now.journal) out.old.items reads.old probes.old)
+        (moment (held state.now.journal) out.new.items reads.new probes.new) }
 {
     queries_go_on_fitting_worlds();
     let (database, live) = (&state.database, &state.live);

@@ -9,12 +9,14 @@ mod entering;
 mod filing;
 mod importing;
 mod keeping;
+mod laws;
 mod loading;
 mod next;
 mod session;
 mod state;
 mod trying;
 
+pub use laws::read_commands_are_legible;
 pub use loading::{LoadFault, load};
 pub use next::{ApplyFault, Next};
 pub use session::Session;

@@ -1,29 +1,24 @@
 //! The state of the database, one line at a time.
-ghost use Rattle.std.specs.Prelude.{◌≡◌, ◌+◌, ◌≤◌, true, false, [], length, IfOk, Ok, Err, OnErr};
-ghost use Rattle.ftl_lexer.specs.declared.buffer.TheConstants.{LEXER_LIMIT};
+ghost use Rattle.std.specs.Prelude.{◌≡◌, ◌+◌, ◌≤◌, true, false, [], IfOk};
 ghost use Rattle.command_text.specs.Journal.{clock, is_kept, spelled};
-ghost use Rattle.command_text.specs.Shape.{IsPrintable};
-ghost use Rattle.command_text.specs.Text.{text_of};
 ghost use Rattle.command_text.specs.Tree.{command_view};
 ghost use Rattle.line_meaning.specs.Journal.{world};
 ghost use Rattle.line_meaning.specs.Looks.{is_query, looks_of, most_looks};
 ghost use Rattle.line_meaning.specs.Role.{asks_shelf};
 ghost use Rattle.line_meaning.specs.Step.{base, held};
 ghost use Rattle.outside.specs.Shelf.{Texts};
-ghost use Rattle.session.specs.Filed.{IsApplied, SufficesFor};
+ghost use Rattle.session.specs.Carried.{Carried, HasRoomFor, IsLegible, moment};
+ghost use Rattle.session.specs.Filed.{IsAnswered};
 ghost use Rattle.session.specs.Replayed.{Replays};
 ghost use Rattle.session.specs.State.{IsState};
-ghost use Rattle.session.specs.declared.next.ApplyFault.TheVariants as faults;
-ghost use Rattle.session.specs.Answers.{Applies, HasCause, IsUnread, Suffices, next_or_fault};
+ghost use Rattle.session.specs.Answers.{Applies, HasCause, IsUnread, Suffices};
 
-use crate::answer::answer;
+use crate::answer::{carry_out, end};
 use crate::filing::file;
+use crate::laws::read_commands_are_legible;
 use crate::next::{ApplyFault, Next};
 use crate::state::State;
-use command_text::{
-    Command, CommandFault, Journal, LINE_LIMIT, LineReader, canonical_lines_are_read_back,
-    canonical_lines_are_short, read_commands_are_printable,
-};
+use command_text::{Command, CommandFault, Journal, LINE_LIMIT, LineReader};
 use line_meaning::{Role, role_of, steps_write_what_is_accepted};
 use outside::Shelf;
 use std::alloc::{AllocError, Global};
@@ -116,17 +111,33 @@ impl Session {
             Err(CommandFault::Refused(refusal)) => return Ok(Next::Refused(refusal)),
             Err(CommandFault::NoMemory) => return Err(ApplyFault::NoMemory),
         };
-        // Calls without a body, whose contracts say what `answer` requires: that the command which was read is
-        // printable, that its canonical line is short enough for the reader, that this line is read back as it, and
-        // that the journal's writes are accepted ones.
-        read_commands_are_printable();
-        canonical_lines_are_short();
-        canonical_lines_are_read_back();
+        // Calls that do nothing, whose contracts say what carrying out requires: that the command which was read is
+        // legible, and that the journal's writes are accepted ones.
+        read_commands_are_legible();
         steps_write_what_is_accepted();
         let (alloc, state) = (self.alloc, &mut self.state);
         let applied = apply_command(alloc, state, &command, shelf, reads, probes, out);
         drop(command);
         applied
+    }
+
+    /// Carries out a command that was read and asks nothing of the shelf, and appends the lines of its reply to `out`
+    /// without the `ok` that ends them, for which there is room in `out` then: who answers the line appends it. `Refused`
+    /// carries the first refusal that holds; it and want of memory change nothing.
+    pub fn carry_out<L: Ledger, M: Ledger>(
+        &mut self,
+        command: &Command,
+        reads: &mut Steps<L>,
+        probes: &mut Steps<M>,
+        out: &mut Vec<u8>,
+    ) -> Result<Next, AllocError>
+        requires legible { IsLegible (command_view command.now) }
+        requires plain { asks_shelf (command_view command.now) ≡ false }
+        ensures carried { Carried (command_view command.now)
+            (moment self.old out.old.items reads.old probes.old) (moment self.new out.new.items reads.new probes.new) result }
+        ensures room { IfOk result (λ next. HasRoomFor next out.new) }
+    {
+        carry_out(self.alloc, &mut self.state, command, reads, probes, out)
     }
 
     /// Carries out a command that a journal keeps, as `apply` does with its line, but without a reply: it is
@@ -138,27 +149,18 @@ impl Session {
         probes: &mut Steps<M>,
     ) -> Result<Next, AllocError>
         requires kept { is_kept (command_view command) ≡ true }
-        requires printable { IsPrintable (command_view command) }
-        requires canonical { spelled (text_of (command_view command)) ≡ command_view command }
-        requires short { length (text_of (command_view command)) ≤ LEXER_LIMIT }
+        requires legible { IsLegible (command_view command) }
         ensures replayed { Replays self.old (command_view command) self.new result }
         ensures least { reads.old ≤ reads.new }
         ensures most { reads.new ≤ reads.old + most_looks self.old (command_view command) }
         ensures unread { IfOk result (λ next. IsUnread next reads.old reads.new) }
         ensures unprobed { IfOk result (λ next. IsUnread next probes.old probes.new) }
     {
-        let mut out = Vec::new(self.alloc);
-        let answered = answer(
-            self.alloc,
-            &mut self.state,
-            &command,
-            reads,
-            probes,
-            &mut out,
-        );
+        let mut lines = Vec::new(self.alloc);
+        let carried = self.carry_out(&command, reads, probes, &mut lines);
         drop(command);
-        drop(out);
-        next_or_lack(answered)
+        drop(lines);
+        carried
     }
 }
 
@@ -173,46 +175,22 @@ fn apply_command<F: Shelf, L: Ledger, M: Ledger>(
     out: &mut Vec<u8>,
 ) -> Result<Next, ApplyFault>
     requires state { IsState state.old.journal state.old }
-    requires printable { IsPrintable (command_view command.now) }
-    requires canonical { spelled (text_of (command_view command.now)) ≡ command_view command.now }
-    requires short { length (text_of (command_view command.now)) ≤ LEXER_LIMIT }
+    requires legible { IsLegible (command_view command.now) }
     ensures state { IsState state.new.journal state.new }
-    ensures applied { IsApplied (F.texts shelf.old) (F.texts shelf.new) (command_view command.now)
-        (held state.old.journal) (held state.new.journal) out.old.items out.new.items result }
+    ensures answered { IsAnswered (F.texts shelf.old) (F.texts shelf.new) (command_view command.now)
+        (moment (held state.old.journal) out.old.items reads.old probes.old)
+        (moment (held state.new.journal) out.new.items reads.new probes.new) result }
     ensures cause { HasCause (F.faults shelf.old) (F.faults shelf.new) result }
     ensures untouched { asks_shelf (command_view command.now) ≡ false → shelf.new ≡ shelf.old }
-    ensures least { reads.old ≤ reads.new }
-    ensures most { (texts : Texts) → SufficesFor (F.texts shelf.old) (command_view command.now) texts
-        → reads.new ≤ reads.old + looks_of (base (held state.old.journal) texts) (command_view command.now) }
-    ensures unread { IfOk result (λ next. IsUnread next reads.old reads.new) }
-    ensures unprobed { IfOk result (λ next. IsUnread next probes.old probes.new) }
-    ensures plain { is_query (command_view command.now) ≡ false → probes.new ≡ probes.old }
 {
     match role_of(command) {
         Role::Filing => file(alloc, state, command, shelf, reads, probes, out),
-        _ => next_or_fault(answer(alloc, state, command, reads, probes, out)),
-    }
-}
-
-/// Maps the internal result to the public one.
-fn next_or_fault(answered: Result<Next, CommandFault>) -> Result<Next, ApplyFault>
-    ensures { result ≡ next_or_fault answered }
-{
-    match answered {
-        Ok(next) => Ok(next),
-        Err(CommandFault::Refused(refusal)) => Ok(Next::Refused(refusal)),
-        Err(CommandFault::NoMemory) => Err(ApplyFault::NoMemory),
-    }
-}
-
-/// The same without a shelf, where the only fault is want of memory.
-fn next_or_lack(answered: Result<Next, CommandFault>) -> Result<Next, AllocError>
-    ensures ok { IfOk result (λ next. next_or_fault answered ≡ Ok next) }
-    ensures err { OnErr result (next_or_fault answered ≡ Err faults.NoMemory) }
-{
-    match answered {
-        Ok(next) => Ok(next),
-        Err(CommandFault::Refused(refusal)) => Ok(Next::Refused(refusal)),
-        Err(CommandFault::NoMemory) => Err(AllocError),
+        _ => match carry_out(alloc, state, command, reads, probes, out) {
+            Ok(next) => {
+                end(next, out);
+                Ok(next)
+            }
+            Err(AllocError) => Err(ApplyFault::NoMemory),
+        },
     }
 }

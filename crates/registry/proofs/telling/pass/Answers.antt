@@ -12,4 +12,4 @@ push_moves-requires c =
     let d = c.args.database.now in
     let told = c.deref.ensures.value ∙ c.in_ok-moves.ensures ∙ ap (λ now. flat_map (passings_of c.args.before now) c.args.live.now) c.clock.ensures in
     (λ i. list_all (names_objects (length (map object_info (c.store.ensures i).objects))) (told i))
-    ∙ passings_below (world_of_database d) c.args.before d.clock c.requires.upto c.args.live.now c.are_kept.ensures.each c.requires.current c.requires.entered
+    ∙ passings_below (world_of_database d) c.args.before d.clock c.requires.stood.upto c.args.live.now c.are_kept.ensures.each c.requires.stood.current c.requires.stood.entered

@@ -1,28 +1,42 @@
-use Rattle.std.proofs.Common.{◌+◌, ◌≤◌, arith}
+use Rattle.std.proofs.Common.{◌≡◌, sym, subst}
+use Rattle.std.proofs.lemmas.Result.{err_from_is_err_and}
+use Rattle.command_text.specs.declared.fault.CommandFault.TheVariants as stops
 use Rattle.command_text.specs.Tree.{command_view}
-use Rattle.database.proofs.ReadyLemmas.{is_ready}
-use Rattle.session.proofs.KnownLemmas.{accepted_told, asked_looks, shown}
+use Rattle.reply_text.specs.Begins.{Begins}
+use Rattle.session.proofs.CarriedLemmas.{told_ends, told_lacks}
 use Rattle.session.proofs.answer.tell.Goals as goal
-use Rattle.session.proofs.answer.tell.Goals.{in-Show+in_ok-show-in-Show, in-List+in_ok-tell-in-List+in_ok-push_queries-in-List, in_default+in_ok-tell-in_default}
 
-pub tell-requires-clause-accepted : goal.tell-requires-clause-accepted
-tell-requires-clause-accepted g c = accepted_told c.args.state.now.journal c.args.state.now.database c.requires.state.keeps c.requires.state.reached
-
-pub tell-requires-in_default : goal.tell-requires-in_default
-tell-requires-in_default g c = record {
-  telling = c.requires.telling;
-  gap = c.requires.gap;
-  «data» = shown c.args.command.now c.requires.telling c.in_default.not-Show;
-  ready = is_ready (command_view c.args.command.now) c.requires.printable;
-  timely = c.requires.state.keeps.timely;
-  accepted = accepted_told c.args.state.now.journal c.args.state.now.database c.requires.state.keeps c.requires.state.reached;
+pub returns-clause-carries : goal.returns-clause-carries
+returns-clause-carries g c = record {
+  accepted = told_ends c.args.state.now.journal (command_view c.args.command.now) c.requires.telling.built c.requires.telling.telling
+      _ _ c.in_ok-tell_lines.ensures.told _ c.make_room.ensures.same;
+  stopped = tt;
+  spends = record {
+    within = record {
+      begins = subst (Begins c.args.out.now.items) (sym c.make_room.ensures.same) c.in_ok-tell_lines.ensures.spends.within.begins;
+      least = c.in_ok-tell_lines.ensures.spends.within.least;
+      most = c.in_ok-tell_lines.ensures.spends.within.most;
+    };
+    plain = c.in_ok-tell_lines.ensures.spends.plain;
+  };
+  free = record { unread = tt; unprobed = tt };
 }
 
-pub returns-in_err-push_ok-clause-most : goal.returns-in_err-push_ok-clause-most
-returns-in_err-push_ok-clause-most g c =
-    let looks = asked_looks c.args.state.now.journal c.args.state.now.database (command_view c.args.command.now) c.requires.state.keeps in
-    elim c.match-command.branch [
-      | in-Show+in_ok-show-in-Show w ↦ omega (arith, w.reads-is)
-      | in-List+in_ok-tell-in-List+in_ok-push_queries-in-List w ↦ omega (arith, w.reads-is, w.tell.ensures.most, looks)
-      | in_default+in_ok-tell-in_default w ↦ omega (arith, w.reads-is, w.tell-in_default.ensures.most, looks)
-    ]
+pub returns-in_err-make_room-clause-carries : goal.returns-in_err-make_room-clause-carries
+returns-in_err-make_room-clause-carries g c =
+    let p = err_from_is_err_and c.from_residual-in_err-make_room.result c.from_residual-in_err-make_room.ensures.1 in
+    let none : p.0 ≡ stops.NoMemory = p.2 in
+    rw (p.1, none) (record {
+      accepted = tt;
+      stopped = told_lacks c.args.state.now.journal (command_view c.args.command.now) c.requires.telling.built c.requires.telling.telling
+          _ _ c.in_ok-tell_lines.ensures.told;
+      spends = record {
+        within = record {
+          begins = subst (Begins c.args.out.now.items) (sym c.make_room.ensures.same) c.in_ok-tell_lines.ensures.spends.within.begins;
+          least = c.in_ok-tell_lines.ensures.spends.within.least;
+          most = c.in_ok-tell_lines.ensures.spends.within.most;
+        };
+        plain = c.in_ok-tell_lines.ensures.spends.plain;
+      };
+      free = record { unread = λ no. absurd no; unprobed = λ no. absurd no };
+    })

@@ -7,13 +7,13 @@ use Rattle.session.proofs.filing.commands_in.Goals as goal
 
 pub rows_of-requires : goal.rows_of-requires
 rows_of-requires c = record {
-  known = class_known c.args.state.now.journal c.args.state.now.database c.requires.state.keeps c.args.class.now None c.requires.known;
+  known = class_known c.args.state.now.journal c.args.state.now.database c.requires.state.keeps c.args.class.now None c.requires.class.known;
 }
 
 pub commands_of-requires-clause-rows : goal.commands_of-requires-clause-rows
 commands_of-requires-clause-rows c =
     named_rows_are_printable c.commands_are_printable.ensures c.args.state.now.journal c.args.class.now c.args.text.now c.in-Some.rows.items
-    c.requires.state.reached c.requires.name
+    c.requires.state.reached c.requires.class.name
     (rows_found c.args.state.now.journal c.args.state.now.database c.requires.state.keeps c.args.class.now c.args.text.now
     (λ (v : Vec ObjectRow Global). v.items) c.in_ok-rows.field-0 c.in-Some.rows c.in-Some.is c.in_ok-rows.ensures)
 
@@ -23,5 +23,5 @@ returns-clause-found c =
     (λ (v : Vec ObjectRow Global). v.items) c.in_ok-rows.field-0 c.in-Some.rows c.in-Some.is c.in_ok-rows.ensures in
     imported_commands c.args.state.now.journal c.args.class.now c.args.text.now c.in-Some.rows.items are
     (named_rows_are_printable c.commands_are_printable.ensures c.args.state.now.journal c.args.class.now c.args.text.now c.in-Some.rows.items
-    c.requires.state.reached c.requires.name are)
+    c.requires.state.reached c.requires.class.name are)
     (λ (v : Vec Command Global). v.items) c.commands_of.result c.commands_of.ensures.commands

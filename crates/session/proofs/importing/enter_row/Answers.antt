@@ -6,17 +6,15 @@ use Rattle.command_text.specs.Tree.{command_view}
 use Rattle.session.proofs.RowLemmas.{taken_short, write_built, write_kept}
 use Rattle.session.proofs.importing.enter_row.Goals as goal
 
-pub keep-requires-clause-printable : goal.keep-requires-clause-printable
-keep-requires-clause-printable g c = c.requires.row.0
-
-pub keep-requires-clause-canonical : goal.keep-requires-clause-canonical
-keep-requires-clause-canonical g c =
-    ap (λ o. unwrap_or o Tree.Nothing)
-    (c.canonical_lines_are_read_back.ensures.printed LEXER_LIMIT (command_view c.args.command.now) c.requires.row.0
-    (taken_short c.args.state.now.journal (command_view c.args.command.now) c.requires.taken)).command
-
-pub keep-requires-clause-short : goal.keep-requires-clause-short
-keep-requires-clause-short g c = taken_short c.args.state.now.journal (command_view c.args.command.now) c.requires.taken
+pub keep-requires-clause-legible : goal.keep-requires-clause-legible
+keep-requires-clause-legible g c =
+    let short = taken_short c.args.state.now.journal (command_view c.args.command.now) c.requires.taken in
+    record {
+      printable = c.requires.row.0;
+      canonical = ap (λ o. unwrap_or o Tree.Nothing)
+          (c.canonical_lines_are_read_back.ensures.printed LEXER_LIMIT (command_view c.args.command.now) c.requires.row.0 short).command;
+      short = short;
+    }
 
 pub keep-requires-clause-kept : goal.keep-requires-clause-kept
 keep-requires-clause-kept g c = write_kept (command_view c.args.command.now) c.requires.row.1

@@ -5,6 +5,7 @@ use Rattle.command_text.specs.declared.command.Command.{Command}
 use Rattle.command_text.specs.Journal.{Accepted}
 use Rattle.command_text.specs.Tree.{command_view}
 use Rattle.line_meaning.specs.Import.{with_entry}
+use Rattle.reply_text.specs.Begins.{Begins}
 use Rattle.reply_text.proofs.BeginLemmas.{begins_more, begins_through}
 use Rattle.session.specs.Rows.{AreEntered, AreWritten, IsRowCommand, journal_after_commands, looks_of_commands}
 use Rattle.session.proofs.EnterLemmas.{one_more_entered, one_more_written}
@@ -15,7 +16,8 @@ pub returns-in_err-enter_row-clause-begins : goal.returns-in_err-enter_row-claus
 returns-in_err-enter_row-clause-begins g c =
     let before = c.args.out.now.items in
     let w = c.rows.invariant.written in
-    begins_through before (before ++ w.said) c.enter_row.new.out.items (begins_more before w.said) (c.enter_row.ensures.begins (before ++ w.said) w.out)
+    begins_through before c.rows.out.items c.enter_row.new.out.items (subst (Begins before) (sym w.out) (begins_more before w.said))
+    c.enter_row.ensures.spends.within.begins
 
 pub rows-preserved : goal.rows-preserved
 rows-preserved g c =
@@ -34,8 +36,8 @@ rows-preserved g c =
     let most : c.rows.reads + looks_of_commands j (map command_view c.rows.rest.now) ≤ c.args.reads.now + looks_of_commands start cs = c.rows.invariant.most in
     let looks = ap (λ (xs : List Command). looks_of_commands j (map command_view xs)) left in
     let next = ap (λ (k : List Accepted). looks_of_commands k later) is in
-    let row = c.enter_row.ensures.most in
-    let least = c.enter_row.ensures.least in
+    let row = c.enter_row.ensures.spends.within.most in
+    let least = c.enter_row.ensures.spends.within.least in
     let was = c.rows.invariant.least in
     record {
       state = c.enter_row.ensures.state;
@@ -44,9 +46,10 @@ rows-preserved g c =
       entered = subst (λ (k : List Accepted). AreEntered start cs k later) (sym is)
           (one_more_entered start cs j one later taken.0
           (subst (λ (xs : List Command). AreEntered start cs j (map command_view xs)) left c.rows.invariant.entered));
+      room = c.in_ok-enter_row.ensures.room;
       written = subst (λ (k : List Accepted). AreWritten start cs k later before c.enter_row.new.out.items) (sym is)
           (one_more_written start cs j one later before c.rows.out.items c.enter_row.new.out.items written
-          (c.in_ok-enter_row.ensures.told (before ++ written.said) written.out));
+          c.in_ok-enter_row.ensures.told);
       least = omega (arith, least, was);
       most = omega (arith, most, looks, next, row);
     }

@@ -2,6 +2,7 @@ use Rattle.std.proofs.Common.{◌≡◌, ◌≤◌, ◌+◌, true, length, map}
 use Rattle.std.specs.Prelude.{is_some}
 use Rattle.std.specs.List.{AllByRecursion}
 use Rattle.command_text.specs.Tree.{command_view}
+use Rattle.session.specs.Carried.{HasRoom}
 use Rattle.session.specs.Rows.{AreEntered, AreWritten, IsRowCommand, journal_after_commands, looks_of_commands}
 use Rattle.session.specs.State.{IsState}
 use Rattle.session.proofs.importing.enter_rows.Given as goal
@@ -13,6 +14,7 @@ invariant-rows g l = record {
   rows : AllByRecursion IsRowCommand (map command_view l.rest);
   taken : is_some (journal_after_commands l.state.journal (map command_view l.rest)) ≡ true;
   entered : AreEntered l.fn.state.journal (map command_view l.commands) l.state.journal (map command_view l.rest);
+  room : HasRoom l.out;
   written : AreWritten l.fn.state.journal (map command_view l.commands) l.state.journal (map command_view l.rest) l.fn.out.items l.out.items;
   least : l.fn.reads ≤ l.reads;
   most : l.reads + looks_of_commands l.state.journal (map command_view l.rest)

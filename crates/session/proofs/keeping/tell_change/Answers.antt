@@ -7,8 +7,10 @@ use Rattle.session.proofs.keeping.tell_change.Goals as goal
 pub pass-requires : goal.pass-requires
 pass-requires g c =
     record {
-      upto = still_before c.args.state.now (command_view c.args.command.now) c.args.before c.args.change.now c.requires.changed;
-      entered = still_entered c.args.state.now (command_view c.args.command.now) c.args.before c.args.change.now c.requires.changed;
-      current = still_current c.args.state.now (command_view c.args.command.now) c.args.before c.args.change.now c.requires.changed
-          (ap (λ x. writes_of c.args.before (command_view x)) c.in-Tick.is) (ap (λ x. regions_of (command_view x)) c.in-Tick.is);
+      stood = record {
+        upto = still_before c.args.state.now (command_view c.args.command.now) c.args.before c.args.change.now c.requires.changed;
+        entered = still_entered c.args.state.now (command_view c.args.command.now) c.args.before c.args.change.now c.requires.changed;
+        current = still_current c.args.state.now (command_view c.args.command.now) c.args.before c.args.change.now c.requires.changed
+            (ap (λ x. writes_of c.args.before (command_view x)) c.in-Tick.is) (ap (λ x. regions_of (command_view x)) c.in-Tick.is);
+      };
     }

@@ -6,14 +6,6 @@ pub replay-requires-clause-kept : goal.replay-requires-clause-kept
 replay-requires-clause-kept g c =
     (is_loadable c.read_commands_are_printable.ensures c.canonical_lines_are_read_back.ensures.printed (command_view c.args.command) c.requires).0
 
-pub replay-requires-clause-printable : goal.replay-requires-clause-printable
-replay-requires-clause-printable g c =
+pub replay-requires-clause-legible : goal.replay-requires-clause-legible
+replay-requires-clause-legible g c =
     (is_loadable c.read_commands_are_printable.ensures c.canonical_lines_are_read_back.ensures.printed (command_view c.args.command) c.requires).1
-
-pub replay-requires-clause-canonical : goal.replay-requires-clause-canonical
-replay-requires-clause-canonical g c =
-    (is_loadable c.read_commands_are_printable.ensures c.canonical_lines_are_read_back.ensures.printed (command_view c.args.command) c.requires).2
-
-pub replay-requires-clause-short : goal.replay-requires-clause-short
-replay-requires-clause-short g c =
-    (is_loadable c.read_commands_are_printable.ensures c.canonical_lines_are_read_back.ensures.printed (command_view c.args.command) c.requires).3

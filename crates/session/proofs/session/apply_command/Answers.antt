@@ -4,7 +4,13 @@ use Rattle.session.proofs.AnswerLemmas.{not_filing}
 use Rattle.session.proofs.session.apply_command.Goals as goal
 
 pub file-requires-clause-filing : goal.file-requires-clause-filing
-file-requires-clause-filing g c = ap is_filing (sym c.role_of.ensures ∙ c.in-Filing.is)
+file-requires-clause-filing g c = record {
+  printable = c.requires.legible.printable;
+  asks = ap is_filing (sym c.role_of.ensures ∙ c.in-Filing.is);
+}
 
-pub answer-requires-clause-plain : goal.answer-requires-clause-plain
-answer-requires-clause-plain g c = ap is_filing (sym c.role_of.ensures) ∙ not_filing c.role_of.result c.in_default.not-Filing
+pub carry_out-requires-clause-command : goal.carry_out-requires-clause-command
+carry_out-requires-clause-command g c = record {
+  legible = c.requires.legible;
+  plain = ap is_filing (sym c.role_of.ensures) ∙ not_filing c.role_of.result c.in_default.not-Filing;
+}

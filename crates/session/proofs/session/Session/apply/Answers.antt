@@ -1,10 +1,9 @@
-use Rattle.std.proofs.Common.{◌≤◌, ◌+◌, ap, sym, subst}
-use Rattle.std.specs.Prelude.{unwrap_or, Result, Ok, Err, IfErr}
+use Rattle.std.proofs.Common.{◌≤◌, ◌+◌, sym, subst}
+use Rattle.std.specs.Prelude.{Result, Ok, Err, IfErr}
 use Rattle.command_text.specs.declared.reading.TheConstants.{LINE_LIMIT}
 use Rattle.command_text.specs.declared.command.Command.{Command}
 use Rattle.command_text.specs.declared.fault.CommandFault.{CommandFault}
 use Rattle.command_text.specs.Line.{Explains}
-use Rattle.command_text.specs.Tree
 use Rattle.command_text.specs.Tree.{command_view}
 use Rattle.line_meaning.specs.Looks.{looks_of}
 use Rattle.line_meaning.specs.Step.{Held, base, held}
@@ -43,10 +42,9 @@ returns-in-Err-NoMemory-clause-applies g c =
 pub returns-in-Err-NoMemory-clause-most : goal.returns-in-Err-NoMemory-clause-most
 returns-in-Err-NoMemory-clause-most g c = λ texts suffices. no_looks _ _
 
-pub apply_command-applied-requires-clause-canonical : goal.apply_command-applied-requires-clause-canonical
-apply_command-applied-requires-clause-canonical g c =
-    ap (λ o. unwrap_or o Tree.Nothing)
-    (c.canonical_lines_are_read_back.ensures.lines_read c.args.line.now (command_view c.in-Ok.command) c.in-Ok.ensures.ok).command
+pub apply_command-applied-requires-clause-legible : goal.apply_command-applied-requires-clause-legible
+apply_command-applied-requires-clause-legible g c =
+    c.read_commands_are_legible.ensures c.args.line.now (command_view c.in-Ok.command) c.in-Ok.ensures.ok
 
 pub returns-clause-applies : goal.returns-clause-applies
 returns-clause-applies g c =
@@ -57,11 +55,11 @@ returns-clause-applies g c =
     let before = c.args.out.now.items in
     let after = c.apply_command-applied.new.out.items in
     applied_line c.args.line.now command c.in-Ok.ensures.ok told left c.args.self.now new before after c.apply_command-applied.result
-    (subst (λ (old : Held). IsApplied told left command old new before after c.apply_command-applied.result) c.self.view_is c.apply_command-applied.ensures.applied)
+    (subst (λ (old : Held). IsApplied told left command old new before after c.apply_command-applied.result) c.self.view_is c.apply_command-applied.ensures.answered.applied)
 
 pub returns-clause-most : goal.returns-clause-most
 returns-clause-most g c =
     looks_line c.args.line.now (command_view c.in-Ok.command) c.in-Ok.ensures.ok (g.F.Shelf.texts c.args.shelf.now) (g.F.Shelf.texts c.apply_command-applied.new.shelf)
     c.args.self.now (held c.apply_command-applied.new.state.journal) c.args.out.now.items c.apply_command-applied.new.out.items _ _
     (subst (λ (old : Held). (texts : Texts) → SufficesFor (g.F.Shelf.texts c.args.shelf.now) (command_view c.in-Ok.command) texts →
-    c.apply_command-applied.new.reads ≤ c.args.reads.now + looks_of (base old texts) (command_view c.in-Ok.command)) c.self.view_is c.apply_command-applied.ensures.most)
+    c.apply_command-applied.new.reads ≤ c.args.reads.now + looks_of (base old texts) (command_view c.in-Ok.command)) c.self.view_is c.apply_command-applied.ensures.answered.most)
