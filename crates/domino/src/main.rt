@@ -2,22 +2,15 @@
 //! standard output. Texts are saved to the files of the current folder, and read from them.
 #![tactic(auto)]
 
-ghost use Rattle.std.specs.Prelude.{◌≡◌, ◌<◌, map, string_bytes};
-ghost use Rattle.domino.specs.Words.{words_of};
-ghost use Rattle.domino.specs.Theorem.{RunsAs};
-ghost use Rattle.domino.specs.declared.run.TheConstants.{INPUT_LIMIT};
+ghost use Rattle.std.specs.Prelude.{◌≡◌, ◌<◌, ℕ, map, string_bytes};
+ghost use Rattle.run_ends.specs.Ends.{seen};
+ghost use Rattle.domino_run.specs.Words.{words_of};
+ghost use Rattle.domino_run.specs.Theorem.{RunsAs};
+ghost use Rattle.domino_run.specs.declared.running.TheConstants.{INPUT_LIMIT};
 
-mod machine;
-mod opening;
-mod run;
-mod status;
-mod summary;
-mod tally;
-mod words;
-
+use domino_run::{Counters, run};
 use outside::{DirShelf, Shelf, Sink, Source, StdSink, StdSource};
-use run::run;
-use status::Status;
+use run_ends::Status;
 use std::marker::Brand;
 use std::process::ExitCode;
 use std::sync::ledger::{Blank, Ledger};
@@ -54,20 +47,12 @@ fn run_program<S: Source, K: Sink, F: Shelf>(
     sink: &mut K,
     shelf: &mut F,
 ) -> Status
-    ensures { RunsAs INPUT_LIMIT (words_of (map string_bytes words.now))
-        (record {
-          faults = record { source = S.faults source.old; sink = K.faults sink.old; context = F.faults shelf.old };
-          left = S.left source.old;
-          written = K.written sink.old;
-          texts = F.texts shelf.old;
-        })
-        (record {
-          faults = record { source = S.faults source.new; sink = K.faults sink.new; context = F.faults shelf.new };
-          left = S.left source.new;
-          written = K.written sink.new;
-          texts = F.texts shelf.new;
-        })
-        result }
+    ensures { (looks : ℕ) × RunsAs INPUT_LIMIT (words_of (map string_bytes words.now))
+        (seen (S.faults source.old) (K.faults sink.old) (F.faults shelf.old)
+        (S.left source.old) (K.written sink.old) (F.texts shelf.old))
+        (seen (S.faults source.new) (K.faults sink.new) (F.faults shelf.new)
+        (S.left source.new) (K.written sink.new) (F.texts shelf.new))
+        0 looks result }
 {
     count_reads::<_, _, _, Brand>(rt, words, source, sink, shelf, Blank::new(1), Blank::new(1))
 }
@@ -86,23 +71,15 @@ fn count_reads<S: Source, K: Sink, F: Shelf, L: Ledger>(
     requires parts { reads.parts ≡ L.parts }
     requires some { 0 < reads.parts }
     requires one { 0 < probes.parts }
-    ensures { RunsAs INPUT_LIMIT (words_of (map string_bytes words.now))
-        (record {
-          faults = record { source = S.faults source.old; sink = K.faults sink.old; context = F.faults shelf.old };
-          left = S.left source.old;
-          written = K.written sink.old;
-          texts = F.texts shelf.old;
-        })
-        (record {
-          faults = record { source = S.faults source.new; sink = K.faults sink.new; context = F.faults shelf.new };
-          left = S.left source.new;
-          written = K.written sink.new;
-          texts = F.texts shelf.new;
-        })
-        result }
+    ensures { (looks : ℕ) × RunsAs INPUT_LIMIT (words_of (map string_bytes words.now))
+        (seen (S.faults source.old) (K.faults sink.old) (F.faults shelf.old)
+        (S.left source.old) (K.written sink.old) (F.texts shelf.old))
+        (seen (S.faults source.new) (K.faults sink.new) (F.faults shelf.new)
+        (S.left source.new) (K.written sink.new) (F.texts shelf.new))
+        0 looks result }
 {
-    let mut reads: Steps<L> = Steps::new(rt, reads);
-    count_probes::<_, _, _, _, Brand>(rt, words, source, sink, shelf, &mut reads, probes)
+    let reads: Steps<L> = Steps::new(rt, reads);
+    count_probes::<_, _, _, _, Brand>(rt, words, source, sink, shelf, reads, probes)
 }
 
 /// Runs the program with a counter of probes too.
@@ -112,36 +89,20 @@ fn count_probes<S: Source, K: Sink, F: Shelf, L: Ledger, M: Ledger>(
     source: &mut S,
     sink: &mut K,
     shelf: &mut F,
-    reads: &mut Steps<L>,
+    reads: Steps<L>,
     probes: Blank,
 ) -> Status
     requires name { probes.name ≡ M.name }
     requires parts { probes.parts ≡ M.parts }
     requires some { 0 < probes.parts }
-    ensures { RunsAs INPUT_LIMIT (words_of (map string_bytes words.now))
-        (record {
-          faults = record { source = S.faults source.old; sink = K.faults sink.old; context = F.faults shelf.old };
-          left = S.left source.old;
-          written = K.written sink.old;
-          texts = F.texts shelf.old;
-        })
-        (record {
-          faults = record { source = S.faults source.new; sink = K.faults sink.new; context = F.faults shelf.new };
-          left = S.left source.new;
-          written = K.written sink.new;
-          texts = F.texts shelf.new;
-        })
-        result }
+    ensures { (looks : ℕ) × RunsAs INPUT_LIMIT (words_of (map string_bytes words.now))
+        (seen (S.faults source.old) (K.faults sink.old) (F.faults shelf.old)
+        (S.left source.old) (K.written sink.old) (F.texts shelf.old))
+        (seen (S.faults source.new) (K.faults sink.new) (F.faults shelf.new)
+        (S.left source.new) (K.written sink.new) (F.texts shelf.new))
+        reads looks result }
 {
-    let mut probes: Steps<M> = Steps::new(rt, probes);
-    run(rt.alloc(), words, source, sink, shelf, reads, &mut probes)
+    let probes: Steps<M> = Steps::new(rt, probes);
+    let counters = Counters { reads, probes };
+    run(rt.alloc(), words, source, sink, shelf, counters).status
 }
-
-#[cfg(test)]
-mod failing_tests;
-#[cfg(test)]
-mod large_tests;
-#[cfg(test)]
-mod limit_tests;
-#[cfg(test)]
-mod tests;

@@ -5,4 +5,5 @@ pub mod StopLemmas
 pub mod GatherLemmas
 pub mod PieceLemmas
 pub mod RunLemmas
+pub mod SpendingLemmas
 pub mod TextLemmas

@@ -43,7 +43,7 @@ module _ {T : Type 0} (m : Machine T) (leaves : Failures T) (limit : ℕ) (start
   heard-whole e = rw e
 
   -- the lines of the bytes taken come first among those that are answered
-  heard-front : (n : ℕ) → n ≤ limit → (more : List (List ℕ)) × (heard m limit start.state bytes ≡ ended_lines (take n bytes) ++ more)
+  pub heard-front : (n : ℕ) → n ≤ limit → (more : List (List ℕ)) × (heard m limit start.state bytes ≡ ended_lines (take n bytes) ++ more)
   heard-front n le = elim (is_cut m limit start.state bytes) as (λ b. is_cut m limit start.state bytes ≡ b → (more : List (List ℕ)) × (heard m limit start.state bytes ≡ ended_lines (take n bytes) ++ more)) [
     | true ↦ λ e. (ended_from (open_line (take n bytes)) (drop n (take limit bytes)), heard-cut e ∙ ended_lines-within bytes n limit le)
     | false ↦ λ e. (
@@ -88,6 +88,9 @@ module _ {T : Type 0} (m : Machine T) (leaves : Failures T) (limit : ℕ) (start
         let short : ltb limit (length bytes) ≡ false = grind (arith, ap length none, length-drop n bytes) in
         rw short
 
+    pub heard_at_end : heard m limit start.state bytes ≡ ended_lines (take n bytes) ++ last_line (open_line (take n bytes))
+    heard_at_end = heard-whole fits ∙ ap (λ b. ended_lines b ++ last_line (open_line b)) (sym all)
+
     -- the input has ended: the last line was answered too
     pub done_at_end : (state : Option T) (written left : Option (List ℕ)) → left ≡ Some (drop n bytes) →
         IsAt (reach m (reach m start (ended_lines (take n bytes))) (last_line (open_line (take n bytes)))) state written →
@@ -105,8 +108,7 @@ module _ {T : Type 0} (m : Machine T) (leaves : Failures T) (limit : ℕ) (start
         Stops m leaves (reach m start (ended_lines (take n bytes))) (last_line (open_line (take n bytes))) stop state written →
         Stops m leaves start (heard m limit start.state bytes) stop state written
     stops_at_end stop state written h =
-        subst (λ ls. Stops m leaves start ls stop state written)
-        (ap (λ b. ended_lines b ++ last_line (open_line b)) all ∙ sym (heard-whole fits))
+        subst (λ ls. Stops m leaves start ls stop state written) (sym heard_at_end)
         (Stops-after m leaves start (ended_lines (take n bytes)) (last_line (open_line (take n bytes))) stop state written h)
 
   -- the limit is taken, and there is another byte

@@ -1,9 +1,10 @@
 // The code of a line machine.
-ghost use Rattle.std.specs.Prelude.{◌≡◌, ℕ, List, Option, Some, false, OnErr};
+ghost use Rattle.std.specs.Prelude.{◌≡◌, ◌≤◌, ◌+◌, ℕ, List, Option, Some, false, OnErr};
 ghost use Rattle.outside.specs.Faults.{HasCauseOrNoMemory};
 ghost use Rattle.outside.specs.declared.fault.OutFail.TheVariants.{Failed};
 ghost use Rattle.line_loop.specs.Kept.{IsLonger};
 ghost use Rattle.line_loop.specs.Machine.{Machine, Failures, StepsAlike, Answers};
+ghost use Rattle.line_loop.specs.Spending.{Costs};
 
 use outside::OutFail;
 
@@ -23,6 +24,12 @@ pub trait Handler<C> {
 
     /// What a failure on a line may leave of the state before it.
     ghost leaves: { Failures State };
+
+    /// What the handler has spent so far, by a count that it keeps.
+    ghost spent: { Self → ℕ };
+
+    /// The most that a line may cost.
+    ghost cost: { Costs State };
 
     ghost LONGEST: { Option ℕ };
 
@@ -45,9 +52,12 @@ pub trait Handler<C> {
     fn answer(&mut self, line: &[u8], context: &mut C, out: &mut Vec<u8>) -> Result<(), OutFail>
         ensures cause { HasCauseOrNoMemory (faults context.old) (faults context.new) result }
         ensures step { (before : State) → state self.old context.old ≡ Some before →
-            Answers machine leaves before line.now result out.old.items out.new.items (state self.new context.new) };
+            Answers machine leaves before line.now result out.old.items out.new.items (state self.new context.new) }
+        ensures spends { (before : State) → state self.old context.old ≡ Some before →
+            spent self.new ≤ spent self.old + cost before line.now };
 
-    /// Lines longer than `LONGEST` step alike: this is what the contract says, and the call does nothing.
+    /// Lines longer than `LONGEST` step alike and cost alike: this is what the contract says, and the call does nothing.
     fn long_lines_step_alike()
-        ensures { (a b : List ℕ) → IsLonger LONGEST a → IsLonger LONGEST b → StepsAlike machine leaves a b };
+        ensures steps { (a b : List ℕ) → IsLonger LONGEST a → IsLonger LONGEST b → StepsAlike machine leaves a b }
+        ensures costs { (a b : List ℕ) → IsLonger LONGEST a → IsLonger LONGEST b → (state : State) → cost state a ≡ cost state b };
 }

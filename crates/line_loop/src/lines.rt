@@ -1,9 +1,10 @@
 // Lines are answered as they end.
-ghost use Rattle.std.specs.Prelude.{◌≡◌, ◌≤◌, ◌++◌, ◌∷◌, ◌+◌, ◌-◌, [], ℕ, List, length, OnOk, position, ◌==◌};
+ghost use Rattle.std.specs.Prelude.{◌≡◌, ◌≤◌, ◌++◌, ◌∷◌, ◌+◌, ◌-◌, [], ℕ, List, Some, length, OnOk, position, ◌==◌};
 ghost use Rattle.std.specs.List.{list_any, position_or_len};
 ghost use Rattle.std.specs.Str.Lines.{strip_carriage_return};
 ghost use Rattle.line_loop.specs.Lines.{ended_from, open_from, line_feed};
 ghost use Rattle.line_loop.specs.Kept.{IsKept, kept_part};
+ghost use Rattle.line_loop.specs.Spending.{total_cost};
 ghost use Rattle.line_loop.specs.Stop.{Point, IsAt, Takes, StopHasCause};
 ghost use Rattle.line_loop.specs.Gathered.{Gathers, Collects};
 
@@ -77,6 +78,8 @@ pub fn answer_line<C, H: Handler<C>, K: Sink>(
         IsKept H.LONGEST kept.now line →
         Collects H.machine H.leaves start (before ++ line ∷ []) result
         (H.state handler.new context.new) (K.written sink.new) replies.new.items }
+    ensures spends { (now : H.State) (line : List ℕ) → H.state handler.old context.old ≡ Some now → IsKept H.LONGEST kept.now line →
+        H.spent handler.new ≤ H.spent handler.old + total_cost H.machine H.cost now (line ∷ []) }
 {
     if handler.is_done() {
         return Ok(());
@@ -110,6 +113,9 @@ fn answer_ended<C, H: Handler<C>, K: Sink>(
         line.old.kept ≡ kept_part H.LONGEST begun →
         Collects H.machine H.leaves start (before ++ strip_carriage_return (begun ++ end.now) ∷ []) result
         (H.state handler.new context.new) (K.written sink.new) replies.new.items }
+    ensures spends { (now : H.State) (begun : List ℕ) → H.state handler.old context.old ≡ Some now →
+        line.old.kept ≡ kept_part H.LONGEST begun →
+        H.spent handler.new ≤ H.spent handler.old + total_cost H.machine H.cost now (strip_carriage_return (begun ++ end.now) ∷ []) }
 {
     if line.unended().is_empty() {
         return answer_line(
@@ -150,6 +156,9 @@ pub fn take_piece<C, H: Handler<C>, K: Sink>(
         Takes H.machine H.leaves start (ended_from begun piece.now) result (H.state handler.new context.new) (K.written sink.new) }
     ensures begins { (begun : List ℕ) → line.old.kept ≡ kept_part H.LONGEST begun →
         OnOk result (line.new.kept ≡ kept_part H.LONGEST (open_from begun piece.now)) }
+    ensures spends { (start : Point H.State) (begun : List ℕ) →
+        IsAt start (H.state handler.old context.old) (K.written sink.old) → line.old.kept ≡ kept_part H.LONGEST begun →
+        H.spent handler.new ≤ H.spent handler.old + total_cost H.machine H.cost start.state (ended_from begun piece.now) }
 {
     let mut taken = 0;
     'lines: while let Some(len) = line_end(&piece[taken..]) {

@@ -1,8 +1,10 @@
 // The read loop.
-ghost use Rattle.std.specs.Prelude.{◌≡◌, ◌≤◌, ◌-◌, [], ℕ, List, Some, min, max};
+ghost use Rattle.std.specs.Prelude.{◌≡◌, ◌≤◌, ◌+◌, ◌-◌, [], ℕ, List, Some, min, max};
 ghost use Rattle.line_loop.specs.Ending.{EndsWithCause, KeepsLimit, EndsAs};
 ghost use Rattle.line_loop.specs.Kept.{kept_part};
 ghost use Rattle.line_loop.specs.Lines.{last_line};
+ghost use Rattle.line_loop.specs.Run.{heard};
+ghost use Rattle.line_loop.specs.Spending.{total_cost};
 ghost use Rattle.line_loop.specs.Stop.{Point, IsAt, Takes, StopHasCause};
 
 use crate::buffer::LineBuffer;
@@ -43,6 +45,9 @@ pub fn run_lines<C, H: Handler<C>, S: Source, K: Sink>(
         IsAt start (H.state handler.old context.old) (K.written sink.old) → S.left source.old ≡ Some bytes →
         EndsAs H.machine H.leaves limit start bytes result
         (H.state handler.new context.new) (K.written sink.new) (S.left source.new) }
+    ensures spends { (start : Point H.State) (bytes : List ℕ) →
+        IsAt start (H.state handler.old context.old) (K.written sink.old) → S.left source.old ≡ Some bytes →
+        H.spent handler.new ≤ H.spent handler.old + total_cost H.machine H.cost start.state (heard H.machine limit start.state bytes) }
 {
     let Ok(mut line) = LineBuffer::new(alloc, H::LONGEST) else {
         return Ending::NoMemory;
@@ -104,6 +109,9 @@ fn finish<C, H: Handler<C>, K: Sink>(
     ensures takes { (start : Point H.State) (begun : List ℕ) →
         IsAt start (H.state handler.old context.old) (K.written sink.old) → line.now.kept ≡ kept_part H.LONGEST begun →
         Takes H.machine H.leaves start (last_line begun) result (H.state handler.new context.new) (K.written sink.new) }
+    ensures spends { (now : H.State) (begun : List ℕ) → H.state handler.old context.old ≡ Some now →
+        line.now.kept ≡ kept_part H.LONGEST begun →
+        H.spent handler.new ≤ H.spent handler.old + total_cost H.machine H.cost now (last_line begun) }
 {
     let last = line.unended();
     if last.is_empty() {

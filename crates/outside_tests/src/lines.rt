@@ -30,6 +30,10 @@ impl Handler<MemShelf> for Echo {
 
     ghost leaves = { λ fail before line told. (fail ≡ Failed → bytes_eq line (codes "ask") ≡ true) × (told ≡ Some before) };
 
+    ghost spent = { λ echo. 0 };
+
+    ghost cost = { λ done line. 0 };
+
     ghost LONGEST = { Some 8 };
 
     const LONGEST: Option<u32> = Some(8);
@@ -314,6 +318,10 @@ impl Handler<MemShelf> for Mirror {
     ghost faults = { λ shelf. shelf.plan.faults };
 
     ghost leaves = { λ fail before line told. fail ≡ NoMemory };
+
+    ghost spent = { λ mirror. 0 };
+
+    ghost cost = { λ now line. 0 };
 
     ghost LONGEST = { None };
 

@@ -1,15 +1,18 @@
-use Rattle.std.proofs.Common.{◌≡◌, ◌∙◌, ◌++◌, ◌∷◌, [], ◌+◌, ◌-◌, ◌==◌, Some, None, ap, sym, subst, refl, take, drop, length, arith}
+use Rattle.std.proofs.Common.{◌≡◌, ◌≤◌, ◌∙◌, ◌++◌, ◌∷◌, [], ◌+◌, ◌-◌, ◌==◌, Some, None, ap, sym, subst, refl, take, drop, length, arith}
 use Rattle.std.proofs.lemmas.List.{take_rest}
 use Rattle.std.specs.List.{position}
 use Rattle.std.specs.Str.Lines.{strip_carriage_return}
 use Rattle.line_loop.specs.Kept.{kept_part}
 use Rattle.line_loop.specs.Lines.{ended_from, open_from, line_feed}
+use Rattle.line_loop.specs.Machine.{after}
+use Rattle.line_loop.specs.Spending.{total_cost}
 use Rattle.line_loop.specs.Stop.{Stops, StopsForMemory}
 use Rattle.line_loop.specs.Gathered.{Gathers}
 use Rattle.line_loop.proofs.LinesLemmas.{kept_more, kept_nil, ok_is, ok_anyway}
 use Rattle.line_loop.proofs.StopLemmas.{Stops-more}
 use Rattle.line_loop.proofs.GatherLemmas.{gathers_nothing, memory_here, sends_all}
 use Rattle.line_loop.proofs.PieceLemmas.{next-within, next-ended, next-open, lines-split, last-ended, last-open}
+use Rattle.line_loop.proofs.SpendingLemmas.{front_spent, more_spent}
 use Rattle.line_loop.proofs.lines.take_piece.Goals as goal
 
 pub lines-init : goal.lines-init
@@ -21,6 +24,7 @@ lines-init g c = record {
   gathers = λ start begun at begins. gathers_nothing g.H.Handler.machine g.H.Handler.leaves start
       (g.H.Handler.state c.args.handler.now c.args.context.now) (g.K.Sink.written c.args.sink.now) c.args.replies.now.items c.requires.none at;
   kept = λ begun begins. begins;
+  spent = λ start begun at begins. omega arith;
 }
 
 pub returns-in-Err-clause-takes : goal.returns-in-Err-clause-takes
@@ -75,6 +79,19 @@ lines-preserved g c =
           (sym (next-ended begun piece rest taken c.lines.invariant.within refl len found)) more;
       kept = λ begun begins. ap (λ b. b.kept) cleared ∙ sym (kept_nil r.LONGEST)
           ∙ ap (kept_part r.LONGEST) (sym (next-open begun piece rest taken c.lines.invariant.within refl len found));
+      spent = λ start begun at begins.
+          let answered = ended_from begun (take taken piece) in
+          let open_before = open_from begun (take taken piece) in
+          let old = r.spent c.args.handler.now in
+          let new = r.spent c.answer_ended.new.handler in
+          subst (λ ls. new ≤ old + total_cost r.machine r.cost start.state ls)
+          (sym (next-ended begun piece rest taken c.lines.invariant.within refl len found))
+          (more_spent r.machine r.cost start.state (after r.machine start.state answered) answered (strip_carriage_return (open_before ++ take len rest) ∷ [])
+          old (r.spent c.lines.handler) new refl (c.lines.invariant.spent start begun at begins)
+          (subst (λ end. new ≤ r.spent c.lines.handler + total_cost r.machine r.cost (after r.machine start.state answered) (strip_carriage_return (open_before ++ end) ∷ []))
+          (ap (λ n. take n rest) same)
+          (c.in_default-answer_ended.ensures.spends (after r.machine start.state answered) open_before
+          (c.lines.invariant.gathers start begun at begins).in_state (c.lines.invariant.kept begun begins))));
     }
 
 pub returns-then-is_err-clause-takes : goal.returns-then-is_err-clause-takes
@@ -122,3 +139,47 @@ returns-clause-begins g c = λ begun begins.
     ∙ kept_more r.LONGEST whole rest
     ∙ ap (λ l. kept_part r.LONGEST (whole ++ l)) (take_rest piece taken)
     ∙ ap (kept_part r.LONGEST) (sym (last-open begun piece (drop taken piece) taken c.lines.invariant.within refl none)))
+
+pub returns-in-Err-clause-spends : goal.returns-in-Err-clause-spends
+returns-in-Err-clause-spends g c = λ start begun at begins.
+    let r = g.H.Handler in
+    let piece = c.args.piece.now in
+    let taken = c.lines.taken in
+    let len = c.in-Some.len in
+    let rest = drop taken piece in
+    let answered = ended_from begun (take taken piece) in
+    let open_before = open_from begun (take taken piece) in
+    let old = r.spent c.args.handler.now in
+    let new = r.spent c.answer_ended.new.handler in
+    let found : position (λ b. b == line_feed) rest ≡ Some len =
+    ap (position (λ b. b == line_feed)) (sym (take_rest piece taken)) ∙ sym c.line_end.ensures ∙ c.in-Some.is in
+    let same : taken + len - taken ≡ len = omega arith in
+    front_spent r.machine r.cost start.state (ended_from begun piece) (answered ++ strip_carriage_return (open_before ++ take len rest) ∷ [])
+    (ended_from (open_from begun (take (taken + (len + 1)) piece)) (drop (taken + (len + 1)) piece)) old new
+    (lines-split begun piece rest taken c.lines.invariant.within refl len found)
+    (more_spent r.machine r.cost start.state (after r.machine start.state answered) answered (strip_carriage_return (open_before ++ take len rest) ∷ [])
+    old (r.spent c.lines.handler) new refl (c.lines.invariant.spent start begun at begins)
+    (subst (λ end. new ≤ r.spent c.lines.handler + total_cost r.machine r.cost (after r.machine start.state answered) (strip_carriage_return (open_before ++ end) ∷ []))
+    (ap (λ n. take n rest) same)
+    (c.in-Err.ensures.spends (after r.machine start.state answered) open_before
+    (c.lines.invariant.gathers start begun at begins).in_state (c.lines.invariant.kept begun begins))))
+
+pub returns-then-is_err-clause-spends : goal.returns-then-is_err-clause-spends
+returns-then-is_err-clause-spends g c = λ start begun at begins.
+    let r = g.H.Handler in
+    let piece = c.args.piece.now in
+    let taken = c.lines.taken in
+    let none : position (λ b. b == line_feed) (drop taken piece) ≡ None =
+    ap (position (λ b. b == line_feed)) (sym (take_rest piece taken)) ∙ sym c.line_end.ensures ∙ c.in_default.is in
+    subst (λ ls. r.spent c.lines.handler ≤ r.spent c.args.handler.now + total_cost r.machine r.cost start.state ls)
+    (sym (last-ended begun piece (drop taken piece) taken c.lines.invariant.within refl none)) (c.lines.invariant.spent start begun at begins)
+
+pub returns-clause-spends : goal.returns-clause-spends
+returns-clause-spends g c = λ start begun at begins.
+    let r = g.H.Handler in
+    let piece = c.args.piece.now in
+    let taken = c.lines.taken in
+    let none : position (λ b. b == line_feed) (drop taken piece) ≡ None =
+    ap (position (λ b. b == line_feed)) (sym (take_rest piece taken)) ∙ sym c.line_end.ensures ∙ c.in_default.is in
+    subst (λ ls. r.spent c.lines.handler ≤ r.spent c.args.handler.now + total_cost r.machine r.cost start.state ls)
+    (sym (last-ended begun piece (drop taken piece) taken c.lines.invariant.within refl none)) (c.lines.invariant.spent start begun at begins)

@@ -1,6 +1,7 @@
-use Rattle.std.proofs.Common.{◌≡◌, ℕ, ◌-◌, ◌≤◌, List, length, take}
+use Rattle.std.proofs.Common.{◌≡◌, ℕ, ◌+◌, ◌-◌, ◌≤◌, List, length, take}
 use Rattle.line_loop.specs.Kept.{kept_part}
 use Rattle.line_loop.specs.Lines.{ended_from, open_from}
+use Rattle.line_loop.specs.Spending.{total_cost}
 use Rattle.line_loop.specs.Stop.{Point, IsAt}
 use Rattle.line_loop.specs.Gathered.{Gathers}
 use Rattle.line_loop.proofs.lines.take_piece.Given as goal
@@ -18,6 +19,11 @@ invariant-lines g l = record {
       Gathers g.H.Handler.machine start (ended_from begun (take l.taken l.piece)) (g.H.Handler.state l.handler l.context) (g.K.Sink.written l.sink) l.replies.items;
   kept : (begun : List ℕ) → l.initial.line.kept ≡ kept_part g.H.Handler.LONGEST begun →
       l.line.kept ≡ kept_part g.H.Handler.LONGEST (open_from begun (take l.taken l.piece));
+  spent : (start : Point g.H.Handler.State) (begun : List ℕ) →
+      IsAt start (g.H.Handler.state l.initial.handler l.initial.context) (g.K.Sink.written l.initial.sink) →
+      l.initial.line.kept ≡ kept_part g.H.Handler.LONGEST begun →
+      g.H.Handler.spent l.handler ≤ g.H.Handler.spent l.initial.handler
+      + total_cost g.H.Handler.machine g.H.Handler.cost start.state (ended_from begun (take l.taken l.piece));
 }
 
 abbrev pub decreases-lines : goal.decreases-lines

@@ -1,6 +1,7 @@
-use Rattle.std.proofs.Common.{◌≡◌, ℕ, ◌-◌, ◌≤◌, List, [], take, Some}
+use Rattle.std.proofs.Common.{◌≡◌, ℕ, ◌+◌, ◌-◌, ◌≤◌, List, [], take, Some}
 use Rattle.line_loop.specs.Kept.{kept_part}
 use Rattle.line_loop.specs.Lines.{ended_lines, open_line}
+use Rattle.line_loop.specs.Spending.{total_cost}
 use Rattle.line_loop.specs.Stop.{Point, IsAt, reach}
 use Rattle.line_loop.specs.Ending.{HasTaken}
 use Rattle.line_loop.proofs.run.run_lines.Given as goal
@@ -21,6 +22,11 @@ invariant-reading g l = record {
       IsAt (reach g.H.Handler.machine start (ended_lines (take l.taken bytes))) (g.H.Handler.state l.handler l.context) (g.K.Sink.written l.sink);
   kept : (bytes : List ℕ) → g.S.Source.left l.initial.source ≡ Some bytes →
       l.line.kept ≡ kept_part g.H.Handler.LONGEST (open_line (take l.taken bytes));
+  spent : (start : Point g.H.Handler.State) (bytes : List ℕ) →
+      IsAt start (g.H.Handler.state l.initial.handler l.initial.context) (g.K.Sink.written l.initial.sink) →
+      g.S.Source.left l.initial.source ≡ Some bytes →
+      g.H.Handler.spent l.handler ≤ g.H.Handler.spent l.initial.handler
+      + total_cost g.H.Handler.machine g.H.Handler.cost start.state (ended_lines (take l.taken bytes));
 }
 
 abbrev pub decreases-reading : goal.decreases-reading

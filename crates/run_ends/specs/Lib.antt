@@ -1,0 +1,4 @@
+pub mod Status
+pub mod Whole
+pub mod Saying
+pub mod Ends
