@@ -139,6 +139,18 @@ def test_rows_move_with_the_clock(browser: Browser, program: Path, tmp_path: Pat
     assert browser.text("holding") == "town: v2; soon: v1; silent: none"
 
 
+def test_a_timeline_goes_on_as_one_that_is_drawn_anew(browser: Browser, program: Path, tmp_path: Path) -> None:
+    browser.open(page_of(made_session(program, tmp_path, 6, 160)).as_uri())
+    last = browser.run("return look.recording.to")
+    for tick in (0, 1, 2, last // 9, last // 9 + 1, last, last // 2, 0):
+        browser.run("look.go(arguments[0])", tick)
+        gone_on = browser.run("return document.getElementById('timeline').innerHTML")
+        # an element of which the page doesn't know what it shows
+        browser.run("const old = document.getElementById('timeline'); old.replaceWith(old.cloneNode(false))")
+        browser.run("look.go(look.tick)")
+        assert browser.run("return document.getElementById('timeline').innerHTML") == gone_on, tick
+
+
 def test_an_answer_that_is_asked_for_is_shown(browser: Browser, program: Path, tmp_path: Path) -> None:
     session = example_session(program, tmp_path)
     browser.open(page_of(session, "--ask", "RETRIEVE o FROM van o WHERE o.x >= 3000", "--to", "500").as_uri())

@@ -501,9 +501,11 @@ export function tickAt(timeline, width, left) {
   return Math.round(timeline.from + Math.min(Math.max(part, 0), 1) * ticksOf(timeline));
 }
 
-/// Draws the timeline into an svg element, so wide, in place of what is in it.
+/// Draws the timeline into an svg element, so wide, in place of what is in it. What is there already stays as it is.
 export function drawTimeline(svg, timeline, theme, width) {
-  const rows = timeline.groups.flatMap((group) => [{ group }, ...group.rows, ...(group.more > 0 ? [{ more: group.more }] : [])]);
+  const rows = timeline.groups.flatMap((group, number) => [
+    { group }, ...group.rows.map((row) => ({ ...row, number })), ...(group.more > 0 ? [{ more: group.more }] : []),
+  ]);
   const height = AXIS + rows.reduce((sum, row) => sum + heightOf(row), 0) + 8;
   const left = (tick) => LABELS + ((tick - timeline.from) / ticksOf(timeline)) * roomOf(width);
   const frame = { timeline, theme, width, height, left };
@@ -516,26 +518,51 @@ export function drawTimeline(svg, timeline, theme, width) {
     else parts.push(rowOf(row, frame, top));
     top += heightOf(row);
   }
-  svg.replaceChildren(...parts, ...linesOf(frame), ...heads);
-  svg.setAttribute("viewBox", `0 0 ${width} ${height}`);
-  svg.setAttribute("width", width);
-  svg.setAttribute("height", height);
+  const all = [...parts, ...linesOf(frame), ...heads];
+  showPart(svg, { attributes: { viewBox: `0 0 ${width} ${height}`, width, height }, words: "", parts: all });
 }
 
 function heightOf(row) {
   return row.group ? HEAD : ROW;
 }
 
-function element(name, attributes) {
-  const made = document.createElementNS(SVG, name);
-  for (const [key, value] of Object.entries(attributes)) made.setAttribute(key, value);
-  return made;
+// A part of a timeline is an element that is to be there, with its attributes, and words or parts in it. It has a key where
+// it is to be the same element wherever it stands among the others.
+function partOf(name, attributes, { words = "", parts = [], key = null } = {}) {
+  return { name, attributes, words, parts, key };
+}
+
+// what each element shows: its part, and by their keys the elements of the parts in it
+const shownParts = new WeakMap();
+const NOTHING_SHOWN = { attributes: {}, words: "", elements: new Map() };
+
+// Makes an element show a part. It costs a browser far more to make elements anew than to find what has changed.
+function showPart(element, { attributes, words, parts }) {
+  const before = shownParts.get(element) ?? NOTHING_SHOWN;
+  for (const [key, value] of Object.entries(attributes)) if (before.attributes[key] !== value) element.setAttribute(key, value);
+  for (const key of Object.keys(before.attributes)) if (!(key in attributes)) element.removeAttribute(key);
+  if (words !== before.words) element.textContent = words;
+  shownParts.set(element, { attributes, words, elements: showParts(element, parts, before.elements) });
+}
+
+function showParts(parent, parts, before) {
+  const elements = new Map();
+  parts.forEach((part, at) => {
+    const key = part.key ?? `${part.name} ${at}`;
+    elements.set(key, before.get(key) ?? document.createElementNS(SVG, part.name));
+  });
+  for (const [key, element] of before) if (!elements.has(key)) element.remove();
+  let next = parent.firstChild;
+  [...elements.values()].forEach((element, at) => {
+    if (element === next) next = next.nextSibling;
+    else parent.insertBefore(element, next);
+    showPart(element, parts[at]);
+  });
+  return elements;
 }
 
 function textOf(x, y, words, fill, more = {}) {
-  const made = element("text", { x, y, fill, "dominant-baseline": "central", "font-size": 12, ...more });
-  made.textContent = words;
-  return made;
+  return partOf("text", { x, y, fill, "dominant-baseline": "central", "font-size": 12, ...more }, { words });
 }
 
 function isOnTimeline({ from, to }, tick) {
@@ -545,13 +572,13 @@ function isOnTimeline({ from, to }, tick) {
 // the ground of the ticks that are past
 function pastOf({ timeline, theme, width, height, left }) {
   const end = Math.min(Math.max(left(timeline.clock), LABELS), width - RIGHT);
-  return element("rect", { x: LABELS, y: AXIS, width: end - LABELS, height: height - AXIS, fill: theme.band });
+  return partOf("rect", { x: LABELS, y: AXIS, width: end - LABELS, height: height - AXIS, fill: theme.band });
 }
 
 function axisOf({ timeline, theme, width, height, left }) {
   const step = Math.max(niceStep((56 * ticksOf(timeline)) / roomOf(width)), 1);
   return stepsIn(timeline.from, timeline.to, step).flatMap((tick) => [
-    element("line", { x1: left(tick), x2: left(tick), y1: AXIS, y2: height, stroke: theme.grid }),
+    partOf("line", { x1: left(tick), x2: left(tick), y1: AXIS, y2: height, stroke: theme.grid }),
     textOf(left(tick), AXIS / 2, shown(tick), theme.text, { "text-anchor": "middle" }),
   ]);
 }
@@ -562,7 +589,7 @@ function linesOf({ timeline, theme, height, left }) {
   const lines = [{ tick: clock, stroke: theme.clock }];
   if (at !== null && at !== clock) lines.push({ tick: at, stroke: theme.ink, "stroke-dasharray": "3 3" });
   return lines.filter(({ tick }) => isOnTimeline(timeline, tick)).map(({ tick, ...more }) =>
-    element("line", { x1: left(tick), x2: left(tick), y1: AXIS - 3, y2: height, "stroke-width": 1.5, ...more }));
+    partOf("line", { x1: left(tick), x2: left(tick), y1: AXIS - 3, y2: height, "stroke-width": 1.5, ...more }));
 }
 
 function headOf({ name, note }, { theme }, top) {
@@ -577,18 +604,19 @@ function cut(words) {
   return words.length > MOST_LETTERS ? words.slice(0, MOST_LETTERS - 1) + "…" : words;
 }
 
-function rowOf({ label, spans }, frame, top) {
+function rowOf({ label, spans, number }, frame, top) {
   const { timeline, theme } = frame;
   const looked = timeline.at ?? timeline.clock;
   const isNow = spans.some(([first, last]) => first <= looked && looked <= last);
   const told = spans.map(([first, last]) => (first === last ? `${first}` : `${first} to ${last}`)).join(", ");
-  const row = element("g", { role: "listitem", "aria-label": `${label}: ${told}${isNow ? ", now" : ""}` });
-  const title = element("title", {});
-  title.textContent = `${label} : ${told}`;
-  row.append(title, textOf(20, top + ROW / 2, cut(label), theme.ink, isNow ? { "font-weight": 600 } : {}));
-  if (isNow) row.append(element("circle", { cx: 11, cy: top + ROW / 2, r: 3.5, fill: theme.mark }));
-  row.append(...spans.flatMap((span) => barsOf(span, frame, top)));
-  return row;
+  const parts = [
+    partOf("title", {}, { words: `${label} : ${told}` }),
+    textOf(20, top + ROW / 2, cut(label), theme.ink, isNow ? { "font-weight": 600 } : {}),
+    ...spans.flatMap((span) => barsOf(span, frame, top)),
+  ];
+  if (isNow) parts.push(partOf("circle", { cx: 11, cy: top + ROW / 2, r: 3.5, fill: theme.mark }));
+  const attributes = { role: "listitem", "aria-label": `${label}: ${told}${isNow ? ", now" : ""}` };
+  return partOf("g", attributes, { parts, key: `${number} ${label}` });
 }
 
 // a run of ticks goes from half a tick before its first to half a tick after its last one; what is past is paler and lower
@@ -601,6 +629,6 @@ function barsOf([first, last], { timeline, theme, width, left }, top) {
   const within = (tick) => Math.min(Math.max(left(tick), LABELS), width - RIGHT);
   return bars.filter((bar) => bar[1] >= timeline.from && bar[0] <= timeline.to).map(([begin, end, tall, fill]) => {
     const wide = Math.max(within(end) - within(begin), 2);
-    return element("rect", { x: within(begin), y: top + (ROW - tall) / 2, width: wide, height: tall, rx: 2, fill });
+    return partOf("rect", { x: within(begin), y: top + (ROW - tall) / 2, width: wide, height: tall, rx: 2, fill });
   });
 }

@@ -98,8 +98,8 @@ export class Player {
     const slider = byId("slider");
     slider.value = this.#tick;
     slider.setAttribute("aria-valuetext", `tick ${this.#tick}, ${this.#when}`);
-    byId("tick").textContent = `tick ${this.#tick}`;
-    byId("when").textContent = this.#when;
+    say("tick", `tick ${this.#tick}`);
+    say("when", this.#when);
   }
 
   get #when() {
@@ -115,7 +115,7 @@ export class Player {
     byId("no-queries").hidden = timeline.groups.length > 0;
     drawTimeline(byId("timeline"), timeline, this.#theme, byId("timeline-frame").clientWidth);
     const lines = recording.queriesAt(this.#tick).map((query) => inWords(query.name, recording.holding(query, this.#tick)));
-    byId("holding").textContent = lines.join("; ");
+    say("holding", lines.join("; "));
     byId("map").setAttribute("aria-label", `Map at tick ${this.#tick}`);
     if (byId("table").open) this.#fillTable();
     const now = performance.now();
@@ -278,6 +278,11 @@ export class Player {
     const tick = tickAt(timeline, byId("timeline-frame").clientWidth, event.clientX - frame.left);
     if (tick !== null) this.#leave(tick);
   }
+}
+
+// puts words where others stand: the same words are left there, since new ones are laid out anew
+function say(id, words) {
+  if (byId(id).textContent !== words) byId(id).textContent = words;
 }
 
 // fills a choice, where it hasn't these already; what was chosen stays, where it can
