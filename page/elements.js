@@ -2,6 +2,11 @@
 
 export const byId = (id) => document.getElementById(id);
 
+/// Puts words into an element where others stand: the same ones would be laid out anew.
+export function say(id, words) {
+  if (byId(id).textContent !== words) byId(id).textContent = words;
+}
+
 /// An element with a class and a text.
 export function made(name, className, words) {
   const element = document.createElement(name);

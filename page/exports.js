@@ -1,16 +1,20 @@
-// The objects of an export, read from its bytes: each tick has one of all objects, so only what is drawn is made of it.
+// The objects of an export, read from its bytes: it may have one of all objects at each tick, so only what is drawn is made of
+// it; and where these are at later ticks, as long as each goes on with the slope that it had.
 
 const LINE_FEED = 10, COMMA = 44, MINUS = 45, POINT = 46, ZERO = 48, NINE = 57;
+// how many thousandths the last digit of a number is worth, by how many decimals there are
+const WORTHS = [1000, 100, 10, 1];
 
-/// The objects of an export: their names, places and motions where the class has them, its bytes and where the rows begin in
-/// them. Where the names are those of `before`, the objects of an export that came before, they are the same array.
+/// The objects of an export: their names, their courses where the class has places, its bytes and where the rows begin in them.
+/// A course is a place and how it moves in a tick, all in whole thousandths. Where the names are those of `before`, the objects
+/// of an export that came before, they are the same array.
 export function objectsOf(bytes, before = null) {
   const begin = bytes.indexOf(LINE_FEED) + 1;
   // the columns of a place stand right after the name
   const isPoint = /^name,x,x\.rate,y,y\.rate[,\n]/.test(latin(bytes.subarray(0, begin)));
   const starts = startsOfRows(bytes, begin);
   const names = before !== null && haveSameNames(bytes, starts, before) ? before.names : namesOf(bytes, starts);
-  return { names, places: isPoint ? placesOf(bytes, starts) : null, bytes, starts };
+  return { names, course: isPoint ? courseOf(bytes, starts) : null, bytes, starts };
 }
 
 // a letter for each byte; the names have letters of ASCII alone
@@ -59,18 +63,26 @@ function haveSameField(bytes, at, others, other) {
   return at === end && endOfField(others, other) === other;
 }
 
-function placesOf(bytes, starts) {
+function courseOf(bytes, starts) {
   const column = () => new Float64Array(starts.length);
-  const places = { x: column(), y: column(), dx: column(), dy: column() };
+  const course = { x: column(), y: column(), dx: column(), dy: column() };
   const reader = new Reader(bytes);
   for (let row = 0; row < starts.length; row++) {
     reader.at = endOfField(bytes, starts[row]);
-    places.x[row] = reader.nextNumber();
-    places.dx[row] = reader.nextNumber();
-    places.y[row] = reader.nextNumber();
-    places.dy[row] = reader.nextNumber();
+    course.x[row] = reader.nextNumber();
+    course.dx[row] = reader.nextNumber();
+    course.y[row] = reader.nextNumber();
+    course.dy[row] = reader.nextNumber();
   }
-  return places;
+  return course;
+}
+
+/// The places so many ticks after an export, and how they move in a tick, in units. A number of JavaScript holds the
+/// thousandths of each exactly, so a place is the one that is nearest to what the program would write then.
+export function placesAfter({ x, y, dx, dy }, ticks) {
+  const inUnits = (thousandths) => thousandths / 1000;
+  const moved = (places, slopes) => places.map((place, at) => (place + ticks * slopes[at]) / 1000);
+  return { x: moved(x, dx), y: moved(y, dy), dx: dx.map(inUnits), dy: dy.map(inUnits) };
 }
 
 // Reads the fields of a row, from the comma on that stands before the next one.
@@ -80,23 +92,19 @@ class Reader {
     this.at = 0;
   }
 
-  // The number of the next field. With its decimals, three at most, it is a whole number that is held exactly, so the quotient
-  // is the number of JavaScript that is nearest to it.
+  // The thousandths of the next field's number, which has three decimals at most.
   nextNumber() {
     const { bytes } = this;
     let at = this.at + 1;
     const isBelow = bytes[at] === MINUS;
     if (isBelow) at++;
-    let digits = 0, parts = 1;
+    let digits = 0, decimals = 0;
     for (; isDigit(bytes[at]); at++) digits = digits * 10 + bytes[at] - ZERO;
     if (bytes[at] === POINT) {
-      for (at++; isDigit(bytes[at]); at++) {
-        digits = digits * 10 + bytes[at] - ZERO;
-        parts *= 10;
-      }
+      for (at++; isDigit(bytes[at]); at++, decimals++) digits = digits * 10 + bytes[at] - ZERO;
     }
     this.at = at;
-    return (isBelow ? -digits : digits) / parts;
+    return (isBelow ? -digits : digits) * WORTHS[decimals];
   }
 }
 
@@ -109,9 +117,25 @@ function fieldsOf(line) {
   return line.includes('"') ? [...line.matchAll(/(?:^|,)(?:"([^"]*)"|([^,]*))/g)].map((field) => field[1] ?? field[2]) : line.split(",");
 }
 
-/// The values of one object of an export by their columns, or null.
-export function valuesOf(bytes, name) {
+/// The values of one object so many ticks after an export, by their columns, or null.
+export function valuesOf(bytes, name, ticks = 0) {
   const [head, ...lines] = new TextDecoder().decode(bytes).split("\n");
   const line = lines.find((one) => one.startsWith(`${name},`));
-  return line === undefined ? null : { columns: head.split(","), values: fieldsOf(line) };
+  if (line === undefined) return null;
+  const columns = head.split(","), values = fieldsOf(line);
+  const isDynamic = (at) => columns[at + 1] === `${columns[at]}.rate`;
+  const now = values.map((value, at) => (isDynamic(at) ? textOf(thousandthsOf(value) + ticks * thousandthsOf(values[at + 1])) : value));
+  return { columns, values: now };
+}
+
+function thousandthsOf(text) {
+  // (the product is less than half a thousandth off)
+  return Math.round(Number(text) * 1000);
+}
+
+// a number of thousandths as the program writes it
+function textOf(thousandths) {
+  const size = Math.abs(thousandths);
+  const part = String(size % 1000).padStart(3, "0").replace(/0+$/, "");
+  return `${thousandths < 0 ? "-" : ""}${Math.floor(size / 1000)}${part ? `.${part}` : ""}`;
 }

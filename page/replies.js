@@ -5,7 +5,7 @@ const REFUSED = /^refused (\d+) (\w+)\n$/;
 const FIRST_WORD = /^[ \t]*([A-Za-z_]\w*)/;
 // commands that change nothing of what a session goes on from
 const ASKING = new Set(["ask", "show", "list", "save", "export", "quit", "nearest", "must", "may", "range"]);
-const ROW = /^(now|later|past) (.+) :((?: \d+\.\.\d+)+)$/gm;
+const ROW = /^(?:now|later|past) (.+) :((?: \d+\.\.\d+)+)$/gm;
 const LISTED = /^(?:(clock) (\d+)|(class) (\w+) (\d+)\/(\d+)|(region) (\w+) (\d+)|(watch|keep) (\w+) (\d+)\.\.(\d+))$/;
 const POINT = /\(([^,]+),([^)]+)\)/g;
 
@@ -41,29 +41,12 @@ export function countReplies(text) {
   return { accepted, refused: ends.length - accepted };
 }
 
-/// The rows of an answer, at most so many of them: when, the names of the targets, and their runs of ticks.
-export function rowsOf(reply, most = Infinity) {
-  const rows = [];
-  for (const [, when, targets, runs] of reply.matchAll(ROW)) {
-    if (rows.length === most) break;
+/// The rows of an answer: the names of the targets, and their runs of ticks.
+export function rowsOf(reply) {
+  return Array.from(reply.matchAll(ROW), ([, targets, runs]) => {
     const spans = runs.trim().split(" ").map((span) => span.split("..").map(Number));
-    rows.push({ when, targets: targets.split(" "), spans });
-  }
-  return rows;
-}
-
-/// How many rows an answer has.
-export function countRows(reply) {
-  return reply.match(ROW)?.length ?? 0;
-}
-
-/// The targets of the rows of an answer that hold at the tick at which it was given.
-export function targetsNow(reply) {
-  const found = [];
-  for (const line of reply.split("\n")) {
-    if (line.startsWith("now ")) found.push(...line.slice(4, line.indexOf(" :")).split(" "));
-  }
-  return found;
+    return { targets: targets.split(" "), spans };
+  });
 }
 
 /// The reply to `list`.

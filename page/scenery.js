@@ -1,5 +1,8 @@
 // What the page draws, from what the program answered: a scene with trails and ways ahead, and the timeline of the queries.
-import { countRows, rowsOf, targetsNow } from "./replies.js";
+// What it told at one tick is carried on to the clock: objects by the slopes that they had, and the answer of a watch by leaving
+// out the ticks that have passed. It is told anew before any of that ends.
+import { placesAfter } from "./exports.js";
+import { rowsOf } from "./replies.js";
 
 const MOST_TRAIL = 60;
 // places of all trails together, so that many objects have short ones
@@ -10,8 +13,11 @@ const REACH = 5;
 // how far the page looks ahead where no query says
 const FAR = 20;
 const LAST_TICK = 1_000_000_000;
+const WATCH = "watch";
 
 export class Scenery {
+  // what was told last, and the names of each class
+  #told = { at: 0, classes: [], regions: [], queries: [] };
   #names = new Map();
   #ways = [];
   #later = null;
@@ -31,23 +37,39 @@ export class Scenery {
     this.#later = null;
   }
 
-  /// Takes what the program says of now. A class whose names are null has those of before.
-  take(seen) {
-    if (seen.clock < this.clock) this.clear();
-    const hasMoved = seen.clock > this.clock;
+  /// Takes what there is now: the clock, and what the program told, or null where that was taken before. A class whose names
+  /// are null has those of before.
+  take({ clock, canLookAhead, told }) {
+    if (clock < this.clock) this.clear();
+    if (told !== null) this.#takeTold(told);
+    const hasMoved = clock > this.clock;
+    const { at, classes, regions, queries } = this.#told;
     const old = new Map(this.classes.map((one) => [one.name, one]));
-    const count = seen.classes.reduce((sum, one) => sum + (one.places?.x.length ?? 0), 0);
+    const count = classes.reduce((sum, one) => sum + (one.course?.x.length ?? 0), 0);
     const most = Math.max(2, Math.min(MOST_TRAIL, Math.floor(MOST_PLACES / Math.max(count, 1))));
-    for (const { name, names } of seen.classes) if (names !== null) this.#names.set(name, names);
-    this.classes = seen.classes.map((one) => {
-      const now = { ...one, names: this.#names.get(one.name) };
-      return { ...now, trail: trailOf(old.get(one.name), now, hasMoved).slice(-most) };
+    this.classes = classes.map(({ name, names, course }) => {
+      const now = { name, names, places: course && placesAfter(course, clock - at) };
+      return { ...now, trail: trailOf(old.get(name), now, hasMoved).slice(-most) };
     });
     this.#later = null;
-    this.clock = seen.clock;
-    this.regions = seen.regions;
-    this.queries = seen.queries;
-    this.canLookAhead = seen.canLookAhead;
+    this.clock = clock;
+    this.regions = regions;
+    this.queries = queries;
+    this.canLookAhead = canLookAhead;
+  }
+
+  #takeTold({ at, classes, regions, queries }) {
+    for (const { name, names } of classes) if (names !== null) this.#names.set(name, names);
+    this.#told = {
+      at, regions,
+      classes: classes.map((one) => ({ ...one, names: this.#names.get(one.name) })),
+      queries: queries.map(withRows),
+    };
+  }
+
+  /// Takes the answer of an `ask`, with its text, as that of a query.
+  takeAsked(query) {
+    this.asked = withRows(query);
   }
 
   get count() {
@@ -61,6 +83,10 @@ export class Scenery {
   /// Takes what another run said of later ticks, each with its classes, or null.
   takeWays(ways) {
     this.#ways = ways ?? [];
+  }
+
+  get hasWays() {
+    return this.#ways.length > 0;
   }
 
   /// Takes where all is at one later tick, or null for now.
@@ -110,10 +136,8 @@ export class Scenery {
   // the objects of the rows of a query that hold at the tick that is drawn
   #targetsOf(name) {
     const query = this.answered.find((one) => one.name === name);
-    if (query === undefined) return new Set();
-    if (this.tick === this.clock && query !== this.asked) return new Set(targetsNow(query.answer));
     const holds = ({ spans }) => spans.some(([first, last]) => first <= this.tick && this.tick <= last);
-    return new Set(rowsOf(query.answer).filter(holds).flatMap((row) => row.targets));
+    return new Set((query?.rows ?? []).filter(holds).flatMap((row) => row.targets));
   }
 
   /// The timeline as drawing.js has it: of so many ticks around the clock, or, where that is null, of all the queries.
@@ -121,13 +145,22 @@ export class Scenery {
     const queries = this.answered;
     const from = span === null ? Math.min(this.clock, ...queries.map((query) => query.from)) : Math.max(this.clock - span / 5, 0);
     const to = span === null ? Math.max(this.clock, ...queries.map((query) => query.to)) : from + span;
-    const groups = queries.map(({ name, kind, from, to, answer }) => ({
-      name,
-      note: `${kind} ${from}..${to}`,
-      rows: rowsOf(answer, MOST_ROWS).map(({ targets, spans }) => ({ label: targets.join(" "), spans })),
-      more: Math.max(countRows(answer) - MOST_ROWS, 0),
-    }));
+    const groups = queries.map((query) => {
+      const rows = this.#rowsNow(query);
+      const shown = rows.slice(0, MOST_ROWS).map((row) => ({ label: row.targets.join(" "), spans: this.#spansNow(query, row) }));
+      return { name: query.name, note: `${query.kind} ${query.from}..${query.to}`, rows: shown, more: rows.length - shown.length };
+    });
     return { clock: this.clock, from, to, at: this.tick, groups };
+  }
+
+  // the answer of a watch has the ticks from the clock on alone
+  #rowsNow({ kind, rows }) {
+    return kind === WATCH ? rows.filter(({ spans }) => spans.at(-1)[1] >= this.clock) : rows;
+  }
+
+  #spansNow({ kind }, { spans }) {
+    if (kind !== WATCH) return spans;
+    return spans.filter(([, last]) => last >= this.clock).map(([first, last]) => [Math.max(first, this.clock), last]);
   }
 
   /// The last tick that may be looked at.
@@ -135,6 +168,11 @@ export class Scenery {
     const to = Math.max(...this.answered.map((query) => query.to), 0);
     return Math.min(to > this.clock ? to : this.clock + FAR, LAST_TICK);
   }
+}
+
+// a query with its rows in place of the text of its answer
+function withRows({ answer, ...query }) {
+  return { ...query, rows: rowsOf(answer) };
 }
 
 // The trail of a class goes on from the one before: by the places before where the clock moved. An object that was put

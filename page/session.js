@@ -1,7 +1,8 @@
 // A session: what the program is told and what is kept of it, and what the page asks the program for itself.
-import { objectsOf } from "./exports.js";
+import { objectsOf, placesAfter, valuesOf } from "./exports.js";
 import { Ended, RepeatedRun, Shelf, askOwn } from "./program.js";
 import { countReplies, firstWord, isAccepted, isKept, listOf, regionsOf, ticksOf } from "./replies.js";
+import { Turns } from "./turns.js";
 
 // After so many milliseconds, what was answered is kept and passed on.
 const PATIENCE = 50;
@@ -26,6 +27,9 @@ export class Session {
   #regions;
   // what each class's last export told
   #objects = new Map();
+  // what the program told when it was last asked for all, or null where a line was written since; and when objects turn
+  #told = null;
+  #turns = new Turns();
   #clock = 0;
   // bytes of what another run would be told
   #size;
@@ -57,6 +61,8 @@ export class Session {
     if (accepted !== lines.length) throw new NotLoaded(`${refused} of ${lines.length} lines are no longer accepted`);
     this.#run = run;
     this.#regions = [];
+    this.#told = null;
+    this.#turns = Turns.of(session, lines);
     this.#size = (session?.length ?? 0) + sizeOf(lines);
     this.end = null;
   }
@@ -99,6 +105,8 @@ export class Session {
       group.entries.push({ line, reply: text, clock: this.#clock, isByClock });
       if (!isKept(line, text)) continue;
       group.kept.push(line);
+      this.#turns.take(line);
+      if (firstWord(line) !== "tick") this.#told = null;
       // the file may be another one when the line is told again
       if (firstWord(line) === "import") Object.assign(group, { session: yield* this.#saved(), kept: [] });
     }
@@ -146,8 +154,9 @@ export class Session {
     await this.#store.add({ files: new Map([[name, bytes]]) });
   }
 
-  /// What there is now, by the program's own word: the clock, classes with their objects, regions, and queries with their
-  /// answers. Where the program has ended another run tells it, and null is given where that one ends too.
+  /// What there is now, by the program's own word: the clock; and the classes with their objects, regions, and queries with
+  /// their answers, as they were told at the tick `toldAt`. These are the same ones, and aren't asked for again, as long as
+  /// nothing but the clock changes. Where the program has ended another run tells it, and null is given where that ends too.
   async look() {
     try {
       const seen = await (await this.#runNow()).talk(this.#look());
@@ -167,19 +176,28 @@ export class Session {
     return new RepeatedRun(this.#module, this.#shelf, session, lines);
   }
 
+  // All is asked for again once a line was written, and where objects turn. Until then each goes on with the slope that was
+  // told, and an answer changes by the ticks that pass alone.
   *#look() {
+    const list = listOf(yield* askOwn(this.#shelf, "list"));
+    if (this.#told === null || this.#turns.next <= list.clock) {
+      this.#told = yield* this.#askAll(list);
+      this.#turns.toldAt(list.clock);
+    }
+    return { clock: list.clock, ...this.#told };
+  }
+
+  *#askAll({ clock, classes, regions, queries }) {
     const shelf = this.#shelf;
-    const list = listOf(yield* askOwn(shelf, "list"));
     // regions stay as they were made
-    if (list.regions.length !== this.#regions.length) {
+    if (regions.length !== this.#regions.length) {
       this.#regions = regionsOf(new TextDecoder().decode(yield* this.#saved()));
     }
     const objects = new Map();
-    for (const { name } of list.classes) objects.set(name, yield* objectsNow(shelf, name, this.#objects.get(name)));
+    for (const { name } of classes) objects.set(name, yield* objectsNow(shelf, name, this.#objects.get(name)));
     this.#objects = objects;
-    for (const one of list.classes) Object.assign(one, objects.get(one.name));
-    for (const query of list.queries) query.answer = yield* askOwn(shelf, `show ${query.name}`);
-    return { ...list, regions: this.#regions };
+    for (const query of queries) query.answer = yield* askOwn(shelf, `show ${query.name}`);
+    return { toldAt: clock, classes: classes.map((one) => ({ ...one, ...objects.get(one.name) })), regions: this.#regions, queries };
   }
 
   /// Whether what lies ahead can be asked for in a short time, of what was seen.
@@ -202,7 +220,7 @@ function sizeOf(lines) {
 }
 
 function withPlaces(seen) {
-  return seen.classes.filter((one) => one.places !== null);
+  return seen.classes.filter((one) => one.course !== null);
 }
 
 function* objectsNow(shelf, name, before) {
@@ -217,12 +235,18 @@ function* placesAt(shelf, clock, ticks, classes) {
     clock = tick;
     const at = [];
     for (const name of classes) {
-      const { names, places } = yield* objectsNow(shelf, name);
-      at.push({ name, names, places });
+      const { names, course } = yield* objectsNow(shelf, name);
+      at.push({ name, names, places: placesAfter(course, 0) });
     }
     found.push({ tick, classes: at });
   }
   return found;
+}
+
+/// The values of an object that was seen, as they are at the clock.
+export function valuesSeen({ clock, toldAt, classes }, className, name) {
+  const found = classes.find((one) => one.name === className);
+  return found ? valuesOf(found.bytes, name, clock - toldAt) : null;
 }
 
 /// How a program ended.

@@ -58,7 +58,7 @@ export function showEntries(entries) {
   byId("welcome")?.remove();
   transcript.add(entries);
   for (const entry of entries) {
-    if (firstWord(entry.line) === "ask" && isAccepted(entry.reply)) scenery.asked = askedOf(entry);
+    if (firstWord(entry.line) === "ask" && isAccepted(entry.reply)) scenery.takeAsked(askedOf(entry));
     if (isKept(entry.line, entry.reply) && firstWord(entry.line) !== "tick") writtenSinceWays();
   }
 }

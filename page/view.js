@@ -1,5 +1,5 @@
 // What the page shows of the session: the map, the timeline, the tables, and later ticks.
-import { byId } from "./elements.js";
+import { byId, say } from "./elements.js";
 import { DARK, LIGHT, drawTimeline, tickAt } from "./out/drawing.js";
 import { MapView } from "./out/map.js";
 import { fillTable, showObject } from "./panels.js";
@@ -21,7 +21,7 @@ const map = new MapView(byId("map"), themeNow, (found) => choose(found?.classNam
 export function take(seen) {
   if (seen !== null) scenery.take(seen);
   clock.moved();
-  byId("clock").textContent = `tick ${scenery.clock}`;
+  say("clock", `tick ${scenery.clock}`);
   showMarked();
   showLater();
   draw();
@@ -86,7 +86,7 @@ function timelineNow() {
 }
 
 function showTable() {
-  byId("table-tick").textContent = `tick ${scenery.tick}`;
+  say("table-tick", `tick ${scenery.tick}`);
   fillTable(scenery.shown, choose);
 }
 
@@ -115,6 +115,7 @@ async function refreshWays() {
   const at = scenery.clock;
   if (waysAt !== null && at - waysAt < WAYS / 2) return;
   waysAt = at;
+  if (!scenery.canLookAhead && !scenery.hasWays) return;
   const ticks = Array.from({ length: WAYS }, (_, number) => at + number + 1).filter((tick) => tick <= LAST_TICK);
   scenery.takeWays(await client.ask("ahead", ticks).catch(() => null));
   map.show(scenery.scene(byId("marked").value), partOfTick);
@@ -128,9 +129,9 @@ function showLater() {
   slider.value = by;
   slider.setAttribute("aria-valuetext", by === 0 ? "now" : `tick ${scenery.tick}, ${by} ahead`);
   slider.title = scenery.canLookAhead ? "" : "Only with some hundred objects at most, and while the program runs";
-  byId("ahead-tick").textContent = by === 0 ? "now" : `tick ${scenery.tick}`;
+  say("ahead-tick", by === 0 ? "now" : `tick ${scenery.tick}`);
   byId("as-it-will-be").hidden = by === 0;
-  byId("as-it-will-be").textContent = `tick ${scenery.tick}, if nothing is written before`;
+  say("as-it-will-be", by === 0 ? "" : `tick ${scenery.tick}, if nothing is written before`);
 }
 
 let wanted = null;

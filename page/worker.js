@@ -1,8 +1,7 @@
 // The worker in which the program runs, so that the page stays awake beside it. It does what the page asks, one thing after
 // the other.
-import { valuesOf } from "./exports.js";
 import { RepeatedRun, SuspendedRun, canSuspend, hasWideMemory } from "./program.js";
-import { Session, inWords } from "./session.js";
+import { Session, inWords, valuesSeen } from "./session.js";
 import { openStore } from "./store.js";
 
 const MODULE = new URL("out/domino.wasm", import.meta.url);
@@ -11,6 +10,8 @@ const mayRepeat = new URL(self.location).searchParams.has("again");
 
 let session = null;
 let seen = null;
+// the classes that were sent last, and the names of each class
+let sentClasses = null;
 let sentNames = new Map();
 
 async function compiled() {
@@ -57,10 +58,7 @@ const calls = {
   ahead: (ticks) => session.ahead(ticks, seen),
 
   /// The values of an object as they are now.
-  object(className, name) {
-    const found = seen.classes.find((one) => one.name === className);
-    return found ? valuesOf(found.bytes, name) : null;
-  },
+  object: (className, name) => valuesSeen(seen, className, name),
 
   file: (name) => session.files.get(name) ?? null,
 
@@ -74,19 +72,30 @@ function files() {
   return [...session.files].map(([name, bytes]) => ({ name, size: bytes.length })).sort((a, b) => (a.name < b.name ? -1 : 1));
 }
 
-// What the page shows of the session. Names are sent where they changed: of ten thousand objects they are most of it.
+// What the page shows of the session. What the program told is sent once: at most ticks the clock alone has changed.
 async function state() {
   seen = (await session.look()) ?? seen;
   const end = session.end && { ...session.end, inWords: inWords(session.end) };
-  const canLookAhead = seen !== null && session.canLookAhead(seen);
-  return { seen: seen && { ...seen, canLookAhead, classes: seen.classes.map(lighter) }, end, files: files() };
+  return { seen: seen && { clock: seen.clock, canLookAhead: session.canLookAhead(seen), told: toldOf(seen) }, end, files: files() };
 }
 
-function lighter({ name, used, capacity, names, places }) {
-  // (names that are the same are the same array)
+// what was told, or null where it was sent before
+function toldOf({ toldAt, classes, regions, queries }) {
+  if (classes === sentClasses) return null;
+  sentClasses = classes;
+  return { at: toldAt, classes: classes.map(lighter), regions, queries };
+}
+
+// (names that are the same are the same array: of ten thousand objects they are most of it)
+function lighter({ name, used, capacity, names, course }) {
   const isSame = sentNames.get(name) === names;
   sentNames.set(name, names);
-  return { name, used, capacity, names: isSame ? null : names, places };
+  return { name, used, capacity, names: isSame ? null : names, course };
+}
+
+// the columns of courses, which are given away: here nobody reads them
+function givenAway({ seen }) {
+  return (seen?.told?.classes ?? []).flatMap(({ course }) => Object.values(course ?? {}).map((column) => column.buffer));
 }
 
 let turn = Promise.resolve();
@@ -94,7 +103,8 @@ let turn = Promise.resolve();
 self.onmessage = ({ data: { id, call, given } }) => {
   turn = turn.then(async () => {
     try {
-      self.postMessage({ id, value: await calls[call](...given) });
+      const value = await calls[call](...given);
+      self.postMessage({ id, value }, givenAway(value ?? {}));
     } catch (error) {
       self.postMessage({ id, error: { name: error.name, message: error.message } });
     }

@@ -1,9 +1,10 @@
-"""Compares the module, in node, with the native program: what is written, the status and the files, byte for byte; and the
-places of faults with the companion's."""
+"""Compares the module, in node, with the native program: what is written, the status and the files, byte for byte; the places
+of faults with the companion's; and what the page carries on from tick to tick with what the native program tells."""
 
 import json
 import os
 import pathlib
+import random
 import subprocess
 import sys
 import tempfile
@@ -31,6 +32,8 @@ NODE = ("node", "--experimental-wasm-memory64")
 OLDEST_NODE = 20
 WIDE_TRIES = 300_000
 LITTLE_MEMORY, OUT_OF_MEMORY = 16 << 20, 6
+# sessions in which what is shown is carried on from tick to tick, and their lines
+CARRIED, CARRIED_LINES = 12, 400
 
 
 def native(words=()):
@@ -166,6 +169,74 @@ def compare_faults(count):
         if found != expected and not (expected is None and found["number"] == 6):
             sys.exit(f"the fault of {line[:300]} is {found}, and by the companion {expected}")
     return len(lines)
+
+
+def moving_lines(draw, count):
+    """Lines of a session in which objects turn by legs, are written, removed and inserted again, and the clock goes on."""
+    number = lambda most: f"{draw.randint(-most, most) / draw.choice((1, 10, 1000)):g}"
+    pair = lambda most: f"({number(most)},{number(most)})"
+    legs = lambda slope: "".join(f"[{slope()},{draw.randint(1, 9)}] " for _ in range(draw.choice((0, 0, 0, 1, 3)))) + slope()
+    name = lambda: f"v{draw.randrange(9)}"
+    yield from ("class van 9 point (fuel dyn,plate text)", "class tank 2 (level dyn)", "region yard (-20,-20) (20,-20) (20,20) (-20,20)",
+                "insert tank t level = 3 rate [0.5,4] [-1,3] 0.125", "watch in 60 RETRIEVE o FROM van o WHERE INSIDE(o,yard)",
+                "keep all 60 RETRIEVE o,n FROM van o,van n WHERE DIST(o,n) <= 20", "watch late 400 RETRIEVE o FROM van o WHERE o.fuel < 0")
+    for _ in range(count):
+        kind = draw.choice(("tick",) * 12 + ("insert", "update", "update", "remove"))
+        if kind == "tick":
+            yield f"tick {draw.choice((1, 1, 1, 2, 7))}"
+        elif kind == "remove":
+            yield f"remove {name()}"
+        else:
+            place = f"at {pair(40)} " if draw.randrange(3) else ""
+            fuel = f" fuel = {number(9)} rate {legs(lambda: number(3))}" if draw.randrange(2) else ""
+            plate = draw.choice(("", "", ' plate = "[1,"', ' plate = "a,b] "'))
+            yield f"{kind} {'van ' if kind == 'insert' else ''}{name()} {place}move {legs(lambda: pair(5))}{fuel}{plate}"
+
+
+def compare_carried(sessions=CARRIED, lines=CARRIED_LINES):
+    """Compares what the page carries on from one tick to the next with what the native program tells there, in sessions of
+    random lines; and returns how many ticks were carried on to."""
+    count = 0
+    for seed in range(sessions):
+        said = [line for line in moving_lines(random.Random(seed), lines)]
+        asked = lambda at: [f'export van "van {at}"', f'export tank "tank {at}"', "show in", "show all", "show late", "list"]
+        whole = [one for at, line in enumerate(said) for one in (line, *asked(at))]
+        replies, _, files = run(native(), "".join(line + "\n" for line in whole).encode(), {})
+        words = subprocess.run(["node", str(HERE / "carried.mjs")], input=json.dumps(list(steps_of(said, replies.decode(), files))),
+                               stdout=subprocess.PIPE, text=True, check=True).stdout
+        count += int(words)
+    if count < sessions * lines // 10:
+        sys.exit(f"only {count} ticks were carried on to")
+    return count
+
+
+def steps_of(said, replies, files):
+    """The steps that carried.mjs reads: each line with its reply, and what the program tells after it."""
+    told = iter(replies_in(replies))
+    kinds = {"in": "watch", "all": "keep", "late": "watch"}
+    for at, line in enumerate(said):
+        yield {"line": line, "reply": next(told)}
+        exports = [next(told), next(told)]
+        shown = {name: next(told) for name in kinds}
+        listed = next(told).split("\n")
+        clock = int(listed[0].removeprefix("clock "))
+        spans = {words[1]: words[2].split("..") for words in map(str.split, listed) if words and words[0] in ("watch", "keep")}
+        yield {
+            "clock": clock,
+            "exported": {name: files[f"{name} {at}"].decode() for name, reply in zip(("van", "tank"), exports) if reply == "ok\n"},
+            "answers": [{"kind": kinds[name], "name": name, "from": int(first), "to": int(last), "answer": shown[name]}
+                        for name, (first, last) in spans.items()],
+        }
+
+
+def replies_in(text):
+    """The replies in what the program wrote to lines that each have one."""
+    reply = ""
+    for line in text.splitlines(keepends=True):
+        reply += line
+        if line == "ok\n" or line.startswith("refused "):
+            yield reply
+            reply = ""
 
 
 def objects():

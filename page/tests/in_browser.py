@@ -293,6 +293,42 @@ def try_places(browser):
             same(numbers(found), numbers(exported(lines, ahead)), f"the places {ahead} ticks ahead")
 
 
+def rows_shown(lines, ticks, query):
+    """The rows of a query as the timeline has them, by what the native program shows after some ticks."""
+    reply = native_replies([*lines, f"tick {ticks}", f"show {query}"]).removesuffix("ok\n").rpartition("ok\n")[2]
+    for row in reply.splitlines():
+        word, _, rest = row.partition(" ")
+        label, _, runs = rest.partition(" : ")
+        ends = (run.split("..") for run in runs.split(" "))
+        told = ", ".join(first if first == last else f"{first} to {last}" for first, last in ends)
+        yield f"{label}: {told}{', now' if word == 'now' else ''}"
+
+
+def try_clock_alone(browser):
+    """While only the clock moves the page asks for the list alone, and for all again where an object turns; what it shows is
+    what the program tells, tick by tick."""
+    lines = ["class truck 9 point (fuel dyn)", "insert truck a at (0.125,-3) move [(0.333,-1.001),4] (0.001,3.5) fuel = 9 rate -0.125",
+             "insert truck b at (-1000000000,5) move (0,-1.125)", "watch low 7 RETRIEVE o FROM truck o WHERE o.y <= 1"]
+    head = "  *#askAll({ clock, classes, regions, queries }) {\n"
+    whole = (PAGE / "session.js").read_text(encoding="utf-8")
+    telling = whole.replace(head, f"{head}    new BroadcastChannel('asked').postMessage(clock);\n")
+    same(telling == whole, False, "the session tells when it asks for all")
+    with served({"session.js": telling.encode()}) as (address, _):
+        browser.open(address)
+        browser.say(*lines)
+        browser.script("window.asked = []; new BroadcastChannel('asked').onmessage = ({ data }) => window.asked.push(data)")
+        for tick in range(1, 9):
+            browser.say("tick 1")
+            numbers = lambda rows: [[row[0], *map(float, row[1:])] for row in rows]
+            found = numbers([[row[0], *row[2:]] for row in browser.table()])
+            same(found, numbers(exported(lines, tick)), f"the places at tick {tick}")
+            rows = browser.script("return [...document.querySelectorAll('#timeline [role=listitem]')].map((row) => row.ariaLabel)")
+            same(rows, list(rows_shown(lines, tick, "low")), f"the rows at tick {tick}")
+        same(browser.script("return window.asked"), [4], "when all was asked for")
+        browser.script("[...document.querySelectorAll('#table tbody button')].find((one) => one.textContent === 'a').click()")
+        browser.wait("document.getElementById('object').textContent.includes('fuel8fuel.rate-0.125')", "the values of an object are carried on")
+
+
 def try_keys(browser):
     """All can be reached and done by keys, and all that takes input has a name."""
     with served() as (address, _):
