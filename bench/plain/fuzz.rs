@@ -41,6 +41,7 @@ enum Built {
     Live,
     Files,
     Nearest,
+    Blurred,
     All,
 }
 
@@ -270,13 +271,16 @@ impl Maker {
         match self.draw.below(3) {
             0 => words(&format!("index car {} 2.5", self.draw.one_of(&["x", "fuel"]))),
             1 => words(&format!("range {span} car {} - 3 5", self.draw.one_of(&["x", "fuel"]))),
-            _ => {
-                let word = self.one_of(&["must", "may"]);
-                let mut line = words(&format!("{word} 0.5 {span}"));
-                line.extend(self.query(2));
-                line
-            }
+            _ => self.blurred(),
         }
+    }
+
+    fn blurred(&mut self) -> Line {
+        let span = self.span();
+        let word = self.one_of(&["must", "may"]);
+        let mut line = words(&format!("{word} 0.5 {span}"));
+        line.extend(self.query(2));
+        line
     }
 
     fn right(&mut self) -> Line {
@@ -295,6 +299,7 @@ impl Maker {
             91..96 if self.built >= Built::Files => self.on_files(),
             96..98 if self.built >= Built::Nearest => self.nearest(),
             98..100 if self.built == Built::All => self.on_all(),
+            98..100 if self.built == Built::Blurred => self.blurred(),
             _ => self.ask(),
         }
     }
@@ -548,7 +553,7 @@ fn assignments(formula: &Formula) -> usize {
 fn start(words: &[String]) -> io::Result<()> {
     let words: Vec<&str> = words.iter().map(String::as_str).collect();
     let [seed, count, built, reach @ ("near" | "far")] = words[..] else {
-        return Err(io::Error::other("SEED COUNT ask|live|files|nearest|all near|far"));
+        return Err(io::Error::other("SEED COUNT ask|live|files|nearest|blurred|all near|far"));
     };
     let number = |word: &str| word.parse::<u64>().map_err(io::Error::other);
     let built = match built {
@@ -556,6 +561,7 @@ fn start(words: &[String]) -> io::Result<()> {
         "live" => Built::Live,
         "files" => Built::Files,
         "nearest" => Built::Nearest,
+        "blurred" => Built::Blurred,
         _ => Built::All,
     };
     let mut maker = Maker { draw: Draw::new(number(seed)?), built, near: reach == "near" };

@@ -45,6 +45,7 @@ enum Built {
     Live,
     Files,
     Nearest,
+    Blurred,
     #[default]
     All,
 }
@@ -57,6 +58,7 @@ impl Built {
             "live" => Some(Built::Live),
             "files" => Some(Built::Files),
             "nearest" => Some(Built::Nearest),
+            "blurred" => Some(Built::Blurred),
             "all" => Some(Built::All),
             _ => None,
         }
@@ -69,7 +71,8 @@ impl Built {
             Watch(..) | Keep(..) | Show(_) | Drop(_) => self >= Built::Live,
             Save(_) | Import(..) | Export(..) => self >= Built::Files,
             Nearest(..) => self >= Built::Nearest,
-            Must(..) | May(..) | Index(..) | Range(..) => self >= Built::All,
+            Must(..) | May(..) => self >= Built::Blurred,
+            Index(..) | Range(..) => self >= Built::All,
             _ => true,
         }
     }
@@ -291,7 +294,7 @@ fn start(words: &[String]) -> io::Result<u8> {
     let number = |word: &str| word.parse::<u64>().map_err(io::Error::other);
     let mut built = Built::All;
     if let ["--built", word, ..] = words[..] {
-        built = Built::named(word).ok_or_else(|| io::Error::other("data, ask, live, files, nearest or all"))?;
+        built = Built::named(word).ok_or_else(|| io::Error::other("data, ask, live, files, nearest, blurred or all"))?;
         words.drain(..2);
     }
     let session = Session { built, ..Session::default() };

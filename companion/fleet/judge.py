@@ -32,6 +32,10 @@ ASSIGNMENT_SPAN_LIMIT = 10_000
 """That of a query with an assignment."""
 NEAREST_SPAN_LIMIT = 1_000_000
 """That of `nearest`."""
+BLURRED_SPAN_LIMIT = 10_000
+"""That of `must` and `may`."""
+BLURRED_PRODUCT_LIMIT = 10_000
+"""The most that the capacities of the classes of `must` and `may` may multiply to."""
 
 
 @dataclass(frozen=True, slots=True)
@@ -275,6 +279,24 @@ def _nearest(tree: Tree, schema: Schema) -> Iterator[Verdict]:
         yield _at(17, class_name, f"{message} {PRODUCT_LIMIT:,} is allowed")
 
 
+def _blurred(tree: Tree, schema: Schema) -> Iterator[Verdict]:
+    query, span = part(tree, "query"), part(tree, "span")
+    for where, number, message in QueryKinds(query, schema).faults():
+        yield _at(number, where, message)
+    for rule, word in (("not", "NOT"), ("within_sphere", "WITHIN_SPHERE")):
+        for where in query.find_data(rule):
+            yield _at(9, where, f"{word} has no answer where positions may be off")
+    last = schema.clock + whole_in(tree, "span")
+    if last - schema.clock > BLURRED_SPAN_LIMIT:
+        yield _at(12, span, f"the span of such a command is at most {BLURRED_SPAN_LIMIT:,}")
+    elif last > TICK_LIMIT:
+        yield _at(12, span, f"the last tick, {last:,}, would pass {TICK_LIMIT:,}")
+    product = query_product(query, schema)
+    if product > BLURRED_PRODUCT_LIMIT:
+        message = f"the capacities of its classes multiply to {product:,}, and at most"
+        yield _at(17, part(query, "from"), f"{message} {BLURRED_PRODUCT_LIMIT:,} is allowed")
+
+
 def query_product(query: Tree, schema: Schema) -> int:
     """The product of the capacities of the query's classes, which are there."""
     return schema.product_of(name_in(each, "class_name") for each in parts(part(query, "from"), "from_part"))
@@ -299,4 +321,6 @@ _JUDGES: dict[str, Callable[[Tree, Schema], Iterator[Verdict]]] = {
     "watch": _register,
     "keep": _register,
     "nearest": _nearest,
+    "must": _blurred,
+    "may": _blurred,
 }

@@ -91,6 +91,14 @@ def test_rows_of_the_nearest_by_their_class(client: Client) -> None:
     assert near is not None and near.records == [Row("now", ("p",), ((0, 9),), ("post",), 0)]
 
 
+def test_rows_of_what_surely_and_possibly_holds_by_their_targets(client: Client) -> None:
+    for line in ("class post 9 point", "insert post p at (2,0)", "region spot (0,-5) (5,-5) (5,5) (0,5)"):
+        client.send(line)
+    for command, records in (("must", []), ("may", [Row("now", ("p",), ((0, 9),), ("o",), 0)])):
+        told = client.send(f"{command} 3 9 RETRIEVE o FROM post o WHERE INSIDE(o,spot)")
+        assert told is not None and told.records == records
+
+
 def test_a_refused_line_moves_nothing(client: Client) -> None:
     client.send("tick 5")
     for line in ("tick 0", "tick 1000000000", "tick 5 5", "tick 1.5"):

@@ -75,8 +75,16 @@ def test_foretells_limits_of_queries(client: Client) -> None:
         *(f"ask 1 RETRIEVE o FROM a o WHERE 1000000 * TIME {more} < 1" for more in ("+ 0.001", "- 0", "- 1")),
         "class e 1001 point", "insert b q",
         *(f"nearest {n} 1 {words}" for n in (1_000_000, 1_000_001) for words in ("p a", "p b", "p e", "q a", "z a", "p z")),
+        "class f 100 point", "class g 101 point",
+        *(
+            f"{command} 1 {span} RETRIEVE o FROM f o,{other} n WHERE {formula}"
+            for command, span in (("must", 10_000), ("may", 10_001))
+            for other in ("f", "g", "z")
+            for formula in ("TRUE", "NOT TRUE", "WITHIN_SPHERE(1,o)", "1000 * o.x < 1", "NOT 1000 * o.x < 1", "o.z < 1")
+        ),
         "tick 999999990", *(f"ask {n} RETRIEVE o FROM a o WHERE TRUE" for n in (10, 11)),
         *(f"nearest {n} 1 p a" for n in (10, 11)),
+        *(f"must 0 {n} RETRIEVE o FROM f o WHERE TRUE" for n in (10, 11)),
         "tick 11", "tick 10", "tick 1",
     ]
     schema = Schema()

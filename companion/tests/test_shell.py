@@ -302,7 +302,7 @@ FLEET = (
     "class van 20 point (fuel dyn,plate text)", "class depot 5 point", "region yard (0,0) (4,0) (4,4)", "insert van v1",
     "insert van v2", "remove v2", "insert depot north", "watch low 9 RETRIEVE o FROM van o WHERE o.fuel < 3",
 )
-BUILT = ALL_COMMANDS - {"must", "may", "index", "range"}
+BUILT = ALL_COMMANDS - {"index", "range"}
 
 
 @pytest.mark.parametrize(

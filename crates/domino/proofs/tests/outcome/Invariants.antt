@@ -1,5 +1,0 @@
--- The ledger is the new one.
-use Rattle.domino.proofs.tests.outcome.Given as goal
-
-abbrev pub ghosts-with_reads : goal.ghosts-with_reads
-ghosts-with_reads a = record { name = a.reads.name; parts = a.reads.parts }

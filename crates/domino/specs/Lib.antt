@@ -1,8 +1,0 @@
-pub mod Machine
-pub mod Words
-pub mod Summary
-pub mod Whole
-pub mod Ends
-pub mod Theorem
-pub mod Parts
-pub mod Status
