@@ -30,15 +30,27 @@ pub fn put_nearest(
 ) -> Result<(), Refusal> {
     let (to, class) = judged(store, span, to, class)?;
     let now = store.history.clock;
-    let courses = seen_from(store, to, class, (now, now + span));
     let names = &store.classes[class].names;
-    for (place, row) in courses.places.iter().zip(rows(&courses, k, (now, now + span))) {
+    for (place, row) in nearest_rows(store, (to, class), k, (now, now + span)) {
         let Some(first) = row.first() else { continue };
         out.extend_from_slice(if first.0 == now { b"now " } else { b"later " });
-        out.extend_from_slice(names[*place].text());
+        out.extend_from_slice(names[place].text());
         put_spans(out, &row);
     }
     Ok(())
+}
+
+/// The objects of a class by their places in it, but for one, each with the ticks at which it is among the k nearest to
+/// that one. The window begins no earlier than the last write.
+pub fn nearest_rows(
+    store: &Store,
+    (to, class): (u32, usize),
+    k: u32,
+    window: Span,
+) -> impl Iterator<Item = (usize, Vec<Span>)> {
+    let courses = seen_from(store, to, class, window);
+    let rows = rows(&courses, k, window);
+    courses.places.into_iter().zip(rows)
 }
 
 /// The number of the object and that of the class, or the first refusal.
