@@ -14,7 +14,7 @@ from markdown_it import MarkdownIt
 from markdown_it.token import Token
 
 from fleet.tokens import is_silent
-from fleet.words import COMMANDS
+from fleet.words import COMMANDS, LATER_COMMANDS
 
 TOP = Path(__file__).resolve().parents[2]
 INDENT = "    "
@@ -146,7 +146,7 @@ def is_example(code: Code) -> bool:
     """Whether a block has lines to run; the two lines that show a canonical one are another's."""
     first = code.lines[0]
     is_canonical = "Canonical lines" in code.headings
-    return not is_canonical and (first.startswith((SHELL, "#")) or first.split()[0] in COMMANDS)
+    return not is_canonical and (first.startswith((SHELL, "#")) or first.split()[0] in COMMANDS + LATER_COMMANDS)
 
 
 def _file_shown(code: Code) -> dict[str, str]:
