@@ -1,13 +1,19 @@
 //! Tests of asking, by those public calls of its crates that no program makes or whose answers no reply shows: when an
-//! object of a store is present, the runs of a term's values, the answer of rows over all variables, the pieces of a
-//! timeline, the clock of a session.
+//! object of a store is present, the runs of a term's values, the answer of rows over all variables, what is near while
+//! objects come and go, the pieces of a timeline, the clock of a session.
 #![tactic(auto)]
 
 #[cfg(test)]
 mod asked;
+#[cfg(test)]
+mod counted;
+#[cfg(test)]
+mod near;
 #[cfg(test)]
 mod rows;
 #[cfg(test)]
 mod sessions;
 #[cfg(test)]
 mod timelines;
+#[cfg(test)]
+mod written;
