@@ -1,6 +1,7 @@
 """A browser without a window, and what tests do with it."""
 
 import contextlib
+import json
 from collections.abc import Iterator
 from pathlib import Path
 from typing import Any
@@ -14,6 +15,8 @@ from selenium.webdriver.support.wait import WebDriverWait
 
 WAIT = 60.0
 """The most seconds that a test waits for anything."""
+SCRIPT = 600.0
+"""The most seconds that a script takes which goes on after it has returned."""
 TRIES = 5
 """How often a browser is begun that doesn't come."""
 WORDS = ("--headless=new", "--no-sandbox", "--disable-gpu", "--disable-dev-shm-usage", "--window-size=1200,900")
@@ -39,6 +42,16 @@ class Browser:
     def run(self, script: str, *given: object) -> Any:
         """What a script gives."""
         return self.driver.execute_script(script, *given)
+
+    def run_on(self, script: str, *given: object) -> Any:
+        """What a script gives in the end: to the function that it is given last."""
+        self.driver.set_script_timeout(SCRIPT)
+        return self.driver.execute_async_script(script, *given)
+
+    def traces(self) -> list[dict[str, Any]]:
+        """What the browser has traced since this was last asked, where it is traced."""
+        messages = [json.loads(entry["message"])["message"] for entry in self.driver.get_log("performance")]
+        return [message["params"] for message in messages if message["method"] == "Tracing.dataCollected"]
 
     def wait(self, script: str) -> None:
         """Waits until a script gives what is true."""
@@ -67,12 +80,17 @@ def _begun(options: webdriver.ChromeOptions) -> webdriver.Chrome:
 
 
 @contextlib.contextmanager
-def browsing(folder: Path) -> Iterator[Browser]:
-    """A browser with its profile in a folder, which is ended with the block."""
+def browsing(folder: Path, traced: str = "") -> Iterator[Browser]:
+    """A browser with its profile in a folder, which is ended with the block; `traced` names kinds of events that it traces."""
     options = webdriver.ChromeOptions()
     for word in (*WORDS, f"--user-data-dir={folder}", "--host-resolver-rules=MAP * ~NOTFOUND, EXCLUDE 127.0.0.1"):
         options.add_argument(word)
-    options.set_capability("goog:loggingPrefs", {"browser": "ALL"})
+    logged = {"browser": "ALL"}
+    if traced:
+        logged["performance"] = "ALL"
+        wanted = {"enableNetwork": False, "enablePage": False, "traceCategories": traced}
+        options.add_experimental_option("perfLoggingPrefs", wanted)
+    options.set_capability("goog:loggingPrefs", logged)
     driver = _begun(options)
     try:
         yield Browser(driver)

@@ -21,7 +21,7 @@
 // where `from` and `to` are the ticks at its ends, `at` a tick that is looked at (or null), and `more` how many rows of the
 // group aren't among them.
 
-import { dotStamp, emptySheet, pictureStamp, pixelOf } from "./sheet.js";
+import { dotStamp, pictureStamp, pixelOf, sheetOf } from "./sheet.js";
 
 export const LIGHT = {
   ground: "#fcfcfa", grid: "#e8eae6", axis: "#c9cec8", text: "#55616a", ink: "#1c2830", region: "rgba(20, 110, 120, 0.08)",
@@ -117,9 +117,9 @@ export function drawMap(canvas, scene, view, theme, after = 0) {
   drawGrid(map);
   for (const region of scene.regions) drawRegion(map, region);
   if (count > MANY) {
-    drawOnSheet(map, (sheet) => putDots(map, sheet, scene));
+    drawOnSheet(map, scene, putSteps, putDots);
   } else if (count > FEW) {
-    drawOnSheet(map, (sheet) => putSmallSymbols(map, sheet, scene));
+    drawOnSheet(map, scene, putWays, putSmallSymbols);
   } else {
     scene.classes.forEach((one, number) => drawWays(map, one, colourOf(theme, number), scene.reach));
     drawSymbols(map, scene);
@@ -359,26 +359,35 @@ function drawSymbols(map, scene) {
   });
 }
 
-function drawOnSheet(map, put) {
-  const { context, width, height } = map;
+// What doesn't move between two ticks is put on the sheet once for all frames between them.
+function drawOnSheet(map, scene, putStill, putMoving) {
+  const { context, theme, view, width, height } = map;
   const { width: across, height: down } = context.canvas;
-  const sheet = emptySheet(across, down, across / width);
-  put(sheet);
+  const sheet = sheetOf(across, down, across / width);
+  sheet.begin([scene, theme, view.x, view.y, view.scale], () => putStill(map, sheet, scene));
+  putMoving(map, sheet, scene);
   sheet.show(context, width, height);
+}
+
+// trails up to the last tick, and ways from the next one on
+function putWays(map, sheet, { classes }) {
+  for (const { trail } of classes) putLines(map, sheet, trail ?? [], pixelOf(map.theme.thin));
+  classes.forEach(({ ways }, number) => putLines(map, sheet, ways ?? [], pixelOf(colourOf(map.theme, number))));
 }
 
 function putSmallSymbols(map, sheet, { classes, reach }) {
   const { theme, after } = map;
-  classes.forEach((one, number) => putWays(map, sheet, one, colourOf(theme, number), reach));
+  classes.forEach((one, number) => putWayNow(map, sheet, one, colourOf(theme, number), reach));
   classes.forEach((one, number) => putStamps(map, sheet, one, after, stampOf(symbolOf(number, theme, SMALL_SYMBOL))));
   for (const one of classes) if (one.isMarked) putStamps(map, sheet, one, after, stampOf(ringOf(theme)), one.isMarked);
 }
 
-function putWays(map, sheet, one, colour, reach) {
+// where the objects come from since the last tick, and where they go up to the next one
+function putWayNow(map, sheet, one, colour, reach) {
   const now = nowOf(map, one);
-  const ways = one.ways ?? [nowOf({ after: reach }, one)];
-  putLines(map, sheet, [...(one.trail ?? []), now], pixelOf(map.theme.thin));
-  putLines(map, sheet, [now, ...ways], pixelOf(colour));
+  const next = one.ways?.[0] ?? nowOf({ after: reach }, one);
+  putLines(map, sheet, [...(one.trail ?? []).slice(-1), now], pixelOf(map.theme.thin));
+  putLines(map, sheet, [now, next], pixelOf(colour));
 }
 
 // lines through the places that objects have in columns, with gaps where there is none
@@ -409,10 +418,14 @@ const DOTS = [
 
 const DOTTED_RING = Array.from({ length: 16 }, (_, at) => [Math.cos, Math.sin].map((of) => Math.round(3.4 * of((at * Math.PI) / 8))));
 
+// a point for each place of the trails
+function putSteps(map, sheet, { classes }) {
+  const step = dotStamp([[0, 0]], pixelOf(map.theme.text, 0x50));
+  for (const one of classes) for (const place of one.trail ?? []) putStamps(map, sheet, { ...one, ...place }, 0, step);
+}
+
 function putDots(map, sheet, { classes }) {
   const { theme, after } = map;
-  const step = dotStamp([[0, 0]], pixelOf(theme.text, 0x50));
-  for (const one of classes) for (const place of one.trail ?? []) putStamps(map, sheet, { ...one, ...place }, 0, step);
   classes.forEach((one, number) => {
     putStamps(map, sheet, one, after, dotStamp(DOTS[number % DOTS.length], pixelOf(colourOf(theme, number))));
   });
@@ -611,16 +624,19 @@ function rowOf({ label, spans, number }, frame, top) {
   const told = spans.map(([first, last]) => (first === last ? `${first}` : `${first} to ${last}`)).join(", ");
   const parts = [
     partOf("title", {}, { words: `${label} : ${told}` }),
-    textOf(20, top + ROW / 2, cut(label), theme.ink, isNow ? { "font-weight": 600 } : {}),
-    ...spans.flatMap((span) => barsOf(span, frame, top)),
+    textOf(20, ROW / 2, cut(label), theme.ink, isNow ? { "font-weight": 600 } : {}),
+    ...spans.flatMap((span) => barsOf(span, frame)),
   ];
-  if (isNow) parts.push(partOf("circle", { cx: 11, cy: top + ROW / 2, r: 3.5, fill: theme.mark }));
-  const attributes = { role: "listitem", "aria-label": `${label}: ${told}${isNow ? ", now" : ""}` };
+  if (isNow) parts.push(partOf("circle", { cx: 11, cy: ROW / 2, r: 3.5, fill: theme.mark }));
+  // a row that comes to another place is moved as a whole, so that a browser lays out nothing of it anew
+  const attributes = {
+    role: "listitem", "aria-label": `${label}: ${told}${isNow ? ", now" : ""}`, transform: `translate(0 ${top})`,
+  };
   return partOf("g", attributes, { parts, key: `${number} ${label}` });
 }
 
 // a run of ticks goes from half a tick before its first to half a tick after its last one; what is past is paler and lower
-function barsOf([first, last], { timeline, theme, width, left }, top) {
+function barsOf([first, last], { timeline, theme, width, left }) {
   const { clock } = timeline;
   const [from, to] = [first - 0.5, last + 0.5];
   const bars = [];
@@ -629,6 +645,6 @@ function barsOf([first, last], { timeline, theme, width, left }, top) {
   const within = (tick) => Math.min(Math.max(left(tick), LABELS), width - RIGHT);
   return bars.filter((bar) => bar[1] >= timeline.from && bar[0] <= timeline.to).map(([begin, end, tall, fill]) => {
     const wide = Math.max(within(end) - within(begin), 2);
-    return partOf("rect", { x: within(begin), y: top + (ROW - tall) / 2, width: wide, height: tall, rx: 2, fill });
+    return partOf("rect", { x: within(begin), y: (ROW - tall) / 2, width: wide, height: tall, rx: 2, fill });
   });
 }

@@ -19,8 +19,10 @@ export class Player {
   // the clock of the session when it was last looked at
   #present;
   #playing = null;
-  // when what stands beside the map may be drawn again
+  // when what stands beside the map may be drawn again, the tick that it shows, and whether the last frame had a new tick
   #beside = 0;
+  #besideTick = null;
+  #wasNew = false;
   #back;
   // when the work for the last frame began, how long it took for each of some, and what comes when the browser has drawn
   #begun = 0;
@@ -119,6 +121,7 @@ export class Player {
     byId("map").setAttribute("aria-label", `Map at tick ${this.#tick}`);
     if (byId("table").open) this.#fillTable();
     const now = performance.now();
+    this.#besideTick = this.#tick;
     this.#beside = now + BESIDE_PART * (now - begun);
   }
 
@@ -161,11 +164,12 @@ export class Player {
     }
     const tick = Math.floor(position);
     this.#after = this.#still.matches ? 0 : position - tick;
-    if (tick !== this.#tick) {
-      this.#tick = tick;
-      this.#show();
-      if (now > this.#beside) this.#showBeside();
-    }
+    const isNew = tick !== this.#tick;
+    this.#tick = tick;
+    if (isNew) this.#show();
+    // a new tick and what stands beside the map are much for one frame: there is most times one between two ticks
+    if ((!isNew || this.#wasNew) && this.#besideTick !== tick && now > this.#beside) this.#showBeside();
+    this.#wasNew = isNew;
     // a message that is sent now comes after the browser has drawn
     this.#drawn.port2.postMessage(this.#begun);
     this.#nextFrame();

@@ -6,10 +6,10 @@ const PARTS = 1 << 16;
 
 let kept = null;
 
-/// An empty sheet with so many pixels, `ratio` to one of the page. There is one, which is emptied each time.
-export function emptySheet(width, height, ratio) {
+/// The sheet with so many pixels, `ratio` to one of the page. There is one, which `begin` clears each time.
+export function sheetOf(width, height, ratio) {
   if (kept?.width !== width || kept.height !== height) kept = new Sheet(width, height);
-  kept.begin(ratio);
+  kept.ratio = ratio;
   return kept;
 }
 
@@ -44,7 +44,9 @@ class Sheet {
   #context;
   #image;
   #pixels;
-  #ratio = 1;
+  // what `begin` put there last, and of what that was
+  #still;
+  #stillOf = [];
 
   constructor(width, height) {
     [this.width, this.height] = [width, height];
@@ -53,17 +55,27 @@ class Sheet {
     this.#context = canvas.getContext("2d", { willReadFrequently: true });
     this.#image = new ImageData(width, height);
     this.#pixels = new Uint32Array(this.#image.data.buffer);
+    this.#still = new Uint32Array(this.#pixels.length);
+    this.ratio = 1;
   }
 
-  begin(ratio) {
-    this.#ratio = ratio;
+  /// Begins anew, with what `put` puts on an empty sheet. That is kept, and isn't put again while `of` has the same values.
+  begin(of, put) {
+    const all = [this.ratio, ...of];
+    if (all.length === this.#stillOf.length && all.every((value, at) => value === this.#stillOf[at])) {
+      this.#pixels.set(this.#still);
+      return;
+    }
     this.#pixels.fill(0);
+    put();
+    this.#still.set(this.#pixels);
+    this.#stillOf = all;
   }
 
   /// What puts a stamp where an object is, if it lies in the sheet whole.
   stamper({ places, colours, reach }) {
     const { width } = this;
-    const [pixels, ratio, right, bottom] = [this.#pixels, this.#ratio, width - 1 - reach, this.height - 1 - reach];
+    const [pixels, ratio, right, bottom] = [this.#pixels, this.ratio, width - 1 - reach, this.height - 1 - reach];
     const parts = Int32Array.from(places, ([across, down]) => down * width + across);
     const its = Uint32Array.from(colours);
     return (x, y) => {
@@ -76,7 +88,7 @@ class Sheet {
 
   /// Puts a line of one pixel of the page between two places, of which one that isn't known has NaN.
   line(fromX, fromY, toX, toY, pixel) {
-    const ratio = this.#ratio;
+    const { ratio } = this;
     const x0 = fromX * ratio, y0 = fromY * ratio, x1 = toX * ratio, y1 = toY * ratio;
     if (Math.abs(x1 - x0) >= Math.abs(y1 - y0)) {
       if (x0 <= x1) this.#goRight(x0, y0, x1, y1, pixel);
@@ -98,7 +110,7 @@ class Sheet {
 
   // how many pixels a line is wide
   get #thick() {
-    return Math.max(Math.round(this.#ratio), 1);
+    return Math.max(Math.round(this.ratio), 1);
   }
 
   /// Puts the sheet on a map that is so large, in pixels of the page.
