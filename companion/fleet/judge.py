@@ -233,19 +233,34 @@ def _tick(tree: Tree, schema: Schema) -> Iterator[Verdict]:
         yield _at(13, part(tree, "ticks"), f"the clock, at {schema.clock:,}, would pass {TICK_LIMIT:,}")
 
 
-def _ask(tree: Tree, schema: Schema) -> Iterator[Verdict]:
-    query, span = part(tree, "query"), part(tree, "span")
-    for where, number, message in QueryKinds(query, schema).faults():
-        yield _at(number, where, message)
-    last = schema.clock + whole_in(tree, "span")
-    if last - schema.clock > span_limit(query):
-        yield _at(12, span, f"the span of such a query is at most {span_limit(query):,}")
-    elif last > TICK_LIMIT:
-        yield _at(12, span, f"the last tick, {last:,}, would pass {TICK_LIMIT:,}")
+def _span(tree: Tree, schema: Schema, most: int, what: str) -> Iterator[Verdict]:
+    """Judges the span of a command; `what` says what the limit is of."""
+    span, ticks = part(tree, "span"), whole_in(tree, "span")
+    if ticks > most:
+        yield _at(12, span, f"the span of such a {what} is at most {most:,}")
+    elif schema.clock + ticks > TICK_LIMIT:
+        yield _at(12, span, f"the last tick, {schema.clock + ticks:,}, would pass {TICK_LIMIT:,}")
+
+
+def _capacities(tree: Tree, schema: Schema, most: int) -> Iterator[Verdict]:
+    """Judges the product of the capacities of a query's classes."""
+    query = part(tree, "query")
     product = query_product(query, schema)
-    if product > PRODUCT_LIMIT:
-        message = f"the capacities of its classes multiply to {product:,}, and at most {PRODUCT_LIMIT:,} is allowed"
+    if product > most:
+        message = f"the capacities of its classes multiply to {product:,}, and at most {most:,} is allowed"
         yield _at(17, part(query, "from"), message)
+
+
+def _kinds(tree: Tree, schema: Schema) -> Iterator[Verdict]:
+    """Judges what a query names and compares."""
+    for where, number, message in QueryKinds(part(tree, "query"), schema).faults():
+        yield _at(number, where, message)
+
+
+def _ask(tree: Tree, schema: Schema) -> Iterator[Verdict]:
+    yield from _kinds(tree, schema)
+    yield from _span(tree, schema, span_limit(part(tree, "query")), "query")
+    yield from _capacities(tree, schema, PRODUCT_LIMIT)
 
 
 def _register(tree: Tree, schema: Schema) -> Iterator[Verdict]:
@@ -262,39 +277,26 @@ def _register(tree: Tree, schema: Schema) -> Iterator[Verdict]:
 
 
 def _nearest(tree: Tree, schema: Schema) -> Iterator[Verdict]:
-    span, name, class_name = part(tree, "span"), part(tree, "object_name"), part(tree, "class_name")
+    name, class_name = part(tree, "object_name"), part(tree, "class_name")
     known = schema.objects.get(name_in(tree, "object_name"))
     if known and not schema.classes[known.class_name].is_point:
         yield _at(9, name, f"{known.class_name}, the class of {leaf(name)}, isn't a point class", is_of_objects=True)
     among = schema.classes[name_in(tree, "class_name")]
     if not among.is_point:
         yield _at(9, class_name, f"{leaf(class_name)} isn't a point class")
-    last = schema.clock + whole_in(tree, "span")
-    if last - schema.clock > NEAREST_SPAN_LIMIT:
-        yield _at(12, span, f"the span of such a command is at most {NEAREST_SPAN_LIMIT:,}")
-    elif last > TICK_LIMIT:
-        yield _at(12, span, f"the last tick, {last:,}, would pass {TICK_LIMIT:,}")
+    yield from _span(tree, schema, NEAREST_SPAN_LIMIT, "command")
     if among.capacity**2 > PRODUCT_LIMIT:
         message = f"the capacity of {leaf(class_name)} times itself is {among.capacity**2:,}, and at most"
         yield _at(17, class_name, f"{message} {PRODUCT_LIMIT:,} is allowed")
 
 
 def _blurred(tree: Tree, schema: Schema) -> Iterator[Verdict]:
-    query, span = part(tree, "query"), part(tree, "span")
-    for where, number, message in QueryKinds(query, schema).faults():
-        yield _at(number, where, message)
+    yield from _kinds(tree, schema)
     for rule, word in (("not", "NOT"), ("within_sphere", "WITHIN_SPHERE")):
-        for where in query.find_data(rule):
+        for where in part(tree, "query").find_data(rule):
             yield _at(9, where, f"{word} has no answer where positions may be off")
-    last = schema.clock + whole_in(tree, "span")
-    if last - schema.clock > BLURRED_SPAN_LIMIT:
-        yield _at(12, span, f"the span of such a command is at most {BLURRED_SPAN_LIMIT:,}")
-    elif last > TICK_LIMIT:
-        yield _at(12, span, f"the last tick, {last:,}, would pass {TICK_LIMIT:,}")
-    product = query_product(query, schema)
-    if product > BLURRED_PRODUCT_LIMIT:
-        message = f"the capacities of its classes multiply to {product:,}, and at most"
-        yield _at(17, part(query, "from"), f"{message} {BLURRED_PRODUCT_LIMIT:,} is allowed")
+    yield from _span(tree, schema, BLURRED_SPAN_LIMIT, "command")
+    yield from _capacities(tree, schema, BLURRED_PRODUCT_LIMIT)
 
 
 def query_product(query: Tree, schema: Schema) -> int:
