@@ -1,6 +1,6 @@
 -- What refuses a `nearest` and what answers it, by the numbers of its object and its class.
-use Rattle.std.proofs.Common.{◌≡◌, ℕ, ◌+◌, Bool, true, false, not, ◌&&◌, ◌||◌, is_none, Option, None, Some, List, [], ◌∷◌, map, refl, sym, ap, ◌∙◌}
-use Rattle.std.specs.Prelude.{nat_lt, option_and_then, option_map, slice_get}
+use Rattle.std.proofs.Common.{◌≡◌, ℕ, ◌+◌, Bool, true, false, ◌||◌, is_none, Option, None, Some, List, [], ◌∷◌, map, refl, sym, ap, ◌∙◌}
+use Rattle.std.specs.Prelude.{option_and_then, option_map, slice_get}
 use Rattle.std.specs.List.{position}
 use Rattle.std.specs.Option.{option_map_or}
 use Rattle.std.specs.Str.{bytes_eq}
@@ -9,13 +9,12 @@ use Rattle.exact.specs.First.{first_that_holds}
 use Rattle.history.specs.Catalog.{ClassInfo, ObjectInfo, class_of, number_of_class, object_of}
 use Rattle.history.specs.World.{World}
 use Rattle.nearness.specs.Nearest.{near}
-use Rattle.kept_rows.specs.declared.binding.TheConstants.{BINDING_LIMIT}
 use Rattle.object_store.specs.Contents.{Contents, StoredObject, catalog_of, is_named, object_info}
 use Rattle.object_store.specs.Faults.{class_of_object}
 use Rattle.object_store.proofs.Lists.{find_is, position-map}
 use Rattle.command_text.specs.declared.refusal.Refusal.{Refusal}
 use Rattle.command_text.specs.declared.refusal.Refusal.TheVariants as refusals
-use Rattle.line_meaning.specs.Near.{has_places, is_near_crowded, is_near_past, is_near_placeless, is_near_unknown, near_refusal, number_of_object, pairs_in, rows_near}
+use Rattle.line_meaning.specs.Near.{is_near_crowded, is_near_past, is_near_placeless, is_near_unknown, near_refusal, number_of_object, rows_near}
 use Rattle.database.specs.Near.{refusal_of_found}
 
 pub none_of : (o : Option Refusal) → ((r : Refusal) → o ≡ Some r → ⊥) → o ≡ None

@@ -1,5 +1,5 @@
 -- What refuses a `nearest` whose object and class are there.
-use Rattle.std.specs.Prelude.{ℕ, ◌&&◌, not, nat_lt, Option, List, [], ◌∷◌}
+use Rattle.std.specs.Prelude.{ℕ, ◌&&◌, not, nat_lt, Option, [], ◌∷◌}
 use Rattle.exact.specs.First.{first_that_holds}
 use Rattle.history.specs.Catalog.{ClassInfo}
 use Rattle.kept_rows.specs.declared.binding.TheConstants.{BINDING_LIMIT}

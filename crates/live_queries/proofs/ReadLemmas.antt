@@ -1,17 +1,15 @@
 -- How many looks at timelines the parts of a query take in which one variable is one object alone.
-use Rattle.std.proofs.Common.{◌≡◌, ℕ, ◌+◌, ◌-◌, ◌*◌, ◌<◌, ◌≤◌, Bool, true, false, ◌||◌, List, [], ◌∷◌, length, refl, sym, ap, ◌∙◌, subst, inl, inr, arith, add-le-add, if◌then◌else◌}
+use Rattle.std.proofs.Common.{◌≡◌, ℕ, ◌+◌, ◌-◌, ◌<◌, ◌≤◌, Bool, true, false, ◌||◌, List, [], ◌∷◌, length, refl, sym, ap, ◌∙◌, subst, inl, inr, arith, if◌then◌else◌}
 use Rattle.std.specs.Prelude.{◌==◌, slice_index, sum_by}
-use Rattle.std.specs.List.{flat_map, list_any, range_with_len}
-use Rattle.std.proofs.Math.Nat.{mul-le-mul, mul-le-mul_right}
+use Rattle.std.specs.List.{flat_map, range_with_len}
 use Rattle.std.proofs.lemmas.Bool.{cases_lt}
 use Rattle.std.proofs.lemmas.List.{get_or-map, length-map}
 use Rattle.std.proofs.lemmas.List.FromFn.{get_or-range_with_len, length-range_with_len}
 use Rattle.std.proofs.lemmas.List.Sums.{sum_by-append, sum_by-cons, sum_by-le-sum_by}
 use Rattle.tick_set.specs.Ticks.{between}
 use Rattle.history.specs.Catalog.{Catalog, ids_of as ids_of_class}
-use Rattle.formula_shape.specs.Shape as shapes
-use Rattle.formula.specs.Tree.{ResolvedQuery, ResolvedTree}
-use Rattle.meaning.specs.Reads.{atom_variables, change_reads, choices, made_single, query_reads, reads, sizes_of, term_variables}
+use Rattle.formula.specs.Tree.{ResolvedQuery}
+use Rattle.meaning.specs.Reads.{change_reads, made_single, query_reads, sizes_of}
 use Rattle.relation.specs.Frames.{size_of}
 use Rattle.relation.specs.Key.{ids_of}
 use Rattle.answers.proofs.ObjectLemmas.{no_domain}

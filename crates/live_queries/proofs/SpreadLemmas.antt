@@ -4,7 +4,7 @@ use Rattle.std.specs.Prelude.{All, None, nat_le}
 use Rattle.std.proofs.lemmas.List.Elements.{All-append, All-cons, All-head, All-nil, All-tail}
 use Rattle.std.proofs.lemmas.List.{length-drop}
 use Rattle.tick_set.specs.Runs.{runs_of}
-use Rattle.tick_set.specs.Ticks.{listed, within}
+use Rattle.tick_set.specs.Ticks.{within}
 use Rattle.kept_rows.specs.Listing.{lines_upto}
 use Rattle.kept_rows.specs.Moves.{difference, if_moved, move_between, move_of}
 use Rattle.meaning.specs.Registered.{first_tick}
@@ -15,7 +15,7 @@ use Rattle.live_queries.specs.Current.{row_at}
 use Rattle.live_queries.specs.Kept.{IsKept, KeptQuery}
 use Rattle.live_queries.specs.Prepared.{AreColumnsWith, AreMade, ArePrepared, IsMade, IsReadyFor}
 use Rattle.live_queries.specs.Told.{changes_of, move, moves_of, target_count, target_times}
-use Rattle.live_queries.specs.Untouched.{or_untouched, spread, untouched, untouched_before}
+use Rattle.live_queries.specs.Untouched.{spread, untouched, untouched_before}
 use Rattle.live_queries.proofs.AnswerLemmas.{none_listed}
 use Rattle.live_queries.proofs.ListLemmas.{lines_none}
 

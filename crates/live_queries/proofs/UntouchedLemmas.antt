@@ -16,7 +16,7 @@ use Rattle.relation.specs.Key.{has_id}
 use Rattle.atoms.specs.Asked.{world_in}
 use Rattle.live_queries.specs.declared.fresh.Renewal.{Renewal}
 use Rattle.live_queries.specs.Asked.{IsBefore, class_in}
-use Rattle.live_queries.specs.Columns.{Column, HaveObjectsOf, gives, object_of, order_of, variables_of}
+use Rattle.live_queries.specs.Columns.{Column, HaveObjectsOf, gives, order_of, variables_of}
 use Rattle.live_queries.specs.Kept.{IsKept, KeptQuery}
 use Rattle.live_queries.specs.Prepared.{AreColumnsWith, IsFreshFor, IsReadyFor, is_of_class}
 use Rattle.live_queries.specs.Renewed.{is_judged}

@@ -1,5 +1,5 @@
 -- What a world and a store must be for queries to be judged in them.
-use Rattle.std.specs.Prelude.{◌≡◌, ℕ, ◌-◌, List, All, length, slice_get, take}
+use Rattle.std.specs.Prelude.{◌≡◌, ℕ, List, All, length, slice_get, take}
 use Rattle.std.specs.Option.{option_map_or}
 use Rattle.history.specs.Catalog.{Catalog}
 use Rattle.history.specs.World.{World}

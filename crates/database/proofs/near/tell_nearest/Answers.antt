@@ -1,9 +1,8 @@
-use Rattle.std.proofs.Common.{◌≡◌, ◌+◌, ◌++◌, None, length, sym, ap, ◌∙◌, refl}
+use Rattle.std.proofs.Common.{◌+◌, ◌++◌, length, sym, ap, ◌∙◌, refl}
 use Rattle.std.specs.List.{list_all}
 use Rattle.std.proofs.lemmas.Result.{err_from_is_err_and}
 use Rattle.object_store.specs.Contents.{catalog_of, history_of}
 use Rattle.nearest.specs.Rows.{told_near}
-use Rattle.line_meaning.specs.Near.{near_refusal}
 use Rattle.line_meaning.specs.Reply.{rows_text}
 use Rattle.database.specs.Keeping.{world_of_database}
 use Rattle.database.specs.Rows.{has_objects}
