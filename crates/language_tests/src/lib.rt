@@ -1,5 +1,5 @@
 //! Tests of the language, by the public calls of its crates, of what no reply of the program shows: tokens, the texts of
-//! queries and of commands, the lines of sessions, and those of workloads.
+//! queries and of commands, the lines of sessions, those of workloads, and feeds that a replica follows.
 #![tactic(auto)]
 
 #[cfg(test)]
@@ -8,6 +8,8 @@ mod commands;
 mod lexing;
 #[cfg(test)]
 mod printing;
+#[cfg(test)]
+mod replicas;
 #[cfg(test)]
 mod session_texts;
 #[cfg(test)]

@@ -1,0 +1,50 @@
+-- The rows of an answer: targets in the order of their bytes, each with its ticks.
+use Rattle.std.specs.Prelude.{ℕ, max, nat_le, unwrap_or, List, [], ◌∷◌, ◌++◌, codes, decimal, if◌then◌else◌}
+use Rattle.std.specs.BTreeMap.{insert_entry, is_at}
+use Rattle.std.specs.Cmp.Lexicographic.{slice_cmp}
+use Rattle.std.specs.List.{flat_map, list_any}
+use Rattle.std.specs.List.Sorted.{IsStrictlySortedBy}
+use Rattle.std.specs.Map.{keys_of, lookup}
+use Rattle.std.specs.Ordering.{nat_cmp}
+use Rattle.std.specs.declared.cmp.Ordering.{Ordering}
+use Rattle.tick_set.specs.declared.operation.SetOperation.{SetOperation}
+use Rattle.replica.specs.Ticks.{combined}
+
+-- a target and its ticks
+abbrev pub Row : Type 0
+Row = List ℕ × List (ℕ × ℕ)
+
+abbrev pub bytes_cmp : List ℕ → List ℕ → Ordering
+bytes_cmp = slice_cmp nat_cmp
+
+-- the ticks of a target; one that has no row has none
+abbrev pub ticks_at : List ℕ → List Row → List (ℕ × ℕ)
+ticks_at target rows = unwrap_or (lookup (is_at (bytes_cmp target)) rows) []
+
+-- the ticks told of a target are added to its row or taken from it
+abbrev pub changed : SetOperation → Row → List Row → List Row
+changed operation told rows = insert_entry bytes_cmp rows told.0 (combined operation (ticks_at told.0 rows) told.1)
+
+-- the targets ascend by their bytes
+abbrev pub AreInOrder : List Row → Type 0
+AreInOrder rows = IsStrictlySortedBy bytes_cmp (keys_of rows)
+
+-- ---- As text, with the ticks from one on alone
+
+abbrev pub line_feed : List ℕ
+line_feed = 10 ∷ []
+
+-- ` lo..hi`, with the space before it
+abbrev pub run_text : ℕ × ℕ → List ℕ
+run_text run = codes " " ++ decimal run.0 ++ codes ".." ++ decimal run.1
+
+abbrev pub span_text : ℕ → ℕ × ℕ → List ℕ
+span_text first span = if nat_le first span.1 then run_text (max first span.0, span.1) else []
+
+-- `a b : 4..10`; a row without ticks isn't written
+abbrev pub row_text : ℕ → Row → List ℕ
+row_text first row =
+    if list_any (λ s. nat_le first s.1) row.1 then row.0 ++ codes " :" ++ flat_map (span_text first) row.1 ++ line_feed else []
+
+abbrev pub rows_text : ℕ → List Row → List ℕ
+rows_text first rows = flat_map (row_text first) rows
