@@ -1,0 +1,4 @@
+pub mod StripLemmas
+pub mod BoxLemmas
+pub mod RowLemmas
+pub mod QueryLemmas

@@ -1,0 +1,4 @@
+pub mod Recorded
+pub mod Boxes
+pub mod Rows
+pub mod Example
