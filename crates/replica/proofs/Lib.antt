@@ -2,6 +2,8 @@ pub mod DigitLemmas
 pub mod FeedLemmas
 pub mod HaveLemmas
 pub mod OrderLemmas
+pub mod PrintedLemmas
+pub mod PrintedLines
 pub mod RowLemmas
 pub mod SpanLemmas
 pub mod TickLemmas

@@ -19,7 +19,7 @@ as_map : (lo hi : ℕ) (o : Option (List (ℕ × ℕ))) → (o >>= (λ spans. So
 as_map lo hi None = refl
 as_map lo hi (Some spans) = refl
 
-next_span : (least lo hi : ℕ) (word : List ℕ) (later : List (List ℕ)) → span_of word ≡ Some (lo, hi) → nat_le least lo ≡ true
+pub next_span : (least lo hi : ℕ) (word : List ℕ) (later : List (List ℕ)) → span_of word ≡ Some (lo, hi) → nat_le least lo ≡ true
     → spans_from least (word ∷ later) ≡ option_map (λ spans. (lo, hi) ∷ spans) (spans_from (hi + 2) later)
 next_span least lo hi word later h fits = rw (h, fits) (as_map lo hi (spans_from (hi + 2) later))
 

@@ -3,6 +3,7 @@ pub mod Example
 pub mod Feed
 pub mod Line
 pub mod Messages
+pub mod Printed
 pub mod Rows
 pub mod Text
 pub mod Ticks

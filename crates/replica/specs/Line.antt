@@ -74,3 +74,9 @@ line_of name line =
     if bytes_eq verb (codes "clock") then option_map_or Passes (option_and_then tick_of rest) Broken
     else if is_time_word verb then option_map_or Answers (option_and_then row_of rest) Nothing
     else option_map_or (named name verb) rest Nothing
+
+-- the first words of the lines that may say something of a query
+abbrev pub is_feed_word : List ℕ → Bool
+is_feed_word word =
+    bytes_eq word (codes "clock") || (is_time_word word || (bytes_eq word (codes "start") || (bytes_eq word (codes "gain")
+    || (bytes_eq word (codes "lose") || bytes_eq word (codes "stop")))))

@@ -1,5 +1,5 @@
 //! Laws of a copy, as calls without a body.
-ghost use Rattle.std.specs.Prelude.{◌≡◌, ◌≢◌, ℕ, List};
+ghost use Rattle.std.specs.Prelude.{◌≡◌, ◌≢◌, ℕ, true, List};
 ghost use Rattle.std.specs.List.{position_from};
 ghost use Rattle.tick_set.specs.SetOperation.{kept};
 ghost use Rattle.tick_set.specs.declared.operation.SetOperation.{SetOperation};
@@ -7,6 +7,8 @@ ghost use Rattle.replica.specs.Copied.{HasRowsInOrder};
 ghost use Rattle.replica.specs.Feed.{after, is_broken, silent};
 ghost use Rattle.replica.specs.Line.{line_of};
 ghost use Rattle.replica.specs.Rows.{Row, changed, ticks_at};
+ghost use Rattle.replica.specs.Printed.{ReadsWhatIsPrinted};
+ghost use Rattle.replica.specs.Text.{is_name};
 ghost use Rattle.replica.specs.Ticks.{combined, have};
 
 /// At each tick a change keeps what its operation keeps there, and nothing else.
@@ -32,4 +34,9 @@ pub fn rows_stand_in_the_order_of_bytes()
 pub fn a_feed_is_bad_by_its_first_bad_line()
     ensures { (name : List ℕ) (lines : List (List ℕ)) → (after (silent name) lines).bad
         ≡ position_from (λ line. is_broken (line_of name line)) 1 lines }
+{}
+
+/// Lines are read as what they were printed of, for a query whose name may be one.
+pub fn what_is_printed_is_read()
+    ensures { (name : List ℕ) → is_name name ≡ true → ReadsWhatIsPrinted name }
 {}

@@ -72,7 +72,7 @@ impl Replica {
         self.bad.is_some()
     }
 
-    /// Writes the rows, or which line hasn't its form.
+    /// Writes the rows, or which line hasn't its form. After an error `out` may hold a part of that.
     pub fn push_said(&self, out: &mut Vec<u8>) -> Result<(), AllocError>
         ensures { OnOk result (out.new.items ≡ out.old.items ++ said self.now) }
     {
