@@ -44,7 +44,7 @@ class Browser:
         return self.driver.execute_script(script, *given)
 
     def run_on(self, script: str, *given: object) -> Any:
-        """What a script gives in the end: to the function that it is given last."""
+        """What a script gives, sooner or later, to the function that it is given last."""
         self.driver.set_script_timeout(SCRIPT)
         return self.driver.execute_async_script(script, *given)
 

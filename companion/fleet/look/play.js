@@ -167,7 +167,7 @@ export class Player {
     const isNew = tick !== this.#tick;
     this.#tick = tick;
     if (isNew) this.#show();
-    // a new tick and what stands beside the map are much for one frame: there is most times one between two ticks
+    // A new tick and what stands beside the map are much for one frame, and between two ticks there is most times another.
     if ((!isNew || this.#wasNew) && this.#besideTick !== tick && now > this.#beside) this.#showBeside();
     this.#wasNew = isNew;
     // a message that is sent now comes after the browser has drawn
