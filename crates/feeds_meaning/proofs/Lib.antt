@@ -1,0 +1,2 @@
+pub mod SenderLemmas
+pub mod HeardLemmas

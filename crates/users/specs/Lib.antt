@@ -1,0 +1,3 @@
+pub mod Sender
+pub mod Tagged
+pub mod Example
