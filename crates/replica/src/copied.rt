@@ -3,7 +3,6 @@ ghost use Rattle.std.specs.Prelude.{◌≡◌, ◌++◌, option_map, OnOk, OnErr
 ghost use Rattle.replica.specs.Copied.{at_clock, begun, copy_after, copy_text, first_tick, starting_after, with_change};
 ghost use Rattle.replica.specs.Feed.{is_broken};
 ghost use Rattle.replica.specs.Messages.{row_view, told_view};
-ghost use Rattle.replica.specs.Rows.{changed};
 
 use crate::line::Message;
 use crate::rows::{Rows, ToldRow};

@@ -1,7 +1,6 @@
 //! What a line says of the query that is followed.
-ghost use Rattle.std.specs.Prelude.{◌≡◌, ◌≤◌, ◌||◌, option_and_then, option_map, is_none, if◌then◌else◌, IfOk, IfSome};
+ghost use Rattle.std.specs.Prelude.{◌≡◌, ◌||◌, option_and_then, option_map, is_none, if◌then◌else◌, IfOk};
 ghost use Rattle.std.specs.Option.{option_map_or};
-ghost use Rattle.tick_set.specs.declared.spans.TheConstants.{LAST_TICK};
 ghost use Rattle.replica.specs.Line.{is_time_word, kind_of, line_of, named, row_of, row_parts, start_of, told_of};
 ghost use Rattle.replica.specs.Line as told;
 ghost use Rattle.replica.specs.Text.{tick_of};

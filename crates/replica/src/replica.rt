@@ -1,5 +1,5 @@
 //! The replica of one query's answer.
-ghost use Rattle.std.specs.Prelude.{◌≡◌, ◌++◌, ◌+◌, ℕ, decimal, codes, Some, is_some, if◌then◌else◌, OnOk, OnErr, IfOk};
+ghost use Rattle.std.specs.Prelude.{◌≡◌, ◌++◌, ◌+◌, decimal, codes, Some, is_some, OnOk, OnErr, IfOk};
 ghost use Rattle.replica.specs.Feed.{next, said, silent};
 ghost use Rattle.replica.specs.Rows.{line_feed};
 

@@ -1,11 +1,9 @@
 //! Ticks, spans, names and targets in a line.
-ghost use Rattle.std.specs.Prelude.{◌≡◌, ◌+◌, ◌-◌, ◌*◌, ◌<◌, ◌≤◌, ◌==◌, ◌&&◌, option_map, position, take, length, IfSome, IfOk, Some, true, is_none, nat_le};
+ghost use Rattle.std.specs.Prelude.{◌≡◌, ◌+◌, ◌-◌, ◌*◌, ◌<◌, ◌≤◌, ◌==◌, ◌&&◌, option_map, position, length, IfSome, IfOk, Some, true};
 ghost use Rattle.std.specs.Char.{is_ascii_digit};
 ghost use Rattle.std.specs.List.{list_all, prefix_len};
 ghost use Rattle.std.specs.Str.{bytes_eq};
 ghost use Rattle.std.specs.Str.Parse.{digits_value};
-ghost use Rattle.case_table.specs.Language.{reserved_words};
-ghost use Rattle.case_table.specs.Rows.{code_of};
 ghost use Rattle.fixed_point.specs.Decimal.{AreDigits, digits_at};
 ghost use Rattle.fixed_point.specs.declared.reading.TheConstants.{WHOLE_DIGITS_LIMIT};
 ghost use Rattle.ftl_lexer.specs.Cut.{is_word};
