@@ -1,6 +1,7 @@
 mod PlaceLemmas
 mod SweepLemmas
 mod SquareLemmas
+mod LowLemmas
 mod OrderLemmas
 mod PartLemmas
 mod ThinLemmas

@@ -63,7 +63,7 @@ below_in_a_tie ties d e same =
 pub at_most_test : (d limit : ℤ) → d ≤ℤ limit → int_le d limit ≡ true
 at_most_test d limit low = grind (arith, ints, nat_tests)
 
-above_test : (d limit : ℤ) → limit <ℤ d → int_le d limit ≡ false
+pub above_test : (d limit : ℤ) → limit <ℤ d → int_le d limit ≡ false
 above_test d limit high = grind (arith, ints, nat_tests)
 
 limit_in_a_tie : (ties : Bool) (d e limit : ℤ) → d ≡ e → limit ≡ (if ties then pos 0 else negsuc 0) → int_le (d -ℤ e) limit ≡ ties
@@ -139,3 +139,22 @@ ends_inside lo hi run inside =
 pub two_sides : (lo hi from until t : ℕ) → lo ≤ from → from ≤ until → until ≤ hi →
     one_if (nat_le lo t && nat_lt t from) + one_if (nat_le (until + 1) t && nat_lt t (hi + 1)) ≡ one_if (within lo hi t && not (within from until t || false))
 two_sides lo hi from until t begins order ends = grind (arith, nat_tests)
+
+-- what stays below is before throughout, by bounds of both
+pub below_by_bounds : (ties : Bool) (d e most least : ℤ) → d ≤ℤ most → least ≤ℤ e → most <ℤ least → is_below ties d e ≡ true
+below_by_bounds ties d e most least up from apart = below_where_less ties d e (omega (arith, ints, up, from, apart))
+
+-- and in a tie, where ties are asked for
+pub below_by_tied_bounds : (d e most least : ℤ) → d ≤ℤ most → least ≤ℤ e → most ≤ℤ least → is_below true d e ≡ true
+below_by_tied_bounds d e most least up from apart =
+    elim (three_orders d e) [
+      | inl less ↦ below_where_less true d e less
+      | inr others ↦ elim others [
+        | inl same ↦ below_in_a_tie true d e same
+        | inr more ↦ absurd (omega (arith, ints, up, from, apart, more))
+      ]
+    ]
+
+-- the first isn't below the second where the second is below the first, with the ties to the other one
+pub not_below : (ties : Bool) (d e : ℤ) → is_below (not ties) e d ≡ true → is_below ties d e ≡ false
+not_below ties d e is = sym (order_turned ties d e) ∙ ap not is

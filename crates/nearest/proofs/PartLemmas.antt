@@ -1,6 +1,6 @@
 -- One object before another, in the common parts of their timelines and along the window.
 use Rattle.std.proofs.Common.{◌≡◌, ℕ, ◌+◌, ◌≤◌, ℤ, Bool, true, false, ◌&&◌, nat_le, nat_lt, inl, inr, Option, None, Some, is_some, Ok, Err, List, refl, sym, ap, ◌∙◌, arith}
-use Rattle.std.specs.Prelude.{option_and_then, slice_index_or, OnOk, Result}
+use Rattle.std.specs.Prelude.{option_and_then, slice_index_or, IfSome, OnOk, Result}
 use Rattle.std.specs.Option.{option_copied, option_map}
 use Rattle.std.proofs.lemmas.Bool.{false≢true, cases_Bool, cases_lt}
 use Rattle.std.proofs.lemmas.Bool.Decides.{nat_tests}
@@ -52,7 +52,7 @@ guarded lo hi t x y same =
       | inr outside ↦ (λ i. outside i && x) ∙ sym (λ i. outside i && y)
     ]
 
-and_no : (b : Bool) → (b && false) ≡ false
+pub and_no : (b : Bool) → (b && false) ≡ false
 and_no true = refl
 and_no false = refl
 
@@ -64,6 +64,10 @@ nowhere lo hi t x never = sym (ap one_if (guarded lo hi t x false never ∙ and_
 pub on_ok : {T E : Type 0} (r : Result T E) (P Q : Type 0) → (P → Q) → OnOk r P → OnOk r Q
 on_ok (Ok x) P Q f is = f is
 on_ok (Err e) P Q f is = is
+
+pub if_some : {A : Type 0} (r : Option A) (P Q : A → Type 0) → ((x : A) → P x → Q x) → IfSome r P → IfSome r Q
+if_some None P Q f is = is
+if_some (Some x) P Q f is = f x is
 
 -- what is added to a depth, in two steps
 pub added : (new middle old first second both : ℕ) → new ≡ middle + second → middle ≡ old + first → both ≡ first + second → new ≡ old + both

@@ -1,5 +1,5 @@
 -- The rows of the nearest objects.
-use Rattle.std.proofs.Common.{◌≡◌, ℕ, ◌+◌, ◌<◌, ◌≤◌, ℤ, Bool, true, false, not, ◌&&◌, nat_lt, cond, Option, is_some, List, [], ◌∷◌, ◌++◌, length, map, take, get_or, refl, sym, ap, ◌∙◌, inl, inr, zero-add, arith}
+use Rattle.std.proofs.Common.{◌≡◌, ℕ, ◌+◌, ◌-◌, ◌<◌, ◌≤◌, ℤ, Bool, true, false, not, ◌&&◌, nat_lt, cond, Option, is_some, List, [], ◌∷◌, ◌++◌, length, map, take, get_or, refl, sym, ap, ◌∙◌, inl, inr, arith}
 use Rattle.std.specs.Prelude.{◌==◌, All, count_by, slice_index, if◌then◌else◌}
 use Rattle.std.specs.List.{enumerate_from, filter}
 use Rattle.std.proofs.lemmas.Bool.{false≢true, cases_Bool}
@@ -115,9 +115,6 @@ row_dropped (span ∷ ticks) id none = absurd (grind (arith, nat_tests))
 
 -- ---- one object
 
-pub counted_inside : (inside : Bool) (f : Course → Bool) (courses : List Course) → inside ≡ true → count_by (λ p. inside && f p) courses ≡ count_by f courses
-counted_inside inside f courses is = ap (λ b. count_by (λ p. b && f p) courses) is
-
 pub both_inside : (inside few there : Bool) → ((inside && few) && (inside && there)) ≡ (inside && (there && few))
 both_inside true true true = refl
 both_inside true true false = refl
@@ -176,19 +173,27 @@ row_left_out rows id ticks test w normal are none =
 
 -- ---- few before one object
 
-pub few_ranked : (from : List Epoch) (courses : List Course) (o : Course) (k : ℕ) (w : Window) (cleared stretches runs : List Span) → cleared ≡ [] →
-    ((t : ℕ) → depth stretches t ≡ depth cleared t + count_by (λ p. within w.lo w.hi t && goes_before from p o t) courses) →
-    IsRuns (λ t. within w.lo w.hi t && nat_lt (depth stretches t) k) runs → IsRuns (λ t. within w.lo w.hi t && nat_lt (rank_along from courses o t) k) runs
-few_ranked from courses o k w cleared stretches runs none gathered are = record {
+pub few_ranked : (from : List Epoch) (courses : List Course) (o : Course) (k left : ℕ) (w : Window) (stretches runs : List Span) →
+    ((t : ℕ) → within w.lo w.hi t ≡ true → nat_lt (depth stretches t) left ≡ nat_lt (rank_along from courses o t) k) →
+    IsRuns (λ t. within w.lo w.hi t && nat_lt (depth stretches t) left) runs → IsRuns (λ t. within w.lo w.hi t && nat_lt (rank_along from courses o t) k) runs
+few_ranked from courses o k left w stretches runs gathered are = record {
   normal = are.normal;
   ticks = λ t.
       are.ticks t
       ∙ elim (cases_Bool (within w.lo w.hi t)) [
-        | inl inside ↦
-            ap (λ n. within w.lo w.hi t && nat_lt n k)
-            (gathered t
-            ∙ (λ i. depth (none i) t + counted_inside (within w.lo w.hi t) (λ p. goes_before from p o t) courses inside i)
-            ∙ zero-add (rank_along from courses o t))
-        | inr outside ↦ (λ i. outside i && nat_lt (depth stretches t) k) ∙ sym (λ i. outside i && nat_lt (rank_along from courses o t) k)
+        | inl inside ↦ ap (λ b. within w.lo w.hi t && b) (gathered t inside)
+        | inr outside ↦ (λ i. outside i && nat_lt (depth stretches t) left) ∙ sym (λ i. outside i && nat_lt (rank_along from courses o t) k)
       ];
 }
+
+pub one_at_most : (b : Bool) → one_if b ≤ 1
+one_at_most true = omega arith
+one_at_most false = omega arith
+
+-- how many more may stand before one, by those that do so throughout
+pub few_more : (k throughout depth rank : ℕ) → throughout + depth ≡ rank → nat_lt depth (k - throughout) ≡ nat_lt rank k
+few_more k throughout depth rank is = grind (arith, nat_tests)
+
+pub too_many : (k throughout depth some rank : ℕ) → k ≤ throughout → throughout + depth ≡ some → some ≤ rank →
+    nat_lt depth (k - throughout) ≡ nat_lt rank k
+too_many k throughout depth some rank many is more = grind (arith, nat_tests)

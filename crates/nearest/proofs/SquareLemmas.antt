@@ -1,5 +1,5 @@
 -- The square of a distance is a parabola of the ticks.
-use Rattle.std.proofs.Common.{◌≡◌, ℕ, ◌+◌, ◌-◌, ◌*◌, ◌≤◌, ℤ, pos, negsuc, unsigned_abs, ◌+ℤ◌, ◌-ℤ◌, ◌*ℤ◌, ◌≤ℤ◌, ◌<ℤ◌, inl, inr, refl, ap, ◌∙◌, arith}
+use Rattle.std.proofs.Common.{◌≡◌, ℕ, ◌+◌, ◌-◌, ◌*◌, ◌<◌, ◌≤◌, ℤ, pos, negsuc, unsigned_abs, ◌+ℤ◌, ◌-ℤ◌, ◌*ℤ◌, ◌≤ℤ◌, ◌<ℤ◌, inl, inr, refl, ap, subst, ◌∙◌, arith}
 use Rattle.std.proofs.lemmas.Int.{ints}
 use Rattle.std.proofs.lemmas.Bool.{cases_lt}
 use Rattle.std.proofs.lemmas.Nat.{mul-le}
@@ -108,3 +108,9 @@ between_bounds f v last most fall rise inside first end k below =
 pub at_most_size : (z : ℤ) → z ≤ℤ pos (unsigned_abs z)
 at_most_size (pos n) = omega (arith, ints)
 at_most_size (negsuc n) = omega (arith, ints)
+
+-- what falls at the step before a number falls up to there
+pub falls_before : (a : ℕ) (b c : ℤ) (k : ℕ) → 0 < k → rise_after a b (k - 1) <ℤ pos 0 → FallsTo (parabola a b c) k
+falls_before a b c k some fall =
+    let next : k - 1 + 1 ≡ k = omega (arith, some) in
+    subst (λ (n : ℕ). FallsTo (parabola a b c) n) next (falls_by a b c (k - 1) fall)

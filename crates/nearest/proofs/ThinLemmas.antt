@@ -222,10 +222,21 @@ pub ascending_counted : (numbers : List ℕ) (i : ℕ) → IsNonDecreasing numbe
 ascending_counted numbers i sorted below = least_counted numbers i (slice_index numbers i) below (λ j before. sorted j i 0 before below)
 
 pub some_bound : (bound : Option ℕ) (given : List Course) (k : ℕ) (mosts sorted : List ℕ) →
-    ((m : ℕ) → count_to mosts m ≡ count_by (λ (c : Course). is_within m c.sight) given) → ((m : ℕ) → count_to sorted m ≡ count_to mosts m) →
+    ((m : ℕ) → count_to mosts m ≤ count_by (λ (c : Course). is_within m c.sight) given) → ((m : ℕ) → count_to sorted m ≡ count_to mosts m) →
     IfSome bound (λ m. k ≤ count_to sorted m) → IfSome bound (λ m. k ≤ count_by (λ (c : Course). is_within m c.sight) given)
 some_bound None given k mosts sorted counted alike bound = bound
 some_bound (Some m) given k mosts sorted counted alike bound = let these = counted m in let those = alike m in omega (arith, these, those, bound)
+
+-- fewer are counted in the front
+pub counted_front : {A : Type 0} (f : A → Bool) (n : ℕ) (xs : List A) → count_by f (take n xs) ≤ count_by f xs
+counted_front f zero [] = omega arith
+counted_front f zero (x ∷ xs) = omega arith
+counted_front f (suc n) [] = omega arith
+counted_front f (suc n) (x ∷ xs) =
+    let front = sum_by-cons (λ y. cond (f y) 1 0) x (take n xs) in
+    let all = sum_by-cons (λ y. cond (f y) 1 0) x xs in
+    let rest = counted_front f n xs in
+    omega (arith, front, all, rest)
 
 -- ---- one number more
 

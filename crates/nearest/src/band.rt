@@ -1,11 +1,11 @@
 //! How near and how far an object comes in a slice of time.
-ghost use Rattle.std.specs.Prelude.{◌≡◌, ◌≤◌, ◌≤ℤ◌};
-ghost use Rattle.exact.specs.Rising.{FallsTo, RisesIn};
+ghost use Rattle.std.specs.Prelude.{◌≡◌, ◌≤◌, ℤ, pos, ◌≤ℤ◌, true, IfSome};
 ghost use Rattle.tick_set.specs.declared.spans.TheConstants.{LAST_TICK};
-ghost use Rattle.nearest.specs.Order.{separation_after};
+ghost use Rattle.nearest.specs.Order.{is_below, separation_after};
 
-use crate::parabola::{parabola_at, rise_at};
+use crate::parabola::parabola_at;
 use crate::squares::Separation;
+use crate::valley::{Rise, turn};
 use tick_set::Window;
 
 /// A separation by the ticks since a slice's first, and bounds of it there.
@@ -25,7 +25,11 @@ impl Band {
         ensures bounds { IsBounded slice result }
     {
         let last = slice.hi - slice.lo;
-        let lowest = valley(&separation, last);
+        let rise = Rise {
+            quadratic: separation.quadratic,
+            linear: separation.linear,
+        };
+        let lowest = turn(&rise, last);
         let first = value_after(&separation, 0);
         let end = value_after(&separation, last);
         Band {
@@ -34,6 +38,34 @@ impl Band {
             most: greater(first, end).unsigned_abs(),
         }
     }
+}
+
+/// Whether the first separation is less than the second throughout, or as much where ties are asked for too, or never, as
+/// far as their bounds tell.
+#[inline]
+pub fn order_by_bounds(first: &Band, second: &Band, ties: bool) -> Option<bool>
+    ensures { IfSome result (λ below. (d e : ℤ) → first.now.least ≤ℤ d → d ≤ℤ pos first.now.most
+        → second.now.least ≤ℤ e → e ≤ℤ pos second.now.most → is_below ties d e ≡ below) }
+{
+    if stays_below(first.most, second.least, ties) {
+        return Some(true);
+    }
+    if stays_below(second.most, first.least, !ties) {
+        return Some(false);
+    }
+    None
+}
+
+// Whether what is at most `most` is less than what is at least `least`, or as much where ties are asked for too.
+#[inline]
+fn stays_below(most: u128, least: i128, ties: bool) -> bool
+    ensures { result ≡ true → (d e : ℤ) → d ≤ℤ pos most → least ≤ℤ e → is_below ties d e ≡ true }
+{
+    if least < 0 {
+        return false;
+    }
+    let bound = least.unsigned_abs();
+    most < bound || (ties && most == bound)
 }
 
 fn greater(a: i128, b: i128) -> i128
@@ -52,25 +84,4 @@ fn value_after(separation: &Separation, k: u32) -> i128
         separation.constant,
         k,
     )
-}
-
-// The number of ticks up to which the separation falls, and from which on it rises.
-fn valley(separation: &Separation, last: u32) -> u32
-    requires { last ≤ LAST_TICK }
-    ensures bound { result ≤ last }
-    ensures falls { FallsTo (separation_after separation.now) result }
-    ensures rises { RisesIn (separation_after separation.now) result last }
-{
-    let mut low = 0;
-    let mut high = last;
-    // The separation falls up to `low`, and rises from `high` on.
-    'halves: while low < high {
-        let middle = low + (high - low) / 2;
-        if rise_at(separation.quadratic, separation.linear, middle) < 0 {
-            low = middle + 1;
-        } else {
-            high = middle;
-        }
-    }
-    low
 }

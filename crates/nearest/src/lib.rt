@@ -5,19 +5,22 @@
 //! stretches are swept once, from the first tick to the last: it is near while fewer than k of them are under way.
 //!
 //! The window is halved into slices of time for as long as many objects may be near in one. An object is left out of a
-//! slice if it stays farther away there than k others ever are. Where slices would cost more than all pairs of objects,
-//! the rest of the window is one slice.
+//! slice if it stays farther away there than k others ever are. Of two objects it is known at once which stands before
+//! the other, where bounds of their squares tell. Where slices would cost more than all pairs of objects, the rest of the
+//! window is one slice.
 #![tactic(auto)]
 
 mod band;
 mod course;
 mod found;
+mod low;
 mod nearer;
 mod order;
 mod pairs;
 mod parabola;
 mod parts;
 mod placed;
+mod roots;
 mod rows;
 mod sight;
 mod slice;
@@ -25,5 +28,6 @@ mod slices;
 mod squares;
 mod sweep;
 mod thinning;
+mod valley;
 
 pub use rows::{NearRow, nearest_rows};

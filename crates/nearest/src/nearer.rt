@@ -6,9 +6,9 @@ ghost use Rattle.tick_set.specs.Ticks.{within};
 ghost use Rattle.nearest.specs.Depth.{depth, one_if};
 ghost use Rattle.nearest.specs.Order.{is_below, separation_after};
 
+use crate::low::low_ticks;
 use crate::order::Difference;
 use crate::squares::Separation;
-use convex::at_most;
 use linear_crossing::Pair;
 use tick_set::{Span, Window};
 
@@ -34,7 +34,7 @@ fn low_run(first: &Separation, second: &Separation, ties: bool, w: Window) -> Op
         (option_to_list result) }
 {
     let limit = limit_for(ties);
-    at_most(&Difference::of(first, second), limit, w)
+    low_ticks(&Difference::of(first, second), limit, w)
 }
 
 // How much the first may be more than the second: where ties aren't asked for it must be less.

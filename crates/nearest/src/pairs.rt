@@ -1,11 +1,14 @@
 //! The stretches of ticks at which the objects of a class stand before one of them.
-ghost use Rattle.std.specs.Prelude.{◌≡◌, ◌+◌, ◌&&◌, ℕ, All, OnOk, count_by, option_to_list};
+ghost use Rattle.std.specs.Prelude.{◌≡◌, ◌+◌, ◌-◌, ◌^◌, ◌<◌, ◌&&◌, ℕ, true, nat_lt, List, [], All, IfOk, IfSome, OnOk, option_to_list};
 ghost use Rattle.linear_crossing.specs.Zones.{spans_of};
+ghost use Rattle.motion.specs.Timeline.{Epoch};
 ghost use Rattle.tick_set.specs.Ticks.{within};
-ghost use Rattle.nearest.specs.Courses.{goes_before};
+ghost use Rattle.tick_set.specs.declared.spans.Window.{Window};
+ghost use Rattle.nearest.specs.Courses.{goes_before, rank_along};
 ghost use Rattle.nearest.specs.Depth.{depth, one_if};
 ghost use Rattle.nearest.specs.Sights.{IsSeenFrom};
 
+use crate::band::order_by_bounds;
 use crate::course::Course;
 use crate::nearer::nearer;
 use crate::parts::before_in;
@@ -16,24 +19,75 @@ use motion::Timeline;
 use std::alloc::AllocError;
 use tick_set::{Span, Window};
 
-/// Adds the stretches of the window at which each of the objects stands before another, as seen from the object of the
-/// timeline `target`.
+/// Adds stretches of the window at which some of the objects stand before another, as seen from the object of the
+/// timeline `target`, and tells how many others do so throughout. Where these are `k`, some may be left out.
 pub fn gather(
     stretches: &mut Vec<Span>,
     courses: &[Course],
     o: &Course,
     target: &Timeline,
+    k: u32,
     w: Window,
-) -> Result<(), AllocError>
+) -> Result<u32, AllocError>
     requires seen { All (IsSeenFrom target.now w) courses.now }
     requires o_seen { IsSeenFrom target.now w o.now }
-    ensures { OnOk result ((t : ℕ) → depth stretches.new.items t ≡ depth stretches.old.items t
-        + count_by (λ p. within w.lo w.hi t && goes_before target.now p o.now t) courses.now) }
+    requires none { stretches.old.items ≡ [] }
+    ensures { IfOk result (λ throughout. (t : ℕ) → within w.lo w.hi t ≡ true
+        → nat_lt (depth stretches.new.items t) (k - throughout) ≡ nat_lt (rank_along target.now courses.now o.now t) k) }
 {
+    let mut throughout = 0;
     'courses: for p in courses {
-        add_before(stretches, p, o, target, w)?;
+        if throughout == k {
+            return Ok(throughout);
+        }
+        let before = add_unless_known(stretches, p, o, target, w)?;
+        throughout = with_one(throughout, before);
     }
-    Ok(())
+    Ok(throughout)
+}
+
+// The count with one more, if there is one.
+#[inline]
+fn with_one(count: u32, more: bool) -> u32
+    requires { count + 1 < 2 ^ 32 }
+    ensures { result ≡ count + one_if more }
+{
+    if more { count + 1 } else { count }
+}
+
+// Tells whether one object stands before another throughout, or adds the stretches at which it does.
+#[inline]
+fn add_unless_known(
+    stretches: &mut Vec<Span>,
+    p: &Course,
+    o: &Course,
+    target: &Timeline,
+    w: Window,
+) -> Result<bool, AllocError>
+    requires p_seen { IsSeenFrom target.now w p.now }
+    requires o_seen { IsSeenFrom target.now w o.now }
+    ensures { IfOk result (λ throughout. (t : ℕ) → within w.lo w.hi t ≡ true → one_if throughout + depth stretches.new.items t
+        ≡ depth stretches.old.items t + one_if (goes_before target.now p.now o.now t)) }
+{
+    if let Some(before) = known_order(p, o) {
+        return Ok(before);
+    }
+    add_before(stretches, p, o, target, w)?;
+    Ok(false)
+}
+
+// Whether one object stands before another throughout, or never, as far as bounds of their squares tell.
+#[inline]
+fn known_order(p: &Course, o: &Course) -> Option<bool>
+    ensures { IfSome result (λ before. (from : List Epoch) (w : Window) → IsSeenFrom from w p.now → IsSeenFrom from w o.now
+        → (t : ℕ) → within w.lo w.hi t ≡ true → goes_before from p.now o.now t ≡ before) }
+{
+    if let Sight::Straight(first) = &p.sight {
+        if let Sight::Straight(second) = &o.sight {
+            return order_by_bounds(first, second, p.id < o.id);
+        }
+    }
+    None
 }
 
 // Adds the stretches at which one object stands before another.

@@ -82,7 +82,7 @@ fn few_before(
         && nat_lt (rank_along target.now courses.now o.now t) k) runs.items) }
 {
     stretches.clear();
-    gather(stretches, courses, o, target, slice)?;
-    let runs = ticks_below(alloc, stretches, k, slice)?;
+    let throughout = gather(stretches, courses, o, target, k, slice)?;
+    let runs = ticks_below(alloc, stretches, k.saturating_sub(throughout), slice)?;
     Ok(runs)
 }

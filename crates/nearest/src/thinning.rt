@@ -58,33 +58,55 @@ fn seen_in<'a>(
 fn bound_of(alloc: Global, seen: &[Course], k: u32) -> Result<Option<u128>, AllocError>
     ensures { IfOk result (λ bound. IfSome bound (λ m. k ≤ count_by (λ c. is_within m c.sight) seen.now)) }
 {
-    let found = mosts_of(alloc, seen)?;
+    let found = mosts_of(alloc, seen, k)?;
     let mosts = ascending(found);
     Ok(least_of(&mosts, k))
 }
 
-// The squares that the objects never pass, as far as they are known.
-fn mosts_of(alloc: Global, seen: &[Course]) -> Result<Vec<u128>, AllocError>
-    ensures { IfOk result (λ mosts. (m : ℕ) → count_to mosts.items m ≡ count_by (λ c. is_within m c.sight) seen.now) }
+// Of the squares that the objects never pass, as far as they are known, the least, as many as `k` if there are so many.
+fn mosts_of(alloc: Global, seen: &[Course], k: u32) -> Result<Vec<u128>, AllocError>
+    ensures { IfOk result (λ mosts. (m : ℕ) → count_to mosts.items m ≤ count_by (λ c. is_within m c.sight) seen.now) }
 {
-    let mut mosts = Vec::with_capacity(alloc, seen.len())?;
+    let mut mosts = Vec::new(alloc);
+    let mut limit = u128::MAX;
+    // What isn't below the limit is not among the least.
     'courses: for c in seen {
-        add_most(&mut mosts, &c.sight)?;
+        add_most(&mut mosts, &c.sight, limit)?;
+        limit = shorten(&mut mosts, k, limit);
     }
     Ok(mosts)
 }
 
-fn add_most(mosts: &mut Vec<u128>, sight: &Sight) -> Result<(), AllocError>
+// Adds the square that an object never passes, if that is known and below a limit.
+#[inline]
+fn add_most(mosts: &mut Vec<u128>, sight: &Sight, limit: u128) -> Result<(), AllocError>
     ensures { OnOk result ((m : ℕ) → count_to mosts.new.items m
-        ≡ count_to mosts.old.items m + one_if (is_within m sight.now)) }
+        ≤ count_to mosts.old.items m + one_if (is_within m sight.now)) }
 {
-    match sight {
-        Sight::Straight(band) => {
-            mosts.push(band.most)?;
-            Ok(())
-        }
-        Sight::Absent => Ok(()),
-        Sight::Unknown => Ok(()),
+    if let Sight::Straight(band) = sight
+        && band.most < limit
+    {
+        mosts.push(band.most)?;
+    }
+    Ok(())
+}
+
+// Leaves the least numbers alone, as many as `k`, where there are many more, and tells the limit that the next ones have.
+fn shorten(mosts: &mut Vec<u128>, k: u32, limit: u128) -> u128
+    ensures { (m : ℕ) → count_to mosts.new.items m ≤ count_to mosts.old.items m }
+{
+    if (mosts.len() as u64) < 2 * u64::from(k) + 8 {
+        return limit;
+    }
+    mosts.sort_unstable();
+    mosts.truncate(k as usize);
+    last_of(mosts)
+}
+
+fn last_of(numbers: &[u128]) -> u128 {
+    match numbers.last() {
+        Some(number) => *number,
+        None => 0,
     }
 }
 

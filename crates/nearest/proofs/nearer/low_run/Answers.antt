@@ -10,4 +10,4 @@ pub returns : goal.returns
 returns c =
     let passed : to_z w128 (of_z w128 c.limit_for-limit.result) ≡ c.limit_for-limit.result = omega (arith, ints) in
     low_is_below (difference_after c.of.result) (separation_after c.args.first.now) (separation_after c.args.second.now) _ c.args.ties c.args.w _
-    c.of.ensures (passed ∙ c.limit_for-limit.ensures.value) c.at_most.ensures
+    c.of.ensures (passed ∙ c.limit_for-limit.ensures.value) c.low_ticks.ensures

@@ -1,22 +1,30 @@
-use Rattle.std.proofs.Common.{◌+◌, ◌&&◌, ap, ◌∙◌, arith}
+use Rattle.std.proofs.Common.{ap, ◌∙◌, arith}
 use Rattle.std.specs.Prelude.{count_by}
 use Rattle.std.proofs.lemmas.List.{take_all}
-use Rattle.tick_set.specs.Ticks.{within}
 use Rattle.nearest.specs.Courses.{goes_before}
-use Rattle.nearest.specs.Depth.{depth}
 use Rattle.nearest.specs.declared.course.Course.{Course}
-use Rattle.nearest.proofs.PartLemmas.{added}
-use Rattle.nearest.proofs.RowLemmas.{count_more}
+use Rattle.nearest.proofs.RowLemmas.{count_more, few_more, one_at_most, too_many}
+use Rattle.nearest.proofs.ThinLemmas.{counted_front}
 use Rattle.nearest.proofs.pairs.gather.Goals as goal
 
+pub returns-then-throughout-k : goal.returns-then-throughout-k
+returns-then-throughout-k c = λ t inside.
+    let f = λ (p : Course). goes_before c.args.target.now p c.args.o.now t in
+    too_many c.args.k _ _ _ _ (omega arith) (c.courses.invariant.counted t inside) (counted_front f c.courses.p-index c.args.courses.now)
+
 pub courses-preserved : goal.courses-preserved
-courses-preserved c = λ t.
-    let f = λ (p : Course). within c.args.w.lo c.args.w.hi t && goes_before c.args.target.now p c.args.o.now t in
-    added _ _ _ _ _ _ (c.in_ok-add_before.ensures t) (c.courses.invariant t)
-    (count_more f c.args.courses.now c.courses.p-index c.p-item.result (omega arith) c.p-item.is)
+courses-preserved c = record {
+  few = omega (arith, c.courses.invariant.few, c.with_one-throughout.ensures, one_at_most c.in_ok-before.before);
+  counted = λ t inside.
+      let f = λ (p : Course). goes_before c.args.target.now p c.args.o.now t in
+      let so_far = c.courses.invariant.counted t inside in
+      let more = c.in_ok-before.ensures t inside in
+      let counts = count_more f c.args.courses.now c.courses.p-index c.p-item.result (omega arith) c.p-item.is in
+      let one = c.with_one-throughout.ensures in
+      omega (arith, so_far, more, counts, one);
+}
 
 pub returns : goal.returns
-returns c = λ t.
-    let f = λ (p : Course). within c.args.w.lo c.args.w.hi t && goes_before c.args.target.now p c.args.o.now t in
-    c.courses.invariant t
-    ∙ ap (λ all. depth c.args.stretches.now.items t + count_by f all) (take_all c.courses.p-index c.args.courses.now (omega arith))
+returns c = λ t inside.
+    let f = λ (p : Course). goes_before c.args.target.now p c.args.o.now t in
+    few_more c.args.k _ _ _ (c.courses.invariant.counted t inside ∙ ap (count_by f) (take_all c.courses.p-index c.args.courses.now (omega arith)))

@@ -1,9 +1,13 @@
-use Rattle.std.proofs.Common.{ap, ◌∙◌}
+use Rattle.std.proofs.Common.{nat_lt, ap, ◌∙◌}
 use Rattle.nearest.specs.Depth.{depth}
 use Rattle.nearest.proofs.RowLemmas.{few_ranked}
 use Rattle.nearest.proofs.slice.few_before.Goals as goal
 
 pub returns : goal.returns
 returns c =
-    few_ranked c.args.target.now c.args.courses.now c.args.o.now c.args.k c.args.slice c.clear.new.self.items c.deref.result.now c.in_ok-runs.runs.items
-    c.clear.ensures.items (λ t. ap (λ spans. depth spans t) c.deref.ensures.value ∙ c.in_ok-gather.ensures t) c.in_ok-runs.ensures
+    few_ranked c.args.target.now c.args.courses.now c.args.o.now c.args.k c.saturating_sub.result c.args.slice c.deref.result.now c.in_ok-runs.runs.items
+    (λ t inside.
+    ap (λ spans. nat_lt (depth spans t) c.saturating_sub.result) c.deref.ensures.value
+    ∙ ap (λ left. nat_lt (depth c.gather.new.stretches.items t) left) c.saturating_sub.ensures
+    ∙ c.in_ok-throughout.ensures t inside)
+    c.in_ok-runs.ensures
