@@ -4,6 +4,7 @@ pub mod AtomLemmas
 pub mod AwayLemmas
 pub mod BindingLemmas
 pub mod ByKeyLemmas
+pub mod ColumnLemmas
 pub mod FillingLemmas
 pub mod FullLemmas
 pub mod GatherLemmas
@@ -12,6 +13,7 @@ pub mod LoopLemmas
 pub mod NodeLemmas
 pub mod OperatorLemmas
 pub mod OverLemmas
+pub mod PairLemmas
 pub mod ReadLemmas
 pub mod RowLemmas
 pub mod RunLemmas

@@ -35,7 +35,7 @@ use Rattle.evaluator.proofs.RunLemmas.{at_run, run_first, runs_all}
 none_in : (p q : ℕ → Bool) → ((u : ℕ) → q u ≡ false) → (lo hi t : ℕ) → until_in p q lo hi t ≡ false
 none_in p q none lo hi t = until_in_none p q lo hi t (λ s. false≢true (sym (none s.goal) ∙ s.holds))
 
-none_led : (form : UntilForm) (c : ℕ) (p q : ℕ → Bool) → ((u : ℕ) → q u ≡ false) → (e t : ℕ) → until_form_at form c p q e t ≡ false
+pub none_led : (form : UntilForm) (c : ℕ) (p q : ℕ → Bool) → ((u : ℕ) → q u ≡ false) → (e t : ℕ) → until_form_at form c p q e t ≡ false
 none_led untils.Plain c p q none e t = none_in p q none t e t
 none_led untils.Within c p q none e t = none_in p q none t (min (t + c) e) t
 none_led untils.After c p q none e t = none_in p q none (t + c) e t

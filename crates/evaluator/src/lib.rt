@@ -5,6 +5,7 @@
 mod alone;
 mod assignment;
 mod by_key;
+mod column;
 mod full;
 mod gathering;
 mod keys;

@@ -1,12 +1,13 @@
 //! Formulas by their operators and their parts.
 
-ghost use Rattle.std.specs.Prelude.{◌≡◌};
+ghost use Rattle.std.specs.Prelude.{◌≡◌, length};
 ghost use Rattle.formula.specs.Tree.{formula_view};
-ghost use Rattle.evaluator.specs.inner.Nodes.{needs_left, node_view};
+ghost use Rattle.formula.specs.Variables.{variables_of};
+ghost use Rattle.evaluator.specs.inner.Nodes.{needs_left, needs_right, node_view, ordered_tree, pair_view, turns};
 
 use crate::assignment::Assignment;
 use fixed_point::{BoundForm, UntilForm};
-use formula::{RAtom, RFormula};
+use formula::{RAtom, RFormula, free};
 
 // An operator on one formula.
 #[derive(Clone, Copy)]
@@ -37,6 +38,58 @@ impl Pairing {
             Pairing::Until(_, _) => false,
         }
     }
+
+    // Whether it holds nowhere where its right part does.
+    pub(crate) fn needs_right(self) -> bool
+        ensures { result ≡ needs_right self }
+    {
+        !matches!(self, Pairing::Or)
+    }
+}
+
+// An operator with its two formulas.
+#[derive(Clone, Copy)]
+pub(crate) struct Pair<'a> {
+    pub(crate) pairing: Pairing,
+    pub(crate) left: &'a RFormula,
+    pub(crate) right: &'a RFormula,
+}
+
+impl<'a> Pair<'a> {
+    // AND with the part of fewer variables on its right, which is the same; any other operator as it is.
+    pub(crate) fn ordered(pairing: Pairing, left: &'a RFormula, right: &'a RFormula) -> Pair<'a>
+        ensures tree { pair_view result ≡ ordered_tree pairing (formula_view left.now) (formula_view right.now) }
+        ensures pairing { result.pairing ≡ pairing }
+    {
+        if turns(pairing, left, right) {
+            Pair {
+                pairing,
+                left: right,
+                right: left,
+            }
+        } else {
+            Pair {
+                pairing,
+                left,
+                right,
+            }
+        }
+    }
+}
+
+// Whether the parts of AND are to be the other way round, so that the right one has no more variables.
+fn turns(pairing: Pairing, left: &RFormula, right: &RFormula) -> bool
+    ensures { result ≡ turns pairing (formula_view left.now) (formula_view right.now) }
+{
+    matches!(pairing, Pairing::And) && variable_count(left) <= variable_count(right)
+}
+
+// How many variables a formula has.
+#[tactic(auto, using(crate::proofs::PairLemmas::count_of))]
+fn variable_count(f: &RFormula) -> usize
+    ensures { result ≡ length (variables_of (formula_view f.now)) }
+{
+    free(f).list().len()
 }
 
 // The last operator of a formula, with its parts.

@@ -7,23 +7,27 @@ ghost use Rattle.formula.specs.Variables.{has_variable, variables_of};
 ghost use Rattle.formula_shape.specs.declared.limits.TheConstants.{OBJECT_LIMIT};
 ghost use Rattle.meaning.specs.Reads.{term_variables};
 ghost use Rattle.meaning.specs.Satisfaction.{sat};
-ghost use Rattle.relation.specs.Frames.{agrees};
+ghost use Rattle.relation.specs.Frames.{agrees, frame, frame_of};
 ghost use Rattle.relation.specs.Key.{key_in};
 ghost use Rattle.evaluator.specs.Assigned.{CanAskEach, assignment_view, run_holds};
 ghost use Rattle.evaluator.specs.Interpreting.{CanAsk, IsOver};
 ghost use Rattle.evaluator.specs.Rows.{AreRowsOf, AreRowsWhere, reads_at_key, reads_upto};
+ghost use Rattle.evaluator.specs.inner.Column.{AreRowsBeside};
+ghost use Rattle.evaluator.specs.inner.Nodes.{needs_right, pair_view};
 
 use crate::assignment::{Assignment, row_of_key};
 use crate::by_key::rows_by_key;
+use crate::column::{domains_for, leave_out};
 use crate::gathering::united;
 use crate::keys::keys_of;
 use crate::narrowing::narrowed;
-use crate::node::Node;
+use crate::node::{Node, Pair};
 use crate::operators::{changed_rows, paired_rows};
 use crate::over::is_over;
 use crate::variables::binding_of;
 use formula::{Binding, Env, RFormula, VarSet, free, free_in_term};
 use interpreting::{Interpreter, ValueRun};
+use meaning::fewer_objects_take_fewer_looks;
 use relation::{Domains, Relation};
 use std::alloc::{AllocError, Global};
 use std::collections::VecDeque;
@@ -71,6 +75,11 @@ pub fn rows_of<'d, S: Temporal, I: Interpreter<S>, L: Ledger, M: Ledger>(
             Ok(made)
         }
         Node::Two(pairing, left, right) => {
+            if pairing.needs_right() {
+                let pair = Pair::ordered(pairing, left, right);
+                let led = rows_of_pair(alloc, source, &pair, d, env, w, reads, probes)?;
+                return Ok(led);
+            }
             let left = rows_of(alloc, source, left, d, env, w, reads, probes)?;
             let right = rows_of(alloc, source, right, d, env, w, reads, probes)?;
             let made = paired_rows(alloc, pairing, &left, &right)?;
@@ -81,6 +90,67 @@ pub fn rows_of<'d, S: Temporal, I: Interpreter<S>, L: Ledger, M: Ledger>(
             Ok(made)
         }
     }
+}
+
+// The rows of AND or UNTIL, which hold nowhere where their right part does: what the left part does elsewhere isn't asked.
+#[cycle(rows)]
+fn rows_of_pair<'d, S: Temporal, I: Interpreter<S>, L: Ledger, M: Ledger>(
+    alloc: Global,
+    source: &I,
+    pair: &Pair<'_>,
+    d: &'d Domains,
+    env: &Env,
+    w: Window,
+    reads: &mut Steps<L>,
+    probes: &mut Steps<M>,
+) -> Result<Relation<'d, S>, AllocError>
+    requires needs { needs_right pair.now.pairing ≡ true }
+    requires over { IsOver (length d.now) (pair_view pair.now) }
+    requires can { CanAsk (I.interpretation source.now) (I.atom_fits source.now w.lo w.hi)
+        (I.term_fits source.now w.lo w.hi) d.now w.lo w.hi (pair_view pair.now) env.now }
+    ensures rows { IfOk result (λ r. AreRowsOf S.member (I.interpretation source.now) d.now w.lo w.hi
+        (pair_view pair.now) env.now r) }
+    ensures least { reads.old ≤ reads.new }
+    ensures most { reads.new ≤ reads.old + reads_upto d.now w.lo w.hi (pair_view pair.now) }
+{
+    let right = rows_of(alloc, source, pair.right, d, env, w, reads, probes)?;
+    right.rows_stand_in_order();
+    let left = rows_beside(alloc, source, pair.left, &right, d, env, w, reads, probes)?;
+    let made = paired_rows(alloc, pair.pairing, &left, &right)?;
+    Ok(made)
+}
+
+// The rows of a formula where another relation has a row: objects that it leaves out aren't asked.
+#[cycle(rows)]
+fn rows_beside<'d, S: Temporal, I: Interpreter<S>, L: Ledger, M: Ledger>(
+    alloc: Global,
+    source: &I,
+    f: &RFormula,
+    other: &Relation<'d, S>,
+    d: &'d Domains,
+    env: &Env,
+    w: Window,
+    reads: &mut Steps<L>,
+    probes: &mut Steps<M>,
+) -> Result<Relation<'d, S>, AllocError>
+    requires frame { frame other.now ≡ frame_of d.now w.lo w.hi }
+    requires over { IsOver (length d.now) (formula_view f.now) }
+    requires can { CanAsk (I.interpretation source.now) (I.atom_fits source.now w.lo w.hi)
+        (I.term_fits source.now w.lo w.hi) d.now w.lo w.hi (formula_view f.now) env.now }
+    ensures rows { IfOk result (AreRowsBeside S.member (I.interpretation source.now) d.now w.lo w.hi
+        (formula_view f.now) env.now other.now) }
+    ensures least { reads.old ≤ reads.new }
+    ensures most { reads.new ≤ reads.old + reads_upto d.now w.lo w.hi (formula_view f.now) }
+{
+    fewer_objects_take_fewer_looks();
+    if leave_out(other, d) {
+        let few = domains_for(alloc, other, d)?;
+        let near = rows_of(alloc, source, f, &few, env, w, reads, probes)?;
+        let wide = near.widen(alloc, d)?;
+        return Ok(wide);
+    }
+    let made = rows_of(alloc, source, f, d, env, w, reads, probes)?;
+    Ok(made)
 }
 
 // The rows of an assignment with these variables: the term has runs of one value at each key of its variables.

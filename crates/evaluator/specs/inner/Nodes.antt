@@ -1,14 +1,16 @@
 -- A formula by its operator and its parts.
-use Rattle.std.specs.Prelude.{ℕ, Bool, true, false, not, ◌&&◌, ◌||◌}
+use Rattle.std.specs.Prelude.{ℕ, Bool, true, false, not, ◌&&◌, ◌||◌, nat_le, length, if◌then◌else◌}
 use Rattle.tick_set.specs.Ticks.{within}
 use Rattle.tick_set.specs.Operators.{always_at, eventually_at, next_at}
 use Rattle.formula_shape.specs.Shape.{Shape}
 use Rattle.formula.specs.Forms.{bounded_at, until_form_at}
 use Rattle.formula.specs.Tree.{ResolvedTree, formula_view}
+use Rattle.formula.specs.Variables.{variables_of}
 use Rattle.evaluator.specs.declared.node.Change.{Change}
 use Rattle.evaluator.specs.declared.node.Change.TheVariants as changes
 use Rattle.evaluator.specs.declared.node.Pairing.{Pairing}
 use Rattle.evaluator.specs.declared.node.Pairing.TheVariants as pairings
+use Rattle.evaluator.specs.declared.node.Pair.{Pair}
 use Rattle.evaluator.specs.declared.node.Node.{Node}
 use Rattle.evaluator.specs.declared.node.Node.TheVariants as nodes
 use Rattle.evaluator.specs.Assigned.{assignment_view}
@@ -32,6 +34,25 @@ abbrev pub needs_left : Pairing → Bool
 needs_left pairings.And = true
 needs_left pairings.Or = false
 needs_left (pairings.Until form c) = false
+
+-- and where its right part does
+abbrev pub needs_right : Pairing → Bool
+needs_right pairings.And = true
+needs_right pairings.Or = false
+needs_right (pairings.Until form c) = true
+
+-- whether the parts are the other way round where the one of fewer variables is to be on the right
+abbrev pub turns : Pairing → ResolvedTree → ResolvedTree → Bool
+turns pairings.And f g = nat_le (length (variables_of f)) (length (variables_of g))
+turns pairings.Or f g = false
+turns (pairings.Until form c) f g = false
+
+abbrev pub ordered_tree : Pairing → ResolvedTree → ResolvedTree → ResolvedTree
+ordered_tree p f g = if turns p f g then paired_tree p g f else paired_tree p f g
+
+-- the tree of an operator with its two formulas
+abbrev pub pair_view : Pair → ResolvedTree
+pair_view p = paired_tree p.pairing (formula_view p.left.now) (formula_view p.right.now)
 
 -- whether the operator holds at a tick of what holds at ticks, where e is the last tick that counts
 abbrev pub changed_at : Change → (ℕ → Bool) → ℕ → ℕ → Bool

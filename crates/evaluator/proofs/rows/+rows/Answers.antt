@@ -21,14 +21,15 @@ use Rattle.evaluator.specs.Interpreting.{CanAsk, IsInFor}
 use Rattle.evaluator.specs.Keys.{AreKeys}
 use Rattle.evaluator.specs.Rows.{AreRowsOf, AreRowsWhere, reads_at_key, reads_upto}
 use Rattle.interpreting.specs.ValueRuns.{AreValueRuns}
-use Rattle.evaluator.specs.inner.Nodes.{changed_tree, paired_tree}
-use Rattle.evaluator.proofs.AssignLemmas.{all_keys, can_ask_each, key_more, rows_at_key, run_more}
+use Rattle.evaluator.specs.inner.Nodes.{changed_tree, needs_right, ordered_tree, pair_view, paired_tree}
+use Rattle.evaluator.proofs.AssignLemmas.{all_keys, can_ask_each, can_ask_narrower, key_more, rows_at_key, run_more}
 use Rattle.evaluator.proofs.AtomLemmas.{inside_at}
 use Rattle.evaluator.proofs.BindingLemmas.{narrowed_sizes, narrowed_wider}
 use Rattle.evaluator.proofs.ByKeyLemmas.{atom_over, truth_over}
 use Rattle.evaluator.proofs.FillingLemmas.{at_key}
 use Rattle.evaluator.proofs.LoopLemmas.{can_ask_item, head_frame, in_turn, key_within, keys_within, more_alike, most_both, most_first, most_same, none_alike, none_yet, some_steps, term_within, wide_frame}
 use Rattle.evaluator.proofs.NodeLemmas.{changed_asks, changed_has, changed_nodes, changed_reads, paired_asks, paired_has, paired_nodes, paired_reads}
+use Rattle.evaluator.proofs.PairLemmas.{beside_all, beside_few, fewer_reads, led_rows, most_fewer, most_second, most_turned, ordered_asks, ordered_has, ordered_nodes, ordered_reads, ordered_rows}
 use Rattle.evaluator.proofs.ReadLemmas.{one_step}
 use Rattle.evaluator.proofs.RowLemmas.{one_rows, two_rows}
 use Rattle.formula.proofs.CallerLemmas.{variables_same}
@@ -86,6 +87,60 @@ rows_of-returns-in_ok-made-in-One-clause-least g t c = c.in_ok-rows-in-One.ensur
 pub rows_of-returns-in_ok-made-in-One-clause-most : goal.rows_of-returns-in_ok-made-in-One-clause-most
 rows_of-returns-in_ok-made-in-One-clause-most g t c =
     most_same _ _ (reads_upto c.args.d.now c.args.w.lo c.args.w.hi (formula_view c.args.f.now)) (reads_upto c.args.d.now c.args.w.lo c.args.w.hi (formula_view c.in-One.part.now)) (ap (reads_upto c.args.d.now c.args.w.lo c.args.w.hi) (sym c.in-One.ensures) ∙ changed_reads (size_of c.args.d.now) (c.args.w.hi + 1 - c.args.w.lo) c.in-One.change (formula_view c.in-One.part.now)) c.in_ok-rows-in-One.ensures.most
+
+pub rows_of-rows_of_pair-requires : goal.rows_of-rows_of_pair-requires
+rows_of-rows_of_pair-requires g t c κs lives =
+    let left = formula_view c.in-Two.left.now in
+    let right = formula_view c.in-Two.right.now in
+    let tree : formula_view c.args.f.now ≡ paired_tree c.in-Two.pairing left right = sym c.in-Two.ensures in
+    let turned : pair_view c.ordered-pair.result ≡ ordered_tree c.in-Two.pairing left right = c.ordered-pair.ensures.tree in
+    let all : nodes (formula_view c.args.f.now) ≡ nodes (pair_view c.ordered-pair.result) = ap nodes tree ∙ sym (ordered_nodes c.in-Two.pairing left right) ∙ sym (ap nodes turned) in
+    let size = all ∙ paired_nodes c.ordered-pair.result.pairing (formula_view c.ordered-pair.result.left.now) (formula_view c.ordered-pair.result.right.now) in (
+      omega (arith, c.decreases, size),
+      (
+        lives.0,
+        (
+          lives.1.0,
+          (
+            lives.1.1.0,
+            (
+              lives.1.1.1,
+              (
+                ap needs_right c.ordered-pair.ensures.pairing ∙ sym c.needs_right.ensures ∙ c.if-needs_right.true,
+                (
+                  (λ v h. c.requires.over v (ap (has_variable v) tree ∙ sym (ordered_has v c.in-Two.pairing left right) ∙ sym (ap (has_variable v) turned) ∙ h)),
+                  subst (λ (z : ResolvedTree). CanAsk (g.I.Interpreter.interpretation c.args.source.now) (g.I.Interpreter.atom_fits c.args.source.now c.args.w.lo c.args.w.hi) (g.I.Interpreter.term_fits c.args.source.now c.args.w.lo c.args.w.hi) c.args.d.now c.args.w.lo c.args.w.hi z c.args.env.now) (sym turned)
+                      (ordered_asks (g.I.Interpreter.interpretation c.args.source.now) (g.I.Interpreter.atom_fits c.args.source.now c.args.w.lo c.args.w.hi) (g.I.Interpreter.term_fits c.args.source.now c.args.w.lo c.args.w.hi) c.args.d.now c.args.w.lo c.args.w.hi c.args.env.now c.in-Two.pairing left right
+                      (subst (λ (z : ResolvedTree). CanAsk (g.I.Interpreter.interpretation c.args.source.now) (g.I.Interpreter.atom_fits c.args.source.now c.args.w.lo c.args.w.hi) (g.I.Interpreter.term_fits c.args.source.now c.args.w.lo c.args.w.hi) c.args.d.now c.args.w.lo c.args.w.hi z c.args.env.now) tree c.requires.can)),
+                ),
+              ),
+            ),
+          ),
+        ),
+      ),
+    )
+
+pub rows_of-returns-then-needs_right-clause-rows : goal.rows_of-returns-then-needs_right-clause-rows
+rows_of-returns-then-needs_right-clause-rows g t c =
+    subst (λ (z : ResolvedTree). AreRowsOf g.S.TickSet.member (g.I.Interpreter.interpretation c.args.source.now) c.args.d.now c.args.w.lo c.args.w.hi z c.args.env.now c.in_ok-led-in-Two.led) c.in-Two.ensures
+    (ordered_rows g.S.TickSet.member (g.I.Interpreter.interpretation c.args.source.now) c.args.d.now c.args.w.lo c.args.w.hi c.args.env.now c.in-Two.pairing (formula_view c.in-Two.left.now) (formula_view c.in-Two.right.now) c.in_ok-led-in-Two.led
+    (subst (λ (z : ResolvedTree). AreRowsOf g.S.TickSet.member (g.I.Interpreter.interpretation c.args.source.now) c.args.d.now c.args.w.lo c.args.w.hi z c.args.env.now c.in_ok-led-in-Two.led) c.ordered-pair.ensures.tree c.in_ok-led-in-Two.ensures.rows))
+
+pub rows_of-returns-in_err-led-in-Two-clause-least : goal.rows_of-returns-in_err-led-in-Two-clause-least
+rows_of-returns-in_err-led-in-Two-clause-least g t c = c.in_err-led-in-Two.ensures.least
+
+pub rows_of-returns-in_err-led-in-Two-clause-most : goal.rows_of-returns-in_err-led-in-Two-clause-most
+rows_of-returns-in_err-led-in-Two-clause-most g t c =
+    most_same _ _ (reads_upto c.args.d.now c.args.w.lo c.args.w.hi (formula_view c.args.f.now)) (reads_upto c.args.d.now c.args.w.lo c.args.w.hi (pair_view c.ordered-pair.result))
+    (ap (reads_upto c.args.d.now c.args.w.lo c.args.w.hi) (sym c.in-Two.ensures) ∙ sym (ordered_reads (size_of c.args.d.now) (c.args.w.hi + 1 - c.args.w.lo) c.in-Two.pairing (formula_view c.in-Two.left.now) (formula_view c.in-Two.right.now)) ∙ sym (ap (reads_upto c.args.d.now c.args.w.lo c.args.w.hi) c.ordered-pair.ensures.tree)) c.in_err-led-in-Two.ensures.most
+
+pub rows_of-returns-then-needs_right-clause-least : goal.rows_of-returns-then-needs_right-clause-least
+rows_of-returns-then-needs_right-clause-least g t c = c.in_ok-led-in-Two.ensures.least
+
+pub rows_of-returns-then-needs_right-clause-most : goal.rows_of-returns-then-needs_right-clause-most
+rows_of-returns-then-needs_right-clause-most g t c =
+    most_same _ _ (reads_upto c.args.d.now c.args.w.lo c.args.w.hi (formula_view c.args.f.now)) (reads_upto c.args.d.now c.args.w.lo c.args.w.hi (pair_view c.ordered-pair.result))
+    (ap (reads_upto c.args.d.now c.args.w.lo c.args.w.hi) (sym c.in-Two.ensures) ∙ sym (ordered_reads (size_of c.args.d.now) (c.args.w.hi + 1 - c.args.w.lo) c.in-Two.pairing (formula_view c.in-Two.left.now) (formula_view c.in-Two.right.now)) ∙ sym (ap (reads_upto c.args.d.now c.args.w.lo c.args.w.hi) c.ordered-pair.ensures.tree)) c.in_ok-led-in-Two.ensures.most
 
 pub rows_of-rows_of-requires-in-Two : goal.rows_of-rows_of-requires-in-Two
 rows_of-rows_of-requires-in-Two g t c κs lives =
@@ -181,6 +236,164 @@ rows_of-unreachable-requires g t c =
 pub rows_of-unreachable-requires-in-Atom : goal.rows_of-unreachable-requires-in-Atom
 rows_of-unreachable-requires-in-Atom g t c =
     let f : false ≡ true = sym c.if-is_over.false ∙ c.is_over.ensures ∙ atom_over (size_of c.args.d.now) c.list-vars.result.now (formula_view c.args.f.now) _ (c.list-vars.ensures ∙ variables_same (has c.free-set.result) (λ v. has_variable v (formula_view c.args.f.now)) (λ v l. c.free-set.ensures v l)) (sym c.in-Atom.ensures) in cc
+
+pub rows_of_pair-rows_of-requires : goal.rows_of_pair-rows_of-requires
+rows_of_pair-rows_of-requires g t c κs lives = (
+  omega (arith, c.decreases),
+  (
+    lives.0,
+    (
+      lives.1.0,
+      (
+        lives.1.1.0,
+        (
+          lives.1.1.1,
+          (
+            (λ v h. c.requires.over v (paired_has v c.args.pair.now.pairing (formula_view c.args.pair.now.left.now) (formula_view c.args.pair.now.right.now) ∙ or_right (has_variable v (formula_view c.args.pair.now.left.now)) (has_variable v (formula_view c.args.pair.now.right.now)) h)),
+            (let both = paired_asks (g.I.Interpreter.interpretation c.args.source.now) (g.I.Interpreter.atom_fits c.args.source.now c.args.w.lo c.args.w.hi) (g.I.Interpreter.term_fits c.args.source.now c.args.w.lo c.args.w.hi) c.args.d.now c.args.w.lo c.args.w.hi c.args.env.now c.args.pair.now.pairing (formula_view c.args.pair.now.left.now) (formula_view c.args.pair.now.right.now) c.requires.can in both.1),
+          ),
+        ),
+      ),
+    ),
+  ),
+)
+
+pub rows_of_pair-rows_beside-requires : goal.rows_of_pair-rows_beside-requires
+rows_of_pair-rows_beside-requires g t c κs lives = (
+  omega (arith, c.decreases),
+  (
+    lives.0,
+    (
+      lives.1.0,
+      (
+        lives.1.1.0,
+        (
+          lives.1.1.1,
+          (
+            c.in_ok-right.ensures.rows.frame,
+            (
+              (λ v h. c.requires.over v (paired_has v c.args.pair.now.pairing (formula_view c.args.pair.now.left.now) (formula_view c.args.pair.now.right.now) ∙ or_left (has_variable v (formula_view c.args.pair.now.left.now)) (has_variable v (formula_view c.args.pair.now.right.now)) h)),
+              (let both = paired_asks (g.I.Interpreter.interpretation c.args.source.now) (g.I.Interpreter.atom_fits c.args.source.now c.args.w.lo c.args.w.hi) (g.I.Interpreter.term_fits c.args.source.now c.args.w.lo c.args.w.hi) c.args.d.now c.args.w.lo c.args.w.hi c.args.env.now c.args.pair.now.pairing (formula_view c.args.pair.now.left.now) (formula_view c.args.pair.now.right.now) c.requires.can in both.0),
+            ),
+          ),
+        ),
+      ),
+    ),
+  ),
+)
+
+pub rows_of_pair-paired_rows-requires-clause-left : goal.rows_of_pair-paired_rows-requires-clause-left
+rows_of_pair-paired_rows-requires-clause-left g t c =
+    subst (λ (vs : List ℕ). IsStrictlyIncreasing vs) (sym c.in_ok-left.ensures.rows.vars) (ascending_variables (λ v. has_variable v (formula_view c.args.pair.now.left.now)))
+
+pub rows_of_pair-paired_rows-requires-clause-right : goal.rows_of_pair-paired_rows-requires-clause-right
+rows_of_pair-paired_rows-requires-clause-right g t c =
+    subst (λ (vs : List ℕ). IsStrictlyIncreasing vs) (sym c.in_ok-right.ensures.rows.vars) (ascending_variables (λ v. has_variable v (formula_view c.args.pair.now.right.now)))
+
+pub rows_of_pair-paired_rows-requires-clause-frame : goal.rows_of_pair-paired_rows-requires-clause-frame
+rows_of_pair-paired_rows-requires-clause-frame g t c = c.in_ok-right.ensures.rows.frame ∙ sym c.in_ok-left.ensures.rows.frame
+
+pub rows_of_pair-returns-clause-rows : goal.rows_of_pair-returns-clause-rows
+rows_of_pair-returns-clause-rows g t c =
+    led_rows g.S.TickSet.member (g.I.Interpreter.interpretation c.args.source.now) c.args.d.now c.args.w.lo c.args.w.hi c.args.env.now c.args.pair.now.pairing c.requires.needs (formula_view c.args.pair.now.left.now) (formula_view c.args.pair.now.right.now) c.in_ok-left.left c.in_ok-right.right c.in_ok-made.made
+    c.in_ok-left.ensures.rows c.in_ok-right.ensures.rows c.rows_stand_in_order.ensures.none
+    c.in_ok-made.ensures.ticks c.in_ok-made.ensures.vars c.in_ok-made.ensures.frame
+
+pub rows_of_pair-returns-in_err-right-clause-least : goal.rows_of_pair-returns-in_err-right-clause-least
+rows_of_pair-returns-in_err-right-clause-least g t c = c.in_err-right.ensures.least
+
+pub rows_of_pair-returns-in_err-right-clause-most : goal.rows_of_pair-returns-in_err-right-clause-most
+rows_of_pair-returns-in_err-right-clause-most g t c =
+    most_second _ _ (reads_upto c.args.d.now c.args.w.lo c.args.w.hi (pair_view c.args.pair.now)) (reads_upto c.args.d.now c.args.w.lo c.args.w.hi (formula_view c.args.pair.now.left.now)) (reads_upto c.args.d.now c.args.w.lo c.args.w.hi (formula_view c.args.pair.now.right.now)) (paired_reads (size_of c.args.d.now) (c.args.w.hi + 1 - c.args.w.lo) c.args.pair.now.pairing (formula_view c.args.pair.now.left.now) (formula_view c.args.pair.now.right.now)) c.in_err-right.ensures.most
+
+pub rows_of_pair-returns-in_err-left-clause-least : goal.rows_of_pair-returns-in_err-left-clause-least
+rows_of_pair-returns-in_err-left-clause-least g t c = in_turn _ _ _ c.in_ok-right.ensures.least c.in_err-left.ensures.least
+
+pub rows_of_pair-returns-in_err-left-clause-most : goal.rows_of_pair-returns-in_err-left-clause-most
+rows_of_pair-returns-in_err-left-clause-most g t c =
+    most_turned _ _ _ (reads_upto c.args.d.now c.args.w.lo c.args.w.hi (pair_view c.args.pair.now)) (reads_upto c.args.d.now c.args.w.lo c.args.w.hi (formula_view c.args.pair.now.left.now)) (reads_upto c.args.d.now c.args.w.lo c.args.w.hi (formula_view c.args.pair.now.right.now)) (paired_reads (size_of c.args.d.now) (c.args.w.hi + 1 - c.args.w.lo) c.args.pair.now.pairing (formula_view c.args.pair.now.left.now) (formula_view c.args.pair.now.right.now)) c.in_ok-right.ensures.most c.in_err-left.ensures.most
+
+pub rows_of_pair-returns-in_err-made-clause-least : goal.rows_of_pair-returns-in_err-made-clause-least
+rows_of_pair-returns-in_err-made-clause-least g t c = in_turn _ _ _ c.in_ok-right.ensures.least c.in_ok-left.ensures.least
+
+pub rows_of_pair-returns-in_err-made-clause-most : goal.rows_of_pair-returns-in_err-made-clause-most
+rows_of_pair-returns-in_err-made-clause-most g t c =
+    most_turned _ _ _ (reads_upto c.args.d.now c.args.w.lo c.args.w.hi (pair_view c.args.pair.now)) (reads_upto c.args.d.now c.args.w.lo c.args.w.hi (formula_view c.args.pair.now.left.now)) (reads_upto c.args.d.now c.args.w.lo c.args.w.hi (formula_view c.args.pair.now.right.now)) (paired_reads (size_of c.args.d.now) (c.args.w.hi + 1 - c.args.w.lo) c.args.pair.now.pairing (formula_view c.args.pair.now.left.now) (formula_view c.args.pair.now.right.now)) c.in_ok-right.ensures.most c.in_ok-left.ensures.most
+
+pub rows_of_pair-returns-clause-least : goal.rows_of_pair-returns-clause-least
+rows_of_pair-returns-clause-least g t c = in_turn _ _ _ c.in_ok-right.ensures.least c.in_ok-left.ensures.least
+
+pub rows_of_pair-returns-clause-most : goal.rows_of_pair-returns-clause-most
+rows_of_pair-returns-clause-most g t c =
+    most_turned _ _ _ (reads_upto c.args.d.now c.args.w.lo c.args.w.hi (pair_view c.args.pair.now)) (reads_upto c.args.d.now c.args.w.lo c.args.w.hi (formula_view c.args.pair.now.left.now)) (reads_upto c.args.d.now c.args.w.lo c.args.w.hi (formula_view c.args.pair.now.right.now)) (paired_reads (size_of c.args.d.now) (c.args.w.hi + 1 - c.args.w.lo) c.args.pair.now.pairing (formula_view c.args.pair.now.left.now) (formula_view c.args.pair.now.right.now)) c.in_ok-right.ensures.most c.in_ok-left.ensures.most
+
+pub rows_beside-leave_out-requires : goal.rows_beside-leave_out-requires
+rows_beside-leave_out-requires g t c = ap (λ (z : Frame). z.domains) c.requires.frame
+
+pub rows_beside-domains_for-requires : goal.rows_beside-domains_for-requires
+rows_beside-domains_for-requires g t c = ap (λ (z : Frame). z.domains) c.requires.frame
+
+pub rows_beside-rows_of-requires : goal.rows_beside-rows_of-requires
+rows_beside-rows_of-requires g t c κs lives = (
+  omega (arith, c.decreases),
+  (
+    lives.0,
+    (
+      lives.1.0,
+      (
+        lives.1.1.0,
+        (
+          lives.1.1.1,
+          (
+            (λ v h. (let o = c.requires.over v h in let m = c.in_ok-few.ensures.many in omega (arith, o, m))),
+            can_ask_narrower (g.I.Interpreter.interpretation c.args.source.now) (g.I.Interpreter.atom_fits c.args.source.now c.args.w.lo c.args.w.hi) (g.I.Interpreter.term_fits c.args.source.now c.args.w.lo c.args.w.hi) c.args.w.lo c.args.w.hi c.in_ok-few.few c.args.d.now c.in_ok-few.ensures.wider (formula_view c.args.f.now) c.args.env.now c.requires.can,
+          ),
+        ),
+      ),
+    ),
+  ),
+)
+
+pub rows_beside-widen-requires : goal.rows_beside-widen-requires
+rows_beside-widen-requires g t c =
+    subst (λ (ds : List (List ℕ)). IsWider ds c.args.d.now) (sym (ap (λ (z : Frame). z.domains) c.in_ok-near.ensures.rows.frame)) c.in_ok-few.ensures.wider
+
+pub rows_beside-rows_of-requires-2 : goal.rows_beside-rows_of-requires-2
+rows_beside-rows_of-requires-2 g t c κs lives = (
+  omega (arith, c.decreases),
+  (lives.0, (lives.1.0, (lives.1.1.0, (lives.1.1.1, (c.requires.over, c.requires.can))))),
+)
+
+pub rows_beside-returns-then-leave_out-clause-rows : goal.rows_beside-returns-then-leave_out-clause-rows
+rows_beside-returns-then-leave_out-clause-rows g t c =
+    beside_few g.S.TickSet.member (g.I.Interpreter.interpretation c.args.source.now) c.args.d.now c.args.w.lo c.args.w.hi c.args.env.now (formula_view c.args.f.now) c.args.other.now c.in_ok-few.few c.in_ok-near.near c.in_ok-wide.wide c.in_ok-few.ensures
+    c.in_ok-near.ensures.rows c.in_ok-wide.ensures.ticks c.in_ok-wide.ensures.head.vars
+    (wide_frame c.in_ok-near.near c.in_ok-wide.wide c.in_ok-few.few c.args.d.now c.args.w.lo c.args.w.hi c.in_ok-near.ensures.rows.frame c.in_ok-wide.ensures.head)
+
+pub rows_beside-returns-clause-rows : goal.rows_beside-returns-clause-rows
+rows_beside-returns-clause-rows g t c =
+    beside_all g.S.TickSet.member (g.I.Interpreter.interpretation c.args.source.now) c.args.d.now c.args.w.lo c.args.w.hi c.args.env.now (formula_view c.args.f.now) c.args.other.now c.in_ok-made.made c.in_ok-made.ensures.rows
+
+pub rows_beside-returns-in_err-near-clause-least : goal.rows_beside-returns-in_err-near-clause-least
+rows_beside-returns-in_err-near-clause-least g t c = c.in_err-near.ensures.least
+
+pub rows_beside-returns-in_err-near-clause-most : goal.rows_beside-returns-in_err-near-clause-most
+rows_beside-returns-in_err-near-clause-most g t c =
+    most_fewer _ _ (reads_upto c.in_ok-few.few c.args.w.lo c.args.w.hi (formula_view c.args.f.now)) (reads_upto c.args.d.now c.args.w.lo c.args.w.hi (formula_view c.args.f.now)) (fewer_reads c.fewer_objects_take_fewer_looks.ensures (size_of c.in_ok-few.few) (size_of c.args.d.now) c.in_ok-few.ensures.few (c.args.w.hi + 1 - c.args.w.lo) (formula_view c.args.f.now)) c.in_err-near.ensures.most
+
+pub rows_beside-returns-in_err-wide-clause-least : goal.rows_beside-returns-in_err-wide-clause-least
+rows_beside-returns-in_err-wide-clause-least g t c = c.in_ok-near.ensures.least
+
+pub rows_beside-returns-in_err-wide-clause-most : goal.rows_beside-returns-in_err-wide-clause-most
+rows_beside-returns-in_err-wide-clause-most g t c =
+    most_fewer _ _ (reads_upto c.in_ok-few.few c.args.w.lo c.args.w.hi (formula_view c.args.f.now)) (reads_upto c.args.d.now c.args.w.lo c.args.w.hi (formula_view c.args.f.now)) (fewer_reads c.fewer_objects_take_fewer_looks.ensures (size_of c.in_ok-few.few) (size_of c.args.d.now) c.in_ok-few.ensures.few (c.args.w.hi + 1 - c.args.w.lo) (formula_view c.args.f.now)) c.in_ok-near.ensures.most
+
+pub rows_beside-returns-then-leave_out-clause-least : goal.rows_beside-returns-then-leave_out-clause-least
+rows_beside-returns-then-leave_out-clause-least g t c = c.in_ok-near.ensures.least
+
+pub rows_beside-returns-then-leave_out-clause-most : goal.rows_beside-returns-then-leave_out-clause-most
+rows_beside-returns-then-leave_out-clause-most g t c =
+    most_fewer _ _ (reads_upto c.in_ok-few.few c.args.w.lo c.args.w.hi (formula_view c.args.f.now)) (reads_upto c.args.d.now c.args.w.lo c.args.w.hi (formula_view c.args.f.now)) (fewer_reads c.fewer_objects_take_fewer_looks.ensures (size_of c.in_ok-few.few) (size_of c.args.d.now) c.in_ok-few.ensures.few (c.args.w.hi + 1 - c.args.w.lo) (formula_view c.args.f.now)) c.in_ok-near.ensures.most
 
 pub rows_of_assignment-keys_of-requires-clause-known : goal.rows_of_assignment-keys_of-requires-clause-known
 rows_of_assignment-keys_of-requires-clause-known g t c =

@@ -15,6 +15,12 @@ use Rattle.evaluator.proofs.rows.+rows.Given as goal
 abbrev pub decreases-rows_of : goal.decreases-rows_of
 decreases-rows_of g l = 4 * nodes (formula_view l.f.now)
 
+abbrev pub decreases-rows_of_pair : goal.decreases-rows_of_pair
+decreases-rows_of_pair g l = 4 * (nodes (formula_view l.pair.now.left.now) + nodes (formula_view l.pair.now.right.now)) + 2
+
+abbrev pub decreases-rows_beside : goal.decreases-rows_beside
+decreases-rows_beside g l = 4 * nodes (formula_view l.f.now) + 1
+
 abbrev pub decreases-rows_of_assignment : goal.decreases-rows_of_assignment
 decreases-rows_of_assignment g l = 4 * nodes (formula_view l.a.now.body.now) + 3
 
