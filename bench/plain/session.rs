@@ -84,6 +84,8 @@ struct Session {
     registered: Vec<Registered>,
     indexes: Vec<Index>,
     built: Built,
+    /// The seed of the world in which `must` and `may` are answered, if there is one.
+    world: Option<u64>,
     /// Whether a text is loaded, so that no answer is wanted.
     quiet: bool,
     tokens: Vec<grammar::Token>,
@@ -170,10 +172,12 @@ impl Session {
             Command::Export(class, file) => self.export(&class, &file)?,
             Command::Nearest(span, k, object, class) => self.nearest(span, k, &object, &class, out)?,
             Command::Must(error, span, query) => {
-                self.blurred(Blur { sure: true, error: error.into() }, span, &query, out)?;
+                let blur = Blur { sure: true, error: error.into(), world: self.world };
+                self.blurred(blur, span, &query, out)?;
             }
             Command::May(error, span, query) => {
-                self.blurred(Blur { sure: false, error: error.into() }, span, &query, out)?;
+                let blur = Blur { sure: false, error: error.into(), world: self.world };
+                self.blurred(blur, span, &query, out)?;
             }
             Command::Index(class, attribute, _) => self.make_index(&class, &attribute)?,
             Command::Range(span, class, attribute, least, greatest) => {
@@ -285,7 +289,8 @@ fn run_named(name: &str, built: Built) -> io::Result<u8> {
 }
 
 /// No words: a session over standard input. `--session NAME` and `--gen NUMBER` are as in DOMINO; `--built WORD`
-/// before them leaves out commands.
+/// before them leaves out commands, and `--world SEED` answers each `must` and `may` as an `ask` in a world in which
+/// positions are off by at most its error.
 /// `--gather` and `--number` say how the replies are written.
 /// `--generate SEED LINES` prints the lines of `session`, all of them accepted, and `--mixed SEED LINES` those of
 /// `compare_session`.
@@ -297,7 +302,12 @@ fn start(words: &[String]) -> io::Result<u8> {
         built = Built::named(word).ok_or_else(|| io::Error::other("data, ask, live, files, nearest, blurred or all"))?;
         words.drain(..2);
     }
-    let session = Session { built, ..Session::default() };
+    let mut world = None;
+    if let ["--world", seed, ..] = words[..] {
+        world = Some(number(seed)?);
+        words.drain(..2);
+    }
+    let session = Session { built, world, ..Session::default() };
     match words.as_slice() {
         [] => run(session, Writing::Each),
         ["--gather"] => run(session, Writing::Gathered),

@@ -70,7 +70,7 @@ impl Session {
         Ok(())
     }
 
-    /// A `must` or a `may`.
+    /// A `must` or a `may`, or what holds in the session's world.
     pub fn blurred(&self, blur: Blur, span: u32, query: &grammar::Query, out: &mut Vec<u8>) -> Result<(), Refusal> {
         let (query, mut faults) = resolve::resolve(&self.history, query, span);
         let has = |is: &dyn Fn(&resolve::Formula) -> bool| resolve::has(&query.formula, is);

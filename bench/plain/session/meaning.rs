@@ -4,6 +4,7 @@ use super::history::{Cell, History, Object};
 use super::resolve::{Factor, Formula, Part, Query, Term, Unit};
 use crate::grammar::Word;
 use std::collections::BTreeMap;
+use std::hash::{DefaultHasher, Hash, Hasher};
 
 #[derive(Clone, Copy, PartialEq)]
 enum Value {
@@ -16,6 +17,23 @@ enum Value {
 pub struct Blur {
     pub sure: bool,
     pub error: i128,
+    /// Where there is a seed, what holds where each position is off by what the seed tells.
+    pub world: Option<u64>,
+}
+
+impl Blur {
+    /// How far a position of an object is off along the two axes at a tick, often by the whole error.
+    fn off(&self, seed: u64, name: &Word, tick: u32) -> (i128, i128) {
+        let mut hasher = DefaultHasher::new();
+        (seed, name, tick).hash(&mut hasher);
+        let drawn = hasher.finish();
+        let along = |bits: u64| match bits % 4 {
+            0 => -self.error,
+            1 => self.error,
+            _ => i128::from(bits / 4) % (2 * self.error + 1) - self.error,
+        };
+        (along(drawn & 0xffff_ffff), along(drawn >> 32))
+    }
 }
 
 /// Whether a number of this sign compares with 0 as `op` says.
@@ -75,7 +93,18 @@ impl Case<'_> {
     }
 
     fn position(&self, variable: usize, tick: u32) -> Option<(i128, i128)> {
-        position(self.objects[variable], tick)
+        let object = self.objects[variable];
+        let (x, y) = position(object, tick)?;
+        let (dx, dy) = match self.blur {
+            Some(blur @ Blur { world: Some(seed), .. }) => blur.off(seed, &object.name, tick),
+            _ => (0, 0),
+        };
+        Some((x + dx, y + dy))
+    }
+
+    /// By how much what is asked is judged in no one world.
+    fn blur(&self) -> Option<Blur> {
+        self.blur.filter(|blur| blur.world.is_none())
     }
 
     /// Whether an edge of the region has all these points strictly on its right.
@@ -92,7 +121,7 @@ impl Case<'_> {
     }
 
     fn inside(&self, region: usize, point: (i128, i128)) -> bool {
-        match self.blur {
+        match self.blur() {
             None => self.is_inside(region, point),
             Some(blur) if blur.sure => corners(point, blur.error).iter().all(|corner| self.is_inside(region, *corner)),
             Some(blur) => !self.is_beside_edge(region, &corners(point, blur.error)),
@@ -100,7 +129,7 @@ impl Case<'_> {
     }
 
     fn outside(&self, region: usize, point: (i128, i128)) -> bool {
-        match self.blur {
+        match self.blur() {
             None => !self.is_inside(region, point),
             Some(blur) if blur.sure => self.is_beside_edge(region, &corners(point, blur.error)),
             Some(blur) => !corners(point, blur.error).iter().all(|corner| self.is_inside(region, *corner)),
@@ -113,7 +142,7 @@ impl Case<'_> {
             return Some(matches!(op, 3..=5));
         }
         let (dx, dy) = ((p.0 - q.0).abs(), (p.1 - q.1).abs());
-        let Some(blur) = self.blur else { return Some(compares(op, dx * dx + dy * dy - c * c)) };
+        let Some(blur) = self.blur() else { return Some(compares(op, dx * dx + dy * dy - c * c)) };
         let error = if std::ptr::eq(self.objects[a], self.objects[b]) { 0 } else { 2 * blur.error };
         let squares = |x: i128, y: i128| x * x + y * y;
         let low = squares((dx - error).max(0), (dy - error).max(0)) - c * c;
