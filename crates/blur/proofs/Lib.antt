@@ -2,6 +2,7 @@ mod AddedLemmas
 mod ComparedLemmas
 mod PlaceLemmas
 mod BoundLemmas
+mod FloorLemmas
 mod PartLemmas
 mod PlaceStateLemmas
 mod ReadLemmas

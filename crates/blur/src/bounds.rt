@@ -1,9 +1,9 @@
 //! The squares of the least and of the greatest distance of two objects that move along lines.
-ghost use Rattle.std.specs.Prelude.{◌≡◌, ◌+◌, ◌*◌, ◌^◌, ◌≤◌, ℕ, pos, ◌+ℤ◌, ◌-ℤ◌, ◌*ℤ◌, unsigned_abs};
+ghost use Rattle.std.specs.Prelude.{◌≡◌, ◌+◌, ◌*◌, ◌^◌, ◌≤◌, ℕ, ℤ, pos, ◌+ℤ◌, ◌-ℤ◌, ◌*ℤ◌, ◌≤ℤ◌, unsigned_abs};
 ghost use Rattle.fixed_point.specs.declared.number.TheConstants.{SLOPE_LIMIT};
 ghost use Rattle.linear_crossing.specs.declared.quad.TheConstants.{COORDINATE_LIMIT};
 ghost use Rattle.tick_set.specs.declared.spans.TheConstants.{LAST_TICK};
-ghost use Rattle.blur.specs.Widened.{widened};
+ghost use Rattle.blur.specs.Widened.{IsBetween, widened};
 
 use convex::Convex;
 use exact::{plus, times};
@@ -52,6 +52,17 @@ impl SquareBound {
         SquareBound::between(from, to, 2 * u64::from(error), 0)
     }
 
+    /// A number that the bound is at least at each tick up to `last`: the sum of the squares of what it is at least on each
+    /// axis by itself. The two ends tell it where the objects stay on one side of each other on the axis.
+    pub fn floor(&self, last: u32) -> i128
+        requires { last ≤ LAST_TICK }
+        ensures { (k : ℕ) → k ≤ last → result ≤ℤ bound_after self.now k }
+    {
+        let x = least_size(self.x, self.dx, last, self.more, self.less);
+        let y = least_size(self.y, self.dy, last, self.more, self.less);
+        sum_of_squares(x, y)
+    }
+
     // The bound for two motions, by how much more and how much less their differences count.
     fn between(from: &Line, to: &Line, more: u64, less: u64) -> SquareBound
         requires from_in_reach { IsInReach from.now }
@@ -98,6 +109,31 @@ fn slope_apart(a: Slope, b: Slope) -> i64
     ensures size { unsigned_abs result ≤ 2 * SLOPE_LIMIT }
 {
     a.raw() - b.raw()
+}
+
+// What the size of a number, with so much more and so much less, is at least while some ticks pass.
+fn least_size(start: i64, step: i64, last: u32, more: u64, less: u64) -> u64
+    requires start_size { unsigned_abs start ≤ 2 * COORDINATE_LIMIT }
+    requires step_size { unsigned_abs step ≤ 2 * SLOPE_LIMIT }
+    requires tick { last ≤ LAST_TICK }
+    requires more_size { more ≤ 10 ^ 10 }
+    ensures least { (k : ℕ) → k ≤ last → result ≤ widened more less (start +ℤ step *ℤ pos k) }
+    ensures size { result ≤ 10 ^ 16 }
+{
+    let size = nearest_size(start, place_after(start, step, last));
+    (size + more).saturating_sub(less)
+}
+
+// What the sizes of two numbers, and of each number between them, are at least.
+fn nearest_size(first: i64, end: i64) -> u64
+    ensures least { (x : ℤ) → IsBetween first end x → result ≤ unsigned_abs x }
+    ensures size { result ≤ unsigned_abs first }
+{
+    if (first < 0) == (end < 0) {
+        first.unsigned_abs().min(end.unsigned_abs())
+    } else {
+        0
+    }
 }
 
 // The size of a number after some ticks, with so much more and so much less.

@@ -1,8 +1,9 @@
 //! The ticks at which the distance of two objects that may be off compares with a number.
 ghost use Rattle.std.specs.Prelude.{◌≡◌, ◌-◌, ◌&&◌, ◌*ℤ◌, ◌^◌, ◌≤◌, ℕ, OnOk, option_to_list, unsigned_abs};
+ghost use Rattle.convex.specs.Stretch.{is_low};
 ghost use Rattle.fixed_point.specs.declared.number.TheConstants.{FIX_LIMIT};
 ghost use Rattle.linear_crossing.specs.Moving.{IsInReach, position_after};
-ghost use Rattle.tick_set.specs.Runs.{spans_have};
+ghost use Rattle.tick_set.specs.Runs.{IsRuns, spans_have};
 ghost use Rattle.tick_set.specs.Ticks.{within};
 ghost use Rattle.worlds.specs.Apart.{distance_compares_by, farthest_square, nearest_square};
 ghost use Rattle.blur.specs.Added.{Adds, AreBefore};
@@ -78,18 +79,29 @@ fn add_compared(
 {
     let below = minus(x, 1);
     match op {
-        Op::Lt => add_without(runs, at_most(small, below, w), None),
-        Op::Le => add_without(runs, at_most(small, x, w), None),
-        Op::Eq => add_without(runs, at_most(small, x, w), at_most(large, below, w)),
+        Op::Lt => add_without(runs, low_ticks(small, below, w), None),
+        Op::Le => add_without(runs, low_ticks(small, x, w), None),
+        Op::Eq => add_without(runs, low_ticks(small, x, w), low_ticks(large, below, w)),
         Op::Ne => add_others(
             runs,
             w.span(),
-            at_most(large, x, w),
-            at_most(small, below, w),
+            low_ticks(large, x, w),
+            low_ticks(small, below, w),
         ),
-        Op::Ge => add_others(runs, w.span(), at_most(large, below, w), None),
-        Op::Gt => add_others(runs, w.span(), at_most(large, x, w), None),
+        Op::Ge => add_others(runs, w.span(), low_ticks(large, below, w), None),
+        Op::Gt => add_others(runs, w.span(), low_ticks(large, x, w), None),
     }
+}
+
+// The ticks of the window at which a bound, by the ticks since the window's first, is at most a limit. Most objects stay so
+// far from each other that its least value on each axis tells that there are none.
+fn low_ticks(bound: &SquareBound, limit: i128, w: Window) -> Option<Span>
+    ensures { IsRuns (is_low (bound_after bound.now) limit w) (option_to_list result) }
+{
+    if limit < bound.floor(w.hi - w.lo) {
+        return None;
+    }
+    at_most(bound, limit, w)
 }
 
 // The whole window or nothing.

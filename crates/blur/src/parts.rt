@@ -1,6 +1,6 @@
 //! The ticks of a window at which objects that may be off are in a region, or so far apart, part by part of their
 //! timelines.
-ghost use Rattle.std.specs.Prelude.{◌≡◌, ◌-◌, ◌≤◌, ◌&&◌, ℕ, false, option_map, IfOk, IfSome, OnOk};
+ghost use Rattle.std.specs.Prelude.{◌≡◌, ◌-◌, ◌≤◌, ◌&&◌, ℕ, false, Some, option_map, IfOk, IfSome, OnOk};
 ghost use Rattle.std.specs.Option.{option_map_or};
 ghost use Rattle.courses.specs.Places.{place_at};
 ghost use Rattle.linear_crossing.specs.Moving.{IsInReach, position_after};
@@ -9,13 +9,13 @@ ghost use Rattle.tick_set.specs.Ticks.{within};
 ghost use Rattle.worlds.specs.Blurred.{distance_holds_by};
 ghost use Rattle.blur.specs.Added.{Adds, AreBefore};
 ghost use Rattle.blur.specs.Asked.{comparison, is_on_side};
-ghost use Rattle.blur.specs.Parts.{IsSteadyPart, place_in};
+ghost use Rattle.blur.specs.Parts.{IsSteadyPart, MovesAlong, place_in};
 
 use crate::distances::add_apart;
 use crate::places::{add_inside, add_outside};
 use crate::question::Blur;
 use case_table::Op;
-use courses::{Common, common_from, line_from};
+use courses::{Common, common_from, line_from, straight_line};
 use fixed_point::Fix;
 use linear_crossing::Line;
 use motion::Timeline;
@@ -51,6 +51,57 @@ pub fn region_runs(
 /// The runs of the ticks of the window at which the objects of two timelines, which are different objects, have places whose
 /// distance compares so with a number of thousandths, surely or possibly.
 pub fn distance_runs(
+    alloc: Global,
+    from: &Timeline,
+    to: &Timeline,
+    op: Op,
+    c: Fix,
+    blur: Blur,
+    w: Window,
+) -> Result<Vec<Span>, AllocError>
+    ensures { IfOk result (λ runs. IsRuns (λ t. within w.lo w.hi t
+        && distance_holds_by (comparison blur.sure) blur.error op c (place_at from.now t) (place_at to.now t)) runs.items) }
+{
+    match straight_lines(from, to, w.span()) {
+        Some((first, second)) => runs_along(alloc, &first, &second, op, c, blur, w),
+        None => runs_by_parts(alloc, from, to, op, c, blur, w),
+    }
+}
+
+// The lines along which both objects move throughout the span, as most do. None tells nothing.
+fn straight_lines(from: &Timeline, to: &Timeline, span: Span) -> Option<(Line, Line)>
+    ensures reach { IfSome result (λ lines. IsInReach lines.0 × IsInReach lines.1) }
+    ensures first { IfSome result (λ lines. MovesAlong from.now span lines.0) }
+    ensures second { IfSome result (λ lines. MovesAlong to.now span lines.1) }
+{
+    let first = straight_line(from, span)?;
+    let second = straight_line(to, span)?;
+    Some((first, second))
+}
+
+// The runs of these ticks, where the objects move along lines by the ticks since the window's first.
+fn runs_along(
+    alloc: Global,
+    from: &Line,
+    to: &Line,
+    op: Op,
+    c: Fix,
+    blur: Blur,
+    w: Window,
+) -> Result<Vec<Span>, AllocError>
+    requires from_in_reach { IsInReach from.now }
+    requires to_in_reach { IsInReach to.now }
+    ensures { IfOk result (λ runs. IsRuns (λ t. within w.lo w.hi t
+        && distance_holds_by (comparison blur.sure) blur.error op c
+        (Some (position_after from.now (t - w.lo))) (Some (position_after to.now (t - w.lo)))) runs.items) }
+{
+    let mut runs = Runs::new(alloc);
+    add_apart(&mut runs, from, to, op, c, blur, w)?;
+    Ok(runs.finish())
+}
+
+// The same, by the common parts of the timelines.
+fn runs_by_parts(
     alloc: Global,
     from: &Timeline,
     to: &Timeline,

@@ -4,7 +4,7 @@ use Rattle.worlds.specs.Blurred.{distance_holds_by}
 use Rattle.blur.specs.Asked.{comparison}
 use Rattle.blur.specs.Parts.{place_in}
 use Rattle.blur.proofs.PartLemmas.{gathered_before, gathered_more, place_along}
-use Rattle.blur.proofs.parts.distance_runs.Goals as goal
+use Rattle.blur.proofs.parts.runs_by_parts.Goals as goal
 
 pub add_distance_part-requires-clause-before : goal.add_distance_part-requires-clause-before
 add_distance_part-requires-clause-before c =

@@ -3,7 +3,7 @@ use Rattle.courses.specs.Places.{place_at}
 use Rattle.worlds.specs.Blurred.{distance_holds_by}
 use Rattle.blur.specs.Asked.{comparison}
 use Rattle.blur.specs.Parts.{IsGathered}
-use Rattle.blur.proofs.parts.distance_runs.Given as goal
+use Rattle.blur.proofs.parts.runs_by_parts.Given as goal
 
 -- the ticks before `at` are settled
 abbrev pub invariant-joining : goal.invariant-joining
