@@ -1,4 +1,4 @@
--- The rows of values between two bounds answer the query for them.
+-- For this crate and for the crates above: the rows of values between two bounds answer the query for them.
 use Rattle.std.proofs.Common.{◌≡◌, ℕ, zero, suc, ◌<◌, ℤ, ◌*ℤ◌, pos, Bool, true, false, ◌&&◌, Option, None, Some, List, [], ◌∷◌, map, length, get_or, refl, sym, ap, ◌∙◌, inl, inr, arith}
 use Rattle.std.specs.Prelude.{All, int_le, is_some, option_map, option_and_then, slice_get, slice_index, if◌then◌else◌}
 use Rattle.std.specs.List.{flat_map, list_any}

@@ -1,4 +1,4 @@
--- The rows of values between two bounds: those that answer the query, and those of the candidates.
+-- For this crate and for the crates above: the rows of values between two bounds are told by the candidates.
 use Rattle.std.proofs.Common.{◌≡◌, ℕ, zero, suc, ◌+◌, ◌-◌, ◌<◌, ◌≤◌, ℤ, Bool, true, false, ◌&&◌, Option, None, Some, List, [], ◌∷◌, map, get_or, refl, ap, ◌∙◌, arith}
 use Rattle.std.specs.Prelude.{All, int_lt, int_le, slice_index, if◌then◌else◌}
 use Rattle.std.specs.List.{filter, range_with_len}
