@@ -1,6 +1,7 @@
 pub mod CutLemmas
 pub mod DigitLemmas
 pub mod KeptLemmas
+pub mod LacksLemmas
 pub mod LineLemmas
 pub mod ReadLemmas
 pub mod SavedLemmas

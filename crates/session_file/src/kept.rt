@@ -1,7 +1,7 @@
 //! Lines that are commands of a journal.
-ghost use Rattle.std.specs.Prelude.{◌≡◌, ◌≤◌, ◌&&◌, nat_le, length, option_map, None, IfOk, IfErr, MatchOption};
+ghost use Rattle.std.specs.Prelude.{◌≡◌, ◌≤◌, ◌&&◌, nat_le, length, option_map, None, IfOk, IfErr, MatchOption, OnErr};
 ghost use Rattle.command_text.specs.Tree.{command_view};
-ghost use Rattle.command_text.specs.Line.{IsRead};
+ghost use Rattle.command_text.specs.Line.{IsRead, early_refusal};
 ghost use Rattle.command_text.specs.Text.{text_of};
 ghost use Rattle.command_text.specs.Journal.{is_kept};
 ghost use Rattle.session_file.specs.Kept.{is_passed, kept_in, may_be_loaded};
@@ -78,6 +78,7 @@ fn may_be_loaded(alloc: Global, line: &[u8], command: &Command) -> Result<bool, 
 fn read_line(reader: &mut LineReader, line: &[u8]) -> Result<Option<Command>, FileFault>
     ensures ok { IfOk result (λ found. MatchOption found (None ≡ kept_in line.now) (λ c. IsRead SESSION_LINE_LIMIT line.now (command_view c))) }
     ensures err { IfErr result (λ fault. fault ≡ faults.NoMemory) }
+    ensures late { OnErr result (early_refusal SESSION_LINE_LIMIT line.now ≡ None) }
 {
     match reader.read(line, SESSION_LINE_LIMIT) {
         Ok(command) => Ok(Some(command)),
@@ -103,7 +104,9 @@ fn if_loaded(alloc: Global, line: &[u8], command: Command) -> Result<Option<Comm
     }
 }
 
-/// The command of a line, None where it is refused or none that a journal keeps.
+/// The command of a line, None where it is refused or none that a journal keeps. Want of memory is told of no line that
+/// one of the first three refusals holds of.
+#[tactic(auto, using(crate::proofs::KeptLemmas::read_late))]
 pub(crate) fn kept_in(
     alloc: Global,
     reader: &mut LineReader,
@@ -111,6 +114,7 @@ pub(crate) fn kept_in(
 ) -> Result<Option<Command>, FileFault>
     ensures ok { IfOk result (λ found. option_map command_view found ≡ kept_in line.now) }
     ensures err { IfErr result (λ fault. fault ≡ faults.NoMemory) }
+    ensures late { OnErr result (early_refusal SESSION_LINE_LIMIT line.now ≡ None) }
 {
     let Some(command) = read_line(reader, line)? else {
         return Ok(None);

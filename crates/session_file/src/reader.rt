@@ -1,8 +1,11 @@
 //! The commands of a text, one after another.
-ghost use Rattle.std.specs.Prelude.{◌≡◌, ◌+◌, ◌^◌, ◌≤◌, length, IfOk, IfErr, OnErr, IfSome, true, option_map, if◌then◌else◌, None, Some};
+ghost use Rattle.std.specs.Prelude.{◌≡◌, ◌≢◌, ◌+◌, ◌^◌, ◌≤◌, length, IfOk, IfErr, OnErr, IfSome, true, option_map, if◌then◌else◌, None, Some};
 ghost use Rattle.std.specs.Str.Lines.{lines};
 ghost use Rattle.command_text.specs.Tree.{command_view};
 ghost use Rattle.session_file.specs.Kept.{HasLine, kept_in};
+ghost use Rattle.command_text.specs.Line.{early_refusal};
+ghost use Rattle.session_file.specs.declared.kept.TheConstants.{SESSION_LINE_LIMIT};
+ghost use Rattle.session_file.specs.Lacks.{IsAtCommand};
 ghost use Rattle.session_file.specs.Reading.{Explains, GivesNext, StopsBy, ended, may_go_on, read_counted, read_on, reading_of, starting, stops};
 ghost use Rattle.command_text.specs.declared.journal.TheConstants.{MOST_ENTRIES};
 ghost use Rattle.session_file.specs.declared.counts.Counts.{Counts};
@@ -61,6 +64,7 @@ impl<'a> SessionReader<'a> {
     pub fn new(alloc: Global, text: &'a [u8]) -> Result<SessionReader<'a>, FileFault>
         ensures ok { IfOk result (λ reader. reader ≡ reading_of text.now) }
         ensures fault { IfErr result (λ fault. reading_of text.now ≡ stops fault) }
+        ensures memory { IfErr result (λ fault. fault ≢ faults.NoMemory) }
     {
         let Some((first, rest)) = split_line(text) else {
             return Err(FileFault::BadHeader);
@@ -99,6 +103,7 @@ impl<'a> SessionReader<'a> {
         requires { length text.now + 2 ≤ 2 ^ 63 }
         ensures ok { IfOk result (λ reader. reader ≡ read_counted (lines text.now)) }
         ensures fault { IfErr result (λ fault. read_counted (lines text.now) ≡ stops fault) }
+        ensures memory { IfErr result (λ fault. fault ≢ faults.NoMemory) }
     {
         match split_line(text) {
             Some((line, rest)) => match counts_of(line) {
@@ -110,12 +115,14 @@ impl<'a> SessionReader<'a> {
     }
 
     /// The first command that is left, None where the text has no more and is no longer faulty. After an
-    /// `Err` the same is left as before.
+    /// `Err` the same is left as before. Want of memory is told only at a line where a command may stand, of
+    /// which none of the first three refusals holds.
     #[tactic(auto, using(crate::proofs::ReadLemmas::read_steps))]
     pub fn next_command(&mut self) -> Result<Option<Loaded>, FileFault>
         ensures ok { IfOk result (GivesNext self.old self.new) }
         ensures line { IfOk result (λ found. IfSome found (λ loaded. HasLine (command_view loaded.command))) }
         ensures fault { IfErr result (StopsBy self.old) }
+        ensures memory { IfErr result (λ fault. fault ≡ faults.NoMemory → IsAtCommand self.old) }
         ensures err { OnErr result (self.new ≡ self.old) }
     {
         let Some((number, line, rest)) = next_written(self.number, self.text) else {
@@ -152,6 +159,7 @@ fn taken(
     ensures ok { IfOk result (λ found. option_map command_view found ≡ (if may_go_on progress.now then kept_in line.now else None)) }
     ensures room { IfOk result (λ found. IfSome found (λ _. may_go_on progress.now ≡ true)) }
     ensures err { IfErr result (λ fault. fault ≡ faults.NoMemory) }
+    ensures late { OnErr result ((may_go_on progress.now ≡ true) × (early_refusal SESSION_LINE_LIMIT line.now ≡ None)) }
 {
     if !progress.may_go_on() {
         return Ok(None);
