@@ -260,7 +260,7 @@ module _ (line : List ℕ) (c : CommandTree) (read : IsRead LINE_LIMIT line c) w
         h.3 ∙ ap (λ reply. before ++ reply) (sym (ap (λ (s : Base × List ℕ). s.1) stepped)),
       )
 
-  does_answers : (next : Next) (b : Base) (new : Held) (before after : List ℕ) → Does next b c new before after →
+  pub does_answers : (next : Next) (b : Base) (new : Held) (before after : List ℕ) → Does next b c new before after →
       Answers next b line new before after
   does_answers nexts.Silent b new before after h = did nexts.Silent b new before after h
   does_answers nexts.Accepted b new before after h = did nexts.Accepted b new before after h
@@ -333,7 +333,7 @@ refused_applies told line old before r first = record {
   fails = tt;
 }
 
-same_leaves : (b : Base) (c : CommandTree) → LeavesHeld b c b.held
+pub same_leaves : (b : Base) (c : CommandTree) → LeavesHeld b c b.held
 same_leaves b (Tree.Import class file) = inl refl
 same_leaves b c = refl
 

@@ -11,4 +11,6 @@ pub mod TrialLemmas
 pub mod CarriedLemmas
 pub mod EnterLemmas
 pub mod FileLemmas
+pub mod UntoldLemmas
 pub mod LoadLemmas
+pub mod ReachedLemmas

@@ -44,6 +44,10 @@ Answers next b line new before after =
 abbrev pub Suffices : Option Texts → List ℕ → Texts → Type 0
 Suffices told line texts = is_import (spelled line) ≡ true → told ≡ Some texts
 
+-- texts that a shelf may have: those that it tells, and any where it tells none
+abbrev pub MayHave : Option Texts → Texts → Type 0
+MayHave told texts = (all : Texts) → told ≡ Some all → texts ≡ all
+
 -- a refused line changes nothing, also where no text is told
 abbrev pub IsUnchanged : Next → Held → Held → List ℕ → List ℕ → Type 0
 IsUnchanged (nexts.Refused r) old new before after = (new ≡ old) × (after ≡ before)

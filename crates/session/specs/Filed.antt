@@ -12,7 +12,7 @@ use Rattle.session.specs.declared.next.ApplyFault.{ApplyFault}
 use Rattle.session.specs.declared.next.ApplyFault.TheVariants as apply_faults
 use Rattle.session.specs.declared.next.Next.{Next}
 use Rattle.session.specs.declared.next.Next.TheVariants as nexts
-use Rattle.session.specs.Answers.{IsUnchanged, IsUnread, LeavesHeld, LeavesTexts, next_of}
+use Rattle.session.specs.Answers.{IsUnchanged, IsUnread, LeavesHeld, LeavesTexts, MayHave, next_of}
 use Rattle.session.specs.Carried.{Moment}
 
 -- a command that asks the shelf
@@ -76,6 +76,15 @@ pub record IsAnswered (told left : Option Texts) (c : CommandTree) (old new : Mo
   pub steps : TakesSteps old.tally.reads new.tally.reads old.tally.probes new.tally.probes result
   pub most : (texts : Texts) → SufficesFor told c texts → new.tally.reads ≤ old.tally.reads + looks_of (base old.holds texts) c
   pub plain : is_query c ≡ false → new.tally.probes ≡ old.tally.probes
+
+-- What is done with a command by some texts that the shelf may have, also where it tells none: an import is then that of the
+-- text which was fetched.
+pub record IsBySome (told : Option Texts) (c : CommandTree) (old new : Moment) (result : Result Next ApplyFault) : Type 0 where
+  pub texts : Texts
+  pub agree : MayHave told texts
+  pub does : IfOk result (λ next. Does next (base old.holds texts) c new.holds old.tally.said new.tally.said)
+  pub leaves : IfErr result (λ fault. LeavesHeld (base old.holds texts) c new.holds)
+  pub most : new.tally.reads ≤ old.tally.reads + looks_of (base old.holds texts) c
 
 -- the bytes after what was done, where those after an error are cut off
 abbrev pub said_after : {T E : Type 0} → Result T E → List ℕ → List ℕ → List ℕ

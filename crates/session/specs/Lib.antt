@@ -10,4 +10,5 @@ pub mod Replayed
 pub mod Loads
 pub mod Rows
 pub mod Trial
+pub mod Untold
 pub mod Imported

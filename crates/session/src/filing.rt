@@ -1,17 +1,18 @@
 //! The commands that ask the shelf for a text, or give it one.
-ghost use Rattle.std.specs.Prelude.{◌≡◌, ◌+◌, ◌≤◌, ◌++◌, None, Some, List, ℕ, length, IfOk, MatchOption, OnOk};
+ghost use Rattle.std.specs.Prelude.{◌≡◌, ◌+◌, ◌≤◌, ◌++◌, true, None, Some, List, ℕ, length, IfOk, MatchOption, OnOk};
 ghost use Rattle.command_text.specs.Shape.{IsShortName};
 ghost use Rattle.command_text.specs.Tree as Tree;
 ghost use Rattle.command_text.specs.Tree.{command_view};
 ghost use Rattle.object_rows.specs.declared.rows.ObjectRow.{ObjectRow};
 ghost use Rattle.line_meaning.specs.Import.{journal_after_text, rows_for};
 ghost use Rattle.line_meaning.specs.Looks.{looks_of_rows, most_looks};
+ghost use Rattle.line_meaning.specs.Role.{is_import};
 ghost use Rattle.line_meaning.specs.Reply.{ok_line};
 ghost use Rattle.line_meaning.specs.Step.{held};
 ghost use Rattle.reply_text.specs.Begins.{Begins};
 ghost use Rattle.session.specs.Answers.{HasCause, IsUnread};
 ghost use Rattle.session.specs.Carried.{moment};
-ghost use Rattle.session.specs.Filed.{IsAnswered, IsApplied, IsFiling, Puts, TakesSteps, said_after};
+ghost use Rattle.session.specs.Filed.{IsAnswered, IsApplied, IsBySome, IsFiling, Puts, TakesSteps, said_after};
 ghost use Rattle.session.specs.Imported.{Imports, IsThere};
 ghost use Rattle.session.specs.State.{IsState};
 ghost use Rattle.session.specs.Trial.{AreImported};
@@ -180,6 +181,9 @@ fn import<F: Shelf, L: Ledger, M: Ledger>(
     ensures answered { IsAnswered (F.texts shelf.old) (F.texts shelf.new) (Tree.Import class.now file.now)
         (moment (held state.old.journal) out.old.items reads.old probes.old)
         (moment (held state.new.journal) (said_after result out.old.items out.new.items) reads.new probes.new) result }
+    ensures some { IsBySome (F.texts shelf.old) (Tree.Import class.now file.now)
+        (moment (held state.old.journal) out.old.items reads.old probes.old)
+        (moment (held state.new.journal) (said_after result out.old.items out.new.items) reads.new probes.new) result }
     ensures cause { HasCause (F.faults shelf.old) (F.faults shelf.new) result }
     ensures begins { Begins out.old.items out.new.items }
 {
@@ -210,6 +214,9 @@ fn carry_out<F: Shelf, L: Ledger, M: Ledger>(
     ensures answered { IsAnswered (F.texts shelf.old) (F.texts shelf.new) (command_view command.now)
         (moment (held state.old.journal) out.old.items reads.old probes.old)
         (moment (held state.new.journal) (said_after result out.old.items out.new.items) reads.new probes.new) result }
+    ensures some { is_import (command_view command.now) ≡ true → IsBySome (F.texts shelf.old) (command_view command.now)
+        (moment (held state.old.journal) out.old.items reads.old probes.old)
+        (moment (held state.new.journal) (said_after result out.old.items out.new.items) reads.new probes.new) result }
     ensures cause { HasCause (F.faults shelf.old) (F.faults shelf.new) result }
     ensures begins { Begins out.old.items out.new.items }
 {
@@ -238,6 +245,9 @@ pub(crate) fn file<F: Shelf, L: Ledger, M: Ledger>(
     requires filing { IsFiling (command_view command.now) }
     ensures state { IsState state.new.journal state.new }
     ensures answered { IsAnswered (F.texts shelf.old) (F.texts shelf.new) (command_view command.now)
+        (moment (held state.old.journal) out.old.items reads.old probes.old)
+        (moment (held state.new.journal) out.new.items reads.new probes.new) result }
+    ensures some { is_import (command_view command.now) ≡ true → IsBySome (F.texts shelf.old) (command_view command.now)
         (moment (held state.old.journal) out.old.items reads.old probes.old)
         (moment (held state.new.journal) out.new.items reads.new probes.new) result }
     ensures cause { HasCause (F.faults shelf.old) (F.faults shelf.new) result }

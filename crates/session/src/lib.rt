@@ -16,7 +16,7 @@ mod session;
 mod state;
 mod trying;
 
-pub use laws::read_commands_are_legible;
+pub use laws::{loaded_sessions_are_reached, read_commands_are_legible};
 pub use loading::{LoadFault, load};
 pub use next::{ApplyFault, Next};
 pub use session::Session;

@@ -1,10 +1,11 @@
 //! Sessions that were saved, loaded again.
-ghost use Rattle.std.specs.Prelude.{◌≡◌, [], Err, IfErr, IfOk, IfSome};
+ghost use Rattle.std.specs.Prelude.{◌≡◌, ◌+◌, ◌≤◌, [], Err, IfErr, IfOk, IfSome};
 ghost use Rattle.command_text.specs.Tree.{command_view};
 ghost use Rattle.session_file.specs.Kept.{HasLine};
 ghost use Rattle.session_file.specs.Reading.{Explains, GivesNext, loaded_view, reading_of};
 ghost use Rattle.line_meaning.specs.Loading.{BadLine, replayed};
-ghost use Rattle.session.specs.Loads.{Loads, Takes};
+ghost use Rattle.line_meaning.specs.Looks.{most_looks};
+ghost use Rattle.session.specs.Loads.{Loads, Takes, looks_of_loading};
 
 use crate::next::Next;
 use crate::session::Session;
@@ -39,14 +40,17 @@ impl From<AllocError> for LoadFault {
 }
 
 /// The session whose text this is, in formats 1 and 2: its commands are carried out one by one, as they are
-/// read, without replies, so that no more than one is held at a time. `reads` counts the looks at timelines.
+/// read, without replies, so that no more than one is held at a time. Steps of `reads` are taken at most as many as
+/// the bounds of the commands that are carried out, each by what is held before it.
 pub fn load<L: Ledger, M: Ledger>(
     alloc: Global,
     text: &[u8],
     reads: &mut Steps<L>,
     probes: &mut Steps<M>,
 ) -> Result<Session, LoadFault>
-    ensures { Loads text.now result }
+    ensures loads { Loads text.now result }
+    ensures least { reads.old ≤ reads.new }
+    ensures most { reads.new ≤ reads.old + looks_of_loading text.now }
 {
     match SessionReader::new(alloc, text) {
         Ok(reader) => replay_commands(alloc, text, reader, reads, probes),
@@ -76,7 +80,9 @@ fn replay_commands<L: Ledger, M: Ledger>(
     probes: &mut Steps<M>,
 ) -> Result<Session, LoadFault>
     requires { reader ≡ reading_of text.now }
-    ensures { Loads text.now result }
+    ensures loads { Loads text.now result }
+    ensures least { reads.old ≤ reads.new }
+    ensures most { reads.new ≤ reads.old + looks_of_loading text.now }
 {
     let mut session = Session::new(alloc);
     'commands: while let Some(loaded) = next_command(text, &mut reader)? {
@@ -109,7 +115,9 @@ fn is_taken<L: Ledger, M: Ledger>(
     probes: &mut Steps<M>,
 ) -> Result<bool, AllocError>
     requires { HasLine (command_view command) }
-    ensures { IfOk result (Takes session.old (command_view command) session.new) }
+    ensures takes { IfOk result (Takes session.old (command_view command) session.new) }
+    ensures least { reads.old ≤ reads.new }
+    ensures most { reads.new ≤ reads.old + most_looks session.old (command_view command) }
 {
     read_commands_are_printable();
     canonical_lines_are_read_back();

@@ -4,14 +4,15 @@ ghost use Rattle.command_text.specs.Journal.{clock, is_kept, spelled};
 ghost use Rattle.command_text.specs.Tree.{command_view};
 ghost use Rattle.line_meaning.specs.Journal.{world};
 ghost use Rattle.line_meaning.specs.Looks.{is_query, looks_of, most_looks};
-ghost use Rattle.line_meaning.specs.Role.{asks_shelf};
+ghost use Rattle.line_meaning.specs.Role.{asks_shelf, is_import};
 ghost use Rattle.line_meaning.specs.Step.{base, held};
 ghost use Rattle.outside.specs.Shelf.{Texts};
 ghost use Rattle.session.specs.Carried.{Carried, HasRoomFor, IsLegible, moment};
-ghost use Rattle.session.specs.Filed.{IsAnswered};
+ghost use Rattle.session.specs.Filed.{IsAnswered, IsBySome};
 ghost use Rattle.session.specs.Replayed.{Replays};
 ghost use Rattle.session.specs.State.{IsState};
 ghost use Rattle.session.specs.Answers.{Applies, HasCause, IsUnread, Suffices};
+ghost use Rattle.session.specs.Untold.{AppliesBySome};
 
 use crate::answer::{carry_out, end};
 use crate::filing::file;
@@ -102,6 +103,11 @@ impl Session {
         ensures untouched { asks_shelf (spelled line.now) ≡ false → shelf.new ≡ shelf.old }
         ensures least { reads.old ≤ reads.new }
         ensures most { (texts : Texts) → Suffices (F.texts shelf.old) line.now texts → reads.new ≤ reads.old + looks_of (base self.old texts) (spelled line.now) }
+
+        // Also where the shelf tells no texts: it is so by some that it may have, so that an `import` is one of some text.
+        ensures some { AppliesBySome (F.texts shelf.old) line.now (moment self.old out.old.items reads.old probes.old)
+            (moment self.new out.new.items reads.new probes.new) result }
+
         ensures unread { IfOk result (λ next. IsUnread next reads.old reads.new) }
         ensures unprobed { IfOk result (λ next. IsUnread next probes.old probes.new) }
         ensures plain { is_query (spelled line.now) ≡ false → probes.new ≡ probes.old }
@@ -178,6 +184,9 @@ fn apply_command<F: Shelf, L: Ledger, M: Ledger>(
     requires legible { IsLegible (command_view command.now) }
     ensures state { IsState state.new.journal state.new }
     ensures answered { IsAnswered (F.texts shelf.old) (F.texts shelf.new) (command_view command.now)
+        (moment (held state.old.journal) out.old.items reads.old probes.old)
+        (moment (held state.new.journal) out.new.items reads.new probes.new) result }
+    ensures some { is_import (command_view command.now) ≡ true → IsBySome (F.texts shelf.old) (command_view command.now)
         (moment (held state.old.journal) out.old.items reads.old probes.old)
         (moment (held state.new.journal) out.new.items reads.new probes.new) result }
     ensures cause { HasCause (F.faults shelf.old) (F.faults shelf.new) result }

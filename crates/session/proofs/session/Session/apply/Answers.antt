@@ -13,6 +13,9 @@ use Rattle.session.specs.declared.next.Next.TheVariants as nexts
 use Rattle.session.specs.Answers.{Applies}
 use Rattle.session.specs.Filed.{IsApplied, SufficesFor}
 use Rattle.session.proofs.AnswerLemmas.{applied_line, lacks_applies, looks_line, no_looks, refused_applies}
+use Rattle.session.specs.Carried.{moment}
+use Rattle.session.specs.Untold.{AppliesBySome}
+use Rattle.session.proofs.UntoldLemmas.{applies_by_some, lacks_by_some, refused_by_some}
 use Rattle.session.proofs.session.Session.apply.Goals as goal
 
 pub returns-in-Err-Refused-clause-applies : goal.returns-in-Err-Refused-clause-applies
@@ -63,3 +66,39 @@ returns-clause-most g c =
     c.args.self.now (held c.apply_command-applied.new.state.journal) c.args.out.now.items c.apply_command-applied.new.out.items _ _
     (subst (λ (old : Held). (texts : Texts) → SufficesFor (g.F.Shelf.texts c.args.shelf.now) (command_view c.in-Ok.command) texts →
     c.apply_command-applied.new.reads ≤ c.args.reads.now + looks_of (base old texts) (command_view c.in-Ok.command)) c.self.view_is c.apply_command-applied.ensures.answered.most)
+
+pub returns-in-Err-Refused-clause-some : goal.returns-in-Err-Refused-clause-some
+returns-in-Err-Refused-clause-some g c =
+    let line = c.args.line.now in
+    let out = c.args.out.now.items in
+    let reads = c.args.reads.now in
+    let probes = c.args.probes.now in
+    let r = c.in-Err-Refused.refusal in
+    let told = g.F.Shelf.texts c.args.shelf.now in
+    subst (λ (new : Held). AppliesBySome told line (moment c.args.self.now out reads probes) (moment new out reads probes) (Ok (nexts.Refused r)))
+    (sym c.self.view_is)
+    (refused_by_some told line (moment c.args.self.now out reads probes) r
+    (subst (Explains LINE_LIMIT line) c.in-Err-Refused.field-0-is
+    (subst (λ (x : Result Command CommandFault). IfErr x (Explains LINE_LIMIT line)) c.in-Err-Refused.is c.read.ensures.cause)))
+
+pub returns-in-Err-NoMemory-clause-some : goal.returns-in-Err-NoMemory-clause-some
+returns-in-Err-NoMemory-clause-some g c =
+    let line = c.args.line.now in
+    let out = c.args.out.now.items in
+    let reads = c.args.reads.now in
+    let probes = c.args.probes.now in
+    let told = g.F.Shelf.texts c.args.shelf.now in
+    subst (λ (new : Held). AppliesBySome told line (moment c.args.self.now out reads probes) (moment new out reads probes) (Err apply_faults.NoMemory))
+    (sym c.self.view_is)
+    (lacks_by_some told line (moment c.args.self.now out reads probes))
+
+pub returns-clause-some : goal.returns-clause-some
+returns-clause-some g c =
+    let told = g.F.Shelf.texts c.args.shelf.now in
+    let line = c.args.line.now in
+    let new = held c.apply_command-applied.new.state.journal in
+    subst (λ (old : Held). AppliesBySome told line (moment old c.args.out.now.items c.args.reads.now c.args.probes.now)
+    (moment new c.apply_command-applied.new.out.items c.apply_command-applied.new.reads c.apply_command-applied.new.probes) c.apply_command-applied.result)
+    c.self.view_is
+    (applies_by_some _ _ line (command_view c.in-Ok.command) c.in-Ok.ensures.ok _ _ c.apply_command-applied.result
+    c.apply_command-applied.ensures.answered c.apply_command-applied.ensures.some)
