@@ -1,5 +1,5 @@
 -- A run by its plan: what is said, or the lines that are answered.
-use Rattle.std.proofs.Common.{inl, inr, ◌≡◌, ◌≤◌, ◌+◌, ℕ, Bool, true, false, List, Option, None, Some, Result, Ok, Err, refl, ap, sym, subst, ◌∙◌}
+use Rattle.std.proofs.Common.{inl, inr, ◌≡◌, ◌≤◌, ◌+◌, ℕ, Bool, true, false, List, Option, None, Some, Result, Ok, Err, refl, ap, sym, subst, ◌∙◌, arith}
 use Rattle.std.specs.Prelude.{option_map}
 use Rattle.outside.specs.declared.fault.OutFail.{OutFail}
 use Rattle.outside.specs.declared.fault.OutFail.TheVariants as fails
@@ -14,14 +14,14 @@ use Rattle.run_ends.specs.declared.status.Status.TheVariants.{Done, BadWords, Ba
 use Rattle.run_ends.specs.Ends.{Seen}
 use Rattle.run_ends.specs.Saying.{Speaks, status_said}
 use Rattle.run_ends.specs.Status.{HasCause, ending_by, status_of}
-use Rattle.run_ends.specs.Whole.{Says, Answers}
+use Rattle.run_ends.specs.Whole.{Plan, Says, Answers}
 use Rattle.run_ends.proofs.CallerLemmas.{answered_cause, answered_ends, is_saying, is_within, said_cause, said_ends, said_within, takes_none}
 use Rattle.domino_run.specs.Ends.{KeepsLimit, TakesWithin, may_end}
-use Rattle.domino_run.specs.Looks.{LooksWithin, looks_of_input}
+use Rattle.domino_run.specs.Looks.{LooksWithin, looks_of_input, looks_of_plan, looks_of_text}
 use Rattle.domino_run.specs.Machine.{State, leaves, machine, state_of, texts_in}
 use Rattle.domino_run.specs.Parts.{AnswersLines, FaultCounts, OpenHasCause, Opens}
 use Rattle.domino_run.specs.Theorem.{RunsAs, given}
-use Rattle.domino_run.specs.Whole.{plan_of, started}
+use Rattle.domino_run.specs.Whole.{plan_of, plan_stored, started}
 use Rattle.domino_run.specs.declared.opening.OpenFault.{OpenFault}
 use Rattle.domino_run.specs.Words.{Words, Bad, Plain, Generated, Stored}
 
@@ -180,7 +180,7 @@ module _ (limit : ℕ) (words : Words) (said : List ℕ) (end : Status) (before 
     pub saying : is_saying end ≡ true
     pub may : may_end words end ≡ true
     pub plan : (texts : Texts) → before.texts ≡ Some texts → plan_of words texts ≡ Says said end
-    pub within : (bytes : List ℕ) (texts : Texts) → LooksWithin words limit bytes texts looks looks'
+    pub within : (bytes : List ℕ) (texts : Texts) → before.texts ≡ Some texts → LooksWithin words limit bytes texts looks looks'
 
   may_fail : (words : Words) → may_end words WriteFault ≡ true
   may_fail Bad = refl
@@ -211,7 +211,7 @@ module _ (limit : ℕ) (words : Words) (said : List ℕ) (end : Status) (before 
         ends = λ bytes written texts left_is written_is texts_is.
             said_ends machine leaves texts_in (given words limit bytes written texts) after said end s.result w.saying
             (w.plan texts texts_is) (s.bytes written written_is) (a.left_stays ∙ left_is) (a.texts_stay ∙ texts_is);
-        within = λ bytes written texts left_is written_is texts_is. w.within bytes texts;
+        within = λ bytes written texts left_is written_is texts_is. w.within bytes texts texts_is;
       })
 
 -- ---- Nothing is done
@@ -224,7 +224,8 @@ may_lack_any (Stored name) = refl
 
 -- memory is out before anything is
 pub nothing_done : (limit : ℕ) (words : Words) (before after : Seen) (looks looks' : ℕ) → after ≡ before →
-    ((bytes : List ℕ) (texts : Texts) → LooksWithin words limit bytes texts looks looks') → RunsAs limit words before after looks looks' NoMemory
+    ((bytes : List ℕ) (texts : Texts) → before.texts ≡ Some texts → LooksWithin words limit bytes texts looks looks') →
+    RunsAs limit words before after looks looks' NoMemory
 nothing_done limit words before after looks looks' same within = record {
   fits = may_lack_any words;
   cause = ap (λ (s : Seen). s.faults) same;
@@ -234,14 +235,29 @@ nothing_done limit words before after looks looks' same within = record {
     unsaid = ap (λ (s : Seen). s.written) same ∙ written_is;
     texts_stay = ap (λ (s : Seen). s.texts) same ∙ texts_is;
   }));
-  within = λ bytes written texts left_is written_is texts_is. within bytes texts;
+  within = λ bytes written texts left_is written_is texts_is. within bytes texts texts_is;
 }
+
+-- ---- The looks of a session that is stored
+
+-- its loading alone
+pub opened_within : (looks looks' opening more : ℕ) → looks' ≤ looks + opening → looks' ≤ looks + (opening + more)
+opened_within looks looks' opening more most = omega (arith, most)
+
+-- its loading, and then the lines
+pub stored_within : (name : List ℕ) (h : Held) (limit : ℕ) (bytes : List ℕ) (texts : Texts) (looks mid looks' : ℕ) →
+    mid ≤ looks + looks_of_text (texts name) → plan_stored (texts name) texts ≡ Answers (started h texts) →
+    looks' ≤ mid + looks_of_input (started h texts) limit bytes → LooksWithin (Stored name) limit bytes texts looks looks'
+stored_within name h limit bytes texts looks mid looks' opening plan lines =
+    let same = ap (λ (p : Plan State). looks_of_plan p limit bytes) plan in
+    omega (arith, opening, lines, same)
 
 -- the text of a session isn't fetched
 pub fetch_failed : (limit : ℕ) (name : List ℕ) (before after : Seen) (looks looks' : ℕ) → HasCause ShelfFault before.faults after.faults →
     after.left ≡ before.left → after.written ≡ before.written → after.texts ≡ before.texts →
+    ((texts : Texts) → before.texts ≡ Some texts → looks' ≤ looks + looks_of_text (texts name)) →
     RunsAs limit (Stored name) before after looks looks' ShelfFault
-fetch_failed limit name before after looks looks' cause left_stays unsaid stay = record {
+fetch_failed limit name before after looks looks' cause left_stays unsaid stay opening = record {
   fits = refl;
   cause = cause;
   taken = λ bytes left_is. unread (Stored name) limit bytes ShelfFault after.left refl (left_stays ∙ left_is);
@@ -253,7 +269,8 @@ fetch_failed limit name before after looks looks' cause left_stays unsaid stay =
       texts_stay = stay ∙ texts_is;
     },
   );
-  within = λ bytes written texts left_is written_is texts_is. tt;
+  within = λ bytes written texts left_is written_is texts_is.
+      opened_within looks looks' (looks_of_text (texts name)) _ (opening texts texts_is);
 }
 
 -- ---- What is told of a session that isn't opened

@@ -1,6 +1,7 @@
 //! A session is opened by the name of its text.
-ghost use Rattle.std.specs.Prelude.{◌≡◌, Some};
+ghost use Rattle.std.specs.Prelude.{◌≡◌, ◌+◌, ◌≤◌, Some};
 ghost use Rattle.outside.specs.Shelf.{Texts};
+ghost use Rattle.domino_run.specs.Looks.{looks_of_text};
 ghost use Rattle.domino_run.specs.Parts.{OpenHasCause, Opens};
 
 use outside::{OutFail, Shelf};
@@ -30,6 +31,7 @@ pub fn open<F: Shelf, L: Ledger, M: Ledger>(
 ) -> Result<Session, OpenFault>
     ensures cause { OpenHasCause (F.faults shelf.old) (F.faults shelf.new) result }
     ensures unchanged { F.texts shelf.new ≡ F.texts shelf.old }
+    ensures most { (texts : Texts) → F.texts shelf.old ≡ Some texts → reads.new ≤ reads.old + looks_of_text (texts name.now) }
     ensures opens { (texts : Texts) → F.texts shelf.old ≡ Some texts → Opens texts name.now result }
 {
     let text = match shelf.fetch(name) {

@@ -26,7 +26,7 @@ returns-in-Bad g c =
       saying = refl;
       may = ap (λ w. may_end w BadWords) is;
       plan = λ texts told. ap (λ w. plan_of w texts) is;
-      within = λ bytes texts. subst (λ w. LooksWithin w c.args.limit bytes texts c.args.counters.reads c.args.counters.reads) (sym is) refl;
+      within = λ bytes texts told. subst (λ w. LooksWithin w c.args.limit bytes texts c.args.counters.reads c.args.counters.reads) (sym is) refl;
     })
     (record { source_stays = refl; shelf_stays = refl; left_stays = refl; texts_stay = refl }) c.say.ensures
 
@@ -38,7 +38,7 @@ returns-in-Ok g c =
       saying = refl;
       may = ap (λ w. may_end w Done) is;
       plan = λ texts told. ap (λ w. plan_of w texts) is ∙ ap (λ said. Says said Done) (sym (c.deref.ensures.value ∙ c.in-Ok.ensures.text));
-      within = λ bytes texts.
+      within = λ bytes texts told.
           subst (λ w. LooksWithin w c.args.limit bytes texts c.args.counters.reads c.summary.new.counters.reads) (sym is) c.summary.ensures.looks;
     })
     (record { source_stays = refl; shelf_stays = refl; left_stays = refl; texts_stay = refl }) c.say-in-Ok.ensures
@@ -47,5 +47,5 @@ pub returns-in-Err : goal.returns-in-Err
 returns-in-Err g c =
     let is = sym c.words_of.ensures ∙ ap words_view c.in-Generated.is in
     nothing_done c.args.limit _ _ _ c.args.counters.reads c.summary.new.counters.reads refl
-    (λ bytes texts.
+    (λ bytes texts told.
     subst (λ w. LooksWithin w c.args.limit bytes texts c.args.counters.reads c.summary.new.counters.reads) (sym is) c.summary.ensures.looks)
