@@ -3,14 +3,14 @@
 #![tactic(auto)]
 
 ghost use Rattle.std.specs.Prelude.{◌≡◌, ◌<◌, ℕ, map, string_bytes};
-ghost use Rattle.run_ends.specs.Ends.{seen};
+ghost use Rattle.run_ends.specs.Ends.{seen_by};
 ghost use Rattle.domino_run.specs.Words.{words_of};
 ghost use Rattle.domino_run.specs.Theorem.{RunsAs};
 ghost use Rattle.domino_run.specs.declared.running.TheConstants.{INPUT_LIMIT};
 
 use domino_run::{Counters, run};
 use outside::{DirShelf, Shelf, Sink, Source, StdSink, StdSource};
-use run_ends::Status;
+use run_ends::{Outside, Status};
 use std::marker::Brand;
 use std::process::ExitCode;
 use std::sync::ledger::{Blank, Ledger};
@@ -22,10 +22,12 @@ fn main(rt: HostRuntime) -> io::Result<ExitCode> {
     let (Some(words), Ok(files)) = (given_words(&rt), files) else {
         return Ok(ExitCode::from(Status::NoMemory.code()));
     };
-    let mut source = StdSource::new(rt.reader());
-    let mut sink = StdSink::new(io::writer(&rt));
-    let mut shelf = DirShelf::new(files);
-    let status = run_program(&rt, &words, &mut source, &mut sink, &mut shelf);
+    let mut outside = Outside {
+        source: StdSource::new(rt.reader()),
+        sink: StdSink::new(io::writer(&rt)),
+        shelf: DirShelf::new(files),
+    };
+    let status = run_program(&rt, &words, &mut outside);
     Ok(ExitCode::from(status.code()))
 }
 
@@ -43,27 +45,21 @@ fn given_words(rt: &HostRuntime) -> Option<Vec<String>> {
 fn run_program<S: Source, K: Sink, F: Shelf>(
     rt: &HostRuntime,
     words: &[String],
-    source: &mut S,
-    sink: &mut K,
-    shelf: &mut F,
+    outside: &mut Outside<S, K, F>,
 ) -> Status
     ensures { (looks : ℕ) × RunsAs INPUT_LIMIT (words_of (map string_bytes words.now))
-        (seen (S.faults source.old) (K.faults sink.old) (F.faults shelf.old)
-        (S.left source.old) (K.written sink.old) (F.texts shelf.old))
-        (seen (S.faults source.new) (K.faults sink.new) (F.faults shelf.new)
-        (S.left source.new) (K.written sink.new) (F.texts shelf.new))
+        (seen_by S.faults K.faults F.faults S.left K.written F.texts outside.old)
+        (seen_by S.faults K.faults F.faults S.left K.written F.texts outside.new)
         0 looks result }
 {
-    count_reads::<_, _, _, Brand>(rt, words, source, sink, shelf, Blank::new(1), Blank::new(1))
+    count_reads::<_, _, _, Brand>(rt, words, outside, Blank::new(1), Blank::new(1))
 }
 
 /// Runs the program with a counter of reads, which costs nothing.
 fn count_reads<S: Source, K: Sink, F: Shelf, L: Ledger>(
     rt: &HostRuntime,
     words: &[String],
-    source: &mut S,
-    sink: &mut K,
-    shelf: &mut F,
+    outside: &mut Outside<S, K, F>,
     reads: Blank,
     probes: Blank,
 ) -> Status
@@ -72,23 +68,19 @@ fn count_reads<S: Source, K: Sink, F: Shelf, L: Ledger>(
     requires some { 0 < reads.parts }
     requires one { 0 < probes.parts }
     ensures { (looks : ℕ) × RunsAs INPUT_LIMIT (words_of (map string_bytes words.now))
-        (seen (S.faults source.old) (K.faults sink.old) (F.faults shelf.old)
-        (S.left source.old) (K.written sink.old) (F.texts shelf.old))
-        (seen (S.faults source.new) (K.faults sink.new) (F.faults shelf.new)
-        (S.left source.new) (K.written sink.new) (F.texts shelf.new))
+        (seen_by S.faults K.faults F.faults S.left K.written F.texts outside.old)
+        (seen_by S.faults K.faults F.faults S.left K.written F.texts outside.new)
         0 looks result }
 {
     let reads: Steps<L> = Steps::new(rt, reads);
-    count_probes::<_, _, _, _, Brand>(rt, words, source, sink, shelf, reads, probes)
+    count_probes::<_, _, _, _, Brand>(rt, words, outside, reads, probes)
 }
 
 /// Runs the program with a counter of probes too.
 fn count_probes<S: Source, K: Sink, F: Shelf, L: Ledger, M: Ledger>(
     rt: &HostRuntime,
     words: &[String],
-    source: &mut S,
-    sink: &mut K,
-    shelf: &mut F,
+    outside: &mut Outside<S, K, F>,
     reads: Steps<L>,
     probes: Blank,
 ) -> Status
@@ -96,13 +88,11 @@ fn count_probes<S: Source, K: Sink, F: Shelf, L: Ledger, M: Ledger>(
     requires parts { probes.parts ≡ M.parts }
     requires some { 0 < probes.parts }
     ensures { (looks : ℕ) × RunsAs INPUT_LIMIT (words_of (map string_bytes words.now))
-        (seen (S.faults source.old) (K.faults sink.old) (F.faults shelf.old)
-        (S.left source.old) (K.written sink.old) (F.texts shelf.old))
-        (seen (S.faults source.new) (K.faults sink.new) (F.faults shelf.new)
-        (S.left source.new) (K.written sink.new) (F.texts shelf.new))
+        (seen_by S.faults K.faults F.faults S.left K.written F.texts outside.old)
+        (seen_by S.faults K.faults F.faults S.left K.written F.texts outside.new)
         reads looks result }
 {
     let probes: Steps<M> = Steps::new(rt, probes);
     let counters = Counters { reads, probes };
-    run(rt.alloc(), words, source, sink, shelf, counters).status
+    run(rt.alloc(), words, outside, counters).status
 }

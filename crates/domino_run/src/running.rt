@@ -1,6 +1,6 @@
 //! The whole run.
 ghost use Rattle.std.specs.Prelude.{◌≡◌, map, string_bytes, IfOk};
-ghost use Rattle.run_ends.specs.Ends.{seen};
+ghost use Rattle.run_ends.specs.Ends.{seen_by};
 ghost use Rattle.domino_run.specs.Whole.{bad_session};
 ghost use Rattle.domino_run.specs.Words.{Stored, words_of};
 ghost use Rattle.domino_run.specs.Parts.{AnswersLines};
@@ -14,7 +14,7 @@ use crate::tally::push_number;
 use crate::words::{Words, words_of};
 use line_loop::run_lines;
 use outside::{Shelf, Sink, Source};
-use run_ends::{Status, say, status_of};
+use run_ends::{Outside, Status, say, status_of};
 use session::Session;
 use std::alloc::{AllocError, Global};
 use std::sync::ledger::Ledger;
@@ -36,19 +36,15 @@ pub struct Ran<L: Ledger, M: Ledger> {
 pub fn run<S: Source, K: Sink, F: Shelf, L: Ledger, M: Ledger>(
     alloc: Global,
     words: &[String],
-    source: &mut S,
-    sink: &mut K,
-    shelf: &mut F,
+    outside: &mut Outside<S, K, F>,
     counters: Counters<L, M>,
 ) -> Ran<L, M>
     ensures { RunsAs INPUT_LIMIT (words_of (map string_bytes words.now))
-        (seen (S.faults source.old) (K.faults sink.old) (F.faults shelf.old)
-        (S.left source.old) (K.written sink.old) (F.texts shelf.old))
-        (seen (S.faults source.new) (K.faults sink.new) (F.faults shelf.new)
-        (S.left source.new) (K.written sink.new) (F.texts shelf.new))
+        (seen_by S.faults K.faults F.faults S.left K.written F.texts outside.old)
+        (seen_by S.faults K.faults F.faults S.left K.written F.texts outside.new)
         counters.reads result.counters.reads result.status }
 {
-    run_limited(alloc, INPUT_LIMIT, words, source, sink, shelf, counters)
+    run_limited(alloc, INPUT_LIMIT, words, outside, counters)
 }
 
 /// The program over an outside, under a limit of bytes.
@@ -66,30 +62,26 @@ pub fn run_limited<S: Source, K: Sink, F: Shelf, L: Ledger, M: Ledger>(
     alloc: Global,
     limit: u64,
     words: &[String],
-    source: &mut S,
-    sink: &mut K,
-    shelf: &mut F,
+    outside: &mut Outside<S, K, F>,
     mut counters: Counters<L, M>,
 ) -> Ran<L, M>
     ensures { RunsAs limit (words_of (map string_bytes words.now))
-        (seen (S.faults source.old) (K.faults sink.old) (F.faults shelf.old)
-        (S.left source.old) (K.written sink.old) (F.texts shelf.old))
-        (seen (S.faults source.new) (K.faults sink.new) (F.faults shelf.new)
-        (S.left source.new) (K.written sink.new) (F.texts shelf.new))
+        (seen_by S.faults K.faults F.faults S.left K.written F.texts outside.old)
+        (seen_by S.faults K.faults F.faults S.left K.written F.texts outside.new)
         counters.reads result.counters.reads result.status }
 {
     match words_of(words) {
         Words::Bad => Ran {
-            status: say(sink, b"bad words\n", Status::BadWords),
+            status: say(&mut outside.sink, b"bad words\n", Status::BadWords),
             counters,
         },
         Words::Plain => {
             let session = Session::new(alloc);
-            answer_lines(limit, alloc, session, source, sink, shelf, counters)
+            answer_lines(limit, alloc, session, outside, counters)
         }
         Words::Generated(number) => match summary(alloc, number, &mut counters) {
             Ok(text) => Ran {
-                status: say(sink, &text, Status::Done),
+                status: say(&mut outside.sink, &text, Status::Done),
                 counters,
             },
             Err(_) => Ran {
@@ -97,7 +89,7 @@ pub fn run_limited<S: Source, K: Sink, F: Shelf, L: Ledger, M: Ledger>(
                 counters,
             },
         },
-        Words::Stored(name) => run_stored(alloc, limit, name, source, sink, shelf, counters),
+        Words::Stored(name) => run_stored(alloc, limit, name, outside, counters),
     }
 }
 
@@ -106,29 +98,25 @@ fn run_stored<S: Source, K: Sink, F: Shelf, L: Ledger, M: Ledger>(
     alloc: Global,
     limit: u64,
     name: &[u8],
-    source: &mut S,
-    sink: &mut K,
-    shelf: &mut F,
+    outside: &mut Outside<S, K, F>,
     mut counters: Counters<L, M>,
 ) -> Ran<L, M>
     ensures { RunsAs limit (Stored name.now)
-        (seen (S.faults source.old) (K.faults sink.old) (F.faults shelf.old)
-        (S.left source.old) (K.written sink.old) (F.texts shelf.old))
-        (seen (S.faults source.new) (K.faults sink.new) (F.faults shelf.new)
-        (S.left source.new) (K.written sink.new) (F.texts shelf.new))
+        (seen_by S.faults K.faults F.faults S.left K.written F.texts outside.old)
+        (seen_by S.faults K.faults F.faults S.left K.written F.texts outside.new)
         counters.reads result.counters.reads result.status }
 {
     match open(
         alloc,
         name,
-        shelf,
+        &mut outside.shelf,
         &mut counters.reads,
         &mut counters.probes,
     ) {
-        Ok(session) => answer_lines(limit, alloc, session, source, sink, shelf, counters),
+        Ok(session) => answer_lines(limit, alloc, session, outside, counters),
         Err(OpenFault::BadSession(number)) => match bad_session(alloc, number) {
             Ok(text) => Ran {
-                status: say(sink, &text, Status::BadSession),
+                status: say(&mut outside.sink, &text, Status::BadSession),
                 counters,
             },
             Err(_) => Ran {
@@ -161,20 +149,23 @@ fn answer_lines<S: Source, K: Sink, F: Shelf, L: Ledger, M: Ledger>(
     limit: u64,
     alloc: Global,
     session: Session,
-    source: &mut S,
-    sink: &mut K,
-    shelf: &mut F,
+    outside: &mut Outside<S, K, F>,
     counters: Counters<L, M>,
 ) -> Ran<L, M>
     ensures { AnswersLines session limit
-        (seen (S.faults source.old) (K.faults sink.old) (F.faults shelf.old)
-        (S.left source.old) (K.written sink.old) (F.texts shelf.old))
-        (seen (S.faults source.new) (K.faults sink.new) (F.faults shelf.new)
-        (S.left source.new) (K.written sink.new) (F.texts shelf.new))
+        (seen_by S.faults K.faults F.faults S.left K.written F.texts outside.old)
+        (seen_by S.faults K.faults F.faults S.left K.written F.texts outside.new)
         counters.reads result.counters.reads result.status }
 {
     let mut database = Database::new(session, counters);
-    let ending = run_lines(alloc, limit, &mut database, source, sink, shelf);
+    let ending = run_lines(
+        alloc,
+        limit,
+        &mut database,
+        &mut outside.source,
+        &mut outside.sink,
+        &mut outside.shelf,
+    );
     Ran {
         status: status_of(ending),
         counters: database.into_counters(),

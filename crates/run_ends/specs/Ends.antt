@@ -8,6 +8,7 @@ use Rattle.line_loop.specs.Ending as loop
 use Rattle.line_loop.specs.Ending.{Counts}
 use Rattle.line_loop.specs.Machine.{Machine, Failures}
 use Rattle.line_loop.specs.Stop.{WritesPart}
+use Rattle.run_ends.specs.declared.around.Outside.{Outside}
 use Rattle.run_ends.specs.declared.status.Status.{Status}
 use Rattle.run_ends.specs.declared.status.Status.TheVariants.{Done, BadWords, BadSession, ReadFault, WriteFault, ShelfFault, NoMemory, InputLimit}
 use Rattle.run_ends.specs.Whole.{Plan, Says, Answers, Whole, whole}
@@ -27,6 +28,12 @@ seen source sink shelf left written texts = record {
   written = written;
   texts = texts;
 }
+
+-- by all three as one value, and what each of them tells
+abbrev pub seen_by : {S K F : Type 0} → (S → ℕ) → (K → ℕ) → (F → ℕ) → (S → Option (List ℕ)) → (K → Option (List ℕ)) → (F → Option Texts) →
+    Outside S K F → Seen
+seen_by source sink shelf left written texts o =
+    seen (source o.source) (sink o.sink) (shelf o.shelf) (left o.source) (written o.sink) (texts o.shelf)
 
 -- What a run is given: its plan, whether it first fetches a text, the limit, the bytes of the source, what was written
 -- before, and the texts.

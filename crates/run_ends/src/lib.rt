@@ -2,8 +2,10 @@
 //! texts, or says something in their place: its statuses, and what each of them tells of what was read, written and kept.
 #![tactic(auto)]
 
+mod around;
 mod saying;
 mod status;
 
+pub use around::Outside;
 pub use saying::say;
 pub use status::{Status, status_of};

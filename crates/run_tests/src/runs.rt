@@ -3,6 +3,7 @@ ghost use Rattle.std.specs.Prelude.{◌≡◌, ◌<◌};
 
 use domino_run::{Counters, run_limited};
 use outside::{MemShelf, MemSink, MemSource};
+use run_ends::Outside;
 use std::alloc::AllocError;
 use std::marker::Brand;
 use std::process::Abort;
@@ -94,32 +95,30 @@ fn with_probes<L: Ledger, M: Ledger>(
     for word in trial.words {
         words.push(String::from_str(alloc, word)?)?;
     }
-    let mut source = MemSource::new(
+    let source = MemSource::new(
         Vec::from_slice(alloc, trial.input)?,
         trial.cut,
         Vec::from_slice(alloc, trial.reads)?,
     );
-    let mut sink = MemSink::new(alloc, trial.cut, Vec::from_slice(alloc, trial.writes)?);
+    let sink = MemSink::new(alloc, trial.cut, Vec::from_slice(alloc, trial.writes)?);
     let mut shelf = MemShelf::new(alloc, Vec::from_slice(alloc, trial.calls)?);
     if let Some(text) = trial.text {
         shelf.put(NAME, text)?;
     }
-    let ran = run_limited(
-        alloc,
-        trial.limit,
-        &words,
-        &mut source,
-        &mut sink,
-        &mut shelf,
-        Counters { reads, probes },
-    );
-    let left = match shelf.get(NAME) {
+    let mut outside = Outside {
+        source,
+        sink,
+        shelf,
+    };
+    let counters = Counters { reads, probes };
+    let ran = run_limited(alloc, trial.limit, &words, &mut outside, counters);
+    let left = match outside.shelf.get(NAME) {
         Some(text) => Some(Vec::from_slice(alloc, text)?),
         None => None,
     };
     Ok((
         ran.status.code(),
-        Vec::from_slice(alloc, sink.bytes())?,
+        Vec::from_slice(alloc, outside.sink.bytes())?,
         left,
     ))
 }
