@@ -42,4 +42,4 @@ entries_of now c = if is_kept c then (now, c) ∷ [] else []
 
 -- what is held after an accepted command, but for an `import`
 abbrev pub held_after : Held → CommandTree → Held
-held_after h c = record { journal = h.journal ++ entries_of (clock h.journal) c }
+held_after h c = record h { journal = h.journal ++ entries_of (clock h.journal) c }

@@ -58,7 +58,7 @@ refusal_of b line = or_else (line_refusal b.held line) (file_refusal b (spelled 
 -- the state after an accepted command
 abbrev pub base_after : Base → CommandTree → Base
 base_after b (Tree.Import class file) =
-    record b { held = held (unwrap_or (journal_after_import b class file) b.held.journal) }
+    record b { held = record b.held { journal = unwrap_or (journal_after_import b class file) b.held.journal } }
 base_after b c = record { held = held_after b.held c; texts = texts_after b.held b.texts c }
 
 abbrev pub reply_by : Role → Held → CommandTree → List ℕ
