@@ -16,7 +16,7 @@ use Rattle.nearest.specs.Order.{is_below}
 
 -- ---- two squares
 
-either_order : (d e : ℤ) → (d <ℤ e) ⊎ (e ≤ℤ d)
+pub either_order : (d e : ℤ) → (d <ℤ e) ⊎ (e ≤ℤ d)
 either_order d e =
     elim (cases_Bool (int_lt d e)) [
       | inl less ↦ inl (grind (arith, ints, nat_tests))

@@ -2,6 +2,7 @@
 ghost use Rattle.std.specs.Prelude.{◌≡◌, ◌*◌, ◌^◌, ◌≤◌, ℕ, ◌-ℤ◌, unsigned_abs};
 
 use crate::parabola::parabola_at;
+use crate::roots::Roots;
 use crate::squares::Separation;
 use convex::Convex;
 use exact::minus;
@@ -30,6 +31,14 @@ impl Difference {
             linear: minus(first.linear, second.linear),
             constant: minus(first.constant, second.constant),
         }
+    }
+
+    /// About where it is at a limit.
+    #[inline]
+    pub fn roots(&self, limit: i128) -> Roots
+        requires { unsigned_abs limit ≤ 1 }
+    {
+        Roots::of(self.quadratic, self.linear, minus(self.constant, limit))
     }
 }
 

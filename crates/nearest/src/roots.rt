@@ -16,22 +16,53 @@ pub fn lowest(quadratic: u64, linear: i128, last: u32) -> u32
     closest(0.5 * fall / nearest_u64_to_f64(quadratic) + 0.5, last)
 }
 
-/// The numbers of `0..=last` up to which the two places reach, about, at which the parabola is 0.
-pub fn both_roots(quadratic: u64, linear: i128, constant: i128, last: u32) -> (u32, u32)
-    ensures first { result.0 ≤ last }
-    ensures second { result.1 ≤ last }
-{
-    let bend = nearest_u64_to_f64(quadratic);
-    let slope = 0.5 * signed(linear);
-    let start = signed(constant);
-    let around = (slope * slope - bend * start).max(0.0).sqrt();
-    // No difference is taken of numbers that may be nearly the same.
-    if linear < 0 {
-        let sum = around - slope;
-        (closest(start / sum, last), closest(sum / bend, last))
-    } else {
-        let sum = -around - slope;
-        (closest(sum / bend, last), closest(start / sum, last))
+/// About where a parabola is 0, by floats: its quadratic part, half of its linear one, its constant, and how far either
+/// root is from where it is least, times the quadratic part.
+#[derive(Clone, Copy)]
+pub struct Roots {
+    bend: f64,
+    slope: f64,
+    start: f64,
+    around: f64,
+}
+
+impl Roots {
+    pub fn of(quadratic: u64, linear: i128, constant: i128) -> Roots {
+        let bend = nearest_u64_to_f64(quadratic);
+        let slope = 0.5 * signed(linear);
+        let start = signed(constant);
+        let around = (slope * slope - bend * start).max(0.0).sqrt();
+        Roots {
+            bend,
+            slope,
+            start,
+            around,
+        }
+    }
+
+    /// The number of `0..=last` up to which the first root reaches.
+    #[inline]
+    pub fn first(&self, last: u32) -> u32
+        ensures { result ≤ last }
+    {
+        // No difference is taken of numbers that may be nearly the same; nor is one for the second root.
+        if self.slope < 0.0 {
+            closest(self.start / (self.around - self.slope), last)
+        } else {
+            closest((-self.around - self.slope) / self.bend, last)
+        }
+    }
+
+    /// The number of `0..=last` up to which the second root reaches.
+    #[inline]
+    pub fn second(&self, last: u32) -> u32
+        ensures { result ≤ last }
+    {
+        if self.slope < 0.0 {
+            closest((self.around - self.slope) / self.bend, last)
+        } else {
+            closest(self.start / (-self.around - self.slope), last)
+        }
     }
 }
 

@@ -1,31 +1,16 @@
-use Rattle.std.proofs.Common.{◌≡◌, ◌-◌, of_z, to_z, refl, arith}
-use Rattle.std.specs.Int.{w128}
-use Rattle.std.proofs.lemmas.Int.{ints, to_z-of_z}
+use Rattle.std.proofs.Common.{◌-◌, arith}
+use Rattle.std.proofs.lemmas.Int.{ints}
 use Rattle.nearest.specs.Order.{difference_after}
-use Rattle.nearest.proofs.LowLemmas.{low_nowhere, low_run}
+use Rattle.nearest.proofs.LowLemmas.{nowhere_rising, run_throughout, turns}
 use Rattle.nearest.proofs.low.low_ticks.Goals as goal
 
-pub returns-then-limit-at : goal.returns-then-limit-at
-returns-then-limit-at c =
+pub returns-then-ends : goal.returns-then-ends
+returns-then-ends c =
     let d = c.args.d.now in
-    let size = d.linear_size in
-    let passed : to_z w128 (of_z w128 d.linear) ≡ d.linear = omega (arith, ints, size) in
-    let falls = rw passed at c.turn-lowest.ensures.falls d.constant in
-    let rises = rw passed at c.turn-lowest.ensures.rises d.constant in
-    low_nowhere (difference_after d) c.args.limit c.turn-lowest.result (c.args.w.hi - c.args.w.lo) falls rises c.turn-lowest.ensures.bound c.args.w refl
-    (omega (arith, ints, c.at.ensures))
+    run_throughout (difference_after d) c.args.limit c.args.w (turns d.quadratic d.linear d.constant (c.args.w.hi - c.args.w.lo)) c.span.result
+    (omega (arith, ints, c.at.ensures)) (omega (arith, ints, c.at-2.ensures)) c.span.ensures.0 c.span.ensures.1
 
-pub returns-in-Some : goal.returns-in-Some
-returns-in-Some c =
+pub returns-then-d-ge0 : goal.returns-then-d-ge0
+returns-then-d-ge0 c =
     let d = c.args.d.now in
-    let size = d.linear_size in
-    let passed : to_z w128 (of_z w128 d.linear) ≡ d.linear = omega (arith, ints, size) in
-    let falls = rw passed at c.turn-lowest.ensures.falls d.constant in
-    let rises = rw passed at c.turn-lowest.ensures.rises d.constant in
-    let first = rw (to_z-of_z w128 c.args.limit c.ranges.limit) at c.in-Some.ensures.first in
-    let end = rw (to_z-of_z w128 c.args.limit c.ranges.limit) at c.in-Some.ensures.end in
-    low_run (difference_after d) c.args.limit c.turn-lowest.result (c.args.w.hi - c.args.w.lo) falls rises c.turn-lowest.ensures.bound c.args.w _ c.in-Some.first
-    c.in-Some.end refl first end refl refl
-
-pub returns-in-None : goal.returns-in-None
-returns-in-None c = rw (to_z-of_z w128 c.args.limit c.ranges.limit) at c.at_most.ensures
+    nowhere_rising d.quadratic d.linear d.constant c.args.limit c.args.w (omega (arith, ints)) (omega (arith, ints, c.at.ensures))
