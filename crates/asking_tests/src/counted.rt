@@ -1,7 +1,7 @@
 //! Counters of looks at timelines and of probes, which only a test can make.
 ghost use Rattle.std.specs.Prelude.{◌≡◌, ◌<◌};
 
-use crate::near;
+use crate::{near, surely};
 use std::marker::Brand;
 use std::process::Abort;
 use std::sync::ledger::{Blank, Ledger};
@@ -11,6 +11,7 @@ use steps::Steps;
 #[derive(Clone, Copy)]
 pub(crate) enum Asked {
     Near,
+    Surely,
 }
 
 fn ask<L: Ledger, M: Ledger>(
@@ -22,6 +23,7 @@ fn ask<L: Ledger, M: Ledger>(
 ) -> Result<(), Fail> {
     match what {
         Asked::Near => near::cases_are_right(rt, host.alloc(), reads, probes),
+        Asked::Surely => surely::cases_are_right(rt, host.alloc(), reads, probes),
     }
 }
 

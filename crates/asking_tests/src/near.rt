@@ -142,7 +142,7 @@ const CASES: [Case; 8] = [
     },
 ];
 
-fn are_spans(spans: &[Span], wanted: &[Ends]) -> bool {
+pub(crate) fn are_spans(spans: &[Span], wanted: &[Ends]) -> bool {
     spans.len() == wanted.len()
         && spans
             .iter()

@@ -31,8 +31,8 @@ pub(crate) fn window(ends: (u32, u32)) -> Result<Window, Fail> {
     Ok(Window::new(ends.0, ends.1).ok_or("no such window")?)
 }
 
-// A coordinate of a place.
-fn number(thousandths: i64) -> Option<Fix>
+// A number that may be written.
+pub(crate) fn number(thousandths: i64) -> Option<Fix>
     ensures { IfSome result (λ number. unsigned_abs number ≤ READ_LIMIT) }
 {
     if thousandths.unsigned_abs() > READ_LIMIT {
