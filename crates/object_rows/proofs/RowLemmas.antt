@@ -1,6 +1,6 @@
 -- The settings of a row.
-use Rattle.std.proofs.Common.{◌≡◌, ℕ, zero, suc, ◌+◌, ◌<◌, ◌≤◌, ◌∙◌, nat_lt, Bool, true, false, cond, Option, Some, None, List, [], ◌∷◌, ◌++◌, length, drop, get_or, refl, ap, sym, arith, if◌then◌else◌}
-use Rattle.std.specs.Prelude.{slice_set}
+use Rattle.std.proofs.Common.{◌≡◌, ℕ, zero, suc, ◌+◌, ◌<◌, ◌≤◌, ◌∙◌, nat_lt, Bool, true, false, cond, Option, Some, None, is_some, List, [], ◌∷◌, ◌++◌, length, drop, get_or, refl, ap, sym, arith, if◌then◌else◌}
+use Rattle.std.specs.Prelude.{slice_set, Result, Ok, Err, OnErr, IsSome}
 use Rattle.std.specs.List.{fold, position, position_or_len}
 use Rattle.std.specs.Option.{option_and_then, option_map}
 use Rattle.std.proofs.lemmas.Bool.Decides.{nat_tests}
@@ -170,6 +170,13 @@ row_by_parts columns fields field name sets first named given = sym (
     by true (Some parts) h k = let n : field ≡ name = cc h in let s : settings_of parts ≡ sets = cc k in λ i. Some (record { name = n i; sets = s i })
     by true None h k = absurd (cc k)
     by false o h k = absurd (cc h)
+
+pub row_there : {E : Type 0} → (columns : List Column) (fields : List (List ℕ)) (field name : List ℕ) (sets : List NamedSet) (r : Result (Option ObjectRow) E)
+    → Some field ≡ field_at fields 0 → Some name ≡ (if is_object_name field then Some field else None)
+    → Some sets ≡ option_map settings_of (parts_of columns (drop 1 fields))
+    → OnErr r (IsSome (row_of columns fields))
+row_there columns fields field name sets (Ok found) first named given = tt
+row_there columns fields field name sets (Err fault) first named given = sym (ap is_some (row_by_parts columns fields field name sets first named given))
 
 pub row_unnamed : (columns : List Column) (fields : List (List ℕ)) (field : List ℕ) → Some field ≡ field_at fields 0
     → None ≡ (if is_object_name field then Some field else None)

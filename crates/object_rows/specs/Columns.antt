@@ -1,6 +1,6 @@
 -- The first row of a text: `name`, and then different columns, each of an attribute's value or of the rate of a dynamic one.
-use Rattle.std.specs.Prelude.{ℕ, ◌&&◌, not, Bool, true, false, Option, Some, None, option_map, List, [], ◌∷◌, ◌++◌, codes, if◌then◌else◌}
-use Rattle.std.specs.List.{find, flat_map, list_any}
+use Rattle.std.specs.Prelude.{◌≡◌, ◌⊎◌, ℕ, ◌&&◌, not, Bool, true, false, Option, Some, None, IsSome, option_map, List, [], ◌∷◌, ◌++◌, codes, if◌then◌else◌}
+use Rattle.std.specs.List.{find, flat_map}
 use Rattle.std.specs.Option.{option_or}
 use Rattle.std.specs.Str.{bytes_eq}
 use Rattle.exact.specs.Options.{◌>>=◌}
@@ -48,11 +48,6 @@ each_column attributes (field ∷ fields) = do
   later ← each_column attributes fields
   Some (column ∷ later)
 
--- the first field stands once more
-abbrev pub repeats_first : List (List ℕ) → Bool
-repeats_first [] = false
-repeats_first (field ∷ fields) = list_any (λ other. bytes_eq field other) fields
-
 abbrev pub name_field : List ℕ
 name_field = codes "name"
 
@@ -61,6 +56,10 @@ abbrev pub columns_of : List Attribute → List (List ℕ) → Option (List Colu
 columns_of attributes [] = None
 columns_of attributes (first ∷ fields) =
     if bytes_eq first name_field && not (repeats (λ field. field) fields) then each_column attributes fields else None
+
+-- there is no row, or one that a text can begin with
+abbrev pub IsNoneOrFirst : List Attribute → List (List ℕ) → Type 0
+IsNoneOrFirst attributes fields = (fields ≡ []) ⊎ IsSome (columns_of attributes fields)
 
 -- ---- The first row of an exported text: every column of the class
 

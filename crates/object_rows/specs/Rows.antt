@@ -1,5 +1,5 @@
 -- Which objects a text of csv holds. The text is read as csv reads it by default, with no special first row.
-use Rattle.std.specs.Prelude.{ℕ, Bool, Option, Some, None, option_map, List, [], ◌∷◌, if◌then◌else◌}
+use Rattle.std.specs.Prelude.{◌≡◌, ◌⊎◌, ℕ, Bool, Option, Some, None, IsSome, option_map, List, [], ◌∷◌, if◌then◌else◌}
 use Rattle.std.specs.List.{fold}
 use Rattle.std.specs.Str.{bytes_eq}
 use Rattle.exact.specs.Options.{◌>>=◌}
@@ -56,6 +56,10 @@ abbrev pub row_of : List Column → List (List ℕ) → Option ObjectRow
 row_of columns [] = None
 row_of columns (name ∷ fields) =
     if is_object_name name then option_map (λ parts. record { name = name; sets = settings_of parts }) (parts_of columns fields) else None
+
+-- there is no row, or one that can stand under these columns
+abbrev pub IsNoneOrRight : List Column → List (List ℕ) → Type 0
+IsNoneOrRight columns fields = (fields ≡ []) ⊎ IsSome (row_of columns fields)
 
 abbrev pub each_row : List Column → List (List (List ℕ)) → Option (List ObjectRow)
 each_row columns [] = Some []

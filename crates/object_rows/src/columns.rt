@@ -1,9 +1,9 @@
 //! The columns that the first row of a text names.
-ghost use Rattle.std.specs.Prelude.{◌≡◌, ◌<◌, Some, length, map, option_map, IfOk};
+ghost use Rattle.std.specs.Prelude.{◌≡◌, ◌<◌, Some, drop, is_some, length, option_map, IfOk, IsSome, OnErr};
 ghost use Rattle.std.specs.List.{list_any};
 ghost use Rattle.std.specs.Str.{bytes_eq};
 ghost use Rattle.object_store.specs.Faults.{attribute_named, repeats};
-ghost use Rattle.object_rows.specs.Columns.{column_of, columns_of, each_column, is_dynamic, is_rate_of, rate_column, rate_name, repeats_first, value_column, value_form};
+ghost use Rattle.object_rows.specs.Columns.{column_of, columns_of, each_column, is_dynamic, is_rate_of, rate_column, rate_name, value_column, value_form};
 ghost use Rattle.csv.specs.Records.{field_at, fields_of};
 
 use csv::ByteRecord;
@@ -96,57 +96,71 @@ fn field_of(row: &ByteRecord, place: usize) -> &[u8]
     row.get(place).unwrap()
 }
 
-/// The fields of a row.
+/// Whether a field from a place on is this one.
 #[tactic(auto, using(crate::proofs::FieldLemmas::field_steps))]
-pub(crate) fn fields_in<'r>(alloc: Global, row: &'r ByteRecord) -> Result<Vec<&'r [u8]>, AllocError>
-    ensures { IfOk result (λ v. map (λ field. field.now) v.items ≡ fields_of row.now) }
+fn has_field(row: &ByteRecord, from: usize, field: &[u8]) -> bool
+    ensures { result ≡ list_any (λ other. bytes_eq field.now other) (drop from (fields_of row.now)) }
 {
-    let mut fields = Vec::with_capacity(alloc, row.len())?;
-    'fields: for i in 0..row.len() {
-        fields.push(field_of(row, i))?;
-    }
-    Ok(fields)
-}
-
-fn has_text(fields: &[&[u8]], text: &[u8]) -> bool
-    ensures { result ≡ list_any (λ field. bytes_eq text.now field.now) fields.now }
-{
-    fields.iter().any(|field| text == *field)
-}
-
-/// Whether the first field stands once more.
-#[tactic(auto, using(crate::proofs::ColumnLemmas::first_is))]
-fn repeats_first(fields: &[&[u8]]) -> bool
-    ensures { result ≡ repeats_first (map (λ field. field.now) fields.now) }
-{
-    match fields.split_first() {
-        Some((first, later)) => has_text(later, *first),
-        None => false,
-    }
-}
-
-fn repeats_field(fields: &[&[u8]]) -> bool
-    ensures { result ≡ repeats (λ field. field) (map (λ field. field.now) fields.now) }
-{
-    'fields: for i in 0..fields.len() {
-        if repeats_first(&fields[i..]) {
+    'fields: for i in from..row.len() {
+        if field == field_of(row, i) {
             return true;
         }
     }
     false
 }
 
-/// The columns of these fields, None where no attribute has one of them.
+/// Whether a field after the first one stands twice.
+fn repeats_field(row: &ByteRecord) -> bool
+    ensures { result ≡ repeats (λ field. field) (drop 1 (fields_of row.now)) }
+{
+    'fields: for i in 1..row.len() {
+        if has_field(row, i + 1, field_of(row, i)) {
+            return true;
+        }
+    }
+    false
+}
+
+/// Whether each field after the first one has a column.
+fn have_columns(attrs: &[AttrDef], row: &ByteRecord) -> bool
+    ensures { result ≡ is_some (each_column attrs.now (drop 1 (fields_of row.now))) }
+{
+    'fields: for i in 1..row.len() {
+        if column_of(attrs, field_of(row, i)).is_none() {
+            return false;
+        }
+    }
+    true
+}
+
+/// Whether a text can begin with this row.
+fn is_header(attrs: &[AttrDef], row: &ByteRecord) -> bool
+    ensures { result ≡ is_some (columns_of attrs.now (fields_of row.now)) }
+{
+    let Some(first) = row.get(0) else {
+        return false;
+    };
+    if first != b"name".as_slice() {
+        return false;
+    }
+    // Where each field has a column, few differ, so that one that is repeated is found early in a long row.
+    if !have_columns(attrs, row) {
+        return false;
+    }
+    !repeats_field(row)
+}
+
+/// The columns of the fields after the first one, None where no attribute has one of them.
 fn each_column(
     alloc: Global,
     attrs: &[AttrDef],
-    fields: &[&[u8]],
+    row: &ByteRecord,
 ) -> Result<Option<Vec<Column>>, AllocError>
-    ensures { IfOk result (λ found. option_map (λ v. v.items) found ≡ each_column attrs.now (map (λ field. field.now) fields.now)) }
+    ensures { IfOk result (λ found. option_map (λ v. v.items) found ≡ each_column attrs.now (drop 1 (fields_of row.now))) }
 {
-    let mut columns = Vec::with_capacity(alloc, fields.len())?;
-    'fields: for field in fields {
-        match column_of(attrs, field) {
+    let mut columns = Vec::with_capacity(alloc, row.len())?;
+    'fields: for i in 1..row.len() {
+        match column_of(attrs, field_of(row, i)) {
             Some(column) => columns.push(column)?,
             None => return Ok(None),
         }
@@ -154,26 +168,19 @@ fn each_column(
     Ok(Some(columns))
 }
 
-/// The columns after the first one, None where a text can't begin with this row.
+/// The columns after the first one, None where a text can't begin with this row. Want of memory is told of no such row,
+/// since it is judged before any memory is taken.
 pub(crate) fn columns_of(
     alloc: Global,
     attrs: &[AttrDef],
-    fields: &[&[u8]],
+    row: &ByteRecord,
 ) -> Result<Option<Vec<Column>>, AllocError>
-    ensures { IfOk result (λ found. option_map (λ v. v.items) found ≡ columns_of attrs.now (map (λ field. field.now) fields.now)) }
+    ensures ok { IfOk result (λ found. option_map (λ v. v.items) found ≡ columns_of attrs.now (fields_of row.now)) }
+    ensures memory { OnErr result (IsSome (columns_of attrs.now (fields_of row.now))) }
 {
-    let Some((first, rest)) = fields.split_first() else {
-        return Ok(None);
-    };
-    if *first != b"name".as_slice() {
+    if !is_header(attrs, row) {
         return Ok(None);
     }
-    // Where each field has a column, few differ, so that one that is repeated is found early in a long row.
-    let Some(columns) = each_column(alloc, attrs, rest)? else {
-        return Ok(None);
-    };
-    if repeats_field(rest) {
-        return Ok(None);
-    }
-    Ok(Some(columns))
+    let columns = each_column(alloc, attrs, row)?;
+    Ok(columns)
 }

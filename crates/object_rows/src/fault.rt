@@ -9,7 +9,7 @@ pub enum CsvFault {
     /// The text isn't of the format.
     #[error("the text is no list of such objects")]
     BadRows,
-    /// There is no memory. The text may be of the format or not.
+    /// There is no memory. The text may be of the format or not, but no row that was read is at fault.
     #[error("out of memory")]
     NoMemory,
 }

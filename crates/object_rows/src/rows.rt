@@ -1,5 +1,5 @@
 //! The objects of rows.
-ghost use Rattle.std.specs.Prelude.{◌≡◌, ◌<◌, Some, None, drop, if◌then◌else◌, length, option_map, IfOk, IfSome, OnOk};
+ghost use Rattle.std.specs.Prelude.{◌≡◌, ◌+◌, ◌<◌, ◌≤◌, Some, None, drop, if◌then◌else◌, length, option_map, vec_capacity, vec_len, IfOk, IfSome, IsSome, OnErr};
 ghost use Rattle.std.specs.List.{position};
 ghost use Rattle.std.specs.Option.{option_and_then};
 ghost use Rattle.csv.specs.Records.{field_at, fields_of};
@@ -63,39 +63,39 @@ fn place_of(sets: &[NamedSet], part: &NamedSet) -> Option<usize>
     sets.iter().position(|set| part.name == set.name)
 }
 
-/// Adds a part to the setting of its attribute, or as one more.
-fn put_part(sets: &mut Vec<NamedSet>, part: NamedSet) -> Result<(), AllocError>
-    ensures { OnOk result (sets.new.items ≡ with_part sets.old.items part) }
+/// Adds a part to the setting of its attribute, or as one more, for which there is room.
+fn put_part(sets: &mut Vec<NamedSet>, part: NamedSet)
+    requires { vec_len sets.old < vec_capacity sets.old }
+    ensures value { sets.new.items ≡ with_part sets.old.items part }
+    ensures few { vec_len sets.new ≤ vec_len sets.old + 1 }
+    ensures capacity { vec_capacity sets.old ≤ vec_capacity sets.new }
 {
     let Some(place) = place_of(sets, &part) else {
-        sets.push(part)?;
-        return Ok(());
+        sets.push_reserved(part);
+        return;
     };
     sets[place] = joined(&sets[place], &part);
-    Ok(())
 }
 
-/// Reads the fields after the first one into settings. Answers whether each is of its form, and there is
-/// one for each column.
-fn read_settings(
-    sets: &mut Vec<NamedSet>,
-    columns: &[Column],
-    row: &ByteRecord,
-) -> Result<bool, AllocError>
+/// Reads the fields after the first one into settings, for which there is room. Answers whether each is of its form,
+/// and there is one for each column.
+fn read_settings(sets: &mut Vec<NamedSet>, columns: &[Column], row: &ByteRecord) -> bool
     requires named { 0 < length (fields_of row.now) }
-    ensures { IfOk result (λ right. (if right then Some sets.new.items else None) ≡ option_map settings_of (parts_of columns.now (drop 1 (fields_of row.now)))) }
+    requires room { length columns.now ≤ vec_capacity sets.old }
+    ensures right { (if result then Some sets.new.items else None) ≡ option_map settings_of (parts_of columns.now (drop 1 (fields_of row.now))) }
+    ensures room { length columns.now ≤ vec_capacity sets.new }
 {
     sets.clear();
     if row.len() != columns.len() + 1 {
-        return Ok(false);
+        return false;
     }
     'columns: for i in 0..columns.len() {
         match part_at(&columns[i], row, i + 1) {
-            Some(part) => put_part(sets, part)?,
-            None => return Ok(false),
+            Some(part) => put_part(sets, part),
+            None => return false,
         }
     }
-    Ok(true)
+    true
 }
 
 fn settings(alloc: Global, sets: &[NamedSet]) -> Result<Items<NamedSet>, AllocError>
@@ -110,14 +110,18 @@ fn settings(alloc: Global, sets: &[NamedSet]) -> Result<Items<NamedSet>, AllocEr
     Ok(settings)
 }
 
-/// The object of a row, None where the row can't stand under these columns. The buffer holds nothing that is kept.
+/// The object of a row, None where the row can't stand under these columns. Want of memory is told of no such row, since
+/// the buffer has room for the settings, whatever they are. It holds nothing that is kept.
 pub(crate) fn row_of(
     alloc: Global,
     sets: &mut Vec<NamedSet>,
     columns: &[Column],
     row: &ByteRecord,
 ) -> Result<Option<ObjectRow>, AllocError>
-    ensures { IfOk result (λ found. found ≡ row_of columns.now (fields_of row.now)) }
+    requires { length columns.now ≤ vec_capacity sets.old }
+    ensures ok { IfOk result (λ found. found ≡ row_of columns.now (fields_of row.now)) }
+    ensures memory { OnErr result (IsSome (row_of columns.now (fields_of row.now))) }
+    ensures room { length columns.now ≤ vec_capacity sets.new }
 {
     let Some(field) = row.get(0) else {
         return Ok(None);
@@ -125,7 +129,7 @@ pub(crate) fn row_of(
     let Some(name) = object_name(field) else {
         return Ok(None);
     };
-    if !read_settings(sets, columns, row)? {
+    if !read_settings(sets, columns, row) {
         return Ok(None);
     }
     let sets = settings(alloc, sets)?;
