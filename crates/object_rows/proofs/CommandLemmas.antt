@@ -1,11 +1,9 @@
 -- The commands of rows are as if they had been read from lines.
 use Rattle.std.proofs.Common.{◌≡◌, ℕ, ℤ, ◌∙◌, ◌&&◌, ◌||◌, not, nat_le, is_none, Bool, true, false, cond, Option, Some, None, List, [], ◌∷◌, length, refl, ap, subst, arith}
 use Rattle.std.proofs.lemmas.Bool.Decides.{nat_tests}
-use Rattle.std.specs.List.{AllByRecursion, find, fold, list_all}
+use Rattle.std.specs.List.{AllByRecursion, fold, list_all}
 use Rattle.std.specs.Option.{option_map}
-use Rattle.std.specs.Str.{bytes_eq}
 use Rattle.csv.specs.Reading.{default_config, records, strip_bom}
-use Rattle.exact.specs.Options.{◌>>=◌}
 use Rattle.case_table.specs.Rows.{code_of}
 use Rattle.case_table.specs.Language.{reserved_words}
 use Rattle.fixed_point.specs.Decimal.{thousandths_of}
@@ -18,97 +16,23 @@ use Rattle.motion.specs.declared.cell.Given.{Given}
 use Rattle.motion.specs.declared.cell.Given.TheVariants as givens
 use Rattle.motion.specs.declared.cell.NamedSet.{NamedSet}
 use Rattle.history.specs.Write.{Attribute}
-use Rattle.object_store.specs.Faults.{attribute_named, repeats}
 use Rattle.command_text.specs.Line.{has_other_byte, is_ascii}
 use Rattle.command_text.specs.Shape.{IsPrintable, IsPrintableGiven, IsSetting, IsShortName, IsShortText}
 use Rattle.object_rows.specs.declared.columns.Column.{Column}
 use Rattle.object_rows.specs.declared.columns.Form.{Form}
 use Rattle.object_rows.specs.declared.columns.Form.TheVariants as forms
 use Rattle.object_rows.specs.declared.rows.ObjectRow.{ObjectRow}
-use Rattle.object_rows.specs.Columns.{column_of, columns_of, each_column, is_rate_of, name_field, value_form}
+use Rattle.object_rows.specs.Columns.{columns_of}
 use Rattle.object_rows.specs.Commands.{GivesPrintableCommands, IsRow, command_of}
 use Rattle.object_rows.specs.Fields.{given_by, is_object_name, is_text_byte, is_text_field, one_leg}
+use Rattle.object_rows.proofs.NamedLemmas.{AreNamed, IsNamed, begins, columns_named, row_for, setting_for}
 use Rattle.object_rows.specs.Rows.{both, each_row, is_set_of, joined, part_of, parts_of, row_of, rows_in, rows_of, settings_of, with_part}
 
--- ---- Options and lists
-
-record Begins {X : Type 0} (first : Option X) (rest : Option (List X)) (whole : List X) : Type 0 where
-  item : X
-  later : List X
-  first_is : first ≡ Some item
-  rest_is : rest ≡ Some later
-  whole_is : item ∷ later ≡ whole
-
-begins : {X : Type 0} (first : Option X) (rest : Option (List X)) (whole : List X) → (first >>= (λ x. rest >>= (λ xs. Some (x ∷ xs)))) ≡ Some whole
-    → Begins first rest whole
-begins None rest whole h = absurd (cc h)
-begins (Some x) None whole h = absurd (cc h)
-begins (Some x) (Some xs) whole h = record { item = x; later = xs; first_is = refl; rest_is = refl; whole_is = cc h }
-
-found_first : {X : Type 0} (P : X → Type 0) (p : X → Bool) (y : X) (ys : List X) (x : X) (b : Bool) → p y ≡ b → P y → (find p ys ≡ Some x → P x)
-    → find p (y ∷ ys) ≡ Some x → P x
-found_first P p y ys x true e first later h = let same : y ≡ x = cc (rw e at h) in subst P same first
-found_first P p y ys x false e first later h = later (rw e at h)
-
-all_found : {X : Type 0} (P : X → Type 0) (p : X → Bool) (xs : List X) (x : X) → AllByRecursion P xs → find p xs ≡ Some x → P x
-all_found P p [] x all h = absurd (cc h)
-all_found P p (y ∷ ys) x all h = found_first P p y ys x (p y) refl all.0 (λ later. all_found P p ys x all.1 later) h
+-- ---- Settings
 
 and_both : (a b : Bool) → (a && b) ≡ true → (a ≡ true) × (b ≡ true)
 and_both true b h = (refl, h)
 and_both false b h = absurd (cc h)
-
-abbrev column_for : List ℕ → Form → Column
-column_for name form = record { attribute = name; form = form }
-
-abbrev setting_for : List ℕ → Given → NamedSet
-setting_for name given = record { name = name; given = given }
-
-abbrev row_for : List ℕ → List NamedSet → ObjectRow
-row_for name sets = record { name = name; sets = sets }
-
--- ---- Columns are named as attributes are
-
-abbrev AreNamed : List Attribute → Type 0
-AreNamed attributes = AllByRecursion (λ (a : Attribute). IsShortName a.name) attributes
-
-abbrev IsNamed : Column → Type 0
-IsNamed column = IsShortName column.attribute
-
-column_named : (attributes : List Attribute) (field : List ℕ) (column : Column) → AreNamed attributes → column_of attributes field ≡ Some column
-    → IsNamed column
-column_named attributes field column named h = by (attribute_named attributes field) refl
-  where
-    by_rate : (o : Option Attribute) → find (is_rate_of field) attributes ≡ o
-        → option_map {U = Column} (λ (a : Attribute). record { attribute = a.name; form = forms.Rate }) o ≡ Some column → IsNamed column
-    by_rate None e k = absurd (cc k)
-    by_rate (Some a) e k =
-        let same : column_for a.name forms.Rate ≡ column = cc k in
-        subst IsNamed same (all_found (λ (a : Attribute). IsShortName a.name) (is_rate_of field) attributes a named e)
-
-    by : (o : Option Attribute) → attribute_named attributes field ≡ o → IsNamed column
-    by None e = by_rate (find (is_rate_of field) attributes) refl (rw e at h)
-    by (Some a) e =
-        let same : column_for a.name (value_form a.kind) ≡ column = cc (rw e at h) in
-        subst IsNamed same (all_found (λ (a : Attribute). IsShortName a.name) (λ (a : Attribute). bytes_eq field a.name) attributes a named e)
-
-each_named : (attributes : List Attribute) (fields : List (List ℕ)) (columns : List Column) → AreNamed attributes
-    → each_column attributes fields ≡ Some columns → AllByRecursion IsNamed columns
-each_named attributes [] columns named h = let same : [] ≡ columns = cc h in subst (AllByRecursion IsNamed) same tt
-each_named attributes (f ∷ fs) columns named h =
-    let b = begins (column_of attributes f) (each_column attributes fs) columns h in
-    subst (AllByRecursion IsNamed) b.whole_is (column_named attributes f b.item named b.first_is, each_named attributes fs b.later named b.rest_is)
-
-columns_named : (attributes : List Attribute) (header : List (List ℕ)) (columns : List Column) → AreNamed attributes
-    → columns_of attributes header ≡ Some columns → AllByRecursion IsNamed columns
-columns_named attributes [] columns named h = absurd (cc h)
-columns_named attributes (first ∷ fields) columns named h = by (bytes_eq first name_field && not (repeats (λ (field : List ℕ). field) fields)) refl
-  where
-    by : (b : Bool) → (bytes_eq first name_field && not (repeats (λ (field : List ℕ). field) fields)) ≡ b → AllByRecursion IsNamed columns
-    by true e = each_named attributes fields columns named (rw e at h)
-    by false e = absurd (cc (rw e at h))
-
--- ---- Settings
 
 byte_is : (b : ℕ) → is_text_byte b ≡ true → (not (is_quote b) ≡ true) × (not (is_ascii b) ≡ false)
 byte_is b h = (grind (arith, nat_tests, h), grind (arith, nat_tests, h))
@@ -149,7 +73,7 @@ given_printable decimal forms.Rate field given h = by (thousandths_of SLOPE_LIMI
         let same : givens.Rate (one_leg a) ≡ given = cc (rw e at h) in
         subst IsPrintableGiven same (record { few = omega arith; firsts = tt; last = ((decimal SLOPE_LIMIT field a).0 e).1 })
 
-part_set : ReadsEachDecimal → (column : Column) (field : List ℕ) (part : NamedSet) → IsNamed column → part_of column field ≡ Some part → IsSetting part
+part_set : ReadsEachDecimal → (column : Column) (field : List ℕ) (part : NamedSet) → IsNamed IsShortName column → part_of column field ≡ Some part → IsSetting part
 part_set decimal column field part named h = by (given_by column.form field) refl
   where
     by : (o : Option Given) → given_by column.form field ≡ o → IsSetting part
@@ -158,7 +82,7 @@ part_set decimal column field part named h = by (given_by column.form field) ref
         let same : setting_for column.attribute given ≡ part = cc (rw e at h) in
         subst IsSetting same (named, given_printable decimal column.form field given e)
 
-parts_set : ReadsEachDecimal → (columns : List Column) (fields : List (List ℕ)) (parts : List NamedSet) → AllByRecursion IsNamed columns
+parts_set : ReadsEachDecimal → (columns : List Column) (fields : List (List ℕ)) (parts : List NamedSet) → AllByRecursion (IsNamed IsShortName) columns
     → parts_of columns fields ≡ Some parts → AllByRecursion IsSetting parts
 parts_set decimal [] [] parts named h = let same : [] ≡ parts = cc h in subst (AllByRecursion IsSetting) same tt
 parts_set decimal [] (f ∷ fs) parts named h = absurd (cc h)
@@ -213,7 +137,7 @@ row_printable class name sets true short is all = (refl, (is, record { at = tt; 
 row_printable class name sets false short is all = (refl, (short, (is, record { at = tt; moving = tt; settings = all })))
 
 row_is : ReadsEachDecimal → (class : List ℕ) (columns : List Column) (fields : List (List ℕ)) (row : ObjectRow) → IsShortName class
-    → AllByRecursion IsNamed columns
+    → AllByRecursion (IsNamed IsShortName) columns
     → row_of columns fields ≡ Some row → IsRow class row
 row_is decimal class columns [] row short named h = absurd (cc h)
 row_is decimal class columns (name ∷ fields) row short named h = by (is_object_name name) refl
@@ -231,7 +155,7 @@ row_is decimal class columns (name ∷ fields) row short named h = by (is_object
     by false e = absurd (cc (rw e at h))
 
 rows_are : ReadsEachDecimal → (class : List ℕ) (columns : List Column) (records : List (List (List ℕ))) (rows : List ObjectRow) → IsShortName class
-    → AllByRecursion IsNamed columns
+    → AllByRecursion (IsNamed IsShortName) columns
     → each_row columns records ≡ Some rows → AllByRecursion (IsRow class) rows
 rows_are decimal class columns [] rows short named h = let same : [] ≡ rows = cc h in subst (AllByRecursion (IsRow class)) same tt
 rows_are decimal class columns (r ∷ rs) rows short named h =
@@ -240,14 +164,14 @@ rows_are decimal class columns (r ∷ rs) rows short named h =
     subst (AllByRecursion (IsRow class)) b.whole_is (first, rows_are decimal class columns rs b.later short named b.rest_is)
 
 all_are : ReadsEachDecimal → (class : List ℕ) (attributes : List Attribute) (read : List (List (List ℕ))) (rows : List ObjectRow) → IsShortName class
-    → AreNamed attributes
+    → AreNamed IsShortName attributes
     → rows_of attributes read ≡ Some rows → AllByRecursion (IsRow class) rows
 all_are decimal class attributes [] rows short named h = absurd (cc h)
 all_are decimal class attributes (header ∷ read) rows short named h = by (columns_of attributes header) refl
   where
     by : (o : Option (List Column)) → columns_of attributes header ≡ o → AllByRecursion (IsRow class) rows
     by None e = absurd (cc (rw e at h))
-    by (Some columns) e = rows_are decimal class columns read rows short (columns_named attributes header columns named e) (rw e at h)
+    by (Some columns) e = rows_are decimal class columns read rows short (columns_named IsShortName attributes header columns named e) (rw e at h)
 
 pub commands_printable : ReadsEachDecimal → GivesPrintableCommands
 unfolding rows_in

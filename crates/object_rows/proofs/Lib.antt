@@ -3,6 +3,8 @@ pub mod CommandLemmas
 pub mod ExportLemmas
 pub mod FieldLemmas
 pub mod Ids
+pub mod LineLemmas
+pub mod NamedLemmas
 pub mod ReaderLemmas
 pub mod RowLemmas
 pub mod WriterLemmas

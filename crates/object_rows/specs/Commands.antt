@@ -1,9 +1,12 @@
 -- The commands of rows.
-use Rattle.std.specs.Prelude.{◌≡◌, ℕ, Bool, true, false, Some, None, List}
+use Rattle.std.specs.Prelude.{◌≡◌, ℕ, ◌+◌, ◌≤◌, Bool, true, false, Some, None, List, length}
 use Rattle.std.specs.List.{AllByRecursion}
 use Rattle.motion.specs.declared.cell.Place.{Place}
+use Rattle.motion.specs.declared.limits.TheConstants.{ATTRIBUTE_LIMIT}
+use Rattle.ftl_lexer.specs.declared.buffer.TheConstants.{LEXER_LIMIT}
 use Rattle.history.specs.Write.{Attribute}
 use Rattle.command_text.specs.Shape.{IsPrintable, IsShortName}
+use Rattle.command_text.specs.Text.{text_of}
 use Rattle.command_text.specs.Tree.{CommandTree, Insert, Update}
 use Rattle.object_rows.specs.declared.rows.ObjectRow.{ObjectRow}
 use Rattle.object_rows.specs.Rows.{rows_in}
@@ -24,3 +27,13 @@ IsRow class row = (present : Bool) → IsPrintable (command_of class present row
 abbrev pub GivesPrintableCommands : Type 0
 GivesPrintableCommands = (class : List ℕ) (attributes : List Attribute) (text : List ℕ) (rows : List ObjectRow) → IsShortName class
     → AllByRecursion (λ (a : Attribute). IsShortName a.name) attributes → rows_in attributes text ≡ Some rows → AllByRecursion (IsRow class) rows
+
+-- the line of a row's command isn't longer than a line that can be read back
+abbrev pub HasShortLine : List ℕ → ObjectRow → Type 0
+HasShortLine class row = (present : Bool) → length (text_of (command_of class present row)) ≤ LEXER_LIMIT
+
+-- so is that of each row of a text, for a class of as many attributes as a class may have, with x and y
+abbrev pub GivesShortLines : Type 0
+GivesShortLines = (class : List ℕ) (attributes : List Attribute) (text : List ℕ) (rows : List ObjectRow) → IsShortName class
+    → AllByRecursion (λ (a : Attribute). IsShortName a.name) attributes → length attributes ≤ ATTRIBUTE_LIMIT + 2 → rows_in attributes text ≡ Some rows
+    → AllByRecursion (HasShortLine class) rows

@@ -1,5 +1,5 @@
 //! Small texts worked out and what is true of all, as calls with nothing to run.
-ghost use Rattle.object_rows.specs.Commands.{GivesPrintableCommands};
+ghost use Rattle.object_rows.specs.Commands.{GivesPrintableCommands, GivesShortLines};
 ghost use Rattle.object_rows.specs.Example.{ExportsObjects, ReadsTexts, RefusesTexts};
 
 use fixed_point::reads_each_decimal;
@@ -23,6 +23,13 @@ pub fn objects_are_exported()
 /// forms, and numbers in their ranges.
 pub fn commands_are_printable()
     ensures { GivesPrintableCommands }
+{
+    reads_each_decimal();
+}
+
+/// The canonical line of each row's command has at most the bytes of a line that can be read back, 16,384.
+pub fn row_lines_are_short()
+    ensures { GivesShortLines }
 {
     reads_each_decimal();
 }

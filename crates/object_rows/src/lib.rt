@@ -16,6 +16,9 @@ mod rows;
 pub use columns::{Column, Form};
 pub use export::export_text;
 pub use fault::CsvFault;
-pub use laws::{commands_are_printable, objects_are_exported, texts_are_read, texts_are_refused};
+pub use laws::{
+    commands_are_printable, objects_are_exported, row_lines_are_short, texts_are_read,
+    texts_are_refused,
+};
 pub use reading::import_rows;
 pub use rows::ObjectRow;
