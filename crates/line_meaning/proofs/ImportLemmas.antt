@@ -6,16 +6,17 @@ use Rattle.std.specs.List.{AllByRecursion, find, fold}
 use Rattle.std.specs.Str.{bytes_eq}
 use Rattle.std.proofs.lemmas.Bool.{and_parts}
 use Rattle.std.proofs.lemmas.Bool.Decides.{nat_tests}
-use Rattle.std.proofs.lemmas.List.{append_assoc}
+use Rattle.std.proofs.lemmas.List.{append_assoc, length-map}
 use Rattle.std.proofs.lemmas.List.Quantifiers.{position-Some}
 use Rattle.std.proofs.lemmas.List.Sums.{fold-append}
 use Rattle.std.proofs.lemmas.Slice.Eq.{bytes_eq-Decides}
 use Rattle.case_table.specs.Language.{reserved_words}
 use Rattle.motion.specs.declared.cell.AttrKind.{AttrKind}
+use Rattle.motion.specs.declared.limits.TheConstants.{ATTRIBUTE_LIMIT}
 use Rattle.history.specs.Catalog.{Catalog, ClassInfo, attributes_of_class, catalog_after, class_of, coordinates, empty_catalog, has_object, number_of_class, with_coordinates, with_new_object}
 use Rattle.history.specs.Write.{Attribute}
 use Rattle.object_rows.specs.declared.rows.ObjectRow.{ObjectRow}
-use Rattle.object_rows.specs.Commands.{GivesPrintableCommands, IsRow}
+use Rattle.object_rows.specs.Commands.{GivesPrintableCommands, GivesShortLines, HasShortLine, IsRow}
 use Rattle.command_text.specs.declared.refusal.Refusal.{Refusal}
 use Rattle.command_text.specs.Journal.{Accepted, clock, is_kept}
 use Rattle.command_text.specs.Shape.{IsAttribute, IsPrintable, IsShortName}
@@ -24,20 +25,20 @@ use Rattle.command_text.specs.Tree
 use Rattle.command_text.specs.Tree.{CommandTree}
 use Rattle.session_file.specs.declared.kept.TheConstants.{SESSION_LINE_LIMIT}
 use Rattle.line_meaning.specs.Fault.{is_present}
-use Rattle.line_meaning.specs.Import.{entry_lines, is_taken, journal_after_rows, lines_of_rows, row_command, rows_for, with_entry}
+use Rattle.line_meaning.specs.Import.{MayBeLoaded, entry_lines, is_taken, journal_after_rows, lines_of_rows, row_command, rows_for, with_entry}
 use Rattle.line_meaning.specs.Journal.{attribute_of, world, writes, writes_of}
 use Rattle.line_meaning.specs.Judging.{fault_of, held}
 use Rattle.line_meaning.specs.Looks.{looks_of_rows}
 use Rattle.line_meaning.specs.Reached.{AreReached}
 use Rattle.line_meaning.proofs.ReachedLemmas.{command_is_reached}
 
--- ---- the classes of such a journal and their attributes have short names
+-- ---- the classes of such a journal and their attributes have short names, and the attributes are few
 
 abbrev IsNamed : Attribute → Type 0
 IsNamed a = IsShortName a.name
 
 abbrev IsShortClass : ClassInfo → Type 0
-IsShortClass k = IsShortName k.name × AllByRecursion IsNamed k.attributes
+IsShortClass k = IsShortName k.name × AllByRecursion IsNamed k.attributes × (length k.attributes ≤ ATTRIBUTE_LIMIT + 2)
 
 all_joined : {A : Type 0} (P : A → Type 0) (xs ys : List A) → AllByRecursion P xs → AllByRecursion P ys → AllByRecursion P (xs ++ ys)
 all_joined P [] ys first later = later
@@ -57,6 +58,11 @@ with_coordinates_named : (point : Bool) (attributes : List Attribute) → AllByR
 with_coordinates_named true attributes named = all_joined IsNamed coordinates attributes coordinates_named named
 with_coordinates_named false attributes named = named
 
+with_coordinates_few : (point : Bool) (attributes : List (List ℕ × AttrKind)) → length attributes ≤ ATTRIBUTE_LIMIT →
+    length (with_coordinates point (map attribute_of attributes)) ≤ ATTRIBUTE_LIMIT + 2
+with_coordinates_few true attributes few = omega (arith, few, length-map attributes attribute_of)
+with_coordinates_few false attributes few = omega (arith, few, length-map attributes attribute_of)
+
 classes_kept : (known : Bool) (class : Option ℕ) (c : Catalog) (name : List ℕ) →
     (if known then c else with_new_object c class name).classes ≡ c.classes
 classes_kept true class c name = refl
@@ -67,9 +73,10 @@ entry_short : (now : ℕ) (command : CommandTree) (c : Catalog) → IsPrintable 
     AllByRecursion IsShortClass (fold catalog_after c (writes_of now command)).classes
 entry_short now (Tree.Class name capacity point attributes) c printable short =
     let named = with_coordinates_named point (map attribute_of attributes) (attributes_named attributes printable.1.1.1.1.each) in
+    let few = with_coordinates_few point attributes printable.1.1.1.1.few in
     all_joined IsShortClass c.classes
     (record { name = name; capacity = capacity; point = point; attributes = with_coordinates point (map attribute_of attributes) } ∷ [])
-    short ((printable.1.0, named), tt)
+    short ((printable.1.0, named, few), tt)
 entry_short now (Tree.Insert class name place sets) c printable short =
     subst (AllByRecursion IsShortClass) (sym (classes_kept (has_object c name) (number_of_class c class) c name)) short
 entry_short now command c printable short = short
@@ -106,6 +113,17 @@ pub attributes_are_short : (journal : List Accepted) (class : List ℕ) → AreR
 attributes_are_short journal class reached =
     attributes_found class (world journal).history.catalog.classes (classes_are_short journal reached)
 
+chosen_few : (is : Bool) (k : ClassInfo) (later : Option ClassInfo) → length k.attributes ≤ ATTRIBUTE_LIMIT + 2 →
+    length (attributes_of_class later) ≤ ATTRIBUTE_LIMIT + 2 → length (attributes_of_class (if is then Some k else later)) ≤ ATTRIBUTE_LIMIT + 2
+chosen_few true k later first rest = first
+chosen_few false k later first rest = rest
+
+few_found : (class : List ℕ) (classes : List ClassInfo) → AllByRecursion IsShortClass classes →
+    length (attributes_of_class (find (λ (k : ClassInfo). bytes_eq class k.name) classes)) ≤ ATTRIBUTE_LIMIT + 2
+few_found class [] short = omega arith
+few_found class (k ∷ classes) short =
+    chosen_few (bytes_eq class k.name) k (find (λ (k : ClassInfo). bytes_eq class k.name) classes) short.0.2 (few_found class classes short.1)
+
 class_at : (classes : List ClassInfo) (number : ℕ) (d : ClassInfo) → number < length classes → AllByRecursion IsShortClass classes →
     IsShortName (get_or classes number d).name
 class_at [] number d within short = absurd (omega arith)
@@ -138,6 +156,22 @@ module _ (prints : GivesPrintableCommands) where
       AllByRecursion (IsRow class) rows
   rows_are_printable journal class text rows number reached there is =
       named_rows_are_printable journal class text rows reached (class_is_short journal class number reached there) is
+
+-- ---- they may be lines of a session's text
+
+row_may : (class : List ℕ) (row : ObjectRow) → HasShortLine class row → MayBeLoaded class row
+row_may class row short true = let line = short true in grind (arith, nat_tests, line)
+row_may class row short false = let line = short false in grind (arith, nat_tests, line)
+
+rows_may : (class : List ℕ) (rows : List ObjectRow) → AllByRecursion (HasShortLine class) rows → AllByRecursion (MayBeLoaded class) rows
+rows_may class [] short = tt
+rows_may class (row ∷ rows) short = (row_may class row short.0, rows_may class rows short.1)
+
+pub rows_may_be_loaded : GivesShortLines → (journal : List Accepted) (class text : List ℕ) (rows : List ObjectRow) → AreReached [] journal →
+    IsShortName class → rows_for journal class text ≡ Some rows → AllByRecursion (MayBeLoaded class) rows
+rows_may_be_loaded lines journal class text rows reached short is =
+    rows_may class rows (lines class (attributes_of_class (class_of (world journal).history.catalog class)) text rows short
+    (attributes_are_short journal class reached) (few_found class (world journal).history.catalog.classes (classes_are_short journal reached)) is)
 
 -- ---- the journal after rows
 

@@ -1,5 +1,5 @@
 -- What an `import` makes of the rows of a text.
-use Rattle.std.specs.Prelude.{ℕ, Bool, ◌&&◌, is_none, Option, None, Some, option_and_then, List, [], ◌∷◌, ◌++◌, if◌then◌else◌}
+use Rattle.std.specs.Prelude.{◌≡◌, ℕ, Bool, true, ◌&&◌, is_none, Option, None, Some, option_and_then, List, [], ◌∷◌, ◌++◌, if◌then◌else◌}
 use Rattle.history.specs.Catalog.{attributes_of_class, class_of}
 use Rattle.object_rows.specs.declared.rows.ObjectRow.{ObjectRow}
 use Rattle.object_rows.specs.Commands.{command_of}
@@ -27,6 +27,10 @@ entry_lines journal c = kept_lines (known journal) (known (with_entry journal c)
 -- nothing refuses the command, and its canonical line is no longer than a session's text may have
 abbrev pub is_taken : List Accepted → CommandTree → Bool
 is_taken journal c = is_none (fault_of (held journal) c) && may_be_loaded c
+
+-- the command of such a row may be a line of a session's text
+abbrev pub MayBeLoaded : List ℕ → ObjectRow → Type 0
+MayBeLoaded class row = (present : Bool) → may_be_loaded (command_of class present row) ≡ true
 
 -- the journal after rows, each judged in the journal after the rows before it; None where one of them isn't taken
 abbrev pub journal_after_rows : List ℕ → List Accepted → List ObjectRow → Option (List Accepted)

@@ -1,11 +1,12 @@
 //! Laws of the step, each a call without a body whose contract is the law.
 ghost use Rattle.std.specs.Prelude.{◌≡◌, ℕ, ◌+◌, ◌-◌, ◌<◌, ◌≤◌, ◌++◌, true, List, [], None, Some, find, length, option_map, slice_get, take};
+ghost use Rattle.std.specs.List.{AllByRecursion};
 ghost use Rattle.command_text.specs.declared.reading.TheConstants.{LINE_LIMIT};
 ghost use Rattle.command_text.specs.declared.refusal.Refusal.TheVariants.{LineTooLong};
 ghost use Rattle.command_text.specs.declared.refusal.Refusal.{Refusal};
 ghost use Rattle.command_text.specs.Refusals.{line_of, number_of};
 ghost use Rattle.command_text.specs.Journal.{Accepted, spelled};
-ghost use Rattle.command_text.specs.Shape.{IsPrintable};
+ghost use Rattle.command_text.specs.Shape.{IsPrintable, IsShortName};
 ghost use Rattle.command_text.specs.Text.{text_of};
 ghost use Rattle.command_text.specs.Tree.{CommandTree, Save};
 ghost use Rattle.session_file.specs.declared.kept.TheConstants.{SESSION_LINE_LIMIT};
@@ -14,6 +15,8 @@ ghost use Rattle.outside.specs.Shelf.{Texts};
 ghost use Rattle.history.specs.Catalog.{empty_catalog};
 ghost use Rattle.meaning.specs.Accepted.{are_accepted};
 ghost use Rattle.line_meaning.specs.InWorlds.{AskLiesBetween, SurelyIsSo, WhatIsSoMayBe};
+ghost use Rattle.object_rows.specs.declared.rows.ObjectRow.{ObjectRow};
+ghost use Rattle.line_meaning.specs.Import.{MayBeLoaded, rows_for};
 ghost use Rattle.line_meaning.specs.Journal.{writes};
 ghost use Rattle.line_meaning.specs.Loading.{IsBadLine, Loaded, loading_of};
 ghost use Rattle.line_meaning.specs.Reached.{AreReached, after_lines};
@@ -22,7 +25,7 @@ ghost use Rattle.line_meaning.specs.Reply.{line_feed};
 ghost use Rattle.line_meaning.specs.Step.{Base, Held, base, fault_of, held, held_after, line_refusal, refusal_of, step};
 
 use command_text::{canonical_lines_are_short, read_commands_are_printable};
-use object_rows::commands_are_printable;
+use object_rows::{commands_are_printable, row_lines_are_short};
 use session_file::{cut_texts_are_bad, saved_texts_are_loaded};
 use worlds::worlds_lie_between;
 
@@ -51,6 +54,15 @@ pub fn steps_write_what_is_accepted()
     read_commands_are_printable();
     canonical_lines_are_short();
     commands_are_printable();
+}
+
+/// The command of each row of a text that is imported may be a line of a session's text, so nothing but the refusals
+/// keeps it from being taken.
+pub fn imported_rows_may_be_loaded()
+    ensures { (journal : List Accepted) (class text : List ℕ) (rows : List ObjectRow) → AreReached [] journal → IsShortName class
+        → rows_for journal class text ≡ Some rows → AllByRecursion (MayBeLoaded class) rows }
+{
+    row_lines_are_short();
 }
 
 /// The text of a journal that steps lead to is loaded as this journal; so it is after any lines, from the

@@ -15,8 +15,8 @@ pub use examples::{
     texts_are_loaded, texts_are_saved,
 };
 pub use laws::{
-    answers_lie_between, cut_sessions_are_bad, long_lines_step_alike, refusals_come_in_order,
-    saved_sessions_are_loaded, steps_write_what_is_accepted,
+    answers_lie_between, cut_sessions_are_bad, imported_rows_may_be_loaded, long_lines_step_alike,
+    refusals_come_in_order, saved_sessions_are_loaded, steps_write_what_is_accepted,
 };
 pub use limits::{
     ALL_BINDINGS_LIMIT, ASSIGNED_SPAN_LIMIT, BLURRED_BINDING_LIMIT, BLURRED_SPAN_LIMIT,
