@@ -1,0 +1,84 @@
+-- What a store tells of an object is what its timeline tells, and what that tells of a slice its last epoch tells.
+use Rattle.std.proofs.Common.{◌≡◌, ℕ, ◌+◌, ◌-◌, ◌<◌, ◌≤◌, max, Option, None, Some, List, [], ◌∷◌, length, refl, sym, ap, ◌∙◌, arith}
+use Rattle.std.specs.Prelude.{All, option_and_then, slice_get}
+use Rattle.std.specs.List.{filter_map}
+use Rattle.std.specs.Option.{option_map, option_map_or}
+use Rattle.std.proofs.lemmas.List.Elements.{All-cons, All-nil}
+use Rattle.tick_set.specs.Ticks.{between}
+use Rattle.motion.specs.Timeline.{Epoch, epoch_at, state_at, AreBegunBy, IsRisingFrom}
+use Rattle.history.specs.History.{cells_at}
+use Rattle.object_store.specs.Contents.{Contents, StoredObject, history_of}
+use Rattle.plane.specs.Boxes.{Grid, box_of, slice_first, slice_last, strips_in, strips_of}
+use Rattle.plane_index.specs.Told.{last_begun, number_in, strips_along, strips_by, told_by}
+use Rattle.plane_index.proofs.ValueLemmas.{no_box, same_numbers}
+
+-- ---- the object of a store
+
+begun_of : (found : Option StoredObject) (epochs : List Epoch) → option_map (λ (o : StoredObject). o.epochs) found ≡ Some epochs →
+    option_map_or (λ (o : StoredObject). last_begun o.epochs) found 0 ≡ last_begun epochs
+begun_of None epochs is = absurd (grind arith)
+begun_of (Some o) epochs is = let same : o.epochs ≡ epochs = grind arith in ap last_begun same
+
+pub told_along : (s : Contents) (g : Grid) (id slice : ℕ) (epochs : List Epoch) → option_map (λ (o : StoredObject). o.epochs) (slice_get s.objects id) ≡ Some epochs →
+    ((t : ℕ) → cells_at (history_of s) id t ≡ state_at epochs t) → strips_in (told_by s) g id slice ≡ strips_along epochs g slice
+told_along s g id slice epochs is states =
+    λ i. option_map (strips_of g.width)
+    (box_of (filter_map (λ t. number_in (states t i) g.attribute t) (between (max (slice_first g slice) (begun_of (slice_get s.objects id) epochs is i)) (slice_last g slice + 1))))
+
+-- ---- the last epoch
+
+last_of : (low : ℕ) (p q : Epoch) (epochs : List Epoch) → IsRisingFrom low (q ∷ epochs) → slice_get (q ∷ epochs) (length epochs) ≡ Some p →
+    (q.from ≤ p.from) × All (λ e. e.from ≤ p.from) (q ∷ epochs)
+last_of low p q [] rising is =
+    let same : q ≡ p = grind arith in
+    let e : q.from ≡ p.from = ap (λ (x : Epoch). x.from) same in
+    (omega (arith, e), All-cons (λ (x : Epoch). x.from ≤ p.from) q [] (omega (arith, e)) (All-nil (λ (x : Epoch). x.from ≤ p.from)))
+last_of low p q (r ∷ epochs) rising is =
+    let later = last_of (q.from + 1) p r epochs rising.1 is in
+    let first : q.from ≤ p.from = (let h = rising.1.0 in omega (arith, h, later.0)) in
+    (first, All-cons (λ (x : Epoch). x.from ≤ p.from) q (r ∷ epochs) first later.1)
+
+begun_by_last : (low : ℕ) (p : Epoch) (epochs : List Epoch) → IsRisingFrom low epochs → slice_get epochs (length epochs - 1) ≡ Some p → AreBegunBy epochs p.from
+begun_by_last low p [] rising is = absurd (grind arith)
+begun_by_last low p (q ∷ epochs) rising is =
+    let e : length (q ∷ epochs) - 1 ≡ length epochs = omega arith in
+    (last_of low p q epochs rising (ap (slice_get (q ∷ epochs)) (sym e) ∙ is)).1
+
+begun_later : (epochs : List Epoch) (s t : ℕ) → s ≤ t → AreBegunBy epochs s → AreBegunBy epochs t
+begun_later epochs s t h by = λ k d l. omega (arith, by k d l)
+
+of_last : (epochs : List Epoch) (p : Epoch) → slice_get epochs (length epochs - 1) ≡ Some p → last_begun epochs ≡ p.from
+of_last epochs p is = ap (λ (e : Option Epoch). option_map_or (λ (x : Epoch). x.from) e 0) is
+
+pub by_last : (epochs : List Epoch) (p : Epoch) (g : Grid) (s : ℕ) → IsRisingFrom 0 epochs → slice_get epochs (length epochs - 1) ≡ Some p →
+    ((t : ℕ) → AreBegunBy epochs t → Some p ≡ epoch_at epochs t) → strips_along epochs g s ≡ strips_by p g s
+by_last epochs p g s rising is in_force =
+    let begun = begun_by_last 0 p epochs rising is in
+    (λ i. option_map (strips_of g.width) (box_of (filter_map (λ t. number_in (state_at epochs t) g.attribute t) (between (max (slice_first g s) (of_last epochs p is i)) (slice_last g s + 1)))))
+    ∙ ap (λ zs. option_map (strips_of g.width) (box_of zs))
+    (same_numbers (λ t. number_in (state_at epochs t) g.attribute t) (number_in p.cells g.attribute) (max (slice_first g s) p.from) (slice_last g s + 1)
+    (λ t after before. ap (λ (e : Option Epoch). number_in (option_and_then (λ (x : Epoch). x.cells) e) g.attribute t)
+    (sym (in_force t (begun_later epochs p.from t (omega arith) begun)))))
+
+-- the last epoch begins past the slice
+pub past_slice : (epochs : List Epoch) (p : Epoch) (g : Grid) (s : ℕ) → slice_get epochs (length epochs - 1) ≡ Some p → slice_last g s < p.from →
+    strips_along epochs g s ≡ None
+past_slice epochs p g s is past =
+    (λ i. option_map (strips_of g.width) (box_of (filter_map (λ t. number_in (state_at epochs t) g.attribute t) (between (max (slice_first g s) (of_last epochs p is i)) (slice_last g s + 1)))))
+    ∙ ap (option_map (strips_of g.width))
+    (no_box (λ t. number_in (state_at epochs t) g.attribute t) (max (slice_first g s) p.from) (slice_last g s + 1) (λ t after before. absurd (omega arith)))
+
+pub never_written : (epochs : List Epoch) (g : Grid) (s : ℕ) → epochs ≡ [] → strips_along epochs g s ≡ None
+never_written epochs g s none =
+    ap (λ e. strips_along e g s) none
+    ∙ ap (option_map (strips_of g.width)) (no_box (λ t. number_in (state_at [] t) g.attribute t) (max (slice_first g s) 0) (slice_last g s + 1) (λ t after before. refl))
+
+some_last : (p : Epoch) (epochs : List Epoch) → slice_get (p ∷ epochs) (length epochs) ≡ None → Unit {0} → ⊥
+some_last p [] none u = absurd (grind arith)
+some_last p (q ∷ epochs) none u = some_last q epochs none u
+
+pub no_last : (epochs : List Epoch) (g : Grid) (s : ℕ) → slice_get epochs (length epochs - 1) ≡ None → strips_along epochs g s ≡ None
+no_last [] g s none = never_written [] g s refl
+no_last (p ∷ epochs) g s none =
+    let e : length (p ∷ epochs) - 1 ≡ length epochs = omega arith in
+    absurd (some_last p epochs (ap (slice_get (p ∷ epochs)) (sym e) ∙ none) tt)

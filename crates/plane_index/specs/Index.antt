@@ -1,0 +1,78 @@
+-- An index, as a contract sees it.
+use Rattle.std.specs.Prelude.{◌≡◌, ℕ, ◌<◌, ◌≤◌, ◌==◌, not, Bool, true, false, ◌&&◌, Option, None, Some, is_some, unwrap_or, List, [], length, map, take, slice_index, slice_index_or, count_by, if◌then◌else◌}
+use Rattle.tick_set.specs.Ticks.{between}
+use Rattle.history.specs.Catalog.{ids_of}
+use Rattle.object_store.specs.Contents.{Contents, catalog_of}
+use Rattle.plane.specs.Boxes.{Grid, Strips, strips_in}
+use Rattle.plane.specs.declared.limits.TheConstants.{SLICES}
+use Rattle.plane_index.specs.Columns.{cover_at}
+use Rattle.plane_index.specs.Held.{kept_strips, no_strips}
+use Rattle.plane_index.specs.Lines.{strips_as}
+use Rattle.plane_index.specs.Told.{told_by}
+use Rattle.plane_index.specs.declared.cover.Cover.{Cover}
+
+-- The objects of the class that it has seen, by first insertion. By the place of each among them its strips in each slice, None
+-- where it is stale.
+pub record Index : Type 0 where
+  pub grid : Grid
+  pub ids : List ℕ
+  pub rows : List (Option (List Strips))
+
+-- whether the object of a place isn't stale, and its strips in a slice
+abbrev pub is_fresh : Index → ℕ → Bool
+is_fresh index k = is_some (slice_index_or index.rows k None)
+
+abbrev pub strips_of_place : Index → (k slice : ℕ) → Strips
+strips_of_place index k slice = slice_index_or (unwrap_or (slice_index_or index.rows k None) []) slice no_strips
+
+abbrev pub fresh_at : List Bool → ℕ → Bool
+fresh_at fresh k = slice_index_or fresh k false
+
+abbrev pub strips_at : List (List Cover) → ℕ → ℕ → Strips
+strips_at columns k s = strips_as (cover_at (slice_index_or columns s []) k)
+
+-- each slice has room for so many objects
+abbrev pub HaveRoom : List (List Cover) → ℕ → Type 0
+HaveRoom columns count = (s : ℕ) → s < SLICES → count ≤ length (slice_index_or columns s [])
+
+-- the fields of the index
+abbrev pub row_at : List Bool → List (List Cover) → ℕ → Option (List Strips)
+row_at fresh columns k = if fresh_at fresh k then Some (map (strips_at columns k) (between 0 SLICES)) else None
+
+abbrev pub index_of : Grid → List ℕ → List Bool → List (List Cover) → Index
+index_of grid ids fresh columns = record { grid = grid; ids = ids; rows = map (row_at fresh columns) (between 0 (length ids)) }
+
+abbrev pub IsAscending : List ℕ → Type 0
+IsAscending ids = (j k : ℕ) → j < k → k < length ids → slice_index ids j < slice_index ids k
+
+-- What holds of those fields: ids ascend, each slice has a place for each of them, and none past them is fresh.
+pub record AreIndexFields (ids : List ℕ) (fresh : List Bool) (columns : List (List Cover)) : Type 0 where
+  pub ascending : IsAscending ids
+  pub slices : length columns ≡ SLICES
+  pub seen : length ids ≤ length fresh
+  pub room : HaveRoom columns (length fresh)
+  pub unseen : (k : ℕ) → length ids ≤ k → fresh_at fresh k ≡ false
+
+-- ---- An index of a store
+
+-- It has seen the first objects of the class, and the strips of those that aren't stale are right.
+pub record IsIndexOf (s : Contents) (index : Index) : Type 0 where
+  pub seen : index.ids ≡ take (length index.ids) (ids_of (catalog_of s) index.grid.class)
+  pub right : (k slice : ℕ) → is_fresh index k ≡ true → slice < SLICES
+      → strips_of_place index k slice ≡ kept_strips (strips_in (told_by s) index.grid (slice_index index.ids k) slice)
+
+-- no object of the class is stale
+pub record IsFresh (s : Contents) (index : Index) : Type 0 where
+  pub all : index.ids ≡ ids_of (catalog_of s) index.grid.class
+  pub fresh : (k : ℕ) → k < length index.ids → is_fresh index k ≡ true
+
+-- how many objects of the class are stale, those that it hasn't seen among them
+abbrev pub stale_count : Contents → Index → ℕ
+stale_count s index = count_by (λ k. not (is_fresh index k)) (between 0 (length (ids_of (catalog_of s) index.grid.class)))
+
+-- An object became stale, and all else stays.
+pub record IsTouched (id : ℕ) (old new : Index) : Type 0 where
+  pub grid : new.grid ≡ old.grid
+  pub ids : new.ids ≡ old.ids
+  pub fresh : (k : ℕ) → k < length old.ids → is_fresh new k ≡ (is_fresh old k && not (slice_index old.ids k == id))
+  pub strips : (k slice : ℕ) → is_fresh new k ≡ true → slice < SLICES → strips_of_place new k slice ≡ strips_of_place old k slice

@@ -1,0 +1,6 @@
+pub mod Told
+pub mod Held
+pub mod Lines
+pub mod Columns
+pub mod Index
+pub mod Rows

@@ -1,0 +1,86 @@
+//! How candidates are found.
+ghost use Rattle.std.specs.Prelude.{◌≡◌, ◌≤◌, ◌<◌, ◌&&◌, ◌||◌, ℕ, [], nat_le, length, map, ◌++◌, ◌∷◌, if◌then◌else◌, IfOk, OnOk, slice_index, slice_index_or};
+ghost use Rattle.std.specs.List.{filter, list_any};
+ghost use Rattle.tick_set.specs.Ticks.{between};
+ghost use Rattle.plane.specs.Boxes.{last_covered, slice_meets, strips_meet};
+ghost use Rattle.plane.specs.declared.limits.TheConstants.{SLICES};
+ghost use Rattle.plane_index.specs.Columns.{cover_at, meets};
+ghost use Rattle.plane_index.specs.Index.{fresh_at, strips_at};
+ghost use Rattle.plane_index.specs.Lines.{strips_as};
+
+use crate::column::Column;
+use crate::cover::Cover;
+use crate::grid::Grid;
+use object_store::ObjectId;
+use std::alloc::{AllocError, Global};
+use tick_set::Window;
+
+/// Whether each of so many places has strips in a slice with a tick of the window that share one with these.
+pub fn marked(
+    alloc: Global,
+    grid: &Grid,
+    columns: &[Column],
+    count: usize,
+    asked: &Cover,
+    w: Window,
+) -> Result<Vec<bool>, AllocError>
+    requires first { grid.now.from ≤ w.lo }
+    requires last { w.hi ≤ last_covered grid.now }
+    requires slices { length columns.now ≡ SLICES }
+    requires room { (s : ℕ) → s < SLICES → count ≤ length (slice_index_or columns.now s []) }
+    ensures length { IfOk result (λ marks. length marks.items ≡ count) }
+    ensures marks { IfOk result (λ marks. (k : ℕ) → k < count → fresh_at marks.items k
+        ≡ list_any (λ s. slice_meets grid.now w.lo w.hi s
+        && strips_meet (strips_as asked.now) (strips_at columns.now k s)) (between 0 SLICES)) }
+{
+    let first = grid.slice_of(w.lo);
+    let last = grid.slice_of(w.hi);
+    let mut marks = Vec::new(alloc);
+    marks.resize(count, false)?;
+    mark_in(&columns[..last + 1], first, &mut marks, asked);
+    Ok(marks)
+}
+
+// Marks each place whose strips share one with these in one of the columns from the first on.
+fn mark_in(columns: &[Column], first: usize, marks: &mut [bool], asked: &Cover)
+    requires room { (s : ℕ) → s < length columns.now → length marks.old ≤ length (slice_index_or columns.now s []) }
+    requires first { first ≤ length columns.now }
+    ensures length { length marks.new ≡ length marks.old }
+    ensures marks { (k : ℕ) → k < length marks.old → fresh_at marks.new k
+        ≡ (fresh_at marks.old k || list_any (λ s. nat_le first s && meets (cover_at (slice_index_or columns.now s []) k) asked.now)
+        (between 0 (length columns.now))) }
+{
+    let mut s = first;
+    'slices: while s < columns.len() {
+        columns[s].mark(marks, asked);
+        s += 1;
+    }
+}
+
+/// The objects whose places are marked.
+pub fn found_among(
+    alloc: Global,
+    ids: &[ObjectId],
+    marks: &[bool],
+) -> Result<Vec<ObjectId>, AllocError>
+    requires { length marks.now ≡ length ids.now }
+    ensures { IfOk result (λ found. found.items ≡ map (slice_index ids.now) (filter (fresh_at marks.now) (between 0 (length ids.now)))) }
+{
+    let mut found = Vec::new(alloc);
+    let mut place = 0;
+    'places: while place < ids.len() {
+        add_if(&mut found, marks[place], ids[place])?;
+        place += 1;
+    }
+    Ok(found)
+}
+
+// Adds an object, if it is marked.
+fn add_if(found: &mut Vec<ObjectId>, marked: bool, id: ObjectId) -> Result<(), AllocError>
+    ensures { OnOk result (found.new.items ≡ found.old.items ++ (if marked then id ∷ [] else [])) }
+{
+    if marked {
+        found.push(id)?;
+    }
+    Ok(())
+}

@@ -1,0 +1,88 @@
+//! The ticks at which an object's attribute lies between two bounds.
+ghost use Rattle.std.specs.Prelude.{◌≡◌, ◌≤◌, ◌-◌, ◌&&◌, ℕ, false, None, Some, IfOk, IfSome, option_to_list, slice_index_or};
+ghost use Rattle.std.specs.Option.{option_copied, option_map_or};
+ghost use Rattle.motion.specs.Dynamic.{Dynamic, value_at};
+ghost use Rattle.motion.specs.Pieces.{AreSteadyCells, IsLinear};
+ghost use Rattle.motion.specs.declared.cell.Cell.TheVariants as cells;
+ghost use Rattle.tick_set.specs.Runs.{IsRuns};
+ghost use Rattle.tick_set.specs.Ticks.{within};
+ghost use Rattle.plane.specs.Rows.{is_between};
+ghost use Rattle.plane_index.specs.Lines.{line_after, number_of_cell};
+ghost use Rattle.plane_index.specs.Told.{lies_between, lies_in};
+
+use crate::line::Line;
+use courses::{Common, common_from};
+use fixed_point::Fix;
+use motion::{Cell, Epoch, Timeline, Vector};
+use std::alloc::{AllocError, Global};
+use tick_set::{Runs, Span, Window};
+
+/// The ticks of the window at which the attribute of an object with this timeline lies between two bounds.
+pub fn runs_between(
+    alloc: Global,
+    timeline: &Timeline,
+    attribute: usize,
+    lo: Fix,
+    hi: Fix,
+    w: Window,
+) -> Result<Vec<Span>, AllocError>
+    ensures { IfOk result (λ runs. IsRuns (λ t. within w.lo w.hi t
+        && lies_between timeline.now attribute lo hi t) runs.items) }
+{
+    let timelines = [timeline];
+    let mut runs = Runs::new(alloc);
+    let mut at = w.lo;
+    'parts: while at <= w.hi {
+        let common = common_from(&timelines, at, w.hi);
+        let next = common.span.hi + 1;
+        runs.append(part_between(&common, attribute, lo, hi))?;
+        at = next;
+    }
+    Ok(runs.finish())
+}
+
+// Those of a common part of that timeline alone.
+fn part_between(common: &Common, attribute: usize, lo: Fix, hi: Fix) -> Option<Span>
+    requires { (k : ℕ) → IfSome (slice_index_or common.now.epochs k None)
+        (λ epoch. AreSteadyCells epoch.now common.now.span.lo common.now.span.hi) }
+    ensures { IsRuns (λ t. within common.now.span.lo common.now.span.hi t
+        && lies_in (option_copied (slice_index_or common.now.epochs 0 None)) attribute lo hi t) (option_to_list result) }
+{
+    match common.epoch(0) {
+        Some(epoch) => span_between(epoch, attribute, lo, hi, common.span.window()),
+        None => None,
+    }
+}
+
+// The ticks of the window at which the attribute of an epoch that is in force lies between two bounds. It moves along one
+// line.
+fn span_between(epoch: &Epoch, attribute: usize, lo: Fix, hi: Fix, w: Window) -> Option<Span>
+    requires { AreSteadyCells epoch.now w.lo w.hi }
+    ensures { IsRuns (λ t. within w.lo w.hi t && lies_in (Some epoch.now) attribute lo hi t) (option_to_list result) }
+{
+    cell_between(epoch.cell(attribute)?, lo, hi, w)
+}
+
+// The same of a cell.
+fn cell_between(cell: &Cell, lo: Fix, hi: Fix, w: Window) -> Option<Span>
+    requires { (v : Dynamic) → cell.now ≡ cells.Dyn v → IsLinear v w.lo w.hi }
+    ensures { IsRuns (λ t. within w.lo w.hi t
+        && option_map_or (is_between lo hi) (number_of_cell (Some cell.now) t) false) (option_to_list result) }
+{
+    match cell {
+        Cell::Num(number) => (lo <= *number && *number <= hi).then_some(w.span()),
+        Cell::Text(_) => None,
+        Cell::Dyn(vector) => line_of(vector, w).between(lo, hi, w),
+    }
+}
+
+// The line along which a vector moves from the first tick of the window on.
+fn line_of(vector: &Vector, w: Window) -> Line
+    requires { IsLinear vector.now w.lo w.hi }
+    ensures { (t : ℕ) → w.lo ≤ t → t ≤ w.hi → line_after result (t - w.lo) ≡ value_at vector.now t }
+{
+    Line {
+        start: vector.at(w.lo).raw(),
+        slope: vector.slope_at(w.lo).raw(),
+    }
+}
