@@ -1,7 +1,7 @@
 //! Counters of looks at timelines and of probes, which only a test can make.
 ghost use Rattle.std.specs.Prelude.{◌≡◌, ◌<◌};
 
-use crate::{near, surely};
+use crate::{near, ranges, surely};
 use std::marker::Brand;
 use std::process::Abort;
 use std::sync::ledger::{Blank, Ledger};
@@ -10,6 +10,7 @@ use steps::Steps;
 
 #[derive(Clone, Copy)]
 pub(crate) enum Asked {
+    Between,
     Near,
     Surely,
 }
@@ -22,6 +23,7 @@ fn ask<L: Ledger, M: Ledger>(
     probes: &mut Steps<M>,
 ) -> Result<(), Fail> {
     match what {
+        Asked::Between => ranges::cases_are_right(rt, host.alloc(), reads),
         Asked::Near => near::cases_are_right(rt, host.alloc(), reads, probes),
         Asked::Surely => surely::cases_are_right(rt, host.alloc(), reads, probes),
     }

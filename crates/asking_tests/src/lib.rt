@@ -12,6 +12,8 @@ mod near;
 #[cfg(test)]
 mod passing;
 #[cfg(test)]
+mod ranges;
+#[cfg(test)]
 mod rows;
 #[cfg(test)]
 mod sessions;
