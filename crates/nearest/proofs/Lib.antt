@@ -7,3 +7,4 @@ mod PartLemmas
 mod ThinLemmas
 mod FoundLemmas
 mod RowLemmas
+mod SureLemmas

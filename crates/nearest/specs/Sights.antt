@@ -1,5 +1,5 @@
 -- What is seen of objects in a slice of time.
-use Rattle.std.specs.Prelude.{◌≡◌, ℕ, pos, ◌-◌, ◌≤◌, ◌≤ℤ◌, nat_le, int_le, Bool, true, false, Option, None, Some, List, ⊤}
+use Rattle.std.specs.Prelude.{◌≡◌, ℕ, pos, ◌-◌, ◌<◌, ◌≤◌, ◌≤ℤ◌, nat_le, int_le, Bool, true, false, Option, None, Some, IfSome, List, count_by, ⊤}
 use Rattle.tick_set.specs.declared.spans.Window.{Window}
 use Rattle.motion.specs.Timeline.{Epoch}
 use Rattle.nearest.specs.Courses.{index_near, squared_along}
@@ -50,6 +50,15 @@ is_kept None (sights.Straight band) = true
 is_kept (Some m) (sights.Straight band) = int_le band.least (pos m)
 is_kept bound sights.Absent = false
 is_kept bound sights.Unknown = true
+
+-- whether there is a bound that the square never passes
+abbrev pub never_passes : Option ℕ → Sight → Bool
+never_passes None sight = false
+never_passes (Some m) sight = is_within m sight
+
+-- fewer than k of the courses' objects may come within the bound, if there is one
+abbrev pub AreFewWithin : ℕ → Option ℕ → List Course → Type 0
+AreFewWithin k bound courses = IfSome bound (λ m. count_by (λ c. is_kept (Some m) c.sight) courses < k)
 
 -- a course but for what is seen of it
 pub record Body : Type 0 where

@@ -6,9 +6,10 @@ ghost use Rattle.tick_set.specs.Ticks.{within};
 ghost use Rattle.tick_set.specs.declared.spans.Window.{Window};
 ghost use Rattle.nearest.specs.Courses.{goes_before, rank_along};
 ghost use Rattle.nearest.specs.Depth.{depth, one_if};
-ghost use Rattle.nearest.specs.Sights.{IsSeenFrom};
+ghost use Rattle.nearest.specs.Sights.{AreFewWithin, IsSeenFrom};
 
 use crate::band::order_by_bounds;
+use crate::certain::stays_within;
 use crate::course::Course;
 use crate::nearer::nearer;
 use crate::parts::before_in;
@@ -20,21 +21,27 @@ use std::alloc::AllocError;
 use tick_set::{Span, Window};
 
 /// Adds stretches of the window at which some of the objects stand before another, as seen from the object of the
-/// timeline `target`, and tells how many others do so throughout. Where these are `k`, some may be left out.
+/// timeline `target`, and tells how many others do so throughout. Where these are `k`, some may be left out. All are where
+/// fewer than `k` do so at any tick, as it never passes the square `sure`, within which fewer than `k` may come.
 pub fn gather(
     stretches: &mut Vec<Span>,
     courses: &[Course],
     o: &Course,
     target: &Timeline,
     k: u32,
+    sure: Option<u128>,
     w: Window,
 ) -> Result<u32, AllocError>
     requires seen { All (IsSeenFrom target.now w) courses.now }
     requires o_seen { IsSeenFrom target.now w o.now }
     requires none { stretches.old.items ≡ [] }
+    requires sure { AreFewWithin k sure courses.now }
     ensures { IfOk result (λ throughout. (t : ℕ) → within w.lo w.hi t ≡ true
         → nat_lt (depth stretches.new.items t) (k - throughout) ≡ nat_lt (rank_along target.now courses.now o.now t) k) }
 {
+    if stays_within(&o.sight, sure) {
+        return Ok(0);
+    }
     let mut throughout = 0;
     'courses: for p in courses {
         if throughout == k {

@@ -4,8 +4,9 @@ ghost use Rattle.tick_set.specs.Runs.{IsRuns, spans_have};
 ghost use Rattle.tick_set.specs.Ticks.{within};
 ghost use Rattle.nearest.specs.Courses.{is_near_along, rank_along};
 ghost use Rattle.nearest.specs.Found.{AreReady, HaveMore};
-ghost use Rattle.nearest.specs.Sights.{IsSeenFrom};
+ghost use Rattle.nearest.specs.Sights.{AreFewWithin, IsSeenFrom};
 
+use crate::certain::sure_bound;
 use crate::course::Course;
 use crate::found::append_at;
 use crate::pairs::gather;
@@ -31,15 +32,16 @@ pub fn add_near(
         (HaveMore target.now courses.now k slice.lo (slice.hi + 1) found.old.items found.new.items) }
 {
     let mut stretches = Vec::new(alloc);
+    let sure = sure_bound(alloc, courses, k)?;
     'objects: for o in courses {
-        let ticks = near_ticks(alloc, &mut stretches, courses, o, target, k, slice)?;
+        let ticks = near_ticks(alloc, &mut stretches, courses, o, target, k, sure, slice)?;
         append_at(found, o.index, ticks.spans())?;
     }
     Ok(())
 }
 
 // The ticks of the slice at which one of the objects is near: it has a place, as the object of the timeline `target` has,
-// and fewer than `k` stand before it.
+// and fewer than `k` stand before it. Within the square `sure` fewer than `k` may come.
 fn near_ticks(
     alloc: Global,
     stretches: &mut Vec<Span>,
@@ -47,14 +49,16 @@ fn near_ticks(
     o: &Course,
     target: &Timeline,
     k: u32,
+    sure: Option<u128>,
     slice: Window,
 ) -> Result<IntervalSet, AllocError>
     requires seen { All (IsSeenFrom target.now slice) courses.now }
     requires o_seen { IsSeenFrom target.now slice o.now }
+    requires sure { AreFewWithin k sure courses.now }
     ensures { IfOk result (λ ticks. (t : ℕ) → spans_have ticks t
         ≡ (within slice.lo slice.hi t && is_near_along target.now courses.now k o.now t)) }
 {
-    let below = few_before(alloc, stretches, courses, o, target, k, slice)?;
+    let below = few_before(alloc, stretches, courses, o, target, k, sure, slice)?;
     let few = IntervalSet::from_runs(below);
     if o.sight.is_straight() {
         return Ok(few);
@@ -74,15 +78,17 @@ fn few_before(
     o: &Course,
     target: &Timeline,
     k: u32,
+    sure: Option<u128>,
     slice: Window,
 ) -> Result<Vec<Span>, AllocError>
     requires seen { All (IsSeenFrom target.now slice) courses.now }
     requires o_seen { IsSeenFrom target.now slice o.now }
+    requires sure { AreFewWithin k sure courses.now }
     ensures { IfOk result (λ runs. IsRuns (λ t. within slice.lo slice.hi t
         && nat_lt (rank_along target.now courses.now o.now t) k) runs.items) }
 {
     stretches.clear();
-    let throughout = gather(stretches, courses, o, target, k, slice)?;
+    let throughout = gather(stretches, courses, o, target, k, sure, slice)?;
     let runs = ticks_below(alloc, stretches, k.saturating_sub(throughout), slice)?;
     Ok(runs)
 }

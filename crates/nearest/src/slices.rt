@@ -7,6 +7,7 @@ ghost use Rattle.nearest.specs.Found.{AreBefore, AreReady, HaveMore, runs_at};
 
 use crate::course::Course;
 use crate::found::none_found;
+use crate::growing::add_growing;
 use crate::slice::add_near;
 use crate::thinning::thinned;
 use motion::Timeline;
@@ -28,7 +29,7 @@ pub fn near_runs(
 {
     let mut found = none_found(alloc, courses.len())?;
     let mut left = cost_of_pairs(courses.len());
-    let until = add_slices(&mut found, alloc, courses, target, k, w, &mut left)?;
+    let until = add_growing(&mut found, alloc, courses, target, k, w, &mut left)?;
     if w.hi < until {
         return Ok(found);
     }
@@ -46,9 +47,9 @@ fn cost_of_pairs(count: usize) -> u64 {
     count.saturating_mul(count)
 }
 
-// Adds what is found in the slice, slice by slice, up to the tick that is told: that is past the slice, or not where the
-// cost that is left is spent.
-fn add_slices(
+/// Adds what is found in the slice, slice by slice, up to the tick that is told: that is past the slice, or not where the
+/// cost that is left is spent.
+pub fn add_slices(
     found: &mut Vec<Runs>,
     alloc: Global,
     courses: &[Course],
@@ -78,7 +79,8 @@ fn add_slices(
     Ok(until)
 }
 
-fn halves(slice: Window) -> (Window, Window)
+/// The first half of the ticks, and the others.
+pub fn halves(slice: Window) -> (Window, Window)
     requires { slice.lo < slice.hi }
     ensures begins { result.0.lo ≡ slice.lo }
     ensures meets { result.1.lo ≡ result.0.hi + 1 }
@@ -98,7 +100,7 @@ fn halves(slice: Window) -> (Window, Window)
 
 // Whether a slice with so many objects is not halved.
 fn is_few(count: usize, k: u32) -> bool {
-    count as u64 <= 2 * u64::from(k) + 8
+    count as u64 <= u64::from(k) + u64::from(k) / 2 + 8
 }
 
 fn spend(left: &mut u64, cost: u64) {

@@ -27,7 +27,7 @@ pub fn thinned<'a>(
 {
     let seen = seen_in(alloc, courses, target, slice)?;
     let bound = bound_of(alloc, &seen, k)?;
-    let few = kept(alloc, &seen, bound)?;
+    let few = kept(seen, bound);
     Ok(few)
 }
 
@@ -133,24 +133,16 @@ fn least_of(ascending: &[u128], k: u32) -> Option<u128>
 }
 
 // The courses without those that are absent or stay past the bound.
-fn kept<'a>(
-    alloc: Global,
-    seen: &[Course<'a>],
-    bound: Option<u128>,
-) -> Result<Vec<Course<'a>>, AllocError>
-    ensures { IfOk result (λ few. few.items ≡ filter (λ c. is_kept bound c.sight) seen.now) }
+fn kept<'a>(seen: Vec<Course<'a>>, bound: Option<u128>) -> Vec<Course<'a>>
+    ensures { result.items ≡ filter (λ c. is_kept bound c.sight) seen.entry.items }
 {
-    let mut few = Vec::new(alloc);
-    'courses: for c in seen {
-        if is_kept(&c.sight, bound) {
-            few.push(*c)?;
-        }
-    }
-    Ok(few)
+    let mut few = seen;
+    few.retain(|c| is_kept(&c.sight, bound));
+    few
 }
 
-// Whether an object may come within the bound.
-fn is_kept(sight: &Sight, bound: Option<u128>) -> bool
+/// Whether an object may come within the bound.
+pub fn is_kept(sight: &Sight, bound: Option<u128>) -> bool
     ensures { result ≡ is_kept bound sight.now }
 {
     match sight {

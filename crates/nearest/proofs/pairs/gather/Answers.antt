@@ -1,11 +1,24 @@
-use Rattle.std.proofs.Common.{ap, ◌∙◌, arith}
+use Rattle.std.proofs.Common.{◌≤◌, sym, ap, ◌∙◌, arith}
 use Rattle.std.specs.Prelude.{count_by}
 use Rattle.std.proofs.lemmas.List.{take_all}
-use Rattle.nearest.specs.Courses.{goes_before}
+use Rattle.std.proofs.lemmas.Bool.Decides.{nat_tests}
+use Rattle.nearest.specs.Courses.{goes_before, rank_along}
+use Rattle.nearest.specs.Depth.{depth}
 use Rattle.nearest.specs.declared.course.Course.{Course}
 use Rattle.nearest.proofs.RowLemmas.{count_more, few_more, one_at_most, too_many}
 use Rattle.nearest.proofs.ThinLemmas.{counted_front}
+use Rattle.nearest.proofs.SureLemmas.{none_of_few, surely_near}
 use Rattle.nearest.proofs.pairs.gather.Goals as goal
+
+pub returns-then-stays_within : goal.returns-then-stays_within
+returns-then-stays_within c = λ t inside.
+    let w = c.args.w in
+    let from : w.lo ≤ t = grind (arith, nat_tests) in
+    let up_to : t ≤ w.hi = grind (arith, nat_tests) in
+    none_of_few (rank_along c.args.target.now c.args.courses.now c.args.o.now t) c.args.k (depth c.args.stretches.now.items t)
+    (ap (λ spans. depth spans t) c.requires.none)
+    (surely_near c.args.target.now c.args.k t w c.args.sure c.args.courses.now c.args.o.now c.requires.seen c.requires.o_seen c.requires.sure
+    (sym c.stays_within.ensures ∙ c.if-stays_within.true) from up_to)
 
 pub returns-then-throughout-k : goal.returns-then-throughout-k
 returns-then-throughout-k c = λ t inside.

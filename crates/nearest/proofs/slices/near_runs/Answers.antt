@@ -3,12 +3,12 @@ use Rattle.nearest.specs.Courses.{AreAscending}
 use Rattle.nearest.proofs.FoundLemmas.{all_ascend, all_before, all_found, before_any, both_found}
 use Rattle.nearest.proofs.slices.near_runs.Goals as goal
 
-pub add_slices-requires-clause-ascending : goal.add_slices-requires-clause-ascending
-add_slices-requires-clause-ascending c =
+pub add_growing-requires-clause-ascending : goal.add_growing-requires-clause-ascending
+add_growing-requires-clause-ascending c =
     subst (λ (n : ℕ). AreAscending 0 n c.args.courses.now) (sym c.in_ok-found.ensures.length) (all_ascend c.args.courses.now c.requires)
 
-pub add_slices-requires-clause-before : goal.add_slices-requires-clause-before
-add_slices-requires-clause-before c = before_any c.args.w.lo c.in_ok-found.found.items c.in_ok-found.ensures.none
+pub add_growing-requires-clause-before : goal.add_growing-requires-clause-before
+add_growing-requires-clause-before c = before_any c.args.w.lo c.in_ok-found.found.items c.in_ok-found.ensures.none
 
 pub add_rest-requires-clause-ascending : goal.add_rest-requires-clause-ascending
 add_rest-requires-clause-ascending c =
@@ -16,14 +16,14 @@ add_rest-requires-clause-ascending c =
 
 pub add_rest-requires-clause-before : goal.add_rest-requires-clause-before
 add_rest-requires-clause-before c =
-    all_before c.args.target.now c.args.courses.now c.args.k c.args.w.lo c.in_ok-until.until c.in_ok-found.found.items c.add_slices.new.found.items
+    all_before c.args.target.now c.args.courses.now c.args.k c.args.w.lo c.in_ok-until.until c.in_ok-found.found.items c.add_growing.new.found.items
     c.in_ok-until.ensures.length c.in_ok-until.ensures.bounds.0 (before_any c.args.w.lo c.in_ok-found.found.items c.in_ok-found.ensures.none) c.in_ok-until.ensures.found
 
 pub returns-then-w-until-clause-found : goal.returns-then-w-until-clause-found
 returns-then-w-until-clause-found c = λ i t below.
     let last = c.in_ok-until.ensures.bounds.1 in
     let length = c.in_ok-found.ensures.length in
-    all_found c.args.target.now c.args.courses.now c.args.k c.in_ok-until.until c.args.w c.in_ok-found.found.items c.add_slices.new.found.items
+    all_found c.args.target.now c.args.courses.now c.args.k c.in_ok-until.until c.args.w c.in_ok-found.found.items c.add_growing.new.found.items
     (omega (arith, last)) c.in_ok-found.ensures.none c.in_ok-until.ensures.found i t (omega (arith, below, length))
 
 pub returns-clause-found : goal.returns-clause-found
@@ -34,7 +34,7 @@ returns-clause-found c = λ i t below.
     let w = c.args.w in
     let until = c.in_ok-until.until in
     let none = c.in_ok-found.found.items in
-    let between = c.add_slices.new.found.items in
+    let between = c.add_growing.new.found.items in
     let new = c.add_rest.new.found.items in
     let length = c.in_ok-found.ensures.length in
     all_found from courses k (w.hi + 1) w none new refl c.in_ok-found.ensures.none
