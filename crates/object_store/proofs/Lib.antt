@@ -1,3 +1,4 @@
+pub mod AreaLemmas
 pub mod Lists
 pub mod CellLemmas
 pub mod ClassLemmas
@@ -14,3 +15,5 @@ pub mod StoreLemmas
 pub mod NumberLemmas
 pub mod SizeLemmas
 pub mod ChangeLemmas
+pub mod PlaceLemmas
+pub mod ToldLemmas

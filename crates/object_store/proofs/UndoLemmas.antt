@@ -1,4 +1,4 @@
--- Writes are taken back.
+-- For this crate and for the crates above: writes are taken back.
 use Rattle.std.proofs.Common.{◌≡◌, ℕ, zero, suc, ◌+◌, ◌-◌, ◌<◌, ◌≤◌, Bool, true, false, cond, Option, None, Some, List, [], ◌∷◌, ◌++◌, map, length, take, refl, sym, ap, subst, ◌∙◌, arith, if◌then◌else◌, length-append}
 use Rattle.std.specs.Prelude.{All, slice_get, option_and_then, option_map}
 use Rattle.std.specs.List.{find, position}

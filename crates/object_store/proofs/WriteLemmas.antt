@@ -1,4 +1,4 @@
--- What the tables of a store keep over a write, and how it is taken back.
+-- For this crate and for the crates above: what the tables of a store keep over a write, and how it is taken back.
 use Rattle.std.proofs.Common.{◌≡◌, ◌≢◌, ℕ, zero, suc, ◌+◌, ◌-◌, ◌<◌, ◌≤◌, ◌==◌, ◌^◌, Bool, true, false, cond, Option, None, Some, List, [], ◌∷◌, ◌++◌, map, length, take, set, get_or, refl, sym, ap, subst, ◌∙◌, inl, inr, arith, if◌then◌else◌, length-append, length-take, append-nil}
 use Rattle.std.specs.Prelude.{All, IfSome, IsSomeAnd, nat_lt, slice_get, option_and_then, option_map}
 use Rattle.std.specs.List.{find, position, position_or_len}

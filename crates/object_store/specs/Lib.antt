@@ -11,3 +11,6 @@ pub mod TakingBack
 pub mod Ids
 pub mod Invariant
 pub mod Tables
+pub mod Areas
+pub mod Searching
+pub mod Placing

@@ -5,18 +5,25 @@
 //! changes nothing.
 #![tactic(auto)]
 
+mod areas;
+mod candidates;
 mod cells;
 mod class;
 mod fault;
+mod horizon;
 mod judge;
 mod laws;
 mod members;
 mod names;
+mod near;
 mod objects;
+mod placing;
 mod schema;
+mod standing;
 mod store;
 mod tables;
 
+pub use areas::{Area, Sides};
 pub use class::{AttrDef, Class};
 pub use fault::StoreFault;
 pub use laws::limits_in_numbers;

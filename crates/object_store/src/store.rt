@@ -1,5 +1,5 @@
 //! The store.
-ghost use Rattle.std.specs.Prelude.{◌≡◌, ◌+◌, ◌<◌, ◌≤◌, ℕ, Some, None, false, is_some, length, map, unwrap_or, slice_get, IfOk, IfErr, OnOk, OnErr};
+ghost use Rattle.std.specs.Prelude.{◌≡◌, ◌+◌, ◌<◌, ◌≤◌, ℕ, Some, None, false, is_some, length, map, unwrap_or, slice_get, IfOk, IfSome, IfErr, OnOk, OnErr};
 ghost use Rattle.std.specs.List.{position};
 ghost use Rattle.std.specs.Option.{option_copied, option_map, option_map_or};
 ghost use Rattle.motion.specs.Timeline.{state_at};
@@ -8,6 +8,7 @@ ghost use Rattle.history.specs.Catalog.{ids_of, names};
 ghost use Rattle.history.specs.History.{cells_at, ChangesFrom};
 ghost use Rattle.history.specs.Write.{Class as ClassWrite, Insert, Update, Remove};
 ghost use Rattle.object_store.specs.declared.fault.StoreFault.TheVariants.{NoMemory};
+ghost use Rattle.object_store.specs.Areas.{AreNear};
 ghost use Rattle.object_store.specs.Changes.{AreGiven};
 ghost use Rattle.object_store.specs.Contents.{catalog_of, is_named, empty_contents, history_of, is_present_at, ids_in, object_name, state_of};
 ghost use Rattle.object_store.specs.Effects.{with_class, after_insert, after_update, after_remove};
@@ -16,25 +17,33 @@ ghost use Rattle.object_store.specs.Sound.{IsSound};
 ghost use Rattle.object_store.specs.StandsFor.{GrowsBy};
 ghost use Rattle.object_store.specs.TakingBack.{undone, without_last_class, HasEmptyLastClass, IsRevertible, Undoes};
 
+use crate::areas::Area;
+use crate::candidates::candidates;
 use crate::class::AttrDef;
 use crate::fault::StoreFault;
+use crate::near::those_near;
 use crate::objects::{Done, ObjectId, Undo, index_of};
+use crate::placing::{insert_placed, remove_placed, revert_placed, update_placed};
 use crate::schema::{ClassId, Schema};
+use crate::standing::stand;
 use crate::tables::Tables;
 use fixed_point::Word;
 use indexmap::IndexMap;
 use motion::{ATTRIBUTE_LIMIT, CAPACITY_LIMIT, NamedSet, Place, Timeline};
-use std::alloc::Global;
+use places::Places;
+use std::alloc::{AllocError, Global};
 use std::marker::Model;
 use std::sync::ledger::Ledger;
 use steps::Steps;
-use tick_set::LAST_TICK;
+use tick_set::{LAST_TICK, Window};
 
 /// Classes, names and timelines. A contract sees the classes in the order of making, the objects in
 /// the order of first insertion, each with the epochs of its timeline, and the tick of the last write.
 #[derive(Drop)]
 pub struct Store {
     tables: Tables,
+    /// Where the objects can be. It tells who need not be asked, and no answer comes of it.
+    places: Places,
 }
 
 impl Model for Store {
@@ -42,12 +51,12 @@ impl Model for Store {
 
     ghost Value = { Contents };
 
-    ghost use Rattle.object_store.specs.Invariant.{IsKept};
+    ghost use Rattle.object_store.specs.Placing.{IsHeld};
     ghost use Rattle.object_store.specs.Tables.{contents_of, members_of};
 
     ghost view = { λ a. contents_of a.tables };
 
-    ghost invariant = { λ a. IsKept (members_of a.tables) (contents_of a.tables) };
+    ghost invariant = { λ a. IsHeld a.places (members_of a.tables) (contents_of a.tables) };
 }
 
 impl Store {
@@ -64,6 +73,7 @@ impl Store {
                 last_tick: 0,
                 changes: Vec::new(alloc),
             },
+            places: Places::new(alloc),
         }
     }
 
@@ -139,7 +149,15 @@ impl Store {
             fault ≡ unwrap_or (insert_fault (catalog_of self.old) (is_some (state_of self.old name.now now)) class.now name.now place.now sets.now) NoMemory) }
         ensures err { OnErr result (self.new ≡ self.old) }
     {
-        self.tables.insert(now, class, name, place, sets)
+        insert_placed(
+            &mut self.tables,
+            &mut self.places,
+            now,
+            class,
+            name,
+            place,
+            sets,
+        )
     }
 
     /// Updates an object at tick `now`, which isn't before the last write's.
@@ -167,7 +185,7 @@ impl Store {
             fault ≡ unwrap_or (update_fault (catalog_of self.old) (is_some (state_of self.old name.now now)) name.now place.now sets.now) NoMemory) }
         ensures err { OnErr result (self.new ≡ self.old) }
     {
-        self.tables.update(now, name, place, sets)
+        update_placed(&mut self.tables, &mut self.places, now, name, place, sets)
     }
 
     /// Removes an object at tick `now`, which isn't before the last write's. It keeps its name, its
@@ -188,7 +206,7 @@ impl Store {
             fault ≡ unwrap_or (remove_fault (catalog_of self.old) (is_some (state_of self.old name.now now)) name.now) NoMemory) }
         ensures err { OnErr result (self.new ≡ self.old) }
     {
-        self.tables.remove(now, name)
+        remove_placed(&mut self.tables, &mut self.places, now, name)
     }
 
     /// Takes a write back, the store standing as that call left it. It takes no memory.
@@ -196,7 +214,7 @@ impl Store {
         requires { IsRevertible undo self.old }
         ensures { self.new ≡ undone undo self.old }
     {
-        self.tables.revert(undo);
+        revert_placed(&mut self.tables, &mut self.places, undo);
     }
 
     /// The id of the object of a name. None exactly where the name was never inserted.
@@ -266,6 +284,48 @@ impl Store {
         ensures { result ≡ self.now.last_tick }
     {
         self.tables.last_tick
+    }
+
+    /// Objects of a class, by their ids, ascending: at least all that are in the area at a tick of the window. None
+    /// where the window begins before the tick of the last write, or where as little as all of the class can be told.
+    /// It looks at no timeline, and fails only where memory is out.
+    pub fn near(
+        &self,
+        alloc: Global,
+        class: ClassId,
+        area: &Area,
+        w: Window,
+    ) -> Result<Option<Vec<ObjectId>>, AllocError>
+        ensures { IfOk result (λ found. IfSome found (λ ids. AreNear self.now class area.now w.lo w.hi ids.items)) }
+    {
+        if w.lo < self.tables.last_tick {
+            return Ok(None);
+        }
+        let placed = candidates(alloc, &self.tables.objects, &self.places, class, area, w)?;
+        if let Some(ids) = placed {
+            return Ok(Some(ids));
+        }
+        let ids = those_near(
+            alloc,
+            &self.tables.objects,
+            self.class_names(class),
+            area,
+            w,
+        )?;
+        Ok(Some(ids))
+    }
+
+    /// The clock shows the tick `now`: what is kept of where objects can be is made anew where it ends soon. It takes no
+    /// memory and no step, and nothing that can be seen changes.
+    pub fn stands_at(&mut self, now: u32)
+        ensures { self.new ≡ self.old }
+    {
+        stand(
+            &mut self.places,
+            &self.tables.objects,
+            self.tables.last_tick,
+            now,
+        );
     }
 
     /// The timeline of an object, whose id exists. It takes one step, and is the one way to what an

@@ -1,5 +1,6 @@
-//! Tests of values, by the public calls of their crates: numbers and words, tables of words, convex functions, sets of
-//! ticks with the operators on them, and those calls on formulas, relations and kept rows that no program makes.
+//! Tests of values, by the public calls of their crates: numbers and words, tables of words, convex functions, boxes of
+//! places, sets of ticks with the operators on them, and those calls on formulas, relations and kept rows that no program
+//! makes.
 #![tactic(auto)]
 
 #[cfg(test)]
@@ -10,6 +11,8 @@ mod formulas;
 mod numbers;
 #[cfg(test)]
 mod operators;
+#[cfg(test)]
+mod patches;
 #[cfg(test)]
 mod relations;
 #[cfg(test)]

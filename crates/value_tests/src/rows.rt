@@ -108,7 +108,7 @@ fn later_rows(alloc: Global, kept: &KeptRows<IntervalSet>) -> Result<Changes<Int
 {
     let variables = two_of_a_class(0)?;
     let judge = judge_of(alloc, 8, 9)?;
-    let changes = refresh(alloc, kept, &variables, &judge)?;
+    let changes = refresh(alloc, kept, &variables, &judge, 0)?;
     Ok(changes)
 }
 

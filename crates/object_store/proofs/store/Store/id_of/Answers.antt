@@ -5,4 +5,4 @@ use Rattle.object_store.proofs.store.Store.id_of.Goals as goal
 
 pub overflow_cast-result : goal.overflow_cast-result
 overflow_cast-result c =
-    omega (arith, few_indexes (contents_of c.self.inside.tables) c.args.name.now c.in-Some.index c.self.invariant.sound (sym c.in-Some.ensures.index))
+    omega (arith, few_indexes (contents_of c.self.inside.tables) c.args.name.now c.in-Some.index c.self.invariant.kept.sound (sym c.in-Some.ensures.index))

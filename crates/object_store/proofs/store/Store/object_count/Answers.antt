@@ -7,4 +7,4 @@ use Rattle.object_store.proofs.store.Store.object_count.Goals as goal
 
 pub overflow_cast-result : goal.overflow_cast-result
 overflow_cast-result c =
-    omega (arith, c.len.ensures.len, length-map c.self.inside.tables.objects.entries stored, few_objects (contents_of c.self.inside.tables) c.self.invariant.sound)
+    omega (arith, c.len.ensures.len, length-map c.self.inside.tables.objects.entries stored, few_objects (contents_of c.self.inside.tables) c.self.invariant.kept.sound)

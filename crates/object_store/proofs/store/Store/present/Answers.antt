@@ -1,12 +1,10 @@
-use Rattle.std.proofs.Common.{◌≡◌, ◌≤◌, ℕ, Some, None, false, map, List, refl, ap, sym, subst, ◌∙◌, arith}
+use Rattle.std.proofs.Common.{◌≡◌, ◌≤◌, ℕ, false, ap, sym, subst, ◌∙◌}
 use Rattle.std.specs.Prelude.{is_some, slice_get, option_map}
 use Rattle.std.specs.Option.{option_map_or}
-use Rattle.std.specs.Map.{values_of}
 use Rattle.std.proofs.lemmas.Option.{slice_get-map}
 use Rattle.motion.specs.Timeline.{state_at}
-use Rattle.object_store.specs.declared.objects.Object.{Object}
 use Rattle.history.specs.History.{cells_at}
-use Rattle.object_store.specs.Contents.{StoredObject, Contents, history_of, is_present_at}
+use Rattle.object_store.specs.Contents.{Contents, history_of, is_present_at}
 use Rattle.object_store.specs.ObjectView.{stored}
 use Rattle.object_store.specs.Tables.{contents_of}
 use Rattle.object_store.proofs.EntryLemmas.{value_there, value_begun, value_of_entry}
@@ -16,7 +14,7 @@ use Rattle.object_store.proofs.store.Store.present.Goals as goal
 pub is_present-requires : goal.is_present-requires
 is_present-requires c =
     value_begun c.self.inside.tables.objects.entries c.args.id c.in-Some.object.now c.self.inside.tables.last_tick
-    (value_of_entry c.self.inside.tables.objects.entries c.args.id _ (sym c.in-Some.ensures.entry)) c.self.invariant.sound.objects.begun
+    (value_of_entry c.self.inside.tables.objects.entries c.args.id _ (sym c.in-Some.ensures.entry)) c.self.invariant.kept.sound.objects.begun
 
 pub returns-in-Some-clause-value : goal.returns-in-Some-clause-value
 returns-in-Some-clause-value c =
@@ -35,7 +33,7 @@ returns-in-Some-clause-later c =
     c.is_present.ensures
     ∙ ap (λ epochs. is_some (state_at epochs s.last_tick)) (sym at.epochs)
     ∙ ap (λ r. option_map_or (is_present_at s.last_tick) r false) (sym at.there)
-    ∙ present_later s c.args.id c.self.invariant.sound t later)
+    ∙ present_later s c.args.id c.self.invariant.kept.sound t later)
 
 pub returns-in-None-clause-value : goal.returns-in-None-clause-value
 returns-in-None-clause-value c =
@@ -50,4 +48,4 @@ returns-in-None-clause-later c =
     (λ t later.
     ap (λ r. option_map_or (is_present_at s.last_tick) r false)
     (sym (slice_get-map stored c.self.inside.tables.objects.entries c.args.id ∙ ap (option_map stored) (sym c.in-None.ensures.entry)))
-    ∙ present_later s c.args.id c.self.invariant.sound t later)
+    ∙ present_later s c.args.id c.self.invariant.kept.sound t later)

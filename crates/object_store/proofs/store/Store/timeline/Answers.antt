@@ -1,4 +1,4 @@
-use Rattle.std.proofs.Common.{◌≡◌, ℕ, Some, List, ap, subst, ◌∙◌}
+use Rattle.std.proofs.Common.{◌≡◌, ℕ, Some, ap, subst, ◌∙◌}
 use Rattle.std.specs.Prelude.{slice_get, option_map}
 use Rattle.motion.specs.Timeline.{state_at}
 use Rattle.history.specs.History.{cells_at}
@@ -19,5 +19,5 @@ returns-clause-state g c =
     let s : Contents = contents_of c.self.inside.tables in
     let at = value_there c.self.inside.tables.objects.entries c.args.id c.index.result.now c.index.ensures in
     subst (λ (s : Contents). (t : ℕ) → cells_at (history_of s) c.args.id t ≡ state_at c.index.result.now.timeline t) c.self.view_is
-    (λ t. state_of_id s c.args.id c.index.result.now.timeline t c.self.invariant.sound
+    (λ t. state_of_id s c.args.id c.index.result.now.timeline t c.self.invariant.kept.sound
     (ap (option_map (λ (o : StoredObject). o.epochs)) at.there ∙ ap Some at.epochs))
