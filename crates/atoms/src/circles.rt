@@ -15,7 +15,7 @@ ghost use Rattle.atoms.specs.Parts.{AreSteady, epoch_of, shown};
 
 use crate::found::{nowhere, one_run};
 use crate::parts::Part;
-use crate::places::line_of;
+use crate::positions::line_of;
 use distance_crossing::{Triple, together};
 use fixed_point::{Fix, Point, Slope};
 use formula::OBJECT_LIMIT;

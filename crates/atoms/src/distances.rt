@@ -12,7 +12,7 @@ ghost use Rattle.atoms.specs.Parts.{AreSteady, epoch_of, shown};
 
 use crate::found::nowhere;
 use crate::parts::Part;
-use crate::places::line_of;
+use crate::positions::line_of;
 use case_table::Op;
 use distance_crossing::{Triple, compare_motions};
 use fixed_point::Fix;

@@ -13,7 +13,7 @@ use crate::circles::in_circle;
 use crate::comparisons::compared;
 use crate::distances::at_distance;
 use crate::parts::Part;
-use crate::places::{inside, outside};
+use crate::positions::{inside, outside};
 use distance_crossing::Triple;
 use formula::{Env, RAtom};
 use polygon::Regions;

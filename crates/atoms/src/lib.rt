@@ -14,7 +14,7 @@ mod judged;
 mod laws;
 mod lines;
 mod parts;
-mod places;
+mod positions;
 mod present;
 mod straight;
 mod straight_terms;

@@ -13,7 +13,7 @@ use crate::comparisons::numbers_compared;
 use crate::distances::apart;
 use crate::found::{one_run, outside_of};
 use crate::lines::line_of;
-use crate::places::inside_run;
+use crate::positions::inside_run;
 use crate::straight_terms::straight_trend;
 use distance_crossing::Triple;
 use formula::{Env, RAtom};

@@ -2,6 +2,7 @@
 
 ghost use Rattle.std.specs.Prelude.{◌≡◌, ◌<◌, is_some, length};
 ghost use Rattle.std.proofs.Common.{ap};
+ghost use Rattle.interpreting.proofs.NameLemmas.{atom_by_names, term_by_names};
 ghost use Rattle.meaning.proofs.LocalityLemmas.{atom_same, term_same};
 ghost use Rattle.meaning.specs.Trace.{trace_of};
 ghost use Rattle.history.specs.History.{cells_at};
@@ -94,4 +95,10 @@ impl Interpreter<IntervalSet> for StoredWorld<'_> {
     ghost term_sees = { λ x b c q same env t. term_same
         (trace_of (history_of x.store.now) b) (trace_of (history_of x.store.now) c) env t q
         (λ v has. ap (λ id. cells_at (history_of x.store.now) id t) (same v has)) };
+
+    ghost atom_sees_values = { λ x b a env other same t.
+        atom_by_names x.regions.now (trace_of (history_of x.store.now) b) a env other same t };
+
+    ghost term_sees_values = { λ x b q env other same t.
+        term_by_names (trace_of (history_of x.store.now) b) q env other same t };
 }

@@ -12,7 +12,7 @@ ghost use Rattle.blur.specs.Asked.{comparison, is_on_side};
 ghost use Rattle.blur.specs.Parts.{IsSteadyPart, MovesAlong, place_in};
 
 use crate::distances::add_apart;
-use crate::places::{add_inside, add_outside};
+use crate::insides::{add_inside, add_outside};
 use crate::question::Blur;
 use case_table::Op;
 use courses::{Common, common_from, line_from, straight_line};

@@ -3,6 +3,7 @@ ghost use Rattle.std.specs.Prelude.{◌≡◌, ◌≤◌, ◌+◌, ◌<◌, ◌&
 ghost use Rattle.std.proofs.Common.{ap};
 ghost use Rattle.atoms.specs.Asked.{CanAskAtom, CanAskTerm, world_in};
 ghost use Rattle.history.specs.History.{cells_at};
+ghost use Rattle.interpreting.proofs.NameLemmas.{atom_by_names, term_by_names};
 ghost use Rattle.meaning.proofs.LocalityLemmas.{term_same};
 ghost use Rattle.meaning.specs.Reads.{atom_variables};
 ghost use Rattle.meaning.specs.Trace.{trace_of};
@@ -10,6 +11,7 @@ ghost use Rattle.object_store.specs.Contents.{history_of};
 ghost use Rattle.tick_set.specs.Runs.{spans_have};
 ghost use Rattle.tick_set.specs.Ticks.{within};
 ghost use Rattle.worlds.proofs.CallerLemmas.{blurred_sees};
+ghost use Rattle.blur.specs.Named.{blurred_alike};
 ghost use Rattle.blur.specs.World.{blurred_by};
 
 use crate::objects::{BlurredWorld, distance_ticks, region_ticks};
@@ -77,6 +79,13 @@ impl Interpreter<IntervalSet> for BlurredWorld<'_> {
     ghost term_sees = { λ x b c q same env t. term_same
         (trace_of (history_of x.store.now) b) (trace_of (history_of x.store.now) c) env t q
         (λ v has. ap (λ id. cells_at (history_of x.store.now) id t) (same v has)) };
+
+    ghost atom_sees_values = { λ x b a env other same t.
+        blurred_alike x.blur.sure x.blur.error x.regions.now (trace_of (history_of x.store.now) b) b a env other t
+        (atom_by_names x.regions.now (trace_of (history_of x.store.now) b) a env other same t) };
+
+    ghost term_sees_values = { λ x b q env other same t.
+        term_by_names (trace_of (history_of x.store.now) b) q env other same t };
 }
 
 // The ticks of the window at which an atom holds of the objects of a binding, surely or possibly.

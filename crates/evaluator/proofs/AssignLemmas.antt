@@ -27,10 +27,12 @@ use Rattle.evaluator.specs.Gathered.{any_has}
 use Rattle.evaluator.specs.Interpreting.{CanAsk, IsInFor}
 use Rattle.evaluator.specs.Keys.{AreKeys, AreNarrowed, binding_of, has_key}
 use Rattle.evaluator.specs.Rows.{AreRowsOf, AreRowsWhere}
-use Rattle.interpreting.specs.ValueRuns.{AreValueRuns, IsRunOf, run_has}
+use Rattle.interpreting.specs.Names.{formula_names}
+use Rattle.interpreting.specs.ValueRuns.{run_has}
+use Rattle.evaluator.specs.Stretched.{AreStretches, IsStretch}
 use Rattle.evaluator.proofs.BindingLemmas.{agreeing_key, binding_of-map, key_in-map, narrowed_has}
 use Rattle.evaluator.proofs.GatherLemmas.{any_has-push}
-use Rattle.evaluator.proofs.RunLemmas.{at_run, run_first, runs_all}
+use Rattle.evaluator.proofs.StretchLemmas.{at_stretch, stretches_all}
 use Rattle.evaluator.proofs.VariableLemmas.{both_variables}
 
 module _ (j : (ℕ → ℕ) → Interpretation) (P : (ℕ → ℕ) → RAtom → Env → Type 0) (Q : (ℕ → ℕ) → RTerm → Env → Type 0) (lo hi : ℕ) where
@@ -54,14 +56,14 @@ module _ (j : (ℕ → ℕ) → Interpretation) (P : (ℕ → ℕ) → RAtom →
       (own.0, λ t l v e. can_ask_narrower new old wider f (with_value x d v) (own.1 t l v e))
 
   -- each run of a term's value has a tick at which the term has it
-  pub can_ask_each : (new old : List (List ℕ)) → IsWider new old → (depth : ℕ) (q : RTerm) (f : ResolvedTree) (x : Env) (b : ℕ → ℕ) →
+  pub can_ask_each : (named : Bool) (new old : List (List ℕ)) → IsWider new old → (depth : ℕ) (q : RTerm) (f : ResolvedTree) (x : Env) (b : ℕ → ℕ) →
       ((t : ℕ) → within lo hi t ≡ true → (v : Value) → (j b).term q x t ≡ Some v → CanAsk j P Q old lo hi f (with_value x depth v)) →
-      (runs : List ValueRun) → All (IsRunOf ((j b).term q x) lo (hi + 1)) runs → CanAskEach j P Q new lo hi depth f x runs
-  can_ask_each new old wider depth q f x b can [] each = tt
-  can_ask_each new old wider depth q f x b can (r ∷ rest) each =
-      let own = at_run lo hi ((j b).term q x) r (All-head (IsRunOf ((j b).term q x) lo (hi + 1)) r rest each) r.span.lo (run_first r) in (
+      (runs : List ValueRun) → All (IsStretch named ((j b).term q x) lo (hi + 1)) runs → CanAskEach j P Q new lo hi depth f x runs
+  can_ask_each named new old wider depth q f x b can [] each = tt
+  can_ask_each named new old wider depth q f x b can (r ∷ rest) each =
+      let own = at_stretch named lo hi ((j b).term q x) r (All-head (IsStretch named ((j b).term q x) lo (hi + 1)) r rest each) in (
         can_ask_narrower new old wider f (with_value x depth r.value) (can r.span.lo own.0 r.value own.1),
-        can_ask_each new old wider depth q f x b can rest (All-tail (IsRunOf ((j b).term q x) lo (hi + 1)) r rest each),
+        can_ask_each named new old wider depth q f x b can rest (All-tail (IsStretch named ((j b).term q x) lo (hi + 1)) r rest each),
       )
 
   pub can_ask_run : (domains : List (List ℕ)) (depth : ℕ) (f : ResolvedTree) (x : Env) (runs : List ValueRun) (i : ℕ) (d : ValueRun) → i < length runs →
@@ -134,6 +136,7 @@ at_step false a p z f = refl
 
 module _ {S : Type 0} (member : S → ℕ → Bool) (j : (ℕ → ℕ) → Interpretation) (old : List (List ℕ)) (lo hi depth : ℕ) (q : RTerm) (f : ResolvedTree) (x : Env)
     (sees : (b c : ℕ → ℕ) → ((v : ℕ) → term_has v q ≡ true → b v ≡ c v) → (t : ℕ) → (j b).term q x t ≡ (j c).term q x t)
+    (blind : formula_names depth f ≡ false → (b : ℕ → ℕ) (v w : Value) (t : ℕ) → sat (j b) f (with_value x depth v) hi t ≡ sat (j b) f (with_value x depth w) hi t)
     (over : (v : ℕ) → term_has v q ≡ true → v < 4) (vars : List ℕ) (are_vars : vars ≡ term_variables q) where
   -- the value at the binding of a key is that at each assignment that agrees with it
   pub value_at : (key : List ℕ) (b : ℕ → ℕ) → agrees vars key b ≡ true → (t : ℕ) →
@@ -147,7 +150,7 @@ module _ {S : Type 0} (member : S → ℕ → Bool) (j : (ℕ → ℕ) → Inter
 
   pub rows_at_key : (key : List ℕ) (new : List (List ℕ)) (runs : List ValueRun) (rows wide own made : Table S) →
       AreNarrowed old vars key new →
-      AreValueRuns ((j (slice_index (binding_of vars key))).term q x) lo (hi + 1) runs →
+      AreStretches (formula_names depth f) ((j (slice_index (binding_of vars key))).term q x) lo (hi + 1) runs →
       AreRowsWhere member new lo hi (variables_of f) (run_holds j depth f x hi runs) rows →
       ((b : ℕ → ℕ) (t : ℕ) → has member wide b t ≡ has member rows b t) → wide.vars ≡ rows.vars →
       AreRowsWhere member old lo hi vars (λ b t. agrees vars key b) own →
@@ -165,7 +168,8 @@ module _ {S : Type 0} (member : S → ℕ → Bool) (j : (ℕ → ℕ) → Inter
     where
       by_runs : (b : ℕ → ℕ) (t : ℕ) → agrees vars key b ≡ true → within lo hi t ≡ true → run_holds j depth f x hi runs b t ≡ sat (j b) (shapes.Assign (depth, q) f) x hi t
       by_runs b t agree inside =
-          runs_all lo hi ((j (slice_index (binding_of vars key))).term q x) (λ v. sat (j b) f (with_value x depth v) hi t) t runs are_runs inside
+          stretches_all (formula_names depth f) lo hi ((j (slice_index (binding_of vars key))).term q x) (λ v. sat (j b) f (with_value x depth v) hi t) (λ none v w. blind none b v w t) t
+          runs are_runs inside
           ∙ ap (λ (o : Option Value). option_map_or (λ v. sat (j b) f (with_value x depth v) hi t) o false) (value_at key b agree t)
 
       in_window : (b : ℕ → ℕ) (t : ℕ) → agrees vars key b ≡ true →

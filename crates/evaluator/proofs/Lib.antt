@@ -10,12 +10,13 @@ pub mod FullLemmas
 pub mod GatherLemmas
 pub mod KeyLemmas
 pub mod LoopLemmas
+pub mod NamedLemmas
 pub mod NodeLemmas
 pub mod OperatorLemmas
 pub mod OverLemmas
 pub mod PairLemmas
 pub mod ReadLemmas
 pub mod RowLemmas
-pub mod RunLemmas
+pub mod StretchLemmas
 pub mod TickLemmas
 pub mod VariableLemmas

@@ -1,9 +1,7 @@
 -- The rows of AND and UNTIL, where their right part leaves objects out.
-use Rattle.std.proofs.Common.{◌≡◌, ℕ, ◌+◌, ◌<◌, ◌≤◌, Bool, true, false, ◌&&◌, ◌||◌, nat_le, if◌then◌else◌, List, [], length, map, refl, sym, ap, ◌∙◌, subst, inl, inr, arith}
+use Rattle.std.proofs.Common.{◌≡◌, ℕ, ◌+◌, ◌<◌, ◌≤◌, Bool, true, false, ◌&&◌, ◌||◌, if◌then◌else◌, List, [], length, map, refl, sym, ap, ◌∙◌, subst, inl, inr, arith}
 use Rattle.std.proofs.lemmas.Bool.{cases_Bool}
 use Rattle.tick_set.specs.Ticks.{within}
-use Rattle.fixed_point.specs.declared.variants.UntilForm.{UntilForm}
-use Rattle.formula.specs.Forms.{until_form_at}
 use Rattle.formula_shape.specs.Sizes.{nodes}
 use Rattle.formula.specs.declared.tree.RAtom.{RAtom}
 use Rattle.formula.specs.declared.tree.RTerm.{RTerm}
@@ -21,7 +19,7 @@ use Rattle.evaluator.specs.declared.node.Pairing.TheVariants as pairings
 use Rattle.evaluator.specs.Interpreting.{CanAsk}
 use Rattle.evaluator.specs.Rows.{AreRowsOf}
 use Rattle.evaluator.specs.inner.Column.{AreForRows, AreRowsBeside}
-use Rattle.evaluator.specs.inner.Nodes.{needs_right, ordered_tree, paired_at, paired_in, paired_tree, turns}
+use Rattle.evaluator.specs.inner.Nodes.{needs_right, ordered_tree, paired_in, paired_tree, turns}
 use Rattle.evaluator.proofs.FullLemmas.{sum_none}
 use Rattle.evaluator.proofs.NodeLemmas.{paired_cut, paired_has, paired_sat}
 use Rattle.evaluator.proofs.OperatorLemmas.{cut}

@@ -15,6 +15,7 @@ use Rattle.formula_shape.specs.Shape as shapes
 use Rattle.formula.specs.declared.tree.RAtom.{RAtom}
 use Rattle.formula.specs.declared.tree.RTerm.{RTerm}
 use Rattle.formula.specs.declared.value.Env.{Env}
+use Rattle.formula.specs.declared.value.Value.{Value}
 use Rattle.formula.specs.Tree.{ResolvedTree}
 use Rattle.formula.specs.Value.{with_value}
 use Rattle.meaning.specs.Reads.{atom_variables, choices, made_single, reads, term_variables}
@@ -23,14 +24,16 @@ use Rattle.evaluator.specs.declared.node.Change.{Change}
 use Rattle.evaluator.specs.declared.node.Pairing.{Pairing}
 use Rattle.interpreting.specs.declared.value_run.ValueRun.{ValueRun}
 use Rattle.evaluator.specs.Assigned.{run_holds}
-use Rattle.interpreting.specs.ValueRuns.{AreValueRuns, IsRunOf, run_has}
+use Rattle.interpreting.specs.Names.{formula_names}
+use Rattle.interpreting.specs.ValueRuns.{run_has}
+use Rattle.evaluator.specs.Stretched.{AreStretches, IsStretch}
 use Rattle.evaluator.specs.inner.ByBinding.{AreTicksOf, CanAskHere, any_member, reads_here}
 use Rattle.evaluator.specs.inner.Nodes.{changed_at, changed_tree, paired_in, paired_tree}
 use Rattle.evaluator.proofs.GatherLemmas.{any-push}
 use Rattle.evaluator.proofs.LoopLemmas.{later_looks}
 use Rattle.evaluator.proofs.OperatorLemmas.{cut, until_cut}
 use Rattle.evaluator.proofs.NodeLemmas.{changed_cut, changed_sat, paired_cut, paired_sat}
-use Rattle.evaluator.proofs.RunLemmas.{at_run, run_first, runs_all}
+use Rattle.evaluator.proofs.StretchLemmas.{at_stretch, stretches_all}
 
 none_in : (p q : ℕ → Bool) → ((u : ℕ) → q u ≡ false) → (lo hi t : ℕ) → until_in p q lo hi t ≡ false
 none_in p q none lo hi t = until_in_none p q lo hi t (λ s. false≢true (sym (none s.goal) ∙ s.holds))
@@ -83,11 +86,11 @@ run_step false h true s = refl
 run_step false h false s = refl
 
 -- what may be asked of an assignment may be asked by the value of each run
-pub can_ask_by : (j : Interpretation) (P : RAtom → Env → Type 0) (Q : RTerm → Env → Type 0) (lo hi depth : ℕ) (q : RTerm) (f : ResolvedTree) (x : Env) →
-    CanAskHere j P Q lo hi (shapes.Assign (depth, q) f) x → (runs : List ValueRun) → All (IsRunOf (j.term q x) lo (hi + 1)) runs →
+pub can_ask_by : (named : Bool) (j : Interpretation) (P : RAtom → Env → Type 0) (Q : RTerm → Env → Type 0) (lo hi depth : ℕ) (q : RTerm) (f : ResolvedTree) (x : Env) →
+    CanAskHere j P Q lo hi (shapes.Assign (depth, q) f) x → (runs : List ValueRun) → All (IsStretch named (j.term q x) lo (hi + 1)) runs →
     (i : ℕ) (run : ValueRun) → i < length runs → run ≡ get_or runs i run → CanAskHere j P Q lo hi f (with_value x depth run.value)
-can_ask_by j P Q lo hi depth q f x can runs each i run l at =
-    let own = at_run lo hi (j.term q x) (get_or runs i run) (each i run l) (get_or runs i run).span.lo (run_first (get_or runs i run)) in
+can_ask_by named j P Q lo hi depth q f x can runs each i run l at =
+    let own = at_stretch named lo hi (j.term q x) (get_or runs i run) (each i run l) in
     subst (λ (r : ValueRun). CanAskHere j P Q lo hi f (with_value x depth r.value)) (sym at)
     (can.1 (get_or runs i run).span.lo own.0 (get_or runs i run).value own.1)
 
@@ -107,15 +110,18 @@ module _ {S : Type 0} (member : S → ℕ → Bool) (j : (ℕ → ℕ) → Inter
       ∙ ap (λ (r : ValueRun). run_holds j depth f x hi (take i runs) b t || (run_has t r && sat (j b) f (with_value x depth r.value) hi t)) (sym at)))
 
   -- those of all runs
-  pub runs_done : (q : RTerm) → AreValueRuns ((j b).term q x) lo (hi + 1) runs → (i : ℕ) (parts : List S) (made : S) → length runs ≤ i →
+  pub runs_done : (q : RTerm) → (formula_names depth f ≡ false → (v w : Value) (t : ℕ) → sat (j b) f (with_value x depth v) hi t ≡ sat (j b) f (with_value x depth w) hi t) →
+      AreStretches (formula_names depth f) ((j b).term q x) lo (hi + 1) runs → (i : ℕ) (parts : List S) (made : S) → length runs ≤ i →
       ((t : ℕ) → any_member member parts t ≡ (within lo hi t && run_holds j depth f x hi (take i runs) b t)) →
       ((t : ℕ) → member made t ≡ any_member member parts t) → AreTicksOf member (j b) lo hi (shapes.Assign (depth, q) f) x made
-  runs_done q are i parts made l before says t =
+  runs_done q blind are i parts made l before says t =
       says t
       ∙ before t
       ∙ ap (λ (rs : List ValueRun). within lo hi t && run_holds j depth f x hi rs b t) (take_all i runs l)
       ∙ elim (cases_Bool (within lo hi t)) [
-        | inl e ↦ ap (λ (y : Bool). within lo hi t && y) (runs_all lo hi ((j b).term q x) (λ v. sat (j b) f (with_value x depth v) hi t) t runs are e)
+        | inl e ↦
+            ap (λ (y : Bool). within lo hi t && y)
+            (stretches_all (formula_names depth f) lo hi ((j b).term q x) (λ v. sat (j b) f (with_value x depth v) hi t) (λ none v w. blind none v w t) t runs are e)
         | inr e ↦ ap (λ (y : Bool). y && run_holds j depth f x hi runs b t) e ∙ sym (ap (λ (y : Bool). y && sat (j b) (shapes.Assign (depth, q) f) x hi t) e)
       ]
 

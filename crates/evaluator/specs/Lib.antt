@@ -3,4 +3,5 @@ pub mod Gathered
 pub mod Interpreting
 pub mod Keys
 pub mod Rows
+pub mod Stretched
 pub mod inner

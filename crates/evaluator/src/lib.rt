@@ -10,12 +10,14 @@ mod full;
 mod gathering;
 mod keys;
 mod laws;
+mod naming;
 mod narrowing;
 mod node;
 mod operators;
 mod over;
 mod rows;
 mod sets;
+mod stretches;
 mod ticks;
 mod variables;
 

@@ -24,6 +24,7 @@ use crate::narrowing::narrowed;
 use crate::node::{Node, Pair};
 use crate::operators::{changed_rows, paired_rows};
 use crate::over::is_over;
+use crate::stretches::stretches_of;
 use crate::variables::binding_of;
 use formula::{Binding, Env, RFormula, VarSet, free, free_in_term};
 use interpreting::{Interpreter, ValueRun};
@@ -216,7 +217,7 @@ fn rows_at_key<'d, S: Temporal, I: Interpreter<S>, L: Ledger, M: Ledger>(
     // The number of domains bounds the variables.
     let _ = d.len();
     let binding = binding_of(term_vars, key);
-    let runs = source.runs(alloc, a.term, &binding, env, w, reads)?;
+    let runs = stretches_of(alloc, source, a, &binding, env, w, reads)?;
     let narrow = narrowed(alloc, d, term_vars, key)?;
     let rows = rows_of_runs(alloc, source, a, &runs, &narrow, env, w, reads, probes)?;
     let rows = rows.widen(alloc, d)?;

@@ -10,6 +10,7 @@ ghost use Rattle.evaluator.specs.inner.ByBinding.{AreTicksOf, CanAskHere, reads_
 use crate::assignment::Assignment;
 use crate::node::{Node, Pairing};
 use crate::sets::{changed, paired, union_of};
+use crate::stretches::stretches_of;
 use fixed_point::UntilForm;
 use formula::{Binding, Env, RFormula};
 use interpreting::Interpreter;
@@ -142,7 +143,7 @@ fn ticks_of_assignment<S: Temporal, I: Interpreter<S>, L: Ledger, M: Ledger>(
     ensures least { reads.old ≤ reads.new }
     ensures most { reads.new ≤ reads.old + reads_here w.lo w.hi (assignment_view a.now) }
 {
-    let runs = source.runs(alloc, a.term, binding, env, w, reads)?;
+    let runs = stretches_of(alloc, source, a, binding, env, w, reads)?;
     let mut parts = VecDeque::new(alloc);
     'each: for run in &runs {
         let bound = env.with(a.depth, run.value);

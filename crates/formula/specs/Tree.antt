@@ -1,5 +1,5 @@
--- The tree of a query by number, without where its parts lie in memory. Atoms and terms are as declared: numbers are
--- their thousandths, texts their bytes.
+-- The tree of a query by number, without where its parts lie in memory. Its names are resolved to numbers, as the R before
+-- the names of its types says. Atoms and terms are as declared: numbers are their thousandths, texts their bytes.
 use Rattle.std.specs.Prelude.{ℕ, List}
 use Rattle.formula_shape.specs.Shape.{Shape}
 use Rattle.formula.specs.declared.tree.RAtom.{RAtom}

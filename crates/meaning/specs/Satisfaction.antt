@@ -20,6 +20,8 @@ pub record Interpretation : Type 0 where
   pub atom : RAtom → Env → ℕ → Bool
   pub term : RTerm → Env → ℕ → Option Value
 
+-- By what j tells of atoms and terms, with the values x that are bound, up to the tick e, at the tick t. `Assign (d, q) g`
+-- binds the value that q has at t for all of g; d is the number of assignments round it.
 abbrev pub sat : Interpretation → ResolvedTree → Env → ℕ → ℕ → Bool
 sat j (shapes.Truth b) x e t = b
 sat j (shapes.Atom a) x e t = j.atom a x t

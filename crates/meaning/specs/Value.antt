@@ -52,6 +52,8 @@ part_value part (cells.Num n) t = None
 part_value part (cells.Text s) t = None
 part_value part (cells.Dyn v) t = Some (values.Num (part_at part v t))
 
+-- what stands in a factor beside its sign and its multiplier: a number, a text, a value by the depth of its assignment, an
+-- attribute of a variable's object, a part of one, or the tick
 abbrev pub unit_value : Trace → Env → RUnit → ℕ → Option Value
 unit_value h x (units.Literal n) t = Some (values.Num n)
 unit_value h x (units.Text s) t = Some (values.Text s)

@@ -20,7 +20,8 @@ use Rattle.evaluator.specs.Gathered.{AreAlike, any_has}
 use Rattle.evaluator.specs.Interpreting.{CanAsk, IsInFor}
 use Rattle.evaluator.specs.Keys.{AreKeys}
 use Rattle.evaluator.specs.Rows.{AreRowsOf, AreRowsWhere, reads_at_key, reads_upto}
-use Rattle.interpreting.specs.ValueRuns.{AreValueRuns}
+use Rattle.interpreting.specs.Names.{formula_names}
+use Rattle.evaluator.specs.Stretched.{AreStretches}
 use Rattle.evaluator.specs.inner.Nodes.{changed_tree, needs_right, ordered_tree, pair_view, paired_tree}
 use Rattle.evaluator.proofs.AssignLemmas.{all_keys, can_ask_each, can_ask_narrower, key_more, rows_at_key, run_more}
 use Rattle.evaluator.proofs.AtomLemmas.{inside_at}
@@ -28,6 +29,7 @@ use Rattle.evaluator.proofs.BindingLemmas.{narrowed_sizes, narrowed_wider}
 use Rattle.evaluator.proofs.ByKeyLemmas.{atom_over, truth_over}
 use Rattle.evaluator.proofs.FillingLemmas.{at_key}
 use Rattle.evaluator.proofs.LoopLemmas.{can_ask_item, head_frame, in_turn, key_within, keys_within, more_alike, most_both, most_first, most_same, none_alike, none_yet, some_steps, term_within, wide_frame}
+use Rattle.evaluator.proofs.NamedLemmas.{sat_unnamed}
 use Rattle.evaluator.proofs.NodeLemmas.{changed_asks, changed_has, changed_nodes, changed_reads, paired_asks, paired_has, paired_nodes, paired_reads}
 use Rattle.evaluator.proofs.PairLemmas.{beside_all, beside_few, fewer_reads, led_rows, most_fewer, most_second, most_turned, ordered_asks, ordered_has, ordered_nodes, ordered_reads, ordered_rows}
 use Rattle.evaluator.proofs.ReadLemmas.{one_step}
@@ -488,8 +490,8 @@ rows_of_assignment-returns-clause-rows g t c =
       frame = c.in_ok-made.ensures.frame;
     }
 
-pub rows_at_key-runs-requires : goal.rows_at_key-runs-requires
-rows_at_key-runs-requires g t c =
+pub rows_at_key-stretches_of-requires : goal.rows_at_key-stretches_of-requires
+rows_at_key-stretches_of-requires g t c =
     let here : IsInFor c.args.d.now (λ v. term_has v c.args.a.now.term.now) (slice_index c.binding_of-binding.result) =
     subst (λ (b : List ℕ). IsInFor c.args.d.now (λ v. term_has v c.args.a.now.term.now) (slice_index b)) (sym c.binding_of-binding.ensures)
     (inside_at (λ v. term_has v c.args.a.now.term.now) (λ v h. (let o = c.requires.over v (or_left (term_has v c.args.a.now.term.now) (has_variable v (formula_view c.args.a.now.body.now)) h) in omega (arith, o, c.len.ensures.count, c.len.ensures.few))) c.args.term_vars.now c.requires.vars c.args.d.now c.args.key.now c.requires.key) in
@@ -500,7 +502,7 @@ rows_at_key-rows_of_runs-requires g t c κs lives =
     let here : IsInFor c.args.d.now (λ v. term_has v c.args.a.now.term.now) (slice_index c.binding_of-binding.result) =
     subst (λ (b : List ℕ). IsInFor c.args.d.now (λ v. term_has v c.args.a.now.term.now) (slice_index b)) (sym c.binding_of-binding.ensures)
     (inside_at (λ v. term_has v c.args.a.now.term.now) (λ v h. (let o = c.requires.over v (or_left (term_has v c.args.a.now.term.now) (has_variable v (formula_view c.args.a.now.body.now)) h) in omega (arith, o, c.len.ensures.count, c.len.ensures.few))) c.args.term_vars.now c.requires.vars c.args.d.now c.args.key.now c.requires.key) in
-    let can = can_ask_each (g.I.Interpreter.interpretation c.args.source.now) (g.I.Interpreter.atom_fits c.args.source.now c.args.w.lo c.args.w.hi) (g.I.Interpreter.term_fits c.args.source.now c.args.w.lo c.args.w.hi) c.args.w.lo c.args.w.hi c.in_ok-narrow.narrow c.args.d.now (narrowed_wider c.args.d.now c.args.term_vars.now c.args.key.now c.in_ok-narrow.narrow c.in_ok-narrow.ensures c.requires.key) c.args.a.now.depth c.args.a.now.term.now (formula_view c.args.a.now.body.now) c.args.env.now (slice_index c.binding_of-binding.result)
+    let can = can_ask_each (g.I.Interpreter.interpretation c.args.source.now) (g.I.Interpreter.atom_fits c.args.source.now c.args.w.lo c.args.w.hi) (g.I.Interpreter.term_fits c.args.source.now c.args.w.lo c.args.w.hi) c.args.w.lo c.args.w.hi (formula_names c.args.a.now.depth (formula_view c.args.a.now.body.now)) c.in_ok-narrow.narrow c.args.d.now (narrowed_wider c.args.d.now c.args.term_vars.now c.args.key.now c.in_ok-narrow.narrow c.in_ok-narrow.ensures c.requires.key) c.args.a.now.depth c.args.a.now.term.now (formula_view c.args.a.now.body.now) c.args.env.now (slice_index c.binding_of-binding.result)
     (c.requires.can (slice_index c.binding_of-binding.result) here).1 c.in_ok-runs.runs.items c.in_ok-runs.ensures.runs.each in (
       omega (arith, c.decreases),
       (
@@ -555,8 +557,10 @@ rows_at_key-join-requires-clause-right g t c =
 pub rows_at_key-returns-clause-rows : goal.rows_at_key-returns-clause-rows
 rows_at_key-returns-clause-rows g t c = rows_at_key g.S.TickSet.member (g.I.Interpreter.interpretation c.args.source.now) c.args.d.now c.args.w.lo c.args.w.hi c.args.a.now.depth c.args.a.now.term.now (formula_view c.args.a.now.body.now) c.args.env.now
     (λ p r e u. g.met.I.Interpreter.term_sees c.args.source.now p r c.args.a.now.term.now e c.args.env.now u)
+    (λ none b v w u. sat_unnamed (g.I.Interpreter.interpretation c.args.source.now b) (λ a x y same r. g.met.I.Interpreter.atom_sees_values c.args.source.now b a x y same r) (λ q x y same r. g.met.I.Interpreter.term_sees_values c.args.source.now b q x y same r)
+    c.args.a.now.depth (formula_view c.args.a.now.body.now) none c.args.env.now v w c.args.w.hi u)
     (λ v h. (let o = c.requires.over v (or_left (term_has v c.args.a.now.term.now) (has_variable v (formula_view c.args.a.now.body.now)) h) in omega (arith, o, c.len.ensures.count, c.len.ensures.few))) c.args.term_vars.now c.requires.vars c.args.key.now c.in_ok-narrow.narrow c.in_ok-runs.runs.items c.in_ok-rows.rows c.in_ok-rows-2.rows c.in_ok-own.own c.in_ok-made.made c.in_ok-narrow.ensures
-    (subst (λ (b : List ℕ). AreValueRuns ((g.I.Interpreter.interpretation c.args.source.now (slice_index b)).term c.args.a.now.term.now c.args.env.now) c.args.w.lo (c.args.w.hi + 1) c.in_ok-runs.runs.items) c.binding_of-binding.ensures c.in_ok-runs.ensures.runs)
+    (subst (λ (b : List ℕ). AreStretches (formula_names c.args.a.now.depth (formula_view c.args.a.now.body.now)) ((g.I.Interpreter.interpretation c.args.source.now (slice_index b)).term c.args.a.now.term.now c.args.env.now) c.args.w.lo (c.args.w.hi + 1) c.in_ok-runs.runs.items) c.binding_of-binding.ensures c.in_ok-runs.ensures.runs)
     (subst (λ (rs : List ValueRun). AreRowsWhere g.S.TickSet.member c.in_ok-narrow.narrow c.args.w.lo c.args.w.hi (variables_of (formula_view c.args.a.now.body.now)) (run_holds (g.I.Interpreter.interpretation c.args.source.now) c.args.a.now.depth (formula_view c.args.a.now.body.now) c.args.env.now c.args.w.hi rs) c.in_ok-rows.rows) c.deref.ensures.value c.in_ok-rows.ensures.rows)
     c.in_ok-rows-2.ensures.ticks c.in_ok-rows-2.ensures.head.vars c.in_ok-own.ensures c.in_ok-made.ensures.ticks c.in_ok-made.ensures.vars c.in_ok-made.ensures.frame
 

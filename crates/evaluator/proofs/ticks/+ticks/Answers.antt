@@ -8,7 +8,9 @@ use Rattle.meaning.specs.Reads.{atom_variables}
 use Rattle.meaning.specs.Satisfaction.{sat}
 use Rattle.interpreting.specs.declared.value_run.ValueRun.{ValueRun}
 use Rattle.evaluator.specs.declared.node.Pairing.TheVariants as pairings
-use Rattle.interpreting.specs.ValueRuns.{AreValueRuns, IsRunOf}
+use Rattle.interpreting.specs.Names.{formula_names}
+use Rattle.evaluator.specs.Stretched.{AreStretches, IsStretch}
+use Rattle.evaluator.proofs.NamedLemmas.{sat_unnamed}
 use Rattle.evaluator.specs.inner.ByBinding.{AreTicksOf, CanAskHere, any_member, reads_here}
 use Rattle.evaluator.specs.inner.Nodes.{changed_tree, paired_tree}
 use Rattle.evaluator.proofs.LoopLemmas.{in_turn, most_both, most_first, most_same, none_yet}
@@ -160,8 +162,8 @@ pub ticks_of-returns-in_ok-made-in-Assign-clause-most : goal.ticks_of-returns-in
 ticks_of-returns-in_ok-made-in-Assign-clause-most g t c =
     subst (λ (z : ResolvedTree). c.ticks_of_assignment.new.reads ≤ c.args.reads.now + reads_here c.args.w.lo c.args.w.hi z) c.in-Assign.ensures c.in_ok-made-in-Assign.ensures.most
 
-pub ticks_of_assignment-runs-requires : goal.ticks_of_assignment-runs-requires
-ticks_of_assignment-runs-requires g t c = c.requires.0
+pub ticks_of_assignment-stretches_of-requires : goal.ticks_of_assignment-stretches_of-requires
+ticks_of_assignment-stretches_of-requires g t c = c.requires.0
 
 pub ticks_of_assignment-returns-in_err-runs-clause-least : goal.ticks_of_assignment-returns-in_err-runs-clause-least
 ticks_of_assignment-returns-in_err-runs-clause-least g t c = c.in_err-runs.ensures.least
@@ -188,7 +190,7 @@ ticks_of_assignment-ticks_of-requires g t c κs lives = (
         (
           lives.1.1.1,
           subst (λ (x : Env). CanAskHere (g.I.Interpreter.interpretation c.args.source.now (slice_index c.args.binding.now)) (g.I.Interpreter.atom_fits c.args.source.now c.args.w.lo c.args.w.hi (slice_index c.args.binding.now)) (g.I.Interpreter.term_fits c.args.source.now c.args.w.lo c.args.w.hi (slice_index c.args.binding.now)) c.args.w.lo c.args.w.hi (formula_view c.args.a.now.body.now) x) (sym c.with-bound.ensures)
-              (can_ask_by (g.I.Interpreter.interpretation c.args.source.now (slice_index c.args.binding.now)) (g.I.Interpreter.atom_fits c.args.source.now c.args.w.lo c.args.w.hi (slice_index c.args.binding.now)) (g.I.Interpreter.term_fits c.args.source.now c.args.w.lo c.args.w.hi (slice_index c.args.binding.now)) c.args.w.lo c.args.w.hi c.args.a.now.depth c.args.a.now.term.now (formula_view c.args.a.now.body.now) c.args.env.now c.requires c.deref-run-items.result.now (subst (λ (rs : List ValueRun). All (IsRunOf ((g.I.Interpreter.interpretation c.args.source.now (slice_index c.args.binding.now)).term c.args.a.now.term.now c.args.env.now) c.args.w.lo (c.args.w.hi + 1)) rs) (sym c.deref-run-items.ensures.value) c.in_ok-runs.ensures.runs.each) c.each.run-index c.run-item.result (omega (arith, c.each-test.true)) c.run-item.is),
+              (can_ask_by (formula_names c.args.a.now.depth (formula_view c.args.a.now.body.now)) (g.I.Interpreter.interpretation c.args.source.now (slice_index c.args.binding.now)) (g.I.Interpreter.atom_fits c.args.source.now c.args.w.lo c.args.w.hi (slice_index c.args.binding.now)) (g.I.Interpreter.term_fits c.args.source.now c.args.w.lo c.args.w.hi (slice_index c.args.binding.now)) c.args.w.lo c.args.w.hi c.args.a.now.depth c.args.a.now.term.now (formula_view c.args.a.now.body.now) c.args.env.now c.requires c.deref-run-items.result.now (subst (λ (rs : List ValueRun). All (IsStretch (formula_names c.args.a.now.depth (formula_view c.args.a.now.body.now)) ((g.I.Interpreter.interpretation c.args.source.now (slice_index c.args.binding.now)).term c.args.a.now.term.now c.args.env.now) c.args.w.lo (c.args.w.hi + 1)) rs) (sym c.deref-run-items.ensures.value) c.in_ok-runs.ensures.runs.each) c.each.run-index c.run-item.result (omega (arith, c.each-test.true)) c.run-item.is),
         ),
       ),
     ),
@@ -254,7 +256,9 @@ ticks_of_assignment-each-preserved g t c = record {
 pub ticks_of_assignment-returns-clause-ticks : goal.ticks_of_assignment-returns-clause-ticks
 ticks_of_assignment-returns-clause-ticks g t c =
     runs_done g.S.TickSet.member (g.I.Interpreter.interpretation c.args.source.now) (slice_index c.args.binding.now) c.args.w.lo c.args.w.hi c.args.a.now.depth (formula_view c.args.a.now.body.now) c.args.env.now c.deref-run-items.result.now c.args.a.now.term.now
-    (subst (λ (rs : List ValueRun). AreValueRuns ((g.I.Interpreter.interpretation c.args.source.now (slice_index c.args.binding.now)).term c.args.a.now.term.now c.args.env.now) c.args.w.lo (c.args.w.hi + 1) rs) (sym c.deref-run-items.ensures.value) c.in_ok-runs.ensures.runs)
+    (λ none v w u. sat_unnamed (g.I.Interpreter.interpretation c.args.source.now (slice_index c.args.binding.now)) (λ a x y same r. g.met.I.Interpreter.atom_sees_values c.args.source.now (slice_index c.args.binding.now) a x y same r) (λ q x y same r. g.met.I.Interpreter.term_sees_values c.args.source.now (slice_index c.args.binding.now) q x y same r)
+    c.args.a.now.depth (formula_view c.args.a.now.body.now) none c.args.env.now v w c.args.w.hi u)
+    (subst (λ (rs : List ValueRun). AreStretches (formula_names c.args.a.now.depth (formula_view c.args.a.now.body.now)) ((g.I.Interpreter.interpretation c.args.source.now (slice_index c.args.binding.now)).term c.args.a.now.term.now c.args.env.now) c.args.w.lo (c.args.w.hi + 1) rs) (sym c.deref-run-items.ensures.value) c.in_ok-runs.ensures.runs)
     c.each.run-index c.each.parts.items c.in_ok-made.made (omega (arith, c.each-test.false)) c.each.invariant.ticks c.in_ok-made.ensures
 
 pub ticks_of_until-returns-then-is_empty-clause-ticks : goal.ticks_of_until-returns-then-is_empty-clause-ticks

@@ -6,7 +6,7 @@ use Rattle.meaning.specs.Atom.{position_in}
 use Rattle.motion.specs.Timeline.{Epoch}
 use Rattle.atoms.specs.Parts.{epoch_of}
 use Rattle.atoms.proofs.PlaceLemmas.{line_places, same_place}
-use Rattle.atoms.proofs.places.line_of.Goals as goal
+use Rattle.atoms.proofs.positions.line_of.Goals as goal
 
 pub returns-clause-places : goal.returns-clause-places
 returns-clause-places c = λ t from up_to.

@@ -1,6 +1,6 @@
 use Rattle.std.proofs.Common.{option_to_list}
 use Rattle.blur.proofs.PlaceLemmas.{run_by_margin}
-use Rattle.blur.proofs.places.run_in.Goals as goal
+use Rattle.blur.proofs.insides.run_in.Goals as goal
 
 pub returns : goal.returns
 returns c =

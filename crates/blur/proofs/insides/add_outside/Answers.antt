@@ -8,7 +8,7 @@ use Rattle.blur.specs.Added.{Adds}
 use Rattle.blur.specs.Asked.{inside_by}
 use Rattle.blur.proofs.AddedLemmas.{adds_as, on_ok}
 use Rattle.blur.proofs.ComparedLemmas.{outside_one}
-use Rattle.blur.proofs.places.add_outside.Goals as goal
+use Rattle.blur.proofs.insides.add_outside.Goals as goal
 
 pub returns : goal.returns
 returns c =
