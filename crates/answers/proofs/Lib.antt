@@ -1,5 +1,6 @@
 pub mod AnswerLemmas
 pub mod AskLemmas
+pub mod NarrowLemmas
 pub mod ObjectLemmas
 pub mod ProductLemmas
 pub mod QueryLemmas

@@ -1,6 +1,6 @@
 //! Queries over a store and its regions.
 
-ghost use Rattle.std.specs.Prelude.{◌≡◌, ◌≤◌, ◌+◌, ◌-◌, ◌&&◌, ◌∷◌, ℕ, [], length, map, IfOk};
+ghost use Rattle.std.specs.Prelude.{◌≡◌, ◌≤◌, ◌+◌, ◌-◌, ◌&&◌, ◌∷◌, ℕ, [], true, length, map, IfOk};
 ghost use Rattle.tick_set.specs.Runs.{spans_have};
 ghost use Rattle.tick_set.specs.Ticks.{between, within};
 ghost use Rattle.tick_set.specs.declared.spans.TheConstants.{SPAN_LIMIT};
@@ -12,7 +12,8 @@ ghost use Rattle.meaning.specs.Binding.{holds_full};
 ghost use Rattle.meaning.specs.Fits.{FitsItsClasses};
 ghost use Rattle.meaning.specs.Reads.{query_reads};
 ghost use Rattle.object_store.specs.Contents.{catalog_of};
-ghost use Rattle.relation.specs.Frames.{IsIn, frame, frame_of, size_of};
+ghost use Rattle.relation.specs.Frames.{IsIn, IsWider, frame, frame_of, size_of};
+ghost use Rattle.relation.specs.Key.{has_id, ids_of as domain_of};
 ghost use Rattle.relation.specs.Rows.{has};
 ghost use Rattle.atoms.specs.Asked.{world_in};
 ghost use Rattle.answers.specs.Objects.{AreOfItsClasses, IsOfAcceptedWrites};
@@ -22,6 +23,7 @@ use atoms::StoredWorld;
 use evaluator::{full_rows, ticks_alone};
 use formula::RQuery;
 use interval_set::IntervalSet;
+use narrowing::narrowed;
 use object_store::Store;
 use polygon::Regions;
 use relation::{Domains, Relation};
@@ -71,10 +73,60 @@ pub fn evaluate<'d, L: Ledger, M: Ledger>(
     ensures least { reads.old ≤ reads.new }
     ensures most { reads.new ≤ reads.old + query_reads (size_of d.now) (w.hi + 1 - w.lo) (query_view q.now) }
 {
+    let Some(some) = narrowed(alloc, q, d, store, regions, w)? else {
+        let rows = evaluate_all(alloc, q, d, store, regions, w, reads, probes)?;
+        return Ok(rows);
+    };
+    let rows = evaluate_all(alloc, q, &some, store, regions, w, reads, probes)?;
+    let made = widened(alloc, rows, d)?;
+    Ok(made)
+}
+
+// The same, where each object of the domains is asked.
+fn evaluate_all<'d, L: Ledger, M: Ledger>(
+    alloc: Global,
+    q: &RQuery,
+    d: &'d Domains,
+    store: &Store,
+    regions: &Regions,
+    w: Window,
+    reads: &mut Steps<L>,
+    probes: &mut Steps<M>,
+) -> Result<Relation<'d, IntervalSet>, AllocError>
+    requires accepted { IsOfAcceptedWrites store.now }
+    requires resolved { IsResolved (query_view q.now) }
+    requires fits { FitsItsClasses (world_in store.now regions.now) (query_view q.now) }
+    requires domains { AreOfItsClasses (catalog_of store.now) (query_view q.now) d.now }
+    requires length { w.hi - w.lo ≤ SPAN_LIMIT }
+    ensures rows { IfOk result (λ r. (b : ℕ → ℕ) → IsIn d.now b → (t : ℕ) → has spans_have r b t
+        ≡ (within w.lo w.hi t && holds_full (world_in store.now regions.now) (query_view q.now) w.hi b t)) }
+    ensures vars { IfOk result (λ r. r.vars ≡ between 0 (length q.now.classes)) }
+    ensures frame { IfOk result (λ r. frame r ≡ frame_of d.now w.lo w.hi) }
+    ensures least { reads.old ≤ reads.new }
+    ensures most { reads.new ≤ reads.old + query_reads (size_of d.now) (w.hi + 1 - w.lo) (query_view q.now) }
+{
     fitting_queries_can_be_asked();
     let world = StoredWorld { store, regions };
     let rows = full_rows(alloc, &world, q, d, w, reads, probes)?;
     Ok(rows)
+}
+
+// The same rows over wider domains: each of them gives its variables objects of the domains that it had.
+fn widened<'d>(
+    alloc: Global,
+    rows: Relation<'_, IntervalSet>,
+    d: &'d Domains,
+) -> Result<Relation<'d, IntervalSet>, AllocError>
+    requires { IsWider rows.domains d.now }
+    ensures ticks { IfOk result (λ r. (b : ℕ → ℕ) (t : ℕ) → has spans_have r b t ≡ has spans_have rows.entry b t) }
+    ensures inside { IfOk result (λ r. (b : ℕ → ℕ) (t : ℕ) → has spans_have r b t ≡ true → (v : ℕ)
+        → has_id rows.entry.vars v ≡ true → has_id (domain_of rows.entry.domains v) (b v) ≡ true) }
+    ensures vars { IfOk result (λ r. r.vars ≡ rows.entry.vars) }
+    ensures frame { IfOk result (λ r. frame r ≡ frame_of d.now rows.entry.lo rows.entry.hi) }
+{
+    rows.rows_stand_in_order();
+    let made = rows.widen(alloc, d)?;
+    Ok(made)
 }
 
 /// The ticks of the window at which one object of the class of a query of one variable is there and the formula holds

@@ -1,18 +1,42 @@
-use Rattle.std.proofs.Common.{ℕ, sym, subst}
-use Rattle.formula.specs.Tree.{formula_view, query_view}
-use Rattle.evaluator.specs.Interpreting.{IsOver}
+use Rattle.std.proofs.Common.{◌≡◌, List, ℕ, ◌+◌, ◌-◌, ap, sym, subst, ◌∙◌}
+use Rattle.std.specs.Prelude.{IfSome}
+use Rattle.tick_set.specs.Runs.{spans_have}
+use Rattle.formula.specs.Tree.{query_view}
+use Rattle.narrowing.specs.Narrowed.{Suffice}
+use Rattle.relation.specs.Frames.{Frame}
+use Rattle.relation.specs.Key.{has_id, ids_of}
+use Rattle.relation.specs.Rows.{has}
+use Rattle.answers.proofs.NarrowLemmas.{reads_suffice, rows_suffice}
 use Rattle.answers.proofs.evaluating.evaluate.Goals as goal
 
-pub full_rows-requires-clause-over : goal.full_rows-requires-clause-over
-full_rows-requires-clause-over g c =
-    subst (λ (n : ℕ). IsOver n (formula_view c.args.q.now.formula)) (sym c.requires.domains.many)
-    (c.fitting_queries_can_be_asked.ensures.over (query_view c.args.q.now) c.requires.resolved)
+pub returns-clause-rows : goal.returns-clause-rows
+returns-clause-rows g c =
+    let s = c.args.store.now in
+    let regions = c.args.regions.now in
+    let q = query_view c.args.q.now in
+    let suffice : Suffice s regions q c.args.w.lo c.args.w.hi c.args.d.now c.in-Some.some =
+    subst (λ found. IfSome found (λ some. Suffice s regions q c.args.w.lo c.args.w.hi c.args.d.now some)) c.in-Some.is c.in_ok-some.ensures in
+    let own : c.in_ok-rows-2.rows.domains ≡ c.in-Some.some = ap (λ (f : Frame). f.domains) c.in_ok-rows-2.ensures.frame in
+    rows_suffice s regions q c.args.w.lo c.args.w.hi c.args.d.now c.in-Some.some c.requires.domains suffice (λ b t. has spans_have c.in_ok-made.made b t)
+    (λ b here t. c.in_ok-made.ensures.ticks b t ∙ c.in_ok-rows-2.ensures.rows b here t)
+    (λ b t there v among.
+    ap (λ (d : List (List ℕ)). has_id (ids_of d v) (b v)) (sym own)
+    ∙ c.in_ok-made.ensures.inside b t there v (ap (λ (vars : List ℕ). has_id vars v) c.in_ok-rows-2.ensures.vars ∙ among))
 
-pub full_rows-requires-clause-can : goal.full_rows-requires-clause-can
-full_rows-requires-clause-can g c =
-    c.fitting_queries_can_be_asked.ensures.asked c.args.store.now c.args.regions.now (query_view c.args.q.now) c.args.d.now c.args.w.lo c.args.w.hi
-    c.requires.accepted c.requires.resolved c.requires.fits c.requires.domains c.args.w.in_range c.requires.length
+pub returns-clause-most : goal.returns-clause-most
+returns-clause-most g c =
+    reads_suffice c.args.store.now c.args.regions.now (query_view c.args.q.now) c.args.w.lo c.args.w.hi c.args.d.now c.in-Some.some c.requires.domains
+    (subst (λ found. IfSome found (λ some. Suffice c.args.store.now c.args.regions.now (query_view c.args.q.now) c.args.w.lo c.args.w.hi c.args.d.now some)) c.in-Some.is c.in_ok-some.ensures)
+    (c.args.w.hi + 1 - c.args.w.lo) _ _ c.in_ok-rows-2.ensures.most
 
-pub full_rows-requires-clause-objects : goal.full_rows-requires-clause-objects
-full_rows-requires-clause-objects g c =
-    c.fitting_queries_can_be_asked.ensures.objects c.args.store.now (query_view c.args.q.now) c.args.d.now c.requires.domains
+pub returns-in_err-made-clause-most : goal.returns-in_err-made-clause-most
+returns-in_err-made-clause-most g c =
+    reads_suffice c.args.store.now c.args.regions.now (query_view c.args.q.now) c.args.w.lo c.args.w.hi c.args.d.now c.in-Some.some c.requires.domains
+    (subst (λ found. IfSome found (λ some. Suffice c.args.store.now c.args.regions.now (query_view c.args.q.now) c.args.w.lo c.args.w.hi c.args.d.now some)) c.in-Some.is c.in_ok-some.ensures)
+    (c.args.w.hi + 1 - c.args.w.lo) _ _ c.in_ok-rows-2.ensures.most
+
+pub returns-in_err-rows-2-clause-most : goal.returns-in_err-rows-2-clause-most
+returns-in_err-rows-2-clause-most g c =
+    reads_suffice c.args.store.now c.args.regions.now (query_view c.args.q.now) c.args.w.lo c.args.w.hi c.args.d.now c.in-Some.some c.requires.domains
+    (subst (λ found. IfSome found (λ some. Suffice c.args.store.now c.args.regions.now (query_view c.args.q.now) c.args.w.lo c.args.w.hi c.args.d.now some)) c.in-Some.is c.in_ok-some.ensures)
+    (c.args.w.hi + 1 - c.args.w.lo) _ _ c.in_err-rows-2.ensures.most

@@ -1,0 +1,4 @@
+pub mod AreaLemmas
+pub mod ListLemmas
+pub mod FailLemmas
+pub mod ShareLemmas

@@ -1,0 +1,154 @@
+-- Some of the objects of each variable, one variable after the other.
+use Rattle.std.proofs.Common.{◌≡◌, ℕ, zero, suc, ◌<◌, ◌≤◌, Bool, true, false, not, ◌&&◌, ◌||◌, Option, Some, List, [], ◌∷◌, ◌++◌, length, refl, sym, ap, ◌∙◌, subst, inl, inr, arith, length-append}
+use Rattle.std.specs.Prelude.{option_map, slice_index}
+use Rattle.std.specs.List.{filter}
+use Rattle.std.specs.List.Sorted.{IsStrictlyIncreasing}
+use Rattle.std.proofs.lemmas.Bool.{false≢true, and_parts, cases_Bool, cases_lt, both_ways}
+use Rattle.std.proofs.lemmas.List.Kept.{IsStrictlyIncreasing-filter}
+use Rattle.geometry.specs.Region.{Region}
+use Rattle.formula.specs.Tree.{ResolvedQuery}
+use Rattle.object_store.specs.Contents.{Contents, ids_in}
+use Rattle.object_store.proofs.IdLemmas.{ids-told}
+use Rattle.relation.specs.Key.{has_id, ids_of}
+use Rattle.narrowing.specs.Narrowed.{AreOfClasses, IsShare, Suffice, SufficeSoFar}
+use Rattle.narrowing.specs.Needed.{AreNeeded, IsOfEither}
+use Rattle.narrowing.proofs.ListLemmas.{has-filter, no_more}
+
+-- ---- one variable
+
+not_both : (b c : Bool) → c ≡ true → (b && c) ≡ false → b ≡ false
+not_both true c is fails = absurd (both_ways c fails is)
+not_both false c is fails = refl
+
+module _ (s : Contents) (regions : List Region) (q : ResolvedQuery) (lo e : ℕ) where
+  -- those of its own that the formula needs
+  pub share_of_needed : (v class : ℕ) (own ids : List ℕ) → IsStrictlyIncreasing own → AreNeeded s regions class v lo e q.formula ids →
+      ((id : ℕ) → has_id own id ≡ true → has_id (ids_in s.objects class) id ≡ true) →
+      IsShare s regions q lo e v own (filter (has_id own) ids)
+  share_of_needed v class own ids rise needed of_class =
+      let up : IsStrictlyIncreasing (filter (has_id own) ids) = IsStrictlyIncreasing-filter (has_id own) ids needed.ascending in
+      let among : (id : ℕ) → has_id (filter (has_id own) ids) id ≡ true → has_id own id ≡ true =
+      λ id has. (and_parts (has_id ids id) (has_id own id) (sym (has-filter (has_id own) ids id) ∙ has)).1 in
+      record {
+        ascending = up;
+        among = among;
+        fewer = no_more (filter (has_id own) ids) own up rise among;
+        sound = λ b has lacking.
+            needed.fails b (of_class (b v) has)
+            (not_both (has_id ids (b v)) (has_id own (b v)) has (sym (has-filter (has_id own) ids (b v)) ∙ lacking));
+      }
+
+  -- all of its own
+  pub whole_share : (v : ℕ) (own : List ℕ) → IsStrictlyIncreasing own → IsShare s regions q lo e v own own
+  whole_share v own up = record {
+    ascending = up;
+    among = λ id has. has;
+    fewer = omega arith;
+    sound = λ b has lacking. absurd (both_ways (has_id own (b v)) lacking has);
+  }
+
+  -- ---- one variable more
+
+  in_front : (some : List (List ℕ)) (ids : List ℕ) (v : ℕ) → v < length some → ids_of (some ++ ids ∷ []) v ≡ ids_of some v
+  in_front [] ids v within = absurd (omega (arith, within))
+  in_front (x ∷ some) ids zero within = refl
+  in_front (x ∷ some) ids (suc v) within = in_front some ids v (omega (arith, within))
+
+  at_end : (some : List (List ℕ)) (ids : List ℕ) → ids_of (some ++ ids ∷ []) (length some) ≡ ids
+  at_end [] ids = refl
+  at_end (x ∷ some) ids = at_end some ids
+
+  -- what holds of each variable so far and of the next one holds of all of them
+  each_so_far : (P : ℕ → List ℕ → Type 0) (some : List (List ℕ)) (ids : List ℕ) → ((v : ℕ) → v < length some → P v (ids_of some v)) →
+      P (length some) ids → (v : ℕ) → v < length (some ++ ids ∷ []) → P v (ids_of (some ++ ids ∷ []) v)
+  each_so_far P some ids before next v within =
+      elim (cases_lt v (length some)) [
+        | inl earlier ↦ subst (P v) (sym (in_front some ids v earlier)) (before v earlier)
+        | inr later ↦
+            let same : v ≡ length some = omega (arith, later, within, length-append some (ids ∷ [])) in
+            subst (λ (v : ℕ). P v (ids_of (some ++ ids ∷ []) v)) (sym same) (subst (P (length some)) (sym (at_end some ids)) next)
+      ]
+
+  pub more_suffice : (domains some : List (List ℕ)) (ids : List ℕ) → SufficeSoFar s regions q lo e domains some → length some < length domains →
+      IsShare s regions q lo e (length some) (ids_of domains (length some)) ids → SufficeSoFar s regions q lo e domains (some ++ ids ∷ [])
+  more_suffice domains some ids so_far within share = record {
+    upto = omega (arith, within, length-append some (ids ∷ []));
+    among = each_so_far (λ v own. (id : ℕ) → has_id own id ≡ true → has_id (ids_of domains v) id ≡ true) some ids so_far.among share.among;
+    fewer = each_so_far (λ v own. length own ≤ length (ids_of domains v)) some ids so_far.fewer share.fewer;
+    sound = λ b is_in.
+        elim (so_far.sound b is_in) [
+          | inr fails ↦ inr fails
+          | inl before ↦ elim (cases_Bool (has_id ids (b (length some)))) [
+            | inl has ↦ inl (each_so_far (λ v own. has_id own (b v) ≡ true) some ids before has)
+            | inr lacking ↦ inr (share.sound b (is_in (length some) within) lacking)
+          ]
+        ];
+  }
+
+  pub none_suffice : (domains : List (List ℕ)) → SufficeSoFar s regions q lo e domains []
+  none_suffice domains = record {
+    upto = omega arith;
+    among = λ v within. absurd (omega (arith, within));
+    fewer = λ v within. absurd (omega (arith, within));
+    sound = λ b is_in. inl (λ v within. absurd (omega (arith, within)));
+  }
+
+  -- ---- all variables
+
+  past_end : (some : List (List ℕ)) (v : ℕ) → length some ≤ v → ids_of some v ≡ []
+  past_end [] v past = refl
+  past_end (x ∷ some) zero past = absurd (omega (arith, past))
+  past_end (x ∷ some) (suc v) past = past_end some v (omega (arith, past))
+
+  pub all_suffice : (domains some : List (List ℕ)) → length some ≡ length domains → SufficeSoFar s regions q lo e domains some →
+      Suffice s regions q lo e domains some
+  all_suffice domains some many so_far = record {
+    wider = record {
+      many = sym many;
+      all = λ v id has.
+          elim (cases_lt v (length some)) [
+            | inl within ↦ so_far.among v within id has
+            | inr past ↦ absurd (false≢true (sym (ap (λ ids. has_id ids id) (past_end some v past)) ∙ has))
+          ];
+    };
+    fewer = λ v.
+        elim (cases_lt v (length some)) [
+          | inl within ↦ so_far.fewer v within
+          | inr past ↦ let none : length (ids_of some v) ≡ 0 = ap length (past_end some v past) in omega (arith, none)
+        ];
+    sound = so_far.sound;
+  }
+
+-- the objects of a variable are those of its class
+pub own_of_class : (s : Contents) (q : ResolvedQuery) (domains : List (List ℕ)) (v : ℕ) → AreOfClasses s q domains → v < length domains →
+    (id : ℕ) → has_id (ids_of domains v) id ≡ true → has_id (ids_in s.objects (slice_index q.classes v)) id ≡ true
+own_of_class s q domains v are within id has =
+    let many = are.many in
+    ap (λ ids. has_id ids id) (sym (ids-told s (slice_index q.classes v))) ∙ are.each v id (omega (arith, within, many)) has
+
+-- ---- what both sides of AND need
+
+either_lacks : (b c : Bool) → (b && c) ≡ false → (not b || not c) ≡ true
+either_lacks true true fails = sym fails
+either_lacks true false fails = refl
+either_lacks false c fails = refl
+
+pub of_common : {V : Type 0} (items : V → List ℕ) (left right : Option V) (l r : V) (ids : List ℕ) → left ≡ Some l → right ≡ Some r →
+    IsStrictlyIncreasing (items l) → ids ≡ filter (has_id (items r)) (items l) → IsOfEither (option_map items left) (option_map items right) ids
+of_common {V} items left right l r ids first second up are =
+    subst (λ (left : Option V). IsOfEither (option_map items left) (option_map items right) ids) (sym first)
+    (subst (λ (right : Option V). IsOfEither (Some (items l)) (option_map items right) ids) (sym second)
+    (subst (IsOfEither (Some (items l)) (Some (items r))) (sym are) (record {
+      ascending = IsStrictlyIncreasing-filter (has_id (items r)) (items l) up;
+      lacking = λ id lacking.
+          either_lacks (has_id (items l) id) (has_id (items r) id) (sym (has-filter (has_id (items r)) (items l) id) ∙ lacking);
+    })))
+
+-- the next variable's ids are added
+pub next_suffice : (s : Contents) (regions : List Region) (q : ResolvedQuery) (lo e : ℕ) (domains some new : List (List ℕ)) (v : ℕ) (ids pushed : List ℕ) →
+    v ≡ length some → v < length domains → SufficeSoFar s regions q lo e domains some → IsShare s regions q lo e v (ids_of domains v) ids →
+    pushed ≡ ids → new ≡ some ++ pushed ∷ [] → SufficeSoFar s regions q lo e domains new
+next_suffice s regions q lo e domains some new v ids pushed next within so_far share same pushes =
+    subst (SufficeSoFar s regions q lo e domains) (sym (pushes ∙ ap (λ (ids : List ℕ). some ++ ids ∷ []) same))
+    (more_suffice s regions q lo e domains some ids so_far (omega (arith, next, within))
+    (subst (λ (v : ℕ). IsShare s regions q lo e v (ids_of domains v) ids) next share))

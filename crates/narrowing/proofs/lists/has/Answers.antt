@@ -1,0 +1,8 @@
+use Rattle.std.proofs.Common.{◌∙◌}
+use Rattle.narrowing.proofs.ListLemmas.{search_is_has}
+use Rattle.narrowing.proofs.lists.has.Goals as goal
+
+pub returns : goal.returns
+returns c =
+    c.is_ok.ensures.value
+    ∙ search_is_has c.args.ids.now c.args.id c.binary_search.result c.requires c.binary_search.ensures.position

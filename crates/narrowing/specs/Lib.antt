@@ -1,0 +1,4 @@
+pub mod Terms
+pub mod Covering
+pub mod Needed
+pub mod Narrowed

@@ -1,0 +1,37 @@
+-- Fewer objects that suffice for a query.
+use Rattle.std.specs.Prelude.{◌≡◌, ℕ, ◌<◌, ◌≤◌, ◌⊎◌, true, false, List, length, slice_index}
+use Rattle.std.specs.List.Sorted.{IsStrictlyIncreasing}
+use Rattle.geometry.specs.Region.{Region}
+use Rattle.history.specs.Catalog.{ids_of as ids_of_class}
+use Rattle.formula.specs.Tree.{ResolvedQuery}
+use Rattle.object_store.specs.Contents.{Contents, catalog_of}
+use Rattle.relation.specs.Frames.{IsIn, IsWider, size_of}
+use Rattle.relation.specs.Key.{has_id, ids_of}
+use Rattle.narrowing.specs.Needed.{Fails, told}
+
+-- a list of objects for each variable of a query, each of the variable's class
+pub record AreOfClasses (s : Contents) (q : ResolvedQuery) (domains : List (List ℕ)) : Type 0 where
+  pub many : length domains ≡ length q.classes
+  pub each : (v id : ℕ) → v < length q.classes → has_id (ids_of domains v) id ≡ true
+      → has_id (ids_of_class (catalog_of s) (slice_index q.classes v)) id ≡ true
+
+-- Some of the objects of domains: an assignment that gives a variable another one of them has the formula at no tick of
+-- lo to e.
+pub record Suffice (s : Contents) (regions : List Region) (q : ResolvedQuery) (lo e : ℕ) (domains some : List (List ℕ)) : Type 0 where
+  pub wider : IsWider some domains
+  pub fewer : (v : ℕ) → size_of some v ≤ size_of domains v
+  pub sound : (b : ℕ → ℕ) → IsIn domains b → IsIn some b ⊎ Fails (told s regions b) lo e q.formula
+
+-- Some of a variable's own ids, ascending: with another one of these the formula holds at no tick of lo to e.
+pub record IsShare (s : Contents) (regions : List Region) (q : ResolvedQuery) (lo e v : ℕ) (own ids : List ℕ) : Type 0 where
+  pub ascending : IsStrictlyIncreasing ids
+  pub among : (id : ℕ) → has_id ids id ≡ true → has_id own id ≡ true
+  pub fewer : length ids ≤ length own
+  pub sound : (b : ℕ → ℕ) → has_id own (b v) ≡ true → has_id ids (b v) ≡ false → Fails (told s regions b) lo e q.formula
+
+-- the same of the first variables as `Suffice` says of all
+pub record SufficeSoFar (s : Contents) (regions : List Region) (q : ResolvedQuery) (lo e : ℕ) (domains some : List (List ℕ)) : Type 0 where
+  pub upto : length some ≤ length domains
+  pub among : (v : ℕ) → v < length some → (id : ℕ) → has_id (ids_of some v) id ≡ true → has_id (ids_of domains v) id ≡ true
+  pub fewer : (v : ℕ) → v < length some → size_of some v ≤ size_of domains v
+  pub sound : (b : ℕ → ℕ) → IsIn domains b → IsIn some b ⊎ Fails (told s regions b) lo e q.formula

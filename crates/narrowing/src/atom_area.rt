@@ -1,0 +1,145 @@
+//! The areas in which atoms need objects.
+ghost use Rattle.std.specs.Prelude.{◌≡◌, ℤ, true, List, IfSome, None, Some};
+ghost use Rattle.geometry.specs.Region.{Region};
+ghost use Rattle.case_table.specs.Comparison.{compares};
+ghost use Rattle.formula.specs.declared.tree.RAtom.TheVariants as atoms;
+ghost use Rattle.narrowing.specs.Covering.{Covers, area_beside, open_sides};
+ghost use Rattle.object_store.specs.Areas.{is_between};
+
+use crate::terms::{constant_of, coordinate_of};
+use case_table::Op;
+use fixed_point::Fix;
+use formula::{RAtom, RTerm};
+use object_store::{Area, Sides};
+use polygon::{Regions, polygons_lie_among_their_vertices};
+
+/// An area in which the object of a variable is wherever an atom holds. None where none is known.
+pub(crate) fn area_of(a: &RAtom, var: u8, regions: &Regions) -> Option<Area>
+    ensures { IfSome result (λ area. Covers regions.now var a.now area) }
+{
+    match a {
+        RAtom::Inside(v, n) => area_of_region(*v, *n, var, regions),
+        RAtom::Compare(left, op, right) => area_of_comparison(left, *op, right, var),
+        RAtom::Outside(_, _) => None,
+        RAtom::Dist(_, _, _, _) => None,
+        RAtom::Sphere(_, _) => None,
+    }
+}
+
+/// The box round a region, where it is this variable that is to be inside.
+fn area_of_region(v: u8, n: u32, var: u8, regions: &Regions) -> Option<Area>
+    ensures { IfSome result (λ area. Covers regions.now var (atoms.Inside v n) area) }
+{
+    polygons_lie_among_their_vertices();
+    if v != var {
+        return None;
+    }
+    let polygon = regions.get(n)?;
+    // A polygon is convex.
+    let _ = polygon.len();
+    let (least, greatest) = polygon.bounds();
+    Some(Area {
+        x: sides_from(least.x, greatest.x),
+        y: sides_from(least.y, greatest.y),
+    })
+}
+
+/// What is left of the plane where a coordinate of the variable's object compares with a constant, on either side.
+fn area_of_comparison(left: &RTerm, op: Op, right: &RTerm, var: u8) -> Option<Area>
+    ensures { IfSome result (λ area. (regions : List Region) → Covers regions var (atoms.Compare left.now op right.now) area) }
+{
+    match coordinate_of(left, var) {
+        Some(index) => {
+            let c = constant_of(right)?;
+            let sides = sides_before(op, c)?;
+            Some(area_beside(index, sides))
+        }
+        None => {
+            let index = coordinate_of(right, var)?;
+            let c = constant_of(left)?;
+            let sides = sides_after(op, c)?;
+            Some(area_beside(index, sides))
+        }
+    }
+}
+
+/// The plane where the coordinate of an index is between two sides.
+fn area_beside(index: u8, sides: Sides) -> Area
+    ensures { result ≡ area_beside index sides }
+{
+    if index == 0 {
+        Area {
+            x: sides,
+            y: open_sides(),
+        }
+    } else {
+        Area {
+            x: open_sides(),
+            y: sides,
+        }
+    }
+}
+
+/// Where a number compares with `c`.
+fn sides_before(op: Op, c: Fix) -> Option<Sides>
+    ensures { IfSome result (λ sides. (n : ℤ) → compares op n c ≡ true → is_between sides n ≡ true) }
+{
+    match op {
+        Op::Lt => Some(sides_upto(c)),
+        Op::Le => Some(sides_upto(c)),
+        Op::Eq => Some(sides_from(c, c)),
+        Op::Ne => None,
+        Op::Ge => Some(sides_above(c)),
+        Op::Gt => Some(sides_above(c)),
+    }
+}
+
+/// Where `c` compares with a number.
+fn sides_after(op: Op, c: Fix) -> Option<Sides>
+    ensures { IfSome result (λ sides. (n : ℤ) → compares op c n ≡ true → is_between sides n ≡ true) }
+{
+    match op {
+        Op::Lt => Some(sides_above(c)),
+        Op::Le => Some(sides_above(c)),
+        Op::Eq => Some(sides_from(c, c)),
+        Op::Ne => None,
+        Op::Ge => Some(sides_upto(c)),
+        Op::Gt => Some(sides_upto(c)),
+    }
+}
+
+fn open_sides() -> Sides
+    ensures { result ≡ open_sides }
+{
+    Sides {
+        least: None,
+        greatest: None,
+    }
+}
+
+fn sides_from(least: Fix, greatest: Fix) -> Sides
+    ensures { result ≡ record { least = Some least; greatest = Some greatest } }
+{
+    Sides {
+        least: Some(least),
+        greatest: Some(greatest),
+    }
+}
+
+fn sides_upto(greatest: Fix) -> Sides
+    ensures { result ≡ record { least = None; greatest = Some greatest } }
+{
+    Sides {
+        least: None,
+        greatest: Some(greatest),
+    }
+}
+
+fn sides_above(least: Fix) -> Sides
+    ensures { result ≡ record { least = Some least; greatest = None } }
+{
+    Sides {
+        least: Some(least),
+        greatest: None,
+    }
+}

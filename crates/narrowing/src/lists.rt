@@ -1,0 +1,50 @@
+//! Ascending lists of ids.
+ghost use Rattle.std.specs.Prelude.{◌≡◌, ℕ, ◌||◌, ◌++◌, ◌∷◌, [], IfOk, OnOk};
+ghost use Rattle.std.specs.List.{filter};
+ghost use Rattle.std.specs.List.Sorted.{IsStrictlyIncreasing};
+ghost use Rattle.relation.specs.Key.{has_id};
+
+use std::alloc::{AllocError, Global};
+
+/// The ids of the first list that are in the second too.
+pub(crate) fn common(alloc: Global, ids: &[u32], others: &[u32]) -> Result<Vec<u32>, AllocError>
+    requires { IsStrictlyIncreasing others.now }
+    ensures { IfOk result (λ both. both.items ≡ filter (has_id others.now) ids.now) }
+{
+    let mut both = Vec::new(alloc);
+    'ids: for id in ids {
+        push_if(&mut both, *id, others)?;
+    }
+    Ok(both)
+}
+
+/// Appends an id that is in a list.
+fn push_if(both: &mut Vec<u32>, id: u32, others: &[u32]) -> Result<(), AllocError>
+    requires { IsStrictlyIncreasing others.now }
+    ensures { OnOk result (both.new.items ≡ both.old.items ++ filter (has_id others.now) (id ∷ [])) }
+{
+    if has(others, id) {
+        both.push(id)?;
+    }
+    Ok(())
+}
+
+/// Whether an id is in a list.
+fn has(ids: &[u32], id: u32) -> bool
+    requires { IsStrictlyIncreasing ids.now }
+    ensures { result ≡ has_id ids.now id }
+{
+    ids.binary_search(&id).is_ok()
+}
+
+/// The ids of two lists, ascending and each once.
+pub(crate) fn merged(ids: Vec<u32>, others: &[u32]) -> Result<Vec<u32>, AllocError>
+    ensures ascending { IfOk result (λ all. IsStrictlyIncreasing all.items) }
+    ensures all { IfOk result (λ all. (id : ℕ) → has_id all.items id ≡ (has_id ids.items id || has_id others.now id)) }
+{
+    let mut all = ids;
+    all.extend_from_slice(others)?;
+    all.sort_unstable();
+    all.dedup();
+    Ok(all)
+}
