@@ -1,6 +1,6 @@
 -- The rows after changes.
-use Rattle.std.proofs.Common.{◌≡◌, ℕ, ◌<◌, Bool, true, false, ◌||◌, eqb, List, [], ◌∷◌, ◌++◌, length, refl, ap, sym, ◌∙◌, inl, inr, arith, if◌then◌else◌}
-use Rattle.std.specs.Prelude.{All}
+use Rattle.std.proofs.Common.{◌≡◌, ℕ, ◌<◌, Bool, true, false, ◌&&◌, ◌||◌, eqb, List, [], ◌∷◌, ◌++◌, length, refl, ap, sym, ◌∙◌, inl, inr, arith, if◌then◌else◌}
+use Rattle.std.specs.Prelude.{All, nat_le}
 use Rattle.std.proofs.lemmas.Bool.{cases_eq, eq-eqb, ne_eqb, or_cases, or_left, or_right}
 use Rattle.std.proofs.lemmas.List.Elements.{All-head, All-tail, All-weaker}
 use Rattle.kept_rows.specs.declared.change.Change.{Change}
@@ -49,27 +49,50 @@ pub all-ready-stay : {S : Type 0} (member : S → ℕ → Bool) (old new : List 
 all-ready-stay member old new len made xs =
     All-weaker (IsReady member old) (IsReady member new) (ready-stays member old new len made) xs
 
--- the same ticks, and the row that is kept
-pub row-noted : {S : Type 0} (member : S → ℕ → Bool) (xs : List (Change S)) (p : ℕ → ℕ → Bool) (n : ℕ) (ticks : ℕ → Bool) →
-    All (λ (x : Change S). x.number < n) xs → ((t : ℕ) → ticks t ≡ p n t) →
-    (c t : ℕ) → after member xs p c t ≡ (if eqb c n then ticks t else after member xs p c t)
-row-noted member xs p n ticks above same c t =
+-- a number above those of the changes has the row that is kept
+kept-above : {S : Type 0} (member : S → ℕ → Bool) (xs : List (Change S)) (p : ℕ → ℕ → Bool) (n c t : ℕ) → c ≡ n →
+    All (λ (x : Change S). x.number < n) xs → after member xs p c t ≡ p n t
+kept-above member xs p n c t e above = ap (λ k. after member xs p k t) e ∙ after-above member xs p n t above
+
+-- the same ticks from a tick on, and the row that is kept
+pub row-noted : {S : Type 0} (member : S → ℕ → Bool) (xs : List (Change S)) (p : ℕ → ℕ → Bool) (n from : ℕ) (ticks : ℕ → Bool) →
+    All (λ (x : Change S). x.number < n) xs → ((t : ℕ) → (if nat_le from t then ticks t else p n t) ≡ p n t) →
+    (c t : ℕ) → after member xs p c t ≡ (if eqb c n && nat_le from t then ticks t else after member xs p c t)
+row-noted member xs p n from ticks above same c t =
     elim (cases_eq c n) [
       | inl e ↦
-          ap (λ k. after member xs p k t) e ∙ after-above member xs p n t above ∙ sym (same t)
-          ∙ ap (λ b. if b then ticks t else after member xs p c t) (sym (eq-eqb c n e))
-      | inr other ↦ ap (λ b. if b then ticks t else after member xs p c t) (sym (ne_eqb c n other))
+          kept-above member xs p n c t e above ∙ sym (same t)
+          ∙ ap (λ b. if nat_le from t then ticks t else b) (sym (kept-above member xs p n c t e above))
+          ∙ ap (λ b. if b && nat_le from t then ticks t else after member xs p c t) (sym (eq-eqb c n e))
+      | inr other ↦ ap (λ b. if b && nat_le from t then ticks t else after member xs p c t) (sym (ne_eqb c n other))
     ]
 
--- the numbers that are left, after one of them is noted
-pub rest-noted : (n c : ℕ) (left : Bool) (anew noted old : Bool) → (c ≡ n → noted ≡ anew) →
-    (if left then anew else (if eqb c n then noted else old)) ≡ (if eqb n c || left then anew else old)
-rest-noted n c left anew noted old same =
+-- a row that has other ticks from a tick on
+pub row-added : {S : Type 0} (member : S → ℕ → Bool) (xs : List (Change S)) (p : ℕ → ℕ → Bool) (n from : ℕ) (ticks other : ℕ → Bool) →
+    All (λ (x : Change S). x.number < n) xs → ((t : ℕ) → other t ≡ (if nat_le from t then ticks t else p n t)) → (c t : ℕ) →
+    (if eqb c n then other t else after member xs p c t) ≡ (if eqb c n && nat_le from t then ticks t else after member xs p c t)
+row-added member xs p n from ticks other above is c t =
     elim (cases_eq c n) [
-      | inl e ↦ rw (eq-eqb c n e, eq-eqb n c (sym e)) (if-alike left anew noted (same e))
+      | inl e ↦
+          ap (λ b. if b then other t else after member xs p c t) (eq-eqb c n e) ∙ is t
+          ∙ ap (λ b. if nat_le from t then ticks t else b) (sym (kept-above member xs p n c t e above))
+          ∙ ap (λ b. if b && nat_le from t then ticks t else after member xs p c t) (sym (eq-eqb c n e))
+      | inr apart ↦
+          ap (λ b. if b then other t else after member xs p c t) (ne_eqb c n apart)
+          ∙ ap (λ b. if b && nat_le from t then ticks t else after member xs p c t) (sym (ne_eqb c n apart))
+    ]
+
+-- the numbers that are left, after one of them is noted, at a tick that is judged or not
+pub rest-noted : (n c : ℕ) (left judged anew noted old : Bool) → (c ≡ n → noted ≡ anew) →
+    (if left && judged then anew else (if eqb c n && judged then noted else old)) ≡ (if (eqb n c || left) && judged then anew else old)
+rest-noted n c left judged anew noted old same =
+    elim (cases_eq c n) [
+      | inl e ↦ rw (eq-eqb c n e, eq-eqb n c (sym e)) (if-alike left judged anew noted old (same e))
       | inr apart ↦ rw (ne_eqb c n apart, ne_eqb n c (λ e. apart (sym e))) refl
     ]
   where
-    if-alike : (b x y : Bool) → y ≡ x → (if b then x else y) ≡ x
-    if-alike true x y e = refl
-    if-alike false x y e = e
+    if-alike : (b j x y o : Bool) → y ≡ x → (if b && j then x else (if j then y else o)) ≡ (if j then x else o)
+    if-alike true true x y o e = refl
+    if-alike true false x y o e = refl
+    if-alike false true x y o e = e
+    if-alike false false x y o e = refl

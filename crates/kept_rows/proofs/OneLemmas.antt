@@ -1,5 +1,6 @@
 -- The bindings of one variable: its objects.
 use Rattle.std.proofs.Common.{◌≡◌, ℕ, ◌/◌, ◌%◌, ◌<◌, ◌≤◌, Bool, true, false, ◌&&◌, ◌||◌, eqb, ltb, [], ◌∷◌, refl, ap, ◌∙◌, sym, inl, inr, arith, if◌then◌else◌}
+use Rattle.std.specs.Prelude.{nat_le}
 use Rattle.std.proofs.lemmas.Bool.{cases_eq, cases_lt, eq-eqb, ne_eqb, lt-ltb, le-ltb}
 use Rattle.kept_rows.specs.declared.binding.Variable.{Variable}
 use Rattle.kept_rows.specs.Numbers.{counts, holds}
@@ -22,26 +23,28 @@ one-held v c =
     ∙ ap (λ k. (ltb c v.count && eqb k 0) && (eqb c v.own || false)) rest
     ∙ and-true (ltb c v.count) (eqb c v.own)
 
--- the binding of the object is judged anew
-pub one-judged : (v : Variable) (full rows : ℕ → ℕ → Bool) (ticks : ℕ → Bool) → v.own < v.count → ((t : ℕ) → ticks t ≡ full v.own t) → (c t : ℕ) →
-    (if eqb c v.own then ticks t else rows c t) ≡ (if counts (v ∷ []) c && holds (v ∷ []) c then full c t else rows c t)
-one-judged v full rows ticks there same c t =
+-- the binding of the object is judged anew from a tick on
+pub one-judged : (v : Variable) (from : ℕ) (full rows : ℕ → ℕ → Bool) (ticks : ℕ → Bool) → v.own < v.count → ((t : ℕ) → ticks t ≡ full v.own t) → (c t : ℕ) →
+    (if eqb c v.own && nat_le from t then ticks t else rows c t)
+    ≡ (if (counts (v ∷ []) c && holds (v ∷ []) c) && nat_le from t then full c t else rows c t)
+one-judged v from full rows ticks there same c t =
     elim (cases_eq c v.own) [
       | inl e ↦
-          ap (λ b. if b then ticks t else rows c t) (eq-eqb c v.own e) ∙ same t ∙ ap (λ k. full k t) (sym e)
-          ∙ sym (ap (λ b. if b then full c t else rows c t)
+          ap (λ b. if b && nat_le from t then ticks t else rows c t) (eq-eqb c v.own e)
+          ∙ ap (λ b. if nat_le from t then b else rows c t) (same t ∙ ap (λ k. full k t) (sym e))
+          ∙ sym (ap (λ b. if b && nat_le from t then full c t else rows c t)
           (one-held v c ∙ ap (λ b. b && eqb c v.own) (lt-ltb c v.count (omega (arith, e, there))) ∙ eq-eqb c v.own e))
       | inr other ↦
-          ap (λ b. if b then ticks t else rows c t) (ne_eqb c v.own other)
-          ∙ sym (ap (λ b. if b then full c t else rows c t)
+          ap (λ b. if b && nat_le from t then ticks t else rows c t) (ne_eqb c v.own other)
+          ∙ sym (ap (λ b. if b && nat_le from t then full c t else rows c t)
           (one-held v c ∙ ap (λ b. ltb c v.count && b) (ne_eqb c v.own other) ∙ and-none (ltb c v.count)))
     ]
 
 -- the object isn't there
-pub none-judged : (v : Variable) (full rows : ℕ → ℕ → Bool) → v.count ≤ v.own → (c t : ℕ) →
-    rows c t ≡ (if counts (v ∷ []) c && holds (v ∷ []) c then full c t else rows c t)
-none-judged v full rows away c t =
-    sym (ap (λ b. if b then full c t else rows c t) (one-held v c ∙ apart))
+pub none-judged : (v : Variable) (from : ℕ) (full rows : ℕ → ℕ → Bool) → v.count ≤ v.own → (c t : ℕ) →
+    rows c t ≡ (if (counts (v ∷ []) c && holds (v ∷ []) c) && nat_le from t then full c t else rows c t)
+none-judged v from full rows away c t =
+    sym (ap (λ b. if b && nat_le from t then full c t else rows c t) (one-held v c ∙ apart))
   where
     apart : (ltb c v.count && eqb c v.own) ≡ false
     apart = elim (cases_lt c v.count) [

@@ -1,5 +1,5 @@
 -- Changes of rows, and the rows after them.
-use Rattle.std.specs.Prelude.{◌≡◌, ℕ, ◌/◌, ◌<◌, ◌==◌, Bool, true, false, ◌||◌, List, [], ◌∷◌, length, map, All, if◌then◌else◌}
+use Rattle.std.specs.Prelude.{◌≡◌, ℕ, ◌/◌, ◌<◌, ◌==◌, Bool, true, false, ◌||◌, nat_le, List, [], ◌∷◌, length, map, All, if◌then◌else◌}
 use Rattle.kept_rows.specs.declared.change.Change.{Change}
 use Rattle.kept_rows.specs.Rising.{IsRising}
 use Rattle.kept_rows.specs.Rows.{is_made, is_whole, page_has, row_has}
@@ -29,3 +29,16 @@ DoDiffer member pages changes = All (λ change. ¬ ((t : ℕ) → member change.
 -- the numbers of the changes ascend, below `to`
 abbrev pub AreRising : {S : Type 0} → ℕ → List (Change S) → Type 0
 AreRising to changes = IsRising 0 to (map (λ change. change.number) changes)
+
+-- whether a row has the tick, once it has other ticks from tick `from` on
+abbrev pub has_from : {S : Type 0} → (S → ℕ → Bool) → ℕ → S → S → ℕ → Bool
+has_from member from row later t = if nat_le from t then member later t else member row t
+
+-- a set is that row, and another one than before
+pub record IsOtherFrom {S : Type 0} (member : S → ℕ → Bool) (from : ℕ) (row later other : S) : Type 0 where
+  pub ticks : (t : ℕ) → member other t ≡ has_from member from row later t
+  pub differs : ¬ ((t : ℕ) → member other t ≡ member row t)
+
+-- the row stays as it is
+abbrev pub IsSameFrom : {S : Type 0} → (S → ℕ → Bool) → ℕ → S → S → Type 0
+IsSameFrom member from row later = (t : ℕ) → has_from member from row later t ≡ member row t

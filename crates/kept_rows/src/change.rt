@@ -1,5 +1,6 @@
 //! Changes of rows, each with the memory that it needs to be made.
-ghost use Rattle.std.specs.Prelude.{◌≡◌, ◌<◌, ◌≤◌, ◌+◌, ◌/◌, ◌==◌, ◌||◌, ◌∷◌, ◌++◌, ℕ, [], true, false, All, length, map, if◌then◌else◌, IsTrue, ◌↔◌, IfOk, OnOk, OnErr};
+ghost use Rattle.std.specs.Prelude.{◌≡◌, ◌<◌, ◌≤◌, ◌+◌, ◌/◌, ◌==◌, ◌&&◌, ◌||◌, ◌∷◌, ◌++◌, ℕ, [], true, false, All, nat_le, length, map, if◌then◌else◌, IsTrue, ◌↔◌, IfOk, IfSome, IfNone, OnOk, OnErr};
+ghost use Rattle.kept_rows.specs.Changes.{IsOtherFrom, IsSameFrom};
 ghost use Rattle.kept_rows.specs.Rows.{is_made, is_whole, page_has, row_has};
 
 use crate::page::Page;
@@ -60,13 +61,14 @@ impl<S: TickSet> Changes<S> {
         &self.changes
     }
 
-    /// Adds the row of a number above those that are there, if its ticks differ from those that are kept. After
-    /// an error the changes are as before.
+    /// Adds the row of a number above those that are there, with these ticks from tick `from` on, if it differs from
+    /// the one that is kept. After an error the changes are as before.
     pub fn note(
         &mut self,
         alloc: Global,
         kept: &KeptRows<S>,
         number: u32,
+        from: u32,
         ticks: &S,
     ) -> Result<(), AllocError>
         requires there { number / 16 < length kept.now }
@@ -77,19 +79,21 @@ impl<S: TickSet> Changes<S> {
         ensures rising { OnOk result (AreRising (number + 1) self.new) }
         ensures differ { OnOk result (DoDiffer S.member kept.now self.new) }
         ensures rows { OnOk result ((c t : ℕ) → after S.member self.new (row_has S.member kept.now) c t
-            ≡ (if c == number then S.member ticks.now t else after S.member self.old (row_has S.member kept.now) c t)) }
+            ≡ (if c == number && nat_le from t then S.member ticks.now t else after S.member self.old (row_has S.member kept.now) c t)) }
         ensures err { OnErr result (self.new ≡ self.old) }
     {
-        if ticks.equal(kept.row(number)) {
-            return Ok(());
+        match other_row(alloc, kept.row(number), from, ticks)? {
+            Some(ticks) => {
+                let spare = spare_page(alloc, kept, number)?;
+                self.changes.push(Change {
+                    number,
+                    ticks,
+                    spare,
+                })?;
+                Ok(())
+            }
+            None => Ok(()),
         }
-        let change = Change {
-            number,
-            ticks: ticks.copy(alloc)?,
-            spare: spare_page(alloc, kept, number)?,
-        };
-        self.changes.push(change)?;
-        Ok(())
     }
 }
 
@@ -107,6 +111,39 @@ impl<S: Turning> Changes<S> {
             kept.put(change.number, change.ticks, change.spare);
         }
     }
+}
+
+// A row with these ticks from tick `from` on, if that makes it another one. What stands before `from` is copied only
+// where there is such a tick.
+fn other_row<S: TickSet>(
+    alloc: Global,
+    row: &S,
+    from: u32,
+    ticks: &S,
+) -> Result<Option<S>, AllocError>
+    ensures some { IfOk result (λ other. IfSome other (IsOtherFrom S.member from row.now ticks.now)) }
+    ensures none { IfOk result (λ other. IfNone other (IsSameFrom S.member from row.now ticks.now)) }
+{
+    if from == 0 {
+        return copy_if_other(alloc, row, ticks);
+    }
+    let other = row.splice(alloc, from, ticks)?;
+    if other.equal(row) {
+        return Ok(None);
+    }
+    Ok(Some(other))
+}
+
+// These ticks, if a row has others.
+fn copy_if_other<S: TickSet>(alloc: Global, row: &S, ticks: &S) -> Result<Option<S>, AllocError>
+    ensures some { IfOk result (λ other. IfSome other (IsOtherFrom S.member 0 row.now ticks.now)) }
+    ensures none { IfOk result (λ other. IfNone other (IsSameFrom S.member 0 row.now ticks.now)) }
+{
+    if ticks.equal(row) {
+        return Ok(None);
+    }
+    let other = ticks.copy(alloc)?;
+    Ok(Some(other))
 }
 
 // A page without ticks, where the page of the number isn't made.

@@ -1,6 +1,6 @@
 -- A query that is registered anew, and what a write makes of a registered one.
-use Rattle.std.proofs.Common.{◌≡◌, ℕ, ◌+◌, ◌-◌, ◌<◌, ◌≤◌, Bool, true, false, ◌&&◌, List, [], ◌++◌, length, map, refl, sym, ap, ◌∙◌, subst, arith, if◌then◌else◌}
-use Rattle.std.specs.Prelude.{nat_le}
+use Rattle.std.proofs.Common.{◌≡◌, ℕ, ◌+◌, ◌-◌, ◌<◌, ◌≤◌, Bool, true, false, ◌&&◌, Option, List, [], ◌++◌, length, map, refl, sym, ap, ◌∙◌, subst, arith, if◌then◌else◌}
+use Rattle.std.specs.Prelude.{max, nat_le}
 use Rattle.std.specs.List.{list_any}
 use Rattle.std.proofs.lemmas.Bool.{false≢true}
 use Rattle.std.proofs.lemmas.Bool.Decides.{nat_tests}
@@ -11,8 +11,11 @@ use Rattle.tick_set.specs.declared.spans.Span.{Span}
 use Rattle.tick_set.specs.declared.spans.TheConstants.{LAST_TICK}
 use Rattle.history.specs.Catalog.{Catalog, capacity_of, ids_of, most_bindings}
 use Rattle.history.specs.World.{World}
+use Rattle.formula.specs.Reach.{reach}
 use Rattle.formula.specs.Resolved.{IsResolved}
 use Rattle.formula.specs.Tree.{ResolvedQuery}
+use Rattle.formula.specs.declared.kind.QueryKind.{QueryKind}
+use Rattle.formula.specs.declared.kind.QueryKind.TheVariants.{Keep, Watch}
 use Rattle.kept_rows.specs.declared.binding.TheConstants.{BINDING_LIMIT}
 use Rattle.kept_rows.specs.declared.change.Change.{Change}
 use Rattle.kept_rows.specs.Changes.{after}
@@ -22,21 +25,22 @@ use Rattle.kept_rows.specs.Rows.{HasRoom}
 use Rattle.meaning.specs.Agreement.{SeesItsClasses}
 use Rattle.meaning.specs.Binding.{holds_full}
 use Rattle.meaning.specs.Fits.{FitsItsClasses}
-use Rattle.meaning.specs.Reads.{change_reads, renewal_reads}
+use Rattle.meaning.specs.Reads.{change_reads}
+use Rattle.meaning.specs.Registered.{first_tick}
 use Rattle.object_store.specs.Contents.{Contents, catalog_of}
 use Rattle.live_queries.specs.Asked.{IsBefore, class_in}
 use Rattle.live_queries.specs.Columns.{AreColumnsOf, Column, HaveCapacitiesOf, HaveObjectsOf, gives, object_of, order_of, variables_of}
 use Rattle.live_queries.specs.Current.{row_at, told_from}
-use Rattle.live_queries.specs.Kept.{IsKept, KeptQuery, registered}
+use Rattle.live_queries.specs.Effort.{judged_reads}
+use Rattle.live_queries.specs.Kept.{IsKept, KeptQuery}
 use Rattle.live_queries.specs.Prepared.{AreColumnsWith, AreNewRows, HaveRoomFor}
 use Rattle.live_queries.specs.Registering.{IsRegistered}
-use Rattle.live_queries.specs.Renewed.{is_judged}
+use Rattle.live_queries.specs.Renewed.{is_judged, judged_from, judged_tick}
 use Rattle.live_queries.specs.Told.{Info, info_of}
 use Rattle.live_queries.specs.Written.{HaveObjectsWith, lacks}
 use Rattle.live_queries.proofs.CurrentLemmas.{variable_of_query}
 use Rattle.live_queries.proofs.FormedLemmas.{are_counted, have_capacities, have_objects, variables_are}
 use Rattle.live_queries.proofs.GrowLemmas.{have_room, have_with, lack_tells}
-use Rattle.live_queries.proofs.ReadLemmas.{more_of_change}
 use Rattle.live_queries.proofs.SizeLemmas.{columns_size}
 
 -- ---- a query that is registered
@@ -96,56 +100,83 @@ pub expired_rows : (w : World) (grows : Bool) (object class now : ℕ) (k : Kept
     AreNewRows w grows object class now k changes
 expired_rows w grows object class now k changes past none ds made = record {
   stay = λ c other t. ap (λ (fs : List (Change (List Span))). after spans_have fs (row_at k) c t) none;
-  anew = λ c judged t from.
+  past = λ c judged t from before. ap (λ (fs : List (Change (List Span))). after spans_have fs (row_at k) c t) none;
+  anew = λ c judged t from later.
       absurd (false≢true (sym (ap (λ b. b && (counts (variables_of ds) c && gives ds object c)) (not_alive now k.expiry past)) ∙ judged));
 }
   where
     not_alive : (n e : ℕ) → e < n → nat_le n e ≡ false
     not_alive n e h = grind (arith, nat_tests, h)
 
-alive_rows : (w : World) (grows : Bool) (object class now lo : ℕ) (k : KeptQuery) (changes : List (Change (List Span))) → now ≤ k.expiry →
-    ((t : ℕ) → told_from k now ≤ t → nat_le lo t ≡ nat_le k.entry t) →
+-- of the ticks that are told it keeps those before the first that it may change, and no other
+kept_back : (kind : QueryKind) (ahead : Option ℕ) (entry now from t : ℕ) → (kind ≡ Keep → from ≡ judged_tick kind ahead now) → (kind ≡ Watch → from ≡ 0) →
+    first_tick kind entry now ≤ t → nat_le from t ≡ nat_le (judged_tick kind ahead now) t
+kept_back Watch ahead entry now from t kept watched told =
+    ap (λ n. nat_le n t) (watched refl) ∙ sym (later now t told)
+  where
+    later : (n u : ℕ) → n ≤ u → nat_le n u ≡ nat_le 0 u
+    later n u h = grind (arith, nat_tests, h)
+kept_back Keep ahead entry now from t kept watched told = ap (λ n. nat_le n t) (kept refl)
+
+alive_rows : (w : World) (grows : Bool) (object class now lo from : ℕ) (k : KeptQuery) (changes : List (Change (List Span))) → now ≤ k.expiry →
+    ((t : ℕ) → judged_from k now ≤ t → nat_le lo t ≡ nat_le k.entry t) →
+    ((t : ℕ) → told_from k now ≤ t → nat_le from t ≡ nat_le (judged_from k now) t) →
     ((ds : List Column) → AreColumnsWith grows class k.query.classes object k.columns ds → (c t : ℕ) →
     after spans_have changes (row_at k) c t
-    ≡ (if counts (variables_of ds) c && gives ds object c
+    ≡ (if (counts (variables_of ds) c && gives ds object c) && nat_le from t
     then (within lo k.expiry t && holds_full w k.query k.expiry (object_of ds c) t) else row_at k c t)) →
     AreNewRows w grows object class now k changes
-alive_rows w grows object class now lo k changes alive told rows ds made = record {
-  stay = λ c other t. rows ds made c t ∙ ap (λ b. if b then there c t else row_at k c t) (judged_is c ∙ other);
-  anew = λ c judged t from.
+alive_rows w grows object class now lo from k changes alive judged_is back rows ds made = record {
+  stay = λ c other t. rows ds made c t ∙ ap (λ b. if b && nat_le from t then there c t else row_at k c t) (same c ∙ other);
+  past = λ c judged t told before.
       rows ds made c t
-      ∙ ap (λ b. if b then there c t else row_at k c t) (judged_is c ∙ judged)
-      ∙ ap (λ b. (b && nat_le t k.expiry) && holds_full w k.query k.expiry (object_of ds c) t) (told t from);
+      ∙ ap (λ b. if b && nat_le from t then there c t else row_at k c t) (same c ∙ judged)
+      ∙ ap (λ b. if b then there c t else row_at k c t) (back t told ∙ is_before (judged_from k now) t before);
+  anew = λ c judged t told later.
+      rows ds made c t
+      ∙ ap (λ b. if b && nat_le from t then there c t else row_at k c t) (same c ∙ judged)
+      ∙ ap (λ b. if b then there c t else row_at k c t) (back t told ∙ is_alive (judged_from k now) t later)
+      ∙ ap (λ b. (b && nat_le t k.expiry) && holds_full w k.query k.expiry (object_of ds c) t) (judged_is t later);
 }
   where
     is_alive : (n e : ℕ) → n ≤ e → nat_le n e ≡ true
     is_alive n e h = grind (arith, nat_tests, h)
 
+    is_before : (n t : ℕ) → t < n → nat_le n t ≡ false
+    is_before n t h = grind (arith, nat_tests, h)
+
     there : ℕ → ℕ → Bool
     there c t = within lo k.expiry t && holds_full w k.query k.expiry (object_of ds c) t
 
-    judged_is : (c : ℕ) → (counts (variables_of ds) c && gives ds object c) ≡ is_judged object now k ds c
-    judged_is c = sym (ap (λ b. b && (counts (variables_of ds) c && gives ds object c)) (is_alive now k.expiry alive))
+    same : (c : ℕ) → (counts (variables_of ds) c && gives ds object c) ≡ is_judged object now k ds c
+    same c = sym (ap (λ b. b && (counts (variables_of ds) c && gives ds object c)) (is_alive now k.expiry alive))
 
-pub alive_rows_as_seen : (w : World) (grows : Bool) (object class now lo : ℕ) (x k : KeptQuery) → x ≡ k → (changes : List (Change (List Span))) → now ≤ x.expiry →
-    ((t : ℕ) → told_from x now ≤ t → nat_le lo t ≡ nat_le x.entry t) →
+pub alive_rows_as_seen : (w : World) (grows : Bool) (object class now lo from judged : ℕ) (x k : KeptQuery) → x ≡ k →
+    (changes : List (Change (List Span))) → now ≤ x.expiry → judged ≡ judged_from k now →
+    ((t : ℕ) → judged ≤ t → nat_le lo t ≡ nat_le x.entry t) → (x.kind ≡ Keep → from ≡ judged) → (x.kind ≡ Watch → from ≡ 0) →
     ((ds : List Column) → AreColumnsWith grows class x.query.classes object x.columns ds → (c t : ℕ) →
     after spans_have changes (row_at x) c t
-    ≡ (if counts (variables_of ds) c && gives ds object c
+    ≡ (if (counts (variables_of ds) c && gives ds object c) && nat_le from t
     then (within lo x.expiry t && holds_full w x.query x.expiry (object_of ds c) t) else row_at x c t)) →
     AreNewRows w grows object class now k changes
-alive_rows_as_seen w grows object class now lo x k e changes alive told rows =
-    subst (λ (y : KeptQuery). AreNewRows w grows object class now y changes) e (alive_rows w grows object class now lo x changes alive told rows)
+alive_rows_as_seen w grows object class now lo from judged x k e changes alive first later kept watched rows =
+    let first_x : judged ≡ judged_from x now = first ∙ ap (λ (y : KeptQuery). judged_from y now) (sym e) in
+    subst (λ (y : KeptQuery). AreNewRows w grows object class now y changes) e
+    (alive_rows w grows object class now lo from x changes alive
+    (λ t h. later t (subst (λ (n : ℕ). n ≤ t) (sym first_x) h))
+    (λ t told. kept_back x.kind (reach x.query.formula) x.entry now from t (λ is. kept is ∙ first_x) watched told)
+    rows)
 
--- over the ticks that are told it looks no more often than over all
-pub renewal_within : (c : Catalog) (now class old new lo : ℕ) (x k : KeptQuery) → x ≡ k → now ≤ x.expiry → x.entry ≤ lo →
-    new ≤ old + change_reads c x.query (x.expiry + 1 - lo) class → new ≤ old + renewal_reads c now class (registered k)
-renewal_within c now class old new lo x k e alive later most =
-    let more : change_reads c x.query (x.expiry + 1 - lo) class ≤ change_reads c x.query (x.expiry + 1 - x.entry) class =
-    more_of_change (x.expiry + 1 - lo) (x.expiry + 1 - x.entry) (omega (arith, later)) c x.query class in
-    let whole : renewal_reads c now class (registered x) ≡ change_reads c x.query (x.expiry + 1 - x.entry) class =
-    ap (λ b. if b then change_reads c x.query (x.expiry + 1 - x.entry) class else 0) (is_alive now x.expiry alive) in
-    subst (λ (y : KeptQuery). new ≤ old + renewal_reads c now class (registered y)) e (omega (arith, most, more, whole))
+-- it looks as often as the ticks that are judged ask
+pub judged_within : (c : Catalog) (now class old new lo judged : ℕ) (x k : KeptQuery) → x ≡ k → now ≤ x.expiry → judged ≡ judged_from k now →
+    lo ≡ max x.entry judged → new ≤ old + change_reads c x.query (x.expiry + 1 - lo) class → new ≤ old + judged_reads c now class k
+judged_within c now class old new lo judged x k e alive first is most =
+    let at : lo ≡ max x.entry (judged_from x now) =
+    is ∙ ap (max x.entry) (first ∙ ap (λ (y : KeptQuery). judged_from y now) (sym e)) in
+    let whole : judged_reads c now class x ≡ change_reads c x.query (x.expiry + 1 - lo) class =
+    ap (λ b. if b then change_reads c x.query (x.expiry + 1 - max x.entry (judged_from x now)) class else 0) (is_alive now x.expiry alive)
+    ∙ ap (λ n. change_reads c x.query (x.expiry + 1 - n) class) (sym at) in
+    subst (λ (y : KeptQuery). new ≤ old + judged_reads c now class y) e (omega (arith, most, whole))
   where
     is_alive : (n h : ℕ) → n ≤ h → nat_le n h ≡ true
     is_alive n h l = grind (arith, nat_tests, l)

@@ -1,6 +1,6 @@
 -- Rows that are current stay current.
-use Rattle.std.proofs.Common.{◌≡◌, ℕ, ◌<◌, ◌≤◌, Bool, true, false, ◌&&◌, ◌⊎◌, List, length, map, refl, sym, ap, ◌∙◌, subst, inl, inr, arith, if◌then◌else◌}
-use Rattle.std.specs.Prelude.{◌==◌, nat_le, None}
+use Rattle.std.proofs.Common.{◌≡◌, ℕ, ◌+◌, ◌<◌, ◌≤◌, Bool, true, false, ◌&&◌, ◌⊎◌, Option, None, Some, List, length, map, refl, sym, ap, ◌∙◌, subst, inl, inr, arith, if◌then◌else◌}
+use Rattle.std.specs.Prelude.{◌==◌, nat_le}
 use Rattle.std.specs.List.{list_any}
 use Rattle.std.proofs.lemmas.Bool.{cases_Bool, false≢true}
 use Rattle.std.proofs.lemmas.Bool.Decides.{nat_tests}
@@ -9,8 +9,11 @@ use Rattle.tick_set.proofs.Between.{within_parts}
 use Rattle.geometry.specs.Region.{Region}
 use Rattle.history.specs.History.{ChangesFrom, History, cells_at}
 use Rattle.history.specs.World.{World}
+use Rattle.formula.specs.Reach.{reach}
 use Rattle.formula.specs.Resolved.{are_distinct}
 use Rattle.formula.specs.Tree.{ResolvedQuery}
+use Rattle.formula.specs.declared.kind.QueryKind.{QueryKind}
+use Rattle.formula.specs.declared.kind.QueryKind.TheVariants.{Keep, Watch}
 use Rattle.kept_rows.specs.Numbers.{counts}
 use Rattle.meaning.specs.Agreement.{world_with}
 use Rattle.meaning.specs.Binding.{holds_full}
@@ -20,13 +23,13 @@ use Rattle.live_queries.specs.Current.{IsCurrentFor, full_at, row_at, told_from}
 use Rattle.live_queries.specs.Kept.{IsKept, KeptQuery}
 use Rattle.live_queries.specs.declared.fresh.Renewal.{Renewal}
 use Rattle.live_queries.specs.Prepared.{IsFreshFor, IsMade}
-use Rattle.live_queries.specs.Renewed.{AddsAtMost, AreRenewedRows, IsRenewed, IsSameHead, is_judged}
+use Rattle.live_queries.specs.Renewed.{AddsAtMost, AreRenewedRows, IsRenewed, IsSameHead, is_judged, judged_from, judged_tick}
 use Rattle.live_queries.proofs.ColumnLemmas.{AreGrown, counts_more, new_or_before, not_given, same_counts, same_objects}
 use Rattle.live_queries.proofs.ObjectLemmas.{grown_columns, none_past, objects_grow}
 use Rattle.live_queries.proofs.OrderLemmas.{columns_are, order_below, order_distinct, order_has}
 
--- one row at one tick: whether the query is judged anew, the binding has the object, is one now and before, the tick is
--- in the window, it satisfies the query before and now, and its row before and now
+-- one row at one tick: whether the query is judged anew there, the binding has the object, is one now and before, the
+-- tick is in the window, it satisfies the query before and now, and its row before and now
 row_renewed : (a g d c i f f' r r' : Bool) → r ≡ (c && (i && f)) → r' ≡ (if a && (d && g) then (i && f') else r) →
     (g ≡ false → d ≡ c) → (g ≡ false → i ≡ true → f ≡ f') → (c ≡ true → d ≡ true) → (a ≡ false → i ≡ true → d ≡ true → (c && f) ≡ f') →
     r' ≡ (d && (i && f'))
@@ -46,31 +49,32 @@ row_renewed false g false true i f f' r r' e e' same agree more stay = absurd (f
 row_renewed false g false false i f f' r r' e e' same agree more stay = e' ∙ e
 
 module _ (New : Type 0) (id : ℕ) (cs ds : List Column) (grown : AreGrown New id cs ds) (distinct : are_distinct (map (λ d. d.variable) ds) ≡ true)
-    (alive : Bool) (inside : ℕ → Bool) (full full' : (ℕ → ℕ) → ℕ → Bool) (rows rows' : ℕ → ℕ → Bool) where
-  -- of a binding without the object, of any binding past the expiry, and of one with an object that wasn't there
+    (judged inside : Bool) (full full' : (ℕ → ℕ) → Bool) (row row' : ℕ → Bool) where
+  -- at one tick, of a binding without the object, of any binding where none is judged, and of one with an object that
+  -- wasn't there
   pub rows_renewed :
-      ((b : ℕ → ℕ) → ((v : ℕ) → has_variable ds v ≡ true → (b v == id) ≡ false) → (t : ℕ) → inside t ≡ true → full b t ≡ full' b t) →
-      (alive ≡ false → (b : ℕ → ℕ) (t : ℕ) → inside t ≡ true → full b t ≡ full' b t) →
-      (alive ≡ false → New → (b : ℕ → ℕ) (v : ℕ) → has_variable ds v ≡ true → b v ≡ id → (t : ℕ) → inside t ≡ true → full' b t ≡ false) →
-      (n t : ℕ) → rows n t ≡ (counts (variables_of cs) n && (inside t && full (object_of cs n) t)) →
-      rows' n t ≡ (if alive && (counts (variables_of ds) n && gives ds id n) then (inside t && full' (object_of ds n) t) else rows n t) →
-      rows' n t ≡ (counts (variables_of ds) n && (inside t && full' (object_of ds n) t))
-  rows_renewed others expired absent n t current renewed =
-      row_renewed alive (gives ds id n) (counts (variables_of ds) n) (counts (variables_of cs) n) (inside t)
-      (full (object_of cs n) t) (full' (object_of ds n) t) (rows n t) (rows' n t) current renewed
+      ((b : ℕ → ℕ) → ((v : ℕ) → has_variable ds v ≡ true → (b v == id) ≡ false) → inside ≡ true → full b ≡ full' b) →
+      (judged ≡ false → (b : ℕ → ℕ) → inside ≡ true → full b ≡ full' b) →
+      (judged ≡ false → New → (b : ℕ → ℕ) (v : ℕ) → has_variable ds v ≡ true → b v ≡ id → inside ≡ true → full' b ≡ false) →
+      (n : ℕ) → row n ≡ (counts (variables_of cs) n && (inside && full (object_of cs n))) →
+      row' n ≡ (if judged && (counts (variables_of ds) n && gives ds id n) then (inside && full' (object_of ds n)) else row n) →
+      row' n ≡ (counts (variables_of ds) n && (inside && full' (object_of ds n)))
+  rows_renewed others same absent n current renewed =
+      row_renewed judged (gives ds id n) (counts (variables_of ds) n) (counts (variables_of cs) n) inside
+      (full (object_of cs n)) (full' (object_of ds n)) (row n) (row' n) current renewed
       (same_counts New id cs ds grown n)
       (λ other in_window.
-      ap (λ (b : ℕ → ℕ). full b t) (λ i v. sym (same_objects New id cs ds grown n v other) i)
-      ∙ others (object_of ds n) (λ v there. not_given ds id n v there other) t in_window)
+      ap (λ (b : ℕ → ℕ). full b) (λ i v. sym (same_objects New id cs ds grown n v other) i)
+      ∙ others (object_of ds n) (λ v there. not_given ds id n v there other) in_window)
       (counts_more New id cs ds grown n)
       (λ past in_window here. elim (new_or_before New id cs ds grown distinct n here) [
         | inl new ↦
-            ap (λ b. b && full (object_of cs n) t) new.none
-            ∙ sym (absent past new.new (object_of ds n) new.variable new.there new.object t in_window)
+            ap (λ b. b && full (object_of cs n)) new.none
+            ∙ sym (absent past new.new (object_of ds n) new.variable new.there new.object in_window)
         | inr before ↦
-            ap (λ b. b && full (object_of cs n) t) before.0
-            ∙ ap (λ (b : ℕ → ℕ). full b t) (λ i v. sym (before.1 v) i)
-            ∙ expired past (object_of ds n) t in_window
+            ap (λ b. b && full (object_of cs n)) before.0
+            ∙ ap (λ (b : ℕ → ℕ). full b) (λ i v. sym (before.1 v) i)
+            ∙ same past (object_of ds n) in_window
       ])
 
 -- a variable of the columns is one of the query
@@ -112,20 +116,67 @@ binding_stays id now old new changes adds regions k k' is is' current renewed n 
 pub same_start : {k k' : KeptQuery} → IsSameHead k k' → (now : ℕ) → told_from k' now ≡ told_from k now
 same_start head now = λ i. first_tick (head.kind i) (head.entry i) now
 
-not_alive : (now e : ℕ) → nat_le now e ≡ false → e < now
-not_alive now e h = grind (arith, nat_tests, h)
+is_past : (now e : ℕ) → nat_le now e ≡ false → e < now
+is_past now e h = grind (arith, nat_tests, h)
+
+-- whether a tick is judged: the query runs still, and the write may change what is told of the tick
+abbrev judged_at : KeptQuery → ℕ → ℕ → Bool
+judged_at k now t = nat_le now k.expiry && nat_le (judged_from k now) t
+
+not_judged : (a b : Bool) → (a && b) ≡ false → (a ≡ false) ⊎ (b ≡ false)
+not_judged true b h = inr h
+not_judged false b h = inl refl
+
+-- of a tick that is told and not judged the formula doesn't see the write
+sees_no_write : (kind : QueryKind) (ahead : Option ℕ) (entry now t : ℕ) → first_tick kind entry now ≤ t → t < judged_tick kind ahead now →
+    (n : ℕ) × (ahead ≡ Some n) × (t + n < now)
+sees_no_write Watch ahead entry now t told before = absurd (omega (arith, told, before))
+sees_no_write Keep None entry now t told before = absurd (omega (arith, before))
+sees_no_write Keep (Some n) entry now t told before = (n, refl, omega (arith, before))
 
 -- a renewed row at a tick that is told
 renewed_row : (w : World) (id now : ℕ) (k : KeptQuery) (columns : List Column) (rows : ℕ → ℕ → Bool) → AreRenewedRows w id now k columns rows →
     (c t : ℕ) → told_from k now ≤ t → rows c t
-    ≡ (if is_judged id now k columns c then (within k.entry k.expiry t && holds_full w k.query k.expiry (object_of columns c) t) else row_at k c t)
-renewed_row w id now k columns rows renewed c t from = elim (cases_Bool (is_judged id now k columns c)) [
-  | inl judged ↦ renewed.anew c judged t from ∙ sym (ap (λ b. if b then there else row_at k c t) judged)
-  | inr other ↦ renewed.stay c other t ∙ sym (ap (λ b. if b then there else row_at k c t) other)
-]
+    ≡ (if judged_at k now t && (counts (variables_of columns) c && gives columns id c)
+    then (within k.entry k.expiry t && holds_full w k.query k.expiry (object_of columns c) t) else row_at k c t)
+renewed_row w id now k columns rows renewed c t from =
+    elim (cases_Bool (is_judged id now k columns c)) [
+      | inr other ↦
+          renewed.stay c other t
+          ∙ sym (ap (λ b. if b then there else row_at k c t) (less (nat_le now k.expiry) (nat_le (judged_from k now) t) held other))
+      | inl judged ↦ elim (cases_Bool (nat_le (judged_from k now) t)) [
+        | inl later ↦
+            renewed.anew c judged t from (is_from (judged_from k now) t later)
+            ∙ sym (ap (λ b. if b then there else row_at k c t) (both (nat_le now k.expiry) (nat_le (judged_from k now) t) held judged later))
+        | inr before ↦
+            renewed.past c judged t from (is_past (judged_from k now) t before)
+            ∙ sym (ap (λ b. if b then there else row_at k c t) (before_it (nat_le now k.expiry) (nat_le (judged_from k now) t) held before))
+      ]
+    ]
   where
     there : Bool
     there = within k.entry k.expiry t && holds_full w k.query k.expiry (object_of columns c) t
+
+    held : Bool
+    held = counts (variables_of columns) c && gives columns id c
+
+    is_from : (n u : ℕ) → nat_le n u ≡ true → n ≤ u
+    is_from n u h = grind (arith, nat_tests, h)
+
+    less : (a l h : Bool) → (a && h) ≡ false → ((a && l) && h) ≡ false
+    less true true h e = e
+    less true false h e = refl
+    less false l h e = refl
+
+    both : (a l h : Bool) → (a && h) ≡ true → l ≡ true → ((a && l) && h) ≡ true
+    both true true h e f = e
+    both true false h e f = absurd (false≢true f)
+    both false l h e f = absurd (false≢true e)
+
+    before_it : (a l h : Bool) → l ≡ false → ((a && l) && h) ≡ false
+    before_it true true h e = absurd (false≢true (sym e))
+    before_it true false h e = refl
+    before_it false l h e = refl
 
 pub stays_current : (id now : ℕ) (old new : History) → ChangesFrom id now old new → AddsAtMost id old.catalog new.catalog →
     (regions : List Region) (k k' : KeptQuery) → IsKept k → IsKept k' →
@@ -133,10 +184,12 @@ pub stays_current : (id now : ℕ) (old new : History) → ChangesFrom id now ol
     holds_full (world_with old regions) k.query k.expiry b t ≡ holds_full (world_with new regions) k.query k.expiry b t) →
     ((b : ℕ → ℕ) (t : ℕ) → t ≤ k.expiry → k.expiry < now →
     holds_full (world_with old regions) k.query k.expiry b t ≡ holds_full (world_with new regions) k.query k.expiry b t) →
+    ((n : ℕ) → reach k.query.formula ≡ Some n → (b : ℕ → ℕ) (t : ℕ) → t ≤ k.expiry → t + n < now →
+    holds_full (world_with old regions) k.query k.expiry b t ≡ holds_full (world_with new regions) k.query k.expiry b t) →
     ((b : ℕ → ℕ) (t v : ℕ) → v < length k.query.classes → cells_at new (b v) t ≡ None →
     holds_full (world_with new regions) k.query k.expiry b t ≡ false) →
     IsCurrentFor (world_with old regions) now k → IsRenewed (world_with new regions) id now k k' → IsCurrentFor (world_with new regions) now k'
-stays_current id now old new changes adds regions k k' is is' others expired absent current renewed =
+stays_current id now old new changes adds regions k k' is is' others expired unseen absent current renewed =
     let same : (c t : ℕ) → full_at (world_with new regions) k' c t
     ≡ (within k.entry k.expiry t && holds_full (world_with new regions) k.query k.expiry (object_of k'.columns c) t) =
     λ c t i. within (renewed.head.entry i) (renewed.head.expiry i) t
@@ -144,28 +197,48 @@ stays_current id now old new changes adds regions k k' is is' others expired abs
     let classes : length k'.query.classes ≡ length k.query.classes = λ i. length (renewed.head.query i).classes in
     let grown : AreGrown (length old.catalog.objects ≤ id) id k.columns k'.columns =
     columns_grow id now old new changes adds regions k k' is is' current renewed in
-    let inside : (t : ℕ) → within k.entry k.expiry t ≡ true → t ≤ k.expiry = λ t h. (within_parts k.entry k.expiry t h).1 in
-    let past : nat_le now k.expiry ≡ false → (t : ℕ) → within k.entry k.expiry t ≡ true → t < now =
-    λ h t l. before now k.expiry t (not_alive now k.expiry h) (inside t l) in
     record {
       objects = renewed.objects;
       rows = λ c t from.
           let told : told_from k now ≤ t = subst (λ (n : ℕ). n ≤ t) (same_start renewed.head now) from in
           rows_renewed (length old.catalog.objects ≤ id) id k.columns k'.columns grown (ap are_distinct is'.order ∙ order_distinct k'.query is'.resolved)
-          (nat_le now k.expiry) (within k.entry k.expiry)
-          (holds_full (world_with old regions) k.query k.expiry) (holds_full (world_with new regions) k.query k.expiry) (row_at k) (row_at k')
-          (λ b apart u l. others b (λ v below. apart v (variable_of_column k' is' v (subst (λ (n : ℕ). v < n) (sym classes) below))) u (inside u l))
-          (λ h b u l. expired b u (inside u l) (not_alive now k.expiry h))
-          (λ h none b v there object u l.
-          absent b u v (subst (λ (n : ℕ). v < n) classes (variable_of_query k' is' v there))
-          (ap (λ o. cells_at new o u) object ∙ changes.past u (past h u l) ∙ none_past old id u none))
-          c t (current.rows c t told)
+          (judged_at k now t) (within k.entry k.expiry t)
+          (λ b. holds_full (world_with old regions) k.query k.expiry b t) (λ b. holds_full (world_with new regions) k.query k.expiry b t)
+          (λ n. row_at k n t) (λ n. row_at k' n t)
+          (λ b apart l. others b (λ v below. apart v (variable_of_column k' is' v (subst (λ (n : ℕ). v < n) (sym classes) below))) t (inside t l))
+          (λ h b l. unjudged t told h b l)
+          (λ h none b v there object l.
+          absent b t v (subst (λ (n : ℕ). v < n) classes (variable_of_query k' is' v there))
+          (ap (λ o. cells_at new o t) object ∙ changes.past t (past t told h l) ∙ none_past old id t none))
+          c (current.rows c t told)
           (renewed_row (world_with new regions) id now k k'.columns (row_at k') renewed.rows c t told)
           ∙ ap (λ b. counts (variables_of k'.columns) c && b) (sym (same c t));
     }
   where
-    before : (n e u : ℕ) → e < n → u ≤ e → u < n
-    before n e u a b = omega (arith, a, b)
+    inside : (t : ℕ) → within k.entry k.expiry t ≡ true → t ≤ k.expiry
+    inside t h = (within_parts k.entry k.expiry t h).1
+
+    seen : (t : ℕ) → told_from k now ≤ t → nat_le (judged_from k now) t ≡ false → (n : ℕ) × (reach k.query.formula ≡ Some n) × (t + n < now)
+    seen t told h = sees_no_write k.kind (reach k.query.formula) k.entry now t told (is_past (judged_from k now) t h)
+
+    past : (t : ℕ) → told_from k now ≤ t → judged_at k now t ≡ false → within k.entry k.expiry t ≡ true → t < now
+    past t told h l = elim (not_judged (nat_le now k.expiry) (nat_le (judged_from k now) t) h) [
+      | inl over ↦ before now k.expiry t (is_past now k.expiry over) (inside t l)
+      | inr early ↦ ends t (seen t told early).0 now (seen t told early).2
+    ]
+      where
+        before : (n e u : ℕ) → e < n → u ≤ e → u < n
+        before n e u a b = omega (arith, a, b)
+
+        ends : (u n m : ℕ) → u + n < m → u < m
+        ends u n m h = omega (arith, h)
+
+    unjudged : (t : ℕ) → told_from k now ≤ t → judged_at k now t ≡ false → (b : ℕ → ℕ) → within k.entry k.expiry t ≡ true →
+        holds_full (world_with old regions) k.query k.expiry b t ≡ holds_full (world_with new regions) k.query k.expiry b t
+    unjudged t told h b l = elim (not_judged (nat_le now k.expiry) (nat_le (judged_from k now) t) h) [
+      | inl over ↦ expired b t (inside t l) (is_past now k.expiry over)
+      | inr early ↦ unseen (seen t told early).0 (seen t told early).1 b t (inside t l) (seen t told early).2
+    ]
 
 -- where what comes after a write is the same for a binding, its row is the same before and after
 pub row_stays : (id now : ℕ) (old new : History) → ChangesFrom id now old new → AddsAtMost id old.catalog new.catalog →
@@ -207,23 +280,24 @@ made_renews w object class now r k k' fresh made =
       objects = subst (λ (q : ResolvedQuery). HaveObjectsOf w.history.catalog q.classes k'.columns) (sym made.head.query) (fresh.objects k'.columns made.columns);
       rows = record {
         stay = λ c other t. made.rows c t ∙ (fresh.rows k'.columns made.columns).stay c other t;
-        anew = λ c judged t from. made.rows c t ∙ (fresh.rows k'.columns made.columns).anew c judged t from;
+        past = λ c judged t from before. made.rows c t ∙ (fresh.rows k'.columns made.columns).past c judged t from before;
+        anew = λ c judged t from later. made.rows c t ∙ (fresh.rows k'.columns made.columns).anew c judged t from later;
       };
     }
 
 -- a binding without the object isn't judged, and none is past the expiry
 pub others_stay : (w : World) (id now : ℕ) (k k' : KeptQuery) → IsRenewed w id now k k' → (n : ℕ) → gives k'.columns id n ≡ false → (t : ℕ) →
     row_at k' n t ≡ row_at k n t
-others_stay w id now k k' renewed n other t = renewed.rows.stay n (not_judged (nat_le now k.expiry) (counts (variables_of k'.columns) n) (gives k'.columns id n) other) t
+others_stay w id now k k' renewed n other t = renewed.rows.stay n (not_held (nat_le now k.expiry) (counts (variables_of k'.columns) n) (gives k'.columns id n) other) t
   where
-    not_judged : (a c g : Bool) → g ≡ false → (a && (c && g)) ≡ false
-    not_judged true true g e = e
-    not_judged true false g e = refl
-    not_judged false c g e = refl
+    not_held : (a c g : Bool) → g ≡ false → (a && (c && g)) ≡ false
+    not_held true true g e = e
+    not_held true false g e = refl
+    not_held false c g e = refl
 
 pub expired_stay : (w : World) (id now : ℕ) (k k' : KeptQuery) → IsRenewed w id now k k' → k.expiry < now → (n t : ℕ) → row_at k' n t ≡ row_at k n t
 expired_stay w id now k k' renewed past n t =
-    renewed.rows.stay n (ap (λ b. b && (counts (variables_of k'.columns) n && gives k'.columns id n)) (is_past now k.expiry past)) t
+    renewed.rows.stay n (ap (λ b. b && (counts (variables_of k'.columns) n && gives k'.columns id n)) (is_over now k.expiry past)) t
   where
-    is_past : (m e : ℕ) → e < m → nat_le m e ≡ false
-    is_past m e h = grind (arith, nat_tests, h)
+    is_over : (m e : ℕ) → e < m → nat_le m e ≡ false
+    is_over m e h = grind (arith, nat_tests, h)

@@ -1,6 +1,6 @@
 -- The rows that the relations of an evaluation give the bindings of columns.
 use Rattle.std.proofs.Common.{◌≡◌, ℕ, ◌<◌, Bool, true, false, ◌&&◌, List, [], ◌∷◌, length, map, refl, sym, ap, ◌∙◌, subst, inl, inr, arith, if◌then◌else◌, ◌/◌, ◌%◌}
-use Rattle.std.specs.Prelude.{All, ◌==◌, not, slice_index}
+use Rattle.std.specs.Prelude.{All, ◌==◌, not, nat_le, slice_index}
 use Rattle.std.specs.List.{flat_map, list_any}
 use Rattle.std.proofs.lemmas.Bool.{and_parts, cases_Bool, false≢true, or_cases, or_left, or_right}
 use Rattle.tick_set.specs.Runs.{spans_have}
@@ -186,42 +186,45 @@ module _ (s : Contents) (regions : List Region) (q : ResolvedQuery) (is : IsReso
         ∙ some_single cat q.classes class id (object_of ds n) found.variable below of
         (ap (λ o. o == id) found.object ∙ own id))
 
-  -- the rows, where the bindings that hold the object are judged right
-  pub rows_are : (lo hi : ℕ) (grows : Bool) (cs : List Column) (vs : List Variable) → AreVariablesWith grows class q.classes id cs vs →
-      (tells rows after : ℕ → ℕ → Bool) → ((c t : ℕ) → after c t ≡ (if counts vs c && holds vs c then tells c t else rows c t)) →
+  -- the rows, where the bindings that hold the object are judged right from a tick on
+  pub rows_are : (lo hi from : ℕ) (grows : Bool) (cs : List Column) (vs : List Variable) → AreVariablesWith grows class q.classes id cs vs →
+      (tells rows after : ℕ → ℕ → Bool) → ((c t : ℕ) → after c t ≡ (if (counts vs c && holds vs c) && nat_le from t then tells c t else rows c t)) →
       (ds : List Column) → AreColumnsWith grows class q.classes id cs ds →
       ((n : ℕ) → counts (variables_of ds) n ≡ true → gives ds id n ≡ true → (t : ℕ) →
       tells n t ≡ (within lo hi t && holds_full (world_in s regions) q hi (object_of ds n) t)) → (c t : ℕ) →
-      after c t ≡ (if counts (variables_of ds) c && gives ds id c
+      after c t ≡ (if (counts (variables_of ds) c && gives ds id c) && nat_le from t
       then (within lo hi t && holds_full (world_in s regions) q hi (object_of ds c) t) else rows c t)
-  rows_are lo hi grows cs vs with_object tells rows after judged ds made right c t =
+  rows_are lo hi from grows cs vs with_object tells rows after judged ds made right c t =
       let same_counts : counts vs c ≡ counts (variables_of ds) c = counts_with cat grows class q.classes id cs ds vs with_object made c in
+      let there : Bool = within lo hi t && holds_full (world_in s regions) q hi (object_of ds c) t in
       judged c t
       ∙ elim (cases_Bool (counts (variables_of ds) c)) [
         | inr none ↦
-            ap (λ b. if b && holds vs c then tells c t else rows c t) (same_counts ∙ none)
-            ∙ sym (ap (λ b. if b && gives ds id c then (within lo hi t && holds_full (world_in s regions) q hi (object_of ds c) t) else rows c t) none)
+            ap (λ b. if (b && holds vs c) && nat_le from t then tells c t else rows c t) (same_counts ∙ none)
+            ∙ sym (ap (λ b. if (b && gives ds id c) && nat_le from t then there else rows c t) none)
         | inl here ↦
-            (λ i. if (same_counts ∙ here) i && holds_with cat grows class q.classes id cs ds vs with_object made c here i then tells c t else rows c t)
+            (λ i. if ((same_counts ∙ here) i && holds_with cat grows class q.classes id cs ds vs with_object made c here i) && nat_le from t
+            then tells c t else rows c t)
             ∙ elim (cases_Bool (gives ds id c)) [
               | inl holding ↦
-                  ap (λ b. if b then tells c t else rows c t) holding
-                  ∙ right c here holding t
-                  ∙ sym (λ i. if here i && holding i then (within lo hi t && holds_full (world_in s regions) q hi (object_of ds c) t) else rows c t)
+                  ap (λ b. if b && nat_le from t then tells c t else rows c t) holding
+                  ∙ ap (λ b. if nat_le from t then b else rows c t) (right c here holding t)
+                  ∙ sym (λ i. if (here i && holding i) && nat_le from t then there else rows c t)
               | inr other ↦
-                  ap (λ b. if b then tells c t else rows c t) other
-                  ∙ sym (λ i. if here i && other i then (within lo hi t && holds_full (world_in s regions) q hi (object_of ds c) t) else rows c t)
+                  ap (λ b. if b && nat_le from t then tells c t else rows c t) other
+                  ∙ sym (λ i. if (here i && other i) && nat_le from t then there else rows c t)
             ]
       ]
 
-  pub new_rows_are : (lo hi : ℕ) (grows : Bool) (cs : List Column) → map (λ c. c.variable) cs ≡ order_of q → AreCounted cs →
+  pub new_rows_are : (lo hi from : ℕ) (grows : Bool) (cs : List Column) → map (λ c. c.variable) cs ≡ order_of q → AreCounted cs →
       HaveObjectsWith cat grows class q.classes id cs → (singles : List Single) → singles ≡ singles_of →
       (parts : List Part) → ArePartsOf (world_in s regions) q lo hi singles parts → (vs : List Variable) → AreVariablesWith grows class q.classes id cs vs →
       (rows after : ℕ → ℕ → Bool) →
-      ((c t : ℕ) → after c t ≡ (if counts vs c && holds vs c then parts_have parts id (object_or id cs c) t else rows c t)) →
+      ((c t : ℕ) → after c t
+      ≡ (if (counts vs c && holds vs c) && nat_le from t then parts_have parts id (object_or id cs c) t else rows c t)) →
       (ds : List Column) → AreColumnsWith grows class q.classes id cs ds → (c t : ℕ) →
-      after c t ≡ (if counts (variables_of ds) c && gives ds id c
+      after c t ≡ (if (counts (variables_of ds) c && gives ds id c) && nat_le from t
       then (within lo hi t && holds_full (world_in s regions) q hi (object_of ds c) t) else rows c t)
-  new_rows_are lo hi grows cs order are have singles all parts told vs with_object rows after judged ds made =
-      rows_are lo hi grows cs vs with_object (λ c t. parts_have parts id (object_or id cs c) t) rows after judged ds made
+  new_rows_are lo hi from grows cs order are have singles all parts told vs with_object rows after judged ds made =
+      rows_are lo hi from grows cs vs with_object (λ c t. parts_have parts id (object_or id cs c) t) rows after judged ds made
       (judged_right lo hi grows cs ds order are have made singles all parts told)

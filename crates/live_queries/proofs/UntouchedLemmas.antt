@@ -65,7 +65,8 @@ module _ (s : Contents) (regions : List Region) (id class now : ℕ) (k : KeptQu
     objects = λ ds made. objects_with (catalog_of s) false class k.query.classes id k.columns ds made have;
     rows = λ ds made. record {
       stay = λ c other t. refl;
-      anew = λ c judged t from. absurd (never ds made c judged);
+      past = λ c judged t from before. refl;
+      anew = λ c judged t from later. absurd (never ds made c judged);
     };
   }
 

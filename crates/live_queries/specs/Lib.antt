@@ -1,6 +1,7 @@
 pub mod Asked
 pub mod Columns
 pub mod Current
+pub mod Effort
 pub mod Kept
 pub mod Prepared
 pub mod Registering

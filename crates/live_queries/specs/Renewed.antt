@@ -1,7 +1,10 @@
 -- What a write to an object makes of a registered query.
-use Rattle.std.specs.Prelude.{◌≡◌, ℕ, ◌<◌, ◌≤◌, Bool, true, false, ◌&&◌, nat_le, List, ◌++◌, length}
+use Rattle.std.specs.Prelude.{◌≡◌, ℕ, ◌-◌, ◌<◌, ◌≤◌, Bool, true, false, ◌&&◌, nat_le, Option, None, Some, List, ◌++◌, length}
 use Rattle.tick_set.specs.Ticks.{within}
 use Rattle.geometry.specs.Region.{Region}
+use Rattle.formula.specs.Reach.{reach}
+use Rattle.formula.specs.declared.kind.QueryKind.{QueryKind}
+use Rattle.formula.specs.declared.kind.QueryKind.TheVariants.{Keep, Watch}
 use Rattle.history.specs.Catalog.{Catalog}
 use Rattle.history.specs.History.{cells_at}
 use Rattle.history.specs.World.{World}
@@ -35,11 +38,23 @@ pub record IsSameHead (old new : KeptQuery) : Type 0 where
 abbrev pub is_judged : ℕ → ℕ → KeptQuery → List Column → ℕ → Bool
 is_judged id now k columns c = nat_le now k.expiry && (counts (variables_of columns) c && gives columns id c)
 
+-- The first tick of which a write at tick `now` may change what is told: of a watched query `now`, of a kept one the
+-- first that sees `now`, by how many ticks ahead its formula sees. Where that has no end it is any tick.
+abbrev pub judged_tick : QueryKind → Option ℕ → ℕ → ℕ
+judged_tick Watch ahead now = now
+judged_tick Keep None now = 0
+judged_tick Keep (Some ahead) now = now - ahead
+
+abbrev pub judged_from : KeptQuery → ℕ → ℕ
+judged_from k now = judged_tick k.kind (reach k.query.formula) now
+
 -- Each row that isn't judged stays, at every tick. A judged one has, of the ticks that are told from the write on, those
--- at which its binding satisfies the query in this world.
+-- at which its binding satisfies the query in this world; it stays at those before the first that the write may change.
 pub record AreRenewedRows (w : World) (id now : ℕ) (k : KeptQuery) (columns : List Column) (rows : ℕ → ℕ → Bool) : Type 0 where
   pub stay : (c : ℕ) → is_judged id now k columns c ≡ false → (t : ℕ) → rows c t ≡ row_at k c t
-  pub anew : (c : ℕ) → is_judged id now k columns c ≡ true → (t : ℕ) → told_from k now ≤ t →
+  pub past : (c : ℕ) → is_judged id now k columns c ≡ true → (t : ℕ) → told_from k now ≤ t → t < judged_from k now →
+      rows c t ≡ row_at k c t
+  pub anew : (c : ℕ) → is_judged id now k columns c ≡ true → (t : ℕ) → told_from k now ≤ t → judged_from k now ≤ t →
       rows c t ≡ (within k.entry k.expiry t && holds_full w k.query k.expiry (object_of columns c) t)
 
 -- its variables range over the objects of this world, and its rows are renewed

@@ -1,5 +1,5 @@
 //! The rows of queries by evaluation.
-ghost use Rattle.std.specs.Prelude.{◌≡◌, ◌<◌, ◌≤◌, ◌+◌, ◌-◌, ◌&&◌, ◌*◌, ◌∷◌, ℕ, [], true, List, length, map, IfOk, if◌then◌else◌};
+ghost use Rattle.std.specs.Prelude.{◌≡◌, ◌<◌, ◌≤◌, ◌+◌, ◌-◌, ◌&&◌, ◌*◌, ◌∷◌, ℕ, [], true, List, nat_le, length, map, IfOk, if◌then◌else◌};
 ghost use Rattle.tick_set.specs.Runs.{spans_have};
 ghost use Rattle.tick_set.specs.Ticks.{within};
 ghost use Rattle.tick_set.specs.declared.spans.TheConstants.{LAST_TICK, SPAN_LIMIT};
@@ -112,7 +112,8 @@ fn first_rows<L: Ledger, M: Ledger>(
 }
 
 /// What a write to an object of a class changes of the rows of a query, where each variable of the class has the
-/// object as one more if there is one more. It fails only where memory is out.
+/// object as one more if there is one more. From tick `from` on a judged row has the ticks of the window, and before it
+/// those that it has. It fails only where memory is out.
 pub(crate) fn new_rows<L: Ledger, M: Ledger>(
     alloc: Global,
     query: &RQuery,
@@ -124,6 +125,7 @@ pub(crate) fn new_rows<L: Ledger, M: Ledger>(
     grows: bool,
     world: &StoredWorld,
     w: Window,
+    from: u32,
     reads: &mut Steps<L>,
     probes: &mut Steps<M>,
 ) -> Result<Changes<IntervalSet>, AllocError>
@@ -143,7 +145,7 @@ pub(crate) fn new_rows<L: Ledger, M: Ledger>(
     ensures rising { IfOk result (λ f. AreRising (size_of (variables_of columns.now)) f) }
     ensures rows { IfOk result (λ f. (ds : List Column) → AreColumnsWith grows class query.now.classes id columns.now ds → (c t : ℕ)
         → after spans_have f (row_has spans_have rows.now) c t
-        ≡ (if counts (variables_of ds) c && gives ds id c
+        ≡ (if (counts (variables_of ds) c && gives ds id c) && nat_le from t
         then (within w.lo w.hi t && holds_full (told_world world.now) (query_view query.now) w.hi (object_of ds c) t)
         else row_has spans_have rows.now c t)) }
     ensures least { reads.old ≤ reads.new }
@@ -153,7 +155,7 @@ pub(crate) fn new_rows<L: Ledger, M: Ledger>(
     if let Some((column, later)) = columns.split_first() {
         if later.is_empty() && is_alone(classes, class) {
             return new_row(
-                alloc, query, column, rows, id, class, likely, grows, world, w, reads, probes,
+                alloc, query, column, rows, id, class, likely, grows, world, w, from, reads, probes,
             );
         }
     }
@@ -166,7 +168,7 @@ pub(crate) fn new_rows<L: Ledger, M: Ledger>(
         parts: &parts,
         nothing: IntervalSet::empty(alloc),
     };
-    let changes = refresh(alloc, rows, &numbers, &judge)?;
+    let changes = refresh(alloc, rows, &numbers, &judge, from)?;
     Ok(changes)
 }
 
@@ -183,6 +185,7 @@ fn new_row<L: Ledger, M: Ledger>(
     grows: bool,
     world: &StoredWorld,
     w: Window,
+    from: u32,
     reads: &mut Steps<L>,
     probes: &mut Steps<M>,
 ) -> Result<Changes<IntervalSet>, AllocError>
@@ -203,7 +206,7 @@ fn new_row<L: Ledger, M: Ledger>(
     ensures rising { IfOk result (λ f. AreRising (size_of (variables_of (column.now ∷ []))) f) }
     ensures rows { IfOk result (λ f. (ds : List Column) → AreColumnsWith grows class query.now.classes id (column.now ∷ []) ds → (c t : ℕ)
         → after spans_have f (row_has spans_have rows.now) c t
-        ≡ (if counts (variables_of ds) c && gives ds id c
+        ≡ (if (counts (variables_of ds) c && gives ds id c) && nat_le from t
         then (within w.lo w.hi t && holds_full (told_world world.now) (query_view query.now) w.hi (object_of ds c) t)
         else row_has spans_have rows.now c t)) }
     ensures least { reads.old ≤ reads.new }
@@ -222,7 +225,7 @@ fn new_row<L: Ledger, M: Ledger>(
     let one_more = does_take(grows, query.classes.items(), class, column);
     let numbers = column.numbers_with(one_more, id, likely);
     let judge = Alone { ticks };
-    let changes = refresh(alloc, rows, from_ref(&numbers), &judge)?;
+    let changes = refresh(alloc, rows, from_ref(&numbers), &judge, from)?;
     Ok(changes)
 }
 

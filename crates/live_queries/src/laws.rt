@@ -24,12 +24,14 @@ ghost use Rattle.live_queries.specs.Renewed.{AddsAtMost, ChangesNoObject, IsRene
 use meaning::{
     absent_objects_satisfy_no_query, expired_queries_stay,
     interpretations_that_agree_give_the_same_truth, other_objects_stay,
-    queries_go_on_fitting_their_classes, the_past_changes_by_what_comes_after,
+    queries_go_on_fitting_their_classes, the_past_changes_as_far_back_as_the_reach,
+    the_past_changes_by_what_comes_after,
 };
 
 /// What is current before a write to an object is current after it, once the bindings that hold the object are
-/// judged anew: another binding has the same states at each tick. The rows of a query whose expiry is before
-/// the write stay as they are.
+/// judged anew, of a kept query from the first tick that sees the write on: another binding has the same states at each
+/// tick, and a formula that sees so many ticks ahead sees no write that is further ahead. The rows of a query whose expiry
+/// is before the write stay as they are.
 pub fn a_write_keeps_queries_current()
     ensures { (id now : ℕ) (old new : History) → ChangesFrom id now old new → AddsAtMost id old.catalog new.catalog
         → (regions : List Region) (k k' : KeptQuery) → IsKept k → IsKept k'
@@ -38,6 +40,7 @@ pub fn a_write_keeps_queries_current()
 {
     other_objects_stay();
     expired_queries_stay();
+    the_past_changes_as_far_back_as_the_reach();
     absent_objects_satisfy_no_query();
 }
 

@@ -17,6 +17,7 @@ ghost use Rattle.formula.specs.declared.limits.TheConstants.{QUERY_LIMIT};
 ghost use Rattle.live_queries.specs.Asked.{FitsWorld, HaveObjectsBefore, class_in};
 ghost use Rattle.history.specs.Catalog.{most_bindings};
 ghost use Rattle.live_queries.specs.Columns.{variables_of};
+ghost use Rattle.live_queries.specs.Effort.{all_judged_reads};
 ghost use Rattle.live_queries.specs.Kept.{AreKept, IsKept, registered};
 ghost use Rattle.live_queries.specs.Prepared.{AreFreshFor, AreMade, ArePrepared, IsPrepared};
 ghost use Rattle.live_queries.specs.Registering.{AddsQuery};
@@ -50,6 +51,7 @@ impl Model for Live {
     ghost use Rattle.formula_shape.specs.ShapeCode.{shape_code};
     ghost use Rattle.formula.specs.declared.tree.RAtom.{RAtom};
     ghost use Rattle.formula.specs.declared.tree.RTerm.{RTerm};
+    ghost use Rattle.live_queries.specs.Effort.{all_judged_reads};
     ghost use Rattle.live_queries.specs.Kept.{AreKept, KeptQuery};
 
     ghost Value = { List KeptQuery };
@@ -219,8 +221,9 @@ impl Live {
     }
 
     /// What a write at tick `now` to one object makes of the queries, which have the rows from before it. No row is
-    /// judged anew of a binding without the object, and none of a query whose expiry is before the write; of a watched
-    /// query the ticks from `now` on are judged alone. It fails only where memory is out.
+    /// judged anew of a binding without the object, and none of a query whose expiry is before the write. The ticks are
+    /// judged alone of which the write may change what is told: of a watched query those from `now` on, and of a kept one
+    /// as many more before as its formula sees ahead. It fails only where memory is out.
     ///
     /// `reads` counts the looks at timelines.
     pub fn refresh<L: Ledger, M: Ledger>(
@@ -243,6 +246,7 @@ impl Live {
         ensures fresh { IfOk result (λ f. AreFreshFor (world_in store.now regions.now) f.object f.class now self.now f.renewals) }
         ensures least { reads.old ≤ reads.new }
         ensures most { reads.new ≤ reads.old + write_reads (catalog_of store.now) (map registered self.now) now (class_in store.now id) }
+        ensures judged { reads.new ≤ reads.old + all_judged_reads (catalog_of store.now) self.now now (class_in store.now id) }
     {
         let class = class_of(store, id);
         let world = StoredWorld { store, regions };
@@ -308,7 +312,7 @@ fn renewals_of<L: Ledger, M: Ledger>(
     ensures prepared { IfOk result (λ renewals. ArePrepared class queries.now renewals) }
     ensures fresh { IfOk result (λ renewals. AreFreshFor (told_world world.now) id class now queries.now renewals) }
     ensures least { reads.old ≤ reads.new }
-    ensures most { reads.new ≤ reads.old + write_reads (catalog_of world.now.store.now) (map registered queries.now) now class }
+    ensures most { reads.new ≤ reads.old + all_judged_reads (catalog_of world.now.store.now) queries.now now class }
 {
     let likely = likely_place(queries, world.store, class, id);
     let mut renewals = Renewals::new(alloc);

@@ -1,16 +1,17 @@
 //! One registered query with its rows.
-ghost use Rattle.std.specs.Prelude.{◌≡◌, ◌<◌, ◌≤◌, ◌+◌, ◌-◌, ◌*◌, ◌++◌, ◌&&◌, ◌↔◌, ℕ, All, nat_le, nat_lt, not, true, take, drop, length, IsSome, IfSome, IfOk, OnOk};
+ghost use Rattle.std.specs.Prelude.{◌≡◌, ◌<◌, ◌≤◌, ◌+◌, ◌-◌, ◌*◌, ◌++◌, ◌&&◌, ◌↔◌, ℕ, All, max, nat_le, nat_lt, not, true, Option, take, drop, length, IsSome, IfSome, IfOk, OnOk};
 ghost use Rattle.std.specs.Str.{bytes_eq};
 ghost use Rattle.meaning.specs.Registered.{first_tick};
 ghost use Rattle.kept_rows.specs.declared.binding.TheConstants.{BINDING_LIMIT};
 ghost use Rattle.tick_set.specs.Runs.{spans_have};
 ghost use Rattle.tick_set.specs.declared.spans.TheConstants.{LAST_TICK, SPAN_LIMIT};
 ghost use Rattle.history.specs.Catalog.{Catalog, most_bindings};
-ghost use Rattle.formula.specs.declared.kind.QueryKind.TheVariants.{Watch};
+ghost use Rattle.formula.specs.declared.kind.QueryKind.TheVariants.{Keep, Watch};
+ghost use Rattle.formula.specs.Reach.{counted};
 ghost use Rattle.formula.specs.Resolved.{IsResolved};
 ghost use Rattle.formula.specs.Tree.{query_view};
 ghost use Rattle.meaning.specs.Fits.{FitsItsClasses};
-ghost use Rattle.meaning.specs.Reads.{query_reads, renewal_reads, sizes_of};
+ghost use Rattle.meaning.specs.Reads.{query_reads, sizes_of};
 ghost use Rattle.object_store.specs.Contents.{catalog_of};
 ghost use Rattle.atoms.specs.Asked.{told_world};
 ghost use Rattle.answers.specs.Objects.{IsOfAcceptedWrites};
@@ -21,9 +22,11 @@ ghost use Rattle.kept_rows.specs.Numbers.{size_of};
 ghost use Rattle.live_queries.specs.Asked.{FitsWorld, IsBefore, class_in};
 ghost use Rattle.live_queries.specs.Columns.{HaveObjectsOf, variables_of};
 ghost use Rattle.live_queries.specs.Current.{row_at};
-ghost use Rattle.live_queries.specs.Kept.{IsKept, registered};
+ghost use Rattle.live_queries.specs.Effort.{judged_reads};
+ghost use Rattle.live_queries.specs.Kept.{IsKept};
 ghost use Rattle.live_queries.specs.Prepared.{AreNewRows, HaveRoomFor, IsFreshFor, IsMade, IsReadyFor};
 ghost use Rattle.live_queries.specs.Registering.{IsRegistered};
+ghost use Rattle.live_queries.specs.Renewed.{judged_from, judged_tick};
 ghost use Rattle.live_queries.specs.Untouched.{IsTouched, or_untouched};
 ghost use Rattle.live_queries.specs.Written.{HaveObjectsWith};
 ghost use Rattle.live_queries.specs.Told.{answer_of, info_of, key_of, lines_of, move as told_move, moves_of, passing as told_passing, passings_of, row_of, target_count, target_times, told_info};
@@ -35,7 +38,7 @@ use crate::objects::{Objects, add_object, objects_of, width};
 use crate::told::{AnswerRow, Move, QueryInfo};
 use answers::{StoredWorld, fitting_queries_can_be_asked};
 use fixed_point::Word;
-use formula::{Binding, ClassNo, QueryKind, RQuery};
+use formula::{Binding, ClassNo, QueryKind, RQuery, reach_of};
 use interval_set::IntervalSet;
 use kept_rows::{Changes, KeptRows, Line, Passing, Targets};
 use std::alloc::{AllocError, Global};
@@ -153,7 +156,7 @@ impl LiveQuery {
         ensures fresh { IfOk result (λ r. IsFreshFor (told_world world.now) id class now self.now (or_untouched r)) }
         ensures touched { IfOk result (λ r. IfSome r (IsTouched class now self.now)) }
         ensures least { reads.old ≤ reads.new }
-        ensures most { reads.new ≤ reads.old + renewal_reads (catalog_of world.now.store.now) now class (registered self.now) }
+        ensures most { reads.new ≤ reads.old + judged_reads (catalog_of world.now.store.now) now class self.now }
     {
         let classes = self.query.classes.items();
         if !has_class(classes, class) {
@@ -177,8 +180,8 @@ impl LiveQuery {
         self.expiry < now && !grows
     }
 
-    // What such a write changes of its rows: nothing after its expiry, and of a watched query nothing that is told of
-    // the ticks before the write, which aren't judged.
+    // What such a write changes of its rows: nothing after its expiry, and nothing that is told of the ticks before the
+    // first that it may change, which aren't judged.
     fn new_rows<L: Ledger, M: Ledger>(
         &self,
         alloc: Global,
@@ -201,13 +204,14 @@ impl LiveQuery {
         ensures rising { IfOk result (AreRising (size_of (variables_of self.now.columns))) }
         ensures rows { IfOk result (AreNewRows (told_world world.now) grows id class now self.now) }
         ensures least { reads.old ≤ reads.new }
-        ensures most { reads.new ≤ reads.old + renewal_reads (catalog_of world.now.store.now) now class (registered self.now) }
+        ensures most { reads.new ≤ reads.old + judged_reads (catalog_of world.now.store.now) now class self.now }
     {
         if self.expiry < now {
             return Ok(Changes::new(alloc));
         }
+        let judged = self.judged_from(now);
         let w = Window {
-            lo: first_told(self.kind, self.entry, now),
+            lo: first_judged(self.entry, judged),
             hi: self.expiry,
         };
         let changes = new_rows(
@@ -221,10 +225,19 @@ impl LiveQuery {
             grows,
             world,
             w,
+            kept_before(self.kind, judged),
             reads,
             probes,
         )?;
         Ok(changes)
+    }
+
+    // The first tick of which a write at tick `now` may change what is told.
+    fn judged_from(&self, now: u32) -> u32
+        ensures value { result ≡ judged_from self.now now }
+        ensures most { result ≤ now }
+    {
+        judged_tick(self.kind, reach_of(&self.query.formula), now)
     }
 
     /// Whether it has this name.
@@ -469,6 +482,40 @@ fn first_told(kind: QueryKind, entry: u32, now: u32) -> u32
     match kind {
         QueryKind::Watch => entry.max(now),
         QueryKind::Keep => entry,
+    }
+}
+
+// The first tick of which a write at tick `now` may change what is told of a query of a kind, by how many ticks ahead
+// its formula sees.
+fn judged_tick(kind: QueryKind, ahead: Option<u32>, now: u32) -> u32
+    ensures value { (n : Option ℕ) → ahead ≡ counted n → result ≡ judged_tick kind n now }
+    ensures most { result ≤ now }
+{
+    match (kind, ahead) {
+        (QueryKind::Keep, Some(ahead)) => now.saturating_sub(ahead),
+        (QueryKind::Keep, None) => 0,
+        (QueryKind::Watch, _) => now,
+    }
+}
+
+// The first of its ticks that is judged.
+fn first_judged(entry: u32, judged: u32) -> u32
+    ensures least { entry ≤ result }
+    ensures most { (e : ℕ) → entry ≤ e → judged ≤ e → result ≤ e }
+    ensures value { result ≡ max entry judged }
+    ensures judged { (t : ℕ) → judged ≤ t → nat_le result t ≡ nat_le entry t }
+{
+    entry.max(judged)
+}
+
+// Before which tick a judged row stays as it is. Nothing is kept of the past of a watched query.
+fn kept_before(kind: QueryKind, judged: u32) -> u32
+    ensures kept { kind ≡ Keep → result ≡ judged }
+    ensures watched { kind ≡ Watch → result ≡ 0 }
+{
+    match kind {
+        QueryKind::Keep => judged,
+        QueryKind::Watch => 0,
     }
 }
 

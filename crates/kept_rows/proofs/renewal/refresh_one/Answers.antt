@@ -1,4 +1,4 @@
-use Rattle.std.proofs.Common.{◌+◌, ◌*◌, ◌≤◌, length, arith}
+use Rattle.std.proofs.Common.{◌+◌, ◌*◌, ◌≤◌, arith}
 use Rattle.kept_rows.proofs.RisingLemmas.{rising-wider}
 use Rattle.kept_rows.proofs.renewal.refresh_one.Goals as goal
 

@@ -35,7 +35,7 @@ numbers_with-numbers-requires-clause-ascending g c =
 pub returns-clause-rows : goal.returns-clause-rows
 returns-clause-rows g c = λ ds made.
     rows_are c.args.world.now.store.now c.args.world.now.regions.now (query_view c.args.query.now) c.requires.resolved c.args.class c.args.id c.requires.class
-    c.args.w.lo c.args.w.hi c.args.grows (c.args.column.now ∷ []) c.from_ref.result.now
+    c.args.w.lo c.args.w.hi c.args.from c.args.grows (c.args.column.now ∷ []) c.from_ref.result.now
     (subst (AreVariablesWith c.args.grows c.args.class c.args.query.now.classes c.args.id (c.args.column.now ∷ [])) (sym c.from_ref.ensures.value) (
       subst (λ (b : Bool). IsVariableWith b c.args.id c.args.column.now c.numbers_with-numbers.result)
           (c.does_take-one_more.ensures ∙ ap (λ (ks : List ℕ). takes c.args.grows c.args.class ks c.args.column.now) c.items.ensures)

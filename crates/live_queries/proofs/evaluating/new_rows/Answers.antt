@@ -56,7 +56,7 @@ returns-clause-rising g c =
 pub returns-clause-rows : goal.returns-clause-rows
 returns-clause-rows g c =
     new_rows_are c.args.world.now.store.now c.args.world.now.regions.now (query_view c.args.query.now) c.requires.resolved c.args.class c.args.id c.requires.class
-    c.args.w.lo c.args.w.hi c.args.grows c.args.columns.now c.requires.order c.requires.counted c.requires.objects c.deref.result.now
+    c.args.w.lo c.args.w.hi c.args.from c.args.grows c.args.columns.now c.requires.order c.requires.counted c.requires.objects c.deref.result.now
     (c.deref.ensures.value ∙ c.in_ok-singles.ensures
     ∙ ap (λ (ks : List ℕ). flat_map (single_for (catalog_of c.args.world.now.store.now) ks c.args.class c.args.id) (between 0 (length ks))) c.items-classes.ensures)
     c.deref-2.result.now

@@ -1,11 +1,10 @@
-use Rattle.std.proofs.Common.{◌≡◌, ◌+◌, ◌≤◌, List, ◌++◌, length, map}
+use Rattle.std.proofs.Common.{◌≡◌, ◌+◌, ◌≤◌, List, ◌++◌, length}
 use Rattle.std.specs.Prelude.{All}
 use Rattle.object_store.specs.Contents.{catalog_of}
 use Rattle.atoms.specs.Asked.{told_world}
-use Rattle.meaning.specs.Reads.{write_reads}
 use Rattle.live_queries.specs.declared.fresh.Renewal.{Renewal}
 use Rattle.live_queries.specs.Asked.{FitsWorld, HaveObjectsBefore}
-use Rattle.live_queries.specs.Kept.{registered}
+use Rattle.live_queries.specs.Effort.{all_judged_reads}
 use Rattle.live_queries.specs.Prepared.{AreFreshFor, ArePrepared}
 use Rattle.live_queries.proofs.live.renewals_of.Given as goal
 
@@ -19,8 +18,8 @@ invariant-queries g l = record {
       → AreFreshFor (told_world l.world) l.id l.class l.now l.queries (l.renewals ++ more);
   many : length l.renewals + length l.rest ≡ length l.queries;
   least : l.fn.reads ≤ l.reads;
-  most : l.reads + write_reads (catalog_of l.world.store.now) (map registered l.rest) l.now l.class
-      ≤ l.fn.reads + write_reads (catalog_of l.world.store.now) (map registered l.queries) l.now l.class;
+  most : l.reads + all_judged_reads (catalog_of l.world.store.now) l.rest l.now l.class
+      ≤ l.fn.reads + all_judged_reads (catalog_of l.world.store.now) l.queries l.now l.class;
 }
 
 abbrev pub decreases-queries : goal.decreases-queries
