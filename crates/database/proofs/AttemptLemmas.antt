@@ -40,6 +40,7 @@ use Rattle.line_meaning.proofs.JournalLemmas.{world_more, clock_more}
 use Rattle.history.specs.World.{World}
 use Rattle.command_text.specs.Journal.{Accepted, clock, ticks_of}
 use Rattle.database.specs.Keeping.{clock_of, Keeps}
+use Rattle.database.specs.Written.{IsWritten, writes_object}
 
 -- What an accepted command made of the database, from which the rest follows.
 record Makes (c : CommandTree) (old new : Database) : Type 0 where
@@ -123,8 +124,9 @@ pub store_carries : (c : CommandTree) (write : Write) (d : Database) (new : Cont
     writes_of d.clock c ≡ write ∷ [] → regions_of c ≡ [] → ticks_of c ≡ 0 → fault_told d c ≡ None → d.clock ≤ LAST_TICK → new.last_tick ≡ d.clock →
     GrowsBy d.store new write → undoing.Undoes done.undo d.store new →
     ChangesFrom done.id d.clock (history_of d.store) (history_of new) → position (is_named (written_name c)) new.objects ≡ Some done.id →
+    IsWritten done.id d.clock d.store.objects new.objects → writes_object c ≡ true →
     Carries c d (record { store = new; regions = d.regions; clock = d.clock }) (changes.Object done)
-store_carries c write d new done writes no-region no-ticks accepted in-range last grows undoes changed id = record {
+store_carries c write d new done writes no-region no-ticks accepted in-range last grows undoes changed id written writing = record {
   accepted = accepted;
   keeps = keeps_more c d (record { store = new; regions = d.regions; clock = d.clock })
       (store_makes c write d.store new d.regions d.clock writes no-region no-ticks in-range (omega (arith, last)) grows);
@@ -133,6 +135,7 @@ store_carries c write d new done writes no-region no-ticks accepted in-range las
     before = ap (λ (s : Contents). let x : Database = record { store = s; regions = d.regions; clock = d.clock } in x) undoes.before;
   };
   changes = (changed, refl, id);
+  writes = (written, writing);
 }
 
 -- a class was made
@@ -153,6 +156,7 @@ class_carries name capacity point attrs given d new given-is accepted in-range w
         before = ap (λ (s : Contents). let x : Database = record { store = s; regions = d.regions; clock = d.clock } in x) before;
       };
       changes = (is ∙ ap (with_class d.store name capacity point) given-is, refl);
+      writes = refl;
     }
 
 -- the refusals of a region
@@ -201,6 +205,7 @@ region_carries name points d new accepted in-range written is =
             (ap (λ n. take (n - 1) new) count ∙ ap (λ n. take n new) (omega (arith)) ∙ ap (take (length d.regions)) is ∙ take-append_seam d.regions (record { name = name; points = points } ∷ []));
       };
       changes = (refl, is);
+      writes = refl;
     }
 
 -- a region that is judged without memory: the list of regions is full, or nothing refuses it
@@ -226,4 +231,5 @@ tick_carries ticks d new is in-range written = record {
     before = ap (λ n. let x : Database = record { store = d.store; regions = d.regions; clock = n } in x) (omega (arith, is));
   };
   changes = refl;
+  writes = refl;
 }

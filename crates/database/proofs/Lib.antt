@@ -7,3 +7,4 @@ pub mod ListLemmas
 pub mod NearLemmas
 pub mod ReadyLemmas
 pub mod RowLemmas
+mod WrittenLemmas

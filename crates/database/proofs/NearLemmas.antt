@@ -1,4 +1,5 @@
--- What refuses a `nearest` and what answers it, by the numbers of its object and its class.
+-- For this crate and for the crates above: what refuses a `nearest` and what answers it, by the numbers of its object and
+-- its class.
 use Rattle.std.proofs.Common.{◌≡◌, ℕ, ◌+◌, Bool, true, false, ◌||◌, is_none, Option, None, Some, List, [], ◌∷◌, map, refl, sym, ap, ◌∙◌}
 use Rattle.std.specs.Prelude.{option_and_then, option_map, slice_get}
 use Rattle.std.specs.List.{position}

@@ -20,6 +20,7 @@ use Rattle.database.specs.declared.change.Change.TheVariants as changes
 use Rattle.database.specs.declared.database.Database.{Database}
 use Rattle.database.specs.Keeping.{clock_of, world_of_database, Keeps}
 use Rattle.database.specs.Taking.{TakesBackChange}
+use Rattle.database.specs.Written.{Writes}
 
 -- the refusal of a command by what is kept
 abbrev pub fault_told : Database → CommandTree → Option Refusal
@@ -50,6 +51,7 @@ pub record Carries (c : CommandTree) (old new : Database) (change : Change) : Ty
   pub keeps : (journal : List Accepted) → Keeps journal old → Keeps (journal ++ (clock_of old, c) ∷ []) new
   pub undoes : TakesBackChange change old new
   pub changes : ChangesWorld c change old new
+  pub writes : Writes c change old new
 
 -- What want of memory says of a command: nothing refuses it. The attributes of a class are copied before it is judged,
 -- and the clock moves without memory.

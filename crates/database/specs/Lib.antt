@@ -1,5 +1,6 @@
 pub mod Keeping
 pub mod Taking
+pub mod Written
 pub mod Attempt
 pub mod Telling
 pub mod Ready

@@ -8,7 +8,8 @@ use Rattle.line_loop.specs.declared.ending.Ending.{Ending}
 use Rattle.line_loop.specs.declared.ending.Ending.TheVariants as endings
 use Rattle.line_loop.specs.Ending as loop
 use Rattle.line_loop.specs.Stop.{IsAt, Point}
-use Rattle.line_meaning.specs.Step.{Held}
+use Rattle.line_meaning.specs.Loading.{Loaded, Loading, loading_of}
+use Rattle.line_meaning.specs.Step.{Held, held}
 use Rattle.run_ends.specs.declared.status.Status.{Status}
 use Rattle.run_ends.specs.declared.status.Status.TheVariants.{Done, BadWords, BadSession, ReadFault, WriteFault, ShelfFault, NoMemory, InputLimit}
 use Rattle.run_ends.specs.Ends.{Seen}
@@ -21,7 +22,7 @@ use Rattle.domino_run.specs.Looks.{LooksWithin, looks_of_input, looks_of_plan, l
 use Rattle.domino_run.specs.Machine.{State, leaves, machine, state_of, texts_in}
 use Rattle.domino_run.specs.Parts.{AnswersLines, FaultCounts, OpenHasCause, Opens}
 use Rattle.domino_run.specs.Theorem.{RunsAs, given}
-use Rattle.domino_run.specs.Whole.{plan_of, plan_stored, started}
+use Rattle.domino_run.specs.Whole.{plan_loaded, plan_of, plan_stored, started}
 use Rattle.domino_run.specs.declared.opening.OpenFault.{OpenFault}
 use Rattle.domino_run.specs.Words.{Words, Bad, Plain, Generated, Stored}
 
@@ -282,3 +283,10 @@ counts_of before now fault other is counts = subst (λ (f : OpenFault). FaultCou
 pub opens_of : (texts : Texts) (name : List ℕ) (fault other : OpenFault) → fault ≡ other → Opens texts name (Err fault) →
     Opens texts name (Err other)
 opens_of texts name fault other is opens = subst (λ (f : OpenFault). Opens texts name (Err f)) is opens
+
+-- ---- What is told of a session that is opened
+
+pub opens_loaded : (texts : Texts) (name text : List ℕ) (h : Held) → texts name ≡ Some text → loading_of text ≡ Loaded h.journal → h ≡ held h.journal →
+    Opens texts name (Ok h)
+opens_loaded texts name text h is loads same =
+    ap (λ (o : Option (List ℕ)). plan_stored o texts) is ∙ ap (λ (l : Loading). plan_loaded l texts) loads ∙ ap (λ (x : Held). Answers (started x texts)) (sym same)

@@ -9,7 +9,8 @@ use Rattle.domino_run.specs.declared.words.TheConstants.{MOST_DIGITS}
 use Rattle.domino_run.specs.declared.words.Words as declared
 use Rattle.domino_run.specs.declared.words.Words.TheVariants as words
 
--- they are of no form; the program's name alone; a number for the generator; the name of the text of a session
+-- `Bad`: they have no form; `Plain`: the program's name alone; `Generated`: `--gen` and the number of a workload;
+-- `Stored`: `--session` and the name under which the text of a session lies
 pub data Words : Type 0 where
   Bad : Words
   Plain : Words

@@ -13,7 +13,7 @@ use Rattle.command_text.specs.Tree.{CommandTree}
 use Rattle.line_meaning.specs.Files.{texts_after}
 use Rattle.line_meaning.specs.Reply.{line_feed}
 use Rattle.line_meaning.specs.Role.{asks_shelf, is_import, role_of}
-use Rattle.line_meaning.specs.Step.{Base, Held, base_after, fault_of, file_refusal, held_after, line_refusal, refusal_of, reply_by, reply_of, step, step_by}
+use Rattle.line_meaning.specs.Step.{Base, Held, all_after, base_after, fault_of, file_refusal, line_refusal, refusal_of, reply_by, reply_of, step, step_by}
 
 pub or_none : (r : Option Refusal) → or_else r None ≡ r
 or_none None = refl
@@ -82,7 +82,7 @@ unfolding step
 step_refused b line r fault = ap (step_by b (spelled line)) fault
 
 pub base_after_is : (b : Base) (c : CommandTree) → is_import c ≡ false →
-    base_after b c ≡ record { held = held_after b.held c; texts = texts_after b.held b.texts c }
+    base_after b c ≡ record { held = all_after b.held c; texts = texts_after b.held b.texts c }
 base_after_is b (Tree.Import class file) other = absurd (false≢true (sym other))
 base_after_is b c other = refl
 

@@ -1,6 +1,6 @@
 -- For this crate and for the crates above: the rows of an import into a journal that steps lead to. Their commands are as if
 -- they had been read from lines, and the journal after those that are taken is one that steps lead to.
-use Rattle.std.proofs.Common.{◌≡◌, ℕ, ◌+◌, ◌<◌, ◌≤◌, suc, zero, Bool, true, false, ◌&&◌, Option, None, Some, List, [], ◌∷◌, ◌++◌, length, get_or, refl, sym, ap, subst, ◌∙◌, arith, if◌then◌else◌}
+use Rattle.std.proofs.Common.{◌≡◌, ℕ, ◌+◌, ◌<◌, ◌≤◌, suc, zero, Bool, true, false, Option, None, Some, List, [], ◌∷◌, ◌++◌, length, get_or, refl, sym, ap, subst, ◌∙◌, arith, if◌then◌else◌}
 use Rattle.std.specs.Prelude.{is_none, nat_le, map}
 use Rattle.std.specs.List.{AllByRecursion, find, fold}
 use Rattle.std.specs.Str.{bytes_eq}
@@ -183,14 +183,13 @@ short_is : (n : ℕ) → nat_le n SESSION_LINE_LIMIT ≡ true → n ≤ SESSION_
 short_is n is = grind (arith, nat_tests, is)
 
 -- a row that is taken leads on
-pub row_is_reached : (journal : List Accepted) (class : List ℕ) (row : ObjectRow) → AreReached [] journal → IsRow class row →
+pub row_is_reached : (journal : List Accepted) (class : List ℕ) (row : ObjectRow) → AreReached [] journal → IsRow class row → MayBeLoaded class row →
     is_taken journal (row_command journal class row) ≡ true → AreReached [] (with_entry journal (row_command journal class row))
-row_is_reached journal class row reached printable taken =
+row_is_reached journal class row reached printable may taken =
     let c = row_command journal class row in
-    let both = and_parts (is_none (fault_of (held journal) c)) (is_kept c && nat_le (length (text_of c)) SESSION_LINE_LIMIT) taken in
-    let short = (and_parts (is_kept c) (nat_le (length (text_of c)) SESSION_LINE_LIMIT) both.1).1 in
-    command_is_reached (held journal) c (printable (is_present (world journal).history row.name (clock journal)))
-    (short_is (length (text_of c)) short) (none_is (fault_of (held journal) c) both.0) reached
+    let present = is_present (world journal).history row.name (clock journal) in
+    let short = (and_parts (is_kept c) (nat_le (length (text_of c)) SESSION_LINE_LIMIT) (may present)).1 in
+    command_is_reached (held journal) c (printable present) (short_is (length (text_of c)) short) (none_is (fault_of (held journal) c) taken) reached
 
 -- the first of some rows is taken where all of them are
 first_row : (class : List ℕ) (next : List Accepted) (rows : List ObjectRow) (after : List Accepted) (taken : Bool) →
@@ -200,15 +199,16 @@ first_row class next rows after true first later is = later (first refl) is
 first_row class next rows after false first later is = absurd (cc is)
 
 pub rows_are_reached : (class : List ℕ) (journal : List Accepted) (rows : List ObjectRow) (after : List Accepted) → AreReached [] journal →
-    AllByRecursion (IsRow class) rows → journal_after_rows class journal rows ≡ Some after → AreReached [] after
-rows_are_reached class journal [] after reached printable is =
+    AllByRecursion (IsRow class) rows → AllByRecursion (MayBeLoaded class) rows → journal_after_rows class journal rows ≡ Some after →
+    AreReached [] after
+rows_are_reached class journal [] after reached printable may is =
     let same : journal ≡ after = cc is in
     subst (AreReached []) same reached
-rows_are_reached class journal (row ∷ rows) after reached printable is =
+rows_are_reached class journal (row ∷ rows) after reached printable may is =
     let c = row_command journal class row in
     first_row class (with_entry journal c) rows after (is_taken journal c)
-    (row_is_reached journal class row reached printable.0)
-    (λ next rest. rows_are_reached class (with_entry journal c) rows after next printable.1 rest) is
+    (row_is_reached journal class row reached printable.0 may.0)
+    (λ next rest. rows_are_reached class (with_entry journal c) rows after next printable.1 may.1 rest) is
 
 -- ---- some rows and then others
 

@@ -1,5 +1,6 @@
 pub mod CallerLemmas
 pub mod ImportLemmas
+pub mod IndexLemmas
 pub mod JournalLemmas
 pub mod LoadingLemmas
 pub mod LongLemmas

@@ -41,8 +41,7 @@ both_none None other first rest = rest
 both_none (Some r) other first rest = absurd (cc first)
 
 kept_is_built : (c : CommandTree) → is_kept c ≡ true → is_gap c ≡ false
-kept_is_built (Tree.Index class attribute width) kept = absurd (false≢true kept)
-kept_is_built (Tree.Range span class attribute least greatest) kept = absurd (false≢true kept)
+kept_is_built Tree.Nothing kept = refl
 kept_is_built c kept = refl
 
 kept_fault : (role : Role) (h : Held) (c : CommandTree) → role ≡ Keeping →

@@ -14,7 +14,7 @@ use Rattle.command_text.specs.Tree
 use Rattle.command_text.specs.Tree.{CommandTree}
 use Rattle.line_meaning.specs.Fault.{is_gap, refusal_by_store}
 use Rattle.line_meaning.specs.Judging.{fault_by, fault_of, line_refusal}
-use Rattle.line_meaning.specs.Refusing.{all_refusals, has_bad_text, has_many_bindings, has_wrong_presence, is_full, is_not_convex, is_of_wrong_kind, is_unbuilt, lacks_text, names_unknown, passes_bound, passes_capacity, passes_clock, passes_journal, passes_span, refuses, has_taken_name}
+use Rattle.line_meaning.specs.Refusing.{all_refusals, has_bad_text, has_index, has_many_bindings, has_many_indexes, has_wrong_presence, is_full, is_not_convex, is_of_wrong_kind, is_on_constants, is_unbuilt, lacks_index, lacks_text, names_unknown, passes_bound, passes_capacity, passes_clock, passes_index, passes_journal, passes_span, refuses, has_taken_name}
 use Rattle.line_meaning.specs.Registry.{Known, known}
 use Rattle.line_meaning.specs.Role.{role_of}
 use Rattle.line_meaning.specs.Step.{Base, file_refusal, refusal_of}
@@ -50,16 +50,16 @@ or_or (Some r) b c = refl
 abbrev later : Base → CommandTree → Rows
 later b c =
     let k = known b.held.journal in
-    (refusals.UnknownName, names_unknown k c)
-    ∷ (refusals.NameTaken, has_taken_name k c)
-    ∷ (refusals.WrongKind, is_of_wrong_kind k c)
+    (refusals.UnknownName, lacks_index b.held c || names_unknown k c)
+    ∷ (refusals.NameTaken, has_index b.held c || has_taken_name k c)
+    ∷ (refusals.WrongKind, is_on_constants b.held c || is_of_wrong_kind k c)
     ∷ (refusals.NotConvex, is_not_convex c)
     ∷ (refusals.TermRange, passes_bound k c)
-    ∷ (refusals.SpanRange, passes_span k c)
+    ∷ (refusals.SpanRange, passes_index b.held c || passes_span k c)
     ∷ (refusals.ClockEnd, passes_clock k c)
     ∷ (refusals.Presence, has_wrong_presence k c)
     ∷ (refusals.ClassFull, passes_capacity k c)
-    ∷ (refusals.StoreFull, is_full k c)
+    ∷ (refusals.StoreFull, has_many_indexes b.held c || is_full k c)
     ∷ (refusals.BindingLimit, has_many_bindings k c)
     ∷ (refusals.JournalFull, passes_journal b.held.journal c)
     ∷ (refusals.NoFile, lacks_text b c)
@@ -121,6 +121,31 @@ kept_row first rows full same =
 told_row : (first : Option Refusal) → or_else (or_else first None) None ≡ first
 told_row first = or_none (or_else first None) ∙ or_none first
 
+-- of a command on indexes
+by_index : (unknown taken wrong past full : Bool) →
+    or_else
+    (first_that_holds
+    ((refusals.UnknownName, unknown)
+    ∷ (refusals.NameTaken, taken)
+    ∷ (refusals.WrongKind, wrong)
+    ∷ (refusals.SpanRange, past)
+    ∷ (refusals.StoreFull, full)
+    ∷ []))
+    None
+    ≡ first_that_holds
+    ((refusals.UnknownName, unknown || false)
+    ∷ (refusals.NameTaken, taken || false)
+    ∷ (refusals.WrongKind, wrong || false)
+    ∷ (refusals.SpanRange, past || false)
+    ∷ (refusals.StoreFull, full || false)
+    ∷ [])
+by_index true taken wrong past full = refl
+by_index false true wrong past full = refl
+by_index false false true past full = refl
+by_index false false false true full = refl
+by_index false false false false true = refl
+by_index false false false false false = refl
+
 -- what a command that is built is refused by is the first of these
 by_command : (b : Base) (c : CommandTree) → is_gap c ≡ false →
     or_else (fault_by (role_of c) b.held c) (file_refusal b c) ≡ first_that_holds (later b c)
@@ -178,8 +203,12 @@ by_command b (Tree.Export class file) built = told_row _ ∙ or_none _
 by_command b (Tree.Nearest span k object class) built = told_row _ ∙ or_none _
 by_command b (Tree.Must error span q) built = told_row _ ∙ or_none _
 by_command b (Tree.May error span q) built = told_row _ ∙ or_none _
-by_command b (Tree.Index class attribute width) built = absurd (false≢true (sym built))
-by_command b (Tree.Range span class attribute least greatest) built = absurd (false≢true (sym built))
+by_command b (Tree.Index class attribute width) built =
+    let c = Tree.Index class attribute width in
+    by_index (lacks_index b.held c) (has_index b.held c) (is_on_constants b.held c) (passes_index b.held c) (has_many_indexes b.held c)
+by_command b (Tree.Range span class attribute least greatest) built =
+    let c = Tree.Range span class attribute least greatest in
+    by_index (lacks_index b.held c) false false (passes_index b.held c) false
 
 -- ---- The refusals of a line
 

@@ -2,7 +2,7 @@
 use Rattle.std.proofs.Common.{◌≡◌, ℕ, ◌≤◌, Option, None, Some, List, [], ◌∷◌, length, refl}
 use Rattle.std.specs.Prelude.{unwrap_or, option_and_then, option_map}
 use Rattle.object_rows.specs.declared.rows.ObjectRow.{ObjectRow}
-use Rattle.object_rows.specs.Commands.{GivesPrintableCommands}
+use Rattle.object_rows.specs.Commands.{GivesPrintableCommands, GivesShortLines}
 use Rattle.command_text.specs.declared.reading.TheConstants.{LINE_LIMIT}
 use Rattle.command_text.specs.declared.refusal.Refusal.{Refusal}
 use Rattle.command_text.specs.Journal.{Accepted, spelled}
@@ -18,7 +18,7 @@ use Rattle.line_meaning.specs.Import.{journal_after_rows, journal_after_text, ro
 use Rattle.line_meaning.specs.Judging.{fault_of}
 use Rattle.line_meaning.specs.Reached.{AreReached, after_lines}
 use Rattle.line_meaning.specs.Step.{Base, base_after, file_refusal, line_refusal, refusal_of, step, step_by}
-use Rattle.line_meaning.proofs.ImportLemmas.{named_rows_are_printable, rows_are_reached}
+use Rattle.line_meaning.proofs.ImportLemmas.{named_rows_are_printable, rows_are_reached, rows_may_be_loaded}
 use Rattle.line_meaning.proofs.ReachedLemmas.{command_is_reached, none_of_both}
 
 taken_is : (found : Read CommandTree) → late_refusal found ≡ None →
@@ -42,7 +42,7 @@ accepted_line b line none =
 
 -- ---- an import: of a text that isn't there, or isn't taken, nothing is entered
 
-module _ (rows_print : GivesPrintableCommands) where
+module _ (rows_print : GivesPrintableCommands) (rows_short : GivesShortLines) where
   after_rows : (journal : List Accepted) (class text : List ℕ) → AreReached [] journal → IsShortName class →
       (found : Option (List ObjectRow)) → rows_for journal class text ≡ found →
       (after : Option (List Accepted)) → option_and_then (journal_after_rows class journal) found ≡ after →
@@ -50,7 +50,8 @@ module _ (rows_print : GivesPrintableCommands) where
   after_rows journal class text reached short found is None after = reached
   after_rows journal class text reached short None is (Some next) after = absurd (cc after)
   after_rows journal class text reached short (Some rows) is (Some next) after =
-      rows_are_reached class journal rows next reached (named_rows_are_printable rows_print journal class text rows reached short is) after
+      rows_are_reached class journal rows next reached (named_rows_are_printable rows_print journal class text rows reached short is)
+      (rows_may_be_loaded rows_short journal class text rows reached short is) after
 
   after_text : (journal : List Accepted) (class : List ℕ) → AreReached [] journal → IsShortName class → (text : Option (List ℕ)) →
       AreReached [] (unwrap_or (option_and_then (journal_after_text journal class) text) journal)

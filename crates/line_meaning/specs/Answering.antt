@@ -8,18 +8,21 @@ use Rattle.command_text.specs.Tree
 use Rattle.command_text.specs.Tree.{CommandTree}
 use Rattle.line_meaning.specs.Ask.{rows_asked}
 use Rattle.line_meaning.specs.Blurred.{rows_blurred}
+use Rattle.line_meaning.specs.Indexed.{rows_ranged}
 use Rattle.line_meaning.specs.Changes.{answer_text, tick_lines, write_lines}
 use Rattle.line_meaning.specs.Near.{rows_near}
 use Rattle.line_meaning.specs.Registry.{Known, query_of, registration}
 use Rattle.line_meaning.specs.Reply.{listing, registration_line, rows_text}
 
--- the lines of a command that changes nothing, by what a query may ask of and the clock
+-- the lines of a command that changes no object, by what a query may ask of and the clock
 abbrev pub answer_lines : World → ℕ → CommandTree → List ℕ
 answer_lines w now Tree.Listing = listing now w.history.catalog w.regions
 answer_lines w now (Tree.Ask span q) = rows_text w.history.catalog now (rows_asked w now span q)
 answer_lines w now (Tree.Nearest span k object class) = rows_text w.history.catalog now (rows_near w now span k object class)
 answer_lines w now (Tree.Must error span q) = rows_text w.history.catalog now (rows_blurred true w now span error q)
 answer_lines w now (Tree.May error span q) = rows_text w.history.catalog now (rows_blurred false w now span error q)
+answer_lines w now (Tree.Range span class attribute least greatest) =
+    rows_text w.history.catalog now (rows_ranged w now span class attribute least greatest)
 answer_lines w now _ = []
 
 -- the lines that tell of registered queries; in a `list` they come after the others

@@ -158,6 +158,5 @@ pub record RefusesByTheFirst : Type 0 where
   pub out_of_range_and_taken : judged (codes "class car 0") ≡ (refusals.NumberRange ∷ refusals.NameTaken ∷ [], Some refusals.NumberRange)
   pub twice_and_present :
       judged (codes "insert car a y = 1 y = 2") ≡ (refusals.NameTaken ∷ refusals.Presence ∷ [], Some refusals.NameTaken)
-  -- a command that isn't built yet, of a class that isn't there
-  pub not_built : judged (codes "index bus fuel 1") ≡ (refusals.BadSyntax ∷ [], Some refusals.BadSyntax)
+  pub of_no_class : judged (codes "index bus fuel 1") ≡ (refusals.UnknownName ∷ [], Some refusals.UnknownName)
   pub accepted : judged (codes "remove a") ≡ ([], None)

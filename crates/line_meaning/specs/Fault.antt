@@ -24,7 +24,7 @@ use Rattle.line_meaning.specs.Journal.{attribute_of}
 use Rattle.line_meaning.specs.Near.{near_refusal}
 use Rattle.command_text.specs.Journal.{is_kept}
 
--- a command that isn't built yet; each command has a row, so that one more command needs a row too
+-- a command that isn't built yet, which none is; each command has a row, so that one more command needs a row too
 abbrev pub is_gap : CommandTree → Bool
 is_gap Tree.Nothing = false
 is_gap Tree.Listing = false
@@ -46,8 +46,8 @@ is_gap (Tree.Export class file) = false
 is_gap (Tree.Nearest span k object class) = false
 is_gap (Tree.Must error span q) = false
 is_gap (Tree.May error span q) = false
-is_gap (Tree.Index class attribute width) = true
-is_gap (Tree.Range span class attribute least greatest) = true
+is_gap (Tree.Index class attribute width) = false
+is_gap (Tree.Range span class attribute least greatest) = false
 
 -- the refusal of a fault of the store
 abbrev pub refusal_by_store : StoreFault → Option Refusal

@@ -1,5 +1,5 @@
 -- What an `import` makes of the rows of a text.
-use Rattle.std.specs.Prelude.{◌≡◌, ℕ, Bool, true, ◌&&◌, is_none, Option, None, Some, option_and_then, List, [], ◌∷◌, ◌++◌, if◌then◌else◌}
+use Rattle.std.specs.Prelude.{◌≡◌, ℕ, Bool, true, is_none, Option, None, Some, option_and_then, List, [], ◌∷◌, ◌++◌, if◌then◌else◌}
 use Rattle.history.specs.Catalog.{attributes_of_class, class_of}
 use Rattle.object_rows.specs.declared.rows.ObjectRow.{ObjectRow}
 use Rattle.object_rows.specs.Commands.{command_of}
@@ -24,11 +24,11 @@ with_entry journal c = (held_after (held journal) c).journal
 abbrev pub entry_lines : List Accepted → CommandTree → List ℕ
 entry_lines journal c = kept_lines (known journal) (known (with_entry journal c)) c
 
--- nothing refuses the command, and its canonical line is no longer than a session's text may have
+-- nothing refuses the command
 abbrev pub is_taken : List Accepted → CommandTree → Bool
-is_taken journal c = is_none (fault_of (held journal) c) && may_be_loaded c
+is_taken journal c = is_none (fault_of (held journal) c)
 
--- the command of such a row may be a line of a session's text
+-- the command of a row may be a line of a session's text, as that of each row of a text may
 abbrev pub MayBeLoaded : List ℕ → ObjectRow → Type 0
 MayBeLoaded class row = (present : Bool) → may_be_loaded (command_of class present row) ≡ true
 

@@ -7,11 +7,13 @@ pub mod QueryFault
 pub mod FirstFault
 pub mod Reply
 pub mod Changes
+pub mod Indexed
 pub mod Answering
 pub mod Judging
 pub mod Import
 pub mod Files
 pub mod Step
+pub mod Alike
 pub mod Refusing
 pub mod Loading
 pub mod Reached
@@ -22,5 +24,6 @@ pub mod InWorlds
 pub mod Example
 pub mod NearExample
 pub mod BlurredExample
+pub mod IndexedExample
 pub mod QueryExample
 pub mod FilesExample

@@ -2,6 +2,7 @@
 -- numbers; others may hold beside it. A refusal never holds of a command that has no row of its own below. Of a command that
 -- isn't built yet only the first six are asked.
 use Rattle.std.specs.Prelude.{ℕ, ◌+◌, Bool, false, not, ◌||◌, ◌&&◌, is_none, is_some, nat_le, nat_lt, Option, List, [], ◌∷◌, length, map}
+use Rattle.std.specs.Option.{option_map_or}
 use Rattle.tick_set.specs.declared.spans.TheConstants.{LAST_TICK}
 use Rattle.geometry.specs.Polygon.{is_convex}
 use Rattle.geometry.specs.Region.{region_number}
@@ -17,7 +18,7 @@ use Rattle.ftl_typer.specs.declared.found.FaultKind.TheVariants as kinds
 use Rattle.command_text.specs.declared.reading.TheConstants.{LINE_LIMIT}
 use Rattle.command_text.specs.declared.refusal.Refusal.{Refusal}
 use Rattle.command_text.specs.declared.refusal.Refusal.TheVariants as refusals
-use Rattle.command_text.specs.Journal.{Accepted, bytes_of, is_kept, spelled}
+use Rattle.command_text.specs.Journal.{Accepted, bytes_of, clock, is_kept, spelled}
 use Rattle.command_text.specs.Line.{command_in, has_bad_token, has_large_size, has_other_byte, has_unfit_number, is_no_command, is_too_long}
 use Rattle.command_text.specs.Text.{text_of}
 use Rattle.command_text.specs.Tree
@@ -25,14 +26,18 @@ use Rattle.command_text.specs.Tree.{CommandTree}
 use Rattle.line_meaning.specs.Ask.{bindings_asked, has_fault, is_past_span}
 use Rattle.line_meaning.specs.Blurred.{is_barred, is_blurred_crowded, is_blurred_past}
 use Rattle.line_meaning.specs.Fault.{is_gap, is_present, passes_limits}
-use Rattle.line_meaning.specs.Journal.{attribute_of}
+use Rattle.line_meaning.specs.Indexed.{column, index_named, is_index_crowded, is_index_past, is_lasting, is_past_index, varies}
+use Rattle.line_meaning.specs.Journal.{attribute_of, world}
 use Rattle.line_meaning.specs.Near.{is_near_crowded, is_near_past, is_near_placeless, is_near_unknown}
 use Rattle.line_meaning.specs.QueryFault.{passes_bindings}
 use Rattle.line_meaning.specs.Registry.{Known, is_registered, known}
-use Rattle.line_meaning.specs.Step.{Base, journal_after_import}
+use Rattle.line_meaning.specs.Step.{Base, Held, journal_after_import}
 
 abbrev pub catalog_of : Known → Catalog
 catalog_of k = k.world.history.catalog
+
+abbrev pub known_catalog : Held → Catalog
+known_catalog h = (world h.journal).history.catalog
 
 -- 4: a command that isn't built yet, with all its numbers and sizes within their limits
 abbrev pub is_unbuilt : List ℕ → Bool
@@ -60,6 +65,12 @@ names_unknown k (Tree.Import class file) = is_none (number_of_class (catalog_of 
 names_unknown k (Tree.Export class file) = is_none (number_of_class (catalog_of k) class)
 names_unknown k _ = false
 
+-- the class isn't there, or it hasn't the attribute, or an index of that is asked for and isn't there
+abbrev pub lacks_index : Held → CommandTree → Bool
+lacks_index h (Tree.Index class attribute width) = is_none (column (known_catalog h) class attribute)
+lacks_index h (Tree.Range span class attribute least greatest) = is_none (index_named (known_catalog h) h.indexes class attribute)
+lacks_index h _ = false
+
 -- ---- 8: the name is taken, or names that must differ are alike
 
 abbrev pub has_taken_name : Known → CommandTree → Bool
@@ -74,6 +85,12 @@ has_taken_name k (Tree.Keep name span q) = has_fault kinds.NameTaken k.world q |
 has_taken_name k (Tree.Must error span q) = has_fault kinds.NameTaken k.world q
 has_taken_name k (Tree.May error span q) = has_fault kinds.NameTaken k.world q
 has_taken_name k _ = false
+
+-- an attribute has an index that hasn't ended
+abbrev pub has_index : Held → CommandTree → Bool
+has_index h (Tree.Index class attribute width) =
+    option_map_or (is_lasting h.indexes (clock h.journal)) (column (known_catalog h) class attribute) false
+has_index h _ = false
 
 -- ---- 9: a name or a value is of a kind that its place doesn't take, or a formula is
 
@@ -92,6 +109,12 @@ is_of_wrong_kind k (Tree.Must error span q) = has_fault kinds.WrongKind k.world 
 is_of_wrong_kind k (Tree.May error span q) = has_fault kinds.WrongKind k.world q || is_barred q.formula
 is_of_wrong_kind k _ = false
 
+-- an index is asked for of an attribute whose values are no functions of time
+abbrev pub is_on_constants : Held → CommandTree → Bool
+is_on_constants h (Tree.Index class attribute width) =
+    option_map_or (λ found. not (varies (known_catalog h).classes found)) (column (known_catalog h) class attribute) false
+is_on_constants h _ = false
+
 -- ---- 10: the points are no convex polygon
 
 abbrev pub is_not_convex : CommandTree → Bool
@@ -108,7 +131,7 @@ passes_bound k (Tree.Must error span q) = has_fault kinds.TermRange k.world q
 passes_bound k (Tree.May error span q) = has_fault kinds.TermRange k.world q
 passes_bound k _ = false
 
--- ---- 12: the span passes its limit, or reaches past the last tick
+-- ---- 12: the span passes its limit, or reaches past the last tick of all or of an index
 
 abbrev pub passes_span : Known → CommandTree → Bool
 passes_span k (Tree.Ask span q) = is_past_span k.now span q.formula
@@ -118,6 +141,12 @@ passes_span k (Tree.Nearest span n object class) = is_near_past k.now span
 passes_span k (Tree.Must error span q) = is_blurred_past k.now span
 passes_span k (Tree.May error span q) = is_blurred_past k.now span
 passes_span k _ = false
+
+abbrev pub passes_index : Held → CommandTree → Bool
+passes_index h (Tree.Index class attribute width) = is_index_past (clock h.journal)
+passes_index h (Tree.Range span class attribute least greatest) =
+    option_map_or (is_past_index (clock h.journal) span) (index_named (known_catalog h) h.indexes class attribute) false
+passes_index h _ = false
 
 -- ---- 13: the clock would pass the last tick
 
@@ -143,7 +172,7 @@ abbrev pub passes_capacity : Known → CommandTree → Bool
 passes_capacity k (Tree.Insert class name place sets) = is_past_capacity (catalog_of k) class name
 passes_capacity k _ = false
 
--- ---- 16: there is no room for one more class, region or registered query
+-- ---- 16: there is no room for one more class, region, registered query or index
 
 abbrev pub is_full : Known → CommandTree → Bool
 is_full k (Tree.Class name capacity point attributes) = nat_le CLASS_LIMIT (length (catalog_of k).classes)
@@ -151,6 +180,11 @@ is_full k (Tree.Region name points) = nat_le REGION_LIMIT (length k.world.region
 is_full k (Tree.Watch name span q) = nat_le QUERY_LIMIT (length k.live)
 is_full k (Tree.Keep name span q) = nat_le QUERY_LIMIT (length k.live)
 is_full k _ = false
+
+abbrev pub has_many_indexes : Held → CommandTree → Bool
+has_many_indexes h (Tree.Index class attribute width) =
+    option_map_or (is_index_crowded h.indexes) (column (known_catalog h) class attribute) false
+has_many_indexes h _ = false
 
 -- ---- 17: the classes of the query have too many objects, by themselves or beside those of the registered ones
 
@@ -190,16 +224,16 @@ refuses b line refusals.BadToken = has_bad_token line
 refuses b line refusals.BadSyntax = is_no_command (command_in line) || is_unbuilt line
 refuses b line refusals.NumberRange = has_unfit_number (command_in line)
 refuses b line refusals.TooLarge = has_large_size (command_in line)
-refuses b line refusals.UnknownName = names_unknown (known b.held.journal) (spelled line)
-refuses b line refusals.NameTaken = has_taken_name (known b.held.journal) (spelled line)
-refuses b line refusals.WrongKind = is_of_wrong_kind (known b.held.journal) (spelled line)
+refuses b line refusals.UnknownName = lacks_index b.held (spelled line) || names_unknown (known b.held.journal) (spelled line)
+refuses b line refusals.NameTaken = has_index b.held (spelled line) || has_taken_name (known b.held.journal) (spelled line)
+refuses b line refusals.WrongKind = is_on_constants b.held (spelled line) || is_of_wrong_kind (known b.held.journal) (spelled line)
 refuses b line refusals.NotConvex = is_not_convex (spelled line)
 refuses b line refusals.TermRange = passes_bound (known b.held.journal) (spelled line)
-refuses b line refusals.SpanRange = passes_span (known b.held.journal) (spelled line)
+refuses b line refusals.SpanRange = passes_index b.held (spelled line) || passes_span (known b.held.journal) (spelled line)
 refuses b line refusals.ClockEnd = passes_clock (known b.held.journal) (spelled line)
 refuses b line refusals.Presence = has_wrong_presence (known b.held.journal) (spelled line)
 refuses b line refusals.ClassFull = passes_capacity (known b.held.journal) (spelled line)
-refuses b line refusals.StoreFull = is_full (known b.held.journal) (spelled line)
+refuses b line refusals.StoreFull = has_many_indexes b.held (spelled line) || is_full (known b.held.journal) (spelled line)
 refuses b line refusals.BindingLimit = has_many_bindings (known b.held.journal) (spelled line)
 refuses b line refusals.JournalFull = passes_journal b.held.journal (spelled line)
 refuses b line refusals.NoFile = lacks_text b (spelled line)

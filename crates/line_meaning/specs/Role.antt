@@ -3,7 +3,7 @@ use Rattle.std.specs.Prelude.{Bool, true, false}
 use Rattle.command_text.specs.Tree
 use Rattle.command_text.specs.Tree.{CommandTree}
 use Rattle.line_meaning.specs.declared.role.Role.{Role}
-use Rattle.line_meaning.specs.declared.role.Role.TheVariants.{Blank, Keeping, Telling, Filing, Ending}
+use Rattle.line_meaning.specs.declared.role.Role.TheVariants.{Blank, Keeping, Telling, Indexing, Filing, Ending}
 
 -- each command has a row, so that one more command needs a row too
 abbrev pub role_of : CommandTree → Role
@@ -23,8 +23,8 @@ role_of (Tree.Show name) = Telling
 role_of (Tree.Nearest span k object class) = Telling
 role_of (Tree.Must error span q) = Telling
 role_of (Tree.May error span q) = Telling
-role_of (Tree.Index class attribute width) = Telling
-role_of (Tree.Range span class attribute least greatest) = Telling
+role_of (Tree.Index class attribute width) = Indexing
+role_of (Tree.Range span class attribute least greatest) = Indexing
 role_of (Tree.Save file) = Filing
 role_of (Tree.Import class file) = Filing
 role_of (Tree.Export class file) = Filing
@@ -37,6 +37,12 @@ is_on_queries (Tree.Keep name span q) = true
 is_on_queries (Tree.Show name) = true
 is_on_queries (Tree.Drop name) = true
 is_on_queries _ = false
+
+-- a command on indexes
+abbrev pub is_on_indexes : CommandTree → Bool
+is_on_indexes (Tree.Index class attribute width) = true
+is_on_indexes (Tree.Range span class attribute least greatest) = true
+is_on_indexes _ = false
 
 -- a command that asks the shelf for a text, or gives it one
 abbrev pub is_filing : Role → Bool

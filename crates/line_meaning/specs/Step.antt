@@ -11,7 +11,7 @@ use Rattle.command_text.specs.Journal.{Accepted, clock, spelled}
 use Rattle.command_text.specs.Tree
 use Rattle.command_text.specs.Tree.{CommandTree}
 use Rattle.line_meaning.specs.declared.role.Role.{Role}
-use Rattle.line_meaning.specs.declared.role.Role.TheVariants.{Blank, Keeping, Telling, Filing, Ending}
+use Rattle.line_meaning.specs.declared.role.Role.TheVariants.{Blank, Keeping, Telling, Indexing, Filing, Ending}
 use Rattle.line_meaning.specs.Answering.{answer_lines, kept_lines, query_lines}
 use Rattle.line_meaning.specs.Files.{texts_after}
 use Rattle.line_meaning.specs.Import.{journal_after_text, lines_of_rows, rows_for}
@@ -19,7 +19,7 @@ use Rattle.line_meaning.specs.Journal.{world}
 use Rattle.line_meaning.specs.Registry.{known}
 use Rattle.line_meaning.specs.Role.{role_of}
 use Rattle.line_meaning.specs.Reply.{line_feed, ok_line}
-pub use Rattle.line_meaning.specs.Judging.{Held, entries_of, fault_by, fault_of, held, held_after}
+pub use Rattle.line_meaning.specs.Judging.{Held, all_after, entries_of, fault_by, fault_of, held, held_after}
 unfoldable pub use Rattle.line_meaning.specs.Judging.{line_refusal}
 
 -- the whole state, with the texts of the shelf
@@ -59,11 +59,12 @@ refusal_of b line = or_else (line_refusal b.held line) (file_refusal b (spelled 
 abbrev pub base_after : Base → CommandTree → Base
 base_after b (Tree.Import class file) =
     record b { held = record b.held { journal = unwrap_or (journal_after_import b class file) b.held.journal } }
-base_after b c = record { held = held_after b.held c; texts = texts_after b.held b.texts c }
+base_after b c = record { held = all_after b.held c; texts = texts_after b.held b.texts c }
 
 abbrev pub reply_by : Role → Held → CommandTree → List ℕ
 reply_by Blank h c = []
 reply_by Telling h c = answer_lines (world h.journal) (clock h.journal) c ++ query_lines (known h.journal) c ++ ok_line
+reply_by Indexing h c = answer_lines (world h.journal) (clock h.journal) c ++ ok_line
 reply_by Keeping h c = kept_lines (known h.journal) (known (held_after h c).journal) c ++ ok_line
 reply_by Filing h c = ok_line
 reply_by Ending h c = ok_line

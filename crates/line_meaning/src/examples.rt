@@ -2,6 +2,7 @@
 ghost use Rattle.line_meaning.specs.BlurredExample.{AnswersBlurred, RefusesBlurred};
 ghost use Rattle.line_meaning.specs.Example.{AnswersAsks, RefusesAsks, RefusesByTheFirst};
 ghost use Rattle.line_meaning.specs.FilesExample.{ImportsRows, LoadsTexts, SavesTexts};
+ghost use Rattle.line_meaning.specs.IndexedExample.{AnswersRanges, RefusesRanges};
 ghost use Rattle.line_meaning.specs.NearExample.{AnswersNearest, RefusesNearest};
 ghost use Rattle.line_meaning.specs.QueryExample.{AnswersRegistered, RefusesRegistered};
 
@@ -65,4 +66,14 @@ pub fn rows_are_imported()
 /// What texts of both formats are loaded as, and the lines of their first faults.
 pub fn texts_are_loaded()
     ensures { LoadsTexts }
+{}
+
+/// What `range` is answered before and after a write, how many looks are taken, and which index stands where.
+pub fn indexes_are_answered()
+    ensures { AnswersRanges }
+{}
+
+/// Names before kinds before ticks before the limit of indexes, and the last ticks of an index.
+pub fn indexes_are_refused()
+    ensures { RefusesRanges }
 {}

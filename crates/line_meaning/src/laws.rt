@@ -1,5 +1,5 @@
 //! Laws of the step, each a call without a body whose contract is the law.
-ghost use Rattle.std.specs.Prelude.{◌≡◌, ℕ, ◌+◌, ◌-◌, ◌<◌, ◌≤◌, ◌++◌, true, List, [], None, Some, find, length, option_map, slice_get, take};
+ghost use Rattle.std.specs.Prelude.{◌≡◌, ℕ, ◌+◌, ◌-◌, ◌<◌, ◌≤◌, ◌++◌, true, false, List, [], None, Some, find, length, option_map, slice_get, take};
 ghost use Rattle.std.specs.List.{AllByRecursion};
 ghost use Rattle.command_text.specs.declared.reading.TheConstants.{LINE_LIMIT};
 ghost use Rattle.command_text.specs.declared.refusal.Refusal.TheVariants.{LineTooLong};
@@ -14,12 +14,14 @@ ghost use Rattle.session_file.specs.Text.{session_text};
 ghost use Rattle.outside.specs.Shelf.{Texts};
 ghost use Rattle.history.specs.Catalog.{empty_catalog};
 ghost use Rattle.meaning.specs.Accepted.{are_accepted};
+ghost use Rattle.line_meaning.specs.Alike.{AreAlike};
 ghost use Rattle.line_meaning.specs.InWorlds.{AskLiesBetween, SurelyIsSo, WhatIsSoMayBe};
 ghost use Rattle.object_rows.specs.declared.rows.ObjectRow.{ObjectRow};
 ghost use Rattle.line_meaning.specs.Import.{MayBeLoaded, rows_for};
 ghost use Rattle.line_meaning.specs.Journal.{writes};
 ghost use Rattle.line_meaning.specs.Loading.{IsBadLine, Loaded, loading_of};
 ghost use Rattle.line_meaning.specs.Reached.{AreReached, after_lines};
+ghost use Rattle.line_meaning.specs.Role.{is_on_indexes};
 ghost use Rattle.line_meaning.specs.Refusing.{all_refusals, refuses};
 ghost use Rattle.line_meaning.specs.Reply.{line_feed};
 ghost use Rattle.line_meaning.specs.Step.{Base, Held, base, fault_of, held, held_after, line_refusal, refusal_of, step};
@@ -54,10 +56,11 @@ pub fn steps_write_what_is_accepted()
     read_commands_are_printable();
     canonical_lines_are_short();
     commands_are_printable();
+    row_lines_are_short();
 }
 
-/// The command of each row of a text that is imported may be a line of a session's text, so nothing but the refusals
-/// keeps it from being taken.
+/// The command of each row of a text that is imported may be a line of a session's text, so a session with such rows can
+/// be saved and loaded.
 pub fn imported_rows_may_be_loaded()
     ensures { (journal : List Accepted) (class text : List ℕ) (rows : List ObjectRow) → AreReached [] journal → IsShortName class
         → rows_for journal class text ≡ Some rows → AllByRecursion (MayBeLoaded class) rows }
@@ -112,3 +115,11 @@ pub fn answers_lie_between()
 {
     worlds_lie_between();
 }
+
+/// No reply depends on the indexes but those to `index` and `range`, nor does what the other lines leave: the later replies of
+/// all other lines are functions of the journal, the texts of the shelf and the lines.
+pub fn indexes_change_no_other_reply()
+    ensures replies { (b d : Base) (line : List ℕ) → AreAlike b d → is_on_indexes (spelled line) ≡ false
+        → (step b line).1 ≡ (step d line).1 }
+    ensures states { (b d : Base) (lines : List (List ℕ)) → AreAlike b d → AreAlike (after_lines b lines) (after_lines d lines) }
+{}

@@ -1,4 +1,4 @@
-//! The limits of spans, of the bindings of a `must` or a `may`, and of all registered queries together.
+//! The limits of spans, of indexes, of the bindings of a `must` or a `may`, and of all registered queries together.
 ghost use Rattle.std.specs.Prelude.{◌≡◌, ◌*◌, ◌^◌};
 
 /// The longest span of a query with an assignment, in ticks.
@@ -22,6 +22,9 @@ pub const BLURRED_BINDING_LIMIT: u32 = 10_000;
 /// The most bindings that there may come to be of all registered queries together.
 pub const ALL_BINDINGS_LIMIT: u32 = 4_000_000;
 
+/// The most indexes of a session, those that have ended among them.
+pub const INDEX_LIMIT: usize = 16;
+
 /// The limits, in numbers.
 pub fn limits_in_numbers()
     ensures assigned { ASSIGNED_SPAN_LIMIT ≡ 10 ^ 4 }
@@ -30,5 +33,6 @@ pub fn limits_in_numbers()
     ensures nearest { NEAREST_SPAN_LIMIT ≡ 10 ^ 6 }
     ensures blurred { BLURRED_SPAN_LIMIT ≡ 10 ^ 4 }
     ensures blurred_bindings { BLURRED_BINDING_LIMIT ≡ 10 ^ 4 }
+    ensures indexes { INDEX_LIMIT ≡ 16 }
     ensures bindings { ALL_BINDINGS_LIMIT ≡ 4 * 10 ^ 6 }
 {}

@@ -15,6 +15,8 @@ pub enum Role {
     Keeping,
     /// It is answered by what is there, and changes nothing.
     Telling,
+    /// It is on an index, which is no part of the journal.
+    Indexing,
     /// It asks the shelf for a text, or gives it one.
     Filing,
     /// It ends the run.
@@ -31,6 +33,7 @@ pub fn role_of(command: &Command) -> Role
         Command::Update { .. } | Command::Remove { .. } | Command::Tick { .. } => Role::Keeping,
         Command::Watch { .. } | Command::Keep { .. } | Command::Drop { .. } => Role::Keeping,
         Command::Save { .. } | Command::Import { .. } | Command::Export { .. } => Role::Filing,
+        Command::Index { .. } | Command::Range { .. } => Role::Indexing,
         Command::Quit => Role::Ending,
         _ => Role::Telling,
     }
@@ -48,6 +51,6 @@ pub fn is_gap(command: &Command) -> bool
         Command::Show { .. } | Command::Drop { .. } => false,
         Command::Nearest { .. } | Command::Must { .. } | Command::May { .. } => false,
         Command::Save { .. } | Command::Import { .. } | Command::Export { .. } => false,
-        _ => true,
+        Command::Index { .. } | Command::Range { .. } => false,
     }
 }

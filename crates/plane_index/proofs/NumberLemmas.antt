@@ -1,4 +1,4 @@
--- The numbers of a class: they are those of objects, and ascend.
+-- For this crate and for the crates above: the numbers of a class: they are those of objects, and ascend.
 use Rattle.std.proofs.Common.{◌≡◌, ℕ, zero, suc, ◌+◌, ◌<◌, ◌≤◌, ℤ, Bool, true, false, List, [], ◌∷◌, length, map, sym, subst, arith}
 use Rattle.std.specs.Prelude.{◌==◌, All, if◌then◌else◌, int_lt}
 use Rattle.std.specs.List.{enumerate_from, filter}

@@ -3,12 +3,12 @@ use Rattle.std.proofs.Common.{◌≡◌, ℕ, ◌<◌, ◌≤◌, Bool, true, fa
 use Rattle.std.specs.Prelude.{◌==◌, ◌≢◌, Ok, Err, slice_index}
 use Rattle.std.specs.Ordering.{nat_cmp}
 use Rattle.std.specs.List.Sorted.{IsBinarySearchResult}
-use Rattle.std.proofs.lemmas.Bool.{cases_eq, cases_lt}
+use Rattle.std.proofs.lemmas.Bool.{cases_Bool, cases_eq, cases_lt}
 use Rattle.std.proofs.lemmas.Bool.Decides.{nat_tests}
 use Rattle.std.proofs.lemmas.List.{get_or-set_other, get_or-set_same}
 use Rattle.std.proofs.lemmas.List.Sorted.{searched}
 use Rattle.plane.specs.Boxes.{Grid}
-use Rattle.plane_index.specs.Index.{AreIndexFields, Index, fresh_at, index_of, IsAscending, IsTouched}
+use Rattle.plane_index.specs.Index.{AreIndexFields, Index, fresh_at, index_of, is_fresh, IsAscending, IsTouched}
 use Rattle.plane_index.specs.declared.cover.Cover.{Cover}
 use Rattle.plane_index.proofs.IndexLemmas.{fresh_of, seen_if_fresh, strips_of_index}
 
@@ -22,15 +22,30 @@ and_true a b is = grind (arith, nat_tests, is)
 and_false : (a b : Bool) → b ≡ false → false ≡ (a && b)
 and_false a b is = grind (arith, nat_tests, is)
 
+-- no object stands past those that were seen
+past_fresh : (grid : Grid) (ids : List ℕ) (fresh : List Bool) (columns : List (List Cover)) (k : ℕ) → length ids ≤ k →
+    is_fresh (index_of grid ids fresh columns) k ≡ false
+past_fresh grid ids fresh columns k past =
+    elim (cases_Bool (is_fresh (index_of grid ids fresh columns) k)) [
+      | inl is ↦ absurd (let below = seen_if_fresh grid ids fresh columns k is in omega (arith, below, past))
+      | inr none ↦ none
+    ]
+
 touched : (id : ℕ) (grid : Grid) (ids : List ℕ) (fresh fresh' : List Bool) (columns : List (List Cover)) →
     ((k : ℕ) → k < length ids → fresh_at fresh' k ≡ (fresh_at fresh k && not (slice_index ids k == id))) →
     IsTouched id (index_of grid ids fresh columns) (index_of grid ids fresh' columns)
 touched id grid ids fresh fresh' columns tells = record {
   grid = refl;
   ids = refl;
-  fresh = λ k below.
-      fresh_of grid ids fresh' columns k below ∙ tells k below
-      ∙ ap (λ b. b && not (slice_index ids k == id)) (sym (fresh_of grid ids fresh columns k below));
+  fresh = λ k.
+      elim (cases_lt k (length ids)) [
+        | inl below ↦
+            fresh_of grid ids fresh' columns k below ∙ tells k below
+            ∙ ap (λ b. b && not (slice_index ids k == id)) (sym (fresh_of grid ids fresh columns k below))
+        | inr past ↦
+            past_fresh grid ids fresh' columns k past
+            ∙ ap (λ b. b && not (slice_index ids k == id)) (sym (past_fresh grid ids fresh columns k past))
+      ];
   strips = λ k slice is under.
       let below = seen_if_fresh grid ids fresh' columns k is in
       let now = sym (fresh_of grid ids fresh' columns k below) ∙ is in

@@ -74,5 +74,5 @@ stale_count s index = count_by (λ k. not (is_fresh index k)) (between 0 (length
 pub record IsTouched (id : ℕ) (old new : Index) : Type 0 where
   pub grid : new.grid ≡ old.grid
   pub ids : new.ids ≡ old.ids
-  pub fresh : (k : ℕ) → k < length old.ids → is_fresh new k ≡ (is_fresh old k && not (slice_index old.ids k == id))
+  pub fresh : (k : ℕ) → is_fresh new k ≡ (is_fresh old k && not (slice_index old.ids k == id))
   pub strips : (k slice : ℕ) → is_fresh new k ≡ true → slice < SLICES → strips_of_place new k slice ≡ strips_of_place old k slice

@@ -1,6 +1,7 @@
 //! What an index is of.
 ghost use Rattle.std.specs.Prelude.{◌≡◌, ◌≤◌, ◌<◌, ◌&&◌, nat_le, pos, ◌<ℤ◌, unsigned_abs};
 ghost use Rattle.fixed_point.specs.declared.number.TheConstants.{FIX_LIMIT};
+ghost use Rattle.tick_set.specs.declared.spans.TheConstants.{LAST_TICK};
 ghost use Rattle.plane.specs.Boxes.{last_covered, slice_first, slice_last, strip};
 ghost use Rattle.plane.specs.declared.limits.TheConstants.{SLICES};
 
@@ -71,12 +72,20 @@ impl Grid {
         self.from
     }
 
+    /// The last tick of the last slice.
+    pub fn last(&self) -> u32
+        ensures value { result ≡ last_covered self.now }
+        ensures in_range { result ≤ LAST_TICK }
+    {
+        self.from + (SLICES * SLICE_TICKS - 1)
+    }
+
     /// Whether the slices have the ticks of a window.
     pub(crate) fn covers(&self, w: Window) -> bool
         ensures value { result ≡ (nat_le self.now.from w.lo && nat_le w.hi (last_covered self.now)) }
         ensures wide { pos 0 <ℤ self.now.width }
     {
-        self.from <= w.lo && w.hi <= self.from + (SLICES * SLICE_TICKS - 1)
+        self.from <= w.lo && w.hi <= self.last()
     }
 
     /// The ticks of a slice.

@@ -1,5 +1,5 @@
 //! The objects that have a value between two bounds, and when.
-ghost use Rattle.std.specs.Prelude.{◌≡◌, ◌+◌, ◌≤◌, ◌<◌, ◌++◌, ◌∷◌, [], All, IfOk, OnErr, OnOk, length};
+ghost use Rattle.std.specs.Prelude.{◌≡◌, ◌⊎◌, ◌+◌, ◌≤◌, ◌<◌, ◌++◌, ◌∷◌, [], All, IfOk, OnErr, OnOk, length};
 ghost use Rattle.object_store.specs.Contents.{history_of};
 ghost use Rattle.plane.specs.Boxes.{candidates};
 ghost use Rattle.plane.specs.Rows.{rows_among, rows_in_range, IsCovered};
@@ -31,7 +31,7 @@ impl PlaneIndex {
     /// The objects of the class that have a value between two bounds at some ticks of the window, by first insertion,
     /// each with these ticks. The slices have the ticks of the window, and no object of the class was written after its
     /// first (`covers` tells). Stale objects are looked at anew first, once each, and then each candidate once. It fails only where
-    /// memory is out: some objects may be stale no more then.
+    /// memory is out: either it is as before then, or no object is stale.
     pub fn range_rows<L: Ledger>(
         &mut self,
         alloc: Global,
@@ -47,6 +47,7 @@ impl PlaneIndex {
             ≡ rows_in_range (history_of store.now) self.old.grid.class self.old.grid.attribute lo hi w.lo w.hi) }
         ensures fresh { OnOk result (IsFresh store.now self.new) }
         ensures right { IsIndexOf store.now self.new }
+        ensures err { OnErr result ((self.new ≡ self.old) ⊎ IsFresh store.now self.new) }
         ensures grid { self.new.grid ≡ self.old.grid }
         ensures least { reads.old ≤ reads.new }
         ensures most { reads.new ≤ reads.old + (stale_count store.now self.old

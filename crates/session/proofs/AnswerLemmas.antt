@@ -11,10 +11,10 @@ use Rattle.command_text.specs.Line.{IsRead, early_refusal, first_refusal, late_r
 use Rattle.command_text.specs.Tree
 use Rattle.command_text.specs.Tree.{CommandTree}
 use Rattle.line_meaning.specs.declared.role.Role.{Role}
-use Rattle.line_meaning.specs.declared.role.Role.TheVariants.{Blank, Keeping, Telling, Filing, Ending}
+use Rattle.line_meaning.specs.declared.role.Role.TheVariants.{Blank, Keeping, Telling, Indexing, Filing, Ending}
 use Rattle.line_meaning.specs.Looks.{is_query, looks_of, most_looks}
-use Rattle.line_meaning.specs.Role.{asks_shelf, is_filing, is_import, role_of}
-use Rattle.line_meaning.specs.Step.{Base, Held, base, base_after, fault_of, file_refusal, held_after, refusal_of, reply_by, reply_of, step}
+use Rattle.line_meaning.specs.Role.{asks_shelf, is_filing, is_import, is_on_indexes, role_of}
+use Rattle.line_meaning.specs.Step.{Base, Held, all_after, base, base_after, fault_of, file_refusal, held_after, refusal_of, reply_by, reply_of, step}
 use Rattle.line_meaning.proofs.CallerLemmas.{line_refusal_read, or_none, refusal_first, refusal_read_any, refused_line, spelled_is, step_accepted, step_refused}
 use Rattle.session.specs.declared.next.ApplyFault.{ApplyFault}
 use Rattle.session.specs.declared.next.ApplyFault.TheVariants as apply_faults
@@ -23,6 +23,7 @@ use Rattle.session.specs.declared.next.Next.TheVariants as nexts
 use Rattle.session.specs.Answers.{Answers, Applies, Fails, IsUnchanged, IsUnread, LeavesHeld, LeavesTexts, Suffices, next_by, next_of}
 use Rattle.session.specs.Carried.{Carried, CarriedAs, Carries, IsAccepted, IsLacking, LacksMemory, Moment, end_of, lines_by, moment}
 use Rattle.session.specs.Replayed.{Replays, ReplaysAs}
+use Rattle.line_meaning.proofs.IndexLemmas.{plain_after, plain_fault}
 use Rattle.line_meaning.proofs.RoleLemmas.{kept_is_keeping}
 use Rattle.session.specs.Filed.{Does, FailsWith, IsAnswered, IsApplied, SufficesFor, refusal_with, texts_by}
 
@@ -32,7 +33,7 @@ plain_refusal : (b : Base) (c : CommandTree) → asks_shelf c ≡ false → file
 plain_refusal b (Tree.Import class file) plain = absurd (cc plain)
 plain_refusal b c plain = refl
 
-plain_base : (b : Base) (c : CommandTree) → asks_shelf c ≡ false → base_after b c ≡ base (held_after b.held c) b.texts
+plain_base : (b : Base) (c : CommandTree) → asks_shelf c ≡ false → base_after b c ≡ base (all_after b.held c) b.texts
 plain_base b (Tree.Save file) plain = absurd (cc plain)
 plain_base b (Tree.Import class file) plain = absurd (cc plain)
 plain_base b (Tree.Export class file) plain = absurd (cc plain)
@@ -55,6 +56,7 @@ never : (role : Role) (r : Refusal) → nexts.Refused r ≡ next_by role → ⊥
 never Blank r h = cc h
 never Keeping r h = cc h
 never Telling r h = cc h
+never Indexing r h = cc h
 never Filing r h = cc h
 never Ending r h = cc h
 
@@ -85,6 +87,7 @@ plain_refused b c fault plain is = (λ i. or_else (is i) (plain_refusal b c plai
 reply_parts : (role : Role) (h : Held) (c : CommandTree) → reply_by role h c ≡ lines_by role h c ++ end_of (next_by role)
 reply_parts Blank h c = refl
 reply_parts Telling h c = refl
+reply_parts Indexing h c = refl
 reply_parts Keeping h c = refl
 reply_parts Filing h c = refl
 reply_parts Ending h c = refl
@@ -352,6 +355,7 @@ pub not_filing : (role : Role) → (role ≡ Filing → ⊥) → is_filing role 
 not_filing Blank other = refl
 not_filing Keeping other = refl
 not_filing Telling other = refl
+not_filing Indexing other = refl
 not_filing Filing other = absurd (other refl)
 not_filing Ending other = refl
 
@@ -360,13 +364,18 @@ not_filing Ending other = refl
 pub kept_plain : (c : CommandTree) → is_kept c ≡ true → asks_shelf c ≡ false
 kept_plain c kept = ap is_filing (kept_is_keeping c kept)
 
+pub kept_on_no_index : (c : CommandTree) → is_kept c ≡ true → is_on_indexes c ≡ false
+kept_on_no_index (Tree.Index class attribute width) kept = absurd (cc kept)
+kept_on_no_index (Tree.Range span class attribute least greatest) kept = absurd (cc kept)
+kept_on_no_index c kept = refl
+
 kept_next : (c : CommandTree) → is_kept c ≡ true → next_of c ≡ nexts.Accepted
 kept_next c kept = ap next_by (kept_is_keeping c kept)
 
 module _ (c : CommandTree) (m n : Moment) (kept : is_kept c ≡ true) where
   by_next : (next : Next) → CarriedAs next c m.holds n.holds m.tally.said n.tally.said → ReplaysAs m.holds c n.holds next
-  by_next nexts.Accepted h = (h.1.accepted, h.1.goes_on)
-  by_next (nexts.Refused r) h = (h.0, h.1)
+  by_next nexts.Accepted h = (sym (plain_fault m.holds c (kept_on_no_index c kept)) ∙ h.1.accepted, h.1.goes_on ∙ plain_after m.holds c (kept_on_no_index c kept))
+  by_next (nexts.Refused r) h = (sym (plain_fault m.holds c (kept_on_no_index c kept)) ∙ h.0, h.1)
   by_next nexts.Silent h = absurd (cc (h.0 ∙ kept_next c kept))
   by_next nexts.Quit h = absurd (cc (h.0 ∙ kept_next c kept))
 

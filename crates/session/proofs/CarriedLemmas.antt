@@ -1,6 +1,6 @@
 -- What is done with a command and what it takes, from one moment to the next.
 use Rattle.std.proofs.Common.{◌≡◌, ◌≤◌, ℕ, ◌+◌, false, List, [], ◌++◌, refl, sym, ap, ◌∙◌, subst, append-nil, arith}
-use Rattle.std.specs.Prelude.{None, Err}
+use Rattle.std.specs.Prelude.{None, Ok, Err}
 use Rattle.command_text.specs.declared.fault.CommandFault.{CommandFault}
 use Rattle.command_text.specs.declared.fault.CommandFault.TheVariants as stops
 use Rattle.command_text.specs.declared.command.Command.{Command}
@@ -13,7 +13,7 @@ use Rattle.line_meaning.specs.declared.role.Role.TheVariants.{Telling}
 use Rattle.line_meaning.specs.Answering.{answer_lines, query_lines}
 use Rattle.line_meaning.specs.Fault.{is_gap}
 use Rattle.line_meaning.specs.Journal.{world}
-use Rattle.line_meaning.specs.Looks.{is_query, looks_asked, most_looks}
+use Rattle.line_meaning.specs.Looks.{looks_asked, most_looks}
 use Rattle.line_meaning.specs.Registry.{Known, known}
 use Rattle.line_meaning.specs.Role.{role_of}
 use Rattle.line_meaning.specs.Step.{Held, held}
@@ -48,6 +48,20 @@ stopped_at_once c m fault stopped = record {
   free = record { unread = λ _. refl; unprobed = λ _. refl };
 }
 
+-- ---- the same of another result
+
+pub accepted_as : {T U : Type 0} (c : CommandTree) (m n : Moment) (x : T) (y : U) → Carries {T = T} c m n (Ok x) → Carries {T = U} c m n (Ok y)
+accepted_as c m n x y h = record { accepted = h.accepted; stopped = tt; spends = h.spends; free = record { unread = tt; unprobed = tt } }
+
+pub stopped_as : {T U : Type 0} (c : CommandTree) (m n : Moment) (fault : CommandFault) → Carries {T = T} c m n (Err fault) →
+    Carries {T = U} c m n (Err fault)
+stopped_as c m n fault h = record {
+  accepted = tt;
+  stopped = h.stopped;
+  spends = h.spends;
+  free = record { unread = h.free.unread; unprobed = h.free.unprobed };
+}
+
 -- ---- a command that changes nothing, once its lines were written
 
 module _ (journal : List Accepted) (c : CommandTree) (gap : is_gap c ≡ false) (telling : role_of c ≡ Telling) (before mid : List ℕ)
@@ -74,6 +88,7 @@ looks_are h (Tree.Watch name span q) telling = absurd (cc telling)
 looks_are h (Tree.Keep name span q) telling = absurd (cc telling)
 looks_are h (Tree.Save file) telling = absurd (cc telling)
 looks_are h (Tree.Export class file) telling = absurd (cc telling)
+looks_are h (Tree.Range span class attribute least greatest) telling = absurd (cc telling)
 looks_are h c telling = refl
 
 module _ (journal : List Accepted) (d : Database) (keeps : Keeps journal d) (command : Command) (telling : role_of (command_view command) ≡ Telling) where

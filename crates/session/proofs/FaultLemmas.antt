@@ -17,9 +17,10 @@ use Rattle.line_meaning.specs.Fault.{fault_among, is_gap, journal_refusal, passe
 use Rattle.line_meaning.specs.Journal.{world}
 use Rattle.line_meaning.specs.QueryFault.{command_fault, query_fault}
 use Rattle.line_meaning.specs.Registry.{Known, known}
-use Rattle.line_meaning.specs.Role.{is_on_queries, role_of}
+use Rattle.line_meaning.specs.Role.{is_on_indexes, is_on_queries, role_of}
 use Rattle.line_meaning.specs.Step.{Held, fault_by, fault_of, held, held_after}
 use Rattle.line_meaning.proofs.CallerLemmas.{or_none}
+use Rattle.line_meaning.proofs.IndexLemmas.{plain_after}
 use Rattle.line_meaning.proofs.RoleLemmas.{kept_is_keeping, telling_is_not_kept}
 use Rattle.database.specs.Telling.{IsStoppedBy}
 use Rattle.session.specs.Carried.{IsAccepted, IsStopped, is_class, lines_by}
@@ -44,6 +45,17 @@ none_that_holds r b is = ap (λ x. first_that_holds ((r, x) ∷ [])) is
 -- ---- by the role
 
 -- a command that is built is judged by its role
+-- neither of these is on indexes
+kept_other : (c : CommandTree) → is_kept c ≡ true → is_on_indexes c ≡ false
+kept_other (Tree.Index class attribute width) kept = absurd (cc kept)
+kept_other (Tree.Range span class attribute least greatest) kept = absurd (cc kept)
+kept_other c kept = refl
+
+telling_other : (c : CommandTree) → role_of c ≡ Telling → is_on_indexes c ≡ false
+telling_other (Tree.Index class attribute width) telling = absurd (cc telling)
+telling_other (Tree.Range span class attribute least greatest) telling = absurd (cc telling)
+telling_other c telling = refl
+
 pub by_role : (h : Held) (c : CommandTree) (role : Role) → is_gap c ≡ false → role_of c ≡ role → fault_of h c ≡ fault_by role h c
 by_role h c role gap is =
     ap (λ g. if g then Some refusals.BadSyntax else fault_by (role_of c) h c) gap ∙ ap (λ r. fault_by r h c) is
@@ -119,7 +131,7 @@ module _ (journal : List Accepted) (c : CommandTree) (gap : is_gap c ≡ false) 
       after ≡ before ++ lines → IsAccepted c (held journal) (held new) before after
   accepted_kept now new before after lines tick is none told written = record {
     accepted = none;
-    goes_on = ap held (is ∙ ap (λ t. journal ++ (t, c) ∷ []) tick) ∙ sym entry_is;
+    goes_on = ap held (is ∙ ap (λ t. journal ++ (t, c) ∷ []) tick) ∙ sym entry_is ∙ sym (plain_after (held journal) c (kept_other c kept));
     said = written
         ∙ ap (λ ls. before ++ ls) (told ∙ ap (λ (h : Held). kept_lines (known journal) (known h.journal) c) (sym entry_is))
         ∙ ap (λ (r : Role). before ++ lines_by r (held journal) c) (sym (kept_is_keeping c kept));
@@ -147,6 +159,7 @@ module _ (journal : List Accepted) (c : CommandTree) (gap : is_gap c ≡ false) 
       IsAccepted c (held journal) (held journal) before after
   told_accepted before after none written = record {
     accepted = told_fault ∙ none;
-    goes_on = ap held (sym (append-nil journal) ∙ ap (λ (k : Bool). journal ++ (if k then (clock journal, c) ∷ [] else [])) (sym told_kept));
+    goes_on = ap held (sym (append-nil journal) ∙ ap (λ (k : Bool). journal ++ (if k then (clock journal, c) ∷ [] else [])) (sym told_kept))
+        ∙ sym (plain_after (held journal) c (telling_other c telling));
     said = written ∙ ap (λ (r : Role). before ++ lines_by r (held journal) c) (sym telling);
   }

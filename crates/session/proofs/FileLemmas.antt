@@ -8,7 +8,6 @@ use Rattle.outside.specs.Shelf.{Texts}
 use Rattle.history.specs.Catalog.{attributes_of_class, class_of}
 use Rattle.history.specs.World.{World}
 use Rattle.object_rows.specs.declared.rows.ObjectRow.{ObjectRow}
-use Rattle.object_rows.specs.Commands.{IsRow}
 use Rattle.object_rows.specs.Rows.{rows_in}
 use Rattle.session_file.specs.Text.{session_text}
 use Rattle.fixed_point.specs.declared.short_text.Word.{Word}
@@ -34,7 +33,7 @@ use Rattle.session.specs.declared.next.Next.TheVariants as nexts
 use Rattle.session.specs.Answers.{HasCause, IsUnread, LeavesHeld}
 use Rattle.session.specs.Filed.{IsApplied, Puts, refusal_with, said_after}
 use Rattle.session.specs.Imported.{Imports}
-use Rattle.session.specs.Rows.{IsRowCommand, LeavesSome, journal_after_commands, lines_of_commands, looks_of_commands}
+use Rattle.session.specs.Rows.{IsImportedRow, IsRowCommand, LeavesSome, journal_after_commands, lines_of_commands, looks_of_commands}
 use Rattle.session.specs.Trial.{AreImported, AreTaken}
 use Rattle.line_meaning.proofs.CallerLemmas.{or_none}
 use Rattle.database.specs.declared.database.Database.{Database}
@@ -245,6 +244,7 @@ module _ (told left : Option Texts) (journal : List Accepted) (class file : List
               later = h.later;
               rows = rows_are texts is ∙ are.are ∙ ap Some h.all;
               entered = journals_are class journal h.first ∙ ap (journal_after_commands journal) h.commands ∙ some.entered;
+              indexes = refl;
             })
 
         pub import_left : (new : List Accepted) → LeavesSome journal (map command_view commands) new →
@@ -348,7 +348,7 @@ asks_by_name command asks save export import = cc asks
 -- ---- the commands of a text whose rows were found
 
 module _ (journal : List Accepted) (class text : List ℕ) (rows : List ObjectRow) (are : rows_for journal class text ≡ Some rows)
-    (each : AllByRecursion (IsRow class) rows) {E V : Type 0} (items : V → List Command) where
+    (each : AllByRecursion (IsImportedRow class) rows) {E V : Type 0} (items : V → List Command) where
   pub imported_commands : (r : Result (Option V) E) →
       IfOk r (λ found. MatchOption found (journal_after_rows class journal rows ≡ None) (λ v. AreTaken class journal rows (items v))) →
       IfOk r (λ found. MatchOption found (journal_after_text journal class text ≡ None) (λ v. AreImported class journal text (items v)))

@@ -1,4 +1,5 @@
 pub mod FaultLemmas
+mod KeepLemmas
 pub mod RowLemmas
 pub mod KnownLemmas
 pub mod QueryLemmas
@@ -14,3 +15,5 @@ pub mod FileLemmas
 pub mod UntoldLemmas
 pub mod LoadLemmas
 pub mod ReachedLemmas
+mod LiftLemmas
+mod IndexedLemmas

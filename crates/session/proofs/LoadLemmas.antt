@@ -8,7 +8,7 @@ use Rattle.std.proofs.lemmas.List.Sums.{count_by-le-length}
 use Rattle.std.proofs.lemmas.Bool.Decides.{nat_tests}
 use Rattle.command_text.specs.declared.refusal.Refusal.{Refusal}
 use Rattle.command_text.specs.inner.Reading.{Read}
-use Rattle.command_text.specs.Journal.{is_kept, spelled}
+use Rattle.command_text.specs.Journal.{Accepted, is_kept, spelled}
 use Rattle.command_text.specs.Line.{IsRead, command_in, early_refusal, first_refusal, late_refusal}
 use Rattle.command_text.specs.Text.{text_of}
 use Rattle.command_text.specs.TextLaws.{PrintsWhatIsRead, ReadsWhatIsPrinted}
@@ -20,7 +20,7 @@ use Rattle.session_file.specs.Kept.{HasLine, kept_in, may_be_loaded}
 use Rattle.session_file.specs.declared.reader.Loaded as file
 use Rattle.session_file.specs.Reading.{GivesNext, Reading, finished, reading_of}
 use Rattle.line_meaning.specs.Loading.{Loaded, BadLine, line_of_fault, loading_by, loading_of, replayed}
-use Rattle.line_meaning.specs.Step.{Held, fault_of, held_after}
+use Rattle.line_meaning.specs.Step.{Held, fault_of, held, held_after}
 use Rattle.line_meaning.proofs.ReachedLemmas.{none_of_both}
 use Rattle.session.specs.Carried.{IsLegible}
 
@@ -51,14 +51,14 @@ few_lines text =
 
 -- ---- its first command
 
-pub taken : (h : Held) (c : ℕ × CommandTree) (later : List (ℕ × CommandTree)) → fault_of h c.1 ≡ None →
-    replayed h.journal (c ∷ later) ≡ replayed (held_after h c.1).journal later
-taken h c later is =
-    ap (λ (o : Option Refusal). if is_none o then replayed (held_after h c.1).journal later else BadLine c.0) is
+pub taken : (journal : List Accepted) (c : ℕ × CommandTree) (later : List (ℕ × CommandTree)) → fault_of (held journal) c.1 ≡ None →
+    replayed journal (c ∷ later) ≡ replayed (held_after (held journal) c.1).journal later
+taken journal c later is =
+    ap (λ (o : Option Refusal). if is_none o then replayed (held_after (held journal) c.1).journal later else BadLine c.0) is
 
-pub refused : (h : Held) (c : ℕ × CommandTree) (later : List (ℕ × CommandTree)) → is_none (fault_of h c.1) ≡ false →
-    replayed h.journal (c ∷ later) ≡ BadLine c.0
-refused h c later is = ap (λ (b : Bool). if b then replayed (held_after h c.1).journal later else BadLine c.0) is
+pub refused : (journal : List Accepted) (c : ℕ × CommandTree) (later : List (ℕ × CommandTree)) → is_none (fault_of (held journal) c.1) ≡ false →
+    replayed journal (c ∷ later) ≡ BadLine c.0
+refused journal c later is = ap (λ (b : Bool). if b then replayed (held_after (held journal) c.1).journal later else BadLine c.0) is
 
 -- ---- its end
 

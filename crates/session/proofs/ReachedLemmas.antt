@@ -104,9 +104,9 @@ module _ (prints : PrintsWhatIsRead) (again : ReadsWhatIsPrinted) where
       (AreReached [] (held_after (held before) c.1).journal → replayed (held_after (held before) c.1).journal later ≡ Loaded journal → AreReached [] journal) →
       replayed before (c ∷ later) ≡ Loaded journal → (fault : Option Refusal) → fault_of (held before) c.1 ≡ fault → AreReached [] journal
   first_leads before c later journal has reached rest is None right =
-      rest (one_more before c has right reached) (sym (taken (held before) c later right) ∙ is)
+      rest (one_more before c has right reached) (sym (taken before c later right) ∙ is)
   first_leads before c later journal has reached rest is (Some r) wrong =
-      let bad : BadLine c.0 ≡ Loaded journal = sym (refused (held before) c later (ap is_none wrong)) ∙ is in absurd (cc bad)
+      let bad : BadLine c.0 ≡ Loaded journal = sym (refused before c later (ap is_none wrong)) ∙ is in absurd (cc bad)
 
   replayed_is_reached : (before : List Accepted) (commands : List (ℕ × CommandTree)) (journal : List Accepted) → HaveLines commands →
       AreReached [] before → replayed before commands ≡ Loaded journal → AreReached [] journal

@@ -2,7 +2,7 @@
 use Rattle.std.proofs.Common.{◌≡◌, ℕ, ◌+◌, ◌≤◌, Bool, true, false, not, ◌&&◌, Option, None, Some, List, [], ◌∷◌, ◌++◌, length, refl, ap, ◌∙◌, arith, if◌then◌else◌}
 use Rattle.std.specs.Prelude.{nat_le, is_none, is_some, unwrap_or}
 use Rattle.std.specs.List.{AllByRecursion}
-use Rattle.std.proofs.lemmas.Bool.{and_from, and_parts}
+use Rattle.std.proofs.lemmas.Bool.{and_parts}
 use Rattle.std.proofs.lemmas.Bool.Decides.{nat_tests}
 use Rattle.std.proofs.lemmas.List.{length-append}
 use Rattle.std.proofs.lemmas.List.Sums.{sum_by_push}
@@ -19,7 +19,7 @@ use Rattle.command_text.specs.Tree
 use Rattle.command_text.specs.Tree.{CommandTree}
 use Rattle.line_meaning.specs.declared.role.Role.{Role}
 use Rattle.line_meaning.specs.Fault.{is_gap, is_present, journal_refusal, passes_limits}
-use Rattle.line_meaning.specs.Import.{entry_lines, is_taken, journal_after_rows, lines_of_rows, row_command, with_entry}
+use Rattle.line_meaning.specs.Import.{MayBeLoaded, entry_lines, is_taken, journal_after_rows, lines_of_rows, row_command, with_entry}
 use Rattle.line_meaning.specs.Journal.{world}
 use Rattle.line_meaning.specs.Looks.{is_query, looks_of_rows, most_looks}
 use Rattle.line_meaning.specs.QueryFault.{command_fault}
@@ -28,7 +28,7 @@ use Rattle.line_meaning.specs.Role.{is_on_queries, role_of}
 use Rattle.line_meaning.specs.Step.{fault_of, held}
 use Rattle.session.specs.Carried.{lines_by}
 use Rattle.session.specs.Followed.{writes_object}
-use Rattle.session.specs.Rows.{IsRowCommand, journal_after_commands, lines_of_commands, looks_of_commands, row_commands}
+use Rattle.session.specs.Rows.{IsImportedRow, IsRowCommand, journal_after_commands, lines_of_commands, looks_of_commands, row_commands}
 use Rattle.line_meaning.proofs.RoleLemmas.{kept_is_keeping}
 use Rattle.session.proofs.FaultLemmas.{accepted, kept_fault}
 
@@ -59,10 +59,6 @@ write_probes (Tree.Update name place sets) probes probes' write plain = absurd (
 write_probes (Tree.Remove name) probes probes' write plain = absurd (cc plain)
 write_probes c probes probes' write plain = absurd (cc write)
 
-and_false : (b : Bool) → (b && false) ≡ false
-and_false true = refl
-and_false false = refl
-
 not_none : (first : Option Refusal) (r : Refusal) → is_none (or_else first (Some r)) ≡ false
 not_none None r = refl
 not_none (Some q) r = refl
@@ -80,52 +76,40 @@ module _ (journal : List Accepted) (c : CommandTree) (write : writes_object c �
   bytes_more = ap bytes_of entry_more ∙ sum_by_push line_bytes journal (clock journal, c)
 
   pub refused_untaken : (r : Refusal) → fault_of (held journal) c ≡ Some r → is_taken journal c ≡ false
-  refused_untaken r is = ap (λ (f : Option Refusal). is_none f && may_be_loaded c) is
-
-  long_untaken : nat_le (length (text_of c)) SESSION_LINE_LIMIT ≡ false → is_taken journal c ≡ false
-  long_untaken long =
-      ap (λ n. is_none (fault_of (held journal) c) && (is_kept c && n)) long
-      ∙ ap (λ b. is_none (fault_of (held journal) c) && b) (and_false (is_kept c))
-      ∙ and_false (is_none (fault_of (held journal) c))
+  refused_untaken r is = ap is_none is
 
   full_untaken : passes_limits (length journal) (bytes_of journal) (length (text_of c)) ≡ true → is_taken journal c ≡ false
   full_untaken full =
       let late : journal_refusal (length journal) (bytes_of journal) c ≡ Some refusals.JournalFull =
       ap (λ k. first_that_holds ((refusals.JournalFull, k && passes_limits (length journal) (bytes_of journal) (length (text_of c))) ∷ [])) (write_kept c write)
       ∙ ap (λ f. first_that_holds ((refusals.JournalFull, f) ∷ [])) full in
-      ap (λ b. b && may_be_loaded c)
-      (ap is_none (kept_fault journal c (write_built c write) (write_kept c write)
-      ∙ ap (λ (o : Option Refusal). or_else (command_fault (known journal) c) o) late) ∙ not_none (command_fault (known journal) c) refusals.JournalFull)
+      ap is_none (kept_fault journal c (write_built c write) (write_kept c write)
+      ∙ ap (λ (o : Option Refusal). or_else (command_fault (known journal) c) o) late) ∙ not_none (command_fault (known journal) c) refusals.JournalFull
 
-  untaken_by : (short full : Bool) → nat_le (length (text_of c)) SESSION_LINE_LIMIT ≡ short →
-      passes_limits (length journal) (bytes_of journal) (length (text_of c)) ≡ full → (short && not full) ≡ false → is_taken journal c ≡ false
-  untaken_by false full is over none = long_untaken is
-  untaken_by true true is over none = full_untaken over
-  untaken_by true false is over none = absurd (cc none)
-
-  pub no_room : (nat_le (length (text_of c)) SESSION_LINE_LIMIT && not (passes_limits (length journal) (bytes_of journal) (length (text_of c)))) ≡ false →
+  untaken_by : (full : Bool) → passes_limits (length journal) (bytes_of journal) (length (text_of c)) ≡ full → not full ≡ false →
       is_taken journal c ≡ false
-  no_room none = untaken_by _ _ refl refl none
+  untaken_by true over none = full_untaken over
+  untaken_by false over none = absurd (cc none)
 
-  pub taken_by : nat_le (length (text_of c)) SESSION_LINE_LIMIT ≡ true → passes_limits (length journal) (bytes_of journal) (length (text_of c)) ≡ false →
-      command_fault (known journal) c ≡ None → is_taken journal c ≡ true
-  taken_by short room right =
-      and_from (is_none (fault_of (held journal) c)) (may_be_loaded c)
-      (ap is_none (accepted journal c (write_built c write) (write_kept c write) right room))
-      (and_from (is_kept c) (nat_le (length (text_of c)) SESSION_LINE_LIMIT) (write_kept c write) short)
+  pub no_room : not (passes_limits (length journal) (bytes_of journal) (length (text_of c))) ≡ false → is_taken journal c ≡ false
+  no_room none = untaken_by _ refl none
 
--- what is taken has no fault, and a short line
+  pub taken_by : passes_limits (length journal) (bytes_of journal) (length (text_of c)) ≡ false → command_fault (known journal) c ≡ None →
+      is_taken journal c ≡ true
+  taken_by room right = ap is_none (accepted journal c (write_built c write) (write_kept c write) right room)
+
+-- what is taken has no fault
 none_is : (f : Option Refusal) → is_none f ≡ true → f ≡ None
 none_is None is = refl
 none_is (Some r) is = absurd (cc is)
 
 pub taken_right : (journal : List Accepted) (c : CommandTree) → is_taken journal c ≡ true → fault_of (held journal) c ≡ None
-taken_right journal c taken = none_is (fault_of (held journal) c) (and_parts (is_none (fault_of (held journal) c)) (may_be_loaded c) taken).0
+taken_right journal c taken = none_is (fault_of (held journal) c) taken
 
-pub taken_short : (journal : List Accepted) (c : CommandTree) → is_taken journal c ≡ true → length (text_of c) ≤ SESSION_LINE_LIMIT
-taken_short journal c taken =
-    let short = (and_parts (is_kept c) (nat_le (length (text_of c)) SESSION_LINE_LIMIT)
-    (and_parts (is_none (fault_of (held journal) c)) (may_be_loaded c) taken).1).1 in
+-- a row's command has a short line
+pub row_short : (c : CommandTree) → may_be_loaded c ≡ true → length (text_of c) ≤ SESSION_LINE_LIMIT
+row_short c may =
+    let short = (and_parts (is_kept c) (nat_le (length (text_of c)) SESSION_LINE_LIMIT) may).1 in
     grind (arith, nat_tests, short)
 
 -- its lines are those of its entry
@@ -219,10 +203,15 @@ row_writes : (class : List ℕ) (present : Bool) (row : ObjectRow) → writes_ob
 row_writes class true row = refl
 row_writes class false row = refl
 
-pub row_is : (class : List ℕ) (present : Bool) (row : ObjectRow) → IsRow class row → IsRowCommand (command_of class present row)
-row_is class present row is = (is present, row_writes class present row)
+pub imported_rows : (class : List ℕ) (rows : List ObjectRow) → AllByRecursion (IsRow class) rows → AllByRecursion (MayBeLoaded class) rows →
+    AllByRecursion (IsImportedRow class) rows
+imported_rows class [] printable may = tt
+imported_rows class (row ∷ rows) printable may = ((printable.0, may.0), imported_rows class rows printable.1 may.1)
 
-pub rows_are : (class : List ℕ) (journal : List Accepted) (rows : List ObjectRow) → AllByRecursion (IsRow class) rows →
+pub row_is : (class : List ℕ) (present : Bool) (row : ObjectRow) → IsImportedRow class row → IsRowCommand (command_of class present row)
+row_is class present row is = (is.0 present, row_writes class present row, is.1 present)
+
+pub rows_are : (class : List ℕ) (journal : List Accepted) (rows : List ObjectRow) → AllByRecursion (IsImportedRow class) rows →
     AllByRecursion IsRowCommand (row_commands class journal rows)
 rows_are class journal [] all = tt
 rows_are class journal (row ∷ rows) all =

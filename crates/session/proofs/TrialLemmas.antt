@@ -1,12 +1,10 @@
 -- What is tried of rows, and how it is taken back.
-use Rattle.std.proofs.Common.{◌≡◌, ℕ, ◌+◌, ◌≤◌, Bool, true, false, not, ◌&&◌, Option, None, Some, List, [], ◌∷◌, ◌++◌, length, map, refl, sym, ap, ◌∙◌, subst, arith, append-nil, if◌then◌else◌}
-use Rattle.std.specs.Prelude.{nat_le, is_some, Result, Ok, Err, IfOk, IfSome, OnErr}
-use Rattle.std.proofs.lemmas.Bool.{and_parts}
+use Rattle.std.proofs.Common.{◌≡◌, ℕ, ◌+◌, ◌≤◌, Bool, true, false, not, Option, None, Some, List, [], ◌∷◌, ◌++◌, length, map, refl, sym, ap, ◌∙◌, subst, arith, append-nil, if◌then◌else◌}
+use Rattle.std.specs.Prelude.{is_some, Result, Ok, Err, IfOk, IfSome, OnErr}
 use Rattle.std.proofs.lemmas.List.{append_assoc, length-append, map-append}
 use Rattle.object_rows.specs.declared.rows.ObjectRow.{ObjectRow}
 use Rattle.std.specs.List.{AllByRecursion}
-use Rattle.object_rows.specs.Commands.{IsRow, command_of}
-use Rattle.session_file.specs.declared.kept.TheConstants.{SESSION_LINE_LIMIT}
+use Rattle.object_rows.specs.Commands.{command_of}
 use Rattle.command_text.specs.declared.command.Command.{Command}
 use Rattle.command_text.specs.declared.journal.TheConstants.{MOST_BYTES}
 use Rattle.command_text.specs.declared.refusal.Refusal.{Refusal}
@@ -25,7 +23,7 @@ use Rattle.database.specs.Taking.{IsLast, TakesBackChange, without}
 use Rattle.database.proofs.CallerLemmas.{fault_is_told}
 use Rattle.session.specs.declared.trying.Trial.{Trial}
 use Rattle.session.specs.Followed.{writes_object}
-use Rattle.session.specs.Rows.{IsRowCommand, row_commands}
+use Rattle.session.specs.Rows.{IsImportedRow, IsRowCommand, row_commands}
 use Rattle.session.specs.Trial.{Adds, AreTaken, HasSpare, IsAdded, IsNext, IsNotNext, IsSameTrial, IsStack, IsTold, IsTrial, IsTried, Steps, Tries, TriesCommand, bottom, journal_of, with_entries}
 use Rattle.session.proofs.FaultLemmas.{data_fault, refused}
 use Rattle.session.proofs.RowLemmas.{bytes_more, entries_more, entry_more, no_room, refused_untaken, row_is, taken_by, write_built, write_kept, write_plain}
@@ -68,22 +66,18 @@ module _ (journal : List Accepted) (c : CommandTree) (old : Database) (write : w
   told f is = data_fault (known journal) c (write_plain c write) ∙ sym (fault_is_told journal old c keeps) ∙ is
 
   module _ (entries bytes : ℕ) (line : List ℕ) (entries-are : length journal ≡ entries) (bytes-are : bytes_of journal ≡ bytes) (line-is : line ≡ text_of c) where
-    room : (b : Bool) → (nat_le (length line) SESSION_LINE_LIMIT && not (passes_limits entries bytes (length line))) ≡ b →
-        (nat_le (length (text_of c)) SESSION_LINE_LIMIT && not (passes_limits (length journal) (bytes_of journal) (length (text_of c)))) ≡ b
+    room : (b : Bool) → not (passes_limits entries bytes (length line)) ≡ b →
+        not (passes_limits (length journal) (bytes_of journal) (length (text_of c))) ≡ b
     room b is =
         let its = sym line-is in
-        (λ i. nat_le (length (its i)) SESSION_LINE_LIMIT && not (passes_limits (entries-are i) (bytes-are i) (length (its i)))) ∙ is
+        (λ i. not (passes_limits (entries-are i) (bytes-are i) (length (its i)))) ∙ is
 
-    pub tried_without_room : (new : Database) → (nat_le (length line) SESSION_LINE_LIMIT && not (passes_limits entries bytes (length line))) ≡ false →
-        new ≡ old → Tries journal c old new None
+    pub tried_without_room : (new : Database) → not (passes_limits entries bytes (length line)) ≡ false → new ≡ old → Tries journal c old new None
     tried_without_room new none same = (no_room journal c write (room false none), same)
 
-    pub tried : (new : Database) (change : Change) → (nat_le (length line) SESSION_LINE_LIMIT && not (passes_limits entries bytes (length line))) ≡ true →
+    pub tried : (new : Database) (change : Change) → not (passes_limits entries bytes (length line)) ≡ true →
         Carries c old new change → Tries journal c old new (Some change)
-    tried new change is carries =
-        let both = and_parts (nat_le (length (text_of c)) SESSION_LINE_LIMIT) (not (passes_limits (length journal) (bytes_of journal) (length (text_of c))))
-        (room true is) in
-        (taken_by journal c write both.0 (not_true _ both.1) (told None carries.accepted), carries)
+    tried new change is carries = (taken_by journal c write (not_true _ (room true is)) (told None carries.accepted), carries)
       where
         not_true : (b : Bool) → not b ≡ true → b ≡ false
         not_true true h = absurd (cc h)
@@ -275,7 +269,7 @@ same_told start d t mid same told-is =
 -- ---- one row of the loop over them
 
 module _ (class : List ℕ) (start : List Accepted) (rows : List ObjectRow) (row : ObjectRow) (rest left : List ObjectRow) (left-is : left ≡ row ∷ rest)
-    (t mid more : Trial) (d d' : Database) (told-is : IsTold start d t) (each : AllByRecursion (IsRow class) left) (trial : IsTrial class start rows left t)
+    (t mid more : Trial) (d d' : Database) (told-is : IsTold start d t) (each : AllByRecursion (IsImportedRow class) left) (trial : IsTrial class start rows left t)
     (command : Command) (command-is : command_view command ≡ command_of class (is_present (world_of_database d).history row.name (clock_of d)) row) where
   its_command : command_view command ≡ row_command (journal_of start t) class row
   its_command = row_told start d t told-is class row (is_present (world_of_database d).history row.name (clock_of d)) (command_view command) refl command-is
@@ -283,13 +277,13 @@ module _ (class : List ℕ) (start : List Accepted) (rows : List ObjectRow) (row
   pub row_ready : IsRowCommand (command_view command)
   row_ready =
       subst IsRowCommand (sym command-is)
-      (row_is class (is_present (world_of_database d).history row.name (clock_of d)) row (subst (AllByRecursion (IsRow class)) left-is each).0)
+      (row_is class (is_present (world_of_database d).history row.name (clock_of d)) row (subst (AllByRecursion (IsImportedRow class)) left-is each).0)
 
   its_trial : IsTrial class start rows (row ∷ rest) t
   its_trial = subst (λ (xs : List ObjectRow). IsTrial class start rows xs t) left-is trial
 
-  pub rest_each : AllByRecursion (IsRow class) rest
-  rest_each = (subst (AllByRecursion (IsRow class)) left-is each).1
+  pub rest_each : AllByRecursion (IsImportedRow class) rest
+  rest_each = (subst (AllByRecursion (IsImportedRow class)) left-is each).1
 
   module _ {E : Type 0} (line : List ℕ) (bytes : ℕ) (bytes-are : bytes ≡ length line + 1) (tried-as : Result (Option Change) E) (result : Result Bool E)
       (tries : TriesCommand start (command_view command) d d' t mid line tried-as) (adds : Adds command bytes tried-as mid more result) where

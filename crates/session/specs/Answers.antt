@@ -10,7 +10,7 @@ use Rattle.command_text.specs.Refusals.{line_of}
 use Rattle.command_text.specs.Tree
 use Rattle.command_text.specs.Tree.{CommandTree}
 use Rattle.line_meaning.specs.declared.role.Role.{Role}
-use Rattle.line_meaning.specs.declared.role.Role.TheVariants.{Blank, Keeping, Telling, Filing, Ending}
+use Rattle.line_meaning.specs.declared.role.Role.TheVariants.{Blank, Keeping, Telling, Indexing, Filing, Ending}
 use Rattle.line_meaning.specs.Reply.{line_feed}
 use Rattle.line_meaning.specs.Import.{journal_after_rows}
 use Rattle.line_meaning.specs.Role.{asks_shelf, is_import, role_of}
@@ -26,6 +26,7 @@ next_by Blank = nexts.Silent
 next_by Ending = nexts.Quit
 next_by Keeping = nexts.Accepted
 next_by Telling = nexts.Accepted
+next_by Indexing = nexts.Accepted
 next_by Filing = nexts.Accepted
 
 abbrev pub next_of : CommandTree → Next
@@ -72,6 +73,7 @@ pub record HasFirstRows (b : Base) (class file : List ℕ) (new : Held) : Type 0
   pub later : List ObjectRow
   pub rows : rows_imported b class file ≡ Some (first ++ row ∷ later)
   pub entered : journal_after_rows class b.held.journal first ≡ Some new.journal
+  pub indexes : new.indexes ≡ b.held.indexes
 
 -- what want of memory leaves: all as before, but that an import may have entered some rows
 abbrev pub LeavesHeld : Base → CommandTree → Held → Type 0

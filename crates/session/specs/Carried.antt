@@ -1,5 +1,5 @@
 -- Carrying out a command that was read: what it has to be like, and what it does from one moment to the next.
-use Rattle.std.specs.Prelude.{◌≡◌, ◌≤◌, ◌+◌, ◌++◌, ℕ, Bool, true, false, List, [], length, vec_capacity, vec_len, None, Some, Vec, Result, Ok, Err, IfErr, IfOk, OnErr}
+use Rattle.std.specs.Prelude.{◌≡◌, ◌≤◌, ◌+◌, ◌++◌, ℕ, Bool, true, false, List, [], length, vec_capacity, vec_len, None, Some, Vec, Result, IfErr, IfOk, OnErr}
 use Rattle.std.specs.declared.alloc.Global.{Global}
 use Rattle.ftl_lexer.specs.declared.buffer.TheConstants.{LEXER_LIMIT}
 use Rattle.command_text.specs.declared.fault.CommandFault.{CommandFault}
@@ -12,7 +12,7 @@ use Rattle.command_text.specs.Text.{text_of}
 use Rattle.command_text.specs.Tree
 use Rattle.command_text.specs.Tree.{CommandTree}
 use Rattle.line_meaning.specs.declared.role.Role.{Role}
-use Rattle.line_meaning.specs.declared.role.Role.TheVariants.{Blank, Keeping, Telling, Filing, Ending}
+use Rattle.line_meaning.specs.declared.role.Role.TheVariants.{Blank, Keeping, Telling, Indexing, Filing, Ending}
 use Rattle.line_meaning.specs.Answering.{answer_lines, kept_lines, query_lines}
 use Rattle.line_meaning.specs.Fault.{is_gap}
 use Rattle.line_meaning.specs.Journal.{world}
@@ -21,7 +21,7 @@ use Rattle.line_meaning.specs.QueryFault.{command_fault}
 use Rattle.line_meaning.specs.Registry.{known}
 use Rattle.line_meaning.specs.Reply.{ok_line}
 use Rattle.line_meaning.specs.Role.{asks_shelf, is_on_queries, role_of}
-use Rattle.line_meaning.specs.Step.{Held, fault_of, held_after}
+use Rattle.line_meaning.specs.Step.{Held, all_after, fault_of, held_after}
 use Rattle.database.specs.Telling.{RefusesFreely, Tally, TakesAtMost, tally}
 use Rattle.session.specs.declared.next.Next.{Next}
 use Rattle.session.specs.declared.next.Next.TheVariants as nexts
@@ -74,6 +74,7 @@ moment holds said reads probes = record { holds = holds; tally = tally said read
 abbrev pub lines_by : Role → Held → CommandTree → List ℕ
 lines_by Blank h c = []
 lines_by Telling h c = answer_lines (world h.journal) (clock h.journal) c ++ query_lines (known h.journal) c
+lines_by Indexing h c = answer_lines (world h.journal) (clock h.journal) c
 lines_by Keeping h c = kept_lines (known h.journal) (known (held_after h c).journal) c
 lines_by Filing h c = []
 lines_by Ending h c = []
@@ -81,7 +82,7 @@ lines_by Ending h c = []
 -- it is accepted: what is held goes on, and its lines stand at the end
 pub record IsAccepted (c : CommandTree) (old new : Held) (before after : List ℕ) : Type 0 where
   pub accepted : fault_of old c ≡ None
-  pub goes_on : new ≡ held_after old c
+  pub goes_on : new ≡ all_after old c
   pub said : after ≡ before ++ lines_by (role_of c) old c
 
 -- Want of memory is told of no command that isn't built, and of none that what is held refuses, but that the attributes of

@@ -9,16 +9,16 @@ use Rattle.line_meaning.specs.Step.{Held, fault_of, held, held_after}
 use Rattle.session.specs.declared.loading.LoadFault.{LoadFault}
 use Rattle.session.specs.declared.loading.LoadFault.TheVariants as faults
 
--- the session of its commands, or the line of its first fault; want of memory tells nothing of the text
+-- the session of its commands, without an index, or the line of its first fault; want of memory tells nothing of the text
 abbrev pub Loads : List ℕ → Result Held LoadFault → Type 0
-Loads text (Ok h) = loading_of text ≡ Loaded h.journal
+Loads text (Ok h) = (loading_of text ≡ Loaded h.journal) × (h ≡ held h.journal)
 Loads text (Err (faults.BadLine number)) = loading_of text ≡ BadLine number
 Loads text (Err faults.NoMemory) = Unit {0}
 
 -- one of its commands is entered, or it is refused
 abbrev pub Takes : Held → CommandTree → Held → Bool → Type 0
-Takes old c new true = (fault_of old c ≡ None) × (new ≡ held_after old c)
-Takes old c new false = is_none (fault_of old c) ≡ false
+Takes old c new true = (fault_of (held old.journal) c ≡ None) × (new ≡ held_after old c)
+Takes old c new false = is_none (fault_of (held old.journal) c) ≡ false
 
 -- ---- How many looks that may take
 

@@ -1,10 +1,12 @@
 -- Commands of rows, one after another.
 use Rattle.std.specs.Prelude.{◌≡◌, ◌⊎◌, ℕ, ◌+◌, true, Option, None, Some, Result, Ok, Err, List, [], ◌∷◌, ◌++◌, if◌then◌else◌}
 use Rattle.object_rows.specs.declared.rows.ObjectRow.{ObjectRow}
+use Rattle.object_rows.specs.Commands.{IsRow}
+use Rattle.session_file.specs.Kept.{may_be_loaded}
 use Rattle.command_text.specs.Journal.{Accepted}
 use Rattle.command_text.specs.Shape.{IsPrintable}
 use Rattle.command_text.specs.Tree.{CommandTree}
-use Rattle.line_meaning.specs.Import.{entry_lines, is_taken, row_command, with_entry}
+use Rattle.line_meaning.specs.Import.{MayBeLoaded, entry_lines, is_taken, row_command, with_entry}
 use Rattle.line_meaning.specs.Looks.{most_looks}
 use Rattle.line_meaning.specs.Reply.{ok_line}
 use Rattle.line_meaning.specs.Step.{held}
@@ -16,9 +18,14 @@ row_commands class journal [] = []
 row_commands class journal (row ∷ rows) =
     let c = row_command journal class row in c ∷ row_commands class (with_entry journal c) rows
 
+-- the command of a row of a text, whether its object is there or not, is as if it had been read from a line that a session's
+-- text may have
+abbrev pub IsImportedRow : List ℕ → ObjectRow → Type 0
+IsImportedRow class row = IsRow class row × MayBeLoaded class row
+
 -- a command as rows have it
 abbrev pub IsRowCommand : CommandTree → Type 0
-IsRowCommand c = IsPrintable c × (writes_object c ≡ true)
+IsRowCommand c = IsPrintable c × (writes_object c ≡ true) × (may_be_loaded c ≡ true)
 
 -- the journal after commands, None where one of them isn't taken
 abbrev pub journal_after_commands : List Accepted → List CommandTree → Option (List Accepted)

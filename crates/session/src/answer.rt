@@ -1,14 +1,16 @@
 //! What is done with a command that was read.
-ghost use Rattle.std.specs.Prelude.{◌≡◌, ◌++◌, IfErr, IfOk, OnOk};
+ghost use Rattle.std.specs.Prelude.{◌≡◌, ◌++◌, false, IfErr, IfOk, OnOk};
 ghost use Rattle.command_text.specs.Tree.{command_view};
 ghost use Rattle.line_meaning.specs.Step.{held};
 ghost use Rattle.database.specs.Telling.{RefusesFreely, tally};
 ghost use Rattle.session.specs.Answers.{next_of};
 ghost use Rattle.session.specs.Carried.{Carried, Carries, HasRoom, HasRoomFor, IsStopped, IsTelling, IsToCarryOut, Spends, end_of, moment};
-ghost use Rattle.session.specs.State.{IsState};
+ghost use Rattle.line_meaning.specs.Role.{is_on_indexes};
+ghost use Rattle.session.specs.State.{holds, IsIndexed, IsState, KeepsIndexes};
 ghost use Rattle.session.specs.Told.{IsTold};
 
 use crate::entering::{end_reply, make_room};
+use crate::indexing::on_indexes;
 use crate::keeping::keep;
 use crate::next::Next;
 use crate::state::State;
@@ -76,10 +78,10 @@ fn tell<L: Ledger, M: Ledger>(
     Ok(())
 }
 
-/// Does what a command has to that was read and asks nothing of the shelf. After an error nothing has changed but that
-/// `out` begins with its old contents.
+/// Does what a command has to that isn't on indexes. After an error nothing has changed but that `out` begins with its old
+/// contents.
 #[inline(always)]
-fn perform<L: Ledger, M: Ledger>(
+fn perform_plain<L: Ledger, M: Ledger>(
     alloc: Global,
     state: &mut State,
     command: &Command,
@@ -89,7 +91,9 @@ fn perform<L: Ledger, M: Ledger>(
 ) -> Result<Next, CommandFault>
     requires state { IsState state.old.journal state.old }
     requires command { IsToCarryOut (command_view command.now) }
+    requires other { is_on_indexes (command_view command.now) ≡ false }
     ensures state { IsState state.new.journal state.new }
+    ensures indexes { KeepsIndexes state.old state.new }
     ensures carries { Carries (command_view command.now)
         (moment (held state.old.journal) out.old.items reads.old probes.old)
         (moment (held state.new.journal) out.new.items reads.new probes.new) result }
@@ -113,7 +117,39 @@ fn perform<L: Ledger, M: Ledger>(
             make_room(out)?;
             Ok(Next::Quit)
         }
+        Role::Indexing => unreachable!(),
         Role::Filing => unreachable!(),
+    }
+}
+
+/// Does what a command has to that was read and asks nothing of the shelf. After an error nothing has changed but that
+/// `out` begins with its old contents, and that indexes may have looked at objects.
+#[inline(always)]
+fn perform<L: Ledger, M: Ledger>(
+    alloc: Global,
+    state: &mut State,
+    command: &Command,
+    reads: &mut Steps<L>,
+    probes: &mut Steps<M>,
+    out: &mut Vec<u8>,
+) -> Result<Next, CommandFault>
+    requires state { IsState state.old.journal state.old }
+    requires indexed { IsIndexed state.old }
+    requires command { IsToCarryOut (command_view command.now) }
+    ensures state { IsState state.new.journal state.new }
+    ensures indexed { IsIndexed state.new }
+    ensures carries { Carries (command_view command.now)
+        (moment (holds state.old) out.old.items reads.old probes.old)
+        (moment (holds state.new) out.new.items reads.new probes.new) result }
+    ensures next { IfOk result (λ next. next ≡ next_of (command_view command.now)) }
+    ensures room { IfOk result (λ next. HasRoomFor next out.new) }
+{
+    match role_of(command) {
+        Role::Indexing => {
+            on_indexes(alloc, state, command, reads, out)?;
+            Ok(Next::Accepted)
+        }
+        _ => perform_plain(alloc, state, command, reads, probes, out),
     }
 }
 
@@ -129,11 +165,13 @@ pub(crate) fn carry_out<L: Ledger, M: Ledger>(
     out: &mut Vec<u8>,
 ) -> Result<Next, AllocError>
     requires state { IsState state.old.journal state.old }
+    requires indexed { IsIndexed state.old }
     requires command { IsToCarryOut (command_view command.now) }
     ensures state { IsState state.new.journal state.new }
+    ensures indexed { IsIndexed state.new }
     ensures carried { Carried (command_view command.now)
-        (moment (held state.old.journal) out.old.items reads.old probes.old)
-        (moment (held state.new.journal) out.new.items reads.new probes.new) result }
+        (moment (holds state.old) out.old.items reads.old probes.old)
+        (moment (holds state.new) out.new.items reads.new probes.new) result }
     ensures room { IfOk result (λ next. HasRoomFor next out.new) }
 {
     let before = out.len();

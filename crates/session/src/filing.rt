@@ -14,7 +14,7 @@ ghost use Rattle.session.specs.Answers.{HasCause, IsUnread};
 ghost use Rattle.session.specs.Carried.{moment};
 ghost use Rattle.session.specs.Filed.{IsAnswered, IsApplied, IsBySome, IsFiling, Puts, TakesSteps, said_after};
 ghost use Rattle.session.specs.Imported.{Imports, IsThere};
-ghost use Rattle.session.specs.State.{IsState};
+ghost use Rattle.session.specs.State.{IsState, KeepsIndexes};
 ghost use Rattle.session.specs.Trial.{AreImported};
 
 use crate::importing::enter_rows;
@@ -23,6 +23,7 @@ use crate::state::State;
 use crate::trying::commands_of;
 use command_text::{Command, CommandFault, Refusal};
 use fixed_point::Word;
+use line_meaning::imported_rows_may_be_loaded;
 use object_rows::commands_are_printable;
 use outside::{OutFail, Shelf};
 use reply_text::push_ok;
@@ -112,6 +113,7 @@ fn commands_in(
     requires state { IsState state.old.journal state.old }
     requires class { IsThere state.old.journal class.now }
     ensures state { IsState state.new.journal state.new }
+    ensures indexes { KeepsIndexes state.old state.new }
     ensures same { state.new.journal ≡ state.old.journal }
     ensures found { IfOk result (λ found. MatchOption found (journal_after_text state.old.journal class.now text.now ≡ None)
         (λ commands. AreImported class.now state.old.journal text.now commands.items)) }
@@ -120,6 +122,7 @@ fn commands_in(
         return Ok(None);
     };
     commands_are_printable();
+    imported_rows_may_be_loaded();
     commands_of(
         alloc,
         &state.journal,
@@ -143,6 +146,7 @@ fn import_text<L: Ledger, M: Ledger>(
     requires state { IsState state.old.journal state.old }
     requires class { IsThere state.old.journal class.now }
     ensures state { IsState state.new.journal state.new }
+    ensures indexes { KeepsIndexes state.old state.new }
     ensures imports { Imports class.now text.now state.old.journal state.new.journal out.old.items out.new.items result }
     ensures begins { Begins out.old.items out.new.items }
     ensures steps { TakesSteps reads.old reads.new probes.old probes.new result }
@@ -178,6 +182,7 @@ fn import<F: Shelf, L: Ledger, M: Ledger>(
     requires state { IsState state.old.journal state.old }
     requires name { IsShortName class.now }
     ensures state { IsState state.new.journal state.new }
+    ensures indexes { KeepsIndexes state.old state.new }
     ensures answered { IsAnswered (F.texts shelf.old) (F.texts shelf.new) (Tree.Import class.now file.now)
         (moment (held state.old.journal) out.old.items reads.old probes.old)
         (moment (held state.new.journal) (said_after result out.old.items out.new.items) reads.new probes.new) result }
@@ -211,6 +216,7 @@ fn carry_out<F: Shelf, L: Ledger, M: Ledger>(
     requires state { IsState state.old.journal state.old }
     requires filing { IsFiling (command_view command.now) }
     ensures state { IsState state.new.journal state.new }
+    ensures indexes { KeepsIndexes state.old state.new }
     ensures answered { IsAnswered (F.texts shelf.old) (F.texts shelf.new) (command_view command.now)
         (moment (held state.old.journal) out.old.items reads.old probes.old)
         (moment (held state.new.journal) (said_after result out.old.items out.new.items) reads.new probes.new) result }
@@ -244,6 +250,7 @@ pub(crate) fn file<F: Shelf, L: Ledger, M: Ledger>(
     requires state { IsState state.old.journal state.old }
     requires filing { IsFiling (command_view command.now) }
     ensures state { IsState state.new.journal state.new }
+    ensures indexes { KeepsIndexes state.old state.new }
     ensures answered { IsAnswered (F.texts shelf.old) (F.texts shelf.new) (command_view command.now)
         (moment (held state.old.journal) out.old.items reads.old probes.old)
         (moment (held state.new.journal) out.new.items reads.new probes.new) result }

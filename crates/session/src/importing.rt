@@ -7,7 +7,7 @@ ghost use Rattle.line_meaning.specs.Step.{held};
 ghost use Rattle.reply_text.specs.Begins.{Begins};
 ghost use Rattle.session.specs.Carried.{HasRoom, Spends, moment};
 ghost use Rattle.session.specs.Rows.{EntersCommands, IsRowCommand, journal_after_commands, looks_of_commands};
-ghost use Rattle.session.specs.State.{IsState};
+ghost use Rattle.session.specs.State.{IsState, KeepsIndexes};
 
 use crate::entering::{end_reply, make_room};
 use crate::keeping::keep;
@@ -31,6 +31,7 @@ fn enter_row<L: Ledger, M: Ledger>(
     requires row { IsRowCommand (command_view command.now) }
     requires taken { is_taken state.old.journal (command_view command.now) ≡ true }
     ensures state { IsState state.new.journal state.new }
+    ensures indexes { KeepsIndexes state.old state.new }
     ensures entered { OnOk result (state.new.journal ≡ with_entry state.old.journal (command_view command.now)) }
     ensures told { OnOk result (out.new.items ≡ out.old.items ++ entry_lines state.old.journal (command_view command.now)) }
     ensures err { OnErr result (state.new.journal ≡ state.old.journal) }
@@ -61,6 +62,7 @@ pub(crate) fn enter_rows<L: Ledger, M: Ledger>(
     requires rows { AllByRecursion IsRowCommand (map command_view commands.now) }
     requires taken { is_some (journal_after_commands state.old.journal (map command_view commands.now)) ≡ true }
     ensures state { IsState state.new.journal state.new }
+    ensures indexes { KeepsIndexes state.old state.new }
     ensures entered { EntersCommands (map command_view commands.now) state.old.journal state.new.journal out.old.items out.new.items result }
     ensures begins { Begins out.old.items out.new.items }
     ensures least { reads.old ≤ reads.new }

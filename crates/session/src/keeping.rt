@@ -19,7 +19,7 @@ ghost use Rattle.registry.specs.Standing.{StoodAt};
 ghost use Rattle.session.specs.Asked.{command_of};
 ghost use Rattle.session.specs.Carried.{Carries, HasRoom, IsAccepted, IsLegible, IsOnData, IsStopped, Spends, moment};
 ghost use Rattle.session.specs.Followed.{Follows, IsChanged, Prepares, Settles, lines_told, writes_object};
-ghost use Rattle.session.specs.State.{IsState};
+ghost use Rattle.session.specs.State.{IsState, KeepsIndexes};
 
 use crate::entering::{admit, enter};
 use crate::state::State;
@@ -53,6 +53,7 @@ pub(crate) fn keep<L: Ledger, M: Ledger>(
     requires kept { is_kept (command_view command.now) ≡ true }
     requires gap { is_gap (command_view command.now) ≡ false }
     ensures state { IsState state.new.journal state.new }
+    ensures indexes { KeepsIndexes state.old state.new }
     ensures carries { Carries (command_view command.now)
         (moment (held state.old.journal) out.old.items reads.old probes.old)
         (moment (held state.new.journal) out.new.items reads.new probes.new) result }
@@ -83,6 +84,7 @@ pub(crate) fn keep<L: Ledger, M: Ledger>(
 }
 
 /// Registers a query and enters its command.
+#[tactic(auto, using(crate::proofs::KeepLemmas::keeps_all))]
 fn add_query<L: Ledger, M: Ledger>(
     alloc: Global,
     state: &mut State,
@@ -96,6 +98,7 @@ fn add_query<L: Ledger, M: Ledger>(
     requires legible { IsLegible (command_view command.now) }
     requires is { command_view command.now ≡ command_of request.now }
     ensures state { IsState state.new.journal state.new }
+    ensures indexes { KeepsIndexes state.old state.new }
     ensures carries { Carries (command_view command.now)
         (moment (held state.old.journal) out.old.items reads.old probes.old)
         (moment (held state.new.journal) out.new.items reads.new probes.new) result }
@@ -124,6 +127,7 @@ fn add_query<L: Ledger, M: Ledger>(
 }
 
 /// Drops a registered query, once its command is entered.
+#[tactic(auto, using(crate::proofs::KeepLemmas::keeps_all))]
 fn drop_query(
     state: &mut State,
     command: &Command,
@@ -134,6 +138,7 @@ fn drop_query(
     requires legible { IsLegible (command_view command.now) }
     requires is { command_view command.now ≡ Tree.Drop name.now }
     ensures state { IsState state.new.journal state.new }
+    ensures indexes { KeepsIndexes state.old state.new }
     ensures accepted { IfOk result (λ _. IsAccepted (command_view command.now) (held state.old.journal) (held state.new.journal) out.old.items out.new.items) }
     ensures stopped { IfErr result (IsStopped (command_view command.now) (held state.old.journal) (held state.new.journal)) }
     ensures room { OnOk result (HasRoom out.new) }
@@ -149,6 +154,7 @@ fn drop_query(
 }
 
 /// Carries out a command that changes the database.
+#[tactic(auto, using(crate::proofs::KeepLemmas::keeps_all))]
 fn change<L: Ledger, M: Ledger>(
     alloc: Global,
     state: &mut State,
@@ -161,6 +167,7 @@ fn change<L: Ledger, M: Ledger>(
     requires legible { IsLegible (command_view command.now) }
     requires data { IsOnData (command_view command.now) }
     ensures state { IsState state.new.journal state.new }
+    ensures indexes { KeepsIndexes state.old state.new }
     ensures carries { Carries (command_view command.now)
         (moment (held state.old.journal) out.old.items reads.old probes.old)
         (moment (held state.new.journal) out.new.items reads.new probes.new) result }
@@ -171,6 +178,7 @@ fn change<L: Ledger, M: Ledger>(
     match follow(alloc, state, command, &change, before, reads, probes, out) {
         Ok(fresh) => {
             // The command is entered, so nothing takes its change back any more.
+            state.indexes.touch(&state.database, &change);
             drop(change);
             settle(&mut state.live, fresh, state.database.clock());
             queries_go_on_fitting_worlds();
@@ -224,6 +232,7 @@ fn follow<L: Ledger, M: Ledger>(
         (moment (held state.new.journal) out.new.items reads.new probes.new) }
     ensures free { RefusesFreely (tally out.old.items reads.old probes.old) (tally out.new.items reads.new probes.new) result }
     ensures room { OnOk result (HasRoom out.new) }
+    ensures indexes { state.new.indexes ≡ state.old.indexes }
 {
     admit(&state.journal, &mut state.line, command)?;
     let fresh = tell_change(alloc, state, command, change, before, reads, probes, out)?;

@@ -1,13 +1,14 @@
 //! One line of input, one step: the state of the database, and `apply`, which answers a line.
 //!
 //! A session is seen as what it holds: its journal, the commands that it has accepted. Beside the journal it
-//! keeps the database that the journal tells, and the rows of the registered queries.
+//! keeps the database that the journal tells, the rows of the registered queries, and the indexes.
 #![tactic(auto)]
 
 mod answer;
 mod entering;
 mod filing;
 mod importing;
+mod indexing;
 mod keeping;
 mod laws;
 mod loading;

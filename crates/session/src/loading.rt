@@ -5,6 +5,7 @@ ghost use Rattle.session_file.specs.Kept.{HasLine};
 ghost use Rattle.session_file.specs.Reading.{Explains, GivesNext, loaded_view, reading_of};
 ghost use Rattle.line_meaning.specs.Loading.{BadLine, replayed};
 ghost use Rattle.line_meaning.specs.Looks.{most_looks};
+ghost use Rattle.line_meaning.specs.Step.{held};
 ghost use Rattle.session.specs.Loads.{Loads, Takes, looks_of_loading};
 
 use crate::next::Next;
@@ -117,7 +118,7 @@ fn is_taken<L: Ledger, M: Ledger>(
     requires { HasLine (command_view command) }
     ensures takes { IfOk result (Takes session.old (command_view command) session.new) }
     ensures least { reads.old ≤ reads.new }
-    ensures most { reads.new ≤ reads.old + most_looks session.old (command_view command) }
+    ensures most { reads.new ≤ reads.old + most_looks (held session.old.journal) (command_view command) }
 {
     read_commands_are_printable();
     canonical_lines_are_read_back();

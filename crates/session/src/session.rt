@@ -10,7 +10,7 @@ ghost use Rattle.outside.specs.Shelf.{Texts};
 ghost use Rattle.session.specs.Carried.{Carried, HasRoomFor, IsLegible, moment};
 ghost use Rattle.session.specs.Filed.{IsAnswered, IsBySome};
 ghost use Rattle.session.specs.Replayed.{Replays};
-ghost use Rattle.session.specs.State.{IsState};
+ghost use Rattle.session.specs.State.{holds, IsIndexed, IsState};
 ghost use Rattle.session.specs.Answers.{Applies, HasCause, IsUnread, Suffices};
 ghost use Rattle.session.specs.Untold.{AppliesBySome};
 
@@ -28,7 +28,7 @@ use std::sync::ledger::Ledger;
 use steps::Steps;
 
 /// The state of the database, seen as what it holds of the lines before: its journal, the commands that it
-/// accepted, each with its tick, in order.
+/// accepted, each with its tick, in order; and its indexes.
 #[derive(Drop)]
 pub struct Session {
     alloc: Global,
@@ -43,17 +43,18 @@ impl Model for Session {
     ghost use Rattle.ftl_parser.specs.declared.tree.Atom.{Atom};
     ghost use Rattle.ftl_parser.specs.declared.tree.Term.{Term};
     ghost use Rattle.command_text.specs.Journal.{Accepted};
-    ghost use Rattle.line_meaning.specs.Step.{Held, held};
-    ghost use Rattle.session.specs.State.{IsState};
+    ghost use Rattle.line_meaning.specs.Indexed.{IndexEntry};
+    ghost use Rattle.line_meaning.specs.Step.{Held};
+    ghost use Rattle.session.specs.State.{holds, IsIndexed, IsState};
 
     ghost Value = { Held };
 
-    ghost coded = { code_by (List Accepted) (Prim.hlevel (codes, shape_code {A = Atom} {B = List ℕ × Term} (Prim.hlevel codes)))
-        (λ h. h.journal) (λ j. held j) (λ _. refl) };
+    ghost coded = { code_by (List Accepted × List IndexEntry) (Prim.hlevel (codes, shape_code {A = Atom} {B = List ℕ × Term} (Prim.hlevel codes)))
+        (λ h. (h.journal, h.indexes)) (λ p. record { journal = p.0; indexes = p.1 }) (λ _. refl) };
 
-    ghost view = { λ a. held a.state.journal };
+    ghost view = { λ a. holds a.state };
 
-    ghost invariant = { λ a. IsState a.state.journal a.state };
+    ghost invariant = { λ a. IsState a.state.journal a.state × IsIndexed a.state };
 }
 
 impl Session {
@@ -87,7 +88,7 @@ impl Session {
     /// nothing. `ShelfFault` comes only where the shelf counted a fault, of a `save`, an `export` or an `import`
     /// that nothing refuses but its text: the text under the name that was to be written is unknown then, and
     /// all else as it was. Want of memory changes nothing, but that an `import` may have entered the first of
-    /// its rows. No other command calls the shelf. Steps of `reads` are taken at most as many as the bound of
+    /// its rows, and a `range` may have looked at stale objects, which are stale no more then. No other command calls the shelf. Steps of `reads` are taken at most as many as the bound of
     /// the line's command by the numbers of entries, of objects and of ticks; a refused line takes none, and
     /// none of `probes`.
     pub fn apply<F: Shelf, L: Ledger, M: Ledger>(
@@ -158,7 +159,7 @@ impl Session {
         requires legible { IsLegible (command_view command) }
         ensures replayed { Replays self.old (command_view command) self.new result }
         ensures least { reads.old ≤ reads.new }
-        ensures most { reads.new ≤ reads.old + most_looks self.old (command_view command) }
+        ensures most { reads.new ≤ reads.old + most_looks (held self.old.journal) (command_view command) }
         ensures unread { IfOk result (λ next. IsUnread next reads.old reads.new) }
         ensures unprobed { IfOk result (λ next. IsUnread next probes.old probes.new) }
     {
@@ -181,14 +182,16 @@ fn apply_command<F: Shelf, L: Ledger, M: Ledger>(
     out: &mut Vec<u8>,
 ) -> Result<Next, ApplyFault>
     requires state { IsState state.old.journal state.old }
+    requires indexed { IsIndexed state.old }
     requires legible { IsLegible (command_view command.now) }
     ensures state { IsState state.new.journal state.new }
+    ensures indexed { IsIndexed state.new }
     ensures answered { IsAnswered (F.texts shelf.old) (F.texts shelf.new) (command_view command.now)
-        (moment (held state.old.journal) out.old.items reads.old probes.old)
-        (moment (held state.new.journal) out.new.items reads.new probes.new) result }
+        (moment (holds state.old) out.old.items reads.old probes.old)
+        (moment (holds state.new) out.new.items reads.new probes.new) result }
     ensures some { is_import (command_view command.now) ≡ true → IsBySome (F.texts shelf.old) (command_view command.now)
-        (moment (held state.old.journal) out.old.items reads.old probes.old)
-        (moment (held state.new.journal) out.new.items reads.new probes.new) result }
+        (moment (holds state.old) out.old.items reads.old probes.old)
+        (moment (holds state.new) out.new.items reads.new probes.new) result }
     ensures cause { HasCause (F.faults shelf.old) (F.faults shelf.new) result }
     ensures untouched { asks_shelf (command_view command.now) ≡ false → shelf.new ≡ shelf.old }
 {

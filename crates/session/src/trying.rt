@@ -1,16 +1,16 @@
 //! The rows of an import, tried one after another and taken back, so that they are judged before any is entered.
-ghost use Rattle.std.specs.Prelude.{◌≡◌, ◌+◌, ◌≤◌, ◌&&◌, not, nat_le, true, false, [], length, None, ◌++◌, ◌∷◌, IfOk, IfSome, OnErr, OnOk, MatchOption};
+ghost use Rattle.std.specs.Prelude.{◌≡◌, ◌+◌, ◌≤◌, not, true, false, [], length, None, ◌++◌, ◌∷◌, IfOk, IfSome, OnErr, OnOk, MatchOption};
 ghost use Rattle.std.specs.List.{AllByRecursion};
 ghost use Rattle.command_text.specs.declared.journal.TheConstants.{MOST_BYTES};
 ghost use Rattle.command_text.specs.Journal.{bytes_of};
 ghost use Rattle.command_text.specs.Text.{text_of};
 ghost use Rattle.command_text.specs.Tree.{command_view};
-ghost use Rattle.object_rows.specs.Commands.{IsRow, command_of};
+ghost use Rattle.object_rows.specs.Commands.{command_of};
 ghost use Rattle.session_file.specs.declared.kept.TheConstants.{SESSION_LINE_LIMIT};
 ghost use Rattle.line_meaning.specs.Fault.{is_present, passes_limits};
 ghost use Rattle.line_meaning.specs.Import.{journal_after_rows};
 ghost use Rattle.database.specs.Keeping.{IsTimely, Keeps, clock_of, world_of_database};
-ghost use Rattle.session.specs.Rows.{IsRowCommand};
+ghost use Rattle.session.specs.Rows.{IsImportedRow, IsRowCommand};
 ghost use Rattle.session.specs.Trial.{Adds, AreTaken, HasSpare, IsSameTrial, IsStack, IsTold, Tries, TriesCommand, bottom, journal_of};
 
 use crate::entering::passes;
@@ -18,7 +18,6 @@ use command_text::{Command, CommandFault, Journal, MOST_BYTES, MOST_ENTRIES, pri
 use database::{Change, Database};
 use fixed_point::Word;
 use object_rows::ObjectRow;
-use session_file::SESSION_LINE_LIMIT;
 use std::alloc::{AllocError, Global};
 
 /// What was tried of some rows.
@@ -96,16 +95,14 @@ impl Trial {
     }
 }
 
-/// Whether a journal with the commands of a trial has room for one more entry of a canonical line, and a session's
-/// text may have the line.
+/// Whether a journal with the commands of a trial has room for one more entry of a canonical line.
 fn has_room(journal: &Journal, trial: &Trial, line: &[u8]) -> bool
-    requires { trial.now.bytes ≤ MOST_BYTES }
-    ensures { result ≡ (nat_le (length line.now) SESSION_LINE_LIMIT
-        && not (passes_limits (length journal.now + length trial.now.commands.items) trial.now.bytes (length line.now))) }
+    requires bytes { trial.now.bytes ≤ MOST_BYTES }
+    requires line { length line.now ≤ SESSION_LINE_LIMIT }
+    ensures { result ≡ not (passes_limits (length journal.now + length trial.now.commands.items) trial.now.bytes (length line.now)) }
 {
     let entries = journal.len() + trial.commands.len();
-    line.len() <= SESSION_LINE_LIMIT
-        && !passes(entries, trial.bytes, line.len(), MOST_ENTRIES, MOST_BYTES)
+    !passes(entries, trial.bytes, line.len(), MOST_ENTRIES, MOST_BYTES)
 }
 
 /// Carries out a command of a row, unless something refuses it, and prints its canonical line. Want of memory changes
@@ -172,7 +169,7 @@ fn try_rows(
     class: Word,
     rows: Vec<ObjectRow>,
 ) -> Result<bool, AllocError>
-    requires rows { AllByRecursion (IsRow class) rows.items }
+    requires rows { AllByRecursion (IsImportedRow class) rows.items }
     requires told { IsTold journal.now database.old trial.old }
     requires commands { trial.old.commands.items ≡ [] }
     requires changes { trial.old.changes.items ≡ [] }
@@ -212,7 +209,7 @@ pub(crate) fn commands_of(
     class: Word,
     rows: Vec<ObjectRow>,
 ) -> Result<Option<Vec<Command>>, AllocError>
-    requires rows { AllByRecursion (IsRow class) rows.items }
+    requires rows { AllByRecursion (IsImportedRow class) rows.items }
     requires keeps { Keeps journal.now database.old }
     ensures commands { IfOk result (λ found. MatchOption found (journal_after_rows class journal.now rows.items ≡ None)
         (λ commands. AreTaken class journal.now rows.items commands.items)) }

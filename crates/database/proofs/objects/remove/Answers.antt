@@ -1,18 +1,25 @@
 use Rattle.std.proofs.Common.{refl, ap}
 use Rattle.std.specs.Prelude.{is_some, option_and_then}
-use Rattle.object_store.specs.Contents.{catalog_of, state_of}
+use Rattle.object_store.specs.Contents.{Contents, catalog_of, state_of}
+use Rattle.object_store.specs.Effects.{after_remove}
 use Rattle.object_store.specs.Faults.{remove_fault}
 use Rattle.database.specs.declared.database.Database.{Database}
 use Rattle.history.specs.Write.{Remove}
 use Rattle.command_text.specs.Tree
 use Rattle.line_meaning.specs.Fault.{refusal_by_store}
 use Rattle.database.proofs.AttemptLemmas.{store_carries, store_stopped}
+use Rattle.database.proofs.WrittenLemmas.{remove_writes, written_by}
 use Rattle.database.proofs.objects.remove.Goals as goal
 
 pub returns-in-Ok : goal.returns-in-Ok
 returns-in-Ok c =
     store_carries (Tree.Remove c.args.name.now) (Remove c.args.database.now.clock c.args.name.now) c.args.database.now c.remove.new.self c.in-Ok.done
     refl refl refl (ap (option_and_then refusal_by_store) c.in-Ok.ensures.accepted) c.requires.timely.in_range c.in-Ok.ensures.last c.in-Ok.ensures.stands c.in-Ok.ensures.undo c.in-Ok.ensures.changes c.in-Ok.ensures.id
+    (written_by c.args.name.now c.args.database.now.clock c.in-Ok.done.id c.args.database.now.store.objects c.remove.new.self.objects
+    (after_remove c.args.database.now.store c.args.database.now.clock c.args.name.now).objects
+    (remove_writes c.args.database.now.store c.args.database.now.clock c.args.name.now c.in-Ok.done.id)
+    (ap (λ (s : Contents). s.objects) c.in-Ok.ensures.ok) c.in-Ok.ensures.id)
+    refl
 
 pub returns-in-Err : goal.returns-in-Err
 returns-in-Err c =

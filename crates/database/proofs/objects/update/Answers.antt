@@ -1,18 +1,25 @@
 use Rattle.std.proofs.Common.{refl, ap}
 use Rattle.std.specs.Prelude.{is_some, option_and_then}
-use Rattle.object_store.specs.Contents.{catalog_of, state_of}
+use Rattle.object_store.specs.Contents.{Contents, catalog_of, state_of}
+use Rattle.object_store.specs.Effects.{after_update}
 use Rattle.object_store.specs.Faults.{update_fault}
 use Rattle.database.specs.declared.database.Database.{Database}
 use Rattle.history.specs.Write.{Update}
 use Rattle.command_text.specs.Tree
 use Rattle.line_meaning.specs.Fault.{refusal_by_store}
 use Rattle.database.proofs.AttemptLemmas.{store_carries, store_stopped}
+use Rattle.database.proofs.WrittenLemmas.{update_writes, written_by}
 use Rattle.database.proofs.objects.update.Goals as goal
 
 pub returns-in-Ok : goal.returns-in-Ok
 returns-in-Ok c =
     store_carries (Tree.Update c.args.name.now c.args.place.now c.args.sets.now) (Update c.args.database.now.clock c.args.name.now c.args.place.now c.args.sets.now) c.args.database.now c.update.new.self c.in-Ok.done
     refl refl refl (ap (option_and_then refusal_by_store) c.in-Ok.ensures.accepted) c.requires.timely.in_range c.in-Ok.ensures.last c.in-Ok.ensures.stands c.in-Ok.ensures.undo c.in-Ok.ensures.changes c.in-Ok.ensures.id
+    (written_by c.args.name.now c.args.database.now.clock c.in-Ok.done.id c.args.database.now.store.objects c.update.new.self.objects
+    (after_update c.args.database.now.store c.args.database.now.clock c.args.name.now c.args.place.now c.args.sets.now).objects
+    (update_writes c.args.database.now.store c.args.database.now.clock c.args.name.now c.args.place.now c.args.sets.now c.in-Ok.done.id)
+    (ap (λ (s : Contents). s.objects) c.in-Ok.ensures.ok) c.in-Ok.ensures.id)
+    refl
 
 pub returns-in-Err : goal.returns-in-Err
 returns-in-Err c =

@@ -17,6 +17,6 @@ returns c = record {
   unknown_and_absent = refl;
   out_of_range_and_taken = refl;
   twice_and_present = refl;
-  not_built = refl;
+  of_no_class = refl;
   accepted = refl;
 }

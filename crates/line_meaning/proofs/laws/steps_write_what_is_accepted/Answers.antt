@@ -13,4 +13,4 @@ returns-clause-command c = command_is_reached
 
 pub returns-clause-step : goal.returns-clause-step
 returns-clause-step c =
-    step_is_reached c.commands_are_printable.ensures c.read_commands_are_printable.ensures c.canonical_lines_are_short.ensures.limit
+    step_is_reached c.commands_are_printable.ensures c.row_lines_are_short.ensures c.read_commands_are_printable.ensures c.canonical_lines_are_short.ensures.limit

@@ -4,13 +4,14 @@ use Rattle.std.specs.List.{AllByRecursion}
 use Rattle.command_text.specs.Tree.{command_view}
 use Rattle.session.specs.Carried.{HasRoom}
 use Rattle.session.specs.Rows.{AreEntered, AreWritten, IsRowCommand, journal_after_commands, looks_of_commands}
-use Rattle.session.specs.State.{IsState}
+use Rattle.session.specs.State.{IsState, KeepsIndexes}
 use Rattle.session.proofs.importing.enter_rows.Given as goal
 
 -- the commands so far are entered and their lines written, and nothing refuses the rest after them
 abbrev pub invariant-rows : goal.invariant-rows
 invariant-rows g l = record {
   state : IsState l.state.journal l.state;
+  indexes : KeepsIndexes l.fn.state l.state;
   rows : AllByRecursion IsRowCommand (map command_view l.rest);
   taken : is_some (journal_after_commands l.state.journal (map command_view l.rest)) ≡ true;
   entered : AreEntered l.fn.state.journal (map command_view l.commands) l.state.journal (map command_view l.rest);

@@ -1,4 +1,4 @@
-use Rattle.std.proofs.Common.{◌≡◌, true, [], ◌∷◌, ◌++◌, refl, sym, ◌∙◌, subst, arith}
+use Rattle.std.proofs.Common.{◌≡◌, true, [], ◌∷◌, ◌++◌, refl, sym, ap, ◌∙◌, subst, arith}
 use Rattle.std.proofs.lemmas.Result.{err_from_is_err_and}
 use Rattle.command_text.specs.declared.fault.CommandFault.TheVariants as stops
 use Rattle.command_text.specs.Journal.{spelled}
@@ -6,6 +6,8 @@ use Rattle.command_text.specs.Shape.{IsPrintable}
 use Rattle.command_text.specs.Tree.{command_view}
 use Rattle.reply_text.specs.Begins.{Begins}
 use Rattle.session.proofs.CarriedLemmas.{stopped_at_once}
+use Rattle.database.specs.Written.{writes_object}
+use Rattle.session.proofs.KeepLemmas.{keeps_line, request_writes}
 use Rattle.session.proofs.KnownLemmas.{accepted_told, same_state}
 use Rattle.session.proofs.QueryLemmas.{asked_again, asked_done, asked_full, asked_lacks, asked_looks, asked_plain, asked_state, asked_stopped, request_ready}
 use Rattle.session.proofs.keeping.add_query.Goals as goal
@@ -118,3 +120,10 @@ returns-in-Err-clause-carries g c = record {
   };
   free = record { unread = λ no. absurd no; unprobed = λ no. absurd no };
 }
+
+pub returns-in-Ok-clause-indexes : goal.returns-in-Ok-clause-indexes
+returns-in-Ok-clause-indexes g c =
+    keeps_line c.args.state.now _ c.clock-now.result c.admit.new.line.items (command_view c.args.command.now)
+    (ap writes_object c.requires.is ∙ request_writes c.args.request.now) (ap spelled c.in_ok-admit.ensures.0 ∙ c.requires.legible.canonical)
+    (subst (λ line. c.enter.new.journal ≡ c.args.state.now.journal ++ (c.clock-now.result, spelled line) ∷ []) c.deref.ensures.value
+    c.in-Ok.ensures.entered) refl refl

@@ -7,6 +7,7 @@ use Rattle.live_queries.specs.Prepared.{IsPrepared}
 use Rattle.session.specs.Followed.{Settles, lines_told}
 use Rattle.session.proofs.CarriedLemmas.{stopped_at_once}
 use Rattle.session.proofs.FollowLemmas.{attempt_stopped, changed_done, changed_state, prepared_is}
+use Rattle.session.proofs.KeepLemmas.{keeps_touched}
 use Rattle.session.proofs.keeping.change.Goals as goal
 
 pub returns-in_err-change-clause-carries : goal.returns-in_err-change-clause-carries
@@ -62,3 +63,10 @@ returns-in-Ok-clause-carries g c = record {
   spends = c.in-Ok.ensures.spends;
   free = record { unread = tt; unprobed = tt };
 }
+
+pub returns-in-Ok-clause-indexes : goal.returns-in-Ok-clause-indexes
+returns-in-Ok-clause-indexes g c =
+    keeps_touched c.args.state.now _ c.attempt.new.self c.follow.new.state.database (command_view c.args.command.now) c.in_ok-change.change c.follow.new.state.indexes
+    c.in_ok-change.ensures c.in-Ok.ensures.follows.database
+    (c.in-Ok.ensures.follows.entered ∙ ap (λ t. c.args.state.now.journal ++ (t, command_view c.args.command.now) ∷ []) c.clock-before.ensures)
+    c.in-Ok.ensures.indexes c.in-Ok.ensures.follows.database c.touch.ensures

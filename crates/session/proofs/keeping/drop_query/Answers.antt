@@ -1,7 +1,9 @@
-use Rattle.std.proofs.Common.{◌≡◌, [], ◌∷◌, ◌++◌, refl, subst}
+use Rattle.std.proofs.Common.{◌≡◌, [], ◌∷◌, ◌++◌, refl, ap, ◌∙◌, subst}
 use Rattle.std.proofs.lemmas.Result.{err_from_is_err_and}
 use Rattle.command_text.specs.Journal.{spelled}
 use Rattle.command_text.specs.Tree.{command_view}
+use Rattle.database.specs.Written.{writes_object}
+use Rattle.session.proofs.KeepLemmas.{keeps_line}
 use Rattle.session.proofs.QueryLemmas.{drop_done, drop_full, drop_lacks, drop_state, drop_unknown}
 use Rattle.session.proofs.keeping.drop_query.Goals as goal
 
@@ -37,3 +39,10 @@ returns-clause-accepted c =
     _ c.in_ok-admit.ensures _ c.clock.ensures spelled c.requires.legible.canonical _ _ _
     (subst (λ line. c.enter.new.journal ≡ c.args.state.now.journal ++ (c.clock.result, spelled line) ∷ []) c.deref.ensures.value c.in_ok-enter.ensures.entered)
     c.in_ok-enter.ensures.same
+
+pub returns-clause-indexes : goal.returns-clause-indexes
+returns-clause-indexes c =
+    keeps_line c.args.state.now _ c.clock.result c.admit.new.line.items (command_view c.args.command.now)
+    (ap writes_object c.requires.is) (ap spelled c.in_ok-admit.ensures.0 ∙ c.requires.legible.canonical)
+    (subst (λ line. c.enter.new.journal ≡ c.args.state.now.journal ++ (c.clock.result, spelled line) ∷ []) c.deref.ensures.value
+    c.in_ok-enter.ensures.entered) refl refl

@@ -1,13 +1,19 @@
-use Rattle.std.proofs.Common.{refl, sym, ◌∙◌}
+use Rattle.std.proofs.Common.{length, refl, sym, ap, arith, ◌∙◌}
 use Rattle.command_text.specs.Tree.{command_view}
 use Rattle.database.proofs.ReadyLemmas.{is_ready}
 use Rattle.session.specs.Trial.{journal_of}
-use Rattle.session.proofs.RowLemmas.{write_built, write_kept, write_plain}
+use Rattle.session.proofs.RowLemmas.{row_short, write_built, write_kept, write_plain}
 use Rattle.session.proofs.TrialLemmas.{tried_without_room}
 use Rattle.session.proofs.trying.attempt.Goals as goal
 
-pub has_room-requires : goal.has_room-requires
-has_room-requires c = c.requires.told.short
+pub has_room-requires-clause-bytes : goal.has_room-requires-clause-bytes
+has_room-requires-clause-bytes c = c.requires.told.short
+
+pub has_room-requires-clause-line : goal.has_room-requires-clause-line
+has_room-requires-clause-line c =
+    let short = row_short (command_view c.args.command.now) c.requires.row.2 in
+    let same = ap length (c.deref.ensures.value ∙ c.in_ok-print_into.ensures.ok) in
+    omega (arith, short, same)
 
 pub returns-then-not-has_room-clause-tried : goal.returns-then-not-has_room-clause-tried
 returns-then-not-has_room-clause-tried c =

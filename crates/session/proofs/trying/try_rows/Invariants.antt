@@ -1,6 +1,6 @@
 use Rattle.std.proofs.Common.{◌≡◌}
 use Rattle.std.specs.List.{AllByRecursion}
-use Rattle.object_rows.specs.Commands.{IsRow}
+use Rattle.session.specs.Rows.{IsImportedRow}
 use Rattle.session.specs.Trial.{IsStack, IsTold, IsTrial, bottom}
 use Rattle.session.proofs.trying.try_rows.Given as goal
 
@@ -9,7 +9,7 @@ abbrev pub invariant-rows : goal.invariant-rows
 invariant-rows l = record {
   next : goal.iterator-rows.can_next l.row-iterator;
   finite : goal.iterator-rows.is_finite l.row-iterator;
-  rows : AllByRecursion (IsRow l.class) l.row-iterator.rest.items;
+  rows : AllByRecursion (IsImportedRow l.class) l.row-iterator.rest.items;
   told : IsTold l.journal l.database l.trial;
   trial : IsTrial l.class l.journal l.fn.rows.items l.row-iterator.rest.items l.trial;
   stack : IsStack l.trial.changes.items l.database;

@@ -6,7 +6,8 @@ use Rattle.command_text.specs.declared.fault.CommandFault.{CommandFault}
 use Rattle.command_text.specs.Line.{Explains}
 use Rattle.command_text.specs.Tree.{command_view}
 use Rattle.line_meaning.specs.Looks.{looks_of}
-use Rattle.line_meaning.specs.Step.{Held, base, held}
+use Rattle.line_meaning.specs.Step.{Held, base}
+use Rattle.session.specs.State.{holds}
 use Rattle.outside.specs.Shelf.{Texts}
 use Rattle.session.specs.declared.next.ApplyFault.TheVariants as apply_faults
 use Rattle.session.specs.declared.next.Next.TheVariants as nexts
@@ -54,7 +55,7 @@ returns-clause-applies g c =
     let told = g.F.Shelf.texts c.args.shelf.now in
     let left = g.F.Shelf.texts c.apply_command-applied.new.shelf in
     let command = command_view c.in-Ok.command in
-    let new = held c.apply_command-applied.new.state.journal in
+    let new = holds c.apply_command-applied.new.state in
     let before = c.args.out.now.items in
     let after = c.apply_command-applied.new.out.items in
     applied_line c.args.line.now command c.in-Ok.ensures.ok told left c.args.self.now new before after c.apply_command-applied.result
@@ -63,7 +64,7 @@ returns-clause-applies g c =
 pub returns-clause-most : goal.returns-clause-most
 returns-clause-most g c =
     looks_line c.args.line.now (command_view c.in-Ok.command) c.in-Ok.ensures.ok (g.F.Shelf.texts c.args.shelf.now) (g.F.Shelf.texts c.apply_command-applied.new.shelf)
-    c.args.self.now (held c.apply_command-applied.new.state.journal) c.args.out.now.items c.apply_command-applied.new.out.items _ _
+    c.args.self.now (holds c.apply_command-applied.new.state) c.args.out.now.items c.apply_command-applied.new.out.items _ _
     (subst (λ (old : Held). (texts : Texts) → SufficesFor (g.F.Shelf.texts c.args.shelf.now) (command_view c.in-Ok.command) texts →
     c.apply_command-applied.new.reads ≤ c.args.reads.now + looks_of (base old texts) (command_view c.in-Ok.command)) c.self.view_is c.apply_command-applied.ensures.answered.most)
 
@@ -96,7 +97,7 @@ pub returns-clause-some : goal.returns-clause-some
 returns-clause-some g c =
     let told = g.F.Shelf.texts c.args.shelf.now in
     let line = c.args.line.now in
-    let new = held c.apply_command-applied.new.state.journal in
+    let new = holds c.apply_command-applied.new.state in
     subst (λ (old : Held). AppliesBySome told line (moment old c.args.out.now.items c.args.reads.now c.args.probes.now)
     (moment new c.apply_command-applied.new.out.items c.apply_command-applied.new.reads c.apply_command-applied.new.probes) c.apply_command-applied.result)
     c.self.view_is

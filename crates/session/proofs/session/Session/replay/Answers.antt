@@ -1,5 +1,7 @@
+use Rattle.std.proofs.Common.{◌≤◌, ◌+◌, subst}
 use Rattle.command_text.specs.Tree.{command_view}
-use Rattle.session.proofs.AnswerLemmas.{kept_plain, replays_as}
+use Rattle.line_meaning.proofs.IndexLemmas.{plain_looks}
+use Rattle.session.proofs.AnswerLemmas.{kept_on_no_index, kept_plain, replays_as}
 use Rattle.session.proofs.session.Session.replay.Goals as goal
 
 pub carry_out-carried-requires-clause-plain : goal.carry_out-carried-requires-clause-plain
@@ -7,3 +9,9 @@ carry_out-carried-requires-clause-plain g c = kept_plain (command_view c.args.co
 
 pub returns-clause-replayed : goal.returns-clause-replayed
 returns-clause-replayed g c = replays_as (command_view c.args.command) _ _ c.requires.kept c.carry_out-carried.result c.carry_out-carried.ensures.carried
+
+pub returns-clause-most : goal.returns-clause-most
+returns-clause-most g c =
+    subst (λ n. c.carry_out-carried.new.reads ≤ c.args.reads.now + n)
+    (plain_looks c.args.self.now (command_view c.args.command) (kept_on_no_index (command_view c.args.command) c.requires.kept))
+    c.carry_out-carried.ensures.carried.most

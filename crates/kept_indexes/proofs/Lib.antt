@@ -1,0 +1,5 @@
+pub mod StandLemmas
+mod FindLemmas
+mod RangeLemmas
+mod MakeLemmas
+mod AnswerLemmas
