@@ -1,4 +1,5 @@
--- What is written for a user is what this user hears: by induction on lines, from any hub whose users differ.
+-- For this crate and for the crates above: what is written for a user is what this user hears, by induction on lines, from
+-- any hub whose users differ.
 use Rattle.std.proofs.Common.{◌≡◌, ℕ, true, false, Bool, List, [], ◌∷◌, ◌++◌, map, None, Some, Option, refl, sym, ap, ◌∙◌, subst, append-nil, append_assoc, inl, inr, ◌⊎◌}
 use Rattle.std.proofs.lemmas.Bool.{cases_Bool}
 use Rattle.std.proofs.lemmas.List.{map-append}
@@ -30,7 +31,7 @@ seat_more : (s : Seat) (xs ys : List Item) → seat_after s (xs ++ ys) ≡ seat_
 seat_more s [] ys = refl
 seat_more s (x ∷ xs) ys = seat_more (taken s x).0 xs ys
 
-abbrev items : Option Item → List Item
+abbrev pub items : Option Item → List Item
 items o = option_map_or (λ item. item ∷ []) o []
 
 heard_one : (s : Seat) (o : Option Item) → heard s (items o) ≡ lines_in (option_map_or (taken s) o (s, [])).1
@@ -209,11 +210,11 @@ module _ (e : Event) where
 -- ---- A line
 
 -- what a line leaves of a user's seat, and what is written of it for the user
-record Follows (h : Hub) (u : List ℕ) (sender : Option Sent) (o : Option Event) : Type 0 where
-  seats : AreSeats (step_by h sender o).0.seats
-  lines : (rest : List ℕ) → lines_for u ((step_by h sender o).1 ++ rest)
+pub record Follows (h : Hub) (u : List ℕ) (sender : Option Sent) (o : Option Event) : Type 0 where
+  pub seats : AreSeats (step_by h sender o).0.seats
+  pub lines : (rest : List ℕ) → lines_for u ((step_by h sender o).1 ++ rest)
       ≡ heard (seat_of h u) (items (option_and_then (λ e. item_of e u) o)) ++ lines_for u rest
-  seat : seat_of (step_by h sender o).0 u ≡ seat_after (seat_of h u) (items (option_and_then (λ e. item_of e u) o))
+  pub seat : seat_of (step_by h sender o).0 u ≡ seat_after (seat_of h u) (items (option_and_then (λ e. item_of e u) o))
 
 -- by an event
 record Leaves (h : Hub) (u : List ℕ) (e : Event) : Type 0 where
@@ -221,7 +222,7 @@ record Leaves (h : Hub) (u : List ℕ) (e : Event) : Type 0 where
   seat : unwrap_or (seat_in (map (seated_after e) (seats_with h e.sent.user)) u) (newcomer (h.accepted ++ added e.change))
       ≡ seat_after (seat_of h u) (items (item_of e u))
 
-newcomer_more : (accepted : List CommandTree) (change : Option CommandTree) →
+pub newcomer_more : (accepted : List CommandTree) (change : Option CommandTree) →
     newcomer (accepted ++ added change) ≡ seat_after (newcomer accepted) (items (option_map Other change))
 newcomer_more accepted None = ap newcomer (append-nil accepted)
 newcomer_more accepted (Some c) =
@@ -261,7 +262,7 @@ module _ (h : Hub) (u : List ℕ) (hu : is_of_letters u ≡ true) (e : Event) (s
   leaves : Leaves h u e
   leaves = elim (seat_cases h u e.sent.user) [ inl has ↦ leaves_seated has | inr is ↦ leaves_away is ]
 
-follows : (h : Hub) (u : List ℕ) (sender : Option Sent) (o : Option Event) → is_of_letters u ≡ true → AreSeats h.seats →
+pub follows : (h : Hub) (u : List ℕ) (sender : Option Sent) (o : Option Event) → is_of_letters u ≡ true → AreSeats h.seats →
     ((e : Event) → o ≡ Some e → is_of_letters e.sent.user ≡ true) → Follows h u sender o
 follows h u sender None hu seats letters = record { seats = seats; lines = λ rest. unheard_for_nobody u sender rest hu; seat = refl }
 follows h u sender (Some e) hu seats letters =
@@ -269,7 +270,7 @@ follows h u sender (Some e) hu seats letters =
     let left = leaves h u hu e all in
     record { seats = seats_stay e (seats_with h e.sent.user) all; lines = left.lines; seat = left.seat }
 
-event_of_letters : (h : Hub) (sender : Option Sent) (e : Event) → ((s : Sent) → sender ≡ Some s → is_of_letters s.user ≡ true) →
+pub event_of_letters : (h : Hub) (sender : Option Sent) (e : Event) → ((s : Sent) → sender ≡ Some s → is_of_letters s.user ≡ true) →
     event_by h sender ≡ Some e → is_of_letters e.sent.user ≡ true
 event_of_letters h None e letters is = absurd (cc)
 event_of_letters h (Some s) e letters is = by_room (has_room h s.user) (Some (record { sent = s; change = change_of (seat_of h s.user) s.line })) is refl

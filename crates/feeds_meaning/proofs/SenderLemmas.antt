@@ -1,4 +1,4 @@
--- Who sends a line is of letters, and a line of nobody is told no user.
+-- Who sends a line is of letters, and a line of nobody is told no user; also for the crates above.
 use Rattle.std.proofs.Common.{◌≡◌, ℕ, true, false, Bool, List, [], ◌∷◌, ◌++◌, take, None, Some, Option, refl, sym, ap, ◌∙◌, inl, inr, one-add}
 use Rattle.std.proofs.lemmas.Bool.{cases_Bool}
 use Rattle.std.specs.Fmt.{digits}

@@ -10,7 +10,7 @@ use Rattle.command_text.specs.Line.{first_refusal}
 use Rattle.command_text.specs.Refusals.{line_of}
 use Rattle.command_text.specs.Tree.{CommandTree}
 use Rattle.line_meaning.specs.Answering.{kept_lines}
-use Rattle.line_meaning.specs.Judging.{Held, fault_of, held, held_after}
+use Rattle.line_meaning.specs.Judging.{Held, all_after, fault_of, held, held_after}
 use Rattle.line_meaning.specs.Registry.{known}
 use Rattle.line_meaning.specs.Reply.{line_feed}
 use Rattle.line_meaning.specs.Role.{role_of}
@@ -62,7 +62,7 @@ counted is count = if is then count + 1 else count
 
 abbrev pub after_own : Seat → CommandTree → Seat
 after_own s c = record {
-  held = held_after s.held c;
+  held = all_after s.held c;
   here = true;
   data_lines = counted (is_data c) s.data_lines;
   query_lines = counted (is_of_queries c) s.query_lines;

@@ -1,5 +1,5 @@
 -- What one user hears, worked out by hand.
-use Rattle.std.specs.Prelude.{◌≡◌, ℕ, true, None, Some, Option, List, [], ◌∷◌, codes}
+use Rattle.std.specs.Prelude.{◌≡◌, ℕ, pos, true, None, Some, Option, List, [], ◌∷◌, codes}
 use Rattle.formula_shape.specs.Shape as shapes
 use Rattle.command_text.specs.Tree as commands
 use Rattle.command_text.specs.Tree.{CommandTree}
@@ -7,7 +7,7 @@ use Rattle.command_text.specs.declared.refusal.Refusal.{Refusal}
 use Rattle.command_text.specs.declared.refusal.Refusal.TheVariants as refusals
 use Rattle.line_meaning.specs.Example.{of_cars, place_at}
 use Rattle.line_meaning.specs.Judging.{held}
-use Rattle.feeds_meaning.specs.Heard.{Item, Own, Other, Seat, after_own, heard, own_refusal, own_text, seat_after, empty_seat}
+use Rattle.feeds_meaning.specs.Heard.{Item, Own, Other, Seat, after_own, command_refusal, heard, own_refusal, own_text, seat_after, empty_seat}
 
 -- ---- a car, and a watch over all cars
 
@@ -27,6 +27,17 @@ watcher = after_own beginner watch
 abbrev pub tick_of_another : Item
 tick_of_another = Other (commands.Tick 4)
 
+-- index car x 10
+abbrev pub index_of_places : CommandTree
+index_of_places = commands.Index (codes "car") (codes "x") (pos 10000)
+
+-- range 5 car x 0 5
+abbrev pub range_of_places : CommandTree
+range_of_places = commands.Range 5 (codes "car") (codes "x") (pos 0) (pos 5000)
+
+abbrev pub indexer : Seat
+indexer = after_own beginner index_of_places
+
 -- a user with so many accepted lines of either kind
 abbrev pub with_lines : (data_lines query_lines : ℕ) → Seat
 with_lines data_lines query_lines = record { held = held []; here = true; data_lines = data_lines; query_lines = query_lines }
@@ -45,6 +56,11 @@ pub record HearsAlone : Type 0 where
       ≡ codes "lose w a : 4..10" ∷ codes "leave w a" ∷ []
   pub own_lines : heard beginner (Own (codes "tick 2") ∷ Own (codes "remove b") ∷ Own (codes "# a note") ∷ Own (codes "quit") ∷ [])
       ≡ codes "clock 2" ∷ codes "ok" ∷ codes "refused 7 UnknownName" ∷ codes "refused 4 BadSyntax" ∷ []
+  -- ---- an index is the user's own
+  pub own_index : own_text beginner.held index_of_places ≡ codes "ok\n"
+  pub own_range : own_text indexer.held range_of_places ≡ codes "now a : 0..5\nok\n"
+  pub no_index : command_refusal beginner.held range_of_places ≡ Some refusals.UnknownName
+  pub index_stays : command_refusal (seat_after indexer (tick_of_another ∷ [])).held range_of_places ≡ None
   -- ---- the order of the refusals of a line
   pub last_data_line : refused 7999 0 (codes "tick 1") ≡ None
   pub data_limit : refused 8000 0 (codes "tick 1") ≡ Some refusals.JournalFull

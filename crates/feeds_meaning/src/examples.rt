@@ -2,7 +2,8 @@
 ghost use Rattle.feeds_meaning.specs.HeardExample.{HearsAlone};
 ghost use Rattle.feeds_meaning.specs.HubExample.{SharesAWorld};
 
-/// One user's watch: its start and its rows, changes by others, the passing of time, its end, and what refuses a line.
+/// One user's watch: its start and its rows, changes by others, the passing of time, its end, and what refuses a line; and one
+/// user's index.
 pub fn one_user_hears()
     ensures { HearsAlone }
 {}

@@ -40,7 +40,7 @@ unfolding Ordered
 have_with t u [] h = grind (arith, nat_tests)
 have_with t u ((lo, hi) ∷ spans) h = have_joined (lo == t + 1) t lo hi u spans refl h.0
 
-have_runs : (ticks : List ℕ) (u : ℕ) → have (runs_of ticks) u ≡ has ticks u
+pub have_runs : (ticks : List ℕ) (u : ℕ) → have (runs_of ticks) u ≡ has ticks u
 have_runs [] u = refl
 have_runs (t ∷ ticks) u = have_with t u (runs_of ticks) (ordered_runs ticks) ∙ ap (λ b. (t == u) || b) (have_runs ticks u)
 

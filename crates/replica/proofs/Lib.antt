@@ -1,3 +1,4 @@
+pub mod CallerLemmas
 pub mod DigitLemmas
 pub mod FeedLemmas
 pub mod HaveLemmas
@@ -8,3 +9,4 @@ pub mod RowLemmas
 pub mod SpanLemmas
 pub mod TickLemmas
 pub mod WordLemmas
+pub mod BeginLemmas

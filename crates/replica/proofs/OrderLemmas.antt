@@ -31,10 +31,10 @@ all_above : (k x : List ℕ) (keys : List (List ℕ)) → bytes_cmp k x ≡ Less
 all_above k x [] less all = tt
 all_above k x (y ∷ keys) less all = (nat_list_cmp_total.trans k x y less all.0, all_above k x keys less all.1)
 
-turned : (x y : List ℕ) → bytes_cmp x y ≡ Greater → bytes_cmp y x ≡ Less
+pub turned : (x y : List ℕ) → bytes_cmp x y ≡ Greater → bytes_cmp y x ≡ Less
 turned x y greater = nat_list_cmp_total.antisymm y x ∙ ap ordering_reverse greater
 
-in_order_inserted : (k : List ℕ) (v : List (ℕ × ℕ)) (rows : List Row) → AreInOrder rows → AreInOrder (insert_entry bytes_cmp rows k v)
+pub in_order_inserted : (k : List ℕ) (v : List (ℕ × ℕ)) (rows : List Row) → AreInOrder rows → AreInOrder (insert_entry bytes_cmp rows k v)
 unfolding IsStrictlySortedBy
 in_order_inserted k v [] order = (tt, tt)
 in_order_inserted k v (e ∷ rows) order = elim (bytes_cmp k e.0) as (λ o. bytes_cmp k e.0 ≡ o → AreInOrder (match_ordering o ((k, v) ∷ e ∷ rows) ((e.0, v) ∷ rows) (e ∷ insert_entry bytes_cmp rows k v))) [
@@ -71,7 +71,7 @@ in_order_after h (line ∷ lines) order = in_order_after (next h line) lines (in
 
 -- ---- What a change makes
 
-found : (k : List ℕ) (v : List (ℕ × ℕ)) (rows : List Row) → lookup (is_at (bytes_cmp k)) (insert_entry bytes_cmp rows k v) ≡ Some v
+pub found : (k : List ℕ) (v : List (ℕ × ℕ)) (rows : List Row) → lookup (is_at (bytes_cmp k)) (insert_entry bytes_cmp rows k v) ≡ Some v
 found k v [] = rw (tied_itself nat_list_cmp_total k) refl
 found k v (e ∷ rows) = elim (bytes_cmp k e.0) as (λ o. bytes_cmp k e.0 ≡ o → lookup (is_at (bytes_cmp k)) (match_ordering o ((k, v) ∷ e ∷ rows) ((e.0, v) ∷ rows) (e ∷ insert_entry bytes_cmp rows k v)) ≡ Some v) [
   | Less ↦ λ less. rw (tied_itself nat_list_cmp_total k) refl
@@ -79,7 +79,7 @@ found k v (e ∷ rows) = elim (bytes_cmp k e.0) as (λ o. bytes_cmp k e.0 ≡ o 
   | Greater ↦ λ greater. rw greater (found k v rows)
 ] refl
 
-left : (q k : List ℕ) (v : List (ℕ × ℕ)) (rows : List Row) → is_eq (bytes_cmp q k) ≡ false → lookup (is_at (bytes_cmp q)) (insert_entry bytes_cmp rows k v) ≡ lookup (is_at (bytes_cmp q)) rows
+pub left : (q k : List ℕ) (v : List (ℕ × ℕ)) (rows : List Row) → is_eq (bytes_cmp q k) ≡ false → lookup (is_at (bytes_cmp q)) (insert_entry bytes_cmp rows k v) ≡ lookup (is_at (bytes_cmp q)) rows
 left q k v [] other = rw other refl
 left q k v (e ∷ rows) other = elim (bytes_cmp k e.0) as (λ o. bytes_cmp k e.0 ≡ o → lookup (is_at (bytes_cmp q)) (match_ordering o ((k, v) ∷ e ∷ rows) ((e.0, v) ∷ rows) (e ∷ insert_entry bytes_cmp rows k v)) ≡ lookup (is_at (bytes_cmp q)) (e ∷ rows)) [
   | Less ↦ λ less. rw other refl

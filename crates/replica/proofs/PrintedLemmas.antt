@@ -168,7 +168,7 @@ word_continues (b ∷ word) h =
     let parts = and_parts (begins_name b) (list_all continues_name word) h in
     rw (begins_continues b parts.0, parts.1) refl
 
-name_continues : (word : List ℕ) → is_name word ≡ true → list_all continues_name word ≡ true
+pub name_continues : (word : List ℕ) → is_name word ≡ true → list_all continues_name word ≡ true
 name_continues word h = elim (cases_Bool (is_word word)) [
   | inl good ↦ word_continues word good
   | inr bad ↦ absurd (false≢true (sym (ap (λ b. b && nat_le (length word) WORD_LIMIT && is_none (code_of reserved_words word)) bad) ∙ h))

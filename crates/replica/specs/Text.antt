@@ -1,5 +1,5 @@
 -- What ticks, spans, names and targets are written as. The byte 32 is a space, 46 a point, 48 is `0` and 58 a colon.
-use Rattle.std.specs.Prelude.{ℕ, ◌+◌, ◌-◌, ◌==◌, ◌&&◌, not, nat_le, is_none, Bool, Option, Some, None, List, [], ◌∷◌, codes, length, take, drop, position, slice_index, if◌then◌else◌}
+use Rattle.std.specs.Prelude.{ℕ, ◌+◌, ◌-◌, ◌==◌, ◌&&◌, not, nat_le, is_none, Bool, Option, Some, None, List, [], ◌∷◌, codes, length, take, drop, position, slice_index, if◌then◌else◌, ◌≡◌}
 use Rattle.std.specs.List.{list_all, slice_split}
 use Rattle.std.specs.Option.{option_map_or}
 use Rattle.std.specs.Str.{bytes_eq}
@@ -72,3 +72,7 @@ is_name word = is_word word && nat_le (length word) WORD_LIMIT && is_none (code_
 -- the names of target objects
 abbrev pub is_target : List ℕ → Bool
 is_target text = list_all is_name (words text) && nat_le (length (words text)) OBJECT_LIMIT
+
+-- what is written to the end of a buffer leaves what was there in front
+abbrev pub Begins : List ℕ → List ℕ → Type 0
+Begins old new = take (length old) new ≡ old

@@ -1,5 +1,6 @@
 //! The copy of an answer, and what a line makes of it.
 ghost use Rattle.std.specs.Prelude.{◌≡◌, ◌++◌, option_map, OnOk, OnErr};
+ghost use Rattle.replica.specs.Text.{Begins};
 ghost use Rattle.replica.specs.Copied.{at_clock, begun, copy_after, copy_text, first_tick, starting_after, with_change};
 ghost use Rattle.replica.specs.Feed.{is_broken};
 ghost use Rattle.replica.specs.Messages.{row_view, told_view};
@@ -40,8 +41,10 @@ impl Copied {
     }
 
     /// Writes the rows.
+    #[tactic(auto, using(crate::proofs::BeginLemmas::begins_through, crate::proofs::BeginLemmas::begins_more))]
     pub fn push_text(&self, out: &mut Vec<u8>) -> Result<(), AllocError>
-        ensures { OnOk result (out.new.items ≡ out.old.items ++ copy_text self.now) }
+        ensures ok { OnOk result (out.new.items ≡ out.old.items ++ copy_text self.now) }
+        ensures begins { Begins out.old.items out.new.items }
     {
         self.rows.push_text(self.first_tick(), out)
     }

@@ -1,5 +1,6 @@
 //! The replica of one query's answer.
 ghost use Rattle.std.specs.Prelude.{◌≡◌, ◌++◌, ◌+◌, decimal, codes, Some, is_some, OnOk, OnErr, IfOk};
+ghost use Rattle.replica.specs.Text.{Begins};
 ghost use Rattle.replica.specs.Feed.{next, said, silent};
 ghost use Rattle.replica.specs.Rows.{line_feed};
 
@@ -72,9 +73,12 @@ impl Replica {
         self.bad.is_some()
     }
 
-    /// Writes the rows, or which line hasn't its form. After an error `out` may hold a part of that.
+    /// Writes the rows, or which line hasn't its form. After an error `out` begins with its old contents, and may hold a part of
+    /// that.
+    #[tactic(auto, using(crate::proofs::BeginLemmas::begins_through, crate::proofs::BeginLemmas::begins_more))]
     pub fn push_said(&self, out: &mut Vec<u8>) -> Result<(), AllocError>
-        ensures { OnOk result (out.new.items ≡ out.old.items ++ said self.now) }
+        ensures ok { OnOk result (out.new.items ≡ out.old.items ++ said self.now) }
+        ensures begins { Begins out.old.items out.new.items }
     {
         match (self.bad, &self.copy) {
             (Some(number), _) => push_bad(number, out),
@@ -84,8 +88,10 @@ impl Replica {
     }
 }
 
+#[tactic(auto, using(crate::proofs::BeginLemmas::begins_through, crate::proofs::BeginLemmas::begins_more))]
 fn push_bad(number: u64, out: &mut Vec<u8>) -> Result<(), AllocError>
-    ensures { OnOk result (out.new.items ≡ out.old.items ++ codes "bad feed " ++ decimal number ++ line_feed) }
+    ensures ok { OnOk result (out.new.items ≡ out.old.items ++ codes "bad feed " ++ decimal number ++ line_feed) }
+    ensures begins { Begins out.old.items out.new.items }
 {
     out.extend_from_slice(b"bad feed ")?;
     out.extend_from_slice(Buffer::new().format(number).as_bytes())?;

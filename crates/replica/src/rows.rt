@@ -4,6 +4,7 @@ ghost use Rattle.std.specs.List.{flat_map, list_any};
 ghost use Rattle.std.specs.BTreeMap.{insert_entry};
 ghost use Rattle.tick_set.specs.Runs.{pairs, spans_have};
 ghost use Rattle.tick_set.specs.SetOperation.{kept};
+ghost use Rattle.replica.specs.Text.{Begins};
 ghost use Rattle.replica.specs.Messages.{row_view};
 ghost use Rattle.replica.specs.Rows.{bytes_cmp, changed, row_text, rows_text, run_text, span_text, ticks_at};
 ghost use Rattle.replica.specs.Ticks.{combined};
@@ -62,8 +63,10 @@ impl Rows {
     }
 
     /// Writes each row that has a tick from `first` on, with those ticks.
+    #[tactic(auto, using(crate::proofs::BeginLemmas::begins_through, crate::proofs::BeginLemmas::begins_more))]
     pub fn push_text(&self, first: u32, out: &mut Vec<u8>) -> Result<(), AllocError>
-        ensures { OnOk result (out.new.items ≡ out.old.items ++ rows_text first self.now) }
+        ensures ok { OnOk result (out.new.items ≡ out.old.items ++ rows_text first self.now) }
+        ensures begins { Begins out.old.items out.new.items }
     {
         for (target, ticks) in &self.ticks {
             push_row(first, target, ticks.spans(), out)?;
@@ -138,8 +141,10 @@ fn combined(
     Ok(made)
 }
 
+#[tactic(auto, using(crate::proofs::BeginLemmas::begins_through, crate::proofs::BeginLemmas::begins_more))]
 fn push_row(first: u32, target: &[u8], spans: &[Span], out: &mut Vec<u8>) -> Result<(), AllocError>
-    ensures { OnOk result (out.new.items ≡ out.old.items ++ row_text first (target.now, pairs spans.now)) }
+    ensures ok { OnOk result (out.new.items ≡ out.old.items ++ row_text first (target.now, pairs spans.now)) }
+    ensures begins { Begins out.old.items out.new.items }
 {
     if !has_from(first, spans) {
         return Ok(());
@@ -164,8 +169,10 @@ fn has_from(first: u32, spans: &[Span]) -> bool
     some_ends_from(first, spans)
 }
 
+#[tactic(auto, using(crate::proofs::BeginLemmas::begins_through, crate::proofs::BeginLemmas::begins_more))]
 fn push_spans(first: u32, spans: &[Span], out: &mut Vec<u8>) -> Result<(), AllocError>
-    ensures { OnOk result (out.new.items ≡ out.old.items ++ flat_map (span_text first) (pairs spans.now)) }
+    ensures ok { OnOk result (out.new.items ≡ out.old.items ++ flat_map (span_text first) (pairs spans.now)) }
+    ensures begins { Begins out.old.items out.new.items }
 {
     let mut rest = spans;
     while let Some((span, later)) = rest.split_first() {
@@ -177,8 +184,10 @@ fn push_spans(first: u32, spans: &[Span], out: &mut Vec<u8>) -> Result<(), Alloc
     Ok(())
 }
 
+#[tactic(auto, using(crate::proofs::BeginLemmas::begins_through, crate::proofs::BeginLemmas::begins_more))]
 fn push_run(lo: u32, hi: u32, out: &mut Vec<u8>) -> Result<(), AllocError>
-    ensures { OnOk result (out.new.items ≡ out.old.items ++ run_text (lo, hi)) }
+    ensures ok { OnOk result (out.new.items ≡ out.old.items ++ run_text (lo, hi)) }
+    ensures begins { Begins out.old.items out.new.items }
 {
     let mut digits = Buffer::new();
     out.extend_from_slice(b" ")?;

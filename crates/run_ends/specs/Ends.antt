@@ -13,7 +13,8 @@ use Rattle.run_ends.specs.declared.status.Status.{Status}
 use Rattle.run_ends.specs.declared.status.Status.TheVariants.{Done, BadWords, BadSession, ReadFault, WriteFault, ShelfFault, NoMemory, InputLimit}
 use Rattle.run_ends.specs.Whole.{Plan, Says, Answers, Whole, whole}
 
--- what is seen of the outside at one moment: the counts of faults, and what each object tells
+-- what is seen of the outside at one moment: the counts of faults, where the shelf is the context of the read loop, and what
+-- each object tells: the bytes that are left to read, those that were written, and the texts by name
 pub record Seen : Type 0 where
   pub faults : Counts
   pub left : Option (List ℕ)
