@@ -1,0 +1,171 @@
+-- Where objects are added, what held of target objects holds of the same, by the same text.
+use Rattle.std.proofs.Common.{◌≡◌, ◌∙◌, ℕ, ◌+◌, Bool, true, false, ◌&&◌, ◌||◌, List, [], ◌∷◌, ◌++◌, map, length, refl, ap, sym, subst, inl, inr}
+use Rattle.std.proofs.lemmas.Bool.{and_parts, cases_Bool, false≢true, or_cases, or_left, or_right}
+use Rattle.std.proofs.lemmas.List.Folds.{list_any-append}
+use Rattle.std.proofs.lemmas.Slice.Eq.{bytes_eq-Decides}
+use Rattle.std.specs.Prelude.{◌==◌, filter, if◌then◌else◌, nat_lt, slice_index}
+use Rattle.std.specs.List.{AllByRecursion, enumerate_from, flat_map, list_all, list_any}
+use Rattle.std.specs.Str.{bytes_eq}
+use Rattle.tick_set.specs.Ticks.{within}
+use Rattle.history.specs.Catalog.{ObjectInfo, ids_of}
+use Rattle.history.specs.World.{World}
+use Rattle.formula.specs.Tree.{ResolvedQuery}
+use Rattle.meaning.specs.Answer.{Row, answer, full_rows, has_ticks, row_where, rows_have, rows_where, runs_have}
+use Rattle.meaning.specs.Binding.{bindings, holds_full, holds_target, product, tuple_of, tuples}
+use Rattle.feeds_laws.specs.Targets.{target_of}
+use Rattle.feeds_laws.proofs.KeyLemmas.{IsKey, products_are_keys, target_stays}
+use Rattle.feeds_laws.proofs.RowLemmas.{have_listed}
+use Rattle.feeds_laws.proofs.TurningLemmas.{is_some_now}
+
+-- ---- Tests of lists
+
+pub same_truth : (a b : Bool) → (a ≡ true → b ≡ true) → (b ≡ true → a ≡ true) → a ≡ b
+same_truth true b to from = sym (to refl)
+same_truth false true to from = from refl
+same_truth false false to from = refl
+
+any_more : {X : Type 0} (f g : X → Bool) → ((x : X) → f x ≡ true → g x ≡ true) → (xs : List X) → list_any f xs ≡ true → list_any g xs ≡ true
+any_more f g more [] has = has
+any_more f g more (x ∷ xs) has = elim (or_cases (f x) (list_any f xs) has) [
+  | inl here ↦ or_left (g x) (list_any g xs) (more x here)
+  | inr later ↦ or_right (g x) (list_any g xs) (any_more f g more xs later)
+]
+
+any_agree : (P : List ℕ → Type 0) (f g : List ℕ → Bool) → ((x : List ℕ) → P x → f x ≡ g x) → (xs : List (List ℕ)) → AllByRecursion P xs → list_any f xs ≡ list_any g xs
+any_agree P f g same [] all = refl
+any_agree P f g same (x ∷ xs) all = ap (λ b. b || list_any f xs) (same x all.0) ∙ ap (λ b. g x || b) (any_agree P f g same xs all.1)
+
+any_of_map : (test : List ℕ → Bool) (x : ℕ) (keys : List (List ℕ)) → list_any test (map (λ later. x ∷ later) keys) ≡ list_any (λ later. test (x ∷ later)) keys
+any_of_map test x [] = refl
+any_of_map test x (key ∷ keys) = ap (λ b. test (x ∷ key) || b) (any_of_map test x keys)
+
+any_of_flat : (test : List ℕ → Bool) (keys : List (List ℕ)) (xs : List ℕ) →
+    list_any test (flat_map (λ x. map (λ later. x ∷ later) keys) xs) ≡ list_any (λ x. list_any (λ later. test (x ∷ later)) keys) xs
+any_of_flat test keys [] = refl
+any_of_flat test keys (x ∷ xs) =
+    list_any-append test (map (λ later. x ∷ later) keys) (flat_map (λ x. map (λ later. x ∷ later) keys) xs)
+    ∙ ap (λ b. b || list_any test (flat_map (λ x. map (λ later. x ∷ later) keys) xs)) (any_of_map test x keys)
+    ∙ ap (λ b. list_any (λ later. test (x ∷ later)) keys || b) (any_of_flat test keys xs)
+
+-- ---- More objects make more keys
+
+ids_more : (objects more : List ObjectInfo) (from class : ℕ) (test : ℕ → Bool) →
+    list_any test (map (λ (e : ℕ × ObjectInfo). e.0) (filter (λ (e : ℕ × ObjectInfo). e.1.class == class) (enumerate_from from objects))) ≡ true →
+    list_any test (map (λ (e : ℕ × ObjectInfo). e.0) (filter (λ (e : ℕ × ObjectInfo). e.1.class == class) (enumerate_from from (objects ++ more)))) ≡ true
+ids_more [] more from class test has = absurd (false≢true has)
+ids_more (o ∷ objects) more from class test has = elim (cases_Bool (o.class == class)) [
+  | inl own ↦
+      let both : (test from || list_any test (map (λ (e : ℕ × ObjectInfo). e.0) (filter (λ (e : ℕ × ObjectInfo). e.1.class == class) (enumerate_from (from + 1) objects)))) ≡ true = rw own at has in
+      rw own (elim (or_cases (test from) (list_any test (map (λ (e : ℕ × ObjectInfo). e.0) (filter (λ (e : ℕ × ObjectInfo). e.1.class == class) (enumerate_from (from + 1) objects)))) both) [
+        | inl here ↦ or_left (test from) (list_any test (map (λ (e : ℕ × ObjectInfo). e.0) (filter (λ (e : ℕ × ObjectInfo). e.1.class == class) (enumerate_from (from + 1) (objects ++ more))))) here
+        | inr later ↦ or_right (test from) (list_any test (map (λ (e : ℕ × ObjectInfo). e.0) (filter (λ (e : ℕ × ObjectInfo). e.1.class == class) (enumerate_from (from + 1) (objects ++ more))))) (ids_more objects more (from + 1) class test later)
+      ])
+  | inr other ↦ rw other (ids_more objects more (from + 1) class test (rw other at has))
+]
+
+products_more : (f g : ℕ → List ℕ) → ((v : ℕ) (test : ℕ → Bool) → list_any test (f v) ≡ true → list_any test (g v) ≡ true) →
+    (vs : List ℕ) (test : List ℕ → Bool) → list_any test (product (map f vs)) ≡ true → list_any test (product (map g vs)) ≡ true
+products_more f g grows [] test has = has
+products_more f g grows (v ∷ vs) test has =
+    let first : list_any (λ x. list_any (λ later. test (x ∷ later)) (product (map f vs))) (f v) ≡ true =
+    sym (any_of_flat test (product (map f vs)) (f v)) ∙ has in
+    let inner : list_any (λ x. list_any (λ later. test (x ∷ later)) (product (map g vs))) (f v) ≡ true =
+    any_more (λ x. list_any (λ later. test (x ∷ later)) (product (map f vs))) (λ x. list_any (λ later. test (x ∷ later)) (product (map g vs)))
+    (λ x. products_more f g grows vs (λ later. test (x ∷ later))) (f v) first in
+    any_of_flat test (product (map g vs)) (g v) ∙ grows v (λ x. list_any (λ later. test (x ∷ later)) (product (map g vs))) inner
+
+-- the keys of a query's targets
+pub tuples_are_keys : (w : World) (q : ResolvedQuery) → AllByRecursion (IsKey w.history.catalog (length q.targets)) (tuples w q)
+tuples_are_keys w q = products_are_keys w.history.catalog (slice_index q.classes) q.targets
+
+-- ---- The ticks of rows
+
+no_ticks : (runs : List (ℕ × ℕ)) (t : ℕ) → has_ticks runs ≡ false → runs_have runs t ≡ false
+no_ticks [] t none = refl
+no_ticks (run ∷ runs) t none = absurd (false≢true (sym none))
+
+one_row : (test : List ℕ → Bool) (row : Row) (rows : List Row) (t : ℕ) (there : Bool) → has_ticks row.runs ≡ there →
+    rows_have (if there then row ∷ rows else rows) test t ≡ (test row.key && runs_have row.runs t || rows_have rows test t)
+one_row test row rows t true is = refl
+one_row test row rows t false is = sym (ap (λ b. test row.key && b || rows_have rows test t) (no_ticks row.runs t is) ∙ none (test row.key))
+  where
+    none : (b : Bool) → (b && false || rows_have rows test t) ≡ rows_have rows test t
+    none true = refl
+    none false = refl
+
+pub rows_have_where : (test : List ℕ → Bool) (keys : List (List ℕ)) (holds : List ℕ → ℕ → Bool) (from e t : ℕ) →
+    rows_have (rows_where keys holds from e) test t ≡ list_any (λ key. test key && (within from e t && holds key t)) keys
+rows_have_where test [] holds from e t = refl
+rows_have_where test (key ∷ keys) holds from e t =
+    one_row test (row_where holds from e key) (rows_where keys holds from e) t (has_ticks (row_where holds from e key).runs) refl
+    ∙ ap (λ b. test key && b || rows_have (rows_where keys holds from e) test t) (have_listed (holds key) from e t)
+    ∙ ap (λ b. test key && (within from e t && holds key t) || b) (rows_have_where test keys holds from e t)
+
+-- ---- What held goes on holding of the same keys
+
+-- the answer is the union of the rows of bindings
+abbrev pub AnswersAreUnions : Type 0
+AnswersAreUnions = (w : World) (q : ResolvedQuery) → list_all (λ v. nat_lt v (length q.classes)) q.targets ≡ true → (from e : ℕ) (key : List ℕ) (t : ℕ) →
+    rows_have (answer w q from e) (λ k. bytes_eq k key) t ≡ rows_have (full_rows w q from e) (λ b. bytes_eq (tuple_of q b) key) t
+
+any_and : (test : List ℕ → Bool) (always : Bool) (holds : List ℕ → Bool) (xs : List (List ℕ)) →
+    list_any (λ x. test x && (always && holds x)) xs ≡ (always && list_any (λ x. test x && holds x) xs)
+any_and test true holds xs = refl
+any_and test false holds [] = refl
+any_and test false holds (x ∷ xs) = ap (λ b. b || list_any (λ x. test x && (false && holds x)) xs) (never (test x)) ∙ any_and test false holds xs
+  where
+    never : (b : Bool) → (b && false) ≡ false
+    never true = refl
+    never false = refl
+
+module _ (union : AnswersAreUnions) (w : World) (q : ResolvedQuery) (targets : list_all (λ v. nat_lt v (length q.classes)) q.targets ≡ true) (from e t : ℕ) where
+  abbrev stands : List ℕ → Bool
+  stands key = within from e t && holds_target w q e key t
+
+  -- where it holds of target objects, they are some of the classes
+  told_is_there : (key : List ℕ) → stands key ≡ true → list_any (λ k. bytes_eq k key && stands k) (tuples w q) ≡ true
+  told_is_there key holds =
+      sym (rows_have_where (λ k. bytes_eq k key) (tuples w q) (holds_target w q e) from e t)
+      ∙ union w q targets from e key t
+      ∙ rows_have_where (λ b. bytes_eq (tuple_of q b) key) (bindings w q) (λ b. holds_full w q e (slice_index b)) from e t
+      ∙ any_and (λ b. bytes_eq (tuple_of q b) key) (within from e t) (λ b. holds_full w q e (slice_index b) t) (bindings w q)
+      ∙ holds
+
+  record IsFound (test : List ℕ → Bool) : Type 0 where
+    key : List ℕ
+    passes : test key ≡ true
+
+  found : (test : List ℕ → Bool) (keys : List (List ℕ)) → list_any test keys ≡ true → IsFound test
+  found test [] has = absurd (false≢true has)
+  found test (key ∷ keys) has = elim (or_cases (test key) (list_any test keys) has) [
+    | inl here ↦ record { key = key; passes = here }
+    | inr later ↦ found test keys later
+  ]
+
+  -- in a world with more objects
+  pub same_told : (v : World) (more : List ObjectInfo) → v.history.catalog.objects ≡ w.history.catalog.objects ++ more → (target : List ℕ) →
+      is_some_now (target_of v.history.catalog) target stands (tuples v q) ≡ is_some_now (target_of w.history.catalog) target stands (tuples w q)
+  same_told v more grown target =
+      let c = w.history.catalog in
+      let d = v.history.catalog in
+      let old : List ℕ → Bool = λ key. bytes_eq (target_of c key) target && stands key in
+      let new : List ℕ → Bool = λ key. bytes_eq (target_of d key) target && stands key in
+      let texts : list_any new (tuples w q) ≡ list_any old (tuples w q) =
+      any_agree (IsKey c (length q.targets)) new old
+      (λ key is. ap (λ text. bytes_eq text target && stands key) (target_stays c d more grown (length q.targets) key is))
+      (tuples w q) (tuples_are_keys w q) in
+      let more_keys : list_any new (tuples w q) ≡ true → list_any new (tuples v q) ≡ true =
+      products_more (λ u. ids_of c (slice_index q.classes u)) (λ u. ids_of d (slice_index q.classes u))
+      (λ u test has. subst (λ (objects : List ObjectInfo). list_any test (map (λ (e : ℕ × ObjectInfo). e.0) (filter (λ (e : ℕ × ObjectInfo). e.1.class == slice_index q.classes u) (enumerate_from 0 objects))) ≡ true) (sym grown)
+      (ids_more c.objects more 0 (slice_index q.classes u) test has))
+      q.targets new in
+      let back : list_any new (tuples v q) ≡ true → list_any new (tuples w q) ≡ true =
+      λ has.
+      let x = found new (tuples v q) has in
+      let both = and_parts (bytes_eq (target_of d x.key) target) (stands x.key) x.passes in
+      any_more (λ k. bytes_eq k x.key && stands k) new
+      (λ k passes.
+      let same : k ≡ x.key = (bytes_eq-Decides k x.key).0 (and_parts (bytes_eq k x.key) (stands k) passes).0 in
+      ap new same ∙ x.passes)
+      (tuples w q) (told_is_there x.key both.1) in
+      same_truth (list_any new (tuples v q)) (list_any new (tuples w q)) back more_keys ∙ texts

@@ -1,0 +1,4 @@
+pub mod Example
+pub mod Followed
+pub mod Targets
+pub mod Written

@@ -1,0 +1,245 @@
+-- A replica hears the lines of a run.
+use Rattle.std.proofs.Common.{inl, inr, ◌≡◌, ◌≢◌, ℕ, Bool, true, false, List, ◌++◌, [], ◌∷◌, take, length, Option, Some, Result, Ok, Err, refl, ap, sym, subst, ◌∙◌, append-nil, if◌then◌else◌, arith}
+use Rattle.std.specs.Prelude.{is_some, unwrap_or}
+use Rattle.std.proofs.lemmas.Grind.{common_steps}
+use Rattle.outside.specs.declared.fault.OutFail.{OutFail}
+use Rattle.outside.specs.declared.fault.OutFail.TheVariants as fails
+use Rattle.outside.specs.Faults.{Rose, HasCauseOrNoMemory}
+use Rattle.line_loop.specs.declared.ending.Ending.{Ending}
+use Rattle.line_loop.specs.declared.ending.Ending.TheVariants as endings
+use Rattle.line_loop.specs.Ending as loop
+use Rattle.line_loop.specs.Ending.{Counts, StaysWithin}
+use Rattle.line_loop.specs.Lines.{ended_lines}
+use Rattle.line_loop.specs.Machine.{after as after_all, replies}
+use Rattle.line_loop.specs.Run.{heard}
+use Rattle.line_loop.specs.Stop.{IsAt, Point, WritesAll, WritesPart}
+use Rattle.run_ends.specs.Ends.{Seen}
+use Rattle.run_ends.specs.Saying.{status_said}
+use Rattle.run_ends.specs.declared.status.Status.TheVariants as statuses
+use Rattle.replica.specs.Feed.{Hearing, after, next, said, silent}
+use Rattle.feeds_run.specs.Ends.{EndsAs, IsPart, IsWhole, KeepsLimit, may_end}
+use Rattle.feeds_run.specs.Following.{leaves, machine}
+use Rattle.feeds_run.specs.Parts.{TellsHeard, end_of}
+use Rattle.feeds_run.specs.Status.{HasCause, ending_by, said_as, status_of}
+use Rattle.feeds_run.specs.Theorem.{FeedsAs}
+use Rattle.feeds_run.specs.Whole.{Whole, heard_of, whole}
+use Rattle.feeds_run.specs.Words.{Words, Followed}
+use Rattle.feeds_run.specs.declared.status.FeedStatus.{FeedStatus}
+use Rattle.feeds_run.specs.declared.status.FeedStatus.TheVariants.{Done, BadFeed, ReadFault, WriteFault, NoMemory, InputLimit}
+use Rattle.feeds_run.proofs.EndLemmas.{answered_cause, answered_taken, no_rise, nothing_written}
+
+-- ---- The machine, and the fold of a feed
+
+silent_machine : (h : Hearing) (lines : List (List ℕ)) → replies machine h lines ≡ []
+silent_machine h [] = refl
+silent_machine h (line ∷ lines) =
+    elim (is_some h.bad) as (λ b. (if b then [] else replies machine (next h line) lines) ≡ [])
+    [ true ↦ refl | false ↦ silent_machine (next h line) lines ]
+
+-- a feed that is bad stays as it is
+stays_bad : (h : Hearing) (lines : List (List ℕ)) → is_some h.bad ≡ true → after h lines ≡ h
+stays_bad h [] bad = refl
+stays_bad h (line ∷ lines) bad =
+    let same : next h line ≡ h = rw bad in
+    ap (λ k. after k lines) same ∙ stays_bad h lines bad
+
+same_fold : (h : Hearing) (lines : List (List ℕ)) → after_all machine h lines ≡ after h lines
+same_fold h [] = refl
+same_fold h (line ∷ lines) =
+    elim (is_some h.bad) as (λ b. is_some h.bad ≡ b → (if b then h else after_all machine (next h line) lines) ≡ after (next h line) lines)
+    [ true ↦ λ bad. sym (stays_bad h (line ∷ lines) bad) | false ↦ λ bad. same_fold (next h line) lines ] refl
+
+-- nothing was written where no line has a reply
+unwritten : (written : List ℕ) (h : Hearing) (lines : List (List ℕ)) → written ++ replies machine h lines ≡ written
+unwritten written h lines = ap (λ r. written ++ r) (silent_machine h lines) ∙ append-nil written
+
+no_part : (count : ℕ) → take {A = ℕ} count [] ≡ []
+no_part count = grind (arith, common_steps)
+
+-- ---- The read loop
+
+-- what the read loop promises of a replica, from one on and with another in the end
+pub record Hears (limit : ℕ) (name : List ℕ) (first now : Hearing) (before after : Seen) (ending : Ending) : Type 0 where
+  pub is_silent : first ≡ silent name
+  pub none_before : before.faults.context ≡ 0
+  pub none_after : after.faults.context ≡ 0
+  pub cause : loop.EndsWithCause ending before.faults after.faults
+  pub taken : (bytes : List ℕ) → before.left ≡ Some bytes → loop.KeepsLimit limit bytes ending after.left
+  pub ends : (start : Point Hearing) (bytes : List ℕ) → IsAt start (Some first) before.written → before.left ≡ Some bytes →
+      loop.EndsAs machine leaves limit start bytes ending (Some now) after.written after.left
+
+abbrev begins : (name written : List ℕ) → Point Hearing
+begins name written = record { state = silent name; written = written }
+
+begins_at : (name written : List ℕ) (first : Hearing) (told : Option (List ℕ)) → first ≡ silent name → told ≡ Some written →
+    IsAt (begins name written) (Some first) told
+begins_at name written first told is_silent is = record { in_state = ap Some is_silent; has_written = is }
+
+fits : (name : List ℕ) (ending : Ending) → may_end (Followed name) (status_of ending) ≡ true
+fits name endings.Done = refl
+fits name endings.ReadFault = refl
+fits name endings.WriteFault = refl
+fits name endings.ContextFault = refl
+fits name endings.NoMemory = refl
+fits name endings.InputLimit = refl
+
+module _ (limit : ℕ) (name : List ℕ) (first now : Hearing) (before after : Seen) where
+  abbrev by_cut : List ℕ → Bool → Whole
+  by_cut bytes cut =
+      if cut then record { output = []; status = InputLimit }
+      else record { output = said (heard_of name limit bytes); status = end_of (heard_of name limit bytes) }
+
+  ends_by : (ending : Ending) (bytes written : List ℕ) → ending ≢ endings.Done → loop.EndsWithCause ending before.faults after.faults →
+      before.faults.context ≡ 0 → after.faults.context ≡ 0 →
+      loop.EndsAs machine leaves limit (begins name written) bytes ending (Some now) after.written after.left →
+      EndsAs (Followed name) limit bytes written (status_of ending) after
+  ends_by endings.Done bytes written other cause was is h = absurd (other refl)
+  ends_by endings.ReadFault bytes written other cause was is h = record {
+    count = h.count;
+    within = h.within;
+    taken = h.taken;
+    output = h.reached.has_written ∙ ap Some (unwritten written (silent name) (ended_lines (take h.count bytes)) ∙ sym (append-nil written));
+    going_on = ap (λ k. is_some k.bad) (sym (same_fold (silent name) (ended_lines (take h.count bytes)))) ∙ h.going_on;
+  }
+  ends_by endings.WriteFault bytes written other cause was is h =
+      let none = ap length (silent_machine (silent name) (heard machine limit (silent name) bytes)) in
+      absurd (grind (arith, none, h.proper))
+  ends_by endings.ContextFault bytes written other cause was is h = absurd (no_rise before.faults.context after.faults.context was is cause.0)
+  ends_by endings.NoMemory bytes written other cause was is h =
+      nothing_written (Followed name) limit bytes written after
+      (h.has_written ∙ ap (λ r. Some (written ++ take h.count r)) (silent_machine (silent name) (heard machine limit (silent name) bytes)) ∙ ap (λ r. Some (written ++ r)) (no_part h.count) ∙ ap Some (append-nil written))
+  ends_by endings.InputLimit bytes written other cause was is h = record {
+    status_is = ap (λ cut. (by_cut bytes cut).status) (sym h.cut);
+    output = h.reached.has_written ∙ ap Some (unwritten written (silent name) (heard machine limit (silent name) bytes) ∙ sym (append-nil written))
+        ∙ ap (λ cut. Some (written ++ (by_cut bytes cut).output)) (sym h.cut);
+  }
+
+  -- where the input wasn't heard to its end, or to a line that hasn't its form
+  pub heard_runs : (ending : Ending) (status : FeedStatus) → ending ≢ endings.Done → status ≡ status_of ending →
+      Hears limit name first now before after ending → FeedsAs limit (Followed name) before after status
+  heard_runs ending status other is h = subst (λ (s : FeedStatus). FeedsAs limit (Followed name) before after s) (sym is) (record {
+    fits = fits name ending;
+    cause = answered_cause ending before.faults after.faults h.none_before h.none_after h.cause;
+    taken = λ bytes left_is. answered_taken ending limit bytes after.left (h.taken bytes left_is);
+    ends = λ bytes written left_is written_is.
+        ends_by ending bytes written other h.cause h.none_before h.none_after
+        (h.ends (begins name written) bytes (begins_at name written first before.written h.is_silent written_is) left_is);
+    users = λ bytes written told left_is written_is is all told_is. absurd (cc is);
+  })
+
+-- ---- What was heard is said
+
+-- whether the feed is bad decides which status tells that all was said
+said_fits : (name : List ℕ) (bad : Bool) → may_end (Followed name) (if bad then BadFeed else Done) ≡ true
+said_fits name true = refl
+said_fits name false = refl
+
+said_cause : (bad : Bool) (old new : Counts) → new ≡ old → HasCause (if bad then BadFeed else Done) old new
+said_cause true old new same = same
+said_cause false old new same = same
+
+said_taken : (bad : Bool) (limit : ℕ) (bytes : List ℕ) (left : Option (List ℕ)) → StaysWithin limit bytes left →
+    loop.KeepsLimit limit bytes (ending_by (if bad then BadFeed else Done)) left
+said_taken true limit bytes left h = h
+said_taken false limit bytes left h = h
+
+said_ends : (words : Words) (limit : ℕ) (bytes written : List ℕ) (after : Seen) (bad : Bool) →
+    IsWhole words limit bytes written (if bad then BadFeed else Done) after → EndsAs words limit bytes written (if bad then BadFeed else Done) after
+said_ends words limit bytes written after true h = h
+said_ends words limit bytes written after false h = h
+
+module _ (limit : ℕ) (name : List ℕ) (first h : Hearing) (before mid : Seen) (sink : ℕ) (written' : Option (List ℕ))
+    (heard_all : Hears limit name first h before mid endings.Done) where
+  -- the sink alone was asked after the lines were heard
+  abbrev last : Seen
+  last = record mid { faults = record mid.faults { sink = sink }; written = written' }
+
+  module _ (bytes written : List ℕ) (left_is : before.left ≡ Some bytes) (written_is : before.written ≡ Some written) where
+    done : loop.IsDone machine limit (begins name written) bytes (Some h) mid.written mid.left
+    done = heard_all.ends (begins name written) bytes (begins_at name written first before.written heard_all.is_silent written_is) left_is
+
+    heard_is : h ≡ heard_of name limit bytes
+    heard_is =
+        ap (λ o. unwrap_or o h) done.reached.in_state ∙ same_fold (silent name) (heard machine limit (silent name) bytes)
+
+    unwritten_yet : mid.written ≡ Some written
+    unwritten_yet = done.reached.has_written ∙ ap Some (unwritten written (silent name) (heard machine limit (silent name) bytes))
+
+    whole_is : whole (Followed name) limit bytes ≡ record { output = said h; status = end_of h }
+    whole_is =
+        ap (by_cut limit name first h before mid bytes) done.whole
+        ∙ ap (λ k. record { output = said k; status = end_of k }) (sym heard_is)
+
+    all_said : written' ≡ Some (written ++ said h) → EndsAs (Followed name) limit bytes written (end_of h) last
+    all_said output = said_ends (Followed name) limit bytes written last (is_some h.bad) (record {
+      status_is = ap (λ (w : Whole). w.status) (sym whole_is);
+      output = output ∙ ap (λ (w : Whole). Some (written ++ w.output)) (sym whole_is);
+    })
+
+    part_said : WritesPart (said h) written written' → WritesPart (whole (Followed name) limit bytes).output written written'
+    part_said part = subst (λ (w : Whole). WritesPart w.output written written') (sym whole_is) part
+
+    in_part : WritesPart (said h) written written' → IsPart (Followed name) limit bytes written last
+    in_part part = let (count, lacks, is) = part_said part in (count, is)
+
+  counts_stay : sink ≡ mid.faults.sink → last.faults ≡ before.faults
+  counts_stay same = (λ i. record mid.faults { sink = same i }) ∙ heard_all.cause
+
+  by_result : (result : Result (Unit {0}) OutFail) → HasCauseOrNoMemory mid.faults.sink sink result →
+      ((written : List ℕ) → mid.written ≡ Some written → WritesAll (said h) written result written') →
+      FeedsAs limit (Followed name) before last (said_as (end_of h) (status_said statuses.Done result))
+  by_result (Ok u) cause bytes_are = record {
+    fits = said_fits name (is_some h.bad);
+    cause = said_cause (is_some h.bad) before.faults last.faults (counts_stay cause);
+    taken = λ bytes left_is. said_taken (is_some h.bad) limit bytes mid.left (heard_all.taken bytes left_is);
+    ends = λ bytes written left_is written_is.
+        all_said bytes written left_is written_is (bytes_are written (unwritten_yet bytes written left_is written_is));
+    users = λ bytes written told left_is written_is is all told_is. absurd (cc is);
+  }
+  by_result (Err fails.Failed) cause bytes_are = record {
+    fits = refl;
+    cause = (
+      subst (λ (k : Counts). Rose k.sink sink) heard_all.cause cause,
+      ap (λ (k : Counts). k.source) heard_all.cause,
+      ap (λ (k : Counts). k.context) heard_all.cause,
+    );
+    taken = λ bytes left_is. heard_all.taken bytes left_is;
+    ends = λ bytes written left_is written_is.
+        part_said bytes written left_is written_is (bytes_are written (unwritten_yet bytes written left_is written_is));
+    users = λ bytes written told left_is written_is is all told_is. absurd (cc is);
+  }
+  by_result (Err fails.NoMemory) cause bytes_are = record {
+    fits = refl;
+    cause = counts_stay cause;
+    taken = λ bytes left_is. heard_all.taken bytes left_is;
+    ends = λ bytes written left_is written_is.
+        in_part bytes written left_is written_is (bytes_are written (unwritten_yet bytes written left_is written_is));
+    users = λ bytes written told left_is written_is is all told_is. absurd (cc is);
+  }
+
+  -- there was no memory for the text
+  unsaid : sink ≡ mid.faults.sink → written' ≡ mid.written → FeedsAs limit (Followed name) before last NoMemory
+  unsaid same stays = record {
+    fits = refl;
+    cause = counts_stay same;
+    taken = λ bytes left_is. heard_all.taken bytes left_is;
+    ends = λ bytes written left_is written_is.
+        nothing_written (Followed name) limit bytes written last (stays ∙ unwritten_yet bytes written left_is written_is);
+    users = λ bytes written told left_is written_is is all told_is. absurd (cc is);
+  }
+
+  by_telling : (status : FeedStatus) → TellsHeard h status mid.faults.sink sink mid.written written' →
+      FeedsAs limit (Followed name) before last status
+  by_telling status (inl t) =
+      subst (λ (s : FeedStatus). FeedsAs limit (Followed name) before last s)
+      (sym (t.status_is ∙ ap (said_as (end_of h)) t.speaks.status_is))
+      (by_result t.speaks.result t.speaks.cause t.speaks.bytes)
+  by_telling status (inr (is, same, stays)) =
+      subst (λ (s : FeedStatus). FeedsAs limit (Followed name) before last s) (sym is) (unsaid same stays)
+
+pub told_runs : (limit : ℕ) (name : List ℕ) (first now h : Hearing) (before mid : Seen) (sink : ℕ) (written : Option (List ℕ)) (status : FeedStatus) →
+    h ≡ now → Hears limit name first now before mid endings.Done → TellsHeard h status mid.faults.sink sink mid.written written →
+    FeedsAs limit (Followed name) before (record mid { faults = record mid.faults { sink = sink }; written = written }) status
+told_runs limit name first now h before mid sink written status same hears tells =
+    by_telling limit name first h before mid sink written
+    (subst (λ (k : Hearing). Hears limit name first k before mid endings.Done) (sym same) hears) status tells

@@ -1,0 +1,47 @@
+-- Runs worked out by hand.
+use Rattle.std.specs.Prelude.{◌≡◌, ℕ, List, [], ◌∷◌, ◌++◌, codes}
+use Rattle.feeds_run.specs.Whole.{Whole, whole}
+use Rattle.feeds_run.specs.Words.{Words, Bad, Shared, Followed, words_of}
+use Rattle.feeds_run.specs.declared.status.FeedStatus.{FeedStatus}
+use Rattle.feeds_run.specs.declared.status.FeedStatus.TheVariants.{Done, BadWords, BadFeed, InputLimit}
+
+abbrev pub gives : FeedStatus → List ℕ → Whole
+gives status output = record { output = output; status = status }
+
+-- under a limit that these inputs don't reach
+abbrev pub run : Words → List ℕ → Whole
+run words bytes = whole words 1000 bytes
+
+-- what a user heard who watches all cars, up to the tick of another user, and to the removal of the car
+abbrev pub up_to_the_clock : List ℕ
+up_to_the_clock = codes "ok\nstart w watch 0\nnow a : 0..10\nok\nclock 4\n"
+
+abbrev pub all_of_it : List ℕ
+all_of_it = up_to_the_clock ++ codes "lose w a : 4..10\nleave w a\n"
+
+pub record AsksByWords : Type 0 where
+  pub nothing : words_of [] ≡ Bad
+  pub name_alone : words_of (codes "feeds" ∷ []) ≡ Shared
+  pub any_name : words_of ([] ∷ []) ≡ Shared
+  pub without_query : words_of (codes "feeds" ∷ codes "replica" ∷ []) ≡ Bad
+  pub query : words_of (codes "feeds" ∷ codes "replica" ∷ codes "w" ∷ []) ≡ Followed (codes "w")
+  pub any_query : words_of (codes "feeds" ∷ codes "replica" ∷ [] ∷ []) ≡ Followed []
+  pub another_word : words_of (codes "feeds" ∷ codes "copy" ∷ codes "w" ∷ []) ≡ Bad
+  pub too_many : words_of (codes "feeds" ∷ codes "replica" ∷ codes "w" ∷ codes "v" ∷ []) ≡ Bad
+
+pub record WritesByWords : Type 0 where
+  pub bad_words : run Bad (codes "ann list\n") ≡ gives BadWords (codes "bad words\n")
+  -- ---- users
+  pub shared : run Shared (codes "ann class car 9 point\nbob insert car a\nbob show w\nbob tick 4\nlist\n")
+      ≡ gives Done (codes "ann ok\nbob ok\nbob refused 7 UnknownName\nann clock 4\nbob clock 4\nbob ok\n? refused 4 BadSyntax\n")
+  pub no_end_of_a_line : run Shared (codes "ann tick 2\r\nbob tick 3") ≡ gives Done (codes "ann clock 2\nann ok\nann clock 5\nbob clock 5\nbob ok\n")
+  pub quit_ends_nothing : run Shared (codes "ann quit\nann tick 1\n") ≡ gives Done (codes "ann refused 4 BadSyntax\nann clock 1\nann ok\n")
+  pub past_the_limit : whole Shared 11 (codes "ann tick 1\nann tick 1\n") ≡ gives InputLimit (codes "ann clock 1\nann ok\n")
+  -- ---- a replica
+  pub followed : run (Followed (codes "w")) up_to_the_clock ≡ gives Done (codes "a : 4..10\n")
+  pub followed_to_the_end : run (Followed (codes "w")) all_of_it ≡ gives Done []
+  pub another_query : run (Followed (codes "v")) all_of_it ≡ gives Done []
+  pub bad_feed : run (Followed (codes "w")) (codes "ok\nclock 04\nclock x\n") ≡ gives BadFeed (codes "bad feed 2\n")
+  pub limit_of_a_feed : whole (Followed (codes "w")) 5 up_to_the_clock ≡ gives InputLimit []
+  pub bad_feed_within_the_limit : whole (Followed (codes "w")) 10 (codes "clock 04\nclock 5\n") ≡ gives BadFeed (codes "bad feed 1\n")
+  pub bad_feed_past_the_limit : whole (Followed (codes "w")) 7 (codes "clock 04\nclock 5\n") ≡ gives InputLimit []

@@ -1,0 +1,18 @@
+-- A replica as a line machine. It replies to no line, and is done by the first that hasn't its form.
+use Rattle.std.specs.Prelude.{◌≡◌, is_some, [], Some}
+use Rattle.outside.specs.declared.fault.OutFail.TheVariants.{Failed, NoMemory}
+use Rattle.line_loop.specs.Machine.{Machine, Failures}
+use Rattle.line_loop.specs.Spending.{Costs}
+use Rattle.replica.specs.Feed.{Hearing, next}
+
+abbrev pub machine : Machine Hearing
+machine = record { next = next; reply = λ h line. []; done = λ h. is_some h.bad }
+
+-- no context could fail, and want of memory changes nothing
+abbrev pub leaves : Failures Hearing
+leaves Failed h line told = ⊥
+leaves NoMemory h line told = told ≡ Some h
+
+-- nothing is counted
+abbrev pub cost : Costs Hearing
+cost h line = 0

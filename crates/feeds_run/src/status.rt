@@ -1,0 +1,69 @@
+//! How a run ends.
+ghost use Rattle.std.specs.Prelude.{◌≡◌, ◌≢◌};
+ghost use Rattle.line_loop.specs.declared.ending.Ending.TheVariants.{ContextFault};
+ghost use Rattle.feeds_run.specs.Status.{code_of, said_as, status_of};
+
+use line_loop::Ending;
+use run_ends::Status;
+
+/// How a run ends, and with it the program.
+#[derive(Clone, Copy, Debug, PartialEq, Eq)]
+pub enum FeedStatus {
+    /// The input was read to its end, and all that is to be said of it was written.
+    Done,
+    /// The words of the program are of none of its forms.
+    BadWords,
+    /// A line that a replica heard hasn't its form.
+    BadFeed,
+    /// A read of the input failed.
+    ReadFault,
+    /// A write failed.
+    WriteFault,
+    /// There was no memory.
+    NoMemory,
+    /// The limit of bytes was taken, and the next read gave another byte.
+    InputLimit,
+}
+
+impl FeedStatus {
+    /// The exit status of the program, from 0 to 7. None is 5, which tells of a file where DOMINO serves one user.
+    pub fn code(self) -> u8
+        ensures { result ≡ code_of self }
+    {
+        match self {
+            FeedStatus::Done => 0,
+            FeedStatus::BadWords => 1,
+            FeedStatus::BadFeed => 2,
+            FeedStatus::ReadFault => 3,
+            FeedStatus::WriteFault => 4,
+            FeedStatus::NoMemory => 6,
+            FeedStatus::InputLimit => 7,
+        }
+    }
+}
+
+/// The status that an ending of the read loop leads to, where no context could fail.
+pub(crate) fn status_of(ending: Ending) -> FeedStatus
+    requires { ending ≢ ContextFault }
+    ensures { result ≡ status_of ending }
+{
+    match ending {
+        Ending::Done => FeedStatus::Done,
+        Ending::ReadFault => FeedStatus::ReadFault,
+        Ending::WriteFault => FeedStatus::WriteFault,
+        Ending::ContextFault => unreachable!(),
+        Ending::NoMemory => FeedStatus::NoMemory,
+        Ending::InputLimit => FeedStatus::InputLimit,
+    }
+}
+
+/// The status of a run that says something, by how that was written.
+pub(crate) fn said_as(end: FeedStatus, written: Status) -> FeedStatus
+    ensures { result ≡ said_as end written }
+{
+    match written {
+        Status::Done => end,
+        Status::WriteFault => FeedStatus::WriteFault,
+        _ => FeedStatus::NoMemory,
+    }
+}

@@ -1,0 +1,16 @@
+pub mod KindLemmas
+pub mod WordLemmas
+pub mod JudgingLemmas
+pub mod PlaceLemmas
+pub mod ToldLemmas
+pub mod DataLemmas
+pub mod NewcomerLemmas
+pub mod UserLemmas
+pub mod HubLemmas
+pub mod StepLemmas
+pub mod TellingLemmas
+pub mod CommandLemmas
+pub mod SentLemmas
+pub mod SeatedLemmas
+pub mod ReplayLemmas
+pub mod SeatLemmas

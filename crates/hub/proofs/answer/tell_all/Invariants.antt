@@ -1,0 +1,11 @@
+use Rattle.std.proofs.Common.{length, ◌-◌}
+use Rattle.command_text.specs.Tree.{command_view}
+use Rattle.hub.proofs.TellingLemmas.{AreToldSoFar}
+use Rattle.hub.proofs.answer.tell_all.Given as goal
+
+abbrev pub invariant-seats : goal.invariant-seats
+invariant-seats g l =
+    AreToldSoFar l.initial.sender l.initial.own (command_view l.initial.command) l.place l.initial.seats l.seats l.initial.out.items l.out.items
+
+abbrev pub decreases-seats : goal.decreases-seats
+decreases-seats g l = length l.initial.seats - l.place

@@ -1,0 +1,5 @@
+pub mod Judging
+pub mod Answering
+pub mod Seats
+pub mod Told
+pub mod Machine

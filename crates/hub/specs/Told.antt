@@ -1,0 +1,135 @@
+-- The parts of a hub as the hub that they are seen as.
+use Rattle.std.specs.Prelude.{◌≡◌, ℕ, ◌<◌, ◌≤◌, Bool, true, false, ◌&&◌, is_none, Option, None, Some, option_map, List, [], ◌++◌, length, map, slice_get, slice_set, if◌then◌else◌}
+use Rattle.std.specs.List.{flat_map}
+use Rattle.std.specs.Option.{option_map_or}
+use Rattle.std.specs.Str.{bytes_eq}
+use Rattle.command_text.specs.declared.refusal.Refusal.{Refusal}
+use Rattle.command_text.specs.Journal.{spelled}
+use Rattle.command_text.specs.Refusals.{line_of}
+use Rattle.command_text.specs.Tree.{CommandTree}
+use Rattle.line_meaning.specs.Judging.{all_after, fault_of, held_after}
+use Rattle.line_meaning.specs.Reply.{line_feed}
+use Rattle.users.specs.declared.sender.TheConstants.{USER_LIMIT}
+use Rattle.users.specs.Tagged.{tagged}
+use Rattle.feeds_meaning.specs.declared.limits.TheConstants.{DATA_LINES_LIMIT, QUERY_LINES_LIMIT}
+use Rattle.feeds_meaning.specs.Heard.{Seat, counted, other_by, other_text, own_by, own_refusal}
+use Rattle.feeds_meaning.specs.Hub.{Hub, Seated, added, has_room, has_user, seats_with, step}
+use Rattle.feeds_meaning.specs.Lines.{is_data, is_of_queries}
+use Rattle.hub.specs.Answering.{text_by}
+use Rattle.hub.specs.Seats.{IsHub, accepted_in}
+use Rattle.hub.specs.declared.parts.Parts.{Parts}
+use Rattle.hub.specs.declared.seat.Seat.{Seat as Kept}
+
+-- a user, where so many data commands were accepted
+abbrev pub seated : ℕ → Kept → Seated
+seated data_lines s = record {
+  user = s.user;
+  seat = record { held = s.session; here = true; data_lines = data_lines; query_lines = s.query_lines };
+}
+
+abbrev pub hub_of : Parts → Hub
+hub_of p = record { seats = map (seated p.data_lines) p.seats.items; accepted = accepted_in (map (seated p.data_lines) p.seats.items) }
+
+-- what holds of the parts
+pub record AreParts (p : Parts) : Type 0 where
+  pub hub : IsHub (hub_of p)
+  pub data_lines : p.data_lines ≡ length (hub_of p).accepted
+
+-- a line was answered: the hub goes on, and what is told of the line stands at the end
+pub record IsAnswered (old new : Hub) (line before after : List ℕ) : Type 0 where
+  pub goes_on : new ≡ (step old line).0
+  pub said : after ≡ before ++ (step old line).1
+
+-- ---- A line of a user, by the command that it is and its refusal
+
+-- the data command that is accepted
+abbrev pub change_by : CommandTree → Option Refusal → Option CommandTree
+change_by c refusal = if is_none refusal && is_data c then Some c else None
+
+-- what it leaves of a seat, and the text that is told of it
+abbrev pub taken_by : List ℕ → CommandTree → Option Refusal → Seated → Seat × List ℕ
+taken_by user c refusal s =
+    if has_user user s then own_by s.seat c refusal
+    else option_map_or (other_by s.seat) (change_by c refusal) (s.seat, [])
+
+abbrev pub seated_by : List ℕ → CommandTree → Option Refusal → Seated → Seated
+seated_by user c refusal s = record { user = s.user; seat = (taken_by user c refusal s).0 }
+
+abbrev pub told_by : List ℕ → CommandTree → Option Refusal → Seated → List ℕ
+told_by user c refusal s = tagged s.user (taken_by user c refusal s).1
+
+-- the user has a seat
+pub record IsAnsweredBy (user : List ℕ) (c : CommandTree) (refusal : Option Refusal) (old new : Hub) (before after : List ℕ) : Type 0 where
+  pub seats : new.seats ≡ map (seated_by user c refusal) old.seats
+  pub accepted : new.accepted ≡ old.accepted ++ added (change_by c refusal)
+  pub said : after ≡ before ++ flat_map (told_by user c refusal) old.seats
+
+-- a command of the user at a place is answered by what is held of this user's lines
+abbrev pub IsAnsweredAt : (place : ℕ) → CommandTree → (old new : Hub) → (before after : List ℕ) → Type 0
+IsAnsweredAt place c old new before after = (s : Seated) → slice_get old.seats place ≡ Some s →
+    IsAnsweredBy s.user c (fault_of s.seat.held c) old new before after
+
+-- as is a line
+abbrev pub IsSentAt : (place : ℕ) → (line : List ℕ) → (old new : Hub) → (before after : List ℕ) → Type 0
+IsSentAt place line old new before after = (s : Seated) → slice_get old.seats place ≡ Some s →
+    IsAnsweredBy s.user (spelled line) (own_refusal s.seat line) old new before after
+
+-- there is room for what a command of the user at a place would count
+pub record HasRoomAt (place : ℕ) (c : CommandTree) (h : Hub) : Type 0 where
+  pub of_data : is_data c ≡ true → length h.accepted < DATA_LINES_LIMIT
+  pub of_queries : is_of_queries c ≡ true → (s : Seated) → slice_get h.seats place ≡ Some s → s.seat.query_lines < QUERY_LINES_LIMIT
+
+-- ---- What each user keeps and is told of a command
+
+-- the sender keeps
+abbrev pub kept_own : CommandTree → Option Refusal → Kept → Kept
+kept_own c (Some refusal) s = s
+kept_own c None s = record s { session = all_after s.session c; query_lines = counted (is_of_queries c) s.query_lines }
+
+-- the sender's command was accepted or not
+pub record IsOwnOf (c : CommandTree) (old new : Kept) (text : List ℕ) (accepted : Bool) : Type 0 where
+  pub told : accepted ≡ is_none (fault_of old.session c)
+  pub kept_is : new ≡ kept_own c (fault_of old.session c) old
+  pub text_is : text ≡ text_by old.session c (fault_of old.session c)
+
+-- so it is of the user at a place
+abbrev pub IsOwnAt : (place : ℕ) → CommandTree → (old new : List Kept) → (text : List ℕ) → Bool → Type 0
+IsOwnAt place c old new text accepted = (s : Kept) → slice_get old place ≡ Some s →
+    (t : Kept) × IsOwnOf c s t text accepted × (new ≡ slice_set old place t)
+
+-- a refusal was written for the user at a place
+abbrev pub IsRefusedAt : (place : ℕ) → Refusal → List Kept → (before after : List ℕ) → Type 0
+IsRefusedAt place refusal seats before after = (s : Kept) → slice_get seats place ≡ Some s →
+    after ≡ before ++ tagged s.user (line_of refusal ++ line_feed)
+
+-- a user who is told of an accepted data command of the sender, who has carried it out
+pub record MayBeTold (sender : List ℕ) (c : CommandTree) (s : Kept) : Type 0 where
+  pub accepted : bytes_eq sender s.user ≡ false → fault_of s.session c ≡ None
+  pub short : length s.user ≤ USER_LIMIT
+
+abbrev pub kept_told : (sender : List ℕ) → CommandTree → Kept → Kept
+kept_told sender c s = if bytes_eq sender s.user then s else record s { session = held_after s.session c }
+
+abbrev pub told_kept : (sender own : List ℕ) → CommandTree → Kept → List ℕ
+told_kept sender own c s = tagged s.user (if bytes_eq sender s.user then own else other_text s.session c)
+
+-- all users were told of it
+pub record AreTold (sender own : List ℕ) (c : CommandTree) (old new : List Kept) (before after : List ℕ) : Type 0 where
+  pub kept : new ≡ map (kept_told sender c) old
+  pub said : after ≡ before ++ flat_map (told_kept sender own c) old
+
+-- ---- Places
+
+-- a user whose line has come
+abbrev pub arrived : Seated → Seated
+arrived s = record { user = s.user; seat = record s.seat { here = true } }
+
+-- a user's place, or where a new user gets one
+pub record IsPlace (accepted : List CommandTree) (user : List ℕ) (old new : List Seated) (place : ℕ) : Type 0 where
+  pub there : option_map (λ s. s.user) (slice_get new place) ≡ Some user
+  pub seats : new ≡ map arrived (seats_with (record { seats = old; accepted = accepted }) user)
+
+-- the user has one, or gets one, or there is no room
+abbrev pub IsSeatedAs : (h : Hub) → (user : List ℕ) → Hub → Option ℕ → Type 0
+IsSeatedAs h user new (Some place) = (has_room h user ≡ true) × IsPlace h.accepted user h.seats new.seats place × (new.accepted ≡ h.accepted)
+IsSeatedAs h user new None = (has_room h user ≡ false) × (new ≡ h)

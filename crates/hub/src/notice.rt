@@ -1,0 +1,83 @@
+//! The lines that users are told beside replies.
+ghost use Rattle.std.specs.Prelude.{◌≡◌, ◌++◌, OnOk};
+ghost use Rattle.command_text.specs.Refusals.{line_of};
+ghost use Rattle.command_text.specs.Tree.{command_view};
+ghost use Rattle.line_meaning.specs.Reply.{clock_line, line_feed};
+ghost use Rattle.reply_text.specs.Begins.{Begins};
+ghost use Rattle.feeds_meaning.specs.Lines.{notice, stop_line};
+ghost use Rattle.hub.specs.Answering.{start_text};
+
+use command_text::{Command, Refusal};
+use fixed_point::Word;
+use itoa::Buffer;
+use session::Session;
+use std::alloc::AllocError;
+
+/// Writes bytes to the end.
+#[tactic(auto, using(reply_text::proofs::BeginLemmas::begins_more))]
+pub(crate) fn push(out: &mut Vec<u8>, bytes: &[u8]) -> Result<(), AllocError>
+    ensures ok { OnOk result (out.new.items ≡ out.old.items ++ bytes.now) }
+    ensures begins { Begins out.old.items out.new.items }
+{
+    out.extend_from_slice(bytes)?;
+    Ok(())
+}
+
+/// Writes `start`, a query, the word of its kind and the clock.
+fn push_start(query: &Word, kind: &[u8], now: u32, out: &mut Vec<u8>) -> Result<(), AllocError>
+    ensures { OnOk result (out.new.items ≡ out.old.items ++ start_text query.now kind.now now) }
+{
+    push(out, b"start ")?;
+    push(out, query.bytes())?;
+    push(out, b" ")?;
+    push(out, kind)?;
+    push(out, b" ")?;
+    push(out, Buffer::new().format(now).as_bytes())?;
+    push(out, b"\n")
+}
+
+/// Writes `stop` and a query.
+fn push_stop(query: &Word, out: &mut Vec<u8>) -> Result<(), AllocError>
+    ensures { OnOk result (out.new.items ≡ out.old.items ++ stop_line query.now) }
+{
+    push(out, b"stop ")?;
+    push(out, query.bytes())?;
+    push(out, b"\n")
+}
+
+/// Writes `clock` and a tick.
+fn push_clock(now: u64, out: &mut Vec<u8>) -> Result<(), AllocError>
+    ensures { OnOk result (out.new.items ≡ out.old.items ++ clock_line now) }
+{
+    push(out, b"clock ")?;
+    push(out, Buffer::new().format(now).as_bytes())?;
+    push(out, b"\n")
+}
+
+/// Writes what is told before the reply to an accepted command: the new clock, or the query that begins or ends.
+pub(crate) fn push_notice(
+    session: &Session,
+    command: &Command,
+    out: &mut Vec<u8>,
+) -> Result<(), AllocError>
+    ensures { OnOk result (out.new.items ≡ out.old.items ++ notice session.now (command_view command.now)) }
+{
+    let now = session.now();
+    match command {
+        Command::Tick { ticks } => push_clock(u64::from(now) + u64::from(*ticks), out),
+        Command::Watch { name, .. } => push_start(name, b"watch", now, out),
+        Command::Keep { name, .. } => push_start(name, b"keep", now, out),
+        Command::Drop { name } => push_stop(name, out),
+        _ => Ok(()),
+    }
+}
+
+/// Writes the line of a refusal. On want of memory `out` still begins with its old contents.
+#[tactic(auto, using(reply_text::proofs::BeginLemmas::begins_through, reply_text::proofs::BeginLemmas::begins_more))]
+pub(crate) fn push_refusal(refusal: Refusal, out: &mut Vec<u8>) -> Result<(), AllocError>
+    ensures ok { OnOk result (out.new.items ≡ out.old.items ++ (line_of refusal ++ line_feed)) }
+    ensures begins { Begins out.old.items out.new.items }
+{
+    push(out, refusal.line().bytes())?;
+    push(out, b"\n")
+}

@@ -1,0 +1,39 @@
+//! What a hub is made of.
+ghost use Rattle.std.specs.Prelude.{◌≡◌};
+ghost use Rattle.feeds_meaning.specs.Hub.{empty_hub};
+
+use crate::seat::Seat;
+use command_text::LineReader;
+use std::alloc::Global;
+
+/// The users, in the order of their first lines, and what serves all of them.
+#[derive(Drop)]
+pub(crate) struct Parts {
+    pub(crate) alloc: Global,
+    pub(crate) reader: LineReader,
+    pub(crate) seats: Vec<Seat>,
+    // How many data commands were accepted, of whomever.
+    pub(crate) data_lines: u32,
+    // The text for the sender of a line, and that for another user.
+    pub(crate) own: Vec<u8>,
+    pub(crate) other: Vec<u8>,
+}
+
+impl Parts {
+    ghost use Rattle.hub.specs.Told.{AreParts, hub_of};
+
+    /// No users. It takes no memory.
+    pub(crate) fn new(alloc: Global) -> Parts
+        ensures empty { hub_of result ≡ empty_hub }
+        ensures parts { AreParts result }
+    {
+        Parts {
+            alloc,
+            reader: LineReader::new(alloc),
+            seats: Vec::new(alloc),
+            data_lines: 0,
+            own: Vec::new(alloc),
+            other: Vec::new(alloc),
+        }
+    }
+}
