@@ -26,6 +26,12 @@ REGIONS = {
     "S": "(0,0) (2,0) (4,0) (4,1) (4,4) (0,4)",
     "T": "(-1000000000,-1000000000) (1000000000,-1000000000) (1000000000,0.001)",
 }
+# those that a class has beside x and y, so that there are more than there may be indexes
+RACK = [f"a{place}" for place in range(15)]
+# attributes that an index may be made of, and some that none can be
+INDEXED = ["car x", "car x", "car fuel", "car fuel", "tank level", "tank level", "post y", "ship plate"]
+NEVER_INDEXED = ["car load", "car plate", "box x", "car nothing", "no x"]
+WIDTHS = ["1", "1", "0.001", "2.5", "1000", "1000000000"]
 # points on a circle of radius 5, and some in it
 ROUND = ["(5,0)", "(3,4)", "(4,3)", "(0,5)", "(-3,4)", "(-4,3)", "(-5,0)", "(-3,-4)", "(0,-5)", "(3,-4)", "(4,-3)"]
 ROUND += ["(0,0)", "(1,1)", "(-2,1)"]
@@ -307,6 +313,24 @@ class Maker:
         to, among = (f"p{self.draw.randrange(3)}", "car") if self.round else (self.object()[1], self.object()[0])
         return Line(f"nearest {span} {number} {to} {among}")
 
+    def on_index(self):
+        """An `index` or a `range`, which ask for numbers that the values come to."""
+        self.queries += 1
+        of = self.one_of(NEVER_INDEXED) if self.chance(5) else self.one_of(INDEXED)
+        if self.chance(30):
+            return Line(f"index {of} {self.one_of(WIDTHS + ['0'])}")
+        span = self.one_of([63_999, 64_000]) if self.chance(3) else self.one_of([0, 5, 20, 40, 100])
+        least, greatest = self.number(9), self.number(9)
+        if self.chance(80):
+            least, greatest = sorted([least, greatest], key=float)
+        return Line(f"range {span} {of} {least} {greatest}")
+
+    def rack(self):
+        """A class of many attributes, most or all of which have an index."""
+        lines = [f"class rack 1 point ({','.join(f'{name} dyn' for name in RACK)})", "insert rack rack a0 rate 1"]
+        lines += [f"index rack {name} 1" for name in self.draw.sample(["x", "y"] + RACK, self.draw.randint(13, 17))]
+        return [Line(line) for line in lines + ["range 10 rack a0 3 5"]]
+
     def other(self):
         if self.kind in FILING and self.chance(30):
             name = self.one_of(["car", "car", "post", "tank", "nothing"])
@@ -327,10 +351,8 @@ class Maker:
                 lambda: self.nearest(20),
                 lambda: self.nearest(20),
                 lambda: self.nearest(20),
-                lambda: Line(f"index {self.one_of(['car x', 'car fuel', 'tank level', 'car load', 'no x'])} "
-                             f"{self.one_of(['1', '0.001', '0', '1000'])}"),
-                lambda: Line(f"range {self.one_of([0, 10, 30, 64000])} {self.one_of(['car x', 'car fuel', 'tank level'])} "
-                             f"{self.number(9)} {self.number(9)}"),
+                self.on_index,
+                self.on_index,
             ])()
         name = f"w{self.draw.randrange(4)}"
         return self.one_of([
@@ -344,12 +366,20 @@ class Maker:
 
     def session(self):
         lines = self.setup()
+        if self.kind in ("ranges", "all"):
+            lines += [Line(f"index {of} {self.one_of(WIDTHS)}") for of in sorted(set(INDEXED)) if self.chance(60)]
+            lines += self.rack() if self.chance(10) else []
         for _ in range(self.draw.randint(20, 50)):
             sort = self.draw.randrange(100)
             if self.kind == "nearest" and self.chance(40):
                 lines.append(self.nearest(self.one_of([0, 5, 20, 20, 20, 40, 1_000, 1_000_001])))
             elif self.kind == "blurred" and self.chance(40):
                 lines.append(self.blurred_query(self.one_of(["must", "may"])))
+            elif self.kind == "ranges" and self.chance(40):
+                lines.append(self.on_index())
+            elif self.kind == "ranges" and self.chance(3):
+                # towards the last tick of an index, and past it
+                lines.append(Line(f"tick {self.one_of([63_900, 63_990, 63_999, 64_000])}"))
             elif sort < (25 if self.live else 70):
                 lines.append(self.query("ask", 1000))
             elif self.live and sort < 55:

@@ -10,7 +10,7 @@ from runs import BUILD
 # within which a session has to end
 SECONDS = 120
 # the words for programs that have the commands on files
-FILING = ("files", "nearest", "blurred", "all")
+FILING = ("files", "nearest", "blurred", "ranges", "all")
 # what is in the folder at the start of a session with files
 FILES = {
     "cars": "name,x,x.rate,y,y.rate,fuel,plate,load\nc0,1,0.5,2,-1,3,a b,4\nc1,-5,1,5,0,0.001,,-2.5\nc0,0,0,0,0,1,b,0\n",

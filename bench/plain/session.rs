@@ -46,6 +46,7 @@ enum Built {
     Files,
     Nearest,
     Blurred,
+    Ranges,
     #[default]
     All,
 }
@@ -59,6 +60,7 @@ impl Built {
             "files" => Some(Built::Files),
             "nearest" => Some(Built::Nearest),
             "blurred" => Some(Built::Blurred),
+            "ranges" => Some(Built::Ranges),
             "all" => Some(Built::All),
             _ => None,
         }
@@ -72,7 +74,7 @@ impl Built {
             Save(_) | Import(..) | Export(..) => self >= Built::Files,
             Nearest(..) => self >= Built::Nearest,
             Must(..) | May(..) => self >= Built::Blurred,
-            Index(..) | Range(..) => self >= Built::All,
+            Index(..) | Range(..) => self >= Built::Ranges,
             _ => true,
         }
     }
@@ -299,7 +301,7 @@ fn start(words: &[String]) -> io::Result<u8> {
     let number = |word: &str| word.parse::<u64>().map_err(io::Error::other);
     let mut built = Built::All;
     if let ["--built", word, ..] = words[..] {
-        built = Built::named(word).ok_or_else(|| io::Error::other("data, ask, live, files, nearest, blurred or all"))?;
+        built = Built::named(word).ok_or_else(|| io::Error::other("data, ask, live, files, nearest, blurred, ranges or all"))?;
         words.drain(..2);
     }
     let mut world = None;

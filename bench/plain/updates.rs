@@ -1,6 +1,7 @@
 // Watched queries in plain Rust without proofs: the yardstick of `updates`. The rows of each query are kept from now
-// to its expiry. A writing judges the bindings of the written object alone, and a tick looks at the rows that begin or
-// end before it, by a queue of those ticks. The targets must be all variables in the order of FROM. With the words
+// to its expiry, those of a kept query from its entry on. A writing judges the bindings of the written object alone, from
+// now on, and a tick looks at the rows that begin or end before it, by a queue of those ticks. The targets must be all
+// variables in the order of FROM, and the formula of a kept query may not look ahead. With the words
 // `--session NAME` it goes on from a text that was saved: the yardstick of `load`. Such a text has only the commands that
 // it answers.
 #[allow(dead_code)]
@@ -28,7 +29,7 @@ mod store;
 use evaluate::{Buffers, rows};
 use grammar::{Command, Word};
 use history::Refusal;
-use resolve::Query;
+use resolve::{Formula, Query};
 use spans::Span;
 use std::cmp::Reverse;
 use std::collections::BinaryHeap;
@@ -82,6 +83,8 @@ struct Watch {
     query: Query,
     /// The numbers from an object of each variable to the next one.
     strides: Vec<usize>,
+    /// The first tick of a kept query's rows.
+    entry: Option<u32>,
     expiry: u32,
     rows: Rows,
     /// At least the next tick at which each row begins or ends to hold. A row that was replaced may have more.
@@ -106,14 +109,14 @@ struct Change {
 
 impl Watch {
     /// Without rows.
-    fn new(name: Word, query: Query, expiry: u32, store: &Store) -> Watch {
+    fn new(name: Word, query: Query, entry: Option<u32>, expiry: u32, store: &Store) -> Watch {
         let capacities = query.classes.iter().map(|class| store.history.classes[*class].capacity as usize);
         let mut strides = vec![1; query.classes.len()];
         for (variable, capacity) in capacities.enumerate() {
             strides[..variable].iter_mut().for_each(|stride| *stride *= capacity);
         }
         let rows = Rows::new(query.bindings(&store.history) as usize);
-        Watch { name, query, strides, expiry, rows, turns: BinaryHeap::new() }
+        Watch { name, query, strides, entry, expiry, rows, turns: BinaryHeap::new() }
     }
 
     fn number(&self, places: &[usize]) -> u32 {
@@ -146,7 +149,15 @@ impl Watch {
 
     fn replace(&mut self, number: u32, spans: &[Span], now: u32) {
         self.turns.extend(turn(spans, now).map(|tick| Reverse((tick, number))));
-        self.rows.put(number, spans);
+        match self.entry {
+            Some(entry) if entry < now => {
+                let mut all = Vec::new();
+                spans::clip(self.rows.get(number), (entry, now - 1), &mut all);
+                spans.iter().for_each(|span| spans::push(&mut all, *span));
+                self.rows.put(number, &all);
+            }
+            _ => self.rows.put(number, spans),
+        }
     }
 
     /// The changed rows among those of the written object, in order.
@@ -232,7 +243,8 @@ impl Watch {
     fn wait(&mut self, number: u32, now: u32) {
         match turn(self.rows.get(number), now) {
             Some(tick) => self.turns.push(Reverse((tick, number))),
-            None => self.rows.put(number, &[]),
+            None if self.entry.is_none() => self.rows.put(number, &[]),
+            None => (),
         }
     }
 
@@ -255,11 +267,21 @@ impl Watch {
         let mut spans = Vec::new();
         for (number, row) in self.rows.iter() {
             spans.clear();
-            if store.history.clock <= self.expiry {
-                spans::clip(row, (store.history.clock, self.expiry), &mut spans);
+            let first = self.entry.unwrap_or(store.history.clock);
+            if first <= self.expiry {
+                spans::clip(row, (first, self.expiry), &mut spans);
             }
             answer::put_row(out, store, &self.query, &self.places(number), &spans);
         }
+    }
+}
+
+fn looks_ahead(formula: &Formula) -> bool {
+    match formula {
+        Formula::Not(part) => looks_ahead(part),
+        Formula::And(left, right) | Formula::Or(left, right) => looks_ahead(left) || looks_ahead(right),
+        Formula::Next(..) | Formula::Some(..) | Formula::Every(..) | Formula::Until(..) | Formula::Assign(..) => true,
+        _ => false,
     }
 }
 
@@ -271,14 +293,17 @@ struct Session {
 }
 
 impl Session {
-    fn watch(&mut self, name: Word, span: u32, query: &grammar::Query) -> Result<Watch, Refusal> {
+    fn watch(&mut self, name: Word, span: u32, query: &grammar::Query, kept: bool) -> Result<Watch, Refusal> {
         let (query, faults) = resolve::resolve(&self.store.history, query, span);
         resolve::first(faults)?;
         if !query.targets.iter().copied().eq(0..query.classes.len()) {
             return Err(Refusal::BadSyntax);
         }
+        if kept && looks_ahead(&query.formula) {
+            return Err(Refusal::BadSyntax);
+        }
         let now = self.store.history.clock;
-        let mut watch = Watch::new(name, query, now + span, &self.store);
+        let mut watch = Watch::new(name, query, kept.then_some(now), now + span, &self.store);
         let query = watch.query.clone();
         rows(&self.store, &query, (now, now + span), [None; 4], &mut self.free, |key, spans| {
             if !spans.is_empty() {
@@ -289,9 +314,10 @@ impl Session {
     }
 
     fn step(&mut self, line: &[u8], tokens: &mut Vec<grammar::Token>, out: &mut Vec<u8>) -> Result<(), Refusal> {
-        match grammar::read(line, tokens)? {
-            Command::Watch(name, span, query) => {
-                let watch = self.watch(name, span, &query)?;
+        let command = grammar::read(line, tokens)?;
+        match command {
+            Command::Watch(name, span, ref query) | Command::Keep(name, span, ref query) => {
+                let watch = self.watch(name, span, query, matches!(command, Command::Keep(..)))?;
                 watch.show(&self.store, out);
                 self.watches.push(watch);
             }

@@ -26,7 +26,7 @@ _MOST_AHEAD = 4_096
 """The most lines that are sent before their replies are read."""
 _LAST_SECONDS = 5.0
 """How long the program may take to end after a fault of the caller."""
-_NOTED = re.compile(rb"[ \t]*(?:tick|ask|nearest|must|may|watch|keep|show|drop|save|import|export|quit)\b")
+_NOTED = re.compile(rb"[ \t]*(?:tick|ask|nearest|range|must|may|watch|keep|show|drop|save|import|export|quit)\b")
 """The beginnings of the lines whose tokens matter to a client."""
 
 
@@ -94,6 +94,8 @@ class _Known:
             case ["ask" | "must" | "may" | "watch" | "keep", *_]:
                 return _retrieved(sent.tokens, sent.words)
             case ["nearest", _, _, _, class_name]:
+                return (class_name,)
+            case ["range", _, class_name, *_]:
                 return (class_name,)
         return ()
 

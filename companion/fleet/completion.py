@@ -120,14 +120,17 @@ class Names:
         return dict.fromkeys(assigned, "") | dict(zip(names[1::2], names[::2]))
 
     def _attributes(self) -> Iterable[str]:
+        """Those of the class; to make an index the dynamic ones, and to ask one those that have one."""
         if self._texts[0] == "update":
             return self._schema.attributes_of(self._texts[1])
-        if self._texts[-1] == ".":
-            class_name = self._variables().get(self._texts[-2], "")
-        else:
-            class_name = self._texts[2 if self._texts[0] == "range" else 1]
+        if self._texts[0] == "range":
+            return (attribute for its_class, attribute in self._schema.indexes if its_class == self._texts[2])
+        class_name = self._variables().get(self._texts[-2], "") if self._texts[-1] == "." else self._texts[1]
         known = self._schema.classes.get(class_name)
-        return known.attributes if known else ()
+        attributes = known.attributes if known else {}
+        if self._texts[0] == "index":
+            return (attribute for attribute, kind in attributes.items() if kind == "dyn")
+        return attributes
 
 
 def help_topics() -> list[str]:

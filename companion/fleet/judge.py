@@ -16,6 +16,8 @@ from fleet.tokens import thousandths
 from fleet.trees import leaf, name_in, optional_part, part, parts, place_of, whole_in
 from fleet.words import (
     CLASS_LIMIT,
+    INDEX_LIMIT,
+    INDEX_TICKS,
     JOURNAL_ENTRIES,
     KEPT_COMMANDS,
     PRODUCT_LIMIT,
@@ -299,6 +301,26 @@ def _blurred(tree: Tree, schema: Schema) -> Iterator[Verdict]:
     yield from _capacities(tree, schema, BLURRED_PRODUCT_LIMIT)
 
 
+def _index(tree: Tree, schema: Schema) -> Iterator[Verdict]:
+    class_name, attribute = name_in(tree, "class_name"), name_in(tree, "attribute_name")
+    last = schema.indexes.get((class_name, attribute))
+    if last is not None and schema.clock <= last:
+        yield _at(8, attribute, f"{attribute} of {class_name} has an index, which ends at the tick {last:,}")
+    if schema.classes[class_name].attributes[attribute] != "dyn":
+        yield _at(9, attribute, f"{attribute} isn't dynamic, so it has no index")
+    if schema.clock + INDEX_TICKS - 1 > TICK_LIMIT:
+        yield _at(12, tree, f"the last tick of the index, {schema.clock + INDEX_TICKS - 1:,}, would pass {TICK_LIMIT:,}")
+    if last is None and len(schema.indexes) >= INDEX_LIMIT:
+        yield _at(16, tree, f"{INDEX_LIMIT} indexes are there already")
+
+
+def _range(tree: Tree, schema: Schema) -> Iterator[Verdict]:
+    class_name, attribute = name_in(tree, "class_name"), name_in(tree, "attribute_name")
+    last = schema.indexes[class_name, attribute]
+    if schema.clock + whole_in(tree, "span") > last:
+        yield _at(12, part(tree, "span"), f"the index of {attribute} ends at the tick {last:,}")
+
+
 def query_product(query: Tree, schema: Schema) -> int:
     """The product of the capacities of the query's classes, which are there."""
     return schema.product_of(name_in(each, "class_name") for each in parts(part(query, "from"), "from_part"))
@@ -325,4 +347,6 @@ _JUDGES: dict[str, Callable[[Tree, Schema], Iterator[Verdict]]] = {
     "nearest": _nearest,
     "must": _blurred,
     "may": _blurred,
+    "index": _index,
+    "range": _range,
 }

@@ -153,6 +153,15 @@ def _index(tree: Tree, schema: Schema) -> Iterator[Unknown]:
     yield from _attributes([tree], name_in(tree, "class_name"), schema)
 
 
+def _range(tree: Tree, schema: Schema) -> Iterator[Unknown]:
+    yield from _index(tree, schema)
+    class_name, attribute = name_in(tree, "class_name"), name_in(tree, "attribute_name")
+    known = schema.classes.get(class_name)
+    if known and attribute in known.attributes:
+        indexed = [name for which, name in schema.indexes if which == class_name]
+        yield from _missing(attribute, f"attribute of {class_name} that has an index", indexed)
+
+
 _FINDERS: dict[str, Finder] = {
     "insert": _insert,
     "update": _update,
@@ -163,5 +172,5 @@ _FINDERS: dict[str, Finder] = {
     "export": _class,
     "nearest": _nearest,
     "index": _index,
-    "range": _index,
+    "range": _range,
 }

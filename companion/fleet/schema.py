@@ -13,7 +13,7 @@ from typing import Literal, Self, cast
 
 from fleet.present import thousandths
 from fleet.tokens import Token, tokens
-from fleet.words import KEPT_COMMANDS
+from fleet.words import INDEX_TICKS, KEPT_COMMANDS
 
 AttributeKind = Literal["num", "text", "dyn"]
 QueryKind = Literal["watch", "keep"]
@@ -79,7 +79,8 @@ class Query:
 class Schema:
     """The clock and the names: classes, objects, regions and registered queries, each in the order of their making.
 
-    `entries` counts the commands that the journal has. What a line says of a name that isn't known here is passed over.
+    `entries` counts the commands that the journal has. `indexes` has the last tick of the index of a class and an attribute;
+    a saved session has none. What a line says of a name that isn't known here is passed over.
     """
 
     clock: int = 0
@@ -88,6 +89,7 @@ class Schema:
     objects: dict[str, Object] = field(default_factory=dict)
     regions: dict[str, Region] = field(default_factory=dict)
     queries: dict[str, Query] = field(default_factory=dict)
+    indexes: dict[tuple[str, str], int] = field(default_factory=dict)
 
     @classmethod
     def of_session(cls, path: Path) -> Self:
@@ -113,9 +115,8 @@ class Schema:
         sent = line.encode("utf-8", "surrogateescape") if isinstance(line, str) else line
         match = _FIRST_WORD.match(sent)
         word = match.group(1).decode("ascii") if match else ""
-        if word not in KEPT_COMMANDS:
-            return
-        self.entries += 1
+        if word in KEPT_COMMANDS:
+            self.entries += 1
         recorder = _RECORDERS.get(word)
         if recorder:
             recorder(self, tokens(sent.decode("ascii")), sent.decode("ascii"))
@@ -204,6 +205,9 @@ class Schema:
     def _record_drop(self, line: list[Token], text: str) -> None:
         self.queries.pop(line[1].text, None)
 
+    def _record_index(self, line: list[Token], text: str) -> None:
+        self.indexes[line[1].text, line[2].text] = self.clock + INDEX_TICKS - 1
+
 
 _RECORDERS = {
     "class": Schema._record_class,
@@ -214,6 +218,7 @@ _RECORDERS = {
     "watch": Schema._record_query,
     "keep": Schema._record_query,
     "drop": Schema._record_drop,
+    "index": Schema._record_index,
 }
 
 

@@ -85,6 +85,10 @@ CLASS_LIMIT = 64
 REGION_LIMIT = 1_024
 QUERY_LIMIT = 256
 """The most registered queries."""
+INDEX_LIMIT = 16
+"""The most indexes, those that have ended among them."""
+INDEX_TICKS = 64_000
+"""How many ticks an index reaches over."""
 PRODUCT_LIMIT = 1_000_000
 """The largest product of the capacities of a query's classes."""
 PRODUCT_SUM_LIMIT = 4_000_000

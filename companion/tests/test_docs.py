@@ -20,7 +20,6 @@ from fleet.words import (
     INPUT_LIMIT,
     JOURNAL_BYTES,
     JOURNAL_ENTRIES,
-    LATER_COMMANDS,
     REFUSALS,
     RESERVED,
     STATUSES,
@@ -184,12 +183,6 @@ def test_what_was_typed_is_refused_and_what_to_type_is_not(program: Path, tmp_pa
 
 def _whole(line: str) -> str:
     return f"ask 60 RETRIEVE o FROM van o {line}" if line.startswith("WHERE") else line
-
-
-def test_what_is_not_answered_yet_is_bad_syntax(program: Path, tmp_path: Path) -> None:
-    lines = [code_spans(example)[0] for _, example in LANGUAGE.table("Command", "What isn't answered yet")]
-    assert {line.split()[0] for line in lines} < set(LATER_COMMANDS)
-    assert answered(program, tmp_path, lines).replies == [("refused 4 BadSyntax",)] * len(lines)
 
 
 def test_examples_of_the_grammar_are_read(program: Path, tmp_path: Path) -> None:

@@ -246,6 +246,8 @@ UNKNOWN = [
     ("drop lwo", "lwo", 5, "registered query", ("low",)),
     ("export vn \"f\"", "vn", 7, "class", ("van",)),
     ("index van feul 1", "feul", 10, "attribute of van", ("fuel",)),
+    ("range 5 van feul 0 1", "feul", 12, "attribute of van", ("fuel",)),
+    ("range 5 van fuel 0 1", "fuel", 12, "attribute of van that has an index", ()),
     ("nearest 1 1 v2 van", "v2", 12, "object", ()),
 ]
 
@@ -254,7 +256,8 @@ UNKNOWN = [
 def test_names_what_isnt_known(line: str, word: str, place: int, kind: str, near: tuple[str, ...]) -> None:
     schema = Schema.of_lines(
         [
-            "class van 9 point (fuel dyn,plate text)",
+            "class van 9 point (fuel dyn,plate text,heat dyn)",
+            "index van heat 1",
             "region centre (0,0) (4,0) (4,4)",
             "insert van v1",
             "watch low 10 RETRIEVE o FROM van o WHERE o.fuel < 3",

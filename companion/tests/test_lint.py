@@ -92,6 +92,23 @@ def test_foretells_limits_of_queries(client: Client) -> None:
     assert mine == [reply.refusal.number if reply.refusal else None for reply in client.send_many(lines)]
 
 
+def test_foretells_indexes(client: Client) -> None:
+    rack = [f"a{place}" for place in range(15)]
+    lines = [
+        "range 1 van fuel 0 1", "class van 9 point (fuel dyn,plate text,load num)", "insert van v fuel = 1",
+        *(f"index {words} 1" for words in ("bus fuel", "van oil", "van plate", "van load", "van fuel", "van fuel", "van x")),
+        *(f"range {words} 5 0" for words in ("63999 van fuel", "64000 van fuel", "1 van y", "1 van plate", "1 bus x")),
+        "tick 63999", "index van fuel 1", "range 0 van fuel 0 1", "range 1 van fuel 0 1",
+        "tick 1", "range 0 van fuel 0 1", "index van fuel 1", "range 63999 van fuel 0 1",
+        f"class rack 1 point ({','.join(f'{name} dyn' for name in rack)})", *(f"index rack {name} 1" for name in (*rack, "x", "y")),
+        "tick 999872000", "index van fuel 1", "tick 1", "index van x 1", "tick 1", "index van x 1", "index rack a0 1",
+    ]
+    schema = Schema()
+    mine = [verdict(line, schema) for line in lines]
+    assert mine == [reply.refusal.number if reply.refusal else None for reply in client.send_many(lines)]
+    assert {number: mine.count(number) for number in (8, 9, 12, 16)} == {8: 3, 9: 2, 12: 4, 16: 3}
+
+
 def test_foretells_regions(client: Client) -> None:
     chance = random.Random(SEED)
     lines = []
@@ -238,7 +255,7 @@ def test_runs_no_program(fleet_command: list[str], tmp_path: Path) -> None:
     words = [*fleet_command, "check", "f.domino"]
     done = subprocess.run(words, capture_output=True, cwd=tmp_path, env={"DOMINO": "/nosuch"}, timeout=60, text=True)
     assert done.stdout.splitlines()[0] == (
-        "f.domino:2:1: fault: refused 4 BadSyntax: range is not built yet: the program reads it and refuses it"
+        "f.domino:2:13: fault: refused 7 UnknownName: x: no attribute of van"
     )
     assert (done.returncode, done.stderr) == (1, "f.domino: 1 fault, 0 warnings\n")
 

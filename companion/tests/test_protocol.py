@@ -12,11 +12,12 @@ from lark.exceptions import UnexpectedInput
 
 from fleet.client import Client
 from fleet.replies import Reply
-from fleet.words import COMMANDS, JOURNAL_ENTRIES, REFUSALS
+from fleet.words import COMMANDS, JOURNAL_ENTRIES, LATER_COMMANDS, REFUSALS
 
 TOP = Path(__file__).resolve().parents[2]
 DOCUMENT = (TOP / "docs" / "PROTOCOL.md").read_text()
 
+ALL_COMMANDS = {*COMMANDS, *LATER_COMMANDS}
 STARTS = ("reply", "rows", "changes", "moves", "things", "done", "refused", "start", "summary", "session")
 
 CLASSES_ENOUGH = [f"class many{number} 1" for number in range(64)]
@@ -29,6 +30,11 @@ SCRIPT = [
     "insert car b_1 at (30,-3)",
     "ask 30 RETRIEVE o,n FROM car o,car n WHERE DIST(o,n) > 5 AND OUTSIDE(n,yard)",
     "ask 0 RETRIEVE o FROM car o WHERE FALSE",
+    "nearest 30 1 a car",
+    "must 1 30 RETRIEVE o FROM car o WHERE INSIDE(o,yard)",
+    "may 1 30 RETRIEVE o FROM car o WHERE INSIDE(o,yard)",
+    "index car fuel 10",
+    "range 30 car fuel 30 35",
     "ask 30 RETRIEVE o FROM car o WHERE TIME < 3 OR TIME > 9 AND TIME < 12",
     "watch low 100 RETRIEVE o FROM car o WHERE o.fuel <= 30",
     "keep home 100 RETRIEVE o FROM car o WHERE INSIDE(o,yard)",
@@ -149,7 +155,7 @@ def test_the_grammar_takes_each_reply_and_no_rule_is_idle(
     grammar: Lark, replies: list[Reply], program: Path, tmp_path: Path
 ) -> None:
     forms = {word: form for cell, form in table_under("| The line | Its reply |").items() for word in in_code(cell)}
-    assert set(forms) == set(COMMANDS)
+    assert set(forms) == ALL_COMMANDS
     trees = []
     for reply in replies:
         form = in_code(forms[reply.line.split()[0]])[0] if reply.ok else "refused"
@@ -160,7 +166,7 @@ def test_the_grammar_takes_each_reply_and_no_rule_is_idle(
     output = "".join([*map(text_of, replies), *(text for _, text in others)])
     words = {word for body in rules().values() for word in re.findall(r"'([^']*)'", body) if len(word) > 1}
     assert {word for word in words if word not in output} == set()
-    assert {reply.line.split()[0] for reply in replies if reply.ok} == set(COMMANDS)
+    assert {reply.line.split()[0] for reply in replies if reply.ok} == ALL_COMMANDS
 
 
 def test_each_refusal_is_met_and_named(replies: list[Reply]) -> None:

@@ -19,7 +19,7 @@ insert van zo\xeb
 ask 60 retrieve o from van o
 list;
 ask 0 RETRIEVE o FROM van o WHERE o.feul < 3
-index van fuel 2.5
+range 5 van fuel 0 2.5
 tick 0
 region r (0,0) (4,0) (4,4) (0,0)
 list
@@ -37,9 +37,9 @@ fleet.domino:7: refused 3 BadToken: no token begins here; a command ends with it
 fleet.domino:8: refused 7 UnknownName: feul: no attribute of van; fuel?
     ask 0 RETRIEVE o FROM van o WHERE o.feul < 3
                                         ^~~~
-fleet.domino:9: refused 4 BadSyntax: index is not built yet: the program reads it and refuses it
-    index van fuel 2.5
-    ^~~~~
+fleet.domino:9: refused 7 UnknownName: fuel: no attribute of van that has an index
+    range 5 van fuel 0 2.5
+                ^~~~
 fleet.domino:10: refused 5 NumberRange: a number of ticks is a whole number from 1 to 1,000,000,000
     tick 0
          ^
@@ -113,7 +113,7 @@ def test_echo_is_a_transcript(run: Runner) -> None:
 def test_echo_gives_the_transcript_of_the_readme(run: Runner) -> None:
     """The session in the README, whose replies stand indented after their lines, comes back as it stands there."""
     readme = (TOP / "README.md").read_text("utf-8")
-    block = next(part for part in readme.split("\n\n") if "class car 3 point (fuel dyn,plate text,seats num)" in part)
+    block = next(part for part in readme.split("\n\n") if "class truck 100 point" in part)
     lines = [line.removeprefix("    ") for line in block.splitlines()]
     done = run("fleet.domino", "--echo", text="\n".join(line for line in lines if not line.startswith(" ")) + "\n")
     assert done.stdout.decode().splitlines() == lines

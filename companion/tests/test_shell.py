@@ -116,7 +116,10 @@ def test_answers_and_shows_places_and_near_names(shells: Shells) -> None:
     assert shell("ask 60 RETRIEVE o FROM van o WHERE o.feul < 3") == (
         "                                        ^~~~\nrefused 7 UnknownName: feul: no attribute of van; fuel?\n"
     )
-    assert "refused 4 BadSyntax: index is not built yet: the program reads it" in shell("index van fuel 1")
+    assert shell("range 5 van fuel 0 1") == (
+        "               ^~~~\nrefused 7 UnknownName: fuel: no attribute of van that has an index\n"
+    )
+    assert shell("index van fuel 1") == "ok\n"
     assert shell("class van 3") == "         ^~~\nrefused 8 NameTaken: van is a class already\n"
     assert "three after it" in shell("insert van a x = 0.0001")
     assert "^" in shell("insert van zoë").splitlines()[0]
@@ -301,15 +304,19 @@ def test_without_a_terminal_it_is_the_program(fleet_command: list[str], program:
 FLEET = (
     "class van 20 point (fuel dyn,plate text)", "class depot 5 point", "region yard (0,0) (4,0) (4,4)", "insert van v1",
     "insert van v2", "remove v2", "insert depot north", "watch low 9 RETRIEVE o FROM van o WHERE o.fuel < 3",
+    "index van fuel 1",
 )
-BUILT = ALL_COMMANDS - {"index", "range"}
+BUILT = ALL_COMMANDS
 
 
 @pytest.mark.parametrize(
     ("before", "partial", "words"),
     [
         ("", "", sorted(BUILT)),
-        ("in", "in", ["insert"]),
+        ("in", "in", ["index", "insert"]),
+        ("index van ", "", ["fuel", "x", "y"]),
+        ("range 9 van ", "", ["fuel"]),
+        ("range 9 depot ", "", []),
         ("insert ", "", ["depot", "van"]),
         ("insert van ", "", ["v2"]),
         ("insert van v2 ", "", ["at", "fuel", "move", "plate", "x", "y"]),

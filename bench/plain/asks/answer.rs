@@ -29,8 +29,12 @@ pub fn put_row(out: &mut Vec<u8>, store: &Store, query: &Query, key: &[usize], s
     if spans.is_empty() {
         return;
     }
-    let is_now = spans.first().is_some_and(|first| first.0 <= store.history.clock);
-    out.extend_from_slice(if is_now { b"now" } else { b"later" });
+    let now = store.history.clock;
+    out.extend_from_slice(match spans.iter().find(|span| now <= span.1) {
+        Some((first, _)) if *first <= now => b"now",
+        Some(_) => b"later",
+        None => b"past",
+    });
     put_tuple(out, store, query, key);
     put_spans(out, spans);
 }

@@ -35,8 +35,9 @@ impl Session {
     /// A command of a text: its rows are renewed, and nothing is said.
     fn enter(&mut self, command: Command) -> Result<(), ()> {
         match command {
-            Command::Watch(name, span, query) => {
-                let watch = self.watch(name, span, &query).map_err(drop)?;
+            Command::Watch(name, span, ref query) | Command::Keep(name, span, ref query) => {
+                let kept = matches!(command, Command::Keep(..));
+                let watch = self.watch(name, span, query, kept).map_err(drop)?;
                 self.watches.push(watch);
             }
             Command::Tick(_) => {

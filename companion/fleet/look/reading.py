@@ -14,7 +14,7 @@ from fleet.words import TICK_LIMIT
 
 INDENT = "    "
 """What stands before the lines of a reply where the lines that are answered stand there too."""
-_ANSWERED_NOW = ("ask", "nearest", "must", "may", "watch", "keep")
+_ANSWERED_NOW = ("ask", "nearest", "range", "must", "may", "watch", "keep")
 """The commands whose answer begins at the present tick, where it doesn't begin later."""
 
 
