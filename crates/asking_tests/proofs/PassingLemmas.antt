@@ -1,5 +1,5 @@
 -- What a query of one atom may ask of a car that passes by a post.
-use Rattle.std.proofs.Common.{◌≡◌, ℕ, zero, suc, ◌<◌, true, List, [], ◌∷◌, length, refl, ap, subst, sym, arith}
+use Rattle.std.proofs.Common.{◌≡◌, ℕ, zero, suc, ◌<◌, true, List, [], ◌∷◌, length, refl, subst, sym, arith}
 use Rattle.std.specs.Prelude.{slice_index}
 use Rattle.answers.specs.Objects.{AreOfItsClasses, IsOfAcceptedWrites}
 use Rattle.formula.specs.Resolved.{IsResolved, is_atom, no_scope}
@@ -9,10 +9,9 @@ use Rattle.formula_shape.specs.Shape as shapes
 use Rattle.geometry.specs.Region.{Region}
 use Rattle.history.specs.Catalog.{Catalog, ids_of as ids_of_class}
 use Rattle.history.specs.History.{History, history}
-use Rattle.history.specs.World.{World}
 use Rattle.meaning.specs.Agreement.{world_with}
 use Rattle.meaning.specs.Fits.{FitsItsClasses, atom_fits, no_kinds}
-use Rattle.object_store.specs.Contents.{Contents, catalog_of, history_of}
+use Rattle.object_store.specs.Contents.{Contents, history_of}
 use Rattle.relation.specs.Key.{has_id, ids_of}
 use Rattle.asking_tests.specs.Passing.{writes}
 

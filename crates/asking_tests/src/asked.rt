@@ -29,25 +29,37 @@ const NOWHERE: Place = Place {
     moving: None,
 };
 
-// One car, which is there from tick 5 to 11.
-fn one_car(rt: &impl Abort, alloc: Global) -> Result<Store, Fail> {
+// A car is there from tick 5 to 11.
+fn come_and_go(rt: &impl Abort, store: &mut Store) -> Result<(), Fail> {
     let class = word(b"car")?;
     let name = word(b"a")?;
-    let mut store = Store::new(alloc);
     store.add_class(class, 9, true, &[])?;
     assert!(rt; store.last_tick() <= 5);
     store.insert(5, &class, &name, &NOWHERE, &[])?;
     assert!(rt; store.last_tick() <= 12);
     store.remove(12, &name)?;
+    Ok(())
+}
+
+// The store of one car.
+fn one_car(rt: &impl Abort, alloc: Global) -> Result<Store, Fail> {
+    let mut store = Store::new(alloc);
+    come_and_go(rt, &mut store)?;
     Ok(store)
+}
+
+// How many classes are left.
+fn take_a_class_back(store: &mut Store) -> Result<u32, Fail> {
+    store.add_class(word(b"car")?, 1, false, &[])?;
+    store.remove_last_class();
+    Ok(store.schema().count())
 }
 
 #[test]
 fn a_class_is_taken_back(rt: HostRuntime) -> Result<(), Fail> {
     let mut store = Store::new(rt.alloc());
-    store.add_class(word(b"car")?, 1, false, &[])?;
-    store.remove_last_class();
-    assert_eq!(rt; store.schema().count(), 0);
+    let left = take_a_class_back(&mut store)?;
+    assert_eq!(rt; left, 0);
     Ok(())
 }
 
@@ -70,9 +82,19 @@ fn with_reads<L: Ledger>(
 {
     let store = one_car(rt, host.alloc())?;
     let mut reads: Steps<L> = Steps::new(host, blank);
+    answers_of(rt, host.alloc(), &store, asked, &mut reads)
+}
+
+fn answers_of<L: Ledger>(
+    rt: &impl Abort,
+    alloc: Global,
+    store: &Store,
+    asked: Asked,
+    reads: &mut Steps<L>,
+) -> Result<(), Fail> {
     match asked {
-        Asked::Presence => is_there_at_times(rt, host.alloc(), &store, &mut reads),
-        Asked::Values => time_runs_for_a_tick(rt, host.alloc(), &store, &mut reads),
+        Asked::Presence => is_there_at_times(rt, alloc, store, reads),
+        Asked::Values => time_runs_for_a_tick(rt, alloc, store, reads),
     }
 }
 

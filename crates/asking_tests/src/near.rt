@@ -2,6 +2,7 @@ use crate::counted::{Asked, with_counters};
 use crate::written::Written::{Comes, Goes, Halts};
 use crate::written::{Written, store_of, window};
 use nearest::{NearRow, nearest_rows};
+use object_store::Store;
 use std::alloc::Global;
 use std::process::Abort;
 use std::sync::ledger::Ledger;
@@ -156,6 +157,32 @@ fn are_rows(rows: &[NearRow], wanted: &[(u32, &[Ends])]) -> bool {
             && are_spans(row.ticks.spans(), want.1))
 }
 
+// Whether these are the rows of a case in its store.
+fn are_told<L: Ledger, M: Ledger>(
+    alloc: Global,
+    case: &Case,
+    store: &Store,
+    reads: &mut Steps<L>,
+    probes: &mut Steps<M>,
+) -> Result<bool, Fail> {
+    let w = window(case.window)?;
+    if case.to >= store.object_count() {
+        return Ok(false);
+    }
+    let rows = nearest_rows(alloc, case.class, case.to, case.k, store, w, reads, probes)?;
+    Ok(are_rows(&rows, case.rows))
+}
+
+fn is_right<L: Ledger, M: Ledger>(
+    alloc: Global,
+    case: &Case,
+    reads: &mut Steps<L>,
+    probes: &mut Steps<M>,
+) -> Result<bool, Fail> {
+    let store = store_of(alloc, case.written)?;
+    are_told(alloc, case, &store, reads, probes)
+}
+
 pub(crate) fn cases_are_right<L: Ledger, M: Ledger>(
     rt: &impl Abort,
     alloc: Global,
@@ -163,11 +190,8 @@ pub(crate) fn cases_are_right<L: Ledger, M: Ledger>(
     probes: &mut Steps<M>,
 ) -> Result<(), Fail> {
     for case in &CASES {
-        let store = store_of(alloc, case.written)?;
-        let w = window(case.window)?;
-        assert!(rt; case.to < store.object_count());
-        let rows = nearest_rows(alloc, case.class, case.to, case.k, &store, w, reads, probes)?;
-        assert!(rt; are_rows(&rows, case.rows), "{}", case.says);
+        let right = is_right(alloc, case, reads, probes)?;
+        assert!(rt; right, "{}", case.says);
     }
     Ok(())
 }

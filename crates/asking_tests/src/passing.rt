@@ -90,18 +90,28 @@ fn remove(store: &mut Store, name: &[u8]) -> Result<(), Fail>
     }
 }
 
-// A car that passes by a post, which is then removed.
+// A car passes by a post, which is then removed.
+fn pass_post(store: &mut Store, car: Place, post: Place) -> Result<(), Fail>
+    requires empty { history_of store.old ≡ history [] }
+    requires car { car ≡ passing (pos 0) (pos 3000) }
+    requires post { post ≡ standing 10 0 }
+    ensures { OnOk result (history_of store.new ≡ history writes) }
+{
+    add_class(store, b"car", 100)?;
+    add_class(store, b"post", 10)?;
+    insert(store, b"car", b"a", car)?;
+    insert(store, b"post", b"b", post)?;
+    remove(store, b"b")?;
+    Ok(())
+}
+
 fn passed_post_of(alloc: Global, car: Place, post: Place) -> Result<Store, Fail>
     requires car { car ≡ passing (pos 0) (pos 3000) }
     requires post { post ≡ standing 10 0 }
     ensures { IfOk result (λ store. history_of store ≡ history writes) }
 {
     let mut store = Store::new(alloc);
-    add_class(&mut store, b"car", 100)?;
-    add_class(&mut store, b"post", 10)?;
-    insert(&mut store, b"car", b"a", car)?;
-    insert(&mut store, b"post", b"b", post)?;
-    remove(&mut store, b"b")?;
+    pass_post(&mut store, car, post)?;
     Ok(store)
 }
 

@@ -1,10 +1,12 @@
 ghost use Rattle.std.specs.Prelude.{◌≡◌, IfOk};
+ghost use Rattle.plane_index.specs.Index.{IsIndexOf};
 
 use crate::counted::{Asked, with_counters};
 use crate::near::are_spans;
 use crate::written::Written::{Comes, Goes, Halts};
 use crate::written::{Written, store_of, window};
 use fixed_point::Fix;
+use object_store::Store;
 use plane_index::{Grid, PlaneIndex, RangeRow};
 use std::alloc::Global;
 use std::process::Abort;
@@ -101,20 +103,42 @@ fn are_rows(rows: &[RangeRow], wanted: &[(u32, &[Ends])]) -> bool {
             && are_spans(row.ticks.spans(), want.1))
 }
 
-// Whether an index that has seen no object finds them.
-fn is_right<L: Ledger>(alloc: Global, case: &Case, reads: &mut Steps<L>) -> Result<bool, Fail> {
-    let store = store_of(alloc, &CARS)?;
-    let width = fix(10_000)?;
-    let mut index = PlaneIndex::new(alloc, Grid::new(0, 0, 0, width))?;
+// Whether an index finds the candidates and the rows of a case.
+fn finds<L: Ledger>(
+    alloc: Global,
+    case: &Case,
+    store: &Store,
+    index: &mut PlaneIndex,
+    reads: &mut Steps<L>,
+) -> Result<bool, Fail>
+    requires { IsIndexOf store.now index.old }
+{
     let w = window(case.window)?;
     let lo = fix(case.bounds.0)?;
     let hi = fix(case.bounds.1)?;
-    if !index.covers(&store, w) {
+    if !index.covers(store, w) {
         return Ok(false);
     }
-    let rows = index.range_rows(alloc, lo, hi, &store, w, reads)?;
+    let rows = index.range_rows(alloc, lo, hi, store, w, reads)?;
     let found = index.candidates(alloc, lo, hi, w)?;
     Ok(are_rows(&rows, case.rows) && found.as_slice() == case.found)
+}
+
+// Whether an index that has seen no object finds them.
+fn are_found<L: Ledger>(
+    alloc: Global,
+    case: &Case,
+    store: &Store,
+    reads: &mut Steps<L>,
+) -> Result<bool, Fail> {
+    let width = fix(10_000)?;
+    let mut index = PlaneIndex::new(alloc, Grid::new(0, 0, 0, width))?;
+    finds(alloc, case, store, &mut index, reads)
+}
+
+fn is_right<L: Ledger>(alloc: Global, case: &Case, reads: &mut Steps<L>) -> Result<bool, Fail> {
+    let store = store_of(alloc, &CARS)?;
+    are_found(alloc, case, &store, reads)
 }
 
 pub(crate) fn cases_are_right<L: Ledger>(

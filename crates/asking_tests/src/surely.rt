@@ -4,6 +4,7 @@ ghost use Rattle.formula.specs.Tree.{query_view};
 ghost use Rattle.formula_shape.specs.Shape as shapes;
 ghost use Rattle.history.specs.History.{history};
 ghost use Rattle.meaning.specs.Fits.{atom_fits, no_kinds};
+ghost use Rattle.object_store.specs.Contents.{history_of};
 ghost use Rattle.asking_tests.specs.Passing.{writes};
 
 use crate::counted::{Asked, with_counters};
@@ -16,6 +17,7 @@ use case_table::Op;
 use fixed_point::Items;
 use formula::{RAtom, RFormula, RQuery};
 use interval_set::IntervalSet;
+use object_store::Store;
 use relation::{Domains, Relation};
 use std::alloc::{AllocError, Global};
 use std::process::Abort;
@@ -229,11 +231,27 @@ fn are_its_runs<L: Ledger, M: Ledger>(
     requires fits { atom_fits (history writes).catalog (0 ∷ 1 ∷ []) 1 no_kinds atom ≡ true }
 {
     let store = passed_post(alloc)?;
+    are_runs_in(alloc, &store, atom, blur, runs, reads, probes)
+}
+
+fn are_runs_in<L: Ledger, M: Ledger>(
+    alloc: Global,
+    store: &Store,
+    atom: RAtom,
+    blur: Blur,
+    runs: &[Ends],
+    reads: &mut Steps<L>,
+    probes: &mut Steps<M>,
+) -> Result<bool, Fail>
+    requires told { history_of store.now ≡ history writes }
+    requires is { is_atom 2 no_scope atom ≡ true }
+    requires fits { atom_fits (history writes).catalog (0 ∷ 1 ∷ []) 1 no_kinds atom ≡ true }
+{
     let regions = square(alloc)?;
     let domains = car_and_post(alloc)?;
     let query = query_of(alloc, atom)?;
     let world = BlurredWorld {
-        store: &store,
+        store,
         regions: &regions,
         blur,
     };

@@ -116,13 +116,19 @@ fn write(store: &mut Store, written: &Written) -> Result<(), Fail> {
     }
 }
 
-// The store in which cars have the class 0, and posts the class 1.
-pub(crate) fn store_of(alloc: Global, written: &[Written]) -> Result<Store, Fail> {
-    let mut store = Store::new(alloc);
+fn write_all(store: &mut Store, written: &[Written]) -> Result<(), Fail> {
     store.add_class(word(b"car")?, 9, true, &[])?;
     store.add_class(word(b"post")?, 9, true, &[])?;
     for one in written {
-        write(&mut store, one)?;
+        write(store, one)?;
     }
+    Ok(())
+}
+
+// The store in which cars have the class 0, and posts the class 1. It is filled by a call, since each way out of the
+// function that owns a store lets it go once more.
+pub(crate) fn store_of(alloc: Global, written: &[Written]) -> Result<Store, Fail> {
+    let mut store = Store::new(alloc);
+    write_all(&mut store, written)?;
     Ok(store)
 }

@@ -1,24 +1,7 @@
--- The writes, one after the other.
-use Rattle.std.proofs.Common.{[], ◌∷◌, ap, ◌∙◌}
-use Rattle.std.specs.Prelude.{codes}
-use Rattle.history.specs.History.{history}
-use Rattle.history.specs.Write.{Insert, Remove}
-use Rattle.meaning.specs.ExampleParts.{car_class, post_class}
+-- A new store has no write.
+use Rattle.std.proofs.Common.{ap}
 use Rattle.object_store.specs.Contents.{history_of}
 use Rattle.asking_tests.proofs.passing.passed_post_of.Goals as goal
 
-pub returns : goal.returns
-returns c =
-    let start = ap history_of c.new-store.ensures in
-    let classes = c.in_ok-add_class-2.ensures (car_class ∷ []) (c.in_ok-add_class.ensures [] start) in
-    let first = Insert 0 (codes "car") (codes "a") c.args.car [] in
-    let second = Insert 0 (codes "post") (codes "b") c.args.post [] in
-    let objects = c.in_ok-insert-2.ensures (car_class ∷ post_class ∷ first ∷ []) (c.in_ok-insert.ensures (car_class ∷ post_class ∷ []) classes) in
-    c.in_ok-remove.ensures (car_class ∷ post_class ∷ first ∷ second ∷ []) objects
-    ∙ (λ i. history
-    (car_class
-    ∷ post_class
-    ∷ Insert 0 (codes "car") (codes "a") (c.requires.car i) []
-    ∷ Insert 0 (codes "post") (codes "b") (c.requires.post i) []
-    ∷ Remove 25 (codes "b")
-    ∷ []))
+pub pass_post-requires-clause-empty : goal.pass_post-requires-clause-empty
+pass_post-requires-clause-empty c = ap history_of c.new-store.ensures

@@ -8,10 +8,10 @@ use Rattle.meaning.specs.Agreement.{world_with}
 use Rattle.meaning.specs.Fits.{FitsItsClasses}
 use Rattle.object_store.specs.Contents.{catalog_of, history_of}
 use Rattle.asking_tests.proofs.PassingLemmas.{are_of_its_classes, car_and_post, fits_classes, is_resolved, of_accepted_writes}
-use Rattle.asking_tests.proofs.surely.are_its_runs.Goals as goal
+use Rattle.asking_tests.proofs.surely.are_runs_in.Goals as goal
 
 pub blurred-requires-clause-accepted : goal.blurred-requires-clause-accepted
-blurred-requires-clause-accepted g c = of_accepted_writes c.in_ok-store.store c.in_ok-store.ensures
+blurred-requires-clause-accepted g c = of_accepted_writes c.args.store.now c.requires.told
 
 pub blurred-requires-clause-resolved : goal.blurred-requires-clause-resolved
 blurred-requires-clause-resolved g c =
@@ -20,13 +20,13 @@ blurred-requires-clause-resolved g c =
 pub blurred-requires-clause-fits : goal.blurred-requires-clause-fits
 blurred-requires-clause-fits g c =
     subst
-    (λ (q : ResolvedQuery). FitsItsClasses (world_with (history_of c.in_ok-store.store) c.in_ok-regions.regions) q)
+    (λ (q : ResolvedQuery). FitsItsClasses (world_with (history_of c.args.store.now) c.in_ok-regions.regions) q)
     (sym c.in_ok-query.ensures)
-    (fits_classes (history_of c.in_ok-store.store) c.in_ok-regions.regions c.args.atom c.in_ok-store.ensures c.in_ok-regions.ensures c.requires.fits)
+    (fits_classes (history_of c.args.store.now) c.in_ok-regions.regions c.args.atom c.requires.told c.in_ok-regions.ensures c.requires.fits)
 
 pub blurred-requires-clause-domains : goal.blurred-requires-clause-domains
 blurred-requires-clause-domains g c =
-    let catalog = catalog_of c.in_ok-store.store in
+    let catalog = catalog_of c.args.store.now in
     subst (λ (d : List (List ℕ)). AreOfItsClasses catalog (query_view c.in_ok-query.query) d) (sym c.in_ok-domains.ensures)
     (subst (λ (q : ResolvedQuery). AreOfItsClasses catalog q car_and_post) (sym c.in_ok-query.ensures)
-    (are_of_its_classes catalog c.args.atom (ap (λ (h : History). h.catalog) c.in_ok-store.ensures)))
+    (are_of_its_classes catalog c.args.atom (ap (λ (h : History). h.catalog) c.requires.told)))
