@@ -1,5 +1,5 @@
 -- For crates above: units keep the order and the bounds of numbers, and what is within a patch is met by an area that has it.
-use Rattle.std.proofs.Common.{◌≡◌, ℤ, ◌≤ℤ◌, Bool, true, arith}
+use Rattle.std.proofs.Common.{◌≡◌, ℤ, ◌≤ℤ◌, true, arith}
 use Rattle.std.proofs.lemmas.Grind.{common_steps}
 use Rattle.std.proofs.lemmas.Int.{ints}
 use Rattle.places.specs.declared.patch.Extent.{Extent}

@@ -1,3 +1,4 @@
 pub mod CoverLemmas
+pub mod SlotLemmas
 pub mod NearLemmas
 pub mod CallerLemmas

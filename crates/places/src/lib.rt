@@ -1,13 +1,14 @@
 //! Where objects can be: boxes of whole units over some ticks, which tell quickly which objects can come into an area.
 //!
 //! A patch is an upright box of the plane in whole units, so it takes 16 bytes. Boxes are the patches of all objects for
-//! one horizon of ticks, with a cover for each 32, and tell exactly the numbers of those that meet an area. Places have
+//! one horizon of ticks, with covers for 32 that were near each other, and tell exactly the numbers of those that meet an area. Places have
 //! four horizons. What a patch promises of its object is the caller's: this crate knows no object.
 #![tactic(auto)]
 
 mod boxes;
 mod horizons;
 mod laws;
+mod order;
 mod patch;
 
 pub use boxes::{BLOCK, Boxes};

@@ -6,5 +6,5 @@ use Rattle.places.proofs.boxes.cover.Given as goal
 abbrev pub invariant-numbers : goal.invariant-numbers
 invariant-numbers l = record {
   long : length l.covers.items ≡ length l.initial.covers.items;
-  have : HaveBelow l.number l.covers.items l.patches;
+  have : HaveBelow l.number l.covers.items l.patches l.slots;
 }

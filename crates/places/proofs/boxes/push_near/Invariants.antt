@@ -1,7 +1,6 @@
-use Rattle.std.proofs.Common.{◌≡◌}
-use Rattle.places.specs.Boxes.{near_below}
+use Rattle.places.specs.Boxes.{AddsFound}
 use Rattle.places.proofs.boxes.push_near.Given as goal
 
--- those below the number are found
-abbrev pub invariant-numbers : goal.invariant-numbers
-invariant-numbers l = l.found.items ≡ near_below l.number l.patches l.area
+-- those of the slots so far are found
+abbrev pub invariant-slots : goal.invariant-slots
+invariant-slots l = AddsFound l.start l.slot l.numbers l.patches l.area l.initial.found.items l.found.items
