@@ -9,10 +9,10 @@ use Rattle.std.proofs.lemmas.Option.{slice_get-map}
 use Rattle.motion.specs.Timeline.{Epoch, state_at}
 use Rattle.object_store.specs.declared.areas.Area.{Area}
 use Rattle.object_store.specs.declared.objects.Object.{Object}
-use Rattle.object_store.specs.Areas.{is_in_area, is_listed, AreNear}
+use Rattle.object_store.specs.Areas.{is_in_area, is_listed, is_told, AreNear}
 use Rattle.object_store.specs.Contents.{StoredObject, Contents, ids_in}
 use Rattle.object_store.specs.ObjectView.{stored, objects_of}
-use Rattle.object_store.specs.Searching.{AreFrom, IsNowhere, IsSearched}
+use Rattle.object_store.specs.Searching.{state_in, AreFrom, IsNowhere, IsSearched}
 use Rattle.object_store.specs.Sound.{IsSound}
 use Rattle.object_store.proofs.EntryLemmas.{value_there}
 use Rattle.object_store.proofs.IdLemmas.{ids_from, ids-cons}
@@ -30,6 +30,18 @@ nowhere_by_value es id v area lo hi there outside t from to =
 pub nowhere_without_object : (es : List (List ℕ × Object)) (id : ℕ) (area : Area) (lo hi : ℕ) → slice_get es id ≡ None → IsNowhere (objects_of es) area lo hi id
 nowhere_without_object es id area lo hi none t from to =
     ap (λ (r : Option StoredObject). is_in_area area t (option_and_then (λ (o : StoredObject). state_at o.epochs t) r))
+    (slice_get-map stored es id ∙ ap (option_map stored) none)
+
+pub told_by_value : (es : List (List ℕ × Object)) (id : ℕ) (v : Object) (area : Option Area) (t : ℕ) → slice_get (values_of es) id ≡ Some v →
+    is_told area t (state_at v.timeline t) ≡ true → is_told area t (state_in (objects_of es) id t) ≡ true
+told_by_value es id v area t there is =
+    let at = value_there es id v there in
+    ap (λ (r : Option StoredObject). is_told area t (option_and_then (λ (o : StoredObject). state_at o.epochs t) r)) at.there
+    ∙ ap (λ (epochs : List Epoch). is_told area t (state_at epochs t)) at.epochs ∙ is
+
+pub told_without_object : (es : List (List ℕ × Object)) (id t : ℕ) → slice_get es id ≡ None → is_told None t (state_in (objects_of es) id t) ≡ true
+told_without_object es id t none =
+    ap (λ (r : Option StoredObject). is_told None t (option_and_then (λ (o : StoredObject). state_at o.epochs t) r))
     (slice_get-map stored es id ∙ ap (option_map stored) none)
 
 -- ---- the walk

@@ -33,6 +33,12 @@ abbrev pub is_in_area : Area → ℕ → Option (List Cell) → Bool
 is_in_area area t None = false
 is_in_area area t (Some there) = are_in_area area t there
 
+-- whether an object, which may be absent, is in the area that is told of it; none is told of an absent one
+abbrev pub is_told : Option Area → ℕ → Option (List Cell) → Bool
+is_told area t None = true
+is_told None t (Some there) = false
+is_told (Some area) t (Some there) = are_in_area area t there
+
 -- whether an id is in a list
 abbrev pub is_listed : List ℕ → ℕ → Bool
 is_listed ids id = list_any (λ i. i == id) ids

@@ -1,5 +1,5 @@
 //! Areas of the plane, and whether what moves can come into one.
-ghost use Rattle.std.specs.Prelude.{◌≡◌, ◌≤◌, ℕ, ℤ, ◌≤ℤ◌, false, IfSome};
+ghost use Rattle.std.specs.Prelude.{◌≡◌, ◌≤◌, ℕ, ℤ, ◌≤ℤ◌, false, true, IfSome};
 ghost use Rattle.std.specs.Option.{option_copied};
 ghost use Rattle.tick_set.specs.declared.spans.TheConstants.{LAST_TICK};
 ghost use Rattle.motion.specs.Cells.{AreCellsAt, IsCellAt};
@@ -27,6 +27,17 @@ pub struct Area {
 }
 
 impl Area {
+    /// Where an object with these cells is over the window. A side is open where no dynamic attribute tells of it.
+    pub(crate) fn over(cells: &[Cell], w: Window) -> Area
+        requires { AreCellsAt cells.now w.lo }
+        ensures { (t : ℕ) → w.lo ≤ t → t ≤ w.hi → are_in_area result t cells.now ≡ true }
+    {
+        Area {
+            x: Sides::over(cells.first(), w),
+            y: Sides::over(cells.get(1), w),
+        }
+    }
+
     /// The patch of its units.
     pub(crate) fn patch(&self) -> Patch
         ensures { result ≡ patch_of self.now }
@@ -47,6 +58,41 @@ impl Area {
 }
 
 impl Sides {
+    /// The sides between which what is in a cell is over the window.
+    fn over(cell: Option<&Cell>, w: Window) -> Sides
+        requires { IfSome cell (λ c. IsCellAt c.now w.lo) }
+        ensures { (t : ℕ) → w.lo ≤ t → t ≤ w.hi → is_cell_between result t (option_copied cell.entry) ≡ true }
+    {
+        match cell {
+            Some(Cell::Dyn(vector)) => Sides::over_value(vector, w),
+            Some(Cell::Num(_)) => Sides::open(),
+            Some(Cell::Text(_)) => Sides::open(),
+            None => Sides::open(),
+        }
+    }
+
+    /// The sides between which a dynamic attribute is, which isn't updated after the window's first tick.
+    fn over_value(vector: &Vector, w: Window) -> Sides
+        requires { vector.now.updatetime ≤ w.lo }
+        ensures { (t : ℕ) → w.lo ≤ t → t ≤ w.hi → is_between result (value_at vector.now t) ≡ true }
+    {
+        let (least, greatest) = vector.range(w.lo, w.hi);
+        Sides {
+            least: Some(least),
+            greatest: Some(greatest),
+        }
+    }
+
+    /// All numbers.
+    fn open() -> Sides
+        ensures { (n : ℤ) → is_between result n ≡ true }
+    {
+        Sides {
+            least: None,
+            greatest: None,
+        }
+    }
+
     /// The units between them.
     fn extent(&self) -> Extent
         ensures { result ≡ extent_of self.now }

@@ -1,9 +1,9 @@
 //! The objects that can come into an area.
-ghost use Rattle.std.specs.Prelude.{◌≡◌, ◌≤◌, List, [], ◌∷◌, ℕ, All, IfOk, OnOk, false};
+ghost use Rattle.std.specs.Prelude.{◌≡◌, ◌≤◌, List, [], ◌∷◌, ℕ, All, IfOk, OnOk, false, true};
 ghost use Rattle.motion.specs.Timeline.{state_at, AreBegunBy};
-ghost use Rattle.object_store.specs.Areas.{is_in_area};
+ghost use Rattle.object_store.specs.Areas.{is_in_area, is_told};
 ghost use Rattle.object_store.specs.ObjectView.{objects_of};
-ghost use Rattle.object_store.specs.Searching.{AreFrom, IsNowhere, IsSearched};
+ghost use Rattle.object_store.specs.Searching.{state_in, AreFrom, IsNowhere, IsSearched};
 
 use crate::areas::Area;
 use crate::objects::{Object, Objects};
@@ -53,7 +53,7 @@ fn push_near(
 }
 
 /// Whether the object of an id can be in an area at a tick of the window.
-fn may_come(objects: &Objects, id: u32, area: &Area, w: Window) -> bool
+pub fn may_come(objects: &Objects, id: u32, area: &Area, w: Window) -> bool
     requires { All (λ o. AreBegunBy o.epochs w.lo) (objects_of objects.now.entries) }
     ensures { result ≡ false → IsNowhere (objects_of objects.now.entries) area.now w.lo w.hi id }
 {
@@ -63,7 +63,29 @@ fn may_come(objects: &Objects, id: u32, area: &Area, w: Window) -> bool
     }
 }
 
+/// Where the object of an id is over the window. None where it isn't there.
+pub fn whereabouts(objects: &Objects, id: u32, w: Window) -> Option<Area>
+    requires { All (λ o. AreBegunBy o.epochs w.lo) (objects_of objects.now.entries) }
+    ensures { (t : ℕ) → w.lo ≤ t → t ≤ w.hi → is_told result t (state_in (objects_of objects.now.entries) id t) ≡ true }
+{
+    match objects.get_index(id as usize) {
+        Some((_, object)) => object.whereabouts(w),
+        None => None,
+    }
+}
+
 impl Object {
+    /// Where it is over the window, which doesn't begin before its last epoch. None where it isn't there.
+    fn whereabouts(&self, w: Window) -> Option<Area>
+        requires { AreBegunBy self.now.timeline w.lo }
+        ensures { (t : ℕ) → w.lo ≤ t → t ≤ w.hi → is_told result t (state_at self.now.timeline t) ≡ true }
+    {
+        match self.timeline.last() {
+            Some(epoch) if epoch.is_present() => Some(Area::over(epoch.cells(), w)),
+            _ => None,
+        }
+    }
+
     /// Whether it can be in an area at a tick of the window, which doesn't begin before its last epoch.
     fn may_come(&self, area: &Area, w: Window) -> bool
         requires { AreBegunBy self.now.timeline w.lo }

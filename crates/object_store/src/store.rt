@@ -1,5 +1,5 @@
 //! The store.
-ghost use Rattle.std.specs.Prelude.{◌≡◌, ◌+◌, ◌<◌, ◌≤◌, ℕ, Some, None, false, is_some, length, map, unwrap_or, slice_get, IfOk, IfSome, IfErr, OnOk, OnErr};
+ghost use Rattle.std.specs.Prelude.{◌≡◌, ◌+◌, ◌<◌, ◌≤◌, ℕ, Some, None, false, true, is_some, length, map, unwrap_or, slice_get, IfOk, IfSome, IfErr, OnOk, OnErr};
 ghost use Rattle.std.specs.List.{position};
 ghost use Rattle.std.specs.Option.{option_copied, option_map, option_map_or};
 ghost use Rattle.motion.specs.Timeline.{state_at};
@@ -8,7 +8,7 @@ ghost use Rattle.history.specs.Catalog.{ids_of, names};
 ghost use Rattle.history.specs.History.{cells_at, ChangesFrom};
 ghost use Rattle.history.specs.Write.{Class as ClassWrite, Insert, Update, Remove};
 ghost use Rattle.object_store.specs.declared.fault.StoreFault.TheVariants.{NoMemory};
-ghost use Rattle.object_store.specs.Areas.{AreNear};
+ghost use Rattle.object_store.specs.Areas.{is_in_area, is_told, AreNear};
 ghost use Rattle.object_store.specs.Changes.{AreGiven};
 ghost use Rattle.object_store.specs.Contents.{catalog_of, is_named, empty_contents, history_of, is_present_at, ids_in, object_name, state_of};
 ghost use Rattle.object_store.specs.Effects.{with_class, after_insert, after_update, after_remove};
@@ -21,7 +21,7 @@ use crate::areas::Area;
 use crate::candidates::candidates;
 use crate::class::AttrDef;
 use crate::fault::StoreFault;
-use crate::near::those_near;
+use crate::near::{may_come, those_near, whereabouts};
 use crate::objects::{Done, ObjectId, Undo, index_of};
 use crate::placing::{insert_placed, remove_placed, revert_placed, update_placed};
 use crate::schema::{ClassId, Schema};
@@ -313,6 +313,23 @@ impl Store {
             w,
         )?;
         Ok(Some(ids))
+    }
+
+    /// Whether an object can be in an area at a tick of the window, by its own line. It is taken to be so where the window
+    /// begins before the tick of the last write. It looks at no timeline.
+    pub fn can_be_in(&self, id: ObjectId, area: &Area, w: Window) -> bool
+        ensures { result ≡ false → (t : ℕ) → w.lo ≤ t → t ≤ w.hi → is_in_area area.now t (cells_at (history_of self.now) id t) ≡ false }
+    {
+        w.lo < self.tables.last_tick || may_come(&self.tables.objects, id, area, w)
+    }
+
+    /// An area in which an object is over a window that doesn't begin before the tick of the last write. None where the
+    /// object is absent. It looks at no timeline.
+    pub fn whereabouts(&self, id: ObjectId, w: Window) -> Option<Area>
+        requires after { self.now.last_tick ≤ w.lo }
+        ensures { (t : ℕ) → w.lo ≤ t → t ≤ w.hi → is_told result t (cells_at (history_of self.now) id t) ≡ true }
+    {
+        whereabouts(&self.tables.objects, id, w)
     }
 
     /// The clock shows the tick `now`: what is kept of where objects can be is made anew where it ends soon. It takes no
