@@ -1,4 +1,5 @@
-"""What `asks` and `updates` share: user times of DOMINO and of a plain program on the same lines."""
+"""What `asks`, `updates` and `places` share: user times of DOMINO and of a plain program on the same lines, and of another
+program of the variable BEFORE, where that is given."""
 
 import glob
 import os
@@ -12,11 +13,13 @@ BUILD = os.path.join(HERE, "build")
 
 class Input:
     """Lines that are run with and without the last ones, the times of which are told; where `whole`, the times are
-    those of whole runs. The least of so many runs counts."""
+    those of whole runs. Where `kept` is given, these of the last lines are run both times, and the times are those of the
+    others. The least of so many runs counts."""
 
-    def __init__(self, before, measured, unit, whole=False, runs=5):
+    def __init__(self, before, measured, unit, whole=False, runs=5, kept=()):
         self.before = before
         self.measured = measured
+        self.kept = kept
         self.unit = unit
         self.whole = whole
         self.runs = runs
@@ -73,7 +76,7 @@ def has_refusal(path):
 def measure(programs, made, folder):
     """Of each program the least seconds, of the measured lines alone where not `whole`, and memory."""
     files = {}
-    for name, lines in (("before", made.before), ("all", made.before + made.measured)):
+    for name, lines in (("before", [*made.before, *made.kept]), ("all", made.before + made.measured)):
         files[name] = os.path.join(folder, name)
         with open(files[name], "w") as text:
             text.writelines(line + "\n" for line in lines)
@@ -93,7 +96,7 @@ def text_of(name, made, figures):
     seconds, memory = figures
     factor, unit = {"s": (1, "s"), "ms": (1e3, "ms"), "us": (1e6, "microseconds")}[made.unit]
     each = "" if made.whole else " a line"
-    time = seconds * factor / (1 if made.whole else len(made.measured))
+    time = seconds * factor / (1 if made.whole else len(made.measured) - len(made.kept))
     return f"{name} {time:8.3f} {unit}{each}, {memory * 1024 / 1e6:4.0f} MB"
 
 
@@ -102,6 +105,8 @@ def compare(names, inputs, plain):
     if any(name not in inputs for name in names):
         sys.exit("no such input; there are: " + " ".join(inputs))
     programs = {"domino": domino_program(), "plain": plain_program(plain)}
+    if "BEFORE" in os.environ:
+        programs["before"] = os.environ["BEFORE"]
     for name in names or inputs:
         made = inputs[name]()
         with tempfile.TemporaryDirectory(dir=BUILD) as folder:
@@ -113,21 +118,26 @@ def compare(names, inputs, plain):
             if has_refusal(replies[0]):
                 print(f"{name:18} {'domino refused':32}   {plain_text}", flush=True)
                 continue
-            if subprocess.run(["cmp", *replies], check=False).returncode != 0:
-                sys.exit(f"{name}: the programs differ")
-            ratio = found["domino"][0] / max(found["plain"][0], 1e-6)
-            domino_text = text_of("domino", made, found["domino"])
-            print(f"{name:18} {domino_text}   {plain_text}   ratio {ratio:.2f}", flush=True)
+            others = [replies[i] for i in range(1, len(replies)) if not has_refusal(replies[i])]
+            for other in others:
+                if subprocess.run(["cmp", replies[0], other], check=False).returncode != 0:
+                    sys.exit(f"{name}: the programs differ")
+            texts = [text_of("domino", made, found["domino"])]
+            for other in list(programs)[1:len(others) + 1]:
+                ratio = found["domino"][0] / max(found[other][0], 1e-6)
+                texts.append(f"{text_of(other, made, found[other])}   ratio {ratio:.{2 if ratio >= 0.1 else 4}f}")
+            print(f"{name:18} {'   '.join(texts)}", flush=True)
 
 
-def plane(count, draw):
-    """Cars that drive at up to one unit a tick over a square of 1,000 units, ten regions and ten posts."""
+def plane(count, draw, side=1000):
+    """Cars that drive at up to one unit a tick over a square, of 1,000 units if no other number is given, ten regions and
+    ten posts."""
     slope = lambda: f"{draw.randint(-1000, 1000) / 1000:g}"
     lines = [f"class car {count} point", "class post 10 point"]
     for i in range(10):
-        x, y = draw.randrange(950), draw.randrange(950)
+        x, y = draw.randrange(side - 50), draw.randrange(side - 50)
         lines.append(f"region r{i} ({x},{y}) ({x + 50},{y}) ({x + 50},{y + 50}) ({x},{y + 50})")
-        lines.append(f"insert post p{i} at ({draw.randrange(1000)},{draw.randrange(1000)})")
+        lines.append(f"insert post p{i} at ({draw.randrange(side)},{draw.randrange(side)})")
     for i in range(count):
-        lines.append(f"insert car c{i} at ({draw.randrange(1000)},{draw.randrange(1000)}) move ({slope()},{slope()})")
+        lines.append(f"insert car c{i} at ({draw.randrange(side)},{draw.randrange(side)}) move ({slope()},{slope()})")
     return lines
