@@ -15,16 +15,31 @@ CLASSES = {
     "box": ("2 (x num,y text)", ["x"], ["y"], []),
     "ship": ("1000 point (plate dyn)", [], [], ["x", "y", "plate"]),
     "ferry": ("40 point", [], [], ["x", "y"]),
+    "lorry": ("200 point (fuel dyn)", [], [], ["x", "y", "fuel"]),
 }
 # a class of this one alone has more objects than a `nearest` has to look at throughout
 CROWD = ("ferry", 40)
-POINTS = ["car", "post", "ship", "ferry"]
+# a class of the sessions `placed` alone has so many objects that an ask passes over those far from what it needs
+FLEET = "lorry"
+POINTS = ["car", "post", "ship", "ferry", "lorry"]
 REGIONS = {
     "P": "(-5,-5) (5,-5) (5,5) (-5,5)",
     "Q": "(0,0) (0,10) (10,0)",
     "R": "(-3,0) (-1,-4) (2,-4) (4,0) (2,3) (-1,3)",
     "S": "(0,0) (2,0) (4,0) (4,1) (4,4) (0,4)",
     "T": "(-1000000000,-1000000000) (1000000000,-1000000000) (1000000000,0.001)",
+}
+# those of the sessions `placed` alone, among spread-out objects
+PLACED = {
+    "U": "(-200,-200) (-150,-200) (-150,-150) (-200,-150)",
+    "V": "(100,100) (160,100) (160,160) (100,160)",
+    "W": "(0,-300) (300,-300) (150,0)",
+}
+# what an import brings to the fleet: objects all over the plane, and some at one place
+FLEETS = {
+    "lorries": "name,x,x.rate,y,y.rate\n"
+    + "".join(f"l{i},{i * 37 % 200 * 5 - 500},{i % 3 - 1},{i * 61 % 200 * 5 - 500},{i % 2}\n" for i in range(0, 200, 3)),
+    "yard": "name,x,y,fuel.rate\n" + "".join(f"l{i},{120 + i % 5},{120 + i},1\n" for i in range(20)),
 }
 # those that a class has beside x and y, so that there are more than there may be indexes
 RACK = [f"a{place}" for place in range(15)]
@@ -77,6 +92,8 @@ class Maker:
         self.blurred = False
         self.queries = 0
         self.crowded = kind in ("nearest", "all") and self.chance(15)
+        # how many objects the fleet has at first, where there is one
+        self.fleet = self.one_of([40, 60, 100, 200]) if kind == "placed" else 0
 
     def chance(self, percent):
         return self.draw.randrange(100) < percent
@@ -109,7 +126,10 @@ class Maker:
     def settings(self, name):
         _, numbers, texts, moving = CLASSES[name]
         words = ""
-        if name in POINTS and self.round:
+        if name == FLEET or self.fleet and name == "post":
+            words += f" at {self.pair(lambda: self.number(500))}" if self.chance(90) else ""
+            words += f" move {self.legs(lambda: self.pair(self.slope))}" if self.chance(60) else ""
+        elif name in POINTS and self.round:
             words += f" at {self.one_of(ROUND + ['(0,0)'] * 14 if name == 'post' else ROUND)}"
             words += f" move {self.parallel}" if self.chance(90) else ""
         elif name in POINTS and self.chance(20):
@@ -133,6 +153,9 @@ class Maker:
         """A class and the name of one of its objects; the first letter tells the class."""
         name = self.one_of(["car"] * 5 + ["post", "post", "tank", "tank", "box", "ship"])
         return name, f"{name[0]}{self.draw.randrange(3)}"
+
+    def one_of_fleet(self):
+        return FLEET, f"{FLEET[0]}{self.draw.randrange(self.fleet)}"
 
     def one_of_crowd(self):
         name, count = CROWD
@@ -170,8 +193,23 @@ class Maker:
             words += f"{self.draw.randint(0, 3)} * " + factor if times else factor
         return words
 
+    def placed_atom(self, points):
+        """An atom that names a place of the plane."""
+        sort, name = self.draw.randrange(10), self.one_of(points)
+        if sort < (5 if points[1:] else 7):
+            word = self.one_of(["INSIDE", "INSIDE", "INSIDE", "INSIDE", "OUTSIDE"])
+            return Node(f"{word}({name},{self.one_of([*PLACED, *PLACED, *REGIONS])})")
+        if sort < 7:
+            distance = self.one_of(["0", "0.5", "5", "20", "60", "100", "-1"])
+            return Node(f"DIST({name},{self.one_of(points)}) {self.one_of(['<', '<=', '<=', *OPS])} {distance}")
+        sides = [f"{name}.{self.one_of('xy')}", self.number(500).replace("-", self.one_of(["-", "-", ""]))]
+        self.draw.shuffle(sides)
+        return Node(f"{sides[0]} {self.one_of(OPS)} {sides[1]}")
+
     def atom(self, variables, bound):
         points = [name for name, which in variables if which in POINTS]
+        if points and self.fleet and self.chance(85):
+            return self.placed_atom(points)
         sort = self.draw.randrange(20)
         if points and self.blurred and self.chance(60):
             sort = self.draw.randrange(9)
@@ -262,6 +300,24 @@ class Maker:
         head = f"{words} {span} RETRIEVE {','.join(targets)} FROM {','.join(froms)} WHERE "
         return Line(head, formula)
 
+    def placed_query(self, words, most):
+        """A query of objects of the fleet behind the words, sometimes with one of few others, with a span of at most that
+        many ticks. Long windows have formulas of one atom, as the plain program judges tick by tick."""
+        self.queries += 1
+        variables = [("o", FLEET)] + [("n", self.one_of(["post", "car"]))] * self.chance(35)
+        if self.fleet <= 60 and self.chance(5):
+            variables = [("o", FLEET), ("n", FLEET)]
+        self.draw.shuffle(variables)
+        names = [name for name, _ in variables]
+        targets = self.draw.sample(names, self.draw.randint(1, len(names)))
+        size, span = self.one_of([1, 1, 1, 2, 2, 2, 3, 4, 5, 6]), self.one_of([0, 5, 20, 20, 40, 60])
+        if size == 1 and len(variables) == 1:
+            # past the ends of what is kept of where objects can be
+            span = self.one_of([0, 5, 60, 100, 257, 300, 1_025, 1_100] + [4_097, 5_000] * (self.fleet <= 100))
+            span = 65_537 if self.fleet <= 40 and self.chance(3) else span
+        head = f"{words} {min(most, span)} RETRIEVE {','.join(targets)} FROM "
+        return Line(head + ",".join(f"{which} {name}" for name, which in variables) + " WHERE ", self.formula(variables, size, []))
+
     def bad(self, variables, targets, froms, formula):
         sort = self.draw.randrange(8)
         if sort == 0:
@@ -277,21 +333,25 @@ class Maker:
 
     def setup(self):
         classes = [name for name in CLASSES if self.crowded or name != CROWD[0]]
+        classes = [name for name in classes if self.fleet or name != FLEET]
         lines = [f"class {name} {CLASSES[name][0]}" for name in classes if self.chance(99)]
         lines += [f"region {name} {points}" for name, points in REGIONS.items() if self.chance(99)]
+        lines += [f"region {name} {points}" for name, points in PLACED.items() if self.fleet]
         if self.chance(10):
             lines.append(f"tick {self.one_of([1000000, 999999000, 999999990])}")
-        counts = {"car": 3, "post": 3, CROWD[0]: CROWD[1]}
+        counts = {"car": 3, "post": 3, CROWD[0]: CROWD[1], FLEET: self.fleet}
         objects = [(name, f"{name[0]}{i}") for name in classes for i in range(counts.get(name, 2))]
         self.draw.shuffle(objects)
         for name, which in objects:
-            if self.chance(85 if name == "car" else 60):
+            if self.chance(85 if name in ("car", FLEET) else 60):
                 lines.append(f"insert {name} {which}{self.settings(name)}")
-                lines.extend([f"tick {self.draw.randint(1, 5)}"] if self.chance(20) else [])
+                lines.extend([f"tick {self.draw.randint(1, 5)}"] if self.chance(2 if self.fleet else 20) else [])
         return [Line(line) for line in lines]
 
     def write(self):
         name, which = self.one_of_crowd() if self.crowded and self.chance(50) else self.object()
+        if self.fleet and self.chance(80):
+            name, which = self.one_of_fleet()
         sort = self.draw.randrange(10)
         if sort < 2:
             return Line(f"remove {which}")
@@ -364,8 +424,26 @@ class Maker:
             lambda: Line("list"),
         ])()
 
+    def placed_line(self):
+        """A line of a session with a fleet."""
+        sort = self.draw.randrange(100)
+        name = f"w{self.draw.randrange(4)}"
+        if sort < 50:
+            return self.placed_query("ask", 70_000)
+        if sort < 58:
+            return self.placed_query(f"{self.one_of(['watch', 'keep'])} {name}", 60)
+        if sort < 63:
+            return Line(self.one_of([f"show {name}", f"drop {name}", "list"]))
+        if sort < 67:
+            return Line(f'import {FLEET} "{self.one_of(list(FLEETS))}"')
+        if sort < 85:
+            return self.write()
+        return Line(f"tick {self.one_of([1, 3, 12, 12, 100, 250, 300, 1_000, 5_000, 70_000])}")
+
     def session(self):
         lines = self.setup()
+        if self.fleet:
+            return lines + [self.placed_line() for _ in range(self.draw.randint(40, 80))]
         if self.kind in ("ranges", "all"):
             lines += [Line(f"index {of} {self.one_of(WIDTHS)}") for of in sorted(set(INDEXED)) if self.chance(60)]
             lines += self.rack() if self.chance(10) else []
