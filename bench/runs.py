@@ -43,14 +43,19 @@ def preloaded(name):
     return library
 
 
-def domino_program():
-    """The path of the program that is compared: that of the variable DOMINO, or DOMINO itself, built where it isn't.
-    Makes the folder for what scripts write, too."""
+def proved_program(crate):
+    """The path of a program of the crates: that of the variable of its name, as DOMINO, or the one that is built of them,
+    built where it isn't. Makes the folder for what scripts write, too."""
     os.makedirs(BUILD, exist_ok=True)
-    if "DOMINO" in os.environ:
-        return os.environ["DOMINO"]
-    proved = [os.path.join(HERE, "..", "tools", "proved"), "domino"]
+    if crate.upper() in os.environ:
+        return os.environ[crate.upper()]
+    proved = [os.path.join(HERE, "..", "tools", "proved"), crate]
     return subprocess.run(proved, stdout=subprocess.PIPE, text=True, check=True).stdout.strip()
+
+
+def domino_program():
+    """The path of the program that is compared: that of the variable DOMINO, or DOMINO itself."""
+    return proved_program("domino")
 
 
 def run(program, path, out):

@@ -1,14 +1,18 @@
-"""What `compare_queries` and `fuzz` share: sessions that two programs answer, and the smallest one that they answer
+"""What the scripts that compare and fuzz share: sessions that two programs answer, and the smallest one that they answer
 otherwise."""
 
 import os
+import re
 import subprocess
 import tempfile
+import threading
 
 from runs import BUILD
 
 # within which a session has to end
 SECONDS = 120
+# the bytes of a read, where an input comes in pieces
+PIECES = (1, 2, 3, 7, 4096)
 # the words for programs that have the commands on files
 FILING = ("files", "nearest", "blurred", "ranges", "all")
 # what is in the folder at the start of a session with files
@@ -48,6 +52,39 @@ def run(program, text, folder):
     except subprocess.TimeoutExpired as stopped:
         return stopped.stdout or b"", None
     return ended.stdout, ended.returncode
+
+
+def run_alone(program, text):
+    """What is written for a text in an empty folder, and the status."""
+    with tempfile.TemporaryDirectory(dir=BUILD) as folder:
+        return run(program, text, folder)
+
+
+def run_in_pieces(program, text, size):
+    """The same for a text that comes in pieces of a size, one at each read."""
+    with tempfile.TemporaryDirectory(dir=BUILD) as folder:
+        return run_fed(program, text, size, folder)
+
+
+def run_fed(program, text, size, folder):
+    # each write to such a pipe is a packet of its own, and a read takes no more than one
+    reading, writing = os.pipe2(os.O_DIRECT | os.O_CLOEXEC)
+    child = subprocess.Popen(program, stdin=reading, stdout=subprocess.PIPE, cwd=folder)
+    os.close(reading)
+
+    def feed():
+        try:
+            for at in range(0, len(text), size):
+                os.write(writing, text[at:at + size])
+        except BrokenPipeError:
+            pass
+        os.close(writing)
+
+    feeding = threading.Thread(target=feed)
+    feeding.start()
+    written, _ = child.communicate()
+    feeding.join()
+    return written, child.returncode
 
 
 def split(written, status):
@@ -127,3 +164,11 @@ def show(title, lines, sides):
         print(f"{name}:")
         for line in reply:
             print(f"    {line}")
+
+
+def smaller_lines(line):
+    """A line with a word or a byte left out."""
+    for found in re.finditer(rb"\S+\s*|\s+", line):
+        yield line[:found.start()] + line[found.end():]
+    if len(line) < 200:
+        yield from (line[:i] + line[i + 1:] for i in range(len(line)))
