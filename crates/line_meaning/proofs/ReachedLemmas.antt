@@ -34,7 +34,7 @@ use Rattle.command_text.specs.Tree
 use Rattle.command_text.specs.Tree.{CommandTree}
 use Rattle.session_file.specs.declared.kept.TheConstants.{SESSION_LINE_LIMIT}
 use Rattle.line_meaning.specs.declared.role.Role.{Role}
-use Rattle.line_meaning.specs.declared.role.Role.TheVariants.{Keeping}
+use Rattle.line_meaning.specs.declared.role.Role.TheVariants.{Journalled}
 use Rattle.line_meaning.specs.Fault.{is_gap, is_present, journal_refusal, refusal_by_store}
 use Rattle.line_meaning.specs.QueryFault.{command_fault}
 use Rattle.line_meaning.specs.Journal.{world, writes, writes_of}
@@ -43,7 +43,7 @@ use Rattle.line_meaning.specs.Registry.{known}
 use Rattle.line_meaning.specs.Role.{role_of}
 use Rattle.line_meaning.specs.Judging.{Held, fault_by, fault_of, held_after}
 use Rattle.line_meaning.proofs.JournalLemmas.{clock_more, writes_more}
-use Rattle.line_meaning.proofs.RoleLemmas.{kept_is_keeping}
+use Rattle.line_meaning.proofs.RoleLemmas.{kept_is_journalled}
 
 -- ---- what a printable command gives
 
@@ -202,7 +202,7 @@ record IsAccepted (journal : List Accepted) (c : CommandTree) : Type 0 where
   pub fault : command_fault (known journal) c ≡ None
   pub room : journal_refusal (length journal) (bytes_of journal) c ≡ None
 
-accepted_by : (role : Role) (h : Held) (c : CommandTree) → role ≡ Keeping → fault_by role h c ≡ None → IsAccepted h.journal c
+accepted_by : (role : Role) (h : Held) (c : CommandTree) → role ≡ Journalled → fault_by role h c ≡ None → IsAccepted h.journal c
 accepted_by role h c keeping none =
     let both = none_of_both (command_fault (known h.journal) c) (journal_refusal (length h.journal) (bytes_of h.journal) c)
     (ap (λ (r : Role). fault_by r h c) (sym keeping) ∙ none) in
@@ -216,7 +216,7 @@ built false o is = is
 next_entry : (h : Held) (c : CommandTree) → IsPrintable c → length (text_of c) ≤ SESSION_LINE_LIMIT → fault_of h c ≡ None →
     is_kept c ≡ true → IsNextEntry h.journal (clock h.journal, c)
 next_entry h c printable short none kept =
-    let accepted = accepted_by (role_of c) h c (kept_is_keeping c kept) (built (is_gap c) (fault_by (role_of c) h c) none) in
+    let accepted = accepted_by (role_of c) h c (kept_is_journalled c kept) (built (is_gap c) (fault_by (role_of c) h c) none) in
     record { tick = refl; kept = kept; printable = printable; short = short; accepted = accepted.fault; room = accepted.room }
 
 entries_reached : (journal : List Accepted) (e : Accepted) (kept : Bool) → (kept ≡ true → IsNextEntry journal e) →

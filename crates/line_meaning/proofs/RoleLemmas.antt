@@ -4,20 +4,20 @@ use Rattle.std.proofs.lemmas.Bool.{false≢true}
 use Rattle.command_text.specs.Journal.{is_kept}
 use Rattle.command_text.specs.Tree
 use Rattle.command_text.specs.Tree.{CommandTree}
-use Rattle.line_meaning.specs.declared.role.Role.TheVariants.{Keeping, Telling}
+use Rattle.line_meaning.specs.declared.role.Role.TheVariants.{Journalled, Telling}
 use Rattle.line_meaning.specs.Role.{role_of}
 
-pub kept_is_keeping : (c : CommandTree) → is_kept c ≡ true → role_of c ≡ Keeping
-kept_is_keeping (Tree.Class name capacity point attributes) kept = refl
-kept_is_keeping (Tree.Region name points) kept = refl
-kept_is_keeping (Tree.Insert class name place sets) kept = refl
-kept_is_keeping (Tree.Update name place sets) kept = refl
-kept_is_keeping (Tree.Remove name) kept = refl
-kept_is_keeping (Tree.Tick ticks) kept = refl
-kept_is_keeping (Tree.Watch name span q) kept = refl
-kept_is_keeping (Tree.Keep name span q) kept = refl
-kept_is_keeping (Tree.Drop name) kept = refl
-kept_is_keeping c kept = absurd (false≢true kept)
+pub kept_is_journalled : (c : CommandTree) → is_kept c ≡ true → role_of c ≡ Journalled
+kept_is_journalled (Tree.Class name capacity point attributes) kept = refl
+kept_is_journalled (Tree.Region name points) kept = refl
+kept_is_journalled (Tree.Insert class name place sets) kept = refl
+kept_is_journalled (Tree.Update name place sets) kept = refl
+kept_is_journalled (Tree.Remove name) kept = refl
+kept_is_journalled (Tree.Tick ticks) kept = refl
+kept_is_journalled (Tree.Watch name span q) kept = refl
+kept_is_journalled (Tree.Keep name span q) kept = refl
+kept_is_journalled (Tree.Drop name) kept = refl
+kept_is_journalled c kept = absurd (false≢true kept)
 
 pub telling_is_not_kept : (c : CommandTree) → role_of c ≡ Telling → is_kept c ≡ false
 telling_is_not_kept (Tree.Class name capacity point attributes) telling = absurd (cc telling)

@@ -3,20 +3,20 @@ use Rattle.std.specs.Prelude.{Bool, true, false}
 use Rattle.command_text.specs.Tree
 use Rattle.command_text.specs.Tree.{CommandTree}
 use Rattle.line_meaning.specs.declared.role.Role.{Role}
-use Rattle.line_meaning.specs.declared.role.Role.TheVariants.{Blank, Keeping, Telling, Indexing, Filing, Ending}
+use Rattle.line_meaning.specs.declared.role.Role.TheVariants.{Blank, Journalled, Telling, Indexing, Filing, Ending}
 
 -- each command has a row, so that one more command needs a row too
 abbrev pub role_of : CommandTree → Role
 role_of Tree.Nothing = Blank
-role_of (Tree.Class name capacity point attributes) = Keeping
-role_of (Tree.Region name points) = Keeping
-role_of (Tree.Insert class name place sets) = Keeping
-role_of (Tree.Update name place sets) = Keeping
-role_of (Tree.Remove name) = Keeping
-role_of (Tree.Tick ticks) = Keeping
-role_of (Tree.Watch name span q) = Keeping
-role_of (Tree.Keep name span q) = Keeping
-role_of (Tree.Drop name) = Keeping
+role_of (Tree.Class name capacity point attributes) = Journalled
+role_of (Tree.Region name points) = Journalled
+role_of (Tree.Insert class name place sets) = Journalled
+role_of (Tree.Update name place sets) = Journalled
+role_of (Tree.Remove name) = Journalled
+role_of (Tree.Tick ticks) = Journalled
+role_of (Tree.Watch name span q) = Journalled
+role_of (Tree.Keep name span q) = Journalled
+role_of (Tree.Drop name) = Journalled
 role_of Tree.Listing = Telling
 role_of (Tree.Ask span q) = Telling
 role_of (Tree.Show name) = Telling

@@ -11,7 +11,7 @@ use Rattle.command_text.specs.Journal.{Accepted, clock, spelled}
 use Rattle.command_text.specs.Tree
 use Rattle.command_text.specs.Tree.{CommandTree}
 use Rattle.line_meaning.specs.declared.role.Role.{Role}
-use Rattle.line_meaning.specs.declared.role.Role.TheVariants.{Blank, Keeping, Telling, Indexing, Filing, Ending}
+use Rattle.line_meaning.specs.declared.role.Role.TheVariants.{Blank, Journalled, Telling, Indexing, Filing, Ending}
 use Rattle.line_meaning.specs.Answering.{answer_lines, kept_lines, query_lines}
 use Rattle.line_meaning.specs.Files.{texts_after}
 use Rattle.line_meaning.specs.Import.{journal_after_text, lines_of_rows, rows_for}
@@ -65,7 +65,7 @@ abbrev pub reply_by : Role → Held → CommandTree → List ℕ
 reply_by Blank h c = []
 reply_by Telling h c = answer_lines (world h.journal) (clock h.journal) c ++ query_lines (known h.journal) c ++ ok_line
 reply_by Indexing h c = answer_lines (world h.journal) (clock h.journal) c ++ ok_line
-reply_by Keeping h c = kept_lines (known h.journal) (known (held_after h c).journal) c ++ ok_line
+reply_by Journalled h c = kept_lines (known h.journal) (known (held_after h c).journal) c ++ ok_line
 reply_by Filing h c = ok_line
 reply_by Ending h c = ok_line
 

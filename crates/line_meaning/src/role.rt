@@ -12,7 +12,7 @@ pub enum Role {
     /// A blank line or a comment: it has no reply.
     Blank,
     /// The journal keeps it.
-    Keeping,
+    Journalled,
     /// It is answered by what is there, and changes nothing.
     Telling,
     /// It is on an index, which is no part of the journal.
@@ -29,9 +29,9 @@ pub fn role_of(command: &Command) -> Role
 {
     match command {
         Command::Nothing => Role::Blank,
-        Command::Class { .. } | Command::Region { .. } | Command::Insert { .. } => Role::Keeping,
-        Command::Update { .. } | Command::Remove { .. } | Command::Tick { .. } => Role::Keeping,
-        Command::Watch { .. } | Command::Keep { .. } | Command::Drop { .. } => Role::Keeping,
+        Command::Class { .. } | Command::Region { .. } | Command::Insert { .. } => Role::Journalled,
+        Command::Update { .. } | Command::Remove { .. } | Command::Tick { .. } => Role::Journalled,
+        Command::Watch { .. } | Command::Keep { .. } | Command::Drop { .. } => Role::Journalled,
         Command::Save { .. } | Command::Import { .. } | Command::Export { .. } => Role::Filing,
         Command::Index { .. } | Command::Range { .. } => Role::Indexing,
         Command::Quit => Role::Ending,
