@@ -13,11 +13,13 @@ use Rattle.run_ends.specs.Ends.{NoneRose, Seen}
 use Rattle.run_ends.specs.Saying.{status_said}
 use Rattle.run_ends.specs.declared.status.Status.TheVariants as statuses
 use Rattle.feeds_run.specs.Ends.{EndsAs, IsPart, IsWhole}
-use Rattle.feeds_run.specs.Parts.{Tells}
-use Rattle.feeds_run.specs.Status.{HasCause, ending_by, said_as, says_all, status_of}
+use Rattle.feeds_run.specs.Parts.{TellsAtTheEnd}
+use Rattle.run_ends.specs.Status.{HasCause, ending_by}
+use Rattle.run_ends.specs.Ends.{says_all}
+use Rattle.feeds_run.specs.Status.{said_as, feed_status, run_status}
 use Rattle.feeds_run.specs.Theorem.{FeedsAs}
 use Rattle.feeds_run.specs.Whole.{whole}
-use Rattle.feeds_run.specs.Words.{Words, Bad}
+use Rattle.feeds_run.specs.Words.{FeedWords, Bad}
 use Rattle.feeds_run.specs.declared.status.FeedStatus.{FeedStatus}
 use Rattle.feeds_run.specs.declared.status.FeedStatus.TheVariants.{Done, BadWords, BadFeed, ReadFault, WriteFault, NoMemory, InputLimit}
 
@@ -26,7 +28,7 @@ no_rise old new was is rose = grind (arith, was, is, rose)
 
 -- where there is no context, it isn't blamed
 pub answered_cause : (ending : Ending) (old new : Counts) → old.context ≡ 0 → new.context ≡ 0 → loop.EndsWithCause ending old new →
-    HasCause (status_of ending) old new
+    HasCause (run_status (feed_status ending)) old new
 answered_cause endings.Done old new was is h = h
 answered_cause endings.ReadFault old new was is h = h
 answered_cause endings.WriteFault old new was is h = h
@@ -35,7 +37,7 @@ answered_cause endings.NoMemory old new was is h = h
 answered_cause endings.InputLimit old new was is h = h
 
 pub answered_taken : (ending : Ending) (limit : ℕ) (bytes : List ℕ) (left : Option (List ℕ)) → loop.KeepsLimit limit bytes ending left →
-    loop.KeepsLimit limit bytes (ending_by (status_of ending)) left
+    loop.KeepsLimit limit bytes (ending_by (run_status (feed_status ending))) left
 answered_taken endings.Done limit bytes left h = h
 answered_taken endings.ReadFault limit bytes left h = h
 answered_taken endings.WriteFault limit bytes left h = h
@@ -44,13 +46,13 @@ answered_taken endings.NoMemory limit bytes left h = h
 answered_taken endings.InputLimit limit bytes left h = h
 
 -- nothing is a part of any output
-pub nothing_written : (words : Words) (limit : ℕ) (bytes written : List ℕ) (after : Seen) → after.written ≡ Some written →
+pub nothing_written : (words : FeedWords) (limit : ℕ) (bytes written : List ℕ) (after : Seen) → after.written ≡ Some written →
     IsPart words limit bytes written after
 nothing_written words limit bytes written after same = (0, same ∙ ap Some (sym (append-nil written)))
 
-module _ (words : Words) (limit : ℕ) (bytes written : List ℕ) (after : Seen) where
+module _ (words : FeedWords) (limit : ℕ) (bytes written : List ℕ) (after : Seen) where
   -- a status that says so is one of a whole run
-  pub whole_by_status : (status : FeedStatus) → says_all status ≡ true → EndsAs words limit bytes written status after →
+  pub whole_by_status : (status : FeedStatus) → says_all (run_status status) ≡ true → EndsAs words limit bytes written status after →
       IsWhole words limit bytes written status after
   whole_by_status Done is h = h
   whole_by_status BadWords is h = h
@@ -61,7 +63,7 @@ module _ (words : Words) (limit : ℕ) (bytes written : List ℕ) (after : Seen)
   whole_by_status InputLimit is h = h
 
   -- where no count of faults rose, it is the whole run, or there was no memory after a part
-  pub whole_without_faults : (old : Counts) (status : FeedStatus) → NoneRose old after.faults → HasCause status old after.faults →
+  pub whole_without_faults : (old : Counts) (status : FeedStatus) → NoneRose old after.faults → HasCause (run_status status) old after.faults →
       EndsAs words limit bytes written status after →
       IsWhole words limit bytes written status after ⊎ ((status ≡ NoMemory) × IsPart words limit bytes written after)
   whole_without_faults old Done none cause h = inl h
@@ -104,9 +106,9 @@ module _ (limit : ℕ) (before : Seen) (sink : ℕ) (written' : Option (List ℕ
     users = λ bytes written told left_is written_is is all told_is. absurd (cc is);
   }
 
-  pub bad_runs : (words : Words) (status : FeedStatus) → words ≡ Bad →
-      Tells bad_words BadWords status before.faults.sink sink before.written written' → FeedsAs limit words before last status
+  pub bad_runs : (words : FeedWords) (status : FeedStatus) → words ≡ Bad →
+      TellsAtTheEnd bad_words BadWords status before.faults.sink sink before.written written' → FeedsAs limit words before last status
   bad_runs words status is t =
-      subst (λ (w : Words). FeedsAs limit w before last status) (sym is)
+      subst (λ (w : FeedWords). FeedsAs limit w before last status) (sym is)
       (subst (λ (s : FeedStatus). FeedsAs limit Bad before last s) (sym (t.status_is ∙ ap (said_as BadWords) t.speaks.status_is))
       (by_result t.speaks.result t.speaks.cause t.speaks.bytes))

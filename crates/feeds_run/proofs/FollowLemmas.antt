@@ -17,13 +17,14 @@ use Rattle.run_ends.specs.Ends.{Seen}
 use Rattle.run_ends.specs.Saying.{status_said}
 use Rattle.run_ends.specs.declared.status.Status.TheVariants as statuses
 use Rattle.replica.specs.Feed.{Hearing, after, next, said, silent}
-use Rattle.feeds_run.specs.Ends.{EndsAs, IsPart, IsWhole, KeepsLimit, may_end}
+use Rattle.feeds_run.specs.Ends.{EndsAs, IsPart, IsWhole, KeepsFeedLimit, feed_may_end}
 use Rattle.feeds_run.specs.Following.{leaves, machine}
-use Rattle.feeds_run.specs.Parts.{TellsHeard, end_of}
-use Rattle.feeds_run.specs.Status.{HasCause, ending_by, said_as, status_of}
+use Rattle.feeds_run.specs.Parts.{TellsHeard, heard_end}
+use Rattle.run_ends.specs.Status.{HasCause, ending_by}
+use Rattle.feeds_run.specs.Status.{said_as, feed_status, run_status}
 use Rattle.feeds_run.specs.Theorem.{FeedsAs}
-use Rattle.feeds_run.specs.Whole.{Whole, heard_of, whole}
-use Rattle.feeds_run.specs.Words.{Words, Followed}
+use Rattle.feeds_run.specs.Whole.{WholeFeed, heard_of, whole}
+use Rattle.feeds_run.specs.Words.{FeedWords, Followed}
 use Rattle.feeds_run.specs.declared.status.FeedStatus.{FeedStatus}
 use Rattle.feeds_run.specs.declared.status.FeedStatus.TheVariants.{Done, BadFeed, ReadFault, WriteFault, NoMemory, InputLimit}
 use Rattle.feeds_run.proofs.EndLemmas.{answered_cause, answered_taken, no_rise, nothing_written}
@@ -75,7 +76,7 @@ begins_at : (name written : List ℕ) (first : Hearing) (told : Option (List ℕ
     IsAt (begins name written) (Some first) told
 begins_at name written first told is_silent is = record { in_state = ap Some is_silent; has_written = is }
 
-fits : (name : List ℕ) (ending : Ending) → may_end (Followed name) (status_of ending) ≡ true
+fits : (name : List ℕ) (ending : Ending) → feed_may_end (Followed name) (feed_status ending) ≡ true
 fits name endings.Done = refl
 fits name endings.ReadFault = refl
 fits name endings.WriteFault = refl
@@ -84,15 +85,15 @@ fits name endings.NoMemory = refl
 fits name endings.InputLimit = refl
 
 module _ (limit : ℕ) (name : List ℕ) (first now : Hearing) (before after : Seen) where
-  abbrev by_cut : List ℕ → Bool → Whole
+  abbrev by_cut : List ℕ → Bool → WholeFeed
   by_cut bytes cut =
       if cut then record { output = []; status = InputLimit }
-      else record { output = said (heard_of name limit bytes); status = end_of (heard_of name limit bytes) }
+      else record { output = said (heard_of name limit bytes); status = heard_end (heard_of name limit bytes) }
 
   ends_by : (ending : Ending) (bytes written : List ℕ) → ending ≢ endings.Done → loop.EndsWithCause ending before.faults after.faults →
       before.faults.context ≡ 0 → after.faults.context ≡ 0 →
       loop.EndsAs machine leaves limit (begins name written) bytes ending (Some now) after.written after.left →
-      EndsAs (Followed name) limit bytes written (status_of ending) after
+      EndsAs (Followed name) limit bytes written (feed_status ending) after
   ends_by endings.Done bytes written other cause was is h = absurd (other refl)
   ends_by endings.ReadFault bytes written other cause was is h = record {
     count = h.count;
@@ -115,7 +116,7 @@ module _ (limit : ℕ) (name : List ℕ) (first now : Hearing) (before after : S
   }
 
   -- where the input wasn't heard to its end, or to a line that hasn't its form
-  pub heard_runs : (ending : Ending) (status : FeedStatus) → ending ≢ endings.Done → status ≡ status_of ending →
+  pub heard_runs : (ending : Ending) (status : FeedStatus) → ending ≢ endings.Done → status ≡ feed_status ending →
       Hears limit name first now before after ending → FeedsAs limit (Followed name) before after status
   heard_runs ending status other is h = subst (λ (s : FeedStatus). FeedsAs limit (Followed name) before after s) (sym is) (record {
     fits = fits name ending;
@@ -130,20 +131,20 @@ module _ (limit : ℕ) (name : List ℕ) (first now : Hearing) (before after : S
 -- ---- What was heard is said
 
 -- whether the feed is bad decides which status tells that all was said
-said_fits : (name : List ℕ) (bad : Bool) → may_end (Followed name) (if bad then BadFeed else Done) ≡ true
+said_fits : (name : List ℕ) (bad : Bool) → feed_may_end (Followed name) (if bad then BadFeed else Done) ≡ true
 said_fits name true = refl
 said_fits name false = refl
 
-said_cause : (bad : Bool) (old new : Counts) → new ≡ old → HasCause (if bad then BadFeed else Done) old new
+said_cause : (bad : Bool) (old new : Counts) → new ≡ old → HasCause (run_status (if bad then BadFeed else Done)) old new
 said_cause true old new same = same
 said_cause false old new same = same
 
 said_taken : (bad : Bool) (limit : ℕ) (bytes : List ℕ) (left : Option (List ℕ)) → StaysWithin limit bytes left →
-    loop.KeepsLimit limit bytes (ending_by (if bad then BadFeed else Done)) left
+    loop.KeepsLimit limit bytes (ending_by (run_status (if bad then BadFeed else Done))) left
 said_taken true limit bytes left h = h
 said_taken false limit bytes left h = h
 
-said_ends : (words : Words) (limit : ℕ) (bytes written : List ℕ) (after : Seen) (bad : Bool) →
+said_ends : (words : FeedWords) (limit : ℕ) (bytes written : List ℕ) (after : Seen) (bad : Bool) →
     IsWhole words limit bytes written (if bad then BadFeed else Done) after → EndsAs words limit bytes written (if bad then BadFeed else Done) after
 said_ends words limit bytes written after true h = h
 said_ends words limit bytes written after false h = h
@@ -165,19 +166,19 @@ module _ (limit : ℕ) (name : List ℕ) (first h : Hearing) (before mid : Seen)
     unwritten_yet : mid.written ≡ Some written
     unwritten_yet = done.reached.has_written ∙ ap Some (unwritten written (silent name) (heard machine limit (silent name) bytes))
 
-    whole_is : whole (Followed name) limit bytes ≡ record { output = said h; status = end_of h }
+    whole_is : whole (Followed name) limit bytes ≡ record { output = said h; status = heard_end h }
     whole_is =
         ap (by_cut limit name first h before mid bytes) done.whole
-        ∙ ap (λ k. record { output = said k; status = end_of k }) (sym heard_is)
+        ∙ ap (λ k. record { output = said k; status = heard_end k }) (sym heard_is)
 
-    all_said : written' ≡ Some (written ++ said h) → EndsAs (Followed name) limit bytes written (end_of h) last
+    all_said : written' ≡ Some (written ++ said h) → EndsAs (Followed name) limit bytes written (heard_end h) last
     all_said output = said_ends (Followed name) limit bytes written last (is_some h.bad) (record {
-      status_is = ap (λ (w : Whole). w.status) (sym whole_is);
-      output = output ∙ ap (λ (w : Whole). Some (written ++ w.output)) (sym whole_is);
+      status_is = ap (λ (w : WholeFeed). w.status) (sym whole_is);
+      output = output ∙ ap (λ (w : WholeFeed). Some (written ++ w.output)) (sym whole_is);
     })
 
     part_said : WritesPart (said h) written written' → WritesPart (whole (Followed name) limit bytes).output written written'
-    part_said part = subst (λ (w : Whole). WritesPart w.output written written') (sym whole_is) part
+    part_said part = subst (λ (w : WholeFeed). WritesPart w.output written written') (sym whole_is) part
 
     in_part : WritesPart (said h) written written' → IsPart (Followed name) limit bytes written last
     in_part part = let (count, lacks, is) = part_said part in (count, is)
@@ -187,7 +188,7 @@ module _ (limit : ℕ) (name : List ℕ) (first h : Hearing) (before mid : Seen)
 
   by_result : (result : Result (Unit {0}) OutFail) → HasCauseOrNoMemory mid.faults.sink sink result →
       ((written : List ℕ) → mid.written ≡ Some written → WritesAll (said h) written result written') →
-      FeedsAs limit (Followed name) before last (said_as (end_of h) (status_said statuses.Done result))
+      FeedsAs limit (Followed name) before last (said_as (heard_end h) (status_said statuses.Done result))
   by_result (Ok u) cause bytes_are = record {
     fits = said_fits name (is_some h.bad);
     cause = said_cause (is_some h.bad) before.faults last.faults (counts_stay cause);
@@ -232,7 +233,7 @@ module _ (limit : ℕ) (name : List ℕ) (first h : Hearing) (before mid : Seen)
       FeedsAs limit (Followed name) before last status
   by_telling status (inl t) =
       subst (λ (s : FeedStatus). FeedsAs limit (Followed name) before last s)
-      (sym (t.status_is ∙ ap (said_as (end_of h)) t.speaks.status_is))
+      (sym (t.status_is ∙ ap (said_as (heard_end h)) t.speaks.status_is))
       (by_result t.speaks.result t.speaks.cause t.speaks.bytes)
   by_telling status (inr (is, same, stays)) =
       subst (λ (s : FeedStatus). FeedsAs limit (Followed name) before last s) (sym is) (unsaid same stays)

@@ -11,8 +11,9 @@ use Rattle.std.proofs.lemmas.List.{append_cancel_left}
 use Rattle.run_ends.specs.Ends.{Seen}
 use Rattle.feeds_meaning.specs.Hub.{Hub, empty_hub, machine}
 use Rattle.feeds_meaning.specs.HeardLaw.{HearsTheView}
-use Rattle.feeds_run.specs.Ends.{EndsAs, may_end}
-use Rattle.feeds_run.specs.Status.{says_all, status_of}
+use Rattle.feeds_run.specs.Ends.{EndsAs, feed_may_end}
+use Rattle.run_ends.specs.Ends.{says_all}
+use Rattle.feeds_run.specs.Status.{feed_status, run_status}
 use Rattle.feeds_run.specs.Theorem.{FeedsAs, TellsViews}
 use Rattle.feeds_run.specs.Whole.{lines_shared, whole}
 use Rattle.feeds_run.specs.Words.{Shared}
@@ -33,7 +34,7 @@ pub record Answers (leaves : Failures Hub) (limit : ℕ) (first now : Option Hub
 abbrev begins : List ℕ → Point Hub
 begins written = record { state = empty_hub; written = written }
 
-fits : (ending : Ending) → may_end Shared (status_of ending) ≡ true
+fits : (ending : Ending) → feed_may_end Shared (feed_status ending) ≡ true
 fits endings.Done = refl
 fits endings.ReadFault = refl
 fits endings.WriteFault = refl
@@ -45,7 +46,7 @@ module _ (leaves : Failures Hub) (limit : ℕ) (first now : Option Hub) (before 
   ends_by : (ending : Ending) (bytes written : List ℕ) → loop.EndsWithCause ending before.faults after.faults →
       before.faults.context ≡ 0 → after.faults.context ≡ 0 →
       loop.EndsAs machine leaves limit (begins written) bytes ending now after.written after.left →
-      EndsAs Shared limit bytes written (status_of ending) after
+      EndsAs Shared limit bytes written (feed_status ending) after
   ends_by endings.Done bytes written cause was is h = record {
     status_is = ap (λ cut. if cut then InputLimit else Done) (sym h.whole);
     output = h.reached.has_written;
@@ -67,7 +68,7 @@ module _ (leaves : Failures Hub) (limit : ℕ) (first now : Option Hub) (before 
 
   -- what is written of all lines tells each user's view
   tells : HearsTheView → (status : FeedStatus) (bytes written said : List ℕ) → EndsAs Shared limit bytes written status after →
-      says_all status ≡ true → after.written ≡ Some (written ++ said) → TellsViews (lines_shared limit bytes) said
+      says_all (run_status status) ≡ true → after.written ≡ Some (written ++ said) → TellsViews (lines_shared limit bytes) said
   tells hears status bytes written said ends all told =
       let output = (whole_by_status Shared limit bytes written after status all ends).output in
       let same : written ++ said ≡ written ++ (whole Shared limit bytes).output
@@ -75,7 +76,7 @@ module _ (leaves : Failures Hub) (limit : ℕ) (first now : Option Hub) (before 
       subst (TellsViews (lines_shared limit bytes)) (sym (append_cancel_left written said (whole Shared limit bytes).output same))
       (λ user letters. hears user (lines_shared limit bytes) letters)
 
-  pub answered_runs : (ending : Ending) (status : FeedStatus) → HearsTheView → status ≡ status_of ending →
+  pub answered_runs : (ending : Ending) (status : FeedStatus) → HearsTheView → status ≡ feed_status ending →
       Answers leaves limit first now before after ending → FeedsAs limit Shared before after status
   answered_runs ending status hears is a = subst (λ (s : FeedStatus). FeedsAs limit Shared before after s) (sym is) (record {
     fits = fits ending;
@@ -83,10 +84,10 @@ module _ (leaves : Failures Hub) (limit : ℕ) (first now : Option Hub) (before 
     taken = λ bytes left_is. answered_taken ending limit bytes after.left (a.taken bytes left_is);
     ends = ends;
     users = λ bytes written said left_is written_is is all told.
-        tells hears (status_of ending) bytes written said (ends bytes written left_is written_is) all told;
+        tells hears (feed_status ending) bytes written said (ends bytes written left_is written_is) all told;
   })
     where
-      ends : (bytes written : List ℕ) → before.left ≡ Some bytes → before.written ≡ Some written → EndsAs Shared limit bytes written (status_of ending) after
+      ends : (bytes written : List ℕ) → before.left ≡ Some bytes → before.written ≡ Some written → EndsAs Shared limit bytes written (feed_status ending) after
       ends bytes written left_is written_is =
           ends_by ending bytes written a.cause a.none_before a.none_after
           (a.ends (begins written) bytes (record { in_state = a.is_empty; has_written = written_is }) left_is)

@@ -1,16 +1,16 @@
 -- Runs worked out by hand.
 use Rattle.std.specs.Prelude.{◌≡◌, ℕ, List, [], ◌∷◌, ◌++◌, codes}
-use Rattle.feeds_run.specs.Whole.{Whole, whole}
-use Rattle.feeds_run.specs.Words.{Words, Bad, Shared, Followed, words_of}
+use Rattle.feeds_run.specs.Whole.{WholeFeed, whole}
+use Rattle.feeds_run.specs.Words.{FeedWords, Bad, Shared, Followed, words_of}
 use Rattle.feeds_run.specs.declared.status.FeedStatus.{FeedStatus}
 use Rattle.feeds_run.specs.declared.status.FeedStatus.TheVariants.{Done, BadWords, BadFeed, InputLimit}
 
-abbrev pub gives : FeedStatus → List ℕ → Whole
-gives status output = record { output = output; status = status }
+abbrev pub gives_whole : FeedStatus → List ℕ → WholeFeed
+gives_whole status output = record { output = output; status = status }
 
 -- under a limit that these inputs don't reach
-abbrev pub run : Words → List ℕ → Whole
-run words bytes = whole words 1000 bytes
+abbrev pub run_of : FeedWords → List ℕ → WholeFeed
+run_of words bytes = whole words 1000 bytes
 
 -- what a user heard who watches all cars, up to the tick of another user, and to the removal of the car
 abbrev pub up_to_the_clock : List ℕ
@@ -30,18 +30,18 @@ pub record AsksByWords : Type 0 where
   pub too_many : words_of (codes "feeds" ∷ codes "replica" ∷ codes "w" ∷ codes "v" ∷ []) ≡ Bad
 
 pub record WritesByWords : Type 0 where
-  pub bad_words : run Bad (codes "ann list\n") ≡ gives BadWords (codes "bad words\n")
+  pub bad_words : run_of Bad (codes "ann list\n") ≡ gives_whole BadWords (codes "bad words\n")
   -- ---- users
-  pub shared : run Shared (codes "ann class car 9 point\nbob insert car a\nbob show w\nbob tick 4\nlist\n")
-      ≡ gives Done (codes "ann ok\nbob ok\nbob refused 7 UnknownName\nann clock 4\nbob clock 4\nbob ok\n? refused 4 BadSyntax\n")
-  pub no_end_of_a_line : run Shared (codes "ann tick 2\r\nbob tick 3") ≡ gives Done (codes "ann clock 2\nann ok\nann clock 5\nbob clock 5\nbob ok\n")
-  pub quit_ends_nothing : run Shared (codes "ann quit\nann tick 1\n") ≡ gives Done (codes "ann refused 4 BadSyntax\nann clock 1\nann ok\n")
-  pub past_the_limit : whole Shared 11 (codes "ann tick 1\nann tick 1\n") ≡ gives InputLimit (codes "ann clock 1\nann ok\n")
+  pub shared : run_of Shared (codes "ann class car 9 point\nbob insert car a\nbob show w\nbob tick 4\nlist\n")
+      ≡ gives_whole Done (codes "ann ok\nbob ok\nbob refused 7 UnknownName\nann clock 4\nbob clock 4\nbob ok\n? refused 4 BadSyntax\n")
+  pub no_end_of_a_line : run_of Shared (codes "ann tick 2\r\nbob tick 3") ≡ gives_whole Done (codes "ann clock 2\nann ok\nann clock 5\nbob clock 5\nbob ok\n")
+  pub quit_ends_nothing : run_of Shared (codes "ann quit\nann tick 1\n") ≡ gives_whole Done (codes "ann refused 4 BadSyntax\nann clock 1\nann ok\n")
+  pub past_the_limit : whole Shared 11 (codes "ann tick 1\nann tick 1\n") ≡ gives_whole InputLimit (codes "ann clock 1\nann ok\n")
   -- ---- a replica
-  pub followed : run (Followed (codes "w")) up_to_the_clock ≡ gives Done (codes "a : 4..10\n")
-  pub followed_to_the_end : run (Followed (codes "w")) all_of_it ≡ gives Done []
-  pub another_query : run (Followed (codes "v")) all_of_it ≡ gives Done []
-  pub bad_feed : run (Followed (codes "w")) (codes "ok\nclock 04\nclock x\n") ≡ gives BadFeed (codes "bad feed 2\n")
-  pub limit_of_a_feed : whole (Followed (codes "w")) 5 up_to_the_clock ≡ gives InputLimit []
-  pub bad_feed_within_the_limit : whole (Followed (codes "w")) 10 (codes "clock 04\nclock 5\n") ≡ gives BadFeed (codes "bad feed 1\n")
-  pub bad_feed_past_the_limit : whole (Followed (codes "w")) 7 (codes "clock 04\nclock 5\n") ≡ gives InputLimit []
+  pub followed : run_of (Followed (codes "w")) up_to_the_clock ≡ gives_whole Done (codes "a : 4..10\n")
+  pub followed_to_the_end : run_of (Followed (codes "w")) all_of_it ≡ gives_whole Done []
+  pub another_query : run_of (Followed (codes "v")) all_of_it ≡ gives_whole Done []
+  pub bad_feed : run_of (Followed (codes "w")) (codes "ok\nclock 04\nclock x\n") ≡ gives_whole BadFeed (codes "bad feed 2\n")
+  pub limit_of_a_feed : whole (Followed (codes "w")) 5 up_to_the_clock ≡ gives_whole InputLimit []
+  pub bad_feed_within_the_limit : whole (Followed (codes "w")) 10 (codes "clock 04\nclock 5\n") ≡ gives_whole BadFeed (codes "bad feed 1\n")
+  pub bad_feed_past_the_limit : whole (Followed (codes "w")) 7 (codes "clock 04\nclock 5\n") ≡ gives_whole InputLimit []

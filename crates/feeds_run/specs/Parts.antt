@@ -9,16 +9,16 @@ use Rattle.feeds_run.specs.declared.status.FeedStatus.{FeedStatus}
 use Rattle.feeds_run.specs.declared.status.FeedStatus.TheVariants.{Done, BadFeed, NoMemory}
 
 -- something is said with a status, to a sink with these counts of faults and these bytes before it and after it
-pub record Tells (said : List ℕ) (end status : FeedStatus) (faults faults' : ℕ) (old new : Option (List ℕ)) : Type 0 where
+pub record TellsAtTheEnd (said : List ℕ) (end status : FeedStatus) (faults faults' : ℕ) (old new : Option (List ℕ)) : Type 0 where
   pub written : Status
   pub speaks : Speaks said statuses.Done written faults faults' old new
   pub status_is : status ≡ said_as end written
 
 -- the status of a run in which all was heard
-abbrev pub end_of : Hearing → FeedStatus
-end_of h = if is_some h.bad then BadFeed else Done
+abbrev pub heard_end : Hearing → FeedStatus
+heard_end h = if is_some h.bad then BadFeed else Done
 
 -- what was heard is said, or there was no memory for the text of it
 abbrev pub TellsHeard : Hearing → FeedStatus → ℕ → ℕ → Option (List ℕ) → Option (List ℕ) → Type 0
 TellsHeard h status faults faults' old new =
-    Tells (said h) (end_of h) status faults faults' old new ⊎ ((status ≡ NoMemory) × (faults' ≡ faults) × (new ≡ old))
+    TellsAtTheEnd (said h) (heard_end h) status faults faults' old new ⊎ ((status ≡ NoMemory) × (faults' ≡ faults) × (new ≡ old))

@@ -5,11 +5,11 @@ use Rattle.domino_run.specs.Whole.{bad_words}
 use Rattle.feeds_meaning.specs.Hub.{empty_hub, machine as users}
 use Rattle.replica.specs.Feed.{Hearing, after, said, silent}
 use Rattle.feeds_run.specs.Following.{machine as replica}
-use Rattle.feeds_run.specs.Words.{Words, Bad, Shared, Followed}
+use Rattle.feeds_run.specs.Words.{FeedWords, Bad, Shared, Followed}
 use Rattle.feeds_run.specs.declared.status.FeedStatus.{FeedStatus}
 use Rattle.feeds_run.specs.declared.status.FeedStatus.TheVariants.{Done, BadWords, BadFeed, InputLimit}
 
-pub record Whole : Type 0 where
+pub record WholeFeed : Type 0 where
   pub output : List ℕ
   pub status : FeedStatus
 
@@ -18,7 +18,7 @@ abbrev pub lines_shared : ℕ → List ℕ → List (List ℕ)
 lines_shared limit bytes = heard users limit empty_hub bytes
 
 -- the lines for all users, line after line
-abbrev pub whole_shared : ℕ → List ℕ → Whole
+abbrev pub whole_shared : ℕ → List ℕ → WholeFeed
 whole_shared limit bytes = record {
   output = output users limit empty_hub bytes;
   status = if is_cut users limit empty_hub bytes then InputLimit else Done;
@@ -29,7 +29,7 @@ abbrev pub heard_of : List ℕ → ℕ → List ℕ → Hearing
 heard_of name limit bytes = after (silent name) (heard replica limit (silent name) bytes)
 
 -- The rows, or which line hasn't its form. Of more bytes than the limit nothing is said, unless such a line ends within it.
-abbrev pub whole_followed : List ℕ → ℕ → List ℕ → Whole
+abbrev pub whole_followed : List ℕ → ℕ → List ℕ → WholeFeed
 whole_followed name limit bytes =
     if is_cut replica limit (silent name) bytes then record { output = []; status = InputLimit }
     else record {
@@ -37,7 +37,7 @@ whole_followed name limit bytes =
       status = if is_some (heard_of name limit bytes).bad then BadFeed else Done;
     }
 
-abbrev pub whole : Words → ℕ → List ℕ → Whole
+abbrev pub whole : FeedWords → ℕ → List ℕ → WholeFeed
 whole Bad limit bytes = record { output = bad_words; status = BadWords }
 whole Shared limit bytes = whole_shared limit bytes
 whole (Followed name) limit bytes = whole_followed name limit bytes

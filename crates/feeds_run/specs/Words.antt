@@ -6,22 +6,22 @@ use Rattle.feeds_run.specs.declared.words.Words.TheVariants as words
 
 -- `Bad`: they have no form; `Shared`: the program's name alone, so that users share one world; `Followed`: `replica` and the
 -- name of a query, whose answer is followed
-pub data Words : Type 0 where
-  Bad : Words
-  Shared : Words
-  Followed : List ℕ → Words
+pub data FeedWords : Type 0 where
+  Bad : FeedWords
+  Shared : FeedWords
+  Followed : List ℕ → FeedWords
 
 -- the same of the program
-abbrev pub words_view : declared.Words → Words
-words_view words.Bad = Bad
-words_view words.Shared = Shared
-words_view (words.Followed name) = Followed name.now
+abbrev pub feed_words_view : declared.Words → FeedWords
+feed_words_view words.Bad = Bad
+feed_words_view words.Shared = Shared
+feed_words_view (words.Followed name) = Followed name.now
 
 -- a word that asks for something, and the word after it, which may be any
-abbrev pub asked : List ℕ → List ℕ → Words
+abbrev pub asked : List ℕ → List ℕ → FeedWords
 asked word name = if bytes_eq word (codes "replica") then Followed name else Bad
 
-abbrev pub words_of : List (List ℕ) → Words
+abbrev pub words_of : List (List ℕ) → FeedWords
 words_of [] = Bad
 words_of (program ∷ []) = Shared
 words_of (program ∷ word ∷ []) = Bad

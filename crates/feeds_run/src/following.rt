@@ -1,12 +1,12 @@
 //! The answer of one query is followed.
 ghost use Rattle.std.specs.Prelude.{◌≡◌};
 ghost use Rattle.feeds_run.specs.Ends.{seen_of};
-ghost use Rattle.feeds_run.specs.Parts.{TellsHeard, end_of};
+ghost use Rattle.feeds_run.specs.Parts.{TellsHeard, heard_end};
 ghost use Rattle.feeds_run.specs.Theorem.{FeedsAs};
 ghost use Rattle.feeds_run.specs.Words.{Followed};
 
 use crate::follower::Follower;
-use crate::status::{FeedStatus, status_of};
+use crate::status::{FeedStatus, feed_status};
 use crate::telling::tell;
 use line_loop::{Ending, run_lines};
 use outside::{Sink, Source};
@@ -32,7 +32,7 @@ pub(crate) fn follow<S: Source, K: Sink>(
     let mut follower = Follower::new(replica);
     match run_lines(alloc, limit, &mut follower, source, sink, &mut ()) {
         Ending::Done => tell_heard(alloc, &follower.into_replica(), sink),
-        ending => status_of(ending),
+        ending => feed_status(ending),
     }
 }
 
@@ -49,7 +49,7 @@ fn tell_heard<K: Sink>(alloc: Global, replica: &Replica, sink: &mut K) -> FeedSt
 
 /// The status of a run in which all was heard and said.
 fn end_of(replica: &Replica) -> FeedStatus
-    ensures { result ≡ end_of replica.now }
+    ensures { result ≡ heard_end replica.now }
 {
     if replica.is_done() {
         FeedStatus::BadFeed

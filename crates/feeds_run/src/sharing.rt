@@ -3,7 +3,7 @@ ghost use Rattle.feeds_run.specs.Ends.{seen_of};
 ghost use Rattle.feeds_run.specs.Theorem.{FeedsAs};
 ghost use Rattle.feeds_run.specs.Words.{Shared};
 
-use crate::status::{FeedStatus, status_of};
+use crate::status::{FeedStatus, feed_status};
 use feeds_meaning::users_hear_their_views;
 use hub::{Hub, NoContext, Users};
 use line_loop::run_lines;
@@ -29,5 +29,5 @@ pub(crate) fn share<S: Source, K: Sink, L: Ledger, M: Ledger>(
     users_hear_their_views();
     let mut users = Users::new(Hub::new(alloc), reads, probes);
     let ending = run_lines(alloc, limit, &mut users, source, sink, &mut NoContext);
-    status_of(ending)
+    feed_status(ending)
 }

@@ -1,7 +1,8 @@
 //! How a run ends.
 ghost use Rattle.std.specs.Prelude.{◌≡◌, ◌≢◌};
 ghost use Rattle.line_loop.specs.declared.ending.Ending.TheVariants.{ContextFault};
-ghost use Rattle.feeds_run.specs.Status.{code_of, said_as, status_of};
+ghost use Rattle.run_ends.specs.Status.{code_of};
+ghost use Rattle.feeds_run.specs.Status.{feed_status, run_status, said_as};
 
 use line_loop::Ending;
 use run_ends::Status;
@@ -28,24 +29,31 @@ pub enum FeedStatus {
 impl FeedStatus {
     /// The exit status of the program, from 0 to 7. None is 5, which tells of a file where DOMINO serves one user.
     pub fn code(self) -> u8
-        ensures { result ≡ code_of self }
+        ensures { result ≡ code_of (run_status self) }
+    {
+        self.run_status().code()
+    }
+
+    /// The status of a run for one user that it is like.
+    fn run_status(self) -> Status
+        ensures { result ≡ run_status self }
     {
         match self {
-            FeedStatus::Done => 0,
-            FeedStatus::BadWords => 1,
-            FeedStatus::BadFeed => 2,
-            FeedStatus::ReadFault => 3,
-            FeedStatus::WriteFault => 4,
-            FeedStatus::NoMemory => 6,
-            FeedStatus::InputLimit => 7,
+            FeedStatus::Done => Status::Done,
+            FeedStatus::BadWords => Status::BadWords,
+            FeedStatus::BadFeed => Status::BadSession,
+            FeedStatus::ReadFault => Status::ReadFault,
+            FeedStatus::WriteFault => Status::WriteFault,
+            FeedStatus::NoMemory => Status::NoMemory,
+            FeedStatus::InputLimit => Status::InputLimit,
         }
     }
 }
 
 /// The status that an ending of the read loop leads to, where no context could fail.
-pub(crate) fn status_of(ending: Ending) -> FeedStatus
+pub(crate) fn feed_status(ending: Ending) -> FeedStatus
     requires { ending ≢ ContextFault }
-    ensures { result ≡ status_of ending }
+    ensures { result ≡ feed_status ending }
 {
     match ending {
         Ending::Done => FeedStatus::Done,

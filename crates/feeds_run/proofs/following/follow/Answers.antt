@@ -17,7 +17,7 @@ returns-in-Done g c =
 
 pub returns-in_default-run_lines : goal.returns-in_default-run_lines
 returns-in_default-run_lines g c =
-    heard_runs c.args.limit c.args.name.now _ _ _ _ c.run_lines.result c.status_of.result c.in_default-run_lines.not-Done c.status_of.ensures
+    heard_runs c.args.limit c.args.name.now _ _ _ _ c.run_lines.result c.feed_status.result c.in_default-run_lines.not-Done c.feed_status.ensures
     (record {
       is_silent = c.new-follower.ensures ∙ c.in-Ok.ensures;
       none_before = refl;

@@ -5,7 +5,7 @@ use Rattle.feeds_run.proofs.sharing.share.Goals as goal
 
 pub returns : goal.returns
 returns g c =
-    answered_runs leaves c.args.limit _ _ _ _ c.run_lines-ending.result c.status_of.result c.users_hear_their_views.ensures.view c.status_of.ensures
+    answered_runs leaves c.args.limit _ _ _ _ c.run_lines-ending.result c.feed_status.result c.users_hear_their_views.ensures.view c.feed_status.ensures
     (record {
       is_empty = c.new-users.ensures.hub ∙ ap Some c.new.ensures;
       none_before = refl;
