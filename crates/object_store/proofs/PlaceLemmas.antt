@@ -16,7 +16,7 @@ use Rattle.places.specs.declared.horizons.Places.{Places}
 use Rattle.places.specs.declared.patch.Extent.{Extent}
 use Rattle.places.specs.declared.patch.Patch.{Patch}
 use Rattle.places.specs.Boxes.{Horizon, patch_at}
-use Rattle.places.specs.Places.{popped, pushed, with_patch, without_last}
+use Rattle.places.specs.Places.{no_places, popped, pushed, with_patch, without_last}
 use Rattle.places.specs.Patches.{nowhere, unit}
 use Rattle.places.proofs.CallerLemmas.{unit_rises}
 use Rattle.object_store.specs.AtIndex.{at_index, restored_at}
@@ -213,3 +213,14 @@ all_pushed from p objects patches last later there are new = record {
 
 pub none_placed : (from upto : ℕ) → upto ≤ LAST_TICK → ArePlacedIn from (record { upto = upto; patches = [] }) []
 none_placed from upto tick = record { tick = tick; long = refl; each = λ k o is. absurd (none-some o is) }
+
+pub all_placed : (p : Places) (objects : List StoredObject) → p ≡ no_places → objects ≡ [] → ArePlaced p objects
+all_placed p objects is none =
+    subst (λ (q : Places). ArePlaced q objects) (sym is)
+    (subst (ArePlaced no_places) (sym none)
+    (record {
+      short = none_placed 0 256 (omega arith);
+      middle = none_placed 0 1024 (omega arith);
+      long = none_placed 0 4096 (omega arith);
+      longest = none_placed 0 65536 (omega arith);
+    }))
