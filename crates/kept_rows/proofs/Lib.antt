@@ -10,6 +10,7 @@ pub mod OneLemmas
 pub mod PageLemmas
 pub mod RisingLemmas
 pub mod SearchLemmas
+pub mod SlotLemmas
 pub mod SpanTurnLemmas
 pub mod SteadyLemmas
 pub mod TurnLemmas

@@ -1,8 +1,9 @@
 -- What changes of a target: the rows that changed, and the others.
-use Rattle.std.proofs.Common.{◌≡◌, ℕ, zero, suc, ◌+◌, ◌*◌, ◌<◌, ◌≤◌, Bool, true, false, not, ◌&&◌, ◌||◌, eqb, Option, None, Some, List, [], ◌∷◌, length, map, get_or, take, drop, refl, ap, subst, sym, ◌∙◌, inl, inr, arith, if◌then◌else◌}
+use Rattle.std.proofs.Common.{◌≡◌, ℕ, zero, suc, ◌+◌, ◌*◌, ◌<◌, ◌≤◌, Bool, true, false, not, ◌&&◌, ◌||◌, eqb, Option, None, Some, List, [], ◌∷◌, ◌++◌, length, map, get_or, take, drop, refl, ap, subst, sym, ◌∙◌, inl, inr, arith, if◌then◌else◌}
 use Rattle.std.specs.Prelude.{All, IfNone, is_some, slice_get, unwrap_or}
 use Rattle.std.specs.List.{list_any}
 use Rattle.std.proofs.lemmas.Bool.{and_from, and_parts, both_ways, cases_Bool, eq-eqb, eqb-true, ne_eqb, not_from_false, or_cases, or_left, or_parts, or_right}
+use Rattle.std.proofs.lemmas.List.Folds.{list_any-append}
 use Rattle.std.proofs.lemmas.List.Elements.{All-cons, All-head, All-more, All-nil, All-tail}
 use Rattle.tick_set.specs.Runs.{runs_of}
 use Rattle.tick_set.specs.Ticks.{between, within}
@@ -12,8 +13,10 @@ use Rattle.kept_rows.specs.Changes.{after, with_row}
 use Rattle.kept_rows.specs.Listing.{HaveNone, some_row, times}
 use Rattle.kept_rows.specs.Moves.{Moved, difference, if_moved, is_in, move_between, others}
 use Rattle.kept_rows.specs.Rising.{IsRising}
+use Rattle.kept_rows.specs.declared.slots.Slots.{Slots}
+use Rattle.kept_rows.specs.Slots.{AreIn, HaveNoneAt}
 use Rattle.kept_rows.proofs.NextLemmas.{get-below}
-use Rattle.kept_rows.proofs.ListingLemmas.{and-false, listed-none, some_row-first, some_row-none, some_row-skip}
+use Rattle.kept_rows.proofs.ListingLemmas.{listed-none, some_row-first, some_row-none, some_row-skip}
 
 abbrev numbers : {S : Type 0} → List (Change S) → List ℕ
 numbers xs = map (λ x. x.number) xs
@@ -205,7 +208,7 @@ and-not-or true true y = refl
 others-none : {S : Type 0} (xs : List (Change S)) (p : ℕ → ℕ → Bool) (a b : ℕ) → HaveNone p a b → HaveNone (others xs p) a b
 others-none xs p a b none c t h k = ap (λ b. b && not (is_in xs c)) (none c t h k)
 
-pub others-step : {S : Type 0} (xs : List (Change S)) (p : ℕ → ℕ → Bool) (at number to t : ℕ) (left new whole : Bool) → at ≤ number → number < to → HaveNone p at number →
+others-step : {S : Type 0} (xs : List (Change S)) (p : ℕ → ℕ → Bool) (at number to t : ℕ) (left new whole : Bool) → at ≤ number → number < to → HaveNone p at number →
     new ≡ (left && not (others xs p number t)) → (left && not (some_row (others xs p) at to t)) ≡ whole →
     (new && not (some_row (others xs p) (number + 1) to t)) ≡ whole
 others-step xs p at number to t left new whole h k none is before =
@@ -213,6 +216,15 @@ others-step xs p at number to t left new whole h k none is before =
     ∙ and-not-or left (others xs p number t) (some_row (others xs p) (number + 1) to t)
     ∙ ap (λ b. left && not b) (sym (some_row-first (others xs p) number to t k) ∙ sym (some_row-skip (others xs p) at number to t h (others-none xs p at number none)))
     ∙ before
+
+-- the rows that are passed over have no tick that is left
+pub others-step-if : {S : Type 0} (xs : List (Change S)) (p : ℕ → ℕ → Bool) (at number to t : ℕ) (left new whole : Bool) → at ≤ number → number < to →
+    ((c : ℕ) → at ≤ c → c < number → left ≡ true → p c t ≡ false) →
+    new ≡ (left && not (others xs p number t)) → (left && not (some_row (others xs p) at to t)) ≡ whole →
+    (new && not (some_row (others xs p) (number + 1) to t)) ≡ whole
+others-step-if xs p at number to t false new whole h k none is before = ap (λ b. b && not (some_row (others xs p) (number + 1) to t)) is ∙ before
+others-step-if xs p at number to t true new whole h k none is before =
+    others-step xs (λ c u. p c t) at number to t true new whole h k (λ c u l m. none c l m refl) is before
 
 others-within : {S : Type 0} (xs : List (Change S)) (p : ℕ → ℕ → Bool) (a b t : ℕ) → some_row (others xs p) a b t ≡ true → some_row p a b t ≡ true
 others-within xs p a b t e =
@@ -229,19 +241,35 @@ pub others-end : {S : Type 0} (xs : List (Change S)) (p : ℕ → ℕ → Bool) 
 others-end xs p at to t left whole none before =
     nothing-taken left (some_row (others xs p) at to t) (some_row p at to t) (others-within xs p at to t) none ∙ before
 
--- where no row has a tick, none is taken
-none-taken : (rows : ℕ → ℕ → Bool) (a b t : ℕ) (left : Bool) → HaveNone rows a b → (left && some_row rows a b t) ≡ false
-none-taken rows a b t left none = ap (λ taken. left && taken) (some_row-none rows a b t none) ∙ and-false left
+-- where no row has a tick in the slots, none is taken of those that are in them
+none-taken : (rows : ℕ → ℕ → Bool) (a b t : ℕ) (left : Bool) → ((c : ℕ) → a ≤ c → c < b → left ≡ true → rows c t ≡ false) → (left && some_row rows a b t) ≡ false
+none-taken rows a b t false none = refl
+none-taken rows a b t true none = some_row-none (λ c u. rows c t) a b t (λ c u h k. none c h k refl)
 
-pub none-taken-if : (o : Option ℕ) (rows : ℕ → ℕ → Bool) (a b : ℕ) (left : ℕ → Bool) → IfNone o (HaveNone rows a b) →
+pub none-taken-if : (o : Option ℕ) (rows : ℕ → ℕ → Bool) (slots : Slots) (a b : ℕ) (left : ℕ → Bool) → AreIn left slots → IfNone o (HaveNoneAt rows slots a b) →
     IfNone o ((t : ℕ) → (left t && some_row rows a b t) ≡ false)
-none-taken-if None rows a b left none = λ t. none-taken rows a b t (left t) none
-none-taken-if (Some x) rows a b left none = tt
+none-taken-if None rows slots a b left in_slots none = λ t. none-taken rows a b t (left t) (λ c h k e. none c t h k (in_slots t e))
+none-taken-if (Some x) rows slots a b left in_slots none = tt
 
 -- ---- one set more
+or-false : (b : Bool) → b ≡ (b || false)
+or-false true = refl
+or-false false = refl
+
 pub any-joined : (ticks x rest whole : Bool) → (ticks || (x || rest)) ≡ whole → ((ticks || x) || rest) ≡ whole
 any-joined true x rest whole e = e
 any-joined false x rest whole e = e
+
+pub any-ended : {X : Type 0} (has : X → Bool) (xs : List X) (ticks whole : Bool) → length xs ≡ 0 → (ticks || list_any has xs) ≡ whole → ticks ≡ whole
+any-ended has [] ticks whole e h = or-false ticks ∙ h
+any-ended has (x ∷ xs) ticks whole e h = absurd (omega (arith, e))
+
+pub any-pushed : {X : Type 0} (has : X → Bool) (xs ys : List X) (row : X) (x rest whole : Bool) → ys ≡ xs ++ row ∷ [] → has row ≡ x →
+    (list_any has xs || (x || rest)) ≡ whole → (list_any has ys || rest) ≡ whole
+any-pushed has xs ys row x rest whole pushed is before =
+    ap (λ b. b || rest)
+    (ap (λ zs. list_any has zs) pushed ∙ list_any-append has xs (row ∷ []) ∙ ap (λ b. list_any has xs || b) (sym (or-false (has row)) ∙ is))
+    ∙ any-joined (list_any has xs) x rest whole before
 
 -- ---- targets without changes
 some_row-alike : (p q : ℕ → ℕ → Bool) (a b t : ℕ) → ((c : ℕ) → a ≤ c → c < b → p c t ≡ q c t) → some_row p a b t ≡ some_row q a b t

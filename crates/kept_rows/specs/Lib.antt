@@ -7,4 +7,5 @@ pub mod Moves
 pub mod Numbers
 pub mod Rising
 pub mod Rows
+pub mod Slots
 pub mod Turning

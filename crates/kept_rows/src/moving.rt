@@ -5,15 +5,18 @@ ghost use Rattle.std.specs.Option.{option_copied};
 ghost use Rattle.tick_set.specs.Runs.{pairs};
 ghost use Rattle.tick_set.specs.Ticks.{within};
 ghost use Rattle.kept_rows.specs.Changes.{AreRising, after};
-ghost use Rattle.kept_rows.specs.Listing.{IsNext, lines_upto, some_row, times};
+ghost use Rattle.kept_rows.specs.Listing.{lines_upto, some_row, times};
 ghost use Rattle.kept_rows.specs.Moves.{if_moved, is_in, move_between, move_of, others};
 ghost use Rattle.kept_rows.specs.Rising.{IsRising};
 ghost use Rattle.kept_rows.specs.Rows.{row_has};
+ghost use Rattle.kept_rows.specs.Slots.{AreIn, IsNextAt};
 
 use crate::binding::Targets;
 use crate::change::{Change, Changes};
 use crate::listing::push_some;
 use crate::rows::KeptRows;
+use crate::slots::Slots;
+use crate::turning::Turning;
 use std::alloc::{AllocError, Global};
 use std::marker::Model;
 use tick_set::{Span, TickSet, Window, runs_are_those_of_the_list};
@@ -91,7 +94,7 @@ impl Move {
 
 /// The targets whose ticks in the window these changes make others, in order. A target has the ticks of the rows
 /// of all its bindings. It fails only where memory is out.
-pub fn moves<S: TickSet>(
+pub fn moves<S: Turning>(
     alloc: Global,
     kept: &KeptRows<S>,
     changes: &Changes<S>,
@@ -145,7 +148,7 @@ fn change_at<S>(changes: &[Change<S>], index: usize) -> Option<&Change<S>>
 }
 
 // What changes of one target, by the changes of its rows.
-fn move_at<S: TickSet>(
+fn move_at<S: Turning>(
     alloc: Global,
     kept: &KeptRows<S>,
     group: &[Change<S>],
@@ -232,20 +235,21 @@ struct Changed<S> {
     lost: S,
 }
 
-// The ticks of the changes.
+// The ticks of the changes, put together at once.
 fn ticks_anew<S: TickSet>(alloc: Global, group: &[Change<S>]) -> Result<S, AllocError>
     ensures { IfOk result (λ s. (t : ℕ) → S.member s t ≡ list_any (λ change. S.member change.ticks t) group.now) }
 {
-    let mut ticks = S::empty(alloc);
+    let mut sets = Vec::with_capacity(alloc, group.len())?;
     let mut rest = group;
     'changes: while let Some((change, later)) = rest.split_first() {
-        ticks = ticks.union(alloc, &change.ticks)?;
+        sets.push(&change.ticks)?;
         rest = later;
     }
+    let ticks = S::union_all(alloc, &sets)?;
     Ok(ticks)
 }
 
-// The ticks of the kept rows of the changes' numbers.
+// The ticks of the kept rows of the changes' numbers, put together at once.
 fn ticks_kept<S: TickSet>(
     alloc: Global,
     kept: &KeptRows<S>,
@@ -253,17 +257,19 @@ fn ticks_kept<S: TickSet>(
 ) -> Result<S, AllocError>
     ensures { IfOk result (λ s. (t : ℕ) → S.member s t ≡ list_any (λ change. row_has S.member kept.now change.number t) group.now) }
 {
-    let mut ticks = S::empty(alloc);
+    let mut sets = Vec::with_capacity(alloc, group.len())?;
     let mut rest = group;
     'changes: while let Some((change, later)) = rest.split_first() {
-        ticks = ticks.union(alloc, kept.row(change.number))?;
+        sets.push(kept.row(change.number))?;
         rest = later;
     }
+    let ticks = S::union_all(alloc, &sets)?;
     Ok(ticks)
 }
 
-// What is left without the ticks of the target's rows that no change is of. It stops where nothing is left.
-fn without_others<S: TickSet>(
+// What is left without the ticks of the target's rows that no change is of. It stops where nothing is left, and looks
+// only at rows that may share a slot of ticks with what changed.
+fn without_others<S: Turning>(
     alloc: Global,
     kept: &KeptRows<S>,
     group: &[Change<S>],
@@ -277,25 +283,34 @@ fn without_others<S: TickSet>(
     ensures lost { IfOk result (λ left. (t : ℕ) → S.member left.lost t
         ≡ (S.member changed.lost t && not (some_row (others group.now (row_has S.member kept.now)) from to t))) }
 {
+    let slots = changed.gained.slots().or(changed.lost.slots());
     let mut left = changed;
     let mut at = from;
-    'rows: while let Some(number) = next_row(kept, &left, at, to) {
+    'rows: while let Some(number) = next_row(kept, &left, slots, at, to) {
         left = without_row(alloc, kept, group, number, left)?;
         at = number + 1;
     }
     Ok(left)
 }
 
-// The next row that has a tick, if something is left that it may have.
-fn next_row<S: TickSet>(kept: &KeptRows<S>, left: &Changed<S>, from: u32, to: u32) -> Option<u32>
-    ensures some { IfSome result (IsNext (row_has S.member kept.now) from to) }
+// The next row that may have a tick in the slots, if something is left that it may have.
+fn next_row<S: TickSet>(
+    kept: &KeptRows<S>,
+    left: &Changed<S>,
+    slots: Slots,
+    from: u32,
+    to: u32,
+) -> Option<u32>
+    requires gained { AreIn (S.member left.now.gained) slots }
+    requires lost { AreIn (S.member left.now.lost) slots }
+    ensures some { IfSome result (IsNextAt (row_has S.member kept.now) slots from to) }
     ensures gained { IfNone result ((t : ℕ) → (S.member left.now.gained t && some_row (row_has S.member kept.now) from to t) ≡ false) }
     ensures lost { IfNone result ((t : ℕ) → (S.member left.now.lost t && some_row (row_has S.member kept.now) from to t) ≡ false) }
 {
     if left.gained.is_empty() && left.lost.is_empty() {
         return None;
     }
-    kept.next(from, to)
+    kept.next_at(from, to, slots)
 }
 
 // What is left without the ticks of a row, unless a change is of it.

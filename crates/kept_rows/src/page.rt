@@ -3,8 +3,10 @@ ghost use Rattle.std.specs.Prelude.{◌≡◌, ◌<◌, ◌≤◌, ◌==◌, ◌
 ghost use Rattle.std.specs.Option.{option_copied};
 ghost use Rattle.kept_rows.specs.Listing.{IsNext};
 ghost use Rattle.kept_rows.specs.Rows.{IsPage, is_whole, page_has};
+ghost use Rattle.kept_rows.specs.Slots.{AreIn};
 ghost use Rattle.kept_rows.specs.Turning.{IsSteady};
 
+use crate::slots::Slots;
 use crate::turning::Turning;
 use std::alloc::{AllocError, Global};
 use std::marker::Model;
@@ -130,6 +132,16 @@ impl<S: Turning> Page<S> {
         match self.get(at) {
             Some(ticks) => ticks.steady_until(t),
             None => u32::MAX,
+        }
+    }
+
+    /// The slots of the ticks of a place.
+    pub(crate) fn slots(&self, at: usize) -> Slots
+        ensures { AreIn (page_has S.member self.now at) result }
+    {
+        match self.get(at) {
+            Some(ticks) => ticks.slots(),
+            None => Slots::none(),
         }
     }
 }

@@ -8,6 +8,7 @@ ghost use Rattle.kept_rows.specs.Turning.{AreAlike, IsNextTurn};
 use crate::binding::Targets;
 use crate::listing::push_some;
 use crate::rows::KeptRows;
+use crate::slots::Slots;
 use std::alloc::{AllocError, Global};
 use std::marker::Model;
 use tick_set::TickSet;
@@ -150,7 +151,7 @@ fn has_row_at<S: TickSet>(kept: &KeptRows<S>, from: u32, to: u32, tick: u32) -> 
     ensures { result ≡ some_row (row_has S.member kept.now) from to tick }
 {
     let mut from = from;
-    'rows: while let Some(number) = kept.next(from, to) {
+    'rows: while let Some(number) = kept.next_at(from, to, Slots::of_tick(tick)) {
         if kept.row(number).has(tick) {
             return true;
         }

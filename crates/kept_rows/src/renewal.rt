@@ -1,5 +1,5 @@
 //! Rows judged anew.
-ghost use Rattle.std.specs.Prelude.{◌≡◌, ◌<◌, ◌≤◌, ◌+◌, ◌*◌, ◌&&◌, ◌∷◌, ℕ, Bool, [], nat_le, length, if◌then◌else◌, IfOk, OnOk};
+ghost use Rattle.std.specs.Prelude.{◌≡◌, ◌<◌, ◌≤◌, ◌+◌, ◌*◌, ◌&&◌, ◌∷◌, ℕ, Bool, [], false, nat_le, length, if◌then◌else◌, IfOk, OnOk};
 ghost use Rattle.tick_set.specs.TickList.{has};
 ghost use Rattle.kept_rows.specs.Changes.{AreReady, AreRising, DoDiffer, after};
 ghost use Rattle.kept_rows.specs.Exact.{AreRowsOf};
@@ -88,11 +88,25 @@ pub fn judge_all<S: Turning, J: Judge<S>>(
     ensures rows { IfOk result (λ rows. AreRowsOf (row_has S.member rows) (counts variables.now) (J.full judge.now)) }
 {
     let numbers = all_numbers(alloc, variables)?;
-    let mut rows = KeptRows::new(alloc, size(variables))?;
+    let mut rows = no_rows(alloc, variables)?;
     let mut rest: &[u32] = &numbers;
     'numbers: while let Some((number, later)) = rest.split_first() {
         rows.keep(alloc, *number, judge.judge(*number))?;
         rest = later;
+    }
+    Ok(rows)
+}
+
+// A table for the bindings of these variables, without rows. Where there are several variables a target may have more than
+// one row, so that what it shares with others is to be found: then they are marked.
+fn no_rows<S: Turning>(alloc: Global, variables: &[Variable]) -> Result<KeptRows<S>, AllocError>
+    requires { size_of variables.now ≤ BINDING_LIMIT }
+    ensures room { IfOk result (λ rows. HasRoom rows (size_of variables.now)) }
+    ensures none { IfOk result (λ rows. (c t : ℕ) → row_has S.member rows c t ≡ false) }
+{
+    let mut rows = KeptRows::new(alloc, size(variables))?;
+    if variables.len() > 1 {
+        rows.mark(alloc)?;
     }
     Ok(rows)
 }

@@ -3,11 +3,14 @@ ghost use Rattle.std.specs.Prelude.{◌≡◌, ◌<◌, ◌≤◌, ◌*◌, ◌/
 ghost use Rattle.std.specs.Option.{SomeIff};
 ghost use Rattle.kept_rows.specs.Listing.{HaveNone, IsNext};
 ghost use Rattle.kept_rows.specs.Rows.{HasRoom, is_made, is_whole, page_has, row_has};
+ghost use Rattle.kept_rows.specs.Slots.{HaveNoneAt, IsNextAt};
 ghost use Rattle.kept_rows.specs.Turning.{AreAlike, IsNextTurn};
 
 use crate::change::spare_page;
 use crate::filled::Filled;
+use crate::marks::Marks;
 use crate::page::{PAGE, Page};
+use crate::slots::Slots;
 use crate::turning::Turning;
 use crate::turns::Turns;
 use std::alloc::{AllocError, Global};
@@ -25,12 +28,15 @@ pub struct KeptRows<S: TickSet> {
     nothing: S,
     // Until when the rows stay as they are: what time passes over.
     turns: Turns,
+    // In which slots the rows may have ticks, where that is told.
+    marks: Marks,
 }
 
 impl<S: TickSet> Model for KeptRows<S> {
     ghost use Rattle.std.specs.Prelude.{◌≡◌, ◌*◌, ℕ, List, false, length};
     ghost use Rattle.kept_rows.specs.Filled.{AreFilled};
     ghost use Rattle.kept_rows.specs.Rows.{row_has};
+    ghost use Rattle.kept_rows.specs.Slots.{AreMarked};
     ghost use Rattle.kept_rows.specs.Turning.{AreSteady};
 
     ghost Value = { List (List S) };
@@ -41,7 +47,8 @@ impl<S: TickSet> Model for KeptRows<S> {
         × (length a.turns.rows.items ≡ length a.pages.items * 16)
         × (length a.turns.pages.items ≡ length a.pages.items)
         × AreSteady (row_has S.member a.pages.items) a.turns
-        × AreFilled (row_has S.member a.pages.items) a.filled };
+        × AreFilled (row_has S.member a.pages.items) a.filled
+        × AreMarked (row_has S.member a.pages.items) a.marks };
 }
 
 impl<S: TickSet> KeptRows<S> {
@@ -58,6 +65,7 @@ impl<S: TickSet> KeptRows<S> {
             filled,
             nothing: S::empty(alloc),
             turns,
+            marks: Marks::none(alloc),
         })
     }
 
@@ -116,6 +124,18 @@ impl<S: TickSet> KeptRows<S> {
         self.turns.unsteady_from(from, to, now)
     }
 
+    /// The first of the numbers from `from` up to `to`, without `to`, whose row may have a tick in the slots. It passes
+    /// over the rows that have none where [`KeptRows::mark`] was called, else over those without a tick.
+    pub fn next_at(&self, from: u32, to: u32, slots: Slots) -> Option<u32>
+        ensures some { IfSome result (IsNextAt (row_has S.member self.now) slots from to) }
+        ensures none { IfNone result (HaveNoneAt (row_has S.member self.now) slots from to) }
+    {
+        if self.marks.is_empty() {
+            return self.next(from, to);
+        }
+        self.marks.next(from, to, slots)
+    }
+
     /// Whether the page of a number is made.
     #[inline]
     pub(crate) fn has_page(&self, number: u32) -> bool
@@ -143,6 +163,7 @@ impl<S: Turning> KeptRows<S> {
         let at = number as usize;
         self.turns.lower(number, end);
         self.filled.note(at, !ticks.is_empty());
+        self.marks.mark(number, ticks.slots());
         let page = &mut self.pages[at / PAGE];
         page.put(at % PAGE, ticks, spare);
     }
@@ -160,6 +181,15 @@ impl<S: Turning> KeptRows<S> {
         }
         let spare = spare_page(alloc, self, number)?;
         self.put(number, ticks.copy(alloc)?, spare);
+        Ok(())
+    }
+
+    /// Notes of each row in which slots it has ticks, so that [`KeptRows::next_at`] looks only at rows that may have some
+    /// in the slots. It takes some 8.5 bytes for each number. No row changes.
+    pub fn mark(&mut self, alloc: Global) -> Result<(), AllocError>
+        ensures { self.new ≡ self.old }
+    {
+        self.marks = Marks::new(alloc, &self.pages)?;
         Ok(())
     }
 

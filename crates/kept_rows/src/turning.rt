@@ -1,22 +1,33 @@
-//! Sets of ticks that tell how long they stay as they are.
+//! Sets of ticks that tell how long they stay as they are, and in which slots they have ticks.
 ghost use Rattle.std.specs.Prelude.{◌≡◌, ◌<◌, ◌≤◌, ℕ};
+ghost use Rattle.kept_rows.specs.Slots.{AreIn};
 ghost use Rattle.tick_set.specs.Runs.{IsNormal, spans_have};
 ghost use Rattle.kept_rows.specs.Turning.{AreFrom, IsSteady};
 
+use crate::slots::Slots;
 use interval_set::IntervalSet;
 use tick_set::{Span, TickSet};
 
-/// A set of ticks that tells how long it stays as it is, so that a table of many can pass over those that do.
+/// A set of ticks that tells how long it stays as it is and in which slots it has ticks, so that a table of many can pass
+/// over those that stay, and over those that have none of some ticks.
 pub trait Turning: TickSet {
     /// A tick up to which, from `t` on and without it, nothing turns: each has what `t` has.
     fn steady_until(&self, t: u32) -> u32
         ensures { (u : ℕ) → t ≤ u → u < result → Self.member self.now u ≡ Self.member self.now t };
+
+    /// The slots of its ticks.
+    fn slots(&self) -> Slots
+        ensures { AreIn (Self.member self.now) result };
 }
 
 impl Turning for IntervalSet {
     /// The first tick after `t` that turns, or `u32::MAX` where none does.
     fn steady_until(&self, t: u32) -> u32 {
         first_turn(self.spans(), t)
+    }
+
+    fn slots(&self) -> Slots {
+        slots_of(self.spans())
     }
 }
 
@@ -41,4 +52,17 @@ fn from_tick(spans: &[Span], t: u32) -> &[Span]
         Ok(at) => spans.split_at(at).1,
         Err(at) => spans.split_at(at).1,
     }
+}
+
+// The slots of the ticks of spans.
+fn slots_of(spans: &[Span]) -> Slots
+    ensures { AreIn (spans_have spans.now) result }
+{
+    let mut slots = Slots::none();
+    let mut rest = spans;
+    'spans: while let Some((s, later)) = rest.split_first() {
+        slots = slots.with_span(*s);
+        rest = later;
+    }
+    slots
 }

@@ -4,8 +4,10 @@ use Rattle.kept_rows.proofs.moving.next_row.Goals as goal
 
 pub returns-clause-gained : goal.returns-clause-gained
 returns-clause-gained g c =
-    none-taken-if c.next.result (row_has g.S.TickSet.member c.args.kept.now) c.args.from c.args.to (g.S.TickSet.member c.args.left.now.gained) c.next.ensures.none
+    none-taken-if c.next_at.result (row_has g.S.TickSet.member c.args.kept.now) c.args.slots c.args.from c.args.to (g.S.TickSet.member c.args.left.now.gained)
+    c.requires.gained c.next_at.ensures.none
 
 pub returns-clause-lost : goal.returns-clause-lost
 returns-clause-lost g c =
-    none-taken-if c.next.result (row_has g.S.TickSet.member c.args.kept.now) c.args.from c.args.to (g.S.TickSet.member c.args.left.now.lost) c.next.ensures.none
+    none-taken-if c.next_at.result (row_has g.S.TickSet.member c.args.kept.now) c.args.slots c.args.from c.args.to (g.S.TickSet.member c.args.left.now.lost)
+    c.requires.lost c.next_at.ensures.none

@@ -4,7 +4,7 @@ use Rattle.kept_rows.proofs.moving.ticks_anew.Given as goal
 
 abbrev pub invariant-changes : goal.invariant-changes
 invariant-changes g l =
-    (t : ℕ) → (g.S.TickSet.member l.ticks t || list_any (λ x. g.S.TickSet.member x.ticks t) l.rest) ≡ list_any (λ x. g.S.TickSet.member x.ticks t) l.group
+    (t : ℕ) → (list_any (λ set. g.S.TickSet.member set.now t) l.sets.items || list_any (λ x. g.S.TickSet.member x.ticks t) l.rest) ≡ list_any (λ x. g.S.TickSet.member x.ticks t) l.group
 
 abbrev pub decreases-changes : goal.decreases-changes
 decreases-changes g l = length l.rest

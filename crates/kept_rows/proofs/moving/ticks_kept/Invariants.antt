@@ -5,7 +5,7 @@ use Rattle.kept_rows.proofs.moving.ticks_kept.Given as goal
 
 abbrev pub invariant-changes : goal.invariant-changes
 invariant-changes g l =
-    (t : ℕ) → (g.S.TickSet.member l.ticks t || list_any (λ x. row_has g.S.TickSet.member l.kept x.number t) l.rest)
+    (t : ℕ) → (list_any (λ set. g.S.TickSet.member set.now t) l.sets.items || list_any (λ x. row_has g.S.TickSet.member l.kept x.number t) l.rest)
     ≡ list_any (λ x. row_has g.S.TickSet.member l.kept x.number t) l.group
 
 abbrev pub decreases-changes : goal.decreases-changes

@@ -10,8 +10,11 @@ returns-then-has g c =
 
 pub rows-preserved : goal.rows-preserved
 rows-preserved g c =
-    some_row-over (row_has g.S.TickSet.member c.args.kept.now) c.rows.from c.in-Some.number c.args.to c.args.tick _
-    c.in-Some.ensures.some.least c.in-Some.ensures.some.below c.in-Some.ensures.some.before (sym (c.row.ensures c.args.tick) ∙ sym c.has.ensures.has ∙ c.if-has.false) c.rows.invariant
+    some_row-over (λ n u. row_has g.S.TickSet.member c.args.kept.now n c.args.tick) c.rows.from c.in-Some.number c.args.to c.args.tick _
+    c.in-Some.ensures.some.least c.in-Some.ensures.some.below (λ n u h k. c.in-Some.ensures.some.before n c.args.tick h k c.of_tick.ensures) (sym (c.row.ensures c.args.tick) ∙ sym c.has.ensures.has ∙ c.if-has.false) c.rows.invariant
 
 pub returns : goal.returns
-returns g c = sym (some_row-none (row_has g.S.TickSet.member c.args.kept.now) c.rows.from c.args.to c.args.tick c.in_default.ensures.none) ∙ c.rows.invariant
+returns g c =
+    sym (some_row-none (λ n u. row_has g.S.TickSet.member c.args.kept.now n c.args.tick) c.rows.from c.args.to c.args.tick
+    (λ n u h k. c.in_default.ensures.none n c.args.tick h k c.of_tick.ensures))
+    ∙ c.rows.invariant

@@ -4,6 +4,7 @@ use Rattle.std.proofs.lemmas.List.{get_or_default}
 use Rattle.kept_rows.specs.Rows.{row_has}
 use Rattle.kept_rows.proofs.FilledLemmas.{filled-alike}
 use Rattle.kept_rows.proofs.PageLemmas.{row_has-put}
+use Rattle.kept_rows.proofs.SlotLemmas.{marked_alike}
 use Rattle.kept_rows.proofs.SteadyLemmas.{steady-alike}
 use Rattle.kept_rows.proofs.rows.KeptRows.put.Goals as goal
 
@@ -31,4 +32,5 @@ invariant_of-self g c =
       steady-alike after _ c.lower.new.self written (c.lower.ensures.steady rows (member c.args.ticks) c.self.invariant.3 c.steady_until-end.ensures),
       filled-alike after _ c.note.new.self written
           (c.note.ensures rows (member c.args.ticks) c.self.invariant.4 (λ e. c.is_empty.ensures.0 (grind (arith, not-false, e)))),
+      marked_alike after _ c.mark.new.self written (c.mark.ensures rows (member c.args.ticks) c.self.invariant.5 c.slots.ensures),
     )
