@@ -313,7 +313,7 @@ class Maker:
         size, span = self.one_of([1, 1, 1, 2, 2, 2, 3, 4, 5, 6]), self.one_of([0, 5, 20, 20, 40, 60])
         if size == 1 and len(variables) == 1:
             # past the ends of what is kept of where objects can be
-            span = self.one_of([0, 5, 60, 100, 257, 300, 1_025, 1_100] + [4_097, 5_000] * (self.fleet <= 100))
+            span = self.one_of([0, 5, 60, 100, 257, 300, 1_025, 1_100] + [4_097, 5_000] * (self.fleet <= 60))
             span = 65_537 if self.fleet <= 40 and self.chance(3) else span
         head = f"{words} {min(most, span)} RETRIEVE {','.join(targets)} FROM "
         return Line(head + ",".join(f"{which} {name}" for name, which in variables) + " WHERE ", self.formula(variables, size, []))
@@ -430,11 +430,11 @@ class Maker:
         name = f"w{self.draw.randrange(4)}"
         if sort < 50:
             return self.placed_query("ask", 70_000)
-        if sort < 58:
-            return self.placed_query(f"{self.one_of(['watch', 'keep'])} {name}", 60)
-        if sort < 63:
+        if sort < 55:
+            return self.placed_query(f"{self.one_of(['watch', 'keep'])} {name}", 20)
+        if sort < 60:
             return Line(self.one_of([f"show {name}", f"drop {name}", "list"]))
-        if sort < 67:
+        if sort < 63:
             return Line(f'import {FLEET} "{self.one_of(list(FLEETS))}"')
         if sort < 85:
             return self.write()
