@@ -13,7 +13,7 @@ use Rattle.command_text.specs.Journal.{spelled}
 use Rattle.command_text.specs.Line.{command_in, early_refusal, first_refusal, late_refusal}
 use Rattle.command_text.specs.Refusals.{line_of}
 use Rattle.line_meaning.specs.declared.role.Role.{Role}
-use Rattle.line_meaning.specs.declared.role.Role.TheVariants.{Blank, Keeping, Telling, Indexing, Filing, Ending}
+use Rattle.line_meaning.specs.declared.role.Role.TheVariants.{Blank, Journalled, Telling, Indexing, Filing, Ending}
 use Rattle.line_meaning.specs.Reply.{line_feed}
 use Rattle.line_meaning.specs.Role.{role_of}
 use Rattle.line_meaning.specs.Looks.{looks_of}
@@ -32,7 +32,7 @@ is_quit _ = false
 
 ending_by : (role : Role) → is_quit (next_by role) ≡ is_ending role
 ending_by Blank = refl
-ending_by Keeping = refl
+ending_by Journalled = refl
 ending_by Telling = refl
 ending_by Indexing = refl
 ending_by Filing = refl

@@ -4,7 +4,7 @@ use Rattle.command_text.specs.Journal.{is_kept, ticks_of}
 use Rattle.command_text.specs.Tree
 use Rattle.command_text.specs.Tree.{CommandTree}
 use Rattle.line_meaning.specs.declared.role.Role.{Role}
-use Rattle.line_meaning.specs.declared.role.Role.TheVariants.{Keeping, Filing}
+use Rattle.line_meaning.specs.declared.role.Role.TheVariants.{Journalled, Filing}
 use Rattle.line_meaning.specs.Fault.{is_gap}
 use Rattle.line_meaning.specs.Journal.{regions_of, writes_of}
 use Rattle.line_meaning.specs.Judging.{Held, all_after, held_after}
@@ -31,7 +31,7 @@ no_ticks c h = refl
 
 -- a data command
 pub record IsOfData (c : CommandTree) : Type 0 where
-  pub keeping : role_of c ≡ Keeping
+  pub keeping : role_of c ≡ Journalled
   pub built : is_gap c ≡ false
   pub kept : is_kept c ≡ true
   pub alone : (k : Known) → query_fault k c ≡ None

@@ -4,7 +4,7 @@ use Rattle.command_text.specs.declared.refusal.Refusal.{Refusal}
 use Rattle.command_text.specs.Refusals.{line_of}
 use Rattle.command_text.specs.Tree.{CommandTree}
 use Rattle.line_meaning.specs.declared.role.Role.{Role}
-use Rattle.line_meaning.specs.declared.role.Role.TheVariants.{Blank, Keeping, Telling, Indexing, Filing, Ending}
+use Rattle.line_meaning.specs.declared.role.Role.TheVariants.{Blank, Journalled, Telling, Indexing, Filing, Ending}
 use Rattle.line_meaning.specs.Judging.{Held, fault_of}
 use Rattle.line_meaning.specs.Reply.{line_feed, ok_line}
 use Rattle.line_meaning.specs.Role.{role_of}
@@ -20,7 +20,7 @@ use Rattle.hub.proofs.KindLemmas.{of_data}
 -- a reply is its lines and an `ok`, but that of a blank line
 ended : (r : Role) (h : Held) (c : CommandTree) → (next_by r ≡ nexts.Silent → ⊥) → lines_by r h c ++ ok_line ≡ reply_by r h c
 ended Blank h c loud = absurd (loud refl)
-ended Keeping h c loud = refl
+ended Journalled h c loud = refl
 ended Telling h c loud = refl
 ended Indexing h c loud = refl
 ended Filing h c loud = refl
@@ -28,7 +28,7 @@ ended Ending h c loud = refl
 
 silent : (r : Role) (h : Held) (c : CommandTree) → next_by r ≡ nexts.Silent → lines_by r h c ≡ reply_by r h c
 silent Blank h c is = refl
-silent Keeping h c is = absurd (cc)
+silent Journalled h c is = absurd (cc)
 silent Telling h c is = absurd (cc)
 silent Indexing h c is = absurd (cc)
 silent Filing h c is = absurd (cc)

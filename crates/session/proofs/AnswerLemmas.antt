@@ -11,7 +11,7 @@ use Rattle.command_text.specs.Line.{IsRead, early_refusal, first_refusal, late_r
 use Rattle.command_text.specs.Tree
 use Rattle.command_text.specs.Tree.{CommandTree}
 use Rattle.line_meaning.specs.declared.role.Role.{Role}
-use Rattle.line_meaning.specs.declared.role.Role.TheVariants.{Blank, Keeping, Telling, Indexing, Filing, Ending}
+use Rattle.line_meaning.specs.declared.role.Role.TheVariants.{Blank, Journalled, Telling, Indexing, Filing, Ending}
 use Rattle.line_meaning.specs.Looks.{is_query, looks_of, most_looks}
 use Rattle.line_meaning.specs.Role.{asks_shelf, is_filing, is_import, is_on_indexes, role_of}
 use Rattle.line_meaning.specs.Step.{Base, Held, all_after, base, base_after, fault_of, file_refusal, held_after, refusal_of, reply_by, reply_of, step}
@@ -24,7 +24,7 @@ use Rattle.session.specs.Answers.{Answers, Applies, Fails, IsUnchanged, IsUnread
 use Rattle.session.specs.Carried.{Carried, CarriedAs, Carries, IsAccepted, IsLacking, LacksMemory, Moment, end_of, lines_by, moment}
 use Rattle.session.specs.Replayed.{Replays, ReplaysAs}
 use Rattle.line_meaning.proofs.IndexLemmas.{plain_after, plain_fault}
-use Rattle.line_meaning.proofs.RoleLemmas.{kept_is_keeping}
+use Rattle.line_meaning.proofs.RoleLemmas.{kept_is_journalled}
 use Rattle.session.specs.Filed.{Does, FailsWith, IsAnswered, IsApplied, SufficesFor, refusal_with, texts_by}
 
 -- ---- a command that asks nothing of the shelf
@@ -54,7 +54,7 @@ plain_held b c new plain same = same
 -- an accepted command is not told as a refused one
 never : (role : Role) (r : Refusal) → nexts.Refused r ≡ next_by role → ⊥
 never Blank r h = cc h
-never Keeping r h = cc h
+never Journalled r h = cc h
 never Telling r h = cc h
 never Indexing r h = cc h
 never Filing r h = cc h
@@ -88,7 +88,7 @@ reply_parts : (role : Role) (h : Held) (c : CommandTree) → reply_by role h c �
 reply_parts Blank h c = refl
 reply_parts Telling h c = refl
 reply_parts Indexing h c = refl
-reply_parts Keeping h c = refl
+reply_parts Journalled h c = refl
 reply_parts Filing h c = refl
 reply_parts Ending h c = refl
 
@@ -353,7 +353,7 @@ lacks_applies told line old before late = record {
 
 pub not_filing : (role : Role) → (role ≡ Filing → ⊥) → is_filing role ≡ false
 not_filing Blank other = refl
-not_filing Keeping other = refl
+not_filing Journalled other = refl
 not_filing Telling other = refl
 not_filing Indexing other = refl
 not_filing Filing other = absurd (other refl)
@@ -362,7 +362,7 @@ not_filing Ending other = refl
 -- ---- a command that is replayed
 
 pub kept_plain : (c : CommandTree) → is_kept c ≡ true → asks_shelf c ≡ false
-kept_plain c kept = ap is_filing (kept_is_keeping c kept)
+kept_plain c kept = ap is_filing (kept_is_journalled c kept)
 
 pub kept_on_no_index : (c : CommandTree) → is_kept c ≡ true → is_on_indexes c ≡ false
 kept_on_no_index (Tree.Index class attribute width) kept = absurd (cc kept)
@@ -370,7 +370,7 @@ kept_on_no_index (Tree.Range span class attribute least greatest) kept = absurd 
 kept_on_no_index c kept = refl
 
 kept_next : (c : CommandTree) → is_kept c ≡ true → next_of c ≡ nexts.Accepted
-kept_next c kept = ap next_by (kept_is_keeping c kept)
+kept_next c kept = ap next_by (kept_is_journalled c kept)
 
 module _ (c : CommandTree) (m n : Moment) (kept : is_kept c ≡ true) where
   by_next : (next : Next) → CarriedAs next c m.holds n.holds m.tally.said n.tally.said → ReplaysAs m.holds c n.holds next

@@ -11,7 +11,7 @@ use Rattle.command_text.specs.Text.{text_of}
 use Rattle.command_text.specs.Tree
 use Rattle.command_text.specs.Tree.{CommandTree}
 use Rattle.line_meaning.specs.declared.role.Role.{Role}
-use Rattle.line_meaning.specs.declared.role.Role.TheVariants.{Keeping, Telling}
+use Rattle.line_meaning.specs.declared.role.Role.TheVariants.{Journalled, Telling}
 use Rattle.line_meaning.specs.Answering.{answer_lines, kept_lines, query_lines}
 use Rattle.line_meaning.specs.Fault.{fault_among, is_gap, journal_refusal, passes_limits}
 use Rattle.line_meaning.specs.Journal.{world}
@@ -21,7 +21,7 @@ use Rattle.line_meaning.specs.Role.{is_on_indexes, is_on_queries, role_of}
 use Rattle.line_meaning.specs.Step.{Held, fault_by, fault_of, held, held_after}
 use Rattle.line_meaning.proofs.CallerLemmas.{or_none}
 use Rattle.line_meaning.proofs.IndexLemmas.{plain_after}
-use Rattle.line_meaning.proofs.RoleLemmas.{kept_is_keeping, telling_is_not_kept}
+use Rattle.line_meaning.proofs.RoleLemmas.{kept_is_journalled, telling_is_not_kept}
 use Rattle.database.specs.Telling.{IsStoppedBy}
 use Rattle.session.specs.Carried.{IsAccepted, IsStopped, is_class, lines_by}
 use Rattle.session.specs.Entering.{Admits}
@@ -80,7 +80,7 @@ data_fault k c plain =
 module _ (journal : List Accepted) (c : CommandTree) (gap : is_gap c ≡ false) (kept : is_kept c ≡ true) where
   pub kept_fault : fault_of (held journal) c
       ≡ or_else (command_fault (known journal) c) (journal_refusal (length journal) (bytes_of journal) c)
-  kept_fault = by_role (held journal) c Keeping gap (kept_is_keeping c kept)
+  kept_fault = by_role (held journal) c Journalled gap (kept_is_journalled c kept)
 
   full_by : (full : Bool) → passes_limits (length journal) (bytes_of journal) (length (text_of c)) ≡ full →
       journal_refusal (length journal) (bytes_of journal) c ≡ first_that_holds ((refusals.JournalFull, full) ∷ [])
@@ -134,7 +134,7 @@ module _ (journal : List Accepted) (c : CommandTree) (gap : is_gap c ≡ false) 
     goes_on = ap held (is ∙ ap (λ t. journal ++ (t, c) ∷ []) tick) ∙ sym entry_is ∙ sym (plain_after (held journal) c (kept_other c kept));
     said = written
         ∙ ap (λ ls. before ++ ls) (told ∙ ap (λ (h : Held). kept_lines (known journal) (known h.journal) c) (sym entry_is))
-        ∙ ap (λ (r : Role). before ++ lines_by r (held journal) c) (sym (kept_is_keeping c kept));
+        ∙ ap (λ (r : Role). before ++ lines_by r (held journal) c) (sym (kept_is_journalled c kept));
   }
 
 -- ---- a command that changes nothing

@@ -29,7 +29,7 @@ use Rattle.line_meaning.specs.Step.{fault_of, held}
 use Rattle.session.specs.Carried.{lines_by}
 use Rattle.session.specs.Followed.{writes_object}
 use Rattle.session.specs.Rows.{IsImportedRow, IsRowCommand, journal_after_commands, lines_of_commands, looks_of_commands, row_commands}
-use Rattle.line_meaning.proofs.RoleLemmas.{kept_is_keeping}
+use Rattle.line_meaning.proofs.RoleLemmas.{kept_is_journalled}
 use Rattle.session.proofs.FaultLemmas.{accepted, kept_fault}
 
 -- ---- a command that writes to an object
@@ -114,7 +114,7 @@ row_short c may =
 
 -- its lines are those of its entry
 pub lines_is : (journal : List Accepted) (c : CommandTree) → writes_object c ≡ true → lines_by (role_of c) (held journal) c ≡ entry_lines journal c
-lines_is journal c write = ap (λ (r : Role). lines_by r (held journal) c) (kept_is_keeping c (write_kept c write))
+lines_is journal c write = ap (λ (r : Role). lines_by r (held journal) c) (kept_is_journalled c (write_kept c write))
 
 -- ---- the first of some commands
 

@@ -10,7 +10,7 @@ use Rattle.command_text.specs.Refusals.{line_of}
 use Rattle.command_text.specs.Tree
 use Rattle.command_text.specs.Tree.{CommandTree}
 use Rattle.line_meaning.specs.declared.role.Role.{Role}
-use Rattle.line_meaning.specs.declared.role.Role.TheVariants.{Blank, Keeping, Telling, Indexing, Filing, Ending}
+use Rattle.line_meaning.specs.declared.role.Role.TheVariants.{Blank, Journalled, Telling, Indexing, Filing, Ending}
 use Rattle.line_meaning.specs.Reply.{line_feed}
 use Rattle.line_meaning.specs.Import.{journal_after_rows}
 use Rattle.line_meaning.specs.Role.{asks_shelf, is_import, role_of}
@@ -24,7 +24,7 @@ use Rattle.session.specs.declared.next.Next.TheVariants as nexts
 abbrev pub next_by : Role → Next
 next_by Blank = nexts.Silent
 next_by Ending = nexts.Quit
-next_by Keeping = nexts.Accepted
+next_by Journalled = nexts.Accepted
 next_by Telling = nexts.Accepted
 next_by Indexing = nexts.Accepted
 next_by Filing = nexts.Accepted

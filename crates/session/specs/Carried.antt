@@ -12,7 +12,7 @@ use Rattle.command_text.specs.Text.{text_of}
 use Rattle.command_text.specs.Tree
 use Rattle.command_text.specs.Tree.{CommandTree}
 use Rattle.line_meaning.specs.declared.role.Role.{Role}
-use Rattle.line_meaning.specs.declared.role.Role.TheVariants.{Blank, Keeping, Telling, Indexing, Filing, Ending}
+use Rattle.line_meaning.specs.declared.role.Role.TheVariants.{Blank, Journalled, Telling, Indexing, Filing, Ending}
 use Rattle.line_meaning.specs.Answering.{answer_lines, kept_lines, query_lines}
 use Rattle.line_meaning.specs.Fault.{is_gap}
 use Rattle.line_meaning.specs.Journal.{world}
@@ -75,7 +75,7 @@ abbrev pub lines_by : Role → Held → CommandTree → List ℕ
 lines_by Blank h c = []
 lines_by Telling h c = answer_lines (world h.journal) (clock h.journal) c ++ query_lines (known h.journal) c
 lines_by Indexing h c = answer_lines (world h.journal) (clock h.journal) c
-lines_by Keeping h c = kept_lines (known h.journal) (known (held_after h c).journal) c
+lines_by Journalled h c = kept_lines (known h.journal) (known (held_after h c).journal) c
 lines_by Filing h c = []
 lines_by Ending h c = []
 

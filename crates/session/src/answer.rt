@@ -105,7 +105,7 @@ fn perform_plain<L: Ledger, M: Ledger>(
     }
     match role_of(command) {
         Role::Blank => Ok(Next::Silent),
-        Role::Keeping => {
+        Role::Journalled => {
             keep(alloc, state, command, reads, probes, out)?;
             Ok(Next::Accepted)
         }
