@@ -2,7 +2,7 @@
 -- that gives these atoms the truth of the formulas.
 use Rattle.std.proofs.Common.{◌≡◌, ℕ, Bool, true, false, not, ◌&&◌, ◌||◌, Option, None, Some, Result, Ok, Err, List, [], ◌∷◌, refl, sym, ap, subst, ◌∙◌, inl, inr, arith}
 use Rattle.std.specs.Prelude.{IfOk, IfSome, option_map}
-use Rattle.std.proofs.lemmas.Bool.{false≢true, and_parts, or_cases}
+use Rattle.std.proofs.lemmas.Bool.{false≢true, and_parts, both_ways, false_from_ne_true, or_cases}
 use Rattle.fixed_point.specs.declared.variants.BoundForm.{BoundForm}
 use Rattle.fixed_point.specs.declared.variants.UntilForm.{UntilForm}
 use Rattle.formula_shape.specs.Shape as shapes
@@ -20,7 +20,8 @@ use Rattle.object_store.specs.declared.areas.Area.{Area}
 use Rattle.object_store.specs.Contents.{Contents, history_of, ids_in}
 use Rattle.relation.specs.Key.{has_id}
 use Rattle.narrowing.specs.Covering.{Covers}
-use Rattle.narrowing.specs.Needed.{AreNeeded, Fails, IsOfBoth, IsOfEither, lacks, told}
+use Rattle.narrowing.specs.Needed.{AreNeeded, CannotHold, Fails, IsOfBoth, IsOfEither, lacks}
+use Rattle.worlds.specs.Blurred.{possibly_holds}
 
 abbrev goal : RAtom
 goal = atoms.Inside 0 0
@@ -90,14 +91,14 @@ module _ (law : FormulasNeed) (j : Interpretation) (lo e : ℕ) where
 
 -- ---- the ids that formulas need
 
-module _ (law : FormulasNeed) (s : Contents) (regions : List Region) (class v lo e : ℕ) where
+module _ (law : FormulasNeed) (error : ℕ) (s : Contents) (regions : List Region) (class v lo e : ℕ) where
   abbrev NeededBy : ResolvedTree → List ℕ → Type 0
-  NeededBy f ids = AreNeeded s regions class v lo e f ids
+  NeededBy f ids = AreNeeded error s regions class v lo e f ids
 
   pub needed_by_part : (f g : ResolvedTree) (ids : List ℕ) → ((j : Interpretation) → Fails j lo e f → Fails j lo e g) → NeededBy f ids → NeededBy g ids
   needed_by_part f g ids leads are = record {
     ascending = are.ascending;
-    fails = λ b has lacks'. leads (told s regions b) (are.fails b has lacks');
+    fails = λ b has lacks' j possible. leads j (are.fails b has lacks' j possible);
   }
 
   pub needed_next : (f : ResolvedTree) (ids : List ℕ) → NeededBy f ids → NeededBy (shapes.Next f) ids
@@ -120,7 +121,7 @@ module _ (law : FormulasNeed) (s : Contents) (regions : List Region) (class v lo
 
   -- the ids of an optional list, told by a function of what holds them
   part_fails : {V : Type 0} (items : V → List ℕ) (f : ResolvedTree) (list : Option V) → IfSome list (λ ids. NeededBy f (items ids)) →
-      (b : ℕ → ℕ) → has_id (ids_in s.objects class) (b v) ≡ true → lacks (option_map items list) (b v) ≡ true → Fails (told s regions b) lo e f
+      (b : ℕ → ℕ) → has_id (ids_in s.objects class) (b v) ≡ true → lacks (option_map items list) (b v) ≡ true → CannotHold error s regions b lo e f
   part_fails items f None are b has lacking = absurd (false≢true lacking)
   part_fails items f (Some ids) are b has lacking = are.fails b has (lacks_id (has_id (items ids) (b v)) lacking)
     where
@@ -133,10 +134,10 @@ module _ (law : FormulasNeed) (s : Contents) (regions : List Region) (class v lo
       IsOfEither (option_map items left) (option_map items right) ids → NeededBy (shapes.And f g) ids
   needed_and items f g left right ids first second of = record {
     ascending = of.ascending;
-    fails = λ b has lacking.
+    fails = λ b has lacking j possible.
         elim (or_cases (lacks (option_map items left) (b v)) (lacks (option_map items right) (b v)) (of.lacking (b v) lacking)) [
-          | inl here ↦ fails_and_left law (told s regions b) lo e f g (part_fails items f left first b has here)
-          | inr here ↦ fails_and_right law (told s regions b) lo e f g (part_fails items g right second b has here)
+          | inl here ↦ fails_and_left law j lo e f g (part_fails items f left first b has here j possible)
+          | inr here ↦ fails_and_right law j lo e f g (part_fails items g right second b has here j possible)
         ];
   }
 
@@ -145,15 +146,15 @@ module _ (law : FormulasNeed) (s : Contents) (regions : List Region) (class v lo
       IsOfBoth (option_map items left) (option_map items right) ids → NeededBy (shapes.Or f g) ids
   needed_or items f g left right ids first second of = record {
     ascending = of.ascending;
-    fails = λ b has lacking.
+    fails = λ b has lacking j possible.
         let both = and_parts (lacks (option_map items left) (b v)) (lacks (option_map items right) (b v)) (of.lacking (b v) lacking) in
-        fails_or law (told s regions b) lo e f g (part_fails items f left first b has both.0) (part_fails items g right second b has both.1);
+        fails_or law j lo e f g (part_fails items f left first b has both.0 j possible) (part_fails items g right second b has both.1 j possible);
   }
 
   pub needed_false : NeededBy (shapes.Truth false) []
   needed_false = record {
     ascending = λ k short. absurd (omega (arith, short));
-    fails = λ b has lacking x t from to. refl;
+    fails = λ b has lacking j possible x t from to. refl;
   }
 
   -- ---- the same of ids that may not be known
@@ -186,22 +187,24 @@ module _ (law : FormulasNeed) (s : Contents) (regions : List Region) (class v lo
       subst (λ (f : ResolvedTree). IfSome found (λ ids. NeededBy f (items ids))) (sym same) (found_part items f g found leads are)
 
   pub found_truth : {V : Type 0} (items : V → List ℕ) (holds : Bool) (whole : ResolvedTree) (found : Option V) → whole ≡ shapes.Truth holds →
-      IfSome found (λ ids. (s : Contents) (regions : List Region) (class v lo hi : ℕ) → AreNeeded s regions class v lo hi (shapes.Truth holds) (items ids)) →
+      IfSome found (λ ids. (error : ℕ) (s : Contents) (regions : List Region) (class v lo hi : ℕ) → AreNeeded error s regions class v lo hi (shapes.Truth holds) (items ids)) →
       IfSome found (λ ids. NeededBy whole (items ids))
   found_truth items holds whole None same are = tt
-  found_truth items holds whole (Some ids) same are = subst (λ (f : ResolvedTree). NeededBy f (items ids)) (sym same) (are s regions class v lo e)
+  found_truth items holds whole (Some ids) same are = subst (λ (f : ResolvedTree). NeededBy f (items ids)) (sym same) (are error s regions class v lo e)
 
 -- ---- atoms
 
-module _ (s : Contents) (regions : List Region) (class v lo e : ℕ) where
-  needed_atom : (a : RAtom) (area : Area) (ids : List ℕ) → Covers regions v a area → AreNear s class area lo e ids →
-      AreNeeded s regions class v lo e (shapes.Atom a) ids
+module _ (error : ℕ) (s : Contents) (regions : List Region) (class v lo e : ℕ) where
+  needed_atom : (a : RAtom) (area : Area) (ids : List ℕ) → Covers error regions v a area → AreNear s class area lo e ids →
+      AreNeeded error s regions class v lo e (shapes.Atom a) ids
   needed_atom a area ids covers near = record {
     ascending = near.ascending;
-    fails = λ b has lacking x t from to. covers (trace_of (history_of s) b) x t (near.missed (b v) has lacking t from to);
+    fails = λ b has lacking j possible x t from to.
+        let never = covers (trace_of (history_of s) b) b x t (near.missed (b v) has lacking t from to) in
+        false_from_ne_true (j.atom a x t) (λ holds. both_ways (possibly_holds error regions (trace_of (history_of s) b) b a x t) never (possible a x t holds));
   }
 
-  pub found_atom : {V : Type 0} (items : V → List ℕ) (a : RAtom) (area : Area) (found : Option V) → Covers regions v a area →
-      IfSome found (λ ids. AreNear s class area lo e (items ids)) → IfSome found (λ ids. AreNeeded s regions class v lo e (shapes.Atom a) (items ids))
+  pub found_atom : {V : Type 0} (items : V → List ℕ) (a : RAtom) (area : Area) (found : Option V) → Covers error regions v a area →
+      IfSome found (λ ids. AreNear s class area lo e (items ids)) → IfSome found (λ ids. AreNeeded error s regions class v lo e (shapes.Atom a) (items ids))
   found_atom items a area None covers near = tt
   found_atom items a area (Some ids) covers near = needed_atom a area (items ids) covers near

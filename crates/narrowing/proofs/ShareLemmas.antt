@@ -1,17 +1,19 @@
 -- Some of the objects of each variable, one variable after the other.
-use Rattle.std.proofs.Common.{◌≡◌, ℕ, zero, suc, ◌<◌, ◌≤◌, Bool, true, false, not, ◌&&◌, ◌||◌, Option, Some, List, [], ◌∷◌, ◌++◌, length, refl, sym, ap, ◌∙◌, subst, inl, inr, arith, length-append}
-use Rattle.std.specs.Prelude.{option_map, slice_index}
+use Rattle.std.proofs.Common.{◌≡◌, ℕ, zero, suc, ◌<◌, ◌≤◌, Bool, true, false, not, ◌&&◌, ◌||◌, Option, None, Some, Result, Ok, Err, List, [], ◌∷◌, ◌++◌, length, refl, sym, ap, ◌∙◌, subst, inl, inr, arith, length-append}
+use Rattle.std.specs.Prelude.{IfOk, IfSome, option_map, slice_index}
 use Rattle.std.specs.List.{filter}
 use Rattle.std.specs.List.Sorted.{IsStrictlyIncreasing}
 use Rattle.std.proofs.lemmas.Bool.{false≢true, and_parts, cases_Bool, cases_lt, both_ways}
 use Rattle.std.proofs.lemmas.List.Kept.{IsStrictlyIncreasing-filter}
 use Rattle.geometry.specs.Region.{Region}
+use Rattle.formula_shape.specs.Shape as shapes
 use Rattle.formula.specs.Tree.{ResolvedQuery}
-use Rattle.object_store.specs.Contents.{Contents, ids_in}
+use Rattle.object_store.specs.Contents.{Contents, history_of, ids_in}
 use Rattle.object_store.proofs.IdLemmas.{ids-told}
 use Rattle.relation.specs.Key.{has_id, ids_of}
-use Rattle.narrowing.specs.Narrowed.{AreOfClasses, IsShare, Suffice, SufficeSoFar}
-use Rattle.narrowing.specs.Needed.{AreNeeded, IsOfEither}
+use Rattle.narrowing.specs.Narrowed.{AreOfClasses, IsShare, Suffice, SufficeSoFar, SufficeWithin}
+use Rattle.narrowing.specs.Needed.{AreNeeded, IsOfEither, TellsPossible, told}
+use Rattle.worlds.specs.Between.{LiesBetween}
 use Rattle.narrowing.proofs.ListLemmas.{has-filter, no_more}
 
 -- ---- one variable
@@ -20,11 +22,11 @@ not_both : (b c : Bool) → c ≡ true → (b && c) ≡ false → b ≡ false
 not_both true c is fails = absurd (both_ways c fails is)
 not_both false c is fails = refl
 
-module _ (s : Contents) (regions : List Region) (q : ResolvedQuery) (lo e : ℕ) where
+module _ (error : ℕ) (s : Contents) (regions : List Region) (q : ResolvedQuery) (lo e : ℕ) where
   -- those of its own that the formula needs
-  pub share_of_needed : (v class : ℕ) (own ids : List ℕ) → IsStrictlyIncreasing own → AreNeeded s regions class v lo e q.formula ids →
+  pub share_of_needed : (v class : ℕ) (own ids : List ℕ) → IsStrictlyIncreasing own → AreNeeded error s regions class v lo e q.formula ids →
       ((id : ℕ) → has_id own id ≡ true → has_id (ids_in s.objects class) id ≡ true) →
-      IsShare s regions q lo e v own (filter (has_id own) ids)
+      IsShare error s regions q lo e v own (filter (has_id own) ids)
   share_of_needed v class own ids rise needed of_class =
       let up : IsStrictlyIncreasing (filter (has_id own) ids) = IsStrictlyIncreasing-filter (has_id own) ids needed.ascending in
       let among : (id : ℕ) → has_id (filter (has_id own) ids) id ≡ true → has_id own id ≡ true =
@@ -39,7 +41,7 @@ module _ (s : Contents) (regions : List Region) (q : ResolvedQuery) (lo e : ℕ)
       }
 
   -- all of its own
-  pub whole_share : (v : ℕ) (own : List ℕ) → IsStrictlyIncreasing own → IsShare s regions q lo e v own own
+  pub whole_share : (v : ℕ) (own : List ℕ) → IsStrictlyIncreasing own → IsShare error s regions q lo e v own own
   whole_share v own up = record {
     ascending = up;
     among = λ id has. has;
@@ -69,8 +71,8 @@ module _ (s : Contents) (regions : List Region) (q : ResolvedQuery) (lo e : ℕ)
             subst (λ (v : ℕ). P v (ids_of (some ++ ids ∷ []) v)) (sym same) (subst (P (length some)) (sym (at_end some ids)) next)
       ]
 
-  pub more_suffice : (domains some : List (List ℕ)) (ids : List ℕ) → SufficeSoFar s regions q lo e domains some → length some < length domains →
-      IsShare s regions q lo e (length some) (ids_of domains (length some)) ids → SufficeSoFar s regions q lo e domains (some ++ ids ∷ [])
+  pub more_suffice : (domains some : List (List ℕ)) (ids : List ℕ) → SufficeSoFar error s regions q lo e domains some → length some < length domains →
+      IsShare error s regions q lo e (length some) (ids_of domains (length some)) ids → SufficeSoFar error s regions q lo e domains (some ++ ids ∷ [])
   more_suffice domains some ids so_far within share = record {
     upto = omega (arith, within, length-append some (ids ∷ []));
     among = each_so_far (λ v own. (id : ℕ) → has_id own id ≡ true → has_id (ids_of domains v) id ≡ true) some ids so_far.among share.among;
@@ -85,7 +87,7 @@ module _ (s : Contents) (regions : List Region) (q : ResolvedQuery) (lo e : ℕ)
         ];
   }
 
-  pub none_suffice : (domains : List (List ℕ)) → SufficeSoFar s regions q lo e domains []
+  pub none_suffice : (domains : List (List ℕ)) → SufficeSoFar error s regions q lo e domains []
   none_suffice domains = record {
     upto = omega arith;
     among = λ v within. absurd (omega (arith, within));
@@ -100,8 +102,8 @@ module _ (s : Contents) (regions : List Region) (q : ResolvedQuery) (lo e : ℕ)
   past_end (x ∷ some) zero past = absurd (omega (arith, past))
   past_end (x ∷ some) (suc v) past = past_end some v (omega (arith, past))
 
-  pub all_suffice : (domains some : List (List ℕ)) → length some ≡ length domains → SufficeSoFar s regions q lo e domains some →
-      Suffice s regions q lo e domains some
+  pub all_suffice : (domains some : List (List ℕ)) → length some ≡ length domains → SufficeSoFar error s regions q lo e domains some →
+      SufficeWithin error s regions q lo e domains some
   all_suffice domains some many so_far = record {
     wider = record {
       many = sym many;
@@ -118,6 +120,29 @@ module _ (s : Contents) (regions : List Region) (q : ResolvedQuery) (lo e : ℕ)
         ];
     sound = so_far.sound;
   }
+
+-- what is told where nothing is off is possible
+pub exact_possible : LiesBetween → (s : Contents) (regions : List Region) (b : ℕ → ℕ) → TellsPossible 0 s regions b (told s regions b)
+exact_possible law s regions b a x t holds =
+    law.possibly 0 (shapes.Atom a) refl (record { history = history_of s; regions = regions }) b x t t holds
+
+pub exact_suffice : LiesBetween → (s : Contents) (regions : List Region) (q : ResolvedQuery) (lo e : ℕ) (domains some : List (List ℕ)) →
+    SufficeWithin 0 s regions q lo e domains some → Suffice s regions q lo e domains some
+exact_suffice law s regions q lo e domains some within = record {
+  wider = within.wider;
+  fewer = within.fewer;
+  sound = λ b is_in.
+      elim (within.sound b is_in) [
+        | inl here ↦ inl here
+        | inr fails ↦ inr (fails (told s regions b) (exact_possible law s regions b))
+      ];
+}
+
+pub found_suffice : LiesBetween → {E : Type 0} (s : Contents) (regions : List Region) (q : ResolvedQuery) (lo e : ℕ) (domains : List (List ℕ)) (r : Result (Option (List (List ℕ))) E) →
+    IfOk r (λ found. IfSome found (λ some. SufficeWithin 0 s regions q lo e domains some)) → IfOk r (λ found. IfSome found (λ some. Suffice s regions q lo e domains some))
+found_suffice law s regions q lo e domains (Err error) within = within
+found_suffice law s regions q lo e domains (Ok None) within = within
+found_suffice law s regions q lo e domains (Ok (Some some)) within = exact_suffice law s regions q lo e domains some within
 
 -- the objects of a variable are those of its class
 pub own_of_class : (s : Contents) (q : ResolvedQuery) (domains : List (List ℕ)) (v : ℕ) → AreOfClasses s q domains → v < length domains →
@@ -145,10 +170,10 @@ of_common {V} items left right l r ids first second up are =
     })))
 
 -- the next variable's ids are added
-pub next_suffice : (s : Contents) (regions : List Region) (q : ResolvedQuery) (lo e : ℕ) (domains some new : List (List ℕ)) (v : ℕ) (ids pushed : List ℕ) →
-    v ≡ length some → v < length domains → SufficeSoFar s regions q lo e domains some → IsShare s regions q lo e v (ids_of domains v) ids →
-    pushed ≡ ids → new ≡ some ++ pushed ∷ [] → SufficeSoFar s regions q lo e domains new
-next_suffice s regions q lo e domains some new v ids pushed next within so_far share same pushes =
-    subst (SufficeSoFar s regions q lo e domains) (sym (pushes ∙ ap (λ (ids : List ℕ). some ++ ids ∷ []) same))
-    (more_suffice s regions q lo e domains some ids so_far (omega (arith, next, within))
-    (subst (λ (v : ℕ). IsShare s regions q lo e v (ids_of domains v) ids) next share))
+pub next_suffice : (error : ℕ) (s : Contents) (regions : List Region) (q : ResolvedQuery) (lo e : ℕ) (domains some new : List (List ℕ)) (v : ℕ) (ids pushed : List ℕ) →
+    v ≡ length some → v < length domains → SufficeSoFar error s regions q lo e domains some → IsShare error s regions q lo e v (ids_of domains v) ids →
+    pushed ≡ ids → new ≡ some ++ pushed ∷ [] → SufficeSoFar error s regions q lo e domains new
+next_suffice error s regions q lo e domains some new v ids pushed next within so_far share same pushes =
+    subst (SufficeSoFar error s regions q lo e domains) (sym (pushes ∙ ap (λ (ids : List ℕ). some ++ ids ∷ []) same))
+    (more_suffice error s regions q lo e domains some ids so_far (omega (arith, next, within))
+    (subst (λ (v : ℕ). IsShare error s regions q lo e v (ids_of domains v) ids) next share))

@@ -3,15 +3,16 @@ use Rattle.std.specs.Prelude.{◌≡◌, ℕ, ◌==◌, false, None, List, if◌
 use Rattle.geometry.specs.Region.{Region}
 use Rattle.formula.specs.declared.tree.RAtom.{RAtom}
 use Rattle.formula.specs.declared.value.Env.{Env}
-use Rattle.meaning.specs.Atom.{atom_holds}
 use Rattle.meaning.specs.Trace.{Trace}
 use Rattle.object_store.specs.declared.areas.Area.{Area}
 use Rattle.object_store.specs.declared.areas.Sides.{Sides}
 use Rattle.object_store.specs.Areas.{is_in_area}
+use Rattle.worlds.specs.Blurred.{possibly_holds}
 
--- while the object of a variable is outside an area the atom doesn't hold
-abbrev pub Covers : List Region → ℕ → RAtom → Area → Type 0
-Covers regions v a area = (h : Trace) (x : Env) (t : ℕ) → is_in_area area t (h v t) ≡ false → atom_holds regions h a x t ≡ false
+-- while the object of a variable is outside an area the atom isn't possible, where each position may be off by the error
+abbrev pub Covers : ℕ → List Region → ℕ → RAtom → Area → Type 0
+Covers error regions v a area =
+    (h : Trace) (b : ℕ → ℕ) (x : Env) (t : ℕ) → is_in_area area t (h v t) ≡ false → possibly_holds error regions h b a x t ≡ false
 
 abbrev pub open_sides : Sides
 open_sides = record { least = None; greatest = None }

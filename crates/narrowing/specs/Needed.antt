@@ -2,12 +2,14 @@
 use Rattle.std.specs.Prelude.{◌≡◌, ℕ, ◌≤◌, Bool, true, false, not, ◌&&◌, ◌||◌, Option, None, Some, List}
 use Rattle.std.specs.List.Sorted.{IsStrictlyIncreasing}
 use Rattle.geometry.specs.Region.{Region}
+use Rattle.formula.specs.declared.tree.RAtom.{RAtom}
 use Rattle.formula.specs.declared.value.Env.{Env}
 use Rattle.formula.specs.Tree.{ResolvedTree}
 use Rattle.meaning.specs.Satisfaction.{Interpretation, plain, sat}
 use Rattle.meaning.specs.Trace.{trace_of}
 use Rattle.object_store.specs.Contents.{Contents, history_of, ids_in}
 use Rattle.relation.specs.Key.{has_id}
+use Rattle.worlds.specs.Blurred.{possibly_holds}
 
 -- whatever values are bound, the formula holds at no tick of lo to e, after which nothing counts
 abbrev pub Fails : Interpretation → ℕ → ℕ → ResolvedTree → Type 0
@@ -17,10 +19,19 @@ Fails j lo e f = (x : Env) (t : ℕ) → lo ≤ t → t ≤ e → sat j f x e t 
 abbrev pub told : Contents → List Region → (ℕ → ℕ) → Interpretation
 told s regions b = plain regions (trace_of (history_of s) b)
 
+-- What is told of these objects holds of an atom only where that is possible, where each position may be off by the error.
+abbrev pub TellsPossible : ℕ → Contents → List Region → (ℕ → ℕ) → Interpretation → Type 0
+TellsPossible error s regions b j =
+    (a : RAtom) (x : Env) (t : ℕ) → j.atom a x t ≡ true → possibly_holds error regions (trace_of (history_of s) b) b a x t ≡ true
+
+-- whatever is told so, the formula holds at no tick of lo to e
+abbrev pub CannotHold : ℕ → Contents → List Region → (ℕ → ℕ) → ℕ → ℕ → ResolvedTree → Type 0
+CannotHold error s regions b lo e f = (j : Interpretation) → TellsPossible error s regions b j → Fails j lo e f
+
 -- Ids, ascending. Where a variable has another object of the class, the formula holds at no tick of lo to e.
-pub record AreNeeded (s : Contents) (regions : List Region) (class v lo e : ℕ) (f : ResolvedTree) (ids : List ℕ) : Type 0 where
+pub record AreNeeded (error : ℕ) (s : Contents) (regions : List Region) (class v lo e : ℕ) (f : ResolvedTree) (ids : List ℕ) : Type 0 where
   pub ascending : IsStrictlyIncreasing ids
-  pub fails : (b : ℕ → ℕ) → has_id (ids_in s.objects class) (b v) ≡ true → has_id ids (b v) ≡ false → Fails (told s regions b) lo e f
+  pub fails : (b : ℕ → ℕ) → has_id (ids_in s.objects class) (b v) ≡ true → has_id ids (b v) ≡ false → CannotHold error s regions b lo e f
 
 -- whether a list, if there is one, doesn't have an id
 abbrev pub lacks : Option (List ℕ) → ℕ → Bool

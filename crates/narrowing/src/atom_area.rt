@@ -1,24 +1,28 @@
 //! The areas in which atoms need objects.
-ghost use Rattle.std.specs.Prelude.{◌≡◌, ℤ, true, List, IfSome, None, Some};
+ghost use Rattle.std.specs.Prelude.{◌≡◌, ℕ, ℤ, pos, neg_ℤ, true, List, IfSome, None, Some, option_map};
+ghost use Rattle.fixed_point.specs.declared.number.Point.{Point};
+ghost use Rattle.geometry.specs.Margin.{is_inside_by};
 ghost use Rattle.geometry.specs.Region.{Region};
 ghost use Rattle.case_table.specs.Comparison.{compares};
 ghost use Rattle.formula.specs.declared.tree.RAtom.TheVariants as atoms;
 ghost use Rattle.narrowing.specs.Covering.{Covers, area_beside, open_sides};
 ghost use Rattle.object_store.specs.Areas.{is_between};
 
+use crate::reaching::{Direction, reach};
 use crate::terms::{constant_of, coordinate_of};
 use case_table::Op;
 use fixed_point::Fix;
 use formula::{RAtom, RTerm};
 use object_store::{Area, Sides};
-use polygon::{Regions, polygons_lie_among_their_vertices};
+use polygon::{Polygon, Regions, corners_stand_together};
 
-/// An area in which the object of a variable is wherever an atom holds. None where none is known.
-pub(crate) fn area_of(a: &RAtom, var: u8, regions: &Regions) -> Option<Area>
-    ensures { IfSome result (λ area. Covers regions.now var a.now area) }
+/// An area in which the object of a variable is wherever an atom is possible, where each position may be off by the error.
+/// None where none is known.
+pub(crate) fn area_of(a: &RAtom, var: u8, regions: &Regions, error: u32) -> Option<Area>
+    ensures { IfSome result (λ area. Covers error regions.now var a.now area) }
 {
     match a {
-        RAtom::Inside(v, n) => area_of_region(*v, *n, var, regions),
+        RAtom::Inside(v, n) => area_of_region(*v, *n, var, regions, error),
         RAtom::Compare(left, op, right) => area_of_comparison(left, *op, right, var),
         RAtom::Outside(_, _) => None,
         RAtom::Dist(_, _, _, _) => None,
@@ -27,26 +31,45 @@ pub(crate) fn area_of(a: &RAtom, var: u8, regions: &Regions) -> Option<Area>
 }
 
 /// The box round a region, where it is this variable that is to be inside.
-fn area_of_region(v: u8, n: u32, var: u8, regions: &Regions) -> Option<Area>
-    ensures { IfSome result (λ area. Covers regions.now var (atoms.Inside v n) area) }
+fn area_of_region(v: u8, n: u32, var: u8, regions: &Regions, error: u32) -> Option<Area>
+    ensures { IfSome result (λ area. Covers error regions.now var (atoms.Inside v n) area) }
 {
-    polygons_lie_among_their_vertices();
+    corners_stand_together();
     if v != var {
         return None;
     }
     let polygon = regions.get(n)?;
-    // A polygon is convex.
-    let _ = polygon.len();
-    let (least, greatest) = polygon.bounds();
-    Some(Area {
-        x: sides_from(least.x, greatest.x),
-        y: sides_from(least.y, greatest.y),
-    })
+    Some(area_round(polygon, error))
+}
+
+/// The box of the places that are possibly in a polygon. It is wider than the error alone where a corner is sharp.
+fn area_round(polygon: &Polygon, error: u32) -> Area
+    ensures x { (p : Point) → is_inside_by (neg_ℤ (pos error)) polygon.now p ≡ true → is_between result.x p.x ≡ true }
+    ensures y { (p : Point) → is_inside_by (neg_ℤ (pos error)) polygon.now p ≡ true → is_between result.y p.y ≡ true }
+{
+    Area {
+        x: Sides {
+            least: negated(reach(polygon, Direction::Left, error)),
+            greatest: reach(polygon, Direction::Right, error),
+        },
+        y: Sides {
+            least: negated(reach(polygon, Direction::Down, error)),
+            greatest: reach(polygon, Direction::Up, error),
+        },
+    }
+}
+
+/// The number with the other sign.
+fn negated(a: Option<Fix>) -> Option<Fix>
+    ensures { result ≡ option_map neg_ℤ a }
+{
+    Fix::of(-a?.raw())
 }
 
 /// What is left of the plane where a coordinate of the variable's object compares with a constant, on either side.
 fn area_of_comparison(left: &RTerm, op: Op, right: &RTerm, var: u8) -> Option<Area>
-    ensures { IfSome result (λ area. (regions : List Region) → Covers regions var (atoms.Compare left.now op right.now) area) }
+    ensures { IfSome result (λ area. (error : ℕ) (regions : List Region)
+        → Covers error regions var (atoms.Compare left.now op right.now) area) }
 {
     match coordinate_of(left, var) {
         Some(index) => {

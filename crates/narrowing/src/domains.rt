@@ -2,7 +2,7 @@
 ghost use Rattle.std.specs.Prelude.{◌≡◌, ◌<◌, ◌≤◌, ◌+◌, [], Some, length, slice_index_or, IfOk, IfSome, OnOk};
 ghost use Rattle.formula_shape.specs.declared.limits.TheConstants.{OBJECT_LIMIT};
 ghost use Rattle.formula.specs.Tree.{query_view};
-ghost use Rattle.narrowing.specs.Narrowed.{AreOfClasses, IsShare, Suffice, SufficeSoFar};
+ghost use Rattle.narrowing.specs.Narrowed.{AreOfClasses, IsShare, Suffice, SufficeSoFar, SufficeWithin};
 
 use crate::lists::common;
 use crate::needed::needed;
@@ -12,6 +12,7 @@ use polygon::Regions;
 use relation::Domains;
 use std::alloc::{AllocError, Global};
 use tick_set::Window;
+use worlds::worlds_lie_between;
 
 /// So few objects are asked as soon as others are told apart.
 const FEW: usize = 32;
@@ -31,11 +32,30 @@ pub fn narrowed(
     ensures { IfOk result (λ found.
         IfSome found (λ some. Suffice store.now regions.now (query_view q.now) w.lo w.hi domains.now some)) }
 {
+    worlds_lie_between();
+    narrowed_within(alloc, q, domains, store, regions, 0, w)
+}
+
+/// The same where each position may be off by the error along each axis, in thousandths: with another object the formula
+/// holds at no tick of the window, whatever is told of atoms that is possible.
+pub fn narrowed_within(
+    alloc: Global,
+    q: &RQuery,
+    domains: &Domains,
+    store: &Store,
+    regions: &Regions,
+    error: u32,
+    w: Window,
+) -> Result<Option<Domains>, AllocError>
+    requires { AreOfClasses store.now (query_view q.now) domains.now }
+    ensures { IfOk result (λ found.
+        IfSome found (λ some. SufficeWithin error store.now regions.now (query_view q.now) w.lo w.hi domains.now some)) }
+{
     let mut some = Domains::new(alloc);
     let mut are_fewer = false;
     let count = domains.len() as u8;
-    'vars: for var in 0..count {
-        let is_narrowed = push_share(alloc, &mut some, var, q, domains, store, regions, w)?;
+    'vars: for _var in 0..count {
+        let is_narrowed = push_share(alloc, &mut some, q, domains, store, regions, error, w)?;
         are_fewer = are_fewer || is_narrowed;
     }
     if are_fewer { Ok(Some(some)) } else { Ok(None) }
@@ -45,22 +65,22 @@ pub fn narrowed(
 fn push_share(
     alloc: Global,
     some: &mut Domains,
-    var: u8,
     q: &RQuery,
     domains: &Domains,
     store: &Store,
     regions: &Regions,
+    error: u32,
     w: Window,
 ) -> Result<bool, AllocError>
     requires classes { AreOfClasses store.now (query_view q.now) domains.now }
-    requires next { var ≡ length some.old }
-    requires within { var < length domains.now }
+    requires within { length some.old < length domains.now }
     requires few { length domains.now ≤ OBJECT_LIMIT }
-    requires so_far { SufficeSoFar store.now regions.now (query_view q.now) w.lo w.hi domains.now some.old }
-    ensures count { OnOk result (length some.new ≡ var + 1) }
-    ensures so_far { OnOk result (SufficeSoFar store.now regions.now (query_view q.now) w.lo w.hi domains.now some.new) }
+    requires so_far { SufficeSoFar error store.now regions.now (query_view q.now) w.lo w.hi domains.now some.old }
+    ensures count { OnOk result (length some.new ≡ length some.old + 1) }
+    ensures so_far { OnOk result (SufficeSoFar error store.now regions.now (query_view q.now) w.lo w.hi domains.now some.new) }
 {
-    let share = share_of(alloc, var, q, domains, store, regions, w)?;
+    let var = next_variable(some);
+    let share = share_of(alloc, var, q, domains, store, regions, error, w)?;
     match share {
         Some(ids) => {
             some.push(alloc, &ids)?;
@@ -73,6 +93,14 @@ fn push_share(
     }
 }
 
+/// The first variable without objects.
+fn next_variable(some: &Domains) -> u8
+    requires { length some.now ≤ OBJECT_LIMIT }
+    ensures { result ≡ length some.now }
+{
+    some.len() as u8
+}
+
 /// What suffices of the objects of a variable. None where that isn't known or is most of them, or where there are few.
 fn share_of(
     alloc: Global,
@@ -81,19 +109,20 @@ fn share_of(
     domains: &Domains,
     store: &Store,
     regions: &Regions,
+    error: u32,
     w: Window,
 ) -> Result<Option<Vec<u32>>, AllocError>
     requires classes { AreOfClasses store.now (query_view q.now) domains.now }
     requires within { var < length domains.now }
     ensures { IfOk result (λ found. IfSome found (λ ids.
-        IsShare store.now regions.now (query_view q.now) w.lo w.hi var (slice_index_or domains.now var []) ids.items)) }
+        IsShare error store.now regions.now (query_view q.now) w.lo w.hi var (slice_index_or domains.now var []) ids.items)) }
 {
     let own = domains.of(var);
     if own.len() < FEW {
         return Ok(None);
     }
     let class = q.classes.items()[var as usize];
-    let found = needed(alloc, &q.formula, var, class, store, regions, w)?;
+    let found = needed(alloc, &q.formula, var, class, store, regions, error, w)?;
     match if_at_most(found, own.len() / 2) {
         Some(ids) => {
             let share = common(alloc, &ids, own)?;

@@ -1,13 +1,15 @@
 //! Which objects a query can be true of: those that can be where its formula needs them.
 //!
 //! A formula needs an object in an area where it can hold at no tick of a window while the object stays outside. The
-//! store tells the objects that can come into an area, and the others need not be asked. No timeline is looked at.
+//! store tells the objects that can come into an area, and the others need not be asked. No timeline is looked at. Where
+//! each position may be off by an error, the formula needs its objects in wider areas.
 #![tactic(auto)]
 
 mod atom_area;
 mod domains;
 mod lists;
 mod needed;
+mod reaching;
 mod terms;
 
-pub use domains::narrowed;
+pub use domains::{narrowed, narrowed_within};

@@ -18,7 +18,7 @@ use std::alloc::{AllocError, Global};
 use tick_set::Window;
 
 /// Ids, ascending. Where a variable has another object of the class, the formula holds at no tick of the window, after
-/// whose last tick nothing counts. None where no such ids are known.
+/// whose last tick nothing counts, though each position may be off by the error. None where no such ids are known.
 pub(crate) fn needed(
     alloc: Global,
     f: &RFormula,
@@ -26,41 +26,42 @@ pub(crate) fn needed(
     class: ClassId,
     store: &Store,
     regions: &Regions,
+    error: u32,
     w: Window,
 ) -> Result<Option<Vec<u32>>, AllocError>
     ensures { IfOk result (λ found.
-        IfSome found (λ ids. AreNeeded store.now regions.now class var w.lo w.hi (formula_view f.now) ids.items)) }
+        IfSome found (λ ids. AreNeeded error store.now regions.now class var w.lo w.hi (formula_view f.now) ids.items)) }
 {
     formulas_need_their_atoms();
     match f {
         RFormula::Truth(holds) => Ok(needed_by_truth(alloc, *holds)),
-        RFormula::Atom(a) => needed_by_atom(alloc, a, var, class, store, regions, w),
+        RFormula::Atom(a) => needed_by_atom(alloc, a, var, class, store, regions, error, w),
         RFormula::Not(_) => Ok(None),
         RFormula::And(left, right) => {
-            let left = needed(alloc, left, var, class, store, regions, w)?;
-            let right = needed(alloc, right, var, class, store, regions, w)?;
+            let left = needed(alloc, left, var, class, store, regions, error, w)?;
+            let right = needed(alloc, right, var, class, store, regions, error, w)?;
             let ids = of_either(alloc, left, right)?;
             Ok(ids)
         }
         RFormula::Or(left, right) => {
-            let left = needed(alloc, left, var, class, store, regions, w)?;
-            let right = needed(alloc, right, var, class, store, regions, w)?;
+            let left = needed(alloc, left, var, class, store, regions, error, w)?;
+            let right = needed(alloc, right, var, class, store, regions, error, w)?;
             let ids = of_both(left, right)?;
             Ok(ids)
         }
-        RFormula::Next(part) => needed(alloc, part, var, class, store, regions, w),
-        RFormula::Eventually(part) => needed(alloc, part, var, class, store, regions, w),
-        RFormula::Always(part) => needed(alloc, part, var, class, store, regions, w),
-        RFormula::Bounded(_, _, part) => needed(alloc, part, var, class, store, regions, w),
-        RFormula::Until(_, _, _, goal) => needed(alloc, goal, var, class, store, regions, w),
-        RFormula::Assign(_, _, part) => needed(alloc, part, var, class, store, regions, w),
+        RFormula::Next(part) => needed(alloc, part, var, class, store, regions, error, w),
+        RFormula::Eventually(part) => needed(alloc, part, var, class, store, regions, error, w),
+        RFormula::Always(part) => needed(alloc, part, var, class, store, regions, error, w),
+        RFormula::Bounded(_, _, part) => needed(alloc, part, var, class, store, regions, error, w),
+        RFormula::Until(_, _, _, goal) => needed(alloc, goal, var, class, store, regions, error, w),
+        RFormula::Assign(_, _, part) => needed(alloc, part, var, class, store, regions, error, w),
     }
 }
 
 /// FALSE needs what isn't there.
 fn needed_by_truth(alloc: Global, holds: bool) -> Option<Vec<u32>>
-    ensures { IfSome result (λ ids. (s : Contents) (regions : List Region) (class v lo hi : ℕ)
-        → AreNeeded s regions class v lo hi (shapes.Truth holds) ids.items) }
+    ensures { IfSome result (λ ids. (error : ℕ) (s : Contents) (regions : List Region) (class v lo hi : ℕ)
+        → AreNeeded error s regions class v lo hi (shapes.Truth holds) ids.items) }
 {
     if holds { None } else { Some(Vec::new(alloc)) }
 }
@@ -73,12 +74,13 @@ fn needed_by_atom(
     class: ClassId,
     store: &Store,
     regions: &Regions,
+    error: u32,
     w: Window,
 ) -> Result<Option<Vec<u32>>, AllocError>
     ensures { IfOk result (λ found.
-        IfSome found (λ ids. AreNeeded store.now regions.now class var w.lo w.hi (shapes.Atom a.now) ids.items)) }
+        IfSome found (λ ids. AreNeeded error store.now regions.now class var w.lo w.hi (shapes.Atom a.now) ids.items)) }
 {
-    match area_of(a, var, regions) {
+    match area_of(a, var, regions, error) {
         Some(area) => {
             let found = store.near(alloc, class, &area, w)?;
             Ok(found)

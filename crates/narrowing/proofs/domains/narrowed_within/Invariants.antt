@@ -1,10 +1,10 @@
 use Rattle.std.proofs.Common.{◌≡◌, length}
 use Rattle.formula.specs.Tree.{query_view}
 use Rattle.narrowing.specs.Narrowed.{SufficeSoFar}
-use Rattle.narrowing.proofs.domains.narrowed.Given as goal
+use Rattle.narrowing.proofs.domains.narrowed_within.Given as goal
 
 abbrev pub invariant-vars : goal.invariant-vars
 invariant-vars l = record {
-  many : length l.some ≡ l.var;
-  so_far : SufficeSoFar l.store l.regions (query_view l.q) l.w.lo l.w.hi l.domains l.some;
+  many : length l.some ≡ l._var;
+  so_far : SufficeSoFar l.error l.store l.regions (query_view l.q) l.w.lo l.w.hi l.domains l.some;
 }
