@@ -111,8 +111,9 @@ fn evaluate_all<'d, L: Ledger, M: Ledger>(
     Ok(rows)
 }
 
-// The same rows over wider domains: each of them gives its variables objects of the domains that it had.
-fn widened<'d>(
+/// The same rows over wider domains: each of them gives its variables objects of the domains that it had. It fails only
+/// where memory is out.
+pub fn widened<'d>(
     alloc: Global,
     rows: Relation<'_, IntervalSet>,
     d: &'d Domains,

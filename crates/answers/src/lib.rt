@@ -12,6 +12,6 @@ mod told;
 
 pub use asking::{answer_over, ask};
 pub use atoms::StoredWorld;
-pub use evaluating::{domains_of, evaluate, evaluate_alone};
+pub use evaluating::{domains_of, evaluate, evaluate_alone, widened};
 pub use laws::fitting_queries_can_be_asked;
 pub use told::{Answer, spans_of};

@@ -8,3 +8,4 @@ mod PlaceStateLemmas
 mod ReadLemmas
 mod AskLemmas
 mod QueryLemmas
+mod NarrowLemmas

@@ -38,6 +38,11 @@ abbrev pub margin_of : Bool → ℕ → ℤ
 margin_of true error = pos error
 margin_of false error = neg_ℤ (pos error)
 
+-- by how much positions may be off where this is told
+abbrev pub slack_of : Bool → ℕ → ℕ
+slack_of true error = 0
+slack_of false error = error
+
 -- whether it is in the region of a number, or isn't
 abbrev pub is_on_side : Bool → Bool → ℕ → List Region → ℕ → Point → Bool
 is_on_side true sure error regions n p = is_in_region_by (inside_by sure error) regions n p

@@ -17,10 +17,11 @@ ghost use Rattle.worlds.specs.Moved.{Move, is_world};
 ghost use Rattle.blur.specs.Answered.{HoldsInEachWorld, holds_blurred, holds_moved, told_in};
 
 use crate::objects::BlurredWorld;
-use answers::fitting_queries_can_be_asked;
+use answers::{fitting_queries_can_be_asked, widened};
 use evaluator::full_rows;
 use formula::RQuery;
 use interval_set::IntervalSet;
+use narrowing::narrowed_within;
 use relation::{Domains, Relation};
 use std::alloc::{AllocError, Global};
 use std::sync::ledger::Ledger;
@@ -62,8 +63,63 @@ pub fn blurred<'d, L: Ledger, M: Ledger>(
     ensures least { reads.old ≤ reads.new }
     ensures most { reads.new ≤ reads.old + query_reads (size_of d.now) (w.hi + 1 - w.lo) (query_view q.now) }
 {
-    fitting_queries_can_be_asked();
     worlds_lie_between();
+    let rows = rows_narrowed(alloc, q, d, world, w, reads, probes)?;
+    Ok(rows)
+}
+
+// The same, where no object is asked that can't be where the formula needs it.
+fn rows_narrowed<'d, L: Ledger, M: Ledger>(
+    alloc: Global,
+    q: &RQuery,
+    d: &'d Domains,
+    world: &BlurredWorld,
+    w: Window,
+    reads: &mut Steps<L>,
+    probes: &mut Steps<M>,
+) -> Result<Relation<'d, IntervalSet>, AllocError>
+    requires accepted { IsOfAcceptedWrites world.now.store.now }
+    requires resolved { IsResolved (query_view q.now) }
+    requires fits { FitsItsClasses (told_in world.now) (query_view q.now) }
+    requires domains { AreOfItsClasses (catalog_of world.now.store.now) (query_view q.now) d.now }
+    requires length { w.hi - w.lo ≤ SPAN_LIMIT }
+    ensures rows { IfOk result (AreRowsWhere spans_have d.now w.lo w.hi (between 0 (length q.now.classes))
+        (holds_blurred world.now (query_view q.now) w.hi)) }
+    ensures least { reads.old ≤ reads.new }
+    ensures most { reads.new ≤ reads.old + query_reads (size_of d.now) (w.hi + 1 - w.lo) (query_view q.now) }
+{
+    worlds_lie_between();
+    let (store, regions, slack) = (world.store, world.regions, world.blur.slack());
+    let Some(some) = narrowed_within(alloc, q, d, store, regions, slack, w)? else {
+        let rows = rows_of_all(alloc, q, d, world, w, reads, probes)?;
+        return Ok(rows);
+    };
+    let rows = rows_of_all(alloc, q, &some, world, w, reads, probes)?;
+    let made = widened(alloc, rows, d)?;
+    Ok(made)
+}
+
+// The same, where each object of the domains is asked.
+fn rows_of_all<'d, L: Ledger, M: Ledger>(
+    alloc: Global,
+    q: &RQuery,
+    d: &'d Domains,
+    world: &BlurredWorld,
+    w: Window,
+    reads: &mut Steps<L>,
+    probes: &mut Steps<M>,
+) -> Result<Relation<'d, IntervalSet>, AllocError>
+    requires accepted { IsOfAcceptedWrites world.now.store.now }
+    requires resolved { IsResolved (query_view q.now) }
+    requires fits { FitsItsClasses (told_in world.now) (query_view q.now) }
+    requires domains { AreOfItsClasses (catalog_of world.now.store.now) (query_view q.now) d.now }
+    requires length { w.hi - w.lo ≤ SPAN_LIMIT }
+    ensures rows { IfOk result (AreRowsWhere spans_have d.now w.lo w.hi (between 0 (length q.now.classes))
+        (holds_blurred world.now (query_view q.now) w.hi)) }
+    ensures least { reads.old ≤ reads.new }
+    ensures most { reads.new ≤ reads.old + query_reads (size_of d.now) (w.hi + 1 - w.lo) (query_view q.now) }
+{
+    fitting_queries_can_be_asked();
     let rows = full_rows(alloc, world, q, d, w, reads, probes)?;
     Ok(rows)
 }

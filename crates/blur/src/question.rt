@@ -1,6 +1,6 @@
 //! By how much positions may be off, and what is asked of them.
 ghost use Rattle.std.specs.Prelude.{◌≡◌, not, pos};
-ghost use Rattle.blur.specs.Asked.{margin_of};
+ghost use Rattle.blur.specs.Asked.{margin_of, slack_of};
 
 use fixed_point::{Fix, Slope};
 use polygon::Margin;
@@ -35,6 +35,13 @@ impl Blur {
             sure: self.sure,
             error: 0,
         }
+    }
+
+    /// The most that a position may be off by where this is told: what surely holds, holds where none is off.
+    pub fn slack(self) -> u32
+        ensures { result ≡ slack_of self.sure self.error }
+    {
+        if self.sure { 0 } else { self.error }
     }
 
     /// By how much a place has to be inside a polygon along each axis.

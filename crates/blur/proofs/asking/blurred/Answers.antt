@@ -1,8 +1,6 @@
-use Rattle.std.proofs.Common.{◌≡◌, ℕ, ◌&&◌, Bool, true, refl, sym, ap, subst, ◌∙◌}
+use Rattle.std.proofs.Common.{◌≡◌, ◌&&◌, Bool, true, sym, ap, ◌∙◌}
 use Rattle.std.proofs.lemmas.Bool.{and_from, and_parts}
-use Rattle.atoms.specs.Asked.{CanAskAtom, CanAskTerm, told_by}
-use Rattle.evaluator.specs.Interpreting.{IsOver}
-use Rattle.formula.specs.Tree.{formula_view, query_view}
+use Rattle.formula.specs.Tree.{query_view}
 use Rattle.formula.specs.Value.{no_values}
 use Rattle.meaning.specs.Satisfaction.{sat}
 use Rattle.tick_set.specs.Ticks.{within}
@@ -10,27 +8,8 @@ use Rattle.worlds.specs.Blurred.{blurred}
 use Rattle.worlds.specs.Moved.{in_world}
 use Rattle.blur.specs.Answered.{holds_blurred, told_in}
 use Rattle.blur.specs.World.{blurred_by}
-use Rattle.blur.proofs.QueryLemmas.{asked_alike, holds_more}
+use Rattle.blur.proofs.QueryLemmas.{holds_more}
 use Rattle.blur.proofs.asking.blurred.Goals as goal
-
-pub full_rows-requires-clause-over : goal.full_rows-requires-clause-over
-full_rows-requires-clause-over g c =
-    subst (λ (n : ℕ). IsOver n (formula_view c.args.q.now.formula)) (sym c.requires.domains.many)
-    (c.fitting_queries_can_be_asked.ensures.over (query_view c.args.q.now) c.requires.resolved)
-
-pub full_rows-requires-clause-can : goal.full_rows-requires-clause-can
-full_rows-requires-clause-can g c =
-    let world = c.args.world.now in
-    let s = world.store.now in
-    let w = c.args.w in
-    asked_alike (told_by s world.regions.now) (blurred_by world.blur s world.regions.now) (λ b q x t. refl)
-    (λ b a x. CanAskAtom s w.lo w.hi b a) (λ b p x. CanAskTerm s w.lo w.hi b p x) c.args.d.now w.lo w.hi (formula_view c.args.q.now.formula) no_values
-    (c.fitting_queries_can_be_asked.ensures.asked s world.regions.now (query_view c.args.q.now) c.args.d.now w.lo w.hi
-    c.requires.accepted c.requires.resolved c.requires.fits c.requires.domains w.in_range c.requires.length)
-
-pub full_rows-requires-clause-objects : goal.full_rows-requires-clause-objects
-full_rows-requires-clause-objects g c =
-    c.fitting_queries_can_be_asked.ensures.objects c.args.world.now.store.now (query_view c.args.q.now) c.args.d.now c.requires.domains
 
 pub returns-clause-surely : goal.returns-clause-surely
 returns-clause-surely g c = λ sure none b objects t had moves is_world.
