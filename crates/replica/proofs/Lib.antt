@@ -1,6 +1,7 @@
 pub mod CallerLemmas
 pub mod DigitLemmas
 pub mod FeedLemmas
+pub mod FrontLemmas
 pub mod HaveLemmas
 pub mod OrderLemmas
 pub mod PrintedLemmas

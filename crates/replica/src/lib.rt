@@ -3,6 +3,7 @@
 
 mod copied;
 mod examples;
+mod fronts;
 mod laws;
 mod line;
 mod replica;

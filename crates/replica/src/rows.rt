@@ -2,19 +2,23 @@
 ghost use Rattle.std.specs.Prelude.{◌≡◌, ◌++◌, ℕ, [], map, nat_le, OnOk, OnErr, IfOk};
 ghost use Rattle.std.specs.List.{flat_map, list_any};
 ghost use Rattle.std.specs.BTreeMap.{insert_entry};
-ghost use Rattle.tick_set.specs.Runs.{pairs, spans_have};
+ghost use Rattle.tick_set.specs.Runs.{IsNormal, pairs, spans_have};
 ghost use Rattle.tick_set.specs.SetOperation.{kept};
 ghost use Rattle.replica.specs.Text.{Begins};
 ghost use Rattle.replica.specs.Messages.{row_view};
 ghost use Rattle.replica.specs.Rows.{bytes_cmp, changed, row_text, rows_text, run_text, span_text, ticks_at};
-ghost use Rattle.replica.specs.Ticks.{combined};
+ghost use Rattle.replica.specs.Ticks.{StayBefore, combined};
 
+use crate::fronts::{front_len, joined};
 use interval_set::IntervalSet;
 use itoa::Buffer;
 use std::alloc::{AllocError, Global};
 use std::collections::BTreeMap;
 use std::marker::Model;
 use tick_set::{SetOperation, Span, TickSet};
+
+// Fewer runs than these are made anew with the others.
+const SHORT: usize = 8;
 
 /// A target and ticks that a line tells of it.
 #[derive(Drop)]
@@ -127,8 +131,8 @@ fn kept(
     }
 }
 
-// The ticks of both that the operation keeps, as maximal runs.
-fn combined(
+// The same, as maximal runs.
+fn made_anew(
     alloc: Global,
     operation: SetOperation,
     old: &IntervalSet,
@@ -139,6 +143,55 @@ fn combined(
     let made = kept(alloc, operation, old, told)?;
     let _runs = made.spans();
     Ok(made)
+}
+
+// The ticks of both that the operation keeps, as maximal runs. Those that end before the first tick told are copied.
+fn combined(
+    alloc: Global,
+    operation: SetOperation,
+    old: &IntervalSet,
+    told: &IntervalSet,
+) -> Result<IntervalSet, AllocError>
+    ensures { IfOk result (λ r. pairs r ≡ combined operation (pairs old.now) (pairs told.now)) }
+{
+    let runs = old.spans();
+    let count = front_len(operation, runs, told.spans());
+    if count < SHORT {
+        return made_anew(alloc, operation, old, told);
+    }
+    let (front, tail) = runs.split_at(count);
+    changed_behind(alloc, operation, front, tail, told)
+}
+
+// The same, of runs of which those in front stay as they are.
+fn changed_behind(
+    alloc: Global,
+    operation: SetOperation,
+    front: &[Span],
+    tail: &[Span],
+    told: &IntervalSet,
+) -> Result<IntervalSet, AllocError>
+    requires normal { IsNormal (front.now ++ tail.now) }
+    requires stay { StayBefore operation front.now told.now }
+    ensures { IfOk result (λ r. pairs r ≡ combined operation (pairs (front.now ++ tail.now)) (pairs told.now)) }
+{
+    let made = tail_after(alloc, operation, tail, told)?;
+    let whole = joined(alloc, front, made.spans())?;
+    Ok(whole)
+}
+
+// What the operation keeps of a tail.
+fn tail_after(
+    alloc: Global,
+    operation: SetOperation,
+    tail: &[Span],
+    told: &IntervalSet,
+) -> Result<IntervalSet, AllocError>
+    requires { IsNormal tail.now }
+    ensures { IfOk result (λ r. (t : ℕ) → spans_have r t ≡ kept operation (spans_have tail.now t) (spans_have told.now t)) }
+{
+    let before = IntervalSet::from_runs(Vec::from_slice(alloc, tail)?);
+    kept(alloc, operation, &before, told)
 }
 
 #[tactic(auto, using(crate::proofs::BeginLemmas::begins_through, crate::proofs::BeginLemmas::begins_more))]
