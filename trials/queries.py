@@ -428,8 +428,11 @@ class Maker:
         """A line of a session with a fleet."""
         sort = self.draw.randrange(100)
         name = f"w{self.draw.randrange(4)}"
-        if sort < 50:
+        if sort < 35:
             return self.placed_query("ask", 70_000)
+        if sort < 50:
+            error = self.one_of(["0", "0.5", "3", "3", "20", "60.001"])
+            return self.placed_query(f"{self.one_of(['must', 'may'])} {error}", 1_100)
         if sort < 55:
             return self.placed_query(f"{self.one_of(['watch', 'keep'])} {name}", 20)
         if sort < 60:
