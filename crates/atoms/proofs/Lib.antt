@@ -1,10 +1,13 @@
+pub mod AttributeLemmas
 pub mod CircleLemmas
 pub mod CompareLemmas
 pub mod CourseLemmas
 pub mod GatherLemmas
+pub mod NamingLemmas
 pub mod PartLemmas
 pub mod PlaceLemmas
 pub mod ProbeLemmas
+pub mod RouteLemmas
 pub mod RunLemmas
 pub mod SizeLemmas
 pub mod StraightLemmas

@@ -2,8 +2,10 @@ pub mod Asked
 pub mod Courses
 pub mod Found
 pub mod Gathered
+pub mod Naming
 pub mod Parts
 pub mod Presence
 pub mod Probes
+pub mod Routes
 pub mod Sizes
 pub mod ValueRuns

@@ -1,5 +1,5 @@
 //! The ticks of a part at which some objects fit a circle.
-ghost use Rattle.std.specs.Prelude.{◌≡◌, ◌==◌, ◌+◌, ◌-◌, ◌<◌, ◌≤◌, ◌&&◌, ℕ, pos, ◌≤ℤ◌, true, false, All, None, Some, IfSome, length, option_map, take};
+ghost use Rattle.std.specs.Prelude.{◌≡◌, ◌==◌, ◌+◌, ◌-◌, ◌<◌, ◌≤◌, ◌&&◌, ℕ, pos, ◌≤ℤ◌, true, false, All, None, Some, IfSome, IsTrue, length, option_map, take};
 ghost use Rattle.std.specs.List.{list_any};
 ghost use Rattle.std.specs.Option.{option_map_or};
 ghost use Rattle.distance_crossing.specs.NearTicks.{positions_after};
@@ -11,6 +11,7 @@ ghost use Rattle.tick_set.specs.Ticks.{within};
 ghost use Rattle.tick_set.specs.declared.spans.TheConstants.{SPAN_LIMIT};
 ghost use Rattle.formula_shape.specs.declared.limits.TheConstants.{OBJECT_LIMIT};
 ghost use Rattle.atoms.specs.Found.{AreFound};
+ghost use Rattle.atoms.specs.Naming.{asks_place};
 ghost use Rattle.atoms.specs.Parts.{AreSteady, epoch_of, shown};
 
 use crate::found::{nowhere, one_run};
@@ -37,6 +38,7 @@ pub fn in_circle<M: Ledger>(r: Fix, vs: &[u8], part: &Part, probes: &mut Steps<M
     requires most { r ≤ℤ pos RADIUS_LIMIT }
     requires few { length vs.now ≤ OBJECT_LIMIT }
     requires steady { AreSteady part.now }
+    requires asked { IsTrue (asks_place part.now.asked) }
     requires length { part.now.span.hi - part.now.span.lo ≤ SPAN_LIMIT }
     ensures runs { AreFound (λ t. within part.now.span.lo part.now.span.hi t
         && option_map_or (fits r) (positions_of (shown part.now) t vs.now) false) result }
@@ -53,6 +55,7 @@ pub fn in_circle<M: Ledger>(r: Fix, vs: &[u8], part: &Part, probes: &mut Steps<M
 fn lines_of(vs: &[u8], part: &Part) -> Option<Lines>
     requires few { length vs.now ≤ OBJECT_LIMIT }
     requires steady { AreSteady part.now }
+    requires asked { IsTrue (asks_place part.now.asked) }
     ensures count { IfSome result (λ lines. lines.len ≤ OBJECT_LIMIT) }
     ensures reach { IfSome result (λ lines. All IsInReach (take lines.len lines.items)) }
     ensures places { (t : ℕ) → part.now.span.lo ≤ t → t ≤ part.now.span.hi

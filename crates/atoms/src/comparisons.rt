@@ -7,6 +7,7 @@ ghost use Rattle.meaning.specs.Value.{term_value, texts_compare, values_compare}
 ghost use Rattle.tick_set.specs.Ticks.{within};
 ghost use Rattle.atoms.specs.Courses.{IsCourseOf, IsTrendOf, value_along};
 ghost use Rattle.atoms.specs.Found.{AreFound};
+ghost use Rattle.atoms.specs.Naming.{asks_term};
 ghost use Rattle.atoms.specs.Parts.{AreSteady, shown};
 ghost use Rattle.atoms.specs.Sizes.{is_sized_term};
 
@@ -26,6 +27,8 @@ pub fn compared(left: &RTerm, op: Op, right: &RTerm, part: &Part, env: &Env) -> 
     requires left_sized { IsTrue (is_sized_term left.now) }
     requires right_sized { IsTrue (is_sized_term right.now) }
     requires steady { AreSteady part.now }
+    requires left_asked { IsTrue (asks_term part.now.asked left.now) }
+    requires right_asked { IsTrue (asks_term part.now.asked right.now) }
     ensures { AreFound (λ t. within part.now.span.lo part.now.span.hi t
         && values_compare op (term_value (shown part.now) left.now env.now t) (term_value (shown part.now) right.now env.now t))
         result }

@@ -8,6 +8,7 @@ ghost use Rattle.meaning.specs.Atom.{distance_holds, position_in};
 ghost use Rattle.tick_set.specs.Ticks.{within};
 ghost use Rattle.tick_set.specs.declared.spans.TheConstants.{SPAN_LIMIT};
 ghost use Rattle.atoms.specs.Found.{AreFound};
+ghost use Rattle.atoms.specs.Naming.{asks_place};
 ghost use Rattle.atoms.specs.Parts.{AreSteady, epoch_of, shown};
 
 use crate::found::nowhere;
@@ -33,6 +34,7 @@ pub fn at_distance<M: Ledger>(
 ) -> Triple
     requires sized { IsTrue (is_within READ_LIMIT c) }
     requires steady { AreSteady part.now }
+    requires asked { IsTrue (asks_place part.now.asked) }
     requires length { part.now.span.hi - part.now.span.lo ≤ SPAN_LIMIT }
     ensures runs { AreFound (λ t. within part.now.span.lo part.now.span.hi t
         && distance_holds op c (position_in t (shown part.now from t)) (position_in t (shown part.now to t))) result }

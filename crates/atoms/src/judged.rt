@@ -5,6 +5,7 @@ ghost use Rattle.meaning.specs.Atom.{atom_holds};
 ghost use Rattle.tick_set.specs.Ticks.{within};
 ghost use Rattle.tick_set.specs.declared.spans.TheConstants.{SPAN_LIMIT};
 ghost use Rattle.atoms.specs.Found.{AreFound};
+ghost use Rattle.atoms.specs.Naming.{asks_atom};
 ghost use Rattle.atoms.specs.Parts.{AreSteady, epoch_of, shown};
 ghost use Rattle.atoms.specs.Probes.{probe_limit};
 ghost use Rattle.atoms.specs.Sizes.{is_sized};
@@ -30,6 +31,7 @@ pub fn judged<M: Ledger>(
 ) -> Triple
     requires sized { IsTrue (is_sized a.now) }
     requires steady { AreSteady part.now }
+    requires asked { IsTrue (asks_atom part.now.asked a.now) }
     requires length { part.now.span.hi - part.now.span.lo ≤ SPAN_LIMIT }
     ensures runs { AreFound (λ t. within part.now.span.lo part.now.span.hi t
         && atom_holds regions.now (shown part.now) a.now env.now t) result }

@@ -6,6 +6,7 @@
 //! an atom holds there at up to three runs of ticks, which are told by the lines alone.
 #![tactic(auto)]
 
+mod attributes;
 mod circles;
 mod comparisons;
 mod distances;
@@ -13,9 +14,11 @@ mod found;
 mod judged;
 mod laws;
 mod lines;
+mod naming;
 mod parts;
 mod positions;
 mod present;
+mod routes;
 mod straight;
 mod straight_terms;
 mod terms;

@@ -23,9 +23,9 @@ pub fn line_of(v: u8, variables: &[u8], timelines: &[&Timeline], w: Window) -> O
     straight_line(timeline, w.span())
 }
 
-// The timeline of a variable.
+/// The timeline of a variable.
 #[inline(always)]
-fn timeline_of<'a>(v: u8, variables: &[u8], timelines: &[&'a Timeline]) -> Option<&'a Timeline>
+pub fn timeline_of<'a>(v: u8, variables: &[u8], timelines: &[&'a Timeline]) -> Option<&'a Timeline>
     ensures { option_copied result ≡ beside variables.now (epochs_of_each timelines.now) v }
 {
     for k in 0..variables.len() {

@@ -1,29 +1,32 @@
 //! The timelines of the variables of an atom or a term, and the common parts of these timelines.
-ghost use Rattle.std.specs.Prelude.{◌≡◌, ◌+◌, ◌<◌, ◌≤◌, ℕ, All, IfSome, None, length, map, slice_index, slice_index_or, take, unwrap_or};
+ghost use Rattle.std.specs.Prelude.{◌≡◌, ◌+◌, ◌≤◌, ℕ, true, All, IfSome, None, length, map, slice_index, slice_index_or, take, unwrap_or};
 ghost use Rattle.std.specs.Option.{option_copied};
 ghost use Rattle.tick_set.specs.declared.spans.TheConstants.{LAST_TICK};
 ghost use Rattle.motion.specs.Timeline.{state_at};
 ghost use Rattle.object_store.specs.Contents.{history_of};
-ghost use Rattle.courses.specs.Parts.{epochs_of_each, pieces_of_all};
+ghost use Rattle.courses.specs.Parts.{AreBegun, epochs_of_each};
+ghost use Rattle.motion.specs.Pieces.{is_asked};
 ghost use Rattle.meaning.specs.Trace.{trace_of};
 ghost use Rattle.meaning.specs.Value.{cell_in};
-ghost use Rattle.atoms.specs.Parts.{AreAscending, AreBegun, AreSteady, HasObject, IsSteadyCell, beside, epoch_of, epochs_of, held, shown, trace_by};
+ghost use Rattle.atoms.specs.Parts.{AreAscending, AreSteady, HasObject, IsPartFrom, IsSteadyCell, beside, epoch_of, epochs_of, held};
 
-use courses::{MOST_TIMELINES, common_from};
+use courses::{MOST_TIMELINES, common_for};
 use formula::Binding;
-use motion::{Cell, Epoch, Timeline};
+use motion::{Asked, Cell, Epoch, Timeline};
 use object_store::Store;
 use std::sync::ledger::Ledger;
 use steps::Steps;
 use tick_set::{LAST_TICK, Span};
 
-/// Ticks in which the object of each of some variables has one epoch in force, or none yet, and each dynamic
-/// attribute moves by one slope.
+/// Ticks in which the object of each of some variables has one epoch in force, or none yet, and each asked
+/// dynamic attribute moves by one slope.
 #[derive(Clone, Copy)]
 pub struct Part<'a> {
     pub span: Span,
     /// The variables, and their epochs in the same order.
     pub variables: &'a [u8],
+    /// The attributes that are asked of each.
+    pub asked: Asked<'a>,
     pub epochs: [Option<&'a Epoch>; MOST_TIMELINES],
 }
 
@@ -35,10 +38,11 @@ impl<'a> Part<'a> {
         beside(self.variables, &self.epochs, v)
     }
 
-    /// The cell of an attribute of the object of a variable, counted from 0. None where the object is absent
+    /// The cell of an asked attribute of the object of a variable, counted from 0. None where the object is absent
     /// or has no such attribute.
     pub fn cell(&self, v: u8, a: u8) -> Option<&'a Cell>
-        requires { AreSteady self.now }
+        requires steady { AreSteady self.now }
+        requires asked { is_asked self.now.asked a ≡ true }
         ensures value { option_copied result ≡ cell_in (held self.now v) a }
         ensures steady { IfSome result (λ cell. IsSteadyCell cell.now self.now.span.lo self.now.span.hi) }
     {
@@ -95,35 +99,31 @@ fn object_of(b: &Binding, v: u8) -> u32
     b.get(v as usize).unwrap_or(0)
 }
 
-/// The common part of the timelines of these variables that begins at tick `at`. It ends by `last`, and the
-/// next part begins at the tick past it.
+/// The common part of the timelines of these variables that begins at tick `at`, for the attributes that are asked of
+/// each. It ends by `last`, and the next part begins at the tick past it. As many epochs of each timeline as `begun` says
+/// begin by `at`; it is moved on to the tick past the part.
 pub fn part_from<'a>(
     variables: &'a [u8],
+    asked: Asked<'a>,
     timelines: &[&'a Timeline],
+    begun: &mut [usize; MOST_TIMELINES],
     at: u32,
     last: u32,
 ) -> Part<'a>
     requires few { length timelines.now ≤ MOST_TIMELINES }
     requires same { length variables.now ≡ length timelines.now }
     requires ascending { AreAscending variables.now }
+    requires begun { AreBegun (epochs_of_each timelines.now) at begun.old }
     requires order { at ≤ last }
     requires tick { last ≤ LAST_TICK }
-    ensures begins { result.span.lo ≡ at }
-    ensures within { result.span.hi ≤ last }
-    ensures variables { result.variables.now ≡ variables.now }
-    ensures shown { (v t : ℕ) → result.span.lo ≤ t → t ≤ result.span.hi
-        → trace_by variables.now (epochs_of_each timelines.now) v t ≡ shown result v t }
-    ensures steady { AreSteady result }
-    ensures fewer { 0 < length timelines.now → AreBegun result
-        → pieces_of_all (epochs_of_each timelines.now) (result.span.hi + 1) last
-        < pieces_of_all (epochs_of_each timelines.now) at last }
-    ensures not_more { pieces_of_all (epochs_of_each timelines.now) (result.span.hi + 1) last
-        ≤ pieces_of_all (epochs_of_each timelines.now) at last }
+    ensures part { IsPartFrom variables.now asked.entry (epochs_of_each timelines.now) at last result }
+    ensures begun { AreBegun (epochs_of_each timelines.now) (result.span.hi + 1) begun.new }
 {
-    let common = common_from(timelines, at, last);
+    let common = common_for(timelines, &[asked; MOST_TIMELINES], begun, at, last);
     Part {
         span: common.span,
         variables,
+        asked,
         epochs: common.epochs,
     }
 }

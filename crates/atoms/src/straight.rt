@@ -1,7 +1,10 @@
 //! The ticks at which an atom holds whose objects move along one line each throughout the window, as most do.
-ghost use Rattle.std.specs.Prelude.{◌≡◌, ◌+◌, ◌-◌, ◌*◌, ◌≤◌, ◌&&◌, IfNone, IfSome, IsTrue};
+ghost use Rattle.std.specs.Prelude.{◌≡◌, ◌+◌, ◌-◌, ◌*◌, ◌≤◌, ◌&&◌, nat_le, if◌then◌else◌, IfNone, IfSome, IsTrue};
 ghost use Rattle.courses.specs.Parts.{epochs_of_each, pieces_of_all};
-ghost use Rattle.meaning.specs.Atom.{atom_holds};
+ghost use Rattle.distance_crossing.specs.declared.near.TheConstants.{SHORT_WINDOW};
+ghost use Rattle.fixed_point.specs.declared.number.TheConstants.{READ_LIMIT};
+ghost use Rattle.formula.specs.Resolved.{is_within};
+ghost use Rattle.meaning.specs.Atom.{atom_holds, distance_holds, position_in};
 ghost use Rattle.tick_set.specs.Ticks.{within};
 ghost use Rattle.tick_set.specs.declared.spans.TheConstants.{SPAN_LIMIT};
 ghost use Rattle.atoms.specs.Found.{AreFound};
@@ -14,8 +17,11 @@ use crate::distances::apart;
 use crate::found::{one_run, outside_of};
 use crate::lines::line_of;
 use crate::positions::inside_run;
+use crate::routes::{route_of, ticks_apart};
 use crate::straight_terms::straight_trend;
+use case_table::Op;
 use distance_crossing::Triple;
+use fixed_point::Fix;
 use formula::{Env, RAtom};
 use motion::Timeline;
 use polygon::Regions;
@@ -54,9 +60,7 @@ pub fn straight_ticks<M: Ledger>(
             Some(outside_of(w.span(), inner))
         }
         RAtom::Dist(from, to, op, c) => {
-            let first = line_of(*from, variables, timelines, w)?;
-            let second = line_of(*to, variables, timelines, w)?;
-            Some(apart(&first, &second, *op, *c, w, probes))
+            straight_distance(*from, *to, *op, *c, variables, timelines, w, probes)
         }
         RAtom::Compare(left, op, right) => {
             let left = straight_trend(left, variables, timelines, env, w)?;
@@ -65,4 +69,35 @@ pub fn straight_ticks<M: Ledger>(
         }
         RAtom::Sphere(_, _) => None,
     }
+}
+
+// The same of the distance of two objects. Where they aren't on one line each, it is told where they keep apart.
+#[inline(always)]
+fn straight_distance<M: Ledger>(
+    from: u8,
+    to: u8,
+    op: Op,
+    c: Fix,
+    variables: &[u8],
+    timelines: &[&Timeline],
+    w: Window,
+    probes: &mut Steps<M>,
+) -> Option<Triple>
+    requires sized { IsTrue (is_within READ_LIMIT c) }
+    requires length { w.hi - w.lo ≤ SPAN_LIMIT }
+    ensures runs { IfSome result (λ found. AreFound (λ t. within w.lo w.hi t && distance_holds op c
+        (position_in t (trace_by variables.now (epochs_of_each timelines.now) from t))
+        (position_in t (trace_by variables.now (epochs_of_each timelines.now) to t))) found) }
+    ensures cost { IfSome result (λ found. probes.new ≤ probes.old
+        + (if nat_le (w.hi - w.lo) SHORT_WINDOW then 47 else 63) * pieces_of_all (epochs_of_each timelines.now) w.lo w.hi) }
+    ensures none { IfNone result (probes.new ≡ probes.old) }
+{
+    if let Some(first) = line_of(from, variables, timelines, w) {
+        if let Some(second) = line_of(to, variables, timelines, w) {
+            return Some(apart(&first, &second, op, c, w, probes));
+        }
+    }
+    let first = route_of(from, variables, timelines, w)?;
+    let second = route_of(to, variables, timelines, w)?;
+    ticks_apart(&first, &second, op, c, w)
 }

@@ -1,17 +1,20 @@
-//! The course of a term of one factor, whose object moves along one line throughout the window.
+//! The course of a term of one factor, whose attribute moves by one slope throughout the window, or rests.
 ghost use Rattle.std.specs.Prelude.{◌≡◌, ℕ, ◌-◌, ◌≤◌, pos, ◌+ℤ◌, ◌*ℤ◌, Some, IfSome, IsTrue, option_map, [], ◌∷◌};
 ghost use Rattle.courses.specs.Parts.{epochs_of_each};
 ghost use Rattle.formula.specs.declared.value.Value.TheVariants as values;
 ghost use Rattle.formula_shape.specs.declared.limits.TheConstants.{FACTOR_LIMIT};
 ghost use Rattle.linear_crossing.specs.Moving.{IsInReach, position_after};
 ghost use Rattle.linear_crossing.specs.Zones.{line_at};
-ghost use Rattle.meaning.specs.Value.{term_value, unit_value};
+ghost use Rattle.meaning.specs.Value.{cell_in, cell_value, term_value, unit_value};
 ghost use Rattle.atoms.specs.Courses.{IsTrendOf, IsUnitCourse, coordinate, course_value, value_along};
 ghost use Rattle.atoms.specs.Parts.{trace_by};
 ghost use Rattle.atoms.specs.Sizes.{is_sized_term};
 
+use crate::attributes::cell_throughout;
 use crate::lines::line_of;
-use crate::terms::{Course, course_of_value, resting, signed, time_from};
+use crate::terms::{
+    Course, course_of_cell, course_of_sub, course_of_value, resting, signed, time_from,
+};
 use crate::trends::Trend;
 use fixed_point::{Fix, Slope};
 use formula::{Env, RSigned, RTerm, RUnit};
@@ -66,13 +69,55 @@ fn straight_unit(
     match unit {
         RUnit::Literal(number) => Some(resting(*number)),
         RUnit::Var(depth, _) => Some(course_of_value(&env.get(*depth)?)),
-        RUnit::Attr(v, a, _) => {
-            let line = line_of(*v, variables, timelines, w)?;
-            coordinate_along(&line, *a)
+        RUnit::Attr(v, a, _) => straight_attribute(*v, *a, variables, timelines, w),
+        RUnit::Sub(v, a, name) => {
+            let cell = cell_throughout(*v, *a, variables, timelines, w)?;
+            course_of_sub(*name, cell, w.span())
         }
         RUnit::Time => Some(time_from(w.lo)),
-        RUnit::Text(_) | RUnit::Sub(_, _, _) => None,
+        RUnit::Text(_) => None,
     }
+}
+
+// The course of an attribute throughout the window. None tells nothing.
+fn straight_attribute(
+    v: u8,
+    a: u8,
+    variables: &[u8],
+    timelines: &[&Timeline],
+    w: Window,
+) -> Option<Course>
+    ensures value { IfSome result (λ course. (t : ℕ) → w.lo ≤ t → t ≤ w.hi
+        → option_map (λ cell. cell_value cell t) (cell_in (trace_by variables.now (epochs_of_each timelines.now) v t) a)
+        ≡ Some (course_value w.lo t course)) }
+    ensures small { IfSome result IsUnitCourse }
+{
+    match coordinate_of(v, a, variables, timelines, w) {
+        Some(course) => Some(course),
+        None => {
+            let cell = cell_throughout(v, a, variables, timelines, w)?;
+            Some(course_of_cell(cell, w.span()))
+        }
+    }
+}
+
+// The course of an attribute that is a coordinate of the line along which its object moves, with no look at the epochs. None
+// tells nothing.
+#[inline]
+fn coordinate_of(
+    v: u8,
+    a: u8,
+    variables: &[u8],
+    timelines: &[&Timeline],
+    w: Window,
+) -> Option<Course>
+    ensures value { IfSome result (λ course. (t : ℕ) → w.lo ≤ t → t ≤ w.hi
+        → option_map (λ cell. cell_value cell t) (cell_in (trace_by variables.now (epochs_of_each timelines.now) v t) a)
+        ≡ Some (course_value w.lo t course)) }
+    ensures small { IfSome result IsUnitCourse }
+{
+    let line = line_of(v, variables, timelines, w)?;
+    coordinate_along(&line, a)
 }
 
 // The coordinate of an index along a line.

@@ -8,6 +8,7 @@ ghost use Rattle.motion.specs.Dynamic.{slope_at, value_at};
 ghost use Rattle.motion.specs.Pieces.{IsLinear};
 ghost use Rattle.meaning.specs.Value.{cell_value, factor_value, part_at, part_value, plus, term_value, unit_value, with_sign};
 ghost use Rattle.atoms.specs.Courses.{IsCourseOf, IsUnitCourse, course_value, value_along};
+ghost use Rattle.atoms.specs.Naming.{asks_factor, asks_term, asks_unit};
 ghost use Rattle.atoms.specs.Parts.{AreSteady, IsSteadyCell, shown};
 ghost use Rattle.atoms.specs.Sizes.{is_sized_factor, is_sized_term};
 
@@ -29,6 +30,7 @@ pub enum Course {
 pub fn course_of(term: &RTerm, part: &Part, env: &Env) -> Option<Course>
     requires sized { IsTrue (is_sized_term term.now) }
     requires steady { AreSteady part.now }
+    requires asked { IsTrue (asks_term part.now.asked term.now) }
     ensures value { (t : ℕ) → part.now.span.lo ≤ t → t ≤ part.now.span.hi
         → term_value (shown part.now) term.now env.now t ≡ value_along result part.now.span.lo t }
     ensures small { IfSome result (IsCourseOf FACTOR_LIMIT) }
@@ -43,6 +45,7 @@ fn sum_from(first: Option<Course>, factors: &[RSigned], part: &Part, env: &Env) 
     requires few { length factors.now + 1 ≤ FACTOR_LIMIT }
     requires sized { IsTrue (list_all is_sized_factor factors.now) }
     requires steady { AreSteady part.now }
+    requires asked { IsTrue (list_all (asks_factor part.now.asked) factors.now) }
     ensures value { (t : ℕ) → part.now.span.lo ≤ t → t ≤ part.now.span.hi
         → fold plus (value_along first part.now.span.lo t) (map (factor_value (shown part.now) env.now t) factors.now)
         ≡ value_along result part.now.span.lo t }
@@ -75,6 +78,7 @@ fn sum_of(left: &Option<Course>, right: &Option<Course>) -> Option<Course>
 fn course_of_factor(factor: &RSigned, part: &Part, env: &Env) -> Option<Course>
     requires sized { IsTrue (is_sized_factor factor.now) }
     requires steady { AreSteady part.now }
+    requires asked { IsTrue (asks_factor part.now.asked factor.now) }
     ensures value { (t : ℕ) → part.now.span.lo ≤ t → t ≤ part.now.span.hi
         → factor_value (shown part.now) env.now t factor.now ≡ value_along result part.now.span.lo t }
     ensures small { IfSome result (IsCourseOf 1) }
@@ -105,7 +109,8 @@ pub fn signed(unit: Course, factor: &RSigned) -> Option<Course>
 }
 
 fn course_of_unit(unit: &RUnit, part: &Part, env: &Env) -> Option<Course>
-    requires { AreSteady part.now }
+    requires steady { AreSteady part.now }
+    requires asked { IsTrue (asks_unit part.now.asked unit.now) }
     ensures value { (t : ℕ) → part.now.span.lo ≤ t → t ≤ part.now.span.hi
         → unit_value (shown part.now) env.now unit.now t ≡ value_along result part.now.span.lo t }
     ensures small { IfSome result IsUnitCourse }
@@ -139,8 +144,8 @@ pub fn course_of_value(value: &Value) -> Course
     }
 }
 
-// The value in a cell. What moves does so by one slope in the span.
-fn course_of_cell(cell: &Cell, span: Span) -> Course
+/// The value in a cell. What moves does so by one slope in the span.
+pub fn course_of_cell(cell: &Cell, span: Span) -> Course
     requires { IsSteadyCell cell.now span.lo span.hi }
     ensures value { (t : ℕ) → span.lo ≤ t → t ≤ span.hi → course_value span.lo t result ≡ cell_value cell.now t }
     ensures small { IsUnitCourse result }
@@ -163,8 +168,8 @@ fn moving(vector: &Vector, span: Span) -> Course
     })
 }
 
-// A part of what is in a cell. A cell that doesn't move has none.
-fn course_of_sub(name: SubName, cell: &Cell, span: Span) -> Option<Course>
+/// A part of what is in a cell. A cell that doesn't move has none.
+pub fn course_of_sub(name: SubName, cell: &Cell, span: Span) -> Option<Course>
     requires { IsSteadyCell cell.now span.lo span.hi }
     ensures value { (t : ℕ) → span.lo ≤ t → t ≤ span.hi → value_along result span.lo t ≡ part_value name cell.now t }
     ensures small { IfSome result IsUnitCourse }

@@ -15,11 +15,12 @@ ghost use Rattle.atoms.specs.Sizes.{is_sized};
 
 use crate::found::{append, runs_of};
 use crate::judged::judged;
+use crate::naming::named_by;
 use crate::parts::{fill_timelines, part_from};
 use crate::straight::straight_ticks;
 use crate::variables::variables_of_atom;
 use crate::world::StoredWorld;
-use courses::MOST_TIMELINES;
+use courses::{MOST_TIMELINES, begun_by};
 use formula::{Binding, Env, RAtom};
 use interval_set::IntervalSet;
 use motion::Timeline;
@@ -146,10 +147,12 @@ fn runs_by_parts<'a, M: Ledger>(
     ensures cost { probes.new ≤ probes.old
         + probe_limit a.now (w.hi - w.lo) * pieces_of_all (epochs_of_each timelines.now) w.lo w.hi }
 {
+    let asked = named_by(a);
+    let mut begun = begun_by(timelines, w.lo);
     let mut runs = Runs::new(alloc);
     let mut at = w.lo;
     'joining: while at <= w.hi {
-        let part = part_from(variables, timelines, at, w.hi);
+        let part = part_from(variables, asked, timelines, &mut begun, at, w.hi);
         append(&mut runs, &judged(a, &part, env, regions, probes))?;
         at = part.span.hi + 1;
     }

@@ -21,11 +21,11 @@ use crate::terms::{Course, course_of};
 use crate::trends::Trend;
 use crate::value_list::append_run;
 use crate::variables::variables_of_term;
-use courses::MOST_TIMELINES;
+use courses::{MOST_TIMELINES, begun_by};
 use fixed_point::{FIX_LIMIT, Fix};
 use formula::{Binding, Env, FACTOR_LIMIT, RTerm, Value};
 use interpreting::ValueRun;
-use motion::Timeline;
+use motion::{Asked, Timeline};
 use object_store::Store;
 use std::alloc::{AllocError, Global};
 use std::sync::ledger::Ledger;
@@ -107,10 +107,11 @@ fn term_runs<'a>(
         (term_value (trace_by variables.now (epochs_of_each timelines.now)) term.now env.now)
         w.lo (w.hi + 1) runs.items) }
 {
+    let mut begun = begun_by(timelines, w.lo);
     let mut runs = Vec::new(alloc);
     let mut at = w.lo;
     'joining: while at <= w.hi {
-        let part = part_from(variables, timelines, at, w.hi);
+        let part = part_from(variables, Asked::All, timelines, &mut begun, at, w.hi);
         append_course(&mut runs, &course_of(term, &part, env), part.span)?;
         at = part.span.hi + 1;
     }

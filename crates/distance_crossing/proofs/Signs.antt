@@ -1,4 +1,4 @@
--- Signs of sums, products and squares of whole numbers.
+-- For this crate and for the crates above: signs of sums, products and squares of whole numbers.
 use Rattle.std.proofs.Common.{◌≡◌, ℤ, pos, negsuc, ◌+ℤ◌, ◌-ℤ◌, ◌*ℤ◌, neg_ℤ, ◌≤ℤ◌, ◌<ℤ◌, arith}
 use Rattle.std.proofs.lemmas.Int.{ints, by_lt_z}
 use Rattle.exact.proofs.Ring.{part, number, sum, difference, product, opposite, same}

@@ -1,23 +1,33 @@
 -- What the crates above cite of timelines and of what a command gives.
-use Rattle.std.proofs.Common.{◌≡◌, ℕ, ℤ, zero, suc, ◌≤◌, true, unsigned_abs, codes, Option, None, Some, List, [], ◌∷◌, refl, sym, ap, ◌∙◌, arith}
-use Rattle.std.specs.Prelude.{All, IfSome, nat_lt, nat_le, option_and_then, if◌then◌else◌}
+use Rattle.std.proofs.Common.{◌≡◌, ℕ, ℤ, zero, suc, ◌-◌, ◌<◌, ◌≤◌, true, false, unsigned_abs, codes, Option, None, Some, List, [], ◌∷◌, length, get_or, refl, sym, ap, ◌∙◌, arith}
+use Rattle.std.specs.Prelude.{All, IfSome, nat_lt, nat_le, option_and_then, slice_get, if◌then◌else◌}
 use Rattle.std.specs.Option.{option_map}
 use Rattle.std.specs.List.{filter}
 use Rattle.std.proofs.lemmas.List.Elements.{All-append, All-push, filter_passes}
+use Rattle.std.proofs.lemmas.Option.{get_or_from_slice_get, slice_get_within}
 use Rattle.std.proofs.lemmas.Bool.Decides.{nat_tests}
 use Rattle.fixed_point.specs.declared.number.Point.{Point}
 use Rattle.fixed_point.specs.declared.number.TheConstants.{READ_LIMIT}
 use Rattle.motion.specs.declared.cell.Given.{Given}
 use Rattle.motion.specs.declared.cell.NamedSet.{NamedSet}
 use Rattle.motion.specs.declared.cell.Place.{Place}
-use Rattle.motion.specs.Function.{Function}
+use Rattle.motion.specs.Dynamic.{Dynamic, turns_at}
+use Rattle.motion.specs.Function.{Function, IsNextTurn}
+use Rattle.motion.specs.Pieces.{IsLinear}
 use Rattle.motion.specs.Cells.{IsGiven, given_of, setting_of, place_sets}
 use Rattle.motion.specs.Timeline.{Epoch, state_at, put, AreBegunBy}
+use Rattle.motion.proofs.PieceLemmas.{linear}
 use Rattle.motion.proofs.TimelineLemmas.{in_force_of, epoch_at-put}
 
 -- the state at a tick after a write
 pub state_at_put : (epochs : List Epoch) (p : Epoch) (t : ℕ) → state_at (put epochs p) t ≡ (if nat_le p.from t then p.cells else state_at epochs t)
 state_at_put epochs p t = grind (arith, nat_tests, epoch_at-put epochs p t)
+
+-- the last epoch has begun where each has
+pub last_begun : (epochs : List Epoch) (t : ℕ) (last : Epoch) → slice_get epochs (length epochs - 1) ≡ Some last → AreBegunBy epochs t → last.from ≤ t
+last_begun epochs t last is by =
+    let here : get_or epochs (length epochs - 1) last ≡ last = get_or_from_slice_get epochs (length epochs - 1) last last is in
+    omega (arith, by (length epochs - 1) last (slice_get_within epochs (length epochs - 1) last is), ap (λ q. q.from) here)
 
 -- no epoch begins after the one that was written
 pub AreBegunBy-put : (epochs : List Epoch) (p : Epoch) → AreBegunBy (put epochs p) p.from
@@ -72,3 +82,10 @@ place_sets-given place within =
     All-append (λ (s : NamedSet). IsGiven s.given) (setting_of (codes "x") (given_of x moving_x)) (setting_of (codes "y") (given_of y moving_y))
     (setting_of-given (codes "x") (given_of x moving_x) (given_of-within x moving_x parts.0))
     (setting_of-given (codes "y") (given_of y moving_y) (given_of-within y moving_y parts.1))
+
+-- where the next leg ends past `hi`, or none does, one slope moves the value
+pub linear_until : (v : Dynamic) (lo hi end : ℕ) → v.updatetime ≤ lo → IsNextTurn (turns_at v) lo end → hi < end → IsLinear v lo hi
+linear_until v lo hi end written next less = linear v lo hi written (λ t past up_to. next.none t past (omega arith))
+
+pub linear_on : (v : Dynamic) (lo hi : ℕ) → v.updatetime ≤ lo → ((t : ℕ) → lo < t → turns_at v t ≡ false) → IsLinear v lo hi
+linear_on v lo hi written none = linear v lo hi written (λ t past up_to. none t past)

@@ -209,11 +209,6 @@ begun_by_last epochs t last rising is by k d l =
       | inr at_last ↦ let same : k ≡ length epochs - 1 = omega arith in rw same (omega (arith, ap (λ q. q.from) here))
     ]
 
-pub last_begun : (epochs : List Epoch) (t : ℕ) (last : Epoch) → slice_get epochs (length epochs - 1) ≡ Some last → AreBegunBy epochs t → last.from ≤ t
-last_begun epochs t last is by =
-    let here : get_or epochs (length epochs - 1) last ≡ last = get_or_from_slice_get epochs (length epochs - 1) last last is in
-    omega (arith, by (length epochs - 1) last (slice_get_within epochs (length epochs - 1) last is), ap (λ q. q.from) here)
-
 -- the last epoch is in force once all have begun
 pub epoch_at-last : (epochs : List Epoch) (t : ℕ) → AreBegunBy epochs t → epoch_at epochs t ≡ slice_get epochs (length epochs - 1)
 epoch_at-last epochs t by =

@@ -1,21 +1,26 @@
-use Rattle.std.proofs.Common.{ℕ, ◌-◌, Some, ap, refl, sym, ◌∙◌}
-use Rattle.courses.specs.Parts.{epochs_of_each}
-use Rattle.distance_crossing.specs.Triples.{triple_spans}
-use Rattle.linear_crossing.specs.Moving.{position_after}
-use Rattle.meaning.specs.Atom.{atom_holds, distance_holds}
+use Rattle.std.proofs.Common.{◌+◌, ◌*◌, ◌-◌, ◌≤◌, ◌&&◌, sym, subst}
+use Rattle.std.specs.Prelude.{IfSome}
+use Rattle.courses.specs.Parts.{epochs_of_each, pieces_of_all}
+use Rattle.formula.specs.declared.tree.RAtom.{RAtom}
+use Rattle.meaning.specs.Atom.{atom_holds}
+use Rattle.tick_set.specs.Ticks.{within}
+use Rattle.atoms.specs.Found.{AreFound}
 use Rattle.atoms.specs.Parts.{trace_by}
-use Rattle.atoms.proofs.RunLemmas.{runs_within}
+use Rattle.atoms.specs.Probes.{probe_limit}
 use Rattle.atoms.proofs.straight.straight_ticks.Goals as goal
 
-pub returns-in_ok-second-in-Dist-clause-runs : goal.returns-in_ok-second-in-Dist-clause-runs
-returns-in_ok-second-in-Dist-clause-runs g c =
+pub returns-in-Dist-clause-runs : goal.returns-in-Dist-clause-runs
+returns-in-Dist-clause-runs g c =
     let w = c.args.w in
-    let d = c.in-Dist in
     let trace = trace_by c.args.variables.now (epochs_of_each c.args.timelines.now) in
-    let first = λ (t : ℕ). Some (position_after c.in_ok-first-in-Dist.first (t - w.lo)) in
-    let second = λ (t : ℕ). Some (position_after c.in_ok-second-in-Dist.second (t - w.lo)) in
-    runs_within w.lo w.hi (λ t. distance_holds d.op d.c (first t) (second t)) (λ t. atom_holds c.args.regions.now trace c.args.a.now c.args.env.now t)
-    (triple_spans c.apart.result) (triple_spans c.apart.result) c.apart.ensures.runs refl
-    (λ t from up_to.
-    (λ i. distance_holds d.op d.c (sym (c.in_ok-first-in-Dist.ensures.places t from up_to) i) (sym (c.in_ok-second-in-Dist.ensures.places t from up_to) i))
-    ∙ ap (λ a. atom_holds c.args.regions.now trace a c.args.env.now t) (sym d.is))
+    subst
+    (λ (a : RAtom). IfSome c.straight_distance.result (λ found. AreFound (λ t. within w.lo w.hi t && atom_holds c.args.regions.now trace a c.args.env.now t) found))
+    (sym c.in-Dist.is) c.straight_distance.ensures.runs
+
+pub returns-in-Dist-clause-cost : goal.returns-in-Dist-clause-cost
+returns-in-Dist-clause-cost g c =
+    let w = c.args.w in
+    subst
+    (λ (a : RAtom). IfSome c.straight_distance.result (λ found. c.straight_distance.new.probes ≤ c.args.probes.now
+    + probe_limit a (w.hi - w.lo) * pieces_of_all (epochs_of_each c.args.timelines.now) w.lo w.hi))
+    (sym c.in-Dist.is) c.straight_distance.ensures.cost

@@ -1,8 +1,8 @@
 use Rattle.std.proofs.Common.{◌+◌, ◌*◌, ◌-◌, ◌≤◌}
-use Rattle.courses.specs.Parts.{epochs_of_each, pieces_of_all}
+use Rattle.courses.specs.Parts.{AreBegun, epochs_of_each}
 use Rattle.meaning.specs.Atom.{atom_holds}
 use Rattle.atoms.specs.Gathered.{IsGathered}
-use Rattle.atoms.specs.Parts.{trace_by}
+use Rattle.atoms.specs.Parts.{pieces_asked, trace_by}
 use Rattle.atoms.specs.Probes.{probe_limit}
 use Rattle.atoms.proofs.ticks.runs_by_parts.Given as goal
 
@@ -11,9 +11,10 @@ abbrev pub invariant-joining : goal.invariant-joining
 invariant-joining g l = record {
   from : l.w.lo ≤ l.at;
   until : l.at ≤ l.w.hi + 1;
+  begun : AreBegun (epochs_of_each l.timelines) l.at l.begun;
   ticks : IsGathered (atom_holds l.regions (trace_by l.variables (epochs_of_each l.timelines)) l.a l.env) l.w.lo l.at l.runs;
-  most : l.probes + probe_limit l.a (l.w.hi - l.w.lo) * pieces_of_all (epochs_of_each l.timelines) l.at l.w.hi
-      ≤ l.initial.probes + probe_limit l.a (l.w.hi - l.w.lo) * pieces_of_all (epochs_of_each l.timelines) l.w.lo l.w.hi;
+  most : l.probes + probe_limit l.a (l.w.hi - l.w.lo) * pieces_asked l.asked (epochs_of_each l.timelines) l.at l.w.hi
+      ≤ l.initial.probes + probe_limit l.a (l.w.hi - l.w.lo) * pieces_asked l.asked (epochs_of_each l.timelines) l.w.lo l.w.hi;
 }
 
 abbrev pub decreases-joining : goal.decreases-joining

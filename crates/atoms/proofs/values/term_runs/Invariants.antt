@@ -1,5 +1,5 @@
 use Rattle.std.proofs.Common.{◌+◌, ◌-◌, ◌≤◌}
-use Rattle.courses.specs.Parts.{epochs_of_each}
+use Rattle.courses.specs.Parts.{AreBegun, epochs_of_each}
 use Rattle.meaning.specs.Value.{term_value}
 use Rattle.atoms.specs.Parts.{trace_by}
 use Rattle.atoms.specs.ValueRuns.{AreMaximalRuns}
@@ -10,6 +10,7 @@ abbrev pub invariant-joining : goal.invariant-joining
 invariant-joining l = record {
   from : l.w.lo ≤ l.at;
   until : l.at ≤ l.w.hi + 1;
+  begun : AreBegun (epochs_of_each l.timelines) l.at l.begun;
   runs : AreMaximalRuns (term_value (trace_by l.variables (epochs_of_each l.timelines)) l.term l.env) l.w.lo l.at l.runs.items;
 }
 

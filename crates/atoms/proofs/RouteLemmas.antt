@@ -1,0 +1,146 @@
+-- Objects that keep further apart than a distance on one axis.
+use Rattle.std.proofs.Common.{◌≡◌, ℕ, ◌+◌, ◌≤◌, ◌&&◌, refl, List, None, Bool, true, false, Option, Some, ℤ, pos, neg_ℤ, ◌+ℤ◌, ◌-ℤ◌, ◌*ℤ◌, ◌≤ℤ◌, ◌<ℤ◌, int_le, inl, inr, ap, subst, ◌∙◌, arith}
+use Rattle.std.specs.Prelude.{IfSome, int_lt, option_and_then}
+use Rattle.std.proofs.lemmas.Bool.{cases_Bool}
+use Rattle.std.proofs.lemmas.Bool.Decides.{nat_tests}
+use Rattle.std.proofs.lemmas.Int.{ints}
+use Rattle.case_table.specs.Comparison.{compares, sign_holds}
+use Rattle.case_table.specs.declared.compare.Op.{Op}
+use Rattle.case_table.specs.declared.compare.Op.TheVariants.{Lt, Le, Eq, Ne, Ge, Gt}
+use Rattle.distance_crossing.proofs.Signs.{product_above, square_least}
+use Rattle.exact.proofs.Ring.{part, sum, difference, product, opposite, same}
+use Rattle.fixed_point.specs.declared.number.Point.{Point}
+use Rattle.geometry.specs.Distance.{distance_compares}
+use Rattle.geometry.specs.Plane.{point, square, squared_distance}
+use Rattle.courses.specs.Places.{dynamic_at, place_by, place_of}
+use Rattle.meaning.specs.Atom.{position_in}
+use Rattle.motion.specs.Dynamic.{Dynamic, value_at}
+use Rattle.motion.specs.Timeline.{Epoch, epoch_at}
+use Rattle.atoms.specs.declared.routes.Route.{Route}
+use Rattle.distance_crossing.specs.Triples.{triple_spans}
+use Rattle.distance_crossing.specs.declared.comparison.Triple.{Triple}
+use Rattle.tick_set.specs.Ticks.{within}
+use Rattle.atoms.specs.Found.{AreFound}
+use Rattle.atoms.specs.Parts.{beside, trace_by}
+use Rattle.atoms.specs.Routes.{IsPast, IsWritten, place_along}
+use Rattle.atoms.proofs.RunLemmas.{runs_within}
+use Rattle.atoms.proofs.StraightLemmas.{place_beside}
+
+-- ---- the place of an object
+
+pub place_on : (p : Epoch) (x y : Dynamic) (t : ℕ) → dynamic_at p 0 ≡ Some x → dynamic_at p 1 ≡ Some y → place_of p t ≡ Some (point (value_at x t) (value_at y t))
+place_on p x y t is_x is_y = λ i. place_by (is_x i) (is_y i) t
+
+pub placed : (variables : List ℕ) (timelines : List (List Epoch)) (v t : ℕ) (epochs : List Epoch) (p : Epoch) → Some epochs ≡ beside variables timelines v →
+    epoch_at epochs t ≡ Some p → position_in t (trace_by variables timelines v t) ≡ place_of p t
+placed variables timelines v t epochs p is in_force =
+    place_beside variables timelines v t epochs is ∙ ap (λ (o : Option Epoch). option_and_then (λ q. place_of q t) o) in_force
+
+pub on_route : (route : Option Route) (lo hi : ℕ) (place along : ℕ → Option Point) → ((t : ℕ) → lo ≤ t → t ≤ hi → place t ≡ along t) →
+    IfSome route (λ r. (t : ℕ) → along t ≡ Some (place_along r t)) → IfSome route (λ r. (t : ℕ) → lo ≤ t → t ≤ hi → place t ≡ Some (place_along r t))
+on_route None lo hi place along same places = tt
+on_route (Some r) lo hi place along same places = λ t from up_to. same t from up_to ∙ places t
+
+pub written_later : (route : Option Route) (from lo : ℕ) → from ≤ lo → IfSome route (λ r. IsWritten r from) → IfSome route (λ r. IsWritten r lo)
+written_later None from lo later written = tt
+written_later (Some r) from lo later written = (omega (arith, written.0, later), omega (arith, written.1, later))
+
+-- ---- by the ends of ranges
+
+pub past_above : (c least greatest m n : ℤ) → m ≤ℤ greatest → least ≤ℤ n → c <ℤ (least -ℤ greatest) → IsPast c (n -ℤ m)
+past_above c least greatest m n most at_least past = inl (omega (arith, ints))
+
+pub past_below : (c least greatest m n : ℤ) → least ≤ℤ m → n ≤ℤ greatest → c <ℤ (least -ℤ greatest) → IsPast c (n -ℤ m)
+past_below c least greatest m n at_least most past = inr (omega (arith, ints))
+
+pub is_less : (a b : ℤ) → int_lt a b ≡ true → a <ℤ b
+is_less a b is = grind (arith, ints)
+
+-- ---- squares
+
+squares_apart : (c v : ℤ) → (v -ℤ c) *ℤ (v +ℤ c) ≡ square v -ℤ square c
+squares_apart c v =
+    same (product (difference (part v) (part c)) (sum (part v) (part c))) (difference (product (part v) (part v)) (product (part c) (part c))) (omega arith)
+
+less_by : (a b : ℤ) → pos 0 <ℤ (b -ℤ a) → a <ℤ b
+less_by a b l = omega (arith, ints)
+
+square_above : (c v : ℤ) → pos 0 ≤ℤ c → c <ℤ v → square c <ℤ square v
+square_above c v p l =
+    let P : ℤ → Type 0 = λ z. pos 0 <ℤ z in
+    less_by (square c) (square v) (subst P (squares_apart c v) (product_above (v -ℤ c) (v +ℤ c) (omega (arith, ints)) (omega (arith, ints))))
+
+opposite_square : (v : ℤ) → square (neg_ℤ v) ≡ square v
+opposite_square v = same (product (opposite (part v)) (opposite (part v))) (product (part v) (part v)) (omega arith)
+
+opposite_above : (c v : ℤ) → v <ℤ neg_ℤ c → c <ℤ neg_ℤ v
+opposite_above c v l = omega (arith, ints)
+
+square_past : (c v : ℤ) → pos 0 ≤ℤ c → IsPast c v → square c <ℤ square v
+square_past c v p past =
+    let P : ℤ → Type 0 = λ z. square c <ℤ z in
+    elim past [
+      | inl above ↦ square_above c v p above
+      | inr below ↦ subst P (opposite_square v) (square_above c (neg_ℤ v) p (opposite_above c v below))
+    ]
+
+by_first : (s u v : ℤ) → s <ℤ u → pos 0 ≤ℤ v → s <ℤ (u +ℤ v)
+by_first s u v l p = omega (arith, ints)
+
+by_second : (s u v : ℤ) → s <ℤ v → pos 0 ≤ℤ u → s <ℤ (u +ℤ v)
+by_second s u v l p = omega (arith, ints)
+
+pub past_on_x : (c : ℤ) (p q : Point) → pos 0 ≤ℤ c → IsPast c (q.x -ℤ p.x) → square c <ℤ squared_distance p q
+past_on_x c p q least past = by_first (square c) (square (q.x -ℤ p.x)) (square (q.y -ℤ p.y)) (square_past c (q.x -ℤ p.x) least past) (square_least (q.y -ℤ p.y))
+
+pub past_on_y : (c : ℤ) (p q : Point) → pos 0 ≤ℤ c → IsPast c (q.y -ℤ p.y) → square c <ℤ squared_distance p q
+past_on_y c p q least past = by_second (square c) (square (q.x -ℤ p.x)) (square (q.y -ℤ p.y)) (square_past c (q.y -ℤ p.y) least past) (square_least (q.x -ℤ p.x))
+
+-- ---- how a distance above c compares with it
+
+above_Lt : (s v : ℤ) → s <ℤ v → int_lt v s ≡ false
+above_Lt s v l = grind (arith, ints)
+
+above_Le : (s v : ℤ) → s <ℤ v → int_le v s ≡ false
+above_Le s v l = grind (arith, ints)
+
+above_Eq : (s v : ℤ) → s <ℤ v → compares Eq v s ≡ false
+above_Eq s v l = grind (arith, ints, nat_tests)
+
+above_Ne : (s v : ℤ) → s <ℤ v → compares Ne v s ≡ true
+above_Ne s v l = grind (arith, ints, nat_tests)
+
+above_Ge : (s v : ℤ) → s <ℤ v → int_le s v ≡ true
+above_Ge s v l = grind (arith, ints)
+
+above_Gt : (s v : ℤ) → s <ℤ v → int_lt s v ≡ true
+above_Gt s v l = grind (arith, ints)
+
+compares_above : (op : Op) (s v : ℤ) → s <ℤ v → compares op v s ≡ sign_holds op (pos 1)
+compares_above Lt s v l = above_Lt s v l
+compares_above Le s v l = above_Le s v l
+compares_above Eq s v l = above_Eq s v l
+compares_above Ne s v l = above_Ne s v l
+compares_above Ge s v l = above_Ge s v l
+compares_above Gt s v l = above_Gt s v l
+
+not_negative : (c : ℤ) → int_le (pos 0) c ≡ true → pos 0 ≤ℤ c
+not_negative c e = grind (arith, ints)
+
+pub distance_above : (op : Op) (c v : ℤ) → (pos 0 ≤ℤ c → square c <ℤ v) → distance_compares op c v ≡ sign_holds op (pos 1)
+distance_above op c v above =
+    elim (cases_Bool (int_le (pos 0) c)) [
+      | inl is ↦ rw is (compares_above op (square c) v (above (not_negative c is)))
+      | inr is ↦ rw is
+    ]
+
+-- ---- what is found
+
+pub found_along : (found : Option Triple) (lo hi : ℕ) (p q : ℕ → Bool) → IfSome found (AreFound (λ t. within lo hi t && p t)) →
+    ((t : ℕ) → lo ≤ t → t ≤ hi → p t ≡ q t) → IfSome found (AreFound (λ t. within lo hi t && q t))
+found_along None lo hi p q runs same = tt
+found_along (Some x) lo hi p q runs same = runs_within lo hi p q (triple_spans x) (triple_spans x) runs refl same
+
+pub no_cost : (found : Option Triple) (old more : ℕ) → IfSome found (λ x. old ≤ old + more)
+no_cost None old more = tt
+no_cost (Some x) old more = omega arith
