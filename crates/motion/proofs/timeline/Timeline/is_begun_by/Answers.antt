@@ -1,6 +1,7 @@
 use Rattle.std.proofs.Common.{arith}
 use Rattle.std.proofs.lemmas.Bool.Decides.{nat_tests}
-use Rattle.motion.proofs.TimelineLemmas.{begun_by_last, last_begun}
+use Rattle.motion.proofs.CallerLemmas.{last_begun}
+use Rattle.motion.proofs.TimelineLemmas.{begun_by_last}
 use Rattle.motion.proofs.timeline.Timeline.is_begun_by.Goals as goal
 
 pub returns-in-Some : goal.returns-in-Some
