@@ -11,7 +11,6 @@ use Rattle.ftl_parser.specs.Tree.{QueryTree}
 use Rattle.line_meaning.specs.Answering.{answer_lines}
 use Rattle.line_meaning.specs.Ask.{ask_refusal, rows_asked}
 use Rattle.line_meaning.specs.declared.role.Role.TheVariants.{Telling}
-use Rattle.line_meaning.specs.Fault.{is_gap}
 use Rattle.line_meaning.specs.Reply.{rows_text}
 use Rattle.line_meaning.specs.Role.{is_on_queries, role_of}
 use Rattle.reply_text.specs.Begins.{Begins}
@@ -47,7 +46,6 @@ IsRefused faults.NoMemory = ⊥
 -- a command that the database answers
 pub record IsToTell (c : CommandTree) : Type 0 where
   pub telling : role_of c ≡ Telling
-  pub built : is_gap c ≡ false
   pub other : is_on_queries c ≡ false
   pub ready : IsReady c
 

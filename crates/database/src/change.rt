@@ -10,7 +10,7 @@ ghost use Rattle.command_text.specs.declared.refusal.Refusal.TheVariants as refu
 ghost use Rattle.polygon.specs.declared.named.TheConstants.{REGION_LIMIT};
 ghost use Rattle.command_text.specs.Tree as Tree;
 ghost use Rattle.command_text.specs.Tree.{command_view};
-ghost use Rattle.line_meaning.specs.Fault.{is_gap, refusal_by_store};
+ghost use Rattle.line_meaning.specs.Fault.{refusal_by_store};
 ghost use Rattle.command_text.specs.Journal.{is_kept};
 ghost use Rattle.line_meaning.specs.Role.{is_on_queries};
 ghost use Rattle.database.specs.Attempt.{Attempts, IsFlat};
@@ -139,7 +139,6 @@ impl Database {
     #[inline(always)]
     pub fn attempt(&mut self, alloc: Global, command: &Command) -> Result<Change, CommandFault>
         requires kept { is_kept (command_view command.now) ≡ true }
-        requires gap { is_gap (command_view command.now) ≡ false }
         requires data { is_on_queries (command_view command.now) ≡ false }
         requires ready { IsReady (command_view command.now) }
         requires timely { IsTimely self.old }

@@ -102,7 +102,7 @@ pub data_fault : (h : Held) (c : CommandTree) → is_data c ≡ true →
     ≡ or_else (or_else (fault_among (world h.journal) (clock h.journal) c) None) (journal_refusal (length h.journal) (bytes_of h.journal) c)
 data_fault h c is =
     let d = of_data c is in
-    rw (d.built, d.keeping, d.alone (known h.journal)) refl
+    rw (d.keeping, d.alone (known h.journal)) refl
 
 pub or_none : {A : Type 0} (o p : Option A) → or_else o p ≡ None → (o ≡ None) × (p ≡ None)
 or_none None p e = (refl, e)

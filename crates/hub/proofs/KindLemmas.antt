@@ -5,7 +5,6 @@ use Rattle.command_text.specs.Tree
 use Rattle.command_text.specs.Tree.{CommandTree}
 use Rattle.line_meaning.specs.declared.role.Role.{Role}
 use Rattle.line_meaning.specs.declared.role.Role.TheVariants.{Journalled, Filing}
-use Rattle.line_meaning.specs.Fault.{is_gap}
 use Rattle.line_meaning.specs.Journal.{regions_of, writes_of}
 use Rattle.line_meaning.specs.Judging.{Held, all_after, held_after}
 use Rattle.line_meaning.specs.QueryFault.{query_fault}
@@ -32,19 +31,18 @@ no_ticks c h = refl
 -- a data command
 pub record IsOfData (c : CommandTree) : Type 0 where
   pub keeping : role_of c ≡ Journalled
-  pub built : is_gap c ≡ false
   pub kept : is_kept c ≡ true
   pub alone : (k : Known) → query_fault k c ≡ None
   -- it makes nothing of indexes
   pub same : (h : Held) → all_after h c ≡ held_after h c
 
 pub of_data : (c : CommandTree) → is_data c ≡ true → IsOfData c
-of_data (Tree.Class name capacity point attributes) h = record { keeping = refl; built = refl; kept = refl; alone = λ k. refl; same = λ h. refl }
-of_data (Tree.Region name points) h = record { keeping = refl; built = refl; kept = refl; alone = λ k. refl; same = λ h. refl }
-of_data (Tree.Insert class name place sets) h = record { keeping = refl; built = refl; kept = refl; alone = λ k. refl; same = λ h. refl }
-of_data (Tree.Update name place sets) h = record { keeping = refl; built = refl; kept = refl; alone = λ k. refl; same = λ h. refl }
-of_data (Tree.Remove name) h = record { keeping = refl; built = refl; kept = refl; alone = λ k. refl; same = λ h. refl }
-of_data (Tree.Tick ticks) h = record { keeping = refl; built = refl; kept = refl; alone = λ k. refl; same = λ h. refl }
+of_data (Tree.Class name capacity point attributes) h = record { keeping = refl; kept = refl; alone = λ k. refl; same = λ h. refl }
+of_data (Tree.Region name points) h = record { keeping = refl; kept = refl; alone = λ k. refl; same = λ h. refl }
+of_data (Tree.Insert class name place sets) h = record { keeping = refl; kept = refl; alone = λ k. refl; same = λ h. refl }
+of_data (Tree.Update name place sets) h = record { keeping = refl; kept = refl; alone = λ k. refl; same = λ h. refl }
+of_data (Tree.Remove name) h = record { keeping = refl; kept = refl; alone = λ k. refl; same = λ h. refl }
+of_data (Tree.Tick ticks) h = record { keeping = refl; kept = refl; alone = λ k. refl; same = λ h. refl }
 of_data c h = absurd (cc)
 
 -- what a user may give asks nothing of the shelf

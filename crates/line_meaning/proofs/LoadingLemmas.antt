@@ -21,7 +21,7 @@ use Rattle.session_file.specs.Reading.{Reading, reading_of}
 use Rattle.session_file.specs.Text.{session_text}
 use Rattle.line_meaning.specs.declared.role.Role.{Role}
 use Rattle.line_meaning.specs.declared.role.Role.TheVariants.{Journalled}
-use Rattle.line_meaning.specs.Fault.{is_gap, journal_refusal}
+use Rattle.line_meaning.specs.Fault.{journal_refusal}
 use Rattle.line_meaning.specs.Judging.{Held, fault_by, fault_of, held, held_after}
 use Rattle.line_meaning.specs.Loading.{IsBadLine, Loaded, BadLine, line_of_fault, loading_by, loading_of, replayed}
 use Rattle.line_meaning.specs.QueryFault.{command_fault}
@@ -40,10 +40,6 @@ both_none : (first other : Option Refusal) → first ≡ None → other ≡ None
 both_none None other first rest = rest
 both_none (Some r) other first rest = absurd (cc first)
 
-kept_is_built : (c : CommandTree) → is_kept c ≡ true → is_gap c ≡ false
-kept_is_built Tree.Nothing kept = refl
-kept_is_built c kept = refl
-
 kept_fault : (role : Role) (h : Held) (c : CommandTree) → role ≡ Journalled →
     command_fault (known h.journal) c ≡ None → journal_refusal (length h.journal) (bytes_of h.journal) c ≡ None → fault_by role h c ≡ None
 kept_fault role h c keeping fault room =
@@ -52,8 +48,7 @@ kept_fault role h c keeping fault room =
 
 accepted_again : (journal : List Accepted) (e : Accepted) → IsNextEntry journal e → fault_of (held journal) e.1 ≡ None
 accepted_again journal e is =
-    ap (λ gap. if gap then Some refusals.BadSyntax else fault_by (role_of e.1) (held journal) e.1) (kept_is_built e.1 is.kept)
-    ∙ kept_fault (role_of e.1) (held journal) e.1 (kept_is_journalled e.1 is.kept) is.accepted is.room
+    kept_fault (role_of e.1) (held journal) e.1 (kept_is_journalled e.1 is.kept) is.accepted is.room
 
 entered_again : (journal : List Accepted) (e : Accepted) → IsNextEntry journal e → (held_after (held journal) e.1).journal ≡ journal ++ e ∷ []
 entered_again journal e is =

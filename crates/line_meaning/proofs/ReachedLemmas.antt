@@ -35,7 +35,7 @@ use Rattle.command_text.specs.Tree.{CommandTree}
 use Rattle.session_file.specs.declared.kept.TheConstants.{SESSION_LINE_LIMIT}
 use Rattle.line_meaning.specs.declared.role.Role.{Role}
 use Rattle.line_meaning.specs.declared.role.Role.TheVariants.{Journalled}
-use Rattle.line_meaning.specs.Fault.{is_gap, is_present, journal_refusal, refusal_by_store}
+use Rattle.line_meaning.specs.Fault.{is_present, journal_refusal, refusal_by_store}
 use Rattle.line_meaning.specs.QueryFault.{command_fault}
 use Rattle.line_meaning.specs.Journal.{world, writes, writes_of}
 use Rattle.line_meaning.specs.Reached.{AreReached, IsNextEntry}
@@ -208,15 +208,11 @@ accepted_by role h c keeping none =
     (ap (λ (r : Role). fault_by r h c) (sym keeping) ∙ none) in
     record { fault = both.0; room = both.1 }
 
-built : (gap : Bool) (o : Option Refusal) → (if gap then Some refusals.BadSyntax else o) ≡ None → o ≡ None
-built true o is = absurd (cc is)
-built false o is = is
-
 -- a kept command that nothing refuses
 next_entry : (h : Held) (c : CommandTree) → IsPrintable c → length (text_of c) ≤ SESSION_LINE_LIMIT → fault_of h c ≡ None →
     is_kept c ≡ true → IsNextEntry h.journal (clock h.journal, c)
 next_entry h c printable short none kept =
-    let accepted = accepted_by (role_of c) h c (kept_is_journalled c kept) (built (is_gap c) (fault_by (role_of c) h c) none) in
+    let accepted = accepted_by (role_of c) h c (kept_is_journalled c kept) none in
     record { tick = refl; kept = kept; printable = printable; short = short; accepted = accepted.fault; room = accepted.room }
 
 entries_reached : (journal : List Accepted) (e : Accepted) (kept : Bool) → (kept ≡ true → IsNextEntry journal e) →

@@ -12,9 +12,9 @@ use Rattle.command_text.specs.Journal.{spelled}
 use Rattle.command_text.specs.Line.{command_in, early, early_refusal, has_large_size, has_unfit_number, is_no_command, late_refusal}
 use Rattle.command_text.specs.Tree
 use Rattle.command_text.specs.Tree.{CommandTree}
-use Rattle.line_meaning.specs.Fault.{is_gap, refusal_by_store}
+use Rattle.line_meaning.specs.Fault.{refusal_by_store}
 use Rattle.line_meaning.specs.Judging.{fault_by, fault_of, line_refusal}
-use Rattle.line_meaning.specs.Refusing.{all_refusals, has_bad_text, has_index, has_many_bindings, has_many_indexes, has_wrong_presence, is_full, is_not_convex, is_of_wrong_kind, is_on_constants, is_unbuilt, lacks_index, lacks_text, names_unknown, passes_bound, passes_capacity, passes_clock, passes_index, passes_journal, passes_span, refuses, has_taken_name}
+use Rattle.line_meaning.specs.Refusing.{all_refusals, has_bad_text, has_index, has_many_bindings, has_many_indexes, has_wrong_presence, is_full, is_not_convex, is_of_wrong_kind, is_on_constants, lacks_index, lacks_text, names_unknown, passes_bound, passes_capacity, passes_clock, passes_index, passes_journal, passes_span, refuses, has_taken_name}
 use Rattle.line_meaning.specs.Registry.{Known, known}
 use Rattle.line_meaning.specs.Role.{role_of}
 use Rattle.line_meaning.specs.Step.{Base, file_refusal, refusal_of}
@@ -44,7 +44,7 @@ or_or : (a b c : Option Refusal) → or_else (or_else a b) c ≡ or_else a (or_e
 or_or None b c = refl
 or_or (Some r) b c = refl
 
--- ---- The refusals of a command that is built
+-- ---- The refusals of a command
 
 -- those from the seventh on, each with whether it holds of a command
 abbrev later : Base → CommandTree → Rows
@@ -146,85 +146,79 @@ by_index false false false true full = refl
 by_index false false false false true = refl
 by_index false false false false false = refl
 
--- what a command that is built is refused by is the first of these
-by_command : (b : Base) (c : CommandTree) → is_gap c ≡ false →
-    or_else (fault_by (role_of c) b.held c) (file_refusal b c) ≡ first_that_holds (later b c)
-by_command b Tree.Nothing built = refl
-by_command b Tree.Listing built = refl
-by_command b Tree.Quit built = refl
-by_command b (Tree.Save file) built = refl
-by_command b (Tree.Class name capacity point attributes) built =
+-- what a command is refused by is the first of these
+by_command : (b : Base) (c : CommandTree) → or_else (fault_by (role_of c) b.held c) (file_refusal b c) ≡ first_that_holds (later b c)
+by_command b Tree.Nothing = refl
+by_command b Tree.Listing = refl
+by_command b Tree.Quit = refl
+by_command b (Tree.Save file) = refl
+by_command b (Tree.Class name capacity point attributes) =
     let c = Tree.Class name capacity point attributes in
     let k = known b.held.journal in
     kept_row _ (store_rows false (has_taken_name k c) false false false (is_full k c)) (passes_journal b.held.journal c)
     (or_none _ ∙ by_store false (has_taken_name k c) false false false (is_full k c))
-by_command b (Tree.Region name points) built =
+by_command b (Tree.Region name points) =
     let c = Tree.Region name points in
     let k = known b.held.journal in
     kept_row _ ((refusals.NameTaken, has_taken_name k c) ∷ (refusals.NotConvex, is_not_convex c) ∷ (refusals.StoreFull, is_full k c) ∷ [])
     (passes_journal b.held.journal c) (or_none _)
-by_command b (Tree.Insert class name place sets) built =
+by_command b (Tree.Insert class name place sets) =
     let c = Tree.Insert class name place sets in
     let k = known b.held.journal in
     kept_row _ (store_rows (names_unknown k c) (has_taken_name k c) (is_of_wrong_kind k c) (has_wrong_presence k c) (passes_capacity k c) false)
     (passes_journal b.held.journal c)
     (or_none _ ∙ by_store (names_unknown k c) (has_taken_name k c) (is_of_wrong_kind k c) (has_wrong_presence k c) (passes_capacity k c) false)
-by_command b (Tree.Update name place sets) built =
+by_command b (Tree.Update name place sets) =
     let c = Tree.Update name place sets in
     let k = known b.held.journal in
     kept_row _ (store_rows (names_unknown k c) (has_taken_name k c) (is_of_wrong_kind k c) (has_wrong_presence k c) false false)
     (passes_journal b.held.journal c)
     (or_none _ ∙ by_store (names_unknown k c) (has_taken_name k c) (is_of_wrong_kind k c) (has_wrong_presence k c) false false)
-by_command b (Tree.Remove name) built =
+by_command b (Tree.Remove name) =
     let c = Tree.Remove name in
     let k = known b.held.journal in
     kept_row _ (store_rows (names_unknown k c) false false (has_wrong_presence k c) false false) (passes_journal b.held.journal c)
     (or_none _ ∙ by_store (names_unknown k c) false false (has_wrong_presence k c) false false)
-by_command b (Tree.Tick ticks) built =
+by_command b (Tree.Tick ticks) =
     let c = Tree.Tick ticks in
     kept_row _ ((refusals.ClockEnd, passes_clock (known b.held.journal) c) ∷ []) (passes_journal b.held.journal c) (or_none _)
-by_command b (Tree.Ask span q) built = told_row _ ∙ or_none _
-by_command b (Tree.Watch name span q) built =
+by_command b (Tree.Ask span q) = told_row _ ∙ or_none _
+by_command b (Tree.Watch name span q) =
     let c = Tree.Watch name span q in
     kept_row _ (query_rows (known b.held.journal) c) (passes_journal b.held.journal c) refl
-by_command b (Tree.Keep name span q) built =
+by_command b (Tree.Keep name span q) =
     let c = Tree.Keep name span q in
     kept_row _ (query_rows (known b.held.journal) c) (passes_journal b.held.journal c) refl
-by_command b (Tree.Show name) built = told_row _
-by_command b (Tree.Drop name) built =
+by_command b (Tree.Show name) = told_row _
+by_command b (Tree.Drop name) =
     let c = Tree.Drop name in
     kept_row _ ((refusals.UnknownName, names_unknown (known b.held.journal) c) ∷ []) (passes_journal b.held.journal c) refl
-by_command b (Tree.Import class file) built =
+by_command b (Tree.Import class file) =
     let c = Tree.Import class file in
     ap (λ (o : Option Refusal). or_else o (file_refusal b c)) (told_row _)
     ∙ joined ((refusals.UnknownName, names_unknown (known b.held.journal) c) ∷ [])
     ((refusals.NoFile, lacks_text b c) ∷ (refusals.BadFile, has_bad_text b c) ∷ [])
-by_command b (Tree.Export class file) built = told_row _ ∙ or_none _
-by_command b (Tree.Nearest span k object class) built = told_row _ ∙ or_none _
-by_command b (Tree.Must error span q) built = told_row _ ∙ or_none _
-by_command b (Tree.May error span q) built = told_row _ ∙ or_none _
-by_command b (Tree.Index class attribute width) built =
+by_command b (Tree.Export class file) = told_row _ ∙ or_none _
+by_command b (Tree.Nearest span k object class) = told_row _ ∙ or_none _
+by_command b (Tree.Must error span q) = told_row _ ∙ or_none _
+by_command b (Tree.May error span q) = told_row _ ∙ or_none _
+by_command b (Tree.Index class attribute width) =
     let c = Tree.Index class attribute width in
     by_index (lacks_index b.held c) (has_index b.held c) (is_on_constants b.held c) (passes_index b.held c) (has_many_indexes b.held c)
-by_command b (Tree.Range span class attribute least greatest) built =
+by_command b (Tree.Range span class attribute least greatest) =
     let c = Tree.Range span class attribute least greatest in
     by_index (lacks_index b.held c) false false (passes_index b.held c) false
 
 -- ---- The refusals of a line
 
--- from the fourth refusal on, by whether the tokens are no command, a number or a size is out of range, and the command isn't built
-from_syntax : (none unfit large gap : Bool) (fault file : Option Refusal) (rows : Rows) → (gap ≡ false → or_else fault file ≡ first_that_holds rows) →
-    or_else (first_that_holds ((refusals.BadSyntax, none) ∷ (refusals.NumberRange, unfit) ∷ (refusals.TooLarge, large) ∷ []))
-    (or_else (if gap then Some refusals.BadSyntax else fault) file)
-    ≡ first_that_holds
-    ((refusals.BadSyntax, none || (gap && not unfit && not large)) ∷ (refusals.NumberRange, unfit) ∷ (refusals.TooLarge, large) ∷ rows)
-from_syntax true unfit large gap fault file rows same = refl
-from_syntax false true large true fault file rows same = refl
-from_syntax false true large false fault file rows same = refl
-from_syntax false false true true fault file rows same = refl
-from_syntax false false true false fault file rows same = refl
-from_syntax false false false true fault file rows same = refl
-from_syntax false false false false fault file rows same = same refl
+-- from the fourth refusal on, by whether the tokens are no command, and a number or a size is out of range
+from_syntax : (none unfit large : Bool) (rest : Option Refusal) (rows : Rows) → rest ≡ first_that_holds rows →
+    or_else (first_that_holds ((refusals.BadSyntax, none) ∷ (refusals.NumberRange, unfit) ∷ (refusals.TooLarge, large) ∷ [])) rest
+    ≡ first_that_holds ((refusals.BadSyntax, none) ∷ (refusals.NumberRange, unfit) ∷ (refusals.TooLarge, large) ∷ rows)
+from_syntax true unfit large rest rows same = refl
+from_syntax false true large rest rows same = refl
+from_syntax false false true rest rows same = refl
+from_syntax false false false rest rows same = same
 
 pub first_refuses : (b : Base) (line : List ℕ) → refusal_of b line ≡ find (refuses b line) all_refusals
 unfolding line_refusal
@@ -236,10 +230,10 @@ first_refuses b line =
     ap (λ (o : Option Refusal). or_else o (file_refusal b c)) (or_or first (late_refusal found) fault)
     ∙ or_or first (or_else (late_refusal found) fault) (file_refusal b c)
     ∙ ap (or_else first) (or_or (late_refusal found) fault (file_refusal b c)
-    ∙ from_syntax (is_no_command found) (has_unfit_number found) (has_large_size found) (is_gap c)
-    (fault_by (role_of c) b.held c) (file_refusal b c) (later b c) (by_command b c))
+    ∙ from_syntax (is_no_command found) (has_unfit_number found) (has_large_size found)
+    (or_else (fault_by (role_of c) b.held c) (file_refusal b c)) (later b c) (by_command b c))
     ∙ joined (early LINE_LIMIT line)
-    ((refusals.BadSyntax, is_no_command found || is_unbuilt line)
+    ((refusals.BadSyntax, is_no_command found)
     ∷ (refusals.NumberRange, has_unfit_number found)
     ∷ (refusals.TooLarge, has_large_size found)
     ∷ later b c)

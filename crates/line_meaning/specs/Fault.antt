@@ -24,31 +24,6 @@ use Rattle.line_meaning.specs.Journal.{attribute_of}
 use Rattle.line_meaning.specs.Near.{near_refusal}
 use Rattle.command_text.specs.Journal.{is_kept}
 
--- a command that isn't built yet, which none is; each command has a row, so that one more command needs a row too
-abbrev pub is_gap : CommandTree → Bool
-is_gap Tree.Nothing = false
-is_gap Tree.Listing = false
-is_gap Tree.Quit = false
-is_gap (Tree.Class name capacity point attributes) = false
-is_gap (Tree.Region name points) = false
-is_gap (Tree.Insert class name place sets) = false
-is_gap (Tree.Update name place sets) = false
-is_gap (Tree.Remove name) = false
-is_gap (Tree.Tick ticks) = false
-is_gap (Tree.Ask span q) = false
-is_gap (Tree.Watch name span q) = false
-is_gap (Tree.Keep name span q) = false
-is_gap (Tree.Show name) = false
-is_gap (Tree.Drop name) = false
-is_gap (Tree.Save file) = false
-is_gap (Tree.Import class file) = false
-is_gap (Tree.Export class file) = false
-is_gap (Tree.Nearest span k object class) = false
-is_gap (Tree.Must error span q) = false
-is_gap (Tree.May error span q) = false
-is_gap (Tree.Index class attribute width) = false
-is_gap (Tree.Range span class attribute least greatest) = false
-
 -- the refusal of a fault of the store
 abbrev pub refusal_by_store : StoreFault → Option Refusal
 refusal_by_store store_faults.UnknownName = Some refusals.UnknownName

@@ -2,14 +2,13 @@
 use Rattle.std.specs.Prelude.{ℕ, Option, None, Some, List, [], ◌∷◌, ◌++◌, length, if◌then◌else◌}
 use Rattle.command_text.specs.declared.reading.TheConstants.{LINE_LIMIT}
 use Rattle.command_text.specs.declared.refusal.Refusal.{Refusal}
-use Rattle.command_text.specs.declared.refusal.Refusal.TheVariants.{BadSyntax}
 use Rattle.command_text.specs.Journal.{Accepted, bytes_of, clock, is_kept, spelled}
 use Rattle.exact.specs.First.{or_else}
 use Rattle.command_text.specs.Line.{first_refusal}
 use Rattle.command_text.specs.Tree.{CommandTree}
 use Rattle.line_meaning.specs.declared.role.Role.{Role}
 use Rattle.line_meaning.specs.declared.role.Role.TheVariants.{Blank, Indexing, Ending}
-use Rattle.line_meaning.specs.Fault.{is_gap, journal_refusal}
+use Rattle.line_meaning.specs.Fault.{journal_refusal}
 use Rattle.line_meaning.specs.Indexed.{IndexEntry, index_fault, indexes_after}
 use Rattle.line_meaning.specs.Journal.{world}
 use Rattle.line_meaning.specs.QueryFault.{command_fault}
@@ -33,9 +32,9 @@ fault_by Indexing h c = index_fault h.indexes (world h.journal) (clock h.journal
 fault_by role h c =
     or_else (command_fault (known h.journal) c) (journal_refusal (length h.journal) (bytes_of h.journal) c)
 
--- the first refusal of a command that was read, but for those of its texts: BadSyntax where it isn't built yet
+-- the first refusal of a command that was read, but for those of its texts
 abbrev pub fault_of : Held → CommandTree → Option Refusal
-fault_of h c = if is_gap c then Some BadSyntax else fault_by (role_of c) h c
+fault_of h c = fault_by (role_of c) h c
 
 -- the first refusal of a line that depends on the line and on what is held
 unfoldable pub line_refusal : Held → List ℕ → Option Refusal

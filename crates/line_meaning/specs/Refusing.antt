@@ -1,6 +1,5 @@
 -- The twenty refusals of a line, each with when it holds. A line is refused by the first that holds, in the order of their
--- numbers; others may hold beside it. A refusal never holds of a command that has no row of its own below. Of a command that
--- isn't built yet only the first six are asked.
+-- numbers; others may hold beside it. A refusal never holds of a command that has no row of its own below.
 use Rattle.std.specs.Prelude.{ℕ, ◌+◌, Bool, false, not, ◌||◌, ◌&&◌, is_none, is_some, nat_le, nat_lt, Option, List, [], ◌∷◌, length, map}
 use Rattle.std.specs.Option.{option_map_or}
 use Rattle.tick_set.specs.declared.spans.TheConstants.{LAST_TICK}
@@ -25,7 +24,7 @@ use Rattle.command_text.specs.Tree
 use Rattle.command_text.specs.Tree.{CommandTree}
 use Rattle.line_meaning.specs.Ask.{bindings_asked, has_fault, is_past_span}
 use Rattle.line_meaning.specs.Blurred.{is_barred, is_blurred_crowded, is_blurred_past}
-use Rattle.line_meaning.specs.Fault.{is_gap, is_present, passes_limits}
+use Rattle.line_meaning.specs.Fault.{is_present, passes_limits}
 use Rattle.line_meaning.specs.Indexed.{column, index_named, is_index_crowded, is_index_past, is_lasting, is_past_index, varies}
 use Rattle.line_meaning.specs.Journal.{attribute_of, world}
 use Rattle.line_meaning.specs.Near.{is_near_crowded, is_near_past, is_near_placeless, is_near_unknown}
@@ -38,10 +37,6 @@ catalog_of k = k.world.history.catalog
 
 abbrev pub known_catalog : Held → Catalog
 known_catalog h = (world h.journal).history.catalog
-
--- 4: a command that isn't built yet, with all its numbers and sizes within their limits
-abbrev pub is_unbuilt : List ℕ → Bool
-is_unbuilt line = is_gap (spelled line) && not (has_unfit_number (command_in line)) && not (has_large_size (command_in line))
 
 -- ---- 7: a class, region, object, attribute, variable or registered query isn't known
 
@@ -221,7 +216,7 @@ abbrev pub refuses : Base → List ℕ → Refusal → Bool
 refuses b line refusals.LineTooLong = is_too_long LINE_LIMIT line
 refuses b line refusals.NotAscii = has_other_byte line
 refuses b line refusals.BadToken = has_bad_token line
-refuses b line refusals.BadSyntax = is_no_command (command_in line) || is_unbuilt line
+refuses b line refusals.BadSyntax = is_no_command (command_in line)
 refuses b line refusals.NumberRange = has_unfit_number (command_in line)
 refuses b line refusals.TooLarge = has_large_size (command_in line)
 refuses b line refusals.UnknownName = lacks_index b.held (spelled line) || names_unknown (known b.held.journal) (spelled line)

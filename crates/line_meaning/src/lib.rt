@@ -23,4 +23,4 @@ pub use limits::{
     ALL_BINDINGS_LIMIT, ASSIGNED_SPAN_LIMIT, BLURRED_BINDING_LIMIT, BLURRED_SPAN_LIMIT,
     CIRCLE_NAMES, CIRCLE_SPAN_LIMIT, INDEX_LIMIT, NEAREST_SPAN_LIMIT, limits_in_numbers,
 };
-pub use role::{Role, is_gap, role_of};
+pub use role::{Role, role_of};

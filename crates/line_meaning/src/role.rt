@@ -1,7 +1,6 @@
 //! What is done with a command that was read.
 ghost use Rattle.std.specs.Prelude.{◌≡◌};
 ghost use Rattle.command_text.specs.Tree.{command_view};
-ghost use Rattle.line_meaning.specs.Fault.{is_gap};
 ghost use Rattle.line_meaning.specs.Role.{role_of};
 
 use command_text::Command;
@@ -36,21 +35,5 @@ pub fn role_of(command: &Command) -> Role
         Command::Index { .. } | Command::Range { .. } => Role::Indexing,
         Command::Quit => Role::Ending,
         _ => Role::Telling,
-    }
-}
-
-/// Whether a command isn't built yet.
-pub fn is_gap(command: &Command) -> bool
-    ensures { result ≡ is_gap (command_view command.now) }
-{
-    match command {
-        Command::Nothing | Command::Ask { .. } | Command::List | Command::Quit => false,
-        Command::Class { .. } | Command::Region { .. } | Command::Insert { .. } => false,
-        Command::Update { .. } | Command::Remove { .. } | Command::Tick { .. } => false,
-        Command::Watch { .. } | Command::Keep { .. } => false,
-        Command::Show { .. } | Command::Drop { .. } => false,
-        Command::Nearest { .. } | Command::Must { .. } | Command::May { .. } => false,
-        Command::Save { .. } | Command::Import { .. } | Command::Export { .. } => false,
-        Command::Index { .. } | Command::Range { .. } => false,
     }
 }

@@ -11,7 +11,6 @@ use Rattle.command_text.specs.Tree.{CommandTree, command_view}
 use Rattle.fixed_point.specs.declared.short_text.Word.{Word}
 use Rattle.line_meaning.specs.declared.role.Role.TheVariants.{Telling}
 use Rattle.line_meaning.specs.Answering.{answer_lines, query_lines}
-use Rattle.line_meaning.specs.Fault.{is_gap}
 use Rattle.line_meaning.specs.Journal.{world}
 use Rattle.line_meaning.specs.Looks.{looks_asked, most_looks}
 use Rattle.line_meaning.specs.Registry.{Known, known}
@@ -64,14 +63,14 @@ stopped_as c m n fault h = record {
 
 -- ---- a command that changes nothing, once its lines were written
 
-module _ (journal : List Accepted) (c : CommandTree) (gap : is_gap c ≡ false) (telling : role_of c ≡ Telling) (before mid : List ℕ)
+module _ (journal : List Accepted) (c : CommandTree) (telling : role_of c ≡ Telling) (before mid : List ℕ)
     (told : IsTold journal c before mid) where
   pub told_ends : (after : List ℕ) → after ≡ mid → IsAccepted c (held journal) (held journal) before after
-  told_ends after ends = told_accepted journal c gap telling before after told.right (ends ∙ told.said)
+  told_ends after ends = told_accepted journal c telling before after told.right (ends ∙ told.said)
 
   -- memory was wanting after them
   pub told_lacks : IsStopped c (held journal) (held journal) stops.NoMemory
-  told_lacks = told_stopped journal c gap telling stops.NoMemory told.right
+  told_lacks = told_stopped journal c telling stops.NoMemory told.right
 
 -- no other command tells of registered queries
 no_queries : (k : Known) (command : Command) → (command ≡ commands.List → ⊥) → ((name : Word) → command ≡ commands.Show name → ⊥) →

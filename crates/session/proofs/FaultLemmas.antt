@@ -13,7 +13,7 @@ use Rattle.command_text.specs.Tree.{CommandTree}
 use Rattle.line_meaning.specs.declared.role.Role.{Role}
 use Rattle.line_meaning.specs.declared.role.Role.TheVariants.{Journalled, Telling}
 use Rattle.line_meaning.specs.Answering.{answer_lines, kept_lines, query_lines}
-use Rattle.line_meaning.specs.Fault.{fault_among, is_gap, journal_refusal, passes_limits}
+use Rattle.line_meaning.specs.Fault.{fault_among, journal_refusal, passes_limits}
 use Rattle.line_meaning.specs.Journal.{world}
 use Rattle.line_meaning.specs.QueryFault.{command_fault, query_fault}
 use Rattle.line_meaning.specs.Registry.{Known, known}
@@ -44,7 +44,6 @@ none_that_holds r b is = ap (λ x. first_that_holds ((r, x) ∷ [])) is
 
 -- ---- by the role
 
--- a command that is built is judged by its role
 -- neither of these is on indexes
 kept_other : (c : CommandTree) → is_kept c ≡ true → is_on_indexes c ≡ false
 kept_other (Tree.Index class attribute width) kept = absurd (cc kept)
@@ -56,12 +55,9 @@ telling_other (Tree.Index class attribute width) telling = absurd (cc telling)
 telling_other (Tree.Range span class attribute least greatest) telling = absurd (cc telling)
 telling_other c telling = refl
 
-pub by_role : (h : Held) (c : CommandTree) (role : Role) → is_gap c ≡ false → role_of c ≡ role → fault_of h c ≡ fault_by role h c
-by_role h c role gap is =
-    ap (λ g. if g then Some refusals.BadSyntax else fault_by (role_of c) h c) gap ∙ ap (λ r. fault_by r h c) is
-
-pub gap_fault : (h : Held) (c : CommandTree) → is_gap c ≡ true → fault_of h c ≡ Some refusals.BadSyntax
-gap_fault h c gap = ap (λ g. if g then Some refusals.BadSyntax else fault_by (role_of c) h c) gap
+-- a command is judged by its role
+pub by_role : (h : Held) (c : CommandTree) (role : Role) → role_of c ≡ role → fault_of h c ≡ fault_by role h c
+by_role h c role is = ap (λ r. fault_by r h c) is
 
 -- a command that isn't on registered queries is refused as one that only the database judges
 no_query_fault : (k : Known) (c : CommandTree) → is_on_queries c ≡ false → query_fault k c ≡ None
@@ -77,10 +73,10 @@ data_fault k c plain =
 
 -- ---- a command that the journal keeps
 
-module _ (journal : List Accepted) (c : CommandTree) (gap : is_gap c ≡ false) (kept : is_kept c ≡ true) where
+module _ (journal : List Accepted) (c : CommandTree) (kept : is_kept c ≡ true) where
   pub kept_fault : fault_of (held journal) c
       ≡ or_else (command_fault (known journal) c) (journal_refusal (length journal) (bytes_of journal) c)
-  kept_fault = by_role (held journal) c Journalled gap (kept_is_journalled c kept)
+  kept_fault = by_role (held journal) c Journalled (kept_is_journalled c kept)
 
   full_by : (full : Bool) → passes_limits (length journal) (bytes_of journal) (length (text_of c)) ≡ full →
       journal_refusal (length journal) (bytes_of journal) c ≡ first_that_holds ((refusals.JournalFull, full) ∷ [])
@@ -108,19 +104,19 @@ module _ (journal : List Accepted) (c : CommandTree) (gap : is_gap c ≡ false) 
   -- it was refused by what is known, or memory was out where nothing refuses it
   pub stopped_by : (fault : CommandFault) → IsStoppedBy (command_fault (known journal) c) fault → IsStopped c (held journal) (held journal) fault
   stopped_by (stops.Refused r) is = (refused r is, refl)
-  stopped_by stops.NoMemory is = (record { built = gap; accepted = λ _. is }, refl)
+  stopped_by stops.NoMemory is = (λ _. is, refl)
 
   -- nothing but the journal refuses it
   pub stopped_full : (line : List ℕ) (fault : CommandFault) → command_fault (known journal) c ≡ None →
       Admits journal c line (Err fault) → IsStopped c (held journal) (held journal) fault
   stopped_full line (stops.Refused r) none is = (full none is.1 ∙ ap Some (sym is.0), refl)
-  stopped_full line stops.NoMemory none is = (record { built = gap; accepted = λ _. none }, refl)
+  stopped_full line stops.NoMemory none is = (λ _. none, refl)
 
   -- memory is out, and nothing refuses it but that a class is judged late
   pub stopped_lacking : (new : List Accepted) (fault : CommandFault) → new ≡ journal → fault ≡ stops.NoMemory →
       (is_class c ≡ false → command_fault (known journal) c ≡ None) → IsStopped c (held journal) (held new) fault
   stopped_lacking new fault same is none =
-      subst (λ (f : CommandFault). IsStopped c (held journal) (held new) f) (sym is) (record { built = gap; accepted = none }, ap held same)
+      subst (λ (f : CommandFault). IsStopped c (held journal) (held new) f) (sym is) (none, ap held same)
 
   entry_is : held_after (held journal) c ≡ held (journal ++ (clock journal, c) ∷ [])
   entry_is = ap (λ (k : Bool). held (journal ++ (if k then (clock journal, c) ∷ [] else []))) kept
@@ -139,20 +135,20 @@ module _ (journal : List Accepted) (c : CommandTree) (gap : is_gap c ≡ false) 
 
 -- ---- a command that changes nothing
 
-module _ (journal : List Accepted) (c : CommandTree) (gap : is_gap c ≡ false) (telling : role_of c ≡ Telling) where
+module _ (journal : List Accepted) (c : CommandTree) (telling : role_of c ≡ Telling) where
   told_kept : is_kept c ≡ false
   told_kept = telling_is_not_kept c telling
 
   told_fault : fault_of (held journal) c ≡ command_fault (known journal) c
   told_fault =
-      by_role (held journal) c Telling gap telling
+      by_role (held journal) c Telling telling
       ∙ ap (λ k. or_else (command_fault (known journal) c)
       (first_that_holds ((refusals.JournalFull, k && passes_limits (length journal) (bytes_of journal) (length (text_of c))) ∷ []))) told_kept
       ∙ or_none (command_fault (known journal) c)
 
   pub told_stopped : (fault : CommandFault) → IsStoppedBy (command_fault (known journal) c) fault → IsStopped c (held journal) (held journal) fault
   told_stopped (stops.Refused r) is = (told_fault ∙ is, refl)
-  told_stopped stops.NoMemory is = (record { built = gap; accepted = λ _. is }, refl)
+  told_stopped stops.NoMemory is = (λ _. is, refl)
 
   pub told_accepted : (before after : List ℕ) → command_fault (known journal) c ≡ None →
       after ≡ before ++ (answer_lines (world journal) (clock journal) c ++ query_lines (known journal) c) →

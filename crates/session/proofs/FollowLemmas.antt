@@ -17,7 +17,7 @@ use Rattle.command_text.specs.Tree
 use Rattle.command_text.specs.Tree.{CommandTree}
 use Rattle.session_file.specs.declared.kept.TheConstants.{SESSION_LINE_LIMIT}
 use Rattle.line_meaning.specs.Answering.{kept_lines}
-use Rattle.line_meaning.specs.Fault.{is_gap, passes_limits}
+use Rattle.line_meaning.specs.Fault.{passes_limits}
 use Rattle.line_meaning.specs.Journal.{regions_of, world, writes_of}
 use Rattle.line_meaning.specs.Looks.{looks_of_write, most_looks}
 use Rattle.line_meaning.specs.QueryFault.{command_fault}
@@ -150,21 +150,21 @@ module _ (s : State) (c : CommandTree) (before : ℕ) (change : Change) (is : Is
 
   -- ---- the entry
 
-  module _ (gap : is_gap c ≡ false) (kept : is_kept c ≡ true) (plain : is_on_queries c ≡ false) where
+  module _ (kept : is_kept c ≡ true) (plain : is_on_queries c ≡ false) where
     changed_right : command_fault (known s.journal) c ≡ None
     changed_right = data_fault (known s.journal) c plain ∙ sym (fault_is_told s.journal is.old c is.state.keeps) ∙ is.carries.accepted
 
     pub changed_full : (line : List ℕ) (fault : CommandFault) → Admits s.journal c line (Err fault) →
         IsStopped c (held s.journal) (held s.journal) fault
-    changed_full line fault admits = stopped_full s.journal c gap kept line fault changed_right admits
+    changed_full line fault admits = stopped_full s.journal c kept line fault changed_right admits
 
     pub changed_lacks : (new : List Accepted) (fault : CommandFault) → new ≡ s.journal → fault ≡ stops.NoMemory →
         IsStopped c (held s.journal) (held new) fault
-    changed_lacks new fault still lacks = stopped_lacking s.journal c gap kept new fault still lacks (λ other. changed_right)
+    changed_lacks new fault still lacks = stopped_lacking s.journal c kept new fault still lacks (λ other. changed_right)
 
     module _ (line : List ℕ) (admits : Admits s.journal c line (Ok tt)) where
       pub changed_fault : fault_of (held s.journal) c ≡ None
-      changed_fault = accepted s.journal c gap kept changed_right admits.1
+      changed_fault = accepted s.journal c kept changed_right admits.1
 
       pub changed_reached : IsPrintable c → length (text_of c) ≤ SESSION_LINE_LIMIT → AreReached [] (s.journal ++ (before, c) ∷ [])
       changed_reached printable short = reached_entry s.journal before c tick_is kept printable short changed_fault is.state.reached
@@ -184,7 +184,7 @@ prepared_is c change d live None is = tt
 prepared_is c change d live (Some f) is = is.prepared
 
 module _ (laws : Laws) (s : State) (d : Database) (live : List KeptQuery) (c : CommandTree) (change : Change) (is : IsState s.journal s)
-    (carries : Carries c s.database d change) (gap : is_gap c ≡ false) (kept : is_kept c ≡ true) (plain : is_on_queries c ≡ false)
+    (carries : Carries c s.database d change) (kept : is_kept c ≡ true) (plain : is_on_queries c ≡ false)
     (none : fault_of (held s.journal) c ≡ None) (before : AreKept s.live) (after : AreKept live) (f : Option Prepared)
     (prepares : Prepares c change d s.live f) (settles : Settles f s.live live) where
   all_settled : IsSettled c s.database d s.live live f
@@ -211,7 +211,7 @@ module _ (laws : Laws) (s : State) (d : Database) (live : List KeptQuery) (c : C
       out' ≡ out ++ lines_told c (clock_of s.database) d s.live f → IsAccepted c (held s.journal) (held new) out out'
   changed_done new out out' entered said =
       let lines : List ℕ = lines_told c (clock_of s.database) d s.live f in
-      accepted_kept s.journal c gap kept (clock_of s.database) new out out' lines is.keeps.clock_is entered none
+      accepted_kept s.journal c kept (clock_of s.database) new out out' lines is.keeps.clock_is entered none
       (all_settled.lines ∙ (λ i. kept_lines (known_is s.journal s is i) (sym known_later i) c))
       said
 
@@ -224,11 +224,11 @@ attempt_lacks journal d (Tree.Tick ticks) keeps lacks plain other = absurd lacks
 attempt_lacks journal d c keeps lacks plain other = data_fault (known journal) c plain ∙ sym (fault_is_told journal d c keeps) ∙ lacks
 
 pub attempt_stopped : (journal : List Accepted) (d new : Database) (c : CommandTree) (fault : CommandFault) → Keeps journal d →
-    is_gap c ≡ false → is_kept c ≡ true → is_on_queries c ≡ false → Stops c d new fault → IsStopped c (held journal) (held journal) fault
-attempt_stopped journal d new c (stops.Refused r) keeps gap kept plain is =
-    (refused journal c gap kept r (data_fault (known journal) c plain ∙ sym (fault_is_told journal d c keeps) ∙ is.0), refl)
-attempt_stopped journal d new c stops.NoMemory keeps gap kept plain is =
-    stopped_lacking journal c gap kept journal stops.NoMemory refl refl (attempt_lacks journal d c keeps is.0 plain)
+    is_kept c ≡ true → is_on_queries c ≡ false → Stops c d new fault → IsStopped c (held journal) (held journal) fault
+attempt_stopped journal d new c (stops.Refused r) keeps kept plain is =
+    (refused journal c kept r (data_fault (known journal) c plain ∙ sym (fault_is_told journal d c keeps) ∙ is.0), refl)
+attempt_stopped journal d new c stops.NoMemory keeps kept plain is =
+    stopped_lacking journal c kept journal stops.NoMemory refl refl (attempt_lacks journal d c keeps is.0 plain)
 
 pub attempt_same : (c : CommandTree) (d new : Database) (fault : CommandFault) → Stops c d new fault → new ≡ d
 attempt_same c d new (stops.Refused r) is = is.1

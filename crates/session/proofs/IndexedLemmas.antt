@@ -67,7 +67,7 @@ module _ (journal : List Accepted) (d : Database) (keeps : Keeps journal d) (kep
     }
     index_carries out out' reads probes (Err stops.NoMemory) none is stopped same said = record {
       accepted = tt;
-      stopped = (record { built = refl; accepted = λ _. refl }, ap (holding journal) same);
+      stopped = (λ _. refl, ap (holding journal) same);
       spends = record {
         within = record { begins = subst (Begins out) (sym said) (begins_same out); least = omega arith; most = omega arith };
         plain = λ no. refl;
@@ -107,7 +107,7 @@ module _ (journal : List Accepted) (d : Database) (keeps : Keeps journal d) (kep
   }
   range_carries span class attribute low high out out' reads reads' probes (Err stops.NoMemory) is same answered begins least most free = record {
     accepted = tt;
-    stopped = (record { built = refl; accepted = λ _. refl }, λ i. record { journal = journal; indexes = same i });
+    stopped = (λ _. refl, λ i. record { journal = journal; indexes = same i });
     spends = record { within = record { begins = begins; least = least; most = most }; plain = λ no. refl };
     free = record { unread = free; unprobed = λ _. refl };
   }

@@ -51,7 +51,7 @@ module _ (c : CommandTree) (plain : is_on_indexes c ≡ false) (indexes : List I
 
     stopped_lifts : (fault : CommandFault) → IsStopped c (held j) (held k) fault → IsStopped c (lift (held j)) (lift (held k)) fault
     stopped_lifts (stops.Refused r) is = (fault_same j ∙ is.0, ap lift is.1)
-    stopped_lifts stops.NoMemory is = (record { built = is.0.built; accepted = is.0.accepted }, ap lift is.1)
+    stopped_lifts stops.NoMemory is = (is.0, ap lift is.1)
 
     spends_lifts : (old new : Tally) → Spends c (record { holds = held j; tally = old }) (record { holds = held k; tally = new }) →
         Spends c (record { holds = lift (held j); tally = old }) (record { holds = lift (held k); tally = new })

@@ -29,7 +29,7 @@ use Rattle.session_file.specs.declared.kept.TheConstants.{SESSION_LINE_LIMIT}
 use Rattle.line_meaning.specs.Answering.{kept_lines}
 use Rattle.line_meaning.specs.Ask.{query_in}
 use Rattle.line_meaning.specs.Changes.{answer_text}
-use Rattle.line_meaning.specs.Fault.{is_gap, passes_limits}
+use Rattle.line_meaning.specs.Fault.{passes_limits}
 use Rattle.line_meaning.specs.FirstFault.{register_size_refusal, type_refusal, unknown_among}
 use Rattle.line_meaning.specs.Journal.{regions_of, world, writes_of}
 use Rattle.line_meaning.specs.Looks.{is_query, most_looks, most_reads}
@@ -58,13 +58,6 @@ use Rattle.session.proofs.FaultLemmas.{accepted, accepted_kept, none_holds, none
 use Rattle.session.proofs.KnownLemmas.{entered_state, keeps_same, known_is}
 
 -- ---- a command that registers a query, of either kind
-
-pub request_gap : (r : Request) → is_gap (command_of r) ≡ false
-request_gap r = by_kind r.kind
-  where
-    by_kind : (k : QueryKind) → is_gap (command_by k r) ≡ false
-    by_kind Watch = refl
-    by_kind Keep = refl
 
 pub request_kept : (r : Request) → is_kept (command_of r) ≡ true
 request_kept r = by_kind r.kind
@@ -225,9 +218,6 @@ name_is_free k name span q none =
 -- ---- a query that is asked for is registered
 
 module _ (s : State) (is : IsState s.journal s) (c : CommandTree) (r : Request) (same : c ≡ command_of r) where
-  asked_gap : is_gap c ≡ false
-  asked_gap = ap is_gap same ∙ request_gap r
-
   asked_kept : is_kept c ≡ true
   asked_kept = ap is_kept same ∙ request_kept r
 
@@ -249,23 +239,23 @@ module _ (s : State) (is : IsState s.journal s) (c : CommandTree) (r : Request) 
       IsStoppedBy (register_refusal (known_of s.database s.live) r.name.now r.span (query_view r.query.now)) fault →
       IsStopped c (held s.journal) (held s.journal) fault
   asked_stopped fault stopped =
-      stopped_by s.journal c asked_gap asked_kept fault
+      stopped_by s.journal c asked_kept fault
       (subst (λ (o : Option Refusal). IsStoppedBy o fault) (sym asked_fault) stopped)
 
   module _ (right : register_refusal (known_of s.database s.live) r.name.now r.span (query_view r.query.now) ≡ None) where
     pub asked_full : (line : List ℕ) (fault : CommandFault) → Admits s.journal c line (Err fault) →
         IsStopped c (held s.journal) (held s.journal) fault
     asked_full line fault admits =
-        stopped_full s.journal c asked_gap asked_kept line fault (asked_fault ∙ right) admits
+        stopped_full s.journal c asked_kept line fault (asked_fault ∙ right) admits
 
     pub asked_lacks : (new : List Accepted) (fault : CommandFault) → new ≡ s.journal → fault ≡ stops.NoMemory →
         IsStopped c (held s.journal) (held new) fault
     asked_lacks new fault still lacks =
-        stopped_lacking s.journal c asked_gap asked_kept new fault still lacks (λ other. asked_fault ∙ right)
+        stopped_lacking s.journal c asked_kept new fault still lacks (λ other. asked_fault ∙ right)
 
     module _ (line : List ℕ) (admits : Admits s.journal c line (Ok tt)) where
       asked_accepted : fault_of (held s.journal) c ≡ None
-      asked_accepted = accepted s.journal c asked_gap asked_kept (asked_fault ∙ right) admits.1
+      asked_accepted = accepted s.journal c asked_kept (asked_fault ∙ right) admits.1
 
       pub asked_room : passes_limits (length s.journal) (bytes_of s.journal) (length line) ≡ false
       asked_room = ap (λ l. passes_limits (length s.journal) (bytes_of s.journal) (length l)) admits.0 ∙ admits.1
@@ -305,7 +295,7 @@ module _ (s : State) (is : IsState s.journal s) (c : CommandTree) (r : Request) 
             let lines : List ℕ = answer_text (world_of_database s.database) (clock_of s.database)
             (registration r.kind (world_of_database s.database) (clock_of s.database) r.name.now r.span (query_view r.query.now)) in
             let later : Known = known (s.journal ++ (clock s.journal, c) ∷ []) in
-            accepted_kept s.journal c asked_gap asked_kept now new before after lines (tick ∙ is.keeps.clock_is) (entered_is new entered) asked_accepted
+            accepted_kept s.journal c asked_kept now new before after lines (tick ∙ is.keeps.clock_is) (entered_is new entered) asked_accepted
             (ap (λ (k : Known). answer_text k.world k.now (registration r.kind k.world k.now r.name.now r.span (query_view r.query.now)))
             (known_is s.journal s is)
             ∙ sym (request_lines (known s.journal) later r) ∙ ap (kept_lines (known s.journal) later) (sym same))
@@ -321,15 +311,12 @@ module _ (s : State) (is : IsState s.journal s) (c : CommandTree) (name : List �
       ∙ unregistered (known s.journal) name there
       (tells ∙ registered_any name s.live ∙ ap (λ (rs : List Registration). is_registered rs name) is.queries)
 
-  drop_gap : is_gap c ≡ false
-  drop_gap = ap is_gap same
-
   drop_kept : is_kept c ≡ true
   drop_kept = ap is_kept same
 
   pub drop_unknown : there ≡ false → IsStopped c (held s.journal) (held s.journal) (stops.Refused refusals.UnknownName)
   drop_unknown absent =
-      stopped_by s.journal c drop_gap drop_kept (stops.Refused refusals.UnknownName)
+      stopped_by s.journal c drop_kept (stops.Refused refusals.UnknownName)
       (drop_fault ∙ ap (λ b. first_that_holds ((refusals.UnknownName, not b) ∷ [])) absent)
 
   module _ (present : there ≡ true) where
@@ -338,17 +325,17 @@ module _ (s : State) (is : IsState s.journal s) (c : CommandTree) (name : List �
 
     pub drop_full : (line : List ℕ) (fault : CommandFault) → Admits s.journal c line (Err fault) →
         IsStopped c (held s.journal) (held s.journal) fault
-    drop_full line fault admits = stopped_full s.journal c drop_gap drop_kept line fault drop_right admits
+    drop_full line fault admits = stopped_full s.journal c drop_kept line fault drop_right admits
 
     pub drop_lacks : (new : List Accepted) (fault : CommandFault) → new ≡ s.journal → fault ≡ stops.NoMemory →
         IsStopped c (held s.journal) (held new) fault
     drop_lacks new fault still lacks =
-        stopped_lacking s.journal c drop_gap drop_kept new fault still lacks (λ other. drop_right)
+        stopped_lacking s.journal c drop_kept new fault still lacks (λ other. drop_right)
 
     module _ (line : List ℕ) (admits : Admits s.journal c line (Ok tt)) (now : ℕ) (tick : now ≡ clock_of s.database) (spells : List ℕ → CommandTree)
         (canonical : spells (text_of c) ≡ c) where
       drop_accepted : fault_of (held s.journal) c ≡ None
-      drop_accepted = accepted s.journal c drop_gap drop_kept drop_right admits.1
+      drop_accepted = accepted s.journal c drop_kept drop_right admits.1
 
       drop_entered : (new : List Accepted) → new ≡ s.journal ++ (now, spells line) ∷ [] → new ≡ s.journal ++ (now, c) ∷ []
       drop_entered new entered = entered ∙ ap (λ x. s.journal ++ (now, x) ∷ []) (ap spells admits.0 ∙ canonical)
@@ -368,5 +355,5 @@ module _ (s : State) (is : IsState s.journal s) (c : CommandTree) (name : List �
       pub drop_done : (new : List Accepted) (before after : List ℕ) → new ≡ s.journal ++ (now, spells line) ∷ [] → after ≡ before →
           IsAccepted c (held s.journal) (held new) before after
       drop_done new before after entered said =
-          accepted_kept s.journal c drop_gap drop_kept now new before after [] (tick ∙ is.keeps.clock_is) (drop_entered new entered) drop_accepted
+          accepted_kept s.journal c drop_kept now new before after [] (tick ∙ is.keeps.clock_is) (drop_entered new entered) drop_accepted
           (ap (kept_lines (known s.journal) (known (s.journal ++ (clock s.journal, c) ∷ []))) (sym same)) (said ∙ sym (append-nil before))

@@ -18,7 +18,7 @@ use Rattle.command_text.specs.Text.{text_of}
 use Rattle.command_text.specs.Tree
 use Rattle.command_text.specs.Tree.{CommandTree}
 use Rattle.line_meaning.specs.declared.role.Role.{Role}
-use Rattle.line_meaning.specs.Fault.{is_gap, is_present, journal_refusal, passes_limits}
+use Rattle.line_meaning.specs.Fault.{is_present, journal_refusal, passes_limits}
 use Rattle.line_meaning.specs.Import.{MayBeLoaded, entry_lines, is_taken, journal_after_rows, lines_of_rows, row_command, with_entry}
 use Rattle.line_meaning.specs.Journal.{world}
 use Rattle.line_meaning.specs.Looks.{is_query, looks_of_rows, most_looks}
@@ -39,12 +39,6 @@ write_kept (Tree.Insert class name place sets) write = refl
 write_kept (Tree.Update name place sets) write = refl
 write_kept (Tree.Remove name) write = refl
 write_kept c write = absurd (cc write)
-
-pub write_built : (c : CommandTree) → writes_object c ≡ true → is_gap c ≡ false
-write_built (Tree.Insert class name place sets) write = refl
-write_built (Tree.Update name place sets) write = refl
-write_built (Tree.Remove name) write = refl
-write_built c write = absurd (cc write)
 
 pub write_plain : (c : CommandTree) → writes_object c ≡ true → is_on_queries c ≡ false
 write_plain (Tree.Insert class name place sets) write = refl
@@ -83,7 +77,7 @@ module _ (journal : List Accepted) (c : CommandTree) (write : writes_object c �
       let late : journal_refusal (length journal) (bytes_of journal) c ≡ Some refusals.JournalFull =
       ap (λ k. first_that_holds ((refusals.JournalFull, k && passes_limits (length journal) (bytes_of journal) (length (text_of c))) ∷ [])) (write_kept c write)
       ∙ ap (λ f. first_that_holds ((refusals.JournalFull, f) ∷ [])) full in
-      ap is_none (kept_fault journal c (write_built c write) (write_kept c write)
+      ap is_none (kept_fault journal c (write_kept c write)
       ∙ ap (λ (o : Option Refusal). or_else (command_fault (known journal) c) o) late) ∙ not_none (command_fault (known journal) c) refusals.JournalFull
 
   untaken_by : (full : Bool) → passes_limits (length journal) (bytes_of journal) (length (text_of c)) ≡ full → not full ≡ false →
@@ -96,7 +90,7 @@ module _ (journal : List Accepted) (c : CommandTree) (write : writes_object c �
 
   pub taken_by : passes_limits (length journal) (bytes_of journal) (length (text_of c)) ≡ false → command_fault (known journal) c ≡ None →
       is_taken journal c ≡ true
-  taken_by room right = ap is_none (accepted journal c (write_built c write) (write_kept c write) right room)
+  taken_by room right = ap is_none (accepted journal c (write_kept c write) right room)
 
 -- what is taken has no fault
 none_is : (f : Option Refusal) → is_none f ≡ true → f ≡ None

@@ -26,7 +26,7 @@ use Rattle.session.specs.Followed.{writes_object}
 use Rattle.session.specs.Rows.{IsImportedRow, IsRowCommand, row_commands}
 use Rattle.session.specs.Trial.{Adds, AreTaken, HasSpare, IsAdded, IsNext, IsNotNext, IsSameTrial, IsStack, IsTold, IsTrial, IsTried, Steps, Tries, TriesCommand, bottom, journal_of, with_entries}
 use Rattle.session.proofs.FaultLemmas.{data_fault, refused}
-use Rattle.session.proofs.RowLemmas.{bytes_more, entries_more, entry_more, no_room, refused_untaken, row_is, taken_by, write_built, write_kept, write_plain}
+use Rattle.session.proofs.RowLemmas.{bytes_more, entries_more, entry_more, no_room, refused_untaken, row_is, taken_by, write_kept, write_plain}
 
 -- ---- the stack
 
@@ -85,7 +85,7 @@ module _ (journal : List Accepted) (c : CommandTree) (old : Database) (write : w
 
   pub tried_refused : (new : Database) (r : Refusal) → fault_told old c ≡ Some r → new ≡ old → Tries journal c old new None
   tried_refused new r is same =
-      (refused_untaken journal c write r (refused journal c (write_built c write) (write_kept c write) r (told (Some r) is)), same)
+      (refused_untaken journal c write r (refused journal c (write_kept c write) r (told (Some r) is)), same)
 
 -- ---- a row more
 

@@ -14,7 +14,6 @@ use Rattle.command_text.specs.Tree.{CommandTree}
 use Rattle.line_meaning.specs.declared.role.Role.{Role}
 use Rattle.line_meaning.specs.declared.role.Role.TheVariants.{Blank, Journalled, Telling, Indexing, Filing, Ending}
 use Rattle.line_meaning.specs.Answering.{answer_lines, kept_lines, query_lines}
-use Rattle.line_meaning.specs.Fault.{is_gap}
 use Rattle.line_meaning.specs.Journal.{world}
 use Rattle.line_meaning.specs.Looks.{is_query, most_looks}
 use Rattle.line_meaning.specs.QueryFault.{command_fault}
@@ -48,12 +47,10 @@ pub record IsToCarryOut (c : CommandTree) : Type 0 where
 pub record IsTelling (c : CommandTree) : Type 0 where
   pub printable : IsPrintable c
   pub telling : role_of c ≡ Telling
-  pub built : is_gap c ≡ false
 
 -- it changes the objects, the regions or the clock, and the journal keeps it
 pub record IsOnData (c : CommandTree) : Type 0 where
   pub kept : is_kept c ≡ true
-  pub built : is_gap c ≡ false
   pub other : is_on_queries c ≡ false
 
 abbrev pub is_class : CommandTree → Bool
@@ -85,11 +82,10 @@ pub record IsAccepted (c : CommandTree) (old new : Held) (before after : List �
   pub goes_on : new ≡ all_after old c
   pub said : after ≡ before ++ lines_by (role_of c) old c
 
--- Want of memory is told of no command that isn't built, and of none that what is held refuses, but that the attributes of
--- a class are copied before it is judged.
-pub record LacksMemory (h : Held) (c : CommandTree) : Type 0 where
-  pub built : is_gap c ≡ false
-  pub accepted : is_class c ≡ false → command_fault (known h.journal) c ≡ None
+-- Want of memory is told of no command that what is held refuses, but that the attributes of a class are copied before it
+-- is judged.
+abbrev pub LacksMemory : Held → CommandTree → Type 0
+LacksMemory h c = is_class c ≡ false → command_fault (known h.journal) c ≡ None
 
 -- it is refused, or memory is out, and nothing else is held
 abbrev pub IsStopped : CommandTree → Held → Held → CommandFault → Type 0

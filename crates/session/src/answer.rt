@@ -15,7 +15,7 @@ use crate::keeping::keep;
 use crate::next::Next;
 use crate::state::State;
 use command_text::{Command, CommandFault, Refusal};
-use line_meaning::{Role, is_gap, role_of};
+use line_meaning::{Role, role_of};
 use registry::{push_queries, show};
 use std::alloc::{AllocError, Global};
 use std::sync::ledger::Ledger;
@@ -100,9 +100,6 @@ fn perform_plain<L: Ledger, M: Ledger>(
     ensures next { IfOk result (λ next. next ≡ next_of (command_view command.now)) }
     ensures room { IfOk result (λ next. HasRoomFor next out.new) }
 {
-    if is_gap(command) {
-        return Err(CommandFault::Refused(Refusal::BadSyntax));
-    }
     match role_of(command) {
         Role::Blank => Ok(Next::Silent),
         Role::Journalled => {

@@ -4,7 +4,6 @@ ghost use Rattle.std.specs.List.{flat_map};
 ghost use Rattle.command_text.specs.Journal.{is_kept};
 ghost use Rattle.command_text.specs.Tree;
 ghost use Rattle.command_text.specs.Tree.{command_view};
-ghost use Rattle.line_meaning.specs.Fault.{is_gap};
 ghost use Rattle.line_meaning.specs.Reached.{AreReached};
 ghost use Rattle.line_meaning.specs.Step.{held};
 ghost use Rattle.object_store.specs.Contents.{catalog_of};
@@ -51,7 +50,6 @@ pub(crate) fn keep<L: Ledger, M: Ledger>(
     requires state { IsState state.old.journal state.old }
     requires legible { IsLegible (command_view command.now) }
     requires kept { is_kept (command_view command.now) ≡ true }
-    requires gap { is_gap (command_view command.now) ≡ false }
     ensures state { IsState state.new.journal state.new }
     ensures indexes { KeepsIndexes state.old state.new }
     ensures carries { Carries (command_view command.now)

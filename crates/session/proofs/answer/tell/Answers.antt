@@ -8,7 +8,7 @@ use Rattle.session.proofs.answer.tell.Goals as goal
 
 pub returns-clause-carries : goal.returns-clause-carries
 returns-clause-carries g c = record {
-  accepted = told_ends c.args.state.now.journal (command_view c.args.command.now) c.requires.telling.built c.requires.telling.telling
+  accepted = told_ends c.args.state.now.journal (command_view c.args.command.now) c.requires.telling.telling
       _ _ c.in_ok-tell_lines.ensures.told _ c.make_room.ensures.same;
   stopped = tt;
   spends = record {
@@ -28,7 +28,7 @@ returns-in_err-make_room-clause-carries g c =
     let none : p.0 ≡ stops.NoMemory = p.2 in
     rw (p.1, none) (record {
       accepted = tt;
-      stopped = told_lacks c.args.state.now.journal (command_view c.args.command.now) c.requires.telling.built c.requires.telling.telling
+      stopped = told_lacks c.args.state.now.journal (command_view c.args.command.now) c.requires.telling.telling
           _ _ c.in_ok-tell_lines.ensures.told;
       spends = record {
         within = record {

@@ -11,7 +11,6 @@ pub tell-requires-in_default : goal.tell-requires-in_default
 tell-requires-in_default g c = record {
   command = record {
     telling = c.requires.telling.telling;
-    built = c.requires.telling.built;
     other = shown c.args.command.now c.requires.telling.telling c.in_default.not-Show;
     ready = is_ready (command_view c.args.command.now) c.requires.telling.printable;
   };

@@ -3,7 +3,7 @@ use Rattle.std.specs.Prelude.{unwrap_or}
 use Rattle.ftl_lexer.specs.declared.buffer.TheConstants.{LEXER_LIMIT}
 use Rattle.command_text.specs.Tree
 use Rattle.command_text.specs.Tree.{command_view}
-use Rattle.session.proofs.RowLemmas.{lines_is, row_short, write_built, write_kept}
+use Rattle.session.proofs.RowLemmas.{lines_is, row_short, write_kept}
 use Rattle.session.proofs.importing.enter_row.Goals as goal
 
 pub keep-requires-clause-legible : goal.keep-requires-clause-legible
@@ -18,9 +18,6 @@ keep-requires-clause-legible g c =
 
 pub keep-requires-clause-kept : goal.keep-requires-clause-kept
 keep-requires-clause-kept g c = write_kept (command_view c.args.command.now) c.requires.row.1
-
-pub keep-requires-clause-gap : goal.keep-requires-clause-gap
-keep-requires-clause-gap g c = write_built (command_view c.args.command.now) c.requires.row.1
 
 pub returns-in-Ok-clause-told : goal.returns-in-Ok-clause-told
 returns-in-Ok-clause-told g c =

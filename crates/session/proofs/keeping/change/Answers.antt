@@ -16,7 +16,7 @@ returns-in_err-change-clause-carries g c =
     rw (p.1, p.2)
     (stopped_at_once _ _ _
     (attempt_stopped c.args.state.now.journal c.args.state.now.database _ (command_view c.args.command.now) _ c.requires.state.keeps
-    c.requires.data.built c.requires.data.kept c.requires.data.other c.in_err-change.ensures))
+    c.requires.data.kept c.requires.data.other c.in_err-change.ensures))
 
 pub settle-requires : goal.settle-requires
 settle-requires g c =
@@ -34,7 +34,7 @@ returns-in-Ok-clause-state g c =
       passed = c.current_queries_tell_their_answers.ensures.passed;
     })
     c.args.state.now c.attempt.new.self c.settle.new.live (command_view c.args.command.now) c.in_ok-change.change c.requires.state c.in_ok-change.ensures
-    c.requires.data.built c.requires.data.kept c.requires.data.other c.in-Ok.ensures.follows.accepted
+    c.requires.data.kept c.requires.data.other c.in-Ok.ensures.follows.accepted
     (subst (λ (ks : List KeptQuery). AreKept ks) c.in-Ok.ensures.follows.live c.settle.ensures.before) c.settle.ensures.after c.in-Ok.fresh c.in-Ok.ensures.follows.prepared
     (subst (λ (ks : List KeptQuery). Settles c.in-Ok.fresh ks c.settle.new.live) c.in-Ok.ensures.follows.live c.settle.ensures.made)
     _ c.requires.legible.printable c.requires.legible.short (c.in-Ok.ensures.follows.entered ∙ ap (λ t. c.args.state.now.journal ++ (t, command_view c.args.command.now) ∷ []) c.clock-before.ensures)
@@ -51,7 +51,7 @@ returns-in-Ok-clause-carries g c = record {
     passed = c.current_queries_tell_their_answers.ensures.passed;
   })
       c.args.state.now c.attempt.new.self c.settle.new.live (command_view c.args.command.now) c.in_ok-change.change c.requires.state c.in_ok-change.ensures
-      c.requires.data.built c.requires.data.kept c.requires.data.other c.in-Ok.ensures.follows.accepted
+      c.requires.data.kept c.requires.data.other c.in-Ok.ensures.follows.accepted
       (subst (λ (ks : List KeptQuery). AreKept ks) c.in-Ok.ensures.follows.live c.settle.ensures.before) c.settle.ensures.after c.in-Ok.fresh c.in-Ok.ensures.follows.prepared
       (subst (λ (ks : List KeptQuery). Settles c.in-Ok.fresh ks c.settle.new.live) c.in-Ok.ensures.follows.live c.settle.ensures.made)
       c.follow.new.state.journal c.args.out.now.items c.follow.new.out.items

@@ -2,7 +2,7 @@ use Rattle.std.proofs.Common.{length, refl, sym, ap, arith, ◌∙◌}
 use Rattle.command_text.specs.Tree.{command_view}
 use Rattle.database.proofs.ReadyLemmas.{is_ready}
 use Rattle.session.specs.Trial.{journal_of}
-use Rattle.session.proofs.RowLemmas.{row_short, write_built, write_kept, write_plain}
+use Rattle.session.proofs.RowLemmas.{row_short, write_kept, write_plain}
 use Rattle.session.proofs.TrialLemmas.{tried_without_room}
 use Rattle.session.proofs.trying.attempt.Goals as goal
 
@@ -23,9 +23,6 @@ returns-then-not-has_room-clause-tried c =
 
 pub attempt-requires-clause-kept : goal.attempt-requires-clause-kept
 attempt-requires-clause-kept c = write_kept (command_view c.args.command.now) c.requires.row.1
-
-pub attempt-requires-clause-gap : goal.attempt-requires-clause-gap
-attempt-requires-clause-gap c = write_built (command_view c.args.command.now) c.requires.row.1
 
 pub attempt-requires-clause-data : goal.attempt-requires-clause-data
 attempt-requires-clause-data c = write_plain (command_view c.args.command.now) c.requires.row.1
