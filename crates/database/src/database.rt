@@ -59,4 +59,12 @@ impl Database {
     {
         self.clock
     }
+
+    /// A query comes next: what is kept of where objects can be is made anew where it ends soon after the clock's tick.
+    /// It takes no memory and no step, and nothing that can be seen changes.
+    pub fn prepare_for_query(&mut self)
+        ensures { self.new ≡ self.old }
+    {
+        self.store.stands_at(self.clock);
+    }
 }
