@@ -119,6 +119,20 @@ fn perform_plain<L: Ledger, M: Ledger>(
     }
 }
 
+/// Before a query that is evaluated over classes the database makes ready for it. Nothing that can be seen changes.
+fn prepare_for(state: &mut State, command: &Command)
+    ensures { state.new ≡ state.old }
+{
+    match command {
+        Command::Ask { .. }
+        | Command::Must { .. }
+        | Command::May { .. }
+        | Command::Watch { .. }
+        | Command::Keep { .. } => state.database.prepare_for_query(),
+        _ => {}
+    }
+}
+
 /// Does what a command has to that was read and asks nothing of the shelf. After an error nothing has changed but that
 /// `out` begins with its old contents, and that indexes may have looked at objects.
 #[inline(always)]
@@ -146,7 +160,10 @@ fn perform<L: Ledger, M: Ledger>(
             on_indexes(alloc, state, command, reads, out)?;
             Ok(Next::Accepted)
         }
-        _ => perform_plain(alloc, state, command, reads, probes, out),
+        _ => {
+            prepare_for(state, command);
+            perform_plain(alloc, state, command, reads, probes, out)
+        }
     }
 }
 
