@@ -128,8 +128,6 @@ fn tick(database: &mut Database, ticks: u32) -> Result<Change, CommandFault>
         return Err(CommandFault::Refused(Refusal::ClockEnd));
     }
     database.clock += ticks;
-    // Who can come into an area is told for some ticks from the clock on.
-    database.store.stands_at(database.clock);
     Ok(Change::Clock(ticks))
 }
 
