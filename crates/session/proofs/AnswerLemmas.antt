@@ -14,7 +14,7 @@ use Rattle.line_meaning.specs.declared.role.Role.{Role}
 use Rattle.line_meaning.specs.declared.role.Role.TheVariants.{Blank, Journalled, Telling, Indexing, Filing, Ending}
 use Rattle.line_meaning.specs.Looks.{is_query, looks_of, most_looks}
 use Rattle.line_meaning.specs.Role.{asks_shelf, is_filing, is_import, is_on_indexes, role_of}
-use Rattle.line_meaning.specs.Step.{Base, Held, all_after, base, base_after, fault_of, file_refusal, held_after, refusal_of, reply_by, reply_of, step}
+use Rattle.line_meaning.specs.Step.{Base, Held, all_after, base, base_after, fault_of, file_refusal, refusal_of, reply_by, reply_of, step}
 use Rattle.line_meaning.proofs.CallerLemmas.{line_refusal_read, or_none, refusal_first, refusal_read_any, refused_line, spelled_is, step_accepted, step_refused}
 use Rattle.session.specs.declared.next.ApplyFault.{ApplyFault}
 use Rattle.session.specs.declared.next.ApplyFault.TheVariants as apply_faults

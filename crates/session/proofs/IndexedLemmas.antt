@@ -1,5 +1,5 @@
 -- What the calls on the indexes make of a session.
-use Rattle.std.proofs.Common.{◌≡◌, ◌≤◌, ℕ, ◌+◌, ℤ, pos, negsuc, List, [], ◌++◌, length, None, refl, sym, ap, subst, ◌∙◌, append-nil, arith}
+use Rattle.std.proofs.Common.{◌≡◌, ◌≤◌, ℕ, ◌+◌, ℤ, pos, negsuc, List, length, None, refl, sym, ap, subst, ◌∙◌, append-nil, arith}
 use Rattle.std.specs.Prelude.{◌<ℤ◌, IfErr, IfOk, OnErr, OnOk, Result, Ok, Err}
 use Rattle.std.proofs.lemmas.Int.{ints}
 use Rattle.tick_set.specs.declared.spans.TheConstants.{LAST_TICK}
@@ -10,7 +10,7 @@ use Rattle.command_text.specs.Journal.{Accepted, clock}
 use Rattle.command_text.specs.Tree
 use Rattle.command_text.specs.Tree.{CommandTree}
 use Rattle.line_meaning.specs.Answering.{answer_lines}
-use Rattle.line_meaning.specs.Indexed.{IndexEntry, index_fault, indexes_after}
+use Rattle.line_meaning.specs.Indexed.{index_fault, indexes_after}
 use Rattle.line_meaning.specs.Journal.{world}
 use Rattle.line_meaning.specs.Judging.{all_after}
 use Rattle.line_meaning.specs.Looks.{most_looks}

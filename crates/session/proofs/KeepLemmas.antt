@@ -1,6 +1,5 @@
 -- What is done leaves the list of the indexes, and leaves them right.
 use Rattle.std.proofs.Common.{◌≡◌, ℕ, false, List, [], ◌∷◌, ◌++◌, refl, sym, ap, subst, ◌∙◌}
-use Rattle.object_store.specs.Contents.{Contents}
 use Rattle.command_text.specs.Journal.{Accepted, spelled}
 use Rattle.command_text.specs.Tree.{CommandTree}
 use Rattle.database.specs.declared.change.Change.{Change}
@@ -16,7 +15,7 @@ use Rattle.formula.specs.declared.kind.QueryKind.TheVariants.{Keep, Watch}
 use Rattle.registry.specs.declared.registering.Request.{Request}
 use Rattle.session.specs.Asked.{command_by, command_of}
 use Rattle.session.specs.declared.state.State.{State}
-use Rattle.session.specs.State.{IsIndexed, KeepsIndexes}
+use Rattle.session.specs.State.{KeepsIndexes}
 
 -- the same journal, database and indexes
 pub keeps_all : (old new : State) → new.journal ≡ old.journal → new.database ≡ old.database → new.indexes ≡ old.indexes → KeepsIndexes old new

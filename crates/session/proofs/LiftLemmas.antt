@@ -1,20 +1,19 @@
 -- What is done with a command that isn't on indexes is the same beside any indexes, which stay.
-use Rattle.std.proofs.Common.{◌≡◌, ◌⊎◌, ℕ, ◌+◌, ◌≤◌, Bool, true, false, Option, None, Some, List, ◌++◌, inl, inr, refl, sym, ap, subst, ◌∙◌}
+use Rattle.std.proofs.Common.{◌≡◌, ℕ, ◌+◌, ◌≤◌, true, false, Option, None, Some, List, ◌++◌, inl, inr, refl, sym, ap, subst, ◌∙◌}
 use Rattle.std.specs.Prelude.{Result, Ok, Err}
 use Rattle.std.proofs.lemmas.Bool.{false≢true}
 use Rattle.exact.specs.First.{or_else}
 use Rattle.outside.specs.Shelf.{Texts}
 use Rattle.command_text.specs.declared.fault.CommandFault.{CommandFault}
 use Rattle.command_text.specs.declared.fault.CommandFault.TheVariants as stops
-use Rattle.command_text.specs.declared.refusal.Refusal.{Refusal}
 use Rattle.command_text.specs.Journal.{Accepted}
 use Rattle.command_text.specs.Tree
 use Rattle.command_text.specs.Tree.{CommandTree}
 use Rattle.line_meaning.specs.declared.role.Role.TheVariants.{Indexing}
 use Rattle.line_meaning.specs.Indexed.{IndexEntry}
-use Rattle.line_meaning.specs.Looks.{looks_of, most_looks}
+use Rattle.line_meaning.specs.Looks.{looks_of}
 use Rattle.line_meaning.specs.Role.{asks_shelf, is_on_indexes, role_of}
-use Rattle.line_meaning.specs.Step.{Base, Held, all_after, base, base_after, fault_of, file_refusal, held, held_after, reply_of}
+use Rattle.line_meaning.specs.Step.{Held, all_after, base, base_after, fault_of, file_refusal, held, reply_of}
 use Rattle.line_meaning.proofs.IndexLemmas.{plain_after, plain_fault, plain_looks}
 use Rattle.database.specs.Telling.{TakesAtMost, Tally}
 use Rattle.session.specs.declared.next.ApplyFault.{ApplyFault}
@@ -22,8 +21,8 @@ use Rattle.session.specs.declared.next.ApplyFault.TheVariants as apply_faults
 use Rattle.session.specs.declared.next.Next.{Next}
 use Rattle.session.specs.declared.next.Next.TheVariants as nexts
 use Rattle.session.specs.Answers.{HasFirstRows, IsUnchanged, LeavesHeld, next_of}
-use Rattle.session.specs.Carried.{Carries, IsAccepted, IsStopped, LacksMemory, Moment, Spends, lines_by, moment}
-use Rattle.session.specs.Filed.{Does, FailsWith, IsAnswered, IsApplied, IsBySome, SufficesFor, refusal_with, texts_by}
+use Rattle.session.specs.Carried.{Carries, IsAccepted, IsStopped, Spends, lines_by}
+use Rattle.session.specs.Filed.{Does, FailsWith, IsAnswered, IsApplied, IsBySome, refusal_with, texts_by}
 
 module _ (c : CommandTree) (plain : is_on_indexes c ≡ false) (indexes : List IndexEntry) where
   -- the same with the indexes

@@ -1,5 +1,5 @@
 use Rattle.std.proofs.Common.{◌≡◌, ℕ, ◌+◌, ◌++◌, Bool, List, length, subst, ap, ◌∙◌}
-use Rattle.std.specs.Prelude.{OnOk, unsigned_abs}
+use Rattle.std.specs.Prelude.{OnOk}
 use Rattle.std.specs.List.{list_all}
 use Rattle.formula.specs.Tree.{query_view as resolved_view}
 use Rattle.meaning.specs.Answer.{Row, answer_where}

@@ -8,7 +8,7 @@ use Rattle.object_store.specs.Contents.{catalog_of}
 use Rattle.worlds.specs.Blurred.{blurred}
 use Rattle.line_meaning.specs.Reply.{rows_text}
 use Rattle.database.specs.Keeping.{world_of_database}
-use Rattle.database.proofs.BlurredLemmas.{accepted_span, right_as_told, stopped_as_told}
+use Rattle.database.proofs.BlurredLemmas.{right_as_told, stopped_as_told}
 use Rattle.database.proofs.blurred.tell_blurred.Goals as goal
 
 pub returns-clause-answered : goal.returns-clause-answered

@@ -1,7 +1,7 @@
-use Rattle.std.proofs.Common.{◌≡◌, false, List, sym, ap, subst, ◌∙◌}
+use Rattle.std.proofs.Common.{List, sym, subst, ◌∙◌}
 use Rattle.std.proofs.lemmas.Result.{err_from_is_err_and}
 use Rattle.line_meaning.specs.Indexed.{IndexEntry}
-use Rattle.line_meaning.specs.Step.{Held, held}
+use Rattle.line_meaning.specs.Step.{held}
 use Rattle.command_text.specs.Tree.{command_view}
 use Rattle.kept_indexes.specs.Kept.{entries}
 use Rattle.session.specs.declared.state.State.{State}

@@ -1,4 +1,4 @@
-use Rattle.std.proofs.Common.{ℕ, subst, sym}
+use Rattle.std.proofs.Common.{subst, sym}
 use Rattle.command_text.specs.Shape.{IsPrintable}
 use Rattle.command_text.specs.Tree.{command_view}
 use Rattle.kept_indexes.specs.Making.{holding}
