@@ -1,9 +1,13 @@
 //! Lines that are told one user of several.
-ghost use Rattle.std.specs.Prelude.{◌≡◌, ◌++◌, ◌≤◌, [], IfNone, IfSome, OnErr, OnOk, length, take};
+ghost use Rattle.std.specs.Prelude.{◌≡◌, ◌+◌, ◌-◌, ◌++◌, ◌≤◌, ◌==◌, [], IfNone, IfSome, OnErr, OnOk, length, position, take};
+ghost use Rattle.std.specs.List.{list_any};
 ghost use Rattle.users.specs.Tagged.{IsFirstLine, line_len, tagged, tagged_line};
 ghost use Rattle.users.specs.declared.sender.TheConstants.{USER_LIMIT};
 
 use std::alloc::AllocError;
+
+/// How many bytes are looked at together for a line feed, which a compiler does at once.
+const GROUP: usize = 8;
 
 /// Writes a line for a user. Want of memory changes nothing.
 fn push_line(user: &[u8], line: &[u8], out: &mut Vec<u8>) -> Result<(), AllocError>
@@ -13,18 +17,61 @@ fn push_line(user: &[u8], line: &[u8], out: &mut Vec<u8>) -> Result<(), AllocErr
 {
     out.reserve(user.len() + line.len() + 2)?;
     out.extend_from_slice(user).unwrap();
-    out.push(b' ').unwrap();
+    out.push_reserved(b' ');
     out.extend_from_slice(line).unwrap();
-    out.push(b'\n').unwrap();
+    out.push_reserved(b'\n');
     Ok(())
 }
 
+#[tactic(auto, using(std::proofs::lemmas::List::Folds::list_any_more))]
+fn has_feed(group: &[u8; GROUP]) -> bool
+    ensures { result ≡ list_any (λ byte. byte == 10) group.now }
+{
+    let mut found = false;
+    'bytes: for byte in group {
+        found |= *byte == b'\n';
+    }
+    found
+}
+
+/// What is left of the bytes after the groups in front that have no line feed.
+fn after_groups(bytes: &[u8]) -> &[u8]
+    ensures part { length result.now ≤ length bytes.now }
+    ensures place { line_len bytes.now ≡ length bytes.now - length result.now + line_len result.now }
+{
+    let mut rest = bytes;
+    'groups: while let Some((group, later)) = rest.split_first_chunk::<GROUP>() {
+        if has_feed(group) {
+            break;
+        }
+        rest = later;
+    }
+    rest
+}
+
+/// The place of the first line feed, byte by byte.
+fn first_feed(bytes: &[u8]) -> Option<usize>
+    ensures { result ≡ position (λ byte. byte == 10) bytes.now }
+{
+    bytes.iter().position(|byte| *byte == b'\n')
+}
+
+/// The same as `line_len`, for few bytes.
+#[tactic(auto, using(crate::proofs::GroupLemmas::found_len, crate::proofs::GroupLemmas::whole_len))]
+fn short_len(bytes: &[u8]) -> usize
+    ensures { result ≡ line_len bytes.now }
+{
+    first_feed(bytes).unwrap_or(bytes.len())
+}
+
 /// How many bytes stand before the first line feed, or at all.
+#[tactic(auto, using(crate::proofs::GroupLemmas::len_within))]
 fn line_len(bytes: &[u8]) -> usize
     ensures value { result ≡ line_len bytes.now }
     ensures within { result ≤ length bytes.now }
 {
-    bytes.iter().take_while(|byte| **byte != b'\n').count()
+    let rest = after_groups(bytes);
+    bytes.len() - rest.len() + short_len(rest)
 }
 
 /// The first line, and what stands after its line feed. None where there are no bytes.
