@@ -30,6 +30,10 @@ seated data_lines s = record {
 abbrev pub hub_of : Parts → Hub
 hub_of p = record { seats = map (seated p.data_lines) p.seats.items; accepted = accepted_in (map (seated p.data_lines) p.seats.items) }
 
+-- the hub, or none once want of memory has spent it
+abbrev pub served : Parts → (is_spent : Bool) → Option Hub
+served p is_spent = if is_spent then None else Some (hub_of p)
+
 -- what holds of the parts
 pub record AreParts (p : Parts) : Type 0 where
   pub hub : IsHub (hub_of p)

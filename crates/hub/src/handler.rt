@@ -1,7 +1,7 @@
 //! The hub as a line machine.
 ghost use Rattle.std.specs.Prelude.{◌≡◌, Some};
 
-use crate::hub::Hub;
+use crate::hub::{Hub, Serving};
 use line_loop::Handler;
 use outside::OutFail;
 use std::alloc::AllocError;
@@ -15,7 +15,7 @@ pub struct NoContext;
 /// A hub that answers a line at a time, and counts. Want of memory spends the hub.
 #[derive(Drop)]
 pub struct Users<L: Ledger, M: Ledger> {
-    hub: Option<Hub>,
+    hub: Serving,
     reads: Steps<L>,
     probes: Steps<M>,
 }
@@ -28,7 +28,7 @@ impl<L: Ledger, M: Ledger> Users<L, M> {
         ensures probes { result.probes ≡ probes }
     {
         Users {
-            hub: Some(hub),
+            hub: Serving::of(hub),
             reads,
             probes,
         }
@@ -72,14 +72,8 @@ impl<L: Ledger, M: Ledger> Handler<NoContext> for Users<L, M> {
         _context: &mut NoContext,
         out: &mut Vec<u8>,
     ) -> Result<(), OutFail> {
-        let Some(hub) = self.hub.take() else {
-            return Err(OutFail::NoMemory);
-        };
-        match hub.apply(line, out, &mut self.reads, &mut self.probes) {
-            Ok(hub) => {
-                self.hub = Some(hub);
-                Ok(())
-            }
+        match self.hub.answer(line, out, &mut self.reads, &mut self.probes) {
+            Ok(()) => Ok(()),
             Err(AllocError) => Err(OutFail::NoMemory),
         }
     }

@@ -1,7 +1,7 @@
 //! Several users who share one world.
-ghost use Rattle.std.specs.Prelude.{◌≡◌, IfOk, OnErr};
-ghost use Rattle.feeds_meaning.specs.Hub.{empty_hub};
-ghost use Rattle.hub.specs.Told.{IsAnswered};
+ghost use Rattle.std.specs.Prelude.{◌≡◌, ◌++◌, IfOk, OnErr, OnOk, Some};
+ghost use Rattle.feeds_meaning.specs.Hub.{Hub as Users, empty_hub, step};
+ghost use Rattle.hub.specs.Told.{AreParts, IsAnswered, hub_of};
 
 use crate::answer::answer_line;
 use crate::parts::Parts;
@@ -57,11 +57,89 @@ impl Hub {
         ensures err { OnErr result (out.new.items ≡ out.old.items) }
     {
         let mut parts = self.parts;
-        let before = out.len();
-        match answer_line(&mut parts, line, out, reads, probes) {
-            Ok(()) => Ok(Hub { parts }),
+        answer_whole(&mut parts, line, out, reads, probes)?;
+        Ok(Hub { parts })
+    }
+}
+
+/// Answers a line of input, as [`Hub::apply`] does. Without memory the parts are no hub any more.
+fn answer_whole<L: Ledger, M: Ledger>(
+    parts: &mut Parts,
+    line: &[u8],
+    out: &mut Vec<u8>,
+    reads: &mut Steps<L>,
+    probes: &mut Steps<M>,
+) -> Result<(), AllocError>
+    requires { AreParts parts.old }
+    ensures answered { OnOk result (IsAnswered (hub_of parts.old) (hub_of parts.new) line.now out.old.items out.new.items) }
+    ensures hub { OnOk result (AreParts parts.new) }
+    ensures err { OnErr result (out.new.items ≡ out.old.items) }
+{
+    let before = out.len();
+    match answer_line(parts, line, out, reads, probes) {
+        Ok(()) => Ok(()),
+        Err(AllocError) => {
+            out.truncate(before);
+            Err(AllocError)
+        }
+    }
+}
+
+/// A hub that stays where it is from line to line, until want of memory spends it: seen as the hub, and as none from then
+/// on.
+#[derive(Drop)]
+pub struct Serving {
+    parts: Parts,
+    is_spent: bool,
+}
+
+impl Model for Serving {
+    ghost use Rattle.std.specs.Prelude.{◌≡◌, ℕ, Option, false, List};
+    ghost use Rattle.std.specs.Coded.{codes};
+    ghost use Rattle.formula_shape.specs.ShapeCode.{shape_code};
+    ghost use Rattle.ftl_parser.specs.declared.tree.Atom.{Atom};
+    ghost use Rattle.ftl_parser.specs.declared.tree.Term.{Term};
+    ghost use Rattle.feeds_meaning.specs.Hub.{Hub as Users};
+    ghost use Rattle.hub.specs.Told.{AreParts, served};
+
+    ghost Value = { Option Users };
+
+    ghost coded = { Prim.hlevel (codes, shape_code {A = Atom} {B = List ℕ × Term} (Prim.hlevel codes)) };
+
+    ghost view = { λ s. served s.parts s.is_spent };
+
+    ghost invariant = { λ s. s.is_spent ≡ false → AreParts s.parts };
+}
+
+impl Serving {
+    /// The hub, which isn't spent.
+    pub(crate) fn of(hub: Hub) -> Serving
+        ensures { result ≡ Some hub }
+    {
+        Serving {
+            parts: hub.parts,
+            is_spent: false,
+        }
+    }
+
+    /// Answers a line of input, as [`Hub::apply`] does.
+    pub(crate) fn answer<L: Ledger, M: Ledger>(
+        &mut self,
+        line: &[u8],
+        out: &mut Vec<u8>,
+        reads: &mut Steps<L>,
+        probes: &mut Steps<M>,
+    ) -> Result<(), AllocError>
+        ensures { (hub : Users) → self.old ≡ Some hub →
+            OnOk result ((out.new.items ≡ out.old.items ++ (step hub line.now).1) × (self.new ≡ Some (step hub line.now).0)) }
+    {
+        if self.is_spent {
+            return Err(AllocError);
+        }
+        match answer_whole(&mut self.parts, line, out, reads, probes) {
+            Ok(()) => Ok(()),
             Err(AllocError) => {
-                out.truncate(before);
+                self.is_spent = true;
                 Err(AllocError)
             }
         }

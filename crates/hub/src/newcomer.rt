@@ -116,6 +116,24 @@ pub(crate) fn seat_for<L: Ledger, M: Ledger>(
     if let Some(place) = place_of(&parts.seats, user) {
         return Ok(Some(place));
     }
+    seat_new(parts, user, reads, probes)
+}
+
+/// The place of a user who has none, or None where there is no room. Apart from `seat_for`, so that a line of a user who is
+/// there pays for no new session.
+#[inline(never)]
+fn seat_new<L: Ledger, M: Ledger>(
+    parts: &mut Parts,
+    user: &Word,
+    reads: &mut Steps<L>,
+    probes: &mut Steps<M>,
+) -> Result<Option<usize>, AllocError>
+    requires hub { AreParts parts.old }
+    requires short { length user.now ≤ USER_LIMIT }
+    requires none { position (λ s. bytes_eq user.now s.user) parts.old.seats.items ≡ None }
+    ensures seated { IfOk result (IsSeatedAs (hub_of parts.old) user.now (hub_of parts.new)) }
+    ensures hub { OnOk result (AreParts parts.new) }
+{
     if is_full(&parts.seats) {
         return Ok(None);
     }
