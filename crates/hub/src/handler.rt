@@ -72,7 +72,10 @@ impl<L: Ledger, M: Ledger> Handler<NoContext> for Users<L, M> {
         _context: &mut NoContext,
         out: &mut Vec<u8>,
     ) -> Result<(), OutFail> {
-        match self.hub.answer(line, out, &mut self.reads, &mut self.probes) {
+        match self
+            .hub
+            .answer(line, out, &mut self.reads, &mut self.probes)
+        {
             Ok(()) => Ok(()),
             Err(AllocError) => Err(OutFail::NoMemory),
         }
