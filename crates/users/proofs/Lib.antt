@@ -1,3 +1,4 @@
 pub mod LineLemmas
 pub mod CallerLemmas
 pub mod GroupLemmas
+pub mod PushLemmas

@@ -1,5 +1,5 @@
 //! Lines that are told one user of several.
-ghost use Rattle.std.specs.Prelude.{◌≡◌, ◌+◌, ◌-◌, ◌++◌, ◌≤◌, ◌==◌, [], IfNone, IfSome, OnErr, OnOk, length, position, take};
+ghost use Rattle.std.specs.Prelude.{◌≡◌, ◌+◌, ◌-◌, ◌++◌, ◌≤◌, ◌==◌, [], IfNone, IfSome, OnErr, OnOk, length, position, take, vec_capacity, vec_len};
 ghost use Rattle.std.specs.List.{list_any};
 ghost use Rattle.users.specs.Tagged.{IsFirstLine, line_len, tagged, tagged_line};
 ghost use Rattle.users.specs.declared.sender.TheConstants.{USER_LIMIT};
@@ -9,6 +9,37 @@ use std::alloc::AllocError;
 /// How many bytes are looked at together for a line feed, which a compiler does at once.
 const GROUP: usize = 8;
 
+/// Up to so many bytes are written one by one, which costs less than a copy of a few.
+const FEW: usize = 5;
+
+/// Writes bytes one by one where there is room for them.
+fn push_each(bytes: &[u8], out: &mut Vec<u8>)
+    requires { vec_len out.old + length bytes.now ≤ vec_capacity out.old }
+    ensures items { out.new.items ≡ out.old.items ++ bytes.now }
+    ensures len { vec_len out.new ≡ vec_len out.old + length bytes.now }
+    ensures capacity { vec_capacity out.new ≡ vec_capacity out.old }
+{
+    let mut rest = bytes;
+    'bytes: while let Some((byte, later)) = rest.split_first() {
+        out.push_reserved(*byte);
+        rest = later;
+    }
+}
+
+/// Writes bytes where there is room for them.
+fn push_bytes(bytes: &[u8], out: &mut Vec<u8>)
+    requires { vec_len out.old + length bytes.now ≤ vec_capacity out.old }
+    ensures items { out.new.items ≡ out.old.items ++ bytes.now }
+    ensures len { vec_len out.new ≡ vec_len out.old + length bytes.now }
+    ensures capacity { vec_capacity out.old ≤ vec_capacity out.new }
+{
+    if bytes.len() <= FEW {
+        push_each(bytes, out);
+    } else {
+        out.extend_from_slice(bytes).unwrap();
+    }
+}
+
 /// Writes a line for a user. Want of memory changes nothing.
 fn push_line(user: &[u8], line: &[u8], out: &mut Vec<u8>) -> Result<(), AllocError>
     requires { length user.now ≤ USER_LIMIT }
@@ -16,9 +47,9 @@ fn push_line(user: &[u8], line: &[u8], out: &mut Vec<u8>) -> Result<(), AllocErr
     ensures err { OnErr result (out.new.items ≡ out.old.items) }
 {
     out.reserve(user.len() + line.len() + 2)?;
-    out.extend_from_slice(user).unwrap();
+    push_bytes(user, out);
     out.push_reserved(b' ');
-    out.extend_from_slice(line).unwrap();
+    push_bytes(line, out);
     out.push_reserved(b'\n');
     Ok(())
 }
