@@ -9,10 +9,8 @@ use std::alloc::AllocError;
 /// How many bytes are looked at together for a line feed, which a compiler does at once.
 const GROUP: usize = 8;
 
-/// Up to so many bytes are written one by one, which costs less than a copy of a few.
-const FEW: usize = 5;
-
-/// Writes bytes one by one where there is room for them.
+/// Writes bytes one by one where there is room for them, which costs less than a copy of a few.
+#[inline(always)]
 fn push_each(bytes: &[u8], out: &mut Vec<u8>)
     requires { vec_len out.old + length bytes.now ≤ vec_capacity out.old }
     ensures items { out.new.items ≡ out.old.items ++ bytes.now }
@@ -26,20 +24,6 @@ fn push_each(bytes: &[u8], out: &mut Vec<u8>)
     }
 }
 
-/// Writes bytes where there is room for them.
-fn push_bytes(bytes: &[u8], out: &mut Vec<u8>)
-    requires { vec_len out.old + length bytes.now ≤ vec_capacity out.old }
-    ensures items { out.new.items ≡ out.old.items ++ bytes.now }
-    ensures len { vec_len out.new ≡ vec_len out.old + length bytes.now }
-    ensures capacity { vec_capacity out.old ≤ vec_capacity out.new }
-{
-    if bytes.len() <= FEW {
-        push_each(bytes, out);
-    } else {
-        out.extend_from_slice(bytes).unwrap();
-    }
-}
-
 /// Writes a line for a user. Want of memory changes nothing.
 fn push_line(user: &[u8], line: &[u8], out: &mut Vec<u8>) -> Result<(), AllocError>
     requires { length user.now ≤ USER_LIMIT }
@@ -47,9 +31,9 @@ fn push_line(user: &[u8], line: &[u8], out: &mut Vec<u8>) -> Result<(), AllocErr
     ensures err { OnErr result (out.new.items ≡ out.old.items) }
 {
     out.reserve(user.len() + line.len() + 2)?;
-    push_bytes(user, out);
+    push_each(user, out);
     out.push_reserved(b' ');
-    push_bytes(line, out);
+    out.extend_from_slice(line).unwrap();
     out.push_reserved(b'\n');
     Ok(())
 }
