@@ -12,9 +12,6 @@ use std::marker::Model;
 /// How many patches have one cover.
 pub const BLOCK: usize = 32;
 
-/// How many appended patches are ordered by where they are, apart from those before.
-const RUN: usize = 8192;
-
 /// How many renewals keep an order of all patches.
 const KEPT: u32 = 7;
 
@@ -77,17 +74,20 @@ impl Boxes {
         self.patches.len()
     }
 
-    /// Appends the patch of the next number.
+    /// Appends the patch of the next number, in the next slot.
     pub fn push(&mut self, patch: Patch) -> Result<(), AllocError>
         requires few { length self.old.patches < 2 ^ 32 }
         ensures ok { OnOk result (self.new ≡ record self.old { patches = self.old.patches ++ patch ∷ [] }) }
         ensures err { OnErr result (self.new ≡ self.old) }
     {
-        self.append(patch)?;
-        let length = self.patches.len();
-        if length % RUN == 0 {
-            self.arrange(length - RUN);
-        }
+        let number = self.patches.len();
+        self.patches.reserve(1)?;
+        self.slots.reserve(1)?;
+        self.numbers.reserve(1)?;
+        cover_next(&mut self.covers, number / BLOCK, &patch)?;
+        self.patches.push_reserved(patch);
+        self.slots.push_reserved(number as u32);
+        self.numbers.push_reserved(number as u32);
         Ok(())
     }
 
@@ -138,30 +138,24 @@ impl Boxes {
         self.upto = upto;
     }
 
-    /// Appends the patch of the next number, in the next slot.
-    fn append(&mut self, patch: Patch) -> Result<(), AllocError>
-        requires few { length self.old.patches < 2 ^ 32 }
-        ensures ok { OnOk result (self.new ≡ record self.old { patches = self.old.patches ++ patch ∷ [] }) }
-        ensures err { OnErr result (self.new ≡ self.old) }
-    {
-        let number = self.patches.len();
-        self.patches.reserve(1)?;
-        self.slots.reserve(1)?;
-        self.numbers.reserve(1)?;
-        cover_next(&mut self.covers, number / BLOCK, &patch)?;
-        self.patches.push_reserved(patch);
-        self.slots.push_reserved(number as u32);
-        self.numbers.push_reserved(number as u32);
-        Ok(())
-    }
-
-    /// The slots from `start` on go by where their patches are.
-    fn arrange(&mut self, start: usize)
+    /// The slots from `start` on go by where their patches are. It takes no memory.
+    pub fn arrange(&mut self, start: usize)
         requires { start ≤ length self.old.patches }
         ensures { self.new ≡ self.old }
     {
         order_from(&mut self.numbers, &mut self.slots, &self.patches, start);
         cover_all(&mut self.covers, &self.patches, &self.slots);
+    }
+
+    /// The slots are those of other boxes, if these have as many patches. It takes no memory.
+    pub fn follow(&mut self, other: &Boxes)
+        ensures { self.new ≡ self.old }
+    {
+        if self.patches.len() == other.patches.len() {
+            self.slots.copy_from_slice(&other.slots);
+            self.numbers.copy_from_slice(&other.numbers);
+            cover_all(&mut self.covers, &self.patches, &self.slots);
+        }
     }
 
     /// The covers are made as small as they can be.

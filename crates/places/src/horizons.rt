@@ -10,6 +10,9 @@ use std::alloc::{AllocError, Global};
 /// How many ticks the horizons have, from the first tick that they tell of.
 pub const HORIZONS: [u32; 4] = [256, 1_024, 4_096, 65_536];
 
+/// How many objects that are appended get an order by where they are, apart from those before.
+const RUN: usize = 8192;
+
 /// The patches of objects for four horizons, each of which ends at a tick of its own. They tell where objects are from
 /// one tick on, and have the same objects.
 #[derive(Drop)]
@@ -66,11 +69,27 @@ impl Places {
             patches.long,
             patches.longest,
         );
-        if result.is_err() {
-            self.short.pop();
-            self.middle.pop();
+        match result {
+            Ok(()) => self.order_last(),
+            Err(_) => {
+                self.short.pop();
+                self.middle.pop();
+            }
         }
         result
+    }
+
+    /// Where a run of objects is whole, all horizons take the order of one: a sort takes longer than all else of a push.
+    fn order_last(&mut self)
+        ensures { self.new ≡ self.old }
+    {
+        let length = self.middle.len();
+        if length % RUN == 0 {
+            self.middle.arrange(length.saturating_sub(RUN));
+            self.short.follow(&self.middle);
+            self.long.follow(&self.middle);
+            self.longest.follow(&self.middle);
+        }
     }
 
     /// Takes the patches of the last object away. It takes no memory.

@@ -1,7 +1,7 @@
 use Rattle.std.proofs.Common.{rules, ◌≡◌, ◌<◌, ◌^◌, length, sym, subst}
 use Rattle.places.specs.Boxes.{Horizon}
 use Rattle.places.proofs.CoverLemmas.{covers_push}
-use Rattle.places.proofs.boxes.Boxes.append.Goals as goal
+use Rattle.places.proofs.boxes.Boxes.push.Goals as goal
 
 pub invariant_of-self-2 : goal.invariant_of-self-2
 invariant_of-self-2 c =
