@@ -1,19 +1,17 @@
--- The values of a cell over ticks, and the strips that an epoch covers in a slice.
+-- The values of a cell over ticks, and the strips that a state covers in a slice.
 use Rattle.std.proofs.Common.{◌≡◌, ℕ, ◌+◌, ◌<◌, ◌≤◌, max, ℤ, Option, None, Some, List, [], refl, sym, ap, ◌∙◌, arith}
-use Rattle.std.specs.Prelude.{slice_get, unwrap_or}
 use Rattle.std.specs.List.{filter_map}
 use Rattle.std.specs.Option.{option_map}
 use Rattle.std.proofs.lemmas.Int.{ints}
 use Rattle.tick_set.specs.Ticks.{between}
 use Rattle.motion.specs.Dynamic.{Dynamic, value_at}
 use Rattle.motion.specs.Range.{IsRange}
-use Rattle.motion.specs.Timeline.{Epoch, cells_of}
 use Rattle.motion.specs.declared.cell.Cell.{Cell}
 use Rattle.motion.specs.declared.cell.Cell.TheVariants as cells
-use Rattle.meaning.specs.Value.{cell_in}
 use Rattle.plane.specs.Boxes.{Grid, box_of, slice_first, slice_last, strips_of}
 use Rattle.plane_index.specs.Lines.{AreValuesOf, box_as, number_of_cell}
-use Rattle.plane_index.specs.Told.{strips_by}
+use Rattle.plane_index.specs.States.{strips_by_state}
+use Rattle.plane_index.specs.declared.state.State.{State}
 use Rattle.plane_index.proofs.ValueLemmas.{box_between, no_box}
 
 -- ---- cells
@@ -48,21 +46,15 @@ of_vector v from until least greatest some range =
       greatest_reached = (let (t, after, before, e) = range.greatest_reached in (t, after, omega arith, e));
     })
 
--- ---- epochs
-
-pub same_cell : (there : Option (List Cell)) (a : ℕ) → slice_get (unwrap_or there []) a ≡ cell_in there a
-same_cell None a = refl
-same_cell (Some there) a = refl
+-- ---- states
 
 in_turn : (width : ℤ) (found : Option (ℤ × ℤ)) → option_map (strips_of width) (option_map box_as found) ≡ option_map (λ b. strips_of width (box_as b)) found
 in_turn width None = refl
 in_turn width (Some b) = refl
 
-pub covered : (p : Epoch) (g : Grid) (s from until : ℕ) (cell : Option Cell) (found : Option (ℤ × ℤ)) → cell ≡ slice_get (cells_of p) g.attribute →
-    from ≡ max (slice_first g s) p.from → until ≡ slice_last g s → AreValuesOf cell from until found →
-    strips_by p g s ≡ option_map (λ b. strips_of g.width (box_as b)) found
-covered p g s from until cell found of_cell begins ends are =
-    (λ i. option_map (strips_of g.width) (box_of (filter_map (number_of_cell (sym (same_cell p.cells g.attribute) i)) (between (sym begins i) (sym ends i + 1)))))
-    ∙ (λ i. option_map (strips_of g.width) (box_of (filter_map (number_of_cell (sym of_cell i)) (between from (until + 1)))))
+pub covered : (p : State) (g : Grid) (s from until : ℕ) (found : Option (ℤ × ℤ)) → from ≡ max (slice_first g s) p.from → until ≡ slice_last g s →
+    AreValuesOf p.cell from until found → strips_by_state p g s ≡ option_map (λ b. strips_of g.width (box_as b)) found
+covered p g s from until found begins ends are =
+    (λ i. option_map (strips_of g.width) (box_of (filter_map (number_of_cell p.cell) (between (sym begins i) (sym ends i + 1)))))
     ∙ ap (option_map (strips_of g.width)) are
     ∙ in_turn g.width found

@@ -13,9 +13,10 @@ use Rattle.object_store.specs.Contents.{Contents, catalog_of}
 use Rattle.plane.specs.Boxes.{Grid, Strips, candidates, is_candidate, lies_on, slice_meets, strip, strips_between, strips_in, strips_meet}
 use Rattle.plane.specs.declared.limits.TheConstants.{SLICES}
 use Rattle.plane_index.specs.Held.{kept_strips, no_strips}
-use Rattle.plane_index.specs.Index.{fresh_at, index_of, is_fresh, row_at, strips_at, strips_of_place, IsFresh, IsIndexOf}
+use Rattle.plane_index.specs.Index.{fresh_at, index_of, is_fresh, row_at, strips_of_place, IsFresh, IsIndexOf}
+use Rattle.plane_index.specs.States.{strips_at}
 use Rattle.plane_index.specs.Told.{told_by}
-use Rattle.plane_index.specs.declared.cover.Cover.{Cover}
+use Rattle.plane_index.specs.declared.state.State.{State}
 use Rattle.plane_index.proofs.FindLemmas.{any_same, by_places, kept_lie}
 
 less : (s n : ℕ) → nat_lt s n ≡ true → s < n
@@ -56,28 +57,28 @@ same_row true false xs ys is same = absurd (false≢true (sym is))
 same_row false true xs ys is same = absurd (false≢true is)
 
 -- indexes are one where they tell the same of each place
-pub same_index : (grid : Grid) (ids ids' : List ℕ) (fresh fresh' : List Bool) (columns columns' : List (List Cover)) → ids' ≡ ids →
+pub same_index : (grid : Grid) (ids ids' : List ℕ) (fresh fresh' : List Bool) (states states' : List State) → ids' ≡ ids →
     ((k : ℕ) → k < length ids → fresh_at fresh' k ≡ fresh_at fresh k) →
-    ((k s : ℕ) → k < length ids → fresh_at fresh k ≡ true → s < SLICES → strips_at columns' k s ≡ strips_at columns k s) →
-    index_of grid ids' fresh' columns' ≡ index_of grid ids fresh columns
-same_index grid ids ids' fresh fresh' columns columns' same_ids same_fresh same_strips =
-    ap (λ those. index_of grid those fresh' columns') same_ids
+    ((k s : ℕ) → k < length ids → fresh_at fresh k ≡ true → s < SLICES → strips_at grid states' k s ≡ strips_at grid states k s) →
+    index_of grid ids' fresh' states' ≡ index_of grid ids fresh states
+same_index grid ids ids' fresh fresh' states states' same_ids same_fresh same_strips =
+    ap (λ those. index_of grid those fresh' states') same_ids
     ∙ (λ i. record {
       grid = grid;
       ids = ids;
-      rows = same_places (row_at fresh' columns') (row_at fresh columns) (length ids)
-          (λ k below. same_row (fresh_at fresh' k) (fresh_at fresh k) (map (strips_at columns' k) (between 0 SLICES)) (map (strips_at columns k) (between 0 SLICES)) (same_fresh k below)
-          (λ is. same_places (strips_at columns' k) (strips_at columns k) SLICES (λ s under. same_strips k s below is under))) i;
+      rows = same_places (row_at grid fresh' states') (row_at grid fresh states) (length ids)
+          (λ k below. same_row (fresh_at fresh' k) (fresh_at fresh k) (map (strips_at grid states' k) (between 0 SLICES)) (map (strips_at grid states k) (between 0 SLICES)) (same_fresh k below)
+          (λ is. same_places (strips_at grid states' k) (strips_at grid states k) SLICES (λ s under. same_strips k s below is under))) i;
     })
 
 some_if : (b : Bool) (xs : List Strips) → is_some (if b then Some xs else None) ≡ b
 some_if true xs = refl
 some_if false xs = refl
 
-pub fresh_of : (grid : Grid) (ids : List ℕ) (fresh : List Bool) (columns : List (List Cover)) (k : ℕ) → k < length ids →
-    is_fresh (index_of grid ids fresh columns) k ≡ fresh_at fresh k
-fresh_of grid ids fresh columns k below =
-    ap is_some (at_place (row_at fresh columns) (length ids) k None below) ∙ some_if (fresh_at fresh k) (map (strips_at columns k) (between 0 SLICES))
+pub fresh_of : (grid : Grid) (ids : List ℕ) (fresh : List Bool) (states : List State) (k : ℕ) → k < length ids →
+    is_fresh (index_of grid ids fresh states) k ≡ fresh_at fresh k
+fresh_of grid ids fresh states k below =
+    ap is_some (at_place (row_at grid fresh states) (length ids) k None below) ∙ some_if (fresh_at fresh k) (map (strips_at grid states k) (between 0 SLICES))
 
 not_seen : (f : ℕ → Option (List Strips)) (n k : ℕ) → n ≤ k → is_some (slice_index_or (map f (between 0 n)) k None) ≡ false
 unfolding between
@@ -92,49 +93,49 @@ seen_at f n k is =
       | inr past ↦ absurd (false≢true (sym (not_seen f n k past) ∙ is))
     ]
 
-pub seen_if_fresh : (grid : Grid) (ids : List ℕ) (fresh : List Bool) (columns : List (List Cover)) (k : ℕ) →
-    is_fresh (index_of grid ids fresh columns) k ≡ true → k < length ids
-seen_if_fresh grid ids fresh columns k is = seen_at (row_at fresh columns) (length ids) k is
+pub seen_if_fresh : (grid : Grid) (ids : List ℕ) (fresh : List Bool) (states : List State) (k : ℕ) →
+    is_fresh (index_of grid ids fresh states) k ≡ true → k < length ids
+seen_if_fresh grid ids fresh states k is = seen_at (row_at grid fresh states) (length ids) k is
 
 -- where none past them is fresh
-pub fresh_anywhere : (grid : Grid) (ids : List ℕ) (fresh : List Bool) (columns : List (List Cover)) → ((k : ℕ) → length ids ≤ k → fresh_at fresh k ≡ false) →
-    (k : ℕ) → is_fresh (index_of grid ids fresh columns) k ≡ fresh_at fresh k
-fresh_anywhere grid ids fresh columns unseen k =
+pub fresh_anywhere : (grid : Grid) (ids : List ℕ) (fresh : List Bool) (states : List State) → ((k : ℕ) → length ids ≤ k → fresh_at fresh k ≡ false) →
+    (k : ℕ) → is_fresh (index_of grid ids fresh states) k ≡ fresh_at fresh k
+fresh_anywhere grid ids fresh states unseen k =
     elim (cases_lt k (length ids)) [
-      | inl below ↦ fresh_of grid ids fresh columns k below
-      | inr past ↦ not_seen (row_at fresh columns) (length ids) k past ∙ sym (unseen k past)
+      | inl below ↦ fresh_of grid ids fresh states k below
+      | inr past ↦ not_seen (row_at grid fresh states) (length ids) k past ∙ sym (unseen k past)
     ]
 
 -- the strips of a place that isn't stale
-pub strips_of_index : (grid : Grid) (ids : List ℕ) (fresh : List Bool) (columns : List (List Cover)) (k s : ℕ) → k < length ids → fresh_at fresh k ≡ true → s < SLICES →
-    strips_of_place (index_of grid ids fresh columns) k s ≡ strips_at columns k s
-strips_of_index grid ids fresh columns k s below is under =
-    ap (λ row. slice_index_or (unwrap_or row []) s no_strips) (at_place (row_at fresh columns) (length ids) k None below)
-    ∙ ap (λ b. slice_index_or (unwrap_or (if b then Some (map (strips_at columns k) (between 0 SLICES)) else None) []) s no_strips) is
-    ∙ at_place (strips_at columns k) SLICES s no_strips under
+pub strips_of_index : (grid : Grid) (ids : List ℕ) (fresh : List Bool) (states : List State) (k s : ℕ) → k < length ids → fresh_at fresh k ≡ true → s < SLICES →
+    strips_of_place (index_of grid ids fresh states) k s ≡ strips_at grid states k s
+strips_of_index grid ids fresh states k s below is under =
+    ap (λ row. slice_index_or (unwrap_or row []) s no_strips) (at_place (row_at grid fresh states) (length ids) k None below)
+    ∙ ap (λ b. slice_index_or (unwrap_or (if b then Some (map (strips_at grid states k) (between 0 SLICES)) else None) []) s no_strips) is
+    ∙ at_place (strips_at grid states k) SLICES s no_strips under
 
 -- ---- candidates
 
-strip_right : (s : Contents) (grid : Grid) (ids : List ℕ) (fresh : List Bool) (columns : List (List Cover)) → IsIndexOf s (index_of grid ids fresh columns) →
-    (k j : ℕ) → k < length ids → is_fresh (index_of grid ids fresh columns) k ≡ true → j < SLICES →
-    strips_at columns k j ≡ kept_strips (strips_in (told_by s) grid (slice_index ids k) j)
-strip_right s grid ids fresh columns of k j below is under =
-    sym (strips_of_index grid ids fresh columns k j below (sym (fresh_of grid ids fresh columns k below) ∙ is) under) ∙ of.right k j is under
+strip_right : (s : Contents) (grid : Grid) (ids : List ℕ) (fresh : List Bool) (states : List State) → IsIndexOf s (index_of grid ids fresh states) →
+    (k j : ℕ) → k < length ids → is_fresh (index_of grid ids fresh states) k ≡ true → j < SLICES →
+    strips_at grid states k j ≡ kept_strips (strips_in (told_by s) grid (slice_index ids k) j)
+strip_right s grid ids fresh states of k j below is under =
+    sym (strips_of_index grid ids fresh states k j below (sym (fresh_of grid ids fresh states k below) ∙ is) under) ∙ of.right k j is under
 
 abbrev asked_of : Grid → ℤ → ℤ → Strips
 asked_of grid lo hi = strips_between grid.width lo hi
 
-pub candidates_found : (s : Contents) (grid : Grid) (ids : List ℕ) (fresh marks : List Bool) (columns : List (List Cover)) (lo hi : ℤ) (from e : ℕ) →
-    IsIndexOf s (index_of grid ids fresh columns) → IsFresh s (index_of grid ids fresh columns) → unsigned_abs (strip grid.width hi) ≤ FIX_LIMIT → int_lt hi lo ≡ false →
-    ((k : ℕ) → k < length ids → fresh_at marks k ≡ list_any (λ j. slice_meets grid from e j && strips_meet (asked_of grid lo hi) (strips_at columns k j)) (between 0 SLICES)) →
+pub candidates_found : (s : Contents) (grid : Grid) (ids : List ℕ) (fresh marks : List Bool) (states : List State) (lo hi : ℤ) (from e : ℕ) →
+    IsIndexOf s (index_of grid ids fresh states) → IsFresh s (index_of grid ids fresh states) → unsigned_abs (strip grid.width hi) ≤ FIX_LIMIT → int_lt hi lo ≡ false →
+    ((k : ℕ) → k < length ids → fresh_at marks k ≡ list_any (λ j. slice_meets grid from e j && strips_meet (asked_of grid lo hi) (strips_at grid states k j)) (between 0 SLICES)) →
     map (slice_index ids) (filter (fresh_at marks) (between 0 (length ids))) ≡ candidates (told_by s) grid lo hi from e
-candidates_found s grid ids fresh marks columns lo hi from e of are size order marked =
+candidates_found s grid ids fresh marks states lo hi from e of are size order marked =
     by_places (fresh_at marks) (is_candidate (told_by s) grid lo hi from e) ids
     (λ k below. marked k below
-    ∙ any_same (λ j. slice_meets grid from e j && strips_meet (asked_of grid lo hi) (strips_at columns k j))
+    ∙ any_same (λ j. slice_meets grid from e j && strips_meet (asked_of grid lo hi) (strips_at grid states k j))
     (λ j. slice_meets grid from e j && lies_on (asked_of grid lo hi) (strips_in (told_by s) grid (slice_index ids k) j)) SLICES
     (λ j under. ap (λ b. slice_meets grid from e j && b)
-    (ap (strips_meet (asked_of grid lo hi)) (strip_right s grid ids fresh columns of k j below (are.fresh k below) under)
+    (ap (strips_meet (asked_of grid lo hi)) (strip_right s grid ids fresh states of k j below (are.fresh k below) under)
     ∙ kept_lie (asked_of grid lo hi) (strips_in (told_by s) grid (slice_index ids k) j) size)))
     ∙ ap (filter (is_candidate (told_by s) grid lo hi from e)) are.all
     ∙ ap (λ b. if b then [] else filter (is_candidate (told_by s) grid lo hi from e) (ids_of (catalog_of s) grid.class)) (sym order)
@@ -145,12 +146,12 @@ none_found s grid lo hi from e order =
 
 -- ---- an index that has seen no object
 
-pub none_fresh : (grid : Grid) (fresh : List Bool) (columns : List (List Cover)) (k : ℕ) → is_fresh (index_of grid [] fresh columns) k ≡ false
+pub none_fresh : (grid : Grid) (fresh : List Bool) (states : List State) (k : ℕ) → is_fresh (index_of grid [] fresh states) k ≡ false
 unfolding between
-none_fresh grid fresh columns k = refl
+none_fresh grid fresh states k = refl
 
-pub of_any : (s : Contents) (grid : Grid) (fresh : List Bool) (columns : List (List Cover)) → IsIndexOf s (index_of grid [] fresh columns)
-of_any s grid fresh columns = record {
+pub of_any : (s : Contents) (grid : Grid) (fresh : List Bool) (states : List State) → IsIndexOf s (index_of grid [] fresh states)
+of_any s grid fresh states = record {
   seen = refl;
-  right = λ k slice is below. absurd (false≢true (sym (none_fresh grid fresh columns k) ∙ is));
+  right = λ k slice is below. absurd (false≢true (sym (none_fresh grid fresh states k) ∙ is));
 }

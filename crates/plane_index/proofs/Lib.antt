@@ -2,6 +2,7 @@ pub mod LineLemmas
 pub mod ValueLemmas
 pub mod ExtentLemmas
 pub mod StoreLemmas
+pub mod ColumnLemmas
 pub mod RunLemmas
 pub mod PlaceLemmas
 pub mod BackLemmas

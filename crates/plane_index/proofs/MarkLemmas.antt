@@ -8,10 +8,11 @@ use Rattle.std.proofs.lemmas.List.{get_or-replicate, get_or-take, take_all}
 use Rattle.tick_set.specs.Ticks.{between}
 use Rattle.plane.specs.Boxes.{Grid, slice_first, slice_last, slice_meets, strips_meet}
 use Rattle.plane.specs.declared.limits.TheConstants.{SLICES}
-use Rattle.plane_index.specs.Columns.{cover_at, meets}
-use Rattle.plane_index.specs.Index.{fresh_at, strips_at}
+use Rattle.plane_index.specs.Index.{fresh_at}
+use Rattle.plane_index.specs.States.{strips_at}
 use Rattle.plane_index.specs.Lines.{strips_as}
 use Rattle.plane_index.specs.declared.cover.Cover.{Cover}
+use Rattle.plane_index.specs.declared.state.State.{State}
 use Rattle.plane_index.proofs.FindLemmas.{any_same, any_up_to, met, no_more_met, not_yet_met}
 
 -- the first and the last slice with a tick of the window
@@ -35,27 +36,36 @@ same_slices g from e first last j are below =
       | inr after ↦ from_first first j (omega (arith, after)) ∙ sym (met g from e first last j are.begun are.ending (omega (arith, after)) (omega arith))
     ]
 
-abbrev meets_there : Grid → ℕ → ℕ → Cover → List (List Cover) → ℕ → ℕ → Bool
-meets_there g from e asked columns k s = slice_meets g from e s && strips_meet (strips_as asked) (strips_at columns k s)
+abbrev meets_there : Grid → ℕ → ℕ → Cover → List State → ℕ → ℕ → Bool
+meets_there g from e asked states k s = slice_meets g from e s && strips_meet (strips_as asked) (strips_at g states k s)
 
-up_to_last : (g : Grid) (from e first last more : ℕ) (asked : Cover) (columns : List (List Cover)) (k : ℕ) → AreEnds g from e first last →
-    list_any (λ j. nat_le first j && meets (cover_at (slice_index_or (take (last + 1) columns) j []) k) asked) (between 0 (last + 1))
-    ≡ list_any (meets_there g from e asked columns k) (between 0 (last + 1 + more))
-up_to_last g from e first last more asked columns k are =
-    any_same (λ j. nat_le first j && meets (cover_at (slice_index_or (take (last + 1) columns) j []) k) asked) (meets_there g from e asked columns k) (last + 1)
-    (λ j below i. same_slices g from e first last j are below i && meets (cover_at (get_or-take (last + 1) columns j [] below i) k) asked)
-    ∙ sym (any_up_to (meets_there g from e asked columns k) (last + 1) more
-    (λ j above. ap (λ b. b && strips_meet (strips_as asked) (strips_at columns k j)) (no_more_met g from e last j are.ends above)))
+up_to_last : (g : Grid) (from e first last more : ℕ) (asked : Cover) (states : List State) (k : ℕ) → AreEnds g from e first last →
+    list_any (λ j. nat_le first j && strips_meet (strips_as asked) (strips_at g states k j)) (between 0 (last + 1))
+    ≡ list_any (meets_there g from e asked states k) (between 0 (last + 1 + more))
+up_to_last g from e first last more asked states k are =
+    any_same (λ j. nat_le first j && strips_meet (strips_as asked) (strips_at g states k j)) (meets_there g from e asked states k) (last + 1)
+    (λ j below. ap (λ b. b && strips_meet (strips_as asked) (strips_at g states k j)) (same_slices g from e first last j are below))
+    ∙ sym (any_up_to (meets_there g from e asked states k) (last + 1) more
+    (λ j above. ap (λ b. b && strips_meet (strips_as asked) (strips_at g states k j)) (no_more_met g from e last j are.ends above)))
 
-pub all_marked : (g : Grid) (from e first last : ℕ) (asked : Cover) (columns : List (List Cover)) (old : Bool) (n k : ℕ) → AreEnds g from e first last →
-    old ≡ false → n ≡ last + 1 →
-    (old || list_any (λ j. nat_le first j && meets (cover_at (slice_index_or (take (last + 1) columns) j []) k) asked) (between 0 n))
-    ≡ list_any (λ s. slice_meets g from e s && strips_meet (strips_as asked) (strips_at columns k s)) (between 0 SLICES)
-all_marked g from e first last asked columns old n k are none size =
+pub all_marked : (g : Grid) (from e first last : ℕ) (asked : Cover) (states : List State) (old : Bool) (k : ℕ) → AreEnds g from e first last →
+    old ≡ false →
+    (old || list_any (λ j. nat_le first j && strips_meet (strips_as asked) (strips_at g states k j)) (between 0 (last + 1)))
+    ≡ list_any (λ s. slice_meets g from e s && strips_meet (strips_as asked) (strips_at g states k s)) (between 0 SLICES)
+all_marked g from e first last asked states old k are none =
     let inside = are.inside in
-    (λ i. none i || list_any (λ j. nat_le first j && meets (cover_at (slice_index_or (take (last + 1) columns) j []) k) asked) (between 0 (size i)))
-    ∙ up_to_last g from e first last (SLICES - (last + 1)) asked columns k are
-    ∙ ap (λ m. list_any (meets_there g from e asked columns k) (between 0 m)) (omega (arith, inside))
+    ap (λ b. b || list_any (λ j. nat_le first j && strips_meet (strips_as asked) (strips_at g states k j)) (between 0 (last + 1))) none
+    ∙ up_to_last g from e first last (SLICES - (last + 1)) asked states k are
+    ∙ ap (λ m. list_any (meets_there g from e asked states k) (between 0 m)) (omega (arith, inside))
+
+-- the first slice isn't past the last
+pub in_order : (g : Grid) (from e first last : ℕ) → AreEnds g from e first last → from ≤ e → first ≤ last
+in_order g from e first last are order =
+    let begins = are.begins in let ends = are.ends in
+    elim (cases_lt last first) [
+      | inl before ↦ absurd (omega (arith, before, begins, ends, order))
+      | inr after ↦ after
+    ]
 
 -- none is marked at first
 pub none_marked : (items start : List Bool) (size count k : ℕ) → start ≡ [] → size ≡ 0 → items ≡ take count start ++ replicate (count - size) false → k < count →

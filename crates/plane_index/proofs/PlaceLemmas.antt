@@ -1,52 +1,9 @@
--- Strips by place and slice.
-use Rattle.std.proofs.Common.{◌≡◌, ℕ, zero, suc, ◌+◌, ◌-◌, ◌<◌, Bool, false, ◌&&◌, cond, List, [], length, set, sym, ap, ◌∙◌, inl, inr, arith}
-use Rattle.std.specs.Prelude.{◌==◌, ◌≢◌, count_by, slice_index_or}
+-- Counts of places.
+use Rattle.std.proofs.Common.{◌≡◌, ℕ, zero, suc, ◌+◌, ◌-◌, Bool, cond, [], sym, ap, ◌∙◌, arith}
+use Rattle.std.specs.Prelude.{count_by}
 use Rattle.std.specs.List.{range_with_len}
-use Rattle.std.proofs.lemmas.Bool.{cases_eq}
-use Rattle.std.proofs.lemmas.Bool.Decides.{nat_tests}
-use Rattle.std.proofs.lemmas.List.{get_or-set_same, get_or-set_other}
 use Rattle.std.proofs.lemmas.List.Sums.{sum_by-cons}
 use Rattle.tick_set.specs.Ticks.{between}
-use Rattle.plane_index.specs.Columns.{cover_at}
-use Rattle.plane_index.specs.declared.cover.Cover.{Cover}
-use Rattle.plane_index.specs.declared.cover.TheConstants.{NO_STRIPS}
-
--- one place of one slice is set
-pub cell_set : (columns : List (List Cover)) (s place : ℕ) (cover : Cover) → s < length columns → place < length (slice_index_or columns s []) →
-    cover_at (slice_index_or (set columns s (set (slice_index_or columns s []) place cover)) s []) place ≡ cover
-cell_set columns s place cover slice room =
-    ap (λ column. cover_at column place) (get_or-set_same columns s (set (slice_index_or columns s []) place cover) [] slice)
-    ∙ get_or-set_same (slice_index_or columns s []) place cover NO_STRIPS room
-
-slice_other : (columns : List (List Cover)) (s j : ℕ) (column : List Cover) → j ≢ s → slice_index_or (set columns s column) j [] ≡ slice_index_or columns j []
-slice_other columns s j column apart = get_or-set_other columns s j column [] apart
-
-pub cell_kept : (columns : List (List Cover)) (s place k j : ℕ) (cover : Cover) → s < length columns → (j == s && k == place) ≡ false →
-    cover_at (slice_index_or (set columns s (set (slice_index_or columns s []) place cover)) j []) k ≡ cover_at (slice_index_or columns j []) k
-cell_kept columns s place k j cover slice apart =
-    elim (cases_eq j s) [
-      | inl same ↦
-          let other : k ≢ place = λ e. absurd (grind (arith, nat_tests, same, e)) in
-          ap (λ n. cover_at (slice_index_or (set columns s (set (slice_index_or columns s []) place cover)) n []) k) same
-          ∙ ap (λ column. cover_at column k) (get_or-set_same columns s (set (slice_index_or columns s []) place cover) [] slice)
-          ∙ get_or-set_other (slice_index_or columns s []) place k cover NO_STRIPS other
-          ∙ ap (λ n. cover_at (slice_index_or columns n []) k) (sym same)
-      | inr other ↦ ap (λ column. cover_at column k) (slice_other columns s j (set (slice_index_or columns s []) place cover) other)
-    ]
-
-pub room_kept : (columns : List (List Cover)) (s j : ℕ) (column : List Cover) → s < length columns → length column ≡ length (slice_index_or columns s []) →
-    length (slice_index_or (set columns s column) j []) ≡ length (slice_index_or columns j [])
-room_kept columns s j column slice same =
-    elim (cases_eq j s) [
-      | inl e ↦
-          ap (λ n. length (slice_index_or (set columns s column) n [])) e
-          ∙ ap (λ (c : List Cover). length c) (get_or-set_same columns s column [] slice)
-          ∙ same
-          ∙ ap (λ n. length (slice_index_or columns n [])) (sym e)
-      | inr other ↦ ap (λ (c : List Cover). length c) (slice_other columns s j column other)
-    ]
-
--- ---- counts
 
 abbrev one_where : Bool → ℕ
 one_where b = cond b 1 0

@@ -1,14 +1,19 @@
 -- What a store tells of an object is what its timeline tells, and what that tells of a slice its last epoch tells.
 use Rattle.std.proofs.Common.{◌≡◌, ℕ, ◌+◌, ◌-◌, ◌<◌, ◌≤◌, max, Option, None, Some, List, [], ◌∷◌, length, refl, sym, ap, ◌∙◌, arith}
-use Rattle.std.specs.Prelude.{All, option_and_then, slice_get}
+use Rattle.std.specs.Prelude.{All, option_and_then, slice_get, unwrap_or}
 use Rattle.std.specs.List.{filter_map}
 use Rattle.std.specs.Option.{option_map, option_map_or}
 use Rattle.std.proofs.lemmas.List.Elements.{All-cons, All-nil}
 use Rattle.tick_set.specs.Ticks.{between}
-use Rattle.motion.specs.Timeline.{Epoch, epoch_at, state_at, AreBegunBy, IsRisingFrom}
+use Rattle.motion.specs.Timeline.{Epoch, cells_of, epoch_at, state_at, AreBegunBy, IsRisingFrom}
+use Rattle.motion.specs.declared.cell.Cell.{Cell}
 use Rattle.history.specs.History.{cells_at}
 use Rattle.object_store.specs.Contents.{Contents, StoredObject, history_of}
+use Rattle.meaning.specs.Value.{cell_in}
 use Rattle.plane.specs.Boxes.{Grid, box_of, slice_first, slice_last, strips_in, strips_of}
+use Rattle.plane_index.specs.Lines.{number_of_cell}
+use Rattle.plane_index.specs.States.{no_state, strips_by_state}
+use Rattle.plane_index.specs.declared.state.State.{State}
 use Rattle.plane_index.specs.Told.{last_begun, number_in, strips_along, strips_by, told_by}
 use Rattle.plane_index.proofs.ValueLemmas.{no_box, same_numbers}
 
@@ -60,13 +65,20 @@ by_last epochs p g s rising is in_force =
     (λ t after before. ap (λ (e : Option Epoch). number_in (option_and_then (λ (x : Epoch). x.cells) e) g.attribute t)
     (sym (in_force t (begun_later epochs p.from t (omega arith) begun)))))
 
--- the last epoch begins past the slice
-pub past_slice : (epochs : List Epoch) (p : Epoch) (g : Grid) (s : ℕ) → slice_get epochs (length epochs - 1) ≡ Some p → slice_last g s < p.from →
-    strips_along epochs g s ≡ None
-past_slice epochs p g s is past =
-    (λ i. option_map (strips_of g.width) (box_of (filter_map (λ t. number_in (state_at epochs t) g.attribute t) (between (max (slice_first g s) (of_last epochs p is i)) (slice_last g s + 1)))))
-    ∙ ap (option_map (strips_of g.width))
-    (no_box (λ t. number_in (state_at epochs t) g.attribute t) (max (slice_first g s) p.from) (slice_last g s + 1) (λ t after before. absurd (omega arith)))
+same_cell : (there : Option (List Cell)) (a : ℕ) → slice_get (unwrap_or there []) a ≡ cell_in there a
+same_cell None a = refl
+same_cell (Some there) a = refl
+
+-- a state has of its last epoch what an index asks
+pub by_state : (p : Epoch) (state : State) (g : Grid) (s : ℕ) → state.from ≡ p.from → state.cell ≡ slice_get (cells_of p) g.attribute →
+    strips_by_state state g s ≡ strips_by p g s
+by_state p state g s begins holds = λ i.
+    option_map (strips_of g.width)
+    (box_of (filter_map (number_of_cell ((holds ∙ same_cell p.cells g.attribute) i)) (between (max (slice_first g s) (begins i)) (slice_last g s + 1))))
+
+pub no_state_tells : (g : Grid) (s : ℕ) → strips_by_state no_state g s ≡ None
+no_state_tells g s =
+    ap (option_map (strips_of g.width)) (no_box (number_of_cell None) (max (slice_first g s) 0) (slice_last g s + 1) (λ t after before. refl))
 
 pub never_written : (epochs : List Epoch) (g : Grid) (s : ℕ) → epochs ≡ [] → strips_along epochs g s ≡ None
 never_written epochs g s none =

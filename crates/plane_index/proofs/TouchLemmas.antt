@@ -9,7 +9,7 @@ use Rattle.std.proofs.lemmas.List.{get_or-set_other, get_or-set_same}
 use Rattle.std.proofs.lemmas.List.Sorted.{searched}
 use Rattle.plane.specs.Boxes.{Grid}
 use Rattle.plane_index.specs.Index.{AreIndexFields, Index, fresh_at, index_of, is_fresh, IsAscending, IsTouched}
-use Rattle.plane_index.specs.declared.cover.Cover.{Cover}
+use Rattle.plane_index.specs.declared.state.State.{State}
 use Rattle.plane_index.proofs.IndexLemmas.{fresh_of, seen_if_fresh, strips_of_index}
 
 left_of : (a b : Bool) → (a && b) ≡ true → a ≡ true
@@ -23,34 +23,34 @@ and_false : (a b : Bool) → b ≡ false → false ≡ (a && b)
 and_false a b is = grind (arith, nat_tests, is)
 
 -- no object stands past those that were seen
-past_fresh : (grid : Grid) (ids : List ℕ) (fresh : List Bool) (columns : List (List Cover)) (k : ℕ) → length ids ≤ k →
-    is_fresh (index_of grid ids fresh columns) k ≡ false
-past_fresh grid ids fresh columns k past =
-    elim (cases_Bool (is_fresh (index_of grid ids fresh columns) k)) [
-      | inl is ↦ absurd (let below = seen_if_fresh grid ids fresh columns k is in omega (arith, below, past))
+past_fresh : (grid : Grid) (ids : List ℕ) (fresh : List Bool) (states : List State) (k : ℕ) → length ids ≤ k →
+    is_fresh (index_of grid ids fresh states) k ≡ false
+past_fresh grid ids fresh states k past =
+    elim (cases_Bool (is_fresh (index_of grid ids fresh states) k)) [
+      | inl is ↦ absurd (let below = seen_if_fresh grid ids fresh states k is in omega (arith, below, past))
       | inr none ↦ none
     ]
 
-touched : (id : ℕ) (grid : Grid) (ids : List ℕ) (fresh fresh' : List Bool) (columns : List (List Cover)) →
+touched : (id : ℕ) (grid : Grid) (ids : List ℕ) (fresh fresh' : List Bool) (states : List State) →
     ((k : ℕ) → k < length ids → fresh_at fresh' k ≡ (fresh_at fresh k && not (slice_index ids k == id))) →
-    IsTouched id (index_of grid ids fresh columns) (index_of grid ids fresh' columns)
-touched id grid ids fresh fresh' columns tells = record {
+    IsTouched id (index_of grid ids fresh states) (index_of grid ids fresh' states)
+touched id grid ids fresh fresh' states tells = record {
   grid = refl;
   ids = refl;
   fresh = λ k.
       elim (cases_lt k (length ids)) [
         | inl below ↦
-            fresh_of grid ids fresh' columns k below ∙ tells k below
-            ∙ ap (λ b. b && not (slice_index ids k == id)) (sym (fresh_of grid ids fresh columns k below))
+            fresh_of grid ids fresh' states k below ∙ tells k below
+            ∙ ap (λ b. b && not (slice_index ids k == id)) (sym (fresh_of grid ids fresh states k below))
         | inr past ↦
-            past_fresh grid ids fresh' columns k past
-            ∙ ap (λ b. b && not (slice_index ids k == id)) (sym (past_fresh grid ids fresh columns k past))
+            past_fresh grid ids fresh' states k past
+            ∙ ap (λ b. b && not (slice_index ids k == id)) (sym (past_fresh grid ids fresh states k past))
       ];
   strips = λ k slice is under.
-      let below = seen_if_fresh grid ids fresh' columns k is in
-      let now = sym (fresh_of grid ids fresh' columns k below) ∙ is in
+      let below = seen_if_fresh grid ids fresh' states k is in
+      let now = sym (fresh_of grid ids fresh' states k below) ∙ is in
       let before = left_of (fresh_at fresh k) (not (slice_index ids k == id)) (sym (tells k below) ∙ now) in
-      strips_of_index grid ids fresh' columns k slice below now under ∙ sym (strips_of_index grid ids fresh columns k slice below before under);
+      strips_of_index grid ids fresh' states k slice below now under ∙ sym (strips_of_index grid ids fresh states k slice below before under);
 }
 
 in_order : (ids : List ℕ) → IsAscending ids →
@@ -73,15 +73,15 @@ is_one : (x id : ℕ) → x ≡ id → not (x == id) ≡ false
 is_one x id same = grind (arith, nat_tests, same)
 
 -- it was found
-pub stale_now : (id place : ℕ) (grid : Grid) (ids there : List ℕ) (fresh : List Bool) (columns : List (List Cover)) (old : Index) → AreIndexFields ids fresh columns → there ≡ ids →
-    IsBinarySearchResult (λ y. nat_cmp y id) there (Ok place) → index_of grid ids fresh columns ≡ old →
-    IsTouched id old (index_of grid ids (set fresh place false) columns)
-stale_now id place grid ids there fresh columns old are same found was =
+pub stale_now : (id place : ℕ) (grid : Grid) (ids there : List ℕ) (fresh : List Bool) (states : List State) (old : Index) → AreIndexFields ids fresh states → there ≡ ids →
+    IsBinarySearchResult (λ y. nat_cmp y id) there (Ok place) → index_of grid ids fresh states ≡ old →
+    IsTouched id old (index_of grid ids (set fresh place false) states)
+stale_now id place grid ids there fresh states old are same found was =
     let is = searched ids id (Ok place) (subst (λ xs. IsBinarySearchResult (λ y. nat_cmp y id) xs (Ok place)) same found) (in_order ids are.ascending) in
     let in_ids : place < length ids = is.0 in
     let seen = are.seen in
-    subst (λ (index : Index). IsTouched id index (index_of grid ids (set fresh place false) columns)) was
-    (touched id grid ids fresh (set fresh place false) columns
+    subst (λ (index : Index). IsTouched id index (index_of grid ids (set fresh place false) states)) was
+    (touched id grid ids fresh (set fresh place false) states
     (λ k below.
     elim (cases_eq k place) [
       | inl e ↦
@@ -102,11 +102,11 @@ none_is ids id gap less more k below =
     ]
 
 -- it wasn't
-pub stale_anyway : (id gap : ℕ) (grid : Grid) (ids there : List ℕ) (fresh : List Bool) (columns : List (List Cover)) (old : Index) → AreIndexFields ids fresh columns → there ≡ ids →
-    IsBinarySearchResult (λ y. nat_cmp y id) there (Err gap) → index_of grid ids fresh columns ≡ old →
+pub stale_anyway : (id gap : ℕ) (grid : Grid) (ids there : List ℕ) (fresh : List Bool) (states : List State) (old : Index) → AreIndexFields ids fresh states → there ≡ ids →
+    IsBinarySearchResult (λ y. nat_cmp y id) there (Err gap) → index_of grid ids fresh states ≡ old →
     IsTouched id old old
-stale_anyway id gap grid ids there fresh columns old are same missing was =
+stale_anyway id gap grid ids there fresh states old are same missing was =
     let is = searched ids id (Err gap) (subst (λ xs. IsBinarySearchResult (λ y. nat_cmp y id) xs (Err gap)) same missing) (in_order ids are.ascending) in
     subst (λ (index : Index). IsTouched id index index) was
-    (touched id grid ids fresh fresh columns
+    (touched id grid ids fresh fresh states
     (λ k below. and_true (fresh_at fresh k) (not (slice_index ids k == id)) (ap not (none_is ids id gap is.1 is.2 k below))))

@@ -5,11 +5,10 @@ use Rattle.history.specs.Catalog.{ids_of}
 use Rattle.object_store.specs.Contents.{Contents, catalog_of}
 use Rattle.plane.specs.Boxes.{Grid, Strips, strips_in}
 use Rattle.plane.specs.declared.limits.TheConstants.{SLICES}
-use Rattle.plane_index.specs.Columns.{cover_at}
 use Rattle.plane_index.specs.Held.{kept_strips, no_strips}
-use Rattle.plane_index.specs.Lines.{strips_as}
+use Rattle.plane_index.specs.States.{strips_at}
 use Rattle.plane_index.specs.Told.{told_by}
-use Rattle.plane_index.specs.declared.cover.Cover.{Cover}
+use Rattle.plane_index.specs.declared.state.State.{State}
 
 -- The objects of the class that it has seen, by first insertion. By the place of each among them its strips in each slice, None
 -- where it is stale.
@@ -28,29 +27,21 @@ strips_of_place index k slice = slice_index_or (unwrap_or (slice_index_or index.
 abbrev pub fresh_at : List Bool → ℕ → Bool
 fresh_at fresh k = slice_index_or fresh k false
 
-abbrev pub strips_at : List (List Cover) → ℕ → ℕ → Strips
-strips_at columns k s = strips_as (cover_at (slice_index_or columns s []) k)
-
--- each slice has room for so many objects
-abbrev pub HaveRoom : List (List Cover) → ℕ → Type 0
-HaveRoom columns count = (s : ℕ) → s < SLICES → count ≤ length (slice_index_or columns s [])
-
 -- the fields of the index
-abbrev pub row_at : List Bool → List (List Cover) → ℕ → Option (List Strips)
-row_at fresh columns k = if fresh_at fresh k then Some (map (strips_at columns k) (between 0 SLICES)) else None
+abbrev pub row_at : Grid → List Bool → List State → ℕ → Option (List Strips)
+row_at grid fresh states k = if fresh_at fresh k then Some (map (strips_at grid states k) (between 0 SLICES)) else None
 
-abbrev pub index_of : Grid → List ℕ → List Bool → List (List Cover) → Index
-index_of grid ids fresh columns = record { grid = grid; ids = ids; rows = map (row_at fresh columns) (between 0 (length ids)) }
+abbrev pub index_of : Grid → List ℕ → List Bool → List State → Index
+index_of grid ids fresh states = record { grid = grid; ids = ids; rows = map (row_at grid fresh states) (between 0 (length ids)) }
 
 abbrev pub IsAscending : List ℕ → Type 0
 IsAscending ids = (j k : ℕ) → j < k → k < length ids → slice_index ids j < slice_index ids k
 
--- What holds of those fields: ids ascend, each slice has a place for each of them, and none past them is fresh.
-pub record AreIndexFields (ids : List ℕ) (fresh : List Bool) (columns : List (List Cover)) : Type 0 where
+-- What holds of those fields: ids ascend, each has a state, and none past them is fresh.
+pub record AreIndexFields (ids : List ℕ) (fresh : List Bool) (states : List State) : Type 0 where
   pub ascending : IsAscending ids
-  pub slices : length columns ≡ SLICES
   pub seen : length ids ≤ length fresh
-  pub room : HaveRoom columns (length fresh)
+  pub room : length fresh ≤ length states
   pub unseen : (k : ℕ) → length ids ≤ k → fresh_at fresh k ≡ false
 
 -- ---- An index of a store

@@ -1,6 +1,7 @@
 pub mod Told
 pub mod Held
 pub mod Lines
+pub mod States
 pub mod Columns
 pub mod Index
 pub mod Rows

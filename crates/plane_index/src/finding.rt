@@ -1,16 +1,15 @@
 //! How candidates are found.
-ghost use Rattle.std.specs.Prelude.{◌≡◌, ◌≤◌, ◌<◌, ◌&&◌, ◌||◌, ℕ, [], nat_le, length, map, ◌++◌, ◌∷◌, if◌then◌else◌, IfOk, OnOk, slice_index, slice_index_or};
+ghost use Rattle.std.specs.Prelude.{◌≡◌, ◌+◌, ◌≤◌, ◌<◌, ◌&&◌, ◌||◌, ℕ, [], nat_le, length, map, ◌++◌, ◌∷◌, if◌then◌else◌, IfOk, OnOk, slice_index, slice_index_or};
 ghost use Rattle.std.specs.List.{filter, list_any};
 ghost use Rattle.tick_set.specs.Ticks.{between};
 ghost use Rattle.plane.specs.Boxes.{last_covered, slice_meets, strips_meet};
 ghost use Rattle.plane.specs.declared.limits.TheConstants.{SLICES};
-ghost use Rattle.plane_index.specs.Columns.{cover_at, meets};
-ghost use Rattle.plane_index.specs.Index.{fresh_at, strips_at};
+ghost use Rattle.plane_index.specs.Index.{fresh_at};
 ghost use Rattle.plane_index.specs.Lines.{strips_as};
+ghost use Rattle.plane_index.specs.States.{strips_at};
 
-use crate::column::Column;
 use crate::cover::Cover;
-use crate::grid::Grid;
+use crate::states::States;
 use object_store::ObjectId;
 use std::alloc::{AllocError, Global};
 use tick_set::Window;
@@ -18,41 +17,40 @@ use tick_set::Window;
 /// Whether each of so many places has strips in a slice with a tick of the window that share one with these.
 pub fn marked(
     alloc: Global,
-    grid: &Grid,
-    columns: &[Column],
+    states: &States,
     count: usize,
     asked: &Cover,
     w: Window,
 ) -> Result<Vec<bool>, AllocError>
-    requires first { grid.now.from ≤ w.lo }
-    requires last { w.hi ≤ last_covered grid.now }
-    requires slices { length columns.now ≡ SLICES }
-    requires room { (s : ℕ) → s < SLICES → count ≤ length (slice_index_or columns.now s []) }
+    requires first { states.now.grid.from ≤ w.lo }
+    requires last { w.hi ≤ last_covered states.now.grid }
+    requires room { count ≤ length states.now.states }
     ensures length { IfOk result (λ marks. length marks.items ≡ count) }
     ensures marks { IfOk result (λ marks. (k : ℕ) → k < count → fresh_at marks.items k
-        ≡ list_any (λ s. slice_meets grid.now w.lo w.hi s
-        && strips_meet (strips_as asked.now) (strips_at columns.now k s)) (between 0 SLICES)) }
+        ≡ list_any (λ s. slice_meets states.now.grid w.lo w.hi s
+        && strips_meet (strips_as asked.now) (strips_at states.now.grid states.now.states k s)) (between 0 SLICES)) }
 {
-    let first = grid.slice_of(w.lo);
-    let last = grid.slice_of(w.hi);
+    let first = states.grid().slice_of(w.lo);
+    let last = states.grid().slice_of(w.hi);
     let mut marks = Vec::new(alloc);
     marks.resize(count, false)?;
-    mark_in(&columns[..last + 1], first, &mut marks, asked);
+    mark_in(states, first, last, &mut marks, asked);
     Ok(marks)
 }
 
-// Marks each place whose strips share one with these in one of the columns from the first on.
-fn mark_in(columns: &[Column], first: usize, marks: &mut [bool], asked: &Cover)
-    requires room { (s : ℕ) → s < length columns.now → length marks.old ≤ length (slice_index_or columns.now s []) }
-    requires first { first ≤ length columns.now }
+// Marks each place whose strips share one with these in one of the slices from the first to the last one.
+fn mark_in(states: &States, first: usize, last: usize, marks: &mut [bool], asked: &Cover)
+    requires room { length marks.old ≤ length states.now.states }
+    requires last { last < SLICES }
+    requires first { first ≤ last }
     ensures length { length marks.new ≡ length marks.old }
     ensures marks { (k : ℕ) → k < length marks.old → fresh_at marks.new k
-        ≡ (fresh_at marks.old k || list_any (λ s. nat_le first s && meets (cover_at (slice_index_or columns.now s []) k) asked.now)
-        (between 0 (length columns.now))) }
+        ≡ (fresh_at marks.old k || list_any (λ s. nat_le first s && strips_meet (strips_as asked.now)
+        (strips_at states.now.grid states.now.states k s)) (between 0 (last + 1))) }
 {
     let mut s = first;
-    'slices: while s < columns.len() {
-        columns[s].mark(marks, asked);
+    'slices: while s <= last {
+        states.mark(s, marks, asked);
         s += 1;
     }
 }

@@ -9,14 +9,13 @@ ghost use Rattle.plane_index.specs.Held.{IsGrid};
 ghost use Rattle.plane_index.specs.Index.{fresh_at, is_fresh, stale_count, strips_of_place, IsAscending, IsFresh, IsIndexOf, IsTouched};
 ghost use Rattle.plane_index.specs.Told.{told_by};
 
-use crate::column::Column;
 use crate::cover::Cover;
 use crate::finding::{found_among, marked};
 use crate::grid::Grid;
-use crate::renewing::{freshen, lengthen};
+use crate::renewing::freshen;
+use crate::states::States;
 use fixed_point::Fix;
 use object_store::{ClassId, ObjectId, Store};
-use plane::SLICES;
 use std::alloc::{AllocError, Global};
 use std::marker::Model;
 use std::sync::ledger::Ledger;
@@ -29,10 +28,9 @@ use tick_set::Window;
 /// are those of their last states. A write makes the strips of its object wrong, so who writes touches that object.
 #[derive(Drop)]
 pub struct PlaneIndex {
-    grid: Grid,
     ids: Vec<ObjectId>,
     fresh: Vec<bool>,
-    columns: Vec<Column>,
+    states: States,
 }
 
 impl Model for PlaneIndex {
@@ -40,9 +38,9 @@ impl Model for PlaneIndex {
 
     ghost Value = { Index };
 
-    ghost view = { λ a. index_of a.grid a.ids.items a.fresh.items a.columns.items };
+    ghost view = { λ a. index_of a.states.grid a.ids.items a.fresh.items a.states.states };
 
-    ghost invariant = { λ a. AreIndexFields a.ids.items a.fresh.items a.columns.items };
+    ghost invariant = { λ a. AreIndexFields a.ids.items a.fresh.items a.states.states };
 }
 
 impl PlaneIndex {
@@ -53,12 +51,11 @@ impl PlaneIndex {
         ensures stale { IfOk result (λ index. (k : ℕ) → is_fresh index k ≡ false) }
         ensures right { IfOk result (λ index. (s : Contents) → IsIndexOf s index) }
     {
-        let columns = no_columns(alloc)?;
+        let states = States::new(alloc, grid)?;
         Ok(PlaneIndex {
-            grid,
             ids: Vec::new(alloc),
             fresh: Vec::new(alloc),
-            columns,
+            states,
         })
     }
 
@@ -66,7 +63,7 @@ impl PlaneIndex {
     pub fn grid(&self) -> &Grid
         ensures { result.now ≡ self.now.grid }
     {
-        &self.grid
+        self.states.grid()
     }
 
     /// The object is stale from now on, and all else stays. One that it has not seen is stale anyway. It takes no memory.
@@ -94,16 +91,9 @@ impl PlaneIndex {
         ensures most { reads.new ≤ reads.old + stale_count store.now self.old }
         ensures unread { OnErr result (reads.new ≡ reads.old) }
     {
-        let class = self.grid.class();
+        let class = self.states.grid().class();
         self.see(store.class_names(class))?;
-        freshen(
-            &self.grid,
-            &self.ids,
-            &mut self.fresh,
-            &mut self.columns,
-            store,
-            reads,
-        );
+        freshen(&self.ids, &mut self.fresh, &mut self.states, store, reads);
         Ok(())
     }
 
@@ -118,7 +108,7 @@ impl PlaneIndex {
             → strips_of_place self.new k slice ≡ strips_of_place self.old k slice) }
         ensures err { OnErr result (self.new ≡ self.old) }
     {
-        lengthen(&mut self.columns, all.len())?;
+        self.states.lengthen(all.len())?;
         widen(&mut self.fresh, all.len())?;
         self.ids.extend_from_slice(&all[self.ids.len()..])?;
         Ok(())
@@ -131,7 +121,18 @@ impl PlaneIndex {
             && ((length store.now.objects == 0) || nat_le store.now.last_tick w.lo)) }
         ensures covered { result ≡ true → IsCovered (told_by store.now) self.now.grid w.lo w.hi }
     {
-        self.grid.covers(w) && (store.object_count() == 0 || store.last_tick() <= w.lo)
+        self.grid().covers(w) && (store.object_count() == 0 || store.last_tick() <= w.lo)
+    }
+
+    /// Makes the strips of the slices of a window ready. What an index tells stays. It fails only where memory is out.
+    pub(crate) fn prepare(&mut self, alloc: Global, w: Window) -> Result<(), AllocError>
+        requires first { self.old.grid.from ≤ w.lo }
+        requires last { w.hi ≤ last_covered self.old.grid }
+        ensures { self.new ≡ self.old }
+    {
+        let first = self.states.grid().slice_of(w.lo);
+        let last = self.states.grid().slice_of(w.hi);
+        self.states.prepare(alloc, first, last)
     }
 
     /// The candidates for values between two bounds at some tick of the window, by first insertion, where no object is
@@ -152,21 +153,10 @@ impl PlaneIndex {
         if hi < lo {
             return Ok(Vec::new(alloc));
         }
-        let asked = Cover::between(&self.grid, lo, hi);
-        let marks = marked(alloc, &self.grid, &self.columns, self.ids.len(), &asked, w)?;
+        let asked = Cover::between(self.states.grid(), lo, hi);
+        let marks = marked(alloc, &self.states, self.ids.len(), &asked, w)?;
         found_among(alloc, &self.ids, &marks)
     }
-}
-
-// A column for each slice.
-fn no_columns(alloc: Global) -> Result<Vec<Column>, AllocError>
-    ensures length { IfOk result (λ columns. length columns.items ≡ SLICES) }
-{
-    let mut columns = Vec::with_capacity(alloc, SLICES as usize)?;
-    'slices: while columns.len() < SLICES as usize {
-        columns.push(Column::new(alloc))?;
-    }
-    Ok(columns)
 }
 
 // Makes room for so many places. Those that are new are stale.

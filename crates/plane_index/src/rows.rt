@@ -54,6 +54,7 @@ impl PlaneIndex {
             + length (candidates (told_by store.now) self.old.grid lo hi w.lo w.hi)) }
     {
         self.renew(store, reads)?;
+        self.prepare(alloc, w)?;
         let found = self.candidates(alloc, lo, hi, w)?;
         rows_of(
             alloc,

@@ -5,10 +5,12 @@ use Rattle.plane_index.proofs.index.PlaneIndex.new.Goals as goal
 
 pub returns-clause-stale : goal.returns-clause-stale
 returns-clause-stale c =
-    λ k. ap (λ ids. is_fresh (index_of c.args.grid ids c.new-2.result.items c.in_ok-columns.columns.items) k) c.new.ensures.items
-    ∙ none_fresh c.args.grid c.new-2.result.items c.in_ok-columns.columns.items k
+    let states = c.in_ok-states.states in
+    λ k. ap (λ ids. is_fresh (index_of states.grid ids c.new-3.result.items states.states) k) c.new-2.ensures.items
+    ∙ none_fresh states.grid c.new-3.result.items states.states k
 
 pub returns-clause-right : goal.returns-clause-right
 returns-clause-right c =
-    λ s. subst (λ ids. IsIndexOf s (index_of c.args.grid ids c.new-2.result.items c.in_ok-columns.columns.items)) (sym c.new.ensures.items)
-    (of_any s c.args.grid c.new-2.result.items c.in_ok-columns.columns.items)
+    let states = c.in_ok-states.states in
+    λ s. subst (λ ids. IsIndexOf s (index_of states.grid ids c.new-3.result.items states.states)) (sym c.new-2.ensures.items)
+    (of_any s states.grid c.new-3.result.items states.states)

@@ -4,7 +4,7 @@ use Rattle.tick_set.specs.Ticks.{between}
 use Rattle.plane.specs.Boxes.{box_of}
 use Rattle.plane_index.specs.Lines.{number_of_cell}
 use Rattle.plane_index.proofs.ExtentLemmas.{of_number, of_text, of_vector}
-use Rattle.plane_index.proofs.cover.values_of.Goals as goal
+use Rattle.plane_index.proofs.looking.values_of.Goals as goal
 
 pub returns-in-Num : goal.returns-in-Num
 returns-in-Num c =
