@@ -29,18 +29,21 @@ pub struct Polygon {
     points: Vec<Point>,
     // Whether they were given in the other order.
     reversed: bool,
+    // The bounds of the points.
+    least: Point,
+    greatest: Point,
 }
 
 impl Model for Polygon {
     ghost use Rattle.std.specs.Prelude.{List};
     ghost use Rattle.fixed_point.specs.declared.number.Point.{Point};
-    ghost use Rattle.polygon.specs.Given.{given, IsStoredPolygon};
+    ghost use Rattle.polygon.specs.Given.{given, IsKeptPolygon};
 
     ghost Value = { List Point };
 
     ghost view = { λ a. given a.points.items a.reversed };
 
-    ghost invariant = { λ a. IsStoredPolygon a.points.items a.reversed };
+    ghost invariant = { λ a. IsKeptPolygon a.points.items a.reversed a.least a.greatest };
 }
 
 impl Polygon {
@@ -92,10 +95,11 @@ impl Polygon {
     }
 
     /// The least coordinates of its points, and the greatest ones. Each is one of some point.
+    #[inline]
     pub fn bounds(&self) -> (Point, Point)
         ensures { AreBounds self.now result.0 result.1 }
     {
-        bounds_of(&self.points[0], &self.points[1..])
+        (self.least, self.greatest)
     }
 
     /// The ticks of the window at which the moving point is inside or on the boundary: one span, None exactly
@@ -131,8 +135,14 @@ fn keep(alloc: Global, points: &[Point], reversed: bool) -> Result<Polygon, Poly
     ensures ok { IfOk result (λ p. p ≡ given points.now reversed) }
     ensures err { IfErr result (λ e. e ≡ NoMemory) }
 {
+    let (least, greatest) = bounds_of(&points[0], &points[1..]);
     match Vec::from_slice(alloc, points) {
-        Ok(points) => Ok(Polygon { points, reversed }),
+        Ok(points) => Ok(Polygon {
+            points,
+            reversed,
+            least,
+            greatest,
+        }),
         Err(_) => Err(PolygonFault::NoMemory),
     }
 }
