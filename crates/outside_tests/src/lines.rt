@@ -80,16 +80,53 @@ struct Run<'a> {
     fail: [&'a [u64]; 3],
 }
 
+fn source_of(alloc: Global, run: &Run) -> Result<MemSource, AllocError> {
+    let fail = run.fail[0].to_vec(alloc)?;
+    let input = run.input.to_vec(alloc)?;
+    Ok(MemSource::new(input, run.cut.max(1), fail))
+}
+
+fn sink_of(alloc: Global, run: &Run) -> Result<MemSink, AllocError> {
+    let fail = run.fail[1].to_vec(alloc)?;
+    Ok(MemSink::new(alloc, run.cut.max(1), fail))
+}
+
+fn shelf_of(alloc: Global, run: &Run) -> Result<MemShelf, AllocError> {
+    let fail = run.fail[2].to_vec(alloc)?;
+    Ok(MemShelf::new(alloc, fail))
+}
+
+fn ends_over(
+    alloc: Global,
+    limit: u64,
+    source: &mut MemSource,
+    sink: &mut MemSink,
+    shelf: &mut MemShelf,
+) -> Ending {
+    let mut echo = Echo { done: false };
+    run_lines(alloc, limit, &mut echo, source, sink, shelf)
+}
+
+// How the run ends, where its output goes to a sink.
+fn ends_into(
+    alloc: Global,
+    run: &Run,
+    source: &mut MemSource,
+    sink: &mut MemSink,
+) -> Result<Ending, AllocError> {
+    let mut shelf = shelf_of(alloc, run)?;
+    Ok(ends_over(alloc, run.limit, source, sink, &mut shelf))
+}
+
+fn ends_from(alloc: Global, run: &Run, sink: &mut MemSink) -> Result<Ending, AllocError> {
+    let mut source = source_of(alloc, run)?;
+    ends_into(alloc, run, &mut source, sink)
+}
+
 // Whether the run ends so, with this output.
 fn ends_with(alloc: Global, run: &Run, ending: Ending, output: &[u8]) -> Result<bool, AllocError> {
-    let [reads, writes, fetches] = run.fail;
-    let cut = run.cut.max(1);
-    let mut source = MemSource::new(run.input.to_vec(alloc)?, cut, reads.to_vec(alloc)?);
-    let mut sink = MemSink::new(alloc, cut, writes.to_vec(alloc)?);
-    let mut shelf = MemShelf::new(alloc, fetches.to_vec(alloc)?);
-    let mut echo = Echo { done: false };
-    let limit = run.limit;
-    let came = run_lines(alloc, limit, &mut echo, &mut source, &mut sink, &mut shelf);
+    let mut sink = sink_of(alloc, run)?;
+    let came = ends_from(alloc, run, &mut sink)?;
     Ok(came == ending && sink.bytes() == output)
 }
 
@@ -102,25 +139,29 @@ const LINES: &[u8] =
 
 const REPLIES: &[u8] = b"one\n\n12345678\nlong\ntwo\r\nsix\rty\n\nlong\nlast\r\n";
 
+fn is_answered(alloc: Global, cut: usize) -> Result<bool, AllocError> {
+    let run = Run {
+        limit: 1000,
+        input: LINES,
+        cut,
+        fail: NONE,
+    };
+    ends_with(alloc, &run, Ending::Done, REPLIES)
+}
+
 #[test]
 fn pieces_of_any_size_give_the_same_output(rt: HostRuntime) -> Result<(), Fail> {
     for cut in 1..=50 {
-        let run = Run {
-            limit: 1000,
-            input: LINES,
-            cut,
-            fail: NONE,
-        };
-        assert!(rt;
-            ends_with(rt.alloc(), &run, Ending::Done, REPLIES)?,
-            "in pieces of {cut}"
-        );
+        let right = is_answered(rt.alloc(), cut)?;
+        assert!(rt; right, "in pieces of {cut}");
     }
     Ok(())
 }
 
 // A limit and an input, how the run ends, and its output.
-const ENDINGS: [(u64, &[u8], Ending, &[u8]); 12] = [
+type Limited = (u64, &'static [u8], Ending, &'static [u8]);
+
+const ENDINGS: &[Limited] = &[
     // The whole input, up to the limit.
     (9, b"", Ending::Done, b""),
     (0, b"", Ending::Done, b""),
@@ -138,27 +179,30 @@ const ENDINGS: [(u64, &[u8], Ending, &[u8]); 12] = [
     (4, b"quit", Ending::Done, b"quit\n"),
 ];
 
-fn end_as_they_are_to(rt: &impl Abort, alloc: Global, cut: usize) -> Result<(), Fail> {
-    for (limit, input, ending, output) in ENDINGS {
-        let run = Run {
-            limit,
-            input,
-            cut,
-            fail: NONE,
-        };
-        assert!(rt;
-            ends_with(alloc, &run, ending, output)?,
-            "{input:?} within {limit}"
-        );
+fn ends_within(alloc: Global, row: &Limited, cut: usize) -> Result<bool, AllocError> {
+    let run = Run {
+        limit: row.0,
+        input: row.1,
+        cut,
+        fail: NONE,
+    };
+    ends_with(alloc, &run, row.2, row.3)
+}
+
+fn end_as_they_are_to(rt: &impl Abort, alloc: Global, cut: usize) -> Result<(), AllocError> {
+    for (place, row) in ENDINGS.iter().enumerate() {
+        let right = ends_within(alloc, row, cut)?;
+        assert!(rt; right, "row {place} in pieces of {cut}");
     }
     Ok(())
 }
 
 #[test]
 fn runs_end_as_they_are_to(rt: HostRuntime) -> Result<(), Fail> {
-    end_as_they_are_to(&rt, rt.alloc(), 1)?;
-    end_as_they_are_to(&rt, rt.alloc(), 3)?;
-    end_as_they_are_to(&rt, rt.alloc(), 100)
+    for cut in [1, 3, 100] {
+        end_as_they_are_to(&rt, rt.alloc(), cut)?;
+    }
+    Ok(())
 }
 
 // In pieces of 3: six reads, of which the last finds the end, seven writes and two fetches.
@@ -168,7 +212,15 @@ const ASKS: &[u8] = b"ask\ntwelve\nask";
 const TOGETHER: &[u8] = b"a\nb\nask\nc\n";
 
 // An input in pieces, the calls that fail, how the run ends, and its output.
-const FAILING: [(&[u8], usize, [&[u64]; 3], Ending, &[u8]); 18] = [
+type Failing = (
+    &'static [u8],
+    usize,
+    [&'static [u64]; 3],
+    Ending,
+    &'static [u8],
+);
+
+const FAILING: &[Failing] = &[
     (ASKS, 3, [&[1], &[], &[]], Ending::ReadFault, b""),
     (ASKS, 3, [&[2], &[], &[]], Ending::ReadFault, b""),
     (ASKS, 3, [&[3], &[], &[]], Ending::ReadFault, b"ask\n"),
@@ -243,19 +295,21 @@ const FAILING: [(&[u8], usize, [&[u64]; 3], Ending, &[u8]); 18] = [
     ),
 ];
 
+fn ends_by_a_failure(alloc: Global, row: &Failing) -> Result<bool, AllocError> {
+    let run = Run {
+        limit: 100,
+        input: row.0,
+        cut: row.1,
+        fail: row.2,
+    };
+    ends_with(alloc, &run, row.3, row.4)
+}
+
 #[test]
 fn failing_calls_end_a_run(rt: HostRuntime) -> Result<(), Fail> {
-    for (input, cut, fail, ending, output) in FAILING {
-        let run = Run {
-            limit: 100,
-            input,
-            cut,
-            fail,
-        };
-        assert!(rt;
-            ends_with(rt.alloc(), &run, ending, output)?,
-            "{ending:?} of {fail:?}"
-        );
+    for (place, row) in FAILING.iter().enumerate() {
+        let right = ends_by_a_failure(rt.alloc(), row)?;
+        assert!(rt; right, "row {place}");
     }
     Ok(())
 }
@@ -284,19 +338,30 @@ fn long_input_ends(
     ends_with(alloc, &run, ending, output)
 }
 
+fn long_lines_end(alloc: Global) -> Result<bool, AllocError> {
+    let input = filled(alloc, b'x', 10_000, b"\nshort\nyyyyyyyyy")?;
+    long_input_ends(alloc, &input, 100_000, Ending::Done, b"long\nshort\nlong\n")
+}
+
 #[test]
 fn long_lines_are_answered(rt: HostRuntime) -> Result<(), Fail> {
-    let input = filled(rt.alloc(), b'x', 10_000, b"\nshort\nyyyyyyyyy")?;
-    let output = b"long\nshort\nlong\n";
-    assert!(rt; long_input_ends(rt.alloc(), &input, 100_000, Ending::Done, output)?);
+    let right = long_lines_end(rt.alloc())?;
+    assert!(rt; right);
     Ok(())
+}
+
+fn long_input_ends_at_its_limit(alloc: Global) -> Result<bool, AllocError> {
+    let input = filled(alloc, b'\n', 9_000, b"")?;
+    match input.get(..8_000) {
+        Some(output) => long_input_ends(alloc, &input, 8_000, Ending::InputLimit, output),
+        None => Ok(false),
+    }
 }
 
 #[test]
 fn long_inputs_are_answered_up_to_their_limit(rt: HostRuntime) -> Result<(), Fail> {
-    let input = filled(rt.alloc(), b'\n', 9_000, b"")?;
-    let output = input.get(..8_000).ok_or("a short input")?;
-    assert!(rt; long_input_ends(rt.alloc(), &input, 8_000, Ending::InputLimit, output)?);
+    let right = long_input_ends_at_its_limit(rt.alloc())?;
+    assert!(rt; right);
     Ok(())
 }
 
@@ -343,25 +408,28 @@ impl Handler<MemShelf> for Mirror {
     fn long_lines_step_alike() {}
 }
 
-fn is_mirrored(alloc: Global, input: &[u8]) -> Result<bool, AllocError> {
-    let mut source = MemSource::new(input.to_vec(alloc)?, 3_000, Vec::new(alloc));
-    let mut sink = MemSink::new(alloc, 5_000, Vec::new(alloc));
+// Whether a sink has the input after it was mirrored.
+fn mirrors(alloc: Global, input: &[u8], source: &mut MemSource, sink: &mut MemSink) -> bool {
     let mut shelf = MemShelf::new(alloc, Vec::new(alloc));
-    let mut mirror = Mirror;
-    let ending = run_lines(
-        alloc,
-        20_000,
-        &mut mirror,
-        &mut source,
-        &mut sink,
-        &mut shelf,
-    );
-    Ok(ending == Ending::Done && sink.bytes() == input)
+    let ending = run_lines(alloc, 20_000, &mut Mirror, source, sink, &mut shelf);
+    ending == Ending::Done && sink.bytes() == input
+}
+
+fn is_mirrored(alloc: Global, input: &[u8]) -> Result<bool, AllocError> {
+    let bytes = input.to_vec(alloc)?;
+    let mut source = MemSource::new(bytes, 3_000, Vec::new(alloc));
+    let mut sink = MemSink::new(alloc, 5_000, Vec::new(alloc));
+    Ok(mirrors(alloc, input, &mut source, &mut sink))
+}
+
+fn a_long_line_is_mirrored(alloc: Global) -> Result<bool, AllocError> {
+    let input = filled(alloc, b'x', 10_000, b"\n")?;
+    is_mirrored(alloc, &input)
 }
 
 #[test]
 fn lines_may_have_no_longest(rt: HostRuntime) -> Result<(), Fail> {
-    let input = filled(rt.alloc(), b'x', 10_000, b"\n")?;
-    assert!(rt; is_mirrored(rt.alloc(), &input)?);
+    let right = a_long_line_is_mirrored(rt.alloc())?;
+    assert!(rt; right);
     Ok(())
 }

@@ -5,6 +5,7 @@ use outside::{
 use std::alloc::{AllocError, Global};
 use std::fs;
 use std::io::{self, ErrorKind, Read, Write};
+use std::process::Abort;
 use std::rt::Files;
 use std::test::Fail;
 
@@ -28,7 +29,7 @@ fn pieces<S: Source>(alloc: Global, source: &mut S) -> Result<Vec<u8>, AllocErro
 const TEXT: &[u8] = b"abcdefg";
 
 // The most bytes of a piece, the numbers of the reads that fail, and the pieces.
-const READ: [(usize, &[u64], &[u8]); 5] = [
+const READ: &[(usize, &[u64], &[u8])] = &[
     (1, &[], b"a|b|c|d|e|f|g|"),
     (3, &[], b"abc|def|g|"),
     (9, &[], b"abcd|efg|"),
@@ -36,27 +37,42 @@ const READ: [(usize, &[u64], &[u8]); 5] = [
     (3, &[1, 2, 5], b"!!abc|def|!g|"),
 ];
 
-fn read_in_pieces(alloc: Global, cut: usize, fail: &[u64]) -> Result<Vec<u8>, AllocError> {
-    let mut source = MemSource::new(TEXT.to_vec(alloc)?, cut.max(1), fail.to_vec(alloc)?);
-    pieces(alloc, &mut source)
+fn is_read_so(alloc: Global, cut: usize, fail: &[u64], want: &[u8]) -> Result<bool, AllocError> {
+    let fail = fail.to_vec(alloc)?;
+    let text = TEXT.to_vec(alloc)?;
+    let mut source = MemSource::new(text, cut.max(1), fail);
+    let read = pieces(alloc, &mut source)?;
+    Ok(read.as_slice() == want)
 }
 
 #[test]
 fn reads_in_pieces_and_fails_at_the_numbered_calls(rt: HostRuntime) -> Result<(), Fail> {
-    for (cut, fail, want) in READ {
-        assert_eq!(rt; read_in_pieces(rt.alloc(), cut, fail)?.as_slice(), want);
+    for &(cut, fail, want) in READ {
+        let right = is_read_so(rt.alloc(), cut, fail, want)?;
+        assert!(rt; right, "in pieces of {cut}");
     }
     Ok(())
 }
 
 const WHOLE: &[u8] = b"abcd|efg|";
 
+fn is_read_whole<S: Source>(alloc: Global, source: &mut S) -> Result<bool, AllocError> {
+    let read = pieces(alloc, source)?;
+    Ok(read.as_slice() == WHOLE)
+}
+
+fn sure_is_read_whole(alloc: Global) -> Result<bool, AllocError> {
+    let mut sure = SureSource::new(TEXT.to_vec(alloc)?);
+    is_read_whole(alloc, &mut sure)
+}
+
 #[test]
 fn sure_and_standard_sources_are_read_whole(rt: HostRuntime) -> Result<(), Fail> {
-    let mut sure = SureSource::new(TEXT.to_vec(rt.alloc())?);
-    assert_eq!(rt; pieces(rt.alloc(), &mut sure)?.as_slice(), WHOLE);
+    let sure = sure_is_read_whole(rt.alloc())?;
+    assert!(rt; sure);
     let mut standard = StdSource::new(TEXT);
-    assert_eq!(rt; pieces(rt.alloc(), &mut standard)?.as_slice(), WHOLE);
+    let whole = is_read_whole(rt.alloc(), &mut standard)?;
+    assert!(rt; whole);
     Ok(())
 }
 
@@ -80,35 +96,39 @@ fn failures<K: Sink>(alloc: Global, sink: &mut K) -> Result<Vec<u8>, AllocError>
 }
 
 // The most bytes of a piece, the numbers of the writes that fail, and how the writes go.
-const WRITTEN: [(usize, &[u64], &[u8]); 3] = [
+const WRITTEN: &[(usize, &[u64], &[u8])] = &[
     (2, &[], b"...."),
     (9, &[], b"."),
     (3, &[1, 3], b"!.!.."),
 ];
 
-// How the writes go, where the text is there afterwards.
-fn write_in_pieces(alloc: Global, cut: usize, fail: &[u64]) -> Result<Vec<u8>, Fail> {
-    let mut sink = MemSink::new(alloc, cut.max(1), fail.to_vec(alloc)?);
+// Whether the writes go so, and the text is there afterwards.
+fn is_written_so(alloc: Global, cut: usize, fail: &[u64], want: &[u8]) -> Result<bool, AllocError> {
+    let fail = fail.to_vec(alloc)?;
+    let mut sink = MemSink::new(alloc, cut.max(1), fail);
     let shown = failures(alloc, &mut sink)?;
-    if sink.bytes() != TEXT {
-        return Err("another text".into());
-    }
-    Ok(shown)
+    Ok(shown.as_slice() == want && sink.bytes() == TEXT)
 }
 
 #[test]
 fn writes_in_pieces_and_fails_at_the_numbered_calls(rt: HostRuntime) -> Result<(), Fail> {
-    for (cut, fail, want) in WRITTEN {
-        assert_eq!(rt; write_in_pieces(rt.alloc(), cut, fail)?.as_slice(), want);
+    for &(cut, fail, want) in WRITTEN {
+        let right = is_written_so(rt.alloc(), cut, fail, want)?;
+        assert!(rt; right, "in pieces of {cut}");
     }
     Ok(())
 }
 
+fn sure_is_written_whole(alloc: Global) -> Result<bool, AllocError> {
+    let mut sure = SureSink::new(alloc);
+    let shown = failures(alloc, &mut sure)?;
+    Ok(shown.as_slice() == b".".as_slice() && sure.bytes() == TEXT)
+}
+
 #[test]
 fn sure_sinks_are_written_whole(rt: HostRuntime) -> Result<(), Fail> {
-    let mut sure = SureSink::new(rt.alloc());
-    assert!(rt; failures(rt.alloc(), &mut sure)?.as_slice() == b".".as_slice());
-    assert!(rt; sure.bytes() == TEXT);
+    let right = sure_is_written_whole(rt.alloc())?;
+    assert!(rt; right);
     Ok(())
 }
 
@@ -148,13 +168,13 @@ impl Write for Stuck {
 #[test]
 fn standard_streams_fail_as_their_readers_and_writers_do(rt: HostRuntime) {
     let mut source = StdSource::new(Broken);
-    assert_eq!(rt; source.read(&mut [0; 4]), Err(Failed));
+    assert!(rt; matches!(source.read(&mut [0; 4]), Err(Failed)));
     let mut broken = StdSink::new(Broken);
-    assert_eq!(rt; broken.write(b"abc"), Err(OutFail::Failed));
+    assert!(rt; matches!(broken.write(b"abc"), Err(OutFail::Failed)));
     let mut stuck = StdSink::new(Stuck);
-    assert_eq!(rt; stuck.write(b"abc"), Err(OutFail::Failed));
+    assert!(rt; matches!(stuck.write(b"abc"), Err(OutFail::Failed)));
     let mut sink = StdSink::new(io::sink());
-    assert_eq!(rt; sink.write(b"abc"), Ok(3));
+    assert!(rt; matches!(sink.write(b"abc"), Ok(3)));
 }
 
 // Whether the text of the name is this one.
@@ -165,52 +185,101 @@ fn holds<K: Shelf>(shelf: &mut K, name: &[u8], text: &[u8]) -> bool {
     }
 }
 
+fn stores<K: Shelf>(shelf: &mut K, name: &[u8], text: &[u8]) -> bool {
+    matches!(shelf.store(name, text), Ok(()))
+}
+
+fn fails_to_store<K: Shelf>(shelf: &mut K, name: &[u8], text: &[u8]) -> bool {
+    matches!(shelf.store(name, text), Err(OutFail::Failed))
+}
+
+fn fails_to_fetch<K: Shelf>(shelf: &mut K, name: &[u8]) -> bool {
+    matches!(shelf.fetch(name), Err(OutFail::Failed))
+}
+
+// The third and the fourth call fail.
+fn calls_fail(rt: &impl Abort, shelf: &mut MemShelf) {
+    assert!(rt; stores(shelf, b"a", b"two"));
+    assert!(rt; holds(shelf, b"a", b"two"));
+    assert!(rt; fails_to_store(shelf, b"a", b"three"));
+    assert!(rt; fails_to_fetch(shelf, b"a"));
+    assert!(rt; shelf.get(b"a") == Some(b"two".as_slice()));
+}
+
+fn shelf_failing(alloc: Global, fail: &[u64]) -> Result<MemShelf, AllocError> {
+    let fail = fail.to_vec(alloc)?;
+    let mut shelf = MemShelf::new(alloc, fail);
+    shelf.put(b"a", b"one")?;
+    Ok(shelf)
+}
+
 #[test]
 fn a_shelf_fails_at_the_numbered_calls(rt: HostRuntime) -> Result<(), Fail> {
-    let mut shelf = MemShelf::new(rt.alloc(), [3, 4].to_vec(rt.alloc())?);
+    let mut shelf = shelf_failing(rt.alloc(), &[3, 4])?;
+    calls_fail(&rt, &mut shelf);
+    Ok(())
+}
+
+fn keeps_texts(rt: &impl Abort, shelf: &mut SureShelf) -> Result<(), AllocError> {
     shelf.put(b"a", b"one")?;
-    assert_eq!(rt; shelf.store(b"a", b"two"), Ok(()));
-    assert!(rt; holds(&mut shelf, b"a", b"two"));
-    assert_eq!(rt; shelf.store(b"a", b"three"), Err(OutFail::Failed));
-    assert!(rt; matches!(shelf.fetch(b"a"), Err(OutFail::Failed)));
-    assert_eq!(rt; shelf.get(b"a"), Some(b"two".as_slice()));
+    assert!(rt; stores(shelf, b"", b"empty"));
+    assert!(rt; holds(shelf, b"a", b"one"));
+    assert!(rt; shelf.get(b"") == Some(b"empty".as_slice()));
     Ok(())
 }
 
 #[test]
 fn a_sure_shelf_keeps_texts(rt: HostRuntime) -> Result<(), Fail> {
     let mut shelf = SureShelf::new(rt.alloc());
-    shelf.put(b"a", b"one")?;
-    assert_eq!(rt; shelf.store(b"", b"empty"), Ok(()));
-    assert!(rt; holds(&mut shelf, b"a", b"one"));
-    assert_eq!(rt; shelf.get(b""), Some(b"empty".as_slice()));
+    keeps_texts(&rt, &mut shelf)?;
     Ok(())
 }
 
 const NAME: &[u8] = b"outside_test_text";
 
-#[test]
-fn a_folder_keeps_texts_in_files(rt: HostRuntime) -> Result<(), Fail> {
-    let mut shelf = DirShelf::new(rt.clone()?);
-    assert_eq!(rt; shelf.store(NAME, b"long text"), Ok(()));
-    assert_eq!(rt; shelf.store(NAME, b"text"), Ok(()));
-    assert!(rt; holds(&mut shelf, NAME, b"text"));
-    // One byte longer than a text may be.
-    fs::File::create(&rt, "outside_test_text")?.set_len(536_870_913)?;
-    assert!(rt; matches!(shelf.fetch(NAME), Err(OutFail::Failed)));
-    fs::remove_file(&rt, "outside_test_text")?;
+fn is_kept_in_a_file<K: Shelf>(rt: &impl Abort, shelf: &mut K) {
+    assert!(rt; stores(shelf, NAME, b"long text"));
+    assert!(rt; stores(shelf, NAME, b"text"));
+    assert!(rt; holds(shelf, NAME, b"text"));
+}
+
+// One byte longer than a text may be.
+fn make_it_too_long(rt: &HostRuntime) -> Result<(), Fail> {
+    fs::File::create(rt, "outside_test_text")?.set_len(536_870_913)?;
+    Ok(())
+}
+
+fn is_read_from_its_file<K: Shelf>(
+    rt: &impl Abort,
+    host: &HostRuntime,
+    shelf: &mut K,
+) -> Result<(), Fail> {
+    make_it_too_long(host)?;
+    assert!(rt; fails_to_fetch(shelf, NAME));
+    fs::remove_file(host, "outside_test_text")?;
     assert!(rt; matches!(shelf.fetch(NAME), Ok(None)));
     Ok(())
 }
 
-const NO_NAMES: [&[u8]; 6] = [b"", b".", b"..", b"a/b", b"/", b"\xff"];
+#[test]
+fn a_folder_keeps_texts_in_files(rt: HostRuntime) -> Result<(), Fail> {
+    let mut shelf = DirShelf::new(rt.clone()?);
+    is_kept_in_a_file(&rt, &mut shelf);
+    is_read_from_its_file(&rt, &rt, &mut shelf)
+}
+
+const NO_NAMES: &[&[u8]] = &[b"", b".", b"..", b"a/b", b"/", b"\xff"];
+
+fn refuses_names<K: Shelf>(rt: &impl Abort, shelf: &mut K) {
+    for &name in NO_NAMES {
+        assert!(rt; fails_to_fetch(shelf, name), "{name:?}");
+        assert!(rt; fails_to_store(shelf, name, b"text"), "{name:?}");
+    }
+}
 
 #[test]
 fn a_folder_refuses_what_names_no_file_in_it(rt: HostRuntime) -> Result<(), Fail> {
     let mut shelf = DirShelf::new(rt.clone()?);
-    for name in NO_NAMES {
-        assert!(rt; matches!(shelf.fetch(name), Err(OutFail::Failed)));
-        assert_eq!(rt; shelf.store(name, b"text"), Err(OutFail::Failed));
-    }
+    refuses_names(&rt, &mut shelf);
     Ok(())
 }
