@@ -1,7 +1,7 @@
 use fixed_point::{Fix, Word};
 
 // Texts, and the thousandths that they write, if they are numbers.
-const TEXTS: [(&str, Option<i64>); 30] = [
+const TEXTS: &[(&str, Option<i64>)] = &[
     ("0", Some(0)),
     ("-0", Some(0)),
     ("-0.000", Some(0)),
@@ -34,15 +34,18 @@ const TEXTS: [(&str, Option<i64>); 30] = [
     ("1.2345", None),
 ];
 
+fn thousandths_of(text: &str) -> Option<i64> {
+    Some(Fix::read(text.as_bytes())?.raw())
+}
+
 #[test]
 fn texts_are_read_as_their_thousandths(rt: HostRuntime) {
-    for (text, thousandths) in &TEXTS {
-        let number = Fix::read(text.as_bytes());
-        assert_eq!(rt; number.map(|number| number.raw()), *thousandths, "{text}");
+    for (text, thousandths) in TEXTS {
+        assert!(rt; thousandths_of(text) == *thousandths, "{text}");
     }
 }
 
-const PRINTED: [(i64, &str); 12] = [
+const PRINTED: &[(i64, &str)] = &[
     (0, "0"),
     (-500, "-0.5"),
     (3400, "3.4"),
@@ -66,13 +69,13 @@ fn is_printed_as(thousandths: i64, text: &str) -> bool {
 
 #[test]
 fn numbers_are_printed_in_one_way(rt: HostRuntime) {
-    for (thousandths, text) in PRINTED {
+    for &(thousandths, text) in PRINTED {
         assert!(rt; is_printed_as(thousandths, text), "{text}");
     }
 }
 
 // Words of at most 32 bytes are kept. A zero byte is a byte as any other.
-const WORDS: [(&[u8], bool); 4] = [
+const WORDS: &[(&[u8], bool)] = &[
     (b"", true),
     (b"\0", true),
     (b"abcdefghijklmnopqrstuvwxyz012345", true),
@@ -88,7 +91,7 @@ fn is_kept(text: &[u8]) -> bool {
 
 #[test]
 fn words_have_at_most_32_bytes(rt: HostRuntime) {
-    for (text, kept) in WORDS {
-        assert_eq!(rt; is_kept(text), kept, "{text:?}");
+    for &(text, kept) in WORDS {
+        assert!(rt; is_kept(text) == kept, "{text:?}");
     }
 }

@@ -8,7 +8,7 @@ use tick_set::{Span, TickList, TickSet, Window};
 use until_merge::Temporal;
 
 // An operator on sets of ticks, with its ticks where it has some.
-#[derive(Clone, Copy, Debug)]
+#[derive(Clone, Copy)]
 enum Operator {
     Union,
     Meet,
@@ -27,7 +27,9 @@ type Ends = (u32, u32);
 
 // The window, the ticks of the first and of the second set, of which those in the window count, and what the operator
 // makes of them.
-const ROWS: [(Operator, Ends, Ends, Ends, Ends); 14] = [
+type Row = (Operator, Ends, Ends, Ends, Ends);
+
+const ROWS: &[Row] = &[
     (Operator::Union, (0, 10), (0, 4), (4, 8), (0, 8)),
     // Neighbors are one run.
     (Operator::Union, (0, 10), (3, 5), (6, 9), (3, 9)),
@@ -101,27 +103,36 @@ fn only_run<S: TickSet>(alloc: Global, set: &S) -> Result<Ends, Fail> {
     }
 }
 
-fn run_of<S: Temporal>(
+fn run_over<S: Temporal>(
     alloc: Global,
     operator: Operator,
-    w: Ends,
-    g: Ends,
-    h: Ends,
-) -> Result<Ends, Fail> {
-    let w = Window::new(w.0, w.1).ok_or("no such window")?;
-    let g: S = set_of(alloc, g, w)?;
-    let h: S = set_of(alloc, h, w)?;
-    let made = applied(alloc, operator, &g, &h, w)?;
+    g: &S,
+    h: &S,
+    w: Window,
+) -> Result<Ends, Fail>
+    requires first { LiesIn w.lo w.hi (S.member g.now) }
+    requires second { LiesIn w.lo w.hi (S.member h.now) }
+{
+    let made = applied(alloc, operator, g, h, w)?;
     only_run(alloc, &made)
+}
+
+// Whether the operator makes the run of a row.
+fn holds<S: Temporal>(alloc: Global, row: &Row) -> Result<bool, Fail> {
+    let w = Window::new(row.1.0, row.1.1).ok_or("no such window")?;
+    let g: S = set_of(alloc, row.2, w)?;
+    let h: S = set_of(alloc, row.3, w)?;
+    let run = run_over(alloc, row.0, &g, &h, w)?;
+    Ok(run == row.4)
 }
 
 #[test]
 fn operators_hold_where_they_should(rt: HostRuntime) -> Result<(), Fail> {
-    for (operator, w, g, h, wanted) in ROWS {
-        let listed = run_of::<TickList>(rt.alloc(), operator, w, g, h)?;
-        assert_eq!(rt; listed, wanted, "{operator:?} tick by tick");
-        let on_spans = run_of::<IntervalSet>(rt.alloc(), operator, w, g, h)?;
-        assert_eq!(rt; on_spans, wanted, "{operator:?} on spans");
+    for (place, row) in ROWS.iter().enumerate() {
+        let listed = holds::<TickList>(rt.alloc(), row)?;
+        assert!(rt; listed, "row {place} tick by tick");
+        let on_spans = holds::<IntervalSet>(rt.alloc(), row)?;
+        assert!(rt; on_spans, "row {place} on spans");
     }
     Ok(())
 }

@@ -1,6 +1,7 @@
 use fixed_point::Fix;
 use places::{Boxes, Extent, HORIZONS, Patch, Patches, Places};
 use std::alloc::{AllocError, Global};
+use std::process::Abort;
 use std::test::Fail;
 
 fn fix(units: i32) -> Fix {
@@ -29,7 +30,7 @@ fn same(patch: Patch) -> Patches {
 }
 
 // Thousandths, and the unit that they are in.
-const UNITS: [(i64, i32); 7] = [
+const UNITS: &[(i64, i32)] = &[
     (0, 0),
     (999, 0),
     (1000, 1),
@@ -41,9 +42,9 @@ const UNITS: [(i64, i32); 7] = [
 
 #[test]
 fn numbers_lie_in_the_unit_below(rt: HostRuntime) {
-    for (thousandths, unit) in UNITS {
+    for &(thousandths, unit) in UNITS {
         let number = Fix::of(thousandths).unwrap();
-        assert_eq!(rt; Extent::of(number, number).least, unit, "{thousandths}");
+        assert!(rt; Extent::of(number, number).least == unit, "{thousandths}");
     }
 }
 
@@ -74,37 +75,76 @@ fn line(alloc: Global) -> Result<Boxes, AllocError> {
     Ok(boxes)
 }
 
+// How many are near, and whether the first ones have these numbers.
+fn near_from(
+    alloc: Global,
+    boxes: &Boxes,
+    area: &Patch,
+    first: &[u32],
+) -> Result<(usize, bool), AllocError> {
+    let near = boxes.near(alloc, area)?;
+    Ok((near.len(), near.starts_with(first)))
+}
+
+fn are_told_by_their_numbers(
+    rt: &impl Abort,
+    alloc: Global,
+    boxes: &mut Boxes,
+) -> Result<(), AllocError> {
+    let near = near_from(alloc, boxes, &square(295, -5, 40), &[31, 32, 33])?;
+    assert!(rt; near == (3, true));
+    boxes.renew(20);
+    assert!(rt; boxes.upto() == 20);
+    let far = near_from(alloc, boxes, &square(0, 4990, 20), &[])?;
+    assert!(rt; far == (10, true));
+    boxes.pop();
+    assert!(rt; boxes.len() == 99);
+    Ok(())
+}
+
 #[test]
 fn objects_near_are_told_by_their_numbers(rt: HostRuntime) -> Result<(), Fail> {
     let mut boxes = line(rt.alloc())?;
-    let near = boxes.near(rt.alloc(), &square(295, -5, 40))?;
-    assert_eq!(rt; near.as_slice(), [31, 32, 33].as_slice());
-    boxes.renew(20);
-    assert_eq!(rt; boxes.upto(), 20);
-    let far = boxes.near(rt.alloc(), &square(0, 4990, 20))?;
-    assert_eq!(rt; far.len(), 10);
-    boxes.pop();
-    assert_eq!(rt; boxes.len(), 99);
+    are_told_by_their_numbers(&rt, rt.alloc(), &mut boxes)?;
+    Ok(())
+}
+
+// The place of the second object, and over the shortest horizon that of the first one too.
+fn two_objects(alloc: Global) -> Result<Places, AllocError> {
+    let mut places = Places::new(alloc);
+    places.push(&same(Patch::nowhere()))?;
+    places.push(&same(square(7, 7, 2)))?;
+    places.short.set(0, square(7, 7, 2));
+    Ok(places)
+}
+
+// How many are told from tick 3 to another, if any are told.
+fn told_to(alloc: Global, places: &Places, hi: u32) -> Result<Option<usize>, AllocError> {
+    let near = places.near(alloc, 3, hi, &square(8, 8, 1))?;
+    Ok(match near {
+        Some(numbers) => Some(numbers.len()),
+        None => None,
+    })
+}
+
+fn horizons_tell(rt: &impl Abort, alloc: Global, places: &mut Places) -> Result<(), AllocError> {
+    let short = told_to(alloc, places, HORIZONS[0])?;
+    assert!(rt; short == Some(2));
+    let middle = told_to(alloc, places, HORIZONS[0] + 1)?;
+    assert!(rt; middle == Some(1));
+    let past = told_to(alloc, places, HORIZONS[3] + 1)?;
+    assert!(rt; past.is_none());
+    places.from = 4;
+    let before = told_to(alloc, places, 9)?;
+    assert!(rt; before.is_none());
+    places.pop();
+    assert!(rt; places.longest.len() == 1);
     Ok(())
 }
 
 #[test]
 fn the_shortest_horizon_that_reaches_tells(rt: HostRuntime) -> Result<(), Fail> {
-    let mut places = Places::new(rt.alloc());
-    places.push(&same(Patch::nowhere()))?;
-    places.push(&same(square(7, 7, 2)))?;
-    places.short.set(0, square(7, 7, 2));
-    let area = square(8, 8, 1);
-    let short = places.near(rt.alloc(), 3, HORIZONS[0], &area)?;
-    assert_eq!(rt; short.map(|near| near.len()), Some(2));
-    let middle = places.near(rt.alloc(), 3, HORIZONS[0] + 1, &area)?;
-    assert_eq!(rt; middle.map(|near| near.len()), Some(1));
-    let past = places.near(rt.alloc(), 3, HORIZONS[3] + 1, &area)?;
-    assert!(rt; past.is_none());
-    places.from = 4;
-    let before = places.near(rt.alloc(), 3, 9, &area)?;
-    assert!(rt; before.is_none());
-    places.pop();
-    assert_eq!(rt; places.longest.len(), 1);
+    let mut places = two_objects(rt.alloc())?;
+    horizons_tell(&rt, rt.alloc(), &mut places)?;
     Ok(())
 }

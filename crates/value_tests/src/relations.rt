@@ -19,6 +19,21 @@ fn domains_of(alloc: Global, ids: &[u32]) -> Result<Domains, AllocError>
     Ok(domains)
 }
 
+// All ticks of a window for each object.
+fn whole<'d>(
+    alloc: Global,
+    domains: &'d Domains,
+    w: Window,
+) -> Result<Relation<'d, IntervalSet>, AllocError>
+    requires { length domains.now ≡ 1 }
+    ensures vars { IfOk result (λ r. r.vars ≡ 0 ∷ []) }
+    ensures frame { IfOk result (λ r. frame r ≡ frame_of domains.now w.lo w.hi) }
+{
+    let nothing: Relation<'d, IntervalSet> = Relation::empty(alloc, &[0], domains, w);
+    let all = nothing.complement(alloc)?;
+    Ok(all)
+}
+
 // The ticks of a part of the window for each object.
 fn each<'d>(
     alloc: Global,
@@ -31,8 +46,7 @@ fn each<'d>(
 {
     let w = Window::new(0, 10).ok_or("no such window")?;
     let part = Window::new(part.0, part.1).ok_or("no such window")?;
-    let nothing: Relation<'d, IntervalSet> = Relation::empty(alloc, &[0], domains, w);
-    let all = nothing.complement(alloc)?;
+    let all = whole(alloc, domains, w)?;
     let made = all.clip(alloc, part)?;
     Ok(made)
 }
@@ -47,7 +61,7 @@ fn run_at(relation: &Relation<'_, IntervalSet>, place: usize) -> Option<Ends> {
     }
 }
 
-#[derive(Clone, Copy, Debug)]
+#[derive(Clone, Copy)]
 enum Operator {
     Join,
     Unite,
@@ -57,7 +71,7 @@ enum Operator {
 }
 
 // What an operator makes of the ticks 2 to 4 and 4 to 6 of each object.
-const ROWS: [(Operator, Ends); 5] = [
+const ROWS: &[(Operator, Ends)] = &[
     (Operator::Join, (4, 4)),
     (Operator::Unite, (2, 6)),
     (Operator::Until, (2, 6)),
@@ -84,21 +98,57 @@ fn applied<'d>(
     }
 }
 
+// What the operator makes of the second object.
+fn run_made<'d>(
+    alloc: Global,
+    operator: Operator,
+    first: &Relation<'d, IntervalSet>,
+    second: &Relation<'d, IntervalSet>,
+) -> Result<Option<Ends>, AllocError>
+    requires frame { frame second.now ≡ frame first.now }
+    requires left { IsStrictlyIncreasing first.now.vars }
+    requires right { IsStrictlyIncreasing second.now.vars }
+{
+    let made = applied(alloc, operator, first, second)?;
+    Ok(run_at(&made, 1))
+}
+
+fn answered_over(alloc: Global, domains: &Domains, operator: Operator) -> Result<Option<Ends>, Fail>
+    requires { length domains.now ≡ 1 }
+{
+    let first = each(alloc, domains, (2, 4))?;
+    let second = each(alloc, domains, (4, 6))?;
+    let run = run_made(alloc, operator, &first, &second)?;
+    Ok(run)
+}
+
 fn answered(alloc: Global, operator: Operator) -> Result<Option<Ends>, Fail> {
     let domains = domains_of(alloc, &[1, 2])?;
-    let first = each(alloc, &domains, (2, 4))?;
-    let second = each(alloc, &domains, (4, 6))?;
-    let made = applied(alloc, operator, &first, &second)?;
-    Ok(run_at(&made, 1))
+    answered_over(alloc, &domains, operator)
 }
 
 #[test]
 fn operators_answer_for_each_object(rt: HostRuntime) -> Result<(), Fail> {
-    for (operator, wanted) in ROWS {
-        let found = answered(rt.alloc(), operator)?;
-        assert_eq!(rt; found, Some(wanted), "{operator:?}");
+    for (place, row) in ROWS.iter().enumerate() {
+        let found = answered(rt.alloc(), row.0)?;
+        assert!(rt; found == Some(row.1), "row {place}");
     }
     Ok(())
+}
+
+// The runs of both objects where the second is given those of a column.
+fn runs_with<'d>(
+    alloc: Global,
+    first: &Relation<'d, IntervalSet>,
+    column: &Relation<'d, IntervalSet>,
+) -> Result<[Option<Ends>; 2], AllocError>
+    requires first { frame first.now ≡ frame_of ((1 ∷ 2 ∷ []) ∷ []) 0 10 }
+    requires vars { first.now.vars ≡ 0 ∷ [] }
+    requires column { frame column.now ≡ frame_of ((2 ∷ []) ∷ []) 0 10 }
+    requires column_vars { column.now.vars ≡ 0 ∷ [] }
+{
+    let made = first.replace_column(alloc, 0, 2, column)?;
+    Ok([run_at(&made, 0), run_at(&made, 1)])
 }
 
 // The runs of both objects, of which the second is given others.
@@ -108,8 +158,8 @@ fn replaced(alloc: Global, domains: &Domains, second: &Domains) -> Result<[Optio
 {
     let first = each(alloc, domains, (2, 4))?;
     let column = each(alloc, second, (6, 8))?;
-    let made = first.replace_column(alloc, 0, 2, &column)?;
-    Ok([run_at(&made, 0), run_at(&made, 1)])
+    let runs = runs_with(alloc, &first, &column)?;
+    Ok(runs)
 }
 
 #[test]
@@ -117,6 +167,6 @@ fn a_column_is_replaced(rt: HostRuntime) -> Result<(), Fail> {
     let domains = domains_of(rt.alloc(), &[1, 2])?;
     let second = domains_of(rt.alloc(), &[2])?;
     let runs = replaced(rt.alloc(), &domains, &second)?;
-    assert_eq!(rt; runs, [Some((2, 4)), Some((6, 8))]);
+    assert!(rt; runs == [Some((2, 4)), Some((6, 8))]);
     Ok(())
 }
