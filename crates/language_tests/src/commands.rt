@@ -2,13 +2,13 @@ use command_text::{LINE_LIMIT, Refusal, print, read};
 use std::alloc::Global;
 use std::test::Fail;
 
-fn printed(alloc: Global, line: &[u8]) -> Result<Vec<u8>, Fail> {
+fn is_printed(alloc: Global, line: &[u8], text: &[u8]) -> Result<bool, Fail> {
     let command = read(alloc, line, LINE_LIMIT)?;
-    let text = print(alloc, &command)?;
-    Ok(text)
+    let printed = print(alloc, &command)?;
+    Ok(printed.as_slice() == text)
 }
 
-const FORMS: [(&[u8], &[u8]); 24] = [
+const FORMS: &[(&[u8], &[u8])] = &[
     (b" \t", b""),
     (b" # a comment \"", b""),
     (b"list", b"list"),
@@ -67,15 +67,15 @@ const FORMS: [(&[u8], &[u8]); 24] = [
 
 #[test]
 fn each_form_is_read_and_printed(rt: HostRuntime) -> Result<(), Fail> {
-    for (line, text) in FORMS {
-        let found = printed(rt.alloc(), line)?;
-        assert_eq!(rt; found.as_slice(), text);
+    for &(line, text) in FORMS {
+        let right = is_printed(rt.alloc(), line, text)?;
+        assert!(rt; right, "{text:?}");
     }
     Ok(())
 }
 
 #[test]
 fn refusals_have_numbers(rt: HostRuntime) {
-    assert_eq!(rt; Refusal::LineTooLong.number(), 1);
-    assert_eq!(rt; Refusal::BadFile.number(), 20);
+    assert!(rt; Refusal::LineTooLong.number() == 1);
+    assert!(rt; Refusal::BadFile.number() == 20);
 }

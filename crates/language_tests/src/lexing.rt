@@ -1,5 +1,6 @@
 use case_table::{key, symbol};
-use ftl_lexer::{Kind, Token, Tokens, bad_token, tokens};
+use ftl_lexer::{Kind, LEXER_LIMIT, LexFault, Token, Tokens, bad_token, tokens};
+use std::alloc::Global;
 use std::process::Abort;
 use std::test::Fail;
 
@@ -15,24 +16,37 @@ const MINUS: Kind = Kind::Sym(symbol::MINUS);
 
 const ASSIGN: Kind = Kind::Sym(symbol::ASSIGN);
 
-fn has_tokens(rt: &impl Abort, read: &Tokens, line: &[u8], expected: &[(Kind, u16, u16)]) {
-    assert_eq!(rt; read.len(), expected.len(), "{line:?}");
-    assert_eq!(rt; read.is_empty(), expected.is_empty(), "{line:?}");
-    for (i, (kind, lo, hi)) in expected.iter().enumerate() {
-        let token = Token {
-            kind: *kind,
-            lo: *lo,
-            hi: *hi,
-        };
-        assert_eq!(rt; read.get(i), Some(token), "{line:?}");
-        let bytes = line.get(*lo as usize..*hi as usize);
-        assert!(rt; read.lexeme(i).map(|lexeme| lexeme.1) == bytes, "{line:?}");
+fn is_token(read: &Tokens, line: &[u8], i: usize, expected: &(Kind, u16, u16)) -> bool {
+    let token = Token {
+        kind: expected.0,
+        lo: expected.1,
+        hi: expected.2,
+    };
+    let bytes = line.get(expected.1 as usize..expected.2 as usize);
+    match (read.lexeme(i), bytes) {
+        (Some(lexeme), Some(bytes)) => read.get(i) == Some(token) && lexeme.1 == bytes,
+        _ => false,
     }
-    assert!(rt; read.get(expected.len()).is_none());
-    assert!(rt; read.lexeme(expected.len()).is_none());
 }
 
-const LINES: [(&[u8], &[(Kind, u16, u16)]); 13] = [
+// Whether so many tokens were read.
+fn has_count(read: &Tokens, count: usize) -> bool {
+    read.len() == count
+        && read.is_empty() == (count == 0)
+        && read.get(count).is_none()
+        && read.lexeme(count).is_none()
+}
+
+fn has_tokens(read: &Tokens, line: &[u8], expected: &[(Kind, u16, u16)]) -> bool {
+    for (i, token) in expected.iter().enumerate() {
+        if !is_token(read, line, i, token) {
+            return false;
+        }
+    }
+    has_count(read, expected.len())
+}
+
+const LINES: &[(&[u8], &[(Kind, u16, u16)])] = &[
     (b" \t ", &[]),
     (
         b"o.x <-3",
@@ -87,15 +101,33 @@ const LINES: [(&[u8], &[(Kind, u16, u16)]); 13] = [
     ),
 ];
 
+// Whether tokens that are made anew and those that held others before are read alike.
+fn is_cut(
+    alloc: Global,
+    reused: &mut Tokens,
+    line: &[u8],
+    expected: &[(Kind, u16, u16)],
+) -> Result<bool, LexFault> {
+    if line.len() > LEXER_LIMIT {
+        return Ok(false);
+    }
+    let fresh = tokens(alloc, line)?;
+    reused.read(line)?;
+    Ok(has_tokens(&fresh, line, expected) && has_tokens(reused, line, expected))
+}
+
+fn are_cut(rt: &impl Abort, alloc: Global, reused: &mut Tokens) -> Result<(), LexFault> {
+    for &(line, expected) in LINES {
+        assert!(rt; bad_token(line).is_none(), "{line:?}");
+        let right = is_cut(alloc, reused, line, expected)?;
+        assert!(rt; right, "{line:?}");
+    }
+    Ok(())
+}
+
 #[test]
 fn lines_are_cut_into_tokens(rt: HostRuntime) -> Result<(), Fail> {
     let mut reused = Tokens::new(rt.alloc());
-    for (line, expected) in LINES {
-        assert_eq!(rt; bad_token(line), None, "{line:?}");
-        let fresh = tokens(rt.alloc(), line)?;
-        has_tokens(&rt, &fresh, line, expected);
-        reused.read(line)?;
-        has_tokens(&rt, &reused, line, expected);
-    }
+    are_cut(&rt, rt.alloc(), &mut reused)?;
     Ok(())
 }

@@ -1,23 +1,38 @@
 //! Feeds, and what a replica says after them.
 use replica::Replica;
 use std::alloc::{AllocError, Global};
+use std::test::Fail;
 
 // Lines with a `|` between them.
-fn said_after(alloc: Global, name: &[u8], feed: &[u8]) -> Result<Vec<u8>, AllocError> {
-    let mut replica = Replica::new(alloc, name)?;
+fn hear_all(replica: &mut Replica, feed: &[u8]) -> Result<(), AllocError> {
     for line in feed.split(|byte| *byte == b'|') {
         replica.hear(line)?;
     }
+    Ok(())
+}
+
+fn has_said(alloc: Global, replica: &Replica, said: &[u8]) -> Result<bool, AllocError> {
     let mut out = Vec::new(alloc);
     replica.push_said(&mut out)?;
-    Ok(out)
+    Ok(out.as_slice() == said)
 }
 
-fn says(rt: &HostRuntime, name: &[u8], feed: &[u8], said: &[u8]) -> bool {
-    matches!(said_after(rt.alloc(), name, feed), Ok(found) if found.as_slice() == said)
+fn says_after(
+    alloc: Global,
+    replica: &mut Replica,
+    feed: &[u8],
+    said: &[u8],
+) -> Result<bool, AllocError> {
+    hear_all(replica, feed)?;
+    has_said(alloc, replica, said)
 }
 
-const FEEDS: [(&[u8], &[u8], &[u8]); 10] = [
+fn says(alloc: Global, name: &[u8], feed: &[u8], said: &[u8]) -> Result<bool, AllocError> {
+    let mut replica = Replica::new(alloc, name)?;
+    says_after(alloc, &mut replica, feed, said)
+}
+
+const FEEDS: &[(&[u8], &[u8], &[u8])] = &[
     (
         b"w",
         b"ok|start w watch 0|now a : 0..10|ok|clock 4",
@@ -59,23 +74,26 @@ const FEEDS: [(&[u8], &[u8], &[u8]); 10] = [
 ];
 
 #[test]
-fn feeds_are_followed(rt: HostRuntime) {
-    for (name, feed, said) in FEEDS {
-        assert!(&rt; says(&rt, name, feed, said), "{feed:?}");
+fn feeds_are_followed(rt: HostRuntime) -> Result<(), Fail> {
+    for &(name, feed, said) in FEEDS {
+        let right = says(rt.alloc(), name, feed, said)?;
+        assert!(rt; right, "{feed:?}");
     }
+    Ok(())
 }
 
-fn hears_a_bad_line(alloc: Global) -> Result<bool, AllocError> {
-    let mut replica = Replica::new(alloc, b"w")?;
+fn ends(alloc: Global, replica: &mut Replica) -> Result<bool, AllocError> {
     replica.hear(b"ok")?;
     let begun = replica.is_done();
     replica.hear(b"stop w now")?;
-    let mut out = Vec::new(alloc);
-    replica.push_said(&mut out)?;
-    Ok(!begun && replica.is_done() && out.as_slice() == b"bad feed 2\n".as_slice())
+    let said = has_said(alloc, replica, b"bad feed 2\n")?;
+    Ok(!begun && replica.is_done() && said)
 }
 
 #[test]
-fn a_bad_line_ends_it(rt: HostRuntime) {
-    assert!(&rt; matches!(hears_a_bad_line(rt.alloc()), Ok(true)));
+fn a_bad_line_ends_it(rt: HostRuntime) -> Result<(), Fail> {
+    let mut replica = Replica::new(rt.alloc(), b"w")?;
+    let right = ends(rt.alloc(), &mut replica)?;
+    assert!(rt; right);
+    Ok(())
 }

@@ -4,19 +4,24 @@ use generator::Generator;
 use std::alloc::{AllocError, Global};
 use std::test::Fail;
 
-// The line at a place, counted from 0. None where the lines end before.
-fn line_at(alloc: Global, number: u32, place: u32) -> Result<Option<Vec<u8>>, AllocError> {
+// Makes the line at a place, counted from 0. False where the lines end before.
+fn make_line(line: &mut Vec<u8>, number: u32, place: u32) -> Result<bool, AllocError> {
     let mut generator = Generator::new(number);
-    let mut line = Vec::new(alloc);
     for _ in 0..=place {
-        if !generator.next_line(&mut line)? {
-            return Ok(None);
+        if !generator.next_line(line)? {
+            return Ok(false);
         }
     }
-    Ok(Some(line))
+    Ok(true)
 }
 
-const LINES: [(u32, u32, &[u8]); 6] = [
+fn has_line(alloc: Global, number: u32, place: u32, wanted: &[u8]) -> Result<bool, AllocError> {
+    let mut line = Vec::new(alloc);
+    let there = make_line(&mut line, number, place)?;
+    Ok(there && line.as_slice() == wanted)
+}
+
+const LINES: &[(u32, u32, &[u8])] = &[
     (1, 1, b"region r0 (688,58) (738,58) (738,108) (688,108)"),
     (1, 21, b"insert car c0 at (628,188) move (-0.931,-0.859)"),
     (1, 225, b"update c68 move (-0.835,0.039)"),
@@ -27,9 +32,9 @@ const LINES: [(u32, u32, &[u8]); 6] = [
 
 #[test]
 fn numbers_have_lines_of_their_own(rt: HostRuntime) -> Result<(), Fail> {
-    for (number, place, line) in LINES {
-        let found = line_at(rt.alloc(), number, place)?;
-        assert!(rt; found.as_deref() == Some(line), "{number} {place}");
+    for &(number, place, line) in LINES {
+        let right = has_line(rt.alloc(), number, place, line)?;
+        assert!(rt; right, "{number} {place}");
     }
     Ok(())
 }
