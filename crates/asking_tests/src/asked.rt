@@ -103,7 +103,7 @@ fn answers(rt: &impl Abort, host: &HostRuntime, asked: Asked) -> Result<(), Fail
 }
 
 // A window, and the ticks of it at which the car is there.
-const PRESENCE: [((u32, u32), Option<(u32, u32)>); 3] = [
+const PRESENCE: &[((u32, u32), Option<(u32, u32)>)] = &[
     ((0, 20), Some((5, 11))),
     ((7, 8), Some((7, 8))),
     ((12, 20), None),
@@ -121,7 +121,7 @@ fn is_there_at_times<L: Ledger>(
     reads: &mut Steps<L>,
 ) -> Result<(), Fail> {
     assert!(rt; 0 < store.object_count());
-    for (ends, run) in PRESENCE {
+    for &(ends, run) in PRESENCE {
         let found = presence(alloc, 0, store, window(ends)?, reads)?;
         assert_eq!(rt; only_run(&found), run, "in {ends:?}");
     }
@@ -145,7 +145,7 @@ fn time(alloc: Global) -> Result<RTerm, AllocError>
     Ok(RTerm { factors })
 }
 
-const VALUES: [Option<(u32, u32, i64)>; 4] = [
+const VALUES: &[Option<(u32, u32, i64)>] = &[
     Some((7, 7, 7000)),
     Some((8, 8, 8000)),
     Some((9, 9, 9000)),
@@ -170,8 +170,8 @@ fn time_runs_for_a_tick<L: Ledger>(
     let w = window((7, 9))?;
     let none = Binding::new();
     let runs = value_runs(alloc, &time, &none, &Env::new(), store, w, reads)?;
-    for (index, run) in VALUES.into_iter().enumerate() {
-        assert_eq!(rt; number_at(&runs, index), run, "run {index}");
+    for (index, run) in VALUES.iter().enumerate() {
+        assert_eq!(rt; number_at(&runs, index), *run, "run {index}");
     }
     Ok(())
 }

@@ -24,21 +24,21 @@ struct Case {
 }
 
 // A post, a car that passes by it, and one that stands 5 units away from it.
-const PASSING: [Written; 3] = [
+const PASSING: &[Written] = &[
     Comes(0, b"post", b"b", (0, 0, 0, 0)),
     Comes(0, b"car", b"a", (10_000, 0, -1000, 0)),
     Comes(0, b"car", b"c", (0, 5000, 0, 0)),
 ];
 
 // The same half a unit later: the two cars are as near between two ticks.
-const LATER: [Written; 3] = [
+const LATER: &[Written] = &[
     Comes(0, b"post", b"b", (0, 0, 0, 0)),
     Comes(0, b"car", b"a", (10_500, 0, -1000, 0)),
     Comes(0, b"car", b"c", (0, 5000, 0, 0)),
 ];
 
 // The first car is removed while it is nearest, and comes again, as near as the second. At last the post is removed.
-const COMING_AND_GOING: [Written; 6] = [
+const COMING_AND_GOING: &[Written] = &[
     Comes(0, b"post", b"b", (0, 0, 0, 0)),
     Comes(0, b"car", b"a", (1000, 0, 0, 0)),
     Comes(0, b"car", b"c", (2000, 0, 0, 0)),
@@ -48,24 +48,24 @@ const COMING_AND_GOING: [Written; 6] = [
 ];
 
 // Three cars at one place.
-const TOGETHER: [Written; 3] = [
+const TOGETHER: &[Written] = &[
     Comes(0, b"car", b"a", (0, 0, 1000, 0)),
     Comes(0, b"car", b"c", (0, 0, 1000, 0)),
     Comes(0, b"car", b"d", (0, 0, 1000, 0)),
 ];
 
 // A car that halts 5 units from the post, and one that goes on past the post.
-const HALTING: [Written; 3] = [
+const HALTING: &[Written] = &[
     Comes(0, b"post", b"b", (0, 0, 0, 0)),
     Halts(0, b"car", b"a", (10_000, 0, -1000, 0)),
     Comes(0, b"car", b"c", (11_000, 0, -1000, 0)),
 ];
 
-const CASES: [Case; 8] = [
+const CASES: &[Case] = &[
     // |10 - t| is at most 5 from tick 5 to 15, and 5 at both ends.
     Case {
         says: "a tie goes to the car that was inserted first",
-        written: &PASSING,
+        written: PASSING,
         class: 0,
         to: 0,
         k: 1,
@@ -75,7 +75,7 @@ const CASES: [Case; 8] = [
     // |10.5 - t| is at most 5 from tick 6 to 15.
     Case {
         says: "a tie between two ticks",
-        written: &LATER,
+        written: LATER,
         class: 0,
         to: 0,
         k: 1,
@@ -85,7 +85,7 @@ const CASES: [Case; 8] = [
     // 1 is less than 2; then there is the second alone; then both are at 2.
     Case {
         says: "the nearest of those that come and go",
-        written: &COMING_AND_GOING,
+        written: COMING_AND_GOING,
         class: 0,
         to: 0,
         k: 1,
@@ -95,7 +95,7 @@ const CASES: [Case; 8] = [
     // Each car that is there while the post is.
     Case {
         says: "more than there are",
-        written: &COMING_AND_GOING,
+        written: COMING_AND_GOING,
         class: 0,
         to: 0,
         k: 100,
@@ -105,7 +105,7 @@ const CASES: [Case; 8] = [
     // The first and the third are at 0.
     Case {
         says: "a car isn't near itself",
-        written: &TOGETHER,
+        written: TOGETHER,
         class: 0,
         to: 1,
         k: 1,
@@ -115,7 +115,7 @@ const CASES: [Case; 8] = [
     // 10 - t is less than 11 - t; from tick 6 on 5 is compared with |11 - t|, which is 5 at ticks 6 and 16.
     Case {
         says: "a leg that ends",
-        written: &HALTING,
+        written: HALTING,
         class: 0,
         to: 0,
         k: 1,
@@ -124,7 +124,7 @@ const CASES: [Case; 8] = [
     },
     Case {
         says: "no other object of its class",
-        written: &PASSING,
+        written: PASSING,
         class: 1,
         to: 0,
         k: 1,
@@ -134,7 +134,7 @@ const CASES: [Case; 8] = [
     // There are the classes 0 and 1.
     Case {
         says: "no such class",
-        written: &PASSING,
+        written: PASSING,
         class: 2,
         to: 0,
         k: 1,
@@ -189,7 +189,7 @@ pub(crate) fn cases_are_right<L: Ledger, M: Ledger>(
     reads: &mut Steps<L>,
     probes: &mut Steps<M>,
 ) -> Result<(), Fail> {
-    for case in &CASES {
+    for case in CASES {
         let right = is_right(alloc, case, reads, probes)?;
         assert!(rt; right, "{}", case.says);
     }

@@ -18,7 +18,7 @@ type Ends = (u32, u32);
 
 // `x` of the first car rises by 1 a tick, that of the second is far away, that of the third falls by 0.001 a tick, and
 // that of the fourth falls by 1 a tick for 5 ticks. The second is removed.
-const CARS: [Written; 6] = [
+const CARS: &[Written] = &[
     Comes(0, b"car", b"a", (0, 0, 1000, 0)),
     Comes(0, b"car", b"b", (1_000_000, 0, 0, 0)),
     Comes(0, b"car", b"c", (-5_000, 0, -1, 0)),
@@ -36,7 +36,7 @@ struct Case {
     rows: &'static [(u32, &'static [Ends])],
 }
 
-const CASES: [Case; 7] = [
+const CASES: &[Case] = &[
     Case {
         says: "two objects, by strips of 10",
         bounds: (5_000, 8_000),
@@ -137,7 +137,7 @@ fn are_found<L: Ledger>(
 }
 
 fn is_right<L: Ledger>(alloc: Global, case: &Case, reads: &mut Steps<L>) -> Result<bool, Fail> {
-    let store = store_of(alloc, &CARS)?;
+    let store = store_of(alloc, CARS)?;
     are_found(alloc, case, &store, reads)
 }
 
@@ -146,7 +146,7 @@ pub(crate) fn cases_are_right<L: Ledger>(
     alloc: Global,
     reads: &mut Steps<L>,
 ) -> Result<(), Fail> {
-    for case in &CASES {
+    for case in CASES {
         assert!(rt; is_right(alloc, case, reads)?, "{}", case.says);
     }
     Ok(())

@@ -91,7 +91,7 @@ fn answered(alloc: Global, domains: &Domains) -> Result<Answer, Fail>
 }
 
 // The objects and the runs of the rows, in the order of the targets.
-const ROWS: [Option<(u32, u32, Ends)>; 3] = [Some((5, 2, (8, 9))), Some((6, 1, (2, 6))), None];
+const ROWS: &[Option<(u32, u32, Ends)>] = &[Some((5, 2, (8, 9))), Some((6, 1, (2, 6))), None];
 
 // The two objects of a row, and its only run.
 fn row_at(answer: &Answer, place: usize) -> Option<(u32, u32, Ends)> {
@@ -107,8 +107,8 @@ fn rows_over_all_variables_are_answered_over_the_targets(rt: HostRuntime) -> Res
     let domains = domains(rt.alloc())?;
     let answer = answered(rt.alloc(), &domains)?;
     assert_eq!(rt; answer.rows().len(), 2);
-    for (place, row) in ROWS.into_iter().enumerate() {
-        assert_eq!(rt; row_at(&answer, place), row, "row {place}");
+    for (place, row) in ROWS.iter().enumerate() {
+        assert_eq!(rt; row_at(&answer, place), *row, "row {place}");
     }
     Ok(())
 }

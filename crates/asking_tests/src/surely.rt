@@ -50,7 +50,7 @@ struct Case {
 
 // The car is at (t,3), the post at (10,0) until it is removed at tick 25, and the square is 10 to 20 along x. Nothing holds
 // once one of the two is gone.
-const CASES: [Case; 16] = [
+const CASES: &[Case] = &[
     // t - 1 and t + 1 are from 10 to 20.
     Case {
         says: "all that it may be at is inside",
@@ -282,7 +282,7 @@ pub(crate) fn cases_are_right<L: Ledger, M: Ledger>(
     reads: &mut Steps<L>,
     probes: &mut Steps<M>,
 ) -> Result<(), Fail> {
-    for case in &CASES {
+    for case in CASES {
         let right = is_right(alloc, case, reads, probes)?;
         assert!(rt; right, "{}", case.says);
     }

@@ -20,7 +20,7 @@ fn turning() -> Result<Cell, Fail>
     Ok(Cell::Dyn(Vector::begun(2, start, legs)))
 }
 
-const PIECES: [Option<(u32, u32)>; 4] = [Some((4, 4)), Some((5, 8)), Some((9, 10)), None];
+const PIECES: &[Option<(u32, u32)>] = &[Some((4, 4)), Some((5, 8)), Some((9, 10)), None];
 
 fn ends_at(pieces: &[Piece], index: usize) -> Option<(u32, u32)> {
     let span = pieces.get(index)?.span;
@@ -35,8 +35,8 @@ fn pieces_end_where_a_leg_ends(rt: HostRuntime) -> Result<(), Fail> {
     assert_eq!(rt; timeline.len(), 1);
     let window = Window::new(4, 10).ok_or("no such window")?;
     let pieces = timeline.pieces(rt.alloc(), window)?;
-    for (index, ends) in PIECES.into_iter().enumerate() {
-        assert_eq!(rt; ends_at(&pieces, index), ends, "piece {index}");
+    for (index, ends) in PIECES.iter().enumerate() {
+        assert_eq!(rt; ends_at(&pieces, index), *ends, "piece {index}");
     }
     Ok(())
 }
