@@ -4,7 +4,7 @@ ghost use Rattle.std.specs.Prelude.{◌≡◌, ◌<◌};
 use domino_run::{Counters, run_limited};
 use outside::{MemShelf, MemSink, MemSource};
 use run_ends::Outside;
-use std::alloc::AllocError;
+use std::alloc::{AllocError, Global};
 use std::marker::Brand;
 use std::process::Abort;
 use std::sync::ledger::{Blank, Ledger};
@@ -57,70 +57,113 @@ pub(crate) fn plain_trial(input: &[u8]) -> Trial<'_> {
     trial_of(&["domino"], input, None, &[], &[])
 }
 
-// The exit status of the run, what it wrote, and the text that is left.
-type Outcome = (u8, Vec<u8>, Option<Vec<u8>>);
+// What bytes come from and go to in a trial.
+type InMemory = Outside<MemSource, MemSink, MemShelf>;
 
-fn outcome(rt: &HostRuntime, trial: &Trial) -> Result<Outcome, AllocError> {
-    with_reads::<Brand>(rt, trial, Blank::new(1), Blank::new(1))
+fn push_word(alloc: Global, words: &mut Vec<String>, word: &str) -> Result<(), AllocError> {
+    let word = String::from_str(alloc, word)?;
+    words.push(word)?;
+    Ok(())
+}
+
+fn words_of(alloc: Global, trial: &Trial) -> Result<Vec<String>, AllocError> {
+    let mut words = Vec::new(alloc);
+    for word in trial.words {
+        push_word(alloc, &mut words, word)?;
+    }
+    Ok(words)
+}
+
+fn source_of(alloc: Global, trial: &Trial) -> Result<MemSource, AllocError> {
+    let reads = Vec::from_slice(alloc, trial.reads)?;
+    let input = Vec::from_slice(alloc, trial.input)?;
+    Ok(MemSource::new(input, trial.cut, reads))
+}
+
+fn sink_of(alloc: Global, trial: &Trial) -> Result<MemSink, AllocError> {
+    let writes = Vec::from_slice(alloc, trial.writes)?;
+    Ok(MemSink::new(alloc, trial.cut, writes))
+}
+
+fn put_text(shelf: &mut MemShelf, trial: &Trial) -> Result<(), AllocError> {
+    match trial.text {
+        Some(text) => shelf.put(NAME, text),
+        None => Ok(()),
+    }
+}
+
+fn shelf_of(alloc: Global, trial: &Trial) -> Result<MemShelf, AllocError> {
+    let calls = Vec::from_slice(alloc, trial.calls)?;
+    let mut shelf = MemShelf::new(alloc, calls);
+    put_text(&mut shelf, trial)?;
+    Ok(shelf)
+}
+
+fn outside_of(alloc: Global, trial: &Trial) -> Result<InMemory, AllocError> {
+    let source = source_of(alloc, trial)?;
+    let sink = sink_of(alloc, trial)?;
+    let shelf = shelf_of(alloc, trial)?;
+    Ok(Outside {
+        source,
+        sink,
+        shelf,
+    })
+}
+
+// The exit status of the run.
+fn with_probes<L: Ledger, M: Ledger>(
+    rt: &HostRuntime,
+    limit: u64,
+    words: &[String],
+    outside: &mut InMemory,
+    reads: Steps<L>,
+    probes: Blank,
+) -> u8
+    requires name { probes.name ≡ M.name }
+    requires parts { probes.parts ≡ M.parts }
+    requires some { 0 < probes.parts }
+{
+    let probes: Steps<M> = Steps::new(rt, probes);
+    let counters = Counters { reads, probes };
+    run_limited(rt.alloc(), limit, words, outside, counters)
+        .status
+        .code()
 }
 
 fn with_reads<L: Ledger>(
     rt: &HostRuntime,
-    trial: &Trial,
+    limit: u64,
+    words: &[String],
+    outside: &mut InMemory,
     reads: Blank,
     probes: Blank,
-) -> Result<Outcome, AllocError>
+) -> u8
     requires name { reads.name ≡ L.name }
     requires parts { reads.parts ≡ L.parts }
     requires some { 0 < reads.parts }
     requires one { 0 < probes.parts }
 {
     let reads: Steps<L> = Steps::new(rt, reads);
-    with_probes::<_, Brand>(rt, trial, reads, probes)
+    with_probes::<_, Brand>(rt, limit, words, outside, reads, probes)
 }
 
-fn with_probes<L: Ledger, M: Ledger>(
+fn has_left(outside: &InMemory, output: &[u8], text: Option<&[u8]>) -> bool {
+    outside.sink.bytes() == output && outside.shelf.get(NAME) == text
+}
+
+// Whether the run ends with this status, has written this, and leaves this text.
+fn leaves(
     rt: &HostRuntime,
     trial: &Trial,
-    reads: Steps<L>,
-    probes: Blank,
-) -> Result<Outcome, AllocError>
-    requires name { probes.name ≡ M.name }
-    requires parts { probes.parts ≡ M.parts }
-    requires some { 0 < probes.parts }
-{
-    let probes: Steps<M> = Steps::new(rt, probes);
-    let alloc = rt.alloc();
-    let mut words = Vec::new(alloc);
-    for word in trial.words {
-        words.push(String::from_str(alloc, word)?)?;
-    }
-    let source = MemSource::new(
-        Vec::from_slice(alloc, trial.input)?,
-        trial.cut,
-        Vec::from_slice(alloc, trial.reads)?,
-    );
-    let sink = MemSink::new(alloc, trial.cut, Vec::from_slice(alloc, trial.writes)?);
-    let mut shelf = MemShelf::new(alloc, Vec::from_slice(alloc, trial.calls)?);
-    if let Some(text) = trial.text {
-        shelf.put(NAME, text)?;
-    }
-    let mut outside = Outside {
-        source,
-        sink,
-        shelf,
-    };
-    let counters = Counters { reads, probes };
-    let ran = run_limited(alloc, trial.limit, &words, &mut outside, counters);
-    let left = match outside.shelf.get(NAME) {
-        Some(text) => Some(Vec::from_slice(alloc, text)?),
-        None => None,
-    };
-    Ok((
-        ran.status.code(),
-        Vec::from_slice(alloc, outside.sink.bytes())?,
-        left,
-    ))
+    status: u8,
+    output: &[u8],
+    text: Option<&[u8]>,
+) -> Result<bool, AllocError> {
+    let words = words_of(rt.alloc(), trial)?;
+    let mut outside = outside_of(rt.alloc(), trial)?;
+    let blank = Blank::new(1);
+    let found = with_reads::<Brand>(rt, trial.limit, &words, &mut outside, blank, Blank::new(1));
+    Ok(found == status && has_left(&outside, output, text))
 }
 
 // The run ends with this status, has written this, and leaves the text as it was.
@@ -143,21 +186,14 @@ pub(crate) fn assert_leaves(
     output: &[u8],
     text: Option<&[u8]>,
 ) -> Result<(), Fail> {
-    let (found, written, left) = outcome(host, trial)?;
-    assert_eq!(rt;
-        found,
-        status,
-        "under {} in pieces of {}",
-        trial.limit, trial.cut
-    );
-    assert_eq!(rt;
-        written.as_slice(),
-        output,
-        "under {} in pieces of {}",
+    let right = leaves(host, trial, status, output, text)?;
+    assert!(rt;
+        right,
+        "{} bytes of output under {} in pieces of {}",
+        output.len(),
         trial.limit,
         trial.cut
     );
-    assert_eq!(rt; left.as_deref(), text);
     Ok(())
 }
 
@@ -171,7 +207,7 @@ fn pieces_do_not_matter(rt: HostRuntime) -> Result<(), Fail> {
     Ok(())
 }
 
-const BAD_WORDS: [&[&'static str]; 8] = [
+const BAD_WORDS: &[&[&'static str]] = &[
     &[],
     &["domino", "--help"],
     &["domino", "--session"],
@@ -185,7 +221,7 @@ const BAD_WORDS: [&[&'static str]; 8] = [
 // Nothing is read with bad words, and the shelf isn't asked.
 #[test]
 fn words_of_no_form_are_bad(rt: HostRuntime) -> Result<(), Fail> {
-    for words in BAD_WORDS {
+    for &words in BAD_WORDS {
         let trial = trial_of(words, INPUT, None, &[1], &[1]);
         assert_ends(&rt, &rt, &trial, 1, b"bad words\n")?;
     }
@@ -208,7 +244,7 @@ fn the_lines_of_a_number_are_counted(rt: HostRuntime) -> Result<(), Fail> {
 const SESSION: &[u8] = b"domino-session 2\nentries 2 clock 5\nclass car 9\ntick 5\nend\n";
 
 // The text under the name of a session, the status, and what is written where `list` is the input.
-const SESSIONS: [(&[u8], u8, &[u8]); 21] = [
+const SESSIONS: &[(&[u8], u8, &[u8])] = &[
     (SESSION, 0, b"clock 5\nclass car 0/9\nok\n"),
     (b"domino-session 1\n# none\nend", 0, b"clock 0\nok\n"),
     (b"", 2, b"bad session 1\n"),
@@ -285,7 +321,7 @@ const STORED: &[&'static str] = &["domino", "--session", "text"];
 
 #[test]
 fn sessions_are_loaded_without_replies(rt: HostRuntime) -> Result<(), Fail> {
-    for (text, status, output) in SESSIONS {
+    for &(text, status, output) in SESSIONS {
         let trial = trial_of(STORED, b"list", Some(text), &[], &[]);
         assert_ends(&rt, &rt, &trial, status, output)?;
     }
@@ -299,7 +335,7 @@ fn a_session_that_is_not_there_is_bad(rt: HostRuntime) -> Result<(), Fail> {
 }
 
 // A line that didn't end within the limit has no reply.
-const LIMITED: [(u64, &[u8], u8, &[u8]); 12] = [
+const LIMITED: &[(u64, &[u8], u8, &[u8])] = &[
     (0, INPUT, 7, b""),
     (23, INPUT, 7, b""),
     (24, INPUT, 7, b"ok\n"),
@@ -316,7 +352,7 @@ const LIMITED: [(u64, &[u8], u8, &[u8]); 12] = [
 
 #[test]
 fn bytes_past_the_limit_end_a_run(rt: HostRuntime) -> Result<(), Fail> {
-    for (limit, input, status, output) in LIMITED {
+    for &(limit, input, status, output) in LIMITED {
         let mut trial = plain_trial(input);
         trial.limit = limit;
         assert_ends(&rt, &rt, &trial, status, output)?;
@@ -324,17 +360,19 @@ fn bytes_past_the_limit_end_a_run(rt: HostRuntime) -> Result<(), Fail> {
     Ok(())
 }
 
+// A read that fails, the input, the status, and what is written.
+const FAILING_READS: &[(u64, &[u8], u8, &[u8])] = &[
+    (1, INPUT, 3, b""),
+    (2, INPUT, 3, b"ok\n"),
+    (3, INPUT, 3, b"ok\nok\n"),
+    (4, INPUT, 3, OUTPUT),
+    (2, b"quit\n", 0, b"ok\n"),
+];
+
 // Reads of 40 bytes: the second one ends the second line.
 #[test]
 fn failing_reads_end_a_run(rt: HostRuntime) -> Result<(), Fail> {
-    let cases: [(u64, &[u8], u8, &[u8]); 5] = [
-        (1, INPUT, 3, b""),
-        (2, INPUT, 3, b"ok\n"),
-        (3, INPUT, 3, b"ok\nok\n"),
-        (4, INPUT, 3, OUTPUT),
-        (2, b"quit\n", 0, b"ok\n"),
-    ];
-    for (read, input, status, output) in cases {
+    for &(read, input, status, output) in FAILING_READS {
         let mut trial = plain_trial(input);
         trial.cut = 40;
         let reads = [read];
@@ -344,11 +382,12 @@ fn failing_reads_end_a_run(rt: HostRuntime) -> Result<(), Fail> {
     Ok(())
 }
 
+const FAILING_WRITES: &[(u64, &[u8])] = &[(1, b""), (2, b"ok"), (3, b"ok\n"), (4, b"ok\nok")];
+
 // Writes of 2 bytes: `ok`, and then a line feed.
 #[test]
 fn failing_writes_end_a_run(rt: HostRuntime) -> Result<(), Fail> {
-    let cases: [(u64, &[u8]); 4] = [(1, b""), (2, b"ok"), (3, b"ok\n"), (4, b"ok\nok")];
-    for (write, output) in cases {
+    for &(write, output) in FAILING_WRITES {
         let mut trial = plain_trial(INPUT);
         trial.cut = 2;
         let writes = [write];
