@@ -7,7 +7,7 @@ use std::process::Abort;
 use std::test::Fail;
 
 /// The lines of two users, each with what is told of it.
-const LINES: [(&[u8], &[u8]); 6] = [
+const LINES: &[(&[u8], &[u8])] = &[
     (b"ann class car 9 point\n", b"ann ok\n"),
     (b"bob insert car a\n", b"bob ok\n"),
     (
@@ -140,6 +140,14 @@ fn each_write_of_users_fails(rt: HostRuntime) -> Result<(), Fail> {
     fail_write(&rt, &rt, USERS, SHARED, 4096, 1, b"")
 }
 
+// A read that fails, the status, and what is written.
+const AFTER_A_BAD_LINE: &[(u64, u8, &[u8])] = &[
+    (1, 3, b""),
+    (2, 3, b""),
+    (3, 2, b"bad feed 2\n"),
+    (4, 2, b"bad feed 2\n"),
+];
+
 // A replica has written nothing where a read fails, and is bad before it where a line without its form came before.
 #[test]
 fn each_read_of_a_replica_fails(rt: HostRuntime) -> Result<(), Fail> {
@@ -148,13 +156,7 @@ fn each_read_of_a_replica_fails(rt: HostRuntime) -> Result<(), Fail> {
         let trial = failing_read(REPLICA, HEARD, 7, &failing);
         assert_ends(&rt, &rt, &trial, 3, b"")?;
     }
-    let cases: [(u64, u8, &[u8]); 4] = [
-        (1, 3, b""),
-        (2, 3, b""),
-        (3, 2, b"bad feed 2\n"),
-        (4, 2, b"bad feed 2\n"),
-    ];
-    for (number, status, output) in cases {
+    for &(number, status, output) in AFTER_A_BAD_LINE {
         let failing = [number];
         let trial = failing_read(REPLICA, b"ok\nclock 04\nok\nok\n", 7, &failing);
         assert_ends(&rt, &rt, &trial, status, output)?;
@@ -175,16 +177,18 @@ fn each_write_of_a_replica_fails(rt: HostRuntime) -> Result<(), Fail> {
     Ok(())
 }
 
+// The words, the input, the write that fails, and what is written before it.
+const BAD_WRITES: &[(&[&'static str], &[u8], u64, &[u8])] = &[
+    (&["feeds", "replica"], b"", 1, b""),
+    (&["feeds", "replica"], b"", 3, b"bad wo"),
+    (REPLICA, b"clock 04\n", 1, b""),
+    (REPLICA, b"clock 04\n", 4, b"bad feed "),
+];
+
 // What is said of bad words, and of a bad feed.
 #[test]
 fn writes_of_what_is_bad_fail(rt: HostRuntime) -> Result<(), Fail> {
-    let cases: [(&[&'static str], &[u8], u64, &[u8]); 4] = [
-        (&["feeds", "replica"], b"", 1, b""),
-        (&["feeds", "replica"], b"", 3, b"bad wo"),
-        (REPLICA, b"clock 04\n", 1, b""),
-        (REPLICA, b"clock 04\n", 4, b"bad feed "),
-    ];
-    for (words, input, number, written) in cases {
+    for &(words, input, number, written) in BAD_WRITES {
         fail_write(&rt, &rt, words, input, 3, number, written)?;
     }
     Ok(())

@@ -156,7 +156,7 @@ fn a_replica_follows_in_pieces_of_any_size(rt: HostRuntime) -> Result<(), Fail> 
     Ok(())
 }
 
-const BAD_WORDS: [&[&'static str]; 7] = [
+const BAD_WORDS: &[&[&'static str]] = &[
     &[],
     &["feeds", "--help"],
     &["feeds", "replica"],
@@ -169,7 +169,7 @@ const BAD_WORDS: [&[&'static str]; 7] = [
 // Nothing is read with bad words.
 #[test]
 fn words_of_no_form_are_bad(rt: HostRuntime) -> Result<(), Fail> {
-    for words in BAD_WORDS {
+    for &words in BAD_WORDS {
         let mut trial = trial_of(words, SHARED);
         trial.reads = &[1];
         assert_ends(&rt, &rt, &trial, 1, b"bad words\n")?;
@@ -177,16 +177,18 @@ fn words_of_no_form_are_bad(rt: HostRuntime) -> Result<(), Fail> {
     Ok(())
 }
 
+// The words, the input and the output.
+const OTHER_WORDS: &[(&[&'static str], &[u8], &[u8])] = &[
+    (&[""], b"ann tick 1", b"ann clock 1\nann ok\n"),
+    (&["", "replica", "w"], HEARD, b"a : 4..10\n"),
+    (&["feeds", "replica", ""], HEARD, b""),
+    (&["feeds", "replica", "no name"], HEARD, b""),
+];
+
 // The first word isn't compared, and any word may be the query's name.
 #[test]
 fn other_words_ask_for_users_or_for_a_replica(rt: HostRuntime) -> Result<(), Fail> {
-    let cases: [(&[&'static str], &[u8], &[u8]); 4] = [
-        (&[""], b"ann tick 1", b"ann clock 1\nann ok\n"),
-        (&["", "replica", "w"], HEARD, b"a : 4..10\n"),
-        (&["feeds", "replica", ""], HEARD, b""),
-        (&["feeds", "replica", "no name"], HEARD, b""),
-    ];
-    for (words, input, output) in cases {
+    for &(words, input, output) in OTHER_WORDS {
         let trial = trial_of(words, input);
         assert_ends(&rt, &rt, &trial, 0, output)?;
     }
@@ -195,7 +197,7 @@ fn other_words_ask_for_users_or_for_a_replica(rt: HostRuntime) -> Result<(), Fai
 
 // The limit, the words, the input, the status and the output. A line that didn't end within the limit has no reply, a `quit`
 // ends nothing, and a bad feed within the limit goes before it.
-const LIMITED: [(u64, &[&'static str], &[u8], u8, &[u8]); 16] = [
+const LIMITED: &[(u64, &[&'static str], &[u8], u8, &[u8])] = &[
     (0, USERS, SHARED, 7, b""),
     (21, USERS, SHARED, 7, b""),
     (22, USERS, SHARED, 7, b"ann ok\n"),
@@ -222,7 +224,7 @@ const LIMITED: [(u64, &[&'static str], &[u8], u8, &[u8]); 16] = [
 
 #[test]
 fn bytes_past_the_limit_end_a_run(rt: HostRuntime) -> Result<(), Fail> {
-    for (limit, words, input, status, output) in LIMITED {
+    for &(limit, words, input, status, output) in LIMITED {
         let mut trial = trial_of(words, input);
         trial.limit = limit;
         assert_ends(&rt, &rt, &trial, status, output)?;
@@ -231,7 +233,7 @@ fn bytes_past_the_limit_end_a_run(rt: HostRuntime) -> Result<(), Fail> {
 }
 
 // Lines of others, a carriage return, rows in the order of bytes, a query that is started again, and lines without their form.
-const FEEDS: [(&[u8], u8, &[u8]); 8] = [
+const FEEDS: &[(&[u8], u8, &[u8])] = &[
     (
         b"start w keep 3\r\nlater b c : 5..6 8..9\r\npast a : 0..0\nok\ngain w b c : 7..7\nclock 4",
         0,
@@ -248,7 +250,7 @@ const FEEDS: [(&[u8], u8, &[u8]); 8] = [
 
 #[test]
 fn feeds_are_followed_or_bad(rt: HostRuntime) -> Result<(), Fail> {
-    for (input, status, output) in FEEDS {
+    for &(input, status, output) in FEEDS {
         let trial = trial_of(REPLICA, input);
         assert_ends(&rt, &rt, &trial, status, output)?;
     }

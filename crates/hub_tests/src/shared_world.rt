@@ -2,7 +2,7 @@
 ghost use Rattle.std.specs.Prelude.{◌≡◌, ◌<◌};
 
 use hub::Hub;
-use std::alloc::AllocError;
+use std::alloc::{AllocError, Global};
 use std::marker::Brand;
 use std::sync::ledger::{Blank, Ledger};
 use std::test::Fail;
@@ -15,7 +15,7 @@ struct Row {
 }
 
 // One user's watch, and what another's lines change for it.
-const SHARED_WORLD: Row = Row {
+const SHARED_WORLD: &Row = &Row {
     lines: &[
         b"ann class car 9 point",
         b"bob insert car a",
@@ -28,7 +28,7 @@ const SHARED_WORLD: Row = Row {
 };
 
 // Who comes later has the objects of the others and none of their queries.
-const NEWCOMER: Row = Row {
+const NEWCOMER: &Row = &Row {
     lines: &[
         b"ann class car 9 point",
         b"ann insert car a at (1,2)",
@@ -43,7 +43,7 @@ const NEWCOMER: Row = Row {
 };
 
 // Lines of nobody, blank lines, comments, and lines that no user may send.
-const LINES_OF_NOBODY: Row = Row {
+const LINES_OF_NOBODY: &Row = &Row {
     lines: &[
         b"",
         b"ann",
@@ -62,7 +62,7 @@ const LINES_OF_NOBODY: Row = Row {
 };
 
 // A ninth user, also where a line of one of the eight follows.
-const NINTH_USER: Row = Row {
+const NINTH_USER: &Row = &Row {
     lines: &[
         b"a ",
         b"b ",
@@ -79,7 +79,7 @@ const NINTH_USER: Row = Row {
 };
 
 // An index is the user's own: others' lines on the objects leave it, and show in what it answers.
-const OWN_INDEX: Row = Row {
+const OWN_INDEX: &Row = &Row {
     lines: &[
         b"ann class car 9 point",
         b"ann insert car a at (1,2)",
@@ -94,6 +94,31 @@ const OWN_INDEX: Row = Row {
     ],
     written: b"ann ok\nann ok\nann ok\nbob refused 7 UnknownName\nann now a : 0..5\nann ok\nann clock 3\nbob clock 3\nbob ok\nbob ok\nann now a : 3..5\nann now b : 3..5\nann ok\nbob ok\ncarl refused 7 UnknownName\n",
 };
+
+fn apply_all<L: Ledger, M: Ledger>(
+    hub: Hub,
+    lines: &[&[u8]],
+    out: &mut Vec<u8>,
+    reads: &mut Steps<L>,
+    probes: &mut Steps<M>,
+) -> Result<(), AllocError> {
+    let mut hub = hub;
+    for line in lines {
+        hub = hub.apply(line, out, reads, probes)?;
+    }
+    Ok(())
+}
+
+fn is_written<L: Ledger, M: Ledger>(
+    alloc: Global,
+    row: &Row,
+    reads: &mut Steps<L>,
+    probes: &mut Steps<M>,
+) -> Result<bool, AllocError> {
+    let mut out = Vec::new(alloc);
+    apply_all(Hub::new(alloc), row.lines, &mut out, reads, probes)?;
+    Ok(out.as_slice() == row.written)
+}
 
 // Whether the lines of a row have what is written of them.
 fn holds(rt: &HostRuntime, row: &Row) -> Result<bool, AllocError> {
@@ -126,46 +151,40 @@ fn with_probes<L: Ledger, M: Ledger>(
     requires some { 0 < probes.parts }
 {
     let mut probes: Steps<M> = Steps::new(rt, probes);
-    let alloc = rt.alloc();
-    let mut hub = Hub::new(alloc);
-    let mut out = Vec::new(alloc);
-    for line in row.lines {
-        hub = hub.apply(line, &mut out, &mut reads, &mut probes)?;
-    }
-    Ok(out.as_slice() == row.written)
+    is_written(rt.alloc(), row, &mut reads, &mut probes)
 }
 
 #[test]
 fn users_share_a_world(rt: HostRuntime) -> Result<(), Fail> {
-    let holds = holds(&rt, &SHARED_WORLD)?;
+    let holds = holds(&rt, SHARED_WORLD)?;
     assert!(rt; holds);
     Ok(())
 }
 
 #[test]
 fn later_users_have_the_same_world(rt: HostRuntime) -> Result<(), Fail> {
-    let holds = holds(&rt, &NEWCOMER)?;
+    let holds = holds(&rt, NEWCOMER)?;
     assert!(rt; holds);
     Ok(())
 }
 
 #[test]
 fn an_index_is_the_users_own(rt: HostRuntime) -> Result<(), Fail> {
-    let holds = holds(&rt, &OWN_INDEX)?;
+    let holds = holds(&rt, OWN_INDEX)?;
     assert!(rt; holds);
     Ok(())
 }
 
 #[test]
 fn lines_of_nobody_are_refused(rt: HostRuntime) -> Result<(), Fail> {
-    let holds = holds(&rt, &LINES_OF_NOBODY)?;
+    let holds = holds(&rt, LINES_OF_NOBODY)?;
     assert!(rt; holds);
     Ok(())
 }
 
 #[test]
 fn a_ninth_user_has_no_room(rt: HostRuntime) -> Result<(), Fail> {
-    let holds = holds(&rt, &NINTH_USER)?;
+    let holds = holds(&rt, NINTH_USER)?;
     assert!(rt; holds);
     Ok(())
 }
