@@ -29,7 +29,8 @@ fn fit(r: i64, spots: &[Spot]) -> Option<bool> {
 
 const FAR: i64 = 1_000_000_000_000_000_000;
 
-const FITTING: [(i64, &[Spot], bool); 28] = [
+// A radius, up to four spots, and whether they fit.
+const FITTING: &[(i64, &[Spot], bool)] = &[
     // A right angle: the longest side is the diameter.
     (2000, &[(0, 0), (4000, 0), (2000, 2000)], true),
     (1999, &[(0, 0), (4000, 0), (2000, 2000)], false),
@@ -89,8 +90,8 @@ const FITTING: [(i64, &[Spot], bool); 28] = [
 
 #[test]
 fn points_and_circles(rt: HostRuntime) {
-    for (r, spots, want) in FITTING {
-        assert_eq!(rt; fit(r, spots), Some(want), "{spots:?} within {r}");
+    for &(r, spots, want) in FITTING {
+        assert!(rt; fit(r, spots) == Some(want), "{spots:?} within {r}");
     }
 }
 
@@ -120,6 +121,7 @@ fn is_between_posts<M: Ledger>(rt: &HostRuntime, blank: Blank, ticks: Span) -> R
 #[test]
 fn motions_that_come_together(rt: HostRuntime) -> Result<(), Fail> {
     let ticks = Span::new(108, 112).ok_or("no span")?;
-    assert!(rt; is_between_posts::<Brand>(&rt, Blank::new(1), ticks)?);
+    let right = is_between_posts::<Brand>(&rt, Blank::new(1), ticks)?;
+    assert!(rt; right);
     Ok(())
 }

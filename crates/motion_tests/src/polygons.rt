@@ -1,21 +1,21 @@
 use crate::made::{Ends, Spot, Way, ends, line, places};
-use fixed_point::{Fix, Slope, Word};
+use fixed_point::{Fix, Point, Slope, Word};
 use polygon::{Margin, Polygon, PolygonFault, Regions};
-use std::alloc::Global;
+use std::alloc::{AllocError, Global};
 use std::test::Fail;
 use tick_set::Window;
 
 const REFUSED: Option<PolygonFault> = Some(PolygonFault::NotConvex);
 
-const CORNERS: [([Spot; 4], Option<PolygonFault>); 8] = [
-    ([(0, 0), (0, 10), (10, 10), (10, 0)], None),
-    ([(0, 0), (10, 0), (10, 10), (0, 10)], None),
-    ([(0, 0), (5, 0), (10, 0), (10, 10)], None),
-    ([(0, 0), (10, 0), (10, 10), (5, 5)], None),
-    ([(0, 0), (10, 0), (10, 10), (6, 5)], REFUSED),
-    ([(0, 0), (0, 0), (10, 0), (10, 10)], REFUSED),
-    ([(0, 0), (1, 1), (2, 2), (3, 3)], REFUSED),
-    ([(0, 0), (10, 0), (0, 10), (10, 10)], REFUSED),
+const CORNERS: &[(&[Spot], Option<PolygonFault>)] = &[
+    (&[(0, 0), (0, 10), (10, 10), (10, 0)], None),
+    (&[(0, 0), (10, 0), (10, 10), (0, 10)], None),
+    (&[(0, 0), (5, 0), (10, 0), (10, 10)], None),
+    (&[(0, 0), (10, 0), (10, 10), (5, 5)], None),
+    (&[(0, 0), (10, 0), (10, 10), (6, 5)], REFUSED),
+    (&[(0, 0), (0, 0), (10, 0), (10, 10)], REFUSED),
+    (&[(0, 0), (1, 1), (2, 2), (3, 3)], REFUSED),
+    (&[(0, 0), (10, 0), (0, 10), (10, 10)], REFUSED),
 ];
 
 fn fault_of(alloc: Global, corners: &[Spot]) -> Option<Option<PolygonFault>> {
@@ -25,8 +25,8 @@ fn fault_of(alloc: Global, corners: &[Spot]) -> Option<Option<PolygonFault>> {
 
 #[test]
 fn four_points(rt: HostRuntime) {
-    for (corners, want) in CORNERS {
-        assert_eq!(rt; fault_of(rt.alloc(), &corners), Some(want), "{corners:?}");
+    for (place, row) in CORNERS.iter().enumerate() {
+        assert!(rt; fault_of(rt.alloc(), row.0) == Some(row.1), "row {place}");
     }
 }
 
@@ -36,18 +36,25 @@ fn polygon(alloc: Global, corners: &[Spot]) -> Result<Polygon, Fail> {
     Ok(Polygon::new(alloc, &points[..corners.len()])?)
 }
 
+// Whether these are the ends of the first edge of a square.
+fn is_first_edge(alloc: Global, ends: &[Point; 4]) -> Result<bool, Fail> {
+    let square = polygon(alloc, &[(0, 0), (0, 10), (10, 10), (10, 0)])?;
+    Ok(square.edge(0) == Some((ends[0], ends[1])) && square.has(ends[0]))
+}
+
 // The edges go counterclockwise, in whichever order the corners are given.
 #[test]
 fn the_first_edge_of_a_square(rt: HostRuntime) -> Result<(), Fail> {
-    let square = polygon(rt.alloc(), &[(0, 0), (0, 10), (10, 10), (10, 0)])?;
     let ends = places(&[(10, 0), (10, 10)]).ok_or("no places")?;
-    assert!(rt; square.edge(0) == Some((ends[0], ends[1])));
-    assert!(rt; square.has(ends[0]));
+    let right = is_first_edge(rt.alloc(), &ends)?;
+    assert!(rt; right);
     Ok(())
 }
 
 // The corners of a polygon, and its least and greatest coordinates.
-const BOUNDED: [(&[Spot], Spot, Spot); 3] = [
+type Bounded = (&'static [Spot], Spot, Spot);
+
+const BOUNDED: &[Bounded] = &[
     (&[(3, 7), (-2, 1), (8, -4)], (-2, -4), (8, 7)),
     (&[(8, -4), (-2, 1), (3, 7)], (-2, -4), (8, 7)),
     (
@@ -57,24 +64,35 @@ const BOUNDED: [(&[Spot], Spot, Spot); 3] = [
     ),
 ];
 
+fn is_bounded(alloc: Global, row: &Bounded) -> Result<bool, Fail> {
+    let ends = places(&[row.1, row.2]).ok_or("no places")?;
+    let polygon = polygon(alloc, row.0)?;
+    Ok(polygon.bounds() == (ends[0], ends[1]))
+}
+
 #[test]
 fn polygons_in_boxes(rt: HostRuntime) -> Result<(), Fail> {
-    for (corners, least, greatest) in BOUNDED {
-        let ends = places(&[least, greatest]).ok_or("no places")?;
-        let found = polygon(rt.alloc(), corners)?.bounds();
-        assert!(rt; found == (ends[0], ends[1]), "{corners:?}");
+    for (place, row) in BOUNDED.iter().enumerate() {
+        let right = is_bounded(rt.alloc(), row)?;
+        assert!(rt; right, "row {place}");
     }
     Ok(())
 }
 
-#[test]
-fn a_region_is_taken_back(rt: HostRuntime) -> Result<(), Fail> {
-    let triangle = polygon(rt.alloc(), &[(0, 0), (10, 0), (10, 10)])?;
-    let name = Word::of(b"north").ok_or("no name")?;
-    let mut regions = Regions::new(rt.alloc());
+// How many regions are left where a new one is taken back.
+fn left_of_one(alloc: Global, name: Word, triangle: Polygon) -> Result<u32, AllocError> {
+    let mut regions = Regions::new(alloc);
     regions.add(name, triangle)?;
     regions.remove_last();
-    assert_eq!(rt; regions.count(), 0);
+    Ok(regions.count())
+}
+
+#[test]
+fn a_region_is_taken_back(rt: HostRuntime) -> Result<(), Fail> {
+    let name = Word::of(b"north").ok_or("no name")?;
+    let triangle = polygon(rt.alloc(), &[(0, 0), (10, 0), (10, 10)])?;
+    let left = left_of_one(rt.alloc(), name, triangle)?;
+    assert!(rt; left == 0);
     Ok(())
 }
 
@@ -96,7 +114,9 @@ const WHOLE: &[Spot] = &[(-FAR, -FAR), (FAR, -FAR), (FAR, FAR), (-FAR, FAR)];
 const HALF: &[Spot] = &[(0, 0), (FAR, 0), (0, FAR)];
 
 // A polygon, a motion, the last tick, and the ticks from 0 on at which it is inside.
-const CROSSED: [(&[Spot], Way, u32, Option<Ends>); 15] = [
+type Crossed = (&'static [Spot], Way, u32, Option<Ends>);
+
+const CROSSED: &[Crossed] = &[
     (SQUARE, (0, 0, 1_000, 0), 30, Some((10, 20))),
     (SQUARE, (0, 0, 3_000, 0), 30, Some((4, 6))),
     (SQUARE, (0, 5_000, 1_000, 0), 30, Some((10, 20))),
@@ -120,17 +140,18 @@ const CROSSED: [(&[Spot], Way, u32, Option<Ends>); 15] = [
     (HALF, (FAR, FAR, -FAST, -FAST), LAST, None),
 ];
 
-fn crossed(alloc: Global, corners: &[Spot], way: Way, last: u32) -> Result<Option<Ends>, Fail> {
-    let line = line(way).ok_or("no motion")?;
-    let w = Window::new(0, last).ok_or("no window")?;
-    Ok(ends(polygon(alloc, corners)?.inside_ticks(&line, w)))
+fn is_crossed(alloc: Global, row: &Crossed) -> Result<bool, Fail> {
+    let line = line(row.1).ok_or("no motion")?;
+    let w = Window::new(0, row.2).ok_or("no window")?;
+    let polygon = polygon(alloc, row.0)?;
+    Ok(ends(polygon.inside_ticks(&line, w)) == row.3)
 }
 
 #[test]
 fn motions_through_polygons(rt: HostRuntime) -> Result<(), Fail> {
-    for (corners, way, last, want) in CROSSED {
-        let found = crossed(rt.alloc(), corners, way, last)?;
-        assert_eq!(rt; found, want, "{way:?} through {corners:?}");
+    for (place, row) in CROSSED.iter().enumerate() {
+        let right = is_crossed(rt.alloc(), row)?;
+        assert!(rt; right, "row {place}");
     }
     Ok(())
 }
@@ -139,7 +160,9 @@ fn motions_through_polygons(rt: HostRuntime) -> Result<(), Fail> {
 const CORNER: &[Spot] = &[(0, 0), (8_000, 0), (0, 8_000)];
 
 // A polygon, a motion, a margin at tick 0 and its rise, the last tick, and the ticks at which the motion is inside by it.
-const BY_MARGINS: [(&[Spot], Way, (i64, i64), u32, Option<Ends>); 14] = [
+type ByMargin = (&'static [Spot], Way, (i64, i64), u32, Option<Ends>);
+
+const BY_MARGINS: &[ByMargin] = &[
     (SQUARE, (0, 0, 1_000, 0), (0, 0), 30, Some((10, 20))),
     (SQUARE, (0, 0, 1_000, 0), (2_000, 0), 30, Some((12, 18))),
     (SQUARE, (0, 0, 1_000, 0), (-2_000, 0), 30, Some((8, 22))),
@@ -190,25 +213,19 @@ fn margin((first, rise): (i64, i64)) -> Option<Margin> {
     })
 }
 
-fn inside_by(
-    alloc: Global,
-    corners: &[Spot],
-    way: Way,
-    by: (i64, i64),
-    last: u32,
-) -> Result<Option<Ends>, Fail> {
-    let line = line(way).ok_or("no motion")?;
-    let margin = margin(by).ok_or("no margin")?;
-    let w = Window::new(0, last).ok_or("no window")?;
-    let polygon = polygon(alloc, corners)?;
-    Ok(ends(polygon.inside_ticks_by(&line, &margin, w)))
+fn is_inside_by(alloc: Global, row: &ByMargin) -> Result<bool, Fail> {
+    let line = line(row.1).ok_or("no motion")?;
+    let margin = margin(row.2).ok_or("no margin")?;
+    let w = Window::new(0, row.3).ok_or("no window")?;
+    let polygon = polygon(alloc, row.0)?;
+    Ok(ends(polygon.inside_ticks_by(&line, &margin, w)) == row.4)
 }
 
 #[test]
 fn motions_through_polygons_by_margins(rt: HostRuntime) -> Result<(), Fail> {
-    for (corners, way, by, last, want) in BY_MARGINS {
-        let found = inside_by(rt.alloc(), corners, way, by, last)?;
-        assert_eq!(rt; found, want, "{way:?} through {corners:?} by {by:?}");
+    for (place, row) in BY_MARGINS.iter().enumerate() {
+        let right = is_inside_by(rt.alloc(), row)?;
+        assert!(rt; right, "row {place}");
     }
     Ok(())
 }

@@ -5,6 +5,7 @@ use courses::{begun_by, common_for};
 use fixed_point::{Fix, Slope};
 use motion::{Asked, Cell, Legs, Timeline, Vector};
 use std::alloc::Global;
+use std::process::Abort;
 use std::test::Fail;
 
 fn slope(thousandths: i64) -> Result<Slope, Fail> {
@@ -22,7 +23,7 @@ fn turning() -> Result<Vector, Fail>
 }
 
 // The first and the last of some ticks, and the least and the greatest value over them, in thousandths.
-const RANGES: [((u32, u32), (i64, i64)); 4] = [
+const RANGES: &[((u32, u32), (i64, i64))] = &[
     ((2, 2), (0, 0)),
     ((2, 5), (0, 3000)),
     ((6, 8), (-3000, 1000)),
@@ -42,22 +43,17 @@ fn range_over(vector: &Vector, ticks: (u32, u32)) -> Option<(i64, i64)>
 #[test]
 fn a_vector_ranges_over_the_ends_of_its_legs(rt: HostRuntime) -> Result<(), Fail> {
     let vector = turning()?;
-    for (ticks, wanted) in RANGES {
-        assert_eq!(rt;
-            range_over(&vector, ticks),
-            Some(wanted),
-            "from {} to {}",
-            ticks.0,
-            ticks.1
-        );
+    for &(ticks, wanted) in RANGES {
+        assert!(rt; range_over(&vector, ticks) == Some(wanted), "{ticks:?}");
     }
     Ok(())
 }
 
 // One attribute that turns at the ticks 5 and 9.
 fn turned(alloc: Global) -> Result<Timeline, Fail> {
+    let vector = turning()?;
     let mut timeline = Timeline::new(alloc);
-    timeline.begin(2, &[Cell::Dyn(turning()?)])?;
+    timeline.begin(2, &[Cell::Dyn(vector)])?;
     Ok(timeline)
 }
 
@@ -80,14 +76,17 @@ fn first_parts(timelines: &[&Timeline; 2], asked: &[Asked]) -> Option<[(u32, u32
     Some([(first.lo, first.hi), (second.lo, second.hi)])
 }
 
+fn are_cut(rt: &impl Abort, timelines: &[&Timeline; 2]) {
+    let all = first_parts(timelines, &[]);
+    assert!(rt; all == Some([(4, 4), (5, 8)]));
+    let some = first_parts(timelines, &[Asked::These(&[1])]);
+    assert!(rt; some == Some([(4, 11), (12, 20)]));
+}
+
 #[test]
 fn common_parts_are_cut_by_what_is_asked(rt: HostRuntime) -> Result<(), Fail> {
-    let (turned, written) = (turned(rt.alloc())?, written(rt.alloc())?);
-    let timelines = [&turned, &written];
-    assert_eq!(rt; first_parts(&timelines, &[]), Some([(4, 4), (5, 8)]));
-    assert_eq!(rt;
-        first_parts(&timelines, &[Asked::These(&[1])]),
-        Some([(4, 11), (12, 20)])
-    );
+    let turned = turned(rt.alloc())?;
+    let written = written(rt.alloc())?;
+    are_cut(&rt, &[&turned, &written]);
     Ok(())
 }
