@@ -1,8 +1,8 @@
 -- Values that move along lines.
-use Rattle.std.proofs.Common.{◌≡◌, ℕ, ◌-◌, ℤ, pos, ◌+ℤ◌, ◌*ℤ◌, neg_ℤ, int_le, Bool, ◌&&◌, List, sym, ap, ◌∙◌, arith}
+use Rattle.std.proofs.Common.{◌≡◌, ℕ, ◌+◌, ◌-◌, ℤ, pos, ◌+ℤ◌, ◌*ℤ◌, neg_ℤ, int_le, Bool, ◌&&◌, List, sym, ap, ◌∙◌, arith}
 use Rattle.std.proofs.lemmas.Int.{ints}
 use Rattle.std.proofs.lemmas.Bool.Decides.{nat_tests}
-use Rattle.exact.proofs.Ring.{opposite, part, product, same}
+use Rattle.exact.proofs.Ring.{number, opposite, part, product, same, sum}
 use Rattle.tick_set.specs.Runs.{spans_have, IsRuns}
 use Rattle.tick_set.specs.Ticks.{within}
 use Rattle.tick_set.specs.declared.spans.Span.{Span}
@@ -57,3 +57,13 @@ opposite_line slope start down under k is is' =
     flat down under k
     ∙ opposite_sum (slope *ℤ pos k) start (down *ℤ pos k) under (ap (λ z. z *ℤ pos k) is ∙ times_opposite slope (pos k)) is'
     ∙ ap neg_ℤ (sym (flat slope start k))
+
+-- a line from a later tick on
+moved_on : (start slope : ℤ) (past k : ℕ) → start +ℤ slope *ℤ pos past +ℤ slope *ℤ pos k ≡ start +ℤ slope *ℤ pos (past + k)
+moved_on start slope past k =
+    same (sum (sum (part start) (product (part slope) (number past))) (product (part slope) (number k))) (sum (part start) (product (part slope) (number (past + k)))) (omega arith)
+
+pub line_later : (start slope leans from a b : ℤ) (past k : ℕ) → leans ≡ slope → from ≡ a +ℤ b *ℤ pos past → a ≡ start → b ≡ slope →
+    parabola 0 leans from k ≡ start +ℤ slope *ℤ pos (past + k)
+line_later start slope leans from a b past k same_slope is same_start same_b =
+    flat leans from k ∙ (λ i. (is ∙ (λ j. same_start j +ℤ same_b j *ℤ pos past)) i +ℤ same_slope i *ℤ pos k) ∙ moved_on start slope past k

@@ -1,5 +1,6 @@
 -- Runs that are gathered part by part.
-use Rattle.std.proofs.Common.{◌≡◌, ℕ, ◌+◌, ◌<◌, ◌≤◌, Bool, true, ◌&&◌, ◌||◌, nat_le, nat_lt, Option, Some, option_to_list, List, [], ◌∷◌, sym, ap, ◌∙◌, inl, inr, arith}
+use Rattle.std.proofs.Common.{◌≡◌, ℕ, ◌+◌, ◌<◌, ◌≤◌, Bool, true, ◌&&◌, ◌||◌, nat_le, nat_lt, Option, Some, option_to_list, Result, Ok, Err, List, [], ◌∷◌, sym, ap, subst, ◌∙◌, inl, inr, arith}
+use Rattle.std.specs.Prelude.{IfOk}
 use Rattle.std.proofs.lemmas.Bool.{cases_lt, cases_Bool}
 use Rattle.std.proofs.lemmas.Bool.Decides.{nat_tests}
 use Rattle.tick_set.specs.Ticks.{within}
@@ -66,3 +67,8 @@ guarded lo hi t x y same =
 pub same_runs : (p q : ℕ → Bool) (lo hi : ℕ) (runs : List Span) → ((t : ℕ) → lo ≤ t → t ≤ hi → p t ≡ q t) →
     IsRuns (λ t. within lo hi t && p t) runs → IsRuns (λ t. within lo hi t && q t) runs
 same_runs p q lo hi runs same are = record { normal = are.normal; ticks = λ t. are.ticks t ∙ guarded lo hi t (p t) (q t) (same t) }
+
+pub if_runs : {V E : Type 0} (items : V → List Span) (r : Result V E) (found : List Span) (p q : ℕ → Bool) (lo hi : ℕ) → ((t : ℕ) → lo ≤ t → t ≤ hi → p t ≡ q t) →
+    IsRuns (λ t. within lo hi t && p t) found → IfOk r (λ v. items v ≡ found) → IfOk r (λ v. IsRuns (λ t. within lo hi t && q t) (items v))
+if_runs items (Ok v) found p q lo hi same are is = subst (IsRuns (λ t. within lo hi t && q t)) (sym is) (same_runs p q lo hi found same are)
+if_runs items (Err e) found p q lo hi same are is = tt

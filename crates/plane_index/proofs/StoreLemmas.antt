@@ -1,12 +1,15 @@
 -- What a store tells of an object is what its timeline tells, and what that tells of a slice its last epoch tells.
-use Rattle.std.proofs.Common.{◌≡◌, ℕ, ◌+◌, ◌-◌, ◌<◌, ◌≤◌, max, Option, None, Some, List, [], ◌∷◌, length, refl, sym, ap, ◌∙◌, arith}
-use Rattle.std.specs.Prelude.{All, option_and_then, slice_get, unwrap_or}
+use Rattle.std.proofs.Common.{◌≡◌, ℕ, ℤ, false, ◌+◌, ◌-◌, ◌<◌, ◌≤◌, max, Option, None, Some, List, [], ◌∷◌, length, refl, sym, ap, ◌∙◌, arith}
+use Rattle.std.specs.Prelude.{All, IfSome, option_and_then, slice_get, unwrap_or}
 use Rattle.std.specs.List.{filter_map}
 use Rattle.std.specs.Option.{option_map, option_map_or}
 use Rattle.std.proofs.lemmas.List.Elements.{All-cons, All-nil}
 use Rattle.tick_set.specs.Ticks.{between}
 use Rattle.motion.specs.Timeline.{Epoch, cells_of, epoch_at, state_at, AreBegunBy, IsRisingFrom}
+use Rattle.motion.specs.Dynamic.{Dynamic, value_at}
 use Rattle.motion.specs.declared.cell.Cell.{Cell}
+use Rattle.motion.specs.declared.cell.Cell.TheVariants as cells
+use Rattle.plane.specs.Rows.{is_between}
 use Rattle.history.specs.History.{cells_at}
 use Rattle.object_store.specs.Contents.{Contents, StoredObject, history_of}
 use Rattle.meaning.specs.Value.{cell_in}
@@ -14,7 +17,7 @@ use Rattle.plane.specs.Boxes.{Grid, box_of, slice_first, slice_last, strips_in, 
 use Rattle.plane_index.specs.Lines.{number_of_cell}
 use Rattle.plane_index.specs.States.{no_state, strips_by_state}
 use Rattle.plane_index.specs.declared.state.State.{State}
-use Rattle.plane_index.specs.Told.{last_begun, number_in, strips_along, strips_by, told_by}
+use Rattle.plane_index.specs.Told.{last_begun, lies_between, lies_in, number_in, strips_along, strips_by, told_by}
 use Rattle.plane_index.proofs.ValueLemmas.{no_box, same_numbers}
 
 -- ---- the object of a store
@@ -94,3 +97,17 @@ no_last [] g s none = never_written [] g s refl
 no_last (p ∷ epochs) g s none =
     let e : length (p ∷ epochs) - 1 ≡ length epochs = omega arith in
     absurd (some_last p epochs (ap (slice_get (p ∷ epochs)) (sym e) ∙ none) tt)
+
+-- ---- a straight timeline
+
+pub lies_on_line : (epochs : List Epoch) (p : Epoch) (vector : Dynamic) (attribute t : ℕ) (lo hi value : ℤ) → epoch_at epochs t ≡ Some p →
+    slice_get (cells_of p) attribute ≡ Some (cells.Dyn vector) → value_at vector t ≡ value → is_between lo hi value ≡ lies_between epochs attribute lo hi t
+lies_on_line epochs p vector attribute t lo hi value in_force has is =
+    sym
+    (ap (λ (e : Option Epoch). lies_in e attribute lo hi t) in_force
+    ∙ ap (λ (cell : Option Cell). option_map_or (is_between lo hi) (number_of_cell cell t) false) (sym (same_cell p.cells attribute) ∙ has)
+    ∙ ap (is_between lo hi) is)
+
+pub if_some_map : {A : Type 0} (o : Option A) (P Q : A → Type 0) → ((a : A) → P a → Q a) → IfSome o P → IfSome o Q
+if_some_map (Some a) P Q f h = f a h
+if_some_map None P Q f h = tt

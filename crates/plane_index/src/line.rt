@@ -1,12 +1,12 @@
 //! A value that moves along a line, and the ticks at which it lies between two bounds.
-ghost use Rattle.std.specs.Prelude.{◌≡◌, ◌≤◌, ◌-◌, ℕ, pos, neg_ℤ, ◌+ℤ◌, ◌*ℤ◌, ◌&&◌, option_to_list, unsigned_abs};
+ghost use Rattle.std.specs.Prelude.{◌≡◌, ◌≤◌, ◌+◌, ◌-◌, ℕ, pos, IfSome, neg_ℤ, ◌+ℤ◌, ◌*ℤ◌, ◌&&◌, option_to_list, unsigned_abs};
 ghost use Rattle.fixed_point.specs.declared.number.TheConstants.{FIX_LIMIT, SLOPE_LIMIT};
 ghost use Rattle.tick_set.specs.Runs.{spans_have, IsRuns};
 ghost use Rattle.tick_set.specs.Ticks.{within};
 ghost use Rattle.plane.specs.Rows.{is_between};
 
 use convex::{Convex, at_most};
-use fixed_point::Fix;
+use fixed_point::{Fix, Slope};
 use tick_set::{Span, Window};
 
 /// A value, in thousandths, that changes by the same at each tick.
@@ -20,6 +20,17 @@ pub struct Line {
 
 impl Line {
     ghost use Rattle.plane_index.specs.Lines.{line_after};
+
+    /// That of a value which has moved by one slope for so many ticks.
+    pub fn after(value: Fix, slope: Slope, past: u32) -> Option<Line>
+        ensures { IfSome result (λ line. (k : ℕ) → line_after line k ≡ value +ℤ slope *ℤ pos (past + k)) }
+    {
+        let start = Fix::of(moved(value.raw(), slope.raw(), past))?;
+        Some(Line {
+            start: start.raw(),
+            slope: slope.raw(),
+        })
+    }
 
     /// The ticks of the window, at whose first tick the line begins, at which it lies between two bounds.
     pub fn between(&self, lo: Fix, hi: Fix, w: Window) -> Option<Span>

@@ -1,5 +1,5 @@
 //! The ticks at which an object's attribute lies between two bounds.
-ghost use Rattle.std.specs.Prelude.{◌≡◌, ◌≤◌, ◌-◌, ◌&&◌, ℕ, false, None, Some, IfOk, IfSome, option_to_list, slice_index_or};
+ghost use Rattle.std.specs.Prelude.{◌≡◌, ◌≤◌, ◌-◌, ◌&&◌, ℕ, ℤ, false, None, Some, IfOk, IfSome, option_to_list, slice_index_or};
 ghost use Rattle.std.specs.Option.{option_copied, option_map_or};
 ghost use Rattle.motion.specs.Dynamic.{Dynamic, value_at};
 ghost use Rattle.motion.specs.Pieces.{AreSteadyCells, IsLinear};
@@ -19,6 +19,53 @@ use tick_set::{Runs, Span, Window};
 
 /// The ticks of the window at which the attribute of an object with this timeline lies between two bounds.
 pub fn runs_between(
+    alloc: Global,
+    timeline: &Timeline,
+    attribute: usize,
+    lo: Fix,
+    hi: Fix,
+    w: Window,
+) -> Result<Vec<Span>, AllocError>
+    ensures { IfOk result (λ runs. IsRuns (λ t. within w.lo w.hi t
+        && lies_between timeline.now attribute lo hi t) runs.items) }
+{
+    // One line needs no look at the epochs.
+    match line_from(timeline, attribute, w.lo) {
+        Some(line) => one_run(alloc, line.between(lo, hi, w)),
+        None => runs_by_parts(alloc, timeline, attribute, lo, hi, w),
+    }
+}
+
+// The line along which an attribute moves from a tick on, if the timeline tells it.
+fn line_from(timeline: &Timeline, attribute: usize, at: u32) -> Option<Line>
+    ensures { IfSome result (λ line. (lo hi : ℤ) (t : ℕ) → at ≤ t
+        → is_between lo hi (line_after line (t - at)) ≡ lies_between timeline.now attribute lo hi t) }
+{
+    let straight = timeline.straight()?;
+    if at < straight.from {
+        return None;
+    }
+    let past = at - straight.from;
+    match attribute {
+        0 => Line::after(straight.x, straight.dx, past),
+        1 => Line::after(straight.y, straight.dy, past),
+        _ => None,
+    }
+}
+
+// What is found, as a list.
+fn one_run(alloc: Global, found: Option<Span>) -> Result<Vec<Span>, AllocError>
+    ensures { IfOk result (λ runs. runs.items ≡ option_to_list found) }
+{
+    let mut runs = Vec::new(alloc);
+    if let Some(span) = found {
+        runs.push(span)?;
+    }
+    Ok(runs)
+}
+
+// The same, part by part of the timeline.
+fn runs_by_parts(
     alloc: Global,
     timeline: &Timeline,
     attribute: usize,

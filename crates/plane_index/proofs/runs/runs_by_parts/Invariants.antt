@@ -1,7 +1,7 @@
 use Rattle.std.proofs.Common.{◌+◌, ◌-◌, ◌≤◌}
 use Rattle.plane_index.specs.Told.{lies_between}
 use Rattle.plane_index.proofs.RunLemmas.{AreRunsTo}
-use Rattle.plane_index.proofs.runs.runs_between.Given as goal
+use Rattle.plane_index.proofs.runs.runs_by_parts.Given as goal
 
 abbrev pub invariant-parts : goal.invariant-parts
 invariant-parts l = record {
