@@ -3,7 +3,7 @@ use Rattle.std.proofs.Common.{◌≡◌, ℕ, zero, suc, ℤ, pos, neg_ℤ, ◌�
 use Rattle.std.specs.Prelude.{IfSome, int_le, option_map, option_and_then, slice_get}
 use Rattle.std.specs.List.{list_all, list_any}
 use Rattle.std.specs.Option.{option_map_or}
-use Rattle.std.proofs.lemmas.Bool.{false≢true, and_from, both_ways, false_from_ne_true}
+use Rattle.std.proofs.lemmas.Bool.{false≢true, and_from, and_parts, both_ways, false_from_ne_true}
 use Rattle.std.proofs.lemmas.Bool.Decides.{nat_tests}
 use Rattle.std.proofs.lemmas.Int.{ints}
 use Rattle.std.proofs.lemmas.Option.{none-some, same_Some}
@@ -12,7 +12,7 @@ use Rattle.case_table.specs.Comparison.{compares}
 use Rattle.fixed_point.specs.declared.number.Point.{Point}
 use Rattle.geometry.specs.Margin.{corners, is_inside_by}
 use Rattle.geometry.specs.Plane.{is_right_of, point}
-use Rattle.geometry.specs.Polygon.{counterclockwise_points, edges}
+use Rattle.geometry.specs.Polygon.{counterclockwise_points, edges, is_inside}
 use Rattle.geometry.specs.Region.{Region}
 use Rattle.motion.specs.Dynamic.{Dynamic, value_at}
 use Rattle.motion.specs.declared.cell.Cell.{Cell}
@@ -27,6 +27,7 @@ use Rattle.meaning.specs.Value.{cell_in, cell_value, term_value, values_compare}
 use Rattle.object_store.specs.declared.areas.Area.{Area}
 use Rattle.object_store.specs.declared.areas.Sides.{Sides}
 use Rattle.object_store.specs.Areas.{is_between, is_cell_between, is_in_area}
+use Rattle.polygon.specs.Bounds.{is_among}
 use Rattle.worlds.specs.Blurred.{is_in_region_by}
 use Rattle.worlds.specs.Inside.{is_possibly_inside}
 use Rattle.narrowing.specs.Covering.{Covers, area_beside, open_sides}
@@ -108,6 +109,27 @@ between_sides least greatest low test of is below above p holds =
     at_place_above : (side : Option ℤ) → IfSome side (λ m. (p : Point) → test p ≡ true → of p ≤ℤ m) → IfSome side (λ m. of p ≤ℤ m)
     at_place_above None each = tt
     at_place_above (Some m) each = each p holds
+
+-- ---- a box by its least and greatest coordinates
+
+abbrev pub from_to : ℤ → ℤ → Sides
+from_to least greatest = record { least = Some least; greatest = Some greatest }
+
+pub among_x : (least greatest p : Point) → is_among least greatest p ≡ true → is_between (from_to least.x greatest.x) p.x ≡ true
+among_x least greatest p among =
+    let first = and_parts (int_le least.x p.x && int_le p.x greatest.x && int_le least.y p.y) (int_le p.y greatest.y) among in
+    (and_parts (int_le least.x p.x && int_le p.x greatest.x) (int_le least.y p.y) first.0).0
+
+pub among_y : (least greatest p : Point) → is_among least greatest p ≡ true → is_between (from_to least.y greatest.y) p.y ≡ true
+among_y least greatest p among =
+    let first = and_parts (int_le least.x p.x && int_le p.x greatest.x && int_le least.y p.y) (int_le p.y greatest.y) among in
+    and_from (int_le least.y p.y) (int_le p.y greatest.y) (and_parts (int_le least.x p.x && int_le p.x greatest.x) (int_le least.y p.y) first.0).1 first.1
+
+-- where nothing is off, what is possibly inside is inside
+pub sides_exactly : ((points : List Point) (p : Point) → is_inside_by (pos 0) points p ≡ is_inside points p) → (error : ℕ) → error ≡ 0 → (points : List Point) (of : Point → ℤ) (sides : Sides) →
+    ((p : Point) → is_inside points p ≡ true → is_between sides (of p) ≡ true) → (p : Point) → is_inside_by (neg_ℤ (pos error)) points p ≡ true → is_between sides (of p) ≡ true
+sides_exactly law error none points of sides inside p holds =
+    inside p (sym (law points p) ∙ subst (λ (n : ℕ). is_inside_by (neg_ℤ (pos n)) points p ≡ true) none holds)
 
 -- ---- comparisons
 

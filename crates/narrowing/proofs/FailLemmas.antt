@@ -18,9 +18,11 @@ use Rattle.meaning.specs.Trace.{trace_of}
 use Rattle.object_store.specs.Areas.{AreNear}
 use Rattle.object_store.specs.declared.areas.Area.{Area}
 use Rattle.object_store.specs.Contents.{Contents, history_of, ids_in}
+use Rattle.relation.specs.Frames.{IsIn}
 use Rattle.relation.specs.Key.{has_id}
 use Rattle.narrowing.specs.Covering.{Covers}
-use Rattle.narrowing.specs.Needed.{AreNeeded, CannotHold, Fails, IsOfBoth, IsOfEither, lacks}
+use Rattle.narrowing.specs.declared.scene.Scene.{Scene}
+use Rattle.narrowing.specs.Needed.{AreNeeded, CannotHoldIn, Fails, IsOfBoth, IsOfEither, lacks, TellsPossible}
 use Rattle.worlds.specs.Blurred.{possibly_holds}
 
 abbrev goal : RAtom
@@ -91,39 +93,39 @@ module _ (law : FormulasNeed) (j : Interpretation) (lo e : ℕ) where
 
 -- ---- the ids that formulas need
 
-module _ (law : FormulasNeed) (error : ℕ) (s : Contents) (regions : List Region) (class v lo e : ℕ) where
+module _ (law : FormulasNeed) (a : Scene) (class v : ℕ) where
   abbrev NeededBy : ResolvedTree → List ℕ → Type 0
-  NeededBy f ids = AreNeeded error s regions class v lo e f ids
+  NeededBy f ids = AreNeeded a class v f ids
 
-  pub needed_by_part : (f g : ResolvedTree) (ids : List ℕ) → ((j : Interpretation) → Fails j lo e f → Fails j lo e g) → NeededBy f ids → NeededBy g ids
+  pub needed_by_part : (f g : ResolvedTree) (ids : List ℕ) → ((j : Interpretation) → Fails j a.w.lo a.w.hi f → Fails j a.w.lo a.w.hi g) → NeededBy f ids → NeededBy g ids
   needed_by_part f g ids leads are = record {
     ascending = are.ascending;
-    fails = λ b has lacks' j possible. leads j (are.fails b has lacks' j possible);
+    fails = λ b is_in has lacks' j possible. leads j (are.fails b is_in has lacks' j possible);
   }
 
   pub needed_next : (f : ResolvedTree) (ids : List ℕ) → NeededBy f ids → NeededBy (shapes.Next f) ids
-  needed_next f ids are = needed_by_part f (shapes.Next f) ids (λ j. fails_next law j lo e f) are
+  needed_next f ids are = needed_by_part f (shapes.Next f) ids (λ j. fails_next law j a.w.lo a.w.hi f) are
 
   pub needed_eventually : (f : ResolvedTree) (ids : List ℕ) → NeededBy f ids → NeededBy (shapes.Eventually f) ids
-  needed_eventually f ids are = needed_by_part f (shapes.Eventually f) ids (λ j. fails_eventually law j lo e f) are
+  needed_eventually f ids are = needed_by_part f (shapes.Eventually f) ids (λ j. fails_eventually law j a.w.lo a.w.hi f) are
 
   pub needed_always : (f : ResolvedTree) (ids : List ℕ) → NeededBy f ids → NeededBy (shapes.Always f) ids
-  needed_always f ids are = needed_by_part f (shapes.Always f) ids (λ j. fails_always law j lo e f) are
+  needed_always f ids are = needed_by_part f (shapes.Always f) ids (λ j. fails_always law j a.w.lo a.w.hi f) are
 
   pub needed_bounded : (form : BoundForm) (c : ℕ) (f : ResolvedTree) (ids : List ℕ) → NeededBy f ids → NeededBy (shapes.Bounded form c f) ids
-  needed_bounded form c f ids are = needed_by_part f (shapes.Bounded form c f) ids (λ j. fails_bounded law j lo e form c f) are
+  needed_bounded form c f ids are = needed_by_part f (shapes.Bounded form c f) ids (λ j. fails_bounded law j a.w.lo a.w.hi form c f) are
 
   pub needed_until : (form : UntilForm) (c : ℕ) (g f : ResolvedTree) (ids : List ℕ) → NeededBy f ids → NeededBy (shapes.Until form c g f) ids
-  needed_until form c g f ids are = needed_by_part f (shapes.Until form c g f) ids (λ j. fails_until law j lo e form c g f) are
+  needed_until form c g f ids are = needed_by_part f (shapes.Until form c g f) ids (λ j. fails_until law j a.w.lo a.w.hi form c g f) are
 
   pub needed_assign : (bound : ℕ × RTerm) (f : ResolvedTree) (ids : List ℕ) → NeededBy f ids → NeededBy (shapes.Assign bound f) ids
-  needed_assign bound f ids are = needed_by_part f (shapes.Assign bound f) ids (λ j. fails_assign law j lo e bound f) are
+  needed_assign bound f ids are = needed_by_part f (shapes.Assign bound f) ids (λ j. fails_assign law j a.w.lo a.w.hi bound f) are
 
   -- the ids of an optional list, told by a function of what holds them
   part_fails : {V : Type 0} (items : V → List ℕ) (f : ResolvedTree) (list : Option V) → IfSome list (λ ids. NeededBy f (items ids)) →
-      (b : ℕ → ℕ) → has_id (ids_in s.objects class) (b v) ≡ true → lacks (option_map items list) (b v) ≡ true → CannotHold error s regions b lo e f
-  part_fails items f None are b has lacking = absurd (false≢true lacking)
-  part_fails items f (Some ids) are b has lacking = are.fails b has (lacks_id (has_id (items ids) (b v)) lacking)
+      (b : ℕ → ℕ) → IsIn a.domains.now b → has_id (ids_in a.store.now.objects class) (b v) ≡ true → lacks (option_map items list) (b v) ≡ true → CannotHoldIn a b f
+  part_fails items f None are b is_in has lacking = absurd (false≢true lacking)
+  part_fails items f (Some ids) are b is_in has lacking = are.fails b is_in has (lacks_id (has_id (items ids) (b v)) lacking)
     where
       lacks_id : (b : Bool) → not b ≡ true → b ≡ false
       lacks_id true never = absurd (false≢true never)
@@ -134,10 +136,10 @@ module _ (law : FormulasNeed) (error : ℕ) (s : Contents) (regions : List Regio
       IsOfEither (option_map items left) (option_map items right) ids → NeededBy (shapes.And f g) ids
   needed_and items f g left right ids first second of = record {
     ascending = of.ascending;
-    fails = λ b has lacking j possible.
+    fails = λ b is_in has lacking j possible.
         elim (or_cases (lacks (option_map items left) (b v)) (lacks (option_map items right) (b v)) (of.lacking (b v) lacking)) [
-          | inl here ↦ fails_and_left law j lo e f g (part_fails items f left first b has here j possible)
-          | inr here ↦ fails_and_right law j lo e f g (part_fails items g right second b has here j possible)
+          | inl here ↦ fails_and_left law j a.w.lo a.w.hi f g (part_fails items f left first b is_in has here j possible)
+          | inr here ↦ fails_and_right law j a.w.lo a.w.hi f g (part_fails items g right second b is_in has here j possible)
         ];
   }
 
@@ -146,15 +148,15 @@ module _ (law : FormulasNeed) (error : ℕ) (s : Contents) (regions : List Regio
       IsOfBoth (option_map items left) (option_map items right) ids → NeededBy (shapes.Or f g) ids
   needed_or items f g left right ids first second of = record {
     ascending = of.ascending;
-    fails = λ b has lacking j possible.
+    fails = λ b is_in has lacking j possible.
         let both = and_parts (lacks (option_map items left) (b v)) (lacks (option_map items right) (b v)) (of.lacking (b v) lacking) in
-        fails_or law j lo e f g (part_fails items f left first b has both.0 j possible) (part_fails items g right second b has both.1 j possible);
+        fails_or law j a.w.lo a.w.hi f g (part_fails items f left first b is_in has both.0 j possible) (part_fails items g right second b is_in has both.1 j possible);
   }
 
   pub needed_false : NeededBy (shapes.Truth false) []
   needed_false = record {
     ascending = λ k short. absurd (omega (arith, short));
-    fails = λ b has lacking j possible x t from to. refl;
+    fails = λ b is_in has lacking j possible x t from to. refl;
   }
 
   -- ---- the same of ids that may not be known
@@ -174,37 +176,43 @@ module _ (law : FormulasNeed) (error : ℕ) (s : Contents) (regions : List Regio
   found_or items f g left right (Some ids) first second of = needed_or items f g left right (items ids) first second of
 
   -- a part's ids, for a formula that leads to the part
-  pub found_part : {V : Type 0} (items : V → List ℕ) (f g : ResolvedTree) (found : Option V) → ((j : Interpretation) → Fails j lo e f → Fails j lo e g) →
+  pub found_part : {V : Type 0} (items : V → List ℕ) (f g : ResolvedTree) (found : Option V) → ((j : Interpretation) → Fails j a.w.lo a.w.hi f → Fails j a.w.lo a.w.hi g) →
       IfSome found (λ ids. NeededBy f (items ids)) → IfSome found (λ ids. NeededBy g (items ids))
   found_part items f g None leads are = tt
   found_part items f g (Some ids) leads are = needed_by_part f g (items ids) leads are
 
   pub ok_part : {V E : Type 0} (items : V → List ℕ) (f g whole : ResolvedTree) (r : Result (Option V) E) → whole ≡ g →
-      ((j : Interpretation) → Fails j lo e f → Fails j lo e g) →
+      ((j : Interpretation) → Fails j a.w.lo a.w.hi f → Fails j a.w.lo a.w.hi g) →
       IfOk r (λ found. IfSome found (λ ids. NeededBy f (items ids))) → IfOk r (λ found. IfSome found (λ ids. NeededBy whole (items ids)))
   ok_part items f g whole (Err error) same leads are = are
   ok_part items f g whole (Ok found) same leads are =
       subst (λ (f : ResolvedTree). IfSome found (λ ids. NeededBy f (items ids))) (sym same) (found_part items f g found leads are)
 
   pub found_truth : {V : Type 0} (items : V → List ℕ) (holds : Bool) (whole : ResolvedTree) (found : Option V) → whole ≡ shapes.Truth holds →
-      IfSome found (λ ids. (error : ℕ) (s : Contents) (regions : List Region) (class v lo hi : ℕ) → AreNeeded error s regions class v lo hi (shapes.Truth holds) (items ids)) →
+      IfSome found (λ ids. (a : Scene) (class v : ℕ) → AreNeeded a class v (shapes.Truth holds) (items ids)) →
       IfSome found (λ ids. NeededBy whole (items ids))
   found_truth items holds whole None same are = tt
-  found_truth items holds whole (Some ids) same are = subst (λ (f : ResolvedTree). NeededBy f (items ids)) (sym same) (are error s regions class v lo e)
+  found_truth items holds whole (Some ids) same are = subst (λ (f : ResolvedTree). NeededBy f (items ids)) (sym same) (are a class v)
 
 -- ---- atoms
 
-module _ (error : ℕ) (s : Contents) (regions : List Region) (class v lo e : ℕ) where
-  needed_atom : (a : RAtom) (area : Area) (ids : List ℕ) → Covers error regions v a area → AreNear s class area lo e ids →
-      AreNeeded error s regions class v lo e (shapes.Atom a) ids
+-- what is told holds of an atom nowhere where it isn't possible
+pub not_possible : (error : ℕ) (s : Contents) (regions : List Region) (b : ℕ → ℕ) (a : RAtom) (j : Interpretation) (x : Env) (t : ℕ) →
+    TellsPossible error s regions b j → possibly_holds error regions (trace_of (history_of s) b) b a x t ≡ false → j.atom a x t ≡ false
+not_possible error s regions b a j x t possible never =
+    false_from_ne_true (j.atom a x t) (λ holds. both_ways (possibly_holds error regions (trace_of (history_of s) b) b a x t) never (possible a x t holds))
+
+module _ (scene : Scene) (class v : ℕ) where
+  needed_atom : (a : RAtom) (area : Area) (ids : List ℕ) → Covers scene.error scene.regions.now v a area → AreNear scene.store.now class area scene.w.lo scene.w.hi ids →
+      AreNeeded scene class v (shapes.Atom a) ids
   needed_atom a area ids covers near = record {
     ascending = near.ascending;
-    fails = λ b has lacking j possible x t from to.
-        let never = covers (trace_of (history_of s) b) b x t (near.missed (b v) has lacking t from to) in
-        false_from_ne_true (j.atom a x t) (λ holds. both_ways (possibly_holds error regions (trace_of (history_of s) b) b a x t) never (possible a x t holds));
+    fails = λ b is_in has lacking j possible x t from to.
+        not_possible scene.error scene.store.now scene.regions.now b a j x t possible
+        (covers (trace_of (history_of scene.store.now) b) b x t (near.missed (b v) has lacking t from to));
   }
 
-  pub found_atom : {V : Type 0} (items : V → List ℕ) (a : RAtom) (area : Area) (found : Option V) → Covers error regions v a area →
-      IfSome found (λ ids. AreNear s class area lo e (items ids)) → IfSome found (λ ids. AreNeeded error s regions class v lo e (shapes.Atom a) (items ids))
+  pub found_atom : {V : Type 0} (items : V → List ℕ) (a : RAtom) (area : Area) (found : Option V) → Covers scene.error scene.regions.now v a area →
+      IfSome found (λ ids. AreNear scene.store.now class area scene.w.lo scene.w.hi (items ids)) → IfSome found (λ ids. AreNeeded scene class v (shapes.Atom a) (items ids))
   found_atom items a area None covers near = tt
   found_atom items a area (Some ids) covers near = needed_atom a area (items ids) covers near

@@ -95,7 +95,7 @@ has-permutation ids others id same = list_any-IsPermutation (λ (i : ℕ). i == 
 
 -- ---- ascending ids of another list are no more than it has
 
-rest_increases : (x : ℕ) (ids : List ℕ) → IsStrictlyIncreasing (x ∷ ids) → IsStrictlyIncreasing ids
+pub rest_increases : (x : ℕ) (ids : List ℕ) → IsStrictlyIncreasing (x ∷ ids) → IsStrictlyIncreasing ids
 rest_increases x ids up k within =
     subst (λ (m : ℕ). get_or ids k 0 < get_or (x ∷ ids) m 0) (let e : suc k + 1 ≡ suc (k + 1) = omega arith in e) (up (suc k) (omega (arith, within)))
 

@@ -1,20 +1,24 @@
 -- Some of the objects of each variable, one variable after the other.
-use Rattle.std.proofs.Common.{◌≡◌, ℕ, zero, suc, ◌<◌, ◌≤◌, Bool, true, false, not, ◌&&◌, ◌||◌, Option, None, Some, Result, Ok, Err, List, [], ◌∷◌, ◌++◌, length, refl, sym, ap, ◌∙◌, subst, inl, inr, arith, length-append}
+use Rattle.std.proofs.Common.{◌≡◌, ℕ, zero, suc, ◌+◌, ◌<◌, ◌≤◌, Bool, true, false, not, ◌&&◌, ◌||◌, Option, None, Some, Result, Ok, Err, List, [], ◌∷◌, ◌++◌, length, get_or, refl, sym, ap, ◌∙◌, subst, inl, inr, arith, append-nil, length-append}
 use Rattle.std.specs.Prelude.{IfOk, IfSome, option_map, slice_index}
 use Rattle.std.specs.List.{filter}
 use Rattle.std.specs.List.Sorted.{IsStrictlyIncreasing}
 use Rattle.std.proofs.lemmas.Bool.{false≢true, and_parts, cases_Bool, cases_lt, both_ways}
 use Rattle.std.proofs.lemmas.List.Kept.{IsStrictlyIncreasing-filter}
 use Rattle.geometry.specs.Region.{Region}
-use Rattle.formula_shape.specs.Shape as shapes
 use Rattle.formula.specs.Tree.{ResolvedQuery}
-use Rattle.object_store.specs.Contents.{Contents, history_of, ids_in}
+use Rattle.object_store.specs.Contents.{Contents, ids_in}
+use Rattle.object_store.specs.Searching.{AreFrom, IsSearched}
+use Rattle.object_store.proofs.AreaLemmas.{increasing}
 use Rattle.object_store.proofs.IdLemmas.{ids-told}
 use Rattle.relation.specs.Key.{has_id, ids_of}
+use Rattle.narrowing.specs.declared.scene.Scene.{Scene}
+use Rattle.narrowing.specs.Holding.{FailsWith}
 use Rattle.narrowing.specs.Narrowed.{AreOfClasses, IsShare, Suffice, SufficeSoFar, SufficeWithin}
-use Rattle.narrowing.specs.Needed.{AreNeeded, IsOfEither, TellsPossible, told}
+use Rattle.narrowing.specs.Needed.{AreNeeded, IsOfEither}
 use Rattle.worlds.specs.Between.{LiesBetween}
-use Rattle.narrowing.proofs.ListLemmas.{has-filter, no_more}
+use Rattle.narrowing.proofs.HoldingLemmas.{fails_exactly}
+use Rattle.narrowing.proofs.ListLemmas.{has-filter, no_more, rest_increases}
 
 -- ---- one variable
 
@@ -22,12 +26,13 @@ not_both : (b c : Bool) → c ≡ true → (b && c) ≡ false → b ≡ false
 not_both true c is fails = absurd (both_ways c fails is)
 not_both false c is fails = refl
 
-module _ (error : ℕ) (s : Contents) (regions : List Region) (q : ResolvedQuery) (lo e : ℕ) where
+module _ (a : Scene) (q : ResolvedQuery) where
   -- those of its own that the formula needs
-  pub share_of_needed : (v class : ℕ) (own ids : List ℕ) → IsStrictlyIncreasing own → AreNeeded error s regions class v lo e q.formula ids →
-      ((id : ℕ) → has_id own id ≡ true → has_id (ids_in s.objects class) id ≡ true) →
-      IsShare error s regions q lo e v own (filter (has_id own) ids)
-  share_of_needed v class own ids rise needed of_class =
+  pub share_of_needed : (v class : ℕ) (ids : List ℕ) → v < length a.domains.now → IsStrictlyIncreasing (ids_of a.domains.now v) → AreNeeded a class v q.formula ids →
+      ((id : ℕ) → has_id (ids_of a.domains.now v) id ≡ true → has_id (ids_in a.store.now.objects class) id ≡ true) →
+      IsShare a q v (filter (has_id (ids_of a.domains.now v)) ids)
+  share_of_needed v class ids within rise needed of_class =
+      let own : List ℕ = ids_of a.domains.now v in
       let up : IsStrictlyIncreasing (filter (has_id own) ids) = IsStrictlyIncreasing-filter (has_id own) ids needed.ascending in
       let among : (id : ℕ) → has_id (filter (has_id own) ids) id ≡ true → has_id own id ≡ true =
       λ id has. (and_parts (has_id ids id) (has_id own id) (sym (has-filter (has_id own) ids id) ∙ has)).1 in
@@ -35,18 +40,33 @@ module _ (error : ℕ) (s : Contents) (regions : List Region) (q : ResolvedQuery
         ascending = up;
         among = among;
         fewer = no_more (filter (has_id own) ids) own up rise among;
-        sound = λ b has lacking.
-            needed.fails b (of_class (b v) has)
-            (not_both (has_id ids (b v)) (has_id own (b v)) has (sym (has-filter (has_id own) ids (b v)) ∙ lacking));
+        sound = λ b is_in lacking.
+            needed.fails b is_in (of_class (b v) (is_in v within))
+            (not_both (has_id ids (b v)) (has_id own (b v)) (is_in v within) (sym (has-filter (has_id own) ids (b v)) ∙ lacking));
+      }
+
+  -- those that weren't lost, of few that were looked at
+  pub share_of_few : (v : ℕ) (ids : List ℕ) → v < length a.domains.now → IsStrictlyIncreasing (ids_of a.domains.now v) →
+      IsSearched (FailsWith a v q.formula) (ids_of a.domains.now v) ids [] → IsShare a q v ids
+  share_of_few v ids within rise searched =
+      let same : ids ++ [] ≡ ids = append-nil ids in
+      let up : IsStrictlyIncreasing ids = increasing 0 ids (subst (AreFrom 0) same searched.ascending) in
+      let among : (id : ℕ) → has_id ids id ≡ true → has_id (ids_of a.domains.now v) id ≡ true =
+      λ id has. searched.among id (ap (λ all. has_id all id) same ∙ has) in
+      record {
+        ascending = up;
+        among = among;
+        fewer = no_more ids (ids_of a.domains.now v) up rise among;
+        sound = λ b is_in lacking. searched.lost (b v) (is_in v within) (ap (λ all. has_id all (b v)) same ∙ lacking) b is_in refl;
       }
 
   -- all of its own
-  pub whole_share : (v : ℕ) (own : List ℕ) → IsStrictlyIncreasing own → IsShare error s regions q lo e v own own
-  whole_share v own up = record {
+  pub whole_share : (v : ℕ) → v < length a.domains.now → IsStrictlyIncreasing (ids_of a.domains.now v) → IsShare a q v (ids_of a.domains.now v)
+  whole_share v within up = record {
     ascending = up;
     among = λ id has. has;
     fewer = omega arith;
-    sound = λ b has lacking. absurd (both_ways (has_id own (b v)) lacking has);
+    sound = λ b is_in lacking. absurd (both_ways (has_id (ids_of a.domains.now v) (b v)) lacking (is_in v within));
   }
 
   -- ---- one variable more
@@ -71,24 +91,24 @@ module _ (error : ℕ) (s : Contents) (regions : List Region) (q : ResolvedQuery
             subst (λ (v : ℕ). P v (ids_of (some ++ ids ∷ []) v)) (sym same) (subst (P (length some)) (sym (at_end some ids)) next)
       ]
 
-  pub more_suffice : (domains some : List (List ℕ)) (ids : List ℕ) → SufficeSoFar error s regions q lo e domains some → length some < length domains →
-      IsShare error s regions q lo e (length some) (ids_of domains (length some)) ids → SufficeSoFar error s regions q lo e domains (some ++ ids ∷ [])
-  more_suffice domains some ids so_far within share = record {
+  pub more_suffice : (some : List (List ℕ)) (ids : List ℕ) → SufficeSoFar a q some → length some < length a.domains.now →
+      IsShare a q (length some) ids → SufficeSoFar a q (some ++ ids ∷ [])
+  more_suffice some ids so_far within share = record {
     upto = omega (arith, within, length-append some (ids ∷ []));
-    among = each_so_far (λ v own. (id : ℕ) → has_id own id ≡ true → has_id (ids_of domains v) id ≡ true) some ids so_far.among share.among;
-    fewer = each_so_far (λ v own. length own ≤ length (ids_of domains v)) some ids so_far.fewer share.fewer;
+    among = each_so_far (λ v own. (id : ℕ) → has_id own id ≡ true → has_id (ids_of a.domains.now v) id ≡ true) some ids so_far.among share.among;
+    fewer = each_so_far (λ v own. length own ≤ length (ids_of a.domains.now v)) some ids so_far.fewer share.fewer;
     sound = λ b is_in.
         elim (so_far.sound b is_in) [
           | inr fails ↦ inr fails
           | inl before ↦ elim (cases_Bool (has_id ids (b (length some)))) [
             | inl has ↦ inl (each_so_far (λ v own. has_id own (b v) ≡ true) some ids before has)
-            | inr lacking ↦ inr (share.sound b (is_in (length some) within) lacking)
+            | inr lacking ↦ inr (share.sound b is_in lacking)
           ]
         ];
   }
 
-  pub none_suffice : (domains : List (List ℕ)) → SufficeSoFar error s regions q lo e domains []
-  none_suffice domains = record {
+  pub none_suffice : SufficeSoFar a q []
+  none_suffice = record {
     upto = omega arith;
     among = λ v within. absurd (omega (arith, within));
     fewer = λ v within. absurd (omega (arith, within));
@@ -102,9 +122,9 @@ module _ (error : ℕ) (s : Contents) (regions : List Region) (q : ResolvedQuery
   past_end (x ∷ some) zero past = absurd (omega (arith, past))
   past_end (x ∷ some) (suc v) past = past_end some v (omega (arith, past))
 
-  pub all_suffice : (domains some : List (List ℕ)) → length some ≡ length domains → SufficeSoFar error s regions q lo e domains some →
-      SufficeWithin error s regions q lo e domains some
-  all_suffice domains some many so_far = record {
+  pub all_suffice : (some : List (List ℕ)) → length some ≡ length a.domains.now → SufficeSoFar a q some →
+      SufficeWithin a.error a.store.now a.regions.now q a.w.lo a.w.hi a.domains.now some
+  all_suffice some many so_far = record {
     wider = record {
       many = sym many;
       all = λ v id has.
@@ -121,11 +141,6 @@ module _ (error : ℕ) (s : Contents) (regions : List Region) (q : ResolvedQuery
     sound = so_far.sound;
   }
 
--- what is told where nothing is off is possible
-pub exact_possible : LiesBetween → (s : Contents) (regions : List Region) (b : ℕ → ℕ) → TellsPossible 0 s regions b (told s regions b)
-exact_possible law s regions b a x t holds =
-    law.possibly 0 (shapes.Atom a) refl (record { history = history_of s; regions = regions }) b x t t holds
-
 pub exact_suffice : LiesBetween → (s : Contents) (regions : List Region) (q : ResolvedQuery) (lo e : ℕ) (domains some : List (List ℕ)) →
     SufficeWithin 0 s regions q lo e domains some → Suffice s regions q lo e domains some
 exact_suffice law s regions q lo e domains some within = record {
@@ -134,7 +149,7 @@ exact_suffice law s regions q lo e domains some within = record {
   sound = λ b is_in.
       elim (within.sound b is_in) [
         | inl here ↦ inl here
-        | inr fails ↦ inr (fails (told s regions b) (exact_possible law s regions b))
+        | inr fails ↦ inr (fails_exactly law s regions lo e q.formula b fails)
       ];
 }
 
@@ -169,11 +184,16 @@ of_common {V} items left right l r ids first second up are =
           either_lacks (has_id (items l) id) (has_id (items r) id) (sym (has-filter (has_id (items r)) (items l) id) ∙ lacking);
     })))
 
+-- the first of ascending ids and what follows
+pub from_increasing : (low : ℕ) (ids : List ℕ) → IsStrictlyIncreasing ids → (0 < length ids → low ≤ get_or ids 0 0) → AreFrom low ids
+from_increasing low [] up first = tt
+from_increasing low (x ∷ ids) up first =
+    (first (omega arith), from_increasing (x + 1) ids (rest_increases x ids up) (λ some. let next : x < get_or ids 0 0 = up 0 (omega (arith, some)) in omega (arith, next)))
+
 -- the next variable's ids are added
-pub next_suffice : (error : ℕ) (s : Contents) (regions : List Region) (q : ResolvedQuery) (lo e : ℕ) (domains some new : List (List ℕ)) (v : ℕ) (ids pushed : List ℕ) →
-    v ≡ length some → v < length domains → SufficeSoFar error s regions q lo e domains some → IsShare error s regions q lo e v (ids_of domains v) ids →
-    pushed ≡ ids → new ≡ some ++ pushed ∷ [] → SufficeSoFar error s regions q lo e domains new
-next_suffice error s regions q lo e domains some new v ids pushed next within so_far share same pushes =
-    subst (SufficeSoFar error s regions q lo e domains) (sym (pushes ∙ ap (λ (ids : List ℕ). some ++ ids ∷ []) same))
-    (more_suffice error s regions q lo e domains some ids so_far (omega (arith, next, within))
-    (subst (λ (v : ℕ). IsShare error s regions q lo e v (ids_of domains v) ids) next share))
+pub next_suffice : (a : Scene) (q : ResolvedQuery) (some new : List (List ℕ)) (v : ℕ) (ids pushed : List ℕ) →
+    v ≡ length some → v < length a.domains.now → SufficeSoFar a q some → IsShare a q v ids →
+    pushed ≡ ids → new ≡ some ++ pushed ∷ [] → SufficeSoFar a q new
+next_suffice a q some new v ids pushed next within so_far share same pushes =
+    subst (SufficeSoFar a q) (sym (pushes ∙ ap (λ (ids : List ℕ). some ++ ids ∷ []) same))
+    (more_suffice a q some ids so_far (omega (arith, next, within)) (subst (λ (v : ℕ). IsShare a q v ids) next share))

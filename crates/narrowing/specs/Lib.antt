@@ -1,5 +1,7 @@
 pub mod Terms
 pub mod Covering
 pub mod Needed
+pub mod Holding
+pub mod Beside
 pub mod Narrowed
 pub mod Reaching

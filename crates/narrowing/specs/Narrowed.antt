@@ -7,7 +7,8 @@ use Rattle.formula.specs.Tree.{ResolvedQuery}
 use Rattle.object_store.specs.Contents.{Contents, catalog_of}
 use Rattle.relation.specs.Frames.{IsIn, IsWider, size_of}
 use Rattle.relation.specs.Key.{has_id, ids_of}
-use Rattle.narrowing.specs.Needed.{CannotHold, Fails, told}
+use Rattle.narrowing.specs.declared.scene.Scene.{Scene}
+use Rattle.narrowing.specs.Needed.{CannotHold, CannotHoldIn, Fails, told}
 
 -- a list of objects for each variable of a query, each of the variable's class
 pub record AreOfClasses (s : Contents) (q : ResolvedQuery) (domains : List (List ℕ)) : Type 0 where
@@ -28,16 +29,16 @@ pub record SufficeWithin (error : ℕ) (s : Contents) (regions : List Region) (q
   pub fewer : (v : ℕ) → size_of some v ≤ size_of domains v
   pub sound : (b : ℕ → ℕ) → IsIn domains b → IsIn some b ⊎ CannotHold error s regions b lo e q.formula
 
--- Some of a variable's own ids, ascending: with another one of these the formula holds at no tick of lo to e.
-pub record IsShare (error : ℕ) (s : Contents) (regions : List Region) (q : ResolvedQuery) (lo e v : ℕ) (own ids : List ℕ) : Type 0 where
+-- Some ids of a variable's domain, ascending: with another one of these the formula cannot hold.
+pub record IsShare (a : Scene) (q : ResolvedQuery) (v : ℕ) (ids : List ℕ) : Type 0 where
   pub ascending : IsStrictlyIncreasing ids
-  pub among : (id : ℕ) → has_id ids id ≡ true → has_id own id ≡ true
-  pub fewer : length ids ≤ length own
-  pub sound : (b : ℕ → ℕ) → has_id own (b v) ≡ true → has_id ids (b v) ≡ false → CannotHold error s regions b lo e q.formula
+  pub among : (id : ℕ) → has_id ids id ≡ true → has_id (ids_of a.domains.now v) id ≡ true
+  pub fewer : length ids ≤ size_of a.domains.now v
+  pub sound : (b : ℕ → ℕ) → IsIn a.domains.now b → has_id ids (b v) ≡ false → CannotHoldIn a b q.formula
 
 -- the same of the first variables as `SufficeWithin` says of all
-pub record SufficeSoFar (error : ℕ) (s : Contents) (regions : List Region) (q : ResolvedQuery) (lo e : ℕ) (domains some : List (List ℕ)) : Type 0 where
-  pub upto : length some ≤ length domains
-  pub among : (v : ℕ) → v < length some → (id : ℕ) → has_id (ids_of some v) id ≡ true → has_id (ids_of domains v) id ≡ true
-  pub fewer : (v : ℕ) → v < length some → size_of some v ≤ size_of domains v
-  pub sound : (b : ℕ → ℕ) → IsIn domains b → IsIn some b ⊎ CannotHold error s regions b lo e q.formula
+pub record SufficeSoFar (a : Scene) (q : ResolvedQuery) (some : List (List ℕ)) : Type 0 where
+  pub upto : length some ≤ length a.domains.now
+  pub among : (v : ℕ) → v < length some → (id : ℕ) → has_id (ids_of some v) id ≡ true → has_id (ids_of a.domains.now v) id ≡ true
+  pub fewer : (v : ℕ) → v < length some → size_of some v ≤ size_of a.domains.now v
+  pub sound : (b : ℕ → ℕ) → IsIn a.domains.now b → IsIn some b ⊎ CannotHoldIn a b q.formula

@@ -8,8 +8,10 @@ use Rattle.formula.specs.Tree.{ResolvedTree}
 use Rattle.meaning.specs.Satisfaction.{Interpretation, plain, sat}
 use Rattle.meaning.specs.Trace.{trace_of}
 use Rattle.object_store.specs.Contents.{Contents, history_of, ids_in}
+use Rattle.relation.specs.Frames.{IsIn}
 use Rattle.relation.specs.Key.{has_id}
 use Rattle.worlds.specs.Blurred.{possibly_holds}
+use Rattle.narrowing.specs.declared.scene.Scene.{Scene}
 
 -- whatever values are bound, the formula holds at no tick of lo to e, after which nothing counts
 abbrev pub Fails : Interpretation → ℕ → ℕ → ResolvedTree → Type 0
@@ -28,10 +30,16 @@ TellsPossible error s regions b j =
 abbrev pub CannotHold : ℕ → Contents → List Region → (ℕ → ℕ) → ℕ → ℕ → ResolvedTree → Type 0
 CannotHold error s regions b lo e f = (j : Interpretation) → TellsPossible error s regions b j → Fails j lo e f
 
--- Ids, ascending. Where a variable has another object of the class, the formula holds at no tick of lo to e.
-pub record AreNeeded (error : ℕ) (s : Contents) (regions : List Region) (class v lo e : ℕ) (f : ResolvedTree) (ids : List ℕ) : Type 0 where
+-- whatever is told so of a scene, the formula holds at no tick of its window
+abbrev pub CannotHoldIn : Scene → (ℕ → ℕ) → ResolvedTree → Type 0
+CannotHoldIn a b f = CannotHold a.error a.store.now a.regions.now b a.w.lo a.w.hi f
+
+-- Ids, ascending. Where a variable has another object of the class, and each one an object of its domain, the formula
+-- cannot hold.
+pub record AreNeeded (a : Scene) (class v : ℕ) (f : ResolvedTree) (ids : List ℕ) : Type 0 where
   pub ascending : IsStrictlyIncreasing ids
-  pub fails : (b : ℕ → ℕ) → has_id (ids_in s.objects class) (b v) ≡ true → has_id ids (b v) ≡ false → CannotHold error s regions b lo e f
+  pub fails : (b : ℕ → ℕ) → IsIn a.domains.now b → has_id (ids_in a.store.now.objects class) (b v) ≡ true → has_id ids (b v) ≡ false
+      → CannotHoldIn a b f
 
 -- whether a list, if there is one, doesn't have an id
 abbrev pub lacks : Option (List ℕ) → ℕ → Bool

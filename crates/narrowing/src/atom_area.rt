@@ -2,6 +2,7 @@
 ghost use Rattle.std.specs.Prelude.{◌≡◌, ℕ, ℤ, pos, neg_ℤ, true, List, IfSome, None, Some, option_map};
 ghost use Rattle.fixed_point.specs.declared.number.Point.{Point};
 ghost use Rattle.geometry.specs.Margin.{is_inside_by};
+ghost use Rattle.geometry.specs.Polygon.{is_inside};
 ghost use Rattle.geometry.specs.Region.{Region};
 ghost use Rattle.case_table.specs.Comparison.{compares};
 ghost use Rattle.formula.specs.declared.tree.RAtom.TheVariants as atoms;
@@ -14,7 +15,7 @@ use case_table::Op;
 use fixed_point::Fix;
 use formula::{RAtom, RTerm};
 use object_store::{Area, Sides};
-use polygon::{Polygon, Regions, corners_stand_together};
+use polygon::{Polygon, Regions, corners_stand_together, polygons_lie_among_their_vertices};
 
 /// An area in which the object of a variable is wherever an atom is possible, where each position may be off by the error.
 /// None where none is known.
@@ -42,8 +43,37 @@ fn area_of_region(v: u8, n: u32, var: u8, regions: &Regions, error: u32) -> Opti
     Some(area_round(polygon, error))
 }
 
-/// The box of the places that are possibly in a polygon. It is wider than the error alone where a corner is sharp.
+/// The box of the places that are possibly in a polygon.
 fn area_round(polygon: &Polygon, error: u32) -> Area
+    ensures x { (p : Point) → is_inside_by (neg_ℤ (pos error)) polygon.now p ≡ true → is_between result.x p.x ≡ true }
+    ensures y { (p : Point) → is_inside_by (neg_ℤ (pos error)) polygon.now p ≡ true → is_between result.y p.y ≡ true }
+{
+    corners_stand_together();
+    if error == 0 {
+        area_of_polygon(polygon)
+    } else {
+        area_reached(polygon, error)
+    }
+}
+
+/// The box of the places in a polygon, which is kept with it.
+fn area_of_polygon(polygon: &Polygon) -> Area
+    ensures x { (p : Point) → is_inside polygon.now p ≡ true → is_between result.x p.x ≡ true }
+    ensures y { (p : Point) → is_inside polygon.now p ≡ true → is_between result.y p.y ≡ true }
+{
+    polygons_lie_among_their_vertices();
+    // A polygon is convex.
+    let _ = polygon.len();
+    let (least, greatest) = polygon.bounds();
+    Area {
+        x: sides_from(least.x, greatest.x),
+        y: sides_from(least.y, greatest.y),
+    }
+}
+
+/// The box of the places that are possibly in a polygon, by its edges. It is wider than the error alone where a corner is
+/// sharp.
+fn area_reached(polygon: &Polygon, error: u32) -> Area
     ensures x { (p : Point) → is_inside_by (neg_ℤ (pos error)) polygon.now p ≡ true → is_between result.x p.x ≡ true }
     ensures y { (p : Point) → is_inside_by (neg_ℤ (pos error)) polygon.now p ≡ true → is_between result.y p.y ≡ true }
 {

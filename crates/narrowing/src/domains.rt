@@ -1,11 +1,13 @@
 //! The objects that suffice for a query.
-ghost use Rattle.std.specs.Prelude.{◌≡◌, ◌<◌, ◌≤◌, ◌+◌, [], Some, length, slice_index_or, IfOk, IfSome, OnOk};
+ghost use Rattle.std.specs.Prelude.{◌≡◌, ◌<◌, ◌≤◌, ◌+◌, length, IfOk, IfSome, OnOk};
 ghost use Rattle.formula_shape.specs.declared.limits.TheConstants.{OBJECT_LIMIT};
 ghost use Rattle.formula.specs.Tree.{query_view};
 ghost use Rattle.narrowing.specs.Narrowed.{AreOfClasses, IsShare, Suffice, SufficeSoFar, SufficeWithin};
 
-use crate::lists::common;
+use crate::holding::{FEW, those_to_hold};
+use crate::lists::{common, if_at_most};
 use crate::needed::needed;
+use crate::scene::Scene;
 use formula::RQuery;
 use object_store::Store;
 use polygon::Regions;
@@ -13,9 +15,6 @@ use relation::Domains;
 use std::alloc::{AllocError, Global};
 use tick_set::Window;
 use worlds::worlds_lie_between;
-
-/// So few objects are asked as soon as others are told apart.
-const FEW: usize = 32;
 
 /// Some of the objects of domains: with another one of them for some variable the formula of the query holds at no
 /// tick of the window, after whose last tick nothing counts. None where as little as all of them are known. No timeline
@@ -51,11 +50,18 @@ pub fn narrowed_within(
     ensures { IfOk result (λ found.
         IfSome found (λ some. SufficeWithin error store.now regions.now (query_view q.now) w.lo w.hi domains.now some)) }
 {
+    let scene = Scene {
+        domains,
+        store,
+        regions,
+        error,
+        w,
+    };
     let mut some = Domains::new(alloc);
     let mut are_fewer = false;
     let count = domains.len() as u8;
     'vars: for _var in 0..count {
-        let is_narrowed = push_share(alloc, &mut some, q, domains, store, regions, error, w)?;
+        let is_narrowed = push_share(alloc, &mut some, q, &scene)?;
         are_fewer = are_fewer || is_narrowed;
     }
     if are_fewer { Ok(Some(some)) } else { Ok(None) }
@@ -66,28 +72,24 @@ fn push_share(
     alloc: Global,
     some: &mut Domains,
     q: &RQuery,
-    domains: &Domains,
-    store: &Store,
-    regions: &Regions,
-    error: u32,
-    w: Window,
+    scene: &Scene,
 ) -> Result<bool, AllocError>
-    requires classes { AreOfClasses store.now (query_view q.now) domains.now }
-    requires within { length some.old < length domains.now }
-    requires few { length domains.now ≤ OBJECT_LIMIT }
-    requires so_far { SufficeSoFar error store.now regions.now (query_view q.now) w.lo w.hi domains.now some.old }
+    requires classes { AreOfClasses scene.now.store.now (query_view q.now) scene.now.domains.now }
+    requires within { length some.old < length scene.now.domains.now }
+    requires few { length scene.now.domains.now ≤ OBJECT_LIMIT }
+    requires so_far { SufficeSoFar scene.now (query_view q.now) some.old }
     ensures count { OnOk result (length some.new ≡ length some.old + 1) }
-    ensures so_far { OnOk result (SufficeSoFar error store.now regions.now (query_view q.now) w.lo w.hi domains.now some.new) }
+    ensures so_far { OnOk result (SufficeSoFar scene.now (query_view q.now) some.new) }
 {
     let var = next_variable(some);
-    let share = share_of(alloc, var, q, domains, store, regions, error, w)?;
+    let share = share_of(alloc, var, q, scene)?;
     match share {
         Some(ids) => {
             some.push(alloc, &ids)?;
             Ok(true)
         }
         None => {
-            some.push(alloc, domains.of(var))?;
+            some.push(alloc, scene.domains.of(var))?;
             Ok(false)
         }
     }
@@ -101,28 +103,24 @@ fn next_variable(some: &Domains) -> u8
     some.len() as u8
 }
 
-/// What suffices of the objects of a variable. None where that isn't known or is most of them, or where there are few.
+/// What suffices of the objects of a variable. None where that isn't known or is most of them.
 fn share_of(
     alloc: Global,
     var: u8,
     q: &RQuery,
-    domains: &Domains,
-    store: &Store,
-    regions: &Regions,
-    error: u32,
-    w: Window,
+    scene: &Scene,
 ) -> Result<Option<Vec<u32>>, AllocError>
-    requires classes { AreOfClasses store.now (query_view q.now) domains.now }
-    requires within { var < length domains.now }
-    ensures { IfOk result (λ found. IfSome found (λ ids.
-        IsShare error store.now regions.now (query_view q.now) w.lo w.hi var (slice_index_or domains.now var []) ids.items)) }
+    requires classes { AreOfClasses scene.now.store.now (query_view q.now) scene.now.domains.now }
+    requires within { var < length scene.now.domains.now }
+    ensures { IfOk result (λ found. IfSome found (λ ids. IsShare scene.now (query_view q.now) var ids.items)) }
 {
-    let own = domains.of(var);
+    let own = scene.domains.of(var);
     if own.len() < FEW {
-        return Ok(None);
+        return share_of_few(alloc, var, q, scene);
     }
     let class = q.classes.items()[var as usize];
-    let found = needed(alloc, &q.formula, var, class, store, regions, error, w)?;
+    let found = needed(alloc, &q.formula, var, class, scene)?;
+    // Rows over most objects cost less made at once over all of them.
     match if_at_most(found, own.len() / 2) {
         Some(ids) => {
             let share = common(alloc, &ids, own)?;
@@ -132,12 +130,21 @@ fn share_of(
     }
 }
 
-/// The ids, where there are at most so many. Rows over most objects cost less made at once over all of them.
-fn if_at_most(found: Option<Vec<u32>>, most: usize) -> Option<Vec<u32>>
-    ensures { IfSome result (λ ids. found ≡ Some ids) }
+/// What suffices of the objects of a variable, by a look at each. None where it is all of them.
+fn share_of_few(
+    alloc: Global,
+    var: u8,
+    q: &RQuery,
+    scene: &Scene,
+) -> Result<Option<Vec<u32>>, AllocError>
+    requires within { var < length scene.now.domains.now }
+    ensures { IfOk result (λ found. IfSome found (λ ids. IsShare scene.now (query_view q.now) var ids.items)) }
 {
-    match found {
-        Some(ids) if ids.len() <= most => Some(ids),
-        _ => None,
+    let own = scene.domains.of(var);
+    let ids = those_to_hold(alloc, &q.formula, var, own, scene)?;
+    if ids.len() < own.len() {
+        Ok(Some(ids))
+    } else {
+        Ok(None)
     }
 }

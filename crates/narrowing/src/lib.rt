@@ -7,9 +7,13 @@
 
 mod atom_area;
 mod domains;
+mod holding;
 mod lists;
+mod nearby;
 mod needed;
 mod reaching;
+mod scene;
 mod terms;
 
 pub use domains::{narrowed, narrowed_within};
+pub use holding::{can_hold, can_hold_alone};

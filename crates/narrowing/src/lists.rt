@@ -1,5 +1,5 @@
 //! Ascending lists of ids.
-ghost use Rattle.std.specs.Prelude.{◌≡◌, ℕ, ◌||◌, ◌++◌, ◌∷◌, [], IfOk, OnOk};
+ghost use Rattle.std.specs.Prelude.{◌≡◌, ℕ, ◌||◌, ◌++◌, ◌∷◌, [], Some, IfOk, IfSome, OnOk};
 ghost use Rattle.std.specs.List.{filter};
 ghost use Rattle.std.specs.List.Sorted.{IsStrictlyIncreasing};
 ghost use Rattle.relation.specs.Key.{has_id};
@@ -44,7 +44,26 @@ pub(crate) fn merged(ids: Vec<u32>, others: &[u32]) -> Result<Vec<u32>, AllocErr
 {
     let mut all = ids;
     all.extend_from_slice(others)?;
+    Ok(in_order(all))
+}
+
+/// The same ids, ascending and each once.
+pub(crate) fn in_order(ids: Vec<u32>) -> Vec<u32>
+    ensures ascending { IsStrictlyIncreasing result.items }
+    ensures all { (id : ℕ) → has_id result.items id ≡ has_id ids.items id }
+{
+    let mut all = ids;
     all.sort_unstable();
     all.dedup();
-    Ok(all)
+    all
+}
+
+/// The ids, where there are at most so many.
+pub(crate) fn if_at_most(found: Option<Vec<u32>>, most: usize) -> Option<Vec<u32>>
+    ensures { IfSome result (λ ids. found ≡ Some ids) }
+{
+    match found {
+        Some(ids) if ids.len() <= most => Some(ids),
+        _ => None,
+    }
 }

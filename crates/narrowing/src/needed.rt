@@ -1,90 +1,101 @@
 //! The objects without which a formula holds nowhere.
-ghost use Rattle.std.specs.Prelude.{IfSome, IfOk, ℕ, List};
+ghost use Rattle.std.specs.Prelude.{IfSome, IfOk, ℕ};
 ghost use Rattle.std.specs.List.Sorted.{IsStrictlyIncreasing};
 ghost use Rattle.std.specs.Option.{option_map};
-ghost use Rattle.geometry.specs.Region.{Region};
 ghost use Rattle.formula_shape.specs.Shape as shapes;
 ghost use Rattle.formula.specs.Tree.{formula_view};
-ghost use Rattle.object_store.specs.Contents.{Contents};
+ghost use Rattle.formula.specs.declared.tree.RAtom.{RAtom};
+ghost use Rattle.narrowing.specs.Beside.{NeedsBeside};
+ghost use Rattle.narrowing.specs.declared.scene.Scene.{Scene};
 ghost use Rattle.narrowing.specs.Needed.{AreNeeded, IsOfBoth, IsOfEither};
 
 use crate::atom_area::area_of;
 use crate::lists::{common, merged};
+use crate::nearby::{Neighbour, few_of, neighbour_of, those_beside};
+use crate::scene::Scene;
 use formula::{RAtom, RFormula};
 use meaning::formulas_need_their_atoms;
-use object_store::{ClassId, Store};
-use polygon::Regions;
+use object_store::ClassId;
 use std::alloc::{AllocError, Global};
-use tick_set::Window;
 
-/// Ids, ascending. Where a variable has another object of the class, the formula holds at no tick of the window, after
-/// whose last tick nothing counts, though each position may be off by the error. None where no such ids are known.
+/// Ids, ascending. Where a variable has another object of the class, and each one an object of its domain, the formula
+/// holds at no tick of the window, though each position may be off by the error. None where no such ids are known.
 pub(crate) fn needed(
     alloc: Global,
     f: &RFormula,
     var: u8,
     class: ClassId,
-    store: &Store,
-    regions: &Regions,
-    error: u32,
-    w: Window,
+    scene: &Scene,
 ) -> Result<Option<Vec<u32>>, AllocError>
-    ensures { IfOk result (λ found.
-        IfSome found (λ ids. AreNeeded error store.now regions.now class var w.lo w.hi (formula_view f.now) ids.items)) }
+    ensures { IfOk result (λ found. IfSome found (λ ids. AreNeeded scene.now class var (formula_view f.now) ids.items)) }
 {
     formulas_need_their_atoms();
     match f {
         RFormula::Truth(holds) => Ok(needed_by_truth(alloc, *holds)),
-        RFormula::Atom(a) => needed_by_atom(alloc, a, var, class, store, regions, error, w),
+        RFormula::Atom(a) => needed_by_atom(alloc, a, var, class, scene),
         RFormula::Not(_) => Ok(None),
         RFormula::And(left, right) => {
-            let left = needed(alloc, left, var, class, store, regions, error, w)?;
-            let right = needed(alloc, right, var, class, store, regions, error, w)?;
+            let left = needed(alloc, left, var, class, scene)?;
+            let right = needed(alloc, right, var, class, scene)?;
             let ids = of_either(alloc, left, right)?;
             Ok(ids)
         }
         RFormula::Or(left, right) => {
-            let left = needed(alloc, left, var, class, store, regions, error, w)?;
-            let right = needed(alloc, right, var, class, store, regions, error, w)?;
+            let left = needed(alloc, left, var, class, scene)?;
+            let right = needed(alloc, right, var, class, scene)?;
             let ids = of_both(left, right)?;
             Ok(ids)
         }
-        RFormula::Next(part) => needed(alloc, part, var, class, store, regions, error, w),
-        RFormula::Eventually(part) => needed(alloc, part, var, class, store, regions, error, w),
-        RFormula::Always(part) => needed(alloc, part, var, class, store, regions, error, w),
-        RFormula::Bounded(_, _, part) => needed(alloc, part, var, class, store, regions, error, w),
-        RFormula::Until(_, _, _, goal) => needed(alloc, goal, var, class, store, regions, error, w),
-        RFormula::Assign(_, _, part) => needed(alloc, part, var, class, store, regions, error, w),
+        RFormula::Next(part) => needed(alloc, part, var, class, scene),
+        RFormula::Eventually(part) => needed(alloc, part, var, class, scene),
+        RFormula::Always(part) => needed(alloc, part, var, class, scene),
+        RFormula::Bounded(_, _, part) => needed(alloc, part, var, class, scene),
+        RFormula::Until(_, _, _, goal) => needed(alloc, goal, var, class, scene),
+        RFormula::Assign(_, _, part) => needed(alloc, part, var, class, scene),
     }
 }
 
 /// FALSE needs what isn't there.
 fn needed_by_truth(alloc: Global, holds: bool) -> Option<Vec<u32>>
-    ensures { IfSome result (λ ids. (error : ℕ) (s : Contents) (regions : List Region) (class v lo hi : ℕ)
-        → AreNeeded error s regions class v lo hi (shapes.Truth holds) ids.items) }
+    ensures { IfSome result (λ ids. (a : Scene) (class v : ℕ) → AreNeeded a class v (shapes.Truth holds) ids.items) }
 {
     if holds { None } else { Some(Vec::new(alloc)) }
 }
 
-/// The objects that can come into the area of an atom.
+/// The objects that can come into the area of an atom, or near to one of few others.
 fn needed_by_atom(
     alloc: Global,
     a: &RAtom,
     var: u8,
     class: ClassId,
-    store: &Store,
-    regions: &Regions,
-    error: u32,
-    w: Window,
+    scene: &Scene,
 ) -> Result<Option<Vec<u32>>, AllocError>
-    ensures { IfOk result (λ found.
-        IfSome found (λ ids. AreNeeded error store.now regions.now class var w.lo w.hi (shapes.Atom a.now) ids.items)) }
+    ensures { IfOk result (λ found. IfSome found (λ ids. AreNeeded scene.now class var (shapes.Atom a.now) ids.items)) }
 {
-    match area_of(a, var, regions, error) {
+    if let Some(neighbour) = neighbour_of(a, var, scene.error) {
+        return needed_beside(alloc, neighbour, class, scene);
+    }
+    match area_of(a, var, scene.regions, scene.error) {
         Some(area) => {
-            let found = store.near(alloc, class, &area, w)?;
+            let found = scene.store.near(alloc, class, &area, scene.w)?;
             Ok(found)
         }
+        None => Ok(None),
+    }
+}
+
+/// The objects that can come near to one of those of another variable, where these are few.
+fn needed_beside(
+    alloc: Global,
+    neighbour: Neighbour,
+    class: ClassId,
+    scene: &Scene,
+) -> Result<Option<Vec<u32>>, AllocError>
+    ensures { IfOk result (λ found. IfSome found (λ ids. (v : ℕ) (a : RAtom) → NeedsBeside scene.now.error v neighbour.var neighbour.most a
+        → AreNeeded scene.now class v (shapes.Atom a) ids.items)) }
+{
+    match few_of(neighbour.var, scene) {
+        Some(others) => those_beside(alloc, class, others, neighbour.most, scene),
         None => Ok(None),
     }
 }

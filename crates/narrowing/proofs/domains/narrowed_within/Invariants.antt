@@ -6,5 +6,5 @@ use Rattle.narrowing.proofs.domains.narrowed_within.Given as goal
 abbrev pub invariant-vars : goal.invariant-vars
 invariant-vars l = record {
   many : length l.some ≡ l._var;
-  so_far : SufficeSoFar l.error l.store l.regions (query_view l.q) l.w.lo l.w.hi l.domains l.some;
+  so_far : SufficeSoFar l.scene (query_view l.q) l.some;
 }

@@ -11,17 +11,17 @@ use Rattle.narrowing.proofs.domains.share_of.Goals as goal
 
 pub returns-in_ok-share-in-Some : goal.returns-in_ok-share-in-Some
 returns-in_ok-share-in-Some c =
-    let s = c.args.store.now in
+    let scene = c.args.scene.now in
     let q = query_view c.args.q.now in
-    let own : List ℕ = ids_of c.args.domains.now c.args.var in
+    let own : List ℕ = ids_of scene.domains.now c.args.var in
     let class : ℕ = slice_index q.classes c.args.var in
-    let needed : AreNeeded c.args.error s c.args.regions.now class c.args.var c.args.w.lo c.args.w.hi q.formula c.in-Some.ids.items =
-    subst (λ (classes : List ℕ). AreNeeded c.args.error s c.args.regions.now (slice_index classes c.args.var) c.args.var c.args.w.lo c.args.w.hi q.formula c.in-Some.ids.items) c.items.ensures
-    (subst (λ found. IfSome found (λ ids. AreNeeded c.args.error s c.args.regions.now (slice_index c.items.result.now c.args.var) c.args.var c.args.w.lo c.args.w.hi q.formula ids.items)) c.in-Some.ensures c.in_ok-found.ensures) in
+    let needed : AreNeeded scene class c.args.var q.formula c.in-Some.ids.items =
+    subst (λ (classes : List ℕ). AreNeeded scene (slice_index classes c.args.var) c.args.var q.formula c.in-Some.ids.items) c.items.ensures
+    (subst (λ found. IfSome found (λ ids. AreNeeded scene (slice_index c.items.result.now c.args.var) c.args.var q.formula ids.items)) c.in-Some.ensures c.in_ok-found.ensures) in
     let are : c.in_ok-share-in-Some.share.items ≡ filter (has_id own) c.in-Some.ids.items =
     c.in_ok-share-in-Some.ensures
     ∙ ap (λ others. filter (has_id others) c.deref.result.now) c.of-own.ensures.value
     ∙ ap (filter (has_id own)) c.deref.ensures.value in
-    subst (IsShare c.args.error s c.args.regions.now q c.args.w.lo c.args.w.hi c.args.var own) (sym are)
-    (share_of_needed c.args.error s c.args.regions.now q c.args.w.lo c.args.w.hi c.args.var class own c.in-Some.ids.items (subst IsStrictlyIncreasing c.of-own.ensures.value c.of-own.ensures.ascending) needed
-    (own_of_class s q c.args.domains.now c.args.var c.requires.classes c.requires.within))
+    subst (IsShare scene q c.args.var) (sym are)
+    (share_of_needed scene q c.args.var class c.in-Some.ids.items c.requires.within (subst IsStrictlyIncreasing c.of-own.ensures.value c.of-own.ensures.ascending) needed
+    (own_of_class scene.store.now q scene.domains.now c.args.var c.requires.classes c.requires.within))
