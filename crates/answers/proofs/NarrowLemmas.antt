@@ -1,21 +1,23 @@
 -- For this crate and for the crates above: rows over the objects that suffice for a query are those over all.
-use Rattle.std.proofs.Common.{◌≡◌, ℕ, ◌+◌, ◌≤◌, Bool, true, false, ◌&&◌, ◌⊎◌, List, length, refl, sym, ap, ◌∙◌, inl, inr, arith}
+use Rattle.std.proofs.Common.{◌≡◌, ℕ, zero, suc, ◌+◌, ◌≤◌, Bool, true, false, ◌&&◌, ◌⊎◌, List, [], ◌∷◌, length, take, refl, sym, ap, ◌∙◌, inl, inr, arith}
+use Rattle.std.specs.Prelude.{nat_lt}
+use Rattle.std.specs.List.{list_all}
 use Rattle.std.proofs.lemmas.Bool.{both_ways, cases_Bool, false_from_ne_true}
 use Rattle.tick_set.specs.Ticks.{between, within}
 use Rattle.tick_set.proofs.Between.{within_parts}
 use Rattle.geometry.specs.Region.{Region}
 use Rattle.formula.specs.Tree.{ResolvedQuery}
+use Rattle.formula.specs.Resolved.{are_distinct}
 use Rattle.formula.specs.Value.{no_values}
 use Rattle.history.specs.World.{World}
 use Rattle.meaning.specs.Binding.{are_present, holds_by, holds_full}
 use Rattle.meaning.specs.Reads.{query_reads}
-use Rattle.meaning.specs.Satisfaction.{Interpretation, plain}
-use Rattle.meaning.specs.Trace.{trace_of}
-use Rattle.object_store.specs.Contents.{Contents, catalog_of, history_of}
-use Rattle.narrowing.specs.Narrowed.{AreOfClasses, Suffice}
+use Rattle.meaning.specs.Satisfaction.{Interpretation}
+use Rattle.object_store.specs.Contents.{Contents, catalog_of}
+use Rattle.narrowing.specs.Narrowed.{Suffice}
 use Rattle.narrowing.specs.Needed.{Fails, told}
 use Rattle.relation.specs.Frames.{IsIn, IsWider, size_of}
-use Rattle.relation.specs.Key.{has_id, ids_of}
+use Rattle.relation.specs.Key.{are_known, has_id, ids_of}
 use Rattle.atoms.specs.Asked.{world_in}
 use Rattle.answers.specs.Objects.{AreOfItsClasses}
 use Rattle.answers.proofs.AnswerLemmas.{between_has}
@@ -90,3 +92,34 @@ module _ (s : Contents) (regions : List Region) (q : ResolvedQuery) (lo hi : ℕ
 
   pub reads_suffice : (ticks old now : ℕ) → now ≤ old + query_reads (size_of some) ticks q → now ≤ old + query_reads (size_of domains) ticks q
   reads_suffice ticks old now most = fewer_reads q domains some suffice.fewer ticks old now most
+
+-- ---- the variables below a number
+
+pub upto : (n : ℕ) → n ≤ 4 → take n (0 ∷ 1 ∷ 2 ∷ 3 ∷ []) ≡ between 0 n
+unfolding between
+upto zero few = refl
+upto (suc zero) few = refl
+upto (suc (suc zero)) few = refl
+upto (suc (suc (suc zero))) few = refl
+upto (suc (suc (suc (suc zero)))) few = refl
+upto (suc (suc (suc (suc (suc n))))) few = absurd (omega (arith, few))
+
+pub upto_known : (domains : List (List ℕ)) (n : ℕ) → n ≡ length domains → n ≤ 4 → are_known domains (take n (0 ∷ 1 ∷ 2 ∷ 3 ∷ [])) ≡ true
+upto_known domains n same few =
+    ap (λ (m : ℕ). list_all (λ v. nat_lt v m) (take n (0 ∷ 1 ∷ 2 ∷ 3 ∷ []))) (sym same) ∙ below n few
+  where
+    below : (n : ℕ) → n ≤ 4 → list_all (λ v. nat_lt v n) (take n (0 ∷ 1 ∷ 2 ∷ 3 ∷ [])) ≡ true
+    below zero few = refl
+    below (suc zero) few = refl
+    below (suc (suc zero)) few = refl
+    below (suc (suc (suc zero))) few = refl
+    below (suc (suc (suc (suc zero)))) few = refl
+    below (suc (suc (suc (suc (suc n))))) few = absurd (omega (arith, few))
+
+pub upto_distinct : (n : ℕ) → n ≤ 4 → are_distinct (take n (0 ∷ 1 ∷ 2 ∷ 3 ∷ [])) ≡ true
+upto_distinct zero few = refl
+upto_distinct (suc zero) few = refl
+upto_distinct (suc (suc zero)) few = refl
+upto_distinct (suc (suc (suc zero))) few = refl
+upto_distinct (suc (suc (suc (suc zero)))) few = refl
+upto_distinct (suc (suc (suc (suc (suc n))))) few = absurd (omega (arith, few))

@@ -1,6 +1,6 @@
 //! Queries over a store and its regions.
 
-ghost use Rattle.std.specs.Prelude.{◌≡◌, ◌≤◌, ◌+◌, ◌-◌, ◌&&◌, ◌∷◌, ℕ, [], true, length, map, IfOk};
+ghost use Rattle.std.specs.Prelude.{◌≡◌, ◌≤◌, ◌+◌, ◌-◌, ◌&&◌, ◌∷◌, ℕ, [], true, false, length, map, IfOk};
 ghost use Rattle.tick_set.specs.Runs.{spans_have};
 ghost use Rattle.tick_set.specs.Ticks.{between, within};
 ghost use Rattle.tick_set.specs.declared.spans.TheConstants.{SPAN_LIMIT};
@@ -23,14 +23,14 @@ use atoms::StoredWorld;
 use evaluator::{full_rows, ticks_alone};
 use formula::RQuery;
 use interval_set::IntervalSet;
-use narrowing::narrowed;
+use narrowing::{can_hold, can_hold_alone, narrowed};
 use object_store::Store;
 use polygon::Regions;
 use relation::{Domains, Relation};
 use std::alloc::{AllocError, Global};
 use std::sync::ledger::Ledger;
 use steps::Steps;
-use tick_set::Window;
+use tick_set::{TickSet, Window};
 
 /// The objects that were ever inserted into the classes of a query, for each of its variables. It fails only
 /// where memory is out.
@@ -73,6 +73,9 @@ pub fn evaluate<'d, L: Ledger, M: Ledger>(
     ensures least { reads.old ≤ reads.new }
     ensures most { reads.new ≤ reads.old + query_reads (size_of d.now) (w.hi + 1 - w.lo) (query_view q.now) }
 {
+    if !can_hold(q, d, store, regions, w) {
+        return Ok(no_rows(alloc, d, w));
+    }
     let Some(some) = narrowed(alloc, q, d, store, regions, w)? else {
         let rows = evaluate_all(alloc, q, d, store, regions, w, reads, probes)?;
         return Ok(rows);
@@ -80,6 +83,16 @@ pub fn evaluate<'d, L: Ledger, M: Ledger>(
     let rows = evaluate_all(alloc, q, &some, store, regions, w, reads, probes)?;
     let made = widened(alloc, rows, d)?;
     Ok(made)
+}
+
+// No row, over all variables.
+fn no_rows<'d>(alloc: Global, d: &'d Domains, w: Window) -> Relation<'d, IntervalSet>
+    ensures ticks { (b : ℕ → ℕ) (t : ℕ) → has spans_have result b t ≡ false }
+    ensures vars { result.vars ≡ between 0 (length d.now) }
+    ensures frame { frame result ≡ frame_of d.now w.lo w.hi }
+{
+    let vars = &[0, 1, 2, 3][..d.len()];
+    Relation::empty(alloc, vars, d, w)
 }
 
 // The same, where each object of the domains is asked.
@@ -157,6 +170,9 @@ pub fn evaluate_alone<L: Ledger, M: Ledger>(
     ensures most { reads.new ≤ reads.old
         + query_reads (size_of ((id ∷ []) ∷ [])) (w.hi + 1 - w.lo) (query_view q.now) }
 {
+    if !can_hold_alone(alloc, q, id, store, regions, w) {
+        return Ok(IntervalSet::empty(alloc));
+    }
     fitting_queries_can_be_asked();
     let world = StoredWorld { store, regions };
     let ticks = ticks_alone(alloc, &world, q, id, w, reads, probes)?;

@@ -1,12 +1,16 @@
-use Rattle.std.proofs.Common.{◌≡◌, List, ℕ, ◌+◌, ◌-◌, ap, sym, subst, ◌∙◌}
+use Rattle.std.proofs.Common.{◌≡◌, List, ℕ, ◌+◌, ◌-◌, false, ap, sym, subst, ◌∙◌, arith}
 use Rattle.std.specs.Prelude.{IfSome}
+use Rattle.std.proofs.lemmas.Bool.{not-true}
+use Rattle.tick_set.specs.Ticks.{between}
 use Rattle.tick_set.specs.Runs.{spans_have}
 use Rattle.formula.specs.Tree.{query_view}
 use Rattle.narrowing.specs.Narrowed.{Suffice}
+use Rattle.narrowing.specs.Needed.{told}
 use Rattle.relation.specs.Frames.{Frame}
 use Rattle.relation.specs.Key.{has_id, ids_of}
 use Rattle.relation.specs.Rows.{has}
-use Rattle.answers.proofs.NarrowLemmas.{reads_suffice, rows_suffice}
+use Rattle.atoms.specs.Asked.{world_in}
+use Rattle.answers.proofs.NarrowLemmas.{never_there, reads_suffice, rows_suffice}
 use Rattle.answers.proofs.evaluating.evaluate.Goals as goal
 
 pub returns-clause-rows : goal.returns-clause-rows
@@ -40,3 +44,12 @@ returns-in_err-rows-2-clause-most g c =
     reads_suffice c.args.store.now c.args.regions.now (query_view c.args.q.now) c.args.w.lo c.args.w.hi c.args.d.now c.in-Some.some c.requires.domains
     (subst (λ found. IfSome found (λ some. Suffice c.args.store.now c.args.regions.now (query_view c.args.q.now) c.args.w.lo c.args.w.hi c.args.d.now some)) c.in-Some.is c.in_ok-some.ensures)
     (c.args.w.hi + 1 - c.args.w.lo) _ _ c.in_err-rows-2.ensures.most
+
+pub returns-then-not-can_hold-clause-rows : goal.returns-then-not-can_hold-clause-rows
+returns-then-not-can_hold-clause-rows g c b is_in t =
+    let never : c.can_hold.result ≡ false = grind (arith, not-true, c.if-not-can_hold.true) in
+    c.no_rows.ensures.ticks b t
+    ∙ sym (never_there (told c.args.store.now c.args.regions.now) (world_in c.args.store.now c.args.regions.now) (query_view c.args.q.now) c.args.w.lo c.args.w.hi b (c.can_hold.ensures never b is_in) t)
+
+pub returns-then-not-can_hold-clause-vars : goal.returns-then-not-can_hold-clause-vars
+returns-then-not-can_hold-clause-vars g c = c.no_rows.ensures.vars ∙ ap (between 0) c.requires.domains.many
