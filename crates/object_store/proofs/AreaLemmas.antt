@@ -1,4 +1,4 @@
--- The objects of a class that can come into an area.
+-- For this crate and for the crates above: the objects of a class that can come into an area.
 use Rattle.std.proofs.Common.{◌≡◌, ℕ, zero, suc, ◌+◌, ◌<◌, ◌≤◌, ◌==◌, Bool, true, false, cond, Option, None, Some, List, [], ◌∷◌, ◌++◌, get_or, refl, sym, ap, subst, ◌∙◌, arith, append_assoc, append-nil}
 use Rattle.std.specs.Prelude.{◌||◌, slice_get, option_map, option_and_then}
 use Rattle.std.specs.List.Sorted.{IsStrictlyIncreasing}
