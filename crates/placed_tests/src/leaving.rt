@@ -1,119 +1,22 @@
 //! How many objects are left to be asked of many that are spread out.
-ghost use Rattle.std.specs.Prelude.{◌≡◌, IfOk, length};
-ghost use Rattle.ftl_parser.specs.Lawful.{IsLawful};
-ghost use Rattle.ftl_parser.specs.Tree.{query_view};
-ghost use Rattle.formula.specs.Tree.{query_view as resolved_view};
-ghost use Rattle.narrowing.specs.Narrowed.{AreOfClasses};
-
-use crate::spread::{COUNT, come_from_to, thousand_cars, two_squares};
-use crate::stores::{two_classes, window, word};
-use answers::domains_of;
-use formula::RQuery;
-use ftl_lexer::{LEXER_LIMIT, tokens};
-use ftl_parser::{Query, parse};
-use ftl_typer::resolve;
+use crate::asked::{Asked, left};
+use crate::spread::{COUNT, come_from_to, thousand_cars};
+use crate::stores::{two_classes, word};
 use motion::Place;
-use narrowing::narrowed;
 use object_store::Store;
-use polygon::Regions;
-use relation::Domains;
 use std::alloc::Global;
 use std::process::Abort;
 use std::test::Fail;
-use tick_set::Window;
 
-// What stands before a formula.
-const HEAD: &[u8] = b"RETRIEVE o FROM car o WHERE ";
-
-// A function that owns a tree or a store has few ways out, since each makes its proof longer.
-fn line_of(alloc: Global, formula: &[u8]) -> Result<Vec<u8>, Fail> {
-    let mut line = HEAD.to_vec(alloc)?;
-    line.extend_from_slice(formula)?;
-    Ok(line)
-}
-
-fn read(alloc: Global, line: &[u8]) -> Result<Query, Fail>
-    ensures { IfOk result (λ q. IsLawful (query_view q)) }
-{
-    if line.len() > LEXER_LIMIT {
-        return Err("a line past its length".into());
+// A formula that is judged over a window, where positions may be off by so much.
+fn asked(formula: &[u8], error: u32, ends: (u32, u32)) -> Asked<'_> {
+    Asked {
+        head: b"RETRIEVE o FROM car o WHERE ",
+        formula,
+        variables: 1,
+        error,
+        ends,
     }
-    let tokens = tokens(alloc, line)?;
-    let query = parse(alloc, &tokens, 0)?;
-    Ok(query)
-}
-
-fn named(alloc: Global, formula: &[u8]) -> Result<Query, Fail>
-    ensures { IfOk result (λ q. IsLawful (query_view q)) }
-{
-    let line = line_of(alloc, formula)?;
-    read(alloc, &line)
-}
-
-fn resolved(alloc: Global, store: &Store, regions: &Regions, named: &Query) -> Result<RQuery, Fail>
-    requires { IsLawful (query_view named.now) }
-    ensures { IfOk result (λ q. length q.classes ≡ 1) }
-{
-    let query = resolve(alloc, named, store.schema(), regions)?;
-    if query.classes.items().len() == 1 {
-        Ok(query)
-    } else {
-        Err("not one variable".into())
-    }
-}
-
-fn numbered(alloc: Global, store: &Store, regions: &Regions, formula: &[u8]) -> Result<RQuery, Fail>
-    ensures { IfOk result (λ q. length q.classes ≡ 1) }
-{
-    let named = named(alloc, formula)?;
-    resolved(alloc, store, regions, &named)
-}
-
-fn all_cars(alloc: Global, query: &RQuery, store: &Store) -> Result<Domains, Fail>
-    requires { length query.now.classes ≡ 1 }
-    ensures { IfOk result (λ domains. AreOfClasses store.now (resolved_view query.now) domains) }
-{
-    let domains = domains_of(alloc, query, store)?;
-    Ok(domains)
-}
-
-fn count_of(found: &Option<Domains>) -> usize {
-    match found {
-        Some(some) if some.len() == 1 => some.of(0).len(),
-        _ => COUNT as usize,
-    }
-}
-
-fn left_of(
-    alloc: Global,
-    store: &Store,
-    regions: &Regions,
-    query: &RQuery,
-    w: Window,
-) -> Result<usize, Fail>
-    requires { length query.now.classes ≡ 1 }
-{
-    let cars = all_cars(alloc, query, store)?;
-    let found = narrowed(alloc, query, &cars, store, regions, w)?;
-    Ok(count_of(&found))
-}
-
-fn left_among(
-    alloc: Global,
-    store: &Store,
-    regions: &Regions,
-    formula: &[u8],
-    w: Window,
-) -> Result<usize, Fail> {
-    let query = numbered(alloc, store, regions, formula)?;
-    left_of(alloc, store, regions, &query, w)
-}
-
-// How many cars are asked where a formula is judged over a window.
-fn left(alloc: Global, store: &Store, formula: &[u8], ends: (u32, u32)) -> Result<usize, Fail> {
-    let w = window(ends)?;
-    let regions = two_squares(alloc)?;
-    left_among(alloc, store, &regions, formula, w)
 }
 
 // Formulas that need cars in one place or in two.
@@ -146,7 +49,7 @@ const ANYWHERE: [&[u8]; 4] = [
 
 fn leave_few(rt: &impl Abort, alloc: Global, store: &Store) -> Result<(), Fail> {
     for formula in SOMEWHERE {
-        let count = left(alloc, store, formula, (0, 100))?;
+        let count = left(alloc, store, &asked(formula, 0, (0, 100)))?;
         assert!(rt; 0 < count && count < 100, "{formula:?} leaves {count}");
     }
     Ok(())
@@ -160,10 +63,10 @@ fn few_of_many_cars_are_left(rt: HostRuntime) -> Result<(), Fail> {
 
 fn leave_all(rt: &impl Abort, alloc: Global, store: &Store) -> Result<(), Fail> {
     for formula in ANYWHERE {
-        let count = left(alloc, store, formula, (0, 100))?;
+        let count = left(alloc, store, &asked(formula, 0, (0, 100)))?;
         assert_eq!(rt; count, 1000, "{formula:?}");
     }
-    let none = left(alloc, store, b"FALSE", (0, 100))?;
+    let none = left(alloc, store, &asked(b"FALSE", 0, (0, 100)))?;
     assert_eq!(rt; none, 0);
     Ok(())
 }
@@ -196,10 +99,10 @@ fn refused_lines_leave_as_few(
     alloc: Global,
     store: &mut Store,
 ) -> Result<(), Fail> {
-    let before = left(alloc, store, INSIDE, (0, 100))?;
+    let before = left(alloc, store, &asked(INSIDE, 0, (0, 100)))?;
     assert!(rt; is_refused(store, b"bus")?);
     assert!(rt; is_refused(store, b"car")?);
-    let after = left(alloc, store, INSIDE, (0, 100))?;
+    let after = left(alloc, store, &asked(INSIDE, 0, (0, 100)))?;
     assert_eq!(rt; after, before);
     Ok(())
 }
@@ -217,7 +120,7 @@ fn leaves_few(
     formula: &[u8],
     ends: (u32, u32),
 ) -> Result<(), Fail> {
-    let count = left(alloc, store, formula, ends)?;
+    let count = left(alloc, store, &asked(formula, 0, ends))?;
     assert!(rt; 0 < count && count < 100, "{count} are left");
     Ok(())
 }
@@ -250,4 +153,20 @@ fn few_are_left_after_many_ticks(rt: HostRuntime) -> Result<(), Fail> {
     let mut store = thousand_cars(rt.alloc())?;
     stand(&mut store);
     leaves_few(&rt, rt.alloc(), &store, LATER, (10_000, 10_060))
+}
+
+// As many are left at least where positions may be off, and few still.
+fn leave_few_within(rt: &impl Abort, alloc: Global, store: &Store, error: u32) -> Result<(), Fail> {
+    for formula in SOMEWHERE {
+        let exact = left(alloc, store, &asked(formula, 0, (0, 100)))?;
+        let count = left(alloc, store, &asked(formula, error, (0, 100)))?;
+        assert!(rt; exact <= count && count < 100, "{formula:?} leaves {count}");
+    }
+    Ok(())
+}
+
+#[test]
+fn few_cars_are_left_where_positions_may_be_off(rt: HostRuntime) -> Result<(), Fail> {
+    let store = thousand_cars(rt.alloc())?;
+    leave_few_within(&rt, rt.alloc(), &store, 10_000)
 }

@@ -3,9 +3,13 @@
 #![tactic(auto)]
 
 #[cfg(test)]
+mod asked;
+#[cfg(test)]
 mod leaving;
 #[cfg(test)]
 mod moving;
+#[cfg(test)]
+mod reaching;
 #[cfg(test)]
 mod spread;
 #[cfg(test)]
