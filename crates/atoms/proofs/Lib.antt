@@ -1,3 +1,4 @@
+pub mod AskLemmas
 pub mod AttributeLemmas
 pub mod CircleLemmas
 pub mod CompareLemmas

@@ -8,6 +8,7 @@ ghost use Rattle.meaning.specs.Trace.{trace_of};
 ghost use Rattle.history.specs.History.{cells_at};
 ghost use Rattle.object_store.specs.Contents.{history_of};
 ghost use Rattle.atoms.specs.Asked.{CanAskAtom, CanAskTerm, told_by};
+ghost use Rattle.atoms.proofs.AskLemmas.{fewer_ticks_of_atom, fewer_ticks_of_term};
 
 use crate::present::absence;
 use crate::ticks::atom_ticks;
@@ -101,4 +102,10 @@ impl Interpreter<IntervalSet> for StoredWorld<'_> {
 
     ghost term_sees_values = { λ x b q env other same t.
         term_by_names (trace_of (history_of x.store.now) b) q env other same t };
+
+    ghost atom_narrows = { λ x lo hi from upto begins ends b a env can.
+        fewer_ticks_of_atom x.store.now lo hi from upto begins ends b a can };
+
+    ghost term_narrows = { λ x lo hi from upto begins ends b q env can.
+        fewer_ticks_of_term x.store.now lo hi from upto begins ends b q env can };
 }

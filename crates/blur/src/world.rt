@@ -1,6 +1,7 @@
 //! What a store and its regions tell of atoms, of terms and of the presence of objects, where positions may be off.
 ghost use Rattle.std.specs.Prelude.{◌≡◌, ◌≤◌, ◌+◌, ◌<◌, ◌&&◌, ℕ, IfOk, is_some, length, slice_index};
 ghost use Rattle.std.proofs.Common.{ap};
+ghost use Rattle.atoms.proofs.AskLemmas.{fewer_ticks_of_atom, fewer_ticks_of_term};
 ghost use Rattle.atoms.specs.Asked.{CanAskAtom, CanAskTerm, world_in};
 ghost use Rattle.history.specs.History.{cells_at};
 ghost use Rattle.interpreting.proofs.NameLemmas.{atom_by_names, term_by_names};
@@ -86,6 +87,12 @@ impl Interpreter<IntervalSet> for BlurredWorld<'_> {
 
     ghost term_sees_values = { λ x b q env other same t.
         term_by_names (trace_of (history_of x.store.now) b) q env other same t };
+
+    ghost atom_narrows = { λ x lo hi from upto begins ends b a env can.
+        fewer_ticks_of_atom x.store.now lo hi from upto begins ends b a can };
+
+    ghost term_narrows = { λ x lo hi from upto begins ends b q env can.
+        fewer_ticks_of_term x.store.now lo hi from upto begins ends b q env can };
 }
 
 // The ticks of the window at which an atom holds of the objects of a binding, surely or possibly.

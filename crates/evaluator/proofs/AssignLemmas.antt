@@ -74,22 +74,20 @@ module _ (j : (ℕ → ℕ) → Interpretation) (P : (ℕ → ℕ) → RAtom →
 
 -- ---- run by run
 
-run_step : (w h r s : Bool) → ((w && h) || (r && (w && s))) ≡ (w && (h || (r && s)))
-run_step true h r s = refl
-run_step false h true s = refl
-run_step false h false s = refl
+run_step : (w h r : Bool) → ((w && h) || (w && r)) ≡ (w && (h || r))
+run_step true h r = refl
+run_step false h r = refl
 
 module _ {S : Type 0} (member : S → ℕ → Bool) (j : (ℕ → ℕ) → Interpretation) (domains : List (List ℕ)) (lo hi depth : ℕ) (f : ResolvedTree) (x : Env) (runs : List ValueRun) where
   -- the part of one more run behind the others
-  pub run_more : (i : ℕ) (run : ValueRun) (parts : List (Table S)) (rows part : Table S) → i < length runs → run ≡ get_or runs i run →
+  pub run_more : (i : ℕ) (run : ValueRun) (parts : List (Table S)) (part : Table S) → i < length runs → run ≡ get_or runs i run →
       ((b : ℕ → ℕ) → IsIn domains b → (t : ℕ) → any_has member parts b t ≡ (within lo hi t && run_holds j depth f x hi (take i runs) b t)) →
-      AreRowsOf member j domains lo hi f (with_value x depth run.value) rows →
-      ((b : ℕ → ℕ) (t : ℕ) → has member part b t ≡ (within run.span.lo run.span.hi t && has member rows b t)) →
+      AreRowsWhere member domains lo hi (variables_of f) (λ b t. within run.span.lo run.span.hi t && sat (j b) f (with_value x depth run.value) hi t) part →
       (b : ℕ → ℕ) → IsIn domains b → (t : ℕ) → any_has member (parts ++ part ∷ []) b t ≡ (within lo hi t && run_holds j depth f x hi (take (i + 1) runs) b t)
-  run_more i run parts rows part l at before are clipped b is_in t =
+  run_more i run parts part l at before are b is_in t =
       any_has-push member parts part b t
-      ∙ (λ k. before b is_in t k || (clipped b t ∙ ap (λ (y : Bool). within run.span.lo run.span.hi t && y) (are.ticks b is_in t)) k)
-      ∙ run_step (within lo hi t) (run_holds j depth f x hi (take i runs) b t) (within run.span.lo run.span.hi t) (sat (j b) f (with_value x depth run.value) hi t)
+      ∙ (λ k. before b is_in t k || are.ticks b is_in t k)
+      ∙ run_step (within lo hi t) (run_holds j depth f x hi (take i runs) b t) (within run.span.lo run.span.hi t && sat (j b) f (with_value x depth run.value) hi t)
       ∙ ap (λ (y : Bool). within lo hi t && y)
       (sym (list_any_more (λ r. run_has t r && sat (j b) f (with_value x depth r.value) hi t) runs i run l
       ∙ ap (λ (r : ValueRun). run_holds j depth f x hi (take i runs) b t || (run_has t r && sat (j b) f (with_value x depth r.value) hi t)) (sym at)))

@@ -25,7 +25,7 @@ all_kept : {X : Type 0} (k : Bool) (p : X → Bool) (x : X) (rest : List X) → 
 all_kept true p x rest h later = and_from _ _ h later
 all_kept false p x rest h later = later
 
-all_filter : {X : Type 0} (p q : X → Bool) (xs : List X) → list_all p xs ≡ true → list_all p (filter q xs) ≡ true
+pub all_filter : {X : Type 0} (p q : X → Bool) (xs : List X) → list_all p xs ≡ true → list_all p (filter q xs) ≡ true
 all_filter p q [] h = refl
 all_filter p q (x ∷ xs) h = let parts = and_parts _ _ h in all_kept (q x) p x (filter q xs) parts.0 (all_filter p q xs parts.1)
 
@@ -33,7 +33,7 @@ ascend_kept : (k : Bool) (key : List ℕ) (rest : List (List ℕ)) → list_all 
 ascend_kept true key rest below up = (below, up)
 ascend_kept false key rest below up = up
 
-ascend_filter : (q : List ℕ → Bool) (keys : List (List ℕ)) → AreAscending keys → AreAscending (filter q keys)
+pub ascend_filter : (q : List ℕ → Bool) (keys : List (List ℕ)) → AreAscending keys → AreAscending (filter q keys)
 ascend_filter q [] up = tt
 ascend_filter q (key ∷ keys) up = ascend_kept (q key) key (filter q keys) (all_filter (key_below key) q keys up.0) (ascend_filter q keys up.1)
 
@@ -102,7 +102,7 @@ module _ {S : Type 0} (member : S → ℕ → Bool) (truth : List ℕ → ℕ �
       subst (λ (ks : List (List ℕ)). IsFilled member truth ks a c) (sym (take_more keys i key l))
       (filled_both member truth (take i keys) (get_or keys i key ∷ []) a b c first (subst (λ (k : List ℕ). IsFilled member truth (k ∷ []) b c) at second))
 
-has_key_of : {S : Type 0} (member : S → ℕ → Bool) (rows : List (Row S)) (k : List ℕ) (t : ℕ) → has_at member rows k t ≡ true → has_key (map (λ r. r.key) rows) k ≡ true
+pub has_key_of : {S : Type 0} (member : S → ℕ → Bool) (rows : List (Row S)) (k : List ℕ) (t : ℕ) → has_at member rows k t ≡ true → has_key (map (λ r. r.key) rows) k ≡ true
 has_key_of member [] k t h = absurd (let e : false ≡ true = h in cc)
 has_key_of member (r ∷ rows) k t h =
     elim (or_cases (bytes_eq r.key k && member r.set t) (has_at member rows k t) h) [

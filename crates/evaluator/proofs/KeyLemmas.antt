@@ -11,6 +11,7 @@ use Rattle.std.proofs.lemmas.List.Kept.{AllPairs-from_increasing}
 use Rattle.meaning.specs.Reads.{choices}
 use Rattle.relation.specs.Frames.{size_of}
 use Rattle.relation.specs.Key.{has_id, ids_of, key_below, key_in}
+use Rattle.relation.specs.Order.{keys_over}
 use Rattle.evaluator.specs.Keys.{AreAscending, AreKeys, has_key}
 use Rattle.evaluator.specs.inner.Filled.{behind}
 
@@ -155,6 +156,12 @@ keys_none domains = record { ascend = (refl, tt); inside = refl; all = one; coun
     one : (key : List ℕ) → key_in domains [] key ≡ true → has_key ([] ∷ []) key ≡ true
     one [] h = refl
     one (id ∷ key) h = absurd (let e : false ≡ true = h in cc)
+
+-- all keys in their order
+pub keys_over_all : (domains : List (List ℕ)) → ((var : ℕ) → IsStrictlyIncreasing (ids_of domains var)) → (vars : List ℕ) → AreKeys domains vars (keys_over domains vars)
+keys_over_all domains up [] = keys_none domains
+keys_over_all domains up (var ∷ vars) =
+    keys_more domains var vars (keys_over domains vars) (ids_of domains var) refl (up var) (keys_over_all domains up vars)
 
 -- a key has as many objects as there are variables
 pub key_length : (domains : List (List ℕ)) (vars key : List ℕ) → key_in domains vars key ≡ true → length key ≡ length vars

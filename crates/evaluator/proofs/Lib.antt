@@ -17,6 +17,8 @@ pub mod OverLemmas
 pub mod PairLemmas
 pub mod ReadLemmas
 pub mod RowLemmas
+pub mod SectionLemmas
+pub mod SeenLemmas
 pub mod StretchLemmas
 pub mod TickLemmas
 pub mod VariableLemmas

@@ -1,5 +1,5 @@
 -- The ticks of a formula at one binding, by those of its parts.
-use Rattle.std.proofs.Common.{◌≡◌, ℕ, ◌+◌, ◌-◌, ◌*◌, ◌<◌, ◌≤◌, min, Bool, true, false, ◌&&◌, ◌||◌, ◌==◌, if◌then◌else◌, List, [], ◌∷◌, ◌++◌, length, get_or, take, refl, sym, ap, ◌∙◌, subst, inl, inr, arith}
+use Rattle.std.proofs.Common.{◌≡◌, ℕ, ◌+◌, ◌-◌, ◌*◌, ◌<◌, ◌≤◌, min, Bool, true, false, ◌&&◌, ◌||◌, ◌==◌, if◌then◌else◌, Option, List, [], ◌∷◌, ◌++◌, length, get_or, take, refl, sym, ap, ◌∙◌, subst, inl, inr, arith}
 use Rattle.std.specs.Prelude.{All}
 use Rattle.std.specs.List.{list_any}
 use Rattle.std.proofs.lemmas.Bool.{and_parts, cases_Bool, false≢true}
@@ -7,6 +7,7 @@ use Rattle.std.proofs.lemmas.List.{take_all}
 use Rattle.std.proofs.lemmas.List.Folds.{list_any_more}
 use Rattle.tick_set.specs.Ticks.{LiesIn, within}
 use Rattle.tick_set.specs.Operators.{until_in}
+use Rattle.tick_set.proofs.Between.{within_from, within_parts}
 use Rattle.tick_set.proofs.UntilLemmas.{until_in_none}
 use Rattle.fixed_point.specs.declared.variants.UntilForm.{UntilForm}
 use Rattle.fixed_point.specs.declared.variants.UntilForm.TheVariants as untils
@@ -28,6 +29,7 @@ use Rattle.interpreting.specs.Names.{formula_names}
 use Rattle.interpreting.specs.ValueRuns.{run_has}
 use Rattle.evaluator.specs.Stretched.{AreStretches, IsStretch}
 use Rattle.evaluator.specs.inner.ByBinding.{AreTicksOf, CanAskHere, any_member, reads_here}
+use Rattle.evaluator.specs.inner.Seen.{IsInWindow}
 use Rattle.evaluator.specs.inner.Nodes.{changed_at, changed_tree, paired_in, paired_tree}
 use Rattle.evaluator.proofs.GatherLemmas.{any-push}
 use Rattle.evaluator.proofs.LoopLemmas.{later_looks}
@@ -80,10 +82,10 @@ module _ {S : Type 0} (member : S → ℕ → Bool) (lo hi : ℕ) where
 
 -- ---- an assignment
 
-run_step : (w h r s : Bool) → ((w && h) || (r && (w && s))) ≡ (w && (h || (r && s)))
-run_step true h r s = refl
-run_step false h true s = refl
-run_step false h false s = refl
+run_step : (w h r s : Bool) → (r ≡ true → w ≡ true) → ((w && h) || (r && s)) ≡ (w && (h || (r && s)))
+run_step true h r s inside = refl
+run_step false h true s inside = absurd (false≢true (inside refl))
+run_step false h false s inside = refl
 
 -- what may be asked of an assignment may be asked by the value of each run
 pub can_ask_by : (named : Bool) (j : Interpretation) (P : RAtom → Env → Type 0) (Q : RTerm → Env → Type 0) (lo hi depth : ℕ) (q : RTerm) (f : ResolvedTree) (x : Env) →
@@ -94,17 +96,27 @@ can_ask_by named j P Q lo hi depth q f x can runs each i run l at =
     subst (λ (r : ValueRun). CanAskHere j P Q lo hi f (with_value x depth r.value)) (sym at)
     (can.1 (get_or runs i run).span.lo own.0 (get_or runs i run).value own.1)
 
+-- each run lies in the window
+pub run_within : (named : Bool) (value : ℕ → Option Value) (lo hi : ℕ) (runs : List ValueRun) → All (IsStretch named value lo (hi + 1)) runs →
+    (i : ℕ) (run : ValueRun) → i < length runs → run ≡ get_or runs i run → (lo ≤ run.span.lo) × (run.span.hi ≤ hi)
+run_within named value lo hi runs each i run l at =
+    let own = subst (λ (r : ValueRun). IsStretch named value lo (hi + 1) r) (sym at) (each i run l) in
+    (own.begins, (let ends = own.ends in omega (arith, ends)))
+
+pub runs_inside : (named : Bool) (value : ℕ → Option Value) (lo hi : ℕ) (runs : List ValueRun) → All (IsStretch named value lo (hi + 1)) runs → All (IsInWindow lo hi) runs
+runs_inside named value lo hi runs each i run l = let own = each i run l in (own.begins, (let ends = own.ends in omega (arith, ends)))
+
 module _ {S : Type 0} (member : S → ℕ → Bool) (j : (ℕ → ℕ) → Interpretation) (b : ℕ → ℕ) (lo hi depth : ℕ) (f : ResolvedTree) (x : Env) (runs : List ValueRun) where
   -- the ticks of one more run behind the others
-  pub run_added : (i : ℕ) (run : ValueRun) (parts : List S) (ticks part : S) → i < length runs → run ≡ get_or runs i run →
+  pub run_added : (i : ℕ) (run : ValueRun) (parts : List S) (part : S) → i < length runs → run ≡ get_or runs i run → lo ≤ run.span.lo → run.span.hi ≤ hi →
       ((t : ℕ) → any_member member parts t ≡ (within lo hi t && run_holds j depth f x hi (take i runs) b t)) →
-      AreTicksOf member (j b) lo hi f (with_value x depth run.value) ticks →
-      ((t : ℕ) → member part t ≡ (within run.span.lo run.span.hi t && member ticks t)) →
+      ((t : ℕ) → member part t ≡ (within run.span.lo run.span.hi t && sat (j b) f (with_value x depth run.value) hi t)) →
       (t : ℕ) → any_member member (parts ++ part ∷ []) t ≡ (within lo hi t && run_holds j depth f x hi (take (i + 1) runs) b t)
-  run_added i run parts ticks part l at before are clipped t =
+  run_added i run parts part l at begins ends before is t =
       any-push (λ s. member s t) parts part
-      ∙ (λ k. before t k || (clipped t ∙ ap (λ (y : Bool). within run.span.lo run.span.hi t && y) (are t)) k)
+      ∙ (λ k. before t k || is t k)
       ∙ run_step (within lo hi t) (run_holds j depth f x hi (take i runs) b t) (within run.span.lo run.span.hi t) (sat (j b) f (with_value x depth run.value) hi t)
+      (λ inside. let own = within_parts run.span.lo run.span.hi t inside in within_from lo hi t (omega (arith, begins, own.0)) (omega (arith, ends, own.1)))
       ∙ ap (λ (y : Bool). within lo hi t && y)
       (sym (list_any_more (λ r. run_has t r && sat (j b) f (with_value x depth r.value) hi t) runs i run l
       ∙ ap (λ (r : ValueRun). run_holds j depth f x hi (take i runs) b t || (run_has t r && sat (j b) f (with_value x depth r.value) hi t)) (sym at)))

@@ -4,3 +4,4 @@ pub mod ByBinding
 pub mod Column
 pub mod Filled
 pub mod Nodes
+pub mod Seen

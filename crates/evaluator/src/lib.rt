@@ -16,6 +16,7 @@ mod node;
 mod operators;
 mod over;
 mod rows;
+mod section;
 mod sets;
 mod stretches;
 mod ticks;

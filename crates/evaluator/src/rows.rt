@@ -1,6 +1,7 @@
 //! The rows of formulas.
 
-ghost use Rattle.std.specs.Prelude.{◌≡◌, ◌≤◌, ◌<◌, ◌+◌, ◌*◌, ◌&&◌, ℕ, true, length, IfOk};
+ghost use Rattle.std.specs.Prelude.{◌≡◌, ◌≤◌, ◌<◌, ◌+◌, ◌*◌, ◌&&◌, ℕ, true, All, length, IfOk};
+ghost use Rattle.tick_set.specs.Ticks.{within};
 ghost use Rattle.formula.specs.Tree.{formula_view};
 ghost use Rattle.formula.specs.VarSet.{has as set_has};
 ghost use Rattle.formula.specs.Variables.{has_variable, variables_of};
@@ -14,6 +15,7 @@ ghost use Rattle.evaluator.specs.Interpreting.{CanAsk, IsOver};
 ghost use Rattle.evaluator.specs.Rows.{AreRowsOf, AreRowsWhere, reads_at_key, reads_upto};
 ghost use Rattle.evaluator.specs.inner.Column.{AreRowsBeside};
 ghost use Rattle.evaluator.specs.inner.Nodes.{needs_right, pair_view};
+ghost use Rattle.evaluator.specs.inner.Seen.{IsInWindow};
 
 use crate::assignment::{Assignment, row_of_key};
 use crate::by_key::rows_by_key;
@@ -24,6 +26,7 @@ use crate::narrowing::narrowed;
 use crate::node::{Node, Pair};
 use crate::operators::{changed_rows, paired_rows};
 use crate::over::is_over;
+use crate::section::{Section, rows_at};
 use crate::stretches::stretches_of;
 use crate::variables::binding_of;
 use formula::{Binding, Env, RFormula, VarSet, free, free_in_term};
@@ -240,6 +243,7 @@ fn rows_of_runs<'d, S: Temporal, I: Interpreter<S>, L: Ledger, M: Ledger>(
     probes: &mut Steps<M>,
 ) -> Result<Relation<'d, S>, AllocError>
     requires over { IsOver (length d.now) (formula_view a.now.body.now) }
+    requires inside { All (IsInWindow w.lo w.hi) runs.now }
     requires can { CanAskEach (I.interpretation source.now) (I.atom_fits source.now w.lo w.hi)
         (I.term_fits source.now w.lo w.hi) d.now w.lo w.hi a.now.depth (formula_view a.now.body.now) env.now runs.now }
     ensures rows { IfOk result (λ r. AreRowsWhere S.member d.now w.lo w.hi (variables_of (formula_view a.now.body.now))
@@ -250,10 +254,42 @@ fn rows_of_runs<'d, S: Temporal, I: Interpreter<S>, L: Ledger, M: Ledger>(
     let mut parts = VecDeque::new(alloc);
     'runs: for run in runs {
         let bound = env.with(a.depth, run.value);
-        let rows = rows_of(alloc, source, a.body, d, &bound, w, reads, probes)?;
-        let part = rows.clip(alloc, run.span.window())?;
+        let section = Section {
+            span: run.span,
+            window: w,
+        };
+        let part = rows_of_section(alloc, source, a.body, section, d, &bound, reads, probes)?;
         parts.push_back(part)?;
     }
     let made = united(alloc, parts, free(a.body), d, w)?;
+    Ok(made)
+}
+
+// The rows of a formula at the ticks of a section. No tick that it doesn't see from them is asked.
+#[cycle(rows)]
+fn rows_of_section<'d, S: Temporal, I: Interpreter<S>, L: Ledger, M: Ledger>(
+    alloc: Global,
+    source: &I,
+    f: &RFormula,
+    section: Section,
+    d: &'d Domains,
+    env: &Env,
+    reads: &mut Steps<L>,
+    probes: &mut Steps<M>,
+) -> Result<Relation<'d, S>, AllocError>
+    requires over { IsOver (length d.now) (formula_view f.now) }
+    requires can { CanAsk (I.interpretation source.now) (I.atom_fits source.now section.window.lo section.window.hi)
+        (I.term_fits source.now section.window.lo section.window.hi) d.now section.window.lo section.window.hi
+        (formula_view f.now) env.now }
+    ensures rows { IfOk result (λ r. AreRowsWhere S.member d.now section.window.lo section.window.hi
+        (variables_of (formula_view f.now)) (λ b t. within section.span.lo section.span.hi t
+        && sat (I.interpretation source.now b) (formula_view f.now) env.now section.window.hi t) r) }
+    ensures least { reads.old ≤ reads.new }
+    ensures most { reads.new ≤ reads.old
+        + reads_upto d.now section.window.lo section.window.hi (formula_view f.now) }
+{
+    let w = section.seen_by(f);
+    let rows = rows_of(alloc, source, f, d, env, w, reads, probes)?;
+    let made = rows_at(alloc, &rows, section, d)?;
     Ok(made)
 }

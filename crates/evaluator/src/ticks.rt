@@ -4,11 +4,13 @@ ghost use Rattle.std.specs.Prelude.{◌≡◌, ◌≤◌, ◌+◌, ◌&&◌, ℕ
 ghost use Rattle.tick_set.specs.Ticks.{within};
 ghost use Rattle.formula_shape.specs.Shape.{Shape};
 ghost use Rattle.formula.specs.Tree.{formula_view};
+ghost use Rattle.meaning.specs.Satisfaction.{sat};
 ghost use Rattle.evaluator.specs.Assigned.{assignment_view};
 ghost use Rattle.evaluator.specs.inner.ByBinding.{AreTicksOf, CanAskHere, reads_here};
 
 use crate::assignment::Assignment;
 use crate::node::{Node, Pairing};
+use crate::section::Section;
 use crate::sets::{changed, paired, union_of};
 use crate::stretches::stretches_of;
 use fixed_point::UntilForm;
@@ -147,10 +149,42 @@ fn ticks_of_assignment<S: Temporal, I: Interpreter<S>, L: Ledger, M: Ledger>(
     let mut parts = VecDeque::new(alloc);
     'each: for run in &runs {
         let bound = env.with(a.depth, run.value);
-        let ticks: S = ticks_of(alloc, source, a.body, binding, &bound, w, reads, probes)?;
-        let part = ticks.clip(alloc, run.span.window())?;
+        let section = Section {
+            span: run.span,
+            window: w,
+        };
+        let part: S = ticks_of_section(
+            alloc, source, a.body, section, binding, &bound, reads, probes,
+        )?;
         parts.push_back(part)?;
     }
     let made = union_of(alloc, parts)?;
+    Ok(made)
+}
+
+// The ticks of a section at which a formula holds. None that it doesn't see from them is asked.
+#[cycle(ticks)]
+fn ticks_of_section<S: Temporal, I: Interpreter<S>, L: Ledger, M: Ledger>(
+    alloc: Global,
+    source: &I,
+    f: &RFormula,
+    section: Section,
+    binding: &Binding,
+    env: &Env,
+    reads: &mut Steps<L>,
+    probes: &mut Steps<M>,
+) -> Result<S, AllocError>
+    requires { CanAskHere (I.interpretation source.now (slice_index binding.now))
+        (I.atom_fits source.now section.window.lo section.window.hi (slice_index binding.now))
+        (I.term_fits source.now section.window.lo section.window.hi (slice_index binding.now))
+        section.window.lo section.window.hi (formula_view f.now) env.now }
+    ensures ticks { IfOk result (λ s. (t : ℕ) → S.member s t ≡ (within section.span.lo section.span.hi t
+        && sat (I.interpretation source.now (slice_index binding.now)) (formula_view f.now) env.now section.window.hi t)) }
+    ensures least { reads.old ≤ reads.new }
+    ensures most { reads.new ≤ reads.old + reads_here section.window.lo section.window.hi (formula_view f.now) }
+{
+    let w = section.seen_by(f);
+    let ticks: S = ticks_of(alloc, source, f, binding, env, w, reads, probes)?;
+    let made = ticks.clip(alloc, section.span.window())?;
     Ok(made)
 }

@@ -101,4 +101,12 @@ pub trait Interpreter<S: Temporal> {
     /// A term depends on the values that it names alone.
     ghost term_sees_values: { (x : Self) (b : ℕ → ℕ) (q : RTerm) (env other : Env) → AgreeOn (λ d. term_names d q) env other
         → (t : ℕ) → (interpretation x b).term q env t ≡ (interpretation x b).term q other t };
+
+    /// An atom that may be asked over the ticks of lo to hi may be asked over some of them.
+    ghost atom_narrows: { (x : Self) (lo hi from upto : ℕ) → lo ≤ from → upto ≤ hi → (b : ℕ → ℕ) (a : RAtom) (env : Env)
+        → atom_fits x lo hi b a env → atom_fits x from upto b a env };
+
+    /// And so may a term.
+    ghost term_narrows: { (x : Self) (lo hi from upto : ℕ) → lo ≤ from → upto ≤ hi → (b : ℕ → ℕ) (q : RTerm) (env : Env)
+        → term_fits x lo hi b q env → term_fits x from upto b q env };
 }

@@ -1,10 +1,12 @@
 use Rattle.std.proofs.Common.{◌≡◌, ℕ, ◌+◌, ◌-◌, ◌≤◌, ◌&&◌, true, false, List, length, slice_index, ap, subst, arith, ◌∙◌, sym}
+use Rattle.std.specs.Prelude.{All}
 use Rattle.std.specs.List.Sorted.{IsStrictlyIncreasing}
 use Rattle.std.proofs.lemmas.Bool.{or_left, or_right}
 use Rattle.std.proofs.lemmas.List.{take_all}
 use Rattle.tick_set.specs.Ticks.{within}
 use Rattle.formula_shape.specs.Sizes.{nodes}
 use Rattle.formula.specs.declared.value.Env.{Env}
+use Rattle.formula.specs.Reach.{reach}
 use Rattle.formula.specs.Tree.{ResolvedTree, formula_view}
 use Rattle.formula.specs.VarSet.{has}
 use Rattle.formula.specs.Variables.{has_variable, term_has, variables_in, variables_of}
@@ -34,6 +36,10 @@ use Rattle.evaluator.proofs.NodeLemmas.{changed_asks, changed_has, changed_nodes
 use Rattle.evaluator.proofs.PairLemmas.{beside_all, beside_few, fewer_reads, led_rows, most_fewer, most_second, most_turned, ordered_asks, ordered_has, ordered_nodes, ordered_reads, ordered_rows}
 use Rattle.evaluator.proofs.ReadLemmas.{one_step}
 use Rattle.evaluator.proofs.RowLemmas.{one_rows, two_rows}
+use Rattle.evaluator.proofs.SectionLemmas.{section_rows}
+use Rattle.evaluator.proofs.SeenLemmas.{can_ask_fewer, most_seen, section_reads, seen_from, seen_upto}
+use Rattle.evaluator.proofs.TickLemmas.{runs_inside}
+use Rattle.evaluator.specs.inner.Seen.{IsInWindow}
 use Rattle.formula.proofs.CallerLemmas.{variables_same}
 use Rattle.evaluator.proofs.VariableLemmas.{ascending_variables, distinct_variables, few_variables, known_variables}
 use Rattle.evaluator.proofs.rows.+rows.Goals as goal
@@ -515,7 +521,8 @@ rows_at_key-rows_of_runs-requires g t c κs lives =
               lives.1.1.1,
               (
                 (λ v h. (let o = c.requires.over v (or_right (term_has v c.args.a.now.term.now) (has_variable v (formula_view c.args.a.now.body.now)) h) in let m = c.in_ok-narrow.ensures.many in omega (arith, o, m))),
-                subst (λ (rs : List ValueRun). CanAskEach (g.I.Interpreter.interpretation c.args.source.now) (g.I.Interpreter.atom_fits c.args.source.now c.args.w.lo c.args.w.hi) (g.I.Interpreter.term_fits c.args.source.now c.args.w.lo c.args.w.hi) c.in_ok-narrow.narrow c.args.w.lo c.args.w.hi c.args.a.now.depth (formula_view c.args.a.now.body.now) c.args.env.now rs) (sym c.deref.ensures.value) can,
+                (subst (λ (rs : List ValueRun). All (IsInWindow c.args.w.lo c.args.w.hi) rs) (sym c.deref.ensures.value) (runs_inside (formula_names c.args.a.now.depth (formula_view c.args.a.now.body.now)) _ c.args.w.lo c.args.w.hi c.in_ok-runs.runs.items c.in_ok-runs.ensures.runs.each),
+                subst (λ (rs : List ValueRun). CanAskEach (g.I.Interpreter.interpretation c.args.source.now) (g.I.Interpreter.atom_fits c.args.source.now c.args.w.lo c.args.w.hi) (g.I.Interpreter.term_fits c.args.source.now c.args.w.lo c.args.w.hi) c.in_ok-narrow.narrow c.args.w.lo c.args.w.hi c.args.a.now.depth (formula_view c.args.a.now.body.now) c.args.env.now rs) (sym c.deref.ensures.value) can),
               ),
             ),
           ),
@@ -634,8 +641,8 @@ rows_of_runs-runs-init g t c = record {
   most = omega arith;
 }
 
-pub rows_of_runs-rows_of-requires : goal.rows_of_runs-rows_of-requires
-rows_of_runs-rows_of-requires g t c κs lives = (
+pub rows_of_runs-rows_of_section-requires : goal.rows_of_runs-rows_of_section-requires
+rows_of_runs-rows_of_section-requires g t c κs lives = (
   omega (arith, c.decreases),
   (
     lives.0,
@@ -656,29 +663,21 @@ rows_of_runs-rows_of-requires g t c κs lives = (
   ),
 )
 
-pub rows_of_runs-returns-in_err-rows-clause-least : goal.rows_of_runs-returns-in_err-rows-clause-least
-rows_of_runs-returns-in_err-rows-clause-least g t c = in_turn _ _ _ c.runs.invariant.least c.in_err-rows.ensures.least
-
-pub rows_of_runs-returns-in_err-rows-clause-most : goal.rows_of_runs-returns-in_err-rows-clause-most
-rows_of_runs-returns-in_err-rows-clause-most g t c =
-    some_steps c.args.reads.now _ (c.runs.run-index + 1) (length c.args.runs.now) (reads_upto c.args.d.now c.args.w.lo c.args.w.hi (formula_view c.args.a.now.body.now))
-    (one_step c.args.reads.now c.runs.reads _ c.runs.run-index (reads_upto c.args.d.now c.args.w.lo c.args.w.hi (formula_view c.args.a.now.body.now)) c.runs.invariant.most c.in_err-rows.ensures.most) (omega (arith, c.runs-test.true))
-
 pub rows_of_runs-returns-in_err-part-clause-least : goal.rows_of_runs-returns-in_err-part-clause-least
-rows_of_runs-returns-in_err-part-clause-least g t c = in_turn _ _ _ c.runs.invariant.least c.in_ok-rows.ensures.least
+rows_of_runs-returns-in_err-part-clause-least g t c = in_turn _ _ _ c.runs.invariant.least c.in_err-part.ensures.least
 
 pub rows_of_runs-returns-in_err-part-clause-most : goal.rows_of_runs-returns-in_err-part-clause-most
 rows_of_runs-returns-in_err-part-clause-most g t c =
     some_steps c.args.reads.now _ (c.runs.run-index + 1) (length c.args.runs.now) (reads_upto c.args.d.now c.args.w.lo c.args.w.hi (formula_view c.args.a.now.body.now))
-    (one_step c.args.reads.now c.runs.reads _ c.runs.run-index (reads_upto c.args.d.now c.args.w.lo c.args.w.hi (formula_view c.args.a.now.body.now)) c.runs.invariant.most c.in_ok-rows.ensures.most) (omega (arith, c.runs-test.true))
+    (one_step c.args.reads.now c.runs.reads _ c.runs.run-index (reads_upto c.args.d.now c.args.w.lo c.args.w.hi (formula_view c.args.a.now.body.now)) c.runs.invariant.most c.in_err-part.ensures.most) (omega (arith, c.runs-test.true))
 
 pub rows_of_runs-returns-in_err-push_back-clause-least : goal.rows_of_runs-returns-in_err-push_back-clause-least
-rows_of_runs-returns-in_err-push_back-clause-least g t c = in_turn _ _ _ c.runs.invariant.least c.in_ok-rows.ensures.least
+rows_of_runs-returns-in_err-push_back-clause-least g t c = in_turn _ _ _ c.runs.invariant.least c.in_ok-part.ensures.least
 
 pub rows_of_runs-returns-in_err-push_back-clause-most : goal.rows_of_runs-returns-in_err-push_back-clause-most
 rows_of_runs-returns-in_err-push_back-clause-most g t c =
     some_steps c.args.reads.now _ (c.runs.run-index + 1) (length c.args.runs.now) (reads_upto c.args.d.now c.args.w.lo c.args.w.hi (formula_view c.args.a.now.body.now))
-    (one_step c.args.reads.now c.runs.reads _ c.runs.run-index (reads_upto c.args.d.now c.args.w.lo c.args.w.hi (formula_view c.args.a.now.body.now)) c.runs.invariant.most c.in_ok-rows.ensures.most) (omega (arith, c.runs-test.true))
+    (one_step c.args.reads.now c.runs.reads _ c.runs.run-index (reads_upto c.args.d.now c.args.w.lo c.args.w.hi (formula_view c.args.a.now.body.now)) c.runs.invariant.most c.in_ok-part.ensures.most) (omega (arith, c.runs-test.true))
 
 pub rows_of_runs-returns-in_err-made-clause-least : goal.rows_of_runs-returns-in_err-made-clause-least
 rows_of_runs-returns-in_err-made-clause-least g t c = c.runs.invariant.least
@@ -695,16 +694,15 @@ rows_of_runs-returns-clause-most g t c = some_steps c.args.reads.now c.runs.read
 pub rows_of_runs-runs-preserved : goal.rows_of_runs-runs-preserved
 rows_of_runs-runs-preserved g t c = record {
   alike = more_alike (variables_of (formula_view c.args.a.now.body.now)) c.args.d.now c.args.w.lo c.args.w.hi c.runs.parts.items c.push_back.new.self.items c.in_ok-part.part c.in_ok-push_back.ensures.items c.runs.invariant.alike
-      (c.in_ok-part.ensures.head.vars ∙ c.in_ok-rows.ensures.rows.vars) (head_frame c.in_ok-rows.rows c.in_ok-part.part c.in_ok-part.ensures.head ∙ c.in_ok-rows.ensures.rows.frame);
+      c.in_ok-part.ensures.rows.vars c.in_ok-part.ensures.rows.frame;
   ticks = λ b is_in u.
       ap (λ (rs : (List (Table g.row.S.Denot))). any_has g.S.TickSet.member rs b u) c.in_ok-push_back.ensures.items
-      ∙ run_more g.S.TickSet.member (g.I.Interpreter.interpretation c.args.source.now) c.args.d.now c.args.w.lo c.args.w.hi c.args.a.now.depth (formula_view c.args.a.now.body.now) c.args.env.now c.args.runs.now c.runs.run-index c.run-item.result c.runs.parts.items c.in_ok-rows.rows c.in_ok-part.part
+      ∙ run_more g.S.TickSet.member (g.I.Interpreter.interpretation c.args.source.now) c.args.d.now c.args.w.lo c.args.w.hi c.args.a.now.depth (formula_view c.args.a.now.body.now) c.args.env.now c.args.runs.now c.runs.run-index c.run-item.result c.runs.parts.items c.in_ok-part.part
       (omega (arith, c.runs-test.true)) c.run-item.is c.runs.invariant.ticks
-      (subst (λ (x : Env). AreRowsOf g.S.TickSet.member (g.I.Interpreter.interpretation c.args.source.now) c.args.d.now c.args.w.lo c.args.w.hi (formula_view c.args.a.now.body.now) x c.in_ok-rows.rows) c.with-bound.ensures c.in_ok-rows.ensures.rows)
-      (λ p r. c.in_ok-part.ensures.ticks p r ∙ (λ k. within (c.window.ensures.0 k) (c.window.ensures.1 k) r && has_tick g.S.TickSet.member c.in_ok-rows.rows p r))
+      (subst (λ (x : Env). AreRowsWhere g.S.TickSet.member c.args.d.now c.args.w.lo c.args.w.hi (variables_of (formula_view c.args.a.now.body.now)) (λ p r. within c.run-item.result.span.lo c.run-item.result.span.hi r && sat (g.I.Interpreter.interpretation c.args.source.now p) (formula_view c.args.a.now.body.now) x c.args.w.hi r) c.in_ok-part.part) c.with-bound.ensures c.in_ok-part.ensures.rows)
       b is_in u;
-  least = in_turn _ _ _ c.runs.invariant.least c.in_ok-rows.ensures.least;
-  most = one_step c.args.reads.now c.runs.reads _ c.runs.run-index (reads_upto c.args.d.now c.args.w.lo c.args.w.hi (formula_view c.args.a.now.body.now)) c.runs.invariant.most c.in_ok-rows.ensures.most;
+  least = in_turn _ _ _ c.runs.invariant.least c.in_ok-part.ensures.least;
+  most = one_step c.args.reads.now c.runs.reads _ c.runs.run-index (reads_upto c.args.d.now c.args.w.lo c.args.w.hi (formula_view c.args.a.now.body.now)) c.runs.invariant.most c.in_ok-part.ensures.most;
 }
 
 pub rows_of_runs-united-requires-clause-alike : goal.rows_of_runs-united-requires-clause-alike
@@ -723,3 +721,60 @@ rows_of_runs-returns-clause-rows g t c = record {
   vars = c.in_ok-made.ensures.vars ∙ variables_same (has c.free.result) (λ v. has_variable v (formula_view c.args.a.now.body.now)) (λ v l. c.free.ensures v l);
   frame = c.in_ok-made.ensures.frame;
 }
+
+pub rows_of_section-rows_of-requires : goal.rows_of_section-rows_of-requires
+rows_of_section-rows_of-requires g t c κs lives = (
+  omega (arith, c.decreases),
+  (
+    lives.0,
+    (
+      lives.1.0,
+      (
+        lives.1.1.0,
+        (
+          lives.1.1.1,
+          (
+            c.requires.over,
+            can_ask_fewer (g.I.Interpreter.interpretation c.args.source.now)
+                (g.I.Interpreter.atom_fits c.args.source.now c.args.section.window.lo c.args.section.window.hi) (g.I.Interpreter.atom_fits c.args.source.now c.seen_by-w.result.lo c.seen_by-w.result.hi)
+                (g.I.Interpreter.term_fits c.args.source.now c.args.section.window.lo c.args.section.window.hi) (g.I.Interpreter.term_fits c.args.source.now c.seen_by-w.result.lo c.seen_by-w.result.hi)
+                c.args.section.window.lo c.args.section.window.hi c.seen_by-w.result.lo c.seen_by-w.result.hi
+                (seen_from c.args.section.window.lo c.args.section.span.lo c.seen_by-w.result.lo c.args.section.begins c.seen_by-w.ensures.lo)
+                (seen_upto (reach (formula_view c.args.f.now)) c.args.section.span.hi c.args.section.window.hi c.seen_by-w.result.hi c.args.section.ends c.seen_by-w.ensures.hi)
+                (λ b a x can. g.met.I.Interpreter.atom_narrows c.args.source.now _ _ _ _ (seen_from c.args.section.window.lo c.args.section.span.lo c.seen_by-w.result.lo c.args.section.begins c.seen_by-w.ensures.lo) (seen_upto (reach (formula_view c.args.f.now)) c.args.section.span.hi c.args.section.window.hi c.seen_by-w.result.hi c.args.section.ends c.seen_by-w.ensures.hi) b a x can)
+                (λ b q x can. g.met.I.Interpreter.term_narrows c.args.source.now _ _ _ _ (seen_from c.args.section.window.lo c.args.section.span.lo c.seen_by-w.result.lo c.args.section.begins c.seen_by-w.ensures.lo) (seen_upto (reach (formula_view c.args.f.now)) c.args.section.span.hi c.args.section.window.hi c.seen_by-w.result.hi c.args.section.ends c.seen_by-w.ensures.hi) b q x can)
+                c.args.d.now (formula_view c.args.f.now) c.args.env.now c.requires.can,
+          ),
+        ),
+      ),
+    ),
+  ),
+)
+
+pub rows_of_section-rows_at-requires : goal.rows_of_section-rows_at-requires
+rows_of_section-rows_at-requires g t c = ap (λ (z : Frame). z.domains) c.in_ok-rows.ensures.rows.frame
+
+pub rows_of_section-returns-in_err-rows-clause-least : goal.rows_of_section-returns-in_err-rows-clause-least
+rows_of_section-returns-in_err-rows-clause-least g t c = c.in_err-rows.ensures.least
+
+pub rows_of_section-returns-in_err-rows-clause-most : goal.rows_of_section-returns-in_err-rows-clause-most
+rows_of_section-returns-in_err-rows-clause-most g t c = most_seen _ _ _ _ (section_reads (size_of c.args.d.now) (formula_view c.args.f.now) c.args.section.window.lo c.args.section.window.hi c.args.section.span.lo c.args.section.span.hi c.seen_by-w.result.lo c.seen_by-w.result.hi c.args.section.begins c.args.section.ends c.seen_by-w.ensures.lo c.seen_by-w.ensures.hi) c.in_err-rows.ensures.most
+
+pub rows_of_section-returns-in_err-made-clause-least : goal.rows_of_section-returns-in_err-made-clause-least
+rows_of_section-returns-in_err-made-clause-least g t c = c.in_ok-rows.ensures.least
+
+pub rows_of_section-returns-in_err-made-clause-most : goal.rows_of_section-returns-in_err-made-clause-most
+rows_of_section-returns-in_err-made-clause-most g t c = most_seen _ _ _ _ (section_reads (size_of c.args.d.now) (formula_view c.args.f.now) c.args.section.window.lo c.args.section.window.hi c.args.section.span.lo c.args.section.span.hi c.seen_by-w.result.lo c.seen_by-w.result.hi c.args.section.begins c.args.section.ends c.seen_by-w.ensures.lo c.seen_by-w.ensures.hi) c.in_ok-rows.ensures.most
+
+pub rows_of_section-returns-clause-least : goal.rows_of_section-returns-clause-least
+rows_of_section-returns-clause-least g t c = c.in_ok-rows.ensures.least
+
+pub rows_of_section-returns-clause-most : goal.rows_of_section-returns-clause-most
+rows_of_section-returns-clause-most g t c = most_seen _ _ _ _ (section_reads (size_of c.args.d.now) (formula_view c.args.f.now) c.args.section.window.lo c.args.section.window.hi c.args.section.span.lo c.args.section.span.hi c.seen_by-w.result.lo c.seen_by-w.result.hi c.args.section.begins c.args.section.ends c.seen_by-w.ensures.lo c.seen_by-w.ensures.hi) c.in_ok-rows.ensures.most
+
+pub rows_of_section-returns-clause-rows : goal.rows_of_section-returns-clause-rows
+rows_of_section-returns-clause-rows g t c =
+    section_rows g.S.TickSet.member (g.I.Interpreter.interpretation c.args.source.now) c.args.d.now (formula_view c.args.f.now) c.args.env.now
+    c.args.section.span.lo c.args.section.span.hi c.seen_by-w.result.lo c.seen_by-w.result.hi c.args.section.window.lo c.args.section.window.hi
+    c.args.section.ends c.args.section.begins c.seen_by-w.ensures.lo c.seen_by-w.ensures.hi c.in_ok-rows.rows c.in_ok-made.made
+    c.in_ok-rows.ensures.rows c.in_ok-made.ensures.ticks c.in_ok-made.ensures.vars c.in_ok-made.ensures.frame

@@ -13,22 +13,25 @@ use Rattle.evaluator.specs.Rows.{reads_at_key, reads_upto}
 use Rattle.evaluator.proofs.rows.+rows.Given as goal
 
 abbrev pub decreases-rows_of : goal.decreases-rows_of
-decreases-rows_of g l = 4 * nodes (formula_view l.f.now)
+decreases-rows_of g l = 5 * nodes (formula_view l.f.now)
 
 abbrev pub decreases-rows_of_pair : goal.decreases-rows_of_pair
-decreases-rows_of_pair g l = 4 * (nodes (formula_view l.pair.now.left.now) + nodes (formula_view l.pair.now.right.now)) + 2
+decreases-rows_of_pair g l = 5 * (nodes (formula_view l.pair.now.left.now) + nodes (formula_view l.pair.now.right.now)) + 2
 
 abbrev pub decreases-rows_beside : goal.decreases-rows_beside
-decreases-rows_beside g l = 4 * nodes (formula_view l.f.now) + 1
+decreases-rows_beside g l = 5 * nodes (formula_view l.f.now) + 1
 
 abbrev pub decreases-rows_of_assignment : goal.decreases-rows_of_assignment
-decreases-rows_of_assignment g l = 4 * nodes (formula_view l.a.now.body.now) + 3
+decreases-rows_of_assignment g l = 5 * nodes (formula_view l.a.now.body.now) + 4
 
 abbrev pub decreases-rows_at_key : goal.decreases-rows_at_key
-decreases-rows_at_key g l = 4 * nodes (formula_view l.a.now.body.now) + 2
+decreases-rows_at_key g l = 5 * nodes (formula_view l.a.now.body.now) + 3
 
 abbrev pub decreases-rows_of_runs : goal.decreases-rows_of_runs
-decreases-rows_of_runs g l = 4 * nodes (formula_view l.a.now.body.now) + 1
+decreases-rows_of_runs g l = 5 * nodes (formula_view l.a.now.body.now) + 2
+
+abbrev pub decreases-rows_of_section : goal.decreases-rows_of_section
+decreases-rows_of_section g l = 5 * nodes (formula_view l.f.now) + 1
 
 abbrev pub invariant-rows_of_assignment-keys : goal.invariant-rows_of_assignment-keys
 invariant-rows_of_assignment-keys g l = record {

@@ -3,6 +3,7 @@ use Rattle.std.specs.Prelude.{All}
 use Rattle.tick_set.specs.Ticks.{within}
 use Rattle.formula_shape.specs.Sizes.{nodes}
 use Rattle.formula.specs.declared.value.Env.{Env}
+use Rattle.formula.specs.Reach.{reach}
 use Rattle.formula.specs.Tree.{ResolvedTree, formula_view}
 use Rattle.meaning.specs.Reads.{atom_variables}
 use Rattle.meaning.specs.Satisfaction.{sat}
@@ -16,7 +17,8 @@ use Rattle.evaluator.specs.inner.Nodes.{changed_tree, paired_tree}
 use Rattle.evaluator.proofs.LoopLemmas.{in_turn, most_both, most_first, most_same, none_yet}
 use Rattle.evaluator.proofs.NodeLemmas.{changed_can, changed_nodes, changed_reads, paired_can, paired_nodes, paired_reads}
 use Rattle.evaluator.proofs.ReadLemmas.{one_step}
-use Rattle.evaluator.proofs.TickLemmas.{can_ask_by, lies, one_ticks, reads_of_atom, run_added, runs_done, runs_here, no_goal, term_here, two_ticks}
+use Rattle.evaluator.proofs.SeenLemmas.{can_here_fewer, most_seen, section_alike, section_reads, seen_from, seen_upto}
+use Rattle.evaluator.proofs.TickLemmas.{can_ask_by, lies, one_ticks, reads_of_atom, run_added, run_within, runs_done, runs_here, no_goal, term_here, two_ticks}
 use Rattle.evaluator.proofs.ticks.+ticks.Goals as goal
 
 pub ticks_of-returns-in_ok-made-in-Truth-clause-ticks : goal.ticks_of-returns-in_ok-made-in-Truth-clause-ticks
@@ -178,8 +180,8 @@ ticks_of_assignment-each-init g t c = record {
   most = omega arith;
 }
 
-pub ticks_of_assignment-ticks_of-requires : goal.ticks_of_assignment-ticks_of-requires
-ticks_of_assignment-ticks_of-requires g t c κs lives = (
+pub ticks_of_assignment-ticks_of_section-requires : goal.ticks_of_assignment-ticks_of_section-requires
+ticks_of_assignment-ticks_of_section-requires g t c κs lives = (
   omega (arith, c.decreases),
   (
     lives.0,
@@ -197,32 +199,23 @@ ticks_of_assignment-ticks_of-requires g t c κs lives = (
   ),
 )
 
-pub ticks_of_assignment-returns-in_err-ticks-clause-least : goal.ticks_of_assignment-returns-in_err-ticks-clause-least
-ticks_of_assignment-returns-in_err-ticks-clause-least g t c = in_turn _ _ _ c.in_ok-runs.ensures.least (in_turn _ _ _ c.each.invariant.least c.in_err-ticks.ensures.least)
-
-pub ticks_of_assignment-returns-in_err-ticks-clause-most : goal.ticks_of_assignment-returns-in_err-ticks-clause-most
-ticks_of_assignment-returns-in_err-ticks-clause-most g t c =
-    let few : length c.deref-run-items.result.now ≤ c.args.w.hi + 1 - c.args.w.lo = subst (λ (rs : List ValueRun). length rs ≤ c.args.w.hi + 1 - c.args.w.lo) (sym c.deref-run-items.ensures.value) c.in_ok-runs.ensures.runs.few in
-    runs_here c.args.w.lo c.args.w.hi c.args.a.now.depth c.args.a.now.term.now (formula_view c.args.a.now.body.now) _ _ _ (c.each.run-index + 1) c.in_ok-runs.ensures.most (omega (arith, c.each-test.true, few))
-    (one_step _ c.each.reads _ c.each.run-index (reads_here c.args.w.lo c.args.w.hi (formula_view c.args.a.now.body.now)) c.each.invariant.most c.in_err-ticks.ensures.most)
-
 pub ticks_of_assignment-returns-in_err-part-clause-least : goal.ticks_of_assignment-returns-in_err-part-clause-least
-ticks_of_assignment-returns-in_err-part-clause-least g t c = in_turn _ _ _ c.in_ok-runs.ensures.least (in_turn _ _ _ c.each.invariant.least c.in_ok-ticks.ensures.least)
+ticks_of_assignment-returns-in_err-part-clause-least g t c = in_turn _ _ _ c.in_ok-runs.ensures.least (in_turn _ _ _ c.each.invariant.least c.in_err-part.ensures.least)
 
 pub ticks_of_assignment-returns-in_err-part-clause-most : goal.ticks_of_assignment-returns-in_err-part-clause-most
 ticks_of_assignment-returns-in_err-part-clause-most g t c =
     let few : length c.deref-run-items.result.now ≤ c.args.w.hi + 1 - c.args.w.lo = subst (λ (rs : List ValueRun). length rs ≤ c.args.w.hi + 1 - c.args.w.lo) (sym c.deref-run-items.ensures.value) c.in_ok-runs.ensures.runs.few in
     runs_here c.args.w.lo c.args.w.hi c.args.a.now.depth c.args.a.now.term.now (formula_view c.args.a.now.body.now) _ _ _ (c.each.run-index + 1) c.in_ok-runs.ensures.most (omega (arith, c.each-test.true, few))
-    (one_step _ c.each.reads _ c.each.run-index (reads_here c.args.w.lo c.args.w.hi (formula_view c.args.a.now.body.now)) c.each.invariant.most c.in_ok-ticks.ensures.most)
+    (one_step _ c.each.reads _ c.each.run-index (reads_here c.args.w.lo c.args.w.hi (formula_view c.args.a.now.body.now)) c.each.invariant.most c.in_err-part.ensures.most)
 
 pub ticks_of_assignment-returns-in_err-push_back-clause-least : goal.ticks_of_assignment-returns-in_err-push_back-clause-least
-ticks_of_assignment-returns-in_err-push_back-clause-least g t c = in_turn _ _ _ c.in_ok-runs.ensures.least (in_turn _ _ _ c.each.invariant.least c.in_ok-ticks.ensures.least)
+ticks_of_assignment-returns-in_err-push_back-clause-least g t c = in_turn _ _ _ c.in_ok-runs.ensures.least (in_turn _ _ _ c.each.invariant.least c.in_ok-part.ensures.least)
 
 pub ticks_of_assignment-returns-in_err-push_back-clause-most : goal.ticks_of_assignment-returns-in_err-push_back-clause-most
 ticks_of_assignment-returns-in_err-push_back-clause-most g t c =
     let few : length c.deref-run-items.result.now ≤ c.args.w.hi + 1 - c.args.w.lo = subst (λ (rs : List ValueRun). length rs ≤ c.args.w.hi + 1 - c.args.w.lo) (sym c.deref-run-items.ensures.value) c.in_ok-runs.ensures.runs.few in
     runs_here c.args.w.lo c.args.w.hi c.args.a.now.depth c.args.a.now.term.now (formula_view c.args.a.now.body.now) _ _ _ (c.each.run-index + 1) c.in_ok-runs.ensures.most (omega (arith, c.each-test.true, few))
-    (one_step _ c.each.reads _ c.each.run-index (reads_here c.args.w.lo c.args.w.hi (formula_view c.args.a.now.body.now)) c.each.invariant.most c.in_ok-ticks.ensures.most)
+    (one_step _ c.each.reads _ c.each.run-index (reads_here c.args.w.lo c.args.w.hi (formula_view c.args.a.now.body.now)) c.each.invariant.most c.in_ok-part.ensures.most)
 
 pub ticks_of_assignment-returns-in_err-made-clause-least : goal.ticks_of_assignment-returns-in_err-made-clause-least
 ticks_of_assignment-returns-in_err-made-clause-least g t c = in_turn _ _ _ c.in_ok-runs.ensures.least c.each.invariant.least
@@ -241,17 +234,20 @@ ticks_of_assignment-returns-clause-most g t c =
     runs_here c.args.w.lo c.args.w.hi c.args.a.now.depth c.args.a.now.term.now (formula_view c.args.a.now.body.now) _ _ _ c.each.run-index c.in_ok-runs.ensures.most (let l : c.each.run-index ≤ length c.deref-run-items.result.now = c.each.auto.run-index-end in omega (arith, l, few)) c.each.invariant.most
 
 pub ticks_of_assignment-each-preserved : goal.ticks_of_assignment-each-preserved
-ticks_of_assignment-each-preserved g t c = record {
-  ticks = λ u.
-      ap (λ (rs : List g.row.S.Denot). any_member g.S.TickSet.member rs u) c.in_ok-push_back.ensures.items
-      ∙ run_added g.S.TickSet.member (g.I.Interpreter.interpretation c.args.source.now) (slice_index c.args.binding.now) c.args.w.lo c.args.w.hi c.args.a.now.depth (formula_view c.args.a.now.body.now) c.args.env.now c.deref-run-items.result.now c.each.run-index c.run-item.result c.each.parts.items c.in_ok-ticks.ticks c.in_ok-part.part
-      (omega (arith, c.each-test.true)) c.run-item.is c.each.invariant.ticks
-      (subst (λ (x : Env). AreTicksOf g.S.TickSet.member (g.I.Interpreter.interpretation c.args.source.now (slice_index c.args.binding.now)) c.args.w.lo c.args.w.hi (formula_view c.args.a.now.body.now) x c.in_ok-ticks.ticks) c.with-bound.ensures c.in_ok-ticks.ensures.ticks)
-      (λ r. c.in_ok-part.ensures r ∙ (λ k. within (c.window.ensures.0 k) (c.window.ensures.1 k) r && g.S.TickSet.member c.in_ok-ticks.ticks r))
-      u;
-  least = in_turn _ _ _ c.each.invariant.least c.in_ok-ticks.ensures.least;
-  most = one_step _ c.each.reads _ c.each.run-index (reads_here c.args.w.lo c.args.w.hi (formula_view c.args.a.now.body.now)) c.each.invariant.most c.in_ok-ticks.ensures.most;
-}
+ticks_of_assignment-each-preserved g t c =
+    let own = run_within (formula_names c.args.a.now.depth (formula_view c.args.a.now.body.now)) ((g.I.Interpreter.interpretation c.args.source.now (slice_index c.args.binding.now)).term c.args.a.now.term.now c.args.env.now) c.args.w.lo c.args.w.hi c.deref-run-items.result.now
+    (subst (λ (rs : List ValueRun). All (IsStretch (formula_names c.args.a.now.depth (formula_view c.args.a.now.body.now)) ((g.I.Interpreter.interpretation c.args.source.now (slice_index c.args.binding.now)).term c.args.a.now.term.now c.args.env.now) c.args.w.lo (c.args.w.hi + 1)) rs) (sym c.deref-run-items.ensures.value) c.in_ok-runs.ensures.runs.each)
+    c.each.run-index c.run-item.result (omega (arith, c.each-test.true)) c.run-item.is in
+    record {
+      ticks = λ u.
+          ap (λ (rs : List g.row.S.Denot). any_member g.S.TickSet.member rs u) c.in_ok-push_back.ensures.items
+          ∙ run_added g.S.TickSet.member (g.I.Interpreter.interpretation c.args.source.now) (slice_index c.args.binding.now) c.args.w.lo c.args.w.hi c.args.a.now.depth (formula_view c.args.a.now.body.now) c.args.env.now c.deref-run-items.result.now c.each.run-index c.run-item.result c.each.parts.items c.in_ok-part.part
+          (omega (arith, c.each-test.true)) c.run-item.is own.0 own.1 c.each.invariant.ticks
+          (λ r. c.in_ok-part.ensures.ticks r ∙ ap (λ (x : Env). within c.run-item.result.span.lo c.run-item.result.span.hi r && sat (g.I.Interpreter.interpretation c.args.source.now (slice_index c.args.binding.now)) (formula_view c.args.a.now.body.now) x c.args.w.hi r) c.with-bound.ensures)
+          u;
+      least = in_turn _ _ _ c.each.invariant.least c.in_ok-part.ensures.least;
+      most = one_step _ c.each.reads _ c.each.run-index (reads_here c.args.w.lo c.args.w.hi (formula_view c.args.a.now.body.now)) c.each.invariant.most c.in_ok-part.ensures.most;
+    }
 
 pub ticks_of_assignment-returns-clause-ticks : goal.ticks_of_assignment-returns-clause-ticks
 ticks_of_assignment-returns-clause-ticks g t c =
@@ -269,3 +265,54 @@ pub ticks_of_until-returns-clause-ticks : goal.ticks_of_until-returns-clause-tic
 ticks_of_until-returns-clause-ticks g t c =
     two_ticks g.S.TickSet.member c.args.w.lo c.args.w.hi (g.I.Interpreter.interpretation c.args.source.now (slice_index c.args.binding.now)) c.args.env.now (pairings.Until c.args.form c.args.c) (formula_view c.args.guard.now) (formula_view c.args.goal.now)
     c.in_ok-guards.guards c.in_ok-goals.goals c.in_ok-made.made c.in_ok-guards.ensures.ticks c.in_ok-goals.ensures.ticks c.in_ok-made.ensures
+
+pub ticks_of_section-ticks_of-requires : goal.ticks_of_section-ticks_of-requires
+ticks_of_section-ticks_of-requires g t c κs lives = (
+  omega (arith, c.decreases),
+  (
+    lives.0,
+    (
+      lives.1.0,
+      (
+        lives.1.1.0,
+        (
+          lives.1.1.1,
+          can_here_fewer (g.I.Interpreter.interpretation c.args.source.now)
+              (g.I.Interpreter.atom_fits c.args.source.now c.args.section.window.lo c.args.section.window.hi) (g.I.Interpreter.atom_fits c.args.source.now c.seen_by-w.result.lo c.seen_by-w.result.hi)
+              (g.I.Interpreter.term_fits c.args.source.now c.args.section.window.lo c.args.section.window.hi) (g.I.Interpreter.term_fits c.args.source.now c.seen_by-w.result.lo c.seen_by-w.result.hi)
+              c.args.section.window.lo c.args.section.window.hi c.seen_by-w.result.lo c.seen_by-w.result.hi
+              (seen_from c.args.section.window.lo c.args.section.span.lo c.seen_by-w.result.lo c.args.section.begins c.seen_by-w.ensures.lo)
+              (seen_upto (reach (formula_view c.args.f.now)) c.args.section.span.hi c.args.section.window.hi c.seen_by-w.result.hi c.args.section.ends c.seen_by-w.ensures.hi)
+              (λ b a x can. g.met.I.Interpreter.atom_narrows c.args.source.now _ _ _ _ (seen_from c.args.section.window.lo c.args.section.span.lo c.seen_by-w.result.lo c.args.section.begins c.seen_by-w.ensures.lo) (seen_upto (reach (formula_view c.args.f.now)) c.args.section.span.hi c.args.section.window.hi c.seen_by-w.result.hi c.args.section.ends c.seen_by-w.ensures.hi) b a x can)
+              (λ b q x can. g.met.I.Interpreter.term_narrows c.args.source.now _ _ _ _ (seen_from c.args.section.window.lo c.args.section.span.lo c.seen_by-w.result.lo c.args.section.begins c.seen_by-w.ensures.lo) (seen_upto (reach (formula_view c.args.f.now)) c.args.section.span.hi c.args.section.window.hi c.seen_by-w.result.hi c.args.section.ends c.seen_by-w.ensures.hi) b q x can)
+              (slice_index c.args.binding.now) (formula_view c.args.f.now) c.args.env.now c.requires,
+        ),
+      ),
+    ),
+  ),
+)
+
+pub ticks_of_section-returns-in_err-ticks-clause-least : goal.ticks_of_section-returns-in_err-ticks-clause-least
+ticks_of_section-returns-in_err-ticks-clause-least g t c = c.in_err-ticks.ensures.least
+
+pub ticks_of_section-returns-in_err-ticks-clause-most : goal.ticks_of_section-returns-in_err-ticks-clause-most
+ticks_of_section-returns-in_err-ticks-clause-most g t c = most_seen _ _ _ _ (section_reads (λ _. 1) (formula_view c.args.f.now) c.args.section.window.lo c.args.section.window.hi c.args.section.span.lo c.args.section.span.hi c.seen_by-w.result.lo c.seen_by-w.result.hi c.args.section.begins c.args.section.ends c.seen_by-w.ensures.lo c.seen_by-w.ensures.hi) c.in_err-ticks.ensures.most
+
+pub ticks_of_section-returns-in_err-made-clause-least : goal.ticks_of_section-returns-in_err-made-clause-least
+ticks_of_section-returns-in_err-made-clause-least g t c = c.in_ok-ticks.ensures.least
+
+pub ticks_of_section-returns-in_err-made-clause-most : goal.ticks_of_section-returns-in_err-made-clause-most
+ticks_of_section-returns-in_err-made-clause-most g t c = most_seen _ _ _ _ (section_reads (λ _. 1) (formula_view c.args.f.now) c.args.section.window.lo c.args.section.window.hi c.args.section.span.lo c.args.section.span.hi c.seen_by-w.result.lo c.seen_by-w.result.hi c.args.section.begins c.args.section.ends c.seen_by-w.ensures.lo c.seen_by-w.ensures.hi) c.in_ok-ticks.ensures.most
+
+pub ticks_of_section-returns-clause-least : goal.ticks_of_section-returns-clause-least
+ticks_of_section-returns-clause-least g t c = c.in_ok-ticks.ensures.least
+
+pub ticks_of_section-returns-clause-most : goal.ticks_of_section-returns-clause-most
+ticks_of_section-returns-clause-most g t c = most_seen _ _ _ _ (section_reads (λ _. 1) (formula_view c.args.f.now) c.args.section.window.lo c.args.section.window.hi c.args.section.span.lo c.args.section.span.hi c.seen_by-w.result.lo c.seen_by-w.result.hi c.args.section.begins c.args.section.ends c.seen_by-w.ensures.lo c.seen_by-w.ensures.hi) c.in_ok-ticks.ensures.most
+
+pub ticks_of_section-returns-clause-ticks : goal.ticks_of_section-returns-clause-ticks
+ticks_of_section-returns-clause-ticks g t c = λ u.
+    c.in_ok-made.ensures u
+    ∙ (λ k. within (c.window.ensures.0 k) (c.window.ensures.1 k) u && c.in_ok-ticks.ensures.ticks u k)
+    ∙ section_alike (g.I.Interpreter.interpretation c.args.source.now (slice_index c.args.binding.now)) (formula_view c.args.f.now) c.args.env.now c.args.section.span.lo c.args.section.span.hi c.args.section.window.hi c.seen_by-w.result.lo c.seen_by-w.result.hi
+    c.args.section.ends c.seen_by-w.ensures.lo c.seen_by-w.ensures.hi u

@@ -7,13 +7,16 @@ use Rattle.evaluator.specs.inner.ByBinding.{any_member, reads_here}
 use Rattle.evaluator.proofs.ticks.+ticks.Given as goal
 
 abbrev pub decreases-ticks_of : goal.decreases-ticks_of
-decreases-ticks_of g l = 2 * nodes (formula_view l.f.now)
+decreases-ticks_of g l = 3 * nodes (formula_view l.f.now)
 
 abbrev pub decreases-ticks_of_until : goal.decreases-ticks_of_until
-decreases-ticks_of_until g l = 2 * (nodes (formula_view l.guard.now) + nodes (formula_view l.goal.now)) + 1
+decreases-ticks_of_until g l = 3 * (nodes (formula_view l.guard.now) + nodes (formula_view l.goal.now)) + 1
 
 abbrev pub decreases-ticks_of_assignment : goal.decreases-ticks_of_assignment
-decreases-ticks_of_assignment g l = 2 * nodes (formula_view l.a.now.body.now) + 1
+decreases-ticks_of_assignment g l = 3 * nodes (formula_view l.a.now.body.now) + 2
+
+abbrev pub decreases-ticks_of_section : goal.decreases-ticks_of_section
+decreases-ticks_of_section g l = 3 * nodes (formula_view l.f.now) + 1
 
 abbrev pub invariant-ticks_of_assignment-each : goal.invariant-ticks_of_assignment-each
 invariant-ticks_of_assignment-each g l = record {
