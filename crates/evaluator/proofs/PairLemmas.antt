@@ -17,7 +17,7 @@ use Rattle.relation.specs.Rows.{Table, has, has_at}
 use Rattle.evaluator.specs.declared.node.Pairing.{Pairing}
 use Rattle.evaluator.specs.declared.node.Pairing.TheVariants as pairings
 use Rattle.evaluator.specs.Interpreting.{CanAsk}
-use Rattle.evaluator.specs.Rows.{AreRowsOf}
+use Rattle.evaluator.specs.Rows.{AreRowsOf, reads_upto}
 use Rattle.evaluator.specs.inner.Column.{AreForRows, AreRowsBeside}
 use Rattle.evaluator.specs.inner.Nodes.{needs_right, ordered_tree, paired_in, paired_tree, turns}
 use Rattle.evaluator.proofs.FullLemmas.{sum_none}
@@ -113,6 +113,10 @@ most_turned old mid new all left right e h l = omega (arith, e, h, l)
 
 pub most_fewer : (old new few all : ℕ) → few ≤ all → new ≤ old + few → new ≤ old + all
 most_fewer old new few all f h = omega (arith, f, h)
+
+-- over the same objects
+pub most_over : (lo hi : ℕ) (f : ResolvedTree) (own all : List (List ℕ)) → own ≡ all → (old new : ℕ) → new ≤ old + reads_upto own lo hi f → new ≤ old + reads_upto all lo hi f
+most_over lo hi f own all same old new h = subst (λ (ds : List (List ℕ)). new ≤ old + reads_upto ds lo hi f) same h
 
 -- ---- rows
 

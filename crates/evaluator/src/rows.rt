@@ -119,34 +119,33 @@ fn rows_of_pair<'d, S: Temporal, I: Interpreter<S>, L: Ledger, M: Ledger>(
 {
     let right = rows_of(alloc, source, pair.right, d, env, w, reads, probes)?;
     right.rows_stand_in_order();
-    let left = rows_beside(alloc, source, pair.left, &right, d, env, w, reads, probes)?;
+    let left = rows_beside(alloc, source, pair.left, &right, env, w, reads, probes)?;
     let made = paired_rows(alloc, pair.pairing, &left, &right)?;
     Ok(made)
 }
 
-// The rows of a formula where another relation has a row: objects that it leaves out aren't asked.
+// The rows of a formula where another relation has a row, over its domains: objects that it leaves out aren't asked.
 #[cycle(rows)]
 fn rows_beside<'d, S: Temporal, I: Interpreter<S>, L: Ledger, M: Ledger>(
     alloc: Global,
     source: &I,
     f: &RFormula,
     other: &Relation<'d, S>,
-    d: &'d Domains,
     env: &Env,
     w: Window,
     reads: &mut Steps<L>,
     probes: &mut Steps<M>,
 ) -> Result<Relation<'d, S>, AllocError>
-    requires frame { frame other.now ≡ frame_of d.now w.lo w.hi }
-    requires over { IsOver (length d.now) (formula_view f.now) }
+    requires over { IsOver (length other.now.domains) (formula_view f.now) }
     requires can { CanAsk (I.interpretation source.now) (I.atom_fits source.now w.lo w.hi)
-        (I.term_fits source.now w.lo w.hi) d.now w.lo w.hi (formula_view f.now) env.now }
-    ensures rows { IfOk result (AreRowsBeside S.member (I.interpretation source.now) d.now w.lo w.hi
+        (I.term_fits source.now w.lo w.hi) other.now.domains w.lo w.hi (formula_view f.now) env.now }
+    ensures rows { IfOk result (AreRowsBeside S.member (I.interpretation source.now) other.now.domains w.lo w.hi
         (formula_view f.now) env.now other.now) }
     ensures least { reads.old ≤ reads.new }
-    ensures most { reads.new ≤ reads.old + reads_upto d.now w.lo w.hi (formula_view f.now) }
+    ensures most { reads.new ≤ reads.old + reads_upto other.now.domains w.lo w.hi (formula_view f.now) }
 {
     fewer_objects_take_fewer_looks();
+    let d = other.domains();
     if leave_out(other, d) {
         let few = domains_for(alloc, other, d)?;
         let near = rows_of(alloc, source, f, &few, env, w, reads, probes)?;

@@ -12,7 +12,7 @@ use Rattle.formula.specs.VarSet.{has}
 use Rattle.formula.specs.Variables.{has_variable, term_has, variables_in, variables_of}
 use Rattle.meaning.specs.Reads.{term_variables}
 use Rattle.meaning.specs.Satisfaction.{sat}
-use Rattle.relation.specs.Frames.{Frame, IsWider, size_of}
+use Rattle.relation.specs.Frames.{Frame, IsWider, frame_of, size_of}
 use Rattle.formula.specs.Resolved.{are_distinct}
 use Rattle.relation.specs.Key.{are_known, key_in}
 use Rattle.relation.specs.Rows.{Table, has as has_tick}
@@ -24,6 +24,7 @@ use Rattle.evaluator.specs.Keys.{AreKeys}
 use Rattle.evaluator.specs.Rows.{AreRowsOf, AreRowsWhere, reads_at_key, reads_upto}
 use Rattle.interpreting.specs.Names.{formula_names}
 use Rattle.evaluator.specs.Stretched.{AreStretches}
+use Rattle.evaluator.specs.inner.Column.{AreRowsBeside}
 use Rattle.evaluator.specs.inner.Nodes.{changed_tree, needs_right, ordered_tree, pair_view, paired_tree}
 use Rattle.evaluator.proofs.AssignLemmas.{all_keys, can_ask_each, can_ask_narrower, key_more, rows_at_key, run_more}
 use Rattle.evaluator.proofs.AtomLemmas.{inside_at}
@@ -33,7 +34,7 @@ use Rattle.evaluator.proofs.FillingLemmas.{at_key}
 use Rattle.evaluator.proofs.LoopLemmas.{can_ask_item, head_frame, in_turn, key_within, keys_within, more_alike, most_both, most_first, most_same, none_alike, none_yet, some_steps, term_within, wide_frame}
 use Rattle.evaluator.proofs.NamedLemmas.{sat_unnamed}
 use Rattle.evaluator.proofs.NodeLemmas.{changed_asks, changed_has, changed_nodes, changed_reads, paired_asks, paired_has, paired_nodes, paired_reads}
-use Rattle.evaluator.proofs.PairLemmas.{beside_all, beside_few, fewer_reads, led_rows, most_fewer, most_second, most_turned, ordered_asks, ordered_has, ordered_nodes, ordered_reads, ordered_rows}
+use Rattle.evaluator.proofs.PairLemmas.{beside_all, beside_few, fewer_reads, led_rows, most_fewer, most_over, most_second, most_turned, ordered_asks, ordered_has, ordered_nodes, ordered_reads, ordered_rows}
 use Rattle.evaluator.proofs.ReadLemmas.{one_step}
 use Rattle.evaluator.proofs.RowLemmas.{one_rows, two_rows}
 use Rattle.evaluator.proofs.SectionLemmas.{section_rows}
@@ -267,28 +268,28 @@ rows_of_pair-rows_of-requires g t c κs lives = (
 )
 
 pub rows_of_pair-rows_beside-requires : goal.rows_of_pair-rows_beside-requires
-rows_of_pair-rows_beside-requires g t c κs lives = (
-  omega (arith, c.decreases),
-  (
-    lives.0,
-    (
-      lives.1.0,
+rows_of_pair-rows_beside-requires g t c κs lives =
+    let own : c.in_ok-right.right.domains ≡ c.args.d.now = ap (λ (z : Frame). z.domains) c.in_ok-right.ensures.rows.frame in
+    let many : length c.in_ok-right.right.domains ≡ length c.args.d.now = ap length own in
+    let both = paired_asks (g.I.Interpreter.interpretation c.args.source.now) (g.I.Interpreter.atom_fits c.args.source.now c.args.w.lo c.args.w.hi) (g.I.Interpreter.term_fits c.args.source.now c.args.w.lo c.args.w.hi) c.args.d.now c.args.w.lo c.args.w.hi c.args.env.now c.args.pair.now.pairing (formula_view c.args.pair.now.left.now) (formula_view c.args.pair.now.right.now) c.requires.can in (
+      omega (arith, c.decreases),
       (
-        lives.1.1.0,
+        lives.0,
         (
-          lives.1.1.1,
+          lives.1.0,
           (
-            c.in_ok-right.ensures.rows.frame,
+            lives.1.1.0,
             (
-              (λ v h. c.requires.over v (paired_has v c.args.pair.now.pairing (formula_view c.args.pair.now.left.now) (formula_view c.args.pair.now.right.now) ∙ or_left (has_variable v (formula_view c.args.pair.now.left.now)) (has_variable v (formula_view c.args.pair.now.right.now)) h)),
-              (let both = paired_asks (g.I.Interpreter.interpretation c.args.source.now) (g.I.Interpreter.atom_fits c.args.source.now c.args.w.lo c.args.w.hi) (g.I.Interpreter.term_fits c.args.source.now c.args.w.lo c.args.w.hi) c.args.d.now c.args.w.lo c.args.w.hi c.args.env.now c.args.pair.now.pairing (formula_view c.args.pair.now.left.now) (formula_view c.args.pair.now.right.now) c.requires.can in both.0),
+              lives.1.1.1,
+              (
+                (λ v h. (let o = c.requires.over v (paired_has v c.args.pair.now.pairing (formula_view c.args.pair.now.left.now) (formula_view c.args.pair.now.right.now) ∙ or_left (has_variable v (formula_view c.args.pair.now.left.now)) (has_variable v (formula_view c.args.pair.now.right.now)) h) in omega (arith, o, many))),
+                subst (λ (ds : List (List ℕ)). CanAsk (g.I.Interpreter.interpretation c.args.source.now) (g.I.Interpreter.atom_fits c.args.source.now c.args.w.lo c.args.w.hi) (g.I.Interpreter.term_fits c.args.source.now c.args.w.lo c.args.w.hi) ds c.args.w.lo c.args.w.hi (formula_view c.args.pair.now.left.now) c.args.env.now) (sym own) both.0,
+              ),
             ),
           ),
         ),
       ),
-    ),
-  ),
-)
+    )
 
 pub rows_of_pair-paired_rows-requires-clause-left : goal.rows_of_pair-paired_rows-requires-clause-left
 rows_of_pair-paired_rows-requires-clause-left g t c =
@@ -299,12 +300,16 @@ rows_of_pair-paired_rows-requires-clause-right g t c =
     subst (λ (vs : List ℕ). IsStrictlyIncreasing vs) (sym c.in_ok-right.ensures.rows.vars) (ascending_variables (λ v. has_variable v (formula_view c.args.pair.now.right.now)))
 
 pub rows_of_pair-paired_rows-requires-clause-frame : goal.rows_of_pair-paired_rows-requires-clause-frame
-rows_of_pair-paired_rows-requires-clause-frame g t c = c.in_ok-right.ensures.rows.frame ∙ sym c.in_ok-left.ensures.rows.frame
+rows_of_pair-paired_rows-requires-clause-frame g t c =
+    c.in_ok-right.ensures.rows.frame
+    ∙ ap (λ (ds : List (List ℕ)). frame_of ds c.args.w.lo c.args.w.hi) (sym (ap (λ (z : Frame). z.domains) c.in_ok-right.ensures.rows.frame))
+    ∙ sym c.in_ok-left.ensures.rows.frame
 
 pub rows_of_pair-returns-clause-rows : goal.rows_of_pair-returns-clause-rows
 rows_of_pair-returns-clause-rows g t c =
     led_rows g.S.TickSet.member (g.I.Interpreter.interpretation c.args.source.now) c.args.d.now c.args.w.lo c.args.w.hi c.args.env.now c.args.pair.now.pairing c.requires.needs (formula_view c.args.pair.now.left.now) (formula_view c.args.pair.now.right.now) c.in_ok-left.left c.in_ok-right.right c.in_ok-made.made
-    c.in_ok-left.ensures.rows c.in_ok-right.ensures.rows c.rows_stand_in_order.ensures.none
+    (subst (λ (ds : List (List ℕ)). AreRowsBeside g.S.TickSet.member (g.I.Interpreter.interpretation c.args.source.now) ds c.args.w.lo c.args.w.hi (formula_view c.args.pair.now.left.now) c.args.env.now c.in_ok-right.right c.in_ok-left.left) (ap (λ (z : Frame). z.domains) c.in_ok-right.ensures.rows.frame) c.in_ok-left.ensures.rows)
+    c.in_ok-right.ensures.rows c.rows_stand_in_order.ensures.none
     c.in_ok-made.ensures.ticks c.in_ok-made.ensures.vars c.in_ok-made.ensures.frame
 
 pub rows_of_pair-returns-in_err-right-clause-least : goal.rows_of_pair-returns-in_err-right-clause-least
@@ -319,89 +324,117 @@ rows_of_pair-returns-in_err-left-clause-least g t c = in_turn _ _ _ c.in_ok-righ
 
 pub rows_of_pair-returns-in_err-left-clause-most : goal.rows_of_pair-returns-in_err-left-clause-most
 rows_of_pair-returns-in_err-left-clause-most g t c =
-    most_turned _ _ _ (reads_upto c.args.d.now c.args.w.lo c.args.w.hi (pair_view c.args.pair.now)) (reads_upto c.args.d.now c.args.w.lo c.args.w.hi (formula_view c.args.pair.now.left.now)) (reads_upto c.args.d.now c.args.w.lo c.args.w.hi (formula_view c.args.pair.now.right.now)) (paired_reads (size_of c.args.d.now) (c.args.w.hi + 1 - c.args.w.lo) c.args.pair.now.pairing (formula_view c.args.pair.now.left.now) (formula_view c.args.pair.now.right.now)) c.in_ok-right.ensures.most c.in_err-left.ensures.most
+    most_turned _ _ _ (reads_upto c.args.d.now c.args.w.lo c.args.w.hi (pair_view c.args.pair.now)) (reads_upto c.args.d.now c.args.w.lo c.args.w.hi (formula_view c.args.pair.now.left.now)) (reads_upto c.args.d.now c.args.w.lo c.args.w.hi (formula_view c.args.pair.now.right.now)) (paired_reads (size_of c.args.d.now) (c.args.w.hi + 1 - c.args.w.lo) c.args.pair.now.pairing (formula_view c.args.pair.now.left.now) (formula_view c.args.pair.now.right.now)) c.in_ok-right.ensures.most (most_over c.args.w.lo c.args.w.hi (formula_view c.args.pair.now.left.now) _ _ (ap (λ (z : Frame). z.domains) c.in_ok-right.ensures.rows.frame) _ _ c.in_err-left.ensures.most)
 
 pub rows_of_pair-returns-in_err-made-clause-least : goal.rows_of_pair-returns-in_err-made-clause-least
 rows_of_pair-returns-in_err-made-clause-least g t c = in_turn _ _ _ c.in_ok-right.ensures.least c.in_ok-left.ensures.least
 
 pub rows_of_pair-returns-in_err-made-clause-most : goal.rows_of_pair-returns-in_err-made-clause-most
 rows_of_pair-returns-in_err-made-clause-most g t c =
-    most_turned _ _ _ (reads_upto c.args.d.now c.args.w.lo c.args.w.hi (pair_view c.args.pair.now)) (reads_upto c.args.d.now c.args.w.lo c.args.w.hi (formula_view c.args.pair.now.left.now)) (reads_upto c.args.d.now c.args.w.lo c.args.w.hi (formula_view c.args.pair.now.right.now)) (paired_reads (size_of c.args.d.now) (c.args.w.hi + 1 - c.args.w.lo) c.args.pair.now.pairing (formula_view c.args.pair.now.left.now) (formula_view c.args.pair.now.right.now)) c.in_ok-right.ensures.most c.in_ok-left.ensures.most
+    most_turned _ _ _ (reads_upto c.args.d.now c.args.w.lo c.args.w.hi (pair_view c.args.pair.now)) (reads_upto c.args.d.now c.args.w.lo c.args.w.hi (formula_view c.args.pair.now.left.now)) (reads_upto c.args.d.now c.args.w.lo c.args.w.hi (formula_view c.args.pair.now.right.now)) (paired_reads (size_of c.args.d.now) (c.args.w.hi + 1 - c.args.w.lo) c.args.pair.now.pairing (formula_view c.args.pair.now.left.now) (formula_view c.args.pair.now.right.now)) c.in_ok-right.ensures.most (most_over c.args.w.lo c.args.w.hi (formula_view c.args.pair.now.left.now) _ _ (ap (λ (z : Frame). z.domains) c.in_ok-right.ensures.rows.frame) _ _ c.in_ok-left.ensures.most)
 
 pub rows_of_pair-returns-clause-least : goal.rows_of_pair-returns-clause-least
 rows_of_pair-returns-clause-least g t c = in_turn _ _ _ c.in_ok-right.ensures.least c.in_ok-left.ensures.least
 
 pub rows_of_pair-returns-clause-most : goal.rows_of_pair-returns-clause-most
 rows_of_pair-returns-clause-most g t c =
-    most_turned _ _ _ (reads_upto c.args.d.now c.args.w.lo c.args.w.hi (pair_view c.args.pair.now)) (reads_upto c.args.d.now c.args.w.lo c.args.w.hi (formula_view c.args.pair.now.left.now)) (reads_upto c.args.d.now c.args.w.lo c.args.w.hi (formula_view c.args.pair.now.right.now)) (paired_reads (size_of c.args.d.now) (c.args.w.hi + 1 - c.args.w.lo) c.args.pair.now.pairing (formula_view c.args.pair.now.left.now) (formula_view c.args.pair.now.right.now)) c.in_ok-right.ensures.most c.in_ok-left.ensures.most
+    most_turned _ _ _ (reads_upto c.args.d.now c.args.w.lo c.args.w.hi (pair_view c.args.pair.now)) (reads_upto c.args.d.now c.args.w.lo c.args.w.hi (formula_view c.args.pair.now.left.now)) (reads_upto c.args.d.now c.args.w.lo c.args.w.hi (formula_view c.args.pair.now.right.now)) (paired_reads (size_of c.args.d.now) (c.args.w.hi + 1 - c.args.w.lo) c.args.pair.now.pairing (formula_view c.args.pair.now.left.now) (formula_view c.args.pair.now.right.now)) c.in_ok-right.ensures.most (most_over c.args.w.lo c.args.w.hi (formula_view c.args.pair.now.left.now) _ _ (ap (λ (z : Frame). z.domains) c.in_ok-right.ensures.rows.frame) _ _ c.in_ok-left.ensures.most)
 
 pub rows_beside-leave_out-requires : goal.rows_beside-leave_out-requires
-rows_beside-leave_out-requires g t c = ap (λ (z : Frame). z.domains) c.requires.frame
+rows_beside-leave_out-requires g t c =
+    sym c.domains-d.ensures
 
 pub rows_beside-domains_for-requires : goal.rows_beside-domains_for-requires
-rows_beside-domains_for-requires g t c = ap (λ (z : Frame). z.domains) c.requires.frame
+rows_beside-domains_for-requires g t c =
+    sym c.domains-d.ensures
 
 pub rows_beside-rows_of-requires : goal.rows_beside-rows_of-requires
-rows_beside-rows_of-requires g t c κs lives = (
-  omega (arith, c.decreases),
-  (
-    lives.0,
-    (
-      lives.1.0,
+rows_beside-rows_of-requires g t c κs lives =
+    let many : length c.domains-d.result.now ≡ length c.args.other.now.domains = ap length c.domains-d.ensures in (
+      omega (arith, c.decreases),
       (
-        lives.1.1.0,
+        lives.0,
         (
-          lives.1.1.1,
+          lives.1.0,
           (
-            (λ v h. (let o = c.requires.over v h in let m = c.in_ok-few.ensures.many in omega (arith, o, m))),
-            can_ask_narrower (g.I.Interpreter.interpretation c.args.source.now) (g.I.Interpreter.atom_fits c.args.source.now c.args.w.lo c.args.w.hi) (g.I.Interpreter.term_fits c.args.source.now c.args.w.lo c.args.w.hi) c.args.w.lo c.args.w.hi c.in_ok-few.few c.args.d.now c.in_ok-few.ensures.wider (formula_view c.args.f.now) c.args.env.now c.requires.can,
+            lives.1.1.0,
+            (
+              lives.1.1.1,
+              (
+                (λ v h. (let o = c.requires.over v h in let m = c.in_ok-few.ensures.many in omega (arith, o, m, many))),
+                can_ask_narrower (g.I.Interpreter.interpretation c.args.source.now) (g.I.Interpreter.atom_fits c.args.source.now c.args.w.lo c.args.w.hi) (g.I.Interpreter.term_fits c.args.source.now c.args.w.lo c.args.w.hi) c.args.w.lo c.args.w.hi c.in_ok-few.few c.domains-d.result.now c.in_ok-few.ensures.wider (formula_view c.args.f.now) c.args.env.now (subst (λ (ds : List (List ℕ)). CanAsk (g.I.Interpreter.interpretation c.args.source.now) (g.I.Interpreter.atom_fits c.args.source.now c.args.w.lo c.args.w.hi) (g.I.Interpreter.term_fits c.args.source.now c.args.w.lo c.args.w.hi) ds c.args.w.lo c.args.w.hi (formula_view c.args.f.now) c.args.env.now) (sym c.domains-d.ensures) c.requires.can),
+              ),
+            ),
           ),
         ),
       ),
-    ),
-  ),
-)
+    )
 
 pub rows_beside-widen-requires : goal.rows_beside-widen-requires
 rows_beside-widen-requires g t c =
-    subst (λ (ds : List (List ℕ)). IsWider ds c.args.d.now) (sym (ap (λ (z : Frame). z.domains) c.in_ok-near.ensures.rows.frame)) c.in_ok-few.ensures.wider
+    subst (λ (ds : List (List ℕ)). IsWider ds c.domains-d.result.now) (sym (ap (λ (z : Frame). z.domains) c.in_ok-near.ensures.rows.frame)) c.in_ok-few.ensures.wider
 
 pub rows_beside-rows_of-requires-2 : goal.rows_beside-rows_of-requires-2
-rows_beside-rows_of-requires-2 g t c κs lives = (
-  omega (arith, c.decreases),
-  (lives.0, (lives.1.0, (lives.1.1.0, (lives.1.1.1, (c.requires.over, c.requires.can))))),
-)
+rows_beside-rows_of-requires-2 g t c κs lives =
+    let many : length c.domains-d.result.now ≡ length c.args.other.now.domains = ap length c.domains-d.ensures in (
+      omega (arith, c.decreases),
+      (lives.0, (lives.1.0, (lives.1.1.0, (lives.1.1.1, ((λ v h. (let o = c.requires.over v h in omega (arith, o, many))), subst (λ (ds : List (List ℕ)). CanAsk (g.I.Interpreter.interpretation c.args.source.now) (g.I.Interpreter.atom_fits c.args.source.now c.args.w.lo c.args.w.hi) (g.I.Interpreter.term_fits c.args.source.now c.args.w.lo c.args.w.hi) ds c.args.w.lo c.args.w.hi (formula_view c.args.f.now) c.args.env.now) (sym c.domains-d.ensures) c.requires.can))))),
+    )
 
 pub rows_beside-returns-then-leave_out-clause-rows : goal.rows_beside-returns-then-leave_out-clause-rows
 rows_beside-returns-then-leave_out-clause-rows g t c =
-    beside_few g.S.TickSet.member (g.I.Interpreter.interpretation c.args.source.now) c.args.d.now c.args.w.lo c.args.w.hi c.args.env.now (formula_view c.args.f.now) c.args.other.now c.in_ok-few.few c.in_ok-near.near c.in_ok-wide.wide c.in_ok-few.ensures
+    subst (λ (ds : List (List ℕ)). AreRowsBeside g.S.TickSet.member (g.I.Interpreter.interpretation c.args.source.now) ds c.args.w.lo c.args.w.hi (formula_view c.args.f.now) c.args.env.now c.args.other.now c.in_ok-wide.wide) c.domains-d.ensures
+    (beside_few g.S.TickSet.member (g.I.Interpreter.interpretation c.args.source.now) c.domains-d.result.now c.args.w.lo c.args.w.hi c.args.env.now (formula_view c.args.f.now) c.args.other.now c.in_ok-few.few c.in_ok-near.near c.in_ok-wide.wide c.in_ok-few.ensures
     c.in_ok-near.ensures.rows c.in_ok-wide.ensures.ticks c.in_ok-wide.ensures.head.vars
-    (wide_frame c.in_ok-near.near c.in_ok-wide.wide c.in_ok-few.few c.args.d.now c.args.w.lo c.args.w.hi c.in_ok-near.ensures.rows.frame c.in_ok-wide.ensures.head)
+    (wide_frame c.in_ok-near.near c.in_ok-wide.wide c.in_ok-few.few c.domains-d.result.now c.args.w.lo c.args.w.hi c.in_ok-near.ensures.rows.frame c.in_ok-wide.ensures.head))
 
 pub rows_beside-returns-clause-rows : goal.rows_beside-returns-clause-rows
 rows_beside-returns-clause-rows g t c =
-    beside_all g.S.TickSet.member (g.I.Interpreter.interpretation c.args.source.now) c.args.d.now c.args.w.lo c.args.w.hi c.args.env.now (formula_view c.args.f.now) c.args.other.now c.in_ok-made.made c.in_ok-made.ensures.rows
+    subst (λ (ds : List (List ℕ)). AreRowsBeside g.S.TickSet.member (g.I.Interpreter.interpretation c.args.source.now) ds c.args.w.lo c.args.w.hi (formula_view c.args.f.now) c.args.env.now c.args.other.now c.in_ok-made.made) c.domains-d.ensures
+    (beside_all g.S.TickSet.member (g.I.Interpreter.interpretation c.args.source.now) c.domains-d.result.now c.args.w.lo c.args.w.hi c.args.env.now (formula_view c.args.f.now) c.args.other.now c.in_ok-made.made c.in_ok-made.ensures.rows)
 
 pub rows_beside-returns-in_err-near-clause-least : goal.rows_beside-returns-in_err-near-clause-least
-rows_beside-returns-in_err-near-clause-least g t c = c.in_err-near.ensures.least
+rows_beside-returns-in_err-near-clause-least g t c =
+    c.in_err-near.ensures.least
 
 pub rows_beside-returns-in_err-near-clause-most : goal.rows_beside-returns-in_err-near-clause-most
 rows_beside-returns-in_err-near-clause-most g t c =
-    most_fewer _ _ (reads_upto c.in_ok-few.few c.args.w.lo c.args.w.hi (formula_view c.args.f.now)) (reads_upto c.args.d.now c.args.w.lo c.args.w.hi (formula_view c.args.f.now)) (fewer_reads c.fewer_objects_take_fewer_looks.ensures (size_of c.in_ok-few.few) (size_of c.args.d.now) c.in_ok-few.ensures.few (c.args.w.hi + 1 - c.args.w.lo) (formula_view c.args.f.now)) c.in_err-near.ensures.most
+    most_over c.args.w.lo c.args.w.hi (formula_view c.args.f.now) _ _ c.domains-d.ensures _ _
+    (most_fewer _ _ (reads_upto c.in_ok-few.few c.args.w.lo c.args.w.hi (formula_view c.args.f.now)) (reads_upto c.domains-d.result.now c.args.w.lo c.args.w.hi (formula_view c.args.f.now)) (fewer_reads c.fewer_objects_take_fewer_looks.ensures (size_of c.in_ok-few.few) (size_of c.domains-d.result.now) c.in_ok-few.ensures.few (c.args.w.hi + 1 - c.args.w.lo) (formula_view c.args.f.now)) c.in_err-near.ensures.most)
 
 pub rows_beside-returns-in_err-wide-clause-least : goal.rows_beside-returns-in_err-wide-clause-least
-rows_beside-returns-in_err-wide-clause-least g t c = c.in_ok-near.ensures.least
+rows_beside-returns-in_err-wide-clause-least g t c =
+    c.in_ok-near.ensures.least
 
 pub rows_beside-returns-in_err-wide-clause-most : goal.rows_beside-returns-in_err-wide-clause-most
 rows_beside-returns-in_err-wide-clause-most g t c =
-    most_fewer _ _ (reads_upto c.in_ok-few.few c.args.w.lo c.args.w.hi (formula_view c.args.f.now)) (reads_upto c.args.d.now c.args.w.lo c.args.w.hi (formula_view c.args.f.now)) (fewer_reads c.fewer_objects_take_fewer_looks.ensures (size_of c.in_ok-few.few) (size_of c.args.d.now) c.in_ok-few.ensures.few (c.args.w.hi + 1 - c.args.w.lo) (formula_view c.args.f.now)) c.in_ok-near.ensures.most
+    most_over c.args.w.lo c.args.w.hi (formula_view c.args.f.now) _ _ c.domains-d.ensures _ _
+    (most_fewer _ _ (reads_upto c.in_ok-few.few c.args.w.lo c.args.w.hi (formula_view c.args.f.now)) (reads_upto c.domains-d.result.now c.args.w.lo c.args.w.hi (formula_view c.args.f.now)) (fewer_reads c.fewer_objects_take_fewer_looks.ensures (size_of c.in_ok-few.few) (size_of c.domains-d.result.now) c.in_ok-few.ensures.few (c.args.w.hi + 1 - c.args.w.lo) (formula_view c.args.f.now)) c.in_ok-near.ensures.most)
 
 pub rows_beside-returns-then-leave_out-clause-least : goal.rows_beside-returns-then-leave_out-clause-least
-rows_beside-returns-then-leave_out-clause-least g t c = c.in_ok-near.ensures.least
+rows_beside-returns-then-leave_out-clause-least g t c =
+    c.in_ok-near.ensures.least
 
 pub rows_beside-returns-then-leave_out-clause-most : goal.rows_beside-returns-then-leave_out-clause-most
 rows_beside-returns-then-leave_out-clause-most g t c =
-    most_fewer _ _ (reads_upto c.in_ok-few.few c.args.w.lo c.args.w.hi (formula_view c.args.f.now)) (reads_upto c.args.d.now c.args.w.lo c.args.w.hi (formula_view c.args.f.now)) (fewer_reads c.fewer_objects_take_fewer_looks.ensures (size_of c.in_ok-few.few) (size_of c.args.d.now) c.in_ok-few.ensures.few (c.args.w.hi + 1 - c.args.w.lo) (formula_view c.args.f.now)) c.in_ok-near.ensures.most
+    most_over c.args.w.lo c.args.w.hi (formula_view c.args.f.now) _ _ c.domains-d.ensures _ _
+    (most_fewer _ _ (reads_upto c.in_ok-few.few c.args.w.lo c.args.w.hi (formula_view c.args.f.now)) (reads_upto c.domains-d.result.now c.args.w.lo c.args.w.hi (formula_view c.args.f.now)) (fewer_reads c.fewer_objects_take_fewer_looks.ensures (size_of c.in_ok-few.few) (size_of c.domains-d.result.now) c.in_ok-few.ensures.few (c.args.w.hi + 1 - c.args.w.lo) (formula_view c.args.f.now)) c.in_ok-near.ensures.most)
+
+pub rows_beside-returns-in_err-made-clause-least : goal.rows_beside-returns-in_err-made-clause-least
+rows_beside-returns-in_err-made-clause-least g t c =
+    c.in_err-made.ensures.least
+
+pub rows_beside-returns-in_err-made-clause-most : goal.rows_beside-returns-in_err-made-clause-most
+rows_beside-returns-in_err-made-clause-most g t c =
+    most_over c.args.w.lo c.args.w.hi (formula_view c.args.f.now) _ _ c.domains-d.ensures _ _ c.in_err-made.ensures.most
+
+pub rows_beside-returns-clause-least : goal.rows_beside-returns-clause-least
+rows_beside-returns-clause-least g t c =
+    c.in_ok-made.ensures.least
+
+pub rows_beside-returns-clause-most : goal.rows_beside-returns-clause-most
+rows_beside-returns-clause-most g t c =
+    most_over c.args.w.lo c.args.w.hi (formula_view c.args.f.now) _ _ c.domains-d.ensures _ _ c.in_ok-made.ensures.most
 
 pub rows_of_assignment-keys_of-requires-clause-known : goal.rows_of_assignment-keys_of-requires-clause-known
 rows_of_assignment-keys_of-requires-clause-known g t c =
@@ -521,8 +554,10 @@ rows_at_key-rows_of_runs-requires g t c κs lives =
               lives.1.1.1,
               (
                 (λ v h. (let o = c.requires.over v (or_right (term_has v c.args.a.now.term.now) (has_variable v (formula_view c.args.a.now.body.now)) h) in let m = c.in_ok-narrow.ensures.many in omega (arith, o, m))),
-                (subst (λ (rs : List ValueRun). All (IsInWindow c.args.w.lo c.args.w.hi) rs) (sym c.deref.ensures.value) (runs_inside (formula_names c.args.a.now.depth (formula_view c.args.a.now.body.now)) _ c.args.w.lo c.args.w.hi c.in_ok-runs.runs.items c.in_ok-runs.ensures.runs.each),
-                subst (λ (rs : List ValueRun). CanAskEach (g.I.Interpreter.interpretation c.args.source.now) (g.I.Interpreter.atom_fits c.args.source.now c.args.w.lo c.args.w.hi) (g.I.Interpreter.term_fits c.args.source.now c.args.w.lo c.args.w.hi) c.in_ok-narrow.narrow c.args.w.lo c.args.w.hi c.args.a.now.depth (formula_view c.args.a.now.body.now) c.args.env.now rs) (sym c.deref.ensures.value) can),
+                (
+                  subst (λ (rs : List ValueRun). All (IsInWindow c.args.w.lo c.args.w.hi) rs) (sym c.deref.ensures.value) (runs_inside (formula_names c.args.a.now.depth (formula_view c.args.a.now.body.now)) _ c.args.w.lo c.args.w.hi c.in_ok-runs.runs.items c.in_ok-runs.ensures.runs.each),
+                  subst (λ (rs : List ValueRun). CanAskEach (g.I.Interpreter.interpretation c.args.source.now) (g.I.Interpreter.atom_fits c.args.source.now c.args.w.lo c.args.w.hi) (g.I.Interpreter.term_fits c.args.source.now c.args.w.lo c.args.w.hi) c.in_ok-narrow.narrow c.args.w.lo c.args.w.hi c.args.a.now.depth (formula_view c.args.a.now.body.now) c.args.env.now rs) (sym c.deref.ensures.value) can,
+                ),
               ),
             ),
           ),
