@@ -1,4 +1,3 @@
-pub mod AskLemmas
 pub mod AttributeLemmas
 pub mod CircleLemmas
 pub mod CompareLemmas

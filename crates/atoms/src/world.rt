@@ -2,13 +2,14 @@
 
 ghost use Rattle.std.specs.Prelude.{◌≡◌, ◌<◌, is_some, length};
 ghost use Rattle.std.proofs.Common.{ap};
+ghost use Rattle.interpreting.proofs.FewerLemmas.{not_after, not_before, shorter};
 ghost use Rattle.interpreting.proofs.NameLemmas.{atom_by_names, term_by_names};
 ghost use Rattle.meaning.proofs.LocalityLemmas.{atom_same, term_same};
 ghost use Rattle.meaning.specs.Trace.{trace_of};
+ghost use Rattle.tick_set.specs.declared.spans.TheConstants.{SPAN_LIMIT};
 ghost use Rattle.history.specs.History.{cells_at};
 ghost use Rattle.object_store.specs.Contents.{history_of};
 ghost use Rattle.atoms.specs.Asked.{CanAskAtom, CanAskTerm, told_by};
-ghost use Rattle.atoms.proofs.AskLemmas.{fewer_ticks_of_atom, fewer_ticks_of_term};
 
 use crate::present::absence;
 use crate::ticks::atom_ticks;
@@ -103,9 +104,15 @@ impl Interpreter<IntervalSet> for StoredWorld<'_> {
     ghost term_sees_values = { λ x b q env other same t.
         term_by_names (trace_of (history_of x.store.now) b) q env other same t };
 
-    ghost atom_narrows = { λ x lo hi from upto begins ends b a env can.
-        fewer_ticks_of_atom x.store.now lo hi from upto begins ends b a can };
+    ghost atom_narrows = { λ x lo hi from upto begins ends b a env can. record {
+      sized = can.sized;
+      objects = can.objects;
+      short = shorter lo hi from upto SPAN_LIMIT begins ends can.short;
+    } };
 
-    ghost term_narrows = { λ x lo hi from upto begins ends b q env can.
-        fewer_ticks_of_term x.store.now lo hi from upto begins ends b q env can };
+    ghost term_narrows = { λ x lo hi from upto begins ends b q env can. record {
+      sized = can.sized;
+      objects = can.objects;
+      in_range = λ t after before. can.in_range t (not_before lo from t begins after) (not_after hi upto t ends before);
+    } };
 }

@@ -1,13 +1,14 @@
 //! What a store and its regions tell of atoms, of terms and of the presence of objects, where positions may be off.
 ghost use Rattle.std.specs.Prelude.{◌≡◌, ◌≤◌, ◌+◌, ◌<◌, ◌&&◌, ℕ, IfOk, is_some, length, slice_index};
 ghost use Rattle.std.proofs.Common.{ap};
-ghost use Rattle.atoms.proofs.AskLemmas.{fewer_ticks_of_atom, fewer_ticks_of_term};
 ghost use Rattle.atoms.specs.Asked.{CanAskAtom, CanAskTerm, world_in};
 ghost use Rattle.history.specs.History.{cells_at};
+ghost use Rattle.interpreting.proofs.FewerLemmas.{not_after, not_before, shorter};
 ghost use Rattle.interpreting.proofs.NameLemmas.{atom_by_names, term_by_names};
 ghost use Rattle.meaning.proofs.LocalityLemmas.{term_same};
 ghost use Rattle.meaning.specs.Reads.{atom_variables};
 ghost use Rattle.meaning.specs.Trace.{trace_of};
+ghost use Rattle.tick_set.specs.declared.spans.TheConstants.{SPAN_LIMIT};
 ghost use Rattle.object_store.specs.Contents.{history_of};
 ghost use Rattle.tick_set.specs.Runs.{spans_have};
 ghost use Rattle.tick_set.specs.Ticks.{within};
@@ -88,11 +89,17 @@ impl Interpreter<IntervalSet> for BlurredWorld<'_> {
     ghost term_sees_values = { λ x b q env other same t.
         term_by_names (trace_of (history_of x.store.now) b) q env other same t };
 
-    ghost atom_narrows = { λ x lo hi from upto begins ends b a env can.
-        fewer_ticks_of_atom x.store.now lo hi from upto begins ends b a can };
+    ghost atom_narrows = { λ x lo hi from upto begins ends b a env can. record {
+      sized = can.sized;
+      objects = can.objects;
+      short = shorter lo hi from upto SPAN_LIMIT begins ends can.short;
+    } };
 
-    ghost term_narrows = { λ x lo hi from upto begins ends b q env can.
-        fewer_ticks_of_term x.store.now lo hi from upto begins ends b q env can };
+    ghost term_narrows = { λ x lo hi from upto begins ends b q env can. record {
+      sized = can.sized;
+      objects = can.objects;
+      in_range = λ t after before. can.in_range t (not_before lo from t begins after) (not_after hi upto t ends before);
+    } };
 }
 
 // The ticks of the window at which an atom holds of the objects of a binding, surely or possibly.

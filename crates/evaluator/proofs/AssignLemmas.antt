@@ -26,7 +26,7 @@ use Rattle.evaluator.specs.Assigned.{CanAskEach, run_holds}
 use Rattle.evaluator.specs.Gathered.{any_has}
 use Rattle.evaluator.specs.Interpreting.{CanAsk, IsInFor}
 use Rattle.evaluator.specs.Keys.{AreKeys, AreNarrowed, binding_of, has_key}
-use Rattle.evaluator.specs.Rows.{AreRowsOf, AreRowsWhere}
+use Rattle.evaluator.specs.Rows.{AreRowsWhere}
 use Rattle.interpreting.specs.Names.{formula_names}
 use Rattle.interpreting.specs.ValueRuns.{run_has}
 use Rattle.evaluator.specs.Stretched.{AreStretches, IsStretch}

@@ -1,9 +1,9 @@
 -- The rows of a section, by those of the ticks that a formula sees from it.
-use Rattle.std.proofs.Common.{◌≡◌, ℕ, ◌+◌, ◌<◌, ◌≤◌, Bool, true, false, ◌&&◌, ◌||◌, Some, zero, suc, List, [], ◌∷◌, length, get_or, map, take, refl, sym, ap, ◌∙◌, subst, inl, inr, arith}
+use Rattle.std.proofs.Common.{◌≡◌, ℕ, ◌<◌, ◌≤◌, Bool, true, false, ◌&&◌, ◌||◌, Some, zero, suc, List, [], ◌∷◌, length, get_or, map, refl, sym, ap, ◌∙◌, subst, inl, inr, arith}
 use Rattle.std.specs.Prelude.{option_map, slice_get}
 use Rattle.std.specs.List.{filter, list_all}
 use Rattle.std.specs.List.Sorted.{IsStrictlyIncreasing}
-use Rattle.std.proofs.lemmas.Bool.{and_right, cases_Bool}
+use Rattle.std.proofs.lemmas.Bool.{cases_Bool}
 use Rattle.std.proofs.lemmas.Option.{same_Some}
 use Rattle.tick_set.specs.Ticks.{LiesIn, within}
 use Rattle.tick_set.proofs.Between.{within_from, within_parts}
@@ -13,7 +13,7 @@ use Rattle.formula.specs.Tree.{ResolvedTree}
 use Rattle.formula.specs.Variables.{variables_of}
 use Rattle.meaning.specs.Satisfaction.{Interpretation, sat}
 use Rattle.relation.specs.declared.row.Row.{Row}
-use Rattle.relation.specs.Frames.{Frame, IsIn, frame, frame_of}
+use Rattle.relation.specs.Frames.{frame, frame_of}
 use Rattle.relation.specs.Key.{ids_of, key_in}
 use Rattle.relation.specs.Order.{has_row, keys_over}
 use Rattle.relation.specs.Rows.{IsSameHead, Table, has, has_at, table}

@@ -1,6 +1,6 @@
 -- A formula over the ticks that it sees from some of a window's.
-use Rattle.std.proofs.Common.{◌≡◌, ℕ, ◌+◌, ◌*◌, ◌-◌, ◌≤◌, min, max, Bool, true, false, not, ◌&&◌, ◌||◌, ltb, Option, None, Some, refl, sym, ap, ◌∙◌, inl, inr, arith, length, List}
-use Rattle.std.proofs.lemmas.Bool.{cases_Bool, cases_lt}
+use Rattle.std.proofs.Common.{◌≡◌, ℕ, ◌+◌, ◌*◌, ◌-◌, ◌≤◌, min, max, Bool, true, false, not, ◌&&◌, ltb, Option, None, Some, refl, sym, ap, ◌∙◌, inl, inr, arith, length, List}
+use Rattle.std.proofs.lemmas.Bool.{cases_lt}
 use Rattle.std.proofs.lemmas.Bool.Decides.{nat_tests}
 use Rattle.std.proofs.lemmas.Nat.{mul-le}
 use Rattle.std.proofs.lemmas.Option.{none-some, same_Some}
@@ -24,8 +24,8 @@ use Rattle.formula.specs.Value.{with_value}
 use Rattle.meaning.specs.Reads.{atom_variables, choices, looks, made_single, reads, term_variables}
 use Rattle.meaning.specs.Satisfaction.{Interpretation, sat}
 use Rattle.meaning.proofs.LocalityLemmas.{bound_same, same_both, same_either}
-use Rattle.evaluator.specs.Interpreting.{CanAsk, IsInFor}
-use Rattle.evaluator.specs.inner.ByBinding.{AreTicksOf, CanAskHere, reads_here}
+use Rattle.evaluator.specs.Interpreting.{CanAsk}
+use Rattle.evaluator.specs.inner.ByBinding.{CanAskHere}
 use Rattle.evaluator.specs.inner.Seen.{last_seen}
 
 -- no window goes so far that a count of 32 bits ends before

@@ -1,1 +1,2 @@
+pub mod FewerLemmas
 pub mod NameLemmas

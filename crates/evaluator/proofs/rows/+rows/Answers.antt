@@ -15,7 +15,7 @@ use Rattle.meaning.specs.Satisfaction.{sat}
 use Rattle.relation.specs.Frames.{Frame, IsWider, frame_of, size_of}
 use Rattle.formula.specs.Resolved.{are_distinct}
 use Rattle.relation.specs.Key.{are_known, key_in}
-use Rattle.relation.specs.Rows.{Table, has as has_tick}
+use Rattle.relation.specs.Rows.{Table}
 use Rattle.interpreting.specs.declared.value_run.ValueRun.{ValueRun}
 use Rattle.evaluator.specs.Assigned.{CanAskEach, assignment_view, run_holds}
 use Rattle.evaluator.specs.Gathered.{AreAlike, any_has}
@@ -31,7 +31,7 @@ use Rattle.evaluator.proofs.AtomLemmas.{inside_at}
 use Rattle.evaluator.proofs.BindingLemmas.{narrowed_sizes, narrowed_wider}
 use Rattle.evaluator.proofs.ByKeyLemmas.{atom_over, truth_over}
 use Rattle.evaluator.proofs.FillingLemmas.{at_key}
-use Rattle.evaluator.proofs.LoopLemmas.{can_ask_item, head_frame, in_turn, key_within, keys_within, more_alike, most_both, most_first, most_same, none_alike, none_yet, some_steps, term_within, wide_frame}
+use Rattle.evaluator.proofs.LoopLemmas.{can_ask_item, in_turn, key_within, keys_within, more_alike, most_both, most_first, most_same, none_alike, none_yet, some_steps, term_within, wide_frame}
 use Rattle.evaluator.proofs.NamedLemmas.{sat_unnamed}
 use Rattle.evaluator.proofs.NodeLemmas.{changed_asks, changed_has, changed_nodes, changed_reads, paired_asks, paired_has, paired_nodes, paired_reads}
 use Rattle.evaluator.proofs.PairLemmas.{beside_all, beside_few, fewer_reads, led_rows, most_fewer, most_over, most_second, most_turned, ordered_asks, ordered_has, ordered_nodes, ordered_reads, ordered_rows}
