@@ -1,6 +1,6 @@
 -- What a page and a table of pages have after a set is pushed or written.
 use Rattle.std.proofs.Common.{◌≡◌, ℕ, zero, suc, ◌/◌, ◌%◌, ◌<◌, Bool, true, false, eqb, List, [], ◌∷◌, ◌++◌, length, set, get_or, refl, ap, sym, ◌∙◌, inl, inr, arith, if◌then◌else◌}
-use Rattle.std.proofs.lemmas.Bool.{cases_eq, eq-eqb, ne_eqb}
+use Rattle.std.proofs.lemmas.Bool.{both_ways, cases_eq, eq-eqb, ne_eqb}
 use Rattle.std.proofs.lemmas.Bool.Decides.{nat_tests}
 use Rattle.kept_rows.specs.Rows.{page_has, page_of, row_has, is_made, is_whole}
 
@@ -73,6 +73,10 @@ pub row_has-put : {S : Type 0} (member : S → ℕ → Bool) (pages : List (List
 row_has-put member pages n page old x there is has =
     row_has-set member pages n page x there
     (λ i t. has i t ∙ ap (λ xs. if eqb i (n % 16) then member x t else page_has member xs i t) is)
+
+-- numbers of two pages are two numbers
+pub other_page : (c n : ℕ) → eqb (c / 16) (n / 16) ≡ false → eqb c n ≡ false
+other_page c n other = ne_eqb c n (λ e. both_ways (eqb (c / 16) (n / 16)) other (eq-eqb (c / 16) (n / 16) (ap (λ k. k / 16) e)))
 
 -- a made page stays made
 if_both : (b : Bool) (x y : Bool) → x ≡ true → y ≡ true → (if b then x else y) ≡ true

@@ -1,16 +1,18 @@
 -- Slots of ticks by their bits, rows without a tick in some of them, and marks.
 use Rattle.std.proofs.Common.{◌≡◌, ℕ, zero, suc, ◌+◌, ◌*◌, ◌/◌, ◌-◌, ◌%◌, ◌^◌, ◌<◌, ◌≤◌, Bool, true, false, ◌&&◌, ◌||◌, eqb, max, min, Option, None, Some, List, [], ◌∷◌, ◌++◌, length, refl, ap, sym, ◌∙◌, inl, inr, arith, w64, if◌then◌else◌}
-use Rattle.std.specs.Prelude.{IfNone, IfSome}
+use Rattle.std.specs.Prelude.{IfNone, IfSome, slice_get}
 use Rattle.std.specs.Int.{bit_at}
 use Rattle.std.specs.Int.Bits.{bit_and, bit_or}
-use Rattle.std.proofs.lemmas.Bool.{and_parts, both_ways, cases_eq, cases_lt, eq-eqb, false_from_ne_true, ne_eqb, or_cases, or_left, or_parts, or_right}
+use Rattle.std.proofs.lemmas.Bool.{and_parts, both_ways, cases_eq, cases_lt, eq-eqb, false_from_ne_true, ne_eqb, or_cases, or_left, or_right}
 use Rattle.tick_set.specs.Ticks.{within}
 use Rattle.tick_set.proofs.Between.{within_parts}
 use Rattle.std.proofs.lemmas.Nat.Bits.{bit_at-lt, bit_at-zero, bit_at_and, bit_at_ones, bit_at_or, bit_at_set_other, bit_at_set_same}
 use Rattle.kept_rows.specs.declared.marks.Marks.{Marks}
 use Rattle.kept_rows.specs.declared.slots.Slots.{Slots}
 use Rattle.kept_rows.specs.Listing.{HaveNone, IsNext}
-use Rattle.kept_rows.specs.Slots.{AreFreeIn, AreIn, AreMarked, HaveNoneAt, IsNextAt, has_slot, may_have}
+use Rattle.kept_rows.specs.Rows.{page_has}
+use Rattle.kept_rows.specs.Slots.{AreIn, AreMarked, HaveNoneAt, IsNextAt, has_slot, may_have}
+use Rattle.kept_rows.proofs.NextLemmas.{page_has-at, page_has-past}
 
 -- ---- bits
 pub has_none : (i : ℕ) → eqb (bit_at 0 i) 1 ≡ false
@@ -75,30 +77,17 @@ module _ (rows : ℕ → ℕ → Bool) (slots : Slots) (from to : ℕ) where
   none_at None none = λ c t h k _. none c t h k
   none_at (Some n) none = tt
 
-  -- by marks
-  pub next_marked : (marks : Marks) (o : Option ℕ) → AreMarked rows marks → IfSome o (λ n. from ≤ n) → IfSome o (λ n. n < to) → IfSome o (AreFreeIn marks slots from) →
-      IfSome o (IsNextAt rows slots from to)
-  next_marked marks None marked least below free = tt
-  next_marked marks (Some n) marked least below free = record { least = least; below = below; before = free rows marked }
-
-  pub none_marked : (marks : Marks) (o : Option ℕ) → AreMarked rows marks → IfNone o (AreFreeIn marks slots from to) → IfNone o (HaveNoneAt rows slots from to)
-  none_marked marks None marked free = free rows marked
-  none_marked marks (Some n) marked free = tt
-
 -- ---- marks
 -- rows that are alike
 pub marked_alike : (rows rows' : ℕ → ℕ → Bool) (marks : Marks) → ((c t : ℕ) → rows' c t ≡ rows c t) → AreMarked rows marks → AreMarked rows' marks
-marked_alike rows rows' marks same m = record {
-  own = λ c t e. same c t ∙ m.own c t e;
-  pages = λ c t e. same c t ∙ m.pages c t e;
-}
+marked_alike rows rows' marks same m c t e = same c t ∙ m c t e
 
 -- two ranges one after the other
-pub free_more : (marks : Marks) (slots : Slots) (from m to : ℕ) → AreFreeIn marks slots from m → AreFreeIn marks slots m to → AreFreeIn marks slots from to
-free_more marks slots from m to first second rows marked c t h k has =
+pub free_more : (rows : ℕ → ℕ → Bool) (slots : Slots) (from m to : ℕ) → HaveNoneAt rows slots from m → HaveNoneAt rows slots m to → HaveNoneAt rows slots from to
+free_more rows slots from m to first second c t h k has =
     elim (cases_lt c m) [
-      | inl l ↦ first rows marked c t h l has
-      | inr l ↦ second rows marked c t l k has
+      | inl l ↦ first c t h l has
+      | inr l ↦ second c t l k has
     ]
 
 -- ---- the slots of a span
@@ -153,26 +142,9 @@ may_have_past (x ∷ xs) m zero t h = absurd (omega (arith, h))
 may_have_past (x ∷ xs) m (suc c) t h = may_have_past xs m c t (omega (arith, h))
 
 -- a mark more
-pub marks_pushed : (p : ℕ → ℕ → Bool) (old new : List Slots) (m : Slots) (number : ℕ) → new ≡ old ++ m ∷ [] → number ≡ length old →
-    ((c t : ℕ) → may_have old c t ≡ false → p c t ≡ false) → ((t : ℕ) → has_slot m t ≡ false → p number t ≡ false) →
-    (c t : ℕ) → may_have new c t ≡ false → p c t ≡ false
-marks_pushed p old new m number pushed len before here c t e =
-    let free : may_have (old ++ m ∷ []) c t ≡ false = ap (λ xs. may_have xs c t) (sym pushed) ∙ e in
-    elim (cases_lt c (length old)) [
-      | inl l ↦ before c t (sym (may_have_kept old m c t l) ∙ free)
-      | inr l ↦
-          elim (cases_lt (length old) c) [
-            | inl k ↦ absurd (both_ways true (sym (may_have_past old m c t k) ∙ free) refl)
-            | inr k ↦
-                let same : c ≡ length old = omega (arith, l, k) in
-                ap (λ n. p n t) (same ∙ sym len) ∙ here t (sym (may_have_last old m t) ∙ ap (λ n. may_have (old ++ m ∷ []) n t) (sym same) ∙ free)
-          ]
-    ]
-
-pub pages_pushed : (rows old new : List Slots) (m : Slots) (page : ℕ) → new ≡ old ++ m ∷ [] → page ≡ length old →
-    ((c t : ℕ) → may_have old (c / 16) t ≡ false → may_have rows c t ≡ false) →
-    ((c t : ℕ) → c / 16 ≡ page → has_slot m t ≡ false → may_have rows c t ≡ false) →
-    (c t : ℕ) → may_have new (c / 16) t ≡ false → may_have rows c t ≡ false
+pub pages_pushed : (rows : ℕ → ℕ → Bool) (old new : List Slots) (m : Slots) (page : ℕ) → new ≡ old ++ m ∷ [] → page ≡ length old →
+    ((c t : ℕ) → may_have old (c / 16) t ≡ false → rows c t ≡ false) → ((c : ℕ) → c / 16 ≡ page → AreIn (rows c) m) →
+    (c t : ℕ) → may_have new (c / 16) t ≡ false → rows c t ≡ false
 pages_pushed rows old new m page pushed len before here c t e =
     let free : may_have (old ++ m ∷ []) (c / 16) t ≡ false = ap (λ xs. may_have xs (c / 16) t) (sym pushed) ∙ e in
     elim (cases_lt (c / 16) (length old)) [
@@ -182,7 +154,7 @@ pages_pushed rows old new m page pushed len before here c t e =
             | inl k ↦ absurd (both_ways true (sym (may_have_past old m (c / 16) t k) ∙ free) refl)
             | inr k ↦
                 let same : c / 16 ≡ length old = omega (arith, l, k) in
-                here c t (same ∙ sym len) (sym (may_have_last old m t) ∙ ap (λ n. may_have (old ++ m ∷ []) n t) (sym same) ∙ free)
+                out_of (rows c) m t (here c (same ∙ sym len)) (sym (may_have_last old m t) ∙ ap (λ n. may_have (old ++ m ∷ []) n t) (sym same) ∙ free)
           ]
     ]
 
@@ -190,61 +162,49 @@ not_left : (a b : Bool) → (a && b) ≡ false → b ≡ true → a ≡ false
 not_left false b e f = refl
 not_left true b e f = absurd (both_ways b e f)
 
-module _ (marks : Marks) (slots mark : Slots) (number : ℕ) where
-  pub page_free : ((t : ℕ) → has_slot mark t ≡ may_have marks.pages.items (number / 16) t) → ((t : ℕ) → (has_slot mark t && has_slot slots t) ≡ false) →
-      AreFreeIn marks slots number ((number / 16 + 1) * 16)
-  page_free is apart rows marked c t h k has =
+module _ (rows : ℕ → ℕ → Bool) where
+  pub page_free : (marks : Marks) (slots mark : Slots) (number : ℕ) → AreMarked rows marks → ((t : ℕ) → has_slot mark t ≡ may_have marks.pages.items (number / 16) t) →
+      ((t : ℕ) → (has_slot mark t && has_slot slots t) ≡ false) → HaveNoneAt rows slots number ((number / 16 + 1) * 16)
+  page_free marks slots mark number marked is apart c t h k has =
       let e : c / 16 ≡ number / 16 = omega (arith, h, k) in
-      marked.pages c t (ap (λ i. may_have marks.pages.items i t) e ∙ sym (is t) ∙ not_left (has_slot mark t) (has_slot slots t) (apart t) has)
+      marked c t (ap (λ i. may_have marks.pages.items i t) e ∙ sym (is t) ∙ not_left (has_slot mark t) (has_slot slots t) (apart t) has)
 
-  pub row_free : ((t : ℕ) → has_slot mark t ≡ may_have marks.rows.items number t) → ((t : ℕ) → (has_slot mark t && has_slot slots t) ≡ false) →
-      AreFreeIn marks slots number (number + 1)
-  row_free is apart rows marked c t h k has =
+  pub row_free : (slots mark : Slots) (number : ℕ) → AreIn (rows number) mark → ((t : ℕ) → (has_slot mark t && has_slot slots t) ≡ false) →
+      HaveNoneAt rows slots number (number + 1)
+  row_free slots mark number in_mark apart c t h k has =
       let e : c ≡ number = omega (arith, h, k) in
-      marked.own c t (ap (λ i. may_have marks.rows.items i t) e ∙ sym (is t) ∙ not_left (has_slot mark t) (has_slot slots t) (apart t) has)
+      ap (λ n. rows n t) e ∙ out_of (rows number) mark t in_mark (not_left (has_slot mark t) (has_slot slots t) (apart t) has)
 
--- the numbers of a page up to one more place
-pub place_more : (rows : List Slots) (old mark new : Slots) (base at : ℕ) → ((t : ℕ) → has_slot new t ≡ (has_slot old t || has_slot mark t)) →
-    ((t : ℕ) → has_slot mark t ≡ may_have rows (base + at) t) → ((i t : ℕ) → i < at → has_slot old t ≡ false → may_have rows (base + i) t ≡ false) →
-    (i t : ℕ) → i < at + 1 → has_slot new t ≡ false → may_have rows (base + i) t ≡ false
-place_more rows old mark new base at is here done i t h e =
-    let parts = or_parts (has_slot old t) (has_slot mark t) (sym (is t) ∙ e) in
-    elim (cases_lt i at) [
-      | inl l ↦ done i t l parts.0
-      | inr l ↦ let same : i ≡ at = omega (arith, l, h) in ap (λ j. may_have rows (base + j) t) same ∙ sym (here t) ∙ parts.1
+-- the places of a page up to one more
+module _ {S : Type 0} (member : S → ℕ → Bool) (page : List S) (at : ℕ) (slots : Slots) where
+  pub place_in_more : (mark new : Slots) (x : S) → ((i : ℕ) → i < at → AreIn (page_has member page i) slots) → slice_get page at ≡ Some x → AreIn (member x) mark →
+      ((t : ℕ) → has_slot new t ≡ (has_slot slots t || has_slot mark t)) → (i : ℕ) → i < at + 1 → AreIn (page_has member page i) new
+  place_in_more mark new x before is here or i h t has =
+      elim (cases_lt i at) [
+        | inl l ↦ or t ∙ or_left (has_slot slots t) (has_slot mark t) (before i l t has)
+        | inr l ↦
+            let e : i ≡ at = omega (arith, l, h) in
+            or t ∙ or_right (has_slot slots t) (has_slot mark t) (here t (sym (ap (λ j. page_has member page j t) e ∙ page_has-at member page at t x is) ∙ has))
+      ]
+
+  pub places_in : length page ≤ at → ((i : ℕ) → i < at → AreIn (page_has member page i) slots) → (i : ℕ) → AreIn (page_has member page i) slots
+  places_in past before i t has =
+      elim (cases_lt i at) [
+        | inl l ↦ before i l t has
+        | inr l ↦ absurd (both_ways (page_has member page i t) (page_has-past member page i t (omega (arith, past, l))) has)
+      ]
+
+-- a page is marked anew, the rows of which alone were written
+pub marked_anew : (rows old_rows : ℕ → ℕ → Bool) (old new : List Slots) (mark : Slots) (page : ℕ) →
+    ((i t : ℕ) → may_have new i t ≡ (if eqb i page then has_slot mark t else may_have old i t)) → ((c : ℕ) → c / 16 ≡ page → AreIn (rows c) mark) →
+    ((c t : ℕ) → may_have old (c / 16) t ≡ false → old_rows c t ≡ false) → ((c t : ℕ) → eqb (c / 16) page ≡ false → rows c t ≡ old_rows c t) →
+    (c t : ℕ) → may_have new (c / 16) t ≡ false → rows c t ≡ false
+marked_anew rows old_rows old new mark page set here before others c t free =
+    elim (cases_eq (c / 16) page) [
+      | inl e ↦
+          out_of (rows c) mark t (here c e)
+          (sym (ap (λ b. if b then has_slot mark t else may_have old (c / 16) t) (eq-eqb (c / 16) page e)) ∙ sym (set (c / 16) t) ∙ free)
+      | inr other ↦
+          others c t (ne_eqb (c / 16) page other)
+          ∙ before c t (sym (ap (λ b. if b then has_slot mark t else may_have old (c / 16) t) (ne_eqb (c / 16) page other)) ∙ sym (set (c / 16) t) ∙ free)
     ]
-
-pub places_done : (rows : List Slots) (slots : Slots) (page at : ℕ) → 16 ≤ at → ((i t : ℕ) → i < at → has_slot slots t ≡ false → may_have rows (page * 16 + i) t ≡ false) →
-    (c t : ℕ) → c / 16 ≡ page → has_slot slots t ≡ false → may_have rows c t ≡ false
-places_done rows slots page at all done c t e f =
-    let same : c ≡ page * 16 + c % 16 = omega (arith, e) in
-    ap (λ n. may_have rows n t) same ∙ done (c % 16) t (omega (arith, all)) f
-
--- a row is written, with its mark and that of its page
-module _ (rows : ℕ → ℕ → Bool) (ticks : ℕ → Bool) (number : ℕ) (slots : Slots) (old new : List Slots) where
-  pub own_marked : ((t : ℕ) → may_have new number t ≡ false → has_slot slots t ≡ false) →
-      ((i t : ℕ) → eqb i number ≡ false → may_have new i t ≡ may_have old i t) →
-      ((c t : ℕ) → may_have old c t ≡ false → rows c t ≡ false) → AreIn ticks slots →
-      (c t : ℕ) → may_have new c t ≡ false → (if eqb c number then ticks t else rows c t) ≡ false
-  own_marked here others before in_slots c t free =
-      elim (cases_eq c number) [
-        | inl e ↦
-            ap (λ b. if b then ticks t else rows c t) (eq-eqb c number e)
-            ∙ out_of ticks slots t in_slots (here t (ap (λ i. may_have new i t) (sym e) ∙ free))
-        | inr other ↦
-            ap (λ b. if b then ticks t else rows c t) (ne_eqb c number other) ∙ before c t (sym (others c t (ne_eqb c number other)) ∙ free)
-      ]
-
-  pub page_marked : (own : List Slots) → ((c t : ℕ) → c / 16 ≡ number / 16 → has_slot slots t ≡ false → may_have own c t ≡ false) →
-      ((c t : ℕ) → may_have own c t ≡ false → (if eqb c number then ticks t else rows c t) ≡ false) →
-      ((t : ℕ) → may_have new (number / 16) t ≡ false → has_slot slots t ≡ false) →
-      ((i t : ℕ) → eqb i (number / 16) ≡ false → may_have new i t ≡ may_have old i t) →
-      ((c t : ℕ) → may_have old (c / 16) t ≡ false → rows c t ≡ false) →
-      (c t : ℕ) → may_have new (c / 16) t ≡ false → (if eqb c number then ticks t else rows c t) ≡ false
-  page_marked own whole is here others before c t free =
-      elim (cases_eq (c / 16) (number / 16)) [
-        | inl e ↦ is c t (whole c t e (here t (ap (λ i. may_have new i t) (sym e) ∙ free)))
-        | inr other ↦
-            ap (λ b. if b then ticks t else rows c t) (ne_eqb c number (λ f. other (ap (λ k. k / 16) f)))
-            ∙ before c t (sym (others (c / 16) t (ne_eqb (c / 16) (number / 16) other)) ∙ free)
-      ]

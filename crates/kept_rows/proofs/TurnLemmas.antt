@@ -5,29 +5,24 @@ use Rattle.std.specs.List.{list_any}
 use Rattle.std.proofs.lemmas.Nat.{mul-le}
 use Rattle.tick_set.specs.Ticks.{between}
 use Rattle.tick_set.proofs.Between.{any_between_at, any_between_found, same_test}
-use Rattle.kept_rows.specs.declared.turns.Turns.{Turns}
 use Rattle.kept_rows.specs.Listing.{passing_of, times, when_differ}
-use Rattle.kept_rows.specs.Turning.{AreAlike, AreSteady, AreSteadyIn, IsNextTurn}
+use Rattle.kept_rows.specs.Turning.{AreAlike, AreSteadyIn, IsNextTurn}
 
 -- ---- rows
-module _ (rows : ℕ → ℕ → Bool) (before now : ℕ) where
-  alike-steady : (turns : Turns) (from to : ℕ) → AreSteady rows turns → turns.seen ≤ before → before ≤ now → AreSteadyIn turns now from to →
-      AreAlike (λ c. rows c before) (λ c. rows c now) from to
-  alike-steady turns from to steady low up same c h k =
-      same rows steady c h k before low (omega (arith, up)) ∙ sym (same rows steady c h k now (omega (arith, low, up)) (omega arith))
+module _ (rows : ℕ → ℕ → Bool) (seen before now from to : ℕ) (low : seen ≤ before) (up : before ≤ now) where
+  alike-steady : (end : ℕ) → AreSteadyIn rows seen now from end → AreAlike (λ c. rows c before) (λ c. rows c now) from end
+  alike-steady end same c h k =
+      same c h k before low (omega (arith, up)) ∙ sym (same c h k now (omega (arith, low, up)) (omega arith))
 
   -- the first number that may turn
-  pub turn-next : (turns : Turns) (from to : ℕ) (o : Option ℕ) → AreSteady rows turns → turns.seen ≤ before → before ≤ now →
-      IfSome o (λ n. from ≤ n) → IfSome o (λ n. n < to) → IfSome o (AreSteadyIn turns now from) →
+  pub turn-next : (o : Option ℕ) → IfSome o (λ n. from ≤ n) → IfSome o (λ n. n < to) → IfSome o (AreSteadyIn rows seen now from) →
       IfSome o (IsNextTurn (λ c. rows c before) (λ c. rows c now) from to)
-  turn-next turns from to None steady low up least below same = tt
-  turn-next turns from to (Some n) steady low up least below same =
-      record { least = least; below = below; before = alike-steady turns from n steady low up same }
+  turn-next None least below same = tt
+  turn-next (Some n) least below same = record { least = least; below = below; before = alike-steady n same }
 
-  pub turn-none : (turns : Turns) (from to : ℕ) (o : Option ℕ) → AreSteady rows turns → turns.seen ≤ before → before ≤ now →
-      IfNone o (AreSteadyIn turns now from to) → IfNone o (AreAlike (λ c. rows c before) (λ c. rows c now) from to)
-  turn-none turns from to None steady low up same = alike-steady turns from to steady low up same
-  turn-none turns from to (Some n) steady low up same = tt
+  pub turn-none : (o : Option ℕ) → IfNone o (AreSteadyIn rows seen now from to) → IfNone o (AreAlike (λ c. rows c before) (λ c. rows c now) from to)
+  turn-none None same = alike-steady to same
+  turn-none (Some n) same = tt
 
 -- ---- targets
 any-counted : (b : Bool) (p : ℕ → Bool) (xs : List ℕ) → (b && list_any p xs) ≡ list_any (λ c. b && p c) xs

@@ -18,18 +18,13 @@ AreIn ticks slots = (t : ℕ) → ticks t ≡ true → has_slot slots t ≡ true
 abbrev pub may_have : List Slots → ℕ → ℕ → Bool
 may_have marks at t = option_map_or (λ slots. has_slot slots t) (slice_get marks at) true
 
--- a row has the ticks alone that its own mark and that of its page of 16 let it have
-pub record AreMarked (rows : ℕ → ℕ → Bool) (marks : Marks) : Type 0 where
-  pub own : (c t : ℕ) → may_have marks.rows.items c t ≡ false → rows c t ≡ false
-  pub pages : (c t : ℕ) → may_have marks.pages.items (c / 16) t ≡ false → rows c t ≡ false
+-- a row has the ticks alone that the mark of its page of 16 lets it have
+abbrev pub AreMarked : (ℕ → ℕ → Bool) → Marks → Type 0
+AreMarked rows marks = (c t : ℕ) → may_have marks.pages.items (c / 16) t ≡ false → rows c t ≡ false
 
 -- the rows of the numbers from `from` up to `to` have no tick in the slots
 abbrev pub HaveNoneAt : (ℕ → ℕ → Bool) → Slots → ℕ → ℕ → Type 0
 HaveNoneAt rows slots from to = (c t : ℕ) → from ≤ c → c < to → has_slot slots t ≡ true → rows c t ≡ false
-
--- whatever rows have these marks
-abbrev pub AreFreeIn : Marks → Slots → ℕ → ℕ → Type 0
-AreFreeIn marks slots from to = (rows : ℕ → ℕ → Bool) → AreMarked rows marks → HaveNoneAt rows slots from to
 
 -- one of the numbers from `from` up to `to`, before which no row has a tick in the slots
 pub record IsNextAt (rows : ℕ → ℕ → Bool) (slots : Slots) (from to number : ℕ) : Type 0 where

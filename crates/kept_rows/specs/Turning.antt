@@ -13,20 +13,14 @@ IsSteady ticks from end = (u : ℕ) → from ≤ u → u < end → ticks u ≡ t
 abbrev pub HaveEnds : ℕ → (ℕ → ℕ → Bool) → ℕ → List ℕ → Type 0
 HaveEnds width rows seen ends = (c : ℕ) → IsSteady (rows c) seen (slice_index_or ends (c / width) 0)
 
--- each row has an end of its own, up to which it is steady
-abbrev pub HaveOwnEnds : (ℕ → ℕ → Bool) → ℕ → List ℕ → Type 0
-HaveOwnEnds rows seen ends = (c : ℕ) → IsSteady (rows c) seen (slice_index_or ends c 0)
-
--- the rows are steady up to their own ends, up to those of their pages, and up to those of their groups of pages
+-- the rows are steady up to the ends of their pages, and up to those of their groups of pages
 pub record AreSteady (rows : ℕ → ℕ → Bool) (turns : Turns) : Type 0 where
-  pub own : HaveOwnEnds rows turns.seen turns.rows.items
   pub pages : HaveEnds 16 rows turns.seen turns.pages.items
   pub groups : HaveEnds 1024 rows turns.seen turns.groups.items
 
--- whatever rows have these ends, those of the numbers from `from` up to `to` are steady up to tick `now`
-abbrev pub AreSteadyIn : Turns → ℕ → ℕ → ℕ → Type 0
-AreSteadyIn turns now from to =
-    (rows : ℕ → ℕ → Bool) → AreSteady rows turns → (c : ℕ) → from ≤ c → c < to → IsSteady (rows c) turns.seen (now + 1)
+-- from tick `seen` on the rows of the numbers from `from` up to `to` are steady up to tick `now`
+abbrev pub AreSteadyIn : (ℕ → ℕ → Bool) → ℕ → ℕ → ℕ → ℕ → Type 0
+AreSteadyIn rows seen now from to = (c : ℕ) → from ≤ c → c < to → IsSteady (rows c) seen (now + 1)
 
 -- two tests agree at the numbers from `from` up to `to`
 abbrev pub AreAlike : (ℕ → Bool) → (ℕ → Bool) → ℕ → ℕ → Type 0

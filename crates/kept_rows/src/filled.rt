@@ -7,29 +7,17 @@ use std::alloc::{AllocError, Global};
 // How many numbers share a group.
 const GROUP: usize = 1024;
 
-/// Which numbers of a table may have a row with ticks, and which groups of numbers, so that one without is known
-/// without a look at its page.
+/// Which groups of numbers of a table may have a row with ticks, so that those without are passed over.
 #[derive(Drop)]
 pub(crate) struct Filled {
-    rows: Vec<bool>,
     groups: Vec<bool>,
 }
 
 impl Filled {
     /// For so many numbers without ticks.
     pub(crate) fn new(alloc: Global, numbers: usize) -> Result<Filled, AllocError> {
-        Ok(Filled {
-            rows: vec![in alloc; false; numbers]?,
-            groups: vec![in alloc; false; numbers / GROUP + 1]?,
-        })
-    }
-
-    /// Whether a number is known to have no ticks.
-    #[inline]
-    pub(crate) fn has_none(&self, number: usize) -> bool
-        ensures { result ≡ true → (rows : ℕ → ℕ → Bool) → AreFilled rows self.now → (t : ℕ) → rows number t ≡ false }
-    {
-        is_unset(&self.rows, number)
+        let groups = vec![in alloc; false; numbers / GROUP + 1]?;
+        Ok(Filled { groups })
     }
 
     /// The number, or a later one before which there are no ticks.
@@ -55,9 +43,8 @@ impl Filled {
             → (has_ticks ≡ false → (t : ℕ) → ticks t ≡ false)
             → AreFilled (λ c t. if c == number then ticks t else rows c t) self.new }
     {
-        set_at(&mut self.rows, number, has_ticks);
         if has_ticks {
-            set_at(&mut self.groups, number / GROUP, true);
+            set_at(&mut self.groups, number / GROUP);
         }
     }
 }
@@ -74,12 +61,12 @@ fn is_unset(flags: &[bool], at: usize) -> bool
 }
 
 // Sets a place, if it is there.
-fn set_at(flags: &mut [bool], at: usize, value: bool)
+fn set_at(flags: &mut [bool], at: usize)
     ensures len { length flags.new ≡ length flags.old }
-    ensures here { value ≡ true → slice_index_or flags.new at true ≡ true }
+    ensures here { slice_index_or flags.new at true ≡ true }
     ensures others { (i : ℕ) → slice_index_or flags.new i true ≡ false → (i == at) ≡ false → slice_index_or flags.old i true ≡ false }
 {
     if at < flags.len() {
-        flags[at] = value;
+        flags[at] = true;
     }
 }

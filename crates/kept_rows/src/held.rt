@@ -1,4 +1,4 @@
-//! The numbers of the bindings that hold the object that was written, and of all bindings.
+//! The numbers of the bindings that hold the object that was written.
 ghost use Rattle.std.specs.Prelude.{◌≡◌, ◌<◌, ◌≤◌, ◌+◌, ◌*◌, ◌^◌, ◌==◌, ◌&&◌, ◌||◌, ◌∷◌, ◌++◌, ℕ, [], true, false, nat_lt, All, length, map, if◌then◌else◌, IfOk, OnOk};
 ghost use Rattle.tick_set.specs.TickList.{has};
 ghost use Rattle.kept_rows.specs.Numbers.{counts, holds, size_of};
@@ -7,16 +7,6 @@ ghost use Rattle.kept_rows.specs.Rising.{IsRising};
 use crate::binding::{BINDING_LIMIT, Variable};
 use crate::numbers::size;
 use std::alloc::{AllocError, Global};
-
-/// The numbers of all bindings, ascending.
-pub fn all_numbers(alloc: Global, variables: &[Variable]) -> Result<Vec<u32>, AllocError>
-    requires { size_of variables.now ≤ BINDING_LIMIT }
-    ensures rising { IfOk result (λ r. IsRising 0 (size_of variables.now) r.items) }
-    ensures has { IfOk result (λ r. (c : ℕ) → has r.items c ≡ counts variables.now c) }
-{
-    let numbers = numbers_of(alloc, variables, true)?;
-    Ok(numbers.all)
-}
 
 /// The numbers of the bindings that hold the object that was written, ascending and each once. No list that is
 /// made on the way is longer.

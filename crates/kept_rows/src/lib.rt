@@ -21,7 +21,7 @@ mod turns;
 
 pub use binding::{BINDING_LIMIT, Targets, Variable};
 pub use change::Changes;
-pub use held::{all_numbers, held_numbers};
+pub use held::held_numbers;
 pub use laws::{
     a_refresh_keeps_rows_exact, an_insert_adds_the_bindings_that_hold_it,
     bindings_are_below_the_size, limits_in_numbers, numbers_have_places, places_have_a_number,
@@ -32,7 +32,7 @@ pub use listing::{Line, answer};
 pub use moving::{Move, moves};
 pub use numbers::{number, place, size, size_within};
 pub use passing::{Passing, passed};
-pub use renewal::{Judge, judge_all, refresh};
+pub use renewal::{Judge, refresh};
 pub use rows::KeptRows;
 pub use slots::Slots;
 pub use turning::Turning;

@@ -1,7 +1,8 @@
 //! The rows of an answer.
-ghost use Rattle.std.specs.Prelude.{◌≡◌, ◌<◌, ◌≤◌, ◌+◌, ◌*◌, ◌/◌, ◌++◌, ◌||◌, ℕ, Bool, [], option_to_list, IfOk, OnOk, IfSome, IfNone};
+ghost use Rattle.std.specs.Prelude.{◌≡◌, ◌<◌, ◌≤◌, ◌+◌, ◌*◌, ◌/◌, ◌++◌, ◌||◌, ◌&&◌, ℕ, Bool, [], option_to_list, IfOk, OnOk, IfSome, IfNone};
 ghost use Rattle.std.specs.List.{list_any};
 ghost use Rattle.tick_set.specs.Runs.{pairs};
+ghost use Rattle.tick_set.specs.Ticks.{within};
 ghost use Rattle.kept_rows.specs.Listing.{HaveNone, line_of, lines_upto, some_row, times, with_runs};
 ghost use Rattle.kept_rows.specs.Rows.{row_has};
 
@@ -90,8 +91,9 @@ fn line_at<S: TickSet>(
         ≡ option_to_list (line_of (times (row_has S.member kept.now) targets.width) window.lo window.hi (first / targets.width))) }
 {
     let target = first / targets.width;
-    let ticks = union_of(alloc, kept, first, target * targets.width + targets.width)?;
-    let spans = ticks.clip(alloc, window)?.runs(alloc)?;
+    let end = target * targets.width + targets.width;
+    let ticks = ticks_in(alloc, kept, first, end, window)?;
+    let spans = ticks.runs(alloc)?;
     runs_are_those_of_the_list();
     Ok(line_if_any(target, spans))
 }
@@ -106,25 +108,28 @@ fn line_if_any(target: u32, spans: Vec<Span>) -> Option<Line>
     Some(Line { target, spans })
 }
 
-// The ticks of the rows of the numbers from `first` up to `to`, put together at once.
-fn union_of<S: TickSet>(
+// The ticks of the window that the rows of the numbers from `first` up to `to` have, put together at once.
+fn ticks_in<S: TickSet>(
     alloc: Global,
     kept: &KeptRows<S>,
     first: u32,
     to: u32,
+    window: Window,
 ) -> Result<S, AllocError>
     requires { first < to }
-    ensures { IfOk result (λ s. (t : ℕ) → S.member s t ≡ some_row (row_has S.member kept.now) first to t) }
+    ensures { IfOk result (λ s. (t : ℕ) → S.member s t
+        ≡ (within window.lo window.hi t && some_row (row_has S.member kept.now) first to t)) }
 {
     // A row alone is the common case, and needs no list.
     let Some(second) = kept.next(first + 1, to) else {
-        let ticks = kept.row(first).copy(alloc)?;
+        let ticks = kept.row(first).clip(alloc, window)?;
         return Ok(ticks);
     };
     let mut rows = Vec::new(alloc);
     rows.push(kept.row(first))?;
     push_rows(&mut rows, kept, second, to)?;
-    let ticks = S::union_all(alloc, &rows)?;
+    let all = S::union_all(alloc, &rows)?;
+    let ticks = all.clip(alloc, window)?;
     Ok(ticks)
 }
 

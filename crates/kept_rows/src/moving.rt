@@ -294,7 +294,7 @@ fn without_others<S: Turning>(
 }
 
 // The next row that may have a tick in the slots, if something is left that it may have.
-fn next_row<S: TickSet>(
+fn next_row<S: Turning>(
     kept: &KeptRows<S>,
     left: &Changed<S>,
     slots: Slots,

@@ -135,6 +135,32 @@ impl<S: Turning> Page<S> {
         }
     }
 
+    /// A tick up to which, from `t` on and without it, each place has what it has at `t`.
+    pub(crate) fn all_steady_until(&self, t: u32) -> u32
+        ensures { (i : ℕ) → IsSteady (page_has S.member self.now i) t result }
+    {
+        let mut end = u32::MAX;
+        let mut at = 0;
+        'cells: while let Some(ticks) = self.get(at) {
+            end = end.min(ticks.steady_until(t));
+            at += 1;
+        }
+        end
+    }
+
+    /// The slots of the ticks of all places.
+    pub(crate) fn all_slots(&self) -> Slots
+        ensures { (i : ℕ) → AreIn (page_has S.member self.now i) result }
+    {
+        let mut slots = Slots::none();
+        let mut at = 0;
+        'cells: while let Some(ticks) = self.get(at) {
+            slots = slots.or(ticks.slots());
+            at += 1;
+        }
+        slots
+    }
+
     /// The slots of the ticks of a place.
     pub(crate) fn slots(&self, at: usize) -> Slots
         ensures { AreIn (page_has S.member self.now at) result }

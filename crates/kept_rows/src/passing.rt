@@ -9,9 +9,9 @@ use crate::binding::Targets;
 use crate::listing::push_some;
 use crate::rows::KeptRows;
 use crate::slots::Slots;
+use crate::turning::Turning;
 use std::alloc::{AllocError, Global};
 use std::marker::Model;
-use tick_set::TickSet;
 
 /// A target, by its number, that stands at one of two ticks alone. Contracts see the number and whether it enters.
 #[derive(Drop)]
@@ -49,7 +49,7 @@ impl Passing {
 /// The targets that stand at one of the ticks `before` and `now` and not at the other, in order. None stands at
 /// a tick after the expiry. It fails only where memory is out. Where neither tick is after the expiry, it looks only
 /// at rows that may turn, by what [`KeptRows::advance`] found.
-pub fn passed<S: TickSet>(
+pub fn passed<S: Turning>(
     alloc: Global,
     kept: &KeptRows<S>,
     targets: Targets,
@@ -79,7 +79,7 @@ pub fn passed<S: TickSet>(
 }
 
 // The first of the numbers from `from` up to `to` whose row may let its target pass.
-fn next_passing<S: TickSet>(
+fn next_passing<S: Turning>(
     kept: &KeptRows<S>,
     from: u32,
     to: u32,
@@ -100,7 +100,7 @@ fn next_passing<S: TickSet>(
 }
 
 // Whether the target of a binding passes.
-fn passing_at<S: TickSet>(
+fn passing_at<S: Turning>(
     kept: &KeptRows<S>,
     targets: Targets,
     first: u32,
@@ -132,7 +132,7 @@ fn passing_if(target: u32, stood: bool, stands: bool) -> Option<Passing>
 }
 
 // Whether a target stands at a tick.
-fn stands<S: TickSet>(
+fn stands<S: Turning>(
     kept: &KeptRows<S>,
     targets: Targets,
     target: u32,
@@ -147,7 +147,7 @@ fn stands<S: TickSet>(
 }
 
 // Whether some row of the numbers from `from` up to `to` has the tick.
-fn has_row_at<S: TickSet>(kept: &KeptRows<S>, from: u32, to: u32, tick: u32) -> bool
+fn has_row_at<S: Turning>(kept: &KeptRows<S>, from: u32, to: u32, tick: u32) -> bool
     ensures { result ≡ some_row (row_has S.member kept.now) from to tick }
 {
     let mut from = from;

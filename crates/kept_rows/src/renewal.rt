@@ -2,17 +2,14 @@
 ghost use Rattle.std.specs.Prelude.{◌≡◌, ◌<◌, ◌≤◌, ◌+◌, ◌*◌, ◌&&◌, ◌∷◌, ℕ, Bool, [], false, nat_le, length, if◌then◌else◌, IfOk, OnOk};
 ghost use Rattle.tick_set.specs.TickList.{has};
 ghost use Rattle.kept_rows.specs.Changes.{AreReady, AreRising, DoDiffer, after};
-ghost use Rattle.kept_rows.specs.Exact.{AreRowsOf};
 ghost use Rattle.kept_rows.specs.Numbers.{counts, holds, size_of};
 ghost use Rattle.kept_rows.specs.Rising.{IsRising};
 ghost use Rattle.kept_rows.specs.Rows.{HasRoom, row_has};
 
 use crate::binding::{BINDING_LIMIT, Variable};
 use crate::change::Changes;
-use crate::held::{all_numbers, held_numbers};
-use crate::numbers::size;
+use crate::held::held_numbers;
 use crate::rows::KeptRows;
-use crate::turning::Turning;
 use std::alloc::{AllocError, Global};
 use tick_set::TickSet;
 
@@ -74,41 +71,6 @@ fn refresh_one<S: TickSet, J: Judge<S>>(
     }
     changes.note(alloc, kept, own, from, judge.judge(own))?;
     Ok(changes)
-}
-
-/// The rows of all bindings, each judged from nothing, as for a query that is registered. It fails only where memory
-/// is out.
-pub fn judge_all<S: Turning, J: Judge<S>>(
-    alloc: Global,
-    variables: &[Variable],
-    judge: &J,
-) -> Result<KeptRows<S>, AllocError>
-    requires { size_of variables.now ≤ BINDING_LIMIT }
-    ensures room { IfOk result (λ rows. HasRoom rows (size_of variables.now)) }
-    ensures rows { IfOk result (λ rows. AreRowsOf (row_has S.member rows) (counts variables.now) (J.full judge.now)) }
-{
-    let numbers = all_numbers(alloc, variables)?;
-    let mut rows = no_rows(alloc, variables)?;
-    let mut rest: &[u32] = &numbers;
-    'numbers: while let Some((number, later)) = rest.split_first() {
-        rows.keep(alloc, *number, judge.judge(*number))?;
-        rest = later;
-    }
-    Ok(rows)
-}
-
-// A table for the bindings of these variables, without rows. Where there are several variables a target may have more than
-// one row, so that what it shares with others is to be found: then they are marked.
-fn no_rows<S: Turning>(alloc: Global, variables: &[Variable]) -> Result<KeptRows<S>, AllocError>
-    requires { size_of variables.now ≤ BINDING_LIMIT }
-    ensures room { IfOk result (λ rows. HasRoom rows (size_of variables.now)) }
-    ensures none { IfOk result (λ rows. (c t : ℕ) → row_has S.member rows c t ≡ false) }
-{
-    let mut rows = KeptRows::new(alloc, size(variables))?;
-    if variables.len() > 1 {
-        rows.mark(alloc)?;
-    }
-    Ok(rows)
 }
 
 // The rows of these numbers that differ from the kept ones, judged anew from tick `from` on.

@@ -22,7 +22,7 @@ use tick_set::TickSet;
 #[derive(Drop)]
 pub struct KeptRows<S: TickSet> {
     pages: Vec<Page<S>>,
-    // Which numbers may have a row.
+    // Which groups of numbers may have a row.
     filled: Filled,
     // Lent for a number whose page isn't made.
     nothing: S,
@@ -44,7 +44,6 @@ impl<S: TickSet> Model for KeptRows<S> {
     ghost view = { λ a. a.pages.items };
 
     ghost invariant = { λ a. ((t : ℕ) → S.member a.nothing t ≡ false)
-        × (length a.turns.rows.items ≡ length a.pages.items * 16)
         × (length a.turns.pages.items ≡ length a.pages.items)
         × AreSteady (row_has S.member a.pages.items) a.turns
         × AreFilled (row_has S.member a.pages.items) a.filled
@@ -52,7 +51,7 @@ impl<S: TickSet> Model for KeptRows<S> {
 }
 
 impl<S: TickSet> KeptRows<S> {
-    /// A table for the numbers below `size`, without rows. It takes some 6.8 bytes for each number.
+    /// A table for the numbers below `size`, without rows. It takes some 1.8 bytes for each number.
     pub fn new(alloc: Global, size: u32) -> Result<KeptRows<S>, AllocError>
         ensures room { IfOk result (λ rows. HasRoom rows size) }
         ensures none { IfOk result (λ rows. (c t : ℕ) → row_has S.member rows c t ≡ false) }
@@ -75,9 +74,6 @@ impl<S: TickSet> KeptRows<S> {
         ensures { (t : ℕ) → S.member result.now t ≡ row_has S.member self.now number t }
     {
         let at = number as usize;
-        if self.filled.has_none(at) {
-            return &self.nothing;
-        }
         match self.pages.get(at / PAGE) {
             Some(page) => page.get(at % PAGE).unwrap_or(&self.nothing),
             None => &self.nothing,
@@ -111,31 +107,6 @@ impl<S: TickSet> KeptRows<S> {
         self.pages.get(page_at)
     }
 
-    /// The first of the numbers from `from` up to `to`, without `to`, whose row may be another at tick `now` than at
-    /// tick `before`: what stands before it is the same. It passes over pages that [`KeptRows::advance`] found to
-    /// stay as they are.
-    pub fn next_turning(&self, from: u32, to: u32, before: u32, now: u32) -> Option<u32>
-        ensures some { IfSome result (IsNextTurn (λ c. row_has S.member self.now c before) (λ c. row_has S.member self.now c now) from to) }
-        ensures none { IfNone result (AreAlike (λ c. row_has S.member self.now c before) (λ c. row_has S.member self.now c now) from to) }
-    {
-        if before < self.turns.seen || now < before {
-            return self.next(from, to);
-        }
-        self.turns.unsteady_from(from, to, now)
-    }
-
-    /// The first of the numbers from `from` up to `to`, without `to`, whose row may have a tick in the slots. It passes
-    /// over the rows that have none where [`KeptRows::mark`] was called, else over those without a tick.
-    pub fn next_at(&self, from: u32, to: u32, slots: Slots) -> Option<u32>
-        ensures some { IfSome result (IsNextAt (row_has S.member self.now) slots from to) }
-        ensures none { IfNone result (HaveNoneAt (row_has S.member self.now) slots from to) }
-    {
-        if self.marks.is_empty() {
-            return self.next(from, to);
-        }
-        self.marks.next(from, to, slots)
-    }
-
     /// Whether the page of a number is made.
     #[inline]
     pub(crate) fn has_page(&self, number: u32) -> bool
@@ -149,6 +120,31 @@ impl<S: TickSet> KeptRows<S> {
 }
 
 impl<S: Turning> KeptRows<S> {
+    /// The first of the numbers from `from` up to `to`, without `to`, whose row may be another at tick `now` than at
+    /// tick `before`: what stands before it is the same. It passes over pages that [`KeptRows::advance`] found to
+    /// stay as they are.
+    pub fn next_turning(&self, from: u32, to: u32, before: u32, now: u32) -> Option<u32>
+        ensures some { IfSome result (IsNextTurn (λ c. row_has S.member self.now c before) (λ c. row_has S.member self.now c now) from to) }
+        ensures none { IfNone result (AreAlike (λ c. row_has S.member self.now c before) (λ c. row_has S.member self.now c now) from to) }
+    {
+        if before < self.turns.seen || now < before {
+            return self.next(from, to);
+        }
+        self.turns.unsteady_from(&self.pages, from, to, now)
+    }
+
+    /// The first of the numbers from `from` up to `to`, without `to`, whose row may have a tick in the slots. It passes
+    /// over the rows that have none where [`KeptRows::mark`] was called, else over those without a tick.
+    pub fn next_at(&self, from: u32, to: u32, slots: Slots) -> Option<u32>
+        ensures some { IfSome result (IsNextAt (row_has S.member self.now) slots from to) }
+        ensures none { IfNone result (HaveNoneAt (row_has S.member self.now) slots from to) }
+    {
+        if self.marks.is_empty() {
+            return self.next(from, to);
+        }
+        self.marks.next(&self.pages, from, to, slots)
+    }
+
     /// Writes the row of a number, into the spare page where the number's page isn't made.
     pub(crate) fn put(&mut self, number: u32, ticks: S, spare: Page<S>)
         requires there { number / 16 < length self.old }
@@ -163,29 +159,26 @@ impl<S: Turning> KeptRows<S> {
         let at = number as usize;
         self.turns.lower(number, end);
         self.filled.note(at, !ticks.is_empty());
-        self.marks.mark(number, ticks.slots());
         let page = &mut self.pages[at / PAGE];
         page.put(at % PAGE, ticks, spare);
+        self.marks.renew(&self.pages, at / PAGE);
     }
 
-    /// Writes a copy of these ticks as the row of a number, if they differ from it. On error nothing has changed.
-    pub(crate) fn keep(&mut self, alloc: Global, number: u32, ticks: &S) -> Result<(), AllocError>
+    /// Writes the row of a number. It takes memory only for a page that isn't made yet; on error nothing has changed.
+    pub fn set_row(&mut self, alloc: Global, number: u32, ticks: S) -> Result<(), AllocError>
         requires { number / 16 < length self.old }
         ensures len { length self.new ≡ length self.old }
         ensures rows { OnOk result ((c t : ℕ) → row_has S.member self.new c t
-            ≡ (if c == number then S.member ticks.now t else row_has S.member self.old c t)) }
+            ≡ (if c == number then S.member ticks t else row_has S.member self.old c t)) }
         ensures err { OnErr result (self.new ≡ self.old) }
     {
-        if ticks.equal(self.row(number)) {
-            return Ok(());
-        }
         let spare = spare_page(alloc, self, number)?;
-        self.put(number, ticks.copy(alloc)?, spare);
+        self.put(number, ticks, spare);
         Ok(())
     }
 
-    /// Notes of each row in which slots it has ticks, so that [`KeptRows::next_at`] looks only at rows that may have some
-    /// in the slots. It takes some 8.5 bytes for each number. No row changes.
+    /// Notes of each page in which slots its rows have ticks, so that [`KeptRows::next_at`] looks only into pages that may
+    /// have some in the slots. It takes half a byte for each number. No row changes.
     pub fn mark(&mut self, alloc: Global) -> Result<(), AllocError>
         ensures { self.new ≡ self.old }
     {

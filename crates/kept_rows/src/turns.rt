@@ -1,7 +1,7 @@
 //! Until when rows stay as they are.
 ghost use Rattle.std.specs.Prelude.{◌≡◌, ◌<◌, ◌≤◌, ◌+◌, ◌*◌, ◌/◌, ◌^◌, ◌==◌, ℕ, Bool, length, slice_index_or, if◌then◌else◌, IfOk, IfSome, IfNone};
 ghost use Rattle.kept_rows.specs.Rows.{row_has};
-ghost use Rattle.kept_rows.specs.Turning.{AreSteady, AreSteadyIn, HaveEnds, HaveOwnEnds, IsSteady};
+ghost use Rattle.kept_rows.specs.Turning.{AreSteady, AreSteadyIn, HaveEnds, IsSteady};
 
 use crate::page::{PAGE, Page};
 use crate::turning::Turning;
@@ -10,13 +10,12 @@ use std::alloc::{AllocError, Global};
 // How many pages share a group.
 const GROUP: usize = 64;
 
-/// Until when the rows of a table stay what they are at a tick: a tick for each row, one for each page and one for
-/// each group of pages, so that the passing of time looks at few numbers and at the rows that turn.
+/// Until when the rows of a table stay what they are at a tick: a tick for each page and one for each group of pages, so
+/// that the passing of time looks at few numbers, and only at the rows of pages that turn.
 #[derive(Drop)]
 pub(crate) struct Turns {
     /// The tick from which on the ends are told.
     pub(crate) seen: u32,
-    rows: Vec<u32>,
     pages: Vec<u32>,
     groups: Vec<u32>,
 }
@@ -25,27 +24,32 @@ impl Turns {
     /// For so many pages without ticks.
     pub(crate) fn new(alloc: Global, pages: usize) -> Result<Turns, AllocError>
         requires { pages < 2 ^ 32 }
-        ensures rows { IfOk result (λ turns. length turns.rows.items ≡ pages * 16) }
         ensures pages { IfOk result (λ turns. length turns.pages.items ≡ pages) }
     {
         Ok(Turns {
             seen: 0,
-            rows: vec![in alloc; u32::MAX; pages * PAGE]?,
             pages: vec![in alloc; u32::MAX; pages]?,
             groups: vec![in alloc; u32::MAX; pages / GROUP + 1]?,
         })
     }
 
-    /// The first number from `from` up to `to`, without `to`, whose page may turn by tick `now`.
-    pub(crate) fn unsteady_from(&self, from: u32, to: u32, now: u32) -> Option<u32>
+    /// The first number from `from` up to `to`, without `to`, whose row in these pages may turn by tick `now`.
+    pub(crate) fn unsteady_from<S: Turning>(
+        &self,
+        pages: &[Page<S>],
+        from: u32,
+        to: u32,
+        now: u32,
+    ) -> Option<u32>
+        requires { AreSteady (row_has S.member pages.now) self.now }
         ensures least { IfSome result (λ number. from ≤ number) }
         ensures below { IfSome result (λ number. number < to) }
-        ensures some { IfSome result (AreSteadyIn self.now now from) }
-        ensures none { IfNone result (AreSteadyIn self.now now from to) }
+        ensures some { IfSome result (AreSteadyIn (row_has S.member pages.now) self.now.seen now from) }
+        ensures none { IfNone result (AreSteadyIn (row_has S.member pages.now) self.now.seen now from to) }
     {
         let mut number = from as usize;
         'numbers: while number < to as usize {
-            let end = self.steady_end(number, now);
+            let end = self.steady_end(pages, number, now);
             if end == number {
                 return Some(number as u32);
             }
@@ -54,13 +58,15 @@ impl Turns {
         None
     }
 
-    // The end of the group or of the page of a number where its rows don't turn by tick `now`, else the number.
+    // The end of the group or of the page of a number where its rows don't turn by tick `now`, the next number where the
+    // number's own row doesn't, else the number.
     #[inline]
-    fn steady_end(&self, number: usize, now: u32) -> usize
-        requires { number < 2 ^ 32 }
+    fn steady_end<S: Turning>(&self, pages: &[Page<S>], number: usize, now: u32) -> usize
+        requires small { number < 2 ^ 32 }
+        requires steady { AreSteady (row_has S.member pages.now) self.now }
         ensures least { number ≤ result }
         ensures most { result ≤ 2 ^ 33 }
-        ensures steady { AreSteadyIn self.now now number result }
+        ensures steady { AreSteadyIn (row_has S.member pages.now) self.now.seen now number result }
     {
         let page = number / PAGE;
         let group = page / GROUP;
@@ -68,7 +74,7 @@ impl Turns {
             (group + 1) * GROUP * PAGE
         } else if end_at(&self.pages, page) > now {
             (page + 1) * PAGE
-        } else if end_at(&self.rows, number) > now {
+        } else if row_end(pages, number, self.seen) > now {
             number + 1
         } else {
             number
@@ -78,14 +84,11 @@ impl Turns {
     /// Notes that the row of a number is written, with ticks that stay as they are up to `end`.
     pub(crate) fn lower(&mut self, number: u32, end: u32)
         ensures seen { self.new.seen ≡ self.old.seen }
-        ensures rows { length self.new.rows.items ≡ length self.old.rows.items }
         ensures pages { length self.new.pages.items ≡ length self.old.pages.items }
         ensures steady { (rows : ℕ → ℕ → Bool) (ticks : ℕ → Bool) → AreSteady rows self.old → IsSteady ticks self.old.seen end
             → AreSteady (λ c t. if c == number then ticks t else rows c t) self.new }
     {
-        let row = number as usize;
-        let page = row / PAGE;
-        lower_at(&mut self.rows, row, end);
+        let page = number as usize / PAGE;
         lower_at(&mut self.pages, page, end);
         lower_at(&mut self.groups, page / GROUP, end);
     }
@@ -93,10 +96,8 @@ impl Turns {
     /// Tells until when the rows of these pages stay as they are from tick `now` on, if that is after the tick that
     /// was seen. It looks only into pages that turn by then.
     pub(crate) fn renew<S: Turning>(&mut self, pages: &[Page<S>], now: u32)
-        requires rows { length self.old.rows.items ≡ length pages.now * 16 }
         requires pages { length self.old.pages.items ≡ length pages.now }
         requires steady { AreSteady (row_has S.member pages.now) self.old }
-        ensures rows { length self.new.rows.items ≡ length self.old.rows.items }
         ensures pages { length self.new.pages.items ≡ length self.old.pages.items }
         ensures steady { AreSteady (row_has S.member pages.now) self.new }
     {
@@ -109,10 +110,8 @@ impl Turns {
 
     // Tells anew until when the groups stay as they are that don't from the tick that was seen on.
     fn renew_groups<S: Turning>(&mut self, pages: &[Page<S>])
-        requires rows { length self.old.rows.items ≡ length pages.now * 16 }
         requires pages { length self.old.pages.items ≡ length pages.now }
         requires steady { AreSteady (row_has S.member pages.now) self.old }
-        ensures rows { length self.new.rows.items ≡ length self.old.rows.items }
         ensures pages { length self.new.pages.items ≡ length self.old.pages.items }
         ensures steady { AreSteady (row_has S.member pages.now) self.new }
     {
@@ -128,10 +127,8 @@ impl Turns {
     fn renew_group<S: Turning>(&mut self, pages: &[Page<S>], group: usize)
         requires there { group < length self.old.groups.items }
         requires within { group * 64 ≤ length self.old.pages.items }
-        requires rows { length self.old.rows.items ≡ length pages.now * 16 }
         requires pages { length self.old.pages.items ≡ length pages.now }
         requires steady { AreSteady (row_has S.member pages.now) self.old }
-        ensures rows { length self.new.rows.items ≡ length self.old.rows.items }
         ensures pages { length self.new.pages.items ≡ length self.old.pages.items }
         ensures groups { length self.new.groups.items ≡ length self.old.groups.items }
         ensures steady { AreSteady (row_has S.member pages.now) self.new }
@@ -139,7 +136,7 @@ impl Turns {
         if self.groups[group] > self.seen {
             return;
         }
-        let end = renew_pages(&mut self.pages, &mut self.rows, pages, group, self.seen);
+        let end = renew_pages(&mut self.pages, pages, group, self.seen);
         self.groups[group] = end;
     }
 }
@@ -166,23 +163,24 @@ fn lower_at(ends: &mut [u32], at: usize, end: u32)
     }
 }
 
+// A tick up to which, from tick `seen` on and without it, the row of a number stays as it is.
+#[inline]
+fn row_end<S: Turning>(pages: &[Page<S>], number: usize, seen: u32) -> u32
+    ensures { IsSteady (row_has S.member pages.now number) seen result }
+{
+    match pages.get(number / PAGE) {
+        Some(page) => page.steady_until(number % PAGE, seen),
+        None => u32::MAX,
+    }
+}
+
 // Tells anew until when the pages of a group stay as they are that don't from tick `seen` on, and gives the least of
 // the group's ends.
-fn renew_pages<S: Turning>(
-    ends: &mut [u32],
-    row_ends: &mut [u32],
-    pages: &[Page<S>],
-    group: usize,
-    seen: u32,
-) -> u32
+fn renew_pages<S: Turning>(ends: &mut [u32], pages: &[Page<S>], group: usize, seen: u32) -> u32
     requires within { group * 64 ≤ length ends.old }
-    requires rows { length row_ends.old ≡ length pages.now * 16 }
     requires len { length ends.old ≡ length pages.now }
-    requires own { HaveOwnEnds (row_has S.member pages.now) seen row_ends.old }
     requires steady { HaveEnds 16 (row_has S.member pages.now) seen ends.old }
-    ensures rows { length row_ends.new ≡ length row_ends.old }
     ensures len { length ends.new ≡ length ends.old }
-    ensures own { HaveOwnEnds (row_has S.member pages.now) seen row_ends.new }
     ensures steady { HaveEnds 16 (row_has S.member pages.now) seen ends.new }
     ensures least { (i : ℕ) → group * 64 ≤ i → i < group * 64 + 64 → i < length ends.new → result ≤ slice_index_or ends.new i 0 }
 {
@@ -190,7 +188,7 @@ fn renew_pages<S: Turning>(
     let mut at = group * GROUP;
     let to = ends.len().min(at + GROUP);
     'pages: while at < to {
-        renew_page(ends, row_ends, pages, at, seen);
+        renew_page(ends, pages, at, seen);
         least = least.min(ends[at]);
         at += 1;
     }
@@ -198,60 +196,15 @@ fn renew_pages<S: Turning>(
 }
 
 // Tells anew until when a page stays as it is, if it doesn't from tick `seen` on.
-fn renew_page<S: Turning>(
-    ends: &mut [u32],
-    row_ends: &mut [u32],
-    pages: &[Page<S>],
-    at: usize,
-    seen: u32,
-)
+fn renew_page<S: Turning>(ends: &mut [u32], pages: &[Page<S>], at: usize, seen: u32)
     requires there { at < length ends.old }
-    requires rows { length row_ends.old ≡ length pages.now * 16 }
     requires len { length ends.old ≡ length pages.now }
-    requires own { HaveOwnEnds (row_has S.member pages.now) seen row_ends.old }
     requires steady { HaveEnds 16 (row_has S.member pages.now) seen ends.old }
-    ensures rows { length row_ends.new ≡ length row_ends.old }
     ensures len { length ends.new ≡ length ends.old }
     ensures others { (i : ℕ) → i < at → slice_index_or ends.new i 0 ≡ slice_index_or ends.old i 0 }
-    ensures own { HaveOwnEnds (row_has S.member pages.now) seen row_ends.new }
     ensures steady { HaveEnds 16 (row_has S.member pages.now) seen ends.new }
 {
     if ends[at] <= seen {
-        ends[at] = renew_rows(row_ends, pages, at, seen);
-    }
-}
-
-// Tells anew until when the rows of a page stay as they are that don't from tick `seen` on, and gives the least of
-// the page's ends.
-fn renew_rows<S: Turning>(ends: &mut [u32], pages: &[Page<S>], page: usize, seen: u32) -> u32
-    requires there { page < length pages.now }
-    requires len { length ends.old ≡ length pages.now * 16 }
-    requires own { HaveOwnEnds (row_has S.member pages.now) seen ends.old }
-    ensures len { length ends.new ≡ length ends.old }
-    ensures own { HaveOwnEnds (row_has S.member pages.now) seen ends.new }
-    ensures least { (c : ℕ) → c / 16 ≡ page → result ≤ slice_index_or ends.new c 0 }
-{
-    let mut least = u32::MAX;
-    let mut row = page * PAGE;
-    let to = row + PAGE;
-    'rows: while row < to {
-        renew_row(ends, pages, row, seen);
-        least = least.min(ends[row]);
-        row += 1;
-    }
-    least
-}
-
-// Tells anew until when a row stays as it is, if it doesn't from tick `seen` on.
-fn renew_row<S: Turning>(ends: &mut [u32], pages: &[Page<S>], row: usize, seen: u32)
-    requires there { row < length ends.old }
-    requires len { length ends.old ≡ length pages.now * 16 }
-    requires own { HaveOwnEnds (row_has S.member pages.now) seen ends.old }
-    ensures len { length ends.new ≡ length ends.old }
-    ensures others { (i : ℕ) → i < row → slice_index_or ends.new i 0 ≡ slice_index_or ends.old i 0 }
-    ensures own { HaveOwnEnds (row_has S.member pages.now) seen ends.new }
-{
-    if ends[row] <= seen {
-        ends[row] = pages[row / PAGE].steady_until(row % PAGE, seen);
+        ends[at] = pages[at].all_steady_until(seen);
     }
 }

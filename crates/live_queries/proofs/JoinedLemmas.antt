@@ -1,6 +1,6 @@
 -- Numbers of the columns of the targets and of the others, joined.
 use Rattle.std.proofs.Common.{◌≡◌, ℕ, zero, suc, ◌+◌, ◌*◌, ◌/◌, ◌%◌, ◌<◌, ◌≤◌, Bool, true, false, not, ◌&&◌, ◌||◌, List, [], ◌∷◌, ◌++◌, length, map, refl, sym, ap, ◌∙◌, inl, inr, arith, if◌then◌else◌}
-use Rattle.std.specs.Prelude.{⊤, ◌==◌, nat_lt, slice_index, slice_index_or}
+use Rattle.std.specs.Prelude.{◌==◌, nat_lt, slice_index, slice_index_or}
 use Rattle.std.specs.List.{list_any}
 use Rattle.std.proofs.Math.Nat.{mul_comm}
 use Rattle.std.proofs.lemmas.Bool.{and_from, and_parts, cases_Bool, false≢true, or_cases, or_parts}
@@ -9,6 +9,7 @@ use Rattle.std.proofs.lemmas.Nat.{div-add-mod', div-mul-add, mod-mul-add, mod_be
 use Rattle.formula.specs.Resolved.{are_distinct}
 use Rattle.kept_rows.specs.Numbers.{counts, size_of}
 use Rattle.live_queries.specs.Columns.{AreCounted, Column, has_variable, object_of, object_or, variables_of}
+use Rattle.live_queries.specs.Numbered.{AreAmong, IsNumberOf}
 use Rattle.live_queries.proofs.ColumnLemmas.{equal, later_variable, less, not_true, own}
 use Rattle.live_queries.proofs.NumberingLemmas.{objects_at, size_some}
 
@@ -147,23 +148,18 @@ objects_are (c ∷ cs) n distinct =
 abbrev pub has_id : List ℕ → ℕ → Bool
 has_id ids id = list_any (λ (i : ℕ). i == id) ids
 
--- the objects that a function gives the columns' variables are among theirs
-abbrev pub AreAmong : List Column → (ℕ → ℕ) → Type 0
-AreAmong [] f = ⊤
-AreAmong (c ∷ cs) f = (has_id c.ids (f c.variable) ≡ true) × AreAmong cs f
-
 pub record Chosen (cs : List Column) (f : ℕ → ℕ) : Type 0 where
   pub number : ℕ
   pub below : number < sized cs
   pub counted : counts (variables_of cs) number ≡ true
   pub objects : (v : ℕ) → has_variable cs v ≡ true → object_of cs number v ≡ f v
 
-record Placed (ids : List ℕ) (id : ℕ) : Type 0 where
-  place : ℕ
-  below : place < length ids
-  object : slice_index ids place ≡ id
+pub record Placed (ids : List ℕ) (id : ℕ) : Type 0 where
+  pub place : ℕ
+  pub below : place < length ids
+  pub object : slice_index ids place ≡ id
 
-placed : (ids : List ℕ) (id : ℕ) → has_id ids id ≡ true → Placed ids id
+pub placed : (ids : List ℕ) (id : ℕ) → has_id ids id ≡ true → Placed ids id
 placed [] id has = absurd (false≢true has)
 placed (x ∷ ids) id has = elim (or_cases (x == id) (has_id ids id) has) [
   | inl here ↦ record { place = 0; below = omega arith; object = equal x id here }
@@ -171,26 +167,31 @@ placed (x ∷ ids) id has = elim (or_cases (x == id) (has_id ids id) has) [
       let p = placed ids id later in record { place = suc p.place; below = omega (arith, p.below); object = p.object }
 ]
 
+pub numbered_more : (c : Column) (cs : List Column) (f : ℕ → ℕ) (place number : ℕ) → place < c.numbers.count → slice_index c.ids place ≡ f c.variable →
+    IsNumberOf cs f number → IsNumberOf (c ∷ cs) f (place * sized cs + number)
+numbered_more c cs f place number few object is =
+    let w : ℕ = sized cs in
+    let quotient : (place * w + number) / w ≡ place = div-mul-add place w number is.below in
+    let remainder : (place * w + number) % w ≡ number = mod-mul-add place w number is.below in
+    record {
+      below = below_joined place number c.numbers.capacity w (omega (arith, few, c.numbers.room)) is.below;
+      counted = and_from (nat_lt ((place * w + number) / w) c.numbers.count) (counts (variables_of cs) ((place * w + number) % w))
+          (ap (λ q. nat_lt q c.numbers.count) quotient ∙ less place c.numbers.count few) (ap (counts (variables_of cs)) remainder ∙ is.counted);
+      objects = λ v has. elim (cases_Bool (v == c.variable)) [
+        | inl here ↦
+            ap (λ b. if b then slice_index c.ids ((place * w + number) / w) else object_of cs ((place * w + number) % w) v) here
+            ∙ ap (slice_index c.ids) quotient ∙ object ∙ ap f (sym (equal v c.variable here))
+        | inr other ↦
+            ap (λ b. if b then slice_index c.ids ((place * w + number) / w) else object_of cs ((place * w + number) % w) v) other
+            ∙ ap (λ m. object_of cs m v) remainder ∙ is.objects v (later_variable c cs v other has)
+      ];
+    }
+
 pub chosen_number : (cs : List Column) (f : ℕ → ℕ) → AreCounted cs → AreAmong cs f → Chosen cs f
 chosen_number [] f counted among = record { number = 0; below = omega arith; counted = refl; objects = λ v has. absurd (false≢true has) }
 chosen_number (c ∷ cs) f counted among =
     let p = placed c.ids (f c.variable) among.0 in
     let rest = chosen_number cs f counted.1 among.1 in
-    let w : ℕ = sized cs in
-    let quotient : (p.place * w + rest.number) / w ≡ p.place = div-mul-add p.place w rest.number rest.below in
-    let remainder : (p.place * w + rest.number) % w ≡ rest.number = mod-mul-add p.place w rest.number rest.below in
-    let few : p.place < c.numbers.count = omega (arith, p.below, counted.0) in
-    record {
-      number = p.place * w + rest.number;
-      below = below_joined p.place rest.number c.numbers.capacity w (omega (arith, few, c.numbers.room)) rest.below;
-      counted = and_from (nat_lt ((p.place * w + rest.number) / w) c.numbers.count) (counts (variables_of cs) ((p.place * w + rest.number) % w))
-          (ap (λ q. nat_lt q c.numbers.count) quotient ∙ less p.place c.numbers.count few) (ap (counts (variables_of cs)) remainder ∙ rest.counted);
-      objects = λ v has. elim (cases_Bool (v == c.variable)) [
-        | inl here ↦
-            ap (λ b. if b then slice_index c.ids ((p.place * w + rest.number) / w) else object_of cs ((p.place * w + rest.number) % w) v) here
-            ∙ ap (slice_index c.ids) quotient ∙ p.object ∙ ap f (sym (equal v c.variable here))
-        | inr other ↦
-            ap (λ b. if b then slice_index c.ids ((p.place * w + rest.number) / w) else object_of cs ((p.place * w + rest.number) % w) v) other
-            ∙ ap (λ m. object_of cs m v) remainder ∙ rest.objects v (later_variable c cs v other has)
-      ];
-    }
+    let is = numbered_more c cs f p.place rest.number (omega (arith, p.below, counted.0)) p.object
+    (record { below = rest.below; counted = rest.counted; objects = rest.objects }) in
+    record { number = p.place * sized cs + rest.number; below = is.below; counted = is.counted; objects = is.objects }

@@ -1,8 +1,10 @@
 -- The rows that the relations of an evaluation give the bindings of columns.
 use Rattle.std.proofs.Common.{◌≡◌, ℕ, ◌<◌, Bool, true, false, ◌&&◌, List, [], ◌∷◌, length, map, refl, sym, ap, ◌∙◌, subst, inl, inr, arith, if◌then◌else◌, ◌/◌, ◌%◌}
-use Rattle.std.specs.Prelude.{All, ◌==◌, not, nat_le, slice_index}
+use Rattle.std.specs.Prelude.{All, ◌==◌, not, nat_le, nat_lt, slice_index}
 use Rattle.std.specs.List.{flat_map, list_any}
+use Rattle.std.specs.List.Sorted.{IsStrictlyIncreasing}
 use Rattle.std.proofs.lemmas.Bool.{and_parts, cases_Bool, false≢true, or_cases, or_left, or_right}
+use Rattle.tick_set.proofs.Between.{same_test}
 use Rattle.tick_set.specs.Runs.{spans_have}
 use Rattle.tick_set.specs.Ticks.{between, within}
 use Rattle.tick_set.specs.declared.spans.Span.{Span}
@@ -16,24 +18,25 @@ use Rattle.kept_rows.specs.Exact.{AreRowsOf}
 use Rattle.kept_rows.specs.Numbers.{counts, holds, size_of}
 use Rattle.meaning.specs.Binding.{holds_full}
 use Rattle.object_store.specs.Contents.{Contents, catalog_of}
-use Rattle.relation.specs.Frames.{IsIn}
-use Rattle.relation.specs.Key.{has_id}
+use Rattle.relation.specs.Frames.{Frame, IsIn, frame, frame_of}
+use Rattle.relation.specs.Key.{has_id, ids_of as domain_of}
 use Rattle.relation.specs.Rows.{Table, has}
 use Rattle.atoms.specs.Asked.{world_in}
 use Rattle.answers.specs.Objects.{AreOfItsClasses}
-use Rattle.answers.proofs.ObjectLemmas.{domain_at}
+use Rattle.answers.proofs.ObjectLemmas.{domain_at, ids_ascend}
 use Rattle.std.proofs.lemmas.List.{length-map}
 use Rattle.live_queries.specs.declared.parts.Part.{Part}
 use Rattle.live_queries.specs.declared.parts.Single.{Single}
 use Rattle.live_queries.specs.Asked.{class_in}
-use Rattle.live_queries.specs.Columns.{AreColumnsOf, AreCounted, Column, gives, has_variable, object_of, object_or, order_of, variables_of}
+use Rattle.live_queries.specs.Columns.{AreColumnsOf, AreCounted, Column, HaveObjectsOf, gives, has_variable, object_of, object_or, order_of, variables_of}
+use Rattle.live_queries.specs.Numbered.{DoAscend, HaveDomains, IsOver}
 use Rattle.live_queries.specs.Prepared.{AreColumnsWith, is_of_class}
 use Rattle.live_queries.specs.Written.{ArePartsOf, AreVariablesWith, HaveObjectsWith, parts_have, single_for}
-use Rattle.live_queries.proofs.ColumnLemmas.{equal, not_head, not_true, own}
+use Rattle.live_queries.proofs.ColumnLemmas.{equal, less, not_head, not_true, own}
 use Rattle.live_queries.proofs.FormedLemmas.{are_counted, has_column, have_objects, variables_are}
 use Rattle.live_queries.proofs.GrowLemmas.{counts_with, grown_with, holds_with, objects_with}
 use Rattle.live_queries.proofs.MadeLemmas.{counted, same_order}
-use Rattle.live_queries.proofs.OrderLemmas.{among, columns_are, order_below, order_distinct}
+use Rattle.live_queries.proofs.OrderLemmas.{among, columns_are, less_is, order_below, order_distinct}
 use Rattle.live_queries.proofs.PartLemmas.{all_singles, class_is, class_of_variable, object_of_its_class, parts_right, some_single, variable_of_class}
 use Rattle.live_queries.proofs.ReadLemmas.{as_many_domains, domain_of_variable}
 use Rattle.live_queries.proofs.TargetLemmas.{object_is_of_class}
@@ -51,15 +54,50 @@ in_domains w q cs is are n here v below =
     (have_objects w.history.catalog q.classes (order_of q) cs are) here v
     (has_column q cs is (variables_are w.history.catalog q.classes (order_of q) cs are) v within_classes)
 
-pub first_rows_are : (w : World) (q : ResolvedQuery) (lo hi : ℕ) (cs : List Column) (numbers : List Variable) (domains : List (List ℕ)) (full : Table (List Span))
+columns_ascend : (catalog : Catalog) (classes : List ℕ) (cs : List Column) → HaveObjectsOf catalog classes cs → DoAscend cs
+columns_ascend catalog classes [] have = tt
+columns_ascend catalog classes (c ∷ cs) have =
+    (subst IsStrictlyIncreasing (sym have.0) (ids_ascend catalog (slice_index classes c.variable)), columns_ascend catalog classes cs have.1)
+
+have_domains : (catalog : Catalog) (classes : List ℕ) (domains : List (List ℕ)) (cs : List Column) → domains ≡ map (ids_of catalog) classes →
+    HaveObjectsOf catalog classes cs → ((v : ℕ) → has_variable cs v ≡ true → v < length classes) → HaveDomains domains cs
+have_domains catalog classes domains [] all have below = tt
+have_domains catalog classes domains (c ∷ cs) all have below = (
+  ap (λ (d : List (List ℕ)). domain_of d c.variable) all
+      ∙ domain_at (ids_of catalog) classes c.variable (below c.variable (or_left (c.variable == c.variable) (has_variable cs c.variable) (own c.variable)))
+      ∙ sym have.0,
+  have_domains catalog classes domains cs all have.1 (λ v has. below v (or_right (c.variable == v) (has_variable cs v) has)),
+)
+
+-- its rows are those of bindings of the columns
+pub is_over : (w : World) (q : ResolvedQuery) (lo hi : ℕ) (cs : List Column) (domains : List (List ℕ)) (full : Table (List Span)) →
+    IsResolved q → AreColumnsOf w.history.catalog q.classes (order_of q) cs → domains ≡ map (ids_of w.history.catalog) q.classes →
+    full.vars ≡ between 0 (length q.classes) → frame full ≡ frame_of domains lo hi → IsOver cs full
+is_over w q lo hi cs domains full is are all vars same =
+    let order : map (λ (c : Column). c.variable) cs ≡ order_of q = variables_are w.history.catalog q.classes (order_of q) cs are in
+    let have = have_objects w.history.catalog q.classes (order_of q) cs are in
+    let below = (λ (v : ℕ) (has : has_variable cs v ≡ true).
+    order_below q is v (ap (λ (vs : List ℕ). among vs v) (sym order) ∙ sym (columns_are cs v) ∙ has)) in
+    record {
+      ascend = columns_ascend w.history.catalog q.classes cs have;
+      counted = are_counted w.history.catalog q.classes (order_of q) cs are;
+      distinct = ap are_distinct order ∙ order_distinct q is;
+      count = length q.classes;
+      vars = vars;
+      each = λ v.
+          same_test (has_variable cs v) (nat_lt v (length q.classes)) (λ has. less v (length q.classes) (below v has))
+          (λ h. has_column q cs is order v (less_is v (length q.classes) h));
+      domains = have_domains w.history.catalog q.classes full.domains cs (ap (λ (f : Frame). f.domains) same ∙ all) have below;
+    }
+
+pub first_rows_are : (w : World) (q : ResolvedQuery) (lo hi : ℕ) (cs : List Column) (domains : List (List ℕ)) (full : Table (List Span))
     (rows : ℕ → ℕ → Bool) → IsResolved q → AreColumnsOf w.history.catalog q.classes (order_of q) cs →
     domains ≡ map (ids_of w.history.catalog) q.classes →
     ((b : ℕ → ℕ) → IsIn domains b → (t : ℕ) → has spans_have full b t ≡ (within lo hi t && holds_full w q hi b t)) →
-    numbers ≡ variables_of cs → AreRowsOf rows (counts numbers) (λ c t. has spans_have full (object_of cs c) t) →
+    AreRowsOf rows (counts (variables_of cs)) (λ c t. has spans_have full (object_of cs c) t) →
     AreRowsOf rows (counts (variables_of cs)) (λ n t. within lo hi t && holds_full w q hi (object_of cs n) t)
-first_rows_are w q lo hi cs numbers domains full rows is are all told same judged c t =
+first_rows_are w q lo hi cs domains full rows is are all told judged c t =
     judged c t
-    ∙ ap (λ vs. counts vs c && has spans_have full (object_of cs c) t) same
     ∙ elim (cases_Bool (counts (variables_of cs) c)) [
       | inl here ↦
           ap (λ b. b && has spans_have full (object_of cs c) t) here

@@ -21,7 +21,7 @@ among_kept test xs v = any-filter_same (λ u. u == v) test (test v) (λ u same. 
 few : (v : ℕ) → v < 4 → among (0 ∷ 1 ∷ 2 ∷ 3 ∷ []) v ≡ true
 few v h = grind (arith, nat_tests, h)
 
-less_is : (v n : ℕ) → nat_lt v n ≡ true → v < n
+pub less_is : (v n : ℕ) → nat_lt v n ≡ true → v < n
 less_is v n h = grind (arith, nat_tests, h)
 
 less_than_four : (v n : ℕ) → v < n → nat_le n 4 ≡ true → v < 4

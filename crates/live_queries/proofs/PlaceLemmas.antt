@@ -35,7 +35,7 @@ no_later xs ascend i j h l = elim (cases_lt i j) [
       subst (λ (n : ℕ). slice_index xs i ≤ slice_index xs n) e (omega arith)
 ]
 
-once : (xs : List ℕ) → IsStrictlyIncreasing xs → (i j : ℕ) → i < length xs → j < length xs → slice_index xs i ≡ slice_index xs j → i ≡ j
+pub once : (xs : List ℕ) → IsStrictlyIncreasing xs → (i j : ℕ) → i < length xs → j < length xs → slice_index xs i ≡ slice_index xs j → i ≡ j
 once xs ascend i j a b same = elim (cases_lt i j) [
   | inl less ↦ let e : slice_index xs i < slice_index xs j = later xs ascend i j less b in absurd (omega (arith, e, same))
   | inr other ↦ elim (cases_lt j i) [

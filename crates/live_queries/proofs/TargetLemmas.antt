@@ -18,10 +18,11 @@ use Rattle.meaning.specs.Binding.{holds_full, holds_target, tuple_of}
 use Rattle.live_queries.specs.Columns.{AreCounted, Column, HaveObjectsOf, has_variable, object_of, object_or, variables_of}
 use Rattle.live_queries.specs.Current.{IsCurrentFor, full_at, row_at, told_from}
 use Rattle.live_queries.specs.Kept.{IsKept, KeptQuery}
+use Rattle.live_queries.specs.Numbered.{AreAmong}
 use Rattle.live_queries.specs.Told.{target_count, target_width}
 use Rattle.live_queries.proofs.ColumnLemmas.{equal, later_variable, own}
 use Rattle.live_queries.proofs.CurrentLemmas.{variable_of_column, variable_of_query}
-use Rattle.live_queries.proofs.JoinedLemmas.{AreAmong, Chosen, chosen_number, counts_joined, each_object, has_id, no_object, object_joined, objects_are}
+use Rattle.live_queries.proofs.JoinedLemmas.{Chosen, chosen_number, counts_joined, each_object, has_id, no_object, object_joined, objects_are}
 use Rattle.live_queries.proofs.NumberingLemmas.{objects_at}
 use Rattle.live_queries.proofs.OrderLemmas.{columns_are}
 use Rattle.live_queries.proofs.ProductLemmas.{AreChosen, any_product_at, any_product_found, chosen_at, chosen_from, chosen_length, index_made, index_past, made_length}

@@ -5,7 +5,7 @@ ghost use Rattle.history.specs.Catalog.{capacity_of, ids_of};
 ghost use Rattle.formula.specs.Resolved.{IsResolved};
 ghost use Rattle.formula.specs.Tree.{query_view};
 ghost use Rattle.object_store.specs.Contents.{catalog_of, ids_in};
-ghost use Rattle.live_queries.specs.Columns.{AreColumnsOf, IsColumnOf, order_of, variables_of};
+ghost use Rattle.live_queries.specs.Columns.{AreColumnsOf, IsColumnOf, order_of};
 ghost use Rattle.live_queries.specs.Prepared.{HaveRoomFor};
 ghost use Rattle.live_queries.specs.Written.{AreVariablesWith, DoAscendWith, lacks};
 
@@ -89,19 +89,9 @@ pub(crate) fn class_count(store: &Store, class: ClassNo) -> usize
     store.class_names(class).len()
 }
 
-/// How many objects the variables of columns have and may have. It fails only where memory is out.
-pub(crate) fn numbers_of(alloc: Global, columns: &[Objects]) -> Result<Vec<Variable>, AllocError>
-    ensures { IfOk result (λ numbers. numbers.items ≡ variables_of columns.now) }
-{
-    let mut numbers = Vec::with_capacity(alloc, columns.len())?;
-    'columns: for column in columns {
-        numbers.push(column.numbers())?;
-    }
-    Ok(numbers)
-}
-
-/// The same with an object more for the variables of its class, if there is one more, and with the place of this
-/// object for each, which is looked for at a likely one first. It fails only where memory is out.
+/// How many objects the variables of columns have and may have, with an object more for the variables of its class, if
+/// there is one more, and with the place of this object for each, which is looked for at a likely one first. It fails only
+/// where memory is out.
 pub(crate) fn numbers_with(
     alloc: Global,
     columns: &[Objects],

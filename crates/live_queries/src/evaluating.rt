@@ -21,14 +21,16 @@ ghost use Rattle.live_queries.specs.Columns.{AreColumnsOf, AreCounted, Column, g
 ghost use Rattle.live_queries.specs.Prepared.{AreColumnsWith, HaveRoomFor};
 ghost use Rattle.live_queries.specs.Written.{HaveObjectsWith, takes};
 
-use crate::columns::{numbers_of, numbers_with};
-use crate::judging::{Alone, Parts, Whole};
+use crate::columns::numbers_with;
+use crate::judging::{Alone, Parts};
+use crate::numbering::table_of;
 use crate::objects::{Objects, is_of_class, width};
 use crate::parts::{parts_of, singles};
+use crate::written::{Judged, Written};
 use answers::{StoredWorld, domains_of, evaluate, evaluate_alone};
 use formula::{ClassNo, RQuery};
 use interval_set::IntervalSet;
-use kept_rows::{Changes, KeptRows, judge_all, refresh};
+use kept_rows::{Changes, KeptRows, refresh};
 use std::alloc::{AllocError, Global};
 use std::slice::from_ref;
 use std::sync::ledger::Ledger;
@@ -101,74 +103,77 @@ fn first_rows<L: Ledger, M: Ledger>(
         reads,
         probes,
     )?;
-    let numbers = numbers_of(alloc, columns)?;
-    let judge = Whole {
-        columns,
-        rows: &full,
-        nothing: IntervalSet::empty(alloc),
-    };
-    let rows = judge_all(alloc, &numbers, &judge)?;
+    let rows = table_of(alloc, columns, full)?;
     Ok(rows)
 }
 
-/// What a write to an object of a class changes of the rows of a query, where each variable of the class has the
-/// object as one more if there is one more. From tick `from` on a judged row has the ticks of the window, and before it
-/// those that it has. It fails only where memory is out.
+/// What a write to an object changes of the rows of a query, where each variable of its class has the object as one more
+/// if there is one more. From tick `from` on a judged row has the ticks of the window, and before it those that it has. It
+/// fails only where memory is out.
 pub(crate) fn new_rows<L: Ledger, M: Ledger>(
     alloc: Global,
-    query: &RQuery,
+    judged: &Judged,
     columns: &[Objects],
-    rows: &KeptRows<IntervalSet>,
-    id: u32,
-    class: ClassNo,
-    likely: usize,
+    object: &Written,
     grows: bool,
-    world: &StoredWorld,
-    w: Window,
-    from: u32,
     reads: &mut Steps<L>,
     probes: &mut Steps<M>,
 ) -> Result<Changes<IntervalSet>, AllocError>
-    requires accepted { IsOfAcceptedWrites world.now.store.now }
-    requires resolved { IsResolved (query_view query.now) }
-    requires fits { FitsItsClasses (told_world world.now) (query_view query.now) }
-    requires there { id < length world.now.store.now.objects }
-    requires class { class ≡ class_in world.now.store.now id }
-    requires order { map (λ c. c.variable) columns.now ≡ order_of (query_view query.now) }
-    requires room { grows ≡ true → HaveRoomFor class query.now.classes columns.now }
-    requires objects { HaveObjectsWith (catalog_of world.now.store.now) grows class query.now.classes id columns.now }
+    requires accepted { IsOfAcceptedWrites judged.now.world.now.store.now }
+    requires resolved { IsResolved (query_view judged.now.query.now) }
+    requires fits { FitsItsClasses (told_world judged.now.world.now) (query_view judged.now.query.now) }
+    requires there { object.now.id < length judged.now.world.now.store.now.objects }
+    requires class { object.now.class ≡ class_in judged.now.world.now.store.now object.now.id }
+    requires order { map (λ c. c.variable) columns.now ≡ order_of (query_view judged.now.query.now) }
+    requires room { grows ≡ true → HaveRoomFor object.now.class judged.now.query.now.classes columns.now }
+    requires objects { HaveObjectsWith (catalog_of judged.now.world.now.store.now) grows object.now.class judged.now.query.now.classes object.now.id columns.now }
     requires counted { AreCounted columns.now }
     requires size { size_of (variables_of columns.now) ≤ BINDING_LIMIT }
-    requires pages { HasRoom rows.now (size_of (variables_of columns.now)) }
-    requires length { w.hi - w.lo ≤ SPAN_LIMIT }
-    ensures ready { IfOk result (λ f. AreReady spans_have rows.now f) }
+    requires pages { HasRoom judged.now.rows.now (size_of (variables_of columns.now)) }
+    requires length { judged.now.w.hi - judged.now.w.lo ≤ SPAN_LIMIT }
+    ensures ready { IfOk result (λ f. AreReady spans_have judged.now.rows.now f) }
     ensures rising { IfOk result (λ f. AreRising (size_of (variables_of columns.now)) f) }
-    ensures rows { IfOk result (λ f. (ds : List Column) → AreColumnsWith grows class query.now.classes id columns.now ds → (c t : ℕ)
-        → after spans_have f (row_has spans_have rows.now) c t
-        ≡ (if (counts (variables_of ds) c && gives ds id c) && nat_le from t
-        then (within w.lo w.hi t && holds_full (told_world world.now) (query_view query.now) w.hi (object_of ds c) t)
-        else row_has spans_have rows.now c t)) }
+    ensures rows { IfOk result (λ f. (ds : List Column) → AreColumnsWith grows object.now.class judged.now.query.now.classes object.now.id columns.now ds → (c t : ℕ)
+        → after spans_have f (row_has spans_have judged.now.rows.now) c t
+        ≡ (if (counts (variables_of ds) c && gives ds object.now.id c) && nat_le judged.now.from t
+        then (within judged.now.w.lo judged.now.w.hi t && holds_full (told_world judged.now.world.now) (query_view judged.now.query.now) judged.now.w.hi (object_of ds c) t)
+        else row_has spans_have judged.now.rows.now c t)) }
     ensures least { reads.old ≤ reads.new }
-    ensures most { reads.new ≤ reads.old + change_reads (catalog_of world.now.store.now) (query_view query.now) (w.hi + 1 - w.lo) class }
+    ensures most { reads.new ≤ reads.old + change_reads (catalog_of judged.now.world.now.store.now) (query_view judged.now.query.now) (judged.now.w.hi + 1 - judged.now.w.lo) object.now.class }
 {
-    let classes = query.classes.items();
+    let classes = judged.query.classes.items();
     if let Some((column, later)) = columns.split_first() {
-        if later.is_empty() && is_alone(classes, class) {
-            return new_row(
-                alloc, query, column, rows, id, class, likely, grows, world, w, from, reads, probes,
-            );
+        if later.is_empty() && is_alone(classes, object.class) {
+            return new_row(alloc, judged, column, object, grows, reads, probes);
         }
     }
-    let singles = singles(alloc, classes, world.store, class, id)?;
-    let parts = parts_of(alloc, query, &singles, world, w, reads, probes)?;
-    let numbers = numbers_with(alloc, columns, grows, classes, class, id, likely)?;
+    let world = judged.world;
+    let singles = singles(alloc, classes, world.store, object.class, object.id)?;
+    let parts = parts_of(
+        alloc,
+        judged.query,
+        &singles,
+        world,
+        judged.w,
+        reads,
+        probes,
+    )?;
+    let numbers = numbers_with(
+        alloc,
+        columns,
+        grows,
+        classes,
+        object.class,
+        object.id,
+        object.likely,
+    )?;
     let judge = Parts {
         columns,
-        object: id,
+        object: object.id,
         parts: &parts,
         nothing: IntervalSet::empty(alloc),
     };
-    let changes = refresh(alloc, rows, &numbers, &judge, from)?;
+    let changes = refresh(alloc, judged.rows, &numbers, &judge, judged.from)?;
     Ok(changes)
 }
 
@@ -176,56 +181,51 @@ pub(crate) fn new_rows<L: Ledger, M: Ledger>(
 /// by its own ticks, and no list or relation is made on the way.
 fn new_row<L: Ledger, M: Ledger>(
     alloc: Global,
-    query: &RQuery,
+    judged: &Judged,
     column: &Objects,
-    rows: &KeptRows<IntervalSet>,
-    id: u32,
-    class: ClassNo,
-    likely: usize,
+    object: &Written,
     grows: bool,
-    world: &StoredWorld,
-    w: Window,
-    from: u32,
     reads: &mut Steps<L>,
     probes: &mut Steps<M>,
 ) -> Result<Changes<IntervalSet>, AllocError>
-    requires accepted { IsOfAcceptedWrites world.now.store.now }
-    requires resolved { IsResolved (query_view query.now) }
-    requires fits { FitsItsClasses (told_world world.now) (query_view query.now) }
-    requires there { id < length world.now.store.now.objects }
-    requires class { class ≡ class_in world.now.store.now id }
-    requires alone { query.now.classes ≡ class ∷ [] }
-    requires order { map (λ c. c.variable) (column.now ∷ []) ≡ order_of (query_view query.now) }
-    requires room { grows ≡ true → HaveRoomFor class query.now.classes (column.now ∷ []) }
-    requires objects { HaveObjectsWith (catalog_of world.now.store.now) grows class query.now.classes id (column.now ∷ []) }
+    requires accepted { IsOfAcceptedWrites judged.now.world.now.store.now }
+    requires resolved { IsResolved (query_view judged.now.query.now) }
+    requires fits { FitsItsClasses (told_world judged.now.world.now) (query_view judged.now.query.now) }
+    requires there { object.now.id < length judged.now.world.now.store.now.objects }
+    requires class { object.now.class ≡ class_in judged.now.world.now.store.now object.now.id }
+    requires alone { judged.now.query.now.classes ≡ object.now.class ∷ [] }
+    requires order { map (λ c. c.variable) (column.now ∷ []) ≡ order_of (query_view judged.now.query.now) }
+    requires room { grows ≡ true → HaveRoomFor object.now.class judged.now.query.now.classes (column.now ∷ []) }
+    requires objects { HaveObjectsWith (catalog_of judged.now.world.now.store.now) grows object.now.class judged.now.query.now.classes object.now.id (column.now ∷ []) }
     requires counted { AreCounted (column.now ∷ []) }
     requires size { size_of (variables_of (column.now ∷ [])) ≤ BINDING_LIMIT }
-    requires pages { HasRoom rows.now (size_of (variables_of (column.now ∷ []))) }
-    requires length { w.hi - w.lo ≤ SPAN_LIMIT }
-    ensures ready { IfOk result (λ f. AreReady spans_have rows.now f) }
+    requires pages { HasRoom judged.now.rows.now (size_of (variables_of (column.now ∷ []))) }
+    requires length { judged.now.w.hi - judged.now.w.lo ≤ SPAN_LIMIT }
+    ensures ready { IfOk result (λ f. AreReady spans_have judged.now.rows.now f) }
     ensures rising { IfOk result (λ f. AreRising (size_of (variables_of (column.now ∷ []))) f) }
-    ensures rows { IfOk result (λ f. (ds : List Column) → AreColumnsWith grows class query.now.classes id (column.now ∷ []) ds → (c t : ℕ)
-        → after spans_have f (row_has spans_have rows.now) c t
-        ≡ (if (counts (variables_of ds) c && gives ds id c) && nat_le from t
-        then (within w.lo w.hi t && holds_full (told_world world.now) (query_view query.now) w.hi (object_of ds c) t)
-        else row_has spans_have rows.now c t)) }
+    ensures rows { IfOk result (λ f. (ds : List Column) → AreColumnsWith grows object.now.class judged.now.query.now.classes object.now.id (column.now ∷ []) ds → (c t : ℕ)
+        → after spans_have f (row_has spans_have judged.now.rows.now) c t
+        ≡ (if (counts (variables_of ds) c && gives ds object.now.id c) && nat_le judged.now.from t
+        then (within judged.now.w.lo judged.now.w.hi t && holds_full (told_world judged.now.world.now) (query_view judged.now.query.now) judged.now.w.hi (object_of ds c) t)
+        else row_has spans_have judged.now.rows.now c t)) }
     ensures least { reads.old ≤ reads.new }
-    ensures most { reads.new ≤ reads.old + change_reads (catalog_of world.now.store.now) (query_view query.now) (w.hi + 1 - w.lo) class }
+    ensures most { reads.new ≤ reads.old + change_reads (catalog_of judged.now.world.now.store.now) (query_view judged.now.query.now) (judged.now.w.hi + 1 - judged.now.w.lo) object.now.class }
 {
+    let world = judged.world;
     let ticks = evaluate_alone(
         alloc,
-        query,
-        id,
+        judged.query,
+        object.id,
         world.store,
         world.regions,
-        w,
+        judged.w,
         reads,
         probes,
     )?;
-    let one_more = does_take(grows, query.classes.items(), class, column);
-    let numbers = column.numbers_with(one_more, id, likely);
+    let one_more = does_take(grows, judged.query.classes.items(), object.class, column);
+    let numbers = column.numbers_with(one_more, object.id, object.likely);
     let judge = Alone { ticks };
-    let changes = refresh(alloc, rows, from_ref(&numbers), &judge, from)?;
+    let changes = refresh(alloc, judged.rows, from_ref(&numbers), &judge, judged.from)?;
     Ok(changes)
 }
 

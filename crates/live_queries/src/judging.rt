@@ -13,28 +13,6 @@ use interval_set::IntervalSet;
 use kept_rows::Judge;
 use relation::Relation;
 
-/// Judges each binding by one relation over all variables.
-#[derive(Drop)]
-pub(crate) struct Whole<'a, 'd> {
-    pub(crate) columns: &'a [Objects],
-    pub(crate) rows: &'a Relation<'d, IntervalSet>,
-    pub(crate) nothing: IntervalSet,
-    pub(crate) ghost size: { size_of (variables_of columns.now) ≤ BINDING_LIMIT },
-    pub(crate) ghost none: { (t : ℕ) → spans_have nothing t ≡ false },
-}
-
-impl Judge<IntervalSet> for Whole<'_, '_> {
-    ghost use Rattle.tick_set.specs.Runs.{spans_have};
-    ghost use Rattle.relation.specs.Rows.{has};
-    ghost use Rattle.live_queries.specs.Columns.{object_of};
-
-    ghost full = { λ j number t. has spans_have j.rows.now (object_of j.columns.now number) t };
-
-    fn judge(&self, number: u32) -> &IntervalSet {
-        row_of(self.rows, self.columns, number, 0, &self.nothing)
-    }
-}
-
 /// Judges each binding that holds an object by the relation in which its first variable that is the object is
 /// nothing else.
 #[derive(Drop)]

@@ -8,10 +8,12 @@ mod fresh;
 mod judging;
 mod laws;
 mod live;
+mod numbering;
 mod objects;
 mod parts;
 mod query;
 mod told;
+mod written;
 
 pub use fresh::Fresh;
 pub use laws::{

@@ -27,6 +27,7 @@ ghost use Rattle.live_queries.specs.Told.{answer_of, changes_of, info_of, passin
 use crate::fresh::{Fresh, Renewals, Touched};
 use crate::query::LiveQuery;
 use crate::told::{AnswerRow, Move, QueryInfo};
+use crate::written::Written;
 use answers::StoredWorld;
 use fixed_point::Word;
 use formula::{ClassNo, RQuery};
@@ -314,11 +315,15 @@ fn renewals_of<L: Ledger, M: Ledger>(
     ensures least { reads.old ≤ reads.new }
     ensures most { reads.new ≤ reads.old + all_judged_reads (catalog_of world.now.store.now) queries.now now class }
 {
-    let likely = likely_place(queries, world.store, class, id);
+    let object = Written {
+        id,
+        class,
+        likely: likely_place(queries, world.store, class, id),
+    };
     let mut renewals = Renewals::new(alloc);
     let mut rest = queries;
     'queries: while let Some((query, later)) = rest.split_first() {
-        let renewal = query.renewal(alloc, id, class, likely, world, now, reads, probes)?;
+        let renewal = query.renewal(alloc, &object, world, now, reads, probes)?;
         renewals.add(renewal)?;
         rest = later;
     }

@@ -4,6 +4,7 @@ ghost use Rattle.std.specs.List.Sorted.{IsStrictlyIncreasing};
 ghost use Rattle.formula_shape.specs.declared.limits.TheConstants.{OBJECT_LIMIT};
 ghost use Rattle.kept_rows.specs.declared.binding.TheConstants.{BINDING_LIMIT};
 ghost use Rattle.kept_rows.specs.Numbers.{size_of};
+ghost use Rattle.relation.specs.Key.{has_id};
 ghost use Rattle.live_queries.specs.Columns.{object_or, variables_of};
 ghost use Rattle.live_queries.specs.Prepared.{AreColumnsWith, HaveRoomFor, IsColumnWith, is_of_class};
 ghost use Rattle.live_queries.specs.Written.{IsVariableWith, ids_with};
@@ -200,6 +201,20 @@ fn place_of(ids: &[u32], id: u32, likely: usize, other: u32) -> u32
         Ok(place) => place as u32,
         Err(_) => other,
     }
+}
+
+/// The place of an object in a list that ascends and has it. Objects that were inserted one after another have numbers that
+/// follow each other, so it is looked for first where it then stands.
+pub(crate) fn place_in(ids: &[u32], count: u32, id: u32) -> u32
+    requires ascend { IsStrictlyIncreasing ids.now }
+    requires count { length ids.now ≤ count }
+    requires there { has_id ids.now id ≡ true }
+    ensures below { result < length ids.now }
+    ensures object { slice_index ids.now result ≡ id }
+{
+    let first = ids.first().copied().unwrap_or(0);
+    let likely = id.saturating_sub(first) as usize;
+    place_of(ids, id, likely, count)
 }
 
 // Whether an object stands at this place.

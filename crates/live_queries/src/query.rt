@@ -36,6 +36,7 @@ use crate::evaluating::{new_rows, rows_between};
 use crate::fresh::Renewal;
 use crate::objects::{Objects, add_object, objects_of, width};
 use crate::told::{AnswerRow, Move, QueryInfo};
+use crate::written::{Judged, Written};
 use answers::{StoredWorld, fitting_queries_can_be_asked};
 use fixed_point::Word;
 use formula::{Binding, ClassNo, QueryKind, RQuery, reach_of};
@@ -133,15 +134,13 @@ impl LiveQuery {
         })
     }
 
-    /// What a write to an object of a class makes of it. None where it stays as it is: it has no variable of the class,
+    /// What a write to an object makes of it. None where it stays as it is: it has no variable of its class,
     /// or its expiry is before the write and the class has no object more. The object's place is looked for at a likely
     /// one first. It fails only where memory is out.
     pub(crate) fn renewal<L: Ledger, M: Ledger>(
         &self,
         alloc: Global,
-        id: u32,
-        class: ClassNo,
-        likely: usize,
+        object: &Written,
         world: &StoredWorld,
         now: u32,
         reads: &mut Steps<L>,
@@ -149,25 +148,25 @@ impl LiveQuery {
     ) -> Result<Option<Renewal>, AllocError>
         requires accepted { IsOfAcceptedWrites world.now.store.now }
         requires fits { FitsWorld (told_world world.now) self.now }
-        requires there { id < length world.now.store.now.objects }
-        requires class { class ≡ class_in world.now.store.now id }
-        requires before { (old : Catalog) × IsBefore id old (catalog_of world.now.store.now) × HaveObjectsOf old self.now.query.classes self.now.columns }
-        ensures ready { IfOk result (λ r. IsReadyFor class self.now (or_untouched r)) }
-        ensures fresh { IfOk result (λ r. IsFreshFor (told_world world.now) id class now self.now (or_untouched r)) }
-        ensures touched { IfOk result (λ r. IfSome r (IsTouched class now self.now)) }
+        requires there { object.now.id < length world.now.store.now.objects }
+        requires class { object.now.class ≡ class_in world.now.store.now object.now.id }
+        requires before { (old : Catalog) × IsBefore object.now.id old (catalog_of world.now.store.now) × HaveObjectsOf old self.now.query.classes self.now.columns }
+        ensures ready { IfOk result (λ r. IsReadyFor object.now.class self.now (or_untouched r)) }
+        ensures fresh { IfOk result (λ r. IsFreshFor (told_world world.now) object.now.id object.now.class now self.now (or_untouched r)) }
+        ensures touched { IfOk result (λ r. IfSome r (IsTouched object.now.class now self.now)) }
         ensures least { reads.old ≤ reads.new }
-        ensures most { reads.new ≤ reads.old + judged_reads (catalog_of world.now.store.now) now class self.now }
+        ensures most { reads.new ≤ reads.old + judged_reads (catalog_of world.now.store.now) now object.now.class self.now }
     {
         let classes = self.query.classes.items();
-        if !has_class(classes, class) {
+        if !has_class(classes, object.class) {
             return Ok(None);
         }
-        let count = class_count(world.store, class);
-        let grows = lack(&self.columns, classes, class, count);
+        let count = class_count(world.store, object.class);
+        let grows = lack(&self.columns, classes, object.class, count);
         if self.stays(now, grows) {
             return Ok(None);
         }
-        let changes = self.new_rows(alloc, id, class, likely, grows, world, now, reads, probes)?;
+        let changes = self.new_rows(alloc, object, grows, world, now, reads, probes)?;
         Ok(Some(Renewal { grows, changes }))
     }
 
@@ -185,9 +184,7 @@ impl LiveQuery {
     fn new_rows<L: Ledger, M: Ledger>(
         &self,
         alloc: Global,
-        id: u32,
-        class: ClassNo,
-        likely: usize,
+        object: &Written,
         grows: bool,
         world: &StoredWorld,
         now: u32,
@@ -196,39 +193,31 @@ impl LiveQuery {
     ) -> Result<Changes<IntervalSet>, AllocError>
         requires accepted { IsOfAcceptedWrites world.now.store.now }
         requires fits { FitsItsClasses (told_world world.now) self.now.query }
-        requires there { id < length world.now.store.now.objects }
-        requires class { class ≡ class_in world.now.store.now id }
-        requires room { grows ≡ true → HaveRoomFor class self.now.query.classes self.now.columns }
-        requires objects { HaveObjectsWith (catalog_of world.now.store.now) grows class self.now.query.classes id self.now.columns }
+        requires there { object.now.id < length world.now.store.now.objects }
+        requires class { object.now.class ≡ class_in world.now.store.now object.now.id }
+        requires room { grows ≡ true → HaveRoomFor object.now.class self.now.query.classes self.now.columns }
+        requires objects { HaveObjectsWith (catalog_of world.now.store.now) grows object.now.class self.now.query.classes object.now.id self.now.columns }
         ensures ready { IfOk result (AreReady spans_have self.now.pages) }
         ensures rising { IfOk result (AreRising (size_of (variables_of self.now.columns))) }
-        ensures rows { IfOk result (AreNewRows (told_world world.now) grows id class now self.now) }
+        ensures rows { IfOk result (AreNewRows (told_world world.now) grows object.now.id object.now.class now self.now) }
         ensures least { reads.old ≤ reads.new }
-        ensures most { reads.new ≤ reads.old + judged_reads (catalog_of world.now.store.now) now class self.now }
+        ensures most { reads.new ≤ reads.old + judged_reads (catalog_of world.now.store.now) now object.now.class self.now }
     {
         if self.expiry < now {
             return Ok(Changes::new(alloc));
         }
         let judged = self.judged_from(now);
-        let w = Window {
-            lo: first_judged(self.entry, judged),
-            hi: self.expiry,
-        };
-        let changes = new_rows(
-            alloc,
-            &self.query,
-            &self.columns,
-            &self.rows,
-            id,
-            class,
-            likely,
-            grows,
+        let judged = Judged {
+            query: &self.query,
+            rows: &self.rows,
             world,
-            w,
-            kept_before(self.kind, judged),
-            reads,
-            probes,
-        )?;
+            w: Window {
+                lo: first_judged(self.entry, judged),
+                hi: self.expiry,
+            },
+            from: kept_before(self.kind, judged),
+        };
+        let changes = new_rows(alloc, &judged, &self.columns, object, grows, reads, probes)?;
         Ok(changes)
     }
 

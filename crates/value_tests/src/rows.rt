@@ -1,12 +1,12 @@
-ghost use Rattle.std.specs.Prelude.{◌≡◌, ◌∷◌, [], IfOk};
+ghost use Rattle.std.specs.Prelude.{◌≡◌, ◌<◌, ◌∷◌, [], IfOk};
 ghost use Rattle.kept_rows.specs.Changes.{AreRising};
 ghost use Rattle.kept_rows.specs.Numbers.{ArePlaces, size_of};
 ghost use Rattle.kept_rows.specs.Rows.{HasRoom};
 
 use interval_set::IntervalSet;
 use kept_rows::{
-    Changes, Judge, KeptRows, Line, Move, Targets, Variable, answer, held_numbers, judge_all,
-    moves, number, place, refresh, size_within,
+    Changes, Judge, KeptRows, Line, Move, Targets, Variable, answer, held_numbers, moves, number,
+    place, refresh, size_within,
 };
 use std::alloc::Global;
 use std::process::Abort;
@@ -93,13 +93,27 @@ fn judge_of(alloc: Global, lo: u32, hi: u32) -> Result<Same, Fail> {
     Ok(Same { ticks })
 }
 
-// Each binding holds at the ticks 5 and 6.
+// A binding holds at the ticks 5 and 6.
+fn early_row(alloc: Global, kept: &mut KeptRows<IntervalSet>, number: u32) -> Result<(), Fail>
+    requires below { number < 9 }
+    requires room { HasRoom kept.old 9 }
+    ensures { HasRoom kept.new 9 }
+{
+    let span = Span::new(5, 6).ok_or("no such span")?;
+    let ticks = IntervalSet::of_span(alloc, span)?;
+    Ok(kept.set_row(alloc, number, ticks)?)
+}
+
+// Each binding of two objects to two variables does.
 fn early_rows(alloc: Global) -> Result<KeptRows<IntervalSet>, Fail>
     ensures { IfOk result (λ kept. HasRoom kept 9) }
 {
-    let variables = two_of_a_class(2)?;
-    let judge = judge_of(alloc, 5, 6)?;
-    let kept = judge_all(alloc, &variables, &judge)?;
+    let mut kept = KeptRows::new(alloc, 9)?;
+    early_row(alloc, &mut kept, 0)?;
+    early_row(alloc, &mut kept, 1)?;
+    early_row(alloc, &mut kept, 3)?;
+    early_row(alloc, &mut kept, 4)?;
+    kept.mark(alloc)?;
     Ok(kept)
 }
 

@@ -14,8 +14,7 @@ returns g c =
     let target : ℕ = first / width in
     ap option_to_list (c.line_if_any.ensures
     ∙ ap (with_runs target)
-    (c.runs_are_those_of_the_list.ensures.within (g.S.TickSet.member c.in_ok-clip.field-0) (times rows width target) c.args.window.lo c.args.window.hi c.in_ok-spans.spans.items c.in_ok-spans.ensures
+    (c.runs_are_those_of_the_list.ensures.within (g.S.TickSet.member c.in_ok-ticks.ticks) (times rows width target) c.args.window.lo c.args.window.hi c.in_ok-spans.spans.items c.in_ok-spans.ensures
     (λ t.
-    c.in_ok-clip.ensures t
-    ∙ ap (λ b. within c.args.window.lo c.args.window.hi t && b)
-    (c.in_ok-ticks.ensures t ∙ sym (some_row-skip rows (target * width) first (target * width + width) t (target-from first width) c.requires.before)))))
+    c.in_ok-ticks.ensures t
+    ∙ ap (λ b. within c.args.window.lo c.args.window.hi t && b) (sym (some_row-skip rows (target * width) first (target * width + width) t (target-from first width) c.requires.before)))))

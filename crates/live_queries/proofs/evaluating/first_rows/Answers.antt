@@ -1,4 +1,4 @@
-use Rattle.std.proofs.Common.{◌+◌, ◌-◌, sym, ◌∙◌, subst}
+use Rattle.std.proofs.Common.{◌+◌, ◌-◌, sym, subst}
 use Rattle.formula.specs.Tree.{query_view}
 use Rattle.kept_rows.specs.Rows.{row_has}
 use Rattle.tick_set.specs.Runs.{spans_have}
@@ -8,7 +8,7 @@ use Rattle.answers.specs.Objects.{AreOfItsClasses}
 use Rattle.answers.proofs.AskLemmas.{few_classes}
 use Rattle.answers.proofs.ObjectLemmas.{domains_are_of_classes}
 use Rattle.answers.proofs.ReadLemmas.{most_within, reads_within}
-use Rattle.live_queries.proofs.JudgedLemmas.{first_rows_are}
+use Rattle.live_queries.proofs.JudgedLemmas.{first_rows_are, is_over}
 use Rattle.live_queries.proofs.evaluating.first_rows.Goals as goal
 
 pub domains_of-requires : goal.domains_of-requires
@@ -19,12 +19,16 @@ evaluate-requires-clause-domains g c =
     subst (AreOfItsClasses (catalog_of c.args.world.now.store.now) (query_view c.args.query.now)) (sym c.in_ok-domains.ensures)
     (domains_are_of_classes (catalog_of c.args.world.now.store.now) (query_view c.args.query.now))
 
+pub table_of-requires-clause-over : goal.table_of-requires-clause-over
+table_of-requires-clause-over g c =
+    is_over (told_world c.args.world.now) (query_view c.args.query.now) c.args.w.lo c.args.w.hi c.args.columns.now c.in_ok-domains.domains c.in_ok-full.full
+    c.requires.resolved c.requires.columns c.in_ok-domains.ensures c.in_ok-full.ensures.vars c.in_ok-full.ensures.frame
+
 pub returns-clause-rows : goal.returns-clause-rows
 returns-clause-rows g c =
     first_rows_are (told_world c.args.world.now) (query_view c.args.query.now) c.args.w.lo c.args.w.hi c.args.columns.now
-    c.deref.result.now c.in_ok-domains.domains c.in_ok-full.full (row_has spans_have c.in_ok-rows.rows)
-    c.requires.resolved c.requires.columns c.in_ok-domains.ensures c.in_ok-full.ensures.rows (c.deref.ensures.value ∙ c.in_ok-numbers.ensures)
-    c.in_ok-rows.ensures.rows
+    c.in_ok-domains.domains c.in_ok-full.full (row_has spans_have c.in_ok-rows.rows)
+    c.requires.resolved c.requires.columns c.in_ok-domains.ensures c.in_ok-full.ensures.rows c.in_ok-rows.ensures.rows
 
 pub returns-in_err-full-clause-most : goal.returns-in_err-full-clause-most
 returns-in_err-full-clause-most g c =
@@ -33,11 +37,6 @@ returns-in_err-full-clause-most g c =
 
 pub returns-in_err-rows-clause-most : goal.returns-in_err-rows-clause-most
 returns-in_err-rows-clause-most g c =
-    most_within _ _ _ _ c.in_ok-full.ensures.most
-    (reads_within (catalog_of c.args.world.now.store.now) (query_view c.args.query.now) _ (c.args.w.hi + 1 - c.args.w.lo) c.in_ok-domains.ensures)
-
-pub returns-in_err-numbers-clause-most : goal.returns-in_err-numbers-clause-most
-returns-in_err-numbers-clause-most g c =
     most_within _ _ _ _ c.in_ok-full.ensures.most
     (reads_within (catalog_of c.args.world.now.store.now) (query_view c.args.query.now) _ (c.args.w.hi + 1 - c.args.w.lo) c.in_ok-domains.ensures)
 

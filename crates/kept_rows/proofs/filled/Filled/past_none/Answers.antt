@@ -15,6 +15,6 @@ groups-preserved c =
             | inl l ↦ c.groups.invariant.none rows filled n t h l
             | inr l ↦
                 let e : n / 1024 ≡ c.groups.number / 1024 = omega (arith, l, k) in
-                filled.groups n t (ap (λ i. slice_index_or c.args.self.now.groups.items i true) e ∙ unset)
+                filled n t (ap (λ i. slice_index_or c.args.self.now.groups.items i true) e ∙ unset)
           ];
     }

@@ -15,7 +15,7 @@ returns-in-Some-next-clause-some g c =
 pub pages-init : goal.pages-init
 pages-init g c =
     let filled : AreFilled (row_has g.S.TickSet.member c.args.self.now) c.self.inside.filled =
-    subst (λ xs. AreFilled (row_has g.S.TickSet.member xs) c.self.inside.filled) c.self.view_is c.self.invariant.4 in
+    subst (λ xs. AreFilled (row_has g.S.TickSet.member xs) c.self.inside.filled) c.self.view_is c.self.invariant.3 in
     record {
       from = c.past_none-number.ensures.least;
       small = c.past_none-number.ensures.most;
@@ -25,7 +25,7 @@ pages-init g c =
 pub pages-preserved : goal.pages-preserved
 pages-preserved g c =
     let filled : AreFilled (row_has g.S.TickSet.member c.args.self.now) c.self.inside.filled =
-    subst (λ xs. AreFilled (row_has g.S.TickSet.member xs) c.self.inside.filled) c.self.view_is c.self.invariant.4 in
+    subst (λ xs. AreFilled (row_has g.S.TickSet.member xs) c.self.inside.filled) c.self.view_is c.self.invariant.3 in
     record {
       from = omega (arith, c.pages.invariant.from, c.past_none-number-in-Some.ensures.least);
       small = c.past_none-number-in-Some.ensures.most;

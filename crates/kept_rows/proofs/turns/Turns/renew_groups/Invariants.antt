@@ -5,7 +5,6 @@ use Rattle.kept_rows.proofs.turns.Turns.renew_groups.Given as goal
 
 abbrev pub invariant-groups : goal.invariant-groups
 invariant-groups g l = record {
-  rows : length l.self.rows.items ≡ length l.fn.self.rows.items;
   pages : length l.self.pages.items ≡ length l.fn.self.pages.items;
   groups : length l.self.groups.items ≡ length l.fn.self.groups.items;
   steady : AreSteady (row_has g.S.TickSet.member l.pages) l.self;

@@ -13,21 +13,21 @@ new_rows-requires-clause-order g c =
 
 pub returns-clause-rows : goal.returns-clause-rows
 returns-clause-rows g c =
-    alive_rows_as_seen (told_world c.args.world.now) c.args.grows c.args.id c.args.class c.args.now c.first_judged.result c.kept_before.result
+    alive_rows_as_seen (told_world c.args.world.now) c.args.grows c.args.object.now.id c.args.object.now.class c.args.now c.first_judged.result c.kept_before.result
     c.judged_from-judged.result _ c.args.self.now c.self.view_is
     c.in_ok-changes.changes (grind (arith, nat_tests, c.if-self-now.false)) c.judged_from-judged.ensures.value c.first_judged.ensures.judged
     c.kept_before.ensures.kept c.kept_before.ensures.watched
     (λ ds made. c.in_ok-changes.ensures.rows ds
-    (subst (λ (cs : List Column). AreColumnsWith c.args.grows c.args.class c.self.inside.query.classes c.args.id cs ds) (sym c.deref.ensures.value) made))
+    (subst (λ (cs : List Column). AreColumnsWith c.args.grows c.args.object.now.class c.self.inside.query.classes c.args.object.now.id cs ds) (sym c.deref.ensures.value) made))
 
 pub returns-in_err-changes-clause-most : goal.returns-in_err-changes-clause-most
 returns-in_err-changes-clause-most g c =
-    judged_within (catalog_of c.args.world.now.store.now) c.args.now c.args.class _ _ c.first_judged.result c.judged_from-judged.result _ c.args.self.now
+    judged_within (catalog_of c.args.world.now.store.now) c.args.now c.args.object.now.class _ _ c.first_judged.result c.judged_from-judged.result _ c.args.self.now
     c.self.view_is (grind (arith, nat_tests, c.if-self-now.false)) c.judged_from-judged.ensures.value c.first_judged.ensures.value
     c.in_err-changes.ensures.most
 
 pub returns-clause-most : goal.returns-clause-most
 returns-clause-most g c =
-    judged_within (catalog_of c.args.world.now.store.now) c.args.now c.args.class _ _ c.first_judged.result c.judged_from-judged.result _ c.args.self.now
+    judged_within (catalog_of c.args.world.now.store.now) c.args.now c.args.object.now.class _ _ c.first_judged.result c.judged_from-judged.result _ c.args.self.now
     c.self.view_is (grind (arith, nat_tests, c.if-self-now.false)) c.judged_from-judged.ensures.value c.first_judged.ensures.value
     c.in_ok-changes.ensures.most

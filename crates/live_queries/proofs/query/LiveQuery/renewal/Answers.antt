@@ -8,7 +8,7 @@ use Rattle.live_queries.proofs.query.LiveQuery.renewal.Goals as goal
 
 pub new_rows-requires-clause-room : goal.new_rows-requires-clause-room
 new_rows-requires-clause-room g c =
-    renewed_room c.args.world.now.store.now c.args.id c.args.class c.requires.class c.args.self.now (subst IsKept c.self.view_is c.self.invariant.0)
+    renewed_room c.args.world.now.store.now c.args.object.now.id c.args.object.now.class c.requires.class c.args.self.now (subst IsKept c.self.view_is c.self.invariant.0)
     c.requires.before.0 c.requires.before.1 c.requires.before.2 c.lack-grows.result
     c.items-classes.result.now (c.items-classes.ensures ∙ ap (λ (k : KeptQuery). k.query.classes) c.self.view_is)
     c.deref.result.now (c.deref.ensures.value ∙ ap (λ (k : KeptQuery). k.columns) c.self.view_is)
@@ -17,7 +17,7 @@ new_rows-requires-clause-room g c =
 
 pub new_rows-requires-clause-objects : goal.new_rows-requires-clause-objects
 new_rows-requires-clause-objects g c =
-    renewed_objects c.args.world.now.store.now c.args.id c.args.class c.requires.class c.args.self.now (subst IsKept c.self.view_is c.self.invariant.0)
+    renewed_objects c.args.world.now.store.now c.args.object.now.id c.args.object.now.class c.requires.class c.args.self.now (subst IsKept c.self.view_is c.self.invariant.0)
     c.requires.before.0 c.requires.before.1 c.requires.before.2 c.lack-grows.result
     c.items-classes.result.now (c.items-classes.ensures ∙ ap (λ (k : KeptQuery). k.query.classes) c.self.view_is)
     c.deref.result.now (c.deref.ensures.value ∙ ap (λ (k : KeptQuery). k.columns) c.self.view_is)
@@ -27,7 +27,7 @@ pub returns-clause-ready : goal.returns-clause-ready
 returns-clause-ready g c = record {
   ready = c.in_ok-changes.ensures.ready;
   rising = c.in_ok-changes.ensures.rising;
-  room = renewed_room c.args.world.now.store.now c.args.id c.args.class c.requires.class c.args.self.now (subst IsKept c.self.view_is c.self.invariant.0)
+  room = renewed_room c.args.world.now.store.now c.args.object.now.id c.args.object.now.class c.requires.class c.args.self.now (subst IsKept c.self.view_is c.self.invariant.0)
       c.requires.before.0 c.requires.before.1 c.requires.before.2 c.lack-grows.result
       c.items-classes.result.now (c.items-classes.ensures ∙ ap (λ (k : KeptQuery). k.query.classes) c.self.view_is)
       c.deref.result.now (c.deref.ensures.value ∙ ap (λ (k : KeptQuery). k.columns) c.self.view_is)
@@ -37,9 +37,9 @@ returns-clause-ready g c = record {
 
 pub returns-clause-fresh : goal.returns-clause-fresh
 returns-clause-fresh g c = record {
-  objects = λ ds made. objects_with (catalog_of c.args.world.now.store.now) c.lack-grows.result c.args.class c.args.self.now.query.classes c.args.id
+  objects = λ ds made. objects_with (catalog_of c.args.world.now.store.now) c.lack-grows.result c.args.object.now.class c.args.self.now.query.classes c.args.object.now.id
       c.args.self.now.columns ds made
-      (renewed_objects c.args.world.now.store.now c.args.id c.args.class c.requires.class c.args.self.now (subst IsKept c.self.view_is c.self.invariant.0)
+      (renewed_objects c.args.world.now.store.now c.args.object.now.id c.args.object.now.class c.requires.class c.args.self.now (subst IsKept c.self.view_is c.self.invariant.0)
       c.requires.before.0 c.requires.before.1 c.requires.before.2 c.lack-grows.result
       c.items-classes.result.now (c.items-classes.ensures ∙ ap (λ (k : KeptQuery). k.query.classes) c.self.view_is)
       c.deref.result.now (c.deref.ensures.value ∙ ap (λ (k : KeptQuery). k.columns) c.self.view_is)
@@ -48,21 +48,21 @@ returns-clause-fresh g c = record {
 }
 
 pub returns-then-not-has_class-clause-ready : goal.returns-then-not-has_class-clause-ready
-returns-then-not-has_class-clause-ready g c = untouched_ready c.args.class c.args.self.now
+returns-then-not-has_class-clause-ready g c = untouched_ready c.args.object.now.class c.args.self.now
 
 pub returns-then-not-has_class-clause-fresh : goal.returns-then-not-has_class-clause-fresh
 returns-then-not-has_class-clause-fresh g c =
-    other_untouched c.args.world.now.store.now c.args.world.now.regions.now c.args.id c.args.class c.args.now c.requires.class c.args.self.now
+    other_untouched c.args.world.now.store.now c.args.world.now.regions.now c.args.object.now.id c.args.object.now.class c.args.now c.requires.class c.args.self.now
     (subst IsKept c.self.view_is c.self.invariant.0) c.requires.before.0 c.requires.before.1 c.requires.before.2
     c.items-classes.result.now (c.items-classes.ensures ∙ ap (λ (k : KeptQuery). k.query.classes) c.self.view_is)
     c.has_class.result c.has_class.ensures c.if-not-has_class.true
 
 pub returns-then-stays-clause-ready : goal.returns-then-stays-clause-ready
-returns-then-stays-clause-ready g c = untouched_ready c.args.class c.args.self.now
+returns-then-stays-clause-ready g c = untouched_ready c.args.object.now.class c.args.self.now
 
 pub returns-then-stays-clause-fresh : goal.returns-then-stays-clause-fresh
 returns-then-stays-clause-fresh g c =
-    expired_untouched c.args.world.now.store.now c.args.world.now.regions.now c.args.id c.args.class c.args.now c.requires.class c.args.self.now
+    expired_untouched c.args.world.now.store.now c.args.world.now.regions.now c.args.object.now.id c.args.object.now.class c.args.now c.requires.class c.args.self.now
     (subst IsKept c.self.view_is c.self.invariant.0) c.requires.before.0 c.requires.before.1 c.requires.before.2
     c.items-classes.result.now (c.items-classes.ensures ∙ ap (λ (k : KeptQuery). k.query.classes) c.self.view_is)
     c.lack-grows.result c.deref.result.now (c.deref.ensures.value ∙ ap (λ (k : KeptQuery). k.columns) c.self.view_is)
@@ -70,7 +70,7 @@ returns-then-stays-clause-fresh g c =
 
 pub returns-clause-touched : goal.returns-clause-touched
 returns-clause-touched g c =
-    is_touched c.args.class c.args.now c.args.self.now
+    is_touched c.args.object.now.class c.args.now c.args.self.now
     c.items-classes.result.now (c.items-classes.ensures ∙ ap (λ (k : KeptQuery). k.query.classes) c.self.view_is)
     c.has_class.result c.has_class.ensures c.if-not-has_class.false
     (record { grows = c.lack-grows.result; changes = c.in_ok-changes.changes }) (sym c.stays.ensures ∙ c.if-stays.false)
