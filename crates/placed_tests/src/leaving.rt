@@ -1,4 +1,7 @@
 //! How many objects are left to be asked of many that are spread out.
+ghost use Rattle.std.specs.Prelude.{◌≤◌};
+ghost use Rattle.formula_shape.specs.declared.limits.TheConstants.{OBJECT_LIMIT};
+
 use crate::asked::{Asked, left};
 use crate::spread::{COUNT, come_from_to, thousand_cars};
 use crate::stores::{two_classes, word};
@@ -9,7 +12,9 @@ use std::process::Abort;
 use std::test::Fail;
 
 // A formula that is judged over a window, where positions may be off by so much.
-fn asked(formula: &[u8], error: u32, ends: (u32, u32)) -> Asked<'_> {
+fn asked(formula: &[u8], error: u32, ends: (u32, u32)) -> Asked<'_>
+    ensures { result.variables ≤ OBJECT_LIMIT }
+{
     Asked {
         head: b"RETRIEVE o FROM car o WHERE ",
         formula,

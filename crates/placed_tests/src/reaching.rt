@@ -1,4 +1,7 @@
 //! How many objects are left to be asked of many that are spread out, where they have to come near to one of few.
+ghost use Rattle.std.specs.Prelude.{◌≤◌};
+ghost use Rattle.formula_shape.specs.declared.limits.TheConstants.{OBJECT_LIMIT};
+
 use crate::asked::{Asked, left};
 use crate::spread::thousand_cars;
 use crate::stores::come;
@@ -8,7 +11,9 @@ use std::process::Abort;
 use std::test::Fail;
 
 // A formula that is judged over 100 ticks, where positions may be off by so much.
-fn asked(formula: &[u8], error: u32) -> Asked<'_> {
+fn asked(formula: &[u8], error: u32) -> Asked<'_>
+    ensures { result.variables ≤ OBJECT_LIMIT }
+{
     Asked {
         head: b"RETRIEVE o FROM car o,post n WHERE ",
         formula,
