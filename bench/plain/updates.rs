@@ -1,14 +1,16 @@
 // Watched queries in plain Rust without proofs: the yardstick of `updates`. The rows of each query are kept from now
 // to its expiry, those of a kept query from its entry on. A writing judges the bindings of the written object alone, from
-// now on, and a tick looks at the rows that begin or end before it, by a queue of those ticks. The targets must be all
-// variables in the order of FROM, and the formula of a kept query may not look ahead. With the words
-// `--session NAME` it goes on from a text that was saved: the yardstick of `load`. Such a text has only the commands that
-// it answers.
+// now on, and a tick looks at the rows that begin or end before it, by a queue of those ticks. Where the targets aren't
+// all variables in the order of FROM, each has a count of the rows that hold at each tick. The formula of a kept query
+// may not look ahead. With the words `--session NAME` it goes on from a text that was saved: the yardstick of `load`. Such
+// a text has only the commands that it answers.
 #[allow(dead_code)]
 #[path = "asks/answer.rs"]
 mod answer;
 #[path = "session/circle.rs"]
 mod circle;
+#[path = "updates/cover.rs"]
+mod cover;
 #[path = "asks/evaluate.rs"]
 mod evaluate;
 #[allow(dead_code)]
@@ -26,13 +28,14 @@ mod spans;
 #[path = "asks/store.rs"]
 mod store;
 
+use cover::Cover;
 use evaluate::{Buffers, rows};
 use grammar::{Command, Word};
 use history::Refusal;
 use resolve::{Formula, Query};
 use spans::Span;
 use std::cmp::Reverse;
-use std::collections::BinaryHeap;
+use std::collections::{BTreeMap, BinaryHeap};
 use std::io::{self, Read, Write};
 use std::{env, fs};
 use store::{Place, Store};
@@ -78,26 +81,55 @@ impl Rows {
     }
 }
 
+/// Objects of several classes in one number, in the order of their places. Each stride is the number from an object to
+/// the next one.
+struct Numbers(Vec<usize>);
+
+impl Numbers {
+    fn new(query: &Query, variables: impl Iterator<Item = usize>, store: &Store) -> Numbers {
+        let capacities: Vec<usize> =
+            variables.map(|variable| store.history.classes[query.classes[variable]].capacity as usize).collect();
+        Numbers((1..=capacities.len()).map(|after| capacities[after..].iter().product()).collect())
+    }
+
+    fn number(&self, places: impl Iterator<Item = usize>) -> u32 {
+        places.zip(&self.0).map(|(place, stride)| place * stride).sum::<usize>() as u32
+    }
+
+    fn places(&self, number: u32) -> [usize; 4] {
+        let mut places = [0; 4];
+        let mut left = number as usize;
+        for (place, stride) in places.iter_mut().zip(&self.0) {
+            *place = left / stride;
+            left %= stride;
+        }
+        places
+    }
+}
+
 struct Watch {
     name: Word,
     query: Query,
-    /// The numbers from an object of each variable to the next one.
-    strides: Vec<usize>,
+    bindings: Numbers,
+    targets: Numbers,
     /// The first tick of a kept query's rows.
     entry: Option<u32>,
     expiry: u32,
     rows: Rows,
-    /// At least the next tick at which each row begins or ends to hold. A row that was replaced may have more.
+    /// Of each target by number; none where each binding is a target of its own.
+    covers: Option<Vec<Cover>>,
+    /// At least the next tick at which each target begins or ends to hold. One that was replaced may have more.
     turns: BinaryHeap<Reverse<(u32, u32)>>,
 }
 
 /// The first tick after now at which a row changes.
 fn turn(spans: &[Span], now: u32) -> Option<u32> {
-    spans.iter().flat_map(|span| [span.0, span.1 + 1]).find(|tick| *tick > now)
+    let next = spans[spans.partition_point(|span| span.1 < now)..].iter();
+    next.flat_map(|span| [span.0, span.1 + 1]).find(|tick| *tick > now)
 }
 
 fn holds(spans: &[Span], tick: u32) -> bool {
-    spans.iter().any(|span| (span.0..=span.1).contains(&tick))
+    spans.get(spans.partition_point(|span| span.1 < tick)).is_some_and(|span| span.0 <= tick)
 }
 
 /// What one row becomes; none of the spans is before now.
@@ -110,53 +142,59 @@ struct Change {
 impl Watch {
     /// Without rows.
     fn new(name: Word, query: Query, entry: Option<u32>, expiry: u32, store: &Store) -> Watch {
-        let capacities = query.classes.iter().map(|class| store.history.classes[*class].capacity as usize);
-        let mut strides = vec![1; query.classes.len()];
-        for (variable, capacity) in capacities.enumerate() {
-            strides[..variable].iter_mut().for_each(|stride| *stride *= capacity);
-        }
+        let bindings = Numbers::new(&query, 0..query.classes.len(), store);
+        let targets = Numbers::new(&query, query.targets.iter().copied(), store);
         let rows = Rows::new(query.bindings(&store.history) as usize);
-        Watch { name, query, strides, entry, expiry, rows, turns: BinaryHeap::new() }
+        let covers = (!query.targets.iter().copied().eq(0..query.classes.len())).then(|| {
+            let capacity = |target: &usize| store.history.classes[query.classes[*target]].capacity as usize;
+            vec![Cover::default(); query.targets.iter().map(capacity).product()]
+        });
+        Watch { name, query, bindings, targets, entry, expiry, rows, covers, turns: BinaryHeap::new() }
     }
 
-    fn number(&self, places: &[usize]) -> u32 {
-        places.iter().zip(&self.strides).map(|(place, stride)| place * stride).sum::<usize>() as u32
-    }
-
-    fn places(&self, number: u32) -> [usize; 4] {
-        let mut places = [0; 4];
-        let mut left = number as usize;
-        for (place, stride) in places.iter_mut().zip(&self.strides) {
-            *place = left / stride;
-            left %= stride;
+    /// The number of a binding's target.
+    fn target(&self, number: u32) -> u32 {
+        if self.covers.is_none() {
+            return number;
         }
-        places
+        let places = self.bindings.places(number);
+        self.targets.number(self.query.targets.iter().map(|variable| places[*variable]))
     }
 
-    fn put_tuple(&self, out: &mut Vec<u8>, word: &[u8], store: &Store, number: u32) {
+    fn put_tuple(&self, out: &mut Vec<u8>, word: &[u8], store: &Store, target: u32) {
         out.extend_from_slice(word);
         out.extend_from_slice(self.name.text());
-        answer::put_tuple(out, store, &self.query, &self.places(number));
+        answer::put_tuple(out, store, &self.query, &self.targets.places(target));
     }
 
-    /// The line of a row that begins or ends to hold.
-    fn put_turn(&self, out: &mut Vec<u8>, store: &Store, number: u32, before: bool, after: bool) {
+    /// The line of a target that begins or ends to hold.
+    fn put_turn(&self, out: &mut Vec<u8>, store: &Store, target: u32, before: bool, after: bool) {
         if before != after {
-            self.put_tuple(out, if after { b"enter " } else { b"leave " }, store, number);
+            self.put_tuple(out, if after { b"enter " } else { b"leave " }, store, target);
             out.push(b'\n');
         }
     }
 
-    fn replace(&mut self, number: u32, spans: &[Span], now: u32) {
-        self.turns.extend(turn(spans, now).map(|tick| Reverse((tick, number))));
+    fn replace(&mut self, number: u32, (old, new): (&[Span], &[Span]), now: u32) {
+        let target = self.target(number);
+        let next = match &mut self.covers {
+            None => turn(new, now),
+            Some(covers) => {
+                let cover = &mut covers[target as usize];
+                old.iter().for_each(|span| cover.add(*span, false));
+                new.iter().for_each(|span| cover.add(*span, true));
+                cover.turn(now)
+            }
+        };
+        self.turns.extend(next.map(|tick| Reverse((tick, target))));
         match self.entry {
             Some(entry) if entry < now => {
                 let mut all = Vec::new();
                 spans::clip(self.rows.get(number), (entry, now - 1), &mut all);
-                spans.iter().for_each(|span| spans::push(&mut all, *span));
+                new.iter().for_each(|span| spans::push(&mut all, *span));
                 self.rows.put(number, &all);
             }
-            _ => self.rows.put(number, spans),
+            _ => self.rows.put(number, new),
         }
     }
 
@@ -175,7 +213,7 @@ impl Watch {
         };
         let variables = 0..self.query.classes.len();
         if !store.classes[class].present[place] {
-            let is_of = |number: u32| variables.clone().any(|variable| has(&self.places(number), variable));
+            let is_of = |number: u32| variables.clone().any(|variable| has(&self.bindings.places(number), variable));
             self.rows.iter().filter(|row| is_of(row.0)).for_each(|row| change(row.0, &[]));
             return changes;
         }
@@ -187,7 +225,7 @@ impl Watch {
             held[variable] = Some(place);
             rows(store, &self.query, window, held, free, |key, spans| {
                 if !(0..variable).any(|earlier| has(key, earlier)) {
-                    change(self.number(key), spans);
+                    change(self.bindings.number(key.iter().copied()), spans);
                 }
             });
         }
@@ -201,8 +239,8 @@ impl Watch {
         if now > self.expiry {
             return;
         }
-        for Change { number, new, .. } in self.changes(written, store, free) {
-            self.replace(number, &new, now);
+        for Change { number, old, new } in self.changes(written, store, free) {
+            self.replace(number, (&old, &new), now);
         }
     }
 
@@ -212,66 +250,125 @@ impl Watch {
         if now > self.expiry {
             return;
         }
-        for Change { number, old, new } in self.changes(written, store, free) {
-            for (word, there, not_there) in [(&b"gain "[..], &new, &old), (b"lose ", &old, &new)] {
-                let (mut without, mut only) = (Vec::new(), Vec::new());
-                spans::complement(not_there, (now, self.expiry), &mut without);
-                spans::meet(there, &without, &mut only);
-                if !only.is_empty() {
-                    self.put_tuple(out, word, store, number);
-                    answer::put_spans(out, &only);
-                }
-            }
-            self.put_turn(out, store, number, holds(&old, now), holds(&new, now));
-            self.replace(number, &new, now);
+        let changes = self.changes(written, store, free);
+        if self.covers.is_some() {
+            return self.refresh_targets(changes, store, out);
+        }
+        for Change { number, old, new } in changes {
+            self.put_change(number, (&old, &new), store, out);
+            self.replace(number, (&old, &new), now);
         }
     }
 
-    /// The rows that may have turned until now, in order.
+    /// What a target gains and loses is looked for where its bindings changed.
+    fn refresh_targets(&mut self, changes: Vec<Change>, store: &Store, out: &mut Vec<u8>) {
+        let mut by_target: BTreeMap<u32, Vec<Change>> = BTreeMap::new();
+        for change in changes {
+            by_target.entry(self.target(change.number)).or_default().push(change);
+        }
+        for (target, changes) in by_target {
+            let (mut touched, mut sorted) = (Vec::new(), Vec::new());
+            changes.iter().for_each(|change| touched.extend(change.old.iter().chain(&change.new)));
+            answer::normalise(&mut touched, &mut sorted);
+            let old = self.held(target, &touched);
+            for Change { number, old, new } in &changes {
+                self.replace(*number, (old, new), store.history.clock);
+            }
+            let new = self.held(target, &touched);
+            self.put_change(target, (&old, &new), store, out);
+        }
+    }
+
+    /// Those of the ticks at which the target holds.
+    fn held(&self, target: u32, ticks: &[Span]) -> Vec<Span> {
+        let mut held = Vec::new();
+        if let Some(covers) = &self.covers {
+            ticks.iter().for_each(|span| covers[target as usize].spans(*span, &mut held));
+        }
+        held
+    }
+
+    /// The lines of a target that held at the old ticks and holds at the new ones.
+    fn put_change(&self, target: u32, (old, new): (&[Span], &[Span]), store: &Store, out: &mut Vec<u8>) {
+        let now = store.history.clock;
+        for (word, there, not_there) in [(&b"gain "[..], new, old), (b"lose ", old, new)] {
+            let (mut without, mut only) = (Vec::new(), Vec::new());
+            spans::complement(not_there, (now, self.expiry), &mut without);
+            spans::meet(there, &without, &mut only);
+            if !only.is_empty() {
+                self.put_tuple(out, word, store, target);
+                answer::put_spans(out, &only);
+            }
+        }
+        self.put_turn(out, store, target, holds(old, now), holds(new, now));
+    }
+
+    /// The targets that may have turned until now, in order.
     fn due(&mut self, now: u32) -> Vec<u32> {
         let mut due = Vec::new();
-        while let Some(Reverse((_, number))) = self.turns.peek().copied().filter(|first| first.0.0 <= now) {
+        while let Some(Reverse((_, target))) = self.turns.peek().copied().filter(|first| first.0.0 <= now) {
             self.turns.pop();
-            due.push(number);
+            due.push(target);
         }
         due.sort_unstable();
         due.dedup();
         due
     }
 
-    /// Waits for the next turn of a row; one that has none is over.
-    fn wait(&mut self, number: u32, now: u32) {
-        match turn(self.rows.get(number), now) {
-            Some(tick) => self.turns.push(Reverse((tick, number))),
-            None if self.entry.is_none() => self.rows.put(number, &[]),
+    fn holds(&self, target: u32, tick: u32) -> bool {
+        match &self.covers {
+            Some(covers) => covers[target as usize].holds(tick),
+            None => holds(self.rows.get(target), tick),
+        }
+    }
+
+    /// Waits for the next turn of a target; a row that has none is over.
+    fn wait(&mut self, target: u32, now: u32) {
+        let next = match &self.covers {
+            Some(covers) => covers[target as usize].turn(now),
+            None => turn(self.rows.get(target), now),
+        };
+        match next {
+            Some(tick) => self.turns.push(Reverse((tick, target))),
+            None if self.entry.is_none() && self.covers.is_none() => self.rows.put(target, &[]),
             None => (),
         }
     }
 
     /// Lets time pass.
     fn advance(&mut self, now: u32) {
-        self.due(now).into_iter().for_each(|number| self.wait(number, now));
+        self.due(now).into_iter().for_each(|target| self.wait(target, now));
     }
 
-    /// Lets time pass and adds the lines of the rows that hold at one of both ticks alone.
+    /// Lets time pass and adds the lines of the targets that hold at one of both ticks alone.
     fn pass(&mut self, before: u32, store: &Store, out: &mut Vec<u8>) {
         let now = store.history.clock;
-        for number in self.due(now) {
-            let spans = self.rows.get(number);
-            self.put_turn(out, store, number, holds(spans, before), holds(spans, now));
-            self.wait(number, now);
+        for target in self.due(now) {
+            self.put_turn(out, store, target, self.holds(target, before), self.holds(target, now));
+            self.wait(target, now);
         }
     }
 
     fn show(&self, store: &Store, out: &mut Vec<u8>) {
+        let window = (self.entry.unwrap_or(store.history.clock), self.expiry);
+        if window.0 > window.1 {
+            return;
+        }
         let mut spans = Vec::new();
-        for (number, row) in self.rows.iter() {
+        let mut put = |target: u32, spans: &mut Vec<Span>| {
+            answer::put_row(out, store, &self.query, &self.targets.places(target), spans);
             spans.clear();
-            let first = self.entry.unwrap_or(store.history.clock);
-            if first <= self.expiry {
-                spans::clip(row, (first, self.expiry), &mut spans);
+        };
+        if let Some(covers) = &self.covers {
+            for (target, cover) in (0..).zip(covers) {
+                cover.spans(window, &mut spans);
+                put(target, &mut spans);
             }
-            answer::put_row(out, store, &self.query, &self.places(number), &spans);
+            return;
+        }
+        for (number, row) in self.rows.iter() {
+            spans::clip(row, window, &mut spans);
+            put(number, &mut spans);
         }
     }
 }
@@ -296,9 +393,6 @@ impl Session {
     fn watch(&mut self, name: Word, span: u32, query: &grammar::Query, kept: bool) -> Result<Watch, Refusal> {
         let (query, faults) = resolve::resolve(&self.store.history, query, span);
         resolve::first(faults)?;
-        if !query.targets.iter().copied().eq(0..query.classes.len()) {
-            return Err(Refusal::BadSyntax);
-        }
         if kept && looks_ahead(&query.formula) {
             return Err(Refusal::BadSyntax);
         }
@@ -307,7 +401,7 @@ impl Session {
         let query = watch.query.clone();
         rows(&self.store, &query, (now, now + span), [None; 4], &mut self.free, |key, spans| {
             if !spans.is_empty() {
-                watch.replace(watch.number(key), spans, now);
+                watch.replace(watch.bindings.number(key.iter().copied()), (&[], spans), now);
             }
         });
         Ok(watch)
