@@ -1,9 +1,10 @@
 // Watched queries in plain Rust without proofs: the yardstick of `updates`. The rows of each query are kept from now
 // to its expiry, those of a kept query from its entry on. A writing judges the bindings of the written object alone, from
 // now on, and a tick looks at the rows that begin or end before it, by a queue of those ticks. Where the targets aren't
-// all variables in the order of FROM, each has a count of the rows that hold at each tick. The formula of a kept query
-// may not look ahead. With the words `--session NAME` it goes on from a text that was saved: the yardstick of `load`. Such
-// a text has only the commands that it answers.
+// all variables in the order of FROM, each has a count of the rows that hold at each tick. A kept query that looks ahead
+// keeps the spans of each part of its formula, and a write renews their ends; it may have no assignment, and beside it no
+// object is removed. With the words `--session NAME` it goes on from a text that was saved: the yardstick of `load`. Such a
+// text has only the commands that it answers.
 #[allow(dead_code)]
 #[path = "asks/answer.rs"]
 mod answer;
@@ -19,6 +20,8 @@ mod grammar;
 #[allow(dead_code)]
 #[path = "session/history.rs"]
 mod history;
+#[path = "updates/kept.rs"]
+mod kept;
 #[path = "updates/loading.rs"]
 mod loading;
 #[path = "session/resolve.rs"]
@@ -29,13 +32,14 @@ mod spans;
 mod store;
 
 use cover::Cover;
-use evaluate::{Buffers, rows};
+use evaluate::{Binding, Buffers, bindings, rows};
 use grammar::{Command, Word};
 use history::Refusal;
+use kept::Node;
 use resolve::{Formula, Query};
 use spans::Span;
 use std::cmp::Reverse;
-use std::collections::{BTreeMap, BinaryHeap};
+use std::collections::{BTreeMap, BinaryHeap, HashMap};
 use std::io::{self, Read, Write};
 use std::{env, fs};
 use store::{Place, Store};
@@ -110,12 +114,14 @@ impl Numbers {
 struct Watch {
     name: Word,
     query: Query,
-    bindings: Numbers,
+    numbers: Numbers,
     targets: Numbers,
     /// The first tick of a kept query's rows.
     entry: Option<u32>,
     expiry: u32,
     rows: Rows,
+    /// Of the bindings of a kept query that looks ahead.
+    nodes: Option<HashMap<u32, Kept>>,
     /// Of each target by number; none where each binding is a target of its own.
     covers: Option<Vec<Cover>>,
     /// At least the next tick at which each target begins or ends to hold. One that was replaced may have more.
@@ -132,24 +138,46 @@ fn holds(spans: &[Span], tick: u32) -> bool {
     spans.get(spans.partition_point(|span| span.1 < tick)).is_some_and(|span| span.0 <= tick)
 }
 
-/// What one row becomes; none of the spans is before now.
+/// A formula's spans from the tick on at which all objects of the binding were there.
+struct Kept {
+    first: u32,
+    node: Node,
+}
+
+/// What one row becomes from a tick on.
 struct Change {
     number: u32,
+    from: u32,
     old: Vec<Span>,
     new: Vec<Span>,
+}
+
+/// Renews the parts of a binding's formula. What its row becomes, where that is something else.
+fn renewed(
+    nodes: &mut HashMap<u32, Kept>,
+    number: u32,
+    formula: &Formula,
+    binding: &Binding,
+    free: &mut Buffers,
+) -> Option<Change> {
+    let kept = nodes.entry(number).or_insert_with(|| Kept { first: binding.first, node: Node::new(formula) });
+    let from = kept.node.renew(formula, binding, kept.first, free);
+    let Node { old, new, .. } = &kept.node;
+    (old != new).then(|| Change { number, from, old: old.clone(), new: new.clone() })
 }
 
 impl Watch {
     /// Without rows.
     fn new(name: Word, query: Query, entry: Option<u32>, expiry: u32, store: &Store) -> Watch {
-        let bindings = Numbers::new(&query, 0..query.classes.len(), store);
+        let numbers = Numbers::new(&query, 0..query.classes.len(), store);
         let targets = Numbers::new(&query, query.targets.iter().copied(), store);
         let rows = Rows::new(query.bindings(&store.history) as usize);
         let covers = (!query.targets.iter().copied().eq(0..query.classes.len())).then(|| {
             let capacity = |target: &usize| store.history.classes[query.classes[*target]].capacity as usize;
             vec![Cover::default(); query.targets.iter().map(capacity).product()]
         });
-        Watch { name, query, bindings, targets, entry, expiry, rows, covers, turns: BinaryHeap::new() }
+        let nodes = (entry.is_some() && looks_ahead(&query.formula)).then(HashMap::new);
+        Watch { name, query, numbers, targets, entry, expiry, rows, nodes, covers, turns: BinaryHeap::new() }
     }
 
     /// The number of a binding's target.
@@ -157,7 +185,7 @@ impl Watch {
         if self.covers.is_none() {
             return number;
         }
-        let places = self.bindings.places(number);
+        let places = self.numbers.places(number);
         self.targets.number(self.query.targets.iter().map(|variable| places[*variable]))
     }
 
@@ -175,7 +203,7 @@ impl Watch {
         }
     }
 
-    fn replace(&mut self, number: u32, (old, new): (&[Span], &[Span]), now: u32) {
+    fn replace(&mut self, number: u32, from: u32, (old, new): (&[Span], &[Span]), now: u32) {
         let target = self.target(number);
         let next = match &mut self.covers {
             None => turn(new, now),
@@ -188,9 +216,9 @@ impl Watch {
         };
         self.turns.extend(next.map(|tick| Reverse((tick, target))));
         match self.entry {
-            Some(entry) if entry < now => {
+            Some(entry) if entry < from => {
                 let mut all = Vec::new();
-                spans::clip(self.rows.get(number), (entry, now - 1), &mut all);
+                spans::clip(self.rows.get(number), (entry, from - 1), &mut all);
                 new.iter().for_each(|span| spans::push(&mut all, *span));
                 self.rows.put(number, &all);
             }
@@ -198,36 +226,60 @@ impl Watch {
         }
     }
 
-    /// The changed rows among those of the written object, in order.
-    fn changes(&self, (class, place): Place, store: &Store, free: &mut Buffers) -> Vec<Change> {
-        let now = store.history.clock;
-        let window = (now, self.expiry);
-        let has = |key: &[usize], variable: usize| self.query.classes[variable] == class && key[variable] == place;
-        let (mut changes, mut old) = (Vec::new(), Vec::new());
-        let mut change = |number: u32, new: &[Span]| {
-            old.clear();
-            spans::clip(self.rows.get(number), window, &mut old);
+    /// The changed rows of the bindings, of which a variable may be held to one object and some are skipped.
+    fn judge(
+        &mut self,
+        held: [Option<usize>; 4],
+        store: &Store,
+        free: &mut Buffers,
+        skips: impl Fn(&[usize]) -> bool,
+    ) -> Vec<Change> {
+        let window = (store.history.clock, self.expiry);
+        let Watch { query, numbers, rows, nodes, .. } = self;
+        let (mut changes, mut old, mut new) = (Vec::new(), Vec::new(), Vec::new());
+        bindings(store, query, window, held, |key, binding| {
+            if skips(key) {
+                return;
+            }
+            let number = numbers.number(key.iter().copied());
+            if let Some(nodes) = nodes {
+                changes.extend(renewed(nodes, number, &query.formula, binding, free));
+                return;
+            }
+            (old.clear(), new.clear());
+            spans::clip(rows.get(number), window, &mut old);
+            binding.judge(&query.formula, &mut new, free);
             if old != new {
-                changes.push(Change { number, old: old.clone(), new: new.to_vec() });
+                changes.push(Change { number, from: window.0, old: old.clone(), new: new.clone() });
             }
-        };
-        let variables = 0..self.query.classes.len();
+        });
+        changes
+    }
+
+    /// The rows of an object that is gone, which end now.
+    fn ended(&self, is_of: impl Fn(&[usize]) -> bool, now: u32) -> Vec<Change> {
+        let rows = self.rows.iter().filter(|row| is_of(&self.numbers.places(row.0)));
+        let ends = rows.map(|(number, row)| {
+            let mut old = Vec::new();
+            spans::clip(row, (now, self.expiry), &mut old);
+            Change { number, from: now, old, new: Vec::new() }
+        });
+        ends.filter(|change| !change.old.is_empty()).collect()
+    }
+
+    /// The changed rows among those of the written object, in order.
+    fn changes(&mut self, (class, place): Place, store: &Store, free: &mut Buffers) -> Vec<Change> {
+        let classes = self.query.classes.clone();
+        let has = |key: &[usize], variable: usize| classes[variable] == class && key[variable] == place;
         if !store.classes[class].present[place] {
-            let is_of = |number: u32| variables.clone().any(|variable| has(&self.bindings.places(number), variable));
-            self.rows.iter().filter(|row| is_of(row.0)).for_each(|row| change(row.0, &[]));
-            return changes;
+            return self.ended(|key| (0..classes.len()).any(|variable| has(key, variable)), store.history.clock);
         }
-        for variable in variables {
-            if self.query.classes[variable] != class {
-                continue;
-            }
+        let mut changes = Vec::new();
+        for variable in (0..classes.len()).filter(|variable| classes[*variable] == class) {
             let mut held = [None; 4];
             held[variable] = Some(place);
-            rows(store, &self.query, window, held, free, |key, spans| {
-                if !(0..variable).any(|earlier| has(key, earlier)) {
-                    change(self.bindings.number(key.iter().copied()), spans);
-                }
-            });
+            let told_before = |key: &[usize]| (0..variable).any(|earlier| has(key, earlier));
+            changes.append(&mut self.judge(held, store, free, told_before));
         }
         changes.sort_unstable_by_key(|change| change.number);
         changes
@@ -239,8 +291,8 @@ impl Watch {
         if now > self.expiry {
             return;
         }
-        for Change { number, old, new } in self.changes(written, store, free) {
-            self.replace(number, (&old, &new), now);
+        for Change { number, from, old, new } in self.changes(written, store, free) {
+            self.replace(number, from, (&old, &new), now);
         }
     }
 
@@ -254,9 +306,9 @@ impl Watch {
         if self.covers.is_some() {
             return self.refresh_targets(changes, store, out);
         }
-        for Change { number, old, new } in changes {
+        for Change { number, from, old, new } in changes {
             self.put_change(number, (&old, &new), store, out);
-            self.replace(number, (&old, &new), now);
+            self.replace(number, from, (&old, &new), now);
         }
     }
 
@@ -271,8 +323,8 @@ impl Watch {
             changes.iter().for_each(|change| touched.extend(change.old.iter().chain(&change.new)));
             answer::normalise(&mut touched, &mut sorted);
             let old = self.held(target, &touched);
-            for Change { number, old, new } in &changes {
-                self.replace(*number, (old, new), store.history.clock);
+            for Change { number, from, old, new } in &changes {
+                self.replace(*number, *from, (old, new), store.history.clock);
             }
             let new = self.held(target, &touched);
             self.put_change(target, (&old, &new), store, out);
@@ -293,7 +345,7 @@ impl Watch {
         let now = store.history.clock;
         for (word, there, not_there) in [(&b"gain "[..], new, old), (b"lose ", old, new)] {
             let (mut without, mut only) = (Vec::new(), Vec::new());
-            spans::complement(not_there, (now, self.expiry), &mut without);
+            spans::complement(not_there, (self.entry.unwrap_or(now), self.expiry), &mut without);
             spans::meet(there, &without, &mut only);
             if !only.is_empty() {
                 self.put_tuple(out, word, store, target);
@@ -374,12 +426,8 @@ impl Watch {
 }
 
 fn looks_ahead(formula: &Formula) -> bool {
-    match formula {
-        Formula::Not(part) => looks_ahead(part),
-        Formula::And(left, right) | Formula::Or(left, right) => looks_ahead(left) || looks_ahead(right),
-        Formula::Next(..) | Formula::Some(..) | Formula::Every(..) | Formula::Until(..) | Formula::Assign(..) => true,
-        _ => false,
-    }
+    use Formula::{Every, Next, Until};
+    resolve::has(formula, &|part| matches!(part, Next(..) | Formula::Some(..) | Every(..) | Until(..)))
 }
 
 #[derive(Default)]
@@ -393,15 +441,21 @@ impl Session {
     fn watch(&mut self, name: Word, span: u32, query: &grammar::Query, kept: bool) -> Result<Watch, Refusal> {
         let (query, faults) = resolve::resolve(&self.store.history, query, span);
         resolve::first(faults)?;
-        if kept && looks_ahead(&query.formula) {
+        if kept && resolve::has(&query.formula, &|part| matches!(part, Formula::Assign(..))) {
             return Err(Refusal::BadSyntax);
         }
         let now = self.store.history.clock;
         let mut watch = Watch::new(name, query, kept.then_some(now), now + span, &self.store);
+        if watch.nodes.is_some() {
+            for Change { number, new, .. } in watch.judge([None; 4], &self.store, &mut self.free, |_| false) {
+                watch.replace(number, now, (&[], &new), now);
+            }
+            return Ok(watch);
+        }
         let query = watch.query.clone();
         rows(&self.store, &query, (now, now + span), [None; 4], &mut self.free, |key, spans| {
             if !spans.is_empty() {
-                watch.replace(watch.bindings.number(key.iter().copied()), (&[], spans), now);
+                watch.replace(watch.numbers.number(key.iter().copied()), now, (&[], spans), now);
             }
         });
         Ok(watch)
@@ -425,6 +479,9 @@ impl Session {
                 for watch in &mut self.watches {
                     watch.pass(before, &self.store, out);
                 }
+            }
+            Command::Remove(_) if self.watches.iter().any(|watch| watch.nodes.is_some()) => {
+                return Err(Refusal::BadSyntax);
             }
             command @ (Command::Insert(..) | Command::Update(..) | Command::Remove(_)) => {
                 let Some(written) = self.store.apply(command)? else { return Ok(()) };

@@ -49,8 +49,8 @@ pub struct Binding<'a> {
     motions: [Motion; 4],
     /// Of straight motions the position at the window's first tick, and the step.
     starts: [(Point, Point); 4],
-    first: u32,
-    last: u32,
+    pub first: u32,
+    pub last: u32,
 }
 
 impl<'a> Binding<'a> {
@@ -201,6 +201,11 @@ impl<'a> Binding<'a> {
         free.put(body);
     }
 
+    /// Adds the ticks of the binding's window at which the formula holds.
+    pub fn judge(&self, formula: &Formula, out: &mut Vec<Span>, free: &mut Buffers) {
+        self.ticks(formula, &[], (self.first, self.last), out, free);
+    }
+
     /// Adds the ticks of the window at which the formula holds.
     fn ticks(&self, formula: &Formula, values: &[Value], window: Span, out: &mut Vec<Span>, free: &mut Buffers) {
         let (lo, hi) = window;
@@ -295,10 +300,27 @@ impl<'a> Binding<'a> {
 pub fn rows(
     store: &Store,
     query: &Query,
-    (from, last): Span,
+    window: Span,
     held: [Option<usize>; 4],
     free: &mut Buffers,
     mut row: impl FnMut(&[usize], &[Span]),
+) {
+    let mut spans = free.take();
+    bindings(store, query, window, held, |key, binding| {
+        spans.clear();
+        binding.judge(&query.formula, &mut spans, free);
+        row(key, &spans);
+    });
+    free.put(spans);
+}
+
+/// Calls `each` for each binding of present objects, in the order of FROM.
+pub fn bindings(
+    store: &Store,
+    query: &Query,
+    (from, last): Span,
+    held: [Option<usize>; 4],
+    mut each: impl FnMut(&[usize], &Binding),
 ) {
     let count = query.classes.len();
     let range = |variable: usize| match held[variable] {
@@ -308,7 +330,6 @@ pub fn rows(
     let starts = [((0, 0), (0, 0)); 4];
     let mut binding = Binding { store, cells: [&[]; 4], motions: [Motion::default(); 4], starts, first: from, last };
     let mut places = [0; 4];
-    let mut spans = free.take();
     // one level for each variable; `places` has the next object of each
     let mut level = 0;
     places[0] = range(0).start;
@@ -332,10 +353,7 @@ pub fn rows(
             places[level] = range(level).start;
             continue;
         }
-        spans.clear();
-        binding.ticks(&query.formula, &[], (from, last), &mut spans, free);
-        row(&places[..count], &spans);
+        each(&places[..count], &binding);
         places[level] += 1;
     }
-    free.put(spans);
 }
