@@ -12,6 +12,8 @@ mod grammar;
 #[allow(dead_code)]
 #[path = "session/history.rs"]
 mod history;
+#[path = "asks/join.rs"]
+mod join;
 #[path = "asks/nearest.rs"]
 mod nearest;
 #[path = "session/resolve.rs"]

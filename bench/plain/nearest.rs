@@ -16,6 +16,9 @@ mod grammar;
 #[path = "session/history.rs"]
 mod history;
 #[allow(dead_code)]
+#[path = "asks/join.rs"]
+mod join;
+#[allow(dead_code)]
 #[path = "asks/nearest.rs"]
 mod nearest;
 #[allow(dead_code)]

@@ -8,6 +8,8 @@
 #[allow(dead_code)]
 #[path = "asks/answer.rs"]
 mod answer;
+#[path = "updates/bindings.rs"]
+mod bindings;
 #[path = "session/circle.rs"]
 mod circle;
 #[path = "updates/cover.rs"]
@@ -20,6 +22,8 @@ mod grammar;
 #[allow(dead_code)]
 #[path = "session/history.rs"]
 mod history;
+#[path = "asks/join.rs"]
+mod join;
 #[path = "updates/kept.rs"]
 mod kept;
 #[path = "updates/loading.rs"]
@@ -31,10 +35,12 @@ mod spans;
 #[path = "asks/store.rs"]
 mod store;
 
+use bindings::bindings;
 use cover::Cover;
-use evaluate::{Binding, Buffers, bindings, rows};
+use evaluate::{Binding, Buffers};
 use grammar::{Command, Word};
 use history::Refusal;
+use join::joined;
 use kept::Node;
 use resolve::{Formula, Query};
 use spans::Span;
@@ -453,10 +459,8 @@ impl Session {
             return Ok(watch);
         }
         let query = watch.query.clone();
-        rows(&self.store, &query, (now, now + span), [None; 4], &mut self.free, |key, spans| {
-            if !spans.is_empty() {
-                watch.replace(watch.numbers.number(key.iter().copied()), now, (&[], spans), now);
-            }
+        joined(&self.store, &query, (now, now + span), &mut self.free, |key, spans| {
+            watch.replace(watch.numbers.number(key.iter().copied()), now, (&[], spans), now);
         });
         Ok(watch)
     }
@@ -468,6 +472,12 @@ impl Session {
                 let watch = self.watch(name, span, query, matches!(command, Command::Keep(..)))?;
                 watch.show(&self.store, out);
                 self.watches.push(watch);
+            }
+            Command::Ask(span, ref query) => {
+                let (query, faults) = resolve::resolve(&self.store.history, query, span);
+                resolve::first(faults)?;
+                let now = self.store.history.clock;
+                answer::put_answer(&self.store, &query, (now, now + span), &mut self.free, out);
             }
             Command::Show(name) => {
                 let watch = self.watches.iter().find(|watch| watch.name == name).ok_or(Refusal::UnknownName)?;

@@ -1,6 +1,7 @@
 // Rows of answers as text.
-use super::evaluate::{Buffers, rows};
+use super::evaluate::Buffers;
 use super::grammar::put_count;
+use super::join::joined;
 use super::resolve::Query;
 use super::spans::{Span, push};
 use super::store::Store;
@@ -50,9 +51,8 @@ pub fn normalise(spans: &mut Vec<Span>, sorted: &mut Vec<Span>) {
 /// Adds the rows of the query over the window. Where the targets are the first variables in their order, the
 /// bindings of a row come one after the other; else the rows are gathered.
 pub fn put_answer(store: &Store, query: &Query, window: Span, free: &mut Buffers, out: &mut Vec<u8>) {
-    let held = [None; 4];
     if query.targets.len() == query.classes.len() && query.targets.is_sorted() {
-        rows(store, query, window, held, free, |key, spans| put_row(out, store, query, key, spans));
+        joined(store, query, window, free, |key, spans| put_row(out, store, query, key, spans));
         return;
     }
     let count = query.targets.len();
@@ -64,7 +64,7 @@ pub fn put_answer(store: &Store, query: &Query, window: Span, free: &mut Buffers
             put_row(out, store, query, last, sum);
             sum.clear();
         };
-        rows(store, query, window, held, free, |key, spans| {
+        joined(store, query, window, free, |key, spans| {
             if last != key[..count] {
                 flush(&last, &mut sum);
                 last.clear();
@@ -76,10 +76,7 @@ pub fn put_answer(store: &Store, query: &Query, window: Span, free: &mut Buffers
         return;
     }
     let mut all: BTreeMap<Vec<usize>, Vec<Span>> = BTreeMap::new();
-    rows(store, query, window, held, free, |key, spans| {
-        if spans.is_empty() {
-            return;
-        }
+    joined(store, query, window, free, |key, spans| {
         let key = query.targets.iter().map(|target| key[*target]).collect();
         all.entry(key).or_default().extend_from_slice(spans);
     });

@@ -5,7 +5,7 @@ use super::spans::{self, Quad, Span, push, solve};
 use super::store::{Motion, Store};
 use crate::grammar::{Legs, Word};
 use crate::history::{Cell, Vector};
-use crate::resolve::{Formula, Part, Query, Term, Unit};
+use crate::resolve::{Formula, Part, Term, Unit, has};
 
 type Point = (i64, i64);
 
@@ -32,11 +32,11 @@ pub fn turn(vector: &Vector, tick: u32) -> u32 {
 pub struct Buffers(Vec<Vec<Span>>);
 
 impl Buffers {
-    fn take(&mut self) -> Vec<Span> {
+    pub fn take(&mut self) -> Vec<Span> {
         self.0.pop().unwrap_or_default()
     }
 
-    fn put(&mut self, mut spans: Vec<Span>) {
+    pub fn put(&mut self, mut spans: Vec<Span>) {
         spans.clear();
         self.0.push(spans);
     }
@@ -54,6 +54,12 @@ pub struct Binding<'a> {
 }
 
 impl<'a> Binding<'a> {
+    /// Without objects.
+    pub fn new(store: &'a Store, (first, last): Span) -> Binding<'a> {
+        let starts = [((0, 0), (0, 0)); 4];
+        Binding { store, cells: [&[]; 4], motions: [Motion::default(); 4], starts, first, last }
+    }
+
     fn axis(&self, variable: usize, axis: usize) -> &'a Vector {
         match &self.cells[variable][axis] {
             Cell::Dyn(vector) => vector,
@@ -73,7 +79,7 @@ impl<'a> Binding<'a> {
     }
 
     /// Sets the object of a variable.
-    fn bind(&mut self, variable: usize, cells: &'a [Cell], motion: Motion) {
+    pub fn bind(&mut self, variable: usize, cells: &'a [Cell], motion: Motion) {
         let Motion { value, slope, since, .. } = motion;
         let step = (i64::from(slope.0), i64::from(slope.1));
         let at = |value: i64, step: i64, since: u32| value + step * i64::from(self.first - since);
@@ -111,19 +117,28 @@ impl<'a> Binding<'a> {
         }
     }
 
-    /// More than two points are judged at each tick: no benchmark has them.
+    /// More than two points are judged at each tick at which they are near to each other.
     fn circle(&self, radius: i128, variables: &[usize], (lo, hi): Span, out: &mut Vec<Span>) {
-        match variables {
-            [_] => push(out, (lo, hi)),
-            [a, b] => self.distance(*a, *b, 1, 2 * radius, (lo, hi), out),
-            _ => {
-                for tick in lo..=hi {
-                    let wide = |point: Point| (i128::from(point.0), i128::from(point.1));
-                    let points: Vec<_> = variables.iter().map(|v| wide(self.course(*v, tick).0)).collect();
-                    if circle::fits(radius, &points) {
-                        push(out, (tick, tick));
-                    }
-                }
+        let [_, _, _, ..] = variables else {
+            return match variables {
+                [a, b] => self.distance(*a, *b, 1, 2 * radius, (lo, hi), out),
+                _ => push(out, (lo, hi)),
+            };
+        };
+        let mut near = vec![(lo, hi)];
+        for (i, a) in variables.iter().enumerate() {
+            for b in &variables[i + 1..] {
+                let (mut pair, mut both) = (Vec::new(), Vec::new());
+                self.distance(*a, *b, 1, 2 * radius, (lo, hi), &mut pair);
+                spans::meet(&near, &pair, &mut both);
+                near = both;
+            }
+        }
+        for tick in near.into_iter().flat_map(|(lo, hi)| lo..=hi) {
+            let wide = |point: Point| (i128::from(point.0), i128::from(point.1));
+            let points: Vec<_> = variables.iter().map(|v| wide(self.course(*v, tick).0)).collect();
+            if circle::fits(radius, &points) {
+                push(out, (tick, tick));
             }
         }
     }
@@ -186,6 +201,16 @@ impl<'a> Binding<'a> {
         out: &mut Vec<Span>,
         free: &mut Buffers,
     ) {
+        let names =
+            |term: &Term| term.iter().any(|factor| matches!(factor.unit, Unit::Bound(place) if place == values.len()));
+        let is_named = has(f, &|part| match part {
+            Formula::Compare(left, _, right) => names(left) || names(right),
+            Formula::Assign(term, _) => names(term),
+            _ => false,
+        });
+        if !is_named {
+            return self.ticks(f, &[values, &[Value::Num(0)]].concat(), (lo, hi), out, free);
+        }
         let mut body = free.take();
         let mut from = lo;
         while from <= hi {
@@ -235,10 +260,17 @@ impl<'a> Binding<'a> {
             }
             Formula::Every(most, f) => self.every(*most, f, values, window, (reach(*most), out, free)),
             Formula::Assign(term, f) => self.assigned((term, f), values, window, out, free),
-            Formula::And(f, g) => self.binary((f, g), values, window, free, |f, g, _| spans::meet(f, g, out)),
-            Formula::Or(f, g) => self.binary((f, g), values, window, free, |f, g, _| spans::unite(f, g, out)),
+            Formula::And(f, g) => self.both((f, g), values, window, free, |f, g, _| spans::meet(f, g, out)),
+            Formula::Or(f, g) => {
+                let (mut left, mut right) = (free.take(), free.take());
+                self.ticks(f, values, window, &mut left, free);
+                self.ticks(g, values, window, &mut right, free);
+                spans::unite(&left, &right, out);
+                free.put(left);
+                free.put(right);
+            }
             Formula::Until(least, most, f, g) => {
-                self.binary((f, g), values, reach(*most), free, |f, g, free| {
+                self.both((g, f), values, reach(*most), free, |g, f, free| {
                     let (mut after, mut at_once) = (free.take(), free.take());
                     spans::until(f, g, *least, *most, window, &mut after);
                     if *least == 0 {
@@ -259,7 +291,8 @@ impl<'a> Binding<'a> {
         free.put(part);
     }
 
-    fn binary(
+    /// Both formulas; the second one only where the first one holds at some tick.
+    fn both(
         &self,
         (f, g): (&Formula, &Formula),
         values: &[Value],
@@ -269,8 +302,10 @@ impl<'a> Binding<'a> {
     ) {
         let (mut left, mut right) = (free.take(), free.take());
         self.ticks(f, values, window, &mut left, free);
-        self.ticks(g, values, window, &mut right, free);
-        then(&left, &right, free);
+        if !left.is_empty() {
+            self.ticks(g, values, window, &mut right, free);
+            then(&left, &right, free);
+        }
         free.put(left);
         free.put(right);
     }
@@ -292,68 +327,5 @@ impl<'a> Binding<'a> {
         free.put(part);
         free.put(without);
         free.put(before);
-    }
-}
-
-/// Calls `row` for each binding of present objects, in the order of FROM, with its ticks in the window. A variable
-/// may be held to one object.
-pub fn rows(
-    store: &Store,
-    query: &Query,
-    window: Span,
-    held: [Option<usize>; 4],
-    free: &mut Buffers,
-    mut row: impl FnMut(&[usize], &[Span]),
-) {
-    let mut spans = free.take();
-    bindings(store, query, window, held, |key, binding| {
-        spans.clear();
-        binding.judge(&query.formula, &mut spans, free);
-        row(key, &spans);
-    });
-    free.put(spans);
-}
-
-/// Calls `each` for each binding of present objects, in the order of FROM.
-pub fn bindings(
-    store: &Store,
-    query: &Query,
-    (from, last): Span,
-    held: [Option<usize>; 4],
-    mut each: impl FnMut(&[usize], &Binding),
-) {
-    let count = query.classes.len();
-    let range = |variable: usize| match held[variable] {
-        Some(place) => place..place + 1,
-        None => 0..store.classes[query.classes[variable]].names.len(),
-    };
-    let starts = [((0, 0), (0, 0)); 4];
-    let mut binding = Binding { store, cells: [&[]; 4], motions: [Motion::default(); 4], starts, first: from, last };
-    let mut places = [0; 4];
-    // one level for each variable; `places` has the next object of each
-    let mut level = 0;
-    places[0] = range(0).start;
-    loop {
-        if places[level] == range(level).end {
-            if level == 0 {
-                break;
-            }
-            level -= 1;
-            places[level] += 1;
-            continue;
-        }
-        let objects = &store.classes[query.classes[level]];
-        if !objects.present[places[level]] {
-            places[level] += 1;
-            continue;
-        }
-        binding.bind(level, objects.cells(places[level]), objects.motions[places[level]]);
-        if level + 1 < count {
-            level += 1;
-            places[level] = range(level).start;
-            continue;
-        }
-        each(&places[..count], &binding);
-        places[level] += 1;
     }
 }
