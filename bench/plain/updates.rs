@@ -444,6 +444,11 @@ struct Session {
 }
 
 impl Session {
+    /// Whether some query keeps the parts of its formula, which no removal ends.
+    fn keeps_parts(&self) -> bool {
+        self.watches.iter().any(|watch| watch.nodes.is_some())
+    }
+
     fn watch(&mut self, name: Word, span: u32, query: &grammar::Query, kept: bool) -> Result<Watch, Refusal> {
         let (query, faults) = resolve::resolve(&self.store.history, query, span);
         resolve::first(faults)?;
@@ -490,9 +495,7 @@ impl Session {
                     watch.pass(before, &self.store, out);
                 }
             }
-            Command::Remove(_) if self.watches.iter().any(|watch| watch.nodes.is_some()) => {
-                return Err(Refusal::BadSyntax);
-            }
+            Command::Remove(_) if self.keeps_parts() => return Err(Refusal::BadSyntax),
             command @ (Command::Insert(..) | Command::Update(..) | Command::Remove(_)) => {
                 let Some(written) = self.store.apply(command)? else { return Ok(()) };
                 for watch in &mut self.watches {

@@ -44,6 +44,7 @@ impl Session {
                 self.store.apply(command).map_err(drop)?;
                 self.watches.iter_mut().for_each(|watch| watch.advance(self.store.history.clock));
             }
+            Command::Remove(_) if self.keeps_parts() => return Err(()),
             _ => {
                 let Some(written) = self.store.apply(command).map_err(drop)? else { return Ok(()) };
                 self.watches.iter_mut().for_each(|watch| watch.renew(written, &self.store, &mut self.free));
