@@ -19,6 +19,13 @@ bounded n = if int_lt n least_unit then least_unit else (if int_lt greatest_unit
 abbrev pub unit : ℤ → ℤ
 unit n = bounded (int_div_euclid n (pos 1000))
 
+-- the unit of one number, and those of one place, in thousandths
+abbrev pub unit_of : ℤ → Extent
+unit_of n = record { least = unit n; greatest = unit n }
+
+abbrev pub spot : ℤ → ℤ → Patch
+spot x y = record { x = unit_of x; y = unit_of y }
+
 abbrev pub nowhere : Patch
 nowhere = record {
   x = record { least = greatest_unit; greatest = least_unit };

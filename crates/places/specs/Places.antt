@@ -1,5 +1,5 @@
 -- Four horizons, and which objects they tell to be near an area.
-use Rattle.std.specs.Prelude.{ℕ, ◌-◌, nat_le, nat_lt, Option, None, option_map, List, [], ◌∷◌, ◌++◌, find, length, take, if◌then◌else◌}
+use Rattle.std.specs.Prelude.{ℕ, ◌-◌, nat_le, nat_lt, Option, None, option_map, List, [], ◌∷◌, ◌++◌, find, length, slice_set, take, if◌then◌else◌}
 use Rattle.places.specs.declared.horizons.Places.{Places}
 use Rattle.places.specs.declared.horizons.Patches.{Patches}
 use Rattle.places.specs.declared.patch.Patch.{Patch}
@@ -14,9 +14,12 @@ no_places = record {
   longest = record { upto = 65536; patches = [] };
 }
 
--- a horizon with the patch of one more object, and without that of the last
+-- a horizon with the patch of one more object, with another one of an object, and without that of the last
 abbrev pub with_patch : Horizon → Patch → Horizon
 with_patch h patch = record h { patches = h.patches ++ patch ∷ [] }
+
+abbrev pub with_other : Horizon → ℕ → Patch → Horizon
+with_other h number patch = record h { patches = slice_set h.patches number patch }
 
 abbrev pub without_last : Horizon → Horizon
 without_last h = record h { patches = take (length h.patches - 1) h.patches }
@@ -27,6 +30,14 @@ pushed p patches = record p {
   middle = with_patch p.middle patches.middle;
   long = with_patch p.long patches.long;
   longest = with_patch p.longest patches.longest;
+}
+
+abbrev pub replaced : Places → ℕ → Patches → Places
+replaced p number patches = record p {
+  short = with_other p.short number patches.short;
+  middle = with_other p.middle number patches.middle;
+  long = with_other p.long number patches.long;
+  longest = with_other p.longest number patches.longest;
 }
 
 abbrev pub popped : Places → Places

@@ -1,7 +1,7 @@
 //! Four horizons of one set of objects.
 ghost use Rattle.std.specs.Prelude.{◌≡◌, ◌+◌, ◌-◌, ◌^◌, ◌<◌, ◌≤◌, ◌++◌, ◌∷◌, [], ℕ, length, nat_le, find, take, IfOk, OnOk, OnErr};
 ghost use Rattle.std.specs.Option.{option_copied, option_map};
-ghost use Rattle.places.specs.Places.{horizon_for, near_in, no_places, popped, pushed};
+ghost use Rattle.places.specs.Places.{horizon_for, near_in, no_places, popped, pushed, replaced};
 
 use crate::boxes::Boxes;
 use crate::patch::Patch;
@@ -90,6 +90,20 @@ impl Places {
             self.long.follow(&self.middle);
             self.longest.follow(&self.middle);
         }
+    }
+
+    /// Writes the patches of an object in place. It takes no memory.
+    pub fn set(&mut self, number: usize, patches: &Patches)
+        requires short { number < length self.old.short.patches }
+        requires middle { number < length self.old.middle.patches }
+        requires long { number < length self.old.long.patches }
+        requires longest { number < length self.old.longest.patches }
+        ensures { self.new ≡ replaced self.old number patches.now }
+    {
+        self.short.set(number, patches.short);
+        self.middle.set(number, patches.middle);
+        self.long.set(number, patches.long);
+        self.longest.set(number, patches.longest);
     }
 
     /// Takes the patches of the last object away. It takes no memory.

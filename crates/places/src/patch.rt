@@ -1,7 +1,7 @@
 //! Upright boxes of the plane, in whole units.
 ghost use Rattle.std.specs.Prelude.{◌≡◌};
 ghost use Rattle.std.specs.Option.{option_map_or};
-ghost use Rattle.places.specs.Patches.{everywhere, greatest_unit, joined, joined_extent, least_unit, meets, nowhere, overlap, unit};
+ghost use Rattle.places.specs.Patches.{everywhere, greatest_unit, joined, joined_extent, least_unit, meets, nowhere, overlap, spot, unit, unit_of};
 
 use fixed_point::Fix;
 
@@ -28,6 +28,18 @@ impl Extent {
         Extent {
             least: unit(least),
             greatest: unit(greatest),
+        }
+    }
+
+    /// The unit of one number, in thousandths.
+    #[inline]
+    fn at(number: Fix) -> Extent
+        ensures { result ≡ unit_of number }
+    {
+        let unit = unit(number);
+        Extent {
+            least: unit,
+            greatest: unit,
         }
     }
 
@@ -91,6 +103,17 @@ impl Patch {
         }
     }
 
+    /// The patch of one place, in thousandths.
+    #[inline]
+    pub fn at(x: Fix, y: Fix) -> Patch
+        ensures { result ≡ spot x y }
+    {
+        Patch {
+            x: Extent::at(x),
+            y: Extent::at(y),
+        }
+    }
+
     /// The whole plane.
     pub fn everywhere() -> Patch
         ensures { result ≡ everywhere }
@@ -110,7 +133,8 @@ impl Patch {
     }
 
     /// The least patch that has both.
-    pub(crate) fn joined(&self, other: &Patch) -> Patch
+    #[inline]
+    pub fn joined(&self, other: &Patch) -> Patch
         ensures { result ≡ joined self.now other.now }
     {
         Patch {
