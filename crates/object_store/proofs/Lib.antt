@@ -1,3 +1,4 @@
+pub mod AlongLemmas
 pub mod AreaLemmas
 pub mod Lists
 pub mod CellLemmas

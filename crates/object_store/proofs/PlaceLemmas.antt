@@ -16,12 +16,12 @@ use Rattle.places.specs.declared.horizons.Places.{Places}
 use Rattle.places.specs.declared.patch.Extent.{Extent}
 use Rattle.places.specs.declared.patch.Patch.{Patch}
 use Rattle.places.specs.Boxes.{Horizon, patch_at}
-use Rattle.places.specs.Places.{no_places, popped, pushed, with_patch, without_last}
+use Rattle.places.specs.Places.{no_places, popped, pushed, replaced, with_patch, without_last}
 use Rattle.places.specs.Patches.{nowhere, unit}
 use Rattle.places.proofs.CallerLemmas.{unit_rises}
 use Rattle.object_store.specs.AtIndex.{at_index, restored_at}
 use Rattle.object_store.specs.Contents.{StoredObject}
-use Rattle.object_store.specs.Placing.{AreOthersPlaced, ArePlaced, ArePlacedBut, ArePlacedIn, IsPlaced, IsWithin, LiesIn}
+use Rattle.object_store.specs.Placing.{AreOthersPlaced, ArePlaced, ArePlacedBut, ArePlacedIn, EndInTime, HavePatches, IsPlaced, IsWithin, LiesIn}
 
 -- ---- one object
 
@@ -195,13 +195,6 @@ all_popped p objects are = record {
   longest = placed_popped p.from p.longest objects are.longest;
 }
 
--- patches that tell of an object from a tick on
-pub record HavePatches (from : ℕ) (p : Places) (patches : Patches) (epochs : List Epoch) : Type 0 where
-  pub short : IsPlaced from p.short.upto patches.short epochs
-  pub middle : IsPlaced from p.middle.upto patches.middle epochs
-  pub long : IsPlaced from p.long.upto patches.long epochs
-  pub longest : IsPlaced from p.longest.upto patches.longest epochs
-
 pub all_pushed : (from : ℕ) (p : Places) (objects : List StoredObject) (patches : Patches) (last : StoredObject) → p.from ≤ from → slice_get objects (length objects - 1) ≡ Some last
     → ArePlaced p (take (length objects - 1) objects) → HavePatches from p patches last.epochs → ArePlaced (record (pushed p patches) { from = from }) objects
 all_pushed from p objects patches last later there are new = record {
@@ -210,6 +203,21 @@ all_pushed from p objects patches last later there are new = record {
   long = placed_pushed p.from from p.long objects patches.long last later there are.long new.long;
   longest = placed_pushed p.from from p.longest objects patches.longest last later there are.longest new.longest;
 }
+
+pub all_set : (index from : ℕ) (p : Places) (objects : List StoredObject) (patches : Patches) (at : StoredObject) → p.from ≤ from → slice_get objects index ≡ Some at
+    → AreOthersPlaced index p objects → HavePatches from p patches at.epochs → ArePlaced (record (replaced p index patches) { from = from }) objects
+all_set index from p objects patches at later there are new = record {
+  short = placed_set index from p.short objects patches.short at (others_later index p.from from p.short objects later are.short) there new.short;
+  middle = placed_set index from p.middle objects patches.middle at (others_later index p.from from p.middle objects later are.middle) there new.middle;
+  long = placed_set index from p.long objects patches.long at (others_later index p.from from p.long objects later are.long) there new.long;
+  longest = placed_set index from p.longest objects patches.longest at (others_later index p.from from p.longest objects later are.longest) there new.longest;
+}
+
+pub others_end : (index : ℕ) (p : Places) (objects : List StoredObject) → AreOthersPlaced index p objects → EndInTime p
+others_end index p objects are = record { short = are.short.tick; middle = are.middle.tick; long = are.long.tick; longest = are.longest.tick }
+
+pub all_end : (p : Places) (objects : List StoredObject) → ArePlaced p objects → EndInTime p
+all_end p objects are = record { short = are.short.tick; middle = are.middle.tick; long = are.long.tick; longest = are.longest.tick }
 
 pub none_placed : (from upto : ℕ) → upto ≤ LAST_TICK → ArePlacedIn from (record { upto = upto; patches = [] }) []
 none_placed from upto tick = record { tick = tick; long = refl; each = λ k o is. absurd (none-some o is) }

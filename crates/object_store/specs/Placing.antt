@@ -1,16 +1,19 @@
 -- What the patches of objects tell of where these are.
-use Rattle.std.specs.Prelude.{◌≡◌, ℕ, ◌==◌, ◌≤◌, ◌≤ℤ◌, Bool, false, Option, None, Some, List, length, slice_get}
+use Rattle.std.specs.Prelude.{◌≡◌, ℕ, pos, ◌+◌, ◌-◌, ◌*◌, ◌==◌, ◌≤◌, ◌≤ℤ◌, ◌+ℤ◌, ◌*ℤ◌, unsigned_abs, Bool, false, Option, None, Some, List, length, slice_get}
 use Rattle.std.specs.Option.{option_map_or}
+use Rattle.fixed_point.specs.declared.number.TheConstants.{READ_LIMIT, SLOPE_LIMIT}
 use Rattle.tick_set.specs.declared.spans.TheConstants.{LAST_TICK}
 use Rattle.motion.specs.declared.cell.Cell.{Cell}
 use Rattle.motion.specs.declared.cell.Cell.TheVariants as cells
+use Rattle.motion.specs.declared.straight.Straight.{Straight}
 use Rattle.motion.specs.Dynamic.{value_at}
 use Rattle.motion.specs.Timeline.{Epoch, state_at}
+use Rattle.places.specs.declared.horizons.Patches.{Patches}
 use Rattle.places.specs.declared.horizons.Places.{Places}
 use Rattle.places.specs.declared.patch.Extent.{Extent}
 use Rattle.places.specs.declared.patch.Patch.{Patch}
 use Rattle.places.specs.Boxes.{Horizon, patch_at}
-use Rattle.places.specs.Patches.{greatest_unit, least_unit, unit}
+use Rattle.places.specs.Patches.{greatest_unit, least_unit, spot, unit}
 use Rattle.object_store.specs.declared.areas.Area.{Area}
 use Rattle.object_store.specs.declared.areas.Sides.{Sides}
 use Rattle.object_store.specs.Contents.{Contents, StoredObject}
@@ -35,6 +38,29 @@ LiesIn patch t (Some there) = IsWithin patch.x t (slice_get there 0) × IsWithin
 -- an object is in a patch, or absent, at each tick of some
 abbrev pub IsPlaced : (from upto : ℕ) → Patch → List Epoch → Type 0
 IsPlaced from upto patch epochs = (t : ℕ) → from ≤ t → t ≤ upto → LiesIn patch t (state_at epochs t)
+
+-- Patches tell where an object is from a tick to the end of each horizon.
+pub record HavePatches (from : ℕ) (p : Places) (patches : Patches) (epochs : List Epoch) : Type 0 where
+  pub short : IsPlaced from p.short.upto patches.short epochs
+  pub middle : IsPlaced from p.middle.upto patches.middle epochs
+  pub long : IsPlaced from p.long.upto patches.long epochs
+  pub longest : IsPlaced from p.longest.upto patches.longest epochs
+
+-- The horizons end by the last tick.
+pub record EndInTime (p : Places) : Type 0 where
+  pub short : p.short.upto ≤ LAST_TICK
+  pub middle : p.middle.upto ≤ LAST_TICK
+  pub long : p.long.upto ≤ LAST_TICK
+  pub longest : p.longest.upto ≤ LAST_TICK
+
+-- the units of the place of a line at a tick
+abbrev pub spot_at : Straight → ℕ → Patch
+spot_at line t = spot (line.x +ℤ line.dx *ℤ pos (t - line.from)) (line.y +ℤ line.dy *ℤ pos (t - line.from))
+
+-- A line begins where updates can have led by then.
+pub record IsReached (line : Straight) : Type 0 where
+  pub x : unsigned_abs line.x ≤ READ_LIMIT + SLOPE_LIMIT * line.from
+  pub y : unsigned_abs line.y ≤ READ_LIMIT + SLOPE_LIMIT * line.from
 
 -- A horizon tells where each object is from a tick on, but maybe that of an index.
 pub record ArePlacedBut (index from : ℕ) (h : Horizon) (objects : List StoredObject) : Type 0 where

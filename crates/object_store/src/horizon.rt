@@ -1,4 +1,4 @@
-//! Where the objects of a store can be, for one horizon.
+//! Where the objects of a store can be, over the ticks of a horizon.
 ghost use Rattle.std.specs.Prelude.{◌≡◌, ◌<◌, ◌≤◌, ℕ, All, IfSome, Some, length};
 ghost use Rattle.std.specs.Option.{option_copied};
 ghost use Rattle.indexmap.specs.IndexMap.{index_map_len};
@@ -7,23 +7,13 @@ ghost use Rattle.motion.specs.Cells.{IsCellAt};
 ghost use Rattle.motion.specs.Timeline.{AreBegunBy};
 ghost use Rattle.tick_set.specs.declared.spans.TheConstants.{LAST_TICK};
 ghost use Rattle.object_store.specs.ObjectView.{objects_of};
-ghost use Rattle.object_store.specs.Placing.{ArePlacedBut, ArePlacedIn, IsPlaced, IsWithin, LiesIn};
+ghost use Rattle.object_store.specs.Placing.{ArePlacedIn, EndInTime, HavePatches, IsPlaced, IsWithin, LiesIn};
 
+use crate::along::{patch_along, patches_along};
 use crate::objects::{Object, Objects};
 use motion::{Cell, Epoch, Vector};
-use places::{Boxes, Extent, Patch};
+use places::{Boxes, Extent, Patch, Patches, Places};
 use tick_set::LAST_TICK;
-
-/// Writes the patch of the object of an index, for the ticks from `from` on.
-pub fn set_patch(boxes: &mut Boxes, objects: &Objects, index: usize, from: u32)
-    requires index { index < index_map_len objects.now }
-    requires begun { All (λ o. AreBegunBy o.epochs from) (objects_of objects.now.entries) }
-    requires others { ArePlacedBut index from boxes.old (objects_of objects.now.entries) }
-    ensures { ArePlacedIn from boxes.new (objects_of objects.now.entries) }
-{
-    let patch = objects[index].patch(from, boxes.upto());
-    boxes.set(index, patch);
-}
 
 /// Makes all patches anew, for the ticks from `from` to `upto`.
 pub fn renew_patches(boxes: &mut Boxes, objects: &Objects, from: u32, upto: u32)
@@ -40,15 +30,50 @@ pub fn renew_patches(boxes: &mut Boxes, objects: &Objects, from: u32, upto: u32)
 }
 
 impl Object {
+    /// Patches in which it is from the tick `from`, by which its last epoch has begun, to the end of each horizon.
+    pub fn patches(&self, places: &Places, from: u32) -> Patches
+        requires begun { AreBegunBy self.now.timeline from }
+        requires ends { EndInTime places.now }
+        ensures { HavePatches from places.now result self.now.timeline }
+    {
+        match self.timeline.straight() {
+            Some(line) => patches_along(line, places, from),
+            None => self.patches_by_epoch(places, from),
+        }
+    }
+
+    /// The same by the last epoch.
+    fn patches_by_epoch(&self, places: &Places, from: u32) -> Patches
+        requires begun { AreBegunBy self.now.timeline from }
+        requires ends { EndInTime places.now }
+        ensures { HavePatches from places.now result self.now.timeline }
+    {
+        Patches {
+            short: self.patch_by_epoch(from, places.short.upto()),
+            middle: self.patch_by_epoch(from, places.middle.upto()),
+            long: self.patch_by_epoch(from, places.long.upto()),
+            longest: self.patch_by_epoch(from, places.longest.upto()),
+        }
+    }
+
     /// A patch in which it is at each tick from `from` to `upto`, unless it is absent. Its last epoch has begun by then.
     pub fn patch(&self, from: u32, upto: u32) -> Patch
         requires begun { AreBegunBy self.now.timeline from }
         requires tick { upto ≤ LAST_TICK }
         ensures { IsPlaced from upto result self.now.timeline }
     {
-        if upto < from {
-            return Patch::nowhere();
+        match self.timeline.straight() {
+            Some(line) => patch_along(line, from, upto),
+            None => self.patch_by_epoch(from, upto),
         }
+    }
+
+    /// The same by the last epoch.
+    fn patch_by_epoch(&self, from: u32, upto: u32) -> Patch
+        requires begun { AreBegunBy self.now.timeline from }
+        requires tick { upto ≤ LAST_TICK }
+        ensures { IsPlaced from upto result self.now.timeline }
+    {
         match self.timeline.last() {
             Some(epoch) => patch_of(epoch, from, upto),
             None => Patch::nowhere(),
@@ -56,14 +81,13 @@ impl Object {
     }
 }
 
-/// A patch in which an object is while an epoch is in force, unless it is absent.
+/// A patch in which an object is, unless it is absent, at each tick from `from` to `upto`, while an epoch is in force.
 fn patch_of(epoch: &Epoch, from: u32, upto: u32) -> Patch
     requires begun { epoch.now.from ≤ from }
-    requires order { from ≤ upto }
     requires tick { upto ≤ LAST_TICK }
     ensures { (t : ℕ) → from ≤ t → t ≤ upto → LiesIn result t epoch.now.cells }
 {
-    if !epoch.is_present() {
+    if upto < from || !epoch.is_present() {
         return Patch::nowhere();
     }
     let begun = epoch.from();

@@ -5,6 +5,7 @@
 //! changes nothing.
 #![tactic(auto)]
 
+mod along;
 mod areas;
 mod candidates;
 mod cells;

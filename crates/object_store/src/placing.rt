@@ -1,5 +1,5 @@
 //! Writes to a store, with the patches of the object that is written.
-ghost use Rattle.std.specs.Prelude.{◌≡◌, ◌<◌, ◌≤◌, ◌-◌, ◌^◌, All, IfErr, IfOk, OnErr, OnOk, is_some, length, take};
+ghost use Rattle.std.specs.Prelude.{◌≡◌, ◌<◌, ◌≤◌, ◌-◌, ◌^◌, All, IfErr, IfOk, OnErr, OnOk, false, is_some, length, take};
 ghost use Rattle.indexmap.specs.IndexMap.{index_map_len};
 ghost use Rattle.motion.specs.Timeline.{AreBegunBy};
 ghost use Rattle.tick_set.specs.declared.spans.TheConstants.{LAST_TICK};
@@ -10,17 +10,16 @@ ghost use Rattle.object_store.specs.Effects.{after_insert, after_remove, after_u
 ghost use Rattle.object_store.specs.Faults.{insert_fault, remove_fault, update_fault};
 ghost use Rattle.object_store.specs.Invariant.{IsKept, Writes};
 ghost use Rattle.object_store.specs.ObjectView.{objects_of};
-ghost use Rattle.object_store.specs.Placing.{AreOthersPlaced, ArePlaced, IsPlaced};
+ghost use Rattle.object_store.specs.Placing.{AreOthersPlaced, ArePlaced};
 ghost use Rattle.object_store.specs.Tables.{contents_of, members_of, IsJudged, IsUnchanged};
 ghost use Rattle.object_store.specs.TakingBack.{undone, IsRevertible};
 
 use crate::fault::StoreFault;
-use crate::horizon::set_patch;
-use crate::objects::{Done, Object, Objects, Undo};
+use crate::objects::{Done, Objects, Undo};
 use crate::tables::Tables;
 use fixed_point::Word;
 use motion::{NamedSet, Place};
-use places::{Patches, Places};
+use places::Places;
 use std::alloc::AllocError;
 use tick_set::LAST_TICK;
 
@@ -74,7 +73,8 @@ pub fn update_placed(
     ensures placed { ArePlaced places.new (contents_of tables.new).objects }
 {
     let done = tables.update(now, name, place, sets)?;
-    placed(tables, places, done)
+    place_known(tables, places, &done.undo);
+    Ok(done)
 }
 
 /// Removes an object.
@@ -96,7 +96,8 @@ pub fn remove_placed(
     ensures placed { ArePlaced places.new (contents_of tables.new).objects }
 {
     let done = tables.remove(now, name)?;
-    placed(tables, places, done)
+    place_known(tables, places, &done.undo);
+    Ok(done)
 }
 
 /// Writes the patches of the object that a call wrote. Where there is no memory for them, the call is taken back.
@@ -131,9 +132,20 @@ fn place(tables: &Tables, places: &mut Places, undo: &Undo) -> Result<(), AllocE
     if undo.is_new {
         push_patches(places, &tables.objects, tables.last_tick)
     } else {
-        set_patches(places, &tables.objects, undo.id as usize, tables.last_tick);
+        place_known(tables, places, undo);
         Ok(())
     }
+}
+
+/// Writes the patches of an object whose name was known, by how its write is taken back. That takes no memory.
+fn place_known(tables: &Tables, places: &mut Places, undo: &Undo)
+    requires kept { IsKept (members_of tables.now) (contents_of tables.now) }
+    requires revertible { IsRevertible undo.now (contents_of tables.now) }
+    requires known { undo.now.is_new ≡ false }
+    requires placed { ArePlaced places.old (undone undo.now (contents_of tables.now)).objects }
+    ensures { ArePlaced places.new (contents_of tables.now).objects }
+{
+    set_patches(places, &tables.objects, undo.id as usize, tables.last_tick);
 }
 
 /// Writes the patches of the object of an index. No object has been written after the tick.
@@ -144,11 +156,9 @@ fn set_patches(places: &mut Places, objects: &Objects, index: usize, tick: u32)
     ensures { ArePlaced places.new (objects_of objects.now.entries) }
 {
     let from = places.from.max(tick);
+    let patches = objects[index].patches(places, from);
+    places.set(index, &patches);
     places.from = from;
-    set_patch(&mut places.short, objects, index, from);
-    set_patch(&mut places.middle, objects, index, from);
-    set_patch(&mut places.long, objects, index, from);
-    set_patch(&mut places.longest, objects, index, from);
 }
 
 /// Appends the patches of the last object. No object has been written after the tick.
@@ -161,31 +171,10 @@ fn push_patches(places: &mut Places, objects: &Objects, tick: u32) -> Result<(),
     ensures err { OnErr result (places.new ≡ places.old) }
 {
     let from = places.from.max(tick);
-    let last = &objects[objects.len() - 1];
-    let patches = patches_of(places, last, from);
+    let patches = objects[objects.len() - 1].patches(places, from);
     places.push(&patches)?;
     places.from = from;
     Ok(())
-}
-
-/// The patches of an object, whose last epoch has begun by the tick `from`, for the ticks from there on.
-fn patches_of(places: &Places, object: &Object, from: u32) -> Patches
-    requires begun { AreBegunBy object.now.timeline from }
-    requires short { places.now.short.upto ≤ LAST_TICK }
-    requires middle { places.now.middle.upto ≤ LAST_TICK }
-    requires long { places.now.long.upto ≤ LAST_TICK }
-    requires longest { places.now.longest.upto ≤ LAST_TICK }
-    ensures short { IsPlaced from places.now.short.upto result.short object.now.timeline }
-    ensures middle { IsPlaced from places.now.middle.upto result.middle object.now.timeline }
-    ensures long { IsPlaced from places.now.long.upto result.long object.now.timeline }
-    ensures longest { IsPlaced from places.now.longest.upto result.longest object.now.timeline }
-{
-    Patches {
-        short: object.patch(from, places.short.upto()),
-        middle: object.patch(from, places.middle.upto()),
-        long: object.patch(from, places.long.upto()),
-        longest: object.patch(from, places.longest.upto()),
-    }
 }
 
 /// Takes a write to an object back.

@@ -266,6 +266,7 @@ impl Tables {
             (after_update (contents_of self.old) now name.now place.now sets.now) (members_of self.new) (contents_of self.new)) }
         ensures judged { IsJudged (update_fault (catalog_of (contents_of self.old))
             (is_some (state_of (contents_of self.old) name.now now)) name.now place.now sets.now) result }
+        ensures known { IfOk result (λ done. done.undo.is_new ≡ false) }
         ensures err { OnErr result (IsUnchanged self.old self.new) }
     {
         let Some(at) = index_of(&self.objects, name) else {
@@ -314,6 +315,7 @@ impl Tables {
         requires name { position (is_named name.now) (contents_of self.old).objects ≡ Some at }
         ensures ok { IfOk result (Writes name.now (contents_of self.old)
             (after_update (contents_of self.old) now name.now place.now sets.now) (members_of self.new) (contents_of self.new)) }
+        ensures known { IfOk result (λ done. done.undo.is_new ≡ false) }
         ensures err { OnErr result (IsUnchanged self.old self.new) }
     {
         let kind = self.schema.class(self.objects[at].class).unwrap();
@@ -332,6 +334,7 @@ impl Tables {
         ensures ok { IfOk result (Writes name.now (contents_of self.old)
             (after_remove (contents_of self.old) now name.now) (members_of self.new) (contents_of self.new)) }
         ensures judged { IsJudged (remove_fault (catalog_of (contents_of self.old)) (is_some (state_of (contents_of self.old) name.now now)) name.now) result }
+        ensures known { IfOk result (λ done. done.undo.is_new ≡ false) }
         ensures err { OnErr result (IsUnchanged self.old self.new) }
     {
         let Some(at) = index_of(&self.objects, name) else {
@@ -366,6 +369,7 @@ impl Tables {
         requires name { position (is_named name.now) (contents_of self.old).objects ≡ Some at }
         ensures ok { IfOk result (Writes name.now (contents_of self.old)
             (after_remove (contents_of self.old) now name.now) (members_of self.new) (contents_of self.new)) }
+        ensures known { IfOk result (λ done. done.undo.is_new ≡ false) }
         ensures err { OnErr result (IsUnchanged self.old self.new) }
     {
         let replaced = vanish_at(&mut self.objects, at, now)?;

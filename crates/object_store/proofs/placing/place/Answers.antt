@@ -1,27 +1,7 @@
-use Rattle.std.proofs.Common.{◌-◌, length, take, subst, arith, if◌then◌else◌}
-use Rattle.std.proofs.lemmas.List.{length-map}
-use Rattle.std.proofs.lemmas.Option.{slice_get_within}
-use Rattle.object_store.specs.AtIndex.{restored_at}
-use Rattle.object_store.specs.ObjectView.{objects_of, stored}
-use Rattle.object_store.specs.Placing.{ArePlaced}
+use Rattle.std.proofs.Common.{arith}
 use Rattle.object_store.specs.Tables.{contents_of}
-use Rattle.object_store.specs.TakingBack.{IsLeft}
-use Rattle.object_store.proofs.PlaceLemmas.{all_others_before}
 use Rattle.object_store.proofs.SizeLemmas.{few_objects}
 use Rattle.object_store.proofs.placing.place.Goals as goal
 
 pub push_patches-requires-clause-few : goal.push_patches-requires-clause-few
 push_patches-requires-clause-few c = omega (arith, few_objects (contents_of c.args.tables.now) c.requires.kept.sound)
-
-pub set_patches-requires-clause-index : goal.set_patches-requires-clause-index
-set_patches-requires-clause-index c =
-    let objects = objects_of c.args.tables.now.objects.entries in
-    let left = subst (λ b. IsLeft b c.args.undo.now objects) c.if-undo.false c.requires.revertible.left in
-    omega (arith, slice_get_within objects c.args.undo.now.id left.0 left.1, length-map c.args.tables.now.objects.entries stored)
-
-pub set_patches-requires-clause-others : goal.set_patches-requires-clause-others
-set_patches-requires-clause-others c =
-    let objects = objects_of c.args.tables.now.objects.entries in
-    all_others_before c.args.undo.now.id c.args.undo.now.replaced c.args.places.now objects
-    (subst (λ b. ArePlaced c.args.places.now (if b then take (length objects - 1) objects else restored_at c.args.undo.now.id c.args.undo.now.replaced objects)) c.if-undo.false
-    c.requires.placed)
