@@ -1,4 +1,4 @@
--- Relations that get one row after another.
+-- For this crate and for the crates above: relations that get one row after another.
 use Rattle.std.proofs.Common.{◌≡◌, ℕ, zero, suc, ◌+◌, ◌<◌, Bool, true, false, ◌&&◌, ◌||◌, nat_lt, List, [], ◌∷◌, ◌++◌, length, get_or, take, map, refl, sym, ap, ◌∙◌, subst, arith}
 use Rattle.std.specs.List.{flat_map, list_all}
 use Rattle.std.specs.List.Sorted.{IsStrictlyIncreasing}
