@@ -2,6 +2,7 @@ pub mod AnswerLemmas
 pub mod AskLemmas
 pub mod NarrowLemmas
 pub mod ObjectLemmas
+pub mod PairLemmas
 pub mod ProductLemmas
 pub mod QueryLemmas
 pub mod ReadLemmas

@@ -19,12 +19,14 @@ ghost use Rattle.atoms.specs.Asked.{world_in};
 ghost use Rattle.answers.specs.Objects.{AreOfItsClasses, IsOfAcceptedWrites};
 
 use crate::laws::fitting_queries_can_be_asked;
-use atoms::StoredWorld;
+use atoms::{StoredWorld, resolved_atoms_and_terms_are_sized};
 use evaluator::{full_rows, ticks_alone};
 use formula::RQuery;
 use interval_set::IntervalSet;
+use meaning::atoms_of_absent_objects_are_false;
 use narrowing::{can_hold, can_hold_alone, narrowed};
 use object_store::Store;
+use pairs::{Scene, distance_of, rows_of_pairs};
 use polygon::Regions;
 use relation::{Domains, Relation};
 use std::alloc::{AllocError, Global};
@@ -120,6 +122,13 @@ fn evaluate_all<'d, L: Ledger, M: Ledger>(
 {
     fitting_queries_can_be_asked();
     let world = StoredWorld { store, regions };
+    if let Some(distance) = distance_of(q) {
+        resolved_atoms_and_terms_are_sized();
+        atoms_of_absent_objects_are_false();
+        let scene = Scene { distance, world, w };
+        let near = rows_of_pairs(alloc, &scene, d, reads, probes)?;
+        return Ok(near);
+    }
     let rows = full_rows(alloc, &world, q, d, w, reads, probes)?;
     Ok(rows)
 }

@@ -1,0 +1,2 @@
+pub mod FarLemmas
+pub mod PairLemmas
