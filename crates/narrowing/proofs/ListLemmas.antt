@@ -13,7 +13,7 @@ use Rattle.relation.proofs.SearchLemmas.{numbers_rise}
 
 -- ---- a binary search
 
-has_at : (ids : List ℕ) (k id : ℕ) → k < length ids → get_or ids k 0 ≡ id → has_id ids id ≡ true
+pub has_at : (ids : List ℕ) (k id : ℕ) → k < length ids → get_or ids k 0 ≡ id → has_id ids id ≡ true
 has_at [] k id within is = absurd (omega (arith, within))
 has_at (x ∷ ids) zero id within is = grind (arith, nat_tests, is)
 has_at (x ∷ ids) (suc k) id within is = or_right (x == id) (has_id ids id) (has_at ids k id (omega (arith, within)) is)

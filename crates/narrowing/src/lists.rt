@@ -1,5 +1,5 @@
 //! Ascending lists of ids.
-ghost use Rattle.std.specs.Prelude.{◌≡◌, ℕ, ◌||◌, ◌++◌, ◌∷◌, [], Some, IfOk, IfSome, OnOk};
+ghost use Rattle.std.specs.Prelude.{◌≡◌, ℕ, true, ◌||◌, ◌++◌, ◌∷◌, [], Some, IfOk, IfSome, IsTrue, OnOk};
 ghost use Rattle.std.specs.List.{filter};
 ghost use Rattle.std.specs.List.Sorted.{IsStrictlyIncreasing};
 ghost use Rattle.relation.specs.Key.{has_id};
@@ -34,7 +34,24 @@ fn has(ids: &[u32], id: u32) -> bool
     requires { IsStrictlyIncreasing ids.now }
     ensures { result ≡ has_id ids.now id }
 {
+    if stands_in_turn(ids, id) {
+        return true;
+    }
     ids.binary_search(&id).is_ok()
+}
+
+/// Whether an id stands where it would if no number were left out between the first id and it, as in most classes.
+fn stands_in_turn(ids: &[u32], id: u32) -> bool
+    ensures { IsTrue result → has_id ids.now id ≡ true }
+{
+    if ids.is_empty() || id < ids[0] {
+        return false;
+    }
+    let place = (id - ids[0]) as usize;
+    if ids.len() <= place {
+        return false;
+    }
+    ids[place] == id
 }
 
 /// The ids of two lists, ascending and each once.
