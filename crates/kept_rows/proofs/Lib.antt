@@ -1,5 +1,6 @@
 pub mod ChangeLemmas
 pub mod FilledLemmas
+pub mod FlagLemmas
 pub mod HeldLemmas
 pub mod LawLemmas
 pub mod ListingLemmas

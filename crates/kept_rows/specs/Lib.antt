@@ -2,6 +2,7 @@ pub mod Changes
 pub mod Exact
 pub mod Example
 pub mod Filled
+pub mod Flags
 pub mod Listing
 pub mod Moves
 pub mod Numbers

@@ -5,6 +5,7 @@
 mod binding;
 mod change;
 mod filled;
+mod flags;
 mod held;
 mod laws;
 mod listing;

@@ -8,6 +8,7 @@ ghost use Rattle.kept_rows.specs.Turning.{AreAlike, IsNextTurn};
 
 use crate::change::spare_page;
 use crate::filled::Filled;
+use crate::flags::Flags;
 use crate::marks::Marks;
 use crate::page::{PAGE, Page};
 use crate::slots::Slots;
@@ -24,6 +25,8 @@ pub struct KeptRows<S: TickSet> {
     pages: Vec<Page<S>>,
     // Which groups of numbers may have a row.
     filled: Filled,
+    // Which numbers have a row with ticks.
+    flags: Flags,
     // Lent for a number whose page isn't made.
     nothing: S,
     // Until when the rows stay as they are: what time passes over.
@@ -35,6 +38,7 @@ pub struct KeptRows<S: TickSet> {
 impl<S: TickSet> Model for KeptRows<S> {
     ghost use Rattle.std.specs.Prelude.{◌≡◌, ◌*◌, ℕ, List, false, length};
     ghost use Rattle.kept_rows.specs.Filled.{AreFilled};
+    ghost use Rattle.kept_rows.specs.Flags.{AreFlagged};
     ghost use Rattle.kept_rows.specs.Rows.{row_has};
     ghost use Rattle.kept_rows.specs.Slots.{AreMarked};
     ghost use Rattle.kept_rows.specs.Turning.{AreSteady};
@@ -47,11 +51,12 @@ impl<S: TickSet> Model for KeptRows<S> {
         × (length a.turns.pages.items ≡ length a.pages.items)
         × AreSteady (row_has S.member a.pages.items) a.turns
         × AreFilled (row_has S.member a.pages.items) a.filled
-        × AreMarked (row_has S.member a.pages.items) a.marks };
+        × AreMarked (row_has S.member a.pages.items) a.marks
+        × AreFlagged (row_has S.member a.pages.items) a.flags };
 }
 
 impl<S: TickSet> KeptRows<S> {
-    /// A table for the numbers below `size`, without rows. It takes some 1.8 bytes for each number.
+    /// A table for the numbers below `size`, without rows. It takes some 1.9 bytes for each number.
     pub fn new(alloc: Global, size: u32) -> Result<KeptRows<S>, AllocError>
         ensures room { IfOk result (λ rows. HasRoom rows size) }
         ensures none { IfOk result (λ rows. (c t : ℕ) → row_has S.member rows c t ≡ false) }
@@ -59,9 +64,11 @@ impl<S: TickSet> KeptRows<S> {
         let pages = unmade(alloc, size as usize / PAGE + 1)?;
         let turns = Turns::new(alloc, pages.len())?;
         let filled = Filled::new(alloc, pages.len() * PAGE)?;
+        let flags = Flags::new(alloc, pages.len() * PAGE)?;
         Ok(KeptRows {
             pages,
             filled,
+            flags,
             nothing: S::empty(alloc),
             turns,
             marks: Marks::none(alloc),
@@ -78,6 +85,14 @@ impl<S: TickSet> KeptRows<S> {
             Some(page) => page.get(at % PAGE).unwrap_or(&self.nothing),
             None => &self.nothing,
         }
+    }
+
+    /// Whether the row of a number has no tick, as a flag tells without a look at the row.
+    #[inline]
+    pub fn is_clear(&self, number: u32) -> bool
+        ensures { result ≡ true → (t : ℕ) → row_has S.member self.now number t ≡ false }
+    {
+        self.flags.is_unset(number)
     }
 
     /// The first of the numbers from `from` up to `to`, without `to`, whose row has a tick.
@@ -158,7 +173,9 @@ impl<S: Turning> KeptRows<S> {
         let end = ticks.steady_until(self.turns.seen);
         let at = number as usize;
         self.turns.lower(number, end);
-        self.filled.note(at, !ticks.is_empty());
+        let has_ticks = !ticks.is_empty();
+        self.filled.note(at, has_ticks);
+        self.flags.note(number, has_ticks);
         let page = &mut self.pages[at / PAGE];
         page.put(at % PAGE, ticks, spare);
         self.marks.renew(&self.pages, at / PAGE);

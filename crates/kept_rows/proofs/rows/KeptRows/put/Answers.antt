@@ -4,6 +4,7 @@ use Rattle.std.proofs.lemmas.List.{get_or_default}
 use Rattle.kept_rows.specs.Rows.{row_has}
 use Rattle.kept_rows.specs.Slots.{AreMarked}
 use Rattle.kept_rows.proofs.FilledLemmas.{filled-alike}
+use Rattle.kept_rows.proofs.FlagLemmas.{flagged_alike}
 use Rattle.kept_rows.proofs.PageLemmas.{other_page, row_has-put}
 use Rattle.kept_rows.proofs.SteadyLemmas.{steady-alike}
 use Rattle.kept_rows.proofs.rows.KeptRows.put.Goals as goal
@@ -29,9 +30,11 @@ invariant_of-self g c =
       len ∙ sym (length-set c.self.inside.pages.items (c.args.number / 16) c.put.new.self),
       steady-alike after _ c.lower.new.self written (c.lower.ensures.steady rows (member c.args.ticks) c.self.invariant.2 c.steady_until-end.ensures),
       filled-alike after _ c.note.new.self written
-          (c.note.ensures rows (member c.args.ticks) c.self.invariant.3 (λ e. c.is_empty.ensures.0 (grind (arith, not-false, e)))),
+          (c.note.ensures rows (member c.args.ticks) c.self.invariant.3 (λ e. c.is_empty-has_ticks.ensures.0 (grind (arith, not-false, e)))),
       subst (λ xs. AreMarked (row_has member xs) c.renew.new.self) c.deref.ensures.value
           (c.renew.ensures rows c.self.invariant.4 (λ n t other.
           ap (λ xs. row_has member xs n t) c.deref.ensures.value ∙ written n t
           ∙ ap (λ b. if b then member c.args.ticks t else rows n t) (other_page n c.args.number other))),
+      flagged_alike after _ c.note-2.new.self.words.items written
+          (c.note-2.ensures rows (member c.args.ticks) c.self.invariant.5 (λ e. c.is_empty-has_ticks.ensures.0 (grind (arith, not-false, e)))),
     )
