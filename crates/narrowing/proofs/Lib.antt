@@ -5,3 +5,4 @@ pub mod HoldingLemmas
 pub mod BesideLemmas
 pub mod ShareLemmas
 pub mod ReachLemmas
+pub mod WhereaboutsLemmas

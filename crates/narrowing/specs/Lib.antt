@@ -5,3 +5,4 @@ pub mod Holding
 pub mod Beside
 pub mod Narrowed
 pub mod Reaching
+pub mod Whereabouts

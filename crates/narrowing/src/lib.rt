@@ -14,6 +14,8 @@ mod needed;
 mod reaching;
 mod scene;
 mod terms;
+mod whereabouts;
 
 pub use domains::{narrowed, narrowed_within};
 pub use holding::{can_hold, can_hold_alone};
+pub use whereabouts::can_hold_at;
