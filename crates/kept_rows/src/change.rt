@@ -82,6 +82,9 @@ impl<S: TickSet> Changes<S> {
             ≡ (if c == number && nat_le from t then S.member ticks.now t else after S.member self.old (row_has S.member kept.now) c t)) }
         ensures err { OnErr result (self.new ≡ self.old) }
     {
+        if are_none(kept, number, ticks) {
+            return Ok(());
+        }
         match other_row(alloc, kept.row(number), from, ticks)? {
             Some(ticks) => {
                 let spare = spare_page(alloc, kept, number)?;
@@ -111,6 +114,15 @@ impl<S: Turning> Changes<S> {
             kept.put(change.number, change.ticks, change.spare);
         }
     }
+}
+
+// Whether there are no ticks and the row of a number is empty, as its flag tells without a look at the row.
+#[inline]
+fn are_none<S: TickSet>(kept: &KeptRows<S>, number: u32, ticks: &S) -> bool
+    ensures row { result ≡ true → (t : ℕ) → row_has S.member kept.now number t ≡ false }
+    ensures ticks { result ≡ true → (t : ℕ) → S.member ticks.now t ≡ false }
+{
+    ticks.is_empty() && kept.is_clear(number)
 }
 
 // A row with these ticks from tick `from` on, if that makes it another one. What stands before `from` is copied only

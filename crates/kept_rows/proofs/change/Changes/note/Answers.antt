@@ -1,4 +1,4 @@
-use Rattle.std.proofs.Common.{◌≡◌, ℕ, ◌+◌, ap, sym, ◌∙◌, subst, arith, if◌then◌else◌}
+use Rattle.std.proofs.Common.{◌≡◌, ℕ, ◌+◌, Bool, true, false, ap, refl, sym, ◌∙◌, subst, arith, if◌then◌else◌}
 use Rattle.std.specs.Prelude.{IfNone, IfSome, Option, nat_le}
 use Rattle.std.proofs.lemmas.List.Elements.{All-push}
 use Rattle.kept_rows.specs.declared.change.Change.{Change}
@@ -40,3 +40,17 @@ returns-in-None-clause-rows g c =
     row-noted g.S.TickSet.member c.args.self.now (row_has g.S.TickSet.member c.args.kept.now) c.args.number c.args.from (g.S.TickSet.member c.args.ticks.now)
     (rising-below 0 c.args.number c.args.self.now c.requires.rising)
     (λ t. ap (λ b. if nat_le c.args.from t then g.S.TickSet.member c.args.ticks.now t else b) (sym (c.row.ensures t)) ∙ same t ∙ c.row.ensures t)
+
+both_none : (b x y : Bool) → x ≡ false → y ≡ false → (if b then x else y) ≡ y
+both_none true x y first second = first ∙ sym second
+both_none false x y first second = refl
+
+pub returns-then-are_none-clause-rising : goal.returns-then-are_none-clause-rising
+returns-then-are_none-clause-rising g c = rising-wider 0 0 c.args.number (c.args.number + 1) _ (omega arith) (omega arith) c.requires.rising
+
+pub returns-then-are_none-clause-rows : goal.returns-then-are_none-clause-rows
+returns-then-are_none-clause-rows g c =
+    row-noted g.S.TickSet.member c.args.self.now (row_has g.S.TickSet.member c.args.kept.now) c.args.number c.args.from (g.S.TickSet.member c.args.ticks.now)
+    (rising-below 0 c.args.number c.args.self.now c.requires.rising)
+    (λ t. both_none (nat_le c.args.from t) (g.S.TickSet.member c.args.ticks.now t) (row_has g.S.TickSet.member c.args.kept.now c.args.number t)
+    (c.are_none.ensures.ticks c.if-are_none.true t) (c.are_none.ensures.row c.if-are_none.true t))
