@@ -1,10 +1,10 @@
 -- Candidates by the places that are marked.
-use Rattle.std.proofs.Common.{◌≡◌, ℕ, zero, suc, ◌+◌, ◌-◌, ◌<◌, ◌≤◌, Bool, true, false, ◌&&◌, ◌||◌, nat_le, unsigned_abs, Option, None, Some, List, [], ◌∷◌, ◌++◌, length, map, refl, sym, ap, ◌∙◌, arith}
-use Rattle.std.specs.Prelude.{slice_index, if◌then◌else◌}
+use Rattle.std.proofs.Common.{◌≡◌, ℕ, zero, suc, ◌+◌, ◌-◌, ◌<◌, ◌≤◌, Bool, true, false, ◌&&◌, ◌||◌, nat_le, unsigned_abs, Option, None, Some, List, [], ◌∷◌, ◌++◌, length, map, take, refl, sym, ap, ◌∙◌, arith}
+use Rattle.std.specs.Prelude.{slice_index, slice_set, if◌then◌else◌}
 use Rattle.std.specs.List.{filter, list_any, range_with_len}
 use Rattle.std.proofs.lemmas.Int.{ints}
 use Rattle.std.proofs.lemmas.Bool.Decides.{nat_tests}
-use Rattle.std.proofs.lemmas.List.{map-append}
+use Rattle.std.proofs.lemmas.List.{append-nil, map-append, take-set, take_more_set}
 use Rattle.fixed_point.specs.declared.number.TheConstants.{FIX_LIMIT}
 use Rattle.tick_set.specs.Ticks.{between}
 use Rattle.plane.specs.Boxes.{Grid, Strips, lies_on, slice_first, slice_last, slice_meets, strips_meet}
@@ -172,3 +172,14 @@ place_more f p n =
     ap (map f) (filter_more p n)
     ∙ map-append f (filter p (between 0 n)) (filter p (n ∷ []))
     ∙ ap (λ xs. map f (filter p (between 0 n)) ++ xs) (by_test f n (p n))
+
+-- what is put behind those that were found before, and counted if it is one of them
+pub gathered : (xs : List ℕ) (n more x : ℕ) (b : Bool) → n < length xs → more ≡ (if b then 1 else 0) → take (n + more) (slice_set xs n x) ≡ take n xs ++ (if b then x ∷ [] else [])
+gathered xs n more x true below is = ap (λ m. take (n + m) (slice_set xs n x)) is ∙ take_more_set xs n x below
+gathered xs n more x false below is =
+    let none : n + 0 ≡ n = omega arith in
+    ap (λ m. take (n + m) (slice_set xs n x)) is ∙ ap (λ m. take m (slice_set xs n x)) none ∙ take-set xs n x ∙ sym (append-nil (take n xs))
+
+pub few_more : (more n place : ℕ) (b : Bool) → more ≡ (if b then 1 else 0) → n ≤ place → n + more ≤ place + 1
+few_more more n place true is few = omega (arith, is, few)
+few_more more n place false is few = omega (arith, is, few)

@@ -1,10 +1,9 @@
 -- The places that are marked, slice by slice.
 use Rattle.std.proofs.Common.{◌≡◌, ℕ, ◌+◌, ◌-◌, ◌<◌, ◌≤◌, Bool, true, false, ◌&&◌, ◌||◌, nat_le, List, [], replicate, take, ◌++◌, sym, ap, ◌∙◌, inl, inr, arith}
-use Rattle.std.specs.Prelude.{slice_index_or}
 use Rattle.std.specs.List.{list_any}
 use Rattle.std.proofs.lemmas.Bool.{cases_lt}
 use Rattle.std.proofs.lemmas.Bool.Decides.{nat_tests}
-use Rattle.std.proofs.lemmas.List.{get_or-replicate, get_or-take, take_all}
+use Rattle.std.proofs.lemmas.List.{get_or-replicate, take_all}
 use Rattle.tick_set.specs.Ticks.{between}
 use Rattle.plane.specs.Boxes.{Grid, slice_first, slice_last, slice_meets, strips_meet}
 use Rattle.plane.specs.declared.limits.TheConstants.{SLICES}

@@ -1,5 +1,5 @@
 -- Counts of places.
-use Rattle.std.proofs.Common.{◌≡◌, ℕ, zero, suc, ◌+◌, ◌-◌, Bool, cond, [], sym, ap, ◌∙◌, arith}
+use Rattle.std.proofs.Common.{◌≡◌, ℕ, zero, suc, ◌+◌, ◌-◌, ◌≤◌, Bool, cond, [], sym, ap, ◌∙◌, arith}
 use Rattle.std.specs.Prelude.{count_by}
 use Rattle.std.specs.List.{range_with_len}
 use Rattle.std.proofs.lemmas.List.Sums.{sum_by-cons}
@@ -35,3 +35,22 @@ count_more p n =
     ap (λ m. count_by p (range_with_len 0 m)) more
     ∙ counted p n 0
     ∙ (λ i. count_by p (range_with_len 0 (none i)) + one_where (p (at i)))
+
+count_up : (p : ℕ → Bool) (n more : ℕ) → count_by p (between 0 n) ≤ count_by p (between 0 (n + more))
+count_up p n zero =
+    let none : n + 0 ≡ n = omega arith in
+    let same = ap (λ m. count_by p (between 0 m)) none in
+    omega (arith, same)
+count_up p n (suc more) =
+    let next : n + suc more ≡ n + more + 1 = omega arith in
+    let same = ap (λ m. count_by p (between 0 m)) next ∙ count_more p (n + more) in
+    let before = count_up p n more in
+    omega (arith, same, before)
+
+-- no fewer among more
+pub count_grows : (p : ℕ → Bool) (n m : ℕ) → n ≤ m → count_by p (between 0 n) ≤ count_by p (between 0 m)
+count_grows p n m order =
+    let split : n + (m - n) ≡ m = omega (arith, order) in
+    let same = ap (λ e. count_by p (between 0 e)) split in
+    let up = count_up p n (m - n) in
+    omega (arith, same, up)

@@ -1,11 +1,10 @@
 -- Rows, one object after another.
-use Rattle.std.proofs.Common.{◌≡◌, ℕ, ◌+◌, ◌<◌, ◌≤◌, ℤ, true, false, List, [], ◌∷◌, ◌++◌, length, map, take, get_or, refl, sym, ap, ◌∙◌, arith}
-use Rattle.std.specs.Prelude.{◌==◌, ◌&&◌, slice_index}
+use Rattle.std.proofs.Common.{◌≡◌, ℕ, ◌+◌, ◌<◌, ◌≤◌, ℤ, false, Option, Some, List, [], ◌∷◌, ◌++◌, length, map, take, get_or, refl, sym, ap, subst, ◌∙◌}
+use Rattle.std.specs.Prelude.{◌==◌, ◌&&◌, slice_index, IfSome}
 use Rattle.std.specs.List.{filter}
 use Rattle.std.specs.Option.{option_map_or}
 use Rattle.std.proofs.lemmas.Bool.{false≢true}
-use Rattle.std.proofs.lemmas.Bool.Decides.{nat_tests}
-use Rattle.std.proofs.lemmas.List.{append-nil, map-append, take_all, take_more}
+use Rattle.std.proofs.lemmas.List.{map-append, take_all, take_more}
 use Rattle.std.proofs.lemmas.List.Elements.{filter-append}
 use Rattle.tick_set.specs.Runs.{pairs, IsRuns}
 use Rattle.tick_set.specs.Ticks.{within}
@@ -16,6 +15,7 @@ use Rattle.history.specs.History.{History, cells_at}
 use Rattle.meaning.specs.Answer.{Row, has_ticks, row_where}
 use Rattle.plane.specs.Rows.{is_between, is_in_range, rows_among}
 use Rattle.plane_index.specs.Rows.{told_row, told_rows}
+use Rattle.plane_index.specs.Ticks.{runs_found, HasRun}
 use Rattle.plane_index.specs.Told.{lies_between, number_in}
 use Rattle.plane_index.specs.declared.rows.RangeRow.{RangeRow}
 
@@ -26,20 +26,18 @@ kept : (ticks : List Span) (id : ℕ) → (length ticks == 0) ≡ false → if_s
 kept [] id some = absurd (false≢true (sym some))
 kept (span ∷ ticks) id some = refl
 
-dropped : (ticks : List Span) (id : ℕ) → (length ticks == 0) ≡ true → if_some (record { key = id ∷ []; runs = pairs ticks }) ≡ []
-dropped [] id none = refl
-dropped (span ∷ ticks) id none = absurd (grind (arith, nat_tests))
-
-pub row_added : (rows : List RangeRow) (row : RangeRow) (ticks : List Span) → row.ticks ≡ ticks → (length ticks == 0) ≡ false →
+row_added : (rows : List RangeRow) (row : RangeRow) (ticks : List Span) → row.ticks ≡ ticks → (length ticks == 0) ≡ false →
     told_rows (rows ++ row ∷ []) ≡ told_rows rows ++ if_some (record { key = row.id ∷ []; runs = pairs ticks })
 row_added rows row ticks same some =
     map-append told_row rows (row ∷ [])
     ∙ (λ i. told_rows rows ++ record { key = row.id ∷ []; runs = pairs (same i) } ∷ [])
     ∙ ap (λ more. told_rows rows ++ more) (sym (kept ticks row.id some))
 
-pub row_left_out : (rows : List RangeRow) (id : ℕ) (ticks : List Span) → (length ticks == 0) ≡ true →
-    told_rows rows ≡ told_rows rows ++ if_some (record { key = id ∷ []; runs = pairs ticks })
-row_left_out rows id ticks none = sym (append-nil (told_rows rows)) ∙ ap (λ more. told_rows rows ++ more) (sym (dropped ticks id none))
+pub row_found : (rows : List RangeRow) (row : RangeRow) (found : Option (List Span)) → found ≡ Some row.ticks → IfSome found HasRun →
+    told_rows (rows ++ row ∷ []) ≡ told_rows rows ++ if_some (record { key = row.id ∷ []; runs = pairs (runs_found found) })
+row_found rows row found is some =
+    subst (λ f. told_rows (rows ++ row ∷ []) ≡ told_rows rows ++ if_some (record { key = row.id ∷ []; runs = pairs (runs_found f) })) (sym is)
+    (row_added rows row row.ticks refl (subst (λ f. IfSome f HasRun) is some))
 
 -- what a timeline tells is what the history tells of its object
 pub same_test : (h : History) (epochs : List Epoch) (attribute : ℕ) (lo hi : ℤ) (id t : ℕ) → cells_at h id t ≡ state_at epochs t →

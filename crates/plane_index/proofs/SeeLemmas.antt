@@ -1,5 +1,5 @@
 -- Room for more objects, which are stale.
-use Rattle.std.proofs.Common.{◌≡◌, ℕ, ◌-◌, ◌<◌, ◌≤◌, max, Bool, true, Result, Ok, Err, List, [], ◌++◌, length, take, drop, sym, ap, subst, ◌∙◌, arith}
+use Rattle.std.proofs.Common.{◌≡◌, ℕ, ◌-◌, ◌<◌, ◌≤◌, max, Bool, true, Result, Ok, Err, List, ◌++◌, length, take, drop, sym, ap, ◌∙◌, arith}
 use Rattle.std.specs.Prelude.{OnErr}
 use Rattle.std.proofs.lemmas.List.{length-drop, length-take, take-append-drop, take_all}
 use Rattle.plane.specs.Boxes.{Grid}

@@ -4,4 +4,5 @@ pub mod Lines
 pub mod States
 pub mod Columns
 pub mod Index
+pub mod Ticks
 pub mod Rows

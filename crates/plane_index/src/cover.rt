@@ -84,7 +84,7 @@ impl Narrow {
     pub fn meets(&self, asked: &Narrow) -> bool
         ensures { result ≡ narrow_meets self.now asked.now }
     {
-        asked.first <= self.last && self.first <= asked.last
+        (asked.first <= self.last) & (self.first <= asked.last)
     }
 }
 

@@ -1,5 +1,5 @@
 //! How candidates are found.
-ghost use Rattle.std.specs.Prelude.{◌≡◌, ◌+◌, ◌≤◌, ◌<◌, ◌&&◌, ◌||◌, ℕ, [], nat_le, length, map, ◌++◌, ◌∷◌, if◌then◌else◌, IfOk, OnOk, slice_index, slice_index_or};
+ghost use Rattle.std.specs.Prelude.{◌≡◌, ◌+◌, ◌≤◌, ◌<◌, ◌&&◌, ◌||◌, ℕ, nat_le, length, map, take, if◌then◌else◌, IfOk, slice_index, slice_index_or};
 ghost use Rattle.std.specs.List.{filter, list_any};
 ghost use Rattle.tick_set.specs.Ticks.{between};
 ghost use Rattle.plane.specs.Boxes.{last_covered, slice_meets, strips_meet};
@@ -65,20 +65,33 @@ pub fn found_among(
     ensures { IfOk result (λ found. found.items ≡ map (slice_index ids.now) (filter (fresh_at marks.now) (between 0 (length ids.now)))) }
 {
     let mut found = Vec::new(alloc);
-    let mut place = 0;
-    'places: while place < ids.len() {
-        add_if(&mut found, marks[place], ids[place])?;
-        place += 1;
-    }
+    found.resize(ids.len(), 0)?;
+    let count = gather(&mut found, ids, marks);
+    found.truncate(count);
     Ok(found)
 }
 
-// Adds an object, if it is marked.
-fn add_if(found: &mut Vec<ObjectId>, marked: bool, id: ObjectId) -> Result<(), AllocError>
-    ensures { OnOk result (found.new.items ≡ found.old.items ++ (if marked then id ∷ [] else [])) }
+// Puts the objects whose places are marked first. How many they are. It has no branch for a mark, which no one could foretell.
+fn gather(found: &mut [ObjectId], ids: &[ObjectId], marks: &[bool]) -> usize
+    requires room { length found.old ≡ length ids.now }
+    requires marks { length marks.now ≡ length ids.now }
+    ensures count { result ≤ length found.new }
+    ensures length { length found.new ≡ length found.old }
+    ensures found { take result found.new ≡ map (slice_index ids.now) (filter (fresh_at marks.now) (between 0 (length ids.now))) }
 {
-    if marked {
-        found.push(id)?;
+    let mut count = 0;
+    let mut place = 0;
+    'places: while place < ids.len() {
+        found[count] = ids[place];
+        count += one_if(marks[place]);
+        place += 1;
     }
-    Ok(())
+    count
+}
+
+// One, if a place is marked.
+fn one_if(marked: bool) -> usize
+    ensures { result ≡ (if marked then 1 else 0) }
+{
+    usize::from(marked)
 }

@@ -18,7 +18,9 @@ mod rows;
 mod runs;
 mod state;
 mod states;
+mod ticks;
 
 pub use grid::Grid;
 pub use index::PlaneIndex;
 pub use rows::RangeRow;
+pub use ticks::Ticks;

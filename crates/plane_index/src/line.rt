@@ -1,11 +1,11 @@
 //! A value that moves along a line, and the ticks at which it lies between two bounds.
-ghost use Rattle.std.specs.Prelude.{◌≡◌, ◌≤◌, ◌+◌, ◌-◌, ℕ, pos, IfSome, neg_ℤ, ◌+ℤ◌, ◌*ℤ◌, ◌&&◌, option_to_list, unsigned_abs};
+ghost use Rattle.std.specs.Prelude.{◌≡◌, ◌≤◌, ◌+◌, ◌-◌, ◌*◌, ℕ, pos, IfSome, ◌+ℤ◌, ◌*ℤ◌, ◌&&◌, int_le, nat_le, option_to_list, unsigned_abs};
 ghost use Rattle.fixed_point.specs.declared.number.TheConstants.{FIX_LIMIT, SLOPE_LIMIT};
-ghost use Rattle.tick_set.specs.Runs.{spans_have, IsRuns};
+ghost use Rattle.tick_set.specs.Runs.{IsRuns};
 ghost use Rattle.tick_set.specs.Ticks.{within};
+ghost use Rattle.tick_set.specs.declared.spans.TheConstants.{LAST_TICK};
 ghost use Rattle.plane.specs.Rows.{is_between};
 
-use convex::{Convex, at_most};
 use fixed_point::{Fix, Slope};
 use tick_set::{Span, Window};
 
@@ -36,35 +36,13 @@ impl Line {
     pub fn between(&self, lo: Fix, hi: Fix, w: Window) -> Option<Span>
         ensures { IsRuns (λ t. within w.lo w.hi t && is_between lo hi (line_after self.now (t - w.lo))) (option_to_list result) }
     {
-        let below = at_most(self, i128::from(hi.raw()), w);
-        let above = at_most(&self.opposite(), -i128::from(lo.raw()), w);
-        shared(below, above)
-    }
-
-    fn opposite(&self) -> Line
-        ensures { (k : ℕ) → line_after result k ≡ neg_ℤ (line_after self.now k) }
-    {
-        Line {
-            start: -self.start,
-            slope: -self.slope,
+        let rise = self.slope.unsigned_abs();
+        if self.slope >= 0 {
+            rising_between(rise, lo.raw() - self.start, hi.raw() - self.start, w)
+        } else {
+            rising_between(rise, self.start - hi.raw(), self.start - lo.raw(), w)
         }
     }
-}
-
-impl Convex for Line {
-    ghost use Rattle.convex.specs.Parabola.{parabola};
-    ghost use Rattle.convex.proofs.CallerLemmas.{parabola_bends};
-    ghost use Rattle.tick_set.specs.declared.spans.TheConstants.{LAST_TICK};
-
-    ghost value = { λ l. parabola 0 l.slope l.start };
-
-    ghost reach = { λ _. LAST_TICK };
-
-    fn at(&self, k: u32) -> i128 {
-        i128::from(moved(self.start, self.slope, k))
-    }
-
-    ghost bends = { λ l. parabola_bends 0 l.slope l.start };
 }
 
 // A value after `k` ticks.
@@ -76,11 +54,33 @@ fn moved(start: i64, slope: i64, k: u32) -> i64
     start + slope * i64::from(k)
 }
 
-// The ticks of both.
-fn shared(first: Option<Span>, second: Option<Span>) -> Option<Span>
-    ensures { IsRuns (λ t. spans_have (option_to_list first) t && spans_have (option_to_list second) t) (option_to_list result) }
+// The ticks of the window at which what is 0 at its first tick and rises by so much at each lies between two bounds.
+fn rising_between(rise: u64, low: i64, high: i64, w: Window) -> Option<Span>
+    requires rise { rise ≤ SLOPE_LIMIT }
+    requires size { unsigned_abs high ≤ 2 * FIX_LIMIT }
+    ensures { IsRuns (λ t. within w.lo w.hi t && is_between low high (pos (rise * (t - w.lo)))) (option_to_list result) }
 {
-    let one = first?;
-    let other = second?;
-    Span::stretch(one.lo.max(other.lo), one.hi.min(other.hi) + 1)
+    let past = w.hi - w.lo;
+    let first = first_reached(rise, low, past);
+    let end = first_reached(rise, high + 1, past);
+    Span::stretch(w.lo + first, w.lo + end)
+}
+
+// The first number up to the last one at which what is 0 at first and rises by so much reaches a bound. The next one after the
+// last where there is none.
+fn first_reached(rise: u64, bound: i64, last: u32) -> u32
+    requires rise { rise ≤ SLOPE_LIMIT }
+    requires last { last ≤ LAST_TICK }
+    ensures bound { result ≤ last + 1 }
+    ensures first { (k : ℕ) → k ≤ last → int_le bound (pos (rise * k)) ≡ nat_le result k }
+{
+    if bound <= 0 {
+        return 0;
+    }
+    let height = bound.unsigned_abs();
+    // A product tells without a division that it isn't reached.
+    if rise * u64::from(last) < height {
+        return last + 1;
+    }
+    height.div_ceil(rise) as u32
 }

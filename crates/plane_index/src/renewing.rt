@@ -14,6 +14,9 @@ use object_store::{ObjectId, Store};
 use std::sync::ledger::Ledger;
 use steps::Steps;
 
+// How many places are gone over at once.
+const BLOCK: usize = 64;
+
 /// Looks once at each object that isn't fresh, and keeps its last state.
 pub fn freshen<L: Ledger>(
     ids: &[ObjectId],
@@ -34,10 +37,10 @@ pub fn freshen<L: Ledger>(
     ensures least { reads.old ≤ reads.new }
     ensures most { reads.new ≤ reads.old + count_by (λ k. not (fresh_at fresh.old k)) (between 0 (length ids.now)) }
 {
-    let mut place = 0;
+    let mut place = next_stale(fresh, 0, ids.len());
     'places: while place < ids.len() {
         freshen_at(ids[place], place, fresh, states, store, reads);
-        place += 1;
+        place = next_stale(fresh, place + 1, ids.len());
     }
 }
 
@@ -69,4 +72,48 @@ fn freshen_at<L: Ledger>(
     let state = State::of(states.grid(), timeline);
     states.set(place, state);
     fresh[place] = true;
+}
+
+// The first place from one on, before an end, whose object isn't fresh, or else the end.
+fn next_stale(fresh: &[bool], from: usize, end: usize) -> usize
+    requires from { from ≤ end }
+    requires room { end ≤ length fresh.now }
+    ensures from { from ≤ result }
+    ensures end { result ≤ end }
+    ensures fresh { (k : ℕ) → from ≤ k → k < result → fresh_at fresh.now k ≡ true }
+{
+    let mut place = past_fresh_blocks(fresh, from, end);
+    'places: while place < end && fresh[place] {
+        place += 1;
+    }
+    place
+}
+
+// A place from one on, up to the end, before which all from the first on are fresh. Many are gone over at once.
+fn past_fresh_blocks(fresh: &[bool], from: usize, end: usize) -> usize
+    requires from { from ≤ end }
+    requires room { end ≤ length fresh.now }
+    ensures from { from ≤ result }
+    ensures end { result ≤ end }
+    ensures fresh { (k : ℕ) → from ≤ k → k < result → fresh_at fresh.now k ≡ true }
+{
+    let mut place = from;
+    'blocks: while BLOCK <= end - place && are_fresh(fresh, place, place + BLOCK) {
+        place += BLOCK;
+    }
+    place
+}
+
+// Whether all from a place on, up to an end, are fresh. It has no branch, so that it looks at many at once.
+fn are_fresh(fresh: &[bool], from: usize, end: usize) -> bool
+    requires room { end ≤ length fresh.now }
+    ensures { result ≡ true → (k : ℕ) → from ≤ k → k < end → fresh_at fresh.now k ≡ true }
+{
+    let mut all = true;
+    let mut place = from;
+    'places: while place < end {
+        all = all & fresh[place];
+        place += 1;
+    }
+    all
 }

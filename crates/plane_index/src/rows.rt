@@ -1,30 +1,31 @@
 //! The objects that have a value between two bounds, and when.
-ghost use Rattle.std.specs.Prelude.{◌≡◌, ◌⊎◌, ◌+◌, ◌≤◌, ◌<◌, ◌++◌, ◌∷◌, [], All, IfOk, OnErr, OnOk, length};
+ghost use Rattle.std.specs.Prelude.{◌≡◌, ◌⊎◌, ◌+◌, ◌≤◌, ◌<◌, ◌++◌, ◌∷◌, [], All, IfOk, IfSome, OnErr, OnOk, length};
 ghost use Rattle.object_store.specs.Contents.{history_of};
 ghost use Rattle.plane.specs.Boxes.{candidates};
 ghost use Rattle.plane.specs.Rows.{rows_among, rows_in_range, IsCovered};
 ghost use Rattle.meaning.specs.Answer.{has_ticks};
 ghost use Rattle.std.specs.List.{filter};
-ghost use Rattle.tick_set.specs.Runs.{pairs, IsNormal};
+ghost use Rattle.tick_set.specs.Runs.{pairs};
 ghost use Rattle.plane_index.specs.Rows.{told_rows};
+ghost use Rattle.plane_index.specs.Ticks.{runs_found, HasRun};
 ghost use Rattle.plane_index.specs.Index.{stale_count, IsFresh, IsIndexOf};
 ghost use Rattle.plane_index.specs.Told.{told_by};
 
 use crate::index::PlaneIndex;
-use crate::runs::runs_between;
+use crate::runs::ticks_between;
+use crate::ticks::Ticks;
 use fixed_point::Fix;
-use interval_set::IntervalSet;
 use object_store::{ObjectId, Store};
 use std::alloc::{AllocError, Global};
 use std::sync::ledger::Ledger;
 use steps::Steps;
-use tick_set::{Span, Window};
+use tick_set::Window;
 
 /// An object, and the ticks at which its value lies between the bounds.
 #[derive(Drop)]
 pub struct RangeRow {
     pub id: ObjectId,
-    pub ticks: IntervalSet,
+    pub ticks: Ticks,
 }
 
 impl PlaneIndex {
@@ -85,23 +86,22 @@ fn rows_of<L: Ledger>(
     ensures least { reads.old ≤ reads.new }
     ensures most { reads.new ≤ reads.old + length ids.now }
 {
-    let mut rows = Vec::new(alloc);
+    let mut rows = Vec::with_capacity(alloc, ids.len())?;
     'objects: for id in ids {
         let timeline = store.timeline(*id, reads);
-        let runs = runs_between(alloc, timeline, attribute, lo, hi, w)?;
-        add_row(&mut rows, *id, runs)?;
+        let found = ticks_between(alloc, timeline, attribute, lo, hi, w)?;
+        add_row(&mut rows, *id, found)?;
     }
     Ok(rows)
 }
 
 // Adds the row of an object, if it has a tick.
-fn add_row(rows: &mut Vec<RangeRow>, id: ObjectId, runs: Vec<Span>) -> Result<(), AllocError>
-    requires { IsNormal runs.items }
+fn add_row(rows: &mut Vec<RangeRow>, id: ObjectId, found: Option<Ticks>) -> Result<(), AllocError>
+    requires { IfSome found HasRun }
     ensures { OnOk result (told_rows rows.new.items
-        ≡ told_rows rows.old.items ++ filter (λ row. has_ticks row.runs) (record { key = id ∷ []; runs = pairs runs.items } ∷ [])) }
+        ≡ told_rows rows.old.items ++ filter (λ row. has_ticks row.runs) (record { key = id ∷ []; runs = pairs (runs_found found) } ∷ [])) }
 {
-    if !runs.is_empty() {
-        let ticks = IntervalSet::from_runs(runs);
+    if let Some(ticks) = found {
         rows.push(RangeRow { id, ticks })?;
     }
     Ok(())

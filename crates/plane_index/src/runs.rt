@@ -8,9 +8,11 @@ ghost use Rattle.tick_set.specs.Runs.{IsRuns};
 ghost use Rattle.tick_set.specs.Ticks.{within};
 ghost use Rattle.plane.specs.Rows.{is_between};
 ghost use Rattle.plane_index.specs.Lines.{line_after, number_of_cell};
+ghost use Rattle.plane_index.specs.Ticks.{runs_found, HasRun};
 ghost use Rattle.plane_index.specs.Told.{lies_between, lies_in};
 
 use crate::line::Line;
+use crate::ticks::Ticks;
 use courses::{Common, common_from};
 use fixed_point::Fix;
 use motion::{Cell, Epoch, Timeline, Vector};
@@ -18,21 +20,36 @@ use std::alloc::{AllocError, Global};
 use tick_set::{Runs, Span, Window};
 
 /// The ticks of the window at which the attribute of an object with this timeline lies between two bounds.
-pub fn runs_between(
+pub fn ticks_between(
     alloc: Global,
     timeline: &Timeline,
     attribute: usize,
     lo: Fix,
     hi: Fix,
     w: Window,
-) -> Result<Vec<Span>, AllocError>
-    ensures { IfOk result (λ runs. IsRuns (λ t. within w.lo w.hi t
-        && lies_between timeline.now attribute lo hi t) runs.items) }
+) -> Result<Option<Ticks>, AllocError>
+    ensures runs { IfOk result (λ found. IsRuns (λ t. within w.lo w.hi t
+        && lies_between timeline.now attribute lo hi t) (runs_found found)) }
+    ensures some { IfOk result (λ found. IfSome found HasRun) }
 {
     // One line needs no look at the epochs.
     match line_from(timeline, attribute, w.lo) {
-        Some(line) => one_run(alloc, line.between(lo, hi, w)),
-        None => runs_by_parts(alloc, timeline, attribute, lo, hi, w),
+        Some(line) => Ok(single(line.between(lo, hi, w))),
+        None => {
+            let runs = runs_by_parts(alloc, timeline, attribute, lo, hi, w)?;
+            Ok(Ticks::of(runs))
+        }
+    }
+}
+
+// One run, if there is one.
+fn single(run: Option<Span>) -> Option<Ticks>
+    ensures runs { runs_found result ≡ option_to_list run }
+    ensures some { IfSome result HasRun }
+{
+    match run {
+        Some(run) => Some(Ticks::single(run)),
+        None => None,
     }
 }
 
@@ -51,17 +68,6 @@ fn line_from(timeline: &Timeline, attribute: usize, at: u32) -> Option<Line>
         1 => Line::after(straight.y, straight.dy, past),
         _ => None,
     }
-}
-
-// What is found, as a list.
-fn one_run(alloc: Global, found: Option<Span>) -> Result<Vec<Span>, AllocError>
-    ensures { IfOk result (λ runs. runs.items ≡ option_to_list found) }
-{
-    let mut runs = Vec::new(alloc);
-    if let Some(span) = found {
-        runs.push(span)?;
-    }
-    Ok(runs)
 }
 
 // The same, part by part of the timeline.

@@ -1,7 +1,5 @@
-use Rattle.std.proofs.Common.{◌≡◌, ◌+◌, ◌<◌, ◌≤◌, ◌&&◌, ◌||◌, nat_le, length, refl, ap, ◌∙◌, arith}
-use Rattle.std.specs.List.{list_any}
+use Rattle.std.proofs.Common.{refl, ◌∙◌, arith}
 use Rattle.std.proofs.lemmas.Bool.Decides.{nat_tests}
-use Rattle.tick_set.specs.Ticks.{between}
 use Rattle.plane.specs.Boxes.{strips_meet}
 use Rattle.plane_index.specs.Index.{fresh_at}
 use Rattle.plane_index.specs.Lines.{strips_as}

@@ -1,4 +1,4 @@
-use Rattle.std.proofs.Common.{◌+◌, ◌≤◌, sym, ap, subst, ◌∙◌, arith}
+use Rattle.std.proofs.Common.{◌≤◌, sym, ap, subst, ◌∙◌, arith}
 use Rattle.plane.specs.Boxes.{Grid, slice_first, slice_last}
 use Rattle.plane_index.specs.Index.{fresh_at}
 use Rattle.plane_index.proofs.BackLemmas.{written_back}

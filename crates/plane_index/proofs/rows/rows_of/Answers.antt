@@ -2,6 +2,7 @@ use Rattle.std.proofs.Common.{ℕ, ◌<◌, ◌++◌, length, get_or, sym, ◌�
 use Rattle.std.proofs.lemmas.Bool.Decides.{nat_tests}
 use Rattle.std.proofs.lemmas.List.{get_or_default}
 use Rattle.object_store.specs.Contents.{history_of}
+use Rattle.plane_index.specs.Ticks.{runs_found}
 use Rattle.plane_index.proofs.RowLemmas.{if_some, row_of_runs, rows_more}
 use Rattle.plane_index.proofs.rows.rows_of.Goals as goal
 
@@ -15,8 +16,8 @@ objects-preserved g c =
     let id : ℕ = get_or ids i 0 in
     let now = c.objects.invariant in
     let row =
-    row_of_runs h c.timeline-timeline.result.now c.args.attribute c.args.lo c.args.hi c.args.w.lo c.args.w.hi id c.in_ok-runs.runs.items
-    c.timeline-timeline.ensures.state c.in_ok-runs.ensures in
+    row_of_runs h c.timeline-timeline.result.now c.args.attribute c.args.lo c.args.hi c.args.w.lo c.args.w.hi id (runs_found c.in_ok-found.found)
+    c.timeline-timeline.ensures.state c.in_ok-found.ensures.runs in
     let step = c.timeline-timeline.ensures.step in
     let least = now.least in
     let most = now.most in
