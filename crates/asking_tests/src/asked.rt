@@ -1,6 +1,7 @@
 ghost use Rattle.std.specs.Prelude.{◌≡◌, ◌<◌, ◌∷◌, [], None, false, length, IfOk};
 ghost use Rattle.formula.specs.declared.tree.RUnit.TheVariants as units;
 
+use crate::owned::{kept, spent};
 use atoms::{presence, value_runs};
 use fixed_point::Word;
 use formula::{Binding, Env, Items, RSigned, RTerm, RUnit, Value};
@@ -44,8 +45,8 @@ fn come_and_go(rt: &impl Abort, store: &mut Store) -> Result<(), Fail> {
 // The store of one car.
 fn one_car(rt: &impl Abort, alloc: Global) -> Result<Store, Fail> {
     let mut store = Store::new(alloc);
-    come_and_go(rt, &mut store)?;
-    Ok(store)
+    let done = come_and_go(rt, &mut store);
+    kept(store, done)
 }
 
 // How many classes are left.
@@ -55,12 +56,17 @@ fn take_a_class_back(store: &mut Store) -> Result<u32, Fail> {
     Ok(store.schema().count())
 }
 
+fn no_class_is_left(rt: &impl Abort, store: &mut Store) -> Result<(), Fail> {
+    let left = take_a_class_back(store)?;
+    assert_eq!(rt; left, 0);
+    Ok(())
+}
+
 #[test]
 fn a_class_is_taken_back(rt: HostRuntime) -> Result<(), Fail> {
     let mut store = Store::new(rt.alloc());
-    let left = take_a_class_back(&mut store)?;
-    assert_eq!(rt; left, 0);
-    Ok(())
+    let done = no_class_is_left(&rt, &mut store);
+    spent(store, done)
 }
 
 #[derive(Clone, Copy)]
@@ -80,9 +86,19 @@ fn with_reads<L: Ledger>(
     requires parts { blank.parts ≡ L.parts }
     requires some_part { 0 < blank.parts }
 {
-    let store = one_car(rt, host.alloc())?;
     let mut reads: Steps<L> = Steps::new(host, blank);
-    answers_of(rt, host.alloc(), &store, asked, &mut reads)
+    answers_of_one_car(rt, host.alloc(), asked, &mut reads)
+}
+
+fn answers_of_one_car<L: Ledger>(
+    rt: &impl Abort,
+    alloc: Global,
+    asked: Asked,
+    reads: &mut Steps<L>,
+) -> Result<(), Fail> {
+    let store = one_car(rt, alloc)?;
+    let done = answers_of(rt, alloc, &store, asked, reads);
+    spent(store, done)
 }
 
 fn answers_of<L: Ledger>(

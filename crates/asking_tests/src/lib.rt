@@ -10,6 +10,8 @@ mod counted;
 #[cfg(test)]
 mod near;
 #[cfg(test)]
+mod owned;
+#[cfg(test)]
 mod passing;
 #[cfg(test)]
 mod ranges;

@@ -1,4 +1,5 @@
 use crate::counted::{Asked, with_counters};
+use crate::owned::spent;
 use crate::written::Written::{Comes, Goes, Halts};
 use crate::written::{Written, store_of, window};
 use nearest::{NearRow, nearest_rows};
@@ -180,7 +181,8 @@ fn is_right<L: Ledger, M: Ledger>(
     probes: &mut Steps<M>,
 ) -> Result<bool, Fail> {
     let store = store_of(alloc, case.written)?;
-    are_told(alloc, case, &store, reads, probes)
+    let told = are_told(alloc, case, &store, reads, probes);
+    spent(store, told)
 }
 
 pub(crate) fn cases_are_right<L: Ledger, M: Ledger>(

@@ -3,6 +3,7 @@ ghost use Rattle.plane_index.specs.Index.{IsIndexOf};
 
 use crate::counted::{Asked, with_counters};
 use crate::near::are_spans;
+use crate::owned::spent;
 use crate::written::Written::{Comes, Goes, Halts};
 use crate::written::{Written, store_of, window};
 use fixed_point::Fix;
@@ -133,12 +134,14 @@ fn are_found<L: Ledger>(
 ) -> Result<bool, Fail> {
     let width = fix(10_000)?;
     let mut index = PlaneIndex::new(alloc, Grid::new(0, 0, 0, width))?;
-    finds(alloc, case, store, &mut index, reads)
+    let found = finds(alloc, case, store, &mut index, reads);
+    spent(index, found)
 }
 
 fn is_right<L: Ledger>(alloc: Global, case: &Case, reads: &mut Steps<L>) -> Result<bool, Fail> {
     let store = store_of(alloc, CARS)?;
-    are_found(alloc, case, &store, reads)
+    let found = are_found(alloc, case, &store, reads);
+    spent(store, found)
 }
 
 pub(crate) fn cases_are_right<L: Ledger>(

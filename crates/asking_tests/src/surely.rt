@@ -9,6 +9,7 @@ ghost use Rattle.asking_tests.specs.Passing.{writes};
 
 use crate::counted::{Asked, with_counters};
 use crate::near::are_spans;
+use crate::owned::spent;
 use crate::passing::{passed_post, square};
 use crate::surely::Question::{Apart, FromItself, Inside, Outside, PostOutside};
 use crate::written::number;
@@ -231,7 +232,8 @@ fn are_its_runs<L: Ledger, M: Ledger>(
     requires fits { atom_fits (history writes).catalog (0 ∷ 1 ∷ []) 1 no_kinds atom ≡ true }
 {
     let store = passed_post(alloc)?;
-    are_runs_in(alloc, &store, atom, blur, runs, reads, probes)
+    let found = are_runs_in(alloc, &store, atom, blur, runs, reads, probes);
+    spent(store, found)
 }
 
 fn are_runs_in<L: Ledger, M: Ledger>(

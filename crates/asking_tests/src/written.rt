@@ -2,6 +2,7 @@
 ghost use Rattle.std.specs.Prelude.{◌≡◌, ◌≤◌, IfOk, IfSome, unsigned_abs};
 ghost use Rattle.fixed_point.specs.declared.number.TheConstants.{READ_LIMIT};
 
+use crate::owned::kept;
 use fixed_point::{Fix, Point, READ_LIMIT, Slope, Word};
 use motion::{Legs, Place};
 use object_store::Store;
@@ -125,10 +126,9 @@ fn write_all(store: &mut Store, written: &[Written]) -> Result<(), Fail> {
     Ok(())
 }
 
-// The store in which cars have the class 0, and posts the class 1. It is filled by a call, since each way out of the
-// function that owns a store lets it go once more.
+// The store in which cars have the class 0, and posts the class 1.
 pub(crate) fn store_of(alloc: Global, written: &[Written]) -> Result<Store, Fail> {
     let mut store = Store::new(alloc);
-    write_all(&mut store, written)?;
-    Ok(store)
+    let done = write_all(&mut store, written);
+    kept(store, done)
 }

@@ -6,6 +6,7 @@ ghost use Rattle.ftl_parser.specs.Tree.{query_view};
 ghost use Rattle.formula.specs.Tree.{query_view as resolved_view};
 ghost use Rattle.narrowing.specs.Narrowed.{AreOfClasses};
 
+use crate::owned::spent;
 use crate::spread::{COUNT, two_squares};
 use crate::stores::window;
 use answers::domains_of;
@@ -79,7 +80,8 @@ fn numbered(alloc: Global, store: &Store, regions: &Regions, asked: &Asked) -> R
     ensures { IfOk result (λ q. length q.classes ≡ asked.now.variables) }
 {
     let named = named(alloc, asked)?;
-    resolved(alloc, store, regions, &named, asked.variables)
+    let query = resolved(alloc, store, regions, &named, asked.variables);
+    spent(named, query)
 }
 
 fn all_objects(alloc: Global, query: &RQuery, store: &Store) -> Result<Domains, Fail>
@@ -131,10 +133,24 @@ fn left_among(alloc: Global, store: &Store, regions: &Regions, asked: &Asked) ->
 {
     let w = window(asked.ends)?;
     let query = numbered(alloc, store, regions, asked)?;
-    if asked.error == 0 {
-        exactly_left(alloc, store, regions, &query, w)
+    let count = left_for(alloc, store, regions, &query, asked.error, w);
+    spent(query, count)
+}
+
+fn left_for(
+    alloc: Global,
+    store: &Store,
+    regions: &Regions,
+    query: &RQuery,
+    error: u32,
+    w: Window,
+) -> Result<usize, Fail>
+    requires { length query.now.classes ≤ OBJECT_LIMIT }
+{
+    if error == 0 {
+        exactly_left(alloc, store, regions, query, w)
     } else {
-        left_within(alloc, store, regions, &query, asked.error, w)
+        left_within(alloc, store, regions, query, error, w)
     }
 }
 
@@ -143,5 +159,6 @@ pub(crate) fn left(alloc: Global, store: &Store, asked: &Asked) -> Result<usize,
     requires { asked.now.variables ≤ OBJECT_LIMIT }
 {
     let regions = two_squares(alloc)?;
-    left_among(alloc, store, &regions, asked)
+    let count = left_among(alloc, store, &regions, asked);
+    spent(regions, count)
 }

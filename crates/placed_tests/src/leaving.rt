@@ -3,6 +3,7 @@ ghost use Rattle.std.specs.Prelude.{◌≤◌};
 ghost use Rattle.formula_shape.specs.declared.limits.TheConstants.{OBJECT_LIMIT};
 
 use crate::asked::{Asked, left};
+use crate::owned::spent;
 use crate::spread::{COUNT, come_from_to, thousand_cars};
 use crate::stores::{two_classes, word};
 use motion::Place;
@@ -63,7 +64,8 @@ fn leave_few(rt: &impl Abort, alloc: Global, store: &Store) -> Result<(), Fail> 
 #[test]
 fn few_of_many_cars_are_left(rt: HostRuntime) -> Result<(), Fail> {
     let store = thousand_cars(rt.alloc())?;
-    leave_few(&rt, rt.alloc(), &store)
+    let done = leave_few(&rt, rt.alloc(), &store);
+    spent(store, done)
 }
 
 fn leave_all(rt: &impl Abort, alloc: Global, store: &Store) -> Result<(), Fail> {
@@ -79,7 +81,8 @@ fn leave_all(rt: &impl Abort, alloc: Global, store: &Store) -> Result<(), Fail> 
 #[test]
 fn all_cars_are_left_where_each_may_count(rt: HostRuntime) -> Result<(), Fail> {
     let store = thousand_cars(rt.alloc())?;
-    leave_all(&rt, rt.alloc(), &store)
+    let done = leave_all(&rt, rt.alloc(), &store);
+    spent(store, done)
 }
 
 const INSIDE: &[u8] = b"INSIDE(o,Q)";
@@ -115,7 +118,8 @@ fn refused_lines_leave_as_few(
 #[test]
 fn a_write_that_is_refused_leaves_as_few(rt: HostRuntime) -> Result<(), Fail> {
     let mut store = thousand_cars(rt.alloc())?;
-    refused_lines_leave_as_few(&rt, rt.alloc(), &mut store)
+    let done = refused_lines_leave_as_few(&rt, rt.alloc(), &mut store);
+    spent(store, done)
 }
 
 fn leaves_few(
@@ -137,11 +141,20 @@ fn import(alloc: Global, store: &mut Store) -> Result<(), Fail> {
     come_from_to(alloc, store, 700, 500, COUNT)
 }
 
+fn few_are_left_of_two_imports(
+    rt: &impl Abort,
+    alloc: Global,
+    store: &mut Store,
+) -> Result<(), Fail> {
+    import(alloc, store)?;
+    leaves_few(rt, alloc, store, INSIDE, (700, 800))
+}
+
 #[test]
 fn few_are_left_after_many_come_at_once(rt: HostRuntime) -> Result<(), Fail> {
     let mut store = two_classes(rt.alloc())?;
-    import(rt.alloc(), &mut store)?;
-    leaves_few(&rt, rt.alloc(), &store, INSIDE, (700, 800))
+    let done = few_are_left_of_two_imports(&rt, rt.alloc(), &mut store);
+    spent(store, done)
 }
 
 // In the first two rows, which have gone 5,000 units along y by then.
@@ -157,7 +170,8 @@ fn stand(store: &mut Store) {
 fn few_are_left_after_many_ticks(rt: HostRuntime) -> Result<(), Fail> {
     let mut store = thousand_cars(rt.alloc())?;
     stand(&mut store);
-    leaves_few(&rt, rt.alloc(), &store, LATER, (10_000, 10_060))
+    let done = leaves_few(&rt, rt.alloc(), &store, LATER, (10_000, 10_060));
+    spent(store, done)
 }
 
 // As many are left at least where positions may be off, and few still.
@@ -173,5 +187,6 @@ fn leave_few_within(rt: &impl Abort, alloc: Global, store: &Store, error: u32) -
 #[test]
 fn few_cars_are_left_where_positions_may_be_off(rt: HostRuntime) -> Result<(), Fail> {
     let store = thousand_cars(rt.alloc())?;
-    leave_few_within(&rt, rt.alloc(), &store, 10_000)
+    let done = leave_few_within(&rt, rt.alloc(), &store, 10_000);
+    spent(store, done)
 }

@@ -9,6 +9,8 @@ mod leaving;
 #[cfg(test)]
 mod moving;
 #[cfg(test)]
+mod owned;
+#[cfg(test)]
 mod reaching;
 #[cfg(test)]
 mod spread;

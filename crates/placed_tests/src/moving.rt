@@ -1,4 +1,5 @@
 //! Where objects are told as they come, move and go, and as the clock goes on.
+use crate::owned::{kept, spent};
 use crate::stores::{come, go, number, two_classes, window};
 use object_store::{Area, Sides, Store};
 use std::alloc::Global;
@@ -49,8 +50,8 @@ fn come_in_turn(store: &mut Store) -> Result<(), Fail> {
 
 fn some_objects(alloc: Global) -> Result<Store, Fail> {
     let mut store = two_classes(alloc)?;
-    come_in_turn(&mut store)?;
-    Ok(store)
+    let done = come_in_turn(&mut store);
+    kept(store, done)
 }
 
 // No box tells of a window past all horizons, so each object is judged by itself then.
@@ -68,7 +69,8 @@ const TOLD: [Row; 8] = [
 #[test]
 fn objects_are_told_where_they_may_be(rt: HostRuntime) -> Result<(), Fail> {
     let store = some_objects(rt.alloc())?;
-    are_told(&rt, rt.alloc(), &store, &TOLD)
+    let done = are_told(&rt, rt.alloc(), &store, &TOLD);
+    spent(store, done)
 }
 
 // Where the moving car was is forgotten.
@@ -82,7 +84,8 @@ const LATER: [Row; 3] = [
 fn objects_are_told_as_the_clock_goes_on(rt: HostRuntime) -> Result<(), Fail> {
     let mut store = some_objects(rt.alloc())?;
     store.stands_at(2000);
-    are_told(&rt, rt.alloc(), &store, &LATER)
+    let done = are_told(&rt, rt.alloc(), &store, &LATER);
+    spent(store, done)
 }
 
 const GONE: [Row; 1] = [(CAR, (0, 0), (5, 60), Some(&[]))];
@@ -103,5 +106,6 @@ fn goes_and_comes(rt: &impl Abort, alloc: Global, store: &mut Store) -> Result<(
 #[test]
 fn absent_objects_are_not_told(rt: HostRuntime) -> Result<(), Fail> {
     let mut store = two_classes(rt.alloc())?;
-    goes_and_comes(&rt, rt.alloc(), &mut store)
+    let done = goes_and_comes(&rt, rt.alloc(), &mut store);
+    spent(store, done)
 }

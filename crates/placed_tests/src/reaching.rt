@@ -3,6 +3,7 @@ ghost use Rattle.std.specs.Prelude.{◌≤◌};
 ghost use Rattle.formula_shape.specs.declared.limits.TheConstants.{OBJECT_LIMIT};
 
 use crate::asked::{Asked, left};
+use crate::owned::{kept, spent};
 use crate::spread::thousand_cars;
 use crate::stores::come;
 use object_store::Store;
@@ -31,8 +32,8 @@ fn add_posts(store: &mut Store) -> Result<(), Fail> {
 // Two posts at places of cars.
 fn cars_and_posts(alloc: Global) -> Result<Store, Fail> {
     let mut store = thousand_cars(alloc)?;
-    add_posts(&mut store)?;
-    Ok(store)
+    let done = add_posts(&mut store);
+    kept(store, done)
 }
 
 // Formulas that need cars near to a post.
@@ -66,13 +67,15 @@ fn leave_few(rt: &impl Abort, alloc: Global, store: &Store, error: u32) -> Resul
 #[test]
 fn few_cars_are_left_near_posts(rt: HostRuntime) -> Result<(), Fail> {
     let store = cars_and_posts(rt.alloc())?;
-    leave_few(&rt, rt.alloc(), &store, 0)
+    let done = leave_few(&rt, rt.alloc(), &store, 0);
+    spent(store, done)
 }
 
 #[test]
 fn few_cars_are_left_near_posts_where_positions_may_be_off(rt: HostRuntime) -> Result<(), Fail> {
     let store = cars_and_posts(rt.alloc())?;
-    leave_few(&rt, rt.alloc(), &store, 10_000)
+    let done = leave_few(&rt, rt.alloc(), &store, 10_000);
+    spent(store, done)
 }
 
 fn leave_all(rt: &impl Abort, alloc: Global, store: &Store) -> Result<(), Fail> {
@@ -86,5 +89,6 @@ fn leave_all(rt: &impl Abort, alloc: Global, store: &Store) -> Result<(), Fail> 
 #[test]
 fn all_cars_are_left_where_a_post_needs_none_near(rt: HostRuntime) -> Result<(), Fail> {
     let store = cars_and_posts(rt.alloc())?;
-    leave_all(&rt, rt.alloc(), &store)
+    let done = leave_all(&rt, rt.alloc(), &store);
+    spent(store, done)
 }

@@ -1,5 +1,6 @@
 //! A thousand cars that are spread out, and two regions among them.
 
+use crate::owned::kept;
 use crate::stores::{Way, come, number, two_classes, word};
 use fixed_point::Point;
 use object_store::Store;
@@ -39,8 +40,8 @@ pub(crate) fn come_from_to(
 /// The cars, all of which come at tick 0.
 pub(crate) fn thousand_cars(alloc: Global) -> Result<Store, Fail> {
     let mut store = two_classes(alloc)?;
-    come_from_to(alloc, &mut store, 0, 0, COUNT)?;
-    Ok(store)
+    let done = come_from_to(alloc, &mut store, 0, 0, COUNT);
+    kept(store, done)
 }
 
 fn corner(x: i64, y: i64) -> Result<Point, Fail> {
@@ -83,6 +84,6 @@ fn add_squares(alloc: Global, regions: &mut Regions) -> Result<(), Fail> {
 /// Squares of 150 units, `P` at a corner of the cars and `Q` among them.
 pub(crate) fn two_squares(alloc: Global) -> Result<Regions, Fail> {
     let mut regions = Regions::new(alloc);
-    add_squares(alloc, &mut regions)?;
-    Ok(regions)
+    let done = add_squares(alloc, &mut regions);
+    kept(regions, done)
 }

@@ -3,6 +3,7 @@ ghost use Rattle.std.specs.Prelude.{◌<◌, ◌≤◌, IfOk, IfSome, unsigned_a
 ghost use Rattle.fixed_point.specs.declared.number.TheConstants.{READ_LIMIT};
 ghost use Rattle.motion.specs.declared.limits.TheConstants.{CAPACITY_LIMIT};
 
+use crate::owned::kept;
 use fixed_point::{Fix, Point, READ_LIMIT, Slope, Word};
 use motion::{Legs, Place};
 use object_store::Store;
@@ -62,12 +63,11 @@ fn add_classes(store: &mut Store) -> Result<(), Fail> {
     add_class(store, b"post", 9)
 }
 
-/// A store with the classes car and post, which have the numbers 0 and 1. Each way out of a function that owns a store
-/// makes its proof longer, so who has one calls others that borrow it.
+/// A store with the classes car and post, which have the numbers 0 and 1.
 pub(crate) fn two_classes(alloc: Global) -> Result<Store, Fail> {
     let mut store = Store::new(alloc);
-    add_classes(&mut store)?;
-    Ok(store)
+    let done = add_classes(&mut store);
+    kept(store, done)
 }
 
 // Inserts an object where the tick isn't before the last write.
