@@ -118,7 +118,7 @@ kept_back Watch ahead entry now from t kept watched told =
     later n u h = grind (arith, nat_tests, h)
 kept_back Keep ahead entry now from t kept watched told = ap (λ n. nat_le n t) (kept refl)
 
-alive_rows : (w : World) (grows : Bool) (object class now lo from : ℕ) (k : KeptQuery) (changes : List (Change (List Span))) → now ≤ k.expiry →
+pub alive_rows : (w : World) (grows : Bool) (object class now lo from : ℕ) (k : KeptQuery) (changes : List (Change (List Span))) → now ≤ k.expiry →
     ((t : ℕ) → judged_from k now ≤ t → nat_le lo t ≡ nat_le k.entry t) →
     ((t : ℕ) → told_from k now ≤ t → nat_le from t ≡ nat_le (judged_from k now) t) →
     ((ds : List Column) → AreColumnsWith grows class k.query.classes object k.columns ds → (c t : ℕ) →

@@ -9,6 +9,7 @@ pub mod JoinedLemmas
 pub mod JudgedLemmas
 pub mod ListLemmas
 pub mod MadeLemmas
+pub mod MissedLemmas
 pub mod NumberedLemmas
 pub mod NumberingLemmas
 pub mod ObjectLemmas

@@ -1,14 +1,16 @@
 -- What a write makes of a query that it doesn't touch: nothing.
-use Rattle.std.proofs.Common.{◌≡◌, ℕ, zero, suc, ◌<◌, Bool, true, false, not, ◌&&◌, ◌||◌, List, [], ◌∷◌, length, map, refl, sym, ap, ◌∙◌, arith}
-use Rattle.std.specs.Prelude.{◌==◌, nat_le, nat_lt, slice_index}
+use Rattle.std.proofs.Common.{◌≡◌, ℕ, zero, suc, ◌<◌, Bool, true, false, not, ◌&&◌, ◌||◌, Option, None, Some, List, [], ◌∷◌, length, map, refl, sym, ap, subst, ◌∙◌, arith}
+use Rattle.std.specs.Prelude.{◌==◌, IfSome, nat_le, nat_lt, slice_index}
 use Rattle.std.specs.List.{list_any}
 use Rattle.std.proofs.lemmas.Bool.{and_parts, false≢true, or_parts}
 use Rattle.std.proofs.lemmas.Bool.Decides.{nat_tests}
 use Rattle.std.proofs.lemmas.List.Elements.{All-nil}
 use Rattle.tick_set.specs.Runs.{spans_have}
+use Rattle.tick_set.specs.declared.spans.Span.{Span}
 use Rattle.geometry.specs.Region.{Region}
 use Rattle.history.specs.Catalog.{Catalog, ids_of}
 use Rattle.formula.specs.Resolved.{are_distinct}
+use Rattle.kept_rows.specs.declared.change.Change.{Change}
 use Rattle.kept_rows.specs.Changes.{IsReady}
 use Rattle.kept_rows.specs.Numbers.{counts}
 use Rattle.object_store.specs.Contents.{Contents, catalog_of}
@@ -141,3 +143,14 @@ is_touched class now k classes same has tells there r test = record {
     gets : (e : ℕ) (g : Bool) → (nat_lt e now && not g) ≡ false → e < now → g ≡ true
     gets e true t past = refl
     gets e false t past = absurd (false≢true (sym t ∙ ap (λ b. b && true) (less e now past)))
+
+-- ---- a query of which nothing changes
+
+pub none_made : (grows : Bool) (changes : List (Change (List Span))) → grows ≡ false → changes ≡ [] →
+    untouched ≡ record { grows = grows; changes = changes }
+none_made grows changes same none = sym (λ i. record { grows = same i; changes = none i })
+
+pub some_touched : (class now : ℕ) (k : KeptQuery) (o : Option Renewal) (x : Renewal) → IfSome o (λ r. r ≡ x) → IsTouched class now k x →
+    IfSome o (IsTouched class now k)
+some_touched class now k None x is touched = tt
+some_touched class now k (Some r) x is touched = subst (IsTouched class now k) (sym is) touched

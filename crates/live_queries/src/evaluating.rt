@@ -165,7 +165,7 @@ pub(crate) fn new_rows<L: Ledger, M: Ledger>(
         classes,
         object.class,
         object.id,
-        object.likely,
+        object.place as usize,
     )?;
     let judge = Parts {
         columns,
@@ -223,7 +223,7 @@ fn new_row<L: Ledger, M: Ledger>(
         probes,
     )?;
     let one_more = does_take(grows, judged.query.classes.items(), object.class, column);
-    let numbers = column.numbers_with(one_more, object.id, object.likely);
+    let numbers = column.numbers_with(one_more, object.id, object.place as usize);
     let judge = Alone { ticks };
     let changes = refresh(alloc, judged.rows, from_ref(&numbers), &judge, judged.from)?;
     Ok(changes)
@@ -239,7 +239,7 @@ fn does_take(grows: bool, classes: &[ClassNo], class: ClassNo, column: &Objects)
 
 // Whether there is one class alone, which is this one.
 #[inline]
-fn is_alone(classes: &[ClassNo], class: ClassNo) -> bool
+pub(crate) fn is_alone(classes: &[ClassNo], class: ClassNo) -> bool
     ensures { result ≡ true → classes.now ≡ class ∷ [] }
 {
     match classes.split_first() {

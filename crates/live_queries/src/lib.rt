@@ -12,6 +12,7 @@ mod numbering;
 mod objects;
 mod parts;
 mod query;
+mod sight;
 mod told;
 mod written;
 

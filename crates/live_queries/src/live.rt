@@ -14,18 +14,21 @@ ghost use Rattle.answers.specs.Objects.{IsOfAcceptedWrites};
 ghost use Rattle.kept_rows.specs.declared.binding.TheConstants.{BINDING_LIMIT};
 ghost use Rattle.kept_rows.specs.Numbers.{size_of};
 ghost use Rattle.formula.specs.declared.limits.TheConstants.{QUERY_LIMIT};
-ghost use Rattle.live_queries.specs.Asked.{FitsWorld, HaveObjectsBefore, class_in};
-ghost use Rattle.history.specs.Catalog.{most_bindings};
-ghost use Rattle.live_queries.specs.Columns.{variables_of};
-ghost use Rattle.live_queries.specs.Effort.{all_judged_reads};
+ghost use Rattle.live_queries.specs.Asked.{FitsWorld, HaveObjectsBefore, IsBefore, class_in};
+ghost use Rattle.history.specs.Catalog.{Catalog, most_bindings};
+ghost use Rattle.live_queries.specs.Columns.{HaveObjectsOf, variables_of};
+ghost use Rattle.live_queries.specs.Effort.{all_judged_reads, judged_reads};
 ghost use Rattle.live_queries.specs.Kept.{AreKept, IsKept, registered};
-ghost use Rattle.live_queries.specs.Prepared.{AreFreshFor, AreMade, ArePrepared, IsPrepared};
+ghost use Rattle.live_queries.specs.Missed.{IsSightOf, IsWritten};
+ghost use Rattle.live_queries.specs.Prepared.{AreFreshFor, AreMade, ArePrepared, IsFreshFor, IsPrepared, IsReadyFor};
 ghost use Rattle.live_queries.specs.Registering.{AddsQuery};
-ghost use Rattle.live_queries.specs.Untouched.{spread};
+ghost use Rattle.live_queries.specs.Untouched.{or_untouched, spread};
 ghost use Rattle.live_queries.specs.Told.{answer_of, changes_of, info_of, passings_of, query_named, told_info};
 
-use crate::fresh::{Fresh, Renewals, Touched};
+use crate::fresh::{Fresh, Renewal, Renewals, Touched};
+use crate::objects::place_among;
 use crate::query::LiveQuery;
+use crate::sight::Sight;
 use crate::told::{AnswerRow, Move, QueryInfo};
 use crate::written::Written;
 use answers::StoredWorld;
@@ -281,16 +284,50 @@ fn class_of(store: &Store, id: u32) -> ClassNo
     }
 }
 
-// Where the columns of a class are likely to have an object: at its place in the class. A hint alone, so that it is
-// searched for once and not again in each column, and not where there is no query.
-fn likely_place(queries: &[LiveQuery], store: &Store, class: ClassNo, id: u32) -> usize {
-    if queries.is_empty() {
-        return 0;
+// An object with its place in the class, which is looked for once and not again for each query.
+fn written(store: &Store, class: ClassNo, id: u32) -> Written
+    requires there { id < length store.now.objects }
+    requires class { class ≡ class_in store.now id }
+    ensures written { IsWritten store.now result }
+    ensures id { result.id ≡ id }
+    ensures class { result.class ≡ class }
+{
+    let ids = store.class_names(class);
+    Written {
+        id,
+        class,
+        count: ids.len(),
+        place: place_among(ids, store.object_count(), id),
     }
-    match store.class_names(class).binary_search(&id) {
-        Ok(place) => place,
-        Err(place) => place,
+}
+
+// What a write to an object makes of a query. Nothing is evaluated of one that the object misses.
+fn renewal_of<L: Ledger, M: Ledger>(
+    alloc: Global,
+    query: &LiveQuery,
+    object: &Written,
+    sight: &mut Sight,
+    world: &StoredWorld,
+    now: u32,
+    reads: &mut Steps<L>,
+    probes: &mut Steps<M>,
+) -> Result<Option<Renewal>, AllocError>
+    requires accepted { IsOfAcceptedWrites world.now.store.now }
+    requires fits { FitsWorld (told_world world.now) query.now }
+    requires written { IsWritten world.now.store.now object.now }
+    requires before { (old : Catalog) × IsBefore object.now.id old (catalog_of world.now.store.now) × HaveObjectsOf old query.now.query.classes query.now.columns }
+    requires sight { IsSightOf world.now.store.now object.now.id sight.old }
+    ensures ready { IfOk result (λ r. IsReadyFor object.now.class query.now (or_untouched r)) }
+    ensures fresh { IfOk result (λ r. IsFreshFor (told_world world.now) object.now.id object.now.class now query.now (or_untouched r)) }
+    ensures sight { IsSightOf world.now.store.now object.now.id sight.new }
+    ensures least { reads.old ≤ reads.new }
+    ensures most { reads.new ≤ reads.old + judged_reads (catalog_of world.now.store.now) now object.now.class query.now }
+{
+    if query.is_missed(object, sight, world, now) {
+        return Ok(None);
     }
+    let renewal = query.renewal(alloc, object, world, now, reads, probes)?;
+    Ok(renewal)
 }
 
 // What a write to an object of a class makes of each of these queries. One that it doesn't touch takes no memory.
@@ -315,15 +352,24 @@ fn renewals_of<L: Ledger, M: Ledger>(
     ensures least { reads.old ≤ reads.new }
     ensures most { reads.new ≤ reads.old + all_judged_reads (catalog_of world.now.store.now) queries.now now class }
 {
-    let object = Written {
-        id,
-        class,
-        likely: likely_place(queries, world.store, class, id),
-    };
     let mut renewals = Renewals::new(alloc);
+    if queries.is_empty() {
+        return Ok(renewals);
+    }
+    let object = written(world.store, class, id);
+    let mut sight = Sight::none();
     let mut rest = queries;
     'queries: while let Some((query, later)) = rest.split_first() {
-        let renewal = query.renewal(alloc, &object, world, now, reads, probes)?;
+        let renewal = renewal_of(
+            alloc,
+            query,
+            &object,
+            &mut sight,
+            world,
+            now,
+            reads,
+            probes,
+        )?;
         renewals.add(renewal)?;
         rest = later;
     }

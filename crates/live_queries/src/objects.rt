@@ -203,8 +203,7 @@ fn place_of(ids: &[u32], id: u32, likely: usize, other: u32) -> u32
     }
 }
 
-/// The place of an object in a list that ascends and has it. Objects that were inserted one after another have numbers that
-/// follow each other, so it is looked for first where it then stands.
+/// The place of an object in a list that ascends and has it.
 pub(crate) fn place_in(ids: &[u32], count: u32, id: u32) -> u32
     requires ascend { IsStrictlyIncreasing ids.now }
     requires count { length ids.now ≤ count }
@@ -212,9 +211,19 @@ pub(crate) fn place_in(ids: &[u32], count: u32, id: u32) -> u32
     ensures below { result < length ids.now }
     ensures object { slice_index ids.now result ≡ id }
 {
+    place_among(ids, count, id)
+}
+
+/// The place of an object in a list that ascends, or another one where it isn't there. Objects that were inserted one after
+/// another have numbers that follow each other, so it is looked for first where it then stands.
+pub(crate) fn place_among(ids: &[u32], other: u32, id: u32) -> u32
+    requires ascending { IsStrictlyIncreasing ids.now }
+    requires other { length ids.now ≤ other }
+    ensures { (p : ℕ) → p < length ids.now → (p == result) ≡ (slice_index ids.now p == id) }
+{
     let first = ids.first().copied().unwrap_or(0);
     let likely = id.saturating_sub(first) as usize;
-    place_of(ids, id, likely, count)
+    place_of(ids, id, likely, other)
 }
 
 // Whether an object stands at this place.

@@ -24,17 +24,19 @@ ghost use Rattle.live_queries.specs.Columns.{HaveObjectsOf, variables_of};
 ghost use Rattle.live_queries.specs.Current.{row_at};
 ghost use Rattle.live_queries.specs.Effort.{judged_reads};
 ghost use Rattle.live_queries.specs.Kept.{IsKept};
+ghost use Rattle.live_queries.specs.Missed.{IsClearOf, IsSightOf, IsWritten};
 ghost use Rattle.live_queries.specs.Prepared.{AreNewRows, HaveRoomFor, IsFreshFor, IsMade, IsReadyFor};
 ghost use Rattle.live_queries.specs.Registering.{IsRegistered};
 ghost use Rattle.live_queries.specs.Renewed.{judged_from, judged_tick};
-ghost use Rattle.live_queries.specs.Untouched.{IsTouched, or_untouched};
+ghost use Rattle.live_queries.specs.Untouched.{IsTouched, or_untouched, untouched};
 ghost use Rattle.live_queries.specs.Written.{HaveObjectsWith};
 ghost use Rattle.live_queries.specs.Told.{answer_of, info_of, key_of, lines_of, move as told_move, moves_of, passing as told_passing, passings_of, row_of, target_count, target_times, told_info};
 
 use crate::columns::{class_count, columns_of, has_class, lack};
-use crate::evaluating::{new_rows, rows_between};
+use crate::evaluating::{is_alone, new_rows, rows_between};
 use crate::fresh::Renewal;
 use crate::objects::{Objects, add_object, objects_of, width};
+use crate::sight::Sight;
 use crate::told::{AnswerRow, Move, QueryInfo};
 use crate::written::{Judged, Written};
 use answers::{StoredWorld, fitting_queries_can_be_asked};
@@ -134,8 +136,8 @@ impl LiveQuery {
         })
     }
 
-    /// What a write to an object makes of it. None where it stays as it is: it has no variable of its class,
-    /// or its expiry is before the write and the class has no object more. The object's place is looked for at a likely
+    /// What a write to an object makes of it. None where it stays as it is: it has no variable of its class, it gets no
+    /// object and its expiry is before the write or none of its rows changes. The object's place is looked for at a likely
     /// one first. It fails only where memory is out.
     pub(crate) fn renewal<L: Ledger, M: Ledger>(
         &self,
@@ -167,7 +169,53 @@ impl LiveQuery {
             return Ok(None);
         }
         let changes = self.new_rows(alloc, object, grows, world, now, reads, probes)?;
-        Ok(Some(Renewal { grows, changes }))
+        Ok(renewal_if_any(grows, changes))
+    }
+
+    /// Whether a write to an object leaves it as it is: its only variable is of the object's class, the row of the object
+    /// is empty, and the object can't be where its formula needs it. It takes no memory, and no timeline is looked at.
+    pub(crate) fn is_missed(
+        &self,
+        object: &Written,
+        sight: &mut Sight,
+        world: &StoredWorld,
+        now: u32,
+    ) -> bool
+        requires written { IsWritten world.now.store.now object.now }
+        requires before { (old : Catalog) × IsBefore object.now.id old (catalog_of world.now.store.now) × HaveObjectsOf old self.now.query.classes self.now.columns }
+        requires sight { IsSightOf world.now.store.now object.now.id sight.old }
+        ensures fresh { result ≡ true → IsFreshFor (told_world world.now) object.now.id object.now.class now self.now untouched }
+        ensures sight { IsSightOf world.now.store.now object.now.id sight.new }
+    {
+        if self.expiry < now {
+            return false;
+        }
+        if !self.has_clear_row(object) {
+            return false;
+        }
+        let judged = self.judged_from(now);
+        let w = Window {
+            lo: first_judged(self.entry, judged),
+            hi: self.expiry,
+        };
+        sight.misses(&self.query, object.id, world, w)
+    }
+
+    // Whether its only variable ranges over all objects of the class of this one, whose row is empty.
+    fn has_clear_row(&self, object: &Written) -> bool
+        ensures { result ≡ true → IsClearOf object.now self.now }
+    {
+        let classes = self.query.classes.items();
+        if !is_alone(classes, object.class) {
+            return false;
+        }
+        if self.columns.len() != 1 {
+            return false;
+        }
+        if lack(&self.columns, classes, object.class, object.count) {
+            return false;
+        }
+        self.rows.is_clear(object.place)
     }
 
     // Whether a write to an object of one of its classes changes nothing of it: its expiry is before the write, and it
@@ -226,7 +274,10 @@ impl LiveQuery {
         ensures value { result ≡ judged_from self.now now }
         ensures most { result ≤ now }
     {
-        judged_tick(self.kind, reach_of(&self.query.formula), now)
+        match self.kind {
+            QueryKind::Keep => judged_tick(self.kind, reach_of(&self.query.formula), now),
+            QueryKind::Watch => now,
+        }
     }
 
     /// Whether it has this name.
@@ -459,6 +510,17 @@ impl LiveQuery {
         );
         renewal.changes.commit(&mut self.rows);
     }
+}
+
+// What a write makes of a query, if it is something.
+fn renewal_if_any(grows: bool, changes: Changes<IntervalSet>) -> Option<Renewal>
+    ensures some { IfSome result (λ r. r ≡ record { grows = grows; changes = changes }) }
+    ensures value { or_untouched result ≡ record { grows = grows; changes = changes } }
+{
+    if !grows && changes.is_empty() {
+        return None;
+    }
+    Some(Renewal { grows, changes })
 }
 
 // The first tick of a query's rows that is told at tick `now` or later: of a watched one none before `now` is.

@@ -10,8 +10,9 @@ use tick_set::Window;
 pub(crate) struct Written {
     pub(crate) id: u32,
     pub(crate) class: ClassNo,
-    /// Where a list of the objects of its class is likely to have it. A hint alone.
-    pub(crate) likely: usize,
+    /// How many objects its class has, and its place among them.
+    pub(crate) count: usize,
+    pub(crate) place: u32,
 }
 
 /// A query with its rows, of which those of some bindings are judged anew in a world over a window. Before tick `from` they

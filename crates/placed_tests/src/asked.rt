@@ -14,7 +14,7 @@ use formula::RQuery;
 use ftl_lexer::{LEXER_LIMIT, tokens};
 use ftl_parser::{Query, parse};
 use ftl_typer::resolve;
-use narrowing::{narrowed, narrowed_within};
+use narrowing::{can_hold_at, narrowed, narrowed_within};
 use object_store::Store;
 use polygon::Regions;
 use relation::Domains;
@@ -161,4 +161,35 @@ pub(crate) fn left(alloc: Global, store: &Store, asked: &Asked) -> Result<usize,
     let regions = two_squares(alloc)?;
     let count = left_among(alloc, store, &regions, asked);
     spent(regions, count)
+}
+
+// Whether a formula can hold where a car is over a window, from the last write on.
+fn can_be_met(query: &RQuery, store: &Store, regions: &Regions, id: u32, w: Window) -> bool {
+    if w.lo < store.last_tick() {
+        return true;
+    }
+    match store.whereabouts(id, w) {
+        Some(area) => can_hold_at(query, &area, regions),
+        None => false,
+    }
+}
+
+fn count_met(query: &RQuery, store: &Store, regions: &Regions, w: Window) -> usize {
+    (0..COUNT)
+        .filter(|id| can_be_met(query, store, regions, *id, w))
+        .count()
+}
+
+/// With how many cars a formula of one variable can hold where they are.
+pub(crate) fn met(alloc: Global, store: &Store, asked: &Asked) -> Result<usize, Fail> {
+    let regions = two_squares(alloc)?;
+    let count = met_in(alloc, store, &regions, asked);
+    spent(regions, count)
+}
+
+fn met_in(alloc: Global, store: &Store, regions: &Regions, asked: &Asked) -> Result<usize, Fail> {
+    let w = window(asked.ends)?;
+    let query = numbered(alloc, store, regions, asked)?;
+    let count = count_met(&query, store, regions, w);
+    Ok(spent(query, count))
 }

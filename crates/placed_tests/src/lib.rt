@@ -7,6 +7,8 @@ mod asked;
 #[cfg(test)]
 mod leaving;
 #[cfg(test)]
+mod meeting;
+#[cfg(test)]
 mod moving;
 #[cfg(test)]
 mod owned;

@@ -1,12 +1,15 @@
-use Rattle.std.proofs.Common.{◌≡◌, suc, length, refl, ap, subst, arith}
+use Rattle.std.proofs.Common.{◌≡◌, ℕ, suc, ◌+◌, ◌≤◌, List, [], length, refl, ap, sym, subst, arith}
 use Rattle.std.specs.Prelude.{All}
 use Rattle.std.proofs.lemmas.List.Elements.{All-head, All-rest}
 use Rattle.object_store.specs.Contents.{catalog_of}
 use Rattle.atoms.specs.Asked.{told_world}
-use Rattle.live_queries.specs.Asked.{FitsWorld}
+use Rattle.live_queries.specs.Asked.{FitsWorld, IsBefore}
 use Rattle.live_queries.specs.Columns.{HaveObjectsOf}
+use Rattle.live_queries.specs.declared.fresh.Renewal.{Renewal}
+use Rattle.live_queries.specs.Effort.{judged_reads}
 use Rattle.live_queries.specs.Kept.{KeptQuery}
-use Rattle.live_queries.specs.Prepared.{AreFreshFor, ArePrepared}
+use Rattle.live_queries.specs.Missed.{IsSightOf}
+use Rattle.live_queries.specs.Prepared.{AreFreshFor, ArePrepared, IsFreshFor, IsReadyFor}
 use Rattle.live_queries.specs.Untouched.{or_untouched}
 use Rattle.live_queries.proofs.ListLemmas.{counts_go_on, pairs_begin, pairs_end, pairs_go_on}
 use Rattle.live_queries.proofs.RenewedLemmas.{looks_end, looks_go_on, looks_stop}
@@ -22,6 +25,7 @@ queries-init g c = record {
   many = (let none : length c.new-renewals.result ≡ 0 = ap length c.new-renewals.ensures in omega (arith, none));
   least = omega arith;
   most = omega arith;
+  sight = c.none-sight.ensures c.args.world.now.store.now c.args.id;
 }
 
 pub add-requires : goal.add-requires
@@ -29,16 +33,16 @@ add-requires g c =
     let left : length c.queries.rest.now ≡ suc (length c.in-Some.later.now) = ap length c.in-Some.ensures.cases.0 in
     omega (arith, left, c.queries.invariant.many, c.requires.few)
 
-pub renewal-requires : goal.renewal-requires
-renewal-requires g c = record {
+pub renewal_of-requires : goal.renewal_of-requires
+renewal_of-requires g c = record {
   accepted = c.requires.accepted;
   fits = All-head (FitsWorld (told_world c.args.world.now)) c.in-Some.query.now c.in-Some.later.now
       (subst (All (FitsWorld (told_world c.args.world.now))) c.in-Some.ensures.cases.0 c.queries.invariant.fits);
-  there = c.requires.there;
-  class = c.requires.class;
+  written = c.written-object.ensures.written;
+  sight = subst (λ (i : ℕ). IsSightOf c.args.world.now.store.now i c.queries.sight) (sym c.written-object.ensures.id) c.queries.invariant.sight;
   before = (
     c.queries.invariant.before.old,
-    c.queries.invariant.before.before,
+    subst (λ (i : ℕ). IsBefore i c.queries.invariant.before.old (catalog_of c.args.world.now.store.now)) (sym c.written-object.ensures.id) c.queries.invariant.before.before,
     All-head (λ (k : KeptQuery). HaveObjectsOf c.queries.invariant.before.old k.query.classes k.columns) c.in-Some.query.now c.in-Some.later.now
         (subst (All (λ (k : KeptQuery). HaveObjectsOf c.queries.invariant.before.old k.query.classes k.columns)) c.in-Some.ensures.cases.0 c.queries.invariant.before.objects),
   );
@@ -56,17 +60,22 @@ queries-preserved g c = record {
   };
   prepared = pairs_go_on (ArePrepared c.args.class) c.args.queries.now c.queries.rest.now c.in-Some.later.now c.in-Some.query.now
       c.queries.renewals c.add.new.self (or_untouched c.in_ok-renewal.renewal) c.in-Some.ensures.cases.0 c.in_ok-add.ensures.added
-      (λ more is. (c.in_ok-renewal.ensures.ready, is)) c.queries.invariant.prepared;
+      (λ more is. (subst (λ (k : ℕ). IsReadyFor k c.in-Some.query.now (or_untouched c.in_ok-renewal.renewal)) c.written-object.ensures.class c.in_ok-renewal.ensures.ready, is)) c.queries.invariant.prepared;
   fresh = pairs_go_on (AreFreshFor (told_world c.args.world.now) c.args.id c.args.class c.args.now) c.args.queries.now
       c.queries.rest.now c.in-Some.later.now c.in-Some.query.now
       c.queries.renewals c.add.new.self (or_untouched c.in_ok-renewal.renewal) c.in-Some.ensures.cases.0 c.in_ok-add.ensures.added
-      (λ more is. (c.in_ok-renewal.ensures.fresh, is)) c.queries.invariant.fresh;
+      (λ more is. (subst (λ (i : ℕ). IsFreshFor (told_world c.args.world.now) i c.args.class c.args.now c.in-Some.query.now (or_untouched c.in_ok-renewal.renewal)) c.written-object.ensures.id
+      (subst (λ (k : ℕ). IsFreshFor (told_world c.args.world.now) c.written-object.result.id k c.args.now c.in-Some.query.now (or_untouched c.in_ok-renewal.renewal)) c.written-object.ensures.class
+      c.in_ok-renewal.ensures.fresh), is)) c.queries.invariant.fresh;
   many = counts_go_on (ArePrepared c.args.class) c.args.queries.now c.queries.rest.now c.in-Some.later.now c.in-Some.query.now
       c.queries.renewals c.add.new.self (or_untouched c.in_ok-renewal.renewal) (length c.args.queries.now) c.in-Some.ensures.cases.0 c.in_ok-add.ensures.added
       c.queries.invariant.many;
   least = omega (arith, c.queries.invariant.least, c.in_ok-renewal.ensures.least);
   most = looks_go_on (catalog_of c.args.world.now.store.now) c.args.now c.args.class c.queries.rest.now c.in-Some.later.now c.in-Some.query.now
-      c.queries.reads c.renewal.new.reads _ c.in-Some.ensures.cases.0 c.in_ok-renewal.ensures.most c.queries.invariant.most;
+      c.queries.reads c.renewal_of.new.reads _ c.in-Some.ensures.cases.0
+      (subst (λ (k : ℕ). c.renewal_of.new.reads ≤ c.queries.reads + judged_reads (catalog_of c.args.world.now.store.now) c.args.now k c.in-Some.query.now) c.written-object.ensures.class c.in_ok-renewal.ensures.most)
+      c.queries.invariant.most;
+  sight = subst (λ (i : ℕ). IsSightOf c.args.world.now.store.now i c.renewal_of.new.sight) c.written-object.ensures.id c.in_ok-renewal.ensures.sight;
 }
 
 pub returns-clause-prepared : goal.returns-clause-prepared
@@ -85,9 +94,13 @@ returns-clause-most g c =
 pub returns-in_err-renewal-clause-most : goal.returns-in_err-renewal-clause-most
 returns-in_err-renewal-clause-most g c =
     looks_stop (catalog_of c.args.world.now.store.now) c.args.now c.args.class c.queries.rest.now c.in-Some.later.now c.in-Some.query.now
-    c.queries.reads _ _ c.in-Some.ensures.cases.0 c.in_err-renewal.ensures.most c.queries.invariant.most
+    c.queries.reads _ _ c.in-Some.ensures.cases.0
+    (subst (λ (k : ℕ). c.renewal_of.new.reads ≤ c.queries.reads + judged_reads (catalog_of c.args.world.now.store.now) c.args.now k c.in-Some.query.now) c.written-object.ensures.class c.in_err-renewal.ensures.most)
+    c.queries.invariant.most
 
 pub returns-in_err-add-clause-most : goal.returns-in_err-add-clause-most
 returns-in_err-add-clause-most g c =
     looks_stop (catalog_of c.args.world.now.store.now) c.args.now c.args.class c.queries.rest.now c.in-Some.later.now c.in-Some.query.now
-    c.queries.reads _ _ c.in-Some.ensures.cases.0 c.in_ok-renewal.ensures.most c.queries.invariant.most
+    c.queries.reads _ _ c.in-Some.ensures.cases.0
+    (subst (λ (k : ℕ). c.renewal_of.new.reads ≤ c.queries.reads + judged_reads (catalog_of c.args.world.now.store.now) c.args.now k c.in-Some.query.now) c.written-object.ensures.class c.in_ok-renewal.ensures.most)
+    c.queries.invariant.most

@@ -5,6 +5,7 @@ use Rattle.atoms.specs.Asked.{told_world}
 use Rattle.live_queries.specs.declared.fresh.Renewal.{Renewal}
 use Rattle.live_queries.specs.Asked.{FitsWorld, HaveObjectsBefore}
 use Rattle.live_queries.specs.Effort.{all_judged_reads}
+use Rattle.live_queries.specs.Missed.{IsSightOf}
 use Rattle.live_queries.specs.Prepared.{AreFreshFor, ArePrepared}
 use Rattle.live_queries.proofs.live.renewals_of.Given as goal
 
@@ -20,6 +21,7 @@ invariant-queries g l = record {
   least : l.fn.reads ≤ l.reads;
   most : l.reads + all_judged_reads (catalog_of l.world.store.now) l.rest l.now l.class
       ≤ l.fn.reads + all_judged_reads (catalog_of l.world.store.now) l.queries l.now l.class;
+  sight : IsSightOf l.world.store.now l.id l.sight;
 }
 
 abbrev pub decreases-queries : goal.decreases-queries

@@ -1,0 +1,133 @@
+-- A write that misses a query: its object can't be where the query needs it, and the row of the object is empty.
+use Rattle.std.proofs.Common.{◌≡◌, ℕ, ◌+◌, ◌/◌, ◌%◌, ◌<◌, ◌≤◌, Bool, true, false, ◌&&◌, ◌||◌, List, [], ◌∷◌, length, map, refl, sym, ap, ◌∙◌, subst, inl, inr, arith, if◌then◌else◌}
+use Rattle.std.specs.Prelude.{◌==◌, nat_le, nat_lt, slice_index}
+use Rattle.std.specs.List.{enumerate_from, filter, list_any}
+use Rattle.std.proofs.lemmas.Bool.{and_parts, false≢true, or_cases, or_left}
+use Rattle.std.proofs.lemmas.Bool.Decides.{nat_tests}
+use Rattle.std.proofs.lemmas.List.{length-map}
+use Rattle.std.proofs.lemmas.List.FromFn.{length-enumerate_from}
+use Rattle.std.proofs.lemmas.List.Sums.{count_by-le-length, length-filter}
+use Rattle.tick_set.specs.Runs.{spans_have}
+use Rattle.tick_set.specs.Ticks.{within}
+use Rattle.geometry.specs.Region.{Region}
+use Rattle.history.specs.Catalog.{Catalog, ids_of}
+use Rattle.kept_rows.specs.Numbers.{counts}
+use Rattle.kept_rows.specs.declared.binding.Variable.{Variable}
+use Rattle.meaning.specs.Binding.{holds_full}
+use Rattle.object_store.specs.Contents.{Contents, StoredObject, catalog_of, ids_in}
+use Rattle.narrowing.specs.Needed.{Fails, told}
+use Rattle.answers.proofs.NarrowLemmas.{never_there}
+use Rattle.atoms.specs.Asked.{world_in}
+use Rattle.live_queries.specs.declared.written.Written.{Written}
+use Rattle.live_queries.specs.Asked.{IsBefore, class_in}
+use Rattle.live_queries.specs.Columns.{AreCounted, Column, HaveObjectsOf, gives, has_variable, object_of, order_of, variables_of}
+use Rattle.live_queries.specs.Current.{row_at, told_from}
+use Rattle.live_queries.specs.Kept.{IsKept, KeptQuery}
+use Rattle.live_queries.specs.Missed.{IsClearOf, IsWritten}
+use Rattle.live_queries.specs.Prepared.{AreColumnsWith, IsFreshFor}
+use Rattle.live_queries.specs.Renewed.{judged_from}
+use Rattle.live_queries.specs.Untouched.{untouched}
+use Rattle.live_queries.specs.Written.{HaveObjectsWith, lacks}
+use Rattle.live_queries.proofs.AnewLemmas.{alive_rows, renewed_objects}
+use Rattle.live_queries.proofs.ColumnLemmas.{equal, own}
+use Rattle.live_queries.proofs.GrowLemmas.{objects_with}
+use Rattle.live_queries.proofs.JudgedLemmas.{one_object}
+use Rattle.live_queries.proofs.MadeLemmas.{counted, same_order}
+use Rattle.live_queries.proofs.OrderLemmas.{among, columns_are, order_below}
+
+-- ---- the place of the object
+
+-- a class has no more objects than there are
+pub few_of_class : (objects : List StoredObject) (class : ℕ) → length (ids_in objects class) ≤ length objects
+few_of_class objects class =
+    let is_its : (ℕ × StoredObject) → Bool = λ e. e.1.class == class in
+    let all : List (ℕ × StoredObject) = enumerate_from 0 objects in
+    let mapped : length (ids_in objects class) ≡ length (filter is_its all) = length-map (filter is_its all) (λ (e : ℕ × StoredObject). e.0) in
+    let found : length (filter is_its all) ≤ length all = subst (λ (n : ℕ). n ≤ length all) (sym (length-filter is_its all)) (count_by-le-length is_its all) in
+    let many : length all ≡ length objects = length-enumerate_from 0 objects in
+    omega (arith, mapped, found, many)
+
+-- ---- one column
+
+if_either : (b : Bool) (x y z : Bool) → (b ≡ true → z ≡ x) → z ≡ y → z ≡ (if b then x else y)
+if_either true x y z first second = first refl
+if_either false x y z first second = second
+
+less_is : (a b : ℕ) → nat_lt a b ≡ true → a < b
+less_is a b e = grind (arith, nat_tests, e)
+
+-- the number of the binding that holds the object is its place
+number_is_place : (ids : List ℕ) (id place : ℕ) → ((p : ℕ) → p < length ids → (p == place) ≡ (slice_index ids p == id)) →
+    (ds : List Column) → length ds ≡ 1 → AreCounted ds → ((d : Column) → ds ≡ d ∷ [] → d.ids ≡ ids) →
+    (n : ℕ) → counts (variables_of ds) n ≡ true → gives ds id n ≡ true → n ≡ place
+number_is_place ids id place its [] one are same n here holding = absurd (omega (arith, one))
+number_is_place ids id place its (d ∷ e ∷ ds) one are same n here holding = absurd (omega (arith, one))
+number_is_place ids id place its (d ∷ []) one are same n here holding =
+    let own : d.ids ≡ ids = same d refl in
+    let whole : n / 1 ≡ n = omega arith in
+    let below : n < d.numbers.count =
+    subst (λ (m : ℕ). m < d.numbers.count) whole
+    (less_is (n / 1) d.numbers.count (and_parts (nat_lt (n / 1) d.numbers.count) (counts [] (n % 1)) here).0) in
+    let many : d.numbers.count ≡ length ids = are.0 ∙ ap length own in
+    let found : (slice_index d.ids n == id) ≡ true =
+    elim (or_cases (slice_index d.ids n == id) false (ap (λ (m : ℕ). (slice_index d.ids m == id) || false) (sym whole) ∙ holding)) [
+      | inl here_it_is ↦ here_it_is
+      | inr never ↦ absurd (false≢true never)
+    ] in
+    equal n place (its n (omega (arith, below, many)) ∙ sym (ap (λ (xs : List ℕ). slice_index xs n == id) own) ∙ found)
+
+-- ---- nothing changes of the query
+
+module _ (s : Contents) (regions : List Region) (o : Written) (written : IsWritten s o) (now lo : ℕ) (k : KeptQuery) (is : IsKept k) (clear : IsClearOf o k)
+    (old : Catalog) (before : IsBefore o.id old (catalog_of s)) (have : HaveObjectsOf old k.query.classes k.columns) where
+  with_objects : HaveObjectsWith (catalog_of s) false o.class k.query.classes o.id k.columns
+  with_objects =
+      renewed_objects s o.id o.class written.class k is old before have false k.query.classes refl k.columns refl o.count written.count (sym clear.all)
+
+  module _ (alive : now ≤ k.expiry) (judged : (t : ℕ) → judged_from k now ≤ t → nat_le lo t ≡ nat_le k.entry t)
+      (fails : (b : ℕ → ℕ) → b 0 ≡ o.id → Fails (told s regions b) lo k.expiry k.query.formula)
+      (ds : List Column) (made : AreColumnsWith false o.class k.query.classes o.id k.columns ds) where
+    one_column : length ds ≡ 1
+    one_column =
+        sym (length-map ds (λ (d : Column). d.variable))
+        ∙ ap length (same_order false o.class k.query.classes o.id k.columns ds made)
+        ∙ length-map k.columns (λ (c : Column). c.variable) ∙ clear.one
+
+    its_objects : (d : Column) → ds ≡ d ∷ [] → d.ids ≡ ids_of (catalog_of s) o.class
+    its_objects d only =
+        let order : map (λ (d : Column). d.variable) ds ≡ order_of k.query =
+        same_order false o.class k.query.classes o.id k.columns ds made ∙ is.order in
+        let has : has_variable ds d.variable ≡ true =
+        subst (λ (cs : List Column). has_variable cs d.variable ≡ true) (sym only) (or_left (d.variable == d.variable) false (own d.variable)) in
+        let below : d.variable < length k.query.classes =
+        order_below k.query is.resolved d.variable (ap (λ (vs : List ℕ). among vs d.variable) (sym order) ∙ sym (columns_are ds d.variable) ∙ has) in
+        let one : length k.query.classes ≡ 1 = ap length clear.alone in
+        let first : d.variable ≡ 0 = omega (arith, below, one) in
+        (subst (λ (cs : List Column). HaveObjectsOf (catalog_of s) k.query.classes cs) only
+        (objects_with (catalog_of s) false o.class k.query.classes o.id k.columns ds made with_objects)).0
+        ∙ ap (ids_of (catalog_of s)) (λ i. slice_index (clear.alone i) (first i))
+
+    rows_stay : (c t : ℕ) → row_at k c t ≡ (if (counts (variables_of ds) c && gives ds o.id c) && nat_le (judged_from k now) t
+        then (within lo k.expiry t && holds_full (world_in s regions) k.query k.expiry (object_of ds c) t) else row_at k c t)
+    rows_stay c t =
+        if_either ((counts (variables_of ds) c && gives ds o.id c) && nat_le (judged_from k now) t)
+        (within lo k.expiry t && holds_full (world_in s regions) k.query k.expiry (object_of ds c) t) (row_at k c t) (row_at k c t)
+        (λ here.
+        let both = and_parts (counts (variables_of ds) c) (gives ds o.id c)
+        (and_parts (counts (variables_of ds) c && gives ds o.id c) (nat_le (judged_from k now) t) here).0 in
+        let place : c ≡ o.place =
+        number_is_place (ids_of (catalog_of s) o.class) o.id o.place (λ p h. written.place p (subst (λ (n : ℕ). p < n) (sym written.count) h)) ds one_column
+        (counted false o.class k.query.classes o.id k.columns ds made) its_objects c both.0 both.1 in
+        let its : object_of ds c 0 ≡ o.id =
+        one_object k.query is.resolved (ap length clear.alone) ds
+        (same_order false o.class k.query.classes o.id k.columns ds made ∙ is.order) o.id c both.1 in
+        ap (λ (n : ℕ). row_at k n t) place ∙ clear.clear t
+        ∙ sym (never_there (told s regions) (world_in s regions) k.query lo k.expiry (object_of ds c) (fails (object_of ds c) its) t))
+        refl
+
+  pub missed : now ≤ k.expiry → ((t : ℕ) → judged_from k now ≤ t → nat_le lo t ≡ nat_le k.entry t) →
+      ((b : ℕ → ℕ) → b 0 ≡ o.id → Fails (told s regions b) lo k.expiry k.query.formula) → IsFreshFor (world_in s regions) o.id o.class now k untouched
+  missed alive judged fails = record {
+    objects = λ ds made. objects_with (catalog_of s) false o.class k.query.classes o.id k.columns ds made with_objects;
+    rows = alive_rows (world_in s regions) false o.id o.class now lo (judged_from k now) k [] alive judged (λ t told. refl) (rows_stay alive judged fails);
+  }
