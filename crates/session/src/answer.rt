@@ -1,5 +1,6 @@
 //! What is done with a command that was read.
-ghost use Rattle.std.specs.Prelude.{◌≡◌, ◌++◌, false, IfErr, IfOk, OnOk};
+ghost use Rattle.std.specs.Prelude.{◌≡◌, ◌++◌, false, IfErr, IfOk, IfSome, OnOk};
+ghost use Rattle.command_text.specs.Text.{text_of};
 ghost use Rattle.command_text.specs.Tree.{command_view};
 ghost use Rattle.line_meaning.specs.Step.{held};
 ghost use Rattle.database.specs.Telling.{RefusesFreely, tally};
@@ -85,12 +86,14 @@ fn perform_plain<L: Ledger, M: Ledger>(
     alloc: Global,
     state: &mut State,
     command: &Command,
+    printed: Option<&[u8]>,
     reads: &mut Steps<L>,
     probes: &mut Steps<M>,
     out: &mut Vec<u8>,
 ) -> Result<Next, CommandFault>
     requires state { IsState state.old.journal state.old }
     requires command { IsToCarryOut (command_view command.now) }
+    requires printed { IfSome printed (λ line. line.now ≡ text_of (command_view command.now)) }
     requires other { is_on_indexes (command_view command.now) ≡ false }
     ensures state { IsState state.new.journal state.new }
     ensures indexes { KeepsIndexes state.old state.new }
@@ -103,7 +106,7 @@ fn perform_plain<L: Ledger, M: Ledger>(
     match role_of(command) {
         Role::Blank => Ok(Next::Silent),
         Role::Journalled => {
-            keep(alloc, state, command, reads, probes, out)?;
+            keep(alloc, state, command, printed, reads, probes, out)?;
             Ok(Next::Accepted)
         }
         Role::Telling => {
@@ -140,6 +143,7 @@ fn perform<L: Ledger, M: Ledger>(
     alloc: Global,
     state: &mut State,
     command: &Command,
+    printed: Option<&[u8]>,
     reads: &mut Steps<L>,
     probes: &mut Steps<M>,
     out: &mut Vec<u8>,
@@ -147,6 +151,7 @@ fn perform<L: Ledger, M: Ledger>(
     requires state { IsState state.old.journal state.old }
     requires indexed { IsIndexed state.old }
     requires command { IsToCarryOut (command_view command.now) }
+    requires printed { IfSome printed (λ line. line.now ≡ text_of (command_view command.now)) }
     ensures state { IsState state.new.journal state.new }
     ensures indexed { IsIndexed state.new }
     ensures carries { Carries (command_view command.now)
@@ -162,7 +167,7 @@ fn perform<L: Ledger, M: Ledger>(
         }
         _ => {
             prepare_for(state, command);
-            perform_plain(alloc, state, command, reads, probes, out)
+            perform_plain(alloc, state, command, printed, reads, probes, out)
         }
     }
 }
@@ -174,6 +179,7 @@ pub(crate) fn carry_out<L: Ledger, M: Ledger>(
     alloc: Global,
     state: &mut State,
     command: &Command,
+    printed: Option<&[u8]>,
     reads: &mut Steps<L>,
     probes: &mut Steps<M>,
     out: &mut Vec<u8>,
@@ -181,6 +187,7 @@ pub(crate) fn carry_out<L: Ledger, M: Ledger>(
     requires state { IsState state.old.journal state.old }
     requires indexed { IsIndexed state.old }
     requires command { IsToCarryOut (command_view command.now) }
+    requires printed { IfSome printed (λ line. line.now ≡ text_of (command_view command.now)) }
     ensures state { IsState state.new.journal state.new }
     ensures indexed { IsIndexed state.new }
     ensures carried { Carried (command_view command.now)
@@ -189,7 +196,7 @@ pub(crate) fn carry_out<L: Ledger, M: Ledger>(
     ensures room { IfOk result (λ next. HasRoomFor next out.new) }
 {
     let before = out.len();
-    match perform(alloc, state, command, reads, probes, out) {
+    match perform(alloc, state, command, printed, reads, probes, out) {
         Ok(next) => Ok(next),
         Err(CommandFault::Refused(refusal)) => {
             out.truncate(before);

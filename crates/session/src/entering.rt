@@ -1,5 +1,5 @@
 //! The entry of a command in the journal.
-ghost use Rattle.std.specs.Prelude.{◌≡◌, ◌+◌, ◌≤◌, ◌||◌, ◌++◌, ◌∷◌, [], false, nat_le, nat_lt, length, OnErr, OnOk};
+ghost use Rattle.std.specs.Prelude.{◌≡◌, ◌+◌, ◌≤◌, ◌||◌, ◌++◌, ◌∷◌, [], false, nat_le, nat_lt, length, IfSome, OnErr, OnOk};
 ghost use Rattle.command_text.specs.declared.journal.TheConstants.{MOST_BYTES};
 ghost use Rattle.ftl_lexer.specs.declared.buffer.TheConstants.{LEXER_LIMIT};
 ghost use Rattle.command_text.specs.Journal.{bytes_of, spelled};
@@ -45,16 +45,31 @@ pub(crate) fn passes(
     entries >= most_entries || bytes + line as u64 + 1 > most_bytes
 }
 
-/// Prints the canonical line of a command, and refuses the command where the journal has no room for it.
+/// Puts the canonical line of a command into `line`: a copy where it was printed before.
+fn put_line(line: &mut Vec<u8>, command: &Command, printed: Option<&[u8]>) -> Result<(), AllocError>
+    requires printed { IfSome printed (λ line. line.now ≡ text_of (command_view command.now)) }
+    ensures { OnOk result (line.new.items ≡ text_of (command_view command.now)) }
+{
+    let Some(printed) = printed else {
+        return print_into(line, command);
+    };
+    line.clear();
+    line.extend_from_slice(printed)?;
+    Ok(())
+}
+
+/// Puts the canonical line of a command into `line`, and refuses the command where the journal has no room for it.
 pub(crate) fn admit(
     journal: &Journal,
     line: &mut Vec<u8>,
     command: &Command,
+    printed: Option<&[u8]>,
 ) -> Result<(), CommandFault>
     requires short { length (text_of (command_view command.now)) ≤ LEXER_LIMIT }
+    requires printed { IfSome printed (λ line. line.now ≡ text_of (command_view command.now)) }
     ensures { Admits journal.now (command_view command.now) line.new.items result }
 {
-    print_into(line, command)?;
+    put_line(line, command, printed)?;
     if is_full(journal, line.len()) {
         return Err(CommandFault::Refused(Refusal::JournalFull));
     }

@@ -3,6 +3,7 @@ ghost use Rattle.std.specs.Prelude.{◌≡◌, ◌++◌, ◌∷◌, [], true, fa
 ghost use Rattle.std.specs.List.{flat_map};
 ghost use Rattle.command_text.specs.Journal.{is_kept};
 ghost use Rattle.command_text.specs.Tree;
+ghost use Rattle.command_text.specs.Text.{text_of};
 ghost use Rattle.command_text.specs.Tree.{command_view};
 ghost use Rattle.line_meaning.specs.Reached.{AreReached};
 ghost use Rattle.line_meaning.specs.Step.{held};
@@ -43,6 +44,7 @@ pub(crate) fn keep<L: Ledger, M: Ledger>(
     alloc: Global,
     state: &mut State,
     command: &Command,
+    printed: Option<&[u8]>,
     reads: &mut Steps<L>,
     probes: &mut Steps<M>,
     out: &mut Vec<u8>,
@@ -50,6 +52,7 @@ pub(crate) fn keep<L: Ledger, M: Ledger>(
     requires state { IsState state.old.journal state.old }
     requires legible { IsLegible (command_view command.now) }
     requires kept { is_kept (command_view command.now) ≡ true }
+    requires printed { IfSome printed (λ line. line.now ≡ text_of (command_view command.now)) }
     ensures state { IsState state.new.journal state.new }
     ensures indexes { KeepsIndexes state.old state.new }
     ensures carries { Carries (command_view command.now)
@@ -77,7 +80,7 @@ pub(crate) fn keep<L: Ledger, M: Ledger>(
             add_query(alloc, state, command, &request, reads, probes, out)
         }
         Command::Drop { name } => drop_query(state, command, name, out),
-        _ => change(alloc, state, command, reads, probes, out),
+        _ => change(alloc, state, command, printed, reads, probes, out),
     }
 }
 
@@ -103,7 +106,7 @@ fn add_query<L: Ledger, M: Ledger>(
     ensures room { OnOk result (HasRoom out.new) }
 {
     let resolved = judge(alloc, &state.database, &state.live, request)?;
-    admit(&state.journal, &mut state.line, command)?;
+    admit(&state.journal, &mut state.line, command, None)?;
     register(
         alloc,
         &state.database,
@@ -145,7 +148,7 @@ fn drop_query(
     if !state.live.has(name) {
         return Err(CommandFault::Refused(Refusal::UnknownName));
     }
-    admit(&state.journal, &mut state.line, command)?;
+    admit(&state.journal, &mut state.line, command, None)?;
     enter(&mut state.journal, state.database.clock(), &state.line, out)?;
     state.live.drop_query(name);
     Ok(())
@@ -157,6 +160,7 @@ fn change<L: Ledger, M: Ledger>(
     alloc: Global,
     state: &mut State,
     command: &Command,
+    printed: Option<&[u8]>,
     reads: &mut Steps<L>,
     probes: &mut Steps<M>,
     out: &mut Vec<u8>,
@@ -164,6 +168,7 @@ fn change<L: Ledger, M: Ledger>(
     requires state { IsState state.old.journal state.old }
     requires legible { IsLegible (command_view command.now) }
     requires data { IsOnData (command_view command.now) }
+    requires printed { IfSome printed (λ line. line.now ≡ text_of (command_view command.now)) }
     ensures state { IsState state.new.journal state.new }
     ensures indexes { KeepsIndexes state.old state.new }
     ensures carries { Carries (command_view command.now)
@@ -173,7 +178,7 @@ fn change<L: Ledger, M: Ledger>(
 {
     let before = state.database.clock();
     let change = state.database.attempt(alloc, command)?;
-    match follow(alloc, state, command, &change, before, reads, probes, out) {
+    match follow(state, command, printed, &change, before, reads, probes, out) {
         Ok(fresh) => {
             // The command is entered, so nothing takes its change back any more.
             state.indexes.touch(&state.database, &change);
@@ -212,9 +217,9 @@ fn settle(live: &mut Live, fresh: Option<Fresh>, now: u32)
 /// What follows a change that was made: the lines of what changes for the registered queries, and the entry. Answers
 /// what a write makes of the rows, which is then to be made. After an error the journal and the rows are as before.
 fn follow<L: Ledger, M: Ledger>(
-    alloc: Global,
     state: &mut State,
     command: &Command,
+    printed: Option<&[u8]>,
     change: &Change,
     before: u32,
     reads: &mut Steps<L>,
@@ -224,6 +229,7 @@ fn follow<L: Ledger, M: Ledger>(
     requires changed { IsChanged (command_view command.now) before change.now state.old }
     requires legible { IsLegible (command_view command.now) }
     requires data { IsOnData (command_view command.now) }
+    requires printed { IfSome printed (λ line. line.now ≡ text_of (command_view command.now)) }
     ensures follows { Follows (command_view command.now) before change.now state.old state.new out.old.items out.new.items result }
     ensures spends { Spends (command_view command.now)
         (moment (held state.old.journal) out.old.items reads.old probes.old)
@@ -232,7 +238,8 @@ fn follow<L: Ledger, M: Ledger>(
     ensures room { OnOk result (HasRoom out.new) }
     ensures indexes { state.new.indexes ≡ state.old.indexes }
 {
-    admit(&state.journal, &mut state.line, command)?;
+    let alloc = *state.line.allocator();
+    admit(&state.journal, &mut state.line, command, printed)?;
     let fresh = tell_change(alloc, state, command, change, before, reads, probes, out)?;
     enter(&mut state.journal, before, &state.line, out)?;
     Ok(fresh)

@@ -1,6 +1,7 @@
 //! The state of the database, one line at a time.
 ghost use Rattle.std.specs.Prelude.{◌≡◌, ◌+◌, ◌≤◌, true, false, [], IfOk};
 ghost use Rattle.command_text.specs.Journal.{clock, is_kept, spelled};
+ghost use Rattle.command_text.specs.Text.{text_of};
 ghost use Rattle.command_text.specs.Tree.{command_view};
 ghost use Rattle.line_meaning.specs.Journal.{world};
 ghost use Rattle.line_meaning.specs.Looks.{is_query, looks_of, most_looks};
@@ -144,7 +145,29 @@ impl Session {
             (moment self.old out.old.items reads.old probes.old) (moment self.new out.new.items reads.new probes.new) result }
         ensures room { IfOk result (λ next. HasRoomFor next out.new) }
     {
-        carry_out(self.alloc, &mut self.state, command, reads, probes, out)
+        let (alloc, state) = (self.alloc, &mut self.state);
+        carry_out(alloc, state, command, None, reads, probes, out)
+    }
+
+    /// Carries out a command as [`Session::carry_out`] does, where its canonical line was printed before: the journal keeps
+    /// this line, and none is printed.
+    pub fn carry_out_printed<L: Ledger, M: Ledger>(
+        &mut self,
+        command: &Command,
+        line: &[u8],
+        reads: &mut Steps<L>,
+        probes: &mut Steps<M>,
+        out: &mut Vec<u8>,
+    ) -> Result<Next, AllocError>
+        requires legible { IsLegible (command_view command.now) }
+        requires plain { asks_shelf (command_view command.now) ≡ false }
+        requires line { line.now ≡ text_of (command_view command.now) }
+        ensures carried { Carried (command_view command.now)
+            (moment self.old out.old.items reads.old probes.old) (moment self.new out.new.items reads.new probes.new) result }
+        ensures room { IfOk result (λ next. HasRoomFor next out.new) }
+    {
+        let (alloc, state) = (self.alloc, &mut self.state);
+        carry_out(alloc, state, command, Some(line), reads, probes, out)
     }
 
     /// Carries out a command that a journal keeps, as `apply` does with its line, but without a reply: it is
@@ -197,7 +220,7 @@ fn apply_command<F: Shelf, L: Ledger, M: Ledger>(
 {
     match role_of(command) {
         Role::Filing => file(alloc, state, command, shelf, reads, probes, out),
-        _ => match carry_out(alloc, state, command, reads, probes, out) {
+        _ => match carry_out(alloc, state, command, None, reads, probes, out) {
             Ok(next) => {
                 end(next, out);
                 Ok(next)
