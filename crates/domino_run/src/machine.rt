@@ -8,6 +8,7 @@ use command_text::{LINE_LIMIT, Refusal, lines_begin_with_their_words};
 use line_loop::Handler;
 use outside::{OutFail, Shelf};
 use session::{ApplyFault, Next, Session};
+use std::mem::forget;
 use std::sync::ledger::Ledger;
 use steps::Steps;
 
@@ -42,11 +43,18 @@ impl<L: Ledger, M: Ledger> Database<L, M> {
         }
     }
 
-    /// The counters, as they stand.
+    /// The counters, as they stand. The program ends after it, and its memory with it: what the session holds isn't given
+    /// back piece by piece, which would look at all of it once more.
     pub fn into_counters(self) -> Counters<L, M>
         ensures { result ≡ self.counters }
     {
-        self.counters
+        let Database {
+            session,
+            counters,
+            ..
+        } = self;
+        forget(session);
+        counters
     }
 }
 

@@ -9,6 +9,7 @@ use hub::{Hub, NoContext, Users};
 use line_loop::run_lines;
 use outside::{Sink, Source};
 use std::alloc::Global;
+use std::mem::forget;
 use std::sync::ledger::Ledger;
 use steps::Steps;
 
@@ -29,5 +30,7 @@ pub(crate) fn share<S: Source, K: Sink, L: Ledger, M: Ledger>(
     users_hear_their_views();
     let mut users = Users::new(Hub::new(alloc), reads, probes);
     let ending = run_lines(alloc, limit, &mut users, source, sink, &mut NoContext);
+    // The program ends, and its memory with it: to give it back piece by piece would look at all of it once more.
+    forget(users);
     feed_status(ending)
 }

@@ -15,8 +15,9 @@ use Rattle.feeds_meaning.specs.Lines.{is_data}
 use Rattle.hub.specs.Answering.{text_by}
 use Rattle.hub.specs.declared.seat.Seat.{Seat as Kept}
 use Rattle.hub.specs.Seats.{IsHub, IsUser, accepted_in}
-use Rattle.hub.specs.Told.{AreTold, HasRoomAt, IsAnsweredAt, IsAnsweredBy, IsOwnAt, MayBeTold, change_by, kept_own, kept_told, seated, seated_by, told_by}
+use Rattle.hub.specs.Told.{AreTold, HasRoomAt, HasSentAt, IsAnsweredAt, IsAnsweredBy, IsOwnAt, MayBeTold, change_by, kept_own, kept_told, seated, seated_by, told_by}
 use Rattle.hub.proofs.HubLemmas.{HasRoomFor, hub_goes_on}
+use Rattle.hub.proofs.LineLemmas.{sent_at}
 use Rattle.hub.proofs.PlaceLemmas.{IsAloneAt, alone, at_all, same_user}
 use Rattle.hub.proofs.ToldLemmas.{data_kept, data_told, plain_kept, plain_told}
 use Rattle.hub.proofs.UserLemmas.{IsShort, ReachesMore, refused_alike}
@@ -184,6 +185,13 @@ module _ (d : ℕ) (seats : List Kept) (place : ℕ) (s : Kept) (c : CommandTree
       let both = both_true accepted (is_data c) shared in
       let fault = accepted_is (fault_of s.session c) accepted (mine).told both.0 in
       subst (All (MayBeTold s.user c)) (sym (e ∙ taken_new fault)) (all_may_be_told d seats place s c reaches hub c_short room at both.1 fault)
+
+  -- the sender has it as the last entry
+  pub sender_has_sent : (told : List Kept) → told ≡ new → (accepted && is_data c) ≡ true → HasSentAt place s.user c told
+  sender_has_sent told e shared =
+      let both = both_true accepted (is_data c) shared in
+      let fault = accepted_is (fault_of s.session c) accepted (mine).told both.0 in
+      subst (λ (l : List Kept). HasSentAt place s.user c l) (sym (e ∙ taken_new fault)) (sent_at seats place s c both.1)
 
   pub shared_kept : (told final : List Kept) (n : ℕ) (before after : List ℕ) → told ≡ new → (accepted && is_data c) ≡ true → n ≡ d + 1 →
       AreTold s.user text c told final before after → AreKept place c d n seats final before after

@@ -9,6 +9,7 @@ pub mod UserLemmas
 pub mod HubLemmas
 pub mod StepLemmas
 pub mod TellingLemmas
+pub mod LineLemmas
 pub mod CommandLemmas
 pub mod SentLemmas
 pub mod SeatedLemmas

@@ -7,7 +7,7 @@ use Rattle.command_text.specs.Tree.{CommandTree}
 use Rattle.reply_text.specs.Begins.{Begins}
 use Rattle.reply_text.proofs.BeginLemmas.{begins_through}
 use Rattle.hub.specs.declared.seat.Seat.{Seat as Kept}
-use Rattle.hub.specs.Told.{AreTold, MayBeTold, kept_told, told_kept}
+use Rattle.hub.specs.Told.{AreTold, kept_told, told_kept}
 
 -- so many at the front are changed
 abbrev pub changed : {A : Type 0} → (A → A) → ℕ → List A → List A
@@ -79,11 +79,12 @@ module _ (sender own : List ℕ) (c : CommandTree) (old : List Kept) (before : L
     pub next_told : (d : Kept) → get_or now place d ≡ get_or old place d
     next_told d = ap (λ l. get_or l place d) so_far.seats ∙ changed_at (kept_told sender c) place old d
 
-    pub may_be_told : (d : Kept) → place < length now → All (MayBeTold sender c) old → MayBeTold sender c (get_or now place d)
-    may_be_told d inside all =
+    -- what holds of all holds of the next one
+    pub holds_next : (P : Kept → Type 0) (d : Kept) → place < length now → All P old → P (get_or now place d)
+    holds_next P d inside all =
         let length_is = long in
-        let here : MayBeTold sender c (get_or old place d) = All-get_or (MayBeTold sender c) old place d (omega arith) all in
-        subst (MayBeTold sender c) (sym (next_told d)) here
+        let here : P (get_or old place d) = All-get_or P old place d (omega arith) all in
+        subst P (sym (next_told d)) here
 
     pub one_told : (s d t : Kept) (text : List ℕ) → place < length now → s ≡ get_or now place d → t ≡ kept_told sender c s →
         text ≡ after ++ told_kept sender own c s → Begins after text →

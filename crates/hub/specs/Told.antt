@@ -1,11 +1,12 @@
 -- The parts of a hub as the hub that they are seen as.
-use Rattle.std.specs.Prelude.{◌≡◌, ℕ, ◌<◌, ◌≤◌, Bool, true, false, ◌&&◌, is_none, Option, None, Some, option_map, List, [], ◌++◌, length, map, slice_get, slice_set, if◌then◌else◌}
+use Rattle.std.specs.Prelude.{◌≡◌, ℕ, ◌-◌, ◌<◌, ◌≤◌, Bool, true, false, ◌&&◌, is_none, Option, None, Some, option_map, List, [], ◌++◌, length, map, slice_get, slice_set, if◌then◌else◌}
 use Rattle.std.specs.List.{flat_map}
 use Rattle.std.specs.Option.{option_map_or}
 use Rattle.std.specs.Str.{bytes_eq}
 use Rattle.command_text.specs.declared.refusal.Refusal.{Refusal}
-use Rattle.command_text.specs.Journal.{spelled}
+use Rattle.command_text.specs.Journal.{Accepted, spelled}
 use Rattle.command_text.specs.Refusals.{line_of}
+use Rattle.command_text.specs.Text.{text_of}
 use Rattle.command_text.specs.Tree.{CommandTree}
 use Rattle.line_meaning.specs.Judging.{all_after, fault_of, held_after}
 use Rattle.line_meaning.specs.Reply.{line_feed}
@@ -116,6 +117,25 @@ kept_told sender c s = if bytes_eq sender s.user then s else record s { session 
 
 abbrev pub told_kept : (sender own : List ℕ) → CommandTree → Kept → List ℕ
 told_kept sender own c s = tagged s.user (if bytes_eq sender s.user then own else other_text s.session c)
+
+-- who isn't the sender takes it by its canonical line
+abbrev pub HasLineFor : (sender : List ℕ) → CommandTree → (line : List ℕ) → Kept → Type 0
+HasLineFor sender c line s = bytes_eq sender s.user ≡ false → line ≡ text_of c
+
+-- the canonical line of the last entry
+abbrev pub IsLastLine : List Accepted → List ℕ → Type 0
+IsLastLine journal line = (e : Accepted) → slice_get journal (length journal - 1) ≡ Some e → line ≡ text_of e.1
+
+abbrev pub HasLastLineAt : ℕ → List Kept → List ℕ → Type 0
+HasLastLineAt place seats line = (s : Kept) → slice_get seats place ≡ Some s → IsLastLine s.session.journal line
+
+-- the user at a place has sent it, and it was accepted and is the last entry
+pub record IsSender (sender : List ℕ) (c : CommandTree) (s : Kept) : Type 0 where
+  pub user : s.user ≡ sender
+  pub last : option_map (λ e. e.1) (slice_get s.session.journal (length s.session.journal - 1)) ≡ Some c
+
+abbrev pub HasSentAt : ℕ → (sender : List ℕ) → CommandTree → List Kept → Type 0
+HasSentAt place sender c seats = (s : Kept) → slice_get seats place ≡ Some s → IsSender sender c s
 
 -- all users were told of it
 pub record AreTold (sender own : List ℕ) (c : CommandTree) (old new : List Kept) (before after : List ℕ) : Type 0 where

@@ -1,5 +1,5 @@
 //! What is written of a line.
-ghost use Rattle.std.specs.Prelude.{◌≡◌, ◌+◌, ◌&&◌, ◌++◌, ◌<◌, All, true, codes, length, OnOk};
+ghost use Rattle.std.specs.Prelude.{◌≡◌, ◌+◌, ◌&&◌, ◌++◌, ◌<◌, All, Some, true, codes, length, slice_get, OnOk};
 ghost use Rattle.command_text.specs.Refusals.{line_of};
 ghost use Rattle.command_text.specs.Tree.{command_view};
 ghost use Rattle.line_meaning.specs.Reply.{line_feed};
@@ -7,7 +7,8 @@ ghost use Rattle.reply_text.specs.Begins.{Begins};
 ghost use Rattle.feeds_meaning.specs.declared.limits.TheConstants.{DATA_LINES_LIMIT};
 ghost use Rattle.feeds_meaning.specs.Lines.{is_data};
 ghost use Rattle.hub.specs.Answering.{MayBeGiven};
-ghost use Rattle.hub.specs.Told.{AreParts, AreTold, HasRoomAt, IsAnswered, IsAnsweredAt, IsRefusedAt, IsSentAt, MayBeTold, hub_of, kept_told, told_kept};
+ghost use Rattle.hub.specs.declared.seat.Seat.{Seat as Kept};
+ghost use Rattle.hub.specs.Told.{AreParts, AreTold, HasLastLineAt, HasLineFor, HasRoomAt, HasSentAt, IsAnswered, IsAnsweredAt, IsLastLine, IsRefusedAt, IsSentAt, MayBeTold, hub_of, kept_told, told_kept};
 
 use crate::judging::read_own;
 use crate::kinds::is_data;
@@ -15,7 +16,7 @@ use crate::newcomer::seat_for;
 use crate::notice::{push, push_refusal};
 use crate::parts::Parts;
 use crate::seat::{Seat, answer_at, answer_other};
-use command_text::{Command, CommandFault, Refusal};
+use command_text::{Command, CommandFault, Journal, Refusal};
 use fixed_point::Word;
 use line_meaning::steps_write_what_is_accepted;
 use session::read_commands_are_legible;
@@ -34,69 +35,105 @@ fn push_unheard(refusal: Refusal, out: &mut Vec<u8>) -> Result<(), AllocError>
     push_refusal(refusal, out)
 }
 
-/// Writes what one user is told of a data command of the user `sender` that was accepted: the sender the reply, any other
-/// what the command changes.
+/// A data command that was accepted of its sender and carried out for the sender.
+#[derive(Clone, Copy)]
+struct Taken<'a> {
+    sender: &'a Word,
+    command: &'a Command,
+    // Its canonical line, where there are others.
+    line: &'a [u8],
+    // The reply to the sender.
+    own: &'a [u8],
+}
+
+/// Writes what one user is told of a data command that was accepted: the sender the reply, any other what the command
+/// changes.
 fn tell_one<L: Ledger, M: Ledger>(
     seat: &mut Seat,
-    sender: &Word,
-    command: &Command,
-    own: &[u8],
+    taken: &Taken,
     other: &mut Vec<u8>,
     out: &mut Vec<u8>,
     reads: &mut Steps<L>,
     probes: &mut Steps<M>,
 ) -> Result<(), AllocError>
-    requires given { MayBeGiven (command_view command.now) }
-    requires shared { is_data (command_view command.now) ≡ true }
-    requires told { MayBeTold sender.now (command_view command.now) seat.old }
-    ensures kept { OnOk result (seat.new ≡ kept_told sender.now (command_view command.now) seat.old) }
-    ensures said { OnOk result (out.new.items ≡ out.old.items ++ told_kept sender.now own.now (command_view command.now) seat.old) }
+    requires given { MayBeGiven (command_view taken.now.command.now) }
+    requires shared { is_data (command_view taken.now.command.now) ≡ true }
+    requires told { MayBeTold taken.now.sender.now (command_view taken.now.command.now) seat.old }
+    requires line { HasLineFor taken.now.sender.now (command_view taken.now.command.now) taken.now.line.now seat.old }
+    ensures kept { OnOk result (seat.new ≡ kept_told taken.now.sender.now (command_view taken.now.command.now) seat.old) }
+    ensures said { OnOk result (out.new.items ≡ out.old.items ++ told_kept taken.now.sender.now taken.now.own.now (command_view taken.now.command.now) seat.old) }
     ensures begins { Begins out.old.items out.new.items }
 {
-    if *sender == seat.user {
-        return push_tagged(seat.user.bytes(), own, out);
+    if *taken.sender == seat.user {
+        return push_tagged(seat.user.bytes(), taken.own, out);
     }
-    answer_other(&mut seat.session, command, other, reads, probes)?;
+    let (command, line) = (taken.command, taken.line);
+    answer_other(&mut seat.session, command, line, other, reads, probes)?;
     push_tagged(seat.user.bytes(), other, out)
 }
 
-/// Writes what each user is told of a data command of the user `sender` that was accepted and carried out for the sender.
+/// Writes what each user is told of a data command that was accepted.
 fn tell_all<L: Ledger, M: Ledger>(
     seats: &mut [Seat],
-    sender: &Word,
-    command: &Command,
-    own: &[u8],
+    taken: &Taken,
     other: &mut Vec<u8>,
     out: &mut Vec<u8>,
     reads: &mut Steps<L>,
     probes: &mut Steps<M>,
 ) -> Result<(), AllocError>
-    requires given { MayBeGiven (command_view command.now) }
-    requires shared { is_data (command_view command.now) ≡ true }
-    requires told { All (MayBeTold sender.now (command_view command.now)) seats.old }
-    ensures told { OnOk result (AreTold sender.now own.now (command_view command.now) seats.old seats.new out.old.items out.new.items) }
+    requires given { MayBeGiven (command_view taken.now.command.now) }
+    requires shared { is_data (command_view taken.now.command.now) ≡ true }
+    requires told { All (MayBeTold taken.now.sender.now (command_view taken.now.command.now)) seats.old }
+    requires line { All (HasLineFor taken.now.sender.now (command_view taken.now.command.now) taken.now.line.now) seats.old }
+    ensures told { OnOk result (AreTold taken.now.sender.now taken.now.own.now (command_view taken.now.command.now) seats.old seats.new out.old.items out.new.items) }
     ensures begins { Begins out.old.items out.new.items }
 {
     let mut place = 0;
     'seats: while place < seats.len() {
-        tell_one(
-            &mut seats[place],
-            sender,
-            command,
-            own,
-            other,
-            out,
-            reads,
-            probes,
-        )?;
+        tell_one(&mut seats[place], taken, other, out, reads, probes)?;
         place += 1;
     }
     Ok(())
 }
 
-/// Tells all users of a data command of the user `sender` that was accepted: `own` is the reply to it.
+/// Puts the canonical line of the command that the user at a place sent last into `line`, if there are others.
+fn put_line<L: Ledger>(
+    seats: &[Seat],
+    place: usize,
+    line: &mut Vec<u8>,
+    reads: &mut Steps<L>,
+) -> Result<(), AllocError>
+    requires there { place < length seats.now }
+    requires some { (s : Kept) → slice_get seats.now place ≡ Some s → 0 < length s.session.journal }
+    ensures { OnOk result (1 < length seats.now → HasLastLineAt place seats.now line.new.items) }
+{
+    if seats.len() <= 1 {
+        return Ok(());
+    }
+    put_last(seats[place].session.journal(), line, reads)
+}
+
+/// Puts the last line of a journal into `line`.
+fn put_last<L: Ledger>(
+    journal: &Journal,
+    line: &mut Vec<u8>,
+    reads: &mut Steps<L>,
+) -> Result<(), AllocError>
+    requires { 0 < length journal.now }
+    ensures { OnOk result (IsLastLine journal.now line.new.items) }
+{
+    let Some((_, last)) = journal.entry(journal.len() - 1, reads) else {
+        unreachable!()
+    };
+    line.clear();
+    line.extend_from_slice(last)?;
+    Ok(())
+}
+
+/// Tells all users of a data command of the user `sender` at a place that was accepted: `own` is the reply to it.
 fn tell_data<L: Ledger, M: Ledger>(
     parts: &mut Parts,
+    place: usize,
     sender: &Word,
     command: &Command,
     out: &mut Vec<u8>,
@@ -106,6 +143,8 @@ fn tell_data<L: Ledger, M: Ledger>(
     requires given { MayBeGiven (command_view command.now) }
     requires shared { is_data (command_view command.now) ≡ true }
     requires told { All (MayBeTold sender.now (command_view command.now)) parts.old.seats.items }
+    requires there { place < length parts.old.seats.items }
+    requires sent { HasSentAt place sender.now (command_view command.now) parts.old.seats.items }
     requires few { parts.old.data_lines < DATA_LINES_LIMIT }
     ensures told { OnOk result (AreTold sender.now parts.old.own.items (command_view command.now) parts.old.seats.items parts.new.seats.items
         out.old.items out.new.items) }
@@ -114,12 +153,20 @@ fn tell_data<L: Ledger, M: Ledger>(
 {
     let Parts {
         seats,
+        line,
         own,
         other,
         data_lines,
         ..
     } = parts;
-    tell_all(seats, sender, command, own, other, out, reads, probes)?;
+    put_line(seats, place, line, reads)?;
+    let taken = Taken {
+        sender,
+        command,
+        line,
+        own,
+    };
+    tell_all(seats, &taken, other, out, reads, probes)?;
     *data_lines += 1;
     Ok(())
 }
@@ -160,7 +207,7 @@ fn answer_command<L: Ledger, M: Ledger>(
         probes,
     )?;
     if is_shared(accepted, command) {
-        tell_data(parts, &sender, command, out, reads, probes)?;
+        tell_data(parts, place, &sender, command, out, reads, probes)?;
         return Ok(());
     }
     push_tagged(sender.bytes(), &parts.own, out)?;
@@ -250,10 +297,7 @@ pub(crate) fn answer_line<L: Ledger, M: Ledger>(
     let Some((user, own_line)) = sent_in(line) else {
         return push_unheard(Refusal::BadSyntax, out);
     };
-    let Some(user) = Word::of(user) else {
-        return push_unheard(Refusal::BadSyntax, out);
-    };
-    match seat_for(parts, &user, reads, probes)? {
+    match seat_for(parts, user, reads, probes)? {
         Some(place) => answer_sent(parts, place, own_line, out, reads, probes),
         None => push_unheard(Refusal::StoreFull, out),
     }

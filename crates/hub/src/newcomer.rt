@@ -88,10 +88,10 @@ fn new_session<L: Ledger, M: Ledger>(
 }
 
 /// The place of a user among the others.
-fn place_of(seats: &[Seat], user: &Word) -> Option<usize>
+fn place_of(seats: &[Seat], user: &[u8]) -> Option<usize>
     ensures { result ≡ position (λ s. bytes_eq user.now s.user) seats.now }
 {
-    seats.iter().position(|seat| *user == seat.user)
+    seats.iter().position(|seat| user == seat.user.bytes())
 }
 
 /// Whether there is no room for one more user.
@@ -104,7 +104,7 @@ fn is_full(seats: &[Seat]) -> bool
 /// The place of the sender of a line, who gets one where there was none. None where there is no room for one more user.
 pub(crate) fn seat_for<L: Ledger, M: Ledger>(
     parts: &mut Parts,
-    user: &Word,
+    user: &[u8],
     reads: &mut Steps<L>,
     probes: &mut Steps<M>,
 ) -> Result<Option<usize>, AllocError>
@@ -124,7 +124,7 @@ pub(crate) fn seat_for<L: Ledger, M: Ledger>(
 #[inline(never)]
 fn seat_new<L: Ledger, M: Ledger>(
     parts: &mut Parts,
-    user: &Word,
+    user: &[u8],
     reads: &mut Steps<L>,
     probes: &mut Steps<M>,
 ) -> Result<Option<usize>, AllocError>
@@ -137,6 +137,9 @@ fn seat_new<L: Ledger, M: Ledger>(
     if is_full(&parts.seats) {
         return Ok(None);
     }
+    let Some(user) = Word::of(user) else {
+        unreachable!()
+    };
     // A call that does nothing, whose contract says which journals steps lead to.
     steps_write_what_is_accepted();
     let session = new_session(
@@ -148,7 +151,7 @@ fn seat_new<L: Ledger, M: Ledger>(
         probes,
     )?;
     let seat = Seat {
-        user: *user,
+        user,
         session,
         query_lines: 0,
     };

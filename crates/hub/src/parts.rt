@@ -14,6 +14,8 @@ pub(crate) struct Parts {
     pub(crate) seats: Vec<Seat>,
     // How many data commands were accepted, of whomever.
     pub(crate) data_lines: u32,
+    // The canonical line of the last data command that several users were told of.
+    pub(crate) line: Vec<u8>,
     // The text for the sender of a line, and that for another user.
     pub(crate) own: Vec<u8>,
     pub(crate) other: Vec<u8>,
@@ -32,6 +34,7 @@ impl Parts {
             reader: LineReader::new(alloc),
             seats: Vec::new(alloc),
             data_lines: 0,
+            line: Vec::new(alloc),
             own: Vec::new(alloc),
             other: Vec::new(alloc),
         }

@@ -1,5 +1,6 @@
 //! One user: the session that answers this user's lines.
 ghost use Rattle.std.specs.Prelude.{◌≡◌, ◌<◌, true, None, Some, IfOk, OnOk, length, slice_get};
+ghost use Rattle.command_text.specs.Text.{text_of};
 ghost use Rattle.command_text.specs.Tree.{command_view};
 ghost use Rattle.line_meaning.specs.Judging.{fault_of};
 ghost use Rattle.feeds_meaning.specs.declared.limits.TheConstants.{QUERY_LINES_LIMIT};
@@ -120,21 +121,25 @@ pub(crate) fn answer_at<L: Ledger, M: Ledger>(
     Ok(accepted)
 }
 
-/// Carries out a data command of another user, which was accepted. Puts what it changes for this user's queries into
-/// `reply`.
-#[tactic(auto, using(crate::proofs::SeatLemmas::other_taken))]
+/// Carries out a data command of another user, which was accepted, by its canonical line. Puts what it changes for this
+/// user's queries into `reply`.
+#[tactic(auto, using(crate::proofs::SeatLemmas::other_taken, crate::proofs::KindLemmas::plain_command))]
 pub(crate) fn answer_other<L: Ledger, M: Ledger>(
     session: &mut Session,
     command: &Command,
+    line: &[u8],
     reply: &mut Vec<u8>,
     reads: &mut Steps<L>,
     probes: &mut Steps<M>,
 ) -> Result<(), AllocError>
     requires given { MayBeGiven (command_view command.now) }
     requires shared { is_data (command_view command.now) ≡ true }
+    requires line { line.now ≡ text_of (command_view command.now) }
     requires accepted { fault_of session.old (command_view command.now) ≡ None }
     ensures { OnOk result (IsOther (command_view command.now) session.old session.new reply.new.items) }
 {
-    carry(session, command, reply, reads, probes)?;
+    reply.clear();
+    push_notice(session, command, reply)?;
+    session.carry_out_printed(command, line, reads, probes, reply)?;
     Ok(())
 }

@@ -46,6 +46,7 @@ pub(crate) fn passes(
 }
 
 /// Puts the canonical line of a command into `line`: a copy where it was printed before.
+#[inline(always)]
 fn put_line(line: &mut Vec<u8>, command: &Command, printed: Option<&[u8]>) -> Result<(), AllocError>
     requires printed { IfSome printed (λ line. line.now ≡ text_of (command_view command.now)) }
     ensures { OnOk result (line.new.items ≡ text_of (command_view command.now)) }
@@ -59,6 +60,7 @@ fn put_line(line: &mut Vec<u8>, command: &Command, printed: Option<&[u8]>) -> Re
 }
 
 /// Puts the canonical line of a command into `line`, and refuses the command where the journal has no room for it.
+#[inline(always)]
 pub(crate) fn admit(
     journal: &Journal,
     line: &mut Vec<u8>,

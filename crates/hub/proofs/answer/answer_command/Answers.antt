@@ -1,4 +1,4 @@
-use Rattle.std.proofs.Common.{◌≡◌, ◌++◌, true, false, List, length, Some, sym, ap, ◌∙◌}
+use Rattle.std.proofs.Common.{◌≡◌, ◌++◌, ◌<◌, true, false, List, length, Some, sym, ap, ◌∙◌, subst}
 use Rattle.std.proofs.lemmas.List.{with_items_is}
 use Rattle.std.specs.Prelude.{◌&&◌, slice_get}
 use Rattle.std.specs.Vec.{with_items}
@@ -7,7 +7,7 @@ use Rattle.users.specs.Tagged.{tagged}
 use Rattle.feeds_meaning.specs.Lines.{is_data}
 use Rattle.hub.specs.declared.seat.Seat.{Seat as Kept}
 use Rattle.hub.specs.Told.{seated}
-use Rattle.hub.proofs.CommandLemmas.{is_at, others_may_be_told, own_length, plain_done, seated_at, shared_kept}
+use Rattle.hub.proofs.CommandLemmas.{is_at, others_may_be_told, own_length, plain_done, seated_at, sender_has_sent, shared_kept}
 use Rattle.hub.proofs.SentLemmas.{user_is_short}
 use Rattle.hub.proofs.UserLemmas.{IsShort}
 use Rattle.hub.proofs.answer.answer_command.Goals as goal
@@ -37,6 +37,43 @@ tell_data-requires-clause-told g c =
     others_may_be_told c.args.parts.now.data_lines seats c.args.place s (command_view c.args.command.now)
     c.steps_write_what_is_accepted.ensures.command c.requires.hub.hub short c.requires.room at c.deref_mut.result.now c.answer_at.new.seats
     c.deref_mut.ensures.value c.answer_at.new.reply.items c.in_ok-accepted.accepted c.in_ok-accepted.ensures (with_items c.args.parts.now.seats c.answer_at.new.seats).items all shared
+
+pub tell_data-requires-clause-sent : goal.tell_data-requires-clause-sent
+tell_data-requires-clause-sent g c =
+    let seats = c.args.parts.now.seats.items in
+    let s = c.index.result.now in
+    let at : slice_get seats c.args.place ≡ Some s = is_at seats c.args.place s c.requires.there c.index.ensures in
+    let short : IsShort (command_view c.args.command.now) = record {
+      printable = c.requires.given.legible.printable;
+      short = c.requires.given.legible.short;
+    } in
+    let long : length c.answer_at.new.seats ≡ length seats = own_length c.args.parts.now.data_lines seats c.args.place s (command_view c.args.command.now)
+    c.steps_write_what_is_accepted.ensures.command c.requires.hub.hub short c.requires.room at c.deref_mut.result.now c.answer_at.new.seats
+    c.deref_mut.ensures.value c.answer_at.new.reply.items c.in_ok-accepted.accepted c.in_ok-accepted.ensures in
+    let kept : length c.answer_at.new.seats ≡ c.args.parts.now.seats.len = long ∙ sym (ap (λ (l : List Kept). length l) c.deref_mut.ensures.value) ∙ c.deref_mut.ensures.len in
+    let all : (with_items c.args.parts.now.seats c.answer_at.new.seats).items ≡ c.answer_at.new.seats =
+    with_items_is c.args.parts.now.seats c.answer_at.new.seats kept in
+    let shared : (c.in_ok-accepted.accepted && is_data (command_view c.args.command.now)) ≡ true = sym c.is_shared.ensures ∙ c.if-is_shared.true in
+    sender_has_sent c.args.parts.now.data_lines seats c.args.place s (command_view c.args.command.now)
+    c.steps_write_what_is_accepted.ensures.command c.requires.hub.hub short c.requires.room at c.deref_mut.result.now c.answer_at.new.seats
+    c.deref_mut.ensures.value c.answer_at.new.reply.items c.in_ok-accepted.accepted c.in_ok-accepted.ensures (with_items c.args.parts.now.seats c.answer_at.new.seats).items all shared
+
+pub tell_data-requires-clause-there : goal.tell_data-requires-clause-there
+tell_data-requires-clause-there g c =
+    let seats = c.args.parts.now.seats.items in
+    let s = c.index.result.now in
+    let at : slice_get seats c.args.place ≡ Some s = is_at seats c.args.place s c.requires.there c.index.ensures in
+    let short : IsShort (command_view c.args.command.now) = record {
+      printable = c.requires.given.legible.printable;
+      short = c.requires.given.legible.short;
+    } in
+    let long : length c.answer_at.new.seats ≡ length seats = own_length c.args.parts.now.data_lines seats c.args.place s (command_view c.args.command.now)
+    c.steps_write_what_is_accepted.ensures.command c.requires.hub.hub short c.requires.room at c.deref_mut.result.now c.answer_at.new.seats
+    c.deref_mut.ensures.value c.answer_at.new.reply.items c.in_ok-accepted.accepted c.in_ok-accepted.ensures in
+    let kept : length c.answer_at.new.seats ≡ c.args.parts.now.seats.len = long ∙ sym (ap (λ (l : List Kept). length l) c.deref_mut.ensures.value) ∙ c.deref_mut.ensures.len in
+    let all : (with_items c.args.parts.now.seats c.answer_at.new.seats).items ≡ c.answer_at.new.seats =
+    with_items_is c.args.parts.now.seats c.answer_at.new.seats kept in
+    subst (λ n. c.args.place < n) (sym (ap (λ (l : List Kept). length l) all ∙ long)) c.requires.there
 
 pub returns-then-is_shared-clause-answered : goal.returns-then-is_shared-clause-answered
 returns-then-is_shared-clause-answered g c =

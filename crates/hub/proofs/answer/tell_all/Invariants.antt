@@ -5,7 +5,7 @@ use Rattle.hub.proofs.answer.tell_all.Given as goal
 
 abbrev pub invariant-seats : goal.invariant-seats
 invariant-seats g l =
-    AreToldSoFar l.initial.sender l.initial.own (command_view l.initial.command) l.place l.initial.seats l.seats l.initial.out.items l.out.items
+    AreToldSoFar l.initial.taken.sender.now l.initial.taken.own.now (command_view l.initial.taken.command.now) l.place l.initial.seats l.seats l.initial.out.items l.out.items
 
 abbrev pub decreases-seats : goal.decreases-seats
 decreases-seats g l = length l.initial.seats - l.place

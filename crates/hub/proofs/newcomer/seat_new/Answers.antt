@@ -19,9 +19,9 @@ returns-clause-seated g c =
     let d = c.args.parts.now.data_lines in
     let seats = c.args.parts.now.seats.items in
     let user = c.args.user.now in
-    let k : Kept = record { user = user; session = c.in_ok-session.session; query_lines = 0 } in
+    let k : Kept = record { user = c.in-Some.user; session = c.in_ok-session.session; query_lines = 0 } in
     let none = c.requires.none in
-    let new = is_new user (hub_by d seats).accepted k refl
+    let new = is_new user (hub_by d seats).accepted k c.in-Some.ensures.1
     (c.in_ok-session.ensures ∙ ap (λ (l : List Kept). (newcomer (hub_by d l).accepted).held) c.deref-2.ensures.value) refl in
     let long = ap (λ (l : List Kept). length l) c.deref.ensures.value in
     let many = c.deref.ensures.len in
@@ -37,9 +37,9 @@ returns-clause-hub g c =
     let d = c.args.parts.now.data_lines in
     let seats = c.args.parts.now.seats.items in
     let user = c.args.user.now in
-    let k : Kept = record { user = user; session = c.in_ok-session.session; query_lines = 0 } in
+    let k : Kept = record { user = c.in-Some.user; session = c.in_ok-session.session; query_lines = 0 } in
     let none = c.requires.none in
-    let new = is_new user (hub_by d seats).accepted k refl
+    let new = is_new user (hub_by d seats).accepted k c.in-Some.ensures.1
     (c.in_ok-session.ensures ∙ ap (λ (l : List Kept). (newcomer (hub_by d l).accepted).held) c.deref-2.ensures.value) refl in
     let long = ap (λ (l : List Kept). length l) c.deref.ensures.value in
     let many = c.deref.ensures.len in
