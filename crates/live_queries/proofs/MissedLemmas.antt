@@ -1,33 +1,31 @@
 -- A write that misses a query: its object can't be where the query needs it, and the row of the object is empty.
-use Rattle.std.proofs.Common.{◌≡◌, ℕ, ◌+◌, ◌/◌, ◌%◌, ◌<◌, ◌≤◌, Bool, true, false, ◌&&◌, ◌||◌, List, [], ◌∷◌, length, map, refl, sym, ap, ◌∙◌, subst, inl, inr, arith, if◌then◌else◌}
+use Rattle.std.proofs.Common.{◌≡◌, ℕ, ◌/◌, ◌%◌, ◌<◌, ◌≤◌, Bool, true, false, ◌&&◌, ◌||◌, List, [], ◌∷◌, length, map, refl, sym, ap, ◌∙◌, subst, inl, inr, arith, if◌then◌else◌}
 use Rattle.std.specs.Prelude.{◌==◌, nat_le, nat_lt, slice_index}
-use Rattle.std.specs.List.{enumerate_from, filter, list_any}
+use Rattle.std.specs.List.{enumerate_from, filter}
 use Rattle.std.proofs.lemmas.Bool.{and_parts, false≢true, or_cases, or_left}
 use Rattle.std.proofs.lemmas.Bool.Decides.{nat_tests}
 use Rattle.std.proofs.lemmas.List.{length-map}
 use Rattle.std.proofs.lemmas.List.FromFn.{length-enumerate_from}
 use Rattle.std.proofs.lemmas.List.Sums.{count_by-le-length, length-filter}
-use Rattle.tick_set.specs.Runs.{spans_have}
 use Rattle.tick_set.specs.Ticks.{within}
 use Rattle.geometry.specs.Region.{Region}
 use Rattle.history.specs.Catalog.{Catalog, ids_of}
 use Rattle.kept_rows.specs.Numbers.{counts}
-use Rattle.kept_rows.specs.declared.binding.Variable.{Variable}
 use Rattle.meaning.specs.Binding.{holds_full}
 use Rattle.object_store.specs.Contents.{Contents, StoredObject, catalog_of, ids_in}
 use Rattle.narrowing.specs.Needed.{Fails, told}
 use Rattle.answers.proofs.NarrowLemmas.{never_there}
 use Rattle.atoms.specs.Asked.{world_in}
 use Rattle.live_queries.specs.declared.written.Written.{Written}
-use Rattle.live_queries.specs.Asked.{IsBefore, class_in}
+use Rattle.live_queries.specs.Asked.{IsBefore}
 use Rattle.live_queries.specs.Columns.{AreCounted, Column, HaveObjectsOf, gives, has_variable, object_of, order_of, variables_of}
-use Rattle.live_queries.specs.Current.{row_at, told_from}
+use Rattle.live_queries.specs.Current.{row_at}
 use Rattle.live_queries.specs.Kept.{IsKept, KeptQuery}
 use Rattle.live_queries.specs.Missed.{IsClearOf, IsWritten}
 use Rattle.live_queries.specs.Prepared.{AreColumnsWith, IsFreshFor}
 use Rattle.live_queries.specs.Renewed.{judged_from}
 use Rattle.live_queries.specs.Untouched.{untouched}
-use Rattle.live_queries.specs.Written.{HaveObjectsWith, lacks}
+use Rattle.live_queries.specs.Written.{HaveObjectsWith}
 use Rattle.live_queries.proofs.AnewLemmas.{alive_rows, renewed_objects}
 use Rattle.live_queries.proofs.ColumnLemmas.{equal, own}
 use Rattle.live_queries.proofs.GrowLemmas.{objects_with}

@@ -1,5 +1,5 @@
 -- An object that was written, and queries that it leaves as they are since it can't be where they need it.
-use Rattle.std.specs.Prelude.{◌≡◌, ⊤, ℕ, ◌<◌, ◌==◌, false, Option, None, Some, List, [], ◌∷◌, length, slice_index}
+use Rattle.std.specs.Prelude.{◌≡◌, ⊤, ℕ, ◌<◌, ◌==◌, false, Option, None, Some, [], ◌∷◌, length, slice_index}
 use Rattle.std.specs.List.{list_any}
 use Rattle.history.specs.Catalog.{ids_of}
 use Rattle.object_store.specs.Contents.{Contents, catalog_of}

@@ -360,16 +360,7 @@ fn renewals_of<L: Ledger, M: Ledger>(
     let mut sight = Sight::none();
     let mut rest = queries;
     'queries: while let Some((query, later)) = rest.split_first() {
-        let renewal = renewal_of(
-            alloc,
-            query,
-            &object,
-            &mut sight,
-            world,
-            now,
-            reads,
-            probes,
-        )?;
+        let renewal = renewal_of(alloc, query, &object, &mut sight, world, now, reads, probes)?;
         renewals.add(renewal)?;
         rest = later;
     }

@@ -35,13 +35,7 @@ impl Sight {
 
     /// Whether the formula of a query holds nowhere in a window with an object as its first variable, since the object can't
     /// be where the formula needs it. No timeline is looked at.
-    pub(crate) fn misses(
-        &mut self,
-        query: &RQuery,
-        id: u32,
-        world: &StoredWorld,
-        w: Window,
-    ) -> bool
+    pub(crate) fn misses(&mut self, query: &RQuery, id: u32, world: &StoredWorld, w: Window) -> bool
         requires { IsSightOf world.now.store.now id self.old }
         ensures sight { IsSightOf world.now.store.now id self.new }
         ensures fails { result ≡ true → (b : ℕ → ℕ) → b 0 ≡ id

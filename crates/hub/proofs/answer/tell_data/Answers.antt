@@ -17,8 +17,8 @@ tell_all-requires-clause-line g c =
     let seats = c.args.parts.now.seats.items in
     let line = c.deref-2.result.now in
     let has : 1 < length seats → HasLastLineAt c.args.place seats line = λ many s at.
-        subst (IsLastLine s.session.journal) (sym c.deref-2.ensures.value)
-        (c.in_ok-put_line.ensures (subst (λ (l : List Kept). 1 < length l) (sym c.deref.ensures.value) many) s
-        (ap (λ (l : List Kept). slice_get l c.args.place) c.deref.ensures.value ∙ at)) in
+    subst (IsLastLine s.session.journal) (sym c.deref-2.ensures.value)
+    (c.in_ok-put_line.ensures (subst (λ (l : List Kept). 1 < length l) (sym c.deref.ensures.value) many) s
+    (ap (λ (l : List Kept). slice_get l c.args.place) c.deref.ensures.value ∙ at)) in
     subst (λ (l : List Kept). All (HasLineFor c.args.sender.now (command_view c.args.command.now) line) l) (sym c.deref_mut.ensures.value)
     (lines_for_all seats c.args.place c.args.sender.now (command_view c.args.command.now) line c.requires.there c.requires.sent has)

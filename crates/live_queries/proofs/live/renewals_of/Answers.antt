@@ -1,11 +1,10 @@
-use Rattle.std.proofs.Common.{◌≡◌, ℕ, suc, ◌+◌, ◌≤◌, List, [], length, refl, ap, sym, subst, arith}
+use Rattle.std.proofs.Common.{◌≡◌, ℕ, suc, ◌+◌, ◌≤◌, length, refl, ap, sym, subst, arith}
 use Rattle.std.specs.Prelude.{All}
 use Rattle.std.proofs.lemmas.List.Elements.{All-head, All-rest}
 use Rattle.object_store.specs.Contents.{catalog_of}
 use Rattle.atoms.specs.Asked.{told_world}
 use Rattle.live_queries.specs.Asked.{FitsWorld, IsBefore}
 use Rattle.live_queries.specs.Columns.{HaveObjectsOf}
-use Rattle.live_queries.specs.declared.fresh.Renewal.{Renewal}
 use Rattle.live_queries.specs.Effort.{judged_reads}
 use Rattle.live_queries.specs.Kept.{KeptQuery}
 use Rattle.live_queries.specs.Missed.{IsSightOf}
@@ -64,9 +63,12 @@ queries-preserved g c = record {
   fresh = pairs_go_on (AreFreshFor (told_world c.args.world.now) c.args.id c.args.class c.args.now) c.args.queries.now
       c.queries.rest.now c.in-Some.later.now c.in-Some.query.now
       c.queries.renewals c.add.new.self (or_untouched c.in_ok-renewal.renewal) c.in-Some.ensures.cases.0 c.in_ok-add.ensures.added
-      (λ more is. (subst (λ (i : ℕ). IsFreshFor (told_world c.args.world.now) i c.args.class c.args.now c.in-Some.query.now (or_untouched c.in_ok-renewal.renewal)) c.written-object.ensures.id
-      (subst (λ (k : ℕ). IsFreshFor (told_world c.args.world.now) c.written-object.result.id k c.args.now c.in-Some.query.now (or_untouched c.in_ok-renewal.renewal)) c.written-object.ensures.class
-      c.in_ok-renewal.ensures.fresh), is)) c.queries.invariant.fresh;
+      (λ more is. (
+        subst (λ (i : ℕ). IsFreshFor (told_world c.args.world.now) i c.args.class c.args.now c.in-Some.query.now (or_untouched c.in_ok-renewal.renewal)) c.written-object.ensures.id
+            (subst (λ (k : ℕ). IsFreshFor (told_world c.args.world.now) c.written-object.result.id k c.args.now c.in-Some.query.now (or_untouched c.in_ok-renewal.renewal)) c.written-object.ensures.class
+            c.in_ok-renewal.ensures.fresh),
+        is,
+      )) c.queries.invariant.fresh;
   many = counts_go_on (ArePrepared c.args.class) c.args.queries.now c.queries.rest.now c.in-Some.later.now c.in-Some.query.now
       c.queries.renewals c.add.new.self (or_untouched c.in_ok-renewal.renewal) (length c.args.queries.now) c.in-Some.ensures.cases.0 c.in_ok-add.ensures.added
       c.queries.invariant.many;

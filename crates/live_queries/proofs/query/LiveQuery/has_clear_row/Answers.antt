@@ -3,7 +3,6 @@ use Rattle.std.specs.List.{list_any}
 use Rattle.std.proofs.lemmas.Bool.{not-false, not-true}
 use Rattle.std.proofs.lemmas.Bool.Decides.{nat_tests}
 use Rattle.live_queries.specs.Columns.{Column}
-use Rattle.live_queries.specs.Kept.{KeptQuery}
 use Rattle.live_queries.specs.Missed.{IsClearOf}
 use Rattle.live_queries.specs.Written.{lacks}
 use Rattle.live_queries.proofs.query.LiveQuery.has_clear_row.Goals as goal
