@@ -78,7 +78,8 @@ impl Extent {
     fn overlaps(&self, other: &Extent) -> bool
         ensures { result ≡ overlap self.now other.now }
     {
-        self.least <= other.greatest && other.least <= self.greatest
+        // Both are asked in any case, since a jump over the second is often foretold wrongly, which costs more.
+        (self.least <= other.greatest) & (other.least <= self.greatest)
     }
 
     /// From the lesser of their least units to the greater of their greatest.
@@ -129,7 +130,7 @@ impl Patch {
     pub fn meets(&self, other: &Patch) -> bool
         ensures { result ≡ meets self.now other.now }
     {
-        self.x.overlaps(&other.x) && self.y.overlaps(&other.y)
+        self.x.overlaps(&other.x) & self.y.overlaps(&other.y)
     }
 
     /// The least patch that has both.
