@@ -1,5 +1,5 @@
 -- The objects as they lie in a map.
-use Rattle.std.proofs.Common.{◌≡◌, ℕ, zero, suc, ◌-◌, ◌<◌, Bool, true, false, cond, take, set, Option, None, Some, Result, Ok, Err, List, [], ◌∷◌, ◌++◌, map, length, get_or, refl, sym, ap, subst, ◌∙◌, arith}
+use Rattle.std.proofs.Common.{◌≡◌, ℕ, zero, suc, ◌-◌, ◌<◌, Bool, true, false, cond, take, set, Option, None, Some, Result, Ok, Err, List, [], ◌∷◌, ◌++◌, length, get_or, refl, sym, ap, subst, ◌∙◌}
 use Rattle.std.specs.Prelude.{All, slice_get, option_map, IfSome, IfOk, OnOk, OnErr}
 use Rattle.std.specs.List.{find, position}
 use Rattle.std.specs.Map.{keys_of, values_of, lookup}
@@ -9,12 +9,12 @@ use Rattle.std.proofs.lemmas.Option.{same_Some, none-some, slice_get-map, slice_
 use Rattle.std.proofs.lemmas.List.{map-append, take-map, length-map, get_or_default}
 use Rattle.indexmap.specs.IndexMap.{IndexMap, set_value_at, insert_entry}
 use Rattle.indexmap.proofs.CallerLemmas.{insert_entry-new}
-use Rattle.motion.specs.Timeline.{Epoch, put, restored, AreBegunBy, StandsAsLeft, TakesBack}
+use Rattle.motion.specs.Timeline.{Epoch, put, AreBegunBy, TakesBack}
 use Rattle.object_store.specs.declared.objects.Object.{Object}
 use Rattle.object_store.specs.Contents.{StoredObject, is_named}
 use Rattle.object_store.specs.ObjectView.{stored, objects_of}
 use Rattle.object_store.specs.Ids.{without_member}
-use Rattle.object_store.specs.AtIndex.{at_index, restored_at, GainsEpochAt}
+use Rattle.object_store.specs.AtIndex.{at_index, GainsEpochAt}
 use Rattle.object_store.proofs.Lists.{position-map}
 
 -- the value at a index, with other epochs

@@ -1,11 +1,9 @@
 -- For this crate and for the crates above: the ids of a class.
-use Rattle.std.proofs.Common.{◌≡◌, ℕ, zero, suc, ◌+◌, ◌<◌, ◌==◌, Bool, true, false, cond, Option, None, Some, List, [], ◌∷◌, ◌++◌, map, length, refl, sym, ap, ◌∙◌, arith, append_assoc, length-append}
-use Rattle.std.specs.Prelude.{All, slice_get}
+use Rattle.std.proofs.Common.{◌≡◌, ℕ, suc, ◌+◌, ◌<◌, ◌==◌, Bool, true, false, cond, List, [], ◌∷◌, ◌++◌, map, length, refl, sym, ap, ◌∙◌, arith, append_assoc, length-append}
+use Rattle.std.specs.Prelude.{All}
 use Rattle.std.specs.List.{filter, enumerate_from}
-use Rattle.std.specs.Option.{option_map_or}
-use Rattle.std.specs.Str.{bytes_eq}
 use Rattle.std.proofs.lemmas.Bool.Decides.{nat_tests}
-use Rattle.history.specs.Catalog.{Catalog, ObjectInfo, ids_of, names}
+use Rattle.history.specs.Catalog.{ObjectInfo, ids_of, names}
 use Rattle.object_store.specs.Contents.{StoredObject, Contents, object_info, catalog_of, ids_in, object_name}
 
 abbrev pub ids_from : ℕ → List StoredObject → ℕ → List ℕ

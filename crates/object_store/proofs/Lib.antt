@@ -18,3 +18,4 @@ pub mod SizeLemmas
 pub mod ChangeLemmas
 pub mod PlaceLemmas
 pub mod ToldLemmas
+pub mod RunLemmas

@@ -1,16 +1,13 @@
 -- What the answers of the tables say of a store.
-use Rattle.std.proofs.Common.{◌≡◌, ℕ, ◌<◌, ◌≤◌, Option, None, Some, Result, Ok, Err, List, [], map, length, refl, sym, ap, subst, ◌∙◌, arith}
-use Rattle.std.specs.Prelude.{All, IfOk, IfErr, OnOk, slice_get, option_map, unwrap_or}
+use Rattle.std.proofs.Common.{◌≡◌, ℕ, ◌≤◌, Option, None, Some, Result, Ok, Err, List, [], length, sym, ap, subst, ◌∙◌, arith}
+use Rattle.std.specs.Prelude.{IfOk, IfErr, OnOk, unwrap_or}
 use Rattle.std.specs.List.{position}
-use Rattle.std.specs.Option.{option_map_or}
-use Rattle.std.proofs.lemmas.Option.{slice_get_within}
 use Rattle.history.specs.Write.{Write}
-use Rattle.history.specs.Catalog.{ClassInfo}
 use Rattle.history.specs.History.{ChangesFrom}
 use Rattle.object_store.specs.declared.fault.StoreFault.{StoreFault}
 use Rattle.object_store.specs.declared.fault.StoreFault.TheVariants.{NoMemory}
 use Rattle.object_store.specs.declared.objects.Done.{Done}
-use Rattle.object_store.specs.Contents.{StoredObject, Contents, catalog_of, history_of, ids_in, is_named, object_name}
+use Rattle.object_store.specs.Contents.{Contents, history_of, ids_in, is_named}
 use Rattle.object_store.specs.Invariant.{IsKept, Writes}
 use Rattle.object_store.specs.Sound.{IsSound}
 use Rattle.object_store.specs.StandsFor.{GrowsBy}

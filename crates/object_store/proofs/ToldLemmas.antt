@@ -177,7 +177,7 @@ listed_from start (suc k) id (o ∷ os) class is =
     ∙ later_step (o.class == class) start id (ids_from (start + 1) os class) (omega (arith, is))
     ∙ listed_from (start + 1) k id os class (omega (arith, is))
 
-listed_in_class : (objects : List StoredObject) (class id : ℕ) → is_listed (ids_in objects class) id ≡ is_in_class objects class id
+pub listed_in_class : (objects : List StoredObject) (class id : ℕ) → is_listed (ids_in objects class) id ≡ is_in_class objects class id
 listed_in_class objects class id = listed_from 0 id id objects class (omega arith)
 
 -- ---- what is told

@@ -1,5 +1,5 @@
 -- What a contract sees of a store: its classes, and its objects with their timelines.
-use Rattle.std.specs.Prelude.{ℕ, ◌==◌, Bool, false, is_some, Option, Some, None, option_and_then, List, [], ◌∷◌, map, slice_get}
+use Rattle.std.specs.Prelude.{ℕ, ◌==◌, Bool, is_some, Option, option_and_then, List, [], map, slice_get}
 use Rattle.std.specs.List.{filter, find, enumerate_from}
 use Rattle.std.specs.Option.{option_map_or}
 use Rattle.std.specs.Str.{bytes_eq}

@@ -14,3 +14,4 @@ pub mod Tables
 pub mod Areas
 pub mod Searching
 pub mod Placing
+pub mod Run

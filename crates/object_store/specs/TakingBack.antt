@@ -1,5 +1,5 @@
 -- How a write to an object is taken back.
-use Rattle.std.specs.Prelude.{◌≡◌, ℕ, ◌+◌, ◌-◌, Bool, true, false, Some, List, length, take, slice_get, if◌then◌else◌}
+use Rattle.std.specs.Prelude.{◌≡◌, ◌+◌, ◌-◌, Bool, true, false, Some, List, length, take, slice_get, if◌then◌else◌}
 use Rattle.motion.specs.Timeline.{StandsAsLeft}
 use Rattle.object_store.specs.declared.objects.Undo.{Undo}
 use Rattle.object_store.specs.Contents.{StoredObject, Contents}

@@ -1,44 +1,57 @@
 //! The objects that can come into an area, by their patches.
-ghost use Rattle.std.specs.Prelude.{◌≡◌, [], IfOk, IfSome};
+ghost use Rattle.std.specs.Prelude.{◌≡◌, ◌||◌, [], IfOk, IfSome};
 ghost use Rattle.std.specs.List.{filter};
 ghost use Rattle.object_store.specs.Contents.{ids_in};
 ghost use Rattle.object_store.specs.ObjectView.{objects_of};
 ghost use Rattle.object_store.specs.Placing.{is_in_class, ArePlaced};
+ghost use Rattle.object_store.specs.Run.{is_in_run};
 ghost use Rattle.object_store.specs.Searching.{IsNowhere, IsSearched};
 
 use crate::areas::Area;
 use crate::objects::Objects;
+use crate::run::{Run, is_in_run, run_of};
 use places::Places;
 use std::alloc::{AllocError, Global};
 use tick_set::Window;
 
-/// The objects of a class whose patches meet an area, ascending. None where no horizon has the window.
+/// The objects of a class, whose ids are these, whose patches meet an area, ascending. None where no horizon has the window.
 pub fn candidates(
     alloc: Global,
     objects: &Objects,
+    own: &[u32],
     places: &Places,
     class: u32,
     area: &Area,
     w: Window,
 ) -> Result<Option<Vec<u32>>, AllocError>
-    requires { ArePlaced places.now (objects_of objects.now.entries) }
+    requires own { own.now ≡ ids_in (objects_of objects.now.entries) class }
+    requires placed { ArePlaced places.now (objects_of objects.now.entries) }
     ensures { IfOk result (λ found. IfSome found (λ ids.
         IsSearched (IsNowhere (objects_of objects.now.entries) area.now w.lo w.hi) (ids_in (objects_of objects.now.entries) class) ids.items [])) }
 {
     let patch = area.patch();
     match places.near(alloc, w.lo, w.hi, &patch)? {
-        Some(numbers) => Ok(Some(of_class(numbers, objects, class))),
+        Some(numbers) => Ok(Some(of_class(numbers, objects, own, class))),
         None => Ok(None),
     }
 }
 
-/// Those of these numbers that are of objects of a class.
-fn of_class(numbers: Vec<u32>, objects: &Objects, class: u32) -> Vec<u32>
+/// Those of these numbers that are of objects of a class, whose ids are `own`.
+fn of_class(numbers: Vec<u32>, objects: &Objects, own: &[u32], class: u32) -> Vec<u32>
+    requires { own.now ≡ ids_in (objects_of objects.now.entries) class }
     ensures { result.items ≡ filter (is_in_class (objects_of objects.now.entries) class) numbers.items }
 {
+    let run = run_of(own);
     let mut ids = numbers;
-    ids.retain(|id| is_in_class(objects, *id, class));
+    ids.retain(|id| is_in_either(run, objects, *id, class));
     ids
+}
+
+/// Whether a run has an id, or the object of the id is of a class. An object lies far from the last one that was asked.
+fn is_in_either(run: Option<Run>, objects: &Objects, id: u32, class: u32) -> bool
+    ensures { result ≡ (is_in_run run id || is_in_class (objects_of objects.now.entries) class id) }
+{
+    is_in_run(run, id) || is_in_class(objects, id, class)
 }
 
 /// Whether the object of an id is of a class.

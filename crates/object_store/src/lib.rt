@@ -19,6 +19,7 @@ mod names;
 mod near;
 mod objects;
 mod placing;
+mod run;
 mod schema;
 mod standing;
 mod store;

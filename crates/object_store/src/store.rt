@@ -301,17 +301,13 @@ impl Store {
         if w.lo < self.tables.last_tick {
             return Ok(None);
         }
-        let placed = candidates(alloc, &self.tables.objects, &self.places, class, area, w)?;
+        let objects = &self.tables.objects;
+        let own = self.class_names(class);
+        let placed = candidates(alloc, objects, own, &self.places, class, area, w)?;
         if let Some(ids) = placed {
             return Ok(Some(ids));
         }
-        let ids = those_near(
-            alloc,
-            &self.tables.objects,
-            self.class_names(class),
-            area,
-            w,
-        )?;
+        let ids = those_near(alloc, objects, own, area, w)?;
         Ok(Some(ids))
     }
 

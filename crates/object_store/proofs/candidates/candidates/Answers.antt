@@ -16,4 +16,4 @@ returns-in-Some c =
     sym (ap (near_in c.args.places.now c.args.w.lo c.args.w.hi) c.patch-patch.ensures) ∙ sym c.in_ok-numbers.ensures ∙ ap (option_map (λ v. v.items)) c.in-Some.is
     in
     subst (λ (ids : List ℕ). IsSearched (IsNowhere objects area c.args.w.lo c.args.w.hi) (ids_in objects c.args.class) ids []) (sym c.of_class.ensures)
-    (told c.args.places.now objects c.args.class area c.args.w.lo c.args.w.hi c.in-Some.numbers.items c.requires is)
+    (told c.args.places.now objects c.args.class area c.args.w.lo c.args.w.hi c.in-Some.numbers.items c.requires.placed is)

@@ -9,14 +9,18 @@ use Rattle.object_store.proofs.store.Store.near.Goals as goal
 
 pub those_near-requires-clause-ascending : goal.those_near-requires-clause-ascending
 those_near-requires-clause-ascending c =
-    subst (AreFrom 0) (sym c.class_names.ensures.ids) (ids_ascend c.args.self.now.objects c.args.class)
+    subst (AreFrom 0) (sym c.class_names-own.ensures.ids) (ids_ascend c.args.self.now.objects c.args.class)
+
+pub candidates-requires-clause-own : goal.candidates-requires-clause-own
+candidates-requires-clause-own c =
+    c.class_names-own.ensures.ids ∙ ap (λ (s : Contents). ids_in s.objects c.args.class) (sym c.self.view_is)
 
 pub returns : goal.returns
 returns c =
     let s : Contents = contents_of c.self.inside.tables in
     let found : List ℕ = c.in_ok-ids.ids.items in
-    let ids_are : c.class_names.result.now ≡ ids_in s.objects c.args.class =
-    c.class_names.ensures.ids ∙ ap (λ (s : Contents). ids_in s.objects c.args.class) (sym c.self.view_is) in
+    let ids_are : c.class_names-own.result.now ≡ ids_in s.objects c.args.class =
+    c.class_names-own.ensures.ids ∙ ap (λ (s : Contents). ids_in s.objects c.args.class) (sym c.self.view_is) in
     subst (λ (s : Contents). AreNear s c.args.class c.args.area.now c.args.w.lo c.args.w.hi found) c.self.view_is
     (near_of_searched s c.args.class c.args.area.now c.args.w.lo c.args.w.hi found c.self.invariant.kept.sound
     (subst (λ (ids : List ℕ). IsSearched (IsNowhere s.objects c.args.area.now c.args.w.lo c.args.w.hi) ids found []) ids_are c.in_ok-ids.ensures))
