@@ -25,14 +25,14 @@ pub struct KeptRows<S: TickSet> {
     pages: Vec<Page<S>>,
     // Which groups of numbers may have a row.
     filled: Filled,
-    // Which numbers have a row with ticks.
-    flags: Flags,
     // Lent for a number whose page isn't made.
     nothing: S,
     // Until when the rows stay as they are: what time passes over.
     turns: Turns,
     // In which slots the rows may have ticks, where that is told.
     marks: Marks,
+    // Which numbers have a row with ticks. They stand last, beside what a query has after its rows.
+    flags: Flags,
 }
 
 impl<S: TickSet> Model for KeptRows<S> {

@@ -330,7 +330,9 @@ fn renewal_of<L: Ledger, M: Ledger>(
     Ok(renewal)
 }
 
-// What a write to an object of a class makes of each of these queries. One that it doesn't touch takes no memory.
+// What a write to an object of a class makes of each of these queries. One that it doesn't touch takes no memory. Not
+// inlined, so that its loop has the registers for itself.
+#[inline(never)]
 fn renewals_of<L: Ledger, M: Ledger>(
     alloc: Global,
     queries: &[LiveQuery],

@@ -53,14 +53,16 @@ use tick_set::Window;
 /// A registered query. Its variables stand in the order of the numbers of its bindings: the targets first.
 #[derive(Drop)]
 pub(crate) struct LiveQuery {
-    name: Word,
-    kind: QueryKind,
-    query: RQuery,
+    rows: KeptRows<IntervalSet>,
+    // From the flags of the rows, their last field, to the head of the formula there stands together what tells that a
+    // write misses the query.
+    columns: Vec<Objects>,
     entry: u32,
     expiry: u32,
-    columns: Vec<Objects>,
+    kind: QueryKind,
+    query: RQuery,
     targets: Targets,
-    rows: KeptRows<IntervalSet>,
+    name: Word,
 }
 
 impl Model for LiveQuery {
@@ -139,6 +141,8 @@ impl LiveQuery {
     /// What a write to an object makes of it. None where it stays as it is: it has no variable of its class, it gets no
     /// object and its expiry is before the write or none of its rows changes. The object's place is looked for at a likely
     /// one first. It fails only where memory is out.
+    // Not inlined: the queries that a write misses are passed over in a short loop.
+    #[inline(never)]
     pub(crate) fn renewal<L: Ledger, M: Ledger>(
         &self,
         alloc: Global,

@@ -86,6 +86,8 @@ impl Seen {
 }
 
 // Where an object is over a window. None where it isn't there, or where the window begins before the last write.
+// Not inlined: most queries have the ticks of the one before.
+#[inline(never)]
 fn seen_over(store: &Store, id: u32, w: Window) -> Option<Seen>
     ensures { IsSeen store.now id result }
 {

@@ -17,9 +17,14 @@ use polygon::{Polygon, Regions, polygons_lie_among_their_vertices};
 /// Whether the formula of a query can hold at a tick at which the object of its first variable is in an area or absent. It
 /// is taken to be so unless the formula needs that object in regions whose boxes lie apart from the area. It takes no
 /// memory, and no store is looked at.
+#[inline]
 pub fn can_hold_at(q: &RQuery, area: &Area, regions: &Regions) -> bool
     ensures { result ≡ false → FailsAt area.now regions.now (query_view q.now).formula }
 {
+    // A formula that is an atom is judged without the way into the parts of others.
+    if let RFormula::Atom(a) = &q.formula {
+        return can_atom_hold(a, area, regions);
+    }
     can_formula_hold(&q.formula, area, regions)
 }
 
@@ -48,6 +53,7 @@ fn can_formula_hold(f: &RFormula, area: &Area, regions: &Regions) -> bool
 }
 
 /// Whether an atom can hold there.
+#[inline]
 fn can_atom_hold(a: &RAtom, area: &Area, regions: &Regions) -> bool
     ensures { result ≡ false → FailsAt area.now regions.now (shapes.Atom a.now) }
 {
@@ -61,6 +67,7 @@ fn can_atom_hold(a: &RAtom, area: &Area, regions: &Regions) -> bool
 }
 
 /// Whether the area meets the box of a region.
+#[inline]
 fn meets_region(area: &Area, n: u32, regions: &Regions) -> bool
     ensures { result ≡ false → (p : Point) → is_in_region regions.now n p ≡ true → has_place area.now p ≡ false }
 {
@@ -71,6 +78,7 @@ fn meets_region(area: &Area, n: u32, regions: &Regions) -> bool
 }
 
 /// Whether the area meets the box of a polygon.
+#[inline]
 fn meets_polygon(area: &Area, polygon: &Polygon) -> bool
     ensures { result ≡ false → (p : Point) → is_inside polygon.now p ≡ true → has_place area.now p ≡ false }
 {
@@ -82,6 +90,7 @@ fn meets_polygon(area: &Area, polygon: &Polygon) -> bool
 }
 
 /// Whether some number from `least` to `greatest` is between these sides.
+#[inline]
 fn meet(sides: &Sides, least: Fix, greatest: Fix) -> bool
     ensures { result ≡ false → (n : ℤ) → least ≤ℤ n → n ≤ℤ greatest → is_between sides.now n ≡ false }
 {
