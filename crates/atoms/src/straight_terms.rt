@@ -44,9 +44,9 @@ pub fn straight_trend(
     }
 }
 
-// The factor of a term that has one.
+/// The factor of a term that has one.
 #[inline]
-fn only(factors: &[RSigned]) -> Option<&RSigned>
+pub fn only(factors: &[RSigned]) -> Option<&RSigned>
     ensures { IfSome result (λ factor. factors.now ≡ factor.now ∷ []) }
 {
     let (first, later) = factors.split_first()?;
@@ -116,6 +116,9 @@ fn coordinate_of(
         ≡ Some (course_value w.lo t course)) }
     ensures small { IfSome result IsUnitCourse }
 {
+    if a > 1 {
+        return None;
+    }
     let line = line_of(v, variables, timelines, w)?;
     coordinate_along(&line, a)
 }
