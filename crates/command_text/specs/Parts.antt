@@ -1,5 +1,5 @@
--- The parts of each command, in the order in which they are written. A command's rule, its canonical line, what is
--- asked of its numbers and sizes, and what holds of it where it is read follow from its row here.
+-- The parts of each command, in their order; Grammar.antt has the rules of num, pt, attr, moves and setting. A command's
+-- rule, its canonical line, what is asked of its numbers and sizes, and what holds of it where it is read follow from its row.
 use Rattle.std.specs.Prelude.{ℕ, ℤ, Bool, true, ◌&&◌, nat_le, List, length, codes}
 use Rattle.std.specs.Option.{option_map_or}
 use Rattle.case_table.specs.Language.{reserved_words}

@@ -19,7 +19,7 @@ replies m state [] = []
 replies m state (line ∷ lines) =
     if m.done state then [] else m.reply state line ++ replies m (m.next state line) lines
 
--- what a failure on a line may leave of the state before it; after it the state may be told or not
+-- what a failure on a line may leave of the state before it; the state after it is None where the outside tells nothing
 abbrev pub Failures : Type 0 → Type 1
 Failures T = OutFail → T → List ℕ → Option T → Type 0
 

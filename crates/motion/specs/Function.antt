@@ -36,7 +36,7 @@ abbrev pub legs_slope : List (ℤ × ℕ) → ℤ → ℤ
 legs_slope [] last = last
 legs_slope (leg ∷ legs) last = leg.0
 
--- legs of which the first has run for some ticks, and is longer than that
+-- of legs of which the first has run for some ticks: what is left of them, and that the first is longer than that
 abbrev pub shortened : List (ℤ × ℕ) → ℕ → List (ℤ × ℕ)
 shortened [] passed = []
 shortened (leg ∷ legs) passed = (leg.0, leg.1 - passed) ∷ legs
