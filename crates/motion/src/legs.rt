@@ -20,10 +20,11 @@ pub const LONGEST_LEG: u32 = 1_000_000_000;
 /// and a length of 1 to 10^9 ticks; the last has a slope and no end.
 #[derive(Clone, Copy, Debug)]
 pub struct Legs {
-    // Those past the count are at rest and 0 ticks long, so that a function has one form alone.
-    firsts: [(Slope, u32); MOST_FIRSTS],
+    // First, so that a function of one leg is told by few bytes of it.
     last: Slope,
     count: u8,
+    // Those past the count are at rest and 0 ticks long, so that a function has one form alone.
+    firsts: [(Slope, u32); MOST_FIRSTS],
 }
 
 impl Model for Legs {
