@@ -22,10 +22,10 @@ use Rattle.meaning.specs.Binding.{target_where, tuple_of}
 use Rattle.relation.specs.declared.row.Row.{Row}
 use Rattle.relation.specs.Frames.{IsIn}
 use Rattle.formula.specs.Resolved.{are_distinct}
-use Rattle.relation.specs.Key.{has_id, ids_of, key_in}
+use Rattle.relation.specs.Key.{has_id, ids_of_variable, key_in}
 use Rattle.relation.specs.Order.{has_row, keys_over}
 use Rattle.relation.specs.Projection.{IsPicked}
-use Rattle.relation.specs.Rows.{Table, has, has_at}
+use Rattle.relation.specs.Rows.{Table, has_at, table_has}
 use Rattle.relation.proofs.OrderLemmas.{told_in_order}
 use Rattle.answers.specs.Told.{told_rows}
 use Rattle.answers.proofs.ProductLemmas.{AreMembers, assigned, each_below, key_assigned, key_found, key_in_at, keys_are_tuples, member_at, members_from, product_any, product_found, same_key}
@@ -90,12 +90,12 @@ index_upto : (b : ℕ → ℕ) (n v : ℕ) → v < n → slice_index (map b (bet
 unfolding between
 index_upto b n v within = get_or-map-range_with_len b 0 (n - 0) v v 0 (omega (arith, within)) (omega arith)
 
-members_upto : (lists : List (List ℕ)) (b : ℕ → ℕ) → ((v : ℕ) → v < length lists → has_id (ids_of lists v) (b v) ≡ true) → (n : ℕ) → n ≡ length lists →
+members_upto : (lists : List (List ℕ)) (b : ℕ → ℕ) → ((v : ℕ) → v < length lists → has_id (ids_of_variable lists v) (b v) ≡ true) → (n : ℕ) → n ≡ length lists →
     AreMembers lists (map b (between 0 n))
 unfolding between
 members_upto lists b each n many =
     subst (λ (m : ℕ). AreMembers lists (map b (range_with_len 0 m))) (let e : length lists ≡ n - 0 = omega (arith, many) in e)
-    (members_from lists 0 b (λ v within. ap (λ (u : ℕ). has_id (ids_of lists v) (b u)) (let e : 0 + v ≡ v = omega arith in e) ∙ each v within))
+    (members_from lists 0 b (λ v within. ap (λ (u : ℕ). has_id (ids_of_variable lists v) (b u)) (let e : 0 + v ≡ v = omega arith in e) ∙ each v within))
 
 pub between_has : (n v : ℕ) → v < n → has_id (between 0 n) v ≡ true
 between_has n v within = any_between_at (λ i. i == v) 0 n v (omega arith) within (grind (arith, nat_tests))
@@ -111,11 +111,11 @@ module _ (w : World) (q : ResolvedQuery) (holds : (ℕ → ℕ) → ℕ → Bool
     (targets : list_all (λ v. nat_lt v (length q.classes)) q.targets ≡ true) (distinct : are_distinct q.targets ≡ true)
     (lo hi : ℕ) (order : lo ≤ hi) (last : hi ≤ LAST_TICK) (full r : Table (List Span))
     (domains : full.domains ≡ map (ids_of_class w.history.catalog) q.classes) (vars : full.vars ≡ between 0 (length q.classes))
-    (full_ticks : (b : ℕ → ℕ) → IsIn full.domains b → (t : ℕ) → has spans_have full b t ≡ (within lo hi t && holds b t))
+    (full_ticks : (b : ℕ → ℕ) → IsIn full.domains b → (t : ℕ) → table_has spans_have full b t ≡ (within lo hi t && holds b t))
     (full_inside : (key : List ℕ) (t : ℕ) → has_at spans_have full.rows key t ≡ true → key_in full.domains full.vars key ≡ true)
     (r_vars : r.vars ≡ q.targets) (r_domains : r.domains ≡ map (ids_of_class w.history.catalog) q.classes)
-    (all : (b : ℕ → ℕ) (t : ℕ) → has spans_have full b t ≡ true → has spans_have r b t ≡ true)
-    (some : (b : ℕ → ℕ) (t : ℕ) → has spans_have r b t ≡ true → IsPicked spans_have full q.targets b t)
+    (all : (b : ℕ → ℕ) (t : ℕ) → table_has spans_have full b t ≡ true → table_has spans_have r b t ≡ true)
+    (some : (b : ℕ → ℕ) (t : ℕ) → table_has spans_have r b t ≡ true → IsPicked spans_have full q.targets b t)
     (in_order : AreInOrder r) where
   lists : List (List ℕ)
   lists = map (ids_of_class w.history.catalog) q.classes
@@ -125,21 +125,21 @@ module _ (w : World) (q : ResolvedQuery) (holds : (ℕ → ℕ) → ℕ → Bool
   many = length-map q.classes (ids_of_class w.history.catalog)
 
   -- an assignment that has the tick in the relation over all variables is one of the query, and passes the test
-  at_other : (b : ℕ → ℕ) (t : ℕ) → has spans_have full b t ≡ true →
+  at_other : (b : ℕ → ℕ) (t : ℕ) → table_has spans_have full b t ≡ true →
       (within lo hi t ≡ true) × (target_where w q holds (map b q.targets) t ≡ true)
   unfolding lists
   at_other b t has_it =
       let bound = map b (between 0 (length q.classes)) in
-      let inside : (v : ℕ) → v < length q.classes → has_id (ids_of full.domains v) (b v) ≡ true = λ v within.
+      let inside : (v : ℕ) → v < length q.classes → has_id (ids_of_variable full.domains v) (b v) ≡ true = λ v within.
       key_in_at full.domains full.vars b (full_inside (map b full.vars) t has_it) v
       (ap (λ (us : List ℕ). has_id us v) vars ∙ between_has (length q.classes) v within) in
-      let in_lists : (v : ℕ) → v < length lists → has_id (ids_of lists v) (b v) ≡ true = λ v within.
-      ap (λ (d : List (List ℕ)). has_id (ids_of d v) (b v)) (sym domains) ∙ inside v (let m = many in omega (arith, m, within)) in
+      let in_lists : (v : ℕ) → v < length lists → has_id (ids_of_variable lists v) (b v) ≡ true = λ v within.
+      ap (λ (d : List (List ℕ)). has_id (ids_of_variable d v) (b v)) (sym domains) ∙ inside v (let m = many in omega (arith, m, within)) in
       let same : (v : ℕ) → v < length q.classes → slice_index bound v ≡ b v = index_upto b (length q.classes) in
       let is_in : IsIn full.domains (slice_index bound) = λ v within.
       let within' : v < length q.classes = (let l : length full.domains ≡ length lists = ap length domains in let m = many in omega (arith, within, l, m)) in
-      ap (λ (id : ℕ). has_id (ids_of full.domains v) id) (same v within') ∙ inside v within' in
-      let there : has spans_have full (slice_index bound) t ≡ true =
+      ap (λ (id : ℕ). has_id (ids_of_variable full.domains v) id) (same v within') ∙ inside v within' in
+      let there : table_has spans_have full (slice_index bound) t ≡ true =
       ap (λ (key : List ℕ). has_at spans_have full.rows key t)
       (same_key full.vars (slice_index bound) b (λ v has_v. same v (below_vars v has_v))) ∙ has_it in
       let both = and_parts (within lo hi t) (holds (slice_index bound) t) (sym (full_ticks (slice_index bound) is_in t) ∙ there) in
@@ -165,7 +165,7 @@ module _ (w : World) (q : ResolvedQuery) (holds : (ℕ → ℕ) → ℕ → Bool
           let inside : key_in r.domains q.targets key ≡ true =
           ap (λ (us : List ℕ). key_in r.domains us key) (sym r_vars) ∙ inside_domains r in_order key (row_there r in_order key t there) in
           let is : map b q.targets ≡ key = key_assigned r.domains q.targets key distinct inside in
-          let here : has spans_have r b t ≡ true =
+          let here : table_has spans_have r b t ≡ true =
           ap (λ (us : List ℕ). has_at spans_have r.rows (map b us) t) r_vars ∙ ap (λ (k : List ℕ). has_at spans_have r.rows k t) is ∙ there in
           let picked = some b t here in
           let target : map picked.other q.targets ≡ key = same_key q.targets picked.other b (λ v has_v. picked.same v (kept_variable v has_v)) ∙ is in
@@ -188,9 +188,9 @@ module _ (w : World) (q : ResolvedQuery) (holds : (ℕ → ℕ) → ℕ → Bool
           let both = and_parts (bytes_eq (tuple_of q s.choice) key) (holds (slice_index s.choice) t) s.passes in
           let is_in : IsIn full.domains (slice_index s.choice) = λ v within.
           let l : length full.domains ≡ length (map (ids_of_class w.history.catalog) q.classes) = ap length domains in
-          ap (λ (d : List (List ℕ)). has_id (ids_of d v) (slice_index s.choice v)) domains
+          ap (λ (d : List (List ℕ)). has_id (ids_of_variable d v) (slice_index s.choice v)) domains
           ∙ member_at (map (ids_of_class w.history.catalog) q.classes) s.choice s.are v (omega (arith, within, l)) in
-          let there : has spans_have full (slice_index s.choice) t ≡ true =
+          let there : table_has spans_have full (slice_index s.choice) t ≡ true =
           full_ticks (slice_index s.choice) is_in t ∙ and_from (within lo hi t) (holds (slice_index s.choice) t) parts.0 both.1 in
           ap (λ (k : List ℕ). has_at spans_have r.rows k t) (sym (bytes_eq_true (tuple_of q s.choice) key both.0))
           ∙ ap (λ (us : List ℕ). has_at spans_have r.rows (map (slice_index s.choice) us) t) (sym r_vars)

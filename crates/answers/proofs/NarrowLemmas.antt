@@ -16,8 +16,8 @@ use Rattle.meaning.specs.Satisfaction.{Interpretation}
 use Rattle.object_store.specs.Contents.{Contents, catalog_of}
 use Rattle.narrowing.specs.Narrowed.{Suffice}
 use Rattle.narrowing.specs.Needed.{Fails, told}
-use Rattle.relation.specs.Frames.{IsIn, IsWider, size_of}
-use Rattle.relation.specs.Key.{are_known, has_id, ids_of}
+use Rattle.relation.specs.Frames.{IsIn, IsWider, domain_size}
+use Rattle.relation.specs.Key.{are_known, has_id, ids_of_variable}
 use Rattle.atoms.specs.Asked.{world_in}
 use Rattle.answers.specs.Objects.{AreOfItsClasses}
 use Rattle.answers.proofs.AnswerLemmas.{between_has}
@@ -40,11 +40,11 @@ never_there j w q lo hi b fails t =
     never false d = refl
 
 -- fewer objects take no more looks
-pub fewer_reads : (q : ResolvedQuery) (domains some : List (List ℕ)) → ((v : ℕ) → size_of some v ≤ size_of domains v) →
-    (ticks old now : ℕ) → now ≤ old + query_reads (size_of some) ticks q → now ≤ old + query_reads (size_of domains) ticks q
+pub fewer_reads : (q : ResolvedQuery) (domains some : List (List ℕ)) → ((v : ℕ) → domain_size some v ≤ domain_size domains v) →
+    (ticks old now : ℕ) → now ≤ old + query_reads (domain_size some) ticks q → now ≤ old + query_reads (domain_size domains) ticks q
 fewer_reads q domains some fewer ticks old now most =
-    most_within old now (query_reads (size_of some) ticks q) (query_reads (size_of domains) ticks q) most
-    (more_of_query ticks ticks (omega arith) q (size_of some) (size_of domains) fewer)
+    most_within old now (query_reads (domain_size some) ticks q) (query_reads (domain_size domains) ticks q) most
+    (more_of_query ticks ticks (omega arith) q (domain_size some) (domain_size domains) fewer)
 
 module _ (s : Contents) (q : ResolvedQuery) (lo hi : ℕ) (domains some : List (List ℕ))
     (are : AreOfItsClasses (catalog_of s) q domains) (wider : IsWider some domains) where
@@ -61,7 +61,7 @@ module _ (s : Contents) (q : ResolvedQuery) (lo hi : ℕ) (domains some : List (
   pub rows_among : (holds : (ℕ → ℕ) → ℕ → Bool) →
       ((b : ℕ → ℕ) → IsIn domains b → IsIn some b ⊎ ((t : ℕ) → (within lo hi t && holds b t) ≡ false)) →
       (rows : (ℕ → ℕ) → ℕ → Bool) → ((b : ℕ → ℕ) → IsIn some b → (t : ℕ) → rows b t ≡ (within lo hi t && holds b t)) →
-      ((b : ℕ → ℕ) (t : ℕ) → rows b t ≡ true → (v : ℕ) → has_id (between 0 (length q.classes)) v ≡ true → has_id (ids_of some v) (b v) ≡ true) →
+      ((b : ℕ → ℕ) (t : ℕ) → rows b t ≡ true → (v : ℕ) → has_id (between 0 (length q.classes)) v ≡ true → has_id (ids_of_variable some v) (b v) ≡ true) →
       (b : ℕ → ℕ) → IsIn domains b → (t : ℕ) → rows b t ≡ (within lo hi t && holds b t)
   rows_among holds sound rows told_some inside b is_in t =
       elim (sound b is_in) [
@@ -79,7 +79,7 @@ module _ (s : Contents) (regions : List Region) (q : ResolvedQuery) (lo hi : ℕ
     (are : AreOfItsClasses (catalog_of s) q domains) (suffice : Suffice s regions q lo hi domains some) where
   pub rows_suffice : (rows : (ℕ → ℕ) → ℕ → Bool) →
       ((b : ℕ → ℕ) → IsIn some b → (t : ℕ) → rows b t ≡ (within lo hi t && holds_full (world_in s regions) q hi b t)) →
-      ((b : ℕ → ℕ) (t : ℕ) → rows b t ≡ true → (v : ℕ) → has_id (between 0 (length q.classes)) v ≡ true → has_id (ids_of some v) (b v) ≡ true) →
+      ((b : ℕ → ℕ) (t : ℕ) → rows b t ≡ true → (v : ℕ) → has_id (between 0 (length q.classes)) v ≡ true → has_id (ids_of_variable some v) (b v) ≡ true) →
       (b : ℕ → ℕ) → IsIn domains b → (t : ℕ) → rows b t ≡ (within lo hi t && holds_full (world_in s regions) q hi b t)
   rows_suffice rows =
       rows_among s q lo hi domains some are suffice.wider (holds_full (world_in s regions) q hi)
@@ -90,7 +90,7 @@ module _ (s : Contents) (regions : List Region) (q : ResolvedQuery) (lo hi : ℕ
       ])
       rows
 
-  pub reads_suffice : (ticks old now : ℕ) → now ≤ old + query_reads (size_of some) ticks q → now ≤ old + query_reads (size_of domains) ticks q
+  pub reads_suffice : (ticks old now : ℕ) → now ≤ old + query_reads (domain_size some) ticks q → now ≤ old + query_reads (domain_size domains) ticks q
   reads_suffice ticks old now most = fewer_reads q domains some suffice.fewer ticks old now most
 
 -- ---- the variables below a number

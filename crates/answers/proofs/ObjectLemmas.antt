@@ -10,7 +10,7 @@ use Rattle.std.proofs.lemmas.Option.{slice_get_within}
 use Rattle.history.specs.Catalog.{Catalog, ObjectInfo, ids_of as ids_of_class}
 use Rattle.formula.specs.Tree.{ResolvedQuery}
 use Rattle.object_store.specs.Contents.{Contents, catalog_of, object_info}
-use Rattle.relation.specs.Key.{has_id, ids_of}
+use Rattle.relation.specs.Key.{has_id, ids_of_variable}
 use Rattle.answers.specs.Objects.{AreOfItsClasses}
 
 -- ---- an object of a class, so many places after the first
@@ -85,11 +85,11 @@ ids_ascend c class = rising 0 (ids_of_class c class) (numbers_from class 0 c.obj
 -- ---- domains
 
 -- the domain of a variable is that of its class
-pub domain_at : (lists : ℕ → List ℕ) (classes : List ℕ) (v : ℕ) → v < length classes → ids_of (map lists classes) v ≡ lists (slice_index classes v)
+pub domain_at : (lists : ℕ → List ℕ) (classes : List ℕ) (v : ℕ) → v < length classes → ids_of_variable (map lists classes) v ≡ lists (slice_index classes v)
 domain_at lists classes v within = get_or-map lists classes v 0 [] within
 
 -- a variable that isn't there has none
-pub no_domain : (domains : List (List ℕ)) (v : ℕ) → length domains ≤ v → ids_of domains v ≡ []
+pub no_domain : (domains : List (List ℕ)) (v : ℕ) → length domains ≤ v → ids_of_variable domains v ≡ []
 no_domain [] v past = refl
 no_domain (d ∷ domains) zero past = absurd (omega (arith, past))
 no_domain (d ∷ domains) (suc v) past = no_domain domains v (omega (arith, past))
@@ -108,7 +108,7 @@ object_is_stored s class id has =
     omega (arith, p.counted, within, same)
 
 pub stored_objects : (s : Contents) (q : ResolvedQuery) (domains : List (List ℕ)) → AreOfItsClasses (catalog_of s) q domains →
-    (v id : ℕ) → has_id (ids_of domains v) id ≡ true → id < length s.objects
+    (v id : ℕ) → has_id (ids_of_variable domains v) id ≡ true → id < length s.objects
 stored_objects s q domains are v id has =
     elim (cases_lt v (length q.classes)) [
       | inl within ↦ object_is_stored s (slice_index q.classes v) id (are.each v id within has)

@@ -6,7 +6,7 @@ use Rattle.std.proofs.lemmas.Bool.{false≢true, and_from, and_parts, or_cases, 
 use Rattle.std.proofs.lemmas.Bool.Decides.{nat_tests}
 use Rattle.std.proofs.lemmas.List.Folds.{list_any-append}
 use Rattle.formula.specs.Resolved.{are_distinct}
-use Rattle.relation.specs.Key.{has_id, ids_of, key_in}
+use Rattle.relation.specs.Key.{has_id, ids_of_variable, key_in}
 use Rattle.relation.specs.Order.{keys_over}
 use Rattle.meaning.specs.Binding.{product}
 use Rattle.answers.proofs.ObjectLemmas.{domain_at}
@@ -86,19 +86,19 @@ product_found test (xs ∷ lists) some =
     record { choice = h.head ∷ later.choice; passes = later.passes; are = (h.member, later.are) }
 
 -- a member has at each place one of the list of that place
-pub member_at : (lists : List (List ℕ)) (b : List ℕ) → AreMembers lists b → (v : ℕ) → v < length lists → has_id (ids_of lists v) (slice_index b v) ≡ true
+pub member_at : (lists : List (List ℕ)) (b : List ℕ) → AreMembers lists b → (v : ℕ) → v < length lists → has_id (ids_of_variable lists v) (slice_index b v) ≡ true
 member_at [] b are v within = absurd (omega (arith, within))
 member_at (xs ∷ lists) [] are v within = absurd are
 member_at (xs ∷ lists) (x ∷ b) are zero within = are.0
 member_at (xs ∷ lists) (x ∷ b) are (suc v) within = member_at lists b are.1 v (omega (arith, within))
 
 -- the list of an assignment's values is a member where each is one of the list of its place
-pub members_from : (lists : List (List ℕ)) (a : ℕ) (b : ℕ → ℕ) → ((v : ℕ) → v < length lists → has_id (ids_of lists v) (b (a + v)) ≡ true) →
+pub members_from : (lists : List (List ℕ)) (a : ℕ) (b : ℕ → ℕ) → ((v : ℕ) → v < length lists → has_id (ids_of_variable lists v) (b (a + v)) ≡ true) →
     AreMembers lists (map b (range_with_len a (length lists)))
 members_from [] a b each = tt
 members_from (xs ∷ lists) a b each = (
   ap (λ (v : ℕ). has_id xs (b v)) (let e : a ≡ a + 0 = omega arith in e) ∙ each 0 (omega arith),
-  members_from lists (a + 1) b (λ v within. ap (λ (u : ℕ). has_id (ids_of lists v) (b u)) (let e : a + 1 + v ≡ a + suc v = omega arith in e) ∙ each (suc v) (omega (arith, within))),
+  members_from lists (a + 1) b (λ v within. ap (λ (u : ℕ). has_id (ids_of_variable lists v) (b u)) (let e : a + 1 + v ≡ a + suc v = omega arith in e) ∙ each (suc v) (omega (arith, within))),
 )
 
 -- ---- the keys over the targets
@@ -108,7 +108,7 @@ pub keys_are_tuples : (lists : ℕ → List ℕ) (classes targets : List ℕ) �
 keys_are_tuples lists classes [] below = refl
 keys_are_tuples lists classes (v ∷ targets) below =
     let parts = and_parts (nat_lt v (length classes)) (list_all (λ u. nat_lt u (length classes)) targets) below in
-    let first : ids_of (map lists classes) v ≡ lists (slice_index classes v) = domain_at lists classes v (grind (arith, nat_tests, parts.0)) in
+    let first : ids_of_variable (map lists classes) v ≡ lists (slice_index classes v) = domain_at lists classes v (grind (arith, nat_tests, parts.0)) in
     let later : keys_over (map lists classes) targets ≡ product (map (λ u. lists (slice_index classes u)) targets) = keys_are_tuples lists classes targets parts.1 in
     λ i. blocks (first i) (later i)
 
@@ -121,9 +121,9 @@ key_found test domains [] some =
       | inr none ↦ absurd (false≢true none)
     ]
 key_found test domains (u ∷ us) some =
-    let h = headed test (ids_of domains u) (keys_over domains us) some in
+    let h = headed test (ids_of_variable domains u) (keys_over domains us) some in
     let later = key_found (λ c. test (h.head ∷ c)) domains us h.some in
-    (h.head ∷ later.0, later.1, and_from (has_id (ids_of domains u) h.head) (key_in domains us later.0) h.member later.2)
+    (h.head ∷ later.0, later.1, and_from (has_id (ids_of_variable domains u) h.head) (key_in domains us later.0) h.member later.2)
 
 -- an assignment that gives variables the objects of a key
 abbrev pub assigned : List ℕ → List ℕ → ℕ → ℕ
@@ -148,21 +148,21 @@ key_assigned domains [] (id ∷ key) distinct inside = absurd (false≢true insi
 key_assigned domains (u ∷ us) [] distinct inside = absurd (false≢true inside)
 key_assigned domains (u ∷ us) (id ∷ key) distinct inside =
     let parts = and_parts (not (has_id us u)) (are_distinct us) distinct in
-    let later = and_parts (has_id (ids_of domains u) id) (key_in domains us key) inside in
+    let later = and_parts (has_id (ids_of_variable domains u) id) (key_in domains us key) inside in
     let own : (u == u) ≡ true = grind (arith, nat_tests) in
     let rest : map (assigned (u ∷ us) (id ∷ key)) us ≡ key =
     not_there u id (assigned us key) us (not_true (has_id us u) parts.0) ∙ key_assigned domains us key parts.1 later.1 in
     λ i. (if own i then id else assigned us key u) ∷ rest i
 
 -- a key of an assignment's values has one of each variable's domain
-pub key_in_at : (domains : List (List ℕ)) (us : List ℕ) (b : ℕ → ℕ) → key_in domains us (map b us) ≡ true → (v : ℕ) → has_id us v ≡ true → has_id (ids_of domains v) (b v) ≡ true
+pub key_in_at : (domains : List (List ℕ)) (us : List ℕ) (b : ℕ → ℕ) → key_in domains us (map b us) ≡ true → (v : ℕ) → has_id us v ≡ true → has_id (ids_of_variable domains v) (b v) ≡ true
 key_in_at domains [] b inside v has = absurd (false≢true has)
 key_in_at domains (u ∷ us) b inside v has =
-    let parts = and_parts (has_id (ids_of domains u) (b u)) (key_in domains us (map b us)) inside in
+    let parts = and_parts (has_id (ids_of_variable domains u) (b u)) (key_in domains us (map b us)) inside in
     elim (or_cases (u == v) (has_id us v) has) [
       | inl here ↦
           let same : u ≡ v = grind (arith, nat_tests, here) in
-          sym (ap (λ (z : ℕ). has_id (ids_of domains z) (b z)) same) ∙ parts.0
+          sym (ap (λ (z : ℕ). has_id (ids_of_variable domains z) (b z)) same) ∙ parts.0
       | inr later ↦ key_in_at domains us b parts.1 v later
     ]
 

@@ -11,8 +11,8 @@ use Rattle.history.specs.Catalog.{Catalog, ids_of as ids_of_class}
 use Rattle.formula_shape.specs.Shape as shapes
 use Rattle.formula.specs.Tree.{ResolvedQuery, ResolvedTree}
 use Rattle.meaning.specs.Reads.{atom_variables, choices, made_single, query_reads, reads, sizes_of, term_variables}
-use Rattle.relation.specs.Frames.{size_of}
-use Rattle.relation.specs.Key.{ids_of}
+use Rattle.relation.specs.Frames.{domain_size}
+use Rattle.relation.specs.Key.{ids_of_variable}
 use Rattle.answers.proofs.ObjectLemmas.{domain_at, no_domain}
 use Rattle.std.proofs.lemmas.List.{length-map}
 
@@ -54,24 +54,24 @@ module _ (ticks many : ℕ) (upto : ticks ≤ many) where
   more_of_query q size more is =
       add-le-add (more_reads q.formula size more is) (sum_by-le-sum_by size more (between 0 (length q.classes)) is)
 
-sizes_within : (c : Catalog) (q : ResolvedQuery) → IsMore (size_of (map (ids_of_class c) q.classes)) (sizes_of c q)
+sizes_within : (c : Catalog) (q : ResolvedQuery) → IsMore (domain_size (map (ids_of_class c) q.classes)) (sizes_of c q)
 sizes_within c q v =
     elim (cases_lt v (length q.classes)) [
       | inl within ↦
-          let same : length (ids_of (map (ids_of_class c) q.classes) v) ≡ length (ids_of_class c (slice_index q.classes v)) = ap length (domain_at (ids_of_class c) q.classes v within) in
+          let same : length (ids_of_variable (map (ids_of_class c) q.classes) v) ≡ length (ids_of_class c (slice_index q.classes v)) = ap length (domain_at (ids_of_class c) q.classes v within) in
           omega (arith, same)
       | inr past ↦
           let many : length (map (ids_of_class c) q.classes) ≡ length q.classes = length-map q.classes (ids_of_class c) in
-          let none : length (ids_of (map (ids_of_class c) q.classes) v) ≡ 0 = ap length (no_domain (map (ids_of_class c) q.classes) v (omega (arith, past, many))) in
+          let none : length (ids_of_variable (map (ids_of_class c) q.classes) v) ≡ 0 = ap length (no_domain (map (ids_of_class c) q.classes) v (omega (arith, past, many))) in
           omega (arith, none)
     ]
 
 -- the looks over all objects of the classes are within those that a query may take
 pub reads_within : (c : Catalog) (q : ResolvedQuery) (domains : List (List ℕ)) (ticks : ℕ) → domains ≡ map (ids_of_class c) q.classes →
-    query_reads (size_of domains) ticks q ≤ query_reads (sizes_of c q) ticks q
+    query_reads (domain_size domains) ticks q ≤ query_reads (sizes_of c q) ticks q
 reads_within c q domains ticks is =
-    subst (λ (d : List (List ℕ)). query_reads (size_of d) ticks q ≤ query_reads (sizes_of c q) ticks q) (sym is)
-    (more_of_query ticks ticks (omega arith) q (size_of (map (ids_of_class c) q.classes)) (sizes_of c q) (sizes_within c q))
+    subst (λ (d : List (List ℕ)). query_reads (domain_size d) ticks q ≤ query_reads (sizes_of c q) ticks q) (sym is)
+    (more_of_query ticks ticks (omega arith) q (domain_size (map (ids_of_class c) q.classes)) (sizes_of c q) (sizes_within c q))
 
 pub most_within : (old now few more : ℕ) → now ≤ old + few → few ≤ more → now ≤ old + more
 most_within old now few more most within = omega (arith, most, within)

@@ -6,7 +6,7 @@ use Rattle.history.specs.Write.{Write}
 use Rattle.formula.specs.Tree.{ResolvedQuery}
 use Rattle.meaning.specs.Accepted.{are_accepted}
 use Rattle.object_store.specs.Contents.{Contents, history_of}
-use Rattle.relation.specs.Key.{has_id, ids_of}
+use Rattle.relation.specs.Key.{has_id, ids_of_variable}
 
 -- a store tells what some writes do that a session accepts
 pub record IsOfAcceptedWrites (s : Contents) : Type 0 where
@@ -17,5 +17,5 @@ pub record IsOfAcceptedWrites (s : Contents) : Type 0 where
 -- a list of objects for each variable of a query, each of the variable's class
 pub record AreOfItsClasses (c : Catalog) (q : ResolvedQuery) (domains : List (List ℕ)) : Type 0 where
   pub many : length domains ≡ length q.classes
-  pub each : (v id : ℕ) → v < length q.classes → has_id (ids_of domains v) id ≡ true
+  pub each : (v id : ℕ) → v < length q.classes → has_id (ids_of_variable domains v) id ≡ true
       → has_id (ids_of_class c (slice_index q.classes v)) id ≡ true

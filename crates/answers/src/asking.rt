@@ -8,7 +8,7 @@ ghost use Rattle.tick_set.specs.declared.spans.TheConstants.{SPAN_LIMIT};
 ghost use Rattle.history.specs.Catalog.{ids_of};
 ghost use Rattle.history.specs.World.{World};
 ghost use Rattle.formula.specs.Resolved.{IsResolved, are_distinct};
-ghost use Rattle.formula.specs.Tree.{query_view};
+ghost use Rattle.formula.specs.Tree.{resolved_view};
 ghost use Rattle.meaning.specs.Answer.{answer, answer_where};
 ghost use Rattle.meaning.specs.Fits.{FitsItsClasses};
 ghost use Rattle.meaning.specs.Reads.{query_reads, sizes_of};
@@ -16,7 +16,7 @@ ghost use Rattle.object_store.specs.Contents.{catalog_of};
 ghost use Rattle.relation.specs.Frames.{IsIn, frame};
 ghost use Rattle.relation.specs.Key.{has_id};
 ghost use Rattle.relation.specs.Projection.{IsPicked};
-ghost use Rattle.relation.specs.Rows.{has};
+ghost use Rattle.relation.specs.Rows.{table_has};
 ghost use Rattle.atoms.specs.Asked.{world_in};
 ghost use Rattle.answers.specs.Objects.{IsOfAcceptedWrites};
 
@@ -47,13 +47,13 @@ pub fn ask<L: Ledger, M: Ledger>(
     probes: &mut Steps<M>,
 ) -> Result<Answer, AllocError>
     requires accepted { IsOfAcceptedWrites store.now }
-    requires resolved { IsResolved (query_view q.now) }
-    requires fits { FitsItsClasses (world_in store.now regions.now) (query_view q.now) }
+    requires resolved { IsResolved (resolved_view q.now) }
+    requires fits { FitsItsClasses (world_in store.now regions.now) (resolved_view q.now) }
     requires length { w.hi - w.lo ≤ SPAN_LIMIT }
-    ensures rows { IfOk result (λ a. a ≡ answer (world_in store.now regions.now) (query_view q.now) w.lo w.hi) }
+    ensures rows { IfOk result (λ a. a ≡ answer (world_in store.now regions.now) (resolved_view q.now) w.lo w.hi) }
     ensures least { reads.old ≤ reads.new }
     ensures most { reads.new ≤ reads.old
-        + query_reads (sizes_of (catalog_of store.now) (query_view q.now)) (w.hi + 1 - w.lo) (query_view q.now) }
+        + query_reads (sizes_of (catalog_of store.now) (resolved_view q.now)) (w.hi + 1 - w.lo) (resolved_view q.now) }
 {
     let domains = domains_of(alloc, q, store)?;
     let full = evaluate(alloc, q, &domains, store, regions, w, reads, probes)?;
@@ -74,13 +74,13 @@ pub fn answer_over<'d>(
     q: &RQuery,
     w: Window,
 ) -> Result<Answer, AllocError>
-    requires resolved { IsResolved (query_view q.now) }
+    requires resolved { IsResolved (resolved_view q.now) }
     requires vars { full.vars ≡ between 0 (length q.now.classes) }
     ensures rows { IfOk result (λ a. (u : World) (holds : (ℕ → ℕ) → ℕ → Bool)
-        → full.entry.domains ≡ map (ids_of u.history.catalog) (query_view q.now).classes
-        → ((b : ℕ → ℕ) → IsIn full.entry.domains b → (t : ℕ) → has spans_have full.entry b t
+        → full.entry.domains ≡ map (ids_of u.history.catalog) (resolved_view q.now).classes
+        → ((b : ℕ → ℕ) → IsIn full.entry.domains b → (t : ℕ) → table_has spans_have full.entry b t
         ≡ (within w.lo w.hi t && holds b t))
-        → a ≡ answer_where u (query_view q.now) holds w.lo w.hi) }
+        → a ≡ answer_where u (resolved_view q.now) holds w.lo w.hi) }
 {
     full.rows_stand_in_order();
     let rows = over_targets(alloc, full, q.targets.items())?;
@@ -98,9 +98,9 @@ fn over_targets<'d>(
 ) -> Result<Relation<'d, IntervalSet>, AllocError>
     requires among { list_all (has_id full.vars) targets.now ≡ true }
     requires distinct { are_distinct targets.now ≡ true }
-    ensures all { IfOk result (λ r. (b : ℕ → ℕ) (t : ℕ) → has spans_have full.entry b t ≡ true
-        → has spans_have r b t ≡ true) }
-    ensures some { IfOk result (λ r. (b : ℕ → ℕ) (t : ℕ) → has spans_have r b t ≡ true
+    ensures all { IfOk result (λ r. (b : ℕ → ℕ) (t : ℕ) → table_has spans_have full.entry b t ≡ true
+        → table_has spans_have r b t ≡ true) }
+    ensures some { IfOk result (λ r. (b : ℕ → ℕ) (t : ℕ) → table_has spans_have r b t ≡ true
         → IsPicked spans_have full.entry targets.now b t) }
     ensures vars { IfOk result (λ r. r.vars ≡ targets.now) }
     ensures frame { IfOk result (λ r. frame r ≡ frame full.entry) }

@@ -7,14 +7,14 @@ ghost use Rattle.tick_set.specs.declared.spans.TheConstants.{SPAN_LIMIT};
 ghost use Rattle.history.specs.Catalog.{ids_of};
 ghost use Rattle.formula_shape.specs.declared.limits.TheConstants.{OBJECT_LIMIT};
 ghost use Rattle.formula.specs.Resolved.{IsResolved};
-ghost use Rattle.formula.specs.Tree.{query_view};
+ghost use Rattle.formula.specs.Tree.{resolved_view};
 ghost use Rattle.meaning.specs.Binding.{holds_full};
 ghost use Rattle.meaning.specs.Fits.{FitsItsClasses};
 ghost use Rattle.meaning.specs.Reads.{query_reads};
 ghost use Rattle.object_store.specs.Contents.{catalog_of};
-ghost use Rattle.relation.specs.Frames.{IsIn, IsWider, frame, frame_of, size_of};
-ghost use Rattle.relation.specs.Key.{has_id, ids_of as domain_of};
-ghost use Rattle.relation.specs.Rows.{has};
+ghost use Rattle.relation.specs.Frames.{IsIn, IsWider, domain_size, frame, frame_of};
+ghost use Rattle.relation.specs.Key.{has_id, ids_of_variable as domain_of};
+ghost use Rattle.relation.specs.Rows.{table_has};
 ghost use Rattle.atoms.specs.Asked.{world_in};
 ghost use Rattle.answers.specs.Objects.{AreOfItsClasses, IsOfAcceptedWrites};
 
@@ -64,16 +64,16 @@ pub fn evaluate<'d, L: Ledger, M: Ledger>(
     probes: &mut Steps<M>,
 ) -> Result<Relation<'d, IntervalSet>, AllocError>
     requires accepted { IsOfAcceptedWrites store.now }
-    requires resolved { IsResolved (query_view q.now) }
-    requires fits { FitsItsClasses (world_in store.now regions.now) (query_view q.now) }
-    requires domains { AreOfItsClasses (catalog_of store.now) (query_view q.now) d.now }
+    requires resolved { IsResolved (resolved_view q.now) }
+    requires fits { FitsItsClasses (world_in store.now regions.now) (resolved_view q.now) }
+    requires domains { AreOfItsClasses (catalog_of store.now) (resolved_view q.now) d.now }
     requires length { w.hi - w.lo ≤ SPAN_LIMIT }
-    ensures rows { IfOk result (λ r. (b : ℕ → ℕ) → IsIn d.now b → (t : ℕ) → has spans_have r b t
-        ≡ (within w.lo w.hi t && holds_full (world_in store.now regions.now) (query_view q.now) w.hi b t)) }
+    ensures rows { IfOk result (λ r. (b : ℕ → ℕ) → IsIn d.now b → (t : ℕ) → table_has spans_have r b t
+        ≡ (within w.lo w.hi t && holds_full (world_in store.now regions.now) (resolved_view q.now) w.hi b t)) }
     ensures vars { IfOk result (λ r. r.vars ≡ between 0 (length q.now.classes)) }
     ensures frame { IfOk result (λ r. frame r ≡ frame_of d.now w.lo w.hi) }
     ensures least { reads.old ≤ reads.new }
-    ensures most { reads.new ≤ reads.old + query_reads (size_of d.now) (w.hi + 1 - w.lo) (query_view q.now) }
+    ensures most { reads.new ≤ reads.old + query_reads (domain_size d.now) (w.hi + 1 - w.lo) (resolved_view q.now) }
 {
     if !can_hold(q, d, store, regions, w) {
         return Ok(no_rows(alloc, d, w));
@@ -89,7 +89,7 @@ pub fn evaluate<'d, L: Ledger, M: Ledger>(
 
 // No row, over all variables.
 fn no_rows<'d>(alloc: Global, d: &'d Domains, w: Window) -> Relation<'d, IntervalSet>
-    ensures ticks { (b : ℕ → ℕ) (t : ℕ) → has spans_have result b t ≡ false }
+    ensures ticks { (b : ℕ → ℕ) (t : ℕ) → table_has spans_have result b t ≡ false }
     ensures vars { result.vars ≡ between 0 (length d.now) }
     ensures frame { frame result ≡ frame_of d.now w.lo w.hi }
 {
@@ -109,16 +109,16 @@ fn evaluate_all<'d, L: Ledger, M: Ledger>(
     probes: &mut Steps<M>,
 ) -> Result<Relation<'d, IntervalSet>, AllocError>
     requires accepted { IsOfAcceptedWrites store.now }
-    requires resolved { IsResolved (query_view q.now) }
-    requires fits { FitsItsClasses (world_in store.now regions.now) (query_view q.now) }
-    requires domains { AreOfItsClasses (catalog_of store.now) (query_view q.now) d.now }
+    requires resolved { IsResolved (resolved_view q.now) }
+    requires fits { FitsItsClasses (world_in store.now regions.now) (resolved_view q.now) }
+    requires domains { AreOfItsClasses (catalog_of store.now) (resolved_view q.now) d.now }
     requires length { w.hi - w.lo ≤ SPAN_LIMIT }
-    ensures rows { IfOk result (λ r. (b : ℕ → ℕ) → IsIn d.now b → (t : ℕ) → has spans_have r b t
-        ≡ (within w.lo w.hi t && holds_full (world_in store.now regions.now) (query_view q.now) w.hi b t)) }
+    ensures rows { IfOk result (λ r. (b : ℕ → ℕ) → IsIn d.now b → (t : ℕ) → table_has spans_have r b t
+        ≡ (within w.lo w.hi t && holds_full (world_in store.now regions.now) (resolved_view q.now) w.hi b t)) }
     ensures vars { IfOk result (λ r. r.vars ≡ between 0 (length q.now.classes)) }
     ensures frame { IfOk result (λ r. frame r ≡ frame_of d.now w.lo w.hi) }
     ensures least { reads.old ≤ reads.new }
-    ensures most { reads.new ≤ reads.old + query_reads (size_of d.now) (w.hi + 1 - w.lo) (query_view q.now) }
+    ensures most { reads.new ≤ reads.old + query_reads (domain_size d.now) (w.hi + 1 - w.lo) (resolved_view q.now) }
 {
     fitting_queries_can_be_asked();
     let world = StoredWorld { store, regions };
@@ -141,8 +141,8 @@ pub fn widened<'d>(
     d: &'d Domains,
 ) -> Result<Relation<'d, IntervalSet>, AllocError>
     requires { IsWider rows.domains d.now }
-    ensures ticks { IfOk result (λ r. (b : ℕ → ℕ) (t : ℕ) → has spans_have r b t ≡ has spans_have rows.entry b t) }
-    ensures inside { IfOk result (λ r. (b : ℕ → ℕ) (t : ℕ) → has spans_have r b t ≡ true → (v : ℕ)
+    ensures ticks { IfOk result (λ r. (b : ℕ → ℕ) (t : ℕ) → table_has spans_have r b t ≡ table_has spans_have rows.entry b t) }
+    ensures inside { IfOk result (λ r. (b : ℕ → ℕ) (t : ℕ) → table_has spans_have r b t ≡ true → (v : ℕ)
         → has_id rows.entry.vars v ≡ true → has_id (domain_of rows.entry.domains v) (b v) ≡ true) }
     ensures vars { IfOk result (λ r. r.vars ≡ rows.entry.vars) }
     ensures frame { IfOk result (λ r. frame r ≡ frame_of d.now rows.entry.lo rows.entry.hi) }
@@ -169,15 +169,15 @@ pub fn evaluate_alone<L: Ledger, M: Ledger>(
     probes: &mut Steps<M>,
 ) -> Result<IntervalSet, AllocError>
     requires accepted { IsOfAcceptedWrites store.now }
-    requires resolved { IsResolved (query_view q.now) }
-    requires fits { FitsItsClasses (world_in store.now regions.now) (query_view q.now) }
-    requires object { AreOfItsClasses (catalog_of store.now) (query_view q.now) ((id ∷ []) ∷ []) }
+    requires resolved { IsResolved (resolved_view q.now) }
+    requires fits { FitsItsClasses (world_in store.now regions.now) (resolved_view q.now) }
+    requires object { AreOfItsClasses (catalog_of store.now) (resolved_view q.now) ((id ∷ []) ∷ []) }
     requires length { w.hi - w.lo ≤ SPAN_LIMIT }
     ensures ticks { IfOk result (λ s. (b : ℕ → ℕ) → b 0 ≡ id → (t : ℕ) → spans_have s t
-        ≡ (within w.lo w.hi t && holds_full (world_in store.now regions.now) (query_view q.now) w.hi b t)) }
+        ≡ (within w.lo w.hi t && holds_full (world_in store.now regions.now) (resolved_view q.now) w.hi b t)) }
     ensures least { reads.old ≤ reads.new }
     ensures most { reads.new ≤ reads.old
-        + query_reads (size_of ((id ∷ []) ∷ [])) (w.hi + 1 - w.lo) (query_view q.now) }
+        + query_reads (domain_size ((id ∷ []) ∷ [])) (w.hi + 1 - w.lo) (resolved_view q.now) }
 {
     if !can_hold_alone(alloc, q, id, store, regions, w) {
         return Ok(IntervalSet::empty(alloc));

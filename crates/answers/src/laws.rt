@@ -8,7 +8,7 @@ ghost use Rattle.formula.specs.Tree.{ResolvedQuery};
 ghost use Rattle.formula.specs.Value.{no_values};
 ghost use Rattle.meaning.specs.Fits.{FitsItsClasses};
 ghost use Rattle.object_store.specs.Contents.{Contents, catalog_of};
-ghost use Rattle.relation.specs.Key.{has_id, ids_of};
+ghost use Rattle.relation.specs.Key.{has_id, ids_of_variable};
 ghost use Rattle.evaluator.specs.Interpreting.{CanAsk, IsOver};
 ghost use Rattle.atoms.specs.Asked.{CanAskAtom, CanAskTerm, told_by, world_in};
 ghost use Rattle.answers.specs.Objects.{AreOfItsClasses, IsOfAcceptedWrites};
@@ -30,7 +30,7 @@ pub fn fitting_queries_can_be_asked()
     ensures over { (q : ResolvedQuery) → IsResolved q → IsOver (length q.classes) q.formula }
     ensures objects { (s : Contents) (q : ResolvedQuery) (domains : List (List ℕ))
         → AreOfItsClasses (catalog_of s) q domains
-        → (v id : ℕ) → has_id (ids_of domains v) id ≡ true → id < length s.objects }
+        → (v id : ℕ) → has_id (ids_of_variable domains v) id ≡ true → id < length s.objects }
 {
     accepted_writes_lead_to_reachable_states();
     values_are_within_their_bounds();

@@ -12,7 +12,7 @@ use Rattle.history.specs.History.{History, history}
 use Rattle.meaning.specs.Agreement.{world_with}
 use Rattle.meaning.specs.Fits.{FitsItsClasses, atom_fits, no_kinds}
 use Rattle.object_store.specs.Contents.{Contents, history_of}
-use Rattle.relation.specs.Key.{has_id, ids_of}
+use Rattle.relation.specs.Key.{has_id, ids_of_variable}
 use Rattle.asking_tests.specs.Passing.{writes}
 
 abbrev pub told : History
@@ -48,7 +48,7 @@ fits_classes h regions a is one fits =
 abbrev pub car_and_post : List (List ℕ)
 car_and_post = (0 ∷ []) ∷ (1 ∷ []) ∷ []
 
-each_of_its_class : (v id : ℕ) → v < 2 → has_id (ids_of car_and_post v) id ≡ true
+each_of_its_class : (v id : ℕ) → v < 2 → has_id (ids_of_variable car_and_post v) id ≡ true
     → has_id (ids_of_class told.catalog (slice_index (0 ∷ 1 ∷ []) v)) id ≡ true
 each_of_its_class zero id less has = has
 each_of_its_class (suc zero) id less has = has

@@ -2,7 +2,7 @@
 ghost use Rattle.std.specs.Prelude.{◌≡◌, ◌<◌, ◌≤◌, [], pos, true, length, IfOk, IfSome, OnOk};
 ghost use Rattle.history.specs.History.{history};
 ghost use Rattle.history.specs.Write.{Class, Insert, Remove};
-ghost use Rattle.meaning.specs.ExampleParts.{standing};
+ghost use Rattle.meaning.specs.ExampleParts.{standing_at};
 ghost use Rattle.meaning.specs.PlaceExample.{passing};
 ghost use Rattle.motion.specs.declared.limits.TheConstants.{CAPACITY_LIMIT};
 ghost use Rattle.object_store.specs.Changes.{AreGiven};
@@ -35,7 +35,7 @@ fn passing_place() -> Option<Place>
 
 // At (10,0).
 fn standing_place() -> Option<Place>
-    ensures { IfSome result (λ place. place ≡ standing 10 0) }
+    ensures { IfSome result (λ place. place ≡ standing_at 10 0) }
 {
     let at = Point {
         x: Fix::of(10_000)?,
@@ -94,7 +94,7 @@ fn remove(store: &mut Store, name: &[u8]) -> Result<(), Fail>
 fn pass_post(store: &mut Store, car: Place, post: Place) -> Result<(), Fail>
     requires empty { history_of store.old ≡ history [] }
     requires car { car ≡ passing (pos 0) (pos 3000) }
-    requires post { post ≡ standing 10 0 }
+    requires post { post ≡ standing_at 10 0 }
     ensures { OnOk result (history_of store.new ≡ history writes) }
 {
     add_class(store, b"car", 100)?;
@@ -107,7 +107,7 @@ fn pass_post(store: &mut Store, car: Place, post: Place) -> Result<(), Fail>
 
 fn passed_post_of(alloc: Global, car: Place, post: Place) -> Result<Store, Fail>
     requires car { car ≡ passing (pos 0) (pos 3000) }
-    requires post { post ≡ standing 10 0 }
+    requires post { post ≡ standing_at 10 0 }
     ensures { IfOk result (λ store. history_of store ≡ history writes) }
 {
     let mut store = Store::new(alloc);

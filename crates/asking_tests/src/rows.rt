@@ -2,7 +2,7 @@ ghost use Rattle.std.specs.Prelude.{◌≡◌, ◌∷◌, [], length, IfOk};
 ghost use Rattle.tick_set.specs.Ticks.{LiesIn, between};
 ghost use Rattle.tick_set.specs.Runs.{spans_have};
 ghost use Rattle.formula.specs.Resolved.{IsResolved};
-ghost use Rattle.formula.specs.Tree.{query_view};
+ghost use Rattle.formula.specs.Tree.{resolved_view};
 
 use answers::{Answer, answer_over, spans_of};
 use formula::{Binding, Items, RFormula, RQuery};
@@ -63,7 +63,7 @@ fn rows_over_all<'d>(
 
 // RETRIEVE the third and the first variable, each of a class of its own.
 fn query(alloc: Global) -> Result<RQuery, AllocError>
-    ensures resolved { IfOk result (λ q. IsResolved (query_view q)) }
+    ensures resolved { IfOk result (λ q. IsResolved (resolved_view q)) }
     ensures variables { IfOk result (λ q. length q.classes ≡ 3) }
 {
     let mut targets = Items::new(alloc);

@@ -1,6 +1,6 @@
 ghost use Rattle.std.specs.Prelude.{◌≡◌, ◌∷◌, [], true, IfOk, IfSome};
 ghost use Rattle.formula.specs.Resolved.{is_atom, no_scope};
-ghost use Rattle.formula.specs.Tree.{query_view};
+ghost use Rattle.formula.specs.Tree.{resolved_view};
 ghost use Rattle.formula_shape.specs.Shape as shapes;
 ghost use Rattle.history.specs.History.{history};
 ghost use Rattle.meaning.specs.Fits.{atom_fits, no_kinds};
@@ -197,7 +197,7 @@ fn car_and_post(alloc: Global) -> Result<Domains, AllocError>
 
 // RETRIEVE o FROM car o,post n WHERE the atom
 fn query_of(alloc: Global, atom: RAtom) -> Result<RQuery, AllocError>
-    ensures { IfOk result (λ q. query_view q ≡ record { targets = 0 ∷ []; classes = 0 ∷ 1 ∷ []; formula = shapes.Atom atom }) }
+    ensures { IfOk result (λ q. resolved_view q ≡ record { targets = 0 ∷ []; classes = 0 ∷ 1 ∷ []; formula = shapes.Atom atom }) }
 {
     let mut targets = Items::new(alloc);
     targets.push(0)?;

@@ -9,16 +9,17 @@ use Rattle.fixed_point.specs.declared.number.Point.{Point}
 use Rattle.motion.specs.Timeline.{Epoch}
 use Rattle.motion.specs.declared.cell.Cell.{Cell}
 use Rattle.motion.specs.declared.cell.Cell.TheVariants as cells
+use Rattle.motion.specs.Cells.{dynamic_of}
 use Rattle.courses.specs.Places as moving
 use Rattle.meaning.specs.Atom as meant
 
-same_dynamic : (cell : Option Cell) → option_and_then meant.dynamic_of cell ≡ option_and_then moving.dynamic_of cell
+same_dynamic : (cell : Option Cell) → option_and_then dynamic_of cell ≡ option_and_then dynamic_of cell
 same_dynamic None = refl
 same_dynamic (Some (cells.Num n)) = refl
 same_dynamic (Some (cells.Text s)) = refl
 same_dynamic (Some (cells.Dyn v)) = refl
 
-dynamic_there : (there : Option (List Cell)) (a : ℕ) → meant.dynamic_in there a ≡ option_and_then moving.dynamic_of (slice_get (unwrap_or there []) a)
+dynamic_there : (there : Option (List Cell)) (a : ℕ) → meant.dynamic_in there a ≡ option_and_then dynamic_of (slice_get (unwrap_or there []) a)
 dynamic_there None a = refl
 dynamic_there (Some cells) a = same_dynamic (slice_get cells a)
 

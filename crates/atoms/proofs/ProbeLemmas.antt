@@ -12,7 +12,7 @@ use Rattle.formula.specs.declared.tree.RAtom.TheVariants as atoms
 use Rattle.formula.specs.Variables.{atom_has}
 use Rattle.meaning.specs.Reads.{atom_variables}
 use Rattle.atoms.specs.declared.parts.Part.{Part}
-use Rattle.atoms.specs.Parts.{AreBegun, beside, epoch_of}
+use Rattle.atoms.specs.Parts.{HaveEpochs, beside, epoch_of}
 use Rattle.atoms.specs.Probes.{probe_limit}
 use Rattle.atoms.specs.Sizes.{is_sized}
 use Rattle.atoms.proofs.PartLemmas.{missing, none_is}
@@ -65,7 +65,7 @@ module _ (a : RAtom) (begun : ℕ → Bool) (old new part all next at : ℕ) (si
 -- the same of a part that was judged
 pub part_cost : (a : RAtom) (part : Part) (variables : List ℕ) (old new all next at : ℕ) → is_sized a ≡ true → variables ≡ atom_variables a → part.variables.now ≡ variables →
     part.span.hi - part.span.lo ≤ all → new ≤ old + probe_limit a (part.span.hi - part.span.lo) →
-    ((v : ℕ) → atom_has v a ≡ true → epoch_of part v ≡ None → new ≡ old) → (0 < length variables → AreBegun part → next < at) → next ≤ at →
+    ((v : ℕ) → atom_has v a ≡ true → epoch_of part v ≡ None → new ≡ old) → (0 < length variables → HaveEpochs part → next < at) → next ≤ at →
     new + probe_limit a all * next ≤ old + probe_limit a all * at
 part_cost a part variables old new all next at sized are own_variables shorter cost absent fewer not_more =
     let begun = λ (v : ℕ). is_some (epoch_of part v) in

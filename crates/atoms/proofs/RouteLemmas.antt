@@ -20,9 +20,9 @@ use Rattle.atoms.specs.declared.routes.Route.{Route}
 use Rattle.distance_crossing.specs.Triples.{triple_spans}
 use Rattle.distance_crossing.specs.declared.comparison.Triple.{Triple}
 use Rattle.tick_set.specs.Ticks.{within}
-use Rattle.atoms.specs.Found.{AreFound}
+use Rattle.atoms.specs.Found.{AreRunsWhere}
 use Rattle.atoms.specs.Parts.{beside, trace_by}
-use Rattle.atoms.specs.Routes.{IsPast, IsWritten, place_along}
+use Rattle.atoms.specs.Routes.{IsPast, IsUpdated, place_along}
 use Rattle.atoms.proofs.RunLemmas.{runs_within}
 use Rattle.atoms.proofs.StraightLemmas.{place_beside}
 
@@ -41,7 +41,7 @@ pub on_route : (route : Option Route) (lo hi : ℕ) (place along : ℕ → Optio
 on_route None lo hi place along same places = tt
 on_route (Some r) lo hi place along same places = λ t from up_to. same t from up_to ∙ places t
 
-pub written_later : (route : Option Route) (from lo : ℕ) → from ≤ lo → IfSome route (λ r. IsWritten r from) → IfSome route (λ r. IsWritten r lo)
+pub written_later : (route : Option Route) (from lo : ℕ) → from ≤ lo → IfSome route (λ r. IsUpdated r from) → IfSome route (λ r. IsUpdated r lo)
 written_later None from lo later written = tt
 written_later (Some r) from lo later written = (omega (arith, written.0, later), omega (arith, written.1, later))
 
@@ -136,8 +136,8 @@ distance_above op c v above =
 
 -- ---- what is found
 
-pub found_along : (found : Option Triple) (lo hi : ℕ) (p q : ℕ → Bool) → IfSome found (AreFound (λ t. within lo hi t && p t)) →
-    ((t : ℕ) → lo ≤ t → t ≤ hi → p t ≡ q t) → IfSome found (AreFound (λ t. within lo hi t && q t))
+pub found_along : (found : Option Triple) (lo hi : ℕ) (p q : ℕ → Bool) → IfSome found (AreRunsWhere (λ t. within lo hi t && p t)) →
+    ((t : ℕ) → lo ≤ t → t ≤ hi → p t ≡ q t) → IfSome found (AreRunsWhere (λ t. within lo hi t && q t))
 found_along None lo hi p q runs same = tt
 found_along (Some x) lo hi p q runs same = runs_within lo hi p q (triple_spans x) (triple_spans x) runs refl same
 

@@ -20,9 +20,10 @@ use Rattle.motion.specs.Dynamic.{Dynamic, value_at}
 use Rattle.courses.specs.Parts.{piece_count, pieces_of_all}
 use Rattle.courses.specs.Places.{place_at, place_of}
 use Rattle.motion.specs.Timeline.{Epoch, epoch_at, state_at}
-use Rattle.meaning.specs.Atom.{dynamic_in, dynamic_of, place_by, position_in}
+use Rattle.motion.specs.Cells.{dynamic_of}
+use Rattle.meaning.specs.Atom.{dynamic_in, place_by, position_in}
 use Rattle.meaning.specs.Trace.{Trace}
-use Rattle.meaning.specs.Value.{cell_in, cell_value, factor_value, plus, term_value, unit_value, with_sign}
+use Rattle.meaning.specs.Value.{cell_in, cell_value, factor_value, plus, signed_value, term_value, unit_value}
 use Rattle.atoms.specs.declared.terms.Course.{Course}
 use Rattle.atoms.specs.declared.terms.Course.TheVariants as courses
 use Rattle.atoms.specs.declared.trends.Trend.{Trend}
@@ -107,10 +108,10 @@ course_along (Some x) state l a lo hi places along =
 -- ---- a term of one factor
 
 pub value_of_one : (h : Trace) (q : RTerm) (x : Env) (t : ℕ) (factor : RSigned) (unit : Value) → q.factors ≡ factor ∷ [] →
-    unit_value h x factor.unit t ≡ Some unit → term_value h q x t ≡ with_sign factor.minus factor.times unit
+    unit_value h x factor.unit t ≡ Some unit → term_value h q x t ≡ signed_value factor.minus factor.times unit
 value_of_one h q x t factor unit one is =
     ap (λ factors. unwrap_or (reduce plus (map (factor_value h x t) factors)) None) one
-    ∙ ap (option_and_then (with_sign factor.minus factor.times)) is
+    ∙ ap (option_and_then (signed_value factor.minus factor.times)) is
 
 pub number_of_one : (values_at : ℕ → Option Value) (lo hi : ℕ) (course : Option Course) (trend : Trend) → course ≡ Some (courses.Number trend) →
     ((t : ℕ) → lo ≤ t → t ≤ hi → values_at t ≡ value_along course lo t) →

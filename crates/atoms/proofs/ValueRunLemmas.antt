@@ -16,8 +16,8 @@ use Rattle.tick_set.specs.Ticks.{within}
 use Rattle.formula.specs.declared.value.Value.{Value}
 use Rattle.formula.specs.declared.value.Value.TheVariants as values
 use Rattle.interpreting.specs.declared.value_run.ValueRun.{ValueRun}
-use Rattle.interpreting.specs.ValueRuns.{IsRunOf, runs_have}
-use Rattle.atoms.specs.ValueRuns.{AreMaximalRuns, EachFollows, Follows, IsJoined, are_equal, goes_on}
+use Rattle.interpreting.specs.ValueRuns.{IsRunOf, value_runs_have}
+use Rattle.atoms.specs.ValueRuns.{AreMaximalRuns, ComesAfter, EachFollows, IsJoined, are_equal, goes_on}
 
 pub equal_values : (v w : Value) → are_equal v w ≡ true → v ≡ w
 equal_values (values.Num m) (values.Num n) same = let is : m ≡ n = grind (arith, ints, nat_tests, same) in ap values.Num is
@@ -56,7 +56,7 @@ follows_both (run ∷ []) last both begins value each = (
 )
 follows_both (run ∷ next ∷ front) last both begins value each = (each.0, follows_both (next ∷ front) last both begins value each.1)
 
-follows_more : (front : List ValueRun) (last run : ValueRun) → Follows last run → EachFollows (front ++ last ∷ []) → EachFollows ((front ++ last ∷ []) ++ run ∷ [])
+follows_more : (front : List ValueRun) (last run : ValueRun) → ComesAfter last run → EachFollows (front ++ last ∷ []) → EachFollows ((front ++ last ∷ []) ++ run ∷ [])
 follows_more [] last run follows each = (follows, tt)
 follows_more (first ∷ []) last run follows each = (each.0, (follows, tt))
 follows_more (first ∷ next ∷ front) last run follows each = (each.0, follows_more (next ∷ front) last run follows each.1)
@@ -88,7 +88,7 @@ module _ (value : ℕ → Option Value) (from at : ℕ) (run : ValueRun) (order 
               list_any-append (λ r. within r.span.lo r.span.hi t) runs (run ∷ [])
               ∙ elim (cases_lt t run.span.lo) [
                 | inl early ↦ or_left _ _ (are.of_values.all t begun (omega arith) some)
-                | inr now ↦ or_right (runs_have runs t) _ (grind (arith, nat_tests))
+                | inr now ↦ or_right (value_runs_have runs t) _ (grind (arith, nat_tests))
               ];
           few = omega (arith, are.of_values.few, length-append runs (run ∷ []));
         };
@@ -125,12 +125,12 @@ module _ (value : ℕ → Option Value) (from at : ℕ) (run : ValueRun) (order 
               list_any-append (λ r. within r.span.lo r.span.hi t) front (both ∷ [])
               ∙ elim (cases_lt t run.span.lo) [
                 | inl early ↦
-                    elim (or_cases (runs_have front t) (runs_have (last ∷ []) t)
+                    elim (or_cases (value_runs_have front t) (value_runs_have (last ∷ []) t)
                     (sym (list_any-append (λ r. within r.span.lo r.span.hi t) front (last ∷ [])) ∙ are.of_values.all t begun (omega arith) some)) [
                       | inl old ↦ or_left _ _ old
-                      | inr end ↦ or_right (runs_have front t) _ (grind (arith, nat_tests, end))
+                      | inr end ↦ or_right (value_runs_have front t) _ (grind (arith, nat_tests, end))
                     ]
-                | inr now ↦ or_right (runs_have front t) _ (grind (arith, nat_tests))
+                | inr now ↦ or_right (value_runs_have front t) _ (grind (arith, nat_tests))
               ];
           few = omega (arith, are.of_values.few, length-append front (last ∷ []), length-append front (both ∷ []));
         };
@@ -161,7 +161,7 @@ module _ (value : ℕ → Option Value) (from at : ℕ) (run : ValueRun) (order 
       let end = ends_with (first ∷ runs) n last (omega arith) is in
       let differs : goes_on last run ≡ false = subst (λ (o : Option ValueRun). IfSome o (λ r. goes_on r run ≡ false)) is apart in
       let before : IsRunOf value from at last = are.of_values.each n first there in
-      let follows : Follows last run = record { past = omega (arith, before.ends); differ = λ next. apart_values last run next differs } in
+      let follows : ComesAfter last run = record { past = omega (arith, before.ends); differ = λ next. apart_values last run next differs } in
       pushed (first ∷ runs) are
       (subst (λ rs. EachFollows (rs ++ run ∷ [])) (sym end.is) (follows_more end.front last run follows (subst EachFollows end.is are.maximal)))
 

@@ -5,5 +5,5 @@ use Rattle.distance_crossing.specs.Triples.{triple_spans}
 use Rattle.distance_crossing.specs.declared.comparison.Triple.{Triple}
 
 -- the maximal runs of the ticks that pass the test
-abbrev pub AreFound : (ℕ → Bool) → Triple → Type 0
-AreFound test found = IsRuns test (triple_spans found)
+abbrev pub AreRunsWhere : (ℕ → Bool) → Triple → Type 0
+AreRunsWhere test found = IsRuns test (triple_spans found)

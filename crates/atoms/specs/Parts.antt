@@ -38,12 +38,12 @@ abbrev pub epoch_of : Part → ℕ → Option Epoch
 epoch_of part v = option_copied (unwrap_or (beside part.variables.now part.epochs v) None)
 
 -- the cells of a variable's object in a part, None where it is absent
-abbrev pub held : Part → ℕ → Option (List Cell)
-held part v = option_and_then (λ p. p.cells) (epoch_of part v)
+abbrev pub held_cells : Part → ℕ → Option (List Cell)
+held_cells part v = option_and_then (λ p. p.cells) (epoch_of part v)
 
 -- the same at each tick
 abbrev pub shown : Part → Trace
-shown part v t = held part v
+shown part v t = held_cells part v
 
 -- each asked dynamic attribute of an epoch moves by one slope
 abbrev pub IsSteadyEpoch : Asked → Epoch → ℕ → ℕ → Type 0
@@ -57,8 +57,8 @@ abbrev pub IsSteadyCell : Cell → ℕ → ℕ → Type 0
 IsSteadyCell cell lo hi = (v : Dynamic) → cell ≡ cells.Dyn v → IsLinear v lo hi
 
 -- each variable of the part has an epoch in force
-abbrev pub AreBegun : Part → Type 0
-AreBegun part = IsTrue (list_all (λ v. is_some (epoch_of part v)) part.variables.now)
+abbrev pub HaveEpochs : Part → Type 0
+HaveEpochs part = IsTrue (list_all (λ v. is_some (epoch_of part v)) part.variables.now)
 
 -- how many pieces several timelines have, for the attributes that are asked of each
 abbrev pub pieces_asked : Asked → List (List Epoch) → ℕ → ℕ → ℕ
@@ -73,7 +73,7 @@ pub record IsPartFrom (variables : List ℕ) (asked : Asked) (timelines : List (
   pub as_asked : part.asked ≡ asked
   pub shown : (v t : ℕ) → part.span.lo ≤ t → t ≤ part.span.hi → trace_by variables timelines v t ≡ shown part v t
   pub steady : AreSteady part
-  pub fewer : 0 < length timelines → AreBegun part → pieces_asked asked timelines (part.span.hi + 1) last < pieces_asked asked timelines at last
+  pub fewer : 0 < length timelines → HaveEpochs part → pieces_asked asked timelines (part.span.hi + 1) last < pieces_asked asked timelines at last
   pub not_more : pieces_asked asked timelines (part.span.hi + 1) last ≤ pieces_asked asked timelines at last
 
 -- the variables ascend from `low` on, each once

@@ -6,8 +6,8 @@ use Rattle.motion.specs.Dynamic.{value_at}
 use Rattle.atoms.specs.declared.routes.Route.{Route}
 
 -- both coordinates were updated by tick t
-abbrev pub IsWritten : Route → ℕ → Type 0
-IsWritten route t = (route.x.now.updatetime ≤ t) × (route.y.now.updatetime ≤ t)
+abbrev pub IsUpdated : Route → ℕ → Type 0
+IsUpdated route t = (route.x.now.updatetime ≤ t) × (route.y.now.updatetime ≤ t)
 
 abbrev pub place_along : Route → ℕ → Point
 place_along route t = point (value_at route.x.now t) (value_at route.y.now t)

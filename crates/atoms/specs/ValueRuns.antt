@@ -14,14 +14,14 @@ are_equal (values.Text s) (values.Text u) = bytes_eq s u
 are_equal _ _ = false
 
 -- the second run begins past the first, and where no tick is between them their values differ
-pub record Follows (first second : ValueRun) : Type 0 where
+pub record ComesAfter (first second : ValueRun) : Type 0 where
   pub past : first.span.hi < second.span.lo
   pub differ : first.span.hi + 1 ≡ second.span.lo → are_equal first.value second.value ≡ false
 
 abbrev pub EachFollows : List ValueRun → Type 0
 EachFollows [] = ⊤
 EachFollows (run ∷ []) = ⊤
-EachFollows (run ∷ next ∷ runs) = Follows run next × EachFollows (next ∷ runs)
+EachFollows (run ∷ next ∷ runs) = ComesAfter run next × EachFollows (next ∷ runs)
 
 -- the maximal runs of equal value among the ticks from `from` up to `until`, without `until`, ascending
 pub record AreMaximalRuns (value : ℕ → Option Value) (from until : ℕ) (runs : List ValueRun) : Type 0 where

@@ -10,7 +10,7 @@ ghost use Rattle.meaning.specs.Atom.{positions_of};
 ghost use Rattle.tick_set.specs.Ticks.{within};
 ghost use Rattle.tick_set.specs.declared.spans.TheConstants.{SPAN_LIMIT};
 ghost use Rattle.formula_shape.specs.declared.limits.TheConstants.{OBJECT_LIMIT};
-ghost use Rattle.atoms.specs.Found.{AreFound};
+ghost use Rattle.atoms.specs.Found.{AreRunsWhere};
 ghost use Rattle.atoms.specs.Naming.{asks_place};
 ghost use Rattle.atoms.specs.Parts.{AreSteady, epoch_of, shown};
 
@@ -40,7 +40,7 @@ pub fn in_circle<M: Ledger>(r: Fix, vs: &[u8], part: &Part, probes: &mut Steps<M
     requires steady { AreSteady part.now }
     requires asked { IsTrue (asks_place part.now.asked) }
     requires length { part.now.span.hi - part.now.span.lo ≤ SPAN_LIMIT }
-    ensures runs { AreFound (λ t. within part.now.span.lo part.now.span.hi t
+    ensures runs { AreRunsWhere (λ t. within part.now.span.lo part.now.span.hi t
         && option_map_or (fits r) (positions_of (shown part.now) t vs.now) false) result }
     ensures cost { probes.new ≤ probes.old + 360 }
     ensures absent { (v : ℕ) → list_any (λ u. u == v) vs.now ≡ true → epoch_of part.now v ≡ None → probes.new ≡ probes.old }

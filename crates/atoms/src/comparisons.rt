@@ -6,7 +6,7 @@ ghost use Rattle.linear_crossing.specs.Zones.{line_at};
 ghost use Rattle.meaning.specs.Value.{term_value, texts_compare, values_compare};
 ghost use Rattle.tick_set.specs.Ticks.{within};
 ghost use Rattle.atoms.specs.Courses.{IsCourseOf, IsTrendOf, value_along};
-ghost use Rattle.atoms.specs.Found.{AreFound};
+ghost use Rattle.atoms.specs.Found.{AreRunsWhere};
 ghost use Rattle.atoms.specs.Naming.{asks_term};
 ghost use Rattle.atoms.specs.Parts.{AreSteady, shown};
 ghost use Rattle.atoms.specs.Sizes.{is_sized_term};
@@ -29,7 +29,7 @@ pub fn compared(left: &RTerm, op: Op, right: &RTerm, part: &Part, env: &Env) -> 
     requires steady { AreSteady part.now }
     requires left_asked { IsTrue (asks_term part.now.asked left.now) }
     requires right_asked { IsTrue (asks_term part.now.asked right.now) }
-    ensures { AreFound (λ t. within part.now.span.lo part.now.span.hi t
+    ensures { AreRunsWhere (λ t. within part.now.span.lo part.now.span.hi t
         && values_compare op (term_value (shown part.now) left.now env.now t) (term_value (shown part.now) right.now env.now t))
         result }
 {
@@ -42,7 +42,7 @@ pub fn compared(left: &RTerm, op: Op, right: &RTerm, part: &Part, env: &Env) -> 
 fn courses_compared(left: &Option<Course>, op: Op, right: &Option<Course>, span: Span) -> Triple
     requires left_small { IfSome left.now (IsCourseOf FACTOR_LIMIT) }
     requires right_small { IfSome right.now (IsCourseOf FACTOR_LIMIT) }
-    ensures { AreFound (λ t. within span.lo span.hi t
+    ensures { AreRunsWhere (λ t. within span.lo span.hi t
         && values_compare op (value_along left.now span.lo t) (value_along right.now span.lo t)) result }
 {
     match (left, right) {
@@ -60,7 +60,7 @@ fn courses_compared(left: &Option<Course>, op: Op, right: &Option<Course>, span:
 pub fn numbers_compared(left: Trend, op: Op, right: Trend, span: Span) -> Triple
     requires left_small { IsTrendOf FACTOR_LIMIT left }
     requires right_small { IsTrendOf FACTOR_LIMIT right }
-    ensures { AreFound (λ t. within span.lo span.hi t
+    ensures { AreRunsWhere (λ t. within span.lo span.hi t
         && compares op (line_at left.rise left.start span.lo t) (line_at right.rise right.start span.lo t)) result }
 {
     let above = left.minus(right);

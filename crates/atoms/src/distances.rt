@@ -7,7 +7,7 @@ ghost use Rattle.linear_crossing.specs.Moving.{IsInReach, position_after};
 ghost use Rattle.meaning.specs.Atom.{distance_holds, position_in};
 ghost use Rattle.tick_set.specs.Ticks.{within};
 ghost use Rattle.tick_set.specs.declared.spans.TheConstants.{SPAN_LIMIT};
-ghost use Rattle.atoms.specs.Found.{AreFound};
+ghost use Rattle.atoms.specs.Found.{AreRunsWhere};
 ghost use Rattle.atoms.specs.Naming.{asks_place};
 ghost use Rattle.atoms.specs.Parts.{AreSteady, epoch_of, shown};
 
@@ -36,7 +36,7 @@ pub fn at_distance<M: Ledger>(
     requires steady { AreSteady part.now }
     requires asked { IsTrue (asks_place part.now.asked) }
     requires length { part.now.span.hi - part.now.span.lo ≤ SPAN_LIMIT }
-    ensures runs { AreFound (λ t. within part.now.span.lo part.now.span.hi t
+    ensures runs { AreRunsWhere (λ t. within part.now.span.lo part.now.span.hi t
         && distance_holds op c (position_in t (shown part.now from t)) (position_in t (shown part.now to t))) result }
     ensures cost { probes.new ≤ probes.old + (if nat_le (part.now.span.hi - part.now.span.lo) SHORT_WINDOW then 47 else 63) }
     ensures from_absent { epoch_of part.now from ≡ None → probes.new ≡ probes.old }
@@ -64,7 +64,7 @@ pub fn apart<M: Ledger>(
     requires second_in_reach { IsInReach second.now }
     requires sized { IsTrue (is_within READ_LIMIT c) }
     requires length { w.hi - w.lo ≤ SPAN_LIMIT }
-    ensures runs { AreFound (λ t. within w.lo w.hi t
+    ensures runs { AreRunsWhere (λ t. within w.lo w.hi t
         && distance_holds op c (Some (position_after first.now (t - w.lo))) (Some (position_after second.now (t - w.lo)))) result }
     ensures cost { probes.new ≤ probes.old + (if nat_le (w.hi - w.lo) SHORT_WINDOW then 47 else 63) }
 {

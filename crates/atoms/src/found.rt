@@ -4,7 +4,7 @@ ghost use Rattle.distance_crossing.specs.Triples.{triple_spans};
 ghost use Rattle.linear_crossing.specs.Zones.{spans_of};
 ghost use Rattle.tick_set.specs.Runs.{IsNormal, IsRuns, spans_have};
 ghost use Rattle.tick_set.specs.Ticks.{within};
-ghost use Rattle.atoms.specs.Found.{AreFound};
+ghost use Rattle.atoms.specs.Found.{AreRunsWhere};
 ghost use Rattle.tick_set.specs.declared.spans.TheConstants.{LAST_TICK};
 
 use distance_crossing::Triple;
@@ -43,7 +43,7 @@ pub fn two_runs(pair: &Pair) -> Triple
 
 /// The whole span or nothing.
 pub fn all_or_none(all: bool, span: Span) -> Triple
-    ensures { AreFound (λ t. within span.lo span.hi t && all) result }
+    ensures { AreRunsWhere (λ t. within span.lo span.hi t && all) result }
 {
     one_run(if all { Some(span) } else { None })
 }
@@ -51,7 +51,7 @@ pub fn all_or_none(all: bool, span: Span) -> Triple
 /// The ticks of the span that are not in the run, which has no others.
 pub fn outside_of(span: Span, run: Option<Span>) -> Triple
     requires { (t : ℕ) → spans_have (option_to_list run) t ≡ true → within span.lo span.hi t ≡ true }
-    ensures { AreFound (λ t. within span.lo span.hi t && not (spans_have (option_to_list run) t)) result }
+    ensures { AreRunsWhere (λ t. within span.lo span.hi t && not (spans_have (option_to_list run) t)) result }
 {
     match run {
         Some(inner) => two_sides(span, inner),
@@ -63,7 +63,7 @@ pub fn outside_of(span: Span, run: Option<Span>) -> Triple
 fn two_sides(span: Span, inner: Span) -> Triple
     requires first { span.lo ≤ inner.lo }
     requires last { inner.hi ≤ span.hi }
-    ensures { AreFound (λ t. within span.lo span.hi t && not (within inner.lo inner.hi t)) result }
+    ensures { AreRunsWhere (λ t. within span.lo span.hi t && not (within inner.lo inner.hi t)) result }
 {
     Triple {
         first: stretch(span.lo, inner.lo),
@@ -111,7 +111,7 @@ fn is_nowhere(found: &Triple) -> bool
 #[inline(always)]
 pub fn runs_of(alloc: Global, found: &Triple) -> Result<Vec<Span>, AllocError>
     requires { IsNormal (triple_spans found.now) }
-    ensures { (test : ℕ → Bool) → AreFound test found.now → IfOk result (λ runs. IsRuns test runs.items) }
+    ensures { (test : ℕ → Bool) → AreRunsWhere test found.now → IfOk result (λ runs. IsRuns test runs.items) }
 {
     if is_nowhere(found) {
         return Ok(Vec::new(alloc));
@@ -122,7 +122,7 @@ pub fn runs_of(alloc: Global, found: &Triple) -> Result<Vec<Span>, AllocError>
 // The runs that were found, one after the other.
 fn gathered(alloc: Global, found: &Triple) -> Result<Vec<Span>, AllocError>
     requires { IsNormal (triple_spans found.now) }
-    ensures { (test : ℕ → Bool) → AreFound test found.now → IfOk result (λ runs. IsRuns test runs.items) }
+    ensures { (test : ℕ → Bool) → AreRunsWhere test found.now → IfOk result (λ runs. IsRuns test runs.items) }
 {
     let mut runs = Runs::new(alloc);
     append(&mut runs, found)?;

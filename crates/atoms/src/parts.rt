@@ -8,7 +8,7 @@ ghost use Rattle.courses.specs.Parts.{AreBegun, epochs_of_each};
 ghost use Rattle.motion.specs.Pieces.{is_asked};
 ghost use Rattle.meaning.specs.Trace.{trace_of};
 ghost use Rattle.meaning.specs.Value.{cell_in};
-ghost use Rattle.atoms.specs.Parts.{AreAscending, AreSteady, HasObject, IsPartFrom, IsSteadyCell, beside, epoch_of, epochs_of, held};
+ghost use Rattle.atoms.specs.Parts.{AreAscending, AreSteady, HasObject, IsPartFrom, IsSteadyCell, beside, epoch_of, epochs_of, held_cells};
 
 use courses::{MOST_TIMELINES, common_for};
 use formula::Binding;
@@ -43,7 +43,7 @@ impl<'a> Part<'a> {
     pub fn cell(&self, v: u8, a: u8) -> Option<&'a Cell>
         requires steady { AreSteady self.now }
         requires asked { is_asked self.now.asked a ≡ true }
-        ensures value { option_copied result ≡ cell_in (held self.now v) a }
+        ensures value { option_copied result ≡ cell_in (held_cells self.now v) a }
         ensures steady { IfSome result (λ cell. IsSteadyCell cell.now self.now.span.lo self.now.span.hi) }
     {
         self.epoch(v)?.cell(a as usize)

@@ -5,7 +5,7 @@ ghost use Rattle.linear_crossing.specs.Moving.{IsInReach, position_after};
 ghost use Rattle.meaning.specs.Atom.{is_in_region, position_in};
 ghost use Rattle.tick_set.specs.Runs.{IsRuns};
 ghost use Rattle.tick_set.specs.Ticks.{within};
-ghost use Rattle.atoms.specs.Found.{AreFound};
+ghost use Rattle.atoms.specs.Found.{AreRunsWhere};
 ghost use Rattle.atoms.specs.Naming.{asks_place};
 ghost use Rattle.atoms.specs.Parts.{AreSteady, epoch_of, shown};
 
@@ -33,7 +33,7 @@ pub fn line_of(part: &Part, v: u8) -> Option<Line>
 pub fn inside(v: u8, n: u32, part: &Part, regions: &Regions) -> Triple
     requires steady { AreSteady part.now }
     requires asked { IsTrue (asks_place part.now.asked) }
-    ensures { AreFound (λ t. within part.now.span.lo part.now.span.hi t
+    ensures { AreRunsWhere (λ t. within part.now.span.lo part.now.span.hi t
         && option_map_or (is_in_region regions.now n) (position_in t (shown part.now v t)) false) result }
 {
     match line_of(part, v) {
@@ -46,7 +46,7 @@ pub fn inside(v: u8, n: u32, part: &Part, regions: &Regions) -> Triple
 pub fn outside(v: u8, n: u32, part: &Part, regions: &Regions) -> Triple
     requires steady { AreSteady part.now }
     requires asked { IsTrue (asks_place part.now.asked) }
-    ensures { AreFound (λ t. within part.now.span.lo part.now.span.hi t
+    ensures { AreRunsWhere (λ t. within part.now.span.lo part.now.span.hi t
         && option_map_or (λ p. not (is_in_region regions.now n p)) (position_in t (shown part.now v t)) false) result }
 {
     match line_of(part, v) {

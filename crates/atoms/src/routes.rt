@@ -8,9 +8,9 @@ ghost use Rattle.geometry.specs.Plane.{square, squared_distance};
 ghost use Rattle.meaning.specs.Atom.{distance_holds, position_in};
 ghost use Rattle.motion.specs.Dynamic.{value_at};
 ghost use Rattle.tick_set.specs.Ticks.{within};
-ghost use Rattle.atoms.specs.Found.{AreFound};
+ghost use Rattle.atoms.specs.Found.{AreRunsWhere};
 ghost use Rattle.atoms.specs.Parts.{trace_by};
-ghost use Rattle.atoms.specs.Routes.{IsPast, IsWritten, place_along};
+ghost use Rattle.atoms.specs.Routes.{IsPast, IsUpdated, place_along};
 
 use crate::attributes::epoch_throughout;
 use crate::found::all_or_none;
@@ -38,7 +38,7 @@ pub fn route_of<'a>(
 ) -> Option<Route<'a>>
     ensures places { IfSome result (λ route. (t : ℕ) → w.lo ≤ t → t ≤ w.hi
         → position_in t (trace_by variables.now (epochs_of_each timelines.now) v t) ≡ Some (place_along route t)) }
-    ensures written { IfSome result (λ route. IsWritten route w.lo) }
+    ensures written { IfSome result (λ route. IsUpdated route w.lo) }
 {
     let timeline = timeline_of(v, variables, timelines)?;
     let epoch = epoch_throughout(timeline, w)?;
@@ -49,7 +49,7 @@ pub fn route_of<'a>(
 #[tactic(auto, using(crate::proofs::RouteLemmas::place_on))]
 fn route_in(epoch: &Epoch) -> Option<Route>
     ensures places { IfSome result (λ route. (t : ℕ) → place_of epoch.now t ≡ Some (place_along route t)) }
-    ensures written { IfSome result (λ route. IsWritten route epoch.now.from) }
+    ensures written { IfSome result (λ route. IsUpdated route epoch.now.from) }
 {
     let x = vector(epoch, 0)?;
     let y = vector(epoch, 1)?;
@@ -70,9 +70,9 @@ fn vector(epoch: &Epoch, index: usize) -> Option<&Vector>
 /// The ticks of the window at which the distance of two objects compares so with a number of thousandths, where they keep
 /// further apart than that on one axis: all of them or none. None tells nothing.
 pub fn ticks_apart(first: &Route, second: &Route, op: Op, c: Fix, w: Window) -> Option<Triple>
-    requires first { IsWritten first.now w.lo }
-    requires second { IsWritten second.now w.lo }
-    ensures { IfSome result (AreFound (λ t. within w.lo w.hi t
+    requires first { IsUpdated first.now w.lo }
+    requires second { IsUpdated second.now w.lo }
+    ensures { IfSome result (AreRunsWhere (λ t. within w.lo w.hi t
         && distance_holds op c (Some (place_along first.now t)) (Some (place_along second.now t)))) }
 {
     if keep_apart(first, second, c, w) {
@@ -84,8 +84,8 @@ pub fn ticks_apart(first: &Route, second: &Route, op: Op, c: Fix, w: Window) -> 
 
 // Whether they keep further apart than `c` on one axis.
 fn keep_apart(first: &Route, second: &Route, c: Fix, w: Window) -> bool
-    requires first { IsWritten first.now w.lo }
-    requires second { IsWritten second.now w.lo }
+    requires first { IsUpdated first.now w.lo }
+    requires second { IsUpdated second.now w.lo }
     ensures { IsTrue result → (t : ℕ) → w.lo ≤ t → t ≤ w.hi → pos 0 ≤ℤ c
         → square c <ℤ squared_distance (place_along first.now t) (place_along second.now t) }
 {

@@ -6,7 +6,7 @@ ghost use Rattle.formula_shape.specs.declared.limits.TheConstants.{FACTOR_LIMIT,
 ghost use Rattle.formula.specs.declared.value.Value.TheVariants as values;
 ghost use Rattle.motion.specs.Dynamic.{slope_at, value_at};
 ghost use Rattle.motion.specs.Pieces.{IsLinear};
-ghost use Rattle.meaning.specs.Value.{cell_value, factor_value, part_at, part_value, plus, term_value, unit_value, with_sign};
+ghost use Rattle.meaning.specs.Value.{cell_value, factor_value, part_at, part_value, plus, signed_value, term_value, unit_value};
 ghost use Rattle.atoms.specs.Courses.{IsCourseOf, IsUnitCourse, course_value, value_along};
 ghost use Rattle.atoms.specs.Naming.{asks_factor, asks_term, asks_unit};
 ghost use Rattle.atoms.specs.Parts.{AreSteady, IsSteadyCell, shown};
@@ -90,7 +90,7 @@ fn course_of_factor(factor: &RSigned, part: &Part, env: &Env) -> Option<Course>
 pub fn signed(unit: Course, factor: &RSigned) -> Option<Course>
     requires sized { IsTrue (is_sized_factor factor.now) }
     requires small { IsUnitCourse unit }
-    ensures value { (lo t : ℕ) → value_along result lo t ≡ with_sign factor.now.minus factor.now.times (course_value lo t unit) }
+    ensures value { (lo t : ℕ) → value_along result lo t ≡ signed_value factor.now.minus factor.now.times (course_value lo t unit) }
     ensures small { IfSome result (IsCourseOf 1) }
 {
     match unit {

@@ -6,7 +6,7 @@ use Rattle.std.proofs.lemmas.Bool.Decides.{nat_tests}
 use Rattle.tick_set.specs.Ticks.{within}
 use Rattle.tick_set.specs.Runs.{spans_have}
 use Rattle.tick_set.specs.declared.spans.Span.{Span}
-use Rattle.blur.specs.Added.{Adds, AreBefore}
+use Rattle.blur.specs.Added.{Adds, EndBefore}
 
 pub on_ok : {T E : Type 0} (r : Result T E) (P Q : Type 0) → (P → Q) → OnOk r P → OnOk r Q
 on_ok (Ok x) P Q f is = f is
@@ -28,7 +28,7 @@ from_inside : (lo hi u : ℕ) (more : Bool) → (within lo hi u && more) ≡ tru
 from_inside lo hi u more h = grind (arith, nat_tests)
 
 -- what comes before a span comes before all that is in it
-pub before_inside : (lo hi : ℕ) (old : List Span) (more : ℕ → Bool) → AreBefore lo old → Precede (spans_have old) (λ u. within lo hi u && more u)
+pub before_inside : (lo hi : ℕ) (old : List Span) (more : ℕ → Bool) → EndBefore lo old → Precede (spans_have old) (λ u. within lo hi u && more u)
 before_inside lo hi old more before t u had is =
     let begun : t < lo = before t had in
     let from : lo ≤ u = from_inside lo hi u (more u) is in

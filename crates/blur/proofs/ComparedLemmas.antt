@@ -14,7 +14,7 @@ use Rattle.tick_set.specs.declared.spans.Span.{Span}
 use Rattle.tick_set.specs.declared.spans.Window.{Window}
 use Rattle.worlds.specs.Apart.{distance_compares_by, farthest_square, nearest_square, possibly_compares, surely_compares}
 use Rattle.worlds.proofs.CallerLemmas.{nearest_at_most}
-use Rattle.blur.specs.Added.{AreBefore}
+use Rattle.blur.specs.Added.{EndBefore}
 use Rattle.blur.specs.Asked.{comparison, compares_by, square_if_small}
 use Rattle.blur.proofs.AddedLemmas.{before_inside, is_past}
 
@@ -76,7 +76,7 @@ abbrev pub IsLowRun : (ℕ → ℤ) → ℤ → Window → Option Span → Type 
 IsLowRun f limit w run = IsRuns (is_low f limit w) (option_to_list run)
 
 -- what the run has comes after what the runs have that come before the window
-pub low_is_past : (f : ℕ → ℤ) (limit : ℤ) (w : Window) (old : List Span) (run : Option Span) → AreBefore w.lo old → IsLowRun f limit w run
+pub low_is_past : (f : ℕ → ℤ) (limit : ℤ) (w : Window) (old : List Span) (run : Option Span) → EndBefore w.lo old → IsLowRun f limit w run
     → (x : Span) → run ≡ Some x → (t : ℕ) → spans_have old t ≡ true → t < x.lo
 low_is_past f limit w old run before low = is_past (is_low f limit w) old run low.ticks (before_inside w.lo w.hi old (λ t. int_le (f (t - w.lo)) limit) before)
 

@@ -11,13 +11,14 @@ use Rattle.linear_crossing.specs.Moving.{position_after}
 use Rattle.motion.specs.Timeline.{Epoch, epoch_at}
 use Rattle.courses.specs.Places.{place_at, place_of}
 use Rattle.courses.specs.declared.parts.Common.{Common}
+use Rattle.courses.specs.CommonParts.{place_in}
 use Rattle.tick_set.specs.Runs.{spans_have, IsNormal, IsRuns}
 use Rattle.tick_set.specs.Ticks.{within}
 use Rattle.tick_set.specs.declared.spans.Span.{Span}
 use Rattle.worlds.specs.Apart.{distance_compares_by, farthest_square, nearest_square}
 use Rattle.worlds.specs.Blurred.{distance_holds_by}
-use Rattle.blur.specs.Added.{Adds, AreBefore}
-use Rattle.blur.specs.Parts.{IsGathered, place_in}
+use Rattle.blur.specs.Added.{Adds, EndBefore}
+use Rattle.atoms.specs.Gathered.{IsGathered}
 
 -- ---- one part
 
@@ -123,7 +124,7 @@ gathered_more test seen lo at span old new begun begins same gathered adds t =
     ∙ (λ i. gathered t i || (within (begins i) span.hi t && seen t))
     ∙ one_more lo at span.hi t (seen t) (test t) begun (omega (arith, begins, span.ordered)) (λ from up_to. same t (omega (arith, begins, from)) up_to)
 
-pub gathered_before : (test : ℕ → Bool) (lo at from : ℕ) (runs : List Span) → from ≡ at → IsGathered test lo at runs → AreBefore from runs
+pub gathered_before : (test : ℕ → Bool) (lo at from : ℕ) (runs : List Span) → from ≡ at → IsGathered test lo at runs → EndBefore from runs
 gathered_before test lo at from runs begins gathered t had =
     let is : (nat_le lo t && nat_lt t at && test t) ≡ true = sym (gathered t) ∙ had in
     let before : t < at = grind (arith, nat_tests) in

@@ -2,7 +2,7 @@
 ghost use Rattle.std.specs.Prelude.{◌≡◌, ◌≤◌, ◌+◌, ◌-◌, IfOk};
 ghost use Rattle.answers.specs.Objects.{IsOfAcceptedWrites};
 ghost use Rattle.formula.specs.Resolved.{IsResolved};
-ghost use Rattle.formula.specs.Tree.{query_view};
+ghost use Rattle.formula.specs.Tree.{resolved_view};
 ghost use Rattle.meaning.specs.Answer.{answer_where};
 ghost use Rattle.meaning.specs.Fits.{FitsItsClasses};
 ghost use Rattle.meaning.specs.Reads.{query_reads, sizes_of};
@@ -33,14 +33,14 @@ pub fn blurred_answer<L: Ledger, M: Ledger>(
     probes: &mut Steps<M>,
 ) -> Result<Answer, AllocError>
     requires accepted { IsOfAcceptedWrites world.now.store.now }
-    requires resolved { IsResolved (query_view q.now) }
-    requires fits { FitsItsClasses (told_in world.now) (query_view q.now) }
+    requires resolved { IsResolved (resolved_view q.now) }
+    requires fits { FitsItsClasses (told_in world.now) (resolved_view q.now) }
     requires length { w.hi - w.lo ≤ SPAN_LIMIT }
-    ensures rows { IfOk result (λ a. a ≡ answer_where (told_in world.now) (query_view q.now)
-        (holds_blurred world.now (query_view q.now) w.hi) w.lo w.hi) }
+    ensures rows { IfOk result (λ a. a ≡ answer_where (told_in world.now) (resolved_view q.now)
+        (holds_blurred world.now (resolved_view q.now) w.hi) w.lo w.hi) }
     ensures least { reads.old ≤ reads.new }
     ensures most { reads.new ≤ reads.old
-        + query_reads (sizes_of (catalog_of world.now.store.now) (query_view q.now)) (w.hi + 1 - w.lo) (query_view q.now) }
+        + query_reads (sizes_of (catalog_of world.now.store.now) (resolved_view q.now)) (w.hi + 1 - w.lo) (resolved_view q.now) }
 {
     let domains = domains_of(alloc, q, world.store)?;
     let full = blurred(alloc, q, &domains, world, w, reads, probes)?;

@@ -3,13 +3,13 @@ ghost use Rattle.std.specs.Prelude.{◌≡◌, ◌≤◌, ◌+◌, ◌-◌, ℕ,
 ghost use Rattle.answers.specs.Objects.{AreOfItsClasses, IsOfAcceptedWrites};
 ghost use Rattle.evaluator.specs.Rows.{AreRowsWhere};
 ghost use Rattle.formula.specs.Resolved.{IsResolved};
-ghost use Rattle.formula.specs.Tree.{query_view};
+ghost use Rattle.formula.specs.Tree.{resolved_view};
 ghost use Rattle.formula_shape.specs.Sizes.{has_not};
 ghost use Rattle.meaning.specs.Fits.{FitsItsClasses};
 ghost use Rattle.meaning.specs.Reads.{query_reads};
 ghost use Rattle.object_store.specs.Contents.{catalog_of};
-ghost use Rattle.relation.specs.Frames.{IsIn, size_of};
-ghost use Rattle.relation.specs.Rows.{has};
+ghost use Rattle.relation.specs.Frames.{IsIn, domain_size};
+ghost use Rattle.relation.specs.Rows.{table_has};
 ghost use Rattle.tick_set.specs.Runs.{spans_have};
 ghost use Rattle.tick_set.specs.Ticks.{between, within};
 ghost use Rattle.tick_set.specs.declared.spans.TheConstants.{SPAN_LIMIT};
@@ -45,23 +45,23 @@ pub fn blurred<'d, L: Ledger, M: Ledger>(
     probes: &mut Steps<M>,
 ) -> Result<Relation<'d, IntervalSet>, AllocError>
     requires accepted { IsOfAcceptedWrites world.now.store.now }
-    requires resolved { IsResolved (query_view q.now) }
-    requires fits { FitsItsClasses (told_in world.now) (query_view q.now) }
-    requires domains { AreOfItsClasses (catalog_of world.now.store.now) (query_view q.now) d.now }
+    requires resolved { IsResolved (resolved_view q.now) }
+    requires fits { FitsItsClasses (told_in world.now) (resolved_view q.now) }
+    requires domains { AreOfItsClasses (catalog_of world.now.store.now) (resolved_view q.now) d.now }
     requires length { w.hi - w.lo ≤ SPAN_LIMIT }
     ensures rows { IfOk result (AreRowsWhere spans_have d.now w.lo w.hi (between 0 (length q.now.classes))
-        (holds_blurred world.now (query_view q.now) w.hi)) }
+        (holds_blurred world.now (resolved_view q.now) w.hi)) }
 
     // Without a NOT, what surely holds, holds in each world, and what holds in some world, possibly holds.
-    ensures surely { world.now.blur.sure ≡ true → has_not (query_view q.now).formula ≡ false
-        → IfOk result (λ r. (b : ℕ → ℕ) → IsIn d.now b → (t : ℕ) → has spans_have r b t ≡ true
-        → HoldsInEachWorld world.now (query_view q.now) w.hi b t) }
-    ensures possibly { world.now.blur.sure ≡ false → has_not (query_view q.now).formula ≡ false
+    ensures surely { world.now.blur.sure ≡ true → has_not (resolved_view q.now).formula ≡ false
+        → IfOk result (λ r. (b : ℕ → ℕ) → IsIn d.now b → (t : ℕ) → table_has spans_have r b t ≡ true
+        → HoldsInEachWorld world.now (resolved_view q.now) w.hi b t) }
+    ensures possibly { world.now.blur.sure ≡ false → has_not (resolved_view q.now).formula ≡ false
         → IfOk result (λ r. (b : ℕ → ℕ) → IsIn d.now b → (t : ℕ) → within w.lo w.hi t ≡ true
         → (moves : List Move) → is_world world.now.blur.error moves ≡ true
-        → holds_moved moves world.now (query_view q.now) w.hi b t ≡ true → has spans_have r b t ≡ true) }
+        → holds_moved moves world.now (resolved_view q.now) w.hi b t ≡ true → table_has spans_have r b t ≡ true) }
     ensures least { reads.old ≤ reads.new }
-    ensures most { reads.new ≤ reads.old + query_reads (size_of d.now) (w.hi + 1 - w.lo) (query_view q.now) }
+    ensures most { reads.new ≤ reads.old + query_reads (domain_size d.now) (w.hi + 1 - w.lo) (resolved_view q.now) }
 {
     worlds_lie_between();
     let rows = rows_narrowed(alloc, q, d, world, w, reads, probes)?;
@@ -79,14 +79,14 @@ fn rows_narrowed<'d, L: Ledger, M: Ledger>(
     probes: &mut Steps<M>,
 ) -> Result<Relation<'d, IntervalSet>, AllocError>
     requires accepted { IsOfAcceptedWrites world.now.store.now }
-    requires resolved { IsResolved (query_view q.now) }
-    requires fits { FitsItsClasses (told_in world.now) (query_view q.now) }
-    requires domains { AreOfItsClasses (catalog_of world.now.store.now) (query_view q.now) d.now }
+    requires resolved { IsResolved (resolved_view q.now) }
+    requires fits { FitsItsClasses (told_in world.now) (resolved_view q.now) }
+    requires domains { AreOfItsClasses (catalog_of world.now.store.now) (resolved_view q.now) d.now }
     requires length { w.hi - w.lo ≤ SPAN_LIMIT }
     ensures rows { IfOk result (AreRowsWhere spans_have d.now w.lo w.hi (between 0 (length q.now.classes))
-        (holds_blurred world.now (query_view q.now) w.hi)) }
+        (holds_blurred world.now (resolved_view q.now) w.hi)) }
     ensures least { reads.old ≤ reads.new }
-    ensures most { reads.new ≤ reads.old + query_reads (size_of d.now) (w.hi + 1 - w.lo) (query_view q.now) }
+    ensures most { reads.new ≤ reads.old + query_reads (domain_size d.now) (w.hi + 1 - w.lo) (resolved_view q.now) }
 {
     worlds_lie_between();
     let (store, regions, slack) = (world.store, world.regions, world.blur.slack());
@@ -110,14 +110,14 @@ fn rows_of_all<'d, L: Ledger, M: Ledger>(
     probes: &mut Steps<M>,
 ) -> Result<Relation<'d, IntervalSet>, AllocError>
     requires accepted { IsOfAcceptedWrites world.now.store.now }
-    requires resolved { IsResolved (query_view q.now) }
-    requires fits { FitsItsClasses (told_in world.now) (query_view q.now) }
-    requires domains { AreOfItsClasses (catalog_of world.now.store.now) (query_view q.now) d.now }
+    requires resolved { IsResolved (resolved_view q.now) }
+    requires fits { FitsItsClasses (told_in world.now) (resolved_view q.now) }
+    requires domains { AreOfItsClasses (catalog_of world.now.store.now) (resolved_view q.now) d.now }
     requires length { w.hi - w.lo ≤ SPAN_LIMIT }
     ensures rows { IfOk result (AreRowsWhere spans_have d.now w.lo w.hi (between 0 (length q.now.classes))
-        (holds_blurred world.now (query_view q.now) w.hi)) }
+        (holds_blurred world.now (resolved_view q.now) w.hi)) }
     ensures least { reads.old ≤ reads.new }
-    ensures most { reads.new ≤ reads.old + query_reads (size_of d.now) (w.hi + 1 - w.lo) (query_view q.now) }
+    ensures most { reads.new ≤ reads.old + query_reads (domain_size d.now) (w.hi + 1 - w.lo) (resolved_view q.now) }
 {
     fitting_queries_can_be_asked();
     let rows = full_rows(alloc, world, q, d, w, reads, probes)?;

@@ -6,7 +6,7 @@ ghost use Rattle.linear_crossing.specs.Moving.{IsInReach, position_after};
 ghost use Rattle.tick_set.specs.Runs.{IsRuns, spans_have};
 ghost use Rattle.tick_set.specs.Ticks.{within};
 ghost use Rattle.worlds.specs.Apart.{distance_compares_by, farthest_square, nearest_square};
-ghost use Rattle.blur.specs.Added.{Adds, AreBefore};
+ghost use Rattle.blur.specs.Added.{Adds, EndBefore};
 ghost use Rattle.blur.specs.Asked.{comparison, compares_by, square_if_small};
 ghost use Rattle.blur.specs.Bounds.{bound_after};
 
@@ -32,7 +32,7 @@ pub fn add_apart(
     blur: Blur,
     w: Window,
 ) -> Result<(), AllocError>
-    requires before { AreBefore w.lo runs.old }
+    requires before { EndBefore w.lo runs.old }
     requires from_in_reach { IsInReach from.now }
     requires to_in_reach { IsInReach to.now }
     ensures { OnOk result (Adds (λ t. within w.lo w.hi t
@@ -72,7 +72,7 @@ fn add_compared(
     x: i128,
     w: Window,
 ) -> Result<(), AllocError>
-    requires before { AreBefore w.lo runs.old }
+    requires before { EndBefore w.lo runs.old }
     requires size { unsigned_abs x ≤ FIX_LIMIT ^ 2 }
     ensures { OnOk result (Adds (λ t. within w.lo w.hi t
         && compares_by op (bound_after small.now (t - w.lo)) (bound_after large.now (t - w.lo)) x) runs.old runs.new) }

@@ -4,7 +4,7 @@ ghost use Rattle.linear_crossing.specs.Moving.{position_after};
 ghost use Rattle.tick_set.specs.Runs.{IsRuns};
 ghost use Rattle.tick_set.specs.Ticks.{within};
 ghost use Rattle.worlds.specs.Blurred.{is_in_region_by};
-ghost use Rattle.blur.specs.Added.{Adds, AreBefore};
+ghost use Rattle.blur.specs.Added.{Adds, EndBefore};
 ghost use Rattle.blur.specs.Asked.{inside_by};
 
 use crate::question::Blur;
@@ -24,7 +24,7 @@ pub fn add_inside(
     regions: &Regions,
     w: Window,
 ) -> Result<(), AllocError>
-    requires { AreBefore w.lo runs.old }
+    requires { EndBefore w.lo runs.old }
     ensures { OnOk result (Adds (λ t. within w.lo w.hi t
         && is_in_region_by (inside_by blur.sure blur.error) regions.now n (position_after line.now (t - w.lo))) runs.old runs.new) }
 {
@@ -40,7 +40,7 @@ pub fn add_outside(
     regions: &Regions,
     w: Window,
 ) -> Result<(), AllocError>
-    requires { AreBefore w.lo runs.old }
+    requires { EndBefore w.lo runs.old }
     ensures { OnOk result (Adds (λ t. within w.lo w.hi t
         && not (is_in_region_by (inside_by (not blur.sure) blur.error) regions.now n (position_after line.now (t - w.lo))))
         runs.old runs.new) }

@@ -3,13 +3,14 @@
 ghost use Rattle.std.specs.Prelude.{◌≡◌, ◌-◌, ◌≤◌, ◌&&◌, ℕ, false, Some, option_map, IfOk, IfSome, OnOk};
 ghost use Rattle.std.specs.Option.{option_map_or};
 ghost use Rattle.courses.specs.Places.{place_at};
+ghost use Rattle.courses.specs.CommonParts.{IsSteadyPart, place_in};
 ghost use Rattle.linear_crossing.specs.Moving.{IsInReach, position_after};
 ghost use Rattle.tick_set.specs.Runs.{IsRuns};
 ghost use Rattle.tick_set.specs.Ticks.{within};
 ghost use Rattle.worlds.specs.Blurred.{distance_holds_by};
-ghost use Rattle.blur.specs.Added.{Adds, AreBefore};
+ghost use Rattle.blur.specs.Added.{Adds, EndBefore};
 ghost use Rattle.blur.specs.Asked.{comparison, is_on_side};
-ghost use Rattle.blur.specs.Parts.{IsSteadyPart, MovesAlong, place_in};
+ghost use Rattle.blur.specs.Parts.{MovesAlong};
 
 use crate::distances::add_apart;
 use crate::insides::{add_inside, add_outside};
@@ -134,7 +135,7 @@ fn add_region_part(
     regions: &Regions,
 ) -> Result<(), AllocError>
     requires steady { IsSteadyPart common.now }
-    requires before { AreBefore common.now.span.lo runs.old }
+    requires before { EndBefore common.now.span.lo runs.old }
     ensures { OnOk result (Adds (λ t. within common.now.span.lo common.now.span.hi t
         && option_map_or (is_on_side inside blur.sure blur.error regions.now n) (place_in common.now 0 t) false)
         runs.old runs.new) }
@@ -155,7 +156,7 @@ fn add_side(
     regions: &Regions,
     w: Window,
 ) -> Result<(), AllocError>
-    requires { AreBefore w.lo runs.old }
+    requires { EndBefore w.lo runs.old }
     ensures { OnOk result (Adds (λ t. within w.lo w.hi t
         && is_on_side inside blur.sure blur.error regions.now n (position_after line.now (t - w.lo))) runs.old runs.new) }
 {
@@ -175,7 +176,7 @@ fn add_distance_part(
     blur: Blur,
 ) -> Result<(), AllocError>
     requires steady { IsSteadyPart common.now }
-    requires before { AreBefore common.now.span.lo runs.old }
+    requires before { EndBefore common.now.span.lo runs.old }
     ensures { OnOk result (Adds (λ t. within common.now.span.lo common.now.span.hi t
         && distance_holds_by (comparison blur.sure) blur.error op c (place_in common.now 0 t) (place_in common.now 1 t))
         runs.old runs.new) }

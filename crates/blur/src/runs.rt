@@ -3,7 +3,7 @@ ghost use Rattle.std.specs.Prelude.{◌≡◌, ◌&&◌, ℕ, not, nat_le, nat_l
 ghost use Rattle.std.specs.Option.{ForSome};
 ghost use Rattle.tick_set.specs.Runs.{spans_have};
 ghost use Rattle.tick_set.specs.Ticks.{within};
-ghost use Rattle.blur.specs.Added.{Adds, AreBefore};
+ghost use Rattle.blur.specs.Added.{Adds, EndBefore};
 
 use std::alloc::AllocError;
 use tick_set::{Runs, Span};
@@ -14,7 +14,7 @@ pub fn add_without(
     outer: Option<Span>,
     inner: Option<Span>,
 ) -> Result<(), AllocError>
-    requires { ForSome outer (λ s. AreBefore s.lo runs.old) }
+    requires { ForSome outer (λ s. EndBefore s.lo runs.old) }
     ensures { OnOk result (Adds (λ t. spans_have (option_to_list outer) t
         && not (spans_have (option_to_list inner) t)) runs.old runs.new) }
 {
@@ -34,7 +34,7 @@ pub fn add_others(
     outer: Option<Span>,
     inner: Option<Span>,
 ) -> Result<(), AllocError>
-    requires { AreBefore span.lo runs.old }
+    requires { EndBefore span.lo runs.old }
     ensures { OnOk result (Adds (λ t. within span.lo span.hi t && not (spans_have (option_to_list outer) t
         && not (spans_have (option_to_list inner) t))) runs.old runs.new) }
 {
@@ -49,7 +49,7 @@ pub fn add_others(
 
 // Adds the ticks of a span that are in the inner one, or not in the outer one.
 fn add_three(runs: &mut Runs, span: Span, outer: Span, inner: Span) -> Result<(), AllocError>
-    requires { AreBefore span.lo runs.old }
+    requires { EndBefore span.lo runs.old }
     ensures { OnOk result (Adds (λ t. within span.lo span.hi t && not (within outer.lo outer.hi t
         && not (within inner.lo inner.hi t))) runs.old runs.new) }
 {
@@ -64,7 +64,7 @@ fn add_three(runs: &mut Runs, span: Span, outer: Span, inner: Span) -> Result<()
 
 // Adds the ticks of a span on the two sides of another.
 fn add_sides(runs: &mut Runs, span: Span, inner: Span) -> Result<(), AllocError>
-    requires { AreBefore span.lo runs.old }
+    requires { EndBefore span.lo runs.old }
     ensures { OnOk result (Adds (λ t. within span.lo span.hi t && not (within inner.lo inner.hi t)) runs.old runs.new) }
 {
     let head = head_of(span, inner.lo);

@@ -5,7 +5,7 @@ use Rattle.std.proofs.lemmas.List.Elements.{Contains-append_right, Contains-appe
 use Rattle.std.proofs.lemmas.Bool.{cases_Bool, and_parts, and_from}
 use Rattle.std.proofs.lemmas.Bool.Decides.{Decides-eqb}
 use Rattle.std.proofs.lemmas.Slice.Eq.{bytes_eq-Decides}
-use Rattle.case_table.specs.Rows.{code_of, word_of, apart}
+use Rattle.case_table.specs.Rows.{code_of, word_of, are_distinct_rows}
 
 here : {X : Type 0} (x y : X) (xs : List X) → x ≡ y → Contains (x ∷ xs) y
 here x y xs e = (0, omega arith, e)
@@ -47,10 +47,10 @@ code_of_finds (r ∷ rows) word code h =
       | inr other ↦ there r (word, code) rows (code_of_finds rows word code (rw other at h))
     ]
 
-pub code_of_found : (rows : List (List ℕ × ℕ)) (word : List ℕ) (code : ℕ) → IsTrue (apart rows) → Contains rows (word, code) → code_of rows word ≡ Some code
+pub code_of_found : (rows : List (List ℕ × ℕ)) (word : List ℕ) (code : ℕ) → IsTrue (are_distinct_rows rows) → Contains rows (word, code) → code_of rows word ≡ Some code
 code_of_found [] word code a h = absurd (none_at_none (word, code) h)
 code_of_found (r ∷ rows) word code a h =
-    let parts = and_parts (is_none (code_of rows r.0) && is_none (word_of rows r.1)) (apart rows) a in
+    let parts = and_parts (is_none (code_of rows r.0) && is_none (word_of rows r.1)) (are_distinct_rows rows) a in
     let front = and_parts (is_none (code_of rows r.0)) (is_none (word_of rows r.1)) parts.0 in
     elim (first_or_later r (word, code) rows h) [
       | inl e ↦ rw (e, bytes_same word) refl
@@ -64,7 +64,7 @@ code_of_found (r ∷ rows) word code a h =
           ]
     ]
 
-pub code_of_row : (rows : List (List ℕ × ℕ)) (word : List ℕ) (code : ℕ) → IsTrue (apart rows) → (code_of rows word ≡ Some code) ↔ Contains rows (word, code)
+pub code_of_row : (rows : List (List ℕ × ℕ)) (word : List ℕ) (code : ℕ) → IsTrue (are_distinct_rows rows) → (code_of rows word ≡ Some code) ↔ Contains rows (word, code)
 code_of_row rows word code h = (code_of_finds rows word code, code_of_found rows word code h)
 
 -- ---- the word of a code
@@ -81,10 +81,10 @@ word_of_finds (r ∷ rows) word code h =
       | inr other ↦ there r (word, code) rows (word_of_finds rows word code (rw other at h))
     ]
 
-pub word_of_found : (rows : List (List ℕ × ℕ)) (word : List ℕ) (code : ℕ) → IsTrue (apart rows) → Contains rows (word, code) → word_of rows code ≡ Some word
+pub word_of_found : (rows : List (List ℕ × ℕ)) (word : List ℕ) (code : ℕ) → IsTrue (are_distinct_rows rows) → Contains rows (word, code) → word_of rows code ≡ Some word
 word_of_found [] word code a h = absurd (none_at_none (word, code) h)
 word_of_found (r ∷ rows) word code a h =
-    let parts = and_parts (is_none (code_of rows r.0) && is_none (word_of rows r.1)) (apart rows) a in
+    let parts = and_parts (is_none (code_of rows r.0) && is_none (word_of rows r.1)) (are_distinct_rows rows) a in
     let front = and_parts (is_none (code_of rows r.0)) (is_none (word_of rows r.1)) parts.0 in
     elim (first_or_later r (word, code) rows h) [
       | inl e ↦ rw (e, eqb_same code) refl
@@ -98,7 +98,7 @@ word_of_found (r ∷ rows) word code a h =
           ]
     ]
 
-pub word_of_row : (rows : List (List ℕ × ℕ)) (word : List ℕ) (code : ℕ) → IsTrue (apart rows) → (word_of rows code ≡ Some word) ↔ Contains rows (word, code)
+pub word_of_row : (rows : List (List ℕ × ℕ)) (word : List ℕ) (code : ℕ) → IsTrue (are_distinct_rows rows) → (word_of rows code ≡ Some word) ↔ Contains rows (word, code)
 word_of_row rows word code h = (word_of_finds rows word code, word_of_found rows word code h)
 
 -- ---- one more row
@@ -140,16 +140,16 @@ eqb-swap x y h =
       | inr other ↦ other
     ]
 
-pub apart_push : (rows : List (List ℕ × ℕ)) (code : ℕ) (word : List ℕ) → IsTrue (apart rows) → is_none (code_of rows word) ≡ true → is_none (word_of rows code) ≡ true → IsTrue (apart (rows ++ (word, code) ∷ []))
+pub apart_push : (rows : List (List ℕ × ℕ)) (code : ℕ) (word : List ℕ) → IsTrue (are_distinct_rows rows) → is_none (code_of rows word) ≡ true → is_none (word_of rows code) ≡ true → IsTrue (are_distinct_rows (rows ++ (word, code) ∷ []))
 apart_push [] code word h w c = refl
 apart_push (r ∷ rows) code word h w c =
-    let parts = and_parts (is_none (code_of rows r.0) && is_none (word_of rows r.1)) (apart rows) h in
+    let parts = and_parts (is_none (code_of rows r.0) && is_none (word_of rows r.1)) (are_distinct_rows rows) h in
     let front = and_parts (is_none (code_of rows r.0)) (is_none (word_of rows r.1)) parts.0 in
     let other_word = first_fails (λ (s : List ℕ × ℕ). s.1) (λ s. bytes_eq s.0 word) r rows w in
     let other_code = first_fails (λ (s : List ℕ × ℕ). s.0) (λ s. eqb s.1 code) r rows c in
     let no_word = none_after (λ (s : List ℕ × ℕ). s.1) (λ s. bytes_eq s.0 r.0) rows (word, code) front.0 (bytes_eq-swap r.0 word other_word.0) in
     let no_code = none_after (λ (s : List ℕ × ℕ). s.0) (λ s. eqb s.1 r.1) rows (word, code) front.1 (eqb-swap r.1 code other_code.0) in
-    and_from (is_none (code_of (rows ++ (word, code) ∷ []) r.0) && is_none (word_of (rows ++ (word, code) ∷ []) r.1)) (apart (rows ++ (word, code) ∷ []))
+    and_from (is_none (code_of (rows ++ (word, code) ∷ []) r.0) && is_none (word_of (rows ++ (word, code) ∷ []) r.1)) (are_distinct_rows (rows ++ (word, code) ∷ []))
     (and_from (is_none (code_of (rows ++ (word, code) ∷ []) r.0)) (is_none (word_of (rows ++ (word, code) ∷ []) r.1)) no_word no_code)
     (apart_push rows code word parts.1 other_word.1 other_code.1)
 

@@ -14,6 +14,15 @@ compares Ne x y = not (int_eq x y)
 compares Ge x y = int_le y x
 compares Gt x y = int_lt y x
 
+-- the comparisons of which none holds where the left is greater
+abbrev pub is_at_most : Op → Bool
+is_at_most Lt = true
+is_at_most Le = true
+is_at_most Eq = true
+is_at_most Ne = false
+is_at_most Ge = false
+is_at_most Gt = false
+
 -- the comparison, by the sign of left minus right
 abbrev pub sign_holds : Op → ℤ → Bool
 sign_holds Lt = by_sign true false false

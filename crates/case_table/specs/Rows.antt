@@ -16,6 +16,6 @@ has_room_for room rows word code =
     nat_lt (length rows) room && nat_le (length word) ROW_WORD_LIMIT && is_none (code_of rows word) && is_none (word_of rows code)
 
 -- no two rows have the same word or the same code
-abbrev pub apart : List (List ℕ × ℕ) → Bool
-apart [] = true
-apart (r ∷ rs) = is_none (code_of rs r.0) && is_none (word_of rs r.1) && apart rs
+abbrev pub are_distinct_rows : List (List ℕ × ℕ) → Bool
+are_distinct_rows [] = true
+are_distinct_rows (r ∷ rs) = is_none (code_of rs r.0) && is_none (word_of rs r.1) && are_distinct_rows rs

@@ -87,13 +87,13 @@ pub struct Table<const N: usize> {
 
 impl<const N: usize> Model for Table<N> {
     ghost use Rattle.std.specs.Prelude.{ℕ, List, ◌≤◌, map, take, IsTrue};
-    ghost use Rattle.case_table.specs.Rows.{apart};
+    ghost use Rattle.case_table.specs.Rows.{are_distinct_rows};
 
     ghost Value = { List (List ℕ × ℕ) };
 
     ghost view = { λ t. take t.len t.rows };
 
-    ghost invariant = { λ t. (t.len ≤ N) × IsTrue (apart (take t.len t.rows)) };
+    ghost invariant = { λ t. (t.len ≤ N) × IsTrue (are_distinct_rows (take t.len t.rows)) };
 }
 
 impl<const N: usize> Table<N> {

@@ -4,8 +4,8 @@ use Rattle.std.proofs.lemmas.Bool.{cases_Bool, and_parts}
 use Rattle.std.proofs.lemmas.Bool.Decides.{Decides-eqb, nat_tests}
 use Rattle.std.specs.Char.{is_ascii_whitespace}
 use Rattle.std.specs.List.{prefix_len}
-use Rattle.ftl_lexer.specs.Forms.{is_blank}
-use Rattle.command_text.specs.FirstWord.{after_blanks, begins_with}
+use Rattle.ftl_lexer.specs.Forms.{after_blanks, is_blank}
+use Rattle.command_text.specs.FirstWord.{begins_with}
 
 blank_is_white : (c : ℕ) → is_blank c ≡ true → is_ascii_whitespace c ≡ true
 blank_is_white c e = grind (arith, nat_tests)

@@ -1,9 +1,9 @@
 -- Each refusal has the name of its number.
 use Rattle.command_text.proofs.Names.{◌≡◌, Some, refl, word_of, refusal_names, Refusal}
 use Rattle.command_text.specs.declared.refusal.Refusal.TheVariants as refusals
-use Rattle.command_text.specs.Refusals.{number_of, name_of}
+use Rattle.command_text.specs.Refusals.{refusal_number, refusal_name}
 
-pub each_is_named : (r : Refusal) → word_of refusal_names (number_of r) ≡ Some (name_of r)
+pub each_is_named : (r : Refusal) → word_of refusal_names (refusal_number r) ≡ Some (refusal_name r)
 unfolding refusal_names
 each_is_named refusals.LineTooLong = refl
 each_is_named refusals.NotAscii = refl

@@ -46,8 +46,8 @@ point_of x y = record { x = x; y = y }
 abbrev pub set_of : List ℕ → Given → NamedSet
 set_of name given = record { name = name; given = given }
 
-abbrev pub place_of : Option Point → Option (Function × Function) → Place
-place_of at moving = record { at = at; moving = moving }
+abbrev pub place_with : Option Point → Option (Function × Function) → Place
+place_with at moving = record { at = at; moving = moving }
 
 -- of legs of both coordinates those of one
 abbrev pub legs_of_x : List ((ℤ × ℤ) × ℕ) → List (ℤ × ℕ)
@@ -77,16 +77,16 @@ and_size s small = (s.0, s.1 && small)
 -- Each rule leads from what is known before its tokens to what is known after them.
 
 -- num
-pub data SpellsNum : SignedPlace → ℤ → Notes → Notes → List Piece → Type 0 where
+pub data SpellsNumAt : SignedPlace → ℤ → Notes → Notes → List Piece → Type 0 where
   num_plain : {place : SignedPlace} {n : List ℕ} {s : Notes} →
-      SpellsNum place (signed_at place false n) s (and_number s (is_some (signed_in place false n))) (NUMBER n ∷ [])
+      SpellsNumAt place (signed_at place false n) s (and_number s (is_some (signed_in place false n))) (NUMBER n ∷ [])
   num_minus : {place : SignedPlace} {n : List ℕ} {s : Notes} →
-      SpellsNum place (signed_at place true n) s (and_number s (is_some (signed_in place true n))) (MINUS ∷ NUMBER n ∷ [])
+      SpellsNumAt place (signed_at place true n) s (and_number s (is_some (signed_in place true n))) (MINUS ∷ NUMBER n ∷ [])
 
 -- pt, of coordinates or of slopes
 pub data SpellsPair : SignedPlace → ℤ → ℤ → Notes → Notes → List Piece → Type 0 where
   pair : {place : SignedPlace} {x y : ℤ} {xs ys : List Piece} {s t u : Notes} →
-      SpellsNum place x s t xs → SpellsNum place y t u ys →
+      SpellsNumAt place x s t xs → SpellsNumAt place y t u ys →
       SpellsPair place x y s u (OPEN ∷ (xs ++ COMMA ∷ (ys ++ CLOSE ∷ [])))
 
 -- attr
@@ -118,13 +118,13 @@ pub data SpellsPoints : List Point → Notes → Notes → List Piece → Type 0
 pub data SpellsRateLegs : List (ℤ × ℕ) → Notes → Notes → List Piece → Type 0 where
   no_rate_legs : {s : Notes} → SpellsRateLegs [] s s []
   one_rate_leg : {a : ℤ} {xs : List Piece} (n : List ℕ) {ls : List (ℤ × ℕ)} {ys : List Piece} {s t u : Notes} →
-      SpellsNum Rate a s t xs → SpellsRateLegs ls (and_number t (is_some (whole_in Steps n))) u ys →
+      SpellsNumAt Rate a s t xs → SpellsRateLegs ls (and_number t (is_some (whole_in Steps n))) u ys →
       SpellsRateLegs ((a, whole_at Steps n) ∷ ls) s u (OPEN_SQUARE ∷ (xs ++ COMMA ∷ NUMBER n ∷ CLOSE_SQUARE ∷ ys))
 
 -- rates
 pub data SpellsRates : Function → Notes → Notes → List Piece → Type 0 where
   rates : {ls : List (ℤ × ℕ)} {xs : List Piece} {a : ℤ} {ys : List Piece} {s t u : Notes} →
-      SpellsRateLegs ls s t xs → SpellsNum Rate a t u ys → SpellsRates (function_of ls a) s (and_size u (are_few_legs (length ls))) (xs ++ ys)
+      SpellsRateLegs ls s t xs → SpellsNumAt Rate a t u ys → SpellsRates (function_of ls a) s (and_size u (are_few_legs (length ls))) (xs ++ ys)
 
 -- ('[' pt ',' NUMBER ']')*, each a pair of slopes and a length
 pub data SpellsMoveLegs : List ((ℤ × ℤ) × ℕ) → Notes → Notes → List Piece → Type 0 where
@@ -141,9 +141,9 @@ pub data SpellsMoves : Function × Function → Notes → Notes → List Piece �
 
 -- what a setting gives, after its name
 pub data SpellsGiven : Given → Notes → Notes → List Piece → Type 0 where
-  given_num : {v : ℤ} {xs : List Piece} {s t : Notes} → SpellsNum Value v s t xs → SpellsGiven (givens.Num v) s t (COMPARISON ops.Eq ∷ xs)
+  given_num : {v : ℤ} {xs : List Piece} {s t : Notes} → SpellsNumAt Value v s t xs → SpellsGiven (givens.Num v) s t (COMPARISON ops.Eq ∷ xs)
   given_both : {v : ℤ} {xs : List Piece} {f : Function} {ys : List Piece} {s t u : Notes} →
-      SpellsNum Value v s t xs → SpellsRates f t u ys → SpellsGiven (givens.Both v f) s u (COMPARISON ops.Eq ∷ (xs ++ WORD RATE ∷ ys))
+      SpellsNumAt Value v s t xs → SpellsRates f t u ys → SpellsGiven (givens.Both v f) s u (COMPARISON ops.Eq ∷ (xs ++ WORD RATE ∷ ys))
   given_text : {w : List ℕ} {s : Notes} → SpellsGiven (givens.Text w) s s (COMPARISON ops.Eq ∷ TEXT w ∷ [])
   given_rate : {f : Function} {xs : List Piece} {s t : Notes} → SpellsRates f s t xs → SpellsGiven (givens.Rate f) s t (WORD RATE ∷ xs)
 
@@ -166,7 +166,7 @@ pub data SpellsMoving : Option (Function × Function) → Notes → Notes → Li
 -- ['at' pt] ['move' moves] setting*
 pub data SpellsChange : Place → List NamedSet → Notes → Notes → List Piece → Type 0 where
   change : {p : Option Point} {xs : List Piece} {m : Option (Function × Function)} {ys : List Piece} {ss : List NamedSet} {zs : List Piece} {s t u v : Notes} →
-      SpellsAt p s t xs → SpellsMoving m t u ys → SpellsSettings ss u v zs → SpellsChange (place_of p m) ss s v (xs ++ (ys ++ zs))
+      SpellsAt p s t xs → SpellsMoving m t u ys → SpellsSettings ss u v zs → SpellsChange (place_with p m) ss s v (xs ++ (ys ++ zs))
 
 -- ['point']
 pub data SpellsPointWord : Bool → List Piece → Type 0 where
@@ -185,7 +185,7 @@ pub data SpellsPart : Part → Notes → Notes → List Piece → Type 0 where
   part_whole : {place : WholePlace} {n : List ℕ} {s : Notes} →
       SpellsPart (Whole place (whole_at place n)) s (and_number s (is_some (whole_in place n))) (NUMBER n ∷ [])
   part_error : {n : List ℕ} {s : Notes} → SpellsPart (Error (radius_at n)) s (and_number s (is_some (radius_in n))) (NUMBER n ∷ [])
-  part_num : {place : SignedPlace} {v : ℤ} {xs : List Piece} {s t : Notes} → SpellsNum place v s t xs → SpellsPart (Num place v) s t xs
+  part_num : {place : SignedPlace} {v : ℤ} {xs : List Piece} {s t : Notes} → SpellsNumAt place v s t xs → SpellsPart (Num place v) s t xs
   part_point_word : {b : Bool} {xs : List Piece} {s : Notes} → SpellsPointWord b xs → SpellsPart (PointWord b) s s xs
   part_attrs : {attrs : List (List ℕ × AttrKind)} {xs : List Piece} {s t : Notes} → SpellsAttrs attrs s t xs → SpellsPart (Attrs attrs) s t xs
   part_points : {p q r : Point} {ps : List Point} {xs : List Piece} {s t : Notes} →

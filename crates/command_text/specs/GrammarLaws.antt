@@ -4,7 +4,7 @@ use Rattle.command_text.specs.declared.fault.CommandFault.{CommandFault}
 use Rattle.command_text.specs.declared.fault.CommandFault.TheVariants as faults
 use Rattle.command_text.specs.declared.refusal.Refusal.{Refusal}
 use Rattle.command_text.specs.declared.refusal.Refusal.TheVariants as refusals
-use Rattle.command_text.specs.Piece.{Piece, pieces}
+use Rattle.command_text.specs.Piece.{Piece, line_pieces}
 use Rattle.command_text.specs.Tree
 use Rattle.command_text.specs.Tree.{CommandTree}
 use Rattle.command_text.specs.Grammar.{Notes, good, first_notes, SpellsCommand}
@@ -24,19 +24,19 @@ PassesTheFirstThree limit line = early_refusal limit line ≡ None
 
 -- the tokens of the line spell this command, with each number in the range of its place and each size within its limit
 abbrev pub SpellsWithinLimits : List ℕ → CommandTree → Type 0
-SpellsWithinLimits line c = SpellsCommand c (first_notes line) good (pieces line)
+SpellsWithinLimits line c = SpellsCommand c (first_notes line) good (line_pieces line)
 
 -- they spell no command
 abbrev pub SpellsNoCommand : List ℕ → Type 0
-SpellsNoCommand line = (c : CommandTree) (s : Notes) → SpellsCommand c (first_notes line) s (pieces line) → ⊥
+SpellsNoCommand line = (c : CommandTree) (s : Notes) → SpellsCommand c (first_notes line) s (line_pieces line) → ⊥
 
 -- they spell a command with a number out of the range of its place
 abbrev pub SpellsUnfitNumber : List ℕ → Type 0
-SpellsUnfitNumber line = (c : CommandTree) × (small : Bool) × SpellsCommand c (first_notes line) (false, small) (pieces line)
+SpellsUnfitNumber line = (c : CommandTree) × (small : Bool) × SpellsCommand c (first_notes line) (false, small) (line_pieces line)
 
 -- they spell a command with each number in the range of its place, but a size past its limit
 abbrev pub SpellsLargeSize : List ℕ → Type 0
-SpellsLargeSize line = (c : CommandTree) × SpellsCommand c (first_notes line) (true, false) (pieces line)
+SpellsLargeSize line = (c : CommandTree) × SpellsCommand c (first_notes line) (true, false) (line_pieces line)
 
 -- a comment is read as nothing, and any other line as the command that its tokens spell, just where the line passes the first three refusals
 pub record IsReadByTheGrammar (limit : ℕ) (line : List ℕ) : Type 0 where

@@ -5,8 +5,8 @@ pub use Rattle.ftl_parser.specs.Piece.{Piece, MINUS, OPEN, CLOSE, OPEN_SQUARE, C
 use Rattle.ftl_parser.specs.Piece as tokens
 use Rattle.ftl_parser.specs.Piece.{has_long}
 
-abbrev pub pieces : List ℕ → List Piece
-pieces line = tokens.pieces (lexemes line)
+abbrev pub line_pieces : List ℕ → List Piece
+line_pieces line = tokens.pieces (lexemes line)
 
 -- no name and no text of the line has more bytes than a word
 abbrev pub has_short_words : List ℕ → Bool

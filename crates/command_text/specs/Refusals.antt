@@ -5,32 +5,32 @@ use Rattle.case_table.specs.Language.{refusal_names}
 use Rattle.command_text.specs.declared.refusal.Refusal.{Refusal}
 use Rattle.command_text.specs.declared.refusal.Refusal.TheVariants as refusals
 
-abbrev pub number_of : Refusal → ℕ
-number_of refusals.LineTooLong = 1
-number_of refusals.NotAscii = 2
-number_of refusals.BadToken = 3
-number_of refusals.BadSyntax = 4
-number_of refusals.NumberRange = 5
-number_of refusals.TooLarge = 6
-number_of refusals.UnknownName = 7
-number_of refusals.NameTaken = 8
-number_of refusals.WrongKind = 9
-number_of refusals.NotConvex = 10
-number_of refusals.TermRange = 11
-number_of refusals.SpanRange = 12
-number_of refusals.ClockEnd = 13
-number_of refusals.Presence = 14
-number_of refusals.ClassFull = 15
-number_of refusals.StoreFull = 16
-number_of refusals.BindingLimit = 17
-number_of refusals.JournalFull = 18
-number_of refusals.NoFile = 19
-number_of refusals.BadFile = 20
+abbrev pub refusal_number : Refusal → ℕ
+refusal_number refusals.LineTooLong = 1
+refusal_number refusals.NotAscii = 2
+refusal_number refusals.BadToken = 3
+refusal_number refusals.BadSyntax = 4
+refusal_number refusals.NumberRange = 5
+refusal_number refusals.TooLarge = 6
+refusal_number refusals.UnknownName = 7
+refusal_number refusals.NameTaken = 8
+refusal_number refusals.WrongKind = 9
+refusal_number refusals.NotConvex = 10
+refusal_number refusals.TermRange = 11
+refusal_number refusals.SpanRange = 12
+refusal_number refusals.ClockEnd = 13
+refusal_number refusals.Presence = 14
+refusal_number refusals.ClassFull = 15
+refusal_number refusals.StoreFull = 16
+refusal_number refusals.BindingLimit = 17
+refusal_number refusals.JournalFull = 18
+refusal_number refusals.NoFile = 19
+refusal_number refusals.BadFile = 20
 
 -- the name that the table of the language gives to the number
-abbrev pub name_of : Refusal → List ℕ
-name_of r = unwrap_or (word_of refusal_names (number_of r)) []
+abbrev pub refusal_name : Refusal → List ℕ
+refusal_name r = unwrap_or (word_of refusal_names (refusal_number r)) []
 
 -- `refused n Name`
-unfoldable pub line_of : Refusal → List ℕ
-line_of r = codes "refused " ++ decimal (number_of r) ++ codes " " ++ name_of r
+unfoldable pub refusal_line : Refusal → List ℕ
+refusal_line r = codes "refused " ++ decimal (refusal_number r) ++ codes " " ++ refusal_name r

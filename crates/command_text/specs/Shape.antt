@@ -94,16 +94,16 @@ IsPrintableGiven (givens.Both v f) = IsValue v × AreLegs f
 abbrev pub IsSetting : NamedSet → Type 0
 IsSetting set = IsShortName set.name × IsPrintableGiven set.given
 
-abbrev pub IsAt : Option Point → Type 0
-IsAt None = Unit {0}
-IsAt (Some p) = IsPoint p
+abbrev pub IsAtPoint : Option Point → Type 0
+IsAtPoint None = Unit {0}
+IsAtPoint (Some p) = IsPoint p
 
 abbrev pub IsMoving : Option (Function × Function) → Type 0
 IsMoving None = Unit {0}
 IsMoving (Some m) = AreMoves m.0 m.1
 
 pub record IsChange (place : Place) (sets : List NamedSet) : Type 0 where
-  pub at : IsAt place.at
+  pub at : IsAtPoint place.at
   pub moving : IsMoving place.moving
   pub settings : AllByRecursion IsSetting sets
 
@@ -121,7 +121,7 @@ pub record AreVertices (points : List Point) : Type 0 where
 -- ---- Queries
 
 pub record IsQuery (q : QueryTree) : Type 0 where
-  pub printable : query_shape.IsPrintable q
+  pub printable : query_shape.IsPrintableQuery q
   pub lawful : IsLawful q
   pub ascii : AllByRecursion IsAscii (query_texts q)
 

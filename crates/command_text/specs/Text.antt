@@ -71,15 +71,15 @@ abbrev pub points_text : List Point → List ℕ
 points_text = flat_map point_text
 
 -- = 3 or = 20 rate 0.5 or rate 0.5 or = "AB"
-abbrev pub given_text : Given → List ℕ
-given_text (givens.Num v) = codes "= " ++ fix_text v
-given_text (givens.Text t) = codes "= " ++ quoted t
-given_text (givens.Rate f) = codes "rate " ++ rates_text f
-given_text (givens.Both v f) = codes "= " ++ (fix_text v ++ (codes " rate " ++ rates_text f))
+abbrev pub given_value_text : Given → List ℕ
+given_value_text (givens.Num v) = codes "= " ++ fix_text v
+given_value_text (givens.Text t) = codes "= " ++ quoted t
+given_value_text (givens.Rate f) = codes "rate " ++ rates_text f
+given_value_text (givens.Both v f) = codes "= " ++ (fix_text v ++ (codes " rate " ++ rates_text f))
 
 -- a setting after a space
 abbrev pub setting_text : NamedSet → List ℕ
-setting_text set = codes " " ++ (set.name ++ (codes " " ++ given_text set.given))
+setting_text set = codes " " ++ (set.name ++ (codes " " ++ given_value_text set.given))
 
 abbrev pub settings_text : List NamedSet → List ℕ
 settings_text = flat_map setting_text
@@ -93,11 +93,11 @@ moving_text None = []
 moving_text (Some m) = codes " move " ++ moves_text m.0 m.1
 
 -- what a command changes of an object, after a space
-abbrev pub change_text : Place → List NamedSet → List ℕ
-change_text place sets = at_text place.at ++ (moving_text place.moving ++ settings_text sets)
+abbrev pub object_change_text : Place → List NamedSet → List ℕ
+object_change_text place sets = at_text place.at ++ (moving_text place.moving ++ settings_text sets)
 
-abbrev pub point_word : Bool → List ℕ
-point_word point = if point then codes " point" else []
+abbrev pub point_word_text : Bool → List ℕ
+point_word_text point = if point then codes " point" else []
 
 -- a part after a space, where it has a byte
 abbrev pub part_text : Part → List ℕ
@@ -107,10 +107,10 @@ part_text (Quoted t) = codes " " ++ quoted t
 part_text (Whole place n) = codes " " ++ decimal n
 part_text (Error e) = codes " " ++ fix_text e
 part_text (Num place v) = codes " " ++ fix_text v
-part_text (PointWord b) = point_word b
+part_text (PointWord b) = point_word_text b
 part_text (Attrs attrs) = attrs_text attrs
 part_text (Points ps) = points_text ps
-part_text (Change p ss) = change_text p ss
+part_text (Change p ss) = object_change_text p ss
 
 abbrev pub parts_text : Parts → List ℕ
 parts_text Blank = []

@@ -3,7 +3,7 @@ ghost use Rattle.std.specs.Prelude.{MatchResult};
 ghost use Rattle.command_text.specs.Tree.{CommandTree};
 ghost use Rattle.command_text.specs.inner.Reading.{ended};
 ghost use Rattle.command_text.specs.inner.Standing.{standing};
-ghost use Rattle.command_text.specs.inner.LineParts.{IsWhole, RefusesAtEnd};
+ghost use Rattle.command_text.specs.inner.LineParts.{IsWholeCommand, RefusesAtEnd};
 
 use crate::at::At;
 use crate::fault::{CommandFault, bad_syntax};
@@ -15,7 +15,7 @@ use ftl_parser::has_long;
 /// builds its command, so that a tree of some 200 bytes isn't handed on with the place after it.
 #[tactic(auto, using(crate::proofs::reader::Refused::at_the_end))]
 pub(crate) fn end(tokens: &Tokens, at: At) -> Result<(), CommandFault>
-    ensures { MatchResult result (λ _. (c : CommandTree) → IsWhole (ended (c, standing tokens.now at)) c)
+    ensures { MatchResult result (λ _. (c : CommandTree) → IsWholeCommand (ended (c, standing tokens.now at)) c)
         (RefusesAtEnd (standing tokens.now at)) }
 {
     if at.place < tokens.len() {

@@ -4,7 +4,7 @@ ghost use Rattle.command_text.specs.Tree;
 ghost use Rattle.command_text.specs.Tree.{command_view};
 ghost use Rattle.command_text.specs.inner.Reading.{remove, tick, show, drop, save, import, export, nearest, index, range, class_head, insert_head, watch_head, must_head, class, region, insert, update, ask, watch, keep, must, may, to_end};
 ghost use Rattle.command_text.specs.inner.Standing.{standing};
-ghost use Rattle.command_text.specs.inner.LineParts.{IsWhole, Refuses};
+ghost use Rattle.command_text.specs.inner.LineParts.{IsWholeCommand, Refuses};
 
 use crate::Command;
 use crate::at::{At, begins_key, key};
@@ -21,7 +21,7 @@ use std::alloc::Global;
 
 #[tactic(auto, using(crate::proofs::reader::Refused::form_steps), unfolding(crate::specs::inner::Reading::remove))]
 pub(crate) fn remove(tokens: &Tokens, at: At) -> Result<Command, CommandFault>
-    ensures { MatchResult result (λ c. IsWhole (to_end (remove (standing tokens.now at))) (command_view c))
+    ensures { MatchResult result (λ c. IsWholeCommand (to_end (remove (standing tokens.now at))) (command_view c))
         (Refuses (to_end (remove (standing tokens.now at)))) }
 {
     let Some((name, at)) = name(tokens, at) else {
@@ -33,7 +33,7 @@ pub(crate) fn remove(tokens: &Tokens, at: At) -> Result<Command, CommandFault>
 
 #[tactic(auto, using(crate::proofs::reader::Refused::form_steps), unfolding(crate::specs::inner::Reading::tick))]
 pub(crate) fn tick(tokens: &Tokens, at: At) -> Result<Command, CommandFault>
-    ensures { MatchResult result (λ c. IsWhole (to_end (tick (standing tokens.now at))) (command_view c))
+    ensures { MatchResult result (λ c. IsWholeCommand (to_end (tick (standing tokens.now at))) (command_view c))
         (Refuses (to_end (tick (standing tokens.now at)))) }
 {
     let Some((ticks, at)) = ticks(tokens, at) else {
@@ -45,7 +45,7 @@ pub(crate) fn tick(tokens: &Tokens, at: At) -> Result<Command, CommandFault>
 
 #[tactic(auto, using(crate::proofs::reader::Refused::form_steps), unfolding(crate::specs::inner::Reading::show))]
 pub(crate) fn show(tokens: &Tokens, at: At) -> Result<Command, CommandFault>
-    ensures { MatchResult result (λ c. IsWhole (to_end (show (standing tokens.now at))) (command_view c))
+    ensures { MatchResult result (λ c. IsWholeCommand (to_end (show (standing tokens.now at))) (command_view c))
         (Refuses (to_end (show (standing tokens.now at)))) }
 {
     let Some((name, at)) = name(tokens, at) else {
@@ -57,7 +57,7 @@ pub(crate) fn show(tokens: &Tokens, at: At) -> Result<Command, CommandFault>
 
 #[tactic(auto, using(crate::proofs::reader::Refused::form_steps), unfolding(crate::specs::inner::Reading::drop))]
 pub(crate) fn drop_query(tokens: &Tokens, at: At) -> Result<Command, CommandFault>
-    ensures { MatchResult result (λ c. IsWhole (to_end (drop (standing tokens.now at))) (command_view c))
+    ensures { MatchResult result (λ c. IsWholeCommand (to_end (drop (standing tokens.now at))) (command_view c))
         (Refuses (to_end (drop (standing tokens.now at)))) }
 {
     let Some((name, at)) = name(tokens, at) else {
@@ -69,7 +69,7 @@ pub(crate) fn drop_query(tokens: &Tokens, at: At) -> Result<Command, CommandFaul
 
 #[tactic(auto, using(crate::proofs::reader::Refused::form_steps), unfolding(crate::specs::inner::Reading::save))]
 pub(crate) fn save(tokens: &Tokens, at: At) -> Result<Command, CommandFault>
-    ensures { MatchResult result (λ c. IsWhole (to_end (save (standing tokens.now at))) (command_view c))
+    ensures { MatchResult result (λ c. IsWholeCommand (to_end (save (standing tokens.now at))) (command_view c))
         (Refuses (to_end (save (standing tokens.now at)))) }
 {
     let Some((file, at)) = text(tokens, at) else {
@@ -81,7 +81,7 @@ pub(crate) fn save(tokens: &Tokens, at: At) -> Result<Command, CommandFault>
 
 #[tactic(auto, using(crate::proofs::reader::Refused::form_steps), unfolding(crate::specs::inner::Reading::import))]
 pub(crate) fn import(tokens: &Tokens, at: At) -> Result<Command, CommandFault>
-    ensures { MatchResult result (λ c. IsWhole (to_end (import (standing tokens.now at))) (command_view c))
+    ensures { MatchResult result (λ c. IsWholeCommand (to_end (import (standing tokens.now at))) (command_view c))
         (Refuses (to_end (import (standing tokens.now at)))) }
 {
     let Some((class, at)) = name(tokens, at) else {
@@ -96,7 +96,7 @@ pub(crate) fn import(tokens: &Tokens, at: At) -> Result<Command, CommandFault>
 
 #[tactic(auto, using(crate::proofs::reader::Refused::form_steps), unfolding(crate::specs::inner::Reading::export))]
 pub(crate) fn export(tokens: &Tokens, at: At) -> Result<Command, CommandFault>
-    ensures { MatchResult result (λ c. IsWhole (to_end (export (standing tokens.now at))) (command_view c))
+    ensures { MatchResult result (λ c. IsWholeCommand (to_end (export (standing tokens.now at))) (command_view c))
         (Refuses (to_end (export (standing tokens.now at)))) }
 {
     let Some((class, at)) = name(tokens, at) else {
@@ -111,7 +111,7 @@ pub(crate) fn export(tokens: &Tokens, at: At) -> Result<Command, CommandFault>
 
 #[tactic(auto, using(crate::proofs::reader::Refused::form_steps), unfolding(crate::specs::inner::Reading::nearest))]
 pub(crate) fn nearest(tokens: &Tokens, at: At) -> Result<Command, CommandFault>
-    ensures { MatchResult result (λ c. IsWhole (to_end (nearest (standing tokens.now at))) (command_view c))
+    ensures { MatchResult result (λ c. IsWholeCommand (to_end (nearest (standing tokens.now at))) (command_view c))
         (Refuses (to_end (nearest (standing tokens.now at)))) }
 {
     let Some((span, at)) = span(tokens, at) else {
@@ -137,7 +137,7 @@ pub(crate) fn nearest(tokens: &Tokens, at: At) -> Result<Command, CommandFault>
 
 #[tactic(auto, using(crate::proofs::reader::Refused::form_steps), unfolding(crate::specs::inner::Reading::index))]
 pub(crate) fn index(tokens: &Tokens, at: At) -> Result<Command, CommandFault>
-    ensures { MatchResult result (λ c. IsWhole (to_end (index (standing tokens.now at))) (command_view c))
+    ensures { MatchResult result (λ c. IsWholeCommand (to_end (index (standing tokens.now at))) (command_view c))
         (Refuses (to_end (index (standing tokens.now at)))) }
 {
     let Some((class, at)) = name(tokens, at) else {
@@ -155,7 +155,7 @@ pub(crate) fn index(tokens: &Tokens, at: At) -> Result<Command, CommandFault>
 
 #[tactic(auto, using(crate::proofs::reader::Refused::form_steps), unfolding(crate::specs::inner::Reading::range))]
 pub(crate) fn range(tokens: &Tokens, at: At) -> Result<Command, CommandFault>
-    ensures { MatchResult result (λ c. IsWhole (to_end (range (standing tokens.now at))) (command_view c))
+    ensures { MatchResult result (λ c. IsWholeCommand (to_end (range (standing tokens.now at))) (command_view c))
         (Refuses (to_end (range (standing tokens.now at)))) }
 {
     let Some((span, at)) = span(tokens, at) else {
@@ -198,7 +198,7 @@ fn class_head(tokens: &Tokens, at: At) -> Option<(Word, u32, bool, At)>
 
 #[tactic(auto, using(crate::proofs::reader::Refused::form_steps), unfolding(crate::specs::inner::Reading::class))]
 pub(crate) fn class(alloc: Global, tokens: &Tokens, at: At) -> Result<Command, CommandFault>
-    ensures { MatchResult result (λ c. IsWhole (to_end (class (standing tokens.now at))) (command_view c))
+    ensures { MatchResult result (λ c. IsWholeCommand (to_end (class (standing tokens.now at))) (command_view c))
         (Refuses (to_end (class (standing tokens.now at)))) }
 {
     let Some((name, capacity, point, at)) = class_head(tokens, at) else {
@@ -216,7 +216,7 @@ pub(crate) fn class(alloc: Global, tokens: &Tokens, at: At) -> Result<Command, C
 
 #[tactic(auto, using(crate::proofs::reader::Refused::form_steps), unfolding(crate::specs::inner::Reading::region))]
 pub(crate) fn region(alloc: Global, tokens: &Tokens, at: At) -> Result<Command, CommandFault>
-    ensures { MatchResult result (λ c. IsWhole (to_end (region (standing tokens.now at))) (command_view c))
+    ensures { MatchResult result (λ c. IsWholeCommand (to_end (region (standing tokens.now at))) (command_view c))
         (Refuses (to_end (region (standing tokens.now at)))) }
 {
     let Some((name, at)) = name(tokens, at) else {
@@ -239,7 +239,7 @@ fn insert_head(tokens: &Tokens, at: At) -> Option<(Word, Word, At)>
 
 #[tactic(auto, using(crate::proofs::reader::Refused::form_steps), unfolding(crate::specs::inner::Reading::insert))]
 pub(crate) fn insert(alloc: Global, tokens: &Tokens, at: At) -> Result<Command, CommandFault>
-    ensures { MatchResult result (λ c. IsWhole (to_end (insert (standing tokens.now at))) (command_view c))
+    ensures { MatchResult result (λ c. IsWholeCommand (to_end (insert (standing tokens.now at))) (command_view c))
         (Refuses (to_end (insert (standing tokens.now at)))) }
 {
     let Some((class, name, at)) = insert_head(tokens, at) else {
@@ -258,7 +258,7 @@ pub(crate) fn insert(alloc: Global, tokens: &Tokens, at: At) -> Result<Command, 
 
 #[tactic(auto, using(crate::proofs::reader::Refused::form_steps), unfolding(crate::specs::inner::Reading::update))]
 pub(crate) fn update(alloc: Global, tokens: &Tokens, at: At) -> Result<Command, CommandFault>
-    ensures { MatchResult result (λ c. IsWhole (to_end (update (standing tokens.now at))) (command_view c))
+    ensures { MatchResult result (λ c. IsWholeCommand (to_end (update (standing tokens.now at))) (command_view c))
         (Refuses (to_end (update (standing tokens.now at)))) }
 {
     let Some((name, at)) = name(tokens, at) else {
@@ -272,7 +272,7 @@ pub(crate) fn update(alloc: Global, tokens: &Tokens, at: At) -> Result<Command, 
 
 #[tactic(auto, using(crate::proofs::reader::Refused::form_steps), unfolding(crate::specs::inner::Reading::ask))]
 pub(crate) fn ask(alloc: Global, tokens: &Tokens, at: At) -> Result<Command, CommandFault>
-    ensures { MatchResult result (λ c. IsWhole (to_end (ask (standing tokens.now at))) (command_view c))
+    ensures { MatchResult result (λ c. IsWholeCommand (to_end (ask (standing tokens.now at))) (command_view c))
         (Refuses (to_end (ask (standing tokens.now at)))) }
 {
     let Some((span, at)) = span(tokens, at) else {
@@ -295,7 +295,7 @@ fn watch_head(tokens: &Tokens, at: At) -> Option<(Word, u32, At)>
 
 #[tactic(auto, using(crate::proofs::reader::Refused::form_steps), unfolding(crate::specs::inner::Reading::watch))]
 pub(crate) fn watch(alloc: Global, tokens: &Tokens, at: At) -> Result<Command, CommandFault>
-    ensures { MatchResult result (λ c. IsWhole (to_end (watch (standing tokens.now at))) (command_view c))
+    ensures { MatchResult result (λ c. IsWholeCommand (to_end (watch (standing tokens.now at))) (command_view c))
         (Refuses (to_end (watch (standing tokens.now at)))) }
 {
     let Some((name, span, at)) = watch_head(tokens, at) else {
@@ -308,7 +308,7 @@ pub(crate) fn watch(alloc: Global, tokens: &Tokens, at: At) -> Result<Command, C
 
 #[tactic(auto, using(crate::proofs::reader::Refused::form_steps), unfolding(crate::specs::inner::Reading::keep))]
 pub(crate) fn keep(alloc: Global, tokens: &Tokens, at: At) -> Result<Command, CommandFault>
-    ensures { MatchResult result (λ c. IsWhole (to_end (keep (standing tokens.now at))) (command_view c))
+    ensures { MatchResult result (λ c. IsWholeCommand (to_end (keep (standing tokens.now at))) (command_view c))
         (Refuses (to_end (keep (standing tokens.now at)))) }
 {
     let Some((name, span, at)) = watch_head(tokens, at) else {
@@ -331,7 +331,7 @@ fn must_head(tokens: &Tokens, at: At) -> Option<(Fix, u32, At)>
 
 #[tactic(auto, using(crate::proofs::reader::Refused::form_steps), unfolding(crate::specs::inner::Reading::must))]
 pub(crate) fn must(alloc: Global, tokens: &Tokens, at: At) -> Result<Command, CommandFault>
-    ensures { MatchResult result (λ c. IsWhole (to_end (must (standing tokens.now at))) (command_view c))
+    ensures { MatchResult result (λ c. IsWholeCommand (to_end (must (standing tokens.now at))) (command_view c))
         (Refuses (to_end (must (standing tokens.now at)))) }
 {
     let Some((error, span, at)) = must_head(tokens, at) else {
@@ -344,7 +344,7 @@ pub(crate) fn must(alloc: Global, tokens: &Tokens, at: At) -> Result<Command, Co
 
 #[tactic(auto, using(crate::proofs::reader::Refused::form_steps), unfolding(crate::specs::inner::Reading::may))]
 pub(crate) fn may(alloc: Global, tokens: &Tokens, at: At) -> Result<Command, CommandFault>
-    ensures { MatchResult result (λ c. IsWhole (to_end (may (standing tokens.now at))) (command_view c))
+    ensures { MatchResult result (λ c. IsWholeCommand (to_end (may (standing tokens.now at))) (command_view c))
         (Refuses (to_end (may (standing tokens.now at)))) }
 {
     let Some((error, span, at)) = must_head(tokens, at) else {
@@ -357,7 +357,7 @@ pub(crate) fn may(alloc: Global, tokens: &Tokens, at: At) -> Result<Command, Com
 
 #[tactic(auto, using(crate::proofs::reader::Refused::form_steps))]
 pub(crate) fn list(tokens: &Tokens, at: At) -> Result<Command, CommandFault>
-    ensures { MatchResult result (λ c. IsWhole (to_end (Some (Tree.Listing, standing tokens.now at))) (command_view c))
+    ensures { MatchResult result (λ c. IsWholeCommand (to_end (Some (Tree.Listing, standing tokens.now at))) (command_view c))
         (Refuses (to_end (Some (Tree.Listing, standing tokens.now at)))) }
 {
     end(tokens, at)?;
@@ -366,7 +366,7 @@ pub(crate) fn list(tokens: &Tokens, at: At) -> Result<Command, CommandFault>
 
 #[tactic(auto, using(crate::proofs::reader::Refused::form_steps))]
 pub(crate) fn quit(tokens: &Tokens, at: At) -> Result<Command, CommandFault>
-    ensures { MatchResult result (λ c. IsWhole (to_end (Some (Tree.Quit, standing tokens.now at))) (command_view c))
+    ensures { MatchResult result (λ c. IsWholeCommand (to_end (Some (Tree.Quit, standing tokens.now at))) (command_view c))
         (Refuses (to_end (Some (Tree.Quit, standing tokens.now at)))) }
 {
     end(tokens, at)?;

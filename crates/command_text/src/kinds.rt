@@ -3,7 +3,7 @@ ghost use Rattle.std.specs.Prelude.{◌≡◌, ◌<◌, ◌≤◌, ℕ, List};
 ghost use Rattle.case_table.specs.declared.key.TheConstants.{CLASS};
 ghost use Rattle.case_table.specs.declared.symbol.TheConstants.{ASSIGN};
 ghost use Rattle.command_text.specs.Piece.{piece_of};
-ghost use Rattle.command_text.specs.inner.Reading.{kind_in, kind_of};
+ghost use Rattle.command_text.specs.inner.Reading.{kind_by_code, kind_in};
 ghost use Rattle.command_text.specs.inner.Tests.{is_key, is_sign, is_name, is_text};
 
 use case_table::key;
@@ -54,7 +54,7 @@ pub(crate) fn is_text(kind: Kind) -> bool
 
 #[inline]
 fn kind_of(code: u8) -> Option<AttrKind>
-    ensures { result ≡ kind_of code }
+    ensures { result ≡ kind_by_code code }
 {
     match code {
         key::NUM => Some(AttrKind::Num),

@@ -5,7 +5,7 @@ ghost use Rattle.command_text.specs.inner.Reading.{rate_leg, rates, move_leg, mo
 ghost use Rattle.command_text.specs.Grammar.{legs_of_x, legs_of_y};
 ghost use Rattle.command_text.specs.inner.Tests.{is_sign};
 ghost use Rattle.case_table.specs.declared.symbol.TheConstants.{OPEN_SQUARE};
-ghost use Rattle.command_text.specs.inner.Standing.{standing, Stops};
+ghost use Rattle.command_text.specs.inner.Standing.{standing, StopsPart};
 
 use crate::at::{At, begins_sign, noting_small, sign};
 use crate::fault::{CommandFault, bad_syntax};
@@ -61,7 +61,7 @@ fn rate_legs(
     start: At,
 ) -> Result<(Vec<(Slope, u32)>, At), CommandFault>
     ensures { MatchResult result (λ r. all (begins (is_sign OPEN_SQUARE)) rate_leg (standing tokens.now start) ≡ Some (r.0.items, standing tokens.now r.1))
-        (Stops (all (begins (is_sign OPEN_SQUARE)) rate_leg (standing tokens.now start))) }
+        (StopsPart (all (begins (is_sign OPEN_SQUARE)) rate_leg (standing tokens.now start))) }
 {
     let mut firsts = Vec::new(alloc);
     let mut at = start;
@@ -79,7 +79,7 @@ fn rate_legs(
 #[tactic(auto, using(crate::proofs::reader::Stopping::stop_steps), unfolding(crate::specs::inner::Reading::rates))]
 pub(crate) fn rates(alloc: Global, tokens: &Tokens, at: At) -> Result<(Legs, At), CommandFault>
     ensures { MatchResult result (λ r. rates (standing tokens.now at) ≡ Some (r.0, standing tokens.now r.1))
-        (Stops (rates (standing tokens.now at))) }
+        (StopsPart (rates (standing tokens.now at))) }
 {
     let (firsts, at) = rate_legs(alloc, tokens, at)?;
     let Some((last, at)) = slope(tokens, at) else {
@@ -97,7 +97,7 @@ fn move_legs(
     start: At,
 ) -> Result<(Vec<((Slope, Slope), u32)>, At), CommandFault>
     ensures { MatchResult result (λ r. all (begins (is_sign OPEN_SQUARE)) move_leg (standing tokens.now start) ≡ Some (r.0.items, standing tokens.now r.1))
-        (Stops (all (begins (is_sign OPEN_SQUARE)) move_leg (standing tokens.now start))) }
+        (StopsPart (all (begins (is_sign OPEN_SQUARE)) move_leg (standing tokens.now start))) }
 {
     let mut firsts = Vec::new(alloc);
     let mut at = start;
@@ -146,7 +146,7 @@ pub(crate) fn moves(
     at: At,
 ) -> Result<((Legs, Legs), At), CommandFault>
     ensures { MatchResult result (λ r. moves (standing tokens.now at) ≡ Some (r.0, standing tokens.now r.1))
-        (Stops (moves (standing tokens.now at))) }
+        (StopsPart (moves (standing tokens.now at))) }
 {
     let (firsts, at) = move_legs(alloc, tokens, at)?;
     let Some((last, at)) = slopes(tokens, at) else {

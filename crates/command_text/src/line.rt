@@ -3,7 +3,7 @@ ghost use Rattle.std.specs.Prelude.{MatchResult};
 ghost use Rattle.command_text.specs.Tree.{command_view};
 ghost use Rattle.command_text.specs.inner.Reading.{at_first, by_key, by_name, to_end, command_of};
 ghost use Rattle.command_text.specs.inner.Standing.{standing};
-ghost use Rattle.command_text.specs.inner.LineParts.{IsWhole, Refuses};
+ghost use Rattle.command_text.specs.inner.LineParts.{IsWholeCommand, Refuses};
 
 use crate::at::{At, next};
 use crate::fault::{CommandFault, bad_syntax};
@@ -14,7 +14,7 @@ use std::alloc::Global;
 
 /// The command of a reserved word, by the tokens after it.
 fn by_key(alloc: Global, tokens: &Tokens, code: u8, at: At) -> Result<Command, CommandFault>
-    ensures { MatchResult result (λ c. IsWhole (to_end (by_key code (standing tokens.now at))) (command_view c))
+    ensures { MatchResult result (λ c. IsWholeCommand (to_end (by_key code (standing tokens.now at))) (command_view c))
         (Refuses (to_end (by_key code (standing tokens.now at)))) }
 {
     match code {
@@ -40,7 +40,7 @@ fn by_key(alloc: Global, tokens: &Tokens, code: u8, at: At) -> Result<Command, C
 
 /// The command of a name, which isn't reserved.
 fn by_name(alloc: Global, tokens: &Tokens, word: &[u8], at: At) -> Result<Command, CommandFault>
-    ensures { MatchResult result (λ c. IsWhole (to_end (by_name word.now (standing tokens.now at))) (command_view c))
+    ensures { MatchResult result (λ c. IsWholeCommand (to_end (by_name word.now (standing tokens.now at))) (command_view c))
         (Refuses (to_end (by_name word.now (standing tokens.now at)))) }
 {
     if word == b"nearest".as_slice() {
@@ -60,7 +60,7 @@ fn by_name(alloc: Global, tokens: &Tokens, word: &[u8], at: At) -> Result<Comman
 
 /// The command that all tokens of a line are. No token is a blank line.
 pub(crate) fn command(alloc: Global, tokens: &Tokens) -> Result<Command, CommandFault>
-    ensures { MatchResult result (λ c. IsWhole (command_of (at_first tokens.now)) (command_view c)) (Refuses (command_of (at_first tokens.now))) }
+    ensures { MatchResult result (λ c. IsWholeCommand (command_of (at_first tokens.now)) (command_view c)) (Refuses (command_of (at_first tokens.now))) }
 {
     let start = At {
         place: 0,

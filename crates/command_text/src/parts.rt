@@ -4,7 +4,7 @@ ghost use Rattle.command_text.specs.Ranges.{Value, Rate};
 ghost use Rattle.command_text.specs.inner.Reading.{pair, point, attr, next_attr, first_attr, some_attrs, attrs, points, all, begins, with_front};
 ghost use Rattle.command_text.specs.inner.Tests.{is_sign};
 ghost use Rattle.case_table.specs.declared.symbol.TheConstants.{OPEN_ROUND, COMMA};
-ghost use Rattle.command_text.specs.inner.Standing.{standing, Stops};
+ghost use Rattle.command_text.specs.inner.Standing.{standing, StopsPart};
 
 use crate::at::{At, begins_sign, next, noting_small, sign};
 use crate::fault::{CommandFault, bad_syntax};
@@ -75,7 +75,7 @@ fn first_attr(tokens: &Tokens, at: At) -> Option<((Word, AttrKind), At)>
 #[tactic(auto, using(crate::proofs::grammar::ManyLemmas::loop_steps, crate::proofs::grammar::Derived::next_attr_shortens))]
 fn more_attrs(tokens: &Tokens, start: At, attrs: &mut Attributes) -> Result<At, CommandFault>
     ensures { MatchResult result (λ at. with_front attrs.old (all (begins (is_sign COMMA)) next_attr (standing tokens.now start)) ≡ Some (attrs.new, standing tokens.now at))
-        (Stops (all (begins (is_sign COMMA)) next_attr (standing tokens.now start))) }
+        (StopsPart (all (begins (is_sign COMMA)) next_attr (standing tokens.now start))) }
 {
     let mut at = start;
     'attrs: while begins_sign(tokens, at, symbol::COMMA) {
@@ -91,7 +91,7 @@ fn more_attrs(tokens: &Tokens, start: At, attrs: &mut Attributes) -> Result<At, 
 #[tactic(auto, using(crate::proofs::reader::Stopping::stop_steps), unfolding(crate::specs::inner::Reading::some_attrs))]
 fn some_attrs(alloc: Global, tokens: &Tokens, at: At) -> Result<(Attributes, At), CommandFault>
     ensures { MatchResult result (λ r. some_attrs (standing tokens.now at) ≡ Some (r.0, standing tokens.now r.1))
-        (Stops (some_attrs (standing tokens.now at))) }
+        (StopsPart (some_attrs (standing tokens.now at))) }
 {
     let Some(((name, kind), at)) = first_attr(tokens, at) else {
         return Err(bad_syntax());
@@ -114,7 +114,7 @@ pub(crate) fn attrs(
     at: At,
 ) -> Result<(Attributes, At), CommandFault>
     ensures { MatchResult result (λ r. attrs (standing tokens.now at) ≡ Some (r.0, standing tokens.now r.1))
-        (Stops (attrs (standing tokens.now at))) }
+        (StopsPart (attrs (standing tokens.now at))) }
 {
     if begins_sign(tokens, at, symbol::OPEN_ROUND) {
         some_attrs(alloc, tokens, at)
@@ -127,7 +127,7 @@ pub(crate) fn attrs(
 #[tactic(auto, using(crate::proofs::grammar::ManyLemmas::loop_steps, crate::proofs::grammar::Derived::point_shortens))]
 fn all_points(alloc: Global, tokens: &Tokens, start: At) -> Result<(Points, At), CommandFault>
     ensures { MatchResult result (λ r. all (begins (is_sign OPEN_ROUND)) point (standing tokens.now start) ≡ Some (r.0, standing tokens.now r.1))
-        (Stops (all (begins (is_sign OPEN_ROUND)) point (standing tokens.now start))) }
+        (StopsPart (all (begins (is_sign OPEN_ROUND)) point (standing tokens.now start))) }
 {
     let mut points = Points::new(alloc);
     let mut at = start;
@@ -145,7 +145,7 @@ fn all_points(alloc: Global, tokens: &Tokens, start: At) -> Result<(Points, At),
 #[tactic(auto, using(crate::proofs::reader::Stopping::stop_steps), unfolding(crate::specs::inner::Reading::points))]
 pub(crate) fn points(alloc: Global, tokens: &Tokens, at: At) -> Result<(Points, At), CommandFault>
     ensures { MatchResult result (λ r. points (standing tokens.now at) ≡ Some (r.0, standing tokens.now r.1))
-        (Stops (points (standing tokens.now at))) }
+        (StopsPart (points (standing tokens.now at))) }
 {
     let (points, at) = all_points(alloc, tokens, at)?;
     let count = points.items().len();

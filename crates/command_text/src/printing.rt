@@ -6,7 +6,7 @@ ghost use Rattle.command_text.specs.Tree.{command_view, moving_view, placement_v
 ghost use Rattle.ftl_parser.specs.Tree.{query_view};
 ghost use Rattle.command_text.specs.Tree as Tree;
 ghost use Rattle.ftl_parser.specs.Text.{query_text};
-ghost use Rattle.command_text.specs.Text.{quoted, pair_text, rate_leg_text, rates_text, move_leg_text, move_legs_text, moves_text, kind_text, attr_text, next_attr_text, attrs_text, point_text, points_text, given_text, setting_text, settings_text, at_text, moving_text, change_text, point_word, text_of};
+ghost use Rattle.command_text.specs.Text.{quoted, pair_text, rate_leg_text, rates_text, move_leg_text, move_legs_text, moves_text, kind_text, attr_text, next_attr_text, attrs_text, point_text, points_text, given_value_text, setting_text, settings_text, at_text, moving_text, object_change_text, point_word_text, text_of};
 ghost use Rattle.fixed_point.specs.Canonical.{fix_text};
 
 use crate::Command;
@@ -216,7 +216,7 @@ fn put_points(out: &mut Vec<u8>, points: &[Point]) -> Result<(), AllocError>
 }
 
 fn put_given(out: &mut Vec<u8>, given: &Given) -> Result<(), AllocError>
-    ensures { OnOk result (out.new.items ≡ out.old.items ++ given_text given.now) }
+    ensures { OnOk result (out.new.items ≡ out.old.items ++ given_value_text given.now) }
 {
     match given {
         Given::Num(value) => {
@@ -289,7 +289,7 @@ fn put_moving(out: &mut Vec<u8>, moving: &Moving) -> Result<(), AllocError>
 
 /// What a command changes of an object, after a space.
 fn put_change(out: &mut Vec<u8>, place: &Placement, sets: &Settings) -> Result<(), AllocError>
-    ensures { OnOk result (out.new.items ≡ out.old.items ++ change_text (placement_view place.now) sets.now) }
+    ensures { OnOk result (out.new.items ≡ out.old.items ++ object_change_text (placement_view place.now) sets.now) }
 {
     put_at(out, &place.at)?;
     put_moving(out, &place.moving)?;
@@ -331,7 +331,7 @@ fn put_class(
 }
 
 fn point_word(point: bool) -> &'static [u8]
-    ensures { result.now ≡ point_word point }
+    ensures { result.now ≡ point_word_text point }
 {
     if point { b" point" } else { b"" }
 }

@@ -3,7 +3,7 @@
 ghost use Rattle.std.specs.Prelude.{◌≡◌, Some};
 ghost use Rattle.case_table.specs.Rows.{word_of};
 ghost use Rattle.case_table.specs.Language.{refusal_names};
-ghost use Rattle.command_text.specs.Refusals.{line_of, name_of, number_of};
+ghost use Rattle.command_text.specs.Refusals.{refusal_line, refusal_name, refusal_number};
 
 use std::marker::Model;
 
@@ -56,7 +56,7 @@ impl Refusal {
     /// The number of the refusal, from 1 to 20.
     #[inline]
     pub fn number(self) -> u8
-        ensures { result ≡ number_of self }
+        ensures { result ≡ refusal_number self }
     {
         self as u8 + 1
     }
@@ -65,7 +65,7 @@ impl Refusal {
     /// memory.
     #[inline]
     pub fn line(self) -> RefusalText
-        ensures { result ≡ line_of self }
+        ensures { result ≡ refusal_line self }
     {
         RefusalText { refusal: self }
     }
@@ -79,11 +79,11 @@ pub struct RefusalText {
 
 impl Model for RefusalText {
     ghost use Rattle.std.specs.Prelude.{List, ℕ};
-    ghost use Rattle.command_text.specs.Refusals.{line_of};
+    ghost use Rattle.command_text.specs.Refusals.{refusal_line};
 
     ghost Value = { List ℕ };
 
-    ghost view = { λ a. line_of a.refusal };
+    ghost view = { λ a. refusal_line a.refusal };
 }
 
 impl RefusalText {
@@ -96,9 +96,9 @@ impl RefusalText {
     }
 }
 
-#[tactic(auto, unfolding(crate::specs::Refusals::line_of, case_table::specs::Language::refusal_names, crate::proofs::Names::digits))]
+#[tactic(auto, unfolding(crate::specs::Refusals::refusal_line, case_table::specs::Language::refusal_names, crate::proofs::Names::digits))]
 fn text_of(refusal: Refusal) -> &'static [u8]
-    ensures { result.now ≡ line_of refusal }
+    ensures { result.now ≡ refusal_line refusal }
 {
     match refusal {
         Refusal::LineTooLong => b"refused 1 LineTooLong",
@@ -127,5 +127,5 @@ fn text_of(refusal: Refusal) -> &'static [u8]
 /// The name of a refusal is that of its number in the table of the language.
 #[tactic(auto, using(crate::proofs::RefusalLemmas::each_is_named))]
 pub fn refusals_are_named()
-    ensures { (r : Refusal) → word_of refusal_names (number_of r) ≡ Some (name_of r) }
+    ensures { (r : Refusal) → word_of refusal_names (refusal_number r) ≡ Some (refusal_name r) }
 {}

@@ -4,7 +4,7 @@ ghost use Rattle.case_table.specs.declared.symbol.TheConstants.{OPEN_SQUARE};
 ghost use Rattle.command_text.specs.inner.Tests.{is_sign};
 ghost use Rattle.command_text.specs.Tree.{moving_view, placement_view};
 ghost use Rattle.command_text.specs.inner.Reading.{rate, given_both, given_value, given_text, given_rate, given_equal, given, setting, settings, at as placed, begins, moves, given_moves, some_moves, moving, place};
-ghost use Rattle.command_text.specs.inner.Standing.{standing, Stops};
+ghost use Rattle.command_text.specs.inner.Standing.{standing, StopsPart};
 
 use crate::at::{At, begins_key, begins_name, begins_sign, begins_text, key, noting_small, sign};
 use crate::fault::{CommandFault, bad_syntax};
@@ -23,7 +23,7 @@ use std::alloc::Global;
 #[tactic(auto, using(crate::proofs::reader::Stopping::stop_steps), unfolding(crate::specs::inner::Reading::rate))]
 fn rate(alloc: Global, tokens: &Tokens, at: At) -> Result<(Legs, At), CommandFault>
     ensures { MatchResult result (λ r. rate (standing tokens.now at) ≡ Some (r.0, standing tokens.now r.1))
-        (Stops (rate (standing tokens.now at))) }
+        (StopsPart (rate (standing tokens.now at))) }
 {
     let Some(at) = key(tokens, at, key::RATE) else {
         return Err(bad_syntax());
@@ -40,7 +40,7 @@ fn given_both(
     at: At,
 ) -> Result<(Given, At), CommandFault>
     ensures { MatchResult result (λ r. given_both value (standing tokens.now at) ≡ Some (r.0, standing tokens.now r.1))
-        (Stops (given_both value (standing tokens.now at))) }
+        (StopsPart (given_both value (standing tokens.now at))) }
 {
     let (legs, at) = rate(alloc, tokens, at)?;
     Ok((Given::Both(value, legs), at))
@@ -50,7 +50,7 @@ fn given_both(
 #[tactic(auto, using(crate::proofs::reader::Stopping::stop_steps), unfolding(crate::specs::inner::Reading::given_value))]
 fn given_value(alloc: Global, tokens: &Tokens, at: At) -> Result<(Given, At), CommandFault>
     ensures { MatchResult result (λ r. given_value (standing tokens.now at) ≡ Some (r.0, standing tokens.now r.1))
-        (Stops (given_value (standing tokens.now at))) }
+        (StopsPart (given_value (standing tokens.now at))) }
 {
     let Some((value, at)) = value(tokens, at) else {
         return Err(bad_syntax());
@@ -65,7 +65,7 @@ fn given_value(alloc: Global, tokens: &Tokens, at: At) -> Result<(Given, At), Co
 #[tactic(auto, using(crate::proofs::reader::Stopping::stop_steps), unfolding(crate::specs::inner::Reading::given_text))]
 fn given_text(tokens: &Tokens, at: At) -> Result<(Given, At), CommandFault>
     ensures { MatchResult result (λ r. given_text (standing tokens.now at) ≡ Some (r.0, standing tokens.now r.1))
-        (Stops (given_text (standing tokens.now at))) }
+        (StopsPart (given_text (standing tokens.now at))) }
 {
     match text(tokens, at) {
         Some((text, at)) => Ok((Given::Text(text), at)),
@@ -76,7 +76,7 @@ fn given_text(tokens: &Tokens, at: At) -> Result<(Given, At), CommandFault>
 #[tactic(auto, using(crate::proofs::reader::Stopping::stop_steps), unfolding(crate::specs::inner::Reading::given_rate))]
 fn given_rate(alloc: Global, tokens: &Tokens, at: At) -> Result<(Given, At), CommandFault>
     ensures { MatchResult result (λ r. given_rate (standing tokens.now at) ≡ Some (r.0, standing tokens.now r.1))
-        (Stops (given_rate (standing tokens.now at))) }
+        (StopsPart (given_rate (standing tokens.now at))) }
 {
     let (legs, at) = rate(alloc, tokens, at)?;
     Ok((Given::Rate(legs), at))
@@ -85,7 +85,7 @@ fn given_rate(alloc: Global, tokens: &Tokens, at: At) -> Result<(Given, At), Com
 #[tactic(auto, using(crate::proofs::reader::Stopping::stop_steps), unfolding(crate::specs::inner::Reading::given_equal))]
 fn given_equal(alloc: Global, tokens: &Tokens, at: At) -> Result<(Given, At), CommandFault>
     ensures { MatchResult result (λ r. given_equal (standing tokens.now at) ≡ Some (r.0, standing tokens.now r.1))
-        (Stops (given_equal (standing tokens.now at))) }
+        (StopsPart (given_equal (standing tokens.now at))) }
 {
     let Some(at) = sign(tokens, at, symbol::EQUAL) else {
         return Err(bad_syntax());
@@ -101,7 +101,7 @@ fn given_equal(alloc: Global, tokens: &Tokens, at: At) -> Result<(Given, At), Co
 #[tactic(auto, using(crate::proofs::reader::Stopping::stop_steps), unfolding(crate::specs::inner::Reading::given))]
 fn given(alloc: Global, tokens: &Tokens, at: At) -> Result<(Given, At), CommandFault>
     ensures { MatchResult result (λ r. given (standing tokens.now at) ≡ Some (r.0, standing tokens.now r.1))
-        (Stops (given (standing tokens.now at))) }
+        (StopsPart (given (standing tokens.now at))) }
 {
     if begins_key(tokens, at, key::RATE) {
         given_rate(alloc, tokens, at)
@@ -113,7 +113,7 @@ fn given(alloc: Global, tokens: &Tokens, at: At) -> Result<(Given, At), CommandF
 #[tactic(auto, using(crate::proofs::reader::Stopping::stop_steps), unfolding(crate::specs::inner::Reading::setting))]
 fn setting(alloc: Global, tokens: &Tokens, at: At) -> Result<(NamedSet, At), CommandFault>
     ensures { MatchResult result (λ r. setting (standing tokens.now at) ≡ Some (r.0, standing tokens.now r.1))
-        (Stops (setting (standing tokens.now at))) }
+        (StopsPart (setting (standing tokens.now at))) }
 {
     let Some((name, at)) = name(tokens, at) else {
         return Err(bad_syntax());
@@ -130,7 +130,7 @@ pub(crate) fn settings(
     start: At,
 ) -> Result<(Settings, At), CommandFault>
     ensures { MatchResult result (λ r. settings (standing tokens.now start) ≡ Some (r.0, standing tokens.now r.1))
-        (Stops (settings (standing tokens.now start))) }
+        (StopsPart (settings (standing tokens.now start))) }
 {
     let mut sets = Settings::new(alloc);
     let mut at = start;
@@ -163,7 +163,7 @@ fn position(tokens: &Tokens, at: At) -> Option<(Option<Point>, At)>
 #[tactic(auto, using(crate::proofs::reader::Stopping::stop_steps))]
 fn turning(alloc: Global, tokens: &Tokens, at: At) -> Result<(Moving, At), CommandFault>
     ensures { MatchResult result (λ r. given_moves (moves (standing tokens.now at)) ≡ Some (moving_view r.0, standing tokens.now r.1))
-        (Stops (moves (standing tokens.now at))) }
+        (StopsPart (moves (standing tokens.now at))) }
 {
     let (both, at) = moves(alloc, tokens, at)?;
     Ok((Moving::Turning(Box::new(alloc, both)?), at))
@@ -184,7 +184,7 @@ fn steady(tokens: &Tokens, at: At) -> Option<(Moving, At)>
 #[tactic(auto, using(crate::proofs::reader::Stopping::stop_steps), unfolding(crate::specs::inner::Reading::some_moves))]
 fn some_moves(alloc: Global, tokens: &Tokens, at: At) -> Result<(Moving, At), CommandFault>
     ensures { MatchResult result (λ r. some_moves (standing tokens.now at) ≡ Some (moving_view r.0, standing tokens.now r.1))
-        (Stops (some_moves (standing tokens.now at))) }
+        (StopsPart (some_moves (standing tokens.now at))) }
 {
     let Some(at) = key(tokens, at, key::MOVE) else {
         return Err(bad_syntax());
@@ -201,7 +201,7 @@ fn some_moves(alloc: Global, tokens: &Tokens, at: At) -> Result<(Moving, At), Co
 #[tactic(auto, using(crate::proofs::reader::Stopping::stop_steps), unfolding(crate::specs::inner::Reading::moving))]
 fn moving(alloc: Global, tokens: &Tokens, at: At) -> Result<(Moving, At), CommandFault>
     ensures { MatchResult result (λ r. moving (standing tokens.now at) ≡ Some (moving_view r.0, standing tokens.now r.1))
-        (Stops (moving (standing tokens.now at))) }
+        (StopsPart (moving (standing tokens.now at))) }
 {
     if begins_key(tokens, at, key::MOVE) {
         some_moves(alloc, tokens, at)
@@ -214,7 +214,7 @@ fn moving(alloc: Global, tokens: &Tokens, at: At) -> Result<(Moving, At), Comman
 #[tactic(auto, using(crate::proofs::reader::Stopping::stop_steps), unfolding(crate::specs::inner::Reading::place))]
 pub(crate) fn place(alloc: Global, tokens: &Tokens, at: At) -> Result<(Placement, At), CommandFault>
     ensures { MatchResult result (λ r. place (standing tokens.now at) ≡ Some (placement_view r.0, standing tokens.now r.1))
-        (Stops (place (standing tokens.now at))) }
+        (StopsPart (place (standing tokens.now at))) }
 {
     let Some((position, at)) = position(tokens, at) else {
         return Err(bad_syntax());

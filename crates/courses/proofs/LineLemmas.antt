@@ -7,7 +7,8 @@ use Rattle.motion.specs.declared.straight.Straight.{Straight}
 use Rattle.motion.specs.Timeline.{Epoch}
 use Rattle.motion.specs.Straight.{IsStraightOf}
 use Rattle.motion.proofs.StraightLemmas.{climbed_on}
-use Rattle.courses.specs.Places.{dynamic_of, place_at, place_by, place_of}
+use Rattle.motion.specs.Cells.{dynamic_of}
+use Rattle.courses.specs.Places.{place_at, place_by, place_of}
 
 -- the place by the line, from its first tick on
 pub place_at-straight : (epochs : List Epoch) (line : Straight) (t : ℕ) → IsStraightOf epochs line → line.from ≤ t

@@ -14,7 +14,7 @@ use Rattle.motion.specs.declared.asked.Asked.{Asked}
 use Rattle.motion.specs.declared.asked.Asked.TheVariants as which
 use Rattle.motion.specs.Timeline.{AreBegunUpTo, Epoch, epoch_at, IsRising, IsRisingFrom}
 use Rattle.motion.specs.Pieces.{changes_for, is_cut_for, AreSteadyFor, IsLinear}
-use Rattle.courses.specs.Parts.{asked_at, asked_each, epochs_of_each, AreBegun, IsSteadyFrom, IsPart}
+use Rattle.courses.specs.Parts.{asked_at, asked_each, epochs_of_each, AreBegun, IsSteadyFrom, IsTimelinePart}
 
 -- the epoch in force at tick t of some more epochs, where `found` is in force of those before
 abbrev pub in_force_of : ℕ → Option Epoch → List Epoch → Option Epoch
@@ -71,7 +71,7 @@ quiet asked epochs lo hi none order = record {
   whole = λ t past up_to. none_cut asked epochs t (none t up_to);
 }
 
-part_before : (asked : Asked) (p : Epoch) (epochs : List Epoch) (at last end : ℕ) → IsRising (p ∷ epochs) → at < p.from → at ≤ last → end ≡ min last (p.from - 1) → IsPart asked (p ∷ epochs) at last end
+part_before : (asked : Asked) (p : Epoch) (epochs : List Epoch) (at last end : ℕ) → IsRising (p ∷ epochs) → at < p.from → at ≤ last → end ≡ min last (p.from - 1) → IsTimelinePart asked (p ∷ epochs) at last end
 part_before asked p epochs at last end rising before order is = record {
   past = omega arith;
   within = omega arith;
@@ -88,14 +88,14 @@ part_before asked p epochs at last end rising before order is = record {
 
 -- a timeline before its first epoch
 pub part_before_first : (asked : Asked) (epochs : List Epoch) (first : Epoch) (at last end : ℕ) → IsRising epochs → slice_get epochs 0 ≡ Some first → epoch_at epochs at ≡ None
-    → at ≤ last → end ≡ min last (first.from - 1) → IsPart asked epochs at last end
+    → at ≤ last → end ≡ min last (first.from - 1) → IsTimelinePart asked epochs at last end
 part_before_first asked [] first at last end rising is none order end_is = cc
 part_before_first asked (p ∷ epochs) first at last end rising is none order end_is =
     let same : first ≡ p = cc in
     part_before asked p epochs at last end rising (first_late p epochs at none) order (end_is ∙ ap (λ q. min last (q.from - 1)) same)
 
 -- and one that was never written
-pub part_never : (asked : Asked) (epochs : List Epoch) (at last : ℕ) → slice_get epochs 0 ≡ None → at ≤ last → IsPart asked epochs at last last
+pub part_never : (asked : Asked) (epochs : List Epoch) (at last : ℕ) → slice_get epochs 0 ≡ None → at ≤ last → IsTimelinePart asked epochs at last last
 part_never asked [] at last none order = record {
   past = order;
   within = omega arith;
@@ -139,7 +139,7 @@ common_none at last order = record {
 }
 
 -- one more timeline
-common_push : (timelines : List (Asked × List Epoch)) (asked : Asked) (epochs : List Epoch) (at last end next : ℕ) → IsCommonTo timelines at last end → IsPart asked epochs at end next
+common_push : (timelines : List (Asked × List Epoch)) (asked : Asked) (epochs : List Epoch) (at last end next : ℕ) → IsCommonTo timelines at last end → IsTimelinePart asked epochs at end next
     → IsCommonTo (timelines ++ (asked, epochs) ∷ []) at last next
 common_push timelines asked epochs at last end next common part =
     let cut : Asked × List Epoch → Bool = λ p. is_cut_for p.0 p.1 (next + 1) in
@@ -159,7 +159,7 @@ common_push timelines asked epochs at last end next common part =
     }
 
 pub common_more : (timelines : List (Asked × List Epoch)) (k : ℕ) (asked : Asked) (epochs : List Epoch) (at last end next : ℕ) → k < length timelines
-    → get_or timelines k (which.All, []) ≡ (asked, epochs) → IsCommonTo (take k timelines) at last end → IsPart asked epochs at end next → IsCommonTo (take (k + 1) timelines) at last next
+    → get_or timelines k (which.All, []) ≡ (asked, epochs) → IsCommonTo (take k timelines) at last end → IsTimelinePart asked epochs at end next → IsCommonTo (take (k + 1) timelines) at last next
 common_more timelines k asked epochs at last end next some is common part =
     rw (take_more timelines k (which.All, []) some) (rw is (common_push (take k timelines) asked epochs at last end next common part))
 

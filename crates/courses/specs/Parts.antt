@@ -35,7 +35,7 @@ pub record IsSteadyFrom (asked : Asked) (epochs : List Epoch) (lo hi : ℕ) : Ty
   pub whole : (t : ℕ) → lo < t → t ≤ hi → is_cut_for asked epochs t ≡ false
 
 -- a part of one timeline begins at tick `at`, and ends with tick `end`: before the next cut, or with the last tick
-pub record IsPart (asked : Asked) (epochs : List Epoch) (at last end : ℕ) : Type 0 where
+pub record IsTimelinePart (asked : Asked) (epochs : List Epoch) (at last end : ℕ) : Type 0 where
   pub past : at ≤ end
   pub within : end ≤ last
   pub steady : IsSteadyFrom asked epochs at end

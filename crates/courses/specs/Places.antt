@@ -1,5 +1,5 @@
 -- The place of a point object while an epoch is in force.
-use Rattle.std.specs.Prelude.{◌≡◌, ℕ, ◌-◌, ◌<◌, nat_le, Bool, false, ◌&&◌, Option, None, Some, option_and_then, List, length, slice_get}
+use Rattle.std.specs.Prelude.{◌≡◌, ℕ, ◌-◌, ◌<◌, nat_le, Bool, false, ◌&&◌, Option, Some, option_and_then, List, length, slice_get}
 use Rattle.std.specs.Option.{option_map, option_map_or}
 use Rattle.fixed_point.specs.declared.number.Point.{Point}
 use Rattle.geometry.specs.Plane.{point}
@@ -7,14 +7,8 @@ use Rattle.motion.specs.Dynamic.{Dynamic, value_at}
 use Rattle.motion.specs.Timeline.{Epoch, cells_of, epoch_at}
 use Rattle.motion.specs.Pieces.{IsLinear}
 use Rattle.motion.specs.Straight.{tells_line}
-use Rattle.motion.specs.declared.cell.Cell.{Cell}
 use Rattle.motion.specs.declared.cell.Cell.TheVariants as cells
-
--- what moves in a cell, None where it rests
-abbrev pub dynamic_of : Cell → Option Dynamic
-dynamic_of (cells.Num n) = None
-dynamic_of (cells.Text w) = None
-dynamic_of (cells.Dyn v) = Some v
+use Rattle.motion.specs.Cells.{dynamic_of}
 
 -- the dynamic attribute of an index, counted from 0: None where the object is absent, or has none there
 abbrev pub dynamic_at : Epoch → ℕ → Option Dynamic

@@ -4,7 +4,7 @@ ghost use Rattle.std.specs.Option.{option_copied};
 ghost use Rattle.tick_set.specs.declared.spans.TheConstants.{LAST_TICK};
 ghost use Rattle.motion.specs.Pieces.{AreSteadyCells, AreSteadyFor};
 ghost use Rattle.motion.specs.Timeline.{epoch_at, AreBegunUpTo, IsRising};
-ghost use Rattle.courses.specs.Parts.{asked_at, asked_each, epochs_of_each, pieces_for, pieces_of_all, AreBegun, IsCommon, IsCommonFor, IsPart};
+ghost use Rattle.courses.specs.Parts.{asked_at, asked_each, epochs_of_each, pieces_for, pieces_of_all, AreBegun, IsCommon, IsCommonFor, IsTimelinePart};
 
 use motion::{Asked, Epoch, Timeline};
 use tick_set::{LAST_TICK, Span};
@@ -149,7 +149,7 @@ fn part_for<'a>(timeline: &'a Timeline, asked: Asked, count: usize, at: u32, las
     requires begun { AreBegunUpTo timeline.now at count }
     requires order { at ≤ last }
     requires tick { last ≤ LAST_TICK }
-    ensures part { IsPart asked.entry timeline.now at last result.end }
+    ensures part { IsTimelinePart asked.entry timeline.now at last result.end }
     ensures epoch { option_copied result.epoch ≡ epoch_at timeline.now at }
     ensures begun { AreBegunUpTo timeline.now result.end count }
 {
@@ -170,7 +170,7 @@ fn end_before_first(asked: Asked, timeline: &Timeline, at: u32, last: u32) -> u3
     requires rising { IsRising timeline.now }
     requires before { epoch_at timeline.now at ≡ None }
     requires order { at ≤ last }
-    ensures part { IsPart asked.entry timeline.now at last result }
+    ensures part { IsTimelinePart asked.entry timeline.now at last result }
     ensures begun { AreBegunUpTo timeline.now result 0 }
 {
     match timeline.epoch(0) {

@@ -33,14 +33,14 @@ use Rattle.database.specs.declared.database.Database.{Database}
 use Rattle.command_text.specs.declared.fault.CommandFault.{CommandFault}
 use Rattle.command_text.specs.declared.fault.CommandFault.TheVariants as stops
 use Rattle.database.specs.declared.change.Change.TheVariants as changes
-use Rattle.database.specs.Attempt.{fault_told, Carries, LacksMemory, Stops, written_name}
+use Rattle.database.specs.Attempt.{fault_told, Carries, MayLackMemory, StopsCommand, written_name}
 use Rattle.line_meaning.specs.Fault.{refusal_by_store, region_refusal}
 use Rattle.line_meaning.specs.Journal.{attribute_of, writes, regions, writes_of, regions_of}
 use Rattle.line_meaning.proofs.JournalLemmas.{world_more, clock_more}
 use Rattle.history.specs.World.{World}
 use Rattle.command_text.specs.Journal.{Accepted, clock, ticks_of}
 use Rattle.database.specs.Keeping.{clock_of, Keeps}
-use Rattle.database.specs.Written.{IsWritten, writes_object}
+use Rattle.database.specs.Written.{WritesOneObject, writes_object}
 
 -- What an accepted command made of the database, from which the rest follows.
 record Makes (c : CommandTree) (old new : Database) : Type 0 where
@@ -68,19 +68,19 @@ keeps_more c old new m journal k =
 -- the store refused, and the database is as before
 stopped_by : (c : CommandTree) (old new : Database) (fault : Option StoreFault) (stop : CommandFault) →
     stop ≡ option_map_or stops.Refused (refusal_by_store (unwrap_or fault store_faults.NoMemory)) stops.NoMemory →
-    fault_told old c ≡ option_and_then refusal_by_store fault → (fault_told old c ≡ None → LacksMemory old c) → new ≡ old → Stops c old new stop
-stopped_by c old new None stop is told lacks same = subst (λ (s : CommandFault). Stops c old new s) (sym is) (lacks told, same)
-stopped_by c old new (Some store_faults.UnknownName) stop is told lacks same = subst (λ (s : CommandFault). Stops c old new s) (sym is) (told, same)
-stopped_by c old new (Some store_faults.NameTaken) stop is told lacks same = subst (λ (s : CommandFault). Stops c old new s) (sym is) (told, same)
-stopped_by c old new (Some store_faults.WrongKind) stop is told lacks same = subst (λ (s : CommandFault). Stops c old new s) (sym is) (told, same)
-stopped_by c old new (Some store_faults.Presence) stop is told lacks same = subst (λ (s : CommandFault). Stops c old new s) (sym is) (told, same)
-stopped_by c old new (Some store_faults.ClassFull) stop is told lacks same = subst (λ (s : CommandFault). Stops c old new s) (sym is) (told, same)
-stopped_by c old new (Some store_faults.StoreFull) stop is told lacks same = subst (λ (s : CommandFault). Stops c old new s) (sym is) (told, same)
-stopped_by c old new (Some store_faults.NoMemory) stop is told lacks same = subst (λ (s : CommandFault). Stops c old new s) (sym is) (lacks told, same)
+    fault_told old c ≡ option_and_then refusal_by_store fault → (fault_told old c ≡ None → MayLackMemory old c) → new ≡ old → StopsCommand c old new stop
+stopped_by c old new None stop is told lacks same = subst (λ (s : CommandFault). StopsCommand c old new s) (sym is) (lacks told, same)
+stopped_by c old new (Some store_faults.UnknownName) stop is told lacks same = subst (λ (s : CommandFault). StopsCommand c old new s) (sym is) (told, same)
+stopped_by c old new (Some store_faults.NameTaken) stop is told lacks same = subst (λ (s : CommandFault). StopsCommand c old new s) (sym is) (told, same)
+stopped_by c old new (Some store_faults.WrongKind) stop is told lacks same = subst (λ (s : CommandFault). StopsCommand c old new s) (sym is) (told, same)
+stopped_by c old new (Some store_faults.Presence) stop is told lacks same = subst (λ (s : CommandFault). StopsCommand c old new s) (sym is) (told, same)
+stopped_by c old new (Some store_faults.ClassFull) stop is told lacks same = subst (λ (s : CommandFault). StopsCommand c old new s) (sym is) (told, same)
+stopped_by c old new (Some store_faults.StoreFull) stop is told lacks same = subst (λ (s : CommandFault). StopsCommand c old new s) (sym is) (told, same)
+stopped_by c old new (Some store_faults.NoMemory) stop is told lacks same = subst (λ (s : CommandFault). StopsCommand c old new s) (sym is) (lacks told, same)
 
 pub store_stopped : (c : CommandTree) (old new : Database) (fault : Option StoreFault) (said : StoreFault) (stop : CommandFault) →
     said ≡ unwrap_or fault store_faults.NoMemory → stop ≡ option_map_or stops.Refused (refusal_by_store said) stops.NoMemory →
-    fault_told old c ≡ option_and_then refusal_by_store fault → (fault_told old c ≡ None → LacksMemory old c) → new ≡ old → Stops c old new stop
+    fault_told old c ≡ option_and_then refusal_by_store fault → (fault_told old c ≡ None → MayLackMemory old c) → new ≡ old → StopsCommand c old new stop
 store_stopped c old new fault said stop is stop-is told lacks same =
     stopped_by c old new fault stop (stop-is ∙ ap (λ f. option_map_or stops.Refused (refusal_by_store f) stops.NoMemory) is) told lacks same
 
@@ -124,7 +124,7 @@ pub store_carries : (c : CommandTree) (write : Write) (d : Database) (new : Cont
     writes_of d.clock c ≡ write ∷ [] → regions_of c ≡ [] → ticks_of c ≡ 0 → fault_told d c ≡ None → d.clock ≤ LAST_TICK → new.last_tick ≡ d.clock →
     GrowsBy d.store new write → undoing.Undoes done.undo d.store new →
     ChangesFrom done.id d.clock (history_of d.store) (history_of new) → position (is_named (written_name c)) new.objects ≡ Some done.id →
-    IsWritten done.id d.clock d.store.objects new.objects → writes_object c ≡ true →
+    WritesOneObject done.id d.clock d.store.objects new.objects → writes_object c ≡ true →
     Carries c d (record { store = new; regions = d.regions; clock = d.clock }) (changes.Object done)
 store_carries c write d new done writes no-region no-ticks accepted in-range last grows undoes changed id written writing = record {
   accepted = accepted;
@@ -210,11 +210,11 @@ region_carries name points d new accepted in-range written is =
 
 -- a region that is judged without memory: the list of regions is full, or nothing refuses it
 pub region_unmade : (name : List ℕ) (points : List Point) (d : Database) → is_some (region_number d.regions name) ≡ false → is_convex points ≡ true →
-    Stops (Tree.Region name points) d d (if nat_le REGION_LIMIT (length d.regions) then stops.Refused refusals.StoreFull else stops.NoMemory)
+    StopsCommand (Tree.Region name points) d d (if nat_le REGION_LIMIT (length d.regions) then stops.Refused refusals.StoreFull else stops.NoMemory)
 region_unmade name points d free convex = judged (nat_le REGION_LIMIT (length d.regions)) refl
   where
     judged : (full : Bool) → nat_le REGION_LIMIT (length d.regions) ≡ full →
-        Stops (Tree.Region name points) d d (if full then stops.Refused refusals.StoreFull else stops.NoMemory)
+        StopsCommand (Tree.Region name points) d d (if full then stops.Refused refusals.StoreFull else stops.NoMemory)
     judged true full = (region_full d.regions name points free convex (grind (arith, nat_tests, full)), refl)
     judged false room = (region_fits d.regions name points free convex (grind (arith, nat_tests, room)), refl)
 

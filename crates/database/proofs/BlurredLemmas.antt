@@ -10,7 +10,7 @@ use Rattle.command_text.specs.declared.fault.CommandFault.{CommandFault}
 use Rattle.command_text.specs.declared.refusal.Refusal.{Refusal}
 use Rattle.command_text.specs.declared.refusal.Refusal.TheVariants as refusals
 use Rattle.ftl_parser.specs.Tree.{QueryTree}
-use Rattle.line_meaning.specs.Blurred.{blurred_refusal, is_barred, is_blurred_crowded, is_blurred_past}
+use Rattle.line_meaning.specs.Blurred.{blurred_refusal, has_not_or_circle, is_blurred_crowded, is_blurred_past}
 use Rattle.line_meaning.specs.FirstFault.{first_blurred_refusal, refusal_if_barred, type_refusal}
 use Rattle.line_meaning.specs.declared.limits.TheConstants.{BLURRED_BINDING_LIMIT, BLURRED_SPAN_LIMIT}
 use Rattle.line_meaning.proofs.RefusalLemmas.{blurred_by_fault}
@@ -33,7 +33,7 @@ pub accepted_span : (w : World) (now span : ℕ) (q : QueryTree) → first_blurr
     (span ≤ SPAN_LIMIT) × (now + span ≤ LAST_TICK)
 accepted_span w now span q accepted =
     let inside : is_blurred_past now span ≡ false =
-    not_past (refusal_if_barred (is_barred q.formula) (type_refusal w q)) (is_blurred_past now span) (is_blurred_crowded w q) accepted in
+    not_past (refusal_if_barred (has_not_or_circle q.formula) (type_refusal w q)) (is_blurred_past now span) (is_blurred_crowded w q) accepted in
     let parts = or_parts (nat_lt BLURRED_SPAN_LIMIT span) (nat_lt LAST_TICK (now + span)) inside in
     (grind (arith, nat_tests, parts.0), grind (arith, nat_tests, parts.1))
 

@@ -17,7 +17,7 @@ use Rattle.command_text.specs.Shape as shape
 use Rattle.command_text.specs.Shape.{IsPrintable}
 use Rattle.command_text.specs.Tree
 use Rattle.command_text.specs.Tree.{CommandTree}
-use Rattle.database.specs.Ready.{IsReady}
+use Rattle.database.specs.Ready.{IsReadyCommand}
 
 given_fits : (g : Given) → shape.IsPrintableGiven g → IsGiven g
 given_fits (givens.Num v) h = h
@@ -29,7 +29,7 @@ sets_fit : (sets : List NamedSet) → AllByRecursion shape.IsSetting sets → Al
 sets_fit [] h = λ k d l. absurd (omega arith)
 sets_fit (set ∷ sets) h = All-cons (λ (set : NamedSet). IsGiven set.given) set sets (given_fits set.given h.0.1) (sets_fit sets h.1)
 
-at_fits : (at : Option Point) → shape.IsAt at → IfSome at (λ p. (unsigned_abs p.x ≤ READ_LIMIT) × (unsigned_abs p.y ≤ READ_LIMIT))
+at_fits : (at : Option Point) → shape.IsAtPoint at → IfSome at (λ p. (unsigned_abs p.x ≤ READ_LIMIT) × (unsigned_abs p.y ≤ READ_LIMIT))
 at_fits None h = tt
 at_fits (Some p) h = h
 
@@ -40,7 +40,7 @@ error_fits : (e : ℤ) → IsUnsigned RADIUS_LIMIT e → unsigned_abs e ≤ RADI
 error_fits (pos n) h = h
 error_fits (negsuc n) h = absurd h
 
-pub is_ready : (c : CommandTree) → IsPrintable c → IsReady c
+pub is_ready : (c : CommandTree) → IsPrintable c → IsReadyCommand c
 is_ready (Tree.Class name capacity point attributes) h = (h.1.1.0.0, h.1.1.0.1, h.1.1.1.1.few)
 is_ready (Tree.Region name points) h = h.1.1.count
 is_ready (Tree.Insert class name place sets) h = change_fits place sets h.1.1.1

@@ -170,14 +170,14 @@ rows_step count row later rest split all =
 
 -- one more line of the nearest
 pub near_step : (s : Contents) (tick : ℕ) (name : List ℕ) (runs : List (ℕ × ℕ)) (row : NearRow) (later rest : List NearRow)
-    (out next whole : List ℕ) → rest ≡ row ∷ later → name ≡ object_name s.objects row.id → runs ≡ (near_rows.told_row row).runs →
+    (out next whole : List ℕ) → rest ≡ row ∷ later → name ≡ object_name s.objects row.id → runs ≡ (near_rows.told_near_row row).runs →
     next ≡ out ++ row_line tick (name ∷ []) runs → out ++ rows_text (catalog_of s) tick (told_near rest) ≡ whole →
     next ++ rows_text (catalog_of s) tick (told_near later) ≡ whole
 near_step s tick name runs row later rest out next whole split named same written so_far =
-    let line : row_line tick (name ∷ []) runs ≡ row_text (catalog_of s) tick (near_rows.told_row row) =
+    let line : row_line tick (name ∷ []) runs ≡ row_text (catalog_of s) tick (near_rows.told_near_row row) =
     λ i. row_line tick ((named ∙ stored_name s row.id) i ∷ []) (same i) in
     ap (λ o. o ++ rows_text (catalog_of s) tick (told_near later)) (written ∙ ap (λ l. out ++ l) line)
-    ∙ append_assoc out (row_text (catalog_of s) tick (near_rows.told_row row)) (rows_text (catalog_of s) tick (told_near later))
+    ∙ append_assoc out (row_text (catalog_of s) tick (near_rows.told_near_row row)) (rows_text (catalog_of s) tick (told_near later))
     ∙ ap (λ rows. out ++ rows_text (catalog_of s) tick (told_near rows)) (sym split)
     ∙ so_far
 

@@ -9,7 +9,7 @@ use Rattle.std.proofs.lemmas.List.{length-append}
 use Rattle.std.proofs.lemmas.List.Quantifiers.{position-Some}
 use Rattle.std.proofs.lemmas.Option.{same_Some, slice_get-get_or}
 use Rattle.exact.proofs.Lists.{bytes_eq_refl}
-use Rattle.motion.specs.Timeline.{Epoch, put}
+use Rattle.motion.specs.Timeline.{Epoch, last_begun, put}
 use Rattle.motion.specs.declared.cell.NamedSet.{NamedSet}
 use Rattle.motion.specs.declared.cell.Place.{Place}
 use Rattle.history.specs.Catalog.{attributes_of_class, class_of, object_of}
@@ -19,7 +19,7 @@ use Rattle.object_store.specs.Effects.{after_insert, after_remove, after_update,
 use Rattle.object_store.proofs.Lists.{index_in, index_is, is_some-find}
 use Rattle.object_store.proofs.UndoLemmas.{at_suc, at_zero, first_at, put_there}
 use Rattle.object_store.proofs.WriteLemmas.{index-put_named, index_last}
-use Rattle.database.specs.Written.{IsWritten, last_begun}
+use Rattle.database.specs.Written.{WritesOneObject}
 
 abbrev with_epoch : Epoch → StoredObject → StoredObject
 with_epoch p o = record o { epochs = put o.epochs p }
@@ -58,7 +58,7 @@ put_others name p (x ∷ xs) (suc index) (suc i) first other =
     ∙ put_others name p xs index i later.1 (before_it i index other)
 
 known_written : (name : List ℕ) (p : Epoch) (objects : List StoredObject) (id : ℕ) → position (is_named name) (put_named name p objects) ≡ Some id →
-    IsWritten id p.from objects (put_named name p objects)
+    WritesOneObject id p.from objects (put_named name p objects)
 known_written name p objects id at =
     let d : StoredObject = record { name = name; class = 0; epochs = [] } in
     let first = sym (index-put_named name p objects) ∙ at in
@@ -81,7 +81,7 @@ pushed_others (y ∷ ys) x zero other = refl
 pushed_others (y ∷ ys) x (suc i) other = pushed_others ys x i (before_it i (length ys) other)
 
 new_written : (x : StoredObject) (p : Epoch) (objects : List StoredObject) (id : ℕ) → x.epochs ≡ p ∷ [] → find (is_named x.name) objects ≡ None →
-    position (is_named x.name) (objects ++ x ∷ []) ≡ Some id → IsWritten id p.from objects (objects ++ x ∷ [])
+    position (is_named x.name) (objects ++ x ∷ []) ≡ Some id → WritesOneObject id p.from objects (objects ++ x ∷ [])
 new_written x p objects id epochs new at =
     let last : length objects ≡ id =
     same_Some (length objects) id
@@ -103,7 +103,7 @@ none_found (Some x) none = let e : true ≡ false = none in cc
 written_if : (there : Bool) (name : List ℕ) (class : ℕ) (p : Epoch) (objects : List StoredObject) (id : ℕ) →
     list_any (is_named name) objects ≡ there →
     position (is_named name) (if there then put_named name p objects else (objects ++ record { name = name; class = class; epochs = p ∷ [] } ∷ [])) ≡ Some id →
-    IsWritten id p.from objects (if there then put_named name p objects else (objects ++ record { name = name; class = class; epochs = p ∷ [] } ∷ []))
+    WritesOneObject id p.from objects (if there then put_named name p objects else (objects ++ record { name = name; class = class; epochs = p ∷ [] } ∷ []))
 written_if true name class p objects id there at = known_written name p objects id at
 written_if false name class p objects id there at =
     new_written (record { name = name; class = class; epochs = p ∷ [] }) p objects id refl
@@ -111,7 +111,7 @@ written_if false name class p objects id there at =
 
 -- an epoch of the object of a name, by a store that has it
 abbrev pub IsEpochOf : (name : List ℕ) (now id : ℕ) (old new : List StoredObject) → Type 0
-IsEpochOf name now id old new = position (is_named name) new ≡ Some id → IsWritten id now old new
+IsEpochOf name now id old new = position (is_named name) new ≡ Some id → WritesOneObject id now old new
 
 objects_if : (there : Bool) (s : Contents) (name : List ℕ) (class : ℕ) (p : Epoch) →
     (if there then with_epoch_of s name p else with_object s class name p).objects
@@ -124,7 +124,7 @@ pub insert_writes : (s : Contents) (now : ℕ) (class name : List ℕ) (place : 
 insert_writes s now class name place sets id at =
     let p : Epoch = record { from = now; cells = Some (inserted now (attributes_of_class (class_of (catalog_of s) class)) place sets) } in
     let same = objects_if (list_any (is_named name) s.objects) s name (number_or_first s.classes class) p in
-    subst (λ (new : List StoredObject). IsWritten id now s.objects new) (sym same)
+    subst (λ (new : List StoredObject). WritesOneObject id now s.objects new) (sym same)
     (written_if (list_any (is_named name) s.objects) name (number_or_first s.classes class) p s.objects id refl
     (ap (position (is_named name)) (sym same) ∙ at))
 
@@ -139,6 +139,6 @@ remove_writes s now name id at = known_written name (record { from = now; cells 
 
 -- as the store answers
 pub written_by : (name : List ℕ) (now id : ℕ) (old new after : List StoredObject) → IsEpochOf name now id old after → new ≡ after →
-    position (is_named name) new ≡ Some id → IsWritten id now old new
+    position (is_named name) new ≡ Some id → WritesOneObject id now old new
 written_by name now id old new after writes same at =
-    subst (λ (objects : List StoredObject). IsWritten id now old objects) (sym same) (writes (ap (position (is_named name)) (sym same) ∙ at))
+    subst (λ (objects : List StoredObject). WritesOneObject id now old objects) (sym same) (writes (ap (position (is_named name)) (sym same) ∙ at))

@@ -20,7 +20,7 @@ use Rattle.database.specs.declared.change.Change.TheVariants as changes
 use Rattle.database.specs.declared.database.Database.{Database}
 use Rattle.database.specs.Keeping.{clock_of, world_of_database, Keeps}
 use Rattle.database.specs.Taking.{TakesBackChange}
-use Rattle.database.specs.Written.{Writes}
+use Rattle.database.specs.Written.{WritesByCommand}
 
 -- the refusal of a command by what is kept
 abbrev pub fault_told : Database → CommandTree → Option Refusal
@@ -51,23 +51,23 @@ pub record Carries (c : CommandTree) (old new : Database) (change : Change) : Ty
   pub keeps : (journal : List Accepted) → Keeps journal old → Keeps (journal ++ (clock_of old, c) ∷ []) new
   pub undoes : TakesBackChange change old new
   pub changes : ChangesWorld c change old new
-  pub writes : Writes c change old new
+  pub writes : WritesByCommand c change old new
 
 -- What want of memory says of a command: nothing refuses it. The attributes of a class are copied before it is judged,
 -- and the clock moves without memory.
-abbrev pub LacksMemory : Database → CommandTree → Type 0
-LacksMemory d (Tree.Class name capacity point attributes) = Unit {0}
-LacksMemory d (Tree.Tick ticks) = ⊥
-LacksMemory d c = fault_told d c ≡ None
+abbrev pub MayLackMemory : Database → CommandTree → Type 0
+MayLackMemory d (Tree.Class name capacity point attributes) = Unit {0}
+MayLackMemory d (Tree.Tick ticks) = ⊥
+MayLackMemory d c = fault_told d c ≡ None
 
 -- the command was stopped, and nothing changed
-abbrev pub Stops : CommandTree → Database → Database → CommandFault → Type 0
-Stops c old new (faults.Refused r) = (fault_told old c ≡ Some r) × (new ≡ old)
-Stops c old new faults.NoMemory = LacksMemory old c × (new ≡ old)
+abbrev pub StopsCommand : CommandTree → Database → Database → CommandFault → Type 0
+StopsCommand c old new (faults.Refused r) = (fault_told old c ≡ Some r) × (new ≡ old)
+StopsCommand c old new faults.NoMemory = MayLackMemory old c × (new ≡ old)
 
 abbrev pub Attempts : CommandTree → Database → Database → Result Change CommandFault → Type 0
 Attempts c old new (Ok change) = Carries c old new change
-Attempts c old new (Err fault) = Stops c old new fault
+Attempts c old new (Err fault) = StopsCommand c old new fault
 
 -- why there is no polygon of some points
 abbrev pub IsFlat : List Point → CommandFault → Type 0

@@ -8,16 +8,16 @@ use Rattle.ftl_parser.specs.Lawful.{IsLawful}
 use Rattle.command_text.specs.Tree
 use Rattle.command_text.specs.Tree.{CommandTree}
 
-abbrev pub IsReady : CommandTree → Type 0
-IsReady (Tree.Class name capacity point attributes) = (0 < capacity) × (capacity ≤ CAPACITY_LIMIT) × (length attributes ≤ ATTRIBUTE_LIMIT)
-IsReady (Tree.Region name points) = (LEAST_VERTICES ≤ length points) × (length points ≤ VERTEX_LIMIT)
-IsReady (Tree.Insert class name place sets) = AreGiven place sets
-IsReady (Tree.Update name place sets) = AreGiven place sets
-IsReady (Tree.Tick ticks) = ticks ≤ LAST_TICK
-IsReady (Tree.Ask span q) = (span ≤ LAST_TICK) × IsLawful q
-IsReady (Tree.Watch name span q) = (span ≤ LAST_TICK) × IsLawful q
-IsReady (Tree.Keep name span q) = (span ≤ LAST_TICK) × IsLawful q
-IsReady (Tree.Nearest span k object class) = span ≤ LAST_TICK
-IsReady (Tree.Must error span q) = (unsigned_abs error ≤ RADIUS_LIMIT) × (span ≤ LAST_TICK) × IsLawful q
-IsReady (Tree.May error span q) = (unsigned_abs error ≤ RADIUS_LIMIT) × (span ≤ LAST_TICK) × IsLawful q
-IsReady _ = Unit {0}
+abbrev pub IsReadyCommand : CommandTree → Type 0
+IsReadyCommand (Tree.Class name capacity point attributes) = (0 < capacity) × (capacity ≤ CAPACITY_LIMIT) × (length attributes ≤ ATTRIBUTE_LIMIT)
+IsReadyCommand (Tree.Region name points) = (LEAST_VERTICES ≤ length points) × (length points ≤ VERTEX_LIMIT)
+IsReadyCommand (Tree.Insert class name place sets) = AreGiven place sets
+IsReadyCommand (Tree.Update name place sets) = AreGiven place sets
+IsReadyCommand (Tree.Tick ticks) = ticks ≤ LAST_TICK
+IsReadyCommand (Tree.Ask span q) = (span ≤ LAST_TICK) × IsLawful q
+IsReadyCommand (Tree.Watch name span q) = (span ≤ LAST_TICK) × IsLawful q
+IsReadyCommand (Tree.Keep name span q) = (span ≤ LAST_TICK) × IsLawful q
+IsReadyCommand (Tree.Nearest span k object class) = span ≤ LAST_TICK
+IsReadyCommand (Tree.Must error span q) = (unsigned_abs error ≤ RADIUS_LIMIT) × (span ≤ LAST_TICK) × IsLawful q
+IsReadyCommand (Tree.May error span q) = (unsigned_abs error ≤ RADIUS_LIMIT) × (span ≤ LAST_TICK) × IsLawful q
+IsReadyCommand _ = Unit {0}

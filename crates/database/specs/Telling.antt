@@ -17,7 +17,7 @@ use Rattle.reply_text.specs.Begins.{Begins}
 use Rattle.database.specs.declared.database.Database.{Database}
 use Rattle.database.specs.Attempt.{fault_told}
 use Rattle.database.specs.Keeping.{clock_of, world_of_database}
-use Rattle.database.specs.Ready.{IsReady}
+use Rattle.database.specs.Ready.{IsReadyCommand}
 
 -- it is stopped by its refusal, or wants memory where it has none
 abbrev pub IsStoppedBy : Option Refusal → CommandFault → Type 0
@@ -25,16 +25,16 @@ IsStoppedBy refusal (faults.Refused r) = refusal ≡ Some r
 IsStoppedBy refusal faults.NoMemory = refusal ≡ None
 
 -- by its refusal and its lines
-abbrev pub Answers : Option Refusal → (lines before after : List ℕ) → Result (Unit {0}) CommandFault → Type 0
-Answers refusal lines before after (Ok u) = (refusal ≡ None) × (after ≡ before ++ lines)
-Answers refusal lines before after (Err fault) = IsStoppedBy refusal fault
+abbrev pub RefusesOrWrites : Option Refusal → (lines before after : List ℕ) → Result (Unit {0}) CommandFault → Type 0
+RefusesOrWrites refusal lines before after (Ok u) = (refusal ≡ None) × (after ≡ before ++ lines)
+RefusesOrWrites refusal lines before after (Err fault) = IsStoppedBy refusal fault
 
 abbrev pub Tells : Database → CommandTree → List ℕ → List ℕ → Result (Unit {0}) CommandFault → Type 0
-Tells d c = Answers (fault_told d c) (answer_lines (world_of_database d) (clock_of d) c)
+Tells d c = RefusesOrWrites (fault_told d c) (answer_lines (world_of_database d) (clock_of d) c)
 
 -- the same of a query
 abbrev pub Asks : World → ℕ → ℕ → QueryTree → List ℕ → List ℕ → Result (Unit {0}) CommandFault → Type 0
-Asks w now span q = Answers (ask_refusal w now span q) (rows_text w.history.catalog now (rows_asked w now span q))
+Asks w now span q = RefusesOrWrites (ask_refusal w now span q) (rows_text w.history.catalog now (rows_asked w now span q))
 
 -- a refusal, and no want of memory
 abbrev pub IsRefused : CommandFault → Type 0
@@ -47,7 +47,7 @@ IsRefused faults.NoMemory = ⊥
 pub record IsToTell (c : CommandTree) : Type 0 where
   pub telling : role_of c ≡ Telling
   pub other : is_on_queries c ≡ false
-  pub ready : IsReady c
+  pub ready : IsReadyCommand c
 
 -- a query that is asked from now on, for so many ticks more
 pub record IsToAsk (d : Database) (span : ℕ) (q : QueryTree) : Type 0 where

@@ -3,7 +3,7 @@ ghost use Rattle.std.specs.Prelude.{◌≡◌, ◌+◌, ◌≤◌, ◌++◌, uns
 ghost use Rattle.tick_set.specs.declared.spans.TheConstants.{LAST_TICK, SPAN_LIMIT};
 ghost use Rattle.exact.specs.First.{or_else};
 ghost use Rattle.formula.specs.Resolved.{IsResolved};
-ghost use Rattle.formula.specs.Tree.{query_view as resolved_view};
+ghost use Rattle.formula.specs.Tree.{resolved_view};
 ghost use Rattle.ftl_parser.specs.Tree.{query_view, view};
 ghost use Rattle.geometry.specs.declared.limits.TheConstants.{RADIUS_LIMIT};
 ghost use Rattle.meaning.specs.Answer.{answer_where};
@@ -13,12 +13,12 @@ ghost use Rattle.meaning.specs.Reads.{query_reads, sizes_of};
 ghost use Rattle.object_store.specs.Contents.{catalog_of};
 ghost use Rattle.worlds.specs.Blurred.{blurred};
 ghost use Rattle.line_meaning.specs.Ask.{query_in};
-ghost use Rattle.line_meaning.specs.Blurred.{blurred_refusal, is_barred, is_blurred_past, rows_blurred};
+ghost use Rattle.line_meaning.specs.Blurred.{blurred_refusal, has_not_or_circle, is_blurred_past, rows_blurred};
 ghost use Rattle.line_meaning.specs.FirstFault.{blurred_size_refusal, first_blurred_refusal, refusal_if_barred};
 ghost use Rattle.line_meaning.specs.Looks.{most_reads};
 ghost use Rattle.line_meaning.specs.Reply.{rows_text};
 ghost use Rattle.database.specs.Keeping.{TellsAcceptedWrites, world_of_database};
-ghost use Rattle.database.specs.Telling.{Answers, IsStoppedBy, IsToAsk, RefusesFreely, TakesAtMost, tally};
+ghost use Rattle.database.specs.Telling.{IsStoppedBy, IsToAsk, RefusesFreely, RefusesOrWrites, TakesAtMost, tally};
 
 use crate::asking::{most_bindings, refusal_by_type};
 use crate::database::Database;
@@ -57,7 +57,7 @@ fn blur_of(sure: bool, error: Fix) -> Blur
 
 /// Whether a formula has a NOT or a circle.
 fn is_barred(formula: &Formula) -> bool
-    ensures { result ≡ is_barred (view formula.now) }
+    ensures { result ≡ has_not_or_circle (view formula.now) }
 {
     has_not(formula) || has_circle(formula)
 }
@@ -110,7 +110,7 @@ fn refusal_of(
 ) -> Option<Refusal>
     requires now { database.now.clock ≤ LAST_TICK }
     requires span { span ≤ LAST_TICK }
-    ensures { result ≡ or_else (refusal_if_barred (is_barred (query_view query.now).formula) by_type)
+    ensures { result ≡ or_else (refusal_if_barred (has_not_or_circle (query_view query.now).formula) by_type)
         (blurred_size_refusal (world_of_database database.now) database.now.clock span (query_view query.now)) }
 {
     let first = refusal_if_barred(is_barred(&query.formula), by_type);
@@ -194,7 +194,7 @@ pub(crate) fn tell_blurred<L: Ledger, M: Ledger>(
     requires query { IsToAsk database.now asked.now.span (query_view asked.now.query.now) }
     requires error { unsigned_abs asked.now.error ≤ RADIUS_LIMIT }
     requires accepted { TellsAcceptedWrites database.now }
-    ensures answered { Answers
+    ensures answered { RefusesOrWrites
         (blurred_refusal (world_of_database database.now) database.now.clock asked.now.span (query_view asked.now.query.now))
         (rows_text (catalog_of database.now.store) database.now.clock
         (rows_blurred asked.now.sure (world_of_database database.now) database.now.clock asked.now.span asked.now.error (query_view asked.now.query.now)))

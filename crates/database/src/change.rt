@@ -15,7 +15,7 @@ ghost use Rattle.command_text.specs.Journal.{is_kept};
 ghost use Rattle.line_meaning.specs.Role.{is_on_queries};
 ghost use Rattle.database.specs.Attempt.{Attempts, IsFlat};
 ghost use Rattle.database.specs.Keeping.{IsTimely};
-ghost use Rattle.database.specs.Ready.{IsReady};
+ghost use Rattle.database.specs.Ready.{IsReadyCommand};
 ghost use Rattle.database.specs.Taking.{IsLast, without};
 
 use crate::database::Database;
@@ -104,7 +104,7 @@ fn region(
     name: Word,
     points: &[Point],
 ) -> Result<Change, CommandFault>
-    requires ready { IsReady (Tree.Region name points.now) }
+    requires ready { IsReadyCommand (Tree.Region name points.now) }
     requires timely { IsTimely database.old }
     ensures { Attempts (Tree.Region name points.now) database.old database.new result }
 {
@@ -138,7 +138,7 @@ impl Database {
     pub fn attempt(&mut self, alloc: Global, command: &Command) -> Result<Change, CommandFault>
         requires kept { is_kept (command_view command.now) ≡ true }
         requires data { is_on_queries (command_view command.now) ≡ false }
-        requires ready { IsReady (command_view command.now) }
+        requires ready { IsReadyCommand (command_view command.now) }
         requires timely { IsTimely self.old }
         ensures { Attempts (command_view command.now) self.old self.new result }
     {

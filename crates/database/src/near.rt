@@ -8,7 +8,7 @@ ghost use Rattle.line_meaning.specs.Near.{has_places, is_near_past, is_near_unkn
 ghost use Rattle.line_meaning.specs.Reply.{rows_text};
 ghost use Rattle.database.specs.Keeping.{world_of_database};
 ghost use Rattle.database.specs.Near.{refusal_of_found};
-ghost use Rattle.database.specs.Telling.{Answers, RefusesFreely, TakesAtMost, tally};
+ghost use Rattle.database.specs.Telling.{RefusesFreely, RefusesOrWrites, TakesAtMost, tally};
 
 use crate::database::Database;
 use crate::rows::push_near;
@@ -125,7 +125,7 @@ pub(crate) fn tell_nearest<L: Ledger, M: Ledger>(
 ) -> Result<(), CommandFault>
     requires span { sought.now.span ≤ LAST_TICK }
     requires in_range { database.now.clock ≤ LAST_TICK }
-    ensures answered { Answers
+    ensures answered { RefusesOrWrites
         (near_refusal (catalog_of database.now.store) database.now.clock sought.now.span sought.now.object.now sought.now.class.now)
         (rows_text (catalog_of database.now.store) database.now.clock
         (rows_near (world_of_database database.now) database.now.clock sought.now.span sought.now.k sought.now.object.now sought.now.class.now))

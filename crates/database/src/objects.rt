@@ -2,7 +2,7 @@
 ghost use Rattle.std.specs.Prelude.{◌≡◌, ◌<◌, ◌≤◌, ◌++◌, length, map, IfOk, IfErr, OnOk, OnErr};
 ghost use Rattle.command_text.specs.Tree as Tree;
 ghost use Rattle.line_meaning.specs.Journal.{attribute_of};
-ghost use Rattle.database.specs.Ready.{IsReady};
+ghost use Rattle.database.specs.Ready.{IsReadyCommand};
 ghost use Rattle.database.specs.Attempt.{Attempts};
 ghost use Rattle.database.specs.Keeping.{IsTimely};
 
@@ -39,7 +39,7 @@ pub(crate) fn class(
     point: bool,
     attrs: &Attributes,
 ) -> Result<Change, CommandFault>
-    requires ready { IsReady (Tree.Class name capacity point attrs.now) }
+    requires ready { IsReadyCommand (Tree.Class name capacity point attrs.now) }
     requires timely { IsTimely database.old }
     ensures { Attempts (Tree.Class name capacity point attrs.now) database.old database.new result }
 {
@@ -58,7 +58,7 @@ pub(crate) fn insert(
     place: &Place,
     sets: &[NamedSet],
 ) -> Result<Change, CommandFault>
-    requires ready { IsReady (Tree.Insert class.now name.now place.now sets.now) }
+    requires ready { IsReadyCommand (Tree.Insert class.now name.now place.now sets.now) }
     requires timely { IsTimely database.old }
     ensures { Attempts (Tree.Insert class.now name.now place.now sets.now) database.old database.new result }
 {
@@ -78,7 +78,7 @@ pub(crate) fn update(
     place: &Place,
     sets: &[NamedSet],
 ) -> Result<Change, CommandFault>
-    requires ready { IsReady (Tree.Update name.now place.now sets.now) }
+    requires ready { IsReadyCommand (Tree.Update name.now place.now sets.now) }
     requires timely { IsTimely database.old }
     ensures { Attempts (Tree.Update name.now place.now sets.now) database.old database.new result }
 {

@@ -13,7 +13,7 @@ use Rattle.tick_set.specs.declared.spans.Span.{Span}
 use Rattle.tick_set.specs.declared.spans.Window.{Window}
 use Rattle.distance_crossing.proofs.Chords.{keeps_distance}
 use Rattle.distance_crossing.proofs.RunLists.{runs_by}
-use Rattle.distance_crossing.specs.NearTicks.{is_near}
+use Rattle.distance_crossing.specs.NearTicks.{is_near_at}
 
 -- ---- values
 none_below : (v s : ℤ) (k first : ℕ) → v ≡ s → int_le v (s -ℤ pos 1) ≡ (nat_le first k && nat_lt k first)
@@ -107,11 +107,11 @@ module _ (m : Relative) (s : ℤ) (first end : ℕ) (most : (k : ℕ) → first 
 
 -- ---- the same by the tick
 module _ (m : Relative) (w : Window) (s : ℤ) (at_most : Option Span) (span : Span)
-    (h : IsRuns (is_near m s w) (option_to_list at_most)) (is : at_most ≡ Some span) where
-  in_span : (t : ℕ) → within span.lo span.hi t ≡ is_near m s w t
+    (h : IsRuns (is_near_at m s w) (option_to_list at_most)) (is : at_most ≡ Some span) where
+  in_span : (t : ℕ) → within span.lo span.hi t ≡ is_near_at m s w t
   in_span t =
-      let P : Option Span → Type 0 = λ o. spans_have (option_to_list o) t ≡ is_near m s w t in
-      let had : (within span.lo span.hi t || false) ≡ is_near m s w t = subst P is (h.ticks t) in
+      let P : Option Span → Type 0 = λ o. spans_have (option_to_list o) t ≡ is_near_at m s w t in
+      let had : (within span.lo span.hi t || false) ≡ is_near_at m s w t = subst P is (h.ticks t) in
       grind (arith, had)
 
   ends_inside : (within w.lo w.hi span.lo ≡ true) × (within w.lo w.hi span.hi ≡ true)
@@ -141,7 +141,7 @@ module _ (m : Relative) (w : Window) (s : ℤ) (at_most : Option Span) (span : S
 
   module _ (from until : ℕ) (after : span.lo - w.lo ≤ from) (before : until ≤ span.hi - w.lo + 1)
       (below : (k : ℕ) → span.lo - w.lo ≤ k → k ≤ span.hi - w.lo → int_le (squared_distance_at m k) (s -ℤ pos 1) ≡ (nat_le from k && nat_lt k until)) where
-    in_stretch : (t : ℕ) → within span.lo span.hi t ≡ true → (nat_le (w.lo + from) t && nat_lt t (w.lo + until)) ≡ is_near m (s -ℤ pos 1) w t
+    in_stretch : (t : ℕ) → within span.lo span.hi t ≡ true → (nat_le (w.lo + from) t && nat_lt t (w.lo + until)) ≡ is_near_at m (s -ℤ pos 1) w t
     in_stretch t e =
         let low = span_from in
         let bounds = within_parts span.lo span.hi t e in
@@ -149,7 +149,7 @@ module _ (m : Relative) (w : Window) (s : ℤ) (at_most : Option Span) (span : S
         let value = below (t - w.lo) (omega (arith, bounds.0)) (omega (arith, bounds.1)) in
         grind (arith, nat_tests, value, here, bounds.0)
 
-    out_of_stretch : (t : ℕ) → within span.lo span.hi t ≡ false → (nat_le (w.lo + from) t && nat_lt t (w.lo + until)) ≡ is_near m (s -ℤ pos 1) w t
+    out_of_stretch : (t : ℕ) → within span.lo span.hi t ≡ false → (nat_le (w.lo + from) t && nat_lt t (w.lo + until)) ≡ is_near_at m (s -ℤ pos 1) w t
     out_of_stretch t e =
         let low = span_from in
         let order : span.lo ≤ span.hi = span.ordered in
@@ -157,7 +157,7 @@ module _ (m : Relative) (w : Window) (s : ℤ) (at_most : Option Span) (span : S
         out ∙ sym (not_near (within w.lo w.hi t) (squared_distance_at m (t - w.lo)) s (sym (in_span t) ∙ e))
 
     pub below_runs : (result : Option Span) → IsRuns (λ t. nat_le (w.lo + from) t && nat_lt t (w.lo + until)) (option_to_list result)
-        → IsRuns (is_near m (s -ℤ pos 1) w) (option_to_list result)
+        → IsRuns (is_near_at m (s -ℤ pos 1) w) (option_to_list result)
     below_runs result k =
         runs_by _ _ _ k (λ t. elim (cases_Bool (within span.lo span.hi t)) [
           | inl e ↦ in_stretch t e

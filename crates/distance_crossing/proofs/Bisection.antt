@@ -10,15 +10,15 @@ use Rattle.tick_set.specs.Runs.{IsRuns}
 use Rattle.tick_set.specs.Ticks.{within}
 use Rattle.tick_set.specs.declared.spans.Span.{Span}
 use Rattle.tick_set.specs.declared.spans.Window.{Window}
-use Rattle.distance_crossing.specs.Ends.{IsLeft, IsRight}
+use Rattle.distance_crossing.specs.Ends.{BracketsFirst, BracketsLast}
 
 -- ---- the first number
-pub left_near : (f : ℕ → ℤ) (limit : ℤ) (nearest low high middle : ℕ) → IsLeft f limit nearest low high → low ≤ middle → middle ≤ high
-    → f middle ≤ℤ limit → IsLeft f limit nearest low middle
+pub left_near : (f : ℕ → ℤ) (limit : ℤ) (nearest low high middle : ℕ) → BracketsFirst f limit nearest low high → low ≤ middle → middle ≤ high
+    → f middle ≤ℤ limit → BracketsFirst f limit nearest low middle
 left_near f limit nearest low high middle h l m near = record { ordered = l; bound = omega (arith, h.bound); near = near; far = h.far }
 
-pub left_far : (f : ℕ → ℤ) (limit : ℤ) (nearest low high middle : ℕ) → FallsTo f nearest → IsLeft f limit nearest low high → middle < high
-    → limit <ℤ f middle → IsLeft f limit nearest (middle + 1) high
+pub left_far : (f : ℕ → ℤ) (limit : ℤ) (nearest low high middle : ℕ) → FallsTo f nearest → BracketsFirst f limit nearest low high → middle < high
+    → limit <ℤ f middle → BracketsFirst f limit nearest (middle + 1) high
 left_far f limit nearest low high middle fall h m far = record {
   ordered = omega arith;
   bound = h.bound;
@@ -28,7 +28,7 @@ left_far f limit nearest low high middle fall h m far = record {
 
 -- round the first by one value: past a number that is above the limit, at the next number, and at a number with none at most the limit before it
 pub left_past : (f : ℕ → ℤ) (limit : ℤ) (nearest k low : ℕ) → FallsTo f nearest → f nearest ≤ℤ limit → k < nearest → limit <ℤ f k → low ≡ k + 1
-    → IsLeft f limit nearest low nearest
+    → BracketsFirst f limit nearest low nearest
 left_past f limit nearest k low fall near l far e = record {
   ordered = omega arith;
   bound = omega arith;
@@ -37,12 +37,12 @@ left_past f limit nearest k low fall near l far e = record {
 }
 
 pub left_next : (f : ℕ → ℤ) (limit : ℤ) (nearest k : ℕ) → FallsTo f nearest → f nearest ≤ℤ limit → k < nearest → limit <ℤ f k → f (k + 1) ≤ℤ limit
-    → IsLeft f limit nearest (k + 1) (k + 1)
+    → BracketsFirst f limit nearest (k + 1) (k + 1)
 left_next f limit nearest k fall near l far next =
     left_near f limit nearest (k + 1) nearest (k + 1) (left_past f limit nearest k (k + 1) fall near l far (omega arith)) (omega arith) (omega arith) next
 
 pub left_exact : (f : ℕ → ℤ) (limit : ℤ) (nearest k : ℕ) → FallsTo f nearest → k ≤ nearest → f k ≤ℤ limit → (0 < k → limit <ℤ f (k - 1))
-    → IsLeft f limit nearest k k
+    → BracketsFirst f limit nearest k k
 left_exact f limit nearest k fall l near far = record {
   ordered = omega arith;
   bound = l;
@@ -50,7 +50,7 @@ left_exact f limit nearest k fall l near far = record {
   far = λ i m. let at = far (omega arith) in let before = falls f nearest fall i (k - 1) (omega arith) (omega arith) in omega (arith, ints);
 }
 
-pub left_found : (f : ℕ → ℤ) (limit : ℤ) (nearest low high : ℕ) → FallsTo f nearest → IsLeft f limit nearest low high → high ≤ low
+pub left_found : (f : ℕ → ℤ) (limit : ℤ) (nearest low high : ℕ) → FallsTo f nearest → BracketsFirst f limit nearest low high → high ≤ low
     → (k : ℕ) → k ≤ nearest → int_le (f k) limit ≡ nat_le high k
 left_found f limit nearest low high fall h m k l =
     ⊎_elim
@@ -59,12 +59,12 @@ left_found f limit nearest low high fall h m k l =
     (cases_lt k high)
 
 -- ---- the last number
-pub right_near : (f : ℕ → ℤ) (limit : ℤ) (nearest last low high middle : ℕ) → IsRight f limit nearest last low high → low ≤ middle → middle ≤ high
-    → f middle ≤ℤ limit → IsRight f limit nearest last middle high
+pub right_near : (f : ℕ → ℤ) (limit : ℤ) (nearest last low high middle : ℕ) → BracketsLast f limit nearest last low high → low ≤ middle → middle ≤ high
+    → f middle ≤ℤ limit → BracketsLast f limit nearest last middle high
 right_near f limit nearest last low high middle h l m near = record { from = omega (arith, h.from); ordered = m; bound = h.bound; near = near; far = h.far }
 
-pub right_far : (f : ℕ → ℤ) (limit : ℤ) (nearest last low high middle : ℕ) → RisesIn f nearest last → IsRight f limit nearest last low high → low < middle → middle ≤ high
-    → limit <ℤ f middle → IsRight f limit nearest last low (middle - 1)
+pub right_far : (f : ℕ → ℤ) (limit : ℤ) (nearest last low high middle : ℕ) → RisesIn f nearest last → BracketsLast f limit nearest last low high → low < middle → middle ≤ high
+    → limit <ℤ f middle → BracketsLast f limit nearest last low (middle - 1)
 right_far f limit nearest last low high middle rise h m top far =
     let from = h.from in
     record {
@@ -77,7 +77,7 @@ right_far f limit nearest last low high middle rise h m top far =
 
 -- round the last by one value
 pub right_past : (f : ℕ → ℤ) (limit : ℤ) (nearest last k high : ℕ) → RisesIn f nearest last → f nearest ≤ℤ limit → nearest < k → k ≤ last → limit <ℤ f k → high + 1 ≡ k
-    → IsRight f limit nearest last nearest high
+    → BracketsLast f limit nearest last nearest high
 right_past f limit nearest last k high rise near l m far e = record {
   from = omega arith;
   ordered = omega arith;
@@ -87,12 +87,12 @@ right_past f limit nearest last k high rise near l m far e = record {
 }
 
 pub right_next : (f : ℕ → ℤ) (limit : ℤ) (nearest last k high : ℕ) → RisesIn f nearest last → f nearest ≤ℤ limit → nearest < k → k ≤ last → limit <ℤ f k → high + 1 ≡ k
-    → f high ≤ℤ limit → IsRight f limit nearest last high high
+    → f high ≤ℤ limit → BracketsLast f limit nearest last high high
 right_next f limit nearest last k high rise near l m far e next =
     right_near f limit nearest last nearest high high (right_past f limit nearest last k high rise near l m far e) (omega arith) (omega arith) next
 
 pub right_exact : (f : ℕ → ℤ) (limit : ℤ) (nearest last k : ℕ) → RisesIn f nearest last → nearest ≤ k → k ≤ last → f k ≤ℤ limit → (k < last → limit <ℤ f (k + 1))
-    → IsRight f limit nearest last k k
+    → BracketsLast f limit nearest last k k
 right_exact f limit nearest last k rise l m near far = record {
   from = l;
   ordered = omega arith;
@@ -101,7 +101,7 @@ right_exact f limit nearest last k rise l m near far = record {
   far = λ i n b. let at = far (omega arith) in let after = rises f nearest last rise (k + 1) i (omega arith) (omega arith) b in omega (arith, ints);
 }
 
-pub right_found : (f : ℕ → ℤ) (limit : ℤ) (nearest last low high : ℕ) → RisesIn f nearest last → IsRight f limit nearest last low high → high ≤ low
+pub right_found : (f : ℕ → ℤ) (limit : ℤ) (nearest last low high : ℕ) → RisesIn f nearest last → BracketsLast f limit nearest last low high → high ≤ low
     → (k : ℕ) → nearest ≤ k → k ≤ last → int_le (f k) limit ≡ nat_le k low
 right_found f limit nearest last low high rise h m k l n =
     ⊎_elim

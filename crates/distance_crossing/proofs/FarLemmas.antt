@@ -20,7 +20,7 @@ use Rattle.tick_set.specs.Ticks.{within}
 use Rattle.tick_set.specs.declared.spans.Span.{Span}
 use Rattle.tick_set.specs.declared.spans.Window.{Window}
 use Rattle.distance_crossing.specs.Far.{are_past, pass_by, stays_past}
-use Rattle.distance_crossing.specs.NearTicks.{are_near, distance_holds, is_near, motions_compare}
+use Rattle.distance_crossing.specs.NearTicks.{are_near, distance_holds_at, is_near_at, motions_compare}
 use Rattle.distance_crossing.specs.Triples.{IsTripleOf}
 use Rattle.distance_crossing.specs.declared.comparison.Triple.{Triple}
 use Rattle.distance_crossing.proofs.RunLists.{runs_by, triple_by}
@@ -264,10 +264,10 @@ module _ (p q : Line) (w : Window) where
 
   -- of motions that are seen from each other
   module _ (m : Relative) (value : (k : ℕ) → squared_distance_at m k ≡ distance_after p q k) where
-    pub seen_compares : (op : Op) (c : ℤ) (x : Triple) → IsTripleOf (distance_holds m op c w) x → IsTripleOf (motions_compare p q op c w) x
+    pub seen_compares : (op : Op) (c : ℤ) (x : Triple) → IsTripleOf (distance_holds_at m op c w) x → IsTripleOf (motions_compare p q op c w) x
     seen_compares op c x h =
-        triple_by (distance_holds m op c w) (motions_compare p q op c w) x h (λ t i. within w.lo w.hi t && distance_compares op c (value (t - w.lo) i))
+        triple_by (distance_holds_at m op c w) (motions_compare p q op c w) x h (λ t i. within w.lo w.hi t && distance_compares op c (value (t - w.lo) i))
 
-    pub seen_near : (r limit : ℤ) (xs : List Span) → limit ≡ squared_width r → IsRuns (is_near m limit w) xs → IsRuns (are_near r p q w) xs
+    pub seen_near : (r limit : ℤ) (xs : List Span) → limit ≡ squared_width r → IsRuns (is_near_at m limit w) xs → IsRuns (are_near r p q w) xs
     seen_near r limit xs width h =
-        runs_by (is_near m limit w) (are_near r p q w) xs h (λ t i. within w.lo w.hi t && int_le (value (t - w.lo) i) (width i))
+        runs_by (is_near_at m limit w) (are_near r p q w) xs h (λ t i. within w.lo w.hi t && int_le (value (t - w.lo) i) (width i))

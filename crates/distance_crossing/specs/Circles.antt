@@ -4,8 +4,8 @@ use Rattle.fixed_point.specs.declared.number.Point.{Point}
 use Rattle.geometry.specs.Plane.{square}
 
 -- the point is within r of the place (x / z, y / z)
-abbrev pub IsHeld : ℤ → ℤ → ℤ → ℤ → Point → Type 0
-IsHeld r x y z p = (square (z *ℤ p.x -ℤ x) +ℤ square (z *ℤ p.y -ℤ y)) ≤ℤ (square r *ℤ square z)
+abbrev pub IsWithinRadius : ℤ → ℤ → ℤ → ℤ → Point → Type 0
+IsWithinRadius r x y z p = (square (z *ℤ p.x -ℤ x) +ℤ square (z *ℤ p.y -ℤ y)) ≤ℤ (square r *ℤ square z)
 
 -- some circle of radius r holds the points
 pub record IsInCircle (r : ℤ) (points : List Point) : Type 0 where
@@ -13,4 +13,4 @@ pub record IsInCircle (r : ℤ) (points : List Point) : Type 0 where
   pub y : ℤ
   pub z : ℤ
   pub unit : pos 0 <ℤ square z
-  pub held : All (IsHeld r x y z) points
+  pub held : All (IsWithinRadius r x y z) points

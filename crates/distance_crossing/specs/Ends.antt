@@ -2,14 +2,14 @@
 use Rattle.std.specs.Prelude.{ℕ, ◌<◌, ◌≤◌, ℤ, ◌≤ℤ◌, ◌<ℤ◌}
 
 -- round the first: below `low` the value is above the limit, at `high` it is not
-pub record IsLeft (f : ℕ → ℤ) (limit : ℤ) (nearest low high : ℕ) : Type 0 where
+pub record BracketsFirst (f : ℕ → ℤ) (limit : ℤ) (nearest low high : ℕ) : Type 0 where
   pub ordered : low ≤ high
   pub bound : high ≤ nearest
   pub near : f high ≤ℤ limit
   pub far : (k : ℕ) → k < low → limit <ℤ f k
 
 -- round the last: above `high` the value is above the limit, at `low` it is not
-pub record IsRight (f : ℕ → ℤ) (limit : ℤ) (nearest last low high : ℕ) : Type 0 where
+pub record BracketsLast (f : ℕ → ℤ) (limit : ℤ) (nearest last low high : ℕ) : Type 0 where
   pub from : nearest ≤ low
   pub ordered : low ≤ high
   pub bound : high ≤ last

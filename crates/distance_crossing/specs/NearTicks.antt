@@ -12,12 +12,12 @@ use Rattle.tick_set.specs.Ticks.{within}
 use Rattle.tick_set.specs.declared.spans.Window.{Window}
 
 -- the tick t is in the window, and the squared distance there is at most `limit`
-abbrev pub is_near : Relative → ℤ → Window → ℕ → Bool
-is_near m limit w t = within w.lo w.hi t && int_le (squared_distance_at m (t - w.lo)) limit
+abbrev pub is_near_at : Relative → ℤ → Window → ℕ → Bool
+is_near_at m limit w t = within w.lo w.hi t && int_le (squared_distance_at m (t - w.lo)) limit
 
 -- the tick t is in the window, and the distance there compares with c as `op` says
-abbrev pub distance_holds : Relative → Op → ℤ → Window → ℕ → Bool
-distance_holds m op c w t = within w.lo w.hi t && distance_compares op c (squared_distance_at m (t - w.lo))
+abbrev pub distance_holds_at : Relative → Op → ℤ → Window → ℕ → Bool
+distance_holds_at m op c w t = within w.lo w.hi t && distance_compares op c (squared_distance_at m (t - w.lo))
 
 -- the tick t is in the window, and the distance of the two motions there compares with c as `op` says
 abbrev pub motions_compare : Line → Line → Op → ℤ → Window → ℕ → Bool

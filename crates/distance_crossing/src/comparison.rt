@@ -7,7 +7,7 @@ ghost use Rattle.linear_crossing.specs.Zones.{IsPairOf, spans_of};
 ghost use Rattle.tick_set.specs.Runs.{IsNormal, IsRuns, spans_have};
 ghost use Rattle.tick_set.specs.Ticks.{within};
 ghost use Rattle.distance_crossing.specs.Far.{pass_by};
-ghost use Rattle.distance_crossing.specs.NearTicks.{distance_holds, is_near, motions_compare};
+ghost use Rattle.distance_crossing.specs.NearTicks.{distance_holds_at, is_near_at, motions_compare};
 ghost use Rattle.distance_crossing.specs.Triples.{IsPacked, IsTripleOf, triple_spans};
 
 use crate::far::pass_by;
@@ -66,7 +66,7 @@ pub fn compare_motions<M: Ledger>(
 pub fn compare<M: Ledger>(q: &Quad, op: Op, c: Fix, w: Window, probes: &mut Steps<M>) -> Triple
     requires length { w.hi - w.lo ≤ SPAN_LIMIT }
     requires c_size { unsigned_abs c ≤ READ_LIMIT }
-    ensures runs { IsTripleOf (distance_holds q.now op c w) result }
+    ensures runs { IsTripleOf (distance_holds_at q.now op c w) result }
     ensures cost { probes.new ≤ probes.old + 63 }
     ensures short_cost { w.hi - w.lo ≤ SHORT_WINDOW → probes.new ≤ probes.old + 47 }
     ensures least { probes.old ≤ probes.new }
@@ -98,7 +98,7 @@ fn everywhere(all: bool, w: Window) -> Triple
 fn nearer<M: Ledger>(q: &Quad, square: i128, w: Window, probes: &mut Steps<M>) -> Option<Span>
     requires length { w.hi - w.lo ≤ SPAN_LIMIT }
     requires size { unsigned_abs square ≤ READ_LIMIT ^ 2 }
-    ensures runs { IsRuns (is_near q.now (square -ℤ pos 1) w) (option_to_list result) }
+    ensures runs { IsRuns (is_near_at q.now (square -ℤ pos 1) w) (option_to_list result) }
     ensures cost { probes.new ≤ probes.old + 60 }
     ensures short_cost { w.hi - w.lo ≤ SHORT_WINDOW → probes.new ≤ probes.old + 44 }
     ensures least { probes.old ≤ probes.new }
@@ -128,8 +128,8 @@ fn below<M: Ledger>(
     w: Window,
     probes: &mut Steps<M>,
 ) -> Option<Span>
-    requires at_most { IsRuns (is_near q.now square w) (option_to_list at_most) }
-    ensures runs { IsRuns (is_near q.now (square -ℤ pos 1) w) (option_to_list result) }
+    requires at_most { IsRuns (is_near_at q.now square w) (option_to_list at_most) }
+    ensures runs { IsRuns (is_near_at q.now (square -ℤ pos 1) w) (option_to_list result) }
     ensures cost { probes.new ≤ probes.old + 3 }
     ensures least { probes.old ≤ probes.new }
 {

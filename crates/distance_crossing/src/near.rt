@@ -3,8 +3,8 @@ ghost use Rattle.std.specs.Prelude.{◌≡◌, ℕ, ◌+◌, ◌-◌, ◌^◌, �
 ghost use Rattle.exact.specs.Rising.{DropsTo, RisesIn};
 ghost use Rattle.linear_crossing.specs.Relative.{squared_distance_at};
 ghost use Rattle.tick_set.specs.Runs.{IsRuns};
-ghost use Rattle.distance_crossing.specs.Ends.{IsLeft, IsRight};
-ghost use Rattle.distance_crossing.specs.NearTicks.{is_near};
+ghost use Rattle.distance_crossing.specs.Ends.{BracketsFirst, BracketsLast};
+ghost use Rattle.distance_crossing.specs.NearTicks.{is_near_at};
 
 use linear_crossing::Quad;
 use std::sync::ledger::Ledger;
@@ -22,7 +22,7 @@ pub const SHORT_WINDOW: u32 = 1_000_000;
 /// and bisects what is left where the end is at neither.
 pub fn within<M: Ledger>(q: &Quad, limit: i128, w: Window, probes: &mut Steps<M>) -> Option<Span>
     requires { w.hi - w.lo ≤ SPAN_LIMIT }
-    ensures runs { IsRuns (is_near q.now limit w) (option_to_list result) }
+    ensures runs { IsRuns (is_near_at q.now limit w) (option_to_list result) }
     ensures cost { probes.new ≤ probes.old + 60 }
     ensures short_cost { w.hi - w.lo ≤ SHORT_WINDOW → probes.new ≤ probes.old + 44 }
     ensures least { probes.old ≤ probes.new }
@@ -82,7 +82,7 @@ fn around_first<M: Ledger>(
     requires guessed { guess ≤ nearest }
     requires falls { DropsTo (squared_distance_at q.now) nearest }
     requires near { squared_distance_at q.now nearest ≤ℤ limit }
-    ensures round { IsLeft (squared_distance_at q.now) limit nearest result.0 result.1 }
+    ensures round { BracketsFirst (squared_distance_at q.now) limit nearest result.0 result.1 }
     ensures cost { probes.new ≤ probes.old + 2 }
     ensures least { probes.old ≤ probes.new }
 {
@@ -109,7 +109,7 @@ fn bisect_first<M: Ledger>(
     probes: &mut Steps<M>,
 ) -> u32
     requires falls { DropsTo (squared_distance_at q.now) nearest }
-    requires round { IsLeft (squared_distance_at q.now) limit nearest from until }
+    requires round { BracketsFirst (squared_distance_at q.now) limit nearest from until }
     ensures bound { result ≤ nearest }
     ensures first { (k : ℕ) → k ≤ nearest → int_le (squared_distance_at q.now k) limit ≡ nat_le result k }
     ensures cost { (n : ℕ) → until - from < 2 ^ n → probes.new ≤ probes.old + n }
@@ -166,7 +166,7 @@ fn around_last<M: Ledger>(
     requires guess_bound { guess ≤ last }
     requires rises { RisesIn (squared_distance_at q.now) nearest last }
     requires near { squared_distance_at q.now nearest ≤ℤ limit }
-    ensures round { IsRight (squared_distance_at q.now) limit nearest last result.0 result.1 }
+    ensures round { BracketsLast (squared_distance_at q.now) limit nearest last result.0 result.1 }
     ensures cost { probes.new ≤ probes.old + 2 }
     ensures least { probes.old ≤ probes.new }
 {
@@ -194,7 +194,7 @@ fn bisect_last<M: Ledger>(
     probes: &mut Steps<M>,
 ) -> u32
     requires rises { RisesIn (squared_distance_at q.now) nearest last }
-    requires round { IsRight (squared_distance_at q.now) limit nearest last from until }
+    requires round { BracketsLast (squared_distance_at q.now) limit nearest last from until }
     ensures from { nearest ≤ result }
     ensures bound { result ≤ last }
     ensures last { (k : ℕ) → nearest ≤ k → k ≤ last → int_le (squared_distance_at q.now k) limit ≡ nat_le k result }

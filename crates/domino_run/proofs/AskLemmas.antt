@@ -4,12 +4,13 @@ use Rattle.std.specs.Prelude.{codes, drop, slice_index}
 use Rattle.std.specs.Char.{is_ascii_whitespace}
 use Rattle.std.specs.List.{prefix_len}
 use Rattle.std.proofs.lemmas.List.Sums.{prefix_len_is}
-use Rattle.command_text.specs.FirstWord.{BeginsWithItsWord, after_blanks, begins_with, first_word}
+use Rattle.command_text.specs.FirstWord.{BeginsWithItsWord, begins_with, word_of_command}
 use Rattle.command_text.specs.Journal.{spelled}
 use Rattle.command_text.specs.Tree
 use Rattle.command_text.specs.Tree.{CommandTree}
 use Rattle.command_text.proofs.CallerLemmas.{begins_trimmed}
 use Rattle.line_meaning.specs.Role.{asks_shelf}
+use Rattle.ftl_lexer.specs.Forms.{after_blanks}
 
 -- after all its white space
 abbrev pub trimmed : List ℕ → List ℕ
@@ -30,7 +31,7 @@ BeginsSo line =
     (begins_with (trimmed line) (codes "save") ≡ true) ⊎ ((begins_with (trimmed line) (codes "import") ≡ true)
     ⊎ (begins_with (trimmed line) (codes "export") ≡ true))
 
-begins_so : (c : CommandTree) (line : List ℕ) → asks_shelf c ≡ true → begins_with (after_blanks line) (first_word c) ≡ true → BeginsSo line
+begins_so : (c : CommandTree) (line : List ℕ) → asks_shelf c ≡ true → begins_with (after_blanks line) (word_of_command c) ≡ true → BeginsSo line
 begins_so Tree.Nothing line asks h = absurd (cc asks)
 begins_so Tree.Listing line asks h = absurd (cc asks)
 begins_so Tree.Quit line asks h = absurd (cc asks)

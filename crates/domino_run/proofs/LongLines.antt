@@ -10,13 +10,13 @@ use Rattle.command_text.specs.declared.refusal.Refusal.TheVariants as refusals
 use Rattle.command_text.specs.declared.refusal.Refusal.TheVariants.{LineTooLong}
 use Rattle.command_text.specs.Journal.{spelled}
 use Rattle.command_text.specs.Line.{early_refusal, first_that_holds, has_bad_token, has_other_byte, is_too_long}
-use Rattle.command_text.specs.Refusals.{line_of}
+use Rattle.command_text.specs.Refusals.{refusal_line}
 use Rattle.line_meaning.specs.Looks.{looks_of}
 use Rattle.line_meaning.specs.Reply.{line_feed}
 use Rattle.line_meaning.specs.Role.{role_of}
 use Rattle.line_meaning.specs.Step.{Base, Held, line_refusal, step}
 use Rattle.line_meaning.proofs.CallerLemmas.{refused_line}
-use Rattle.domino_run.specs.Machine.{State, cost, machine, leaves, is_ending, is_last}
+use Rattle.domino_run.specs.Machine.{RunState, run_cost, run_machine, run_leaves, is_ending, is_last}
 
 is_long : (line : List ℕ) → LINE_LIMIT < length line → is_too_long LINE_LIMIT line ≡ true
 is_long line h = grind (arith, nat_tests, h)
@@ -36,8 +36,8 @@ goes_on : (b : Base) (line : List ℕ) → line_refusal b.held line ≡ Some Lin
 goes_on b line refused = ap (λ r. is_none r && is_ending (role_of (spelled line))) (refused_line b line LineTooLong refused)
 
 pub long_lines_alike : ((h : Held) (line : List ℕ) → LINE_LIMIT < length line → line_refusal h line ≡ Some LineTooLong) →
-    ((b : Base) (line : List ℕ) → LINE_LIMIT < length line → step b line ≡ (b, line_of LineTooLong ++ line_feed)) →
-    (a b : List ℕ) → LINE_LIMIT < length a → LINE_LIMIT < length b → StepsAlike machine leaves a b
+    ((b : Base) (line : List ℕ) → LINE_LIMIT < length line → step b line ≡ (b, refusal_line LineTooLong ++ line_feed)) →
+    (a b : List ℕ) → LINE_LIMIT < length a → LINE_LIMIT < length b → StepsAlike run_machine run_leaves a b
 long_lines_alike refuses long_step a b long_a long_b = record {
   next = λ s.
       let quit : is_last s.base a ≡ is_last s.base b
@@ -49,13 +49,13 @@ long_lines_alike refuses long_step a b long_a long_b = record {
   failure = λ fail s told h. leaves_alike fail s told h;
 }
   where
-    leaves_alike : (fail : OutFail) (s : State) (told : Option State) → leaves fail s a told → leaves fail s b told
+    leaves_alike : (fail : OutFail) (s : RunState) (told : Option RunState) → run_leaves fail s a told → run_leaves fail s b told
     leaves_alike Failed s told h = absurd (cc (h.1.accepted, refuses s.base.held a long_a))
     leaves_alike NoMemory s told (inl same) = inl same
     leaves_alike NoMemory s told (inr h) = absurd (cc (h.1.late, is_early a long_a))
 
 -- and they cost nothing
-pub long_lines_cost : (a b : List ℕ) → LINE_LIMIT < length a → LINE_LIMIT < length b → (s : State) → cost s a ≡ cost s b
+pub long_lines_cost : (a b : List ℕ) → LINE_LIMIT < length a → LINE_LIMIT < length b → (s : RunState) → run_cost s a ≡ run_cost s b
 long_lines_cost a b long_a long_b s =
     ap (λ r. if is_some r then 0 else looks_of s.base (spelled a)) (is_early a long_a)
     ∙ sym (ap (λ r. if is_some r then 0 else looks_of s.base (spelled b)) (is_early b long_b))

@@ -10,7 +10,7 @@ use Rattle.std.specs.List.{list_all}
 use Rattle.std.specs.Str.Parse.{AllDigits, digits_value}
 use Rattle.fixed_point.specs.Decimal.{AreDigits}
 use Rattle.fixed_point.proofs.DigitLemmas.{digit_below_ten, digit_within, digits_taken, number_with_digit}
-use Rattle.domino_run.specs.Words.{is_number}
+use Rattle.domino_run.specs.Words.{is_short_number}
 
 all_digits : (text : List ℕ) → list_all is_ascii_digit text ≡ true → AllDigits 10 text
 all_digits [] h = tt
@@ -18,11 +18,11 @@ all_digits (byte ∷ text) h =
     let parts = and_parts (is_ascii_digit byte) (list_all is_ascii_digit text) h in
     (digit_below_ten byte parts.0, all_digits text parts.1)
 
-are_digits : (text : List ℕ) → is_number text ≡ true → AreDigits 0 10 text
+are_digits : (text : List ℕ) → is_short_number text ≡ true → AreDigits 0 10 text
 are_digits text h = record { digits = all_digits text (grind (arith, nat_tests, h)); enough = omega arith; few = grind (arith, nat_tests, h) }
 
 -- the fronts of a number stay in range
-pub front_below : (digits : List ℕ) (i : ℕ) → is_number digits ≡ true → i < length digits → digits_value 10 (take i digits) < 10 ^ 8
+pub front_below : (digits : List ℕ) (i : ℕ) → is_short_number digits ≡ true → i < length digits → digits_value 10 (take i digits) < 10 ^ 8
 front_below digits i is within =
     let are = are_digits digits is in
     let long : length (take i digits) ≡ i = length-take-le i digits (omega (arith, within)) in
@@ -33,10 +33,10 @@ front_below digits i is within =
     let most : 10 ^ length (take i digits) ≤ 10 ^ 8 = pow-le-pow_right (omega arith) few_taken in
     omega (arith, below, most)
 
-pub digit_is_within : (digits : List ℕ) (i : ℕ) → is_number digits ≡ true → i < length digits → IsInRange 48 57 (get_or digits i 0)
+pub digit_is_within : (digits : List ℕ) (i : ℕ) → is_short_number digits ≡ true → i < length digits → IsInRange 48 57 (get_or digits i 0)
 digit_is_within digits i is within = digit_within digits i (are_digits digits is) within
 
-pub one_digit_more : (digits : List ℕ) (i : ℕ) → is_number digits ≡ true → i < length digits →
+pub one_digit_more : (digits : List ℕ) (i : ℕ) → is_short_number digits ≡ true → i < length digits →
     digits_value 10 (take (i + 1) digits) ≡ digits_value 10 (take i digits) * 10 + (get_or digits i 0 - 48)
 one_digit_more digits i is within = number_with_digit digits i (are_digits digits is) within
 

@@ -14,14 +14,14 @@ use Rattle.run_ends.specs.declared.status.Status.{Status}
 use Rattle.run_ends.specs.declared.status.Status.TheVariants.{Done, BadWords, BadSession, ReadFault, WriteFault, ShelfFault, NoMemory, InputLimit}
 use Rattle.run_ends.specs.Ends.{Seen}
 use Rattle.run_ends.specs.Saying.{Speaks, status_said}
-use Rattle.run_ends.specs.Status.{HasCause, ending_by, status_of}
+use Rattle.run_ends.specs.Status.{HasStatusCause, ending_by, status_of}
 use Rattle.run_ends.specs.Whole.{Plan, Says, Answers}
 use Rattle.run_ends.proofs.CallerLemmas.{answered_cause, answered_ends, is_saying, is_within, said_cause, said_ends, said_within, takes_none}
-use Rattle.domino_run.specs.Ends.{KeepsLimit, TakesWithin, may_end}
+use Rattle.domino_run.specs.Ends.{KeepsLimitFor, TakesWithin, allows_status}
 use Rattle.domino_run.specs.Looks.{LooksWithin, looks_of_input, looks_of_plan, looks_of_text}
-use Rattle.domino_run.specs.Machine.{State, leaves, machine, state_of, texts_in}
-use Rattle.domino_run.specs.Parts.{AnswersLines, FaultCounts, OpenHasCause, Opens}
-use Rattle.domino_run.specs.Theorem.{RunsAs, given}
+use Rattle.domino_run.specs.Machine.{RunState, run_leaves, run_machine, texts_in, told_state}
+use Rattle.domino_run.specs.Parts.{AnswersLines, BlamesShelf, OpenHasCause, Opens}
+use Rattle.domino_run.specs.Theorem.{RunsAs, run_setting}
 use Rattle.domino_run.specs.Whole.{plan_loaded, plan_of, plan_stored, started}
 use Rattle.domino_run.specs.declared.opening.OpenFault.{OpenFault}
 use Rattle.domino_run.specs.Words.{Words, Bad, Plain, Generated, Stored}
@@ -33,14 +33,14 @@ pub record Loops (h new : Held) (ended ended' : Bool) (limit : ℕ) (before afte
   pub starts : ended ≡ false
   pub cause : loop.EndsWithCause ending before.faults after.faults
   pub taken : (bytes : List ℕ) → before.left ≡ Some bytes → loop.KeepsLimit limit bytes ending after.left
-  pub ends : (start : Point State) (bytes : List ℕ) → IsAt start (state_of h ended before.texts) before.written →
+  pub ends : (start : Point RunState) (bytes : List ℕ) → IsAt start (told_state h ended before.texts) before.written →
       before.left ≡ Some bytes →
-      loop.EndsAs machine leaves limit start bytes ending (state_of new ended' after.texts) after.written after.left
-  pub spends : (start : Point State) (bytes : List ℕ) → IsAt start (state_of h ended before.texts) before.written →
+      loop.HasEnding run_machine run_leaves limit start bytes ending (told_state new ended' after.texts) after.written after.left
+  pub spends : (start : Point RunState) (bytes : List ℕ) → IsAt start (told_state h ended before.texts) before.written →
       before.left ≡ Some bytes → looks' ≤ looks + looks_of_input start.state limit bytes
 
 -- the texts are those that a state tells, where one is told
-texts_told : (h : Held) (ended : Bool) (texts : Option Texts) → texts ≡ option_map texts_in (state_of h ended texts)
+texts_told : (h : Held) (ended : Bool) (texts : Option Texts) → texts ≡ option_map texts_in (told_state h ended texts)
 texts_told h ended None = refl
 texts_told h ended (Some texts) = refl
 
@@ -54,7 +54,7 @@ lines_answered from h new ended ended' limit before after looks looks' ending st
       cause = l.cause;
       taken = l.taken;
       ends = λ bytes written texts left_is written_is texts_is. (
-        state_of new ended' after.texts,
+        told_state new ended' after.texts,
         texts_told new ended' after.texts,
         l.ends (record { state = started h texts; written = written }) bytes (starts texts written texts_is written_is) left_is,
       );
@@ -63,9 +63,9 @@ lines_answered from h new ended ended' limit before after looks looks' ending st
     })
   where
     starts : (texts : Texts) (written : List ℕ) → before.texts ≡ Some texts → before.written ≡ Some written →
-        IsAt (record { state = started h texts; written = written }) (state_of h ended before.texts) before.written
+        IsAt (record { state = started h texts; written = written }) (told_state h ended before.texts) before.written
     starts texts written texts_is written_is = record {
-      in_state = (λ i. state_of h (l.starts i) (texts_is i));
+      in_state = (λ i. told_state h (l.starts i) (texts_is i));
       has_written = written_is;
     }
 
@@ -76,7 +76,7 @@ answers_input Plain = true
 answers_input (Generated number) = false
 answers_input (Stored name) = true
 
-answering_fits : (words : Words) (ending : Ending) → answers_input words ≡ true → may_end words (status_of ending) ≡ true
+answering_fits : (words : Words) (ending : Ending) → answers_input words ≡ true → allows_status words (status_of ending) ≡ true
 answering_fits Bad ending is = absurd (cc is)
 answering_fits (Generated number) ending is = absurd (cc is)
 answering_fits Plain endings.Done is = refl
@@ -102,7 +102,7 @@ answering_within endings.NoMemory limit bytes left h = h
 answering_within endings.InputLimit limit bytes left h = h
 
 answering_takes : (words : Words) (ending : Ending) (limit : ℕ) (bytes : List ℕ) (left : Option (List ℕ)) → answers_input words ≡ true →
-    loop.KeepsLimit limit bytes ending left → KeepsLimit words limit bytes (status_of ending) left
+    loop.KeepsLimit limit bytes ending left → KeepsLimitFor words limit bytes (status_of ending) left
 answering_takes Bad ending limit bytes left is h = absurd (cc is)
 answering_takes Plain ending limit bytes left is h = answering_within ending limit bytes left h
 answering_takes (Generated number) ending limit bytes left is h = absurd (cc is)
@@ -135,7 +135,7 @@ answered_runs words h limit before after first looks looks' status context now i
       taken = λ bytes left_is. answering_takes words a.ending limit bytes after.left is (a.taken bytes left_is);
       ends = λ bytes written texts left_is written_is texts_is.
           let (state, texts_are, ends) = a.ends bytes written texts left_is written_is texts_is in
-          answered_ends machine leaves texts_in (given words limit bytes written texts) after a.ending (record {
+          answered_ends run_machine run_leaves texts_in (run_setting words limit bytes written texts) after a.ending (record {
             start = started h texts;
             plan = plan texts texts_is;
             state = state;
@@ -160,7 +160,7 @@ unread_within limit bytes NoMemory left is same = takes_none endings.NoMemory li
 unread_within limit bytes InputLimit left is same = absurd (cc is)
 
 unread : (words : Words) (limit : ℕ) (bytes : List ℕ) (s : Status) (left : Option (List ℕ)) → is_within (ending_by s) ≡ true → left ≡ Some bytes →
-    KeepsLimit words limit bytes s left
+    KeepsLimitFor words limit bytes s left
 unread Bad limit bytes s left is same = same
 unread (Generated number) limit bytes s left is same = same
 unread Plain limit bytes s left is same = unread_within limit bytes s left is same
@@ -179,23 +179,23 @@ module _ (limit : ℕ) (words : Words) (said : List ℕ) (end : Status) (before 
   -- these words have it said with this status
   pub record HaveItSaid : Type 0 where
     pub saying : is_saying end ≡ true
-    pub may : may_end words end ≡ true
+    pub may : allows_status words end ≡ true
     pub plan : (texts : Texts) → before.texts ≡ Some texts → plan_of words texts ≡ Says said end
     pub within : (bytes : List ℕ) (texts : Texts) → before.texts ≡ Some texts → LooksWithin words limit bytes texts looks looks'
 
-  may_fail : (words : Words) → may_end words WriteFault ≡ true
+  may_fail : (words : Words) → allows_status words WriteFault ≡ true
   may_fail Bad = refl
   may_fail Plain = refl
   may_fail (Generated number) = refl
   may_fail (Stored name) = refl
 
-  may_lack : (words : Words) → may_end words NoMemory ≡ true
+  may_lack : (words : Words) → allows_status words NoMemory ≡ true
   may_lack Bad = refl
   may_lack Plain = refl
   may_lack (Generated number) = refl
   may_lack (Stored name) = refl
 
-  fits_by : (result : Result (Unit {0}) OutFail) → may_end words end ≡ true → may_end words (status_said end result) ≡ true
+  fits_by : (result : Result (Unit {0}) OutFail) → allows_status words end ≡ true → allows_status words (status_said end result) ≡ true
   fits_by (Ok u) may = may
   fits_by (Err fails.Failed) may = may_fail words
   fits_by (Err fails.NoMemory) may = may_lack words
@@ -210,14 +210,14 @@ module _ (limit : ℕ) (words : Words) (said : List ℕ) (end : Status) (before 
         taken = λ bytes left_is.
             unread words limit bytes (status_said end s.result) after.left (said_within end s.result w.saying) (a.left_stays ∙ left_is);
         ends = λ bytes written texts left_is written_is texts_is.
-            said_ends machine leaves texts_in (given words limit bytes written texts) after said end s.result w.saying
+            said_ends run_machine run_leaves texts_in (run_setting words limit bytes written texts) after said end s.result w.saying
             (w.plan texts texts_is) (s.bytes written written_is) (a.left_stays ∙ left_is) (a.texts_stay ∙ texts_is);
         within = λ bytes written texts left_is written_is texts_is. w.within bytes texts texts_is;
       })
 
 -- ---- Nothing is done
 
-may_lack_any : (words : Words) → may_end words NoMemory ≡ true
+may_lack_any : (words : Words) → allows_status words NoMemory ≡ true
 may_lack_any Bad = refl
 may_lack_any Plain = refl
 may_lack_any (Generated number) = refl
@@ -250,11 +250,11 @@ pub stored_within : (name : List ℕ) (h : Held) (limit : ℕ) (bytes : List ℕ
     mid ≤ looks + looks_of_text (texts name) → plan_stored (texts name) texts ≡ Answers (started h texts) →
     looks' ≤ mid + looks_of_input (started h texts) limit bytes → LooksWithin (Stored name) limit bytes texts looks looks'
 stored_within name h limit bytes texts looks mid looks' opening plan lines =
-    let same = ap (λ (p : Plan State). looks_of_plan p limit bytes) plan in
+    let same = ap (λ (p : Plan RunState). looks_of_plan p limit bytes) plan in
     omega (arith, opening, lines, same)
 
 -- the text of a session isn't fetched
-pub fetch_failed : (limit : ℕ) (name : List ℕ) (before after : Seen) (looks looks' : ℕ) → HasCause ShelfFault before.faults after.faults →
+pub fetch_failed : (limit : ℕ) (name : List ℕ) (before after : Seen) (looks looks' : ℕ) → HasStatusCause ShelfFault before.faults after.faults →
     after.left ≡ before.left → after.written ≡ before.written → after.texts ≡ before.texts →
     ((texts : Texts) → before.texts ≡ Some texts → looks' ≤ looks + looks_of_text (texts name)) →
     RunsAs limit (Stored name) before after looks looks' ShelfFault
@@ -277,8 +277,8 @@ fetch_failed limit name before after looks looks' cause left_stays unsaid stay o
 -- ---- What is told of a session that isn't opened
 
 pub counts_of : (before now : ℕ) (fault other : OpenFault) → fault ≡ other → OpenHasCause before now (Err fault) →
-    FaultCounts before now other
-counts_of before now fault other is counts = subst (λ (f : OpenFault). FaultCounts before now f) is counts
+    BlamesShelf before now other
+counts_of before now fault other is counts = subst (λ (f : OpenFault). BlamesShelf before now f) is counts
 
 pub opens_of : (texts : Texts) (name : List ℕ) (fault other : OpenFault) → fault ≡ other → Opens texts name (Err fault) →
     Opens texts name (Err other)

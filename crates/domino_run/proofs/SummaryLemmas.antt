@@ -3,7 +3,7 @@ use Rattle.std.proofs.Common.{◌≡◌, ◌≤◌, ◌+◌, arith, ℕ, Bool, t
 use Rattle.std.specs.Prelude.{is_some, unwrap_or, Result, Ok, fold}
 use Rattle.outside.specs.Shelf.{Texts}
 use Rattle.command_text.specs.declared.refusal.Refusal.{Refusal}
-use Rattle.command_text.specs.Refusals.{line_of}
+use Rattle.command_text.specs.Refusals.{refusal_line}
 use Rattle.line_meaning.specs.Reply.{line_feed}
 use Rattle.line_meaning.specs.Step.{Base, Held, base, step}
 use Rattle.session.specs.declared.next.ApplyFault.{ApplyFault}
@@ -14,7 +14,7 @@ use Rattle.generator.specs.Lines.{lines_of}
 use Rattle.generator.specs.Next.{GivesNext}
 use Rattle.domino_run.specs.Looks.{looks_of_lines}
 use Rattle.domino_run.specs.Machine.{looks_of_line}
-use Rattle.domino_run.specs.Summary.{AnswersAs, Tally, counted, counted_line, first_state, summary, tally_text}
+use Rattle.domino_run.specs.Summary.{AnswersAs, LineTally, counted_line, first_state, summary, tally_after, tally_text}
 use Rattle.domino_run.proofs.AnswerLemmas.{IsAccepted, answered, left_after, step_of}
 
 told_same : (a b : Texts) → Some a ≡ Some b → a ≡ b
@@ -35,7 +35,7 @@ module _ (told told' : Texts) (line : List ℕ) (h new : Held) (after : List ℕ
       (sym (ap is_some fault), (λ i. (record { held = sym new_is i; texts = sym texts i }, sym reply i)))
 
   -- and one that is refused, whose refusal is then written
-  pub refused_counts : (r : Refusal) (final : List ℕ) → result ≡ Ok (nexts.Refused r) → final ≡ after ++ (line_of r ++ line_feed) →
+  pub refused_counts : (r : Refusal) (final : List ℕ) → result ≡ Ok (nexts.Refused r) → final ≡ after ++ (refusal_line r ++ line_feed) →
       AnswersAs (base h told) line (base new told') true final
   refused_counts r final is said =
       let (fault, step_is, new_is, same) =
@@ -44,16 +44,16 @@ module _ (told told' : Texts) (line : List ℕ) (h new : Held) (after : List ℕ
       = told_same told' (step (base h told) line).0.texts
       (left_after (Some told) (Some told') line h new false empty after result applies (nexts.Refused r) is told refl)
       ∙ ap (λ (s : Base × List ℕ). s.0.texts) step_is in
-      let reply : final ≡ line_of r ++ line_feed = said ∙ ap (λ o. o ++ (line_of r ++ line_feed)) same in
+      let reply : final ≡ refusal_line r ++ line_feed = said ∙ ap (λ o. o ++ (refusal_line r ++ line_feed)) same in
       (sym (ap is_some fault), step_is ∙ (λ i. (record { held = sym new_is i; texts = sym texts i }, sym reply i)))
 
 -- what was counted goes on to what all lines come to
-pub counts_on : (old new : Base) (t : Tally) (line reply : List ℕ) (refused : Bool) (left after : List (List ℕ)) →
+pub counts_on : (old new : Base) (t : LineTally) (line reply : List ℕ) (refused : Bool) (left after : List (List ℕ)) →
     left ≡ line ∷ after → AnswersAs old line new refused reply →
-    fold counted_line (new, counted t refused reply) after ≡ fold counted_line (old, t) left
+    fold counted_line (new, tally_after t refused reply) after ≡ fold counted_line (old, t) left
 counts_on old new t line reply refused left after is a =
     sym (ap (fold counted_line (old, t)) is
-    ∙ (λ i. fold counted_line ((a.1 i).0, counted t (sym a.0 i) (a.1 i).1) after))
+    ∙ (λ i. fold counted_line ((a.1 i).0, tally_after t (sym a.0 i) (a.1 i).1) after))
 
 -- what a line looks at goes on to what all lines may
 pub looks_on : (old new : Base) (line reply : List ℕ) (refused : Bool) (left after : List (List ℕ)) (reads reads' most : ℕ) →
@@ -72,10 +72,10 @@ looks_stop old line left after reads reads' most is one all =
     omega (arith, one, all, first)
 
 -- where no line is left, the text of what was counted is the summary
-pub summary_is : (text before line : List ℕ) (b : Base) (t : Tally) (number : ℕ) (left after : List (List ℕ)) (more : Bool) →
+pub summary_is : (text before line : List ℕ) (b : Base) (t : LineTally) (number : ℕ) (left after : List (List ℕ)) (more : Bool) →
     text ≡ tally_text t → fold counted_line (b, t) left ≡ fold counted_line first_state (lines_of number) →
     GivesNext left after before line more → more ≡ false → text ≡ summary number
 unfolding summary
 summary_is text before line b t number left after true text_is on gives none = absurd (cc none)
 summary_is text before line b t number left after false text_is on (no_line, none_after, stays) none =
-    text_is ∙ ap (λ (s : Base × Tally). tally_text s.1) (sym (ap (fold counted_line (b, t)) no_line) ∙ on)
+    text_is ∙ ap (λ (s : Base × LineTally). tally_text s.1) (sym (ap (fold counted_line (b, t)) no_line) ∙ on)

@@ -7,20 +7,20 @@ use Rattle.run_ends.specs.Status.{ending_by}
 use Rattle.domino_run.specs.Words.{Words, Bad, Plain, Generated, Stored}
 
 -- Which statuses may come with which words. What is said may fail or want memory, and reads nothing.
-abbrev pub may_end : Words → Status → Bool
-may_end Bad BadWords = true
-may_end Bad WriteFault = true
-may_end Bad NoMemory = true
-may_end Bad _ = false
-may_end Plain BadWords = false
-may_end Plain BadSession = false
-may_end Plain _ = true
-may_end (Stored name) BadWords = false
-may_end (Stored name) _ = true
-may_end (Generated number) Done = true
-may_end (Generated number) WriteFault = true
-may_end (Generated number) NoMemory = true
-may_end (Generated number) _ = false
+abbrev pub allows_status : Words → Status → Bool
+allows_status Bad BadWords = true
+allows_status Bad WriteFault = true
+allows_status Bad NoMemory = true
+allows_status Bad _ = false
+allows_status Plain BadWords = false
+allows_status Plain BadSession = false
+allows_status Plain _ = true
+allows_status (Stored name) BadWords = false
+allows_status (Stored name) _ = true
+allows_status (Generated number) Done = true
+allows_status (Generated number) WriteFault = true
+allows_status (Generated number) NoMemory = true
+allows_status (Generated number) _ = false
 
 -- whether a text is fetched before the first line
 abbrev pub opens_text : Words → Bool
@@ -33,8 +33,8 @@ TakesWithin limit bytes BadSession left = left ≡ Some bytes
 TakesWithin limit bytes status left = loop.KeepsLimit limit bytes (ending_by status) left
 
 -- With bad words and for the generator's lines nothing is read.
-abbrev pub KeepsLimit : Words → ℕ → List ℕ → Status → Option (List ℕ) → Type 0
-KeepsLimit Bad limit bytes status left = left ≡ Some bytes
-KeepsLimit (Generated number) limit bytes status left = left ≡ Some bytes
-KeepsLimit Plain limit bytes status left = TakesWithin limit bytes status left
-KeepsLimit (Stored name) limit bytes status left = TakesWithin limit bytes status left
+abbrev pub KeepsLimitFor : Words → ℕ → List ℕ → Status → Option (List ℕ) → Type 0
+KeepsLimitFor Bad limit bytes status left = left ≡ Some bytes
+KeepsLimitFor (Generated number) limit bytes status left = left ≡ Some bytes
+KeepsLimitFor Plain limit bytes status left = TakesWithin limit bytes status left
+KeepsLimitFor (Stored name) limit bytes status left = TakesWithin limit bytes status left

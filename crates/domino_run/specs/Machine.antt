@@ -14,12 +14,12 @@ use Rattle.line_meaning.specs.Role.{asks_shelf, role_of}
 use Rattle.line_meaning.specs.Step.{Base, Held, base, line_refusal, refusal_of, step}
 use Rattle.session.specs.Answers.{LeavesHeld, SameButFile}
 
-pub record State : Type 0 where
+pub record RunState : Type 0 where
   pub base : Base
   pub ended : Bool
 
 -- the texts of the shelf that a state tells
-abbrev pub texts_in : State → Texts
+abbrev pub texts_in : RunState → Texts
 texts_in s = s.base.texts
 
 abbrev pub is_ending : Role → Bool
@@ -34,12 +34,12 @@ is_last b line = is_none (refusal_of b line) && is_ending (role_of (spelled line
 abbrev pub looks_of_line : Base → List ℕ → ℕ
 looks_of_line b line = if is_some (early_refusal LINE_LIMIT line) then 0 else looks_of b (spelled line)
 
-abbrev pub cost : Costs State
-cost s line = looks_of_line s.base line
+abbrev pub run_cost : Costs RunState
+run_cost s line = looks_of_line s.base line
 
 -- Each line is one step. After a `quit` no more lines are taken.
-abbrev pub machine : Machine State
-machine = record {
+abbrev pub run_machine : Machine RunState
+run_machine = record {
   next = λ s line. record { base = (step s.base line).0; ended = s.ended || is_last s.base line };
   reply = λ s line. (step s.base line).1;
   done = λ s. s.ended;
@@ -53,17 +53,17 @@ pub record FailsOnFile (b : Base) (line : List ℕ) (left : Texts) : Type 0 wher
   pub others : SameButFile (spelled line) b.texts left
 
 -- what is held after a line that lacked memory: an import may have left its first rows
-pub record LacksMemory (b : Base) (line : List ℕ) (left : Held) : Type 0 where
+pub record LeavesWithoutMemory (b : Base) (line : List ℕ) (left : Held) : Type 0 where
   pub late : early_refusal LINE_LIMIT line ≡ None
   pub rows : LeavesHeld b (spelled line) left
 
 -- Where the text of a refusal lacks memory the state is as before.
-abbrev pub leaves : Failures State
-leaves Failed s line told = (left : Texts) × FailsOnFile s.base line left × (told ≡ Some (record s { base = base s.base.held left }))
-leaves NoMemory s line told =
-    (told ≡ Some s) ⊎ ((left : Held) × LacksMemory s.base line left × (told ≡ Some (record s { base = base left s.base.texts })))
+abbrev pub run_leaves : Failures RunState
+run_leaves Failed s line told = (left : Texts) × FailsOnFile s.base line left × (told ≡ Some (record s { base = base s.base.held left }))
+run_leaves NoMemory s line told =
+    (told ≡ Some s) ⊎ ((left : Held) × LeavesWithoutMemory s.base line left × (told ≡ Some (record s { base = base left s.base.texts })))
 
 -- the state that is told by what is held, the end of the run and the texts, where the texts are told
-abbrev pub state_of : Held → Bool → Option Texts → Option State
-state_of h ended None = None
-state_of h ended (Some texts) = Some (record { base = base h texts; ended = ended })
+abbrev pub told_state : Held → Bool → Option Texts → Option RunState
+told_state h ended None = None
+told_state h ended (Some texts) = Some (record { base = base h texts; ended = ended })

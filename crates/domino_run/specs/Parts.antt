@@ -11,7 +11,7 @@ use Rattle.run_ends.specs.Ends.{Seen}
 use Rattle.run_ends.specs.Status.{status_of}
 use Rattle.run_ends.specs.Whole.{Says, Answers}
 use Rattle.domino_run.specs.Looks.{looks_of_input}
-use Rattle.domino_run.specs.Machine.{State, leaves, machine, texts_in}
+use Rattle.domino_run.specs.Machine.{RunState, run_leaves, run_machine, texts_in}
 use Rattle.domino_run.specs.Whole.{bad_session, plan_stored, started}
 use Rattle.domino_run.specs.declared.opening.OpenFault.{OpenFault}
 use Rattle.domino_run.specs.declared.opening.OpenFault.TheVariants as faults
@@ -23,8 +23,8 @@ pub record AnswersLines (h : Held) (limit : ℕ) (before after : Seen) (looks lo
   pub cause : loop.EndsWithCause ending before.faults after.faults
   pub taken : (bytes : List ℕ) → before.left ≡ Some bytes → loop.KeepsLimit limit bytes ending after.left
   pub ends : (bytes written : List ℕ) (texts : Texts) → before.left ≡ Some bytes → before.written ≡ Some written → before.texts ≡ Some texts →
-      (state : Option State) × (after.texts ≡ option_map texts_in state)
-      × loop.EndsAs machine leaves limit (record { state = started h texts; written = written }) bytes ending state after.written after.left
+      (state : Option RunState) × (after.texts ≡ option_map texts_in state)
+      × loop.HasEnding run_machine run_leaves limit (record { state = started h texts; written = written }) bytes ending state after.written after.left
   pub within : (bytes written : List ℕ) (texts : Texts) → before.left ≡ Some bytes → before.written ≡ Some written → before.texts ≡ Some texts →
       looks' ≤ looks + looks_of_input (started h texts) limit bytes
 
@@ -35,9 +35,9 @@ Opens texts name (Err (faults.BadSession number)) = plan_stored (texts name) tex
 Opens texts name (Err fault) = Unit {0}
 
 -- the shelf is blamed only where its count rose
-abbrev pub FaultCounts : ℕ → ℕ → OpenFault → Type 0
-FaultCounts before now faults.ShelfFault = Rose before now
-FaultCounts before now fault = now ≡ before
+abbrev pub BlamesShelf : ℕ → ℕ → OpenFault → Type 0
+BlamesShelf before now faults.ShelfFault = Rose before now
+BlamesShelf before now fault = now ≡ before
 
 abbrev pub OpenHasCause : ℕ → ℕ → Result Held OpenFault → Type 0
-OpenHasCause before now result = MatchResult result (λ _. now ≡ before) (FaultCounts before now)
+OpenHasCause before now result = MatchResult result (λ _. now ≡ before) (BlamesShelf before now)

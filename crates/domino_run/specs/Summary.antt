@@ -5,18 +5,18 @@ use Rattle.line_meaning.specs.Step.{Base, base, held, refusal_of, step}
 
 -- what is counted of some lines: how many they are, how many were refused, and how many bytes their replies have, with the
 -- sum of these bytes
-pub record Tally : Type 0 where
+pub record LineTally : Type 0 where
   pub lines : ℕ
   pub refused : ℕ
   pub bytes : ℕ
   pub total : ℕ
 
-abbrev pub nothing_counted : Tally
+abbrev pub nothing_counted : LineTally
 nothing_counted = record { lines = 0; refused = 0; bytes = 0; total = 0 }
 
 -- one more line is counted, by whether it was refused and by its reply
-abbrev pub counted : Tally → Bool → List ℕ → Tally
-counted t refused reply = record {
+abbrev pub tally_after : LineTally → Bool → List ℕ → LineTally
+tally_after t refused reply = record {
   lines = t.lines + 1;
   refused = t.refused + (if refused then 1 else 0);
   bytes = t.bytes + length reply;
@@ -24,8 +24,8 @@ counted t refused reply = record {
 }
 
 -- a line is answered and counted
-abbrev pub counted_line : Base × Tally → List ℕ → Base × Tally
-counted_line (b, t) line = ((step b line).0, counted t (is_some (refusal_of b line)) (step b line).1)
+abbrev pub counted_line : Base × LineTally → List ℕ → Base × LineTally
+counted_line (b, t) line = ((step b line).0, tally_after t (is_some (refusal_of b line)) (step b line).1)
 
 -- a line was answered, from one state to the next, by whether it was refused and by its reply
 abbrev pub AnswersAs : Base → List ℕ → Base → Bool → List ℕ → Type 0
@@ -35,13 +35,13 @@ AnswersAs old line new refused reply = (refused ≡ is_some (refusal_of old line
 abbrev pub number_line : List ℕ → ℕ → List ℕ
 number_line word number = word ++ (decimal number ++ 10 ∷ [])
 
-abbrev pub tally_text : Tally → List ℕ
+abbrev pub tally_text : LineTally → List ℕ
 tally_text t =
     number_line (codes "lines ") t.lines ++ (number_line (codes "refused ") t.refused
     ++ (number_line (codes "bytes ") t.bytes ++ number_line (codes "sum ") t.total))
 
 -- the empty journal, where there is no text, and nothing was counted
-abbrev pub first_state : Base × Tally
+abbrev pub first_state : Base × LineTally
 first_state = (base (held []) (λ name. None), nothing_counted)
 
 unfoldable pub summary : ℕ → List ℕ

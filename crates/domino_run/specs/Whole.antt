@@ -3,7 +3,7 @@ use Rattle.std.specs.Prelude.{ℕ, false, Option, None, Some, List, [], ◌∷�
 use Rattle.outside.specs.Shelf.{Texts}
 use Rattle.line_meaning.specs.Loading.{Loading, Loaded, BadLine, loading_of}
 use Rattle.line_meaning.specs.Step.{Held, base, held}
-use Rattle.domino_run.specs.Machine.{State}
+use Rattle.domino_run.specs.Machine.{RunState}
 use Rattle.domino_run.specs.Summary.{number_line, summary}
 use Rattle.domino_run.specs.Words.{Words, Bad, Plain, Generated, Stored}
 use Rattle.run_ends.specs.declared.status.Status.TheVariants.{Done, BadWords, BadSession}
@@ -17,19 +17,19 @@ abbrev pub bad_session : ℕ → List ℕ
 bad_session number = number_line (codes "bad session ") number
 
 -- the state before the first line
-abbrev pub started : Held → Texts → State
+abbrev pub started : Held → Texts → RunState
 started h texts = record { base = base h texts; ended = false }
 
-abbrev pub plan_loaded : Loading → Texts → Plan State
+abbrev pub plan_loaded : Loading → Texts → Plan RunState
 plan_loaded (Loaded journal) texts = Answers (started (held journal) texts)
 plan_loaded (BadLine number) texts = Says (bad_session number) BadSession
 
-abbrev pub plan_stored : Option (List ℕ) → Texts → Plan State
+abbrev pub plan_stored : Option (List ℕ) → Texts → Plan RunState
 plan_stored None texts = Says (bad_session 0) BadSession
 plan_stored (Some text) texts = plan_loaded (loading_of text) texts
 
 -- the words have something said, or the lines of the input answered
-abbrev pub plan_of : Words → Texts → Plan State
+abbrev pub plan_of : Words → Texts → Plan RunState
 plan_of Bad texts = Says bad_words BadWords
 plan_of Plain texts = Answers (started (held []) texts)
 plan_of (Generated number) texts = Says (summary number) Done

@@ -25,17 +25,17 @@ words_view (words.Generated number) = Generated number
 words_view (words.Stored name) = Stored name.now
 
 -- from one to nine digits
-abbrev pub is_number : List ℕ → Bool
-is_number text = nat_le 1 (length text) && (nat_le (length text) MOST_DIGITS && list_all is_ascii_digit text)
+abbrev pub is_short_number : List ℕ → Bool
+is_short_number text = nat_le 1 (length text) && (nat_le (length text) MOST_DIGITS && list_all is_ascii_digit text)
 
-abbrev pub number_of : List ℕ → Option ℕ
-number_of text = if is_number text then Some (digits_value 10 text) else None
+abbrev pub short_number : List ℕ → Option ℕ
+short_number text = if is_short_number text then Some (digits_value 10 text) else None
 
 -- a word that asks for something, and the word after it
 abbrev pub asked : List ℕ → List ℕ → Words
 asked word value =
     if bytes_eq word (codes "--session") then Stored value
-    else if bytes_eq word (codes "--gen") then option_map_or Generated (number_of value) Bad
+    else if bytes_eq word (codes "--gen") then option_map_or Generated (short_number value) Bad
     else Bad
 
 -- the program's name alone asks for a plain run

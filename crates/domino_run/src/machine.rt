@@ -1,7 +1,7 @@
 //! The database as a line machine.
 ghost use Rattle.std.specs.Prelude.{◌≡◌, ◌++◌, false, IfErr, OnOk};
 ghost use Rattle.outside.specs.declared.fault.OutFail.TheVariants.{NoMemory};
-ghost use Rattle.command_text.specs.Refusals.{line_of};
+ghost use Rattle.command_text.specs.Refusals.{refusal_line};
 ghost use Rattle.line_meaning.specs.Reply.{line_feed};
 
 use command_text::{LINE_LIMIT, Refusal, lines_begin_with_their_words};
@@ -60,21 +60,21 @@ impl<L: Ledger, M: Ledger> Database<L, M> {
 
 impl<F: Shelf, L: Ledger, M: Ledger> Handler<F> for Database<L, M> {
     ghost use Rattle.std.specs.Prelude.{Some};
-    ghost use Rattle.domino_run.specs.Machine.{State, cost, machine, leaves, state_of};
+    ghost use Rattle.domino_run.specs.Machine.{RunState, run_cost, run_machine, run_leaves, told_state};
 
-    ghost State = { State };
+    ghost State = { RunState };
 
-    ghost machine = { machine };
+    ghost machine = { run_machine };
 
-    ghost state = { λ database shelf. state_of database.session database.ended (F.texts shelf) };
+    ghost state = { λ database shelf. told_state database.session database.ended (F.texts shelf) };
 
     ghost faults = { λ shelf. F.faults shelf };
 
-    ghost leaves = { leaves };
+    ghost leaves = { run_leaves };
 
     ghost spent = { λ database. database.counters.reads };
 
-    ghost cost = { cost };
+    ghost cost = { run_cost };
 
     ghost use Rattle.command_text.specs.declared.reading.TheConstants.{LINE_LIMIT};
 
@@ -118,7 +118,7 @@ impl<F: Shelf, L: Ledger, M: Ledger> Handler<F> for Database<L, M> {
 
 /// Writes the line of a refusal.
 pub fn push_refusal(out: &mut Vec<u8>, refusal: Refusal) -> Result<(), OutFail>
-    ensures ok { OnOk result (out.new.items ≡ out.old.items ++ (line_of refusal ++ line_feed)) }
+    ensures ok { OnOk result (out.new.items ≡ out.old.items ++ (refusal_line refusal ++ line_feed)) }
     ensures err { IfErr result (λ fail. fail ≡ NoMemory) }
 {
     out.extend_from_slice(refusal.line().bytes())?;

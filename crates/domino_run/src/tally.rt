@@ -1,7 +1,7 @@
 //! What is counted of lines and their replies.
 ghost use Rattle.std.specs.Prelude.{◌≡◌, ◌+◌, ◌*◌, ◌^◌, ◌<◌, ◌≤◌, ◌++◌, length, sum, string_bytes, codes, IfOk, OnOk};
 ghost use Rattle.generator.specs.declared.plan.TheConstants.{LINES};
-ghost use Rattle.domino_run.specs.Summary.{counted, nothing_counted, number_line, tally_text};
+ghost use Rattle.domino_run.specs.Summary.{nothing_counted, number_line, tally_after, tally_text};
 
 use itoa::Buffer;
 use std::alloc::{AllocError, Global};
@@ -21,7 +21,7 @@ impl Model for Tally {
     ghost use Rattle.std.specs.Prelude.{◌*◌, ◌^◌, ◌≤◌};
     ghost use Rattle.domino_run.specs.Summary;
 
-    ghost Value = { Summary.Tally };
+    ghost Value = { Summary.LineTally };
 
     ghost view = { λ t. record { lines = t.lines; refused = t.refused; bytes = t.bytes; total = t.total } };
 
@@ -45,7 +45,7 @@ impl Tally {
     /// number.
     pub fn count(&mut self, refused: bool, reply: &[u8])
         requires { self.old.lines < LINES }
-        ensures { self.new ≡ counted self.old refused reply.now }
+        ensures { self.new ≡ tally_after self.old refused reply.now }
     {
         self.lines += 1;
         self.refused += u32::from(refused);

@@ -4,7 +4,7 @@ ghost use Rattle.std.specs.Char.{is_ascii_digit};
 ghost use Rattle.std.specs.List.{list_all};
 ghost use Rattle.std.specs.Str.Parse.{digits_value};
 ghost use Rattle.std.specs.Option.{option_map_or};
-ghost use Rattle.domino_run.specs.Words.{Bad, Generated, asked, is_number, number_of, words_of, words_view};
+ghost use Rattle.domino_run.specs.Words.{Bad, Generated, asked, is_short_number, short_number, words_of, words_view};
 
 /// The most digits of the number after `--gen`.
 pub const MOST_DIGITS: usize = 9;
@@ -49,7 +49,7 @@ fn asked<'a>(word: &[u8], value: &'a [u8]) -> Words<'a>
 }
 
 fn generated<'a>(value: &[u8]) -> Words<'a>
-    ensures { words_view result ≡ option_map_or Generated (number_of value.now) Bad }
+    ensures { words_view result ≡ option_map_or Generated (short_number value.now) Bad }
 {
     match number_of(value) {
         Some(number) => Words::Generated(number),
@@ -59,7 +59,7 @@ fn generated<'a>(value: &[u8]) -> Words<'a>
 
 /// The number that digits write.
 fn number_of(text: &[u8]) -> Option<u32>
-    ensures { result ≡ number_of text.now }
+    ensures { result ≡ short_number text.now }
 {
     if is_number(text) {
         Some(value_of(text))
@@ -69,7 +69,7 @@ fn number_of(text: &[u8]) -> Option<u32>
 }
 
 fn is_number(text: &[u8]) -> bool
-    ensures { result ≡ is_number text.now }
+    ensures { result ≡ is_short_number text.now }
 {
     let digits = are_digits(text);
     1 <= text.len() && text.len() <= MOST_DIGITS && digits
@@ -83,7 +83,7 @@ fn are_digits(text: &[u8]) -> bool
 
 #[tactic(auto, using(crate::proofs::NumberLemmas::value_steps))]
 fn value_of(digits: &[u8]) -> u32
-    requires { is_number digits.now ≡ true }
+    requires { is_short_number digits.now ≡ true }
     ensures { result ≡ digits_value 10 digits.now }
 {
     let mut number = 0;

@@ -12,8 +12,8 @@ use Rattle.formula.specs.Value.{no_values}
 use Rattle.formula.specs.Variables.{atom_has, has_variable, term_has}
 use Rattle.meaning.specs.Reads.{atom_variables, choices, made_single, reads, term_variables}
 use Rattle.meaning.specs.Satisfaction.{Interpretation, sat}
-use Rattle.relation.specs.Frames.{size_of}
-use Rattle.relation.specs.Key.{has_id, ids_of}
+use Rattle.relation.specs.Frames.{domain_size}
+use Rattle.relation.specs.Key.{has_id, ids_of_variable}
 use Rattle.evaluator.specs.Interpreting.{IsInFor, IsOver}
 use Rattle.evaluator.specs.Rows.{is_full, query_reads_upto}
 use Rattle.evaluator.specs.inner.ByBinding.{AreTicksOf, reads_here}
@@ -30,7 +30,7 @@ of_first P first (suc v) l = absurd (omega (arith, l))
 
 pub alone_inside : (id : ℕ) (f : ResolvedTree) → IsOver 1 f → IsInFor ((id ∷ []) ∷ []) (λ v. has_variable v f) (slice_index (id ∷ []))
 alone_inside id f over v h =
-    of_first (λ (u : ℕ). has_id (ids_of ((id ∷ []) ∷ []) u) (slice_index (id ∷ []) u) ≡ true) (or_left (id == id) false (eq-eqb id id refl)) v (over v h)
+    of_first (λ (u : ℕ). has_id (ids_of_variable ((id ∷ []) ∷ []) u) (slice_index (id ∷ []) u) ≡ true) (or_left (id == id) false (eq-eqb id id refl)) v (over v h)
 
 -- ---- the ticks
 
@@ -147,9 +147,9 @@ same_reads ticks (shapes.Assign (d, q) f) size other same =
 pub reads_alone : (id lo hi : ℕ) (q : ResolvedQuery) → length q.classes ≡ 1 → IsOver 1 q.formula →
     query_reads_upto ((id ∷ []) ∷ []) lo hi q ≡ reads_here lo hi q.formula + 1
 reads_alone id lo hi q one over =
-    λ i. same_reads (hi + 1 - lo) q.formula (size_of ((id ∷ []) ∷ [])) (λ _. 1)
-    (λ v h. of_first (λ (u : ℕ). size_of ((id ∷ []) ∷ []) u ≡ 1) refl v (over v h)) i
-    + (ap (λ (n : ℕ). sum_by (size_of ((id ∷ []) ∷ [])) (between 0 n)) one ∙ once (size_of ((id ∷ []) ∷ []))) i
+    λ i. same_reads (hi + 1 - lo) q.formula (domain_size ((id ∷ []) ∷ [])) (λ _. 1)
+    (λ v h. of_first (λ (u : ℕ). domain_size ((id ∷ []) ∷ []) u ≡ 1) refl v (over v h)) i
+    + (ap (λ (n : ℕ). sum_by (domain_size ((id ∷ []) ∷ [])) (between 0 n)) one ∙ once (domain_size ((id ∷ []) ∷ []))) i
   where
     once : (size : ℕ → ℕ) → sum_by size (between 0 1) ≡ size 0
     once size =

@@ -20,14 +20,14 @@ use Rattle.meaning.specs.Reads.{term_variables}
 use Rattle.meaning.specs.Satisfaction.{Interpretation, sat}
 use Rattle.relation.specs.Frames.{Frame, IsIn, IsWider, agrees, frame, vars_of_both}
 use Rattle.relation.specs.Key.{are_known}
-use Rattle.relation.specs.Rows.{Table, has}
+use Rattle.relation.specs.Rows.{Table, table_has}
 use Rattle.interpreting.specs.declared.value_run.ValueRun.{ValueRun}
 use Rattle.evaluator.specs.Assigned.{CanAskEach, run_holds}
-use Rattle.evaluator.specs.Gathered.{any_has}
+use Rattle.evaluator.specs.Gathered.{some_part_has}
 use Rattle.evaluator.specs.Interpreting.{CanAsk, IsInFor}
 use Rattle.evaluator.specs.Keys.{AreKeys, AreNarrowed, binding_of, has_key}
 use Rattle.evaluator.specs.Rows.{AreRowsWhere}
-use Rattle.interpreting.specs.Names.{formula_names}
+use Rattle.interpreting.specs.Names.{formula_uses_value}
 use Rattle.interpreting.specs.ValueRuns.{run_has}
 use Rattle.evaluator.specs.Stretched.{AreStretches, IsStretch}
 use Rattle.evaluator.proofs.BindingLemmas.{agreeing_key, binding_of-map, key_in-map, narrowed_has}
@@ -81,9 +81,9 @@ run_step false h r = refl
 module _ {S : Type 0} (member : S → ℕ → Bool) (j : (ℕ → ℕ) → Interpretation) (domains : List (List ℕ)) (lo hi depth : ℕ) (f : ResolvedTree) (x : Env) (runs : List ValueRun) where
   -- the part of one more run behind the others
   pub run_more : (i : ℕ) (run : ValueRun) (parts : List (Table S)) (part : Table S) → i < length runs → run ≡ get_or runs i run →
-      ((b : ℕ → ℕ) → IsIn domains b → (t : ℕ) → any_has member parts b t ≡ (within lo hi t && run_holds j depth f x hi (take i runs) b t)) →
+      ((b : ℕ → ℕ) → IsIn domains b → (t : ℕ) → some_part_has member parts b t ≡ (within lo hi t && run_holds j depth f x hi (take i runs) b t)) →
       AreRowsWhere member domains lo hi (variables_of f) (λ b t. within run.span.lo run.span.hi t && sat (j b) f (with_value x depth run.value) hi t) part →
-      (b : ℕ → ℕ) → IsIn domains b → (t : ℕ) → any_has member (parts ++ part ∷ []) b t ≡ (within lo hi t && run_holds j depth f x hi (take (i + 1) runs) b t)
+      (b : ℕ → ℕ) → IsIn domains b → (t : ℕ) → some_part_has member (parts ++ part ∷ []) b t ≡ (within lo hi t && run_holds j depth f x hi (take (i + 1) runs) b t)
   run_more i run parts part l at before are b is_in t =
       any_has-push member parts part b t
       ∙ (λ k. before b is_in t k || are.ticks b is_in t k)
@@ -106,9 +106,9 @@ key_step false h e s = refl
 module _ {S : Type 0} (member : S → ℕ → Bool) (domains : List (List ℕ)) (lo hi : ℕ) (vars : List ℕ) (holds : (ℕ → ℕ) → ℕ → Bool) (keys : List (List ℕ)) where
   -- the rows of one more key behind the others
   pub key_more : (all : List ℕ) (i : ℕ) (key : List ℕ) (parts : List (Table S)) (rows : Table S) → i < length keys → key ≡ get_or keys i key →
-      ((b : ℕ → ℕ) → IsIn domains b → (t : ℕ) → any_has member parts b t ≡ (within lo hi t && (has_key (take i keys) (map b vars) && holds b t))) →
+      ((b : ℕ → ℕ) → IsIn domains b → (t : ℕ) → some_part_has member parts b t ≡ (within lo hi t && (has_key (take i keys) (map b vars) && holds b t))) →
       AreRowsWhere member domains lo hi all (λ b t. agrees vars key b && holds b t) rows →
-      (b : ℕ → ℕ) → IsIn domains b → (t : ℕ) → any_has member (parts ++ rows ∷ []) b t ≡ (within lo hi t && (has_key (take (i + 1) keys) (map b vars) && holds b t))
+      (b : ℕ → ℕ) → IsIn domains b → (t : ℕ) → some_part_has member (parts ++ rows ∷ []) b t ≡ (within lo hi t && (has_key (take (i + 1) keys) (map b vars) && holds b t))
   key_more all i key parts rows l at before are b is_in t =
       any_has-push member parts rows b t
       ∙ (λ k. before b is_in t k || are.ticks b is_in t k)
@@ -118,8 +118,8 @@ module _ {S : Type 0} (member : S → ℕ → Bool) (domains : List (List ℕ)) 
 
   -- all keys are those of all assignments
   pub all_keys : (i : ℕ) (parts : List (Table S)) → length keys ≤ i → AreKeys domains vars keys → are_known domains vars ≡ true →
-      ((b : ℕ → ℕ) → IsIn domains b → (t : ℕ) → any_has member parts b t ≡ (within lo hi t && (has_key (take i keys) (map b vars) && holds b t))) →
-      (b : ℕ → ℕ) → IsIn domains b → (t : ℕ) → any_has member parts b t ≡ (within lo hi t && holds b t)
+      ((b : ℕ → ℕ) → IsIn domains b → (t : ℕ) → some_part_has member parts b t ≡ (within lo hi t && (has_key (take i keys) (map b vars) && holds b t))) →
+      (b : ℕ → ℕ) → IsIn domains b → (t : ℕ) → some_part_has member parts b t ≡ (within lo hi t && holds b t)
   all_keys i parts l are known says b is_in t =
       says b is_in t
       ∙ ap (λ (z : List (List ℕ)). within lo hi t && (has_key z (map b vars) && holds b t)) (take_all i keys l)
@@ -134,7 +134,7 @@ at_step false a p z f = refl
 
 module _ {S : Type 0} (member : S → ℕ → Bool) (j : (ℕ → ℕ) → Interpretation) (old : List (List ℕ)) (lo hi depth : ℕ) (q : RTerm) (f : ResolvedTree) (x : Env)
     (sees : (b c : ℕ → ℕ) → ((v : ℕ) → term_has v q ≡ true → b v ≡ c v) → (t : ℕ) → (j b).term q x t ≡ (j c).term q x t)
-    (blind : formula_names depth f ≡ false → (b : ℕ → ℕ) (v w : Value) (t : ℕ) → sat (j b) f (with_value x depth v) hi t ≡ sat (j b) f (with_value x depth w) hi t)
+    (blind : formula_uses_value depth f ≡ false → (b : ℕ → ℕ) (v w : Value) (t : ℕ) → sat (j b) f (with_value x depth v) hi t ≡ sat (j b) f (with_value x depth w) hi t)
     (over : (v : ℕ) → term_has v q ≡ true → v < 4) (vars : List ℕ) (are_vars : vars ≡ term_variables q) where
   -- the value at the binding of a key is that at each assignment that agrees with it
   pub value_at : (key : List ℕ) (b : ℕ → ℕ) → agrees vars key b ≡ true → (t : ℕ) →
@@ -148,25 +148,25 @@ module _ {S : Type 0} (member : S → ℕ → Bool) (j : (ℕ → ℕ) → Inter
 
   pub rows_at_key : (key : List ℕ) (new : List (List ℕ)) (runs : List ValueRun) (rows wide own made : Table S) →
       AreNarrowed old vars key new →
-      AreStretches (formula_names depth f) ((j (slice_index (binding_of vars key))).term q x) lo (hi + 1) runs →
+      AreStretches (formula_uses_value depth f) ((j (slice_index (binding_of vars key))).term q x) lo (hi + 1) runs →
       AreRowsWhere member new lo hi (variables_of f) (run_holds j depth f x hi runs) rows →
-      ((b : ℕ → ℕ) (t : ℕ) → has member wide b t ≡ has member rows b t) → wide.vars ≡ rows.vars →
+      ((b : ℕ → ℕ) (t : ℕ) → table_has member wide b t ≡ table_has member rows b t) → wide.vars ≡ rows.vars →
       AreRowsWhere member old lo hi vars (λ b t. agrees vars key b) own →
-      ((b : ℕ → ℕ) → IsIn own.domains b → (t : ℕ) → has member made b t ≡ (has member own b t && has member wide b t)) →
+      ((b : ℕ → ℕ) → IsIn own.domains b → (t : ℕ) → table_has member made b t ≡ (table_has member own b t && table_has member wide b t)) →
       made.vars ≡ vars_of_both own.vars wide.vars → frame made ≡ frame own →
       AreRowsWhere member old lo hi (variables_of (shapes.Assign (depth, q) f)) (λ b t. agrees vars key b && sat (j b) (shapes.Assign (depth, q) f) x hi t) made
   rows_at_key key new runs rows wide own made narrow are_runs are wider wide_vars are_own ticks made_vars same = record {
     ticks = λ b is_in t.
         ticks b (subst (λ (d : List (List ℕ)). IsIn d b) (sym (ap (λ (z : Frame). z.domains) are_own.frame)) is_in) t
-        ∙ ap (λ (y : Bool). y && has member wide b t) (are_own.ticks b is_in t)
-        ∙ at_step (within lo hi t) (agrees vars key b) (sat (j b) (shapes.Assign (depth, q) f) x hi t) (has member wide b t) (here b is_in t);
+        ∙ ap (λ (y : Bool). y && table_has member wide b t) (are_own.ticks b is_in t)
+        ∙ at_step (within lo hi t) (agrees vars key b) (sat (j b) (shapes.Assign (depth, q) f) x hi t) (table_has member wide b t) (here b is_in t);
     vars = made_vars ∙ (λ i. vars_of_both ((are_own.vars ∙ are_vars) i) ((wide_vars ∙ are.vars) i)) ∙ both_variables (λ v. term_has v q) (λ v. has_variable v f);
     frame = same ∙ are_own.frame;
   }
     where
       by_runs : (b : ℕ → ℕ) (t : ℕ) → agrees vars key b ≡ true → within lo hi t ≡ true → run_holds j depth f x hi runs b t ≡ sat (j b) (shapes.Assign (depth, q) f) x hi t
       by_runs b t agree inside =
-          stretches_all (formula_names depth f) lo hi ((j (slice_index (binding_of vars key))).term q x) (λ v. sat (j b) f (with_value x depth v) hi t) (λ none v w. blind none b v w t) t
+          stretches_all (formula_uses_value depth f) lo hi ((j (slice_index (binding_of vars key))).term q x) (λ v. sat (j b) f (with_value x depth v) hi t) (λ none v w. blind none b v w t) t
           runs are_runs inside
           ∙ ap (λ (o : Option Value). option_map_or (λ v. sat (j b) f (with_value x depth v) hi t) o false) (value_at key b agree t)
 
@@ -178,7 +178,7 @@ module _ {S : Type 0} (member : S → ℕ → Bool) (j : (ℕ → ℕ) → Inter
             | inr e ↦ ap (λ (y : Bool). y && run_holds j depth f x hi runs b t) e ∙ sym (ap (λ (y : Bool). y && sat (j b) (shapes.Assign (depth, q) f) x hi t) e)
           ]
 
-      here : (b : ℕ → ℕ) → IsIn old b → (t : ℕ) → agrees vars key b ≡ true → has member wide b t ≡ (within lo hi t && sat (j b) (shapes.Assign (depth, q) f) x hi t)
+      here : (b : ℕ → ℕ) → IsIn old b → (t : ℕ) → agrees vars key b ≡ true → table_has member wide b t ≡ (within lo hi t && sat (j b) (shapes.Assign (depth, q) f) x hi t)
       here b is_in t agree =
           wider b t
           ∙ are.ticks b (narrowed_has old vars key new narrow b is_in agree) t

@@ -9,11 +9,11 @@ use Rattle.std.proofs.lemmas.Bool.{and_from, and_parts, or_cases, or_left, or_ri
 use Rattle.std.proofs.lemmas.List.{take_more}
 use Rattle.tick_set.specs.Ticks.{within}
 use Rattle.relation.specs.declared.row.Row.{Row}
-use Rattle.relation.specs.Key.{has_id, ids_of, key_below, key_in}
+use Rattle.relation.specs.Key.{has_id, ids_of_variable, key_below, key_in}
 use Rattle.relation.specs.Frames.{Frame, frame, frame_of}
 use Rattle.relation.specs.Order.{has_row, keys_over}
 use Rattle.relation.specs.Rows.{Table, has_at, table}
-use Rattle.evaluator.specs.Keys.{AreAscending, has_key}
+use Rattle.evaluator.specs.Keys.{AreAscendingKeys, has_key}
 use Rattle.evaluator.specs.inner.Away.{AreAwayFor}
 use Rattle.evaluator.specs.inner.Filled.{IsFilled}
 use Rattle.evaluator.proofs.FillingLemmas.{at_key, filled_both}
@@ -29,11 +29,11 @@ pub all_filter : {X : Type 0} (p q : X → Bool) (xs : List X) → list_all p xs
 all_filter p q [] h = refl
 all_filter p q (x ∷ xs) h = let parts = and_parts _ _ h in all_kept (q x) p x (filter q xs) parts.0 (all_filter p q xs parts.1)
 
-ascend_kept : (k : Bool) (key : List ℕ) (rest : List (List ℕ)) → list_all (key_below key) rest ≡ true → AreAscending rest → AreAscending (if k then key ∷ rest else rest)
+ascend_kept : (k : Bool) (key : List ℕ) (rest : List (List ℕ)) → list_all (key_below key) rest ≡ true → AreAscendingKeys rest → AreAscendingKeys (if k then key ∷ rest else rest)
 ascend_kept true key rest below up = (below, up)
 ascend_kept false key rest below up = up
 
-pub ascend_filter : (q : List ℕ → Bool) (keys : List (List ℕ)) → AreAscending keys → AreAscending (filter q keys)
+pub ascend_filter : (q : List ℕ → Bool) (keys : List (List ℕ)) → AreAscendingKeys keys → AreAscendingKeys (filter q keys)
 ascend_filter q [] up = tt
 ascend_filter q (key ∷ keys) up = ascend_kept (q key) key (filter q keys) (all_filter (key_below key) q keys up.0) (ascend_filter q keys up.1)
 
@@ -47,14 +47,14 @@ length_filter q (x ∷ xs) = length_kept (q x) x (filter q xs) (length xs) (leng
 
 -- the keys of rows over one variable
 pub record AreRowKeys (domains : List (List ℕ)) (var : ℕ) (keys : List (List ℕ)) : Type 0 where
-  pub ascend : AreAscending keys
+  pub ascend : AreAscendingKeys keys
   pub inside : list_all (key_in domains (var ∷ [])) keys ≡ true
-  pub few : length keys ≤ length (ids_of domains var)
+  pub few : length keys ≤ length (ids_of_variable domains var)
 
 pub row_keys : (domains : List (List ℕ)) (var : ℕ) (q : List ℕ → Bool) (keys : List (List ℕ)) → keys ≡ filter q (keys_over domains (var ∷ [])) →
-    IsStrictlyIncreasing (ids_of domains var) → AreRowKeys domains var keys
+    IsStrictlyIncreasing (ids_of_variable domains var) → AreRowKeys domains var keys
 row_keys domains var q keys is up =
-    let all = keys_more domains var [] ([] ∷ []) (ids_of domains var) refl up (keys_none domains) in
+    let all = keys_more domains var [] ([] ∷ []) (ids_of_variable domains var) refl up (keys_none domains) in
     subst (AreRowKeys domains var) (sym is) (record {
       ascend = ascend_filter q (keys_over domains (var ∷ [])) all.ascend;
       inside = all_filter (key_in domains (var ∷ [])) q (keys_over domains (var ∷ [])) all.inside;
@@ -67,14 +67,14 @@ keys_at r = map (λ row. row.key) r.rows
 
 pub rows_keys : {S : Type 0} (rows : Table S) (domains : List (List ℕ)) (var lo hi : ℕ) → frame rows ≡ frame_of domains lo hi → rows.vars ≡ var ∷ [] →
     map (λ row. row.key) rows.rows ≡ filter (has_row rows.rows) (keys_over rows.domains rows.vars) →
-    (ids : List ℕ) → ids ≡ ids_of domains var → IsStrictlyIncreasing ids → AreRowKeys domains var (keys_at rows)
+    (ids : List ℕ) → ids ≡ ids_of_variable domains var → IsStrictlyIncreasing ids → AreRowKeys domains var (keys_at rows)
 rows_keys rows domains var lo hi same one is ids own up =
     row_keys domains var (has_row rows.rows) (keys_at rows)
     (is ∙ (λ i. filter (has_row rows.rows) (keys_over (ap (λ (z : Frame). z.domains) same i) (one i))))
     (subst (λ (z : List ℕ). IsStrictlyIncreasing z) own up)
 
 -- the object of a key
-pub own_first : (domains : List (List ℕ)) (var : ℕ) (key : List ℕ) → key_in domains (var ∷ []) key ≡ true → has_id (ids_of domains var) (slice_index key 0) ≡ true
+pub own_first : (domains : List (List ℕ)) (var : ℕ) (key : List ℕ) → key_in domains (var ∷ []) key ≡ true → has_id (ids_of_variable domains var) (slice_index key 0) ≡ true
 own_first domains var [] h = absurd (let e : false ≡ true = h in cc)
 own_first domains var (id ∷ key) h = (and_parts _ _ h).0
 
@@ -85,14 +85,14 @@ key_here f (x ∷ xs) (suc i) y is = key_here f xs i y is
 
 -- ---- rows that get the ticks of one key after another
 
-before_at : (keys : List (List ℕ)) (i : ℕ) (d : List ℕ) → AreAscending keys → i < length keys → list_all (λ k. key_below k (get_or keys i d)) (take i keys) ≡ true
+before_at : (keys : List (List ℕ)) (i : ℕ) (d : List ℕ) → AreAscendingKeys keys → i < length keys → list_all (λ k. key_below k (get_or keys i d)) (take i keys) ≡ true
 before_at [] i d up l = absurd (omega (arith, l))
 before_at (key ∷ keys) zero d up l = refl
 before_at (key ∷ keys) (suc i) d up l = and_from _ _ (at_key (key_below key) keys i d up.0 (omega (arith, l))) (before_at keys i d up.1 (omega (arith, l)))
 
 module _ {S : Type 0} (member : S → ℕ → Bool) (truth : List ℕ → ℕ → Bool) (keys : List (List ℕ)) (i : ℕ) (key : List ℕ) (a b : Table S)
     (l : i < length keys) (at : key ≡ get_or keys i key) (first : IsFilled member truth (take i keys) a b) where
-  pub at_above : a.rows ≡ [] → AreAscending keys → list_all (λ r. key_below r.key key) b.rows ≡ true
+  pub at_above : a.rows ≡ [] → AreAscendingKeys keys → list_all (λ r. key_below r.key key) b.rows ≡ true
   at_above none up =
       first.upto (λ k. key_below k key) (ap (λ (rs : List (Row S)). list_all (λ r. key_below r.key key) rs) none)
       (subst (λ (z : List ℕ). list_all (λ k. key_below k z) (take i keys) ≡ true) (sym at) (before_at keys i key up l))

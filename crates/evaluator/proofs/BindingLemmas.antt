@@ -6,8 +6,8 @@ use Rattle.std.proofs.lemmas.List.{get_or_past}
 use Rattle.std.proofs.lemmas.Slice.Eq.{bytes_eq-Decides}
 use Rattle.formula.specs.Variables.{variables_in}
 use Rattle.meaning.specs.Reads.{made_single}
-use Rattle.relation.specs.Frames.{IsIn, IsWider, agrees, size_of}
-use Rattle.relation.specs.Key.{are_known, has_id, ids_of, key_in}
+use Rattle.relation.specs.Frames.{IsIn, IsWider, agrees, domain_size}
+use Rattle.relation.specs.Key.{are_known, has_id, ids_of_variable, key_in}
 use Rattle.evaluator.specs.Interpreting.{IsInFor}
 use Rattle.evaluator.specs.Keys.{AreNarrowed, are_first, binding_of, narrowed_ids, object_in}
 use Rattle.evaluator.proofs.VariableLemmas.{has_variables, known_one}
@@ -38,17 +38,17 @@ object_in-none (u ∷ us) (id ∷ key) v h =
 
 -- the object of a variable is one of its domain
 pub object_in-inside : (domains : List (List ℕ)) (vars key : List ℕ) (v id : ℕ) → key_in domains vars key ≡ true → object_in vars key v ≡ Some id →
-    has_id (ids_of domains v) id ≡ true
+    has_id (ids_of_variable domains v) id ≡ true
 object_in-inside domains [] key v id h o = absurd (let f : None ≡ Some id = o in cc)
 object_in-inside domains (u ∷ us) [] v id h o = absurd (let f : false ≡ true = h in cc)
 object_in-inside domains (u ∷ us) (x ∷ key) v id h o =
-    let parts : (has_id (ids_of domains u) x ≡ true) × (key_in domains us key ≡ true) = and_parts _ _ h in
+    let parts : (has_id (ids_of_variable domains u) x ≡ true) × (key_in domains us key ≡ true) = and_parts _ _ h in
     elim (cases_Bool (u == v)) [
       | inl e ↦
           let same : u ≡ v = eqb-true u v e in
           let object : Some x ≡ Some id = sym (ap (λ (c : Bool). if c then Some x else object_in us key v) e) ∙ o in
           let is : x ≡ id = cc in
-          subst (λ (z : ℕ). has_id (ids_of domains v) z ≡ true) is (subst (λ (z : ℕ). has_id (ids_of domains z) x ≡ true) same parts.0)
+          subst (λ (z : ℕ). has_id (ids_of_variable domains v) z ≡ true) is (subst (λ (z : ℕ). has_id (ids_of_variable domains z) x ≡ true) same parts.0)
       | inr e ↦ object_in-inside domains us key v id parts.1 (sym (ap (λ (c : Bool). if c then Some x else object_in us key v) e) ∙ o)
     ]
 
@@ -58,7 +58,7 @@ pub object_in-some : (domains : List (List ℕ)) (vars key : List ℕ) (v : ℕ)
 object_in-some domains [] key v h k = absurd (let f : false ≡ true = k in cc)
 object_in-some domains (u ∷ us) [] v h k = absurd (let f : false ≡ true = h in cc)
 object_in-some domains (u ∷ us) (x ∷ key) v h k =
-    let parts : (has_id (ids_of domains u) x ≡ true) × (key_in domains us key ≡ true) = and_parts _ _ h in
+    let parts : (has_id (ids_of_variable domains u) x ≡ true) × (key_in domains us key ≡ true) = and_parts _ _ h in
     elim (cases_Bool (u == v)) [
       | inl e ↦ chosen (u == v) x (object_in us key v) e
       | inr e ↦ other (u == v) x (object_in us key v) e (object_in-some domains us key v parts.1 (sym (ap (λ (c : Bool). c || has_id us v) e) ∙ k))
@@ -89,7 +89,7 @@ binding_of-map p b v l h =
 pub binding_inside : (domains : List (List ℕ)) (p : ℕ → Bool) (key : List ℕ) → ((v : ℕ) → p v ≡ true → v < 4) → key_in domains (variables_in p) key ≡ true →
     IsInFor domains p (slice_index (binding_of (variables_in p) key))
 binding_inside domains p key few inside v h =
-    ap (λ (id : ℕ). has_id (ids_of domains v) id) (at_place (variables_in p) key v (few v h))
+    ap (λ (id : ℕ). has_id (ids_of_variable domains v) id) (at_place (variables_in p) key v (few v h))
     ∙ object_in-inside domains (variables_in p) key v _ inside (object_in-some domains (variables_in p) key v inside (has_variables p v (few v h) ∙ h))
 
 -- an assignment in the domains gives a list of variables a key
@@ -125,8 +125,8 @@ module _ (old : List (List ℕ)) (vars key : List ℕ) (new : List (List ℕ)) (
       ∙ elim (cases_Bool (has_id vars v)) [
         | inl e ↦
             let o : object_in vars key v ≡ Some (b v) = ap (λ (k : List ℕ). object_in vars k v) (agreeing_key vars key b agree) ∙ object_in-map b vars v e in
-            ap (λ (ids : List ℕ). has_id ids (b v)) (single (ids_of old v) (object_in vars key v) (b v) o) ∙ own (b v)
-        | inr e ↦ ap (λ (ids : List ℕ). has_id ids (b v)) (same_ids (ids_of old v) (object_in vars key v) (object_in-none vars key v e)) ∙ is_in v below
+            ap (λ (ids : List ℕ). has_id ids (b v)) (single (ids_of_variable old v) (object_in vars key v) (b v) o) ∙ own (b v)
+        | inr e ↦ ap (λ (ids : List ℕ). has_id ids (b v)) (same_ids (ids_of_variable old v) (object_in vars key v) (object_in-none vars key v e)) ∙ is_in v below
       ]
 
   module _ (inside : key_in old vars key ≡ true) where
@@ -134,7 +134,7 @@ module _ (old : List (List ℕ)) (vars key : List ℕ) (new : List (List ℕ)) (
     pub narrowed_wider : IsWider new old
     narrowed_wider = record { many = sym is.many; all = all }
       where
-        all : (v id : ℕ) → has_id (ids_of new v) id ≡ true → has_id (ids_of old v) id ≡ true
+        all : (v id : ℕ) → has_id (ids_of_variable new v) id ≡ true → has_id (ids_of_variable old v) id ≡ true
         all v id h =
             elim (cases_lt v (length old)) [
               | inl l ↦
@@ -142,12 +142,12 @@ module _ (old : List (List ℕ)) (vars key : List ℕ) (new : List (List ℕ)) (
                   elim (cases_Bool (has_id vars v)) [
                     | inl e ↦
                         let o : object_in vars key v ≡ Some (unwrap_or (object_in vars key v) 0) = object_in-some old vars key v inside e in
-                        let one : has_id (unwrap_or (object_in vars key v) 0 ∷ []) id ≡ true = sym (ap (λ (ids : List ℕ). has_id ids id) (single (ids_of old v) (object_in vars key v) (unwrap_or (object_in vars key v) 0) o)) ∙ here in
-                        subst (λ (z : ℕ). has_id (ids_of old v) z ≡ true) (only (unwrap_or (object_in vars key v) 0) id one) (object_in-inside old vars key v _ inside o)
-                    | inr e ↦ sym (ap (λ (ids : List ℕ). has_id ids id) (same_ids (ids_of old v) (object_in vars key v) (object_in-none vars key v e))) ∙ here
+                        let one : has_id (unwrap_or (object_in vars key v) 0 ∷ []) id ≡ true = sym (ap (λ (ids : List ℕ). has_id ids id) (single (ids_of_variable old v) (object_in vars key v) (unwrap_or (object_in vars key v) 0) o)) ∙ here in
+                        subst (λ (z : ℕ). has_id (ids_of_variable old v) z ≡ true) (only (unwrap_or (object_in vars key v) 0) id one) (object_in-inside old vars key v _ inside o)
+                    | inr e ↦ sym (ap (λ (ids : List ℕ). has_id ids id) (same_ids (ids_of_variable old v) (object_in vars key v) (object_in-none vars key v e))) ∙ here
                   ]
               | inr g ↦
-                  let past : ids_of new v ≡ [] = get_or_past new v [] (subst (λ (n : ℕ). n ≤ v) (sym is.many) g) in
+                  let past : ids_of_variable new v ≡ [] = get_or_past new v [] (subst (λ (n : ℕ). n ≤ v) (sym is.many) g) in
                   absurd (let f : false ≡ true = sym (ap (λ (ids : List ℕ). has_id ids id) past) ∙ h in cc)
             ]
           where
@@ -155,24 +155,24 @@ module _ (old : List (List ℕ)) (vars key : List ℕ) (new : List (List ℕ)) (
             only x y m = elim (or_cases _ _ m) [ inl e ↦ eqb-true x y e | inr e ↦ absurd (let f : false ≡ true = e in cc) ]
 
     -- the sizes are those with one object for each of the variables
-    pub narrowed_sizes : are_known old vars ≡ true → size_of new ≡ made_single (size_of old) vars
+    pub narrowed_sizes : are_known old vars ≡ true → domain_size new ≡ made_single (domain_size old) vars
     narrowed_sizes known = λ i v. at v i
       where
-        at : (v : ℕ) → size_of new v ≡ made_single (size_of old) vars v
+        at : (v : ℕ) → domain_size new v ≡ made_single (domain_size old) vars v
         at v =
             elim (cases_Bool (has_id vars v)) [
               | inl e ↦
                   ap length (is.ids v (known_one old vars v known e))
-                  ∙ ap length (single (ids_of old v) (object_in vars key v) (unwrap_or (object_in vars key v) 0) (object_in-some old vars key v inside e))
-                  ∙ sym (ap (λ (c : Bool). if c then 1 else size_of old v) e)
+                  ∙ ap length (single (ids_of_variable old v) (object_in vars key v) (unwrap_or (object_in vars key v) 0) (object_in-some old vars key v inside e))
+                  ∙ sym (ap (λ (c : Bool). if c then 1 else domain_size old v) e)
               | inr e ↦
-                  rest e ∙ sym (ap (λ (c : Bool). if c then 1 else size_of old v) e)
+                  rest e ∙ sym (ap (λ (c : Bool). if c then 1 else domain_size old v) e)
             ]
           where
-            rest : has_id vars v ≡ false → size_of new v ≡ size_of old v
+            rest : has_id vars v ≡ false → domain_size new v ≡ domain_size old v
             rest e =
                 elim (cases_lt v (length old)) [
-                  | inl l ↦ ap length (is.ids v l) ∙ ap length (same_ids (ids_of old v) (object_in vars key v) (object_in-none vars key v e))
+                  | inl l ↦ ap length (is.ids v l) ∙ ap length (same_ids (ids_of_variable old v) (object_in vars key v) (object_in-none vars key v e))
                   | inr g ↦ ap length (get_or_past new v [] (subst (λ (n : ℕ). n ≤ v) (sym is.many) g)) ∙ sym (ap length (get_or_past old v [] g))
                 ]
 

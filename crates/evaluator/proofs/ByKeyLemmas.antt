@@ -17,7 +17,7 @@ use Rattle.meaning.specs.Agreement.{Agree}
 use Rattle.meaning.specs.Reads.{atom_variables, choices, made_single, reads, term_variables}
 use Rattle.meaning.specs.Satisfaction.{Interpretation, sat}
 use Rattle.meaning.proofs.LocalityLemmas.{same_sat}
-use Rattle.relation.specs.Frames.{size_of}
+use Rattle.relation.specs.Frames.{domain_size}
 use Rattle.relation.specs.Key.{has_id}
 use Rattle.evaluator.specs.Interpreting.{CanAsk, IsInFor}
 use Rattle.evaluator.specs.Keys.{binding_of}
@@ -244,13 +244,13 @@ over_reads s size small lo hi p (shapes.Assign (d, q) f) h =
     (assign_within (choices size (variables_in p)) (length (term_variables q)) (hi + 1 - lo) (reads_here lo hi f) (reads (made_single size (variables_in p)) (hi + 1 - lo) f) own))
 
 -- those of some keys
-pub by_keys : (domains : List (List ℕ)) (lo hi : ℕ) (vars : List ℕ) (f : ResolvedTree) → vars ≡ variables_of f → is_over (size_of domains) vars f ≡ true →
+pub by_keys : (domains : List (List ℕ)) (lo hi : ℕ) (vars : List ℕ) (f : ResolvedTree) → vars ≡ variables_of f → is_over (domain_size domains) vars f ≡ true →
     (start read i n : ℕ) →
-    read ≤ start + i * reads_here lo hi f → i ≤ n → n ≡ choices (size_of domains) vars → read ≤ start + reads_upto domains lo hi f
+    read ≤ start + i * reads_here lo hi f → i ≤ n → n ≡ choices (domain_size domains) vars → read ≤ start + reads_upto domains lo hi f
 by_keys domains lo hi vars f are h start read i n l m e =
-    within_all (choices (size_of domains) vars) (reads_here lo hi f) (reads_upto domains lo hi f)
-    (subst (λ (vs : List ℕ). choices (size_of domains) vs * reads_here lo hi f ≤ reads_upto domains lo hi f) (sym are)
-    (over_reads (size_of domains) (size_of domains) (λ v l. l) lo hi (λ v. has_variable v f) f (ap (λ (vs : List ℕ). is_over (size_of domains) vs f) (sym are) ∙ h)))
+    within_all (choices (domain_size domains) vars) (reads_here lo hi f) (reads_upto domains lo hi f)
+    (subst (λ (vs : List ℕ). choices (domain_size domains) vs * reads_here lo hi f ≤ reads_upto domains lo hi f) (sym are)
+    (over_reads (domain_size domains) (domain_size domains) (λ v l. l) lo hi (λ v. has_variable v f) f (ap (λ (vs : List ℕ). is_over (domain_size domains) vs f) (sym are) ∙ h)))
     l m e
   where
     within_all : (all cost most : ℕ) → all * cost ≤ most → read ≤ start + i * cost → i ≤ n → n ≡ all → read ≤ start + most
@@ -260,9 +260,9 @@ by_keys domains lo hi vars f are h start read i n l m e =
         grind (arith, reads_so, more, bound)
 
 -- those of some keys of one variable, each behind all of some others
-pub by_blocks : (domains : List (List ℕ)) (lo hi : ℕ) (vars : List ℕ) (f : ResolvedTree) → vars ≡ variables_of f → is_over (size_of domains) vars f ≡ true →
+pub by_blocks : (domains : List (List ℕ)) (lo hi : ℕ) (vars : List ℕ) (f : ResolvedTree) → vars ≡ variables_of f → is_over (domain_size domains) vars f ≡ true →
     (start read i n m : ℕ) →
-    read ≤ start + i * m * reads_here lo hi f → i ≤ n → n * m ≡ choices (size_of domains) vars → read ≤ start + reads_upto domains lo hi f
+    read ≤ start + i * m * reads_here lo hi f → i ≤ n → n * m ≡ choices (domain_size domains) vars → read ≤ start + reads_upto domains lo hi f
 by_blocks domains lo hi vars f are h start read i n m r l e = by_keys domains lo hi vars f are h start read (i * m) (n * m) r (fewer i n m l) e
 
 -- ---- formulas that have no part

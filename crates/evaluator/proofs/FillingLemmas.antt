@@ -10,11 +10,11 @@ use Rattle.std.proofs.lemmas.Slice.Eq.{bytes_eq-Decides}
 use Rattle.tick_set.specs.Ticks.{LiesIn, within}
 use Rattle.relation.specs.declared.row.Row.{Row}
 use Rattle.relation.specs.Frames.{IsIn, frame_of}
-use Rattle.relation.specs.Key.{are_known, has_id, ids_of, key_below, key_in}
+use Rattle.relation.specs.Key.{are_known, has_id, ids_of_variable, key_below, key_in}
 use Rattle.relation.specs.Rows.{IsSameHead, Table, has_at, table}
-use Rattle.evaluator.specs.Keys.{AreAscending, AreKeys, has_key}
+use Rattle.evaluator.specs.Keys.{AreAscendingKeys, AreKeys, has_key}
 use Rattle.evaluator.specs.Rows.{AreRowsWhere}
-use Rattle.evaluator.specs.inner.Filled.{IsFilled, behind}
+use Rattle.evaluator.specs.inner.Filled.{IsFilled, keys_behind}
 use Rattle.evaluator.proofs.BindingLemmas.{key_in-map}
 use Rattle.evaluator.proofs.KeyLemmas.{Rising, all_weaker, flat_map-step, own_ids, rising}
 
@@ -29,26 +29,26 @@ own_at ids i d l = at_key (has_id ids) ids i d (own_ids ids) l
 -- ---- keys in front of which an object stands
 
 -- the keys of smaller objects
-below_next : (x y : ℕ) (keys : List (List ℕ)) → nat_lt x y ≡ true → list_all (λ k. key_below k (y ∷ [])) (behind x keys) ≡ true
+below_next : (x y : ℕ) (keys : List (List ℕ)) → nat_lt x y ≡ true → list_all (λ k. key_below k (y ∷ [])) (keys_behind x keys) ≡ true
 below_next x y [] l = refl
 below_next x y (key ∷ keys) l = and_from _ _ (or_left _ _ l) (below_next x y keys l)
 
 blocks_before : (later : List (List ℕ)) (ids : List ℕ) (i d : ℕ) → Rising ids → i < length ids →
-    list_all (λ k. key_below k (get_or ids i d ∷ [])) (flat_map (λ id. behind id later) (take i ids)) ≡ true
+    list_all (λ k. key_below k (get_or ids i d ∷ [])) (flat_map (λ id. keys_behind id later) (take i ids)) ≡ true
 blocks_before later [] i d up l = absurd (omega (arith, l))
 blocks_before later (x ∷ ids) zero d up l = refl
 blocks_before later (x ∷ ids) (suc i) d up l =
-    list_all-append (λ k. key_below k (get_or ids i d ∷ [])) (behind x later) (flat_map (λ id. behind id later) (take i ids))
+    list_all-append (λ k. key_below k (get_or ids i d ∷ [])) (keys_behind x later) (flat_map (λ id. keys_behind id later) (take i ids))
     ∙ and_from _ _ (below_next x (get_or ids i d) later (at_key (nat_lt x) ids i d up.0 (omega (arith, l))))
     (blocks_before later ids i d up.1 (omega (arith, l)))
 
 pub before_block : (later : List (List ℕ)) (ids : List ℕ) (i d : ℕ) → IsStrictlyIncreasing ids → i < length ids →
-    list_all (λ k. key_below k (get_or ids i d ∷ [])) (flat_map (λ id. behind id later) (take i ids)) ≡ true
+    list_all (λ k. key_below k (get_or ids i d ∷ [])) (flat_map (λ id. keys_behind id later) (take i ids)) ≡ true
 before_block later ids i d up l = blocks_before later ids i d (rising ids up) l
 
 -- the keys before a place are below the one there
-before_key : (id : ℕ) (keys : List (List ℕ)) (i : ℕ) (d : List ℕ) → AreAscending keys → i < length keys →
-    list_all (λ k. key_below k (id ∷ get_or keys i d)) (behind id (take i keys)) ≡ true
+before_key : (id : ℕ) (keys : List (List ℕ)) (i : ℕ) (d : List ℕ) → AreAscendingKeys keys → i < length keys →
+    list_all (λ k. key_below k (id ∷ get_or keys i d)) (keys_behind id (take i keys)) ≡ true
 before_key id [] i d up l = absurd (omega (arith, l))
 before_key id (key ∷ keys) zero d up l = refl
 before_key id (key ∷ keys) (suc i) d up l =
@@ -70,8 +70,8 @@ below_longer (x ∷ xs) id key h = longer (nat_lt x id) _ _ _ (none_below xs) h
     longer false false c d e s = absurd (let f : false ≡ true = s in cc)
 
 pub behind_more : (id : ℕ) (keys : List (List ℕ)) (i : ℕ) (d : List ℕ) → i < length keys →
-    behind id (take (i + 1) keys) ≡ behind id (take i keys) ++ (id ∷ get_or keys i d) ∷ []
-behind_more id keys i d l = ap (behind id) (take_more keys i d l) ∙ map-append (λ key. id ∷ key) (take i keys) (get_or keys i d ∷ [])
+    keys_behind id (take (i + 1) keys) ≡ keys_behind id (take i keys) ++ (id ∷ get_or keys i d) ∷ []
+behind_more id keys i d l = ap (keys_behind id) (take_more keys i d l) ∙ map-append (λ key. id ∷ key) (take i keys) (get_or keys i d ∷ [])
 
 -- ---- rows
 
@@ -133,35 +133,35 @@ module _ {S : Type 0} (member : S → ℕ → Bool) (truth : List ℕ → ℕ �
 
   -- the next object's rows, where the keys of each object are those of a list behind it
   pub filled_block : (later : List (List ℕ)) (ids : List ℕ) (i d : ℕ) (a b c : Table S) → i < length ids →
-      IsFilled member truth (flat_map (λ id. behind id later) (take i ids)) a b → IsFilled member truth (behind (get_or ids i d) later) b c →
-      IsFilled member truth (flat_map (λ id. behind id later) (take (i + 1) ids)) a c
+      IsFilled member truth (flat_map (λ id. keys_behind id later) (take i ids)) a b → IsFilled member truth (keys_behind (get_or ids i d) later) b c →
+      IsFilled member truth (flat_map (λ id. keys_behind id later) (take (i + 1) ids)) a c
   filled_block later ids i d a b c l first second =
-      subst (λ (ks : List (List ℕ)). IsFilled member truth ks a c) (sym (flat_map-step (λ id. behind id later) ids i d l))
-      (filled_both (flat_map (λ id. behind id later) (take i ids)) (behind (get_or ids i d) later) a b c first second)
+      subst (λ (ks : List (List ℕ)). IsFilled member truth ks a c) (sym (flat_map-step (λ id. keys_behind id later) ids i d l))
+      (filled_both (flat_map (λ id. keys_behind id later) (take i ids)) (keys_behind (get_or ids i d) later) a b c first second)
 
   -- those of the keys before are below them
   pub block_above : (later : List (List ℕ)) (ids : List ℕ) (i d : ℕ) (a b : Table S) → i < length ids → a.rows ≡ [] → IsStrictlyIncreasing ids →
-      IsFilled member truth (flat_map (λ id. behind id later) (take i ids)) a b → list_all (λ r. key_below r.key (get_or ids i d ∷ [])) b.rows ≡ true
+      IsFilled member truth (flat_map (λ id. keys_behind id later) (take i ids)) a b → list_all (λ r. key_below r.key (get_or ids i d ∷ [])) b.rows ≡ true
   block_above later ids i d a b l none up first =
       first.upto (λ k. key_below k (get_or ids i d ∷ []))
       (ap (λ (rs : List (Row S)). list_all (λ r. key_below r.key (get_or ids i d ∷ [])) rs) none) (before_block later ids i d up l)
 
   -- the next key of an object
   pub filled_next : (id : ℕ) (keys : List (List ℕ)) (i : ℕ) (key : List ℕ) (a b c : Table S) → i < length keys → key ≡ get_or keys i key →
-      IsFilled member truth (behind id (take i keys)) a b → IsFilled member truth ((id ∷ key) ∷ []) b c →
-      IsFilled member truth (behind id (take (i + 1) keys)) a c
+      IsFilled member truth (keys_behind id (take i keys)) a b → IsFilled member truth ((id ∷ key) ∷ []) b c →
+      IsFilled member truth (keys_behind id (take (i + 1) keys)) a c
   filled_next id keys i key a b c l at first second =
       subst (λ (ks : List (List ℕ)). IsFilled member truth ks a c) (sym (behind_more id keys i key l))
-      (filled_both (behind id (take i keys)) ((id ∷ get_or keys i key) ∷ []) a b c first
+      (filled_both (keys_behind id (take i keys)) ((id ∷ get_or keys i key) ∷ []) a b c first
       (subst (λ (k : List ℕ). IsFilled member truth ((id ∷ k) ∷ []) b c) at second))
 
   pub next_above : (id : ℕ) (keys : List (List ℕ)) (i : ℕ) (key : List ℕ) (a b : Table S) → i < length keys → key ≡ get_or keys i key →
-      list_all (λ r. key_below r.key (id ∷ [])) a.rows ≡ true → AreAscending keys → IsFilled member truth (behind id (take i keys)) a b →
+      list_all (λ r. key_below r.key (id ∷ [])) a.rows ≡ true → AreAscendingKeys keys → IsFilled member truth (keys_behind id (take i keys)) a b →
       list_all (λ r. key_below r.key (id ∷ key)) b.rows ≡ true
   next_above id keys i key a b l at below up first =
       first.upto (λ k. key_below k (id ∷ key))
       (all_weaker (λ r. key_below r.key (id ∷ [])) (λ r. key_below r.key (id ∷ key)) (λ r h. below_longer r.key id key h) a.rows below)
-      (subst (λ (z : List ℕ). list_all (λ k. key_below k (id ∷ z)) (behind id (take i keys)) ≡ true) (sym at) (before_key id keys i key up l))
+      (subst (λ (z : List ℕ). list_all (λ k. key_below k (id ∷ z)) (keys_behind id (take i keys)) ≡ true) (sym at) (before_key id keys i key up l))
 
   -- all rows of these variables' keys
   pub filled_all : (domains : List (List ℕ)) (vars : List ℕ) (lo hi : ℕ) (holds : (ℕ → ℕ) → ℕ → Bool) (keys : List (List ℕ)) (start made : Table S) →
@@ -198,7 +198,7 @@ pub still_fits : {S : Type 0} (vars : List ℕ) (lo hi : ℕ) (old made : Table 
     IsSameHead (table vars made.domains lo hi []) made
 still_fits vars lo hi old made first second = record { vars = second.vars ∙ first.vars; domains = refl; lo = second.lo ∙ first.lo; hi = second.hi ∙ first.hi }
 
-pub first_inside : (domains : List (List ℕ)) (var : ℕ) (vars : List ℕ) (id : ℕ) (later : List (List ℕ)) → has_id (ids_of domains var) id ≡ true →
+pub first_inside : (domains : List (List ℕ)) (var : ℕ) (vars : List ℕ) (id : ℕ) (later : List (List ℕ)) → has_id (ids_of_variable domains var) id ≡ true →
     list_all (key_in domains vars) later ≡ true → list_all (λ key. key_in domains (var ∷ vars) (id ∷ key)) later ≡ true
 first_inside domains var vars id later h inside =
     all_weaker (key_in domains vars) (λ key. key_in domains (var ∷ vars) (id ∷ key)) (λ key k. and_from _ _ h k) later inside

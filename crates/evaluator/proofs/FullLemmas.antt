@@ -11,7 +11,7 @@ use Rattle.formula.specs.Tree.{ResolvedTree}
 use Rattle.formula.specs.Variables.{has_variable, variables_in, variables_of}
 use Rattle.relation.specs.Frames.{Frame, IsIn, frame, vars_of_both}
 use Rattle.relation.specs.Key.{has_id}
-use Rattle.relation.specs.Rows.{Table, has}
+use Rattle.relation.specs.Rows.{Table, table_has}
 use Rattle.evaluator.specs.Rows.{AreRowsWhere}
 use Rattle.evaluator.specs.inner.Away.{AreAwayFor}
 use Rattle.formula.proofs.CallerLemmas.{variables_same}
@@ -118,14 +118,14 @@ module _ {S : Type 0} (member : S → ℕ → Bool) (domains : List (List ℕ)) 
 
   pub full_more : (n : ℕ) → n < 4 → (r away made : Table S) → AreRowsWhere member domains lo hi (variables_upto f n) (holds_upto holds there n) r →
       AreAwayFor member there lo hi n r away →
-      ((b : ℕ → ℕ) → IsIn r.domains b → (t : ℕ) → has member made b t ≡ (has member r b t && not (has member away b t))) →
+      ((b : ℕ → ℕ) → IsIn r.domains b → (t : ℕ) → table_has member made b t ≡ (table_has member r b t && not (table_has member away b t))) →
       made.vars ≡ vars_of_both r.vars (n ∷ []) → frame made ≡ frame r →
       AreRowsWhere member domains lo hi (variables_upto f (n + 1)) (holds_upto holds there (n + 1)) made
   full_more n l r away made are also ticks vars same = record {
     ticks = λ b is_in t.
         let own = subst (λ (d : List (List ℕ)). IsIn d b) (sym (ap (λ (z : Frame). z.domains) are.frame)) is_in in
         ticks b own t
-        ∙ and_among (has member r b t) (has member away b t) (within lo hi t && not (there (b n) t)) (also b own t)
+        ∙ and_among (table_has member r b t) (table_has member away b t) (within lo hi t && not (there (b n) t)) (also b own t)
         ∙ (λ i. are.ticks b is_in t i && not (within lo hi t && not (there (b n) t)))
         ∙ and_all (within lo hi t) (holds b t) (list_all (λ v. there (b v) t) (between 0 n)) (there (b n) t)
         ∙ ap (λ (y : Bool). within lo hi t && (holds b t && y)) (sym (all_more (λ v. there (b v) t) n));
@@ -141,7 +141,7 @@ module _ {S : Type 0} (member : S → ℕ → Bool) (domains : List (List ℕ)) 
   full_ascend n r are = (λ i. vars_of_both (are.vars i) (are.vars i)) ∙ same_variables_twice (λ v. has_variable v f || nat_lt v n) ∙ sym are.vars
 
   pub full_lies : (n : ℕ) (r : Table S) → AreRowsWhere member domains lo hi (variables_upto f n) (holds_upto holds there n) r →
-      (b : ℕ → ℕ) → IsIn r.domains b → (t : ℕ) → has member r b t ≡ true → within r.lo r.hi t ≡ true
+      (b : ℕ → ℕ) → IsIn r.domains b → (t : ℕ) → table_has member r b t ≡ true → within r.lo r.hi t ≡ true
   full_lies n r are b is_in t h =
       (λ i. within (ap (λ (z : Frame). z.lo) are.frame i) (ap (λ (z : Frame). z.hi) are.frame i) t)
       ∙ (and_parts _ _ (sym (are.ticks b (subst (λ (d : List (List ℕ)). IsIn d b) (ap (λ (z : Frame). z.domains) are.frame) is_in) t) ∙ h)).0

@@ -3,8 +3,8 @@ use Rattle.std.proofs.Common.{◌≡◌, ℕ, Bool, true, false, ◌||◌, List,
 use Rattle.std.specs.List.{list_any}
 use Rattle.std.proofs.lemmas.List.Folds.{list_any-append}
 use Rattle.relation.specs.Frames.{frame, frame_of}
-use Rattle.relation.specs.Rows.{Table, has}
-use Rattle.evaluator.specs.Gathered.{AreAlike, any_has}
+use Rattle.relation.specs.Rows.{Table, table_has}
+use Rattle.evaluator.specs.Gathered.{ShareFrame, some_part_has}
 
 or_comm : (x y : Bool) → (x || y) ≡ (y || x)
 or_comm true true = refl
@@ -21,18 +21,18 @@ or_assoc true y z = refl
 or_assoc false y z = refl
 
 module _ {S : Type 0} (vars : List ℕ) (domains : List (List ℕ)) (lo hi : ℕ) where
-  pub alike_push : (rs : List (Table S)) (r : Table S) → AreAlike vars domains lo hi rs → r.vars ≡ vars → frame r ≡ frame_of domains lo hi →
-      AreAlike vars domains lo hi (rs ++ r ∷ [])
+  pub alike_push : (rs : List (Table S)) (r : Table S) → ShareFrame vars domains lo hi rs → r.vars ≡ vars → frame r ≡ frame_of domains lo hi →
+      ShareFrame vars domains lo hi (rs ++ r ∷ [])
   alike_push [] r h v f = (v, f, tt)
   alike_push (q ∷ rs) r h v f = (h.0, h.1, alike_push rs r h.2 v f)
 
-  pub alike_vars : (r : Table S) (rs : List (Table S)) → AreAlike vars domains lo hi (r ∷ rs) → r.vars ≡ vars
+  pub alike_vars : (r : Table S) (rs : List (Table S)) → ShareFrame vars domains lo hi (r ∷ rs) → r.vars ≡ vars
   alike_vars r rs h = h.0
 
-  pub alike_frame : (r : Table S) (rs : List (Table S)) → AreAlike vars domains lo hi (r ∷ rs) → frame r ≡ frame_of domains lo hi
+  pub alike_frame : (r : Table S) (rs : List (Table S)) → ShareFrame vars domains lo hi (r ∷ rs) → frame r ≡ frame_of domains lo hi
   alike_frame r rs h = h.1
 
-  pub alike_later : (r : Table S) (rs : List (Table S)) → AreAlike vars domains lo hi (r ∷ rs) → AreAlike vars domains lo hi rs
+  pub alike_later : (r : Table S) (rs : List (Table S)) → ShareFrame vars domains lo hi (r ∷ rs) → ShareFrame vars domains lo hi rs
   alike_later r rs h = h.2
 
 -- one more behind the others
@@ -50,11 +50,11 @@ any-moved p first second both rest e =
 
 -- one more relation behind the others
 pub any_has-push : {S : Type 0} (member : S → ℕ → Bool) (rs : List (Table S)) (r : Table S) (b : ℕ → ℕ) (t : ℕ) →
-    any_has member (rs ++ r ∷ []) b t ≡ (any_has member rs b t || has member r b t)
-any_has-push member rs r b t = any-push (λ q. has member q b t) rs r
+    some_part_has member (rs ++ r ∷ []) b t ≡ (some_part_has member rs b t || table_has member r b t)
+any_has-push member rs r b t = any-push (λ q. table_has member q b t) rs r
 
 -- two relations put together and brought behind the others
 pub any_has-moved : {S : Type 0} (member : S → ℕ → Bool) (first second both : Table S) (rest : List (Table S)) (b : ℕ → ℕ) (t : ℕ) →
-    has member both b t ≡ (has member first b t || has member second b t) →
-    any_has member (rest ++ both ∷ []) b t ≡ any_has member (first ∷ second ∷ rest) b t
-any_has-moved member first second both rest b t e = any-moved (λ q. has member q b t) first second both rest e
+    table_has member both b t ≡ (table_has member first b t || table_has member second b t) →
+    some_part_has member (rest ++ both ∷ []) b t ≡ some_part_has member (first ∷ second ∷ rest) b t
+any_has-moved member first second both rest b t e = any-moved (λ q. table_has member q b t) first second both rest e

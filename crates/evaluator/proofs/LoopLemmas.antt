@@ -8,11 +8,11 @@ use Rattle.formula.specs.Tree.{ResolvedTree}
 use Rattle.formula.specs.Value.{with_value}
 use Rattle.meaning.specs.Reads.{choices, made_single, reads, term_variables}
 use Rattle.meaning.specs.Satisfaction.{Interpretation}
-use Rattle.relation.specs.Frames.{Frame, frame, frame_of, size_of}
+use Rattle.relation.specs.Frames.{Frame, domain_size, frame, frame_of}
 use Rattle.relation.specs.Rows.{IsSameHead, Table, table}
 use Rattle.interpreting.specs.declared.value_run.ValueRun.{ValueRun}
 use Rattle.evaluator.specs.Assigned.{CanAskEach}
-use Rattle.evaluator.specs.Gathered.{AreAlike}
+use Rattle.evaluator.specs.Gathered.{ShareFrame}
 use Rattle.evaluator.specs.Interpreting.{CanAsk}
 use Rattle.evaluator.specs.Rows.{reads_at_key, reads_upto}
 use Rattle.evaluator.proofs.AssignLemmas.{can_ask_run}
@@ -41,11 +41,11 @@ all_steps start read i n all c h l e = some_steps start read i all c h (omega (a
 
 -- those at some of the keys of an assignment's term
 pub keys_within : (domains : List (List ℕ)) (lo hi : ℕ) (vars : List ℕ) (depth : ℕ) (q : RTerm) (f : ResolvedTree) → vars ≡ term_variables q →
-    (start read i n : ℕ) → read ≤ start + i * reads_at_key domains lo hi vars f → i ≤ n → n ≡ choices (size_of domains) vars →
+    (start read i n : ℕ) → read ≤ start + i * reads_at_key domains lo hi vars f → i ≤ n → n ≡ choices (domain_size domains) vars →
     read ≤ start + reads_upto domains lo hi (shapes.Assign (depth, q) f)
 keys_within domains lo hi vars depth q f are start read i n h l e =
-    subst (λ (vs : List ℕ). read ≤ start + choices (size_of domains) vs * reads_at_key domains lo hi vs f) are
-    (all_steps start read i n (choices (size_of domains) vars) (reads_at_key domains lo hi vars f) h l e)
+    subst (λ (vs : List ℕ). read ≤ start + choices (domain_size domains) vs * reads_at_key domains lo hi vs f) are
+    (all_steps start read i n (choices (domain_size domains) vars) (reads_at_key domains lo hi vars f) h l e)
 
 first_look : (start mid len own more : ℕ) → len ≡ own → mid ≤ start + own → mid ≤ start + (len + more)
 first_look start mid len own more e h = omega (arith, e, h)
@@ -61,14 +61,14 @@ later_looks start mid new n ticks len own cost each e s h l m =
 pub term_within : (domains : List (List ℕ)) (lo hi : ℕ) (vars : List ℕ) (q : RTerm) (f : ResolvedTree) → vars ≡ term_variables q →
     (start mid : ℕ) → mid ≤ start + length (term_variables q) → mid ≤ start + reads_at_key domains lo hi vars f
 term_within domains lo hi vars q f are start mid h =
-    first_look start mid (length vars) (length (term_variables q)) ((hi + 1 - lo) * reads (made_single (size_of domains) vars) (hi + 1 - lo) f) (ap length are) h
+    first_look start mid (length vars) (length (term_variables q)) ((hi + 1 - lo) * reads (made_single (domain_size domains) vars) (hi + 1 - lo) f) (ap length are) h
 
 -- and of the formula, by each run
 pub key_within : (domains narrow : List (List ℕ)) (lo hi : ℕ) (vars : List ℕ) (q : RTerm) (f : ResolvedTree) → vars ≡ term_variables q →
-    size_of narrow ≡ made_single (size_of domains) vars → (start mid new n : ℕ) → mid ≤ start + length (term_variables q) → n ≤ hi + 1 - lo →
+    domain_size narrow ≡ made_single (domain_size domains) vars → (start mid new n : ℕ) → mid ≤ start + length (term_variables q) → n ≤ hi + 1 - lo →
     new ≤ mid + n * reads_upto narrow lo hi f → new ≤ start + reads_at_key domains lo hi vars f
 key_within domains narrow lo hi vars q f are sizes start mid new n h l m =
-    later_looks start mid new n (hi + 1 - lo) (length vars) (length (term_variables q)) (reads (made_single (size_of domains) vars) (hi + 1 - lo) f) (reads_upto narrow lo hi f)
+    later_looks start mid new n (hi + 1 - lo) (length vars) (length (term_variables q)) (reads (made_single (domain_size domains) vars) (hi + 1 - lo) f) (reads_upto narrow lo hi f)
     (ap length are) (ap (λ (size : ℕ → ℕ). reads size (hi + 1 - lo) f) sizes) h l m
 
 -- ---- parts
@@ -87,13 +87,13 @@ wide_frame rows wide narrow domains lo hi same head =
     ∙ (λ i. frame_of domains (ap (λ (z : Frame). z.lo) same i) (ap (λ (z : Frame). z.hi) same i))
 
 module _ {S : Type 0} (vars : List ℕ) (domains : List (List ℕ)) (lo hi : ℕ) where
-  pub none_alike : (parts : List (Table S)) → parts ≡ [] → AreAlike vars domains lo hi parts
-  none_alike parts e = subst (λ (rs : List (Table S)). AreAlike vars domains lo hi rs) (sym e) tt
+  pub none_alike : (parts : List (Table S)) → parts ≡ [] → ShareFrame vars domains lo hi parts
+  none_alike parts e = subst (λ (rs : List (Table S)). ShareFrame vars domains lo hi rs) (sym e) tt
 
-  pub more_alike : (before after : List (Table S)) (part : Table S) → after ≡ before ++ part ∷ [] → AreAlike vars domains lo hi before →
-      part.vars ≡ vars → frame part ≡ frame_of domains lo hi → AreAlike vars domains lo hi after
+  pub more_alike : (before after : List (Table S)) (part : Table S) → after ≡ before ++ part ∷ [] → ShareFrame vars domains lo hi before →
+      part.vars ≡ vars → frame part ≡ frame_of domains lo hi → ShareFrame vars domains lo hi after
   more_alike before after part e alike v f =
-      subst (λ (rs : List (Table S)). AreAlike vars domains lo hi rs) (sym e) (alike_push vars domains lo hi before part alike v f)
+      subst (λ (rs : List (Table S)). ShareFrame vars domains lo hi rs) (sym e) (alike_push vars domains lo hi before part alike v f)
 
 -- ---- what may be asked by the value of a run
 

@@ -10,7 +10,7 @@ use Rattle.formula.specs.declared.value.Env.{Env}
 use Rattle.formula.specs.declared.value.Value.{Value}
 use Rattle.formula.specs.Tree.{ResolvedTree}
 use Rattle.formula.specs.Value.{with_value}
-use Rattle.interpreting.specs.Names.{AgreeOn, atom_names, formula_names, term_names}
+use Rattle.interpreting.specs.Names.{AgreeOn, atom_uses_value, formula_uses_value, term_uses_value}
 use Rattle.meaning.specs.Satisfaction.{Interpretation, sat}
 use Rattle.meaning.proofs.LocalityLemmas.{bound_same}
 
@@ -41,34 +41,34 @@ on_right : (p q : ℕ → Bool) (x y : Env) → AgreeOn (λ d. p d || q d) x y �
 on_right p q x y same d h = same d (or_right (p d) (q d) h)
 
 module _ (j : Interpretation)
-    (sees_atom : (a : RAtom) (x y : Env) → AgreeOn (λ d. atom_names d a) x y → (t : ℕ) → j.atom a x t ≡ j.atom a y t)
-    (sees_term : (q : RTerm) (x y : Env) → AgreeOn (λ d. term_names d q) x y → (t : ℕ) → j.term q x t ≡ j.term q y t) where
-  sat_by_names : (f : ResolvedTree) (x y : Env) → AgreeOn (λ d. formula_names d f) x y → (e t : ℕ) → sat j f x e t ≡ sat j f y e t
+    (sees_atom : (a : RAtom) (x y : Env) → AgreeOn (λ d. atom_uses_value d a) x y → (t : ℕ) → j.atom a x t ≡ j.atom a y t)
+    (sees_term : (q : RTerm) (x y : Env) → AgreeOn (λ d. term_uses_value d q) x y → (t : ℕ) → j.term q x t ≡ j.term q y t) where
+  sat_by_names : (f : ResolvedTree) (x y : Env) → AgreeOn (λ d. formula_uses_value d f) x y → (e t : ℕ) → sat j f x e t ≡ sat j f y e t
   sat_by_names (shapes.Truth b) x y same e t = refl
   sat_by_names (shapes.Atom a) x y same e t = sees_atom a x y same t
   sat_by_names (shapes.Not f) x y same e t = ap not (sat_by_names f x y same e t)
   sat_by_names (shapes.And f g) x y same e t = λ i.
-      sat_by_names f x y (on_left (λ d. formula_names d f) (λ d. formula_names d g) x y same) e t i
-      && sat_by_names g x y (on_right (λ d. formula_names d f) (λ d. formula_names d g) x y same) e t i
+      sat_by_names f x y (on_left (λ d. formula_uses_value d f) (λ d. formula_uses_value d g) x y same) e t i
+      && sat_by_names g x y (on_right (λ d. formula_uses_value d f) (λ d. formula_uses_value d g) x y same) e t i
   sat_by_names (shapes.Or f g) x y same e t = λ i.
-      sat_by_names f x y (on_left (λ d. formula_names d f) (λ d. formula_names d g) x y same) e t i
-      || sat_by_names g x y (on_right (λ d. formula_names d f) (λ d. formula_names d g) x y same) e t i
+      sat_by_names f x y (on_left (λ d. formula_uses_value d f) (λ d. formula_uses_value d g) x y same) e t i
+      || sat_by_names g x y (on_right (λ d. formula_uses_value d f) (λ d. formula_uses_value d g) x y same) e t i
   sat_by_names (shapes.Next f) x y same e t = λ i. next_at (λ u. sat_by_names f x y same e u i) e t
   sat_by_names (shapes.Eventually f) x y same e t = λ i. eventually_at (λ u. sat_by_names f x y same e u i) e t
   sat_by_names (shapes.Always f) x y same e t = λ i. always_at (λ u. sat_by_names f x y same e u i) e t
   sat_by_names (shapes.Bounded form c f) x y same e t = λ i. bounded_at form c (λ u. sat_by_names f x y same e u i) e t
   sat_by_names (shapes.Until form c f g) x y same e t = λ i.
       until_form_at form c
-      (λ u. sat_by_names f x y (on_left (λ d. formula_names d f) (λ d. formula_names d g) x y same) e u i)
-      (λ u. sat_by_names g x y (on_right (λ d. formula_names d f) (λ d. formula_names d g) x y same) e u i) e t
+      (λ u. sat_by_names f x y (on_left (λ d. formula_uses_value d f) (λ d. formula_uses_value d g) x y same) e u i)
+      (λ u. sat_by_names g x y (on_right (λ d. formula_uses_value d f) (λ d. formula_uses_value d g) x y same) e u i) e t
   sat_by_names (shapes.Assign (d, q) f) x y same e t =
       bound_same (j.term q x t) (j.term q y t) (λ v. sat j f (with_value x d v) e t) (λ v. sat j f (with_value y d v) e t)
-      (sees_term q x y (on_left (λ k. term_names k q) (λ k. formula_names k f) x y same) t)
+      (sees_term q x y (on_left (λ k. term_uses_value k q) (λ k. formula_uses_value k f) x y same) t)
       (λ v. sat_by_names f (with_value x d v) (with_value y d v)
-      (bound_alike (λ k. formula_names k f) x y d v (on_right (λ k. term_names k q) (λ k. formula_names k f) x y same)) e t)
+      (bound_alike (λ k. formula_uses_value k f) x y d v (on_right (λ k. term_uses_value k q) (λ k. formula_uses_value k f) x y same)) e t)
 
   -- where it doesn't name the value of a depth, it is the same by each
-  pub sat_unnamed : (depth : ℕ) (f : ResolvedTree) → formula_names depth f ≡ false → (x : Env) (v w : Value) (e t : ℕ) →
+  pub sat_unnamed : (depth : ℕ) (f : ResolvedTree) → formula_uses_value depth f ≡ false → (x : Env) (v w : Value) (e t : ℕ) →
       sat j f (with_value x depth v) e t ≡ sat j f (with_value x depth w) e t
   sat_unnamed depth f none x v w e t =
-      sat_by_names f (with_value x depth v) (with_value x depth w) (others_alike (λ d. formula_names d f) x depth v w none) e t
+      sat_by_names f (with_value x depth v) (with_value x depth w) (others_alike (λ d. formula_uses_value d f) x depth v w none) e t

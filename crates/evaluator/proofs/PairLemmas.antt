@@ -13,7 +13,7 @@ use Rattle.meaning.specs.Reads.{query_reads, reads}
 use Rattle.meaning.specs.Satisfaction.{Interpretation, sat}
 use Rattle.relation.specs.Frames.{Frame, IsIn, frame, frame_of, vars_of_both}
 use Rattle.relation.specs.Order.{has_row}
-use Rattle.relation.specs.Rows.{Table, has, has_at}
+use Rattle.relation.specs.Rows.{Table, has_at, table_has}
 use Rattle.evaluator.specs.declared.node.Pairing.{Pairing}
 use Rattle.evaluator.specs.declared.node.Pairing.TheVariants as pairings
 use Rattle.evaluator.specs.Interpreting.{CanAsk}
@@ -133,7 +133,7 @@ nothing_right (pairings.Until form c) needs lo hi g h none t =
 module _ {S : Type 0} (member : S → ℕ → Bool) (j : (ℕ → ℕ) → Interpretation) (domains : List (List ℕ)) (lo hi : ℕ) (x : Env) (f : ResolvedTree) (other : Table S) where
   -- rows over fewer objects, widened
   pub beside_few : (few : List (List ℕ)) (near wide : Table S) → AreForRows other domains few → AreRowsOf member j few lo hi f x near →
-      ((b : ℕ → ℕ) (t : ℕ) → has member wide b t ≡ has member near b t) → wide.vars ≡ near.vars → frame wide ≡ frame_of domains lo hi →
+      ((b : ℕ → ℕ) (t : ℕ) → table_has member wide b t ≡ table_has member near b t) → wide.vars ≡ near.vars → frame wide ≡ frame_of domains lo hi →
       AreRowsBeside member j domains lo hi f x other wide
   beside_few few near wide for are same vars whole = record {
     ticks = λ b is_in here t. same b t ∙ are.ticks b (for.all b is_in here) t;
@@ -152,12 +152,12 @@ module _ {S : Type 0} (member : S → ℕ → Bool) (j : (ℕ → ℕ) → Inter
 module _ {S : Type 0} (member : S → ℕ → Bool) (j : (ℕ → ℕ) → Interpretation) (domains : List (List ℕ)) (lo hi : ℕ) (x : Env) (p : Pairing) (needs : needs_right p ≡ true)
     (f g : ResolvedTree) (left right made : Table S) (are : AreRowsBeside member j domains lo hi f x right left) (also : AreRowsOf member j domains lo hi g x right) where
   pub led_rows : ((key : List ℕ) → has_row right.rows key ≡ false → (t : ℕ) → has_at member right.rows key t ≡ false) →
-      ((b : ℕ → ℕ) → IsIn left.domains b → (t : ℕ) → has member made b t ≡ paired_in p left.lo left.hi (has member left b) (has member right b) t) →
+      ((b : ℕ → ℕ) → IsIn left.domains b → (t : ℕ) → table_has member made b t ≡ paired_in p left.lo left.hi (table_has member left b) (table_has member right b) t) →
       made.vars ≡ vars_of_both left.vars right.vars → frame made ≡ frame left → AreRowsOf member j domains lo hi (paired_tree p f g) x made
   led_rows none ticks vars same = record {
     ticks = λ b is_in t.
         ticks b (subst (λ (d : List (List ℕ)). IsIn d b) (sym (ap (λ (z : Frame). z.domains) are.frame)) is_in) t
-        ∙ (λ i. paired_in p (ap (λ (z : Frame). z.lo) are.frame i) (ap (λ (z : Frame). z.hi) are.frame i) (has member left b) (has member right b) t)
+        ∙ (λ i. paired_in p (ap (λ (z : Frame). z.lo) are.frame i) (ap (λ (z : Frame). z.hi) are.frame i) (table_has member left b) (table_has member right b) t)
         ∙ by_row b is_in t
         ∙ paired_cut lo hi p (sat (j b) f x hi) (sat (j b) g x hi) t
         ∙ ap (λ (y : Bool). within lo hi t && y) (sym (paired_sat (j b) x hi t p f g));
@@ -169,11 +169,11 @@ module _ {S : Type 0} (member : S → ℕ → Bool) (j : (ℕ → ℕ) → Inter
     frame = same ∙ are.frame;
   }
     where
-      by_row : (b : ℕ → ℕ) → IsIn domains b → (t : ℕ) → paired_in p lo hi (has member left b) (has member right b) t ≡ paired_in p lo hi (cut lo hi (sat (j b) f x hi)) (cut lo hi (sat (j b) g x hi)) t
+      by_row : (b : ℕ → ℕ) → IsIn domains b → (t : ℕ) → paired_in p lo hi (table_has member left b) (table_has member right b) t ≡ paired_in p lo hi (cut lo hi (sat (j b) f x hi)) (cut lo hi (sat (j b) g x hi)) t
       by_row b is_in t =
           elim (cases_Bool (has_row right.rows (map b right.vars))) [
             | inl e ↦ (λ i. paired_in p lo hi (λ u. are.ticks b is_in e u i) (λ u. also.ticks b is_in u i) t)
             | inr e ↦
-                nothing_right p needs lo hi (has member left b) (has member right b) (none (map b right.vars) e) t
+                nothing_right p needs lo hi (table_has member left b) (table_has member right b) (none (map b right.vars) e) t
                 ∙ sym (nothing_right p needs lo hi (cut lo hi (sat (j b) f x hi)) (cut lo hi (sat (j b) g x hi)) (λ u. sym (also.ticks b is_in u) ∙ none (map b right.vars) e u) t)
           ]

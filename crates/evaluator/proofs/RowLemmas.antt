@@ -6,7 +6,7 @@ use Rattle.formula.specs.Tree.{ResolvedTree}
 use Rattle.formula.specs.Variables.{has_variable, variables_in}
 use Rattle.meaning.specs.Satisfaction.{Interpretation, sat}
 use Rattle.relation.specs.Frames.{Frame, IsIn, frame, vars_of_both}
-use Rattle.relation.specs.Rows.{Table, has}
+use Rattle.relation.specs.Rows.{Table, table_has}
 use Rattle.evaluator.specs.declared.node.Change.{Change}
 use Rattle.evaluator.specs.declared.node.Pairing.{Pairing}
 use Rattle.evaluator.specs.Rows.{AreRowsOf}
@@ -26,7 +26,7 @@ module _ {S : Type 0} (member : S → ℕ → Bool) (j : (ℕ → ℕ) → Inter
     in_own b is_in = subst (λ (d : List (List ℕ)). IsIn d b) (sym (ap (λ (z : Frame). z.domains) are.frame)) is_in
 
     pub one_rows : (c : Change) (made : Table S) →
-        ((b : ℕ → ℕ) → IsIn r.domains b → (t : ℕ) → has member made b t ≡ (within r.lo r.hi t && changed_at c (has member r b) r.hi t)) →
+        ((b : ℕ → ℕ) → IsIn r.domains b → (t : ℕ) → table_has member made b t ≡ (within r.lo r.hi t && changed_at c (table_has member r b) r.hi t)) →
         made.vars ≡ r.vars → frame made ≡ frame r → AreRowsOf member j domains lo hi (changed_tree c f) x made
     one_rows c made ticks vars same = record {
       ticks = λ b is_in t.
@@ -39,7 +39,7 @@ module _ {S : Type 0} (member : S → ℕ → Bool) (j : (ℕ → ℕ) → Inter
     }
 
     pub two_rows : (p : Pairing) (g : ResolvedTree) (q made : Table S) → AreRowsOf member j domains lo hi g x q →
-        ((b : ℕ → ℕ) → IsIn r.domains b → (t : ℕ) → has member made b t ≡ paired_in p r.lo r.hi (has member r b) (has member q b) t) →
+        ((b : ℕ → ℕ) → IsIn r.domains b → (t : ℕ) → table_has member made b t ≡ paired_in p r.lo r.hi (table_has member r b) (table_has member q b) t) →
         made.vars ≡ vars_of_both r.vars q.vars → frame made ≡ frame r → AreRowsOf member j domains lo hi (paired_tree p f g) x made
     two_rows p g q made also ticks vars same = record {
       ticks = λ b is_in t.

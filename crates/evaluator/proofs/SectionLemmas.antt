@@ -14,10 +14,10 @@ use Rattle.formula.specs.Variables.{variables_of}
 use Rattle.meaning.specs.Satisfaction.{Interpretation, sat}
 use Rattle.relation.specs.declared.row.Row.{Row}
 use Rattle.relation.specs.Frames.{frame, frame_of}
-use Rattle.relation.specs.Key.{ids_of, key_in}
+use Rattle.relation.specs.Key.{ids_of_variable, key_in}
 use Rattle.relation.specs.Order.{has_row, keys_over}
-use Rattle.relation.specs.Rows.{IsSameHead, Table, has, has_at, table}
-use Rattle.evaluator.specs.Keys.{AreAscending, has_key}
+use Rattle.relation.specs.Rows.{IsSameHead, Table, has_at, table, table_has}
+use Rattle.evaluator.specs.Keys.{AreAscendingKeys, has_key}
 use Rattle.evaluator.specs.Rows.{AreRowsOf, AreRowsWhere}
 use Rattle.evaluator.specs.inner.Filled.{IsFilled}
 use Rattle.evaluator.specs.inner.Seen.{last_seen}
@@ -27,11 +27,11 @@ use Rattle.evaluator.proofs.SeenLemmas.{section_alike}
 
 -- the keys of rows
 pub record AreKeysOfRows (domains : List (List ℕ)) (vars : List ℕ) (keys : List (List ℕ)) : Type 0 where
-  pub ascend : AreAscending keys
+  pub ascend : AreAscendingKeys keys
   pub inside : list_all (key_in domains vars) keys ≡ true
 
 pub keys_of_rows : {S : Type 0} (rows : Table S) (domains : List (List ℕ)) → rows.domains ≡ domains →
-    keys_at rows ≡ filter (has_row rows.rows) (keys_over rows.domains rows.vars) → ((var : ℕ) → IsStrictlyIncreasing (ids_of domains var)) →
+    keys_at rows ≡ filter (has_row rows.rows) (keys_over rows.domains rows.vars) → ((var : ℕ) → IsStrictlyIncreasing (ids_of_variable domains var)) →
     AreKeysOfRows domains rows.vars (keys_at rows)
 keys_of_rows rows domains same is up =
     let all = keys_over_all domains up rows.vars in
@@ -69,18 +69,18 @@ row_ticks member all (r ∷ rows) (suc i) key set is_key is_set says t =
     row_ticks member all rows i key set is_key is_set (λ d l. says d (omega (arith, l))) t
 
 none_else : (h k w : Bool) → (h ≡ true → k ≡ true) → (false || (k && (w && h))) ≡ (w && h)
-none_else true k true has = ap (λ (b : Bool). b && true) (has refl)
-none_else true true false has = refl
-none_else true false false has = refl
-none_else false true true has = refl
-none_else false true false has = refl
-none_else false false true has = refl
-none_else false false false has = refl
+none_else true k true table_has = ap (λ (b : Bool). b && true) (table_has refl)
+none_else true true false table_has = refl
+none_else true false false table_has = refl
+none_else false true true table_has = refl
+none_else false true false table_has = refl
+none_else false false true table_has = refl
+none_else false false false table_has = refl
 
 -- all keys of rows have the ticks of the section
 pub section_all : {S : Type 0} (member : S → ℕ → Bool) (domains : List (List ℕ)) (from upto lo hi : ℕ) (rows start made : Table S) →
     IsFilled member (λ k t. within from upto t && has_at member rows.rows k t) (keys_at rows) start made →
-    start ≡ table rows.vars domains lo hi [] → (b : ℕ → ℕ) (t : ℕ) → has member made b t ≡ (within from upto t && has member rows b t)
+    start ≡ table rows.vars domains lo hi [] → (b : ℕ → ℕ) (t : ℕ) → table_has member made b t ≡ (within from upto t && table_has member rows b t)
 section_all member domains from upto lo hi rows start made filling is b t =
     let key = map b rows.vars in
     ap (λ (vs : List ℕ). has_at member made.rows (map b vs) t) (filling.head.vars ∙ ap (λ r. r.vars) is)
@@ -97,7 +97,7 @@ section_frame vars domains lo hi truth member keys start made filling is =
 pub section_rows : {S : Type 0} (member : S → ℕ → Bool) (j : (ℕ → ℕ) → Interpretation) (domains : List (List ℕ)) (f : ResolvedTree) (x : Env)
     (lo hi from upto first e : ℕ) → hi ≤ e → first ≤ lo → from ≡ lo → upto ≡ last_seen (reach f) hi e → (rows made : Table S) →
     AreRowsOf member j domains from upto f x rows →
-    ((b : ℕ → ℕ) (t : ℕ) → has member made b t ≡ (within lo hi t && has member rows b t)) → made.vars ≡ rows.vars → frame made ≡ frame_of domains first e →
+    ((b : ℕ → ℕ) (t : ℕ) → table_has member made b t ≡ (within lo hi t && table_has member rows b t)) → made.vars ≡ rows.vars → frame made ≡ frame_of domains first e →
     AreRowsWhere member domains first e (variables_of f) (λ b t. within lo hi t && sat (j b) f x e t) made
 section_rows member j domains f x lo hi from upto first e most least begins ends rows made are says vars same = record {
   ticks = λ b is_in t.

@@ -12,7 +12,7 @@ use Rattle.tick_set.specs.Ticks.{within}
 use Rattle.tick_set.proofs.Between.{within_from, within_parts}
 use Rattle.formula.specs.declared.value.Value.{Value}
 use Rattle.interpreting.specs.declared.value_run.ValueRun.{ValueRun}
-use Rattle.interpreting.specs.ValueRuns.{AreValueRuns, IsRunOf, run_has, runs_have}
+use Rattle.interpreting.specs.ValueRuns.{AreValueRuns, IsRunOf, run_has, value_runs_have}
 use Rattle.evaluator.specs.Stretched.{AreStretches, IsStretch}
 use Rattle.evaluator.proofs.GatherLemmas.{any-push}
 
@@ -61,7 +61,7 @@ runs_are_stretches named value from until runs are = record {
 }
 
 pub joined_are_stretches : (value : ℕ → Option Value) (from until : ℕ) (runs made : List ValueRun) → AreValueRuns value from until runs →
-    All (IsStretch false value from until) made → ((t : ℕ) → runs_have made t ≡ runs_have runs t) → length made ≤ length runs →
+    All (IsStretch false value from until) made → ((t : ℕ) → value_runs_have made t ≡ value_runs_have runs t) → length made ≤ length runs →
     AreStretches false value from until made
 joined_are_stretches value from until runs made are each same few = record {
   each = each;
@@ -127,7 +127,7 @@ module _ (named : Bool) (lo hi : ℕ) (value : ℕ → Option Value) (P : Value 
 pub record JoinedSoFar (runs : List ValueRun) (i : ℕ) (made : List ValueRun) (last : ValueRun) : Type 0 where
   pub each : (value : ℕ → Option Value) (from until : ℕ) → All (IsRunOf value from until) runs →
       All (IsStretch false value from until) made × IsStretch false value from until last
-  pub ticks : (t : ℕ) → (runs_have made t || run_has t last) ≡ runs_have (take (i + 1) runs) t
+  pub ticks : (t : ℕ) → (value_runs_have made t || run_has t last) ≡ value_runs_have (take (i + 1) runs) t
   pub few : length made ≤ i
 
 or_none : (x : Bool) → (x || false) ≡ x
@@ -144,7 +144,7 @@ joined_none runs first later are = record {
     All-nil (IsStretch false value from until),
     run_is_stretch false value from until first (All-head (IsRunOf value from until) first later (subst (λ (rs : List ValueRun). All (IsRunOf value from until) rs) are all)),
   );
-  ticks = λ t. sym (ap (λ (rs : List ValueRun). runs_have (take 1 rs) t) are ∙ or_none (run_has t first));
+  ticks = λ t. sym (ap (λ (rs : List ValueRun). value_runs_have (take 1 rs) t) are ∙ or_none (run_has t first));
   few = omega arith;
 }
 
@@ -165,9 +165,9 @@ one_of_all : (value : ℕ → Option Value) (from until : ℕ) (runs : List Valu
 one_of_all value from until runs i run l at all = subst (λ (r : ValueRun). IsRunOf value from until r) (sym at) (all i run l)
 
 more_ticks : (runs : List ValueRun) (i : ℕ) (run : ValueRun) → i < length runs → run ≡ get_or runs i run → (t : ℕ) →
-    runs_have (take (i + 1) runs) t ≡ (runs_have (take i runs) t || run_has t run)
+    value_runs_have (take (i + 1) runs) t ≡ (value_runs_have (take i runs) t || run_has t run)
 more_ticks runs i run l at t =
-    list_any_more (run_has t) runs i run l ∙ ap (λ (r : ValueRun). runs_have (take i runs) t || run_has t r) (sym at)
+    list_any_more (run_has t) runs i run l ∙ ap (λ (r : ValueRun). value_runs_have (take i runs) t || run_has t r) (sym at)
 
 -- one more run goes on with the last one
 pub joined_longer : (runs : List ValueRun) (i : ℕ) (made : List ValueRun) (last run longer : ValueRun) → JoinedSoFar runs i made last →
@@ -178,8 +178,8 @@ joined_longer runs i made last run longer so_far l at same lo hi next = record {
       let own = so_far.each value from until all in
       (own.0, both_are_stretch value from until last run longer same lo hi next own.1 (one_of_all value from until runs (i + 1) run l at all));
   ticks = λ t.
-      ap (λ (c : Bool). runs_have made t || c) (both_ticks last run longer lo hi next t)
-      ∙ sym (or_same (runs_have made t) (run_has t last) (run_has t run))
+      ap (λ (c : Bool). value_runs_have made t || c) (both_ticks last run longer lo hi next t)
+      ∙ sym (or_same (value_runs_have made t) (run_has t last) (run_has t run))
       ∙ ap (λ (c : Bool). c || run_has t run) (so_far.ticks t)
       ∙ sym (more_ticks runs (i + 1) run l at t);
   few = let f = so_far.few in omega (arith, f);
@@ -195,7 +195,7 @@ joined_apart runs i made new last run so_far l at is = record {
         run_is_stretch false value from until run (one_of_all value from until runs (i + 1) run l at all),
       );
   ticks = λ t.
-      ap (λ (rs : List ValueRun). runs_have rs t || run_has t run) is
+      ap (λ (rs : List ValueRun). value_runs_have rs t || run_has t run) is
       ∙ ap (λ (c : Bool). c || run_has t run) (any-push (run_has t) made last ∙ so_far.ticks t)
       ∙ sym (more_ticks runs (i + 1) run l at t);
   few = let f = so_far.few in let n : length new ≡ length made + 1 = ap length is ∙ length-append made (last ∷ []) in omega (arith, f, n);
@@ -208,12 +208,12 @@ joined_each runs i made new last so_far is value from until all =
     subst (λ (rs : List ValueRun). All (IsStretch false value from until) rs) (sym is) (All-push (IsStretch false value from until) made last own.0 own.1)
 
 pub joined_all : (runs : List ValueRun) (i : ℕ) (made new : List ValueRun) (last : ValueRun) → JoinedSoFar runs i made last →
-    length runs ≤ i + 1 → new ≡ made ++ last ∷ [] → (t : ℕ) → runs_have new t ≡ runs_have runs t
+    length runs ≤ i + 1 → new ≡ made ++ last ∷ [] → (t : ℕ) → value_runs_have new t ≡ value_runs_have runs t
 joined_all runs i made new last so_far l is t =
-    ap (λ (rs : List ValueRun). runs_have rs t) is
+    ap (λ (rs : List ValueRun). value_runs_have rs t) is
     ∙ any-push (run_has t) made last
     ∙ so_far.ticks t
-    ∙ ap (λ (rs : List ValueRun). runs_have rs t) (take_all (i + 1) runs l)
+    ∙ ap (λ (rs : List ValueRun). value_runs_have rs t) (take_all (i + 1) runs l)
 
 pub joined_few : (runs : List ValueRun) (i : ℕ) (made new : List ValueRun) (last : ValueRun) → JoinedSoFar runs i made last →
     i + 1 ≤ length runs → new ≡ made ++ last ∷ [] → length new ≤ length runs
@@ -225,10 +225,10 @@ joined_few runs i made new last so_far l is =
 -- what is joined where the value isn't named
 pub joined_by : (named : Bool) (value : ℕ → Option Value) (from until : ℕ) (runs same made : List ValueRun) → named ≡ false → AreValueRuns value from until runs → same ≡ runs →
     ((v : ℕ → Option Value) (lo hi : ℕ) → All (IsRunOf v lo hi) same → All (IsStretch false v lo hi) made) →
-    ((t : ℕ) → runs_have made t ≡ runs_have same t) → length made ≤ length same → AreStretches named value from until made
+    ((t : ℕ) → value_runs_have made t ≡ value_runs_have same t) → length made ≤ length same → AreStretches named value from until made
 joined_by named value from until runs same made none are is each ticks few =
     subst (λ (b : Bool). AreStretches b value from until made) (sym none)
     (joined_are_stretches value from until runs made are
     (each value from until (subst (λ (rs : List ValueRun). All (IsRunOf value from until) rs) (sym is) are.each))
-    (λ t. ticks t ∙ ap (λ (rs : List ValueRun). runs_have rs t) is)
+    (λ t. ticks t ∙ ap (λ (rs : List ValueRun). value_runs_have rs t) is)
     (subst (λ (rs : List ValueRun). length made ≤ length rs) is few))

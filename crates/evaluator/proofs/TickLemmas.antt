@@ -25,7 +25,7 @@ use Rattle.evaluator.specs.declared.node.Change.{Change}
 use Rattle.evaluator.specs.declared.node.Pairing.{Pairing}
 use Rattle.interpreting.specs.declared.value_run.ValueRun.{ValueRun}
 use Rattle.evaluator.specs.Assigned.{run_holds}
-use Rattle.interpreting.specs.Names.{formula_names}
+use Rattle.interpreting.specs.Names.{formula_uses_value}
 use Rattle.interpreting.specs.ValueRuns.{run_has}
 use Rattle.evaluator.specs.Stretched.{AreStretches, IsStretch}
 use Rattle.evaluator.specs.inner.ByBinding.{AreTicksOf, CanAskHere, any_member, reads_here}
@@ -122,8 +122,8 @@ module _ {S : Type 0} (member : S → ℕ → Bool) (j : (ℕ → ℕ) → Inter
       ∙ ap (λ (r : ValueRun). run_holds j depth f x hi (take i runs) b t || (run_has t r && sat (j b) f (with_value x depth r.value) hi t)) (sym at)))
 
   -- those of all runs
-  pub runs_done : (q : RTerm) → (formula_names depth f ≡ false → (v w : Value) (t : ℕ) → sat (j b) f (with_value x depth v) hi t ≡ sat (j b) f (with_value x depth w) hi t) →
-      AreStretches (formula_names depth f) ((j b).term q x) lo (hi + 1) runs → (i : ℕ) (parts : List S) (made : S) → length runs ≤ i →
+  pub runs_done : (q : RTerm) → (formula_uses_value depth f ≡ false → (v w : Value) (t : ℕ) → sat (j b) f (with_value x depth v) hi t ≡ sat (j b) f (with_value x depth w) hi t) →
+      AreStretches (formula_uses_value depth f) ((j b).term q x) lo (hi + 1) runs → (i : ℕ) (parts : List S) (made : S) → length runs ≤ i →
       ((t : ℕ) → any_member member parts t ≡ (within lo hi t && run_holds j depth f x hi (take i runs) b t)) →
       ((t : ℕ) → member made t ≡ any_member member parts t) → AreTicksOf member (j b) lo hi (shapes.Assign (depth, q) f) x made
   runs_done q blind are i parts made l before says t =
@@ -133,7 +133,7 @@ module _ {S : Type 0} (member : S → ℕ → Bool) (j : (ℕ → ℕ) → Inter
       ∙ elim (cases_Bool (within lo hi t)) [
         | inl e ↦
             ap (λ (y : Bool). within lo hi t && y)
-            (stretches_all (formula_names depth f) lo hi ((j b).term q x) (λ v. sat (j b) f (with_value x depth v) hi t) (λ none v w. blind none v w t) t runs are e)
+            (stretches_all (formula_uses_value depth f) lo hi ((j b).term q x) (λ v. sat (j b) f (with_value x depth v) hi t) (λ none v w. blind none v w t) t runs are e)
         | inr e ↦ ap (λ (y : Bool). y && run_holds j depth f x hi runs b t) e ∙ sym (ap (λ (y : Bool). y && sat (j b) (shapes.Assign (depth, q) f) x hi t) e)
       ]
 

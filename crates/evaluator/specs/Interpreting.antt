@@ -10,11 +10,11 @@ use Rattle.formula.specs.Tree.{ResolvedTree}
 use Rattle.formula.specs.Value.{with_value}
 use Rattle.formula.specs.Variables.{atom_has, has_variable, term_has}
 use Rattle.meaning.specs.Satisfaction.{Interpretation}
-use Rattle.relation.specs.Key.{has_id, ids_of}
+use Rattle.relation.specs.Key.{has_id, ids_of_variable}
 
 -- each variable that passes a test has one of its objects
 abbrev pub IsInFor : List (List ℕ) → (ℕ → Bool) → (ℕ → ℕ) → Type 0
-IsInFor domains test b = (v : ℕ) → test v ≡ true → has_id (ids_of domains v) (b v) ≡ true
+IsInFor domains test b = (v : ℕ) → test v ≡ true → has_id (ids_of_variable domains v) (b v) ≡ true
 
 -- each variable of a formula is one of so many
 abbrev pub IsOver : ℕ → ResolvedTree → Type 0

@@ -2,7 +2,7 @@
 
 ghost use Rattle.std.specs.Prelude.{◌≡◌, ◌≤◌, ◌+◌, ◌&&◌, ℕ, [], ◌∷◌, length, IfOk};
 ghost use Rattle.tick_set.specs.Ticks.{within};
-ghost use Rattle.formula.specs.Tree.{formula_view, query_view};
+ghost use Rattle.formula.specs.Tree.{formula_view, resolved_view};
 ghost use Rattle.formula.specs.Value.{no_values};
 ghost use Rattle.evaluator.specs.Interpreting.{CanAsk, IsOver};
 ghost use Rattle.evaluator.specs.Rows.{is_full, query_reads_upto};
@@ -35,9 +35,9 @@ pub fn ticks_alone<S: Temporal, I: Interpreter<S>, L: Ledger, M: Ledger>(
         (I.term_fits source.now w.lo w.hi) ((id ∷ []) ∷ []) w.lo w.hi (formula_view q.now.formula) no_values }
     requires object { I.object_fits source.now w.lo w.hi id }
     ensures ticks { IfOk result (λ s. (b : ℕ → ℕ) → b 0 ≡ id → (t : ℕ) → S.member s t ≡ (within w.lo w.hi t
-        && is_full (I.interpretation source.now) (I.present source.now) (query_view q.now) w.hi b t)) }
+        && is_full (I.interpretation source.now) (I.present source.now) (resolved_view q.now) w.hi b t)) }
     ensures least { reads.old ≤ reads.new }
-    ensures most { reads.new ≤ reads.old + query_reads_upto ((id ∷ []) ∷ []) w.lo w.hi (query_view q.now) }
+    ensures most { reads.new ≤ reads.old + query_reads_upto ((id ∷ []) ∷ []) w.lo w.hi (resolved_view q.now) }
 {
     let binding = key_of(id);
     let env = Env::new();

@@ -5,14 +5,14 @@ ghost use Rattle.std.specs.List.{list_all};
 ghost use Rattle.formula.specs.Tree.{formula_view};
 ghost use Rattle.formula.specs.Variables.{variables_of};
 ghost use Rattle.formula_shape.specs.declared.limits.TheConstants.{OBJECT_LIMIT};
-ghost use Rattle.relation.specs.Frames.{size_of};
+ghost use Rattle.relation.specs.Frames.{domain_size};
 ghost use Rattle.relation.specs.Key.{key_below, key_in};
 ghost use Rattle.relation.specs.Rows.{IsSameHead, table};
 ghost use Rattle.evaluator.specs.Interpreting.{CanAsk, IsOver};
-ghost use Rattle.evaluator.specs.Keys.{AreAscending};
+ghost use Rattle.evaluator.specs.Keys.{AreAscendingKeys};
 ghost use Rattle.evaluator.specs.Rows.{AreRowsOf, reads_upto};
 ghost use Rattle.evaluator.specs.inner.ByBinding.{holds_at, is_over, reads_here};
-ghost use Rattle.evaluator.specs.inner.Filled.{IsFilled, behind};
+ghost use Rattle.evaluator.specs.inner.Filled.{IsFilled, keys_behind};
 
 use crate::keys::{keys_of, with_first};
 use crate::ticks::ticks_of;
@@ -40,7 +40,7 @@ pub(crate) fn rows_by_key<'d, S: Temporal, I: Interpreter<S>, L: Ledger, M: Ledg
     probes: &mut Steps<M>,
 ) -> Result<Relation<'d, S>, AllocError>
     requires vars { vars.now ≡ variables_of (formula_view f.now) }
-    requires alike { is_over (size_of d.now) vars.now (formula_view f.now) ≡ true }
+    requires alike { is_over (domain_size d.now) vars.now (formula_view f.now) ≡ true }
     requires over { IsOver (length d.now) (formula_view f.now) }
     requires can { CanAsk (I.interpretation source.now) (I.atom_fits source.now w.lo w.hi)
         (I.term_fits source.now w.lo w.hi) d.now w.lo w.hi (formula_view f.now) env.now }
@@ -89,10 +89,10 @@ fn put_rows<'d, S: Temporal, I: Interpreter<S>, L: Ledger, M: Ledger>(
         (I.term_fits source.now w.lo w.hi) made.old.domains w.lo w.hi (formula_view f.now) env.now }
     requires head { IsSameHead (table vars.now made.old.domains w.lo w.hi []) made.old }
     requires inside { list_all (λ key. key_in made.old.domains vars.now (id ∷ key)) later.now ≡ true }
-    requires ascend { AreAscending later.now }
+    requires ascend { AreAscendingKeys later.now }
     requires above { list_all (λ r. key_below r.key (id ∷ [])) made.old.rows ≡ true }
     ensures rows { OnOk result (IsFilled S.member (holds_at (I.interpretation source.now) vars.now w.lo w.hi
-        (formula_view f.now) env.now) (behind id later.now) made.old made.new) }
+        (formula_view f.now) env.now) (keys_behind id later.now) made.old made.new) }
     ensures least { reads.old ≤ reads.new }
     ensures most { reads.new ≤ reads.old + length later.now * reads_here w.lo w.hi (formula_view f.now) }
 {

@@ -4,7 +4,7 @@ ghost use Rattle.std.specs.Prelude.{◌≡◌, ◌<◌, ◌∷◌, ◌++◌, [],
 ghost use Rattle.std.specs.List.{filter};
 ghost use Rattle.std.specs.List.Sorted.{IsStrictlyIncreasing};
 ghost use Rattle.formula_shape.specs.declared.limits.TheConstants.{OBJECT_LIMIT};
-ghost use Rattle.relation.specs.Key.{ids_of};
+ghost use Rattle.relation.specs.Key.{ids_of_variable};
 ghost use Rattle.evaluator.specs.inner.Column.{AreForRows, first_ids, ids_left};
 
 use relation::{Domains, Relation};
@@ -48,7 +48,7 @@ fn push_left<S: Temporal>(
     var: u8,
     ids: &[u32],
 ) -> Result<(), AllocError>
-    requires whole { ids.now ≡ ids_of rows.now.domains var }
+    requires whole { ids.now ≡ ids_of_variable rows.now.domains var }
     requires ascending { IsStrictlyIncreasing ids.now }
     requires few { length made.old < OBJECT_LIMIT }
     ensures { OnOk result (made.new ≡ made.old ++ ids_left rows.now.vars rows.now.rows rows.now.domains var ∷ []) }

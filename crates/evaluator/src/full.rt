@@ -2,12 +2,12 @@
 
 ghost use Rattle.std.specs.Prelude.{◌≡◌, ◌≤◌, ◌<◌, ◌+◌, ◌&&◌, not, ℕ, [], ◌∷◌, true, length, IfOk};
 ghost use Rattle.tick_set.specs.Ticks.{between, within};
-ghost use Rattle.formula.specs.Tree.{formula_view, query_view};
+ghost use Rattle.formula.specs.Tree.{formula_view, resolved_view};
 ghost use Rattle.formula.specs.Value.{no_values};
 ghost use Rattle.formula_shape.specs.declared.limits.TheConstants.{OBJECT_LIMIT};
-ghost use Rattle.relation.specs.Frames.{IsIn, frame, frame_of, size_of, vars_of_both};
-ghost use Rattle.relation.specs.Key.{has_id, ids_of};
-ghost use Rattle.relation.specs.Rows.{has};
+ghost use Rattle.relation.specs.Frames.{IsIn, domain_size, frame, frame_of, vars_of_both};
+ghost use Rattle.relation.specs.Key.{has_id, ids_of_variable};
+ghost use Rattle.relation.specs.Rows.{table_has};
 ghost use Rattle.evaluator.specs.Interpreting.{CanAsk, IsOver};
 ghost use Rattle.evaluator.specs.Rows.{AreRowsWhere, is_full, query_reads_upto};
 ghost use Rattle.evaluator.specs.inner.Away.{AreAwayFor};
@@ -38,11 +38,11 @@ pub fn full_rows<'d, S: Temporal, I: Interpreter<S>, L: Ledger, M: Ledger>(
     requires over { IsOver (length d.now) (formula_view q.now.formula) }
     requires can { CanAsk (I.interpretation source.now) (I.atom_fits source.now w.lo w.hi)
         (I.term_fits source.now w.lo w.hi) d.now w.lo w.hi (formula_view q.now.formula) no_values }
-    requires objects { (v id : ℕ) → has_id (ids_of d.now v) id ≡ true → I.object_fits source.now w.lo w.hi id }
+    requires objects { (v id : ℕ) → has_id (ids_of_variable d.now v) id ≡ true → I.object_fits source.now w.lo w.hi id }
     ensures rows { IfOk result (λ r. AreRowsWhere S.member d.now w.lo w.hi (between 0 (length q.now.classes))
-        (is_full (I.interpretation source.now) (I.present source.now) (query_view q.now) w.hi) r) }
+        (is_full (I.interpretation source.now) (I.present source.now) (resolved_view q.now) w.hi) r) }
     ensures least { reads.old ≤ reads.new }
-    ensures most { reads.new ≤ reads.old + query_reads_upto d.now w.lo w.hi (query_view q.now) }
+    ensures most { reads.new ≤ reads.old + query_reads_upto d.now w.lo w.hi (resolved_view q.now) }
 {
     let mut made = rows_of(alloc, source, &q.formula, d, &Env::new(), w, reads, probes)?;
     let count = d.len() as u8;
@@ -66,12 +66,12 @@ fn absence_for_rows<'d, S: Temporal, I: Interpreter<S>, L: Ledger>(
 ) -> Result<Relation<'d, S>, AllocError>
     requires frame { frame rows.now ≡ frame_of d.now w.lo w.hi }
     requires known { var < length d.now }
-    requires objects { (id : ℕ) → has_id (ids_of d.now var) id ≡ true → I.object_fits source.now w.lo w.hi id }
+    requires objects { (id : ℕ) → has_id (ids_of_variable d.now var) id ≡ true → I.object_fits source.now w.lo w.hi id }
     ensures ticks { IfOk result (AreAwayFor S.member (I.present source.now) w.lo w.hi var rows.now) }
     ensures vars { IfOk result (λ r. r.vars ≡ var ∷ []) }
     ensures frame { IfOk result (λ r. frame r ≡ frame_of d.now w.lo w.hi) }
     ensures least { reads.old ≤ reads.new }
-    ensures most { reads.new ≤ reads.old + size_of d.now var }
+    ensures most { reads.new ≤ reads.old + domain_size d.now var }
 {
     if rows.vars() == &[var][..] {
         let away = absence_of_rows(alloc, source, var, rows, d, w, reads)?;
@@ -95,12 +95,12 @@ fn absence_of_rows<'d, S: Temporal, I: Interpreter<S>, L: Ledger>(
     requires frame { frame rows.now ≡ frame_of d.now w.lo w.hi }
     requires one { rows.now.vars ≡ var ∷ [] }
     requires known { var < length d.now }
-    requires objects { (id : ℕ) → has_id (ids_of d.now var) id ≡ true → I.object_fits source.now w.lo w.hi id }
+    requires objects { (id : ℕ) → has_id (ids_of_variable d.now var) id ≡ true → I.object_fits source.now w.lo w.hi id }
     ensures ticks { IfOk result (AreAwayFor S.member (I.present source.now) w.lo w.hi var rows.now) }
     ensures vars { IfOk result (λ r. r.vars ≡ var ∷ []) }
     ensures frame { IfOk result (λ r. frame r ≡ frame_of d.now w.lo w.hi) }
     ensures least { reads.old ≤ reads.new }
-    ensures most { reads.new ≤ reads.old + size_of d.now var }
+    ensures most { reads.new ≤ reads.old + domain_size d.now var }
 {
     rows.rows_stand_in_order();
     // Each domain ascends.
@@ -124,11 +124,11 @@ fn rows_of_absence<'d, S: Temporal, I: Interpreter<S>, L: Ledger>(
     reads: &mut Steps<L>,
 ) -> Result<Relation<'d, S>, AllocError>
     requires known { var < length d.now }
-    requires objects { (id : ℕ) → has_id (ids_of d.now var) id ≡ true → I.object_fits source.now w.lo w.hi id }
+    requires objects { (id : ℕ) → has_id (ids_of_variable d.now var) id ≡ true → I.object_fits source.now w.lo w.hi id }
     ensures rows { IfOk result (λ r. AreRowsWhere S.member d.now w.lo w.hi (var ∷ [])
         (λ b t. not (I.present source.now (b var) t)) r) }
     ensures least { reads.old ≤ reads.new }
-    ensures most { reads.new ≤ reads.old + size_of d.now var }
+    ensures most { reads.new ≤ reads.old + domain_size d.now var }
 {
     let mut away = Relation::empty(alloc, &[var], d, w);
     'ids: for id in d.of(var) {
@@ -159,10 +159,10 @@ fn while_there<'d, S: Temporal>(
     requires ascend { vars_of_both rows.vars rows.vars ≡ rows.vars }
     requires one { away.now.vars ≡ var ∷ [] }
     requires few { var < OBJECT_LIMIT }
-    requires lies { (b : ℕ → ℕ) → IsIn rows.domains b → (t : ℕ) → has S.member rows b t ≡ true
+    requires lies { (b : ℕ → ℕ) → IsIn rows.domains b → (t : ℕ) → table_has S.member rows b t ≡ true
         → within rows.lo rows.hi t ≡ true }
-    ensures ticks { IfOk result (λ r. (b : ℕ → ℕ) → IsIn rows.entry.domains b → (t : ℕ) → has S.member r b t
-        ≡ (has S.member rows.entry b t && not (has S.member away.now b t))) }
+    ensures ticks { IfOk result (λ r. (b : ℕ → ℕ) → IsIn rows.entry.domains b → (t : ℕ) → table_has S.member r b t
+        ≡ (table_has S.member rows.entry b t && not (table_has S.member away.now b t))) }
     ensures vars { IfOk result (λ r. r.vars ≡ vars_of_both rows.entry.vars (var ∷ [])) }
     ensures frame { IfOk result (λ r. frame r ≡ frame rows.entry) }
 {

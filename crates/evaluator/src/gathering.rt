@@ -1,12 +1,12 @@
 //! Many relations put together.
 
 ghost use Rattle.std.specs.Prelude.{◌≡◌, ◌<◌, ℕ, true, length, IfOk};
-ghost use Rattle.formula.specs.VarSet.{has as set_has};
+ghost use Rattle.formula.specs.VarSet.{set_has};
 ghost use Rattle.formula.specs.Variables.{variables_in};
 ghost use Rattle.formula_shape.specs.declared.limits.TheConstants.{OBJECT_LIMIT};
 ghost use Rattle.relation.specs.Frames.{IsIn, frame, frame_of};
-ghost use Rattle.relation.specs.Rows.{has};
-ghost use Rattle.evaluator.specs.Gathered.{AreAlike, any_has};
+ghost use Rattle.relation.specs.Rows.{table_has};
+ghost use Rattle.evaluator.specs.Gathered.{ShareFrame, some_part_has};
 
 use formula::VarSet;
 use relation::{Domains, Relation};
@@ -25,10 +25,10 @@ pub(crate) fn united<'d, S: Temporal>(
     d: &'d Domains,
     w: Window,
 ) -> Result<Relation<'d, S>, AllocError>
-    requires alike { AreAlike (variables_in (set_has set)) d.now w.lo w.hi parts.items }
+    requires alike { ShareFrame (variables_in (set_has set)) d.now w.lo w.hi parts.items }
     requires known { (v : ℕ) → v < OBJECT_LIMIT → set_has set v ≡ true → v < length d.now }
-    ensures ticks { IfOk result (λ r. (b : ℕ → ℕ) → IsIn d.now b → (t : ℕ) → has S.member r b t
-        ≡ any_has S.member parts.entry.items b t) }
+    ensures ticks { IfOk result (λ r. (b : ℕ → ℕ) → IsIn d.now b → (t : ℕ) → table_has S.member r b t
+        ≡ some_part_has S.member parts.entry.items b t) }
     ensures vars { IfOk result (λ r. r.vars ≡ variables_in (set_has set)) }
     ensures frame { IfOk result (λ r. frame r ≡ frame_of d.now w.lo w.hi) }
 {

@@ -4,7 +4,7 @@ ghost use Rattle.tick_set.specs.TickList.{has as has_tick};
 ghost use Rattle.tick_set.specs.Runs.{IsRuns, pairs, spans_have};
 ghost use Rattle.tick_set.specs.declared.spans.Span.{Span};
 ghost use Rattle.relation.specs.Frames.{IsIn};
-ghost use Rattle.relation.specs.Rows.{Table, has};
+ghost use Rattle.relation.specs.Rows.{Table, table_has};
 ghost use Rattle.evaluator.specs.Rows.{AreRowsWhere};
 
 /// Both kinds of sets give the same runs: where rows over lists of ticks and rows over runs are those of one test, over
@@ -16,6 +16,6 @@ pub fn both_kinds_of_sets_have_the_same_runs()
         → AreRowsWhere has_tick domains lo hi variables holds listed
         → AreRowsWhere spans_have domains lo hi variables holds spanned
         → (b : ℕ → ℕ) → IsIn domains b → (runs others : List Span)
-        → IsRuns (has has_tick listed b) runs → IsRuns (has spans_have spanned b) others
+        → IsRuns (table_has has_tick listed b) runs → IsRuns (table_has spans_have spanned b) others
         → pairs runs ≡ pairs others }
 {}

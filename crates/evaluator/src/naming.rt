@@ -3,14 +3,14 @@
 ghost use Rattle.std.specs.Prelude.{◌≡◌};
 ghost use Rattle.std.specs.List.{list_any};
 ghost use Rattle.formula.specs.Tree.{formula_view};
-ghost use Rattle.interpreting.specs.Names.{atom_names, formula_names, term_names, unit_names};
+ghost use Rattle.interpreting.specs.Names.{atom_uses_value, formula_uses_value, term_uses_value, unit_uses_value};
 
 use crate::node::Node;
 use formula::{RAtom, RFormula, RSigned, RTerm, RUnit};
 
 // Whether a formula names the value that is bound at a depth.
 pub(crate) fn formula_names(f: &RFormula, depth: u8) -> bool
-    ensures { result ≡ formula_names depth (formula_view f.now) }
+    ensures { result ≡ formula_uses_value depth (formula_view f.now) }
 {
     match Node::of(f) {
         Node::Truth(_) => false,
@@ -23,7 +23,7 @@ pub(crate) fn formula_names(f: &RFormula, depth: u8) -> bool
 
 // Whether an atom does.
 fn atom_names(atom: &RAtom, depth: u8) -> bool
-    ensures { result ≡ atom_names depth atom.now }
+    ensures { result ≡ atom_uses_value depth atom.now }
 {
     match atom {
         RAtom::Compare(left, _, right) => term_names(left, depth) || term_names(right, depth),
@@ -34,14 +34,14 @@ fn atom_names(atom: &RAtom, depth: u8) -> bool
 
 // Whether a term does.
 fn term_names(term: &RTerm, depth: u8) -> bool
-    ensures { result ≡ term_names depth term.now }
+    ensures { result ≡ term_uses_value depth term.now }
 {
     factors_name(term.factors.items(), depth)
 }
 
 // Whether one of these factors does.
 fn factors_name(factors: &[RSigned], depth: u8) -> bool
-    ensures { result ≡ list_any (λ s. unit_names depth s.unit) factors.now }
+    ensures { result ≡ list_any (λ s. unit_uses_value depth s.unit) factors.now }
 {
     match factors.split_first() {
         Some((factor, later)) => unit_names(&factor.unit, depth) || factors_name(later, depth),
@@ -50,7 +50,7 @@ fn factors_name(factors: &[RSigned], depth: u8) -> bool
 }
 
 fn unit_names(unit: &RUnit, depth: u8) -> bool
-    ensures { result ≡ unit_names depth unit.now }
+    ensures { result ≡ unit_uses_value depth unit.now }
 {
     match unit {
         RUnit::Var(bound, _) => *bound == depth,

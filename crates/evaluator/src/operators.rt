@@ -4,7 +4,7 @@ ghost use Rattle.std.specs.Prelude.{◌≡◌, ◌&&◌, ℕ, IfOk};
 ghost use Rattle.std.specs.List.Sorted.{IsStrictlyIncreasing};
 ghost use Rattle.tick_set.specs.Ticks.{within};
 ghost use Rattle.relation.specs.Frames.{IsIn, frame, vars_of_both};
-ghost use Rattle.relation.specs.Rows.{has};
+ghost use Rattle.relation.specs.Rows.{table_has};
 ghost use Rattle.evaluator.specs.inner.Nodes.{changed_at, paired_in};
 
 use crate::node::{Change, Pairing};
@@ -20,8 +20,8 @@ pub(crate) fn changed_rows<'d, S: Temporal>(
     change: Change,
     rows: &Relation<'d, S>,
 ) -> Result<Relation<'d, S>, AllocError>
-    ensures ticks { IfOk result (λ r. (b : ℕ → ℕ) → IsIn rows.now.domains b → (t : ℕ) → has S.member r b t
-        ≡ (within rows.now.lo rows.now.hi t && changed_at change (has S.member rows.now b) rows.now.hi t)) }
+    ensures ticks { IfOk result (λ r. (b : ℕ → ℕ) → IsIn rows.now.domains b → (t : ℕ) → table_has S.member r b t
+        ≡ (within rows.now.lo rows.now.hi t && changed_at change (table_has S.member rows.now b) rows.now.hi t)) }
     ensures vars { IfOk result (λ r. r.vars ≡ rows.now.vars) }
     ensures frame { IfOk result (λ r. frame r ≡ frame rows.now) }
 {
@@ -46,8 +46,8 @@ pub(crate) fn paired_rows<'d, S: Temporal>(
     requires frame { frame right.now ≡ frame left.now }
     requires left { IsStrictlyIncreasing left.now.vars }
     requires right { IsStrictlyIncreasing right.now.vars }
-    ensures ticks { IfOk result (λ r. (b : ℕ → ℕ) → IsIn left.now.domains b → (t : ℕ) → has S.member r b t
-        ≡ paired_in pairing left.now.lo left.now.hi (has S.member left.now b) (has S.member right.now b) t) }
+    ensures ticks { IfOk result (λ r. (b : ℕ → ℕ) → IsIn left.now.domains b → (t : ℕ) → table_has S.member r b t
+        ≡ paired_in pairing left.now.lo left.now.hi (table_has S.member left.now b) (table_has S.member right.now b) t) }
     ensures vars { IfOk result (λ r. r.vars ≡ vars_of_both left.now.vars right.now.vars) }
     ensures frame { IfOk result (λ r. frame r ≡ frame left.now) }
 {

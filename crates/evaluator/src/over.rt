@@ -2,7 +2,7 @@
 
 ghost use Rattle.std.specs.Prelude.{◌≡◌, ◌<◌, true, IsTrue};
 ghost use Rattle.formula.specs.Tree.{formula_view};
-ghost use Rattle.relation.specs.Frames.{size_of};
+ghost use Rattle.relation.specs.Frames.{domain_size};
 ghost use Rattle.relation.specs.Key.{are_known, has_id};
 ghost use Rattle.evaluator.specs.inner.ByBinding.{adds_no_choice, asks_no_more, is_over};
 
@@ -15,7 +15,7 @@ use relation::Domains;
 // term whose value it binds has exactly these variables.
 pub(crate) fn is_over(f: &RFormula, vars: &[u8], d: &Domains) -> bool
     requires { are_known d.now vars.now ≡ true }
-    ensures { result ≡ is_over (size_of d.now) vars.now (formula_view f.now) }
+    ensures { result ≡ is_over (domain_size d.now) vars.now (formula_view f.now) }
 {
     match Node::of(f) {
         Node::Truth(_) => true,
@@ -31,7 +31,7 @@ pub(crate) fn is_over(f: &RFormula, vars: &[u8], d: &Domains) -> bool
 #[tactic(auto, using(crate::proofs::OverLemmas::asks_for_own))]
 fn asks_no_more(own: &[u8], vars: &[u8], d: &Domains) -> bool
     requires { are_known d.now vars.now ≡ true }
-    ensures { result ≡ asks_no_more (size_of d.now) vars.now own.now }
+    ensures { result ≡ asks_no_more (domain_size d.now) vars.now own.now }
 {
     if are_same_one(own, vars) {
         return true;
@@ -58,7 +58,7 @@ fn are_same_one(own: &[u8], vars: &[u8]) -> bool
 #[tactic(auto, using(crate::proofs::VariableLemmas::known_one))]
 fn adds_no_choice(own: &[u8], vars: &[u8], v: u8, d: &Domains) -> bool
     requires { are_known d.now vars.now ≡ true }
-    ensures { result ≡ adds_no_choice (size_of d.now) vars.now own.now v }
+    ensures { result ≡ adds_no_choice (domain_size d.now) vars.now own.now v }
 {
     if has_variable(own, v) {
         has_variable(vars, v)

@@ -3,7 +3,7 @@
 ghost use Rattle.std.specs.Prelude.{◌≡◌, ◌≤◌, ◌<◌, ◌+◌, ◌*◌, ◌&&◌, ℕ, true, All, length, IfOk};
 ghost use Rattle.tick_set.specs.Ticks.{within};
 ghost use Rattle.formula.specs.Tree.{formula_view};
-ghost use Rattle.formula.specs.VarSet.{has as set_has};
+ghost use Rattle.formula.specs.VarSet.{set_has};
 ghost use Rattle.formula.specs.Variables.{has_variable, variables_of};
 ghost use Rattle.formula_shape.specs.declared.limits.TheConstants.{OBJECT_LIMIT};
 ghost use Rattle.meaning.specs.Reads.{term_variables};

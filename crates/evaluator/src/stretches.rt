@@ -3,8 +3,8 @@
 ghost use Rattle.std.specs.Prelude.{◌≡◌, ◌≤◌, ◌+◌, ℕ, false, All, Option, length, slice_index, IfOk, IfSome};
 ghost use Rattle.formula.specs.declared.value.Value.{Value};
 ghost use Rattle.formula.specs.Tree.{formula_view};
-ghost use Rattle.interpreting.specs.Names.{formula_names};
-ghost use Rattle.interpreting.specs.ValueRuns.{IsRunOf, runs_have};
+ghost use Rattle.interpreting.specs.Names.{formula_uses_value};
+ghost use Rattle.interpreting.specs.ValueRuns.{IsRunOf, value_runs_have};
 ghost use Rattle.meaning.specs.Reads.{term_variables};
 ghost use Rattle.evaluator.specs.Stretched.{AreStretches, IsStretch};
 
@@ -30,7 +30,7 @@ pub(crate) fn stretches_of<S: Temporal, I: Interpreter<S>, L: Ledger>(
     reads: &mut Steps<L>,
 ) -> Result<Vec<ValueRun>, AllocError>
     requires { I.term_fits source.now w.lo w.hi (slice_index binding.now) a.now.term.now env.now }
-    ensures runs { IfOk result (λ runs. AreStretches (formula_names a.now.depth (formula_view a.now.body.now))
+    ensures runs { IfOk result (λ runs. AreStretches (formula_uses_value a.now.depth (formula_view a.now.body.now))
         ((I.interpretation source.now (slice_index binding.now)).term a.now.term.now env.now) w.lo (w.hi + 1) runs.items) }
     ensures least { reads.old ≤ reads.new }
     ensures most { reads.new ≤ reads.old + length (term_variables a.now.term.now) }
@@ -47,7 +47,7 @@ pub(crate) fn stretches_of<S: Temporal, I: Interpreter<S>, L: Ledger>(
 fn joined_runs(alloc: Global, runs: &[ValueRun]) -> Result<Vec<ValueRun>, AllocError>
     ensures each { IfOk result (λ made. (value : ℕ → Option Value) (from until : ℕ) → All (IsRunOf value from until) runs.now
         → All (IsStretch false value from until) made.items) }
-    ensures ticks { IfOk result (λ made. (t : ℕ) → runs_have made.items t ≡ runs_have runs.now t) }
+    ensures ticks { IfOk result (λ made. (t : ℕ) → value_runs_have made.items t ≡ value_runs_have runs.now t) }
     ensures few { IfOk result (λ made. length made.items ≤ length runs.now) }
 {
     let mut made = Vec::new(alloc);

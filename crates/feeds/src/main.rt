@@ -6,7 +6,7 @@ ghost use Rattle.std.specs.Prelude.{◌≡◌, ◌<◌, map, string_bytes};
 ghost use Rattle.domino_run.specs.declared.running.TheConstants.{INPUT_LIMIT};
 ghost use Rattle.feeds_run.specs.Ends.{seen_of};
 ghost use Rattle.feeds_run.specs.Theorem.{FeedsAs};
-ghost use Rattle.feeds_run.specs.Words.{words_of};
+ghost use Rattle.feeds_run.specs.Words.{feed_words_of};
 
 use feeds_run::{FeedStatus, run_feeds};
 use outside::{Sink, Source, StdSink, StdSource};
@@ -43,7 +43,7 @@ fn run_program<S: Source, K: Sink>(
     source: &mut S,
     sink: &mut K,
 ) -> FeedStatus
-    ensures { FeedsAs INPUT_LIMIT (words_of (map string_bytes words.now))
+    ensures { FeedsAs INPUT_LIMIT (feed_words_of (map string_bytes words.now))
         (seen_of (S.faults source.old) (K.faults sink.old) (S.left source.old) (K.written sink.old))
         (seen_of (S.faults source.new) (K.faults sink.new) (S.left source.new) (K.written sink.new)) result }
 {
@@ -63,7 +63,7 @@ fn count_reads<S: Source, K: Sink, L: Ledger>(
     requires parts { reads.parts ≡ L.parts }
     requires some { 0 < reads.parts }
     requires one { 0 < probes.parts }
-    ensures { FeedsAs INPUT_LIMIT (words_of (map string_bytes words.now))
+    ensures { FeedsAs INPUT_LIMIT (feed_words_of (map string_bytes words.now))
         (seen_of (S.faults source.old) (K.faults sink.old) (S.left source.old) (K.written sink.old))
         (seen_of (S.faults source.new) (K.faults sink.new) (S.left source.new) (K.written sink.new)) result }
 {
@@ -83,7 +83,7 @@ fn count_probes<S: Source, K: Sink, L: Ledger, M: Ledger>(
     requires name { probes.name ≡ M.name }
     requires parts { probes.parts ≡ M.parts }
     requires some { 0 < probes.parts }
-    ensures { FeedsAs INPUT_LIMIT (words_of (map string_bytes words.now))
+    ensures { FeedsAs INPUT_LIMIT (feed_words_of (map string_bytes words.now))
         (seen_of (S.faults source.old) (K.faults sink.old) (S.left source.old) (K.written sink.old))
         (seen_of (S.faults source.new) (K.faults sink.new) (S.left source.new) (K.written sink.new)) result }
 {

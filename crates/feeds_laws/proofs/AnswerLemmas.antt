@@ -7,18 +7,19 @@ use Rattle.std.specs.Option.{option_map_or}
 use Rattle.std.specs.Str.{bytes_eq}
 use Rattle.formula.specs.declared.kind.QueryKind.{QueryKind}
 use Rattle.formula.specs.declared.kind.QueryKind.TheVariants.{Watch, Keep}
+use Rattle.formula.specs.Kinds.{kind_word}
 use Rattle.tick_set.specs.Runs.{runs_of}
 use Rattle.tick_set.specs.Ticks.{listed, within}
 use Rattle.tick_set.specs.declared.operation.SetOperation.TheVariants.{Union}
 use Rattle.tick_set.specs.declared.spans.TheConstants.{LAST_TICK}
 use Rattle.history.specs.Catalog.{Catalog, ObjectInfo, name_of}
 use Rattle.meaning.specs.Answer.{Row, has_ticks, row_where, rows_where}
-use Rattle.line_meaning.specs.Reply.{kind_word, name_text, row_line, row_text, rows_text, run_text, time_word}
+use Rattle.line_meaning.specs.Reply.{name_text, row_line, row_text, rows_text, run_text, time_word}
 use Rattle.feeds_meaning.specs.Lines.{start_line, stop_line}
-use Rattle.replica.specs.Line.{Told, Answers, Nothing, Starts, Stops, line_of, row_of}
-use Rattle.replica.specs.Printed.{IsTold, answer_text, start_text}
+use Rattle.replica.specs.Line.{ToldLine, Answers, Nothing, Starts, Stops, told_by_line, row_in_text}
+use Rattle.replica.specs.Printed.{IsTellable, answer_row_text, start_text}
 use Rattle.replica.specs.Rows as copies
-use Rattle.replica.specs.Text.{is_name}
+use Rattle.replica.specs.Text.{is_free_name}
 use Rattle.replica.specs.Ticks.{AreRuns}
 use Rattle.replica.specs.declared.copied.Copied.{Copied}
 use Rattle.replica.proofs.CallerLemmas.{later_line, now_line, past_line, reads}
@@ -47,27 +48,27 @@ kind_free : (kind : QueryKind) → has_no_feed (kind_word kind) ≡ true
 kind_free Watch = refl
 kind_free Keep = refl
 
-start_free : (kind : QueryKind) (query : List ℕ) (clock : ℕ) → is_name query ≡ true →
+start_free : (kind : QueryKind) (query : List ℕ) (clock : ℕ) → is_free_name query ≡ true →
     has_no_feed (((codes "start" ++ 32 ∷ query) ++ 32 ∷ kind_word kind) ++ 32 ∷ decimal clock) ≡ true
 start_free kind query clock is =
     free_both ((codes "start" ++ 32 ∷ query) ++ 32 ∷ kind_word kind) (32 ∷ decimal clock)
     (free_both (codes "start" ++ 32 ∷ query) (32 ∷ kind_word kind) (free_both (codes "start") (32 ∷ query) refl (name_free query is)) (kind_free kind))
     (decimal_free clock)
 
-module _ (name : List ℕ) (is : is_name name ≡ true) where
+module _ (name : List ℕ) (is : is_free_name name ≡ true) where
   pub start_leads : (kind : QueryKind) (clock : ℕ) → clock ≤ LAST_TICK → (s : Following) → Leads name (start_line kind name clock) s (copy_of kind clock [], true)
   start_leads kind clock within s =
       line_leads name (((codes "start" ++ 32 ∷ name) ++ 32 ∷ kind_word kind) ++ 32 ∷ decimal clock) (Starts kind clock) s (start_free kind name clock is)
-      (ap (line_of name) (start_is kind name clock) ∙ (reads name is).starts kind clock within) refl
+      (ap (told_by_line name) (start_is kind name clock) ∙ (reads name is).starts kind clock within) refl
 
   pub stop_leads : (s : Following) → Leads name (stop_line name) s (None, false)
   stop_leads s = line_leads name (codes "stop" ++ 32 ∷ name) Stops s (free_both (codes "stop") (32 ∷ name) refl (name_free name is)) (reads name is).stops refl
 
-  module _ (other : List ℕ) (other_is : is_name other ≡ true) (differs : bytes_eq other name ≡ false) (copy : Option Copied) where
+  module _ (other : List ℕ) (other_is : is_free_name other ≡ true) (differs : bytes_eq other name ≡ false) (copy : Option Copied) where
     pub other_start : (kind : QueryKind) (clock : ℕ) → Leads name (start_line kind other clock) (copy, false) (copy, false)
     other_start kind clock =
         line_leads name (((codes "start" ++ 32 ∷ other) ++ 32 ∷ kind_word kind) ++ 32 ∷ decimal clock) Nothing (copy, false) (start_free kind other clock other_is)
-        (ap (line_of name) (start_is kind other clock) ∙ (reads name is).others_start other kind clock other_is differs) refl
+        (ap (told_by_line name) (start_is kind other clock) ∙ (reads name is).others_start other kind clock other_is differs) refl
 
     pub other_stop : Leads name (stop_line other) (copy, false) (copy, false)
     other_stop =
@@ -96,40 +97,40 @@ by_word P first second third now runs =
     by false true = second
     by false false = third
 
-module _ (name : List ℕ) (is : is_name name ≡ true) where
-  row_leads : (kind : QueryKind) (clock : ℕ) (rows : List copies.Row) (now : ℕ) (names : List (List ℕ)) → AreTargets names → (runs : List (ℕ × ℕ)) → AreRuns 0 runs → has_ticks runs ≡ true →
-      Leads name (row_line now names runs) (copy_of kind clock rows, true) (copy_of kind clock (copies.changed Union (target_text names, runs) rows), true)
+module _ (name : List ℕ) (is : is_free_name name ≡ true) where
+  row_leads : (kind : QueryKind) (clock : ℕ) (rows : List copies.TargetRow) (now : ℕ) (names : List (List ℕ)) → AreTargets names → (runs : List (ℕ × ℕ)) → AreRuns 0 runs → has_ticks runs ≡ true →
+      Leads name (row_line now names runs) (copy_of kind clock rows, true) (copy_of kind clock (copies.rows_after_told Union (target_text names, runs) rows), true)
   row_leads kind clock rows now names are runs fit there =
-      let row : copies.Row = (target_text names, runs) in
-      let told : IsTold row = record { names = is_told_target names are; runs = fit; some = ticks_there runs there } in
-      let shape : (word : List ℕ) → row_front word (flat_map name_text names) runs ≡ answer_text word row =
+      let row : copies.TargetRow = (target_text names, runs) in
+      let told : IsTellable row = record { names = is_told_target names are; runs = fit; some = ticks_there runs there } in
+      let shape : (word : List ℕ) → row_front word (flat_map name_text names) runs ≡ answer_row_text word row =
       λ word. front_shape word (flat_map name_text names) (flat_map run_text runs) ∙ ap (λ ns. word ++ (ns ++ (codes " :" ++ flat_map run_text runs))) (spaced_target names are.some) in
-      let line : (word : List ℕ) → has_no_feed word ≡ true → line_of name (answer_text word row) ≡ Answers row →
-      Leads name (row_front word (flat_map name_text names) runs ++ 10 ∷ []) (copy_of kind clock rows, true) (copy_of kind clock (copies.changed Union row rows), true) =
+      let line : (word : List ℕ) → has_no_feed word ≡ true → told_by_line name (answer_row_text word row) ≡ Answers row →
+      Leads name (row_front word (flat_map name_text names) runs ++ 10 ∷ []) (copy_of kind clock rows, true) (copy_of kind clock (copies.rows_after_told Union row rows), true) =
       λ word free says. line_leads name (row_front word (flat_map name_text names) runs) (Answers row) (copy_of kind clock rows, true)
-      (front_free word (flat_map name_text names) runs free (names_free names are.each)) (ap (line_of name) (shape word) ∙ says) refl in
-      by_word (λ word. Leads name (row_front word (flat_map name_text names) runs ++ 10 ∷ []) (copy_of kind clock rows, true) (copy_of kind clock (copies.changed Union row rows), true))
+      (front_free word (flat_map name_text names) runs free (names_free names are.each)) (ap (told_by_line name) (shape word) ∙ says) refl in
+      by_word (λ word. Leads name (row_front word (flat_map name_text names) runs ++ 10 ∷ []) (copy_of kind clock rows, true) (copy_of kind clock (copies.rows_after_told Union row rows), true))
       (line (codes "now") refl ((reads name is).nows row told)) (line (codes "later") refl ((reads name is).laters row told)) (line (codes "past") refl ((reads name is).pasts row told)) now runs
 
   -- the rows of an answer, after the start of the query
-  pub rows_lead : (c : Catalog) (holds : List ℕ → ℕ → Bool) (now from e : ℕ) → e ≤ LAST_TICK → (kind : QueryKind) (clock : ℕ) (keys : List (List ℕ)) → AllByRecursion (HasTargets c) keys → (rows : List copies.Row) →
+  pub rows_lead : (c : Catalog) (holds : List ℕ → ℕ → Bool) (now from e : ℕ) → e ≤ LAST_TICK → (kind : QueryKind) (clock : ℕ) (keys : List (List ℕ)) → AllByRecursion (HasTargets c) keys → (rows : List copies.TargetRow) →
       Leads name (rows_text c now (rows_where keys holds from e)) (copy_of kind clock rows, true)
       (copy_of kind clock (with_rows (target_of c) (λ key. runs_of (listed (holds key) from e)) keys rows), true)
   rows_lead c holds now from e last kind clock [] all rows = nothing_leads name (copy_of kind clock rows, true)
   rows_lead c holds now from e last kind clock (key ∷ keys) all rows =
       by (λ rows. rows_lead c holds now from e last kind clock keys all.1 rows) (has_ticks (runs_of (listed (holds key) from e))) refl
     where
-      by : ((rows : List copies.Row) → Leads name (rows_text c now (rows_where keys holds from e)) (copy_of kind clock rows, true)
+      by : ((rows : List copies.TargetRow) → Leads name (rows_text c now (rows_where keys holds from e)) (copy_of kind clock rows, true)
           (copy_of kind clock (with_rows (target_of c) (λ key. runs_of (listed (holds key) from e)) keys rows), true)) →
           (b : Bool) → has_ticks (runs_of (listed (holds key) from e)) ≡ b →
           Leads name (rows_text c now (if b then row_where holds from e key ∷ rows_where keys holds from e else rows_where keys holds from e)) (copy_of kind clock rows, true) (
             copy_of kind clock (with_rows (target_of c) (λ key. runs_of (listed (holds key) from e)) keys
-                (if b then copies.changed Union (target_of c key, runs_of (listed (holds key) from e)) rows else rows)),
+                (if b then copies.rows_after_told Union (target_of c key, runs_of (listed (holds key) from e)) rows else rows)),
             true,
           )
       by later true there =
           let runs : List (ℕ × ℕ) = runs_of (listed (holds key) from e) in
-          let next : List copies.Row = copies.changed Union (target_of c key, runs) rows in
+          let next : List copies.TargetRow = copies.rows_after_told Union (target_of c key, runs) rows in
           both_lead name (row_text c now (row_where holds from e key)) (rows_text c now (rows_where keys holds from e)) (copy_of kind clock rows, true) (copy_of kind clock next, true)
           (copy_of kind clock (with_rows (target_of c) (λ key. runs_of (listed (holds key) from e)) keys next), true)
           (row_leads kind clock rows now (map (name_of c) key) all.0 runs (listed_runs (holds key) from e last) there) (later next)
@@ -149,9 +150,9 @@ rest_is (name ∷ names) spans = refl
 object_free : (objects : List ObjectInfo) (id : ℕ) → AllByRecursion IsNamed objects → has_no_feed (option_map_or (λ (o : ObjectInfo). o.name) (slice_get objects id) []) ≡ true
 object_free objects id named = by (slice_get objects id) refl
   where
-    there : (objects : List ObjectInfo) (id : ℕ) → AllByRecursion IsNamed objects → (o : ObjectInfo) → slice_get objects id ≡ Some o → is_name o.name ≡ true
+    there : (objects : List ObjectInfo) (id : ℕ) → AllByRecursion IsNamed objects → (o : ObjectInfo) → slice_get objects id ≡ Some o → is_free_name o.name ≡ true
     there [] id named o is = absurd (cc)
-    there (x ∷ objects) zero named o is = let same : x ≡ o = cc in ap (λ (o : ObjectInfo). is_name o.name) (sym same) ∙ named.0
+    there (x ∷ objects) zero named o is = let same : x ≡ o = cc in ap (λ (o : ObjectInfo). is_free_name o.name) (sym same) ∙ named.0
     there (x ∷ objects) (suc id) named o is = there objects id named.1 o is
 
     by : (o : Option ObjectInfo) → slice_get objects id ≡ o → has_no_feed (option_map_or (λ (o : ObjectInfo). o.name) o []) ≡ true
@@ -162,14 +163,14 @@ pub key_free : (c : Catalog) → AllByRecursion IsNamed c.objects → (key : Lis
 key_free c named [] = refl
 key_free c named (id ∷ key) = free_both (name_text (name_of c id)) (flat_map name_text (map (name_of c) key)) (object_free c.objects id named) (key_free c named key)
 
-abbrev says : List ℕ → Told
-says text = option_map_or Answers (row_of text) Nothing
+abbrev says : List ℕ → ToldLine
+says text = option_map_or Answers (row_in_text text) Nothing
 
 module _ (name : List ℕ) (copy : Option Copied) where
-  stays_by : (text line : List ℕ) → has_no_feed line ≡ true → line_of name line ≡ says text → Leads name (line ++ 10 ∷ []) (copy, false) (copy, false)
-  stays_by text line free is = by (row_of text) (line_of name line) is refl
+  stays_by : (text line : List ℕ) → has_no_feed line ≡ true → told_by_line name line ≡ says text → Leads name (line ++ 10 ∷ []) (copy, false) (copy, false)
+  stays_by text line free is = by (row_in_text text) (told_by_line name line) is refl
     where
-      by : (o : Option copies.Row) (told : Told) → told ≡ option_map_or Answers o Nothing → line_of name line ≡ told → Leads name (line ++ 10 ∷ []) (copy, false) (copy, false)
+      by : (o : Option copies.TargetRow) (told : ToldLine) → told ≡ option_map_or Answers o Nothing → told_by_line name line ≡ told → Leads name (line ++ 10 ∷ []) (copy, false) (copy, false)
       by None told e told_is = line_leads name line Nothing (copy, false) free (told_is ∙ e) refl
       by (Some row) told e told_is = line_leads name line (Answers row) (copy, false) free (told_is ∙ e) refl
 
@@ -178,9 +179,9 @@ module _ (name : List ℕ) (copy : Option Copied) where
       let spans : List ℕ = flat_map run_text runs in
       let shape : (word : List ℕ) → row_front word (flat_map name_text names) runs ≡ word ++ 32 ∷ rest_of names spans =
       λ word. front_shape word (flat_map name_text names) spans ∙ ap (λ rest. word ++ rest) (rest_is names spans) in
-      let line : (word : List ℕ) → has_no_feed word ≡ true → line_of name (word ++ 32 ∷ rest_of names spans) ≡ says (rest_of names spans) →
+      let line : (word : List ℕ) → has_no_feed word ≡ true → told_by_line name (word ++ 32 ∷ rest_of names spans) ≡ says (rest_of names spans) →
       Leads name (row_front word (flat_map name_text names) runs ++ 10 ∷ []) (copy, false) (copy, false) =
-      λ word word_free is. stays_by (rest_of names spans) (row_front word (flat_map name_text names) runs) (front_free word (flat_map name_text names) runs word_free free) (ap (line_of name) (shape word) ∙ is) in
+      λ word word_free is. stays_by (rest_of names spans) (row_front word (flat_map name_text names) runs) (front_free word (flat_map name_text names) runs word_free free) (ap (told_by_line name) (shape word) ∙ is) in
       by_word (λ word. Leads name (row_front word (flat_map name_text names) runs ++ 10 ∷ []) (copy, false) (copy, false))
       (line (codes "now") refl (now_line name (rest_of names spans))) (line (codes "later") refl (later_line name (rest_of names spans))) (line (codes "past") refl (past_line name (rest_of names spans))) now runs
 
@@ -198,7 +199,7 @@ with_one true false here later = refl
 with_one false true here later = refl
 with_one false false here later = refl
 
-pub with_rows_at : (text : List ℕ → List ℕ) (holds : List ℕ → ℕ → Bool) (from e : ℕ) (keys : List (List ℕ)) (rows : List copies.Row) (target : List ℕ) (t : ℕ) →
+pub with_rows_at : (text : List ℕ → List ℕ) (holds : List ℕ → ℕ → Bool) (from e : ℕ) (keys : List (List ℕ)) (rows : List copies.TargetRow) (target : List ℕ) (t : ℕ) →
     has_at (with_rows text (λ key. runs_of (listed (holds key) from e)) keys rows) target t
     ≡ (has_at rows target t || is_some_now text target (λ key. within from e t && holds key t) keys)
 with_rows_at text holds from e [] rows target t = none (has_at rows target t)

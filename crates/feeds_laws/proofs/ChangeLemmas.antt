@@ -11,10 +11,10 @@ use Rattle.meaning.specs.Answer.{has_ticks}
 use Rattle.meaning.specs.Registered.{Change, change_of, is_change, passage_of}
 use Rattle.line_meaning.specs.Changes.{change_head, change_lines, change_text, ticks_line, turn_line}
 use Rattle.line_meaning.specs.Reply.{name_text, run_text}
-use Rattle.replica.specs.Line.{Changes, Nothing, line_of}
-use Rattle.replica.specs.Printed.{IsTold}
-use Rattle.replica.specs.Rows.{Row}
-use Rattle.replica.specs.Text.{is_name}
+use Rattle.replica.specs.Line.{Changes, Nothing, told_by_line}
+use Rattle.replica.specs.Printed.{IsTellable}
+use Rattle.replica.specs.Rows.{TargetRow}
+use Rattle.replica.specs.Text.{is_free_name}
 use Rattle.replica.specs.Ticks.{AreRuns}
 use Rattle.replica.specs.declared.copied.Copied.{Copied}
 use Rattle.replica.proofs.CallerLemmas.{reads}
@@ -24,7 +24,7 @@ use Rattle.feeds_laws.proofs.RowLemmas.{after_change, after_keys, changed_if, ga
 use Rattle.feeds_laws.proofs.RunLemmas.{listed_runs}
 use Rattle.feeds_laws.proofs.TextLemmas.{AreTargets, free_both, is_told_target, name_free, names_free, runs_free, spaced_target}
 
-abbrev pub copy_of : QueryKind → ℕ → List Row → Option Copied
+abbrev pub copy_of : QueryKind → ℕ → List TargetRow → Option Copied
 copy_of kind clock rows = Some (record { kind = kind; clock = clock; rows = rows })
 
 -- ---- The shapes of lines
@@ -46,7 +46,7 @@ ticks_shape word query names runs are =
     ap (λ ns. (((word ++ 32 ∷ query) ++ ns) ++ codes " :") ++ flat_map run_text runs) (spaced_target names are.some)
     ∙ shape word query (target_text names) (codes " :") (flat_map run_text runs)
 
-head_free : (word query : List ℕ) (names : List (List ℕ)) → has_no_feed word ≡ true → is_name query ≡ true → list_all is_name names ≡ true →
+head_free : (word query : List ℕ) (names : List (List ℕ)) → has_no_feed word ≡ true → is_free_name query ≡ true → list_all is_free_name names ≡ true →
     has_no_feed (change_head word query names) ≡ true
 head_free word query names free is all =
     free_both (word ++ name_text query) (flat_map name_text names) (free_both word (name_text query) free (name_free query is)) (names_free names all)
@@ -56,61 +56,61 @@ front_free head runs free = free_both (head ++ codes " :") (flat_map run_text ru
 
 -- ---- Lines of the query
 
-module _ (name : List ℕ) (is : is_name name ≡ true) (names : List (List ℕ)) (are : AreTargets names) where
-  told_row : (runs : List (ℕ × ℕ)) (run : ℕ × ℕ) → AreRuns 0 (run ∷ runs) → IsTold (target_text names, run ∷ runs)
+module _ (name : List ℕ) (is : is_free_name name ≡ true) (names : List (List ℕ)) (are : AreTargets names) where
+  told_row : (runs : List (ℕ × ℕ)) (run : ℕ × ℕ) → AreRuns 0 (run ∷ runs) → IsTellable (target_text names, run ∷ runs)
   told_row runs run fit = record { names = is_told_target names are; runs = fit; some = omega arith }
 
-  gain_leads : (kind : QueryKind) (clock : ℕ) (rows : List Row) (runs : List (ℕ × ℕ)) → AreRuns 0 runs →
+  gain_leads : (kind : QueryKind) (clock : ℕ) (rows : List TargetRow) (runs : List (ℕ × ℕ)) → AreRuns 0 runs →
       Leads name (ticks_line (change_head (codes "gain") name names) runs) (copy_of kind clock rows, false)
       (copy_of kind clock (changed_if Union (target_text names) runs rows), false)
   gain_leads kind clock rows [] fit = nothing_leads name (copy_of kind clock rows, false)
   gain_leads kind clock rows (run ∷ runs) fit =
-      let row : Row = (target_text names, run ∷ runs) in
+      let row : TargetRow = (target_text names, run ∷ runs) in
       line_leads name (ticks_front (change_head (codes "gain") name names) (run ∷ runs)) (Changes Union row) (copy_of kind clock rows, false)
       (front_free (change_head (codes "gain") name names) (run ∷ runs) (head_free (codes "gain") name names refl is are.each))
-      (ap (line_of name) (ticks_shape (codes "gain") name names (run ∷ runs) are) ∙ (reads name is).gains row (told_row runs run fit))
+      (ap (told_by_line name) (ticks_shape (codes "gain") name names (run ∷ runs) are) ∙ (reads name is).gains row (told_row runs run fit))
       refl
 
-  lose_leads : (kind : QueryKind) (clock : ℕ) (rows : List Row) (runs : List (ℕ × ℕ)) → AreRuns 0 runs →
+  lose_leads : (kind : QueryKind) (clock : ℕ) (rows : List TargetRow) (runs : List (ℕ × ℕ)) → AreRuns 0 runs →
       Leads name (ticks_line (change_head (codes "lose") name names) runs) (copy_of kind clock rows, false)
       (copy_of kind clock (changed_if Without (target_text names) runs rows), false)
   lose_leads kind clock rows [] fit = nothing_leads name (copy_of kind clock rows, false)
   lose_leads kind clock rows (run ∷ runs) fit =
-      let row : Row = (target_text names, run ∷ runs) in
+      let row : TargetRow = (target_text names, run ∷ runs) in
       line_leads name (ticks_front (change_head (codes "lose") name names) (run ∷ runs)) (Changes Without row) (copy_of kind clock rows, false)
       (front_free (change_head (codes "lose") name names) (run ∷ runs) (head_free (codes "lose") name names refl is are.each))
-      (ap (line_of name) (ticks_shape (codes "lose") name names (run ∷ runs) are) ∙ (reads name is).losses row (told_row runs run fit))
+      (ap (told_by_line name) (ticks_shape (codes "lose") name names (run ∷ runs) are) ∙ (reads name is).losses row (told_row runs run fit))
       refl
 
 -- ---- Lines that say nothing
 
-module _ (name : List ℕ) (is : is_name name ≡ true) (copy : Option Copied) where
+module _ (name : List ℕ) (is : is_free_name name ≡ true) (copy : Option Copied) where
   abbrev Stays : List ℕ → Type 0
   Stays text = Leads name text (copy, false) (copy, false)
 
-  turn_stays : (word query : List ℕ) (names : List (List ℕ)) (happens : Bool) → has_no_feed word ≡ true → ((rest : List ℕ) → line_of name (word ++ (codes " " ++ rest)) ≡ Nothing) →
-      is_name query ≡ true → list_all is_name names ≡ true → Stays (turn_line (change_head word query names) happens)
+  turn_stays : (word query : List ℕ) (names : List (List ℕ)) (happens : Bool) → has_no_feed word ≡ true → ((rest : List ℕ) → told_by_line name (word ++ (codes " " ++ rest)) ≡ Nothing) →
+      is_free_name query ≡ true → list_all is_free_name names ≡ true → Stays (turn_line (change_head word query names) happens)
   turn_stays word query names false free passed named all = nothing_leads name (copy, false)
   turn_stays word query names true free passed named all =
       line_leads name (change_head word query names) Nothing (copy, false) (head_free word query names free named all)
-      (ap (line_of name) (append_assoc word (32 ∷ query) (flat_map name_text names)) ∙ passed (query ++ flat_map name_text names))
+      (ap (told_by_line name) (append_assoc word (32 ∷ query) (flat_map name_text names)) ∙ passed (query ++ flat_map name_text names))
       refl
 
-  pub enter_stays : (query : List ℕ) (names : List (List ℕ)) (happens : Bool) → is_name query ≡ true → list_all is_name names ≡ true →
+  pub enter_stays : (query : List ℕ) (names : List (List ℕ)) (happens : Bool) → is_free_name query ≡ true → list_all is_free_name names ≡ true →
       Stays (turn_line (change_head (codes "enter") query names) happens)
   enter_stays query names happens = turn_stays (codes "enter") query names happens refl (λ rest. (reads name is).passed_over (codes "enter") rest refl refl)
 
-  pub leave_stays : (query : List ℕ) (names : List (List ℕ)) (happens : Bool) → is_name query ≡ true → list_all is_name names ≡ true →
+  pub leave_stays : (query : List ℕ) (names : List (List ℕ)) (happens : Bool) → is_free_name query ≡ true → list_all is_free_name names ≡ true →
       Stays (turn_line (change_head (codes "leave") query names) happens)
   leave_stays query names happens = turn_stays (codes "leave") query names happens refl (λ rest. (reads name is).passed_over (codes "leave") rest refl refl)
 
-  module _ (other : List ℕ) (other_is : is_name other ≡ true) (differs : bytes_eq other name ≡ false) (names : List (List ℕ)) (are : AreTargets names) where
+  module _ (other : List ℕ) (other_is : is_free_name other ≡ true) (differs : bytes_eq other name ≡ false) (names : List (List ℕ)) (are : AreTargets names) where
     other_gain : (runs : List (ℕ × ℕ)) → Stays (ticks_line (change_head (codes "gain") other names) runs)
     other_gain [] = nothing_leads name (copy, false)
     other_gain (run ∷ runs) =
         line_leads name (ticks_front (change_head (codes "gain") other names) (run ∷ runs)) Nothing (copy, false)
         (front_free (change_head (codes "gain") other names) (run ∷ runs) (head_free (codes "gain") other names refl other_is are.each))
-        (ap (line_of name) (ticks_shape (codes "gain") other names (run ∷ runs) are) ∙ (reads name is).others_gain other (target_text names, run ∷ runs) other_is differs)
+        (ap (told_by_line name) (ticks_shape (codes "gain") other names (run ∷ runs) are) ∙ (reads name is).others_gain other (target_text names, run ∷ runs) other_is differs)
         refl
 
     other_lose : (runs : List (ℕ × ℕ)) → Stays (ticks_line (change_head (codes "lose") other names) runs)
@@ -118,7 +118,7 @@ module _ (name : List ℕ) (is : is_name name ≡ true) (copy : Option Copied) w
     other_lose (run ∷ runs) =
         line_leads name (ticks_front (change_head (codes "lose") other names) (run ∷ runs)) Nothing (copy, false)
         (front_free (change_head (codes "lose") other names) (run ∷ runs) (head_free (codes "lose") other names refl other_is are.each))
-        (ap (line_of name) (ticks_shape (codes "lose") other names (run ∷ runs) are) ∙ (reads name is).others_lose other (target_text names, run ∷ runs) other_is differs)
+        (ap (told_by_line name) (ticks_shape (codes "lose") other names (run ∷ runs) are) ∙ (reads name is).others_lose other (target_text names, run ∷ runs) other_is differs)
         refl
 
     -- all lines of a change of another query
@@ -131,7 +131,7 @@ module _ (name : List ℕ) (is : is_name name ≡ true) (copy : Option Copied) w
         (copy, false) (copy, false) (copy, false) enter (leave_stays other names leaves other_is are.each)
 
 -- all lines of a change of the query
-own_change : (name : List ℕ) → is_name name ≡ true → (names : List (List ℕ)) → AreTargets names → (kind : QueryKind) (clock : ℕ) (rows : List Row) (gained lost : List (ℕ × ℕ)) (enters leaves : Bool) →
+own_change : (name : List ℕ) → is_free_name name ≡ true → (names : List (List ℕ)) → AreTargets names → (kind : QueryKind) (clock : ℕ) (rows : List TargetRow) (gained lost : List (ℕ × ℕ)) (enters leaves : Bool) →
     AreRuns 0 gained → AreRuns 0 lost →
     Leads name (change_lines name names gained lost enters leaves) (copy_of kind clock rows, false) (copy_of kind clock (after_change (target_text names) gained lost rows), false)
 own_change name is names are kind clock rows gained lost enters leaves fit fit' =
@@ -175,7 +175,7 @@ all_lines c query make (key ∷ keys) =
 abbrev pub HasTargets : Catalog → List ℕ → Type 0
 HasTargets c key = AreTargets (map (name_of c) key)
 
-pub others_stay : (name : List ℕ) → is_name name ≡ true → (copy : Option Copied) (other : List ℕ) → is_name other ≡ true → bytes_eq other name ≡ false →
+pub others_stay : (name : List ℕ) → is_free_name name ≡ true → (copy : Option Copied) (other : List ℕ) → is_free_name other ≡ true → bytes_eq other name ≡ false →
     (c : Catalog) (make : List ℕ → Change) → ((key : List ℕ) → (make key).key ≡ key) → (keys : List (List ℕ)) → AllByRecursion (HasTargets c) keys →
     Leads name (flat_map (λ key. change_text c other (make key)) keys) (copy, false) (copy, false)
 others_stay name is copy other other_is differs c make own [] all = nothing_leads name (copy, false)
@@ -186,21 +186,21 @@ others_stay name is copy other other_is differs c make own (key ∷ keys) all =
     (other_change name is copy other other_is differs (map (name_of c) x.key) are x.gained x.lost x.enters x.leaves)
     (others_stay name is copy other other_is differs c make own keys all.1)
 
-pub write_leads : (name : List ℕ) → is_name name ≡ true → (c : Catalog) (before after : List ℕ → ℕ → Bool) (n from e : ℕ) → e ≤ LAST_TICK →
-    (kind : QueryKind) (clock : ℕ) (keys : List (List ℕ)) → AllByRecursion (HasTargets c) keys → (rows : List Row) →
+pub write_leads : (name : List ℕ) → is_free_name name ≡ true → (c : Catalog) (before after : List ℕ → ℕ → Bool) (n from e : ℕ) → e ≤ LAST_TICK →
+    (kind : QueryKind) (clock : ℕ) (keys : List (List ℕ)) → AllByRecursion (HasTargets c) keys → (rows : List TargetRow) →
     Leads name (flat_map (λ key. change_text c name (change_of key (before key) (after key) n from e)) keys) (copy_of kind clock rows, false)
     (copy_of kind clock (after_keys (target_of c) (gains (target_of c) before after from e) (losses (target_of c) before after from e) keys rows), false)
 write_leads name is c before after n from e last kind clock [] all rows = nothing_leads name (copy_of kind clock rows, false)
 write_leads name is c before after n from e last kind clock (key ∷ keys) all rows =
     let x : Change = change_of key (before key) (after key) n from e in
-    let next : List Row = after_change (target_of c key) x.gained x.lost rows in
+    let next : List TargetRow = after_change (target_of c key) x.gained x.lost rows in
     both_lead name (change_text c name x) (flat_map (λ key. change_text c name (change_of key (before key) (after key) n from e)) keys) (copy_of kind clock rows, false) (copy_of kind clock next, false)
     (copy_of kind clock (after_keys (target_of c) (gains (target_of c) before after from e) (losses (target_of c) before after from e) keys next), false)
     (own_change name is (map (name_of c) key) all.0 kind clock rows x.gained x.lost x.enters x.leaves (listed_runs _ from e last) (listed_runs _ from e last))
     (write_leads name is c before after n from e last kind clock keys all.1 next)
 
 -- where nothing is gained or lost the copy stays
-pub passage_stays : (name : List ℕ) → is_name name ≡ true → (copy : Option Copied) (query : List ℕ) → is_name query ≡ true → (c : Catalog) (holds : List ℕ → ℕ → Bool) (n m e : ℕ) →
+pub passage_stays : (name : List ℕ) → is_free_name name ≡ true → (copy : Option Copied) (query : List ℕ) → is_free_name query ≡ true → (c : Catalog) (holds : List ℕ → ℕ → Bool) (n m e : ℕ) →
     (keys : List (List ℕ)) → AllByRecursion (HasTargets c) keys →
     Leads name (flat_map (λ key. change_text c query (passage_of key (holds key) n m e)) keys) (copy, false) (copy, false)
 passage_stays name is copy query query_is c holds n m e [] all = nothing_leads name (copy, false)

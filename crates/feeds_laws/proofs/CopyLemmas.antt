@@ -22,8 +22,8 @@ use Rattle.line_meaning.specs.Reply.{ok_line}
 use Rattle.feeds_meaning.specs.Lines.{start_line}
 use Rattle.replica.specs.Copied as copies
 use Rattle.replica.specs.Copied.{at_clock}
-use Rattle.replica.specs.Rows.{Row}
-use Rattle.replica.specs.Text.{is_name}
+use Rattle.replica.specs.Rows.{TargetRow}
+use Rattle.replica.specs.Text.{is_free_name}
 use Rattle.replica.specs.declared.copied.Copied.{Copied}
 use Rattle.feeds_laws.specs.Targets.{target_of}
 use Rattle.feeds_laws.proofs.AlikeLemmas.{answer_at}
@@ -43,9 +43,9 @@ own name live = filter (has_name name) live
 
 -- a copy of a query at a clock, with the ticks of its answer from the first that is told on
 pub record HasRows (w : World) (now : ℕ) (r : RegisteredQuery) (copy : Option Copied) : Type 0 where
-  pub rows : List Row
+  pub rows : List TargetRow
   pub is : copy ≡ copy_of r.kind now rows
-  pub ticks : (target : List ℕ) (t : ℕ) → copies.first_tick r.kind now ≤ t →
+  pub ticks : (target : List ℕ) (t : ℕ) → copies.first_copied_tick r.kind now ≤ t →
       has_at rows target t ≡ answer_at w r.query (first_tick r.kind r.entry now) r.expiry target t
 
 abbrev pub AgreesBy : World → ℕ → List Registration → Option Copied → Type 0
@@ -90,7 +90,7 @@ module _ (unions : AnswersAreUnions) (w v : World) (more : List ObjectInfo) (gro
       let before : List ℕ → ℕ → Bool = holds_for w r.query in
       let after : List ℕ → ℕ → Bool = holds_for v r.query in
       let keys = tuples v q in
-      let rows : List Row = after_keys (target_of c) (gains (target_of c) before after from e) (losses (target_of c) before after from e) keys has.rows in
+      let rows : List TargetRow = after_keys (target_of c) (gains (target_of c) before after from e) (losses (target_of c) before after from e) keys has.rows in
       let told : Leads r.name (flat_map (λ key. change_text c r.name (change_of key (before key) (after key) now from e)) keys) (copy_of r.query.kind now has.rows, false) (copy_of r.query.kind now rows, false) =
       write_leads r.name right.named c before after now from e right.last r.query.kind now keys (keys_told v named r right) has.rows in
       let text : Leads r.name (write_text w v now r) (copy_of r.query.kind now has.rows, false) (copy_of r.query.kind now rows, false) =
@@ -114,7 +114,7 @@ module _ (unions : AnswersAreUnions) (w v : World) (more : List ObjectInfo) (gro
         };
       }
 
-  other_write : (name : List ℕ) → is_name name ≡ true → (r : Registration) → IsRight r → has_name name r ≡ false → (copy : Option Copied) → Leads name (write_text w v now r) (copy, false) (copy, false)
+  other_write : (name : List ℕ) → is_free_name name ≡ true → (r : Registration) → IsRight r → has_name name r ≡ false → (copy : Option Copied) → Leads name (write_text w v now r) (copy, false) (copy, false)
   other_write name is r right other copy =
       let c = v.history.catalog in
       let make : List ℕ → Change = λ key. change_of key (holds_for w r.query key) (holds_for v r.query key) now (first_tick r.query.kind r.query.entry now) r.query.expiry in
@@ -159,7 +159,7 @@ own_is name (r ∷ live) all x is = elim (cases_Bool (has_name name r)) [
 ]
 
 pub write_goes : (unions : AnswersAreUnions) (w v : World) (more : List ObjectInfo) → v.history.catalog.objects ≡ w.history.catalog.objects ++ more →
-    AllByRecursion IsNamed v.history.catalog.objects → AreApart v.history.catalog → (now : ℕ) (name : List ℕ) → is_name name ≡ true → (live : List Registration) → AllByRecursion IsRight live →
+    AllByRecursion IsNamed v.history.catalog.objects → AreApart v.history.catalog → (now : ℕ) (name : List ℕ) → is_free_name name ≡ true → (live : List Registration) → AllByRecursion IsRight live →
     (copy : Option Copied) → AgreesBy w now (own name live) copy → Goes name (write_lines w v now live) copy v now (own name live)
 write_goes unions w v more grown named apart now name is live right copy agrees = by (own name live) refl agrees
   where
@@ -180,7 +180,7 @@ write_goes unions w v more grown named apart now name is live right copy agrees 
 
 -- ---- The passing of time
 
-pub passage_quiet : (w : World) → AllByRecursion IsNamed w.history.catalog.objects → (before now : ℕ) (name : List ℕ) → is_name name ≡ true → (live : List Registration) → AllByRecursion IsRight live →
+pub passage_quiet : (w : World) → AllByRecursion IsNamed w.history.catalog.objects → (before now : ℕ) (name : List ℕ) → is_free_name name ≡ true → (live : List Registration) → AllByRecursion IsRight live →
     (copy : Option Copied) → Leads name (tick_lines w before now live) (copy, false) (copy, false)
 passage_quiet w named before now name is live right copy =
     lines_stay name is copy IsRight (λ r. flat_map (change_text w.history.catalog r.name) (changes_of_tick w r.query before now))
@@ -188,11 +188,11 @@ passage_quiet w named before now name is live right copy =
     (passage_stays name is copy r.name its.named w.history.catalog (holds_for w r.query) before now r.query.expiry (tuples w r.query.query) (keys_told w named r its)))
     live right
 
-earlier : (kind : QueryKind) (before now t : ℕ) → before ≤ now → copies.first_tick kind now ≤ t → copies.first_tick kind before ≤ t
+earlier : (kind : QueryKind) (before now t : ℕ) → before ≤ now → copies.first_copied_tick kind now ≤ t → copies.first_copied_tick kind before ≤ t
 earlier Watch before now t upto first = omega (arith, upto, first)
 earlier Keep before now t upto first = first
 
-same_window : (kind : QueryKind) (entry before now e t : ℕ) → before ≤ now → copies.first_tick kind now ≤ t → within (first_tick kind entry before) e t ≡ within (first_tick kind entry now) e t
+same_window : (kind : QueryKind) (entry before now e t : ℕ) → before ≤ now → copies.first_copied_tick kind now ≤ t → within (first_tick kind entry before) e t ≡ within (first_tick kind entry now) e t
 same_window Watch entry before now e t upto first = grind (arith, nat_tests, upto, first)
 same_window Keep entry before now e t upto first = refl
 
@@ -226,7 +226,7 @@ start_goes w named now last r right copy =
     let from = first_tick r.query.kind r.query.entry now in
     let e = r.query.expiry in
     let holds : List ℕ → ℕ → Bool = holds_target w q e in
-    let rows : List Row = with_rows (target_of c) (λ key. runs_of (listed (holds key) from e)) (tuples w q) [] in
+    let rows : List TargetRow = with_rows (target_of c) (λ key. runs_of (listed (holds key) from e)) (tuples w q) [] in
     let begun : Option Copied = copy_of r.query.kind now [] in
     let full : Option Copied = copy_of r.query.kind now rows in
     record {

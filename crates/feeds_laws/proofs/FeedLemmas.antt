@@ -21,15 +21,15 @@ use Rattle.line_meaning.specs.Answering.{kept_lines}
 use Rattle.line_meaning.specs.Journal.{world}
 use Rattle.line_meaning.specs.Judging.{Held, fault_of, held_after}
 use Rattle.line_meaning.specs.QueryFault.{command_fault}
-use Rattle.line_meaning.specs.Registry.{Registration, has_name, known, query_of, registered}
+use Rattle.line_meaning.specs.Registry.{Registration, has_name, known, registered, registration_named}
 use Rattle.line_meaning.proofs.JournalLemmas.{registered_more}
 use Rattle.line_meaning.proofs.ReachedLemmas.{none_of_both}
-use Rattle.feeds_meaning.specs.Heard.{Item, Own, Other, Seat, empty_seat, heard, seat_after, command_refusal, limit_refusal, other_text, own_by, own_refusal, taken}
+use Rattle.feeds_meaning.specs.Heard.{Item, Own, Other, Seat, empty_seat, heard, seat_after, command_refusal, limit_refusal, other_text, own_by, own_refusal, item_outcome}
 use Rattle.feeds_meaning.specs.Lines.{is_barred, is_data, notice}
 use Rattle.users.specs.Tagged.{lines_in}
-use Rattle.replica.specs.Feed.{after, silent}
-use Rattle.feeds_laws.specs.Followed.{Follows, Holds}
-use Rattle.replica.specs.Text.{is_name}
+use Rattle.replica.specs.Feed.{hearing_after, silent}
+use Rattle.feeds_laws.specs.Followed.{FollowsQuery, Holds}
+use Rattle.replica.specs.Text.{is_free_name}
 use Rattle.replica.specs.declared.copied.Copied.{Copied}
 use Rattle.feeds_laws.proofs.CopyLemmas.{AgreesBy, own}
 use Rattle.feeds_laws.proofs.FineLemmas.{fine_none, IsFine, IsRight, fine_after}
@@ -77,7 +77,7 @@ IsTaken s (Other c) = (is_data c ≡ true) × IsPrintable c × (command_fault (k
 
 abbrev pub AreTaken : Seat → List Item → Type 0
 AreTaken s [] = Unit {0}
-AreTaken s (item ∷ items) = IsTaken s item × AreTaken (taken s item).0 items
+AreTaken s (item ∷ items) = IsTaken s item × AreTaken (item_outcome s item).0 items
 
 -- the copy agrees with what a user's lines are answered by; a user who sent no line has no query
 pub record Stands (name : List ℕ) (s : Seat) (copy : Option Copied) : Type 0 where
@@ -90,7 +90,7 @@ pub record ItemGoes (name : List ℕ) (left : Seat × List ℕ) (copy : Option C
   pub leads : Leads name left.1 (copy, false) (after, false)
   pub stands : Stands name left.0 after
 
-module _ (laws : Laws) (name : List ℕ) (is : is_name name ≡ true) where
+module _ (laws : Laws) (name : List ℕ) (is : is_free_name name ≡ true) where
   entry_fine : (journal : List Accepted) (c : CommandTree) (kept : Bool) → IsFine journal → IsPrintable c → (kept ≡ true → command_fault (known journal) c ≡ None) →
       IsFine (journal ++ (if kept then (clock journal, c) ∷ [] else []))
   entry_fine journal c true fine printable none = fine_after laws.right laws.fitting journal c printable (none refl) fine
@@ -172,7 +172,7 @@ module _ (laws : Laws) (name : List ℕ) (is : is_name name ≡ true) where
             };
           }
 
-  item_goes : (s : Seat) (copy : Option Copied) (item : Item) → Stands name s copy → IsTaken s item → ItemGoes name (taken s item) copy
+  item_goes : (s : Seat) (copy : Option Copied) (item : Item) → Stands name s copy → IsTaken s item → ItemGoes name (item_outcome s item) copy
   item_goes s copy (Own line) stands its = own_item s copy line stands (own_refusal s line) refl
   item_goes s copy (Other c) stands its = other_item s copy c stands its s.here refl
 
@@ -187,25 +187,25 @@ module _ (laws : Laws) (name : List ℕ) (is : is_name name ≡ true) where
   feed_goes [] s copy stands all = record { after = copy; reads = refl; stands = stands }
   feed_goes (item ∷ items) s copy stands all =
       let first = item_goes s copy item stands all.0 in
-      let later = feed_goes items (taken s item).0 first.after first.stands all.1 in
+      let later = feed_goes items (item_outcome s item).0 first.after first.stands all.1 in
       record {
         after = later.after;
         reads =
-            texts_read name (lines_in (taken s item).1) (heard (taken s item).0 items) (copy, false) (first.after, false) (text_read name (taken s item).1 (copy, false) (first.after, false) first.leads)
+            texts_read name (lines_in (item_outcome s item).1) (heard (item_outcome s item).0 items) (copy, false) (first.after, false) (text_read name (item_outcome s item).1 (copy, false) (first.after, false) first.leads)
             ∙ later.reads;
         stands = later.stands;
       }
 
   -- ---- What a replica holds
 
-  find_none : (live : List Registration) → own name live ≡ [] → query_of live name ≡ None
+  find_none : (live : List Registration) → own name live ≡ [] → registration_named live name ≡ None
   find_none [] none = refl
   find_none (r ∷ live) none = elim (cases_Bool (has_name name r)) [
     | inl own_r ↦ let wrong : r ∷ own name live ≡ [] = rw own_r at none in absurd (cc)
     | inr other ↦ let later : own name live ≡ [] = rw other at none in rw other (find_none live later)
   ]
 
-  find_one : (live : List Registration) (x : Registration) (more : List Registration) → own name live ≡ x ∷ more → query_of live name ≡ Some x
+  find_one : (live : List Registration) (x : Registration) (more : List Registration) → own name live ≡ x ∷ more → registration_named live name ≡ Some x
   find_one [] x more is = absurd (cc)
   find_one (r ∷ live) x more is = elim (cases_Bool (has_name name r)) [
     | inl own_r ↦ let both : r ∷ own name live ≡ x ∷ more = rw own_r at is in let same : r ≡ x = cc in rw own_r (ap Some same)
@@ -213,7 +213,7 @@ module _ (laws : Laws) (name : List ℕ) (is : is_name name ≡ true) where
   ]
 
   held_copy : (w : World) (now : ℕ) (live : List Registration) (regs : List Registration) (copy : Option Copied) → own name live ≡ regs → AgreesBy w now regs copy →
-      Holds (record { world = w; now = now; live = live }) (query_of live name) copy
+      Holds (record { world = w; now = now; live = live }) (registration_named live name) copy
   held_copy w now live [] copy is none =
       subst (λ (o : Option Registration). Holds (record { world = w; now = now; live = live }) o copy) (sym (find_none live is))
       (subst (λ (o : Option Copied). Holds (record { world = w; now = now; live = live }) None o) (sym none) tt)
@@ -223,34 +223,34 @@ module _ (laws : Laws) (name : List ℕ) (is : is_name name ≡ true) where
       (record { kind = refl; clock = refl; ticks = has.ticks }))
   held_copy w now live (r ∷ s ∷ later) copy is has = absurd has
 
-  pub replica_follows : (items : List Item) (s : Seat) → Stands name s None → AreTaken s items → Follows (known (seat_after s items).held.journal) name (after (silent name) (heard s items))
+  pub replica_follows : (items : List Item) (s : Seat) → Stands name s None → AreTaken s items → FollowsQuery (known (seat_after s items).held.journal) name (hearing_after (silent name) (heard s items))
   replica_follows items s stands all =
       let goes = feed_goes items s None stands all in
       let j = (seat_after s items).held.journal in
       let ends = feed_ends name (heard s items) (None, false) (goes.after, false) 0 goes.reads in
       record {
         good = ends.good;
-        copy = subst (λ (o : Option Copied). Holds (known j) (query_of (registered j) name) o) (sym ends.copy)
+        copy = subst (λ (o : Option Copied). Holds (known j) (registration_named (registered j) name) o) (sym ends.copy)
             (held_copy (world j) (clock j) (registered j) (own name (registered j)) goes.after refl goes.stands.agrees);
       }
 
 -- a query that is registered has a name that may be one, whatever name is followed
-pub found_right : (name : List ℕ) (live : List Registration) → AllByRecursion IsRight live → (r : Registration) → query_of live name ≡ Some r → IsRight r
+pub found_right : (name : List ℕ) (live : List Registration) → AllByRecursion IsRight live → (r : Registration) → registration_named live name ≡ Some r → IsRight r
 found_right name [] all r is = absurd (cc)
 found_right name (x ∷ live) all r is = elim (cases_Bool (has_name name x)) [
   | inl own_x ↦ let both : Some x ≡ Some r = rw own_x at is in let same : x ≡ r = cc in subst IsRight same all.0
-  | inr other ↦ let later : query_of live name ≡ Some r = rw other at is in found_right name live all.1 r later
+  | inr other ↦ let later : registration_named live name ≡ Some r = rw other at is in found_right name live all.1 r later
 ]
 
-found_named : (name : List ℕ) (live : List Registration) → AllByRecursion IsRight live → (r : Registration) → query_of live name ≡ Some r → is_name name ≡ true
+found_named : (name : List ℕ) (live : List Registration) → AllByRecursion IsRight live → (r : Registration) → registration_named live name ≡ Some r → is_free_name name ≡ true
 found_named name [] all r is = absurd (cc)
 found_named name (x ∷ live) all r is = elim (cases_Bool (has_name name x)) [
-  | inl own_x ↦ ap is_name ((bytes_eq-Decides name x.name).0 own_x) ∙ all.0.named
-  | inr other ↦ let later : query_of live name ≡ Some r = rw other at is in found_named name live all.1 r later
+  | inl own_x ↦ ap is_free_name ((bytes_eq-Decides name x.name).0 own_x) ∙ all.0.named
+  | inr other ↦ let later : registration_named live name ≡ Some r = rw other at is in found_named name live all.1 r later
 ]
 
 pub registered_named : Laws → (items : List Item) (s : Seat) → Stands (codes "w") s None → AreTaken s items → (name : List ℕ) (r : Registration) →
-    query_of (registered (seat_after s items).held.journal) name ≡ Some r → is_name name ≡ true
+    registration_named (registered (seat_after s items).held.journal) name ≡ Some r → is_free_name name ≡ true
 unfolding reserved_words
 registered_named laws items s stands all name r found =
     found_named name (registered (seat_after s items).held.journal) (feed_goes laws (codes "w") refl items s None stands all).stands.fine.live r found

@@ -41,12 +41,12 @@ use Rattle.line_meaning.specs.Registry.{Known, Registration, has_name, is_regist
 use Rattle.line_meaning.proofs.JournalLemmas.{clock_more, regions_more, registered_more, world_more, writes_more}
 use Rattle.line_meaning.proofs.ReachedLemmas.{none_of_both}
 use Rattle.line_meaning.proofs.RefusalLemmas.{registered_by_fault}
-use Rattle.replica.specs.Text.{is_name}
+use Rattle.replica.specs.Text.{is_free_name}
 use Rattle.feeds_laws.proofs.KeyLemmas.{IsNamed, all_joined, all_mapped}
 
 -- ---- Names
 
-pub short_is_name : (word : List ℕ) → IsShortName word → is_name word ≡ true
+pub short_is_name : (word : List ℕ) → IsShortName word → is_free_name word ≡ true
 short_is_name word short =
     let few : nat_le (length word) WORD_LIMIT ≡ true = grind (arith, nat_tests, short.1) in
     and_from (is_word word && nat_le (length word) WORD_LIMIT) (is_none (code_of reserved_words word))
@@ -54,14 +54,14 @@ short_is_name word short =
 
 -- a registered query may be told
 pub record IsRight (r : Registration) : Type 0 where
-  pub named : is_name r.name ≡ true
+  pub named : is_free_name r.name ≡ true
   pub last : r.query.expiry ≤ LAST_TICK
   pub some : 0 < length r.query.query.targets
   pub few : length r.query.query.targets ≤ OBJECT_LIMIT
   pub below : list_all (λ v. nat_lt v (length r.query.query.classes)) r.query.query.targets ≡ true
 
 abbrev pub AreNamed : Catalog → Type 0
-AreNamed c = AllByRecursion (λ (k : ClassInfo). is_name k.name ≡ true) c.classes
+AreNamed c = AllByRecursion (λ (k : ClassInfo). is_free_name k.name ≡ true) c.classes
 
 -- it fits the classes and regions of a world
 abbrev pub FitsIn : World → Registration → Type 0
@@ -70,7 +70,7 @@ FitsIn w r = FitsItsClasses w r.query.query
 pub record IsFine (journal : List Accepted) : Type 0 where
   pub objects : AllByRecursion IsNamed (world journal).history.catalog.objects
   pub classes : AreNamed (world journal).history.catalog
-  pub regions : AllByRecursion (λ (r : Region). is_name r.name ≡ true) (world journal).regions
+  pub regions : AllByRecursion (λ (r : Region). is_free_name r.name ≡ true) (world journal).regions
   pub live : AllByRecursion IsRight (registered journal)
   pub fits : AllByRecursion (FitsIn (world journal)) (registered journal)
   pub last : clock journal ≤ LAST_TICK
@@ -139,7 +139,7 @@ catalog_more : (journal : List Accepted) (now : ℕ) (c : CommandTree) →
     (world (journal ++ (now, c) ∷ [])).history.catalog ≡ fold catalog_after (world journal).history.catalog (writes_of now c)
 catalog_more journal now c = ap catalog (writes_more journal now c) ∙ fold-append catalog_after empty_catalog (writes journal) (writes_of now c)
 
-insert_named : (there : Bool) (c : Catalog) (class : Option ℕ) (name : List ℕ) → is_name name ≡ true → AllByRecursion IsNamed c.objects →
+insert_named : (there : Bool) (c : Catalog) (class : Option ℕ) (name : List ℕ) → is_free_name name ≡ true → AllByRecursion IsNamed c.objects →
     AllByRecursion IsNamed (if there then c else with_new_object c class name).objects
 insert_named true c class name named all = all
 insert_named false c None name named all = all
@@ -157,15 +157,15 @@ classes_kept false (Some number) c name = refl
 
 classes_named : (c : Catalog) (now : ℕ) (x : CommandTree) → IsPrintable x → AreNamed c → AreNamed (fold catalog_after c (writes_of now x))
 classes_named c now (Tree.Class name capacity point attributes) printable all =
-    all_joined (λ (k : ClassInfo). is_name k.name ≡ true) c.classes _ all (short_is_name name printable.1.0, tt)
+    all_joined (λ (k : ClassInfo). is_free_name k.name ≡ true) c.classes _ all (short_is_name name printable.1.0, tt)
 classes_named c now (Tree.Insert class name place sets) printable all =
-    subst (AllByRecursion (λ (k : ClassInfo). is_name k.name ≡ true)) (sym (classes_kept (has_object c name) (number_of_class c class) c name)) all
+    subst (AllByRecursion (λ (k : ClassInfo). is_free_name k.name ≡ true)) (sym (classes_kept (has_object c name) (number_of_class c class) c name)) all
 classes_named c now x printable all = all
 
-regions_named : (regions : List Region) (x : CommandTree) → IsPrintable x → AllByRecursion (λ (r : Region). is_name r.name ≡ true) regions →
-    AllByRecursion (λ (r : Region). is_name r.name ≡ true) (regions ++ regions_of x)
-regions_named regions (Tree.Region name points) printable all = all_joined (λ (r : Region). is_name r.name ≡ true) regions _ all (short_is_name name printable.1.0, tt)
-regions_named regions x printable all = subst (AllByRecursion (λ (r : Region). is_name r.name ≡ true)) (sym (append-nil regions)) all
+regions_named : (regions : List Region) (x : CommandTree) → IsPrintable x → AllByRecursion (λ (r : Region). is_free_name r.name ≡ true) regions →
+    AllByRecursion (λ (r : Region). is_free_name r.name ≡ true) (regions ++ regions_of x)
+regions_named regions (Tree.Region name points) printable all = all_joined (λ (r : Region). is_free_name r.name ≡ true) regions _ all (short_is_name name printable.1.0, tt)
+regions_named regions x printable all = subst (AllByRecursion (λ (r : Region). is_free_name r.name ≡ true)) (sym (append-nil regions)) all
 
 all_filtered : (P : Registration → Type 0) (test : Registration → Bool) (live : List Registration) → AllByRecursion P live → AllByRecursion P (filter test live)
 all_filtered P test [] all = tt
@@ -251,7 +251,7 @@ fine_after right goes journal x printable none fine =
     record {
       objects = subst (λ (c : Catalog). AllByRecursion IsNamed c.objects) (sym grown) (objects_named (world journal).history.catalog now x printable fine.objects);
       classes = subst AreNamed (sym grown) (classes_named (world journal).history.catalog now x printable fine.classes);
-      regions = subst (AllByRecursion (λ (r : Region). is_name r.name ≡ true)) (sym (regions_more journal now x)) (regions_named (regions journal) x printable fine.regions);
+      regions = subst (AllByRecursion (λ (r : Region). is_free_name r.name ≡ true)) (sym (regions_more journal now x)) (regions_named (regions journal) x printable fine.regions);
       live = subst (AllByRecursion IsRight) (sym (registered_more journal now x)) (live_right right (known journal) x printable none fine.live);
       fits = fits_after right goes journal x printable none fine.fits;
       last = subst (λ (n : ℕ). n ≤ LAST_TICK) (sym (clock_more journal now x)) (clock_last journal x none fine.last);

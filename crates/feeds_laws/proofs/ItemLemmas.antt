@@ -23,7 +23,7 @@ use Rattle.line_meaning.specs.Registry.{Registration, has_name, known, registere
 use Rattle.line_meaning.proofs.JournalLemmas.{clock_more, registered_more}
 use Rattle.feeds_meaning.specs.Lines.{is_data, notice}
 use Rattle.replica.specs.Copied.{at_clock}
-use Rattle.replica.specs.Text.{is_name}
+use Rattle.replica.specs.Text.{is_free_name}
 use Rattle.replica.specs.declared.copied.Copied.{Copied}
 use Rattle.feeds_laws.proofs.AlikeLemmas.{GiveTheSameTruth, answer_at, class_leaves, region_leaves}
 use Rattle.feeds_laws.proofs.CopyLemmas.{AgreesBy, own, passage_agrees, passage_quiet, write_goes}
@@ -72,7 +72,7 @@ pub record DataGoes (name before changes : List ℕ) (copy : Option Copied) (jou
   pub second : Leads name changes (mid, false) (after, false)
   pub agrees : AgreesWith name journal after
 
-module _ (laws : Laws) (name : List ℕ) (is : is_name name ≡ true) (h : Held) (fine : IsFine h.journal) (copy : Option Copied) (agrees : AgreesWith name h.journal copy) where
+module _ (laws : Laws) (name : List ℕ) (is : is_free_name name ≡ true) (h : Held) (fine : IsFine h.journal) (copy : Option Copied) (agrees : AgreesWith name h.journal copy) where
   abbrev j : List Accepted
   j = h.journal
 

@@ -10,7 +10,7 @@ use Rattle.std.specs.Str.{bytes_eq}
 use Rattle.formula_shape.specs.declared.limits.TheConstants.{OBJECT_LIMIT}
 use Rattle.history.specs.Catalog.{Catalog, ObjectInfo, ids_of, name_of}
 use Rattle.meaning.specs.Binding.{product}
-use Rattle.replica.specs.Text.{is_name, words}
+use Rattle.replica.specs.Text.{is_free_name, words}
 use Rattle.feeds_laws.specs.Targets.{target_of, target_text}
 use Rattle.feeds_laws.proofs.TextLemmas.{AreTargets, targets_words}
 
@@ -77,17 +77,17 @@ products_are_keys c class (v ∷ vs) =
 -- ---- Names
 
 abbrev pub IsNamed : ObjectInfo → Type 0
-IsNamed o = is_name o.name ≡ true
+IsNamed o = is_free_name o.name ≡ true
 
 get_named : (objects : List ObjectInfo) (id : ℕ) → AllByRecursion IsNamed objects → id < length objects →
-    is_name (option_map_or (λ (o : ObjectInfo). o.name) (slice_get objects id) []) ≡ true
+    is_free_name (option_map_or (λ (o : ObjectInfo). o.name) (slice_get objects id) []) ≡ true
 get_named [] id all within = absurd (omega arith)
 get_named (o ∷ objects) zero all within = all.0
 get_named (o ∷ objects) (suc id) all within = get_named objects id all.1 (omega (arith, within))
 
-names_named : (c : Catalog) → AllByRecursion IsNamed c.objects → (key : List ℕ) → AllByRecursion (IsBelow (length c.objects)) key → list_all is_name (map (name_of c) key) ≡ true
+names_named : (c : Catalog) → AllByRecursion IsNamed c.objects → (key : List ℕ) → AllByRecursion (IsBelow (length c.objects)) key → list_all is_free_name (map (name_of c) key) ≡ true
 names_named c named [] below = refl
-names_named c named (id ∷ key) below = and_from (is_name (name_of c id)) (list_all is_name (map (name_of c) key)) (get_named c.objects id named below.0) (names_named c named key below.1)
+names_named c named (id ∷ key) below = and_from (is_free_name (name_of c id)) (list_all is_free_name (map (name_of c) key)) (get_named c.objects id named below.0) (names_named c named key below.1)
 
 pub key_targets : (c : Catalog) → AllByRecursion IsNamed c.objects → (count : ℕ) → 0 < count → count ≤ OBJECT_LIMIT → (key : List ℕ) → IsKey c count key → AreTargets (map (name_of c) key)
 key_targets c named count some few key is = record {

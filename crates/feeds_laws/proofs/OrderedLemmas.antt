@@ -12,15 +12,15 @@ use Rattle.std.specs.Ordering.{is_eq}
 use Rattle.std.specs.declared.cmp.Ordering.{Ordering}
 use Rattle.std.specs.declared.cmp.Ordering.TheVariants.{Less, Equal, Greater}
 use Rattle.meaning.specs.Answer.{has_ticks}
-use Rattle.replica.specs.Rows.{AreInOrder, Row, bytes_cmp, line_feed, row_text, span_text, ticks_at}
+use Rattle.replica.specs.Rows.{AreInOrder, TargetRow, bytes_cmp, line_feed, span_text, target_row_text, ticks_at}
 use Rattle.replica.specs.Ticks.{have}
 use Rattle.replica.proofs.CallerLemmas.{turned}
-use Rattle.feeds_laws.specs.Written.{row_line}
+use Rattle.feeds_laws.specs.Written.{told_row_line}
 use Rattle.feeds_laws.proofs.AscendLemmas.{Ascend, clip, clip_ascends, clip_has, clip_some, clip_text, some_tick, unique}
 use Rattle.feeds_laws.proofs.RowLemmas.{has_at}
 
 -- some ticks, as runs that ascend
-pub record IsWritten (row : Row) : Type 0 where
+pub record IsWritten (row : TargetRow) : Type 0 where
   pub ascends : Ascend 0 row.1
   pub some : has_ticks row.1 ≡ true
 
@@ -28,17 +28,17 @@ abbrev IsBelow : List ℕ → List ℕ → Type 0
 IsBelow target key = bytes_cmp target key ≡ Less
 
 -- a target below all others has no row
-none_at : (target : List ℕ) (rows : List Row) → AllByRecursion (IsBelow target) (keys_of rows) → ticks_at target rows ≡ []
+none_at : (target : List ℕ) (rows : List TargetRow) → AllByRecursion (IsBelow target) (keys_of rows) → ticks_at target rows ≡ []
 none_at target [] below = refl
 none_at target (row ∷ rows) below =
     ap (λ (o : Ordering). unwrap_or (if is_eq o then Some row.1 else lookup (is_at (bytes_cmp target)) rows) []) below.0
     ∙ none_at target rows below.1
 
-none_has : (target : List ℕ) (rows : List Row) → AllByRecursion (IsBelow target) (keys_of rows) → (t : ℕ) → has_at rows target t ≡ false
+none_has : (target : List ℕ) (rows : List TargetRow) → AllByRecursion (IsBelow target) (keys_of rows) → (t : ℕ) → has_at rows target t ≡ false
 none_has target rows below t = ap (λ spans. have spans t) (none_at target rows below)
 
 -- the ticks of a target by the first row
-at_first : (target : List ℕ) (row : Row) (rows : List Row) (t : ℕ) (o : Ordering) → bytes_cmp target row.0 ≡ o → has_at (row ∷ rows) target t ≡ (if is_eq o then have row.1 t else has_at rows target t)
+at_first : (target : List ℕ) (row : TargetRow) (rows : List TargetRow) (t : ℕ) (o : Ordering) → bytes_cmp target row.0 ≡ o → has_at (row ∷ rows) target t ≡ (if is_eq o then have row.1 t else has_at rows target t)
 at_first target row rows t o is =
     ap (λ (o : Ordering). have (unwrap_or (if is_eq o then Some row.1 else lookup (is_at (bytes_cmp target)) rows) []) t) is ∙ by o
   where
@@ -47,7 +47,7 @@ at_first target row rows t o is =
     by Equal = refl
     by Greater = refl
 
-same_target : (target : List ℕ) → (o : Ordering) → bytes_cmp target target ≡ o → is_eq o ≡ true → (row : Row) (rows : List Row) (t : ℕ) → row.0 ≡ target → has_at (row ∷ rows) target t ≡ have row.1 t
+same_target : (target : List ℕ) → (o : Ordering) → bytes_cmp target target ≡ o → is_eq o ≡ true → (row : TargetRow) (rows : List TargetRow) (t : ℕ) → row.0 ≡ target → has_at (row ∷ rows) target t ≡ have row.1 t
 same_target target o is equal row rows t e =
     at_first target row rows t o (ap (bytes_cmp target) e ∙ is) ∙ ap (λ (b : Bool). if b then have row.1 t else has_at rows target t) equal
 
@@ -58,20 +58,20 @@ below_more x y (k ∷ keys) less all = (nat_list_cmp_total.trans x y k less all.
 tied : (target : List ℕ) → bytes_cmp target target ≡ Equal
 tied target = tied_itself nat_list_cmp_total target
 
-own_ticks : (row : Row) (rows : List Row) (t : ℕ) → has_at (row ∷ rows) row.0 t ≡ have row.1 t
+own_ticks : (row : TargetRow) (rows : List TargetRow) (t : ℕ) → has_at (row ∷ rows) row.0 t ≡ have row.1 t
 own_ticks row rows t = same_target row.0 Equal (tied row.0) refl row rows t refl
 
 -- ---- The same ticks are the same rows
 
 -- a row before all those of the others has ticks that they haven't
-not_before : (x y : Row) (A B : List Row) → bytes_cmp x.0 y.0 ≡ Less → AreInOrder (y ∷ B) → IsWritten x → ((target : List ℕ) (t : ℕ) → has_at (x ∷ A) target t ≡ has_at (y ∷ B) target t) → ⊥
+not_before : (x y : TargetRow) (A B : List TargetRow) → bytes_cmp x.0 y.0 ≡ Less → AreInOrder (y ∷ B) → IsWritten x → ((target : List ℕ) (t : ℕ) → has_at (x ∷ A) target t ≡ has_at (y ∷ B) target t) → ⊥
 unfolding IsStrictlySortedBy
 not_before x y A B less order written same =
     let tick = some_tick 0 x.1 written.ascends written.some in
     let gone : has_at (y ∷ B) x.0 tick.0 ≡ false = none_has x.0 (y ∷ B) (less, below_more x.0 y.0 (keys_of B) less order.0) tick.0 in
     false≢true (sym gone ∙ sym (same x.0 tick.0) ∙ own_ticks x A tick.0 ∙ tick.1)
 
-later_same : (x y : Row) (A B : List Row) → x.0 ≡ y.0 → AreInOrder (x ∷ A) → AreInOrder (y ∷ B) → ((target : List ℕ) (t : ℕ) → has_at (x ∷ A) target t ≡ has_at (y ∷ B) target t) → (target : List ℕ) (t : ℕ) → has_at A target t ≡ has_at B target t
+later_same : (x y : TargetRow) (A B : List TargetRow) → x.0 ≡ y.0 → AreInOrder (x ∷ A) → AreInOrder (y ∷ B) → ((target : List ℕ) (t : ℕ) → has_at (x ∷ A) target t ≡ has_at (y ∷ B) target t) → (target : List ℕ) (t : ℕ) → has_at A target t ≡ has_at B target t
 unfolding IsStrictlySortedBy
 later_same x y A B key orderA orderB same target t = by (bytes_cmp target x.0) refl
   where
@@ -90,7 +90,7 @@ later_same x y A B key orderA orderB same target t = by (bytes_cmp target x.0) r
         let inB : has_at B target t ≡ false = ap (λ T. has_at B T t) (own ∙ key) ∙ none_has y.0 B orderB.0 t in
         inA ∙ sym inB
 
-pub same_rows : (A B : List Row) → AreInOrder A → AreInOrder B → AllByRecursion IsWritten A → AllByRecursion IsWritten B → ((target : List ℕ) (t : ℕ) → has_at A target t ≡ has_at B target t) → A ≡ B
+pub same_rows : (A B : List TargetRow) → AreInOrder A → AreInOrder B → AllByRecursion IsWritten A → AllByRecursion IsWritten B → ((target : List ℕ) (t : ℕ) → has_at A target t ≡ has_at B target t) → A ≡ B
 unfolding IsStrictlySortedBy
 same_rows [] [] orderA orderB writtenA writtenB same = refl
 same_rows [] (y ∷ B) orderA orderB writtenA writtenB same =
@@ -113,11 +113,11 @@ same_rows (x ∷ A) (y ∷ B) orderA orderB writtenA writtenB same = elim (bytes
 
 -- ---- Rows without the ticks before one
 
-abbrev pub clipped : ℕ → List Row → List Row
+abbrev pub clipped : ℕ → List TargetRow → List TargetRow
 clipped first [] = []
 clipped first (row ∷ rows) = if has_ticks (clip first row.1) then (row.0, clip first row.1) ∷ clipped first rows else clipped first rows
 
-keys_clipped : (P : List ℕ → Type 0) (first : ℕ) (rows : List Row) → AllByRecursion P (keys_of rows) → AllByRecursion P (keys_of (clipped first rows))
+keys_clipped : (P : List ℕ → Type 0) (first : ℕ) (rows : List TargetRow) → AllByRecursion P (keys_of rows) → AllByRecursion P (keys_of (clipped first rows))
 keys_clipped P first [] all = tt
 keys_clipped P first (row ∷ rows) all = by (has_ticks (clip first row.1)) (keys_clipped P first rows all.1)
   where
@@ -125,7 +125,7 @@ keys_clipped P first (row ∷ rows) all = by (has_ticks (clip first row.1)) (key
     by true later = (all.0, later)
     by false later = later
 
-pub clipped_in_order : (first : ℕ) (rows : List Row) → AreInOrder rows → AreInOrder (clipped first rows)
+pub clipped_in_order : (first : ℕ) (rows : List TargetRow) → AreInOrder rows → AreInOrder (clipped first rows)
 unfolding IsStrictlySortedBy
 clipped_in_order first [] order = tt
 clipped_in_order first (row ∷ rows) order = by (has_ticks (clip first row.1)) (clipped_in_order first rows order.1)
@@ -134,10 +134,10 @@ clipped_in_order first (row ∷ rows) order = by (has_ticks (clip first row.1)) 
     by true later = (keys_clipped (IsBelow row.0) first rows order.0, later)
     by false later = later
 
-abbrev pub Ascends : Row → Type 0
+abbrev pub Ascends : TargetRow → Type 0
 Ascends row = Ascend 0 row.1
 
-pub clipped_written : (first : ℕ) (rows : List Row) → AllByRecursion Ascends rows → AllByRecursion IsWritten (clipped first rows)
+pub clipped_written : (first : ℕ) (rows : List TargetRow) → AllByRecursion Ascends rows → AllByRecursion IsWritten (clipped first rows)
 clipped_written first [] all = tt
 clipped_written first (row ∷ rows) all = by (has_ticks (clip first row.1)) refl (clipped_written first rows all.1)
   where
@@ -149,7 +149,7 @@ no_have : (spans : List (ℕ × ℕ)) (t : ℕ) → has_ticks spans ≡ false �
 no_have [] t none = refl
 no_have (s ∷ spans) t none = absurd (false≢true (sym none))
 
-pub clipped_at : (first : ℕ) (rows : List Row) → AreInOrder rows → (target : List ℕ) (t : ℕ) → has_at (clipped first rows) target t ≡ (nat_le first t && has_at rows target t)
+pub clipped_at : (first : ℕ) (rows : List TargetRow) → AreInOrder rows → (target : List ℕ) (t : ℕ) → has_at (clipped first rows) target t ≡ (nat_le first t && has_at rows target t)
 unfolding IsStrictlySortedBy
 clipped_at first [] order target t = none (nat_le first t)
   where
@@ -158,7 +158,7 @@ clipped_at first [] order target t = none (nat_le first t)
     none false = refl
 clipped_at first (row ∷ rows) order target t = by (bytes_cmp target row.0) refl (has_ticks (clip first row.1)) refl (clipped_at first rows order.1 target t)
   where
-    later : List Row
+    later : List TargetRow
     later = clipped first rows
 
     -- of another target
@@ -183,17 +183,17 @@ clipped_at first (row ∷ rows) order target t = by (bytes_cmp target row.0) ref
         gone ∙ sym (no_have (clip first row.1) t none) ∙ clip_has first row.1 t ∙ ap (λ h. nat_le first t && h) (sym (at_first target row rows t Equal is))
 
 -- the text is that of the rows without the ticks before
-pub clipped_text : (first : ℕ) (rows : List Row) → flat_map (row_text first) rows ≡ flat_map row_line (clipped first rows)
+pub clipped_text : (first : ℕ) (rows : List TargetRow) → flat_map (target_row_text first) rows ≡ flat_map told_row_line (clipped first rows)
 clipped_text first [] = refl
 clipped_text first (row ∷ rows) =
-    ap (λ (b : Bool). (if b then row.0 ++ codes " :" ++ flat_map (span_text first) row.1 ++ line_feed else []) ++ flat_map (row_text first) rows) (clip_some first row.1)
+    ap (λ (b : Bool). (if b then row.0 ++ codes " :" ++ flat_map (span_text first) row.1 ++ line_feed else []) ++ flat_map (target_row_text first) rows) (clip_some first row.1)
     ∙ by (has_ticks (clip first row.1)) (clipped_text first rows)
   where
-    by : (b : Bool) → flat_map (row_text first) rows ≡ flat_map row_line (clipped first rows) →
-        (if b then row.0 ++ codes " :" ++ flat_map (span_text first) row.1 ++ line_feed else []) ++ flat_map (row_text first) rows
-        ≡ flat_map row_line (if b then (row.0, clip first row.1) ∷ clipped first rows else clipped first rows)
+    by : (b : Bool) → flat_map (target_row_text first) rows ≡ flat_map told_row_line (clipped first rows) →
+        (if b then row.0 ++ codes " :" ++ flat_map (span_text first) row.1 ++ line_feed else []) ++ flat_map (target_row_text first) rows
+        ≡ flat_map told_row_line (if b then (row.0, clip first row.1) ∷ clipped first rows else clipped first rows)
     by true later =
-        ap (λ text. (text ++ line_feed) ++ flat_map (row_text first) rows) (append_assoc row.0 (codes " :") (flat_map (span_text first) row.1))
-        ∙ ap (λ spans. ((row.0 ++ (codes " :" ++ spans)) ++ line_feed) ++ flat_map (row_text first) rows) (clip_text first row.1)
-        ∙ ap (λ text. row_line (row.0, clip first row.1) ++ text) later
+        ap (λ text. (text ++ line_feed) ++ flat_map (target_row_text first) rows) (append_assoc row.0 (codes " :") (flat_map (span_text first) row.1))
+        ∙ ap (λ spans. ((row.0 ++ (codes " :" ++ spans)) ++ line_feed) ++ flat_map (target_row_text first) rows) (clip_text first row.1)
+        ∙ ap (λ text. told_row_line (row.0, clip first row.1) ++ text) later
     by false later = later

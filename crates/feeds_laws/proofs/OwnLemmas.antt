@@ -23,14 +23,14 @@ use Rattle.line_meaning.specs.Journal.{regions_of, world, writes_of}
 use Rattle.line_meaning.specs.Judging.{Held, fault_of, held_after}
 use Rattle.line_meaning.specs.Near.{rows_near}
 use Rattle.line_meaning.specs.QueryFault.{command_fault}
-use Rattle.line_meaning.specs.Registry.{Registration, has_name, is_registered, known, live_after, query_of, registered, registration}
+use Rattle.line_meaning.specs.Registry.{Registration, has_name, is_registered, known, live_after, registered, registration, registration_named}
 use Rattle.line_meaning.specs.Reply.{listing, ok_line, registration_line, rows_text}
 use Rattle.line_meaning.proofs.JournalLemmas.{registered_more}
 use Rattle.line_meaning.proofs.ReachedLemmas.{none_of_both}
 use Rattle.feeds_meaning.specs.Heard.{own_text}
 use Rattle.feeds_meaning.specs.Lines.{is_barred, is_data, notice, start_line, stop_line}
 use Rattle.replica.specs.Copied.{at_clock}
-use Rattle.replica.specs.Text.{is_name}
+use Rattle.replica.specs.Text.{is_free_name}
 use Rattle.replica.specs.declared.copied.Copied.{Copied}
 use Rattle.feeds_laws.proofs.AnswerLemmas.{other_start, other_stop, rows_stay, stop_leads}
 use Rattle.feeds_laws.proofs.CopyLemmas.{AgreesBy, Goes, begun_text, flipped, other_dropped, own, own_added, own_dropped, own_kept, start_goes}
@@ -64,7 +64,7 @@ abbrev pub OwnGoes : List ℕ → Held → CommandTree → Option Copied → Typ
 OwnGoes name h c copy =
     Goes name (own_text h c) copy (world (held_after h c).journal) (clock (held_after h c).journal) (own name (registered (held_after h c).journal))
 
-module _ (laws : Laws) (name : List ℕ) (is : is_name name ≡ true) (h : Held) (fine : IsFine h.journal) (copy : Option Copied) (agrees : AgreesWith name h.journal copy) where
+module _ (laws : Laws) (name : List ℕ) (is : is_free_name name ≡ true) (h : Held) (fine : IsFine h.journal) (copy : Option Copied) (agrees : AgreesWith name h.journal copy) where
   abbrev j : List Accepted
   j = h.journal
 
@@ -131,7 +131,7 @@ module _ (laws : Laws) (name : List ℕ) (is : is_name name ≡ true) (h : Held)
         }
   ]
 
-  dropped : (query : List ℕ) → is_name query ≡ true → Goes name (stop_line query ++ ok_line) copy (world (next j (Tree.Drop query))) (clock (next j (Tree.Drop query))) (own name (registered (next j (Tree.Drop query))))
+  dropped : (query : List ℕ) → is_free_name query ≡ true → Goes name (stop_line query ++ ok_line) copy (world (next j (Tree.Drop query))) (clock (next j (Tree.Drop query))) (own name (registered (next j (Tree.Drop query))))
   dropped query query_is =
       let c = Tree.Drop query in
       let regs : List Registration = filter (λ r. not (has_name query r)) (registered j) in
@@ -188,11 +188,11 @@ module _ (laws : Laws) (name : List ℕ) (is : is_name name ≡ true) (h : Held)
       told (listing (clock j) (world j).history.catalog (world j).regions ++ flat_map registration_line (registered j))
       (pair (listing (clock j) (world j).history.catalog (world j).regions) (flat_map registration_line (registered j))
       (listing_stays name is copy (clock j) fine.last (same_copy (world j) (clock j) (own name (registered j)) copy agrees) (world j).history.catalog fine.classes (world j).regions fine.regions)
-      (registrations_stay name is copy (registered j) (all_mapped IsRight (λ r. is_name r.name ≡ true) (λ r right. right.named) (registered j) fine.live)))
+      (registrations_stay name is copy (registered j) (all_mapped IsRight (λ r. is_free_name r.name ≡ true) (λ r right. right.named) (registered j) fine.live)))
   own_goes (Tree.Ask span q) printable free none =
       let answer = rows_asked (world j) (clock j) span q in
       told (rows_text (world j).history.catalog (clock j) answer ++ []) (pair (rows_text (world j).history.catalog (clock j) answer) [] (rows answer) quiet)
-  own_goes (Tree.Show query) printable free none = told (option_map_or (answer_text (world j) (clock j)) (query_of (registered j) query) []) (shown (query_of (registered j) query))
+  own_goes (Tree.Show query) printable free none = told (option_map_or (answer_text (world j) (clock j)) (registration_named (registered j) query) []) (shown (registration_named (registered j) query))
   own_goes (Tree.Nearest span n object class) printable free none =
       let answer = rows_near (world j) (clock j) span n object class in
       told (rows_text (world j).history.catalog (clock j) answer ++ []) (pair (rows_text (world j).history.catalog (clock j) answer) [] (rows answer) quiet)

@@ -4,31 +4,31 @@ use Rattle.std.proofs.lemmas.Bool.{and_parts, cases_Bool}
 use Rattle.std.proofs.lemmas.Bool.Decides.{nat_tests}
 use Rattle.std.specs.Prelude.{◌==◌, if◌then◌else◌}
 use Rattle.std.specs.List.{list_all}
-use Rattle.users.specs.Tagged.{is_no_feed, lines_from, lines_in}
+use Rattle.users.specs.Tagged.{is_no_feed, lines_in, split_lines}
 use Rattle.replica.specs.Copied.{copy_after, starting_after}
-use Rattle.replica.specs.Feed.{Hearing, after, is_broken}
-use Rattle.replica.specs.Line.{Told, line_of}
+use Rattle.replica.specs.Feed.{Hearing, hearing_after, is_broken}
+use Rattle.replica.specs.Line.{ToldLine, told_by_line}
 use Rattle.replica.specs.declared.copied.Copied.{Copied}
 
 -- the copy, and whether rows may follow
 abbrev pub Following : Type 0
 Following = Option Copied × Bool
 
-abbrev pub then_told : Following → Told → Following
+abbrev pub then_told : Following → ToldLine → Following
 then_told s told = (copy_after s.1 s.0 told, starting_after s.1 told)
 
 -- what lines leave; None where one of them hasn't its form
 abbrev pub read : List ℕ → Following → List (List ℕ) → Option Following
 read name s [] = Some s
-read name s (line ∷ lines) = if is_broken (line_of name line) then None else read name (then_told s (line_of name line)) lines
+read name s (line ∷ lines) = if is_broken (told_by_line name line) then None else read name (then_told s (told_by_line name line)) lines
 
 read_more : (name : List ℕ) (s m : Following) (xs ys : List (List ℕ)) → read name s xs ≡ Some m → read name s (xs ++ ys) ≡ read name m ys
 read_more name s m [] ys e = let same : s ≡ m = cc in ap (λ s. read name s ys) same
-read_more name s m (x ∷ xs) ys e = elim (cases_Bool (is_broken (line_of name x))) [
+read_more name s m (x ∷ xs) ys e = elim (cases_Bool (is_broken (told_by_line name x))) [
   | inl bad ↦ let none : None ≡ Some m = rw bad at e in absurd (cc)
   | inr good ↦
-      let later : read name (then_told s (line_of name x)) xs ≡ Some m = rw good at e in
-      rw good (read_more name (then_told s (line_of name x)) m xs ys later)
+      let later : read name (then_told s (told_by_line name x)) xs ≡ Some m = rw good at e in
+      rw good (read_more name (then_told s (told_by_line name x)) m xs ys later)
 ]
 
 -- ---- Texts
@@ -59,18 +59,18 @@ has_no_feed line = list_all is_no_feed line
 no_feed_on : (b : ℕ) → is_no_feed b ≡ true → (b == 10) ≡ false
 no_feed_on b h = grind (arith, nat_tests)
 
-line_first : (begun line rest : List ℕ) → has_no_feed line ≡ true → lines_from begun (line ++ 10 ∷ rest) ≡ (begun ++ line) ∷ lines_in rest
+line_first : (begun line rest : List ℕ) → has_no_feed line ≡ true → split_lines begun (line ++ 10 ∷ rest) ≡ (begun ++ line) ∷ lines_in rest
 line_first begun [] rest h = ap (λ l. l ∷ lines_in rest) (sym (append-nil begun))
 line_first begun (b ∷ line) rest h =
     let both = and_parts (is_no_feed b) (has_no_feed line) h in
     rw (no_feed_on b both.0) (line_first (begun ++ b ∷ []) line rest both.1 ∙ ap (λ l. l ∷ lines_in rest) (append_assoc begun (b ∷ []) line))
 
-pub line_leads : (name line : List ℕ) (told : Told) (s : Following) → has_no_feed line ≡ true → line_of name line ≡ told → is_broken told ≡ false
+pub line_leads : (name line : List ℕ) (told : ToldLine) (s : Following) → has_no_feed line ≡ true → told_by_line name line ≡ told → is_broken told ≡ false
     → Leads name (line ++ 10 ∷ []) s (then_told s told)
 line_leads name line told s free is good = record {
   lines = line ∷ [];
   are = λ rest. ap lines_in (append_assoc line (10 ∷ []) rest) ∙ line_first [] line rest free;
-  leads = ap (λ (t : Told). cond (is_broken t) None (Some (then_told s t))) is ∙ ap (λ (b : Bool). cond b None (Some (then_told s told))) good;
+  leads = ap (λ (t : ToldLine). cond (is_broken t) None (Some (then_told s t))) is ∙ ap (λ (b : Bool). cond b None (Some (then_told s told))) good;
 }
 
 -- the lines of the whole text
@@ -91,11 +91,11 @@ pub record Ends (h : Hearing) (s : Following) : Type 0 where
   pub copy : h.copy ≡ s.0
   pub good : h.bad ≡ None
 
-pub feed_ends : (name : List ℕ) (lines : List (List ℕ)) (s m : Following) (n : ℕ) → read name s lines ≡ Some m → Ends (after (hearing name s n) lines) m
+pub feed_ends : (name : List ℕ) (lines : List (List ℕ)) (s m : Following) (n : ℕ) → read name s lines ≡ Some m → Ends (hearing_after (hearing name s n) lines) m
 feed_ends name [] s m n e = let same : s ≡ m = cc in record { copy = ap (λ (s : Following). s.0) same; good = refl }
-feed_ends name (line ∷ lines) s m n e = elim (cases_Bool (is_broken (line_of name line))) [
+feed_ends name (line ∷ lines) s m n e = elim (cases_Bool (is_broken (told_by_line name line))) [
   | inl bad ↦ let none : None ≡ Some m = rw bad at e in absurd (cc)
   | inr good ↦
-      let later : read name (then_told s (line_of name line)) lines ≡ Some m = rw good at e in
-      rw good (feed_ends name lines (then_told s (line_of name line)) m (n + 1) later)
+      let later : read name (then_told s (told_by_line name line)) lines ≡ Some m = rw good at e in
+      rw good (feed_ends name lines (then_told s (told_by_line name line)) m (n + 1) later)
 ]

@@ -11,7 +11,7 @@ use Rattle.ftl_lexer.specs.Forms.{continues_name}
 use Rattle.formula_shape.specs.declared.limits.TheConstants.{OBJECT_LIMIT}
 use Rattle.users.specs.Tagged.{is_no_feed}
 use Rattle.line_meaning.specs.Reply.{name_text, run_text}
-use Rattle.replica.specs.Text.{is_name, is_target, words}
+use Rattle.replica.specs.Text.{is_free_name, is_target, words}
 use Rattle.replica.proofs.CallerLemmas.{name_continues, name_spaceless}
 use Rattle.feeds_laws.specs.Targets.{target_text}
 use Rattle.feeds_laws.proofs.ReadingLemmas.{has_no_feed}
@@ -50,13 +50,13 @@ letters_free (b ∷ word) h =
     let both = and_parts (continues_name b) (list_all continues_name word) h in
     and_from (is_no_feed b) (has_no_feed word) (letter_free b both.0) (letters_free word both.1)
 
-pub name_free : (name : List ℕ) → is_name name ≡ true → has_no_feed name ≡ true
+pub name_free : (name : List ℕ) → is_free_name name ≡ true → has_no_feed name ≡ true
 name_free name is = letters_free name (name_continues name is)
 
-pub names_free : (names : List (List ℕ)) → list_all is_name names ≡ true → has_no_feed (flat_map name_text names) ≡ true
+pub names_free : (names : List (List ℕ)) → list_all is_free_name names ≡ true → has_no_feed (flat_map name_text names) ≡ true
 names_free [] all = refl
 names_free (name ∷ names) all =
-    let both = and_parts (is_name name) (list_all is_name names) all in
+    let both = and_parts (is_free_name name) (list_all is_free_name names) all in
     free_both (name_text name) (flat_map name_text names) (name_free name both.0) (names_free names both.1)
 
 run_free : (run : ℕ × ℕ) → has_no_feed (run_text run) ≡ true
@@ -74,30 +74,30 @@ abbrev is_space : ℕ → Bool
 is_space b = b == 32
 
 -- the words of a target are its names
-pub target_words : (name : List ℕ) (names : List (List ℕ)) → is_name name ≡ true → list_all is_name names ≡ true →
+pub target_words : (name : List ℕ) (names : List (List ℕ)) → is_free_name name ≡ true → list_all is_free_name names ≡ true →
     words (target_text (name ∷ names)) ≡ name ∷ names
 target_words name [] is all = ap words (append-nil name) ∙ slice_split_none is_space name (name_spaceless name is)
 target_words name (next ∷ names) is all =
-    let both = and_parts (is_name next) (list_all is_name names) all in
+    let both = and_parts (is_free_name next) (list_all is_free_name names) all in
     slice_split_at is_space name 32 (target_text (next ∷ names)) (name_spaceless name is) refl
     ∙ ap (λ ws. name ∷ ws) (target_words next names both.0 both.1)
 
 -- one to four names
 pub record AreTargets (names : List (List ℕ)) : Type 0 where
-  pub each : list_all is_name names ≡ true
+  pub each : list_all is_free_name names ≡ true
   pub some : 0 < length names
   pub few : length names ≤ OBJECT_LIMIT
 
 pub targets_words : (names : List (List ℕ)) → AreTargets names → words (target_text names) ≡ names
 targets_words [] are = absurd (omega (arith, are.some))
 targets_words (name ∷ names) are =
-    let both = and_parts (is_name name) (list_all is_name names) are.each in target_words name names both.0 both.1
+    let both = and_parts (is_free_name name) (list_all is_free_name names) are.each in target_words name names both.0 both.1
 
 pub is_told_target : (names : List (List ℕ)) → AreTargets names → is_target (target_text names) ≡ true
 is_told_target names are =
     let words_are = targets_words names are in
     let few : nat_le (length names) OBJECT_LIMIT ≡ true = grind (arith, nat_tests, are.few) in
-    ap (λ ws. list_all is_name ws && nat_le (length ws) OBJECT_LIMIT) words_are ∙ and_from (list_all is_name names) (nat_le (length names) OBJECT_LIMIT) are.each few
+    ap (λ ws. list_all is_free_name ws && nat_le (length ws) OBJECT_LIMIT) words_are ∙ and_from (list_all is_free_name names) (nat_le (length names) OBJECT_LIMIT) are.each few
 
 -- names with a space before each are a space and the target
 pub spaced_target : (names : List (List ℕ)) → 0 < length names → flat_map name_text names ≡ 32 ∷ target_text names

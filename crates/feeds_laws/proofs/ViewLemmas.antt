@@ -21,11 +21,11 @@ use Rattle.line_meaning.specs.QueryFault.{command_fault}
 use Rattle.line_meaning.specs.Registry.{known}
 use Rattle.line_meaning.proofs.JournalLemmas.{clock_more, regions_more, writes_more}
 use Rattle.users.specs.Sender.{Sent, sent_in}
-use Rattle.feeds_meaning.specs.Heard.{Item, Own, Other, Seat, empty_seat, own_by, own_refusal, seat_after, taken}
+use Rattle.feeds_meaning.specs.Heard.{Item, Own, Other, Seat, empty_seat, own_by, own_refusal, seat_after, item_outcome}
 use Rattle.feeds_meaning.specs.HeardLaw.{is_of_letters}
-use Rattle.feeds_meaning.specs.Hub.{Event, Hub, added, change_of, empty_hub, event_by, event_in, has_room, item_of, newcomer, seat_of, step, step_by}
+use Rattle.feeds_meaning.specs.Hub.{Event, Hub, added, data_command_of, empty_hub, event_by, event_in, has_room, hub_step, hub_step_by, item_of, newcomer, seat_of}
 use Rattle.feeds_meaning.specs.Lines.{is_data}
-use Rattle.feeds_meaning.specs.View.{item_in, view}
+use Rattle.feeds_meaning.specs.View.{item_in, user_view}
 use Rattle.feeds_meaning.proofs.HeardLemmas.{AreSeats, event_of_letters, follows, items, newcomer_more}
 use Rattle.feeds_meaning.proofs.SenderLemmas.{sender_is_of_letters}
 use Rattle.feeds_laws.proofs.FeedLemmas.{AreTaken, IsTaken, accepted}
@@ -126,7 +126,7 @@ record IsChange (s : Seat) (line : List ℕ) (c : CommandTree) : Type 0 where
   none : own_refusal s line ≡ None
   kind : is_data (spelled line) ≡ true
 
-change_is : (s : Seat) (line : List ℕ) (c : CommandTree) → change_of s line ≡ Some c → IsChange s line c
+change_is : (s : Seat) (line : List ℕ) (c : CommandTree) → data_command_of s line ≡ Some c → IsChange s line c
 change_is s line c change = by (own_refusal s line) (is_data (spelled line)) refl refl change
   where
     by : (o : Option Refusal) (kind : Bool) → own_refusal s line ≡ o → is_data (spelled line) ≡ kind → (if is_none o && kind then Some (spelled line) else None) ≡ Some c → IsChange s line c
@@ -152,7 +152,7 @@ joined s None later its all = all
 joined s (Some item) later its all = (its item refl, all)
 
 module _ (prints : PrintsWhatIsRead) where
-  module _ (h : Hub) (shared : AreShared h) (e : Event) (letters : is_of_letters e.sent.user ≡ true) (change : e.change ≡ change_of (seat_of h e.sent.user) e.sent.line) where
+  module _ (h : Hub) (shared : AreShared h) (e : Event) (letters : is_of_letters e.sent.user ≡ true) (change : e.change ≡ data_command_of (seat_of h e.sent.user) e.sent.line) where
     -- a data command of another is taken
     other_taken : (u : List ℕ) → is_of_letters u ≡ true → (c : CommandTree) → e.change ≡ Some c → IsTaken (seat_of h u) (Other c)
     other_taken u hu c made =
@@ -184,15 +184,15 @@ module _ (prints : PrintsWhatIsRead) where
           | inl same ↦
               let is : u ≡ e.sent.user = (bytes_eq-Decides u e.sent.user).0 same in
               let s = seat_of h u in
-              let changed : e.change ≡ change_of s e.sent.line = change ∙ ap (λ v. change_of (seat_of h v) e.sent.line) (sym is) in
+              let changed : e.change ≡ data_command_of s e.sent.line = change ∙ ap (λ v. data_command_of (seat_of h v) e.sent.line) (sym is) in
               let own = own_data s (newcomer h.accepted).held.journal e.sent.line (shared u hu) (own_refusal s e.sent.line) refl (is_data (spelled e.sent.line)) refl in
-              rw same (subst (λ (o : Option CommandTree). SharesData (taken s (Own e.sent.line)).0.held.journal (seat_after (newcomer h.accepted) (items (option_map Other o))).held.journal) (sym changed)
-              (newcomer_own s (change_of s e.sent.line) own))
+              rw same (subst (λ (o : Option CommandTree). SharesData (item_outcome s (Own e.sent.line)).0.held.journal (seat_after (newcomer h.accepted) (items (option_map Other o))).held.journal) (sym changed)
+              (newcomer_own s (data_command_of s e.sent.line) own))
           | inr other ↦ rw other (both_other (seat_of h u) e.change (shared u hu))
         ])
       where
-        newcomer_own : (s : Seat) (o : Option CommandTree) → SharesData (taken s (Own e.sent.line)).0.held.journal (option_map_or (λ c. (held_after (newcomer h.accepted).held c).journal) o (newcomer h.accepted).held.journal) →
-            SharesData (taken s (Own e.sent.line)).0.held.journal (seat_after (newcomer h.accepted) (items (option_map Other o))).held.journal
+        newcomer_own : (s : Seat) (o : Option CommandTree) → SharesData (item_outcome s (Own e.sent.line)).0.held.journal (option_map_or (λ c. (held_after (newcomer h.accepted).held c).journal) o (newcomer h.accepted).held.journal) →
+            SharesData (item_outcome s (Own e.sent.line)).0.held.journal (seat_after (newcomer h.accepted) (items (option_map Other o))).held.journal
         newcomer_own s None same = same
         newcomer_own s (Some c) same = same
 
@@ -201,19 +201,19 @@ module _ (prints : PrintsWhatIsRead) where
         both_other s None same = same
         both_other s (Some c) same = both_keep s.held.journal (newcomer h.accepted).held.journal c (is_kept c) same
 
-  change_made : (h : Hub) (sender : Option Sent) (e : Event) → event_by h sender ≡ Some e → e.change ≡ change_of (seat_of h e.sent.user) e.sent.line
+  change_made : (h : Hub) (sender : Option Sent) (e : Event) → event_by h sender ≡ Some e → e.change ≡ data_command_of (seat_of h e.sent.user) e.sent.line
   change_made h None e is = absurd (cc)
   change_made h (Some s) e is = by (has_room h s.user) is
     where
-      by : (b : Bool) → (if b then Some (record { sent = s; change = change_of (seat_of h s.user) s.line }) else None) ≡ Some e → e.change ≡ change_of (seat_of h e.sent.user) e.sent.line
+      by : (b : Bool) → (if b then Some (record { sent = s; change = data_command_of (seat_of h s.user) s.line }) else None) ≡ Some e → e.change ≡ data_command_of (seat_of h e.sent.user) e.sent.line
       by false made = absurd (cc)
       by true made =
-          let same : record { sent = s; change = change_of (seat_of h s.user) s.line } ≡ e = cc in
-          subst (λ (e : Event). e.change ≡ change_of (seat_of h e.sent.user) e.sent.line) same refl
+          let same : record { sent = s; change = data_command_of (seat_of h s.user) s.line } ≡ e = cc in
+          subst (λ (e : Event). e.change ≡ data_command_of (seat_of h e.sent.user) e.sent.line) same refl
 
   record Steps (h : Hub) (sender : Option Sent) (o : Option Event) : Type 0 where
     taken : (u : List ℕ) → is_of_letters u ≡ true → (item : Item) → option_and_then (λ e. item_of e u) o ≡ Some item → IsTaken (seat_of h u) item
-    shared : (u : List ℕ) → is_of_letters u ≡ true → SharesData (seat_after (seat_of h u) (items (option_and_then (λ e. item_of e u) o))).held.journal (newcomer (step_by h sender o).0.accepted).held.journal
+    shared : (u : List ℕ) → is_of_letters u ≡ true → SharesData (seat_after (seat_of h u) (items (option_and_then (λ e. item_of e u) o))).held.journal (newcomer (hub_step_by h sender o).0.accepted).held.journal
 
   steps : (h : Hub) → AreShared h → (sender : Option Sent) (o : Option Event) → event_by h sender ≡ o → ((s : Sent) → sender ≡ Some s → is_of_letters s.user ≡ true) → Steps h sender o
   steps h shared sender None is letters = record { taken = λ u hu item found. absurd (cc found); shared = shared }
@@ -222,21 +222,21 @@ module _ (prints : PrintsWhatIsRead) where
       let change = change_made h sender e is in
       record { taken = item_taken h shared e of_letters change; shared = seat_shared h shared e of_letters change }
 
-  pub view_taken : (lines : List (List ℕ)) (h : Hub) → AreShared h → AreSeats h.seats → (u : List ℕ) → is_of_letters u ≡ true → AreTaken (seat_of h u) (view h u lines)
-  unfolding step
+  pub view_taken : (lines : List (List ℕ)) (h : Hub) → AreShared h → AreSeats h.seats → (u : List ℕ) → is_of_letters u ≡ true → AreTaken (seat_of h u) (user_view h u lines)
+  unfolding hub_step
   view_taken [] h shared seats u hu = tt
   view_taken (line ∷ lines) h shared seats u hu =
       let sender = sent_in line in
       let o = event_in h line in
       let letters = sender_is_of_letters line in
       let x = steps h shared sender o refl letters in
-      let next : Hub = (step_by h sender o).0 in
+      let next : Hub = (hub_step_by h sender o).0 in
       let f : (v : List ℕ) (hv : is_of_letters v ≡ true) → seat_of next v ≡ seat_after (seat_of h v) (items (option_and_then (λ e. item_of e v) o)) =
       λ v hv. (follows h v sender o hv seats (λ e is. event_of_letters h sender e letters is)).seat in
       let next_shared : AreShared next = λ v hv. subst (λ (s : Seat). SharesData s.held.journal (newcomer next.accepted).held.journal) (sym (f v hv)) (x.shared v hv) in
       let next_seats = (follows h u sender o hu seats (λ e is. event_of_letters h sender e letters is)).seats in
-      joined (seat_of h u) (item_in h u line) (view next u lines) (x.taken u hu)
-      (subst (λ (s : Seat). AreTaken s (view next u lines)) (f u hu) (view_taken lines next next_shared next_seats u hu))
+      joined (seat_of h u) (item_in h u line) (user_view next u lines) (x.taken u hu)
+      (subst (λ (s : Seat). AreTaken s (user_view next u lines)) (f u hu) (view_taken lines next next_shared next_seats u hu))
 
-  pub first_view_taken : (u : List ℕ) (lines : List (List ℕ)) → is_of_letters u ≡ true → AreTaken empty_seat (view empty_hub u lines)
+  pub first_view_taken : (u : List ℕ) (lines : List (List ℕ)) → is_of_letters u ≡ true → AreTaken empty_seat (user_view empty_hub u lines)
   first_view_taken u lines hu = view_taken lines empty_hub (λ v hv. same_data []) tt u hu

@@ -13,10 +13,10 @@ use Rattle.line_loop.specs.Machine.{replies}
 use Rattle.users.specs.Sender.{Sent, sent_in}
 use Rattle.users.specs.Tagged.{lines_for, lines_in, tagged_lines}
 use Rattle.users.proofs.CallerLemmas.{lines_for_other, lines_for_own, no_feeds}
-use Rattle.feeds_meaning.specs.Heard.{Item, Other, Seat, empty_seat, heard, seat_after, taken}
+use Rattle.feeds_meaning.specs.Heard.{Item, Other, Seat, empty_seat, heard, item_outcome, seat_after}
 use Rattle.feeds_meaning.specs.HeardLaw.{HearsAlike, HearsTheView, is_of_letters}
-use Rattle.feeds_meaning.specs.Hub.{Event, Hub, Seated, added, change_of, empty_hub, event_by, event_in, has_room, item_of, machine, newcomer, seat_in, seat_of, seated_after, seats_with, step, step_by, taken_of, told}
-use Rattle.feeds_meaning.specs.View.{item_in, view}
+use Rattle.feeds_meaning.specs.Hub.{Event, Hub, Seated, added, data_command_of, empty_hub, event_by, event_in, has_room, hub_step, hub_step_by, item_of, machine, newcomer, seat_in, seat_of, seated_after, seats_with, taken_of, told_of_event}
+use Rattle.feeds_meaning.specs.View.{item_in, user_view}
 use Rattle.feeds_meaning.proofs.SenderLemmas.{sender_is_of_letters, unheard_for_nobody}
 
 -- ---- What is heard of items, one list after another
@@ -24,28 +24,28 @@ use Rattle.feeds_meaning.proofs.SenderLemmas.{sender_is_of_letters, unheard_for_
 heard_more : (s : Seat) (xs ys : List Item) → heard s (xs ++ ys) ≡ heard s xs ++ heard (seat_after s xs) ys
 heard_more s [] ys = refl
 heard_more s (x ∷ xs) ys =
-    ap (λ l. lines_in (taken s x).1 ++ l) (heard_more (taken s x).0 xs ys)
-    ∙ sym (append_assoc (lines_in (taken s x).1) (heard (taken s x).0 xs) (heard (seat_after (taken s x).0 xs) ys))
+    ap (λ l. lines_in (item_outcome s x).1 ++ l) (heard_more (item_outcome s x).0 xs ys)
+    ∙ sym (append_assoc (lines_in (item_outcome s x).1) (heard (item_outcome s x).0 xs) (heard (seat_after (item_outcome s x).0 xs) ys))
 
 seat_more : (s : Seat) (xs ys : List Item) → seat_after s (xs ++ ys) ≡ seat_after (seat_after s xs) ys
 seat_more s [] ys = refl
-seat_more s (x ∷ xs) ys = seat_more (taken s x).0 xs ys
+seat_more s (x ∷ xs) ys = seat_more (item_outcome s x).0 xs ys
 
 abbrev pub items : Option Item → List Item
 items o = option_map_or (λ item. item ∷ []) o []
 
-heard_one : (s : Seat) (o : Option Item) → heard s (items o) ≡ lines_in (option_map_or (taken s) o (s, [])).1
+heard_one : (s : Seat) (o : Option Item) → heard s (items o) ≡ lines_in (option_map_or (item_outcome s) o (s, [])).1
 heard_one s None = refl
-heard_one s (Some item) = append-nil (lines_in (taken s item).1)
+heard_one s (Some item) = append-nil (lines_in (item_outcome s item).1)
 
-seat_one : (s : Seat) (o : Option Item) → seat_after s (items o) ≡ (option_map_or (taken s) o (s, [])).0
+seat_one : (s : Seat) (o : Option Item) → seat_after s (items o) ≡ (option_map_or (item_outcome s) o (s, [])).0
 seat_one s None = refl
 seat_one s (Some item) = refl
 
 -- who sent no line is told nothing of others
 away : (s : Seat) (cs : List CommandTree) → s.here ≡ false → (seat_after s (map Other cs)).here ≡ false
 away s [] h = h
-away s (c ∷ cs) h = away (taken s (Other c)).0 cs h
+away s (c ∷ cs) h = away (item_outcome s (Other c)).0 cs h
 
 nothing_heard : (s : Seat) (change : Option CommandTree) → s.here ≡ false → heard s (items (option_map Other change)) ≡ []
 nothing_heard s None h = refl
@@ -183,19 +183,19 @@ module _ (e : Event) where
   lines_told u (Some seat) = lines_in (taken_of e (at_user u seat)).1
 
   told_for : (u : List ℕ) (seats : List Seated) (rest : List ℕ) → is_of_letters u ≡ true → AreSeats seats →
-      lines_for u (flat_map (told e) seats ++ rest) ≡ lines_told u (seat_in seats u) ++ lines_for u rest
+      lines_for u (flat_map (told_of_event e) seats ++ rest) ≡ lines_told u (seat_in seats u) ++ lines_for u rest
   told_for u [] rest hu h = refl
   told_for u (s ∷ seats) rest hu h =
       let lines : List (List ℕ) = lines_in (taken_of e s).1 in
-      let more : List ℕ = flat_map (told e) seats ++ rest in
-      let shape : lines_for u ((told e s ++ flat_map (told e) seats) ++ rest) ≡ lines_for u (told e s ++ more) =
-      ap (lines_for u) (append_assoc (told e s) (flat_map (told e) seats) rest) in
+      let more : List ℕ = flat_map (told_of_event e) seats ++ rest in
+      let shape : lines_for u ((told_of_event e s ++ flat_map (told_of_event e) seats) ++ rest) ≡ lines_for u (told_of_event e s ++ more) =
+      ap (lines_for u) (append_assoc (told_of_event e s) (flat_map (told_of_event e) seats) rest) in
       let later = told_for u seats rest hu h.2 in
       elim (cases_Bool (bytes_eq u s.user)) [
         | inl same ↦
             let is : u ≡ s.user = (bytes_eq-Decides u s.user).0 same in
             let none : seat_in seats u ≡ None = ap (seat_in seats) is ∙ h.1 in
-            let own : lines_for u (told e s ++ more) ≡ lines ++ lines_for u more =
+            let own : lines_for u (told_of_event e s ++ more) ≡ lines ++ lines_for u more =
             ap (λ v. lines_for u (tagged_lines v lines ++ more)) (sym is) ∙ lines_for_own u lines more hu (no_feeds (taken_of e s).1) in
             let rest_is : lines_for u more ≡ lines_for u rest = later ∙ ap (λ o. lines_told u o ++ lines_for u rest) none in
             let lines_are : lines ≡ lines_in (taken_of e (at_user u s.seat)).1 = ap (λ v. lines_in (taken_of e (at_user v s.seat)).1) (sym is) in
@@ -211,14 +211,14 @@ module _ (e : Event) where
 
 -- what a line leaves of a user's seat, and what is written of it for the user
 pub record Follows (h : Hub) (u : List ℕ) (sender : Option Sent) (o : Option Event) : Type 0 where
-  pub seats : AreSeats (step_by h sender o).0.seats
-  pub lines : (rest : List ℕ) → lines_for u ((step_by h sender o).1 ++ rest)
+  pub seats : AreSeats (hub_step_by h sender o).0.seats
+  pub lines : (rest : List ℕ) → lines_for u ((hub_step_by h sender o).1 ++ rest)
       ≡ heard (seat_of h u) (items (option_and_then (λ e. item_of e u) o)) ++ lines_for u rest
-  pub seat : seat_of (step_by h sender o).0 u ≡ seat_after (seat_of h u) (items (option_and_then (λ e. item_of e u) o))
+  pub seat : seat_of (hub_step_by h sender o).0 u ≡ seat_after (seat_of h u) (items (option_and_then (λ e. item_of e u) o))
 
 -- by an event
 record Leaves (h : Hub) (u : List ℕ) (e : Event) : Type 0 where
-  lines : (rest : List ℕ) → lines_for u (flat_map (told e) (seats_with h e.sent.user) ++ rest) ≡ heard (seat_of h u) (items (item_of e u)) ++ lines_for u rest
+  lines : (rest : List ℕ) → lines_for u (flat_map (told_of_event e) (seats_with h e.sent.user) ++ rest) ≡ heard (seat_of h u) (items (item_of e u)) ++ lines_for u rest
   seat : unwrap_or (seat_in (map (seated_after e) (seats_with h e.sent.user)) u) (newcomer (h.accepted ++ added e.change))
       ≡ seat_after (seat_of h u) (items (item_of e u))
 
@@ -273,27 +273,27 @@ follows h u sender (Some e) hu seats letters =
 pub event_of_letters : (h : Hub) (sender : Option Sent) (e : Event) → ((s : Sent) → sender ≡ Some s → is_of_letters s.user ≡ true) →
     event_by h sender ≡ Some e → is_of_letters e.sent.user ≡ true
 event_of_letters h None e letters is = absurd (cc)
-event_of_letters h (Some s) e letters is = by_room (has_room h s.user) (Some (record { sent = s; change = change_of (seat_of h s.user) s.line })) is refl
+event_of_letters h (Some s) e letters is = by_room (has_room h s.user) (Some (record { sent = s; change = data_command_of (seat_of h s.user) s.line })) is refl
   where
     by_room : (b : Bool) (o : Option Event) → (if b then o else None) ≡ Some e →
-        o ≡ Some (record { sent = s; change = change_of (seat_of h s.user) s.line }) → is_of_letters e.sent.user ≡ true
+        o ≡ Some (record { sent = s; change = data_command_of (seat_of h s.user) s.line }) → is_of_letters e.sent.user ≡ true
     by_room true o found made =
-        let both : Some e ≡ Some (record { sent = s; change = change_of (seat_of h s.user) s.line }) = sym found ∙ made in
-        let same : e ≡ record { sent = s; change = change_of (seat_of h s.user) s.line } = cc in
+        let both : Some e ≡ Some (record { sent = s; change = data_command_of (seat_of h s.user) s.line }) = sym found ∙ made in
+        let same : e ≡ record { sent = s; change = data_command_of (seat_of h s.user) s.line } = cc in
         ap (λ (e : Event). is_of_letters e.sent.user) same ∙ letters s refl
     by_room false o found made = absurd (cc)
 
 hears : (u : List ℕ) (lines : List (List ℕ)) (h : Hub) → is_of_letters u ≡ true → AreSeats h.seats →
-    lines_for u (replies machine h lines) ≡ heard (seat_of h u) (view h u lines)
-unfolding step
+    lines_for u (replies machine h lines) ≡ heard (seat_of h u) (user_view h u lines)
+unfolding hub_step
 hears u [] h hu seats = refl
 hears u (line ∷ lines) h hu seats =
     let f = follows h u (sent_in line) (event_in h line) hu seats (λ e is. event_of_letters h (sent_in line) e (sender_is_of_letters line) is) in
-    let next : Hub = (step_by h (sent_in line) (event_in h line)).0 in
-    let later : lines_for u (replies machine next lines) ≡ heard (seat_of next u) (view next u lines) = hears u lines next hu f.seats in
+    let next : Hub = (hub_step_by h (sent_in line) (event_in h line)).0 in
+    let later : lines_for u (replies machine next lines) ≡ heard (seat_of next u) (user_view next u lines) = hears u lines next hu f.seats in
     f.lines (replies machine next lines)
-    ∙ ap (λ l. heard (seat_of h u) (items (item_in h u line)) ++ l) (later ∙ ap (λ s. heard s (view next u lines)) f.seat)
-    ∙ sym (heard_more (seat_of h u) (items (item_in h u line)) (view next u lines))
+    ∙ ap (λ l. heard (seat_of h u) (items (item_in h u line)) ++ l) (later ∙ ap (λ s. heard s (user_view next u lines)) f.seat)
+    ∙ sym (heard_more (seat_of h u) (items (item_in h u line)) (user_view next u lines))
 
 pub hears_the_view : HearsTheView
 hears_the_view u lines hu = hears u lines empty_hub hu tt

@@ -6,7 +6,7 @@ use Rattle.std.specs.Prelude.{if◌then◌else◌, option_map, length, drop}
 use Rattle.std.specs.List.{list_all, prefix_len}
 use Rattle.case_table.specs.Language.{refusal_names}
 use Rattle.ftl_lexer.specs.Forms.{begins_name, continues_name, name_len}
-use Rattle.command_text.specs.Refusals.{line_of}
+use Rattle.command_text.specs.Refusals.{refusal_line}
 use Rattle.command_text.specs.declared.refusal.Refusal.TheVariants.{BadSyntax, StoreFull}
 use Rattle.users.specs.Sender.{Sent, after_space, may_be_user, sent_in, word_at}
 use Rattle.users.specs.Tagged.{lines_for}
@@ -45,6 +45,6 @@ sender_is_of_letters bytes s e =
 
 pub unheard_for_nobody : (u : List ℕ) (sender : Option Sent) (rest : List ℕ) → is_of_letters u ≡ true →
     lines_for u (unheard sender ++ rest) ≡ lines_for u rest
-unfolding line_of refusal_names digits
-unheard_for_nobody u None rest hu = lines_for_nobody u (32 ∷ line_of BadSyntax) rest hu refl
-unheard_for_nobody u (Some sent) rest hu = lines_for_nobody u (32 ∷ line_of StoreFull) rest hu refl
+unfolding refusal_line refusal_names digits
+unheard_for_nobody u None rest hu = lines_for_nobody u (32 ∷ refusal_line BadSyntax) rest hu refl
+unheard_for_nobody u (Some sent) rest hu = lines_for_nobody u (32 ∷ refusal_line StoreFull) rest hu refl

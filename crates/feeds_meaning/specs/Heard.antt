@@ -7,7 +7,7 @@ use Rattle.command_text.specs.declared.refusal.Refusal.{Refusal}
 use Rattle.command_text.specs.declared.refusal.Refusal.TheVariants.{BadSyntax, JournalFull}
 use Rattle.command_text.specs.Journal.{spelled}
 use Rattle.command_text.specs.Line.{first_refusal}
-use Rattle.command_text.specs.Refusals.{line_of}
+use Rattle.command_text.specs.Refusals.{refusal_line}
 use Rattle.command_text.specs.Tree.{CommandTree}
 use Rattle.line_meaning.specs.Answering.{kept_lines}
 use Rattle.line_meaning.specs.Judging.{Held, all_after, fault_of, held, held_after}
@@ -57,15 +57,15 @@ unfoldable pub own_refusal : Seat → List ℕ → Option Refusal
 own_refusal s line = or_else (limit_refusal s line) (or_else (first_refusal LINE_LIMIT line) (command_refusal s.held (spelled line)))
 
 -- how many lines of a kind there are after one that is of it or not
-abbrev pub counted : Bool → ℕ → ℕ
-counted is count = if is then count + 1 else count
+abbrev pub count_with_line : Bool → ℕ → ℕ
+count_with_line is count = if is then count + 1 else count
 
 abbrev pub after_own : Seat → CommandTree → Seat
 after_own s c = record {
   held = all_after s.held c;
   here = true;
-  data_lines = counted (is_data c) s.data_lines;
-  query_lines = counted (is_of_queries c) s.query_lines;
+  data_lines = count_with_line (is_data c) s.data_lines;
+  query_lines = count_with_line (is_of_queries c) s.query_lines;
 }
 
 -- the reply to an accepted command
@@ -74,7 +74,7 @@ own_text h c = notice h c ++ reply_by (role_of c) h c
 
 -- a refused line changes nothing but that the user is there
 abbrev pub own_by : Seat → CommandTree → Option Refusal → Seat × List ℕ
-own_by s c (Some refusal) = (record s { here = true }, line_of refusal ++ line_feed)
+own_by s c (Some refusal) = (record s { here = true }, refusal_line refusal ++ line_feed)
 own_by s c None = (after_own s c, own_text s.held c)
 
 -- ---- Data commands of others
@@ -90,16 +90,16 @@ other_by s c = (record s { held = held_after s.held c; data_lines = s.data_lines
 -- ---- All that concerns a user
 
 -- what one item leaves, and the text that is told of it
-abbrev pub taken : Seat → Item → Seat × List ℕ
-taken s (Own line) = own_by s (spelled line) (own_refusal s line)
-taken s (Other c) = other_by s c
+abbrev pub item_outcome : Seat → Item → Seat × List ℕ
+item_outcome s (Own line) = own_by s (spelled line) (own_refusal s line)
+item_outcome s (Other c) = other_by s c
 
 -- what items leave, one after another
 abbrev pub seat_after : Seat → List Item → Seat
 seat_after s [] = s
-seat_after s (item ∷ items) = seat_after (taken s item).0 items
+seat_after s (item ∷ items) = seat_after (item_outcome s item).0 items
 
 -- the lines that a user hears of items, each without its line feed
 abbrev pub heard : Seat → List Item → List (List ℕ)
 heard s [] = []
-heard s (item ∷ items) = lines_in (taken s item).1 ++ heard (taken s item).0 items
+heard s (item ∷ items) = lines_in (item_outcome s item).1 ++ heard (item_outcome s item).0 items

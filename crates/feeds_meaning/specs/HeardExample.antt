@@ -5,24 +5,24 @@ use Rattle.command_text.specs.Tree as commands
 use Rattle.command_text.specs.Tree.{CommandTree}
 use Rattle.command_text.specs.declared.refusal.Refusal.{Refusal}
 use Rattle.command_text.specs.declared.refusal.Refusal.TheVariants as refusals
-use Rattle.line_meaning.specs.Example.{of_cars, place_at}
+use Rattle.line_meaning.specs.Example.{of_cars, place_at_point}
 use Rattle.line_meaning.specs.Judging.{held}
 use Rattle.feeds_meaning.specs.Heard.{Item, Own, Other, Seat, after_own, command_refusal, heard, own_refusal, own_text, seat_after, empty_seat}
 
 -- ---- a car, and a watch over all cars
 
-abbrev pub cars : List Item
-cars = Other (commands.Class (codes "car") 9 true []) ∷ Other (commands.Insert (codes "car") (codes "a") (place_at 0 0) []) ∷ []
+abbrev pub one_car_items : List Item
+one_car_items = Other (commands.Class (codes "car") 9 true []) ∷ Other (commands.Insert (codes "car") (codes "a") (place_at_point 0 0) []) ∷ []
 
 -- watch w 10 RETRIEVE o FROM car o WHERE TRUE
-abbrev pub watch : CommandTree
-watch = commands.Watch (codes "w") 10 (of_cars (shapes.Truth true))
+abbrev pub watch_command : CommandTree
+watch_command = commands.Watch (codes "w") 10 (of_cars (shapes.Truth true))
 
 abbrev pub beginner : Seat
-beginner = seat_after empty_seat cars
+beginner = seat_after empty_seat one_car_items
 
 abbrev pub watcher : Seat
-watcher = after_own beginner watch
+watcher = after_own beginner watch_command
 
 abbrev pub tick_of_another : Item
 tick_of_another = Other (commands.Tick 4)
@@ -47,8 +47,8 @@ refused data_lines query_lines line = own_refusal (with_lines data_lines query_l
 
 pub record HearsAlone : Type 0 where
   -- a user who sent no line hears nothing
-  pub nothing_yet : heard empty_seat cars ≡ []
-  pub start : own_text beginner.held watch ≡ codes "start w watch 0\nnow a : 0..10\nok\n"
+  pub nothing_yet : heard empty_seat one_car_items ≡ []
+  pub start : own_text beginner.held watch_command ≡ codes "start w watch 0\nnow a : 0..10\nok\n"
   pub stop : own_text watcher.held (commands.Drop (codes "w")) ≡ codes "stop w\nok\n"
   pub own_tick : own_text watcher.held (commands.Tick 4) ≡ codes "clock 4\nok\n"
   pub ticks : heard watcher (tick_of_another ∷ []) ≡ codes "clock 4" ∷ []

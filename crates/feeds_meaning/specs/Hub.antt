@@ -5,14 +5,14 @@ use Rattle.std.specs.Option.{option_map_or}
 use Rattle.std.specs.Str.{bytes_eq}
 use Rattle.command_text.specs.declared.refusal.Refusal.TheVariants.{BadSyntax, StoreFull}
 use Rattle.command_text.specs.Journal.{spelled}
-use Rattle.command_text.specs.Refusals.{line_of}
+use Rattle.command_text.specs.Refusals.{refusal_line}
 use Rattle.command_text.specs.Tree.{CommandTree}
 use Rattle.line_meaning.specs.Reply.{line_feed}
 use Rattle.line_loop.specs.Machine.{Machine}
 use Rattle.users.specs.Sender.{Sent, sent_in}
 use Rattle.users.specs.Tagged.{tagged}
 use Rattle.feeds_meaning.specs.declared.limits.TheConstants.{USERS_LIMIT}
-use Rattle.feeds_meaning.specs.Heard.{Item, Own, Other, Seat, empty_seat, own_refusal, seat_after, taken}
+use Rattle.feeds_meaning.specs.Heard.{Item, Own, Other, Seat, empty_seat, own_refusal, seat_after, item_outcome}
 use Rattle.feeds_meaning.specs.Lines.{is_data}
 
 pub record Seated : Type 0 where
@@ -61,13 +61,13 @@ pub record Event : Type 0 where
   pub sent : Sent
   pub change : Option CommandTree
 
-abbrev pub change_of : Seat → List ℕ → Option CommandTree
-change_of s line = if is_none (own_refusal s line) && is_data (spelled line) then Some (spelled line) else None
+abbrev pub data_command_of : Seat → List ℕ → Option CommandTree
+data_command_of s line = if is_none (own_refusal s line) && is_data (spelled line) then Some (spelled line) else None
 
 abbrev pub event_by : Hub → Option Sent → Option Event
 event_by h None = None
 event_by h (Some sent) =
-    if has_room h sent.user then Some (record { sent = sent; change = change_of (seat_of h sent.user) sent.line }) else None
+    if has_room h sent.user then Some (record { sent = sent; change = data_command_of (seat_of h sent.user) sent.line }) else None
 
 -- what a line is; None where it is no user's
 abbrev pub event_in : Hub → List ℕ → Option Event
@@ -79,33 +79,33 @@ item_of e user = if bytes_eq user e.sent.user then Some (Own e.sent.line) else o
 
 -- what an event leaves of a seat, and the text that is told of it
 abbrev pub taken_of : Event → Seated → Seat × List ℕ
-taken_of e s = option_map_or (taken s.seat) (item_of e s.user) (s.seat, [])
+taken_of e s = option_map_or (item_outcome s.seat) (item_of e s.user) (s.seat, [])
 
 abbrev pub seated_after : Event → Seated → Seated
 seated_after e s = record { user = s.user; seat = (taken_of e s).0 }
 
-abbrev pub told : Event → Seated → List ℕ
-told e s = tagged s.user (taken_of e s).1
+abbrev pub told_of_event : Event → Seated → List ℕ
+told_of_event e s = tagged s.user (taken_of e s).1
 
 abbrev pub added : Option CommandTree → List CommandTree
 added change = option_map_or (λ c. c ∷ []) change []
 
 -- `? refused 4 BadSyntax`, the reply to a line that is no user's
 abbrev pub unheard : Option Sent → List ℕ
-unheard None = codes "? " ++ line_of BadSyntax ++ line_feed
-unheard (Some sent) = codes "? " ++ line_of StoreFull ++ line_feed
+unheard None = codes "? " ++ refusal_line BadSyntax ++ line_feed
+unheard (Some sent) = codes "? " ++ refusal_line StoreFull ++ line_feed
 
 -- the seats are those with one for the sender
-abbrev pub step_by : Hub → Option Sent → Option Event → Hub × List ℕ
-step_by h sender None = (h, unheard sender)
-step_by h sender (Some e) = (
+abbrev pub hub_step_by : Hub → Option Sent → Option Event → Hub × List ℕ
+hub_step_by h sender None = (h, unheard sender)
+hub_step_by h sender (Some e) = (
   record { seats = map (seated_after e) (seats_with h e.sent.user); accepted = h.accepted ++ added e.change },
-  flat_map (told e) (seats_with h e.sent.user),
+  flat_map (told_of_event e) (seats_with h e.sent.user),
 )
 
-unfoldable pub step : Hub → List ℕ → Hub × List ℕ
-step h line = step_by h (sent_in line) (event_in h line)
+unfoldable pub hub_step : Hub → List ℕ → Hub × List ℕ
+hub_step h line = hub_step_by h (sent_in line) (event_in h line)
 
 -- No line ends the run.
 abbrev pub machine : Machine Hub
-machine = record { next = λ h line. (step h line).0; reply = λ h line. (step h line).1; done = λ _. false }
+machine = record { next = λ h line. (hub_step h line).0; reply = λ h line. (hub_step h line).1; done = λ _. false }

@@ -4,13 +4,14 @@ use Rattle.std.specs.List.{list_any}
 use Rattle.std.specs.Str.{bytes_eq}
 use Rattle.formula.specs.declared.kind.QueryKind.{QueryKind}
 use Rattle.formula.specs.declared.kind.QueryKind.TheVariants as kinds
+use Rattle.formula.specs.Kinds.{kind_word}
 use Rattle.command_text.specs.Journal.{clock, is_kept}
 use Rattle.command_text.specs.Tree
 use Rattle.command_text.specs.Tree.{CommandTree}
 use Rattle.line_meaning.specs.declared.role.Role.{Role}
 use Rattle.line_meaning.specs.declared.role.Role.TheVariants.{Filing, Ending}
 use Rattle.line_meaning.specs.Judging.{Held}
-use Rattle.line_meaning.specs.Reply.{clock_line, kind_word, line_feed, name_text}
+use Rattle.line_meaning.specs.Reply.{clock_line, line_feed, name_text}
 use Rattle.line_meaning.specs.Role.{role_of}
 use Rattle.users.specs.Sender.{first_word}
 

@@ -12,13 +12,13 @@ use Rattle.domino_run.specs.Whole.{bad_words}
 use Rattle.run_ends.specs.Ends.{NoneRose, Seen}
 use Rattle.run_ends.specs.Saying.{status_said}
 use Rattle.run_ends.specs.declared.status.Status.TheVariants as statuses
-use Rattle.feeds_run.specs.Ends.{EndsAs, IsPart, IsWhole}
+use Rattle.feeds_run.specs.Ends.{EndsFeedAs, IsFeedPart, IsWholeFeed}
 use Rattle.feeds_run.specs.Parts.{TellsAtTheEnd}
-use Rattle.run_ends.specs.Status.{HasCause, ending_by}
+use Rattle.run_ends.specs.Status.{HasStatusCause, ending_by}
 use Rattle.run_ends.specs.Ends.{says_all}
 use Rattle.feeds_run.specs.Status.{said_as, feed_status, run_status}
 use Rattle.feeds_run.specs.Theorem.{FeedsAs}
-use Rattle.feeds_run.specs.Whole.{whole}
+use Rattle.feeds_run.specs.Whole.{whole_feed}
 use Rattle.feeds_run.specs.Words.{FeedWords, Bad}
 use Rattle.feeds_run.specs.declared.status.FeedStatus.{FeedStatus}
 use Rattle.feeds_run.specs.declared.status.FeedStatus.TheVariants.{Done, BadWords, BadFeed, ReadFault, WriteFault, NoMemory, InputLimit}
@@ -28,7 +28,7 @@ no_rise old new was is rose = grind (arith, was, is, rose)
 
 -- where there is no context, it isn't blamed
 pub answered_cause : (ending : Ending) (old new : Counts) → old.context ≡ 0 → new.context ≡ 0 → loop.EndsWithCause ending old new →
-    HasCause (run_status (feed_status ending)) old new
+    HasStatusCause (run_status (feed_status ending)) old new
 answered_cause endings.Done old new was is h = h
 answered_cause endings.ReadFault old new was is h = h
 answered_cause endings.WriteFault old new was is h = h
@@ -47,13 +47,13 @@ answered_taken endings.InputLimit limit bytes left h = h
 
 -- nothing is a part of any output
 pub nothing_written : (words : FeedWords) (limit : ℕ) (bytes written : List ℕ) (after : Seen) → after.written ≡ Some written →
-    IsPart words limit bytes written after
+    IsFeedPart words limit bytes written after
 nothing_written words limit bytes written after same = (0, same ∙ ap Some (sym (append-nil written)))
 
 module _ (words : FeedWords) (limit : ℕ) (bytes written : List ℕ) (after : Seen) where
   -- a status that says so is one of a whole run
-  pub whole_by_status : (status : FeedStatus) → says_all (run_status status) ≡ true → EndsAs words limit bytes written status after →
-      IsWhole words limit bytes written status after
+  pub whole_by_status : (status : FeedStatus) → says_all (run_status status) ≡ true → EndsFeedAs words limit bytes written status after →
+      IsWholeFeed words limit bytes written status after
   whole_by_status Done is h = h
   whole_by_status BadWords is h = h
   whole_by_status BadFeed is h = h
@@ -63,9 +63,9 @@ module _ (words : FeedWords) (limit : ℕ) (bytes written : List ℕ) (after : S
   whole_by_status InputLimit is h = h
 
   -- where no count of faults rose, it is the whole run, or there was no memory after a part
-  pub whole_without_faults : (old : Counts) (status : FeedStatus) → NoneRose old after.faults → HasCause (run_status status) old after.faults →
-      EndsAs words limit bytes written status after →
-      IsWhole words limit bytes written status after ⊎ ((status ≡ NoMemory) × IsPart words limit bytes written after)
+  pub whole_without_faults : (old : Counts) (status : FeedStatus) → NoneRose old after.faults → HasStatusCause (run_status status) old after.faults →
+      EndsFeedAs words limit bytes written status after →
+      IsWholeFeed words limit bytes written status after ⊎ ((status ≡ NoMemory) × IsFeedPart words limit bytes written after)
   whole_without_faults old Done none cause h = inl h
   whole_without_faults old BadWords none cause h = inl h
   whole_without_faults old BadFeed none cause h = inl h

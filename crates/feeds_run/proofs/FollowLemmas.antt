@@ -11,19 +11,19 @@ use Rattle.line_loop.specs.Ending as loop
 use Rattle.line_loop.specs.Ending.{Counts, StaysWithin}
 use Rattle.line_loop.specs.Lines.{ended_lines}
 use Rattle.line_loop.specs.Machine.{after as after_all, replies}
-use Rattle.line_loop.specs.Run.{heard}
+use Rattle.line_loop.specs.Run.{answered_lines}
 use Rattle.line_loop.specs.Stop.{IsAt, Point, WritesAll, WritesPart}
 use Rattle.run_ends.specs.Ends.{Seen}
 use Rattle.run_ends.specs.Saying.{status_said}
 use Rattle.run_ends.specs.declared.status.Status.TheVariants as statuses
-use Rattle.replica.specs.Feed.{Hearing, after, next, said, silent}
-use Rattle.feeds_run.specs.Ends.{EndsAs, IsPart, IsWhole, KeepsFeedLimit, feed_may_end}
-use Rattle.feeds_run.specs.Following.{leaves, machine}
+use Rattle.replica.specs.Feed.{Hearing, hearing_after, next_hearing, said, silent}
+use Rattle.feeds_run.specs.Ends.{EndsFeedAs, IsFeedPart, IsWholeFeed, KeepsFeedLimit, feed_may_end}
+use Rattle.feeds_run.specs.Following.{following_leaves, following_machine}
 use Rattle.feeds_run.specs.Parts.{TellsHeard, heard_end}
-use Rattle.run_ends.specs.Status.{HasCause, ending_by}
+use Rattle.run_ends.specs.Status.{HasStatusCause, ending_by}
 use Rattle.feeds_run.specs.Status.{said_as, feed_status, run_status}
 use Rattle.feeds_run.specs.Theorem.{FeedsAs}
-use Rattle.feeds_run.specs.Whole.{WholeFeed, heard_of, whole}
+use Rattle.feeds_run.specs.Whole.{WholeFeed, heard_of, whole_feed}
 use Rattle.feeds_run.specs.Words.{FeedWords, Followed}
 use Rattle.feeds_run.specs.declared.status.FeedStatus.{FeedStatus}
 use Rattle.feeds_run.specs.declared.status.FeedStatus.TheVariants.{Done, BadFeed, ReadFault, WriteFault, NoMemory, InputLimit}
@@ -31,27 +31,27 @@ use Rattle.feeds_run.proofs.EndLemmas.{answered_cause, answered_taken, no_rise, 
 
 -- ---- The machine, and the fold of a feed
 
-silent_machine : (h : Hearing) (lines : List (List ℕ)) → replies machine h lines ≡ []
+silent_machine : (h : Hearing) (lines : List (List ℕ)) → replies following_machine h lines ≡ []
 silent_machine h [] = refl
 silent_machine h (line ∷ lines) =
-    elim (is_some h.bad) as (λ b. (if b then [] else replies machine (next h line) lines) ≡ [])
-    [ true ↦ refl | false ↦ silent_machine (next h line) lines ]
+    elim (is_some h.bad) as (λ b. (if b then [] else replies following_machine (next_hearing h line) lines) ≡ [])
+    [ true ↦ refl | false ↦ silent_machine (next_hearing h line) lines ]
 
 -- a feed that is bad stays as it is
-stays_bad : (h : Hearing) (lines : List (List ℕ)) → is_some h.bad ≡ true → after h lines ≡ h
+stays_bad : (h : Hearing) (lines : List (List ℕ)) → is_some h.bad ≡ true → hearing_after h lines ≡ h
 stays_bad h [] bad = refl
 stays_bad h (line ∷ lines) bad =
-    let same : next h line ≡ h = rw bad in
-    ap (λ k. after k lines) same ∙ stays_bad h lines bad
+    let same : next_hearing h line ≡ h = rw bad in
+    ap (λ k. hearing_after k lines) same ∙ stays_bad h lines bad
 
-same_fold : (h : Hearing) (lines : List (List ℕ)) → after_all machine h lines ≡ after h lines
+same_fold : (h : Hearing) (lines : List (List ℕ)) → after_all following_machine h lines ≡ hearing_after h lines
 same_fold h [] = refl
 same_fold h (line ∷ lines) =
-    elim (is_some h.bad) as (λ b. is_some h.bad ≡ b → (if b then h else after_all machine (next h line) lines) ≡ after (next h line) lines)
-    [ true ↦ λ bad. sym (stays_bad h (line ∷ lines) bad) | false ↦ λ bad. same_fold (next h line) lines ] refl
+    elim (is_some h.bad) as (λ b. is_some h.bad ≡ b → (if b then h else after_all following_machine (next_hearing h line) lines) ≡ hearing_after (next_hearing h line) lines)
+    [ true ↦ λ bad. sym (stays_bad h (line ∷ lines) bad) | false ↦ λ bad. same_fold (next_hearing h line) lines ] refl
 
 -- nothing was written where no line has a reply
-unwritten : (written : List ℕ) (h : Hearing) (lines : List (List ℕ)) → written ++ replies machine h lines ≡ written
+unwritten : (written : List ℕ) (h : Hearing) (lines : List (List ℕ)) → written ++ replies following_machine h lines ≡ written
 unwritten written h lines = ap (λ r. written ++ r) (silent_machine h lines) ∙ append-nil written
 
 no_part : (count : ℕ) → take {A = ℕ} count [] ≡ []
@@ -60,14 +60,14 @@ no_part count = grind (arith, common_steps)
 -- ---- The read loop
 
 -- what the read loop promises of a replica, from one on and with another in the end
-pub record Hears (limit : ℕ) (name : List ℕ) (first now : Hearing) (before after : Seen) (ending : Ending) : Type 0 where
+pub record Hears (limit : ℕ) (name : List ℕ) (first now : Hearing) (before hearing_after : Seen) (ending : Ending) : Type 0 where
   pub is_silent : first ≡ silent name
   pub none_before : before.faults.context ≡ 0
-  pub none_after : after.faults.context ≡ 0
-  pub cause : loop.EndsWithCause ending before.faults after.faults
-  pub taken : (bytes : List ℕ) → before.left ≡ Some bytes → loop.KeepsLimit limit bytes ending after.left
+  pub none_after : hearing_after.faults.context ≡ 0
+  pub cause : loop.EndsWithCause ending before.faults hearing_after.faults
+  pub taken : (bytes : List ℕ) → before.left ≡ Some bytes → loop.KeepsLimit limit bytes ending hearing_after.left
   pub ends : (start : Point Hearing) (bytes : List ℕ) → IsAt start (Some first) before.written → before.left ≡ Some bytes →
-      loop.EndsAs machine leaves limit start bytes ending (Some now) after.written after.left
+      loop.HasEnding following_machine following_leaves limit start bytes ending (Some now) hearing_after.written hearing_after.left
 
 abbrev begins : (name written : List ℕ) → Point Hearing
 begins name written = record { state = silent name; written = written }
@@ -84,16 +84,16 @@ fits name endings.ContextFault = refl
 fits name endings.NoMemory = refl
 fits name endings.InputLimit = refl
 
-module _ (limit : ℕ) (name : List ℕ) (first now : Hearing) (before after : Seen) where
+module _ (limit : ℕ) (name : List ℕ) (first now : Hearing) (before hearing_after : Seen) where
   abbrev by_cut : List ℕ → Bool → WholeFeed
   by_cut bytes cut =
       if cut then record { output = []; status = InputLimit }
       else record { output = said (heard_of name limit bytes); status = heard_end (heard_of name limit bytes) }
 
-  ends_by : (ending : Ending) (bytes written : List ℕ) → ending ≢ endings.Done → loop.EndsWithCause ending before.faults after.faults →
-      before.faults.context ≡ 0 → after.faults.context ≡ 0 →
-      loop.EndsAs machine leaves limit (begins name written) bytes ending (Some now) after.written after.left →
-      EndsAs (Followed name) limit bytes written (feed_status ending) after
+  ends_by : (ending : Ending) (bytes written : List ℕ) → ending ≢ endings.Done → loop.EndsWithCause ending before.faults hearing_after.faults →
+      before.faults.context ≡ 0 → hearing_after.faults.context ≡ 0 →
+      loop.HasEnding following_machine following_leaves limit (begins name written) bytes ending (Some now) hearing_after.written hearing_after.left →
+      EndsFeedAs (Followed name) limit bytes written (feed_status ending) hearing_after
   ends_by endings.Done bytes written other cause was is h = absurd (other refl)
   ends_by endings.ReadFault bytes written other cause was is h = record {
     count = h.count;
@@ -103,25 +103,25 @@ module _ (limit : ℕ) (name : List ℕ) (first now : Hearing) (before after : S
     going_on = ap (λ k. is_some k.bad) (sym (same_fold (silent name) (ended_lines (take h.count bytes)))) ∙ h.going_on;
   }
   ends_by endings.WriteFault bytes written other cause was is h =
-      let none = ap length (silent_machine (silent name) (heard machine limit (silent name) bytes)) in
+      let none = ap length (silent_machine (silent name) (answered_lines following_machine limit (silent name) bytes)) in
       absurd (grind (arith, none, h.proper))
-  ends_by endings.ContextFault bytes written other cause was is h = absurd (no_rise before.faults.context after.faults.context was is cause.0)
+  ends_by endings.ContextFault bytes written other cause was is h = absurd (no_rise before.faults.context hearing_after.faults.context was is cause.0)
   ends_by endings.NoMemory bytes written other cause was is h =
-      nothing_written (Followed name) limit bytes written after
-      (h.has_written ∙ ap (λ r. Some (written ++ take h.count r)) (silent_machine (silent name) (heard machine limit (silent name) bytes)) ∙ ap (λ r. Some (written ++ r)) (no_part h.count) ∙ ap Some (append-nil written))
+      nothing_written (Followed name) limit bytes written hearing_after
+      (h.has_written ∙ ap (λ r. Some (written ++ take h.count r)) (silent_machine (silent name) (answered_lines following_machine limit (silent name) bytes)) ∙ ap (λ r. Some (written ++ r)) (no_part h.count) ∙ ap Some (append-nil written))
   ends_by endings.InputLimit bytes written other cause was is h = record {
     status_is = ap (λ cut. (by_cut bytes cut).status) (sym h.cut);
-    output = h.reached.has_written ∙ ap Some (unwritten written (silent name) (heard machine limit (silent name) bytes) ∙ sym (append-nil written))
+    output = h.reached.has_written ∙ ap Some (unwritten written (silent name) (answered_lines following_machine limit (silent name) bytes) ∙ sym (append-nil written))
         ∙ ap (λ cut. Some (written ++ (by_cut bytes cut).output)) (sym h.cut);
   }
 
   -- where the input wasn't heard to its end, or to a line that hasn't its form
   pub heard_runs : (ending : Ending) (status : FeedStatus) → ending ≢ endings.Done → status ≡ feed_status ending →
-      Hears limit name first now before after ending → FeedsAs limit (Followed name) before after status
-  heard_runs ending status other is h = subst (λ (s : FeedStatus). FeedsAs limit (Followed name) before after s) (sym is) (record {
+      Hears limit name first now before hearing_after ending → FeedsAs limit (Followed name) before hearing_after status
+  heard_runs ending status other is h = subst (λ (s : FeedStatus). FeedsAs limit (Followed name) before hearing_after s) (sym is) (record {
     fits = fits name ending;
-    cause = answered_cause ending before.faults after.faults h.none_before h.none_after h.cause;
-    taken = λ bytes left_is. answered_taken ending limit bytes after.left (h.taken bytes left_is);
+    cause = answered_cause ending before.faults hearing_after.faults h.none_before h.none_after h.cause;
+    taken = λ bytes left_is. answered_taken ending limit bytes hearing_after.left (h.taken bytes left_is);
     ends = λ bytes written left_is written_is.
         ends_by ending bytes written other h.cause h.none_before h.none_after
         (h.ends (begins name written) bytes (begins_at name written first before.written h.is_silent written_is) left_is);
@@ -135,7 +135,7 @@ said_fits : (name : List ℕ) (bad : Bool) → feed_may_end (Followed name) (if 
 said_fits name true = refl
 said_fits name false = refl
 
-said_cause : (bad : Bool) (old new : Counts) → new ≡ old → HasCause (run_status (if bad then BadFeed else Done)) old new
+said_cause : (bad : Bool) (old new : Counts) → new ≡ old → HasStatusCause (run_status (if bad then BadFeed else Done)) old new
 said_cause true old new same = same
 said_cause false old new same = same
 
@@ -144,10 +144,10 @@ said_taken : (bad : Bool) (limit : ℕ) (bytes : List ℕ) (left : Option (List 
 said_taken true limit bytes left h = h
 said_taken false limit bytes left h = h
 
-said_ends : (words : FeedWords) (limit : ℕ) (bytes written : List ℕ) (after : Seen) (bad : Bool) →
-    IsWhole words limit bytes written (if bad then BadFeed else Done) after → EndsAs words limit bytes written (if bad then BadFeed else Done) after
-said_ends words limit bytes written after true h = h
-said_ends words limit bytes written after false h = h
+said_ends : (words : FeedWords) (limit : ℕ) (bytes written : List ℕ) (hearing_after : Seen) (bad : Bool) →
+    IsWholeFeed words limit bytes written (if bad then BadFeed else Done) hearing_after → EndsFeedAs words limit bytes written (if bad then BadFeed else Done) hearing_after
+said_ends words limit bytes written hearing_after true h = h
+said_ends words limit bytes written hearing_after false h = h
 
 module _ (limit : ℕ) (name : List ℕ) (first h : Hearing) (before mid : Seen) (sink : ℕ) (written' : Option (List ℕ))
     (heard_all : Hears limit name first h before mid endings.Done) where
@@ -156,31 +156,31 @@ module _ (limit : ℕ) (name : List ℕ) (first h : Hearing) (before mid : Seen)
   last = record mid { faults = record mid.faults { sink = sink }; written = written' }
 
   module _ (bytes written : List ℕ) (left_is : before.left ≡ Some bytes) (written_is : before.written ≡ Some written) where
-    done : loop.IsDone machine limit (begins name written) bytes (Some h) mid.written mid.left
+    done : loop.IsDone following_machine limit (begins name written) bytes (Some h) mid.written mid.left
     done = heard_all.ends (begins name written) bytes (begins_at name written first before.written heard_all.is_silent written_is) left_is
 
     heard_is : h ≡ heard_of name limit bytes
     heard_is =
-        ap (λ o. unwrap_or o h) done.reached.in_state ∙ same_fold (silent name) (heard machine limit (silent name) bytes)
+        ap (λ o. unwrap_or o h) done.reached.in_state ∙ same_fold (silent name) (answered_lines following_machine limit (silent name) bytes)
 
     unwritten_yet : mid.written ≡ Some written
-    unwritten_yet = done.reached.has_written ∙ ap Some (unwritten written (silent name) (heard machine limit (silent name) bytes))
+    unwritten_yet = done.reached.has_written ∙ ap Some (unwritten written (silent name) (answered_lines following_machine limit (silent name) bytes))
 
-    whole_is : whole (Followed name) limit bytes ≡ record { output = said h; status = heard_end h }
+    whole_is : whole_feed (Followed name) limit bytes ≡ record { output = said h; status = heard_end h }
     whole_is =
         ap (by_cut limit name first h before mid bytes) done.whole
         ∙ ap (λ k. record { output = said k; status = heard_end k }) (sym heard_is)
 
-    all_said : written' ≡ Some (written ++ said h) → EndsAs (Followed name) limit bytes written (heard_end h) last
+    all_said : written' ≡ Some (written ++ said h) → EndsFeedAs (Followed name) limit bytes written (heard_end h) last
     all_said output = said_ends (Followed name) limit bytes written last (is_some h.bad) (record {
       status_is = ap (λ (w : WholeFeed). w.status) (sym whole_is);
       output = output ∙ ap (λ (w : WholeFeed). Some (written ++ w.output)) (sym whole_is);
     })
 
-    part_said : WritesPart (said h) written written' → WritesPart (whole (Followed name) limit bytes).output written written'
+    part_said : WritesPart (said h) written written' → WritesPart (whole_feed (Followed name) limit bytes).output written written'
     part_said part = subst (λ (w : WholeFeed). WritesPart w.output written written') (sym whole_is) part
 
-    in_part : WritesPart (said h) written written' → IsPart (Followed name) limit bytes written last
+    in_part : WritesPart (said h) written written' → IsFeedPart (Followed name) limit bytes written last
     in_part part = let (count, lacks, is) = part_said part in (count, is)
 
   counts_stay : sink ≡ mid.faults.sink → last.faults ≡ before.faults

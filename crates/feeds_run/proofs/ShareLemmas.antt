@@ -11,11 +11,11 @@ use Rattle.std.proofs.lemmas.List.{append_cancel_left}
 use Rattle.run_ends.specs.Ends.{Seen}
 use Rattle.feeds_meaning.specs.Hub.{Hub, empty_hub, machine}
 use Rattle.feeds_meaning.specs.HeardLaw.{HearsTheView}
-use Rattle.feeds_run.specs.Ends.{EndsAs, feed_may_end}
+use Rattle.feeds_run.specs.Ends.{EndsFeedAs, feed_may_end}
 use Rattle.run_ends.specs.Ends.{says_all}
 use Rattle.feeds_run.specs.Status.{feed_status, run_status}
 use Rattle.feeds_run.specs.Theorem.{FeedsAs, TellsViews}
-use Rattle.feeds_run.specs.Whole.{lines_shared, whole}
+use Rattle.feeds_run.specs.Whole.{lines_shared, whole_feed}
 use Rattle.feeds_run.specs.Words.{Shared}
 use Rattle.feeds_run.specs.declared.status.FeedStatus.{FeedStatus}
 use Rattle.feeds_run.specs.declared.status.FeedStatus.TheVariants.{Done, InputLimit}
@@ -29,7 +29,7 @@ pub record Answers (leaves : Failures Hub) (limit : ℕ) (first now : Option Hub
   pub cause : loop.EndsWithCause ending before.faults after.faults
   pub taken : (bytes : List ℕ) → before.left ≡ Some bytes → loop.KeepsLimit limit bytes ending after.left
   pub ends : (start : Point Hub) (bytes : List ℕ) → IsAt start first before.written → before.left ≡ Some bytes →
-      loop.EndsAs machine leaves limit start bytes ending now after.written after.left
+      loop.HasEnding machine leaves limit start bytes ending now after.written after.left
 
 abbrev begins : List ℕ → Point Hub
 begins written = record { state = empty_hub; written = written }
@@ -45,8 +45,8 @@ fits endings.InputLimit = refl
 module _ (leaves : Failures Hub) (limit : ℕ) (first now : Option Hub) (before after : Seen) where
   ends_by : (ending : Ending) (bytes written : List ℕ) → loop.EndsWithCause ending before.faults after.faults →
       before.faults.context ≡ 0 → after.faults.context ≡ 0 →
-      loop.EndsAs machine leaves limit (begins written) bytes ending now after.written after.left →
-      EndsAs Shared limit bytes written (feed_status ending) after
+      loop.HasEnding machine leaves limit (begins written) bytes ending now after.written after.left →
+      EndsFeedAs Shared limit bytes written (feed_status ending) after
   ends_by endings.Done bytes written cause was is h = record {
     status_is = ap (λ cut. if cut then InputLimit else Done) (sym h.whole);
     output = h.reached.has_written;
@@ -67,13 +67,13 @@ module _ (leaves : Failures Hub) (limit : ℕ) (first now : Option Hub) (before 
   }
 
   -- what is written of all lines tells each user's view
-  tells : HearsTheView → (status : FeedStatus) (bytes written said : List ℕ) → EndsAs Shared limit bytes written status after →
+  tells : HearsTheView → (status : FeedStatus) (bytes written said : List ℕ) → EndsFeedAs Shared limit bytes written status after →
       says_all (run_status status) ≡ true → after.written ≡ Some (written ++ said) → TellsViews (lines_shared limit bytes) said
   tells hears status bytes written said ends all told =
       let output = (whole_by_status Shared limit bytes written after status all ends).output in
-      let same : written ++ said ≡ written ++ (whole Shared limit bytes).output
+      let same : written ++ said ≡ written ++ (whole_feed Shared limit bytes).output
       = ap (λ o. unwrap_or o (written ++ said)) (sym told ∙ output) in
-      subst (TellsViews (lines_shared limit bytes)) (sym (append_cancel_left written said (whole Shared limit bytes).output same))
+      subst (TellsViews (lines_shared limit bytes)) (sym (append_cancel_left written said (whole_feed Shared limit bytes).output same))
       (λ user letters. hears user (lines_shared limit bytes) letters)
 
   pub answered_runs : (ending : Ending) (status : FeedStatus) → HearsTheView → status ≡ feed_status ending →
@@ -87,7 +87,7 @@ module _ (leaves : Failures Hub) (limit : ℕ) (first now : Option Hub) (before 
         tells hears (feed_status ending) bytes written said (ends bytes written left_is written_is) all told;
   })
     where
-      ends : (bytes written : List ℕ) → before.left ≡ Some bytes → before.written ≡ Some written → EndsAs Shared limit bytes written (feed_status ending) after
+      ends : (bytes written : List ℕ) → before.left ≡ Some bytes → before.written ≡ Some written → EndsFeedAs Shared limit bytes written (feed_status ending) after
       ends bytes written left_is written_is =
           ends_by ending bytes written a.cause a.none_before a.none_after
           (a.ends (begins written) bytes (record { in_state = a.is_empty; has_written = written_is }) left_is)

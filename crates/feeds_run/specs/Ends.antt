@@ -7,10 +7,10 @@ use Rattle.line_loop.specs.Machine.{replies}
 use Rattle.line_loop.specs.Stop.{WritesPart}
 use Rattle.run_ends.specs.Ends.{Seen, seen}
 use Rattle.feeds_meaning.specs.Hub.{empty_hub, machine as users}
-use Rattle.replica.specs.Feed.{after, silent}
+use Rattle.replica.specs.Feed.{hearing_after, silent}
 use Rattle.run_ends.specs.Status.{ending_by}
 use Rattle.feeds_run.specs.Status.{run_status}
-use Rattle.feeds_run.specs.Whole.{whole}
+use Rattle.feeds_run.specs.Whole.{whole_feed}
 use Rattle.feeds_run.specs.Words.{FeedWords, Bad, Shared, Followed}
 use Rattle.feeds_run.specs.declared.status.FeedStatus.{FeedStatus}
 use Rattle.feeds_run.specs.declared.status.FeedStatus.TheVariants.{BadWords, BadFeed, ReadFault, WriteFault, NoMemory}
@@ -38,13 +38,13 @@ KeepsFeedLimit Shared limit bytes status left = loop.KeepsLimit limit bytes (end
 KeepsFeedLimit (Followed name) limit bytes status left = loop.KeepsLimit limit bytes (ending_by (run_status status)) left
 
 -- all of the output was written
-pub record IsWhole (words : FeedWords) (limit : ℕ) (bytes written : List ℕ) (status : FeedStatus) (after : Seen) : Type 0 where
-  pub status_is : status ≡ (whole words limit bytes).status
-  pub output : after.written ≡ Some (written ++ (whole words limit bytes).output)
+pub record IsWholeFeed (words : FeedWords) (limit : ℕ) (bytes written : List ℕ) (status : FeedStatus) (hearing_after : Seen) : Type 0 where
+  pub status_is : status ≡ (whole_feed words limit bytes).status
+  pub output : hearing_after.written ≡ Some (written ++ (whole_feed words limit bytes).output)
 
 -- a part of it, or all of it
-abbrev pub IsPart : FeedWords → ℕ → (bytes written : List ℕ) → Seen → Type 0
-IsPart words limit bytes written after = (count : ℕ) × (after.written ≡ Some (written ++ take count (whole words limit bytes).output))
+abbrev pub IsFeedPart : FeedWords → ℕ → (bytes written : List ℕ) → Seen → Type 0
+IsFeedPart words limit bytes written hearing_after = (count : ℕ) × (hearing_after.written ≡ Some (written ++ take count (whole_feed words limit bytes).output))
 
 -- what was written of bytes after which a read failed: the lines for the lines that end in them. A replica has written nothing.
 abbrev pub written_of : FeedWords → List ℕ → List ℕ
@@ -56,18 +56,18 @@ written_of (Followed name) taken = []
 abbrev pub is_bad_in : FeedWords → List ℕ → Bool
 is_bad_in Bad taken = false
 is_bad_in Shared taken = false
-is_bad_in (Followed name) taken = is_some (after (silent name) (ended_lines taken)).bad
+is_bad_in (Followed name) taken = is_some (hearing_after (silent name) (ended_lines taken)).bad
 
-pub record IsFeedReadFault (words : FeedWords) (limit : ℕ) (bytes written : List ℕ) (after : Seen) : Type 0 where
+pub record IsFeedReadFault (words : FeedWords) (limit : ℕ) (bytes written : List ℕ) (hearing_after : Seen) : Type 0 where
   pub count : ℕ
   pub within : count ≤ limit
-  pub taken : HasTaken bytes count after.left
-  pub output : after.written ≡ Some (written ++ written_of words (take count bytes))
+  pub taken : HasTaken bytes count hearing_after.left
+  pub output : hearing_after.written ≡ Some (written ++ written_of words (take count bytes))
   pub going_on : is_bad_in words (take count bytes) ≡ false
 
 -- one case a status, where the source and the sink tell what they hold
-abbrev pub EndsAs : FeedWords → ℕ → (bytes written : List ℕ) → FeedStatus → Seen → Type 0
-EndsAs words limit bytes written ReadFault after = IsFeedReadFault words limit bytes written after
-EndsAs words limit bytes written WriteFault after = WritesPart (whole words limit bytes).output written after.written
-EndsAs words limit bytes written NoMemory after = IsPart words limit bytes written after
-EndsAs words limit bytes written status after = IsWhole words limit bytes written status after
+abbrev pub EndsFeedAs : FeedWords → ℕ → (bytes written : List ℕ) → FeedStatus → Seen → Type 0
+EndsFeedAs words limit bytes written ReadFault hearing_after = IsFeedReadFault words limit bytes written hearing_after
+EndsFeedAs words limit bytes written WriteFault hearing_after = WritesPart (whole_feed words limit bytes).output written hearing_after.written
+EndsFeedAs words limit bytes written NoMemory hearing_after = IsFeedPart words limit bytes written hearing_after
+EndsFeedAs words limit bytes written status hearing_after = IsWholeFeed words limit bytes written status hearing_after

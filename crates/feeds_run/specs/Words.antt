@@ -18,12 +18,12 @@ feed_words_view words.Shared = Shared
 feed_words_view (words.Followed name) = Followed name.now
 
 -- a word that asks for something, and the word after it, which may be any
-abbrev pub asked : List ℕ → List ℕ → FeedWords
-asked word name = if bytes_eq word (codes "replica") then Followed name else Bad
+abbrev pub feed_asked : List ℕ → List ℕ → FeedWords
+feed_asked word name = if bytes_eq word (codes "replica") then Followed name else Bad
 
-abbrev pub words_of : List (List ℕ) → FeedWords
-words_of [] = Bad
-words_of (program ∷ []) = Shared
-words_of (program ∷ word ∷ []) = Bad
-words_of (program ∷ word ∷ name ∷ []) = asked word name
-words_of (program ∷ word ∷ name ∷ more ∷ others) = Bad
+abbrev pub feed_words_of : List (List ℕ) → FeedWords
+feed_words_of [] = Bad
+feed_words_of (program ∷ []) = Shared
+feed_words_of (program ∷ word ∷ []) = Bad
+feed_words_of (program ∷ word ∷ name ∷ []) = feed_asked word name
+feed_words_of (program ∷ word ∷ name ∷ more ∷ others) = Bad

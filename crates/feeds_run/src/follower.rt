@@ -31,21 +31,21 @@ impl Follower {
 impl Handler<()> for Follower {
     ghost use Rattle.std.specs.Prelude.{None, Some};
     ghost use Rattle.replica.specs.Feed.{Hearing};
-    ghost use Rattle.feeds_run.specs.Following.{cost, leaves, machine};
+    ghost use Rattle.feeds_run.specs.Following.{following_cost, following_leaves, following_machine};
 
     ghost State = { Hearing };
 
-    ghost machine = { machine };
+    ghost machine = { following_machine };
 
     ghost state = { λ follower _. Some follower.replica };
 
     ghost faults = { λ _. 0 };
 
-    ghost leaves = { leaves };
+    ghost leaves = { following_leaves };
 
     ghost spent = { λ _. 0 };
 
-    ghost cost = { cost };
+    ghost cost = { following_cost };
 
     ghost LONGEST = { None };
 

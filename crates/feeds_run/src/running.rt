@@ -3,7 +3,7 @@ ghost use Rattle.std.specs.Prelude.{◌≡◌, map, string_bytes};
 ghost use Rattle.domino_run.specs.declared.running.TheConstants.{INPUT_LIMIT};
 ghost use Rattle.feeds_run.specs.Ends.{seen_of};
 ghost use Rattle.feeds_run.specs.Theorem.{FeedsAs};
-ghost use Rattle.feeds_run.specs.Words.{words_of};
+ghost use Rattle.feeds_run.specs.Words.{feed_words_of};
 
 use crate::following::follow;
 use crate::sharing::share;
@@ -25,7 +25,7 @@ pub fn run_feeds<S: Source, K: Sink, L: Ledger, M: Ledger>(
     reads: Steps<L>,
     probes: Steps<M>,
 ) -> FeedStatus
-    ensures { FeedsAs INPUT_LIMIT (words_of (map string_bytes words.now))
+    ensures { FeedsAs INPUT_LIMIT (feed_words_of (map string_bytes words.now))
         (seen_of (S.faults source.old) (K.faults sink.old) (S.left source.old) (K.written sink.old))
         (seen_of (S.faults source.new) (K.faults sink.new) (S.left source.new) (K.written sink.new)) result }
 {
@@ -52,7 +52,7 @@ pub fn run_feeds_limited<S: Source, K: Sink, L: Ledger, M: Ledger>(
     reads: Steps<L>,
     probes: Steps<M>,
 ) -> FeedStatus
-    ensures { FeedsAs limit (words_of (map string_bytes words.now))
+    ensures { FeedsAs limit (feed_words_of (map string_bytes words.now))
         (seen_of (S.faults source.old) (K.faults sink.old) (S.left source.old) (K.written sink.old))
         (seen_of (S.faults source.new) (K.faults sink.new) (S.left source.new) (K.written sink.new)) result }
 {

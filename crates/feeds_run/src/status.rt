@@ -1,7 +1,7 @@
 //! How a run ends.
 ghost use Rattle.std.specs.Prelude.{◌≡◌, ◌≢◌};
 ghost use Rattle.line_loop.specs.declared.ending.Ending.TheVariants.{ContextFault};
-ghost use Rattle.run_ends.specs.Status.{code_of};
+ghost use Rattle.run_ends.specs.Status.{status_number};
 ghost use Rattle.feeds_run.specs.Status.{feed_status, run_status, said_as};
 
 use line_loop::Ending;
@@ -29,7 +29,7 @@ pub enum FeedStatus {
 impl FeedStatus {
     /// The exit status of the program, from 0 to 7. None is 5, which tells of a file where DOMINO serves one user.
     pub fn code(self) -> u8
-        ensures { result ≡ code_of (run_status self) }
+        ensures { result ≡ status_number (run_status self) }
     {
         self.run_status().code()
     }

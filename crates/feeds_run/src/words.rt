@@ -1,6 +1,6 @@
 //! The words of the program.
 ghost use Rattle.std.specs.Prelude.{◌≡◌, map, string_bytes};
-ghost use Rattle.feeds_run.specs.Words.{asked, words_of, feed_words_view};
+ghost use Rattle.feeds_run.specs.Words.{feed_asked, feed_words_of, feed_words_view};
 
 /// What the words of the program ask for.
 #[derive(Clone, Copy, Debug)]
@@ -15,7 +15,7 @@ pub(crate) enum Words<'a> {
 
 /// What the words ask for, the program's name first.
 pub(crate) fn words_of(words: &[String]) -> Words<'_>
-    ensures { feed_words_view result ≡ words_of (map string_bytes words.now) }
+    ensures { feed_words_view result ≡ feed_words_of (map string_bytes words.now) }
 {
     match words {
         [_] => Words::Shared,
@@ -26,7 +26,7 @@ pub(crate) fn words_of(words: &[String]) -> Words<'_>
 
 /// What a word asks for with the one after it.
 fn asked<'a>(word: &[u8], name: &'a [u8]) -> Words<'a>
-    ensures { feed_words_view result ≡ asked word.now name.now }
+    ensures { feed_words_view result ≡ feed_asked word.now name.now }
 {
     if word == b"replica".as_slice() {
         Words::Followed(name)

@@ -7,13 +7,13 @@ use Rattle.std.specs.Char.{digit_value}
 use Rattle.std.specs.Fmt.{decimal}
 use Rattle.std.specs.Int.{is_negative}
 use Rattle.std.specs.List.{suffix_len}
-use Rattle.fixed_point.specs.Decimal.{AreDigits, IsDecimal, decimals_value, point_text, with_sign}
+use Rattle.fixed_point.specs.Decimal.{AreDigits, IsDecimal, decimals_text, decimals_value, with_sign}
 use Rattle.fixed_point.specs.Canonical.{three_digits, without_last_zeros, fix_text}
-use Rattle.fixed_point.specs.Laws.{ReadsWhatIsPrinted}
+use Rattle.fixed_point.specs.Laws.{ReadsPrintedNumber}
 use Rattle.fixed_point.proofs.DecimalLemmas.{decimal_law}
 use Rattle.fixed_point.proofs.DigitLemmas.{digit_of}
 
-point_length : (digits : List ℕ) → length (point_text digits) ≤ length digits + 1
+point_length : (digits : List ℕ) → length (decimals_text digits) ≤ length digits + 1
 point_length [] = omega arith
 point_length (digit ∷ digits) = omega arith
 
@@ -23,12 +23,12 @@ decimals_length n =
     omega (arith, length-take count (three_digits n))
 
 -- up to 16 digits and up to three decimals leave room for a sign
-room_with : (digits decimals : List ℕ) → length digits ≤ 16 → length decimals ≤ 3 → length (digits ++ (point_text decimals ++ [])) + 1 ≤ 21
+room_with : (digits decimals : List ℕ) → length digits ≤ 16 → length decimals ≤ 3 → length (digits ++ (decimals_text decimals ++ [])) + 1 ≤ 21
 room_with digits decimals short few =
-    omega (arith, length-append digits (point_text decimals ++ []), length-append (point_text decimals) [], point_length decimals)
+    omega (arith, length-append digits (decimals_text decimals ++ []), length-append (decimals_text decimals) [], point_length decimals)
 
 -- so do the whole part and the decimals of a number
-pub room_for_sign : (whole n : ℕ) (text : List ℕ) → text ≡ point_text (without_last_zeros (three_digits n)) ++ [] → whole ≤ 10 ^ 15
+pub room_for_sign : (whole n : ℕ) (text : List ℕ) → text ≡ decimals_text (without_last_zeros (three_digits n)) ++ [] → whole ≤ 10 ^ 15
     → length (decimal whole ++ text) + 1 ≤ 21
 room_for_sign whole n text is small =
     let short : length (decimal whole) ≤ 16 = length-decimal-le 16 whole (omega arith) (omega arith) (omega arith) in
@@ -89,5 +89,5 @@ canonical_is value within =
       valued = signed_size value ∙ ap (with_sign (is_negative value)) (omega (arith, number.1, short.valued));
     }
 
-pub printed_law : ReadsWhatIsPrinted
+pub printed_law : ReadsPrintedNumber
 printed_law value within = (decimal_law (10 ^ 12) (fix_text value) value).1 (canonical_is value within, within)

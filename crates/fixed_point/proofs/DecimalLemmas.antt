@@ -9,7 +9,7 @@ use Rattle.std.specs.Fmt.{sign_text}
 use Rattle.std.specs.List.{prefix_len}
 use Rattle.std.specs.Str.Parse.{AllDigits, digits_value}
 use Rattle.exact.specs.Options.{◌>>=◌}
-use Rattle.fixed_point.specs.Decimal.{digits_at, decimals_value, decimals_of, size_of, with_sign, thousandths_of, AreDigits, point_text, IsDecimal}
+use Rattle.fixed_point.specs.Decimal.{digits_at, decimals_value, decimals_of, unsigned_thousandths, with_sign, thousandths_of, AreDigits, decimals_text, IsDecimal}
 use Rattle.fixed_point.specs.Laws.{ReadsEachDecimal}
 use Rattle.fixed_point.proofs.DigitLemmas.{digits_in_front}
 
@@ -45,11 +45,11 @@ split_is most text parts is =
 record AreDecimals (text : List ℕ) (value : ℕ) : Type 0 where
   decimals : List ℕ
   digits : AreDigits 0 3 decimals
-  spelled : text ≡ point_text decimals
+  spelled : text ≡ decimals_text decimals
   valued : value ≡ decimals_value decimals
 
 -- a point before digits
-point_before : (digits : List ℕ) → 1 ≤ length digits → point_text digits ≡ 46 ∷ digits
+point_before : (digits : List ℕ) → 1 ≤ length digits → decimals_text digits ≡ 46 ∷ digits
 point_before [] some = absurd (omega arith)
 point_before (digit ∷ digits) some = refl
 
@@ -76,11 +76,11 @@ record IsUnsigned (text : List ℕ) (size : ℕ) : Type 0 where
   decimals : List ℕ
   whole_digits : AreDigits 1 10 whole
   decimal_digits : AreDigits 0 3 decimals
-  spelled : text ≡ whole ++ point_text decimals
+  spelled : text ≡ whole ++ decimals_text decimals
   valued : size ≡ 1000 * digits_value 10 whole + decimals_value decimals
 
-unsigned_is : (text : List ℕ) (size : ℕ) → size_of text ≡ Some size → IsUnsigned text size
-unfolding size_of
+unsigned_is : (text : List ℕ) (size : ℕ) → unsigned_thousandths text ≡ Some size → IsUnsigned text size
+unfolding unsigned_thousandths
 unsigned_is text size is =
     let first = bind_some (digits_at 10 text) (λ (whole : List ℕ × List ℕ). decimals_of whole.1 >>= λ (decimals : ℕ). Some (1000 * digits_value 10 whole.0 + decimals)) size is in
     let parts : List ℕ × List ℕ = first.0 in
@@ -111,7 +111,7 @@ decimal_is : (limit : ℕ) (text : List ℕ) (value : ℤ) → thousandths_of li
 unfolding thousandths_of
 decimal_is limit text value is =
     let negative : Bool = eqb (get_or text 0 0) 45 in
-    let sized = bind_some (size_of (cond negative (drop 1 text) text)) (λ (size : ℕ). cond (leb size limit) (Some (with_sign negative size)) None) value is in
+    let sized = bind_some (unsigned_thousandths (cond negative (drop 1 text) text)) (λ (size : ℕ). cond (leb size limit) (Some (with_sign negative size)) None) value is in
     let size : ℕ = sized.0 in
     let signed : (leb size limit ≡ true) × (with_sign negative size ≡ value) = cond_some (leb size limit) (with_sign negative size) value sized.2 in
     let unsigned : IsUnsigned (cond negative (drop 1 text) text) size = unsigned_is (cond negative (drop 1 text) text) size sized.1 in
@@ -123,7 +123,7 @@ decimal_is limit text value is =
         decimals = unsigned.decimals;
         whole_digits = unsigned.whole_digits;
         decimal_digits = unsigned.decimal_digits;
-        spelled = behind_sign negative text refl ∙ ap (λ bytes. sign_text negative ++ bytes) unsigned.spelled ∙ sym (append_assoc (sign_text negative) unsigned.whole (point_text unsigned.decimals));
+        spelled = behind_sign negative text refl ∙ ap (λ bytes. sign_text negative ++ bytes) unsigned.spelled ∙ sym (append_assoc (sign_text negative) unsigned.whole (decimals_text unsigned.decimals));
         valued = sym signed.1 ∙ ap (with_sign negative) unsigned.valued;
       },
       omega (arith, abs, small),
@@ -151,11 +151,11 @@ split_again most digits rest are ends =
     let few : leb (length digits) most ≡ true = grind (arith, nat_tests, are.few) in
     rw (count_of_digits digits rest are.digits ends, take-append_seam digits rest, drop-append_seam digits rest, enough, few) refl
 
-no_digit_in_point : (decimals : List ℕ) → IsNoDigit (point_text decimals)
+no_digit_in_point : (decimals : List ℕ) → IsNoDigit (decimals_text decimals)
 no_digit_in_point [] = record { none = refl }
 no_digit_in_point (digit ∷ decimals) = record { none = refl }
 
-decimals_again : (decimals : List ℕ) → AreDigits 0 3 decimals → decimals_of (point_text decimals) ≡ Some (decimals_value decimals)
+decimals_again : (decimals : List ℕ) → AreDigits 0 3 decimals → decimals_of (decimals_text decimals) ≡ Some (decimals_value decimals)
 unfolding decimals_of
 decimals_again [] are = refl
 decimals_again (digit ∷ decimals) are =
@@ -163,10 +163,10 @@ decimals_again (digit ∷ decimals) are =
     let split : digits_at 3 (digit ∷ decimals) ≡ Some (digit ∷ decimals, []) = ap (digits_at 3) (sym (append-nil (digit ∷ decimals))) ∙ split_again 3 (digit ∷ decimals) [] all (record { none = refl }) in
     ap (λ (parts : Option (List ℕ × List ℕ)). parts >>= λ (p : List ℕ × List ℕ). cond (eqb (length p.1) 0) (Some (decimals_value p.0)) None) split
 
-unsigned_again : (whole decimals : List ℕ) → AreDigits 1 10 whole → AreDigits 0 3 decimals → size_of (whole ++ point_text decimals) ≡ Some (1000 * digits_value 10 whole + decimals_value decimals)
-unfolding size_of
+unsigned_again : (whole decimals : List ℕ) → AreDigits 1 10 whole → AreDigits 0 3 decimals → unsigned_thousandths (whole ++ decimals_text decimals) ≡ Some (1000 * digits_value 10 whole + decimals_value decimals)
+unfolding unsigned_thousandths
 unsigned_again whole decimals are behind =
-    ap (λ (parts : Option (List ℕ × List ℕ)). parts >>= λ (p : List ℕ × List ℕ). decimals_of p.1 >>= λ (n : ℕ). Some (1000 * digits_value 10 p.0 + n)) (split_again 10 whole (point_text decimals) are (no_digit_in_point decimals))
+    ap (λ (parts : Option (List ℕ × List ℕ)). parts >>= λ (p : List ℕ × List ℕ). decimals_of p.1 >>= λ (n : ℕ). Some (1000 * digits_value 10 p.0 + n)) (split_again 10 whole (decimals_text decimals) are (no_digit_in_point decimals))
     ∙ ap (λ (n : Option ℕ). n >>= λ (m : ℕ). Some (1000 * digits_value 10 whole + m)) (decimals_again decimals behind)
 
 -- a sign is found, and only a sign
@@ -180,15 +180,15 @@ without_sign true text = refl
 without_sign false text = refl
 
 -- the parts are read as their value
-parts_again : (limit : ℕ) (negative : Bool) (whole decimals : List ℕ) → AreDigits 1 10 whole → AreDigits 0 3 decimals → 1000 * digits_value 10 whole + decimals_value decimals ≤ limit → thousandths_of limit (sign_text negative ++ (whole ++ point_text decimals)) ≡ Some (with_sign negative (1000 * digits_value 10 whole + decimals_value decimals))
+parts_again : (limit : ℕ) (negative : Bool) (whole decimals : List ℕ) → AreDigits 1 10 whole → AreDigits 0 3 decimals → 1000 * digits_value 10 whole + decimals_value decimals ≤ limit → thousandths_of limit (sign_text negative ++ (whole ++ decimals_text decimals)) ≡ Some (with_sign negative (1000 * digits_value 10 whole + decimals_value decimals))
 unfolding thousandths_of
 parts_again limit negative whole decimals are behind within =
-    let unsigned : List ℕ = whole ++ point_text decimals in
+    let unsigned : List ℕ = whole ++ decimals_text decimals in
     let text : List ℕ = sign_text negative ++ unsigned in
     let size : ℕ = 1000 * digits_value 10 whole + decimals_value decimals in
-    let sign : eqb (get_or text 0 0) 45 ≡ negative = sign_found negative whole (point_text decimals) are in
-    let sized : size_of (cond (eqb (get_or text 0 0) 45) (drop 1 text) text) ≡ Some size =
-    ap (λ b. size_of (cond b (drop 1 text) text)) sign ∙ ap size_of (without_sign negative unsigned) ∙ unsigned_again whole decimals are behind in
+    let sign : eqb (get_or text 0 0) 45 ≡ negative = sign_found negative whole (decimals_text decimals) are in
+    let sized : unsigned_thousandths (cond (eqb (get_or text 0 0) 45) (drop 1 text) text) ≡ Some size =
+    ap (λ b. unsigned_thousandths (cond b (drop 1 text) text)) sign ∙ ap unsigned_thousandths (without_sign negative unsigned) ∙ unsigned_again whole decimals are behind in
     let small : leb size limit ≡ true = grind (arith, nat_tests, within) in
     ap (λ (o : Option ℕ). o >>= λ (n : ℕ). cond (leb n limit) (Some (with_sign (eqb (get_or text 0 0) 45) n)) None) sized
     ∙ ap (λ b. cond b (Some (with_sign (eqb (get_or text 0 0) 45) size)) None) small
@@ -198,7 +198,7 @@ read_again : (limit : ℕ) (text : List ℕ) (value : ℤ) → IsDecimal text va
 read_again limit text value is within =
     let size : ℕ = 1000 * digits_value 10 is.whole + decimals_value is.decimals in
     let abs : unsigned_abs value ≡ size = ap unsigned_abs is.valued ∙ size_with_sign is.negative size in
-    ap (thousandths_of limit) (is.spelled ∙ append_assoc (sign_text is.negative) is.whole (point_text is.decimals))
+    ap (thousandths_of limit) (is.spelled ∙ append_assoc (sign_text is.negative) is.whole (decimals_text is.decimals))
     ∙ parts_again limit is.negative is.whole is.decimals is.whole_digits is.decimal_digits (omega (arith, abs, within))
     ∙ ap Some (sym is.valued)
 

@@ -3,7 +3,7 @@ use Rattle.std.specs.Prelude.{ℕ, ◌+◌, ◌-◌, ◌/◌, ◌%◌, ◌==◌,
 use Rattle.std.specs.Int.{is_negative}
 use Rattle.std.specs.List.{suffix_len}
 use Rattle.std.specs.Fmt.{decimal, sign_text}
-use Rattle.fixed_point.specs.Decimal.{point_text}
+use Rattle.fixed_point.specs.Decimal.{decimals_text}
 
 -- a number below 1000 in three digits; 48 is `0`
 abbrev pub three_digits : ℕ → List ℕ
@@ -16,4 +16,4 @@ without_last_zeros digits = take (length digits - suffix_len (λ digit. digit ==
 unfoldable pub fix_text : ℤ → List ℕ
 fix_text thousandths =
     let size = unsigned_abs thousandths in
-    sign_text (is_negative thousandths) ++ decimal (size / 1000) ++ point_text (without_last_zeros (three_digits (size % 1000)))
+    sign_text (is_negative thousandths) ++ decimal (size / 1000) ++ decimals_text (without_last_zeros (three_digits (size % 1000)))

@@ -25,8 +25,8 @@ decimals_of (byte ∷ rest) = do
   if length decimals.1 == 0 then Some (decimals_value decimals.0) else None
 
 -- the thousandths of a number without a sign
-unfoldable pub size_of : List ℕ → Option ℕ
-size_of text = do
+unfoldable pub unsigned_thousandths : List ℕ → Option ℕ
+unsigned_thousandths text = do
   whole ← digits_at WHOLE_DIGITS_LIMIT text
   decimals ← decimals_of whole.1
   Some (1000 * digits_value 10 whole.0 + decimals)
@@ -40,7 +40,7 @@ unfoldable pub thousandths_of : ℕ → List ℕ → Option ℤ
 thousandths_of limit text =
     let negative = slice_index text 0 == 45 in
     do
-      size ← size_of (if negative then drop 1 text else text)
+      size ← unsigned_thousandths (if negative then drop 1 text else text)
       if nat_le size limit then Some (with_sign negative size) else None
 
 -- from `least` to `most` digits
@@ -50,9 +50,9 @@ pub record AreDigits (least most : ℕ) (text : List ℕ) : Type 0 where
   pub few : length text ≤ most
 
 -- a point and the decimals, or nothing where there are none
-abbrev pub point_text : List ℕ → List ℕ
-point_text [] = []
-point_text (digit ∷ digits) = 46 ∷ digit ∷ digits
+abbrev pub decimals_text : List ℕ → List ℕ
+decimals_text [] = []
+decimals_text (digit ∷ digits) = 46 ∷ digit ∷ digits
 
 -- The text is a number: a sign or none, from one to ten digits, and a point with from one to three decimals, or none.
 pub record IsDecimal (text : List ℕ) (value : ℤ) : Type 0 where
@@ -61,5 +61,5 @@ pub record IsDecimal (text : List ℕ) (value : ℤ) : Type 0 where
   pub decimals : List ℕ
   pub whole_digits : AreDigits 1 WHOLE_DIGITS_LIMIT whole
   pub decimal_digits : AreDigits 0 DECIMALS_LIMIT decimals
-  pub spelled : text ≡ sign_text negative ++ whole ++ point_text decimals
+  pub spelled : text ≡ sign_text negative ++ whole ++ decimals_text decimals
   pub valued : value ≡ with_sign negative (1000 * digits_value 10 whole + decimals_value decimals)

@@ -9,5 +9,5 @@ abbrev pub ReadsEachDecimal : Type 0
 ReadsEachDecimal = (limit : ℕ) (text : List ℕ) (value : ℤ) → (thousandths_of limit text ≡ Some value) ↔ (IsDecimal text value × (unsigned_abs value ≤ limit))
 
 -- The canonical text of a number within the limit of what is read is read as that number.
-abbrev pub ReadsWhatIsPrinted : Type 0
-ReadsWhatIsPrinted = (value : ℤ) → unsigned_abs value ≤ READ_LIMIT → thousandths_of READ_LIMIT (fix_text value) ≡ Some value
+abbrev pub ReadsPrintedNumber : Type 0
+ReadsPrintedNumber = (value : ℤ) → unsigned_abs value ≤ READ_LIMIT → thousandths_of READ_LIMIT (fix_text value) ≡ Some value

@@ -4,7 +4,7 @@ ghost use Rattle.fixed_point.specs.declared.number.TheConstants.{FIX_LIMIT, READ
 ghost use Rattle.fixed_point.specs.declared.number_text.TheConstants.{FIX_TEXT_LIMIT};
 ghost use Rattle.fixed_point.specs.declared.reading.TheConstants.{DECIMALS_LIMIT, WHOLE_DIGITS_LIMIT};
 ghost use Rattle.fixed_point.specs.declared.short_text.TheConstants.{WORD_LIMIT};
-ghost use Rattle.fixed_point.specs.Laws.{ReadsEachDecimal, ReadsWhatIsPrinted};
+ghost use Rattle.fixed_point.specs.Laws.{ReadsEachDecimal, ReadsPrintedNumber};
 
 /// A text is read as a value exactly where it is a number of that value by its parts, and the value is
 /// within the limit.
@@ -14,7 +14,7 @@ pub fn reads_each_decimal()
 
 /// The canonical text of a number within 10^12 thousandths of 0 is read as that number.
 pub fn reads_what_is_printed()
-    ensures { ReadsWhatIsPrinted }
+    ensures { ReadsPrintedNumber }
 {}
 
 /// The limits of this crate by their numbers.

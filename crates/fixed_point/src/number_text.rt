@@ -1,7 +1,7 @@
 //! The canonical text of a number.
 ghost use Rattle.std.specs.Prelude.{◌≡◌, ◌+◌, ◌<◌, ◌≤◌, ◌++◌, ◌∷◌, [], length};
 ghost use Rattle.std.specs.Fmt.{decimal};
-ghost use Rattle.fixed_point.specs.Decimal.{point_text};
+ghost use Rattle.fixed_point.specs.Decimal.{decimals_text};
 ghost use Rattle.fixed_point.specs.Canonical.{three_digits, without_last_zeros};
 
 use std::marker::Model;
@@ -82,7 +82,7 @@ impl FixText {
     pub(crate) fn prepend_decimals(&mut self, thousandths: u64)
         requires decimals { thousandths < 1000 }
         requires room { length self.old + 4 ≤ FIX_TEXT_LIMIT }
-        ensures { self.new ≡ point_text (without_last_zeros (three_digits thousandths)) ++ self.old }
+        ensures { self.new ≡ decimals_text (without_last_zeros (three_digits thousandths)) ++ self.old }
     {
         if thousandths == 0 {
             return;

@@ -3,8 +3,8 @@ ghost use Rattle.std.specs.Prelude.{◌≡◌, ◌↔◌, ◌<◌, ◌≤◌, �
 ghost use Rattle.std.specs.Option.{option_map};
 ghost use Rattle.std.specs.Char.{is_ascii_digit};
 ghost use Rattle.std.specs.List.{prefix_len};
-ghost use Rattle.fixed_point.specs.Decimal.{digits_at, decimals_of, size_of, thousandths_of};
-ghost use Rattle.fixed_point.specs.Digits.{IsFirstDigit, number_of};
+ghost use Rattle.fixed_point.specs.Decimal.{digits_at, decimals_of, unsigned_thousandths, thousandths_of};
+ghost use Rattle.fixed_point.specs.Digits.{IsFirstDigit, written_number};
 
 /// The most digits of the whole part of a number that is read.
 pub const WHOLE_DIGITS_LIMIT: usize = 10;
@@ -29,7 +29,7 @@ fn first_digit(text: &[u8]) -> Option<(u64, &[u8])>
 // The number that from one to `most` digits at the front write, how many they are, and what follows them.
 fn split_number(text: &[u8], most: usize) -> Option<(u64, usize, &[u8])>
     requires { most ≤ WHOLE_DIGITS_LIMIT }
-    ensures value { option_map (λ parts. (parts.0, parts.1, parts.2.now)) result ≡ option_map number_of (digits_at most text.now) }
+    ensures value { option_map (λ parts. (parts.0, parts.1, parts.2.now)) result ≡ option_map written_number (digits_at most text.now) }
     ensures small { IfSome result (λ parts. parts.0 < 10 ^ parts.1) }
     ensures some { IfSome result (λ parts. 1 ≤ parts.1) }
     ensures few { IfSome result (λ parts. parts.1 ≤ most) }
@@ -90,9 +90,9 @@ fn read_decimals(text: &[u8]) -> Option<u64>
 }
 
 // The thousandths of a number without a sign.
-#[tactic(auto, using(crate::proofs::DigitLemmas::ten_digits_are_few), unfolding(crate::specs::Decimal::size_of))]
+#[tactic(auto, using(crate::proofs::DigitLemmas::ten_digits_are_few), unfolding(crate::specs::Decimal::unsigned_thousandths))]
 fn read_size(text: &[u8]) -> Option<u64>
-    ensures value { result ≡ size_of text.now }
+    ensures value { result ≡ unsigned_thousandths text.now }
     ensures small { IfSome result (λ size. size < 10 ^ 13) }
 {
     let (whole, _, rest) = split_number(text, WHOLE_DIGITS_LIMIT)?;

@@ -15,26 +15,26 @@ use Rattle.formula.specs.Resolved.{are_distinct, is_atom, is_formula, is_term, n
 use Rattle.formula.specs.Tree.{ResolvedTree}
 use Rattle.formula.specs.Variables.{has_variable, variables_of}
 
-abbrev pub plus : RUnit → RSigned
-plus unit = record { minus = false; times = None; unit = unit }
+abbrev pub plus_factor : RUnit → RSigned
+plus_factor unit = record { minus = false; times = None; unit = unit }
 
-abbrev pub minus : RUnit → RSigned
-minus unit = record { minus = true; times = None; unit = unit }
+abbrev pub minus_factor : RUnit → RSigned
+minus_factor unit = record { minus = true; times = None; unit = unit }
 
-abbrev pub times : ℕ → RUnit → RSigned
-times k unit = record { minus = false; times = Some k; unit = unit }
+abbrev pub times_factor : ℕ → RUnit → RSigned
+times_factor k unit = record { minus = false; times = Some k; unit = unit }
 
 -- the first attribute of variable 1, whose values are within a million units
 abbrev pub far : RTerm
-far = record { factors = plus (units.Attr 1 0 (pos 1000000000)) ∷ [] }
+far = record { factors = plus_factor (units.Attr 1 0 (pos 1000000000)) ∷ [] }
 
 -- twice what was bound, less the value of a dynamic attribute of variable 2
 abbrev pub left : RTerm
-left = record { factors = times 2 (units.Var 0 (pos 1000000000)) ∷ minus (units.Sub 2 1 subs.Value) ∷ [] }
+left = record { factors = times_factor 2 (units.Var 0 (pos 1000000000)) ∷ minus_factor (units.Sub 2 1 subs.Value) ∷ [] }
 
 -- TIME - 3
 abbrev pub right : RTerm
-right = record { factors = plus units.Time ∷ minus (units.Literal (pos 3000)) ∷ [] }
+right = record { factors = plus_factor units.Time ∷ minus_factor (units.Literal (pos 3000)) ∷ [] }
 
 -- INSIDE(0,7) UNTIL_WITHIN 5 [0 <- far] (left <= right AND NOT WITHIN_SPHERE(1,0,3,0))
 abbrev pub sample : ResolvedTree
@@ -57,11 +57,11 @@ pub record HasBounds : Type 0 where
   pub attribute : term_bound far ≡ 1000000000
   pub multiplied : term_bound left ≡ 2 * 1000000000 + 1001000000000000
   pub subtracted : term_bound right ≡ 1000000003000
-  pub text : term_bound (record { factors = plus (units.Text (codes "AB")) ∷ [] }) ≡ 0
-  pub negative : term_bound (record { factors = plus (units.Literal (negsuc 4)) ∷ [] }) ≡ 5
+  pub text : term_bound (record { factors = plus_factor (units.Text (codes "AB")) ∷ [] }) ≡ 0
+  pub negative : term_bound (record { factors = plus_factor (units.Literal (negsuc 4)) ∷ [] }) ≡ 5
   pub times_nothing :
-      term_bound (record { factors = times 0 units.Time ∷ plus (units.Sub 0 0 subs.Function) ∷ [] }) ≡ 1000000
-  pub update_time : term_bound (record { factors = times 3 (units.Sub 0 0 subs.UpdateTime) ∷ [] }) ≡ 3000000000000
+      term_bound (record { factors = times_factor 0 units.Time ∷ plus_factor (units.Sub 0 0 subs.Function) ∷ [] }) ≡ 1000000
+  pub update_time : term_bound (record { factors = times_factor 3 (units.Sub 0 0 subs.UpdateTime) ∷ [] }) ≡ 3000000000000
 
 pub record HasSizes : Type 0 where
   pub nodes_are : nodes sample ≡ 7
@@ -69,23 +69,23 @@ pub record HasSizes : Type 0 where
   pub nesting_is : nesting sample ≡ 1
   pub not_is_there : has_not sample ≡ true
 
-abbrev pub compared : ResolvedTree
-compared = Shape.Atom (atoms.Compare left ops.Le right)
+abbrev pub one_comparison : ResolvedTree
+one_comparison = Shape.Atom (atoms.Compare left ops.Le right)
 
 abbrev pub circle_of : ℤ → List ℕ → ResolvedTree
 circle_of radius vs = Shape.Atom (atoms.Sphere radius vs)
 
 -- so many times the largest tick, and so many thousandths
 abbrev pub clock_times : ℕ → ℕ → RTerm
-clock_times k n = record { factors = times k units.Time ∷ plus (units.Literal (pos n)) ∷ [] }
+clock_times k n = record { factors = times_factor k units.Time ∷ plus_factor (units.Literal (pos n)) ∷ [] }
 
 pub record IsRightByNumber : Type 0 where
   pub sample_is : is_formula 4 0 no_scope sample ≡ true
   pub a_variable_past_the_last : is_formula 3 0 no_scope sample ≡ false
   pub at_another_depth : is_formula 4 1 no_scope sample ≡ false
-  pub out_of_scope : is_formula 4 0 no_scope compared ≡ false
+  pub out_of_scope : is_formula 4 0 no_scope one_comparison ≡ false
   pub atom_alone : is_atom 4 (with_bound no_scope 0 1000000000) (atoms.Compare left ops.Le right) ≡ true
-  pub with_another_bound : is_formula 4 0 no_scope (Shape.Assign (0, right) compared) ≡ false
+  pub with_another_bound : is_formula 4 0 no_scope (Shape.Assign (0, right) one_comparison) ≡ false
   pub a_third_assignment :
       is_formula 1 0 no_scope
       (Shape.Assign (0, right) (Shape.Assign (1, right) (Shape.Assign (2, right) (Shape.Truth true)))) ≡ false

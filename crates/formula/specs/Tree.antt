@@ -33,5 +33,5 @@ formula_view (formulas.Until' form ticks p f q g) = Shape.Until form ticks (form
 formula_view (formulas.Assign' depth term p f) = Shape.Assign (depth, term) (formula_view f)
 
 -- the tree of a query of the program
-abbrev pub query_view : RQuery → ResolvedQuery
-query_view q = record { targets = q.targets; classes = q.classes; formula = formula_view q.formula }
+abbrev pub resolved_view : RQuery → ResolvedQuery
+resolved_view q = record { targets = q.targets; classes = q.classes; formula = formula_view q.formula }

@@ -3,7 +3,7 @@
 ghost use Rattle.std.specs.Prelude.{◌≡◌, ◌==◌, ◌<◌, ◌||◌, false, ℕ};
 ghost use Rattle.std.specs.List.{list_any};
 ghost use Rattle.formula.specs.Tree.{formula_view};
-ghost use Rattle.formula.specs.VarSet.{has};
+ghost use Rattle.formula.specs.VarSet.{set_has};
 ghost use Rattle.formula.specs.Variables.{atom_has, has_variable, term_has, unit_has, variables_in};
 
 use crate::{RAtom, RFormula, RSigned, RTerm, RUnit};
@@ -19,14 +19,14 @@ impl VarSet {
     /// Whether the variable is in the set; it isn't where it is past the fourth.
     #[inline]
     pub fn has(self, v: u8) -> bool
-        ensures { result ≡ has self v }
+        ensures { result ≡ set_has self v }
     {
         self.members.get(v as usize).copied().unwrap_or(false)
     }
 
     /// The variables of the set, ascending, each once.
     pub fn list(self) -> &'static [u8]
-        ensures { result.now ≡ variables_in (has self) }
+        ensures { result.now ≡ variables_in (set_has self) }
     {
         match (self.has(0), self.has(1), self.has(2), self.has(3)) {
             (false, false, false, false) => &[],
@@ -51,7 +51,7 @@ impl VarSet {
     // No variable.
     #[inline]
     fn none() -> VarSet
-        ensures { (v : ℕ) → has result v ≡ false }
+        ensures { (v : ℕ) → set_has result v ≡ false }
     {
         VarSet {
             members: [false; OBJECT_LIMIT],
@@ -61,7 +61,7 @@ impl VarSet {
     // One variable; none where it is past the fourth.
     #[inline]
     fn one(object: u8) -> VarSet
-        ensures { (v : ℕ) → v < OBJECT_LIMIT → has result v ≡ (object == v) }
+        ensures { (v : ℕ) → v < OBJECT_LIMIT → set_has result v ≡ (object == v) }
     {
         VarSet {
             members: [object == 0, object == 1, object == 2, object == 3],
@@ -71,7 +71,7 @@ impl VarSet {
     // The variables of either.
     #[inline]
     fn union(self, other: VarSet) -> VarSet
-        ensures { (v : ℕ) → has result v ≡ (has self v || has other v) }
+        ensures { (v : ℕ) → set_has result v ≡ (set_has self v || set_has other v) }
     {
         let [a, b, c, d] = self.members;
         let [k, l, m, n] = other.members;
@@ -83,7 +83,7 @@ impl VarSet {
 
 // The variable of a factor, if it has one.
 fn free_in_unit(unit: &RUnit) -> VarSet
-    ensures { (v : ℕ) → v < OBJECT_LIMIT → has result v ≡ unit_has v unit.now }
+    ensures { (v : ℕ) → v < OBJECT_LIMIT → set_has result v ≡ unit_has v unit.now }
 {
     match unit {
         RUnit::Attr(object, _, _) | RUnit::Sub(object, _, _) => VarSet::one(*object),
@@ -93,7 +93,7 @@ fn free_in_unit(unit: &RUnit) -> VarSet
 
 // The variables of these factors.
 fn free_in_factors(factors: &[RSigned]) -> VarSet
-    ensures { (v : ℕ) → v < OBJECT_LIMIT → has result v ≡ list_any (λ s. unit_has v s.unit) factors.now }
+    ensures { (v : ℕ) → v < OBJECT_LIMIT → set_has result v ≡ list_any (λ s. unit_has v s.unit) factors.now }
 {
     match factors.split_first() {
         Some((factor, later)) => free_in_unit(&factor.unit).union(free_in_factors(later)),
@@ -103,7 +103,7 @@ fn free_in_factors(factors: &[RSigned]) -> VarSet
 
 // These variables as a set.
 fn listed(objects: &[u8]) -> VarSet
-    ensures { (v : ℕ) → v < OBJECT_LIMIT → has result v ≡ list_any (λ o. o == v) objects.now }
+    ensures { (v : ℕ) → v < OBJECT_LIMIT → set_has result v ≡ list_any (λ o. o == v) objects.now }
 {
     match objects.split_first() {
         Some((object, later)) => VarSet::one(*object).union(listed(later)),
@@ -113,7 +113,7 @@ fn listed(objects: &[u8]) -> VarSet
 
 /// The object variables of an atom. Takes no memory.
 pub fn free_in_atom(atom: &RAtom) -> VarSet
-    ensures { (v : ℕ) → v < OBJECT_LIMIT → has result v ≡ atom_has v atom.now }
+    ensures { (v : ℕ) → v < OBJECT_LIMIT → set_has result v ≡ atom_has v atom.now }
 {
     match atom {
         RAtom::Compare(left, _, right) => free_in_term(left).union(free_in_term(right)),
@@ -125,7 +125,7 @@ pub fn free_in_atom(atom: &RAtom) -> VarSet
 
 /// The object variables of a formula, by one walk over it. Takes no memory.
 pub fn free(f: &RFormula) -> VarSet
-    ensures { (v : ℕ) → v < OBJECT_LIMIT → has result v ≡ has_variable v (formula_view f.now) }
+    ensures { (v : ℕ) → v < OBJECT_LIMIT → set_has result v ≡ has_variable v (formula_view f.now) }
 {
     match f {
         RFormula::Truth(_) => VarSet::none(),
@@ -144,7 +144,7 @@ pub fn free(f: &RFormula) -> VarSet
 
 /// The object variables of a term. Takes no memory.
 pub fn free_in_term(term: &RTerm) -> VarSet
-    ensures { (v : ℕ) → v < OBJECT_LIMIT → has result v ≡ term_has v term.now }
+    ensures { (v : ℕ) → v < OBJECT_LIMIT → set_has result v ≡ term_has v term.now }
 {
     free_in_factors(term.factors.items())
 }

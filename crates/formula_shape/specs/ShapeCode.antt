@@ -20,18 +20,18 @@ pub data Node (A B : Type 0) : Type 0 where
   until : UntilForm → ℕ → Node A B
   assign : B → Node A B
 
-abbrev pub listed : {A B : Type 0} → Shape A B → List (Node A B)
-listed (Shape.Truth b) = truth b ∷ []
-listed (Shape.Atom a) = atom a ∷ []
-listed (Shape.Not f) = listed f ++ not ∷ []
-listed (Shape.And f g) = listed f ++ (listed g ++ and ∷ [])
-listed (Shape.Or f g) = listed f ++ (listed g ++ or ∷ [])
-listed (Shape.Next f) = listed f ++ next ∷ []
-listed (Shape.Eventually f) = listed f ++ eventually ∷ []
-listed (Shape.Always f) = listed f ++ always ∷ []
-listed (Shape.Bounded form ticks f) = listed f ++ bounded form ticks ∷ []
-listed (Shape.Until form ticks f g) = listed f ++ (listed g ++ until form ticks ∷ [])
-listed (Shape.Assign b f) = listed f ++ assign b ∷ []
+abbrev pub nodes_of : {A B : Type 0} → Shape A B → List (Node A B)
+nodes_of (Shape.Truth b) = truth b ∷ []
+nodes_of (Shape.Atom a) = atom a ∷ []
+nodes_of (Shape.Not f) = nodes_of f ++ not ∷ []
+nodes_of (Shape.And f g) = nodes_of f ++ (nodes_of g ++ and ∷ [])
+nodes_of (Shape.Or f g) = nodes_of f ++ (nodes_of g ++ or ∷ [])
+nodes_of (Shape.Next f) = nodes_of f ++ next ∷ []
+nodes_of (Shape.Eventually f) = nodes_of f ++ eventually ∷ []
+nodes_of (Shape.Always f) = nodes_of f ++ always ∷ []
+nodes_of (Shape.Bounded form ticks f) = nodes_of f ++ bounded form ticks ∷ []
+nodes_of (Shape.Until form ticks f g) = nodes_of f ++ (nodes_of g ++ until form ticks ∷ [])
+nodes_of (Shape.Assign b f) = nodes_of f ++ assign b ∷ []
 
 -- a node over the trees that wait, the last one first
 abbrev pub placed : {A B : Type 0} → Node A B → List (Shape A B) → List (Shape A B)
@@ -72,34 +72,34 @@ join_two ms ns n later s t u d e =
     ∙ e
 
 -- the nodes of a tree build it, whatever waits and comes after
-pub built-listed : {A B : Type 0} (f : Shape A B) (later : List (Node A B)) (s : List (Shape A B)) →
-    built (listed f ++ later) s ≡ built later (f ∷ s)
-built-listed (Shape.Truth b) later s = refl
-built-listed (Shape.Atom a) later s = refl
-built-listed (Shape.Not f) later s = join (listed f) not later s (f ∷ s) (built-listed f (not ∷ later) s)
-built-listed (Shape.And f g) later s =
-    join_two (listed f) (listed g) and later s (f ∷ s) (g ∷ f ∷ s)
-    (built-listed f (listed g ++ (and ∷ later)) s) (built-listed g (and ∷ later) (f ∷ s))
-built-listed (Shape.Or f g) later s =
-    join_two (listed f) (listed g) or later s (f ∷ s) (g ∷ f ∷ s)
-    (built-listed f (listed g ++ (or ∷ later)) s) (built-listed g (or ∷ later) (f ∷ s))
-built-listed (Shape.Next f) later s = join (listed f) next later s (f ∷ s) (built-listed f (next ∷ later) s)
-built-listed (Shape.Eventually f) later s =
-    join (listed f) eventually later s (f ∷ s) (built-listed f (eventually ∷ later) s)
-built-listed (Shape.Always f) later s = join (listed f) always later s (f ∷ s) (built-listed f (always ∷ later) s)
-built-listed (Shape.Bounded form ticks f) later s =
-    join (listed f) (bounded form ticks) later s (f ∷ s) (built-listed f (bounded form ticks ∷ later) s)
-built-listed (Shape.Until form ticks f g) later s =
-    join_two (listed f) (listed g) (until form ticks) later s (f ∷ s) (g ∷ f ∷ s)
-    (built-listed f (listed g ++ (until form ticks ∷ later)) s) (built-listed g (until form ticks ∷ later) (f ∷ s))
-built-listed (Shape.Assign b f) later s =
-    join (listed f) (assign b) later s (f ∷ s) (built-listed f (assign b ∷ later) s)
+pub built-nodes : {A B : Type 0} (f : Shape A B) (later : List (Node A B)) (s : List (Shape A B)) →
+    built (nodes_of f ++ later) s ≡ built later (f ∷ s)
+built-nodes (Shape.Truth b) later s = refl
+built-nodes (Shape.Atom a) later s = refl
+built-nodes (Shape.Not f) later s = join (nodes_of f) not later s (f ∷ s) (built-nodes f (not ∷ later) s)
+built-nodes (Shape.And f g) later s =
+    join_two (nodes_of f) (nodes_of g) and later s (f ∷ s) (g ∷ f ∷ s)
+    (built-nodes f (nodes_of g ++ (and ∷ later)) s) (built-nodes g (and ∷ later) (f ∷ s))
+built-nodes (Shape.Or f g) later s =
+    join_two (nodes_of f) (nodes_of g) or later s (f ∷ s) (g ∷ f ∷ s)
+    (built-nodes f (nodes_of g ++ (or ∷ later)) s) (built-nodes g (or ∷ later) (f ∷ s))
+built-nodes (Shape.Next f) later s = join (nodes_of f) next later s (f ∷ s) (built-nodes f (next ∷ later) s)
+built-nodes (Shape.Eventually f) later s =
+    join (nodes_of f) eventually later s (f ∷ s) (built-nodes f (eventually ∷ later) s)
+built-nodes (Shape.Always f) later s = join (nodes_of f) always later s (f ∷ s) (built-nodes f (always ∷ later) s)
+built-nodes (Shape.Bounded form ticks f) later s =
+    join (nodes_of f) (bounded form ticks) later s (f ∷ s) (built-nodes f (bounded form ticks ∷ later) s)
+built-nodes (Shape.Until form ticks f g) later s =
+    join_two (nodes_of f) (nodes_of g) (until form ticks) later s (f ∷ s) (g ∷ f ∷ s)
+    (built-nodes f (nodes_of g ++ (until form ticks ∷ later)) s) (built-nodes g (until form ticks ∷ later) (f ∷ s))
+built-nodes (Shape.Assign b f) later s =
+    join (nodes_of f) (assign b) later s (f ∷ s) (built-nodes f (assign b ∷ later) s)
 
 abbrev pub shape_of : {A B : Type 0} → List (Node A B) → Shape A B
 shape_of nodes = first_of (built nodes [])
 
-pub shape_of-listed : {A B : Type 0} (f : Shape A B) → shape_of (listed f) ≡ f
-shape_of-listed f = ap (λ ns. first_of (built ns [])) (sym (append-nil (listed f))) ∙ ap first_of (built-listed f [] [])
+pub shape_of-listed : {A B : Type 0} (f : Shape A B) → shape_of (nodes_of f) ≡ f
+shape_of-listed f = ap (λ ns. first_of (built ns [])) (sym (append-nil (nodes_of f))) ∙ ap first_of (built-nodes f [] [])
 
 abbrev pub shape_code : {A B : Type 0} → Coded (List (Node A B)) → Coded (Shape A B)
-shape_code {A} {B} c = code_by (List (Node A B)) c listed shape_of shape_of-listed
+shape_code {A} {B} c = code_by (List (Node A B)) c nodes_of shape_of shape_of-listed

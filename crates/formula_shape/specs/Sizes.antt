@@ -58,8 +58,8 @@ has_part in_atom in_bound = fold_shape (record {
 })
 
 -- the largest size of an atom or of what an assignment binds, 0 where there is none
-abbrev pub largest : {A B : Type 0} → (A → ℕ) → (B → ℕ) → Shape A B → ℕ
-largest of_atom of_bound = fold_shape (record {
+abbrev pub largest_size : {A B : Type 0} → (A → ℕ) → (B → ℕ) → Shape A B → ℕ
+largest_size of_atom of_bound = fold_shape (record {
   truth = λ _. 0;
   atom = of_atom;
   negation = λ n. n;

@@ -6,9 +6,9 @@
 mod limits;
 
 ghost use Rattle.std.specs.Prelude.{◌≡◌, ◌^◌, ◌↔◌, Bool, false};
-ghost use Rattle.formula_shape.specs.Example.{IsGathered, IsMeasured};
+ghost use Rattle.formula_shape.specs.Example.{ArePartsGathered, IsMeasured};
 ghost use Rattle.formula_shape.specs.Shape.{Shape, fold_types};
-ghost use Rattle.formula_shape.specs.ShapeCode.{listed, shape_of};
+ghost use Rattle.formula_shape.specs.ShapeCode.{nodes_of, shape_of};
 ghost use Rattle.formula_shape.specs.Sizes.{has_part};
 
 pub use limits::{DEPTH_LIMIT, FACTOR_LIMIT, NESTING_LIMIT, NODE_LIMIT, OBJECT_LIMIT, TIMES_LIMIT};
@@ -31,7 +31,7 @@ pub fn a_small_formula_is_measured()
 /// What is said of atoms and assignments together goes through all of them, in the order in which a
 /// formula is written.
 pub fn a_small_formula_is_gone_through()
-    ensures { IsGathered }
+    ensures { ArePartsGathered }
 {}
 
 /// No part of a formula passes exactly where each atom fails, and what each assignment binds.
@@ -42,5 +42,5 @@ pub fn no_part_passes_where_each_fails<A, B>()
 
 /// The list of the nodes of a formula gives the formula back.
 pub fn nodes_give_the_formula_back<A, B>()
-    ensures { (f : Shape A B) → shape_of (listed f) ≡ f }
+    ensures { (f : Shape A B) → shape_of (nodes_of f) ≡ f }
 {}

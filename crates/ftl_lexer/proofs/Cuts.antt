@@ -8,7 +8,7 @@ use Rattle.std.proofs.lemmas.List.{drop-drop}
 use Rattle.ftl_lexer.specs.declared.kinds.Kind.{Kind}
 use Rattle.ftl_lexer.specs.declared.kinds.Token.{Token}
 use Rattle.ftl_lexer.specs.Forms.{is_blank, token_at}
-use Rattle.ftl_lexer.specs.Tokens.{lexed, before, bad_place, bytes_of_token, lexemes}
+use Rattle.ftl_lexer.specs.Tokens.{lexed, with_first_token, bad_place, bytes_of_token, lexemes}
 use Rattle.ftl_lexer.specs.Cut.{Lexeme, cut}
 
 -- a token of a line without its place
@@ -17,7 +17,7 @@ bare line t = (t.kind, bytes_of_token line t)
 
 cut_before : (line : List ℕ) (token : Token) (rest : Result (List Token) ℕ)
     → option_map (λ later. bare line token ∷ later) (option_map (map (bare line)) (result_ok rest))
-    ≡ option_map (map (bare line)) (result_ok (before token rest))
+    ≡ option_map (map (bare line)) (result_ok (with_first_token token rest))
 cut_before line token (Ok tokens) = refl
 cut_before line token (Err place) = refl
 
@@ -25,7 +25,7 @@ cut_token : (line : List ℕ) (place b : ℕ) (bytes : List ℕ) (found : Option
     ≡ found → ((n : ℕ) → cut n bytes ≡ option_map (map (bare line)) (result_ok (lexed n (place + 1) bytes)))
     → option_and_then (λ t. option_map (λ rest. (t.0, take t.1 (b ∷ bytes)) ∷ rest) (cut (t.1 - 1) bytes)) found
     ≡ option_map (map (bare line)) (result_ok (option_map_or
-    (λ t. before (record { kind = t.0; lo = place; hi = place + t.1 }) (lexed (t.1 - 1) (place + 1) bytes)) found (Err place)))
+    (λ t. with_first_token (record { kind = t.0; lo = place; hi = place + t.1 }) (lexed (t.1 - 1) (place + 1) bytes)) found (Err place)))
 cut_token line place b bytes None e h behind = refl
 cut_token line place b bytes (Some t) e h behind =
     let token : Token = record { kind = t.0; lo = place; hi = place + t.1 } in

@@ -19,7 +19,7 @@ use Rattle.ftl_lexer.specs.declared.kinds.Kind.TheVariants.{Name, Number, Text, 
 use Rattle.ftl_lexer.specs.declared.kinds.Token.{Token}
 use Rattle.ftl_lexer.specs.Forms.{is_blank, begins_name, continues_name, is_quote, name_len, digits_len, fraction_len, number_len, text_len, single_symbol, symbol_at, token_at}
 use Rattle.ftl_lexer.specs.Cut.{is_word, is_number, IsQuoted, HasForm}
-use Rattle.ftl_lexer.specs.Tokens.{lexed, before, tokens_of, bad_place}
+use Rattle.ftl_lexer.specs.Tokens.{lexed, with_first_token, tokens_of, bad_place}
 use Rattle.ftl_lexer.specs.Laws.{IsLongest, AreTokens}
 use Rattle.ftl_lexer.proofs.Steps.{none_is_some, then_part, else_part, len_is, begins_continues, token_at_within}
 use Rattle.ftl_lexer.proofs.Shapes.{prefix_len_take, tokens_have_forms}
@@ -211,13 +211,13 @@ abbrev BeginThere : List ℕ → List Token → Type 0
 BeginThere line = AllByRecursion (λ t. token_at (drop t.lo line) ≡ Some (t.kind, t.hi - t.lo))
 
 begin_before : (line : List ℕ) (token : Token) (rest : Result (List Token) ℕ) → token_at (drop token.lo line)
-    ≡ Some (token.kind, token.hi - token.lo) → BeginThere line (kept rest) → BeginThere line (kept (before token rest))
+    ≡ Some (token.kind, token.hi - token.lo) → BeginThere line (kept rest) → BeginThere line (kept (with_first_token token rest))
 begin_before line token (Ok tokens) here later = (here, later)
 begin_before line token (Err place) here later = tt
 
 begin_token : (line : List ℕ) (place b : ℕ) (bytes : List ℕ) (found : Option (Kind × ℕ)) → b ∷ bytes ≡ drop place line
     → token_at (b ∷ bytes) ≡ found → ((n : ℕ) → BeginThere line (kept (lexed n (place + 1) bytes)))
-    → BeginThere line (kept (option_map_or (λ t. before (record { kind = t.0; lo = place; hi = place + t.1 })
+    → BeginThere line (kept (option_map_or (λ t. with_first_token (record { kind = t.0; lo = place; hi = place + t.1 })
     (lexed (t.1 - 1) (place + 1) bytes)) found (Err place)))
 begin_token line place b bytes None e h behind = tt
 begin_token line place b bytes (Some t) e h behind =

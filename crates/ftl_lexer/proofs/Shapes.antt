@@ -15,7 +15,7 @@ use Rattle.ftl_lexer.specs.Forms.{is_blank, begins_name, continues_name, is_quot
 use Rattle.ftl_lexer.specs.Cut.{Lexeme, cut, is_word, is_number, IsQuoted, HasForm}
 use Rattle.ftl_lexer.specs.Laws.{HaveForms}
 use Rattle.ftl_lexer.specs.declared.kinds.Token.{Token}
-use Rattle.ftl_lexer.specs.Tokens.{lexed, lexemes, tokens_of, texts_of, bytes_of_token}
+use Rattle.ftl_lexer.specs.Tokens.{lexed, lexemes, tokens_of, texts_of_tokens, bytes_of_token}
 use Rattle.std.proofs.lemmas.Option.{slice_get-map}
 use Rattle.ftl_lexer.proofs.Cuts.{bare, cut_is}
 use Rattle.std.specs.Result.{result_ok, result_unwrap_or}
@@ -196,7 +196,7 @@ form_at (x ∷ all) zero l f h = subst (λ (u : Lexeme). HasForm u.0 u.1) (some_
 form_at (x ∷ all) (suc i) l f h = form_at all i l f.1 h
 
 pub lexeme_form : (line : List ℕ) (i : ℕ) (token : Token) (text : List ℕ) → slice_get (tokens_of line) i ≡ Some token
-    → slice_get (texts_of line) i ≡ Some text → HasForm token.kind text
+    → slice_get (texts_of_tokens line) i ≡ Some text → HasForm token.kind text
 lexeme_form line i token text found bytes =
     let same : bytes_of_token line token ≡ text =
     some_is (ap (option_map (bytes_of_token line)) (sym found) ∙ (sym (slice_get-map (bytes_of_token line) (tokens_of line) i) ∙ bytes)) in

@@ -10,7 +10,7 @@ use Rattle.ftl_lexer.specs.declared.kinds.Kind.{Kind}
 use Rattle.ftl_lexer.specs.declared.kinds.Token.{Token}
 use Rattle.ftl_lexer.specs.Forms.{is_blank, token_at}
 use Rattle.ftl_lexer.specs.Laws.{SpansAscend, AreBlanks, GapsAreBlank}
-use Rattle.ftl_lexer.specs.Tokens.{lexed, before, tokens_of, bad_place, texts_of, bytes_of_token}
+use Rattle.ftl_lexer.specs.Tokens.{lexed, with_first_token, tokens_of, bad_place, texts_of_tokens, bytes_of_token}
 use Rattle.ftl_lexer.proofs.Steps.{token_at_within}
 
 abbrev kept : Result (List Token) ℕ → List Token
@@ -22,14 +22,14 @@ ascend_from low from end [] h s = tt
 ascend_from low from end (t ∷ tokens) h s = (omega (arith, s.0), s.1, s.2, s.3)
 
 ascend_before : (end : ℕ) (token : Token) (rest : Result (List Token) ℕ) (low : ℕ) → low ≤ token.lo → token.lo < token.hi → token.hi ≤ end
-    → SpansAscend token.hi end (kept rest) → SpansAscend low end (kept (before token rest))
+    → SpansAscend token.hi end (kept rest) → SpansAscend low end (kept (with_first_token token rest))
 ascend_before end token (Ok tokens) low a b c s = (a, b, c, s)
 ascend_before end token (Err place) low a b c s = tt
 
 -- a token, before those after it
 ascend_token : (end place b : ℕ) (bytes : List ℕ) (found : Option (Kind × ℕ)) → place + suc (length bytes) ≡ end → token_at (b ∷ bytes)
     ≡ found → ((n : ℕ) → n ≤ length bytes → SpansAscend (place + 1 + n) end (kept (lexed n (place + 1) bytes)))
-    → SpansAscend place end (kept (option_map_or (λ t. before (record { kind = t.0; lo = place; hi = place + t.1 })
+    → SpansAscend place end (kept (option_map_or (λ t. with_first_token (record { kind = t.0; lo = place; hi = place + t.1 })
     (lexed (t.1 - 1) (place + 1) bytes)) found (Err place)))
 ascend_token end place b bytes None e h behind = tt
 ascend_token end place b bytes (Some t) e h behind =
@@ -97,13 +97,13 @@ gaps_after_blank : (line bytes : List ℕ) (place b : ℕ) (rest : Result (List 
 gaps_after_blank line bytes place b (Ok tokens) e blank within spans gaps = gaps_from line bytes place b tokens e blank within spans gaps
 gaps_after_blank line bytes place b (Err bad) e blank within spans gaps = tt
 
-gaps_before : (line : List ℕ) (token : Token) (rest : Result (List Token) ℕ) → GapsIn line token.hi rest → GapsIn line token.lo (before token rest)
+gaps_before : (line : List ℕ) (token : Token) (rest : Result (List Token) ℕ) → GapsIn line token.hi rest → GapsIn line token.lo (with_first_token token rest)
 gaps_before line token (Ok tokens) gaps = (nothing_between line token.lo, gaps)
 gaps_before line token (Err place) gaps = tt
 
 gaps_token : (line : List ℕ) (place b : ℕ) (bytes : List ℕ) (found : Option (Kind × ℕ)) → token_at (b ∷ bytes) ≡ found
     → ((n : ℕ) → n ≤ length bytes → GapsIn line (place + 1 + n) (lexed n (place + 1) bytes))
-    → GapsIn line place (option_map_or (λ t. before (record { kind = t.0; lo = place; hi = place + t.1 })
+    → GapsIn line place (option_map_or (λ t. with_first_token (record { kind = t.0; lo = place; hi = place + t.1 })
     (lexed (t.1 - 1) (place + 1) bytes)) found (Err place))
 gaps_token line place b bytes None h behind = tt
 gaps_token line place b bytes (Some t) h behind =
@@ -179,7 +179,7 @@ stored_span line stored i token e t h =
     subst (λ x. (x.lo ≤ x.hi) × (x.hi ≤ length line)) (sym same) (omega (arith, span.0), span.1)
 
 pub stored_text : (line : List ℕ) (stored : List Token) (i : ℕ) (token : Token) → stored ≡ tokens_of line → token ≡ get_or stored i token
-    → i < length (tokens_of line) → slice_get (texts_of line) i ≡ Some (bytes_of_token line token)
+    → i < length (tokens_of line) → slice_get (texts_of_tokens line) i ≡ Some (bytes_of_token line token)
 stored_text line stored i token e t h =
     let same : token ≡ get_or (tokens_of line) i token = t ∙ ap (λ tokens. get_or tokens i token) e in
     slice_get_map (bytes_of_token line) (tokens_of line) i token h ∙ ap (λ x. Some (bytes_of_token line x)) (sym same)

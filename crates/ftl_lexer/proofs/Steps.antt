@@ -17,7 +17,7 @@ use Rattle.ftl_lexer.specs.declared.kinds.Kind.{Kind}
 use Rattle.ftl_lexer.specs.declared.kinds.Kind.TheVariants.{Number, Text, Sym}
 use Rattle.ftl_lexer.specs.declared.kinds.Token.{Token}
 use Rattle.ftl_lexer.specs.Forms.{is_blank, begins_name, continues_name, is_quote, name_len, digits_len, fraction_len, number_len, text_len, single_symbol, symbol_at, token_at}
-use Rattle.ftl_lexer.specs.Tokens.{lexed, before, tokens_of, bad_place}
+use Rattle.ftl_lexer.specs.Tokens.{lexed, with_first_token, tokens_of, bad_place}
 
 -- ---- what a token's kind and length are
 
@@ -194,14 +194,14 @@ after first (Err place) = Err place
 
 -- a token stands before those after it
 pub lexed_token : (place : ℕ) (bytes : List ℕ) (kind : Kind) (len : ℕ) → 0 < length bytes → prefix_len is_blank bytes ≡ 0 → token_at bytes
-    ≡ Some (kind, len) → lexed 0 place bytes ≡ before (record { kind = kind; lo = place; hi = place + len })
+    ≡ Some (kind, len) → lexed 0 place bytes ≡ with_first_token (record { kind = kind; lo = place; hi = place + len })
     (lexed 0 (place + len) (drop len bytes))
 unfolding lexed
 lexed_token place [] kind len full front h = absurd (omega arith)
 lexed_token place (b ∷ bytes) kind len full front h =
     let other = front_is_no_blank b bytes front in
     let within = token_at_within (b ∷ bytes) kind len h in
-    rw (other, h) (ap (before (record { kind = kind; lo = place; hi = place + len })) (behind place b bytes len within.0 within.1))
+    rw (other, h) (ap (with_first_token (record { kind = kind; lo = place; hi = place + len })) (behind place b bytes len within.0 within.1))
 
 pub lexed_bad : (place : ℕ) (bytes : List ℕ) → 0 < length bytes → prefix_len is_blank bytes ≡ 0 → token_at bytes ≡ None → lexed 0 place bytes ≡ Err place
 unfolding lexed
@@ -233,7 +233,7 @@ step_within line at kind len h found =
 
 pub step_token : (line : List ℕ) (from blanks : ℕ) (kind : Kind) (len : ℕ) → blanks ≡ prefix_len is_blank (drop from line)
     → from + blanks < length line → token_at (drop (from + blanks) line) ≡ Some (kind, len) → lexed 0 from (drop from line)
-    ≡ before (record { kind = kind; lo = from + blanks; hi = from + blanks + len })
+    ≡ with_first_token (record { kind = kind; lo = from + blanks; hi = from + blanks + len })
     (lexed 0 (from + blanks + len) (drop (from + blanks + len) line))
 step_token line from blanks kind len e h found =
     let within = step_within line (from + blanks) kind len (omega arith) found in
@@ -241,7 +241,7 @@ step_token line from blanks kind len e h found =
     ∙ (ap (λ n. lexed 0 (from + n) (drop n (drop from line))) (sym e)
     ∙ (ap (lexed 0 (from + blanks)) (drop-drop blanks from line)
     ∙ (lexed_token (from + blanks) (drop (from + blanks) line) kind len (rest_full line (from + blanks) h) (rest_front line from blanks e) found
-    ∙ ap (λ rest. before (record { kind = kind; lo = from + blanks; hi = from + blanks + len }) (lexed 0 (from + blanks + len) rest))
+    ∙ ap (λ rest. with_first_token (record { kind = kind; lo = from + blanks; hi = from + blanks + len }) (lexed 0 (from + blanks + len) rest))
     (drop-drop len (from + blanks) line))))
 
 pub step_bad : (line : List ℕ) (from blanks : ℕ) → blanks ≡ prefix_len is_blank (drop from line) → from + blanks < length line

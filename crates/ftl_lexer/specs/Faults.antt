@@ -5,9 +5,9 @@ use Rattle.ftl_lexer.specs.declared.fault.LexFault.TheVariants.{BadToken, NoMemo
 use Rattle.ftl_lexer.specs.Tokens.{bad_place}
 
 -- the first place at which no token begins; want of memory is told only where there is none, and of no empty line
-abbrev pub Explains : List ℕ → LexFault → Type 0
-Explains line (BadToken place) = bad_place line ≡ Some place
-Explains line NoMemory = (bad_place line ≡ None) × (0 < length line)
+abbrev pub ExplainsBytes : List ℕ → LexFault → Type 0
+ExplainsBytes line (BadToken place) = bad_place line ≡ Some place
+ExplainsBytes line NoMemory = (bad_place line ≡ None) × (0 < length line)
 
 -- the empty line after a bad token, and after want of memory what stood before
 abbrev pub StandsAfter : List ℕ → List ℕ → LexFault → Type 0

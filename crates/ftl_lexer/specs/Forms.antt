@@ -12,6 +12,10 @@ use Rattle.ftl_lexer.specs.declared.kinds.Kind.TheVariants.{Name, Number, Text, 
 abbrev pub is_blank : ℕ → Bool
 is_blank b = b == 32 || b == 9
 
+-- what stands after the spaces and tabs at the front
+abbrev pub after_blanks : List ℕ → List ℕ
+after_blanks line = drop (prefix_len is_blank line) line
+
 -- a letter or `_`
 abbrev pub begins_name : ℕ → Bool
 begins_name b = is_ascii_alphabetic b || b == 95

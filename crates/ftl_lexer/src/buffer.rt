@@ -1,9 +1,9 @@
 //! The tokens of a line, kept with the line.
 
 ghost use Rattle.std.specs.Prelude.{◌≡◌, ℕ, ◌≤◌, ◌<◌, ◌+◌, [], Err, length, vec_len, vec_capacity, OnOk, OnErr, IfErr, IsTrue, ◌↔◌, slice_get, slice_range, option_map, IfSome};
-ghost use Rattle.ftl_lexer.specs.Tokens.{bad_place, tokens_of, texts_of, lexemes};
+ghost use Rattle.ftl_lexer.specs.Tokens.{bad_place, tokens_of, texts_of_tokens, lexemes};
 ghost use Rattle.ftl_lexer.specs.Cut.{HasForm};
-ghost use Rattle.ftl_lexer.specs.Faults.{Explains, StandsAfter};
+ghost use Rattle.ftl_lexer.specs.Faults.{ExplainsBytes, StandsAfter};
 ghost use Rattle.ftl_lexer.specs.inner.Room.{room_of, HoldLine, BuffersStandAfter};
 ghost use Rattle.ftl_lexer.specs.declared.fault.LexFault.TheVariants.{NoMemory};
 
@@ -59,7 +59,7 @@ fn make_room(line: &mut Vec<u8>, tokens: &mut Vec<Token>, len: usize) -> Result<
 fn read_into(held: &mut Vec<u8>, tokens: &mut Vec<Token>, line: &[u8]) -> Result<(), LexFault>
     requires { length line.now ≤ LEXER_LIMIT }
     ensures ok { OnOk result (HoldLine line.now held.new tokens.new) }
-    ensures cause { IfErr result (Explains line.now) }
+    ensures cause { IfErr result (ExplainsBytes line.now) }
     ensures stands { IfErr result (BuffersStandAfter held.old tokens.old held.new tokens.new) }
     ensures room { result ≡ Err NoMemory → room_of held.old tokens.old < length line.now }
 {
@@ -131,7 +131,7 @@ impl Tokens {
     pub fn read(&mut self, line: &[u8]) -> Result<(), LexFault>
         requires { length line.now ≤ LEXER_LIMIT }
         ensures ok { OnOk result ((self.new ≡ line.now) × (bad_place line.now ≡ None)) }
-        ensures cause { IfErr result (Explains line.now) }
+        ensures cause { IfErr result (ExplainsBytes line.now) }
         ensures stands { IfErr result (StandsAfter self.old self.new) }
 
         // A line that is no longer than the one it holds has room where that one stands.
@@ -172,7 +172,7 @@ impl Tokens {
     #[inline]
     pub fn text(&self, i: usize) -> &[u8]
         requires { i < length (tokens_of self.now) }
-        ensures { slice_get (texts_of self.now) i ≡ Some result.now }
+        ensures { slice_get (texts_of_tokens self.now) i ≡ Some result.now }
     {
         let token = self.tokens[i];
         part(&self.line, token.lo, token.hi)

@@ -2,7 +2,7 @@
 
 ghost use Rattle.std.specs.Prelude.{◌≡◌, ℕ, ◌≤◌, drop, length};
 ghost use Rattle.ftl_lexer.specs.Tokens.{bad_place};
-ghost use Rattle.ftl_lexer.specs.inner.Walk.{Follows};
+ghost use Rattle.ftl_lexer.specs.inner.Walk.{ComesNext};
 
 use crate::Kind;
 use crate::scan::{blank_len, token_at};
@@ -26,7 +26,7 @@ pub(crate) enum Step {
 #[inline(always)]
 pub(crate) fn next(line: &[u8], from: usize) -> Step
     requires { from ≤ length line.now }
-    ensures { Follows line.now from result }
+    ensures { ComesNext line.now from result }
 {
     let at = from + blank_len(rest_of(line, from));
     if at == line.len() {

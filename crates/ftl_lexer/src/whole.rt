@@ -1,7 +1,7 @@
 //! The tokens of one line.
 
 ghost use Rattle.std.specs.Prelude.{◌≡◌, ◌≤◌, length, IfOk, IfErr};
-ghost use Rattle.ftl_lexer.specs.Faults.{Explains};
+ghost use Rattle.ftl_lexer.specs.Faults.{ExplainsBytes};
 ghost use Rattle.ftl_lexer.specs.Tokens.{bad_place};
 ghost use Rattle.ftl_lexer.specs.declared.buffer.TheConstants.{LEXER_LIMIT};
 
@@ -14,7 +14,7 @@ use std::alloc::Global;
 pub fn tokens(alloc: Global, line: &[u8]) -> Result<Tokens, LexFault>
     requires { length line.now ≤ LEXER_LIMIT }
     ensures ok { IfOk result (λ t. (t ≡ line.now) × (bad_place line.now ≡ None)) }
-    ensures cause { IfErr result (Explains line.now) }
+    ensures cause { IfErr result (ExplainsBytes line.now) }
 {
     let mut tokens = Tokens::new(alloc);
     tokens.read(line)?;

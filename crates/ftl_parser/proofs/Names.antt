@@ -19,7 +19,7 @@ pub use Rattle.case_table.specs.Rows.{code_of}
 pub use Rattle.case_table.specs.declared.compare.Op.{Op}
 pub use Rattle.fixed_point.specs.Canonical.{three_digits, without_last_zeros}
 unfoldable pub use Rattle.fixed_point.specs.Canonical.{fix_text}
-pub use Rattle.fixed_point.specs.Decimal.{AreDigits, IsDecimal, decimals_value, point_text, thousandths_of, with_sign}
+pub use Rattle.fixed_point.specs.Decimal.{AreDigits, IsDecimal, decimals_text, decimals_value, thousandths_of, with_sign}
 pub use Rattle.fixed_point.specs.declared.number.TheConstants.{READ_LIMIT}
 pub use Rattle.fixed_point.specs.declared.short_text.TheConstants.{WORD_LIMIT}
 pub use Rattle.fixed_point.specs.declared.variants.BoundForm.{BoundForm}
@@ -36,16 +36,16 @@ unfoldable pub use Rattle.ftl_lexer.specs.Forms.{token_at}
 pub use Rattle.ftl_lexer.specs.Laws.{HaveForms, SpansAscend}
 pub use Rattle.ftl_lexer.specs.Tokens.{bad_place, bytes_of_token, lexemes, tokens_of}
 pub use Rattle.ftl_lexer.specs.declared.kinds.Kind.{Kind}
-pub use Rattle.ftl_parser.specs.Fault.{Begins, Explains, HasUnfit, IsStuckAt, IsToken, Reads}
-pub use Rattle.ftl_parser.specs.Grammar.{Level, Spells, SpellsAtom, SpellsFactor, SpellsNames, SpellsNum, SpellsParts, SpellsQuery, SpellsRef, SpellsTerm, SpellsUntil, atom_compare, atom_dist, atom_inside, atom_outside, atom_sphere, chain, chain_unary, chain_until, conj, conj_and, conj_chain, factor_number, factor_ref, factor_text, factor_times, formula, formula_conj, formula_or, from_part, names_more, names_one, num_minus, num_plain, parts_more, parts_one, prefixed, query, ref_attr, ref_name, ref_part, ref_time, signed, term_first, term_minus, term_minus_first, term_of, term_plus, unary, unary_assign, unary_atom, unary_bounded, unary_brackets, unary_prefix, unary_truth, until_after, until_plain, until_within}
-pub use Rattle.ftl_parser.specs.Lawful.{HasShape, IsAny, IsAtom, IsBound, IsFactor, IsFormula, IsLawful, IsMultiple, IsPart, IsPrintable, IsQuotable, IsRef, IsShortName, IsUnit, IsUnsigned, OneOrMore}
+pub use Rattle.ftl_parser.specs.Fault.{BeginsQuery, ExplainsTokens, HasUnfit, IsStuckAt, IsToken, ReadsQuery}
+pub use Rattle.ftl_parser.specs.Grammar.{Level, Spells, SpellsAtom, SpellsFactor, SpellsFromParts, SpellsNames, SpellsNum, SpellsQuery, SpellsRef, SpellsTerm, SpellsUntil, atom_compare, atom_dist, atom_inside, atom_outside, atom_sphere, chain, chain_unary, chain_until, conj, conj_and, conj_chain, factor_number, factor_ref, factor_text, factor_times, formula, formula_conj, formula_or, from_part, names_more, names_one, num_minus, num_plain, parts_more, parts_one, prefixed, query, ref_attr, ref_name, ref_part, ref_time, signed, term_first, term_minus, term_minus_first, term_of, term_plus, unary, unary_assign, unary_atom, unary_bounded, unary_brackets, unary_prefix, unary_truth, until_after, until_plain, until_within}
+pub use Rattle.ftl_parser.specs.Lawful.{AreUntilTicks, HasShape, IsAny, IsAtom, IsFactor, IsFormula, IsFromPart, IsLawful, IsMultiple, IsPrintableQuery, IsQuotable, IsRef, IsShortName, IsUnit, IsUnsigned, OneOrMore}
 pub use Rattle.ftl_parser.specs.Marks.{atom_marks, clear, factor_marks, first_unfit, marks, num_marks, query_marks, term_marks, unfit, until_marks}
-pub use Rattle.ftl_parser.specs.Number.{Literal, Radius, Times, fits, literal, radius, ticks, times, up_to, whole_of}
+pub use Rattle.ftl_parser.specs.Number.{Literal, Radius, Times, is_number_fit, literal, radius_of, ticks, times, up_to, whole_of}
 pub use Rattle.ftl_parser.specs.Piece.{AND, ARROW, BOUNDED, CLOSE, CLOSE_SQUARE, COMMA, COMPARISON, DIST, FROM, INSIDE, MINUS, NAME, NUMBER, OPEN, OPEN_SQUARE, OR, OUTSIDE, PART, PLUS, POINT, PREFIX, Piece, RETRIEVE, SPHERE, STAR, TEXT, TIME, TRUTH, UNTIL, WHERE, WORD, has_long, is_long, lexemes_from, piece_of, pieces, pieces_from, reserved, signs, unquoted}
 pub use Rattle.ftl_parser.specs.Sizes.{first_too_large}
-pub use Rattle.ftl_parser.specs.Text.{assign_text, atom_text, bound_text, bound_word, factors_text, first_sign, formula_text, in_brackets, later_factors, later_names, later_parts, later_sign, names_text, op_word, pair_text, part_text, parts_text, query_text, sub_word, times_text, truth_word, unit_text, until_text}
+pub use Rattle.ftl_parser.specs.Text.{assign_text, atom_text, bound_text, bound_word, factors_text, first_sign, formula_text, from_part_text, from_parts_text, in_brackets, later_factors, later_names, later_parts, later_sign, name_pair_text, names_text, op_word, query_text, sub_word, times_text, truth_word, unit_text, until_text}
 unfoldable pub use Rattle.ftl_parser.specs.Text.{prefix_text}
-pub use Rattle.ftl_parser.specs.TextLaws.{IsReadAs, PrintsShorterThanFourLines, PrintsShortly, PrintsWhatIsRead, ReadsAgain, ReadsOneQuery, ReadsWhatIsPrinted, TokensFit, bytes_of}
+pub use Rattle.ftl_parser.specs.TextLaws.{IsReadAs, PrintsQueryShortly, PrintsReadQuery, PrintsShorterThanFourLines, ReadsOneQuery, ReadsPrintedQuery, ReadsQueryAgain, TokensFit, token_bytes}
 pub use Rattle.ftl_parser.specs.Tree.{QueryTree, Tree}
 pub use Rattle.ftl_parser.specs.Words.{is_short, short_word}
 pub use Rattle.ftl_parser.specs.declared.fault.ParseFault.{ParseFault}
@@ -59,6 +59,6 @@ pub use Rattle.ftl_parser.specs.declared.state.TermPlace.{TermPlace}
 pub use Rattle.ftl_parser.specs.declared.tree.FromPart.{FromPart}
 pub use Rattle.ftl_parser.specs.declared.tree.Signed.{Signed}
 pub use Rattle.ftl_parser.specs.declared.tree.Term.{Term}
-pub use Rattle.ftl_parser.specs.inner.Machine.{AndWith, Arrow, Assigning, Body, BoundedBy, Bracket, Frame, Have, Heading, InSpatial, InTerm, OrWith, Phase, PrefixedBy, Reach, State, UntilWith, Variable, Want, Within, alone, behind, behind_factor, body_end, body_step, closed, compared, ended, factor_begun, factor_ended, filled, lengthened, longer_or, parsed, rank, reduced, reference, spatial_step, start, step, taken, term_ended, term_step, wanted, whole}
+pub use Rattle.ftl_parser.specs.inner.Machine.{AndWith, Arrow, Assigning, Body, BoundedBy, Bracket, Frame, Have, Heading, InSpatial, InTerm, OrWith, Phase, PrefixedBy, Reach, State, UntilWith, Variable, Want, Within, behind, behind_factor, body_end, body_step, closed, compared, ended_formula, ended_query, factor_begun, factor_ended, filled, lengthened, longer_or, parsed, precedence, reduced, reference, spatial_step, start, step_by_token, term_ended, term_step, tokens_taken, wanted, whole_factor}
 pub use Rattle.ftl_parser.specs.inner.Scan.{coming, first_from, mark, place_before, scan}
 pub use Rattle.ftl_parser.specs.inner.Views.{StaysBelow, spelled_view, stack_of}

@@ -16,7 +16,7 @@ use Rattle.ftl_parser.specs.Grammar.{from_part, term_of, signed, SpellsQuery, qu
 use Rattle.ftl_parser.specs.Number.{literal}
 use Rattle.ftl_parser.specs.Marks.{first_unfit}
 use Rattle.ftl_parser.specs.Sizes.{first_too_large}
-use Rattle.ftl_parser.specs.inner.Machine.{start, parsed, taken}
+use Rattle.ftl_parser.specs.inner.Machine.{start, parsed, tokens_taken}
 
 abbrev pub o : List ℕ
 o = codes "o"
@@ -32,62 +32,62 @@ abbrev pub asking : List Piece → List Piece
 asking tokens = RETRIEVE ∷ (NAME o ∷ []) ++ FROM ∷ (NAME c ∷ NAME o ∷ []) ++ WHERE ∷ tokens
 
 -- the query for o of c with this formula
-abbrev pub asked : Tree → QueryTree
-asked f = record { targets = o ∷ []; from = from_part c o ∷ []; formula = f }
+abbrev pub query_for_o : Tree → QueryTree
+query_for_o f = record { targets = o ∷ []; from = from_part c o ∷ []; formula = f }
 
-abbrev pub always : Tree
-always = Shape.Truth true
+abbrev pub true_formula : Tree
+true_formula = Shape.Truth true
 
-abbrev pub never : Tree
-never = Shape.Truth false
+abbrev pub false_formula : Tree
+false_formula = Shape.Truth false
 
 -- the trees of tokens after WHERE
 pub record ParsesSmallQueries : Type 0 where
   -- ((TRUE))
-  pub brackets : parsed start (asking (OPEN ∷ OPEN ∷ TRUTH true ∷ CLOSE ∷ CLOSE ∷ [])) ≡ Some (asked always)
+  pub brackets : parsed start (asking (OPEN ∷ OPEN ∷ TRUTH true ∷ CLOSE ∷ CLOSE ∷ [])) ≡ Some (query_for_o true_formula)
   -- TRUE OR FALSE AND TRUE
-  pub and_binds_more : parsed start (asking (TRUTH true ∷ OR ∷ TRUTH false ∷ AND ∷ TRUTH true ∷ [])) ≡ Some (asked (Shape.Or always (Shape.And never always)))
+  pub and_binds_more : parsed start (asking (TRUTH true ∷ OR ∷ TRUTH false ∷ AND ∷ TRUTH true ∷ [])) ≡ Some (query_for_o (Shape.Or true_formula (Shape.And false_formula true_formula)))
   -- TRUE AND FALSE AND TRUE
   pub and_to_the_left : parsed start (asking (TRUTH true ∷ AND ∷ TRUTH false ∷ AND ∷ TRUTH true ∷ []))
-      ≡ Some (asked (Shape.And (Shape.And always never) always))
+      ≡ Some (query_for_o (Shape.And (Shape.And true_formula false_formula) true_formula))
   -- TRUE UNTIL FALSE UNTIL_WITHIN 5 TRUE
   pub until_to_the_right :
       parsed start (asking (TRUTH true ∷ UNTIL untils.Plain ∷ TRUTH false ∷ UNTIL untils.Within ∷ NUMBER (codes "5") ∷ TRUTH true ∷ []))
-      ≡ Some (asked (Shape.Until untils.Plain 0 always (Shape.Until untils.Within 5 never always)))
+      ≡ Some (query_for_o (Shape.Until untils.Plain 0 true_formula (Shape.Until untils.Within 5 false_formula true_formula)))
   -- NOT TRUE AND EVENTUALLY_WITHIN 07 FALSE
   pub unary_binds_most :
       parsed start (asking (PREFIX prefixes.Not ∷ TRUTH true ∷ AND ∷ BOUNDED bounds.Within ∷ NUMBER (codes "07") ∷ TRUTH false ∷ []))
-      ≡ Some (asked (Shape.And (Shape.Not always) (Shape.Bounded bounds.Within 7 never)))
+      ≡ Some (query_for_o (Shape.And (Shape.Not true_formula) (Shape.Bounded bounds.Within 7 false_formula)))
   -- [n <- 2 * o.x.function - n] o.x = "a"
   pub assignment :
       parsed start (asking (OPEN_SQUARE ∷ NAME n ∷ ARROW ∷ NUMBER (codes "2") ∷ STAR ∷ NAME o ∷ POINT ∷ NAME c ∷ POINT ∷ PART subs.Function
       ∷ MINUS ∷ NAME n ∷ CLOSE_SQUARE
       ∷ NAME o ∷ POINT ∷ NAME c ∷ COMPARISON ops.Eq ∷ TEXT (codes "a") ∷ []))
-      ≡ Some (asked (Shape.Assign (n, term_of (signed false (Some 2) (units.Sub o c subs.Function) ∷ signed true None (units.Alone n) ∷ []))
+      ≡ Some (query_for_o (Shape.Assign (n, term_of (signed false (Some 2) (units.Sub o c subs.Function) ∷ signed true None (units.Alone n) ∷ []))
       (Shape.Atom (atoms.Compare (term_of (signed false None (units.Attr o c) ∷ [])) ops.Eq (term_of (signed false None (units.Text (codes "a")) ∷ []))))))
   -- - TIME < 0.5 OR WITHIN_SPHERE(3.4,o,n)
   pub term_ends :
       parsed start (asking (MINUS ∷ TIME ∷ COMPARISON ops.Lt ∷ NUMBER (codes "0.5") ∷ OR ∷ SPHERE ∷ OPEN ∷ NUMBER (codes "3.4") ∷ COMMA
       ∷ NAME o ∷ COMMA ∷ NAME n ∷ CLOSE ∷ []))
-      ≡ Some (asked (Shape.Or (Shape.Atom (atoms.Compare (term_of (signed true None units.Time ∷ [])) ops.Lt
+      ≡ Some (query_for_o (Shape.Or (Shape.Atom (atoms.Compare (term_of (signed true None units.Time ∷ [])) ops.Lt
       (term_of (signed false None (units.Literal (pos 500)) ∷ []))))
       (Shape.Atom (atoms.Sphere (pos 3400) (o ∷ n ∷ [])))))
   -- INSIDE(o,c) AND DIST(o,n) >= -1
   pub spatial :
       parsed start (asking (INSIDE ∷ OPEN ∷ NAME o ∷ COMMA ∷ NAME c ∷ CLOSE ∷ AND ∷ DIST ∷ OPEN ∷ NAME o ∷ COMMA ∷ NAME n ∷ CLOSE
       ∷ COMPARISON ops.Ge ∷ MINUS ∷ NUMBER (codes "1") ∷ []))
-      ≡ Some (asked (Shape.And (Shape.Atom (atoms.Inside o c)) (Shape.Atom (atoms.Dist o n ops.Ge (negsuc 999)))))
+      ≡ Some (query_for_o (Shape.And (Shape.Atom (atoms.Inside o c)) (Shape.Atom (atoms.Dist o n ops.Ge (negsuc 999)))))
   -- a bracket that isn't closed, and one that isn't open
   pub unclosed : parsed start (asking (OPEN ∷ TRUTH true ∷ [])) ≡ None
-  pub unopened : taken start (asking (TRUTH true ∷ CLOSE ∷ [])) ≡ 7
+  pub unopened : tokens_taken start (asking (TRUTH true ∷ CLOSE ∷ [])) ≡ 7
 
 -- TRUE AND: all tokens begin a query, but are none
 pub record StopsAtTheEnd : Type 0 where
-  pub all_taken : taken start (asking (TRUTH true ∷ AND ∷ [])) ≡ 8
+  pub all_taken : tokens_taken start (asking (TRUTH true ∷ AND ∷ [])) ≡ 8
   pub no_query : parsed start (asking (TRUTH true ∷ AND ∷ [])) ≡ None
 
 -- DIST(o,n) <= NUMBER, by its rules
-abbrev pub distance : (k : List ℕ) → SpellsQuery (asked (Shape.Atom (atoms.Dist o n ops.Le (literal k))))
+abbrev pub distance : (k : List ℕ) → SpellsQuery (query_for_o (Shape.Atom (atoms.Dist o n ops.Le (literal k))))
     (asking (DIST ∷ OPEN ∷ NAME o ∷ COMMA ∷ NAME n ∷ CLOSE ∷ COMPARISON ops.Le ∷ NUMBER k ∷ []))
 distance k = query names_one parts_one (formula_conj (conj_chain (chain_unary (unary_atom (atom_dist num_plain)))))
 
@@ -103,30 +103,30 @@ nots zero f = f
 nots (suc k) f = Shape.Not (nots k f)
 
 -- so many assignments, one in the other
-abbrev pub assigned : ℕ → Tree
-assigned zero = always
-assigned (suc k) = Shape.Assign (n, term_of []) (assigned k)
+abbrev pub nested_assignments : ℕ → Tree
+nested_assignments zero = true_formula
+nested_assignments (suc k) = Shape.Assign (n, term_of []) (nested_assignments k)
 
 -- so many variables of FROM
 abbrev pub with_variables : ℕ → QueryTree
-with_variables k = record { targets = o ∷ []; from = replicate k (from_part c o); formula = assigned 3 }
+with_variables k = record { targets = o ∷ []; from = replicate k (from_part c o); formula = nested_assignments 3 }
 
-abbrev pub circle : ℕ → Tree
-circle k = Shape.Atom (atoms.Sphere (pos 0) (replicate k o))
+abbrev pub circle_formula : ℕ → Tree
+circle_formula k = Shape.Atom (atoms.Sphere (pos 0) (replicate k o))
 
 abbrev pub sum : ℕ → Tree
 sum k = Shape.Atom (atoms.Compare (term_of []) ops.Eq (term_of (replicate k (signed false None units.Time))))
 
 -- each limit, and the first one that is passed
 pub record JudgesSizes : Type 0 where
-  pub small : first_too_large false (asked (assigned 2)) ≡ None
+  pub small : first_too_large false (query_for_o (nested_assignments 2)) ≡ None
   pub variables : first_too_large false (with_variables 5) ≡ Some sizes.Variables
   pub later_one : first_too_large false (with_variables 4) ≡ Some sizes.Assignments
-  pub objects : first_too_large false (asked (Shape.And (circle 5) (assigned 3))) ≡ Some sizes.Objects
-  pub four_objects : first_too_large false (asked (circle 4)) ≡ None
-  pub depth : first_too_large false (asked (nots 32 always)) ≡ Some sizes.Depth
-  pub deepest : first_too_large false (asked (nots 31 always)) ≡ None
-  pub length : first_too_large (has_long ((kinds.Name, replicate 33 97) ∷ [])) (asked always) ≡ Some sizes.Length
-  pub longest : first_too_large (has_long ((kinds.Name, replicate 32 97) ∷ [])) (asked always) ≡ None
-  pub factors : first_too_large false (asked (sum 17)) ≡ Some sizes.Factors
-  pub most_factors : first_too_large false (asked (sum 16)) ≡ None
+  pub objects : first_too_large false (query_for_o (Shape.And (circle_formula 5) (nested_assignments 3))) ≡ Some sizes.Objects
+  pub four_objects : first_too_large false (query_for_o (circle_formula 4)) ≡ None
+  pub depth : first_too_large false (query_for_o (nots 32 true_formula)) ≡ Some sizes.Depth
+  pub deepest : first_too_large false (query_for_o (nots 31 true_formula)) ≡ None
+  pub length : first_too_large (has_long ((kinds.Name, replicate 33 97) ∷ [])) (query_for_o true_formula) ≡ Some sizes.Length
+  pub longest : first_too_large (has_long ((kinds.Name, replicate 32 97) ∷ [])) (query_for_o true_formula) ≡ None
+  pub factors : first_too_large false (query_for_o (sum 17)) ≡ Some sizes.Factors
+  pub most_factors : first_too_large false (query_for_o (sum 16)) ≡ None

@@ -36,7 +36,7 @@ use Rattle.ftl_parser.specs.declared.prefix.Prefix.{Prefix}
 use Rattle.ftl_parser.specs.declared.prefix.Prefix.TheVariants as prefixes
 use Rattle.ftl_parser.specs.Tree.{Tree, QueryTree}
 use Rattle.ftl_parser.specs.Piece.{Piece, RETRIEVE, FROM, WHERE, AND, OR, TRUTH, PREFIX, BOUNDED, UNTIL, INSIDE, OUTSIDE, DIST, SPHERE, TIME, PART, OPEN, CLOSE, OPEN_SQUARE, CLOSE_SQUARE, COMMA, POINT, PLUS, MINUS, STAR, ARROW, COMPARISON, NAME, NUMBER, TEXT}
-use Rattle.ftl_parser.specs.Number.{ticks, times, literal, radius}
+use Rattle.ftl_parser.specs.Number.{ticks, times, literal, radius_of}
 
 -- a word before a formula, as a tree
 abbrev pub prefixed : Prefix → Tree → Tree
@@ -94,10 +94,10 @@ pub data SpellsNames : List (List ℕ) → List Piece → Type 0 where
       SpellsNames ns xs → SpellsNames (ns ++ n ∷ []) (xs ++ COMMA ∷ NAME n ∷ [])
 
 -- classes and variables with commas between the pairs
-pub data SpellsParts : List FromPart → List Piece → Type 0 where
-  parts_one : {c v : List ℕ} → SpellsParts (from_part c v ∷ []) (NAME c ∷ NAME v ∷ [])
+pub data SpellsFromParts : List FromPart → List Piece → Type 0 where
+  parts_one : {c v : List ℕ} → SpellsFromParts (from_part c v ∷ []) (NAME c ∷ NAME v ∷ [])
   parts_more : {ps : List FromPart} {xs : List Piece} (c v : List ℕ) →
-      SpellsParts ps xs → SpellsParts (ps ++ from_part c v ∷ []) (xs ++ COMMA ∷ NAME c ∷ NAME v ∷ [])
+      SpellsFromParts ps xs → SpellsFromParts (ps ++ from_part c v ∷ []) (xs ++ COMMA ∷ NAME c ∷ NAME v ∷ [])
 
 pub data SpellsAtom : atom_type.Atom → List Piece → Type 0 where
   atom_compare : {fs gs : List Signed} {op : Op} {xs ys : List Piece} →
@@ -109,7 +109,7 @@ pub data SpellsAtom : atom_type.Atom → List Piece → Type 0 where
   atom_dist : {o n : List ℕ} {op : Op} {c : ℤ} {xs : List Piece} →
       SpellsNum c xs → SpellsAtom (atoms.Dist o n op c) (DIST ∷ OPEN ∷ NAME o ∷ COMMA ∷ NAME n ∷ CLOSE ∷ COMPARISON op ∷ xs)
   atom_sphere : {r : List ℕ} {ns : List (List ℕ)} {xs : List Piece} →
-      SpellsNames ns xs → SpellsAtom (atoms.Sphere (radius r) ns) (SPHERE ∷ OPEN ∷ NUMBER r ∷ COMMA ∷ (xs ++ CLOSE ∷ []))
+      SpellsNames ns xs → SpellsAtom (atoms.Sphere (radius_of r) ns) (SPHERE ∷ OPEN ∷ NUMBER r ∷ COMMA ∷ (xs ++ CLOSE ∷ []))
 
 -- the levels of formulas, from the one that binds least
 pub data Level : Type 0 where
@@ -149,5 +149,5 @@ pub data Spells : Level → Tree → List Piece → Type 0 where
 
 pub data SpellsQuery : QueryTree → List Piece → Type 0 where
   query : {ns : List (List ℕ)} {ps : List FromPart} {f : Tree} {xs ys zs : List Piece} →
-      SpellsNames ns xs → SpellsParts ps ys → Spells formula f zs →
+      SpellsNames ns xs → SpellsFromParts ps ys → Spells formula f zs →
       SpellsQuery (record { targets = ns; from = ps; formula = f }) (RETRIEVE ∷ (xs ++ FROM ∷ (ys ++ WHERE ∷ zs)))

@@ -40,8 +40,8 @@ IsShortName word = IsName word × (length word ≤ WORD_LIMIT)
 abbrev pub IsQuotable : List ℕ → Type 0
 IsQuotable text = IsTrue (has_no_quote text) × (length text ≤ WORD_LIMIT)
 
-abbrev pub IsPart : (List ℕ → Type 0) → FromPart → Type 0
-IsPart N part = N part.class × N part.var
+abbrev pub IsFromPart : (List ℕ → Type 0) → FromPart → Type 0
+IsFromPart N part = N part.class × N part.var
 
 -- a number without a sign, at most the limit
 abbrev pub IsUnsigned : ℕ → ℤ → Type 0
@@ -84,10 +84,10 @@ IsAtom N T (atoms.Dist o n op c) = N o × N n × (unsigned_abs c ≤ READ_LIMIT)
 IsAtom N T (atoms.Sphere r names) = IsUnsigned RADIUS_LIMIT r × OneOrMore N names
 
 -- the ticks of an until
-abbrev pub IsBound : UntilForm → ℕ → Type 0
-IsBound untils.Plain ticks = ticks ≡ 0
-IsBound untils.Within ticks = ticks ≤ LAST_TICK
-IsBound untils.After ticks = ticks ≤ LAST_TICK
+abbrev pub AreUntilTicks : UntilForm → ℕ → Type 0
+AreUntilTicks untils.Plain ticks = ticks ≡ 0
+AreUntilTicks untils.Within ticks = ticks ≤ LAST_TICK
+AreUntilTicks untils.After ticks = ticks ≤ LAST_TICK
 
 abbrev pub IsFormula : (N T : List ℕ → Type 0) → Tree → Type 0
 IsFormula N T (Shape.Truth b) = Unit {0}
@@ -99,12 +99,12 @@ IsFormula N T (Shape.Next f) = IsFormula N T f
 IsFormula N T (Shape.Eventually f) = IsFormula N T f
 IsFormula N T (Shape.Always f) = IsFormula N T f
 IsFormula N T (Shape.Bounded form ticks f) = (ticks ≤ LAST_TICK) × IsFormula N T f
-IsFormula N T (Shape.Until form ticks f g) = IsBound form ticks × IsFormula N T f × IsFormula N T g
+IsFormula N T (Shape.Until form ticks f g) = AreUntilTicks form ticks × IsFormula N T f × IsFormula N T g
 IsFormula N T (Shape.Assign (name, term) f) = N name × IsTerm N T term × IsFormula N T f
 
 pub record HasShape (N T : List ℕ → Type 0) (q : QueryTree) : Type 0 where
   pub targets : OneOrMore N q.targets
-  pub from : OneOrMore (IsPart N) q.from
+  pub from : OneOrMore (IsFromPart N) q.from
   pub formula : IsFormula N T q.formula
 
 -- nothing is asked
@@ -117,5 +117,5 @@ pub record IsLawful (q : QueryTree) : Type 0 where
   pub small : first_too_large false q ≡ None
 
 -- a query that can be printed so that it is read back
-abbrev pub IsPrintable : QueryTree → Type 0
-IsPrintable = HasShape IsShortName IsQuotable
+abbrev pub IsPrintableQuery : QueryTree → Type 0
+IsPrintableQuery = HasShape IsShortName IsQuotable

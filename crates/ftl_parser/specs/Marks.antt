@@ -6,12 +6,12 @@ use Rattle.ftl_parser.specs.declared.tree.Unit as unit_type
 use Rattle.ftl_parser.specs.declared.tree.Signed.{Signed}
 use Rattle.ftl_parser.specs.Tree.{Tree, QueryTree}
 use Rattle.ftl_parser.specs.Piece.{Piece}
-use Rattle.ftl_parser.specs.Number.{Place, Ticks, Times, Literal, Radius, fits}
+use Rattle.ftl_parser.specs.Number.{Place, Ticks, Times, Literal, Radius, is_number_fit}
 use Rattle.ftl_parser.specs.Grammar.{SpellsFactor, factor_number, factor_times, factor_text, factor_ref, SpellsTerm, term_first, term_minus_first, term_plus, term_minus, SpellsNum, num_plain, num_minus, SpellsAtom, atom_compare, atom_inside, atom_outside, atom_dist, atom_sphere, SpellsUntil, until_plain, until_within, until_after, Level, Spells, formula_conj, formula_or, conj_chain, conj_and, chain_unary, chain_until, unary_prefix, unary_bounded, unary_assign, unary_brackets, unary_truth, unary_atom, SpellsQuery, query}
 
 -- a number that doesn't fit its place
 abbrev pub unfit : Place → List ℕ → Bool
-unfit place text = not (fits place text)
+unfit place text = not (is_number_fit place text)
 
 -- tokens without numbers
 abbrev pub clear : List Piece → List Bool

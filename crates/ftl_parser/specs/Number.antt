@@ -29,11 +29,11 @@ pub data Place : Type 0 where
   Radius : Place
 
 -- whether a number is in the form and range of its place
-abbrev pub fits : Place → List ℕ → Bool
-fits Ticks text = is_some (whole_of 0 LAST_TICK text)
-fits Times text = is_some (whole_of 0 TIMES_LIMIT text)
-fits Literal text = is_some (thousandths_of READ_LIMIT text)
-fits Radius text = is_some (thousandths_of RADIUS_LIMIT text)
+abbrev pub is_number_fit : Place → List ℕ → Bool
+is_number_fit Ticks text = is_some (whole_of 0 LAST_TICK text)
+is_number_fit Times text = is_some (whole_of 0 TIMES_LIMIT text)
+is_number_fit Literal text = is_some (thousandths_of READ_LIMIT text)
+is_number_fit Radius text = is_some (thousandths_of RADIUS_LIMIT text)
 
 abbrev pub ticks : List ℕ → ℕ
 ticks text = unwrap_or (whole_of 0 LAST_TICK text) 0
@@ -44,5 +44,5 @@ times text = unwrap_or (whole_of 0 TIMES_LIMIT text) 0
 abbrev pub literal : List ℕ → ℤ
 literal text = unwrap_or (thousandths_of READ_LIMIT text) (pos 0)
 
-abbrev pub radius : List ℕ → ℤ
-radius text = unwrap_or (thousandths_of RADIUS_LIMIT text) (pos 0)
+abbrev pub radius_of : List ℕ → ℤ
+radius_of text = unwrap_or (thousandths_of RADIUS_LIMIT text) (pos 0)

@@ -2,7 +2,7 @@
 use Rattle.std.specs.Prelude.{ℕ, max, Bool, true, false, nat_lt, List, [], ◌∷◌, length, Option}
 use Rattle.exact.specs.First.{first_that_holds}
 pub use Rattle.formula_shape.specs.Sizes.{nodes, depth, nesting, has_not}
-use Rattle.formula_shape.specs.Sizes.{largest, has_part}
+use Rattle.formula_shape.specs.Sizes.{largest_size, has_part}
 use Rattle.formula_shape.specs.declared.limits.TheConstants.{OBJECT_LIMIT, NESTING_LIMIT, NODE_LIMIT, DEPTH_LIMIT, FACTOR_LIMIT}
 use Rattle.ftl_parser.specs.declared.fault.Size.{Size}
 use Rattle.ftl_parser.specs.declared.fault.Size.TheVariants as sizes
@@ -20,7 +20,7 @@ atom_objects (atoms.Sphere r ns) = length ns
 
 -- the most names of one circle
 abbrev pub objects : Tree → ℕ
-objects = largest atom_objects (λ _. 0)
+objects = largest_size atom_objects (λ _. 0)
 
 -- the most factors of one term
 abbrev pub atom_factors : atom_type.Atom → ℕ
@@ -31,7 +31,7 @@ atom_factors (atoms.Dist o n op c) = 0
 atom_factors (atoms.Sphere r ns) = 0
 
 abbrev pub factors : Tree → ℕ
-factors = largest atom_factors (λ bound. length bound.1.factors)
+factors = largest_size atom_factors (λ bound. length bound.1.factors)
 
 -- whether an atom is a circle
 abbrev pub is_circle : atom_type.Atom → Bool

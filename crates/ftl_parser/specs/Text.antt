@@ -65,15 +65,15 @@ abbrev pub names_text : List (List ℕ) → List ℕ
 names_text [] = []
 names_text (name ∷ names) = name ++ later_names names
 
-abbrev pub part_text : FromPart → List ℕ
-part_text part = part.class ++ codes " " ++ part.var
+abbrev pub from_part_text : FromPart → List ℕ
+from_part_text part = part.class ++ codes " " ++ part.var
 
 abbrev pub later_parts : List FromPart → List ℕ
-later_parts = flat_map (λ part. codes "," ++ part_text part)
+later_parts = flat_map (λ part. codes "," ++ from_part_text part)
 
-abbrev pub parts_text : List FromPart → List ℕ
-parts_text [] = []
-parts_text (part ∷ parts) = part_text part ++ later_parts parts
+abbrev pub from_parts_text : List FromPart → List ℕ
+from_parts_text [] = []
+from_parts_text (part ∷ parts) = from_part_text part ++ later_parts parts
 
 -- ---- Terms
 
@@ -115,14 +115,14 @@ term_text t = factors_text t.factors
 -- ---- Formulas
 
 -- two names in brackets
-abbrev pub pair_text : List ℕ → List ℕ → List ℕ
-pair_text o n = codes "(" ++ o ++ codes "," ++ n ++ codes ")"
+abbrev pub name_pair_text : List ℕ → List ℕ → List ℕ
+name_pair_text o n = codes "(" ++ o ++ codes "," ++ n ++ codes ")"
 
 abbrev pub atom_text : atom_type.Atom → List ℕ
 atom_text (atoms.Compare t op u) = term_text t ++ codes " " ++ op_word op ++ codes " " ++ term_text u
-atom_text (atoms.Inside o p) = codes "INSIDE" ++ pair_text o p
-atom_text (atoms.Outside o p) = codes "OUTSIDE" ++ pair_text o p
-atom_text (atoms.Dist o n op c) = codes "DIST" ++ pair_text o n ++ codes " " ++ op_word op ++ codes " " ++ fix_text c
+atom_text (atoms.Inside o p) = codes "INSIDE" ++ name_pair_text o p
+atom_text (atoms.Outside o p) = codes "OUTSIDE" ++ name_pair_text o p
+atom_text (atoms.Dist o n op c) = codes "DIST" ++ name_pair_text o n ++ codes " " ++ op_word op ++ codes " " ++ fix_text c
 atom_text (atoms.Sphere r names) = codes "WITHIN_SPHERE(" ++ fix_text r ++ later_names names ++ codes ")"
 
 -- an until between its formulas
@@ -164,4 +164,4 @@ formula_text (Shape.Until form ticks f g) = in_brackets (formula_text f) (until_
 formula_text (Shape.Assign (name, term) f) = assign_text name term ++ formula_text f
 
 abbrev pub query_text : QueryTree → List ℕ
-query_text q = codes "RETRIEVE " ++ names_text q.targets ++ codes " FROM " ++ parts_text q.from ++ codes " WHERE " ++ formula_text q.formula
+query_text q = codes "RETRIEVE " ++ names_text q.targets ++ codes " FROM " ++ from_parts_text q.from ++ codes " WHERE " ++ formula_text q.formula

@@ -4,10 +4,10 @@ ghost use Rattle.std.specs.Prelude.{◌≡◌, List, [], ◌∷◌, ◌++◌, If
 ghost use Rattle.formula_shape.specs.Shape.{Shape};
 ghost use Rattle.ftl_parser.specs.Grammar.{term_of};
 ghost use Rattle.ftl_parser.specs.inner.Machine as machine;
-ghost use Rattle.ftl_parser.specs.inner.Machine.{behind, closed, term_ended, wanted, body_step, body_end, reduced, alone, compared, whole};
+ghost use Rattle.ftl_parser.specs.inner.Machine.{behind, closed, term_ended, wanted, body_step, body_end, reduced, ended_formula, compared, whole_factor};
 ghost use Rattle.ftl_parser.specs.Piece.{UNTIL};
 ghost use Rattle.ftl_parser.specs.declared.tree.Atom.TheVariants as atoms;
-ghost use Rattle.ftl_parser.specs.inner.Views.{body_of, behind_whole, in_term, taken_of, with_formula, piece_view, stack_of};
+ghost use Rattle.ftl_parser.specs.inner.Views.{body_of, behind_whole, in_term, body_if_taken, with_formula, piece_view, stack_of};
 
 use crate::factor::{add_whole, lengthen};
 use crate::frame::{Frame, pop, reduced};
@@ -263,7 +263,7 @@ fn bounded(
 // Not inlined: the loop over the tokens would clear its long values for each token.
 #[inline(never)]
 fn variable(phase: &mut Phase, piece: Piece<'_>) -> bool
-    ensures { (s : List machine.Frame) → taken_of result s phase.new ≡ body_step s machine.Variable (piece_view piece.entry) }
+    ensures { (s : List machine.Frame) → body_if_taken result s phase.new ≡ body_step s machine.Variable (piece_view piece.entry) }
 {
     match piece {
         Piece::Name(name) => *phase = Phase::Arrow(word(name)),
@@ -276,7 +276,7 @@ fn variable(phase: &mut Phase, piece: Piece<'_>) -> bool
 // Not inlined: the loop over the tokens would clear its long values for each token.
 #[inline(never)]
 fn arrow(alloc: Global, phase: &mut Phase, name: Word, piece: Piece<'_>) -> bool
-    ensures { (s : List machine.Frame) → taken_of result s phase.new ≡ body_step s (machine.Arrow name) (piece_view piece.entry) }
+    ensures { (s : List machine.Frame) → body_if_taken result s phase.new ≡ body_step s (machine.Arrow name) (piece_view piece.entry) }
 {
     match piece {
         Piece::Arrow => {
@@ -339,7 +339,7 @@ fn alone(
     formula: Measured,
     stack: &mut Vec<Frame>,
 ) -> Result<Option<Measured>, AllocError>
-    ensures { IfOk result (λ r. r ≡ alone (reduced 1 formula (stack_of stack.old.items))) }
+    ensures { IfOk result (λ r. r ≡ ended_formula (reduced 1 formula (stack_of stack.old.items))) }
 {
     let formula = reduced(alloc, 1, formula, stack)?;
     if pop(stack) {
@@ -358,7 +358,7 @@ fn compared(
     mut factors: Factors,
     last: &Factor,
 ) -> Result<Option<Measured>, AllocError>
-    ensures { IfOk result (λ r. r ≡ compared (stack_of stack.old.items) left op factors (whole last.now)) }
+    ensures { IfOk result (λ r. r ≡ compared (stack_of stack.old.items) left op factors (whole_factor last.now)) }
 {
     if add_whole(&mut factors, last)? {
         alone(alloc, comparison(left, op, factors), stack)

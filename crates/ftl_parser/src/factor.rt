@@ -2,7 +2,7 @@
 
 ghost use Rattle.std.specs.Prelude.{◌≡◌, [], ◌∷◌, ◌++◌, Some, None, IfOk, IsTrue, true, false, MatchBool, MatchOption};
 ghost use Rattle.ftl_parser.specs.Grammar.{signed};
-ghost use Rattle.ftl_parser.specs.inner.Machine.{reference, factor_begun, term_begun, lengthened, whole};
+ghost use Rattle.ftl_parser.specs.inner.Machine.{reference, factor_begun, term_begun, lengthened, whole_factor};
 ghost use Rattle.ftl_parser.specs.inner.Views.{piece_view, AddsWhole};
 
 use crate::lists::Factors;
@@ -96,7 +96,7 @@ fn signed(minus: bool, times: Option<u32>, unit: Unit) -> Signed
 
 // Adds the factor to those before it, where it may end. Says whether it may.
 pub(crate) fn add_whole(factors: &mut Factors, last: &Factor) -> Result<bool, AllocError>
-    ensures { IfOk result (λ added. AddsWhole factors.old factors.new (whole last.now) added) }
+    ensures { IfOk result (λ added. AddsWhole factors.old factors.new (whole_factor last.now) added) }
 {
     match last {
         Factor::Number(minus, value, _) => {

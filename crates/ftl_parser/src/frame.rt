@@ -1,7 +1,7 @@
 //! What waits for a formula on its right.
 
 ghost use Rattle.std.specs.Prelude.{◌≡◌, ◌≤◌, [], ◌∷◌, IfOk, OnOk, MatchBool, MatchOption};
-ghost use Rattle.ftl_parser.specs.inner.Machine.{rank, filled, reduced};
+ghost use Rattle.ftl_parser.specs.inner.Machine.{precedence, filled, reduced};
 ghost use Rattle.ftl_parser.specs.inner.Views.{stack_of, SomeIsOnTop, StaysBelow};
 
 use crate::Term;
@@ -24,7 +24,7 @@ pub(crate) enum Frame {
 
 // How strongly a frame binds.
 fn rank(frame: &Frame) -> u8
-    ensures { result ≡ rank frame.now }
+    ensures { result ≡ precedence frame.now }
 {
     match frame {
         Frame::Bracket => 0,
@@ -53,7 +53,7 @@ fn filled(alloc: Global, frame: Frame, right: Measured) -> Result<Measured, Allo
 // Takes the topmost frame, where it binds at least so strongly.
 fn pop_from(stack: &mut Vec<Frame>, least: u8) -> Option<Frame>
     ensures { MatchOption result ((stack_of stack.new.items ≡ stack_of stack.old.items) × StaysBelow least (stack_of stack.old.items))
-        (λ w. (stack_of stack.old.items ≡ w ∷ stack_of stack.new.items) × (least ≤ rank w)) }
+        (λ w. (stack_of stack.old.items ≡ w ∷ stack_of stack.new.items) × (least ≤ precedence w)) }
 {
     match stack.last() {
         Some(top) if rank(top) >= least => stack.pop(),

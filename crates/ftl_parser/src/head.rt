@@ -1,8 +1,8 @@
 //! A query, token by token.
 
 ghost use Rattle.std.specs.Prelude.{◌≡◌, [], ◌∷◌, ◌++◌, IfOk, option_map};
-ghost use Rattle.ftl_parser.specs.inner.Machine.{heading_step, step, ended, body_end};
-ghost use Rattle.ftl_parser.specs.inner.Views.{kept_view, piece_view, spelled_view, stack_of, state_of};
+ghost use Rattle.ftl_parser.specs.inner.Machine.{heading_step, step_by_token, ended_query, body_end};
+ghost use Rattle.ftl_parser.specs.inner.Views.{kept_view, piece_view, spelled_view, stack_of, state_if_taken};
 
 use crate::FromPart;
 use crate::body::{body_end, body_step};
@@ -75,7 +75,7 @@ pub(crate) fn step(
     state: &mut State,
     piece: Piece<'_>,
 ) -> Result<bool, AllocError>
-    ensures { IfOk result (λ taken. state_of taken kept.new state.new ≡ step (kept_view kept.old state.old) (piece_view piece.entry)) }
+    ensures { IfOk result (λ taken. state_if_taken taken kept.new state.new ≡ step_by_token (kept_view kept.old state.old) (piece_view piece.entry)) }
 {
     match state {
         State::Heading(head) => match heading_step(kept, head, piece)? {
@@ -91,7 +91,7 @@ pub(crate) fn step(
 
 // The query, where the tokens may end here.
 pub(crate) fn ended(alloc: Global, kept: Kept, state: State) -> Result<Option<Spelled>, AllocError>
-    ensures { IfOk result (λ r. option_map spelled_view r ≡ ended (kept_view kept state)) }
+    ensures { IfOk result (λ r. option_map spelled_view r ≡ ended_query (kept_view kept state)) }
 {
     let Kept {
         targets,

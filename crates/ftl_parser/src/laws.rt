@@ -12,7 +12,7 @@ ghost use Rattle.ftl_parser.specs.Tree.{QueryTree};
 
 /// Doubled brackets leave no trace; AND binds more than OR, an until more than AND, and a unary form
 /// most; AND and OR go to the left and untils to the right.
-#[tactic(auto, unfolding(fixed_point::specs::Decimal::thousandths_of, fixed_point::specs::Decimal::size_of, fixed_point::specs::Decimal::decimals_of))]
+#[tactic(auto, unfolding(fixed_point::specs::Decimal::thousandths_of, fixed_point::specs::Decimal::unsigned_thousandths, fixed_point::specs::Decimal::decimals_of))]
 pub fn small_queries_are_parsed()
     ensures { ParsesSmallQueries }
 {}
@@ -23,7 +23,7 @@ pub fn an_unended_query_stops_at_its_end()
 {}
 
 /// The number of a DIST is at most 10^12 thousandths, with at most three decimals.
-#[tactic(auto, unfolding(fixed_point::specs::Decimal::thousandths_of, fixed_point::specs::Decimal::size_of, fixed_point::specs::Decimal::decimals_of))]
+#[tactic(auto, unfolding(fixed_point::specs::Decimal::thousandths_of, fixed_point::specs::Decimal::unsigned_thousandths, fixed_point::specs::Decimal::decimals_of))]
 pub fn numbers_out_of_range_are_found()
     ensures { FindsUnfitNumbers }
 {}

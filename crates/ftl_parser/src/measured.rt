@@ -3,7 +3,7 @@
 ghost use Rattle.std.specs.Prelude.{◌≡◌, max, IfOk, length};
 ghost use Rattle.formula_shape.specs.Shape.{Shape};
 ghost use Rattle.ftl_parser.specs.Grammar.{prefixed, term_of};
-ghost use Rattle.ftl_parser.specs.inner.Measure.{measure, leaf, under, assigned, joined};
+ghost use Rattle.ftl_parser.specs.inner.Measure.{measure, leaf, under, assignment_sizes, operator_sizes};
 ghost use Rattle.ftl_parser.specs.Sizes.{atom_objects, atom_factors};
 ghost use Rattle.ftl_parser.specs.Tree.{view as tree_of};
 
@@ -53,7 +53,7 @@ impl Sizes {
 
     // Of an assignment of a term with so many factors, before a formula of these sizes.
     fn assigned(&self, factors: usize) -> Sizes
-        ensures { result ≡ assigned self.now factors }
+        ensures { result ≡ assignment_sizes self.now factors }
     {
         Sizes {
             nodes: self.nodes.saturating_add(1),
@@ -66,7 +66,7 @@ impl Sizes {
 
     // Of an operator on two formulas of these sizes.
     fn joined(&self, other: &Sizes) -> Sizes
-        ensures { result ≡ joined self.now other.now }
+        ensures { result ≡ operator_sizes self.now other.now }
     {
         Sizes {
             nodes: self.nodes.saturating_add(other.nodes).saturating_add(1),

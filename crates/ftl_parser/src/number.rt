@@ -4,7 +4,7 @@ ghost use Rattle.std.specs.Prelude.{◌≡◌, ◌≤◌, ◌≤ℤ◌, pos, neg
 ghost use Rattle.fixed_point.specs.declared.number.TheConstants.{READ_LIMIT};
 ghost use Rattle.fixed_point.specs.Decimal.{thousandths_of};
 ghost use Rattle.geometry.specs.declared.limits.TheConstants.{RADIUS_LIMIT};
-ghost use Rattle.ftl_parser.specs.Number.{whole_of, up_to, literal, radius, ticks, times, fits, Ticks, Times, Literal, Radius};
+ghost use Rattle.ftl_parser.specs.Number.{whole_of, up_to, literal, radius_of, ticks, times, is_number_fit, Ticks, Times, Literal, Radius};
 ghost use Rattle.ftl_parser.specs.Words.{is_short, short_word};
 
 use fixed_point::{Fix, Slope, WORD_LIMIT, Word};
@@ -83,7 +83,7 @@ pub fn read_radius(text: &[u8]) -> Option<Fix>
 
 // A radius; 0 where it is none in its range.
 pub(crate) fn radius(text: &[u8]) -> Fix
-    ensures { result ≡ radius text.now }
+    ensures { result ≡ radius_of text.now }
 {
     match read_radius(text) {
         Some(number) => number,
@@ -100,28 +100,28 @@ pub(crate) fn negated(number: Fix) -> Fix
 
 // Whether a number is one of ticks in their range.
 pub(crate) fn ticks_fit(text: &[u8]) -> bool
-    ensures { result ≡ fits Ticks text.now }
+    ensures { result ≡ is_number_fit Ticks text.now }
 {
     whole(text, 0, LAST_TICK).is_some()
 }
 
 // Whether a number is a multiplier in its range.
 pub(crate) fn times_fit(text: &[u8]) -> bool
-    ensures { result ≡ fits Times text.now }
+    ensures { result ≡ is_number_fit Times text.now }
 {
     whole(text, 0, TIMES_LIMIT).is_some()
 }
 
 // Whether a number is a literal in its range.
 pub(crate) fn literal_fits(text: &[u8]) -> bool
-    ensures { result ≡ fits Literal text.now }
+    ensures { result ≡ is_number_fit Literal text.now }
 {
     Fix::read(text).is_some()
 }
 
 // Whether a number is a radius in its range.
 pub(crate) fn radius_fits(text: &[u8]) -> bool
-    ensures { result ≡ fits Radius text.now }
+    ensures { result ≡ is_number_fit Radius text.now }
 {
     read_radius(text).is_some()
 }

@@ -6,7 +6,7 @@ ghost use Rattle.ftl_parser.specs.inner.Machine as machine;
 ghost use Rattle.ftl_parser.specs.inner.Machine.{body_step, spatial_step};
 ghost use Rattle.ftl_parser.specs.Piece.{CLOSE};
 ghost use Rattle.ftl_parser.specs.declared.state.Spatial.TheVariants as spatials;
-ghost use Rattle.ftl_parser.specs.inner.Views.{piece_view, taken_of, HasNames, IsCircle, IsDist, IsPair, IsPlain, IsSpatial};
+ghost use Rattle.ftl_parser.specs.inner.Views.{piece_view, body_if_taken, HasNames, IsCircle, IsDist, IsPair, IsPlain, IsSpatial};
 
 use crate::Atom;
 use crate::lists::{Factors, Names};
@@ -119,7 +119,7 @@ fn circle_step(alloc: Global, at: &Spatial, piece: Piece<'_>) -> Option<Phase>
 #[inline(never)]
 fn names_step(phase: &mut Phase, piece: Piece<'_>) -> Result<bool, AllocError>
     requires { HasNames phase.old }
-    ensures { IfOk result (λ taken. (s : List machine.Frame) → taken_of taken s phase.new ≡ body_step s phase.old (piece_view piece.entry)) }
+    ensures { IfOk result (λ taken. (s : List machine.Frame) → body_if_taken taken s phase.new ≡ body_step s phase.old (piece_view piece.entry)) }
 {
     let Phase::InSpatial(at) = phase else {
         return Ok(false);
@@ -171,7 +171,7 @@ pub(crate) fn spatial_step(
     piece: Piece<'_>,
 ) -> Result<bool, AllocError>
     requires { IsSpatial phase.old }
-    ensures { IfOk result (λ taken. (s : List machine.Frame) → taken_of taken s phase.new ≡ body_step s phase.old (piece_view piece.entry)) }
+    ensures { IfOk result (λ taken. (s : List machine.Frame) → body_if_taken taken s phase.new ≡ body_step s phase.old (piece_view piece.entry)) }
 {
     let next = match phase {
         Phase::InSpatial(Spatial::SphereName(..) | Spatial::SphereNames(..)) => {

@@ -3,7 +3,7 @@
 ghost use Rattle.std.specs.Prelude.{◌≡◌, ◌++◌, codes, decimal, IfOk, OnOk, OnErr};
 ghost use Rattle.fixed_point.specs.Canonical.{fix_text};
 ghost use Rattle.ftl_parser.specs.Tree.{view, query_view};
-ghost use Rattle.ftl_parser.specs.Text.{assign_text, atom_text, bound_text, bound_word, factor_text, factors_text, first_sign, formula_text, later_factors, later_names, later_parts, later_sign, names_text, op_word, pair_text, part_text, parts_text, prefix_text, query_text, sub_word, term_text, times_text, truth_word, unit_text, until_text};
+ghost use Rattle.ftl_parser.specs.Text.{assign_text, atom_text, bound_text, bound_word, factor_text, factors_text, first_sign, formula_text, from_part_text, from_parts_text, later_factors, later_names, later_parts, later_sign, name_pair_text, names_text, op_word, prefix_text, query_text, sub_word, term_text, times_text, truth_word, unit_text, until_text};
 
 use crate::prefix::Prefix;
 use crate::{Atom, Formula, FromPart, Query, Signed, Term, Unit};
@@ -60,7 +60,7 @@ fn push_later_names(out: &mut Vec<u8>, names: &[Word]) -> Result<(), AllocError>
 }
 
 fn push_parts(out: &mut Vec<u8>, parts: &[FromPart]) -> Result<(), AllocError>
-    ensures { OnOk result (out.new.items ≡ out.old.items ++ parts_text parts.now) }
+    ensures { OnOk result (out.new.items ≡ out.old.items ++ from_parts_text parts.now) }
 {
     if let Some((part, later)) = parts.split_first() {
         push_part(out, part)?;
@@ -82,7 +82,7 @@ fn push_later_parts(out: &mut Vec<u8>, parts: &[FromPart]) -> Result<(), AllocEr
 }
 
 fn push_part(out: &mut Vec<u8>, part: &FromPart) -> Result<(), AllocError>
-    ensures { OnOk result (out.new.items ≡ out.old.items ++ part_text part.now) }
+    ensures { OnOk result (out.new.items ≡ out.old.items ++ from_part_text part.now) }
 {
     out.extend_from_slice(part.class.bytes())?;
     out.extend_from_slice(b" ")?;
@@ -264,7 +264,7 @@ fn op_word(op: Op) -> &'static [u8]
 
 // A word, and two names in brackets.
 fn push_pair(out: &mut Vec<u8>, word: &[u8], first: &Word, second: &Word) -> Result<(), AllocError>
-    ensures { OnOk result (out.new.items ≡ out.old.items ++ (word.now ++ pair_text first.now second.now)) }
+    ensures { OnOk result (out.new.items ≡ out.old.items ++ (word.now ++ name_pair_text first.now second.now)) }
 {
     out.extend_from_slice(word)?;
     out.extend_from_slice(b"(")?;

@@ -1,9 +1,9 @@
 //! From tokens to a query.
 
 ghost use Rattle.std.specs.Prelude.{◌≡◌, ◌+◌, ℕ, Err, IfOk, IfErr};
-ghost use Rattle.ftl_parser.specs.Fault.{Explains, Reads};
+ghost use Rattle.ftl_parser.specs.Fault.{ExplainsTokens, ReadsQuery};
 ghost use Rattle.ftl_parser.specs.Lawful.{IsLawful};
-ghost use Rattle.ftl_parser.specs.inner.Machine.{ended, parsed, start, taken};
+ghost use Rattle.ftl_parser.specs.inner.Machine.{ended_query, parsed, start, tokens_taken};
 ghost use Rattle.ftl_parser.specs.inner.Parses.{Parses};
 ghost use Rattle.ftl_parser.specs.inner.Views.{kept_view};
 ghost use Rattle.ftl_parser.specs.Piece.{lexemes_from, pieces_from};
@@ -57,8 +57,8 @@ fn take_all(
     from: usize,
 ) -> Result<usize, ParseFault>
     requires { kept_view kept.now state.now ≡ start }
-    ensures query { IfOk result (λ _. ended (kept_view kept.new state.new) ≡ parsed start (pieces_from from tokens.now)) }
-    ensures place { IfOk result (λ past. past ≡ from + taken start (pieces_from from tokens.now)) }
+    ensures query { IfOk result (λ _. ended_query (kept_view kept.new state.new) ≡ parsed start (pieces_from from tokens.now)) }
+    ensures place { IfOk result (λ past. past ≡ from + tokens_taken start (pieces_from from tokens.now)) }
     ensures cause { IfErr result (λ fault. Parses from (pieces_from from tokens.now) (Err fault)) }
 {
     for at in from..tokens.len() {
@@ -76,9 +76,9 @@ fn take_all(
 /// their ranges, and none of its sizes passes its limit (`lawful`).
 #[tactic(auto, using(crate::proofs::reader::Judged::judgements))]
 pub fn parse(alloc: Global, tokens: &Tokens, from: usize) -> Result<Query, ParseFault>
-    ensures query { IfOk result (λ q. Reads (lexemes_from from tokens.now) (query_view q)) }
+    ensures query { IfOk result (λ q. ReadsQuery (lexemes_from from tokens.now) (query_view q)) }
     ensures lawful { IfOk result (λ q. IsLawful (query_view q)) }
-    ensures cause { IfErr result (Explains from (lexemes_from from tokens.now)) }
+    ensures cause { IfErr result (ExplainsTokens from (lexemes_from from tokens.now)) }
 {
     let query = spelled(alloc, tokens, from)?;
     if let Some(place) = first_unfit(tokens, from) {

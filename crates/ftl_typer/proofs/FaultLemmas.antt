@@ -5,7 +5,7 @@ use Rattle.std.specs.List.{fold}
 use Rattle.ftl_typer.specs.declared.found.FaultKind.{FaultKind}
 use Rattle.ftl_typer.specs.declared.found.FaultKind.TheVariants.{UnknownName, NameTaken, WrongKind, TermRange}
 use Rattle.ftl_typer.specs.Fault.{Fault, fault_if}
-use Rattle.ftl_typer.specs.First.{first_fault, first_found, found_after, lesser, nothing_found, places_of}
+use Rattle.ftl_typer.specs.First.{fault_places, first_fault, first_found, found_after, lesser, nothing_found}
 
 none_found : (unknown taken kind range : Option ℕ) →
     first_found (record { unknown = unknown; taken = taken; kind = kind; range = range }) ≡ None →
@@ -29,19 +29,19 @@ has_first : (kind : FaultKind) (place : ℕ) (fs : List Fault) →
 unfolding found_after
 has_first UnknownName place fs h =
     let found = found_after nothing_found (record { kind = UnknownName; place = place } ∷ fs) in
-    let some = some_after place (places_of UnknownName fs) in
+    let some = some_after place (fault_places UnknownName fs) in
     both found.unknown some.0 some.1 (none_found found.unknown found.taken found.kind found.range h).0
 has_first NameTaken place fs h =
     let found = found_after nothing_found (record { kind = NameTaken; place = place } ∷ fs) in
-    let some = some_after place (places_of NameTaken fs) in
+    let some = some_after place (fault_places NameTaken fs) in
     both found.taken some.0 some.1 (none_found found.unknown found.taken found.kind found.range h).1
 has_first WrongKind place fs h =
     let found = found_after nothing_found (record { kind = WrongKind; place = place } ∷ fs) in
-    let some = some_after place (places_of WrongKind fs) in
+    let some = some_after place (fault_places WrongKind fs) in
     both found.kind some.0 some.1 (none_found found.unknown found.taken found.kind found.range h).2
 has_first TermRange place fs h =
     let found = found_after nothing_found (record { kind = TermRange; place = place } ∷ fs) in
-    let some = some_after place (places_of TermRange fs) in
+    let some = some_after place (fault_places TermRange fs) in
     both found.range some.0 some.1 (none_found found.unknown found.taken found.kind found.range h).3
 
 pub no_fault_is_first : first_fault [] ≡ None

@@ -7,7 +7,7 @@ use Rattle.std.proofs.lemmas.Bool.Decides.{nat_tests}
 use Rattle.std.proofs.lemmas.List.Elements.{Contains-append_right}
 use Rattle.ftl_typer.specs.declared.found.FaultKind.{FaultKind}
 use Rattle.ftl_typer.specs.declared.found.FaultKind.TheVariants.{UnknownName, NameTaken, WrongKind, TermRange}
-use Rattle.ftl_typer.specs.Fault.{Fault, has_kind, rank}
+use Rattle.ftl_typer.specs.Fault.{Fault, fault_rank, has_kind}
 use Rattle.ftl_typer.specs.First.{IsFirst, first_fault, first_found, found_after, is_no_later, least_place, lesser, nothing_found}
 use Rattle.ftl_typer.proofs.FaultLemmas.{no_faults}
 
@@ -17,7 +17,7 @@ here f g fs same = (0, omega arith, same)
 there : (f g : Fault) (fs : List Fault) → Contains fs g → Contains (f ∷ fs) g
 there f g fs later = Contains-append_right (f ∷ []) fs g later
 
-same_kind : (j k : FaultKind) → (rank j == rank k) ≡ true → j ≡ k
+same_kind : (j k : FaultKind) → (fault_rank j == fault_rank k) ≡ true → j ≡ k
 same_kind UnknownName UnknownName same = refl
 same_kind UnknownName NameTaken same = absurd (false≢true same)
 same_kind UnknownName WrongKind same = absurd (false≢true same)
@@ -38,10 +38,10 @@ same_kind TermRange TermRange same = refl
 -- ---- the least place of a kind
 
 abbrev at_least : FaultKind → ℕ → Fault → Bool
-at_least kind m g = not (rank g.kind == rank kind) || nat_le m g.place
+at_least kind m g = not (fault_rank g.kind == fault_rank kind) || nat_le m g.place
 
 abbrev of_another : FaultKind → Fault → Bool
-of_another kind g = not (rank g.kind == rank kind)
+of_another kind g = not (fault_rank g.kind == fault_rank kind)
 
 step : (b : Bool) (before : Option ℕ) (f : Fault) (gs : List Fault) →
     fold lesser before (map (λ (g : Fault). g.place) (cond b (f ∷ gs) gs))
@@ -49,18 +49,18 @@ step : (b : Bool) (before : Option ℕ) (f : Fault) (gs : List Fault) →
 step true before f gs = refl
 step false before f gs = refl
 
-of_kind : (kind : FaultKind) (before : Option ℕ) (f : Fault) (fs : List Fault) → (rank f.kind == rank kind) ≡ true →
+of_kind : (kind : FaultKind) (before : Option ℕ) (f : Fault) (fs : List Fault) → (fault_rank f.kind == fault_rank kind) ≡ true →
     least_place kind before (f ∷ fs) ≡ least_place kind (lesser before f.place) fs
 of_kind kind before f fs same =
-    let gs = filter (λ (g : Fault). rank g.kind == rank kind) fs in
-    step (rank f.kind == rank kind) before f gs
+    let gs = filter (λ (g : Fault). fault_rank g.kind == fault_rank kind) fs in
+    step (fault_rank f.kind == fault_rank kind) before f gs
     ∙ ap (λ (b : Bool). cond b (fold lesser (lesser before f.place) (map (λ (g : Fault). g.place) gs)) (fold lesser before (map (λ (g : Fault). g.place) gs))) same
 
-of_other : (kind : FaultKind) (before : Option ℕ) (f : Fault) (fs : List Fault) → (rank f.kind == rank kind) ≡ false →
+of_other : (kind : FaultKind) (before : Option ℕ) (f : Fault) (fs : List Fault) → (fault_rank f.kind == fault_rank kind) ≡ false →
     least_place kind before (f ∷ fs) ≡ least_place kind before fs
 of_other kind before f fs other =
-    let gs = filter (λ (g : Fault). rank g.kind == rank kind) fs in
-    step (rank f.kind == rank kind) before f gs
+    let gs = filter (λ (g : Fault). fault_rank g.kind == fault_rank kind) fs in
+    step (fault_rank f.kind == fault_rank kind) before f gs
     ∙ ap (λ (b : Bool). cond b (fold lesser (lesser before f.place) (map (λ (g : Fault). g.place) gs)) (fold lesser before (map (λ (g : Fault). g.place) gs))) other
 
 least_head : (b : Bool) (m place : ℕ) → m ≤ place → (not b || nat_le m place) ≡ true
@@ -80,7 +80,7 @@ record LeastFrom (kind : FaultKind) (start : ℕ) (fs : List Fault) (m : ℕ) : 
 least_from : (kind : FaultKind) (start : ℕ) (fs : List Fault) → (m : ℕ) × LeastFrom kind start fs m
 least_from kind start [] = (start, record { is = refl; below = omega arith; least = refl; place = inl refl })
 least_from kind start (f ∷ fs) =
-    elim (cases_Bool (rank f.kind == rank kind)) [
+    elim (cases_Bool (fault_rank f.kind == fault_rank kind)) [
       | inl same ↦
           let later = least_from kind (min start f.place) fs in
           let m = later.0 in
@@ -99,7 +99,7 @@ least_from kind start (f ∷ fs) =
             record {
               is = of_kind kind (Some start) f fs same ∙ later.1.is;
               below = omega arith;
-              least = and_from (at_least kind m f) (list_all (at_least kind m) fs) (least_head (rank f.kind == rank kind) m f.place (omega arith)) later.1.least;
+              least = and_from (at_least kind m f) (list_all (at_least kind m) fs) (least_head (fault_rank f.kind == fault_rank kind) m f.place (omega arith)) later.1.least;
               place = found;
             },
           )
@@ -115,7 +115,7 @@ least_from kind start (f ∷ fs) =
             record {
               is = of_other kind (Some start) f fs other ∙ later.1.is;
               below = later.1.below;
-              least = and_from (at_least kind m f) (list_all (at_least kind m) fs) (other_head (rank f.kind == rank kind) (nat_le m f.place) other) later.1.least;
+              least = and_from (at_least kind m f) (list_all (at_least kind m) fs) (other_head (fault_rank f.kind == fault_rank kind) (nat_le m f.place) other) later.1.least;
               place = found;
             },
           )
@@ -139,7 +139,7 @@ record LeastOf (kind : FaultKind) (fs : List Fault) (m : ℕ) : Type 0 where
 of_each_kind : (kind : FaultKind) (fs : List Fault) → NoneOf kind fs ⊎ ((m : ℕ) × LeastOf kind fs m)
 of_each_kind kind [] = inl (record { is = refl; none = refl })
 of_each_kind kind (f ∷ fs) =
-    elim (cases_Bool (rank f.kind == rank kind)) [
+    elim (cases_Bool (fault_rank f.kind == fault_rank kind)) [
       | inl same ↦
           let later = least_from kind f.place fs in
           let m = later.0 in
@@ -153,7 +153,7 @@ of_each_kind kind (f ∷ fs) =
             m,
             record {
               is = of_kind kind None f fs same ∙ later.1.is;
-              least = and_from (at_least kind m f) (list_all (at_least kind m) fs) (least_head (rank f.kind == rank kind) m f.place below) later.1.least;
+              least = and_from (at_least kind m f) (list_all (at_least kind m) fs) (least_head (fault_rank f.kind == fault_rank kind) m f.place below) later.1.least;
               place = found;
             },
           )
@@ -167,7 +167,7 @@ of_each_kind kind (f ∷ fs) =
               some.0,
               record {
                 is = of_other kind None f fs other ∙ some.1.is;
-                least = and_from (at_least kind some.0 f) (list_all (at_least kind some.0) fs) (other_head (rank f.kind == rank kind) (nat_le some.0 f.place) other) some.1.least;
+                least = and_from (at_least kind some.0 f) (list_all (at_least kind some.0) fs) (other_head (fault_rank f.kind == fault_rank kind) (nat_le some.0 f.place) other) some.1.least;
                 place = there f (record { kind = kind; place = some.0 }) fs some.1.place;
               },
             )
@@ -177,7 +177,7 @@ of_each_kind kind (f ∷ fs) =
 -- ---- no fault before the one that is told
 
 abbrev not_before : ℕ → Fault → Bool
-not_before k g = not (nat_lt (rank g.kind) k)
+not_before k g = not (nat_lt (fault_rank g.kind) k)
 
 all_first : (fs : List Fault) → list_all (not_before 0) fs ≡ true
 all_first [] = refl
@@ -186,27 +186,27 @@ all_first (f ∷ fs) = and_from (not_before 0 f) (list_all (not_before 0) fs) (g
 further : (n k : ℕ) → not (nat_lt n k) ≡ true → not (n == k) ≡ true → not (nat_lt n (k + 1)) ≡ true
 further n k behind other = grind (arith, nat_tests, behind, other)
 
-all_further : (kind : FaultKind) (fs : List Fault) → list_all (not_before (rank kind)) fs ≡ true → list_all (of_another kind) fs ≡ true →
-    list_all (not_before (rank kind + 1)) fs ≡ true
+all_further : (kind : FaultKind) (fs : List Fault) → list_all (not_before (fault_rank kind)) fs ≡ true → list_all (of_another kind) fs ≡ true →
+    list_all (not_before (fault_rank kind + 1)) fs ≡ true
 all_further kind [] behind other = refl
 all_further kind (f ∷ fs) behind other =
-    let first = and_parts (not_before (rank kind) f) (list_all (not_before (rank kind)) fs) behind in
+    let first = and_parts (not_before (fault_rank kind) f) (list_all (not_before (fault_rank kind)) fs) behind in
     let second = and_parts (of_another kind f) (list_all (of_another kind) fs) other in
-    and_from (not_before (rank kind + 1) f) (list_all (not_before (rank kind + 1)) fs)
-    (further (rank f.kind) (rank kind) first.0 second.0) (all_further kind fs first.1 second.1)
+    and_from (not_before (fault_rank kind + 1) f) (list_all (not_before (fault_rank kind + 1)) fs)
+    (further (fault_rank f.kind) (fault_rank kind) first.0 second.0) (all_further kind fs first.1 second.1)
 
 no_later : (k n : ℕ) (least : Bool) → not (nat_lt n k) ≡ true → (not (n == k) || least) ≡ true → (nat_lt k n || (k == n && least)) ≡ true
 no_later k n true behind h = grind (arith, nat_tests, behind)
 no_later k n false behind h = grind (arith, nat_tests, behind, h)
 
-all_no_later : (kind : FaultKind) (m : ℕ) (fs : List Fault) → list_all (not_before (rank kind)) fs ≡ true → list_all (at_least kind m) fs ≡ true →
+all_no_later : (kind : FaultKind) (m : ℕ) (fs : List Fault) → list_all (not_before (fault_rank kind)) fs ≡ true → list_all (at_least kind m) fs ≡ true →
     list_all (is_no_later (record { kind = kind; place = m })) fs ≡ true
 all_no_later kind m [] behind least = refl
 all_no_later kind m (f ∷ fs) behind least =
-    let first = and_parts (not_before (rank kind) f) (list_all (not_before (rank kind)) fs) behind in
+    let first = and_parts (not_before (fault_rank kind) f) (list_all (not_before (fault_rank kind)) fs) behind in
     let second = and_parts (at_least kind m f) (list_all (at_least kind m) fs) least in
     and_from (is_no_later (record { kind = kind; place = m }) f) (list_all (is_no_later (record { kind = kind; place = m })) fs)
-    (no_later (rank kind) (rank f.kind) (nat_le m f.place) first.0 second.0) (all_no_later kind m fs first.1 second.1)
+    (no_later (fault_rank kind) (fault_rank f.kind) (nat_le m f.place) first.0 second.0) (all_no_later kind m fs first.1 second.1)
 
 pub first_is_first : (fs : List Fault) → IsFirst fs (first_fault fs)
 unfolding found_after
@@ -263,8 +263,8 @@ found_later here before later other = grind (arith, other)
 pub least_is_some : (kind : FaultKind) (before : Option ℕ) (fs : List Fault) → is_some (least_place kind before fs) ≡ (is_some before || has_kind kind fs)
 least_is_some kind before [] = grind (arith)
 least_is_some kind before (f ∷ fs) =
-    let of_it : Bool = rank f.kind == rank kind in
-    elim (cases_Bool (rank f.kind == rank kind)) [
+    let of_it : Bool = fault_rank f.kind == fault_rank kind in
+    elim (cases_Bool (fault_rank f.kind == fault_rank kind)) [
       | inl same ↦
           ap is_some (of_kind kind before f fs same)
           ∙ least_is_some kind (lesser before f.place) fs

@@ -8,19 +8,19 @@ use Rattle.std.proofs.lemmas.List.Sums.{fold-append}
 use Rattle.ftl_typer.specs.declared.found.FaultKind.{FaultKind}
 use Rattle.ftl_typer.specs.declared.found.FaultKind.TheVariants.{UnknownName, NameTaken, WrongKind, TermRange}
 use Rattle.ftl_typer.specs.declared.found.Found.{Found}
-use Rattle.ftl_typer.specs.Fault.{Fault, rank}
-use Rattle.ftl_typer.specs.First.{found_after, least_place, lesser, places_of}
+use Rattle.ftl_typer.specs.Fault.{Fault, fault_rank}
+use Rattle.ftl_typer.specs.First.{fault_places, found_after, least_place, lesser}
 
-places_on : (kind : FaultKind) (fs gs : List Fault) → places_of kind (fs ++ gs) ≡ places_of kind fs ++ places_of kind gs
+places_on : (kind : FaultKind) (fs gs : List Fault) → fault_places kind (fs ++ gs) ≡ fault_places kind fs ++ fault_places kind gs
 places_on kind fs gs =
-    ap (map (λ (fault : Fault). fault.place)) (filter-append (λ (fault : Fault). rank fault.kind == rank kind) fs gs)
-    ∙ map-append (λ (fault : Fault). fault.place) (filter (λ (fault : Fault). rank fault.kind == rank kind) fs)
-    (filter (λ (fault : Fault). rank fault.kind == rank kind) gs)
+    ap (map (λ (fault : Fault). fault.place)) (filter-append (λ (fault : Fault). fault_rank fault.kind == fault_rank kind) fs gs)
+    ∙ map-append (λ (fault : Fault). fault.place) (filter (λ (fault : Fault). fault_rank fault.kind == fault_rank kind) fs)
+    (filter (λ (fault : Fault). fault_rank fault.kind == fault_rank kind) gs)
 
 least_on : (kind : FaultKind) (before : Option ℕ) (fs gs : List Fault) →
     least_place kind (least_place kind before fs) gs ≡ least_place kind before (fs ++ gs)
 least_on kind before fs gs =
-    sym (fold-append lesser before (places_of kind fs) (places_of kind gs)) ∙ ap (fold lesser before) (sym (places_on kind fs gs))
+    sym (fold-append lesser before (fault_places kind fs) (fault_places kind gs)) ∙ ap (fold lesser before) (sym (places_on kind fs gs))
 
 pub found_on : (before : Found) (fs gs : List Fault) →
     found_after (found_after before fs) gs ≡ found_after before (fs ++ gs)

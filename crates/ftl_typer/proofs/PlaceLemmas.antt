@@ -22,7 +22,7 @@ use Rattle.object_store.proofs.Lists.{find_is}
 use Rattle.ftl_parser.specs.declared.tree.FromPart.{FromPart}
 use Rattle.ftl_typer.specs.declared.values.Assigned.{Assigned}
 use Rattle.ftl_typer.specs.Resolved.{class_place}
-use Rattle.ftl_typer.specs.Scope.{Scope, attribute_kind, attribute_number, bound_of_value, class_named, is_point, is_text, is_value, is_variable, scope_with, value_named, value_of, variable_number}
+use Rattle.ftl_typer.specs.Scope.{NameScope, attribute_number, bound_of_value, class_named, is_kind_of_text, is_point, is_value, is_variable, named_attribute_kind, scope_with, value_named, value_of, variable_number}
 
 -- ---- what is found has a place
 
@@ -104,7 +104,7 @@ attribute_in a (Some k) there =
     (find_is (λ (attribute : Attribute). bytes_eq a attribute.name) k.attributes) there
 
 module _ (c : Catalog) (regions : List Region) (from : List FromPart) (there : AreThere c.classes from) (vs : List Assigned) where
-  abbrev pub s : Scope
+  abbrev pub s : NameScope
   s = scope_with c.classes regions from vs
 
   pub class_is : (o : List ℕ) → is_variable s o ≡ true →
@@ -122,8 +122,8 @@ module _ (c : Catalog) (regions : List Region) (from : List FromPart) (there : A
       fits.is_point_variable c (numbers_of c.classes from) (variable_number s o) ≡ is_point s o
   point_is o known = ap (λ (k : Option ClassInfo). option_map_or (λ (info : ClassInfo). info.point) k false) (class_is o known)
 
-  pub attribute_is : (o a : List ℕ) → is_variable s o ≡ true → is_none (attribute_kind s o a) ≡ false →
-      fits.attribute_kind c (numbers_of c.classes from) (variable_number s o) (attribute_number s o a) ≡ attribute_kind s o a
+  pub attribute_is : (o a : List ℕ) → is_variable s o ≡ true → is_none (named_attribute_kind s o a) ≡ false →
+      fits.attribute_kind c (numbers_of c.classes from) (variable_number s o) (attribute_number s o a) ≡ named_attribute_kind s o a
   attribute_is o a known has =
       ap (kind_placed (attribute_number s o a)) (class_is o known) ∙ attribute_in a (s.class o) has
 
@@ -159,7 +159,7 @@ kind_where false = Number
 
 -- the kinds and the bounds of value variables, by depth
 abbrev pub kinds_of : List Assigned → ℕ → Option ValueKind
-kinds_of vs d = option_map (λ v. kind_where (is_text v.kind)) (slice_get vs d)
+kinds_of vs d = option_map (λ v. kind_where (is_kind_of_text v.kind)) (slice_get vs d)
 
 abbrev pub bounds_of : List Assigned → ℕ → ℤ → Bool
 bounds_of vs d bound = option_map_or (λ v. int_eq bound (pos v.bound)) (slice_get vs d) false
@@ -181,9 +181,9 @@ item_at_end (x ∷ vs) v zero = sym (ap (λ (b : Bool). cond b (Some v) (Some x)
 item_at_end (x ∷ vs) v (suc e) =
     item_at_end vs v e ∙ sym (ap (λ (b : Bool). cond b (Some v) (slice_get vs e)) (next_place e (length vs)))
 
-kind_of_either : (b text : Bool) (v : Assigned) (r : Option Assigned) → is_text v.kind ≡ text →
-    option_map (λ (w : Assigned). kind_where (is_text w.kind)) (cond b (Some v) r)
-    ≡ cond b (Some (kind_where text)) (option_map (λ (w : Assigned). kind_where (is_text w.kind)) r)
+kind_of_either : (b text : Bool) (v : Assigned) (r : Option Assigned) → is_kind_of_text v.kind ≡ text →
+    option_map (λ (w : Assigned). kind_where (is_kind_of_text w.kind)) (cond b (Some v) r)
+    ≡ cond b (Some (kind_where text)) (option_map (λ (w : Assigned). kind_where (is_kind_of_text w.kind)) r)
 kind_of_either true text v r is = ap (λ (t : Bool). Some (kind_where t)) is
 kind_of_either false text v r is = refl
 
@@ -193,10 +193,10 @@ bound_of_either : (b : Bool) (v : Assigned) (n : ℕ) (beside : ℤ) (r : Option
 bound_of_either true v n beside r is = ap (λ (m : ℕ). int_eq beside (pos m)) is
 bound_of_either false v n beside r is = refl
 
-pub kinds_more : (vs : List Assigned) (v : Assigned) (text : Bool) → is_text v.kind ≡ text →
+pub kinds_more : (vs : List Assigned) (v : Assigned) (text : Bool) → is_kind_of_text v.kind ≡ text →
     kinds_of (vs ++ v ∷ []) ≡ fits.with_kind (kinds_of vs) (length vs) (kind_where text)
 kinds_more vs v text is = λ i e.
-    (ap (option_map (λ (w : Assigned). kind_where (is_text w.kind))) (item_at_end vs v e)
+    (ap (option_map (λ (w : Assigned). kind_where (is_kind_of_text w.kind))) (item_at_end vs v e)
     ∙ kind_of_either (eqb e (length vs)) text v (slice_get vs e) is) i
 
 pub bounds_more : (vs : List Assigned) (v : Assigned) (n : ℕ) → v.bound ≡ n →
@@ -206,8 +206,8 @@ bounds_more vs v n is = λ i e beside.
     ∙ bound_of_either (eqb e (length vs)) v n beside (slice_get vs e) is) i
 
 kind_of_found : (r : Option Assigned) → is_some r ≡ true →
-    option_map (λ (v : Assigned). kind_where (is_text v.kind)) r
-    ≡ Some (kind_where (option_map_or (λ (v : Assigned). is_text v.kind) r false))
+    option_map (λ (v : Assigned). kind_where (is_kind_of_text v.kind)) r
+    ≡ Some (kind_where (option_map_or (λ (v : Assigned). is_kind_of_text v.kind) r false))
 kind_of_found None there = absurd (false≢true there)
 kind_of_found (Some v) there = refl
 
@@ -216,12 +216,12 @@ bound_of_found : (r : Option Assigned) → is_some r ≡ true →
 bound_of_found None there = absurd (false≢true there)
 bound_of_found (Some v) there = (Decides-int_eq (pos v.bound) (pos v.bound)).1 refl
 
-module _ (s : Scope) (name : List ℕ) (known : is_value s name ≡ true) where
+module _ (s : NameScope) (name : List ℕ) (known : is_value s name ≡ true) where
   pub value_kind_is :
       kinds_of s.values (unwrap_or (value_of s name) 0)
-      ≡ Some (kind_where (option_map_or (λ (v : Assigned). is_text v.kind) (value_named s name) false))
+      ≡ Some (kind_where (option_map_or (λ (v : Assigned). is_kind_of_text v.kind) (value_named s name) false))
   value_kind_is =
-      ap (option_map (λ (v : Assigned). kind_where (is_text v.kind))) (at_place (λ (v : Assigned). bytes_eq name v.name) s.values known)
+      ap (option_map (λ (v : Assigned). kind_where (is_kind_of_text v.kind))) (at_place (λ (v : Assigned). bytes_eq name v.name) s.values known)
       ∙ kind_of_found (value_named s name) (find_there (λ (v : Assigned). bytes_eq name v.name) s.values known)
 
   pub value_bound_is : bounds_of s.values (unwrap_or (value_of s name) 0) (pos (bound_of_value s name)) ≡ true

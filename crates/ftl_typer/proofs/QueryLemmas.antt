@@ -16,14 +16,14 @@ use Rattle.formula.specs.Resolved.{IsResolved, are_distinct, is_list_of}
 use Rattle.formula_shape.specs.declared.limits.TheConstants as limits
 use Rattle.meaning.specs.Fits.{FitsItsClasses}
 use Rattle.ftl_parser.specs.declared.tree.FromPart.{FromPart}
-use Rattle.ftl_parser.specs.Lawful.{IsAny, IsLawful, IsPart}
+use Rattle.ftl_parser.specs.Lawful.{IsAny, IsFromPart, IsLawful}
 use Rattle.ftl_parser.specs.Tree.{QueryTree, Tree}
 use Rattle.ftl_typer.specs.declared.found.FaultKind.TheVariants.{UnknownName, NameTaken}
 use Rattle.ftl_typer.specs.Faults.{faults, formula_faults, parts_faults, targets_faults}
 use Rattle.ftl_typer.specs.Fault.{fault_if}
 use Rattle.ftl_typer.specs.First.{first_fault}
 use Rattle.ftl_typer.specs.Resolved.{class_place, resolved, resolved_formula}
-use Rattle.ftl_typer.specs.Scope.{Scope, is_variable, scope_of, variable_number, with_value}
+use Rattle.ftl_typer.specs.Scope.{NameScope, is_variable, scope_of, variable_number, with_assigned}
 use Rattle.ftl_typer.proofs.FaultLemmas.{no_faults, none_if, parts_of_none}
 use Rattle.ftl_typer.proofs.PlaceLemmas.{AreThere, numbers_of, one_name, place_below, some_there, variable_below}
 use Rattle.ftl_typer.proofs.RightLemmas.{formula_right, some_items}
@@ -32,7 +32,7 @@ use Rattle.ftl_typer.proofs.StableLemmas.{parts_stay}
 
 -- ---- sizes
 
-nodes_stay : (s : Scope) (f : Tree) → nodes (resolved_formula s f) ≡ nodes f
+nodes_stay : (s : NameScope) (f : Tree) → nodes (resolved_formula s f) ≡ nodes f
 nodes_stay s (shapes.Truth b) = refl
 nodes_stay s (shapes.Atom a) = refl
 nodes_stay s (shapes.Not f) = ap (λ (n : ℕ). n + 1) (nodes_stay s f)
@@ -43,9 +43,9 @@ nodes_stay s (shapes.Eventually f) = ap (λ (n : ℕ). n + 1) (nodes_stay s f)
 nodes_stay s (shapes.Always f) = ap (λ (n : ℕ). n + 1) (nodes_stay s f)
 nodes_stay s (shapes.Bounded form ticks f) = ap (λ (n : ℕ). n + 1) (nodes_stay s f)
 nodes_stay s (shapes.Until form ticks f g) = λ i. nodes_stay s f i + nodes_stay s g i + 1
-nodes_stay s (shapes.Assign (name, t) f) = ap (λ (n : ℕ). n + 1) (nodes_stay (with_value s name t) f)
+nodes_stay s (shapes.Assign (name, t) f) = ap (λ (n : ℕ). n + 1) (nodes_stay (with_assigned s name t) f)
 
-depth_stays : (s : Scope) (f : Tree) → depth (resolved_formula s f) ≡ depth f
+depth_stays : (s : NameScope) (f : Tree) → depth (resolved_formula s f) ≡ depth f
 depth_stays s (shapes.Truth b) = refl
 depth_stays s (shapes.Atom a) = refl
 depth_stays s (shapes.Not f) = ap (λ (n : ℕ). n + 1) (depth_stays s f)
@@ -56,7 +56,7 @@ depth_stays s (shapes.Eventually f) = ap (λ (n : ℕ). n + 1) (depth_stays s f)
 depth_stays s (shapes.Always f) = ap (λ (n : ℕ). n + 1) (depth_stays s f)
 depth_stays s (shapes.Bounded form ticks f) = ap (λ (n : ℕ). n + 1) (depth_stays s f)
 depth_stays s (shapes.Until form ticks f g) = λ i. max (depth_stays s f i) (depth_stays s g i) + 1
-depth_stays s (shapes.Assign (name, t) f) = ap (λ (n : ℕ). n + 1) (depth_stays (with_value s name t) f)
+depth_stays s (shapes.Assign (name, t) f) = ap (λ (n : ℕ). n + 1) (depth_stays (with_assigned s name t) f)
 
 -- ---- classes
 
@@ -72,7 +72,7 @@ classes_below classes (part ∷ from) there =
 -- ---- targets
 
 module _ (c : Catalog) (regions : List Region) (from : List FromPart) where
-  abbrev pub s : Scope
+  abbrev pub s : NameScope
   s = scope_of c.classes regions from
 
   record Target (at : ℕ) (earlier : List (List ℕ)) (name : List ℕ) (names : List (List ℕ)) : Type 0 where
@@ -198,7 +198,7 @@ query_right w q lawful h =
     let few_variables = small.few_variables in
     let sized = listed (variable_number around) limits.OBJECT_LIMIT q.targets (some_items IsAny q.targets lawful.shape.targets) (omega arith) in (
       record {
-        variables = listed (λ (part : FromPart). class_place c.classes part.class) limits.OBJECT_LIMIT q.from (some_items (IsPart IsAny) q.from lawful.shape.from) few_variables;
+        variables = listed (λ (part : FromPart). class_place c.classes part.class) limits.OBJECT_LIMIT q.from (some_items (IsFromPart IsAny) q.from lawful.shape.from) few_variables;
         targets =
             and_from (is_list_of limits.OBJECT_LIMIT (map (variable_number around) q.targets))
             (list_all (λ (v : ℕ). nat_lt v (length (numbers_of c.classes q.from))) (map (variable_number around) q.targets))

@@ -33,7 +33,7 @@ use Rattle.ftl_parser.specs.declared.tree.Signed.{Signed}
 use Rattle.ftl_parser.specs.declared.tree.Term.{Term}
 use Rattle.ftl_parser.specs.declared.tree.Unit as unit_type
 use Rattle.ftl_parser.specs.declared.tree.Unit.TheVariants as units
-use Rattle.ftl_parser.specs.Lawful.{IsAny, IsAtom, IsBound, IsFactor, IsFormula, IsMultiple, IsTerm, IsUnit, IsUnsigned, OneOrMore}
+use Rattle.ftl_parser.specs.Lawful.{AreUntilTicks, IsAny, IsAtom, IsFactor, IsFormula, IsMultiple, IsTerm, IsUnit, IsUnsigned, OneOrMore}
 use Rattle.ftl_parser.specs.Order.{formula_names, formula_terms, term_names, unit_names}
 use Rattle.ftl_parser.specs.Sizes.{atom_factors, atom_objects, factors, objects}
 use Rattle.ftl_parser.specs.Tree.{Tree}
@@ -45,7 +45,7 @@ use Rattle.formula.specs.Kinds.{may_compare}
 use Rattle.ftl_typer.specs.Faults.{assigned_faults, atom_faults, attribute_faults, factors_faults, formula_faults, object_faults, point_faults, points_faults, region_faults, term_faults, unit_faults}
 use Rattle.ftl_typer.specs.Fault.{fault_if}
 use Rattle.ftl_typer.specs.Resolved.{region_place, resolved_atom, resolved_formula}
-use Rattle.ftl_typer.specs.Scope.{Scope, assigned, attribute_kind, bound_in_range, has_no_parts, has_text, is_bare, is_misplaced, is_no_object, is_no_point, is_past_range, is_point, is_static, is_text, is_text_kind, is_text_unit, is_unknown, is_value, is_variable, lacks_attribute, resolved_factor, resolved_term, resolved_unit, scope_with, term_kind, variable_number, with_value}
+use Rattle.ftl_typer.specs.Scope.{NameScope, assigned, bound_in_range, has_no_parts, has_text, is_bare, is_kind_of_text, is_misplaced_text, is_no_object, is_no_point, is_past_range, is_point, is_static, is_text_kind, is_text_unit, is_unknown, is_value, is_variable, lacks_attribute, named_attribute_kind, named_term_kind, resolved_factor, resolved_term, resolved_unit, scope_with, variable_number, with_assigned}
 use Rattle.ftl_typer.proofs.FaultLemmas.{none_if, parts_of_none}
 use Rattle.ftl_typer.proofs.PlaceLemmas.{AreThere, attribute_is, bounds_more, bounds_of, kind_where, kinds_more, kinds_of, numbers_of, place_below, point_is, some_there, value_bound_is, value_kind_is, variable_below}
 
@@ -130,7 +130,7 @@ compares true true ops.Le may = absurd (false≢true may)
 compares true true ops.Ge may = absurd (false≢true may)
 compares true true ops.Gt may = absurd (false≢true may)
 
-text_of_kind : (text : Bool) → is_text (if text then Text else Number) ≡ text
+text_of_kind : (text : Bool) → is_kind_of_text (if text then Text else Number) ≡ text
 text_of_kind true = refl
 text_of_kind false = refl
 
@@ -162,7 +162,7 @@ small_radius (pos n) small = (from_zero n, le-leb n RADIUS_LIMIT small)
 small_radius (negsuc n) small = absurd small
 
 module _ (c : Catalog) (regions : List Region) (from : List FromPart) (there : AreThere c.classes from) where
-  abbrev pub scope_over : List Assigned → Scope
+  abbrev pub scope_over : List Assigned → NameScope
   scope_over = scope_with c.classes regions from
 
   abbrev pub numbers : List ℕ
@@ -172,7 +172,7 @@ module _ (c : Catalog) (regions : List Region) (from : List FromPart) (there : A
   count = length numbers
 
   module _ (vs : List Assigned) where
-    abbrev pub s : Scope
+    abbrev pub s : NameScope
     s = scope_over vs
 
     object_variable : (at : ℕ) (o : List ℕ) → object_faults s at o ≡ [] → is_variable s o ≡ true
@@ -188,12 +188,12 @@ module _ (c : Catalog) (regions : List Region) (from : List FromPart) (there : A
         (none_if (is_unknown s name) UnknownName at parts.0) (none_if (is_variable s name) WrongKind at parts.1)
 
     has_attribute : (at : ℕ) (o a : List ℕ) → attribute_faults s at o a ≡ [] →
-        (is_variable s o ≡ true) × (is_none (attribute_kind s o a) ≡ false)
+        (is_variable s o ≡ true) × (is_none (named_attribute_kind s o a) ≡ false)
     has_attribute at o a h =
         let parts = parts_of_none (object_faults s at o) (fault_if (lacks_attribute s o a) UnknownName (at + 1)) h in
         let known = object_variable at o parts.0 in (
           known,
-          second_false (is_variable s o) (is_none (attribute_kind s o a)) known
+          second_false (is_variable s o) (is_none (named_attribute_kind s o a)) known
               (none_if (lacks_attribute s o a) UnknownName (at + 1) parts.1),
         )
 
@@ -210,14 +210,14 @@ module _ (c : Catalog) (regions : List Region) (from : List FromPart) (there : A
     unit_kind_is at (units.Alone name) h = value_kind_is s name (value_variable at name h)
     unit_kind_is at (units.Attr o a) h =
         let has = has_attribute at o a h in
-        ap (option_and_then (fits.kind_beside (pos (option_map_or attribute_bound (attribute_kind s o a) 0))))
+        ap (option_and_then (fits.kind_beside (pos (option_map_or attribute_bound (named_attribute_kind s o a) 0))))
         (attribute_is c regions from there vs o a has.0 has.1)
-        ∙ kind_of_attribute (attribute_kind s o a) has.1
+        ∙ kind_of_attribute (named_attribute_kind s o a) has.1
     unit_kind_is at (units.Sub o a part) h =
         let parts = part_parts at o a h in
         let has = has_attribute at o a parts.0 in
         ap (option_and_then fits.kind_of_parts) (attribute_is c regions from there vs o a has.0 has.1)
-        ∙ kind_of_part (attribute_kind s o a) has.1 parts.1
+        ∙ kind_of_part (named_attribute_kind s o a) has.1 parts.1
     unit_kind_is at units.Time h = refl
 
     unit_right : (at : ℕ) (u : unit_type.Unit) → unit_faults s at u ≡ [] → IsUnit IsAny IsAny u →
@@ -285,11 +285,11 @@ module _ (c : Catalog) (regions : List Region) (from : List FromPart) (there : A
     factors_kind_is at (f ∷ (g ∷ fs)) true h some is bare = absurd (true≢false bare)
 
     term_parts : (at nth : ℕ) (t : Term) → term_faults s at nth t ≡ [] →
-        (is_misplaced s t ≡ false) × (factors_faults s at t.factors ≡ []) × (is_past_range s t ≡ false)
+        (is_misplaced_text s t ≡ false) × (factors_faults s at t.factors ≡ []) × (is_past_range s t ≡ false)
     term_parts at nth t h =
-        let outer = parts_of_none (fault_if (is_misplaced s t) WrongKind at) (factors_faults s at t.factors ++ fault_if (is_past_range s t) TermRange nth) h in
+        let outer = parts_of_none (fault_if (is_misplaced_text s t) WrongKind at) (factors_faults s at t.factors ++ fault_if (is_past_range s t) TermRange nth) h in
         let inner = parts_of_none (factors_faults s at t.factors) (fault_if (is_past_range s t) TermRange nth) outer.1 in
-        (none_if (is_misplaced s t) WrongKind at outer.0, inner.0, none_if (is_past_range s t) TermRange nth inner.1)
+        (none_if (is_misplaced_text s t) WrongKind at outer.0, inner.0, none_if (is_past_range s t) TermRange nth inner.1)
 
     in_range : (at nth : ℕ) (t : Term) → term_faults s at nth t ≡ [] → nat_le (term_bound (resolved_term s t)) FIX_LIMIT ≡ true
     in_range at nth t h = not-false (nat_le (term_bound (resolved_term s t)) FIX_LIMIT) (term_parts at nth t h).2
@@ -344,7 +344,7 @@ module _ (c : Catalog) (regions : List Region) (from : List FromPart) (there : A
         × (fits.atom_fits c numbers (length regions) (kinds_of vs) (resolved_atom s (atoms.Compare t op u)) ≡ true)
     compare_right at nth t u op h left right few_left few_right =
         let behind = at + length (term_names t) in
-        let may = may_compare (term_kind s t) op (term_kind s u) in
+        let may = may_compare (named_term_kind s t) op (named_term_kind s u) in
         let outer = parts_of_none (fault_if (not may) WrongKind at) (term_faults s at nth t ++ term_faults s behind (nth + 1) u) h in
         let inner = parts_of_none (term_faults s at nth t) (term_faults s behind (nth + 1) u) outer.1 in
         let fit = not-false may (none_if (not may) WrongKind at outer.0) in (
@@ -396,7 +396,7 @@ module _ (c : Catalog) (regions : List Region) (from : List FromPart) (there : A
 
   -- ---- formulas
 
-  until_right : (form : UntilForm) (ticks : ℕ) → IsBound form ticks → is_until form ticks ≡ true
+  until_right : (form : UntilForm) (ticks : ℕ) → AreUntilTicks form ticks → is_until form ticks ≡ true
   until_right untils.Plain ticks h = eq-eqb ticks 0 h
   until_right untils.Within ticks h = le-leb ticks LAST_TICK h
   until_right untils.After ticks h = le-leb ticks LAST_TICK h
@@ -473,7 +473,7 @@ module _ (c : Catalog) (regions : List Region) (from : List FromPart) (there : A
   formula_right vs at nth (shapes.Assign (name, t) f) h small few circle nested =
       let v = assigned (scope_over vs) name t in
       let behind = at + 1 + length (term_names t) in
-      let outer = parts_of_none (assigned_faults (scope_over vs) at name) (term_faults (scope_over vs) (at + 1) nth t ++ formula_faults (with_value (scope_over vs) name t) behind (nth + 1) f) h in
-      let inner = parts_of_none (term_faults (scope_over vs) (at + 1) nth t) (formula_faults (with_value (scope_over vs) name t) behind (nth + 1) f) outer.1 in
+      let outer = parts_of_none (assigned_faults (scope_over vs) at name) (term_faults (scope_over vs) (at + 1) nth t ++ formula_faults (with_assigned (scope_over vs) name t) behind (nth + 1) f) h in
+      let inner = parts_of_none (term_faults (scope_over vs) (at + 1) nth t) (formula_faults (with_assigned (scope_over vs) name t) behind (nth + 1) f) outer.1 in
       assigned_right vs name t f (at + 1) nth inner.0 small.1 (omega arith) (omega arith)
       (formula_right (vs ++ v ∷ []) behind (nth + 1) f inner.1 small.2 (omega arith) (omega arith) (omega (arith, length-append vs (v ∷ []))))

@@ -19,7 +19,7 @@ use Rattle.ftl_typer.specs.Faults.{atom_faults, faults, formula_faults, parts_fa
 use Rattle.ftl_typer.specs.Fault.{Fault, fault_if}
 use Rattle.ftl_typer.specs.First.{first_fault}
 use Rattle.ftl_typer.specs.Resolved.{class_place, resolved, resolved_atom, resolved_formula}
-use Rattle.ftl_typer.specs.Scope.{Scope, class_named, is_variable, resolved_term, scope_of, variable_number, with_value}
+use Rattle.ftl_typer.specs.Scope.{NameScope, class_named, is_variable, resolved_term, scope_of, variable_number, with_assigned}
 use Rattle.ftl_typer.proofs.FaultLemmas.{joined, no_faults, no_fault_is_first, none_if, parts_of_none}
 
 -- ---- more regions
@@ -27,20 +27,20 @@ use Rattle.ftl_typer.proofs.FaultLemmas.{joined, no_faults, no_fault_is_first, n
 abbrev pub KnowsMore : (List ℕ → Option ℕ) → (List ℕ → Option ℕ) → Type 0
 KnowsMore region more = (name : List ℕ) → is_none (region name) ≡ false → more name ≡ region name
 
-abbrev pub with_regions : Scope → (List ℕ → Option ℕ) → Scope
+abbrev pub with_regions : NameScope → (List ℕ → Option ℕ) → NameScope
 with_regions s more = record s { region = more }
 
 module _ (more : List ℕ → Option ℕ) where
-  region_stays : (s : Scope) → KnowsMore s.region more → (at : ℕ) (name : List ℕ) → region_faults s at name ≡ [] →
+  region_stays : (s : NameScope) → KnowsMore s.region more → (at : ℕ) (name : List ℕ) → region_faults s at name ≡ [] →
       more name ≡ s.region name
   region_stays s known at name h = known name (none_if (is_none (s.region name)) UnknownName at h)
 
-  no_region_fault : (s : Scope) → KnowsMore s.region more → (at : ℕ) (name : List ℕ) → region_faults s at name ≡ [] →
+  no_region_fault : (s : NameScope) → KnowsMore s.region more → (at : ℕ) (name : List ℕ) → region_faults s at name ≡ [] →
       region_faults (with_regions s more) at name ≡ []
   no_region_fault s known at name h =
       subst (λ (found : Option ℕ). fault_if (is_none found) UnknownName at ≡ []) (sym (region_stays s known at name h)) h
 
-  atom_stays : (s : Scope) → KnowsMore s.region more → (at nth : ℕ) (a : atom_type.Atom) → atom_faults s at nth a ≡ [] →
+  atom_stays : (s : NameScope) → KnowsMore s.region more → (at nth : ℕ) (a : atom_type.Atom) → atom_faults s at nth a ≡ [] →
       (atom_faults (with_regions s more) at nth a ≡ []) × (resolved_atom (with_regions s more) a ≡ resolved_atom s a)
   atom_stays s known at nth (atoms.Compare t op u) h = (h, refl)
   atom_stays s known at nth (atoms.Inside o region) h =
@@ -56,7 +56,7 @@ module _ (more : List ℕ → Option ℕ) where
   atom_stays s known at nth (atoms.Dist o n op c) h = (h, refl)
   atom_stays s known at nth (atoms.Sphere r names) h = (h, refl)
 
-  formula_stays : (s : Scope) → KnowsMore s.region more → (at nth : ℕ) (f : Tree) → formula_faults s at nth f ≡ [] →
+  formula_stays : (s : NameScope) → KnowsMore s.region more → (at nth : ℕ) (f : Tree) → formula_faults s at nth f ≡ [] →
       (formula_faults (with_regions s more) at nth f ≡ []) × (resolved_formula (with_regions s more) f ≡ resolved_formula s f)
   formula_stays s known at nth (shapes.Truth b) h = (refl, refl)
   formula_stays s known at nth (shapes.Atom a) h =
@@ -88,12 +88,12 @@ module _ (more : List ℕ → Option ℕ) where
       (joined _ _ left.0 right.0, λ i. shapes.Until form ticks (left.1 i) (right.1 i))
   formula_stays s known at nth (shapes.Assign (name, t) f) h =
       let behind = at + 1 + length (term_names t) in
-      let outer = parts_of_none (assigned_faults s at name) (term_faults s (at + 1) nth t ++ formula_faults (with_value s name t) behind (nth + 1) f) h in
-      let inner = parts_of_none (term_faults s (at + 1) nth t) (formula_faults (with_value s name t) behind (nth + 1) f) outer.1 in
-      let stays = formula_stays (with_value s name t) known behind (nth + 1) f inner.1 in
+      let outer = parts_of_none (assigned_faults s at name) (term_faults s (at + 1) nth t ++ formula_faults (with_assigned s name t) behind (nth + 1) f) h in
+      let inner = parts_of_none (term_faults s (at + 1) nth t) (formula_faults (with_assigned s name t) behind (nth + 1) f) outer.1 in
+      let stays = formula_stays (with_assigned s name t) known behind (nth + 1) f inner.1 in
       (joined _ _ outer.0 (joined _ _ inner.0 stays.0), λ i. shapes.Assign (length s.values, resolved_term s t) (stays.1 i))
 
-  targets_stay : (s : Scope) (at : ℕ) (earlier names : List (List ℕ)) →
+  targets_stay : (s : NameScope) (at : ℕ) (earlier names : List (List ℕ)) →
       targets_faults (with_regions s more) at earlier names ≡ targets_faults s at earlier names
   targets_stay s at earlier [] = refl
   targets_stay s at earlier (name ∷ names) =
@@ -206,7 +206,7 @@ module _ (classes added : List ClassInfo) where
 -- ---- queries
 
 -- what is said of a scope
-abbrev pub StaysIn : Scope → Scope → QueryTree → Type 0
+abbrev pub StaysIn : NameScope → NameScope → QueryTree → Type 0
 StaysIn new old q =
     let behind = length q.targets + 2 * length q.from in
     (targets_faults new 0 [] q.targets ≡ [])
@@ -233,7 +233,7 @@ query_stays classes added regions more q h =
     (targets_stay (region_number (regions ++ more)) old 0 [] q.targets ∙ outer.0, formula.0, refl, formula.1) in
     let same : with_regions old (region_number (regions ++ more)) ≡ new =
     λ i. record new { class = λ name. sym (class_stays classes added name q.from parts.0) i } in
-    let stays = subst (λ (s : Scope). StaysIn s old q) same with_more in (
+    let stays = subst (λ (s : NameScope). StaysIn s old q) same with_more in (
       ap first_fault (joined _ _ stays.0 (joined _ _ parts.1 stays.1)) ∙ no_fault_is_first,
       λ i. record { targets = stays.2 i; classes = class_places_stay classes added q.from parts.0 i; formula = stays.3 i },
     )

@@ -13,7 +13,7 @@ use Rattle.ftl_typer.specs.declared.found.Found.{Found}
 use Rattle.ftl_typer.specs.Faults.{factors_faults, parts_faults, point_faults, points_faults, targets_faults, unit_faults}
 use Rattle.ftl_typer.specs.Fault.{fault_if}
 use Rattle.ftl_typer.specs.First.{found_after}
-use Rattle.ftl_typer.specs.Scope.{Scope, is_variable}
+use Rattle.ftl_typer.specs.Scope.{NameScope, is_variable}
 use Rattle.ftl_typer.proofs.FoundLemmas.{found_none, found_three, found_two}
 
 empty : {X : Type 0} (xs : List X) → length xs ≡ 0 → xs ≡ []
@@ -21,31 +21,31 @@ empty [] none = refl
 empty (x ∷ xs) none = let never : ⊥ = omega arith in absurd never
 
 -- a factor, at the front of those that are left
-pub factor_step : (s : Scope) (at behind : ℕ) (f : Signed) (fs : List Signed) (before between : Found) →
+pub factor_step : (s : NameScope) (at behind : ℕ) (f : Signed) (fs : List Signed) (before between : Found) →
     between ≡ found_after before (unit_faults s at f.unit) → behind ≡ at + length (unit_names f.unit) →
     found_after between (factors_faults s behind fs) ≡ found_after before (factors_faults s at (f ∷ fs))
 factor_step s at behind f fs before between first next =
     ap (λ (place : ℕ). found_after between (factors_faults s place fs)) next ∙ found_two before _ _ first refl
 
 -- no factor is left
-pub factors_end : (s : Scope) (at : ℕ) (fs : List Signed) (found : Found) → length fs ≡ 0 →
+pub factors_end : (s : NameScope) (at : ℕ) (fs : List Signed) (found : Found) → length fs ≡ 0 →
     found_after found (factors_faults s at fs) ≡ found
 factors_end s at fs found none =
     ap (λ (left : List Signed). found_after found (factors_faults s at left)) (empty _ none) ∙ sym (found_none found)
 
 -- a name of a circle
-pub point_step : (s : Scope) (at : ℕ) (name : List ℕ) (names : List (List ℕ)) (before between : Found) →
+pub point_step : (s : NameScope) (at : ℕ) (name : List ℕ) (names : List (List ℕ)) (before between : Found) →
     between ≡ found_after before (point_faults s at name) →
     found_after between (points_faults s (at + 1) names) ≡ found_after before (points_faults s at (name ∷ names))
 point_step s at name names before between first = found_two before _ _ first refl
 
-pub points_end : (s : Scope) (at : ℕ) (names : List (List ℕ)) (found : Found) → length names ≡ 0 →
+pub points_end : (s : NameScope) (at : ℕ) (names : List (List ℕ)) (found : Found) → length names ≡ 0 →
     found_after found (points_faults s at names) ≡ found
 points_end s at names found none =
     ap (λ (left : List (List ℕ)). found_after found (points_faults s at left)) (empty _ none) ∙ sym (found_none found)
 
 -- a target, at its place in the list
-pub target_step : (s : Scope) (names : List (List ℕ)) (at : ℕ) (name : List ℕ) (before between after : Found) →
+pub target_step : (s : NameScope) (names : List (List ℕ)) (at : ℕ) (name : List ℕ) (before between after : Found) →
     at < length names → name ≡ get_or names at name →
     between ≡ found_after before (fault_if (not (is_variable s name)) UnknownName at) →
     after ≡ found_after between (fault_if (list_any (bytes_eq name) (take at names)) NameTaken at) →
@@ -60,7 +60,7 @@ target_step s names at name before between after below here first second =
     ∙ found_three before _ _ _ first second refl
     ∙ sym (ap (λ (ns : List (List ℕ)). found_after before (targets_faults s at (take at names) ns)) left)
 
-pub targets_end : (s : Scope) (at : ℕ) (earlier names : List (List ℕ)) (found : Found) → length names ≡ 0 →
+pub targets_end : (s : NameScope) (at : ℕ) (earlier names : List (List ℕ)) (found : Found) → length names ≡ 0 →
     found_after found (targets_faults s at earlier names) ≡ found
 targets_end s at earlier names found none =
     ap (λ (left : List (List ℕ)). found_after found (targets_faults s at earlier left)) (empty _ none) ∙ sym (found_none found)

@@ -14,12 +14,12 @@ abbrev pub fault_if : Bool → FaultKind → ℕ → List Fault
 fault_if wrong kind place = if wrong then record { kind = kind; place = place } ∷ [] else []
 
 -- the place of a kind in the order of faults
-abbrev pub rank : FaultKind → ℕ
-rank UnknownName = 0
-rank NameTaken = 1
-rank WrongKind = 2
-rank TermRange = 3
+abbrev pub fault_rank : FaultKind → ℕ
+fault_rank UnknownName = 0
+fault_rank NameTaken = 1
+fault_rank WrongKind = 2
+fault_rank TermRange = 3
 
 -- whether one of these is of a kind
 abbrev pub has_kind : FaultKind → List Fault → Bool
-has_kind kind faults = list_any (λ fault. rank fault.kind == rank kind) faults
+has_kind kind faults = list_any (λ fault. fault_rank fault.kind == fault_rank kind) faults

@@ -8,7 +8,7 @@ use Rattle.ftl_typer.specs.declared.fault.TypeFault.TheVariants as type_faults
 use Rattle.ftl_typer.specs.declared.found.FaultKind.{FaultKind}
 use Rattle.ftl_typer.specs.declared.found.FaultKind.TheVariants.{UnknownName, NameTaken, WrongKind, TermRange}
 use Rattle.ftl_typer.specs.declared.found.Found.{Found}
-use Rattle.ftl_typer.specs.Fault.{Fault, rank}
+use Rattle.ftl_typer.specs.Fault.{Fault, fault_rank}
 
 -- a fault as it is told
 abbrev pub told_at : FaultKind → ℕ → TypeFault
@@ -17,21 +17,21 @@ told_at NameTaken place = type_faults.NameTaken place
 told_at WrongKind place = type_faults.WrongKind place
 told_at TermRange place = type_faults.TermRange place
 
-abbrev pub told : Fault → TypeFault
-told fault = told_at fault.kind fault.place
+abbrev pub type_fault_of : Fault → TypeFault
+type_fault_of fault = told_at fault.kind fault.place
 
 -- a fault doesn't come behind another: the kind decides, then the place
 abbrev pub is_no_later : Fault → Fault → Bool
-is_no_later f g = nat_lt (rank f.kind) (rank g.kind) || (rank f.kind == rank g.kind && nat_le f.place g.place)
+is_no_later f g = nat_lt (fault_rank f.kind) (fault_rank g.kind) || (fault_rank f.kind == fault_rank g.kind && nat_le f.place g.place)
 
 -- what is told of faults is one of them, and none of them comes before it; nothing is told only where there is none
 abbrev pub IsFirst : List Fault → Option TypeFault → Type 0
 IsFirst faults None = faults ≡ []
 IsFirst faults (Some fault) =
-    (f : Fault) × (fault ≡ told f) × Contains faults f × (list_all (is_no_later f) faults ≡ true)
+    (f : Fault) × (fault ≡ type_fault_of f) × Contains faults f × (list_all (is_no_later f) faults ≡ true)
 
-abbrev pub places_of : FaultKind → List Fault → List ℕ
-places_of kind faults = map (λ fault. fault.place) (filter (λ fault. rank fault.kind == rank kind) faults)
+abbrev pub fault_places : FaultKind → List Fault → List ℕ
+fault_places kind faults = map (λ fault. fault.place) (filter (λ fault. fault_rank fault.kind == fault_rank kind) faults)
 
 -- the lesser of two places, one of which may be missing
 abbrev pub lesser : Option ℕ → ℕ → Option ℕ
@@ -40,7 +40,7 @@ lesser (Some least) place = Some (min least place)
 
 -- the least place of a kind, where one was found before
 abbrev pub least_place : FaultKind → Option ℕ → List Fault → Option ℕ
-least_place kind before faults = fold lesser before (places_of kind faults)
+least_place kind before faults = fold lesser before (fault_places kind faults)
 
 -- the least place of each kind, where some were found before
 unfoldable pub found_after : Found → List Fault → Found

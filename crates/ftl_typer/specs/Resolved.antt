@@ -10,12 +10,12 @@ use Rattle.formula.specs.declared.tree.RAtom.TheVariants as ratoms
 use Rattle.ftl_parser.specs.declared.tree.Atom as atom_type
 use Rattle.ftl_parser.specs.declared.tree.Atom.TheVariants as atoms
 use Rattle.ftl_parser.specs.Tree.{QueryTree, Tree}
-use Rattle.ftl_typer.specs.Scope.{Scope, resolved_term, scope_of, variable_number, with_value}
+use Rattle.ftl_typer.specs.Scope.{NameScope, resolved_term, scope_of, variable_number, with_assigned}
 
-abbrev pub region_place : Scope → List ℕ → ℕ
+abbrev pub region_place : NameScope → List ℕ → ℕ
 region_place s name = unwrap_or (s.region name) 0
 
-abbrev pub resolved_atom : Scope → atom_type.Atom → RAtom
+abbrev pub resolved_atom : NameScope → atom_type.Atom → RAtom
 resolved_atom s (atoms.Compare t op u) = ratoms.Compare (resolved_term s t) op (resolved_term s u)
 resolved_atom s (atoms.Inside o region) = ratoms.Inside (variable_number s o) (region_place s region)
 resolved_atom s (atoms.Outside o region) = ratoms.Outside (variable_number s o) (region_place s region)
@@ -23,7 +23,7 @@ resolved_atom s (atoms.Dist o n op c) = ratoms.Dist (variable_number s o) (varia
 resolved_atom s (atoms.Sphere r names) = ratoms.Sphere r (map (variable_number s) names)
 
 -- an assignment has as its depth the number of those around it
-abbrev pub resolved_formula : Scope → Tree → ResolvedTree
+abbrev pub resolved_formula : NameScope → Tree → ResolvedTree
 resolved_formula s (shapes.Truth b) = shapes.Truth b
 resolved_formula s (shapes.Atom a) = shapes.Atom (resolved_atom s a)
 resolved_formula s (shapes.Not f) = shapes.Not (resolved_formula s f)
@@ -35,7 +35,7 @@ resolved_formula s (shapes.Always f) = shapes.Always (resolved_formula s f)
 resolved_formula s (shapes.Bounded form ticks f) = shapes.Bounded form ticks (resolved_formula s f)
 resolved_formula s (shapes.Until form ticks f g) = shapes.Until form ticks (resolved_formula s f) (resolved_formula s g)
 resolved_formula s (shapes.Assign (name, t) f) =
-    shapes.Assign (length s.values, resolved_term s t) (resolved_formula (with_value s name t) f)
+    shapes.Assign (length s.values, resolved_term s t) (resolved_formula (with_assigned s name t) f)
 
 abbrev pub class_place : List ClassInfo → List ℕ → ℕ
 class_place classes name = unwrap_or (class_number classes name) 0

@@ -2,7 +2,7 @@
 ghost use Rattle.std.specs.Prelude.{◌≡◌, None, unwrap_or, IfOk, IfErr, IsOk};
 ghost use Rattle.history.specs.World.{World};
 ghost use Rattle.formula.specs.Resolved.{IsResolved};
-ghost use Rattle.formula.specs.Tree.{query_view as resolved_view};
+ghost use Rattle.formula.specs.Tree.{resolved_view};
 ghost use Rattle.ftl_parser.specs.Lawful.{IsLawful};
 ghost use Rattle.ftl_parser.specs.Tree.{query_view};
 ghost use Rattle.meaning.specs.Fits.{FitsItsClasses};

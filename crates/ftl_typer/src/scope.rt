@@ -8,7 +8,7 @@ ghost use Rattle.std.specs.Str.{bytes_eq};
 ghost use Rattle.formula_shape.specs.declared.limits.TheConstants.{NESTING_LIMIT};
 ghost use Rattle.formula_shape.specs.declared.limits.TheConstants.{OBJECT_LIMIT};
 ghost use Rattle.ftl_typer.specs.Context.{scope_in};
-ghost use Rattle.ftl_typer.specs.Scope.{attribute_kind, attribute_of, class_named, has_no_parts, inside, is_no_object, is_no_point, is_point, is_taken, is_unknown, is_value, is_variable, lacks_attribute, scope_of, value_named, value_of};
+ghost use Rattle.ftl_typer.specs.Scope.{attribute_position, class_named, has_no_parts, is_name_taken, is_no_object, is_no_point, is_point, is_unknown, is_value, is_variable, lacks_attribute, named_attribute_kind, scope_inside, scope_of, value_named, value_of};
 
 use crate::values::{Assigned, Values};
 use fixed_point::Word;
@@ -62,7 +62,7 @@ impl<'a> Scope<'a> {
     /// In the scope of one more assignment.
     pub fn inside(&self, value: Assigned) -> Scope<'a>
         requires { length (scope_in self.now).values < NESTING_LIMIT }
-        ensures { scope_in result ≡ inside (scope_in self.now) value }
+        ensures { scope_in result ≡ scope_inside (scope_in self.now) value }
     {
         Scope {
             schema: self.schema,
@@ -129,8 +129,8 @@ impl<'a> Scope<'a> {
 
     /// The number of an attribute of a variable of FROM, and its kind.
     pub fn attribute(&self, variable: &Word, name: &Word) -> Option<(u8, AttrKind)>
-        ensures number { option_map (λ found. found.0) result ≡ attribute_of (scope_in self.now) variable.now name.now }
-        ensures kind { option_map (λ found. found.1) result ≡ attribute_kind (scope_in self.now) variable.now name.now }
+        ensures number { option_map (λ found. found.0) result ≡ attribute_position (scope_in self.now) variable.now name.now }
+        ensures kind { option_map (λ found. found.1) result ≡ named_attribute_kind (scope_in self.now) variable.now name.now }
     {
         let class = self.class(variable)?;
         attribute_in(class, name)
@@ -159,14 +159,14 @@ impl<'a> Scope<'a> {
 
     /// Whether a name is a variable of FROM or a value variable in whose scope one stands.
     pub fn is_taken(&self, name: &Word) -> bool
-        ensures { result ≡ is_taken (scope_in self.now) name.now }
+        ensures { result ≡ is_name_taken (scope_in self.now) name.now }
     {
         self.is_variable(name) || self.is_value(name)
     }
 
     /// The kind of an attribute of a variable of FROM.
     pub fn attribute_kind(&self, variable: &Word, name: &Word) -> Option<AttrKind>
-        ensures { result ≡ attribute_kind (scope_in self.now) variable.now name.now }
+        ensures { result ≡ named_attribute_kind (scope_in self.now) variable.now name.now }
     {
         let (_, kind) = self.attribute(variable, name)?;
         Some(kind)

@@ -11,7 +11,7 @@ ghost use Rattle.meaning.specs.Value.{attribute_bound};
 ghost use Rattle.ftl_typer.specs.Faults.{factors_faults, term_faults};
 ghost use Rattle.ftl_typer.specs.Context.{scope_in};
 ghost use Rattle.ftl_typer.specs.First.{found_after};
-ghost use Rattle.ftl_typer.specs.Scope.{assigned, bound_in_range, bound_of_attribute, bound_of_value, has_text, is_bare, is_misplaced, is_past_range, is_text_kind, is_text_unit, resolved_factor, resolved_term, resolved_unit, term_kind};
+ghost use Rattle.ftl_typer.specs.Scope.{assigned, bound_in_range, bound_of_attribute, bound_of_value, has_text, is_bare, is_misplaced_text, is_past_range, is_text_kind, is_text_unit, named_term_kind, resolved_factor, resolved_term, resolved_unit};
 
 use crate::found::{FaultKind, Found};
 use crate::scope::Scope;
@@ -83,7 +83,7 @@ fn has_text(scope: &Scope, term: &Term) -> bool
 
 /// What the values of a term are.
 pub fn term_kind(scope: &Scope, term: &Term) -> ValueKind
-    ensures { result ≡ term_kind (scope_in scope.now) term.now }
+    ensures { result ≡ named_term_kind (scope_in scope.now) term.now }
 {
     if has_text(scope, term) {
         ValueKind::Text
@@ -104,7 +104,7 @@ fn is_bare(factors: &[Signed]) -> bool
 
 /// Whether a text stands with a sign, a multiplier or a second factor.
 fn is_misplaced(scope: &Scope, term: &Term) -> bool
-    ensures { result ≡ is_misplaced (scope_in scope.now) term.now }
+    ensures { result ≡ is_misplaced_text (scope_in scope.now) term.now }
 {
     has_text(scope, term) && !is_bare(term.factors.items())
 }

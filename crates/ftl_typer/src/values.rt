@@ -4,7 +4,7 @@ ghost use Rattle.std.specs.List.{find, position};
 ghost use Rattle.std.specs.Option.{option_map};
 ghost use Rattle.std.specs.Str.{bytes_eq};
 ghost use Rattle.formula_shape.specs.declared.limits.TheConstants.{NESTING_LIMIT};
-ghost use Rattle.ftl_typer.specs.Scope.{is_text};
+ghost use Rattle.ftl_typer.specs.Scope.{is_kind_of_text};
 ghost use Rattle.ftl_typer.specs.Values.{assigned_in, found_at};
 
 use fixed_point::Word;
@@ -12,7 +12,7 @@ use formula::ValueKind;
 
 /// Whether the values of a kind are texts.
 pub fn is_text(kind: ValueKind) -> bool
-    ensures { result ≡ is_text kind }
+    ensures { result ≡ is_kind_of_text kind }
 {
     match kind {
         ValueKind::Number => false,

@@ -8,7 +8,7 @@ use Rattle.std.specs.List.{range_with_len}
 use Rattle.std.specs.Option.{option_map_or}
 use Rattle.generator.specs.declared.plan.Line.{Line}
 use Rattle.generator.specs.declared.plan.Line.TheVariants as lines
-use Rattle.generator.specs.Draws.{state_after, first_state}
+use Rattle.generator.specs.Draws.{state_after, first_draw_state}
 use Rattle.generator.specs.Lines.{plan, lines_from, lines_of, line_text, draws_of}
 
 -- how the line at a place is found
@@ -90,4 +90,4 @@ length-lines_from state (line ∷ rest) = ap suc (length-lines_from (state_after
 
 pub lines_are_so_many : (number : ℕ) → length (lines_of number) ≡ 887
 unfolding lines_of
-lines_are_so_many number = length-lines_from (first_state number) plan ∙ plan_length
+lines_are_so_many number = length-lines_from (first_draw_state number) plan ∙ plan_length

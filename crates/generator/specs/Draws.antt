@@ -2,8 +2,8 @@
 use Rattle.std.specs.Prelude.{ℕ, zero, suc, ◌+◌, ◌*◌, ◌/◌, ◌%◌, ◌^◌}
 
 -- where the draws of a number begin
-abbrev pub first_state : ℕ → ℕ
-first_state number = number % 2 ^ 31
+abbrev pub first_draw_state : ℕ → ℕ
+first_draw_state number = number % 2 ^ 31
 
 -- each draw goes on to the next state
 unfoldable pub next_state : ℕ → ℕ

@@ -1,6 +1,6 @@
 //! Numbers that are drawn one after another.
 ghost use Rattle.std.specs.Prelude.{◌≡◌, ◌<◌, ◌^◌, ◌-ℤ◌, pos};
-ghost use Rattle.generator.specs.Draws.{first_state, next_state, drawn};
+ghost use Rattle.generator.specs.Draws.{first_draw_state, next_state, drawn};
 
 use fixed_point::Fix;
 
@@ -17,7 +17,7 @@ pub(crate) struct Draws {
 impl Draws {
     /// The draws of a number.
     pub(crate) fn new(number: u32) -> Draws
-        ensures { result.state ≡ first_state number }
+        ensures { result.state ≡ first_draw_state number }
     {
         Draws {
             state: (u64::from(number) % STATES) as u32,

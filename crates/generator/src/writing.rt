@@ -2,7 +2,7 @@
 ghost use Rattle.std.specs.Prelude.{◌≡◌, ◌+◌, ◌<◌, ◌++◌, ◌^◌, codes, decimal, OnOk};
 ghost use Rattle.fixed_point.specs.Canonical.{fix_text};
 ghost use Rattle.generator.specs.Draws.{state_after};
-ghost use Rattle.generator.specs.Lines.{corner, at_text, square, SIDE, move_text, region_text, car_text, insert_text, update_text, watch_text, line_text, draws_of};
+ghost use Rattle.generator.specs.Lines.{corner, at_corner_text, square_text, SIDE, move_text, region_text, car_text, insert_text, update_text, watch_text, line_text, draws_of};
 
 use crate::draws::Draws;
 use crate::plan::{CARS, Line};
@@ -45,7 +45,7 @@ fn push_corner(line: &mut Vec<u8>, x: u32, y: u32) -> Result<(), AllocError>
 fn push_square(line: &mut Vec<u8>, x: u32, y: u32) -> Result<(), AllocError>
     requires x { x < 2 ^ 16 }
     requires y { y < 2 ^ 16 }
-    ensures { OnOk result (line.new.items ≡ line.old.items ++ square x y) }
+    ensures { OnOk result (line.new.items ≡ line.old.items ++ square_text x y) }
 {
     push_corner(line, x, y)?;
     push_corner(line, x + SIDE, y)?;
@@ -54,7 +54,7 @@ fn push_square(line: &mut Vec<u8>, x: u32, y: u32) -> Result<(), AllocError>
 }
 
 fn push_at(line: &mut Vec<u8>, x: u32, y: u32) -> Result<(), AllocError>
-    ensures { OnOk result (line.new.items ≡ line.old.items ++ at_text x y) }
+    ensures { OnOk result (line.new.items ≡ line.old.items ++ at_corner_text x y) }
 {
     push(line, b" at")?;
     push_corner(line, x, y)

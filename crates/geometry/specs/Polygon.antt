@@ -20,14 +20,14 @@ abbrev pub are_one : Point → Point → Bool
 are_one p q = int_eq p.x q.x && int_eq p.y q.y
 
 -- no edge has the point strictly on its right
-abbrev pub is_within : List (Point × Point) → Point → Bool
-is_within sides p = list_all (λ e. not (is_right_of e p)) sides
+abbrev pub is_inside_edges : List (Point × Point) → Point → Bool
+is_inside_edges sides p = list_all (λ e. not (is_right_of e p)) sides
 
 -- the two ends of each edge differ, no edge has a vertex strictly on its right, and some edge has a vertex strictly on its left
 abbrev pub is_counterclockwise : List Point → Bool
 is_counterclockwise points =
     list_all (λ e. not (are_one e.0 e.1)) (edges points)
-    && list_all (is_within (edges points)) points
+    && list_all (is_inside_edges (edges points)) points
     && list_any (λ e. list_any (is_left_of e) points) (edges points)
 
 -- the points bound a convex polygon, in one direction or the other
@@ -40,4 +40,4 @@ counterclockwise_points points = if is_counterclockwise points then points else 
 
 -- the point is inside the polygon or on its boundary
 abbrev pub is_inside : List Point → Point → Bool
-is_inside points p = is_within (edges (counterclockwise_points points)) p
+is_inside points p = is_inside_edges (edges (counterclockwise_points points)) p

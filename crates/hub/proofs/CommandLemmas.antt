@@ -12,10 +12,10 @@ use Rattle.users.specs.Tagged.{tagged}
 use Rattle.feeds_meaning.specs.Heard.{own_text}
 use Rattle.feeds_meaning.specs.Hub.{Hub, Seated}
 use Rattle.feeds_meaning.specs.Lines.{is_data}
-use Rattle.hub.specs.Answering.{text_by}
+use Rattle.hub.specs.Answering.{answer_by}
 use Rattle.hub.specs.declared.seat.Seat.{Seat as Kept}
 use Rattle.hub.specs.Seats.{IsHub, IsUser, accepted_in}
-use Rattle.hub.specs.Told.{AreTold, HasRoomAt, HasSentAt, IsAnsweredAt, IsAnsweredBy, IsOwnAt, MayBeTold, change_by, kept_own, kept_told, seated, seated_by, told_by}
+use Rattle.hub.specs.Told.{AreTold, HasRoomAt, HasSentAt, IsAnsweredAt, IsAnsweredBy, IsOwnAt, MayBeTold, change_by, kept_own, kept_told, seated, seated_by, told_to_seat}
 use Rattle.hub.proofs.HubLemmas.{HasRoomFor, hub_goes_on}
 use Rattle.hub.proofs.LineLemmas.{sent_at}
 use Rattle.hub.proofs.PlaceLemmas.{IsAloneAt, alone, at_all, same_user}
@@ -74,7 +74,7 @@ module _ (d : ℕ) (seats : List Kept) (place : ℕ) (s : Kept) (c : CommandTree
 
   carried : (n : ℕ) (final : List Kept) (r : Option Refusal) (before after : List ℕ) → fault_of s.session c ≡ r →
       map (seated n) final ≡ map (seated_by s.user c r) (map (seated d) seats) →
-      after ≡ before ++ flat_map (told_by s.user c r) (map (seated d) seats) → IsCarried place c (hub_by d seats) (hub_by n final) before after
+      after ≡ before ++ flat_map (told_to_seat s.user c r) (map (seated d) seats) → IsCarried place c (hub_by d seats) (hub_by n final) before after
   carried n final r before after fault kept said =
       let goes = hub_goes_on (hub_by d seats) c (seated d s) place r (map (seated n) final) reaches hub c_short room_for single there sender fault kept in
       let by : IsAnsweredBy s.user c r (hub_by d seats) (hub_by n final) before after =
@@ -99,7 +99,7 @@ module _ (d : ℕ) (seats : List Kept) (place : ℕ) (s : Kept) (c : CommandTree
 
   -- what is no data command or is refused
   pub plain_carried : (r : Option Refusal) (before after : List ℕ) (final : List Kept) → change_by c r ≡ None → fault_of s.session c ≡ r →
-      final ≡ slice_set seats place (kept_own c r s) → after ≡ before ++ tagged s.user (text_by s.session c r) →
+      final ≡ slice_set seats place (kept_own c r s) → after ≡ before ++ tagged s.user (answer_by s.session c r) →
       IsCarried place c (hub_by d seats) (hub_by d final) before after
   plain_carried r before after final nothing fault kept said =
       carried d final r before after fault
@@ -151,7 +151,7 @@ changes_nothing (Some r) c b e h = refl
 record OwnAt (seats : List Kept) (place : ℕ) (s : Kept) (c : CommandTree) (new : List Kept) (text : List ℕ) (accepted : Bool) : Type 0 where
   told : accepted ≡ is_none (fault_of s.session c)
   new_is : new ≡ slice_set seats place (kept_own c (fault_of s.session c) s)
-  text_is : text ≡ text_by s.session c (fault_of s.session c)
+  text_is : text ≡ answer_by s.session c (fault_of s.session c)
 
 own_at : (old seats new : List Kept) (place : ℕ) (s : Kept) (c : CommandTree) (text : List ℕ) (accepted : Bool) → old ≡ seats →
     IsOwnAt place c old new text accepted → slice_get seats place ≡ Some s → OwnAt seats place s c new text accepted
@@ -198,7 +198,7 @@ module _ (d : ℕ) (seats : List Kept) (place : ℕ) (s : Kept) (c : CommandTree
   shared_kept told final n before after e shared more all =
       let both = both_true accepted (is_data c) shared in
       let fault = accepted_is (fault_of s.session c) accepted (mine).told both.0 in
-      let words : text ≡ own_text s.session c = (mine).text_is ∙ ap (text_by s.session c) fault in
+      let words : text ≡ own_text s.session c = (mine).text_is ∙ ap (answer_by s.session c) fault in
       let from : AreTold s.user text c (slice_set seats place (kept_own c None s)) final before after =
       subst (λ l. AreTold s.user text c l final before after) (e ∙ taken_new fault) all in
       let one = data_carried d seats place s c reaches hub c_short room at text before after final both.1 fault words from in

@@ -10,7 +10,7 @@ use Rattle.line_meaning.specs.Judging.{all_after, fault_of, held_after}
 use Rattle.feeds_meaning.specs.declared.limits.TheConstants.{DATA_LINES_LIMIT, QUERY_LINES_LIMIT}
 use Rattle.feeds_meaning.specs.Hub.{Hub, Seated, added, has_user}
 use Rattle.feeds_meaning.specs.Lines.{is_data, is_of_queries}
-use Rattle.hub.specs.Seats.{AreApart, IsHub, IsUser, accepted_in}
+use Rattle.hub.specs.Seats.{AreDistinctUsers, IsHub, IsUser, accepted_in}
 use Rattle.hub.specs.Told.{change_by, seated_by}
 use Rattle.hub.proofs.KindLemmas.{of_data}
 use Rattle.hub.proofs.PlaceLemmas.{IsAloneAt, apart_mapped}
@@ -176,7 +176,7 @@ hub_goes_on h c s place r seats reaches hub c_short room at e sender fault is =
         accepted_is = refl;
         few = subst (λ (l : List CommandTree). length l ≤ DATA_LINES_LIMIT) (sym first) few;
         few_users = omega arith;
-        apart = subst AreApart (sym is) (apart_mapped (seated_by s.user c r) h.seats (λ t. refl) hub.apart);
+        apart = subst AreDistinctUsers (sym is) (apart_mapped (seated_by s.user c r) h.seats (λ t. refl) hub.apart);
       };
       accepted = first;
     }

@@ -14,7 +14,7 @@ use Rattle.command_text.specs.Tree
 use Rattle.command_text.specs.Tree.{CommandTree}
 use Rattle.feeds_meaning.specs.declared.limits.TheConstants.{DATA_LINES_LIMIT, QUERY_LINES_LIMIT}
 use Rattle.feeds_meaning.specs.Lines.{is_barred, is_data_line, is_query_line}
-use Rattle.hub.specs.Judging.{Explains, HasRoom, IsTaken, line_refusal, passes_limits}
+use Rattle.hub.specs.Judging.{CanBeCounted, ExplainsSent, IsTaken, is_one_too_many, refusal_by_line}
 use Rattle.hub.proofs.WordLemmas.{AreCut, data_line, query_line}
 
 -- the command that a line is read as
@@ -22,16 +22,16 @@ pub read_is : (limit : ℕ) (line : List ℕ) (c : CommandTree) → IsRead limit
 read_is limit line c read = ap (λ o. unwrap_or o Tree.Nothing) read.command
 
 module _ (data_lines query_lines : ℕ) (line : List ℕ) where
-  pub limit_explains : passes_limits data_lines query_lines line ≡ true → line_refusal data_lines query_lines line ≡ Some JournalFull
+  pub limit_explains : is_one_too_many data_lines query_lines line ≡ true → refusal_by_line data_lines query_lines line ≡ Some JournalFull
   limit_explains h = rw h refl
 
-  pub read_explains : (fault : CommandFault) → passes_limits data_lines query_lines line ≡ false → lines.Explains LINE_LIMIT line fault →
-      Explains data_lines query_lines line fault
+  pub read_explains : (fault : CommandFault) → is_one_too_many data_lines query_lines line ≡ false → lines.Explains LINE_LIMIT line fault →
+      ExplainsSent data_lines query_lines line fault
   read_explains (faults.Refused r) h refused = rw (h, refused) refl
   read_explains faults.NoMemory h late = tt
 
-  pub barred_explains : (c : CommandTree) → passes_limits data_lines query_lines line ≡ false → IsRead LINE_LIMIT line c → is_barred c ≡ true →
-      line_refusal data_lines query_lines line ≡ Some BadSyntax
+  pub barred_explains : (c : CommandTree) → is_one_too_many data_lines query_lines line ≡ false → IsRead LINE_LIMIT line c → is_barred c ≡ true →
+      refusal_by_line data_lines query_lines line ≡ Some BadSyntax
   barred_explains c h read barred =
       let of_line : is_barred (spelled line) ≡ true = ap is_barred (read_is LINE_LIMIT line c read) ∙ barred in
       rw (h, read.taken, of_line) refl
@@ -47,7 +47,7 @@ second_within false true limit count h e = grind (arith, nat_tests)
 second_within false false limit count h e = absurd (cc)
 
 module _ (data_lines query_lines : ℕ) (line : List ℕ) (c : CommandTree) where
-  pub taken_has_room : AreCut line → IsReadByTheGrammar LINE_LIMIT line → IsTaken data_lines query_lines line c → HasRoom data_lines query_lines c
+  pub taken_has_room : AreCut line → IsReadByTheGrammar LINE_LIMIT line → IsTaken data_lines query_lines line c → CanBeCounted data_lines query_lines c
   taken_has_room cuts grammar taken = record {
     of_data = λ is. first_within (is_data_line line) DATA_LINES_LIMIT data_lines (is_query_line line && nat_le QUERY_LINES_LIMIT query_lines) taken.within (data_line LINE_LIMIT line c cuts grammar taken.read is);
     of_queries = λ is. second_within (is_data_line line && nat_le DATA_LINES_LIMIT data_lines) (is_query_line line) QUERY_LINES_LIMIT query_lines taken.within (query_line LINE_LIMIT line c cuts grammar taken.read is);

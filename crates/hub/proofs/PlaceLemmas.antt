@@ -6,7 +6,7 @@ use Rattle.std.specs.Prelude.{find, slice_get}
 use Rattle.std.specs.List.{AllByRecursion}
 use Rattle.std.specs.Str.{bytes_eq}
 use Rattle.feeds_meaning.specs.Hub.{Seated, has_user}
-use Rattle.hub.specs.Seats.{AreApart}
+use Rattle.hub.specs.Seats.{AreDistinctUsers}
 
 -- ---- Names
 
@@ -49,7 +49,7 @@ IsAloneAt user place [] = ⊥
 IsAloneAt user zero (s ∷ seats) = (has_user user s ≡ true) × AllByRecursion (λ t. has_user user t ≡ false) seats
 IsAloneAt user (suc place) (s ∷ seats) = (has_user user s ≡ false) × IsAloneAt user place seats
 
-pub alone : (seats : List Seated) (place : ℕ) (s : Seated) → slice_get seats place ≡ Some s → AreApart seats → IsAloneAt s.user place seats
+pub alone : (seats : List Seated) (place : ℕ) (s : Seated) → slice_get seats place ≡ Some s → AreDistinctUsers seats → IsAloneAt s.user place seats
 alone [] place s e apart = absurd (cc)
 alone (x ∷ seats) zero s e apart =
     let same : x ≡ s = cc in
@@ -65,7 +65,7 @@ found_at user (x ∷ seats) zero s at e = rw at.0 e
 found_at user (x ∷ seats) (suc place) s at e = rw at.0 (found_at user seats place s at.1 e)
 
 -- no other users come, and each stays who he is
-pub apart_mapped : (f : Seated → Seated) (seats : List Seated) → ((s : Seated) → (f s).user ≡ s.user) → AreApart seats → AreApart (map f seats)
+pub apart_mapped : (f : Seated → Seated) (seats : List Seated) → ((s : Seated) → (f s).user ≡ s.user) → AreDistinctUsers seats → AreDistinctUsers (map f seats)
 apart_mapped f [] same apart = tt
 apart_mapped f (s ∷ seats) same apart = (
   all_mapped (λ t. has_user s.user t ≡ false) (λ t. has_user (f s).user t ≡ false) f seats
@@ -73,8 +73,8 @@ apart_mapped f (s ∷ seats) same apart = (
   apart_mapped f seats same apart.1,
 )
 
-pub apart_pushed : (seats : List Seated) (s : Seated) → AllByRecursion (λ t. has_user s.user t ≡ false) seats → AreApart seats →
-    AreApart (seats ++ s ∷ [])
+pub apart_pushed : (seats : List Seated) (s : Seated) → AllByRecursion (λ t. has_user s.user t ≡ false) seats → AreDistinctUsers seats →
+    AreDistinctUsers (seats ++ s ∷ [])
 apart_pushed [] s none apart = (tt, tt)
 apart_pushed (x ∷ seats) s none apart = (
   all_pushed (λ t. has_user x.user t ≡ false) seats s apart.0 (turned x.user s.user ∙ none.0),

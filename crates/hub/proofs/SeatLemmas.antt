@@ -1,7 +1,7 @@
 -- What a command leaves of one session, by what carrying it out does.
 use Rattle.std.proofs.Common.{◌≡◌, ℕ, true, false, Bool, List, ◌++◌, None, Some, refl, sym, ap, ◌∙◌, subst, append_assoc}
 use Rattle.command_text.specs.declared.refusal.Refusal.{Refusal}
-use Rattle.command_text.specs.Refusals.{line_of}
+use Rattle.command_text.specs.Refusals.{refusal_line}
 use Rattle.command_text.specs.Tree.{CommandTree}
 use Rattle.line_meaning.specs.declared.role.Role.{Role}
 use Rattle.line_meaning.specs.declared.role.Role.TheVariants.{Blank, Journalled, Telling, Indexing, Filing, Ending}
@@ -14,7 +14,7 @@ use Rattle.session.specs.declared.next.Next.TheVariants as nexts
 use Rattle.session.specs.Answers.{next_by, next_of}
 use Rattle.session.specs.Carried.{CarriedAs, IsAccepted, lines_by}
 use Rattle.feeds_meaning.specs.Lines.{is_data, notice}
-use Rattle.hub.specs.Answering.{Finishes, IsOther, IsOwn, text_by}
+use Rattle.hub.specs.Answering.{Finishes, IsOther, IsOwn, answer_by}
 use Rattle.hub.proofs.KindLemmas.{of_data}
 
 -- a reply is its lines and an `ok`, but that of a blank line
@@ -35,13 +35,13 @@ silent Filing h c is = absurd (cc)
 silent Ending h c is = absurd (cc)
 
 module _ (c : CommandTree) (old new : Held) where
-  own_refused : (refusal : Refusal) (text : List ℕ) → fault_of old c ≡ Some refusal → new ≡ old → text ≡ line_of refusal ++ line_feed →
+  own_refused : (refusal : Refusal) (text : List ℕ) → fault_of old c ≡ Some refusal → new ≡ old → text ≡ refusal_line refusal ++ line_feed →
       IsOwn c old new text false
-  own_refused refusal text fault same e = record { told = rw fault refl; held_is = same; text_is = e ∙ sym (ap (text_by old c) fault) }
+  own_refused refusal text fault same e = record { told = rw fault refl; held_is = same; text_is = e ∙ sym (ap (answer_by old c) fault) }
 
   own_accepted : (lines text : List ℕ) → IsAccepted c old new (notice old c) lines → text ≡ notice old c ++ reply_by (role_of c) old c →
       IsOwn c old new text true
-  own_accepted lines text taken e = record { told = rw taken.accepted refl; held_is = taken.goes_on; text_is = e ∙ sym (ap (text_by old c) taken.accepted) }
+  own_accepted lines text taken e = record { told = rw taken.accepted refl; held_is = taken.goes_on; text_is = e ∙ sym (ap (answer_by old c) taken.accepted) }
 
   own_silent : (lines text : List ℕ) → nexts.Silent ≡ next_of c → IsAccepted c old new (notice old c) lines → text ≡ lines →
       IsOwn c old new text true

@@ -17,7 +17,7 @@ use Rattle.feeds_meaning.specs.declared.limits.TheConstants.{DATA_LINES_LIMIT, U
 use Rattle.feeds_meaning.specs.Hub.{Seated, has_room, has_user, newcomer, seat_in, seats_with}
 use Rattle.feeds_meaning.specs.Lines.{is_data}
 use Rattle.hub.specs.declared.seat.Seat.{Seat as Kept}
-use Rattle.hub.specs.Seats.{AreApart, IsHub, IsUser, accepted_in, data_commands, data_entries}
+use Rattle.hub.specs.Seats.{AreDistinctUsers, IsHub, IsUser, accepted_in, data_commands, data_entries}
 use Rattle.hub.specs.Told.{IsSeatedAs, arrived, seated}
 use Rattle.hub.proofs.CommandLemmas.{hub_by, seated_at}
 use Rattle.hub.proofs.DataLemmas.{data_more, replayed_holds, replayed_is_taken}
@@ -267,7 +267,7 @@ module _ (user : List ℕ) (d : ℕ) (seats : List Kept) (k : Kept) (reaches : R
         accepted_is = refl;
         few = subst (λ (a : List CommandTree). length a ≤ DATA_LINES_LIMIT) (sym same) hub.few;
         few_users = omega arith;
-        apart = subst AreApart (sym more) (apart_pushed (map (seated d) seats) (seated d k) others hub.apart);
+        apart = subst AreDistinctUsers (sym more) (apart_pushed (map (seated d) seats) (seated d k) others hub.apart);
       }
 
   pub lines_now : d ≡ length (hub_by d (seats ++ k ∷ [])).accepted

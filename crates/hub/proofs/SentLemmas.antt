@@ -7,7 +7,7 @@ use Rattle.command_text.specs.declared.refusal.Refusal.{Refusal}
 use Rattle.command_text.specs.declared.refusal.Refusal.TheVariants.{BadSyntax, JournalFull}
 use Rattle.command_text.specs.Journal.{spelled}
 use Rattle.command_text.specs.Line.{first_refusal}
-use Rattle.command_text.specs.Refusals.{line_of}
+use Rattle.command_text.specs.Refusals.{refusal_line}
 use Rattle.command_text.specs.Tree.{CommandTree}
 use Rattle.line_meaning.specs.Judging.{fault_of}
 use Rattle.line_meaning.specs.Reply.{line_feed}
@@ -18,7 +18,7 @@ use Rattle.feeds_meaning.specs.Heard.{Seat, command_refusal, limit_refusal, own_
 use Rattle.feeds_meaning.specs.Hub.{Hub, Seated, has_user}
 use Rattle.feeds_meaning.specs.Lines.{is_barred, is_data_line, is_query_line}
 use Rattle.hub.specs.declared.seat.Seat.{Seat as Kept}
-use Rattle.hub.specs.Judging.{HasRoom, IsTaken, line_refusal, passes_limits}
+use Rattle.hub.specs.Judging.{CanBeCounted, IsTaken, is_one_too_many, refusal_by_line}
 use Rattle.hub.specs.Seats.{IsHub, IsUser}
 use Rattle.hub.specs.Told.{HasRoomAt, IsAnsweredAt, IsAnsweredBy, IsSentAt, seated, seated_by}
 use Rattle.hub.proofs.CommandLemmas.{hub_by, lines_of_all, one_there, seated_at}
@@ -33,16 +33,16 @@ two_limits true b = refl
 two_limits false true = refl
 two_limits false false = refl
 
-limit_is : (s : Seat) (line : List ℕ) → limit_refusal s line ≡ first_that_holds ((JournalFull, passes_limits s.data_lines s.query_lines line) ∷ [])
+limit_is : (s : Seat) (line : List ℕ) → limit_refusal s line ≡ first_that_holds ((JournalFull, is_one_too_many s.data_lines s.query_lines line) ∷ [])
 limit_is s line = two_limits (is_data_line line && nat_le DATA_LINES_LIMIT s.data_lines) (is_query_line line && nat_le QUERY_LINES_LIMIT s.query_lines)
 
 -- the refusals of a line, and then what is held
 pub all_refusals : (s : Seat) (line : List ℕ) →
-    own_refusal s line ≡ or_else (line_refusal s.data_lines s.query_lines line) (fault_of s.held (spelled line))
+    own_refusal s line ≡ or_else (refusal_by_line s.data_lines s.query_lines line) (fault_of s.held (spelled line))
 unfolding own_refusal
 all_refusals s line =
     ap (λ o. or_else o (or_else (first_refusal LINE_LIMIT line) (command_refusal s.held (spelled line)))) (limit_is s line)
-    ∙ split (first_that_holds ((JournalFull, passes_limits s.data_lines s.query_lines line) ∷ [])) (first_refusal LINE_LIMIT line)
+    ∙ split (first_that_holds ((JournalFull, is_one_too_many s.data_lines s.query_lines line) ∷ [])) (first_refusal LINE_LIMIT line)
     (first_that_holds ((BadSyntax, is_barred (spelled line)) ∷ [])) (fault_of s.held (spelled line))
   where
     split : (a b c d : Option Refusal) → or_else a (or_else b (or_else c d)) ≡ or_else (or_else a (or_else b c)) d
@@ -55,16 +55,16 @@ pub taken_refusal : (s : Seat) (line : List ℕ) (c : CommandTree) → IsTaken s
 taken_refusal s line c taken =
     let same : spelled line ≡ c = read_is LINE_LIMIT line c taken.read in
     let free : is_barred (spelled line) ≡ false = ap is_barred same ∙ taken.allowed in
-    let none : line_refusal s.data_lines s.query_lines line ≡ None = rw (taken.within, taken.read.taken, free) refl in
+    let none : refusal_by_line s.data_lines s.query_lines line ≡ None = rw (taken.within, taken.read.taken, free) refl in
     all_refusals s line ∙ ap (λ o. or_else o (fault_of s.held (spelled line))) none ∙ ap (fault_of s.held) same
 
-pub early_refusal : (s : Seat) (line : List ℕ) (r : Refusal) → line_refusal s.data_lines s.query_lines line ≡ Some r → own_refusal s line ≡ Some r
+pub early_refusal : (s : Seat) (line : List ℕ) (r : Refusal) → refusal_by_line s.data_lines s.query_lines line ≡ Some r → own_refusal s line ≡ Some r
 early_refusal s line r e = all_refusals s line ∙ ap (λ o. or_else o (fault_of s.held (spelled line))) e
 
 -- ---- The line
 
 module _ (d : ℕ) (seats : List Kept) (place : ℕ) (s : Kept) (hub : IsHub (hub_by d seats)) (at : slice_get seats place ≡ Some s) where
-  pub room_at : (c : CommandTree) → HasRoom d s.query_lines c → HasRoomAt place c (hub_by d seats)
+  pub room_at : (c : CommandTree) → CanBeCounted d s.query_lines c → HasRoomAt place c (hub_by d seats)
   room_at c room = record {
     of_data = λ is. subst (λ n. n < DATA_LINES_LIMIT) (lines_of_all d seats place s at hub) (room.of_data is);
     of_queries = λ is x found.
@@ -98,8 +98,8 @@ module _ (d : ℕ) (seats : List Kept) (place : ℕ) (s : Kept) (hub : IsHub (hu
       by_user true e = rw e refl
       by_user false e = rw e refl
 
-  pub sent_refused : (line : List ℕ) (r : Refusal) (before after : List ℕ) → line_refusal d s.query_lines line ≡ Some r →
-      after ≡ before ++ tagged s.user (line_of r ++ line_feed) → IsSentAt place line (hub_by d seats) (hub_by d seats) before after
+  pub sent_refused : (line : List ℕ) (r : Refusal) (before after : List ℕ) → refusal_by_line d s.query_lines line ≡ Some r →
+      after ≡ before ++ tagged s.user (refusal_line r ++ line_feed) → IsSentAt place line (hub_by d seats) (hub_by d seats) before after
   sent_refused line r before after refused said = λ x found.
       let same : seated d s ≡ x = one_there (slice_get (map (seated d) seats) place) (seated d s) x (seated_at d seats place s at) found in
       let here : own_refusal (seated d s).seat line ≡ Some r = early_refusal (seated d s).seat line r refused in
@@ -131,8 +131,8 @@ module _ (d n : ℕ) (seats other : List Kept) (lines : n ≡ d) (same : other �
 
 -- of whom is at the place
 pub refused_at : (seats : List Kept) (place : ℕ) (s x : Kept) (r : Refusal) (before after bytes text : List ℕ) → slice_get seats place ≡ Some s →
-    slice_get seats place ≡ Some x → after ≡ before ++ tagged bytes text → bytes ≡ s.user → text ≡ line_of r ++ line_feed →
-    after ≡ before ++ tagged x.user (line_of r ++ line_feed)
+    slice_get seats place ≡ Some x → after ≡ before ++ tagged bytes text → bytes ≡ s.user → text ≡ refusal_line r ++ line_feed →
+    after ≡ before ++ tagged x.user (refusal_line r ++ line_feed)
 refused_at seats place s x r before after bytes text at found said named words =
     let both : Some s ≡ Some x = sym at ∙ found in
     let same : s ≡ x = cc in

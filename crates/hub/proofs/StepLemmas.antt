@@ -11,10 +11,10 @@ use Rattle.command_text.specs.Journal.{spelled}
 use Rattle.command_text.specs.Tree.{CommandTree}
 use Rattle.users.specs.Sender.{sent_in}
 use Rattle.users.specs.Tagged.{tagged}
-use Rattle.feeds_meaning.specs.Heard.{Other, Seat, other_by, own_by, own_refusal, taken}
-use Rattle.feeds_meaning.specs.Hub.{Event, Hub, Seated, added, change_of, event_by, has_room, has_user, newcomer, seat_in, seat_of, seated_after, seats_with, step, step_by, taken_of, told, unheard}
+use Rattle.feeds_meaning.specs.Heard.{Other, Seat, item_outcome, other_by, own_by, own_refusal}
+use Rattle.feeds_meaning.specs.Hub.{Event, Hub, Seated, added, data_command_of, event_by, has_room, has_user, hub_step, hub_step_by, newcomer, seat_in, seat_of, seated_after, seats_with, taken_of, told_of_event, unheard}
 use Rattle.hub.specs.Seats.{IsHub, IsUser}
-use Rattle.hub.specs.Told.{IsAnswered, IsAnsweredBy, IsSeatedAs, IsSentAt, arrived, change_by, seated_by, taken_by, told_by}
+use Rattle.hub.specs.Told.{IsAnsweredBy, IsLineTold, IsSeatedAs, IsSentAt, arrived, change_by, seated_by, taken_by, told_to_seat}
 use Rattle.hub.proofs.PlaceLemmas.{IsAloneAt, alone, found_at, same_user, turned}
 
 -- ---- Each user
@@ -40,7 +40,7 @@ record IsOther (user : List ℕ) (t : Seated) : Type 0 where
   other : has_user user t ≡ false
   here : t.seat.here ≡ true
 
-change_taken : (s : Seat) (change : Option CommandTree) → option_map_or (other_by s) change (s, []) ≡ option_map_or (taken s) (option_map Other change) (s, [])
+change_taken : (s : Seat) (change : Option CommandTree) → option_map_or (other_by s) change (s, []) ≡ option_map_or (item_outcome s) (option_map Other change) (s, [])
 change_taken s None = refl
 change_taken s (Some c) = refl
 
@@ -50,7 +50,7 @@ other_taken user line r t is =
     let stays : arrived t ≡ t = λ i. record { user = t.user; seat = record t.seat { here = sym is.here i } } in
     let back : bytes_eq t.user user ≡ false = turned t.user user ∙ is.other in
     let mine : taken_by user (spelled line) r t ≡ option_map_or (other_by t.seat) (change_by (spelled line) r) (t.seat, []) = rw is.other refl in
-    let all : taken_of (event user line (change_by (spelled line) r)) t ≡ option_map_or (taken t.seat) (option_map Other (change_by (spelled line) r)) (t.seat, []) =
+    let all : taken_of (event user line (change_by (spelled line) r)) t ≡ option_map_or (item_outcome t.seat) (option_map Other (change_by (spelled line) r)) (t.seat, []) =
     rw back refl in
     ap (taken_by user (spelled line) r) stays ∙ mine ∙ change_taken t.seat (change_by (spelled line) r) ∙ sym all
 
@@ -99,7 +99,7 @@ seats_step user line r (t ∷ seats) all =
     λ i. record { user = t.user; seat = (all.0 i).0 } ∷ later i
 
 told_step : (user line : List ℕ) (r : Option Refusal) (seats : List Seated) → AllByRecursion (AreTaken user line r) seats →
-    flat_map (told_by user (spelled line) r) (map arrived seats) ≡ flat_map (told (event user line (change_by (spelled line) r))) seats
+    flat_map (told_to_seat user (spelled line) r) (map arrived seats) ≡ flat_map (told_of_event (event user line (change_by (spelled line) r))) seats
 told_step user line r [] all = refl
 told_step user line r (t ∷ seats) all =
     let later = told_step user line r seats all.1 in
@@ -186,22 +186,22 @@ all_here accepted (t ∷ seats) all = (all.0.here, all_here accepted seats all.1
 -- ---- The step
 
 step_of : (h : Hub) (input user line : List ℕ) → sent_in input ≡ Some (record { user = user; line = line }) → has_room h user ≡ true →
-    step h input ≡ step_by h (Some (record { user = user; line = line })) (Some (event user line (change_of (seat_of h user) line)))
-unfolding step
+    hub_step h input ≡ hub_step_by h (Some (record { user = user; line = line })) (Some (event user line (data_command_of (seat_of h user) line)))
+unfolding hub_step
 step_of h input user line sent room =
-    ap (λ o. step_by h o (event_by h o)) sent
-    ∙ ap (λ b. step_by h (Some (record { user = user; line = line })) (if b then Some (event user line (change_of (seat_of h user) line)) else None)) room
+    ap (λ o. hub_step_by h o (event_by h o)) sent
+    ∙ ap (λ b. hub_step_by h (Some (record { user = user; line = line })) (if b then Some (event user line (data_command_of (seat_of h user) line)) else None)) room
 
-pub step_of_nobody : (h : Hub) (input : List ℕ) → sent_in input ≡ None → step h input ≡ (h, unheard None)
-unfolding step
-step_of_nobody h input sent = ap (λ o. step_by h o (event_by h o)) sent
+pub step_of_nobody : (h : Hub) (input : List ℕ) → sent_in input ≡ None → hub_step h input ≡ (h, unheard None)
+unfolding hub_step
+step_of_nobody h input sent = ap (λ o. hub_step_by h o (event_by h o)) sent
 
 pub step_without_room : (h : Hub) (input user line : List ℕ) → sent_in input ≡ Some (record { user = user; line = line }) → has_room h user ≡ false →
-    step h input ≡ (h, unheard (Some (record { user = user; line = line })))
-unfolding step
+    hub_step h input ≡ (h, unheard (Some (record { user = user; line = line })))
+unfolding hub_step
 step_without_room h input user line sent room =
-    ap (λ o. step_by h o (event_by h o)) sent
-    ∙ ap (λ b. step_by h (Some (record { user = user; line = line })) (if b then Some (event user line (change_of (seat_of h user) line)) else None)) room
+    ap (λ o. hub_step_by h o (event_by h o)) sent
+    ∙ ap (λ b. hub_step_by h (Some (record { user = user; line = line })) (if b then Some (event user line (data_command_of (seat_of h user) line)) else None)) room
 
 -- the refusal by which all is told is that of the definition
 record IsReady (h : Hub) (user line : List ℕ) (r : Option Refusal) (place : ℕ) : Type 0 where
@@ -227,7 +227,7 @@ ready_at h h1 user line place s hub hub1 seats found named =
 
 pub sent_is_answered : (h h1 h2 : Hub) (input user line : List ℕ) (place : ℕ) (before after : List ℕ) → IsHub h → IsHub h1 →
     sent_in input ≡ Some (record { user = user; line = line }) → IsSeatedAs h user h1 (Some place) → IsSentAt place line h1 h2 before after →
-    IsAnswered h h2 input before after
+    IsLineTold h h2 input before after
 sent_is_answered h h1 h2 input user line place before after hub hub1 sent seated answers =
     let put = seated.1 in
     let who = user_at (slice_get h1.seats place) user put.there in
@@ -235,14 +235,14 @@ sent_is_answered h h1 h2 input user line place before after hub hub1 sent seated
     let is : IsAnsweredBy user (spelled line) r h1 h2 before after =
     subst (λ (u : List ℕ). IsAnsweredBy u (spelled line) r h1 h2 before after) who.named (answers who.s who.found) in
     let at = ready_at h h1 user line place who.s hub hub1 put.seats who.found who.named in
-    let change : change_of (seat_of h user) line ≡ change_by (spelled line) r = ap (change_by (spelled line)) at.judged in
-    let steps = step_of h input user line sent seated.0 ∙ ap (λ ch. step_by h (Some (record { user = user; line = line })) (Some (event user line ch))) change in
+    let change : data_command_of (seat_of h user) line ≡ change_by (spelled line) r = ap (change_by (spelled line)) at.judged in
+    let steps = step_of h input user line sent seated.0 ∙ ap (λ ch. hub_step_by h (Some (record { user = user; line = line })) (Some (event user line ch))) change in
     let seats : h2.seats ≡ map (seated_after (event user line (change_by (spelled line) r))) (seats_with h user) =
     is.seats ∙ ap (map (seated_by user (spelled line) r)) put.seats ∙ seats_step user line r (seats_with h user) at.all in
     let accepted : h2.accepted ≡ h.accepted ++ added (change_by (spelled line) r) =
     is.accepted ∙ ap (λ cs. cs ++ added (change_by (spelled line) r)) seated.2 in
-    let text : flat_map (told_by user (spelled line) r) h1.seats ≡ flat_map (told (event user line (change_by (spelled line) r))) (seats_with h user) =
-    ap (flat_map (told_by user (spelled line) r)) put.seats ∙ told_step user line r (seats_with h user) at.all in
+    let text : flat_map (told_to_seat user (spelled line) r) h1.seats ≡ flat_map (told_of_event (event user line (change_by (spelled line) r))) (seats_with h user) =
+    ap (flat_map (told_to_seat user (spelled line) r)) put.seats ∙ told_step user line r (seats_with h user) at.all in
     let goes : h2 ≡ record {
       seats = map (seated_after (event user line (change_by (spelled line) r))) (seats_with h user);
       accepted = h.accepted ++ added (change_by (spelled line) r);
@@ -254,7 +254,7 @@ sent_is_answered h h1 h2 input user line place before after hub hub1 sent seated
 
 -- ---- A line that is no user's
 
-pub nobody_is_answered : (h : Hub) (input before after : List ℕ) → sent_in input ≡ None → after ≡ before ++ unheard None → IsAnswered h h input before after
+pub nobody_is_answered : (h : Hub) (input before after : List ℕ) → sent_in input ≡ None → after ≡ before ++ unheard None → IsLineTold h h input before after
 nobody_is_answered h input before after sent said =
     let steps = step_of_nobody h input sent in
     record {
@@ -263,7 +263,7 @@ nobody_is_answered h input before after sent said =
     }
 
 pub ninth_is_answered : (h h1 : Hub) (input user line before after : List ℕ) → sent_in input ≡ Some (record { user = user; line = line }) →
-    IsSeatedAs h user h1 None → after ≡ before ++ unheard (Some (record { user = user; line = line })) → IsAnswered h h1 input before after
+    IsSeatedAs h user h1 None → after ≡ before ++ unheard (Some (record { user = user; line = line })) → IsLineTold h h1 input before after
 ninth_is_answered h h1 input user line before after sent seated said =
     let steps = step_without_room h input user line sent seated.0 in
     record {

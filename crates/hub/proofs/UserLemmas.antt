@@ -14,7 +14,7 @@ use Rattle.line_meaning.specs.Judging.{Held, all_after, fault_of, held, held_aft
 use Rattle.line_meaning.specs.Reached.{AreReached}
 use Rattle.session_file.specs.declared.kept.TheConstants.{SESSION_LINE_LIMIT}
 use Rattle.feeds_meaning.specs.declared.limits.TheConstants.{DATA_LINES_LIMIT, QUERY_LINES_LIMIT}
-use Rattle.feeds_meaning.specs.Heard.{counted}
+use Rattle.feeds_meaning.specs.Heard.{count_with_line}
 use Rattle.feeds_meaning.specs.Hub.{Seated, newcomer}
 use Rattle.feeds_meaning.specs.Lines.{is_data, is_of_queries}
 use Rattle.hub.specs.Seats.{IsUser, data_commands, data_entries}
@@ -117,7 +117,7 @@ after_other s c = record {
     held = all_after s.seat.held c;
     here = true;
     data_lines = s.seat.data_lines;
-    query_lines = counted (is_of_queries c) s.seat.query_lines;
+    query_lines = count_with_line (is_of_queries c) s.seat.query_lines;
   };
 }
 
@@ -129,7 +129,7 @@ user_of_other accepted s c reaches user other c_short room fault = elim (cases_B
       let goes : (held_after s.seat.held c).journal ≡ j ++ (clock j, c) ∷ [] = rw kept refl in
       let long : length (held_after s.seat.held c).journal ≡ length j + 1 = ap length goes ∙ length-append j ((clock j, c) ∷ []) in
       let queries : is_of_queries c ≡ true = rw (kept, other) refl in
-      let more : counted (is_of_queries c) s.seat.query_lines ≡ s.seat.query_lines + 1 = rw queries refl in
+      let more : count_with_line (is_of_queries c) s.seat.query_lines ≡ s.seat.query_lines + 1 = rw queries refl in
       let few = room queries in
       let entries = user.entries in
       record {
@@ -145,7 +145,7 @@ user_of_other accepted s c reaches user other c_short room fault = elim (cases_B
       let j = s.seat.held.journal in
       let goes : (held_after s.seat.held c).journal ≡ j = rw gone (append-nil j) in
       let long : length (held_after s.seat.held c).journal ≡ length j = ap length goes in
-      let none : counted (is_of_queries c) s.seat.query_lines ≡ s.seat.query_lines = rw gone refl in
+      let none : count_with_line (is_of_queries c) s.seat.query_lines ≡ s.seat.query_lines = rw gone refl in
       let entries = user.entries in
       let queries = user.few in
       record {

@@ -15,12 +15,12 @@ use Rattle.case_table.specs.declared.key.TheConstants.{CLASS, DROP, INSERT, KEEP
 use Rattle.ftl_lexer.specs.declared.kinds.Kind.{Kind}
 use Rattle.ftl_lexer.specs.declared.kinds.Kind.TheVariants as kinds
 use Rattle.ftl_lexer.specs.Cut.{Lexeme, cut}
-use Rattle.ftl_lexer.specs.Forms.{begins_name, is_blank, is_quote, name_len, number_len, single_symbol, symbol_at, text_len, token_at, word_kind}
+use Rattle.ftl_lexer.specs.Forms.{after_blanks, begins_name, is_blank, is_quote, name_len, number_len, single_symbol, symbol_at, text_len, token_at, word_kind}
 use Rattle.command_text.specs.Grammar.{Notes, SpellsCommand, SpellsParts, by_parts, first_notes, good, part_before, part_verb, token_of}
 use Rattle.command_text.specs.GrammarLaws.{IsReadByTheGrammar, SpellsWithinLimits}
 use Rattle.command_text.specs.Line.{IsRead, is_comment}
 use Rattle.command_text.specs.Parts.{Parts, Verb, ◌▸◌, parts}
-use Rattle.command_text.specs.Piece.{Piece, WORD, piece_of, pieces}
+use Rattle.command_text.specs.Piece.{Piece, WORD, line_pieces, piece_of}
 use Rattle.command_text.specs.Tree
 use Rattle.command_text.specs.Tree.{CommandTree}
 use Rattle.ftl_lexer.specs.Tokens.{bad_place, bytes_of_token, lexed, lexemes}
@@ -28,7 +28,7 @@ use Rattle.ftl_lexer.specs.declared.kinds.Token.{Token}
 use Rattle.ftl_parser.specs.Piece as token
 use Rattle.ftl_parser.specs.Piece.{ARROW, reserved, signs}
 use Rattle.ftl_parser.proofs.reader.TableLemmas.{in_table}
-use Rattle.users.specs.Sender.{after_blanks, first_word, word_at}
+use Rattle.users.specs.Sender.{first_word, word_at}
 use Rattle.feeds_meaning.specs.Lines.{data_words, is_among, is_data, is_data_line, is_of_queries, is_query_line, query_words}
 
 -- ---- The first token stands after the blanks
@@ -223,22 +223,22 @@ no_tokens : (r : Result (List Token) ℕ) (place : ℕ) → result_err r ≡ Som
 no_tokens (Ok tokens) place e = absurd (cc)
 no_tokens (Err place) other e = refl
 
-bad_has_none : (line : List ℕ) (place : ℕ) → bad_place line ≡ Some place → pieces line ≡ []
+bad_has_none : (line : List ℕ) (place : ℕ) → bad_place line ≡ Some place → line_pieces line ≡ []
 bad_has_none line place e = ap token.pieces (ap (map (λ t. (t.kind, bytes_of_token line t))) (no_tokens (lexed 0 0 line) place e))
 
 -- a command that its tokens spell begins with this word
-verb_is : (line word : List ℕ) (ps : Parts) (s t : Notes) (code : ℕ) → AreCut line → SpellsParts (Verb word ▸ ps) s t (pieces line) →
+verb_is : (line word : List ℕ) (ps : Parts) (s t : Notes) (code : ℕ) → AreCut line → SpellsParts (Verb word ▸ ps) s t (line_pieces line) →
     token_of word ≡ WORD code → word_of reserved_words code ≡ Some word → first_word line ≡ word
 verb_is line word ps s t code cuts spells coded is = by_place (bad_place line) refl
   where
-    tokens : (later : List Piece) × (pieces line ≡ token_of word ∷ later)
+    tokens : (later : List Piece) × (line_pieces line ≡ token_of word ∷ later)
     tokens = verb_first spells
 
     by_place : (bad : Option ℕ) → bad_place line ≡ bad → first_word line ≡ word
     by_place (Some place) e = let both : [] ≡ token_of word ∷ tokens.0 = sym (bad_has_none line place e) ∙ tokens.1 in absurd (cc)
     by_place None e = first_is line word (lexemes line) tokens.0 code (cuts e) (tokens.1 ∙ ap (λ p. p ∷ tokens.0) coded) is
 
-data_first : (line : List ℕ) (c : CommandTree) (s t : Notes) → AreCut line → is_data c ≡ true → SpellsParts (parts c) s t (pieces line) →
+data_first : (line : List ℕ) (c : CommandTree) (s t : Notes) → AreCut line → is_data c ≡ true → SpellsParts (parts c) s t (line_pieces line) →
     is_data_line line ≡ true
 unfolding reserved_words
 data_first line (Tree.Class name capacity point attributes) s t cuts h d =
@@ -252,7 +252,7 @@ data_first line (Tree.Remove name) s t cuts h d = ap (is_among data_words) (verb
 data_first line (Tree.Tick ticks) s t cuts h d = ap (is_among data_words) (verb_is line (codes "tick") _ s t TICK cuts d refl refl)
 data_first line c s t cuts h d = absurd (cc)
 
-query_first : (line : List ℕ) (c : CommandTree) (s t : Notes) → AreCut line → is_of_queries c ≡ true → SpellsParts (parts c) s t (pieces line) →
+query_first : (line : List ℕ) (c : CommandTree) (s t : Notes) → AreCut line → is_of_queries c ≡ true → SpellsParts (parts c) s t (line_pieces line) →
     is_query_line line ≡ true
 unfolding reserved_words
 query_first line (Tree.Watch name span q) s t cuts h d = ap (is_among query_words) (verb_is line (codes "watch") _ s t WATCH cuts d refl refl)
@@ -271,11 +271,11 @@ module _ (limit : ℕ) (line : List ℕ) (c : CommandTree) (cuts : AreCut line) 
   pub data_line : is_data c ≡ true → is_data_line line ≡ true
   data_line h = elim (spelled_by (is_comment line) refl) [
     | inl none ↦ let bad : true ≡ false = sym h ∙ ap is_data none in absurd (cc)
-    | inr spells ↦ data_first line c (first_notes line) good cuts h (parts_spelled c (first_notes line) good (pieces line) spells)
+    | inr spells ↦ data_first line c (first_notes line) good cuts h (parts_spelled c (first_notes line) good (line_pieces line) spells)
   ]
 
   pub query_line : is_of_queries c ≡ true → is_query_line line ≡ true
   query_line h = elim (spelled_by (is_comment line) refl) [
     | inl none ↦ let bad : true ≡ false = sym h ∙ ap is_of_queries none in absurd (cc)
-    | inr spells ↦ query_first line c (first_notes line) good cuts h (parts_spelled c (first_notes line) good (pieces line) spells)
+    | inr spells ↦ query_first line c (first_notes line) good cuts h (parts_spelled c (first_notes line) good (line_pieces line) spells)
   ]

@@ -22,9 +22,9 @@ accepted_in [] = []
 accepted_in (s ∷ seats) = data_commands s.seat.held.journal
 
 -- no two users are one
-abbrev pub AreApart : List Seated → Type 0
-AreApart [] = Unit {0}
-AreApart (s ∷ seats) = AllByRecursion (λ t. has_user s.user t ≡ false) seats × AreApart seats
+abbrev pub AreDistinctUsers : List Seated → Type 0
+AreDistinctUsers [] = Unit {0}
+AreDistinctUsers (s ∷ seats) = AllByRecursion (λ t. has_user s.user t ≡ false) seats × AreDistinctUsers seats
 
 -- what holds of a user where these data commands were accepted
 pub record IsUser (accepted : List CommandTree) (s : Seated) : Type 0 where
@@ -41,4 +41,4 @@ pub record IsHub (h : Hub) : Type 0 where
   pub accepted_is : h.accepted ≡ accepted_in h.seats
   pub few : length h.accepted ≤ DATA_LINES_LIMIT
   pub few_users : length h.seats ≤ USERS_LIMIT
-  pub apart : AreApart h.seats
+  pub apart : AreDistinctUsers h.seats

@@ -5,7 +5,7 @@ use Rattle.std.specs.Option.{option_map_or}
 use Rattle.std.specs.Str.{bytes_eq}
 use Rattle.command_text.specs.declared.refusal.Refusal.{Refusal}
 use Rattle.command_text.specs.Journal.{Accepted, spelled}
-use Rattle.command_text.specs.Refusals.{line_of}
+use Rattle.command_text.specs.Refusals.{refusal_line}
 use Rattle.command_text.specs.Text.{text_of}
 use Rattle.command_text.specs.Tree.{CommandTree}
 use Rattle.line_meaning.specs.Judging.{all_after, fault_of, held_after}
@@ -13,10 +13,10 @@ use Rattle.line_meaning.specs.Reply.{line_feed}
 use Rattle.users.specs.declared.sender.TheConstants.{USER_LIMIT}
 use Rattle.users.specs.Tagged.{tagged}
 use Rattle.feeds_meaning.specs.declared.limits.TheConstants.{DATA_LINES_LIMIT, QUERY_LINES_LIMIT}
-use Rattle.feeds_meaning.specs.Heard.{Seat, counted, other_by, other_text, own_by, own_refusal}
-use Rattle.feeds_meaning.specs.Hub.{Hub, Seated, added, has_room, has_user, seats_with, step}
+use Rattle.feeds_meaning.specs.Heard.{Seat, count_with_line, other_by, other_text, own_by, own_refusal}
+use Rattle.feeds_meaning.specs.Hub.{Hub, Seated, added, has_room, has_user, hub_step, seats_with}
 use Rattle.feeds_meaning.specs.Lines.{is_data, is_of_queries}
-use Rattle.hub.specs.Answering.{text_by}
+use Rattle.hub.specs.Answering.{answer_by}
 use Rattle.hub.specs.Seats.{IsHub, accepted_in}
 use Rattle.hub.specs.declared.parts.Parts.{Parts}
 use Rattle.hub.specs.declared.seat.Seat.{Seat as Kept}
@@ -36,14 +36,14 @@ abbrev pub served : Parts → (is_spent : Bool) → Option Hub
 served p is_spent = if is_spent then None else Some (hub_of p)
 
 -- what holds of the parts
-pub record AreParts (p : Parts) : Type 0 where
+pub record AreRightParts (p : Parts) : Type 0 where
   pub hub : IsHub (hub_of p)
   pub data_lines : p.data_lines ≡ length (hub_of p).accepted
 
 -- a line was answered: the hub goes on, and what is told of the line stands at the end
-pub record IsAnswered (old new : Hub) (line before after : List ℕ) : Type 0 where
-  pub goes_on : new ≡ (step old line).0
-  pub said : after ≡ before ++ (step old line).1
+pub record IsLineTold (old new : Hub) (line before after : List ℕ) : Type 0 where
+  pub goes_on : new ≡ (hub_step old line).0
+  pub said : after ≡ before ++ (hub_step old line).1
 
 -- ---- A line of a user, by the command that it is and its refusal
 
@@ -60,14 +60,14 @@ taken_by user c refusal s =
 abbrev pub seated_by : List ℕ → CommandTree → Option Refusal → Seated → Seated
 seated_by user c refusal s = record { user = s.user; seat = (taken_by user c refusal s).0 }
 
-abbrev pub told_by : List ℕ → CommandTree → Option Refusal → Seated → List ℕ
-told_by user c refusal s = tagged s.user (taken_by user c refusal s).1
+abbrev pub told_to_seat : List ℕ → CommandTree → Option Refusal → Seated → List ℕ
+told_to_seat user c refusal s = tagged s.user (taken_by user c refusal s).1
 
 -- the user has a seat
 pub record IsAnsweredBy (user : List ℕ) (c : CommandTree) (refusal : Option Refusal) (old new : Hub) (before after : List ℕ) : Type 0 where
   pub seats : new.seats ≡ map (seated_by user c refusal) old.seats
   pub accepted : new.accepted ≡ old.accepted ++ added (change_by c refusal)
-  pub said : after ≡ before ++ flat_map (told_by user c refusal) old.seats
+  pub said : after ≡ before ++ flat_map (told_to_seat user c refusal) old.seats
 
 -- a command of the user at a place is answered by what is held of this user's lines
 abbrev pub IsAnsweredAt : (place : ℕ) → CommandTree → (old new : Hub) → (before after : List ℕ) → Type 0
@@ -89,13 +89,13 @@ pub record HasRoomAt (place : ℕ) (c : CommandTree) (h : Hub) : Type 0 where
 -- the sender keeps
 abbrev pub kept_own : CommandTree → Option Refusal → Kept → Kept
 kept_own c (Some refusal) s = s
-kept_own c None s = record s { session = all_after s.session c; query_lines = counted (is_of_queries c) s.query_lines }
+kept_own c None s = record s { session = all_after s.session c; query_lines = count_with_line (is_of_queries c) s.query_lines }
 
 -- the sender's command was accepted or not
 pub record IsOwnOf (c : CommandTree) (old new : Kept) (text : List ℕ) (accepted : Bool) : Type 0 where
   pub told : accepted ≡ is_none (fault_of old.session c)
   pub kept_is : new ≡ kept_own c (fault_of old.session c) old
-  pub text_is : text ≡ text_by old.session c (fault_of old.session c)
+  pub text_is : text ≡ answer_by old.session c (fault_of old.session c)
 
 -- so it is of the user at a place
 abbrev pub IsOwnAt : (place : ℕ) → CommandTree → (old new : List Kept) → (text : List ℕ) → Bool → Type 0
@@ -105,7 +105,7 @@ IsOwnAt place c old new text accepted = (s : Kept) → slice_get old place ≡ S
 -- a refusal was written for the user at a place
 abbrev pub IsRefusedAt : (place : ℕ) → Refusal → List Kept → (before after : List ℕ) → Type 0
 IsRefusedAt place refusal seats before after = (s : Kept) → slice_get seats place ≡ Some s →
-    after ≡ before ++ tagged s.user (line_of refusal ++ line_feed)
+    after ≡ before ++ tagged s.user (refusal_line refusal ++ line_feed)
 
 -- a user who is told of an accepted data command of the sender, who has carried it out
 pub record MayBeTold (sender : List ℕ) (c : CommandTree) (s : Kept) : Type 0 where
@@ -149,11 +149,11 @@ abbrev pub arrived : Seated → Seated
 arrived s = record { user = s.user; seat = record s.seat { here = true } }
 
 -- a user's place, or where a new user gets one
-pub record IsPlace (accepted : List CommandTree) (user : List ℕ) (old new : List Seated) (place : ℕ) : Type 0 where
+pub record IsUserPlace (accepted : List CommandTree) (user : List ℕ) (old new : List Seated) (place : ℕ) : Type 0 where
   pub there : option_map (λ s. s.user) (slice_get new place) ≡ Some user
   pub seats : new ≡ map arrived (seats_with (record { seats = old; accepted = accepted }) user)
 
 -- the user has one, or gets one, or there is no room
 abbrev pub IsSeatedAs : (h : Hub) → (user : List ℕ) → Hub → Option ℕ → Type 0
-IsSeatedAs h user new (Some place) = (has_room h user ≡ true) × IsPlace h.accepted user h.seats new.seats place × (new.accepted ≡ h.accepted)
+IsSeatedAs h user new (Some place) = (has_room h user ≡ true) × IsUserPlace h.accepted user h.seats new.seats place × (new.accepted ≡ h.accepted)
 IsSeatedAs h user new None = (has_room h user ≡ false) × (new ≡ h)

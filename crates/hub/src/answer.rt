@@ -1,6 +1,6 @@
 //! What is written of a line.
 ghost use Rattle.std.specs.Prelude.{◌≡◌, ◌+◌, ◌&&◌, ◌++◌, ◌<◌, All, Some, true, codes, length, slice_get, OnOk};
-ghost use Rattle.command_text.specs.Refusals.{line_of};
+ghost use Rattle.command_text.specs.Refusals.{refusal_line};
 ghost use Rattle.command_text.specs.Tree.{command_view};
 ghost use Rattle.line_meaning.specs.Reply.{line_feed};
 ghost use Rattle.reply_text.specs.Begins.{Begins};
@@ -8,7 +8,7 @@ ghost use Rattle.feeds_meaning.specs.declared.limits.TheConstants.{DATA_LINES_LI
 ghost use Rattle.feeds_meaning.specs.Lines.{is_data};
 ghost use Rattle.hub.specs.Answering.{MayBeGiven};
 ghost use Rattle.hub.specs.declared.seat.Seat.{Seat as Kept};
-ghost use Rattle.hub.specs.Told.{AreParts, AreTold, HasLastLineAt, HasLineFor, HasRoomAt, HasSentAt, IsAnswered, IsAnsweredAt, IsLastLine, IsRefusedAt, IsSentAt, MayBeTold, hub_of, kept_told, told_kept};
+ghost use Rattle.hub.specs.Told.{AreRightParts, AreTold, HasLastLineAt, HasLineFor, HasRoomAt, HasSentAt, IsAnsweredAt, IsLastLine, IsLineTold, IsRefusedAt, IsSentAt, MayBeTold, hub_of, kept_told, told_kept};
 
 use crate::judging::read_own;
 use crate::kinds::is_data;
@@ -28,7 +28,7 @@ use users::{push_tagged, sent_in};
 /// Writes the reply to a line that is no user's.
 #[tactic(auto, using(reply_text::proofs::BeginLemmas::begins_through, reply_text::proofs::BeginLemmas::begins_more))]
 fn push_unheard(refusal: Refusal, out: &mut Vec<u8>) -> Result<(), AllocError>
-    ensures ok { OnOk result (out.new.items ≡ out.old.items ++ (codes "? " ++ line_of refusal ++ line_feed)) }
+    ensures ok { OnOk result (out.new.items ≡ out.old.items ++ (codes "? " ++ refusal_line refusal ++ line_feed)) }
     ensures begins { Begins out.old.items out.new.items }
 {
     push(out, b"? ")?;
@@ -187,12 +187,12 @@ fn answer_command<L: Ledger, M: Ledger>(
     reads: &mut Steps<L>,
     probes: &mut Steps<M>,
 ) -> Result<(), AllocError>
-    requires hub { AreParts parts.old }
+    requires hub { AreRightParts parts.old }
     requires there { place < length parts.old.seats.items }
     requires given { MayBeGiven (command_view command.now) }
     requires room { HasRoomAt place (command_view command.now) (hub_of parts.old) }
     ensures answered { OnOk result (IsAnsweredAt place (command_view command.now) (hub_of parts.old) (hub_of parts.new) out.old.items out.new.items) }
-    ensures hub { OnOk result (AreParts parts.new) }
+    ensures hub { OnOk result (AreRightParts parts.new) }
     ensures begins { Begins out.old.items out.new.items }
 {
     // A call that does nothing, whose contract says that what an accepted command leaves of a journal is one that steps lead to.
@@ -223,12 +223,12 @@ fn answer_read<L: Ledger, M: Ledger>(
     reads: &mut Steps<L>,
     probes: &mut Steps<M>,
 ) -> Result<(), AllocError>
-    requires hub { AreParts parts.old }
+    requires hub { AreRightParts parts.old }
     requires there { place < length parts.old.seats.items }
     requires given { MayBeGiven (command_view command) }
     requires room { HasRoomAt place (command_view command) (hub_of parts.old) }
     ensures answered { OnOk result (IsAnsweredAt place (command_view command) (hub_of parts.old) (hub_of parts.new) out.old.items out.new.items) }
-    ensures hub { OnOk result (AreParts parts.new) }
+    ensures hub { OnOk result (AreRightParts parts.new) }
     ensures begins { Begins out.old.items out.new.items }
 {
     let answered = answer_command(parts, place, &command, out, reads, probes);
@@ -244,7 +244,7 @@ fn push_refused(
     refusal: Refusal,
     out: &mut Vec<u8>,
 ) -> Result<(), AllocError>
-    requires hub { AreParts parts.old }
+    requires hub { AreRightParts parts.old }
     requires there { place < length parts.old.seats.items }
     ensures said { OnOk result (IsRefusedAt place refusal parts.old.seats.items out.old.items out.new.items) }
     ensures same { (parts.new.seats ≡ parts.old.seats) × (parts.new.data_lines ≡ parts.old.data_lines) }
@@ -265,10 +265,10 @@ fn answer_sent<L: Ledger, M: Ledger>(
     reads: &mut Steps<L>,
     probes: &mut Steps<M>,
 ) -> Result<(), AllocError>
-    requires hub { AreParts parts.old }
+    requires hub { AreRightParts parts.old }
     requires there { place < length parts.old.seats.items }
     ensures answered { OnOk result (IsSentAt place line.now (hub_of parts.old) (hub_of parts.new) out.old.items out.new.items) }
-    ensures hub { OnOk result (AreParts parts.new) }
+    ensures hub { OnOk result (AreRightParts parts.new) }
     ensures begins { Begins out.old.items out.new.items }
 {
     // A call that does nothing, whose contract says that a command that is read can be carried out.
@@ -289,9 +289,9 @@ pub(crate) fn answer_line<L: Ledger, M: Ledger>(
     reads: &mut Steps<L>,
     probes: &mut Steps<M>,
 ) -> Result<(), AllocError>
-    requires { AreParts parts.old }
-    ensures answered { OnOk result (IsAnswered (hub_of parts.old) (hub_of parts.new) line.now out.old.items out.new.items) }
-    ensures hub { OnOk result (AreParts parts.new) }
+    requires { AreRightParts parts.old }
+    ensures answered { OnOk result (IsLineTold (hub_of parts.old) (hub_of parts.new) line.now out.old.items out.new.items) }
+    ensures hub { OnOk result (AreRightParts parts.new) }
     ensures begins { Begins out.old.items out.new.items }
 {
     let Some((user, own_line)) = sent_in(line) else {

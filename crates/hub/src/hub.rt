@@ -1,7 +1,7 @@
 //! Several users who share one world.
 ghost use Rattle.std.specs.Prelude.{◌≡◌, ◌++◌, IfOk, OnErr, OnOk, Some};
-ghost use Rattle.feeds_meaning.specs.Hub.{Hub as Users, empty_hub, step};
-ghost use Rattle.hub.specs.Told.{AreParts, IsAnswered, hub_of};
+ghost use Rattle.feeds_meaning.specs.Hub.{Hub as Users, empty_hub, hub_step};
+ghost use Rattle.hub.specs.Told.{AreRightParts, IsLineTold, hub_of};
 
 use crate::answer::answer_line;
 use crate::parts::Parts;
@@ -23,7 +23,7 @@ impl Model for Hub {
     ghost use Rattle.ftl_parser.specs.declared.tree.Atom.{Atom};
     ghost use Rattle.ftl_parser.specs.declared.tree.Term.{Term};
     ghost use Rattle.feeds_meaning.specs.Hub.{Hub as Users};
-    ghost use Rattle.hub.specs.Told.{AreParts, hub_of};
+    ghost use Rattle.hub.specs.Told.{AreRightParts, hub_of};
 
     ghost Value = { Users };
 
@@ -31,7 +31,7 @@ impl Model for Hub {
 
     ghost view = { λ a. hub_of a.parts };
 
-    ghost invariant = { λ a. AreParts a.parts };
+    ghost invariant = { λ a. AreRightParts a.parts };
 }
 
 impl Hub {
@@ -53,7 +53,7 @@ impl Hub {
         reads: &mut Steps<L>,
         probes: &mut Steps<M>,
     ) -> Result<Hub, AllocError>
-        ensures ok { IfOk result (λ hub. IsAnswered self hub line.now out.old.items out.new.items) }
+        ensures ok { IfOk result (λ hub. IsLineTold self hub line.now out.old.items out.new.items) }
         ensures err { OnErr result (out.new.items ≡ out.old.items) }
     {
         let mut parts = self.parts;
@@ -70,9 +70,9 @@ fn answer_whole<L: Ledger, M: Ledger>(
     reads: &mut Steps<L>,
     probes: &mut Steps<M>,
 ) -> Result<(), AllocError>
-    requires { AreParts parts.old }
-    ensures answered { OnOk result (IsAnswered (hub_of parts.old) (hub_of parts.new) line.now out.old.items out.new.items) }
-    ensures hub { OnOk result (AreParts parts.new) }
+    requires { AreRightParts parts.old }
+    ensures answered { OnOk result (IsLineTold (hub_of parts.old) (hub_of parts.new) line.now out.old.items out.new.items) }
+    ensures hub { OnOk result (AreRightParts parts.new) }
     ensures err { OnErr result (out.new.items ≡ out.old.items) }
 {
     let before = out.len();
@@ -100,7 +100,7 @@ impl Model for Serving {
     ghost use Rattle.ftl_parser.specs.declared.tree.Atom.{Atom};
     ghost use Rattle.ftl_parser.specs.declared.tree.Term.{Term};
     ghost use Rattle.feeds_meaning.specs.Hub.{Hub as Users};
-    ghost use Rattle.hub.specs.Told.{AreParts, served};
+    ghost use Rattle.hub.specs.Told.{AreRightParts, served};
 
     ghost Value = { Option Users };
 
@@ -108,7 +108,7 @@ impl Model for Serving {
 
     ghost view = { λ s. served s.parts s.is_spent };
 
-    ghost invariant = { λ s. s.is_spent ≡ false → AreParts s.parts };
+    ghost invariant = { λ s. s.is_spent ≡ false → AreRightParts s.parts };
 }
 
 impl Serving {
@@ -131,7 +131,7 @@ impl Serving {
         probes: &mut Steps<M>,
     ) -> Result<(), AllocError>
         ensures { (hub : Users) → self.old ≡ Some hub →
-            OnOk result ((out.new.items ≡ out.old.items ++ (step hub line.now).1) × (self.new ≡ Some (step hub line.now).0)) }
+            OnOk result ((out.new.items ≡ out.old.items ++ (hub_step hub line.now).1) × (self.new ≡ Some (hub_step hub line.now).0)) }
     {
         if self.is_spent {
             return Err(AllocError);

@@ -1,7 +1,7 @@
 //! Which lines are refused before what is held is asked.
 ghost use Rattle.std.specs.Prelude.{◌≡◌, IfErr, IfOk};
 ghost use Rattle.command_text.specs.Tree.{command_view};
-ghost use Rattle.hub.specs.Judging.{Explains, HasRoom, IsTaken, passes_limits};
+ghost use Rattle.hub.specs.Judging.{CanBeCounted, ExplainsSent, IsTaken, is_one_too_many};
 
 use crate::kinds::{is_barred, is_data_line, is_query_line};
 use command_text::{
@@ -13,7 +13,7 @@ use ftl_lexer::cut_gives_the_tokens;
 /// Whether a line passes the limits of lines, where so many data commands were accepted of all users, and so many commands
 /// on queries of this one.
 fn passes_limits(line: &[u8], data_lines: u32, query_lines: u32) -> bool
-    ensures { result ≡ passes_limits data_lines query_lines line.now }
+    ensures { result ≡ is_one_too_many data_lines query_lines line.now }
 {
     let is_full = data_lines >= DATA_LINES_LIMIT && is_data_line(line);
     is_full || (query_lines >= QUERY_LINES_LIMIT && is_query_line(line))
@@ -28,8 +28,8 @@ pub(crate) fn read_own(
     query_lines: u32,
 ) -> Result<Command, CommandFault>
     ensures ok { IfOk result (λ c. IsTaken data_lines query_lines line.now (command_view c)) }
-    ensures room { IfOk result (λ c. HasRoom data_lines query_lines (command_view c)) }
-    ensures cause { IfErr result (Explains data_lines query_lines line.now) }
+    ensures room { IfOk result (λ c. CanBeCounted data_lines query_lines (command_view c)) }
+    ensures cause { IfErr result (ExplainsSent data_lines query_lines line.now) }
 {
     // Calls that do nothing, whose contracts say what the first word of a line that is read is.
     lines_are_read_by_the_grammar();

@@ -8,7 +8,7 @@ ghost use Rattle.feeds_meaning.specs.Hub.{newcomer};
 ghost use Rattle.feeds_meaning.specs.Lines.{is_data};
 ghost use Rattle.hub.specs.Answering.{IsEntryLine};
 ghost use Rattle.hub.specs.Seats.{IsHub, accepted_in, data_entries};
-ghost use Rattle.hub.specs.Told.{AreParts, IsSeatedAs, hub_of, seated};
+ghost use Rattle.hub.specs.Told.{AreRightParts, IsSeatedAs, hub_of, seated};
 ghost use Rattle.users.specs.declared.sender.TheConstants.{USER_LIMIT};
 
 use crate::kinds::is_data;
@@ -108,10 +108,10 @@ pub(crate) fn seat_for<L: Ledger, M: Ledger>(
     reads: &mut Steps<L>,
     probes: &mut Steps<M>,
 ) -> Result<Option<usize>, AllocError>
-    requires hub { AreParts parts.old }
+    requires hub { AreRightParts parts.old }
     requires short { length user.now ≤ USER_LIMIT }
     ensures seated { IfOk result (IsSeatedAs (hub_of parts.old) user.now (hub_of parts.new)) }
-    ensures hub { OnOk result (AreParts parts.new) }
+    ensures hub { OnOk result (AreRightParts parts.new) }
 {
     if let Some(place) = place_of(&parts.seats, user) {
         return Ok(Some(place));
@@ -128,11 +128,11 @@ fn seat_new<L: Ledger, M: Ledger>(
     reads: &mut Steps<L>,
     probes: &mut Steps<M>,
 ) -> Result<Option<usize>, AllocError>
-    requires hub { AreParts parts.old }
+    requires hub { AreRightParts parts.old }
     requires short { length user.now ≤ USER_LIMIT }
     requires none { position (λ s. bytes_eq user.now s.user) parts.old.seats.items ≡ None }
     ensures seated { IfOk result (IsSeatedAs (hub_of parts.old) user.now (hub_of parts.new)) }
-    ensures hub { OnOk result (AreParts parts.new) }
+    ensures hub { OnOk result (AreRightParts parts.new) }
 {
     if is_full(&parts.seats) {
         return Ok(None);

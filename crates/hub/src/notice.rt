@@ -1,11 +1,11 @@
 //! The lines that users are told beside replies.
 ghost use Rattle.std.specs.Prelude.{◌≡◌, ◌++◌, OnOk};
-ghost use Rattle.command_text.specs.Refusals.{line_of};
+ghost use Rattle.command_text.specs.Refusals.{refusal_line};
 ghost use Rattle.command_text.specs.Tree.{command_view};
 ghost use Rattle.line_meaning.specs.Reply.{clock_line, line_feed};
 ghost use Rattle.reply_text.specs.Begins.{Begins};
 ghost use Rattle.feeds_meaning.specs.Lines.{notice, stop_line};
-ghost use Rattle.hub.specs.Answering.{start_text};
+ghost use Rattle.hub.specs.Answering.{start_line_by_word};
 
 use command_text::{Command, Refusal};
 use fixed_point::Word;
@@ -25,7 +25,7 @@ pub(crate) fn push(out: &mut Vec<u8>, bytes: &[u8]) -> Result<(), AllocError>
 
 /// Writes `start`, a query, the word of its kind and the clock.
 fn push_start(query: &Word, kind: &[u8], now: u32, out: &mut Vec<u8>) -> Result<(), AllocError>
-    ensures { OnOk result (out.new.items ≡ out.old.items ++ start_text query.now kind.now now) }
+    ensures { OnOk result (out.new.items ≡ out.old.items ++ start_line_by_word query.now kind.now now) }
 {
     push(out, b"start ")?;
     push(out, query.bytes())?;
@@ -75,7 +75,7 @@ pub(crate) fn push_notice(
 /// Writes the line of a refusal. On want of memory `out` still begins with its old contents.
 #[tactic(auto, using(reply_text::proofs::BeginLemmas::begins_through, reply_text::proofs::BeginLemmas::begins_more))]
 pub(crate) fn push_refusal(refusal: Refusal, out: &mut Vec<u8>) -> Result<(), AllocError>
-    ensures ok { OnOk result (out.new.items ≡ out.old.items ++ (line_of refusal ++ line_feed)) }
+    ensures ok { OnOk result (out.new.items ≡ out.old.items ++ (refusal_line refusal ++ line_feed)) }
     ensures begins { Begins out.old.items out.new.items }
 {
     push(out, refusal.line().bytes())?;

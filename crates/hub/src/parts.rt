@@ -22,12 +22,12 @@ pub(crate) struct Parts {
 }
 
 impl Parts {
-    ghost use Rattle.hub.specs.Told.{AreParts, hub_of};
+    ghost use Rattle.hub.specs.Told.{AreRightParts, hub_of};
 
     /// No users. It takes no memory.
     pub(crate) fn new(alloc: Global) -> Parts
         ensures empty { hub_of result ≡ empty_hub }
-        ensures parts { AreParts result }
+        ensures parts { AreRightParts result }
     {
         Parts {
             alloc,

@@ -14,14 +14,14 @@ use Rattle.formula.specs.declared.tree.RUnit.{RUnit}
 use Rattle.formula.specs.declared.tree.RUnit.TheVariants as units
 use Rattle.formula.specs.declared.value.Env.{Env}
 use Rattle.meaning.specs.Trace.{Trace}
-use Rattle.meaning.specs.Value.{factor_value, plus, term_value, unit_value, values_compare, with_sign}
+use Rattle.meaning.specs.Value.{factor_value, plus, signed_value, term_value, unit_value, values_compare}
 use Rattle.meaning.specs.Atom.{atom_holds}
-use Rattle.interpreting.specs.Names.{AgreeOn, atom_names, term_names, unit_names}
+use Rattle.interpreting.specs.Names.{AgreeOn, atom_uses_value, term_uses_value, unit_uses_value}
 
 own : (d : ℕ) → (d == d) ≡ true
 own d = grind (arith, nat_tests)
 
-unit_by_names : (h : Trace) (x y : Env) (t : ℕ) (u : RUnit) → AgreeOn (λ d. unit_names d u) x y → unit_value h x u t ≡ unit_value h y u t
+unit_by_names : (h : Trace) (x y : Env) (t : ℕ) (u : RUnit) → AgreeOn (λ d. unit_uses_value d u) x y → unit_value h x u t ≡ unit_value h y u t
 unit_by_names h x y t (units.Literal n) same = refl
 unit_by_names h x y t (units.Text s) same = refl
 unit_by_names h x y t (units.Var d bound) same = same d (own d)
@@ -29,27 +29,27 @@ unit_by_names h x y t (units.Attr v a bound) same = refl
 unit_by_names h x y t (units.Sub v a part) same = refl
 unit_by_names h x y t units.Time same = refl
 
-factors_by_names : (h : Trace) (x y : Env) (t : ℕ) (factors : List RSigned) → AgreeOn (λ d. list_any (λ s. unit_names d s.unit) factors) x y →
+factors_by_names : (h : Trace) (x y : Env) (t : ℕ) (factors : List RSigned) → AgreeOn (λ d. list_any (λ s. unit_uses_value d s.unit) factors) x y →
     map (factor_value h x t) factors ≡ map (factor_value h y t) factors
 factors_by_names h x y t [] same = refl
 factors_by_names h x y t (s ∷ factors) same =
     let first : factor_value h x t s ≡ factor_value h y t s =
-    ap (option_and_then (with_sign s.minus s.times))
-    (unit_by_names h x y t s.unit (λ d names. same d (or_left (unit_names d s.unit) (list_any (λ r. unit_names d r.unit) factors) names))) in
+    ap (option_and_then (signed_value s.minus s.times))
+    (unit_by_names h x y t s.unit (λ d names. same d (or_left (unit_uses_value d s.unit) (list_any (λ r. unit_uses_value d r.unit) factors) names))) in
     ap (λ value. value ∷ map (factor_value h x t) factors) first
     ∙ ap (λ values. factor_value h y t s ∷ values)
-    (factors_by_names h x y t factors (λ d names. same d (or_right (unit_names d s.unit) (list_any (λ r. unit_names d r.unit) factors) names)))
+    (factors_by_names h x y t factors (λ d names. same d (or_right (unit_uses_value d s.unit) (list_any (λ r. unit_uses_value d r.unit) factors) names)))
 
-pub term_by_names : (h : Trace) (q : RTerm) (x y : Env) → AgreeOn (λ d. term_names d q) x y → (t : ℕ) → term_value h q x t ≡ term_value h q y t
+pub term_by_names : (h : Trace) (q : RTerm) (x y : Env) → AgreeOn (λ d. term_uses_value d q) x y → (t : ℕ) → term_value h q x t ≡ term_value h q y t
 term_by_names h q x y same t = ap (λ values. unwrap_or (reduce plus values) None) (factors_by_names h x y t q.factors same)
 
-pub atom_by_names : (regions : List Region) (h : Trace) (a : RAtom) (x y : Env) → AgreeOn (λ d. atom_names d a) x y → (t : ℕ) →
+pub atom_by_names : (regions : List Region) (h : Trace) (a : RAtom) (x y : Env) → AgreeOn (λ d. atom_uses_value d a) x y → (t : ℕ) →
     atom_holds regions h a x t ≡ atom_holds regions h a y t
 atom_by_names regions h (atoms.Compare q op r) x y same t =
     ap (λ value. values_compare op value (term_value h r x t))
-    (term_by_names h q x y (λ d names. same d (or_left (term_names d q) (term_names d r) names)) t)
+    (term_by_names h q x y (λ d names. same d (or_left (term_uses_value d q) (term_uses_value d r) names)) t)
     ∙ ap (λ value. values_compare op (term_value h q y t) value)
-    (term_by_names h r x y (λ d names. same d (or_right (term_names d q) (term_names d r) names)) t)
+    (term_by_names h r x y (λ d names. same d (or_right (term_uses_value d q) (term_uses_value d r) names)) t)
 atom_by_names regions h (atoms.Inside v n) x y same t = refl
 atom_by_names regions h (atoms.Outside v n) x y same t = refl
 atom_by_names regions h (atoms.Dist v u op c) x y same t = refl

@@ -12,26 +12,26 @@ use Rattle.formula.specs.Tree.{ResolvedTree}
 use Rattle.formula.specs.Value.{value_in}
 
 -- whether the value of depth d is named in a factor, a term, an atom, a formula
-abbrev pub unit_names : ℕ → RUnit → Bool
-unit_names d (units.Literal n) = false
-unit_names d (units.Text s) = false
-unit_names d (units.Var e bound) = e == d
-unit_names d (units.Attr v a bound) = false
-unit_names d (units.Sub v a part) = false
-unit_names d units.Time = false
+abbrev pub unit_uses_value : ℕ → RUnit → Bool
+unit_uses_value d (units.Literal n) = false
+unit_uses_value d (units.Text s) = false
+unit_uses_value d (units.Var e bound) = e == d
+unit_uses_value d (units.Attr v a bound) = false
+unit_uses_value d (units.Sub v a part) = false
+unit_uses_value d units.Time = false
 
-abbrev pub term_names : ℕ → RTerm → Bool
-term_names d q = list_any (λ s. unit_names d s.unit) q.factors
+abbrev pub term_uses_value : ℕ → RTerm → Bool
+term_uses_value d q = list_any (λ s. unit_uses_value d s.unit) q.factors
 
-abbrev pub atom_names : ℕ → RAtom → Bool
-atom_names d (atoms.Compare q op r) = term_names d q || term_names d r
-atom_names d (atoms.Inside v n) = false
-atom_names d (atoms.Outside v n) = false
-atom_names d (atoms.Dist v u op c) = false
-atom_names d (atoms.Sphere r vs) = false
+abbrev pub atom_uses_value : ℕ → RAtom → Bool
+atom_uses_value d (atoms.Compare q op r) = term_uses_value d q || term_uses_value d r
+atom_uses_value d (atoms.Inside v n) = false
+atom_uses_value d (atoms.Outside v n) = false
+atom_uses_value d (atoms.Dist v u op c) = false
+atom_uses_value d (atoms.Sphere r vs) = false
 
-abbrev pub formula_names : ℕ → ResolvedTree → Bool
-formula_names d = has_part (atom_names d) (λ bound. term_names d bound.1)
+abbrev pub formula_uses_value : ℕ → ResolvedTree → Bool
+formula_uses_value d = has_part (atom_uses_value d) (λ bound. term_uses_value d bound.1)
 
 -- what is bound is the same at each depth that passes a test
 abbrev pub AgreeOn : (ℕ → Bool) → Env → Env → Type 0

@@ -10,8 +10,8 @@ abbrev pub run_has : ℕ → ValueRun → Bool
 run_has t run = within run.span.lo run.span.hi t
 
 -- whether it is in one of the runs
-abbrev pub runs_have : List ValueRun → ℕ → Bool
-runs_have runs t = list_any (run_has t) runs
+abbrev pub value_runs_have : List ValueRun → ℕ → Bool
+value_runs_have runs t = list_any (run_has t) runs
 
 -- the run lies in the ticks from `from` up to `until`, without `until`, and each tick of it has its value
 pub record IsRunOf (value : ℕ → Option Value) (from until : ℕ) (run : ValueRun) : Type 0 where
@@ -22,5 +22,5 @@ pub record IsRunOf (value : ℕ → Option Value) (from until : ℕ) (run : Valu
 -- Runs of the values that the ticks from `from` up to `until`, without `until`, have. A tick without a value is in none.
 pub record AreValueRuns (value : ℕ → Option Value) (from until : ℕ) (runs : List ValueRun) : Type 0 where
   pub each : All (IsRunOf value from until) runs
-  pub all : (t : ℕ) → from ≤ t → t < until → is_some (value t) ≡ true → runs_have runs t ≡ true
+  pub all : (t : ℕ) → from ≤ t → t < until → is_some (value t) ≡ true → value_runs_have runs t ≡ true
   pub few : length runs ≤ until - from

@@ -8,7 +8,7 @@ ghost use Rattle.formula.specs.declared.tree.RTerm.{RTerm};
 ghost use Rattle.formula.specs.declared.value.Env.{Env};
 ghost use Rattle.meaning.specs.Reads.{atom_variables, term_variables};
 ghost use Rattle.meaning.specs.Satisfaction.{Interpretation};
-ghost use Rattle.interpreting.specs.Names.{AgreeOn, atom_names, term_names};
+ghost use Rattle.interpreting.specs.Names.{AgreeOn, atom_uses_value, term_uses_value};
 ghost use Rattle.interpreting.specs.ValueRuns.{AreValueRuns};
 
 use crate::value_run::ValueRun;
@@ -95,11 +95,11 @@ pub trait Interpreter<S: Temporal> {
         → (env : Env) (t : ℕ) → (interpretation x b).term q env t ≡ (interpretation x c).term q env t };
 
     /// An atom depends on the values that it names alone.
-    ghost atom_sees_values: { (x : Self) (b : ℕ → ℕ) (a : RAtom) (env other : Env) → AgreeOn (λ d. atom_names d a) env other
+    ghost atom_sees_values: { (x : Self) (b : ℕ → ℕ) (a : RAtom) (env other : Env) → AgreeOn (λ d. atom_uses_value d a) env other
         → (t : ℕ) → (interpretation x b).atom a env t ≡ (interpretation x b).atom a other t };
 
     /// A term depends on the values that it names alone.
-    ghost term_sees_values: { (x : Self) (b : ℕ → ℕ) (q : RTerm) (env other : Env) → AgreeOn (λ d. term_names d q) env other
+    ghost term_sees_values: { (x : Self) (b : ℕ → ℕ) (q : RTerm) (env other : Env) → AgreeOn (λ d. term_uses_value d q) env other
         → (t : ℕ) → (interpretation x b).term q env t ≡ (interpretation x b).term q other t };
 
     /// An atom that may be asked over the ticks of lo to hi may be asked over some of them.

@@ -9,7 +9,7 @@ EndsFrom at [] = ⊤
 EndsFrom at (s ∷ rest) = at ≤ s.hi
 
 -- rest is the spans without those that end before the tick
-pub record IsPast (at : ℕ) (spans rest : List Span) : Type 0 where
+pub record DropsEnded (at : ℕ) (spans rest : List Span) : Type 0 where
   pub dropped : List Span
   pub whole : spans ≡ dropped ++ rest
   pub ended : (u : ℕ) → spans_have dropped u ≡ true → u < at

@@ -2,7 +2,7 @@
 ghost use Rattle.std.specs.Prelude.{◌≡◌, ◌≤◌, ℕ, false, IfNone, IfSome};
 ghost use Rattle.std.specs.List.{IsFirstAndRest};
 ghost use Rattle.tick_set.specs.Runs.{IsNormal, spans_have};
-ghost use Rattle.interval_set.specs.Cursor.{IsPast};
+ghost use Rattle.interval_set.specs.Cursor.{DropsEnded};
 
 use tick_set::Span;
 
@@ -11,7 +11,7 @@ use tick_set::Span;
 pub fn past(spans: &[Span], at: u32) -> &[Span]
     requires { IsNormal spans.now }
     ensures normal { IsNormal result.now }
-    ensures past { IsPast at spans.now result.now }
+    ensures past { DropsEnded at spans.now result.now }
     ensures ticks { (u : ℕ) → at ≤ u → spans_have result.now u ≡ spans_have spans.now u }
 {
     let mut rest = spans;

@@ -16,7 +16,7 @@ use Rattle.object_store.specs.Contents.{Contents, catalog_of}
 use Rattle.plane.specs.Rows.{range_query}
 use Rattle.command_text.specs.Journal.{Accepted, clock}
 use Rattle.line_meaning.specs.Answering.{answer_lines}
-use Rattle.line_meaning.specs.Indexed.{Column, IndexEntry, column, index_fault, index_named, index_of, is_of, is_past_index, range_refusal, rows_ranged, with_index}
+use Rattle.line_meaning.specs.Indexed.{IndexEntry, IndexedColumn, column, entry_at_column, index_fault, index_named, is_of, is_past_index, range_refusal, rows_ranged, with_index}
 use Rattle.line_meaning.specs.Journal.{world}
 use Rattle.line_meaning.specs.Judging.{all_after}
 use Rattle.line_meaning.specs.Looks.{looks_in_range, most_looks}
@@ -26,7 +26,7 @@ use Rattle.database.specs.Keeping.{Keeps, clock_of, world_of_database}
 use Rattle.kept_indexes.specs.declared.asking.Range.{Range}
 use Rattle.kept_indexes.specs.declared.indexes.Kept.{Kept}
 use Rattle.kept_indexes.specs.Kept.{AreIndexes, IsRight, entries, entry_of}
-use Rattle.kept_indexes.specs.Making.{IsPlace, command_of, holding}
+use Rattle.kept_indexes.specs.Making.{IsPlace, holding, range_command}
 use Rattle.kept_indexes.proofs.FindLemmas.{index_there, range_refused, within}
 
 module _ (journal : List Accepted) (d : Database) (keeps : Keeps journal d) (kept : List Kept) (r : Range) (place : ℕ) (k : Kept)
@@ -37,21 +37,21 @@ module _ (journal : List Accepted) (d : Database) (keeps : Keeps journal d) (kep
   fits : is_past_index d.clock r.span (entry_of (get_or kept place k)) ≡ false
   fits = is.fits k below
 
-  pub not_refused : index_fault (entries kept) (world journal) (clock journal) (command_of r) ≡ None
+  pub not_refused : index_fault (entries kept) (world journal) (clock journal) (range_command r) ≡ None
   not_refused =
-      (λ i. index_fault (entries kept) (sym keeps.told_is i) (sym keeps.clock_is i) (command_of r))
+      (λ i. index_fault (entries kept) (sym keeps.told_is i) (sym keeps.clock_is i) (range_command r))
       ∙ range_refused (catalog_of d.store) kept d.clock r.span r.class.now r.attr.now is.at place k is.column is.found false fits
 
   column_told : column (world journal).history.catalog r.class.now r.attr.now ≡ Some is.at
   column_told = ap (λ (w : World). column w.history.catalog r.class.now r.attr.now) (sym keeps.told_is) ∙ is.column
 
-  index_is : index_of (entries kept) is.at ≡ Some (entry_of k)
+  index_is : entry_at_column (entries kept) is.at ≡ Some (entry_of k)
   index_is = index_there kept is.at place k is.found ∙ ap (λ (x : Kept). Some (entry_of x)) (sym there)
 
-  pub looks_are : looks_in_range journal r.span r.least r.greatest (entry_of k) ≡ most_looks (holding journal kept) (command_of r)
+  pub looks_are : looks_in_range journal r.span r.least r.greatest (entry_of k) ≡ most_looks (holding journal kept) (range_command r)
   looks_are =
       sym (ap (λ o. option_map_or (looks_in_range journal r.span r.least r.greatest) o 0)
-      (ap (option_and_then (index_of (entries kept))) column_told ∙ index_is))
+      (ap (option_and_then (entry_at_column (entries kept))) column_told ∙ index_is))
 
   -- it is of the attribute
   its : (entry_of k).grid.class ≡ is.at.class
@@ -80,13 +80,13 @@ module _ (journal : List Accepted) (d : Database) (keeps : Keeps journal d) (kep
   entries_stay e same = map-set_same entry_of kept place e k (same ∙ ap entry_of there)
 
   pub entries_seen : (e : Kept) → entry_of e ≡ record (entry_of k) { seen = length journal } →
-      entries (set kept place e) ≡ (all_after (holding journal kept) (command_of r)).indexes
+      entries (set kept place e) ≡ (all_after (holding journal kept) (range_command r)).indexes
   entries_seen e same =
       let new : IndexEntry = record (entry_of k) { seen = length journal } in
       map-set entry_of kept place e
       ∙ ap (set (entries kept) place) same
       ∙ sym (ap (λ o. option_map_or (λ i. set (entries kept) i new) o (entries kept ++ new ∷ [])) is.found)
-      ∙ sym (ap (λ o. option_map_or (λ at. option_map_or (λ e. with_index (entries kept) at (record e { seen = length journal })) (index_of (entries kept) at) (entries kept)) o (entries kept)) column_told
+      ∙ sym (ap (λ o. option_map_or (λ at. option_map_or (λ e. with_index (entries kept) at (record e { seen = length journal })) (entry_at_column (entries kept) at) (entries kept)) o (entries kept)) column_told
       ∙ ap (λ o. option_map_or (λ e. with_index (entries kept) is.at (record e { seen = length journal })) o (entries kept)) index_is)
 
   pub indexes_right : (e : Kept) → IsRight journal d.store e → AreIndexes journal d.store kept → AreIndexes journal d.store (set kept place e)

@@ -7,12 +7,12 @@ use Rattle.std.proofs.lemmas.List.Elements.{All-push, All-set}
 use Rattle.object_store.specs.Contents.{Contents}
 use Rattle.plane_index.specs.Index.{Index, IsIndexOf}
 use Rattle.command_text.specs.Journal.{Accepted, clock}
-use Rattle.line_meaning.specs.Indexed.{Column, IndexEntry, is_of, with_index}
+use Rattle.line_meaning.specs.Indexed.{IndexEntry, IndexedColumn, is_of, with_index}
 use Rattle.kept_indexes.specs.declared.indexes.Kept.{Kept}
 use Rattle.kept_indexes.specs.Kept.{AreRight, IsRight, entries, entry_of}
 use Rattle.kept_indexes.specs.Making.{IsPut}
 
-pub put_in : (at : Column) (one : Kept) (kept : List Kept) (place : ℕ) → position (is_of at) (entries kept) ≡ Some place →
+pub put_in : (at : IndexedColumn) (one : Kept) (kept : List Kept) (place : ℕ) → position (is_of at) (entries kept) ≡ Some place →
     IsPut at one kept (set kept place one)
 put_in at one kept place found = record {
   entries =
@@ -21,7 +21,7 @@ put_in at one kept place found = record {
   right = λ journal s all right. All-set (IsRight journal s) kept place one right all;
 }
 
-pub put_last : (at : Column) (one : Kept) (kept : List Kept) → position (is_of at) (entries kept) ≡ None →
+pub put_last : (at : IndexedColumn) (one : Kept) (kept : List Kept) → position (is_of at) (entries kept) ≡ None →
     IsPut at one kept (kept ++ one ∷ [])
 put_last at one kept none = record {
   entries =

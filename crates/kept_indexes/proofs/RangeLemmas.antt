@@ -15,7 +15,7 @@ use Rattle.object_store.specs.Contents.{Contents, StoredObject, catalog_of, hist
 use Rattle.plane.specs.Boxes.{Grid, candidates, is_candidate}
 use Rattle.plane.specs.Recorded.{last_written, recorded}
 use Rattle.plane_index.specs.Index.{Index, IsFresh, IsIndexOf, is_fresh, stale_count}
-use Rattle.plane_index.specs.Told.{told_by}
+use Rattle.plane_index.specs.Told.{recorded_by}
 use Rattle.plane_index.proofs.NumberLemmas.{ids_ascend, ids_stored}
 use Rattle.command_text.specs.Journal.{Accepted, clock}
 use Rattle.line_meaning.specs.Journal.{world, writes}
@@ -27,13 +27,13 @@ use Rattle.database.proofs.RowLemmas.{answer_has_objects, are_below, stored_name
 use Rattle.plane.specs.Rows.{range_query, rows_in_range}
 use Rattle.plane.proofs.QueryLemmas.{answers_query}
 use Rattle.plane_index.specs.declared.rows.RangeRow.{RangeRow}
-use Rattle.plane_index.specs.Rows.{told_row, told_rows}
+use Rattle.plane_index.specs.Rows.{told_range_row, told_range_rows}
 use Rattle.meaning.specs.Answer.{Row, answer}
 use Rattle.meaning.specs.Binding.{holds_full}
 use Rattle.history.specs.World.{World}
 use Rattle.line_meaning.specs.Looks.{is_stale, is_written_since, looks_in_range, stale_objects}
 use Rattle.kept_indexes.specs.declared.indexes.Kept.{Kept}
-use Rattle.kept_indexes.specs.Kept.{AreBegun, IsFreshIn, IsOf, IsRight, entry_of}
+use Rattle.kept_indexes.specs.Kept.{BeginAtLastWrites, IsFreshIn, IsOf, IsRight, entry_of}
 
 -- ---- the objects of a class
 
@@ -191,12 +191,12 @@ filter_same p q (id ∷ ids) same =
     let P : ℕ → Type 0 = λ i. p i ≡ q i in
     λ i. if All-head P id ids same i then id ∷ filter_same p q ids (All-tail P id ids same) i else filter_same p q ids (All-tail P id ids same) i
 
-pub candidates_told : (journal : List Accepted) (s : Contents) (g : Grid) (lo hi : ℤ) (from e : ℕ) → history_of s ≡ (world journal).history → AreBegun journal s →
-    candidates (told_by s) g lo hi from e ≡ candidates (recorded (writes journal)) g lo hi from e
+pub candidates_told : (journal : List Accepted) (s : Contents) (g : Grid) (lo hi : ℤ) (from e : ℕ) → history_of s ≡ (world journal).history → BeginAtLastWrites journal s →
+    candidates (recorded_by s) g lo hi from e ≡ candidates (recorded (writes journal)) g lo hi from e
 candidates_told journal s g lo hi from e told begun =
     let ws = writes journal in
     ap (λ ids. if int_lt hi lo then [] else ids)
-    (filter_same (is_candidate (told_by s) g lo hi from e) (is_candidate (recorded ws) g lo hi from e) (ids_of (catalog_of s) g.class)
+    (filter_same (is_candidate (recorded_by s) g lo hi from e) (is_candidate (recorded ws) g lo hi from e) (ids_of (catalog_of s) g.class)
     (λ k d below.
     let id = get_or (ids_of (catalog_of s) g.class) k d in
     let tick = begun id (ids_stored s g.class k d below) ∙ ap (λ (h : History). last_written ws (name_of h.catalog id)) told in
@@ -204,8 +204,8 @@ candidates_told journal s g lo hi from e told begun =
     ∙ ap (λ (h : History). filter (is_candidate (recorded ws) g lo hi from e) (ids_of h.catalog g.class)) told)
 
 pub looks_upto : (journal : List Accepted) (s : Contents) (k : Kept) (span : ℕ) (least greatest : ℤ) (reads reads' : ℕ) → history_of s ≡ (world journal).history →
-    AreBegun journal s → IsRight journal s k →
-    reads' ≤ reads + (stale_count s k.index + length (candidates (told_by s) k.index.grid least greatest (clock journal) (clock journal + span))) →
+    BeginAtLastWrites journal s → IsRight journal s k →
+    reads' ≤ reads + (stale_count s k.index + length (candidates (recorded_by s) k.index.grid least greatest (clock journal) (clock journal + span))) →
     reads' ≤ reads + looks_in_range journal span least greatest (entry_of k)
 looks_upto journal s k span least greatest reads reads' told begun is most =
     let stale = stale_upto journal s k told is in
@@ -245,14 +245,14 @@ lacking_right journal s k index is grid of (inr fresh) = renewed_right journal s
 -- ---- as the calls answer
 
 module _ (journal : List Accepted) (d : Database) (k : Kept) (s : Contents) (same : s ≡ d.store) (keeps : Keeps journal d) (is : IsRight journal d.store k) where
-  pub looks_by : (span : ℕ) (least greatest : ℤ) (from e reads reads' : ℕ) → from ≡ clock_of d → e ≡ clock_of d + span → AreBegun journal d.store →
-      reads' ≤ reads + (stale_count s k.index + length (candidates (told_by s) k.index.grid least greatest from e)) →
+  pub looks_by : (span : ℕ) (least greatest : ℤ) (from e reads reads' : ℕ) → from ≡ clock_of d → e ≡ clock_of d + span → BeginAtLastWrites journal d.store →
+      reads' ≤ reads + (stale_count s k.index + length (candidates (recorded_by s) k.index.grid least greatest from e)) →
       reads' ≤ reads + looks_in_range journal span least greatest (entry_of k)
   looks_by span least greatest from e reads reads' lo hi begun most =
-      let bound : stale_count s k.index + length (candidates (told_by s) k.index.grid least greatest from e)
-      ≡ stale_count d.store k.index + length (candidates (told_by d.store) k.index.grid least greatest (clock journal) (clock journal + span)) = λ i.
+      let bound : stale_count s k.index + length (candidates (recorded_by s) k.index.grid least greatest from e)
+      ≡ stale_count d.store k.index + length (candidates (recorded_by d.store) k.index.grid least greatest (clock journal) (clock journal + span)) = λ i.
       stale_count (same i) k.index
-      + length (candidates (told_by (same i)) k.index.grid least greatest ((lo ∙ keeps.clock_is) i) ((hi ∙ ap (λ n. n + span) keeps.clock_is) i)) in
+      + length (candidates (recorded_by (same i)) k.index.grid least greatest ((lo ∙ keeps.clock_is) i) ((hi ∙ ap (λ n. n + span) keeps.clock_is) i)) in
       looks_upto journal d.store k span least greatest reads reads' (ap (λ (w : World). w.history) keeps.told_is) begun is
       (subst (λ n. reads' ≤ reads + n) bound most)
 
@@ -300,20 +300,20 @@ module _ (journal : List Accepted) (d : Database) (k : Kept) (s : Contents) (sam
 -- ---- the lines of rows, one after another
 
 pub range_step : (s : Contents) (tick : ℕ) (name : List ℕ) (runs : List (ℕ × ℕ)) (row : RangeRow) (later rest : List RangeRow)
-    (out next whole : List ℕ) → rest ≡ row ∷ later → name ≡ object_name s.objects row.id → runs ≡ (told_row row).runs →
-    next ≡ out ++ row_line tick (name ∷ []) runs → out ++ rows_text (catalog_of s) tick (told_rows rest) ≡ whole →
-    next ++ rows_text (catalog_of s) tick (told_rows later) ≡ whole
+    (out next whole : List ℕ) → rest ≡ row ∷ later → name ≡ object_name s.objects row.id → runs ≡ (told_range_row row).runs →
+    next ≡ out ++ row_line tick (name ∷ []) runs → out ++ rows_text (catalog_of s) tick (told_range_rows rest) ≡ whole →
+    next ++ rows_text (catalog_of s) tick (told_range_rows later) ≡ whole
 range_step s tick name runs row later rest out next whole split named same written so_far =
-    let line : row_line tick (name ∷ []) runs ≡ row_text (catalog_of s) tick (told_row row) =
+    let line : row_line tick (name ∷ []) runs ≡ row_text (catalog_of s) tick (told_range_row row) =
     λ i. row_line tick ((named ∙ stored_name s row.id) i ∷ []) (same i) in
-    ap (λ o. o ++ rows_text (catalog_of s) tick (told_rows later)) (written ∙ ap (λ l. out ++ l) line)
-    ∙ append_assoc out (row_text (catalog_of s) tick (told_row row)) (rows_text (catalog_of s) tick (told_rows later))
-    ∙ ap (λ rows. out ++ rows_text (catalog_of s) tick (told_rows rows)) (sym split)
+    ap (λ o. o ++ rows_text (catalog_of s) tick (told_range_rows later)) (written ∙ ap (λ l. out ++ l) line)
+    ∙ append_assoc out (row_text (catalog_of s) tick (told_range_row row)) (rows_text (catalog_of s) tick (told_range_rows later))
+    ∙ ap (λ rows. out ++ rows_text (catalog_of s) tick (told_range_rows rows)) (sym split)
     ∙ so_far
 
 pub range_rest : (count : ℕ) (row : RangeRow) (later rest : List RangeRow) → rest ≡ row ∷ later →
-    list_all (has_objects count) (told_rows rest) ≡ true → (row.id < count) × (list_all (has_objects count) (told_rows later) ≡ true)
+    list_all (has_objects count) (told_range_rows rest) ≡ true → (row.id < count) × (list_all (has_objects count) (told_range_rows later) ≡ true)
 range_rest count row later rest split all =
-    let both = and_parts (are_below count (row.id ∷ [])) (list_all (has_objects count) (told_rows later))
-    (ap (λ rows. list_all (has_objects count) (told_rows rows)) (sym split) ∙ all) in
+    let both = and_parts (are_below count (row.id ∷ [])) (list_all (has_objects count) (told_range_rows later))
+    (ap (λ rows. list_all (has_objects count) (told_range_rows rows)) (sym split) ∙ all) in
     (grind (arith, nat_tests, (and_parts (nat_lt row.id count) true both.0).0), both.1)

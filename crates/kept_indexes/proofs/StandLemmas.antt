@@ -21,11 +21,11 @@ use Rattle.object_store.specs.Contents.{Contents, StoredObject, catalog_of, hist
 use Rattle.object_store.specs.Sound.{IsSound}
 use Rattle.object_store.proofs.Lists.{find_is}
 use Rattle.object_store.proofs.NumberLemmas.{found_by_name}
-use Rattle.plane.specs.Boxes.{Grid, box_of, number_of, slice_first, slice_last, strips_in, strips_of}
-use Rattle.plane.specs.Recorded.{last_written, tick_of}
+use Rattle.plane.specs.Boxes.{Grid, box_of, number_in_value, slice_first, slice_last, strips_in, strips_of}
+use Rattle.plane.specs.Recorded.{last_written, written_tick}
 use Rattle.plane_index.specs.Held.{kept_strips}
 use Rattle.plane_index.specs.Index.{Index, IsIndexOf, is_fresh}
-use Rattle.plane_index.specs.Told.{last_begun, told_by}
+use Rattle.plane_index.specs.Told.{recorded_by}
 use Rattle.command_text.specs.Journal.{Accepted, clock}
 use Rattle.command_text.specs.Tree
 use Rattle.command_text.specs.Tree.{CommandTree}
@@ -37,13 +37,14 @@ use Rattle.database.specs.declared.change.Change.TheVariants as changes
 use Rattle.database.specs.declared.database.Database.{Database}
 use Rattle.database.specs.Attempt.{Carries, written_name}
 use Rattle.database.specs.Keeping.{clock_of}
-use Rattle.database.specs.Written.{IsWritten, writes_object}
+use Rattle.database.specs.Written.{WritesOneObject, writes_object}
 use Rattle.kept_indexes.specs.declared.indexes.Kept.{Kept}
-use Rattle.kept_indexes.specs.Kept.{AreBegun, AreIndexes, AreRight, AreTouched, IsFreshIn, IsOf, IsRight, IsTouchedKept, TouchesChange, entries, entry_of}
+use Rattle.kept_indexes.specs.Kept.{AreIndexes, AreRight, AreTouched, BeginAtLastWrites, IsFreshIn, IsOf, IsRight, IsTouchedKept, TouchesChange, entries, entry_of}
+use Rattle.motion.specs.Timeline.{last_begun}
 
 -- ---- no indexes
 
-pub none_stand : (journal : List Accepted) (s : Contents) → AreBegun journal s → AreIndexes journal s []
+pub none_stand : (journal : List Accepted) (s : Contents) → BeginAtLastWrites journal s → AreIndexes journal s []
 none_stand journal s begun = record { begun = begun; right = λ k d below. absurd (omega (arith, below)) }
 
 -- ---- what was written since some entry
@@ -95,7 +96,7 @@ module _ (journal : List Accepted) (e : Accepted) (s n : Contents) (same : n.obj
               ∙ (λ i. take (length k.index.ids) (ids_of (record { classes = []; objects = sym same_catalog i }) k.index.grid.class));
           right = λ place slice fresh under.
               is.of_store.right place slice fresh under
-              ∙ (λ i. kept_strips (strips_in (told_by (record { classes = []; objects = sym same i; last_tick = 0 })) k.index.grid (slice_index k.index.ids place) slice));
+              ∙ (λ i. kept_strips (strips_in (recorded_by (record { classes = []; objects = sym same i; last_tick = 0 })) k.index.grid (slice_index k.index.ids place) slice));
         };
         known = λ id its.
             elim (is.known id (ap (λ (os : List StoredObject). option_map (λ (o : StoredObject). o.class) (slice_get os id)) (sym same) ∙ its)) [
@@ -111,7 +112,7 @@ module _ (journal : List Accepted) (e : Accepted) (s n : Contents) (same : n.obj
   others_stand kept unwritten is = record {
     begun = λ id below.
         let there : id < length s.objects = (let count = ap length same in omega (arith, count, below)) in
-        ap (λ (os : List StoredObject). (told_by (record { classes = []; objects = os; last_tick = 0 })).begun id) same
+        ap (λ (os : List StoredObject). (recorded_by (record { classes = []; objects = os; last_tick = 0 })).begun id) same
         ∙ is.begun id there
         ∙ sym (unwritten (name_of (catalog_of s) id))
         ∙ ap (λ (os : List ObjectInfo). last_written (writes (journal ++ e ∷ [])) (name_of (record { classes = []; objects = os }) id)) (sym same_catalog);
@@ -119,7 +120,7 @@ module _ (journal : List Accepted) (e : Accepted) (s n : Contents) (same : n.obj
   }
 
 no_ticks : (name : List ℕ) (now last : ℕ) (c : CommandTree) → writes_object c ≡ false →
-    fold (λ (tick : ℕ) (w : Write). unwrap_or (tick_of name w) tick) last (writes_of now c) ≡ last
+    fold (λ (tick : ℕ) (w : Write). unwrap_or (written_tick name w) tick) last (writes_of now c) ≡ last
 no_ticks name now last (Tree.Insert class o place sets) other = absurd (false≢true (sym other))
 no_ticks name now last (Tree.Update o place sets) other = absurd (false≢true (sym other))
 no_ticks name now last (Tree.Remove o) other = absurd (false≢true (sym other))
@@ -127,10 +128,10 @@ no_ticks name now last c other = refl
 
 written_more : (journal : List Accepted) (now : ℕ) (c : CommandTree) (name : List ℕ) →
     last_written (writes (journal ++ (now, c) ∷ [])) name
-    ≡ fold (λ (tick : ℕ) (w : Write). unwrap_or (tick_of name w) tick) (last_written (writes journal) name) (writes_of now c)
+    ≡ fold (λ (tick : ℕ) (w : Write). unwrap_or (written_tick name w) tick) (last_written (writes journal) name) (writes_of now c)
 written_more journal now c name =
     ap (λ (ws : List Write). last_written ws name) (writes_more journal now c)
-    ∙ fold-append (λ (tick : ℕ) (w : Write). unwrap_or (tick_of name w) tick) 0 (writes journal) (writes_of now c)
+    ∙ fold-append (λ (tick : ℕ) (w : Write). unwrap_or (written_tick name w) tick) 0 (writes journal) (writes_of now c)
 
 pub unwritten : (journal : List Accepted) (now : ℕ) (c : CommandTree) → writes_object c ≡ false → (name : List ℕ) →
     last_written (writes (journal ++ (now, c) ∷ [])) name ≡ last_written (writes journal) name
@@ -145,14 +146,14 @@ writes_named (Tree.Remove o) name write same = same
 writes_named c name write same = absurd (false≢true write)
 
 tick_now : (c : CommandTree) (name : List ℕ) (now last : ℕ) → writes_object c ≡ true → bytes_eq name (written_name c) ≡ true →
-    fold (λ (tick : ℕ) (w : Write). unwrap_or (tick_of name w) tick) last (writes_of now c) ≡ now
+    fold (λ (tick : ℕ) (w : Write). unwrap_or (written_tick name w) tick) last (writes_of now c) ≡ now
 tick_now (Tree.Insert class o place sets) name now last write same = ap (λ b. unwrap_or (if b then Some now else None) last) same
 tick_now (Tree.Update o place sets) name now last write same = ap (λ b. unwrap_or (if b then Some now else None) last) same
 tick_now (Tree.Remove o) name now last write same = ap (λ b. unwrap_or (if b then Some now else None) last) same
 tick_now c name now last write same = absurd (false≢true write)
 
 tick_before : (c : CommandTree) (name : List ℕ) (now last : ℕ) → bytes_eq name (written_name c) ≡ false →
-    fold (λ (tick : ℕ) (w : Write). unwrap_or (tick_of name w) tick) last (writes_of now c) ≡ last
+    fold (λ (tick : ℕ) (w : Write). unwrap_or (written_tick name w) tick) last (writes_of now c) ≡ last
 tick_before (Tree.Insert class o place sets) name now last other = ap (λ b. unwrap_or (if b then Some now else None) last) other
 tick_before (Tree.Update o place sets) name now last other = ap (λ b. unwrap_or (if b then Some now else None) last) other
 tick_before (Tree.Remove o) name now last other = ap (λ b. unwrap_or (if b then Some now else None) last) other
@@ -209,7 +210,7 @@ not_true true is = absurd (false≢true is)
 
 module _ (journal : List Accepted) (c : CommandTree) (now id : ℕ) (s n : Contents) (write : writes_object c ≡ true) (sound : IsSound n)
     (changed : ChangesFrom id now (history_of s) (history_of n)) (at : position (is_named (written_name c)) n.objects ≡ Some id)
-    (w : IsWritten id now s.objects n.objects) where
+    (w : WritesOneObject id now s.objects n.objects) where
   abbrev none : StoredObject
   none = record { name = []; class = 0; epochs = [] }
 
@@ -239,17 +240,17 @@ module _ (journal : List Accepted) (c : CommandTree) (now id : ℕ) (s n : Conte
       ap (λ (o : Option ObjectInfo). option_map_or (λ x. x.name) o [])
       (slice_get-map object_info n.objects i ∙ ap (option_map object_info) (w.others i other) ∙ sym (slice_get-map object_info s.objects i))
 
-  same_begun : (i : ℕ) → (i == id) ≡ false → (told_by n).begun i ≡ (told_by s).begun i
+  same_begun : (i : ℕ) → (i == id) ≡ false → (recorded_by n).begun i ≡ (recorded_by s).begun i
   same_begun i other = ap (λ (o : Option StoredObject). option_map_or (λ x. last_begun x.epochs) o 0) (w.others i other)
 
-  same_strips : (g : Grid) (i slice : ℕ) → (i == id) ≡ false → strips_in (told_by n) g i slice ≡ strips_in (told_by s) g i slice
+  same_strips : (g : Grid) (i slice : ℕ) → (i == id) ≡ false → strips_in (recorded_by n) g i slice ≡ strips_in (recorded_by s) g i slice
   same_strips g i slice other = λ j.
       option_map (strips_of g.width)
-      (box_of (filter_map (λ t. option_and_then (λ cell. number_of (cell_value cell t)) (cell_in (changed.others i t other j) g.attribute))
+      (box_of (filter_map (λ t. option_and_then (λ cell. number_in_value (cell_value cell t)) (cell_in (changed.others i t other j) g.attribute))
       (between (max (slice_first g slice) (same_begun i other j)) (slice_last g slice + 1))))
 
   -- the last states begin at the last writes
-  begun_named : (i : ℕ) → i < length n.objects → bytes_eq (name_of (catalog_of n) i) (written_name c) ≡ true → (told_by n).begun i ≡ now
+  begun_named : (i : ℕ) → i < length n.objects → bytes_eq (name_of (catalog_of n) i) (written_name c) ≡ true → (recorded_by n).begun i ≡ now
   begun_named i below is =
       let o : StoredObject = get_or n.objects i none in
       let there : slice_get n.objects i ≡ Some o = slice_get-get_or n.objects i none below in
@@ -260,7 +261,7 @@ module _ (journal : List Accepted) (c : CommandTree) (now id : ℕ) (s n : Conte
       ∙ found_by_name n.objects i o sound.objects.names there in
       ap (λ (x : Option StoredObject). option_map_or (λ x. last_begun x.epochs) x 0) (there ∙ sym found) ∙ w.begins
 
-  still_begun : AreBegun journal s → AreBegun more n
+  still_begun : BeginAtLastWrites journal s → BeginAtLastWrites more n
   still_begun begun i below =
       elim (cases_Bool (bytes_eq (name_of (catalog_of n) i) (written_name c))) [
         | inl its ↦
@@ -301,7 +302,7 @@ module _ (journal : List Accepted) (c : CommandTree) (now id : ℕ) (s n : Conte
               touched.index.strips place slice fresh under
               ∙ is.of_store.right place slice parts.0 under
               ∙ ap kept_strips (sym (same_strips k.index.grid (slice_index k.index.ids place) slice (not_true (slice_index k.index.ids place == id) parts.1)))
-              ∙ (λ i. kept_strips (strips_in (told_by n) (sym grid i) (slice_index (sym ids i) place) slice));
+              ∙ (λ i. kept_strips (strips_in (recorded_by n) (sym grid i) (slice_index (sym ids i) place) slice));
         };
         known = λ i its.
             elim (cases_Bool (i == id)) [

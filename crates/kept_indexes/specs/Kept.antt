@@ -5,7 +5,7 @@ use Rattle.object_store.specs.Contents.{Contents, catalog_of}
 use Rattle.object_store.specs.Sound.{IsSound}
 use Rattle.plane.specs.Recorded.{last_written}
 use Rattle.plane_index.specs.Index.{Index, is_fresh, IsIndexOf, IsTouched}
-use Rattle.plane_index.specs.Told.{told_by}
+use Rattle.plane_index.specs.Told.{recorded_by}
 use Rattle.command_text.specs.Journal.{Accepted, clock}
 use Rattle.line_meaning.specs.Indexed.{IndexEntry}
 use Rattle.line_meaning.specs.Journal.{writes}
@@ -45,11 +45,11 @@ abbrev pub AreRight : List Accepted → Contents → List Kept → Type 0
 AreRight journal s kept = All (IsRight journal s) kept
 
 -- the last states of the objects begin at the last writes to them
-abbrev pub AreBegun : List Accepted → Contents → Type 0
-AreBegun journal s = (id : ℕ) → id < length s.objects → (told_by s).begun id ≡ last_written (writes journal) (name_of (catalog_of s) id)
+abbrev pub BeginAtLastWrites : List Accepted → Contents → Type 0
+BeginAtLastWrites journal s = (id : ℕ) → id < length s.objects → (recorded_by s).begun id ≡ last_written (writes journal) (name_of (catalog_of s) id)
 
 pub record AreIndexes (journal : List Accepted) (s : Contents) (kept : List Kept) : Type 0 where
-  pub begun : AreBegun journal s
+  pub begun : BeginAtLastWrites journal s
   pub right : AreRight journal s kept
 
 -- ---- An object is stale in each of them from now on

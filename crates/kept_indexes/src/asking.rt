@@ -6,7 +6,7 @@ ghost use Rattle.object_store.specs.Contents.{catalog_of, object_name};
 ghost use Rattle.meaning.specs.Answer.{answer};
 ghost use Rattle.plane.specs.Boxes.{last_covered};
 ghost use Rattle.plane.specs.Rows.{range_query, IsCovered};
-ghost use Rattle.plane_index.specs.Told.{told_by};
+ghost use Rattle.plane_index.specs.Told.{recorded_by};
 ghost use Rattle.command_text.specs.Journal.{clock};
 ghost use Rattle.line_meaning.specs.Answering.{answer_lines};
 ghost use Rattle.line_meaning.specs.Indexed.{index_fault, index_named, is_past_index, range_refusal};
@@ -17,10 +17,10 @@ ghost use Rattle.line_meaning.specs.Reply.{rows_text};
 ghost use Rattle.reply_text.specs.Begins.{Begins};
 ghost use Rattle.database.specs.Keeping.{Keeps};
 ghost use Rattle.database.specs.Rows.{has_objects};
-ghost use Rattle.database.specs.Telling.{Answers, IsRefused};
-ghost use Rattle.plane_index.specs.Rows.{told_rows};
-ghost use Rattle.kept_indexes.specs.Kept.{AreBegun, AreIndexes, IsRight, entries, entry_of};
-ghost use Rattle.kept_indexes.specs.Making.{command_of, holding, HasRoom, IsPlace};
+ghost use Rattle.database.specs.Telling.{IsRefused, RefusesOrWrites};
+ghost use Rattle.plane_index.specs.Rows.{told_range_rows};
+ghost use Rattle.kept_indexes.specs.Kept.{AreIndexes, BeginAtLastWrites, IsRight, entries, entry_of};
+ghost use Rattle.kept_indexes.specs.Making.{range_command, holding, HasRoomForOk, IsPlace};
 
 use crate::column::column_of;
 use crate::indexes::{Indexes, Kept, make_room};
@@ -86,14 +86,14 @@ impl Indexes {
         requires keeps { Keeps journal.now database.now }
         requires span { range.now.span ≤ LAST_TICK }
         ensures indexes { AreIndexes journal.now database.now.store self.new }
-        ensures entries { OnOk result (entries self.new ≡ (all_after (holding journal.now self.old) (command_of range.now)).indexes) }
+        ensures entries { OnOk result (entries self.new ≡ (all_after (holding journal.now self.old) (range_command range.now)).indexes) }
         ensures err { OnErr result (entries self.new ≡ entries self.old) }
-        ensures answered { Answers (index_fault (entries self.old) (world journal.now) (clock journal.now) (command_of range.now))
-            (answer_lines (world journal.now) (clock journal.now) (command_of range.now)) out.old.items out.new.items result }
+        ensures answered { RefusesOrWrites (index_fault (entries self.old) (world journal.now) (clock journal.now) (range_command range.now))
+            (answer_lines (world journal.now) (clock journal.now) (range_command range.now)) out.old.items out.new.items result }
         ensures begins { Begins out.old.items out.new.items }
         ensures least { reads.old ≤ reads.new }
-        ensures most { reads.new ≤ reads.old + most_looks (holding journal.now self.old) (command_of range.now) }
-        ensures room { OnOk result (HasRoom out.new) }
+        ensures most { reads.new ≤ reads.old + most_looks (holding journal.now self.old) (range_command range.now) }
+        ensures room { OnOk result (HasRoomForOk out.new) }
         ensures free { IfErr result (λ fault. IsRefused fault → reads.new ≡ reads.old) }
     {
         match place_asked(&self.kept, database, range) {
@@ -124,7 +124,7 @@ fn answer<L: Ledger>(
     reads: &mut Steps<L>,
     out: &mut Vec<u8>,
 ) -> Result<(), AllocError>
-    requires begun { AreBegun journal.now database.now.store }
+    requires begun { BeginAtLastWrites journal.now database.now.store }
     requires right { IsRight journal.now database.now.store kept.old }
     requires keeps { Keeps journal.now database.now }
     requires fits { is_past_index database.now.clock range.now.span (entry_of kept.old) ≡ false }
@@ -135,7 +135,7 @@ fn answer<L: Ledger>(
         (answer (world journal.now) (range_query kept.old.index.grid.class kept.old.index.grid.attribute range.now.least range.now.greatest)
         (clock journal.now) (clock journal.now + range.now.span))) }
     ensures begins { Begins out.old.items out.new.items }
-    ensures room { OnOk result (HasRoom out.new) }
+    ensures room { OnOk result (HasRoomForOk out.new) }
     ensures least { reads.old ≤ reads.new }
     ensures most { reads.new ≤ reads.old + looks_in_range journal.now range.now.span range.now.least range.now.greatest (entry_of kept.old) }
 {
@@ -156,7 +156,7 @@ fn window_of(index: &PlaneIndex, store: &Store, now: u32, span: u32) -> Window
     requires fits { now + span ≤ last_covered index.now.grid }
     requires written { store.now.last_tick ≤ now }
     ensures ticks { (result.lo ≡ now) × (result.hi ≡ now + span) }
-    ensures covered { IsCovered (told_by store.now) index.now.grid now (now + span) }
+    ensures covered { IsCovered (recorded_by store.now) index.now.grid now (now + span) }
 {
     // The last tick of the index is within all ticks, and so is that of the range.
     let _last = index.grid().last();
@@ -177,8 +177,8 @@ fn push_rows(
     rows: &[RangeRow],
     out: &mut Vec<u8>,
 ) -> Result<(), AllocError>
-    requires { list_all (has_objects (length (catalog_of store.now).objects)) (told_rows rows.now) ≡ true }
-    ensures ok { OnOk result (out.new.items ≡ out.old.items ++ rows_text (catalog_of store.now) tick (told_rows rows.now)) }
+    requires { list_all (has_objects (length (catalog_of store.now).objects)) (told_range_rows rows.now) ≡ true }
+    ensures ok { OnOk result (out.new.items ≡ out.old.items ++ rows_text (catalog_of store.now) tick (told_range_rows rows.now)) }
     ensures begins { Begins out.old.items out.new.items }
 {
     let mut rest = rows;

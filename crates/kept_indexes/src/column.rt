@@ -1,7 +1,8 @@
 //! An attribute of a class.
 ghost use Rattle.std.specs.Prelude.{◌≡◌};
 ghost use Rattle.object_store.specs.Contents.{catalog_of};
-ghost use Rattle.line_meaning.specs.Indexed.{column, is_dynamic, varies};
+ghost use Rattle.line_meaning.specs.Indexed.{column, varies};
+ghost use Rattle.object_rows.specs.Columns.{is_dynamic};
 
 use fixed_point::Word;
 use motion::AttrKind;
@@ -16,9 +17,9 @@ pub(crate) struct Column {
 }
 
 impl Model for Column {
-    ghost use Rattle.line_meaning.specs.Indexed.{Column};
+    ghost use Rattle.line_meaning.specs.Indexed.{IndexedColumn};
 
-    ghost Value = { Column };
+    ghost Value = { IndexedColumn };
 
     ghost view = { λ a. record { class = a.class; place = a.place } };
 

@@ -7,7 +7,7 @@ ghost use Rattle.line_meaning.specs.Indexed.{index_fault, indexes_after};
 ghost use Rattle.database.specs.Keeping.{clock_of, world_of_database};
 ghost use Rattle.database.specs.Telling.{IsStoppedBy};
 ghost use Rattle.kept_indexes.specs.Kept.{AreRight, AreTouched, TouchesChange, entries};
-ghost use Rattle.kept_indexes.specs.Making.{HasRoom, IsPut};
+ghost use Rattle.kept_indexes.specs.Making.{HasRoomForOk, IsPut};
 
 use crate::column::{Column, column_of};
 use crate::judging::{index_refusal, place_of};
@@ -87,7 +87,7 @@ impl Indexes {
         ensures stopped { IfErr result (IsStoppedBy
             (index_fault (entries self.old) (world_of_database database.now) (clock_of database.now) (Tree.Index class.now attr.now width))) }
         ensures err { OnErr result (self.new ≡ self.old) }
-        ensures room { OnOk result (HasRoom out.new) }
+        ensures room { OnOk result (HasRoomForOk out.new) }
         ensures same { out.new.items ≡ out.old.items }
     {
         let Some(at) = column_of(database.store(), class, attr) else {
@@ -117,7 +117,7 @@ fn touch_each(kept: &mut [Kept], id: ObjectId)
 
 /// Makes room for an `ok` at the end.
 pub(crate) fn make_room(out: &mut Vec<u8>) -> Result<(), AllocError>
-    ensures room { OnOk result (HasRoom out.new) }
+    ensures room { OnOk result (HasRoomForOk out.new) }
     ensures same { out.new.items ≡ out.old.items }
 {
     out.reserve(OK_BYTES)

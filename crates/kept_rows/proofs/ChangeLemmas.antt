@@ -5,7 +5,7 @@ use Rattle.std.proofs.lemmas.Bool.{cases_eq, eq-eqb, ne_eqb, or_cases, or_left, 
 use Rattle.std.proofs.lemmas.List.Elements.{All-head, All-tail, All-weaker}
 use Rattle.kept_rows.specs.declared.change.Change.{Change}
 use Rattle.kept_rows.specs.Rows.{is_made, is_whole}
-use Rattle.kept_rows.specs.Changes.{IsReady, AreReady, after, with_row}
+use Rattle.kept_rows.specs.Changes.{IsReady, AreReady, rows_after, with_row}
 
 -- rows that are alike are alike after the changes
 pub with_row-alike : {S : Type 0} (member : S → ℕ → Bool) (x : Change S) (p q : ℕ → ℕ → Bool) → ((c t : ℕ) → p c t ≡ q c t) →
@@ -13,19 +13,19 @@ pub with_row-alike : {S : Type 0} (member : S → ℕ → Bool) (x : Change S) (
 with_row-alike member x p q same c t = ap (λ b. if eqb c x.number then member x.ticks t else b) (same c t)
 
 pub after-alike : {S : Type 0} (member : S → ℕ → Bool) (xs : List (Change S)) (p q : ℕ → ℕ → Bool) → ((c t : ℕ) → p c t ≡ q c t) →
-    (c t : ℕ) → after member xs p c t ≡ after member xs q c t
+    (c t : ℕ) → rows_after member xs p c t ≡ rows_after member xs q c t
 after-alike member [] p q same c t = same c t
 after-alike member (x ∷ xs) p q same c t = after-alike member xs (with_row member x p) (with_row member x q) (with_row-alike member x p q same) c t
 
 -- one change more
 pub after-push : {S : Type 0} (member : S → ℕ → Bool) (xs : List (Change S)) (x : Change S) (p : ℕ → ℕ → Bool) (c t : ℕ) →
-    after member (xs ++ x ∷ []) p c t ≡ with_row member x (after member xs p) c t
+    rows_after member (xs ++ x ∷ []) p c t ≡ with_row member x (rows_after member xs p) c t
 after-push member [] x p c t = refl
 after-push member (y ∷ ys) x p c t = after-push member ys x (with_row member y p) c t
 
 -- a number above those of the changes keeps its row
 pub after-above : {S : Type 0} (member : S → ℕ → Bool) (xs : List (Change S)) (p : ℕ → ℕ → Bool) (n t : ℕ) →
-    All (λ (x : Change S). x.number < n) xs → after member xs p n t ≡ p n t
+    All (λ (x : Change S). x.number < n) xs → rows_after member xs p n t ≡ p n t
 after-above member [] p n t above = refl
 after-above {S} member (x ∷ xs) p n t above =
     let here : x.number < n = All-head (λ (x : Change S). x.number < n) x xs above in
@@ -51,35 +51,35 @@ all-ready-stay member old new len made xs =
 
 -- a number above those of the changes has the row that is kept
 kept-above : {S : Type 0} (member : S → ℕ → Bool) (xs : List (Change S)) (p : ℕ → ℕ → Bool) (n c t : ℕ) → c ≡ n →
-    All (λ (x : Change S). x.number < n) xs → after member xs p c t ≡ p n t
-kept-above member xs p n c t e above = ap (λ k. after member xs p k t) e ∙ after-above member xs p n t above
+    All (λ (x : Change S). x.number < n) xs → rows_after member xs p c t ≡ p n t
+kept-above member xs p n c t e above = ap (λ k. rows_after member xs p k t) e ∙ after-above member xs p n t above
 
 -- the same ticks from a tick on, and the row that is kept
 pub row-noted : {S : Type 0} (member : S → ℕ → Bool) (xs : List (Change S)) (p : ℕ → ℕ → Bool) (n from : ℕ) (ticks : ℕ → Bool) →
     All (λ (x : Change S). x.number < n) xs → ((t : ℕ) → (if nat_le from t then ticks t else p n t) ≡ p n t) →
-    (c t : ℕ) → after member xs p c t ≡ (if eqb c n && nat_le from t then ticks t else after member xs p c t)
+    (c t : ℕ) → rows_after member xs p c t ≡ (if eqb c n && nat_le from t then ticks t else rows_after member xs p c t)
 row-noted member xs p n from ticks above same c t =
     elim (cases_eq c n) [
       | inl e ↦
           kept-above member xs p n c t e above ∙ sym (same t)
           ∙ ap (λ b. if nat_le from t then ticks t else b) (sym (kept-above member xs p n c t e above))
-          ∙ ap (λ b. if b && nat_le from t then ticks t else after member xs p c t) (sym (eq-eqb c n e))
-      | inr other ↦ ap (λ b. if b && nat_le from t then ticks t else after member xs p c t) (sym (ne_eqb c n other))
+          ∙ ap (λ b. if b && nat_le from t then ticks t else rows_after member xs p c t) (sym (eq-eqb c n e))
+      | inr other ↦ ap (λ b. if b && nat_le from t then ticks t else rows_after member xs p c t) (sym (ne_eqb c n other))
     ]
 
 -- a row that has other ticks from a tick on
 pub row-added : {S : Type 0} (member : S → ℕ → Bool) (xs : List (Change S)) (p : ℕ → ℕ → Bool) (n from : ℕ) (ticks other : ℕ → Bool) →
     All (λ (x : Change S). x.number < n) xs → ((t : ℕ) → other t ≡ (if nat_le from t then ticks t else p n t)) → (c t : ℕ) →
-    (if eqb c n then other t else after member xs p c t) ≡ (if eqb c n && nat_le from t then ticks t else after member xs p c t)
+    (if eqb c n then other t else rows_after member xs p c t) ≡ (if eqb c n && nat_le from t then ticks t else rows_after member xs p c t)
 row-added member xs p n from ticks other above is c t =
     elim (cases_eq c n) [
       | inl e ↦
-          ap (λ b. if b then other t else after member xs p c t) (eq-eqb c n e) ∙ is t
+          ap (λ b. if b then other t else rows_after member xs p c t) (eq-eqb c n e) ∙ is t
           ∙ ap (λ b. if nat_le from t then ticks t else b) (sym (kept-above member xs p n c t e above))
-          ∙ ap (λ b. if b && nat_le from t then ticks t else after member xs p c t) (sym (eq-eqb c n e))
+          ∙ ap (λ b. if b && nat_le from t then ticks t else rows_after member xs p c t) (sym (eq-eqb c n e))
       | inr apart ↦
-          ap (λ b. if b then other t else after member xs p c t) (ne_eqb c n apart)
-          ∙ ap (λ b. if b && nat_le from t then ticks t else after member xs p c t) (sym (ne_eqb c n apart))
+          ap (λ b. if b then other t else rows_after member xs p c t) (ne_eqb c n apart)
+          ∙ ap (λ b. if b && nat_le from t then ticks t else rows_after member xs p c t) (sym (ne_eqb c n apart))
     ]
 
 -- the numbers that are left, after one of them is noted, at a tick that is judged or not

@@ -5,8 +5,8 @@ use Rattle.std.proofs.lemmas.List.Folds.{list_any-append}
 use Rattle.std.proofs.lemmas.Nat.{mul-le, row_fits, same_from_place, div-add-mod', mod_below}
 use Rattle.tick_set.specs.TickList.{has}
 use Rattle.kept_rows.specs.declared.binding.Variable.{Variable}
-use Rattle.kept_rows.specs.Numbers.{size_of, counts, holds}
-use Rattle.kept_rows.specs.Rising.{IsRising}
+use Rattle.kept_rows.specs.Numbers.{size_of, counts, holds_written}
+use Rattle.kept_rows.specs.Rising.{AscendsWithin}
 use Rattle.kept_rows.proofs.RisingLemmas.{rising-wider, rising-append, rising-shift}
 
 -- ---- places and numbers of the later variables
@@ -46,7 +46,7 @@ none-and : (b : Bool) → false ≡ (b && false)
 none-and true = refl
 none-and false = refl
 
-pub has-shift : (q w p d from : ℕ) (xs : List ℕ) → IsRising from w xs → d < w →
+pub has-shift : (q w p d from : ℕ) (xs : List ℕ) → AscendsWithin from w xs → d < w →
     has (map (λ e. q * w + e) xs) (p * w + d) ≡ (eqb p q && has xs d)
 has-shift q w p d from [] r h = none-and (eqb p q)
 has-shift q w p d from (x ∷ xs) r h =
@@ -86,11 +86,11 @@ has-if : (b : Bool) (xs ys : List ℕ) (d : ℕ) → has (if b then xs else ys) 
 has-if true xs ys d = refl
 has-if false xs ys d = refl
 
-pub rising-if : (b : Bool) (f t : ℕ) (xs ys : List ℕ) → IsRising f t xs → IsRising f t ys → IsRising f t (if b then xs else ys)
+pub rising-if : (b : Bool) (f t : ℕ) (xs ys : List ℕ) → AscendsWithin f t xs → AscendsWithin f t ys → AscendsWithin f t (if b then xs else ys)
 rising-if true f t xs ys r s = r
 rising-if false f t xs ys r s = s
 
-pub has-more : (made : List ℕ) (w place own : ℕ) (all held : List ℕ) → IsRising 0 w all → IsRising 0 w held →
+pub has-more : (made : List ℕ) (w place own : ℕ) (all held : List ℕ) → AscendsWithin 0 w all → AscendsWithin 0 w held →
     ((p d : ℕ) → d < w → has made (p * w + d) ≡ (ltb p place && (if eqb p own then has all d else has held d))) →
     (p d : ℕ) → d < w → has (made ++ map (λ e. place * w + e) (if eqb place own then all else held)) (p * w + d)
     ≡ (ltb p (place + 1) && (if eqb p own then has all d else has held d))
@@ -141,32 +141,32 @@ all-at xs all w count c k some spread of-all =
 pub held-of : (vs : List Variable) (v : Variable) (ws : List Variable) (xs all held all' held' : List ℕ) (w n : ℕ) →
     vs ≡ v ∷ ws → w ≡ size_of ws → 0 < w → all' ≡ all → held' ≡ held →
     ((p d : ℕ) → d < w → has xs (p * w + d) ≡ (ltb p v.count && (if eqb p v.own then has all' d else has held' d))) →
-    (v.own < v.count → (c : ℕ) → has all c ≡ counts ws c) → ((c : ℕ) → has held c ≡ (counts ws c && holds ws c)) →
-    has xs n ≡ (counts vs n && holds vs n)
+    (v.own < v.count → (c : ℕ) → has all c ≡ counts ws c) → ((c : ℕ) → has held c ≡ (counts ws c && holds_written ws c)) →
+    has xs n ≡ (counts vs n && holds_written vs n)
 held-of vs v ws xs all held all' held' w n evs ew some ea eh spread of-all of-held =
-    held-at xs all' held' w v.count v.own n (counts ws (n % w)) (holds ws (n % w)) some spread
+    held-at xs all' held' w v.count v.own n (counts ws (n % w)) (holds_written ws (n % w)) some spread
     (λ b. ap (λ l. has l (n % w)) ea ∙ of-all b (n % w)) (ap (λ l. has l (n % w)) eh ∙ of-held (n % w))
-    ∙ ap (λ k. (ltb (n / k) v.count && counts ws (n % k)) && (eqb (n / k) v.own || holds ws (n % k))) ew
-    ∙ ap (λ l. counts l n && holds l n) (sym evs)
+    ∙ ap (λ k. (ltb (n / k) v.count && counts ws (n % k)) && (eqb (n / k) v.own || holds_written ws (n % k))) ew
+    ∙ ap (λ l. counts l n && holds_written l n) (sym evs)
 
 -- ---- places in front, one after another
 pub more-place : (n w : ℕ) → n * w + w ≡ (n + 1) * w
 more-place n w = omega arith
 
-pub rising-more : (made digits : List ℕ) (w place : ℕ) → IsRising 0 (place * w) made → IsRising 0 w digits →
-    IsRising 0 ((place + 1) * w) (made ++ map (λ d. place * w + d) digits)
+pub rising-more : (made digits : List ℕ) (w place : ℕ) → AscendsWithin 0 (place * w) made → AscendsWithin 0 w digits →
+    AscendsWithin 0 ((place + 1) * w) (made ++ map (λ d. place * w + d) digits)
 rising-more made digits w place r s =
     let more : place * w + w ≡ (place + 1) * w = more-place place w in
     rising-append 0 (place * w) ((place + 1) * w) made (map (λ d. place * w + d) digits) (omega arith) (omega (arith, more)) r
     (rising-shift (place * w) 0 w (place * w) ((place + 1) * w) digits (omega arith) (omega (arith, more)) s)
 
-pub rising-own : (digits : List ℕ) (w own count capacity : ℕ) → own < count → count ≤ capacity → IsRising 0 w digits →
-    IsRising 0 (capacity * w) (map (λ d. own * w + d) digits)
+pub rising-own : (digits : List ℕ) (w own count capacity : ℕ) → own < count → count ≤ capacity → AscendsWithin 0 w digits →
+    AscendsWithin 0 (capacity * w) (map (λ d. own * w + d) digits)
 rising-own digits w own count capacity h k r =
     let s : own * w + w ≤ capacity * w = row_fits own w capacity w (omega (arith, h, k)) (omega arith) in
     rising-shift (own * w) 0 w 0 (capacity * w) digits (omega arith) s r
 
-pub rising-all : (made : List ℕ) (w place capacity : ℕ) → place ≤ capacity → IsRising 0 (place * w) made → IsRising 0 (capacity * w) made
+pub rising-all : (made : List ℕ) (w place capacity : ℕ) → place ≤ capacity → AscendsWithin 0 (place * w) made → AscendsWithin 0 (capacity * w) made
 rising-all made w place capacity h r = rising-wider 0 0 (place * w) (capacity * w) made (omega arith) (mul-le place w capacity w h (omega arith)) r
 
 pub own-test : (p own count : ℕ) (x : Bool) → own < count → (eqb p own && x) ≡ (ltb p count && (if eqb p own then x else false))

@@ -6,8 +6,8 @@ use Rattle.std.specs.declared.cmp.Ordering.TheVariants.{Less, Equal, Greater}
 use Rattle.std.proofs.lemmas.Bool.{and_parts, both_ways, cases_Bool, cases_order, eq-eqb, eqb-true, false_from_ne_true, le-ltb, lt-ltb, ltb-true, ne_eqb}
 use Rattle.std.proofs.lemmas.Nat.{div-add-mod', mod_below, row_fits}
 use Rattle.kept_rows.specs.declared.binding.Variable.{Variable}
-use Rattle.kept_rows.specs.Exact.{AreRowsOf, HaveOneMore}
-use Rattle.kept_rows.specs.Numbers.{counts, holds, places_of, size_of}
+use Rattle.kept_rows.specs.Exact.{AreFullRows, HaveOneMore}
+use Rattle.kept_rows.specs.Numbers.{counts, holds_written, places_of, size_of}
 use Rattle.kept_rows.proofs.NumberLemmas.{number-below, size-some}
 
 -- ---- order
@@ -96,7 +96,7 @@ four-tests true false c d = refl
 four-tests true true true d = refl
 four-tests true true false d = refl
 
-pub one_more : (vs ws : List Variable) (n : ℕ) → HaveOneMore vs ws → counts vs n ≡ (counts ws n && not (holds ws n))
+pub one_more : (vs ws : List Variable) (n : ℕ) → HaveOneMore vs ws → counts vs n ≡ (counts ws n && not (holds_written ws n))
 one_more [] [] n h = and-all (eqb n 0)
   where
     and-all : (b : Bool) → b ≡ (b && true)
@@ -107,8 +107,8 @@ one_more (v ∷ vs) [] n h = absurd h
 one_more (v ∷ vs) (w ∷ ws) n h =
     ap (λ b. b && counts vs (n % size_of vs)) (h.1 (n / size_of vs))
     ∙ ap (λ b. (ltb (n / size_of vs) w.count && not (eqb (n / size_of vs) w.own)) && b) (one_more vs ws (n % size_of vs) h.2)
-    ∙ four-tests (ltb (n / size_of vs) w.count) (eqb (n / size_of vs) w.own) (counts ws (n % size_of vs)) (holds ws (n % size_of vs))
-    ∙ ap (λ k. (ltb (n / k) w.count && counts ws (n % k)) && not (eqb (n / k) w.own || holds ws (n % k))) (sym (same-size vs ws h.2))
+    ∙ four-tests (ltb (n / size_of vs) w.count) (eqb (n / size_of vs) w.own) (counts ws (n % size_of vs)) (holds_written ws (n % size_of vs))
+    ∙ ap (λ k. (ltb (n / k) w.count && counts ws (n % k)) && not (eqb (n / k) w.own || holds_written ws (n % k))) (sym (same-size vs ws h.2))
 
 -- ---- a refresh
 and-true : (b : Bool) → (b && true) ≡ b
@@ -119,16 +119,16 @@ and-none : (b : Bool) → (b && false) ≡ false
 and-none true = refl
 and-none false = refl
 
-pub stays_exact : (rows rows' : ℕ → ℕ → Bool) (counts counts' holds : ℕ → Bool) (full full' : ℕ → ℕ → Bool) →
-    AreRowsOf rows counts full →
+pub stays_exact : (rows rows' : ℕ → ℕ → Bool) (counts counts' holds_written : ℕ → Bool) (full full' : ℕ → ℕ → Bool) →
+    AreFullRows rows counts full →
     ((c : ℕ) → counts c ≡ true → counts' c ≡ true) →
-    ((c : ℕ) → holds c ≡ false → counts' c ≡ counts c) →
-    ((c t : ℕ) → holds c ≡ false → full' c t ≡ full c t) →
-    ((c t : ℕ) → rows' c t ≡ (if counts' c && holds c then full' c t else rows c t)) →
-    AreRowsOf rows' counts' full'
-stays_exact rows rows' counts counts' holds full full' before grown others local anew c t =
+    ((c : ℕ) → holds_written c ≡ false → counts' c ≡ counts c) →
+    ((c t : ℕ) → holds_written c ≡ false → full' c t ≡ full c t) →
+    ((c t : ℕ) → rows' c t ≡ (if counts' c && holds_written c then full' c t else rows c t)) →
+    AreFullRows rows' counts' full'
+stays_exact rows rows' counts counts' holds_written full full' before grown others local anew c t =
     anew c t
-    ∙ elim (cases_Bool (holds c)) [
+    ∙ elim (cases_Bool (holds_written c)) [
       | inr none ↦
           ap (λ b. if counts' c && b then full' c t else rows c t) none
           ∙ ap (λ b. if b then full' c t else rows c t) (and-none (counts' c))

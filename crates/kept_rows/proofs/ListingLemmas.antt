@@ -8,7 +8,7 @@ use Rattle.std.proofs.lemmas.Nat.{div-add-mod', div_below, le-div, mod_below, mu
 use Rattle.tick_set.specs.Runs.{runs_of}
 use Rattle.tick_set.specs.Ticks.{between, listed}
 use Rattle.tick_set.proofs.Between.{any_between_at, any_between_found, same_test}
-use Rattle.kept_rows.specs.Listing.{HaveNone, line_of, lines_between, some_row, times, with_runs}
+use Rattle.kept_rows.specs.Listing.{HaveNone, line_of, lines_between, some_row, target_has, with_runs}
 
 -- ---- numbers from a up to b
 pub between-first : (a b : ℕ) → a < b → between a b ≡ a ∷ between (a + 1) b
@@ -139,8 +139,8 @@ pub listed-none : (p : ℕ → Bool) (from e : ℕ) → ((t : ℕ) → p t ≡ f
 unfolding listed
 listed-none p from e none = filter-none p (between from (e + 1)) none
 
-pub line-none : (times : ℕ → ℕ → Bool) (from e k : ℕ) → ((t : ℕ) → times k t ≡ false) → line_of times from e k ≡ None
-line-none times from e k none = ap (λ xs. with_runs k (runs_of xs)) (listed-none (times k) from e none)
+pub line-none : (target_has : ℕ → ℕ → Bool) (from e k : ℕ) → ((t : ℕ) → target_has k t ≡ false) → line_of target_has from e k ≡ None
+line-none target_has from e k none = ap (λ xs. with_runs k (runs_of xs)) (listed-none (target_has k) from e none)
 
 pub and-false : (b : Bool) → (b && false) ≡ false
 and-false true = refl
@@ -148,7 +148,7 @@ and-false false = refl
 
 -- the targets before that of the first row have no ticks
 pub times-none : (rows : ℕ → ℕ → Bool) (width a k first t : ℕ) → HaveNone rows (a * width) first → a ≤ k → k * width + width ≤ first →
-    times rows width k t ≡ false
+    target_has rows width k t ≡ false
 times-none rows width a k first t none h l =
     some_row-none rows (k * width) (k * width + width) t
     (λ c u m n. none c u (omega (arith, m, mul-le a width k width h (omega arith))) (omega (arith, n, l)))

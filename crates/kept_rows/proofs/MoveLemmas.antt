@@ -9,10 +9,10 @@ use Rattle.tick_set.specs.Runs.{runs_of}
 use Rattle.tick_set.specs.Ticks.{between, within}
 use Rattle.tick_set.proofs.Between.{any_between_at, any_between_found, same_test}
 use Rattle.kept_rows.specs.declared.change.Change.{Change}
-use Rattle.kept_rows.specs.Changes.{after, with_row}
-use Rattle.kept_rows.specs.Listing.{HaveNone, some_row, times}
+use Rattle.kept_rows.specs.Changes.{rows_after, with_row}
+use Rattle.kept_rows.specs.Listing.{HaveNone, some_row, target_has}
 use Rattle.kept_rows.specs.Moves.{Moved, difference, if_moved, is_in, move_between, others}
-use Rattle.kept_rows.specs.Rising.{IsRising}
+use Rattle.kept_rows.specs.Rising.{AscendsWithin}
 use Rattle.kept_rows.specs.declared.slots.Slots.{Slots}
 use Rattle.kept_rows.specs.Slots.{AreIn, HaveNoneAt}
 use Rattle.kept_rows.proofs.NextLemmas.{get-below}
@@ -24,7 +24,7 @@ numbers xs = map (λ x. x.number) xs
 -- ---- rows after changes, at one number
 -- rows that are alike there are alike there after the changes
 pub after-at : {S : Type 0} (member : S → ℕ → Bool) (xs : List (Change S)) (p q : ℕ → ℕ → Bool) (c t : ℕ) → p c t ≡ q c t →
-    after member xs p c t ≡ after member xs q c t
+    rows_after member xs p c t ≡ rows_after member xs q c t
 after-at member [] p q c t e = e
 after-at member (x ∷ xs) p q c t e =
     after-at member xs (with_row member x p) (with_row member x q) c t (ap (λ b. if eqb c x.number then member x.ticks t else b) e)
@@ -33,7 +33,7 @@ one-other : {S : Type 0} (member : S → ℕ → Bool) (x : Change S) (p : ℕ �
 one-other member x p c t e = ap (λ b. if b then member x.ticks t else p c t) e
 
 -- no change is of it
-pub after-other : {S : Type 0} (member : S → ℕ → Bool) (xs : List (Change S)) (p : ℕ → ℕ → Bool) (c t : ℕ) → is_in xs c ≡ false → after member xs p c t ≡ p c t
+pub after-other : {S : Type 0} (member : S → ℕ → Bool) (xs : List (Change S)) (p : ℕ → ℕ → Bool) (c t : ℕ) → is_in xs c ≡ false → rows_after member xs p c t ≡ p c t
 after-other member [] p c t e = refl
 after-other member (x ∷ xs) p c t e =
     let parts = or_parts (eqb x.number c) (is_in xs c) e in
@@ -41,18 +41,18 @@ after-other member (x ∷ xs) p c t e =
     ∙ one-other member x p c t (ne_eqb c x.number (λ f. both_ways (eqb x.number c) parts.0 (eq-eqb x.number c (sym f))))
 
 -- the numbers of all changes are above it
-pub not-in : {S : Type 0} (f to c : ℕ) (xs : List (Change S)) → IsRising f to (numbers xs) → c < f → is_in xs c ≡ false
+pub not-in : {S : Type 0} (f to c : ℕ) (xs : List (Change S)) → AscendsWithin f to (numbers xs) → c < f → is_in xs c ≡ false
 not-in f to c [] r h = refl
 not-in f to c (x ∷ xs) r h =
     ap (λ b. b || is_in xs c) (ne_eqb x.number c (λ e. omega (arith, e, h, r.0))) ∙ not-in (x.number + 1) to c xs r.2 (omega (arith, h, r.0))
 
-pub after-below : {S : Type 0} (member : S → ℕ → Bool) (xs : List (Change S)) (p : ℕ → ℕ → Bool) (f to c t : ℕ) → IsRising f to (numbers xs) → c < f →
-    after member xs p c t ≡ p c t
+pub after-below : {S : Type 0} (member : S → ℕ → Bool) (xs : List (Change S)) (p : ℕ → ℕ → Bool) (f to c t : ℕ) → AscendsWithin f to (numbers xs) → c < f →
+    rows_after member xs p c t ≡ p c t
 after-below member xs p f to c t r h = after-other member xs p c t (not-in f to c xs r h)
 
 -- ---- the first changes and the later ones
 pub after-take : {S : Type 0} (member : S → ℕ → Bool) (n : ℕ) (xs : List (Change S)) (p : ℕ → ℕ → Bool) (f top to c t : ℕ) →
-    IsRising f top (numbers xs) → All (λ (x : Change S). to ≤ x.number) (drop n xs) → c < to → after member xs p c t ≡ after member (take n xs) p c t
+    AscendsWithin f top (numbers xs) → All (λ (x : Change S). to ≤ x.number) (drop n xs) → c < to → rows_after member xs p c t ≡ rows_after member (take n xs) p c t
 after-take member zero xs p f top to c t r past h = after-other member xs p c t (past-in xs past)
   where
     past-in : {S : Type 0} (ys : List (Change S)) → All (λ (x : Change S). to ≤ x.number) ys → is_in ys c ≡ false
@@ -64,7 +64,7 @@ after-take member (suc n) [] p f top to c t r past h = refl
 after-take member (suc n) (x ∷ xs) p f top to c t r past h = after-take member n xs (with_row member x p) (x.number + 1) top to c t r.2 past h
 
 pub after-drop : {S : Type 0} (member : S → ℕ → Bool) (n : ℕ) (xs : List (Change S)) (p : ℕ → ℕ → Bool) (to c t : ℕ) →
-    All (λ (x : Change S). x.number < to) (take n xs) → to ≤ c → after member xs p c t ≡ after member (drop n xs) p c t
+    All (λ (x : Change S). x.number < to) (take n xs) → to ≤ c → rows_after member xs p c t ≡ rows_after member (drop n xs) p c t
 after-drop member zero xs p to c t below h = refl
 after-drop member (suc n) [] p to c t below h = refl
 after-drop {S} member (suc n) (x ∷ xs) p to c t below h =
@@ -72,27 +72,27 @@ after-drop {S} member (suc n) (x ∷ xs) p to c t below h =
     after-drop member n xs (with_row member x p) to c t (All-tail (λ (y : Change S). y.number < to) x (take n xs) below) h
     ∙ after-at member (drop n xs) (with_row member x p) p c t (one-other member x p c t (ne_eqb c x.number (λ e. omega (arith, e, h, here))))
 
-pub rising-take : {S : Type 0} (n f top to : ℕ) (xs : List (Change S)) → IsRising f top (numbers xs) → All (λ (x : Change S). x.number < to) (take n xs) →
-    IsRising f to (numbers (take n xs))
+pub rising-take : {S : Type 0} (n f top to : ℕ) (xs : List (Change S)) → AscendsWithin f top (numbers xs) → All (λ (x : Change S). x.number < to) (take n xs) →
+    AscendsWithin f to (numbers (take n xs))
 rising-take zero f top to xs r below = tt
 rising-take (suc n) f top to [] r below = tt
 rising-take {S} (suc n) f top to (x ∷ xs) r below =
     (r.0, All-head (λ (y : Change S). y.number < to) x (take n xs) below, rising-take n (x.number + 1) top to xs r.2 (All-tail (λ (y : Change S). y.number < to) x (take n xs) below))
 
-pub rising-drop : {S : Type 0} (n f top to : ℕ) (xs : List (Change S)) → IsRising f top (numbers xs) → All (λ (x : Change S). to ≤ x.number) (drop n xs) →
-    IsRising to top (numbers (drop n xs))
+pub rising-drop : {S : Type 0} (n f top to : ℕ) (xs : List (Change S)) → AscendsWithin f top (numbers xs) → All (λ (x : Change S). to ≤ x.number) (drop n xs) →
+    AscendsWithin to top (numbers (drop n xs))
 rising-drop zero f top to [] r past = tt
 rising-drop {S} zero f top to (x ∷ xs) r past = (All-head (λ (y : Change S). to ≤ y.number) x xs past, r.1, r.2)
 rising-drop (suc n) f top to [] r past = tt
 rising-drop (suc n) f top to (x ∷ xs) r past = rising-drop n (x.number + 1) top to xs r.2 past
 
 -- from a change on, all numbers are past it
-all-above : {S : Type 0} (f top to : ℕ) (xs : List (Change S)) → IsRising f top (numbers xs) → to ≤ f → All (λ (y : Change S). to ≤ y.number) xs
+all-above : {S : Type 0} (f top to : ℕ) (xs : List (Change S)) → AscendsWithin f top (numbers xs) → to ≤ f → All (λ (y : Change S). to ≤ y.number) xs
 all-above {S} f top to [] r h = All-nil (λ (y : Change S). to ≤ y.number)
 all-above {S} f top to (x ∷ xs) r h =
     All-cons (λ (y : Change S). to ≤ y.number) x xs (omega (arith, h, r.0)) (all-above (x.number + 1) top to xs r.2 (omega (arith, h, r.0)))
 
-pub past-from : {S : Type 0} (n f top to : ℕ) (xs : List (Change S)) (x : Change S) → IsRising f top (numbers xs) → slice_get xs n ≡ Some x → to ≤ x.number →
+pub past-from : {S : Type 0} (n f top to : ℕ) (xs : List (Change S)) (x : Change S) → AscendsWithin f top (numbers xs) → slice_get xs n ≡ Some x → to ≤ x.number →
     All (λ (y : Change S). to ≤ y.number) (drop n xs)
 past-from {S} zero f top to [] x r is h = All-nil (λ (y : Change S). to ≤ y.number)
 past-from {S} (suc n) f top to [] x r is h = All-nil (λ (y : Change S). to ≤ y.number)
@@ -117,7 +117,7 @@ in-any f (x ∷ xs) c h e =
       | inr later ↦ or_right (f x.number) (list_any (λ y. f y.number) xs) (in-any f xs c later e)
     ]
 
-any-found : {S : Type 0} (f : ℕ → Bool) (from least to : ℕ) (xs : List (Change S)) → from ≤ least → IsRising least to (numbers xs) → list_any (λ x. f x.number) xs ≡ true →
+any-found : {S : Type 0} (f : ℕ → Bool) (from least to : ℕ) (xs : List (Change S)) → from ≤ least → AscendsWithin least to (numbers xs) → list_any (λ x. f x.number) xs ≡ true →
     list_any f (between from to) ≡ true
 any-found f from least to [] k r h = absurd (both_ways false refl h)
 any-found f from least to (x ∷ xs) k r h =
@@ -126,7 +126,7 @@ any-found f from least to (x ∷ xs) k r h =
       | inr later ↦ any-found f from (x.number + 1) to xs (omega (arith, k, r.0)) r.2 later
     ]
 
-pub any-parts : {S : Type 0} (f : ℕ → Bool) (from to : ℕ) (xs : List (Change S)) → IsRising from to (numbers xs) →
+pub any-parts : {S : Type 0} (f : ℕ → Bool) (from to : ℕ) (xs : List (Change S)) → AscendsWithin from to (numbers xs) →
     list_any f (between from to) ≡ (list_any (λ x. f x.number) xs || list_any (λ c. f c && not (is_in xs c)) (between from to))
 any-parts f from to xs r =
     let changed : Bool = list_any (λ x. f x.number) xs in
@@ -150,20 +150,20 @@ any-parts f from to xs r =
     ])
 
 -- the row of a changed number is that of the change
-pub any-anew : {S : Type 0} (member : S → ℕ → Bool) (xs : List (Change S)) (p : ℕ → ℕ → Bool) (from to t : ℕ) → IsRising from to (numbers xs) →
-    list_any (λ x. after member xs p x.number t) xs ≡ list_any (λ x. member x.ticks t) xs
+pub any-anew : {S : Type 0} (member : S → ℕ → Bool) (xs : List (Change S)) (p : ℕ → ℕ → Bool) (from to t : ℕ) → AscendsWithin from to (numbers xs) →
+    list_any (λ x. rows_after member xs p x.number t) xs ≡ list_any (λ x. member x.ticks t) xs
 any-anew member [] p from to t r = refl
 any-anew member (x ∷ xs) p from to t r =
-    ap (λ b. b || list_any (λ y. after member xs (with_row member x p) y.number t) xs)
+    ap (λ b. b || list_any (λ y. rows_after member xs (with_row member x p) y.number t) xs)
     (after-below member xs (with_row member x p) (x.number + 1) to x.number t r.2 (omega arith)
     ∙ ap (λ b. if b then member x.ticks t else p x.number t) (eq-eqb x.number x.number refl))
     ∙ ap (λ b. member x.ticks t || b) (any-anew member xs (with_row member x p) (x.number + 1) to t r.2)
 
 other-same : {S : Type 0} (member : S → ℕ → Bool) (xs : List (Change S)) (p : ℕ → ℕ → Bool) (c t : ℕ) →
-    (after member xs p c t && not (is_in xs c)) ≡ (p c t && not (is_in xs c))
+    (rows_after member xs p c t && not (is_in xs c)) ≡ (p c t && not (is_in xs c))
 other-same member xs p c t =
     elim (cases_Bool (is_in xs c)) [
-      | inl here ↦ ap (λ b. after member xs p c t && not b) here ∙ and-none (after member xs p c t) ∙ sym (ap (λ b. p c t && not b) here ∙ and-none (p c t))
+      | inl here ↦ ap (λ b. rows_after member xs p c t && not b) here ∙ and-none (rows_after member xs p c t) ∙ sym (ap (λ b. p c t && not b) here ∙ and-none (p c t))
       | inr other ↦ ap (λ b. b && not (is_in xs c)) (after-other member xs p c t other)
     ]
   where
@@ -171,15 +171,15 @@ other-same member xs p c t =
     and-none true = refl
     and-none false = refl
 
-pub rows-before : {S : Type 0} (xs : List (Change S)) (p : ℕ → ℕ → Bool) (from to t : ℕ) → IsRising from to (numbers xs) →
+pub rows-before : {S : Type 0} (xs : List (Change S)) (p : ℕ → ℕ → Bool) (from to t : ℕ) → AscendsWithin from to (numbers xs) →
     some_row p from to t ≡ (list_any (λ x. p x.number t) xs || some_row (others xs p) from to t)
 rows-before xs p from to t r = any-parts (λ c. p c t) from to xs r
 
-pub rows-after : {S : Type 0} (member : S → ℕ → Bool) (xs : List (Change S)) (p : ℕ → ℕ → Bool) (from to t : ℕ) → IsRising from to (numbers xs) →
-    some_row (after member xs p) from to t ≡ (list_any (λ x. member x.ticks t) xs || some_row (others xs p) from to t)
+pub rows-after : {S : Type 0} (member : S → ℕ → Bool) (xs : List (Change S)) (p : ℕ → ℕ → Bool) (from to t : ℕ) → AscendsWithin from to (numbers xs) →
+    some_row (rows_after member xs p) from to t ≡ (list_any (λ x. member x.ticks t) xs || some_row (others xs p) from to t)
 rows-after member xs p from to t r =
-    any-parts (λ c. after member xs p c t) from to xs r
-    ∙ ap (λ b. b || list_any (λ c. after member xs p c t && not (is_in xs c)) (between from to)) (any-anew member xs p from to t r)
+    any-parts (λ c. rows_after member xs p c t) from to xs r
+    ∙ ap (λ b. b || list_any (λ c. rows_after member xs p c t && not (is_in xs c)) (between from to)) (any-anew member xs p from to t r)
     ∙ (λ i. list_any (λ x. member x.ticks t) xs || list_any (λ c. other-same member xs p c t i) (between from to))
 
 -- what is gained or lost, by the changed rows and the others
@@ -279,7 +279,7 @@ some_row-alike p q a b t same =
     (λ e. let s = any_between_found (λ c. q c t) a b e in any_between_at (λ c. p c t) a b s.tick s.from s.below (same s.tick s.from s.below ∙ s.passes))
 
 pub times-alike : (p q : ℕ → ℕ → Bool) (width target t : ℕ) → ((c : ℕ) → target * width ≤ c → c < target * width + width → p c t ≡ q c t) →
-    times p width target t ≡ times q width target t
+    target_has p width target t ≡ target_has q width target t
 times-alike p q width target t same = some_row-alike p q (target * width) (target * width + width) t same
 
 not-both : (b : Bool) → (b && not b) ≡ false
@@ -298,14 +298,14 @@ unmoved p q from e now target same =
     nothing p from e = ap runs_of (listed-none (λ t. p t && not (p t)) from e (λ t. not-both (p t)))
 
 -- ---- the first of the changes that are left
-pub head-bounds : {S : Type 0} (f top : ℕ) (xs : List (Change S)) (x : Change S) → IsRising f top (numbers xs) → slice_get xs 0 ≡ Some x →
-    (f ≤ x.number) × (x.number < top) × IsRising x.number top (numbers xs)
+pub head-bounds : {S : Type 0} (f top : ℕ) (xs : List (Change S)) (x : Change S) → AscendsWithin f top (numbers xs) → slice_get xs 0 ≡ Some x →
+    (f ≤ x.number) × (x.number < top) × AscendsWithin x.number top (numbers xs)
 head-bounds f top [] x r e = absurd (both_ways false refl (ap is_some e))
 head-bounds {S} f top (y ∷ ys) x r e =
     let same : y ≡ x = ap (λ o. unwrap_or o y) e in (
       subst (λ (z : Change S). f ≤ z.number) same r.0,
       subst (λ (z : Change S). z.number < top) same r.1,
-      subst (λ (z : Change S). IsRising z.number top (numbers (y ∷ ys))) same (omega arith, r.1, r.2),
+      subst (λ (z : Change S). AscendsWithin z.number top (numbers (y ∷ ys))) same (omega arith, r.1, r.2),
     )
 
 -- the first of them is below `to`, so those past it are not all
@@ -318,7 +318,7 @@ some-below {S} zero to (y ∷ ys) x e h past =
     absurd (omega (arith, h, here))
 some-below (suc n) to xs x e h past = omega arith
 
-pub after-none : {S : Type 0} (member : S → ℕ → Bool) (xs : List (Change S)) (p : ℕ → ℕ → Bool) (c t : ℕ) → length xs ≤ 0 → after member xs p c t ≡ p c t
+pub after-none : {S : Type 0} (member : S → ℕ → Bool) (xs : List (Change S)) (p : ℕ → ℕ → Bool) (c t : ℕ) → length xs ≤ 0 → rows_after member xs p c t ≡ p c t
 after-none member [] p c t h = refl
 after-none member (x ∷ xs) p c t h = absurd (omega (arith, h))
 

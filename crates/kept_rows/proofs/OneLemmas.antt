@@ -3,7 +3,7 @@ use Rattle.std.proofs.Common.{◌≡◌, ℕ, ◌/◌, ◌%◌, ◌<◌, ◌≤�
 use Rattle.std.specs.Prelude.{nat_le}
 use Rattle.std.proofs.lemmas.Bool.{cases_eq, cases_lt, eq-eqb, ne_eqb, lt-ltb, le-ltb}
 use Rattle.kept_rows.specs.declared.binding.Variable.{Variable}
-use Rattle.kept_rows.specs.Numbers.{counts, holds}
+use Rattle.kept_rows.specs.Numbers.{counts, holds_written}
 
 and-true : (b x : Bool) → ((b && true) && (x || false)) ≡ (b && x)
 and-true false x = refl
@@ -15,7 +15,7 @@ and-none true = refl
 and-none false = refl
 
 -- a number is the place of the object, if the object is there
-one-held : (v : Variable) (c : ℕ) → (counts (v ∷ []) c && holds (v ∷ []) c) ≡ (ltb c v.count && eqb c v.own)
+one-held : (v : Variable) (c : ℕ) → (counts (v ∷ []) c && holds_written (v ∷ []) c) ≡ (ltb c v.count && eqb c v.own)
 one-held v c =
     let place : c / 1 ≡ c = omega arith in
     let rest : c % 1 ≡ 0 = omega arith in
@@ -26,7 +26,7 @@ one-held v c =
 -- the binding of the object is judged anew from a tick on
 pub one-judged : (v : Variable) (from : ℕ) (full rows : ℕ → ℕ → Bool) (ticks : ℕ → Bool) → v.own < v.count → ((t : ℕ) → ticks t ≡ full v.own t) → (c t : ℕ) →
     (if eqb c v.own && nat_le from t then ticks t else rows c t)
-    ≡ (if (counts (v ∷ []) c && holds (v ∷ []) c) && nat_le from t then full c t else rows c t)
+    ≡ (if (counts (v ∷ []) c && holds_written (v ∷ []) c) && nat_le from t then full c t else rows c t)
 one-judged v from full rows ticks there same c t =
     elim (cases_eq c v.own) [
       | inl e ↦
@@ -42,7 +42,7 @@ one-judged v from full rows ticks there same c t =
 
 -- the object isn't there
 pub none-judged : (v : Variable) (from : ℕ) (full rows : ℕ → ℕ → Bool) → v.count ≤ v.own → (c t : ℕ) →
-    rows c t ≡ (if (counts (v ∷ []) c && holds (v ∷ []) c) && nat_le from t then full c t else rows c t)
+    rows c t ≡ (if (counts (v ∷ []) c && holds_written (v ∷ []) c) && nat_le from t then full c t else rows c t)
 none-judged v from full rows away c t =
     sym (ap (λ b. if b && nat_le from t then full c t else rows c t) (one-held v c ∙ apart))
   where

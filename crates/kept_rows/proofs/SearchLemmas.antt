@@ -8,7 +8,7 @@ use Rattle.std.proofs.lemmas.Cmp.{nat_cmp_total}
 use Rattle.std.proofs.lemmas.List.Sorted.{searchable_from_sorted}
 use Rattle.kept_rows.specs.declared.change.Change.{Change}
 use Rattle.kept_rows.specs.Moves.{is_in}
-use Rattle.kept_rows.specs.Rising.{IsRising}
+use Rattle.kept_rows.specs.Rising.{AscendsWithin}
 
 not_before : (m n : ℕ) → m < n → is_lt (nat_cmp n m) ≡ false
 not_before m n h = grind (arith, nat_tests, h)
@@ -23,7 +23,7 @@ not_greater : (m n : ℕ) → nat_cmp m n ≡ Ordering.Greater → m ≡ n → �
 not_greater m n e same = grind (arith, nat_tests, e, same)
 
 module _ {S : Type 0} where
-  adjacent : (from to : ℕ) (xs : List (Change S)) (k : ℕ) (d : Change S) → IsRising from to (map (λ x. x.number) xs) → k + 1 < length xs →
+  adjacent : (from to : ℕ) (xs : List (Change S)) (k : ℕ) (d : Change S) → AscendsWithin from to (map (λ x. x.number) xs) → k + 1 < length xs →
       (get_or xs k d).number < (get_or xs (k + 1) d).number
   adjacent from to [] k d r l = absurd (omega (arith, l))
   adjacent from to (x ∷ []) k d r l = absurd (omega (arith, l))
@@ -32,7 +32,7 @@ module _ {S : Type 0} where
       subst (λ (n : ℕ). (get_or (y ∷ xs) k d).number < (get_or (x ∷ y ∷ xs) n d).number) (let e : suc (k + 1) ≡ suc k + 1 = omega arith in e)
       (adjacent (x.number + 1) to (y ∷ xs) k d r.2 (omega (arith, l)))
 
-  searchable : (from to : ℕ) (xs : List (Change S)) (number : ℕ) → IsRising from to (map (λ x. x.number) xs) →
+  searchable : (from to : ℕ) (xs : List (Change S)) (number : ℕ) → AscendsWithin from to (map (λ x. x.number) xs) →
       IsNonDecreasingBy (λ (x : Change S). ordering_index (nat_cmp x.number number)) xs
   searchable from to xs number r =
       searchable_from_sorted nat_cmp_total (λ (x : Change S). x.number) xs number
@@ -50,7 +50,7 @@ module _ {S : Type 0} where
       ap (λ b. b || is_in xs n) (ne_eqb x.number n (apart 0 x (omega arith)))
       ∙ is_in-none xs n (λ k d l. apart (suc k) d (omega (arith, l)))
 
-  pub search_is_in : (from to : ℕ) (xs : List (Change S)) (n : ℕ) (r : Result ℕ ℕ) → IsRising from to (map (λ x. x.number) xs) →
+  pub search_is_in : (from to : ℕ) (xs : List (Change S)) (n : ℕ) (r : Result ℕ ℕ) → AscendsWithin from to (map (λ x. x.number) xs) →
       IsSearchInRange r (length xs) → IsBinarySearchResult (λ (x : Change S). nat_cmp x.number n) xs r → is_ok r ≡ is_in xs n
   search_is_in from to xs n (Ok at) rising l found =
       sym (is_in-at xs at n l (λ d. equal_numbers (get_or xs at d).number n (found d)))

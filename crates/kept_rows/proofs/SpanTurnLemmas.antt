@@ -7,7 +7,7 @@ use Rattle.std.proofs.lemmas.Cmp.{ranked}
 use Rattle.tick_set.specs.declared.spans.Span.{Span}
 use Rattle.tick_set.specs.Runs.{spans_have, IsNormal, IsNormalFrom}
 use Rattle.tick_set.proofs.RunLemmas.{spans_have-below, IsNormalFrom-weaker}
-use Rattle.kept_rows.specs.Turning.{AreFrom}
+use Rattle.kept_rows.specs.Turning.{AreSpansFrom}
 
 -- the last ticks rise
 hi_at_least : (spans : List Span) (from j : ℕ) (d : Span) → IsNormalFrom from spans → j < length spans → from ≤ (get_or spans j d).hi
@@ -44,7 +44,7 @@ pub record IsPlace (spans : List Span) (t at : ℕ) : Type 0 where
 no_span : Span
 no_span = record { lo = 0; hi = 0; ordered = omega arith; in_range = omega arith }
 
-from_place : (spans : List Span) (from t at : ℕ) → IsNormalFrom from spans → IsPlace spans t at → AreFrom t spans (drop at spans)
+from_place : (spans : List Span) (from t at : ℕ) → IsNormalFrom from spans → IsPlace spans t at → AreSpansFrom t spans (drop at spans)
 from_place [] from t zero h place = record { normal = tt; ends = tt; ticks = λ u k. refl }
 from_place [] from t (suc at) h place = record { normal = tt; ends = tt; ticks = λ u k. refl }
 from_place (s ∷ rest) from t zero h place = record {
@@ -54,7 +54,7 @@ from_place (s ∷ rest) from t zero h place = record {
 }
 from_place (s ∷ rest) from t (suc at) h place =
     let ended : s.hi < t = place.before 0 s (omega arith) in
-    let later : AreFrom t rest (drop at rest) = from_place rest (s.hi + 2) t at h.1 (record {
+    let later : AreSpansFrom t rest (drop at rest) = from_place rest (s.hi + 2) t at h.1 (record {
       before = λ j d l. place.before (suc j) d (omega (arith, l));
       here = λ d l. place.here d (omega (arith, l));
     }) in
@@ -68,7 +68,7 @@ module _ (spans : List Span) (normal : IsNormal spans) (t : ℕ) where
   comparisons_rise : IsNonDecreasingBy (λ s. ordering_index (nat_cmp s.hi t)) spans
   comparisons_rise = λ i j d l k. grind (arith, nat_tests, hi_not_falls spans 0 i j d normal l k)
 
-  pub from_found : (at : ℕ) → at < length spans → IsBinarySearchResult (λ s. nat_cmp s.hi t) spans (Ok at) → AreFrom t spans (drop at spans)
+  pub from_found : (at : ℕ) → at < length spans → IsBinarySearchResult (λ s. nat_cmp s.hi t) spans (Ok at) → AreSpansFrom t spans (drop at spans)
   from_found at in_range equal =
       let same : (d : Span) → (get_or spans at d).hi ≡ t = λ d. ranked _ t _ (sym (equal d)) in
       from_place spans 0 t at normal (record {
@@ -76,7 +76,7 @@ module _ (spans : List Span) (normal : IsNormal spans) (t : ℕ) where
         here = λ d l. omega (arith, same d);
       })
 
-  pub from_parted : (at : ℕ) → at ≤ length spans → IsBinarySearchResult (λ s. nat_cmp s.hi t) spans (Err at) → AreFrom t spans (drop at spans)
+  pub from_parted : (at : ℕ) → at ≤ length spans → IsBinarySearchResult (λ s. nat_cmp s.hi t) spans (Err at) → AreSpansFrom t spans (drop at spans)
   from_parted at in_range parted =
       from_place spans 0 t at normal (record {
         before = λ j d l. ranked _ t _ (sym ((parted comparisons_rise).0 j d (omega (arith, l, in_range)) l));
@@ -84,7 +84,7 @@ module _ (spans : List Span) (normal : IsNormal spans) (t : ℕ) where
       })
 
 -- up to where the first of the spans from the tick on begins or ends
-pub steady_inside : (spans rest later : List Span) (s : Span) (t u : ℕ) → AreFrom t spans rest → rest ≡ s ∷ later → s.lo ≤ t → t ≤ u → u < s.hi + 1 →
+pub steady_inside : (spans rest later : List Span) (s : Span) (t u : ℕ) → AreSpansFrom t spans rest → rest ≡ s ∷ later → s.lo ≤ t → t ≤ u → u < s.hi + 1 →
     spans_have spans u ≡ spans_have spans t
 steady_inside spans rest later s t u h e low k l =
     h.ticks u k ∙ ap (λ xs. spans_have xs u) e ∙ inside ∙ ap (λ xs. spans_have xs t) (sym e) ∙ sym (h.ticks t (omega arith))
@@ -92,7 +92,7 @@ steady_inside spans rest later s t u h e low k l =
     inside : spans_have (s ∷ later) u ≡ spans_have (s ∷ later) t
     inside = grind (arith, nat_tests, low, k, l)
 
-pub steady_before : (spans rest later : List Span) (s : Span) (t u : ℕ) → AreFrom t spans rest → rest ≡ s ∷ later → t ≤ u → u < s.lo →
+pub steady_before : (spans rest later : List Span) (s : Span) (t u : ℕ) → AreSpansFrom t spans rest → rest ≡ s ∷ later → t ≤ u → u < s.lo →
     spans_have spans u ≡ spans_have spans t
 steady_before spans rest later s t u h e k l =
     h.ticks u k ∙ ap (λ xs. spans_have xs u) e ∙ none u l

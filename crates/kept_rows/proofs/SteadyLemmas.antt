@@ -4,11 +4,11 @@ use Rattle.std.specs.Prelude.{slice_get}
 use Rattle.std.proofs.lemmas.Bool.{cases_lt}
 use Rattle.kept_rows.specs.declared.turns.Turns.{Turns}
 use Rattle.kept_rows.specs.Rows.{page_has}
-use Rattle.kept_rows.specs.Turning.{AreSteady, AreSteadyIn, IsSteady}
+use Rattle.kept_rows.specs.Turning.{AreSteadyIn, AreSteadyToEnds, IsSteady}
 use Rattle.kept_rows.proofs.NextLemmas.{page_has-at, page_has-past}
 
 -- rows that are alike
-pub steady-alike : (rows rows' : ℕ → ℕ → Bool) (turns : Turns) → ((c t : ℕ) → rows' c t ≡ rows c t) → AreSteady rows turns → AreSteady rows' turns
+pub steady-alike : (rows rows' : ℕ → ℕ → Bool) (turns : Turns) → ((c t : ℕ) → rows' c t ≡ rows c t) → AreSteadyToEnds rows turns → AreSteadyToEnds rows' turns
 steady-alike rows rows' turns same steady = record {
   pages = λ c u h k. same c u ∙ steady.pages c u h k ∙ sym (same c turns.seen);
   groups = λ c u h k. same c u ∙ steady.groups c u h k ∙ sym (same c turns.seen);

@@ -5,22 +5,22 @@ use Rattle.std.specs.List.{list_any}
 use Rattle.std.proofs.lemmas.Nat.{mul-le}
 use Rattle.tick_set.specs.Ticks.{between}
 use Rattle.tick_set.proofs.Between.{any_between_at, any_between_found, same_test}
-use Rattle.kept_rows.specs.Listing.{passing_of, times, when_differ}
-use Rattle.kept_rows.specs.Turning.{AreAlike, AreSteadyIn, IsNextTurn}
+use Rattle.kept_rows.specs.Listing.{passing_of, target_has, when_differ}
+use Rattle.kept_rows.specs.Turning.{AgreeBetween, AreSteadyIn, IsNextDiffering}
 
 -- ---- rows
 module _ (rows : ℕ → ℕ → Bool) (seen before now from to : ℕ) (low : seen ≤ before) (up : before ≤ now) where
-  alike-steady : (end : ℕ) → AreSteadyIn rows seen now from end → AreAlike (λ c. rows c before) (λ c. rows c now) from end
+  alike-steady : (end : ℕ) → AreSteadyIn rows seen now from end → AgreeBetween (λ c. rows c before) (λ c. rows c now) from end
   alike-steady end same c h k =
       same c h k before low (omega (arith, up)) ∙ sym (same c h k now (omega (arith, low, up)) (omega arith))
 
   -- the first number that may turn
   pub turn-next : (o : Option ℕ) → IfSome o (λ n. from ≤ n) → IfSome o (λ n. n < to) → IfSome o (AreSteadyIn rows seen now from) →
-      IfSome o (IsNextTurn (λ c. rows c before) (λ c. rows c now) from to)
+      IfSome o (IsNextDiffering (λ c. rows c before) (λ c. rows c now) from to)
   turn-next None least below same = tt
   turn-next (Some n) least below same = record { least = least; below = below; before = alike-steady n same }
 
-  pub turn-none : (o : Option ℕ) → IfNone o (AreSteadyIn rows seen now from to) → IfNone o (AreAlike (λ c. rows c before) (λ c. rows c now) from to)
+  pub turn-none : (o : Option ℕ) → IfNone o (AreSteadyIn rows seen now from to) → IfNone o (AgreeBetween (λ c. rows c before) (λ c. rows c now) from to)
   turn-none None same = alike-steady to same
   turn-none (Some n) same = tt
 
@@ -30,7 +30,7 @@ any-counted true p xs = refl
 any-counted false p [] = refl
 any-counted false p (x ∷ xs) = any-counted false p xs
 
-any-alike : (p q : ℕ → Bool) (a b : ℕ) → AreAlike p q a b → list_any p (between a b) ≡ list_any q (between a b)
+any-alike : (p q : ℕ → Bool) (a b : ℕ) → AgreeBetween p q a b → list_any p (between a b) ≡ list_any q (between a b)
 any-alike p q a b same =
     same_test (list_any p (between a b)) (list_any q (between a b))
     (λ e. let s = any_between_found p a b e in any_between_at q a b s.tick s.from s.below (sym (same s.tick s.from s.below) ∙ s.passes))
@@ -44,11 +44,11 @@ when-same k x y e = ap (λ z. when_differ k z y) e ∙ same y
     same false = refl
 
 pub passing-alike : (rows : ℕ → ℕ → Bool) (width e before now a to k : ℕ) →
-    AreAlike (λ c. leb before e && rows c before) (λ c. leb now e && rows c now) (a * width) to → a ≤ k → k * width + width ≤ to →
-    passing_of (times rows width) e before now k ≡ None
+    AgreeBetween (λ c. leb before e && rows c before) (λ c. leb now e && rows c now) (a * width) to → a ≤ k → k * width + width ≤ to →
+    passing_of (target_has rows width) e before now k ≡ None
 passing-alike rows width e before now a to k same h l =
     let start : a * width ≤ k * width = mul-le a width k width h (omega arith) in
-    when-same k (leb before e && times rows width k before) (leb now e && times rows width k now)
+    when-same k (leb before e && target_has rows width k before) (leb now e && target_has rows width k now)
     (any-counted (leb before e) (λ c. rows c before) (between (k * width) (k * width + width))
     ∙ any-alike (λ c. leb before e && rows c before) (λ c. leb now e && rows c now) (k * width) (k * width + width)
     (λ c m n. same c (omega (arith, start, m)) (omega (arith, l, n)))

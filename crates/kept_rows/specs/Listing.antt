@@ -21,8 +21,8 @@ abbrev pub some_row : (ℕ → ℕ → Bool) → ℕ → ℕ → ℕ → Bool
 some_row rows a b t = list_any (λ c. rows c t) (between a b)
 
 -- the ticks of a target: those of the rows of its bindings
-abbrev pub times : (ℕ → ℕ → Bool) → ℕ → ℕ → ℕ → Bool
-times rows width target t = some_row rows (target * width) (target * width + width) t
+abbrev pub target_has : (ℕ → ℕ → Bool) → ℕ → ℕ → ℕ → Bool
+target_has rows width target t = some_row rows (target * width) (target * width + width) t
 
 -- what there is of each number below n, in order
 unfoldable pub lines_between : {X : Type 0} → (ℕ → Option X) → ℕ → ℕ → List X
@@ -37,11 +37,11 @@ with_runs target [] = None
 with_runs target (run ∷ runs) = Some (target, run ∷ runs)
 
 abbrev pub line_of : (ℕ → ℕ → Bool) → ℕ → ℕ → ℕ → Option (ℕ × List (ℕ × ℕ))
-line_of times from e target = with_runs target (runs_of (listed (times target) from e))
+line_of target_has from e target = with_runs target (runs_of (listed (target_has target) from e))
 
 -- whether a target stands at a tick, the last that counts being e
-abbrev pub stands_at : (ℕ → ℕ → Bool) → ℕ → ℕ → ℕ → Bool
-stands_at times e target t = nat_le t e && times target t
+abbrev pub target_stands_at : (ℕ → ℕ → Bool) → ℕ → ℕ → ℕ → Bool
+target_stands_at target_has e target t = nat_le t e && target_has target t
 
 -- a target that enters or leaves between two ticks: the target, and whether it enters; it leaves else
 abbrev pub when_differ : ℕ → Bool → Bool → Option (ℕ × Bool)
@@ -51,4 +51,4 @@ when_differ target true false = Some (target, false)
 when_differ target false true = Some (target, true)
 
 abbrev pub passing_of : (ℕ → ℕ → Bool) → ℕ → ℕ → ℕ → ℕ → Option (ℕ × Bool)
-passing_of times e before now target = when_differ target (stands_at times e target before) (stands_at times e target now)
+passing_of target_has e before now target = when_differ target (target_stands_at target_has e target before) (target_stands_at target_has e target now)

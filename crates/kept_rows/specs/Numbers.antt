@@ -32,6 +32,6 @@ counts [] number = number == 0
 counts (v ∷ vs) number = nat_lt (number / size_of vs) v.count && counts vs (number % size_of vs)
 
 -- whether some variable of the binding is the object that was written
-abbrev pub holds : List Variable → ℕ → Bool
-holds [] number = false
-holds (v ∷ vs) number = (number / size_of vs == v.own) || holds vs (number % size_of vs)
+abbrev pub holds_written : List Variable → ℕ → Bool
+holds_written [] number = false
+holds_written (v ∷ vs) number = (number / size_of vs == v.own) || holds_written vs (number % size_of vs)

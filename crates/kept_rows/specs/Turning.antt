@@ -14,7 +14,7 @@ abbrev pub HaveEnds : ℕ → (ℕ → ℕ → Bool) → ℕ → List ℕ → Ty
 HaveEnds width rows seen ends = (c : ℕ) → IsSteady (rows c) seen (slice_index_or ends (c / width) 0)
 
 -- the rows are steady up to the ends of their pages, and up to those of their groups of pages
-pub record AreSteady (rows : ℕ → ℕ → Bool) (turns : Turns) : Type 0 where
+pub record AreSteadyToEnds (rows : ℕ → ℕ → Bool) (turns : Turns) : Type 0 where
   pub pages : HaveEnds 16 rows turns.seen turns.pages.items
   pub groups : HaveEnds 1024 rows turns.seen turns.groups.items
 
@@ -23,17 +23,17 @@ abbrev pub AreSteadyIn : (ℕ → ℕ → Bool) → ℕ → ℕ → ℕ → ℕ 
 AreSteadyIn rows seen now from to = (c : ℕ) → from ≤ c → c < to → IsSteady (rows c) seen (now + 1)
 
 -- two tests agree at the numbers from `from` up to `to`
-abbrev pub AreAlike : (ℕ → Bool) → (ℕ → Bool) → ℕ → ℕ → Type 0
-AreAlike p q from to = (c : ℕ) → from ≤ c → c < to → p c ≡ q c
+abbrev pub AgreeBetween : (ℕ → Bool) → (ℕ → Bool) → ℕ → ℕ → Type 0
+AgreeBetween p q from to = (c : ℕ) → from ≤ c → c < to → p c ≡ q c
 
 -- one of the numbers from `from` up to `to`, before which two tests agree
-pub record IsNextTurn (p q : ℕ → Bool) (from to number : ℕ) : Type 0 where
+pub record IsNextDiffering (p q : ℕ → Bool) (from to number : ℕ) : Type 0 where
   pub least : from ≤ number
   pub below : number < to
-  pub before : AreAlike p q from number
+  pub before : AgreeBetween p q from number
 
 -- the spans without those that end before the tick
-pub record AreFrom (tick : ℕ) (spans rest : List Span) : Type 0 where
+pub record AreSpansFrom (tick : ℕ) (spans rest : List Span) : Type 0 where
   pub normal : IsNormal rest
   pub ends : EndsFrom tick rest
   pub ticks : (u : ℕ) → tick ≤ u → spans_have spans u ≡ spans_have rest u

@@ -34,7 +34,7 @@ impl<S> Model for Changes<S> {
 }
 
 impl<S: TickSet> Changes<S> {
-    ghost use Rattle.kept_rows.specs.Changes.{AreReady, AreRising, DoDiffer, after};
+    ghost use Rattle.kept_rows.specs.Changes.{AreReady, AreRising, DoDiffer, rows_after};
 
     /// No changes. It takes no memory.
     pub fn new(alloc: Global) -> Changes<S>
@@ -78,8 +78,8 @@ impl<S: TickSet> Changes<S> {
         ensures ready { OnOk result (AreReady S.member kept.now self.new) }
         ensures rising { OnOk result (AreRising (number + 1) self.new) }
         ensures differ { OnOk result (DoDiffer S.member kept.now self.new) }
-        ensures rows { OnOk result ((c t : ℕ) → after S.member self.new (row_has S.member kept.now) c t
-            ≡ (if c == number && nat_le from t then S.member ticks.now t else after S.member self.old (row_has S.member kept.now) c t)) }
+        ensures rows { OnOk result ((c t : ℕ) → rows_after S.member self.new (row_has S.member kept.now) c t
+            ≡ (if c == number && nat_le from t then S.member ticks.now t else rows_after S.member self.old (row_has S.member kept.now) c t)) }
         ensures err { OnErr result (self.new ≡ self.old) }
     {
         if are_none(kept, number, ticks) {
@@ -101,14 +101,14 @@ impl<S: TickSet> Changes<S> {
 }
 
 impl<S: Turning> Changes<S> {
-    ghost use Rattle.kept_rows.specs.Changes.{AreReady, after};
+    ghost use Rattle.kept_rows.specs.Changes.{AreReady, rows_after};
 
     /// Makes the changes. It takes no memory and can't fail.
     pub fn commit(self, kept: &mut KeptRows<S>)
         requires { AreReady S.member kept.old self }
         ensures len { length kept.new ≡ length kept.old }
         ensures rows { (c t : ℕ) → row_has S.member kept.new c t
-            ≡ after S.member self (row_has S.member kept.old) c t }
+            ≡ rows_after S.member self (row_has S.member kept.old) c t }
     {
         'changes: for change in self.changes {
             kept.put(change.number, change.ticks, change.spare);

@@ -1,8 +1,8 @@
 //! The numbers of the bindings that hold the object that was written.
 ghost use Rattle.std.specs.Prelude.{◌≡◌, ◌<◌, ◌≤◌, ◌+◌, ◌*◌, ◌^◌, ◌==◌, ◌&&◌, ◌||◌, ◌∷◌, ◌++◌, ℕ, [], true, false, nat_lt, All, length, map, if◌then◌else◌, IfOk, OnOk};
 ghost use Rattle.tick_set.specs.TickList.{has};
-ghost use Rattle.kept_rows.specs.Numbers.{counts, holds, size_of};
-ghost use Rattle.kept_rows.specs.Rising.{IsRising};
+ghost use Rattle.kept_rows.specs.Numbers.{counts, holds_written, size_of};
+ghost use Rattle.kept_rows.specs.Rising.{AscendsWithin};
 
 use crate::binding::{BINDING_LIMIT, Variable};
 use crate::numbers::size;
@@ -12,8 +12,8 @@ use std::alloc::{AllocError, Global};
 /// made on the way is longer.
 pub fn held_numbers(alloc: Global, variables: &[Variable]) -> Result<Vec<u32>, AllocError>
     requires { size_of variables.now ≤ BINDING_LIMIT }
-    ensures rising { IfOk result (λ r. IsRising 0 (size_of variables.now) r.items) }
-    ensures has { IfOk result (λ r. (c : ℕ) → has r.items c ≡ (counts variables.now c && holds variables.now c)) }
+    ensures rising { IfOk result (λ r. AscendsWithin 0 (size_of variables.now) r.items) }
+    ensures has { IfOk result (λ r. (c : ℕ) → has r.items c ≡ (counts variables.now c && holds_written variables.now c)) }
 {
     let numbers = numbers_of(alloc, variables, false)?;
     Ok(numbers.held)
@@ -32,10 +32,10 @@ struct Numbers {
 // may be the object that was written: else one update would visit all places of another class.
 fn numbers_of(alloc: Global, variables: &[Variable], needs_all: bool) -> Result<Numbers, AllocError>
     requires { size_of variables.now ≤ BINDING_LIMIT }
-    ensures all_rising { IfOk result (λ n. IsRising 0 (size_of variables.now) n.all.items) }
-    ensures held_rising { IfOk result (λ n. IsRising 0 (size_of variables.now) n.held.items) }
+    ensures all_rising { IfOk result (λ n. AscendsWithin 0 (size_of variables.now) n.all.items) }
+    ensures held_rising { IfOk result (λ n. AscendsWithin 0 (size_of variables.now) n.held.items) }
     ensures all { IfOk result (λ n. needs_all ≡ true → (c : ℕ) → has n.all.items c ≡ counts variables.now c) }
-    ensures held { IfOk result (λ n. (c : ℕ) → has n.held.items c ≡ (counts variables.now c && holds variables.now c)) }
+    ensures held { IfOk result (λ n. (c : ℕ) → has n.held.items c ≡ (counts variables.now c && holds_written variables.now c)) }
 {
     let Some((first, later)) = variables.split_first() else {
         return number_of_none(alloc);
@@ -90,8 +90,8 @@ fn all_if(
     all: &[u32],
 ) -> Result<Vec<u32>, AllocError>
     requires size { variable.now.capacity * width ≤ BINDING_LIMIT }
-    requires all { IsRising 0 width all.now }
-    ensures rising { IfOk result (λ r. IsRising 0 (variable.now.capacity * width) r.items) }
+    requires all { AscendsWithin 0 width all.now }
+    ensures rising { IfOk result (λ r. AscendsWithin 0 (variable.now.capacity * width) r.items) }
     ensures has { IfOk result (λ r. needs_all ≡ true → (p d : ℕ) → d < width → has r.items (p * width + d)
         ≡ (nat_lt p variable.now.count && has all.now d)) }
 {
@@ -111,9 +111,9 @@ fn spread(
     held: &[u32],
 ) -> Result<Vec<u32>, AllocError>
     requires size { variable.now.capacity * width ≤ BINDING_LIMIT }
-    requires all { IsRising 0 width all.now }
-    requires held { IsRising 0 width held.now }
-    ensures rising { IfOk result (λ r. IsRising 0 (variable.now.capacity * width) r.items) }
+    requires all { AscendsWithin 0 width all.now }
+    requires held { AscendsWithin 0 width held.now }
+    ensures rising { IfOk result (λ r. AscendsWithin 0 (variable.now.capacity * width) r.items) }
     ensures has { IfOk result (λ r. (p d : ℕ) → d < width → has r.items (p * width + d)
         ≡ (nat_lt p variable.now.count && (if p == variable.now.own then has all.now d else has held.now d))) }
 {
@@ -132,8 +132,8 @@ fn at_own_place(
     all: &[u32],
 ) -> Result<Vec<u32>, AllocError>
     requires size { variable.now.capacity * width ≤ BINDING_LIMIT }
-    requires all { IsRising 0 width all.now }
-    ensures rising { IfOk result (λ r. IsRising 0 (variable.now.capacity * width) r.items) }
+    requires all { AscendsWithin 0 width all.now }
+    ensures rising { IfOk result (λ r. AscendsWithin 0 (variable.now.capacity * width) r.items) }
     ensures has { IfOk result (λ r. (p d : ℕ) → d < width → has r.items (p * width + d)
         ≡ (nat_lt p variable.now.count && (if p == variable.now.own then has all.now d else false))) }
 {
@@ -155,9 +155,9 @@ fn at_each_place(
     held: &[u32],
 ) -> Result<Vec<u32>, AllocError>
     requires size { variable.now.capacity * width ≤ BINDING_LIMIT }
-    requires all { IsRising 0 width all.now }
-    requires held { IsRising 0 width held.now }
-    ensures rising { IfOk result (λ r. IsRising 0 (variable.now.capacity * width) r.items) }
+    requires all { AscendsWithin 0 width all.now }
+    requires held { AscendsWithin 0 width held.now }
+    ensures rising { IfOk result (λ r. AscendsWithin 0 (variable.now.capacity * width) r.items) }
     ensures has { IfOk result (λ r. (p d : ℕ) → d < width → has r.items (p * width + d)
         ≡ (nat_lt p variable.now.count && (if p == variable.now.own then has all.now d else has held.now d))) }
 {

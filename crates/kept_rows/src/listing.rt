@@ -3,7 +3,7 @@ ghost use Rattle.std.specs.Prelude.{◌≡◌, ◌<◌, ◌≤◌, ◌+◌, ◌*
 ghost use Rattle.std.specs.List.{list_any};
 ghost use Rattle.tick_set.specs.Runs.{pairs};
 ghost use Rattle.tick_set.specs.Ticks.{within};
-ghost use Rattle.kept_rows.specs.Listing.{HaveNone, line_of, lines_upto, some_row, times, with_runs};
+ghost use Rattle.kept_rows.specs.Listing.{HaveNone, line_of, lines_upto, some_row, target_has, with_runs};
 ghost use Rattle.kept_rows.specs.Rows.{row_has};
 
 use crate::binding::Targets;
@@ -64,7 +64,7 @@ pub fn answer<S: TickSet>(
     window: Window,
 ) -> Result<Vec<Line>, AllocError>
     ensures { IfOk result (λ lines. lines.items
-        ≡ lines_upto (line_of (times (row_has S.member kept.now) targets.width) window.lo window.hi) targets.count) }
+        ≡ lines_upto (line_of (target_has (row_has S.member kept.now) targets.width) window.lo window.hi) targets.count) }
 {
     let mut lines = Vec::new(alloc);
     let mut target = 0;
@@ -88,7 +88,7 @@ fn line_at<S: TickSet>(
     requires below { first < targets.count * targets.width }
     requires before { HaveNone (row_has S.member kept.now) (first / targets.width * targets.width) first }
     ensures { IfOk result (λ line. option_to_list line
-        ≡ option_to_list (line_of (times (row_has S.member kept.now) targets.width) window.lo window.hi (first / targets.width))) }
+        ≡ option_to_list (line_of (target_has (row_has S.member kept.now) targets.width) window.lo window.hi (first / targets.width))) }
 {
     let target = first / targets.width;
     let end = target * targets.width + targets.width;

@@ -4,10 +4,10 @@ ghost use Rattle.std.specs.List.{list_any};
 ghost use Rattle.std.specs.Option.{option_copied};
 ghost use Rattle.tick_set.specs.Runs.{pairs};
 ghost use Rattle.tick_set.specs.Ticks.{within};
-ghost use Rattle.kept_rows.specs.Changes.{AreRising, after};
-ghost use Rattle.kept_rows.specs.Listing.{lines_upto, some_row, times};
+ghost use Rattle.kept_rows.specs.Changes.{AreRising, rows_after};
+ghost use Rattle.kept_rows.specs.Listing.{lines_upto, some_row, target_has};
 ghost use Rattle.kept_rows.specs.Moves.{if_moved, is_in, move_between, move_of, others};
-ghost use Rattle.kept_rows.specs.Rising.{IsRising};
+ghost use Rattle.kept_rows.specs.Rising.{AscendsWithin};
 ghost use Rattle.kept_rows.specs.Rows.{row_has};
 ghost use Rattle.kept_rows.specs.Slots.{AreIn, IsNextAt};
 
@@ -104,8 +104,8 @@ pub fn moves<S: Turning>(
 ) -> Result<Vec<Move>, AllocError>
     requires { AreRising (targets.count * targets.width) changes.now }
     ensures { IfOk result (λ moves. moves.items
-        ≡ lines_upto (move_of (times (row_has S.member kept.now) targets.width)
-        (times (after S.member changes.now (row_has S.member kept.now)) targets.width) window.lo window.hi now) targets.count) }
+        ≡ lines_upto (move_of (target_has (row_has S.member kept.now) targets.width)
+        (target_has (rows_after S.member changes.now (row_has S.member kept.now)) targets.width) window.lo window.hi now) targets.count) }
 {
     let mut moves = Vec::new(alloc);
     let mut target = 0;
@@ -158,10 +158,10 @@ fn move_at<S: Turning>(
     now: u32,
 ) -> Result<Option<Move>, AllocError>
     requires target { target < targets.count }
-    requires group { IsRising (target * targets.width) (target * targets.width + targets.width) (map (λ change. change.number) group.now) }
+    requires group { AscendsWithin (target * targets.width) (target * targets.width + targets.width) (map (λ change. change.number) group.now) }
     ensures { IfOk result (λ line. option_to_list line ≡ option_to_list
-        (move_of (times (row_has S.member kept.now) targets.width)
-        (times (after S.member group.now (row_has S.member kept.now)) targets.width) window.lo window.hi now target)) }
+        (move_of (target_has (row_has S.member kept.now) targets.width)
+        (target_has (rows_after S.member group.now (row_has S.member kept.now)) targets.width) window.lo window.hi now target)) }
 {
     let from = target * targets.width;
     let to = from + targets.width;

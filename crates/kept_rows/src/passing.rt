@@ -1,9 +1,9 @@
 //! Targets that enter or leave as time passes.
 ghost use Rattle.std.specs.Prelude.{◌≡◌, ◌<◌, ◌≤◌, ◌+◌, ◌*◌, ◌/◌, ◌&&◌, ◌++◌, ℕ, Bool, [], nat_le, map, option_to_list, IfOk, OnOk, IfSome, IfNone};
 ghost use Rattle.std.specs.Option.{option_map};
-ghost use Rattle.kept_rows.specs.Listing.{lines_upto, passing_of, some_row, stands_at, times, when_differ};
+ghost use Rattle.kept_rows.specs.Listing.{lines_upto, passing_of, some_row, target_has, target_stands_at, when_differ};
 ghost use Rattle.kept_rows.specs.Rows.{row_has};
-ghost use Rattle.kept_rows.specs.Turning.{AreAlike, IsNextTurn};
+ghost use Rattle.kept_rows.specs.Turning.{AgreeBetween, IsNextDiffering};
 
 use crate::binding::Targets;
 use crate::listing::push_some;
@@ -58,7 +58,7 @@ pub fn passed<S: Turning>(
     now: u32,
 ) -> Result<Vec<Passing>, AllocError>
     ensures { IfOk result (λ passings. passings.items
-        ≡ lines_upto (passing_of (times (row_has S.member kept.now) targets.width) expiry before now) targets.count) }
+        ≡ lines_upto (passing_of (target_has (row_has S.member kept.now) targets.width) expiry before now) targets.count) }
 {
     let mut passings = Vec::new(alloc);
     let mut target = 0;
@@ -87,9 +87,9 @@ fn next_passing<S: Turning>(
     before: u32,
     now: u32,
 ) -> Option<u32>
-    ensures some { IfSome result (IsNextTurn (λ c. nat_le before expiry && row_has S.member kept.now c before)
+    ensures some { IfSome result (IsNextDiffering (λ c. nat_le before expiry && row_has S.member kept.now c before)
         (λ c. nat_le now expiry && row_has S.member kept.now c now) from to) }
-    ensures none { IfNone result (AreAlike (λ c. nat_le before expiry && row_has S.member kept.now c before)
+    ensures none { IfNone result (AgreeBetween (λ c. nat_le before expiry && row_has S.member kept.now c before)
         (λ c. nat_le now expiry && row_has S.member kept.now c now) from to) }
 {
     match (before <= expiry, now <= expiry) {
@@ -110,7 +110,7 @@ fn passing_at<S: Turning>(
 ) -> Option<Passing>
     requires { first < targets.count * targets.width }
     ensures { option_to_list result
-        ≡ option_to_list (passing_of (times (row_has S.member kept.now) targets.width) expiry before now (first / targets.width)) }
+        ≡ option_to_list (passing_of (target_has (row_has S.member kept.now) targets.width) expiry before now (first / targets.width)) }
 {
     let target = first / targets.width;
     let stood = stands(kept, targets, target, expiry, before);
@@ -140,7 +140,7 @@ fn stands<S: Turning>(
     tick: u32,
 ) -> bool
     requires { target < targets.count }
-    ensures { result ≡ stands_at (times (row_has S.member kept.now) targets.width) expiry target tick }
+    ensures { result ≡ target_stands_at (target_has (row_has S.member kept.now) targets.width) expiry target tick }
 {
     let from = target * targets.width;
     tick <= expiry && has_row_at(kept, from, from + targets.width, tick)

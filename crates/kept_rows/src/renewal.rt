@@ -1,9 +1,9 @@
 //! Rows judged anew.
 ghost use Rattle.std.specs.Prelude.{◌≡◌, ◌<◌, ◌≤◌, ◌+◌, ◌*◌, ◌&&◌, ◌∷◌, ℕ, Bool, [], false, nat_le, length, if◌then◌else◌, IfOk, OnOk};
 ghost use Rattle.tick_set.specs.TickList.{has};
-ghost use Rattle.kept_rows.specs.Changes.{AreReady, AreRising, DoDiffer, after};
-ghost use Rattle.kept_rows.specs.Numbers.{counts, holds, size_of};
-ghost use Rattle.kept_rows.specs.Rising.{IsRising};
+ghost use Rattle.kept_rows.specs.Changes.{AreReady, AreRising, DoDiffer, rows_after};
+ghost use Rattle.kept_rows.specs.Numbers.{counts, holds_written, size_of};
+ghost use Rattle.kept_rows.specs.Rising.{AscendsWithin};
 ghost use Rattle.kept_rows.specs.Rows.{HasRoom, row_has};
 
 use crate::binding::{BINDING_LIMIT, Variable};
@@ -37,8 +37,8 @@ pub fn refresh<S: TickSet, J: Judge<S>>(
     ensures ready { IfOk result (λ f. AreReady S.member kept.now f) }
     ensures rising { IfOk result (λ f. AreRising (size_of variables.now) f) }
     ensures differ { IfOk result (λ f. DoDiffer S.member kept.now f) }
-    ensures rows { IfOk result (λ f. (c t : ℕ) → after S.member f (row_has S.member kept.now) c t
-        ≡ (if (counts variables.now c && holds variables.now c) && nat_le from t then J.full judge.now c t else row_has S.member kept.now c t)) }
+    ensures rows { IfOk result (λ f. (c t : ℕ) → rows_after S.member f (row_has S.member kept.now) c t
+        ≡ (if (counts variables.now c && holds_written variables.now c) && nat_le from t then J.full judge.now c t else row_has S.member kept.now c t)) }
 {
     if let Some((only, later)) = variables.split_first() {
         if later.is_empty() {
@@ -61,8 +61,8 @@ fn refresh_one<S: TickSet, J: Judge<S>>(
     ensures ready { IfOk result (λ f. AreReady S.member kept.now f) }
     ensures rising { IfOk result (λ f. AreRising (size_of (variable.now ∷ [])) f) }
     ensures differ { IfOk result (λ f. DoDiffer S.member kept.now f) }
-    ensures rows { IfOk result (λ f. (c t : ℕ) → after S.member f (row_has S.member kept.now) c t
-        ≡ (if (counts (variable.now ∷ []) c && holds (variable.now ∷ []) c) && nat_le from t then J.full judge.now c t else row_has S.member kept.now c t)) }
+    ensures rows { IfOk result (λ f. (c t : ℕ) → rows_after S.member f (row_has S.member kept.now) c t
+        ≡ (if (counts (variable.now ∷ []) c && holds_written (variable.now ∷ []) c) && nat_le from t then J.full judge.now c t else row_has S.member kept.now c t)) }
 {
     let mut changes = Changes::new(alloc);
     let own = variable.own;
@@ -81,11 +81,11 @@ fn judged<S: TickSet, J: Judge<S>>(
     judge: &J,
     from: u32,
 ) -> Result<Changes<S>, AllocError>
-    requires { IsRising 0 (length kept.now * 16) numbers.now }
+    requires { AscendsWithin 0 (length kept.now * 16) numbers.now }
     ensures ready { IfOk result (λ f. AreReady S.member kept.now f) }
-    ensures rising { IfOk result (λ f. (to : ℕ) → IsRising 0 to numbers.now → AreRising to f) }
+    ensures rising { IfOk result (λ f. (to : ℕ) → AscendsWithin 0 to numbers.now → AreRising to f) }
     ensures differ { IfOk result (λ f. DoDiffer S.member kept.now f) }
-    ensures rows { IfOk result (λ f. (c t : ℕ) → after S.member f (row_has S.member kept.now) c t
+    ensures rows { IfOk result (λ f. (c t : ℕ) → rows_after S.member f (row_has S.member kept.now) c t
         ≡ (if has numbers.now c && nat_le from t then J.full judge.now c t else row_has S.member kept.now c t)) }
 {
     let mut changes = Changes::new(alloc);

@@ -4,7 +4,7 @@ ghost use Rattle.std.specs.Option.{SomeIff};
 ghost use Rattle.kept_rows.specs.Listing.{HaveNone, IsNext};
 ghost use Rattle.kept_rows.specs.Rows.{HasRoom, is_made, is_whole, page_has, row_has};
 ghost use Rattle.kept_rows.specs.Slots.{HaveNoneAt, IsNextAt};
-ghost use Rattle.kept_rows.specs.Turning.{AreAlike, IsNextTurn};
+ghost use Rattle.kept_rows.specs.Turning.{AgreeBetween, IsNextDiffering};
 
 use crate::change::spare_page;
 use crate::filled::Filled;
@@ -41,7 +41,7 @@ impl<S: TickSet> Model for KeptRows<S> {
     ghost use Rattle.kept_rows.specs.Flags.{AreFlagged};
     ghost use Rattle.kept_rows.specs.Rows.{row_has};
     ghost use Rattle.kept_rows.specs.Slots.{AreMarked};
-    ghost use Rattle.kept_rows.specs.Turning.{AreSteady};
+    ghost use Rattle.kept_rows.specs.Turning.{AreSteadyToEnds};
 
     ghost Value = { List (List S) };
 
@@ -49,7 +49,7 @@ impl<S: TickSet> Model for KeptRows<S> {
 
     ghost invariant = { λ a. ((t : ℕ) → S.member a.nothing t ≡ false)
         × (length a.turns.pages.items ≡ length a.pages.items)
-        × AreSteady (row_has S.member a.pages.items) a.turns
+        × AreSteadyToEnds (row_has S.member a.pages.items) a.turns
         × AreFilled (row_has S.member a.pages.items) a.filled
         × AreMarked (row_has S.member a.pages.items) a.marks
         × AreFlagged (row_has S.member a.pages.items) a.flags };
@@ -139,8 +139,8 @@ impl<S: Turning> KeptRows<S> {
     /// tick `before`: what stands before it is the same. It passes over pages that [`KeptRows::advance`] found to
     /// stay as they are.
     pub fn next_turning(&self, from: u32, to: u32, before: u32, now: u32) -> Option<u32>
-        ensures some { IfSome result (IsNextTurn (λ c. row_has S.member self.now c before) (λ c. row_has S.member self.now c now) from to) }
-        ensures none { IfNone result (AreAlike (λ c. row_has S.member self.now c before) (λ c. row_has S.member self.now c now) from to) }
+        ensures some { IfSome result (IsNextDiffering (λ c. row_has S.member self.now c before) (λ c. row_has S.member self.now c now) from to) }
+        ensures none { IfNone result (AgreeBetween (λ c. row_has S.member self.now c before) (λ c. row_has S.member self.now c now) from to) }
     {
         if before < self.turns.seen || now < before {
             return self.next(from, to);

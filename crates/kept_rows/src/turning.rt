@@ -2,7 +2,7 @@
 ghost use Rattle.std.specs.Prelude.{◌≡◌, ◌<◌, ◌≤◌, ℕ};
 ghost use Rattle.kept_rows.specs.Slots.{AreIn};
 ghost use Rattle.tick_set.specs.Runs.{IsNormal, spans_have};
-ghost use Rattle.kept_rows.specs.Turning.{AreFrom, IsSteady};
+ghost use Rattle.kept_rows.specs.Turning.{AreSpansFrom, IsSteady};
 
 use crate::slots::Slots;
 use interval_set::IntervalSet;
@@ -46,7 +46,7 @@ fn first_turn(spans: &[Span], t: u32) -> u32
 // The spans without those that end before the tick, by a binary search.
 fn from_tick(spans: &[Span], t: u32) -> &[Span]
     requires { IsNormal spans.now }
-    ensures { AreFrom t spans.now result.now }
+    ensures { AreSpansFrom t spans.now result.now }
 {
     match spans.binary_search_by_key(&t, |s| s.hi) {
         Ok(at) => spans.split_at(at).1,

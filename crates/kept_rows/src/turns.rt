@@ -1,7 +1,7 @@
 //! Until when rows stay as they are.
 ghost use Rattle.std.specs.Prelude.{◌≡◌, ◌<◌, ◌≤◌, ◌+◌, ◌*◌, ◌/◌, ◌^◌, ◌==◌, ℕ, Bool, length, slice_index_or, if◌then◌else◌, IfOk, IfSome, IfNone};
 ghost use Rattle.kept_rows.specs.Rows.{row_has};
-ghost use Rattle.kept_rows.specs.Turning.{AreSteady, AreSteadyIn, HaveEnds, IsSteady};
+ghost use Rattle.kept_rows.specs.Turning.{AreSteadyIn, AreSteadyToEnds, HaveEnds, IsSteady};
 
 use crate::page::{PAGE, Page};
 use crate::turning::Turning;
@@ -41,7 +41,7 @@ impl Turns {
         to: u32,
         now: u32,
     ) -> Option<u32>
-        requires { AreSteady (row_has S.member pages.now) self.now }
+        requires { AreSteadyToEnds (row_has S.member pages.now) self.now }
         ensures least { IfSome result (λ number. from ≤ number) }
         ensures below { IfSome result (λ number. number < to) }
         ensures some { IfSome result (AreSteadyIn (row_has S.member pages.now) self.now.seen now from) }
@@ -63,7 +63,7 @@ impl Turns {
     #[inline]
     fn steady_end<S: Turning>(&self, pages: &[Page<S>], number: usize, now: u32) -> usize
         requires small { number < 2 ^ 32 }
-        requires steady { AreSteady (row_has S.member pages.now) self.now }
+        requires steady { AreSteadyToEnds (row_has S.member pages.now) self.now }
         ensures least { number ≤ result }
         ensures most { result ≤ 2 ^ 33 }
         ensures steady { AreSteadyIn (row_has S.member pages.now) self.now.seen now number result }
@@ -85,8 +85,8 @@ impl Turns {
     pub(crate) fn lower(&mut self, number: u32, end: u32)
         ensures seen { self.new.seen ≡ self.old.seen }
         ensures pages { length self.new.pages.items ≡ length self.old.pages.items }
-        ensures steady { (rows : ℕ → ℕ → Bool) (ticks : ℕ → Bool) → AreSteady rows self.old → IsSteady ticks self.old.seen end
-            → AreSteady (λ c t. if c == number then ticks t else rows c t) self.new }
+        ensures steady { (rows : ℕ → ℕ → Bool) (ticks : ℕ → Bool) → AreSteadyToEnds rows self.old → IsSteady ticks self.old.seen end
+            → AreSteadyToEnds (λ c t. if c == number then ticks t else rows c t) self.new }
     {
         let page = number as usize / PAGE;
         lower_at(&mut self.pages, page, end);
@@ -97,9 +97,9 @@ impl Turns {
     /// was seen. It looks only into pages that turn by then.
     pub(crate) fn renew<S: Turning>(&mut self, pages: &[Page<S>], now: u32)
         requires pages { length self.old.pages.items ≡ length pages.now }
-        requires steady { AreSteady (row_has S.member pages.now) self.old }
+        requires steady { AreSteadyToEnds (row_has S.member pages.now) self.old }
         ensures pages { length self.new.pages.items ≡ length self.old.pages.items }
-        ensures steady { AreSteady (row_has S.member pages.now) self.new }
+        ensures steady { AreSteadyToEnds (row_has S.member pages.now) self.new }
     {
         if now <= self.seen {
             return;
@@ -111,9 +111,9 @@ impl Turns {
     // Tells anew until when the groups stay as they are that don't from the tick that was seen on.
     fn renew_groups<S: Turning>(&mut self, pages: &[Page<S>])
         requires pages { length self.old.pages.items ≡ length pages.now }
-        requires steady { AreSteady (row_has S.member pages.now) self.old }
+        requires steady { AreSteadyToEnds (row_has S.member pages.now) self.old }
         ensures pages { length self.new.pages.items ≡ length self.old.pages.items }
-        ensures steady { AreSteady (row_has S.member pages.now) self.new }
+        ensures steady { AreSteadyToEnds (row_has S.member pages.now) self.new }
     {
         let count = self.groups.len().min(self.pages.len() / GROUP + 1);
         let mut group = 0;
@@ -128,10 +128,10 @@ impl Turns {
         requires there { group < length self.old.groups.items }
         requires within { group * 64 ≤ length self.old.pages.items }
         requires pages { length self.old.pages.items ≡ length pages.now }
-        requires steady { AreSteady (row_has S.member pages.now) self.old }
+        requires steady { AreSteadyToEnds (row_has S.member pages.now) self.old }
         ensures pages { length self.new.pages.items ≡ length self.old.pages.items }
         ensures groups { length self.new.groups.items ≡ length self.old.groups.items }
-        ensures steady { AreSteady (row_has S.member pages.now) self.new }
+        ensures steady { AreSteadyToEnds (row_has S.member pages.now) self.new }
     {
         if self.groups[group] > self.seen {
             return;

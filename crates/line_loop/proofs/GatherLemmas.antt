@@ -3,9 +3,9 @@ use Rattle.std.proofs.Common.{◌≡◌, ℕ, ◌+◌, ◌≤◌, Bool, List, []
 use Rattle.std.proofs.Math.Seq.{take-append-add, take-append_seam}
 use Rattle.outside.specs.Sink.{Grows}
 use Rattle.outside.specs.declared.fault.OutFail.TheVariants.{Failed, NoMemory as MemoryFailed}
-use Rattle.line_loop.specs.Kept.{IsLonger, IsKept}
+use Rattle.line_loop.specs.Kept.{IsLonger, IsKeptLine}
 use Rattle.line_loop.specs.Machine.{Machine, Failures, StepsAlike, after, replies}
-use Rattle.line_loop.specs.Stop.{Point, IsAt, reach, Stops, StopsAtWrite, StopsAtContext, StopsForMemory, LacksMemory, Takes, WritesPart}
+use Rattle.line_loop.specs.Stop.{Point, IsAt, point_after, Stops, StopsAtWrite, StopsAtContext, StopsForMemory, IsLeftForMemory, Takes, WritesPart}
 use Rattle.line_loop.specs.Gathered.{Gathers, SendStops, Sends}
 use Rattle.line_loop.specs.declared.stop.Stop.{Stop}
 use Rattle.line_loop.specs.declared.stop.Stop.TheVariants.{Write, Context, NoMemory}
@@ -15,7 +15,7 @@ use Rattle.line_loop.proofs.StopLemmas.{Stops-more}
 module _ {T : Type 0} (m : Machine T) (leaves : Failures T) where
   pub alike_kept : (longest : Option ℕ) (kept line : List ℕ) →
       ((a b : List ℕ) → IsLonger longest a → IsLonger longest b → StepsAlike m leaves a b) →
-      IsKept longest kept line → StepsAlike m leaves kept line
+      IsKeptLine longest kept line → StepsAlike m leaves kept line
   alike_kept longest kept line long_lines (inl is) = record {
     next = λ state. ap (m.next state) is;
     reply = λ state. ap (m.reply state) is;
@@ -32,7 +32,7 @@ module _ {T : Type 0} (m : Machine T) (leaves : Failures T) where
   none_waits true most gathered zero few never = no_bytes gathered (subst (λ n. length gathered ≤ n) (zero refl) few)
   none_waits false most gathered zero few never = absurd (never refl)
 
-  pub lacks_nothing : (now : T) (lines : List (List ℕ)) (state : Option T) → state ≡ Some now → LacksMemory m leaves now lines state
+  pub lacks_nothing : (now : T) (lines : List (List ℕ)) (state : Option T) → state ≡ Some now → IsLeftForMemory m leaves now lines state
   lacks_nothing now [] state is = is
   lacks_nothing now (line ∷ lines) state is = inl is
 
@@ -52,7 +52,7 @@ module _ {T : Type 0} (m : Machine T) (leaves : Failures T) where
     now = after m start.state before
 
     -- nothing waits
-    pub all_sent : gathered ≡ [] → IsAt (reach m start before) state written
+    pub all_sent : gathered ≡ [] → IsAt (point_after m start before) state written
     all_sent none = record {
       in_state = h.in_state;
       has_written = h.has_written ∙ ap (λ r. Some (start.written ++ r)) (sym (h.whole ∙ ap (λ r. h.sent ++ r) none ∙ append-nil h.sent));
@@ -108,7 +108,7 @@ module _ {T : Type 0} (m : Machine T) (leaves : Failures T) where
     front_is more = ap (take (length h.sent)) (replies-append m start.state before more ∙ ap (λ r. r ++ replies m now more) h.whole
         ∙ append_assoc h.sent gathered (replies m now more)) ∙ take-append_seam h.sent (gathered ++ replies m now more)
 
-    stops_for_memory : (more : List (List ℕ)) (new : Option T) → LacksMemory m leaves now more new → StopsForMemory m leaves start (before ++ more) new written
+    stops_for_memory : (more : List (List ℕ)) (new : Option T) → IsLeftForMemory m leaves now more new → StopsForMemory m leaves start (before ++ more) new written
     stops_for_memory more new lacking = record {
       earlier = before;
       later = more;

@@ -6,7 +6,7 @@ use Rattle.std.proofs.Math.Seq.{take-append-add, take-add, take-nil}
 use Rattle.std.specs.List.{position_or_len}
 use Rattle.std.specs.Str.Lines.{strip_carriage_return}
 use Rattle.line_loop.specs.Lines.{ended_from, open_from, last_line}
-use Rattle.line_loop.specs.Kept.{IsKept, kept_part}
+use Rattle.line_loop.specs.Kept.{IsKeptLine, kept_part}
 
 le_or_lt : (a b : ℕ) → (a ≤ b) ⊎ (b < a)
 le_or_lt a b = elim (leb a b) as (λ t. leb a b ≡ t → (a ≤ b) ⊎ (b < a)) [ true ↦ λ e. inl (grind (arith, e)) | false ↦ λ e. inr (grind (arith, e)) ] refl
@@ -72,7 +72,7 @@ ended_from-first begun (x ∷ xs) h =
 length-strip : (line : List ℕ) → length line ≤ length (strip_carriage_return line) + 1
 length-strip line = grind (arith, common_steps)
 
-pub kept_ended : (longest : Option ℕ) (line : List ℕ) → IsKept longest (strip_carriage_return (kept_part longest line)) (strip_carriage_return line)
+pub kept_ended : (longest : Option ℕ) (line : List ℕ) → IsKeptLine longest (strip_carriage_return (kept_part longest line)) (strip_carriage_return line)
 kept_ended None line = inl refl
 kept_ended (Some longest) line =
     elim (le_or_lt (length line) (longest + 2)) [
@@ -80,7 +80,7 @@ kept_ended (Some longest) line =
       | inr lt ↦ inr (omega (arith, length-strip line, length-strip (take (longest + 2) line), length-take (longest + 2) line), omega (arith, length-strip line))
     ]
 
-pub kept_unended : (longest : Option ℕ) (line : List ℕ) → IsKept longest (kept_part longest line) line
+pub kept_unended : (longest : Option ℕ) (line : List ℕ) → IsKeptLine longest (kept_part longest line) line
 kept_unended None line = inl refl
 kept_unended (Some longest) line =
     elim (le_or_lt (length line) (longest + 2)) [
@@ -129,9 +129,9 @@ grown written bytes at n le =
 
 -- the line whose last bytes came, of which a part was kept before
 pub kept_line : (longest : Option ℕ) (old end begun whole : List ℕ) → old ≡ kept_part longest begun → whole ≡ strip_carriage_return (kept_part longest (old ++ end)) →
-    IsKept longest whole (strip_carriage_return (begun ++ end))
+    IsKeptLine longest whole (strip_carriage_return (begun ++ end))
 kept_line longest old end begun whole part is =
-    subst (λ w. IsKept longest w (strip_carriage_return (begun ++ end)))
+    subst (λ w. IsKeptLine longest w (strip_carriage_return (begun ++ end)))
     (sym (is ∙ ap strip_carriage_return (ap (λ l. kept_part longest (l ++ end)) part ∙ kept_more longest begun end)))
     (kept_ended longest (begun ++ end))
 

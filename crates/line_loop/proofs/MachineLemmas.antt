@@ -2,7 +2,7 @@
 use Rattle.std.proofs.Common.{◌≡◌, ℕ, List, [], ◌∷◌, ◌++◌, ◌∙◌, ap, sym, refl, append_assoc, if◌then◌else◌, true, false, arith}
 use Rattle.std.proofs.lemmas.Grind.{common_steps}
 use Rattle.line_loop.specs.Machine.{Machine, after, replies}
-use Rattle.line_loop.specs.Stop.{Point, reach}
+use Rattle.line_loop.specs.Stop.{Point, point_after}
 
 module _ {T : Type 0} (m : Machine T) where
   pub after-done : (s : T) (lines : List (List ℕ)) → m.done s ≡ true → after m s lines ≡ s
@@ -28,14 +28,14 @@ module _ {T : Type 0} (m : Machine T) where
         | false ↦ λ d. ap (λ r. m.reply s x ++ r) (replies-append (m.next s x) xs ys) ∙ sym (append_assoc (m.reply s x) (replies m (m.next s x) xs) (replies m (after m (m.next s x) xs) ys))
       ] refl
 
-  pub reach-append : (p : Point T) (xs ys : List (List ℕ)) → reach m p (xs ++ ys) ≡ reach m (reach m p xs) ys
+  pub reach-append : (p : Point T) (xs ys : List (List ℕ)) → point_after m p (xs ++ ys) ≡ point_after m (point_after m p xs) ys
   reach-append p xs ys = λ i. record {
     state = after-append p.state xs ys i;
     written = (ap (λ r. p.written ++ r) (replies-append p.state xs ys) ∙ sym (append_assoc p.written (replies m p.state xs) (replies m (after m p.state xs) ys))) i;
   }
 
-  pub reach-none : (p : Point T) → reach m p [] ≡ p
+  pub reach-none : (p : Point T) → point_after m p [] ≡ p
   reach-none p = grind (arith, common_steps)
 
-  pub reach-done : (p : Point T) (lines : List (List ℕ)) → m.done p.state ≡ true → reach m p lines ≡ p
+  pub reach-done : (p : Point T) (lines : List (List ℕ)) → m.done p.state ≡ true → point_after m p lines ≡ p
   reach-done p lines d = grind (arith, common_steps, after-done p.state lines d, replies-done p.state lines d)

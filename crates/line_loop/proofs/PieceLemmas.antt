@@ -5,7 +5,7 @@ use Rattle.std.proofs.lemmas.List.{take-append-drop, length-drop}
 use Rattle.std.proofs.Math.Seq.{take-add}
 use Rattle.std.specs.List.{position, position_or_len}
 use Rattle.std.specs.Str.Lines.{strip_carriage_return}
-use Rattle.line_loop.specs.Lines.{ended_from, open_from, line_feed}
+use Rattle.line_loop.specs.Lines.{ended_from, open_from, line_feed_byte}
 use Rattle.line_loop.proofs.LinesLemmas.{ended_from-append, open_from-append, ended_from-first, open_from-first, ended_from-none, open_from-none}
 
 position-within : (xs : List ℕ) (i : ℕ) → position (λ b. b == 10) xs ≡ Some i → (i ≡ position_or_len (λ b. b == 10) xs) × (i < length xs)
@@ -15,7 +15,7 @@ position-none : (xs : List ℕ) → position (λ b. b == 10) xs ≡ None → len
 position-none xs e = grind (arith, common_steps)
 
 module _ (begun piece rest : List ℕ) (at : ℕ) (within : at ≤ length piece) (is : rest ≡ drop at piece) where
-  module _ (len : ℕ) (found : position (λ b. b == line_feed) rest ≡ Some len) where
+  module _ (len : ℕ) (found : position (λ b. b == line_feed_byte) rest ≡ Some len) where
     pub next-within : at + (len + 1) ≤ length piece
     next-within = omega (arith, (position-within rest len found).1, ap length is, length-drop at piece)
 
@@ -46,7 +46,7 @@ module _ (begun piece rest : List ℕ) (at : ℕ) (within : at ≤ length piece)
         ∙ ended_from-append begun (take (at + (len + 1)) piece) (drop (at + (len + 1)) piece)
         ∙ ap (λ ls. ls ++ ended_from (open_from begun (take (at + (len + 1)) piece)) (drop (at + (len + 1)) piece)) next-ended
 
-  module _ (none : position (λ b. b == line_feed) rest ≡ None) where
+  module _ (none : position (λ b. b == line_feed_byte) rest ≡ None) where
     all : piece ≡ take at piece ++ rest
     all = sym (take-append-drop at piece) ∙ ap (λ r. take at piece ++ r) (sym is)
 

@@ -3,11 +3,11 @@ use Rattle.std.proofs.Common.{◌≡◌, ℕ, ◌+◌, ◌<◌, ◌≤◌, ◌-�
 use Rattle.std.proofs.lemmas.Grind.{common_steps}
 use Rattle.std.proofs.lemmas.List.{take-append-drop, take-append-le, take-take, take_all, drop-drop, length-drop, length-take}
 use Rattle.std.proofs.Math.Seq.{take-add}
-use Rattle.line_loop.specs.Lines.{ended_from, open_from, ended_lines, open_line, last_line, lines_of}
+use Rattle.line_loop.specs.Lines.{ended_from, open_from, ended_lines, open_line, last_line, lines_of_input}
 use Rattle.line_loop.specs.Machine.{Machine, Failures, after}
-use Rattle.line_loop.specs.Run.{is_cut, heard}
-use Rattle.line_loop.specs.Stop.{Point, IsAt, reach, Stops, StopsForMemory}
-use Rattle.line_loop.specs.Ending.{HasTaken, StaysWithin, KeepsLimit, IsDone, IsInputLimit, EndsAs, ending_of}
+use Rattle.line_loop.specs.Run.{is_cut_off, answered_lines}
+use Rattle.line_loop.specs.Stop.{Point, IsAt, point_after, Stops, StopsForMemory}
+use Rattle.line_loop.specs.Ending.{HasTaken, StaysWithin, KeepsLimit, IsDone, IsInputLimit, HasEnding, ending_of}
 use Rattle.line_loop.specs.declared.stop.Stop.{Stop}
 use Rattle.line_loop.specs.declared.stop.Stop.TheVariants.{Write, Context, NoMemory}
 use Rattle.line_loop.proofs.LinesLemmas.{ended_from-append, open_from-append}
@@ -36,15 +36,15 @@ open_line-more bytes piece n len is = ap open_line (take-add n len bytes) ∙ op
     ∙ ap (open_from (open_line (take n bytes))) (sym is)
 
 module _ {T : Type 0} (m : Machine T) (leaves : Failures T) (limit : ℕ) (start : Point T) (bytes : List ℕ) where
-  heard-cut : is_cut m limit start.state bytes ≡ true → heard m limit start.state bytes ≡ ended_lines (take limit bytes)
+  heard-cut : is_cut_off m limit start.state bytes ≡ true → answered_lines m limit start.state bytes ≡ ended_lines (take limit bytes)
   heard-cut e = rw e
 
-  heard-whole : is_cut m limit start.state bytes ≡ false → heard m limit start.state bytes ≡ lines_of bytes
+  heard-whole : is_cut_off m limit start.state bytes ≡ false → answered_lines m limit start.state bytes ≡ lines_of_input bytes
   heard-whole e = rw e
 
   -- the lines of the bytes taken come first among those that are answered
-  pub heard-front : (n : ℕ) → n ≤ limit → (more : List (List ℕ)) × (heard m limit start.state bytes ≡ ended_lines (take n bytes) ++ more)
-  heard-front n le = elim (is_cut m limit start.state bytes) as (λ b. is_cut m limit start.state bytes ≡ b → (more : List (List ℕ)) × (heard m limit start.state bytes ≡ ended_lines (take n bytes) ++ more)) [
+  pub heard-front : (n : ℕ) → n ≤ limit → (more : List (List ℕ)) × (answered_lines m limit start.state bytes ≡ ended_lines (take n bytes) ++ more)
+  heard-front n le = elim (is_cut_off m limit start.state bytes) as (λ b. is_cut_off m limit start.state bytes ≡ b → (more : List (List ℕ)) × (answered_lines m limit start.state bytes ≡ ended_lines (take n bytes) ++ more)) [
     | true ↦ λ e. (ended_from (open_line (take n bytes)) (drop n (take limit bytes)), heard-cut e ∙ ended_lines-within bytes n limit le)
     | false ↦ λ e. (
       ended_from (open_line (take n bytes)) (drop n bytes) ++ last_line (open_line bytes),
@@ -55,7 +55,7 @@ module _ {T : Type 0} (m : Machine T) (leaves : Failures T) (limit : ℕ) (start
 
   -- a failure within the lines of the bytes taken
   pub stops_within : (n : ℕ) → n ≤ limit → (stop : Stop) (state : Option T) (written : Option (List ℕ)) →
-      Stops m leaves start (ended_lines (take n bytes)) stop state written → Stops m leaves start (heard m limit start.state bytes) stop state written
+      Stops m leaves start (ended_lines (take n bytes)) stop state written → Stops m leaves start (answered_lines m limit start.state bytes) stop state written
   stops_within n le stop state written h =
       let front = heard-front n le in
       subst (λ ls. Stops m leaves start ls stop state written) (sym front.1) (Stops-more m leaves start (ended_lines (take n bytes)) front.0 stop state written h)
@@ -63,11 +63,11 @@ module _ {T : Type 0} (m : Machine T) (leaves : Failures T) (limit : ℕ) (start
   -- the machine is done within the bytes taken
   pub done_within : (n : ℕ) → n ≤ limit → m.done (after m start.state (ended_lines (take n bytes))) ≡ true →
       (state : Option T) (written left : Option (List ℕ)) → HasTaken bytes n left →
-      IsAt (reach m start (ended_lines (take n bytes))) state written → IsDone m limit start bytes state written left
+      IsAt (point_after m start (ended_lines (take n bytes))) state written → IsDone m limit start bytes state written left
   done_within n le done state written left taken h =
       let front = heard-front n le in
-      let same : reach m start (heard m limit start.state bytes) ≡ reach m start (ended_lines (take n bytes)) =
-      ap (reach m start) front.1 ∙ reach-append m start (ended_lines (take n bytes)) front.0 ∙ reach-done m (reach m start (ended_lines (take n bytes))) front.0 done in
+      let same : point_after m start (answered_lines m limit start.state bytes) ≡ point_after m start (ended_lines (take n bytes)) =
+      ap (point_after m start) front.1 ∙ reach-append m start (ended_lines (take n bytes)) front.0 ∙ reach-done m (point_after m start (ended_lines (take n bytes))) front.0 done in
       let limit_done : m.done (after m start.state (ended_lines (take limit bytes))) ≡ true =
       ap (λ ls. m.done (after m start.state ls)) (ended_lines-within bytes n limit le)
       ∙ ap m.done (after-append m start.state (ended_lines (take n bytes)) (ended_from (open_line (take n bytes)) (drop n (take limit bytes)))
@@ -83,30 +83,30 @@ module _ {T : Type 0} (m : Machine T) (leaves : Failures T) (limit : ℕ) (start
     all : take n bytes ≡ bytes
     all = take_all n bytes (omega (arith, ap length none, length-drop n bytes))
 
-    fits : is_cut m limit start.state bytes ≡ false
+    fits : is_cut_off m limit start.state bytes ≡ false
     fits =
         let short : ltb limit (length bytes) ≡ false = grind (arith, ap length none, length-drop n bytes) in
         rw short
 
-    pub heard_at_end : heard m limit start.state bytes ≡ ended_lines (take n bytes) ++ last_line (open_line (take n bytes))
+    pub heard_at_end : answered_lines m limit start.state bytes ≡ ended_lines (take n bytes) ++ last_line (open_line (take n bytes))
     heard_at_end = heard-whole fits ∙ ap (λ b. ended_lines b ++ last_line (open_line b)) (sym all)
 
     -- the input has ended: the last line was answered too
     pub done_at_end : (state : Option T) (written left : Option (List ℕ)) → left ≡ Some (drop n bytes) →
-        IsAt (reach m (reach m start (ended_lines (take n bytes))) (last_line (open_line (take n bytes)))) state written →
+        IsAt (point_after m (point_after m start (ended_lines (take n bytes))) (last_line (open_line (take n bytes)))) state written →
         IsDone m limit start bytes state written left
     done_at_end state written left is h = record {
       whole = fits;
       reached = subst (λ p. IsAt p state written)
-          (sym (ap (reach m start) (heard-whole fits) ∙ reach-append m start (ended_lines bytes) (last_line (open_line bytes))
-          ∙ ap (λ b. reach m (reach m start (ended_lines b)) (last_line (open_line b))) (sym all))) h;
+          (sym (ap (point_after m start) (heard-whole fits) ∙ reach-append m start (ended_lines bytes) (last_line (open_line bytes))
+          ∙ ap (λ b. point_after m (point_after m start (ended_lines b)) (last_line (open_line b))) (sym all))) h;
       finished = inl (is ∙ ap Some none);
     }
 
     -- the input has ended: a failure on the last line
     pub stops_at_end : (stop : Stop) (state : Option T) (written : Option (List ℕ)) →
-        Stops m leaves (reach m start (ended_lines (take n bytes))) (last_line (open_line (take n bytes))) stop state written →
-        Stops m leaves start (heard m limit start.state bytes) stop state written
+        Stops m leaves (point_after m start (ended_lines (take n bytes))) (last_line (open_line (take n bytes))) stop state written →
+        Stops m leaves start (answered_lines m limit start.state bytes) stop state written
     stops_at_end stop state written h =
         subst (λ ls. Stops m leaves start ls stop state written) (sym heard_at_end)
         (Stops-after m leaves start (ended_lines (take n bytes)) (last_line (open_line (take n bytes))) stop state written h)
@@ -114,31 +114,31 @@ module _ {T : Type 0} (m : Machine T) (leaves : Failures T) (limit : ℕ) (start
   -- the limit is taken, and there is another byte
   pub ends_at_limit : limit < length bytes → m.done (after m start.state (ended_lines (take limit bytes))) ≡ false →
       (state : Option T) (written left : Option (List ℕ)) → HasTaken bytes (limit + 1) left →
-      IsAt (reach m start (ended_lines (take limit bytes))) state written → IsInputLimit m limit start bytes state written left
+      IsAt (point_after m start (ended_lines (take limit bytes))) state written → IsInputLimit m limit start bytes state written left
   ends_at_limit more going_on state written left taken h =
-      let cut : is_cut m limit start.state bytes ≡ true = grind (arith, common_steps) in
+      let cut : is_cut_off m limit start.state bytes ≡ true = grind (arith, common_steps) in
       record {
         cut = cut;
-        reached = subst (λ ls. IsAt (reach m start ls) state written) (sym (heard-cut cut)) h;
+        reached = subst (λ ls. IsAt (point_after m start ls) state written) (sym (heard-cut cut)) h;
         taken = taken;
       }
 
   -- how a failure ends the run
   pub ends_stopped : (stop : Stop) (state : Option T) (written left : Option (List ℕ)) →
-      Stops m leaves start (heard m limit start.state bytes) stop state written →
-      EndsAs m leaves limit start bytes (ending_of stop) state written left
+      Stops m leaves start (answered_lines m limit start.state bytes) stop state written →
+      HasEnding m leaves limit start bytes (ending_of stop) state written left
   ends_stopped Write state written left h = h
   ends_stopped Context state written left h = h
   ends_stopped NoMemory state written left h = h
 
   -- no memory before the first read
   pub memory_at_start : (state : Option T) (written : Option (List ℕ)) → IsAt start state written →
-      StopsForMemory m leaves start (heard m limit start.state bytes) state written
+      StopsForMemory m leaves start (answered_lines m limit start.state bytes) state written
   memory_at_start state written at = record {
     earlier = [];
-    later = heard m limit start.state bytes;
+    later = answered_lines m limit start.state bytes;
     split = refl;
-    lacking = lacks_nothing m leaves start.state (heard m limit start.state bytes) state at.in_state;
+    lacking = lacks_nothing m leaves start.state (answered_lines m limit start.state bytes) state at.in_state;
     count = 0;
     most = omega arith;
     has_written = at.has_written ∙ ap Some (sym (append-nil start.written));

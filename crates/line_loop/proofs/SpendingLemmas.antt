@@ -1,7 +1,7 @@
 -- What is spent on lines, one after another.
 use Rattle.std.proofs.Common.{◌≡◌, ℕ, ◌+◌, ◌≤◌, ◌==◌, List, [], ◌∷◌, ◌++◌, ◌∙◌, ap, sym, refl, subst, if◌then◌else◌, true, false, inl, inr, Option, Some, length, arith}
 use Rattle.std.proofs.lemmas.Bool.Decides.{nat_tests}
-use Rattle.line_loop.specs.Kept.{IsKept, IsLonger}
+use Rattle.line_loop.specs.Kept.{IsKeptLine, IsLonger}
 use Rattle.line_loop.specs.Machine.{Machine, after}
 use Rattle.line_loop.specs.Spending.{Costs, total_cost}
 use Rattle.line_loop.proofs.MachineLemmas.{after-append}
@@ -35,14 +35,14 @@ module _ {T : Type 0} (m : Machine T) (cost : Costs T) where
   -- what is kept of a line costs what the line does
   kept_costs : (longest : Option ℕ) (kept line : List ℕ) →
       ((a b : List ℕ) → IsLonger longest a → IsLonger longest b → (state : T) → cost state a ≡ cost state b) →
-      IsKept longest kept line → (state : T) → cost state kept ≡ cost state line
+      IsKeptLine longest kept line → (state : T) → cost state kept ≡ cost state line
   kept_costs longest kept line long_lines (inl is) state = ap (cost state) is
   kept_costs longest kept line long_lines (inr both) state = long_lines kept line both.0 both.1 state
 
   -- one line was answered, or failed
   pub line_spends : (longest : Option ℕ) (kept line : List ℕ) (now : T) (old new : ℕ) →
       ((a b : List ℕ) → IsLonger longest a → IsLonger longest b → (state : T) → cost state a ≡ cost state b) →
-      IsKept longest kept line → m.done now ≡ false → new ≤ old + cost now kept → new ≤ old + total_cost m cost now (line ∷ [])
+      IsKeptLine longest kept line → m.done now ≡ false → new ≤ old + cost now kept → new ≤ old + total_cost m cost now (line ∷ [])
   line_spends longest kept line now old new long_lines part going_on spent =
       omega (arith, spent, kept_costs longest kept line long_lines part now, total_cost-one now line going_on)
 

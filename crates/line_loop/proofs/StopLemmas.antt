@@ -3,7 +3,7 @@ use Rattle.std.proofs.Common.{◌≡◌, ℕ, ◌≤◌, List, [], ◌∷◌, �
 use Rattle.std.proofs.lemmas.List.{take-append-le, length-append}
 use Rattle.std.proofs.Math.Seq.{take-append-add}
 use Rattle.line_loop.specs.Machine.{Machine, Failures, after, replies}
-use Rattle.line_loop.specs.Stop.{Point, reach, Stops, StopsAtWrite, StopsAtContext, StopsForMemory, LacksMemory}
+use Rattle.line_loop.specs.Stop.{Point, point_after, Stops, StopsAtWrite, StopsAtContext, StopsForMemory, IsLeftForMemory}
 use Rattle.outside.specs.declared.fault.OutFail.TheVariants.{Failed}
 use Rattle.line_loop.specs.declared.stop.Stop.{Stop}
 use Rattle.line_loop.specs.declared.stop.Stop.TheVariants.{Write, Context, NoMemory}
@@ -19,7 +19,7 @@ module _ {T : Type 0} (m : Machine T) where
 
   -- the replies to the lines before, and the front of the replies to the lines after them
   before-replies : (start : Point T) (before lines : List (List ℕ)) (count : ℕ) →
-      (reach m start before).written ++ take count (replies m (after m start.state before) lines)
+      (point_after m start before).written ++ take count (replies m (after m start.state before) lines)
       ≡ start.written ++ take (length (replies m start.state before) + count) (replies m start.state (before ++ lines))
   before-replies start before lines count =
       append_assoc start.written (replies m start.state before) (take count (replies m (after m start.state before) lines))
@@ -43,7 +43,7 @@ module _ {T : Type 0} (m : Machine T) where
   }
 
   write-after : (start : Point T) (before lines : List (List ℕ)) (state : Option T) (written : Option (List ℕ)) →
-      StopsAtWrite m (reach m start before) lines state written → StopsAtWrite m start (before ++ lines) state written
+      StopsAtWrite m (point_after m start before) lines state written → StopsAtWrite m start (before ++ lines) state written
   write-after start before lines state written h = record {
     earlier = before ++ h.earlier;
     later = h.later;
@@ -69,7 +69,7 @@ module _ {T : Type 0} (m : Machine T) (leaves : Failures T) where
   }
 
   context-after : (start : Point T) (before lines : List (List ℕ)) (state : Option T) (written : Option (List ℕ)) →
-      StopsAtContext m leaves (reach m start before) lines state written → StopsAtContext m leaves start (before ++ lines) state written
+      StopsAtContext m leaves (point_after m start before) lines state written → StopsAtContext m leaves start (before ++ lines) state written
   context-after start before lines state written h =
       let there : after m start.state (before ++ h.earlier) ≡ after m (after m start.state before) h.earlier = after-append m start.state before h.earlier in
       record {
@@ -83,7 +83,7 @@ module _ {T : Type 0} (m : Machine T) (leaves : Failures T) where
             ∙ ap (λ r. start.written ++ r) (sym (replies-append m start.state before h.earlier)));
       }
 
-  LacksMemory-more : (now : T) (later more : List (List ℕ)) (state : Option T) → LacksMemory m leaves now later state → LacksMemory m leaves now (later ++ more) state
+  LacksMemory-more : (now : T) (later more : List (List ℕ)) (state : Option T) → IsLeftForMemory m leaves now later state → IsLeftForMemory m leaves now (later ++ more) state
   LacksMemory-more now [] [] state h = h
   LacksMemory-more now [] (line ∷ more) state h = inl h
   LacksMemory-more now (line ∷ later) more state h = h
@@ -102,14 +102,14 @@ module _ {T : Type 0} (m : Machine T) (leaves : Failures T) where
   }
 
   memory-after : (start : Point T) (before lines : List (List ℕ)) (state : Option T) (written : Option (List ℕ)) →
-      StopsForMemory m leaves (reach m start before) lines state written → StopsForMemory m leaves start (before ++ lines) state written
+      StopsForMemory m leaves (point_after m start before) lines state written → StopsForMemory m leaves start (before ++ lines) state written
   memory-after start before lines state written h =
       let there : after m start.state (before ++ h.earlier) ≡ after m (after m start.state before) h.earlier = after-append m start.state before h.earlier in
       record {
         earlier = before ++ h.earlier;
         later = h.later;
         split = ap (λ ls. before ++ ls) h.split ∙ sym (append_assoc before h.earlier h.later);
-        lacking = subst (λ s. LacksMemory m leaves s h.later state) (sym there) h.lacking;
+        lacking = subst (λ s. IsLeftForMemory m leaves s h.later state) (sym there) h.lacking;
         count = length (replies m start.state before) + h.count;
         most = omega (arith, h.most, length-after m start.state before h.earlier);
         has_written = h.has_written ∙ ap Some (before-replies m start before lines h.count);
@@ -122,7 +122,7 @@ module _ {T : Type 0} (m : Machine T) (leaves : Failures T) where
   Stops-more start lines more NoMemory state written h = memory-more start lines more state written h
 
   pub Stops-after : (start : Point T) (before lines : List (List ℕ)) (stop : Stop) (state : Option T) (written : Option (List ℕ)) →
-      Stops m leaves (reach m start before) lines stop state written → Stops m leaves start (before ++ lines) stop state written
+      Stops m leaves (point_after m start before) lines stop state written → Stops m leaves start (before ++ lines) stop state written
   Stops-after start before lines Write state written h = write-after m start before lines state written h
   Stops-after start before lines Context state written h = context-after start before lines state written h
   Stops-after start before lines NoMemory state written h = memory-after start before lines state written h

@@ -3,7 +3,7 @@ use Rattle.std.proofs.Common.{◌≡◌, ℕ, List, [], ◌∷◌, ◌++◌, ◌
 use Rattle.std.proofs.lemmas.Grind.{common_steps}
 use Rattle.std.specs.List.{slice_split, onto_first}
 use Rattle.std.specs.Str.Lines.{lines, lines_of_parts, strip_carriage_return}
-use Rattle.line_loop.specs.Lines.{ended_from, open_from, last_line, lines_of}
+use Rattle.line_loop.specs.Lines.{ended_from, open_from, last_line, lines_of_input}
 
 -- the parts, of which the first begins with these bytes
 abbrev onto : List ℕ → List (List ℕ) → List (List ℕ)
@@ -48,6 +48,6 @@ parted begun (x ∷ xs) =
       | false ↦ ap lines_of_parts (onto-onto_first (parts_of xs) rest.0 rest.1 rest.2 begun x) ∙ parted (begun ++ x ∷ []) xs
     ]
 
-pub lines_of-lines : (bytes : List ℕ) → lines_of bytes ≡ lines bytes
+pub lines_of-lines : (bytes : List ℕ) → lines_of_input bytes ≡ lines bytes
 lines_of-lines bytes =
     let rest = is_parted bytes in sym (parted [] bytes) ∙ ap lines_of_parts (onto-nil (parts_of bytes) rest.0 rest.1 rest.2)

@@ -7,8 +7,8 @@ use Rattle.line_loop.specs.declared.stop.Stop.{Stop}
 use Rattle.line_loop.specs.declared.stop.Stop.TheVariants as stops
 use Rattle.line_loop.specs.Lines.{ended_lines}
 use Rattle.line_loop.specs.Machine.{Machine, Failures, after}
-use Rattle.line_loop.specs.Run.{is_cut, heard}
-use Rattle.line_loop.specs.Stop.{Point, IsAt, reach, StopsAtWrite, StopsAtContext, StopsForMemory}
+use Rattle.line_loop.specs.Run.{is_cut_off, answered_lines}
+use Rattle.line_loop.specs.Stop.{Point, IsAt, point_after, StopsAtWrite, StopsAtContext, StopsForMemory}
 
 -- the ending that a failure leads to
 abbrev pub ending_of : Stop → Ending
@@ -58,14 +58,14 @@ pub record IsDoneWithin {T : Type 0} (m : Machine T) (limit : ℕ) (start : Poin
 
 -- every line that is to be answered was, and all bytes were taken or those that were make the machine done
 pub record IsDone {T : Type 0} (m : Machine T) (limit : ℕ) (start : Point T) (bytes : List ℕ) (state : Option T) (written left : Option (List ℕ)) : Type 0 where
-  pub whole : is_cut m limit start.state bytes ≡ false
-  pub reached : IsAt (reach m start (heard m limit start.state bytes)) state written
+  pub whole : is_cut_off m limit start.state bytes ≡ false
+  pub reached : IsAt (point_after m start (answered_lines m limit start.state bytes)) state written
   pub finished : (left ≡ Some []) ⊎ IsDoneWithin m limit start bytes left
 
 -- every line that is to be answered was, and one byte past the limit was taken
 pub record IsInputLimit {T : Type 0} (m : Machine T) (limit : ℕ) (start : Point T) (bytes : List ℕ) (state : Option T) (written left : Option (List ℕ)) : Type 0 where
-  pub cut : is_cut m limit start.state bytes ≡ true
-  pub reached : IsAt (reach m start (heard m limit start.state bytes)) state written
+  pub cut : is_cut_off m limit start.state bytes ≡ true
+  pub reached : IsAt (point_after m start (answered_lines m limit start.state bytes)) state written
   pub taken : HasTaken bytes (limit + 1) left
 
 -- the lines that end within the bytes taken were answered, and the machine isn't done
@@ -73,14 +73,14 @@ pub record IsReadFault {T : Type 0} (m : Machine T) (limit : ℕ) (start : Point
   pub count : ℕ
   pub within : count ≤ limit
   pub taken : HasTaken bytes count left
-  pub reached : IsAt (reach m start (ended_lines (take count bytes))) state written
+  pub reached : IsAt (point_after m start (ended_lines (take count bytes))) state written
   pub going_on : m.done (after m start.state (ended_lines (take count bytes))) ≡ false
 
 -- how a run over these bytes ends under the limit, and what is then told
-abbrev pub EndsAs : {T : Type 0} → Machine T → Failures T → ℕ → Point T → List ℕ → Ending → Option T → Option (List ℕ) → Option (List ℕ) → Type 0
-EndsAs m leaves limit start bytes Done state written left = IsDone m limit start bytes state written left
-EndsAs m leaves limit start bytes InputLimit state written left = IsInputLimit m limit start bytes state written left
-EndsAs m leaves limit start bytes ReadFault state written left = IsReadFault m limit start bytes state written left
-EndsAs m leaves limit start bytes WriteFault state written left = StopsAtWrite m start (heard m limit start.state bytes) state written
-EndsAs m leaves limit start bytes ContextFault state written left = StopsAtContext m leaves start (heard m limit start.state bytes) state written
-EndsAs m leaves limit start bytes NoMemory state written left = StopsForMemory m leaves start (heard m limit start.state bytes) state written
+abbrev pub HasEnding : {T : Type 0} → Machine T → Failures T → ℕ → Point T → List ℕ → Ending → Option T → Option (List ℕ) → Option (List ℕ) → Type 0
+HasEnding m leaves limit start bytes Done state written left = IsDone m limit start bytes state written left
+HasEnding m leaves limit start bytes InputLimit state written left = IsInputLimit m limit start bytes state written left
+HasEnding m leaves limit start bytes ReadFault state written left = IsReadFault m limit start bytes state written left
+HasEnding m leaves limit start bytes WriteFault state written left = StopsAtWrite m start (answered_lines m limit start.state bytes) state written
+HasEnding m leaves limit start bytes ContextFault state written left = StopsAtContext m leaves start (answered_lines m limit start.state bytes) state written
+HasEnding m leaves limit start bytes NoMemory state written left = StopsForMemory m leaves start (answered_lines m limit start.state bytes) state written

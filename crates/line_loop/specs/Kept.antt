@@ -7,8 +7,8 @@ IsLonger None line = ⊥
 IsLonger (Some longest) line = longest < length line
 
 -- the line itself, or one that is longer than the longest as the line is
-abbrev pub IsKept : Option ℕ → List ℕ → List ℕ → Type 0
-IsKept longest kept line = (kept ≡ line) ⊎ (IsLonger longest kept × IsLonger longest line)
+abbrev pub IsKeptLine : Option ℕ → List ℕ → List ℕ → Type 0
+IsKeptLine longest kept line = (kept ≡ line) ⊎ (IsLonger longest kept × IsLonger longest line)
 
 -- What is kept of a line that isn't ended: two bytes more than the longest has, which show that it is longer, also without
 -- a carriage return. Where there is no longest one, all of it.

@@ -3,21 +3,21 @@ use Rattle.std.specs.Prelude.{ℕ, List, [], ◌∷◌, ◌++◌, ◌==◌, if�
 use Rattle.std.specs.Str.Lines.{strip_carriage_return}
 
 -- the byte that ends a line
-abbrev pub line_feed : ℕ
-line_feed = 10
+abbrev pub line_feed_byte : ℕ
+line_feed_byte = 10
 
 -- the lines that end in these bytes, where `begun` has come of the first one: each without its line feed, and without
 -- one carriage return directly before that
 abbrev pub ended_from : List ℕ → List ℕ → List (List ℕ)
 ended_from begun [] = []
 ended_from begun (byte ∷ bytes) =
-    if byte == line_feed then strip_carriage_return begun ∷ ended_from [] bytes else ended_from (begun ++ byte ∷ []) bytes
+    if byte == line_feed_byte then strip_carriage_return begun ∷ ended_from [] bytes else ended_from (begun ++ byte ∷ []) bytes
 
 -- what has come of the line that is open after these bytes
 abbrev pub open_from : List ℕ → List ℕ → List ℕ
 open_from begun [] = begun
 open_from begun (byte ∷ bytes) =
-    if byte == line_feed then open_from [] bytes else open_from (begun ++ byte ∷ []) bytes
+    if byte == line_feed_byte then open_from [] bytes else open_from (begun ++ byte ∷ []) bytes
 
 -- the lines that end with a line feed
 abbrev pub ended_lines : List ℕ → List (List ℕ)
@@ -33,5 +33,5 @@ last_line [] = []
 last_line (byte ∷ bytes) = (byte ∷ bytes) ∷ []
 
 -- the lines of a whole input
-abbrev pub lines_of : List ℕ → List (List ℕ)
-lines_of bytes = ended_lines bytes ++ last_line (open_line bytes)
+abbrev pub lines_of_input : List ℕ → List (List ℕ)
+lines_of_input bytes = ended_lines bytes ++ last_line (open_line bytes)

@@ -24,8 +24,8 @@ abbrev pub Failures : Type 0 → Type 1
 Failures T = OutFail → T → List ℕ → Option T → Type 0
 
 -- a line was answered: the reply was appended and the state is the next, or the failure left what it may leave
-abbrev pub Answers : {T U : Type 0} → Machine T → Failures T → T → List ℕ → Result U OutFail → List ℕ → List ℕ → Option T → Type 0
-Answers m leaves state line result old new told =
+abbrev pub AnswersLine : {T U : Type 0} → Machine T → Failures T → T → List ℕ → Result U OutFail → List ℕ → List ℕ → Option T → Type 0
+AnswersLine m leaves state line result old new told =
     MatchResult result (λ _. (new ≡ old ++ m.reply state line) × (told ≡ Some (m.next state line))) (λ fail. leaves fail state line told)
 
 -- neither the steps of the machine nor its failures tell one line from the other

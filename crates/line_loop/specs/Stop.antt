@@ -17,8 +17,8 @@ pub record IsAt {T : Type 0} (point : Point T) (state : Option T) (written : Opt
   pub has_written : written ≡ Some point.written
 
 -- the point after these lines were answered, and their replies written
-abbrev pub reach : {T : Type 0} → Machine T → Point T → List (List ℕ) → Point T
-reach m point lines = record {
+abbrev pub point_after : {T : Type 0} → Machine T → Point T → List (List ℕ) → Point T
+point_after m point lines = record {
   state = after m point.state lines;
   written = point.written ++ replies m point.state lines;
 }
@@ -46,9 +46,9 @@ pub record StopsAtContext {T : Type 0} (m : Machine T) (leaves : Failures T) (st
   pub has_written : written ≡ Some (start.written ++ replies m start.state earlier)
 
 -- this state, or what want of memory leaves of it on the next line
-abbrev pub LacksMemory : {T : Type 0} → Machine T → Failures T → T → List (List ℕ) → Option T → Type 0
-LacksMemory m leaves now [] state = state ≡ Some now
-LacksMemory m leaves now (line ∷ lines) state =
+abbrev pub IsLeftForMemory : {T : Type 0} → Machine T → Failures T → T → List (List ℕ) → Option T → Type 0
+IsLeftForMemory m leaves now [] state = state ≡ Some now
+IsLeftForMemory m leaves now (line ∷ lines) state =
     (state ≡ Some now) ⊎ ((m.done now ≡ false) × leaves MemoryFailed now line state)
 
 -- There was no memory. A part of the replies to the lines was written. The machine has answered some of the lines, whose
@@ -57,7 +57,7 @@ pub record StopsForMemory {T : Type 0} (m : Machine T) (leaves : Failures T) (st
   pub earlier : List (List ℕ)
   pub later : List (List ℕ)
   pub split : lines ≡ earlier ++ later
-  pub lacking : LacksMemory m leaves (after m start.state earlier) later state
+  pub lacking : IsLeftForMemory m leaves (after m start.state earlier) later state
   pub count : ℕ
   pub most : count ≤ length (replies m start.state earlier)
   pub has_written : written ≡ Some (start.written ++ take count (replies m start.state lines))
@@ -71,7 +71,7 @@ Stops m leaves start lines NoMemory state written = StopsForMemory m leaves star
 -- the lines were answered, or a failure stopped the machine within them
 abbrev pub Takes : {T U : Type 0} → Machine T → Failures T → Point T → List (List ℕ) → Result U Stop → Option T → Option (List ℕ) → Type 0
 Takes m leaves start lines result state written =
-    MatchResult result (λ _. IsAt (reach m start lines) state written) (λ stop. Stops m leaves start lines stop state written)
+    MatchResult result (λ _. IsAt (point_after m start lines) state written) (λ stop. Stops m leaves start lines stop state written)
 
 -- of these bytes a part was written that lacks at least the last one
 abbrev pub WritesPart : List ℕ → List ℕ → Option (List ℕ) → Type 0

@@ -3,7 +3,7 @@ ghost use Rattle.std.specs.Prelude.{◌≡◌, ◌≤◌, ◌+◌, ℕ, List, Op
 ghost use Rattle.outside.specs.Faults.{HasCauseOrNoMemory};
 ghost use Rattle.outside.specs.declared.fault.OutFail.TheVariants.{Failed};
 ghost use Rattle.line_loop.specs.Kept.{IsLonger};
-ghost use Rattle.line_loop.specs.Machine.{Machine, Failures, StepsAlike, Answers};
+ghost use Rattle.line_loop.specs.Machine.{Machine, Failures, StepsAlike, AnswersLine};
 ghost use Rattle.line_loop.specs.Spending.{Costs};
 
 use outside::OutFail;
@@ -52,7 +52,7 @@ pub trait Handler<C> {
     fn answer(&mut self, line: &[u8], context: &mut C, out: &mut Vec<u8>) -> Result<(), OutFail>
         ensures cause { HasCauseOrNoMemory (faults context.old) (faults context.new) result }
         ensures step { (before : State) → state self.old context.old ≡ Some before →
-            Answers machine leaves before line.now result out.old.items out.new.items (state self.new context.new) }
+            AnswersLine machine leaves before line.now result out.old.items out.new.items (state self.new context.new) }
         ensures spends { (before : State) → state self.old context.old ≡ Some before →
             spent self.new ≤ spent self.old + cost before line.now };
 

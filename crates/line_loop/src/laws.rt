@@ -1,7 +1,7 @@
 // What the definitions mean in other words.
 ghost use Rattle.std.specs.Prelude.{◌≡◌, ◌^◌, ℕ, List};
 ghost use Rattle.std.specs.Str.Lines.{lines};
-ghost use Rattle.line_loop.specs.Lines.{lines_of};
+ghost use Rattle.line_loop.specs.Lines.{lines_of_input};
 
 use crate::replies::GATHERED;
 use crate::run::PIECE;
@@ -14,5 +14,5 @@ pub fn limits_in_numbers()
 
 /// The lines of an input are those that `str::lines` gives of the same bytes as a text.
 pub fn lines_are_those_of_a_text()
-    ensures { (bytes : List ℕ) → lines_of bytes ≡ lines bytes }
+    ensures { (bytes : List ℕ) → lines_of_input bytes ≡ lines bytes }
 {}

@@ -2,8 +2,8 @@
 ghost use Rattle.std.specs.Prelude.{◌≡◌, ◌≤◌, ◌++◌, ◌∷◌, ◌+◌, ◌-◌, [], ℕ, List, Some, length, OnOk, position, ◌==◌};
 ghost use Rattle.std.specs.List.{list_any, position_or_len};
 ghost use Rattle.std.specs.Str.Lines.{strip_carriage_return};
-ghost use Rattle.line_loop.specs.Lines.{ended_from, open_from, line_feed};
-ghost use Rattle.line_loop.specs.Kept.{IsKept, kept_part};
+ghost use Rattle.line_loop.specs.Lines.{ended_from, open_from, line_feed_byte};
+ghost use Rattle.line_loop.specs.Kept.{IsKeptLine, kept_part};
 ghost use Rattle.line_loop.specs.Spending.{total_cost};
 ghost use Rattle.line_loop.specs.Stop.{Point, IsAt, Takes, StopHasCause};
 ghost use Rattle.line_loop.specs.Gathered.{Gathers, Collects};
@@ -19,7 +19,7 @@ const GROUP: usize = 32;
 
 #[tactic(auto, using(std::proofs::lemmas::List::Folds::list_any_more))]
 fn has_line_feed(group: &[u8; GROUP]) -> bool
-    ensures { result ≡ list_any (λ byte. byte == line_feed) group.now }
+    ensures { result ≡ list_any (λ byte. byte == line_feed_byte) group.now }
 {
     let mut found = false;
     'bytes: for byte in group {
@@ -32,8 +32,8 @@ fn has_line_feed(group: &[u8; GROUP]) -> bool
 #[tactic(auto, using(crate::proofs::GroupLemmas::passed_group))]
 fn after_groups(bytes: &[u8]) -> &[u8]
     ensures part { length result.now ≤ length bytes.now }
-    ensures place { position_or_len (λ byte. byte == line_feed) bytes.now
-        ≡ length bytes.now - length result.now + position_or_len (λ byte. byte == line_feed) result.now }
+    ensures place { position_or_len (λ byte. byte == line_feed_byte) bytes.now
+        ≡ length bytes.now - length result.now + position_or_len (λ byte. byte == line_feed_byte) result.now }
 {
     let mut rest = bytes;
     'groups: while let Some((group, later)) = rest.split_first_chunk::<GROUP>() {
@@ -46,7 +46,7 @@ fn after_groups(bytes: &[u8]) -> &[u8]
 }
 
 fn first_line_feed(bytes: &[u8]) -> Option<usize>
-    ensures { result ≡ position (λ byte. byte == line_feed) bytes.now }
+    ensures { result ≡ position (λ byte. byte == line_feed_byte) bytes.now }
 {
     bytes.iter().position(|byte| *byte == b'\n')
 }
@@ -54,7 +54,7 @@ fn first_line_feed(bytes: &[u8]) -> Option<usize>
 // The place of the first line feed.
 #[tactic(auto, using(crate::proofs::GroupLemmas::place_behind))]
 fn line_end(bytes: &[u8]) -> Option<usize>
-    ensures { result ≡ position (λ byte. byte == line_feed) bytes.now }
+    ensures { result ≡ position (λ byte. byte == line_feed_byte) bytes.now }
 {
     let rest = after_groups(bytes);
     match first_line_feed(rest) {
@@ -75,10 +75,10 @@ pub fn answer_line<C, H: Handler<C>, K: Sink>(
     ensures cause { StopHasCause (K.faults sink.old) (K.faults sink.new) (H.faults context.old) (H.faults context.new) result }
     ensures collects { (start : Point H.State) (before : List (List ℕ)) (line : List ℕ) →
         Gathers H.machine start before (H.state handler.old context.old) (K.written sink.old) replies.old.items →
-        IsKept H.LONGEST kept.now line →
+        IsKeptLine H.LONGEST kept.now line →
         Collects H.machine H.leaves start (before ++ line ∷ []) result
         (H.state handler.new context.new) (K.written sink.new) replies.new.items }
-    ensures spends { (now : H.State) (line : List ℕ) → H.state handler.old context.old ≡ Some now → IsKept H.LONGEST kept.now line →
+    ensures spends { (now : H.State) (line : List ℕ) → H.state handler.old context.old ≡ Some now → IsKeptLine H.LONGEST kept.now line →
         H.spent handler.new ≤ H.spent handler.old + total_cost H.machine H.cost now (line ∷ []) }
 {
     if handler.is_done() {

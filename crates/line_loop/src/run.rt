@@ -1,9 +1,9 @@
 // The read loop.
 ghost use Rattle.std.specs.Prelude.{◌≡◌, ◌≤◌, ◌+◌, ◌-◌, [], ℕ, List, Some, min, max};
-ghost use Rattle.line_loop.specs.Ending.{EndsWithCause, KeepsLimit, EndsAs};
+ghost use Rattle.line_loop.specs.Ending.{EndsWithCause, KeepsLimit, HasEnding};
 ghost use Rattle.line_loop.specs.Kept.{kept_part};
 ghost use Rattle.line_loop.specs.Lines.{last_line};
-ghost use Rattle.line_loop.specs.Run.{heard};
+ghost use Rattle.line_loop.specs.Run.{answered_lines};
 ghost use Rattle.line_loop.specs.Spending.{total_cost};
 ghost use Rattle.line_loop.specs.Stop.{Point, IsAt, Takes, StopHasCause};
 
@@ -43,11 +43,11 @@ pub fn run_lines<C, H: Handler<C>, S: Source, K: Sink>(
     // Where the sink, the handler and the context tell what they hold too.
     ensures ends { (start : Point H.State) (bytes : List ℕ) →
         IsAt start (H.state handler.old context.old) (K.written sink.old) → S.left source.old ≡ Some bytes →
-        EndsAs H.machine H.leaves limit start bytes result
+        HasEnding H.machine H.leaves limit start bytes result
         (H.state handler.new context.new) (K.written sink.new) (S.left source.new) }
     ensures spends { (start : Point H.State) (bytes : List ℕ) →
         IsAt start (H.state handler.old context.old) (K.written sink.old) → S.left source.old ≡ Some bytes →
-        H.spent handler.new ≤ H.spent handler.old + total_cost H.machine H.cost start.state (heard H.machine limit start.state bytes) }
+        H.spent handler.new ≤ H.spent handler.old + total_cost H.machine H.cost start.state (answered_lines H.machine limit start.state bytes) }
 {
     let Ok(mut line) = LineBuffer::new(alloc, H::LONGEST) else {
         return Ending::NoMemory;

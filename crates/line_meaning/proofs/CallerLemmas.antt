@@ -4,7 +4,7 @@ use Rattle.std.specs.Prelude.{unwrap_or}
 use Rattle.std.proofs.lemmas.Bool.{false≢true}
 use Rattle.command_text.specs.declared.reading.TheConstants.{LINE_LIMIT}
 use Rattle.command_text.specs.declared.refusal.Refusal.{Refusal}
-use Rattle.command_text.specs.Refusals.{line_of}
+use Rattle.command_text.specs.Refusals.{refusal_line}
 use Rattle.command_text.specs.Journal.{spelled}
 use Rattle.exact.specs.First.{or_else}
 use Rattle.command_text.specs.Line.{first_refusal, IsRead}
@@ -77,7 +77,7 @@ unfolding step
 step_accepted b line c fault is = ap (step_by b (spelled line)) fault ∙ ap (λ d. step_by b d None) is
 
 pub step_refused : (b : Base) (line : List ℕ) (r : Refusal) → refusal_of b line ≡ Some r →
-    step b line ≡ (b, line_of r ++ line_feed)
+    step b line ≡ (b, refusal_line r ++ line_feed)
 unfolding step
 step_refused b line r fault = ap (step_by b (spelled line)) fault
 

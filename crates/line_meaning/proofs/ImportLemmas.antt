@@ -16,7 +16,7 @@ use Rattle.motion.specs.declared.limits.TheConstants.{ATTRIBUTE_LIMIT}
 use Rattle.history.specs.Catalog.{Catalog, ClassInfo, attributes_of_class, catalog_after, class_of, coordinates, empty_catalog, has_object, number_of_class, with_coordinates, with_new_object}
 use Rattle.history.specs.Write.{Attribute}
 use Rattle.object_rows.specs.declared.rows.ObjectRow.{ObjectRow}
-use Rattle.object_rows.specs.Commands.{GivesPrintableCommands, GivesShortLines, HasShortLine, IsRow}
+use Rattle.object_rows.specs.Commands.{GivesPrintableCommands, GivesShortLines, HasShortLine, IsPrintableRow}
 use Rattle.command_text.specs.declared.refusal.Refusal.{Refusal}
 use Rattle.command_text.specs.Journal.{Accepted, clock, is_kept}
 use Rattle.command_text.specs.Shape.{IsAttribute, IsPrintable, IsShortName}
@@ -145,7 +145,7 @@ class_is_short journal class number reached there =
 module _ (prints : GivesPrintableCommands) where
   -- for a class of a short name, whether it is there or not
   pub named_rows_are_printable : (journal : List Accepted) (class text : List ℕ) (rows : List ObjectRow) → AreReached [] journal →
-      IsShortName class → rows_for journal class text ≡ Some rows → AllByRecursion (IsRow class) rows
+      IsShortName class → rows_for journal class text ≡ Some rows → AllByRecursion (IsPrintableRow class) rows
   named_rows_are_printable journal class text rows reached short is =
       prints class (attributes_of_class (class_of (world journal).history.catalog class)) text rows short
       (attributes_are_short journal class reached) is
@@ -153,7 +153,7 @@ module _ (prints : GivesPrintableCommands) where
   -- for a class that is there
   pub rows_are_printable : (journal : List Accepted) (class text : List ℕ) (rows : List ObjectRow) (number : ℕ) → AreReached [] journal →
       number_of_class (world journal).history.catalog class ≡ Some number → rows_for journal class text ≡ Some rows →
-      AllByRecursion (IsRow class) rows
+      AllByRecursion (IsPrintableRow class) rows
   rows_are_printable journal class text rows number reached there is =
       named_rows_are_printable journal class text rows reached (class_is_short journal class number reached there) is
 
@@ -183,7 +183,7 @@ short_is : (n : ℕ) → nat_le n SESSION_LINE_LIMIT ≡ true → n ≤ SESSION_
 short_is n is = grind (arith, nat_tests, is)
 
 -- a row that is taken leads on
-pub row_is_reached : (journal : List Accepted) (class : List ℕ) (row : ObjectRow) → AreReached [] journal → IsRow class row → MayBeLoaded class row →
+pub row_is_reached : (journal : List Accepted) (class : List ℕ) (row : ObjectRow) → AreReached [] journal → IsPrintableRow class row → MayBeLoaded class row →
     is_taken journal (row_command journal class row) ≡ true → AreReached [] (with_entry journal (row_command journal class row))
 row_is_reached journal class row reached printable may taken =
     let c = row_command journal class row in
@@ -199,7 +199,7 @@ first_row class next rows after true first later is = later (first refl) is
 first_row class next rows after false first later is = absurd (cc is)
 
 pub rows_are_reached : (class : List ℕ) (journal : List Accepted) (rows : List ObjectRow) (after : List Accepted) → AreReached [] journal →
-    AllByRecursion (IsRow class) rows → AllByRecursion (MayBeLoaded class) rows → journal_after_rows class journal rows ≡ Some after →
+    AllByRecursion (IsPrintableRow class) rows → AllByRecursion (MayBeLoaded class) rows → journal_after_rows class journal rows ≡ Some after →
     AreReached [] after
 rows_are_reached class journal [] after reached printable may is =
     let same : journal ≡ after = cc is in

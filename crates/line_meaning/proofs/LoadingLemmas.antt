@@ -15,7 +15,7 @@ use Rattle.command_text.specs.declared.refusal.Refusal.TheVariants as refusals
 use Rattle.command_text.specs.Journal.{Accepted, bytes_of, clock, is_kept, spelled, ticks_of}
 use Rattle.command_text.specs.Tree
 use Rattle.command_text.specs.Tree.{CommandTree}
-use Rattle.session_file.specs.Laws.{CutTextsAreBad, IsEntry, IsSavable, LastFeedMayLack, LoadsWhatIsSaved, numbered}
+use Rattle.session_file.specs.Laws.{CutTextsAreBad, IsAcceptedEntry, IsSavable, LastFeedMayLack, LoadsWhatIsSaved, numbered_commands}
 use Rattle.session_file.specs.declared.fault.FileFault.{FileFault}
 use Rattle.session_file.specs.Reading.{Reading, reading_of}
 use Rattle.session_file.specs.Text.{session_text}
@@ -63,16 +63,16 @@ replayed_more journal e number later is =
     ∙ ap (λ next. replayed next later) (entered_again journal e is)
 
 replays : (before journal : List Accepted) (number : ℕ) → AreReached before journal →
-    replayed before (numbered number (map (λ e. e.1) journal)) ≡ Loaded (before ++ journal)
+    replayed before (numbered_commands number (map (λ e. e.1) journal)) ≡ Loaded (before ++ journal)
 replays before [] number reached = ap Loaded (sym (append-nil before))
 replays before (e ∷ journal) number reached =
-    replayed_more before e number (numbered (number + 1) (map (λ e. e.1) journal)) reached.0
+    replayed_more before e number (numbered_commands (number + 1) (map (λ e. e.1) journal)) reached.0
     ∙ replays (before ++ e ∷ []) journal (number + 1) reached.1
     ∙ ap Loaded (append_assoc before (e ∷ []) journal)
 
 -- ---- such a journal may be saved
 
-entries_savable : (before journal : List Accepted) → AreReached before journal → AllByRecursion IsEntry journal
+entries_savable : (before journal : List Accepted) → AreReached before journal → AllByRecursion IsAcceptedEntry journal
 entries_savable before [] reached = tt
 entries_savable before (e ∷ journal) reached =
     let is = reached.0 in
@@ -134,7 +134,7 @@ module _ (loads : LoadsWhatIsSaved) where
   unfolding loading_of
   saved_is_loaded journal reached =
       let text = session_text journal in
-      let commands = numbered 3 (map (λ e. e.1) journal) in
+      let commands = numbered_commands 3 (map (λ e. e.1) journal) in
       let is : reading_of text ≡ record { commands = commands; fault = None } = loads journal (is_savable journal reached) in
       ap (λ (reading : Reading). loading_by (length (lines text)) reading reading.fault) is
       ∙ replays [] journal 3 reached
@@ -166,7 +166,7 @@ unfolding loading_of
 uncut_is_loaded lacks loads journal n reached all =
     let text = take n (session_text journal) in
     let savable = is_savable journal reached in
-    let commands = numbered 3 (map (λ e. e.1) journal) in
+    let commands = numbered_commands 3 (map (λ e. e.1) journal) in
     let is : reading_of text ≡ record { commands = commands; fault = None } = lacks journal n savable all ∙ loads journal savable in
     ap (λ (reading : Reading). loading_by (length (lines text)) reading reading.fault) is
     ∙ replays [] journal 3 reached

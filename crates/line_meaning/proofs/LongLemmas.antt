@@ -4,7 +4,7 @@ use Rattle.std.proofs.lemmas.Bool.Decides.{nat_tests}
 use Rattle.command_text.specs.declared.reading.TheConstants.{LINE_LIMIT}
 use Rattle.command_text.specs.declared.refusal.Refusal.{Refusal}
 use Rattle.command_text.specs.declared.refusal.Refusal.TheVariants as refusals
-use Rattle.command_text.specs.Refusals.{line_of}
+use Rattle.command_text.specs.Refusals.{refusal_line}
 use Rattle.exact.specs.First.{first_that_holds, or_else}
 use Rattle.command_text.specs.Line.{command_in, has_bad_token, has_other_byte, is_too_long, late_refusal}
 use Rattle.line_meaning.specs.Reply.{line_feed}
@@ -26,6 +26,6 @@ long_refusal h line long =
     ∷ (refusals.BadToken, has_bad_token line) ∷ [])) (late_refusal (command_in line))) (is_long line long)
     ∙ long_first (has_other_byte line) (has_bad_token line) (late_refusal (command_in line)))
 
-pub long_step : (b : Base) (line : List ℕ) → LINE_LIMIT < length line → step b line ≡ (b, line_of refusals.LineTooLong ++ line_feed)
+pub long_step : (b : Base) (line : List ℕ) → LINE_LIMIT < length line → step b line ≡ (b, refusal_line refusals.LineTooLong ++ line_feed)
 long_step b line long =
     step_refused b line refusals.LineTooLong (refused_line b line refusals.LineTooLong (long_refusal b.held line long))

@@ -28,7 +28,7 @@ use Rattle.object_store.specs.Faults.{insert_fault, is_elsewhere, is_past_capaci
 use Rattle.command_text.specs.declared.refusal.Refusal.{Refusal}
 use Rattle.command_text.specs.declared.refusal.Refusal.TheVariants as refusals
 use Rattle.command_text.specs.Journal.{Accepted, bytes_of, clock, is_kept}
-use Rattle.command_text.specs.Shape.{AreLegs, IsAt, IsChange, IsLeg, IsMoving, IsPrintable, IsPrintableGiven, IsRate, IsSetting, IsValue}
+use Rattle.command_text.specs.Shape.{AreLegs, IsAtPoint, IsChange, IsLeg, IsMoving, IsPrintable, IsPrintableGiven, IsRate, IsSetting, IsValue}
 use Rattle.command_text.specs.Text.{text_of}
 use Rattle.command_text.specs.Tree
 use Rattle.command_text.specs.Tree.{CommandTree}
@@ -79,7 +79,7 @@ one_given : (name : List ℕ) (given : Given) → is_given given ≡ true → al
 one_given name given is = and_from (is_given given) true is refl
 
 -- `at` and `move` give x and y
-place_given : (at : Option Point) (moving : Option (Function × Function)) → IsAt at → IsMoving moving →
+place_given : (at : Option Point) (moving : Option (Function × Function)) → IsAtPoint at → IsMoving moving →
     all_given
     (setting_of (codes "x") (given_of (option_map (λ (p : Point). p.x) at) (option_map (λ (m : Function × Function). m.0) moving))
     ++ setting_of (codes "y") (given_of (option_map (λ (p : Point). p.y) at) (option_map (λ (m : Function × Function). m.1) moving))) ≡ true

@@ -14,7 +14,7 @@ use Rattle.ftl_typer.specs.First.{first_found, found_after, least_place}
 use Rattle.ftl_typer.specs.declared.found.FaultKind.TheVariants as kinds
 use Rattle.ftl_typer.proofs.FirstLemmas.{least_is_some}
 use Rattle.line_meaning.specs.Ask.{ask_refusal, bindings_asked, has_fault, is_past_span}
-use Rattle.line_meaning.specs.Blurred.{blurred_refusal, is_barred, is_blurred_crowded, is_blurred_past}
+use Rattle.line_meaning.specs.Blurred.{blurred_refusal, has_not_or_circle, is_blurred_crowded, is_blurred_past}
 use Rattle.line_meaning.specs.FirstFault.{asked_refusal, blurred_size_refusal, first_blurred_refusal, refusal_by_type, refusal_if_barred, register_size_refusal, registered_refusal, size_refusal, type_refusal, unknown_among}
 use Rattle.line_meaning.specs.QueryFault.{passes_bindings, register_refusal}
 use Rattle.line_meaning.specs.Registry.{Known, is_registered}
@@ -84,9 +84,9 @@ barred false false false false false later = refl
 pub blurred_by_fault : (w : World) (now span : ℕ) (q : QueryTree) → blurred_refusal w now span q ≡ first_blurred_refusal w now span q
 blurred_by_fault w now span q =
     barred (has_fault kinds.UnknownName w q) (has_fault kinds.NameTaken w q) (has_fault kinds.WrongKind w q) (has_fault kinds.TermRange w q)
-    (is_barred q.formula)
+    (has_not_or_circle q.formula)
     ((refusals.SpanRange, is_blurred_past now span) ∷ (refusals.BindingLimit, is_blurred_crowded w q) ∷ [])
-    ∙ ap (λ (first : Option Refusal). or_else (refusal_if_barred (is_barred q.formula) first) (blurred_size_refusal w now span q)) (sym (type_by_kind w q))
+    ∙ ap (λ (first : Option Refusal). or_else (refusal_if_barred (has_not_or_circle q.formula) first) (blurred_size_refusal w now span q)) (sym (type_by_kind w q))
 
 -- ---- queries that are to be registered
 

@@ -7,14 +7,14 @@ use Rattle.object_store.specs.declared.fault.StoreFault.TheVariants as store_fau
 use Rattle.command_text.specs.declared.reading.TheConstants.{LINE_LIMIT}
 use Rattle.command_text.specs.declared.refusal.Refusal.{Refusal}
 use Rattle.command_text.specs.declared.refusal.Refusal.TheVariants as refusals
-use Rattle.command_text.specs.Refusals.{number_of}
+use Rattle.command_text.specs.Refusals.{refusal_number}
 use Rattle.command_text.specs.Journal.{spelled}
 use Rattle.command_text.specs.Line.{command_in, early, early_refusal, has_large_size, has_unfit_number, is_no_command, late_refusal}
 use Rattle.command_text.specs.Tree
 use Rattle.command_text.specs.Tree.{CommandTree}
 use Rattle.line_meaning.specs.Fault.{refusal_by_store}
 use Rattle.line_meaning.specs.Judging.{fault_by, fault_of, line_refusal}
-use Rattle.line_meaning.specs.Refusing.{all_refusals, has_bad_text, has_index, has_many_bindings, has_many_indexes, has_wrong_presence, is_full, is_not_convex, is_of_wrong_kind, is_on_constants, lacks_index, lacks_text, names_unknown, passes_bound, passes_capacity, passes_clock, passes_index, passes_journal, passes_span, refuses, has_taken_name}
+use Rattle.line_meaning.specs.Refusing.{all_refusals, has_bad_text, has_index, has_many_bindings, has_many_indexes, has_wrong_presence, is_limit_reached, is_not_convex, is_of_wrong_kind, is_on_constants, lacks_index, lacks_text, names_unknown, passes_bound, passes_capacity, passes_clock, passes_index, passes_journal, passes_span, refuses, has_taken_name}
 use Rattle.line_meaning.specs.Registry.{Known, known}
 use Rattle.line_meaning.specs.Role.{role_of}
 use Rattle.line_meaning.specs.Step.{Base, file_refusal, refusal_of}
@@ -59,7 +59,7 @@ later b c =
     ∷ (refusals.ClockEnd, passes_clock k c)
     ∷ (refusals.Presence, has_wrong_presence k c)
     ∷ (refusals.ClassFull, passes_capacity k c)
-    ∷ (refusals.StoreFull, has_many_indexes b.held c || is_full k c)
+    ∷ (refusals.StoreFull, has_many_indexes b.held c || is_limit_reached k c)
     ∷ (refusals.BindingLimit, has_many_bindings k c)
     ∷ (refusals.JournalFull, passes_journal b.held.journal c)
     ∷ (refusals.NoFile, lacks_text b c)
@@ -104,7 +104,7 @@ query_rows k c =
     ∷ (refusals.WrongKind, is_of_wrong_kind k c)
     ∷ (refusals.TermRange, passes_bound k c)
     ∷ (refusals.SpanRange, passes_span k c)
-    ∷ (refusals.StoreFull, is_full k c)
+    ∷ (refusals.StoreFull, is_limit_reached k c)
     ∷ (refusals.BindingLimit, has_many_bindings k c)
     ∷ []
 
@@ -155,12 +155,12 @@ by_command b (Tree.Save file) = refl
 by_command b (Tree.Class name capacity point attributes) =
     let c = Tree.Class name capacity point attributes in
     let k = known b.held.journal in
-    kept_row _ (store_rows false (has_taken_name k c) false false false (is_full k c)) (passes_journal b.held.journal c)
-    (or_none _ ∙ by_store false (has_taken_name k c) false false false (is_full k c))
+    kept_row _ (store_rows false (has_taken_name k c) false false false (is_limit_reached k c)) (passes_journal b.held.journal c)
+    (or_none _ ∙ by_store false (has_taken_name k c) false false false (is_limit_reached k c))
 by_command b (Tree.Region name points) =
     let c = Tree.Region name points in
     let k = known b.held.journal in
-    kept_row _ ((refusals.NameTaken, has_taken_name k c) ∷ (refusals.NotConvex, is_not_convex c) ∷ (refusals.StoreFull, is_full k c) ∷ [])
+    kept_row _ ((refusals.NameTaken, has_taken_name k c) ∷ (refusals.NotConvex, is_not_convex c) ∷ (refusals.StoreFull, is_limit_reached k c) ∷ [])
     (passes_journal b.held.journal c) (or_none _)
 by_command b (Tree.Insert class name place sets) =
     let c = Tree.Insert class name place sets in
@@ -241,7 +241,7 @@ first_refuses b line =
 
 -- ---- Each refusal has its place
 
-pub each_in_its_place : (r : Refusal) → slice_get all_refusals (number_of r - 1) ≡ Some r
+pub each_in_its_place : (r : Refusal) → slice_get all_refusals (refusal_number r - 1) ≡ Some r
 each_in_its_place refusals.LineTooLong = refl
 each_in_its_place refusals.NotAscii = refl
 each_in_its_place refusals.BadToken = refl

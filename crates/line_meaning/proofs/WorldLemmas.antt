@@ -16,10 +16,10 @@ use Rattle.command_text.specs.declared.refusal.Refusal.TheVariants as refusals
 use Rattle.ftl_parser.specs.Sizes.{has_circle}
 use Rattle.ftl_parser.specs.Tree.{QueryTree, Tree}
 use Rattle.ftl_typer.specs.Resolved.{resolved_formula}
-use Rattle.ftl_typer.specs.Scope.{Scope, scope_of, with_value}
+use Rattle.ftl_typer.specs.Scope.{NameScope, scope_of, with_assigned}
 use Rattle.ftl_typer.specs.declared.found.FaultKind.TheVariants as kinds
 use Rattle.line_meaning.specs.Ask.{has_fault, query_in}
-use Rattle.line_meaning.specs.Blurred.{blurred_refusal, is_barred, is_blurred_crowded, is_blurred_past}
+use Rattle.line_meaning.specs.Blurred.{blurred_refusal, has_not_or_circle, is_blurred_crowded, is_blurred_past}
 
 -- ---- more bindings pass
 
@@ -47,7 +47,7 @@ told_more j k w q e key t more =
 
 -- ---- no NOT
 
-same_not : (s : Scope) (f : Tree) → has_not (resolved_formula s f) ≡ has_not f
+same_not : (s : NameScope) (f : Tree) → has_not (resolved_formula s f) ≡ has_not f
 same_not s (shapes.Truth b) = refl
 same_not s (shapes.Atom a) = refl
 same_not s (shapes.Not f) = refl
@@ -58,7 +58,7 @@ same_not s (shapes.Eventually f) = same_not s f
 same_not s (shapes.Always f) = same_not s f
 same_not s (shapes.Bounded form ticks f) = same_not s f
 same_not s (shapes.Until form ticks f g) = λ i. same_not s f i || same_not s g i
-same_not s (shapes.Assign (name, t) f) = same_not (with_value s name t) f
+same_not s (shapes.Assign (name, t) f) = same_not (with_assigned s name t) f
 
 not_barred : (unknown taken wrong bars range past many : Bool) →
     first_that_holds (
@@ -78,8 +78,8 @@ not_barred false false false false range past many is = refl
 
 pub without_not : (w : World) (now span : ℕ) (q : QueryTree) → blurred_refusal w now span q ≡ None → has_not (query_in w q).formula ≡ false
 without_not w now span q accepted =
-    let free : is_barred q.formula ≡ false =
-    not_barred (has_fault kinds.UnknownName w q) (has_fault kinds.NameTaken w q) (has_fault kinds.WrongKind w q) (is_barred q.formula)
+    let free : has_not_or_circle q.formula ≡ false =
+    not_barred (has_fault kinds.UnknownName w q) (has_fault kinds.NameTaken w q) (has_fault kinds.WrongKind w q) (has_not_or_circle q.formula)
     (has_fault kinds.TermRange w q) (is_blurred_past now span) (is_blurred_crowded w q) accepted in
     same_not (scope_of w.history.catalog.classes w.regions q.from) q.formula
     ∙ (or_parts (has_not q.formula) (has_circle q.formula) free).0

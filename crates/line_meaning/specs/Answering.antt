@@ -11,7 +11,7 @@ use Rattle.line_meaning.specs.Blurred.{rows_blurred}
 use Rattle.line_meaning.specs.Indexed.{rows_ranged}
 use Rattle.line_meaning.specs.Changes.{answer_text, tick_lines, write_lines}
 use Rattle.line_meaning.specs.Near.{rows_near}
-use Rattle.line_meaning.specs.Registry.{Known, query_of, registration}
+use Rattle.line_meaning.specs.Registry.{Known, registration, registration_named}
 use Rattle.line_meaning.specs.Reply.{listing, registration_line, rows_text}
 
 -- the lines of a command that changes no object, by what a query may ask of and the clock
@@ -28,7 +28,7 @@ answer_lines w now _ = []
 -- the lines that tell of registered queries; in a `list` they come after the others
 abbrev pub query_lines : Known → CommandTree → List ℕ
 query_lines k Tree.Listing = flat_map registration_line k.live
-query_lines k (Tree.Show name) = option_map_or (answer_text k.world k.now) (query_of k.live name) []
+query_lines k (Tree.Show name) = option_map_or (answer_text k.world k.now) (registration_named k.live name) []
 query_lines k _ = []
 
 -- the lines of a command that the journal keeps, by what is known before and after it: the answer of a query that is

@@ -15,8 +15,8 @@ use Rattle.line_meaning.specs.Ask.{bindings_asked, has_fault, query_in}
 use Rattle.line_meaning.specs.declared.limits.TheConstants.{BLURRED_BINDING_LIMIT, BLURRED_SPAN_LIMIT}
 
 -- A formula with a NOT or a circle. A NOT takes what surely holds for what possibly does, and no circle is judged by an error.
-abbrev pub is_barred : Tree → Bool
-is_barred f = has_not f || has_circle f
+abbrev pub has_not_or_circle : Tree → Bool
+has_not_or_circle f = has_not f || has_circle f
 
 -- the span is too long, or the clock doesn't reach the expiry
 abbrev pub is_blurred_past : (now span : ℕ) → Bool
@@ -30,7 +30,7 @@ abbrev pub blurred_refusal : World → (now span : ℕ) → QueryTree → Option
 blurred_refusal w now span q = first_that_holds (
     (refusals.UnknownName, has_fault kinds.UnknownName w q)
     ∷ (refusals.NameTaken, has_fault kinds.NameTaken w q)
-    ∷ (refusals.WrongKind, has_fault kinds.WrongKind w q || is_barred q.formula)
+    ∷ (refusals.WrongKind, has_fault kinds.WrongKind w q || has_not_or_circle q.formula)
     ∷ (refusals.TermRange, has_fault kinds.TermRange w q)
     ∷ (refusals.SpanRange, is_blurred_past now span)
     ∷ (refusals.BindingLimit, is_blurred_crowded w q)

@@ -20,6 +20,8 @@ use Rattle.ftl_parser.specs.declared.tree.FromPart.{FromPart}
 use Rattle.ftl_parser.specs.declared.tree.Term.{Term}
 use Rattle.ftl_parser.specs.declared.tree.Unit as unit_type
 use Rattle.ftl_parser.specs.declared.tree.Unit.TheVariants as units
+use Rattle.ftl_parser.specs.Grammar.{from_part}
+use Rattle.ftl_parser.specs.Example.{o}
 use Rattle.line_meaning.specs.Ask.{ask_refusal, rows_asked}
 use Rattle.line_meaning.specs.Journal.{world}
 use Rattle.line_meaning.specs.Looks.{most_looks}
@@ -27,92 +29,86 @@ use Rattle.line_meaning.specs.Reply.{line_feed, row_text, run_text}
 use Rattle.line_meaning.specs.Refusing.{all_refusals, refuses}
 use Rattle.line_meaning.specs.Step.{base, held, refusal_of}
 
-abbrev pub point : (x y : ℕ) → Point
-point x y = record { x = pos x; y = pos y }
+abbrev pub point_at : (x y : ℕ) → Point
+point_at x y = record { x = pos x; y = pos y }
 
 -- ---- two cars at tick 0, one of which drives along the x axis by 1 a tick, and a region before it
 
-abbrev pub place_at : (x y : ℕ) → Place
-place_at x y = record { at = Some (point x y); moving = None }
+abbrev pub place_at_point : (x y : ℕ) → Place
+place_at_point x y = record { at = Some (point_at x y); moving = None }
 
-abbrev pub driving : Place
-driving = record { at = Some (point 0 0); moving = Some (record { firsts = []; last = pos 1000 }, level) }
+abbrev pub driving_along : Place
+driving_along = record { at = Some (point_at 0 0); moving = Some (record { firsts = []; last = pos 1000 }, level) }
 
 -- (10,-5) (20,-5) (20,5) (10,5)
-abbrev pub corners : List Point
-corners =
+abbrev pub rectangle : List Point
+rectangle =
     record { x = pos 10000; y = negsuc 4999 }
     ∷ record { x = pos 20000; y = negsuc 4999 }
-    ∷ point 20000 5000
-    ∷ point 10000 5000
+    ∷ point_at 20000 5000
+    ∷ point_at 10000 5000
     ∷ []
 
-abbrev pub entries : List CommandTree
-entries =
+abbrev pub cars_commands : List CommandTree
+cars_commands =
     commands.Class (codes "car") 100 true []
     ∷ commands.Class (codes "big") 101 true []
-    ∷ commands.Region (codes "P") corners
-    ∷ commands.Insert (codes "car") (codes "a") driving []
-    ∷ commands.Insert (codes "car") (codes "b") (place_at 12000 0) []
+    ∷ commands.Region (codes "P") rectangle
+    ∷ commands.Insert (codes "car") (codes "a") driving_along []
+    ∷ commands.Insert (codes "car") (codes "b") (place_at_point 12000 0) []
     ∷ []
 
 abbrev pub cars_journal : List Accepted
-cars_journal = map (λ c. (0, c)) entries
+cars_journal = map (λ c. (0, c)) cars_commands
 
 abbrev pub cars : World
 cars = world cars_journal
 
 -- ---- queries
 
-abbrev pub part : (class variable : List ℕ) → FromPart
-part class variable = record { class = class; var = variable }
-
-abbrev pub query : List (List ℕ) → List FromPart → Tree → QueryTree
-query targets from f = record { targets = targets; from = from; formula = f }
+abbrev pub query_for : List (List ℕ) → List FromPart → Tree → QueryTree
+query_for targets from f = record { targets = targets; from = from; formula = f }
 
 -- RETRIEVE o FROM car o WHERE f
 abbrev pub of_cars : Tree → QueryTree
-of_cars f = query (codes "o" ∷ []) (part (codes "car") (codes "o") ∷ []) f
+of_cars f = query_for (codes "o" ∷ []) (from_part (codes "car") (codes "o") ∷ []) f
 
 -- RETRIEVE n,o FROM car o,car n WHERE DIST(o,n) <= 2
 abbrev pub of_pairs : QueryTree
 of_pairs =
-    query (codes "n" ∷ codes "o" ∷ []) (part (codes "car") (codes "o") ∷ part (codes "car") (codes "n") ∷ [])
+    query_for (codes "n" ∷ codes "o" ∷ []) (from_part (codes "car") (codes "o") ∷ from_part (codes "car") (codes "n") ∷ [])
     (shapes.Atom (atoms.Dist (codes "o") (codes "n") Le (pos 2000)))
 
 -- three variables of a class
 abbrev pub of_three : List ℕ → QueryTree
 of_three class =
-    query (codes "o" ∷ []) (part class (codes "o") ∷ part class (codes "n") ∷ part class (codes "m") ∷ []) (shapes.Truth true)
+    query_for (codes "o" ∷ []) (from_part class (codes "o") ∷ from_part class (codes "n") ∷ from_part class (codes "m") ∷ []) (shapes.Truth true)
 
-abbrev pub inside : List ℕ → Tree
-inside region = shapes.Atom (atoms.Inside (codes "o") region)
+abbrev pub inside_region : List ℕ → Tree
+inside_region region = shapes.Atom (atoms.Inside (codes "o") region)
 
-abbrev pub term : unit_type.Unit → Term
-term unit = record { factors = record { minus = false; times = None; unit = unit } ∷ [] }
+abbrev pub term_of_unit : unit_type.Unit → Term
+term_of_unit unit = record { factors = record { minus = false; times = None; unit = unit } ∷ [] }
 
 -- [v <- o.x] TRUE
-abbrev pub assigned : Tree
-assigned = shapes.Assign (codes "v", term (units.Attr (codes "o") (codes "x"))) (shapes.Truth true)
+abbrev pub assigned_x : Tree
+assigned_x = shapes.Assign (codes "v", term_of_unit (units.Attr (codes "o") (codes "x"))) (shapes.Truth true)
 
 -- o.x = "A"
 abbrev pub misfit : Tree
-misfit = shapes.Atom (atoms.Compare (term (units.Attr (codes "o") (codes "x"))) Eq (term (units.Text (codes "A"))))
+misfit = shapes.Atom (atoms.Compare (term_of_unit (units.Attr (codes "o") (codes "x"))) Eq (term_of_unit (units.Text (codes "A"))))
 
 abbrev pub circle : List (List ℕ) → Tree
 circle names = shapes.Atom (atoms.Sphere (pos 1000) names)
-
-abbrev pub o : List ℕ
-o = codes "o"
 
 abbrev pub row : List ℕ → List (ℕ × ℕ) → Row
 row key runs = record { key = key; runs = runs }
 
 pub record AnswersAsks : Type 0 where
   pub through_a_region :
-      rows_asked cars 0 30 (of_cars (inside (codes "P"))) ≡ row (0 ∷ []) ((10, 20) ∷ []) ∷ row (1 ∷ []) ((0, 30) ∷ []) ∷ []
+      rows_asked cars 0 30 (of_cars (inside_region (codes "P"))) ≡ row (0 ∷ []) ((10, 20) ∷ []) ∷ row (1 ∷ []) ((0, 30) ∷ []) ∷ []
   pub from_now_on :
-      rows_asked cars 15 9 (of_cars (inside (codes "P"))) ≡ row (0 ∷ []) ((15, 20) ∷ []) ∷ row (1 ∷ []) ((15, 24) ∷ []) ∷ []
+      rows_asked cars 15 9 (of_cars (inside_region (codes "P"))) ≡ row (0 ∷ []) ((15, 20) ∷ []) ∷ row (1 ∷ []) ((15, 24) ∷ []) ∷ []
   pub by_the_targets :
       rows_asked cars 0 20 of_pairs
       ≡ row (0 ∷ 0 ∷ []) ((0, 20) ∷ [])
@@ -128,20 +124,20 @@ pub record AnswersAsks : Type 0 where
   pub line_of_past :
       row_text cars.history.catalog 15 (row (1 ∷ []) ((10, 14) ∷ [])) ≡ codes "past b :" ++ flat_map run_text ((10, 14) ∷ []) ++ line_feed
   -- one look for the place and one for the presence of each of two cars
-  pub looks : most_looks (held cars_journal) (commands.Ask 30 (of_cars (inside (codes "P")))) ≡ 4
+  pub looks : most_looks (held cars_journal) (commands.Ask 30 (of_cars (inside_region (codes "P")))) ≡ 4
 
 pub record RefusesAsks : Type 0 where
-  pub unknown_region : ask_refusal cars 0 200000000 (of_cars (inside (codes "Q"))) ≡ Some refusals.UnknownName
+  pub unknown_region : ask_refusal cars 0 200000000 (of_cars (inside_region (codes "Q"))) ≡ Some refusals.UnknownName
   pub of_another_kind : ask_refusal cars 0 200000000 (of_cars misfit) ≡ Some refusals.WrongKind
   pub longest : ask_refusal cars 0 100000000 (of_cars (shapes.Truth true)) ≡ None
   pub one_longer : ask_refusal cars 0 100000001 (of_cars (shapes.Truth true)) ≡ Some refusals.SpanRange
   pub past_the_clock : ask_refusal cars 999999999 2 (of_cars (shapes.Truth true)) ≡ Some refusals.SpanRange
-  pub longest_assigned : ask_refusal cars 0 10000 (of_cars assigned) ≡ None
-  pub one_longer_assigned : ask_refusal cars 0 10001 (of_cars assigned) ≡ Some refusals.SpanRange
+  pub longest_assigned : ask_refusal cars 0 10000 (of_cars assigned_x) ≡ None
+  pub one_longer_assigned : ask_refusal cars 0 10001 (of_cars assigned_x) ≡ Some refusals.SpanRange
   pub circle_of_two : ask_refusal cars 0 100001 (of_cars (circle (o ∷ o ∷ []))) ≡ None
   pub longest_circle : ask_refusal cars 0 100000 (of_cars (circle (o ∷ o ∷ o ∷ []))) ≡ None
   pub one_longer_circle : ask_refusal cars 0 100001 (of_cars (circle (o ∷ o ∷ o ∷ []))) ≡ Some refusals.SpanRange
-  pub least_that_applies : ask_refusal cars 0 10001 (of_cars (shapes.And assigned (circle (o ∷ o ∷ o ∷ [])))) ≡ Some refusals.SpanRange
+  pub least_that_applies : ask_refusal cars 0 10001 (of_cars (shapes.And assigned_x (circle (o ∷ o ∷ o ∷ [])))) ≡ Some refusals.SpanRange
   pub most_bindings : ask_refusal cars 0 1 (of_three (codes "car")) ≡ None
   pub too_many_bindings : ask_refusal cars 0 1 (of_three (codes "big")) ≡ Some refusals.BindingLimit
 

@@ -3,12 +3,12 @@ use Rattle.std.specs.Prelude.{◌≡◌, ℕ, pos, true, None, Some, List, [], �
 use Rattle.outside.specs.Shelf.{Texts, texts_of}
 use Rattle.motion.specs.declared.cell.Given.TheVariants as givens
 use Rattle.motion.specs.declared.cell.NamedSet.{NamedSet}
-use Rattle.object_rows.specs.Commands.{nowhere}
+use Rattle.motion.specs.Cells.{nowhere}
 use Rattle.command_text.specs.Journal.{Accepted}
 use Rattle.command_text.specs.Tree as commands
 use Rattle.command_text.specs.Tree.{CommandTree}
 use Rattle.command_text.specs.declared.refusal.Refusal.TheVariants as refusals
-use Rattle.line_meaning.specs.Example.{driving}
+use Rattle.line_meaning.specs.Example.{driving_along}
 use Rattle.line_meaning.specs.Files.{texts_after}
 use Rattle.line_meaning.specs.Import.{journal_after_text}
 use Rattle.line_meaning.specs.Loading.{Loaded, BadLine, loading_of}
@@ -19,7 +19,7 @@ use Rattle.line_meaning.specs.Step.{Base, base, file_refusal, held, import_lines
 
 abbrev pub driven_car : List Accepted
 driven_car =
-    at_once (commands.Class (codes "car") 2 true [] ∷ commands.Insert (codes "car") (codes "a") driving [] ∷ commands.Tick 3 ∷ [])
+    at_once (commands.Class (codes "car") 2 true [] ∷ commands.Insert (codes "car") (codes "a") driving_along [] ∷ commands.Tick 3 ∷ [])
 
 abbrev pub no_texts : Texts
 no_texts = texts_of []

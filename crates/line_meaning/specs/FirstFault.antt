@@ -13,7 +13,7 @@ use Rattle.ftl_typer.specs.First.{first_fault}
 use Rattle.ftl_typer.specs.declared.fault.TypeFault.{TypeFault}
 use Rattle.ftl_typer.specs.declared.fault.TypeFault.TheVariants as type_faults
 use Rattle.line_meaning.specs.Ask.{bindings_asked, is_past_span}
-use Rattle.line_meaning.specs.Blurred.{is_barred, is_blurred_crowded, is_blurred_past}
+use Rattle.line_meaning.specs.Blurred.{has_not_or_circle, is_blurred_crowded, is_blurred_past}
 use Rattle.line_meaning.specs.QueryFault.{passes_bindings}
 use Rattle.line_meaning.specs.Registry.{Known, is_registered}
 
@@ -59,7 +59,7 @@ blurred_size_refusal w now span q = first_that_holds (
 
 abbrev pub first_blurred_refusal : World → (now span : ℕ) → QueryTree → Option Refusal
 first_blurred_refusal w now span q =
-    or_else (refusal_if_barred (is_barred q.formula) (type_refusal w q)) (blurred_size_refusal w now span q)
+    or_else (refusal_if_barred (has_not_or_circle q.formula) (type_refusal w q)) (blurred_size_refusal w now span q)
 
 -- ---- a query that is to be registered
 

@@ -2,7 +2,7 @@
 use Rattle.std.specs.Prelude.{◌≡◌, ℕ, Bool, true, is_none, Option, None, Some, option_and_then, List, [], ◌∷◌, ◌++◌, if◌then◌else◌}
 use Rattle.history.specs.Catalog.{attributes_of_class, class_of}
 use Rattle.object_rows.specs.declared.rows.ObjectRow.{ObjectRow}
-use Rattle.object_rows.specs.Commands.{command_of}
+use Rattle.object_rows.specs.Commands.{command_of_row}
 use Rattle.object_rows.specs.Rows.{rows_in}
 use Rattle.session_file.specs.Kept.{may_be_loaded}
 use Rattle.command_text.specs.Journal.{Accepted, clock}
@@ -15,7 +15,7 @@ use Rattle.line_meaning.specs.Registry.{known}
 
 -- the command of a row: an update where the object is present, else an insert into the class
 abbrev pub row_command : List Accepted → List ℕ → ObjectRow → CommandTree
-row_command journal class row = command_of class (is_present (world journal).history row.name (clock journal)) row
+row_command journal class row = command_of_row class (is_present (world journal).history row.name (clock journal)) row
 
 abbrev pub with_entry : List Accepted → CommandTree → List Accepted
 with_entry journal c = (held_after (held journal) c).journal
@@ -30,7 +30,7 @@ is_taken journal c = is_none (fault_of (held journal) c)
 
 -- the command of a row may be a line of a session's text, as that of each row of a text may
 abbrev pub MayBeLoaded : List ℕ → ObjectRow → Type 0
-MayBeLoaded class row = (present : Bool) → may_be_loaded (command_of class present row) ≡ true
+MayBeLoaded class row = (present : Bool) → may_be_loaded (command_of_row class present row) ≡ true
 
 -- the journal after rows, each judged in the journal after the rows before it; None where one of them isn't taken
 abbrev pub journal_after_rows : List ℕ → List Accepted → List ObjectRow → Option (List Accepted)

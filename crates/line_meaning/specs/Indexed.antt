@@ -1,13 +1,11 @@
 -- The indexes of a session: what refuses an `index` and a `range`, what they make of the indexes, and the rows that answer a
 -- `range`.
-use Rattle.std.specs.Prelude.{ℕ, ◌+◌, ◌*◌, ◌-◌, ◌==◌, nat_le, nat_lt, ℤ, Bool, true, false, ◌&&◌, not, Option, None, is_none, is_some, option_and_then, option_map, List, [], ◌∷◌, ◌++◌, length, set, slice_get}
+use Rattle.std.specs.Prelude.{ℕ, ◌+◌, ◌*◌, ◌-◌, ◌==◌, nat_le, nat_lt, ℤ, Bool, false, ◌&&◌, not, Option, None, is_none, is_some, option_and_then, option_map, List, [], ◌∷◌, ◌++◌, length, set, slice_get}
 use Rattle.std.specs.List.{find, position}
 use Rattle.std.specs.Option.{option_map_or}
 use Rattle.std.specs.Str.{bytes_eq}
 use Rattle.exact.specs.First.{first_that_holds}
 use Rattle.tick_set.specs.declared.spans.TheConstants.{LAST_TICK}
-use Rattle.motion.specs.declared.cell.AttrKind.{AttrKind}
-use Rattle.motion.specs.declared.cell.AttrKind.TheVariants as kinds
 use Rattle.history.specs.Catalog.{Catalog, ClassInfo, number_of_class}
 use Rattle.history.specs.World.{World}
 use Rattle.meaning.specs.Answer.{Row, answer}
@@ -19,6 +17,7 @@ use Rattle.command_text.specs.declared.refusal.Refusal.TheVariants as refusals
 use Rattle.command_text.specs.Tree
 use Rattle.command_text.specs.Tree.{CommandTree}
 use Rattle.line_meaning.specs.declared.limits.TheConstants.{INDEX_LIMIT}
+use Rattle.object_rows.specs.Columns.{is_dynamic}
 
 -- An index that a session has: what it is of, and how many entries the journal had at the last `range` that it answered, 0
 -- before the first. This number says which objects it may have to look at anew; no reply depends on it.
@@ -28,62 +27,58 @@ pub record IndexEntry : Type 0 where
 
 -- ---- An attribute of a class, by their numbers
 
-pub record Column : Type 0 where
+pub record IndexedColumn : Type 0 where
   pub class : ℕ
   pub place : ℕ
 
-abbrev pub place_in : List ℕ → ClassInfo → Option ℕ
-place_in attribute k = position (λ a. bytes_eq attribute a.name) k.attributes
+abbrev pub attribute_place : List ℕ → ClassInfo → Option ℕ
+attribute_place attribute k = position (λ a. bytes_eq attribute a.name) k.attributes
 
-abbrev pub column_in : List ClassInfo → List ℕ → ℕ → Option Column
+abbrev pub column_in : List ClassInfo → List ℕ → ℕ → Option IndexedColumn
 column_in classes attribute number =
-    option_map (λ place. record { class = number; place = place }) (option_and_then (place_in attribute) (slice_get classes number))
+    option_map (λ place. record { class = number; place = place }) (option_and_then (attribute_place attribute) (slice_get classes number))
 
 -- None where the class isn't there, or it hasn't the attribute
-abbrev pub column : Catalog → (class attribute : List ℕ) → Option Column
+abbrev pub column : Catalog → (class attribute : List ℕ) → Option IndexedColumn
 column c class attribute = option_and_then (column_in c.classes attribute) (number_of_class c class)
 
-abbrev pub is_dynamic : AttrKind → Bool
-is_dynamic kinds.Dyn = true
-is_dynamic kind = false
-
 -- whether the values of the attribute are functions of time
-abbrev pub varies : List ClassInfo → Column → Bool
+abbrev pub varies : List ClassInfo → IndexedColumn → Bool
 varies classes at =
     option_map_or is_dynamic
     (option_map (λ a. a.kind) (option_and_then (λ k. slice_get k.attributes at.place) (slice_get classes at.class))) false
 
 -- ---- Its index
 
-abbrev pub is_of : Column → IndexEntry → Bool
+abbrev pub is_of : IndexedColumn → IndexEntry → Bool
 is_of at e = (e.grid.class == at.class) && (e.grid.attribute == at.place)
 
-abbrev pub index_of : List IndexEntry → Column → Option IndexEntry
-index_of indexes at = find (is_of at) indexes
+abbrev pub entry_at_column : List IndexEntry → IndexedColumn → Option IndexEntry
+entry_at_column indexes at = find (is_of at) indexes
 
 -- by names
 abbrev pub index_named : Catalog → List IndexEntry → (class attribute : List ℕ) → Option IndexEntry
-index_named c indexes class attribute = option_and_then (index_of indexes) (column c class attribute)
+index_named c indexes class attribute = option_and_then (entry_at_column indexes) (column c class attribute)
 
 -- in the place of the one of its attribute, or else last
-abbrev pub with_index : List IndexEntry → Column → IndexEntry → List IndexEntry
+abbrev pub with_index : List IndexEntry → IndexedColumn → IndexEntry → List IndexEntry
 with_index indexes at e = option_map_or (λ place. set indexes place e) (position (is_of at) indexes) (indexes ++ e ∷ [])
 
 -- ---- Refusals
 
 -- there is an index of the attribute that isn't past its last tick
-abbrev pub is_lasting : List IndexEntry → ℕ → Column → Bool
-is_lasting indexes now at = option_map_or (λ e. nat_le now (last_covered e.grid)) (index_of indexes at) false
+abbrev pub is_lasting : List IndexEntry → ℕ → IndexedColumn → Bool
+is_lasting indexes now at = option_map_or (λ e. nat_le now (last_covered e.grid)) (entry_at_column indexes at) false
 
 -- its last tick would be past the last of all
 abbrev pub is_index_past : ℕ → Bool
 is_index_past now = nat_lt LAST_TICK (now + SLICES * SLICE_TICKS - 1)
 
 -- there is no room for one more, and none of the attribute
-abbrev pub is_index_crowded : List IndexEntry → Column → Bool
-is_index_crowded indexes at = nat_le INDEX_LIMIT (length indexes) && is_none (index_of indexes at)
+abbrev pub is_index_crowded : List IndexEntry → IndexedColumn → Bool
+is_index_crowded indexes at = nat_le INDEX_LIMIT (length indexes) && is_none (entry_at_column indexes at)
 
-abbrev pub index_refusal : Catalog → List IndexEntry → ℕ → Option Column → Option Refusal
+abbrev pub index_refusal : Catalog → List IndexEntry → ℕ → Option IndexedColumn → Option Refusal
 index_refusal c indexes now at = first_that_holds (
     (refusals.UnknownName, is_none at)
     ∷ (refusals.NameTaken, option_map_or (is_lasting indexes now) at false)
@@ -113,7 +108,7 @@ index_fault indexes w now _ = None
 -- ---- What they make of the indexes
 
 -- a new one, that has seen no object
-abbrev pub new_index : ℕ → ℤ → Column → IndexEntry
+abbrev pub new_index : ℕ → ℤ → IndexedColumn → IndexEntry
 new_index now width at = record {
   grid = record { class = at.class; attribute = at.place; from = now; width = width };
   seen = 0;
@@ -124,7 +119,7 @@ abbrev pub indexes_after : List IndexEntry → World → (now entries : ℕ) →
 indexes_after indexes w now entries (Tree.Index class attribute width) =
     option_map_or (λ at. with_index indexes at (new_index now width at)) (column w.history.catalog class attribute) indexes
 indexes_after indexes w now entries (Tree.Range span class attribute least greatest) =
-    option_map_or (λ at. option_map_or (λ e. with_index indexes at (record e { seen = entries })) (index_of indexes at) indexes)
+    option_map_or (λ at. option_map_or (λ e. with_index indexes at (record e { seen = entries })) (entry_at_column indexes at) indexes)
     (column w.history.catalog class attribute) indexes
 indexes_after indexes w now entries _ = indexes
 

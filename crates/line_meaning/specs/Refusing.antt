@@ -23,7 +23,7 @@ use Rattle.command_text.specs.Text.{text_of}
 use Rattle.command_text.specs.Tree
 use Rattle.command_text.specs.Tree.{CommandTree}
 use Rattle.line_meaning.specs.Ask.{bindings_asked, has_fault, is_past_span}
-use Rattle.line_meaning.specs.Blurred.{is_barred, is_blurred_crowded, is_blurred_past}
+use Rattle.line_meaning.specs.Blurred.{has_not_or_circle, is_blurred_crowded, is_blurred_past}
 use Rattle.line_meaning.specs.Fault.{is_present, passes_limits}
 use Rattle.line_meaning.specs.Indexed.{column, index_named, is_index_crowded, is_index_past, is_lasting, is_past_index, varies}
 use Rattle.line_meaning.specs.Journal.{attribute_of, world}
@@ -32,8 +32,8 @@ use Rattle.line_meaning.specs.QueryFault.{passes_bindings}
 use Rattle.line_meaning.specs.Registry.{Known, is_registered, known}
 use Rattle.line_meaning.specs.Step.{Base, Held, journal_after_import}
 
-abbrev pub catalog_of : Known → Catalog
-catalog_of k = k.world.history.catalog
+abbrev pub catalog_in : Known → Catalog
+catalog_in k = k.world.history.catalog
 
 abbrev pub known_catalog : Held → Catalog
 known_catalog h = (world h.journal).history.catalog
@@ -41,23 +41,23 @@ known_catalog h = (world h.journal).history.catalog
 -- ---- 7: a class, region, object, attribute, variable or registered query isn't known
 
 -- the class isn't there, or it hasn't an attribute that is named
-abbrev pub lacks : Option ClassInfo → List NamedSet → Bool
-lacks class sets = is_none class || has_unknown (attributes_of_class class) sets
+abbrev pub lacks_class_or_attribute : Option ClassInfo → List NamedSet → Bool
+lacks_class_or_attribute class sets = is_none class || has_unknown (attributes_of_class class) sets
 
 abbrev pub names_unknown : Known → CommandTree → Bool
-names_unknown k (Tree.Insert class name place sets) = lacks (class_of (catalog_of k) class) sets
-names_unknown k (Tree.Update name place sets) = lacks (class_of_object (catalog_of k) name) sets
-names_unknown k (Tree.Remove name) = is_none (object_of (catalog_of k) name)
+names_unknown k (Tree.Insert class name place sets) = lacks_class_or_attribute (class_of (catalog_in k) class) sets
+names_unknown k (Tree.Update name place sets) = lacks_class_or_attribute (class_of_object (catalog_in k) name) sets
+names_unknown k (Tree.Remove name) = is_none (object_of (catalog_in k) name)
 names_unknown k (Tree.Ask span q) = has_fault kinds.UnknownName k.world q
 names_unknown k (Tree.Watch name span q) = has_fault kinds.UnknownName k.world q
 names_unknown k (Tree.Keep name span q) = has_fault kinds.UnknownName k.world q
 names_unknown k (Tree.Show name) = not (is_registered k.live name)
 names_unknown k (Tree.Drop name) = not (is_registered k.live name)
-names_unknown k (Tree.Nearest span n object class) = is_near_unknown (catalog_of k) object class
+names_unknown k (Tree.Nearest span n object class) = is_near_unknown (catalog_in k) object class
 names_unknown k (Tree.Must error span q) = has_fault kinds.UnknownName k.world q
 names_unknown k (Tree.May error span q) = has_fault kinds.UnknownName k.world q
-names_unknown k (Tree.Import class file) = is_none (number_of_class (catalog_of k) class)
-names_unknown k (Tree.Export class file) = is_none (number_of_class (catalog_of k) class)
+names_unknown k (Tree.Import class file) = is_none (number_of_class (catalog_in k) class)
+names_unknown k (Tree.Export class file) = is_none (number_of_class (catalog_in k) class)
 names_unknown k _ = false
 
 -- the class isn't there, or it hasn't the attribute, or an index of that is asked for and isn't there
@@ -70,9 +70,9 @@ lacks_index h _ = false
 
 abbrev pub has_taken_name : Known → CommandTree → Bool
 has_taken_name k (Tree.Class name capacity point attributes) =
-    is_some (class_of (catalog_of k) name) || repeats_attribute (with_coordinates point (map attribute_of attributes))
+    is_some (class_of (catalog_in k) name) || repeats_attribute (with_coordinates point (map attribute_of attributes))
 has_taken_name k (Tree.Region name points) = is_some (region_number k.world.regions name)
-has_taken_name k (Tree.Insert class name place sets) = is_elsewhere (catalog_of k) class name || repeats_set place sets
+has_taken_name k (Tree.Insert class name place sets) = is_elsewhere (catalog_in k) class name || repeats_set place sets
 has_taken_name k (Tree.Update name place sets) = repeats_set place sets
 has_taken_name k (Tree.Ask span q) = has_fault kinds.NameTaken k.world q
 has_taken_name k (Tree.Watch name span q) = has_fault kinds.NameTaken k.world q || is_registered k.live name
@@ -94,14 +94,14 @@ abbrev pub misfits : Option ClassInfo → Place → List NamedSet → Bool
 misfits class place sets = is_misplaced class place || has_misfit (attributes_of_class class) sets
 
 abbrev pub is_of_wrong_kind : Known → CommandTree → Bool
-is_of_wrong_kind k (Tree.Insert class name place sets) = misfits (class_of (catalog_of k) class) place sets
-is_of_wrong_kind k (Tree.Update name place sets) = misfits (class_of_object (catalog_of k) name) place sets
+is_of_wrong_kind k (Tree.Insert class name place sets) = misfits (class_of (catalog_in k) class) place sets
+is_of_wrong_kind k (Tree.Update name place sets) = misfits (class_of_object (catalog_in k) name) place sets
 is_of_wrong_kind k (Tree.Ask span q) = has_fault kinds.WrongKind k.world q
 is_of_wrong_kind k (Tree.Watch name span q) = has_fault kinds.WrongKind k.world q
 is_of_wrong_kind k (Tree.Keep name span q) = has_fault kinds.WrongKind k.world q
-is_of_wrong_kind k (Tree.Nearest span n object class) = is_near_placeless (catalog_of k) object class
-is_of_wrong_kind k (Tree.Must error span q) = has_fault kinds.WrongKind k.world q || is_barred q.formula
-is_of_wrong_kind k (Tree.May error span q) = has_fault kinds.WrongKind k.world q || is_barred q.formula
+is_of_wrong_kind k (Tree.Nearest span n object class) = is_near_placeless (catalog_in k) object class
+is_of_wrong_kind k (Tree.Must error span q) = has_fault kinds.WrongKind k.world q || has_not_or_circle q.formula
+is_of_wrong_kind k (Tree.May error span q) = has_fault kinds.WrongKind k.world q || has_not_or_circle q.formula
 is_of_wrong_kind k _ = false
 
 -- an index is asked for of an attribute whose values are no functions of time
@@ -152,29 +152,29 @@ passes_clock k _ = false
 -- ---- 14: an insert of a present object, or an update or removal of one that isn't present
 
 -- whether the object of a name is present now
-abbrev pub is_there : Known → List ℕ → Bool
-is_there k name = is_present k.world.history name k.now
+abbrev pub is_present_now : Known → List ℕ → Bool
+is_present_now k name = is_present k.world.history name k.now
 
 abbrev pub has_wrong_presence : Known → CommandTree → Bool
-has_wrong_presence k (Tree.Insert class name place sets) = is_there k name
-has_wrong_presence k (Tree.Update name place sets) = not (is_there k name)
-has_wrong_presence k (Tree.Remove name) = not (is_there k name)
+has_wrong_presence k (Tree.Insert class name place sets) = is_present_now k name
+has_wrong_presence k (Tree.Update name place sets) = not (is_present_now k name)
+has_wrong_presence k (Tree.Remove name) = not (is_present_now k name)
 has_wrong_presence k _ = false
 
 -- ---- 15: a new name for a class that has had as many names as its capacity
 
 abbrev pub passes_capacity : Known → CommandTree → Bool
-passes_capacity k (Tree.Insert class name place sets) = is_past_capacity (catalog_of k) class name
+passes_capacity k (Tree.Insert class name place sets) = is_past_capacity (catalog_in k) class name
 passes_capacity k _ = false
 
 -- ---- 16: there is no room for one more class, region, registered query or index
 
-abbrev pub is_full : Known → CommandTree → Bool
-is_full k (Tree.Class name capacity point attributes) = nat_le CLASS_LIMIT (length (catalog_of k).classes)
-is_full k (Tree.Region name points) = nat_le REGION_LIMIT (length k.world.regions)
-is_full k (Tree.Watch name span q) = nat_le QUERY_LIMIT (length k.live)
-is_full k (Tree.Keep name span q) = nat_le QUERY_LIMIT (length k.live)
-is_full k _ = false
+abbrev pub is_limit_reached : Known → CommandTree → Bool
+is_limit_reached k (Tree.Class name capacity point attributes) = nat_le CLASS_LIMIT (length (catalog_in k).classes)
+is_limit_reached k (Tree.Region name points) = nat_le REGION_LIMIT (length k.world.regions)
+is_limit_reached k (Tree.Watch name span q) = nat_le QUERY_LIMIT (length k.live)
+is_limit_reached k (Tree.Keep name span q) = nat_le QUERY_LIMIT (length k.live)
+is_limit_reached k _ = false
 
 abbrev pub has_many_indexes : Held → CommandTree → Bool
 has_many_indexes h (Tree.Index class attribute width) =
@@ -187,7 +187,7 @@ abbrev pub has_many_bindings : Known → CommandTree → Bool
 has_many_bindings k (Tree.Ask span q) = nat_lt BINDING_LIMIT (bindings_asked k.world q)
 has_many_bindings k (Tree.Watch name span q) = passes_bindings k (bindings_asked k.world q)
 has_many_bindings k (Tree.Keep name span q) = passes_bindings k (bindings_asked k.world q)
-has_many_bindings k (Tree.Nearest span n object class) = is_near_crowded (catalog_of k) class
+has_many_bindings k (Tree.Nearest span n object class) = is_near_crowded (catalog_in k) class
 has_many_bindings k (Tree.Must error span q) = is_blurred_crowded k.world q
 has_many_bindings k (Tree.May error span q) = is_blurred_crowded k.world q
 has_many_bindings k _ = false
@@ -228,7 +228,7 @@ refuses b line refusals.SpanRange = passes_index b.held (spelled line) || passes
 refuses b line refusals.ClockEnd = passes_clock (known b.held.journal) (spelled line)
 refuses b line refusals.Presence = has_wrong_presence (known b.held.journal) (spelled line)
 refuses b line refusals.ClassFull = passes_capacity (known b.held.journal) (spelled line)
-refuses b line refusals.StoreFull = has_many_indexes b.held (spelled line) || is_full (known b.held.journal) (spelled line)
+refuses b line refusals.StoreFull = has_many_indexes b.held (spelled line) || is_limit_reached (known b.held.journal) (spelled line)
 refuses b line refusals.BindingLimit = has_many_bindings (known b.held.journal) (spelled line)
 refuses b line refusals.JournalFull = passes_journal b.held.journal (spelled line)
 refuses b line refusals.NoFile = lacks_text b (spelled line)

@@ -30,8 +30,8 @@ has_name name r = bytes_eq name r.name
 abbrev pub is_registered : List Registration → List ℕ → Bool
 is_registered live name = list_any (has_name name) live
 
-abbrev pub query_of : List Registration → List ℕ → Option Registration
-query_of live name = find (has_name name) live
+abbrev pub registration_named : List Registration → List ℕ → Option Registration
+registration_named live name = find (has_name name) live
 
 -- after a command that is accepted at a tick. A name that was dropped and is registered again stands last.
 abbrev pub live_after : World → ℕ → List Registration → CommandTree → List Registration

@@ -3,8 +3,7 @@ use Rattle.std.specs.Prelude.{ℕ, length, nat_le, nat_lt, ◌&&◌, List, [], �
 use Rattle.std.specs.List.{enumerate_from, list_any, flat_map}
 use Rattle.geometry.specs.Region.{Region}
 use Rattle.history.specs.Catalog.{Catalog, ClassInfo, name_of, names}
-use Rattle.formula.specs.declared.kind.QueryKind.{QueryKind}
-use Rattle.formula.specs.declared.kind.QueryKind.TheVariants as kinds
+use Rattle.formula.specs.Kinds.{kind_word}
 use Rattle.meaning.specs.Answer.{Row}
 use Rattle.line_meaning.specs.Registry.{Registration}
 
@@ -46,12 +45,12 @@ abbrev pub clock_line : ℕ → List ℕ
 clock_line now = codes "clock " ++ decimal now ++ line_feed
 
 -- a word, a name, and a number after it
-abbrev pub counted : List ℕ → List ℕ → ℕ → List ℕ
-counted word name number = word ++ name ++ codes " " ++ decimal number
+abbrev pub counted_text : List ℕ → List ℕ → ℕ → List ℕ
+counted_text word name number = word ++ name ++ codes " " ++ decimal number
 
 -- `class car 2/100`: how many names it ever had, and how many it may have
 abbrev pub class_counts : List ℕ → ℕ → ℕ → List ℕ
-class_counts name count capacity = counted (codes "class ") name count ++ codes "/" ++ decimal capacity ++ line_feed
+class_counts name count capacity = counted_text (codes "class ") name count ++ codes "/" ++ decimal capacity ++ line_feed
 
 -- the line of a class, which stands with its number
 abbrev pub class_line : Catalog → ℕ × ClassInfo → List ℕ
@@ -59,14 +58,10 @@ class_line c (number, k) = class_counts k.name (length (names c number)) k.capac
 
 -- `region P 4`: how many points it has
 abbrev pub region_counts : List ℕ → ℕ → List ℕ
-region_counts name points = counted (codes "region ") name points ++ line_feed
+region_counts name points = counted_text (codes "region ") name points ++ line_feed
 
 abbrev pub region_line : Region → List ℕ
 region_line r = region_counts r.name (length r.points)
-
-abbrev pub kind_word : QueryKind → List ℕ
-kind_word kinds.Watch = codes "watch"
-kind_word kinds.Keep = codes "keep"
 
 -- `watch w 0..30`
 abbrev pub query_line : List ℕ → List ℕ → ℕ → ℕ → List ℕ

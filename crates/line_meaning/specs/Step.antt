@@ -6,7 +6,7 @@ use Rattle.outside.specs.Shelf.{Texts}
 use Rattle.object_rows.specs.declared.rows.ObjectRow.{ObjectRow}
 use Rattle.command_text.specs.declared.refusal.Refusal.{Refusal}
 use Rattle.command_text.specs.declared.refusal.Refusal.TheVariants.{BadFile, NoFile}
-use Rattle.command_text.specs.Refusals.{line_of}
+use Rattle.command_text.specs.Refusals.{refusal_line}
 use Rattle.command_text.specs.Journal.{Accepted, clock, spelled}
 use Rattle.command_text.specs.Tree
 use Rattle.command_text.specs.Tree.{CommandTree}
@@ -76,7 +76,7 @@ reply_of b c = reply_by (role_of c) b.held c
 
 -- A refused line changes nothing and answers with its refusal.
 abbrev pub step_by : Base → CommandTree → Option Refusal → Base × List ℕ
-step_by b c (Some refusal) = (b, line_of refusal ++ line_feed)
+step_by b c (Some refusal) = (b, refusal_line refusal ++ line_feed)
 step_by b c None = (base_after b c, reply_of b c)
 
 unfoldable pub step : Base → List ℕ → Base × List ℕ

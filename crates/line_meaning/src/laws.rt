@@ -4,7 +4,7 @@ ghost use Rattle.std.specs.List.{AllByRecursion};
 ghost use Rattle.command_text.specs.declared.reading.TheConstants.{LINE_LIMIT};
 ghost use Rattle.command_text.specs.declared.refusal.Refusal.TheVariants.{LineTooLong};
 ghost use Rattle.command_text.specs.declared.refusal.Refusal.{Refusal};
-ghost use Rattle.command_text.specs.Refusals.{line_of, number_of};
+ghost use Rattle.command_text.specs.Refusals.{refusal_line, refusal_number};
 ghost use Rattle.command_text.specs.Journal.{Accepted, spelled};
 ghost use Rattle.command_text.specs.Shape.{IsPrintable, IsShortName};
 ghost use Rattle.command_text.specs.Text.{text_of};
@@ -36,7 +36,7 @@ pub fn long_lines_step_alike()
     ensures refusal { (h : Held) (line : List ℕ) → LINE_LIMIT < length line
         → line_refusal h line ≡ Some LineTooLong }
     ensures step { (b : Base) (line : List ℕ) → LINE_LIMIT < length line
-        → step b line ≡ (b, line_of LineTooLong ++ line_feed) }
+        → step b line ≡ (b, refusal_line LineTooLong ++ line_feed) }
 {}
 
 /// The writes of a journal that steps lead to are accepted writes, so all that holds of the states that
@@ -101,7 +101,7 @@ pub fn refusals_come_in_order()
     ensures first { (b : Base) (line : List ℕ) → refusal_of b line ≡ find (refuses b line) all_refusals }
 
     // Each refusal stands in the list at the place of its number.
-    ensures places { (r : Refusal) → slice_get all_refusals (number_of r - 1) ≡ Some r }
+    ensures places { (r : Refusal) → slice_get all_refusals (refusal_number r - 1) ≡ Some r }
 {}
 
 /// Of a query that a `must` and a `may` are answered: what `must` tells is so in each world in which no object is off by more

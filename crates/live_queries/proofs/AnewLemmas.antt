@@ -18,8 +18,8 @@ use Rattle.formula.specs.declared.kind.QueryKind.{QueryKind}
 use Rattle.formula.specs.declared.kind.QueryKind.TheVariants.{Keep, Watch}
 use Rattle.kept_rows.specs.declared.binding.TheConstants.{BINDING_LIMIT}
 use Rattle.kept_rows.specs.declared.change.Change.{Change}
-use Rattle.kept_rows.specs.Changes.{after}
-use Rattle.kept_rows.specs.Exact.{AreRowsOf}
+use Rattle.kept_rows.specs.Changes.{rows_after}
+use Rattle.kept_rows.specs.Exact.{AreFullRows}
 use Rattle.kept_rows.specs.Numbers.{counts, size_of}
 use Rattle.kept_rows.specs.Rows.{HasRoom}
 use Rattle.meaning.specs.Agreement.{SeesItsClasses}
@@ -28,16 +28,16 @@ use Rattle.meaning.specs.Fits.{FitsItsClasses}
 use Rattle.meaning.specs.Reads.{change_reads}
 use Rattle.meaning.specs.Registered.{first_tick}
 use Rattle.object_store.specs.Contents.{Contents, catalog_of}
-use Rattle.live_queries.specs.Asked.{IsBefore, class_in}
-use Rattle.live_queries.specs.Columns.{AreColumnsOf, Column, HaveCapacitiesOf, HaveObjectsOf, gives, object_of, order_of, variables_of}
+use Rattle.live_queries.specs.Asked.{ExtendsCatalog, class_in}
+use Rattle.live_queries.specs.Columns.{AreColumnsOf, Column, HaveCapacitiesOf, HaveObjectsOf, column_variables, gives, object_at_number, order_of}
 use Rattle.live_queries.specs.Current.{row_at, told_from}
 use Rattle.live_queries.specs.Effort.{judged_reads}
-use Rattle.live_queries.specs.Kept.{IsKept, KeptQuery}
+use Rattle.live_queries.specs.Kept.{IsKeptQuery, KeptQuery}
 use Rattle.live_queries.specs.Prepared.{AreColumnsWith, AreNewRows, HaveRoomFor}
 use Rattle.live_queries.specs.Registering.{IsRegistered}
 use Rattle.live_queries.specs.Renewed.{is_judged, judged_from, judged_tick}
 use Rattle.live_queries.specs.Told.{Info, info_of}
-use Rattle.live_queries.specs.Written.{HaveObjectsWith, lacks}
+use Rattle.live_queries.specs.Written.{HaveObjectsWith, lacks_objects}
 use Rattle.live_queries.proofs.CurrentLemmas.{variable_of_query}
 use Rattle.live_queries.proofs.FormedLemmas.{are_counted, have_capacities, have_objects, variables_are}
 use Rattle.live_queries.proofs.GrowLemmas.{have_room, have_with, lack_tells}
@@ -58,14 +58,14 @@ targets_first catalog q cs are =
     shorter xs ys = let e : length (xs ++ ys) ≡ length xs + length ys = length-append xs ys in omega (arith, e)
 
 pub few_numbers : (catalog : Catalog) (q : ResolvedQuery) (cs : List Column) → IsResolved q → AreColumnsOf catalog q.classes (order_of q) cs →
-    most_bindings catalog.classes q.classes ≤ BINDING_LIMIT → size_of (variables_of cs) ≤ BINDING_LIMIT
+    most_bindings catalog.classes q.classes ≤ BINDING_LIMIT → size_of (column_variables cs) ≤ BINDING_LIMIT
 few_numbers catalog q cs is are few =
-    let e : size_of (variables_of cs) ≡ most_bindings catalog.classes q.classes = columns_size catalog q cs is are in
+    let e : size_of (column_variables cs) ≡ most_bindings catalog.classes q.classes = columns_size catalog q cs is are in
     omega (arith, e, few)
 
 pub anew_is_kept : (catalog : Catalog) (k : KeptQuery) → IsResolved k.query → SeesItsClasses k.query →
-    AreColumnsOf catalog k.query.classes (order_of k.query) k.columns → size_of (variables_of k.columns) ≤ BINDING_LIMIT →
-    HasRoom k.pages (size_of (variables_of k.columns)) → k.entry ≤ k.expiry → k.expiry ≤ LAST_TICK → IsKept k
+    AreColumnsOf catalog k.query.classes (order_of k.query) k.columns → size_of (column_variables k.columns) ≤ BINDING_LIMIT →
+    HasRoom k.pages (size_of (column_variables k.columns)) → k.entry ≤ k.expiry → k.expiry ≤ LAST_TICK → IsKeptQuery k
 anew_is_kept catalog k is sees are few room window last = record {
   resolved = is;
   sees = sees;
@@ -80,7 +80,7 @@ anew_is_kept catalog k is sees are few room window last = record {
 pub anew_is_registered : (w : World) (now : ℕ) (given : Info) (k : KeptQuery) (lo : ℕ) → info_of k ≡ given → FitsItsClasses w k.query →
     AreColumnsOf w.history.catalog k.query.classes (order_of k.query) k.columns →
     ((t : ℕ) → told_from k now ≤ t → nat_le lo t ≡ nat_le k.entry t) →
-    AreRowsOf (row_at k) (counts (variables_of k.columns)) (λ n t. within lo k.expiry t && holds_full w k.query k.expiry (object_of k.columns n) t) →
+    AreFullRows (row_at k) (counts (column_variables k.columns)) (λ n t. within lo k.expiry t && holds_full w k.query k.expiry (object_at_number k.columns n) t) →
     IsRegistered w now given k.query k
 anew_is_registered w now given k lo info fits are told rows = record {
   info = info;
@@ -88,7 +88,7 @@ anew_is_registered w now given k lo info fits are told rows = record {
   current = record {
     objects = have_objects w.history.catalog k.query.classes (order_of k.query) k.columns are;
     rows = λ c t from. rows c t
-        ∙ ap (λ b. counts (variables_of k.columns) c && ((b && nat_le t k.expiry) && holds_full w k.query k.expiry (object_of k.columns c) t)) (told t from);
+        ∙ ap (λ b. counts (column_variables k.columns) c && ((b && nat_le t k.expiry) && holds_full w k.query k.expiry (object_at_number k.columns c) t)) (told t from);
   };
   fits = record { fits = fits; capacities = have_capacities w.history.catalog k.query.classes (order_of k.query) k.columns are };
 }
@@ -99,10 +99,10 @@ anew_is_registered w now given k lo info fits are told rows = record {
 pub expired_rows : (w : World) (grows : Bool) (object class now : ℕ) (k : KeptQuery) (changes : List (Change (List Span))) → k.expiry < now → changes ≡ [] →
     AreNewRows w grows object class now k changes
 expired_rows w grows object class now k changes past none ds made = record {
-  stay = λ c other t. ap (λ (fs : List (Change (List Span))). after spans_have fs (row_at k) c t) none;
-  past = λ c judged t from before. ap (λ (fs : List (Change (List Span))). after spans_have fs (row_at k) c t) none;
+  stay = λ c other t. ap (λ (fs : List (Change (List Span))). rows_after spans_have fs (row_at k) c t) none;
+  past = λ c judged t from before. ap (λ (fs : List (Change (List Span))). rows_after spans_have fs (row_at k) c t) none;
   anew = λ c judged t from later.
-      absurd (false≢true (sym (ap (λ b. b && (counts (variables_of ds) c && gives ds object c)) (not_alive now k.expiry past)) ∙ judged));
+      absurd (false≢true (sym (ap (λ b. b && (counts (column_variables ds) c && gives ds object c)) (not_alive now k.expiry past)) ∙ judged));
 }
   where
     not_alive : (n e : ℕ) → e < n → nat_le n e ≡ false
@@ -122,9 +122,9 @@ pub alive_rows : (w : World) (grows : Bool) (object class now lo from : ℕ) (k 
     ((t : ℕ) → judged_from k now ≤ t → nat_le lo t ≡ nat_le k.entry t) →
     ((t : ℕ) → told_from k now ≤ t → nat_le from t ≡ nat_le (judged_from k now) t) →
     ((ds : List Column) → AreColumnsWith grows class k.query.classes object k.columns ds → (c t : ℕ) →
-    after spans_have changes (row_at k) c t
-    ≡ (if (counts (variables_of ds) c && gives ds object c) && nat_le from t
-    then (within lo k.expiry t && holds_full w k.query k.expiry (object_of ds c) t) else row_at k c t)) →
+    rows_after spans_have changes (row_at k) c t
+    ≡ (if (counts (column_variables ds) c && gives ds object c) && nat_le from t
+    then (within lo k.expiry t && holds_full w k.query k.expiry (object_at_number ds c) t) else row_at k c t)) →
     AreNewRows w grows object class now k changes
 alive_rows w grows object class now lo from k changes alive judged_is back rows ds made = record {
   stay = λ c other t. rows ds made c t ∙ ap (λ b. if b && nat_le from t then there c t else row_at k c t) (same c ∙ other);
@@ -136,7 +136,7 @@ alive_rows w grows object class now lo from k changes alive judged_is back rows 
       rows ds made c t
       ∙ ap (λ b. if b && nat_le from t then there c t else row_at k c t) (same c ∙ judged)
       ∙ ap (λ b. if b then there c t else row_at k c t) (back t told ∙ is_alive (judged_from k now) t later)
-      ∙ ap (λ b. (b && nat_le t k.expiry) && holds_full w k.query k.expiry (object_of ds c) t) (judged_is t later);
+      ∙ ap (λ b. (b && nat_le t k.expiry) && holds_full w k.query k.expiry (object_at_number ds c) t) (judged_is t later);
 }
   where
     is_alive : (n e : ℕ) → n ≤ e → nat_le n e ≡ true
@@ -146,18 +146,18 @@ alive_rows w grows object class now lo from k changes alive judged_is back rows 
     is_before n t h = grind (arith, nat_tests, h)
 
     there : ℕ → ℕ → Bool
-    there c t = within lo k.expiry t && holds_full w k.query k.expiry (object_of ds c) t
+    there c t = within lo k.expiry t && holds_full w k.query k.expiry (object_at_number ds c) t
 
-    same : (c : ℕ) → (counts (variables_of ds) c && gives ds object c) ≡ is_judged object now k ds c
-    same c = sym (ap (λ b. b && (counts (variables_of ds) c && gives ds object c)) (is_alive now k.expiry alive))
+    same : (c : ℕ) → (counts (column_variables ds) c && gives ds object c) ≡ is_judged object now k ds c
+    same c = sym (ap (λ b. b && (counts (column_variables ds) c && gives ds object c)) (is_alive now k.expiry alive))
 
 pub alive_rows_as_seen : (w : World) (grows : Bool) (object class now lo from judged : ℕ) (x k : KeptQuery) → x ≡ k →
     (changes : List (Change (List Span))) → now ≤ x.expiry → judged ≡ judged_from k now →
     ((t : ℕ) → judged ≤ t → nat_le lo t ≡ nat_le x.entry t) → (x.kind ≡ Keep → from ≡ judged) → (x.kind ≡ Watch → from ≡ 0) →
     ((ds : List Column) → AreColumnsWith grows class x.query.classes object x.columns ds → (c t : ℕ) →
-    after spans_have changes (row_at x) c t
-    ≡ (if (counts (variables_of ds) c && gives ds object c) && nat_le from t
-    then (within lo x.expiry t && holds_full w x.query x.expiry (object_of ds c) t) else row_at x c t)) →
+    rows_after spans_have changes (row_at x) c t
+    ≡ (if (counts (column_variables ds) c && gives ds object c) && nat_le from t
+    then (within lo x.expiry t && holds_full w x.query x.expiry (object_at_number ds c) t) else row_at x c t)) →
     AreNewRows w grows object class now k changes
 alive_rows_as_seen w grows object class now lo from judged x k e changes alive first later kept watched rows =
     let first_x : judged ≡ judged_from x now = first ∙ ap (λ (y : KeptQuery). judged_from y now) (sym e) in
@@ -181,13 +181,13 @@ judged_within c now class old new lo judged x k e alive first is most =
     is_alive : (n h : ℕ) → n ≤ h → nat_le n h ≡ true
     is_alive n h l = grind (arith, nat_tests, l)
 
-module _ (s : Contents) (id class : ℕ) (its : class ≡ class_in s id) (k : KeptQuery) (is : IsKept k) (old : Catalog) (before : IsBefore id old (catalog_of s))
+module _ (s : Contents) (id class : ℕ) (its : class ≡ class_in s id) (k : KeptQuery) (is : IsKeptQuery k) (old : Catalog) (before : ExtendsCatalog id old (catalog_of s))
     (have : HaveObjectsOf old k.query.classes k.columns) (grows : Bool) (classes : List ℕ) (same : classes ≡ k.query.classes) (cs : List Column)
-    (own : cs ≡ k.columns) (count : ℕ) (many : count ≡ length (ids_of (catalog_of s) class)) (lacking : grows ≡ list_any (lacks classes class count) cs) where
+    (own : cs ≡ k.columns) (count : ℕ) (many : count ≡ length (ids_of (catalog_of s) class)) (lacking : grows ≡ list_any (lacks_objects classes class count) cs) where
   pub renewed_objects : HaveObjectsWith (catalog_of s) grows class k.query.classes id k.columns
   renewed_objects =
       have_with s old id before k.query.classes class its grows k.columns have (variable_of_query k is)
-      (lack_tells s old id before k.query.classes class its grows k.columns have (lacking ∙ (λ i. list_any (lacks (same i) class (many i)) (own i))))
+      (lack_tells s old id before k.query.classes class its grows k.columns have (lacking ∙ (λ i. list_any (lacks_objects (same i) class (many i)) (own i))))
 
   pub renewed_room : (1 ≤ capacity_of (catalog_of s).classes class → count ≤ capacity_of (catalog_of s).classes class) →
       HaveCapacitiesOf (catalog_of s) k.query.classes k.columns → grows ≡ true → HaveRoomFor class k.query.classes k.columns

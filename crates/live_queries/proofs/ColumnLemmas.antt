@@ -6,7 +6,7 @@ use Rattle.std.proofs.lemmas.Bool.{and_from, and_parts, both_ways, cases_Bool, f
 use Rattle.std.proofs.lemmas.Bool.Decides.{nat_tests}
 use Rattle.formula.specs.Resolved.{are_distinct}
 use Rattle.kept_rows.specs.Numbers.{counts, size_of}
-use Rattle.live_queries.specs.Columns.{Column, gives, has_variable, object_of, variables_of}
+use Rattle.live_queries.specs.Columns.{Column, column_variables, columns_have, gives, object_at_number}
 
 -- `New` is what is known where the object wasn't there before
 pub record IsGrown (New : Type 0) (id : ℕ) (c d : Column) : Type 0 where
@@ -41,8 +41,8 @@ not_true true h = absurd (false≢true h)
 not_true false h = refl
 
 -- a variable that isn't that of the first column is that of a later one
-pub later_variable : (c : Column) (cs : List Column) (v : ℕ) → (v == c.variable) ≡ false → has_variable (c ∷ cs) v ≡ true → has_variable cs v ≡ true
-later_variable c cs v other has = elim (or_cases (c.variable == v) (has_variable cs v) has) [
+pub later_variable : (c : Column) (cs : List Column) (v : ℕ) → (v == c.variable) ≡ false → columns_have (c ∷ cs) v ≡ true → columns_have cs v ≡ true
+later_variable c cs v other has = elim (or_cases (c.variable == v) (columns_have cs v) has) [
   | inl here ↦ absurd (false≢true (sym other ∙ turned c.variable v here))
   | inr later ↦ later
 ]
@@ -126,106 +126,106 @@ both_and a a' b b' e f = λ i. e i && f i
 if_same : (b b' : Bool) (x x' y y' : ℕ) → b ≡ b' → x ≡ x' → y ≡ y' → (if b then x else y) ≡ (if b' then x' else y')
 if_same b b' x x' y y' e f g = λ i. if e i then f i else g i
 
-pub same_size : (New : Type 0) (id : ℕ) (cs ds : List Column) → AreGrown New id cs ds → size_of (variables_of ds) ≡ size_of (variables_of cs)
+pub same_size : (New : Type 0) (id : ℕ) (cs ds : List Column) → AreGrown New id cs ds → size_of (column_variables ds) ≡ size_of (column_variables cs)
 same_size New id [] [] g = refl
 same_size New id [] (d ∷ ds) g = absurd g
 same_size New id (c ∷ cs) [] g = absurd g
 same_size New id (c ∷ cs) (d ∷ ds) g =
-    let later : size_of (variables_of ds) ≡ size_of (variables_of cs) = same_size New id cs ds g.1 in
+    let later : size_of (column_variables ds) ≡ size_of (column_variables cs) = same_size New id cs ds g.1 in
     λ i. g.0.capacity i * later i
 
 pub same_objects : (New : Type 0) (id : ℕ) (cs ds : List Column) → AreGrown New id cs ds → (n v : ℕ) → gives ds id n ≡ false →
-    object_of ds n v ≡ object_of cs n v
+    object_at_number ds n v ≡ object_at_number cs n v
 same_objects New id [] [] g n v other = refl
 same_objects New id [] (d ∷ ds) g n v other = absurd g
 same_objects New id (c ∷ cs) [] g n v other = absurd g
 same_objects New id (c ∷ cs) (d ∷ ds) g n v other =
-    let width : ℕ = size_of (variables_of ds) in
-    let e : size_of (variables_of ds) ≡ size_of (variables_of cs) = same_size New id cs ds g.1 in
+    let width : ℕ = size_of (column_variables ds) in
+    let e : size_of (column_variables ds) ≡ size_of (column_variables cs) = same_size New id cs ds g.1 in
     let parts = or_parts (slice_index d.ids (n / width) == id) (gives ds id (n % width)) other in
     if_same (v == d.variable) (v == c.variable) _ _ _ _ (ap (λ u. v == u) g.0.variable)
     (column_object New id c d g.0 (n / width) parts.0 ∙ ap (λ w. slice_index c.ids (n / w)) e)
-    (same_objects New id cs ds g.1 (n % width) v parts.1 ∙ ap (λ w. object_of cs (n % w) v) e)
+    (same_objects New id cs ds g.1 (n % width) v parts.1 ∙ ap (λ w. object_at_number cs (n % w) v) e)
 
 pub same_counts : (New : Type 0) (id : ℕ) (cs ds : List Column) → AreGrown New id cs ds → (n : ℕ) → gives ds id n ≡ false →
-    counts (variables_of ds) n ≡ counts (variables_of cs) n
+    counts (column_variables ds) n ≡ counts (column_variables cs) n
 same_counts New id [] [] g n other = refl
 same_counts New id [] (d ∷ ds) g n other = absurd g
 same_counts New id (c ∷ cs) [] g n other = absurd g
 same_counts New id (c ∷ cs) (d ∷ ds) g n other =
-    let width : ℕ = size_of (variables_of ds) in
-    let e : size_of (variables_of ds) ≡ size_of (variables_of cs) = same_size New id cs ds g.1 in
+    let width : ℕ = size_of (column_variables ds) in
+    let e : size_of (column_variables ds) ≡ size_of (column_variables cs) = same_size New id cs ds g.1 in
     let parts = or_parts (slice_index d.ids (n / width) == id) (gives ds id (n % width)) other in
     both_and _ _ _ _
     (column_counts New id c d g.0 (n / width) parts.0 ∙ ap (λ w. nat_lt (n / w) c.numbers.count) e)
-    (same_counts New id cs ds g.1 (n % width) parts.1 ∙ ap (λ w. counts (variables_of cs) (n % w)) e)
+    (same_counts New id cs ds g.1 (n % width) parts.1 ∙ ap (λ w. counts (column_variables cs) (n % w)) e)
 
-pub counts_more : (New : Type 0) (id : ℕ) (cs ds : List Column) → AreGrown New id cs ds → (n : ℕ) → counts (variables_of cs) n ≡ true →
-    counts (variables_of ds) n ≡ true
+pub counts_more : (New : Type 0) (id : ℕ) (cs ds : List Column) → AreGrown New id cs ds → (n : ℕ) → counts (column_variables cs) n ≡ true →
+    counts (column_variables ds) n ≡ true
 counts_more New id [] [] g n h = h
 counts_more New id [] (d ∷ ds) g n h = absurd g
 counts_more New id (c ∷ cs) [] g n h = absurd g
 counts_more New id (c ∷ cs) (d ∷ ds) g n h =
-    let width : ℕ = size_of (variables_of ds) in
-    let e : size_of (variables_of ds) ≡ size_of (variables_of cs) = same_size New id cs ds g.1 in
-    let parts = and_parts (nat_lt (n / size_of (variables_of cs)) c.numbers.count) (counts (variables_of cs) (n % size_of (variables_of cs))) h in
-    and_from (nat_lt (n / width) d.numbers.count) (counts (variables_of ds) (n % width))
+    let width : ℕ = size_of (column_variables ds) in
+    let e : size_of (column_variables ds) ≡ size_of (column_variables cs) = same_size New id cs ds g.1 in
+    let parts = and_parts (nat_lt (n / size_of (column_variables cs)) c.numbers.count) (counts (column_variables cs) (n % size_of (column_variables cs))) h in
+    and_from (nat_lt (n / width) d.numbers.count) (counts (column_variables ds) (n % width))
     (column_more New id c d g.0 (n / width) (ap (λ w. nat_lt (n / w) c.numbers.count) e ∙ parts.0))
-    (counts_more New id cs ds g.1 (n % width) (ap (λ w. counts (variables_of cs) (n % w)) e ∙ parts.1))
+    (counts_more New id cs ds g.1 (n % width) (ap (λ w. counts (column_variables cs) (n % w)) e ∙ parts.1))
 
 -- a binding with the object that wasn't there
 pub record HasNew (New : Type 0) (id : ℕ) (cs ds : List Column) (n : ℕ) : Type 0 where
-  pub none : counts (variables_of cs) n ≡ false
+  pub none : counts (column_variables cs) n ≡ false
   pub variable : ℕ
-  pub there : has_variable ds variable ≡ true
-  pub object : object_of ds n variable ≡ id
+  pub there : columns_have ds variable ≡ true
+  pub object : object_at_number ds n variable ≡ id
   pub new : New
 
 abbrev pub IsAsBefore : List Column → List Column → ℕ → Type 0
-IsAsBefore cs ds n = (counts (variables_of cs) n ≡ true) × ((v : ℕ) → object_of ds n v ≡ object_of cs n v)
+IsAsBefore cs ds n = (counts (column_variables cs) n ≡ true) × ((v : ℕ) → object_at_number ds n v ≡ object_at_number cs n v)
 
-pub not_head : (u v : ℕ) (ds : List Column) → list_any (λ (y : ℕ). y == u) (map (λ (d : Column). d.variable) ds) ≡ false → has_variable ds v ≡ true → (v == u) ≡ false
+pub not_head : (u v : ℕ) (ds : List Column) → list_any (λ (y : ℕ). y == u) (map (λ (d : Column). d.variable) ds) ≡ false → columns_have ds v ≡ true → (v == u) ≡ false
 not_head u v [] none has = absurd (false≢true has)
 not_head u v (d ∷ ds) none has =
     let parts = or_parts (d.variable == u) (list_any (λ (y : ℕ). y == u) (map (λ (x : Column). x.variable) ds)) none in
-    elim (or_cases (d.variable == v) (has_variable ds v) has) [
+    elim (or_cases (d.variable == v) (columns_have ds v) has) [
       | inl here ↦ grind (arith, nat_tests, here, parts.0)
       | inr later ↦ not_head u v ds parts.1 later
     ]
 
 pub new_or_before : (New : Type 0) (id : ℕ) (cs ds : List Column) → AreGrown New id cs ds → are_distinct (map (λ d. d.variable) ds) ≡ true →
-    (n : ℕ) → counts (variables_of ds) n ≡ true → HasNew New id cs ds n ⊎ IsAsBefore cs ds n
+    (n : ℕ) → counts (column_variables ds) n ≡ true → HasNew New id cs ds n ⊎ IsAsBefore cs ds n
 new_or_before New id [] [] g distinct n h = inr (h, λ v. refl)
 new_or_before New id [] (d ∷ ds) g distinct n h = absurd g
 new_or_before New id (c ∷ cs) [] g distinct n h = absurd g
 new_or_before New id (c ∷ cs) (d ∷ ds) g distinct n h =
-    let width : ℕ = size_of (variables_of ds) in
-    let e : size_of (variables_of ds) ≡ size_of (variables_of cs) = same_size New id cs ds g.1 in
-    let parts = and_parts (nat_lt (n / width) d.numbers.count) (counts (variables_of ds) (n % width)) h in
+    let width : ℕ = size_of (column_variables ds) in
+    let e : size_of (column_variables ds) ≡ size_of (column_variables cs) = same_size New id cs ds g.1 in
+    let parts = and_parts (nat_lt (n / width) d.numbers.count) (counts (column_variables ds) (n % width)) h in
     let apart = and_parts (not (list_any (λ (y : ℕ). y == d.variable) (map (λ (x : Column). x.variable) ds))) (are_distinct (map (λ (x : Column). x.variable) ds)) distinct in
     elim (column_cases New id c d g.0 (n / width) parts.0) [
       | inr anew ↦ inl (record {
-        none = ap (λ w. nat_lt (n / w) c.numbers.count && counts (variables_of cs) (n % w)) (sym e)
-            ∙ ap (λ b. b && counts (variables_of cs) (n % width)) anew.0;
+        none = ap (λ w. nat_lt (n / w) c.numbers.count && counts (column_variables cs) (n % w)) (sym e)
+            ∙ ap (λ b. b && counts (column_variables cs) (n % width)) anew.0;
         variable = d.variable;
-        there = or_left (d.variable == d.variable) (has_variable ds d.variable) (own d.variable);
-        object = ap (λ b. if b then slice_index d.ids (n / width) else object_of ds (n % width) d.variable) (own d.variable) ∙ anew.1;
+        there = or_left (d.variable == d.variable) (columns_have ds d.variable) (own d.variable);
+        object = ap (λ b. if b then slice_index d.ids (n / width) else object_at_number ds (n % width) d.variable) (own d.variable) ∙ anew.1;
         new = anew.2;
       })
       | inl old ↦ elim (new_or_before New id cs ds g.1 apart.1 (n % width) parts.1) [
         | inl later ↦ inl (record {
-          none = ap (λ w. nat_lt (n / w) c.numbers.count && counts (variables_of cs) (n % w)) (sym e) ∙ and_none _ _ later.none;
+          none = ap (λ w. nat_lt (n / w) c.numbers.count && counts (column_variables cs) (n % w)) (sym e) ∙ and_none _ _ later.none;
           variable = later.variable;
-          there = or_right (d.variable == later.variable) (has_variable ds later.variable) later.there;
-          object = ap (λ b. if b then slice_index d.ids (n / width) else object_of ds (n % width) later.variable)
+          there = or_right (d.variable == later.variable) (columns_have ds later.variable) later.there;
+          object = ap (λ b. if b then slice_index d.ids (n / width) else object_at_number ds (n % width) later.variable)
               (not_head d.variable later.variable ds (not_true _ apart.0) later.there) ∙ later.object;
           new = later.new;
         })
         | inr before ↦ inr (
-          ap (λ w. nat_lt (n / w) c.numbers.count && counts (variables_of cs) (n % w)) (sym e) ∙ and_from _ _ old.0 before.0,
+          ap (λ w. nat_lt (n / w) c.numbers.count && counts (column_variables cs) (n % w)) (sym e) ∙ and_from _ _ old.0 before.0,
           λ v. if_same (v == d.variable) (v == c.variable) _ _ _ _ (ap (λ u. v == u) g.0.variable)
               (old.1 ∙ ap (λ w. slice_index c.ids (n / w)) e)
-              (before.1 v ∙ ap (λ w. object_of cs (n % w) v) e),
+              (before.1 v ∙ ap (λ w. object_at_number cs (n % w) v) e),
         )
       ]
     ]
@@ -235,14 +235,14 @@ new_or_before New id (c ∷ cs) (d ∷ ds) g distinct n h =
     and_none false b f = refl
 
 -- an object that isn't given is the object of no variable
-pub not_given : (ds : List Column) (id n v : ℕ) → has_variable ds v ≡ true → gives ds id n ≡ false → (object_of ds n v == id) ≡ false
+pub not_given : (ds : List Column) (id n v : ℕ) → columns_have ds v ≡ true → gives ds id n ≡ false → (object_at_number ds n v == id) ≡ false
 not_given [] id n v there other = absurd (false≢true there)
 not_given (d ∷ ds) id n v there other =
-    let width : ℕ = size_of (variables_of ds) in
+    let width : ℕ = size_of (column_variables ds) in
     let parts = or_parts (slice_index d.ids (n / width) == id) (gives ds id (n % width)) other in
     elim (cases_Bool (v == d.variable)) [
-      | inl here ↦ ap (λ b. (if b then slice_index d.ids (n / width) else object_of ds (n % width) v) == id) here ∙ parts.0
+      | inl here ↦ ap (λ b. (if b then slice_index d.ids (n / width) else object_at_number ds (n % width) v) == id) here ∙ parts.0
       | inr apart ↦
-          ap (λ b. (if b then slice_index d.ids (n / width) else object_of ds (n % width) v) == id) apart
+          ap (λ b. (if b then slice_index d.ids (n / width) else object_at_number ds (n % width) v) == id) apart
           ∙ not_given ds id (n % width) v (later_variable d ds v apart there) parts.1
     ]

@@ -12,14 +12,14 @@ use Rattle.live_queries.specs.declared.fresh.Renewal.{Renewal}
 use Rattle.live_queries.specs.Asked.{FitsWorld}
 use Rattle.live_queries.specs.Columns.{AreSameColumns, Column, HaveCapacitiesOf}
 use Rattle.live_queries.specs.Current.{AreCurrent, IsCurrentFor}
-use Rattle.live_queries.specs.Kept.{IsKept, KeptQuery}
+use Rattle.live_queries.specs.Kept.{IsKeptQuery, KeptQuery}
 use Rattle.live_queries.specs.Prepared.{AreFreshFor, AreMade, IsFreshFor, IsMade}
-use Rattle.live_queries.specs.Renewed.{IsRenewed, IsSameHead}
+use Rattle.live_queries.specs.Renewed.{IsRenewed, IsSameRequest}
 
 module _ (old new : World) (id class now : ℕ)
     (renews : (r : Renewal) (k k' : KeptQuery) → IsFreshFor new id class now k r → IsMade id class r k k' → IsRenewed new id now k k')
-    (stays : (k k' : KeptQuery) → IsKept k → IsKept k' → IsCurrentFor old now k → IsRenewed new id now k k' → IsCurrentFor new now k') where
-  pub all_current : (rs : List Renewal) (ks ks' : List KeptQuery) → All IsKept ks → All IsKept ks' → AreCurrent old now ks →
+    (stays : (k k' : KeptQuery) → IsKeptQuery k → IsKeptQuery k' → IsCurrentFor old now k → IsRenewed new id now k k' → IsCurrentFor new now k') where
+  pub all_current : (rs : List Renewal) (ks ks' : List KeptQuery) → All IsKeptQuery ks → All IsKeptQuery ks' → AreCurrent old now ks →
       AreFreshFor new id class now ks rs → AreMade id class rs ks ks' → AreCurrent new now ks'
   all_current [] [] [] kept kept' current fresh made = All-nil (IsCurrentFor new now)
   all_current [] [] (k' ∷ ks') kept kept' current fresh made = absurd made
@@ -28,8 +28,8 @@ module _ (old new : World) (id class now : ℕ)
   all_current (r ∷ rs) (k ∷ ks) [] kept kept' current fresh made = absurd made
   all_current (r ∷ rs) (k ∷ ks) (k' ∷ ks') kept kept' current fresh made =
       All-cons (IsCurrentFor new now) k' ks'
-      (stays k k' (All-head IsKept k ks kept) (All-head IsKept k' ks' kept') (All-head (IsCurrentFor old now) k ks current) (renews r k k' fresh.0 made.0))
-      (all_current rs ks ks' (All-tail IsKept k ks kept) (All-tail IsKept k' ks' kept') (All-tail (IsCurrentFor old now) k ks current) fresh.1 made.1)
+      (stays k k' (All-head IsKeptQuery k ks kept) (All-head IsKeptQuery k' ks' kept') (All-head (IsCurrentFor old now) k ks current) (renews r k k' fresh.0 made.0))
+      (all_current rs ks ks' (All-tail IsKeptQuery k ks kept) (All-tail IsKeptQuery k' ks' kept') (All-tail (IsCurrentFor old now) k ks current) fresh.1 made.1)
 
 -- ---- capacities stay where classes are added
 
@@ -67,7 +67,7 @@ capacities_stay old new m more classes (c ∷ cs) (d ∷ ds) same have =
       capacities_stay old new m more classes cs ds same.2 have.1,
     )
 
-pub goes_on_fitting : (old new : World) (m : List ClassInfo) (k k' : KeptQuery) → IsSameHead k k' →
+pub goes_on_fitting : (old new : World) (m : List ClassInfo) (k k' : KeptQuery) → IsSameRequest k k' →
     new.history.catalog.classes ≡ old.history.catalog.classes ++ m → (FitsItsClasses old k.query → FitsItsClasses new k.query) →
     FitsWorld old k → FitsWorld new k'
 goes_on_fitting old new m k k' head more stays fits = record {

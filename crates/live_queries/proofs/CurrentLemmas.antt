@@ -18,12 +18,12 @@ use Rattle.kept_rows.specs.Numbers.{counts}
 use Rattle.meaning.specs.Agreement.{world_with}
 use Rattle.meaning.specs.Binding.{holds_full}
 use Rattle.meaning.specs.Registered.{first_tick}
-use Rattle.live_queries.specs.Columns.{Column, HaveObjectsOf, gives, has_variable, object_of, variables_of}
+use Rattle.live_queries.specs.Columns.{Column, HaveObjectsOf, column_variables, columns_have, gives, object_at_number}
 use Rattle.live_queries.specs.Current.{IsCurrentFor, full_at, row_at, told_from}
-use Rattle.live_queries.specs.Kept.{IsKept, KeptQuery}
+use Rattle.live_queries.specs.Kept.{IsKeptQuery, KeptQuery}
 use Rattle.live_queries.specs.declared.fresh.Renewal.{Renewal}
 use Rattle.live_queries.specs.Prepared.{IsFreshFor, IsMade}
-use Rattle.live_queries.specs.Renewed.{AddsAtMost, AreRenewedRows, IsRenewed, IsSameHead, is_judged, judged_from, judged_tick}
+use Rattle.live_queries.specs.Renewed.{AddsAtMost, AreRenewedRows, IsRenewed, IsSameRequest, is_judged, judged_from, judged_tick}
 use Rattle.live_queries.proofs.ColumnLemmas.{AreGrown, counts_more, new_or_before, not_given, same_counts, same_objects}
 use Rattle.live_queries.proofs.ObjectLemmas.{grown_columns, none_past, objects_grow}
 use Rattle.live_queries.proofs.OrderLemmas.{columns_are, order_below, order_distinct, order_has}
@@ -53,42 +53,42 @@ module _ (New : Type 0) (id : ℕ) (cs ds : List Column) (grown : AreGrown New i
   -- at one tick, of a binding without the object, of any binding where none is judged, and of one with an object that
   -- wasn't there
   pub rows_renewed :
-      ((b : ℕ → ℕ) → ((v : ℕ) → has_variable ds v ≡ true → (b v == id) ≡ false) → inside ≡ true → full b ≡ full' b) →
+      ((b : ℕ → ℕ) → ((v : ℕ) → columns_have ds v ≡ true → (b v == id) ≡ false) → inside ≡ true → full b ≡ full' b) →
       (judged ≡ false → (b : ℕ → ℕ) → inside ≡ true → full b ≡ full' b) →
-      (judged ≡ false → New → (b : ℕ → ℕ) (v : ℕ) → has_variable ds v ≡ true → b v ≡ id → inside ≡ true → full' b ≡ false) →
-      (n : ℕ) → row n ≡ (counts (variables_of cs) n && (inside && full (object_of cs n))) →
-      row' n ≡ (if judged && (counts (variables_of ds) n && gives ds id n) then (inside && full' (object_of ds n)) else row n) →
-      row' n ≡ (counts (variables_of ds) n && (inside && full' (object_of ds n)))
+      (judged ≡ false → New → (b : ℕ → ℕ) (v : ℕ) → columns_have ds v ≡ true → b v ≡ id → inside ≡ true → full' b ≡ false) →
+      (n : ℕ) → row n ≡ (counts (column_variables cs) n && (inside && full (object_at_number cs n))) →
+      row' n ≡ (if judged && (counts (column_variables ds) n && gives ds id n) then (inside && full' (object_at_number ds n)) else row n) →
+      row' n ≡ (counts (column_variables ds) n && (inside && full' (object_at_number ds n)))
   rows_renewed others same absent n current renewed =
-      row_renewed judged (gives ds id n) (counts (variables_of ds) n) (counts (variables_of cs) n) inside
-      (full (object_of cs n)) (full' (object_of ds n)) (row n) (row' n) current renewed
+      row_renewed judged (gives ds id n) (counts (column_variables ds) n) (counts (column_variables cs) n) inside
+      (full (object_at_number cs n)) (full' (object_at_number ds n)) (row n) (row' n) current renewed
       (same_counts New id cs ds grown n)
       (λ other in_window.
       ap (λ (b : ℕ → ℕ). full b) (λ i v. sym (same_objects New id cs ds grown n v other) i)
-      ∙ others (object_of ds n) (λ v there. not_given ds id n v there other) in_window)
+      ∙ others (object_at_number ds n) (λ v there. not_given ds id n v there other) in_window)
       (counts_more New id cs ds grown n)
       (λ past in_window here. elim (new_or_before New id cs ds grown distinct n here) [
         | inl new ↦
-            ap (λ b. b && full (object_of cs n)) new.none
-            ∙ sym (absent past new.new (object_of ds n) new.variable new.there new.object in_window)
+            ap (λ b. b && full (object_at_number cs n)) new.none
+            ∙ sym (absent past new.new (object_at_number ds n) new.variable new.there new.object in_window)
         | inr before ↦
-            ap (λ b. b && full (object_of cs n)) before.0
+            ap (λ b. b && full (object_at_number cs n)) before.0
             ∙ ap (λ (b : ℕ → ℕ). full b) (λ i v. sym (before.1 v) i)
-            ∙ same past (object_of ds n) in_window
+            ∙ same past (object_at_number ds n) in_window
       ])
 
 -- a variable of the columns is one of the query
-module _ (k : KeptQuery) (is : IsKept k) where
-  pub variable_of_query : (v : ℕ) → has_variable k.columns v ≡ true → v < length k.query.classes
+module _ (k : KeptQuery) (is : IsKeptQuery k) where
+  pub variable_of_query : (v : ℕ) → columns_have k.columns v ≡ true → v < length k.query.classes
   variable_of_query v has =
       order_below k.query is.resolved v (ap (λ xs. list_any (λ (u : ℕ). u == v) xs) (sym is.order) ∙ sym (columns_are k.columns v) ∙ has)
 
-  pub variable_of_column : (v : ℕ) → v < length k.query.classes → has_variable k.columns v ≡ true
+  pub variable_of_column : (v : ℕ) → v < length k.query.classes → columns_have k.columns v ≡ true
   variable_of_column v below =
       columns_are k.columns v ∙ ap (λ xs. list_any (λ (u : ℕ). u == v) xs) is.order ∙ order_has k.query is.resolved v below
 
 pub columns_grow : (id now : ℕ) (old new : History) → ChangesFrom id now old new → AddsAtMost id old.catalog new.catalog →
-    (regions : List Region) (k k' : KeptQuery) → IsKept k → IsKept k' →
+    (regions : List Region) (k k' : KeptQuery) → IsKeptQuery k → IsKeptQuery k' →
     IsCurrentFor (world_with old regions) now k → IsRenewed (world_with new regions) id now k k' →
     AreGrown (length old.catalog.objects ≤ id) id k.columns k'.columns
 columns_grow id now old new changes adds regions k k' is is' current renewed =
@@ -98,10 +98,10 @@ columns_grow id now old new changes adds regions k k' is is' current renewed =
 
 -- a binding that there was is one still, of the same objects
 pub binding_stays : (id now : ℕ) (old new : History) → ChangesFrom id now old new → AddsAtMost id old.catalog new.catalog →
-    (regions : List Region) (k k' : KeptQuery) → IsKept k → IsKept k' →
+    (regions : List Region) (k k' : KeptQuery) → IsKeptQuery k → IsKeptQuery k' →
     IsCurrentFor (world_with old regions) now k → IsRenewed (world_with new regions) id now k k' →
-    (n : ℕ) → counts (variables_of k.columns) n ≡ true →
-    (counts (variables_of k'.columns) n ≡ true) × ((v : ℕ) → object_of k'.columns n v ≡ object_of k.columns n v)
+    (n : ℕ) → counts (column_variables k.columns) n ≡ true →
+    (counts (column_variables k'.columns) n ≡ true) × ((v : ℕ) → object_at_number k'.columns n v ≡ object_at_number k.columns n v)
 binding_stays id now old new changes adds regions k k' is is' current renewed n there =
     let grown : AreGrown (length old.catalog.objects ≤ id) id k.columns k'.columns =
     columns_grow id now old new changes adds regions k k' is is' current renewed in
@@ -113,7 +113,7 @@ binding_stays id now old new changes adds regions k k' is is' current renewed n 
     ]
 
 -- the ticks that are told begin at the same tick
-pub same_start : {k k' : KeptQuery} → IsSameHead k k' → (now : ℕ) → told_from k' now ≡ told_from k now
+pub same_start : {k k' : KeptQuery} → IsSameRequest k k' → (now : ℕ) → told_from k' now ≡ told_from k now
 same_start head now = λ i. first_tick (head.kind i) (head.entry i) now
 
 is_past : (now e : ℕ) → nat_le now e ≡ false → e < now
@@ -137,8 +137,8 @@ sees_no_write Keep (Some n) entry now t told before = (n, refl, omega (arith, be
 -- a renewed row at a tick that is told
 renewed_row : (w : World) (id now : ℕ) (k : KeptQuery) (columns : List Column) (rows : ℕ → ℕ → Bool) → AreRenewedRows w id now k columns rows →
     (c t : ℕ) → told_from k now ≤ t → rows c t
-    ≡ (if judged_at k now t && (counts (variables_of columns) c && gives columns id c)
-    then (within k.entry k.expiry t && holds_full w k.query k.expiry (object_of columns c) t) else row_at k c t)
+    ≡ (if judged_at k now t && (counts (column_variables columns) c && gives columns id c)
+    then (within k.entry k.expiry t && holds_full w k.query k.expiry (object_at_number columns c) t) else row_at k c t)
 renewed_row w id now k columns rows renewed c t from =
     elim (cases_Bool (is_judged id now k columns c)) [
       | inr other ↦
@@ -155,10 +155,10 @@ renewed_row w id now k columns rows renewed c t from =
     ]
   where
     there : Bool
-    there = within k.entry k.expiry t && holds_full w k.query k.expiry (object_of columns c) t
+    there = within k.entry k.expiry t && holds_full w k.query k.expiry (object_at_number columns c) t
 
     held : Bool
-    held = counts (variables_of columns) c && gives columns id c
+    held = counts (column_variables columns) c && gives columns id c
 
     is_from : (n u : ℕ) → nat_le n u ≡ true → n ≤ u
     is_from n u h = grind (arith, nat_tests, h)
@@ -179,7 +179,7 @@ renewed_row w id now k columns rows renewed c t from =
     before_it false l h e = refl
 
 pub stays_current : (id now : ℕ) (old new : History) → ChangesFrom id now old new → AddsAtMost id old.catalog new.catalog →
-    (regions : List Region) (k k' : KeptQuery) → IsKept k → IsKept k' →
+    (regions : List Region) (k k' : KeptQuery) → IsKeptQuery k → IsKeptQuery k' →
     ((b : ℕ → ℕ) → ((v : ℕ) → v < length k.query.classes → (b v == id) ≡ false) → (t : ℕ) → t ≤ k.expiry →
     holds_full (world_with old regions) k.query k.expiry b t ≡ holds_full (world_with new regions) k.query k.expiry b t) →
     ((b : ℕ → ℕ) (t : ℕ) → t ≤ k.expiry → k.expiry < now →
@@ -191,9 +191,9 @@ pub stays_current : (id now : ℕ) (old new : History) → ChangesFrom id now ol
     IsCurrentFor (world_with old regions) now k → IsRenewed (world_with new regions) id now k k' → IsCurrentFor (world_with new regions) now k'
 stays_current id now old new changes adds regions k k' is is' others expired unseen absent current renewed =
     let same : (c t : ℕ) → full_at (world_with new regions) k' c t
-    ≡ (within k.entry k.expiry t && holds_full (world_with new regions) k.query k.expiry (object_of k'.columns c) t) =
+    ≡ (within k.entry k.expiry t && holds_full (world_with new regions) k.query k.expiry (object_at_number k'.columns c) t) =
     λ c t i. within (renewed.head.entry i) (renewed.head.expiry i) t
-    && holds_full (world_with new regions) (renewed.head.query i) (renewed.head.expiry i) (object_of k'.columns c) t in
+    && holds_full (world_with new regions) (renewed.head.query i) (renewed.head.expiry i) (object_at_number k'.columns c) t in
     let classes : length k'.query.classes ≡ length k.query.classes = λ i. length (renewed.head.query i).classes in
     let grown : AreGrown (length old.catalog.objects ≤ id) id k.columns k'.columns =
     columns_grow id now old new changes adds regions k k' is is' current renewed in
@@ -212,7 +212,7 @@ stays_current id now old new changes adds regions k k' is is' others expired uns
           (ap (λ o. cells_at new o t) object ∙ changes.past t (past t told h l) ∙ none_past old id t none))
           c (current.rows c t told)
           (renewed_row (world_with new regions) id now k k'.columns (row_at k') renewed.rows c t told)
-          ∙ ap (λ b. counts (variables_of k'.columns) c && b) (sym (same c t));
+          ∙ ap (λ b. counts (column_variables k'.columns) c && b) (sym (same c t));
     }
   where
     inside : (t : ℕ) → within k.entry k.expiry t ≡ true → t ≤ k.expiry
@@ -242,34 +242,34 @@ stays_current id now old new changes adds regions k k' is is' others expired uns
 
 -- where what comes after a write is the same for a binding, its row is the same before and after
 pub row_stays : (id now : ℕ) (old new : History) → ChangesFrom id now old new → AddsAtMost id old.catalog new.catalog →
-    (regions : List Region) (k k' : KeptQuery) → IsKept k → IsKept k' →
+    (regions : List Region) (k k' : KeptQuery) → IsKeptQuery k → IsKeptQuery k' →
     ((b : ℕ → ℕ) → ((v : ℕ) → v < length k.query.classes → (t : ℕ) → now ≤ t → t ≤ k.expiry → cells_at old (b v) t ≡ cells_at new (b v) t) →
     (t : ℕ) → t ≤ k.expiry →
     holds_full (world_with old regions) k.query k.expiry b t ≡ holds_full (world_with new regions) k.query k.expiry b t) →
     IsCurrentFor (world_with old regions) now k → IsRenewed (world_with new regions) id now k k' → IsCurrentFor (world_with new regions) now k' →
-    (n : ℕ) → counts (variables_of k.columns) n ≡ true →
+    (n : ℕ) → counts (column_variables k.columns) n ≡ true →
     ((v : ℕ) → v < length k.query.classes → (t : ℕ) → now ≤ t → t ≤ k.expiry →
-    cells_at old (object_of k.columns n v) t ≡ cells_at new (object_of k.columns n v) t) →
+    cells_at old (object_at_number k.columns n v) t ≡ cells_at new (object_at_number k.columns n v) t) →
     (t : ℕ) → told_from k now ≤ t → row_at k' n t ≡ row_at k n t
 row_stays id now old new changes adds regions k k' is is' past current renewed current' n there later t from =
     let stays = binding_stays id now old new changes adds regions k k' is is' current renewed n there in
     let same : full_at (world_with new regions) k' n t
-    ≡ (within k.entry k.expiry t && holds_full (world_with new regions) k.query k.expiry (object_of k.columns n) t) =
+    ≡ (within k.entry k.expiry t && holds_full (world_with new regions) k.query k.expiry (object_at_number k.columns n) t) =
     λ i. within (renewed.head.entry i) (renewed.head.expiry i) t
     && holds_full (world_with new regions) (renewed.head.query i) (renewed.head.expiry i) (λ v. stays.1 v i) t in
     current'.rows n t (subst (λ (m : ℕ). m ≤ t) (sym (same_start renewed.head now)) from)
     ∙ ap (λ b. b && full_at (world_with new regions) k' n t) (stays.0 ∙ sym there)
-    ∙ ap (λ b. counts (variables_of k.columns) n && b) (same ∙ inside (cases_Bool (within k.entry k.expiry t)))
+    ∙ ap (λ b. counts (column_variables k.columns) n && b) (same ∙ inside (cases_Bool (within k.entry k.expiry t)))
     ∙ sym (current.rows n t from)
   where
     inside : ((within k.entry k.expiry t ≡ true) ⊎ (within k.entry k.expiry t ≡ false)) →
-        (within k.entry k.expiry t && holds_full (world_with new regions) k.query k.expiry (object_of k.columns n) t)
+        (within k.entry k.expiry t && holds_full (world_with new regions) k.query k.expiry (object_at_number k.columns n) t)
         ≡ full_at (world_with old regions) k n t
     inside (inl here) =
-        ap (λ b. within k.entry k.expiry t && b) (sym (past (object_of k.columns n) later t (within_parts k.entry k.expiry t here).1))
+        ap (λ b. within k.entry k.expiry t && b) (sym (past (object_at_number k.columns n) later t (within_parts k.entry k.expiry t here).1))
     inside (inr out) =
-        ap (λ b. b && holds_full (world_with new regions) k.query k.expiry (object_of k.columns n) t) out
-        ∙ sym (ap (λ b. b && holds_full (world_with old regions) k.query k.expiry (object_of k.columns n) t) out)
+        ap (λ b. b && holds_full (world_with new regions) k.query k.expiry (object_at_number k.columns n) t) out
+        ∙ sym (ap (λ b. b && holds_full (world_with old regions) k.query k.expiry (object_at_number k.columns n) t) out)
 
 -- what was prepared in a world and made renews a query
 pub made_renews : (w : World) (object class now : ℕ) (r : Renewal) (k k' : KeptQuery) → IsFreshFor w object class now k r → IsMade object class r k k' →
@@ -288,7 +288,7 @@ made_renews w object class now r k k' fresh made =
 -- a binding without the object isn't judged, and none is past the expiry
 pub others_stay : (w : World) (id now : ℕ) (k k' : KeptQuery) → IsRenewed w id now k k' → (n : ℕ) → gives k'.columns id n ≡ false → (t : ℕ) →
     row_at k' n t ≡ row_at k n t
-others_stay w id now k k' renewed n other t = renewed.rows.stay n (not_held (nat_le now k.expiry) (counts (variables_of k'.columns) n) (gives k'.columns id n) other) t
+others_stay w id now k k' renewed n other t = renewed.rows.stay n (not_held (nat_le now k.expiry) (counts (column_variables k'.columns) n) (gives k'.columns id n) other) t
   where
     not_held : (a c g : Bool) → g ≡ false → (a && (c && g)) ≡ false
     not_held true true g e = e
@@ -297,7 +297,7 @@ others_stay w id now k k' renewed n other t = renewed.rows.stay n (not_held (nat
 
 pub expired_stay : (w : World) (id now : ℕ) (k k' : KeptQuery) → IsRenewed w id now k k' → k.expiry < now → (n t : ℕ) → row_at k' n t ≡ row_at k n t
 expired_stay w id now k k' renewed past n t =
-    renewed.rows.stay n (ap (λ b. b && (counts (variables_of k'.columns) n && gives k'.columns id n)) (is_over now k.expiry past)) t
+    renewed.rows.stay n (ap (λ b. b && (counts (column_variables k'.columns) n && gives k'.columns id n)) (is_over now k.expiry past)) t
   where
     is_over : (m e : ℕ) → e < m → nat_le m e ≡ false
     is_over m e h = grind (arith, nat_tests, h)

@@ -3,7 +3,7 @@ use Rattle.std.proofs.Common.{◌≡◌, ℕ, ◌<◌, true, List, [], ◌∷◌
 use Rattle.history.specs.Catalog.{Catalog, capacity_of, ids_of}
 use Rattle.formula.specs.Resolved.{IsResolved}
 use Rattle.formula.specs.Tree.{ResolvedQuery}
-use Rattle.live_queries.specs.Columns.{AreColumnsOf, AreCounted, Column, HaveCapacitiesOf, HaveObjectsOf, has_variable, order_of}
+use Rattle.live_queries.specs.Columns.{AreColumnsOf, AreCounted, Column, HaveCapacitiesOf, HaveObjectsOf, columns_have, order_of}
 use Rattle.live_queries.proofs.OrderLemmas.{among, columns_are, order_has}
 use Rattle.std.specs.Prelude.{slice_index}
 
@@ -36,5 +36,5 @@ module _ (catalog : Catalog) (classes : List ℕ) where
 
 -- each variable of the query has a column
 pub has_column : (q : ResolvedQuery) (cs : List Column) → IsResolved q → map (λ c. c.variable) cs ≡ order_of q →
-    (v : ℕ) → v < length q.classes → has_variable cs v ≡ true
+    (v : ℕ) → v < length q.classes → columns_have cs v ≡ true
 has_column q cs is order v below = columns_are cs v ∙ ap (λ (vs : List ℕ). among vs v) order ∙ order_has q is v below

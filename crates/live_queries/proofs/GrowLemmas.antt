@@ -10,22 +10,22 @@ use Rattle.std.proofs.lemmas.List.{take-append-drop}
 use Rattle.std.proofs.lemmas.List.Folds.{list_any-append}
 use Rattle.history.specs.Catalog.{Catalog, ClassInfo, capacity_of, ids_of}
 use Rattle.kept_rows.specs.declared.binding.Variable.{Variable}
-use Rattle.kept_rows.specs.Numbers.{counts, holds, size_of}
+use Rattle.kept_rows.specs.Numbers.{counts, holds_written, size_of}
 use Rattle.object_store.specs.Contents.{Contents, catalog_of, ids_in}
 use Rattle.object_store.specs.Sound.{IsSound}
 use Rattle.relation.specs.Key.{has_id}
 use Rattle.answers.proofs.ObjectLemmas.{ids_ascend}
-use Rattle.live_queries.specs.Asked.{IsBefore, class_in}
-use Rattle.live_queries.specs.Columns.{AreCounted, Column, HaveCapacitiesOf, HaveObjectsOf, gives, has_variable, variables_of}
+use Rattle.live_queries.specs.Asked.{ExtendsCatalog, class_in}
+use Rattle.live_queries.specs.Columns.{AreCounted, Column, HaveCapacitiesOf, HaveObjectsOf, column_variables, columns_have, gives}
 use Rattle.live_queries.specs.Prepared.{AreColumnsWith, HaveRoomFor, is_of_class}
-use Rattle.live_queries.specs.Written.{AreVariablesWith, DoAscendWith, HaveObjectsWith, lacks, takes}
+use Rattle.live_queries.specs.Written.{AreVariablesWith, DoAscendWith, HaveObjectsWith, lacks_objects, takes_object}
 use Rattle.live_queries.proofs.ColumnLemmas.{AreGrown, equal, one_more, own}
 use Rattle.live_queries.proofs.ObjectLemmas.{HasGrown, grown_by}
 use Rattle.live_queries.proofs.PartLemmas.{class_is, class_of_variable, variable_of_class}
 
 -- ---- one class before and after
 
-pub grown : (id : ℕ) (old new : Catalog) → IsBefore id old new → (class : ℕ) → HasGrown old new id class
+pub grown : (id : ℕ) (old new : Catalog) → ExtendsCatalog id old new → (class : ℕ) → HasGrown old new id class
 grown id old new before class =
     let n : ℕ = length old.objects in
     grown_by old new id class before.adds (drop n new.objects)
@@ -40,7 +40,7 @@ no_object n m e = grind (arith, nat_tests, e)
 some_object : (n m : ℕ) → n ≡ m + 1 → nat_lt m n ≡ true
 some_object n m e = grind (arith, nat_tests, e)
 
-module _ (s : Contents) (old : Catalog) (id : ℕ) (before : IsBefore id old (catalog_of s)) where
+module _ (s : Contents) (old : Catalog) (id : ℕ) (before : ExtendsCatalog id old (catalog_of s)) where
   abbrev new : Catalog
   new = catalog_of s
 
@@ -76,7 +76,7 @@ module _ (s : Contents) (old : Catalog) (id : ℕ) (before : IsBefore id old (ca
 
     -- a column of the class lacks the object where the class has more
     pub lack_is : (cs : List Column) → HaveObjectsOf old classes cs →
-        list_any (lacks classes class (length (ids_of new class))) cs ≡ (list_any of_class cs && has_more class)
+        list_any (lacks_objects classes class (length (ids_of new class))) cs ≡ (list_any of_class cs && has_more class)
     lack_is [] have = refl
     lack_is (c ∷ cs) have = elim (cases_Bool (of_class c)) [
       | inl here ↦
@@ -105,11 +105,11 @@ module _ (s : Contents) (old : Catalog) (id : ℕ) (before : IsBefore id old (ca
     later_tells grows c cs tells some = tells (or_right (of_class c) (list_any of_class cs) some)
 
     pub lack_tells : (grows : Bool) (cs : List Column) → HaveObjectsOf old classes cs →
-        grows ≡ list_any (lacks classes class (length (ids_of new class))) cs → Tells grows cs
+        grows ≡ list_any (lacks_objects classes class (length (ids_of new class))) cs → Tells grows cs
     lack_tells grows cs have e some = e ∙ lack_is cs have ∙ ap (λ b. b && has_more class) some
 
     -- with the object its columns have the objects that there are
-    pub have_with : (grows : Bool) (cs : List Column) → HaveObjectsOf old classes cs → ((v : ℕ) → has_variable cs v ≡ true → v < length classes) →
+    pub have_with : (grows : Bool) (cs : List Column) → HaveObjectsOf old classes cs → ((v : ℕ) → columns_have cs v ≡ true → v < length classes) →
         Tells grows cs → HaveObjectsWith new grows class classes id cs
     have_with grows [] have below tells = tt
     have_with grows (c ∷ cs) have below tells = (
@@ -126,10 +126,10 @@ module _ (s : Contents) (old : Catalog) (id : ℕ) (before : IsBefore id old (ca
             ∙ have.0
             ∙ sym (other_class (slice_index classes c.variable)
             (not_equal (slice_index classes c.variable) (class_in s id)
-            (λ e. both_ways (of_class c) other (variable_of_class classes class c.variable (below c.variable (or_left (c.variable == c.variable) (has_variable cs c.variable) (own c.variable)))
+            (λ e. both_ways (of_class c) other (variable_of_class classes class c.variable (below c.variable (or_left (c.variable == c.variable) (columns_have cs c.variable) (own c.variable)))
             (ap (λ k. slice_index classes c.variable == k) (is ∙ sym e) ∙ own (slice_index classes c.variable))))))
       ],
-      have_with grows cs have.1 (λ v has. below v (or_right (c.variable == v) (has_variable cs v) has)) (later_tells grows c cs tells),
+      have_with grows cs have.1 (λ v has. below v (or_right (c.variable == v) (columns_have cs v) has)) (later_tells grows c cs tells),
     )
       where
         and_true : (b : Bool) → (b && true) ≡ b
@@ -186,7 +186,7 @@ module _ (catalog : Catalog) (grows : Bool) (class : ℕ) (classes : List ℕ) (
       capacity = made.0.capacity;
       old_count = counted.0;
       new_count = made.0.count;
-      ids = either (takes grows class classes c) made.0.ids;
+      ids = either (takes_object grows class classes c) made.0.ids;
     },
     grown_with cs ds counted.1 made.1,
   )
@@ -197,14 +197,14 @@ module _ (catalog : Catalog) (grows : Bool) (class : ℕ) (classes : List ℕ) (
 
   -- ---- the numbers of bindings
 
-  pub size_with : (cs : List Column) (vs : List Variable) → AreVariablesWith grows class classes id cs vs → size_of vs ≡ size_of (variables_of cs)
+  pub size_with : (cs : List Column) (vs : List Variable) → AreVariablesWith grows class classes id cs vs → size_of vs ≡ size_of (column_variables cs)
   size_with [] [] are = refl
   size_with [] (v ∷ vs) are = absurd are
   size_with (c ∷ cs) [] are = absurd are
   size_with (c ∷ cs) (v ∷ vs) are = λ i. are.0.capacity i * size_with cs vs are.1 i
 
   sizes_with : (cs ds : List Column) (vs : List Variable) → AreVariablesWith grows class classes id cs vs → AreColumnsWith grows class classes id cs ds →
-      size_of vs ≡ size_of (variables_of ds)
+      size_of vs ≡ size_of (column_variables ds)
   sizes_with [] [] [] are made = refl
   sizes_with [] (d ∷ ds) vs are made = absurd made
   sizes_with [] [] (v ∷ vs) are made = absurd are
@@ -213,7 +213,7 @@ module _ (catalog : Catalog) (grows : Bool) (class : ℕ) (classes : List ℕ) (
   sizes_with (c ∷ cs) (d ∷ ds) (v ∷ vs) are made = λ i. (are.0.capacity ∙ sym made.0.capacity) i * sizes_with cs ds vs are.1 made.1 i
 
   pub counts_with : (cs ds : List Column) (vs : List Variable) → AreVariablesWith grows class classes id cs vs → AreColumnsWith grows class classes id cs ds →
-      (n : ℕ) → counts vs n ≡ counts (variables_of ds) n
+      (n : ℕ) → counts vs n ≡ counts (column_variables ds) n
   counts_with [] [] [] are made n = refl
   counts_with [] (d ∷ ds) vs are made n = absurd made
   counts_with [] [] (v ∷ vs) are made n = absurd are
@@ -222,21 +222,21 @@ module _ (catalog : Catalog) (grows : Bool) (class : ℕ) (classes : List ℕ) (
   counts_with (c ∷ cs) (d ∷ ds) (v ∷ vs) are made n =
       let width = sizes_with cs ds vs are.1 made.1 in
       (λ i. nat_lt (n / width i) ((are.0.count ∙ sym (made.0.count ∙ ap length made.0.ids)) i) && counts vs (n % width i))
-      ∙ ap (λ b. nat_lt (n / size_of (variables_of ds)) d.numbers.count && b) (counts_with cs ds vs are.1 made.1 (n % size_of (variables_of ds)))
+      ∙ ap (λ b. nat_lt (n / size_of (column_variables ds)) d.numbers.count && b) (counts_with cs ds vs are.1 made.1 (n % size_of (column_variables ds)))
 
   pub holds_with : (cs ds : List Column) (vs : List Variable) → AreVariablesWith grows class classes id cs vs → AreColumnsWith grows class classes id cs ds →
-      (n : ℕ) → counts (variables_of ds) n ≡ true → holds vs n ≡ gives ds id n
+      (n : ℕ) → counts (column_variables ds) n ≡ true → holds_written vs n ≡ gives ds id n
   holds_with [] [] [] are made n here = refl
   holds_with [] (d ∷ ds) vs are made n here = absurd made
   holds_with [] [] (v ∷ vs) are made n here = absurd are
   holds_with (c ∷ cs) [] vs are made n here = absurd made
   holds_with (c ∷ cs) (d ∷ ds) [] are made n here = absurd are
   holds_with (c ∷ cs) (d ∷ ds) (v ∷ vs) are made n here =
-      let w : ℕ = size_of (variables_of ds) in
+      let w : ℕ = size_of (column_variables ds) in
       let width = sizes_with cs ds vs are.1 made.1 in
-      let parts = and_parts (nat_lt (n / w) d.numbers.count) (counts (variables_of ds) (n % w)) here in
+      let parts = and_parts (nat_lt (n / w) d.numbers.count) (counts (column_variables ds) (n % w)) here in
       let many : v.count ≡ d.numbers.count = are.0.count ∙ sym (made.0.count ∙ ap length made.0.ids) in
-      (λ i. (n / width i == v.own) || holds vs (n % width i))
+      (λ i. (n / width i == v.own) || holds_written vs (n % width i))
       ∙ (λ i. (are.0.own (n / w) (subst (λ (m : ℕ). n / w < m) (sym many) (less_is (n / w) d.numbers.count parts.0))
       ∙ ap (λ ids. slice_index ids (n / w) == id) (sym made.0.ids)) i
       || holds_with cs ds vs are.1 made.1 (n % w) parts.1 i)

@@ -8,13 +8,13 @@ use Rattle.std.proofs.lemmas.Bool.Decides.{nat_tests}
 use Rattle.std.proofs.lemmas.Nat.{div-add-mod', div-mul-add, mod-mul-add, mod_below, mul-add-lt}
 use Rattle.formula.specs.Resolved.{are_distinct}
 use Rattle.kept_rows.specs.Numbers.{counts, size_of}
-use Rattle.live_queries.specs.Columns.{AreCounted, Column, has_variable, object_of, object_or, variables_of}
+use Rattle.live_queries.specs.Columns.{AreCounted, Column, column_variables, columns_have, object_at_number, object_or}
 use Rattle.live_queries.specs.Numbered.{AreAmong, IsNumberOf}
 use Rattle.live_queries.proofs.ColumnLemmas.{equal, later_variable, less, not_true, own}
 use Rattle.live_queries.proofs.NumberingLemmas.{objects_at, size_some}
 
 abbrev sized : List Column → ℕ
-sized cs = size_of (variables_of cs)
+sized cs = size_of (column_variables cs)
 
 -- ---- a number of the first columns, and one of the later ones
 
@@ -59,29 +59,29 @@ zero_counts n h = grind (arith, nat_tests, h)
 
 module _ (os : List Column) where
   pub counts_joined : (ts : List Column) (n d : ℕ) → n < sized ts → d < sized os →
-      counts (variables_of (ts ++ os)) (n * sized os + d) ≡ (counts (variables_of ts) n && counts (variables_of os) d)
+      counts (column_variables (ts ++ os)) (n * sized os + d) ≡ (counts (column_variables ts) n && counts (column_variables os) d)
   counts_joined [] n d h below =
-      ap (counts (variables_of os)) (only_zero n (sized os) d h) ∙ ap (λ b. b && counts (variables_of os) d) (sym (zero_counts n h))
+      ap (counts (column_variables os)) (only_zero n (sized os) d h) ∙ ap (λ b. b && counts (column_variables os) d) (sym (zero_counts n h))
   counts_joined (c ∷ ts) n d h below =
       let t : ℕ = sized ts in
-      let some : 1 ≤ t = size_some (variables_of ts) in
-      (λ i. nat_lt ((n * sized os + d) / size_joined ts os i) c.numbers.count && counts (variables_of (ts ++ os)) ((n * sized os + d) % size_joined ts os i))
+      let some : 1 ≤ t = size_some (column_variables ts) in
+      (λ i. nat_lt ((n * sized os + d) / size_joined ts os i) c.numbers.count && counts (column_variables (ts ++ os)) ((n * sized os + d) % size_joined ts os i))
       ∙ (λ i. nat_lt (joined_div n d t (sized os) some below i) c.numbers.count
-      && counts (variables_of (ts ++ os)) (joined_mod n d t (sized os) some below i))
+      && counts (column_variables (ts ++ os)) (joined_mod n d t (sized os) some below i))
       ∙ ap (λ b. nat_lt (n / t) c.numbers.count && b) (counts_joined ts (n % t) d (mod_below n t some) below)
-      ∙ and_regroup (nat_lt (n / t) c.numbers.count) (counts (variables_of ts) (n % t)) (counts (variables_of os) d)
+      ∙ and_regroup (nat_lt (n / t) c.numbers.count) (counts (column_variables ts) (n % t)) (counts (column_variables os) d)
 
   pub object_joined : (added : ℕ) (ts : List Column) (n d : ℕ) → n < sized ts → d < sized os → (v : ℕ) →
-      object_or added (ts ++ os) (n * sized os + d) v ≡ (if has_variable ts v then object_or added ts n v else object_or added os d v)
+      object_or added (ts ++ os) (n * sized os + d) v ≡ (if columns_have ts v then object_or added ts n v else object_or added os d v)
   object_joined added [] n d h below v = ap (λ m. object_or added os m v) (only_zero n (sized os) d h)
   object_joined added (c ∷ ts) n d h below v =
       let t : ℕ = sized ts in
-      let some : 1 ≤ t = size_some (variables_of ts) in
+      let some : 1 ≤ t = size_some (column_variables ts) in
       (λ i. if v == c.variable then slice_index_or c.ids ((n * sized os + d) / size_joined ts os i) added
       else object_or added (ts ++ os) ((n * sized os + d) % size_joined ts os i) v)
       ∙ (λ i. if v == c.variable then slice_index_or c.ids (joined_div n d t (sized os) some below i) added
       else object_or added (ts ++ os) (joined_mod n d t (sized os) some below i) v)
-      ∙ chosen (v == c.variable) (c.variable == v) (has_variable ts v) _ _ _ _ (flipped v c.variable)
+      ∙ chosen (v == c.variable) (c.variable == v) (columns_have ts v) _ _ _ _ (flipped v c.variable)
       (object_joined added ts (n % t) d (mod_below n t some) below v)
     where
       flipped : (u w : ℕ) → (u == w) ≡ (w == u)
@@ -96,27 +96,27 @@ module _ (os : List Column) where
 
 -- ---- the objects of a number
 
-pub no_object : (cs : List Column) (n v : ℕ) → has_variable cs v ≡ false → object_of cs n v ≡ 0
+pub no_object : (cs : List Column) (n v : ℕ) → columns_have cs v ≡ false → object_at_number cs n v ≡ 0
 no_object [] n v none = refl
 no_object (c ∷ cs) n v none =
-    let parts = or_parts (c.variable == v) (has_variable cs v) none in
-    ap (λ b. if b then slice_index c.ids (n / sized cs) else object_of cs (n % sized cs) v) (apart c.variable v parts.0)
+    let parts = or_parts (c.variable == v) (columns_have cs v) none in
+    ap (λ b. if b then slice_index c.ids (n / sized cs) else object_at_number cs (n % sized cs) v) (apart c.variable v parts.0)
     ∙ no_object cs (n % sized cs) v parts.1
   where
     apart : (u w : ℕ) → (u == w) ≡ false → (w == u) ≡ false
     apart u w h = grind (arith, nat_tests, h)
 
 -- where the objects column by column are those of a function, so is each
-pub each_object : (cs : List Column) (n : ℕ) (f : ℕ → ℕ) → objects_at cs n ≡ map f (map (λ c. c.variable) cs) → (v : ℕ) → has_variable cs v ≡ true →
-    object_of cs n v ≡ f v
+pub each_object : (cs : List Column) (n : ℕ) (f : ℕ → ℕ) → objects_at cs n ≡ map f (map (λ c. c.variable) cs) → (v : ℕ) → columns_have cs v ≡ true →
+    object_at_number cs n v ≡ f v
 each_object [] n f same v has = absurd (false≢true has)
 each_object (c ∷ cs) n f same v has =
     elim (cases_Bool (v == c.variable)) [
       | inl here ↦
-          ap (λ b. if b then slice_index c.ids (n / sized cs) else object_of cs (n % sized cs) v) here
+          ap (λ b. if b then slice_index c.ids (n / sized cs) else object_at_number cs (n % sized cs) v) here
           ∙ ap (head_or 0) same ∙ ap f (sym (equal v c.variable here))
       | inr other ↦
-          ap (λ b. if b then slice_index c.ids (n / sized cs) else object_of cs (n % sized cs) v) other
+          ap (λ b. if b then slice_index c.ids (n / sized cs) else object_at_number cs (n % sized cs) v) other
           ∙ each_object cs (n % sized cs) f (ap tail_of same) v (later_variable c cs v other has)
     ]
   where
@@ -129,19 +129,19 @@ each_object (c ∷ cs) n f same v has =
     tail_of (x ∷ xs) = xs
 
 -- each column once: the objects of the columns' variables are the objects column by column
-pub objects_are : (cs : List Column) (n : ℕ) → are_distinct (map (λ c. c.variable) cs) ≡ true → map (object_of cs n) (map (λ c. c.variable) cs) ≡ objects_at cs n
+pub objects_are : (cs : List Column) (n : ℕ) → are_distinct (map (λ c. c.variable) cs) ≡ true → map (object_at_number cs n) (map (λ c. c.variable) cs) ≡ objects_at cs n
 objects_are [] n distinct = refl
 objects_are (c ∷ cs) n distinct =
     let parts = and_parts (not (list_any (λ (y : ℕ). y == c.variable) (map (λ (x : Column). x.variable) cs))) (are_distinct (map (λ (x : Column). x.variable) cs)) distinct in
-    (λ i. (if own c.variable i then slice_index c.ids (n / sized cs) else object_of cs (n % sized cs) c.variable)
+    (λ i. (if own c.variable i then slice_index c.ids (n / sized cs) else object_at_number cs (n % sized cs) c.variable)
     ∷ skip (map (λ (x : Column). x.variable) cs) (not_true _ parts.0) i)
     ∙ ap (λ rest. slice_index c.ids (n / sized cs) ∷ rest) (objects_are cs (n % sized cs) parts.1)
   where
-    skip : (vs : List ℕ) → list_any (λ (y : ℕ). y == c.variable) vs ≡ false → map (object_of (c ∷ cs) n) vs ≡ map (object_of cs (n % sized cs)) vs
+    skip : (vs : List ℕ) → list_any (λ (y : ℕ). y == c.variable) vs ≡ false → map (object_at_number (c ∷ cs) n) vs ≡ map (object_at_number cs (n % sized cs)) vs
     skip [] none = refl
     skip (v ∷ vs) none =
         let parts = or_parts (v == c.variable) (list_any (λ (y : ℕ). y == c.variable) vs) none in
-        λ i. (if parts.0 i then slice_index c.ids (n / sized cs) else object_of cs (n % sized cs) v) ∷ skip vs parts.1 i
+        λ i. (if parts.0 i then slice_index c.ids (n / sized cs) else object_at_number cs (n % sized cs) v) ∷ skip vs parts.1 i
 
 -- ---- a number for chosen objects
 
@@ -151,8 +151,8 @@ has_id ids id = list_any (λ (i : ℕ). i == id) ids
 pub record Chosen (cs : List Column) (f : ℕ → ℕ) : Type 0 where
   pub number : ℕ
   pub below : number < sized cs
-  pub counted : counts (variables_of cs) number ≡ true
-  pub objects : (v : ℕ) → has_variable cs v ≡ true → object_of cs number v ≡ f v
+  pub counted : counts (column_variables cs) number ≡ true
+  pub objects : (v : ℕ) → columns_have cs v ≡ true → object_at_number cs number v ≡ f v
 
 pub record Placed (ids : List ℕ) (id : ℕ) : Type 0 where
   pub place : ℕ
@@ -175,15 +175,15 @@ numbered_more c cs f place number few object is =
     let remainder : (place * w + number) % w ≡ number = mod-mul-add place w number is.below in
     record {
       below = below_joined place number c.numbers.capacity w (omega (arith, few, c.numbers.room)) is.below;
-      counted = and_from (nat_lt ((place * w + number) / w) c.numbers.count) (counts (variables_of cs) ((place * w + number) % w))
-          (ap (λ q. nat_lt q c.numbers.count) quotient ∙ less place c.numbers.count few) (ap (counts (variables_of cs)) remainder ∙ is.counted);
+      counted = and_from (nat_lt ((place * w + number) / w) c.numbers.count) (counts (column_variables cs) ((place * w + number) % w))
+          (ap (λ q. nat_lt q c.numbers.count) quotient ∙ less place c.numbers.count few) (ap (counts (column_variables cs)) remainder ∙ is.counted);
       objects = λ v has. elim (cases_Bool (v == c.variable)) [
         | inl here ↦
-            ap (λ b. if b then slice_index c.ids ((place * w + number) / w) else object_of cs ((place * w + number) % w) v) here
+            ap (λ b. if b then slice_index c.ids ((place * w + number) / w) else object_at_number cs ((place * w + number) % w) v) here
             ∙ ap (slice_index c.ids) quotient ∙ object ∙ ap f (sym (equal v c.variable here))
         | inr other ↦
-            ap (λ b. if b then slice_index c.ids ((place * w + number) / w) else object_of cs ((place * w + number) % w) v) other
-            ∙ ap (λ m. object_of cs m v) remainder ∙ is.objects v (later_variable c cs v other has)
+            ap (λ b. if b then slice_index c.ids ((place * w + number) / w) else object_at_number cs ((place * w + number) % w) v) other
+            ∙ ap (λ m. object_at_number cs m v) remainder ∙ is.objects v (later_variable c cs v other has)
       ];
     }
 

@@ -8,13 +8,13 @@ use Rattle.std.proofs.lemmas.List.Sums.{count_by-le-length, length-filter}
 use Rattle.tick_set.specs.Runs.{spans_have}
 use Rattle.tick_set.specs.declared.spans.Span.{Span}
 use Rattle.tick_set.specs.declared.spans.TheConstants.{SPAN_LIMIT}
-use Rattle.kept_rows.specs.Changes.{after}
+use Rattle.kept_rows.specs.Changes.{rows_after}
 use Rattle.kept_rows.specs.Numbers.{size_of}
 use Rattle.kept_rows.specs.Rows.{row_has}
 use Rattle.live_queries.specs.declared.fresh.Renewal.{Renewal}
 use Rattle.formula.specs.declared.limits.TheConstants.{QUERY_LIMIT}
-use Rattle.live_queries.specs.Columns.{AreCounted, AreSameColumns, Column, variables_of}
-use Rattle.live_queries.specs.Kept.{AreKept, IsKept, KeptQuery}
+use Rattle.live_queries.specs.Columns.{AreCounted, AreSameColumns, Column, column_variables}
+use Rattle.live_queries.specs.Kept.{AreKept, IsKeptQuery, KeptQuery}
 use Rattle.live_queries.specs.Prepared.{AreColumnsWith, AreMade, ArePrepared, IsMade, IsReadyFor, Prepared}
 use Rattle.live_queries.specs.Told.{target_count, target_width}
 
@@ -37,7 +37,7 @@ module _ (grows : Bool) (class : ℕ) (classes : List ℕ) (id : ℕ) where
   counted (c ∷ cs) [] made = tt
   counted (c ∷ cs) (d ∷ ds) made = (made.0.count, counted cs ds made.1)
 
-  same_size : (cs ds : List Column) → AreColumnsWith grows class classes id cs ds → size_of (variables_of ds) ≡ size_of (variables_of cs)
+  same_size : (cs ds : List Column) → AreColumnsWith grows class classes id cs ds → size_of (column_variables ds) ≡ size_of (column_variables cs)
   same_size [] [] made = refl
   same_size [] (d ∷ ds) made = absurd made
   same_size (c ∷ cs) [] made = absurd made
@@ -61,10 +61,10 @@ module _ (grows : Bool) (class : ℕ) (classes : List ℕ) (id : ℕ) where
   back (suc m) (c ∷ cs) (d ∷ ds) made = back m cs ds made.1
 
   -- with other columns and as many pages it is kept still
-  pub kept_still : (k : KeptQuery) (ds : List Column) (pages : List (List (List Span))) → IsKept k → AreColumnsWith grows class classes id k.columns ds →
-      length pages ≡ length k.pages → IsKept (record k { columns = ds; pages = pages })
+  pub kept_still : (k : KeptQuery) (ds : List Column) (pages : List (List (List Span))) → IsKeptQuery k → AreColumnsWith grows class classes id k.columns ds →
+      length pages ≡ length k.pages → IsKeptQuery (record k { columns = ds; pages = pages })
   kept_still k ds pages is made same =
-      let size : size_of (variables_of ds) ≡ size_of (variables_of k.columns) = same_size k.columns ds made in
+      let size : size_of (column_variables ds) ≡ size_of (column_variables k.columns) = same_size k.columns ds made in
       record {
         resolved = is.resolved;
         sees = is.sees;
@@ -103,8 +103,8 @@ made_from grows class id x k e cs ds f made =
 
 pub made_is_kept : (grows : Bool) (class id : ℕ) (x k : KeptQuery) → x ≡ k → (cs ds : List Column) → cs ≡ ds →
     AreColumnsWith grows class k.query.classes id k.columns ds → (pages : List (List (List Span))) → length pages ≡ length x.pages →
-    (count width : ℕ) → IsKept x × (count ≡ target_count x) × (width ≡ target_width x) × (x.expiry - x.entry ≤ SPAN_LIMIT) →
-    IsKept (record x { columns = cs; pages = pages })
+    (count width : ℕ) → IsKeptQuery x × (count ≡ target_count x) × (width ≡ target_width x) × (x.expiry - x.entry ≤ SPAN_LIMIT) →
+    IsKeptQuery (record x { columns = cs; pages = pages })
     × (count ≡ target_count (record x { columns = cs; pages = pages }))
     × (width ≡ target_width (record x { columns = cs; pages = pages }))
     × (x.expiry - x.entry ≤ SPAN_LIMIT)
@@ -115,7 +115,7 @@ made_is_kept grows class id x k e cs ds f made pages same count width is =
 
 pub made_is_made : (class id : ℕ) (r : Renewal) (x k : KeptQuery) → x ≡ k → (cs ds : List Column) → cs ≡ ds →
     AreColumnsWith r.grows class k.query.classes id k.columns ds → (pages : List (List (List Span))) →
-    ((c t : ℕ) → row_has spans_have pages c t ≡ after spans_have r.changes (row_has spans_have x.pages) c t) →
+    ((c t : ℕ) → row_has spans_have pages c t ≡ rows_after spans_have r.changes (row_has spans_have x.pages) c t) →
     IsMade id class r k (record x { columns = cs; pages = pages })
 made_is_made class id r x k e cs ds f made pages rows =
     let columns : AreColumnsWith r.grows class x.query.classes id x.columns cs = made_from r.grows class id x k e cs ds f made in
@@ -164,14 +164,14 @@ as_many object class (r ∷ rs) (k ∷ ks) [] made = absurd made
 as_many object class (r ∷ rs) (k ∷ ks) (k' ∷ ks') made = ap suc (as_many object class rs ks ks' made.1)
 
 pub fewer_kept : (p : KeptQuery → Bool) (ks : List KeptQuery) → AreKept ks → AreKept (filter p ks)
-fewer_kept p ks are = record { each = All-filter p IsKept ks are.each; few = omega (arith, length-filter p ks, count_by-le-length p ks, are.few) }
+fewer_kept p ks are = record { each = All-filter p IsKeptQuery ks are.each; few = omega (arith, length-filter p ks, count_by-le-length p ks, are.few) }
 
-pub none_kept : (ks : List KeptQuery) → length ks ≡ 0 → All IsKept ks
-none_kept [] none = All-nil IsKept
+pub none_kept : (ks : List KeptQuery) → length ks ≡ 0 → All IsKeptQuery ks
+none_kept [] none = All-nil IsKeptQuery
 none_kept (k ∷ ks) none = absurd (omega (arith, none))
 
 pub still_kept : (object class : ℕ) (rs : List Renewal) (ks ks' : List KeptQuery) → AreMade object class rs ks ks' → (old : List KeptQuery) → ks ≡ old →
-    AreKept old → All IsKept ks' → AreKept ks'
+    AreKept old → All IsKeptQuery ks' → AreKept ks'
 still_kept object class rs ks ks' made old e are each =
     record { each = each; few = omega (arith, as_many object class rs ks ks' made, ap length e, are.few) }
 
@@ -191,9 +191,9 @@ made_in f g e ks old q rs s ks' new n made =
     (subst (λ (ts : List Renewal). AreMade f.object f.class ts ks ks') s made)))
 
 -- one query more
-pub one_more_kept : (ks new : List KeptQuery) (k : KeptQuery) → AreKept ks → IsKept k → length ks < QUERY_LIMIT → new ≡ ks ++ k ∷ [] → AreKept new
+pub one_more_kept : (ks new : List KeptQuery) (k : KeptQuery) → AreKept ks → IsKeptQuery k → length ks < QUERY_LIMIT → new ≡ ks ++ k ∷ [] → AreKept new
 one_more_kept ks new k are is few e =
     subst AreKept (sym e) (record {
-      each = All-append IsKept ks (k ∷ []) are.each (All-cons IsKept k [] is (All-nil IsKept));
+      each = All-append IsKeptQuery ks (k ∷ []) are.each (All-cons IsKeptQuery k [] is (All-nil IsKeptQuery));
       few = (let many : length (ks ++ k ∷ []) ≡ length ks + 1 = length-append ks (k ∷ []) in omega (arith, many, few));
     })

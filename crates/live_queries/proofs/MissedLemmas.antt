@@ -17,11 +17,11 @@ use Rattle.narrowing.specs.Needed.{Fails, told}
 use Rattle.answers.proofs.NarrowLemmas.{never_there}
 use Rattle.atoms.specs.Asked.{world_in}
 use Rattle.live_queries.specs.declared.written.Written.{Written}
-use Rattle.live_queries.specs.Asked.{IsBefore}
-use Rattle.live_queries.specs.Columns.{AreCounted, Column, HaveObjectsOf, gives, has_variable, object_of, order_of, variables_of}
+use Rattle.live_queries.specs.Asked.{ExtendsCatalog}
+use Rattle.live_queries.specs.Columns.{AreCounted, Column, HaveObjectsOf, column_variables, columns_have, gives, object_at_number, order_of}
 use Rattle.live_queries.specs.Current.{row_at}
-use Rattle.live_queries.specs.Kept.{IsKept, KeptQuery}
-use Rattle.live_queries.specs.Missed.{IsClearOf, IsWritten}
+use Rattle.live_queries.specs.Kept.{IsKeptQuery, KeptQuery}
+use Rattle.live_queries.specs.Missed.{IsClearOf, IsOfContents}
 use Rattle.live_queries.specs.Prepared.{AreColumnsWith, IsFreshFor}
 use Rattle.live_queries.specs.Renewed.{judged_from}
 use Rattle.live_queries.specs.Untouched.{untouched}
@@ -57,7 +57,7 @@ less_is a b e = grind (arith, nat_tests, e)
 -- the number of the binding that holds the object is its place
 number_is_place : (ids : List ℕ) (id place : ℕ) → ((p : ℕ) → p < length ids → (p == place) ≡ (slice_index ids p == id)) →
     (ds : List Column) → length ds ≡ 1 → AreCounted ds → ((d : Column) → ds ≡ d ∷ [] → d.ids ≡ ids) →
-    (n : ℕ) → counts (variables_of ds) n ≡ true → gives ds id n ≡ true → n ≡ place
+    (n : ℕ) → counts (column_variables ds) n ≡ true → gives ds id n ≡ true → n ≡ place
 number_is_place ids id place its [] one are same n here holding = absurd (omega (arith, one))
 number_is_place ids id place its (d ∷ e ∷ ds) one are same n here holding = absurd (omega (arith, one))
 number_is_place ids id place its (d ∷ []) one are same n here holding =
@@ -76,8 +76,8 @@ number_is_place ids id place its (d ∷ []) one are same n here holding =
 
 -- ---- nothing changes of the query
 
-module _ (s : Contents) (regions : List Region) (o : Written) (written : IsWritten s o) (now lo : ℕ) (k : KeptQuery) (is : IsKept k) (clear : IsClearOf o k)
-    (old : Catalog) (before : IsBefore o.id old (catalog_of s)) (have : HaveObjectsOf old k.query.classes k.columns) where
+module _ (s : Contents) (regions : List Region) (o : Written) (written : IsOfContents s o) (now lo : ℕ) (k : KeptQuery) (is : IsKeptQuery k) (clear : IsClearOf o k)
+    (old : Catalog) (before : ExtendsCatalog o.id old (catalog_of s)) (have : HaveObjectsOf old k.query.classes k.columns) where
   with_objects : HaveObjectsWith (catalog_of s) false o.class k.query.classes o.id k.columns
   with_objects =
       renewed_objects s o.id o.class written.class k is old before have false k.query.classes refl k.columns refl o.count written.count (sym clear.all)
@@ -95,8 +95,8 @@ module _ (s : Contents) (regions : List Region) (o : Written) (written : IsWritt
     its_objects d only =
         let order : map (λ (d : Column). d.variable) ds ≡ order_of k.query =
         same_order false o.class k.query.classes o.id k.columns ds made ∙ is.order in
-        let has : has_variable ds d.variable ≡ true =
-        subst (λ (cs : List Column). has_variable cs d.variable ≡ true) (sym only) (or_left (d.variable == d.variable) false (own d.variable)) in
+        let has : columns_have ds d.variable ≡ true =
+        subst (λ (cs : List Column). columns_have cs d.variable ≡ true) (sym only) (or_left (d.variable == d.variable) false (own d.variable)) in
         let below : d.variable < length k.query.classes =
         order_below k.query is.resolved d.variable (ap (λ (vs : List ℕ). among vs d.variable) (sym order) ∙ sym (columns_are ds d.variable) ∙ has) in
         let one : length k.query.classes ≡ 1 = ap length clear.alone in
@@ -105,22 +105,22 @@ module _ (s : Contents) (regions : List Region) (o : Written) (written : IsWritt
         (objects_with (catalog_of s) false o.class k.query.classes o.id k.columns ds made with_objects)).0
         ∙ ap (ids_of (catalog_of s)) (λ i. slice_index (clear.alone i) (first i))
 
-    rows_stay : (c t : ℕ) → row_at k c t ≡ (if (counts (variables_of ds) c && gives ds o.id c) && nat_le (judged_from k now) t
-        then (within lo k.expiry t && holds_full (world_in s regions) k.query k.expiry (object_of ds c) t) else row_at k c t)
+    rows_stay : (c t : ℕ) → row_at k c t ≡ (if (counts (column_variables ds) c && gives ds o.id c) && nat_le (judged_from k now) t
+        then (within lo k.expiry t && holds_full (world_in s regions) k.query k.expiry (object_at_number ds c) t) else row_at k c t)
     rows_stay c t =
-        if_either ((counts (variables_of ds) c && gives ds o.id c) && nat_le (judged_from k now) t)
-        (within lo k.expiry t && holds_full (world_in s regions) k.query k.expiry (object_of ds c) t) (row_at k c t) (row_at k c t)
+        if_either ((counts (column_variables ds) c && gives ds o.id c) && nat_le (judged_from k now) t)
+        (within lo k.expiry t && holds_full (world_in s regions) k.query k.expiry (object_at_number ds c) t) (row_at k c t) (row_at k c t)
         (λ here.
-        let both = and_parts (counts (variables_of ds) c) (gives ds o.id c)
-        (and_parts (counts (variables_of ds) c && gives ds o.id c) (nat_le (judged_from k now) t) here).0 in
+        let both = and_parts (counts (column_variables ds) c) (gives ds o.id c)
+        (and_parts (counts (column_variables ds) c && gives ds o.id c) (nat_le (judged_from k now) t) here).0 in
         let place : c ≡ o.place =
         number_is_place (ids_of (catalog_of s) o.class) o.id o.place (λ p h. written.place p (subst (λ (n : ℕ). p < n) (sym written.count) h)) ds one_column
         (counted false o.class k.query.classes o.id k.columns ds made) its_objects c both.0 both.1 in
-        let its : object_of ds c 0 ≡ o.id =
+        let its : object_at_number ds c 0 ≡ o.id =
         one_object k.query is.resolved (ap length clear.alone) ds
         (same_order false o.class k.query.classes o.id k.columns ds made ∙ is.order) o.id c both.1 in
         ap (λ (n : ℕ). row_at k n t) place ∙ clear.clear t
-        ∙ sym (never_there (told s regions) (world_in s regions) k.query lo k.expiry (object_of ds c) (fails (object_of ds c) its) t))
+        ∙ sym (never_there (told s regions) (world_in s regions) k.query lo k.expiry (object_at_number ds c) (fails (object_at_number ds c) its) t))
         refl
 
   pub missed : now ≤ k.expiry → ((t : ℕ) → judged_from k now ≤ t → nat_le lo t ≡ nat_le k.entry t) →

@@ -9,7 +9,7 @@ use Rattle.tick_set.specs.Ticks.{between}
 use Rattle.kept_rows.specs.declared.binding.Variable.{Variable}
 use Rattle.kept_rows.specs.Numbers.{counts, size_of}
 use Rattle.meaning.specs.Binding.{product}
-use Rattle.live_queries.specs.Columns.{AreCounted, Column, variables_of}
+use Rattle.live_queries.specs.Columns.{AreCounted, Column, column_variables}
 
 pub size_some : (vs : List Variable) → 1 ≤ size_of vs
 size_some [] = omega arith
@@ -18,11 +18,11 @@ size_some (v ∷ vs) = mul-le 1 1 v.capacity (size_of vs) v.some (size_some vs)
 -- the objects of a number, column by column
 abbrev pub objects_at : List Column → ℕ → List ℕ
 objects_at [] n = []
-objects_at (c ∷ cs) n = slice_index c.ids (n / size_of (variables_of cs)) ∷ objects_at cs (n % size_of (variables_of cs))
+objects_at (c ∷ cs) n = slice_index c.ids (n / size_of (column_variables cs)) ∷ objects_at cs (n % size_of (column_variables cs))
 
 -- what there is of the objects of a number, where it is that of a binding
 abbrev pub at_number : {X : Type 0} → (List ℕ → Option X) → List Column → ℕ → Option X
-at_number g cs n = if counts (variables_of cs) n then g (objects_at cs n) else None
+at_number g cs n = if counts (column_variables cs) n then g (objects_at cs n) else None
 
 -- ---- lists of numbers
 
@@ -99,16 +99,16 @@ module _ {X : Type 0} where
 
   module _ (g : List ℕ → Option X) (c : Column) (cs : List Column) where
     abbrev width : ℕ
-    width = size_of (variables_of cs)
+    width = size_of (column_variables cs)
 
     abbrev here : ℕ → Option X
     here n = at_number g (c ∷ cs) n
 
     place_is : (n p d : ℕ) (b : Bool) (id : ℕ) → n / width ≡ p → n % width ≡ d → nat_lt p c.numbers.count ≡ b → slice_index c.ids p ≡ id →
-        here n ≡ (if b && counts (variables_of cs) d then g (id ∷ objects_at cs d) else None)
+        here n ≡ (if b && counts (column_variables cs) d then g (id ∷ objects_at cs d) else None)
     place_is n p d b id e f at object =
-        (λ i. if nat_lt (e i) c.numbers.count && counts (variables_of cs) (f i) then g (slice_index c.ids (e i) ∷ objects_at cs (f i)) else None)
-        ∙ (λ i. if at i && counts (variables_of cs) d then g (object i ∷ objects_at cs d) else None)
+        (λ i. if nat_lt (e i) c.numbers.count && counts (column_variables cs) (f i) then g (slice_index c.ids (e i) ∷ objects_at cs (f i)) else None)
+        ∙ (λ i. if at i && counts (column_variables cs) d then g (object i ∷ objects_at cs d) else None)
 
     not_less : (p n : ℕ) → n ≤ p → nat_lt p n ≡ false
     not_less p n h = grind (arith, nat_tests, h)
@@ -133,7 +133,7 @@ module _ {X : Type 0} where
     places_from later [] p count same =
         sym (between_none here (p * width) (c.numbers.capacity * width)
         (λ n from below. place_is n (n / width) (n % width) false (slice_index c.ids (n / width)) refl refl
-        (not_less (n / width) c.numbers.count (omega (arith, le-div p n width (size_some (variables_of cs)) from, count))) refl))
+        (not_less (n / width) c.numbers.count (omega (arith, le-div p n width (size_some (column_variables cs)) from, count))) refl))
     places_from later (y ∷ ys) p count same =
         let object : slice_index c.ids p ≡ y = sym (same 0 (omega arith) ∙ ap (slice_index c.ids) (let e : p + 0 ≡ p = omega arith in e)) in
         let below : p < c.numbers.count = omega (arith, count) in
@@ -152,9 +152,9 @@ module _ {X : Type 0} where
   one_number g = refl
 
   pub listed_product : (g : List ℕ → Option X) (cs : List Column) → AreCounted cs →
-      filter_map g (product (map (λ c. c.ids) cs)) ≡ filter_map (at_number g cs) (between 0 (size_of (variables_of cs)))
+      filter_map g (product (map (λ c. c.ids) cs)) ≡ filter_map (at_number g cs) (between 0 (size_of (column_variables cs)))
   listed_product g [] counted = one_number g
   listed_product g (c ∷ cs) counted =
       flat g (λ x. map (λ later. x ∷ later) (product (map (λ k. k.ids) cs))) c.ids
       ∙ places_from g c cs (λ g'. listed_product g' cs counted.1) c.ids 0 (omega (arith, counted.0)) (λ i h. ap (slice_index c.ids) (let e : i ≡ 0 + i = omega arith in e))
-      ∙ ap (λ m. filter_map (at_number g (c ∷ cs)) (between m (c.numbers.capacity * size_of (variables_of cs)))) (let e : 0 * size_of (variables_of cs) ≡ 0 = omega arith in e)
+      ∙ ap (λ m. filter_map (at_number g (c ∷ cs)) (between m (c.numbers.capacity * size_of (column_variables cs)))) (let e : 0 * size_of (column_variables cs) ≡ 0 = omega arith in e)

@@ -8,8 +8,8 @@ use Rattle.history.specs.Catalog.{Catalog, ids_of as ids_of_class}
 use Rattle.formula.specs.Tree.{ResolvedQuery}
 use Rattle.meaning.specs.Reads.{change_reads, made_single, query_reads, sizes_of}
 use Rattle.object_store.specs.Contents.{Contents, catalog_of}
-use Rattle.relation.specs.Frames.{size_of}
-use Rattle.relation.specs.Key.{has_id, ids_of}
+use Rattle.relation.specs.Frames.{domain_size}
+use Rattle.relation.specs.Key.{has_id, ids_of_variable}
 use Rattle.answers.specs.Objects.{AreOfItsClasses}
 use Rattle.answers.proofs.ObjectLemmas.{no_domain}
 use Rattle.live_queries.specs.Asked.{class_in}
@@ -25,7 +25,7 @@ one_of_class s q class id its alone there = record {
   each = λ v object below has. each v object (subst (λ (n : ℕ). v < n) (ap length alone) below) has;
 }
   where
-    each : (v object : ℕ) → v < 1 → has_id (ids_of ((id ∷ []) ∷ []) v) object ≡ true → has_id (ids_of_class (catalog_of s) (slice_index q.classes v)) object ≡ true
+    each : (v object : ℕ) → v < 1 → has_id (ids_of_variable ((id ∷ []) ∷ []) v) object ≡ true → has_id (ids_of_class (catalog_of s) (slice_index q.classes v)) object ≡ true
     each zero object below has = elim (or_cases (id == object) false has) [
       | inl here ↦
           ap (has_id (ids_of_class (catalog_of s) (slice_index q.classes 0))) (sym (equal id object here))
@@ -35,10 +35,10 @@ one_of_class s q class id its alone there = record {
     ]
     each (suc v) object below has = absurd (omega (arith, below))
 
-one_size : (sizes : ℕ → ℕ) (id : ℕ) → IsMore (size_of ((id ∷ []) ∷ [])) (made_single sizes (0 ∷ []))
+one_size : (sizes : ℕ → ℕ) (id : ℕ) → IsMore (domain_size ((id ∷ []) ∷ [])) (made_single sizes (0 ∷ []))
 one_size sizes id zero = omega arith
 one_size sizes id (suc v) =
-    let none : length (ids_of ((id ∷ []) ∷ []) (suc v)) ≡ 0 = ap length (no_domain ((id ∷ []) ∷ []) (suc v) (omega arith)) in
+    let none : length (ids_of_variable ((id ∷ []) ∷ []) (suc v)) ≡ 0 = ap length (no_domain ((id ∷ []) ∷ []) (suc v) (omega arith)) in
     omega (arith, none)
 
 sum_of_first : (f : ℕ → ℕ) → sum_by f (between 0 1) ≡ f 0 + 0
@@ -47,10 +47,10 @@ sum_of_first f = sum_by-cons f 0 []
 
 -- its looks at timelines are within those of a change
 pub one_within : (c : Catalog) (q : ResolvedQuery) (ticks class id : ℕ) → q.classes ≡ class ∷ [] →
-    query_reads (size_of ((id ∷ []) ∷ [])) ticks q ≤ change_reads c q ticks class
+    query_reads (domain_size ((id ∷ []) ∷ [])) ticks q ≤ change_reads c q ticks class
 one_within c q ticks class id alone =
-    let few : query_reads (size_of ((id ∷ []) ∷ [])) ticks q ≤ query_reads (made_single (sizes_of c q) (0 ∷ [])) ticks q =
-    more_of_query ticks ticks (omega arith) q (size_of ((id ∷ []) ∷ [])) (made_single (sizes_of c q) (0 ∷ [])) (one_size (sizes_of c q) id) in
+    let few : query_reads (domain_size ((id ∷ []) ∷ [])) ticks q ≤ query_reads (made_single (sizes_of c q) (0 ∷ [])) ticks q =
+    more_of_query ticks ticks (omega arith) q (domain_size ((id ∷ []) ∷ [])) (made_single (sizes_of c q) (0 ∷ [])) (one_size (sizes_of c q) id) in
     let all : change_reads c q ticks class ≡ looks_of 0 + 0 =
     ap (λ n. sum_by looks_of (between 0 n)) (ap length alone) ∙ sum_of_first looks_of in
     let same : looks_of 0 ≡ query_reads (made_single (sizes_of c q) (0 ∷ [])) ticks q =

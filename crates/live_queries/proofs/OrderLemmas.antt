@@ -9,7 +9,7 @@ use Rattle.std.proofs.lemmas.Map.Views.{any-filter_same}
 use Rattle.formula.specs.Resolved.{IsResolved, are_distinct, is_list_of}
 use Rattle.formula.specs.Tree.{ResolvedQuery}
 use Rattle.formula_shape.specs.declared.limits.TheConstants.{OBJECT_LIMIT}
-use Rattle.live_queries.specs.Columns.{Column, has_variable, order_of}
+use Rattle.live_queries.specs.Columns.{Column, columns_have, order_of}
 use Rattle.live_queries.proofs.ColumnLemmas.{equal, less, not_true, own}
 
 abbrev pub among : List ℕ → ℕ → Bool
@@ -108,6 +108,6 @@ module _ (q : ResolvedQuery) (is : IsResolved q) where
 
 -- ---- the columns
 
-pub columns_are : (cs : List Column) (v : ℕ) → has_variable cs v ≡ among (map (λ c. c.variable) cs) v
+pub columns_are : (cs : List Column) (v : ℕ) → columns_have cs v ≡ among (map (λ c. c.variable) cs) v
 columns_are [] v = refl
 columns_are (c ∷ cs) v = ap (λ b. c.variable == v || b) (columns_are cs v)

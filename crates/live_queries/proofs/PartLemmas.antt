@@ -20,7 +20,7 @@ use Rattle.meaning.specs.Binding.{holds_full}
 use Rattle.object_store.specs.Contents.{Contents, StoredObject, catalog_of, object_info}
 use Rattle.relation.specs.Frames.{IsIn}
 use Rattle.relation.specs.Key.{has_id}
-use Rattle.relation.specs.Rows.{has}
+use Rattle.relation.specs.Rows.{table_has}
 use Rattle.answers.proofs.ObjectLemmas.{placed}
 use Rattle.live_queries.specs.declared.parts.Part.{Part}
 use Rattle.live_queries.specs.declared.parts.Single.{Single}
@@ -46,8 +46,8 @@ variable_of_class (k ∷ classes) class (suc v) below is = variable_of_class cla
 -- ---- the class of an object
 
 pub class_is : (s : Contents) (class id : ℕ) → has_id (ids_of (catalog_of s) class) id ≡ true → class_in s id ≡ class
-class_is s class id has =
-    let p = placed (catalog_of s) class id has in
+class_is s class id table_has =
+    let p = placed (catalog_of s) class id table_has in
     let at : slice_get (map object_info s.objects) id ≡ Some p.object = ap (slice_get (map object_info s.objects)) (let e : id ≡ p.place = omega (arith, p.counted) in e) ∙ p.at in
     mapped (slice_get s.objects id)
     ∙ ap (λ (o : Option ObjectInfo). option_map_or (λ i. i.class) o 0) (sym (slice_get-map object_info s.objects id) ∙ at)
@@ -129,7 +129,7 @@ module _ (w : World) (q : ResolvedQuery) (lo hi id t : ℕ) (b : ℕ → ℕ) wh
       ]
     where
       has_in : Part → Bool
-      has_in x = has spans_have x.rows b t
+      has_in x = table_has spans_have x.rows b t
 
       rest : (x y : Bool) → x ≡ false → (x || y) ≡ true → y ≡ true
       rest true y e h = absurd (false≢true (sym e))

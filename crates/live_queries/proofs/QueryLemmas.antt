@@ -11,17 +11,17 @@ use Rattle.kept_rows.specs.Moves.{Moved, if_moved, move_of}
 use Rattle.kept_rows.specs.declared.binding.TheConstants.{BINDING_LIMIT}
 use Rattle.kept_rows.specs.Numbers.{size_of}
 use Rattle.meaning.specs.Registered.{first_tick}
-use Rattle.live_queries.specs.Columns.{Column, variables_of}
+use Rattle.live_queries.specs.Columns.{Column, column_variables}
 use Rattle.live_queries.specs.Current.{row_at}
 use Rattle.live_queries.specs.Kept.{KeptQuery}
-use Rattle.live_queries.specs.Told.{lines_of, target_count, target_times, target_width}
+use Rattle.live_queries.specs.Told.{listed_lines, target_count, target_times, target_width}
 use Rattle.live_queries.proofs.JoinedLemmas.{size_joined}
 use Rattle.live_queries.proofs.AnswerLemmas.{none_listed}
 use Rattle.live_queries.proofs.NumberingLemmas.{size_some}
 use Rattle.live_queries.proofs.ListLemmas.{lines_below, lines_none}
 
 -- an answer whose first tick is past the expiry is empty
-pub late_lines : (k : KeptQuery) (now : ℕ) → k.expiry < first_tick k.kind k.entry now → lines_of k now ≡ []
+pub late_lines : (k : KeptQuery) (now : ℕ) → k.expiry < first_tick k.kind k.entry now → listed_lines k now ≡ []
 late_lines k now late =
     let from : ℕ = first_tick k.kind k.entry now in
     lines_none (line_of (target_times k (row_at k)) from k.expiry)
@@ -46,7 +46,7 @@ move_number line [] [] = All-nil (λ (m : Moved). m.target ≡ line.target)
 move_number line [] (r ∷ lost) = All-cons (λ (m : Moved). m.target ≡ line.target) line [] refl (All-nil (λ (m : Moved). m.target ≡ line.target))
 move_number line (r ∷ gained) lost = All-cons (λ (m : Moved). m.target ≡ line.target) line [] refl (All-nil (λ (m : Moved). m.target ≡ line.target))
 
-pub lines_numbered : (k : KeptQuery) (now : ℕ) → All (λ line. line.0 < target_count k) (lines_of k now)
+pub lines_numbered : (k : KeptQuery) (now : ℕ) → All (λ line. line.0 < target_count k) (listed_lines k now)
 lines_numbered k now =
     lines_below (λ (line : ℕ × List (ℕ × ℕ)). line.0) (line_of (target_times k (row_at k)) (first_tick k.kind k.entry now) k.expiry)
     (λ n. line_number n _) (target_count k)
@@ -60,38 +60,38 @@ moves_numbered p q from e now count =
     lines_below (λ (m : Moved). m.target) (move_of p q from e now) (λ n. move_number _ _ _) count
 
 -- the numbers of all targets are those of the bindings
-pub target_numbers : (k : KeptQuery) → target_count k * target_width k ≡ size_of (variables_of k.columns)
+pub target_numbers : (k : KeptQuery) → target_count k * target_width k ≡ size_of (column_variables k.columns)
 target_numbers k =
     let m : ℕ = length k.query.targets in
-    sym (size_joined (take m k.columns) (drop m k.columns)) ∙ ap (λ cs. size_of (variables_of cs)) (take-append-drop m k.columns)
+    sym (size_joined (take m k.columns) (drop m k.columns)) ∙ ap (λ cs. size_of (column_variables cs)) (take-append-drop m k.columns)
 
 -- ---- the numbers of the first columns and of the others
 
-module _ (m : ℕ) (cs : List Column) (few : size_of (variables_of cs) ≤ BINDING_LIMIT) where
+module _ (m : ℕ) (cs : List Column) (few : size_of (column_variables cs) ≤ BINDING_LIMIT) where
   abbrev front_size : ℕ
-  front_size = size_of (variables_of (take m cs))
+  front_size = size_of (column_variables (take m cs))
 
   abbrev back_size : ℕ
-  back_size = size_of (variables_of (drop m cs))
+  back_size = size_of (column_variables (drop m cs))
 
-  parted_size : front_size * back_size ≡ size_of (variables_of cs)
-  parted_size = sym (size_joined (take m cs) (drop m cs)) ∙ ap (λ ds. size_of (variables_of ds)) (take-append-drop m cs)
+  parted_size : front_size * back_size ≡ size_of (column_variables cs)
+  parted_size = sym (size_joined (take m cs) (drop m cs)) ∙ ap (λ ds. size_of (column_variables ds)) (take-append-drop m cs)
 
   all_back : take (length cs - m) (drop m cs) ≡ drop m cs
   all_back = take_all (length cs - m) (drop m cs) (let e : length (drop m cs) ≡ length cs - m = length-drop m cs in omega (arith, e))
 
   pub front_few : front_size ≤ BINDING_LIMIT
   front_few =
-      let more : front_size * 1 ≤ front_size * back_size = mul-le-mul_left front_size (size_some (variables_of (drop m cs))) in
+      let more : front_size * 1 ≤ front_size * back_size = mul-le-mul_left front_size (size_some (column_variables (drop m cs))) in
       omega (arith, more, parted_size, few)
 
-  pub back_few : size_of (variables_of (take (length cs - m) (drop m cs))) ≤ BINDING_LIMIT
+  pub back_few : size_of (column_variables (take (length cs - m) (drop m cs))) ≤ BINDING_LIMIT
   back_few =
-      let more : 1 * back_size ≤ front_size * back_size = mul-le-mul_right back_size (size_some (variables_of (take m cs))) in
-      let same : size_of (variables_of (take (length cs - m) (drop m cs))) ≡ back_size = ap (λ ds. size_of (variables_of ds)) all_back in
+      let more : 1 * back_size ≤ front_size * back_size = mul-le-mul_right back_size (size_some (column_variables (take m cs))) in
+      let same : size_of (column_variables (take (length cs - m) (drop m cs))) ≡ back_size = ap (λ ds. size_of (column_variables ds)) all_back in
       omega (arith, more, parted_size, few, same)
 
-  pub both_few : (a b : ℕ) → a ≡ front_size → b ≡ size_of (variables_of (take (length cs - m) (drop m cs))) → a * b ≤ BINDING_LIMIT
+  pub both_few : (a b : ℕ) → a ≡ front_size → b ≡ size_of (column_variables (take (length cs - m) (drop m cs))) → a * b ≤ BINDING_LIMIT
   both_few a b e f =
-      let same : a * b ≡ size_of (variables_of cs) = (λ i. e i * (f ∙ ap (λ ds. size_of (variables_of ds)) all_back) i) ∙ parted_size in
+      let same : a * b ≡ size_of (column_variables cs) = (λ i. e i * (f ∙ ap (λ ds. size_of (column_variables ds)) all_back) i) ∙ parted_size in
       omega (arith, same, few)

@@ -10,8 +10,8 @@ use Rattle.tick_set.specs.Ticks.{between}
 use Rattle.history.specs.Catalog.{Catalog, ids_of as ids_of_class}
 use Rattle.formula.specs.Tree.{ResolvedQuery}
 use Rattle.meaning.specs.Reads.{change_reads, made_single, query_reads, sizes_of}
-use Rattle.relation.specs.Frames.{size_of}
-use Rattle.relation.specs.Key.{ids_of}
+use Rattle.relation.specs.Frames.{domain_size}
+use Rattle.relation.specs.Key.{ids_of_variable}
 use Rattle.answers.proofs.ObjectLemmas.{no_domain}
 use Rattle.answers.proofs.ReadLemmas.{IsMore, more_of_query}
 use Rattle.live_queries.specs.declared.parts.Single.{Single}
@@ -47,7 +47,7 @@ domains_length c classes id v =
     ∙ length-range_with_len 0 (length classes - 0) ∙ (let e : length classes - 0 ≡ length classes = omega arith in e)
 
 pub domain_of_variable : (c : Catalog) (classes : List ℕ) (id v u : ℕ) → u < length classes →
-    ids_of (domains_for c classes id v) u ≡ ids_for c classes id v u
+    ids_of_variable (domains_for c classes id v) u ≡ ids_for c classes id v u
 unfolding between
 domain_of_variable c classes id v u below =
     get_or-map (ids_for c classes id v) (between 0 (length classes)) u 0 []
@@ -58,16 +58,16 @@ domain_of_variable c classes id v u below =
 pub as_many_domains : (c : Catalog) (classes : List ℕ) (id v : ℕ) → length (domains_for c classes id v) ≡ length classes
 as_many_domains = domains_length
 
-single_sizes : (c : Catalog) (q : ResolvedQuery) (id v : ℕ) → IsMore (size_of (domains_for c q.classes id v)) (made_single (sizes_of c q) (v ∷ []))
+single_sizes : (c : Catalog) (q : ResolvedQuery) (id v : ℕ) → IsMore (domain_size (domains_for c q.classes id v)) (made_single (sizes_of c q) (v ∷ []))
 single_sizes c q id v u =
     elim (cases_lt u (length q.classes)) [
       | inl within ↦
-          let same : length (ids_of (domains_for c q.classes id v) u) ≡ length (ids_for c q.classes id v u) =
+          let same : length (ids_of_variable (domains_for c q.classes id v) u) ≡ length (ids_for c q.classes id v u) =
           ap length (domain_of_variable c q.classes id v u within) in
           subst (λ (n : ℕ). n ≤ made_single (sizes_of c q) (v ∷ []) u) (sym same) (one (v == u))
       | inr past ↦
           let many : length (domains_for c q.classes id v) ≡ length q.classes = domains_length c q.classes id v in
-          let none : length (ids_of (domains_for c q.classes id v) u) ≡ 0 = ap length (no_domain (domains_for c q.classes id v) u (omega (arith, past, many))) in
+          let none : length (ids_of_variable (domains_for c q.classes id v) u) ≡ 0 = ap length (no_domain (domains_for c q.classes id v) u (omega (arith, past, many))) in
           omega (arith, none)
     ]
   where
@@ -78,7 +78,7 @@ single_sizes c q id v u =
 -- ---- the parts of a query
 
 one_part : (c : Catalog) (q : ResolvedQuery) (ticks class id v : ℕ) →
-    sum_by (λ s. query_reads (size_of s.domains) ticks q) (single_for c q.classes class id v)
+    sum_by (λ s. query_reads (domain_size s.domains) ticks q) (single_for c q.classes class id v)
     ≤ (if slice_index q.classes v == class then query_reads (made_single (sizes_of c q) (v ∷ [])) ticks q else 0)
 one_part c q ticks class id v = either (is_of_class q.classes class v) refl
   where
@@ -86,15 +86,15 @@ one_part c q ticks class id v = either (is_of_class q.classes class v) refl
     single = record { variable = v; domains = domains_for c q.classes id v }
 
     either : (b : Bool) → is_of_class q.classes class v ≡ b →
-        sum_by (λ s. query_reads (size_of s.domains) ticks q) (if b then (single ∷ []) else [])
+        sum_by (λ s. query_reads (domain_size s.domains) ticks q) (if b then (single ∷ []) else [])
         ≤ (if slice_index q.classes v == class then query_reads (made_single (sizes_of c q) (v ∷ [])) ticks q else 0)
     either false e = omega arith
     either true e =
-        let few : query_reads (size_of (domains_for c q.classes id v)) ticks q ≤ query_reads (made_single (sizes_of c q) (v ∷ [])) ticks q =
-        more_of_query ticks ticks (omega arith) q (size_of (domains_for c q.classes id v)) (made_single (sizes_of c q) (v ∷ [])) (single_sizes c q id v) in
-        let alone : sum_by (λ (s : Single). query_reads (size_of s.domains) ticks q) (single ∷ []) ≡ query_reads (size_of (domains_for c q.classes id v)) ticks q + 0 =
-        sum_by-cons (λ (s : Single). query_reads (size_of s.domains) ticks q) single [] in
-        subst (λ (b : Bool). sum_by (λ (s : Single). query_reads (size_of s.domains) ticks q) (single ∷ [])
+        let few : query_reads (domain_size (domains_for c q.classes id v)) ticks q ≤ query_reads (made_single (sizes_of c q) (v ∷ [])) ticks q =
+        more_of_query ticks ticks (omega arith) q (domain_size (domains_for c q.classes id v)) (made_single (sizes_of c q) (v ∷ [])) (single_sizes c q id v) in
+        let alone : sum_by (λ (s : Single). query_reads (domain_size s.domains) ticks q) (single ∷ []) ≡ query_reads (domain_size (domains_for c q.classes id v)) ticks q + 0 =
+        sum_by-cons (λ (s : Single). query_reads (domain_size s.domains) ticks q) single [] in
+        subst (λ (b : Bool). sum_by (λ (s : Single). query_reads (domain_size s.domains) ticks q) (single ∷ [])
         ≤ (if b then query_reads (made_single (sizes_of c q) (v ∷ [])) ticks q else 0)) (sym (class_of_variable q.classes class v e)) (omega (arith, few, alone))
 
 sum_of_each : (f : Single → ℕ) (g : ℕ → List Single) (vs : List ℕ) → sum_by f (flat_map g vs) ≡ sum_by (λ v. sum_by f (g v)) vs
@@ -105,12 +105,12 @@ sum_of_each f g (v ∷ vs) =
 
 pub parts_within : (c : Catalog) (q : ResolvedQuery) (ticks class id : ℕ) (singles : List Single) →
     singles ≡ flat_map (single_for c q.classes class id) (between 0 (length q.classes)) →
-    sum_by (λ s. query_reads (size_of s.domains) ticks q) singles ≤ change_reads c q ticks class
+    sum_by (λ s. query_reads (domain_size s.domains) ticks q) singles ≤ change_reads c q ticks class
 parts_within c q ticks class id singles are =
     subst (λ (n : ℕ). n ≤ change_reads c q ticks class)
-    (sym (ap (sum_by (λ s. query_reads (size_of s.domains) ticks q)) are
-    ∙ sum_of_each (λ s. query_reads (size_of s.domains) ticks q) (single_for c q.classes class id) (between 0 (length q.classes))))
-    (sum_by-le-sum_by (λ v. sum_by (λ s. query_reads (size_of s.domains) ticks q) (single_for c q.classes class id v))
+    (sym (ap (sum_by (λ s. query_reads (domain_size s.domains) ticks q)) are
+    ∙ sum_of_each (λ s. query_reads (domain_size s.domains) ticks q) (single_for c q.classes class id) (between 0 (length q.classes))))
+    (sum_by-le-sum_by (λ v. sum_by (λ s. query_reads (domain_size s.domains) ticks q) (single_for c q.classes class id v))
     (λ v. if slice_index q.classes v == class then query_reads (made_single (sizes_of c q) (v ∷ [])) ticks q else 0)
     (between 0 (length q.classes)) (λ v. one_part c q ticks class id v))
 

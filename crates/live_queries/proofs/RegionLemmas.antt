@@ -28,7 +28,7 @@ use Rattle.meaning.specs.Registered.{first_tick}
 use Rattle.meaning.specs.Satisfaction.{Interpretation, plain, sat}
 use Rattle.meaning.specs.Trace.{Trace, trace_of}
 use Rattle.kept_rows.specs.Numbers.{counts}
-use Rattle.live_queries.specs.Columns.{Column, HaveObjectsOf, object_of, variables_of}
+use Rattle.live_queries.specs.Columns.{Column, HaveObjectsOf, column_variables, object_at_number}
 use Rattle.live_queries.specs.Current.{IsCurrentFor, full_at}
 use Rattle.live_queries.specs.Kept.{KeptQuery}
 use Rattle.live_queries.specs.Renewed.{ChangesNoObject}
@@ -98,7 +98,7 @@ pub stays_current_without_objects :
     IsCurrentFor old before k → IsCurrentFor new now k
 stays_current_without_objects same_truth old new changes before now upto k fits current = record {
   objects = same_columns old.history.catalog new.history.catalog changes.objects k.query.classes k.columns current.objects;
-  rows = λ n t from. current.rows n t (still_told k.kind from) ∙ ap (λ b. counts (variables_of k.columns) n && b) (same_full n t);
+  rows = λ n t from. current.rows n t (still_told k.kind from) ∙ ap (λ b. counts (column_variables k.columns) n && b) (same_full n t);
 }
   where
     -- what is told later is told before
@@ -109,7 +109,7 @@ stays_current_without_objects same_truth old new changes before now upto k fits 
     -- by the states, and then by the regions
     same_full : (n t : ℕ) → full_at old k n t ≡ full_at new k n t
     same_full n t =
-        let b : ℕ → ℕ = object_of k.columns n in
+        let b : ℕ → ℕ = object_at_number k.columns n in
         elim (cases_Bool (within k.entry k.expiry t)) [
           | inl inside ↦
               ap (λ holds. within k.entry k.expiry t && (are_present old k.query b t && holds))

@@ -7,7 +7,7 @@ use Rattle.history.specs.Catalog.{Catalog}
 use Rattle.meaning.specs.Reads.{change_reads, renewal_reads, write_reads}
 use Rattle.meaning.specs.Registered.{RegisteredQuery}
 use Rattle.live_queries.specs.Effort.{all_judged_reads, judged_reads}
-use Rattle.live_queries.specs.Kept.{KeptQuery, registered}
+use Rattle.live_queries.specs.Kept.{KeptQuery, registered_query}
 use Rattle.live_queries.specs.Renewed.{judged_from}
 use Rattle.live_queries.proofs.ReadLemmas.{more_of_change}
 
@@ -32,7 +32,7 @@ module _ (c : Catalog) (now class : ℕ) where
   looks_end rest mid total most = omega (arith, most)
 
   -- over the ticks that are judged it looks no more often than over all
-  judged_less : (k : KeptQuery) → judged_reads c now class k ≤ renewal_reads c now class (registered k)
+  judged_less : (k : KeptQuery) → judged_reads c now class k ≤ renewal_reads c now class (registered_query k)
   judged_less k = either (nat_le now k.expiry)
     where
       fewer : (x e j : ℕ) → e ≤ j → x + 1 - j ≤ x + 1 - e
@@ -48,15 +48,15 @@ module _ (c : Catalog) (now class : ℕ) where
           (fewer k.expiry k.entry lo (le-max_left k.entry (judged_from k now))) c k.query class
       either false = omega arith
 
-  pub no_more_looks : (ks : List KeptQuery) → all_judged_reads c ks now class ≤ write_reads c (map registered ks) now class
+  pub no_more_looks : (ks : List KeptQuery) → all_judged_reads c ks now class ≤ write_reads c (map registered_query ks) now class
   no_more_looks [] = omega arith
   no_more_looks (k ∷ ks) =
       let judged = sum_by-cons (judged_reads c now class) k ks in
-      let all = sum_by-cons (λ (r : RegisteredQuery). renewal_reads c now class r) (registered k) (map registered ks) in
+      let all = sum_by-cons (λ (r : RegisteredQuery). renewal_reads c now class r) (registered_query k) (map registered_query ks) in
       let one = judged_less k in
       let later = no_more_looks ks in
       omega (arith, judged, all, one, later)
 
   pub looks_within : (ks : List KeptQuery) (old new : ℕ) → new ≤ old + all_judged_reads c ks now class →
-      new ≤ old + write_reads c (map registered ks) now class
+      new ≤ old + write_reads c (map registered_query ks) now class
   looks_within ks old new most = let more = no_more_looks ks in omega (arith, most, more)

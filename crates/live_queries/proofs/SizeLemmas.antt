@@ -9,7 +9,7 @@ use Rattle.formula_shape.specs.declared.limits.TheConstants.{OBJECT_LIMIT}
 use Rattle.formula.specs.Resolved.{IsResolved, are_distinct}
 use Rattle.formula.specs.Tree.{ResolvedQuery}
 use Rattle.kept_rows.specs.Numbers.{size_of}
-use Rattle.live_queries.specs.Columns.{AreColumnsOf, Column, order_of, variables_of}
+use Rattle.live_queries.specs.Columns.{AreColumnsOf, Column, column_variables, order_of}
 use Rattle.live_queries.proofs.ColumnLemmas.{equal, less, not_true, turned}
 use Rattle.live_queries.proofs.OrderLemmas.{among, order_below, order_distinct, order_has}
 
@@ -96,7 +96,7 @@ all_chosen catalog (a ∷ b ∷ c ∷ d ∷ []) few = refl
 all_chosen catalog (a ∷ b ∷ c ∷ d ∷ e ∷ classes) few = absurd (omega (arith, few))
 
 sizes : (catalog : Catalog) (classes vs : List ℕ) (cs : List Column) → AreColumnsOf catalog classes vs cs →
-    size_of (variables_of cs) ≡ product_over (λ v. capacity_of catalog.classes (slice_index classes v)) vs
+    size_of (column_variables cs) ≡ product_over (λ v. capacity_of catalog.classes (slice_index classes v)) vs
 sizes catalog classes [] [] are = refl
 sizes catalog classes [] (c ∷ cs) are = absurd are
 sizes catalog classes (v ∷ vs) [] are = absurd are
@@ -104,7 +104,7 @@ sizes catalog classes (v ∷ vs) (c ∷ cs) are = λ i. are.0.capacity i * sizes
 
 -- the columns of a query have as many numbers as there may be bindings
 pub columns_size : (catalog : Catalog) (q : ResolvedQuery) (cs : List Column) → IsResolved q → AreColumnsOf catalog q.classes (order_of q) cs →
-    size_of (variables_of cs) ≡ most_bindings catalog.classes q.classes
+    size_of (column_variables cs) ≡ most_bindings catalog.classes q.classes
 columns_size catalog q cs is are =
     let f : ℕ → ℕ = λ v. capacity_of catalog.classes (slice_index q.classes v) in
     let few : length q.classes ≤ 4 = few_classes (and_parts (nat_lt 0 (length q.classes)) (nat_le (length q.classes) OBJECT_LIMIT) is.variables).1 in

@@ -12,7 +12,7 @@ use Rattle.live_queries.specs.declared.fresh.Renewal.{Renewal}
 use Rattle.live_queries.specs.declared.fresh.Touched.{Touched}
 use Rattle.live_queries.specs.Columns.{AreCounted, AreSameColumns, Column}
 use Rattle.live_queries.specs.Current.{row_at}
-use Rattle.live_queries.specs.Kept.{IsKept, KeptQuery}
+use Rattle.live_queries.specs.Kept.{IsKeptQuery, KeptQuery}
 use Rattle.live_queries.specs.Prepared.{AreColumnsWith, AreMade, ArePrepared, IsMade, IsReadyFor}
 use Rattle.live_queries.specs.Told.{changes_of, move, moves_of, target_count, target_times}
 use Rattle.live_queries.specs.Untouched.{spread, untouched, untouched_before}
@@ -73,40 +73,40 @@ same_with class classes id [] counted = tt
 same_with class classes id (c ∷ cs) counted =
     (record { variable = refl; capacity = refl; count = counted.0; ids = refl }, same_with class classes id cs counted.1)
 
-pub untouched_made : (object class : ℕ) (k : KeptQuery) → IsKept k → IsMade object class untouched k k
+pub untouched_made : (object class : ℕ) (k : KeptQuery) → IsKeptQuery k → IsMade object class untouched k k
 untouched_made object class k is = record {
   head = record { name = refl; kind = refl; query = refl; entry = refl; expiry = refl; columns = same_columns k.columns };
   columns = same_with class k.query.classes object k.columns is.counted;
   rows = λ c t. refl;
 }
 
-made_at : (object class n : ℕ) (ks : List KeptQuery) (r : Renewal) (rs : List Renewal) (later : List KeptQuery) → All IsKept ks →
+made_at : (object class n : ℕ) (ks : List KeptQuery) (r : Renewal) (rs : List Renewal) (later : List KeptQuery) → All IsKeptQuery ks →
     AreMade object class (r ∷ rs) (drop n ks) later → AreMade object class (untouched_before n (r ∷ rs)) ks (take n ks ++ later)
 made_at object class zero [] r rs later kept made = absurd made
 made_at object class zero (k ∷ ks) r rs later kept made = made
 made_at object class (suc n) [] r rs later kept made = absurd made
 made_at object class (suc n) (k ∷ ks) r rs later kept made =
-    (untouched_made object class k (All-head IsKept k ks kept), made_at object class n ks r rs later (All-tail IsKept k ks kept) made)
+    (untouched_made object class k (All-head IsKeptQuery k ks kept), made_at object class n ks r rs later (All-tail IsKeptQuery k ks kept) made)
 
-none_made : (object class n : ℕ) (ks : List KeptQuery) → All IsKept ks → ArePrepared class ks (untouched_before n []) →
+none_made : (object class n : ℕ) (ks : List KeptQuery) → All IsKeptQuery ks → ArePrepared class ks (untouched_before n []) →
     AreMade object class (untouched_before n []) ks ks
 none_made object class zero [] kept is = tt
 none_made object class zero (k ∷ ks) kept is = absurd is
 none_made object class (suc n) [] kept is = absurd is
 none_made object class (suc n) (k ∷ ks) kept is =
-    (untouched_made object class k (All-head IsKept k ks kept), none_made object class n ks (All-tail IsKept k ks kept) is.1)
+    (untouched_made object class k (All-head IsKeptQuery k ks kept), none_made object class n ks (All-tail IsKeptQuery k ks kept) is.1)
 
-kept_front : (n : ℕ) (ks : List KeptQuery) → All IsKept ks → All IsKept (take n ks)
-kept_front zero [] kept = All-nil IsKept
-kept_front zero (k ∷ ks) kept = All-nil IsKept
-kept_front (suc n) [] kept = All-nil IsKept
-kept_front (suc n) (k ∷ ks) kept = All-cons IsKept k (take n ks) (All-head IsKept k ks kept) (kept_front n ks (All-tail IsKept k ks kept))
+kept_front : (n : ℕ) (ks : List KeptQuery) → All IsKeptQuery ks → All IsKeptQuery (take n ks)
+kept_front zero [] kept = All-nil IsKeptQuery
+kept_front zero (k ∷ ks) kept = All-nil IsKeptQuery
+kept_front (suc n) [] kept = All-nil IsKeptQuery
+kept_front (suc n) (k ∷ ks) kept = All-cons IsKeptQuery k (take n ks) (All-head IsKeptQuery k ks kept) (kept_front n ks (All-tail IsKeptQuery k ks kept))
 
-kept_back : (n : ℕ) (ks : List KeptQuery) → All IsKept ks → All IsKept (drop n ks)
-kept_back zero [] kept = All-nil IsKept
+kept_back : (n : ℕ) (ks : List KeptQuery) → All IsKeptQuery ks → All IsKeptQuery (drop n ks)
+kept_back zero [] kept = All-nil IsKeptQuery
 kept_back zero (k ∷ ks) kept = kept
-kept_back (suc n) [] kept = All-nil IsKept
-kept_back (suc n) (k ∷ ks) kept = kept_back n ks (All-tail IsKept k ks kept)
+kept_back (suc n) [] kept = All-nil IsKeptQuery
+kept_back (suc n) (k ∷ ks) kept = kept_back n ks (All-tail IsKeptQuery k ks kept)
 
 -- ---- what it changes for targets
 
@@ -157,7 +157,7 @@ changes_end added now (suc n) (k ∷ ks) =
 
 -- ---- step by step
 
-pub none_touched : (object class : ℕ) (ks : List KeptQuery) (ts : List Touched) (rest : ℕ) → length ts ≡ 0 → All IsKept ks → ArePrepared class ks (spread ts rest) →
+pub none_touched : (object class : ℕ) (ks : List KeptQuery) (ts : List Touched) (rest : ℕ) → length ts ≡ 0 → All IsKeptQuery ks → ArePrepared class ks (spread ts rest) →
     AreMade object class (spread ts rest) ks ks
 none_touched object class ks [] rest none kept is = none_made object class rest ks kept is
 none_touched object class ks (t ∷ ts) rest none kept is = absurd (omega (arith, none))
@@ -194,9 +194,9 @@ module _ (ks back : List KeptQuery) (ts more : List Touched) (t : Touched) (rest
         ∙ changes_at added now t.passed ks t.renewal (spread more rest)
         ∙ ap (λ (bs : List KeptQuery). changes_of added now bs (t.renewal ∷ spread more rest)) (sym later ∙ parts)
 
-    module _ (kept : All IsKept ks) where
-      pub behind_kept : All IsKept behind
-      behind_kept = All-tail IsKept k behind (subst (All IsKept) (sym later ∙ parts) (kept_back t.passed ks kept))
+    module _ (kept : All IsKeptQuery ks) where
+      pub behind_kept : All IsKeptQuery behind
+      behind_kept = All-tail IsKeptQuery k behind (subst (All IsKeptQuery) (sym later ∙ parts) (kept_back t.passed ks kept))
 
       module _ (front : List KeptQuery) (before : front ≡ take t.passed ks) (k' : KeptQuery) (behind' : List KeptQuery) where
         pub next_made : (object class : ℕ) → IsMade object class t.renewal k k' → AreMade object class (spread more rest) behind behind' →
@@ -207,6 +207,6 @@ module _ (ks back : List KeptQuery) (ts more : List Touched) (t : Touched) (rest
             (made_at object class t.passed ks t.renewal (spread more rest) (k' ∷ behind') kept
             (subst (λ (bs : List KeptQuery). AreMade object class (t.renewal ∷ spread more rest) bs (k' ∷ behind')) (sym (sym later ∙ parts)) (made, others))))
 
-        pub next_kept : IsKept k' → All IsKept behind' → All IsKept (front ++ k' ∷ behind')
+        pub next_kept : IsKeptQuery k' → All IsKeptQuery behind' → All IsKeptQuery (front ++ k' ∷ behind')
         next_kept is others =
-            All-append IsKept front (k' ∷ behind') (subst (All IsKept) (sym before) (kept_front t.passed ks kept)) (All-cons IsKept k' behind' is others)
+            All-append IsKeptQuery front (k' ∷ behind') (subst (All IsKeptQuery) (sym before) (kept_front t.passed ks kept)) (All-cons IsKeptQuery k' behind' is others)

@@ -17,13 +17,13 @@ use Rattle.object_store.specs.Contents.{Contents, catalog_of}
 use Rattle.relation.specs.Key.{has_id}
 use Rattle.atoms.specs.Asked.{world_in}
 use Rattle.live_queries.specs.declared.fresh.Renewal.{Renewal}
-use Rattle.live_queries.specs.Asked.{IsBefore, class_in}
-use Rattle.live_queries.specs.Columns.{Column, HaveObjectsOf, gives, order_of, variables_of}
-use Rattle.live_queries.specs.Kept.{IsKept, KeptQuery}
+use Rattle.live_queries.specs.Asked.{ExtendsCatalog, class_in}
+use Rattle.live_queries.specs.Columns.{Column, HaveObjectsOf, column_variables, gives, order_of}
+use Rattle.live_queries.specs.Kept.{IsKeptQuery, KeptQuery}
 use Rattle.live_queries.specs.Prepared.{AreColumnsWith, IsFreshFor, IsReadyFor, is_of_class}
 use Rattle.live_queries.specs.Renewed.{is_judged}
-use Rattle.live_queries.specs.Untouched.{IsTouched, untouched}
-use Rattle.live_queries.specs.Written.{HaveObjectsWith, lacks}
+use Rattle.live_queries.specs.Untouched.{TouchesQuery, untouched}
+use Rattle.live_queries.specs.Written.{HaveObjectsWith, lacks_objects}
 use Rattle.live_queries.proofs.AnewLemmas.{renewed_objects}
 use Rattle.live_queries.proofs.ColumnLemmas.{less, not_true, own}
 use Rattle.live_queries.proofs.GrowLemmas.{objects_with}
@@ -42,10 +42,10 @@ no_variable (c ∷ classes) class none (suc v) =
     no_variable classes class (or_parts (c == class) (list_any (λ (x : ℕ). x == class) classes) none).1 v
 
 pub none_lacks : (classes : List ℕ) (class count : ℕ) → list_any (λ (c : ℕ). c == class) classes ≡ false → (cs : List Column) →
-    list_any (lacks classes class count) cs ≡ false
+    list_any (lacks_objects classes class count) cs ≡ false
 none_lacks classes class count none [] = refl
 none_lacks classes class count none (c ∷ cs) =
-    ap (λ b. (b && nat_lt (length c.ids) count) || list_any (lacks classes class count) cs) (no_variable classes class none c.variable)
+    ap (λ b. (b && nat_lt (length c.ids) count) || list_any (lacks_objects classes class count) cs) (no_variable classes class none c.variable)
     ∙ none_lacks classes class count none cs
 
 -- ---- nothing is made
@@ -76,20 +76,20 @@ module _ (s : Contents) (regions : List Region) (id class now : ℕ) (k : KeptQu
   pub expired_fresh : k.expiry < now → IsFreshFor (world_in s regions) id class now k untouched
   expired_fresh past =
       untouched_fresh (λ ds made c judged.
-      false≢true (sym (is_past now k.expiry past) ∙ (and_parts (nat_le now k.expiry) (counts (variables_of ds) c && gives ds id c) judged).0))
+      false≢true (sym (is_past now k.expiry past) ∙ (and_parts (nat_le now k.expiry) (counts (column_variables ds) c && gives ds id c) judged).0))
     where
       is_past : (m e : ℕ) → e < m → nat_le m e ≡ false
       is_past m e h = grind (arith, nat_tests, h)
 
   -- of a query without a variable of the object's class: none of its bindings has the object
-  pub other_fresh : class ≡ class_in s id → IsKept k → list_any (λ (c : ℕ). c == class) k.query.classes ≡ false →
+  pub other_fresh : class ≡ class_in s id → IsKeptQuery k → list_any (λ (c : ℕ). c == class) k.query.classes ≡ false →
       IsFreshFor (world_in s regions) id class now k untouched
   other_fresh its is none = untouched_fresh never
     where
       never : (ds : List Column) → Made ds → (c : ℕ) → is_judged id now k ds c ≡ true → ⊥
       never ds made c judged =
-          let holding = and_parts (counts (variables_of ds) c) (gives ds id c)
-          (and_parts (nat_le now k.expiry) (counts (variables_of ds) c && gives ds id c) judged).1 in
+          let holding = and_parts (counts (column_variables ds) c) (gives ds id c)
+          (and_parts (nat_le now k.expiry) (counts (column_variables ds) c && gives ds id c) judged).1 in
           let order : map (λ (d : Column). d.variable) ds ≡ order_of k.query = same_order false class k.query.classes id k.columns ds made ∙ is.order in
           let found = given ds id c (ap are_distinct order ∙ order_distinct k.query is.resolved) holding.1 in
           let of : ℕ = slice_index k.query.classes found.variable in
@@ -109,8 +109,8 @@ module _ (s : Contents) (regions : List Region) (id class now : ℕ) (k : KeptQu
 abbrev one_is : ℕ → List ℕ → Bool
 one_is class classes = list_any (λ (c : ℕ). c == class) classes
 
-module _ (s : Contents) (regions : List Region) (id class now : ℕ) (its : class ≡ class_in s id) (k : KeptQuery) (is : IsKept k) (old : Catalog)
-    (before : IsBefore id old (catalog_of s)) (have : HaveObjectsOf old k.query.classes k.columns) (classes : List ℕ) (same : classes ≡ k.query.classes) where
+module _ (s : Contents) (regions : List Region) (id class now : ℕ) (its : class ≡ class_in s id) (k : KeptQuery) (is : IsKeptQuery k) (old : Catalog)
+    (before : ExtendsCatalog id old (catalog_of s)) (have : HaveObjectsOf old k.query.classes k.columns) (classes : List ℕ) (same : classes ≡ k.query.classes) where
   -- none of its classes is this one
   pub other_untouched : (has : Bool) → has ≡ one_is class classes → has ≡ false → IsFreshFor (world_in s regions) id class now k untouched
   other_untouched has tells none =
@@ -122,7 +122,7 @@ module _ (s : Contents) (regions : List Region) (id class now : ℕ) (its : clas
 
   -- its expiry is before the write, and none of its columns gets an object
   pub expired_untouched : (grows : Bool) (cs : List Column) → cs ≡ k.columns → (count : ℕ) → count ≡ length (ids_of (catalog_of s) class) →
-      grows ≡ list_any (lacks classes class count) cs → (nat_lt k.expiry now && not grows) ≡ true → IsFreshFor (world_in s regions) id class now k untouched
+      grows ≡ list_any (lacks_objects classes class count) cs → (nat_lt k.expiry now && not grows) ≡ true → IsFreshFor (world_in s regions) id class now k untouched
   expired_untouched grows cs own_columns count many lacking test =
       let parts = and_parts (nat_lt k.expiry now) (not grows) test in
       let unchanged : grows ≡ false = not_true grows parts.1 in
@@ -134,7 +134,7 @@ module _ (s : Contents) (regions : List Region) (id class now : ℕ) (its : clas
       is_less e n h = grind (arith, nat_tests, h)
 
 pub is_touched : (class now : ℕ) (k : KeptQuery) (classes : List ℕ) → classes ≡ k.query.classes → (has : Bool) → has ≡ one_is class classes →
-    has ≡ true → (r : Renewal) → (nat_lt k.expiry now && not r.grows) ≡ false → IsTouched class now k r
+    has ≡ true → (r : Renewal) → (nat_lt k.expiry now && not r.grows) ≡ false → TouchesQuery class now k r
 is_touched class now k classes same has tells there r test = record {
   variable = ap (one_is class) (sym same) ∙ sym tells ∙ there;
   runs = λ past. gets k.expiry r.grows test past;
@@ -150,7 +150,7 @@ pub none_made : (grows : Bool) (changes : List (Change (List Span))) → grows �
     untouched ≡ record { grows = grows; changes = changes }
 none_made grows changes same none = sym (λ i. record { grows = same i; changes = none i })
 
-pub some_touched : (class now : ℕ) (k : KeptQuery) (o : Option Renewal) (x : Renewal) → IfSome o (λ r. r ≡ x) → IsTouched class now k x →
-    IfSome o (IsTouched class now k)
+pub some_touched : (class now : ℕ) (k : KeptQuery) (o : Option Renewal) (x : Renewal) → IfSome o (λ r. r ≡ x) → TouchesQuery class now k x →
+    IfSome o (TouchesQuery class now k)
 some_touched class now k None x is touched = tt
-some_touched class now k (Some r) x is touched = subst (IsTouched class now k) (sym is) touched
+some_touched class now k (Some r) x is touched = subst (TouchesQuery class now k) (sym is) touched

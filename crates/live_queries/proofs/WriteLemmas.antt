@@ -20,16 +20,16 @@ use Rattle.history.specs.World.{World}
 use Rattle.formula.specs.Resolved.{are_distinct, is_list_of}
 use Rattle.formula_shape.specs.declared.limits.TheConstants.{OBJECT_LIMIT}
 use Rattle.kept_rows.specs.declared.change.Change.{Change as RowChange}
-use Rattle.kept_rows.specs.Changes.{after}
-use Rattle.kept_rows.specs.Listing.{lines_between, lines_upto, times}
+use Rattle.kept_rows.specs.Changes.{rows_after}
+use Rattle.kept_rows.specs.Listing.{lines_between, lines_upto, target_has}
 use Rattle.kept_rows.specs.Moves.{difference, if_moved, move_between, move_of}
 use Rattle.kept_rows.specs.Numbers.{counts, size_of}
 use Rattle.meaning.specs.Agreement.{world_with}
 use Rattle.meaning.specs.Binding.{holds_full, holds_target, tuple_of, tuples}
 use Rattle.meaning.specs.Registered.{Change, change_of, changes_of_write, is_change}
-use Rattle.live_queries.specs.Columns.{Column, gives, object_of, object_or, variables_of}
+use Rattle.live_queries.specs.Columns.{Column, column_variables, gives, object_at_number, object_or}
 use Rattle.live_queries.specs.Current.{IsCurrentFor, row_at, told_from}
-use Rattle.live_queries.specs.Kept.{IsKept, KeptQuery, registered}
+use Rattle.live_queries.specs.Kept.{IsKeptQuery, KeptQuery, registered_query}
 use Rattle.live_queries.specs.Renewed.{AddsAtMost, IsRenewed}
 use Rattle.live_queries.specs.Told.{Told, key_of, move, moves_of, target_count, target_width, told_changes}
 use Rattle.live_queries.proofs.AnswerLemmas.{filter_mapped, first_after, first_before, listed_targets, mapped_filtered, none_listed, told}
@@ -85,12 +85,12 @@ one_change added k n key e (r ∷ gained) lost enters leaves not_in not_out = ap
 
 -- a target that has the ticks p before and q after, and by the meaning p' and q'
 module _ (p q p' q' : ℕ → Bool) (from e now : ℕ) (inside : within from e now ≡ true) (stands_now : nat_le now e ≡ true)
-    (before : AgreeIn from e p p') (after : AgreeIn from e q q') where
+    (before : AgreeIn from e p p') (rows_after : AgreeIn from e q q') where
   gains : difference q p from e ≡ runs_of (listed (λ t. q' t && not (p' t)) from e)
-  gains = ap runs_of (same_listed (λ t. q t && not (p t)) (λ t. q' t && not (p' t)) from e (λ t a b i. after t a b i && not (before t a b i)))
+  gains = ap runs_of (same_listed (λ t. q t && not (p t)) (λ t. q' t && not (p' t)) from e (λ t a b i. rows_after t a b i && not (before t a b i)))
 
   loses : difference p q from e ≡ runs_of (listed (λ t. p' t && not (q' t)) from e)
-  loses = ap runs_of (same_listed (λ t. p t && not (q t)) (λ t. p' t && not (q' t)) from e (λ t a b i. before t a b i && not (after t a b i)))
+  loses = ap runs_of (same_listed (λ t. p t && not (q t)) (λ t. p' t && not (q' t)) from e (λ t a b i. before t a b i && not (rows_after t a b i)))
 
   parts : (nat_le from now ≡ true) × (nat_le now e ≡ true)
   parts = and_parts (nat_le from now) (nat_le now e) inside
@@ -102,7 +102,7 @@ module _ (p q p' q' : ℕ → Bool) (from e now : ℕ) (inside : within from e n
   p_now = before now (le_is from now parts.0) (le_is now e parts.1)
 
   q_now : q now ≡ q' now
-  q_now = after now (le_is from now parts.0) (le_is now e parts.1)
+  q_now = rows_after now (le_is from now parts.0) (le_is now e parts.1)
 
   pub change_is : (added : ℕ) (k : KeptQuery) (n : ℕ) (key : List ℕ) → key_of added k n ≡ key →
       option_map (move added k) (move_between p q from e now n) ≡ option_map (told k) (if_change (change_of key p' q' now from e))
@@ -123,20 +123,20 @@ module _ (p q p' q' : ℕ → Bool) (from e now : ℕ) (inside : within from e n
 -- what changes is told by the ticks of the window alone
 same_move : (p q p' q' : ℕ → Bool) (from e now n : ℕ) → AgreeIn from e p p' → AgreeIn from e q q' →
     move_between p q from e now n ≡ move_between p' q' from e now n
-same_move p q p' q' from e now n before after =
+same_move p q p' q' from e now n before rows_after =
     λ i. if_moved (record {
       target = n;
       gained = gains i;
       lost = loses i;
-      enters = inside (λ t a b. λ j. after t a b j && not (before t a b j)) i;
-      leaves = inside (λ t a b. λ j. before t a b j && not (after t a b j)) i;
+      enters = inside (λ t a b. λ j. rows_after t a b j && not (before t a b j)) i;
+      leaves = inside (λ t a b. λ j. before t a b j && not (rows_after t a b j)) i;
     }) (gains i) (loses i)
   where
     gains : difference q p from e ≡ difference q' p' from e
-    gains = ap runs_of (same_listed (λ t. q t && not (p t)) (λ t. q' t && not (p' t)) from e (λ t a b i. after t a b i && not (before t a b i)))
+    gains = ap runs_of (same_listed (λ t. q t && not (p t)) (λ t. q' t && not (p' t)) from e (λ t a b i. rows_after t a b i && not (before t a b i)))
 
     loses : difference p q from e ≡ difference p' q' from e
-    loses = ap runs_of (same_listed (λ t. p t && not (q t)) (λ t. p' t && not (q' t)) from e (λ t a b i. before t a b i && not (after t a b i)))
+    loses = ap runs_of (same_listed (λ t. p t && not (q t)) (λ t. p' t && not (q' t)) from e (λ t a b i. before t a b i && not (rows_after t a b i)))
 
     le_is : (u w : ℕ) → nat_le u w ≡ true → u ≤ w
     le_is u w h = grind (arith, nat_tests, h)
@@ -185,30 +185,30 @@ added_in_column New id c d grown p there = elim grown.ids [
 ]
 
 -- the object that is added stands at the place past the last
-pub added_object : (New : Type 0) (id : ℕ) (cs ds : List Column) → AreGrown New id cs ds → (n : ℕ) → counts (variables_of ds) n ≡ true → (v : ℕ) →
-    object_or id cs n v ≡ object_of ds n v
+pub added_object : (New : Type 0) (id : ℕ) (cs ds : List Column) → AreGrown New id cs ds → (n : ℕ) → counts (column_variables ds) n ≡ true → (v : ℕ) →
+    object_or id cs n v ≡ object_at_number ds n v
 added_object New id [] [] grown n there v = refl
 added_object New id [] (d ∷ ds) grown n there v = absurd grown
 added_object New id (c ∷ cs) [] grown n there v = absurd grown
 added_object New id (c ∷ cs) (d ∷ ds) grown n there v =
-    let w : ℕ = size_of (variables_of ds) in
-    let e : size_of (variables_of ds) ≡ size_of (variables_of cs) = same_size New id cs ds grown.1 in
-    let parted = and_parts (nat_lt (n / w) d.numbers.count) (counts (variables_of ds) (n % w)) there in
+    let w : ℕ = size_of (column_variables ds) in
+    let e : size_of (column_variables ds) ≡ size_of (column_variables cs) = same_size New id cs ds grown.1 in
+    let parted = and_parts (nat_lt (n / w) d.numbers.count) (counts (column_variables ds) (n % w)) there in
     (λ i. if v == sym grown.0.variable i then slice_index_or c.ids (n / sym e i) id else object_or id cs (n % sym e i) v)
     ∙ (λ i. if v == d.variable then added_in_column New id c d grown.0 (n / w) parted.0 i else added_object New id cs ds grown.1 (n % w) parted.1 v i)
 
-same_key : (New : Type 0) (id : ℕ) (cs ds : List Column) → AreGrown New id cs ds → (n : ℕ) → counts (variables_of cs) n ≡ true →
-    counts (variables_of ds) n ≡ true → objects_at ds n ≡ objects_at cs n
+same_key : (New : Type 0) (id : ℕ) (cs ds : List Column) → AreGrown New id cs ds → (n : ℕ) → counts (column_variables cs) n ≡ true →
+    counts (column_variables ds) n ≡ true → objects_at ds n ≡ objects_at cs n
 same_key New id [] [] grown n old new = refl
 same_key New id [] (d ∷ ds) grown n old new = absurd grown
 same_key New id (c ∷ cs) [] grown n old new = absurd grown
 same_key New id (c ∷ cs) (d ∷ ds) grown n old new =
-    let w : ℕ = size_of (variables_of ds) in
-    let e : size_of (variables_of ds) ≡ size_of (variables_of cs) = same_size New id cs ds grown.1 in
-    let was = and_parts (nat_lt (n / size_of (variables_of cs)) c.numbers.count) (counts (variables_of cs) (n % size_of (variables_of cs))) old in
-    let is = and_parts (nat_lt (n / w) d.numbers.count) (counts (variables_of ds) (n % w)) new in
+    let w : ℕ = size_of (column_variables ds) in
+    let e : size_of (column_variables ds) ≡ size_of (column_variables cs) = same_size New id cs ds grown.1 in
+    let was = and_parts (nat_lt (n / size_of (column_variables cs)) c.numbers.count) (counts (column_variables cs) (n % size_of (column_variables cs))) old in
+    let is = and_parts (nat_lt (n / w) d.numbers.count) (counts (column_variables ds) (n % w)) new in
     (λ i. here (n / w) is.0 (ap (λ m. nat_lt (n / m) c.numbers.count) e ∙ was.0) i
-    ∷ same_key New id cs ds grown.1 (n % w) (ap (λ m. counts (variables_of cs) (n % m)) e ∙ was.1) is.1 i)
+    ∷ same_key New id cs ds grown.1 (n % w) (ap (λ m. counts (column_variables cs) (n % m)) e ∙ was.1) is.1 i)
     ∙ (λ i. slice_index c.ids (n / e i) ∷ objects_at cs (n % e i))
   where
     here : (p : ℕ) → nat_lt p d.numbers.count ≡ true → nat_lt p c.numbers.count ≡ true → slice_index d.ids p ≡ slice_index c.ids p
@@ -240,7 +240,7 @@ abbrev pub with_parts : KeptQuery → List Column → List (List (List Span)) �
 with_parts k ds pages = record k { columns = ds; pages = pages }
 
 module _ (old new : World) (k : KeptQuery) (ds : List Column) (pages : List (List (List Span))) (id : ℕ) (New : Type 0)
-    (now : ℕ) (is : IsKept k) (is' : IsKept (with_parts k ds pages)) (current : IsCurrentFor old now k) (current' : IsCurrentFor new now (with_parts k ds pages))
+    (now : ℕ) (is : IsKeptQuery k) (is' : IsKeptQuery (with_parts k ds pages)) (current : IsCurrentFor old now k) (current' : IsCurrentFor new now (with_parts k ds pages))
     (grown : AreGrown New id k.columns ds) (none : New → (class : ℕ) → has_id (ids_of old.history.catalog class) id ≡ false) where
   abbrev k' : KeptQuery
   k' = with_parts k ds pages
@@ -267,24 +267,24 @@ module _ (old new : World) (k : KeptQuery) (ds : List Column) (pages : List (Lis
     few' : n < target_count k'
     few' = subst (λ (m : ℕ). n < m) (sym same_count) few
 
-    added_key : counts (variables_of fronts') n ≡ true → key_of id k n ≡ objects_at fronts' n
+    added_key : counts (column_variables fronts') n ≡ true → key_of id k n ≡ objects_at fronts' n
     added_key there =
         ap (λ m. map (object_or id k.columns m) k.query.targets) (let e : n * target_width k ≡ n * target_width k + 0 = omega arith in e)
-        ∙ target_objects old now k is current n few id 0 (size_some (variables_of (drop (length k.query.targets) k.columns))) k.query.targets
+        ∙ target_objects old now k is current n few id 0 (size_some (column_variables (drop (length k.query.targets) k.columns))) k.query.targets
         (λ v has. front_has old now k is current v ∙ has)
         ∙ (λ i. map (λ v. added_object New id fronts fronts' fronts_grow n there v i) k.query.targets)
-        ∙ ap (map (object_of fronts' n)) (sym (target_variables new now k' is' current'))
+        ∙ ap (map (object_at_number fronts' n)) (sym (target_variables new now k' is' current'))
         ∙ objects_are fronts' n distinct
 
-    module _ (there : counts (variables_of fronts') n ≡ true) (t : ℕ) (told_later : told_from k now ≤ t) (inside : within k.entry k.expiry t ≡ true) where
+    module _ (there : counts (column_variables fronts') n ≡ true) (t : ℕ) (told_later : told_from k now ≤ t) (inside : within k.entry k.expiry t ≡ true) where
       abbrev key : List ℕ
       key = objects_at fronts' n
 
-      after_times : times (row_at k') (target_width k') n t ≡ holds_target new k.query k.expiry key t
+      after_times : target_has (row_at k') (target_width k') n t ≡ holds_target new k.query k.expiry key t
       after_times = times_are new now k' is' current' n few' there t told_later inside
 
       -- no binding from before has the object that wasn't there
-      no_old : counts (variables_of fronts) n ≡ false → holds_target old k.query k.expiry key t ≡ false
+      no_old : counts (column_variables fronts) n ≡ false → holds_target old k.query k.expiry key t ≡ false
       no_old out = false_from_ne_true (holds_target old k.query k.expiry key t) (λ holds.
           let found = any_product_found (λ b. bytes_eq (tuple_of k.query b) key && holds_full old k.query k.expiry (slice_index b) t)
           (map (ids_of old.history.catalog) k.query.classes) holds in
@@ -302,11 +302,11 @@ module _ (old new : World) (k : KeptQuery) (ds : List Column) (pages : List (Lis
                 (all_less (length k.query.classes) k.query.targets anew.variable
                 (and_parts (is_list_of OBJECT_LIMIT k.query.targets) (list_all (λ u. nat_lt u (length k.query.classes)) k.query.targets) is.resolved.targets).1
                 (sym (front_has new now k' is' current' anew.variable) ∙ anew.there)))
-            | inr before ↦ both_ways (counts (variables_of fronts) n) out before.0
+            | inr before ↦ both_ways (counts (column_variables fronts) n) out before.0
           ])
 
-      before_times : times (row_at k) (target_width k) n t ≡ holds_target old k.query k.expiry key t
-      before_times = elim (cases_Bool (counts (variables_of fronts) n)) [
+      before_times : target_has (row_at k) (target_width k) n t ≡ holds_target old k.query k.expiry key t
+      before_times = elim (cases_Bool (counts (column_variables fronts) n)) [
         | inl was ↦
             times_are old now k is current n few was t told_later inside
             ∙ ap (λ own_key. holds_target old k.query k.expiry own_key t) (sym (same_key New id fronts fronts' fronts_grow n was there))
@@ -330,29 +330,29 @@ module _ (old new : World) (k : KeptQuery) (ds : List Column) (pages : List (Lis
         later : (u v w : ℕ) → u ≤ v → v ≤ w → u ≤ w
         later u v w h l = omega (arith, h, l)
 
-    rows_times : (n t : ℕ) → times rows (target_width k) n t ≡ times (row_at k') (target_width k') n t
-    rows_times n t = λ i. times (λ c u. same_rows c u i) (sym same_width i) n t
+    rows_times : (n t : ℕ) → target_has rows (target_width k) n t ≡ target_has (row_at k') (target_width k') n t
+    rows_times n t = λ i. target_has (λ c u. same_rows c u i) (sym same_width i) n t
 
     up_to : (u w : ℕ) → nat_le u w ≡ true → u ≤ w
     up_to u w h = grind (arith, nat_tests, h)
 
-    no_front : (n : ℕ) → counts (variables_of fronts') n ≡ false → counts (variables_of fronts) n ≡ false
-    no_front n out = false_from_ne_true (counts (variables_of fronts) n) (λ was.
-        both_ways (counts (variables_of fronts') n) out (counts_more New id fronts fronts' fronts_grow n was))
+    no_front : (n : ℕ) → counts (column_variables fronts') n ≡ false → counts (column_variables fronts) n ≡ false
+    no_front n out = false_from_ne_true (counts (column_variables fronts) n) (λ was.
+        both_ways (counts (column_variables fronts') n) out (counts_more New id fronts fronts' fronts_grow n was))
 
     told_change : nat_le now k.expiry ≡ true → (n : ℕ) → n < target_count k →
-        option_map (move id k) (move_of (times (row_at k) (target_width k)) (times rows (target_width k)) from k.expiry now n) ≡ at_number told_key fronts' n
+        option_map (move id k) (move_of (target_has (row_at k) (target_width k)) (target_has rows (target_width k)) from k.expiry now n) ≡ at_number told_key fronts' n
     told_change alive n few =
-        elim (cases_Bool (counts (variables_of fronts') n)) [
+        elim (cases_Bool (counts (column_variables fronts') n)) [
           | inl there ↦
-              change_is (times (row_at k) (target_width k) n) (times rows (target_width k) n)
+              change_is (target_has (row_at k) (target_width k) n) (target_has rows (target_width k) n)
               (holds_target old k.query k.expiry (objects_at fronts' n)) (holds_target new k.query k.expiry (objects_at fronts' n)) from k.expiry now
               (within_from from k.expiry now (first_before k.kind k.entry now entered) (up_to now k.expiry alive)) alive
               (λ t a b. before_times n few there t a (in_window t a b))
               (λ t a b. rows_times n t ∙ after_times n few there t a (in_window t a b)) id k n (objects_at fronts' n) (added_key n few there)
               ∙ sym (ap (λ b. if b then told_key (objects_at fronts' n) else None) there)
           | inr out ↦
-              ap (option_map (move id k)) (same_move (times (row_at k) (target_width k) n) (times rows (target_width k) n) (λ t. false) (λ t. false) from k.expiry now n
+              ap (option_map (move id k)) (same_move (target_has (row_at k) (target_width k) n) (target_has rows (target_width k) n) (λ t. false) (λ t. false) from k.expiry now n
               (λ t a b. no_times old now k is current n few (no_front n out) t a)
               (λ t a b. rows_times n t ∙ no_times new now k' is' current' n (few' n few) out t a))
               ∙ (λ i. option_map (move id k) (if_moved (record {
@@ -375,12 +375,12 @@ module _ (old new : World) (k : KeptQuery) (ds : List Column) (pages : List (Lis
         ∙ listed_targets new now k' is' current' told_key
 
     moves_are : nat_le now k.expiry ≡ true →
-        map (move id k) (lines_upto (move_of (times (row_at k) (target_width k)) (times rows (target_width k)) from k.expiry now) (target_count k))
+        map (move id k) (lines_upto (move_of (target_has (row_at k) (target_width k)) (target_has rows (target_width k)) from k.expiry now) (target_count k))
         ≡ map (told k) (filter is_change (map became (tuples new k.query)))
     unfolding lines_between
     moves_are alive =
-        mapped_filtered (move id k) (move_of (times (row_at k) (target_width k)) (times rows (target_width k)) from k.expiry now) (between 0 (target_count k))
-        ∙ between_same (λ n. option_map (move id k) (move_of (times (row_at k) (target_width k)) (times rows (target_width k)) from k.expiry now n)) (at_number told_key fronts') 0 (target_count k)
+        mapped_filtered (move id k) (move_of (target_has (row_at k) (target_width k)) (target_has rows (target_width k)) from k.expiry now) (between 0 (target_count k))
+        ∙ between_same (λ n. option_map (move id k) (move_of (target_has (row_at k) (target_width k)) (target_has rows (target_width k)) from k.expiry now n)) (at_number told_key fronts') 0 (target_count k)
         (λ n a few. told_change alive n few)
         ∙ ap (λ m. filter_map (at_number told_key fronts') (between 0 m)) (sym same_count)
         ∙ sym all_told
@@ -391,7 +391,7 @@ module _ (old new : World) (k : KeptQuery) (ds : List Column) (pages : List (Lis
     no_moves past stay = all_told ∙ between_none (at_number told_key fronts') 0 (target_count k') (λ n a few. none_told n (subst (λ (m : ℕ). n < m) same_count few))
       where
         none_told : (n : ℕ) → n < target_count k → at_number told_key fronts' n ≡ None
-        none_told n few = elim (cases_Bool (counts (variables_of fronts') n)) [
+        none_told n few = elim (cases_Bool (counts (column_variables fronts') n)) [
           | inl there ↦
               let key : List ℕ = objects_at fronts' n in
               let same : (t : ℕ) → from ≤ t → t ≤ k.expiry → holds_target new k.query k.expiry key t ≡ holds_target old k.query k.expiry key t = λ t a b.
@@ -411,14 +411,14 @@ module _ (old new : World) (k : KeptQuery) (ds : List Column) (pages : List (Lis
 
     pub write_is : (nat_le now k.expiry ≡ false → (c t : ℕ) → from ≤ t → row_at k' c t ≡ row_at k c t) →
         (if nat_le now k.expiry
-        then map (move id k) (lines_upto (move_of (times (row_at k) (target_width k)) (times rows (target_width k)) from k.expiry now) (target_count k))
+        then map (move id k) (lines_upto (move_of (target_has (row_at k) (target_width k)) (target_has rows (target_width k)) from k.expiry now) (target_count k))
         else []) ≡ map (told k) (filter is_change (map became (tuples new k.query)))
     write_is stay = elim (cases_Bool (nat_le now k.expiry)) [
       | inl alive ↦
-          ap (λ b. if b then map (move id k) (lines_upto (move_of (times (row_at k) (target_width k)) (times rows (target_width k)) from k.expiry now) (target_count k)) else []) alive
+          ap (λ b. if b then map (move id k) (lines_upto (move_of (target_has (row_at k) (target_width k)) (target_has rows (target_width k)) from k.expiry now) (target_count k)) else []) alive
           ∙ moves_are alive
       | inr past ↦
-          ap (λ b. if b then map (move id k) (lines_upto (move_of (times (row_at k) (target_width k)) (times rows (target_width k)) from k.expiry now) (target_count k)) else []) past
+          ap (λ b. if b then map (move id k) (lines_upto (move_of (target_has (row_at k) (target_width k)) (target_has rows (target_width k)) from k.expiry now) (target_count k)) else []) past
           ∙ sym (no_moves past (stay past))
     ]
 
@@ -438,10 +438,10 @@ ids_below class id n (x ∷ objects) there = one (x.class == class) (ids_below c
     one false behind h = let below : id < n + 1 + length objects = behind h in omega (arith, below)
 
 pub changes_are : (id now : ℕ) (old new : History) → ChangesFrom id now old new → AddsAtMost id old.catalog new.catalog →
-    (regions : List Region) (k k' : KeptQuery) → IsKept k → IsKept k' →
+    (regions : List Region) (k k' : KeptQuery) → IsKeptQuery k → IsKeptQuery k' →
     IsCurrentFor (world_with old regions) now k → IsRenewed (world_with new regions) id now k k' → IsCurrentFor (world_with new regions) now k' →
-    (changes : List (RowChange (List Span))) → ((c t : ℕ) → row_at k' c t ≡ after spans_have changes (row_at k) c t) → k.entry ≤ now →
-    moves_of id now k changes ≡ told_changes k.name (changes_of_write (world_with old regions) (world_with new regions) (registered k) now)
+    (changes : List (RowChange (List Span))) → ((c t : ℕ) → row_at k' c t ≡ rows_after spans_have changes (row_at k) c t) → k.entry ≤ now →
+    moves_of id now k changes ≡ told_changes k.name (changes_of_write (world_with old regions) (world_with new regions) (registered_query k) now)
 changes_are id now old new write adds regions k k' is is' current renewed current' changes same entered =
     let path : k' ≡ with_parts k k'.columns k'.pages = λ i. record {
       name = renewed.head.name i;
@@ -453,9 +453,9 @@ changes_are id now old new write adds regions k k' is is' current renewed curren
       pages = k'.pages;
     } in
     write_is (world_with old regions) (world_with new regions) k k'.columns k'.pages id (length old.catalog.objects ≤ id)
-    now is (subst IsKept path is') current (subst (IsCurrentFor (world_with new regions) now) path current')
+    now is (subst IsKeptQuery path is') current (subst (IsCurrentFor (world_with new regions) now) path current')
     (columns_grow id now old new write adds regions k k' is is' current renewed)
     (λ past class. false_from_ne_true (has_id (ids_of old.catalog class) id) (λ there.
     let below : id < 0 + length old.catalog.objects = ids_below class id 0 old.catalog.objects there in omega (arith, below, past)))
-    (after spans_have changes (row_at k)) (λ c t. sym (same c t)) entered
-    (λ past c t from. renewed.rows.stay c (ap (λ b. b && (counts (variables_of k'.columns) c && gives k'.columns id c)) past) t)
+    (rows_after spans_have changes (row_at k)) (λ c t. sym (same c t)) entered
+    (λ past c t from. renewed.rows.stay c (ap (λ b. b && (counts (column_variables k'.columns) c && gives k'.columns id c)) past) t)

@@ -15,14 +15,14 @@ pub record FitsWorld (w : World) (k : KeptQuery) : Type 0 where
   pub capacities : HaveCapacitiesOf w.history.catalog k.query.classes k.columns
 
 -- One object may have been added to those of an old catalog, at the end.
-pub record IsBefore (id : ℕ) (old new : Catalog) : Type 0 where
+pub record ExtendsCatalog (id : ℕ) (old new : Catalog) : Type 0 where
   pub objects : take (length old.objects) new.objects ≡ old.objects
   pub adds : AddsAtMost id old new
 
 -- the variables of registered queries range over the objects from before a write to one object
 pub record HaveObjectsBefore (id : ℕ) (new : Catalog) (live : List KeptQuery) : Type 0 where
   pub old : Catalog
-  pub before : IsBefore id old new
+  pub before : ExtendsCatalog id old new
   pub objects : All (λ k. HaveObjectsOf old k.query.classes k.columns) live
 
 -- the class of an object, by its number

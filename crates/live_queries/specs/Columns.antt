@@ -13,30 +13,30 @@ pub record Column : Type 0 where
   pub numbers : Variable
   pub ids : List ℕ
 
-abbrev pub variables_of : List Column → List Variable
-variables_of columns = map (λ c. c.numbers) columns
+abbrev pub column_variables : List Column → List Variable
+column_variables columns = map (λ c. c.numbers) columns
 
 -- the object that the binding of a number gives a variable; a place past the last is that of an object that is added
 abbrev pub object_or : ℕ → List Column → ℕ → ℕ → ℕ
 object_or added [] number variable = 0
 object_or added (c ∷ cs) number variable =
     if variable == c.variable
-    then slice_index_or c.ids (number / size_of (variables_of cs)) added
-    else object_or added cs (number % size_of (variables_of cs)) variable
+    then slice_index_or c.ids (number / size_of (column_variables cs)) added
+    else object_or added cs (number % size_of (column_variables cs)) variable
 
 -- that of a binding of the objects that are there
-abbrev pub object_of : List Column → ℕ → ℕ → ℕ
-object_of columns = object_or 0 columns
+abbrev pub object_at_number : List Column → ℕ → ℕ → ℕ
+object_at_number columns = object_or 0 columns
 
 -- whether it gives some variable this object
 abbrev pub gives : List Column → ℕ → ℕ → Bool
 gives [] id number = false
 gives (c ∷ cs) id number =
-    slice_index c.ids (number / size_of (variables_of cs)) == id || gives cs id (number % size_of (variables_of cs))
+    slice_index c.ids (number / size_of (column_variables cs)) == id || gives cs id (number % size_of (column_variables cs))
 
 -- whether a column is of this variable
-abbrev pub has_variable : List Column → ℕ → Bool
-has_variable columns v = list_any (λ c. c.variable == v) columns
+abbrev pub columns_have : List Column → ℕ → Bool
+columns_have columns v = list_any (λ c. c.variable == v) columns
 
 -- the targets, and then the other variables in their order
 abbrev pub order_of : ResolvedQuery → List ℕ

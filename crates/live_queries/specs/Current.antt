@@ -7,7 +7,7 @@ use Rattle.meaning.specs.Binding.{holds_full}
 use Rattle.meaning.specs.Registered.{first_tick}
 use Rattle.kept_rows.specs.Numbers.{counts}
 use Rattle.kept_rows.specs.Rows.{row_has}
-use Rattle.live_queries.specs.Columns.{HaveObjectsOf, object_of, variables_of}
+use Rattle.live_queries.specs.Columns.{HaveObjectsOf, column_variables, object_at_number}
 use Rattle.live_queries.specs.Kept.{KeptQuery}
 
 -- whether the row of a number has a tick
@@ -16,7 +16,7 @@ row_at k number t = row_has spans_have k.pages number t
 
 -- whether the binding of a number satisfies the query at a tick of its window
 abbrev pub full_at : World → KeptQuery → ℕ → ℕ → Bool
-full_at w k number t = within k.entry k.expiry t && holds_full w k.query k.expiry (object_of k.columns number) t
+full_at w k number t = within k.entry k.expiry t && holds_full w k.query k.expiry (object_at_number k.columns number) t
 
 -- the first tick that is told of a query at tick `now` or later: of a watched one `now`, of a kept one its entry
 abbrev pub told_from : KeptQuery → ℕ → ℕ
@@ -31,7 +31,7 @@ AreRowsFrom from rows counts full = (c t : ℕ) → from ≤ t → rows c t ≡ 
 -- before.
 pub record IsCurrentFor (w : World) (now : ℕ) (k : KeptQuery) : Type 0 where
   pub objects : HaveObjectsOf w.history.catalog k.query.classes k.columns
-  pub rows : AreRowsFrom (told_from k now) (row_at k) (counts (variables_of k.columns)) (full_at w k)
+  pub rows : AreRowsFrom (told_from k now) (row_at k) (counts (column_variables k.columns)) (full_at w k)
 
 abbrev pub AreCurrent : World → ℕ → List KeptQuery → Type 0
 AreCurrent w now live = All (IsCurrentFor w now) live

@@ -5,9 +5,9 @@ use Rattle.tick_set.specs.Ticks.{between}
 use Rattle.tick_set.specs.declared.spans.Span.{Span}
 use Rattle.formula.specs.Resolved.{are_distinct}
 use Rattle.kept_rows.specs.Numbers.{counts, size_of}
-use Rattle.relation.specs.Key.{has_id, ids_of}
+use Rattle.relation.specs.Key.{has_id, ids_of_variable}
 use Rattle.relation.specs.Rows.{Table}
-use Rattle.live_queries.specs.Columns.{AreCounted, Column, has_variable, object_of, variables_of}
+use Rattle.live_queries.specs.Columns.{AreCounted, Column, column_variables, columns_have, object_at_number}
 
 -- the objects of each column ascend
 abbrev pub DoAscend : List Column → Type 0
@@ -21,22 +21,22 @@ AreAmong (c ∷ cs) f = (has_id c.ids (f c.variable) ≡ true) × AreAmong cs f
 
 -- a number is that of the binding that gives the columns' variables the objects that a function gives them
 pub record IsNumberOf (cs : List Column) (f : ℕ → ℕ) (number : ℕ) : Type 0 where
-  pub below : number < size_of (variables_of cs)
-  pub counted : counts (variables_of cs) number ≡ true
-  pub objects : (v : ℕ) → has_variable cs v ≡ true → object_of cs number v ≡ f v
+  pub below : number < size_of (column_variables cs)
+  pub counted : counts (column_variables cs) number ≡ true
+  pub objects : (v : ℕ) → columns_have cs v ≡ true → object_at_number cs number v ≡ f v
 
 -- the domain of each column's variable has the objects of the column
 abbrev pub HaveDomains : List (List ℕ) → List Column → Type 0
 HaveDomains domains [] = ⊤
-HaveDomains domains (c ∷ cs) = (ids_of domains c.variable ≡ c.ids) × HaveDomains domains cs
+HaveDomains domains (c ∷ cs) = (ids_of_variable domains c.variable ≡ c.ids) × HaveDomains domains cs
 
 -- the variables of a relation are those of the columns, the first so many in their order, each once, and range over the
 -- columns' objects
-pub record IsOver (cs : List Column) (r : Table (List Span)) : Type 0 where
+pub record IsOverColumns (cs : List Column) (r : Table (List Span)) : Type 0 where
   pub ascend : DoAscend cs
   pub counted : AreCounted cs
   pub distinct : are_distinct (map (λ c. c.variable) cs) ≡ true
   pub count : ℕ
   pub vars : r.vars ≡ between 0 count
-  pub each : (v : ℕ) → has_variable cs v ≡ nat_lt v count
+  pub each : (v : ℕ) → columns_have cs v ≡ nat_lt v count
   pub domains : HaveDomains r.domains cs

@@ -5,13 +5,13 @@ use Rattle.tick_set.specs.Runs.{spans_have}
 use Rattle.tick_set.specs.declared.spans.Span.{Span}
 use Rattle.history.specs.World.{World}
 use Rattle.kept_rows.specs.declared.change.Change.{Change}
-use Rattle.kept_rows.specs.Changes.{AreReady, AreRising, after}
+use Rattle.kept_rows.specs.Changes.{AreReady, AreRising, rows_after}
 use Rattle.kept_rows.specs.Numbers.{size_of}
 use Rattle.live_queries.specs.declared.fresh.Renewal.{Renewal}
-use Rattle.live_queries.specs.Columns.{Column, HaveObjectsOf, variables_of}
+use Rattle.live_queries.specs.Columns.{Column, HaveObjectsOf, column_variables}
 use Rattle.live_queries.specs.Current.{row_at}
 use Rattle.live_queries.specs.Kept.{KeptQuery}
-use Rattle.live_queries.specs.Renewed.{AreRenewedRows, IsSameHead}
+use Rattle.live_queries.specs.Renewed.{AreRenewedRows, IsSameRequest}
 
 -- what is prepared of a write to an object of a class, query by query
 pub record Prepared : Type 0 where
@@ -47,7 +47,7 @@ AreColumnsWith grows class classes id (c ∷ cs) (d ∷ ds) =
 -- it can be made without memory
 pub record IsReadyFor (class : ℕ) (k : KeptQuery) (r : Renewal) : Type 0 where
   pub ready : AreReady spans_have k.pages r.changes
-  pub rising : AreRising (size_of (variables_of k.columns)) r.changes
+  pub rising : AreRising (size_of (column_variables k.columns)) r.changes
   pub room : r.grows ≡ true → HaveRoomFor class k.query.classes k.columns
 
 -- one for each query
@@ -64,7 +64,7 @@ IsPrepared live f = ArePrepared f.class live f.renewals
 abbrev pub AreNewRows : World → Bool → ℕ → ℕ → ℕ → KeptQuery → List (Change (List Span)) → Type 0
 AreNewRows w grows object class now k changes =
     (ds : List Column) → AreColumnsWith grows class k.query.classes object k.columns ds →
-    AreRenewedRows w object now k ds (after spans_have changes (row_at k))
+    AreRenewedRows w object now k ds (rows_after spans_have changes (row_at k))
 
 -- it is what a write to an object of a class at tick `now` makes of a query in a world, by the columns with the object
 pub record IsFreshFor (w : World) (object class now : ℕ) (k : KeptQuery) (r : Renewal) : Type 0 where
@@ -82,9 +82,9 @@ AreFreshFor w object class now (k ∷ ks) (r ∷ rs) =
 
 -- it was made of a query
 pub record IsMade (object class : ℕ) (r : Renewal) (old new : KeptQuery) : Type 0 where
-  pub head : IsSameHead old new
+  pub head : IsSameRequest old new
   pub columns : AreColumnsWith r.grows class old.query.classes object old.columns new.columns
-  pub rows : (c t : ℕ) → row_at new c t ≡ after spans_have r.changes (row_at old) c t
+  pub rows : (c t : ℕ) → row_at new c t ≡ rows_after spans_have r.changes (row_at old) c t
 
 abbrev pub AreMade : ℕ → ℕ → List Renewal → List KeptQuery → List KeptQuery → Type 0
 AreMade object class [] [] [] = ⊤

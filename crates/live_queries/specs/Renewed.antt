@@ -10,7 +10,7 @@ use Rattle.history.specs.History.{cells_at}
 use Rattle.history.specs.World.{World}
 use Rattle.kept_rows.specs.Numbers.{counts}
 use Rattle.meaning.specs.Binding.{holds_full}
-use Rattle.live_queries.specs.Columns.{AreSameColumns, Column, HaveObjectsOf, gives, object_of, variables_of}
+use Rattle.live_queries.specs.Columns.{AreSameColumns, Column, HaveObjectsOf, column_variables, gives, object_at_number}
 use Rattle.live_queries.specs.Current.{row_at, told_from}
 use Rattle.live_queries.specs.Kept.{KeptQuery}
 
@@ -26,7 +26,7 @@ pub record ChangesNoObject (old new : World) : Type 0 where
   pub regions : new.regions ≡ old.regions ++ more
 
 -- all but the objects and the rows is as before
-pub record IsSameHead (old new : KeptQuery) : Type 0 where
+pub record IsSameRequest (old new : KeptQuery) : Type 0 where
   pub name : new.name ≡ old.name
   pub kind : new.kind ≡ old.kind
   pub query : new.query ≡ old.query
@@ -36,7 +36,7 @@ pub record IsSameHead (old new : KeptQuery) : Type 0 where
 
 -- whether the row of a number is judged anew: the query runs still, and the binding has the object
 abbrev pub is_judged : ℕ → ℕ → KeptQuery → List Column → ℕ → Bool
-is_judged id now k columns c = nat_le now k.expiry && (counts (variables_of columns) c && gives columns id c)
+is_judged id now k columns c = nat_le now k.expiry && (counts (column_variables columns) c && gives columns id c)
 
 -- The first tick of which a write at tick `now` may change what is told: of a watched query `now`, of a kept one the
 -- first that sees `now`, by how many ticks ahead its formula sees. Where that has no end it is any tick.
@@ -55,10 +55,10 @@ pub record AreRenewedRows (w : World) (id now : ℕ) (k : KeptQuery) (columns : 
   pub past : (c : ℕ) → is_judged id now k columns c ≡ true → (t : ℕ) → told_from k now ≤ t → t < judged_from k now →
       rows c t ≡ row_at k c t
   pub anew : (c : ℕ) → is_judged id now k columns c ≡ true → (t : ℕ) → told_from k now ≤ t → judged_from k now ≤ t →
-      rows c t ≡ (within k.entry k.expiry t && holds_full w k.query k.expiry (object_of columns c) t)
+      rows c t ≡ (within k.entry k.expiry t && holds_full w k.query k.expiry (object_at_number columns c) t)
 
 -- its variables range over the objects of this world, and its rows are renewed
 pub record IsRenewed (w : World) (id now : ℕ) (old new : KeptQuery) : Type 0 where
-  pub head : IsSameHead old new
+  pub head : IsSameRequest old new
   pub objects : HaveObjectsOf w.history.catalog new.query.classes new.columns
   pub rows : AreRenewedRows w id now old new.columns (row_at new)

@@ -6,7 +6,7 @@ use Rattle.live_queries.specs.declared.fresh.Touched.{Touched}
 use Rattle.live_queries.specs.Kept.{KeptQuery}
 
 -- a write touches a query: it has a variable of the object's class, and it runs still or gets an object more
-pub record IsTouched (class now : ℕ) (k : KeptQuery) (r : Renewal) : Type 0 where
+pub record TouchesQuery (class now : ℕ) (k : KeptQuery) (r : Renewal) : Type 0 where
   pub variable : list_any (λ c. c == class) k.query.classes ≡ true
   pub runs : k.expiry < now → r.grows ≡ true
 

@@ -9,7 +9,7 @@ use Rattle.formula.specs.Tree.{ResolvedQuery}
 use Rattle.kept_rows.specs.declared.binding.Variable.{Variable}
 use Rattle.meaning.specs.Binding.{holds_full}
 use Rattle.relation.specs.Frames.{IsIn}
-use Rattle.relation.specs.Rows.{has}
+use Rattle.relation.specs.Rows.{table_has}
 use Rattle.live_queries.specs.declared.parts.Part.{Part}
 use Rattle.live_queries.specs.declared.parts.Single.{Single}
 use Rattle.live_queries.specs.Columns.{Column}
@@ -17,40 +17,40 @@ use Rattle.live_queries.specs.Prepared.{is_of_class}
 
 -- the objects of a column, with the one that is written if the column takes it
 abbrev pub ids_with : Bool → ℕ → Column → List ℕ
-ids_with takes id c = if takes then c.ids ++ id ∷ [] else c.ids
+ids_with takes_object id c = if takes_object then c.ids ++ id ∷ [] else c.ids
 
 -- how many there are then, and the place of the object among them
-pub record IsVariableWith (takes : Bool) (id : ℕ) (c : Column) (v : Variable) : Type 0 where
-  pub count : v.count ≡ length (ids_with takes id c)
+pub record IsVariableWith (takes_object : Bool) (id : ℕ) (c : Column) (v : Variable) : Type 0 where
+  pub count : v.count ≡ length (ids_with takes_object id c)
   pub capacity : v.capacity ≡ c.numbers.capacity
-  pub own : (p : ℕ) → p < v.count → (p == v.own) ≡ (slice_index (ids_with takes id c) p == id)
+  pub own : (p : ℕ) → p < v.count → (p == v.own) ≡ (slice_index (ids_with takes_object id c) p == id)
 
 -- whether a column takes the object: it is of the object's class, which has one more
-abbrev pub takes : Bool → ℕ → List ℕ → Column → Bool
-takes grows class classes c = grows && is_of_class classes class c.variable
+abbrev pub takes_object : Bool → ℕ → List ℕ → Column → Bool
+takes_object grows class classes c = grows && is_of_class classes class c.variable
 
 abbrev pub AreVariablesWith : Bool → ℕ → List ℕ → ℕ → List Column → List Variable → Type 0
 AreVariablesWith grows class classes id [] [] = ⊤
 AreVariablesWith grows class classes id [] (v ∷ vs) = ⊥
 AreVariablesWith grows class classes id (c ∷ cs) [] = ⊥
 AreVariablesWith grows class classes id (c ∷ cs) (v ∷ vs) =
-    IsVariableWith (takes grows class classes c) id c v × AreVariablesWith grows class classes id cs vs
+    IsVariableWith (takes_object grows class classes c) id c v × AreVariablesWith grows class classes id cs vs
 
 abbrev pub DoAscendWith : Bool → ℕ → List ℕ → ℕ → List Column → Type 0
 DoAscendWith grows class classes id [] = ⊤
 DoAscendWith grows class classes id (c ∷ cs) =
-    IsStrictlyIncreasing (ids_with (takes grows class classes c) id c) × DoAscendWith grows class classes id cs
+    IsStrictlyIncreasing (ids_with (takes_object grows class classes c) id c) × DoAscendWith grows class classes id cs
 
 -- each column has then the objects of its variable's class
 abbrev pub HaveObjectsWith : Catalog → Bool → ℕ → List ℕ → ℕ → List Column → Type 0
 HaveObjectsWith catalog grows class classes id [] = ⊤
 HaveObjectsWith catalog grows class classes id (c ∷ cs) =
-    (ids_with (takes grows class classes c) id c ≡ ids_of catalog (slice_index classes c.variable))
+    (ids_with (takes_object grows class classes c) id c ≡ ids_of catalog (slice_index classes c.variable))
     × HaveObjectsWith catalog grows class classes id cs
 
 -- whether a column of the class has fewer objects than there are
-abbrev pub lacks : List ℕ → ℕ → ℕ → Column → Bool
-lacks classes class count c = is_of_class classes class c.variable && nat_lt (length c.ids) count
+abbrev pub lacks_objects : List ℕ → ℕ → ℕ → Column → Bool
+lacks_objects classes class count c = is_of_class classes class c.variable && nat_lt (length c.ids) count
 
 -- ---- relations in which one variable is the object alone
 
@@ -72,7 +72,7 @@ single_for catalog classes class id v =
 pub record IsPartOf (w : World) (q : ResolvedQuery) (lo hi : ℕ) (s : Single) (p : Part) : Type 0 where
   pub variable : p.variable ≡ s.variable
   pub rows : (b : ℕ → ℕ) → IsIn s.domains b → (t : ℕ) →
-      has spans_have p.rows b t ≡ (within lo hi t && holds_full w q hi b t)
+      table_has spans_have p.rows b t ≡ (within lo hi t && holds_full w q hi b t)
 
 abbrev pub ArePartsOf : World → ResolvedQuery → ℕ → ℕ → List Single → List Part → Type 0
 ArePartsOf w q lo hi [] [] = ⊤
@@ -83,4 +83,4 @@ ArePartsOf w q lo hi (s ∷ ss) (p ∷ ps) = IsPartOf w q lo hi s p × ArePartsO
 -- whether the relation of the first variable that is the object has the tick
 abbrev pub parts_have : List Part → ℕ → (ℕ → ℕ) → ℕ → Bool
 parts_have [] id b t = false
-parts_have (p ∷ ps) id b t = if b p.variable == id then has spans_have p.rows b t else parts_have ps id b t
+parts_have (p ∷ ps) id b t = if b p.variable == id then table_has spans_have p.rows b t else parts_have ps id b t

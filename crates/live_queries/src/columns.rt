@@ -3,11 +3,11 @@ ghost use Rattle.std.specs.Prelude.{◌≡◌, ◌<◌, ◌≤◌, ◌==◌, ◌
 ghost use Rattle.std.specs.List.{list_any, list_all};
 ghost use Rattle.history.specs.Catalog.{capacity_of, ids_of};
 ghost use Rattle.formula.specs.Resolved.{IsResolved};
-ghost use Rattle.formula.specs.Tree.{query_view};
+ghost use Rattle.formula.specs.Tree.{resolved_view};
 ghost use Rattle.object_store.specs.Contents.{catalog_of, ids_in};
 ghost use Rattle.live_queries.specs.Columns.{AreColumnsOf, IsColumnOf, order_of};
 ghost use Rattle.live_queries.specs.Prepared.{HaveRoomFor};
-ghost use Rattle.live_queries.specs.Written.{AreVariablesWith, DoAscendWith, lacks};
+ghost use Rattle.live_queries.specs.Written.{AreVariablesWith, DoAscendWith, lacks_objects};
 
 use crate::objects::{Objects, is_of_class};
 use formula::{ClassNo, RQuery};
@@ -21,9 +21,9 @@ pub(crate) fn columns_of(
     query: &RQuery,
     store: &Store,
 ) -> Result<Vec<Objects>, AllocError>
-    requires resolved { IsResolved (query_view query.now) }
+    requires resolved { IsResolved (resolved_view query.now) }
     requires classes { list_all (λ k. nat_lt k (length store.now.classes)) query.now.classes ≡ true }
-    ensures { IfOk result (λ columns. AreColumnsOf (catalog_of store.now) query.now.classes (order_of (query_view query.now)) columns.items) }
+    ensures { IfOk result (λ columns. AreColumnsOf (catalog_of store.now) query.now.classes (order_of (resolved_view query.now)) columns.items) }
 {
     let order = order(alloc, query)?;
     let mut columns = Vec::with_capacity(alloc, order.len())?;
@@ -37,7 +37,7 @@ pub(crate) fn columns_of(
 
 // The targets, and then the other variables in their order.
 fn order(alloc: Global, query: &RQuery) -> Result<Vec<u8>, AllocError>
-    ensures { IfOk result (λ order. order.items ≡ order_of (query_view query.now)) }
+    ensures { IfOk result (λ order. order.items ≡ order_of (resolved_view query.now)) }
 {
     let targets = query.targets.items();
     let count = query.classes.items().len();
@@ -125,7 +125,7 @@ pub(crate) fn has_class(classes: &[ClassNo], class: ClassNo) -> bool
 
 /// Whether a column of the class has fewer objects than there are.
 pub(crate) fn lack(columns: &[Objects], classes: &[ClassNo], class: ClassNo, count: usize) -> bool
-    ensures { result ≡ list_any (lacks classes.now class count) columns.now }
+    ensures { result ≡ list_any (lacks_objects classes.now class count) columns.now }
 {
     columns.iter().any(|column| is_of_class(classes, column.variable(), class)
         && column.ids().len() < count)

@@ -4,10 +4,10 @@ ghost use Rattle.tick_set.specs.Runs.{spans_have};
 ghost use Rattle.tick_set.specs.Ticks.{within};
 ghost use Rattle.tick_set.specs.declared.spans.TheConstants.{LAST_TICK, SPAN_LIMIT};
 ghost use Rattle.formula.specs.Resolved.{IsResolved};
-ghost use Rattle.formula.specs.Tree.{query_view};
+ghost use Rattle.formula.specs.Tree.{resolved_view};
 ghost use Rattle.kept_rows.specs.declared.binding.TheConstants.{BINDING_LIMIT};
-ghost use Rattle.kept_rows.specs.Changes.{AreReady, AreRising, after};
-ghost use Rattle.kept_rows.specs.Exact.{AreRowsOf};
+ghost use Rattle.kept_rows.specs.Changes.{AreReady, AreRising, rows_after};
+ghost use Rattle.kept_rows.specs.Exact.{AreFullRows};
 ghost use Rattle.kept_rows.specs.Numbers.{counts, size_of};
 ghost use Rattle.kept_rows.specs.Rows.{HasRoom, row_has};
 ghost use Rattle.meaning.specs.Binding.{holds_full};
@@ -17,9 +17,9 @@ ghost use Rattle.object_store.specs.Contents.{catalog_of};
 ghost use Rattle.atoms.specs.Asked.{told_world};
 ghost use Rattle.answers.specs.Objects.{IsOfAcceptedWrites};
 ghost use Rattle.live_queries.specs.Asked.{class_in};
-ghost use Rattle.live_queries.specs.Columns.{AreColumnsOf, AreCounted, Column, gives, object_of, order_of, variables_of};
+ghost use Rattle.live_queries.specs.Columns.{AreColumnsOf, AreCounted, Column, column_variables, gives, object_at_number, order_of};
 ghost use Rattle.live_queries.specs.Prepared.{AreColumnsWith, HaveRoomFor};
-ghost use Rattle.live_queries.specs.Written.{HaveObjectsWith, takes};
+ghost use Rattle.live_queries.specs.Written.{HaveObjectsWith, takes_object};
 
 use crate::columns::numbers_with;
 use crate::judging::{Alone, Parts};
@@ -50,18 +50,18 @@ pub(crate) fn rows_between<L: Ledger, M: Ledger>(
     probes: &mut Steps<M>,
 ) -> Result<KeptRows<IntervalSet>, AllocError>
     requires accepted { IsOfAcceptedWrites world.now.store.now }
-    requires resolved { IsResolved (query_view query.now) }
-    requires fits { FitsItsClasses (told_world world.now) (query_view query.now) }
-    requires columns { AreColumnsOf (catalog_of world.now.store.now) query.now.classes (order_of (query_view query.now)) columns.now }
-    requires size { size_of (variables_of columns.now) ≤ BINDING_LIMIT }
+    requires resolved { IsResolved (resolved_view query.now) }
+    requires fits { FitsItsClasses (told_world world.now) (resolved_view query.now) }
+    requires columns { AreColumnsOf (catalog_of world.now.store.now) query.now.classes (order_of (resolved_view query.now)) columns.now }
+    requires size { size_of (column_variables columns.now) ≤ BINDING_LIMIT }
     requires last { hi ≤ LAST_TICK }
     requires length { hi - lo ≤ SPAN_LIMIT }
-    ensures room { IfOk result (λ rows. HasRoom rows (size_of (variables_of columns.now))) }
-    ensures rows { IfOk result (λ rows. AreRowsOf (row_has spans_have rows) (counts (variables_of columns.now))
-        (λ n t. within lo hi t && holds_full (told_world world.now) (query_view query.now) hi (object_of columns.now n) t)) }
+    ensures room { IfOk result (λ rows. HasRoom rows (size_of (column_variables columns.now))) }
+    ensures rows { IfOk result (λ rows. AreFullRows (row_has spans_have rows) (counts (column_variables columns.now))
+        (λ n t. within lo hi t && holds_full (told_world world.now) (resolved_view query.now) hi (object_at_number columns.now n) t)) }
     ensures least { reads.old ≤ reads.new }
     ensures most { reads.new ≤ reads.old
-        + query_reads (sizes_of (catalog_of world.now.store.now) (query_view query.now)) (hi + 1 - lo) (query_view query.now) }
+        + query_reads (sizes_of (catalog_of world.now.store.now) (resolved_view query.now)) (hi + 1 - lo) (resolved_view query.now) }
 {
     match Window::new(lo, hi) {
         Some(w) => first_rows(alloc, query, columns, world, w, reads, probes),
@@ -80,17 +80,17 @@ fn first_rows<L: Ledger, M: Ledger>(
     probes: &mut Steps<M>,
 ) -> Result<KeptRows<IntervalSet>, AllocError>
     requires accepted { IsOfAcceptedWrites world.now.store.now }
-    requires resolved { IsResolved (query_view query.now) }
-    requires fits { FitsItsClasses (told_world world.now) (query_view query.now) }
-    requires columns { AreColumnsOf (catalog_of world.now.store.now) query.now.classes (order_of (query_view query.now)) columns.now }
-    requires size { size_of (variables_of columns.now) ≤ BINDING_LIMIT }
+    requires resolved { IsResolved (resolved_view query.now) }
+    requires fits { FitsItsClasses (told_world world.now) (resolved_view query.now) }
+    requires columns { AreColumnsOf (catalog_of world.now.store.now) query.now.classes (order_of (resolved_view query.now)) columns.now }
+    requires size { size_of (column_variables columns.now) ≤ BINDING_LIMIT }
     requires length { w.hi - w.lo ≤ SPAN_LIMIT }
-    ensures room { IfOk result (λ rows. HasRoom rows (size_of (variables_of columns.now))) }
-    ensures rows { IfOk result (λ rows. AreRowsOf (row_has spans_have rows) (counts (variables_of columns.now))
-        (λ n t. within w.lo w.hi t && holds_full (told_world world.now) (query_view query.now) w.hi (object_of columns.now n) t)) }
+    ensures room { IfOk result (λ rows. HasRoom rows (size_of (column_variables columns.now))) }
+    ensures rows { IfOk result (λ rows. AreFullRows (row_has spans_have rows) (counts (column_variables columns.now))
+        (λ n t. within w.lo w.hi t && holds_full (told_world world.now) (resolved_view query.now) w.hi (object_at_number columns.now n) t)) }
     ensures least { reads.old ≤ reads.new }
     ensures most { reads.new ≤ reads.old
-        + query_reads (sizes_of (catalog_of world.now.store.now) (query_view query.now)) (w.hi + 1 - w.lo) (query_view query.now) }
+        + query_reads (sizes_of (catalog_of world.now.store.now) (resolved_view query.now)) (w.hi + 1 - w.lo) (resolved_view query.now) }
 {
     let domains = domains_of(alloc, query, world.store)?;
     let full = evaluate(
@@ -120,26 +120,26 @@ pub(crate) fn new_rows<L: Ledger, M: Ledger>(
     probes: &mut Steps<M>,
 ) -> Result<Changes<IntervalSet>, AllocError>
     requires accepted { IsOfAcceptedWrites judged.now.world.now.store.now }
-    requires resolved { IsResolved (query_view judged.now.query.now) }
-    requires fits { FitsItsClasses (told_world judged.now.world.now) (query_view judged.now.query.now) }
+    requires resolved { IsResolved (resolved_view judged.now.query.now) }
+    requires fits { FitsItsClasses (told_world judged.now.world.now) (resolved_view judged.now.query.now) }
     requires there { object.now.id < length judged.now.world.now.store.now.objects }
     requires class { object.now.class ≡ class_in judged.now.world.now.store.now object.now.id }
-    requires order { map (λ c. c.variable) columns.now ≡ order_of (query_view judged.now.query.now) }
+    requires order { map (λ c. c.variable) columns.now ≡ order_of (resolved_view judged.now.query.now) }
     requires room { grows ≡ true → HaveRoomFor object.now.class judged.now.query.now.classes columns.now }
     requires objects { HaveObjectsWith (catalog_of judged.now.world.now.store.now) grows object.now.class judged.now.query.now.classes object.now.id columns.now }
     requires counted { AreCounted columns.now }
-    requires size { size_of (variables_of columns.now) ≤ BINDING_LIMIT }
-    requires pages { HasRoom judged.now.rows.now (size_of (variables_of columns.now)) }
+    requires size { size_of (column_variables columns.now) ≤ BINDING_LIMIT }
+    requires pages { HasRoom judged.now.rows.now (size_of (column_variables columns.now)) }
     requires length { judged.now.w.hi - judged.now.w.lo ≤ SPAN_LIMIT }
     ensures ready { IfOk result (λ f. AreReady spans_have judged.now.rows.now f) }
-    ensures rising { IfOk result (λ f. AreRising (size_of (variables_of columns.now)) f) }
+    ensures rising { IfOk result (λ f. AreRising (size_of (column_variables columns.now)) f) }
     ensures rows { IfOk result (λ f. (ds : List Column) → AreColumnsWith grows object.now.class judged.now.query.now.classes object.now.id columns.now ds → (c t : ℕ)
-        → after spans_have f (row_has spans_have judged.now.rows.now) c t
-        ≡ (if (counts (variables_of ds) c && gives ds object.now.id c) && nat_le judged.now.from t
-        then (within judged.now.w.lo judged.now.w.hi t && holds_full (told_world judged.now.world.now) (query_view judged.now.query.now) judged.now.w.hi (object_of ds c) t)
+        → rows_after spans_have f (row_has spans_have judged.now.rows.now) c t
+        ≡ (if (counts (column_variables ds) c && gives ds object.now.id c) && nat_le judged.now.from t
+        then (within judged.now.w.lo judged.now.w.hi t && holds_full (told_world judged.now.world.now) (resolved_view judged.now.query.now) judged.now.w.hi (object_at_number ds c) t)
         else row_has spans_have judged.now.rows.now c t)) }
     ensures least { reads.old ≤ reads.new }
-    ensures most { reads.new ≤ reads.old + change_reads (catalog_of judged.now.world.now.store.now) (query_view judged.now.query.now) (judged.now.w.hi + 1 - judged.now.w.lo) object.now.class }
+    ensures most { reads.new ≤ reads.old + change_reads (catalog_of judged.now.world.now.store.now) (resolved_view judged.now.query.now) (judged.now.w.hi + 1 - judged.now.w.lo) object.now.class }
 {
     let classes = judged.query.classes.items();
     if let Some((column, later)) = columns.split_first() {
@@ -189,27 +189,27 @@ fn new_row<L: Ledger, M: Ledger>(
     probes: &mut Steps<M>,
 ) -> Result<Changes<IntervalSet>, AllocError>
     requires accepted { IsOfAcceptedWrites judged.now.world.now.store.now }
-    requires resolved { IsResolved (query_view judged.now.query.now) }
-    requires fits { FitsItsClasses (told_world judged.now.world.now) (query_view judged.now.query.now) }
+    requires resolved { IsResolved (resolved_view judged.now.query.now) }
+    requires fits { FitsItsClasses (told_world judged.now.world.now) (resolved_view judged.now.query.now) }
     requires there { object.now.id < length judged.now.world.now.store.now.objects }
     requires class { object.now.class ≡ class_in judged.now.world.now.store.now object.now.id }
     requires alone { judged.now.query.now.classes ≡ object.now.class ∷ [] }
-    requires order { map (λ c. c.variable) (column.now ∷ []) ≡ order_of (query_view judged.now.query.now) }
+    requires order { map (λ c. c.variable) (column.now ∷ []) ≡ order_of (resolved_view judged.now.query.now) }
     requires room { grows ≡ true → HaveRoomFor object.now.class judged.now.query.now.classes (column.now ∷ []) }
     requires objects { HaveObjectsWith (catalog_of judged.now.world.now.store.now) grows object.now.class judged.now.query.now.classes object.now.id (column.now ∷ []) }
     requires counted { AreCounted (column.now ∷ []) }
-    requires size { size_of (variables_of (column.now ∷ [])) ≤ BINDING_LIMIT }
-    requires pages { HasRoom judged.now.rows.now (size_of (variables_of (column.now ∷ []))) }
+    requires size { size_of (column_variables (column.now ∷ [])) ≤ BINDING_LIMIT }
+    requires pages { HasRoom judged.now.rows.now (size_of (column_variables (column.now ∷ []))) }
     requires length { judged.now.w.hi - judged.now.w.lo ≤ SPAN_LIMIT }
     ensures ready { IfOk result (λ f. AreReady spans_have judged.now.rows.now f) }
-    ensures rising { IfOk result (λ f. AreRising (size_of (variables_of (column.now ∷ []))) f) }
+    ensures rising { IfOk result (λ f. AreRising (size_of (column_variables (column.now ∷ []))) f) }
     ensures rows { IfOk result (λ f. (ds : List Column) → AreColumnsWith grows object.now.class judged.now.query.now.classes object.now.id (column.now ∷ []) ds → (c t : ℕ)
-        → after spans_have f (row_has spans_have judged.now.rows.now) c t
-        ≡ (if (counts (variables_of ds) c && gives ds object.now.id c) && nat_le judged.now.from t
-        then (within judged.now.w.lo judged.now.w.hi t && holds_full (told_world judged.now.world.now) (query_view judged.now.query.now) judged.now.w.hi (object_of ds c) t)
+        → rows_after spans_have f (row_has spans_have judged.now.rows.now) c t
+        ≡ (if (counts (column_variables ds) c && gives ds object.now.id c) && nat_le judged.now.from t
+        then (within judged.now.w.lo judged.now.w.hi t && holds_full (told_world judged.now.world.now) (resolved_view judged.now.query.now) judged.now.w.hi (object_at_number ds c) t)
         else row_has spans_have judged.now.rows.now c t)) }
     ensures least { reads.old ≤ reads.new }
-    ensures most { reads.new ≤ reads.old + change_reads (catalog_of judged.now.world.now.store.now) (query_view judged.now.query.now) (judged.now.w.hi + 1 - judged.now.w.lo) object.now.class }
+    ensures most { reads.new ≤ reads.old + change_reads (catalog_of judged.now.world.now.store.now) (resolved_view judged.now.query.now) (judged.now.w.hi + 1 - judged.now.w.lo) object.now.class }
 {
     let world = judged.world;
     let ticks = evaluate_alone(
@@ -232,7 +232,7 @@ fn new_row<L: Ledger, M: Ledger>(
 // Whether a column takes an object of the class as one more.
 #[inline]
 fn does_take(grows: bool, classes: &[ClassNo], class: ClassNo, column: &Objects) -> bool
-    ensures { result ≡ takes grows class classes.now column.now }
+    ensures { result ≡ takes_object grows class classes.now column.now }
 {
     grows && is_of_class(classes, column.variable(), class)
 }

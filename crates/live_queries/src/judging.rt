@@ -3,8 +3,8 @@ ghost use Rattle.std.specs.Prelude.{◌≡◌, ◌≤◌, ℕ, false};
 ghost use Rattle.tick_set.specs.Runs.{spans_have};
 ghost use Rattle.kept_rows.specs.declared.binding.TheConstants.{BINDING_LIMIT};
 ghost use Rattle.kept_rows.specs.Numbers.{size_of};
-ghost use Rattle.relation.specs.Rows.{has};
-ghost use Rattle.live_queries.specs.Columns.{object_or, variables_of};
+ghost use Rattle.relation.specs.Rows.{table_has};
+ghost use Rattle.live_queries.specs.Columns.{column_variables, object_or};
 ghost use Rattle.live_queries.specs.Written.{parts_have};
 
 use crate::objects::{Objects, object_in, objects_of};
@@ -21,7 +21,7 @@ pub(crate) struct Parts<'a, 'd> {
     pub(crate) object: u32,
     pub(crate) parts: &'a [Part<'d>],
     pub(crate) nothing: IntervalSet,
-    pub(crate) ghost size: { size_of (variables_of columns.now) ≤ BINDING_LIMIT },
+    pub(crate) ghost size: { size_of (column_variables columns.now) ≤ BINDING_LIMIT },
     pub(crate) ghost none: { (t : ℕ) → spans_have nothing t ≡ false },
 }
 
@@ -61,9 +61,9 @@ fn row_of<'a>(
     added: u32,
     nothing: &'a IntervalSet,
 ) -> &'a IntervalSet
-    requires size { size_of (variables_of columns.now) ≤ BINDING_LIMIT }
+    requires size { size_of (column_variables columns.now) ≤ BINDING_LIMIT }
     requires none { (t : ℕ) → spans_have nothing.now t ≡ false }
-    ensures { (t : ℕ) → spans_have result.now t ≡ has spans_have rows.now (object_or added columns.now number) t }
+    ensures { (t : ℕ) → spans_have result.now t ≡ table_has spans_have rows.now (object_or added columns.now number) t }
 {
     let key = objects_of(columns, number, rows.vars(), added);
     match rows.row(&key) {
@@ -80,7 +80,7 @@ fn row_in_parts<'a>(
     object: u32,
     nothing: &'a IntervalSet,
 ) -> &'a IntervalSet
-    requires size { size_of (variables_of columns.now) ≤ BINDING_LIMIT }
+    requires size { size_of (column_variables columns.now) ≤ BINDING_LIMIT }
     requires none { (t : ℕ) → spans_have nothing.now t ≡ false }
     ensures { (t : ℕ) → spans_have result.now t ≡ parts_have parts.now object (object_or object columns.now number) t }
 {

@@ -9,17 +9,17 @@ ghost use Rattle.meaning.specs.Fits.{FitsItsClasses};
 ghost use Rattle.tick_set.specs.Runs.{spans_have};
 ghost use Rattle.tick_set.specs.declared.spans.Span.{Span};
 ghost use Rattle.kept_rows.specs.declared.change.Change.{Change};
-ghost use Rattle.kept_rows.specs.Changes.{after};
+ghost use Rattle.kept_rows.specs.Changes.{rows_after};
 ghost use Rattle.kept_rows.specs.Numbers.{counts};
 ghost use Rattle.live_queries.specs.Asked.{FitsWorld};
-ghost use Rattle.live_queries.specs.Columns.{gives, object_of, variables_of};
+ghost use Rattle.live_queries.specs.Columns.{column_variables, gives, object_at_number};
 ghost use Rattle.live_queries.specs.Current.{AreCurrent, IsCurrentFor, row_at, told_from};
 ghost use Rattle.meaning.specs.Registered.{changes_of_tick, changes_of_write, registered_answer};
-ghost use Rattle.live_queries.specs.Kept.{IsKept, KeptQuery, registered};
+ghost use Rattle.live_queries.specs.Kept.{IsKeptQuery, KeptQuery, registered_query};
 ghost use Rattle.live_queries.specs.Told.{answer_of, moves_of, passings_of, told_changes};
 ghost use Rattle.live_queries.specs.Prepared.{AreFreshFor, AreMade, IsFreshFor, IsMade};
 ghost use Rattle.live_queries.specs.declared.fresh.Renewal.{Renewal};
-ghost use Rattle.live_queries.specs.Renewed.{AddsAtMost, ChangesNoObject, IsRenewed, IsSameHead};
+ghost use Rattle.live_queries.specs.Renewed.{AddsAtMost, ChangesNoObject, IsRenewed, IsSameRequest};
 
 use meaning::{
     absent_objects_satisfy_no_query, expired_queries_stay,
@@ -34,7 +34,7 @@ use meaning::{
 /// is before the write stay as they are.
 pub fn a_write_keeps_queries_current()
     ensures { (id now : ℕ) (old new : History) → ChangesFrom id now old new → AddsAtMost id old.catalog new.catalog
-        → (regions : List Region) (k k' : KeptQuery) → IsKept k → IsKept k'
+        → (regions : List Region) (k k' : KeptQuery) → IsKeptQuery k → IsKeptQuery k'
         → IsCurrentFor (world_with old regions) now k → IsRenewed (world_with new regions) id now k k'
         → IsCurrentFor (world_with new regions) now k' }
 {
@@ -56,21 +56,21 @@ pub fn other_rows_stay()
 /// An insert of a new name moves no number: each binding that there was has its number and its objects still.
 pub fn a_write_moves_no_binding()
     ensures { (id now : ℕ) (old new : History) → ChangesFrom id now old new → AddsAtMost id old.catalog new.catalog
-        → (regions : List Region) (k k' : KeptQuery) → IsKept k → IsKept k'
+        → (regions : List Region) (k k' : KeptQuery) → IsKeptQuery k → IsKeptQuery k'
         → IsCurrentFor (world_with old regions) now k → IsRenewed (world_with new regions) id now k k'
-        → (n : ℕ) → counts (variables_of k.columns) n ≡ true
-        → (counts (variables_of k'.columns) n ≡ true) × ((v : ℕ) → object_of k'.columns n v ≡ object_of k.columns n v) }
+        → (n : ℕ) → counts (column_variables k.columns) n ≡ true
+        → (counts (column_variables k'.columns) n ≡ true) × ((v : ℕ) → object_at_number k'.columns n v ≡ object_at_number k.columns n v) }
 {}
 
 /// The recorded past is joined to the future that the motions imply: a write changes what is told of the row of a
 /// binding, of a kept query before it too, only where it changes the states of its objects from then on.
 pub fn a_row_changes_by_what_comes_after()
     ensures { (id now : ℕ) (old new : History) → ChangesFrom id now old new → AddsAtMost id old.catalog new.catalog
-        → (regions : List Region) (k k' : KeptQuery) → IsKept k → IsKept k'
+        → (regions : List Region) (k k' : KeptQuery) → IsKeptQuery k → IsKeptQuery k'
         → IsCurrentFor (world_with old regions) now k → IsRenewed (world_with new regions) id now k k'
-        → (n : ℕ) → counts (variables_of k.columns) n ≡ true
+        → (n : ℕ) → counts (column_variables k.columns) n ≡ true
         → ((v : ℕ) → v < length k.query.classes → (t : ℕ) → now ≤ t → t ≤ k.expiry
-        → cells_at old (object_of k.columns n v) t ≡ cells_at new (object_of k.columns n v) t)
+        → cells_at old (object_at_number k.columns n v) t ≡ cells_at new (object_at_number k.columns n v) t)
         → (t : ℕ) → told_from k now ≤ t → row_at k' n t ≡ row_at k n t }
 {
     a_write_keeps_queries_current();
@@ -90,23 +90,23 @@ pub fn writes_to_no_object_keep_queries_current()
 /// What is told of a query that is current, by its rows alone, is its answer at that tick and what the passing of time
 /// changes from then on.
 pub fn current_queries_tell_their_answers()
-    ensures answer { (w : World) (k : KeptQuery) → IsKept k → (now : ℕ) → IsCurrentFor w now k
-        → k.entry ≤ now → answer_of k now ≡ registered_answer w (registered k) now }
-    ensures passed { (w : World) (k : KeptQuery) → IsKept k → (before now : ℕ) → IsCurrentFor w before k
+    ensures answer { (w : World) (k : KeptQuery) → IsKeptQuery k → (now : ℕ) → IsCurrentFor w now k
+        → k.entry ≤ now → answer_of k now ≡ registered_answer w (registered_query k) now }
+    ensures passed { (w : World) (k : KeptQuery) → IsKeptQuery k → (before now : ℕ) → IsCurrentFor w before k
         → k.entry ≤ before → before ≤ now
-        → passings_of before now k ≡ told_changes k.name (changes_of_tick w (registered k) before now) }
+        → passings_of before now k ≡ told_changes k.name (changes_of_tick w (registered_query k) before now) }
 {}
 
 /// What changes of rows are told to change, before they are made, is what the write changes for the targets of the
 /// query, where its rows become current by them.
 pub fn prepared_changes_tell_what_a_write_changes()
     ensures { (id now : ℕ) (old new : History) → ChangesFrom id now old new → AddsAtMost id old.catalog new.catalog
-        → (regions : List Region) (k k' : KeptQuery) → IsKept k → IsKept k'
+        → (regions : List Region) (k k' : KeptQuery) → IsKeptQuery k → IsKeptQuery k'
         → IsCurrentFor (world_with old regions) now k → IsRenewed (world_with new regions) id now k k'
-        → (changes : List (Change (List Span))) → ((c t : ℕ) → row_at k' c t ≡ after spans_have changes (row_at k) c t)
+        → (changes : List (Change (List Span))) → ((c t : ℕ) → row_at k' c t ≡ rows_after spans_have changes (row_at k) c t)
         → k.entry ≤ now
         → moves_of id now k changes
-        ≡ told_changes k.name (changes_of_write (world_with old regions) (world_with new regions) (registered k) now) }
+        ≡ told_changes k.name (changes_of_write (world_with old regions) (world_with new regions) (registered_query k) now) }
 {
     a_write_keeps_queries_current();
 }
@@ -120,7 +120,7 @@ pub fn prepared_writes_renew_queries()
 /// What was prepared of a write for all queries, once it is made, keeps them all current.
 pub fn committed_writes_keep_queries_current()
     ensures { (id now class : ℕ) (old new : History) → ChangesFrom id now old new → AddsAtMost id old.catalog new.catalog
-        → (regions : List Region) (rs : List Renewal) (live live' : List KeptQuery) → All IsKept live → All IsKept live'
+        → (regions : List Region) (rs : List Renewal) (live live' : List KeptQuery) → All IsKeptQuery live → All IsKeptQuery live'
         → AreCurrent (world_with old regions) now live → AreFreshFor (world_with new regions) id class now live rs
         → AreMade id class rs live live' → AreCurrent (world_with new regions) now live' }
 {
@@ -132,7 +132,7 @@ pub fn committed_writes_keep_queries_current()
 pub fn queries_go_on_fitting_worlds()
     ensures { (old new : World) (m : List ClassInfo) (n : List Region)
         → new.history.catalog.classes ≡ old.history.catalog.classes ++ m → new.regions ≡ old.regions ++ n
-        → (k k' : KeptQuery) → IsSameHead k k' → FitsWorld old k → FitsWorld new k' }
+        → (k k' : KeptQuery) → IsSameRequest k k' → FitsWorld old k → FitsWorld new k' }
 {
     queries_go_on_fitting_their_classes();
 }

@@ -5,7 +5,7 @@ ghost use Rattle.std.specs.Option.{option_copied};
 ghost use Rattle.std.specs.Str.{bytes_eq};
 ghost use Rattle.tick_set.specs.declared.spans.TheConstants.{LAST_TICK, SPAN_LIMIT};
 ghost use Rattle.formula.specs.Resolved.{IsResolved};
-ghost use Rattle.formula.specs.Tree.{query_view};
+ghost use Rattle.formula.specs.Tree.{resolved_view};
 ghost use Rattle.meaning.specs.Fits.{FitsItsClasses};
 ghost use Rattle.meaning.specs.Reads.{query_reads, sizes_of, write_reads};
 ghost use Rattle.object_store.specs.Contents.{catalog_of};
@@ -14,12 +14,12 @@ ghost use Rattle.answers.specs.Objects.{IsOfAcceptedWrites};
 ghost use Rattle.kept_rows.specs.declared.binding.TheConstants.{BINDING_LIMIT};
 ghost use Rattle.kept_rows.specs.Numbers.{size_of};
 ghost use Rattle.formula.specs.declared.limits.TheConstants.{QUERY_LIMIT};
-ghost use Rattle.live_queries.specs.Asked.{FitsWorld, HaveObjectsBefore, IsBefore, class_in};
+ghost use Rattle.live_queries.specs.Asked.{ExtendsCatalog, FitsWorld, HaveObjectsBefore, class_in};
 ghost use Rattle.history.specs.Catalog.{Catalog, most_bindings};
-ghost use Rattle.live_queries.specs.Columns.{HaveObjectsOf, variables_of};
+ghost use Rattle.live_queries.specs.Columns.{HaveObjectsOf, column_variables};
 ghost use Rattle.live_queries.specs.Effort.{all_judged_reads, judged_reads};
-ghost use Rattle.live_queries.specs.Kept.{AreKept, IsKept, registered};
-ghost use Rattle.live_queries.specs.Missed.{IsSightOf, IsWritten};
+ghost use Rattle.live_queries.specs.Kept.{AreKept, IsKeptQuery, registered_query};
+ghost use Rattle.live_queries.specs.Missed.{IsOfContents, IsSightOf};
 ghost use Rattle.live_queries.specs.Prepared.{AreFreshFor, AreMade, ArePrepared, IsFreshFor, IsPrepared, IsReadyFor};
 ghost use Rattle.live_queries.specs.Registering.{AddsQuery};
 ghost use Rattle.live_queries.specs.Untouched.{or_untouched, spread};
@@ -100,7 +100,7 @@ impl Live {
 
     /// How many numbers the bindings of all queries may have: the sum of the products of their classes' capacities.
     pub fn bindings(&self) -> u64
-        ensures { result ≡ sum_by (λ k. size_of (variables_of k.columns)) self.now }
+        ensures { result ≡ sum_by (λ k. size_of (column_variables k.columns)) self.now }
     {
         bindings_of(&self.queries)
     }
@@ -206,17 +206,17 @@ impl Live {
     ) -> Result<(), AllocError>
         requires few { length self.old < QUERY_LIMIT }
         requires accepted { IsOfAcceptedWrites store.now }
-        requires resolved { IsResolved (query_view query) }
-        requires fits { FitsItsClasses (world_in store.now regions.now) (query_view query) }
+        requires resolved { IsResolved (resolved_view query) }
+        requires fits { FitsItsClasses (world_in store.now regions.now) (resolved_view query) }
         requires size { most_bindings (catalog_of store.now).classes query.classes ≤ BINDING_LIMIT }
         requires window { info.now.entry ≤ info.now.expiry }
         requires last { info.now.expiry ≤ LAST_TICK }
         requires length { info.now.expiry - info.now.entry ≤ SPAN_LIMIT }
-        ensures ok { OnOk result (AddsQuery (world_in store.now regions.now) now (told_info info.now) (query_view query) self.old self.new) }
+        ensures ok { OnOk result (AddsQuery (world_in store.now regions.now) now (told_info info.now) (resolved_view query) self.old self.new) }
         ensures err { OnErr result (self.new ≡ self.old) }
         ensures least { reads.old ≤ reads.new }
         ensures most { reads.new ≤ reads.old
-            + query_reads (sizes_of (catalog_of store.now) (query_view query)) (info.now.expiry + 1 - info.now.entry) (query_view query) }
+            + query_reads (sizes_of (catalog_of store.now) (resolved_view query)) (info.now.expiry + 1 - info.now.entry) (resolved_view query) }
     {
         let world = StoredWorld { store, regions };
         let added = LiveQuery::new(alloc, info, query, &world, now, reads, probes)?;
@@ -249,7 +249,7 @@ impl Live {
         ensures prepared { IfOk result (IsPrepared self.now) }
         ensures fresh { IfOk result (λ f. AreFreshFor (world_in store.now regions.now) f.object f.class now self.now f.renewals) }
         ensures least { reads.old ≤ reads.new }
-        ensures most { reads.new ≤ reads.old + write_reads (catalog_of store.now) (map registered self.now) now (class_in store.now id) }
+        ensures most { reads.new ≤ reads.old + write_reads (catalog_of store.now) (map registered_query self.now) now (class_in store.now id) }
         ensures judged { reads.new ≤ reads.old + all_judged_reads (catalog_of store.now) self.now now (class_in store.now id) }
     {
         let class = class_of(store, id);
@@ -288,7 +288,7 @@ fn class_of(store: &Store, id: u32) -> ClassNo
 fn written(store: &Store, class: ClassNo, id: u32) -> Written
     requires there { id < length store.now.objects }
     requires class { class ≡ class_in store.now id }
-    ensures written { IsWritten store.now result }
+    ensures written { IsOfContents store.now result }
     ensures id { result.id ≡ id }
     ensures class { result.class ≡ class }
 {
@@ -314,8 +314,8 @@ fn renewal_of<L: Ledger, M: Ledger>(
 ) -> Result<Option<Renewal>, AllocError>
     requires accepted { IsOfAcceptedWrites world.now.store.now }
     requires fits { FitsWorld (told_world world.now) query.now }
-    requires written { IsWritten world.now.store.now object.now }
-    requires before { (old : Catalog) × IsBefore object.now.id old (catalog_of world.now.store.now) × HaveObjectsOf old query.now.query.classes query.now.columns }
+    requires written { IsOfContents world.now.store.now object.now }
+    requires before { (old : Catalog) × ExtendsCatalog object.now.id old (catalog_of world.now.store.now) × HaveObjectsOf old query.now.query.classes query.now.columns }
     requires sight { IsSightOf world.now.store.now object.now.id sight.old }
     ensures ready { IfOk result (λ r. IsReadyFor object.now.class query.now (or_untouched r)) }
     ensures fresh { IfOk result (λ r. IsFreshFor (told_world world.now) object.now.id object.now.class now query.now (or_untouched r)) }
@@ -372,7 +372,7 @@ fn renewals_of<L: Ledger, M: Ledger>(
 // How many numbers the bindings of these queries may have.
 fn bindings_of(queries: &[LiveQuery]) -> u64
     requires { length queries.now ≤ QUERY_LIMIT }
-    ensures sum { result ≡ sum_by (λ k. size_of (variables_of k.columns)) queries.now }
+    ensures sum { result ≡ sum_by (λ k. size_of (column_variables k.columns)) queries.now }
     ensures bound { result ≤ length queries.now * BINDING_LIMIT }
 {
     match queries.split_first() {
@@ -450,10 +450,10 @@ fn commit_each(
     mut touched: IntoIter<Touched>,
     rest: usize,
 )
-    requires kept { All IsKept queries.old }
+    requires kept { All IsKeptQuery queries.old }
     requires prepared { ArePrepared class queries.old (spread touched.rest.items rest) }
     ensures made { AreMade object class (spread touched.rest.items rest) queries.old queries.new }
-    ensures kept { All IsKept queries.new }
+    ensures kept { All IsKeptQuery queries.new }
 {
     let Some(first) = touched.next() else {
         return;

@@ -2,12 +2,12 @@
 ghost use Rattle.std.specs.Prelude.{◌≡◌, ◌≤◌, ℕ, slice_index, IfOk};
 ghost use Rattle.tick_set.specs.Runs.{spans_have};
 ghost use Rattle.kept_rows.specs.declared.binding.TheConstants.{BINDING_LIMIT};
-ghost use Rattle.kept_rows.specs.Exact.{AreRowsOf};
+ghost use Rattle.kept_rows.specs.Exact.{AreFullRows};
 ghost use Rattle.kept_rows.specs.Numbers.{counts, size_of};
 ghost use Rattle.kept_rows.specs.Rows.{HasRoom, row_has};
-ghost use Rattle.relation.specs.Rows.{has};
-ghost use Rattle.live_queries.specs.Columns.{object_of, variables_of};
-ghost use Rattle.live_queries.specs.Numbered.{AreAmong, DoAscend, IsNumberOf, IsOver};
+ghost use Rattle.relation.specs.Rows.{table_has};
+ghost use Rattle.live_queries.specs.Columns.{column_variables, object_at_number};
+ghost use Rattle.live_queries.specs.Numbered.{AreAmong, DoAscend, IsNumberOf, IsOverColumns};
 
 use crate::objects::{Objects, place_in, width};
 use formula::Binding;
@@ -22,11 +22,11 @@ pub(crate) fn table_of(
     columns: &[Objects],
     full: Relation<'_, IntervalSet>,
 ) -> Result<KeptRows<IntervalSet>, AllocError>
-    requires size { size_of (variables_of columns.now) ≤ BINDING_LIMIT }
-    requires over { IsOver columns.now full }
-    ensures room { IfOk result (λ rows. HasRoom rows (size_of (variables_of columns.now))) }
-    ensures rows { IfOk result (λ rows. AreRowsOf (row_has spans_have rows) (counts (variables_of columns.now))
-        (λ n t. has spans_have full.entry (object_of columns.now n) t)) }
+    requires size { size_of (column_variables columns.now) ≤ BINDING_LIMIT }
+    requires over { IsOverColumns columns.now full }
+    ensures room { IfOk result (λ rows. HasRoom rows (size_of (column_variables columns.now))) }
+    ensures rows { IfOk result (λ rows. AreFullRows (row_has spans_have rows) (counts (column_variables columns.now))
+        (λ n t. table_has spans_have full.entry (object_at_number columns.now n) t)) }
 {
     let mut rows = filled(alloc, columns, full)?;
     // Where there are several variables a target may have more than one row, so that what it shares with others is to be
@@ -43,11 +43,11 @@ fn filled(
     columns: &[Objects],
     full: Relation<'_, IntervalSet>,
 ) -> Result<KeptRows<IntervalSet>, AllocError>
-    requires size { size_of (variables_of columns.now) ≤ BINDING_LIMIT }
-    requires over { IsOver columns.now full }
-    ensures room { IfOk result (λ rows. HasRoom rows (size_of (variables_of columns.now))) }
-    ensures rows { IfOk result (λ rows. AreRowsOf (row_has spans_have rows) (counts (variables_of columns.now))
-        (λ n t. has spans_have full.entry (object_of columns.now n) t)) }
+    requires size { size_of (column_variables columns.now) ≤ BINDING_LIMIT }
+    requires over { IsOverColumns columns.now full }
+    ensures room { IfOk result (λ rows. HasRoom rows (size_of (column_variables columns.now))) }
+    ensures rows { IfOk result (λ rows. AreFullRows (row_has spans_have rows) (counts (column_variables columns.now))
+        (λ n t. table_has spans_have full.entry (object_at_number columns.now n) t)) }
 {
     full.rows_stand_in_order();
     let mut rows = KeptRows::new(alloc, width(columns))?;
@@ -60,7 +60,7 @@ fn filled(
 
 // The number of the binding of these objects, by the places of their variables. Each is one of its variable's.
 fn number_of(columns: &[Objects], objects: &Binding) -> u32
-    requires size { size_of (variables_of columns.now) ≤ BINDING_LIMIT }
+    requires size { size_of (column_variables columns.now) ≤ BINDING_LIMIT }
     requires ascend { DoAscend columns.now }
     requires among { AreAmong columns.now (slice_index objects.now) }
     ensures { IsNumberOf columns.now (slice_index objects.now) result }

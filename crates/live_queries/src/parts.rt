@@ -6,11 +6,11 @@ ghost use Rattle.tick_set.specs.Ticks.{between};
 ghost use Rattle.tick_set.specs.declared.spans.TheConstants.{SPAN_LIMIT};
 ghost use Rattle.formula_shape.specs.declared.limits.TheConstants.{OBJECT_LIMIT};
 ghost use Rattle.formula.specs.Resolved.{IsResolved};
-ghost use Rattle.formula.specs.Tree.{query_view};
+ghost use Rattle.formula.specs.Tree.{resolved_view};
 ghost use Rattle.meaning.specs.Fits.{FitsItsClasses};
 ghost use Rattle.meaning.specs.Reads.{query_reads};
 ghost use Rattle.object_store.specs.Contents.{catalog_of};
-ghost use Rattle.relation.specs.Frames.{size_of};
+ghost use Rattle.relation.specs.Frames.{domain_size};
 ghost use Rattle.atoms.specs.Asked.{told_world};
 ghost use Rattle.answers.specs.Objects.{AreOfItsClasses, IsOfAcceptedWrites};
 ghost use Rattle.live_queries.specs.Written.{ArePartsOf, domains_for, ids_for, single_for};
@@ -129,14 +129,14 @@ pub(crate) fn parts_of<'d, L: Ledger, M: Ledger>(
     probes: &mut Steps<M>,
 ) -> Result<Vec<Part<'d>>, AllocError>
     requires accepted { IsOfAcceptedWrites world.now.store.now }
-    requires resolved { IsResolved (query_view query.now) }
-    requires fits { FitsItsClasses (told_world world.now) (query_view query.now) }
-    requires domains { All (λ s. AreOfItsClasses (catalog_of world.now.store.now) (query_view query.now) s.domains) singles.now }
+    requires resolved { IsResolved (resolved_view query.now) }
+    requires fits { FitsItsClasses (told_world world.now) (resolved_view query.now) }
+    requires domains { All (λ s. AreOfItsClasses (catalog_of world.now.store.now) (resolved_view query.now) s.domains) singles.now }
     requires length { w.hi - w.lo ≤ SPAN_LIMIT }
-    ensures parts { IfOk result (λ parts. ArePartsOf (told_world world.now) (query_view query.now) w.lo w.hi singles.now parts.items) }
+    ensures parts { IfOk result (λ parts. ArePartsOf (told_world world.now) (resolved_view query.now) w.lo w.hi singles.now parts.items) }
     ensures least { reads.old ≤ reads.new }
     ensures most { reads.new ≤ reads.old
-        + sum_by (λ s. query_reads (size_of s.domains) (w.hi + 1 - w.lo) (query_view query.now)) singles.now }
+        + sum_by (λ s. query_reads (domain_size s.domains) (w.hi + 1 - w.lo) (resolved_view query.now)) singles.now }
 {
     let mut parts = Vec::with_capacity(alloc, singles.len())?;
     let mut rest = singles;

@@ -9,28 +9,28 @@ ghost use Rattle.history.specs.Catalog.{Catalog, most_bindings};
 ghost use Rattle.formula.specs.declared.kind.QueryKind.TheVariants.{Keep, Watch};
 ghost use Rattle.formula.specs.Reach.{counted};
 ghost use Rattle.formula.specs.Resolved.{IsResolved};
-ghost use Rattle.formula.specs.Tree.{query_view};
+ghost use Rattle.formula.specs.Tree.{resolved_view};
 ghost use Rattle.meaning.specs.Fits.{FitsItsClasses};
 ghost use Rattle.meaning.specs.Reads.{query_reads, sizes_of};
 ghost use Rattle.object_store.specs.Contents.{catalog_of};
 ghost use Rattle.atoms.specs.Asked.{told_world};
 ghost use Rattle.answers.specs.Objects.{IsOfAcceptedWrites};
-ghost use Rattle.kept_rows.specs.Changes.{AreReady, AreRising, after};
+ghost use Rattle.kept_rows.specs.Changes.{AreReady, AreRising, rows_after};
 ghost use Rattle.kept_rows.specs.Listing.{lines_upto, passing_of};
 ghost use Rattle.kept_rows.specs.Moves.{move_of};
 ghost use Rattle.kept_rows.specs.Numbers.{size_of};
-ghost use Rattle.live_queries.specs.Asked.{FitsWorld, IsBefore, class_in};
-ghost use Rattle.live_queries.specs.Columns.{HaveObjectsOf, variables_of};
+ghost use Rattle.live_queries.specs.Asked.{ExtendsCatalog, FitsWorld, class_in};
+ghost use Rattle.live_queries.specs.Columns.{HaveObjectsOf, column_variables};
 ghost use Rattle.live_queries.specs.Current.{row_at};
 ghost use Rattle.live_queries.specs.Effort.{judged_reads};
-ghost use Rattle.live_queries.specs.Kept.{IsKept};
-ghost use Rattle.live_queries.specs.Missed.{IsClearOf, IsSightOf, IsWritten};
+ghost use Rattle.live_queries.specs.Kept.{IsKeptQuery};
+ghost use Rattle.live_queries.specs.Missed.{IsClearOf, IsOfContents, IsSightOf};
 ghost use Rattle.live_queries.specs.Prepared.{AreNewRows, HaveRoomFor, IsFreshFor, IsMade, IsReadyFor};
 ghost use Rattle.live_queries.specs.Registering.{IsRegistered};
 ghost use Rattle.live_queries.specs.Renewed.{judged_from, judged_tick};
-ghost use Rattle.live_queries.specs.Untouched.{IsTouched, or_untouched, untouched};
+ghost use Rattle.live_queries.specs.Untouched.{TouchesQuery, or_untouched, untouched};
 ghost use Rattle.live_queries.specs.Written.{HaveObjectsWith};
-ghost use Rattle.live_queries.specs.Told.{answer_of, info_of, key_of, lines_of, move as told_move, moves_of, passing as told_passing, passings_of, row_of, target_count, target_times, told_info};
+ghost use Rattle.live_queries.specs.Told.{answer_of, info_of, key_of, listed_lines, move as told_move, moves_of, passing_change as told_passing, passings_of, row_of_line, target_count, target_times, told_info};
 
 use crate::columns::{class_count, columns_of, has_class, lack};
 use crate::evaluating::{is_alone, new_rows, rows_between};
@@ -70,21 +70,21 @@ impl Model for LiveQuery {
     ghost use Rattle.std.specs.Coded.{codes};
     ghost use Rattle.tick_set.specs.declared.spans.TheConstants.{SPAN_LIMIT};
     ghost use Rattle.formula_shape.specs.ShapeCode.{shape_code};
-    ghost use Rattle.formula.specs.Tree.{query_view};
+    ghost use Rattle.formula.specs.Tree.{resolved_view};
     ghost use Rattle.formula.specs.declared.tree.RAtom.{RAtom};
     ghost use Rattle.formula.specs.declared.tree.RTerm.{RTerm};
-    ghost use Rattle.live_queries.specs.Kept.{IsKept, KeptQuery};
+    ghost use Rattle.live_queries.specs.Kept.{IsKeptQuery, KeptQuery};
     ghost use Rattle.live_queries.specs.Told.{target_count, target_width};
 
     ghost Value = { KeptQuery };
 
     ghost coded = { Prim.hlevel (codes, shape_code {A = RAtom} {B = ℕ × RTerm} (Prim.hlevel codes)) };
 
-    ghost view = { λ a. record { name = a.name; kind = a.kind; query = query_view a.query; entry = a.entry; expiry = a.expiry; columns = a.columns.items; pages = a.rows } };
+    ghost view = { λ a. record { name = a.name; kind = a.kind; query = resolved_view a.query; entry = a.entry; expiry = a.expiry; columns = a.columns.items; pages = a.rows } };
 
     ghost invariant = { λ a.
-        let k : KeptQuery = record { name = a.name; kind = a.kind; query = query_view a.query; entry = a.entry; expiry = a.expiry; columns = a.columns.items; pages = a.rows } in
-        IsKept k × (a.targets.count ≡ target_count k) × (a.targets.width ≡ target_width k) × (a.expiry - a.entry ≤ SPAN_LIMIT) };
+        let k : KeptQuery = record { name = a.name; kind = a.kind; query = resolved_view a.query; entry = a.entry; expiry = a.expiry; columns = a.columns.items; pages = a.rows } in
+        IsKeptQuery k × (a.targets.count ≡ target_count k) × (a.targets.width ≡ target_width k) × (a.expiry - a.entry ≤ SPAN_LIMIT) };
 }
 
 impl LiveQuery {
@@ -100,17 +100,17 @@ impl LiveQuery {
         probes: &mut Steps<M>,
     ) -> Result<LiveQuery, AllocError>
         requires accepted { IsOfAcceptedWrites world.now.store.now }
-        requires resolved { IsResolved (query_view query) }
-        requires fits { FitsItsClasses (told_world world.now) (query_view query) }
+        requires resolved { IsResolved (resolved_view query) }
+        requires fits { FitsItsClasses (told_world world.now) (resolved_view query) }
         requires size { most_bindings (catalog_of world.now.store.now).classes query.classes ≤ BINDING_LIMIT }
         requires window { info.now.entry ≤ info.now.expiry }
         requires last { info.now.expiry ≤ LAST_TICK }
         requires length { info.now.expiry - info.now.entry ≤ SPAN_LIMIT }
-        ensures registered { IfOk result (IsRegistered (told_world world.now) now (told_info info.now) (query_view query)) }
-        ensures kept { IfOk result IsKept }
+        ensures registered { IfOk result (IsRegistered (told_world world.now) now (told_info info.now) (resolved_view query)) }
+        ensures kept { IfOk result IsKeptQuery }
         ensures least { reads.old ≤ reads.new }
         ensures most { reads.new ≤ reads.old
-            + query_reads (sizes_of (catalog_of world.now.store.now) (query_view query)) (info.now.expiry + 1 - info.now.entry) (query_view query) }
+            + query_reads (sizes_of (catalog_of world.now.store.now) (resolved_view query)) (info.now.expiry + 1 - info.now.entry) (resolved_view query) }
     {
         fitting_queries_can_be_asked();
         let columns = columns_of(alloc, &query, world.store)?;
@@ -156,10 +156,10 @@ impl LiveQuery {
         requires fits { FitsWorld (told_world world.now) self.now }
         requires there { object.now.id < length world.now.store.now.objects }
         requires class { object.now.class ≡ class_in world.now.store.now object.now.id }
-        requires before { (old : Catalog) × IsBefore object.now.id old (catalog_of world.now.store.now) × HaveObjectsOf old self.now.query.classes self.now.columns }
+        requires before { (old : Catalog) × ExtendsCatalog object.now.id old (catalog_of world.now.store.now) × HaveObjectsOf old self.now.query.classes self.now.columns }
         ensures ready { IfOk result (λ r. IsReadyFor object.now.class self.now (or_untouched r)) }
         ensures fresh { IfOk result (λ r. IsFreshFor (told_world world.now) object.now.id object.now.class now self.now (or_untouched r)) }
-        ensures touched { IfOk result (λ r. IfSome r (IsTouched object.now.class now self.now)) }
+        ensures touched { IfOk result (λ r. IfSome r (TouchesQuery object.now.class now self.now)) }
         ensures least { reads.old ≤ reads.new }
         ensures most { reads.new ≤ reads.old + judged_reads (catalog_of world.now.store.now) now object.now.class self.now }
     {
@@ -185,8 +185,8 @@ impl LiveQuery {
         world: &StoredWorld,
         now: u32,
     ) -> bool
-        requires written { IsWritten world.now.store.now object.now }
-        requires before { (old : Catalog) × IsBefore object.now.id old (catalog_of world.now.store.now) × HaveObjectsOf old self.now.query.classes self.now.columns }
+        requires written { IsOfContents world.now.store.now object.now }
+        requires before { (old : Catalog) × ExtendsCatalog object.now.id old (catalog_of world.now.store.now) × HaveObjectsOf old self.now.query.classes self.now.columns }
         requires sight { IsSightOf world.now.store.now object.now.id sight.old }
         ensures fresh { result ≡ true → IsFreshFor (told_world world.now) object.now.id object.now.class now self.now untouched }
         ensures sight { IsSightOf world.now.store.now object.now.id sight.new }
@@ -250,7 +250,7 @@ impl LiveQuery {
         requires room { grows ≡ true → HaveRoomFor object.now.class self.now.query.classes self.now.columns }
         requires objects { HaveObjectsWith (catalog_of world.now.store.now) grows object.now.class self.now.query.classes object.now.id self.now.columns }
         ensures ready { IfOk result (AreReady spans_have self.now.pages) }
-        ensures rising { IfOk result (AreRising (size_of (variables_of self.now.columns))) }
+        ensures rising { IfOk result (AreRising (size_of (column_variables self.now.columns))) }
         ensures rows { IfOk result (AreNewRows (told_world world.now) grows object.now.id object.now.class now self.now) }
         ensures least { reads.old ≤ reads.new }
         ensures most { reads.new ≤ reads.old + judged_reads (catalog_of world.now.store.now) now object.now.class self.now }
@@ -306,7 +306,7 @@ impl LiveQuery {
 
     /// How many numbers its bindings may have.
     pub(crate) fn size(&self) -> u32
-        ensures value { result ≡ size_of (variables_of self.now.columns) }
+        ensures value { result ≡ size_of (column_variables self.now.columns) }
         ensures limit { result ≤ BINDING_LIMIT }
     {
         width(&self.columns)
@@ -350,7 +350,7 @@ impl LiveQuery {
 
     // The lines of its answer.
     fn lines(&self, alloc: Global, now: u32) -> Result<Vec<Line>, AllocError>
-        ensures value { IfOk result (λ lines. lines.items ≡ lines_of self.now now) }
+        ensures value { IfOk result (λ lines. lines.items ≡ listed_lines self.now now) }
         ensures below { IfOk result (λ lines. All (λ line. line.0 < target_count self.now) lines.items) }
     {
         let Some(window) = Window::new(self.first_tick(now), self.expiry) else {
@@ -363,7 +363,7 @@ impl LiveQuery {
     // The row of a line.
     fn row(&self, line: Line) -> AnswerRow
         requires { line.0 < target_count self.now }
-        ensures { result ≡ row_of self.now line }
+        ensures { result ≡ row_of_line self.now line }
     {
         AnswerRow {
             key: self.key(line.target(), 0),
@@ -430,7 +430,7 @@ impl LiveQuery {
         now: u32,
         moves: &mut Vec<Move>,
     ) -> Result<(), AllocError>
-        requires { AreRising (size_of (variables_of self.now.columns)) changes.now }
+        requires { AreRising (size_of (column_variables self.now.columns)) changes.now }
         ensures { OnOk result (moves.new.items ≡ moves.old.items ++ moves_of added now self.now changes.now) }
     {
         let Some(window) = self.window(now) else {
@@ -451,10 +451,10 @@ impl LiveQuery {
         window: Window,
         now: u32,
     ) -> Result<Vec<kept_rows::Move>, AllocError>
-        requires { AreRising (size_of (variables_of self.now.columns)) changes.now }
+        requires { AreRising (size_of (column_variables self.now.columns)) changes.now }
         ensures value { IfOk result (λ found. found.items
             ≡ lines_upto (move_of (target_times self.now (row_at self.now))
-            (target_times self.now (after spans_have changes.now (row_at self.now))) window.lo window.hi now) (target_count self.now)) }
+            (target_times self.now (rows_after spans_have changes.now (row_at self.now))) window.lo window.hi now) (target_count self.now)) }
         ensures below { IfOk result (λ found. All (λ m. m.target < target_count self.now) found.items) }
     {
         let found = kept_rows::moves(alloc, &self.rows, changes, self.targets, window, now)?;
@@ -503,7 +503,7 @@ impl LiveQuery {
     pub(crate) fn commit(&mut self, object: u32, class: ClassNo, renewal: Renewal)
         requires { IsReadyFor class self.old renewal }
         ensures made { IsMade object class renewal self.old self.new }
-        ensures kept { IsKept self.new }
+        ensures kept { IsKeptQuery self.new }
     {
         add_object(
             &mut self.columns,
@@ -577,9 +577,9 @@ fn kept_before(kind: QueryKind, judged: u32) -> u32
 // How the numbers of the bindings of columns are shared among the first so many, which are the targets.
 fn targets_of(columns: &[Objects], count: usize) -> Targets
     requires few { count ≤ length columns.now }
-    requires size { size_of (variables_of columns.now) ≤ BINDING_LIMIT }
-    ensures count { result.count ≡ size_of (variables_of (take count columns.now)) }
-    ensures width { result.width ≡ size_of (variables_of (drop count columns.now)) }
+    requires size { size_of (column_variables columns.now) ≤ BINDING_LIMIT }
+    ensures count { result.count ≡ size_of (column_variables (take count columns.now)) }
+    ensures width { result.width ≡ size_of (column_variables (drop count columns.now)) }
 {
     Targets {
         count: width(&columns[..count]),

@@ -1,9 +1,9 @@
 //! Where a written object is over the ticks that queries have still.
 ghost use Rattle.std.specs.Prelude.{◌≡◌, ℕ, true, IfSome};
-ghost use Rattle.formula.specs.Tree.{query_view};
+ghost use Rattle.formula.specs.Tree.{resolved_view};
 ghost use Rattle.object_store.specs.Contents.{Contents};
 ghost use Rattle.narrowing.specs.Needed.{Fails, told};
-ghost use Rattle.narrowing.specs.Whereabouts.{IsWithin};
+ghost use Rattle.narrowing.specs.Whereabouts.{StaysInArea};
 ghost use Rattle.live_queries.specs.Missed.{IsSeen, IsSightOf};
 
 use answers::StoredWorld;
@@ -39,7 +39,7 @@ impl Sight {
         requires { IsSightOf world.now.store.now id self.old }
         ensures sight { IsSightOf world.now.store.now id self.new }
         ensures fails { result ≡ true → (b : ℕ → ℕ) → b 0 ≡ id
-            → Fails (told world.now.store.now world.now.regions.now b) w.lo w.hi (query_view query.now).formula }
+            → Fails (told world.now.store.now world.now.regions.now b) w.lo w.hi (resolved_view query.now).formula }
     {
         self.look(world.store, id, w);
         match self.area_over(w) {
@@ -61,7 +61,7 @@ impl Sight {
     // The area in which it was seen, if this is the window that was looked at last.
     #[inline]
     fn area_over(&self, w: Window) -> Option<&Area>
-        ensures { IfSome result (λ area. (s : Contents) (id : ℕ) → IsSightOf s id self.now → IsWithin s id area.now w.lo w.hi) }
+        ensures { IfSome result (λ area. (s : Contents) (id : ℕ) → IsSightOf s id self.now → StaysInArea s id area.now w.lo w.hi) }
     {
         match &self.seen {
             Some(seen) => seen.area_over(w),
@@ -74,8 +74,8 @@ impl Seen {
     // The area, if this is the window.
     #[inline]
     fn area_over(&self, w: Window) -> Option<&Area>
-        ensures { IfSome result (λ area. (s : Contents) (id : ℕ) → IsWithin s id self.now.area self.now.over.lo self.now.over.hi
-            → IsWithin s id area.now w.lo w.hi) }
+        ensures { IfSome result (λ area. (s : Contents) (id : ℕ) → StaysInArea s id self.now.area self.now.over.lo self.now.over.hi
+            → StaysInArea s id area.now w.lo w.hi) }
     {
         if self.over.lo == w.lo && self.over.hi == w.hi {
             Some(&self.area)

@@ -13,6 +13,7 @@ use Rattle.geometry.specs.Circle.{fits}
 use Rattle.geometry.specs.Region.{Region}
 use Rattle.motion.specs.declared.cell.Cell.{Cell}
 use Rattle.motion.specs.declared.cell.Cell.TheVariants as cells
+use Rattle.motion.specs.Cells.{kind_of}
 use Rattle.history.specs.Catalog.{Catalog, ClassInfo}
 use Rattle.history.specs.Write.{Attribute}
 use Rattle.formula.specs.declared.tree.RAtom.{RAtom}
@@ -28,9 +29,9 @@ use Rattle.formula.specs.Variables.{unit_has, term_has, atom_has}
 use Rattle.formula.specs.declared.value.ValueKind.{ValueKind}
 use Rattle.meaning.specs.Atom.{atom_holds, distance_holds, is_in_region, position_in, positions_of}
 use Rattle.meaning.specs.Fits.{BindsKinds, class_of_variable, factor_kind, kind_beside, kind_of_parts, kind_of_sum, kind_of_values, kind_with_sign, term_kind, unit_kind, value_kind}
-use Rattle.meaning.specs.Reachable.{FitTheirClasses, kind_of}
+use Rattle.meaning.specs.Reachable.{FitTheirClasses}
 use Rattle.meaning.specs.Trace.{Trace}
-use Rattle.meaning.specs.Value.{cell_in, cell_value, factor_value, part_value, plus, term_value, unit_value, values_compare, with_sign}
+use Rattle.meaning.specs.Value.{cell_in, cell_value, factor_value, part_value, plus, signed_value, term_value, unit_value, values_compare}
 use Rattle.meaning.proofs.TermLemmas.{HaveKinds, all_have_kinds, kind_of_unit, no_value}
 
 -- ---- a term of an absent object has no value
@@ -50,7 +51,7 @@ absent_unit h x t v absent (units.Sub o a part) has =
 absent_unit h x t v absent units.Time has = absurd (false≢true has)
 
 absent_factor : (h : Trace) (x : Env) (t v : ℕ) → h v t ≡ None → (s : RSigned) → unit_has v s.unit ≡ true → factor_value h x t s ≡ None
-absent_factor h x t v absent s has = ap (option_and_then (with_sign s.minus s.times)) (absent_unit h x t v absent s.unit has)
+absent_factor h x t v absent s has = ap (option_and_then (signed_value s.minus s.times)) (absent_unit h x t v absent s.unit has)
 
 plus_none : (value : Option Value) → plus value None ≡ None
 plus_none None = refl
@@ -167,7 +168,7 @@ kind_chosen true kind k is = cc
 kind_chosen false kind k is = no_value k is
 
 signed_kind : (minus : Bool) (times : Option ℕ) (value : Option Value) →
-    option_map value_kind (option_and_then (with_sign minus times) value) ≡ option_and_then (kind_with_sign minus times) (option_map value_kind value)
+    option_map value_kind (option_and_then (signed_value minus times) value) ≡ option_and_then (kind_with_sign minus times) (option_map value_kind value)
 signed_kind minus times None = refl
 signed_kind minus times (Some (values.Num n)) = refl
 signed_kind false None (Some (values.Text s)) = refl

@@ -14,11 +14,12 @@ use Rattle.motion.specs.Dynamic.{Dynamic, value_at}
 use Rattle.motion.specs.Function.{legs_rest, legs_rise, legs_slope, rise}
 use Rattle.motion.specs.declared.cell.Cell.{Cell}
 use Rattle.motion.specs.declared.cell.Cell.TheVariants as cells
+use Rattle.motion.specs.Cells.{kind_of}
 use Rattle.formula.specs.Bounds.{sub_bound}
 use Rattle.formula.specs.declared.limits.TheConstants.{DYNAMIC_BOUND}
 use Rattle.formula.specs.declared.value.Value.{Value}
 use Rattle.formula.specs.declared.value.Value.TheVariants as values
-use Rattle.meaning.specs.Reachable.{is_reachable, is_reached, is_slope, is_slow, kind_of}
+use Rattle.meaning.specs.Reachable.{is_reachable, is_reached, is_slope, is_slow}
 use Rattle.meaning.specs.Value.{attribute_bound, cell_value, part_at}
 
 abbrev is_text : Value → Bool

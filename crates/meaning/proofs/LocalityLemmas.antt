@@ -29,7 +29,7 @@ use Rattle.formula.specs.Tree.{ResolvedTree}
 use Rattle.formula.specs.Value.{with_value}
 use Rattle.formula.specs.Variables.{unit_has, term_has, atom_has, has_variable}
 use Rattle.meaning.specs.Trace.{Trace}
-use Rattle.meaning.specs.Value.{unit_value, factor_value, with_sign, term_value, plus, values_compare, cell_in, cell_value, part_value}
+use Rattle.meaning.specs.Value.{unit_value, factor_value, signed_value, term_value, plus, values_compare, cell_in, cell_value, part_value}
 use Rattle.meaning.specs.Atom.{atom_holds, distance_holds, is_in_region, position_in, positions_of}
 use Rattle.meaning.specs.Satisfaction.{Interpretation, plain, sat}
 use Rattle.meaning.specs.Agreement.{Agree, SameStates}
@@ -118,7 +118,7 @@ factors_same : (h k : Trace) (x : Env) (t : ℕ) (factors : List RSigned) →
 factors_same h k x t [] same = refl
 factors_same h k x t (s ∷ factors) same =
     let first : factor_value h x t s ≡ factor_value k x t s =
-    ap (option_and_then (with_sign s.minus s.times))
+    ap (option_and_then (signed_value s.minus s.times))
     (unit_same h k x t s.unit (λ v has. same v (or_left (unit_has v s.unit) (list_any (λ r. unit_has v r.unit) factors) has))) in
     ap (λ value. value ∷ map (factor_value h x t) factors) first
     ∙ ap (λ values. factor_value k x t s ∷ values)

@@ -6,7 +6,7 @@ use Rattle.std.specs.Str.{bytes_eq}
 use Rattle.std.proofs.lemmas.Bool.{and_from, and_parts, cases_lt}
 use Rattle.std.proofs.lemmas.Bool.Decides.{nat_tests}
 use Rattle.fixed_point.specs.declared.number.TheConstants.{READ_LIMIT, SLOPE_LIMIT}
-use Rattle.motion.specs.Cells.{fresh, place_sets, set_named, written}
+use Rattle.motion.specs.Cells.{fresh, kind_of, place_sets, set_named, written}
 use Rattle.motion.specs.Dynamic.{Dynamic, value_at}
 use Rattle.motion.specs.Function.{Function, legs_rest, rest, rise}
 use Rattle.motion.specs.declared.cell.AttrKind.{AttrKind}
@@ -20,7 +20,7 @@ use Rattle.motion.specs.declared.cell.Place.{Place}
 use Rattle.history.specs.State.{attribute_names, inserted, updated}
 use Rattle.history.specs.Write.{Attribute}
 use Rattle.meaning.specs.Accepted.{are_given, is_given}
-use Rattle.meaning.specs.Reachable.{is_reachable, is_reached, is_slope, is_slow, kind_of}
+use Rattle.meaning.specs.Reachable.{is_reachable, is_reached, is_slope, is_slow}
 use Rattle.meaning.proofs.BoundLemmas.{Reached, reached, rise_near, sum_near}
 
 -- ---- one write

@@ -13,6 +13,7 @@ use Rattle.exact.proofs.Lists.{bytes_eq_true}
 use Rattle.motion.specs.declared.cell.Cell.{Cell}
 use Rattle.motion.specs.declared.cell.NamedSet.{NamedSet}
 use Rattle.motion.specs.declared.cell.Place.{Place}
+use Rattle.motion.specs.Cells.{kind_of}
 use Rattle.history.specs.Catalog.{catalog, Catalog, ClassInfo, ObjectInfo, attributes_of_class, catalog_after, class_of, empty_catalog, has_object, number_of_class, object_of, with_coordinates, with_new_object}
 use Rattle.history.specs.History.{cells_at, history}
 use Rattle.history.specs.State.{SoFar, after_write, attributes_of_object, cells_after_write, inserted, state, updated}
@@ -20,7 +21,7 @@ use Rattle.history.proofs.HistoryLemmas.{told_catalog}
 use Rattle.history.proofs.LawLemmas.{names_apart}
 use Rattle.history.specs.Write.{Attribute, Write, Class, Insert, Remove, Update}
 use Rattle.meaning.specs.Accepted.{are_accepted, are_given, is_accepted, is_own_class, tick_after}
-use Rattle.meaning.specs.Reachable.{IsReachable, is_reachable, kind_of}
+use Rattle.meaning.specs.Reachable.{IsReachable, is_reachable}
 use Rattle.meaning.proofs.ReachLemmas.{cells_stay, inserted_has_kinds, inserted_is_reachable, updated_is_reachable, updated_keeps_kinds}
 
 no_value : {A B : Type 0} (x : B) → None ≡ Some x → A

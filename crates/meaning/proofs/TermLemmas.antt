@@ -13,6 +13,7 @@ use Rattle.fixed_point.specs.declared.variants.SubName.{SubName}
 use Rattle.tick_set.specs.declared.spans.TheConstants.{LAST_TICK}
 use Rattle.motion.specs.declared.cell.Cell.{Cell}
 use Rattle.motion.specs.declared.cell.Cell.TheVariants as cells
+use Rattle.motion.specs.Cells.{kind_of}
 use Rattle.history.specs.Catalog.{Catalog, ClassInfo}
 use Rattle.history.specs.Write.{Attribute}
 use Rattle.formula.specs.Bounds.{factor_bound, sub_bound, term_bound, unit_bound}
@@ -27,9 +28,9 @@ use Rattle.formula.specs.declared.value.Value.TheVariants as values
 use Rattle.formula.specs.declared.value.ValueKind.{ValueKind}
 use Rattle.formula.specs.declared.value.ValueKind.TheVariants.{Number, Text}
 use Rattle.meaning.specs.Fits.{class_of_variable, factor_kind, kind_beside, kind_of_parts, kind_of_sum, kind_with_sign, term_kind, unit_kind}
-use Rattle.meaning.specs.Reachable.{AreReachable, AreWithinBounds, IsReachable, is_reachable, kind_of}
+use Rattle.meaning.specs.Reachable.{AreReachable, AreWithinBounds, IsReachable, is_reachable}
 use Rattle.meaning.specs.Trace.{Trace}
-use Rattle.meaning.specs.Value.{attribute_bound, cell_in, cell_value, factor_value, part_at, part_value, plus, term_value, unit_value, with_sign}
+use Rattle.meaning.specs.Value.{attribute_bound, cell_in, cell_value, factor_value, part_at, part_value, plus, signed_value, term_value, unit_value}
 use Rattle.meaning.proofs.BoundLemmas.{cell_near, no_number, part_near}
 
 -- each number that it may be is within the bound
@@ -131,7 +132,7 @@ no_number_of : (o : Option Value) (s : List ℕ) (n : ℤ) → o ≡ Some (value
 no_number_of o s n text number = let is : values.Text s ≡ values.Num n = cc in no_number s n is
 
 factor_near : (minus : Bool) (times : Option ℕ) (value : Option Value) (bound : ℕ) → IsNear value bound →
-    IsNear (option_and_then (with_sign minus times) value) (unwrap_or times 1 * bound)
+    IsNear (option_and_then (signed_value minus times) value) (unwrap_or times 1 * bound)
 factor_near minus times None bound near n is = no_value (values.Num n) is
 factor_near minus times (Some (values.Num m)) bound near n is =
     let same : (if minus then neg_ℤ (pos (unwrap_or times 1) *ℤ m) else pos (unwrap_or times 1) *ℤ m) ≡ n = cc in

@@ -1,5 +1,5 @@
 -- Whether an atom holds at a tick.
-use Rattle.std.specs.Prelude.{ℕ, ℤ, Bool, false, not, Option, None, Some, option_map, option_and_then, List, [], ◌∷◌, slice_get}
+use Rattle.std.specs.Prelude.{ℕ, ℤ, Bool, false, not, Option, Some, option_map, option_and_then, List, [], ◌∷◌, slice_get}
 use Rattle.std.specs.Option.{option_map_or}
 use Rattle.case_table.specs.declared.compare.Op.{Op}
 use Rattle.fixed_point.specs.declared.number.Point.{Point}
@@ -11,17 +11,12 @@ use Rattle.geometry.specs.Region.{Region}
 use Rattle.motion.specs.Dynamic.{Dynamic, value_at}
 use Rattle.motion.specs.declared.cell.Cell.{Cell}
 use Rattle.motion.specs.declared.cell.Cell.TheVariants as cells
+use Rattle.motion.specs.Cells.{dynamic_of}
 use Rattle.formula.specs.declared.tree.RAtom.{RAtom}
 use Rattle.formula.specs.declared.tree.RAtom.TheVariants as atoms
 use Rattle.formula.specs.declared.value.Env.{Env}
 use Rattle.meaning.specs.Trace.{Trace}
 use Rattle.meaning.specs.Value.{cell_in, term_value, values_compare}
-
--- the dynamic attribute in a cell
-abbrev pub dynamic_of : Cell → Option Dynamic
-dynamic_of (cells.Num n) = None
-dynamic_of (cells.Text s) = None
-dynamic_of (cells.Dyn v) = Some v
 
 abbrev pub dynamic_in : Option (List Cell) → ℕ → Option Dynamic
 dynamic_in cells a = option_and_then dynamic_of (cell_in cells a)

@@ -15,37 +15,34 @@ use Rattle.formula.specs.declared.tree.RAtom.TheVariants as atoms
 use Rattle.formula.specs.declared.tree.RTerm.{RTerm}
 use Rattle.formula.specs.declared.tree.RUnit.{RUnit}
 use Rattle.formula.specs.declared.tree.RUnit.TheVariants as units
-use Rattle.formula.specs.Example.{plus}
+use Rattle.formula.specs.Example.{plus_factor}
 use Rattle.formula.specs.Tree.{ResolvedQuery, ResolvedTree}
 use Rattle.meaning.specs.Answer.{Row}
 
 -- a number of whole units in thousandths
-abbrev pub whole : ℕ → ℤ
-whole n = pos (1000 * n)
+abbrev pub whole_units : ℕ → ℤ
+whole_units n = pos (1000 * n)
 
 abbrev pub at_point : ℕ → ℕ → Point
-at_point x y = record { x = whole x; y = whole y }
+at_point x y = record { x = whole_units x; y = whole_units y }
 
 -- one leg of so many units a tick
 abbrev pub speed : ℕ → Function
-speed n = record { firsts = []; last = whole n }
+speed n = record { firsts = []; last = whole_units n }
 
 -- an attribute of a class, and what is written to it
 abbrev pub attribute : List ℕ → AttrKind → Attribute
 attribute name kind = record { name = name; kind = kind }
 
-abbrev pub setting : List ℕ → Given → NamedSet
-setting name given = record { name = name; given = given }
+abbrev pub named_setting : List ℕ → Given → NamedSet
+named_setting name given = record { name = name; given = given }
 
-abbrev pub nowhere : Place
-nowhere = record { at = None; moving = None }
-
-abbrev pub standing : ℕ → ℕ → Place
-standing x y = record { at = Some (at_point x y); moving = None }
+abbrev pub standing_at : ℕ → ℕ → Place
+standing_at x y = record { at = Some (at_point x y); moving = None }
 
 -- along x
-abbrev pub moving : Function → Place
-moving f = record { at = None; moving = Some (f, level) }
+abbrev pub moving_along : Function → Place
+moving_along f = record { at = None; moving = Some (f, level) }
 
 abbrev pub car_class : Write
 car_class = Class (codes "car") 100 true []
@@ -68,32 +65,32 @@ square_region = record {
       ∷ [];
 }
 
-abbrev pub world : List Write → World
-world writes = world_of writes (square_region ∷ [])
+abbrev pub world_with_square : List Write → World
+world_with_square writes = world_of writes (square_region ∷ [])
 
 abbrev pub alone : RUnit → RTerm
-alone unit = record { factors = plus unit ∷ [] }
+alone unit = record { factors = plus_factor unit ∷ [] }
 
 -- a dynamic attribute of the first variable, and a text of it
 abbrev pub dynamic : ℕ → RUnit
 dynamic a = units.Attr 0 a (pos 1001000000000000)
 
-abbrev pub text_of : ℕ → RTerm
-text_of a = alone (units.Attr 0 a (pos 0))
+abbrev pub text_attribute : ℕ → RTerm
+text_attribute a = alone (units.Attr 0 a (pos 0))
 
-abbrev pub literal : ℕ → RTerm
-literal n = alone (units.Literal (whole n))
+abbrev pub literal_term : ℕ → RTerm
+literal_term n = alone (units.Literal (whole_units n))
 
 abbrev pub compare : RTerm → Op → RTerm → ResolvedTree
 compare q op r = shapes.Atom (atoms.Compare q op r)
 
 -- TIME op a number
 abbrev pub time : Op → ℕ → ResolvedTree
-time op n = compare (alone units.Time) op (literal n)
+time op n = compare (alone units.Time) op (literal_term n)
 
 -- RETRIEVE o FROM car o WHERE f
-abbrev pub query : ResolvedTree → ResolvedQuery
-query f = record { targets = 0 ∷ []; classes = 0 ∷ []; formula = f }
+abbrev pub car_query : ResolvedTree → ResolvedQuery
+car_query f = record { targets = 0 ∷ []; classes = 0 ∷ []; formula = f }
 
 -- RETRIEVE o,n FROM car o,car n WHERE f
 abbrev pub pairs_query : ResolvedTree → ResolvedQuery

@@ -7,10 +7,8 @@ use Rattle.formula_shape.specs.Shape as shapes
 use Rattle.formula.specs.declared.tree.RAtom.TheVariants as atoms
 use Rattle.formula.specs.Reach.{counted, reach}
 use Rattle.formula.specs.Tree.{ResolvedTree}
-use Rattle.meaning.specs.ExampleParts.{alone, dynamic, time, whole}
-
-abbrev pub inside : ResolvedTree
-inside = shapes.Atom (atoms.Inside 0 0)
+use Rattle.meaning.specs.ExampleParts.{alone, dynamic, time, whole_units}
+use Rattle.meaning.specs.PlaceExample.{inside}
 
 -- EVENTUALLY_WITHIN 5 and ALWAYS_FOR 3
 abbrev pub within_five : ResolvedTree → ResolvedTree
@@ -23,8 +21,8 @@ pub record SeesAhead : Type 0 where
   pub comparison : reach (time Ge 3) ≡ Some 0
   pub region : reach inside ≡ Some 0
   pub no_region : reach (shapes.Atom (atoms.Outside 0 0)) ≡ Some 0
-  pub distance : reach (shapes.Atom (atoms.Dist 0 1 Le (whole 5))) ≡ Some 0
-  pub circle : reach (shapes.Atom (atoms.Sphere (whole 5) (0 ∷ 1 ∷ []))) ≡ Some 0
+  pub distance : reach (shapes.Atom (atoms.Dist 0 1 Le (whole_units 5))) ≡ Some 0
+  pub circle : reach (shapes.Atom (atoms.Sphere (whole_units 5) (0 ∷ 1 ∷ []))) ≡ Some 0
   pub constant : reach (shapes.Truth true) ≡ Some 0
   pub negation : reach (shapes.Not (shapes.Next inside)) ≡ Some 1
   pub next : reach (shapes.Next inside) ≡ Some 1

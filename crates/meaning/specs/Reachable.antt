@@ -4,10 +4,10 @@ use Rattle.std.specs.List.{list_all}
 use Rattle.fixed_point.specs.declared.number.TheConstants.{READ_LIMIT, SLOPE_LIMIT}
 use Rattle.motion.specs.Dynamic.{Dynamic}
 use Rattle.motion.specs.Function.{Function}
-use Rattle.motion.specs.declared.cell.AttrKind.{AttrKind}
 use Rattle.motion.specs.declared.cell.AttrKind.TheVariants as kinds
 use Rattle.motion.specs.declared.cell.Cell.{Cell}
 use Rattle.motion.specs.declared.cell.Cell.TheVariants as cells
+use Rattle.motion.specs.Cells.{kind_of}
 use Rattle.history.specs.Catalog.{Catalog, ClassInfo}
 use Rattle.history.specs.Write.{Attribute}
 use Rattle.formula.specs.declared.value.Env.{Env}
@@ -16,11 +16,6 @@ use Rattle.formula.specs.Resolved.{Scope}
 use Rattle.formula.specs.Value.{value_in}
 use Rattle.meaning.specs.Fits.{class_of_variable}
 use Rattle.meaning.specs.Trace.{Trace}
-
-abbrev pub kind_of : Cell → AttrKind
-kind_of (cells.Num n) = kinds.Num
-kind_of (cells.Text s) = kinds.Text
-kind_of (cells.Dyn v) = kinds.Dyn
 
 abbrev pub is_slope : ℤ → Bool
 is_slope n = nat_le (unsigned_abs n) SLOPE_LIMIT

@@ -63,15 +63,15 @@ unit_value h x (units.Sub v a part) t = option_and_then (λ cell. part_value par
 unit_value h x units.Time t = Some (values.Num (pos (1000 * t)))
 
 -- a value with the sign and the multiplier of its factor, of which a text takes neither
-abbrev pub with_sign : Bool → Option ℕ → Value → Option Value
-with_sign minus times (values.Num n) =
+abbrev pub signed_value : Bool → Option ℕ → Value → Option Value
+signed_value minus times (values.Num n) =
     let multiple = pos (unwrap_or times 1) *ℤ n in
     Some (values.Num (if minus then neg_ℤ multiple else multiple))
-with_sign false None (values.Text s) = Some (values.Text s)
-with_sign minus times (values.Text s) = None
+signed_value false None (values.Text s) = Some (values.Text s)
+signed_value minus times (values.Text s) = None
 
 abbrev pub factor_value : Trace → Env → ℕ → RSigned → Option Value
-factor_value h x t s = option_and_then (with_sign s.minus s.times) (unit_value h x s.unit t)
+factor_value h x t s = option_and_then (signed_value s.minus s.times) (unit_value h x s.unit t)
 
 -- two numbers have a sum, and nothing else has
 abbrev pub plus : Option Value → Option Value → Option Value

@@ -5,7 +5,7 @@ use Rattle.std.specs.List.{list_all}
 use Rattle.std.proofs.lemmas.List.{drop-replicate, length-replicate}
 use Rattle.std.proofs.Math.Seq.{drop-append_seam, take-append_seam, take-length}
 use Rattle.motion.specs.Function.{are_firsts, is_length_of, shortened, IsPassed}
-use Rattle.motion.specs.Padding.{padded, IsStored}
+use Rattle.motion.specs.Padding.{padded_legs, IsStored}
 
 -- shortening keeps the number of legs
 pub length-shortened : (legs : List (ℤ × ℕ)) (passed : ℕ) → length (shortened legs passed) ≡ length legs
@@ -16,14 +16,14 @@ length-shortened (leg ∷ legs) passed = refl
 pub few_firsts : (firsts : List (ℤ × ℕ)) → IsTrue (are_firsts firsts) → length firsts ≤ 7
 few_firsts firsts legs = grind arith
 
-pub take_padded : (firsts : List (ℤ × ℕ)) → take (length firsts) (padded firsts) ≡ firsts
+pub take_padded : (firsts : List (ℤ × ℕ)) → take (length firsts) (padded_legs firsts) ≡ firsts
 take_padded firsts = take-append_seam firsts _
 
 -- legs over an array of unused places
-pub over_unused : (firsts unused : List (ℤ × ℕ)) → unused ≡ replicate 7 (pos 0, 0) → firsts ++ drop (length firsts) unused ≡ padded firsts
+pub over_unused : (firsts unused : List (ℤ × ℕ)) → unused ≡ replicate 7 (pos 0, 0) → firsts ++ drop (length firsts) unused ≡ padded_legs firsts
 over_unused firsts unused are = ap (λ places. firsts ++ places) (ap (drop (length firsts)) are ∙ drop-replicate (length firsts) 7 (pos 0, 0))
 
-pub padded_is_stored : (firsts : List (ℤ × ℕ)) → IsTrue (are_firsts firsts) → IsStored (padded firsts) (length firsts)
+pub padded_is_stored : (firsts : List (ℤ × ℕ)) → IsTrue (are_firsts firsts) → IsStored (padded_legs firsts) (length firsts)
 padded_is_stored firsts legs =
     let few : length firsts ≤ 7 = few_firsts firsts legs in
     record {
@@ -36,7 +36,7 @@ padded_is_stored firsts legs =
     }
 
 -- shortening the first leg of an array shortens the first of the legs in it
-pub shortened_padded : (firsts : List (ℤ × ℕ)) (passed : ℕ) → IsPassed firsts passed → 0 < length firsts → shortened (padded firsts) passed ≡ padded (shortened firsts passed)
+pub shortened_padded : (firsts : List (ℤ × ℕ)) (passed : ℕ) → IsPassed firsts passed → 0 < length firsts → shortened (padded_legs firsts) passed ≡ padded_legs (shortened firsts passed)
 shortened_padded [] passed p some = absurd (omega arith)
 shortened_padded (leg ∷ legs) passed p some = refl
 
@@ -60,7 +60,7 @@ range_is_drop : (legs : List (ℤ × ℕ)) (n : ℕ) → n ≤ length legs → t
 range_is_drop legs n h = rw (← length-drop n legs) (take-length (drop n legs))
 
 -- what is left of the legs that a function may have is stored as legs that a function may have
-pub rest_is_stored : (firsts : List (ℤ × ℕ)) (ended passed : ℕ) (places : List (ℤ × ℕ)) → IsTrue (are_firsts firsts) → ended ≤ length firsts → IsPassed (drop ended firsts) passed → places ≡ padded (shortened (take (length firsts - ended) (drop ended firsts)) passed) → IsStored places (length (take (length firsts - ended) (drop ended firsts)))
+pub rest_is_stored : (firsts : List (ℤ × ℕ)) (ended passed : ℕ) (places : List (ℤ × ℕ)) → IsTrue (are_firsts firsts) → ended ≤ length firsts → IsPassed (drop ended firsts) passed → places ≡ padded_legs (shortened (take (length firsts - ended) (drop ended firsts)) passed) → IsStored places (length (take (length firsts - ended) (drop ended firsts)))
 rest_is_stored firsts ended passed places legs within p are =
     rw (are, range_is_drop firsts ended within, ← length-shortened (drop ended firsts) passed)
     (padded_is_stored (shortened (drop ended firsts) passed) (are_firsts_shortened (drop ended firsts) passed (are_firsts_drop firsts ended legs) p))

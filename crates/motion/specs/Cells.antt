@@ -4,7 +4,7 @@ use Rattle.std.specs.List.{fold}
 use Rattle.std.specs.Option.{option_map}
 use Rattle.std.specs.Str.{bytes_eq}
 use Rattle.motion.specs.Function.{Function, level}
-use Rattle.motion.specs.Dynamic.{moved, turned, begun, turns_at}
+use Rattle.motion.specs.Dynamic.{moved, turned, begun, turns_at, Dynamic}
 use Rattle.fixed_point.specs.declared.number.TheConstants.{READ_LIMIT}
 use Rattle.motion.specs.declared.cell.AttrKind.{AttrKind}
 use Rattle.motion.specs.declared.cell.Cell.{Cell}
@@ -47,6 +47,18 @@ set_named s (name ∷ names) [] set = []
 set_named s (name ∷ names) (cell ∷ cells) set =
     if bytes_eq name set.name then (written s cell set.given ∷ cells) else (cell ∷ set_named s names cells set)
 
+-- the kind of a cell
+abbrev pub kind_of : Cell → AttrKind
+kind_of (cells.Num n) = kinds.Num
+kind_of (cells.Text w) = kinds.Text
+kind_of (cells.Dyn v) = kinds.Dyn
+
+-- what moves in a cell, None where it rests
+abbrev pub dynamic_of : Cell → Option Dynamic
+dynamic_of (cells.Num n) = None
+dynamic_of (cells.Text w) = None
+dynamic_of (cells.Dyn v) = Some v
+
 -- whether a leg of the cell ends at a tick past its last write
 abbrev pub cell_turns : ℕ → Cell → Bool
 cell_turns t (cells.Num n) = false
@@ -70,6 +82,10 @@ abbrev pub place_sets : Place → List NamedSet
 place_sets place =
     setting_of (codes "x") (given_of (option_map (λ p. p.x) place.at) (option_map (λ m. m.0) place.moving))
     ++ setting_of (codes "y") (given_of (option_map (λ p. p.y) place.at) (option_map (λ m. m.1) place.moving))
+
+-- a place of which nothing is given
+abbrev pub nowhere : Place
+nowhere = record { at = None; moving = None }
 
 -- the cells after a command's writes at tick s, first those of its place and then its settings in their order
 abbrev pub cells_after : ℕ → List (List ℕ) → List Cell → Place → List NamedSet → List Cell

@@ -37,6 +37,6 @@ abbrev pub begun : ℕ → ℤ → Function → Dynamic
 begun s n f = record { value = n; updatetime = s; function = f }
 
 -- What updates can lead to: a given value is within 10^12 thousandths, and one that legs began at has moved by at most 10^6 a tick.
-pub record IsReachable (value : ℤ) (updatetime : ℕ) : Type 0 where
+pub record IsReachableValue (value : ℤ) (updatetime : ℕ) : Type 0 where
   pub tick : updatetime ≤ LAST_TICK
   pub near : unsigned_abs value ≤ READ_LIMIT + SLOPE_LIMIT * updatetime

@@ -4,8 +4,8 @@ use Rattle.exact.specs.Padded as exact
 use Rattle.motion.specs.declared.legs.TheConstants.{MOST_FIRSTS}
 use Rattle.motion.specs.Function.{are_firsts}
 
-abbrev pub padded : List (ℤ × ℕ) → List (ℤ × ℕ)
-padded = exact.padded (pos 0, 0) MOST_FIRSTS
+abbrev pub padded_legs : List (ℤ × ℕ) → List (ℤ × ℕ)
+padded_legs = exact.padded (pos 0, 0) MOST_FIRSTS
 
 -- an array is full, past the count it has places that aren't used alone, and before it legs that a function may have
 pub record IsStored (places : List (ℤ × ℕ)) (count : ℕ) : Type 0 where

@@ -87,8 +87,8 @@ pub record IsSteadyFor (asked : Asked) (epochs : List Epoch) (piece : Piece) : T
   pub in_force : (t : ℕ) → piece.span.lo ≤ t → t ≤ piece.span.hi → epoch_at epochs t ≡ slice_get epochs piece.epoch
   pub linear : (p : Epoch) → slice_get epochs piece.epoch ≡ Some p → AreSteadyFor asked p piece.span.lo piece.span.hi
 
-abbrev pub IsSteady : List Epoch → Piece → Type 0
-IsSteady epochs piece = IsSteadyFor which.All epochs piece
+abbrev pub IsSteadyPiece : List Epoch → Piece → Type 0
+IsSteadyPiece epochs piece = IsSteadyFor which.All epochs piece
 
 -- whether a tick is in one of the pieces
 abbrev pub pieces_have : List Piece → ℕ → Bool

@@ -1,7 +1,7 @@
 -- The timeline of an object: one epoch for each tick at which it was written, so that the recorded past stays.
 use Rattle.std.specs.Prelude.{◌≡◌, ℕ, ◌+◌, ◌-◌, ◌<◌, ◌≤◌, nat_lt, nat_le, Bool, false, All, IfSome, Option, None, Some, unwrap_or, option_and_then, List, [], ◌∷◌, ◌++◌, length, take, slice_get, if◌then◌else◌}
 use Rattle.std.specs.List.{filter, fold}
-use Rattle.std.specs.Option.{option_to_list}
+use Rattle.std.specs.Option.{option_map_or, option_to_list}
 use Rattle.tick_set.specs.declared.spans.TheConstants.{LAST_TICK}
 use Rattle.motion.specs.declared.cell.Cell.{Cell}
 use Rattle.motion.specs.Cells.{AreCellsAt}
@@ -27,6 +27,10 @@ state_at epochs t = option_and_then (λ p. p.cells) (epoch_at epochs t)
 abbrev pub put : List Epoch → Epoch → List Epoch
 put epochs p = filter (λ q. nat_lt q.from p.from) epochs ++ p ∷ []
 
+-- the tick from which on the last epoch is in force
+abbrev pub last_begun : List Epoch → ℕ
+last_begun epochs = option_map_or (λ p. p.from) (slice_get epochs (length epochs - 1)) 0
+
 -- the ticks at which the epochs begin are at least `low`, and each is past the one before
 abbrev pub IsRisingFrom : ℕ → List Epoch → Type 0
 IsRisingFrom low [] = Unit {0}
@@ -51,12 +55,12 @@ pub record IsEpoch (p : Epoch) : Type 0 where
   pub written : AreCellsAt (cells_of p) p.from
 
 -- the fields of an `Epoch` of the code as the record
-abbrev pub epoch_of : ℕ → Bool → List Cell → Epoch
-epoch_of from present cells = record { from = from; cells = if present then (Some cells) else None }
+abbrev pub epoch_with : ℕ → Bool → List Cell → Epoch
+epoch_with from present cells = record { from = from; cells = if present then (Some cells) else None }
 
 -- what holds of those fields: there are cells only where the object is present
 pub record AreEpochFields (from : ℕ) (present : Bool) (cells : List Cell) : Type 0 where
-  pub epoch : IsEpoch (epoch_of from present cells)
+  pub epoch : IsEpoch (epoch_with from present cells)
   pub absent : present ≡ false → cells ≡ []
 
 -- the timeline without its last epoch, which gives way to the one that it had replaced, where there is one

@@ -21,11 +21,11 @@ pub struct Epoch {
 }
 
 impl Model for Epoch {
-    ghost use Rattle.motion.specs.Timeline.{Epoch, AreEpochFields, epoch_of};
+    ghost use Rattle.motion.specs.Timeline.{Epoch, AreEpochFields, epoch_with};
 
     ghost Value = { Epoch };
 
-    ghost view = { λ e. epoch_of e.from e.present e.cells.items };
+    ghost view = { λ e. epoch_with e.from e.present e.cells.items };
 
     ghost invariant = { λ e. AreEpochFields e.from e.present e.cells.items };
 }

@@ -4,7 +4,7 @@ ghost use Rattle.std.specs.List.{list_all};
 ghost use Rattle.fixed_point.specs.declared.number.TheConstants.{SLOPE_LIMIT};
 ghost use Rattle.tick_set.specs.declared.spans.TheConstants.{LAST_TICK};
 ghost use Rattle.motion.specs.Function.{are_firsts, is_length_of, legs_rise, legs_rest, rise, slope, rest, leg_ends, IsNextTurn, shortened, IsPassed};
-ghost use Rattle.motion.specs.Padding.{padded};
+ghost use Rattle.motion.specs.Padding.{padded_legs};
 
 use fixed_point::Slope;
 use std::marker::Model;
@@ -31,7 +31,7 @@ impl Model for Legs {
     ghost use Rattle.std.specs.Prelude.{take, length};
     ghost use Rattle.motion.specs.Function.{Function};
     ghost use Rattle.std.specs.Prelude.{pos};
-    ghost use Rattle.motion.specs.Padding.{IsStored, padded};
+    ghost use Rattle.motion.specs.Padding.{IsStored, padded_legs};
     ghost use Rattle.motion.specs.declared.legs.TheConstants.{MOST_FIRSTS};
     ghost use Rattle.exact.proofs.PaddedLemmas.{length-front, padded-front};
 
@@ -41,7 +41,7 @@ impl Model for Legs {
 
     ghost invariant = { λ a. IsStored a.firsts a.count };
 
-    ghost inverse = { λ f. record { firsts = padded f.firsts; last = f.last; count = length f.firsts } };
+    ghost inverse = { λ f. record { firsts = padded_legs f.firsts; last = f.last; count = length f.firsts } };
 
     ghost inverse_ok = { λ a h i. record {
       firsts = padded-front (pos 0, 0) MOST_FIRSTS a.firsts a.count h.in_front i;
@@ -146,7 +146,7 @@ impl Legs {
 /// These legs in the front of an array.
 fn laid(firsts: &[(Slope, u32)]) -> [(Slope, u32); MOST_FIRSTS]
     requires { length firsts.now ≤ MOST_FIRSTS }
-    ensures { result ≡ padded firsts.now }
+    ensures { result ≡ padded_legs firsts.now }
 {
     let mut places = unused();
     places[..firsts.len()].copy_from_slice(firsts);
@@ -157,7 +157,7 @@ fn laid(firsts: &[(Slope, u32)]) -> [(Slope, u32); MOST_FIRSTS]
 fn laid_from(firsts: &[(Slope, u32)], passed: u32) -> [(Slope, u32); MOST_FIRSTS]
     requires few { length firsts.now ≤ MOST_FIRSTS }
     requires passed { IsPassed firsts.now passed }
-    ensures { result ≡ padded (shortened firsts.now passed) }
+    ensures { result ≡ padded_legs (shortened firsts.now passed) }
 {
     let mut places = laid(firsts);
     if firsts.is_empty() {

@@ -5,7 +5,7 @@ ghost use Rattle.std.specs.Option.{option_copied, option_map_or};
 ghost use Rattle.tick_set.specs.declared.spans.TheConstants.{LAST_TICK};
 ghost use Rattle.motion.specs.Cells.{AreCellsAt, IsCellAt, cell_turns};
 ghost use Rattle.motion.specs.Timeline.{Epoch, AreBegunUpTo, IsRising};
-ghost use Rattle.motion.specs.Pieces.{legs_end, ArePieces, ArePiecesFrom, IsFirstOrEnd, IsPieceFor, IsSteady, IsSteadyFor};
+ghost use Rattle.motion.specs.Pieces.{legs_end, ArePieces, ArePiecesFrom, IsFirstOrEnd, IsPieceFor, IsSteadyPiece, IsSteadyFor};
 
 use crate::asked::Asked;
 use crate::cell::Cell;
@@ -33,7 +33,7 @@ pub fn begun_count(epochs: &[Epoch], t: u32) -> usize
 pub fn pieces(alloc: Global, epochs: &[Epoch], w: Window) -> Result<Vec<Piece>, AllocError>
     requires { IsRising epochs.now }
     ensures pieces { IfOk result (λ v. ArePieces epochs.now w.lo w.hi v.items) }
-    ensures steady { IfOk result (λ v. All (IsSteady epochs.now) v.items) }
+    ensures steady { IfOk result (λ v. All (IsSteadyPiece epochs.now) v.items) }
 {
     match epochs.first() {
         Some(first) => pieces_from(alloc, epochs, w.lo.max(first.from()), w.hi),
@@ -53,7 +53,7 @@ fn pieces_from(
     requires begun { IfSome (slice_get epochs.now 0) (λ p. p.from ≤ start) }
     requires tick { last ≤ LAST_TICK }
     ensures pieces { IfOk result (λ v. ArePiecesFrom epochs.now start last v.items) }
-    ensures steady { IfOk result (λ v. All (IsSteady epochs.now) v.items) }
+    ensures steady { IfOk result (λ v. All (IsSteadyPiece epochs.now) v.items) }
 {
     let mut made = Vec::new(alloc);
     let mut at = start;

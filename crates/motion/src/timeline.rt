@@ -7,7 +7,7 @@ ghost use Rattle.tick_set.specs.Ticks.{within};
 ghost use Rattle.motion.specs.Cells.{AreCellsAt, AreChanges, changed};
 ghost use Rattle.motion.specs.Timeline.{Epoch, put, epoch_at, state_at, restored, AreBegunBy, AreBegunUpTo, IsRising, IsEpoch, StandsAsLeft, TakesBack};
 ghost use Rattle.motion.specs.Straight.{IsStraightOf, tells_line};
-ghost use Rattle.motion.specs.Pieces.{ArePieces, IsPiece, IsPieceFor, IsSteady, IsSteadyFor, pieces_have};
+ghost use Rattle.motion.specs.Pieces.{ArePieces, IsPiece, IsPieceFor, IsSteadyFor, IsSteadyPiece, pieces_have};
 
 use crate::asked::Asked;
 use crate::cell::{Cell, Given};
@@ -208,7 +208,7 @@ impl Timeline {
     /// leg of a dynamic attribute ends. Ticks before the first epoch are in none.
     pub fn pieces(&self, alloc: Global, w: Window) -> Result<Vec<Piece>, AllocError>
         ensures pieces { IfOk result (λ v. ArePieces self.now w.lo w.hi v.items) }
-        ensures steady { IfOk result (λ v. All (IsSteady self.now) v.items) }
+        ensures steady { IfOk result (λ v. All (IsSteadyPiece self.now) v.items) }
         ensures cover { IfOk result
             (λ v. (t : ℕ) → pieces_have v.items t ≡ (within w.lo w.hi t && is_some (epoch_at self.now t))) }
     {
@@ -221,7 +221,7 @@ impl Timeline {
         requires order { at ≤ last }
         requires tick { last ≤ LAST_TICK }
         ensures piece { IfSome result (IsPiece self.now at last) }
-        ensures steady { IfSome result (IsSteady self.now) }
+        ensures steady { IfSome result (IsSteadyPiece self.now) }
         ensures none { IfNone result (epoch_at self.now at ≡ None) }
         ensures rising { IsRising self.now }
     {

@@ -2,7 +2,7 @@
 ghost use Rattle.std.specs.Prelude.{◌≡◌, ℕ, ◌<◌, ◌≤◌, ◌+◌, ◌*◌, false, IfNone, IfSome, unsigned_abs};
 ghost use Rattle.fixed_point.specs.declared.number.TheConstants.{READ_LIMIT, SLOPE_LIMIT};
 ghost use Rattle.tick_set.specs.declared.spans.TheConstants.{LAST_TICK};
-ghost use Rattle.motion.specs.Dynamic.{begun, moved, turned, value_at, slope_at, turns_at, IsReachable};
+ghost use Rattle.motion.specs.Dynamic.{begun, moved, turned, value_at, slope_at, turns_at, IsReachableValue};
 ghost use Rattle.motion.specs.Function.{IsNextTurn};
 
 use crate::legs::Legs;
@@ -21,13 +21,13 @@ pub struct Vector {
 }
 
 impl Model for Vector {
-    ghost use Rattle.motion.specs.Dynamic.{Dynamic, IsReachable};
+    ghost use Rattle.motion.specs.Dynamic.{Dynamic, IsReachableValue};
 
     ghost Value = { Dynamic };
 
     ghost view = { λ a. record { value = a.value; updatetime = a.updatetime; function = a.function } };
 
-    ghost invariant = { λ a. IsReachable a.value a.updatetime };
+    ghost invariant = { λ a. IsReachableValue a.value a.updatetime };
 
     ghost inverse = { λ v. record { value = v.value; updatetime = v.updatetime; function = v.function } };
 }
@@ -35,7 +35,7 @@ impl Model for Vector {
 impl Vector {
     /// A value and legs that begin at tick `now`. The value is within 10^12 + 10^6 · now thousandths of 0.
     pub fn begun(now: u32, value: Fix, function: Legs) -> Vector
-        requires { IsReachable value now }
+        requires { IsReachableValue value now }
         ensures { result ≡ begun now value function }
     {
         Vector {
@@ -57,7 +57,7 @@ impl Vector {
     #[inline]
     pub fn updatetime(&self) -> u32
         ensures value { result ≡ self.now.updatetime }
-        ensures reachable { IsReachable self.now.value self.now.updatetime }
+        ensures reachable { IsReachableValue self.now.value self.now.updatetime }
     {
         self.updatetime
     }

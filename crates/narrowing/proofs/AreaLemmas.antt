@@ -17,17 +17,18 @@ use Rattle.geometry.specs.Region.{Region}
 use Rattle.motion.specs.Dynamic.{Dynamic, value_at}
 use Rattle.motion.specs.declared.cell.Cell.{Cell}
 use Rattle.motion.specs.declared.cell.Cell.TheVariants as cells
+use Rattle.motion.specs.Cells.{dynamic_of}
 use Rattle.formula.specs.declared.tree.RAtom.{RAtom}
 use Rattle.formula.specs.declared.tree.RAtom.TheVariants as atoms
 use Rattle.formula.specs.declared.tree.RTerm.{RTerm}
 use Rattle.formula.specs.declared.value.Value.{Value}
 use Rattle.formula.specs.declared.value.Value.TheVariants as values
-use Rattle.meaning.specs.Atom.{dynamic_of, place_by, position_in}
+use Rattle.meaning.specs.Atom.{place_by, position_in}
 use Rattle.meaning.specs.Value.{cell_in, cell_value, term_value, values_compare}
 use Rattle.object_store.specs.declared.areas.Area.{Area}
 use Rattle.object_store.specs.declared.areas.Sides.{Sides}
-use Rattle.object_store.specs.Areas.{is_between, is_cell_between, is_in_area}
-use Rattle.polygon.specs.Bounds.{is_among}
+use Rattle.object_store.specs.Areas.{is_between_sides, is_cell_between, is_in_area}
+use Rattle.polygon.specs.Bounds.{is_in_box}
 use Rattle.worlds.specs.Blurred.{is_in_region_by}
 use Rattle.worlds.specs.Inside.{is_possibly_inside}
 use Rattle.narrowing.specs.Covering.{Covers, area_beside, open_sides}
@@ -35,13 +36,13 @@ use Rattle.narrowing.specs.Terms.{IsConstant, IsCoordinate}
 
 -- ---- INSIDE
 
-module _ (test : Point → Bool) (area : Area) (along_x : (p : Point) → test p ≡ true → is_between area.x p.x ≡ true)
-    (along_y : (p : Point) → test p ≡ true → is_between area.y p.y ≡ true) (t : ℕ) where
-  by_places : (u v : Dynamic) → (is_between area.x (value_at u t) && is_between area.y (value_at v t)) ≡ false → test (point (value_at u t) (value_at v t)) ≡ false
+module _ (test : Point → Bool) (area : Area) (along_x : (p : Point) → test p ≡ true → is_between_sides area.x p.x ≡ true)
+    (along_y : (p : Point) → test p ≡ true → is_between_sides area.y p.y ≡ true) (t : ℕ) where
+  by_places : (u v : Dynamic) → (is_between_sides area.x (value_at u t) && is_between_sides area.y (value_at v t)) ≡ false → test (point (value_at u t) (value_at v t)) ≡ false
   by_places u v outside =
       let p : Point = point (value_at u t) (value_at v t) in
       false_from_ne_true (test p) (λ holds.
-      both_ways (is_between area.x p.x && is_between area.y p.y) outside (and_from (is_between area.x p.x) (is_between area.y p.y) (along_x p holds) (along_y p holds)))
+      both_ways (is_between_sides area.x p.x && is_between_sides area.y p.y) outside (and_from (is_between_sides area.x p.x) (is_between_sides area.y p.y) (along_x p holds) (along_y p holds)))
 
   by_cells : (first second : Option Cell) → (is_cell_between area.x t first && is_cell_between area.y t second) ≡ false →
       option_map_or test (place_by (option_and_then dynamic_of first) (option_and_then dynamic_of second) t) false ≡ false
@@ -69,8 +70,8 @@ region_points test (Some region) points p are = ap (λ (points : List Point). te
 
 pub region_covers : CornersStandTogether → (error : ℕ) (regions : List Region) (v n : ℕ) (points : List Point) (area : Area) →
     option_map (λ (r : Region). r.points) (slice_get regions n) ≡ Some points →
-    ((p : Point) → is_inside_by (neg_ℤ (pos error)) points p ≡ true → is_between area.x p.x ≡ true) →
-    ((p : Point) → is_inside_by (neg_ℤ (pos error)) points p ≡ true → is_between area.y p.y ≡ true) →
+    ((p : Point) → is_inside_by (neg_ℤ (pos error)) points p ≡ true → is_between_sides area.x p.x ≡ true) →
+    ((p : Point) → is_inside_by (neg_ℤ (pos error)) points p ≡ true → is_between_sides area.y p.y ≡ true) →
     Covers error regions v (atoms.Inside v n) area
 region_covers law error regions v n points area are along_x along_y h b x t outside =
     let by_margin : (p : Point) → is_in_region_by (is_possibly_inside error) regions n p ≡ is_inside_by (neg_ℤ (pos error)) points p =
@@ -96,7 +97,7 @@ greatest_side (Some m) n upto = passes n m upto
 
 pub between_sides : (least greatest low : Option ℤ) (test : Point → Bool) (of : Point → ℤ) → low ≡ option_map neg_ℤ least →
     IfSome least (λ m. (p : Point) → test p ≡ true → neg_ℤ (of p) ≤ℤ m) → IfSome greatest (λ m. (p : Point) → test p ≡ true → of p ≤ℤ m) →
-    (p : Point) → test p ≡ true → is_between (record { least = low; greatest = greatest }) (of p) ≡ true
+    (p : Point) → test p ≡ true → is_between_sides (record { least = low; greatest = greatest }) (of p) ≡ true
 between_sides least greatest low test of is below above p holds =
     and_from (option_map_or (λ least. int_le least (of p)) low true) (option_map_or (λ greatest. int_le (of p) greatest) greatest true)
     (ap (λ (low : Option ℤ). option_map_or (λ least. int_le least (of p)) low true) is ∙ least_side least (of p) (at_place least below))
@@ -115,19 +116,19 @@ between_sides least greatest low test of is below above p holds =
 abbrev pub from_to : ℤ → ℤ → Sides
 from_to least greatest = record { least = Some least; greatest = Some greatest }
 
-pub among_x : (least greatest p : Point) → is_among least greatest p ≡ true → is_between (from_to least.x greatest.x) p.x ≡ true
+pub among_x : (least greatest p : Point) → is_in_box least greatest p ≡ true → is_between_sides (from_to least.x greatest.x) p.x ≡ true
 among_x least greatest p among =
     let first = and_parts (int_le least.x p.x && int_le p.x greatest.x && int_le least.y p.y) (int_le p.y greatest.y) among in
     (and_parts (int_le least.x p.x && int_le p.x greatest.x) (int_le least.y p.y) first.0).0
 
-pub among_y : (least greatest p : Point) → is_among least greatest p ≡ true → is_between (from_to least.y greatest.y) p.y ≡ true
+pub among_y : (least greatest p : Point) → is_in_box least greatest p ≡ true → is_between_sides (from_to least.y greatest.y) p.y ≡ true
 among_y least greatest p among =
     let first = and_parts (int_le least.x p.x && int_le p.x greatest.x && int_le least.y p.y) (int_le p.y greatest.y) among in
     and_from (int_le least.y p.y) (int_le p.y greatest.y) (and_parts (int_le least.x p.x && int_le p.x greatest.x) (int_le least.y p.y) first.0).1 first.1
 
 -- where nothing is off, what is possibly inside is inside
 pub sides_exactly : ((points : List Point) (p : Point) → is_inside_by (pos 0) points p ≡ is_inside points p) → (error : ℕ) → error ≡ 0 → (points : List Point) (of : Point → ℤ) (sides : Sides) →
-    ((p : Point) → is_inside points p ≡ true → is_between sides (of p) ≡ true) → (p : Point) → is_inside_by (neg_ℤ (pos error)) points p ≡ true → is_between sides (of p) ≡ true
+    ((p : Point) → is_inside points p ≡ true → is_between_sides sides (of p) ≡ true) → (p : Point) → is_inside_by (neg_ℤ (pos error)) points p ≡ true → is_between_sides sides (of p) ≡ true
 sides_exactly law error none points of sides inside p holds =
     inside p (sym (law points p) ∙ subst (λ (n : ℕ). is_inside_by (neg_ℤ (pos n)) points p ≡ true) none holds)
 
@@ -148,14 +149,14 @@ right_fails true b holds fails = fails
 right_fails false b holds fails = absurd (false≢true holds)
 
 module _ (f : Option Value → Bool) (sides : Sides) (none : f None ≡ false)
-    (between : (n : ℤ) → f (Some (values.Num n)) ≡ true → is_between sides n ≡ true) (t : ℕ) where
+    (between : (n : ℤ) → f (Some (values.Num n)) ≡ true → is_between_sides sides n ≡ true) (t : ℕ) where
   by_cell : (cell : Option Cell) → is_cell_between sides t cell ≡ false → f (option_map (λ (cell : Cell). cell_value cell t) cell) ≡ false
   by_cell None outside = absurd (false≢true (sym outside))
   by_cell (Some (cells.Num n)) outside = absurd (false≢true (sym outside))
   by_cell (Some (cells.Text s)) outside = absurd (false≢true (sym outside))
   by_cell (Some (cells.Dyn v)) outside =
       false_from_ne_true (f (Some (values.Num (value_at v t)))) (λ holds.
-      both_ways (is_between sides (value_at v t)) outside (between (value_at v t) holds))
+      both_ways (is_between_sides sides (value_at v t)) outside (between (value_at v t) holds))
 
   pub outside_sides : (index : ℕ) → index < 2 → (there : Option (List Cell)) → is_in_area (area_beside index sides) t there ≡ false →
       f (option_map (λ (cell : Cell). cell_value cell t) (cell_in there index)) ≡ false
@@ -169,7 +170,7 @@ module _ (f : Option Value → Bool) (sides : Sides) (none : f None ≡ false)
   outside_sides (suc (suc index)) first (Some there) outside = absurd (omega (arith, first))
 
 pub compare_covers : (error : ℕ) (regions : List Region) (v index : ℕ) (left right : RTerm) (op : Op) (c : ℤ) (sides : Sides) →
-    index < 2 → IsCoordinate v index left → IsConstant c right → ((n : ℤ) → compares op n c ≡ true → is_between sides n ≡ true) →
+    index < 2 → IsCoordinate v index left → IsConstant c right → ((n : ℤ) → compares op n c ≡ true → is_between_sides sides n ≡ true) →
     Covers error regions v (atoms.Compare left op right) (area_beside index sides)
 compare_covers error regions v index left right op c sides first coordinate constant between h b x t outside =
     ap (λ (value : Option Value). values_compare op value (term_value h right x t)) (coordinate h x t)
@@ -177,7 +178,7 @@ compare_covers error regions v index left right op c sides first coordinate cons
     ∙ outside_sides (λ (value : Option Value). values_compare op value (Some (values.Num c))) sides refl between t index first (h v t) outside
 
 pub compared_covers : (error : ℕ) (regions : List Region) (v index : ℕ) (left right : RTerm) (op : Op) (c : ℤ) (sides : Sides) →
-    index < 2 → IsCoordinate v index right → IsConstant c left → ((n : ℤ) → compares op c n ≡ true → is_between sides n ≡ true) →
+    index < 2 → IsCoordinate v index right → IsConstant c left → ((n : ℤ) → compares op c n ≡ true → is_between_sides sides n ≡ true) →
     Covers error regions v (atoms.Compare left op right) (area_beside index sides)
 compared_covers error regions v index left right op c sides first coordinate constant between h b x t outside =
     ap (λ (value : Option Value). values_compare op value (term_value h right x t)) (constant h x t)

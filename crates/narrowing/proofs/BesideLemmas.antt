@@ -6,7 +6,7 @@ use Rattle.std.specs.List.Sorted.{IsStrictlyIncreasing}
 use Rattle.std.proofs.lemmas.Bool.{false≢true, and_parts, both_ways, cases_Bool}
 use Rattle.std.proofs.lemmas.Bool.Decides.{nat_tests}
 use Rattle.std.proofs.lemmas.Int.{ints}
-use Rattle.case_table.specs.Comparison.{sign_holds}
+use Rattle.case_table.specs.Comparison.{is_at_most, sign_holds}
 use Rattle.case_table.specs.declared.compare.Op.{Op}
 use Rattle.case_table.specs.declared.compare.Op.TheVariants.{Lt, Le, Eq, Ne, Ge, Gt}
 use Rattle.exact.proofs.Ring.{part, number, sum, difference, product, same}
@@ -17,21 +17,22 @@ use Rattle.history.specs.History.{cells_at}
 use Rattle.formula.specs.declared.tree.RAtom.{RAtom}
 use Rattle.formula.specs.declared.tree.RAtom.TheVariants as atoms
 use Rattle.formula_shape.specs.Shape as shapes
-use Rattle.meaning.specs.Atom.{dynamic_of, place_by, position_in}
+use Rattle.meaning.specs.Atom.{place_by, position_in}
 use Rattle.meaning.specs.Trace.{trace_of}
 use Rattle.motion.specs.Dynamic.{Dynamic, value_at}
 use Rattle.motion.specs.declared.cell.Cell.{Cell}
 use Rattle.motion.specs.declared.cell.Cell.TheVariants as cells
+use Rattle.motion.specs.Cells.{dynamic_of}
 use Rattle.object_store.specs.declared.areas.Area.{Area}
 use Rattle.object_store.specs.declared.areas.Sides.{Sides}
-use Rattle.object_store.specs.Areas.{is_between, is_cell_between, is_in_area, is_told, AreNear}
+use Rattle.object_store.specs.Areas.{is_between_sides, is_cell_between, is_in_area, is_told, AreNear}
 use Rattle.object_store.specs.Contents.{Contents, history_of}
 use Rattle.relation.specs.Frames.{IsIn}
 use Rattle.relation.specs.Key.{has_id}
 use Rattle.worlds.specs.Apart.{farthest_square, least_apart, nearest_square, possibly_compares}
 use Rattle.worlds.specs.Blurred.{distance_holds_by, error_between}
 use Rattle.narrowing.specs.declared.scene.Scene.{Scene}
-use Rattle.narrowing.specs.Beside.{are_beside, is_at_most, is_close, AreBeside, AreDomainOf, AreFar, IsApart, IsGrown, IsGrownSides, IsWithNear, IsWithThose, NeedsBeside}
+use Rattle.narrowing.specs.Beside.{are_beside, is_close, AreBeside, AreDomainOf, AreFar, IsApart, IsGrown, IsGrownSides, IsWithNear, IsWithThose, NeedsBeside}
 use Rattle.narrowing.specs.Holding.{AreLost, FailsWith}
 use Rattle.narrowing.specs.Needed.{AreNeeded, CannotHoldIn}
 use Rattle.narrowing.proofs.FailLemmas.{not_possible}
@@ -222,16 +223,16 @@ absent_apart most t there None told = told_apart most (position_in t there)
 absent_apart most t there (Some cells) told = absurd (false≢true told)
 
 module _ (most : ℤ) (area grown : Area) (is : IsGrown most area grown) (t : ℕ) where
-  by_values : (u v m n : Dynamic) → (is_between grown.x (value_at u t) && is_between grown.y (value_at v t)) ≡ false →
-      (is_between area.x (value_at m t) && is_between area.y (value_at n t)) ≡ true →
+  by_values : (u v m n : Dynamic) → (is_between_sides grown.x (value_at u t) && is_between_sides grown.y (value_at v t)) ≡ false →
+      (is_between_sides area.x (value_at m t) && is_between_sides area.y (value_at n t)) ≡ true →
       (is_close most (value_at u t) (value_at m t) && is_close most (value_at v t) (value_at n t)) ≡ false
   by_values u v m n outside told =
-      let both = and_parts (is_between area.x (value_at m t)) (is_between area.y (value_at n t)) told in
-      elim (cases_Bool (is_between grown.x (value_at u t))) [
+      let both = and_parts (is_between_sides area.x (value_at m t)) (is_between_sides area.y (value_at n t)) told in
+      elim (cases_Bool (is_between_sides grown.x (value_at u t))) [
         | inr past ↦ ap (λ b. b && is_close most (value_at v t) (value_at n t)) (is.x (value_at u t) (value_at m t) both.0 past)
         | inl within ↦
             ap (λ b. is_close most (value_at u t) (value_at m t) && b)
-            (is.y (value_at v t) (value_at n t) both.1 (ap (λ b. b && is_between grown.y (value_at v t)) (sym within) ∙ outside))
+            (is.y (value_at v t) (value_at n t) both.1 (ap (λ b. b && is_between_sides grown.y (value_at v t)) (sym within) ∙ outside))
             ∙ never (is_close most (value_at u t) (value_at m t))
       ]
     where
@@ -239,7 +240,7 @@ module _ (most : ℤ) (area grown : Area) (is : IsGrown most area grown) (t : �
       never true = refl
       never false = refl
 
-  by_others : (u v : Dynamic) (first second : Option Cell) → (is_between grown.x (value_at u t) && is_between grown.y (value_at v t)) ≡ false →
+  by_others : (u v : Dynamic) (first second : Option Cell) → (is_between_sides grown.x (value_at u t) && is_between_sides grown.y (value_at v t)) ≡ false →
       (is_cell_between area.x t first && is_cell_between area.y t second) ≡ true →
       are_beside most (Some (point (value_at u t) (value_at v t))) (place_by (option_and_then dynamic_of first) (option_and_then dynamic_of second) t) ≡ false
   by_others u v None second outside told = refl

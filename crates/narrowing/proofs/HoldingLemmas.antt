@@ -13,7 +13,7 @@ use Rattle.object_store.specs.Areas.{is_in_area}
 use Rattle.object_store.specs.declared.areas.Area.{Area}
 use Rattle.object_store.specs.Contents.{Contents, history_of}
 use Rattle.relation.specs.Frames.{IsIn}
-use Rattle.relation.specs.Key.{has_id, ids_of}
+use Rattle.relation.specs.Key.{has_id, ids_of_variable}
 use Rattle.narrowing.specs.Covering.{Covers}
 use Rattle.worlds.specs.Between.{LiesBetween}
 use Rattle.narrowing.specs.declared.scene.Scene.{Scene}
@@ -39,7 +39,7 @@ lost_to_end Lost ids (x ∷ rest) none are = absurd (omega (arith, none))
 
 module _ (a : Scene) (v : ℕ) where
   -- a variable has one of its own
-  pub all_lost : (f : ResolvedTree) (own : List ℕ) → v < length a.domains.now → own ≡ ids_of a.domains.now v → AreLost (FailsWith a v f) own [] → CanHoldNowhere a f
+  pub all_lost : (f : ResolvedTree) (own : List ℕ) → v < length a.domains.now → own ≡ ids_of_variable a.domains.now v → AreLost (FailsWith a v f) own [] → CanHoldNowhere a f
   all_lost f own within same lost b is_in = lost (b v) (ap (λ ids. has_id ids (b v)) same ∙ is_in v within) refl b is_in refl
 
 -- what is told where nothing is off is possible

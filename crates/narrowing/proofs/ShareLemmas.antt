@@ -11,7 +11,7 @@ use Rattle.object_store.specs.Contents.{Contents, ids_in}
 use Rattle.object_store.specs.Searching.{AreFrom, IsSearched}
 use Rattle.object_store.proofs.AreaLemmas.{increasing}
 use Rattle.object_store.proofs.IdLemmas.{ids-told}
-use Rattle.relation.specs.Key.{has_id, ids_of}
+use Rattle.relation.specs.Key.{has_id, ids_of_variable}
 use Rattle.narrowing.specs.declared.scene.Scene.{Scene}
 use Rattle.narrowing.specs.Holding.{FailsWith}
 use Rattle.narrowing.specs.Narrowed.{AreOfClasses, IsShare, Suffice, SufficeSoFar, SufficeWithin}
@@ -28,11 +28,11 @@ not_both false c is fails = refl
 
 module _ (a : Scene) (q : ResolvedQuery) where
   -- those of its own that the formula needs
-  pub share_of_needed : (v class : ℕ) (ids : List ℕ) → v < length a.domains.now → IsStrictlyIncreasing (ids_of a.domains.now v) → AreNeeded a class v q.formula ids →
-      ((id : ℕ) → has_id (ids_of a.domains.now v) id ≡ true → has_id (ids_in a.store.now.objects class) id ≡ true) →
-      IsShare a q v (filter (has_id (ids_of a.domains.now v)) ids)
+  pub share_of_needed : (v class : ℕ) (ids : List ℕ) → v < length a.domains.now → IsStrictlyIncreasing (ids_of_variable a.domains.now v) → AreNeeded a class v q.formula ids →
+      ((id : ℕ) → has_id (ids_of_variable a.domains.now v) id ≡ true → has_id (ids_in a.store.now.objects class) id ≡ true) →
+      IsShare a q v (filter (has_id (ids_of_variable a.domains.now v)) ids)
   share_of_needed v class ids within rise needed of_class =
-      let own : List ℕ = ids_of a.domains.now v in
+      let own : List ℕ = ids_of_variable a.domains.now v in
       let up : IsStrictlyIncreasing (filter (has_id own) ids) = IsStrictlyIncreasing-filter (has_id own) ids needed.ascending in
       let among : (id : ℕ) → has_id (filter (has_id own) ids) id ≡ true → has_id own id ≡ true =
       λ id has. (and_parts (has_id ids id) (has_id own id) (sym (has-filter (has_id own) ids id) ∙ has)).1 in
@@ -46,57 +46,57 @@ module _ (a : Scene) (q : ResolvedQuery) where
       }
 
   -- those that weren't lost, of few that were looked at
-  pub share_of_few : (v : ℕ) (ids : List ℕ) → v < length a.domains.now → IsStrictlyIncreasing (ids_of a.domains.now v) →
-      IsSearched (FailsWith a v q.formula) (ids_of a.domains.now v) ids [] → IsShare a q v ids
+  pub share_of_few : (v : ℕ) (ids : List ℕ) → v < length a.domains.now → IsStrictlyIncreasing (ids_of_variable a.domains.now v) →
+      IsSearched (FailsWith a v q.formula) (ids_of_variable a.domains.now v) ids [] → IsShare a q v ids
   share_of_few v ids within rise searched =
       let same : ids ++ [] ≡ ids = append-nil ids in
       let up : IsStrictlyIncreasing ids = increasing 0 ids (subst (AreFrom 0) same searched.ascending) in
-      let among : (id : ℕ) → has_id ids id ≡ true → has_id (ids_of a.domains.now v) id ≡ true =
+      let among : (id : ℕ) → has_id ids id ≡ true → has_id (ids_of_variable a.domains.now v) id ≡ true =
       λ id has. searched.among id (ap (λ all. has_id all id) same ∙ has) in
       record {
         ascending = up;
         among = among;
-        fewer = no_more ids (ids_of a.domains.now v) up rise among;
+        fewer = no_more ids (ids_of_variable a.domains.now v) up rise among;
         sound = λ b is_in lacking. searched.lost (b v) (is_in v within) (ap (λ all. has_id all (b v)) same ∙ lacking) b is_in refl;
       }
 
   -- all of its own
-  pub whole_share : (v : ℕ) → v < length a.domains.now → IsStrictlyIncreasing (ids_of a.domains.now v) → IsShare a q v (ids_of a.domains.now v)
+  pub whole_share : (v : ℕ) → v < length a.domains.now → IsStrictlyIncreasing (ids_of_variable a.domains.now v) → IsShare a q v (ids_of_variable a.domains.now v)
   whole_share v within up = record {
     ascending = up;
     among = λ id has. has;
     fewer = omega arith;
-    sound = λ b is_in lacking. absurd (both_ways (has_id (ids_of a.domains.now v) (b v)) lacking (is_in v within));
+    sound = λ b is_in lacking. absurd (both_ways (has_id (ids_of_variable a.domains.now v) (b v)) lacking (is_in v within));
   }
 
   -- ---- one variable more
 
-  in_front : (some : List (List ℕ)) (ids : List ℕ) (v : ℕ) → v < length some → ids_of (some ++ ids ∷ []) v ≡ ids_of some v
+  in_front : (some : List (List ℕ)) (ids : List ℕ) (v : ℕ) → v < length some → ids_of_variable (some ++ ids ∷ []) v ≡ ids_of_variable some v
   in_front [] ids v within = absurd (omega (arith, within))
   in_front (x ∷ some) ids zero within = refl
   in_front (x ∷ some) ids (suc v) within = in_front some ids v (omega (arith, within))
 
-  at_end : (some : List (List ℕ)) (ids : List ℕ) → ids_of (some ++ ids ∷ []) (length some) ≡ ids
+  at_end : (some : List (List ℕ)) (ids : List ℕ) → ids_of_variable (some ++ ids ∷ []) (length some) ≡ ids
   at_end [] ids = refl
   at_end (x ∷ some) ids = at_end some ids
 
   -- what holds of each variable so far and of the next one holds of all of them
-  each_so_far : (P : ℕ → List ℕ → Type 0) (some : List (List ℕ)) (ids : List ℕ) → ((v : ℕ) → v < length some → P v (ids_of some v)) →
-      P (length some) ids → (v : ℕ) → v < length (some ++ ids ∷ []) → P v (ids_of (some ++ ids ∷ []) v)
+  each_so_far : (P : ℕ → List ℕ → Type 0) (some : List (List ℕ)) (ids : List ℕ) → ((v : ℕ) → v < length some → P v (ids_of_variable some v)) →
+      P (length some) ids → (v : ℕ) → v < length (some ++ ids ∷ []) → P v (ids_of_variable (some ++ ids ∷ []) v)
   each_so_far P some ids before next v within =
       elim (cases_lt v (length some)) [
         | inl earlier ↦ subst (P v) (sym (in_front some ids v earlier)) (before v earlier)
         | inr later ↦
             let same : v ≡ length some = omega (arith, later, within, length-append some (ids ∷ [])) in
-            subst (λ (v : ℕ). P v (ids_of (some ++ ids ∷ []) v)) (sym same) (subst (P (length some)) (sym (at_end some ids)) next)
+            subst (λ (v : ℕ). P v (ids_of_variable (some ++ ids ∷ []) v)) (sym same) (subst (P (length some)) (sym (at_end some ids)) next)
       ]
 
   pub more_suffice : (some : List (List ℕ)) (ids : List ℕ) → SufficeSoFar a q some → length some < length a.domains.now →
       IsShare a q (length some) ids → SufficeSoFar a q (some ++ ids ∷ [])
   more_suffice some ids so_far within share = record {
     upto = omega (arith, within, length-append some (ids ∷ []));
-    among = each_so_far (λ v own. (id : ℕ) → has_id own id ≡ true → has_id (ids_of a.domains.now v) id ≡ true) some ids so_far.among share.among;
-    fewer = each_so_far (λ v own. length own ≤ length (ids_of a.domains.now v)) some ids so_far.fewer share.fewer;
+    among = each_so_far (λ v own. (id : ℕ) → has_id own id ≡ true → has_id (ids_of_variable a.domains.now v) id ≡ true) some ids so_far.among share.among;
+    fewer = each_so_far (λ v own. length own ≤ length (ids_of_variable a.domains.now v)) some ids so_far.fewer share.fewer;
     sound = λ b is_in.
         elim (so_far.sound b is_in) [
           | inr fails ↦ inr fails
@@ -117,7 +117,7 @@ module _ (a : Scene) (q : ResolvedQuery) where
 
   -- ---- all variables
 
-  past_end : (some : List (List ℕ)) (v : ℕ) → length some ≤ v → ids_of some v ≡ []
+  past_end : (some : List (List ℕ)) (v : ℕ) → length some ≤ v → ids_of_variable some v ≡ []
   past_end [] v past = refl
   past_end (x ∷ some) zero past = absurd (omega (arith, past))
   past_end (x ∷ some) (suc v) past = past_end some v (omega (arith, past))
@@ -136,7 +136,7 @@ module _ (a : Scene) (q : ResolvedQuery) where
     fewer = λ v.
         elim (cases_lt v (length some)) [
           | inl within ↦ so_far.fewer v within
-          | inr past ↦ let none : length (ids_of some v) ≡ 0 = ap length (past_end some v past) in omega (arith, none)
+          | inr past ↦ let none : length (ids_of_variable some v) ≡ 0 = ap length (past_end some v past) in omega (arith, none)
         ];
     sound = so_far.sound;
   }
@@ -161,7 +161,7 @@ found_suffice law s regions q lo e domains (Ok (Some some)) within = exact_suffi
 
 -- the objects of a variable are those of its class
 pub own_of_class : (s : Contents) (q : ResolvedQuery) (domains : List (List ℕ)) (v : ℕ) → AreOfClasses s q domains → v < length domains →
-    (id : ℕ) → has_id (ids_of domains v) id ≡ true → has_id (ids_in s.objects (slice_index q.classes v)) id ≡ true
+    (id : ℕ) → has_id (ids_of_variable domains v) id ≡ true → has_id (ids_in s.objects (slice_index q.classes v)) id ≡ true
 own_of_class s q domains v are within id has =
     let many = are.many in
     ap (λ ids. has_id ids id) (sym (ids-told s (slice_index q.classes v))) ∙ are.each v id (omega (arith, within, many)) has

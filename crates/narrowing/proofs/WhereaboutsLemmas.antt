@@ -16,16 +16,17 @@ use Rattle.geometry.specs.Plane.{point}
 use Rattle.geometry.specs.Polygon.{is_inside}
 use Rattle.geometry.specs.Region.{Region}
 use Rattle.history.specs.History.{cells_at}
-use Rattle.meaning.specs.Atom.{dynamic_of, is_in_region, place_by, position_in}
+use Rattle.meaning.specs.Atom.{is_in_region, place_by, position_in}
 use Rattle.meaning.specs.Satisfaction.{Interpretation}
 use Rattle.motion.specs.Dynamic.{Dynamic, value_at}
 use Rattle.motion.specs.declared.cell.Cell.{Cell}
 use Rattle.motion.specs.declared.cell.Cell.TheVariants as cells
+use Rattle.motion.specs.Cells.{dynamic_of}
 use Rattle.object_store.specs.declared.areas.Area.{Area}
 use Rattle.object_store.specs.declared.areas.Sides.{Sides}
-use Rattle.object_store.specs.Areas.{is_between, is_cell_between, is_told}
+use Rattle.object_store.specs.Areas.{is_between_sides, is_cell_between, is_told}
 use Rattle.object_store.specs.Contents.{Contents, history_of}
-use Rattle.polygon.specs.Bounds.{is_among}
+use Rattle.polygon.specs.Bounds.{is_in_box}
 use Rattle.narrowing.specs.Needed.{Fails, told}
 use Rattle.narrowing.specs.Whereabouts.{FailsAt, has_place}
 use Rattle.narrowing.proofs.FailLemmas.{fails_or, FormulasNeed}
@@ -33,7 +34,7 @@ use Rattle.narrowing.proofs.FailLemmas.{fails_or, FormulasNeed}
 -- ---- INSIDE
 
 module _ (test : Point → Bool) (area : Area) (apart : (p : Point) → test p ≡ true → has_place area p ≡ false) (t : ℕ) where
-  by_places : (u v : Dynamic) → (is_between area.x (value_at u t) && is_between area.y (value_at v t)) ≡ true → test (point (value_at u t) (value_at v t)) ≡ false
+  by_places : (u v : Dynamic) → (is_between_sides area.x (value_at u t) && is_between_sides area.y (value_at v t)) ≡ true → test (point (value_at u t) (value_at v t)) ≡ false
   by_places u v within =
       let p : Point = point (value_at u t) (value_at v t) in
       false_from_ne_true (test p) (λ holds. both_ways (has_place area p) (apart p holds) within)
@@ -72,9 +73,9 @@ is_upto a b e = grind (arith, ints, nat_tests, e)
 
 -- a place among the least and the greatest coordinates isn't in an area that is apart from them along one axis
 pub box_apart : (area : Area) (least greatest p : Point) (x y : Bool) → (x && y) ≡ false →
-    (x ≡ false → (n : ℤ) → least.x ≤ℤ n → n ≤ℤ greatest.x → is_between area.x n ≡ false) →
-    (y ≡ false → (n : ℤ) → least.y ≤ℤ n → n ≤ℤ greatest.y → is_between area.y n ≡ false) →
-    is_among least greatest p ≡ true → has_place area p ≡ false
+    (x ≡ false → (n : ℤ) → least.x ≤ℤ n → n ≤ℤ greatest.x → is_between_sides area.x n ≡ false) →
+    (y ≡ false → (n : ℤ) → least.y ≤ℤ n → n ≤ℤ greatest.y → is_between_sides area.y n ≡ false) →
+    is_in_box least greatest p ≡ true → has_place area p ≡ false
 box_apart area least greatest p x y apart along_x along_y among =
     let first = and_parts (int_le least.x p.x && int_le p.x greatest.x && int_le least.y p.y) (int_le p.y greatest.y) among in
     let second = and_parts (int_le least.x p.x && int_le p.x greatest.x) (int_le least.y p.y) first.0 in
@@ -87,10 +88,10 @@ box_apart area least greatest p x y apart along_x along_y among =
     never true = refl
     never false = refl
 
-    by_axis : (x y : Bool) → (x && y) ≡ false → (x ≡ false → is_between area.x p.x ≡ false) → (y ≡ false → is_between area.y p.y ≡ false) →
+    by_axis : (x y : Bool) → (x && y) ≡ false → (x ≡ false → is_between_sides area.x p.x ≡ false) → (y ≡ false → is_between_sides area.y p.y ≡ false) →
         has_place area p ≡ false
-    by_axis false y apart first second = ap (λ b. b && is_between area.y p.y) (first refl)
-    by_axis true y apart first second = ap (λ b. is_between area.x p.x && b) (second apart) ∙ never (is_between area.x p.x)
+    by_axis false y apart first second = ap (λ b. b && is_between_sides area.y p.y) (first refl)
+    by_axis true y apart first second = ap (λ b. is_between_sides area.x p.x && b) (second apart) ∙ never (is_between_sides area.x p.x)
 
 -- ---- formulas
 

@@ -2,8 +2,6 @@
 use Rattle.std.specs.Prelude.{◌≡◌, ℕ, ℤ, ◌-ℤ◌, ◌<◌, ◌≤◌, Bool, true, false, ◌&&◌, int_le, Option, List, [], length}
 use Rattle.std.specs.List.Sorted.{IsStrictlyIncreasing}
 use Rattle.std.specs.Option.{option_map_or}
-use Rattle.case_table.specs.declared.compare.Op.{Op}
-use Rattle.case_table.specs.declared.compare.Op.TheVariants.{Lt, Le, Eq, Ne, Ge, Gt}
 use Rattle.fixed_point.specs.declared.number.Point.{Point}
 use Rattle.geometry.specs.Region.{Region}
 use Rattle.history.specs.History.{cells_at}
@@ -13,21 +11,12 @@ use Rattle.meaning.specs.Atom.{position_in}
 use Rattle.meaning.specs.Trace.{Trace}
 use Rattle.object_store.specs.declared.areas.Area.{Area}
 use Rattle.object_store.specs.declared.areas.Sides.{Sides}
-use Rattle.object_store.specs.Areas.{is_between, is_in_area}
+use Rattle.object_store.specs.Areas.{is_between_sides, is_in_area}
 use Rattle.object_store.specs.Contents.{history_of, ids_in}
-use Rattle.relation.specs.Key.{has_id, ids_of}
+use Rattle.relation.specs.Key.{has_id, ids_of_variable}
 use Rattle.worlds.specs.Blurred.{possibly_holds}
 use Rattle.narrowing.specs.declared.scene.Scene.{Scene}
 use Rattle.narrowing.specs.Holding.{AreLost}
-
--- the comparisons of which none holds where the left is greater
-abbrev pub is_at_most : Op → Bool
-is_at_most Lt = true
-is_at_most Le = true
-is_at_most Eq = true
-is_at_most Ne = false
-is_at_most Ge = false
-is_at_most Gt = false
 
 abbrev pub is_close : ℤ → ℤ → ℤ → Bool
 is_close most m n = int_le (m -ℤ n) most && int_le (n -ℤ m) most
@@ -50,7 +39,7 @@ IsApart a most id other = (t : ℕ) → a.w.lo ≤ t → t ≤ a.w.hi
 
 -- what is near to a number between some sides is between the grown ones
 abbrev pub IsGrownSides : ℤ → Sides → Sides → Type 0
-IsGrownSides most sides grown = (m n : ℤ) → is_between sides n ≡ true → is_between grown m ≡ false → is_close most m n ≡ false
+IsGrownSides most sides grown = (m n : ℤ) → is_between_sides sides n ≡ true → is_between_sides grown m ≡ false → is_close most m n ≡ false
 
 pub record IsGrown (most : ℤ) (area grown : Area) : Type 0 where
   pub x : IsGrownSides most area.x grown.x
@@ -59,7 +48,7 @@ pub record IsGrown (most : ℤ) (area grown : Area) : Type 0 where
 -- the ids are those of the domain of a variable
 pub record AreDomainOf (v : ℕ) (domains : List (List ℕ)) (ids : List ℕ) : Type 0 where
   pub within : v < length domains
-  pub are : ids ≡ ids_of domains v
+  pub are : ids ≡ ids_of_variable domains v
 
 -- an object of a class that isn't among some ids is near to another one nowhere
 abbrev pub AreFar : Scene → ℕ → ℤ → List ℕ → ℕ → Type 0

@@ -7,7 +7,7 @@ ghost use Rattle.geometry.specs.Region.{Region};
 ghost use Rattle.case_table.specs.Comparison.{compares};
 ghost use Rattle.formula.specs.declared.tree.RAtom.TheVariants as atoms;
 ghost use Rattle.narrowing.specs.Covering.{Covers, area_beside, open_sides};
-ghost use Rattle.object_store.specs.Areas.{is_between};
+ghost use Rattle.object_store.specs.Areas.{is_between_sides};
 
 use crate::reaching::{Direction, reach};
 use crate::terms::{constant_of, coordinate_of};
@@ -45,8 +45,8 @@ fn area_of_region(v: u8, n: u32, var: u8, regions: &Regions, error: u32) -> Opti
 
 /// The box of the places that are possibly in a polygon.
 fn area_round(polygon: &Polygon, error: u32) -> Area
-    ensures x { (p : Point) → is_inside_by (neg_ℤ (pos error)) polygon.now p ≡ true → is_between result.x p.x ≡ true }
-    ensures y { (p : Point) → is_inside_by (neg_ℤ (pos error)) polygon.now p ≡ true → is_between result.y p.y ≡ true }
+    ensures x { (p : Point) → is_inside_by (neg_ℤ (pos error)) polygon.now p ≡ true → is_between_sides result.x p.x ≡ true }
+    ensures y { (p : Point) → is_inside_by (neg_ℤ (pos error)) polygon.now p ≡ true → is_between_sides result.y p.y ≡ true }
 {
     corners_stand_together();
     if error == 0 {
@@ -58,8 +58,8 @@ fn area_round(polygon: &Polygon, error: u32) -> Area
 
 /// The box of the places in a polygon, which is kept with it.
 fn area_of_polygon(polygon: &Polygon) -> Area
-    ensures x { (p : Point) → is_inside polygon.now p ≡ true → is_between result.x p.x ≡ true }
-    ensures y { (p : Point) → is_inside polygon.now p ≡ true → is_between result.y p.y ≡ true }
+    ensures x { (p : Point) → is_inside polygon.now p ≡ true → is_between_sides result.x p.x ≡ true }
+    ensures y { (p : Point) → is_inside polygon.now p ≡ true → is_between_sides result.y p.y ≡ true }
 {
     polygons_lie_among_their_vertices();
     // A polygon is convex.
@@ -74,8 +74,8 @@ fn area_of_polygon(polygon: &Polygon) -> Area
 /// The box of the places that are possibly in a polygon, by its edges. It is wider than the error alone where a corner is
 /// sharp.
 fn area_reached(polygon: &Polygon, error: u32) -> Area
-    ensures x { (p : Point) → is_inside_by (neg_ℤ (pos error)) polygon.now p ≡ true → is_between result.x p.x ≡ true }
-    ensures y { (p : Point) → is_inside_by (neg_ℤ (pos error)) polygon.now p ≡ true → is_between result.y p.y ≡ true }
+    ensures x { (p : Point) → is_inside_by (neg_ℤ (pos error)) polygon.now p ≡ true → is_between_sides result.x p.x ≡ true }
+    ensures y { (p : Point) → is_inside_by (neg_ℤ (pos error)) polygon.now p ≡ true → is_between_sides result.y p.y ≡ true }
 {
     Area {
         x: Sides {
@@ -135,7 +135,7 @@ fn area_beside(index: u8, sides: Sides) -> Area
 
 /// Where a number compares with `c`.
 fn sides_before(op: Op, c: Fix) -> Option<Sides>
-    ensures { IfSome result (λ sides. (n : ℤ) → compares op n c ≡ true → is_between sides n ≡ true) }
+    ensures { IfSome result (λ sides. (n : ℤ) → compares op n c ≡ true → is_between_sides sides n ≡ true) }
 {
     match op {
         Op::Lt => Some(sides_upto(c)),
@@ -149,7 +149,7 @@ fn sides_before(op: Op, c: Fix) -> Option<Sides>
 
 /// Where `c` compares with a number.
 fn sides_after(op: Op, c: Fix) -> Option<Sides>
-    ensures { IfSome result (λ sides. (n : ℤ) → compares op c n ≡ true → is_between sides n ≡ true) }
+    ensures { IfSome result (λ sides. (n : ℤ) → compares op c n ≡ true → is_between_sides sides n ≡ true) }
 {
     match op {
         Op::Lt => Some(sides_above(c)),

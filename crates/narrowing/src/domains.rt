@@ -1,7 +1,7 @@
 //! The objects that suffice for a query.
 ghost use Rattle.std.specs.Prelude.{◌≡◌, ◌<◌, ◌≤◌, ◌+◌, length, IfOk, IfSome, OnOk};
 ghost use Rattle.formula_shape.specs.declared.limits.TheConstants.{OBJECT_LIMIT};
-ghost use Rattle.formula.specs.Tree.{query_view};
+ghost use Rattle.formula.specs.Tree.{resolved_view};
 ghost use Rattle.narrowing.specs.Narrowed.{AreOfClasses, IsShare, Suffice, SufficeSoFar, SufficeWithin};
 
 use crate::holding::{FEW, those_to_hold};
@@ -27,9 +27,9 @@ pub fn narrowed(
     regions: &Regions,
     w: Window,
 ) -> Result<Option<Domains>, AllocError>
-    requires { AreOfClasses store.now (query_view q.now) domains.now }
+    requires { AreOfClasses store.now (resolved_view q.now) domains.now }
     ensures { IfOk result (λ found.
-        IfSome found (λ some. Suffice store.now regions.now (query_view q.now) w.lo w.hi domains.now some)) }
+        IfSome found (λ some. Suffice store.now regions.now (resolved_view q.now) w.lo w.hi domains.now some)) }
 {
     worlds_lie_between();
     narrowed_within(alloc, q, domains, store, regions, 0, w)
@@ -46,9 +46,9 @@ pub fn narrowed_within(
     error: u32,
     w: Window,
 ) -> Result<Option<Domains>, AllocError>
-    requires { AreOfClasses store.now (query_view q.now) domains.now }
+    requires { AreOfClasses store.now (resolved_view q.now) domains.now }
     ensures { IfOk result (λ found.
-        IfSome found (λ some. SufficeWithin error store.now regions.now (query_view q.now) w.lo w.hi domains.now some)) }
+        IfSome found (λ some. SufficeWithin error store.now regions.now (resolved_view q.now) w.lo w.hi domains.now some)) }
 {
     let scene = Scene {
         domains,
@@ -74,12 +74,12 @@ fn push_share(
     q: &RQuery,
     scene: &Scene,
 ) -> Result<bool, AllocError>
-    requires classes { AreOfClasses scene.now.store.now (query_view q.now) scene.now.domains.now }
+    requires classes { AreOfClasses scene.now.store.now (resolved_view q.now) scene.now.domains.now }
     requires within { length some.old < length scene.now.domains.now }
     requires few { length scene.now.domains.now ≤ OBJECT_LIMIT }
-    requires so_far { SufficeSoFar scene.now (query_view q.now) some.old }
+    requires so_far { SufficeSoFar scene.now (resolved_view q.now) some.old }
     ensures count { OnOk result (length some.new ≡ length some.old + 1) }
-    ensures so_far { OnOk result (SufficeSoFar scene.now (query_view q.now) some.new) }
+    ensures so_far { OnOk result (SufficeSoFar scene.now (resolved_view q.now) some.new) }
 {
     let var = next_variable(some);
     let share = share_of(alloc, var, q, scene)?;
@@ -110,9 +110,9 @@ fn share_of(
     q: &RQuery,
     scene: &Scene,
 ) -> Result<Option<Vec<u32>>, AllocError>
-    requires classes { AreOfClasses scene.now.store.now (query_view q.now) scene.now.domains.now }
+    requires classes { AreOfClasses scene.now.store.now (resolved_view q.now) scene.now.domains.now }
     requires within { var < length scene.now.domains.now }
-    ensures { IfOk result (λ found. IfSome found (λ ids. IsShare scene.now (query_view q.now) var ids.items)) }
+    ensures { IfOk result (λ found. IfSome found (λ ids. IsShare scene.now (resolved_view q.now) var ids.items)) }
 {
     let own = scene.domains.of(var);
     if own.len() < FEW {
@@ -138,7 +138,7 @@ fn share_of_few(
     scene: &Scene,
 ) -> Result<Option<Vec<u32>>, AllocError>
     requires within { var < length scene.now.domains.now }
-    ensures { IfOk result (λ found. IfSome found (λ ids. IsShare scene.now (query_view q.now) var ids.items)) }
+    ensures { IfOk result (λ found. IfSome found (λ ids. IsShare scene.now (resolved_view q.now) var ids.items)) }
 {
     let own = scene.domains.of(var);
     let ids = those_to_hold(alloc, &q.formula, var, own, scene)?;

@@ -3,7 +3,7 @@ ghost use Rattle.std.specs.Prelude.{◌≡◌, ◌<◌, ◌∷◌, ℕ, false, L
 ghost use Rattle.std.specs.List.Sorted.{IsStrictlyIncreasing};
 ghost use Rattle.object_store.specs.Searching.{IsSearched};
 ghost use Rattle.formula_shape.specs.Shape as shapes;
-ghost use Rattle.formula.specs.Tree.{formula_view, query_view};
+ghost use Rattle.formula.specs.Tree.{formula_view, resolved_view};
 ghost use Rattle.formula.specs.declared.tree.RAtom.{RAtom};
 ghost use Rattle.narrowing.specs.Beside.{NeedsBeside};
 ghost use Rattle.narrowing.specs.Needed.{Fails, told};
@@ -29,7 +29,7 @@ pub(crate) const FEW: usize = 32;
 /// variable has an object of its domain. It is taken to be so unless each of few objects of some variable is outside of
 /// where the formula needs it. It takes no memory, and no timeline is looked at.
 pub fn can_hold(q: &RQuery, domains: &Domains, store: &Store, regions: &Regions, w: Window) -> bool
-    ensures { result ≡ false → (b : ℕ → ℕ) → IsIn domains.now b → Fails (told store.now regions.now b) w.lo w.hi (query_view q.now).formula }
+    ensures { result ≡ false → (b : ℕ → ℕ) → IsIn domains.now b → Fails (told store.now regions.now b) w.lo w.hi (resolved_view q.now).formula }
 {
     worlds_lie_between();
     let scene = Scene {
@@ -51,7 +51,7 @@ pub fn can_hold_alone(
     regions: &Regions,
     w: Window,
 ) -> bool
-    ensures { result ≡ false → (b : ℕ → ℕ) → b 0 ≡ id → Fails (told store.now regions.now b) w.lo w.hi (query_view q.now).formula }
+    ensures { result ≡ false → (b : ℕ → ℕ) → b 0 ≡ id → Fails (told store.now regions.now b) w.lo w.hi (resolved_view q.now).formula }
 {
     worlds_lie_between();
     let domains = Domains::new(alloc);

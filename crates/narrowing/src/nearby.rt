@@ -1,8 +1,9 @@
 //! Atoms that need an object near another one, and which objects can come near to few.
 ghost use Rattle.std.specs.Prelude.{◌≡◌, ◌≤◌, ◌*◌, ◌+ℤ◌, ◌-ℤ◌, pos, true, false, [], Some, IfOk, IfSome};
 ghost use Rattle.formula.specs.declared.tree.RAtom.TheVariants as atoms;
-ghost use Rattle.narrowing.specs.Beside.{AreBeside, AreDomainOf, IsApart, IsGrown, IsGrownSides, IsWithNear, IsWithThose, NeedsBeside, is_at_most};
+ghost use Rattle.narrowing.specs.Beside.{AreBeside, AreDomainOf, IsApart, IsGrown, IsGrownSides, IsWithNear, IsWithThose, NeedsBeside};
 ghost use Rattle.narrowing.specs.Holding.{AreLost};
+ghost use Rattle.case_table.specs.Comparison.{is_at_most};
 
 use crate::holding::FEW;
 use crate::lists::{if_at_most, in_order};

@@ -2,10 +2,10 @@
 ghost use Rattle.std.specs.Prelude.{◌≡◌, ◌≤ℤ◌, ℕ, ℤ, false, true};
 ghost use Rattle.fixed_point.specs.declared.number.Point.{Point};
 ghost use Rattle.formula_shape.specs.Shape as shapes;
-ghost use Rattle.formula.specs.Tree.{formula_view, query_view};
+ghost use Rattle.formula.specs.Tree.{formula_view, resolved_view};
 ghost use Rattle.geometry.specs.Polygon.{is_inside};
 ghost use Rattle.meaning.specs.Atom.{is_in_region};
-ghost use Rattle.object_store.specs.Areas.{is_between};
+ghost use Rattle.object_store.specs.Areas.{is_between_sides};
 ghost use Rattle.narrowing.specs.Whereabouts.{FailsAt, has_place};
 
 use fixed_point::Fix;
@@ -19,7 +19,7 @@ use polygon::{Polygon, Regions, polygons_lie_among_their_vertices};
 /// memory, and no store is looked at.
 #[inline]
 pub fn can_hold_at(q: &RQuery, area: &Area, regions: &Regions) -> bool
-    ensures { result ≡ false → FailsAt area.now regions.now (query_view q.now).formula }
+    ensures { result ≡ false → FailsAt area.now regions.now (resolved_view q.now).formula }
 {
     // A formula that is an atom is judged without the way into the parts of others.
     if let RFormula::Atom(a) = &q.formula {
@@ -92,7 +92,7 @@ fn meets_polygon(area: &Area, polygon: &Polygon) -> bool
 /// Whether some number from `least` to `greatest` is between these sides.
 #[inline]
 fn meet(sides: &Sides, least: Fix, greatest: Fix) -> bool
-    ensures { result ≡ false → (n : ℤ) → least ≤ℤ n → n ≤ℤ greatest → is_between sides.now n ≡ false }
+    ensures { result ≡ false → (n : ℤ) → least ≤ℤ n → n ≤ℤ greatest → is_between_sides sides.now n ≡ false }
 {
     let is_below = sides.greatest.is_some_and(|side| side.raw() < least.raw());
     let is_above = sides.least.is_some_and(|side| greatest.raw() < side.raw());

@@ -10,7 +10,7 @@ use Rattle.std.proofs.lemmas.List.{take_more}
 use Rattle.tick_set.specs.declared.spans.Span.{Span}
 use Rattle.tick_set.specs.declared.spans.Window.{Window}
 use Rattle.motion.specs.Timeline.{Epoch}
-use Rattle.nearest.specs.Courses.{AreAscending, AreNumbered, index_near, is_near_along}
+use Rattle.nearest.specs.Courses.{AreNumbered, HaveAscendingIndexes, index_near, is_near_along}
 use Rattle.nearest.specs.Found.{AreBefore, HaveMore, runs_at}
 use Rattle.nearest.specs.Sights.{AreEnough}
 use Rattle.nearest.specs.declared.course.Course.{Course}
@@ -23,7 +23,7 @@ none_pushed (runs ∷ found) (suc i) none = none_pushed found i (λ j. none (suc
 
 -- ---- indexes
 
-least_ahead : (least n i : ℕ) (courses : List Course) (d : Course) → AreAscending least n courses → i < length courses → least ≤ (get_or courses i d).index
+least_ahead : (least n i : ℕ) (courses : List Course) (d : Course) → HaveAscendingIndexes least n courses → i < length courses → least ≤ (get_or courses i d).index
 least_ahead least n i [] d ascend below = absurd (omega arith)
 least_ahead least n zero (c ∷ courses) d ascend below = ascend.0
 least_ahead least n (suc i) (c ∷ courses) d ascend below =
@@ -31,7 +31,7 @@ least_ahead least n (suc i) (c ∷ courses) d ascend below =
     let later = least_ahead (c.index + 1) n i courses d ascend.1.1 (omega arith) in
     omega (arith, first, later)
 
-pub index_below : (least n i : ℕ) (courses : List Course) (d : Course) → AreAscending least n courses → i < length courses → (get_or courses i d).index < n
+pub index_below : (least n i : ℕ) (courses : List Course) (d : Course) → HaveAscendingIndexes least n courses → i < length courses → (get_or courses i d).index < n
 index_below least n i [] d ascend below = absurd (omega arith)
 index_below least n zero (c ∷ courses) d ascend below = ascend.1.0
 index_below least n (suc i) (c ∷ courses) d ascend below = index_below (c.index + 1) n i courses d ascend.1.1 (omega arith)
@@ -46,7 +46,7 @@ alike : (i j : ℕ) → i ≡ j → (i == j) ≡ true
 alike i j same = grind (arith, nat_tests)
 
 -- none of the courses before one has its index
-pub none_before_it : (from : List Epoch) (all : List Course) (k t least n i : ℕ) (courses : List Course) (d : Course) → AreAscending least n courses →
+pub none_before_it : (from : List Epoch) (all : List Course) (k t least n i : ℕ) (courses : List Course) (d : Course) → HaveAscendingIndexes least n courses →
     i < length courses → index_near from all k (take i courses) (get_or courses i d).index t ≡ false
 none_before_it from all k t least n i [] d ascend below = absurd (omega arith)
 none_before_it from all k t least n zero (c ∷ courses) d ascend below = refl
@@ -55,13 +55,13 @@ none_before_it from all k t least n (suc i) (c ∷ courses) d ascend below =
     let ahead = least_ahead (c.index + 1) n i courses d ascend.1.1 (omega arith) in
     (λ j. (differ c.index index (omega (arith, ahead)) j && is_near_along from all k c t) || none_before_it from all k t (c.index + 1) n i courses d ascend.1.1 (omega arith) j)
 
-numbered_ascend : (first n : ℕ) (courses : List Course) → first + length courses ≤ n → AreNumbered first courses → AreAscending first n courses
+numbered_ascend : (first n : ℕ) (courses : List Course) → first + length courses ≤ n → AreNumbered first courses → HaveAscendingIndexes first n courses
 numbered_ascend first n [] few numbered = tt
 numbered_ascend first n (c ∷ courses) few numbered =
     let is = numbered.0 in
-    (omega (arith, is), (omega (arith, is), subst (λ (i : ℕ). AreAscending (i + 1) n courses) (sym is) (numbered_ascend (first + 1) n courses (omega arith) numbered.1)))
+    (omega (arith, is), (omega (arith, is), subst (λ (i : ℕ). HaveAscendingIndexes (i + 1) n courses) (sym is) (numbered_ascend (first + 1) n courses (omega arith) numbered.1)))
 
-pub all_ascend : (courses : List Course) → AreNumbered 0 courses → AreAscending 0 (length courses) courses
+pub all_ascend : (courses : List Course) → AreNumbered 0 courses → HaveAscendingIndexes 0 (length courses) courses
 all_ascend courses numbered = numbered_ascend 0 (length courses) courses (omega arith) numbered
 
 pub numbered_more : (first : ℕ) (courses : List Course) (c : Course) → AreNumbered first courses → c.index ≡ first + length courses → AreNumbered first (courses ++ c ∷ [])

@@ -11,7 +11,7 @@ use Rattle.tick_set.specs.Runs.{IsRuns, spans_have}
 use Rattle.tick_set.specs.Ticks.{within}
 use Rattle.tick_set.specs.declared.spans.Span.{Span}
 use Rattle.tick_set.specs.declared.spans.Window.{Window}
-use Rattle.nearest.specs.Depth.{depth, one_if}
+use Rattle.nearest.specs.Depth.{depth_at, one_if}
 use Rattle.nearest.specs.Order.{is_below}
 
 -- ---- two squares
@@ -120,11 +120,11 @@ all_but_those false those others is = refl
 
 -- ---- depths
 
-pub depth_run : (run : Option Span) (t : ℕ) → depth (option_to_list run) t ≡ one_if (spans_have (option_to_list run) t)
+pub depth_run : (run : Option Span) (t : ℕ) → depth_at (option_to_list run) t ≡ one_if (spans_have (option_to_list run) t)
 depth_run None t = refl
 depth_run (Some s) t = grind (arith, nat_tests)
 
-pub depth-append : (xs ys : List Span) (t : ℕ) → depth (xs ++ ys) t ≡ depth xs t + depth ys t
+pub depth-append : (xs ys : List Span) (t : ℕ) → depth_at (xs ++ ys) t ≡ depth_at xs t + depth_at ys t
 depth-append xs ys t = sum_by-append (λ (s : Span). if within s.lo s.hi t then 1 else 0) xs ys
 
 -- a run whose ticks are in a window begins and ends there

@@ -10,10 +10,11 @@ use Rattle.linear_crossing.specs.Moving.{distance_after, position_after}
 use Rattle.motion.specs.Timeline.{Epoch, epoch_at}
 use Rattle.courses.specs.Places.{place_at, place_of}
 use Rattle.courses.specs.declared.parts.Common.{Common}
+use Rattle.courses.specs.CommonParts.{place_in}
 use Rattle.nearness.specs.Nearest.{squared_between, stands_before}
 use Rattle.tick_set.specs.Ticks.{within}
 use Rattle.tick_set.specs.declared.spans.Window.{Window}
-use Rattle.nearest.specs.Courses.{place_in, squared_along, squared_in}
+use Rattle.nearest.specs.Courses.{squared_along, squared_in}
 use Rattle.nearest.specs.Depth.{one_if}
 use Rattle.nearest.specs.Sights.{IsSight, is_straight}
 use Rattle.nearest.specs.declared.sight.Sight.{Sight}

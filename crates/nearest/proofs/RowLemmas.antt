@@ -20,8 +20,8 @@ use Rattle.history.specs.History.{History, cells_at}
 use Rattle.object_store.specs.Contents.{Contents, StoredObject, history_of, ids_in}
 use Rattle.nearness.specs.Nearest.{is_near, near, others_of, rank, squared_between, squared_to, stands_before}
 use Rattle.nearest.specs.Courses.{IsOfStore, goes_before, is_near_along, rank_along, squared_along}
-use Rattle.nearest.specs.Depth.{depth, one_if}
-use Rattle.nearest.specs.Rows.{if_some, row_of, rows_along, told_near, told_row}
+use Rattle.nearest.specs.Depth.{depth_at, one_if}
+use Rattle.nearest.specs.Rows.{if_some, object_row, rows_along, told_near, told_near_row}
 use Rattle.nearest.specs.declared.rows.NearRow.{NearRow}
 use Rattle.nearest.specs.declared.course.Course.{Course}
 use Rattle.nearest.proofs.PlaceLemmas.{place_by_state}
@@ -82,12 +82,12 @@ near_row h to ids k w key = answers.row_where (λ key t. is_near (squared_to h t
 
 same_rows : (h : History) (from : List Epoch) (to k : ℕ) (w : Window) (courses some : List Course) (ids : List ℕ) →
     All (λ c. (t : ℕ) → is_near_along from courses k c t ≡ is_near (squared_to h to t) ids k c.id) some →
-    map (λ c. row_of c.id (is_near_along from courses k c) w) some ≡ map (near_row h to ids k w) (map (λ id. id ∷ []) (map (λ c. c.id) some))
+    map (λ c. object_row c.id (is_near_along from courses k c) w) some ≡ map (near_row h to ids k w) (map (λ id. id ∷ []) (map (λ c. c.id) some))
 same_rows h from to k w courses [] ids all = refl
 same_rows h from to k w courses (c ∷ some) ids all =
     let first = All-head (λ (x : Course). (t : ℕ) → is_near_along from courses k x t ≡ is_near (squared_to h to t) ids k x.id) c some all in
     let later = same_rows h from to k w courses some ids (All-tail (λ (x : Course). (t : ℕ) → is_near_along from courses k x t ≡ is_near (squared_to h to t) ids k x.id) c some all) in
-    λ i. row_of c.id (λ t. first t i) w ∷ later i
+    λ i. object_row c.id (λ t. first t i) w ∷ later i
 
 -- the rows by the ranks among all courses are those of the nearest
 pub rows_near : (s : Contents) (from : List Epoch) (class to k : ℕ) (w : Window) (courses : List Course) →
@@ -137,9 +137,9 @@ count_more f courses i c below is =
     sum_by_more (λ x. cond (f x) 1 0) courses i c below ∙ ap (λ x. count_by f (take i courses) + one_if (f x)) (sym is)
 
 pub rows_more : (from : List Epoch) (courses : List Course) (k : ℕ) (w : Window) (i : ℕ) (c : Course) → i < length courses → c ≡ get_or courses i c →
-    rows_along from courses k w (take (i + 1) courses) ≡ rows_along from courses k w (take i courses) ++ if_some (row_of c.id (is_near_along from courses k c) w)
+    rows_along from courses k w (take (i + 1) courses) ≡ rows_along from courses k w (take i courses) ++ if_some (object_row c.id (is_near_along from courses k c) w)
 rows_more from courses k w i c below is =
-    let row : Course → Row = λ x. row_of x.id (is_near_along from courses k x) w in
+    let row : Course → Row = λ x. object_row x.id (is_near_along from courses k x) w in
     ap (λ some. filter (λ r. has_ticks r.runs) (map row some)) (take_more courses i c below)
     ∙ ap (filter (λ r. has_ticks r.runs)) (map-append row (take i courses) (get_or courses i c ∷ []))
     ∙ filter-append (λ (r : Row). has_ticks r.runs) (map row (take i courses)) (row (get_or courses i c) ∷ [])
@@ -153,17 +153,17 @@ rows_all from courses k w i all = ap (rows_along from courses k w) (take_all i c
 
 pub row_added : (rows : List NearRow) (row : NearRow) (test : ℕ → Bool) (w : Window) → IsNormal row.ticks →
     ((t : ℕ) → spans_have row.ticks t ≡ (within w.lo w.hi t && test t)) → (length row.ticks == 0) ≡ false →
-    told_near (rows ++ row ∷ []) ≡ told_near rows ++ if_some (row_of row.id test w)
+    told_near (rows ++ row ∷ []) ≡ told_near rows ++ if_some (object_row row.id test w)
 row_added rows row test w normal are some =
     let runs : pairs row.ticks ≡ runs_of (listed test w.lo w.hi) =
     runs_of_listed (spans_have row.ticks) test w.lo w.hi row.ticks (record { normal = normal; ticks = λ t. refl }) are in
-    map-append told_row rows (row ∷ [])
+    map-append told_near_row rows (row ∷ [])
     ∙ ap (λ more. told_near rows ++ more) (sym (row_kept row.ticks row.id some))
     ∙ ap (λ told. told_near rows ++ if_some (record { key = row.id ∷ []; runs = told })) runs
 
 pub row_left_out : (rows : List NearRow) (id : ℕ) (ticks : List Span) (test : ℕ → Bool) (w : Window) → IsNormal ticks →
     ((t : ℕ) → spans_have ticks t ≡ (within w.lo w.hi t && test t)) → (length ticks == 0) ≡ true →
-    told_near rows ≡ told_near rows ++ if_some (row_of id test w)
+    told_near rows ≡ told_near rows ++ if_some (object_row id test w)
 row_left_out rows id ticks test w normal are none =
     let runs : pairs ticks ≡ runs_of (listed test w.lo w.hi) =
     runs_of_listed (spans_have ticks) test w.lo w.hi ticks (record { normal = normal; ticks = λ t. refl }) are in
@@ -174,15 +174,15 @@ row_left_out rows id ticks test w normal are none =
 -- ---- few before one object
 
 pub few_ranked : (from : List Epoch) (courses : List Course) (o : Course) (k left : ℕ) (w : Window) (stretches runs : List Span) →
-    ((t : ℕ) → within w.lo w.hi t ≡ true → nat_lt (depth stretches t) left ≡ nat_lt (rank_along from courses o t) k) →
-    IsRuns (λ t. within w.lo w.hi t && nat_lt (depth stretches t) left) runs → IsRuns (λ t. within w.lo w.hi t && nat_lt (rank_along from courses o t) k) runs
+    ((t : ℕ) → within w.lo w.hi t ≡ true → nat_lt (depth_at stretches t) left ≡ nat_lt (rank_along from courses o t) k) →
+    IsRuns (λ t. within w.lo w.hi t && nat_lt (depth_at stretches t) left) runs → IsRuns (λ t. within w.lo w.hi t && nat_lt (rank_along from courses o t) k) runs
 few_ranked from courses o k left w stretches runs gathered are = record {
   normal = are.normal;
   ticks = λ t.
       are.ticks t
       ∙ elim (cases_Bool (within w.lo w.hi t)) [
         | inl inside ↦ ap (λ b. within w.lo w.hi t && b) (gathered t inside)
-        | inr outside ↦ (λ i. outside i && nat_lt (depth stretches t) left) ∙ sym (λ i. outside i && nat_lt (rank_along from courses o t) k)
+        | inr outside ↦ (λ i. outside i && nat_lt (depth_at stretches t) left) ∙ sym (λ i. outside i && nat_lt (rank_along from courses o t) k)
       ];
 }
 
@@ -191,9 +191,9 @@ one_at_most true = omega arith
 one_at_most false = omega arith
 
 -- how many more may stand before one, by those that do so throughout
-pub few_more : (k throughout depth rank : ℕ) → throughout + depth ≡ rank → nat_lt depth (k - throughout) ≡ nat_lt rank k
-few_more k throughout depth rank is = grind (arith, nat_tests)
+pub few_more : (k throughout depth_at rank : ℕ) → throughout + depth_at ≡ rank → nat_lt depth_at (k - throughout) ≡ nat_lt rank k
+few_more k throughout depth_at rank is = grind (arith, nat_tests)
 
-pub too_many : (k throughout depth some rank : ℕ) → k ≤ throughout → throughout + depth ≡ some → some ≤ rank →
-    nat_lt depth (k - throughout) ≡ nat_lt rank k
-too_many k throughout depth some rank many is more = grind (arith, nat_tests)
+pub too_many : (k throughout depth_at some rank : ℕ) → k ≤ throughout → throughout + depth_at ≡ some → some ≤ rank →
+    nat_lt depth_at (k - throughout) ≡ nat_lt rank k
+too_many k throughout depth_at some rank many is more = grind (arith, nat_tests)

@@ -12,7 +12,7 @@ use Rattle.motion.specs.Timeline.{Epoch}
 use Rattle.nearness.specs.Nearest.{stands_before}
 use Rattle.nearest.specs.Courses.{goes_before, rank_along, squared_along}
 use Rattle.nearest.specs.Order.{separation_after}
-use Rattle.nearest.specs.Sights.{AreFewWithin, IsSeenFrom, IsSight, is_kept, is_within, never_passes}
+use Rattle.nearest.specs.Sights.{AreFewWithin, IsSeenFrom, IsSight, is_surely_within, may_come_within, never_passes}
 use Rattle.nearest.specs.declared.course.Course.{Course}
 use Rattle.nearest.specs.declared.sight.Sight.{Sight}
 use Rattle.nearest.specs.declared.sight.Sight.TheVariants as sights
@@ -39,7 +39,7 @@ at_most_before d e earlier before = grind (arith, ints, nat_tests)
 
 -- who stands before one that never passes a bound, comes within that
 before_within : (from near far : List Epoch) (p o m t : ℕ) (w : Window) (first second : Sight) → IsSight from near w first → IsSight from far w second →
-    w.lo ≤ t → t ≤ w.hi → is_within m second ≡ true → stands_before (squared_along from near t) p (squared_along from far t) o ≡ true → is_kept (Some m) first ≡ true
+    w.lo ≤ t → t ≤ w.hi → is_surely_within m second ≡ true → stands_before (squared_along from near t) p (squared_along from far t) o ≡ true → may_come_within (Some m) first ≡ true
 before_within from near far p o m t w (sights.Straight band) (sights.Straight other) is its begun up_to inside before =
     let low = (is.bounds t begun up_to).0 in
     let high = (its.bounds t begun up_to).1 in
@@ -63,9 +63,9 @@ pub surely_near : (from : List Epoch) (k t : ℕ) (w : Window) (sure : Option �
     IsSeenFrom from w o → AreFewWithin k sure courses → never_passes sure o.sight ≡ true → w.lo ≤ t → t ≤ w.hi → nat_lt (rank_along from courses o t) k ≡ true
 surely_near from k t w None courses o seen o_seen few stays begun up_to = absurd (false≢true stays)
 surely_near from k t w (Some m) courses o seen o_seen few stays begun up_to =
-    less_few (rank_along from courses o t) (count_by (λ (c : Course). is_kept (Some m) c.sight) courses) k
-    (passed_by_more (λ (p : Course). goes_before from p o t) (λ (c : Course). is_kept (Some m) c.sight) courses
-    (All-weaker (IsSeenFrom from w) (λ (p : Course). goes_before from p o t ≡ true → is_kept (Some m) p.sight ≡ true)
+    less_few (rank_along from courses o t) (count_by (λ (c : Course). may_come_within (Some m) c.sight) courses) k
+    (passed_by_more (λ (p : Course). goes_before from p o t) (λ (c : Course). may_come_within (Some m) c.sight) courses
+    (All-weaker (IsSeenFrom from w) (λ (p : Course). goes_before from p o t ≡ true → may_come_within (Some m) p.sight ≡ true)
     (λ p of_p before. before_within from p.timeline.now o.timeline.now p.id o.id m t w p.sight o.sight of_p o_seen begun up_to stays before) courses seen))
     few
 

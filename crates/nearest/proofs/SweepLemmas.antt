@@ -8,7 +8,7 @@ use Rattle.tick_set.specs.Ticks.{within}
 use Rattle.tick_set.specs.Runs.{spans_have, IsNormal, IsRuns}
 use Rattle.tick_set.specs.declared.spans.Span.{Span}
 use Rattle.tick_set.specs.declared.spans.Window.{Window}
-use Rattle.nearest.specs.Depth.{AreComeBy, count_to, depth}
+use Rattle.nearest.specs.Depth.{AreComeBy, count_to, depth_at}
 
 -- ---- counts
 
@@ -21,11 +21,11 @@ one_deeper : (lo hi t d e b : ℕ) → lo ≤ hi → d + e ≡ b →
 one_deeper lo hi t d e b order is = grind (arith, nat_tests)
 
 pub depth_counts : (stretches : List Span) (t : ℕ) →
-    depth stretches t + count_to (map (λ s. s.hi + 1) stretches) t ≡ count_to (map (λ s. s.lo) stretches) t
+    depth_at stretches t + count_to (map (λ s. s.hi + 1) stretches) t ≡ count_to (map (λ s. s.lo) stretches) t
 depth_counts [] t = refl
 depth_counts (s ∷ rest) t =
     (λ i. sum_by-cons (λ x. cond (within x.lo x.hi t) 1 0) s rest i + count_to-cons (s.hi + 1) t (map (λ x. x.hi + 1) rest) i)
-    ∙ one_deeper s.lo s.hi t (depth rest t) (count_to (map (λ x. x.hi + 1) rest) t) (count_to (map (λ x. x.lo) rest) t) s.ordered (depth_counts rest t)
+    ∙ one_deeper s.lo s.hi t (depth_at rest t) (count_to (map (λ x. x.hi + 1) rest) t) (count_to (map (λ x. x.lo) rest) t) s.ordered (depth_counts rest t)
     ∙ sym (count_to-cons s.lo t (map (λ x. x.lo) rest))
 
 none_come : (ticks : List ℕ) (t : ℕ) → ((k : ℕ) → k < length ticks → t < slice_index ticks k) → count_to ticks t ≡ 0
@@ -112,13 +112,13 @@ fewer b e d k is = grind (arith, nat_tests)
 -- fewer have begun than have ended and k where fewer than k are under way
 pub few_by_counts : (starts ends : List ℕ) (stretches : List Span) (k : ℕ) (w : Window) (runs : List Span) →
     ((t : ℕ) → count_to starts t ≡ count_to (map (λ s. s.lo) stretches) t) → ((t : ℕ) → count_to ends t ≡ count_to (map (λ s. s.hi + 1) stretches) t) →
-    IsRuns (λ t. within w.lo w.hi t && nat_lt (count_to starts t) (count_to ends t + k)) runs → IsRuns (λ t. within w.lo w.hi t && nat_lt (depth stretches t) k) runs
+    IsRuns (λ t. within w.lo w.hi t && nat_lt (count_to starts t) (count_to ends t + k)) runs → IsRuns (λ t. within w.lo w.hi t && nat_lt (depth_at stretches t) k) runs
 few_by_counts starts ends stretches k w runs of_starts of_ends swept = record {
   normal = swept.normal;
   ticks = λ t.
       let s = of_starts t in
       let e = of_ends t in
       let d = depth_counts stretches t in
-      let few : nat_lt (count_to starts t) (count_to ends t + k) ≡ nat_lt (depth stretches t) k = fewer (count_to starts t) (count_to ends t) (depth stretches t) k (omega (arith, s, e, d)) in
+      let few : nat_lt (count_to starts t) (count_to ends t + k) ≡ nat_lt (depth_at stretches t) k = fewer (count_to starts t) (count_to ends t) (depth_at stretches t) k (omega (arith, s, e, d)) in
       swept.ticks t ∙ ap (λ b. within w.lo w.hi t && b) few;
 }

@@ -15,10 +15,10 @@ use Rattle.motion.specs.Timeline.{Epoch}
 use Rattle.nearness.specs.Nearest.{stands_before}
 use Rattle.nearness.proofs.KeptLemmas.{any_kept, counted_among_kept, few_by_kept}
 use Rattle.nearness.proofs.OrderLemmas.{before_passes, none_of_absent}
-use Rattle.nearest.specs.Courses.{AreAscending, goes_before, index_near, is_near_along, rank_along, squared_along}
+use Rattle.nearest.specs.Courses.{HaveAscendingIndexes, goes_before, index_near, is_near_along, rank_along, squared_along}
 use Rattle.nearest.specs.Depth.{count_to}
 use Rattle.nearest.specs.Order.{separation_after}
-use Rattle.nearest.specs.Sights.{Body, IsSeenFrom, IsSight, body_of, is_kept, is_within}
+use Rattle.nearest.specs.Sights.{CourseBody, IsSeenFrom, IsSight, course_body, is_surely_within, may_come_within}
 use Rattle.nearest.specs.declared.course.Course.{Course}
 use Rattle.nearest.specs.declared.sight.Sight.{Sight}
 use Rattle.nearest.specs.declared.sight.Sight.TheVariants as sights
@@ -38,19 +38,19 @@ any_map : {A B : Type 0} (f : B → Bool) (g : A → B) (xs : List A) → list_a
 any_map f g [] = refl
 any_map f g (x ∷ xs) = ap (λ b. f (g x) || b) (any_map f g xs)
 
-abbrev pub body_before : List Epoch → ℕ → Body → Body → Bool
+abbrev pub body_before : List Epoch → ℕ → CourseBody → CourseBody → Bool
 body_before from t p o = stands_before (squared_along from p.epochs t) p.id (squared_along from o.epochs t) o.id
 
-abbrev pub body_near : List Epoch → List Body → ℕ → ℕ → ℕ → Body → Bool
+abbrev pub body_near : List Epoch → List CourseBody → ℕ → ℕ → ℕ → CourseBody → Bool
 body_near from bodies k i t b = (b.index == i) && (is_some (squared_along from b.epochs t) && nat_lt (count_by (λ p. body_before from t p b) bodies) k)
 
 near_by_bodies : (from : List Epoch) (courses : List Course) (k i t : ℕ) →
-    list_any (body_near from (map body_of courses) k i t) (map body_of courses) ≡ index_near from courses k courses i t
+    list_any (body_near from (map course_body courses) k i t) (map course_body courses) ≡ index_near from courses k courses i t
 near_by_bodies from courses k i t =
-    any_map (body_near from (map body_of courses) k i t) body_of courses
-    ∙ (λ j. list_any (λ (c : Course). (c.index == i) && (is_some (squared_along from c.timeline.now t) && nat_lt (count_map (λ p. body_before from t p (body_of c)) body_of courses j) k)) courses)
+    any_map (body_near from (map course_body courses) k i t) course_body courses
+    ∙ (λ j. list_any (λ (c : Course). (c.index == i) && (is_some (squared_along from c.timeline.now t) && nat_lt (count_map (λ p. body_before from t p (course_body c)) course_body courses j) k)) courses)
 
-pub same_bodies : (from : List Epoch) (few courses : List Course) (k i t : ℕ) → map body_of few ≡ map body_of courses →
+pub same_bodies : (from : List Epoch) (few courses : List Course) (k i t : ℕ) → map course_body few ≡ map course_body courses →
     index_near from few k few i t ≡ index_near from courses k courses i t
 same_bodies from few courses k i t same =
     sym (near_by_bodies from few k i t)
@@ -59,28 +59,28 @@ same_bodies from few courses k i t same =
 
 -- ---- indexes
 
-ascend_from : (low least n : ℕ) (courses : List Course) → low ≤ least → AreAscending least n courses → AreAscending low n courses
+ascend_from : (low least n : ℕ) (courses : List Course) → low ≤ least → HaveAscendingIndexes least n courses → HaveAscendingIndexes low n courses
 ascend_from low least n [] less ascend = tt
 ascend_from low least n (c ∷ courses) less ascend = let first = ascend.0 in (omega (arith, first, less), ascend.1)
 
-pub ascend_alike : (least n : ℕ) (few courses : List Course) → map body_of few ≡ map body_of courses → AreAscending least n courses → AreAscending least n few
+pub ascend_alike : (least n : ℕ) (few courses : List Course) → map course_body few ≡ map course_body courses → HaveAscendingIndexes least n courses → HaveAscendingIndexes least n few
 ascend_alike least n [] courses same ascend = tt
 ascend_alike least n (x ∷ few) [] same ascend = absurd (cc)
 ascend_alike least n (x ∷ few) (y ∷ courses) same ascend =
-    let first : body_of x ≡ body_of y = cc in
-    let later : map body_of few ≡ map body_of courses = cc in
-    let index : x.index ≡ y.index = ap (λ (b : Body). b.index) first in
+    let first : course_body x ≡ course_body y = cc in
+    let later : map course_body few ≡ map course_body courses = cc in
+    let index : x.index ≡ y.index = ap (λ (b : CourseBody). b.index) first in
     let from = ascend.0 in
     let below = ascend.1.0 in
-    let rest : AreAscending (x.index + 1) n courses = subst (λ (i : ℕ). AreAscending (i + 1) n courses) (sym index) ascend.1.1 in
+    let rest : HaveAscendingIndexes (x.index + 1) n courses = subst (λ (i : ℕ). HaveAscendingIndexes (i + 1) n courses) (sym index) ascend.1.1 in
     (omega (arith, from, index), (omega (arith, below, index), ascend_alike (x.index + 1) n few courses later rest))
 
-ascend_step : (least n : ℕ) (c : Course) (rest : List Course) (its : Bool) → least ≤ c.index → c.index < n → AreAscending (c.index + 1) n rest →
-    AreAscending least n (if its then (c ∷ rest) else rest)
+ascend_step : (least n : ℕ) (c : Course) (rest : List Course) (its : Bool) → least ≤ c.index → c.index < n → HaveAscendingIndexes (c.index + 1) n rest →
+    HaveAscendingIndexes least n (if its then (c ∷ rest) else rest)
 ascend_step least n c rest true from below ascend = (from, (below, ascend))
 ascend_step least n c rest false from below ascend = ascend_from least (c.index + 1) n rest (omega (arith, from)) ascend
 
-pub ascend_kept : (keep : Course → Bool) (least n : ℕ) (courses : List Course) → AreAscending least n courses → AreAscending least n (filter keep courses)
+pub ascend_kept : (keep : Course → Bool) (least n : ℕ) (courses : List Course) → HaveAscendingIndexes least n courses → HaveAscendingIndexes least n (filter keep courses)
 ascend_kept keep least n [] ascend = tt
 ascend_kept keep least n (c ∷ courses) ascend =
     ascend_step least n c (filter keep courses) (keep c) ascend.0 ascend.1.0 (ascend_kept keep (c.index + 1) n courses ascend.1.1)
@@ -89,8 +89,8 @@ ascend_kept keep least n (c ∷ courses) ascend =
 
 -- one that never passes the bound is kept, and stands before one that is past it
 within_before : (from near far : List Epoch) (p o m t : ℕ) (w : Window) (sight : Sight) (d : ℤ) → IsSight from near w sight → w.lo ≤ t → t ≤ w.hi →
-    squared_along from far t ≡ Some d → pos m <ℤ d → is_within m sight ≡ true →
-    (is_kept (Some m) sight ≡ true) × (stands_before (squared_along from near t) p (squared_along from far t) o ≡ true)
+    squared_along from far t ≡ Some d → pos m <ℤ d → is_surely_within m sight ≡ true →
+    (may_come_within (Some m) sight ≡ true) × (stands_before (squared_along from near t) p (squared_along from far t) o ≡ true)
 within_before from near far p o m t w (sights.Straight band) d is begun up_to square past inside =
     let bounds = is.bounds t begun up_to in
     let low = bounds.0 in
@@ -108,13 +108,13 @@ past_bound : (least : ℤ) (m : ℕ) → int_le least (pos m) ≡ false → pos 
 past_bound least m is = grind (arith, ints, nat_tests)
 
 abbrev pub EnoughWithin : ℕ → Option ℕ → List Course → Type 0
-EnoughWithin k bound seen = IfSome bound (λ m. k ≤ count_by (λ (c : Course). is_within m c.sight) seen)
+EnoughWithin k bound seen = IfSome bound (λ m. k ≤ count_by (λ (c : Course). is_surely_within m c.sight) seen)
 
 -- an object that is left out is absent, or k kept ones stand before it
 behind : (from far : List Epoch) (o k t : ℕ) (w : Window) (bound : Option ℕ) (seen : List Course) (sight : Sight) → All (IsSeenFrom from w) seen →
-    EnoughWithin k bound seen → IsSight from far w sight → w.lo ≤ t → t ≤ w.hi → is_kept bound sight ≡ false →
+    EnoughWithin k bound seen → IsSight from far w sight → w.lo ≤ t → t ≤ w.hi → may_come_within bound sight ≡ false →
     (squared_along from far t ≡ None)
-    ⊎ (k ≤ count_by (λ (p : Course). stands_before (squared_along from p.timeline.now t) p.id (squared_along from far t) o) (filter (λ (c : Course). is_kept bound c.sight) seen))
+    ⊎ (k ≤ count_by (λ (p : Course). stands_before (squared_along from p.timeline.now t) p.id (squared_along from far t) o) (filter (λ (c : Course). may_come_within bound c.sight) seen))
 behind from far o k t w bound seen sights.Absent all enough is begun up_to out = inl (is t begun up_to)
 behind from far o k t w bound seen sights.Unknown all enough is begun up_to out = absurd (false≢true (sym out))
 behind from far o k t w None seen (sights.Straight band) all enough is begun up_to out = absurd (false≢true (sym out))
@@ -126,11 +126,11 @@ behind from far o k t w (Some m) seen (sights.Straight band) all enough is begun
     let d = separation_after band.separation (t - w.lo) in
     let more : pos m <ℤ d = omega (arith, ints, past, low) in
     let few =
-    counted_among_kept (λ (c : Course). is_within m c.sight) (λ (c : Course). is_kept (Some m) c.sight)
+    counted_among_kept (λ (c : Course). is_surely_within m c.sight) (λ (c : Course). may_come_within (Some m) c.sight)
     (λ (p : Course). stands_before (squared_along from p.timeline.now t) p.id (squared_along from far t) o) seen
     (All-weaker (IsSeenFrom from w)
-    (λ (c : Course). is_within m c.sight ≡ true →
-    (is_kept (Some m) c.sight ≡ true) × (stands_before (squared_along from c.timeline.now t) c.id (squared_along from far t) o ≡ true))
+    (λ (c : Course). is_surely_within m c.sight ≡ true →
+    (may_come_within (Some m) c.sight ≡ true) × (stands_before (squared_along from c.timeline.now t) c.id (squared_along from far t) o ≡ true))
     (λ c of_c inside. within_before from c.timeline.now far c.id o m t w c.sight d of_c begun up_to square more inside) seen all) in
     inr (omega (arith, enough, few))
 
@@ -148,7 +148,7 @@ and_false false c is = refl
 module _ (from : List Epoch) (k t : ℕ) (w : Window) (bound : Option ℕ) (seen : List Course) (all : All (IsSeenFrom from w) seen)
     (enough : EnoughWithin k bound seen) (begun : w.lo ≤ t) (up_to : t ≤ w.hi) where
   abbrev pub keep : Course → Bool
-  keep c = is_kept bound c.sight
+  keep c = may_come_within bound c.sight
 
   abbrev pub IsBehind : Course → Type 0
   IsBehind x = keep x ≡ false → (squared_along from x.timeline.now t ≡ None) ⊎ (k ≤ count_by (λ p. goes_before from p x t) (filter keep seen))
@@ -222,8 +222,8 @@ pub ascending_counted : (numbers : List ℕ) (i : ℕ) → IsNonDecreasing numbe
 ascending_counted numbers i sorted below = least_counted numbers i (slice_index numbers i) below (λ j before. sorted j i 0 before below)
 
 pub some_bound : (bound : Option ℕ) (given : List Course) (k : ℕ) (mosts sorted : List ℕ) →
-    ((m : ℕ) → count_to mosts m ≤ count_by (λ (c : Course). is_within m c.sight) given) → ((m : ℕ) → count_to sorted m ≡ count_to mosts m) →
-    IfSome bound (λ m. k ≤ count_to sorted m) → IfSome bound (λ m. k ≤ count_by (λ (c : Course). is_within m c.sight) given)
+    ((m : ℕ) → count_to mosts m ≤ count_by (λ (c : Course). is_surely_within m c.sight) given) → ((m : ℕ) → count_to sorted m ≡ count_to mosts m) →
+    IfSome bound (λ m. k ≤ count_to sorted m) → IfSome bound (λ m. k ≤ count_by (λ (c : Course). is_surely_within m c.sight) given)
 some_bound None given k mosts sorted counted alike bound = bound
 some_bound (Some m) given k mosts sorted counted alike bound = let these = counted m in let those = alike m in omega (arith, these, those, bound)
 
@@ -244,11 +244,11 @@ pub mosts_pushed : (mosts : List ℕ) (most m n : ℕ) → count_to mosts m ≡ 
 mosts_pushed mosts most m n is = sum_by_push (λ u. cond (nat_le u m) 1 0) mosts most ∙ ap (λ x. x + cond (nat_le most m) 1 0) is
 
 pub bodies_more : (courses seen new : List Course) (i : ℕ) (c x : Course) → i < length courses → c ≡ get_or courses i c → new ≡ seen ++ x ∷ [] →
-    body_of x ≡ body_of c → map body_of seen ≡ map body_of (take i courses) → map body_of new ≡ map body_of (take (i + 1) courses)
+    course_body x ≡ course_body c → map course_body seen ≡ map course_body (take i courses) → map course_body new ≡ map course_body (take (i + 1) courses)
 bodies_more courses seen new i c x below is pushed same bodies =
-    ap (map body_of) pushed
-    ∙ map-append body_of seen (x ∷ [])
+    ap (map course_body) pushed
+    ∙ map-append course_body seen (x ∷ [])
     ∙ (λ j. bodies j ++ same j ∷ [])
-    ∙ ap (λ (last : Course). map body_of (take i courses) ++ body_of last ∷ []) is
-    ∙ sym (map-append body_of (take i courses) (get_or courses i c ∷ []))
-    ∙ ap (map body_of) (sym (take_more courses i c below))
+    ∙ ap (λ (last : Course). map course_body (take i courses) ++ course_body last ∷ []) is
+    ∙ sym (map-append course_body (take i courses) (get_or courses i c ∷ []))
+    ∙ ap (map course_body) (sym (take_more courses i c below))

@@ -1,12 +1,10 @@
 -- Objects of a class and how they move, as seen from the object that is asked for.
-use Rattle.std.specs.Prelude.{◌≡◌, ℕ, ℤ, ◌+◌, ◌<◌, ◌≤◌, ◌==◌, nat_lt, Bool, ◌&&◌, Option, None, is_some, option_and_then, IfSome, List, [], ◌∷◌, count_by, slice_index_or, ⊤}
+use Rattle.std.specs.Prelude.{◌≡◌, ℕ, ℤ, ◌+◌, ◌<◌, ◌≤◌, ◌==◌, nat_lt, Bool, ◌&&◌, Option, is_some, List, [], ◌∷◌, count_by, ⊤}
 use Rattle.std.specs.List.{list_any}
-use Rattle.std.specs.Option.{option_copied}
-use Rattle.fixed_point.specs.declared.number.Point.{Point}
 use Rattle.motion.specs.Timeline.{Epoch, state_at}
-use Rattle.motion.specs.Pieces.{AreSteadyCells}
-use Rattle.courses.specs.Places.{place_at, place_of}
+use Rattle.courses.specs.Places.{place_at}
 use Rattle.courses.specs.declared.parts.Common.{Common}
+use Rattle.courses.specs.CommonParts.{place_in}
 use Rattle.history.specs.History.{cells_at}
 use Rattle.object_store.specs.Contents.{Contents, history_of}
 use Rattle.nearness.specs.Nearest.{squared_between, stands_before}
@@ -43,20 +41,12 @@ AreNumbered first [] = ⊤
 AreNumbered first (c ∷ courses) = (c.index ≡ first) × AreNumbered (first + 1) courses
 
 -- their indexes ascend, from `least` on and below n
-abbrev pub AreAscending : ℕ → ℕ → List Course → Type 0
-AreAscending least n [] = ⊤
-AreAscending least n (c ∷ courses) = (least ≤ c.index) × ((c.index < n) × AreAscending (c.index + 1) n courses)
+abbrev pub HaveAscendingIndexes : ℕ → ℕ → List Course → Type 0
+HaveAscendingIndexes least n [] = ⊤
+HaveAscendingIndexes least n (c ∷ courses) = (least ≤ c.index) × ((c.index < n) × HaveAscendingIndexes (c.index + 1) n courses)
 
 -- ---- common parts
-
--- where the object of the timeline of an index is, while the epochs of a common part are in force
-abbrev pub place_in : Common → ℕ → ℕ → Option Point
-place_in common k t = option_and_then (λ p. place_of p t) (option_copied (slice_index_or common.epochs k None))
 
 -- the square of its distance from the object of the first timeline
 abbrev pub squared_in : Common → ℕ → ℕ → Option ℤ
 squared_in common k t = squared_between (place_in common 0 t) (place_in common k t)
-
-abbrev pub IsSteadyPart : Common → Type 0
-IsSteadyPart common =
-    (k : ℕ) → IfSome (slice_index_or common.epochs k None) (λ epoch. AreSteadyCells epoch.now common.span.lo common.span.hi)

@@ -4,8 +4,8 @@ use Rattle.tick_set.specs.Ticks.{within}
 use Rattle.tick_set.specs.declared.spans.Span.{Span}
 
 -- how many of the stretches have the tick t
-abbrev pub depth : List Span → ℕ → ℕ
-depth stretches t = count_by (λ s. within s.lo s.hi t) stretches
+abbrev pub depth_at : List Span → ℕ → ℕ
+depth_at stretches t = count_by (λ s. within s.lo s.hi t) stretches
 
 -- one where it is so, and else none
 abbrev pub one_if : Bool → ℕ

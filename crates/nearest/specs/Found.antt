@@ -4,7 +4,7 @@ use Rattle.tick_set.specs.Runs.{spans_have}
 use Rattle.tick_set.specs.declared.spans.Span.{Span}
 use Rattle.tick_set.specs.declared.spans.Window.{Window}
 use Rattle.motion.specs.Timeline.{Epoch}
-use Rattle.nearest.specs.Courses.{AreAscending, index_near}
+use Rattle.nearest.specs.Courses.{HaveAscendingIndexes, index_near}
 use Rattle.nearest.specs.Sights.{IsSeenFrom}
 use Rattle.nearest.specs.declared.course.Course.{Course}
 
@@ -21,7 +21,7 @@ HaveMore from courses k lo until old new = (i t : ℕ) → i < length old → sp
     ≡ (spans_have (runs_at old i) t || (nat_le lo t && nat_lt t until && index_near from courses k courses i t))
 
 -- the courses are seen as they are in the slice and have their places in order, and what is found is before it
-pub record AreReady (from : List Epoch) (slice : Window) (courses : List Course) (found : List (List Span)) : Type 0 where
+pub record FitSlice (from : List Epoch) (slice : Window) (courses : List Course) (found : List (List Span)) : Type 0 where
   pub seen : All (IsSeenFrom from slice) courses
-  pub ascending : AreAscending 0 (length found) courses
+  pub ascending : HaveAscendingIndexes 0 (length found) courses
   pub before : AreBefore slice.lo found

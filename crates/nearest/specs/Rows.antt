@@ -11,21 +11,21 @@ use Rattle.nearest.specs.declared.course.Course.{Course}
 use Rattle.nearest.specs.declared.rows.NearRow.{NearRow}
 
 -- the object of a row, and the maximal runs of its ticks
-abbrev pub told_row : NearRow → Row
-told_row row = record { key = row.id ∷ []; runs = pairs row.ticks }
+abbrev pub told_near_row : NearRow → Row
+told_near_row row = record { key = row.id ∷ []; runs = pairs row.ticks }
 
 abbrev pub told_near : List NearRow → List Row
-told_near rows = map told_row rows
+told_near rows = map told_near_row rows
 
 -- a row, if it has a tick
 abbrev pub if_some : Row → List Row
 if_some row = filter (λ r. has_ticks r.runs) (row ∷ [])
 
 -- the row of an object, by the ticks of the window at which it passes the test
-abbrev pub row_of : ℕ → (ℕ → Bool) → Window → Row
-row_of id test w = record { key = id ∷ []; runs = runs_of (listed test w.lo w.hi) }
+abbrev pub object_row : ℕ → (ℕ → Bool) → Window → Row
+object_row id test w = record { key = id ∷ []; runs = runs_of (listed test w.lo w.hi) }
 
 -- the rows of some of the courses, by their ranks among all of them
 abbrev pub rows_along : List Epoch → List Course → ℕ → Window → List Course → List Row
 rows_along from courses k w some =
-    filter (λ r. has_ticks r.runs) (map (λ c. row_of c.id (is_near_along from courses k c) w) some)
+    filter (λ r. has_ticks r.runs) (map (λ c. object_row c.id (is_near_along from courses k c) w) some)

@@ -17,12 +17,12 @@ pub struct Band {
 }
 
 impl Band {
-    ghost use Rattle.nearest.specs.Sights.{IsBounded};
+    ghost use Rattle.nearest.specs.Sights.{IsInBand};
 
     /// The separation with its bounds in the slice.
     pub fn of(separation: Separation, slice: Window) -> Band
         ensures separation { result.separation ≡ separation }
-        ensures bounds { IsBounded slice result }
+        ensures bounds { IsInBand slice result }
     {
         let last = slice.hi - slice.lo;
         let rise = Rise {

@@ -1,6 +1,6 @@
 //! The objects that are near throughout a slice of time.
 ghost use Rattle.std.specs.Prelude.{◌≡◌, ◌<◌, true, IfOk, Some, count_by};
-ghost use Rattle.nearest.specs.Sights.{AreFewWithin, is_kept, never_passes};
+ghost use Rattle.nearest.specs.Sights.{AreFewWithin, may_come_within, never_passes};
 
 use crate::course::Course;
 use crate::sight::Sight;
@@ -57,7 +57,7 @@ fn before_last(ascending: &[u128], k: u32) -> u128 {
 
 // Whether fewer than `k` of the objects may come within the bound.
 fn are_few_within(courses: &[Course], bound: u128, k: u32) -> bool
-    ensures { result ≡ true → count_by (λ c. is_kept (Some bound) c.sight) courses.now < k }
+    ensures { result ≡ true → count_by (λ c. may_come_within (Some bound) c.sight) courses.now < k }
 {
     if k == 0 {
         return false;

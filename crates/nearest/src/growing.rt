@@ -1,7 +1,7 @@
 //! Slices of time that grow.
 ghost use Rattle.std.specs.Prelude.{◌≡◌, ◌+◌, ◌≤◌, IfOk, length};
 ghost use Rattle.tick_set.specs.declared.spans.TheConstants.{LAST_TICK};
-ghost use Rattle.nearest.specs.Courses.{AreAscending};
+ghost use Rattle.nearest.specs.Courses.{HaveAscendingIndexes};
 ghost use Rattle.nearest.specs.Found.{AreBefore, HaveMore};
 
 use crate::course::Course;
@@ -22,7 +22,7 @@ pub fn add_growing(
     w: Window,
     left: &mut u64,
 ) -> Result<u32, AllocError>
-    requires ascending { AreAscending 0 (length found.old.items) courses.now }
+    requires ascending { HaveAscendingIndexes 0 (length found.old.items) courses.now }
     requires before { AreBefore w.lo found.old.items }
     ensures length { length found.new.items ≡ length found.old.items }
     ensures bounds { IfOk result (λ until. (w.lo ≤ until) × (until ≤ w.hi + 1)) }

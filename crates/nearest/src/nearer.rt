@@ -3,7 +3,7 @@ ghost use Rattle.std.specs.Prelude.{◌≡◌, ◌-◌, ◌≤◌, ◌&&◌, not
 ghost use Rattle.linear_crossing.specs.Zones.{spans_of};
 ghost use Rattle.tick_set.specs.Runs.{IsRuns, spans_have};
 ghost use Rattle.tick_set.specs.Ticks.{within};
-ghost use Rattle.nearest.specs.Depth.{depth, one_if};
+ghost use Rattle.nearest.specs.Depth.{depth_at, one_if};
 ghost use Rattle.nearest.specs.Order.{is_below, separation_after};
 
 use crate::low::low_ticks;
@@ -15,7 +15,7 @@ use tick_set::{Span, Window};
 /// The ticks of the window at which the first separation is less than the second, or as much where ties are asked for
 /// too. Both are by the ticks since the window's first.
 pub fn nearer(first: &Separation, second: &Separation, ties: bool, w: Window) -> Pair
-    ensures { (t : ℕ) → depth (spans_of result) t ≡ one_if (within w.lo w.hi t
+    ensures { (t : ℕ) → depth_at (spans_of result) t ≡ one_if (within w.lo w.hi t
         && is_below ties (separation_after first.now (t - w.lo)) (separation_after second.now (t - w.lo))) }
 {
     if second.quadratic <= first.quadratic {
@@ -48,7 +48,7 @@ fn limit_for(ties: bool) -> i128
 // The ticks of the window that are not in the run, which has no others.
 fn all_but(w: Window, run: Option<Span>) -> Pair
     requires { (t : ℕ) → spans_have (option_to_list run) t ≡ true → within w.lo w.hi t ≡ true }
-    ensures { (t : ℕ) → depth (spans_of result) t
+    ensures { (t : ℕ) → depth_at (spans_of result) t
         ≡ one_if (within w.lo w.hi t && not (spans_have (option_to_list run) t)) }
 {
     match run {

@@ -5,7 +5,7 @@ ghost use Rattle.motion.specs.Timeline.{Epoch};
 ghost use Rattle.tick_set.specs.Ticks.{within};
 ghost use Rattle.tick_set.specs.declared.spans.Window.{Window};
 ghost use Rattle.nearest.specs.Courses.{goes_before, rank_along};
-ghost use Rattle.nearest.specs.Depth.{depth, one_if};
+ghost use Rattle.nearest.specs.Depth.{depth_at, one_if};
 ghost use Rattle.nearest.specs.Sights.{AreFewWithin, IsSeenFrom};
 
 use crate::band::order_by_bounds;
@@ -37,7 +37,7 @@ pub fn gather(
     requires none { stretches.old.items ≡ [] }
     requires sure { AreFewWithin k sure courses.now }
     ensures { IfOk result (λ throughout. (t : ℕ) → within w.lo w.hi t ≡ true
-        → nat_lt (depth stretches.new.items t) (k - throughout) ≡ nat_lt (rank_along target.now courses.now o.now t) k) }
+        → nat_lt (depth_at stretches.new.items t) (k - throughout) ≡ nat_lt (rank_along target.now courses.now o.now t) k) }
 {
     if stays_within(&o.sight, sure) {
         return Ok(0);
@@ -73,8 +73,8 @@ fn add_unless_known(
 ) -> Result<bool, AllocError>
     requires p_seen { IsSeenFrom target.now w p.now }
     requires o_seen { IsSeenFrom target.now w o.now }
-    ensures { IfOk result (λ throughout. (t : ℕ) → within w.lo w.hi t ≡ true → one_if throughout + depth stretches.new.items t
-        ≡ depth stretches.old.items t + one_if (goes_before target.now p.now o.now t)) }
+    ensures { IfOk result (λ throughout. (t : ℕ) → within w.lo w.hi t ≡ true → one_if throughout + depth_at stretches.new.items t
+        ≡ depth_at stretches.old.items t + one_if (goes_before target.now p.now o.now t)) }
 {
     if let Some(before) = known_order(p, o) {
         return Ok(before);
@@ -107,7 +107,7 @@ fn add_before(
 ) -> Result<(), AllocError>
     requires p_seen { IsSeenFrom target.now w p.now }
     requires o_seen { IsSeenFrom target.now w o.now }
-    ensures { OnOk result ((t : ℕ) → depth stretches.new.items t ≡ depth stretches.old.items t
+    ensures { OnOk result ((t : ℕ) → depth_at stretches.new.items t ≡ depth_at stretches.old.items t
         + one_if (within w.lo w.hi t && goes_before target.now p.now o.now t)) }
 {
     if let Sight::Straight(first) = &p.sight {
@@ -127,7 +127,7 @@ fn add_by_parts(
     target: &Timeline,
     w: Window,
 ) -> Result<(), AllocError>
-    ensures { OnOk result ((t : ℕ) → depth stretches.new.items t ≡ depth stretches.old.items t
+    ensures { OnOk result ((t : ℕ) → depth_at stretches.new.items t ≡ depth_at stretches.old.items t
         + one_if (within w.lo w.hi t && goes_before target.now p.now o.now t)) }
 {
     let timelines = [target, p.timeline, o.timeline];
@@ -142,16 +142,16 @@ fn add_by_parts(
 
 // Adds up to two stretches.
 fn add(stretches: &mut Vec<Span>, found: &Pair) -> Result<(), AllocError>
-    ensures { OnOk result ((t : ℕ) → depth stretches.new.items t
-        ≡ depth stretches.old.items t + depth (spans_of found.now) t) }
+    ensures { OnOk result ((t : ℕ) → depth_at stretches.new.items t
+        ≡ depth_at stretches.old.items t + depth_at (spans_of found.now) t) }
 {
     add_run(stretches, found.first)?;
     add_run(stretches, found.second)
 }
 
 fn add_run(stretches: &mut Vec<Span>, run: Option<Span>) -> Result<(), AllocError>
-    ensures { OnOk result ((t : ℕ) → depth stretches.new.items t
-        ≡ depth stretches.old.items t + depth (option_to_list run) t) }
+    ensures { OnOk result ((t : ℕ) → depth_at stretches.new.items t
+        ≡ depth_at stretches.old.items t + depth_at (option_to_list run) t) }
 {
     if let Some(span) = run {
         stretches.push(span)?;

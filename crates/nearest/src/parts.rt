@@ -4,9 +4,10 @@ ghost use Rattle.linear_crossing.specs.Moving.{IsInReach, position_after};
 ghost use Rattle.linear_crossing.specs.Zones.{spans_of};
 ghost use Rattle.nearness.specs.Nearest.{stands_before};
 ghost use Rattle.tick_set.specs.Ticks.{within};
-ghost use Rattle.nearest.specs.Courses.{IsSteadyPart, place_in, squared_in};
-ghost use Rattle.nearest.specs.Depth.{depth, one_if};
+ghost use Rattle.nearest.specs.Courses.{squared_in};
+ghost use Rattle.nearest.specs.Depth.{depth_at, one_if};
 ghost use Rattle.nearest.specs.Order.{separation_after};
+ghost use Rattle.courses.specs.CommonParts.{IsSteadyPart, place_in};
 
 use crate::nearer::nearer;
 use crate::squares::Separation;
@@ -18,7 +19,7 @@ use object_store::ObjectId;
 /// of its first.
 pub fn before_in(common: &Common, first: ObjectId, second: ObjectId) -> Pair
     requires { IsSteadyPart common.now }
-    ensures { (t : ℕ) → depth (spans_of result) t ≡ one_if (within common.now.span.lo common.now.span.hi t
+    ensures { (t : ℕ) → depth_at (spans_of result) t ≡ one_if (within common.now.span.lo common.now.span.hi t
         && stands_before (squared_in common.now 1 t) first (squared_in common.now 2 t) second) }
 {
     match separation_in(common, 1) {

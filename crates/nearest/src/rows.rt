@@ -7,7 +7,7 @@ ghost use Rattle.tick_set.specs.Runs.{IsNormal, spans_have};
 ghost use Rattle.tick_set.specs.Ticks.{within};
 ghost use Rattle.tick_set.specs.declared.spans.Window.{Window};
 ghost use Rattle.nearest.specs.Courses.{AreNumbered};
-ghost use Rattle.nearest.specs.Rows.{if_some, row_of, rows_along, told_near};
+ghost use Rattle.nearest.specs.Rows.{if_some, object_row, rows_along, told_near};
 
 use crate::course::{Course, courses_of};
 use crate::slices::near_runs;
@@ -83,7 +83,7 @@ fn add_row(
 ) -> Result<(), AllocError>
     requires { IsNormal runs.now }
     ensures { OnOk result ((test : ℕ → Bool) (w : Window) → ((t : ℕ) → spans_have runs.now t ≡ (within w.lo w.hi t && test t))
-        → told_near rows.new.items ≡ told_near rows.old.items ++ if_some (row_of id test w)) }
+        → told_near rows.new.items ≡ told_near rows.old.items ++ if_some (object_row id test w)) }
 {
     if !runs.is_empty() {
         let spans = Vec::from_slice(alloc, runs)?;

@@ -3,7 +3,7 @@ ghost use Rattle.std.specs.Prelude.{◌≡◌, ◌+◌, ◌&&◌, ℕ, nat_lt, A
 ghost use Rattle.tick_set.specs.Runs.{IsRuns, spans_have};
 ghost use Rattle.tick_set.specs.Ticks.{within};
 ghost use Rattle.nearest.specs.Courses.{is_near_along, rank_along};
-ghost use Rattle.nearest.specs.Found.{AreReady, HaveMore};
+ghost use Rattle.nearest.specs.Found.{FitSlice, HaveMore};
 ghost use Rattle.nearest.specs.Sights.{AreFewWithin, IsSeenFrom};
 
 use crate::certain::sure_bound;
@@ -26,7 +26,7 @@ pub fn add_near(
     k: u32,
     slice: Window,
 ) -> Result<(), AllocError>
-    requires { AreReady target.now slice courses.now found.old.items }
+    requires { FitSlice target.now slice courses.now found.old.items }
     ensures length { length found.new.items ≡ length found.old.items }
     ensures found { OnOk result
         (HaveMore target.now courses.now k slice.lo (slice.hi + 1) found.old.items found.new.items) }

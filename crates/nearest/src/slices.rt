@@ -2,8 +2,8 @@
 ghost use Rattle.std.specs.Prelude.{◌≡◌, ◌+◌, ◌<◌, ◌≤◌, ◌&&◌, ℕ, IfOk, OnOk, length};
 ghost use Rattle.tick_set.specs.Runs.{spans_have};
 ghost use Rattle.tick_set.specs.Ticks.{within};
-ghost use Rattle.nearest.specs.Courses.{AreAscending, AreNumbered, index_near};
-ghost use Rattle.nearest.specs.Found.{AreBefore, AreReady, HaveMore, runs_at};
+ghost use Rattle.nearest.specs.Courses.{AreNumbered, HaveAscendingIndexes, index_near};
+ghost use Rattle.nearest.specs.Found.{AreBefore, FitSlice, HaveMore, runs_at};
 
 use crate::course::Course;
 use crate::found::none_found;
@@ -58,7 +58,7 @@ pub fn add_slices(
     slice: Window,
     left: &mut u64,
 ) -> Result<u32, AllocError>
-    requires ascending { AreAscending 0 (length found.old.items) courses.now }
+    requires ascending { HaveAscendingIndexes 0 (length found.old.items) courses.now }
     requires before { AreBefore slice.lo found.old.items }
     ensures length { length found.new.items ≡ length found.old.items }
     ensures bounds { IfOk result (λ until. (slice.lo ≤ until) × (until ≤ slice.hi + 1)) }
@@ -117,7 +117,7 @@ fn add_slice(
     slice: Window,
     left: &mut u64,
 ) -> Result<u32, AllocError>
-    requires { AreReady target.now slice courses.now found.old.items }
+    requires { FitSlice target.now slice courses.now found.old.items }
     ensures length { length found.new.items ≡ length found.old.items }
     ensures bounds { IfOk result (λ until. (slice.lo ≤ until) × (until ≤ slice.hi + 1)) }
     ensures found { IfOk result (λ until. HaveMore target.now courses.now k slice.lo until found.old.items found.new.items) }
@@ -140,7 +140,7 @@ fn add_rest(
     k: u32,
     slice: Window,
 ) -> Result<(), AllocError>
-    requires ascending { AreAscending 0 (length found.old.items) courses.now }
+    requires ascending { HaveAscendingIndexes 0 (length found.old.items) courses.now }
     requires before { AreBefore slice.lo found.old.items }
     ensures length { length found.new.items ≡ length found.old.items }
     ensures found { OnOk result

@@ -4,7 +4,7 @@ ghost use Rattle.std.specs.List.Sorted.{IsNonDecreasing};
 ghost use Rattle.tick_set.specs.Runs.{IsRuns, spans_have};
 ghost use Rattle.tick_set.specs.Ticks.{within};
 ghost use Rattle.tick_set.specs.declared.spans.TheConstants.{LAST_TICK};
-ghost use Rattle.nearest.specs.Depth.{AreComeBy, count_to, depth};
+ghost use Rattle.nearest.specs.Depth.{AreComeBy, count_to, depth_at};
 
 use std::alloc::{AllocError, Global};
 use tick_set::{Runs, Span, Window};
@@ -17,7 +17,7 @@ pub fn ticks_below(
     k: u32,
     w: Window,
 ) -> Result<Vec<Span>, AllocError>
-    ensures { IfOk result (λ runs. IsRuns (λ t. within w.lo w.hi t && nat_lt (depth stretches.now t) k) runs.items) }
+    ensures { IfOk result (λ runs. IsRuns (λ t. within w.lo w.hi t && nat_lt (depth_at stretches.now t) k) runs.items) }
 {
     let begins = starts_of(alloc, stretches)?;
     let starts = sorted(begins);

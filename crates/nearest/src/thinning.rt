@@ -2,9 +2,9 @@
 ghost use Rattle.std.specs.Prelude.{◌≡◌, ◌+◌, ◌≤◌, ℕ, pos, int_le, All, IfOk, IfSome, OnOk, count_by, map};
 ghost use Rattle.std.specs.List.{filter};
 ghost use Rattle.std.specs.List.Sorted.{IsNonDecreasing};
-ghost use Rattle.nearest.specs.Courses.{AreAscending};
+ghost use Rattle.nearest.specs.Courses.{HaveAscendingIndexes};
 ghost use Rattle.nearest.specs.Depth.{count_to, one_if};
-ghost use Rattle.nearest.specs.Sights.{AreEnough, IsSeenFrom, body_of, is_kept, is_within};
+ghost use Rattle.nearest.specs.Sights.{AreEnough, IsSeenFrom, course_body, is_surely_within, may_come_within};
 
 use crate::course::Course;
 use crate::sight::{Sight, sight_of};
@@ -22,7 +22,7 @@ pub fn thinned<'a>(
     slice: Window,
 ) -> Result<Vec<Course<'a>>, AllocError>
     ensures seen { IfOk result (λ few. All (IsSeenFrom target.now slice) few.items) }
-    ensures ascending { IfOk result (λ few. (n : ℕ) → AreAscending 0 n courses.now → AreAscending 0 n few.items) }
+    ensures ascending { IfOk result (λ few. (n : ℕ) → HaveAscendingIndexes 0 n courses.now → HaveAscendingIndexes 0 n few.items) }
     ensures enough { IfOk result (λ few. AreEnough target.now k slice few.items courses.now) }
 {
     let seen = seen_in(alloc, courses, target, slice)?;
@@ -38,7 +38,7 @@ fn seen_in<'a>(
     target: &Timeline,
     slice: Window,
 ) -> Result<Vec<Course<'a>>, AllocError>
-    ensures bodies { IfOk result (λ seen. map body_of seen.items ≡ map body_of courses.now) }
+    ensures bodies { IfOk result (λ seen. map course_body seen.items ≡ map course_body courses.now) }
     ensures seen { IfOk result (λ seen. All (IsSeenFrom target.now slice) seen.items) }
 {
     let mut seen = Vec::with_capacity(alloc, courses.len())?;
@@ -56,7 +56,7 @@ fn seen_in<'a>(
 
 // A square that `k` of the objects never pass. None tells nothing.
 fn bound_of(alloc: Global, seen: &[Course], k: u32) -> Result<Option<u128>, AllocError>
-    ensures { IfOk result (λ bound. IfSome bound (λ m. k ≤ count_by (λ c. is_within m c.sight) seen.now)) }
+    ensures { IfOk result (λ bound. IfSome bound (λ m. k ≤ count_by (λ c. is_surely_within m c.sight) seen.now)) }
 {
     let found = mosts_of(alloc, seen, k)?;
     let mosts = ascending(found);
@@ -65,7 +65,7 @@ fn bound_of(alloc: Global, seen: &[Course], k: u32) -> Result<Option<u128>, Allo
 
 // Of the squares that the objects never pass, as far as they are known, the least, as many as `k` if there are so many.
 fn mosts_of(alloc: Global, seen: &[Course], k: u32) -> Result<Vec<u128>, AllocError>
-    ensures { IfOk result (λ mosts. (m : ℕ) → count_to mosts.items m ≤ count_by (λ c. is_within m c.sight) seen.now) }
+    ensures { IfOk result (λ mosts. (m : ℕ) → count_to mosts.items m ≤ count_by (λ c. is_surely_within m c.sight) seen.now) }
 {
     let mut mosts = Vec::new(alloc);
     let mut limit = u128::MAX;
@@ -81,7 +81,7 @@ fn mosts_of(alloc: Global, seen: &[Course], k: u32) -> Result<Vec<u128>, AllocEr
 #[inline]
 fn add_most(mosts: &mut Vec<u128>, sight: &Sight, limit: u128) -> Result<(), AllocError>
     ensures { OnOk result ((m : ℕ) → count_to mosts.new.items m
-        ≤ count_to mosts.old.items m + one_if (is_within m sight.now)) }
+        ≤ count_to mosts.old.items m + one_if (is_surely_within m sight.now)) }
 {
     if let Sight::Straight(band) = sight
         && band.most < limit
@@ -134,7 +134,7 @@ fn least_of(ascending: &[u128], k: u32) -> Option<u128>
 
 // The courses without those that are absent or stay past the bound.
 fn kept<'a>(seen: Vec<Course<'a>>, bound: Option<u128>) -> Vec<Course<'a>>
-    ensures { result.items ≡ filter (λ c. is_kept bound c.sight) seen.entry.items }
+    ensures { result.items ≡ filter (λ c. may_come_within bound c.sight) seen.entry.items }
 {
     let mut few = seen;
     few.retain(|c| is_kept(&c.sight, bound));
@@ -143,7 +143,7 @@ fn kept<'a>(seen: Vec<Course<'a>>, bound: Option<u128>) -> Vec<Course<'a>>
 
 /// Whether an object may come within the bound.
 pub fn is_kept(sight: &Sight, bound: Option<u128>) -> bool
-    ensures { result ≡ is_kept bound sight.now }
+    ensures { result ≡ may_come_within bound sight.now }
 {
     match sight {
         Sight::Straight(band) => match bound {

@@ -2,17 +2,18 @@
 use Rattle.std.specs.Prelude.{◌≡◌, ℕ, ℤ, pos, negsuc, ◌==◌, true, false, Option, None, Some, List, [], ◌∷◌, codes, if◌then◌else◌}
 use Rattle.motion.specs.Function.{level}
 use Rattle.motion.specs.declared.cell.Place.{Place}
+use Rattle.motion.specs.Cells.{nowhere}
 use Rattle.history.specs.Write.{Write, Insert, Remove}
 use Rattle.history.specs.History.{History, history}
 use Rattle.meaning.specs.Answer.{Row}
-use Rattle.meaning.specs.ExampleParts.{at_point, car_class, nowhere, post_class, standing}
+use Rattle.meaning.specs.ExampleParts.{at_point, car_class, post_class, standing_at}
 use Rattle.nearness.specs.Nearest.{is_near, near, rank}
 
-abbrev pub has : ℕ → List (ℕ × ℕ) → Row
-has id runs = record { key = id ∷ []; runs = runs }
+abbrev pub row_with : ℕ → List (ℕ × ℕ) → Row
+row_with id runs = record { key = id ∷ []; runs = runs }
 
-abbrev pub car : ℕ → List ℕ → Place → Write
-car tick name place = Insert tick (codes "car") name place []
+abbrev pub car_inserted : ℕ → List ℕ → Place → Write
+car_inserted tick name place = Insert tick (codes "car") name place []
 
 -- four objects: one that is absent, two with one distance, and one that is nearer
 abbrev pub squares : ℕ → Option ℤ
@@ -29,23 +30,23 @@ pub record Ranks : Type 0 where
 
 -- A post stands at 0, and a car beside it, 5 units away. Another car comes from 10 units and passes through: at ticks 5 and
 -- 15 it is 5 units away too.
-abbrev pub passing : History
-passing =
+abbrev pub passing_through : History
+passing_through =
     history
     (car_class
     ∷ post_class
     ∷ Insert 0 (codes "post") (codes "b") nowhere []
-    ∷ car 0 (codes "a") (record { at = Some (at_point 10 0); moving = Some (record { firsts = []; last = negsuc 999 }, level) })
-    ∷ car 0 (codes "c") (standing 3 4)
+    ∷ car_inserted 0 (codes "a") (record { at = Some (at_point 10 0); moving = Some (record { firsts = []; last = negsuc 999 }, level) })
+    ∷ car_inserted 0 (codes "c") (standing_at 3 4)
     ∷ [])
 
 pub record IsPassedBy : Type 0 where
-  pub ties_go_to_the_first : near passing 0 0 1 0 20 ≡ has 1 ((5, 15) ∷ []) ∷ has 2 ((0, 4) ∷ (16, 20) ∷ []) ∷ []
-  pub both : near passing 0 0 2 3 9 ≡ has 1 ((3, 9) ∷ []) ∷ has 2 ((3, 9) ∷ []) ∷ []
-  pub more_than_there_are : near passing 0 0 100 3 9 ≡ near passing 0 0 2 3 9
-  pub of_its_own_class : near passing 0 1 1 0 5 ≡ has 2 ((0, 5) ∷ []) ∷ []
-  pub no_other : near passing 1 0 1 0 5 ≡ []
-  pub no_such_class : near passing 2 0 1 0 5 ≡ []
+  pub ties_go_to_the_first : near passing_through 0 0 1 0 20 ≡ row_with 1 ((5, 15) ∷ []) ∷ row_with 2 ((0, 4) ∷ (16, 20) ∷ []) ∷ []
+  pub both : near passing_through 0 0 2 3 9 ≡ row_with 1 ((3, 9) ∷ []) ∷ row_with 2 ((3, 9) ∷ []) ∷ []
+  pub more_than_there_are : near passing_through 0 0 100 3 9 ≡ near passing_through 0 0 2 3 9
+  pub of_its_own_class : near passing_through 0 1 1 0 5 ≡ row_with 2 ((0, 5) ∷ []) ∷ []
+  pub no_other : near passing_through 1 0 1 0 5 ≡ []
+  pub no_such_class : near passing_through 2 0 1 0 5 ≡ []
 
 -- The first car is removed while it is nearest, and comes again. It keeps its place in the order of first insertion: where it is
 -- as near as the second, it stands before it.
@@ -55,29 +56,29 @@ coming_and_going =
     (car_class
     ∷ post_class
     ∷ Insert 0 (codes "post") (codes "b") nowhere []
-    ∷ car 0 (codes "a") (standing 1 0)
-    ∷ car 0 (codes "c") (standing 2 0)
+    ∷ car_inserted 0 (codes "a") (standing_at 1 0)
+    ∷ car_inserted 0 (codes "c") (standing_at 2 0)
     ∷ Remove 3 (codes "a")
-    ∷ car 6 (codes "a") (standing 0 2)
+    ∷ car_inserted 6 (codes "a") (standing_at 0 2)
     ∷ Remove 8 (codes "b")
     ∷ [])
 
 pub record ComeAndGo : Type 0 where
-  pub absent_for_a_while : near coming_and_going 0 0 1 0 9 ≡ has 1 ((0, 2) ∷ (6, 7) ∷ []) ∷ has 2 ((3, 5) ∷ []) ∷ []
-  pub second : near coming_and_going 0 0 2 0 9 ≡ has 1 ((0, 2) ∷ (6, 7) ∷ []) ∷ has 2 ((0, 7) ∷ []) ∷ []
+  pub absent_for_a_while : near coming_and_going 0 0 1 0 9 ≡ row_with 1 ((0, 2) ∷ (6, 7) ∷ []) ∷ row_with 2 ((3, 5) ∷ []) ∷ []
+  pub second : near coming_and_going 0 0 2 0 9 ≡ row_with 1 ((0, 2) ∷ (6, 7) ∷ []) ∷ row_with 2 ((0, 7) ∷ []) ∷ []
   pub from_an_absent_one : near coming_and_going 0 0 2 8 9 ≡ []
 
 -- four cars at one place
-abbrev pub together : History
-together =
+abbrev pub four_at_one_place : History
+four_at_one_place =
     history
     (car_class
-    ∷ car 0 (codes "a") nowhere
-    ∷ car 0 (codes "c") nowhere
-    ∷ car 0 (codes "d") nowhere
-    ∷ car 0 (codes "e") nowhere
+    ∷ car_inserted 0 (codes "a") nowhere
+    ∷ car_inserted 0 (codes "c") nowhere
+    ∷ car_inserted 0 (codes "d") nowhere
+    ∷ car_inserted 0 (codes "e") nowhere
     ∷ [])
 
 pub record StandTogether : Type 0 where
-  pub neither_shown_nor_counted : near together 0 1 2 0 4 ≡ has 0 ((0, 4) ∷ []) ∷ has 2 ((0, 4) ∷ []) ∷ []
-  pub of_the_first : near together 0 0 2 0 4 ≡ has 1 ((0, 4) ∷ []) ∷ has 2 ((0, 4) ∷ []) ∷ []
+  pub neither_shown_nor_counted : near four_at_one_place 0 1 2 0 4 ≡ row_with 0 ((0, 4) ∷ []) ∷ row_with 2 ((0, 4) ∷ []) ∷ []
+  pub of_the_first : near four_at_one_place 0 0 2 0 4 ≡ row_with 1 ((0, 4) ∷ []) ∷ row_with 2 ((0, 4) ∷ []) ∷ []

@@ -10,8 +10,8 @@ use Rattle.meaning.specs.Answer.{Row, rows_where}
 use Rattle.meaning.specs.Atom.{position_in}
 
 -- where the object of a number is at a tick, None where it is absent, or doesn't move
-abbrev pub place_of : History → ℕ → ℕ → Option Point
-place_of h t id = position_in t (cells_at h id t)
+abbrev pub object_place : History → ℕ → ℕ → Option Point
+object_place h t id = position_in t (cells_at h id t)
 
 -- the square of the distance of two points, None where one of them isn't there
 abbrev pub squared_between : Option Point → Option Point → Option ℤ
@@ -19,7 +19,7 @@ squared_between from to = option_and_then (λ p. option_map (squared_distance p)
 
 -- the square of the distance of an object from the object `to` at a tick, None where one of the two has no place
 abbrev pub squared_to : History → ℕ → ℕ → ℕ → Option ℤ
-squared_to h to t id = squared_between (place_of h t to) (place_of h t id)
+squared_to h to t id = squared_between (object_place h t to) (object_place h t id)
 
 -- Whether an object p stands before an object o, by the squares of their distances: it is nearer, or as near and was
 -- inserted first. One that isn't there stands before none, and none before it.

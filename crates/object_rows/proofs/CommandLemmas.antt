@@ -23,10 +23,10 @@ use Rattle.object_rows.specs.declared.columns.Form.{Form}
 use Rattle.object_rows.specs.declared.columns.Form.TheVariants as forms
 use Rattle.object_rows.specs.declared.rows.ObjectRow.{ObjectRow}
 use Rattle.object_rows.specs.Columns.{columns_of}
-use Rattle.object_rows.specs.Commands.{GivesPrintableCommands, IsRow, command_of}
+use Rattle.object_rows.specs.Commands.{GivesPrintableCommands, IsPrintableRow, command_of_row}
 use Rattle.object_rows.specs.Fields.{given_by, is_object_name, is_text_byte, is_text_field, one_leg}
 use Rattle.object_rows.proofs.NamedLemmas.{AreNamed, IsNamed, begins, columns_named, row_for, setting_for}
-use Rattle.object_rows.specs.Rows.{both, each_row, is_set_of, joined, part_of, parts_of, row_of, rows_in, rows_of, settings_of, with_part}
+use Rattle.object_rows.specs.Rows.{both, each_row, is_set_of, joined_setting, part_of, parts_of, row_of, rows_in, rows_of, settings_of, with_part}
 
 -- ---- Settings
 
@@ -105,7 +105,7 @@ both_printable (givens.Both n f) second p q = p
 
 put_first : (part s : NamedSet) (sets : List NamedSet) (b : Bool) → AllByRecursion IsSetting (s ∷ sets) → IsSetting part
     → AllByRecursion IsSetting (with_part sets part)
-    → AllByRecursion IsSetting (cond b (joined s part ∷ sets) (s ∷ with_part sets part))
+    → AllByRecursion IsSetting (cond b (joined_setting s part ∷ sets) (s ∷ with_part sets part))
 put_first part s sets true all is later = ((all.0.0, both_printable s.given part.given all.0.1 is.1), all.1)
 put_first part s sets false all is later = (all.0, later)
 
@@ -131,45 +131,45 @@ name_is field h =
     none (Some code) k = absurd (cc k)
 
 row_printable : (class name : List ℕ) (sets : List NamedSet) (present : Bool) → IsShortName class → IsShortName name → AllByRecursion IsSetting sets
-    → IsPrintable (command_of class present (record { name = name; sets = sets }))
+    → IsPrintable (command_of_row class present (record { name = name; sets = sets }))
 unfolding reserved_words
 row_printable class name sets true short is all = (refl, (is, record { at = tt; moving = tt; settings = all }))
 row_printable class name sets false short is all = (refl, (short, (is, record { at = tt; moving = tt; settings = all })))
 
 row_is : ReadsEachDecimal → (class : List ℕ) (columns : List Column) (fields : List (List ℕ)) (row : ObjectRow) → IsShortName class
     → AllByRecursion (IsNamed IsShortName) columns
-    → row_of columns fields ≡ Some row → IsRow class row
+    → row_of columns fields ≡ Some row → IsPrintableRow class row
 row_is decimal class columns [] row short named h = absurd (cc h)
 row_is decimal class columns (name ∷ fields) row short named h = by (is_object_name name) refl
   where
     by_parts : is_object_name name ≡ true → (o : Option (List NamedSet)) → parts_of columns fields ≡ o
-        → option_map {U = ObjectRow} (λ (parts : List NamedSet). record { name = name; sets = settings_of parts }) o ≡ Some row → IsRow class row
+        → option_map {U = ObjectRow} (λ (parts : List NamedSet). record { name = name; sets = settings_of parts }) o ≡ Some row → IsPrintableRow class row
     by_parts is None e k = absurd (cc k)
     by_parts is (Some parts) e k =
         let same : row_for name (settings_of parts) ≡ row = cc k in
         let sets = settings_set parts [] (parts_set decimal columns fields parts named e) tt in
-        subst (IsRow class) same (λ present. row_printable class name (settings_of parts) present short (name_is name is) sets)
+        subst (IsPrintableRow class) same (λ present. row_printable class name (settings_of parts) present short (name_is name is) sets)
 
-    by : (b : Bool) → is_object_name name ≡ b → IsRow class row
+    by : (b : Bool) → is_object_name name ≡ b → IsPrintableRow class row
     by true e = by_parts e (parts_of columns fields) refl (rw e at h)
     by false e = absurd (cc (rw e at h))
 
 rows_are : ReadsEachDecimal → (class : List ℕ) (columns : List Column) (records : List (List (List ℕ))) (rows : List ObjectRow) → IsShortName class
     → AllByRecursion (IsNamed IsShortName) columns
-    → each_row columns records ≡ Some rows → AllByRecursion (IsRow class) rows
-rows_are decimal class columns [] rows short named h = let same : [] ≡ rows = cc h in subst (AllByRecursion (IsRow class)) same tt
+    → each_row columns records ≡ Some rows → AllByRecursion (IsPrintableRow class) rows
+rows_are decimal class columns [] rows short named h = let same : [] ≡ rows = cc h in subst (AllByRecursion (IsPrintableRow class)) same tt
 rows_are decimal class columns (r ∷ rs) rows short named h =
     let b = begins (row_of columns r) (each_row columns rs) rows h in
     let first = row_is decimal class columns r b.item short named b.first_is in
-    subst (AllByRecursion (IsRow class)) b.whole_is (first, rows_are decimal class columns rs b.later short named b.rest_is)
+    subst (AllByRecursion (IsPrintableRow class)) b.whole_is (first, rows_are decimal class columns rs b.later short named b.rest_is)
 
 all_are : ReadsEachDecimal → (class : List ℕ) (attributes : List Attribute) (read : List (List (List ℕ))) (rows : List ObjectRow) → IsShortName class
     → AreNamed IsShortName attributes
-    → rows_of attributes read ≡ Some rows → AllByRecursion (IsRow class) rows
+    → rows_of attributes read ≡ Some rows → AllByRecursion (IsPrintableRow class) rows
 all_are decimal class attributes [] rows short named h = absurd (cc h)
 all_are decimal class attributes (header ∷ read) rows short named h = by (columns_of attributes header) refl
   where
-    by : (o : Option (List Column)) → columns_of attributes header ≡ o → AllByRecursion (IsRow class) rows
+    by : (o : Option (List Column)) → columns_of attributes header ≡ o → AllByRecursion (IsPrintableRow class) rows
     by None e = absurd (cc (rw e at h))
     by (Some columns) e = rows_are decimal class columns read rows short (columns_named IsShortName attributes header columns named e) (rw e at h)
 

@@ -7,7 +7,7 @@ use Rattle.std.proofs.lemmas.List.{length-map}
 use Rattle.std.proofs.lemmas.Fmt.{length-decimal-le}
 use Rattle.csv.specs.Reading.{default_config, records, strip_bom}
 use Rattle.fixed_point.specs.Canonical.{fix_text, three_digits, without_last_zeros}
-use Rattle.fixed_point.specs.Decimal.{point_text}
+use Rattle.fixed_point.specs.Decimal.{decimals_text}
 use Rattle.fixed_point.specs.Laws.{ReadsEachDecimal}
 use Rattle.motion.specs.Function.{Function}
 use Rattle.motion.specs.declared.cell.Given.{Given}
@@ -17,11 +17,11 @@ use Rattle.motion.specs.declared.limits.TheConstants.{ATTRIBUTE_LIMIT}
 use Rattle.history.specs.Write.{Attribute}
 use Rattle.ftl_lexer.specs.declared.buffer.TheConstants.{LEXER_LIMIT}
 use Rattle.command_text.specs.Shape.{AreLegs, IsLeg, IsPrintable, IsPrintableGiven, IsSetting, IsValue}
-use Rattle.command_text.specs.Text.{given_text, rate_leg_text, rates_text, setting_text, settings_text, text_of}
+use Rattle.command_text.specs.Text.{given_value_text, rate_leg_text, rates_text, setting_text, settings_text, text_of}
 use Rattle.object_rows.specs.declared.columns.Column.{Column}
 use Rattle.object_rows.specs.declared.rows.ObjectRow.{ObjectRow}
 use Rattle.object_rows.specs.Columns.{columns_of}
-use Rattle.object_rows.specs.Commands.{GivesShortLines, HasShortLine, IsRow, command_of}
+use Rattle.object_rows.specs.Commands.{GivesShortLines, HasShortLine, IsPrintableRow, command_of_row}
 use Rattle.object_rows.specs.Rows.{each_row, row_of, rows_in, rows_of}
 use Rattle.object_rows.proofs.CommandLemmas.{commands_printable}
 use Rattle.object_rows.proofs.NamedLemmas.{IsAmong, IsNamed, attribute_names, begins, columns_among, row_few}
@@ -40,12 +40,12 @@ take_short (suc n) (d ∷ digits) = omega (arith, take_short n digits)
 zeros_short : (digits : List ℕ) → length (without_last_zeros digits) ≤ length digits
 zeros_short digits = take_short _ digits
 
-point_short : (digits : List ℕ) → length (point_text digits) ≤ length digits + 1
+point_short : (digits : List ℕ) → length (decimals_text digits) ≤ length digits + 1
 point_short [] = omega arith
 point_short (d ∷ digits) = omega arith
 
 fix_parts : (v : ℤ) → fix_text v
-    ≡ (sign_text (is_negative v) ++ decimal (unsigned_abs v / 1000)) ++ point_text (without_last_zeros (three_digits (unsigned_abs v % 1000)))
+    ≡ (sign_text (is_negative v) ++ decimal (unsigned_abs v / 1000)) ++ decimals_text (without_last_zeros (three_digits (unsigned_abs v % 1000)))
 unfolding fix_text
 fix_parts v = refl
 
@@ -54,7 +54,7 @@ fix_short v small =
     let sign : List ℕ = sign_text (is_negative v) in
     let whole : List ℕ = decimal (unsigned_abs v / 1000) in
     let digits : List ℕ = three_digits (unsigned_abs v % 1000) in
-    let point : List ℕ = point_text (without_last_zeros digits) in
+    let point : List ℕ = decimals_text (without_last_zeros digits) in
     let ten : length whole ≤ 10 = length-decimal-le 10 (unsigned_abs v / 1000) (omega arith) (omega (arith, small)) (omega (arith, small)) in
     let front : length (sign ++ whole) ≡ length sign + length whole = length-append sign whole in
     let all : length ((sign ++ whole) ++ point) ≡ length (sign ++ whole) + length point = length-append (sign ++ whole) point in
@@ -88,14 +88,14 @@ rates_short f are =
       fix_short f.last (omega (arith, are.last)),
     )
 
-given_short : (given : Given) → IsPrintableGiven given → length (given_text given) ≤ 241
+given_short : (given : Given) → IsPrintableGiven given → length (given_value_text given) ≤ 241
 given_short (givens.Num v) is = omega (arith, value_short v is)
 given_short (givens.Text t) is = omega (arith, length-append t (34 ∷ []), is.2)
 given_short (givens.Rate f) is = omega (arith, rates_short f is)
 given_short (givens.Both v f) is = omega (arith, length-append (fix_text v) (32 ∷ 114 ∷ 97 ∷ 116 ∷ 101 ∷ 32 ∷ rates_text f), value_short v is.0, rates_short f is.1)
 
 setting_short : (set : NamedSet) → IsSetting set → length (setting_text set) ≤ 275
-setting_short set is = omega (arith, length-append set.name (32 ∷ given_text set.given), is.0.1, given_short set.given is.1)
+setting_short set is = omega (arith, length-append set.name (32 ∷ given_value_text set.given), is.0.1, given_short set.given is.1)
 
 settings_short : (sets : List NamedSet) → AllByRecursion IsSetting sets → length (settings_text sets) ≤ 275 * length sets
 settings_short [] are = omega arith
@@ -107,8 +107,8 @@ settings_short (set ∷ sets) are =
 abbrev HasFew : ℕ → ObjectRow → Type 0
 HasFew most row = length row.sets ≤ most
 
-row_short : (class : List ℕ) (row : ObjectRow) (present : Bool) → IsPrintable (command_of class present row) → HasFew (ATTRIBUTE_LIMIT + 2) row
-    → length (text_of (command_of class present row)) ≤ LEXER_LIMIT
+row_short : (class : List ℕ) (row : ObjectRow) (present : Bool) → IsPrintable (command_of_row class present row) → HasFew (ATTRIBUTE_LIMIT + 2) row
+    → length (text_of (command_of_row class present row)) ≤ LEXER_LIMIT
 unfolding text_of
 row_short class row true is few =
     omega (arith, length-append row.name (settings_text row.sets), is.1.0.1, settings_short row.sets is.1.1.settings, few)
@@ -123,7 +123,7 @@ row_short class row false is few =
       few,
     )
 
-each_short : (class : List ℕ) (most : ℕ) (rows : List ObjectRow) → most ≤ ATTRIBUTE_LIMIT + 2 → AllByRecursion (IsRow class) rows
+each_short : (class : List ℕ) (most : ℕ) (rows : List ObjectRow) → most ≤ ATTRIBUTE_LIMIT + 2 → AllByRecursion (IsPrintableRow class) rows
     → AllByRecursion (HasFew most) rows → AllByRecursion (HasShortLine class) rows
 each_short class most [] few are counts = tt
 each_short class most (row ∷ rows) few are counts =

@@ -18,7 +18,7 @@ use Rattle.object_rows.specs.declared.columns.Form.TheVariants as forms
 use Rattle.object_rows.specs.declared.rows.ObjectRow.{ObjectRow}
 use Rattle.object_rows.specs.Columns.{column_of, columns_of, each_column, is_rate_of, name_field, value_form}
 use Rattle.object_rows.specs.Fields.{given_by, is_object_name}
-use Rattle.object_rows.specs.Rows.{is_set_of, joined, part_of, parts_of, row_of, settings_of, with_part}
+use Rattle.object_rows.specs.Rows.{is_set_of, joined_setting, part_of, parts_of, row_of, settings_of, with_part}
 
 -- ---- Options and lists
 
@@ -119,7 +119,7 @@ parts_named P (c ∷ cs) (f ∷ fs) parts named h =
     subst (AllNamed P) b.whole_is (part_named P c f b.item named.0 b.first_is, parts_named P cs fs b.later named.1 b.rest_is)
 
 put_first_named : (P : List ℕ → Type 0) (part s : NamedSet) (sets : List NamedSet) (b : Bool) → AllNamed P (s ∷ sets) → AllNamed P (with_part sets part)
-    → AllNamed P (cond b (joined s part ∷ sets) (s ∷ with_part sets part))
+    → AllNamed P (cond b (joined_setting s part ∷ sets) (s ∷ with_part sets part))
 put_first_named P part s sets true all later = all
 put_first_named P part s sets false all later = (all.0, later)
 
@@ -134,7 +134,7 @@ AreApart [] = Unit {0}
 AreApart (set ∷ sets) = AllNamed (λ name. bytes_eq set.name name ≡ false) sets × AreApart sets
 
 put_first_apart : (part s : NamedSet) (sets : List NamedSet) (b : Bool) → is_set_of part s ≡ b → AreApart (s ∷ sets) → AreApart (with_part sets part)
-    → AreApart (cond b (joined s part ∷ sets) (s ∷ with_part sets part))
+    → AreApart (cond b (joined_setting s part ∷ sets) (s ∷ with_part sets part))
 put_first_apart part s sets true e apart later = apart
 put_first_apart part s sets false e apart later =
     (put_named (λ name. bytes_eq s.name name ≡ false) sets part apart.0 (nat_list_eq_equiv.symm s.name part.name ∙ e), later)

@@ -7,7 +7,7 @@ use Rattle.csv.specs.declared.parser.Action.{Action}
 use Rattle.csv.specs.declared.parser.Action.TheVariants as acts
 use Rattle.csv.specs.declared.parser.State.{State}
 use Rattle.csv.specs.declared.parser.State.TheVariants as states
-use Rattle.object_rows.specs.Reader.{IsBetween, SliceReader, left_in, unread_in}
+use Rattle.object_rows.specs.Reader.{IsBetweenRecords, SliceReader, left_in, unread_in}
 
 -- ---- A record ends between records
 
@@ -153,16 +153,16 @@ bytes_of bytes = Some bytes.now
 abbrev left_from : State → Option (List ℕ) → List (List (List ℕ))
 left_from s unread = let text = unwrap_or unread [] in records_from default_config (length text + 1) s text
 
-pub read_nothing : (a b : SliceReader) (fields : List (List ℕ)) → IsBetween a → ReadRecord bytes_of a b false fields → left_in a ≡ []
+pub read_nothing : (a b : SliceReader) (fields : List (List ℕ)) → IsBetweenRecords a → ReadRecord bytes_of a b false fields → left_in a ≡ []
 read_nothing a b fields between r =
     ap (left_from (reader_state a)) between.known
     ∙ records_none (reader_state a) between.text (rows-end bytes_of a b fields default_config between.text between.config between.known r)
 
 pub record TakesOne (a b : SliceReader) (fields : List (List ℕ)) : Type 0 where
-  pub between : IsBetween b
+  pub between : IsBetweenRecords b
   pub left : left_in a ≡ fields ∷ left_in b
 
-pub read_something : (a b : SliceReader) (fields : List (List ℕ)) → IsBetween a → ReadRecord bytes_of a b true fields → took_first b ≡ true
+pub read_something : (a b : SliceReader) (fields : List (List ℕ)) → IsBetweenRecords a → ReadRecord bytes_of a b true fields → took_first b ≡ true
     → TakesOne a b fields
 read_something a b fields between r took =
     by_text (pending_of (bytes_of b.rdr) b) (rw r.1 refl) (rw (between.config, between.known) at r.0)
@@ -196,10 +196,10 @@ read_something a b fields between r took =
 
 -- what a read of a row shows
 pub record LeavesRow (a b : SliceReader) (found : Bool) (fields : List (List ℕ)) : Type 0 where
-  pub between : found ≡ true → IsBetween b
+  pub between : found ≡ true → IsBetweenRecords b
   pub left : left_in a ≡ cond found (fields ∷ left_in b) []
 
-pub read_row : (a b : SliceReader) (found : Bool) (fields : List (List ℕ)) → IsBetween a → ReadRecord bytes_of a b found fields → took_first b ≡ true
+pub read_row : (a b : SliceReader) (found : Bool) (fields : List (List ℕ)) → IsBetweenRecords a → ReadRecord bytes_of a b found fields → took_first b ≡ true
     → LeavesRow a b found fields
 read_row a b true fields between r took = let one = read_something a b fields between r took in record { between = λ h. one.between; left = one.left }
 read_row a b false fields between r took = record { between = λ h. absurd (cc h); left = read_nothing a b fields between r }

@@ -12,24 +12,24 @@ use Rattle.motion.specs.declared.cell.NamedSet.{NamedSet}
 use Rattle.object_rows.specs.declared.columns.Column.{Column}
 use Rattle.object_rows.specs.declared.rows.ObjectRow.{ObjectRow}
 use Rattle.object_rows.specs.Fields.{is_object_name}
-use Rattle.object_rows.specs.Rows.{each_row, is_set_of, joined, part_of, parts_of, row_of, settings_of, with_part}
+use Rattle.object_rows.specs.Rows.{each_row, is_set_of, joined_setting, part_of, parts_of, row_of, settings_of, with_part}
 use Rattle.object_rows.proofs.FieldLemmas.{drop_at, field_left, field_past, none_left, none_made, one_more}
 
 -- ---- A part joins the setting of its attribute
 
 joins_at : (part : NamedSet) (sets : List NamedSet) (i : ℕ) (d : NamedSet) → i < length sets → is_set_of part (get_or sets i d) ≡ true
-    → ((k : ℕ) → k < i → is_set_of part (get_or sets k d) ≡ false) → with_part sets part ≡ slice_set sets i (joined (get_or sets i d) part)
+    → ((k : ℕ) → k < i → is_set_of part (get_or sets k d) ≡ false) → with_part sets part ≡ slice_set sets i (joined_setting (get_or sets i d) part)
 joins_at part [] i d within is none = absurd (omega (arith, within))
-joins_at part (s ∷ sets) zero d within is none = ap (λ b. cond b (joined s part ∷ sets) (s ∷ with_part sets part)) is
+joins_at part (s ∷ sets) zero d within is none = ap (λ b. cond b (joined_setting s part ∷ sets) (s ∷ with_part sets part)) is
 joins_at part (s ∷ sets) (suc i) d within is none =
-    ap (λ b. cond b (joined s part ∷ sets) (s ∷ with_part sets part)) (none zero (omega arith))
+    ap (λ b. cond b (joined_setting s part ∷ sets) (s ∷ with_part sets part)) (none zero (omega arith))
     ∙ ap (λ later. s ∷ later) (joins_at part sets i d (omega (arith, within)) is (λ k h. none (suc k) (omega (arith, h))))
 
 pub part_joins : (part : NamedSet) (sets : List NamedSet) (i : ℕ) (set new : NamedSet) → position (is_set_of part) sets ≡ Some i
-    → set ≡ get_or sets i set → new ≡ joined set part → slice_set sets i new ≡ with_part sets part
+    → set ≡ get_or sets i set → new ≡ joined_setting set part → slice_set sets i new ≡ with_part sets part
 part_joins part sets i set new at is made =
     let found = position-Some (is_set_of part) sets i set at in
-    ap (slice_set sets i) (made ∙ ap (λ s. joined s part) is) ∙ sym (joins_at part sets i set found.0 found.1 found.2)
+    ap (slice_set sets i) (made ∙ ap (λ s. joined_setting s part) is) ∙ sym (joins_at part sets i set found.0 found.1 found.2)
 
 test_failed : (b : Bool) (n : ℕ) → cond b (Some n) None ≡ None → b ≡ false
 test_failed true n h = absurd (cc h)

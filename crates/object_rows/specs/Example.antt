@@ -5,11 +5,11 @@ use Rattle.motion.specs.declared.cell.AttrKind.TheVariants as kinds
 use Rattle.motion.specs.declared.cell.Given.{Given}
 use Rattle.motion.specs.declared.cell.Given.TheVariants as givens
 use Rattle.motion.specs.declared.cell.NamedSet.{NamedSet}
+use Rattle.motion.specs.Cells.{nowhere}
 use Rattle.history.specs.Catalog.{coordinates}
 use Rattle.history.specs.Write.{Attribute, Write, Class, Insert, Remove}
 use Rattle.history.specs.History.{history}
 use Rattle.object_rows.specs.declared.rows.ObjectRow.{ObjectRow}
-use Rattle.object_rows.specs.Commands.{nowhere}
 use Rattle.object_rows.specs.Exported.{exported}
 use Rattle.object_rows.specs.Fields.{one_leg}
 use Rattle.object_rows.specs.Rows.{rows_in}

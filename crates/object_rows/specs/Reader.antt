@@ -18,7 +18,7 @@ left_in reader =
     records_from default_config (length text + 1) (reader_state reader) text
 
 -- a reader with the default settings stands before a record, or at the end
-pub record IsBetween (reader : SliceReader) : Type 0 where
+pub record IsBetweenRecords (reader : SliceReader) : Type 0 where
   pub config : reader_config reader ≡ default_config
   pub trim : reader_trim reader ≡ trims.None
   pub ready : Ready reader

@@ -35,8 +35,8 @@ both (givens.Num n) (givens.Rate f) = givens.Both n f
 both (givens.Rate f) (givens.Num n) = givens.Both n f
 both first second = first
 
-abbrev pub joined : NamedSet → NamedSet → NamedSet
-joined set part = record { name = set.name; given = both set.given part.given }
+abbrev pub joined_setting : NamedSet → NamedSet → NamedSet
+joined_setting set part = record { name = set.name; given = both set.given part.given }
 
 abbrev pub is_set_of : NamedSet → NamedSet → Bool
 is_set_of part set = bytes_eq part.name set.name
@@ -44,7 +44,7 @@ is_set_of part set = bytes_eq part.name set.name
 -- a part joins the setting of its attribute, or is one more
 abbrev pub with_part : List NamedSet → NamedSet → List NamedSet
 with_part [] part = part ∷ []
-with_part (set ∷ sets) part = if is_set_of part set then (joined set part ∷ sets) else (set ∷ with_part sets part)
+with_part (set ∷ sets) part = if is_set_of part set then (joined_setting set part ∷ sets) else (set ∷ with_part sets part)
 
 abbrev pub settings_of : List NamedSet → List NamedSet
 settings_of parts = fold with_part [] parts

@@ -3,7 +3,7 @@ ghost use Rattle.std.specs.Prelude.{◌≡◌, ◌∷◌, [], true, Some, None, 
 ghost use Rattle.csv.specs.Reading.{default_config, records, strip_bom};
 ghost use Rattle.csv.specs.Records.{fields_of};
 ghost use Rattle.object_rows.specs.Columns.{IsNoneOrFirst};
-ghost use Rattle.object_rows.specs.Reader.{IsBetween, left_in};
+ghost use Rattle.object_rows.specs.Reader.{IsBetweenRecords, left_in};
 ghost use Rattle.object_rows.specs.Rows.{IsNoneOrRight, each_row, rows_in, rows_of};
 ghost use Rattle.object_rows.specs.declared.fault.CsvFault.TheVariants as faults;
 
@@ -16,7 +16,7 @@ use std::alloc::{AllocError, Global};
 
 /// A reader before the first row of a text. How many fields a row has is judged by the columns.
 fn reader_of<'a>(alloc: Global, text: &'a [u8]) -> Reader<&'a [u8]>
-    ensures between { IsBetween result }
+    ensures between { IsBetweenRecords result }
     ensures left { left_in result ≡ records default_config (strip_bom text.now) }
 {
     ReaderBuilder::new()
@@ -28,8 +28,8 @@ fn reader_of<'a>(alloc: Global, text: &'a [u8]) -> Reader<&'a [u8]>
 /// Reads the next row, if there is one. A slice gives all its bytes, so an error is want of memory, and then there is
 /// no row.
 fn next_row(reader: &mut Reader<&[u8]>, row: &mut ByteRecord) -> Result<bool, CsvFault>
-    requires between { IsBetween reader.old }
-    ensures between { IfOk result (λ found. found ≡ true → IsBetween reader.new) }
+    requires between { IsBetweenRecords reader.old }
+    ensures between { IfOk result (λ found. found ≡ true → IsBetweenRecords reader.new) }
     ensures left { IfOk result (λ found. left_in reader.old ≡ (if found then (fields_of row.new ∷ left_in reader.new) else [])) }
     ensures err { IfErr result (λ fault. fault ≡ faults.NoMemory) }
     ensures none { OnErr result (fields_of row.new ≡ []) }
@@ -48,8 +48,8 @@ fn header(
     reader: &mut Reader<&[u8]>,
     row: &mut ByteRecord,
 ) -> Result<Vec<Column>, CsvFault>
-    requires between { IsBetween reader.old }
-    ensures between { OnOk result (IsBetween reader.new) }
+    requires between { IsBetweenRecords reader.old }
+    ensures between { OnOk result (IsBetweenRecords reader.new) }
     ensures ok { IfOk result (λ columns. rows_of class.now.attributes (left_in reader.old) ≡ each_row columns.items (left_in reader.new)) }
     ensures fault { IfErr result (λ fault. fault ≡ faults.BadRows → rows_of class.now.attributes (left_in reader.old) ≡ None) }
     ensures memory { IfErr result (λ fault. fault ≡ faults.NoMemory → IsNoneOrFirst class.now.attributes (fields_of row.new)) }
@@ -70,7 +70,7 @@ fn objects(
     reader: &mut Reader<&[u8]>,
     row: &mut ByteRecord,
 ) -> Result<Vec<ObjectRow>, CsvFault>
-    requires between { IsBetween reader.old }
+    requires between { IsBetweenRecords reader.old }
     ensures ok { IfOk result (λ objects. each_row columns.now (left_in reader.old) ≡ Some objects.items) }
     ensures fault { IfErr result (λ fault. fault ≡ faults.BadRows → each_row columns.now (left_in reader.old) ≡ None) }
     ensures memory { IfErr result (λ fault. fault ≡ faults.NoMemory → IsNoneOrRight columns.now (fields_of row.new)) }

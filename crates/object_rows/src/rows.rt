@@ -3,7 +3,7 @@ ghost use Rattle.std.specs.Prelude.{◌≡◌, ◌+◌, ◌<◌, ◌≤◌, Some
 ghost use Rattle.std.specs.List.{position};
 ghost use Rattle.std.specs.Option.{option_and_then};
 ghost use Rattle.csv.specs.Records.{field_at, fields_of};
-ghost use Rattle.object_rows.specs.Rows.{both, is_set_of, joined, part_of, parts_of, row_of, settings_of, with_part};
+ghost use Rattle.object_rows.specs.Rows.{both, is_set_of, joined_setting, part_of, parts_of, row_of, settings_of, with_part};
 
 use crate::columns::Column;
 use crate::fields::{given_by, object_name};
@@ -48,7 +48,7 @@ fn both(first: &Given, second: &Given) -> Given
 }
 
 fn joined(set: &NamedSet, part: &NamedSet) -> NamedSet
-    ensures { result ≡ joined set.now part.now }
+    ensures { result ≡ joined_setting set.now part.now }
 {
     NamedSet {
         name: set.name,

@@ -11,7 +11,7 @@ use Rattle.motion.proofs.StraightLemmas.{climbed_on}
 use Rattle.places.specs.declared.patch.Patch.{Patch}
 use Rattle.places.specs.Patches.{joined, joined_extent, unit, unit_of}
 use Rattle.places.proofs.CallerLemmas.{unit_rises}
-use Rattle.object_store.specs.Placing.{IsPlaced, IsReached, IsWithin, LiesIn, spot_at}
+use Rattle.object_store.specs.Placing.{BeginsInReach, IsPlaced, IsWithin, LiesInPatch, spot_at}
 use Rattle.object_store.proofs.PlaceLemmas.{lies}
 
 -- a number is between two others, whichever is the lesser
@@ -59,8 +59,8 @@ pub placed_along : (line : Straight) (epochs : List Epoch) (from upto last : ℕ
 placed_along line epochs from upto last patch begun ends is told t later to =
     let way = joined (spot_at line from) (spot_at line last) in
     let state = ap (option_and_then (λ (p : Epoch). p.cells)) (told.in_force t (omega arith)) in
-    subst (λ p. LiesIn p t (state_at epochs t)) (sym is)
-    (subst (LiesIn way t) (sym state)
+    subst (λ p. LiesInPatch p t (state_at epochs t)) (sym is)
+    (subst (LiesInPatch way t) (sym state)
     (lies told.epoch.cells way t
     (within_way told.epoch 0 line.from line.x line.dx from last t told.x begun later (omega arith))
     (within_way told.epoch 1 line.from line.y line.dy from last t told.y begun later (omega arith))))
@@ -69,5 +69,5 @@ placed_along line epochs from upto last patch begun ends is told t later to =
 pub line_begun : (epochs : List Epoch) (line : Straight) (from : ℕ) → IsStraightOf epochs line → AreBegunBy epochs from → line.from ≤ from
 line_begun epochs line from told begun = omega (arith, last_begun epochs from told.epoch told.last begun, told.begins)
 
-pub line_reached : (epochs : List Epoch) (line : Straight) → IsStraightOf epochs line → IsReached line
+pub line_reached : (epochs : List Epoch) (line : Straight) → IsStraightOf epochs line → BeginsInReach line
 line_reached epochs line told = record { x = told.x.near; y = told.y.near }

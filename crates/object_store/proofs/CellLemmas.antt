@@ -13,7 +13,7 @@ use Rattle.motion.specs.Cells.{fresh, set_at, set_named, written, changed, place
 use Rattle.history.specs.Write.{Attribute}
 use Rattle.history.specs.Catalog.{coordinates}
 use Rattle.history.specs.State.{attribute_names, inserted, updated}
-use Rattle.object_store.specs.Changes.{change_of, changes_of, fresh_cells}
+use Rattle.object_store.specs.Changes.{fresh_cells, setting_change, setting_changes}
 use Rattle.std.proofs.lemmas.List.{map-append, take-append-drop, take_more}
 use Rattle.object_store.proofs.Lists.{index_in, index_is}
 
@@ -47,14 +47,14 @@ change_step now cells given None rest = refl
 change_step now cells given (Some i) rest = refl
 
 -- so the writes of a command can be done by index
-pub changed-cells : (now : ℕ) (attributes : List Attribute) (sets : List NamedSet) (cells : List Cell) → changed now (changes_of attributes sets) cells ≡ fold (set_named now (attribute_names attributes)) cells sets
+pub changed-cells : (now : ℕ) (attributes : List Attribute) (sets : List NamedSet) (cells : List Cell) → changed now (setting_changes attributes sets) cells ≡ fold (set_named now (attribute_names attributes)) cells sets
 changed-cells now attributes [] cells = refl
 changed-cells now attributes (s ∷ sets) cells =
-    sym (change_step now cells s.given (position (λ a. bytes_eq s.name a.name) attributes) (changes_of attributes sets))
-    ∙ ap (λ cs. changed now (changes_of attributes sets) cs) (ap (set_found now cells s.given) (index_is (λ a. bytes_eq s.name a.name) attributes) ∙ sym (set_named-index now attributes cells s))
+    sym (change_step now cells s.given (position (λ a. bytes_eq s.name a.name) attributes) (setting_changes attributes sets))
+    ∙ ap (λ cs. changed now (setting_changes attributes sets) cs) (ap (set_found now cells s.given) (index_is (λ a. bytes_eq s.name a.name) attributes) ∙ sym (set_named-index now attributes cells s))
     ∙ changed-cells now attributes sets (set_named now (attribute_names attributes) cells s)
 
-pub changed-inserted : (now : ℕ) (attributes : List Attribute) (place : Place) (sets : List NamedSet) → changed now (changes_of attributes (place_sets place ++ sets)) (fresh_cells now attributes) ≡ inserted now attributes place sets
+pub changed-inserted : (now : ℕ) (attributes : List Attribute) (place : Place) (sets : List NamedSet) → changed now (setting_changes attributes (place_sets place ++ sets)) (fresh_cells now attributes) ≡ inserted now attributes place sets
 changed-inserted now attributes place sets = changed-cells now attributes (place_sets place ++ sets) (fresh_cells now attributes)
 
 -- ---- a point class begins with x and y
@@ -70,7 +70,7 @@ abbrev given_both : Option Given → Option Given → List (ℕ × Given)
 given_both x y =
     cons_option (option_map (λ given. (0, given)) x) (cons_option (option_map (λ given. (1, given)) y) [])
 
-both_named : (rest : List Attribute) (x y : Option Given) → changes_of (coordinates ++ rest) (setting_of (codes "x") x ++ setting_of (codes "y") y) ≡ given_both x y
+both_named : (rest : List Attribute) (x y : Option Given) → setting_changes (coordinates ++ rest) (setting_of (codes "x") x ++ setting_of (codes "y") y) ≡ given_both x y
 both_named rest None None = refl
 both_named rest (Some x) None = ap (λ r. cons_option (option_map (λ index. (index, x)) r) []) (x_at rest)
 both_named rest None (Some y) = ap (λ r. cons_option (option_map (λ index. (index, y)) r) []) (y_at rest)
@@ -79,11 +79,11 @@ both_named rest (Some x) (Some y) = λ i.
 
 -- what a place gives is written to the first two attributes
 pub placed_both : (attributes : List Attribute) (place : Place) → take 2 attributes ≡ coordinates
-    → changes_of attributes (place_sets place) ≡ changes_of coordinates (place_sets place)
+    → setting_changes attributes (place_sets place) ≡ setting_changes coordinates (place_sets place)
 placed_both attributes place first =
     let x = given_of (option_map (λ p. p.x) place.at) (option_map (λ m. m.0) place.moving) in
     let y = given_of (option_map (λ p. p.y) place.at) (option_map (λ m. m.1) place.moving) in
-    ap (λ attributes. changes_of attributes (place_sets place)) (sym (take-append-drop 2 attributes) ∙ ap (λ front. front ++ drop 2 attributes) first)
+    ap (λ attributes. setting_changes attributes (place_sets place)) (sym (take-append-drop 2 attributes) ∙ ap (λ front. front ++ drop 2 attributes) first)
     ∙ both_named (drop 2 attributes) x y
     ∙ sym (both_named [] x y)
 

@@ -21,11 +21,11 @@ use Rattle.history.specs.Catalog.{ClassInfo, ObjectInfo, class_of, object_of, at
 use Rattle.history.specs.State.{inserted, updated}
 use Rattle.object_store.specs.declared.fault.StoreFault.{StoreFault}
 use Rattle.object_store.specs.declared.fault.StoreFault.TheVariants as faults
-use Rattle.object_store.specs.Changes.{changes_of, fresh_cells, AreGiven}
+use Rattle.object_store.specs.Changes.{setting_changes, fresh_cells, AreGiven}
 use Rattle.object_store.specs.Contents.{StoredObject, Contents, object_info, attributes_of_number, catalog_of, is_named, state_of, ids_in}
 use Rattle.object_store.specs.Effects.{number_or_first, with_epoch_of, with_object, after_insert}
 use Rattle.object_store.specs.Faults.{is_elsewhere, is_past_capacity, is_misplaced, has_misfit, has_unknown, repeats_set, insert_fault, update_fault, remove_fault, fault_of_insert, fault_of_update}
-use Rattle.object_store.specs.Invariant.{HasRoom}
+use Rattle.object_store.specs.Invariant.{HasFreeName}
 use Rattle.object_store.specs.Sound.{AreCellsOf}
 use Rattle.object_store.proofs.Lists.{find_is, is_some-find}
 use Rattle.object_store.proofs.CellLemmas.{changed-cells, changed-inserted}
@@ -56,10 +56,10 @@ given_step : (r : Option ℕ) (given : Given) (rest : List (ℕ × Given)) → I
 given_step None given rest head tail = tail
 given_step (Some index) given rest head tail = all_cons (λ (change : ℕ × Given). IsGiven change.1) (index, given) rest head tail
 
-pub given_changes : (attributes : List Attribute) (sets : List NamedSet) → All (λ (s : NamedSet). IsGiven s.given) sets → AreChanges (changes_of attributes sets)
+pub given_changes : (attributes : List Attribute) (sets : List NamedSet) → All (λ (s : NamedSet). IsGiven s.given) sets → AreChanges (setting_changes attributes sets)
 given_changes attributes [] given = λ k d l. absurd (omega arith)
 given_changes attributes (s ∷ sets) given =
-    given_step (position (λ (a : Attribute). bytes_eq s.name a.name) attributes) s.given (changes_of attributes sets) (given 0 s (omega arith))
+    given_step (position (λ (a : Attribute). bytes_eq s.name a.name) attributes) s.given (setting_changes attributes sets) (given 0 s (omega arith))
     (given_changes attributes sets (λ k d l. given (suc k) d (omega arith)))
 
 -- all that a command gives is within the limit
@@ -68,7 +68,7 @@ given_all place sets given = All-append (λ (s : NamedSet). IsGiven s.given) (pl
 
 -- ---- an insert
 
-pub cells_inserted : (now : ℕ) (attributes : List Attribute) (place : Place) (sets : List NamedSet) (changes : List (ℕ × Given)) (cells : List Cell) → cells ≡ changed now changes (fresh_cells now attributes) → changes ≡ changes_of attributes (place_sets place ++ sets) → cells ≡ inserted now attributes place sets
+pub cells_inserted : (now : ℕ) (attributes : List Attribute) (place : Place) (sets : List NamedSet) (changes : List (ℕ × Given)) (cells : List Cell) → cells ≡ changed now changes (fresh_cells now attributes) → changes ≡ setting_changes attributes (place_sets place ++ sets) → cells ≡ inserted now attributes place sets
 cells_inserted now attributes place sets changes cells made are =
     made ∙ ap (λ cs. changed now cs (fresh_cells now attributes)) are ∙ changed-inserted now attributes place sets
 
@@ -121,7 +121,7 @@ module _ (s : Contents) (class : List ℕ) (number : ℕ) (k : ClassInfo) (has :
       (ap (λ r. option_map_or (λ (o : StoredObject). not (o.class == number)) r false) (sym found) ∙ sym (elsewhere_found s class number k has name) ∙ passes.own_class)
 
   -- the class has room for a new one
-  pub room_for_new : find (is_named name) s.objects ≡ None → HasRoom s number
+  pub room_for_new : find (is_named name) s.objects ≡ None → HasFreeName s number
   room_for_new new =
       subst (λ r. IsSomeAnd r (λ k. length (ids_in s.objects number) < k.capacity)) (sym has.there)
       (below_of_not k.capacity (length (ids_in s.objects number))
@@ -148,7 +148,7 @@ module _ (s : Contents) (class : List ℕ) (number : ℕ) (k : ClassInfo) (has :
 
 -- ---- an update
 
-pub changed_updated : (now : ℕ) (attributes : List Attribute) (place : Place) (sets : List NamedSet) (before : Option (List Cell)) → option_map (changed now (changes_of attributes (place_sets place ++ sets))) before ≡ option_map (updated now attributes place sets) before
+pub changed_updated : (now : ℕ) (attributes : List Attribute) (place : Place) (sets : List NamedSet) (before : Option (List Cell)) → option_map (changed now (setting_changes attributes (place_sets place ++ sets))) before ≡ option_map (updated now attributes place sets) before
 changed_updated now attributes place sets None = refl
 changed_updated now attributes place sets (Some cells) = ap Some (changed-cells now attributes (place_sets place ++ sets) cells)
 

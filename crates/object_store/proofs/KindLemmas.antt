@@ -14,11 +14,11 @@ use Rattle.motion.specs.declared.cell.Given.{Given}
 use Rattle.motion.specs.declared.cell.Given.TheVariants as givens
 use Rattle.motion.specs.declared.cell.NamedSet.{NamedSet}
 use Rattle.motion.specs.declared.cell.Place.{Place}
-use Rattle.motion.specs.Cells.{fresh, written, set_named, place_sets}
+use Rattle.motion.specs.Cells.{fresh, written, set_named, place_sets, kind_of}
 use Rattle.motion.specs.Timeline.{Epoch, put, epoch_at, state_at}
 use Rattle.history.specs.Write.{Attribute}
 use Rattle.history.specs.State.{attribute_names, inserted, updated}
-use Rattle.object_store.specs.Sound.{kind_of, AreCellsOf, AreEpochsOf}
+use Rattle.object_store.specs.Sound.{AreCellsOf, AreEpochsOf}
 
 written_kind : (s : ℕ) (cell : Cell) (given : Given) → kind_of (written s cell given) ≡ kind_of cell
 written_kind s (cells.Num n) (givens.Num m) = refl

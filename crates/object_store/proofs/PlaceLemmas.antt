@@ -17,11 +17,11 @@ use Rattle.places.specs.declared.patch.Extent.{Extent}
 use Rattle.places.specs.declared.patch.Patch.{Patch}
 use Rattle.places.specs.Boxes.{Horizon, patch_at}
 use Rattle.places.specs.Places.{no_places, popped, pushed, replaced, with_patch, without_last}
-use Rattle.places.specs.Patches.{nowhere, unit}
+use Rattle.places.specs.Patches.{empty_patch, unit}
 use Rattle.places.proofs.CallerLemmas.{unit_rises}
 use Rattle.object_store.specs.AtIndex.{at_index, restored_at}
 use Rattle.object_store.specs.Contents.{StoredObject}
-use Rattle.object_store.specs.Placing.{AreOthersPlaced, ArePlaced, ArePlacedBut, ArePlacedIn, EndInTime, HavePatches, IsPlaced, IsWithin, LiesIn}
+use Rattle.object_store.specs.Placing.{AreOthersPlaced, ArePlaced, ArePlacedBut, ArePlacedIn, EndInTime, HavePatches, IsPlaced, IsWithin, LiesInPatch}
 
 -- ---- one object
 
@@ -32,15 +32,15 @@ within_range v lo hi least greatest e range low high t from to = (
   subst (λ n. unit (value_at v t) ≤ℤ n) (sym high) (unit_rises (value_at v t) greatest (range.at_most t from to)),
 )
 
-pub lies : (cells : Option (List Cell)) (patch : Patch) (t : ℕ) → IsWithin patch.x t (slice_get (unwrap_or cells []) 0) → IsWithin patch.y t (slice_get (unwrap_or cells []) 1) → LiesIn patch t cells
+pub lies : (cells : Option (List Cell)) (patch : Patch) (t : ℕ) → IsWithin patch.x t (slice_get (unwrap_or cells []) 0) → IsWithin patch.y t (slice_get (unwrap_or cells []) 1) → LiesInPatch patch t cells
 lies None patch t x y = tt
 lies (Some cells) patch t x y = (x, y)
 
 -- the last epoch is in force from where all have begun
 pub placed_by_last : (from upto : ℕ) (patch : Patch) (epochs : List Epoch) (last : Epoch) → AreBegunBy epochs from → ((t : ℕ) → AreBegunBy epochs t → Some last ≡ epoch_at epochs t)
-    → ((t : ℕ) → from ≤ t → t ≤ upto → LiesIn patch t last.cells) → IsPlaced from upto patch epochs
+    → ((t : ℕ) → from ≤ t → t ≤ upto → LiesInPatch patch t last.cells) → IsPlaced from upto patch epochs
 placed_by_last from upto patch epochs last begun in_force are t later to =
-    subst (LiesIn patch t) (ap (option_and_then (λ (p : Epoch). p.cells)) (in_force t (AreBegunBy-later epochs from t later begun))) (are t later to)
+    subst (LiesInPatch patch t) (ap (option_and_then (λ (p : Epoch). p.cells)) (in_force t (AreBegunBy-later epochs from t later begun))) (are t later to)
 
 -- ---- horizons
 
@@ -63,9 +63,9 @@ placed_set index from h objects patch at are there new =
       each = λ k o is. elim (same_or_other k index) [
         | inl same ↦
             let equal : at ≡ o = same_Some at o (sym there ∙ subst (λ n. slice_get objects n ≡ Some o) same is) in
-            subst (λ p. IsPlaced from h.upto p o.epochs) (sym (get_or-set_at h.patches index k patch nowhere same within))
+            subst (λ p. IsPlaced from h.upto p o.epochs) (sym (get_or-set_at h.patches index k patch empty_patch same within))
             (subst (λ (o : StoredObject). IsPlaced from h.upto patch o.epochs) equal new)
-        | inr differs ↦ subst (λ p. IsPlaced from h.upto p o.epochs) (sym (get_or-set_other h.patches index k patch nowhere differs)) (are.each k o differs is)
+        | inr differs ↦ subst (λ p. IsPlaced from h.upto p o.epochs) (sym (get_or-set_other h.patches index k patch empty_patch differs)) (are.each k o differs is)
       ];
     }
 
@@ -76,9 +76,9 @@ pub placed_more : (from upto index : ℕ) (patches : List Patch) (objects : List
 placed_more from upto index patches objects patch at long there new are k o below is = elim (same_or_other k index) [
   | inl same ↦
       let equal : at ≡ o = same_Some at o (sym there ∙ subst (λ n. slice_get objects n ≡ Some o) same is) in
-      subst (λ p. IsPlaced from upto p o.epochs) (sym (get_or-set_at patches index k patch nowhere same (omega (arith, slice_get_within objects index at there, long))))
+      subst (λ p. IsPlaced from upto p o.epochs) (sym (get_or-set_at patches index k patch empty_patch same (omega (arith, slice_get_within objects index at there, long))))
       (subst (λ (o : StoredObject). IsPlaced from upto patch o.epochs) equal new)
-  | inr differs ↦ subst (λ p. IsPlaced from upto p o.epochs) (sym (get_or-set_other patches index k patch nowhere differs)) (are k o (omega (arith, below, differs)) is)
+  | inr differs ↦ subst (λ p. IsPlaced from upto p o.epochs) (sym (get_or-set_other patches index k patch empty_patch differs)) (are k o (omega (arith, below, differs)) is)
 ]
 
 pub begun_later : (objects : List StoredObject) (s t : ℕ) → s ≤ t → All (λ (o : StoredObject). AreBegunBy o.epochs s) objects → All (λ (o : StoredObject). AreBegunBy o.epochs t) objects
@@ -117,7 +117,7 @@ placed_pushed s from h objects patch last later there are new =
             (subst (λ (o : StoredObject). IsPlaced from h.upto patch o.epochs) equal new)
         | inr differs ↦
             let below : k < length objects - 1 = omega (arith, slice_get_within objects k o is, differs) in
-            subst (λ p. IsPlaced from h.upto p o.epochs) (sym (get_or_append_left h.patches (patch ∷ []) nowhere k (omega (arith, below, long))))
+            subst (λ p. IsPlaced from h.upto p o.epochs) (sym (get_or_append_left h.patches (patch ∷ []) empty_patch k (omega (arith, below, long))))
             (λ u after to. are.each k o (get-take (length objects - 1) k objects below ∙ is) u (omega (arith, later, after)) to)
       ];
     }
@@ -134,7 +134,7 @@ placed_popped from h objects are =
       long = omega (arith, shorter, short, are.long);
       each = λ k o is.
           let below : k < length objects - 1 = omega (arith, slice_get_within (take (length objects - 1) objects) k o is, shorter) in
-          subst (λ p. IsPlaced from h.upto p o.epochs) (sym (get_or-take (length h.patches - 1) h.patches k nowhere (omega (arith, below, are.long))))
+          subst (λ p. IsPlaced from h.upto p o.epochs) (sym (get_or-take (length h.patches - 1) h.patches k empty_patch (omega (arith, below, are.long))))
           (are.each k o (sym (get-take (length objects - 1) k objects below) ∙ is));
     }
 

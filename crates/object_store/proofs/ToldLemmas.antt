@@ -14,7 +14,7 @@ use Rattle.motion.specs.Timeline.{state_at}
 use Rattle.places.specs.declared.horizons.Places.{Places}
 use Rattle.places.specs.declared.patch.Extent.{Extent}
 use Rattle.places.specs.declared.patch.Patch.{Patch}
-use Rattle.places.specs.Boxes.{Horizon, near, near_below, patch_at}
+use Rattle.places.specs.Boxes.{Horizon, near_below, numbers_near, patch_at}
 use Rattle.places.specs.Patches.{greatest_unit, least_unit, meets, overlap, unit}
 use Rattle.places.specs.Places.{horizon_for, horizons_of, near_in}
 use Rattle.places.proofs.CallerLemmas.{share, unit_above, unit_below, unit_rises}
@@ -22,7 +22,7 @@ use Rattle.object_store.specs.declared.areas.Area.{Area}
 use Rattle.object_store.specs.declared.areas.Sides.{Sides}
 use Rattle.object_store.specs.Areas.{is_cell_between, is_in_area, is_listed}
 use Rattle.object_store.specs.Contents.{StoredObject, ids_in}
-use Rattle.object_store.specs.Placing.{extent_of, is_in_class, patch_of, ArePlaced, ArePlacedIn, IsAll, IsWithin, LiesIn}
+use Rattle.object_store.specs.Placing.{extent_of, is_in_class, patch_of, ArePlaced, ArePlacedIn, IsAll, IsWithin, LiesInPatch}
 use Rattle.object_store.specs.Searching.{AreFrom, IsNowhere, IsSearched}
 use Rattle.std.proofs.lemmas.List.Folds.{list_any-append}
 use Rattle.std.proofs.lemmas.Map.Views.{any-filter_same}
@@ -71,7 +71,7 @@ within_overlaps e sides t (Some (cells.Num n)) within between = all_overlaps e s
 within_overlaps e sides t (Some (cells.Text s)) within between = all_overlaps e sides within
 within_overlaps e sides t None within between = all_overlaps e sides within
 
-in_area_meets : (patch : Patch) (area : Area) (t : ℕ) (state : Option (List Cell)) → LiesIn patch t state → is_in_area area t state ≡ true → meets patch (patch_of area) ≡ true
+in_area_meets : (patch : Patch) (area : Area) (t : ℕ) (state : Option (List Cell)) → LiesInPatch patch t state → is_in_area area t state ≡ true → meets patch (patch_of area) ≡ true
 in_area_meets patch area t None lies inside = absurd (false≢true inside)
 in_area_meets patch area t (Some there) lies inside =
     let parts = both (is_cell_between area.x t (slice_get there 0)) (is_cell_between area.y t (slice_get there 1)) inside in
@@ -183,22 +183,22 @@ listed_in_class objects class id = listed_from 0 id id objects class (omega arit
 -- ---- what is told
 
 lost_at : (from : ℕ) (h : Horizon) (objects : List StoredObject) (class : ℕ) (area : Area) (lo hi id : ℕ) (r : Option StoredObject) → ArePlacedIn from h objects → from ≤ lo → hi ≤ h.upto
-    → slice_get objects id ≡ r → option_map_or (λ (o : StoredObject). o.class == class) r false ≡ true → is_listed (near h.patches (patch_of area)) id ≡ false
+    → slice_get objects id ≡ r → option_map_or (λ (o : StoredObject). o.class == class) r false ≡ true → is_listed (numbers_near h.patches (patch_of area)) id ≡ false
     → (t : ℕ) → lo ≤ t → t ≤ hi → is_in_area area t (option_and_then (λ (o : StoredObject). state_at o.epochs t) r) ≡ false
 lost_at from h objects class area lo hi id None are early late is its lacks t begin end = absurd (false≢true its)
 lost_at from h objects class area lo hi id (Some o) are early late is its lacks t begin end =
     let below : id < length h.patches = omega (arith, slice_get_within objects id o is, are.long) in
     let apart : meets (patch_at h.patches id) (patch_of area) ≡ false =
-    not_true (meets (patch_at h.patches id) (patch_of area)) (is_listed (near h.patches (patch_of area)) id)
+    not_true (meets (patch_at h.patches id) (patch_of area)) (is_listed (numbers_near h.patches (patch_of area)) id)
     (near_lists (length h.patches) h.patches (patch_of area) id below) lacks
     in
     not_true (is_in_area area t (state_at o.epochs t)) (meets (patch_at h.patches id) (patch_of area))
     (in_area_meets (patch_at h.patches id) area t (state_at o.epochs t) (are.each id o is t (omega (arith, early, begin)) (omega (arith, late, end)))) apart
 
 found_by : (from : ℕ) (h : Horizon) (objects : List StoredObject) (class : ℕ) (area : Area) (lo hi : ℕ) → ArePlacedIn from h objects → from ≤ lo → hi ≤ h.upto
-    → IsSearched (IsNowhere objects area lo hi) (ids_in objects class) (filter (is_in_class objects class) (near h.patches (patch_of area))) []
+    → IsSearched (IsNowhere objects area lo hi) (ids_in objects class) (filter (is_in_class objects class) (numbers_near h.patches (patch_of area))) []
 found_by from h objects class area lo hi are early late =
-    let all : List ℕ = near h.patches (patch_of area) in
+    let all : List ℕ = numbers_near h.patches (patch_of area) in
     let found : List ℕ = filter (is_in_class objects class) all in
     record {
       ascending = subst (AreFrom 0) (sym (append-nil found)) (from_filter (is_in_class objects class) 0 all (near_rises (length h.patches) h.patches (patch_of area)).from);
@@ -233,16 +233,16 @@ first_told from hi (x ∷ hs) objects h are is =
     first_step_told (nat_le hi x.upto) from hi x h (find (λ (h : Horizon). nat_le hi h.upto) hs) objects refl are.0 (first_told from hi hs objects h are.1) is
 
 told_by : (p : Places) (objects : List StoredObject) (class : ℕ) (area : Area) (lo hi : ℕ) (numbers : List ℕ) (r : Option Horizon) → ArePlaced p objects → p.from ≤ lo → horizon_for p hi ≡ r
-    → option_map (λ (h : Horizon). near h.patches (patch_of area)) r ≡ Some numbers
+    → option_map (λ (h : Horizon). numbers_near h.patches (patch_of area)) r ≡ Some numbers
     → IsSearched (IsNowhere objects area lo hi) (ids_in objects class) (filter (is_in_class objects class) numbers) []
 told_by p objects class area lo hi numbers None are early is told = absurd (none-some numbers told)
 told_by p objects class area lo hi numbers (Some h) are early is told =
     let at = first_told p.from hi (horizons_of p) objects h (are.short, (are.middle, (are.long, (are.longest, tt)))) is in
     subst (λ (numbers : List ℕ). IsSearched (IsNowhere objects area lo hi) (ids_in objects class) (filter (is_in_class objects class) numbers) [])
-    (same_Some (near h.patches (patch_of area)) numbers told) (found_by p.from h objects class area lo hi at.0 early at.1)
+    (same_Some (numbers_near h.patches (patch_of area)) numbers told) (found_by p.from h objects class area lo hi at.0 early at.1)
 
 told_from : (early : Bool) (p : Places) (objects : List StoredObject) (class : ℕ) (area : Area) (lo hi : ℕ) (numbers : List ℕ) → ArePlaced p objects → nat_lt lo p.from ≡ early
-    → (if early then None else option_map (λ (h : Horizon). near h.patches (patch_of area)) (horizon_for p hi)) ≡ Some numbers
+    → (if early then None else option_map (λ (h : Horizon). numbers_near h.patches (patch_of area)) (horizon_for p hi)) ≡ Some numbers
     → IsSearched (IsNowhere objects area lo hi) (ids_in objects class) (filter (is_in_class objects class) numbers) []
 told_from true p objects class area lo hi numbers are early told = absurd (none-some numbers told)
 told_from false p objects class area lo hi numbers are early told =

@@ -24,7 +24,7 @@ use Rattle.object_store.specs.declared.objects.Undo.{Undo}
 use Rattle.object_store.specs.Contents.{StoredObject, Contents, attributes_of_number, is_named, ids_in}
 use Rattle.object_store.specs.Effects.{put_named, with_epoch_of, with_object, with_class, after_update, after_remove}
 use Rattle.object_store.specs.Ids.{with_member, without_member}
-use Rattle.object_store.specs.Invariant.{IsKept, HasRoom, Writes}
+use Rattle.object_store.specs.Invariant.{IsKept, HasFreeName, WritesNamed}
 use Rattle.object_store.specs.AtIndex.{at_index, restored_at, GainsEpochAt}
 use Rattle.object_store.specs.Sound.{AreCellsOf, IsSound, AreClasses, AreMembers}
 use Rattle.object_store.specs.StandsFor.{GrowsBy}
@@ -83,7 +83,7 @@ kept_sound s members name p o kept later tick found fits = record {
 pub known_writes : (s : Contents) (members : List (List ℕ)) (name : List ℕ) (index : ℕ) (o : StoredObject) (p : Epoch) (replaced : Option Epoch) (epoch : List Epoch → Epoch) (objects : List StoredObject) (now : ℕ)
     → IsKept members s → s.last_tick ≤ now → now ≤ LAST_TICK → position (is_named name) s.objects ≡ Some index → slice_get s.objects index ≡ Some o → FitsIn (attributes_of_number s.classes o.class) p.cells
     → GainsEpochAt index epoch replaced s.objects objects → epoch o.epochs ≡ p → p.from ≡ now
-    → Writes name s (with_epoch_of s name p) members (record { classes = s.classes; objects = objects; last_tick = now }) (known_done index replaced s.last_tick)
+    → WritesNamed name s (with_epoch_of s name p) members (record { classes = s.classes; objects = objects; last_tick = now }) (known_done index replaced s.last_tick)
 known_writes s members name index o p replaced epoch objects now kept later tick first there fits written is from =
     let at = first_at name s.objects index o first there in
     let found : find (is_named name) s.objects ≡ Some o = find_is (is_named name) s.objects ∙ ap (option_and_then (slice_get s.objects)) first ∙ there in
@@ -95,7 +95,7 @@ known_writes s members name index o p replaced epoch objects now kept later tick
     let before : undone undo (with_epoch_of s name p) ≡ s =
     ap (λ os. let c : Contents = record { classes = s.classes; objects = os; last_tick = s.last_tick } in c) (put_back name p replaced s.objects index o at back.before)
     in
-    let done : Writes name s (with_epoch_of s name p) members (with_epoch_of s name p) (known_done index replaced s.last_tick) = record {
+    let done : WritesNamed name s (with_epoch_of s name p) members (with_epoch_of s name p) (known_done index replaced s.last_tick) = record {
       contents = refl;
       kept = kept_sound s members name p o kept (subst (λ n. s.last_tick ≤ n) (sym from) later) (subst (λ n. n ≤ LAST_TICK) (sym from) tick) found fits;
       id = index-put_named name p s.objects ∙ first;
@@ -108,7 +108,7 @@ known_writes s members name index o p replaced epoch objects now kept later tick
       };
     } in
     let path : with_epoch_of s name p ≡ record { classes = s.classes; objects = objects; last_tick = now } = λ i. record { classes = s.classes; objects = sym new i; last_tick = from i } in
-    subst (λ (c : Contents). Writes name s (with_epoch_of s name p) members c (known_done index replaced s.last_tick)) path done
+    subst (λ (c : Contents). WritesNamed name s (with_epoch_of s name p) members c (known_done index replaced s.last_tick)) path done
 
 -- ---- a new name
 
@@ -163,9 +163,9 @@ members_with members s number o are within class last = record {
 }
 
 pub entered_writes : (s : Contents) (members : List (List ℕ)) (number : ℕ) (name : List ℕ) (p : Epoch) (timeline : List Epoch) (objects : List StoredObject) (new_members : List (List ℕ)) (id now : ℕ)
-    → IsKept members s → s.last_tick ≤ now → now ≤ LAST_TICK → find (is_named name) s.objects ≡ None → HasRoom s number → FitsIn (attributes_of_number s.classes number) p.cells
+    → IsKept members s → s.last_tick ≤ now → now ≤ LAST_TICK → find (is_named name) s.objects ≡ None → HasFreeName s number → FitsIn (attributes_of_number s.classes number) p.cells
     → objects ≡ s.objects ++ record { name = name; class = number; epochs = timeline } ∷ [] → timeline ≡ put [] p → new_members ≡ with_member members number id → id ≡ length s.objects → p.from ≡ now
-    → Writes name s (with_object s number name p) new_members (record { classes = s.classes; objects = objects; last_tick = now }) (entered_done id s.last_tick)
+    → WritesNamed name s (with_object s number name p) new_members (record { classes = s.classes; objects = objects; last_tick = now }) (entered_done id s.last_tick)
 entered_writes s members number name p timeline objects new_members id now kept later tick new room fits are is with_id id_is from =
     let o : StoredObject = record { name = name; class = number; epochs = put [] p } in
     let n : ℕ = length s.objects in
@@ -177,7 +177,7 @@ entered_writes s members number name p timeline objects new_members id now kept 
     let before : undone undo (with_object s number name p) ≡ s =
     ap (λ os. let c : Contents = record { classes = s.classes; objects = os; last_tick = s.last_tick } in c) (take_pushed s.objects o)
     in
-    let done : Writes name s (with_object s number name p) (with_member members number n) (with_object s number name p) (entered_done n s.last_tick) = record {
+    let done : WritesNamed name s (with_object s number name p) (with_member members number n) (with_object s number name p) (entered_done n s.last_tick) = record {
       contents = refl;
       kept = record {
         sound = record {
@@ -200,12 +200,12 @@ entered_writes s members number name p timeline objects new_members id now kept 
       objects = (ap (λ ps. s.objects ++ record { name = name; class = number; epochs = ps } ∷ []) (sym is) ∙ sym are) i;
       last_tick = from i;
     } in
-    let of_new : Writes name s (with_object s number name p) (with_member members number n) (record { classes = s.classes; objects = objects; last_tick = now }) (entered_done n s.last_tick) =
-    subst (λ (c : Contents). Writes name s (with_object s number name p) (with_member members number n) c (entered_done n s.last_tick)) path done
+    let of_new : WritesNamed name s (with_object s number name p) (with_member members number n) (record { classes = s.classes; objects = objects; last_tick = now }) (entered_done n s.last_tick) =
+    subst (λ (c : Contents). WritesNamed name s (with_object s number name p) (with_member members number n) c (entered_done n s.last_tick)) path done
     in
-    subst (λ m. Writes name s (with_object s number name p) m (record { classes = s.classes; objects = objects; last_tick = now }) (entered_done id s.last_tick))
+    subst (λ m. WritesNamed name s (with_object s number name p) m (record { classes = s.classes; objects = objects; last_tick = now }) (entered_done id s.last_tick))
     (sym (with_id ∙ ap (with_member members number) id_is))
-    (subst (λ i. Writes name s (with_object s number name p) (with_member members number n) (record { classes = s.classes; objects = objects; last_tick = now }) (entered_done i s.last_tick)) (sym id_is) of_new)
+    (subst (λ i. WritesNamed name s (with_object s number name p) (with_member members number n) (record { classes = s.classes; objects = objects; last_tick = now }) (entered_done i s.last_tick)) (sym id_is) of_new)
 
 -- ---- taking back
 

@@ -12,14 +12,14 @@ use Rattle.object_store.specs.declared.areas.Sides.{Sides}
 use Rattle.object_store.specs.Contents.{Contents, history_of, ids_in}
 
 -- whether a number is neither below the one side nor above the other, each of which may be open
-abbrev pub is_between : Sides → ℤ → Bool
-is_between sides n =
+abbrev pub is_between_sides : Sides → ℤ → Bool
+is_between_sides sides n =
     option_map_or (λ least. int_le least n) sides.least true
     && option_map_or (λ greatest. int_le n greatest) sides.greatest true
 
 -- whether what is in a cell is between two sides at a tick; without a dynamic attribute it may be anywhere
 abbrev pub is_cell_between : Sides → ℕ → Option Cell → Bool
-is_cell_between sides t (Some (cells.Dyn v)) = is_between sides (value_at v t)
+is_cell_between sides t (Some (cells.Dyn v)) = is_between_sides sides (value_at v t)
 is_cell_between sides t (Some (cells.Num n)) = true
 is_cell_between sides t (Some (cells.Text s)) = true
 is_cell_between sides t None = true

@@ -12,11 +12,11 @@ use Rattle.motion.specs.declared.cell.Place.{Place}
 use Rattle.history.specs.Write.{Attribute}
 
 -- a setting by the index of its attribute, nothing where there is none of its name
-abbrev pub change_of : List Attribute → NamedSet → Option (ℕ × Given)
-change_of attributes set = option_map (λ index. (index, set.given)) (position (λ a. bytes_eq set.name a.name) attributes)
+abbrev pub setting_change : List Attribute → NamedSet → Option (ℕ × Given)
+setting_change attributes set = option_map (λ index. (index, set.given)) (position (λ a. bytes_eq set.name a.name) attributes)
 
-abbrev pub changes_of : List Attribute → List NamedSet → List (ℕ × Given)
-changes_of attributes sets = filter_map (change_of attributes) sets
+abbrev pub setting_changes : List Attribute → List NamedSet → List (ℕ × Given)
+setting_changes attributes sets = filter_map (setting_change attributes) sets
 
 abbrev pub fresh_cells : ℕ → List Attribute → List Cell
 fresh_cells now attributes = map (λ a. fresh now a.kind) attributes

@@ -66,12 +66,12 @@ abbrev pub class_of_object : Catalog → List ℕ → Option ClassInfo
 class_of_object c name = option_and_then (λ o. slice_get c.classes o.class) (object_of c name)
 
 -- whether an object is of the class of a name
-abbrev pub is_of_class : Catalog → List ℕ → ObjectInfo → Bool
-is_of_class c class o = option_map_or (λ number. o.class == number) (number_of_class c class) false
+abbrev pub is_of_named_class : Catalog → List ℕ → ObjectInfo → Bool
+is_of_named_class c class o = option_map_or (λ number. o.class == number) (number_of_class c class) false
 
 -- the name belongs to another class
 abbrev pub is_elsewhere : Catalog → List ℕ → List ℕ → Bool
-is_elsewhere c class name = option_map_or (λ o. not (is_of_class c class o)) (object_of c name) false
+is_elsewhere c class name = option_map_or (λ o. not (is_of_named_class c class o)) (object_of c name) false
 
 -- the name is new, and its class has had as many names as its capacity
 abbrev pub is_past_capacity : Catalog → List ℕ → List ℕ → Bool

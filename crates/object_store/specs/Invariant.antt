@@ -12,11 +12,11 @@ pub record IsKept (ids : List (List ℕ)) (s : Contents) : Type 0 where
   pub members : AreMembers ids s
 
 -- the class of a number is there, and has had fewer names than its capacity
-abbrev pub HasRoom : Contents → ℕ → Type 0
-HasRoom s number = IsSomeAnd (slice_get s.classes number) (λ k. length (ids_in s.objects number) < k.capacity)
+abbrev pub HasFreeName : Contents → ℕ → Type 0
+HasFreeName s number = IsSomeAnd (slice_get s.classes number) (λ k. length (ids_in s.objects number) < k.capacity)
 
 -- a write to the object of a name led from old contents to the new ones, with these ids of each class, and answered how to take it back
-pub record Writes (name : List ℕ) (old after : Contents) (ids : List (List ℕ)) (new : Contents) (done : Done) : Type 0 where
+pub record WritesNamed (name : List ℕ) (old after : Contents) (ids : List (List ℕ)) (new : Contents) (done : Done) : Type 0 where
   pub contents : new ≡ after
   pub kept : IsKept ids new
   pub id : position (is_named name) new.objects ≡ Some done.id

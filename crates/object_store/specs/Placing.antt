@@ -31,13 +31,13 @@ IsWithin e t (Some (cells.Text s)) = IsAll e
 IsWithin e t None = IsAll e
 
 -- an object with these cells, or that is absent, is in a patch at a tick
-abbrev pub LiesIn : Patch → ℕ → Option (List Cell) → Type 0
-LiesIn patch t None = Unit {0}
-LiesIn patch t (Some there) = IsWithin patch.x t (slice_get there 0) × IsWithin patch.y t (slice_get there 1)
+abbrev pub LiesInPatch : Patch → ℕ → Option (List Cell) → Type 0
+LiesInPatch patch t None = Unit {0}
+LiesInPatch patch t (Some there) = IsWithin patch.x t (slice_get there 0) × IsWithin patch.y t (slice_get there 1)
 
 -- an object is in a patch, or absent, at each tick of some
 abbrev pub IsPlaced : (from upto : ℕ) → Patch → List Epoch → Type 0
-IsPlaced from upto patch epochs = (t : ℕ) → from ≤ t → t ≤ upto → LiesIn patch t (state_at epochs t)
+IsPlaced from upto patch epochs = (t : ℕ) → from ≤ t → t ≤ upto → LiesInPatch patch t (state_at epochs t)
 
 -- Patches tell where an object is from a tick to the end of each horizon.
 pub record HavePatches (from : ℕ) (p : Places) (patches : Patches) (epochs : List Epoch) : Type 0 where
@@ -58,7 +58,7 @@ abbrev pub spot_at : Straight → ℕ → Patch
 spot_at line t = spot (line.x +ℤ line.dx *ℤ pos (t - line.from)) (line.y +ℤ line.dy *ℤ pos (t - line.from))
 
 -- A line begins where updates can have led by then.
-pub record IsReached (line : Straight) : Type 0 where
+pub record BeginsInReach (line : Straight) : Type 0 where
   pub x : unsigned_abs line.x ≤ READ_LIMIT + SLOPE_LIMIT * line.from
   pub y : unsigned_abs line.y ≤ READ_LIMIT + SLOPE_LIMIT * line.from
 

@@ -3,8 +3,6 @@ use Rattle.std.specs.Prelude.{◌≡◌, ℕ, ◌+◌, ◌<◌, ◌≤◌, false
 use Rattle.std.specs.List.{IsDistinct}
 use Rattle.std.specs.Option.{ForSome}
 use Rattle.std.specs.Str.{bytes_eq}
-use Rattle.motion.specs.declared.cell.AttrKind.{AttrKind}
-use Rattle.motion.specs.declared.cell.AttrKind.TheVariants as kinds
 use Rattle.motion.specs.declared.cell.Cell.{Cell}
 use Rattle.motion.specs.declared.cell.Cell.TheVariants as cells
 use Rattle.motion.specs.Timeline.{Epoch, AreBegunBy}
@@ -13,13 +11,9 @@ use Rattle.history.specs.Catalog.{ClassInfo, coordinates}
 use Rattle.tick_set.specs.declared.spans.TheConstants.{LAST_TICK}
 use Rattle.object_store.specs.declared.schema.TheConstants.{CLASS_LIMIT}
 use Rattle.motion.specs.declared.limits.TheConstants.{CAPACITY_LIMIT, ATTRIBUTE_LIMIT}
+use Rattle.motion.specs.Cells.{kind_of}
 use Rattle.object_store.specs.Faults.{repeats_attribute}
 use Rattle.object_store.specs.Contents.{StoredObject, Contents, attributes_of_number, ids_in}
-
-abbrev pub kind_of : Cell → AttrKind
-kind_of (cells.Num n) = kinds.Num
-kind_of (cells.Text w) = kinds.Text
-kind_of (cells.Dyn v) = kinds.Dyn
 
 -- one cell for each attribute, of its kind
 abbrev pub AreCellsOf : List Attribute → List Cell → Type 0

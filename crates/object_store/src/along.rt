@@ -3,7 +3,7 @@ ghost use Rattle.std.specs.Prelude.{◌≡◌, ◌+◌, ◌*◌, ◌^◌, ◌≤
 ghost use Rattle.fixed_point.specs.declared.number.TheConstants.{READ_LIMIT, SLOPE_LIMIT};
 ghost use Rattle.motion.specs.Straight.{IsStraightOf};
 ghost use Rattle.motion.specs.Timeline.{Epoch};
-ghost use Rattle.object_store.specs.Placing.{HavePatches, IsPlaced, IsReached, spot_at};
+ghost use Rattle.object_store.specs.Placing.{BeginsInReach, HavePatches, IsPlaced, spot_at};
 
 use fixed_point::{Fix, Slope};
 use motion::Straight;
@@ -12,7 +12,7 @@ use places::{Patch, Patches, Places};
 /// Patches of an object that moves along a line, which has begun by the tick `from`, from there to the end of each horizon.
 pub fn patches_along(line: &Straight, places: &Places, from: u32) -> Patches
     requires begun { line.now.from ≤ from }
-    requires reached { IsReached line.now }
+    requires reached { BeginsInReach line.now }
     ensures { (epochs : List Epoch) → IsStraightOf epochs line.now → HavePatches from places.now result epochs }
 {
     let here = place_at(line, from);
@@ -27,7 +27,7 @@ pub fn patches_along(line: &Straight, places: &Places, from: u32) -> Patches
 /// A patch in which an object that moves along a line, which has begun by the tick `from`, is from there to `upto`.
 pub fn patch_along(line: &Straight, from: u32, upto: u32) -> Patch
     requires begun { line.now.from ≤ from }
-    requires reached { IsReached line.now }
+    requires reached { BeginsInReach line.now }
     ensures { (epochs : List Epoch) → IsStraightOf epochs line.now → IsPlaced from upto result epochs }
 {
     way_to(line, &place_at(line, from), from, upto)
@@ -36,7 +36,7 @@ pub fn patch_along(line: &Straight, from: u32, upto: u32) -> Patch
 /// The patch of the way from the place `here`, that of tick `from`, to that of `upto`, which is no earlier for a way.
 fn way_to(line: &Straight, here: &Patch, from: u32, upto: u32) -> Patch
     requires begun { line.now.from ≤ from }
-    requires reached { IsReached line.now }
+    requires reached { BeginsInReach line.now }
     requires here { here.now ≡ spot_at line.now from }
     ensures { (epochs : List Epoch) → IsStraightOf epochs line.now → IsPlaced from upto result epochs }
 {
@@ -46,7 +46,7 @@ fn way_to(line: &Straight, here: &Patch, from: u32, upto: u32) -> Patch
 /// The patch of the place at a tick, by which the line has begun.
 fn place_at(line: &Straight, t: u32) -> Patch
     requires begun { line.now.from ≤ t }
-    requires reached { IsReached line.now }
+    requires reached { BeginsInReach line.now }
     ensures { result ≡ spot_at line.now t }
 {
     let ticks = t - line.from;

@@ -4,7 +4,7 @@ ghost use Rattle.std.specs.Option.{option_copied};
 ghost use Rattle.tick_set.specs.declared.spans.TheConstants.{LAST_TICK};
 ghost use Rattle.motion.specs.Cells.{AreCellsAt, IsCellAt};
 ghost use Rattle.motion.specs.Dynamic.{value_at};
-ghost use Rattle.object_store.specs.Areas.{are_in_area, is_between, is_cell_between};
+ghost use Rattle.object_store.specs.Areas.{are_in_area, is_between_sides, is_cell_between};
 ghost use Rattle.object_store.specs.Placing.{extent_of, patch_of};
 
 use fixed_point::Fix;
@@ -74,7 +74,7 @@ impl Sides {
     /// The sides between which a dynamic attribute is, which isn't updated after the window's first tick.
     fn over_value(vector: &Vector, w: Window) -> Sides
         requires { vector.now.updatetime ≤ w.lo }
-        ensures { (t : ℕ) → w.lo ≤ t → t ≤ w.hi → is_between result (value_at vector.now t) ≡ true }
+        ensures { (t : ℕ) → w.lo ≤ t → t ≤ w.hi → is_between_sides result (value_at vector.now t) ≡ true }
     {
         let (least, greatest) = vector.range(w.lo, w.hi);
         Sides {
@@ -85,7 +85,7 @@ impl Sides {
 
     /// All numbers.
     fn open() -> Sides
-        ensures { (n : ℤ) → is_between result n ≡ true }
+        ensures { (n : ℤ) → is_between_sides result n ≡ true }
     {
         Sides {
             least: None,
@@ -117,7 +117,7 @@ impl Sides {
     /// Whether a dynamic attribute, which isn't updated after the window's first tick, can be between these sides.
     fn may_hold_value(&self, vector: &Vector, w: Window) -> bool
         requires { vector.now.updatetime ≤ w.lo }
-        ensures { result ≡ false → (t : ℕ) → w.lo ≤ t → t ≤ w.hi → is_between self.now (value_at vector.now t) ≡ false }
+        ensures { result ≡ false → (t : ℕ) → w.lo ≤ t → t ≤ w.hi → is_between_sides self.now (value_at vector.now t) ≡ false }
     {
         let (least, greatest) = vector.range(w.lo, w.hi);
         self.meet(least, greatest)
@@ -125,7 +125,7 @@ impl Sides {
 
     /// Whether some number from `least` to `greatest` is between these sides.
     fn meet(&self, least: Fix, greatest: Fix) -> bool
-        ensures { result ≡ false → (n : ℤ) → least ≤ℤ n → n ≤ℤ greatest → is_between self.now n ≡ false }
+        ensures { result ≡ false → (n : ℤ) → least ≤ℤ n → n ≤ℤ greatest → is_between_sides self.now n ≡ false }
     {
         let is_below = self.least.is_some_and(|side| greatest.raw() < side.raw());
         let is_above = self.greatest.is_some_and(|side| side.raw() < least.raw());

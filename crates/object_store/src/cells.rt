@@ -4,7 +4,7 @@ ghost use Rattle.std.specs.Option.{option_map_or};
 ghost use Rattle.motion.specs.Cells.{AreCellsAt, AreChanges, changed, place_sets};
 ghost use Rattle.tick_set.specs.declared.spans.TheConstants.{LAST_TICK};
 ghost use Rattle.history.specs.Catalog.{coordinates};
-ghost use Rattle.object_store.specs.Changes.{changes_of, fresh_cells};
+ghost use Rattle.object_store.specs.Changes.{fresh_cells, setting_changes};
 
 use crate::class::Class;
 use crate::names::{x_name, y_name};
@@ -23,7 +23,7 @@ pub fn fill(
     place: &Place,
     sets: &[NamedSet],
 ) -> Result<(), AllocError>
-    ensures { OnOk result (changes.new.items ≡ changes_of class.now.attributes (place_sets place.now ++ sets.now)) }
+    ensures { OnOk result (changes.new.items ≡ setting_changes class.now.attributes (place_sets place.now ++ sets.now)) }
 {
     changes.clear();
     if class.is_point() {
@@ -37,7 +37,7 @@ pub fn fill(
 
 /// Appends what a place gives for x and y, the first two attributes of a point class.
 fn push_place(changes: &mut Changes, place: &Place) -> Result<(), AllocError>
-    ensures { OnOk result (changes.new.items ≡ changes.old.items ++ changes_of coordinates (place_sets place.now)) }
+    ensures { OnOk result (changes.new.items ≡ changes.old.items ++ setting_changes coordinates (place_sets place.now)) }
 {
     match (&place.at, &place.moving) {
         (None, None) => Ok(()),
@@ -92,7 +92,7 @@ fn named(x: Given, y: Given) -> [NamedSet; 2]
 
 /// Appends these settings, by the indexes of their attributes.
 fn push(changes: &mut Changes, class: &Class, sets: &[NamedSet]) -> Result<(), AllocError>
-    ensures { OnOk result (changes.new.items ≡ changes.old.items ++ changes_of class.now.attributes sets.now) }
+    ensures { OnOk result (changes.new.items ≡ changes.old.items ++ setting_changes class.now.attributes sets.now) }
 {
     let mut rest = sets;
     while let Some((set, later)) = rest.split_first() {

@@ -7,7 +7,7 @@ ghost use Rattle.motion.specs.Cells.{IsCellAt};
 ghost use Rattle.motion.specs.Timeline.{AreBegunBy};
 ghost use Rattle.tick_set.specs.declared.spans.TheConstants.{LAST_TICK};
 ghost use Rattle.object_store.specs.ObjectView.{objects_of};
-ghost use Rattle.object_store.specs.Placing.{ArePlacedIn, EndInTime, HavePatches, IsPlaced, IsWithin, LiesIn};
+ghost use Rattle.object_store.specs.Placing.{ArePlacedIn, EndInTime, HavePatches, IsPlaced, IsWithin, LiesInPatch};
 
 use crate::along::{patch_along, patches_along};
 use crate::objects::{Object, Objects};
@@ -85,7 +85,7 @@ impl Object {
 fn patch_of(epoch: &Epoch, from: u32, upto: u32) -> Patch
     requires begun { epoch.now.from ≤ from }
     requires tick { upto ≤ LAST_TICK }
-    ensures { (t : ℕ) → from ≤ t → t ≤ upto → LiesIn result t epoch.now.cells }
+    ensures { (t : ℕ) → from ≤ t → t ≤ upto → LiesInPatch result t epoch.now.cells }
 {
     if upto < from || !epoch.is_present() {
         return Patch::nowhere();

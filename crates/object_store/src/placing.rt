@@ -8,7 +8,7 @@ ghost use Rattle.object_store.specs.Changes.{AreGiven};
 ghost use Rattle.object_store.specs.Contents.{catalog_of, state_of};
 ghost use Rattle.object_store.specs.Effects.{after_insert, after_remove, after_update};
 ghost use Rattle.object_store.specs.Faults.{insert_fault, remove_fault, update_fault};
-ghost use Rattle.object_store.specs.Invariant.{IsKept, Writes};
+ghost use Rattle.object_store.specs.Invariant.{IsKept, WritesNamed};
 ghost use Rattle.object_store.specs.ObjectView.{objects_of};
 ghost use Rattle.object_store.specs.Placing.{AreOthersPlaced, ArePlaced};
 ghost use Rattle.object_store.specs.Tables.{contents_of, members_of, IsJudged, IsUnchanged};
@@ -38,7 +38,7 @@ pub fn insert_placed(
     requires tick { now ≤ LAST_TICK }
     requires after { tables.old.last_tick ≤ now }
     requires given { AreGiven place.now sets.now }
-    ensures ok { IfOk result (Writes name.now (contents_of tables.old)
+    ensures ok { IfOk result (WritesNamed name.now (contents_of tables.old)
         (after_insert (contents_of tables.old) now class.now name.now place.now sets.now) (members_of tables.new) (contents_of tables.new)) }
     ensures judged { IsJudged (insert_fault (catalog_of (contents_of tables.old))
         (is_some (state_of (contents_of tables.old) name.now now)) class.now name.now place.now sets.now) result }
@@ -64,7 +64,7 @@ pub fn update_placed(
     requires tick { now ≤ LAST_TICK }
     requires after { tables.old.last_tick ≤ now }
     requires given { AreGiven place.now sets.now }
-    ensures ok { IfOk result (Writes name.now (contents_of tables.old)
+    ensures ok { IfOk result (WritesNamed name.now (contents_of tables.old)
         (after_update (contents_of tables.old) now name.now place.now sets.now) (members_of tables.new) (contents_of tables.new)) }
     ensures judged { IsJudged (update_fault (catalog_of (contents_of tables.old))
         (is_some (state_of (contents_of tables.old) name.now now)) name.now place.now sets.now) result }
@@ -88,7 +88,7 @@ pub fn remove_placed(
     requires placed { ArePlaced places.old (contents_of tables.old).objects }
     requires tick { now ≤ LAST_TICK }
     requires after { tables.old.last_tick ≤ now }
-    ensures ok { IfOk result (Writes name.now (contents_of tables.old)
+    ensures ok { IfOk result (WritesNamed name.now (contents_of tables.old)
         (after_remove (contents_of tables.old) now name.now) (members_of tables.new) (contents_of tables.new)) }
     ensures judged { IsJudged (remove_fault (catalog_of (contents_of tables.old)) (is_some (state_of (contents_of tables.old) name.now now)) name.now) result }
     ensures err { OnErr result (contents_of tables.new ≡ contents_of tables.old) }

@@ -8,7 +8,7 @@ ghost use Rattle.object_store.specs.Changes.{AreGiven};
 ghost use Rattle.object_store.specs.Contents.{attributes_of_number, catalog_of, is_named, state_of};
 ghost use Rattle.object_store.specs.Effects.{with_class, with_object, with_epoch_of, after_insert, after_update, after_remove};
 ghost use Rattle.object_store.specs.Faults.{class_fault, fault_of_class, insert_fault, update_fault, remove_fault};
-ghost use Rattle.object_store.specs.Invariant.{HasRoom, IsKept, Writes};
+ghost use Rattle.object_store.specs.Invariant.{HasFreeName, IsKept, WritesNamed};
 ghost use Rattle.object_store.specs.Sound.{AreCellsOf};
 ghost use Rattle.object_store.specs.Tables.{contents_of, members_of, IsJudged, IsUnchanged};
 ghost use Rattle.object_store.specs.TakingBack.{undone, without_last_class, HasEmptyLastClass, IsRevertible};
@@ -117,7 +117,7 @@ impl Tables {
         requires tick { now ≤ LAST_TICK }
         requires after { self.old.last_tick ≤ now }
         requires given { AreGiven place.now sets.now }
-        ensures ok { IfOk result (Writes name.now (contents_of self.old)
+        ensures ok { IfOk result (WritesNamed name.now (contents_of self.old)
             (after_insert (contents_of self.old) now class.now name.now place.now sets.now) (members_of self.new) (contents_of self.new)) }
         ensures judged { IsJudged (insert_fault (catalog_of (contents_of self.old))
             (is_some (state_of (contents_of self.old) name.now now)) class.now name.now place.now sets.now) result }
@@ -184,7 +184,7 @@ impl Tables {
         requires name { at ≡ position (is_named name.now) (contents_of self.old).objects }
         requires accepted { insert_fault (catalog_of (contents_of self.old))
             (is_some (state_of (contents_of self.old) name.now now)) class.now name.now place.now sets.now ≡ None }
-        ensures ok { IfOk result (Writes name.now (contents_of self.old)
+        ensures ok { IfOk result (WritesNamed name.now (contents_of self.old)
             (after_insert (contents_of self.old) now class.now name.now place.now sets.now) (members_of self.new) (contents_of self.new)) }
         ensures err { OnErr result (IsUnchanged self.old self.new) }
     {
@@ -213,7 +213,7 @@ impl Tables {
         requires fits { AreCellsOf (attributes_of_number self.old.schema number) cells.items }
         requires name { position (is_named name.now) (contents_of self.old).objects ≡ Some at }
         requires class { IfSome (slice_get (contents_of self.old).objects at) (λ o. o.class ≡ number) }
-        ensures ok { IfOk result (Writes name.now (contents_of self.old)
+        ensures ok { IfOk result (WritesNamed name.now (contents_of self.old)
             (with_epoch_of (contents_of self.old) name.now (record { from = now; cells = Some cells.items })) (members_of self.new) (contents_of self.new)) }
         ensures err { OnErr result (IsUnchanged self.old self.new) }
     {
@@ -237,8 +237,8 @@ impl Tables {
         requires written { AreCellsAt cells.items now }
         requires fits { AreCellsOf (attributes_of_number self.old.schema number) cells.items }
         requires name { find (is_named name.now) (contents_of self.old).objects ≡ None }
-        requires room { HasRoom (contents_of self.old) number }
-        ensures ok { IfOk result (Writes name.now (contents_of self.old)
+        requires room { HasFreeName (contents_of self.old) number }
+        ensures ok { IfOk result (WritesNamed name.now (contents_of self.old)
             (with_object (contents_of self.old) number name.now (record { from = now; cells = Some cells.items })) (members_of self.new) (contents_of self.new)) }
         ensures err { OnErr result (IsUnchanged self.old self.new) }
     {
@@ -262,7 +262,7 @@ impl Tables {
         requires tick { now ≤ LAST_TICK }
         requires after { self.old.last_tick ≤ now }
         requires given { AreGiven place.now sets.now }
-        ensures ok { IfOk result (Writes name.now (contents_of self.old)
+        ensures ok { IfOk result (WritesNamed name.now (contents_of self.old)
             (after_update (contents_of self.old) now name.now place.now sets.now) (members_of self.new) (contents_of self.new)) }
         ensures judged { IsJudged (update_fault (catalog_of (contents_of self.old))
             (is_some (state_of (contents_of self.old) name.now now)) name.now place.now sets.now) result }
@@ -313,7 +313,7 @@ impl Tables {
         requires after { self.old.last_tick ≤ now }
         requires given { AreGiven place.now sets.now }
         requires name { position (is_named name.now) (contents_of self.old).objects ≡ Some at }
-        ensures ok { IfOk result (Writes name.now (contents_of self.old)
+        ensures ok { IfOk result (WritesNamed name.now (contents_of self.old)
             (after_update (contents_of self.old) now name.now place.now sets.now) (members_of self.new) (contents_of self.new)) }
         ensures known { IfOk result (λ done. done.undo.is_new ≡ false) }
         ensures err { OnErr result (IsUnchanged self.old self.new) }
@@ -331,7 +331,7 @@ impl Tables {
         requires kept { IsKept (members_of self.old) (contents_of self.old) }
         requires tick { now ≤ LAST_TICK }
         requires after { self.old.last_tick ≤ now }
-        ensures ok { IfOk result (Writes name.now (contents_of self.old)
+        ensures ok { IfOk result (WritesNamed name.now (contents_of self.old)
             (after_remove (contents_of self.old) now name.now) (members_of self.new) (contents_of self.new)) }
         ensures judged { IsJudged (remove_fault (catalog_of (contents_of self.old)) (is_some (state_of (contents_of self.old) name.now now)) name.now) result }
         ensures known { IfOk result (λ done. done.undo.is_new ≡ false) }
@@ -367,7 +367,7 @@ impl Tables {
         requires tick { now ≤ LAST_TICK }
         requires after { self.old.last_tick ≤ now }
         requires name { position (is_named name.now) (contents_of self.old).objects ≡ Some at }
-        ensures ok { IfOk result (Writes name.now (contents_of self.old)
+        ensures ok { IfOk result (WritesNamed name.now (contents_of self.old)
             (after_remove (contents_of self.old) now name.now) (members_of self.new) (contents_of self.new)) }
         ensures known { IfOk result (λ done. done.undo.is_new ≡ false) }
         ensures err { OnErr result (IsUnchanged self.old self.new) }

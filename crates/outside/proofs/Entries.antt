@@ -4,7 +4,7 @@ use Rattle.std.proofs.lemmas.Grind.{common_steps}
 use Rattle.std.proofs.lemmas.Slice.Eq.{bytes_eq-Decides}
 use Rattle.std.specs.List.{position, position_or_len}
 use Rattle.std.specs.Str.{bytes_eq}
-use Rattle.outside.specs.Shelf.{texts_of, put}
+use Rattle.outside.specs.Shelf.{texts_of, texts_with}
 
 position-within : {X : Type 0} (p : X → Bool) (xs : List X) (i : ℕ) → position p xs ≡ Some i → (i ≡ position_or_len p xs) × (i < length xs)
 position-within p xs i e = grind (arith, common_steps)
@@ -15,7 +15,7 @@ position-absent p xs e = grind (arith, common_steps)
 -- a new text in the place of the first under its name
 texts_of-set_first : (entries : List (List ℕ × List ℕ)) (name text other : List ℕ) →
     position_or_len (λ e. bytes_eq e.0 name) entries < length entries →
-    texts_of (set entries (position_or_len (λ e. bytes_eq e.0 name) entries) (name, text)) other ≡ put (texts_of entries) name text other
+    texts_of (set entries (position_or_len (λ e. bytes_eq e.0 name) entries) (name, text)) other ≡ texts_with (texts_of entries) name text other
 texts_of-set_first [] name text other within = absurd (omega arith)
 texts_of-set_first (entry ∷ entries) name text other within =
     grind (arith, common_steps, texts_of-set_first entries name text other, bytes_eq-Decides entry.0 name, bytes_eq-Decides other name, bytes_eq-Decides other entry.0)
@@ -23,7 +23,7 @@ texts_of-set_first (entry ∷ entries) name text other within =
 -- a new text after the others, none of which is under its name
 texts_of-append : (entries : List (List ℕ × List ℕ)) (name text other : List ℕ) →
     length entries ≤ position_or_len (λ e. bytes_eq e.0 name) entries →
-    texts_of (entries ++ (name, text) ∷ []) other ≡ put (texts_of entries) name text other
+    texts_of (entries ++ (name, text) ∷ []) other ≡ texts_with (texts_of entries) name text other
 texts_of-append [] name text other absent = refl
 texts_of-append (entry ∷ entries) name text other absent =
     grind (arith, common_steps, texts_of-append entries name text other, bytes_eq-Decides entry.0 name, bytes_eq-Decides other name, bytes_eq-Decides other entry.0)
@@ -43,15 +43,15 @@ texts_of-none (entry ∷ entries) name absent = grind (arith, common_steps, text
 
 pub texts_of-set : (entries : List (List ℕ × List ℕ)) (name text other : List ℕ) (i : ℕ) →
     position (λ e. bytes_eq e.0 name) entries ≡ Some i →
-    texts_of (set entries i (name, text)) other ≡ put (texts_of entries) name text other
+    texts_of (set entries i (name, text)) other ≡ texts_with (texts_of entries) name text other
 texts_of-set entries name text other i e =
     let h : (i ≡ position_or_len (λ e. bytes_eq e.0 name) entries) × (i < length entries) = position-within _ _ _ e in
     let within : position_or_len (λ e. bytes_eq e.0 name) entries < length entries = omega arith in
-    subst (λ j. texts_of (set entries j (name, text)) other ≡ put (texts_of entries) name text other) (sym h.0) (texts_of-set_first entries name text other within)
+    subst (λ j. texts_of (set entries j (name, text)) other ≡ texts_with (texts_of entries) name text other) (sym h.0) (texts_of-set_first entries name text other within)
 
 pub texts_of-push : (entries : List (List ℕ × List ℕ)) (name text other : List ℕ) →
     position (λ e. bytes_eq e.0 name) entries ≡ None →
-    texts_of (entries ++ (name, text) ∷ []) other ≡ put (texts_of entries) name text other
+    texts_of (entries ++ (name, text) ∷ []) other ≡ texts_with (texts_of entries) name text other
 texts_of-push entries name text other e = texts_of-append entries name text other (position-absent _ _ e)
 
 pub texts_of-found : (entries : List (List ℕ × List ℕ)) (name : List ℕ) (d : List ℕ × List ℕ) (i : ℕ) →

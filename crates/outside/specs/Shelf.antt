@@ -9,8 +9,8 @@ abbrev pub Texts : Type 0
 Texts = List ℕ → Option (List ℕ)
 
 -- the same with this text under this name
-abbrev pub put : Texts → List ℕ → List ℕ → Texts
-put texts name text = λ other. if bytes_eq other name then Some text else texts other
+abbrev pub texts_with : Texts → List ℕ → List ℕ → Texts
+texts_with texts name text = λ other. if bytes_eq other name then Some text else texts other
 
 -- the same texts but for the one under this name, which may be any or gone
 abbrev pub SameButAt : List ℕ → Texts → Texts → Type 0
@@ -28,7 +28,7 @@ FailedStore new texts name NoMemory = new ≡ Some texts
 -- a store puts the text under the name
 abbrev pub Stores : {T : Type 0} → Option Texts → Option Texts → List ℕ → List ℕ → Result T OutFail → Type 0
 Stores old new name text result = (texts : Texts) → old ≡ Some texts →
-    MatchResult result (λ _. new ≡ Some (put texts name text)) (FailedStore new texts name)
+    MatchResult result (λ _. new ≡ Some (texts_with texts name text)) (FailedStore new texts name)
 
 -- the texts that a list of names and texts holds; of two under one name the first counts
 abbrev pub texts_of : List (List ℕ × List ℕ) → Texts

@@ -4,7 +4,7 @@ ghost use Rattle.std.specs.Option.{option_copied, option_map};
 ghost use Rattle.outside.specs.Faults.{HasCause, HasCauseOrNoMemory};
 ghost use Rattle.outside.specs.Source.{Reads};
 ghost use Rattle.outside.specs.Sink.{Writes};
-ghost use Rattle.outside.specs.Shelf.{texts_of, put, Finds, Stores};
+ghost use Rattle.outside.specs.Shelf.{texts_of, texts_with, Finds, Stores};
 ghost use Rattle.outside.specs.Plan.{new_plan, fails_next, called};
 
 use crate::plan::Plan;
@@ -169,7 +169,7 @@ impl MemShelf {
 
     /// Puts the text under the name, in place of the one that is there. It is none of the numbered calls.
     pub fn put(&mut self, name: &[u8], text: &[u8]) -> Result<(), AllocError>
-        ensures ok { OnOk result (texts_of self.new.entries ≡ put (texts_of self.old.entries) name.now text.now) }
+        ensures ok { OnOk result (texts_of self.new.entries ≡ texts_with (texts_of self.old.entries) name.now text.now) }
         ensures err { OnErr result (self.new.entries ≡ self.old.entries) }
         ensures uncounted { self.new.plan ≡ self.old.plan }
     {

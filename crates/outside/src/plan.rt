@@ -17,9 +17,9 @@ pub struct Plan {
 impl Model for Plan {
     ghost use Rattle.std.specs.Prelude.{◌≤◌};
     ghost use Rattle.outside.specs.Faults.{last_count};
-    ghost use Rattle.outside.specs.Plan.{Plan};
+    ghost use Rattle.outside.specs.Plan.{FailurePlan};
 
-    ghost Value = { Plan };
+    ghost Value = { FailurePlan };
 
     ghost view = { λ p. record { fail = p.fail.items; calls = p.calls; faults = p.faults } };
 }

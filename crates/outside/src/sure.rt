@@ -4,7 +4,7 @@ ghost use Rattle.std.specs.Option.{option_copied, option_map};
 ghost use Rattle.outside.specs.Faults.{HasCause, HasCauseOrNoMemory};
 ghost use Rattle.outside.specs.Source.{Reads};
 ghost use Rattle.outside.specs.Sink.{Writes};
-ghost use Rattle.outside.specs.Shelf.{texts_of, put, Finds, Stores};
+ghost use Rattle.outside.specs.Shelf.{texts_of, texts_with, Finds, Stores};
 
 use crate::text::{self, Text};
 use crate::{Failed, OutFail, Shelf, Sink, Source};
@@ -143,7 +143,7 @@ impl SureShelf {
 
     /// Puts the text under the name, in place of the one that is there.
     pub fn put(&mut self, name: &[u8], text: &[u8]) -> Result<(), AllocError>
-        ensures ok { OnOk result (texts_of self.new ≡ put (texts_of self.old) name.now text.now) }
+        ensures ok { OnOk result (texts_of self.new ≡ texts_with (texts_of self.old) name.now text.now) }
         ensures err { OnErr result (self.new ≡ self.old) }
     {
         text::set(self.alloc, &mut self.texts, name, text)

@@ -2,7 +2,7 @@
 ghost use Rattle.std.specs.Prelude.{◌≡◌, ℕ, List, OnOk, OnErr, MatchOption, position, None, Some, length, ◌<◌, take};
 ghost use Rattle.std.specs.Option.{option_copied};
 ghost use Rattle.std.specs.Str.{bytes_eq};
-ghost use Rattle.outside.specs.Shelf.{put, texts_of};
+ghost use Rattle.outside.specs.Shelf.{texts_of, texts_with};
 
 use std::alloc::{AllocError, Global};
 use std::marker::Model;
@@ -47,7 +47,7 @@ pub fn set(
     name: &[u8],
     bytes: &[u8],
 ) -> Result<(), AllocError>
-    ensures ok { OnOk result ((other : List ℕ) → texts_of texts.new.items other ≡ put (texts_of texts.old.items) name.now bytes.now other) }
+    ensures ok { OnOk result ((other : List ℕ) → texts_of texts.new.items other ≡ texts_with (texts_of texts.old.items) name.now bytes.now other) }
     ensures err { OnErr result (texts.new.items ≡ texts.old.items) }
 {
     let text = Text {

@@ -4,7 +4,7 @@ use Rattle.std.specs.Prelude.{int_le, int_lt, nat_lt, unsigned_abs}
 use Rattle.std.proofs.lemmas.Bool.{cases_Bool}
 use Rattle.std.proofs.lemmas.Bool.Decides.{nat_tests}
 use Rattle.std.proofs.lemmas.Int.{ints, by_lt_z, unsigned_abs-mul}
-use Rattle.case_table.specs.Comparison.{compares}
+use Rattle.case_table.specs.Comparison.{compares, is_at_most}
 use Rattle.case_table.specs.declared.compare.Op.{Op}
 use Rattle.case_table.specs.declared.compare.Op.TheVariants.{Lt, Le, Eq, Ne, Ge, Gt}
 use Rattle.exact.proofs.Ring.{part, number, sum, difference, product, opposite, same}
@@ -15,9 +15,9 @@ use Rattle.linear_crossing.specs.Moving.{distance_after, position_after}
 use Rattle.linear_crossing.specs.Relative.{Relative, squared_distance_at}
 use Rattle.linear_crossing.specs.declared.quad.Line.{Line}
 use Rattle.distance_crossing.proofs.Signs.{product_above, product_least, square_least}
-use Rattle.pairs.specs.Distance.{is_at_most}
-use Rattle.pairs.specs.Reach.{IsPast, IsReached}
+use Rattle.pairs.specs.Reach.{IsReached}
 use Rattle.pairs.specs.declared.reach.Reach.{Reach}
+use Rattle.atoms.specs.Routes.{IsPast}
 
 -- ---- a coordinate that begins at x and changes by d at each tick
 later : (x d : ℤ) (k m : ℕ) → x +ℤ d *ℤ pos (k + m) ≡ (x +ℤ d *ℤ pos k) +ℤ d *ℤ pos m

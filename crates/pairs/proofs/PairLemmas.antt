@@ -26,16 +26,16 @@ use Rattle.meaning.specs.Reads.{atom_variables}
 use Rattle.meaning.specs.Trace.{Trace, trace_of}
 use Rattle.meaning.proofs.LocalityLemmas.{atom_same}
 use Rattle.object_store.specs.Contents.{Contents, history_of}
-use Rattle.relation.specs.Frames.{IsIn, size_of}
-use Rattle.relation.specs.Key.{has_id, ids_of}
+use Rattle.relation.specs.Frames.{IsIn, domain_size}
+use Rattle.relation.specs.Key.{has_id, ids_of_variable}
 use Rattle.relation.specs.Rows.{Table, has_at}
 use Rattle.atoms.specs.Parts.{HasObject}
 use Rattle.evaluator.specs.Keys.{AreKeys}
-use Rattle.evaluator.specs.inner.Filled.{IsFilled, behind}
+use Rattle.evaluator.specs.inner.Filled.{IsFilled, keys_behind}
 use Rattle.evaluator.proofs.KeyLemmas.{keys_more, keys_none}
 use Rattle.pairs.specs.Distance.{IsDistance, are_both}
 use Rattle.pairs.specs.Pairs.{AreApart, IsMover, atom_at, holds_in, keys_of, pair_reads}
-use Rattle.pairs.specs.Reach.{IsWithin}
+use Rattle.pairs.specs.Reach.{IsReachedAt}
 use Rattle.pairs.proofs.FarLemmas.{far_never}
 use Rattle.pairs.specs.declared.distance.Distance.{Distance}
 use Rattle.pairs.specs.declared.movers.Mover.{Mover}
@@ -144,8 +144,8 @@ module _ (scene : Scene) (is : IsDistance scene.distance) (one other : Mover)
       subst (λ way. IfSome way (λ y. (u : ℕ) → scene.w.lo ≤ u → u ≤ scene.w.hi → position_in u (cells_at (history_of s) other.id u) ≡ Some (position_after y.line (u - scene.w.lo))))
       apart.second second.along t from upto in
       let soon : k ≤ scene.w.hi - scene.w.lo = omega arith in
-      let in_first : IsWithin apart.p k = subst (λ way. IfSome way (λ y. (n : ℕ) → n ≤ scene.w.hi - scene.w.lo → IsWithin y n)) apart.first first.within k soon in
-      let in_second : IsWithin apart.q k = subst (λ way. IfSome way (λ y. (n : ℕ) → n ≤ scene.w.hi - scene.w.lo → IsWithin y n)) apart.second second.within k soon in
+      let in_first : IsReachedAt apart.p k = subst (λ way. IfSome way (λ y. (n : ℕ) → n ≤ scene.w.hi - scene.w.lo → IsReachedAt y n)) apart.first first.within k soon in
+      let in_second : IsReachedAt apart.q k = subst (λ way. IfSome way (λ y. (n : ℕ) → n ≤ scene.w.hi - scene.w.lo → IsReachedAt y n)) apart.second second.within k soon in
       ap (λ (a : RAtom). atom_holds scene.world.regions.now (trace_of (history_of s) (slice_index key)) a no_values t) is.is
       ∙ held (trace_of (history_of s) (slice_index key)) t is.op scene.distance.most p q at_one at_other is.from is.to (first_two scene.distance is)
       ∙ far_never is.op scene.distance.most (squared_distance p q) is.near (λ positive. apart.far positive k in_first in_second)
@@ -189,15 +189,15 @@ pub as_many_keys : (movers : List Mover) → length (keys_of movers) ≡ length 
 as_many_keys [] = refl
 as_many_keys (m ∷ movers) = ap suc (as_many_keys movers)
 
-singles : (movers : List Mover) → flat_map (λ id. behind id ([] ∷ [])) (map (λ (m : Mover). m.id) movers) ≡ keys_of movers
+singles : (movers : List Mover) → flat_map (λ id. keys_behind id ([] ∷ [])) (map (λ (m : Mover). m.id) movers) ≡ keys_of movers
 singles [] = refl
 singles (m ∷ movers) = ap (λ (keys : List (List ℕ)). (m.id ∷ []) ∷ keys) (singles movers)
 
 -- the objects of a variable are its keys
-pub own_keys : (domains : List (List ℕ)) (ids : List ℕ) (movers : List Mover) → map (λ (m : Mover). m.id) movers ≡ ids → ids ≡ ids_of domains 1 →
+pub own_keys : (domains : List (List ℕ)) (ids : List ℕ) (movers : List Mover) → map (λ (m : Mover). m.id) movers ≡ ids → ids ≡ ids_of_variable domains 1 →
     IsStrictlyIncreasing ids → AreKeys domains (1 ∷ []) (keys_of movers)
 own_keys domains ids movers are own up =
-    subst (AreKeys domains (1 ∷ [])) (ap (λ (z : List ℕ). flat_map (λ id. behind id ([] ∷ [])) z) (sym are) ∙ singles movers)
+    subst (AreKeys domains (1 ∷ [])) (ap (λ (z : List ℕ). flat_map (λ id. keys_behind id ([] ∷ [])) z) (sym are) ∙ singles movers)
     (keys_more domains 1 [] ([] ∷ []) ids own up (keys_none domains))
 
 -- ---- looks
@@ -230,15 +230,15 @@ same_length : (movers : List Mover) (ids : List ℕ) → map (λ (m : Mover). m.
 same_length movers ids are = as_many_ids movers ∙ ap length are
 
 -- after some rounds, with the objects of both variables at hand
-pub rounds_within : (domains : List (List ℕ)) (firsts seconds : List ℕ) (movers : List Mover) → firsts ≡ ids_of domains 0 → seconds ≡ ids_of domains 1 →
+pub rounds_within : (domains : List (List ℕ)) (firsts seconds : List ℕ) (movers : List Mover) → firsts ≡ ids_of_variable domains 0 → seconds ≡ ids_of_variable domains 1 →
     map (λ (m : Mover). m.id) movers ≡ seconds → (start first now i : ℕ) → first ≤ start + length seconds → now ≤ first + i * (1 + length movers * 2) → i ≤ length firsts →
-    now ≤ start + pair_reads (size_of domains)
+    now ≤ start + pair_reads (domain_size domains)
 rounds_within domains firsts seconds movers e f are start first now i look most less =
     subst (λ z. now ≤ start + z) (λ j. length (f j) + length (e j) * (1 + 2 * length (f j)))
     (finished start first now i (length firsts) (length seconds) (length movers) look most less (same_length movers seconds are))
 
-pub first_within : (domains : List (List ℕ)) (seconds : List ℕ) → seconds ≡ ids_of domains 1 → (start first : ℕ) → first ≤ start + length seconds →
-    first ≤ start + pair_reads (size_of domains)
+pub first_within : (domains : List (List ℕ)) (seconds : List ℕ) → seconds ≡ ids_of_variable domains 1 → (start first : ℕ) → first ≤ start + length seconds →
+    first ≤ start + pair_reads (domain_size domains)
 first_within domains seconds f start first look =
-    let more : length seconds ≡ size_of domains 1 = ap length f in
+    let more : length seconds ≡ domain_size domains 1 = ap length f in
     omega (arith, look, more)

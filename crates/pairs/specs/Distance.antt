@@ -1,18 +1,9 @@
 -- Distances that are to be at most a number.
-use Rattle.std.specs.Prelude.{◌≡◌, ℕ, ◌==◌, Bool, true, false, ◌&&◌, ◌||◌}
+use Rattle.std.specs.Prelude.{◌≡◌, ℕ, ◌==◌, Bool, true, ◌&&◌, ◌||◌}
 use Rattle.case_table.specs.declared.compare.Op.{Op}
-use Rattle.case_table.specs.declared.compare.Op.TheVariants.{Lt, Le, Eq, Ne, Ge, Gt}
+use Rattle.case_table.specs.Comparison.{is_at_most}
 use Rattle.formula.specs.declared.tree.RAtom.TheVariants as atoms
 use Rattle.pairs.specs.declared.distance.Distance.{Distance}
-
--- the comparisons of which none holds where the left is greater
-abbrev pub is_at_most : Op → Bool
-is_at_most Lt = true
-is_at_most Le = true
-is_at_most Eq = true
-is_at_most Ne = false
-is_at_most Ge = false
-is_at_most Gt = false
 
 -- whether two variables are the first and the second one, either way round
 abbrev pub are_both : ℕ → ℕ → Bool

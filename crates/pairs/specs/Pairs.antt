@@ -11,11 +11,11 @@ use Rattle.formula.specs.declared.tree.RAtom.{RAtom}
 use Rattle.meaning.specs.Atom.{atom_holds, position_in}
 use Rattle.meaning.specs.Trace.{trace_of}
 use Rattle.object_store.specs.Contents.{Contents, history_of}
-use Rattle.relation.specs.Key.{has_id, ids_of}
+use Rattle.relation.specs.Key.{has_id, ids_of_variable}
 use Rattle.atoms.specs.Sizes.{is_sized}
 use Rattle.pairs.specs.Distance.{IsDistance}
 use Rattle.pairs.specs.declared.distance.Distance.{Distance}
-use Rattle.pairs.specs.Reach.{IsWithin}
+use Rattle.pairs.specs.Reach.{IsReachedAt}
 use Rattle.pairs.specs.declared.movers.Mover.{Mover}
 use Rattle.pairs.specs.declared.movers.Way.{Way}
 use Rattle.pairs.specs.declared.rows.Scene.{Scene}
@@ -24,7 +24,7 @@ use Rattle.pairs.specs.declared.rows.Scene.{Scene}
 pub record IsMover (s : Contents) (lo hi : ℕ) (m : Mover) : Type 0 where
   pub stored : m.id < length s.objects
   pub along : IfSome m.way (λ way. (t : ℕ) → lo ≤ t → t ≤ hi → position_in t (cells_at (history_of s) m.id t) ≡ Some (position_after way.line (t - lo)))
-  pub within : IfSome m.way (λ way. (k : ℕ) → k ≤ hi - lo → IsWithin way k)
+  pub within : IfSome m.way (λ way. (k : ℕ) → k ≤ hi - lo → IsReachedAt way k)
 
 -- two objects have ways, and these keep further from each other than so far
 pub record AreApart (most : ℤ) (one other : Mover) : Type 0 where
@@ -32,7 +32,7 @@ pub record AreApart (most : ℤ) (one other : Mover) : Type 0 where
   pub q : Way
   pub first : one.way ≡ Some p
   pub second : other.way ≡ Some q
-  pub far : pos 0 ≤ℤ most → (k : ℕ) → IsWithin p k → IsWithin q k → square most <ℤ distance_after p.line q.line k
+  pub far : pos 0 ≤ℤ most → (k : ℕ) → IsReachedAt p k → IsReachedAt q k → square most <ℤ distance_after p.line q.line k
 
 -- the objects, each as a key
 abbrev pub keys_of : List Mover → List (List ℕ)
@@ -55,7 +55,7 @@ pub record CanAskDistance (d : Distance) (lo hi : ℕ) : Type 0 where
 
 -- all objects that the variables range over are in the store
 abbrev pub AreStored : Contents → List (List ℕ) → Type 0
-AreStored s domains = (v id : ℕ) → has_id (ids_of domains v) id ≡ true → id < length s.objects
+AreStored s domains = (v id : ℕ) → has_id (ids_of_variable domains v) id ≡ true → id < length s.objects
 
 -- one look at each object, and two at each pair
 abbrev pub pair_reads : (ℕ → ℕ) → ℕ

@@ -1,9 +1,10 @@
 //! Queries for the pairs of objects that are near to each other.
 ghost use Rattle.std.specs.Prelude.{◌≡◌, IfSome, length};
 ghost use Rattle.formula_shape.specs.Shape as shapes;
-ghost use Rattle.formula.specs.Tree.{query_view};
+ghost use Rattle.formula.specs.Tree.{resolved_view};
 ghost use Rattle.formula.specs.declared.tree.RAtom.{RAtom};
-ghost use Rattle.pairs.specs.Distance.{IsDistance, are_both, is_at_most};
+ghost use Rattle.pairs.specs.Distance.{IsDistance, are_both};
+ghost use Rattle.case_table.specs.Comparison.{is_at_most};
 
 use case_table::Op;
 use fixed_point::Fix;
@@ -19,8 +20,8 @@ pub struct Distance<'a> {
 
 /// The distance that is the whole formula of a query of two variables. None where it isn't such a query.
 pub fn distance_of(q: &RQuery) -> Option<Distance<'_>>
-    ensures formula { IfSome result (λ found. (query_view q.now).formula ≡ shapes.Atom found.atom.now) }
-    ensures two { IfSome result (λ found. length (query_view q.now).classes ≡ 2) }
+    ensures formula { IfSome result (λ found. (resolved_view q.now).formula ≡ shapes.Atom found.atom.now) }
+    ensures two { IfSome result (λ found. length (resolved_view q.now).classes ≡ 2) }
     ensures distance { IfSome result IsDistance }
 {
     if q.classes.items().len() != 2 {

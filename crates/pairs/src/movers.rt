@@ -3,7 +3,7 @@ ghost use Rattle.std.specs.Prelude.{◌≡◌, ◌+◌, ◌-◌, ◌<◌, ◌≤
 ghost use Rattle.geometry.specs.Plane.{square};
 ghost use Rattle.linear_crossing.specs.Moving.{IsInReach, distance_after};
 ghost use Rattle.pairs.specs.Pairs.{AreApart, IsMover};
-ghost use Rattle.pairs.specs.Reach.{IsWithin};
+ghost use Rattle.pairs.specs.Reach.{IsReachedAt};
 
 use crate::leading::leads_past;
 use crate::reach::Reach;
@@ -81,7 +81,7 @@ pub(crate) fn mover_of<L: Ledger>(
 fn way_of(line: &Line, ticks: u32) -> Way
     requires { IsInReach line.now }
     ensures line { result.line ≡ line.now }
-    ensures within { (k : ℕ) → k ≤ ticks → IsWithin result k }
+    ensures within { (k : ℕ) → k ≤ ticks → IsReachedAt result k }
 {
     let end = line.position(ticks);
     Way {
@@ -108,7 +108,7 @@ pub(crate) fn are_apart(one: &Mover, other: &Mover, most: Fix) -> bool
 // Whether two ways keep further apart than so far: on one axis, or as one leads past the other.
 #[inline]
 fn keep_apart(first: &Way, second: &Way, most: Fix) -> bool
-    ensures { result ≡ true → pos 0 ≤ℤ most → (k : ℕ) → IsWithin first.now k → IsWithin second.now k
+    ensures { result ≡ true → pos 0 ≤ℤ most → (k : ℕ) → IsReachedAt first.now k → IsReachedAt second.now k
         → square most <ℤ distance_after first.now.line second.now.line k }
 {
     if first.x.is_past(&second.x, most) {

@@ -1,5 +1,6 @@
 //! How far coordinates reach.
 ghost use Rattle.std.specs.Prelude.{◌≡◌, ℤ, ◌-ℤ◌, int_lt, IsTrue};
+ghost use Rattle.atoms.specs.Routes.{IsPast};
 
 use fixed_point::Fix;
 use geometry::apart;
@@ -12,7 +13,7 @@ pub struct Reach {
 }
 
 impl Reach {
-    ghost use Rattle.pairs.specs.Reach.{IsPast, IsReached};
+    ghost use Rattle.pairs.specs.Reach.{IsReached};
 
     /// From one coordinate to another.
     pub(crate) fn between(a: Fix, b: Fix) -> Reach

@@ -2,12 +2,12 @@
 ghost use Rattle.std.specs.Prelude.{◌≡◌, ◌+◌, ◌*◌, ◌<◌, ◌≤◌, [], ◌∷◌, true, All, IfOk, OnOk, length};
 ghost use Rattle.std.specs.List.{list_all};
 ghost use Rattle.tick_set.specs.Runs.{spans_have};
-ghost use Rattle.relation.specs.Frames.{size_of};
+ghost use Rattle.relation.specs.Frames.{domain_size};
 ghost use Rattle.relation.specs.Key.{key_below, key_in};
 ghost use Rattle.relation.specs.Rows.{IsSameHead, table};
-ghost use Rattle.evaluator.specs.Keys.{AreAscending};
+ghost use Rattle.evaluator.specs.Keys.{AreAscendingKeys};
 ghost use Rattle.evaluator.specs.Rows.{AreRowsWhere};
-ghost use Rattle.evaluator.specs.inner.Filled.{IsFilled, behind};
+ghost use Rattle.evaluator.specs.inner.Filled.{IsFilled, keys_behind};
 ghost use Rattle.pairs.specs.Pairs.{AreStored, CanAskDistance, IsMover, atom_at, holds_in, keys_of, pair_reads};
 
 use crate::distance::Distance;
@@ -46,7 +46,7 @@ pub fn rows_of_pairs<'d, L: Ledger, M: Ledger>(
     ensures rows { IfOk result (λ r. AreRowsWhere spans_have d.now scene.now.w.lo scene.now.w.hi (0 ∷ 1 ∷ [])
         (atom_at scene.now.world.store.now scene.now.world.regions.now scene.now.distance.atom.now) r) }
     ensures least { reads.old ≤ reads.new }
-    ensures most { reads.new ≤ reads.old + pair_reads (size_of d.now) }
+    ensures most { reads.new ≤ reads.old + pair_reads (domain_size d.now) }
 {
     let store = scene.world.store;
     let movers = movers_of(alloc, d.of(1), store, scene.w, reads)?;
@@ -74,9 +74,9 @@ fn put_near<'d, L: Ledger, M: Ledger>(
     requires movers { All (IsMover scene.now.world.store.now scene.now.w.lo scene.now.w.hi) movers.now }
     requires head { IsSameHead (table (0 ∷ 1 ∷ []) made.old.domains scene.now.w.lo scene.now.w.hi []) made.old }
     requires inside { list_all (λ key. key_in made.old.domains (0 ∷ 1 ∷ []) (one.now.id ∷ key)) (keys_of movers.now) ≡ true }
-    requires ascend { AreAscending (keys_of movers.now) }
+    requires ascend { AreAscendingKeys (keys_of movers.now) }
     requires above { list_all (λ r. key_below r.key (one.now.id ∷ [])) made.old.rows ≡ true }
-    ensures rows { OnOk result (IsFilled spans_have (holds_in scene.now) (behind one.now.id (keys_of movers.now)) made.old made.new) }
+    ensures rows { OnOk result (IsFilled spans_have (holds_in scene.now) (keys_behind one.now.id (keys_of movers.now)) made.old made.new) }
     ensures least { reads.old ≤ reads.new }
     ensures most { reads.new ≤ reads.old + length movers.now * 2 }
 {

@@ -3,7 +3,7 @@ ghost use Rattle.std.specs.Prelude.{◌≡◌, ◌≤◌, IfOk, length};
 ghost use Rattle.formula_shape.specs.declared.limits.TheConstants.{OBJECT_LIMIT};
 ghost use Rattle.ftl_parser.specs.Lawful.{IsLawful};
 ghost use Rattle.ftl_parser.specs.Tree.{query_view};
-ghost use Rattle.formula.specs.Tree.{query_view as resolved_view};
+ghost use Rattle.formula.specs.Tree.{resolved_view};
 ghost use Rattle.narrowing.specs.Narrowed.{AreOfClasses};
 
 use crate::owned::spent;

@@ -9,7 +9,7 @@ use Rattle.places.specs.declared.patch.Extent.{Extent}
 use Rattle.places.specs.declared.patch.Patch.{Patch}
 use Rattle.places.specs.declared.boxes.TheConstants.{BLOCK}
 use Rattle.places.specs.Boxes.{covers_with, patch_at, AreArranged, AreCovers, AreSlots}
-use Rattle.places.specs.Patches.{joined, joined_extent, nowhere, HasExtent, HasPatch}
+use Rattle.places.specs.Patches.{joined, joined_extent, empty_patch, HasExtent, HasPatch}
 
 -- what the code reads where there is no patch
 abbrev pub zeros : Patch
@@ -55,14 +55,14 @@ below_or_from (suc s) (suc n) = elim (below_or_from s n) [ inl h ↦ inl (omega 
 pub keeps : (covers : List Patch) (block b : ℕ) (patch other : Patch) → block < length covers
     → HasPatch (patch_at covers b) other → HasPatch (patch_at (widened covers block patch) b) other
 keeps covers block b patch other there has = elim (same_or_other b block) [
-  | inl is ↦ subst (λ c. HasPatch c other) (sym (get_or-set_at covers block b (joined (patch_at covers block) patch) nowhere is there))
+  | inl is ↦ subst (λ c. HasPatch c other) (sym (get_or-set_at covers block b (joined (patch_at covers block) patch) empty_patch is there))
       (grows (patch_at covers block) patch other (subst (λ n. HasPatch (patch_at covers n) other) is has))
-  | inr differs ↦ subst (λ c. HasPatch c other) (sym (get_or-set_other covers block b (joined (patch_at covers block) patch) nowhere differs)) has
+  | inr differs ↦ subst (λ c. HasPatch c other) (sym (get_or-set_other covers block b (joined (patch_at covers block) patch) empty_patch differs)) has
 ]
 
 pub has_new : (covers : List Patch) (block : ℕ) (patch : Patch) → block < length covers → HasPatch (patch_at (widened covers block patch) block) patch
 has_new covers block patch there =
-    subst (λ c. HasPatch c patch) (sym (get_or-set_at covers block block (joined (patch_at covers block) patch) nowhere refl there))
+    subst (λ c. HasPatch c patch) (sym (get_or-set_at covers block block (joined (patch_at covers block) patch) empty_patch refl there))
     (has_second (patch_at covers block) patch)
 
 -- the block of a number is one of those that have room for it
@@ -108,9 +108,9 @@ covers_set covers patches slots numbers number patch held within =
         each = λ k below. elim (same_or_other k number) [
           | inl is ↦ subst (λ m. HasPatch (patch_at (widened covers block patch) (block_of slots m)) (patch_at (set patches number patch) m)) (sym is)
               (subst (λ p. HasPatch (patch_at (widened covers block patch) block) p)
-              (sym (get_or-set_at patches number number patch nowhere refl within)) (has_new covers block patch there))
+              (sym (get_or-set_at patches number number patch empty_patch refl within)) (has_new covers block patch there))
           | inr differs ↦ subst (λ p. HasPatch (patch_at (widened covers block patch) (block_of slots k)) p)
-              (sym (get_or-set_other patches number k patch nowhere differs))
+              (sym (get_or-set_other patches number k patch empty_patch differs))
               (keeps covers block (block_of slots k) patch (patch_at patches k) there (are.each k (omega (arith, long, below))))
         ];
       };
@@ -179,8 +179,8 @@ have_next covers n patch blocks few room = elim (true_or_false (nat_lt (n / BLOC
         record {
           blocks = omega (arith, longer, full, least, few);
           room = omega (arith, longer, room);
-          new = subst (λ p. HasPatch p patch) (sym (at_end covers patch nowhere (n / BLOCK) (omega (arith, most, full)))) (has_itself patch);
-          old = λ b other below has. subst (λ p. HasPatch p other) (sym (get_or_append_left covers (patch ∷ []) nowhere b below)) has;
+          new = subst (λ p. HasPatch p patch) (sym (at_end covers patch empty_patch (n / BLOCK) (omega (arith, most, full)))) (has_itself patch);
+          old = λ b other below has. subst (λ p. HasPatch p other) (sym (get_or_append_left covers (patch ∷ []) empty_patch b below)) has;
         }
 
 -- one patch more, in the next slot
@@ -203,7 +203,7 @@ covers_push covers patches slots numbers patch n is few held =
               let slot : get_or (slots ++ n ∷ []) k 0 ≡ n = at_end slots n 0 k (omega (arith, is, same, held.long)) in
               subst (λ s. HasPatch (patch_at (covers_with covers (n / BLOCK) patch) (s / BLOCK)) (patch_at (patches ++ patch ∷ []) k)) (sym slot)
               (subst (λ p. HasPatch (patch_at (covers_with covers (n / BLOCK) patch) (n / BLOCK)) p)
-              (sym (at_end patches patch nowhere k (omega (arith, is, same)))) more.new)
+              (sym (at_end patches patch empty_patch k (omega (arith, is, same)))) more.new)
           | inr differs ↦
               let under : k < length patches = omega (arith, long, below, differs, is) in
               let seated : k < length slots = omega (arith, under, held.long) in
@@ -211,7 +211,7 @@ covers_push covers patches slots numbers patch n is few held =
               let within : get_or slots k 0 < length patches = omega (arith, held.long, (held.slots_are.each k seated).within) in
               subst (λ s. HasPatch (patch_at (covers_with covers (n / BLOCK) patch) (s / BLOCK)) (patch_at (patches ++ patch ∷ []) k)) (sym slot)
               (subst (λ p. HasPatch (patch_at (covers_with covers (n / BLOCK) patch) (block_of slots k)) p)
-              (sym (get_or_append_left patches (patch ∷ []) nowhere k under))
+              (sym (get_or_append_left patches (patch ∷ []) empty_patch k under))
               (more.old (block_of slots k) (patch_at patches k) (slot_covered covers patches slots (get_or slots k 0) are within) (are.each k under)))
         ];
       };

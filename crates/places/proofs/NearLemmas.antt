@@ -12,7 +12,7 @@ use Rattle.std.specs.Prelude.{Contains, IsPermutation, IsSorted, AllPairs}
 use Rattle.std.specs.List.{dedup}
 use Rattle.places.specs.declared.patch.Patch.{Patch}
 use Rattle.places.specs.declared.boxes.TheConstants.{BLOCK}
-use Rattle.places.specs.Boxes.{near, near_below, patch_at, AddsFound, AreArranged, AreFound, IsNear}
+use Rattle.places.specs.Boxes.{numbers_near, near_below, patch_at, AddsFound, AreArranged, AreFound, IsNear}
 use Rattle.places.specs.Patches.{meets, HasPatch}
 use Rattle.places.proofs.CoverLemmas.{at_end, below_or_from, block_of, same_or_other, true_or_false}
 
@@ -189,9 +189,9 @@ near_rises (suc n) patches area = elim (true_or_false (meets (patch_at patches n
 -- what was found, sorted and each number once, is all that meet
 pub all_found : (covers patches : List Patch) (slots numbers : List ℕ) (area : Patch) (found sorted : List ℕ) → AreArranged covers patches slots numbers
     → AreFound (BLOCK * length covers) covers numbers patches area found → IsPermutation found sorted → IsSorted nat_cmp sorted
-    → dedup eqb sorted ≡ near patches area
+    → dedup eqb sorted ≡ numbers_near patches area
 all_found covers patches slots numbers area found sorted held are same order =
-    same_rising (dedup eqb sorted) (near patches area) (AllPairs-from_increasing (dedup eqb sorted) (IsStrictlyIncreasing-dedup sorted order)) (near_rises (length patches) patches area)
+    same_rising (dedup eqb sorted) (numbers_near patches area) (AllPairs-from_increasing (dedup eqb sorted) (IsStrictlyIncreasing-dedup sorted order)) (near_rises (length patches) patches area)
     (λ k has. let is = are.sound k (Contains-permutation sorted found k (IsPermutation-sym found sorted same) (Contains-from_dedup eqb sorted k has)) in
     near_told (length patches) k patches area is.there is.met)
     (λ k has. let is = below_near (length patches) k patches area has in

@@ -8,7 +8,7 @@ use Rattle.std.specs.Prelude.{Contains, IsPermutation}
 use Rattle.places.specs.declared.patch.Patch.{Patch}
 use Rattle.places.specs.declared.boxes.TheConstants.{BLOCK}
 use Rattle.places.specs.Boxes.{patch_at, AreArranged, AreSlots, AreSlotsBut, StandsFrom}
-use Rattle.places.specs.Patches.{joined, nowhere, HasPatch}
+use Rattle.places.specs.Patches.{joined, empty_patch, HasPatch}
 use Rattle.places.proofs.CoverLemmas.{below_or_from, block_of, has_new, keeps, same_or_other, slot_covered, widened}
 
 -- after a permutation of the slots from n on, what had none of these has its slot, and the others stand there
@@ -79,7 +79,7 @@ popped_plain covers patches slots numbers last is held past =
         each = λ k below.
             let under : k < last = omega (arith, below, few_patches) in
             subst (λ s. HasPatch (patch_at covers (s / BLOCK)) (patch_at (take last patches) k)) (sym (get_or-take last slots k 0 under))
-            (subst (λ p. HasPatch (patch_at covers (block_of slots k)) p) (sym (get_or-take last patches k nowhere under))
+            (subst (λ p. HasPatch (patch_at covers (block_of slots k)) p) (sym (get_or-take last patches k empty_patch under))
             (held.covers_are.each k (omega (arith, under, is))));
       };
     }
@@ -150,7 +150,7 @@ popped_moved covers patches slots numbers last number slot is held number_is slo
                     let now : get_or (set (take last slots) number slot) k 0 ≡ get_or slots k 0 =
                     get_or-set_other (take last slots) number k slot 0 differs ∙ get_or-take last slots k 0 under in
                     subst (λ s. HasPatch (patch_at (widened covers (slot / BLOCK) patch) (s / BLOCK)) (patch_at (take last patches) k)) (sym now)
-                    (subst (λ p. HasPatch (patch_at (widened covers (slot / BLOCK) patch) (block_of slots k)) p) (sym (get_or-take last patches k nowhere under))
+                    (subst (λ p. HasPatch (patch_at (widened covers (slot / BLOCK) patch) (block_of slots k)) p) (sym (get_or-take last patches k empty_patch under))
                     (keeps covers (slot / BLOCK) (block_of slots k) patch (patch_at patches k) there (held.covers_are.each k (omega (arith, under, is)))))
               ];
         };

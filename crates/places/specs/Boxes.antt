@@ -2,7 +2,7 @@
 use Rattle.std.specs.Prelude.{◌≡◌, ◌⊎◌, ℕ, zero, suc, ◌*◌, ◌/◌, ◌^◌, ◌<◌, ◌≤◌, nat_lt, true, List, [], ◌∷◌, ◌++◌, length, slice_index, slice_index_or, slice_set, Contains, if◌then◌else◌}
 use Rattle.places.specs.declared.patch.Patch.{Patch}
 use Rattle.places.specs.declared.boxes.TheConstants.{BLOCK}
-use Rattle.places.specs.Patches.{HasPatch, joined, meets, nowhere}
+use Rattle.places.specs.Patches.{HasPatch, empty_patch, joined, meets}
 
 -- the patches by the numbers of their objects, and the last tick up to which they tell where those are
 pub record Horizon : Type 0 where
@@ -11,7 +11,7 @@ pub record Horizon : Type 0 where
 
 -- the patch of a number
 abbrev pub patch_at : List Patch → ℕ → Patch
-patch_at patches number = slice_index_or patches number nowhere
+patch_at patches number = slice_index_or patches number empty_patch
 
 -- the numbers below n of the patches that meet an area, ascending
 abbrev pub near_below : ℕ → List Patch → Patch → List ℕ
@@ -20,8 +20,8 @@ near_below (suc n) patches area =
     if meets (patch_at patches n) area then (near_below n patches area ++ n ∷ []) else near_below n patches area
 
 -- the numbers of all patches that meet it
-abbrev pub near : List Patch → Patch → List ℕ
-near patches area = near_below (length patches) patches area
+abbrev pub numbers_near : List Patch → Patch → List ℕ
+numbers_near patches area = near_below (length patches) patches area
 
 -- a number whose patch meets an area
 pub record IsNear (patches : List Patch) (area : Patch) (k : ℕ) : Type 0 where

@@ -12,12 +12,12 @@ abbrev pub greatest_unit : ℤ
 greatest_unit = pos 2147483647
 
 -- a whole number, or the nearest one of 32 bits
-abbrev pub bounded : ℤ → ℤ
-bounded n = if int_lt n least_unit then least_unit else (if int_lt greatest_unit n then greatest_unit else n)
+abbrev pub clamped_unit : ℤ → ℤ
+clamped_unit n = if int_lt n least_unit then least_unit else (if int_lt greatest_unit n then greatest_unit else n)
 
 -- the whole units of a number of thousandths, rounded down
 abbrev pub unit : ℤ → ℤ
-unit n = bounded (int_div_euclid n (pos 1000))
+unit n = clamped_unit (int_div_euclid n (pos 1000))
 
 -- the unit of one number, and those of one place, in thousandths
 abbrev pub unit_of : ℤ → Extent
@@ -26,8 +26,8 @@ unit_of n = record { least = unit n; greatest = unit n }
 abbrev pub spot : ℤ → ℤ → Patch
 spot x y = record { x = unit_of x; y = unit_of y }
 
-abbrev pub nowhere : Patch
-nowhere = record {
+abbrev pub empty_patch : Patch
+empty_patch = record {
   x = record { least = greatest_unit; greatest = least_unit };
   y = record { least = greatest_unit; greatest = least_unit };
 }

@@ -3,7 +3,7 @@ use Rattle.std.specs.Prelude.{ℕ, ◌-◌, nat_le, nat_lt, Option, None, option
 use Rattle.places.specs.declared.horizons.Places.{Places}
 use Rattle.places.specs.declared.horizons.Patches.{Patches}
 use Rattle.places.specs.declared.patch.Patch.{Patch}
-use Rattle.places.specs.Boxes.{Horizon, near}
+use Rattle.places.specs.Boxes.{Horizon, numbers_near}
 
 abbrev pub no_places : Places
 no_places = record {
@@ -59,4 +59,4 @@ horizon_for p hi = find (λ h. nat_le hi h.upto) (horizons_of p)
 -- the numbers that are told for the ticks from lo to hi
 abbrev pub near_in : Places → (lo hi : ℕ) → Patch → Option (List ℕ)
 near_in p lo hi area =
-    if nat_lt lo p.from then None else option_map (λ h. near h.patches area) (horizon_for p hi)
+    if nat_lt lo p.from then None else option_map (λ h. numbers_near h.patches area) (horizon_for p hi)

@@ -1,7 +1,7 @@
 //! The patches of all objects for one horizon.
 ghost use Rattle.std.specs.Prelude.{◌≡◌, ℕ, ◌+◌, ◌-◌, ◌*◌, ◌^◌, ◌<◌, ◌≤◌, ◌++◌, ◌∷◌, [], length, slice_index, slice_set, take, IfOk, OnOk, OnErr};
 ghost use Rattle.std.specs.Bool.{OnFalse, OnTrue};
-ghost use Rattle.places.specs.Boxes.{covers_with, near, patch_at, AddsFound, AreCovers, AreFound, IsNear};
+ghost use Rattle.places.specs.Boxes.{covers_with, numbers_near, patch_at, AddsFound, AreCovers, AreFound, IsNear};
 ghost use Rattle.places.specs.Patches.{joined};
 
 use crate::order::order_from;
@@ -167,7 +167,7 @@ impl Boxes {
 
     /// Exactly the numbers of the patches that meet an area, ascending.
     pub fn near(&self, alloc: Global, area: &Patch) -> Result<Vec<u32>, AllocError>
-        ensures { IfOk result (λ found. found.items ≡ near self.now.patches area.now) }
+        ensures { IfOk result (λ found. found.items ≡ numbers_near self.now.patches area.now) }
     {
         let mut found = found_near(alloc, &self.covers, &self.numbers, &self.patches, area)?;
         found.sort_unstable();

@@ -1,7 +1,7 @@
 //! Upright boxes of the plane, in whole units.
 ghost use Rattle.std.specs.Prelude.{◌≡◌};
 ghost use Rattle.std.specs.Option.{option_map_or};
-ghost use Rattle.places.specs.Patches.{everywhere, greatest_unit, joined, joined_extent, least_unit, meets, nowhere, overlap, spot, unit, unit_of};
+ghost use Rattle.places.specs.Patches.{empty_patch, everywhere, greatest_unit, joined, joined_extent, least_unit, meets, overlap, spot, unit, unit_of};
 
 use fixed_point::Fix;
 
@@ -65,7 +65,7 @@ impl Extent {
 
     /// No units.
     pub fn none() -> Extent
-        ensures { result ≡ nowhere.x }
+        ensures { result ≡ empty_patch.x }
     {
         Extent {
             least: i32::MAX,
@@ -96,7 +96,7 @@ impl Extent {
 impl Patch {
     /// The patch of an object that is nowhere.
     pub fn nowhere() -> Patch
-        ensures { result ≡ nowhere }
+        ensures { result ≡ empty_patch }
     {
         Patch {
             x: Extent::none(),

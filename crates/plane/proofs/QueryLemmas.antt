@@ -21,8 +21,8 @@ use Rattle.formula.specs.declared.value.Value.{Value}
 use Rattle.formula.specs.declared.value.Value.TheVariants as values
 use Rattle.meaning.specs.Answer.{answer, has_ticks, row_where, rows_where}
 use Rattle.meaning.specs.Binding.{holds_full}
-use Rattle.meaning.specs.Value.{cell_in, cell_value, values_compare, with_sign}
-use Rattle.plane.specs.Boxes.{number_of}
+use Rattle.meaning.specs.Value.{cell_in, cell_value, signed_value, values_compare}
+use Rattle.plane.specs.Boxes.{number_in_value}
 use Rattle.plane.specs.Rows.{is_between, is_in_range, range_query, rows_in_range}
 
 -- ---- what the formula says of one object
@@ -35,21 +35,21 @@ same_number lo hi n = λ i. int_le (once lo i) (once n i) && int_le (once n i) (
 
 abbrev both : Option Value → ℤ → ℤ → Bool
 both found lo hi =
-    values_compare ops.Ge (option_and_then (with_sign false None) found) (Some (values.Num (pos 1 *ℤ lo)))
-    && values_compare ops.Le (option_and_then (with_sign false None) found) (Some (values.Num (pos 1 *ℤ hi)))
+    values_compare ops.Ge (option_and_then (signed_value false None) found) (Some (values.Num (pos 1 *ℤ lo)))
+    && values_compare ops.Le (option_and_then (signed_value false None) found) (Some (values.Num (pos 1 *ℤ hi)))
 
-of_value : (v : Value) (lo hi : ℤ) → both (Some v) lo hi ≡ option_map_or (is_between lo hi) (number_of v) false
+of_value : (v : Value) (lo hi : ℤ) → both (Some v) lo hi ≡ option_map_or (is_between lo hi) (number_in_value v) false
 of_value (values.Num n) lo hi = same_number lo hi n
 of_value (values.Text s) lo hi = refl
 
 of_cell : (found : Option Cell) (lo hi : ℤ) (t : ℕ) → both (option_map (λ cell. cell_value cell t) found) lo hi
-    ≡ option_map_or (is_between lo hi) (option_and_then (λ cell. number_of (cell_value cell t)) found) false
+    ≡ option_map_or (is_between lo hi) (option_and_then (λ cell. number_in_value (cell_value cell t)) found) false
 of_cell None lo hi t = refl
 of_cell (Some cell) lo hi t = of_value (cell_value cell t) lo hi
 
 of_cells : (cells : Option (List Cell)) (a : ℕ) (lo hi : ℤ) (t : ℕ) →
     (is_some cells && true && both (option_map (λ cell. cell_value cell t) (cell_in cells a)) lo hi)
-    ≡ option_map_or (is_between lo hi) (option_and_then (λ cell. number_of (cell_value cell t)) (cell_in cells a)) false
+    ≡ option_map_or (is_between lo hi) (option_and_then (λ cell. number_in_value (cell_value cell t)) (cell_in cells a)) false
 of_cells None a lo hi t = refl
 of_cells (Some there) a lo hi t = of_cell (slice_get there a) lo hi t
 

@@ -32,13 +32,13 @@ last_covered g = g.from + SLICES * SLICE_TICKS - 1
 
 -- ---- Boxes
 
-abbrev pub number_of : Value → Option ℤ
-number_of (values.Num n) = Some n
-number_of (values.Text s) = None
+abbrev pub number_in_value : Value → Option ℤ
+number_in_value (values.Num n) = Some n
+number_in_value (values.Text s) = None
 
 -- the number that an attribute of an object has at a tick, None where the object is absent
 abbrev pub number_at : History → (attribute id t : ℕ) → Option ℤ
-number_at h attribute id t = option_and_then (λ cell. number_of (cell_value cell t)) (cell_in (cells_at h id t) attribute)
+number_at h attribute id t = option_and_then (λ cell. number_in_value (cell_value cell t)) (cell_in (cells_at h id t) attribute)
 
 pub record Box : Type 0 where
   pub least : ℤ

@@ -12,15 +12,15 @@ pub record Recorded : Type 0 where
   pub begun : ℕ → ℕ
 
 -- the tick of a write to the object of a name
-abbrev pub tick_of : List ℕ → Write → Option ℕ
-tick_of o (Class name capacity point attributes) = None
-tick_of o (Insert s class name place sets) = if bytes_eq o name then Some s else None
-tick_of o (Update s name place sets) = if bytes_eq o name then Some s else None
-tick_of o (Remove s name) = if bytes_eq o name then Some s else None
+abbrev pub written_tick : List ℕ → Write → Option ℕ
+written_tick o (Class name capacity point attributes) = None
+written_tick o (Insert s class name place sets) = if bytes_eq o name then Some s else None
+written_tick o (Update s name place sets) = if bytes_eq o name then Some s else None
+written_tick o (Remove s name) = if bytes_eq o name then Some s else None
 
 -- the tick of the last write to the object of a name, 0 where there is none
 abbrev pub last_written : List Write → List ℕ → ℕ
-last_written writes o = fold (λ tick write. unwrap_or (tick_of o write) tick) 0 writes
+last_written writes o = fold (λ tick write. unwrap_or (written_tick o write) tick) 0 writes
 
 -- what a list of writes tells
 abbrev pub recorded : List Write → Recorded

@@ -34,19 +34,19 @@ rows_in_range h class attribute lo hi from e = rows_among h attribute lo hi from
 
 -- ---- The query that they answer
 
-abbrev pub term_of : RUnit → RTerm
-term_of unit = record { factors = record { minus = false; times = None; unit = unit } ∷ [] }
+abbrev pub single_term : RUnit → RTerm
+single_term unit = record { factors = record { minus = false; times = None; unit = unit } ∷ [] }
 
-abbrev pub compared : ℕ → Op → ℤ → ResolvedTree
-compared attribute op n =
-    shapes.Atom (atoms.Compare (term_of (units.Attr 0 attribute (pos DYNAMIC_BOUND))) op (term_of (units.Literal n)))
+abbrev pub attribute_compared : ℕ → Op → ℤ → ResolvedTree
+attribute_compared attribute op n =
+    shapes.Atom (atoms.Compare (single_term (units.Attr 0 attribute (pos DYNAMIC_BOUND))) op (single_term (units.Literal n)))
 
 -- RETRIEVE o FROM class o WHERE o.attribute >= lo AND o.attribute <= hi
 abbrev pub range_query : (class attribute : ℕ) → (lo hi : ℤ) → ResolvedQuery
 range_query class attribute lo hi = record {
   targets = 0 ∷ [];
   classes = class ∷ [];
-  formula = shapes.And (compared attribute ops.Ge lo) (compared attribute ops.Le hi);
+  formula = shapes.And (attribute_compared attribute ops.Ge lo) (attribute_compared attribute ops.Le hi);
 }
 
 -- ---- Where the index tells them

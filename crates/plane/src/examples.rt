@@ -1,5 +1,5 @@
 //! Small histories worked out, as calls without a body.
-ghost use Rattle.plane.specs.Example.{AreBoxes, AreCandidates, AreRows};
+ghost use Rattle.plane.specs.Example.{AreBoxes, AreCandidates, AreRowsInRange};
 
 /// The strips of negative values, and boxes of objects that rise, stand, turn, are written within a slice and are removed.
 pub fn boxes_are_worked_out()
@@ -14,5 +14,5 @@ pub fn candidates_are_worked_out()
 
 /// When the candidates have such values.
 pub fn rows_are_worked_out()
-    ensures { AreRows }
+    ensures { AreRowsInRange }
 {}

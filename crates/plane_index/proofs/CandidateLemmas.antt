@@ -11,7 +11,7 @@ use Rattle.plane.specs.declared.limits.TheConstants.{SLICES}
 use Rattle.plane_index.specs.Index.{Index, fresh_at, index_of, IsFresh, IsIndexOf}
 use Rattle.plane_index.specs.States.{strips_at}
 use Rattle.plane_index.specs.Lines.{strips_as}
-use Rattle.plane_index.specs.Told.{told_by}
+use Rattle.plane_index.specs.Told.{recorded_by}
 use Rattle.plane_index.specs.declared.cover.Cover.{Cover}
 use Rattle.plane_index.specs.declared.state.State.{State}
 use Rattle.plane_index.proofs.IndexLemmas.{candidates_found}
@@ -35,10 +35,10 @@ pub told : {V E : Type 0} (items : V → List ℕ) (r : Result V E) (grid : Grid
     (lo hi : ℤ) (from e count : ℕ) (asked : Cover) → index_of grid ids fresh states ≡ index → there ≡ ids → count ≡ length ids →
     AreMarked grid lo hi from e asked count states marks →
     IfOk r (λ found. items found ≡ map (slice_index there) (filter (fresh_at marks) (between 0 (length there)))) →
-    IfOk r (λ found. (s : Contents) → IsIndexOf s index → IsFresh s index → items found ≡ candidates (told_by s) index.grid lo hi from e)
+    IfOk r (λ found. (s : Contents) → IsIndexOf s index → IsFresh s index → items found ≡ candidates (recorded_by s) index.grid lo hi from e)
 told items (Err x) grid ids there fresh marks states index lo hi from e count asked same those size are is = tt
 told items (Ok v) grid ids there fresh marks states index lo hi from e count asked same those size are is =
-    subst (λ (i : Index). (s : Contents) → IsIndexOf s i → IsFresh s i → items v ≡ candidates (told_by s) i.grid lo hi from e) same
+    subst (λ (i : Index). (s : Contents) → IsIndexOf s i → IsFresh s i → items v ≡ candidates (recorded_by s) i.grid lo hi from e) same
     (λ s of fresh_all.
     is
     ∙ ap (λ xs. map (slice_index xs) (filter (fresh_at marks) (between 0 (length xs)))) those

@@ -12,7 +12,7 @@ use Rattle.plane_index.specs.Columns.{bounded, greatest_narrow, least_narrow, na
 use Rattle.plane_index.specs.Held.{kept_strips}
 use Rattle.plane_index.specs.Index.{fresh_at}
 use Rattle.plane_index.specs.Lines.{strips_as}
-use Rattle.plane_index.specs.States.{no_state, state_of, strips_at, strips_by_state, AreWritten, IsWritten}
+use Rattle.plane_index.specs.States.{no_state, state_of_place, strips_at, strips_by_state, AreWritten, IsWritten}
 use Rattle.plane_index.specs.declared.cover.Cover.{Cover}
 use Rattle.plane_index.specs.declared.cover.Narrow.{Narrow}
 use Rattle.plane_index.specs.declared.state.State.{State}
@@ -68,7 +68,7 @@ column_set grid states s place state covers there are =
             | inl same ↦
                 ap (narrow_at (set covers place (told_by_state state grid s))) same
                 ∙ get_or-set_same covers place (told_by_state state grid s) no_narrow (omega (arith, few, below, same))
-                ∙ sym (ap (λ (p : State). told_by_state p grid s) (ap (state_of (set states place state)) same ∙ get_or-set_same states place state no_state there))
+                ∙ sym (ap (λ (p : State). told_by_state p grid s) (ap (state_of_place (set states place state)) same ∙ get_or-set_same states place state no_state there))
             | inr apart ↦
                 get_or-set_other covers place k (told_by_state state grid s) no_narrow apart
                 ∙ are.each k (omega (arith, few, below))
@@ -83,7 +83,7 @@ columns_set grid states place state columns columns' there is are same noted = r
   written = λ k below.
       let many = length-set states place state in
       elim (cases_eq k place) [
-        | inl e ↦ subst IsWritten (sym (ap (state_of (set states place state)) e ∙ get_or-set_same states place state no_state there)) is
+        | inl e ↦ subst IsWritten (sym (ap (state_of_place (set states place state)) e ∙ get_or-set_same states place state no_state there)) is
         | inr apart ↦ subst IsWritten (sym (get_or-set_other states place k state no_state apart)) (are.written k (omega (arith, below, many)))
       ];
   slices = same ∙ are.slices;
@@ -93,7 +93,7 @@ columns_set grid states place state columns columns' there is are same noted = r
 }
 
 pub columns_longer : (grid : Grid) (states states' : List State) (columns : List (List Narrow)) → AreColumns grid states columns → length states ≤ length states' → AreWritten states' →
-    ((k : ℕ) → k < length states → state_of states' k ≡ state_of states k) → AreColumns grid states' columns
+    ((k : ℕ) → k < length states → state_of_place states' k ≡ state_of_place states k) → AreColumns grid states' columns
 columns_longer grid states states' columns are more written kept = record {
   written = written;
   slices = are.slices;
@@ -185,7 +185,7 @@ set_elsewhere grid states place k s state apart =
 
 -- ---- states that are added
 
-replicated : (m k : ℕ) → state_of (replicate m no_state) k ≡ no_state
+replicated : (m k : ℕ) → state_of_place (replicate m no_state) k ≡ no_state
 replicated zero k = refl
 replicated (suc m) zero = refl
 replicated (suc m) (suc k) = replicated m k
@@ -194,16 +194,16 @@ pub still_written : (old new : List State) (n m : ℕ) → n ≡ length old → 
 still_written old new n m size are is k below =
     let first : take n old ≡ old = take_all n old (omega (arith, size)) in
     let whole : new ≡ old ++ replicate m no_state = is ∙ ap (λ xs. xs ++ replicate m no_state) first in
-    subst (λ xs. IsWritten (state_of xs k)) (sym whole)
+    subst (λ xs. IsWritten (state_of_place xs k)) (sym whole)
     (elim (cases_lt k (length old)) [
       | inl before ↦ subst IsWritten (sym (get_or_append_left old (replicate m no_state) no_state k before)) (are k before)
       | inr past ↦ subst IsWritten (sym (rest k past)) tt
     ])
   where
-    rest : (k : ℕ) → length old ≤ k → state_of (old ++ replicate m no_state) k ≡ no_state
+    rest : (k : ℕ) → length old ≤ k → state_of_place (old ++ replicate m no_state) k ≡ no_state
     rest k past = get_or-append_right old (replicate m no_state) (length old) k no_state refl past ∙ replicated m (k - length old)
 
-pub still_there : (old new : List State) (n m : ℕ) → n ≡ length old → new ≡ take n old ++ replicate m no_state → (k : ℕ) → k < length old → state_of new k ≡ state_of old k
+pub still_there : (old new : List State) (n m : ℕ) → n ≡ length old → new ≡ take n old ++ replicate m no_state → (k : ℕ) → k < length old → state_of_place new k ≡ state_of_place old k
 still_there old new n m size is k below =
-    ap (λ xs. state_of xs k) (is ∙ ap (λ xs. xs ++ replicate m no_state) (take_all n old (omega (arith, size))))
+    ap (λ xs. state_of_place xs k) (is ∙ ap (λ xs. xs ++ replicate m no_state) (take_all n old (omega (arith, size))))
     ∙ get_or_append_left old (replicate m no_state) no_state k below

@@ -13,9 +13,9 @@ use Rattle.object_store.specs.Contents.{Contents, catalog_of}
 use Rattle.plane.specs.Boxes.{Grid, Strips, candidates, is_candidate, lies_on, slice_meets, strip, strips_between, strips_in, strips_meet}
 use Rattle.plane.specs.declared.limits.TheConstants.{SLICES}
 use Rattle.plane_index.specs.Held.{kept_strips, no_strips}
-use Rattle.plane_index.specs.Index.{fresh_at, index_of, is_fresh, row_at, strips_of_place, IsFresh, IsIndexOf}
+use Rattle.plane_index.specs.Index.{fresh_at, index_of, is_fresh, index_row, strips_of_place, IsFresh, IsIndexOf}
 use Rattle.plane_index.specs.States.{strips_at}
-use Rattle.plane_index.specs.Told.{told_by}
+use Rattle.plane_index.specs.Told.{recorded_by}
 use Rattle.plane_index.specs.declared.state.State.{State}
 use Rattle.plane_index.proofs.FindLemmas.{any_same, by_places, kept_lie}
 
@@ -66,7 +66,7 @@ same_index grid ids ids' fresh fresh' states states' same_ids same_fresh same_st
     ∙ (λ i. record {
       grid = grid;
       ids = ids;
-      rows = same_places (row_at grid fresh' states') (row_at grid fresh states) (length ids)
+      rows = same_places (index_row grid fresh' states') (index_row grid fresh states) (length ids)
           (λ k below. same_row (fresh_at fresh' k) (fresh_at fresh k) (map (strips_at grid states' k) (between 0 SLICES)) (map (strips_at grid states k) (between 0 SLICES)) (same_fresh k below)
           (λ is. same_places (strips_at grid states' k) (strips_at grid states k) SLICES (λ s under. same_strips k s below is under))) i;
     })
@@ -78,7 +78,7 @@ some_if false xs = refl
 pub fresh_of : (grid : Grid) (ids : List ℕ) (fresh : List Bool) (states : List State) (k : ℕ) → k < length ids →
     is_fresh (index_of grid ids fresh states) k ≡ fresh_at fresh k
 fresh_of grid ids fresh states k below =
-    ap is_some (at_place (row_at grid fresh states) (length ids) k None below) ∙ some_if (fresh_at fresh k) (map (strips_at grid states k) (between 0 SLICES))
+    ap is_some (at_place (index_row grid fresh states) (length ids) k None below) ∙ some_if (fresh_at fresh k) (map (strips_at grid states k) (between 0 SLICES))
 
 not_seen : (f : ℕ → Option (List Strips)) (n k : ℕ) → n ≤ k → is_some (slice_index_or (map f (between 0 n)) k None) ≡ false
 unfolding between
@@ -95,7 +95,7 @@ seen_at f n k is =
 
 pub seen_if_fresh : (grid : Grid) (ids : List ℕ) (fresh : List Bool) (states : List State) (k : ℕ) →
     is_fresh (index_of grid ids fresh states) k ≡ true → k < length ids
-seen_if_fresh grid ids fresh states k is = seen_at (row_at grid fresh states) (length ids) k is
+seen_if_fresh grid ids fresh states k is = seen_at (index_row grid fresh states) (length ids) k is
 
 -- where none past them is fresh
 pub fresh_anywhere : (grid : Grid) (ids : List ℕ) (fresh : List Bool) (states : List State) → ((k : ℕ) → length ids ≤ k → fresh_at fresh k ≡ false) →
@@ -103,14 +103,14 @@ pub fresh_anywhere : (grid : Grid) (ids : List ℕ) (fresh : List Bool) (states 
 fresh_anywhere grid ids fresh states unseen k =
     elim (cases_lt k (length ids)) [
       | inl below ↦ fresh_of grid ids fresh states k below
-      | inr past ↦ not_seen (row_at grid fresh states) (length ids) k past ∙ sym (unseen k past)
+      | inr past ↦ not_seen (index_row grid fresh states) (length ids) k past ∙ sym (unseen k past)
     ]
 
 -- the strips of a place that isn't stale
 pub strips_of_index : (grid : Grid) (ids : List ℕ) (fresh : List Bool) (states : List State) (k s : ℕ) → k < length ids → fresh_at fresh k ≡ true → s < SLICES →
     strips_of_place (index_of grid ids fresh states) k s ≡ strips_at grid states k s
 strips_of_index grid ids fresh states k s below is under =
-    ap (λ row. slice_index_or (unwrap_or row []) s no_strips) (at_place (row_at grid fresh states) (length ids) k None below)
+    ap (λ row. slice_index_or (unwrap_or row []) s no_strips) (at_place (index_row grid fresh states) (length ids) k None below)
     ∙ ap (λ b. slice_index_or (unwrap_or (if b then Some (map (strips_at grid states k) (between 0 SLICES)) else None) []) s no_strips) is
     ∙ at_place (strips_at grid states k) SLICES s no_strips under
 
@@ -118,7 +118,7 @@ strips_of_index grid ids fresh states k s below is under =
 
 strip_right : (s : Contents) (grid : Grid) (ids : List ℕ) (fresh : List Bool) (states : List State) → IsIndexOf s (index_of grid ids fresh states) →
     (k j : ℕ) → k < length ids → is_fresh (index_of grid ids fresh states) k ≡ true → j < SLICES →
-    strips_at grid states k j ≡ kept_strips (strips_in (told_by s) grid (slice_index ids k) j)
+    strips_at grid states k j ≡ kept_strips (strips_in (recorded_by s) grid (slice_index ids k) j)
 strip_right s grid ids fresh states of k j below is under =
     sym (strips_of_index grid ids fresh states k j below (sym (fresh_of grid ids fresh states k below) ∙ is) under) ∙ of.right k j is under
 
@@ -128,21 +128,21 @@ asked_of grid lo hi = strips_between grid.width lo hi
 pub candidates_found : (s : Contents) (grid : Grid) (ids : List ℕ) (fresh marks : List Bool) (states : List State) (lo hi : ℤ) (from e : ℕ) →
     IsIndexOf s (index_of grid ids fresh states) → IsFresh s (index_of grid ids fresh states) → unsigned_abs (strip grid.width hi) ≤ FIX_LIMIT → int_lt hi lo ≡ false →
     ((k : ℕ) → k < length ids → fresh_at marks k ≡ list_any (λ j. slice_meets grid from e j && strips_meet (asked_of grid lo hi) (strips_at grid states k j)) (between 0 SLICES)) →
-    map (slice_index ids) (filter (fresh_at marks) (between 0 (length ids))) ≡ candidates (told_by s) grid lo hi from e
+    map (slice_index ids) (filter (fresh_at marks) (between 0 (length ids))) ≡ candidates (recorded_by s) grid lo hi from e
 candidates_found s grid ids fresh marks states lo hi from e of are size order marked =
-    by_places (fresh_at marks) (is_candidate (told_by s) grid lo hi from e) ids
+    by_places (fresh_at marks) (is_candidate (recorded_by s) grid lo hi from e) ids
     (λ k below. marked k below
     ∙ any_same (λ j. slice_meets grid from e j && strips_meet (asked_of grid lo hi) (strips_at grid states k j))
-    (λ j. slice_meets grid from e j && lies_on (asked_of grid lo hi) (strips_in (told_by s) grid (slice_index ids k) j)) SLICES
+    (λ j. slice_meets grid from e j && lies_on (asked_of grid lo hi) (strips_in (recorded_by s) grid (slice_index ids k) j)) SLICES
     (λ j under. ap (λ b. slice_meets grid from e j && b)
     (ap (strips_meet (asked_of grid lo hi)) (strip_right s grid ids fresh states of k j below (are.fresh k below) under)
-    ∙ kept_lie (asked_of grid lo hi) (strips_in (told_by s) grid (slice_index ids k) j) size)))
-    ∙ ap (filter (is_candidate (told_by s) grid lo hi from e)) are.all
-    ∙ ap (λ b. if b then [] else filter (is_candidate (told_by s) grid lo hi from e) (ids_of (catalog_of s) grid.class)) (sym order)
+    ∙ kept_lie (asked_of grid lo hi) (strips_in (recorded_by s) grid (slice_index ids k) j) size)))
+    ∙ ap (filter (is_candidate (recorded_by s) grid lo hi from e)) are.all
+    ∙ ap (λ b. if b then [] else filter (is_candidate (recorded_by s) grid lo hi from e) (ids_of (catalog_of s) grid.class)) (sym order)
 
-pub none_found : (s : Contents) (grid : Grid) (lo hi : ℤ) (from e : ℕ) → int_lt hi lo ≡ true → [] ≡ candidates (told_by s) grid lo hi from e
+pub none_found : (s : Contents) (grid : Grid) (lo hi : ℤ) (from e : ℕ) → int_lt hi lo ≡ true → [] ≡ candidates (recorded_by s) grid lo hi from e
 none_found s grid lo hi from e order =
-    ap (λ b. if b then [] else filter (is_candidate (told_by s) grid lo hi from e) (ids_of (catalog_of s) grid.class)) (sym order)
+    ap (λ b. if b then [] else filter (is_candidate (recorded_by s) grid lo hi from e) (ids_of (catalog_of s) grid.class)) (sym order)
 
 -- ---- an index that has seen no object
 

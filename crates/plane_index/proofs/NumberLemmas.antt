@@ -7,8 +7,8 @@ use Rattle.std.proofs.lemmas.List.Elements.{All-cons, All-filter, All-nil}
 use Rattle.history.specs.Catalog.{Catalog, ObjectInfo, ids_of}
 use Rattle.object_store.specs.Contents.{Contents, catalog_of, object_info}
 use Rattle.plane.specs.Boxes.{Grid, candidates, is_candidate}
-use Rattle.plane_index.specs.Index.{IsAscending}
-use Rattle.plane_index.specs.Told.{told_by}
+use Rattle.plane_index.specs.Index.{AreAscendingIds}
+use Rattle.plane_index.specs.Told.{recorded_by}
 
 abbrev numbers : ℕ → ℕ → List ObjectInfo → List ℕ
 numbers class first objects = map (λ (e : ℕ × ObjectInfo). e.0) (filter (λ (e : ℕ × ObjectInfo). e.1.class == class) (enumerate_from first objects))
@@ -43,20 +43,20 @@ ids_stored s class =
 
 -- ---- they ascend
 
-ascend_first : (its : Bool) (class first : ℕ) (x : ObjectInfo) (objects : List ObjectInfo) → IsAscending (numbers class (first + 1) objects) →
-    All (λ id. first + 1 ≤ id) (numbers class (first + 1) objects) → IsAscending (numbers_from its class first x objects)
+ascend_first : (its : Bool) (class first : ℕ) (x : ObjectInfo) (objects : List ObjectInfo) → AreAscendingIds (numbers class (first + 1) objects) →
+    All (λ id. first + 1 ≤ id) (numbers class (first + 1) objects) → AreAscendingIds (numbers_from its class first x objects)
 ascend_first false class first x objects later above j k order below = later j k order below
 ascend_first true class first x objects later above zero zero order below = absurd (omega (arith, order))
 ascend_first true class first x objects later above (suc j) zero order below = absurd (omega (arith, order))
 ascend_first true class first x objects later above zero (suc k) order below = let h = above k 0 (omega (arith, below)) in omega (arith, h)
 ascend_first true class first x objects later above (suc j) (suc k) order below = later j k (omega (arith, order)) (omega (arith, below))
 
-ascend : (class first : ℕ) (objects : List ObjectInfo) → IsAscending (numbers class first objects)
+ascend : (class first : ℕ) (objects : List ObjectInfo) → AreAscendingIds (numbers class first objects)
 ascend class first [] = λ j k order below. absurd (omega (arith, below))
 ascend class first (x ∷ objects) =
     ascend_first (x.class == class) class first x objects (ascend class (first + 1) objects) (numbers_above class (first + 1) (first + 1) objects (omega arith))
 
-pub ids_ascend : (c : Catalog) (class : ℕ) → IsAscending (ids_of c class)
+pub ids_ascend : (c : Catalog) (class : ℕ) → AreAscendingIds (ids_of c class)
 ids_ascend c class = ascend class 0 c.objects
 
 -- ---- those of candidates
@@ -65,10 +65,10 @@ none_or : (none : Bool) (P : ℕ → Type 0) (ids : List ℕ) → All P ids → 
 none_or true P ids all = All-nil P
 none_or false P ids all = all
 
-pub candidates_stored : (s : Contents) (grid : Grid) (lo hi : ℤ) (from e : ℕ) (found : List ℕ) → found ≡ candidates (told_by s) grid lo hi from e →
+pub candidates_stored : (s : Contents) (grid : Grid) (lo hi : ℤ) (from e : ℕ) (found : List ℕ) → found ≡ candidates (recorded_by s) grid lo hi from e →
     All (λ id. id < length s.objects) found
 candidates_stored s grid lo hi from e found is =
     subst (All (λ id. id < length s.objects)) (sym is)
-    (none_or (int_lt hi lo) (λ id. id < length s.objects) (filter (is_candidate (told_by s) grid lo hi from e) (ids_of (catalog_of s) grid.class))
-    (All-filter (is_candidate (told_by s) grid lo hi from e) (λ id. id < length s.objects) (ids_of (catalog_of s) grid.class)
+    (none_or (int_lt hi lo) (λ id. id < length s.objects) (filter (is_candidate (recorded_by s) grid lo hi from e) (ids_of (catalog_of s) grid.class))
+    (All-filter (is_candidate (recorded_by s) grid lo hi from e) (λ id. id < length s.objects) (ids_of (catalog_of s) grid.class)
     (ids_stored s grid.class)))

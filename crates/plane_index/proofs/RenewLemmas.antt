@@ -12,7 +12,7 @@ use Rattle.plane.specs.declared.limits.TheConstants.{SLICES}
 use Rattle.plane_index.specs.Held.{kept_strips}
 use Rattle.plane_index.specs.Index.{AreIndexFields, Index, fresh_at, index_of, is_fresh, stale_count, strips_of_place, IsFresh, IsIndexOf}
 use Rattle.plane_index.specs.States.{strips_at}
-use Rattle.plane_index.specs.Told.{told_by}
+use Rattle.plane_index.specs.Told.{recorded_by}
 use Rattle.plane_index.specs.declared.state.State.{State}
 use Rattle.plane_index.proofs.BackLemmas.{written_back}
 use Rattle.plane_index.proofs.IndexLemmas.{fresh_anywhere, fresh_of, seen_if_fresh, strips_of_index}
@@ -39,7 +39,7 @@ seen_more s grid ids fresh states old new was of same_grid all same_fresh same_s
           ∙ ap (λ (xs : List ℕ). slice_index xs k) (sym all) in
           same_strips k slice is_old under
           ∙ of.right k slice is_old under
-          ∙ (λ i. kept_strips (strips_in (told_by s) (sym same_grid i) (id i) slice));
+          ∙ (λ i. kept_strips (strips_in (recorded_by s) (sym same_grid i) (id i) slice));
     }
 
 -- ---- who was stale was looked at
@@ -50,7 +50,7 @@ pub record IsFreshened (s : Contents) (grid : Grid) (ids : List ℕ) (fresh fres
   pub is_fresh_now : (k : ℕ) → fresh_at fresh' k ≡ (fresh_at fresh k || nat_lt k (length ids))
   pub kept : (k slice : ℕ) → fresh_at fresh k ≡ true → strips_at grid states' k slice ≡ strips_at grid states k slice
   pub right : (k slice : ℕ) → k < length ids → fresh_at fresh k ≡ false → slice < SLICES
-      → strips_at grid states' k slice ≡ kept_strips (strips_in (told_by s) grid (slice_index ids k) slice)
+      → strips_at grid states' k slice ≡ kept_strips (strips_in (recorded_by s) grid (slice_index ids k) slice)
 
 -- of what is written back
 pub of_lent : (s : Contents) (grid grid' : Grid) (there ids : List ℕ) (lent fresh fresh' : List Bool) (states states' : List State) (n : ℕ) →
@@ -58,7 +58,7 @@ pub of_lent : (s : Contents) (grid grid' : Grid) (there ids : List ℕ) (lent fr
     length fresh' ≡ length lent → length states' ≡ length states → ((k : ℕ) → fresh_at fresh' k ≡ (fresh_at lent k || nat_lt k (length there))) →
     ((k slice : ℕ) → fresh_at lent k ≡ true → strips_at grid' states' k slice ≡ strips_at grid states k slice) →
     ((k slice : ℕ) → k < length there → fresh_at lent k ≡ false → slice < SLICES
-    → strips_at grid' states' k slice ≡ kept_strips (strips_in (told_by s) grid (slice_index there k) slice)) →
+    → strips_at grid' states' k slice ≡ kept_strips (strips_in (recorded_by s) grid (slice_index there k) slice)) →
     IsFreshened s grid ids fresh (take n (fresh' ++ drop (length fresh') fresh)) states states'
 of_lent s grid grid' there ids lent fresh fresh' states states' n same was size same_grid places room is_fresh_now kept right =
     let full = ap (λ (xs : List Bool). length xs) (sym was) ∙ size in

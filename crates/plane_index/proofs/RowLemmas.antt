@@ -14,9 +14,9 @@ use Rattle.motion.specs.Timeline.{Epoch, state_at}
 use Rattle.history.specs.History.{History, cells_at}
 use Rattle.meaning.specs.Answer.{Row, has_ticks, row_where}
 use Rattle.plane.specs.Rows.{is_between, is_in_range, rows_among}
-use Rattle.plane_index.specs.Rows.{told_row, told_rows}
+use Rattle.plane_index.specs.Rows.{told_range_row, told_range_rows}
 use Rattle.plane_index.specs.Ticks.{runs_found, HasRun}
-use Rattle.plane_index.specs.Told.{lies_between, number_in}
+use Rattle.plane_index.specs.Told.{lies_between, number_in_cells}
 use Rattle.plane_index.specs.declared.rows.RangeRow.{RangeRow}
 
 abbrev pub if_some : Row → List Row
@@ -27,22 +27,22 @@ kept [] id some = absurd (false≢true (sym some))
 kept (span ∷ ticks) id some = refl
 
 row_added : (rows : List RangeRow) (row : RangeRow) (ticks : List Span) → row.ticks ≡ ticks → (length ticks == 0) ≡ false →
-    told_rows (rows ++ row ∷ []) ≡ told_rows rows ++ if_some (record { key = row.id ∷ []; runs = pairs ticks })
+    told_range_rows (rows ++ row ∷ []) ≡ told_range_rows rows ++ if_some (record { key = row.id ∷ []; runs = pairs ticks })
 row_added rows row ticks same some =
-    map-append told_row rows (row ∷ [])
-    ∙ (λ i. told_rows rows ++ record { key = row.id ∷ []; runs = pairs (same i) } ∷ [])
-    ∙ ap (λ more. told_rows rows ++ more) (sym (kept ticks row.id some))
+    map-append told_range_row rows (row ∷ [])
+    ∙ (λ i. told_range_rows rows ++ record { key = row.id ∷ []; runs = pairs (same i) } ∷ [])
+    ∙ ap (λ more. told_range_rows rows ++ more) (sym (kept ticks row.id some))
 
 pub row_found : (rows : List RangeRow) (row : RangeRow) (found : Option (List Span)) → found ≡ Some row.ticks → IfSome found HasRun →
-    told_rows (rows ++ row ∷ []) ≡ told_rows rows ++ if_some (record { key = row.id ∷ []; runs = pairs (runs_found found) })
+    told_range_rows (rows ++ row ∷ []) ≡ told_range_rows rows ++ if_some (record { key = row.id ∷ []; runs = pairs (runs_found found) })
 row_found rows row found is some =
-    subst (λ f. told_rows (rows ++ row ∷ []) ≡ told_rows rows ++ if_some (record { key = row.id ∷ []; runs = pairs (runs_found f) })) (sym is)
+    subst (λ f. told_range_rows (rows ++ row ∷ []) ≡ told_range_rows rows ++ if_some (record { key = row.id ∷ []; runs = pairs (runs_found f) })) (sym is)
     (row_added rows row row.ticks refl (subst (λ f. IfSome f HasRun) is some))
 
 -- what a timeline tells is what the history tells of its object
 pub same_test : (h : History) (epochs : List Epoch) (attribute : ℕ) (lo hi : ℤ) (id t : ℕ) → cells_at h id t ≡ state_at epochs t →
     lies_between epochs attribute lo hi t ≡ is_in_range h attribute lo hi id t
-same_test h epochs attribute lo hi id t is = sym (λ i. option_map_or (is_between lo hi) (number_in (is i) attribute t) false)
+same_test h epochs attribute lo hi id t is = sym (λ i. option_map_or (is_between lo hi) (number_in_cells (is i) attribute t) false)
 
 -- the row of one object
 pub row_of_runs : (h : History) (epochs : List Epoch) (attribute : ℕ) (lo hi : ℤ) (from e id : ℕ) (runs : List Span) →

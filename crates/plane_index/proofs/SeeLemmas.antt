@@ -5,8 +5,8 @@ use Rattle.std.proofs.lemmas.List.{length-drop, length-take, take-append-drop, t
 use Rattle.plane.specs.Boxes.{Grid}
 use Rattle.plane.specs.declared.limits.TheConstants.{SLICES}
 use Rattle.plane_index.specs.Held.{kept_strips}
-use Rattle.plane_index.specs.Index.{AreIndexFields, Index, fresh_at, index_of, is_fresh, strips_of_place, IsAscending}
-use Rattle.plane_index.specs.States.{state_of, strips_at, strips_by_state}
+use Rattle.plane_index.specs.Index.{AreIndexFields, Index, fresh_at, index_of, is_fresh, strips_of_place, AreAscendingIds}
+use Rattle.plane_index.specs.States.{state_of_place, strips_at, strips_by_state}
 use Rattle.plane_index.specs.declared.state.State.{State}
 use Rattle.plane_index.proofs.IndexLemmas.{fresh_anywhere, fresh_of, same_index, seen_if_fresh, strips_of_index}
 
@@ -14,7 +14,7 @@ use Rattle.plane_index.proofs.IndexLemmas.{fresh_anywhere, fresh_of, same_index,
 
 pub record AreLengthened (old new : List State) : Type 0 where
   pub more : length old ≤ length new
-  pub kept : (k : ℕ) → k < length old → state_of new k ≡ state_of old k
+  pub kept : (k : ℕ) → k < length old → state_of_place new k ≡ state_of_place old k
 
 strips_kept : (grid : Grid) (ids : List ℕ) (fresh : List Bool) (states states' : List State) → AreIndexFields ids fresh states → AreLengthened states states' →
     (k s : ℕ) → k < length ids → strips_at grid states' k s ≡ strips_at grid states k s
@@ -53,7 +53,7 @@ seen_all old ids all new n was first size is =
 
 pub fields_kept : (ids ids' : List ℕ) (fresh fresh' : List Bool) (states states' : List State) (count : ℕ) → AreIndexFields ids fresh states →
     AreLengthened states states' → count ≤ length states' →
-    IsAscending ids' → length ids ≤ length ids' → length ids' ≤ length fresh' → length fresh' ≡ max count (length fresh) → ((k : ℕ) → fresh_at fresh' k ≡ fresh_at fresh k) →
+    AreAscendingIds ids' → length ids ≤ length ids' → length ids' ≤ length fresh' → length fresh' ≡ max count (length fresh) → ((k : ℕ) → fresh_at fresh' k ≡ fresh_at fresh k) →
     AreIndexFields ids' fresh' states'
 fields_kept ids ids' fresh fresh' states states' count are longer room ascending more few size same = record {
   ascending = ascending;

@@ -5,7 +5,7 @@ use Rattle.std.specs.List.{filter_map}
 use Rattle.std.specs.Option.{option_map, option_map_or}
 use Rattle.std.proofs.lemmas.List.Elements.{All-cons, All-nil}
 use Rattle.tick_set.specs.Ticks.{between}
-use Rattle.motion.specs.Timeline.{Epoch, cells_of, epoch_at, state_at, AreBegunBy, IsRisingFrom}
+use Rattle.motion.specs.Timeline.{Epoch, cells_of, epoch_at, state_at, AreBegunBy, IsRisingFrom, last_begun}
 use Rattle.motion.specs.Dynamic.{Dynamic, value_at}
 use Rattle.motion.specs.declared.cell.Cell.{Cell}
 use Rattle.motion.specs.declared.cell.Cell.TheVariants as cells
@@ -17,7 +17,7 @@ use Rattle.plane.specs.Boxes.{Grid, box_of, slice_first, slice_last, strips_in, 
 use Rattle.plane_index.specs.Lines.{number_of_cell}
 use Rattle.plane_index.specs.States.{no_state, strips_by_state}
 use Rattle.plane_index.specs.declared.state.State.{State}
-use Rattle.plane_index.specs.Told.{last_begun, lies_between, lies_in, number_in, strips_along, strips_by, told_by}
+use Rattle.plane_index.specs.Told.{lies_between, lies_in, number_in_cells, recorded_by, strips_along, strips_by}
 use Rattle.plane_index.proofs.ValueLemmas.{no_box, same_numbers}
 
 -- ---- the object of a store
@@ -28,10 +28,10 @@ begun_of None epochs is = absurd (grind arith)
 begun_of (Some o) epochs is = let same : o.epochs ≡ epochs = grind arith in ap last_begun same
 
 pub told_along : (s : Contents) (g : Grid) (id slice : ℕ) (epochs : List Epoch) → option_map (λ (o : StoredObject). o.epochs) (slice_get s.objects id) ≡ Some epochs →
-    ((t : ℕ) → cells_at (history_of s) id t ≡ state_at epochs t) → strips_in (told_by s) g id slice ≡ strips_along epochs g slice
+    ((t : ℕ) → cells_at (history_of s) id t ≡ state_at epochs t) → strips_in (recorded_by s) g id slice ≡ strips_along epochs g slice
 told_along s g id slice epochs is states =
     λ i. option_map (strips_of g.width)
-    (box_of (filter_map (λ t. number_in (states t i) g.attribute t) (between (max (slice_first g slice) (begun_of (slice_get s.objects id) epochs is i)) (slice_last g slice + 1))))
+    (box_of (filter_map (λ t. number_in_cells (states t i) g.attribute t) (between (max (slice_first g slice) (begun_of (slice_get s.objects id) epochs is i)) (slice_last g slice + 1))))
 
 -- ---- the last epoch
 
@@ -62,10 +62,10 @@ pub by_last : (epochs : List Epoch) (p : Epoch) (g : Grid) (s : ℕ) → IsRisin
     ((t : ℕ) → AreBegunBy epochs t → Some p ≡ epoch_at epochs t) → strips_along epochs g s ≡ strips_by p g s
 by_last epochs p g s rising is in_force =
     let begun = begun_by_last 0 p epochs rising is in
-    (λ i. option_map (strips_of g.width) (box_of (filter_map (λ t. number_in (state_at epochs t) g.attribute t) (between (max (slice_first g s) (of_last epochs p is i)) (slice_last g s + 1)))))
+    (λ i. option_map (strips_of g.width) (box_of (filter_map (λ t. number_in_cells (state_at epochs t) g.attribute t) (between (max (slice_first g s) (of_last epochs p is i)) (slice_last g s + 1)))))
     ∙ ap (λ zs. option_map (strips_of g.width) (box_of zs))
-    (same_numbers (λ t. number_in (state_at epochs t) g.attribute t) (number_in p.cells g.attribute) (max (slice_first g s) p.from) (slice_last g s + 1)
-    (λ t after before. ap (λ (e : Option Epoch). number_in (option_and_then (λ (x : Epoch). x.cells) e) g.attribute t)
+    (same_numbers (λ t. number_in_cells (state_at epochs t) g.attribute t) (number_in_cells p.cells g.attribute) (max (slice_first g s) p.from) (slice_last g s + 1)
+    (λ t after before. ap (λ (e : Option Epoch). number_in_cells (option_and_then (λ (x : Epoch). x.cells) e) g.attribute t)
     (sym (in_force t (begun_later epochs p.from t (omega arith) begun)))))
 
 same_cell : (there : Option (List Cell)) (a : ℕ) → slice_get (unwrap_or there []) a ≡ cell_in there a
@@ -86,7 +86,7 @@ no_state_tells g s =
 pub never_written : (epochs : List Epoch) (g : Grid) (s : ℕ) → epochs ≡ [] → strips_along epochs g s ≡ None
 never_written epochs g s none =
     ap (λ e. strips_along e g s) none
-    ∙ ap (option_map (strips_of g.width)) (no_box (λ t. number_in (state_at [] t) g.attribute t) (max (slice_first g s) 0) (slice_last g s + 1) (λ t after before. refl))
+    ∙ ap (option_map (strips_of g.width)) (no_box (λ t. number_in_cells (state_at [] t) g.attribute t) (max (slice_first g s) 0) (slice_last g s + 1) (λ t after before. refl))
 
 some_last : (p : Epoch) (epochs : List Epoch) → slice_get (p ∷ epochs) (length epochs) ≡ None → Unit {0} → ⊥
 some_last p [] none u = absurd (grind arith)

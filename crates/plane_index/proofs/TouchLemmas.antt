@@ -8,7 +8,7 @@ use Rattle.std.proofs.lemmas.Bool.Decides.{nat_tests}
 use Rattle.std.proofs.lemmas.List.{get_or-set_other, get_or-set_same}
 use Rattle.std.proofs.lemmas.List.Sorted.{searched}
 use Rattle.plane.specs.Boxes.{Grid}
-use Rattle.plane_index.specs.Index.{AreIndexFields, Index, fresh_at, index_of, is_fresh, IsAscending, IsTouched}
+use Rattle.plane_index.specs.Index.{AreIndexFields, Index, fresh_at, index_of, is_fresh, AreAscendingIds, IsTouched}
 use Rattle.plane_index.specs.declared.state.State.{State}
 use Rattle.plane_index.proofs.IndexLemmas.{fresh_of, seen_if_fresh, strips_of_index}
 
@@ -53,7 +53,7 @@ touched id grid ids fresh fresh' states tells = record {
       strips_of_index grid ids fresh' states k slice below now under ∙ sym (strips_of_index grid ids fresh states k slice below before under);
 }
 
-in_order : (ids : List ℕ) → IsAscending ids →
+in_order : (ids : List ℕ) → AreAscendingIds ids →
     (i j : ℕ) → i ≤ j → j < length ids → slice_index ids i ≤ slice_index ids j
 in_order ids ascending i j order below =
     elim (cases_eq i j) [
@@ -61,7 +61,7 @@ in_order ids ascending i j order below =
       | inr apart ↦ let less = ascending i j (omega (arith, order, apart)) below in omega (arith, less)
     ]
 
-other : (ids : List ℕ) → IsAscending ids →
+other : (ids : List ℕ) → AreAscendingIds ids →
     (k place id : ℕ) → k ≢ place → k < length ids → place < length ids → slice_index ids place ≡ id → (slice_index ids k == id) ≡ false
 other ids ascending k place id apart below there is =
     elim (cases_lt k place) [

@@ -7,7 +7,7 @@ use Rattle.plane.specs.Boxes.{Grid, Strips, strips_in}
 use Rattle.plane.specs.declared.limits.TheConstants.{SLICES}
 use Rattle.plane_index.specs.Held.{kept_strips, no_strips}
 use Rattle.plane_index.specs.States.{strips_at}
-use Rattle.plane_index.specs.Told.{told_by}
+use Rattle.plane_index.specs.Told.{recorded_by}
 use Rattle.plane_index.specs.declared.state.State.{State}
 
 -- The objects of the class that it has seen, by first insertion. By the place of each among them its strips in each slice, None
@@ -28,18 +28,18 @@ abbrev pub fresh_at : List Bool → ℕ → Bool
 fresh_at fresh k = slice_index_or fresh k false
 
 -- the fields of the index
-abbrev pub row_at : Grid → List Bool → List State → ℕ → Option (List Strips)
-row_at grid fresh states k = if fresh_at fresh k then Some (map (strips_at grid states k) (between 0 SLICES)) else None
+abbrev pub index_row : Grid → List Bool → List State → ℕ → Option (List Strips)
+index_row grid fresh states k = if fresh_at fresh k then Some (map (strips_at grid states k) (between 0 SLICES)) else None
 
 abbrev pub index_of : Grid → List ℕ → List Bool → List State → Index
-index_of grid ids fresh states = record { grid = grid; ids = ids; rows = map (row_at grid fresh states) (between 0 (length ids)) }
+index_of grid ids fresh states = record { grid = grid; ids = ids; rows = map (index_row grid fresh states) (between 0 (length ids)) }
 
-abbrev pub IsAscending : List ℕ → Type 0
-IsAscending ids = (j k : ℕ) → j < k → k < length ids → slice_index ids j < slice_index ids k
+abbrev pub AreAscendingIds : List ℕ → Type 0
+AreAscendingIds ids = (j k : ℕ) → j < k → k < length ids → slice_index ids j < slice_index ids k
 
 -- What holds of those fields: ids ascend, each has a state, and none past them is fresh.
 pub record AreIndexFields (ids : List ℕ) (fresh : List Bool) (states : List State) : Type 0 where
-  pub ascending : IsAscending ids
+  pub ascending : AreAscendingIds ids
   pub seen : length ids ≤ length fresh
   pub room : length fresh ≤ length states
   pub unseen : (k : ℕ) → length ids ≤ k → fresh_at fresh k ≡ false
@@ -50,7 +50,7 @@ pub record AreIndexFields (ids : List ℕ) (fresh : List Bool) (states : List St
 pub record IsIndexOf (s : Contents) (index : Index) : Type 0 where
   pub seen : index.ids ≡ take (length index.ids) (ids_of (catalog_of s) index.grid.class)
   pub right : (k slice : ℕ) → is_fresh index k ≡ true → slice < SLICES
-      → strips_of_place index k slice ≡ kept_strips (strips_in (told_by s) index.grid (slice_index index.ids k) slice)
+      → strips_of_place index k slice ≡ kept_strips (strips_in (recorded_by s) index.grid (slice_index index.ids k) slice)
 
 -- no object of the class is stale
 pub record IsFresh (s : Contents) (index : Index) : Type 0 where

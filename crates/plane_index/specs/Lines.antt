@@ -5,7 +5,7 @@ use Rattle.std.specs.Option.{option_map}
 use Rattle.tick_set.specs.Ticks.{between}
 use Rattle.motion.specs.declared.cell.Cell.{Cell}
 use Rattle.meaning.specs.Value.{cell_value}
-use Rattle.plane.specs.Boxes.{Box, Strips, box_of, number_of}
+use Rattle.plane.specs.Boxes.{Box, Strips, box_of, number_in_value}
 use Rattle.plane_index.specs.declared.cover.Cover.{Cover}
 use Rattle.plane_index.specs.declared.line.Line.{Line}
 
@@ -17,7 +17,7 @@ box_as b = record { least = b.0; greatest = b.1 }
 
 -- the number in a cell at a tick
 abbrev pub number_of_cell : Option Cell → ℕ → Option ℤ
-number_of_cell cell t = option_and_then (λ there. number_of (cell_value there t)) cell
+number_of_cell cell t = option_and_then (λ there. number_in_value (cell_value there t)) cell
 
 -- the box of a cell's numbers over the ticks `from` to `until`
 abbrev pub AreValuesOf : Option Cell → (from until : ℕ) → Option (ℤ × ℤ) → Type 0

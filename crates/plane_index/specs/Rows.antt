@@ -5,8 +5,8 @@ use Rattle.meaning.specs.Answer.{Row}
 use Rattle.plane_index.specs.declared.rows.RangeRow.{RangeRow}
 
 -- the object of a row, and the maximal runs of its ticks
-abbrev pub told_row : RangeRow → Row
-told_row row = record { key = row.id ∷ []; runs = pairs row.ticks }
+abbrev pub told_range_row : RangeRow → Row
+told_range_row row = record { key = row.id ∷ []; runs = pairs row.ticks }
 
-abbrev pub told_rows : List RangeRow → List Row
-told_rows rows = map told_row rows
+abbrev pub told_range_rows : List RangeRow → List Row
+told_range_rows rows = map told_range_row rows

@@ -23,15 +23,15 @@ strips_by_state p g s =
     (box_of (filter_map (number_of_cell p.cell) (between (max (slice_first g s) p.from) (slice_last g s + 1))))
 
 -- the state of a place
-abbrev pub state_of : List State → ℕ → State
-state_of states k = slice_index_or states k no_state
+abbrev pub state_of_place : List State → ℕ → State
+state_of_place states k = slice_index_or states k no_state
 
 abbrev pub AreWritten : List State → Type 0
-AreWritten states = (k : ℕ) → k < length states → IsWritten (state_of states k)
+AreWritten states = (k : ℕ) → k < length states → IsWritten (state_of_place states k)
 
 -- the strips of a place in a slice
 abbrev pub strips_at : Grid → List State → (k s : ℕ) → Strips
-strips_at grid states k s = kept_strips (strips_by_state (state_of states k) grid s)
+strips_at grid states k s = kept_strips (strips_by_state (state_of_place states k) grid s)
 
 -- what is kept of the objects of an index
 pub record States : Type 0 where

@@ -6,8 +6,8 @@ ghost use Rattle.plane.specs.Boxes.{candidates, last_covered};
 ghost use Rattle.plane.specs.Rows.{IsCovered};
 ghost use Rattle.plane.specs.declared.limits.TheConstants.{SLICES};
 ghost use Rattle.plane_index.specs.Held.{IsGrid};
-ghost use Rattle.plane_index.specs.Index.{fresh_at, is_fresh, stale_count, strips_of_place, IsAscending, IsFresh, IsIndexOf, IsTouched};
-ghost use Rattle.plane_index.specs.Told.{told_by};
+ghost use Rattle.plane_index.specs.Index.{fresh_at, is_fresh, stale_count, strips_of_place, AreAscendingIds, IsFresh, IsIndexOf, IsTouched};
+ghost use Rattle.plane_index.specs.Told.{recorded_by};
 
 use crate::cover::Cover;
 use crate::finding::{found_among, marked};
@@ -100,7 +100,7 @@ impl PlaneIndex {
     // Sees the objects of the class that it has not seen. They are stale.
     fn see(&mut self, all: &[ObjectId]) -> Result<(), AllocError>
         requires first { self.old.ids ≡ take (length self.old.ids) all.now }
-        requires ascending { IsAscending all.now }
+        requires ascending { AreAscendingIds all.now }
         ensures grid { self.new.grid ≡ self.old.grid }
         ensures seen { OnOk result (self.new.ids ≡ all.now) }
         ensures fresh { OnOk result ((k : ℕ) → is_fresh self.new k ≡ is_fresh self.old k) }
@@ -119,7 +119,7 @@ impl PlaneIndex {
     pub fn covers(&self, store: &Store, w: Window) -> bool
         ensures value { result ≡ (nat_le self.now.grid.from w.lo && nat_le w.hi (last_covered self.now.grid)
             && ((length store.now.objects == 0) || nat_le store.now.last_tick w.lo)) }
-        ensures covered { result ≡ true → IsCovered (told_by store.now) self.now.grid w.lo w.hi }
+        ensures covered { result ≡ true → IsCovered (recorded_by store.now) self.now.grid w.lo w.hi }
     {
         self.grid().covers(w) && (store.object_count() == 0 || store.last_tick() <= w.lo)
     }
@@ -148,7 +148,7 @@ impl PlaneIndex {
         requires first { self.now.grid.from ≤ w.lo }
         requires last { w.hi ≤ last_covered self.now.grid }
         ensures { IfOk result (λ found. (s : Contents) → IsIndexOf s self.now → IsFresh s self.now
-            → found.items ≡ candidates (told_by s) self.now.grid lo hi w.lo w.hi) }
+            → found.items ≡ candidates (recorded_by s) self.now.grid lo hi w.lo w.hi) }
     {
         if hi < lo {
             return Ok(Vec::new(alloc));

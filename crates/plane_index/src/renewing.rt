@@ -6,7 +6,7 @@ ghost use Rattle.plane.specs.declared.limits.TheConstants.{SLICES};
 ghost use Rattle.plane_index.specs.Held.{kept_strips};
 ghost use Rattle.plane_index.specs.Index.{fresh_at};
 ghost use Rattle.plane_index.specs.States.{strips_at};
-ghost use Rattle.plane_index.specs.Told.{told_by};
+ghost use Rattle.plane_index.specs.Told.{recorded_by};
 
 use crate::state::State;
 use crate::states::States;
@@ -33,7 +33,7 @@ pub fn freshen<L: Ledger>(
     ensures fresh { (k : ℕ) → fresh_at fresh.new k ≡ (fresh_at fresh.old k || nat_lt k (length ids.now)) }
     ensures kept { (k s : ℕ) → fresh_at fresh.old k ≡ true → strips_at states.new.grid states.new.states k s ≡ strips_at states.old.grid states.old.states k s }
     ensures right { (k s : ℕ) → k < length ids.now → fresh_at fresh.old k ≡ false → s < SLICES
-        → strips_at states.new.grid states.new.states k s ≡ kept_strips (strips_in (told_by store.now) states.old.grid (slice_index ids.now k) s) }
+        → strips_at states.new.grid states.new.states k s ≡ kept_strips (strips_in (recorded_by store.now) states.old.grid (slice_index ids.now k) s) }
     ensures least { reads.old ≤ reads.new }
     ensures most { reads.new ≤ reads.old + count_by (λ k. not (fresh_at fresh.old k)) (between 0 (length ids.now)) }
 {
@@ -62,7 +62,7 @@ fn freshen_at<L: Ledger>(
     ensures others { (k s : ℕ) → (k == place) ≡ false → strips_at states.new.grid states.new.states k s ≡ strips_at states.old.grid states.old.states k s }
     ensures kept { fresh_at fresh.old place ≡ true → (s : ℕ) → strips_at states.new.grid states.new.states place s ≡ strips_at states.old.grid states.old.states place s }
     ensures right { fresh_at fresh.old place ≡ false → (s : ℕ)
-        → strips_at states.new.grid states.new.states place s ≡ kept_strips (strips_in (told_by store.now) states.old.grid id s) }
+        → strips_at states.new.grid states.new.states place s ≡ kept_strips (strips_in (recorded_by store.now) states.old.grid id s) }
     ensures step { reads.new ≡ reads.old + (if fresh_at fresh.old place then 0 else 1) }
 {
     if fresh[place] {

@@ -6,10 +6,10 @@ ghost use Rattle.plane.specs.Rows.{rows_among, rows_in_range, IsCovered};
 ghost use Rattle.meaning.specs.Answer.{has_ticks};
 ghost use Rattle.std.specs.List.{filter};
 ghost use Rattle.tick_set.specs.Runs.{pairs};
-ghost use Rattle.plane_index.specs.Rows.{told_rows};
+ghost use Rattle.plane_index.specs.Rows.{told_range_rows};
 ghost use Rattle.plane_index.specs.Ticks.{runs_found, HasRun};
 ghost use Rattle.plane_index.specs.Index.{stale_count, IsFresh, IsIndexOf};
-ghost use Rattle.plane_index.specs.Told.{told_by};
+ghost use Rattle.plane_index.specs.Told.{recorded_by};
 
 use crate::index::PlaneIndex;
 use crate::runs::ticks_between;
@@ -43,8 +43,8 @@ impl PlaneIndex {
         reads: &mut Steps<L>,
     ) -> Result<Vec<RangeRow>, AllocError>
         requires of_store { IsIndexOf store.now self.old }
-        requires covered { IsCovered (told_by store.now) self.old.grid w.lo w.hi }
-        ensures rows { IfOk result (λ rows. told_rows rows.items
+        requires covered { IsCovered (recorded_by store.now) self.old.grid w.lo w.hi }
+        ensures rows { IfOk result (λ rows. told_range_rows rows.items
             ≡ rows_in_range (history_of store.now) self.old.grid.class self.old.grid.attribute lo hi w.lo w.hi) }
         ensures fresh { OnOk result (IsFresh store.now self.new) }
         ensures right { IsIndexOf store.now self.new }
@@ -52,7 +52,7 @@ impl PlaneIndex {
         ensures grid { self.new.grid ≡ self.old.grid }
         ensures least { reads.old ≤ reads.new }
         ensures most { reads.new ≤ reads.old + (stale_count store.now self.old
-            + length (candidates (told_by store.now) self.old.grid lo hi w.lo w.hi)) }
+            + length (candidates (recorded_by store.now) self.old.grid lo hi w.lo w.hi)) }
     {
         self.renew(store, reads)?;
         self.prepare(alloc, w)?;
@@ -82,7 +82,7 @@ fn rows_of<L: Ledger>(
     reads: &mut Steps<L>,
 ) -> Result<Vec<RangeRow>, AllocError>
     requires { All (λ id. id < length store.now.objects) ids.now }
-    ensures rows { IfOk result (λ rows. told_rows rows.items ≡ rows_among (history_of store.now) attribute lo hi w.lo w.hi ids.now) }
+    ensures rows { IfOk result (λ rows. told_range_rows rows.items ≡ rows_among (history_of store.now) attribute lo hi w.lo w.hi ids.now) }
     ensures least { reads.old ≤ reads.new }
     ensures most { reads.new ≤ reads.old + length ids.now }
 {
@@ -98,8 +98,8 @@ fn rows_of<L: Ledger>(
 // Adds the row of an object, if it has a tick.
 fn add_row(rows: &mut Vec<RangeRow>, id: ObjectId, found: Option<Ticks>) -> Result<(), AllocError>
     requires { IfSome found HasRun }
-    ensures { OnOk result (told_rows rows.new.items
-        ≡ told_rows rows.old.items ++ filter (λ row. has_ticks row.runs) (record { key = id ∷ []; runs = pairs (runs_found found) } ∷ [])) }
+    ensures { OnOk result (told_range_rows rows.new.items
+        ≡ told_range_rows rows.old.items ++ filter (λ row. has_ticks row.runs) (record { key = id ∷ []; runs = pairs (runs_found found) } ∷ [])) }
 {
     if let Some(ticks) = found {
         rows.push(RangeRow { id, ticks })?;

@@ -6,7 +6,7 @@ ghost use Rattle.plane_index.specs.Columns.{narrow_at, narrowed, AreColumns};
 ghost use Rattle.plane_index.specs.Held.{kept_strips};
 ghost use Rattle.plane_index.specs.Index.{fresh_at};
 ghost use Rattle.plane_index.specs.Lines.{strips_as};
-ghost use Rattle.plane_index.specs.States.{state_of, strips_at, strips_by_state, AreWritten, IsWritten, States};
+ghost use Rattle.plane_index.specs.States.{state_of_place, strips_at, strips_by_state, AreWritten, IsWritten, States};
 
 use crate::column::Column;
 use crate::cover::Cover;
@@ -58,7 +58,7 @@ impl States {
         ensures grid { self.new.grid ≡ self.old.grid }
         ensures room { OnOk result (count ≤ length self.new.states) }
         ensures more { length self.old.states ≤ length self.new.states }
-        ensures kept { (k : ℕ) → k < length self.old.states → state_of self.new.states k ≡ state_of self.old.states k }
+        ensures kept { (k : ℕ) → k < length self.old.states → state_of_place self.new.states k ≡ state_of_place self.old.states k }
     {
         if self.states.len() < count {
             self.states.resize(count, State::none())?;

@@ -12,8 +12,8 @@ use Rattle.exact.proofs.Lists.{list_all_from, list_all_gives, list_any_gives}
 use Rattle.exact.proofs.Ring.{part, number, sum, difference, product, same, at_most}
 use Rattle.fixed_point.specs.declared.number.Point.{Point}
 use Rattle.geometry.specs.Plane.{cross, is_left_of, is_right_of}
-use Rattle.geometry.specs.Polygon.{are_one, edges, edges_back_to, is_convex, is_counterclockwise, is_inside, is_within}
-use Rattle.polygon.specs.Bounds.{is_among}
+use Rattle.geometry.specs.Polygon.{are_one, edges, edges_back_to, is_convex, is_counterclockwise, is_inside, is_inside_edges}
+use Rattle.polygon.specs.Bounds.{is_in_box}
 use Rattle.polygon.proofs.BoundLemmas.{from_reverse}
 
 -- ---- signs of products
@@ -113,11 +113,11 @@ pub record IsOrdered (p : Point) (beyond : Point → Bool) : Type 0 where
 
 module _ (p : Point) (beyond : Point → Bool) (order : IsOrdered p beyond) where
   -- from each point on to the first
-  leads_back : (first : Point) (points : List Point) → beyond first ≡ true → list_all beyond points ≡ true → is_within (edges_back_to first points) p ≡ true → list_all (λ q. turns p q first) points ≡ true
+  leads_back : (first : Point) (points : List Point) → beyond first ≡ true → list_all beyond points ≡ true → is_inside_edges (edges_back_to first points) p ≡ true → list_all (λ q. turns p q first) points ≡ true
   leads_back first [] f h e = refl
   leads_back first (a ∷ []) f h e = both_true (edge_turns p a first (and_parts (not (is_right_of (a, first) p)) true e).0) refl
   leads_back first (a ∷ b ∷ rest) f h e =
-      let edge = and_parts (not (is_right_of (a, b) p)) (is_within (edges_back_to first (b ∷ rest)) p) e in
+      let edge = and_parts (not (is_right_of (a, b) p)) (is_inside_edges (edges_back_to first (b ∷ rest)) p) e in
       let head = and_parts (beyond a) (list_all beyond (b ∷ rest)) h in
       let second = and_parts (beyond b) (list_all beyond rest) head.1 in
       let later = leads_back first (b ∷ rest) f head.1 edge.1 in
@@ -125,10 +125,10 @@ module _ (p : Point) (beyond : Point → Bool) (order : IsOrdered p beyond) wher
       both_true (order.next a b first head.0 second.0 f (edge_turns p a b edge.0) on.0) later
 
   -- from the first on to each point
-  leads_on : (first a : Point) (rest : List Point) → beyond first ≡ true → list_all beyond (a ∷ rest) ≡ true → is_within (edges_back_to first (a ∷ rest)) p ≡ true → turns p first a ≡ true → list_all (λ q. turns p first q) (a ∷ rest) ≡ true
+  leads_on : (first a : Point) (rest : List Point) → beyond first ≡ true → list_all beyond (a ∷ rest) ≡ true → is_inside_edges (edges_back_to first (a ∷ rest)) p ≡ true → turns p first a ≡ true → list_all (λ q. turns p first q) (a ∷ rest) ≡ true
   leads_on first a [] f h e from = both_true from refl
   leads_on first a (b ∷ rest) f h e from =
-      let edge = and_parts (not (is_right_of (a, b) p)) (is_within (edges_back_to first (b ∷ rest)) p) e in
+      let edge = and_parts (not (is_right_of (a, b) p)) (is_inside_edges (edges_back_to first (b ∷ rest)) p) e in
       let head = and_parts (beyond a) (list_all beyond (b ∷ rest)) h in
       let second = and_parts (beyond b) (list_all beyond rest) head.1 in
       both_true from (leads_on first b rest f head.1 edge.1 (order.next first a b f head.0 second.0 from (edge_turns p a b edge.0)))
@@ -168,7 +168,7 @@ module _ (p : Point) (beyond : Point → Bool) (order : IsOrdered p beyond) wher
       let second = and_parts (is_level first b) (list_all (is_level first) rest) head.1 in
       both_true (both_true head.0 second.0) (level_ends first (b ∷ rest) f head.1)
 
-  level_points : (first : Point) (rest : List Point) → list_all beyond (first ∷ rest) ≡ true → is_within (edges_back_to first (first ∷ rest)) p ≡ true → list_all (is_level first) (first ∷ rest) ≡ true
+  level_points : (first : Point) (rest : List Point) → list_all beyond (first ∷ rest) ≡ true → is_inside_edges (edges_back_to first (first ∷ rest)) p ≡ true → list_all (is_level first) (first ∷ rest) ≡ true
   level_points first rest h e =
       let f = (and_parts (beyond first) (list_all beyond rest) h).0 in
       let back = leads_back first (first ∷ rest) f h e in
@@ -180,12 +180,12 @@ module _ (p : Point) (beyond : Point → Bool) (order : IsOrdered p beyond) wher
       (list_all_gives (λ q. turns p first q) (first ∷ rest) on q c))
 
   -- so no point lies beyond p
-  pub none_beyond : (points : List Point) → is_counterclockwise points ≡ true → list_all beyond points ≡ true → is_within (edges points) p ≡ true → ⊥
+  pub none_beyond : (points : List Point) → is_counterclockwise points ≡ true → list_all beyond points ≡ true → is_inside_edges (edges points) p ≡ true → ⊥
   none_beyond [] round h e = absurd (cc)
   none_beyond (first ∷ rest) round h e =
       let points : List Point = first ∷ rest in
       let sides = edges_back_to first points in
-      let some = (and_parts (list_all (λ e. not (are_one e.0 e.1)) sides && list_all (is_within sides) points) (list_any (λ e. list_any (is_left_of e) points) sides) round).1 in
+      let some = (and_parts (list_all (λ e. not (are_one e.0 e.1)) sides && list_all (is_inside_edges sides) points) (list_any (λ e. list_any (is_left_of e) points) sides) round).1 in
       let edge = list_any_gives (λ e. list_any (is_left_of e) points) sides some in
       let vertex = list_any_gives (is_left_of edge.0) points edge.2 in
       let level = level_points first rest h e in
@@ -247,7 +247,7 @@ by_cases : (b : Bool) → (b ≡ false → ⊥) → b ≡ true
 by_cases true h = refl
 by_cases false h = absurd (h refl)
 
-among_parts : (least greatest q : Point) → is_among least greatest q ≡ true
+among_parts : (least greatest q : Point) → is_in_box least greatest q ≡ true
     → (int_le least.x q.x ≡ true) × (int_le q.x greatest.x ≡ true) × (int_le least.y q.y ≡ true) × (int_le q.y greatest.y ≡ true)
 among_parts least greatest q h =
     let last = and_parts (int_le least.x q.x && int_le q.x greatest.x && int_le least.y q.y) (int_le q.y greatest.y) h in
@@ -255,22 +255,22 @@ among_parts least greatest q h =
     let second = and_parts (int_le least.x q.x) (int_le q.x greatest.x) third.0 in
     (second.0, second.1, third.1, last.1)
 
-counterclockwise_among : (points : List Point) (least greatest p : Point) → list_all (is_among least greatest) points ≡ true → is_counterclockwise points ≡ true → is_within (edges points) p ≡ true → is_among least greatest p ≡ true
+counterclockwise_among : (points : List Point) (least greatest p : Point) → list_all (is_in_box least greatest) points ≡ true → is_counterclockwise points ≡ true → is_inside_edges (edges points) p ≡ true → is_in_box least greatest p ≡ true
 counterclockwise_among points least greatest p all round inside =
-    let each = λ (q : Point) (c : Contains points q). among_parts least greatest q (list_all_gives (is_among least greatest) points all q c) in
+    let each = λ (q : Point) (c : Contains points q). among_parts least greatest q (list_all_gives (is_in_box least greatest) points all q c) in
     both_true (both_true (both_true
     (by_cases (int_le least.x p.x) (λ n. none_beyond p (λ q. int_lt p.x q.x) (to_east p) points round (list_all_from (λ q. int_lt p.x q.x) points (λ q c. past_both p.x least.x q.x (each q c).0 n)) inside))
     (by_cases (int_le p.x greatest.x) (λ n. none_beyond p (λ q. int_lt q.x p.x) (to_west p) points round (list_all_from (λ q. int_lt q.x p.x) points (λ q c. short_of_both p.x greatest.x q.x (each q c).1 n)) inside)))
     (by_cases (int_le least.y p.y) (λ n. none_beyond p (λ q. int_lt p.y q.y) (to_north p) points round (list_all_from (λ q. int_lt p.y q.y) points (λ q c. past_both p.y least.y q.y (each q c).2 n)) inside)))
     (by_cases (int_le p.y greatest.y) (λ n. none_beyond p (λ q. int_lt q.y p.y) (to_south p) points round (list_all_from (λ q. int_lt q.y p.y) points (λ q c. short_of_both p.y greatest.y q.y (each q c).3 n)) inside))
 
-pub convex_among : (points : List Point) (least greatest p : Point) → list_all (is_among least greatest) points ≡ true → is_convex points ≡ true → is_inside points p ≡ true → is_among least greatest p ≡ true
+pub convex_among : (points : List Point) (least greatest p : Point) → list_all (is_in_box least greatest) points ≡ true → is_convex points ≡ true → is_inside points p ≡ true → is_in_box least greatest p ≡ true
 convex_among points least greatest p all convex inside = by_direction (is_counterclockwise points) refl convex inside
   where
-    backward : list_all (is_among least greatest) (reverse points) ≡ true
-    backward = list_all_from (is_among least greatest) (reverse points) (λ q c. list_all_gives (is_among least greatest) points all q (from_reverse points q c))
+    backward : list_all (is_in_box least greatest) (reverse points) ≡ true
+    backward = list_all_from (is_in_box least greatest) (reverse points) (λ q c. list_all_gives (is_in_box least greatest) points all q (from_reverse points q c))
 
     by_direction : (forward : Bool) → is_counterclockwise points ≡ forward → (forward || is_counterclockwise (reverse points)) ≡ true
-        → is_within (edges (if forward then points else reverse points)) p ≡ true → is_among least greatest p ≡ true
+        → is_inside_edges (edges (if forward then points else reverse points)) p ≡ true → is_in_box least greatest p ≡ true
     by_direction true round convex inside = counterclockwise_among points least greatest p all round inside
     by_direction false round convex inside = counterclockwise_among (reverse points) least greatest p backward convex inside

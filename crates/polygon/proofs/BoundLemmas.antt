@@ -13,8 +13,8 @@ use Rattle.indexmap.proofs.ReorderLemmas.{map-reverse}
 use Rattle.exact.proofs.Lists.{list_all_from, list_all_gives}
 use Rattle.fixed_point.specs.declared.number.Point.{Point}
 use Rattle.geometry.specs.Plane.{point}
-use Rattle.polygon.specs.Bounds.{is_among, AreBounds}
-use Rattle.polygon.specs.Given.{given, IsStoredPolygon}
+use Rattle.polygon.specs.Bounds.{is_in_box, AreBounds}
+use Rattle.polygon.specs.Given.{points_as_given, IsStoredPolygon}
 
 abbrev pub lesser : Point → Point → Point
 lesser p q = point (int_min p.x q.x) (int_min p.y q.y)
@@ -101,7 +101,7 @@ bounds_hold first others least greatest e f =
     let gx = greatest_is (λ p. p.x) first others greatest.x (ap (λ p. p.x) f ∙ greatest-x first others) in
     let gy = greatest_is (λ p. p.y) first others greatest.y (ap (λ p. p.y) f ∙ greatest-y first others) in
     record {
-      among = list_all_from (is_among least greatest) (first ∷ others)
+      among = list_all_from (is_in_box least greatest) (first ∷ others)
           (λ q c. both_true (both_true (both_true
           (list_all_gives (λ p. int_le least.x p.x) (first ∷ others) lx.bound q c)
           (list_all_gives (λ p. int_le p.x greatest.x) (first ∷ others) gx.bound q c))
@@ -126,14 +126,14 @@ found_reversed f points r c =
 
 reversed_bounds : (points : List Point) (least greatest : Point) → AreBounds points least greatest → AreBounds (reverse points) least greatest
 reversed_bounds points least greatest h = record {
-  among = list_all_from (is_among least greatest) (reverse points) (λ q c. list_all_gives (is_among least greatest) points h.among q (from_reverse points q c));
+  among = list_all_from (is_in_box least greatest) (reverse points) (λ q c. list_all_gives (is_in_box least greatest) points h.among q (from_reverse points q c));
   least_x = found_reversed (λ p. p.x) points least.x h.least_x;
   least_y = found_reversed (λ p. p.y) points least.y h.least_y;
   greatest_x = found_reversed (λ p. p.x) points greatest.x h.greatest_x;
   greatest_y = found_reversed (λ p. p.y) points greatest.y h.greatest_y;
 }
 
-given_bounds : (points : List Point) (reversed : Bool) (least greatest : Point) → AreBounds points least greatest → AreBounds (given points reversed) least greatest
+given_bounds : (points : List Point) (reversed : Bool) (least greatest : Point) → AreBounds points least greatest → AreBounds (points_as_given points reversed) least greatest
 given_bounds points true least greatest h = reversed_bounds points least greatest h
 given_bounds points false least greatest h = h
 
@@ -141,11 +141,11 @@ first_and_others : (points : List Point) (first : Point) → 0 < length points �
 first_and_others [] first some e = absurd (omega arith)
 first_and_others (p ∷ rest) first some e = let all : take (length (p ∷ rest) - 1) rest ≡ rest = take_all (length (p ∷ rest) - 1) rest (omega arith) in λ i. e i ∷ all i
 
-given_length : (points : List Point) (reversed : Bool) → length (given points reversed) ≡ length points
+given_length : (points : List Point) (reversed : Bool) → length (points_as_given points reversed) ≡ length points
 given_length points true = length-reverse points
 given_length points false = refl
 
-pub kept_bounds : (points whole : List Point) (reversed : Bool) (first least greatest : Point) → IsStoredPolygon points reversed → given points reversed ≡ whole → first ≡ get_or points 0 first
+pub kept_bounds : (points whole : List Point) (reversed : Bool) (first least greatest : Point) → IsStoredPolygon points reversed → points_as_given points reversed ≡ whole → first ≡ get_or points 0 first
     → AreBounds (first ∷ take (length points - 1) (drop 1 points)) least greatest → AreBounds whole least greatest
 kept_bounds points whole reversed first least greatest kept seen at_first h =
     let enough = kept.polygon.enough in

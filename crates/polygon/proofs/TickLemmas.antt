@@ -8,7 +8,7 @@ use Rattle.case_table.specs.declared.compare.Op.TheVariants.{Ge}
 use Rattle.fixed_point.specs.declared.number.Point.{Point}
 use Rattle.geometry.specs.Margin.{extent, is_left_by, is_within_by}
 use Rattle.geometry.specs.Plane.{cross, is_right_of}
-use Rattle.geometry.specs.Polygon.{counterclockwise_points, edges, edges_back_to, is_within}
+use Rattle.geometry.specs.Polygon.{counterclockwise_points, edges, edges_back_to, is_inside_edges}
 use Rattle.tick_set.specs.Runs.{IsRuns}
 use Rattle.tick_set.specs.Ticks.{within}
 use Rattle.tick_set.specs.declared.spans.Span.{Span}
@@ -159,7 +159,7 @@ no_width n = same (product (number 0) (number n)) (number 0) (omega arith)
 left_by_0 : (p : Point) (s : Point × Point) → is_left_by (pos 0) s p ≡ not (is_right_of s p)
 left_by_0 p s = ap (λ z. int_le z (cross s.0 s.1 p)) (no_width (extent s)) ∙ not_below (cross s.0 s.1 p)
 
-pub within_by_0 : (sides : List (Point × Point)) (p : Point) → is_within_by (pos 0) sides p ≡ is_within sides p
+pub within_by_0 : (sides : List (Point × Point)) (p : Point) → is_within_by (pos 0) sides p ≡ is_inside_edges sides p
 within_by_0 [] p = refl
 within_by_0 (s ∷ sides) p = λ i. left_by_0 p s i && within_by_0 sides p i
 

@@ -13,8 +13,8 @@ pub record IsPolygon (points : List Point) : Type 0 where
   pub convex : is_convex points ≡ true
 
 -- the first of the conditions that holds; want of memory is told only where none does
-abbrev pub Explains : List Point → PolygonFault → Type 0
-Explains points TooFew = length points < LEAST_VERTICES
-Explains points TooMany = VERTEX_LIMIT < length points
-Explains points NotConvex = (LEAST_VERTICES ≤ length points) × (length points ≤ VERTEX_LIMIT) × (is_convex points ≡ false)
-Explains points NoMemory = IsPolygon points
+abbrev pub RefusesPolygon : List Point → PolygonFault → Type 0
+RefusesPolygon points TooFew = length points < LEAST_VERTICES
+RefusesPolygon points TooMany = VERTEX_LIMIT < length points
+RefusesPolygon points NotConvex = (LEAST_VERTICES ≤ length points) × (length points ≤ VERTEX_LIMIT) × (is_convex points ≡ false)
+RefusesPolygon points NoMemory = IsPolygon points

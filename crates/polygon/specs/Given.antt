@@ -7,14 +7,14 @@ use Rattle.polygon.specs.Bounds.{AreBounds}
 use Rattle.polygon.specs.Faults.{IsPolygon}
 
 -- the points in the order in which they were given
-abbrev pub given : List Point → Bool → List Point
-given points reversed = if reversed then reverse points else points
+abbrev pub points_as_given : List Point → Bool → List Point
+points_as_given points reversed = if reversed then reverse points else points
 
 pub record IsStoredPolygon (points : List Point) (reversed : Bool) : Type 0 where
-  pub polygon : IsPolygon (given points reversed)
-  pub counterclockwise : counterclockwise_points (given points reversed) ≡ points
+  pub polygon : IsPolygon (points_as_given points reversed)
+  pub counterclockwise : counterclockwise_points (points_as_given points reversed) ≡ points
 
 -- the same with the bounds of the points
 pub record IsKeptPolygon (points : List Point) (reversed : Bool) (least greatest : Point) : Type 0 where
   pub stored : IsStoredPolygon points reversed
-  pub bounds : AreBounds (given points reversed) least greatest
+  pub bounds : AreBounds (points_as_given points reversed) least greatest

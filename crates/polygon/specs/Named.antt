@@ -7,8 +7,8 @@ use Rattle.fixed_point.specs.declared.number.Point.{Point}
 use Rattle.geometry.specs.Region.{Region}
 use Rattle.polygon.specs.declared.named.TheConstants.{REGION_LIMIT}
 
-abbrev pub regions_of : List (List ℕ × List Point) → List Region
-regions_of entries = map (λ e. record { name = e.0; points = e.1 }) entries
+abbrev pub named_regions : List (List ℕ × List Point) → List Region
+named_regions entries = map (λ e. record { name = e.0; points = e.1 }) entries
 
 -- the names differ, and there are not too many
 pub record IsNamed (entries : List (List ℕ × List Point)) : Type 0 where

@@ -5,7 +5,7 @@ ghost use Rattle.fixed_point.specs.declared.number.Point.{Point};
 ghost use Rattle.geometry.specs.Margin.{corners, is_inside_by};
 ghost use Rattle.geometry.specs.Plane.{is_right_of};
 ghost use Rattle.geometry.specs.Polygon.{counterclockwise_points, edges, is_convex, is_inside};
-ghost use Rattle.polygon.specs.Bounds.{is_among};
+ghost use Rattle.polygon.specs.Bounds.{is_in_box};
 
 use crate::named::REGION_LIMIT;
 
@@ -17,8 +17,8 @@ pub fn limits_in_numbers()
 /// A box that has all vertices of a convex polygon has each point inside it.
 pub fn polygons_lie_among_their_vertices()
     ensures { (points : List Point) (least greatest p : Point)
-        → list_all (is_among least greatest) points ≡ true
-        → is_convex points ≡ true → is_inside points p ≡ true → is_among least greatest p ≡ true }
+        → list_all (is_in_box least greatest) points ≡ true
+        → is_convex points ≡ true → is_inside points p ≡ true → is_in_box least greatest p ≡ true }
 {}
 
 /// A place is inside by a margin exactly where all corners of the box round it are inside, by a margin below 0

@@ -21,11 +21,11 @@ pub struct Regions {
 impl Model for Regions {
     ghost use Rattle.std.specs.Prelude.{List};
     ghost use Rattle.geometry.specs.Region.{Region};
-    ghost use Rattle.polygon.specs.Named.{regions_of, IsNamed};
+    ghost use Rattle.polygon.specs.Named.{named_regions, IsNamed};
 
     ghost Value = { List Region };
 
-    ghost view = { λ a. regions_of a.polygons.entries };
+    ghost view = { λ a. named_regions a.polygons.entries };
 
     ghost invariant = { λ a. IsNamed a.polygons.entries };
 }

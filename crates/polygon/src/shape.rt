@@ -3,8 +3,8 @@ ghost use Rattle.std.specs.Prelude.{◌≡◌, length, slice_get, IfOk, OnOk, If
 ghost use Rattle.geometry.specs.Polygon.{edges, is_inside, counterclockwise_points};
 ghost use Rattle.tick_set.specs.Runs.{IsRuns};
 ghost use Rattle.polygon.specs.Bounds.{AreBounds};
-ghost use Rattle.polygon.specs.Faults.{Explains, IsPolygon};
-ghost use Rattle.polygon.specs.Given.{given, IsStoredPolygon};
+ghost use Rattle.polygon.specs.Faults.{IsPolygon, RefusesPolygon};
+ghost use Rattle.polygon.specs.Given.{points_as_given, IsStoredPolygon};
 ghost use Rattle.polygon.specs.Inside.{is_inside_at};
 ghost use Rattle.polygon.specs.Margin.{is_inside_by_at};
 ghost use Rattle.polygon.specs.declared.fault.PolygonFault.TheVariants.{NoMemory};
@@ -37,11 +37,11 @@ pub struct Polygon {
 impl Model for Polygon {
     ghost use Rattle.std.specs.Prelude.{List};
     ghost use Rattle.fixed_point.specs.declared.number.Point.{Point};
-    ghost use Rattle.polygon.specs.Given.{given, IsKeptPolygon};
+    ghost use Rattle.polygon.specs.Given.{points_as_given, IsKeptPolygon};
 
     ghost Value = { List Point };
 
-    ghost view = { λ a. given a.points.items a.reversed };
+    ghost view = { λ a. points_as_given a.points.items a.reversed };
 
     ghost invariant = { λ a. IsKeptPolygon a.points.items a.reversed a.least a.greatest };
 }
@@ -57,7 +57,7 @@ impl Polygon {
     pub fn new(alloc: Global, points: &[Point]) -> Result<Polygon, PolygonFault>
         ensures ok { IfOk result (λ p. p ≡ points.now) }
         ensures polygon { OnOk result (IsPolygon points.now) }
-        ensures cause { IfErr result (Explains points.now) }
+        ensures cause { IfErr result (RefusesPolygon points.now) }
     {
         if points.len() < LEAST_VERTICES {
             return Err(PolygonFault::TooFew);
@@ -132,7 +132,7 @@ impl Polygon {
 // Keeps points that are in counterclockwise order.
 fn keep(alloc: Global, points: &[Point], reversed: bool) -> Result<Polygon, PolygonFault>
     requires { IsStoredPolygon points.now reversed }
-    ensures ok { IfOk result (λ p. p ≡ given points.now reversed) }
+    ensures ok { IfOk result (λ p. p ≡ points_as_given points.now reversed) }
     ensures err { IfErr result (λ e. e ≡ NoMemory) }
 {
     let (least, greatest) = bounds_of(&points[0], &points[1..]);

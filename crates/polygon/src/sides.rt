@@ -3,7 +3,7 @@
 ghost use Rattle.std.specs.Prelude.{◌≡◌, not, slice_get, unwrap_or};
 ghost use Rattle.std.specs.List.{list_all, list_any};
 ghost use Rattle.geometry.specs.Plane.{is_left_of, is_right_of};
-ghost use Rattle.geometry.specs.Polygon.{are_one, edges, edges_back_to, is_counterclockwise, is_within};
+ghost use Rattle.geometry.specs.Polygon.{are_one, edges, edges_back_to, is_counterclockwise, is_inside_edges};
 
 use fixed_point::Point;
 use geometry::cross;
@@ -35,7 +35,7 @@ fn is_left_of(start: &Point, end: &Point, p: &Point) -> bool
 
 /// Whether no edge has the place strictly on its right.
 pub fn is_within(first: &Point, points: &[Point], p: &Point) -> bool
-    ensures { result ≡ is_within (edges_back_to first.now points.now) p.now }
+    ensures { result ≡ is_inside_edges (edges_back_to first.now points.now) p.now }
 {
     let mut rest = points;
     while let Some((start, later)) = rest.split_first() {
@@ -77,7 +77,7 @@ fn ends_differ(first: &Point, points: &[Point]) -> bool
 
 // Whether each of the places is within the edges of the points.
 fn are_within(first: &Point, points: &[Point], places: &[Point]) -> bool
-    ensures { result ≡ list_all (is_within (edges_back_to first.now points.now)) places.now }
+    ensures { result ≡ list_all (is_inside_edges (edges_back_to first.now points.now)) places.now }
 {
     places.iter().all(|p| is_within(first, points, p))
 }

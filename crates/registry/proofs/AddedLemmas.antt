@@ -18,7 +18,7 @@ use Rattle.ftl_parser.specs.Tree.{QueryTree}
 use Rattle.line_meaning.specs.Ask.{query_in}
 use Rattle.line_meaning.specs.Changes.{answer_text}
 use Rattle.line_meaning.specs.Looks.{most_reads}
-use Rattle.line_meaning.specs.Registry.{query_of, registration}
+use Rattle.line_meaning.specs.Registry.{registration, registration_named}
 use Rattle.live_queries.specs.Asked.{FitsWorld}
 use Rattle.live_queries.specs.Current.{IsCurrentFor}
 use Rattle.live_queries.specs.Kept.{KeptQuery}
@@ -91,7 +91,7 @@ module _ (d : Database) (name : List ℕ) (kind : QueryKind) (span : ℕ) (q : R
         (cond (added_is_named i) (Some adds.added) None))
 
     added_answer : (tree : QueryTree) → q ≡ query_in (world_of_database d) tree →
-        option_map_or (answer_text (world_of_database d) (clock_of d)) (query_of (map registration_of new) name) []
+        option_map_or (answer_text (world_of_database d) (clock_of d)) (registration_named (map registration_of new) name) []
         ≡ answer_text (world_of_database d) (clock_of d) (registration kind (world_of_database d) (clock_of d) name span tree)
     added_answer tree is =
         ap (λ o. option_map_or (answer_text (world_of_database d) (clock_of d)) o []) (query_is new name ∙ ap (option_map registration_of) found)
@@ -102,7 +102,7 @@ module _ (d : Database) (name : List ℕ) (kind : QueryKind) (span : ℕ) (q : R
 
     -- the text with its answer
     pub added_told : (tree : QueryTree) → q ≡ query_in (world_of_database d) tree → (before after : List ℕ) →
-        after ≡ before ++ option_map_or (answer_text (world_of_database d) (clock_of d)) (query_of (map registration_of new) name) [] →
+        after ≡ before ++ option_map_or (answer_text (world_of_database d) (clock_of d)) (registration_named (map registration_of new) name) [] →
         after ≡ before ++ answer_text (world_of_database d) (clock_of d) (registration kind (world_of_database d) (clock_of d) name span tree)
     added_told tree is before after told = told ∙ ap (λ text. before ++ text) (added_answer tree is)
 

@@ -12,10 +12,10 @@ use Rattle.command_text.specs.declared.fault.CommandFault.{CommandFault}
 use Rattle.command_text.specs.declared.fault.CommandFault.TheVariants as faults
 use Rattle.line_meaning.specs.Changes.{answer_text}
 use Rattle.line_meaning.specs.QueryFault.{unregistered_refusal}
-use Rattle.line_meaning.specs.Registry.{query_of}
+use Rattle.line_meaning.specs.Registry.{registration_named}
 use Rattle.line_meaning.specs.Reply.{rows_text}
 use Rattle.live_queries.specs.Current.{IsCurrentFor}
-use Rattle.live_queries.specs.Kept.{IsKept, KeptQuery, registered}
+use Rattle.live_queries.specs.Kept.{IsKeptQuery, KeptQuery, registered_query}
 use Rattle.live_queries.specs.Told.{answer_of, query_named}
 use Rattle.database.specs.declared.database.Database.{Database}
 use Rattle.database.specs.Keeping.{clock_of, world_of_database}
@@ -28,8 +28,8 @@ use Rattle.registry.proofs.NameLemmas.{found_is, query_is}
 
 -- that a query which is current tells its answer, as the law of registered queries says
 abbrev pub TellAnswers : Type 0
-TellAnswers = (w : World) (k : KeptQuery) → IsKept k → (now : ℕ) → IsCurrentFor w now k → k.entry ≤ now →
-    answer_of k now ≡ registered_answer w (registered k) now
+TellAnswers = (w : World) (k : KeptQuery) → IsKeptQuery k → (now : ℕ) → IsCurrentFor w now k → k.entry ≤ now →
+    answer_of k now ≡ registered_answer w (registered_query k) now
 
 -- these are the rows of the query of a name
 pub record AreTold (live : List KeptQuery) (name : List ℕ) (now : ℕ) (rows : List Row) : Type 0 where
@@ -55,9 +55,9 @@ none_named live name now is = of (query_named live name) is
 
 module _ (d : Database) (live : List KeptQuery) (name : List ℕ) where
   module _ (rows : List Row) (are : AreTold live name (clock_of d) rows) where
-    module _ (stand : Stand d live) (kept : All IsKept live) where
-      is : IsKept are.query
-      is = found_is IsKept (λ k. bytes_eq k.name name) are.query live are.named kept
+    module _ (stand : Stand d live) (kept : All IsKeptQuery live) where
+      is : IsKeptQuery are.query
+      is = found_is IsKeptQuery (λ k. bytes_eq k.name name) are.query live are.named kept
 
       current : IsCurrentFor (world_of_database d) (clock_of d) are.query
       current = found_is (IsCurrentFor (world_of_database d) (clock_of d)) (λ k. bytes_eq k.name name) are.query live are.named stand.current
@@ -69,7 +69,7 @@ module _ (d : Database) (live : List KeptQuery) (name : List ℕ) where
 
       pub rows_told : TellAnswers →
           rows_text (world_of_database d).history.catalog (clock_of d) rows
-          ≡ option_map_or (answer_text (world_of_database d) (clock_of d)) (query_of (map registration_of live) name) []
+          ≡ option_map_or (answer_text (world_of_database d) (clock_of d)) (registration_named (map registration_of live) name) []
       rows_told law =
           ap (rows_text (world_of_database d).history.catalog (clock_of d))
           (are.told ∙ law (world_of_database d) are.query is (clock_of d) current
@@ -79,7 +79,7 @@ module _ (d : Database) (live : List KeptQuery) (name : List ℕ) where
 
   -- no query has the name
   module _ (none : None ≡ option_map (λ k. answer_of k (clock_of d)) (query_named live name)) where
-    pub nothing_told : [] ≡ option_map_or (answer_text (world_of_database d) (clock_of d)) (query_of (map registration_of live) name) []
+    pub nothing_told : [] ≡ option_map_or (answer_text (world_of_database d) (clock_of d)) (registration_named (map registration_of live) name) []
     nothing_told =
         sym (ap (λ found. option_map_or (answer_text (world_of_database d) (clock_of d)) found [])
         (query_is live name ∙ ap (option_map registration_of) (none_named live name (clock_of d) none)))

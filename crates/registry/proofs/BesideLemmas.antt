@@ -15,7 +15,7 @@ use Rattle.line_meaning.specs.FirstFault.{refusal_in_order, registered_refusal, 
 use Rattle.line_meaning.specs.QueryFault.{bindings_of, passes_beside, register_refusal}
 use Rattle.line_meaning.specs.Registry.{Known, is_registered}
 use Rattle.line_meaning.proofs.RefusalLemmas.{registered_by_fault}
-use Rattle.live_queries.specs.Columns.{variables_of}
+use Rattle.live_queries.specs.Columns.{column_variables}
 use Rattle.live_queries.specs.Kept.{AreKept, KeptQuery}
 use Rattle.database.specs.declared.database.Database.{Database}
 use Rattle.database.specs.Keeping.{clock_of, world_of_database}
@@ -44,7 +44,7 @@ known_beside k others name span q taken count all = λ i. refusal_in_order (type
 
 pub live_beside : (d : Database) (live : List KeptQuery) → AreKept live → Stand d live → (others : Others) (name : List ℕ) (span : ℕ) (q : QueryTree) →
     others.taken ≡ list_any (λ k. bytes_eq k.name name) live → others.count ≡ length live →
-    others.bindings ≡ sum_by (λ k. size_of (variables_of k.columns)) live →
+    others.bindings ≡ sum_by (λ k. size_of (column_variables k.columns)) live →
     refusal_beside (world_of_database d) (clock_of d) others span q ≡ register_refusal (known_of d live) name span q
 live_beside d live are stand others name span q taken count all =
     known_beside (known_of d live) others name span q (taken ∙ named_either live name ∙ sym (registered_is live name))

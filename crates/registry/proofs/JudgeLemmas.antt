@@ -30,7 +30,7 @@ use Rattle.database.specs.declared.database.Database.{Database}
 use Rattle.database.specs.Keeping.{world_of_database}
 use Rattle.live_queries.specs.Kept.{KeptQuery}
 use Rattle.registry.specs.declared.registering.Request.{Request}
-use Rattle.registry.specs.Judged.{IsJudged}
+use Rattle.registry.specs.Judged.{IsRegistrable}
 use Rattle.registry.specs.Standing.{known_of}
 
 -- ---- counts
@@ -129,6 +129,6 @@ right_is k name span q none =
 pub judged_by : {V E : Type 0} (d : Database) (live : List KeptQuery) (r : Request) (view : V → ResolvedQuery) (x : Result V E) →
     IfOk x (λ q. view q ≡ query_in (world_of_database d) (query_view r.query.now)) → IfOk x (λ q. IsResolved (view q)) →
     IfOk x (λ q. FitsItsClasses (world_of_database d) (view q)) →
-    (IsOk x → register_refusal (known_of d live) r.name.now r.span (query_view r.query.now) ≡ None) → IfOk x (λ q. IsJudged d live r (view q))
+    (IsOk x → register_refusal (known_of d live) r.name.now r.span (query_view r.query.now) ≡ None) → IfOk x (λ q. IsRegistrable d live r (view q))
 judged_by d live r view (Ok q) query sound fits right = record { query = query; sound = sound; fits = fits; right = right refl }
 judged_by d live r view (Err fault) query sound fits right = tt

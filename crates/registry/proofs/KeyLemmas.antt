@@ -18,17 +18,17 @@ use Rattle.formula.specs.declared.kind.QueryKind.TheVariants as kinds
 use Rattle.formula.specs.Resolved.{is_list_of}
 use Rattle.formula_shape.specs.declared.limits.TheConstants.{OBJECT_LIMIT}
 use Rattle.kept_rows.specs.declared.change.Change.{Change}
-use Rattle.kept_rows.specs.Listing.{line_of, lines_between, lines_upto, passing_of, times, when_differ, with_runs}
+use Rattle.kept_rows.specs.Listing.{line_of, lines_between, lines_upto, passing_of, target_has, when_differ, with_runs}
 use Rattle.kept_rows.specs.Numbers.{counts, size_of}
 use Rattle.meaning.specs.Reads.{write_reads}
 use Rattle.meaning.specs.Registered.{first_tick}
 use Rattle.object_store.specs.Contents.{Contents, catalog_of, object_info}
 use Rattle.live_queries.specs.declared.fresh.Renewal.{Renewal}
-use Rattle.live_queries.specs.Asked.{HaveObjectsBefore, IsBefore, class_in}
-use Rattle.live_queries.specs.Columns.{AreCounted, Column, HaveObjectsOf, object_or, variables_of}
+use Rattle.live_queries.specs.Asked.{ExtendsCatalog, HaveObjectsBefore, class_in}
+use Rattle.live_queries.specs.Columns.{AreCounted, Column, HaveObjectsOf, column_variables, object_or}
 use Rattle.live_queries.specs.Current.{AreCurrent, IsCurrentFor, full_at, row_at, told_from}
-use Rattle.live_queries.specs.Kept.{IsKept, KeptQuery, registered}
-use Rattle.live_queries.specs.Told.{Told, answer_of, changes_of, lines_of, move, moves_of, passing, passings_of, row_of, target_count, target_times, target_width}
+use Rattle.live_queries.specs.Kept.{IsKeptQuery, KeptQuery, registered_query}
+use Rattle.live_queries.specs.Told.{Told, answer_of, changes_of, listed_lines, move, moves_of, passing_change, passings_of, row_of_line, target_count, target_times, target_width}
 use Rattle.database.specs.Rows.{has_objects}
 use Rattle.database.proofs.RowLemmas.{are_below, ids_below}
 use Rattle.registry.specs.Moves.{names_objects}
@@ -103,7 +103,7 @@ no_row : (rows : ℕ → ℕ → Bool) (t : ℕ) → ((c : ℕ) → rows c t ≡
 no_row rows t none [] = refl
 no_row rows t none (c ∷ cs) = (λ i. none c i || no_row rows t none cs i)
 
-no_times : (rows : ℕ → ℕ → Bool) (t : ℕ) → ((c : ℕ) → rows c t ≡ false) → (width target : ℕ) → times rows width target t ≡ false
+no_times : (rows : ℕ → ℕ → Bool) (t : ℕ) → ((c : ℕ) → rows c t ≡ false) → (width target : ℕ) → target_has rows width target t ≡ false
 no_times rows t none width target = no_row rows t none (between (target * width) (target * width + width))
 
 none_below : (count : ℕ) (ids : List ℕ) → nat_lt 0 count ≡ false → are_below count ids ≡ true → ids ≡ []
@@ -114,12 +114,12 @@ none_below count (id ∷ ids) empty all = absurd (never id (and_parts (nat_lt id
     never n below = grind (arith, nat_tests, empty, below)
 
 no_binding : (count : ℕ) → nat_lt 0 count ≡ false → (cs : List Column) → AreBelow count cs → AreCounted cs → 0 < length cs →
-    (n : ℕ) → counts (variables_of cs) n ≡ false
+    (n : ℕ) → counts (column_variables cs) n ≡ false
 no_binding count empty [] below counted some n = absurd (omega (arith, some))
 no_binding count empty (c ∷ cs) below counted some n =
-    let size : ℕ = size_of (variables_of cs) in
-    ap (λ m. nat_lt (n / size) m && counts (variables_of cs) (n % size)) (counted.0 ∙ ap length (none_below count c.ids empty below.0))
-    ∙ none_less (n / size) (counts (variables_of cs) (n % size))
+    let size : ℕ = size_of (column_variables cs) in
+    ap (λ m. nat_lt (n / size) m && counts (column_variables cs) (n % size)) (counted.0 ∙ ap length (none_below count c.ids empty below.0))
+    ∙ none_less (n / size) (counts (column_variables cs) (n % size))
   where
     none_less : (m : ℕ) (b : Bool) → (nat_lt m 0 && b) ≡ false
     none_less m b = ap (λ a. a && b) (let e : nat_lt m 0 ≡ false = grind (arith, nat_tests) in e)
@@ -130,13 +130,13 @@ front_some f (x ∷ xs) front rest is some = omega arith
 front_some f [] [] rest is some = absurd (false≢true some)
 front_some f [] (v ∷ front) rest is some = absurd (let e : 0 ≡ suc (length (front ++ rest)) = ap length is in omega (arith, e))
 
-some_column : (k : KeptQuery) → IsKept k → 0 < length k.columns
+some_column : (k : KeptQuery) → IsKeptQuery k → 0 < length k.columns
 some_column k is =
     let parts = and_parts (is_list_of OBJECT_LIMIT k.query.targets) (list_all (λ v. nat_lt v (length k.query.classes)) k.query.targets) is.resolved.targets in
     let some = and_parts (nat_lt 0 (length k.query.targets)) (nat_le (length k.query.targets) OBJECT_LIMIT) parts.0 in
     front_some (λ (c : Column). c.variable) k.columns k.query.targets _ is.order some.0
 
-module _ (w : World) (before : ℕ) (k : KeptQuery) (is : IsKept k) (current : IsCurrentFor w before k) where
+module _ (w : World) (before : ℕ) (k : KeptQuery) (is : IsKeptQuery k) (current : IsCurrentFor w before k) where
   abbrev objects : ℕ
   objects = length w.history.catalog.objects
 
@@ -148,7 +148,7 @@ module _ (w : World) (before : ℕ) (k : KeptQuery) (is : IsKept k) (current : I
       current.rows c t from
       ∙ ap (λ b. b && full_at w k c t) (no_binding objects empty k.columns below is.counted (some_column k is) c)
 
-  no_answer : nat_lt 0 objects ≡ false → lines_of k before ≡ []
+  no_answer : nat_lt 0 objects ≡ false → listed_lines k before ≡ []
   no_answer empty =
       no_lines (line_of (target_times k (row_at k)) (told_from k before) k.expiry)
       (λ n. ap (λ runs. with_runs n runs) (ap runs_of (none_listed (target_times k (row_at k) n) (told_from k before) k.expiry
@@ -174,28 +174,28 @@ module _ (w : World) (before : ℕ) (k : KeptQuery) (is : IsKept k) (current : I
   pub answer_below : list_all (has_objects objects) (answer_of k before) ≡ true
   answer_below = elim (cases_Bool (nat_lt 0 objects)) [
     | inl some ↦
-        all_mapped (has_objects objects) (row_of k) (λ line. key_below objects 0 some k.columns below (line.0 * target_width k) k.query.targets)
-        (lines_of k before)
-    | inr empty ↦ ap (λ lines. list_all (has_objects objects) (map (row_of k) lines)) (no_answer empty)
+        all_mapped (has_objects objects) (row_of_line k) (λ line. key_below objects 0 some k.columns below (line.0 * target_width k) k.query.targets)
+        (listed_lines k before)
+    | inr empty ↦ ap (λ lines. list_all (has_objects objects) (map (row_of_line k) lines)) (no_answer empty)
   ]
 
   passing_below : told_from k before ≤ before → (now : ℕ) → before ≤ now → list_all (names_objects objects) (passings_of before now k) ≡ true
   passing_below told now upto = elim (cases_Bool (nat_lt 0 objects)) [
-    | inl some ↦ all_mapped (names_objects objects) (passing k) (λ p. key_below objects 0 some k.columns below (p.0 * target_width k) k.query.targets) _
-    | inr empty ↦ ap (λ lines. list_all (names_objects objects) (map (passing k) lines)) (no_passing empty told now upto)
+    | inl some ↦ all_mapped (names_objects objects) (passing_change k) (λ p. key_below objects 0 some k.columns below (p.0 * target_width k) k.query.targets) _
+    | inr empty ↦ ap (λ lines. list_all (names_objects objects) (map (passing_change k) lines)) (no_passing empty told now upto)
   ]
 
 -- what the passing of time changes for queries that are current
-pub passings_below : (w : World) (before now : ℕ) → before ≤ now → (live : List KeptQuery) → All IsKept live → AreCurrent w before live →
+pub passings_below : (w : World) (before now : ℕ) → before ≤ now → (live : List KeptQuery) → All IsKeptQuery live → AreCurrent w before live →
     All (λ k. k.entry ≤ before) live →
     list_all (names_objects (length w.history.catalog.objects)) (flat_map (passings_of before now) live) ≡ true
 passings_below w before now upto [] kept current entered = refl
 passings_below w before now upto (k ∷ live) kept current entered =
     list_all-append (names_objects (length w.history.catalog.objects)) (passings_of before now k) (flat_map (passings_of before now) live)
     ∙ and_from (list_all (names_objects (length w.history.catalog.objects)) (passings_of before now k)) _
-    (passing_below w before k (All-head IsKept k live kept) (All-head (IsCurrentFor w before) k live current)
+    (passing_below w before k (All-head IsKeptQuery k live kept) (All-head (IsCurrentFor w before) k live current)
     (told_by k.kind (All-head (λ (x : KeptQuery). x.entry ≤ before) k live entered)) now upto)
-    (passings_below w before now upto live (All-tail IsKept k live kept) (All-tail (IsCurrentFor w before) k live current)
+    (passings_below w before now upto live (All-tail IsKeptQuery k live kept) (All-tail (IsCurrentFor w before) k live current)
     (All-tail (λ (x : KeptQuery). x.entry ≤ before) k live entered))
   where
     told_by : (kind : QueryKind) → k.entry ≤ before → first_tick kind k.entry before ≤ before
@@ -222,7 +222,7 @@ changes_from count id own now old few (k ∷ live) have (r ∷ renewals) =
     (columns_below old k.query.classes count few k.columns (All-head (λ (q : KeptQuery). HaveObjectsOf old q.query.classes q.columns) k live have)) r.changes)
     (changes_from count id own now old few live (All-tail (λ (q : KeptQuery). HaveObjectsOf old q.query.classes q.columns) k live have) renewals)
 
-fewer_before : (id : ℕ) (old new : Catalog) → IsBefore id old new → length old.objects ≤ length new.objects
+fewer_before : (id : ℕ) (old new : Catalog) → ExtendsCatalog id old new → length old.objects ≤ length new.objects
 fewer_before id old new before =
     let e : length (take (length old.objects) new.objects) ≡ min (length old.objects) (length new.objects) = length-take (length old.objects) new.objects in
     let f : length (take (length old.objects) new.objects) ≡ length old.objects = ap length before.objects in
@@ -249,9 +249,9 @@ told_below s t live renewals moves object id now store same told there before =
 
 -- looks at timelines by what the store is
 pub looks_are : (s t : Contents) (live : List KeptQuery) (now n id before after : ℕ) → s ≡ t → now ≡ n →
-    after ≤ before + write_reads (catalog_of s) (map registered live) now (class_in s id) →
-    after ≤ before + write_reads (catalog_of t) (map registered live) n (class_in t id)
+    after ≤ before + write_reads (catalog_of s) (map registered_query live) now (class_in s id) →
+    after ≤ before + write_reads (catalog_of t) (map registered_query live) n (class_in t id)
 looks_are s t live now n id before after same ticks most =
-    let e : write_reads (catalog_of s) (map registered live) now (class_in s id) ≡ write_reads (catalog_of t) (map registered live) n (class_in t id)
-    = λ i. write_reads (catalog_of (same i)) (map registered live) (ticks i) (class_in (same i) id) in
+    let e : write_reads (catalog_of s) (map registered_query live) now (class_in s id) ≡ write_reads (catalog_of t) (map registered_query live) n (class_in t id)
+    = λ i. write_reads (catalog_of (same i)) (map registered_query live) (ticks i) (class_in (same i) id) in
     omega (arith, e, most)

@@ -9,7 +9,7 @@ use Rattle.std.proofs.lemmas.List.Elements.{All-head, All-tail}
 use Rattle.exact.specs.First.{first_that_holds}
 use Rattle.command_text.specs.declared.refusal.Refusal.TheVariants as refusals
 use Rattle.line_meaning.specs.QueryFault.{unregistered_refusal}
-use Rattle.line_meaning.specs.Registry.{has_name, is_registered, query_of}
+use Rattle.line_meaning.specs.Registry.{has_name, is_registered, registration_named}
 use Rattle.live_queries.specs.Kept.{KeptQuery}
 use Rattle.live_queries.specs.Told.{query_named}
 use Rattle.registry.specs.Standing.{registration_of}
@@ -76,7 +76,7 @@ pub registered_is : (live : List KeptQuery) (name : List ℕ) → is_registered 
 registered_is live name = any_mapped (has_name name) registration_of live
 
 -- the query of the name
-pub query_is : (live : List KeptQuery) (name : List ℕ) → query_of (map registration_of live) name ≡ option_map registration_of (query_named live name)
+pub query_is : (live : List KeptQuery) (name : List ℕ) → registration_named (map registration_of live) name ≡ option_map registration_of (query_named live name)
 query_is live name =
     found_mapped (has_name name) registration_of live
     ∙ ap (option_map registration_of) (turned live)

@@ -14,8 +14,8 @@ use Rattle.formula_shape.specs.declared.limits.TheConstants.{OBJECT_LIMIT}
 use Rattle.kept_rows.specs.Numbers.{size_of}
 use Rattle.line_meaning.specs.Registry.{Registration}
 use Rattle.live_queries.specs.Asked.{FitsWorld}
-use Rattle.live_queries.specs.Columns.{Column, HaveCapacitiesOf, order_of, variables_of}
-use Rattle.live_queries.specs.Kept.{IsKept, KeptQuery}
+use Rattle.live_queries.specs.Columns.{Column, HaveCapacitiesOf, column_variables, order_of}
+use Rattle.live_queries.specs.Kept.{IsKeptQuery, KeptQuery}
 use Rattle.registry.specs.Standing.{registration_of}
 
 -- the product over a list, and over those of a list that pass a test
@@ -145,7 +145,7 @@ all_chosen catalog (a ∷ b ∷ c ∷ d ∷ e ∷ classes) few = absurd (never (
     never n h = grind (arith, nat_tests, h)
 
 sizes : (catalog : Catalog) (classes : List ℕ) (cs : List Column) → HaveCapacitiesOf catalog classes cs →
-    size_of (variables_of cs) ≡ product_over (capacity_at catalog classes) (map (λ c. c.variable) cs)
+    size_of (column_variables cs) ≡ product_over (capacity_at catalog classes) (map (λ c. c.variable) cs)
 sizes catalog classes [] have = refl
 sizes catalog classes (c ∷ cs) have = λ i. have.0 i * sizes catalog classes cs have.1 i
 
@@ -159,8 +159,8 @@ order_product f q is =
     ∙ both_chosen f n (among q.targets) (among_below n q.targets below) four
 
 -- the numbers of a registered query are as many as there may be bindings
-query_bindings : (w : World) (k : KeptQuery) → IsKept k → FitsWorld w k →
-    size_of (variables_of k.columns) ≡ most_bindings w.history.catalog.classes k.query.classes
+query_bindings : (w : World) (k : KeptQuery) → IsKeptQuery k → FitsWorld w k →
+    size_of (column_variables k.columns) ≡ most_bindings w.history.catalog.classes k.query.classes
 query_bindings w k is fits =
     sizes w.history.catalog k.query.classes k.columns fits.capacities
     ∙ ap (product_over (capacity_at w.history.catalog k.query.classes)) is.order
@@ -169,13 +169,13 @@ query_bindings w k is fits =
     (and_parts (nat_lt 0 (length k.query.classes)) (nat_le (length k.query.classes) OBJECT_LIMIT) is.resolved.variables).1
 
 -- and so for all of them
-pub all_bindings : (w : World) (live : List KeptQuery) → All IsKept live → All (FitsWorld w) live →
-    sum_by (λ k. size_of (variables_of k.columns)) live
+pub all_bindings : (w : World) (live : List KeptQuery) → All IsKeptQuery live → All (FitsWorld w) live →
+    sum_by (λ k. size_of (column_variables k.columns)) live
     ≡ sum_by (λ (r : Registration). most_bindings w.history.catalog.classes r.query.query.classes) (map registration_of live)
 all_bindings w [] kept fits = refl
 all_bindings w (k ∷ live) kept fits =
-    let own = query_bindings w k (All-head IsKept k live kept) (All-head (FitsWorld w) k live fits) in
-    let rest = all_bindings w live (All-tail IsKept k live kept) (All-tail (FitsWorld w) k live fits) in
-    sum_by-cons (λ (q : KeptQuery). size_of (variables_of q.columns)) k live
+    let own = query_bindings w k (All-head IsKeptQuery k live kept) (All-head (FitsWorld w) k live fits) in
+    let rest = all_bindings w live (All-tail IsKeptQuery k live kept) (All-tail (FitsWorld w) k live fits) in
+    sum_by-cons (λ (q : KeptQuery). size_of (column_variables q.columns)) k live
     ∙ (λ i. own i + rest i)
     ∙ sym (sum_by-cons (λ (r : Registration). most_bindings w.history.catalog.classes r.query.query.classes) (registration_of k) (map registration_of live))

@@ -17,7 +17,7 @@ use Rattle.registry.specs.Registers.{info_for}
 use Rattle.registry.specs.Standing.{known_of}
 
 -- by number it is what was asked for, and nothing refuses that it is registered
-pub record IsJudged (d : Database) (live : List KeptQuery) (r : Request) (q : ResolvedQuery) : Type 0 where
+pub record IsRegistrable (d : Database) (live : List KeptQuery) (r : Request) (q : ResolvedQuery) : Type 0 where
   pub query : q ≡ query_in (world_of_database d) (query_view r.query.now)
   pub sound : IsResolved q
   pub fits : FitsItsClasses (world_of_database d) q

@@ -5,7 +5,7 @@ use Rattle.formula.specs.declared.kind.QueryKind.{QueryKind}
 use Rattle.command_text.specs.declared.fault.CommandFault.{CommandFault}
 use Rattle.line_meaning.specs.Changes.{answer_text}
 use Rattle.line_meaning.specs.QueryFault.{unregistered_refusal}
-use Rattle.line_meaning.specs.Registry.{query_of}
+use Rattle.line_meaning.specs.Registry.{registration_named}
 use Rattle.live_queries.specs.Kept.{KeptQuery}
 use Rattle.live_queries.specs.Told.{Info}
 use Rattle.database.specs.declared.database.Database.{Database}
@@ -21,5 +21,5 @@ info_for kind now name span = record { name = name; kind = kind; entry = now; ex
 abbrev pub Shows : Database → List KeptQuery → List ℕ → List ℕ → List ℕ → Result (Unit {0}) CommandFault → Type 0
 Shows d live name before after (Ok u) =
     (unregistered_refusal (known_of d live).live name ≡ None)
-    × (after ≡ before ++ option_map_or (answer_text (world_of_database d) (clock_of d)) (query_of (known_of d live).live name) [])
+    × (after ≡ before ++ option_map_or (answer_text (world_of_database d) (clock_of d)) (registration_named (known_of d live).live name) [])
 Shows d live name before after (Err fault) = IsStoppedBy (unregistered_refusal (known_of d live).live name) fault

@@ -3,13 +3,13 @@ use Rattle.std.specs.Prelude.{◌≡◌, ◌≤◌, ℕ, List, All, map}
 use Rattle.line_meaning.specs.Registry.{Known, Registration}
 use Rattle.live_queries.specs.Asked.{FitsWorld, class_in}
 use Rattle.live_queries.specs.Current.{AreCurrent}
-use Rattle.live_queries.specs.Kept.{KeptQuery, registered}
+use Rattle.live_queries.specs.Kept.{KeptQuery, registered_query}
 use Rattle.live_queries.specs.Prepared.{AreFreshFor, IsPrepared, Prepared}
 use Rattle.database.specs.declared.database.Database.{Database}
 use Rattle.database.specs.Keeping.{clock_of, world_of_database}
 
 abbrev pub registration_of : KeptQuery → Registration
-registration_of k = record { name = k.name; query = registered k }
+registration_of k = record { name = k.name; query = registered_query k }
 
 -- what a database and its registered queries tell by which commands are judged
 abbrev pub known_of : Database → List KeptQuery → Known

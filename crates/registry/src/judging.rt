@@ -1,7 +1,7 @@
 //! Why a query that is to be registered is refused.
 ghost use Rattle.std.specs.Prelude.{◌≡◌, ◌≤◌, ◌∷◌, [], None, IfErr, IfOk, IsOk};
 ghost use Rattle.formula.specs.Resolved.{IsResolved};
-ghost use Rattle.formula.specs.Tree.{query_view as resolved_view};
+ghost use Rattle.formula.specs.Tree.{resolved_view};
 ghost use Rattle.meaning.specs.Fits.{FitsItsClasses};
 ghost use Rattle.ftl_parser.specs.Tree.{query_view};
 ghost use Rattle.tick_set.specs.declared.spans.TheConstants.{LAST_TICK};
@@ -11,7 +11,7 @@ ghost use Rattle.database.specs.Keeping.{clock_of, world_of_database};
 ghost use Rattle.database.specs.Telling.{IsStoppedBy, IsToAsk};
 ghost use Rattle.line_meaning.specs.QueryFault.{passes_beside, register_refusal};
 ghost use Rattle.registry.specs.Beside.{refusal_beside, size_refusal_beside};
-ghost use Rattle.registry.specs.Judged.{IsJudged};
+ghost use Rattle.registry.specs.Judged.{IsRegistrable};
 ghost use Rattle.registry.specs.Standing.{Stand, known_of};
 
 use crate::registering::Request;
@@ -111,7 +111,7 @@ pub fn judge(
 ) -> Result<RQuery, CommandFault>
     requires asked { IsToAsk database.now request.now.span (query_view request.now.query.now) }
     requires stand { Stand database.now live.now }
-    ensures judged { IfOk result (λ q. IsJudged database.now live.now request.now (resolved_view q)) }
+    ensures judged { IfOk result (λ q. IsRegistrable database.now live.now request.now (resolved_view q)) }
     ensures cause { IfErr result (λ fault.
         IsStoppedBy (register_refusal (known_of database.now live.now) request.now.name.now request.now.span (query_view request.now.query.now)) fault) }
 {

@@ -1,12 +1,12 @@
 //! Registering a query.
 ghost use Rattle.std.specs.Prelude.{◌≤◌};
-ghost use Rattle.formula.specs.Tree.{query_view as resolved_view};
+ghost use Rattle.formula.specs.Tree.{resolved_view};
 ghost use Rattle.ftl_parser.specs.Tree.{query_view};
 ghost use Rattle.tick_set.specs.declared.spans.TheConstants.{LAST_TICK};
 ghost use Rattle.line_meaning.specs.Looks.{most_reads};
 ghost use Rattle.database.specs.Keeping.{IsTimely, TellsAcceptedWrites, world_of_database};
 ghost use Rattle.database.specs.Telling.{TakesAtMost, tally};
-ghost use Rattle.registry.specs.Judged.{IsJudged, Registers};
+ghost use Rattle.registry.specs.Judged.{IsRegistrable, Registers};
 ghost use Rattle.registry.specs.Standing.{Stand};
 
 use crate::telling::push_answer;
@@ -44,7 +44,7 @@ pub fn register<L: Ledger, M: Ledger>(
     requires timely { IsTimely database.now }
     requires accepted { TellsAcceptedWrites database.now }
     requires stand { Stand database.now live.old }
-    requires judged { IsJudged database.now live.old request.now (resolved_view resolved) }
+    requires judged { IsRegistrable database.now live.old request.now (resolved_view resolved) }
     ensures registers { Registers database.now request.now (resolved_view resolved) live.old live.new out.old.items out.new.items result }
     ensures takes { TakesAtMost (most_reads (world_of_database database.now) request.now.span (query_view request.now.query.now))
         (tally out.old.items reads.old probes.old) (tally out.new.items reads.new probes.new) }

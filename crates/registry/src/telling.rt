@@ -5,18 +5,19 @@ ghost use Rattle.std.specs.Option.{option_map_or};
 ghost use Rattle.meaning.specs.Reads.{write_reads};
 ghost use Rattle.object_store.specs.Contents.{catalog_of};
 ghost use Rattle.line_meaning.specs.Changes.{answer_text};
-ghost use Rattle.line_meaning.specs.Registry.{query_of};
-ghost use Rattle.line_meaning.specs.Reply.{kind_word, registration_line, rows_text};
+ghost use Rattle.line_meaning.specs.Registry.{registration_named};
+ghost use Rattle.line_meaning.specs.Reply.{registration_line, rows_text};
 ghost use Rattle.live_queries.specs.Asked.{HaveObjectsBefore, FitsWorld, class_in};
-ghost use Rattle.live_queries.specs.Kept.{registered};
+ghost use Rattle.live_queries.specs.Kept.{registered_query};
 ghost use Rattle.live_queries.specs.Told.{changes_of, passings_of};
 ghost use Rattle.reply_text.specs.Begins.{Begins};
 ghost use Rattle.database.specs.Keeping.{TellsAcceptedWrites, clock_of, world_of_database};
 ghost use Rattle.database.specs.Rows.{has_objects};
 ghost use Rattle.database.specs.Telling.{TakesAtMost, tally};
-ghost use Rattle.registry.specs.Moves.{moves_text, names_objects};
+ghost use Rattle.registry.specs.Moves.{names_objects, told_moves_text};
 ghost use Rattle.registry.specs.Registers.{Shows};
 ghost use Rattle.registry.specs.Standing.{Renews, Stand, StoodAt, known_of, registration_of};
+ghost use Rattle.formula.specs.Kinds.{kind_word};
 
 use command_text::{CommandFault, Refusal};
 use database::{Database, set_names};
@@ -40,7 +41,7 @@ pub(crate) fn push_answer(
 ) -> Result<(), AllocError>
     requires stand { Stand database.now live.now }
     ensures ok { OnOk result (out.new.items ≡ out.old.items
-        ++ option_map_or (answer_text (world_of_database database.now) (clock_of database.now)) (query_of (known_of database.now live.now).live name.now) []) }
+        ++ option_map_or (answer_text (world_of_database database.now) (clock_of database.now)) (registration_named (known_of database.now live.now).live name.now) []) }
     ensures begins { Begins out.old.items out.new.items }
 {
     live.are_kept();
@@ -103,7 +104,7 @@ fn push_moves(
     out: &mut Vec<u8>,
 ) -> Result<(), AllocError>
     requires { list_all (names_objects (length (catalog_of store.now).objects)) moves.now ≡ true }
-    ensures ok { OnOk result (out.new.items ≡ out.old.items ++ moves_text (catalog_of store.now) moves.now) }
+    ensures ok { OnOk result (out.new.items ≡ out.old.items ++ told_moves_text (catalog_of store.now) moves.now) }
     ensures begins { Begins out.old.items out.new.items }
 {
     if moves.is_empty() {
@@ -145,8 +146,8 @@ pub fn renew<L: Ledger, M: Ledger>(
     requires before { HaveObjectsBefore id (catalog_of database.now.store) live.now }
     ensures renews { IfOk result (Renews database.now live.now id) }
     ensures told { IfOk result (λ f. out.new.items ≡ out.old.items
-        ++ moves_text (catalog_of database.now.store) (changes_of id (clock_of database.now) live.now f.renewals)) }
-    ensures takes { TakesAtMost (write_reads (catalog_of database.now.store) (map registered live.now) (clock_of database.now) (class_in database.now.store id))
+        ++ told_moves_text (catalog_of database.now.store) (changes_of id (clock_of database.now) live.now f.renewals)) }
+    ensures takes { TakesAtMost (write_reads (catalog_of database.now.store) (map registered_query live.now) (clock_of database.now) (class_in database.now.store id))
         (tally out.old.items reads.old probes.old) (tally out.new.items reads.new probes.new) }
 {
     let now = database.clock();
@@ -168,7 +169,7 @@ pub fn pass(
 ) -> Result<(), AllocError>
     requires stood { StoodAt database.now before live.now }
     ensures ok { OnOk result (out.new.items ≡ out.old.items
-        ++ moves_text (catalog_of database.now.store) (flat_map (passings_of before (clock_of database.now)) live.now)) }
+        ++ told_moves_text (catalog_of database.now.store) (flat_map (passings_of before (clock_of database.now)) live.now)) }
     ensures begins { Begins out.old.items out.new.items }
 {
     live.are_kept();

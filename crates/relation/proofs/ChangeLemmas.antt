@@ -13,9 +13,9 @@ use Rattle.relation.specs.declared.row.Row.{Row}
 use Rattle.relation.specs.declared.operation.Change.{Change}
 use Rattle.relation.specs.declared.operation.Change.TheVariants as changes
 use Rattle.relation.specs.Frames.{IsWider}
-use Rattle.relation.specs.Key.{has_id, ids_of, key_below, key_in}
-use Rattle.relation.specs.Operations.{changed}
-use Rattle.relation.specs.Rows.{AreRows, IsRow, IsSameHead, IsTable, Table, has, has_at}
+use Rattle.relation.specs.Key.{has_id, ids_of_variable, key_below, key_in}
+use Rattle.relation.specs.Operations.{changed_between}
+use Rattle.relation.specs.Rows.{AreRows, IsRow, IsSameHead, IsTable, Table, has_at, table_has}
 use Rattle.relation.proofs.KeyLemmas.{below_apart, below_not_same}
 use Rattle.relation.proofs.RowLemmas.{all_at, row_at}
 use Rattle.relation.proofs.WalkLemmas.{same_head-trans}
@@ -23,7 +23,7 @@ use Rattle.relation.proofs.WalkLemmas.{same_head-trans}
 pub wider_same : (old new : List (List ℕ)) → new ≡ old → IsWider old new
 wider_same old new e = record {
   many = ap length e;
-  all = λ var id h. ap (λ (d : List (List ℕ)). has_id (ids_of d var) id) e ∙ h;
+  all = λ var id h. ap (λ (d : List (List ℕ)). has_id (ids_of_variable d var) id) e ∙ h;
 }
 
 pub key_in-wider : (old new : List (List ℕ)) → IsWider old new → (vars key : List ℕ) → key_in old vars key ≡ true → key_in new vars key ≡ true
@@ -31,11 +31,11 @@ key_in-wider old new wider [] [] h = refl
 key_in-wider old new wider [] (id ∷ key) h = h
 key_in-wider old new wider (var ∷ vars) [] h = h
 key_in-wider old new wider (var ∷ vars) (id ∷ key) h =
-    let parts : (has_id (ids_of old var) id ≡ true) × (key_in old vars key ≡ true) = and_parts _ _ h in
+    let parts : (has_id (ids_of_variable old var) id ≡ true) × (key_in old vars key ≡ true) = and_parts _ _ h in
     and_from _ _ (wider.all var id parts.0) (key_in-wider old new wider vars key parts.1)
 
 -- a change of no ticks gives none
-pub changed_nothing : (change : Change) (lo hi : ℕ) (p : ℕ → Bool) → ((t : ℕ) → p t ≡ false) → (t : ℕ) → changed change lo hi p t ≡ false
+pub changed_nothing : (change : Change) (lo hi : ℕ) (p : ℕ → Bool) → ((t : ℕ) → p t ≡ false) → (t : ℕ) → changed_between change lo hi p t ≡ false
 changed_nothing changes.Copy lo hi p none t = none t
 changed_nothing (changes.Clip w) lo hi p none t = and_right _ _ (none t)
 changed_nothing changes.Next lo hi p none t = and_right _ _ (and_right _ _ (none (t + 1)))
@@ -116,7 +116,7 @@ module _ {S : Type 0} (member : S → ℕ → Bool) where
 -- a relation in the midst of a change of rows, of which the first i are done
 pub record IsChanging {S : Type 0} (member : S → ℕ → Bool) (change : Change) (lo hi : ℕ) (rows : List (Row S)) (i : ℕ) (start made : Table S) : Type 0 where
   pub head : IsSameHead start made
-  pub ticks : (k : List ℕ) (t : ℕ) → has_at member made.rows k t ≡ (among k (take i rows) && changed change lo hi (has_at member rows k) t)
+  pub ticks : (k : List ℕ) (t : ℕ) → has_at member made.rows k t ≡ (among k (take i rows) && changed_between change lo hi (has_at member rows k) t)
   pub upto : (p : List ℕ → Bool) → list_all (λ r. p r.key) (take i rows) ≡ true → list_all (λ r. p r.key) made.rows ≡ true
 
 module _ {S : Type 0} (member : S → ℕ → Bool) (change : Change) (domains : List (List ℕ)) (vars : List ℕ) (lo hi : ℕ) (rows : List (Row S)) (start : Table S) where
@@ -139,7 +139,7 @@ module _ {S : Type 0} (member : S → ℕ → Bool) (change : Change) (domains :
     pub row_is : IsRow member domains vars lo hi 0 row
     row_is = subst (λ (z : Row S). IsRow member domains vars lo hi 0 z) (sym at) (row_at member domains vars lo hi 0 rows i row in_list is)
 
-    pub changing_more : (set : S) (new : Table S) → ((t : ℕ) → member set t ≡ changed change lo hi (member row.set) t) → IsSameHead made new →
+    pub changing_more : (set : S) (new : Table S) → ((t : ℕ) → member set t ≡ changed_between change lo hi (member row.set) t) → IsSameHead made new →
         ((k : List ℕ) (t : ℕ) → has_at member new.rows k t ≡ (has_at member made.rows k t || (bytes_eq row.key k && member set t))) →
         ((p : List ℕ → Bool) → list_all (λ r. p r.key) made.rows ≡ true → p row.key ≡ true → list_all (λ r. p r.key) new.rows ≡ true) →
         IsChanging member change lo hi rows (i + 1) start new
@@ -148,27 +148,27 @@ module _ {S : Type 0} (member : S → ℕ → Bool) (change : Change) (domains :
       ticks = λ k t.
           put k t
           ∙ ap (λ (x : Bool). x || (bytes_eq row.key k && member set t)) (changing.ticks k t)
-          ∙ both_ways (among k (take i rows)) (bytes_eq row.key k) (changed change lo hi (has_at member rows k) t) (member set t) (λ e. here k t (same_key row.key k e))
-          ∙ ap (λ (x : Bool). x && changed change lo hi (has_at member rows k) t) (sym (one_more k));
+          ∙ both_ways (among k (take i rows)) (bytes_eq row.key k) (changed_between change lo hi (has_at member rows k) t) (member set t) (λ e. here k t (same_key row.key k e))
+          ∙ ap (λ (x : Bool). x && changed_between change lo hi (has_at member rows k) t) (sym (one_more k));
       upto = λ p h.
           let parts = and_parts _ _ (sym (list_all_more (λ r. p r.key) rows i row in_list) ∙ h) in
           keys p (changing.upto p parts.0) (ap (λ (z : Row S). p z.key) at ∙ parts.1);
     }
       where
-        here : (k : List ℕ) (t : ℕ) → row.key ≡ k → member set t ≡ changed change lo hi (has_at member rows k) t
-        here k t e = ticks t ∙ (λ j. changed change lo hi (λ u. sym (own u) j) t) ∙ ap (λ (z : List ℕ). changed change lo hi (has_at member rows z) t) e
+        here : (k : List ℕ) (t : ℕ) → row.key ≡ k → member set t ≡ changed_between change lo hi (has_at member rows k) t
+        here k t e = ticks t ∙ (λ j. changed_between change lo hi (λ u. sym (own u) j) t) ∙ ap (λ (z : List ℕ). changed_between change lo hi (has_at member rows z) t) e
 
         one_more : (k : List ℕ) → among k (take (i + 1) rows) ≡ (among k (take i rows) || bytes_eq row.key k)
         one_more k = list_any_more (λ r. bytes_eq r.key k) rows i row in_list ∙ ap (λ (z : Row S). among k (take i rows) || bytes_eq z.key k) (sym at)
 
   pub changing_all : (i : ℕ) (made : Table S) → length rows ≤ i → IsChanging member change lo hi rows i start made →
-      (k : List ℕ) (t : ℕ) → has_at member made.rows k t ≡ changed change lo hi (has_at member rows k) t
+      (k : List ℕ) (t : ℕ) → has_at member made.rows k t ≡ changed_between change lo hi (has_at member rows k) t
   changing_all i made l changing k t =
       changing.ticks k t
-      ∙ ap (λ (z : List (Row S)). among k z && changed change lo hi (has_at member rows k) t) (take_all i rows l)
+      ∙ ap (λ (z : List (Row S)). among k z && changed_between change lo hi (has_at member rows k) t) (take_all i rows l)
       ∙ elim (cases_Bool (among k rows)) [
-        | inl e ↦ ap (λ (x : Bool). x && changed change lo hi (has_at member rows k) t) e
-        | inr e ↦ ap (λ (x : Bool). x && changed change lo hi (has_at member rows k) t) e ∙ sym (changed_nothing change lo hi (has_at member rows k) (has_at-none member rows k e) t)
+        | inl e ↦ ap (λ (x : Bool). x && changed_between change lo hi (has_at member rows k) t) e
+        | inr e ↦ ap (λ (x : Bool). x && changed_between change lo hi (has_at member rows k) t) e ∙ sym (changed_nothing change lo hi (has_at member rows k) (has_at-none member rows k e) t)
       ]
 
 -- the change of a relation's rows, which `items` are, by a window that is its own
@@ -187,8 +187,8 @@ module _ {S : Type 0} (member : S → ℕ → Bool) (change : Change) (self : Ta
       ∙ key_in-wider self.domains new wider self.vars row.key inside
 
   pub changed_has : (i : ℕ) (made : Table S) → length items ≤ i → IsChanging member change lo hi items i start made →
-      (b : ℕ → ℕ) (t : ℕ) → has member made b t ≡ changed change self.lo self.hi (has member self b) t
+      (b : ℕ → ℕ) (t : ℕ) → table_has member made b t ≡ changed_between change self.lo self.hi (table_has member self b) t
   changed_has i made l changing b t =
       ap (λ (vs : List ℕ). has_at member made.rows (map b vs) t) (changing.head.vars ∙ same_vars)
       ∙ changing_all member change self.domains self.vars lo hi items start i made l changing (map b self.vars) t
-      ∙ (λ j. changed change (same_lo j) (same_hi j) (has_at member (same j) (map b self.vars)) t)
+      ∙ (λ j. changed_between change (same_lo j) (same_hi j) (has_at member (same j) (map b self.vars)) t)

@@ -8,9 +8,9 @@ use Rattle.std.proofs.lemmas.List.{get_or-set_same, take_all}
 use Rattle.std.proofs.lemmas.List.Folds.{list_all_more, list_any_more}
 use Rattle.tick_set.specs.Ticks.{LiesIn, within}
 use Rattle.relation.specs.declared.row.Row.{Row}
-use Rattle.relation.specs.Key.{are_known, has_id, ids_of, key_below, key_in}
-use Rattle.relation.specs.Projection.{place_of}
-use Rattle.relation.specs.Rows.{AreRows, IsRow, IsSameHead, IsTable, Table, has, has_at, table}
+use Rattle.relation.specs.Key.{are_known, has_id, ids_of_variable, key_below, key_in}
+use Rattle.relation.specs.Projection.{variable_place}
+use Rattle.relation.specs.Rows.{AreRows, IsRow, IsSameHead, IsTable, Table, has_at, table, table_has}
 use Rattle.relation.proofs.ChangeLemmas.{before_row, same_key}
 use Rattle.relation.proofs.ProjectionLemmas.{object_assigned, object_inside, passed_by}
 use Rattle.relation.proofs.RowLemmas.{row_at}
@@ -70,8 +70,8 @@ module _ {S : Type 0} (member : S → ℕ → Bool) (place id : ℕ) (self start
         shared true p q = refl
         shared false p q = refl
 
-  pub keeping_all : (var i : ℕ) (made : Table S) → place ≡ place_of self.vars var → has_id self.vars var ≡ true → length rows ≤ i → IsKeeping member place id rows i start made →
-      (b : ℕ → ℕ) (t : ℕ) → has member made b t ≡ (not (b var == id) && has member self b t)
+  pub keeping_all : (var i : ℕ) (made : Table S) → place ≡ variable_place self.vars var → has_id self.vars var ≡ true → length rows ≤ i → IsKeeping member place id rows i start made →
+      (b : ℕ → ℕ) (t : ℕ) → table_has member made b t ≡ (not (b var == id) && table_has member self b t)
   keeping_all var i made at owned l keeping b t =
       ap (λ (vs : List ℕ). has_at member made.rows (map b vs) t) (keeping.head.vars ∙ ap (λ (z : Table S). z.vars) empty)
       ∙ keeping.ticks (map b self.vars) t
@@ -79,13 +79,13 @@ module _ {S : Type 0} (member : S → ℕ → Bool) (place id : ℕ) (self start
       ∙ ap (λ (z : List (Row S)). not (b var == id) && has_at member z (map b self.vars) t) (take_all i rows l ∙ same)
 
 -- the rows of domains that give a variable one object have no tick of another
-pub only_of : {S : Type 0} (member : S → ℕ → Bool) (domains : List (List ℕ)) (own : List ℕ) (lo hi var id : ℕ) → ids_of domains var ≡ id ∷ [] → has_id own var ≡ true → (b : ℕ → ℕ) → (b var == id) ≡ false →
+pub only_of : {S : Type 0} (member : S → ℕ → Bool) (domains : List (List ℕ)) (own : List ℕ) (lo hi var id : ℕ) → ids_of_variable domains var ≡ id ∷ [] → has_id own var ≡ true → (b : ℕ → ℕ) → (b var == id) ≡ false →
     (rows : List (Row S)) → AreRows member domains own lo hi 0 rows → (t : ℕ) → has_at member rows (map b own) t ≡ false
 only_of member domains own lo hi var id single owned b other [] are t = refl
 only_of member domains own lo hi var id single owned b other (r ∷ rows) are t = elim (cases_Bool (bytes_eq r.key (map b own))) [
   | inl same ↦
-      let inside : has_id (ids_of domains var) (b var) ≡ true =
-      ap (has_id (ids_of domains var)) (sym (ap (λ (k : List ℕ). get_or k (place_of own var) 0) (same_key r.key (map b own) same) ∙ object_assigned b own var owned))
+      let inside : has_id (ids_of_variable domains var) (b var) ≡ true =
+      ap (has_id (ids_of_variable domains var)) (sym (ap (λ (k : List ℕ). get_or k (variable_place own var) 0) (same_key r.key (map b own) same) ∙ object_assigned b own var owned))
       ∙ object_inside domains own r.key var are.0.inside owned in
       absurd (not_single (b var) other (ap (λ (l : List ℕ). has_id l (b var)) (sym single) ∙ inside))
   | inr n ↦
@@ -97,21 +97,21 @@ only_of member domains own lo hi var id single owned b other (r ∷ rows) are t 
     not_single x n e = elim (or_cases _ _ e) [ inl s ↦ false≢true (sym n ∙ eq-eqb x id (sym (eqb-true id x s))) | inr l ↦ false≢true l ]
 
 -- rows without the object, and rows of the object, are those of a relation whose rows of the object are others
-pub replaced : {S : Type 0} (member : S → ℕ → Bool) (self part : Table S) (var id : ℕ) → IsTable member part → part.vars ≡ self.vars → ids_of part.domains var ≡ id ∷ [] → has_id self.vars var ≡ true →
-    (b : ℕ → ℕ) (t : ℕ) (kept column made : Bool) → kept ≡ (not (b var == id) && has member self b t) → column ≡ has member part b t → made ≡ (kept || column) →
-    made ≡ (if b var == id then has member part b t else has member self b t)
+pub replaced : {S : Type 0} (member : S → ℕ → Bool) (self part : Table S) (var id : ℕ) → IsTable member part → part.vars ≡ self.vars → ids_of_variable part.domains var ≡ id ∷ [] → has_id self.vars var ≡ true →
+    (b : ℕ → ℕ) (t : ℕ) (kept column made : Bool) → kept ≡ (not (b var == id) && table_has member self b t) → column ≡ table_has member part b t → made ≡ (kept || column) →
+    made ≡ (if b var == id then table_has member part b t else table_has member self b t)
 replaced member self part var id is vars single owned b t kept column made e f h = elim (cases_Bool (b var == id)) [
   | inl here ↦
       h ∙ (λ i. e i || f i)
-      ∙ ap (λ (x : Bool). (not x && has member self b t) || has member part b t) here
-      ∙ ap (λ (x : Bool). if x then has member part b t else has member self b t) (sym here)
+      ∙ ap (λ (x : Bool). (not x && table_has member self b t) || table_has member part b t) here
+      ∙ ap (λ (x : Bool). if x then table_has member part b t else table_has member self b t) (sym here)
   | inr other ↦
       h ∙ (λ i. e i || f i)
-      ∙ ap (λ (x : Bool). (not x && has member self b t) || has member part b t) other
-      ∙ ap (λ (x : Bool). has member self b t || x)
+      ∙ ap (λ (x : Bool). (not x && table_has member self b t) || table_has member part b t) other
+      ∙ ap (λ (x : Bool). table_has member self b t || x)
       (only_of member part.domains part.vars part.lo part.hi var id single (ap (λ (vs : List ℕ). has_id vs var) vars ∙ owned) b other part.rows is.rows t)
-      ∙ or_nothing (has member self b t)
-      ∙ ap (λ (x : Bool). if x then has member part b t else has member self b t) (sym other)
+      ∙ or_nothing (table_has member self b t)
+      ∙ ap (λ (x : Bool). if x then table_has member part b t else table_has member self b t) (sym other)
 ]
   where
     or_nothing : (x : Bool) → (x || false) ≡ x
@@ -119,6 +119,6 @@ replaced member self part var id is vars single owned b t kept column made e f h
     or_nothing false = refl
 
 -- domains that are the same but for a variable's
-pub single_there : (domains new : List (List ℕ)) (own : List ℕ) (var id : ℕ) → new ≡ set domains var (id ∷ []) → are_known domains own ≡ true → has_id own var ≡ true → ids_of new var ≡ id ∷ []
+pub single_there : (domains new : List (List ℕ)) (own : List ℕ) (var id : ℕ) → new ≡ set domains var (id ∷ []) → are_known domains own ≡ true → has_id own var ≡ true → ids_of_variable new var ≡ id ∷ []
 single_there domains new own var id e known owned =
-    ap (λ (d : List (List ℕ)). ids_of d var) e ∙ get_or-set_same domains var (id ∷ []) [] (ltb-true _ _ (passed_by (λ v. nat_lt v (length domains)) own var known owned))
+    ap (λ (d : List (List ℕ)). ids_of_variable d var) e ∙ get_or-set_same domains var (id ∷ []) [] (ltb-true _ _ (passed_by (λ v. nat_lt v (length domains)) own var known owned))

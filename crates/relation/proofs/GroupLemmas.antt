@@ -8,7 +8,7 @@ use Rattle.std.proofs.lemmas.Bool.Decides.{nat_tests}
 use Rattle.std.proofs.lemmas.List.Folds.{list_any-append}
 use Rattle.relation.specs.declared.row.Row.{Row}
 use Rattle.relation.specs.Group.{IsGroup, id_at, ids_at}
-use Rattle.relation.specs.Key.{has_id, ids_of}
+use Rattle.relation.specs.Key.{has_id, ids_of_variable}
 use Rattle.relation.specs.Part.{has_from, leads}
 use Rattle.relation.specs.Rows.{AreRows}
 use Rattle.relation.proofs.RowLemmas.{group_rows, has_from-other, has_from-same, ids_rise, key_parts, rows_back, rows_front}
@@ -87,19 +87,19 @@ module _ {S : Type 0} (member : S → ℕ → Bool) (domains : List (List ℕ)) 
       ∙ has_from-other member domains v vars lo hi place (b var) (map b vars) t (λ r. not (id_at place r == b var)) (λ r e. not-true _ e) (r ∷ rs) h (all_others place (b var) (r ∷ rs) none)
 
   id_inside : (var : ℕ) (vars : List ℕ) (place x : ℕ) (rows : List (Row S)) → AreRows member domains (var ∷ vars) lo hi place rows → has_id (ids_at place rows) x ≡ true →
-      has_id (ids_of domains var) x ≡ true
+      has_id (ids_of_variable domains var) x ≡ true
   id_inside var vars place x [] h e = absurd (false≢true e)
   id_inside var vars place x (r ∷ rs) h e =
       elim (or_cases _ _ e) [
-        | inl here ↦ subst (λ (y : ℕ). has_id (ids_of domains var) y ≡ true) (eqb-true _ x here) (key_parts domains var vars place r.key h.0.inside).0
+        | inl here ↦ subst (λ (y : ℕ). has_id (ids_of_variable domains var) y ≡ true) (eqb-true _ x here) (key_parts domains var vars place r.key h.0.inside).0
         | inr later ↦ id_inside var vars place x rs h.2 later
       ]
 
   -- an object of theirs is one of the variable's domain
   pub rows_inside : (var : ℕ) (vars : List ℕ) (place : ℕ) (rows : List (Row S)) → AreRows member domains vars lo hi place rows → (leads var vars || length rows == 0) ≡ true → (x : ℕ) →
-      has_id (ids_at place rows) x ≡ true → has_id (ids_of domains var) x ≡ true
+      has_id (ids_at place rows) x ≡ true → has_id (ids_of_variable domains var) x ≡ true
   rows_inside var vars place [] h offered x e = absurd (false≢true e)
   rows_inside var [] place (r ∷ rs) h offered x e = absurd (not_none (length rs) offered)
   rows_inside var (v ∷ vars) place (r ∷ rs) h offered x e =
       let same : v ≡ var = led v var (length rs) offered in
-      subst (λ (w : ℕ). has_id (ids_of domains w) x ≡ true) same (id_inside v vars place x (r ∷ rs) h e)
+      subst (λ (w : ℕ). has_id (ids_of_variable domains w) x ≡ true) same (id_inside v vars place x (r ∷ rs) h e)

@@ -5,14 +5,14 @@ use Rattle.std.specs.List.Sorted.{IsStrictlyIncreasing}
 use Rattle.std.proofs.lemmas.Grind.{take-set_at}
 use Rattle.formula_shape.specs.declared.limits.TheConstants.{OBJECT_LIMIT}
 use Rattle.relation.specs.Held.{AreHeld}
-use Rattle.relation.specs.Key.{AreDomains, ids_of}
+use Rattle.relation.specs.Key.{AreDomains, ids_of_variable}
 
 -- the count is that of the lists in front
 pub held_count : (lists : List (List ℕ)) (count : ℕ) → AreHeld lists count → length (take count lists) ≡ count
 held_count lists count are = length-take-le count lists (omega (arith, are.few, are.full))
 
-each_ascends : (lists : List (List ℕ)) (ids : List ℕ) → ((var : ℕ) → IsStrictlyIncreasing (ids_of lists var)) → IsStrictlyIncreasing ids →
-    (var : ℕ) → IsStrictlyIncreasing (ids_of (lists ++ ids ∷ []) var)
+each_ascends : (lists : List (List ℕ)) (ids : List ℕ) → ((var : ℕ) → IsStrictlyIncreasing (ids_of_variable lists var)) → IsStrictlyIncreasing ids →
+    (var : ℕ) → IsStrictlyIncreasing (ids_of_variable (lists ++ ids ∷ []) var)
 each_ascends [] ids each up zero = up
 each_ascends [] ids each up (suc var) = each 0
 each_ascends (list ∷ lists) ids each up zero = each 0

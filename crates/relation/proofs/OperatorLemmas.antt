@@ -3,9 +3,9 @@ use Rattle.std.proofs.Common.{◌≡◌, ℕ, Bool, List, [], map, ap, ◌∙◌
 use Rattle.relation.specs.declared.operation.Operation.{Operation}
 use Rattle.relation.specs.declared.part.Part.{Part}
 use Rattle.relation.specs.Frames.{IsIn}
-use Rattle.relation.specs.Operations.{combined}
+use Rattle.relation.specs.Operations.{combined_between}
 use Rattle.relation.specs.Part.{part_has}
-use Rattle.relation.specs.Rows.{Table, has, has_at, table}
+use Rattle.relation.specs.Rows.{Table, has_at, table, table_has}
 use Rattle.relation.specs.Walk.{HasWalked}
 use Rattle.relation.proofs.WalkLemmas.{combined_same}
 
@@ -15,9 +15,9 @@ module _ {S : Type 0} (member : S → ℕ → Bool) (op : Operation) (vars : Lis
     from_start : HasWalked member op [] vars p q (table vars self.domains self.lo self.hi []) new
     from_start = subst (λ (z : Table S). HasWalked member op [] vars p q z new) empty (subst (λ (k : List ℕ). HasWalked member op k vars p q made new) no_key walked)
 
-    pub walked_has : ((b : ℕ → ℕ) (t : ℕ) → part_has member p b t ≡ has member self b t) → ((b : ℕ → ℕ) (t : ℕ) → part_has member q b t ≡ has member other b t) →
-        (b : ℕ → ℕ) → IsIn self.domains b → (t : ℕ) → has member new b t ≡ combined op self.lo self.hi (has member self b) (has member other b) t
+    pub walked_has : ((b : ℕ → ℕ) (t : ℕ) → part_has member p b t ≡ table_has member self b t) → ((b : ℕ → ℕ) (t : ℕ) → part_has member q b t ≡ table_has member other b t) →
+        (b : ℕ → ℕ) → IsIn self.domains b → (t : ℕ) → table_has member new b t ≡ combined_between op self.lo self.hi (table_has member self b) (table_has member other b) t
     walked_has left right b is_in t =
         ap (λ (vs : List ℕ). has_at member new.rows (map b vs) t) from_start.head.vars
         ∙ from_start.here b is_in t
-        ∙ combined_same op self.lo self.hi (has member self b) (part_has member p b) (has member other b) (part_has member q b) (left b) (right b) t
+        ∙ combined_same op self.lo self.hi (table_has member self b) (part_has member p b) (table_has member other b) (part_has member q b) (left b) (right b) t

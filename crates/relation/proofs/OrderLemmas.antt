@@ -6,7 +6,7 @@ use Rattle.std.specs.Str.{bytes_eq}
 use Rattle.std.proofs.lemmas.Bool.{and_from, and_parts, cases_Bool, eq-eqb, false≢true, lt-ltb, or_cases, or_from, or_left, or_parts, or_right}
 use Rattle.std.proofs.lemmas.List.Folds.{list_all-append, list_all-map, list_any-append}
 use Rattle.relation.specs.declared.row.Row.{Row}
-use Rattle.relation.specs.Key.{has_id, ids_of, key_below, key_in}
+use Rattle.relation.specs.Key.{has_id, ids_of_variable, key_below, key_in}
 use Rattle.relation.specs.Order.{has_row, keys_over}
 use Rattle.relation.specs.Rows.{AreRows, has_at}
 use Rattle.relation.proofs.ChangeLemmas.{own_key, same_key}
@@ -152,9 +152,9 @@ none_in_blocks (id ∷ ids) keys =
 in_keys : (domains : List (List ℕ)) (vars k : List ℕ) → is_in (keys_over domains vars) k ≡ key_in domains vars k
 in_keys domains [] [] = refl
 in_keys domains [] (y ∷ k) = refl
-in_keys domains (var ∷ vars) [] = none_in_blocks (ids_of domains var) (keys_over domains vars)
+in_keys domains (var ∷ vars) [] = none_in_blocks (ids_of_variable domains var) (keys_over domains vars)
 in_keys domains (var ∷ vars) (y ∷ k) =
-    in_blocks (ids_of domains var) (keys_over domains vars) y k ∙ ap (λ (b : Bool). has_id (ids_of domains var) y && b) (in_keys domains vars k)
+    in_blocks (ids_of_variable domains var) (keys_over domains vars) y k ∙ ap (λ (b : Bool). has_id (ids_of_variable domains var) y && b) (in_keys domains vars k)
 
 block_above : (id j : ℕ) (l : List ℕ) (keys : List (List ℕ)) → id < j → list_all (key_below (id ∷ l)) (block j keys) ≡ true
 block_above id j l [] h = refl
@@ -182,9 +182,9 @@ blocks_ascend n [] keys from a = tt
 blocks_ascend n (id ∷ ids) keys from a =
     block_ascends id keys (blocks ids keys) a (blocks_ascend (id + 1) ids keys from.1 a) (λ l. blocks_above id (id + 1) l ids keys (omega arith) from.1)
 
-keys_ascend : (domains : List (List ℕ)) (vars : List ℕ) → ((var : ℕ) → IsStrictlyIncreasing (ids_of domains var)) → Ascends (keys_over domains vars)
+keys_ascend : (domains : List (List ℕ)) (vars : List ℕ) → ((var : ℕ) → IsStrictlyIncreasing (ids_of_variable domains var)) → Ascends (keys_over domains vars)
 keys_ascend domains [] up = (refl, tt)
-keys_ascend domains (var ∷ vars) up = blocks_ascend 0 (ids_of domains var) (keys_over domains vars) (from_rising 0 (ids_of domains var) (up var) (λ l. omega arith)) (keys_ascend domains vars up)
+keys_ascend domains (var ∷ vars) up = blocks_ascend 0 (ids_of_variable domains var) (keys_over domains vars) (from_rising 0 (ids_of_variable domains var) (up var) (λ l. omega arith)) (keys_ascend domains vars up)
 
 module _ {S : Type 0} (member : S → ℕ → Bool) (domains : List (List ℕ)) (vars : List ℕ) (lo hi : ℕ) where
   rows_ascend : (rows : List (Row S)) → AreRows member domains vars lo hi 0 rows → Ascends (map (λ r. r.key) rows)
@@ -203,7 +203,7 @@ module _ {S : Type 0} (member : S → ℕ → Bool) (domains : List (List ℕ)) 
   ]
 
   -- the keys of the rows are those over the domains that have a row, in their order
-  pub rows_in_order : (rows : List (Row S)) → AreRows member domains vars lo hi 0 rows → ((var : ℕ) → IsStrictlyIncreasing (ids_of domains var)) →
+  pub rows_in_order : (rows : List (Row S)) → AreRows member domains vars lo hi 0 rows → ((var : ℕ) → IsStrictlyIncreasing (ids_of_variable domains var)) →
       map (λ r. r.key) rows ≡ filter (has_row rows) (keys_over domains vars)
   rows_in_order rows is up =
       same_members (map (λ r. r.key) rows) (filter (has_row rows) (keys_over domains vars)) (rows_ascend rows is) (kept_ascends (has_row rows) (keys_over domains vars) (keys_ascend domains vars up)) members

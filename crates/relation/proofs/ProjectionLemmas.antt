@@ -8,12 +8,12 @@ use Rattle.std.proofs.lemmas.List.Folds.{list_any-append, list_any_more}
 use Rattle.std.proofs.lemmas.Option.{slice_get_read}
 use Rattle.relation.specs.declared.entries.Entry.{Entry}
 use Rattle.relation.specs.declared.row.Row.{Row}
-use Rattle.relation.specs.Entries.{AreEntries, HasGathered, IsBefore, IsEntry, entries_have, entry_has, row_has}
+use Rattle.relation.specs.Entries.{AreEntries, HasGathered, IsBefore, IsEntry, entries_have, entry_has, optional_row_has}
 use Rattle.relation.specs.Frames.{IsIn}
 use Rattle.formula.specs.Resolved.{are_distinct}
-use Rattle.relation.specs.Key.{are_known, has_id, ids_of, key_in}
-use Rattle.relation.specs.Projection.{IsPicked, picked, place_of, rows_over}
-use Rattle.relation.specs.Rows.{AreRows, IsRow, IsTable, Table, has, has_at, table}
+use Rattle.relation.specs.Key.{are_known, has_id, ids_of_variable, key_in}
+use Rattle.relation.specs.Projection.{IsPicked, picked, rows_over, variable_place}
+use Rattle.relation.specs.Rows.{AreRows, IsRow, IsTable, Table, has_at, table, table_has}
 use Rattle.relation.proofs.ChangeLemmas.{own_key, same_key}
 use Rattle.relation.proofs.KeyLemmas.{all_weaker}
 use Rattle.relation.proofs.RowLemmas.{row_at}
@@ -96,13 +96,13 @@ known_among domains own vars known among =
     all_weaker (has_id own) (λ v. nat_lt v (length domains)) (λ v e. passed_by (λ w. nat_lt w (length domains)) own v known e) vars among
 
 -- the object at a variable's place, where the objects are those of an assignment
-pub object_assigned : (b : ℕ → ℕ) (own : List ℕ) (var : ℕ) → has_id own var ≡ true → get_or (map b own) (place_of own var) 0 ≡ b var
+pub object_assigned : (b : ℕ → ℕ) (own : List ℕ) (var : ℕ) → has_id own var ≡ true → get_or (map b own) (variable_place own var) 0 ≡ b var
 object_assigned b [] var h = absurd (false≢true h)
 object_assigned b (v ∷ own) var h = elim (cases_Bool (v == var)) [
-  | inl e ↦ ap (λ (x : Bool). get_or (b v ∷ map b own) (if x then 0 else suc (place_of own var)) 0) e ∙ ap b (eqb-true v var e)
+  | inl e ↦ ap (λ (x : Bool). get_or (b v ∷ map b own) (if x then 0 else suc (variable_place own var)) 0) e ∙ ap b (eqb-true v var e)
   | inr n ↦
       let later : has_id own var ≡ true = elim (or_cases _ _ h) [ inl e ↦ absurd (false≢true (sym n ∙ e)) | inr l ↦ l ] in
-      ap (λ (x : Bool). get_or (b v ∷ map b own) (if x then 0 else suc (place_of own var)) 0) n ∙ object_assigned b own var later
+      ap (λ (x : Bool). get_or (b v ∷ map b own) (if x then 0 else suc (variable_place own var)) 0) n ∙ object_assigned b own var later
 ]
 
 picked_assigned : (b : ℕ → ℕ) (own vars : List ℕ) → list_all (has_id own) vars ≡ true → picked own (map b own) vars ≡ map b vars
@@ -112,18 +112,18 @@ picked_assigned b own (v ∷ vars) h =
     λ i. object_assigned b own v parts.0 i ∷ picked_assigned b own vars parts.1 i
 
 -- the object at a variable's place lies in the variable's domain
-pub object_inside : (domains : List (List ℕ)) (own key : List ℕ) (var : ℕ) → key_in domains own key ≡ true → has_id own var ≡ true → has_id (ids_of domains var) (get_or key (place_of own var) 0) ≡ true
+pub object_inside : (domains : List (List ℕ)) (own key : List ℕ) (var : ℕ) → key_in domains own key ≡ true → has_id own var ≡ true → has_id (ids_of_variable domains var) (get_or key (variable_place own var) 0) ≡ true
 object_inside domains [] key var h e = absurd (false≢true e)
 object_inside domains (v ∷ own) [] var h e = absurd (false≢true h)
 object_inside domains (v ∷ own) (x ∷ key) var h e =
-    let parts : (has_id (ids_of domains v) x ≡ true) × (key_in domains own key ≡ true) = and_parts _ _ h in
+    let parts : (has_id (ids_of_variable domains v) x ≡ true) × (key_in domains own key ≡ true) = and_parts _ _ h in
     elim (cases_Bool (v == var)) [
       | inl s ↦
-          ap (λ (y : Bool). has_id (ids_of domains var) (get_or (x ∷ key) (if y then 0 else suc (place_of own var)) 0)) s
-          ∙ ap (λ (w : ℕ). has_id (ids_of domains w) x) (sym (eqb-true v var s)) ∙ parts.0
+          ap (λ (y : Bool). has_id (ids_of_variable domains var) (get_or (x ∷ key) (if y then 0 else suc (variable_place own var)) 0)) s
+          ∙ ap (λ (w : ℕ). has_id (ids_of_variable domains w) x) (sym (eqb-true v var s)) ∙ parts.0
       | inr n ↦
           let later : has_id own var ≡ true = elim (or_cases _ _ e) [ inl s ↦ absurd (false≢true (sym n ∙ s)) | inr l ↦ l ] in
-          ap (λ (y : Bool). has_id (ids_of domains var) (get_or (x ∷ key) (if y then 0 else suc (place_of own var)) 0)) n ∙ object_inside domains own key var parts.1 later
+          ap (λ (y : Bool). has_id (ids_of_variable domains var) (get_or (x ∷ key) (if y then 0 else suc (variable_place own var)) 0)) n ∙ object_inside domains own key var parts.1 later
     ]
 
 pub picked_inside : (domains : List (List ℕ)) (own key vars : List ℕ) → key_in domains own key ≡ true → list_all (has_id own) vars ≡ true → key_in domains vars (picked own key vars) ≡ true
@@ -134,7 +134,7 @@ picked_inside domains own key (v ∷ vars) h among =
 
 -- an assignment of a key's objects gives the key
 key_assigned : (domains : List (List ℕ)) (own key : List ℕ) (f : ℕ → ℕ) → key_in domains own key ≡ true → are_distinct own ≡ true →
-    ((var : ℕ) → has_id own var ≡ true → f var ≡ get_or key (place_of own var) 0) → map f own ≡ key
+    ((var : ℕ) → has_id own var ≡ true → f var ≡ get_or key (variable_place own var) 0) → map f own ≡ key
 key_assigned domains [] [] f h d same = refl
 key_assigned domains [] (x ∷ key) f h d same = absurd (false≢true h)
 key_assigned domains (v ∷ own) [] f h d same = absurd (false≢true h)
@@ -147,12 +147,12 @@ key_assigned domains (v ∷ own) (x ∷ key) f h d same = λ i. first i ∷ key_
     itself = eq-eqb v v refl
 
     first : f v ≡ x
-    first = same v (or_left _ _ itself) ∙ ap (λ (b : Bool). get_or (x ∷ key) (if b then 0 else suc (place_of own v)) 0) itself
+    first = same v (or_left _ _ itself) ∙ ap (λ (b : Bool). get_or (x ∷ key) (if b then 0 else suc (variable_place own v)) 0) itself
 
-    later : (var : ℕ) → has_id own var ≡ true → f var ≡ get_or key (place_of own var) 0
+    later : (var : ℕ) → has_id own var ≡ true → f var ≡ get_or key (variable_place own var) 0
     later var e = elim (cases_Bool (v == var)) [
       | inl s ↦ absurd (false≢true (sym (not-true _ apart.0) ∙ ap (has_id own) (eqb-true v var s) ∙ e))
-      | inr n ↦ same var (or_right _ _ e) ∙ ap (λ (b : Bool). get_or (x ∷ key) (if b then 0 else suc (place_of own var)) 0) n
+      | inr n ↦ same var (or_right _ _ e) ∙ ap (λ (b : Bool). get_or (x ∷ key) (if b then 0 else suc (variable_place own var)) 0) n
     ]
 
 -- two assignments that give some variables the same objects
@@ -209,7 +209,7 @@ module _ {S : Type 0} (member : S → ℕ → Bool) (r : Table S) (vars : List �
       found = find member r.domains r.vars vars r.lo r.hi r.rows (map b vars) t is.rows h
 
       object : ℕ → ℕ
-      object var = get_or found.row.key (place_of r.vars var) 0
+      object var = get_or found.row.key (variable_place r.vars var) 0
 
       other : ℕ → ℕ
       other var = if has_id r.vars var then object var else b var
@@ -233,15 +233,15 @@ module _ {S : Type 0} (member : S → ℕ → Bool) (r : Table S) (vars : List �
 
       inside : IsIn r.domains b → IsIn r.domains other
       inside is_in var l = elim (cases_Bool (has_id r.vars var)) [
-        | inl owned ↦ ap (has_id (ids_of r.domains var)) (at_own var owned) ∙ object_inside r.domains r.vars found.row.key var found.is.inside owned
-        | inr n ↦ ap (has_id (ids_of r.domains var)) (not_own var n) ∙ is_in var l
+        | inl owned ↦ ap (has_id (ids_of_variable r.domains var)) (at_own var owned) ∙ object_inside r.domains r.vars found.row.key var found.is.inside owned
+        | inr n ↦ ap (has_id (ids_of_variable r.domains var)) (not_own var n) ∙ is_in var l
       ]
 
 -- an entry for each row, in turn
 module _ {S : Type 0} (member : S → ℕ → Bool) (own vars : List ℕ) (rows : List (Row S)) (place : ℕ) (row : Row S) (key : List ℕ) (e : Entry)
     (in_list : place < length rows) (at : row ≡ get_or rows place row) (picks : key ≡ picked own row.key vars) (same_key : e.key ≡ key) (same_place : e.place ≡ place) where
   own_ticks : (t : ℕ) → entry_has member rows e t ≡ member row.set t
-  own_ticks t = ap (λ (n : ℕ). row_has member (slice_get rows n) t) same_place ∙ ap (λ (o : Option (Row S)). row_has member o t) (slice_get_read rows (length rows) place row refl in_list at)
+  own_ticks t = ap (λ (n : ℕ). optional_row_has member (slice_get rows n) t) same_place ∙ ap (λ (o : Option (Row S)). optional_row_has member o t) (slice_get_read rows (length rows) place row refl in_list at)
 
   pub entries_each : (domains : List (List ℕ)) (lo hi : ℕ) (old new : List Entry) → new ≡ old ++ e ∷ [] → list_all (has_id own) vars ≡ true → AreRows member domains own lo hi 0 rows →
       All (IsEntry member rows domains vars lo hi) old → All (IsEntry member rows domains vars lo hi) new
@@ -284,7 +284,7 @@ before_none {S} rows es none = subst (λ (z : List (Row S)). IsBefore z es) (sym
 module _ {S : Type 0} (member : S → ℕ → Bool) (self made new : Table S) (own vars : List ℕ) (rows : List (Row S)) (es : List Entry) (domains : List (List ℕ)) (lo hi : ℕ)
     (same_own : own ≡ self.vars) (same : rows ≡ self.rows) (empty : made ≡ table vars domains lo hi []) (gathered : HasGathered member rows es made new)
     (ticks : (key : List ℕ) (t : ℕ) → entries_have member rows es key t ≡ rows_over member own vars rows key t) where
-  projected : (b : ℕ → ℕ) (t : ℕ) → has member new b t ≡ rows_over member self.vars vars self.rows (map b vars) t
+  projected : (b : ℕ → ℕ) (t : ℕ) → table_has member new b t ≡ rows_over member self.vars vars self.rows (map b vars) t
   projected b t =
       ap (λ (vs : List ℕ). has_at member new.rows (map b vs) t) (gathered.head.vars ∙ ap (λ (z : Table S). z.vars) empty)
       ∙ gathered.ticks (map b vars) t
@@ -292,10 +292,10 @@ module _ {S : Type 0} (member : S → ℕ → Bool) (self made new : Table S) (o
       ∙ ticks (map b vars) t
       ∙ (λ i. rows_over member (same_own i) vars (same i) (map b vars) t)
 
-  pub projected_all : list_all (has_id self.vars) vars ≡ true → (b : ℕ → ℕ) (t : ℕ) → has member self b t ≡ true → has member new b t ≡ true
+  pub projected_all : list_all (has_id self.vars) vars ≡ true → (b : ℕ → ℕ) (t : ℕ) → table_has member self b t ≡ true → table_has member new b t ≡ true
   projected_all among b t h = projected b t ∙ taken member self.vars vars among b self.rows t h
 
-  pub projected_some : IsTable member self → (b : ℕ → ℕ) (t : ℕ) → has member new b t ≡ true → IsPicked member self vars b t
+  pub projected_some : IsTable member self → (b : ℕ → ℕ) (t : ℕ) → table_has member new b t ≡ true → IsPicked member self vars b t
   projected_some is b t h = given member self vars is b t (sym (projected b t) ∙ h)
 
 -- the entries of a relation's rows, for one that is made over the same domains

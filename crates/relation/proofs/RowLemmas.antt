@@ -9,7 +9,7 @@ use Rattle.std.proofs.lemmas.List.{drop_all, drop_more}
 use Rattle.std.proofs.lemmas.List.Folds.{list_all-append}
 use Rattle.relation.specs.declared.row.Row.{Row}
 use Rattle.relation.specs.Group.{id_at}
-use Rattle.relation.specs.Key.{has_id, ids_of, key_below, key_in}
+use Rattle.relation.specs.Key.{has_id, ids_of_variable, key_below, key_in}
 use Rattle.relation.specs.Part.{has_from}
 use Rattle.relation.specs.Rows.{AreRows, IsRow, has_at}
 use Rattle.relation.proofs.KeyLemmas.{below_differs}
@@ -24,7 +24,7 @@ key_opens domains var vars place key h =
     ]
 
 pub key_parts : (domains : List (List ℕ)) (var : ℕ) (vars : List ℕ) (place : ℕ) (key : List ℕ) → key_in domains (var ∷ vars) (drop place key) ≡ true →
-    (has_id (ids_of domains var) (get_or key place 0) ≡ true) × (key_in domains vars (drop (place + 1) key) ≡ true)
+    (has_id (ids_of_variable domains var) (get_or key place 0) ≡ true) × (key_in domains vars (drop (place + 1) key) ≡ true)
 key_parts domains var vars place key h =
     and_parts _ _ (subst (λ k. key_in domains (var ∷ vars) k ≡ true) (key_opens domains var vars place key h) h)
 

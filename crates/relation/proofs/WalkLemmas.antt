@@ -17,9 +17,9 @@ use Rattle.relation.specs.declared.operation.Operation.TheVariants as operations
 use Rattle.relation.specs.declared.part.Part.{Part}
 use Rattle.relation.specs.Frames.{IsIn}
 use Rattle.relation.specs.Group.{IsNextIn, ids_at}
-use Rattle.relation.specs.Key.{are_known, has_id, ids_of, key_below, key_in}
-use Rattle.relation.specs.Operations.{combined}
-use Rattle.relation.specs.Part.{IsFixed, IsPart, has_from, offers, part_has, vars_after}
+use Rattle.relation.specs.Key.{are_known, has_id, ids_of_variable, key_below, key_in}
+use Rattle.relation.specs.Operations.{combined_between}
+use Rattle.relation.specs.Part.{IsFixed, IsRowPart, has_from, offers, part_has, vars_after}
 use Rattle.relation.specs.Rows.{AreRows, IsSameHead, Table, has_at}
 use Rattle.relation.specs.Walk.{CanWalk, HasWalked, IsWalking, covers, goes_left, key_starts, key_upto, set_or, visited, visited_by}
 use Rattle.relation.proofs.GroupLemmas.{rows_idle, rows_inside}
@@ -32,8 +32,8 @@ or_false false = refl
 
 -- tests that agree at each tick are put together alike
 pub combined_same : (op : Operation) (lo hi : ℕ) (p p' q q' : ℕ → Bool) → ((t : ℕ) → p' t ≡ p t) → ((t : ℕ) → q' t ≡ q t) → (t : ℕ) →
-    combined op lo hi p' q' t ≡ combined op lo hi p q t
-combined_same op lo hi p p' q q' f g t = λ i. combined op lo hi (λ u. f u i) (λ u. g u i) t
+    combined_between op lo hi p' q' t ≡ combined_between op lo hi p q t
+combined_same op lo hi p p' q q' f g t = λ i. combined_between op lo hi (λ u. f u i) (λ u. g u i) t
 
 pub same_head-trans : {S : Type 0} (a b c : Table S) → IsSameHead a b → IsSameHead b c → IsSameHead a c
 same_head-trans a b c f g = record { vars = g.vars ∙ f.vars; domains = g.domains ∙ f.domains; lo = g.lo ∙ f.lo; hi = g.hi ∙ f.hi }
@@ -107,14 +107,14 @@ module _ {S : Type 0} (member : S → ℕ → Bool) where
   leaf_lies domains vars lo hi place [] nothing h none = λ t e. absurd (false≢true (sym (none t) ∙ e))
   leaf_lies domains vars lo hi place (r ∷ rows) nothing h none = h.0.lies
 
-  pub part_leaf_has : (domains : List (List ℕ)) (lo hi : ℕ) (p : Part S) (nothing : S) → IsPart member domains lo hi p → covers [] p.vars.now ≡ true → ((t : ℕ) → member nothing t ≡ false) →
+  pub part_leaf_has : (domains : List (List ℕ)) (lo hi : ℕ) (p : Part S) (nothing : S) → IsRowPart member domains lo hi p → covers [] p.vars.now ≡ true → ((t : ℕ) → member nothing t ≡ false) →
       (b : ℕ → ℕ) (t : ℕ) → part_has member p b t ≡ member (set_or nothing p.rows.now) t
   part_leaf_has domains lo hi p nothing h cover none b t =
       let e = covers_nil p.vars.now cover in
       ap (λ (us : List ℕ). has_from member p.place p.rows.now (map b us) t) e
       ∙ leaf_has domains lo hi p.place p.rows.now nothing (subst (λ (us : List ℕ). AreRows member domains us lo hi p.place p.rows.now) e h) none t
 
-  pub part_leaf_lies : (domains : List (List ℕ)) (lo hi lo' hi' : ℕ) (p : Part S) (nothing : S) → IsPart member domains lo hi p → ((t : ℕ) → member nothing t ≡ false) → lo' ≡ lo → hi' ≡ hi →
+  pub part_leaf_lies : (domains : List (List ℕ)) (lo hi lo' hi' : ℕ) (p : Part S) (nothing : S) → IsRowPart member domains lo hi p → ((t : ℕ) → member nothing t ≡ false) → lo' ≡ lo → hi' ≡ hi →
       LiesIn lo' hi' (member (set_or nothing p.rows.now))
   part_leaf_lies domains lo hi lo' hi' p nothing h none el eh =
       let lies = leaf_lies domains p.vars.now lo hi p.place p.rows.now nothing h none in
@@ -123,7 +123,7 @@ module _ {S : Type 0} (member : S → ℕ → Bool) where
   -- the row of the key
   pub walked_leaf : (op : Operation) (key : List ℕ) (p q : Part S) (old new : Table S) (nothing set : S) (lo hi : ℕ) → CanWalk member old key [] p q →
       ((t : ℕ) → member nothing t ≡ false) → lo ≡ old.lo → hi ≡ old.hi →
-      ((t : ℕ) → member set t ≡ combined op lo hi (member (set_or nothing p.rows.now)) (member (set_or nothing q.rows.now)) t) →
+      ((t : ℕ) → member set t ≡ combined_between op lo hi (member (set_or nothing p.rows.now)) (member (set_or nothing q.rows.now)) t) →
       IsSameHead old new → ((k : List ℕ) (t : ℕ) → has_at member new.rows k t ≡ (has_at member old.rows k t || (bytes_eq key k && member set t))) →
       ((f : List ℕ → Bool) → list_all (λ r. f r.key) old.rows ≡ true → f key ≡ true → list_all (λ r. f r.key) new.rows ≡ true) →
       HasWalked member op key [] p q old new
@@ -133,8 +133,8 @@ module _ {S : Type 0} (member : S → ℕ → Bool) where
         ∙ ap (λ (x : Bool). x || (bytes_eq key (key ++ []) && member set t)) (has_at-below member old.rows key [] t can.above)
         ∙ ap (λ (x : Bool). x && member set t) (bytes_eq-itself key)
         ∙ ticks t
-        ∙ ap (λ (l : ℕ). combined op l hi (member (set_or nothing p.rows.now)) (member (set_or nothing q.rows.now)) t) el
-        ∙ ap (λ (u : ℕ). combined op old.lo u (member (set_or nothing p.rows.now)) (member (set_or nothing q.rows.now)) t) eh
+        ∙ ap (λ (l : ℕ). combined_between op l hi (member (set_or nothing p.rows.now)) (member (set_or nothing q.rows.now)) t) el
+        ∙ ap (λ (u : ℕ). combined_between op old.lo u (member (set_or nothing p.rows.now)) (member (set_or nothing q.rows.now)) t) eh
         ∙ combined_same op old.lo old.hi (part_has member p b) _ (part_has member q b) _
         (λ u. sym (part_leaf_has old.domains old.lo old.hi p nothing can.left can.left_vars none b u))
         (λ u. sym (part_leaf_has old.domains old.lo old.hi q nothing can.right can.right_vars none b u)) t;
@@ -145,7 +145,7 @@ module _ {S : Type 0} (member : S → ℕ → Bool) where
 -- what no tick needs, or what lies in a domain, of the objects that are visited
 pub idle_elsewhere : (op : Operation) (left right : Bool) (lefts rights ids : List ℕ) (y lo hi : ℕ) (p q : ℕ → Bool) →
     (left ≡ true → has_id lefts y ≡ false → (t : ℕ) → p t ≡ false) → (right ≡ true → has_id rights y ≡ false → (t : ℕ) → q t ≡ false) →
-    has_id ids y ≡ true → has_id (visited_by op left right lefts rights ids) y ≡ false → (t : ℕ) → combined op lo hi p q t ≡ false
+    has_id ids y ≡ true → has_id (visited_by op left right lefts rights ids) y ≡ false → (t : ℕ) → combined_between op lo hi p q t ≡ false
 idle_elsewhere operations.Meet true right lefts rights ids y lo hi p q f g i h t = and_left _ _ (f refl h t)
 idle_elsewhere operations.Meet false true lefts rights ids y lo hi p q f g i h t = and_right _ _ (g refl h t)
 idle_elsewhere operations.Meet false false lefts rights ids y lo hi p q f g i h t = absurd (false≢true (sym h ∙ i))
@@ -179,19 +179,19 @@ goes_left-offers (operations.Until form c) var p q h = h
 goes_left-offers operations.Complement var p q h = h
 
 module _ {S : Type 0} (member : S → ℕ → Bool) where
-  pub part_moved : (p : Part S) (old now : Table S) → IsSameHead old now → IsPart member old.domains old.lo old.hi p → IsPart member now.domains now.lo now.hi p
+  pub part_moved : (p : Part S) (old now : Table S) → IsSameHead old now → IsRowPart member old.domains old.lo old.hi p → IsRowPart member now.domains now.lo now.hi p
   part_moved p old now head h =
-      let first = subst (λ (d : List (List ℕ)). IsPart member d old.lo old.hi p) (sym head.domains) h in
-      let second = subst (λ (l : ℕ). IsPart member now.domains l old.hi p) (sym head.lo) first in
-      subst (λ (u : ℕ). IsPart member now.domains now.lo u p) (sym head.hi) second
+      let first = subst (λ (d : List (List ℕ)). IsRowPart member d old.lo old.hi p) (sym head.domains) h in
+      let second = subst (λ (l : ℕ). IsRowPart member now.domains l old.hi p) (sym head.lo) first in
+      subst (λ (u : ℕ). IsRowPart member now.domains now.lo u p) (sym head.hi) second
 
   -- the objects of a part's next variable are those of its rows, and lie in its domain
-  pub part_idle : (domains : List (List ℕ)) (lo hi var : ℕ) (p : Part S) → IsPart member domains lo hi p → offers var p ≡ true → (b : ℕ → ℕ) →
+  pub part_idle : (domains : List (List ℕ)) (lo hi var : ℕ) (p : Part S) → IsRowPart member domains lo hi p → offers var p ≡ true → (b : ℕ → ℕ) →
       has_id (ids_at p.place p.rows.now) (b var) ≡ false → (t : ℕ) → part_has member p b t ≡ false
   part_idle domains lo hi var p h offered b none t = rows_idle member domains lo hi var p.vars.now p.place p.rows.now h offered b none t
 
-  pub part_inside : (domains : List (List ℕ)) (lo hi var : ℕ) (p : Part S) → IsPart member domains lo hi p → offers var p ≡ true → (x : ℕ) →
-      has_id (ids_at p.place p.rows.now) x ≡ true → has_id (ids_of domains var) x ≡ true
+  pub part_inside : (domains : List (List ℕ)) (lo hi var : ℕ) (p : Part S) → IsRowPart member domains lo hi p → offers var p ≡ true → (x : ℕ) →
+      has_id (ids_at p.place p.rows.now) x ≡ true → has_id (ids_of_variable domains var) x ≡ true
   part_inside domains lo hi var p h offered x has_x = rows_inside member domains lo hi var p.vars.now p.place p.rows.now h offered x has_x
 
 module _ {S : Type 0} (member : S → ℕ → Bool) (op : Operation) (key : List ℕ) (var : ℕ) (vars : List ℕ) (p q : Part S) (old : Table S) where
@@ -204,13 +204,13 @@ module _ {S : Type 0} (member : S → ℕ → Bool) (op : Operation) (key : List
     above = λ y l. all_weaker (λ r. key_below r.key key) (λ r. key_below r.key (key ++ y ∷ [])) (λ r. below_continues r.key key (y ∷ [])) old.rows can.above;
   }
 
-  module _ (can : CanWalk member old key (var ∷ vars) p q) (ids : List ℕ) (domain : ids ≡ ids_of old.domains var) where
+  module _ (can : CanWalk member old key (var ∷ vars) p q) (ids : List ℕ) (domain : ids ≡ ids_of_variable old.domains var) where
     var_known : var < length old.domains
     var_known = ltb-true _ _ (and_parts _ _ can.known).0
 
     -- where the objects that are left out have no tick
     idle : (b : ℕ → ℕ) → IsIn old.domains b → has_id (visited op var ids p q) (b var) ≡ false → (t : ℕ) →
-        combined op old.lo old.hi (part_has member p b) (part_has member q b) t ≡ false
+        combined_between op old.lo old.hi (part_has member p b) (part_has member q b) t ≡ false
     idle b is_in none t =
         idle_elsewhere op (goes_left op var p q) (offers var q) (ids_at p.place p.rows.now) (ids_at q.place q.rows.now) ids (b var) old.lo old.hi
         (part_has member p b) (part_has member q b)
@@ -219,7 +219,7 @@ module _ {S : Type 0} (member : S → ℕ → Bool) (op : Operation) (key : List
         (ap (λ (l : List ℕ). has_id l (b var)) domain ∙ is_in var var_known)
         none t
 
-    inside : (x : ℕ) → has_id (visited op var ids p q) x ≡ true → has_id (ids_of old.domains var) x ≡ true
+    inside : (x : ℕ) → has_id (visited op var ids p q) x ≡ true → has_id (ids_of_variable old.domains var) x ≡ true
     inside x visited_x =
         ap (λ (l : List ℕ). has_id l x) (sym domain)
         ∙ visited_inside op (goes_left op var p q) (offers var q) (ids_at p.place p.rows.now) (ids_at q.place q.rows.now) ids x
@@ -278,20 +278,20 @@ module _ {S : Type 0} (member : S → ℕ → Bool) (op : Operation) (key : List
       }
         where
           same : (b : ℕ → ℕ) → IsIn old.domains b → b var ≡ x → (t : ℕ) →
-              has_at member new.rows (key ++ b var ∷ map b vars) t ≡ combined op old.lo old.hi (part_has member p b) (part_has member q b) t
+              has_at member new.rows (key ++ b var ∷ map b vars) t ≡ combined_between op old.lo old.hi (part_has member p b) (part_has member q b) t
           same b is_in e t =
               ap (λ (y : ℕ). has_at member new.rows (key ++ y ∷ map b vars) t) e
               ∙ ap (λ (k : List ℕ). has_at member new.rows k t) (sym (append_assoc key (x ∷ []) (map b vars)))
               ∙ walked.here b (subst (λ (d : List (List ℕ)). IsIn d b) (sym walking.head.domains) is_in) t
-              ∙ ap (λ (l : ℕ). combined op l now.hi (part_has member p' b) (part_has member q' b) t) walking.head.lo
-              ∙ ap (λ (u : ℕ). combined op old.lo u (part_has member p' b) (part_has member q' b) t) walking.head.hi
+              ∙ ap (λ (l : ℕ). combined_between op l now.hi (part_has member p' b) (part_has member q' b) t) walking.head.lo
+              ∙ ap (λ (u : ℕ). combined_between op old.lo u (part_has member p' b) (part_has member q' b) t) walking.head.hi
               ∙ combined_same op old.lo old.hi (part_has member p b) (part_has member p' b) (part_has member q b) (part_has member q' b) (left.same b e) (right.same b e) t
 
           other : (b : ℕ → ℕ) → (b var ≡ x → ⊥) → (t : ℕ) → has_at member new.rows (key ++ b var ∷ map b vars) t ≡ has_at member now.rows (key ++ b var ∷ map b vars) t
           other b differs t = walked.elsewhere (key ++ b var ∷ map b vars) (starts_with_another key (map b vars) x (b var) (ne_eqb (b var) x differs)) t
 
           passed : (b : ℕ → ℕ) → IsIn old.domains b → from ≤ b var → b var < x → (t : ℕ) →
-              has_at member new.rows (key ++ b var ∷ map b vars) t ≡ combined op old.lo old.hi (part_has member p b) (part_has member q b) t
+              has_at member new.rows (key ++ b var ∷ map b vars) t ≡ combined_between op old.lo old.hi (part_has member p b) (part_has member q b) t
           passed b is_in l below t =
               other b (λ e. omega (arith, e, below)) t
               ∙ ap (λ (k : List ℕ). has_at member now.rows k t) (sym (append_assoc key (b var ∷ []) (map b vars)))
@@ -299,7 +299,7 @@ module _ {S : Type 0} (member : S → ℕ → Bool) (op : Operation) (key : List
               ∙ sym (idle b is_in (next.2 (b var) l below) t)
 
           here : (b : ℕ → ℕ) → IsIn old.domains b → b var < x + 1 → (t : ℕ) →
-              has_at member new.rows (key ++ b var ∷ map b vars) t ≡ combined op old.lo old.hi (part_has member p b) (part_has member q b) t
+              has_at member new.rows (key ++ b var ∷ map b vars) t ≡ combined_between op old.lo old.hi (part_has member p b) (part_has member q b) t
           here b is_in l t = elim (cases_lt (b var) from) [
             | inl below ↦ other b (λ e. omega (arith, e, below, next.0)) t ∙ walking.here b is_in below t
             | inr above ↦ elim (cases_eq (b var) x) [

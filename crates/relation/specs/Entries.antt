@@ -9,12 +9,12 @@ use Rattle.relation.specs.Key.{key_below, key_in}
 use Rattle.relation.specs.Rows.{IsSameHead, Table, has_at}
 
 -- whether a row, if there is one, has the tick
-abbrev pub row_has : {S : Type 0} → (S → ℕ → Bool) → Option (Row S) → ℕ → Bool
-row_has member None t = false
-row_has member (Some r) t = member r.set t
+abbrev pub optional_row_has : {S : Type 0} → (S → ℕ → Bool) → Option (Row S) → ℕ → Bool
+optional_row_has member None t = false
+optional_row_has member (Some r) t = member r.set t
 
 abbrev pub entry_has : {S : Type 0} → (S → ℕ → Bool) → List (Row S) → Entry → ℕ → Bool
-entry_has member rows e t = row_has member (slice_get rows e.place) t
+entry_has member rows e t = optional_row_has member (slice_get rows e.place) t
 
 -- whether one of the entries has the tick, and one of this key
 abbrev pub any_has : {S : Type 0} → (S → ℕ → Bool) → List (Row S) → List Entry → ℕ → Bool

@@ -2,7 +2,7 @@
 use Rattle.std.specs.Prelude.{◌≡◌, ◌<◌, ◌||◌, ℕ, Bool, true, List, length, map}
 use Rattle.std.specs.Str.{bytes_eq}
 use Rattle.formula.specs.Variables.{variables_in}
-use Rattle.relation.specs.Key.{has_id, ids_of}
+use Rattle.relation.specs.Key.{has_id, ids_of_variable}
 use Rattle.relation.specs.Rows.{Table}
 
 -- the domains, and the first and last tick of the window
@@ -19,11 +19,11 @@ frame r = frame_of r.domains r.lo r.hi
 
 -- an assignment of objects to variables gives each variable with a domain one of it
 abbrev pub IsIn : List (List ℕ) → (ℕ → ℕ) → Type 0
-IsIn domains b = (var : ℕ) → var < length domains → has_id (ids_of domains var) (b var) ≡ true
+IsIn domains b = (var : ℕ) → var < length domains → has_id (ids_of_variable domains var) (b var) ≡ true
 
 -- how many objects a variable ranges over
-abbrev pub size_of : List (List ℕ) → ℕ → ℕ
-size_of domains var = length (ids_of domains var)
+abbrev pub domain_size : List (List ℕ) → ℕ → ℕ
+domain_size domains var = length (ids_of_variable domains var)
 
 -- whether an assignment gives the variables the objects of a key
 abbrev pub agrees : List ℕ → List ℕ → (ℕ → ℕ) → Bool
@@ -36,4 +36,4 @@ vars_of_both us vs = variables_in (λ v. has_id us v || has_id vs v)
 -- domains with as many variables, and for each one at least the same objects
 pub record IsWider (old new : List (List ℕ)) : Type 0 where
   pub many : length new ≡ length old
-  pub all : (var id : ℕ) → has_id (ids_of old var) id ≡ true → has_id (ids_of new var) id ≡ true
+  pub all : (var id : ℕ) → has_id (ids_of_variable old var) id ≡ true → has_id (ids_of_variable new var) id ≡ true

@@ -9,13 +9,13 @@ abbrev pub has_id : List ℕ → ℕ → Bool
 has_id ids id = list_any (λ i. i == id) ids
 
 -- the objects of a variable
-abbrev pub ids_of : List (List ℕ) → ℕ → List ℕ
-ids_of domains var = slice_index_or domains var []
+abbrev pub ids_of_variable : List (List ℕ) → ℕ → List ℕ
+ids_of_variable domains var = slice_index_or domains var []
 
 -- what each list of domains is: it has few, and each of them ascends
 pub record AreDomains (domains : List (List ℕ)) : Type 0 where
   pub few : length domains ≤ OBJECT_LIMIT
-  pub ascending : (var : ℕ) → IsStrictlyIncreasing (ids_of domains var)
+  pub ascending : (var : ℕ) → IsStrictlyIncreasing (ids_of_variable domains var)
 
 -- whether each variable has a domain
 abbrev pub are_known : List (List ℕ) → List ℕ → Bool
@@ -26,7 +26,7 @@ abbrev pub key_in : List (List ℕ) → List ℕ → List ℕ → Bool
 key_in domains [] [] = true
 key_in domains [] (id ∷ ids) = false
 key_in domains (var ∷ vars) [] = false
-key_in domains (var ∷ vars) (id ∷ ids) = has_id (ids_of domains var) id && key_in domains vars ids
+key_in domains (var ∷ vars) (id ∷ ids) = has_id (ids_of_variable domains var) id && key_in domains vars ids
 
 -- whether the first object that differs is the smaller one: a key then comes before the other and all that continue it
 abbrev pub key_below : List ℕ → List ℕ → Bool

@@ -11,8 +11,8 @@ abbrev pub has_from : {S : Type 0} → (S → ℕ → Bool) → ℕ → List (Ro
 has_from member place rows key t = list_any (λ r. bytes_eq (drop place r.key) key && member r.set t) rows
 
 -- the rows of a part, which have the objects of its variables from its place on
-abbrev pub IsPart : {S : Type 0} → (S → ℕ → Bool) → List (List ℕ) → ℕ → ℕ → Part S → Type 0
-IsPart member domains lo hi p = AreRows member domains p.vars.now lo hi p.place p.rows.now
+abbrev pub IsRowPart : {S : Type 0} → (S → ℕ → Bool) → List (List ℕ) → ℕ → ℕ → Part S → Type 0
+IsRowPart member domains lo hi p = AreRows member domains p.vars.now lo hi p.place p.rows.now
 
 abbrev pub part_has : {S : Type 0} → (S → ℕ → Bool) → Part S → (ℕ → ℕ) → ℕ → Bool
 part_has member p b t = has_from member p.place p.rows.now (map b p.vars.now) t
@@ -32,5 +32,5 @@ offers var p = leads var p.vars.now || length p.rows.now == 0
 
 -- a part whose rows give the variable the object, where it is their next one
 pub record IsFixed {S : Type 0} (member : S → ℕ → Bool) (domains : List (List ℕ)) (lo hi var id : ℕ) (p q : Part S) : Type 0 where
-  pub rows : IsPart member domains lo hi q
+  pub rows : IsRowPart member domains lo hi q
   pub same : (b : ℕ → ℕ) → b var ≡ id → (t : ℕ) → part_has member q b t ≡ part_has member p b t

@@ -23,8 +23,8 @@ abbrev pub table : {S : Type 0} → List ℕ → List (List ℕ) → ℕ → ℕ
 table vars domains lo hi rows = record { vars = vars; domains = domains; lo = lo; hi = hi; rows = rows }
 
 -- whether the binding that an assignment of objects to variables gives has the tick
-abbrev pub has : {S : Type 0} → (S → ℕ → Bool) → Table S → (ℕ → ℕ) → ℕ → Bool
-has member r b t = has_at member r.rows (map b r.vars) t
+abbrev pub table_has : {S : Type 0} → (S → ℕ → Bool) → Table S → (ℕ → ℕ) → ℕ → Bool
+table_has member r b t = has_at member r.rows (map b r.vars) t
 
 -- a row gives the variables, which begin at a place of its key, objects of their domains, and it has a tick, and ticks
 -- of lo to hi alone

@@ -9,8 +9,8 @@ use Rattle.relation.specs.declared.row.Row.{Row}
 use Rattle.relation.specs.Frames.{IsIn}
 use Rattle.relation.specs.Group.{ids_at}
 use Rattle.relation.specs.Key.{are_known, key_below, key_in}
-use Rattle.relation.specs.Operations.{combined}
-use Rattle.relation.specs.Part.{IsPart, offers, part_has}
+use Rattle.relation.specs.Operations.{combined_between}
+use Rattle.relation.specs.Part.{IsRowPart, offers, part_has}
 use Rattle.relation.specs.Rows.{IsSameHead, Table, has_at}
 
 -- whether a key is not above all that continue a front
@@ -57,8 +57,8 @@ set_or nothing (r ∷ rest) = r.set
 
 -- the walk can go on: the key gives objects to the variables before these, and all rows made so far come before it
 pub record CanWalk {S : Type 0} (member : S → ℕ → Bool) (made : Table S) (key vars : List ℕ) (p q : Part S) : Type 0 where
-  pub left : IsPart member made.domains made.lo made.hi p
-  pub right : IsPart member made.domains made.lo made.hi q
+  pub left : IsRowPart member made.domains made.lo made.hi p
+  pub right : IsRowPart member made.domains made.lo made.hi q
   pub left_vars : covers vars p.vars.now ≡ true
   pub right_vars : covers vars q.vars.now ≡ true
   pub known : are_known made.domains vars ≡ true
@@ -72,7 +72,7 @@ pub record CanWalk {S : Type 0} (member : S → ℕ → Bool) (made : Table S) (
 pub record HasWalked {S : Type 0} (member : S → ℕ → Bool) (op : Operation) (key vars : List ℕ) (p q : Part S) (old new : Table S) : Type 0 where
   pub head : IsSameHead old new
   pub here : (b : ℕ → ℕ) → IsIn old.domains b → (t : ℕ) →
-      has_at member new.rows (key ++ map b vars) t ≡ combined op old.lo old.hi (part_has member p b) (part_has member q b) t
+      has_at member new.rows (key ++ map b vars) t ≡ combined_between op old.lo old.hi (part_has member p b) (part_has member q b) t
   pub elsewhere : (k : List ℕ) → key_starts k key ≡ false → (t : ℕ) → has_at member new.rows k t ≡ has_at member old.rows k t
   pub upto : list_all (λ r. key_upto r.key key) new.rows ≡ true
 
@@ -80,6 +80,6 @@ pub record HasWalked {S : Type 0} (member : S → ℕ → Bool) (op : Operation)
 pub record IsWalking {S : Type 0} (member : S → ℕ → Bool) (op : Operation) (key : List ℕ) (var : ℕ) (vars : List ℕ) (p q : Part S) (old now : Table S) (from : ℕ) : Type 0 where
   pub head : IsSameHead old now
   pub here : (b : ℕ → ℕ) → IsIn old.domains b → b var < from → (t : ℕ) →
-      has_at member now.rows (key ++ b var ∷ map b vars) t ≡ combined op old.lo old.hi (part_has member p b) (part_has member q b) t
+      has_at member now.rows (key ++ b var ∷ map b vars) t ≡ combined_between op old.lo old.hi (part_has member p b) (part_has member q b) t
   pub elsewhere : (k : List ℕ) → key_starts k key ≡ false → (t : ℕ) → has_at member now.rows k t ≡ has_at member old.rows k t
   pub above : (y : ℕ) → from ≤ y → list_all (λ r. key_below r.key (key ++ y ∷ [])) now.rows ≡ true

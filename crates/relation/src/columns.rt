@@ -5,8 +5,8 @@ ghost use Rattle.std.specs.List.{list_all};
 ghost use Rattle.std.specs.Str.{bytes_eq};
 ghost use Rattle.tick_set.specs.Ticks.{LiesIn};
 ghost use Rattle.relation.specs.Frames.{IsIn, frame};
-ghost use Rattle.relation.specs.Key.{has_id, ids_of, key_below, key_in};
-ghost use Rattle.relation.specs.Rows.{IsSameHead, has, has_at};
+ghost use Rattle.relation.specs.Key.{has_id, ids_of_variable, key_below, key_in};
+ghost use Rattle.relation.specs.Rows.{IsSameHead, has_at, table_has};
 
 use crate::operation::Operation;
 use crate::projection::place_of;
@@ -29,9 +29,9 @@ impl<'d, S: Temporal> Relation<'d, S> {
         requires window { (part.now.lo ≡ self.now.lo) × (part.now.hi ≡ self.now.hi) }
         requires domains { part.now.domains ≡ slice_set self.now.domains var (id ∷ []) }
         requires owned { has_id self.now.vars var ≡ true }
-        requires inside { has_id (ids_of self.now.domains var) id ≡ true }
-        ensures ticks { IfOk result (λ r. (b : ℕ → ℕ) → IsIn self.now.domains b → (t : ℕ) → has S.member r b t
-            ≡ (if b var == id then has S.member part.now b t else has S.member self.now b t)) }
+        requires inside { has_id (ids_of_variable self.now.domains var) id ≡ true }
+        ensures ticks { IfOk result (λ r. (b : ℕ → ℕ) → IsIn self.now.domains b → (t : ℕ) → table_has S.member r b t
+            ≡ (if b var == id then table_has S.member part.now b t else table_has S.member self.now b t)) }
         ensures vars { IfOk result (λ r. r.vars ≡ self.now.vars) }
         ensures frame { IfOk result (λ r. frame r ≡ frame self.now) }
     {
@@ -46,8 +46,8 @@ impl<'d, S: Temporal> Relation<'d, S> {
     // The rows that give the variable another object.
     fn without(&self, alloc: Global, var: u8, id: u32) -> Result<Self, AllocError>
         requires { has_id self.now.vars var ≡ true }
-        ensures ticks { IfOk result (λ r. (b : ℕ → ℕ) (t : ℕ) → has S.member r b t
-            ≡ (not (b var == id) && has S.member self.now b t)) }
+        ensures ticks { IfOk result (λ r. (b : ℕ → ℕ) (t : ℕ) → table_has S.member r b t
+            ≡ (not (b var == id) && table_has S.member self.now b t)) }
         ensures head { IfOk result (λ r. IsSameHead self.now r) }
     {
         let place = place_of(self.vars(), var);

@@ -2,7 +2,7 @@
 
 ghost use Rattle.std.specs.Prelude.{◌≡◌, ◌<◌, ◌≤◌, ℕ, ◌∷◌, [], ◌++◌, length, slice_index_or, IsOk, OnOk, OnErr};
 ghost use Rattle.std.specs.List.Sorted.{IsStrictlyIncreasing};
-ghost use Rattle.relation.specs.Key.{ids_of};
+ghost use Rattle.relation.specs.Key.{ids_of_variable};
 
 use crate::Few;
 use formula::OBJECT_LIMIT;
@@ -65,7 +65,7 @@ impl Domains {
     pub fn len(&self) -> usize
         ensures count { result ≡ length self.now }
         ensures few { result ≤ OBJECT_LIMIT }
-        ensures ascending { (var : ℕ) → IsStrictlyIncreasing (ids_of self.now var) }
+        ensures ascending { (var : ℕ) → IsStrictlyIncreasing (ids_of_variable self.now var) }
     {
         self.count
     }

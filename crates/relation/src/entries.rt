@@ -3,7 +3,7 @@
 ghost use Rattle.std.specs.Prelude.{◌≡◌, ◌≤◌, ◌<◌, ◌&&◌, ℕ, Bool, true, false, [], length, take, slice_get, slice_index_or, IfOk, OnOk};
 ghost use Rattle.std.specs.List.{list_all, list_any};
 ghost use Rattle.std.specs.Str.{bytes_eq};
-ghost use Rattle.relation.specs.Entries.{AreEntries, HasGathered, IsBefore, any_has, row_has};
+ghost use Rattle.relation.specs.Entries.{AreEntries, HasGathered, IsBefore, any_has, optional_row_has};
 
 use crate::{Relation, Row};
 use formula::Binding;
@@ -82,7 +82,7 @@ fn first_or_empty<S: Temporal>(
 
 // The ticks of the row at a place, if there is one.
 fn copy_at<S: Temporal>(alloc: Global, rows: &[Row<S>], place: usize) -> Result<S, AllocError>
-    ensures { IfOk result (λ s. (t : ℕ) → S.member s t ≡ row_has S.member (slice_get rows.now place) t) }
+    ensures { IfOk result (λ s. (t : ℕ) → S.member s t ≡ optional_row_has S.member (slice_get rows.now place) t) }
 {
     match rows.get(place) {
         Some(row) => row.set.copy(alloc),

@@ -3,7 +3,7 @@
 ghost use Rattle.std.specs.Prelude.{◌≡◌, ◌++◌, ℕ, List, if◌then◌else◌};
 ghost use Rattle.std.specs.List.Sorted.{IsStrictlyIncreasing};
 ghost use Rattle.relation.specs.Group.{IsNextIn, ids_at};
-ghost use Rattle.relation.specs.Part.{IsPart, offers};
+ghost use Rattle.relation.specs.Part.{IsRowPart, offers};
 ghost use Rattle.relation.specs.Walk.{goes_left, visited};
 
 use crate::operation::Operation;
@@ -21,8 +21,8 @@ pub(crate) fn next_visited<S: Temporal>(
     from: u64,
 ) -> Option<u32>
     requires { IsStrictlyIncreasing ids.now }
-    ensures { (domains : List (List ℕ)) (lo hi : ℕ) → IsPart S.member domains lo hi left.now
-        → IsPart S.member domains lo hi right.now
+    ensures { (domains : List (List ℕ)) (lo hi : ℕ) → IsRowPart S.member domains lo hi left.now
+        → IsRowPart S.member domains lo hi right.now
         → IsNextIn (visited operation var ids.now left.now right.now) from result }
 {
     match operation {
@@ -41,8 +41,8 @@ fn next_of_both<S: Temporal>(
     from: u64,
 ) -> Option<u32>
     requires { IsStrictlyIncreasing ids.now }
-    ensures { (domains : List (List ℕ)) (lo hi : ℕ) → IsPart S.member domains lo hi left.now
-        → IsPart S.member domains lo hi right.now
+    ensures { (domains : List (List ℕ)) (lo hi : ℕ) → IsRowPart S.member domains lo hi left.now
+        → IsRowPart S.member domains lo hi right.now
         → IsNextIn (visited Operation.Meet var ids.now left.now right.now) from result }
 {
     if goes_left(var, left, right) {
@@ -62,7 +62,7 @@ fn goes_left<S: Temporal>(var: u8, left: &Part<'_, S>, right: &Part<'_, S>) -> b
 
 fn next_of_right<S: Temporal>(var: u8, ids: &[u32], right: &Part<'_, S>, from: u64) -> Option<u32>
     requires { IsStrictlyIncreasing ids.now }
-    ensures { (domains : List (List ℕ)) (lo hi : ℕ) → IsPart S.member domains lo hi right.now
+    ensures { (domains : List (List ℕ)) (lo hi : ℕ) → IsRowPart S.member domains lo hi right.now
         → IsNextIn
         (if offers var right.now then ids_at right.now.place right.now.rows.now else ids.now) from result }
 {
@@ -81,8 +81,8 @@ fn next_of_either<S: Temporal>(
     from: u64,
 ) -> Option<u32>
     requires { IsStrictlyIncreasing ids.now }
-    ensures { (domains : List (List ℕ)) (lo hi : ℕ) → IsPart S.member domains lo hi left.now
-        → IsPart S.member domains lo hi right.now
+    ensures { (domains : List (List ℕ)) (lo hi : ℕ) → IsRowPart S.member domains lo hi left.now
+        → IsRowPart S.member domains lo hi right.now
         → IsNextIn (visited Operation.Union var ids.now left.now right.now) from result }
 {
     if left.offers(var) && right.offers(var) {

@@ -2,7 +2,7 @@
 
 ghost use Rattle.std.specs.Prelude.{◌≡◌, ℕ, true, IfOk};
 ghost use Rattle.tick_set.specs.Ticks.{LiesIn};
-ghost use Rattle.relation.specs.Operations.{changed, combined};
+ghost use Rattle.relation.specs.Operations.{changed_between, combined_between};
 
 use fixed_point::{BoundForm, UntilForm};
 use std::alloc::{AllocError, Global};
@@ -43,7 +43,7 @@ impl Operation {
         requires left { LiesIn w.lo w.hi (S.member left.now) }
         requires right { LiesIn w.lo w.hi (S.member right.now) }
         ensures ticks { IfOk result (λ s. (t : ℕ) → S.member s t
-            ≡ combined self w.lo w.hi (S.member left.now) (S.member right.now) t) }
+            ≡ combined_between self w.lo w.hi (S.member left.now) (S.member right.now) t) }
         ensures lies { IfOk result (λ s. LiesIn w.lo w.hi (S.member s)) }
     {
         let set = match self {
@@ -66,7 +66,7 @@ impl Change {
     ) -> Result<S, AllocError>
         requires { LiesIn w.lo w.hi (S.member set.now) }
         ensures ticks { IfOk result (λ s. (t : ℕ) → S.member s t
-            ≡ changed self w.lo w.hi (S.member set.now) t) }
+            ≡ changed_between self w.lo w.hi (S.member set.now) t) }
         ensures lies { IfOk result (λ s. LiesIn w.lo w.hi (S.member s)) }
     {
         let set = match self {

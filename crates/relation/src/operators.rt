@@ -8,9 +8,9 @@ ghost use Rattle.formula_shape.specs.declared.limits.TheConstants.{OBJECT_LIMIT}
 ghost use Rattle.relation.specs.Frames.{IsIn, frame, vars_of_both};
 ghost use Rattle.formula.specs.Resolved.{are_distinct};
 ghost use Rattle.relation.specs.Key.{are_known};
-ghost use Rattle.relation.specs.Operations.{combined};
-ghost use Rattle.relation.specs.Part.{IsPart, part_has};
-ghost use Rattle.relation.specs.Rows.{has};
+ghost use Rattle.relation.specs.Operations.{combined_between};
+ghost use Rattle.relation.specs.Part.{IsRowPart, part_has};
+ghost use Rattle.relation.specs.Rows.{table_has};
 ghost use Rattle.relation.specs.Walk.{covers};
 
 use crate::Relation;
@@ -30,8 +30,8 @@ impl<'d, S: Temporal> Relation<'d, S> {
         requires frame { frame other.now ≡ frame self.now }
         requires left { IsStrictlyIncreasing self.now.vars }
         requires right { IsStrictlyIncreasing other.now.vars }
-        ensures ticks { IfOk result (λ r. (b : ℕ → ℕ) → IsIn self.now.domains b → (t : ℕ) → has S.member r b t
-            ≡ (has S.member self.now b t && has S.member other.now b t)) }
+        ensures ticks { IfOk result (λ r. (b : ℕ → ℕ) → IsIn self.now.domains b → (t : ℕ) → table_has S.member r b t
+            ≡ (table_has S.member self.now b t && table_has S.member other.now b t)) }
         ensures vars { IfOk result (λ r. r.vars ≡ vars_of_both self.now.vars other.now.vars) }
         ensures frame { IfOk result (λ r. frame r ≡ frame self.now) }
     {
@@ -45,8 +45,8 @@ impl<'d, S: Temporal> Relation<'d, S> {
         requires frame { frame other.now ≡ frame self.now }
         requires left { IsStrictlyIncreasing self.now.vars }
         requires right { IsStrictlyIncreasing other.now.vars }
-        ensures ticks { IfOk result (λ r. (b : ℕ → ℕ) → IsIn self.now.domains b → (t : ℕ) → has S.member r b t
-            ≡ (has S.member self.now b t || has S.member other.now b t)) }
+        ensures ticks { IfOk result (λ r. (b : ℕ → ℕ) → IsIn self.now.domains b → (t : ℕ) → table_has S.member r b t
+            ≡ (table_has S.member self.now b t || table_has S.member other.now b t)) }
         ensures vars { IfOk result (λ r. r.vars ≡ vars_of_both self.now.vars other.now.vars) }
         ensures frame { IfOk result (λ r. frame r ≡ frame self.now) }
     {
@@ -66,9 +66,9 @@ impl<'d, S: Temporal> Relation<'d, S> {
         requires frame { frame other.now ≡ frame self.now }
         requires left { IsStrictlyIncreasing self.now.vars }
         requires right { IsStrictlyIncreasing other.now.vars }
-        ensures ticks { IfOk result (λ r. (b : ℕ → ℕ) → IsIn self.now.domains b → (t : ℕ) → has S.member r b t
+        ensures ticks { IfOk result (λ r. (b : ℕ → ℕ) → IsIn self.now.domains b → (t : ℕ) → table_has S.member r b t
             ≡ (within self.now.lo self.now.hi t
-            && until_form_at form c (has S.member self.now b) (has S.member other.now b) self.now.hi t)) }
+            && until_form_at form c (table_has S.member self.now b) (table_has S.member other.now b) self.now.hi t)) }
         ensures vars { IfOk result (λ r. r.vars ≡ vars_of_both self.now.vars other.now.vars) }
         ensures frame { IfOk result (λ r. frame r ≡ frame self.now) }
     {
@@ -78,8 +78,8 @@ impl<'d, S: Temporal> Relation<'d, S> {
 
     /// The ticks of the window that a binding does not have, for each binding of the domains.
     pub fn complement(&self, alloc: Global) -> Result<Self, AllocError>
-        ensures ticks { IfOk result (λ r. (b : ℕ → ℕ) → IsIn self.now.domains b → (t : ℕ) → has S.member r b t
-            ≡ (within self.now.lo self.now.hi t && not (has S.member self.now b t))) }
+        ensures ticks { IfOk result (λ r. (b : ℕ → ℕ) → IsIn self.now.domains b → (t : ℕ) → table_has S.member r b t
+            ≡ (within self.now.lo self.now.hi t && not (table_has S.member self.now b t))) }
         ensures vars { IfOk result (λ r. r.vars ≡ self.now.vars) }
         ensures frame { IfOk result (λ r. frame r ≡ frame self.now) }
     {
@@ -92,8 +92,8 @@ impl<'d, S: Temporal> Relation<'d, S> {
         requires frame { frame other.now ≡ frame self.now }
         requires left { IsStrictlyIncreasing self.now.vars }
         requires right { IsStrictlyIncreasing other.now.vars }
-        ensures ticks { IfOk result (λ r. (b : ℕ → ℕ) → IsIn self.now.domains b → (t : ℕ) → has S.member r b t
-            ≡ combined operation self.now.lo self.now.hi (has S.member self.now b) (has S.member other.now b) t) }
+        ensures ticks { IfOk result (λ r. (b : ℕ → ℕ) → IsIn self.now.domains b → (t : ℕ) → table_has S.member r b t
+            ≡ combined_between operation self.now.lo self.now.hi (table_has S.member self.now b) (table_has S.member other.now b) t) }
         ensures vars { IfOk result (λ r. r.vars ≡ vars_of_both self.now.vars other.now.vars) }
         ensures frame { IfOk result (λ r. frame r ≡ frame self.now) }
     {
@@ -118,8 +118,8 @@ impl<'d, S: Temporal> Relation<'d, S> {
         requires distinct { are_distinct vars.now ≡ true }
         requires left { covers vars.now self.now.vars ≡ true }
         requires right { covers vars.now other.now.vars ≡ true }
-        ensures ticks { IfOk result (λ r. (b : ℕ → ℕ) → IsIn self.now.domains b → (t : ℕ) → has S.member r b t
-            ≡ combined operation self.now.lo self.now.hi (has S.member self.now b) (has S.member other.now b) t) }
+        ensures ticks { IfOk result (λ r. (b : ℕ → ℕ) → IsIn self.now.domains b → (t : ℕ) → table_has S.member r b t
+            ≡ combined_between operation self.now.lo self.now.hi (table_has S.member self.now b) (table_has S.member other.now b) t) }
         ensures vars { IfOk result (λ r. r.vars ≡ vars.now) }
         ensures frame { IfOk result (λ r. frame r ≡ frame self.now) }
     {
@@ -138,8 +138,8 @@ impl<'d, S: Temporal> Relation<'d, S> {
 
     // All rows.
     fn part(&self) -> Part<'_, S>
-        ensures part { IsPart S.member self.now.domains self.now.lo self.now.hi result }
-        ensures same { (b : ℕ → ℕ) (t : ℕ) → part_has S.member result b t ≡ has S.member self.now b t }
+        ensures part { IsRowPart S.member self.now.domains self.now.lo self.now.hi result }
+        ensures same { (b : ℕ → ℕ) (t : ℕ) → part_has S.member result b t ≡ table_has S.member self.now b t }
         ensures vars { result.vars.now ≡ self.now.vars }
         ensures room { result.place + length result.vars.now ≤ OBJECT_LIMIT }
     {

@@ -3,7 +3,7 @@
 ghost use Rattle.std.specs.Prelude.{◌≡◌, ◌≤◌, ◌+◌, ℕ, List, true, length};
 ghost use Rattle.formula_shape.specs.declared.limits.TheConstants.{OBJECT_LIMIT};
 ghost use Rattle.relation.specs.Group.{IsNextIn, ids_at};
-ghost use Rattle.relation.specs.Part.{IsFixed, IsPart, offers, vars_after};
+ghost use Rattle.relation.specs.Part.{IsFixed, IsRowPart, offers, vars_after};
 
 use crate::Row;
 use crate::search::{group, next_in_rows};
@@ -33,7 +33,7 @@ impl<'a, S: Temporal> Part<'a, S> {
     // The first object from `from` on that the rows give the variable, where they tell them.
     #[inline]
     pub(crate) fn next(&self, from: u64) -> Option<u32>
-        ensures { (domains : List (List ℕ)) (lo hi var : ℕ) → IsPart S.member domains lo hi self.now
+        ensures { (domains : List (List ℕ)) (lo hi var : ℕ) → IsRowPart S.member domains lo hi self.now
             → offers var self.now ≡ true → IsNextIn (ids_at self.now.place self.now.rows.now) from result }
     {
         next_in_rows(self.rows, self.place, from)
@@ -44,7 +44,7 @@ impl<'a, S: Temporal> Part<'a, S> {
         requires { self.now.place + length self.now.vars.now ≤ OBJECT_LIMIT }
         ensures room { result.place + length result.vars.now ≡ self.now.place + length self.now.vars.now }
         ensures vars { result.vars.now ≡ vars_after var self.now.vars.now }
-        ensures fixed { (domains : List (List ℕ)) (lo hi : ℕ) → IsPart S.member domains lo hi self.now
+        ensures fixed { (domains : List (List ℕ)) (lo hi : ℕ) → IsRowPart S.member domains lo hi self.now
             → IsFixed S.member domains lo hi var id self.now result }
     {
         match self.vars.split_first() {

@@ -7,8 +7,8 @@ ghost use Rattle.relation.specs.Entries.{AreEntries, IsEntry, entries_have};
 ghost use Rattle.relation.specs.Frames.{frame};
 ghost use Rattle.formula.specs.Resolved.{are_distinct};
 ghost use Rattle.relation.specs.Key.{has_id};
-ghost use Rattle.relation.specs.Projection.{IsPicked, place_of, picked, rows_over};
-ghost use Rattle.relation.specs.Rows.{AreRows, has};
+ghost use Rattle.relation.specs.Projection.{IsPicked, variable_place, picked, rows_over};
+ghost use Rattle.relation.specs.Rows.{AreRows, table_has};
 
 use crate::entries::{Entry, put_groups};
 use crate::{Relation, Row};
@@ -23,9 +23,9 @@ impl<'d, S: Temporal> Relation<'d, S> {
     pub fn project(&self, alloc: Global, vars: &[u8]) -> Result<Self, AllocError>
         requires among { list_all (has_id self.now.vars) vars.now ≡ true }
         requires distinct { are_distinct vars.now ≡ true }
-        ensures all { IfOk result (λ r. (b : ℕ → ℕ) (t : ℕ) → has S.member self.now b t ≡ true
-            → has S.member r b t ≡ true) }
-        ensures some { IfOk result (λ r. (b : ℕ → ℕ) (t : ℕ) → has S.member r b t ≡ true
+        ensures all { IfOk result (λ r. (b : ℕ → ℕ) (t : ℕ) → table_has S.member self.now b t ≡ true
+            → table_has S.member r b t ≡ true) }
+        ensures some { IfOk result (λ r. (b : ℕ → ℕ) (t : ℕ) → table_has S.member r b t ≡ true
             → IsPicked S.member self.now vars.now b t) }
         ensures vars { IfOk result (λ r. r.vars ≡ vars.now) }
         ensures frame { IfOk result (λ r. frame r ≡ frame self.now) }
@@ -95,7 +95,7 @@ fn picked<S>(own: &[u8], row: &Row<S>, vars: &[u8]) -> Binding
 
 // The place of a variable in a list, or the length of the list where it is not there.
 pub(crate) fn place_of(vars: &[u8], var: u8) -> usize
-    ensures { result ≡ place_of vars.now var }
+    ensures { result ≡ variable_place vars.now var }
 {
     let mut place = 0;
     while place < vars.len() && vars[place] != var {

@@ -17,11 +17,12 @@ use Rattle.case_table.specs.Language.{reserved_words}
 use Rattle.case_table.specs.Rows.{code_of}
 use Rattle.fixed_point.specs.Decimal.{AreDigits, digits_at}
 use Rattle.fixed_point.specs.declared.short_text.TheConstants.{WORD_LIMIT}
+use Rattle.fixed_point.specs.Digits.{has_spare_zero}
 use Rattle.ftl_lexer.specs.Cut.{is_word}
 use Rattle.ftl_lexer.specs.Forms.{begins_name, continues_name}
-use Rattle.replica.specs.Line.{row_of, row_parts}
+use Rattle.replica.specs.Line.{row_in_text, row_parts}
 use Rattle.replica.specs.Rows.{run_text}
-use Rattle.replica.specs.Text.{after_text, before_text, cut, has_spare_zero, is_name, is_target, span_of, spans_from, tick_at, tick_of, words}
+use Rattle.replica.specs.Text.{after_text, before_text, cut_at_mark, is_free_name, is_target, span_of, spans_from, tick_at, tick_of, words}
 use Rattle.replica.specs.Ticks.{AreRuns}
 use Rattle.replica.proofs.SpanLemmas.{next_span}
 
@@ -168,19 +169,19 @@ word_continues (b ∷ word) h =
     let parts = and_parts (begins_name b) (list_all continues_name word) h in
     rw (begins_continues b parts.0, parts.1) refl
 
-pub name_continues : (word : List ℕ) → is_name word ≡ true → list_all continues_name word ≡ true
+pub name_continues : (word : List ℕ) → is_free_name word ≡ true → list_all continues_name word ≡ true
 name_continues word h = elim (cases_Bool (is_word word)) [
   | inl good ↦ word_continues word good
   | inr bad ↦ absurd (false≢true (sym (ap (λ b. b && nat_le (length word) WORD_LIMIT && is_none (code_of reserved_words word)) bad) ∙ h))
 ]
 
-pub name_spaceless : (name : List ℕ) → is_name name ≡ true → All (λ b. is_space b ≡ false) name
+pub name_spaceless : (name : List ℕ) → is_free_name name ≡ true → All (λ b. is_space b ≡ false) name
 name_spaceless name h = word_spaceless name (name_continues name h)
 
-names_continue : (ws : List (List ℕ)) → list_all is_name ws ≡ true → list_all (λ w. list_all continues_name w) ws ≡ true
+names_continue : (ws : List (List ℕ)) → list_all is_free_name ws ≡ true → list_all (λ w. list_all continues_name w) ws ≡ true
 names_continue [] h = refl
 names_continue (w ∷ ws) h =
-    let parts = and_parts (is_name w) (list_all is_name ws) h in
+    let parts = and_parts (is_free_name w) (list_all is_free_name ws) h in
     rw (name_continues w parts.0, names_continue ws parts.1) refl
 
 onto_parts : (x : ℕ) (ws : List (List ℕ)) → list_all (λ w. list_all continues_name w) (onto_first x ws) ≡ true
@@ -213,7 +214,7 @@ first_at mark same (x ∷ front) rest free =
 past : (mark : ℕ) (front rest : List ℕ) → drop (length front + 1) (front ++ mark ∷ rest) ≡ rest
 past mark front rest = rw (length-append front (mark ∷ []), append_assoc front (mark ∷ []) rest) at (drop-append_seam (front ++ mark ∷ []) rest)
 
-pub cut_at : (mark : ℕ) → (mark == mark) ≡ true → (front rest : List ℕ) → All (λ b. (b == mark) ≡ false) front → cut mark (front ++ mark ∷ rest) ≡ (front, Some rest)
+pub cut_at : (mark : ℕ) → (mark == mark) ≡ true → (front rest : List ℕ) → All (λ b. (b == mark) ≡ false) front → cut_at_mark mark (front ++ mark ∷ rest) ≡ (front, Some rest)
 cut_at mark same front rest free =
     let inside : ltb (length front) (length (front ++ mark ∷ rest)) ≡ true = grind (arith, nat_tests, length-append front (mark ∷ rest)) in
     rw (first_at mark same front rest free, inside, take-append_seam front (mark ∷ rest), past mark front rest) refl
@@ -224,7 +225,7 @@ none_at mark (x ∷ text) free =
     ap (λ b. cond (not b) (1 + position_or_len (λ b. b == mark) text) 0) (All-head (λ b. (b == mark) ≡ false) x text free)
     ∙ ap (λ n. 1 + n) (none_at mark text (All-tail (λ b. (b == mark) ≡ false) x text free)) ∙ omega arith
 
-pub cut_nowhere : (mark : ℕ) (text : List ℕ) → All (λ b. (b == mark) ≡ false) text → cut mark text ≡ (text, None)
+pub cut_nowhere : (mark : ℕ) (text : List ℕ) → All (λ b. (b == mark) ≡ false) text → cut_at_mark mark text ≡ (text, None)
 cut_nowhere mark text free =
     let outside : ltb (length text) (length text) ≡ false = grind (arith, nat_tests) in
     rw (none_at mark text free, outside) refl
@@ -234,11 +235,11 @@ before_again front =
     let count : length (front ++ 32 ∷ []) - 1 ≡ length front = omega (arith, length-append front (32 ∷ [])) in
     rw (count, drop-append_seam front (32 ∷ []), take-append_seam front (32 ∷ [])) refl
 
-cut_row : (target later : List ℕ) → is_target target ≡ true → cut 58 (target ++ 32 ∷ 58 ∷ later) ≡ (target ++ 32 ∷ [], Some later)
+cut_row : (target later : List ℕ) → is_target target ≡ true → cut_at_mark 58 (target ++ 32 ∷ 58 ∷ later) ≡ (target ++ 32 ∷ [], Some later)
 cut_row target later is =
-    let free = colonless target (names_continue (words target) (and_parts (list_all is_name (words target)) _ is).0) in
+    let free = colonless target (names_continue (words target) (and_parts (list_all is_free_name (words target)) _ is).0) in
     let all = All-append (λ b. is_colon b ≡ false) target (32 ∷ []) free (All-cons (λ b. is_colon b ≡ false) 32 [] refl (All-nil (λ b. is_colon b ≡ false))) in
-    subst (λ text. cut 58 text ≡ (target ++ 32 ∷ [], Some later)) (append_assoc target (32 ∷ []) (58 ∷ later)) (cut_at 58 refl (target ++ 32 ∷ []) later all)
+    subst (λ text. cut_at_mark 58 text ≡ (target ++ 32 ∷ [], Some later)) (append_assoc target (32 ∷ []) (58 ∷ later)) (cut_at 58 refl (target ++ 32 ∷ []) later all)
 
 parts_again : (target ticks : List ℕ) → is_target target ≡ true → row_parts (target ++ 32 ∷ 58 ∷ 32 ∷ ticks) ≡ Some (target, ticks)
 unfolding row_parts
@@ -249,8 +250,8 @@ parts_again target ticks is =
     ∙ ap (λ b. cond b (Some (target, ticks)) None) is
 
 pub row_again : (target : List ℕ) (runs : List (ℕ × ℕ)) → is_target target ≡ true → AreRuns 0 runs → 0 < length runs
-    → row_of (target ++ (codes " :" ++ flat_map run_text runs)) ≡ Some (target, runs)
-unfolding row_of
+    → row_in_text (target ++ (codes " :" ++ flat_map run_text runs)) ≡ Some (target, runs)
+unfolding row_in_text
 row_again target [] is are some = absurd (omega arith)
 row_again target ((lo, hi) ∷ runs) is are some =
     let ticks = span_word (lo, hi) ++ flat_map run_text runs in

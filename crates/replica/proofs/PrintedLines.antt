@@ -8,10 +8,11 @@ use Rattle.std.specs.Str.{bytes_eq}
 use Rattle.exact.specs.Options.{◌>>=◌}
 use Rattle.formula.specs.declared.kind.QueryKind.{QueryKind}
 use Rattle.formula.specs.declared.kind.QueryKind.TheVariants.{Watch, Keep}
-use Rattle.replica.specs.Line.{Told, Starts, Answers, Changes, Passes, Nothing, Broken, is_feed_word, is_time_word, kind_of, line_of, named, row_of, start_of, told_of}
-use Rattle.replica.specs.Printed.{IsTold, ReadsWhatIsPrinted, answer_text, kind_word, told_text}
-use Rattle.replica.specs.Rows.{Row}
-use Rattle.replica.specs.Text.{cut, is_name, tick_of}
+use Rattle.formula.specs.Kinds.{kind_word}
+use Rattle.replica.specs.Line.{ToldLine, Starts, Answers, Changes, Passes, Nothing, Broken, is_feed_word, is_time_word, query_kind, told_by_line, named, row_in_text, start_of, told_of}
+use Rattle.replica.specs.Printed.{IsTellable, ReadsPrintedLines, answer_row_text, told_text}
+use Rattle.replica.specs.Rows.{TargetRow}
+use Rattle.replica.specs.Text.{cut_at_mark, is_free_name, tick_of}
 use Rattle.tick_set.specs.declared.operation.SetOperation.TheVariants.{Union, Without}
 use Rattle.replica.proofs.PrintedLemmas.{clock_again, cut_at, cut_nowhere, name_spaceless, row_again, word_spaceless}
 
@@ -21,35 +22,35 @@ HasNoSpace word = All (λ b. (b == 32) ≡ false) word
 same : (word : List ℕ) → bytes_eq word word ≡ true
 same word = (bytes_eq-Decides word word).1 refl
 
-row_is : (row : Row) → IsTold row → row_of (told_text row) ≡ Some row
+row_is : (row : TargetRow) → IsTellable row → row_in_text (told_text row) ≡ Some row
 row_is row is = row_again row.0 row.1 is.names is.runs is.some
 
 -- by its first word, and what follows it
-by_verb : List ℕ → List ℕ × Option (List ℕ) → Told
+by_verb : List ℕ → List ℕ × Option (List ℕ) → ToldLine
 by_verb name parts =
     cond (bytes_eq parts.0 (codes "clock")) (option_map_or Passes (option_and_then tick_of parts.1) Broken)
-    (cond (is_time_word parts.0) (option_map_or Answers (option_and_then row_of parts.1) Nothing) (option_map_or (named name parts.0) parts.1 Nothing))
+    (cond (is_time_word parts.0) (option_map_or Answers (option_and_then row_in_text parts.1) Nothing) (option_map_or (named name parts.0) parts.1 Nothing))
 
-line_is : (name verb text : List ℕ) → HasNoSpace verb → line_of name (verb ++ 32 ∷ text) ≡ by_verb name (verb, Some text)
-unfolding line_of by_verb
+line_is : (name verb text : List ℕ) → HasNoSpace verb → told_by_line name (verb ++ 32 ∷ text) ≡ by_verb name (verb, Some text)
+unfolding told_by_line by_verb
 line_is name verb text free = ap (λ parts. by_verb name parts) (cut_at 32 refl verb text free)
 
-named_is : (name verb rest : List ℕ) → is_name name ≡ true → named name verb (name ++ 32 ∷ rest) ≡ told_of verb (Some rest)
+named_is : (name verb rest : List ℕ) → is_free_name name ≡ true → named name verb (name ++ 32 ∷ rest) ≡ told_of verb (Some rest)
 named_is name verb rest is =
     ap (λ (parts : List ℕ × Option (List ℕ)). cond (bytes_eq parts.0 name) (told_of verb parts.1) Nothing) (cut_at 32 refl name rest (name_spaceless name is))
     ∙ ap (λ b. cond b (told_of verb (Some rest)) Nothing) (same name)
 
-named_alone : (name verb : List ℕ) → is_name name ≡ true → named name verb name ≡ told_of verb None
+named_alone : (name verb : List ℕ) → is_free_name name ≡ true → named name verb name ≡ told_of verb None
 named_alone name verb is =
     ap (λ (parts : List ℕ × Option (List ℕ)). cond (bytes_eq parts.0 name) (told_of verb parts.1) Nothing) (cut_nowhere 32 name (name_spaceless name is))
     ∙ ap (λ b. cond b (told_of verb None) Nothing) (same name)
 
-other_is : (name other verb rest : List ℕ) → is_name other ≡ true → bytes_eq other name ≡ false → named name verb (other ++ 32 ∷ rest) ≡ Nothing
+other_is : (name other verb rest : List ℕ) → is_free_name other ≡ true → bytes_eq other name ≡ false → named name verb (other ++ 32 ∷ rest) ≡ Nothing
 other_is name other verb rest is differs =
     ap (λ (parts : List ℕ × Option (List ℕ)). cond (bytes_eq parts.0 name) (told_of verb parts.1) Nothing) (cut_at 32 refl other rest (name_spaceless other is))
     ∙ ap (λ b. cond b (told_of verb (Some rest)) Nothing) differs
 
-other_alone : (name other verb : List ℕ) → is_name other ≡ true → bytes_eq other name ≡ false → named name verb other ≡ Nothing
+other_alone : (name other verb : List ℕ) → is_free_name other ≡ true → bytes_eq other name ≡ false → named name verb other ≡ Nothing
 other_alone name other verb is differs =
     ap (λ (parts : List ℕ × Option (List ℕ)). cond (bytes_eq parts.0 name) (told_of verb parts.1) Nothing) (cut_nowhere 32 other (name_spaceless other is))
     ∙ ap (λ b. cond b (told_of verb None) Nothing) differs
@@ -71,8 +72,8 @@ told_nothing word rest h =
     rw (after_start.0, after_gain.0, after_lose.0, after_lose.1) refl
 
 named_nothing : (name word text : List ℕ) → is_feed_word word ≡ false → named name word text ≡ Nothing
-named_nothing name word text h = elim (bytes_eq (cut 32 text).0 name) as (λ (b : Bool). cond b (told_of word (cut 32 text).1) Nothing ≡ Nothing) [
-  | true ↦ told_nothing word (cut 32 text).1 h
+named_nothing name word text h = elim (bytes_eq (cut_at_mark 32 text).0 name) as (λ (b : Bool). cond b (told_of word (cut_at_mark 32 text).1) Nothing ≡ Nothing) [
+  | true ↦ told_nothing word (cut_at_mark 32 text).1 h
   | false ↦ refl
 ]
 
@@ -83,8 +84,8 @@ verb_nothing name word rest h =
     let after_time = neither (is_time_word word) _ after_clock.1 in
     rw (after_clock.0, after_time.0) refl
 
-alone_is : (name word : List ℕ) → HasNoSpace word → line_of name word ≡ by_verb name (word, None)
-unfolding line_of by_verb
+alone_is : (name word : List ℕ) → HasNoSpace word → told_by_line name word ≡ by_verb name (word, None)
+unfolding told_by_line by_verb
 alone_is name word free = ap (λ parts. by_verb name parts) (cut_nowhere 32 word free)
 
 -- ---- First words
@@ -118,16 +119,16 @@ past_word = word_spaceless (codes "past") refl
 start_is : (kind : QueryKind) (clock : ℕ) → clock ≤ 1000000000 → start_of (kind_word kind ++ 32 ∷ decimal clock) ≡ Some (kind, clock)
 unfolding start_of
 start_is Watch clock within =
-    ap (λ (parts : List ℕ × Option (List ℕ)). kind_of parts.0 >>= (λ kind. parts.1 >>= (λ last. tick_of last >>= (λ (n : ℕ). Some (kind, n))))) (cut_at 32 refl (codes "watch") (decimal clock) (word_spaceless (codes "watch") refl))
+    ap (λ (parts : List ℕ × Option (List ℕ)). query_kind parts.0 >>= (λ kind. parts.1 >>= (λ last. tick_of last >>= (λ (n : ℕ). Some (kind, n))))) (cut_at 32 refl (codes "watch") (decimal clock) (word_spaceless (codes "watch") refl))
     ∙ ap (λ (o : Option ℕ). o >>= (λ (n : ℕ). Some (Watch, n))) (clock_again clock within)
 start_is Keep clock within =
-    ap (λ (parts : List ℕ × Option (List ℕ)). kind_of parts.0 >>= (λ kind. parts.1 >>= (λ last. tick_of last >>= (λ (n : ℕ). Some (kind, n))))) (cut_at 32 refl (codes "keep") (decimal clock) (word_spaceless (codes "keep") refl))
+    ap (λ (parts : List ℕ × Option (List ℕ)). query_kind parts.0 >>= (λ kind. parts.1 >>= (λ last. tick_of last >>= (λ (n : ℕ). Some (kind, n))))) (cut_at 32 refl (codes "keep") (decimal clock) (word_spaceless (codes "keep") refl))
     ∙ ap (λ (o : Option ℕ). o >>= (λ (n : ℕ). Some (Keep, n))) (clock_again clock within)
 
-answer_is : (name word : List ℕ) (row : Row) → HasNoSpace word → by_verb name (word, Some (told_text row)) ≡ option_map_or Answers (row_of (told_text row)) Nothing → IsTold row → line_of name (answer_text word row) ≡ Answers row
+answer_is : (name word : List ℕ) (row : TargetRow) → HasNoSpace word → by_verb name (word, Some (told_text row)) ≡ option_map_or Answers (row_in_text (told_text row)) Nothing → IsTellable row → told_by_line name (answer_row_text word row) ≡ Answers row
 answer_is name word row free by is = line_is name word (told_text row) free ∙ by ∙ ap (λ o. option_map_or Answers o Nothing) (row_is row is)
 
-pub reads : (name : List ℕ) → is_name name ≡ true → ReadsWhatIsPrinted name
+pub reads : (name : List ℕ) → is_free_name name ≡ true → ReadsPrintedLines name
 unfolding told_of by_verb
 reads name is = record {
   starts = λ kind clock within. line_is name (codes "start") (name ++ 32 ∷ (kind_word kind ++ 32 ∷ decimal clock)) start_word

@@ -9,12 +9,12 @@ use Rattle.std.specs.declared.cmp.Ordering.TheVariants.{Less, Equal, Greater}
 use Rattle.std.specs.Global.{Vec}
 use Rattle.tick_set.specs.declared.spans.Span.{Span}
 use Rattle.tick_set.specs.Runs.{pairs}
-use Rattle.replica.specs.Rows.{Row, bytes_cmp, ticks_at}
+use Rattle.replica.specs.Rows.{TargetRow, bytes_cmp, ticks_at}
 
 abbrev pub Entry : Type 0
 Entry = Vec ℕ × List Span
 
-abbrev pub row_of_entry : Entry → Row
+abbrev pub row_of_entry : Entry → TargetRow
 row_of_entry e = (e.0.items, pairs e.1)
 
 abbrev pub vec_cmp : Vec ℕ → Vec ℕ → Ordering

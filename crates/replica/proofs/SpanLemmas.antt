@@ -6,7 +6,7 @@ use Rattle.exact.specs.Options.{◌>>=◌}
 use Rattle.tick_set.specs.declared.spans.Span.{Span}
 use Rattle.tick_set.specs.Runs.{pairs, spans_have}
 use Rattle.tick_set.proofs.RunLemmas.{spans_have-append}
-use Rattle.replica.specs.Text.{cut, span_of, spans_from, words}
+use Rattle.replica.specs.Text.{cut_at_mark, span_of, spans_from, words}
 use Rattle.replica.proofs.WordLemmas.{words_are, words_left}
 
 no_span : (least : ℕ) (word : List ℕ) (later : List (List ℕ)) → span_of word ≡ None → spans_from least (word ∷ later) ≡ None
@@ -37,19 +37,19 @@ abbrev pub AreSoFar : Option (List (ℕ × ℕ)) → List Span → ℕ → List 
 AreSoFar all spans least left = all ≡ option_map (λ later. pairs spans ++ later) (spans_from least left)
 
 pub stops_without : (all : Option (List (ℕ × ℕ))) (spans : List Span) (least : ℕ) (left word : List ℕ) (later : Option (List ℕ)) → AreSoFar all spans least (words left)
-    → (word, later) ≡ cut 32 left → span_of word ≡ None → None ≡ all
+    → (word, later) ≡ cut_at_mark 32 left → span_of word ≡ None → None ≡ all
 stops_without all spans least left word later so_far h none =
     sym (so_far ∙ ap (λ ws. option_map (λ later. pairs spans ++ later) (spans_from least ws)) (words_are left word later h)
     ∙ ap (λ o. option_map (λ later. pairs spans ++ later) o) (no_span least word (words_left later) none))
 
 pub stops_early : (all : Option (List (ℕ × ℕ))) (spans : List Span) (least : ℕ) (left word : List ℕ) (later : Option (List ℕ)) (s : Span) → AreSoFar all spans least (words left)
-    → (word, later) ≡ cut 32 left → Some (s.lo, s.hi) ≡ span_of word → s.lo < least → None ≡ all
+    → (word, later) ≡ cut_at_mark 32 left → Some (s.lo, s.hi) ≡ span_of word → s.lo < least → None ≡ all
 stops_early all spans least left word later s so_far h found early =
     sym (so_far ∙ ap (λ ws. option_map (λ later. pairs spans ++ later) (spans_from least ws)) (words_are left word later h)
     ∙ ap (λ o. option_map (λ later. pairs spans ++ later) o) (early_span least s.lo s.hi word (words_left later) (sym found) (grind (arith, nat_tests))))
 
 pub goes_on : (all : Option (List (ℕ × ℕ))) (spans : List Span) (least : ℕ) (left word : List ℕ) (later : Option (List ℕ)) (s : Span) → AreSoFar all spans least (words left)
-    → (word, later) ≡ cut 32 left → Some (s.lo, s.hi) ≡ span_of word → least ≤ s.lo → AreSoFar all (spans ++ s ∷ []) (s.hi + 2) (words_left later)
+    → (word, later) ≡ cut_at_mark 32 left → Some (s.lo, s.hi) ≡ span_of word → least ≤ s.lo → AreSoFar all (spans ++ s ∷ []) (s.hi + 2) (words_left later)
 goes_on all spans least left word later s so_far h found fits =
     so_far ∙ ap (λ ws. option_map (λ later. pairs spans ++ later) (spans_from least ws)) (words_are left word later h)
     ∙ ap (λ o. option_map (λ later. pairs spans ++ later) o) (next_span least s.lo s.hi word (words_left later) (sym found) (grind (arith, nat_tests)))

@@ -4,23 +4,23 @@ use Rattle.formula.specs.declared.kind.QueryKind.{QueryKind}
 use Rattle.formula.specs.declared.kind.QueryKind.TheVariants.{Watch, Keep}
 use Rattle.tick_set.specs.declared.operation.SetOperation.{SetOperation}
 use Rattle.tick_set.specs.declared.operation.SetOperation.TheVariants.{Union}
-use Rattle.replica.specs.Line.{Told, Starts, Answers, Changes, Passes, Stops, Nothing, Broken}
-use Rattle.replica.specs.Rows.{AreInOrder, Row, changed, rows_text}
+use Rattle.replica.specs.Line.{ToldLine, Starts, Answers, Changes, Passes, Stops, Nothing, Broken}
+use Rattle.replica.specs.Rows.{AreInOrder, TargetRow, rows_after_told, target_rows_text}
 use Rattle.replica.specs.declared.copied.Copied.{Copied}
 
-abbrev pub begun : QueryKind → ℕ → Copied
-begun kind clock = record { kind = kind; clock = clock; rows = [] }
+abbrev pub begun_copy : QueryKind → ℕ → Copied
+begun_copy kind clock = record { kind = kind; clock = clock; rows = [] }
 
-abbrev pub with_change : SetOperation → Row → Copied → Copied
+abbrev pub with_change : SetOperation → TargetRow → Copied → Copied
 with_change operation row copied =
-    record { kind = copied.kind; clock = copied.clock; rows = changed operation row copied.rows }
+    record { kind = copied.kind; clock = copied.clock; rows = rows_after_told operation row copied.rows }
 
 abbrev pub at_clock : ℕ → Copied → Copied
 at_clock clock copied = record { kind = copied.kind; clock = clock; rows = copied.rows }
 
 -- rows of an answer count where they follow the line that began the query
-abbrev pub copy_after : Bool → Option Copied → Told → Option Copied
-copy_after starting copy (Starts kind clock) = Some (begun kind clock)
+abbrev pub copy_after : Bool → Option Copied → ToldLine → Option Copied
+copy_after starting copy (Starts kind clock) = Some (begun_copy kind clock)
 copy_after starting copy (Answers row) = if starting then option_map (with_change Union row) copy else copy
 copy_after starting copy (Changes operation row) = option_map (with_change operation row) copy
 copy_after starting copy (Passes clock) = option_map (at_clock clock) copy
@@ -29,7 +29,7 @@ copy_after starting copy Nothing = copy
 copy_after starting copy Broken = copy
 
 -- whether rows may follow
-abbrev pub starting_after : Bool → Told → Bool
+abbrev pub starting_after : Bool → ToldLine → Bool
 starting_after starting (Starts kind clock) = true
 starting_after starting (Answers row) = starting
 starting_after starting (Changes operation row) = false
@@ -39,12 +39,12 @@ starting_after starting Nothing = false
 starting_after starting Broken = false
 
 -- a watched query is told from its clock on
-abbrev pub first_tick : QueryKind → ℕ → ℕ
-first_tick Watch clock = clock
-first_tick Keep clock = 0
+abbrev pub first_copied_tick : QueryKind → ℕ → ℕ
+first_copied_tick Watch clock = clock
+first_copied_tick Keep clock = 0
 
 abbrev pub copy_text : Copied → List ℕ
-copy_text copied = rows_text (first_tick copied.kind copied.clock) copied.rows
+copy_text copied = target_rows_text (first_copied_tick copied.kind copied.clock) copied.rows
 
 -- the rows of a copy, where there is one, ascend by the bytes of their targets
 abbrev pub HasRowsInOrder : Option Copied → Type 0

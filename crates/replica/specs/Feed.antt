@@ -2,7 +2,7 @@
 use Rattle.std.specs.Prelude.{ℕ, ◌+◌, Bool, true, false, is_some, Option, Some, None, List, [], ◌∷◌, ◌++◌, codes, decimal, if◌then◌else◌}
 use Rattle.std.specs.Option.{option_map_or}
 use Rattle.replica.specs.Copied.{copy_after, copy_text, starting_after}
-use Rattle.replica.specs.Line.{Told, Starts, Answers, Changes, Passes, Stops, Nothing, Broken, line_of}
+use Rattle.replica.specs.Line.{ToldLine, Starts, Answers, Changes, Passes, Stops, Nothing, Broken, told_by_line}
 use Rattle.replica.specs.Rows.{line_feed}
 use Rattle.replica.specs.declared.copied.Copied.{Copied}
 
@@ -18,7 +18,7 @@ pub record Hearing : Type 0 where
 abbrev pub silent : List ℕ → Hearing
 silent name = record { name = name; copy = None; starting = false; lines = 0; bad = None }
 
-abbrev pub is_broken : Told → Bool
+abbrev pub is_broken : ToldLine → Bool
 is_broken (Starts kind clock) = false
 is_broken (Answers row) = false
 is_broken (Changes operation row) = false
@@ -27,7 +27,7 @@ is_broken Stops = false
 is_broken Nothing = false
 is_broken Broken = true
 
-abbrev pub taken : Hearing → Told → Hearing
+abbrev pub taken : Hearing → ToldLine → Hearing
 taken h told = record {
   name = h.name;
   copy = copy_after h.starting h.copy told;
@@ -37,12 +37,12 @@ taken h told = record {
 }
 
 -- after a line that hasn't its form no more are taken
-abbrev pub next : Hearing → List ℕ → Hearing
-next h line = if is_some h.bad then h else taken h (line_of h.name line)
+abbrev pub next_hearing : Hearing → List ℕ → Hearing
+next_hearing h line = if is_some h.bad then h else taken h (told_by_line h.name line)
 
-abbrev pub after : Hearing → List (List ℕ) → Hearing
-after h [] = h
-after h (line ∷ lines) = after (next h line) lines
+abbrev pub hearing_after : Hearing → List (List ℕ) → Hearing
+hearing_after h [] = h
+hearing_after h (line ∷ lines) = hearing_after (next_hearing h line) lines
 
 -- what is written at the end: the rows, or which line hasn't its form
 abbrev pub said : Hearing → List ℕ

@@ -11,22 +11,22 @@ use Rattle.tick_set.specs.declared.operation.SetOperation.{SetOperation}
 use Rattle.replica.specs.Ticks.{combined}
 
 -- a target and its ticks
-abbrev pub Row : Type 0
-Row = List ℕ × List (ℕ × ℕ)
+abbrev pub TargetRow : Type 0
+TargetRow = List ℕ × List (ℕ × ℕ)
 
 abbrev pub bytes_cmp : List ℕ → List ℕ → Ordering
 bytes_cmp = slice_cmp nat_cmp
 
 -- the ticks of a target; one that has no row has none
-abbrev pub ticks_at : List ℕ → List Row → List (ℕ × ℕ)
+abbrev pub ticks_at : List ℕ → List TargetRow → List (ℕ × ℕ)
 ticks_at target rows = unwrap_or (lookup (is_at (bytes_cmp target)) rows) []
 
 -- the ticks told of a target are added to its row or taken from it
-abbrev pub changed : SetOperation → Row → List Row → List Row
-changed operation told rows = insert_entry bytes_cmp rows told.0 (combined operation (ticks_at told.0 rows) told.1)
+abbrev pub rows_after_told : SetOperation → TargetRow → List TargetRow → List TargetRow
+rows_after_told operation told rows = insert_entry bytes_cmp rows told.0 (combined operation (ticks_at told.0 rows) told.1)
 
 -- the targets ascend by their bytes
-abbrev pub AreInOrder : List Row → Type 0
+abbrev pub AreInOrder : List TargetRow → Type 0
 AreInOrder rows = IsStrictlySortedBy bytes_cmp (keys_of rows)
 
 -- ---- As text, with the ticks from one on alone
@@ -42,9 +42,9 @@ abbrev pub span_text : ℕ → ℕ × ℕ → List ℕ
 span_text first span = if nat_le first span.1 then run_text (max first span.0, span.1) else []
 
 -- `a b : 4..10`; a row without ticks isn't written
-abbrev pub row_text : ℕ → Row → List ℕ
-row_text first row =
+abbrev pub target_row_text : ℕ → TargetRow → List ℕ
+target_row_text first row =
     if list_any (λ s. nat_le first s.1) row.1 then row.0 ++ codes " :" ++ flat_map (span_text first) row.1 ++ line_feed else []
 
-abbrev pub rows_text : ℕ → List Row → List ℕ
-rows_text first rows = flat_map (row_text first) rows
+abbrev pub target_rows_text : ℕ → List TargetRow → List ℕ
+target_rows_text first rows = flat_map (target_row_text first) rows

@@ -1,5 +1,5 @@
 -- What ticks, spans, names and targets are written as. The byte 32 is a space, 46 a point, 48 is `0` and 58 a colon.
-use Rattle.std.specs.Prelude.{ℕ, ◌+◌, ◌-◌, ◌==◌, ◌&&◌, not, nat_le, is_none, Bool, Option, Some, None, List, [], ◌∷◌, codes, length, take, drop, position, slice_index, if◌then◌else◌, ◌≡◌}
+use Rattle.std.specs.Prelude.{ℕ, ◌+◌, ◌-◌, ◌==◌, ◌&&◌, not, nat_le, is_none, Bool, Option, Some, None, List, [], ◌∷◌, codes, length, take, drop, position, if◌then◌else◌, ◌≡◌}
 use Rattle.std.specs.List.{list_all, slice_split}
 use Rattle.std.specs.Option.{option_map_or}
 use Rattle.std.specs.Str.{bytes_eq}
@@ -10,13 +10,14 @@ use Rattle.case_table.specs.Rows.{code_of}
 use Rattle.fixed_point.specs.Decimal.{digits_at}
 use Rattle.fixed_point.specs.declared.reading.TheConstants.{WHOLE_DIGITS_LIMIT}
 use Rattle.fixed_point.specs.declared.short_text.TheConstants.{WORD_LIMIT}
+use Rattle.fixed_point.specs.Digits.{has_spare_zero}
 use Rattle.formula_shape.specs.declared.limits.TheConstants.{OBJECT_LIMIT}
 use Rattle.ftl_lexer.specs.Cut.{is_word}
 use Rattle.tick_set.specs.declared.spans.TheConstants.{LAST_TICK}
 
 -- what stands before the first of these bytes, and what after it, where there is one
-abbrev pub cut : ℕ → List ℕ → List ℕ × Option (List ℕ)
-cut mark text = option_map_or (λ i. (take i text, Some (drop (i + 1) text))) (position (λ b. b == mark) text) (text, None)
+abbrev pub cut_at_mark : ℕ → List ℕ → List ℕ × Option (List ℕ)
+cut_at_mark mark text = option_map_or (λ i. (take i text, Some (drop (i + 1) text))) (position (λ b. b == mark) text) (text, None)
 
 -- what single spaces separate
 abbrev pub words : List ℕ → List (List ℕ)
@@ -31,9 +32,6 @@ before_text end text =
     let count = length text - length end in if bytes_eq (drop count text) end then Some (take count text) else None
 
 -- ---- Ticks and spans
-
-abbrev pub has_spare_zero : List ℕ → Bool
-has_spare_zero digits = slice_index digits 0 == 48 && not (length digits == 1)
 
 -- a tick at the front, without zeros before it, and what follows it
 unfoldable pub tick_at : List ℕ → Option (ℕ × List ℕ)
@@ -66,12 +64,12 @@ spans_from least (word ∷ later) = do
 -- ---- Names and targets
 
 -- a name that isn't reserved
-abbrev pub is_name : List ℕ → Bool
-is_name word = is_word word && nat_le (length word) WORD_LIMIT && is_none (code_of reserved_words word)
+abbrev pub is_free_name : List ℕ → Bool
+is_free_name word = is_word word && nat_le (length word) WORD_LIMIT && is_none (code_of reserved_words word)
 
 -- the names of target objects
 abbrev pub is_target : List ℕ → Bool
-is_target text = list_all is_name (words text) && nat_le (length (words text)) OBJECT_LIMIT
+is_target text = list_all is_free_name (words text) && nat_le (length (words text)) OBJECT_LIMIT
 
 -- what is written to the end of a buffer leaves what was there in front
 abbrev pub Begins : List ℕ → List ℕ → Type 0

@@ -1,7 +1,7 @@
 //! The copy of an answer, and what a line makes of it.
 ghost use Rattle.std.specs.Prelude.{◌≡◌, ◌++◌, option_map, OnOk, OnErr};
 ghost use Rattle.replica.specs.Text.{Begins};
-ghost use Rattle.replica.specs.Copied.{at_clock, begun, copy_after, copy_text, first_tick, starting_after, with_change};
+ghost use Rattle.replica.specs.Copied.{at_clock, begun_copy, copy_after, copy_text, first_copied_tick, starting_after, with_change};
 ghost use Rattle.replica.specs.Feed.{is_broken};
 ghost use Rattle.replica.specs.Messages.{row_view, told_view};
 
@@ -21,7 +21,7 @@ pub(crate) struct Copied {
 
 impl Copied {
     fn begun(alloc: Global, kind: QueryKind, clock: u32) -> Copied
-        ensures { result ≡ begun kind clock }
+        ensures { result ≡ begun_copy kind clock }
     {
         Copied {
             kind,
@@ -32,7 +32,7 @@ impl Copied {
 
     // The first tick that is told.
     fn first_tick(&self) -> u32
-        ensures { result ≡ first_tick self.now.kind self.now.clock }
+        ensures { result ≡ first_copied_tick self.now.kind self.now.clock }
     {
         match self.kind {
             QueryKind::Watch => self.clock,

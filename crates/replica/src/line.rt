@@ -1,7 +1,7 @@
 //! What a line says of the query that is followed.
 ghost use Rattle.std.specs.Prelude.{◌≡◌, ◌||◌, option_and_then, option_map, is_none, if◌then◌else◌, IfOk};
 ghost use Rattle.std.specs.Option.{option_map_or};
-ghost use Rattle.replica.specs.Line.{is_time_word, kind_of, line_of, named, row_of, row_parts, start_of, told_of};
+ghost use Rattle.replica.specs.Line.{is_time_word, named, query_kind, row_in_text, row_parts, start_of, told_by_line, told_of};
 ghost use Rattle.replica.specs.Line as told;
 ghost use Rattle.replica.specs.Text.{tick_of};
 ghost use Rattle.replica.specs.Messages.{row_view, told_view};
@@ -48,9 +48,9 @@ fn row_parts(text: &[u8]) -> Option<(&[u8], &[u8])>
 }
 
 // `a b : 1..4 7..9`.
-#[tactic(auto, unfolding(crate::specs::Line::row_of))]
+#[tactic(auto, unfolding(crate::specs::Line::row_in_text))]
 fn row_of(alloc: Global, text: &[u8]) -> Result<Option<ToldRow>, AllocError>
-    ensures { IfOk result (λ found. option_map row_view found ≡ row_of text.now) }
+    ensures { IfOk result (λ found. option_map row_view found ≡ row_in_text text.now) }
 {
     let Some((target, ticks)) = row_parts(text) else {
         return Ok(None);
@@ -66,7 +66,7 @@ fn row_of(alloc: Global, text: &[u8]) -> Result<Option<ToldRow>, AllocError>
 
 // What follows as a row.
 fn row_in(alloc: Global, rest: Option<&[u8]>) -> Result<Option<ToldRow>, AllocError>
-    ensures { IfOk result (λ found. option_map row_view found ≡ (option_and_then row_of (option_map (λ text. text.now) rest.entry))) }
+    ensures { IfOk result (λ found. option_map row_view found ≡ (option_and_then row_in_text (option_map (λ text. text.now) rest.entry))) }
 {
     match rest {
         Some(text) => row_of(alloc, text),
@@ -75,7 +75,7 @@ fn row_in(alloc: Global, rest: Option<&[u8]>) -> Result<Option<ToldRow>, AllocEr
 }
 
 fn kind_of(word: &[u8]) -> Option<QueryKind>
-    ensures { result ≡ kind_of word.now }
+    ensures { result ≡ query_kind word.now }
 {
     if is(word, b"watch") {
         Some(QueryKind::Watch)
@@ -123,7 +123,7 @@ fn changes(
     operation: SetOperation,
     rest: Option<&[u8]>,
 ) -> Result<Message, AllocError>
-    ensures { IfOk result (λ m. told_view m ≡ option_map_or (told.Changes operation) (option_and_then row_of (option_map (λ text. text.now) rest.entry)) told.Broken) }
+    ensures { IfOk result (λ m. told_view m ≡ option_map_or (told.Changes operation) (option_and_then row_in_text (option_map (λ text. text.now) rest.entry)) told.Broken) }
 {
     match row_in(alloc, rest)? {
         Some(row) => Ok(Message::Changes(operation, row)),
@@ -133,7 +133,7 @@ fn changes(
 
 // What follows as a row of an answer.
 fn answers(alloc: Global, rest: Option<&[u8]>) -> Result<Message, AllocError>
-    ensures { IfOk result (λ m. told_view m ≡ option_map_or told.Answers (option_and_then row_of (option_map (λ text. text.now) rest.entry)) told.Nothing) }
+    ensures { IfOk result (λ m. told_view m ≡ option_map_or told.Answers (option_and_then row_in_text (option_map (λ text. text.now) rest.entry)) told.Nothing) }
 {
     match row_in(alloc, rest)? {
         Some(row) => Ok(Message::Answers(row)),
@@ -187,9 +187,9 @@ fn is_time_word(word: &[u8]) -> bool
 }
 
 /// What a line says of the query of this name.
-#[tactic(auto, unfolding(crate::specs::Line::line_of))]
+#[tactic(auto, unfolding(crate::specs::Line::told_by_line))]
 pub(crate) fn line_of(alloc: Global, name: &[u8], line: &[u8]) -> Result<Message, AllocError>
-    ensures { IfOk result (λ m. told_view m ≡ line_of name.now line.now) }
+    ensures { IfOk result (λ m. told_view m ≡ told_by_line name.now line.now) }
 {
     let (verb, rest) = cut(b' ', line);
     if is(verb, b"clock") {

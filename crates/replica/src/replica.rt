@@ -1,7 +1,7 @@
 //! The replica of one query's answer.
 ghost use Rattle.std.specs.Prelude.{◌≡◌, ◌++◌, ◌+◌, decimal, codes, Some, is_some, OnOk, OnErr, IfOk};
 ghost use Rattle.replica.specs.Text.{Begins};
-ghost use Rattle.replica.specs.Feed.{next, said, silent};
+ghost use Rattle.replica.specs.Feed.{next_hearing, said, silent};
 ghost use Rattle.replica.specs.Rows.{line_feed};
 
 use crate::copied::{Copied, is_broken, starting_after, take};
@@ -47,7 +47,7 @@ impl Replica {
     /// Takes a line, without its end. After an error the replica is as before: where memory is out, or the lines can't
     /// be counted any more.
     pub fn hear(&mut self, line: &[u8]) -> Result<(), AllocError>
-        ensures ok { OnOk result (self.new ≡ next self.old line.now) }
+        ensures ok { OnOk result (self.new ≡ next_hearing self.old line.now) }
         ensures err { OnErr result (self.new ≡ self.old) }
     {
         if self.bad.is_some() {

@@ -6,7 +6,7 @@ ghost use Rattle.tick_set.specs.Runs.{IsNormal, pairs, spans_have};
 ghost use Rattle.tick_set.specs.SetOperation.{kept};
 ghost use Rattle.replica.specs.Text.{Begins};
 ghost use Rattle.replica.specs.Messages.{row_view};
-ghost use Rattle.replica.specs.Rows.{bytes_cmp, changed, row_text, rows_text, run_text, span_text, ticks_at};
+ghost use Rattle.replica.specs.Rows.{bytes_cmp, rows_after_told, run_text, span_text, target_row_text, target_rows_text, ticks_at};
 ghost use Rattle.replica.specs.Ticks.{StayBefore, combined};
 
 use crate::fronts::{front_len, joined};
@@ -59,7 +59,7 @@ impl Rows {
         operation: SetOperation,
         told: ToldRow,
     ) -> Result<(), AllocError>
-        ensures ok { OnOk result (self.new ≡ changed operation (row_view told) self.old) }
+        ensures ok { OnOk result (self.new ≡ rows_after_told operation (row_view told) self.old) }
         ensures err { OnErr result (self.new ≡ self.old) }
     {
         let ticks = ticks_after(&self.ticks, alloc, operation, &told)?;
@@ -69,7 +69,7 @@ impl Rows {
     /// Writes each row that has a tick from `first` on, with those ticks.
     #[tactic(auto, using(crate::proofs::BeginLemmas::begins_through, crate::proofs::BeginLemmas::begins_more))]
     pub fn push_text(&self, first: u32, out: &mut Vec<u8>) -> Result<(), AllocError>
-        ensures ok { OnOk result (out.new.items ≡ out.old.items ++ rows_text first self.now) }
+        ensures ok { OnOk result (out.new.items ≡ out.old.items ++ target_rows_text first self.now) }
         ensures begins { Begins out.old.items out.new.items }
     {
         for (target, ticks) in &self.ticks {
@@ -196,7 +196,7 @@ fn tail_after(
 
 #[tactic(auto, using(crate::proofs::BeginLemmas::begins_through, crate::proofs::BeginLemmas::begins_more))]
 fn push_row(first: u32, target: &[u8], spans: &[Span], out: &mut Vec<u8>) -> Result<(), AllocError>
-    ensures ok { OnOk result (out.new.items ≡ out.old.items ++ row_text first (target.now, pairs spans.now)) }
+    ensures ok { OnOk result (out.new.items ≡ out.old.items ++ target_row_text first (target.now, pairs spans.now)) }
     ensures begins { Begins out.old.items out.new.items }
 {
     if !has_from(first, spans) {

@@ -6,11 +6,12 @@ ghost use Rattle.std.specs.Str.{bytes_eq};
 ghost use Rattle.std.specs.Str.Parse.{digits_value};
 ghost use Rattle.fixed_point.specs.Decimal.{AreDigits, digits_at};
 ghost use Rattle.fixed_point.specs.declared.reading.TheConstants.{WHOLE_DIGITS_LIMIT};
+ghost use Rattle.fixed_point.specs.Digits.{has_spare_zero};
 ghost use Rattle.ftl_lexer.specs.Cut.{is_word};
 ghost use Rattle.ftl_lexer.specs.Forms.{begins_name, continues_name};
 ghost use Rattle.tick_set.specs.Runs.{IsNormal, pairs};
 ghost use Rattle.tick_set.specs.declared.spans.TheConstants.{LAST_TICK};
-ghost use Rattle.replica.specs.Text.{after_text, before_text, cut, has_spare_zero, is_name, is_target, span_of, spans_from, tick_at, tick_of, words};
+ghost use Rattle.replica.specs.Text.{after_text, before_text, cut_at_mark, is_free_name, is_target, span_of, spans_from, tick_at, tick_of, words};
 
 use case_table::reserved_code;
 use fixed_point::{WHOLE_DIGITS_LIMIT, WORD_LIMIT};
@@ -28,7 +29,7 @@ fn place_of(mark: u8, text: &[u8]) -> Option<usize>
 
 /// What stands before the first of these bytes, and what after it, where there is one.
 pub(crate) fn cut(mark: u8, text: &[u8]) -> (&[u8], Option<&[u8]>)
-    ensures value { (result.0.now, option_map (λ later. later.now) result.1) ≡ cut mark text.now }
+    ensures value { (result.0.now, option_map (λ later. later.now) result.1) ≡ cut_at_mark mark text.now }
     ensures shorter { IfSome result.1 (λ later. length later.now < length text.now) }
 {
     match place_of(mark, text) {
@@ -188,13 +189,13 @@ fn is_word(word: &[u8]) -> bool
 
 // A name that isn't reserved.
 fn is_name(word: &[u8]) -> bool
-    ensures { result ≡ is_name word.now }
+    ensures { result ≡ is_free_name word.now }
 {
     is_word(word) && word.len() <= WORD_LIMIT && reserved_code(word).is_none()
 }
 
 fn are_names(text: &[u8]) -> bool
-    ensures { result ≡ list_all is_name (words text.now) }
+    ensures { result ≡ list_all is_free_name (words text.now) }
 {
     let mut rest = Some(text);
     'words: while let Some(left) = rest {

@@ -1,6 +1,6 @@
 //! The lines of `list`.
 ghost use Rattle.std.specs.Prelude.{◌≡◌, ◌++◌, OnOk};
-ghost use Rattle.line_meaning.specs.Reply.{class_counts, clock_line, counted, region_counts};
+ghost use Rattle.line_meaning.specs.Reply.{class_counts, clock_line, counted_text, region_counts};
 ghost use Rattle.reply_text.specs.Begins.{Begins};
 
 use crate::buffer::{push, push_whole};
@@ -21,7 +21,7 @@ pub fn push_clock(clock: u32, out: &mut Vec<u8>) -> Result<(), AllocError>
 /// Writes a word, a name, and a number after it.
 #[tactic(auto, using(crate::proofs::BeginLemmas::begins_through, crate::proofs::BeginLemmas::begins_more))]
 fn push_counted(word: &[u8], name: &Word, number: u64, out: &mut Vec<u8>) -> Result<(), AllocError>
-    ensures ok { OnOk result (out.new.items ≡ out.old.items ++ counted word.now name.now number) }
+    ensures ok { OnOk result (out.new.items ≡ out.old.items ++ counted_text word.now name.now number) }
     ensures begins { Begins out.old.items out.new.items }
 {
     push(out, word)?;

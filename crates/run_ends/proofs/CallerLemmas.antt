@@ -13,14 +13,14 @@ use Rattle.line_loop.specs.Machine.{Machine, Failures}
 use Rattle.line_loop.specs.Stop.{WritesAll}
 use Rattle.run_ends.specs.declared.status.Status.{Status}
 use Rattle.run_ends.specs.declared.status.Status.TheVariants.{Done, BadWords, BadSession, ReadFault, WriteFault, ShelfFault, NoMemory, InputLimit}
-use Rattle.run_ends.specs.Ends.{AnswersUntil, EndsAs, IsAsBefore, IsPart, IsSaid, IsSaidInPart, IsWhole, IsWholeOrPart, NoneRose, Seen, Setting, says_all, whole_of}
+use Rattle.run_ends.specs.Ends.{AnswersUntil, EndsAs, IsAsBefore, IsOutputPart, IsSaid, IsSaidInPart, IsWhole, IsWholeOrPart, NoneRose, Seen, Setting, says_all, whole_run_of}
 use Rattle.run_ends.specs.Saying.{status_said}
-use Rattle.run_ends.specs.Status.{HasCause, ending_by, status_of}
-use Rattle.run_ends.specs.Whole.{Plan, Says, Answers, Whole, whole}
+use Rattle.run_ends.specs.Status.{HasStatusCause, ending_by, status_of}
+use Rattle.run_ends.specs.Whole.{Plan, Says, Answers, Whole, whole_run}
 
 -- ---- What is blamed, and what is taken
 
-pub answered_cause : (ending : Ending) (old new : Counts) → loop.EndsWithCause ending old new → HasCause (status_of ending) old new
+pub answered_cause : (ending : Ending) (old new : Counts) → loop.EndsWithCause ending old new → HasStatusCause (status_of ending) old new
 answered_cause endings.Done old new h = h
 answered_cause endings.ReadFault old new h = h
 answered_cause endings.WriteFault old new h = h
@@ -73,7 +73,7 @@ said_within end (Ok u) is = saying_within end is
 said_within end (Err fails.Failed) is = refl
 said_within end (Err fails.NoMemory) is = refl
 
-saying_cause : (end : Status) (old new : Counts) → is_saying end ≡ true → new ≡ old → HasCause end old new
+saying_cause : (end : Status) (old new : Counts) → is_saying end ≡ true → new ≡ old → HasStatusCause end old new
 saying_cause Done old new is same = same
 saying_cause BadWords old new is same = same
 saying_cause BadSession old new is same = same
@@ -84,7 +84,7 @@ saying_cause NoMemory old new is same = same
 saying_cause InputLimit old new is same = same
 
 pub said_cause : (end : Status) (result : Result (Unit {0}) OutFail) (old new : Counts) → is_saying end ≡ true →
-    new.source ≡ old.source → new.context ≡ old.context → HasCauseOrNoMemory old.sink new.sink result → HasCause (status_said end result) old new
+    new.source ≡ old.source → new.context ≡ old.context → HasCauseOrNoMemory old.sink new.sink result → HasStatusCause (status_said end result) old new
 said_cause end (Ok u) old new is source context same =
     saying_cause end old new is (λ i. record { source = source i; sink = same i; context = context i })
 said_cause end (Err fails.Failed) old new is source context rose = (rose, source, context)
@@ -126,11 +126,11 @@ module _ {T : Type 0} (m : Machine T) (leaves : Failures T) (tells : T → Texts
 
 module _ {T : Type 0} (m : Machine T) (leaves : Failures T) (tells : T → Texts) (g : Setting T) (after : Seen) where
   abbrev by_plan : Plan T → Whole
-  by_plan plan = whole m tells plan g.texts g.limit g.bytes
+  by_plan plan = whole_run m tells plan g.texts g.limit g.bytes
 
   said_whole : (status : Status) → IsSaid g status after → IsWhole m tells g status after
   said_whole status h =
-      let all : whole_of m tells g ≡ by_plan (Says h.said status) = ap by_plan h.plan in record {
+      let all : whole_run_of m tells g ≡ by_plan (Says h.said status) = ap by_plan h.plan in record {
         status_is = sym (ap (λ (w : Whole). w.status) all);
         output = h.output ∙ ap (λ (w : Whole). Some (g.written ++ w.output)) (sym all);
         texts_are = h.texts_stay ∙ ap (λ (w : Whole). Some w.texts) (sym all);
@@ -138,7 +138,7 @@ module _ {T : Type 0} (m : Machine T) (leaves : Failures T) (tells : T → Texts
 
   done_whole : AnswersUntil m leaves tells g endings.Done after → IsWhole m tells g Done after
   done_whole h =
-      let all : whole_of m tells g ≡ by_plan (Answers h.start) = ap by_plan h.plan in record {
+      let all : whole_run_of m tells g ≡ by_plan (Answers h.start) = ap by_plan h.plan in record {
         status_is = ap (λ cut. if cut then InputLimit else Done) (sym h.ends.whole) ∙ ap (λ (w : Whole). w.status) (sym all);
         output = h.ends.reached.has_written ∙ ap (λ (w : Whole). Some (g.written ++ w.output)) (sym all);
         texts_are = h.texts_are ∙ ap (option_map tells) h.ends.reached.in_state ∙ ap (λ (w : Whole). Some w.texts) (sym all);
@@ -146,27 +146,27 @@ module _ {T : Type 0} (m : Machine T) (leaves : Failures T) (tells : T → Texts
 
   limit_whole : AnswersUntil m leaves tells g endings.InputLimit after → IsWhole m tells g InputLimit after
   limit_whole h =
-      let all : whole_of m tells g ≡ by_plan (Answers h.start) = ap by_plan h.plan in record {
+      let all : whole_run_of m tells g ≡ by_plan (Answers h.start) = ap by_plan h.plan in record {
         status_is = ap (λ cut. if cut then InputLimit else Done) (sym h.ends.cut) ∙ ap (λ (w : Whole). w.status) (sym all);
         output = h.ends.reached.has_written ∙ ap (λ (w : Whole). Some (g.written ++ w.output)) (sym all);
         texts_are = h.texts_are ∙ ap (option_map tells) h.ends.reached.in_state ∙ ap (λ (w : Whole). Some w.texts) (sym all);
       }
 
-  nothing_part : IsAsBefore g after → IsPart m tells g after
+  nothing_part : IsAsBefore g after → IsOutputPart m tells g after
   nothing_part h = (0, h.unsaid ∙ ap Some (sym (append-nil g.written)))
 
-  said_part : IsSaidInPart g after → IsPart m tells g after
+  said_part : IsSaidInPart g after → IsOutputPart m tells g after
   said_part h =
-      let all : whole_of m tells g ≡ by_plan (Says h.said h.end) = ap by_plan h.plan in
+      let all : whole_run_of m tells g ≡ by_plan (Says h.said h.end) = ap by_plan h.plan in
       let (count, lacks, part) = h.part in (count, part ∙ ap (λ (w : Whole). Some (g.written ++ take count w.output)) (sym all))
 
-  answered_part : AnswersUntil m leaves tells g endings.NoMemory after → IsPart m tells g after
+  answered_part : AnswersUntil m leaves tells g endings.NoMemory after → IsOutputPart m tells g after
   answered_part h =
-      let all : whole_of m tells g ≡ by_plan (Answers h.start) = ap by_plan h.plan in
+      let all : whole_run_of m tells g ≡ by_plan (Answers h.start) = ap by_plan h.plan in
       (h.ends.count, h.ends.has_written ∙ ap (λ (w : Whole). Some (g.written ++ take h.ends.count w.output)) (sym all))
 
   -- where no count of faults rose, it is the whole run, or there was no memory after a part
-  pub whole_without_faults : (old : Counts) (status : Status) → NoneRose old after.faults → HasCause status old after.faults →
+  pub whole_without_faults : (old : Counts) (status : Status) → NoneRose old after.faults → HasStatusCause status old after.faults →
       EndsAs m leaves tells g status after → IsWholeOrPart m tells g status after
   whole_without_faults old Done none cause (inl h) = inl (said_whole Done h)
   whole_without_faults old Done none cause (inr h) = inl (done_whole h)

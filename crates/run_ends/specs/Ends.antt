@@ -11,7 +11,7 @@ use Rattle.line_loop.specs.Stop.{WritesPart}
 use Rattle.run_ends.specs.declared.around.Outside.{Outside}
 use Rattle.run_ends.specs.declared.status.Status.{Status}
 use Rattle.run_ends.specs.declared.status.Status.TheVariants.{Done, BadWords, BadSession, ReadFault, WriteFault, ShelfFault, NoMemory, InputLimit}
-use Rattle.run_ends.specs.Whole.{Plan, Says, Answers, Whole, whole}
+use Rattle.run_ends.specs.Whole.{Plan, Says, Answers, Whole, whole_run}
 
 -- what is seen of the outside at one moment: the counts of faults, where the shelf is the context of the read loop, and what
 -- each object tells: the bytes that are left to read, those that were written, and the texts by name
@@ -76,7 +76,7 @@ pub record AnswersUntil {T : Type 0} (m : Machine T) (leaves : Failures T) (tell
   pub plan : g.plan ≡ Answers start
   pub state : Option T
   pub texts_are : after.texts ≡ option_map tells state
-  pub ends : loop.EndsAs m leaves g.limit (record { state = start; written = g.written }) g.bytes ending state after.written after.left
+  pub ends : loop.HasEnding m leaves g.limit (record { state = start; written = g.written }) g.bytes ending state after.written after.left
 
 -- One case a status. Of a shelf that fails nothing was done where the text to begin with was asked.
 abbrev pub EndsAs : {T : Type 0} → Machine T → Failures T → (T → Texts) → Setting T → Status → Seen → Type 0
@@ -91,8 +91,8 @@ EndsAs m leaves tells g InputLimit after = AnswersUntil m leaves tells g endings
 
 -- ---- The whole run
 
-abbrev pub whole_of : {T : Type 0} → Machine T → (T → Texts) → Setting T → Whole
-whole_of m tells g = whole m tells g.plan g.texts g.limit g.bytes
+abbrev pub whole_run_of : {T : Type 0} → Machine T → (T → Texts) → Setting T → Whole
+whole_run_of m tells g = whole_run m tells g.plan g.texts g.limit g.bytes
 
 -- the statuses of a whole run
 abbrev pub says_all : Status → Bool
@@ -104,13 +104,13 @@ says_all _ = false
 
 -- its status, all its output, and its texts
 pub record IsWhole {T : Type 0} (m : Machine T) (tells : T → Texts) (g : Setting T) (status : Status) (after : Seen) : Type 0 where
-  pub status_is : status ≡ (whole_of m tells g).status
-  pub output : after.written ≡ Some (g.written ++ (whole_of m tells g).output)
-  pub texts_are : after.texts ≡ Some (whole_of m tells g).texts
+  pub status_is : status ≡ (whole_run_of m tells g).status
+  pub output : after.written ≡ Some (g.written ++ (whole_run_of m tells g).output)
+  pub texts_are : after.texts ≡ Some (whole_run_of m tells g).texts
 
 -- a part of its output, or all of it
-abbrev pub IsPart : {T : Type 0} → Machine T → (T → Texts) → Setting T → Seen → Type 0
-IsPart m tells g after = (count : ℕ) × (after.written ≡ Some (g.written ++ take count (whole_of m tells g).output))
+abbrev pub IsOutputPart : {T : Type 0} → Machine T → (T → Texts) → Setting T → Seen → Type 0
+IsOutputPart m tells g after = (count : ℕ) × (after.written ≡ Some (g.written ++ take count (whole_run_of m tells g).output))
 
 -- no count of faults rose
 pub record NoneRose (old new : Counts) : Type 0 where
@@ -120,4 +120,4 @@ pub record NoneRose (old new : Counts) : Type 0 where
 
 -- the whole run, or there was no memory after a part of it
 abbrev pub IsWholeOrPart : {T : Type 0} → Machine T → (T → Texts) → Setting T → Status → Seen → Type 0
-IsWholeOrPart m tells g status after = IsWhole m tells g status after ⊎ ((status ≡ NoMemory) × IsPart m tells g after)
+IsWholeOrPart m tells g status after = IsWhole m tells g status after ⊎ ((status ≡ NoMemory) × IsOutputPart m tells g after)

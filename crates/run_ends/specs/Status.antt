@@ -7,15 +7,15 @@ use Rattle.run_ends.specs.declared.status.Status.{Status}
 use Rattle.run_ends.specs.declared.status.Status.TheVariants.{Done, BadWords, BadSession, ReadFault, WriteFault, ShelfFault, NoMemory, InputLimit}
 
 -- the exit status of the program
-abbrev pub code_of : Status → ℕ
-code_of Done = 0
-code_of BadWords = 1
-code_of BadSession = 2
-code_of ReadFault = 3
-code_of WriteFault = 4
-code_of ShelfFault = 5
-code_of NoMemory = 6
-code_of InputLimit = 7
+abbrev pub status_number : Status → ℕ
+status_number Done = 0
+status_number BadWords = 1
+status_number BadSession = 2
+status_number ReadFault = 3
+status_number WriteFault = 4
+status_number ShelfFault = 5
+status_number NoMemory = 6
+status_number InputLimit = 7
 
 -- the status that an ending of the read loop leads to
 abbrev pub status_of : Ending → Status
@@ -38,5 +38,5 @@ ending_by NoMemory = endings.NoMemory
 ending_by InputLimit = endings.InputLimit
 
 -- A fault is blamed only where that count rose and the two others stand. Every other status leaves all three.
-abbrev pub HasCause : Status → Counts → Counts → Type 0
-HasCause status old new = EndsWithCause (ending_by status) old new
+abbrev pub HasStatusCause : Status → Counts → Counts → Type 0
+HasStatusCause status old new = EndsWithCause (ending_by status) old new

@@ -1,6 +1,6 @@
 //! How a run ends.
 ghost use Rattle.std.specs.Prelude.{◌≡◌};
-ghost use Rattle.run_ends.specs.Status.{code_of, status_of};
+ghost use Rattle.run_ends.specs.Status.{status_number, status_of};
 
 use line_loop::Ending;
 
@@ -28,7 +28,7 @@ pub enum Status {
 impl Status {
     /// The exit status of the program.
     pub fn code(self) -> u8
-        ensures { result ≡ code_of self }
+        ensures { result ≡ status_number self }
     {
         match self {
             Status::Done => 0,

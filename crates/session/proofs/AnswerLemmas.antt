@@ -20,12 +20,12 @@ use Rattle.session.specs.declared.next.ApplyFault.{ApplyFault}
 use Rattle.session.specs.declared.next.ApplyFault.TheVariants as apply_faults
 use Rattle.session.specs.declared.next.Next.{Next}
 use Rattle.session.specs.declared.next.Next.TheVariants as nexts
-use Rattle.session.specs.Answers.{Answers, Applies, Fails, IsUnchanged, IsUnread, LeavesHeld, LeavesTexts, Suffices, next_by, next_of}
-use Rattle.session.specs.Carried.{Carried, CarriedAs, Carries, IsAccepted, IsLacking, LacksMemory, Moment, end_of, lines_by, moment}
+use Rattle.session.specs.Answers.{Answers, Applies, FailsAtLine, IsUnread, KeepsIfRefused, LeavesHeld, LeavesTexts, Suffices, next_by, next_of}
+use Rattle.session.specs.Carried.{Carried, CarriedAs, CarriesOut, IsAccepted, IsLacking, LacksMemory, Moment, end_of, lines_by, moment}
 use Rattle.session.specs.Replayed.{Replays, ReplaysAs}
 use Rattle.line_meaning.proofs.IndexLemmas.{plain_after, plain_fault}
 use Rattle.line_meaning.proofs.RoleLemmas.{kept_is_journalled}
-use Rattle.session.specs.Filed.{Does, FailsWith, IsAnswered, IsApplied, SufficesFor, refusal_with, texts_by}
+use Rattle.session.specs.Filed.{Does, FailsAtCommand, IsAnswered, IsApplied, SufficesFor, refusal_with, texts_by}
 
 -- ---- a command that asks nothing of the shelf
 
@@ -68,7 +68,7 @@ accepted_does nexts.Accepted b c new before after is h = h
 accepted_does nexts.Quit b c new before after is h = h
 accepted_does (nexts.Refused r) b c new before after is h = absurd (never (role_of c) r is)
 
-accepted_unchanged : (next : Next) (c : CommandTree) (old new : Held) (before after : List ℕ) → next ≡ next_of c → IsUnchanged next old new before after
+accepted_unchanged : (next : Next) (c : CommandTree) (old new : Held) (before after : List ℕ) → next ≡ next_of c → KeepsIfRefused next old new before after
 accepted_unchanged nexts.Silent c old new before after is = tt
 accepted_unchanged nexts.Accepted c old new before after is = tt
 accepted_unchanged nexts.Quit c old new before after is = tt
@@ -195,7 +195,7 @@ performed_as nexts.Accepted c m n is a = (is, a)
 performed_as nexts.Quit c m n is a = (is, a)
 performed_as (nexts.Refused r) c m n is a = absurd (never (role_of c) r is)
 
-pub performed : {E : Type 0} (c : CommandTree) (m n : Moment) (next : Next) → Carries {T = Next} c m n (Ok next) → next ≡ next_of c →
+pub performed : {E : Type 0} (c : CommandTree) (m n : Moment) (next : Next) → CarriesOut {T = Next} c m n (Ok next) → next ≡ next_of c →
     Carried {E = E} c m n (Ok next)
 performed c m n next h is = record {
   carried = performed_as next c m n is h.accepted;
@@ -207,7 +207,7 @@ performed c m n next h is = record {
   unprobed = unread_by c next m.tally.probes n.tally.probes is (blank_probes c m.tally.probes n.tally.probes h.spends.plain);
 }
 
-pub performed_refused : {E : Type 0} (c : CommandTree) (m n : Moment) (after : List ℕ) (r : Refusal) → Carries {T = Next} c m n (Err (stops.Refused r)) →
+pub performed_refused : {E : Type 0} (c : CommandTree) (m n : Moment) (after : List ℕ) (r : Refusal) → CarriesOut {T = Next} c m n (Err (stops.Refused r)) →
     after ≡ m.tally.said → Carried {E = E} c m (moment n.holds after n.tally.reads n.tally.probes) (Ok (nexts.Refused r))
 performed_refused c m n after r h cut =
     let stopped : (fault_of m.holds c ≡ Some r) × (n.holds ≡ m.holds) = h.stopped in
@@ -221,7 +221,7 @@ performed_refused c m n after r h cut =
       unprobed = h.free.unprobed tt;
     }
 
-pub performed_lacking : {E : Type 0} (c : CommandTree) (m n : Moment) (after : List ℕ) (fault : E) → Carries {T = Next} c m n (Err stops.NoMemory) →
+pub performed_lacking : {E : Type 0} (c : CommandTree) (m n : Moment) (after : List ℕ) (fault : E) → CarriesOut {T = Next} c m n (Err stops.NoMemory) →
     after ≡ m.tally.said → Carried c m (moment n.holds after n.tally.reads n.tally.probes) (Err fault)
 performed_lacking c m n after fault h cut =
     let stopped : LacksMemory m.holds c × (n.holds ≡ m.holds) = h.stopped in
@@ -283,7 +283,7 @@ module _ (line : List ℕ) (c : CommandTree) (read : IsRead LINE_LIMIT line c) w
     suffices_for : (texts : Texts) → Suffices told line texts → SufficesFor told c texts
     suffices_for texts suffices = λ import. suffices (ap is_import (spelled_is line c read) ∙ import)
 
-    fails_line : (fault : ApplyFault) → FailsWith fault told left c old new before after → Fails fault told left line old new before after
+    fails_line : (fault : ApplyFault) → FailsAtCommand fault told left c old new before after → FailsAtLine fault told left line old new before after
     fails_line apply_faults.ShelfFault h = record {
       asks = ap asks_shelf (spelled_is line c read) ∙ h.asks;
       accepted = line_refusal_read old line c read ∙ h.accepted;

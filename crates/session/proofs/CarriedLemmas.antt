@@ -18,7 +18,7 @@ use Rattle.line_meaning.specs.Role.{role_of}
 use Rattle.line_meaning.specs.Step.{Held, held}
 use Rattle.reply_text.specs.Begins.{Begins}
 use Rattle.reply_text.proofs.BeginLemmas.{begins_more}
-use Rattle.session.specs.Carried.{Carries, IsAccepted, IsStopped, Moment, Spends}
+use Rattle.session.specs.Carried.{CarriesOut, IsAccepted, IsStopped, Moment, Spends}
 use Rattle.session.specs.Told.{IsTold}
 use Rattle.database.specs.declared.database.Database.{Database}
 use Rattle.database.specs.Attempt.{fault_told}
@@ -39,7 +39,7 @@ spends_nothing c m = record {
 }
 
 pub stopped_at_once : {T : Type 0} (c : CommandTree) (m : Moment) (fault : CommandFault) → IsStopped c m.holds m.holds fault →
-    Carries {T = T} c m m (Err fault)
+    CarriesOut {T = T} c m m (Err fault)
 stopped_at_once c m fault stopped = record {
   accepted = tt;
   stopped = stopped;
@@ -49,11 +49,11 @@ stopped_at_once c m fault stopped = record {
 
 -- ---- the same of another result
 
-pub accepted_as : {T U : Type 0} (c : CommandTree) (m n : Moment) (x : T) (y : U) → Carries {T = T} c m n (Ok x) → Carries {T = U} c m n (Ok y)
+pub accepted_as : {T U : Type 0} (c : CommandTree) (m n : Moment) (x : T) (y : U) → CarriesOut {T = T} c m n (Ok x) → CarriesOut {T = U} c m n (Ok y)
 accepted_as c m n x y h = record { accepted = h.accepted; stopped = tt; spends = h.spends; free = record { unread = tt; unprobed = tt } }
 
-pub stopped_as : {T U : Type 0} (c : CommandTree) (m n : Moment) (fault : CommandFault) → Carries {T = T} c m n (Err fault) →
-    Carries {T = U} c m n (Err fault)
+pub stopped_as : {T U : Type 0} (c : CommandTree) (m n : Moment) (fault : CommandFault) → CarriesOut {T = T} c m n (Err fault) →
+    CarriesOut {T = U} c m n (Err fault)
 stopped_as c m n fault h = record {
   accepted = tt;
   stopped = h.stopped;

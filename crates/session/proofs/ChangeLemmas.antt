@@ -31,7 +31,8 @@ use Rattle.database.specs.declared.change.Change.TheVariants as changes
 use Rattle.database.specs.declared.database.Database.{Database}
 use Rattle.database.specs.Attempt.{Carries, ChangesWorld, written_name}
 use Rattle.database.specs.Keeping.{Keeps, clock_of, world_of_database}
-use Rattle.session.specs.Followed.{object_of_change, writes_object}
+use Rattle.database.specs.Written.{writes_object}
+use Rattle.session.specs.Followed.{object_of_change}
 
 -- ---- by what is kept before and after it
 

@@ -5,7 +5,7 @@ use Rattle.command_text.specs.Journal.{Accepted}
 use Rattle.command_text.specs.Tree.{CommandTree}
 use Rattle.line_meaning.specs.Import.{entry_lines, is_taken, with_entry}
 use Rattle.line_meaning.specs.Reply.{ok_line}
-use Rattle.session.specs.Rows.{AreEntered, AreWritten, HasFirstCommands, journal_after_commands, lines_of_commands}
+use Rattle.session.specs.Rows.{AreEntered, HasFirstCommands, HaveWrittenLines, journal_after_commands, lines_of_commands}
 use Rattle.session.proofs.RowLemmas.{first_more}
 
 -- before the first
@@ -13,7 +13,7 @@ pub none_entered : (start : List Accepted) (cs : List CommandTree) → AreEntere
 none_entered start cs = record { first = []; all = refl; entered = refl }
 
 pub none_written : (start : List Accepted) (cs : List CommandTree) (before after : List ℕ) → after ≡ before →
-    AreWritten start cs start cs before after
+    HaveWrittenLines start cs start cs before after
 none_written start cs before after is = record { said = []; out = is ∙ sym (append-nil before); lines = refl }
 
 -- after the last
@@ -22,7 +22,7 @@ pub all_entered : (start : List Accepted) (cs : List CommandTree) (journal : Lis
 all_entered start cs journal is = ap (journal_after_commands start) (is.all ∙ append-nil is.first) ∙ is.entered
 
 pub all_written : (start : List Accepted) (cs : List CommandTree) (journal : List Accepted) (before mid after : List ℕ) →
-    AreWritten start cs journal [] before mid → after ≡ mid ++ ok_line → after ≡ before ++ (lines_of_commands start cs ++ ok_line)
+    HaveWrittenLines start cs journal [] before mid → after ≡ mid ++ ok_line → after ≡ before ++ (lines_of_commands start cs ++ ok_line)
 all_written start cs journal before mid after is ends =
     ends ∙ ap (λ out. out ++ ok_line) is.out ∙ append_assoc before is.said ok_line
     ∙ ap (λ ls. before ++ (ls ++ ok_line)) (sym (is.lines ∙ append-nil is.said))
@@ -38,8 +38,8 @@ module _ (start : List Accepted) (cs : List CommandTree) (journal : List Accepte
     entered = first_more start journal is.first c is.entered taken;
   }
 
-  pub one_more_written : (before old new : List ℕ) → (is : AreWritten start cs journal (c ∷ rest) before old) →
-      new ≡ old ++ entry_lines journal c → AreWritten start cs (with_entry journal c) rest before new
+  pub one_more_written : (before old new : List ℕ) → (is : HaveWrittenLines start cs journal (c ∷ rest) before old) →
+      new ≡ old ++ entry_lines journal c → HaveWrittenLines start cs (with_entry journal c) rest before new
   one_more_written before old new is told =
       let lines = entry_lines journal c in
       record {

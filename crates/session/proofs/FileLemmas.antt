@@ -30,7 +30,7 @@ use Rattle.session.specs.declared.next.ApplyFault.{ApplyFault}
 use Rattle.session.specs.declared.next.ApplyFault.TheVariants as apply_faults
 use Rattle.session.specs.declared.next.Next.{Next}
 use Rattle.session.specs.declared.next.Next.TheVariants as nexts
-use Rattle.session.specs.Answers.{HasCause, IsUnread, LeavesHeld}
+use Rattle.session.specs.Answers.{HasFaultCause, IsUnread, LeavesHeld}
 use Rattle.session.specs.Filed.{IsApplied, Puts, refusal_with, said_after}
 use Rattle.session.specs.Imported.{Imports}
 use Rattle.session.specs.Rows.{IsImportedRow, IsRowCommand, LeavesSome, journal_after_commands, lines_of_commands, looks_of_commands}
@@ -280,7 +280,7 @@ module _ (told left : Option Texts) (journal : List Accepted) (class file : List
   import_is_applied new after (Err apply_faults.ShelfFault) is = absurd is
 
 pub import_cause : (faults now : ℕ) (class text : List ℕ) (old new : List Accepted) (before after : List ℕ) (r : Result Next ApplyFault) →
-    now ≡ faults → Imports class text old new before after r → HasCause faults now r
+    now ≡ faults → Imports class text old new before after r → HasFaultCause faults now r
 import_cause faults now class text old new before after (Ok next) same is = same
 import_cause faults now class text old new before after (Err apply_faults.NoMemory) same is = same
 import_cause faults now class text old new before after (Err apply_faults.ShelfFault) same is = absurd is

@@ -31,18 +31,19 @@ use Rattle.live_queries.specs.Current.{AreCurrent}
 use Rattle.live_queries.specs.Kept as kept_queries
 use Rattle.live_queries.specs.Kept.{AreKept, KeptQuery}
 use Rattle.live_queries.specs.Prepared.{IsPrepared, Prepared}
-use Rattle.live_queries.specs.Renewed.{IsSameHead}
+use Rattle.live_queries.specs.Renewed.{IsSameRequest}
 use Rattle.database.specs.declared.change.Change.{Change}
 use Rattle.database.specs.declared.database.Database.{Database}
 use Rattle.database.specs.Attempt as attempts
-use Rattle.database.specs.Attempt.{Carries, Stops, written_name}
+use Rattle.database.specs.Attempt.{Carries, StopsCommand, written_name}
 use Rattle.database.specs.Keeping.{Keeps, TellsAcceptedWrites, clock_of, world_of_database}
 use Rattle.database.proofs.CallerLemmas.{fault_is_told}
+use Rattle.database.specs.Written.{writes_object}
 use Rattle.registry.specs.Standing.{Stand, known_of, registration_of}
 use Rattle.session.specs.declared.state.State.{State}
 use Rattle.session.specs.Carried.{IsAccepted, IsStopped, is_class}
 use Rattle.session.specs.Entering.{Admits}
-use Rattle.session.specs.Followed.{IsChanged, Prepares, Settles, lines_told, object_of_change, writes_object}
+use Rattle.session.specs.Followed.{IsChanged, Prepares, Settles, lines_told, object_of_change}
 use Rattle.session.specs.State.{IsState}
 use Rattle.session.proofs.ChangeLemmas.{WritesWorld, adds_at_most, by_class, clock_after, same_world, writes_world}
 use Rattle.session.proofs.FaultLemmas.{accepted, accepted_kept, data_fault, refused, stopped_full, stopped_lacking}
@@ -72,9 +73,9 @@ none_told (Tree.Update name place sets) before d live write = refl
 none_told (Tree.Remove name) before d live write = refl
 none_told c before d live write = absurd (cc write)
 
-queries_are : (ks : List KeptQuery) → map (λ (r : Registration). r.query) (map registration_of ks) ≡ map kept_queries.registered ks
+queries_are : (ks : List KeptQuery) → map (λ (r : Registration). r.query) (map registration_of ks) ≡ map kept_queries.registered_query ks
 queries_are [] = refl
-queries_are (k ∷ ks) = ap (λ rest. kept_queries.registered k ∷ rest) (queries_are ks)
+queries_are (k ∷ ks) = ap (λ rest. kept_queries.registered_query k ∷ rest) (queries_are ks)
 
 -- ---- by the change
 
@@ -121,7 +122,7 @@ module _ (s : State) (c : CommandTree) (before : ℕ) (change : Change) (is : Is
 
     pub still_fit : ((old new : World) (m : List ClassInfo) (n : List Region) →
         new.history.catalog.classes ≡ old.history.catalog.classes ++ m → new.regions ≡ old.regions ++ n →
-        (k k' : KeptQuery) → IsSameHead k k' → FitsWorld old k → FitsWorld new k') → All (FitsWorld (world_of_database s.database)) s.live
+        (k k' : KeptQuery) → IsSameRequest k k' → FitsWorld old k → FitsWorld new k') → All (FitsWorld (world_of_database s.database)) s.live
     still_fit goes-on = λ i d within.
         goes-on (world_of_database is.old) (world_of_database s.database) [] [] (its_world.changes.classes ∙ sym (append-nil is.old.store.classes))
         (its_world.regions ∙ sym (append-nil is.old.regions)) (slice_index_or s.live i d) (slice_index_or s.live i d) (same_head (slice_index_or s.live i d))
@@ -139,7 +140,7 @@ module _ (s : State) (c : CommandTree) (before : ℕ) (change : Change) (is : Is
       }
 
       pub changed_looks : most_looks (held s.journal) c
-          ≡ write_reads (catalog_of s.database.store) (map kept_queries.registered s.live) (clock_of s.database) (class_in s.database.store id)
+          ≡ write_reads (catalog_of s.database.store) (map kept_queries.registered_query s.live) (clock_of s.database) (class_in s.database.store id)
       changed_looks =
           let looks : List RegisteredQuery → ℕ → ℕ = λ rs class. write_reads (catalog_of s.database.store) rs (clock_of s.database) class in
           write_looks s.journal c write
@@ -217,19 +218,19 @@ module _ (laws : Laws) (s : State) (d : Database) (live : List KeptQuery) (c : C
 
 -- ---- an attempt that was stopped
 
-attempt_lacks : (journal : List Accepted) (d : Database) (c : CommandTree) → Keeps journal d → attempts.LacksMemory d c → is_on_queries c ≡ false →
+attempt_lacks : (journal : List Accepted) (d : Database) (c : CommandTree) → Keeps journal d → attempts.MayLackMemory d c → is_on_queries c ≡ false →
     is_class c ≡ false → command_fault (known journal) c ≡ None
 attempt_lacks journal d (Tree.Class name capacity point attributes) keeps lacks plain other = absurd (cc other)
 attempt_lacks journal d (Tree.Tick ticks) keeps lacks plain other = absurd lacks
 attempt_lacks journal d c keeps lacks plain other = data_fault (known journal) c plain ∙ sym (fault_is_told journal d c keeps) ∙ lacks
 
 pub attempt_stopped : (journal : List Accepted) (d new : Database) (c : CommandTree) (fault : CommandFault) → Keeps journal d →
-    is_kept c ≡ true → is_on_queries c ≡ false → Stops c d new fault → IsStopped c (held journal) (held journal) fault
+    is_kept c ≡ true → is_on_queries c ≡ false → StopsCommand c d new fault → IsStopped c (held journal) (held journal) fault
 attempt_stopped journal d new c (stops.Refused r) keeps kept plain is =
     (refused journal c kept r (data_fault (known journal) c plain ∙ sym (fault_is_told journal d c keeps) ∙ is.0), refl)
 attempt_stopped journal d new c stops.NoMemory keeps kept plain is =
     stopped_lacking journal c kept journal stops.NoMemory refl refl (attempt_lacks journal d c keeps is.0 plain)
 
-pub attempt_same : (c : CommandTree) (d new : Database) (fault : CommandFault) → Stops c d new fault → new ≡ d
+pub attempt_same : (c : CommandTree) (d new : Database) (fault : CommandFault) → StopsCommand c d new fault → new ≡ d
 attempt_same c d new (stops.Refused r) is = is.1
 attempt_same c d new stops.NoMemory is = is.1

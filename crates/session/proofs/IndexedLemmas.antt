@@ -17,11 +17,11 @@ use Rattle.line_meaning.specs.Looks.{most_looks}
 use Rattle.reply_text.specs.Begins.{Begins}
 use Rattle.database.specs.declared.database.Database.{Database}
 use Rattle.database.specs.Keeping.{Keeps, clock_of, world_of_database}
-use Rattle.database.specs.Telling.{Answers, IsRefused, IsStoppedBy}
+use Rattle.database.specs.Telling.{IsRefused, IsStoppedBy, RefusesOrWrites}
 use Rattle.kept_indexes.specs.declared.indexes.Kept.{Kept}
 use Rattle.kept_indexes.specs.Kept.{AreIndexes, AreRight, entries}
 use Rattle.kept_indexes.specs.Making.{holding}
-use Rattle.session.specs.Carried.{Carries, moment}
+use Rattle.session.specs.Carried.{CarriesOut, moment}
 use Rattle.session.proofs.CarriedLemmas.{begins_same}
 
 module _ (journal : List Accepted) (d : Database) (keeps : Keeps journal d) (kept new : List Kept) where
@@ -42,7 +42,7 @@ module _ (journal : List Accepted) (d : Database) (keeps : Keeps journal d) (kep
         OnOk result ((count : ℕ) → entries new ≡ indexes_after (entries kept) (world_of_database d) (clock_of d) count index) →
         IfErr result (IsStoppedBy (index_fault (entries kept) (world_of_database d) (clock_of d) index)) →
         OnErr result (new ≡ kept) → out' ≡ out →
-        Carries index (moment (holding journal kept) out reads probes) (moment (holding journal new) out' reads probes) result
+        CarriesOut index (moment (holding journal kept) out reads probes) (moment (holding journal new) out' reads probes) result
     index_carries out out' reads probes (Ok u) none is stopped same said = record {
       accepted = record {
         accepted = fault_told ∙ none;
@@ -85,10 +85,10 @@ module _ (journal : List Accepted) (d : Database) (keeps : Keeps journal d) (kep
   pub range_carries : (span : ℕ) (class attribute : List ℕ) (least greatest : ℤ) (out out' : List ℕ) (reads reads' probes : ℕ) (result : Result (Unit {0}) CommandFault) →
       OnOk result (entries new ≡ (all_after (holding journal kept) (Tree.Range span class attribute least greatest)).indexes) →
       OnErr result (entries new ≡ entries kept) →
-      Answers (index_fault (entries kept) (world journal) (clock journal) (Tree.Range span class attribute least greatest)) (answer_lines (world journal) (clock journal) (Tree.Range span class attribute least greatest)) out out' result →
+      RefusesOrWrites (index_fault (entries kept) (world journal) (clock journal) (Tree.Range span class attribute least greatest)) (answer_lines (world journal) (clock journal) (Tree.Range span class attribute least greatest)) out out' result →
       Begins out out' → reads ≤ reads' → reads' ≤ reads + most_looks (holding journal kept) (Tree.Range span class attribute least greatest) →
       IfErr result (λ fault. IsRefused fault → reads' ≡ reads) →
-      Carries (Tree.Range span class attribute least greatest) (moment (holding journal kept) out reads probes) (moment (holding journal new) out' reads' probes) result
+      CarriesOut (Tree.Range span class attribute least greatest) (moment (holding journal kept) out reads probes) (moment (holding journal new) out' reads' probes) result
   range_carries span class attribute low high out out' reads reads' probes (Ok u) is same answered begins least most free = record {
     accepted = record {
       accepted = answered.0;

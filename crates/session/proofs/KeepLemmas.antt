@@ -13,7 +13,7 @@ use Rattle.kept_indexes.proofs.StandLemmas.{changed_entries, changed_stand, ente
 use Rattle.formula.specs.declared.kind.QueryKind.{QueryKind}
 use Rattle.formula.specs.declared.kind.QueryKind.TheVariants.{Keep, Watch}
 use Rattle.registry.specs.declared.registering.Request.{Request}
-use Rattle.session.specs.Asked.{command_by, command_of}
+use Rattle.session.specs.Asked.{command_by, request_command}
 use Rattle.session.specs.declared.state.State.{State}
 use Rattle.session.specs.State.{KeepsIndexes}
 
@@ -59,7 +59,7 @@ pub keeps_line : (old new : State) (now : ℕ) (line : List ℕ) (c : CommandTre
 keeps_line old new now line c other is journal database indexes =
     keeps_entry old new now (spelled line) (ap writes_object is ∙ other) journal database indexes
 
-pub request_writes : (r : Request) → writes_object (command_of r) ≡ false
+pub request_writes : (r : Request) → writes_object (request_command r) ≡ false
 request_writes r = by_kind r.kind
   where
     by_kind : (k : QueryKind) → writes_object (command_by k r) ≡ false

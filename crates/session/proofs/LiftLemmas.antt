@@ -20,9 +20,9 @@ use Rattle.session.specs.declared.next.ApplyFault.{ApplyFault}
 use Rattle.session.specs.declared.next.ApplyFault.TheVariants as apply_faults
 use Rattle.session.specs.declared.next.Next.{Next}
 use Rattle.session.specs.declared.next.Next.TheVariants as nexts
-use Rattle.session.specs.Answers.{HasFirstRows, IsUnchanged, LeavesHeld, next_of}
-use Rattle.session.specs.Carried.{Carries, IsAccepted, IsStopped, Spends, lines_by}
-use Rattle.session.specs.Filed.{Does, FailsWith, IsAnswered, IsApplied, IsBySome, refusal_with, texts_by}
+use Rattle.session.specs.Answers.{HasFirstRows, KeepsIfRefused, LeavesHeld, next_of}
+use Rattle.session.specs.Carried.{CarriesOut, IsAccepted, IsStopped, Spends, lines_by}
+use Rattle.session.specs.Filed.{Does, FailsAtCommand, IsAnswered, IsApplied, IsBySome, refusal_with, texts_by}
 
 module _ (c : CommandTree) (plain : is_on_indexes c ≡ false) (indexes : List IndexEntry) where
   -- the same with the indexes
@@ -60,8 +60,8 @@ module _ (c : CommandTree) (plain : is_on_indexes c ≡ false) (indexes : List I
     }
 
     pub carries_lifts : {T : Type 0} (old new : Tally) (result : Result T CommandFault) →
-        Carries c (record { holds = held j; tally = old }) (record { holds = held k; tally = new }) result →
-        Carries c (record { holds = lift (held j); tally = old }) (record { holds = lift (held k); tally = new }) result
+        CarriesOut c (record { holds = held j; tally = old }) (record { holds = held k; tally = new }) result →
+        CarriesOut c (record { holds = lift (held j); tally = old }) (record { holds = lift (held k); tally = new }) result
     carries_lifts old new (Ok x) h = record {
       accepted = accepted_lifts old.said new.said h.accepted;
       stopped = tt;
@@ -126,7 +126,7 @@ module _ (c : CommandTree) (plain : is_on_indexes c ≡ false) (indexes : List I
       does_lifts nexts.Accepted texts h = did_lifts nexts.Accepted texts h
       does_lifts nexts.Quit texts h = did_lifts nexts.Quit texts h
 
-      unchanged_lifts : (next : Next) → IsUnchanged next (held j) (held k) before after → IsUnchanged next (lift (held j)) (lift (held k)) before after
+      unchanged_lifts : (next : Next) → KeepsIfRefused next (held j) (held k) before after → KeepsIfRefused next (lift (held j)) (lift (held k)) before after
       unchanged_lifts (nexts.Refused r) h = (ap lift h.0, h.1)
       unchanged_lifts nexts.Silent h = tt
       unchanged_lifts nexts.Accepted h = tt
@@ -147,8 +147,8 @@ module _ (c : CommandTree) (plain : is_on_indexes c ≡ false) (indexes : List I
       leaves_lift (Tree.Import class file) texts (inr first) = inr (first_lifts texts class file first)
       leaves_lift c texts same = ap lift same
 
-      fails_lift : (told left : Option Texts) (fault : ApplyFault) → FailsWith fault told left c (held j) (held k) before after →
-          FailsWith fault told left c (lift (held j)) (lift (held k)) before after
+      fails_lift : (told left : Option Texts) (fault : ApplyFault) → FailsAtCommand fault told left c (held j) (held k) before after →
+          FailsAtCommand fault told left c (lift (held j)) (lift (held k)) before after
       fails_lift told left apply_faults.ShelfFault h = record {
         asks = h.asks;
         accepted = fault_same j ∙ h.accepted;

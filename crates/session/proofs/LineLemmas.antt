@@ -10,7 +10,7 @@ use Rattle.tick_set.specs.Runs.{runs_of, spans_have}
 use Rattle.tick_set.specs.Ticks.{between, listed}
 use Rattle.tick_set.specs.declared.spans.Span.{Span}
 use Rattle.kept_rows.specs.declared.change.Change as row_changes
-use Rattle.kept_rows.specs.Changes.{after}
+use Rattle.kept_rows.specs.Changes.{rows_after}
 use Rattle.history.specs.Catalog.{Catalog}
 use Rattle.history.specs.World.{World}
 use Rattle.meaning.specs.Answer.{has_ticks}
@@ -23,61 +23,61 @@ use Rattle.line_meaning.specs.Changes.{change_text, tick_lines, write_lines}
 use Rattle.line_meaning.specs.Registry.{Known, Registration}
 use Rattle.live_queries.specs.declared.fresh.Renewal.{Renewal}
 use Rattle.live_queries.specs.Current.{AreCurrent, IsCurrentFor, row_at}
-use Rattle.live_queries.specs.Kept.{IsKept, KeptQuery, registered}
+use Rattle.live_queries.specs.Kept.{IsKeptQuery, KeptQuery, registered_query}
 use Rattle.live_queries.specs.Prepared.{AreFreshFor, AreMade, IsFreshFor, IsMade}
 use Rattle.live_queries.specs.Renewed.{IsRenewed}
 use Rattle.live_queries.specs.Told.{Told, changes_of, moves_of, passings_of, told_changes}
-use Rattle.registry.specs.Moves.{moves_text, told_text}
+use Rattle.registry.specs.Moves.{told_change_text, told_moves_text}
 use Rattle.registry.specs.Standing.{registration_of}
-use Rattle.session.specs.Followed.{writes_object}
+use Rattle.database.specs.Written.{writes_object}
 
-told_lines : (c : Catalog) (name : List ℕ) (changes : List Change) → moves_text c (told_changes name changes) ≡ flat_map (change_text c name) changes
-told_lines c name changes = flat_map-map (told_text c) (λ (x : Change). record { query = name; change = x }) changes
+told_lines : (c : Catalog) (name : List ℕ) (changes : List Change) → told_moves_text c (told_changes name changes) ≡ flat_map (change_text c name) changes
+told_lines c name changes = flat_map-map (told_change_text c) (λ (x : Change). record { query = name; change = x }) changes
 
 -- what one query is told, and what the others are
 both_lines : (c : Catalog) (name : List ℕ) (moves more : List Told) (changes : List Change) (rest : List ℕ) → moves ≡ told_changes name changes →
-    moves_text c more ≡ rest → moves_text c (moves ++ more) ≡ flat_map (change_text c name) changes ++ rest
+    told_moves_text c more ≡ rest → told_moves_text c (moves ++ more) ≡ flat_map (change_text c name) changes ++ rest
 both_lines c name moves more changes rest first others =
-    flat_map-append (told_text c) moves more
-    ∙ (λ i. ap (moves_text c) first i ++ others i)
+    flat_map-append (told_change_text c) moves more
+    ∙ (λ i. ap (told_moves_text c) first i ++ others i)
     ∙ ap (λ ls. ls ++ rest) (told_lines c name changes)
 
 -- ---- of time that passes
 
 module _ (w : World) (c : Catalog) (is : c ≡ w.history.catalog) (before now : ℕ) (upto : before ≤ now)
-    (passed : (k : KeptQuery) → IsKept k → IsCurrentFor w before k → k.entry ≤ before →
-    passings_of before now k ≡ told_changes k.name (changes_of_tick w (registered k) before now)) where
-  pub passings_are : (ks : List KeptQuery) → All IsKept ks → AreCurrent w before ks → All (λ k. k.entry ≤ before) ks →
-      moves_text c (flat_map (passings_of before now) ks) ≡ tick_lines w before now (map registration_of ks)
+    (passed : (k : KeptQuery) → IsKeptQuery k → IsCurrentFor w before k → k.entry ≤ before →
+    passings_of before now k ≡ told_changes k.name (changes_of_tick w (registered_query k) before now)) where
+  pub passings_are : (ks : List KeptQuery) → All IsKeptQuery ks → AreCurrent w before ks → All (λ k. k.entry ≤ before) ks →
+      told_moves_text c (flat_map (passings_of before now) ks) ≡ tick_lines w before now (map registration_of ks)
   passings_are [] kept current entered = refl
   passings_are (k ∷ ks) kept current entered =
-      both_lines c k.name (passings_of before now k) (flat_map (passings_of before now) ks) (changes_of_tick w (registered k) before now)
+      both_lines c k.name (passings_of before now k) (flat_map (passings_of before now) ks) (changes_of_tick w (registered_query k) before now)
       (tick_lines w before now (map registration_of ks))
-      (passed k (All-head IsKept k ks kept) (All-head (IsCurrentFor w before) k ks current) (All-head (λ (x : KeptQuery). x.entry ≤ before) k ks entered))
-      (passings_are ks (All-tail IsKept k ks kept) (All-tail (IsCurrentFor w before) k ks current) (All-tail (λ (x : KeptQuery). x.entry ≤ before) k ks entered))
-      ∙ ap (λ (d : Catalog). flat_map (change_text d k.name) (changes_of_tick w (registered k) before now)
+      (passed k (All-head IsKeptQuery k ks kept) (All-head (IsCurrentFor w before) k ks current) (All-head (λ (x : KeptQuery). x.entry ≤ before) k ks entered))
+      (passings_are ks (All-tail IsKeptQuery k ks kept) (All-tail (IsCurrentFor w before) k ks current) (All-tail (λ (x : KeptQuery). x.entry ≤ before) k ks entered))
+      ∙ ap (λ (d : Catalog). flat_map (change_text d k.name) (changes_of_tick w (registered_query k) before now)
       ++ tick_lines w before now (map registration_of ks)) is
 
 -- ---- of a write
 
 module _ (old new : World) (id class now : ℕ)
     (renews : (r : Renewal) (k k' : KeptQuery) → IsFreshFor new id class now k r → IsMade id class r k k' → IsRenewed new id now k k')
-    (tells : (k k' : KeptQuery) → IsKept k → IsKept k' → IsCurrentFor old now k → IsRenewed new id now k k' →
-    (changes : List (row_changes.Change (List Span))) → ((c t : ℕ) → row_at k' c t ≡ after spans_have changes (row_at k) c t) → k.entry ≤ now →
-    moves_of id now k changes ≡ told_changes k.name (changes_of_write old new (registered k) now)) where
-  pub moves_are : (rs : List Renewal) (ks ks' : List KeptQuery) → All IsKept ks → All IsKept ks' → AreCurrent old now ks → All (λ k. k.entry ≤ now) ks →
+    (tells : (k k' : KeptQuery) → IsKeptQuery k → IsKeptQuery k' → IsCurrentFor old now k → IsRenewed new id now k k' →
+    (changes : List (row_changes.Change (List Span))) → ((c t : ℕ) → row_at k' c t ≡ rows_after spans_have changes (row_at k) c t) → k.entry ≤ now →
+    moves_of id now k changes ≡ told_changes k.name (changes_of_write old new (registered_query k) now)) where
+  pub moves_are : (rs : List Renewal) (ks ks' : List KeptQuery) → All IsKeptQuery ks → All IsKeptQuery ks' → AreCurrent old now ks → All (λ k. k.entry ≤ now) ks →
       AreFreshFor new id class now ks rs → AreMade id class rs ks ks' →
-      moves_text new.history.catalog (changes_of id now ks rs) ≡ write_lines old new now (map registration_of ks)
+      told_moves_text new.history.catalog (changes_of id now ks rs) ≡ write_lines old new now (map registration_of ks)
   moves_are [] [] ks' kept kept' current entered fresh made = refl
   moves_are (r ∷ rs) [] ks' kept kept' current entered fresh made = absurd fresh
   moves_are [] (k ∷ ks) ks' kept kept' current entered fresh made = absurd fresh
   moves_are (r ∷ rs) (k ∷ ks) [] kept kept' current entered fresh made = absurd made
   moves_are (r ∷ rs) (k ∷ ks) (k' ∷ ks') kept kept' current entered fresh made =
-      both_lines new.history.catalog k.name (moves_of id now k r.changes) (changes_of id now ks rs) (changes_of_write old new (registered k) now)
+      both_lines new.history.catalog k.name (moves_of id now k r.changes) (changes_of id now ks rs) (changes_of_write old new (registered_query k) now)
       (write_lines old new now (map registration_of ks))
-      (tells k k' (All-head IsKept k ks kept) (All-head IsKept k' ks' kept') (All-head (IsCurrentFor old now) k ks current)
+      (tells k k' (All-head IsKeptQuery k ks kept) (All-head IsKeptQuery k' ks' kept') (All-head (IsCurrentFor old now) k ks current)
       (renews r k k' fresh.0 made.0) r.changes made.0.rows (All-head (λ (x : KeptQuery). x.entry ≤ now) k ks entered))
-      (moves_are rs ks ks' (All-tail IsKept k ks kept) (All-tail IsKept k' ks' kept') (All-tail (IsCurrentFor old now) k ks current)
+      (moves_are rs ks ks' (All-tail IsKeptQuery k ks kept) (All-tail IsKeptQuery k' ks' kept') (All-tail (IsCurrentFor old now) k ks current)
       (All-tail (λ (x : KeptQuery). x.entry ≤ now) k ks entered) fresh.1 made.1)
 
 -- ---- of a write that leaves the world as it is: none
@@ -138,6 +138,6 @@ lines_of_write old new c write = absurd (cc write)
 -- ---- where no query is registered
 
 pub nothing_passes : (c : Catalog) (out : List ℕ) (passings : KeptQuery → List Told) (live : List KeptQuery) → length live ≡ 0
-    → out ≡ out ++ moves_text c (flat_map passings live)
+    → out ≡ out ++ told_moves_text c (flat_map passings live)
 nothing_passes c out passings live none =
-    sym (ap (λ (ks : List KeptQuery). out ++ moves_text c (flat_map passings ks)) (nil_from_length live none) ∙ append-nil out)
+    sym (ap (λ (ks : List KeptQuery). out ++ told_moves_text c (flat_map passings ks)) (nil_from_length live none) ∙ append-nil out)

@@ -18,7 +18,7 @@ use Rattle.session_file.specs.declared.fault.FileFault.{FileFault}
 use Rattle.session_file.specs.declared.kept.TheConstants.{SESSION_LINE_LIMIT}
 use Rattle.session_file.specs.Kept.{HasLine, kept_in, may_be_loaded}
 use Rattle.session_file.specs.declared.reader.Loaded as file
-use Rattle.session_file.specs.Reading.{GivesNext, Reading, finished, reading_of}
+use Rattle.session_file.specs.Reading.{GivesNextCommand, Reading, finished, reading_of}
 use Rattle.line_meaning.specs.Loading.{Loaded, BadLine, line_of_fault, loading_by, loading_of, replayed}
 use Rattle.line_meaning.specs.Step.{Held, fault_of, held, held_after}
 use Rattle.line_meaning.proofs.ReachedLemmas.{none_of_both}
@@ -62,7 +62,7 @@ refused journal c later is = ap (λ (b : Bool). if b then replayed (held_after (
 
 -- ---- its end
 
-pub none_left : (left after : Reading) (found : Option file.Loaded) → ((next : file.Loaded) → found ≡ Some next → ⊥) → GivesNext left after found →
+pub none_left : (left after : Reading) (found : Option file.Loaded) → ((next : file.Loaded) → found ≡ Some next → ⊥) → GivesNextCommand left after found →
     left ≡ finished
 none_left left after None none gives = gives.0
 none_left left after (Some next) none gives = absurd (none next refl)

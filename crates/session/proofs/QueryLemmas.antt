@@ -49,7 +49,7 @@ use Rattle.database.proofs.ReadyLemmas.{is_ready}
 use Rattle.registry.specs.declared.registering.Request.{Request}
 use Rattle.registry.specs.Registers.{info_for}
 use Rattle.registry.specs.Standing.{Stand, known_of, registration_of}
-use Rattle.session.specs.Asked.{command_by, command_of}
+use Rattle.session.specs.Asked.{command_by, request_command}
 use Rattle.session.specs.declared.state.State.{State}
 use Rattle.session.specs.Carried.{IsAccepted, IsStopped}
 use Rattle.session.specs.Entering.{Admits}
@@ -59,7 +59,7 @@ use Rattle.session.proofs.KnownLemmas.{entered_state, keeps_same, known_is}
 
 -- ---- a command that registers a query, of either kind
 
-pub request_kept : (r : Request) → is_kept (command_of r) ≡ true
+pub request_kept : (r : Request) → is_kept (request_command r) ≡ true
 request_kept r = by_kind r.kind
   where
     by_kind : (k : QueryKind) → is_kept (command_by k r) ≡ true
@@ -67,21 +67,21 @@ request_kept r = by_kind r.kind
     by_kind Keep = refl
 
 -- it may be judged
-pub request_ready : (r : Request) → IsPrintable (command_of r) → (r.span ≤ LAST_TICK) × IsLawful (query_view r.query.now)
+pub request_ready : (r : Request) → IsPrintable (request_command r) → (r.span ≤ LAST_TICK) × IsLawful (query_view r.query.now)
 request_ready r = by_kind r.kind
   where
     by_kind : (k : QueryKind) → IsPrintable (command_by k r) → (r.span ≤ LAST_TICK) × IsLawful (query_view r.query.now)
     by_kind Watch printable = is_ready (command_by Watch r) printable
     by_kind Keep printable = is_ready (command_by Keep r) printable
 
-pub request_fault : (k : Known) (r : Request) → command_fault k (command_of r) ≡ register_refusal k r.name.now r.span (query_view r.query.now)
+pub request_fault : (k : Known) (r : Request) → command_fault k (request_command r) ≡ register_refusal k r.name.now r.span (query_view r.query.now)
 request_fault k r = by_kind r.kind
   where
     by_kind : (kind : QueryKind) → command_fault k (command_by kind r) ≡ register_refusal k r.name.now r.span (query_view r.query.now)
     by_kind Watch = refl
     by_kind Keep = refl
 
-request_evaluates : (r : Request) → is_query (command_of r) ≡ true
+request_evaluates : (r : Request) → is_query (request_command r) ≡ true
 request_evaluates r = by_kind r.kind
   where
     by_kind : (k : QueryKind) → is_query (command_by k r) ≡ true
@@ -89,14 +89,14 @@ request_evaluates r = by_kind r.kind
     by_kind Keep = refl
 
 pub request_looks : (journal : List Accepted) (r : Request) →
-    most_looks (held journal) (command_of r) ≡ most_reads (world journal) r.span (query_view r.query.now)
+    most_looks (held journal) (request_command r) ≡ most_reads (world journal) r.span (query_view r.query.now)
 request_looks journal r = by_kind r.kind
   where
     by_kind : (k : QueryKind) → most_looks (held journal) (command_by k r) ≡ most_reads (world journal) r.span (query_view r.query.now)
     by_kind Watch = refl
     by_kind Keep = refl
 
-pub request_lines : (old new : Known) (r : Request) → kept_lines old new (command_of r)
+pub request_lines : (old new : Known) (r : Request) → kept_lines old new (request_command r)
     ≡ answer_text old.world old.now (registration r.kind old.world old.now r.name.now r.span (query_view r.query.now))
 request_lines old new r = by_kind r.kind
   where
@@ -105,7 +105,7 @@ request_lines old new r = by_kind r.kind
     by_kind Watch = refl
     by_kind Keep = refl
 
-pub request_live : (w : World) (now : ℕ) (live : List Registration) (r : Request) → live_after w now live (command_of r)
+pub request_live : (w : World) (now : ℕ) (live : List Registration) (r : Request) → live_after w now live (request_command r)
     ≡ live ++ registration r.kind w now r.name.now r.span (query_view r.query.now) ∷ []
 request_live w now live r = by_kind r.kind
   where
@@ -115,7 +115,7 @@ request_live w now live r = by_kind r.kind
     by_kind Keep = refl
 
 -- it writes nothing and moves no clock
-pub request_still : (now : ℕ) (r : Request) → (writes_of now (command_of r) ≡ []) × (regions_of (command_of r) ≡ []) × (ticks_of (command_of r) ≡ 0)
+pub request_still : (now : ℕ) (r : Request) → (writes_of now (request_command r) ≡ []) × (regions_of (request_command r) ≡ []) × (ticks_of (request_command r) ≡ 0)
 request_still now r = by_kind r.kind
   where
     by_kind : (k : QueryKind) → (writes_of now (command_by k r) ≡ []) × (regions_of (command_by k r) ≡ []) × (ticks_of (command_by k r) ≡ 0)
@@ -217,7 +217,7 @@ name_is_free k name span q none =
 
 -- ---- a query that is asked for is registered
 
-module _ (s : State) (is : IsState s.journal s) (c : CommandTree) (r : Request) (same : c ≡ command_of r) where
+module _ (s : State) (is : IsState s.journal s) (c : CommandTree) (r : Request) (same : c ≡ request_command r) where
   asked_kept : is_kept c ≡ true
   asked_kept = ap is_kept same ∙ request_kept r
 

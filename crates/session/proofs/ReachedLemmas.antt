@@ -15,7 +15,7 @@ use Rattle.session_file.specs.declared.fault.FileFault.{FileFault}
 use Rattle.session_file.specs.declared.fault.FileFault.TheVariants as faults
 use Rattle.session_file.specs.Counts.{counts_of}
 use Rattle.session_file.specs.Kept.{HasLine, is_passed, kept_in}
-use Rattle.session_file.specs.Reading.{Reading, Part, Passed, End, Command, Bad, counted, ended, header, may_end, may_go_on, old_header, part_of, read_counted, read_lines, read_on, reading_of, starting, stops, with_first}
+use Rattle.session_file.specs.Reading.{Reading, FileLine, Passed, End, Command, Bad, progress_after, reading_after_end, header, may_end, may_go_on, old_header, file_line_of, read_counted, read_lines, read_on, reading_of, starting, stops, with_first}
 use Rattle.line_meaning.specs.Loading.{Loaded, BadLine, line_of_fault, loading_by, loading_of, replayed}
 use Rattle.line_meaning.specs.Reached.{AreReached}
 use Rattle.line_meaning.specs.Step.{fault_of, held, held_after}
@@ -38,31 +38,31 @@ by_tests false false false kept c h = absurd (cc h)
 by_tests false false true None c h = absurd (cc h)
 by_tests false false true (Some d) c h = ap Some (same_command d c h)
 
-kept_by_part : (p : Progress) (line : List ℕ) (c : CommandTree) → part_of p line ≡ Command c → kept_in line ≡ Some c
-unfolding part_of
+kept_by_part : (p : Progress) (line : List ℕ) (c : CommandTree) → file_line_of p line ≡ Command c → kept_in line ≡ Some c
+unfolding file_line_of
 kept_by_part p line c h = by_tests (is_passed line) (bytes_eq line (codes "end") && may_end p) (may_go_on p) (kept_in line) c h
 
-ended_have : (number : ℕ) (rest : List (List ℕ)) → HaveLines (ended number rest).commands
+ended_have : (number : ℕ) (rest : List (List ℕ)) → HaveLines (reading_after_end number rest).commands
 ended_have number [] = tt
 ended_have number (line ∷ rest) = tt
 
 -- what lines are read as by what the first of them is
-abbrev read_by : Progress → ℕ → List (List ℕ) → Part → Reading
+abbrev read_by : Progress → ℕ → List (List ℕ) → FileLine → Reading
 read_by p number rest Passed = read_on p (number + 1) rest
-read_by p number rest End = ended (number + 1) rest
-read_by p number rest (Command c) = with_first (number, c) (read_on (counted p c) (number + 1) rest)
+read_by p number rest End = reading_after_end (number + 1) rest
+read_by p number rest (Command c) = with_first (number, c) (read_on (progress_after p c) (number + 1) rest)
 read_by p number rest Bad = stops (faults.BadLine number)
 
 part_has : (p : Progress) (number : ℕ) (line : List ℕ) (rest : List (List ℕ)) → ((q : Progress) → HaveLines (read_on q (number + 1) rest).commands) →
-    (part : Part) → part_of p line ≡ part → HaveLines (read_by p number rest part).commands
+    (part : FileLine) → file_line_of p line ≡ part → HaveLines (read_by p number rest part).commands
 part_has p number line rest later Passed is = later p
 part_has p number line rest later End is = ended_have (number + 1) rest
-part_has p number line rest later (Command c) is = ((line, kept_by_part p line c is), later (counted p c))
+part_has p number line rest later (Command c) is = ((line, kept_by_part p line c is), later (progress_after p c))
 part_has p number line rest later Bad is = tt
 
 lines_have : (p : Progress) (number : ℕ) (ls : List (List ℕ)) → HaveLines (read_on p number ls).commands
 lines_have p number [] = tt
-lines_have p number (line ∷ rest) = part_has p number line rest (λ q. lines_have q (number + 1) rest) (part_of p line) refl
+lines_have p number (line ∷ rest) = part_has p number line rest (λ q. lines_have q (number + 1) rest) (file_line_of p line) refl
 
 counts_have : (said : Option Counts) (rest : List (List ℕ)) →
     HaveLines (option_map_or (λ (counts : Counts). read_on (starting (Some counts)) 3 rest) said (stops (faults.BadLine 2))).commands

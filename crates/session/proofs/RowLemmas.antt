@@ -8,7 +8,7 @@ use Rattle.std.proofs.lemmas.List.{length-append}
 use Rattle.std.proofs.lemmas.List.Sums.{sum_by_push}
 use Rattle.exact.specs.First.{first_that_holds, or_else}
 use Rattle.object_rows.specs.declared.rows.ObjectRow.{ObjectRow}
-use Rattle.object_rows.specs.Commands.{IsRow, command_of}
+use Rattle.object_rows.specs.Commands.{IsPrintableRow, command_of_row}
 use Rattle.session_file.specs.declared.kept.TheConstants.{SESSION_LINE_LIMIT}
 use Rattle.session_file.specs.Kept.{may_be_loaded}
 use Rattle.command_text.specs.declared.refusal.Refusal.{Refusal}
@@ -27,10 +27,10 @@ use Rattle.line_meaning.specs.Registry.{known}
 use Rattle.line_meaning.specs.Role.{is_on_queries, role_of}
 use Rattle.line_meaning.specs.Step.{fault_of, held}
 use Rattle.session.specs.Carried.{lines_by}
-use Rattle.session.specs.Followed.{writes_object}
 use Rattle.session.specs.Rows.{IsImportedRow, IsRowCommand, journal_after_commands, lines_of_commands, looks_of_commands, row_commands}
 use Rattle.line_meaning.proofs.RoleLemmas.{kept_is_journalled}
 use Rattle.session.proofs.FaultLemmas.{accepted, kept_fault}
+use Rattle.database.specs.Written.{writes_object}
 
 -- ---- a command that writes to an object
 
@@ -193,16 +193,16 @@ first_rows class journal (row ∷ rows) (d ∷ firsts) c later is =
 
 -- ---- they are as rows have them
 
-row_writes : (class : List ℕ) (present : Bool) (row : ObjectRow) → writes_object (command_of class present row) ≡ true
+row_writes : (class : List ℕ) (present : Bool) (row : ObjectRow) → writes_object (command_of_row class present row) ≡ true
 row_writes class true row = refl
 row_writes class false row = refl
 
-pub imported_rows : (class : List ℕ) (rows : List ObjectRow) → AllByRecursion (IsRow class) rows → AllByRecursion (MayBeLoaded class) rows →
+pub imported_rows : (class : List ℕ) (rows : List ObjectRow) → AllByRecursion (IsPrintableRow class) rows → AllByRecursion (MayBeLoaded class) rows →
     AllByRecursion (IsImportedRow class) rows
 imported_rows class [] printable may = tt
 imported_rows class (row ∷ rows) printable may = ((printable.0, may.0), imported_rows class rows printable.1 may.1)
 
-pub row_is : (class : List ℕ) (present : Bool) (row : ObjectRow) → IsImportedRow class row → IsRowCommand (command_of class present row)
+pub row_is : (class : List ℕ) (present : Bool) (row : ObjectRow) → IsImportedRow class row → IsRowCommand (command_of_row class present row)
 row_is class present row is = (is.0 present, row_writes class present row, is.1 present)
 
 pub rows_are : (class : List ℕ) (journal : List Accepted) (rows : List ObjectRow) → AllByRecursion (IsImportedRow class) rows →

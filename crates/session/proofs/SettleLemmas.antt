@@ -5,7 +5,7 @@ use Rattle.std.proofs.lemmas.List.Elements.{All-cons, All-head, All-nil, All-tai
 use Rattle.tick_set.specs.Runs.{spans_have}
 use Rattle.tick_set.specs.declared.spans.Span.{Span}
 use Rattle.kept_rows.specs.declared.change.Change as row_changes
-use Rattle.kept_rows.specs.Changes.{after}
+use Rattle.kept_rows.specs.Changes.{rows_after}
 use Rattle.geometry.specs.Region.{Region}
 use Rattle.history.specs.Catalog.{ClassInfo}
 use Rattle.history.specs.History.{ChangesFrom, History}
@@ -24,17 +24,18 @@ use Rattle.live_queries.specs.declared.fresh.Renewal.{Renewal}
 use Rattle.live_queries.specs.Asked.{FitsWorld}
 use Rattle.live_queries.specs.Columns.{AreSameColumns, Column}
 use Rattle.live_queries.specs.Current.{AreCurrent, IsCurrentFor, row_at}
-use Rattle.live_queries.specs.Kept.{AreKept, IsKept, KeptQuery, registered}
+use Rattle.live_queries.specs.Kept.{AreKept, IsKeptQuery, KeptQuery, registered_query}
 use Rattle.live_queries.specs.Prepared.{AreFreshFor, AreMade, IsFreshFor, IsMade, Prepared}
-use Rattle.live_queries.specs.Renewed.{AddsAtMost, ChangesNoObject, IsRenewed, IsSameHead}
+use Rattle.live_queries.specs.Renewed.{AddsAtMost, ChangesNoObject, IsRenewed, IsSameRequest}
 use Rattle.live_queries.specs.Told.{changes_of, moves_of, passings_of, told_changes}
 use Rattle.database.specs.declared.change.Change.{Change}
 use Rattle.database.specs.declared.database.Database.{Database}
 use Rattle.database.specs.Attempt.{Carries}
 use Rattle.database.specs.Keeping.{Keeps, clock_of, world_of_database}
-use Rattle.registry.specs.Moves.{moves_text}
+use Rattle.database.specs.Written.{writes_object}
+use Rattle.registry.specs.Moves.{told_moves_text}
 use Rattle.registry.specs.Standing.{Stand, known_of, registration_of}
-use Rattle.session.specs.Followed.{IsRenewal, Prepares, Settles, lines_told, object_of_change, writes_object}
+use Rattle.session.specs.Followed.{IsRenewal, Prepares, Settles, lines_told, object_of_change}
 use Rattle.session.proofs.ChangeLemmas.{WritesWorld, adds_at_most, adds_to_world, clock_after, same_world, write_ticks, write_unmade, writes_world}
 use Rattle.session.proofs.LineLemmas.{lines_of_write, moves_are, passings_are, same_lines}
 
@@ -42,26 +43,26 @@ use Rattle.session.proofs.LineLemmas.{lines_of_write, moves_are, passings_are, s
 pub record Laws : Type 0 where
   pub goes_on : (old new : World) (m : List ClassInfo) (n : List Region)
       → new.history.catalog.classes ≡ old.history.catalog.classes ++ m → new.regions ≡ old.regions ++ n
-      → (k k' : KeptQuery) → IsSameHead k k' → FitsWorld old k → FitsWorld new k'
+      → (k k' : KeptQuery) → IsSameRequest k k' → FitsWorld old k → FitsWorld new k'
   pub stays : (old new : World) → ChangesNoObject old new → (before now : ℕ) → before ≤ now
       → (k : KeptQuery) → FitsItsClasses old k.query
       → IsCurrentFor old before k → IsCurrentFor new now k
   pub commits : (id now class : ℕ) (old new : History) → ChangesFrom id now old new → AddsAtMost id old.catalog new.catalog
-      → (regions : List Region) (rs : List Renewal) (live live' : List KeptQuery) → All IsKept live → All IsKept live'
+      → (regions : List Region) (rs : List Renewal) (live live' : List KeptQuery) → All IsKeptQuery live → All IsKeptQuery live'
       → AreCurrent (world_with old regions) now live → AreFreshFor (world_with new regions) id class now live rs
       → AreMade id class rs live live' → AreCurrent (world_with new regions) now live'
   pub renews : (w : World) (object class now : ℕ) (r : Renewal) (k k' : KeptQuery)
       → IsFreshFor w object class now k r → IsMade object class r k k' → IsRenewed w object now k k'
   pub tells : (id now : ℕ) (old new : History) → ChangesFrom id now old new → AddsAtMost id old.catalog new.catalog
-      → (regions : List Region) (k k' : KeptQuery) → IsKept k → IsKept k'
+      → (regions : List Region) (k k' : KeptQuery) → IsKeptQuery k → IsKeptQuery k'
       → IsCurrentFor (world_with old regions) now k → IsRenewed (world_with new regions) id now k k'
-      → (changes : List (row_changes.Change (List Span))) → ((c t : ℕ) → row_at k' c t ≡ after spans_have changes (row_at k) c t)
+      → (changes : List (row_changes.Change (List Span))) → ((c t : ℕ) → row_at k' c t ≡ rows_after spans_have changes (row_at k) c t)
       → k.entry ≤ now
       → moves_of id now k changes
-      ≡ told_changes k.name (changes_of_write (world_with old regions) (world_with new regions) (registered k) now)
-  pub passed : (w : World) (k : KeptQuery) → IsKept k → (before now : ℕ) → IsCurrentFor w before k
+      ≡ told_changes k.name (changes_of_write (world_with old regions) (world_with new regions) (registered_query k) now)
+  pub passed : (w : World) (k : KeptQuery) → IsKeptQuery k → (before now : ℕ) → IsCurrentFor w before k
       → k.entry ≤ before → before ≤ now
-      → passings_of before now k ≡ told_changes k.name (changes_of_tick w (registered k) before now)
+      → passings_of before now k ≡ told_changes k.name (changes_of_tick w (registered_query k) before now)
 
 -- ---- queries that stay as they are
 
@@ -69,7 +70,7 @@ same_columns : (cs : List Column) → AreSameColumns cs cs
 same_columns [] = tt
 same_columns (c ∷ cs) = (refl, refl, same_columns cs)
 
-pub same_head : (k : KeptQuery) → IsSameHead k k
+pub same_head : (k : KeptQuery) → IsSameRequest k k
 same_head k = record { name = refl; kind = refl; query = refl; entry = refl; expiry = refl; columns = same_columns k.columns }
 
 -- ---- queries of which what was prepared was made
@@ -82,14 +83,14 @@ module _ (id class : ℕ) where
   made_registrations (r ∷ rs) [] ks' made = absurd made
   made_registrations (r ∷ rs) (k ∷ ks) [] made = absurd made
   made_registrations (r ∷ rs) (k ∷ ks) (k' ∷ ks') made =
-      let h : IsSameHead k k' = made.0.head in
+      let h : IsSameRequest k k' = made.0.head in
       λ i. record {
         name = h.name i;
         query = record { kind = h.kind i; query = h.query i; entry = h.entry i; expiry = h.expiry i };
       } ∷ made_registrations rs ks ks' made.1 i
 
   -- what the heads of queries tell stays
-  made_all : (P Q : KeptQuery → Type 0) → ((k k' : KeptQuery) → IsSameHead k k' → P k → Q k') → (rs : List Renewal) (ks ks' : List KeptQuery) →
+  made_all : (P Q : KeptQuery → Type 0) → ((k k' : KeptQuery) → IsSameRequest k k' → P k → Q k') → (rs : List Renewal) (ks ks' : List KeptQuery) →
       AreMade id class rs ks ks' → All P ks → All Q ks'
   made_all P Q stays [] [] [] made all = All-nil Q
   made_all P Q stays [] [] (k' ∷ ks') made all = absurd made
@@ -113,9 +114,9 @@ module _ (laws : Laws) (journal : List Accepted) (change : Change) (old new : Da
       (writes_object c ≡ true → object_of_change change ≡ None) →
       lines_told c (clock_of old) new live None ≡ kept_lines (known_of old live) (known_of new live) c
   unwritten_lines (Tree.Tick ticks) carries kept plain none =
-      let after = carries.keeps journal keeps in
-      let same : world_of_database new ≡ world_of_database old = same_world journal (clock_of old) (Tree.Tick ticks) old new keeps after refl refl in
-      let later : clock_of new ≡ clock_of old + ticks = clock_after journal (clock_of old) (Tree.Tick ticks) old new keeps after in
+      let rows_after = carries.keeps journal keeps in
+      let same : world_of_database new ≡ world_of_database old = same_world journal (clock_of old) (Tree.Tick ticks) old new keeps rows_after refl refl in
+      let later : clock_of new ≡ clock_of old + ticks = clock_after journal (clock_of old) (Tree.Tick ticks) old new keeps rows_after in
       let upto : clock_of old ≤ clock_of new = omega (arith, later) in
       passings_are (world_of_database old) (catalog_of new.store) (ap (λ (w : World). w.history.catalog) same) (clock_of old) (clock_of new) upto
       (λ k is current entered. laws.passed (world_of_database old) k is (clock_of old) (clock_of new) current entered upto)
@@ -177,7 +178,7 @@ module _ (laws : Laws) (journal : List Accepted) (change : Change) (old new : Da
                 f.renewals live live' made stand.entered;
           };
           queries = made_registrations f.object f.class f.renewals live live' made;
-          lines = ap (λ n. moves_text (catalog_of new.store) (changes_of f.object n live f.renewals)) still
+          lines = ap (λ n. told_moves_text (catalog_of new.store) (changes_of f.object n live f.renewals)) still
               ∙ moves_are (world_of_database old) here f.object f.class (clock_of old)
               (λ r k k' fresh' made'. laws.renews here f.object f.class (clock_of old) r k k' fresh' made')
               (λ k k' kept kept'' current renewed changes rows entered. laws.tells f.object (clock_of old) (history_of old.store) (history_of new.store)

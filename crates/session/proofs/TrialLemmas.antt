@@ -4,7 +4,7 @@ use Rattle.std.specs.Prelude.{is_some, Result, Ok, Err, IfOk, IfSome, OnErr}
 use Rattle.std.proofs.lemmas.List.{append_assoc, length-append, map-append}
 use Rattle.object_rows.specs.declared.rows.ObjectRow.{ObjectRow}
 use Rattle.std.specs.List.{AllByRecursion}
-use Rattle.object_rows.specs.Commands.{command_of}
+use Rattle.object_rows.specs.Commands.{command_of_row}
 use Rattle.command_text.specs.declared.command.Command.{Command}
 use Rattle.command_text.specs.declared.journal.TheConstants.{MOST_BYTES}
 use Rattle.command_text.specs.declared.refusal.Refusal.{Refusal}
@@ -21,10 +21,10 @@ use Rattle.database.specs.Attempt.{Carries, fault_told}
 use Rattle.database.specs.Keeping.{Keeps, clock_of, world_of_database}
 use Rattle.database.specs.Taking.{IsLast, TakesBackChange, without}
 use Rattle.database.proofs.CallerLemmas.{fault_is_told}
+use Rattle.database.specs.Written.{writes_object}
 use Rattle.session.specs.declared.trying.Trial.{Trial}
-use Rattle.session.specs.Followed.{writes_object}
 use Rattle.session.specs.Rows.{IsImportedRow, IsRowCommand, row_commands}
-use Rattle.session.specs.Trial.{Adds, AreTaken, HasSpare, IsAdded, IsNext, IsNotNext, IsSameTrial, IsStack, IsTold, IsTrial, IsTried, Steps, Tries, TriesCommand, bottom, journal_of, with_entries}
+use Rattle.session.specs.Trial.{AddsTaken, AreTaken, HasSpare, IsAdded, IsNotNext, IsSameTrial, IsStack, IsTakenNext, IsTrial, IsTried, Steps, TellsTrial, Tries, TriesCommand, bottom, journal_of, with_entries}
 use Rattle.session.proofs.FaultLemmas.{data_fault, refused}
 use Rattle.session.proofs.RowLemmas.{bytes_more, entries_more, entry_more, no_room, refused_untaken, row_is, taken_by, write_kept, write_plain}
 
@@ -98,9 +98,9 @@ module _ (start : List Accepted) (t more : Trial) (c : CommandTree) (commands : 
   pub journal_more : journal_of start more ≡ with_entry (journal_of start t) c
   journal_more = ap (with_entries start) commands ∙ with_entries-append start (map command_view t.commands.items) c
 
-  module _ (old new : Database) (is : IsTold start old t) (write : writes_object c ≡ true) (change : Change) (carries : Carries c old new change) where
+  module _ (old new : Database) (is : TellsTrial start old t) (write : writes_object c ≡ true) (change : Change) (carries : Carries c old new change) where
     pub told_more : length more.commands.items ≡ length t.commands.items + 1 → more.bytes ≡ t.bytes + (length (text_of c) + 1) →
-        t.bytes + length (text_of c) + 1 ≤ MOST_BYTES → IsTold start new more
+        t.bytes + length (text_of c) + 1 ≤ MOST_BYTES → TellsTrial start new more
     told_more count bytes short =
         let journal = journal_of start t in
         let length_is : length (journal_of start more) ≡ length journal + 1 = ap length journal_more ∙ entries_more journal c write in
@@ -117,7 +117,7 @@ module _ (start : List Accepted) (t more : Trial) (c : CommandTree) (commands : 
 -- ---- all rows
 
 module _ (class : List ℕ) (start : List Accepted) (rows : List ObjectRow) (row : ObjectRow) (rest : List ObjectRow) (t more : Trial) (is : IsTrial class start rows (row ∷ rest) t) where
-  pub trial_more : (old new : Database) → IsNext start (row_command (journal_of start t) class row) old new t more → IsTrial class start rows rest more
+  pub trial_more : (old new : Database) → IsTakenNext start (row_command (journal_of start t) class row) old new t more → IsTrial class start rows rest more
   trial_more old new next =
       let c = row_command (journal_of start t) class row in
       let j : journal_of start more ≡ with_entry (journal_of start t) c = journal_more start t more c next.commands in
@@ -146,7 +146,7 @@ trial_ends class start rows t is = record {
 
 -- a trial of no row, and the command of the next one
 pub none_told : (start : List Accepted) (d : Database) (t : Trial) → t.commands.items ≡ [] → t.bytes ≡ bytes_of start → t.bytes ≤ MOST_BYTES →
-    Keeps start d → IsTold start d t
+    Keeps start d → TellsTrial start d t
 none_told start d t none is short keeps =
     let same : journal_of start t ≡ start = ap (λ (cs : List Command). with_entries start (map command_view cs)) none in
     let count : length t.commands.items ≡ 0 = ap length none in
@@ -168,21 +168,21 @@ none_tried class start rows t none =
       commands = λ i. map command_view (none-back i) ++ row_commands class (back i) rows;
     }
 
-pub row_told : (start : List Accepted) (d : Database) (t : Trial) → IsTold start d t → (class : List ℕ) (row : ObjectRow) (present : Bool) (c : CommandTree) →
-    present ≡ is_present (world_of_database d).history row.name (clock_of d) → c ≡ command_of class present row →
+pub row_told : (start : List Accepted) (d : Database) (t : Trial) → TellsTrial start d t → (class : List ℕ) (row : ObjectRow) (present : Bool) (c : CommandTree) →
+    present ≡ is_present (world_of_database d).history row.name (clock_of d) → c ≡ command_of_row class present row →
     c ≡ row_command (journal_of start t) class row
 row_told start d t told class row present c present-is is =
-    is ∙ ap (λ b. command_of class b row) present-is
-    ∙ (λ i. command_of class (is_present (told.keeps.told_is i).history row.name (told.keeps.clock_is i)) row)
+    is ∙ ap (λ b. command_of_row class b row) present-is
+    ∙ (λ i. command_of_row class (is_present (told.keeps.told_is i).history row.name (told.keeps.clock_is i)) row)
 
 -- a command that was tried and added
 told_same : (start : List Accepted) (d : Database) (t more : Trial) → IsSameTrial t more → journal_of start more ≡ journal_of start t
 told_same start d t more same = ap (λ (cs : List Command). with_entries start (map command_view cs)) same.commands
 
-module _ (start : List Accepted) (t mid more : Trial) (old new : Database) (told-is : IsTold start old t) (command : Command) (line : List ℕ) where
+module _ (start : List Accepted) (t mid more : Trial) (old new : Database) (told-is : TellsTrial start old t) (command : Command) (line : List ℕ) where
   next_is : (bytes : ℕ) (change : Change) → writes_object (command_view command) ≡ true → bytes ≡ length line + 1 →
       IsTried start (command_view command) old new t mid line change → IsAdded command bytes change mid more →
-      IsNext start (command_view command) old new t more
+      IsTakenNext start (command_view command) old new t more
   next_is bytes change write bytes-are tries added =
       let commands : more.commands.items ≡ t.commands.items ++ command ∷ [] =
       added.commands ∙ ap (λ (cs : List Command). cs ++ command ∷ []) tries.same.commands in
@@ -207,7 +207,7 @@ module _ (start : List Accepted) (t mid more : Trial) (old new : Database) (told
 
   pub steps : {E : Type 0} (tried-as : Result (Option Change) E) (bytes : ℕ) (result : Result Bool E) → writes_object (command_view command) ≡ true →
       bytes ≡ length line + 1 → TriesCommand start (command_view command) old new t mid line tried-as →
-      Adds command bytes tried-as mid more result → Steps start (command_view command) old new t more result
+      AddsTaken command bytes tried-as mid more result → Steps start (command_view command) old new t more result
   steps (Ok (Some change)) bytes result write bytes-are tries adds =
       subst (Steps start (command_view command) old new t more) (sym adds.0) (next_is bytes change write bytes-are tries adds.1)
   steps (Ok None) bytes result write bytes-are tries adds =
@@ -249,7 +249,7 @@ tries_command start c old new t mid line (Ok None) same spare tries line-is shor
     (subst (λ (j : List Accepted). Tries j c old new None) (told_same start old t mid same) tries, same)
 tries_command start c old new t mid line (Err fault) same spare tries line-is short err = (err, same)
 
-pub same_told : (start : List Accepted) (d : Database) (t mid : Trial) → IsSameTrial t mid → IsTold start d t → IsTold start d mid
+pub same_told : (start : List Accepted) (d : Database) (t mid : Trial) → IsSameTrial t mid → TellsTrial start d t → TellsTrial start d mid
 same_told start d t mid same told-is =
     let journals : journal_of start mid ≡ journal_of start t = told_same start d t mid same in
     let count : length mid.commands.items ≡ length t.commands.items = ap length same.commands in
@@ -269,8 +269,8 @@ same_told start d t mid same told-is =
 -- ---- one row of the loop over them
 
 module _ (class : List ℕ) (start : List Accepted) (rows : List ObjectRow) (row : ObjectRow) (rest left : List ObjectRow) (left-is : left ≡ row ∷ rest)
-    (t mid more : Trial) (d d' : Database) (told-is : IsTold start d t) (each : AllByRecursion (IsImportedRow class) left) (trial : IsTrial class start rows left t)
-    (command : Command) (command-is : command_view command ≡ command_of class (is_present (world_of_database d).history row.name (clock_of d)) row) where
+    (t mid more : Trial) (d d' : Database) (told-is : TellsTrial start d t) (each : AllByRecursion (IsImportedRow class) left) (trial : IsTrial class start rows left t)
+    (command : Command) (command-is : command_view command ≡ command_of_row class (is_present (world_of_database d).history row.name (clock_of d)) row) where
   its_command : command_view command ≡ row_command (journal_of start t) class row
   its_command = row_told start d t told-is class row (is_present (world_of_database d).history row.name (clock_of d)) (command_view command) refl command-is
 
@@ -286,13 +286,13 @@ module _ (class : List ℕ) (start : List Accepted) (rows : List ObjectRow) (row
   rest_each = (subst (AllByRecursion (IsImportedRow class)) left-is each).1
 
   module _ {E : Type 0} (line : List ℕ) (bytes : ℕ) (bytes-are : bytes ≡ length line + 1) (tried-as : Result (Option Change) E) (result : Result Bool E)
-      (tries : TriesCommand start (command_view command) d d' t mid line tried-as) (adds : Adds command bytes tried-as mid more result) where
+      (tries : TriesCommand start (command_view command) d d' t mid line tried-as) (adds : AddsTaken command bytes tried-as mid more result) where
     stepped : Steps start (row_command (journal_of start t) class row) d d' t more result
     stepped =
         subst (λ (c : CommandTree). Steps start c d d' t more result) its_command
         (steps start t mid more d d' told-is command line tried-as bytes result row_ready.1 bytes-are tries adds)
 
-    pub row_taken : result ≡ Ok true → IsNext start (row_command (journal_of start t) class row) d d' t more
+    pub row_taken : result ≡ Ok true → IsTakenNext start (row_command (journal_of start t) class row) d d' t more
     row_taken is = subst (Steps start (row_command (journal_of start t) class row) d d' t more) is stepped
 
     pub trial_on : result ≡ Ok true → IsTrial class start rows rest more

@@ -6,7 +6,7 @@ use Rattle.object_rows.specs.declared.rows.ObjectRow.{ObjectRow}
 use Rattle.command_text.specs.declared.reading.TheConstants.{LINE_LIMIT}
 use Rattle.command_text.specs.Journal.{spelled}
 use Rattle.command_text.specs.Line.{early_refusal}
-use Rattle.command_text.specs.Refusals.{line_of}
+use Rattle.command_text.specs.Refusals.{refusal_line}
 use Rattle.command_text.specs.Tree
 use Rattle.command_text.specs.Tree.{CommandTree}
 use Rattle.line_meaning.specs.declared.role.Role.{Role}
@@ -36,7 +36,7 @@ next_of c = next_by (role_of c)
 -- and after its reply.
 abbrev pub Answers : Next → Base → List ℕ → Held → List ℕ → List ℕ → Type 0
 Answers (nexts.Refused r) b line new before after =
-    (refusal_of b line ≡ Some r) × (step b line ≡ (b, line_of r ++ line_feed)) × (new ≡ b.held) × (after ≡ before)
+    (refusal_of b line ≡ Some r) × (step b line ≡ (b, refusal_line r ++ line_feed)) × (new ≡ b.held) × (after ≡ before)
 Answers next b line new before after =
     (refusal_of b line ≡ None) × (next ≡ next_of (spelled line)) × (new ≡ (step b line).0.held)
     × (after ≡ before ++ (step b line).1)
@@ -50,9 +50,9 @@ abbrev pub MayHave : Option Texts → Texts → Type 0
 MayHave told texts = (all : Texts) → told ≡ Some all → texts ≡ all
 
 -- a refused line changes nothing, also where no text is told
-abbrev pub IsUnchanged : Next → Held → Held → List ℕ → List ℕ → Type 0
-IsUnchanged (nexts.Refused r) old new before after = (new ≡ old) × (after ≡ before)
-IsUnchanged next old new before after = Unit {0}
+abbrev pub KeepsIfRefused : Next → Held → Held → List ℕ → List ℕ → Type 0
+KeepsIfRefused (nexts.Refused r) old new before after = (new ≡ old) × (after ≡ before)
+KeepsIfRefused next old new before after = Unit {0}
 
 -- ---- Failures
 
@@ -95,9 +95,9 @@ pub record IsNoMemory (told left : Option Texts) (line : List ℕ) (old new : He
   pub texts : (texts : Texts) → told ≡ Some texts → left ≡ Some texts
   pub leaves : (texts : Texts) → Suffices told line texts → LeavesHeld (base old texts) (spelled line) new
 
-abbrev pub Fails : ApplyFault → Option Texts → Option Texts → List ℕ → Held → Held → List ℕ → List ℕ → Type 0
-Fails apply_faults.ShelfFault told left line old new before after = IsShelfFault told left line old new before after
-Fails apply_faults.NoMemory told left line old new before after = IsNoMemory told left line old new before after
+abbrev pub FailsAtLine : ApplyFault → Option Texts → Option Texts → List ℕ → Held → Held → List ℕ → List ℕ → Type 0
+FailsAtLine apply_faults.ShelfFault told left line old new before after = IsShelfFault told left line old new before after
+FailsAtLine apply_faults.NoMemory told left line old new before after = IsNoMemory told left line old new before after
 
 -- ---- All that is promised of one line, from what was held and told of the shelf before it to what is after it, by the
 -- bytes before and after its reply
@@ -105,17 +105,17 @@ pub record Applies (told left : Option Texts) (line : List ℕ) (old new : Held)
     (result : Result Next ApplyFault) : Type 0 where
   pub answers : (texts : Texts) → Suffices told line texts →
       IfOk result (λ next. Answers next (base old texts) line new before after)
-  pub refused : IfOk result (λ next. IsUnchanged next old new before after)
+  pub refused : IfOk result (λ next. KeepsIfRefused next old new before after)
   pub texts : (texts : Texts) → told ≡ Some texts → IfOk result (λ next. left ≡ Some (step (base old texts) line).0.texts)
-  pub fails : IfErr result (λ fault. Fails fault told left line old new before after)
+  pub fails : IfErr result (λ fault. FailsAtLine fault told left line old new before after)
 
 -- the shelf is blamed only where its count rose
 abbrev pub FaultCounts : ℕ → ℕ → ApplyFault → Type 0
 FaultCounts before now apply_faults.ShelfFault = Rose before now
 FaultCounts before now apply_faults.NoMemory = now ≡ before
 
-abbrev pub HasCause : ℕ → ℕ → Result Next ApplyFault → Type 0
-HasCause before now result = MatchResult result (λ _. now ≡ before) (FaultCounts before now)
+abbrev pub HasFaultCause : ℕ → ℕ → Result Next ApplyFault → Type 0
+HasFaultCause before now result = MatchResult result (λ _. now ≡ before) (FaultCounts before now)
 
 -- a refused line and one without a reply look at no object
 abbrev pub IsUnread : Next → ℕ → ℕ → Type 0

@@ -10,5 +10,5 @@ abbrev pub command_by : QueryKind → Request → CommandTree
 command_by Watch r = Tree.Watch r.name.now r.span (query_view r.query.now)
 command_by Keep r = Tree.Keep r.name.now r.span (query_view r.query.now)
 
-abbrev pub command_of : Request → CommandTree
-command_of r = command_by r.kind r
+abbrev pub request_command : Request → CommandTree
+request_command r = command_by r.kind r

@@ -1,5 +1,5 @@
 -- Carrying out a command that was read: what it has to be like, and what it does from one moment to the next.
-use Rattle.std.specs.Prelude.{◌≡◌, ◌≤◌, ◌+◌, ◌++◌, ℕ, Bool, true, false, List, [], length, vec_capacity, vec_len, None, Some, Vec, Result, IfErr, IfOk, OnErr}
+use Rattle.std.specs.Prelude.{◌≡◌, ◌≤◌, ◌+◌, ◌++◌, ℕ, Bool, true, false, List, [], length, None, Some, Vec, Result, IfErr, IfOk, OnErr}
 use Rattle.std.specs.declared.alloc.Global.{Global}
 use Rattle.ftl_lexer.specs.declared.buffer.TheConstants.{LEXER_LIMIT}
 use Rattle.command_text.specs.declared.fault.CommandFault.{CommandFault}
@@ -25,6 +25,7 @@ use Rattle.database.specs.Telling.{RefusesFreely, Tally, TakesAtMost, tally}
 use Rattle.session.specs.declared.next.Next.{Next}
 use Rattle.session.specs.declared.next.Next.TheVariants as nexts
 use Rattle.session.specs.Answers.{IsUnread, next_of}
+use Rattle.kept_indexes.specs.Making.{HasRoomForOk}
 
 -- ---- The command
 
@@ -99,7 +100,7 @@ pub record Spends (c : CommandTree) (old new : Moment) : Type 0 where
   pub plain : is_query c ≡ false → new.tally.probes ≡ old.tally.probes
 
 -- all that a command does until its reply is to be ended; a refused one takes nothing
-pub record Carries {T : Type 0} (c : CommandTree) (old new : Moment) (result : Result T CommandFault) : Type 0 where
+pub record CarriesOut {T : Type 0} (c : CommandTree) (old new : Moment) (result : Result T CommandFault) : Type 0 where
   pub accepted : IfOk result (λ _. IsAccepted c old.holds new.holds old.tally.said new.tally.said)
   pub stopped : IfErr result (IsStopped c old.holds new.holds)
   pub spends : Spends c old new
@@ -128,10 +129,6 @@ pub record Carried {E : Type 0} (c : CommandTree) (old new : Moment) (result : R
   pub unread : IfOk result (λ next. IsUnread next old.tally.reads new.tally.reads)
   pub unprobed : IfOk result (λ next. IsUnread next old.tally.probes new.tally.probes)
 
--- there is room for the `ok` that ends a reply
-abbrev pub HasRoom : Vec ℕ Global → Type 0
-HasRoom out = vec_len out + length ok_line ≤ vec_capacity out
-
 -- the end of a reply by what was told of the command
 abbrev pub end_of : Next → List ℕ
 end_of nexts.Accepted = ok_line
@@ -140,6 +137,6 @@ end_of next = []
 
 -- where a reply is to be ended there is room for that
 abbrev pub HasRoomFor : Next → Vec ℕ Global → Type 0
-HasRoomFor nexts.Accepted out = HasRoom out
-HasRoomFor nexts.Quit out = HasRoom out
+HasRoomFor nexts.Accepted out = HasRoomForOk out
+HasRoomFor nexts.Quit out = HasRoomForOk out
 HasRoomFor next out = Unit {0}

@@ -1,6 +1,6 @@
 -- What is done with a command, by what was held and told of the shelf before it, and what is after it.
 use Rattle.std.specs.Prelude.{◌≡◌, ◌≤◌, ◌+◌, ℕ, List, ◌++◌, true, false, Option, None, Some, Result, Ok, Err, IfOk, IfErr}
-use Rattle.outside.specs.Shelf.{SameButAt, Texts, put}
+use Rattle.outside.specs.Shelf.{SameButAt, Texts, texts_with}
 use Rattle.command_text.specs.declared.refusal.Refusal.{Refusal}
 use Rattle.exact.specs.First.{or_else}
 use Rattle.command_text.specs.Shape.{IsPrintable}
@@ -12,7 +12,7 @@ use Rattle.session.specs.declared.next.ApplyFault.{ApplyFault}
 use Rattle.session.specs.declared.next.ApplyFault.TheVariants as apply_faults
 use Rattle.session.specs.declared.next.Next.{Next}
 use Rattle.session.specs.declared.next.Next.TheVariants as nexts
-use Rattle.session.specs.Answers.{IsUnchanged, IsUnread, LeavesHeld, LeavesTexts, MayHave, next_of}
+use Rattle.session.specs.Answers.{IsUnread, KeepsIfRefused, LeavesHeld, LeavesTexts, MayHave, next_of}
 use Rattle.session.specs.Carried.{Moment}
 
 -- a command that asks the shelf
@@ -51,18 +51,18 @@ pub record WantsMemory (told left : Option Texts) (c : CommandTree) (old new : H
   pub texts : (texts : Texts) → told ≡ Some texts → left ≡ Some texts
   pub leaves : (texts : Texts) → SufficesFor told c texts → LeavesHeld (base old texts) c new
 
-abbrev pub FailsWith : ApplyFault → Option Texts → Option Texts → CommandTree → Held → Held → List ℕ → List ℕ → Type 0
-FailsWith apply_faults.ShelfFault told left c old new before after = IsStoppedByShelf told left c old new before after
-FailsWith apply_faults.NoMemory told left c old new before after = WantsMemory told left c old new before after
+abbrev pub FailsAtCommand : ApplyFault → Option Texts → Option Texts → CommandTree → Held → Held → List ℕ → List ℕ → Type 0
+FailsAtCommand apply_faults.ShelfFault told left c old new before after = IsStoppedByShelf told left c old new before after
+FailsAtCommand apply_faults.NoMemory told left c old new before after = WantsMemory told left c old new before after
 
 -- ---- All that is done with a command
 
 pub record IsApplied (told left : Option Texts) (c : CommandTree) (old new : Held) (before after : List ℕ)
     (result : Result Next ApplyFault) : Type 0 where
   pub answers : (texts : Texts) → SufficesFor told c texts → IfOk result (λ next. Does next (base old texts) c new before after)
-  pub refused : IfOk result (λ next. IsUnchanged next old new before after)
+  pub refused : IfOk result (λ next. KeepsIfRefused next old new before after)
   pub texts : (texts : Texts) → told ≡ Some texts → IfOk result (λ next. left ≡ Some (texts_by next (base old texts) c))
-  pub fails : IfErr result (λ fault. FailsWith fault told left c old new before after)
+  pub fails : IfErr result (λ fault. FailsAtCommand fault told left c old new before after)
 
 -- of a command that is refused, and of one without a reply, no step is taken
 pub record TakesSteps (reads reads' probes probes' : ℕ) (result : Result Next ApplyFault) : Type 0 where
@@ -93,7 +93,7 @@ said_after (Err e) before after = before
 
 -- a text was put on the shelf, or what a failure left of it
 abbrev pub Puts : Option Texts → Option Texts → List ℕ → List ℕ → Result Next ApplyFault → Type 0
-Puts told left file text (Ok next) = (next ≡ nexts.Accepted) × ((texts : Texts) → told ≡ Some texts → left ≡ Some (put texts file text))
+Puts told left file text (Ok next) = (next ≡ nexts.Accepted) × ((texts : Texts) → told ≡ Some texts → left ≡ Some (texts_with texts file text))
 Puts told left file text (Err apply_faults.ShelfFault) =
     (texts : Texts) → told ≡ Some texts → (rest : Texts) × (left ≡ Some rest) × SameButAt file texts rest
 Puts told left file text (Err apply_faults.NoMemory) = (texts : Texts) → told ≡ Some texts → left ≡ Some texts

@@ -1,5 +1,5 @@
 -- What follows a change of the database: lines of what changes for the registered queries, and what a write makes of them.
-use Rattle.std.specs.Prelude.{◌≡◌, ℕ, Bool, true, false, Option, None, Some, List, [], ◌∷◌, ◌++◌, Result, IfErr, IfOk}
+use Rattle.std.specs.Prelude.{◌≡◌, ℕ, true, Option, None, Some, List, [], ◌∷◌, ◌++◌, Result, IfErr, IfOk}
 use Rattle.std.specs.List.{flat_map}
 use Rattle.object_store.specs.Contents.{catalog_of}
 use Rattle.command_text.specs.declared.fault.CommandFault.{CommandFault}
@@ -14,7 +14,8 @@ use Rattle.database.specs.declared.change.Change.TheVariants as changes
 use Rattle.database.specs.declared.database.Database.{Database}
 use Rattle.database.specs.Attempt.{Carries}
 use Rattle.database.specs.Keeping.{clock_of, world_of_database}
-use Rattle.registry.specs.Moves.{moves_text}
+use Rattle.database.specs.Written.{writes_object}
+use Rattle.registry.specs.Moves.{told_moves_text}
 use Rattle.session.specs.declared.state.State.{State}
 use Rattle.session.specs.Carried.{IsStopped}
 use Rattle.session.specs.State.{IsState}
@@ -25,13 +26,6 @@ pub record IsChanged (c : CommandTree) (before : ℕ) (change : Change) (s : Sta
   pub state : IsState s.journal (record s { database = old })
   pub carries : Carries c old s.database change
   pub tick : before ≡ clock_of old
-
--- a command that writes to an object
-abbrev pub writes_object : CommandTree → Bool
-writes_object (Tree.Insert class name place sets) = true
-writes_object (Tree.Update name place sets) = true
-writes_object (Tree.Remove name) = true
-writes_object _ = false
 
 -- the object that a change wrote
 abbrev pub object_of_change : Change → Option ℕ
@@ -52,9 +46,9 @@ Prepares c change d live (Some f) = IsRenewal c change d live f
 
 -- the lines of a change by the rows from before it
 abbrev pub lines_told : CommandTree → ℕ → Database → List KeptQuery → Option Prepared → List ℕ
-lines_told c before d live (Some f) = moves_text (catalog_of d.store) (changes_of f.object (clock_of d) live f.renewals)
+lines_told c before d live (Some f) = told_moves_text (catalog_of d.store) (changes_of f.object (clock_of d) live f.renewals)
 lines_told (Tree.Tick ticks) before d live None =
-    moves_text (catalog_of d.store) (flat_map (passings_of before (clock_of d)) live)
+    told_moves_text (catalog_of d.store) (flat_map (passings_of before (clock_of d)) live)
 lines_told c before d live None = []
 
 -- what was prepared is made

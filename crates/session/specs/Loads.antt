@@ -16,9 +16,9 @@ Loads text (Err (faults.BadLine number)) = loading_of text ≡ BadLine number
 Loads text (Err faults.NoMemory) = Unit {0}
 
 -- one of its commands is entered, or it is refused
-abbrev pub Takes : Held → CommandTree → Held → Bool → Type 0
-Takes old c new true = (fault_of (held old.journal) c ≡ None) × (new ≡ held_after old c)
-Takes old c new false = is_none (fault_of (held old.journal) c) ≡ false
+abbrev pub TakesLoaded : Held → CommandTree → Held → Bool → Type 0
+TakesLoaded old c new true = (fault_of (held old.journal) c ≡ None) × (new ≡ held_after old c)
+TakesLoaded old c new false = is_none (fault_of (held old.journal) c) ≡ false
 
 -- ---- How many looks that may take
 

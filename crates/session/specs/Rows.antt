@@ -1,7 +1,7 @@
 -- Commands of rows, one after another.
 use Rattle.std.specs.Prelude.{◌≡◌, ◌⊎◌, ℕ, ◌+◌, true, Option, None, Some, Result, Ok, Err, List, [], ◌∷◌, ◌++◌, if◌then◌else◌}
 use Rattle.object_rows.specs.declared.rows.ObjectRow.{ObjectRow}
-use Rattle.object_rows.specs.Commands.{IsRow}
+use Rattle.object_rows.specs.Commands.{IsPrintableRow}
 use Rattle.session_file.specs.Kept.{may_be_loaded}
 use Rattle.command_text.specs.Journal.{Accepted}
 use Rattle.command_text.specs.Shape.{IsPrintable}
@@ -10,7 +10,7 @@ use Rattle.line_meaning.specs.Import.{MayBeLoaded, entry_lines, is_taken, row_co
 use Rattle.line_meaning.specs.Looks.{most_looks}
 use Rattle.line_meaning.specs.Reply.{ok_line}
 use Rattle.line_meaning.specs.Step.{held}
-use Rattle.session.specs.Followed.{writes_object}
+use Rattle.database.specs.Written.{writes_object}
 
 -- those of rows, each by the journal after the rows before it
 abbrev pub row_commands : List ℕ → List Accepted → List ObjectRow → List CommandTree
@@ -21,7 +21,7 @@ row_commands class journal (row ∷ rows) =
 -- the command of a row of a text, whether its object is there or not, is as if it had been read from a line that a session's
 -- text may have
 abbrev pub IsImportedRow : List ℕ → ObjectRow → Type 0
-IsImportedRow class row = IsRow class row × MayBeLoaded class row
+IsImportedRow class row = IsPrintableRow class row × MayBeLoaded class row
 
 -- a command as rows have it
 abbrev pub IsRowCommand : CommandTree → Type 0
@@ -68,7 +68,7 @@ pub record AreEntered (start : List Accepted) (cs : List CommandTree) (journal :
   pub entered : journal_after_commands start first ≡ Some journal
 
 -- their lines were written
-pub record AreWritten (start : List Accepted) (cs : List CommandTree) (journal : List Accepted) (rest : List CommandTree) (before after : List ℕ) : Type 0 where
+pub record HaveWrittenLines (start : List Accepted) (cs : List CommandTree) (journal : List Accepted) (rest : List CommandTree) (before after : List ℕ) : Type 0 where
   pub said : List ℕ
   pub out : after ≡ before ++ said
   pub lines : lines_of_commands start cs ≡ said ++ lines_of_commands journal rest

@@ -50,7 +50,7 @@ abbrev pub journal_of : List Accepted → Trial → List Accepted
 journal_of start t = with_entries start (map command_view t.commands.items)
 
 -- the database tells the journal with the commands of the trial, whose size is known
-pub record IsTold (start : List Accepted) (d : Database) (t : Trial) : Type 0 where
+pub record TellsTrial (start : List Accepted) (d : Database) (t : Trial) : Type 0 where
   pub keeps : Keeps (journal_of start t) d
   pub entries : length (journal_of start t) ≡ length start + length t.commands.items
   pub bytes : bytes_of (journal_of start t) ≡ t.bytes
@@ -81,15 +81,15 @@ pub record IsAdded (command : Command) (bytes : ℕ) (change : Change) (old new 
   pub size : new.bytes ≡ old.bytes + bytes
 
 -- a command that is taken is added
-abbrev pub Adds : {E : Type 0} → Command → ℕ → Result (Option Change) E → Trial → Trial → Result Bool E → Type 0
-Adds command bytes (Ok (Some change)) old new result = (result ≡ Ok true) × IsAdded command bytes change old new
-Adds command bytes (Ok None) old new result = (result ≡ Ok false) × (new ≡ old)
-Adds command bytes (Err fault) old new result = (result ≡ Err fault) × (new ≡ old)
+abbrev pub AddsTaken : {E : Type 0} → Command → ℕ → Result (Option Change) E → Trial → Trial → Result Bool E → Type 0
+AddsTaken command bytes (Ok (Some change)) old new result = (result ≡ Ok true) × IsAdded command bytes change old new
+AddsTaken command bytes (Ok None) old new result = (result ≡ Ok false) × (new ≡ old)
+AddsTaken command bytes (Err fault) old new result = (result ≡ Err fault) × (new ≡ old)
 
 -- it was taken, and its change is the last of the trial
-pub record IsNext (start : List Accepted) (c : CommandTree) (old new : Database) (t more : Trial) : Type 0 where
+pub record IsTakenNext (start : List Accepted) (c : CommandTree) (old new : Database) (t more : Trial) : Type 0 where
   pub taken : is_taken (journal_of start t) c ≡ true
-  pub told : IsTold start new more
+  pub told : TellsTrial start new more
   pub commands : map command_view more.commands.items ≡ map command_view t.commands.items ++ c ∷ []
   pub stack : IsStack t.changes.items old → IsStack more.changes.items new
   pub back : bottom more.changes.items new ≡ bottom t.changes.items old
@@ -101,7 +101,7 @@ pub record IsNotNext (start : List Accepted) (c : CommandTree) (old new : Databa
 
 -- a command was tried, and added where it is taken
 abbrev pub Steps : {E : Type 0} → List Accepted → CommandTree → Database → Database → Trial → Trial → Result Bool E → Type 0
-Steps start c old new t more (Ok true) = IsNext start c old new t more
+Steps start c old new t more (Ok true) = IsTakenNext start c old new t more
 Steps start c old new t more (Ok false) = IsNotNext start c old new t more
 Steps start c old new t more (Err fault) = (new ≡ old) × (more.changes.items ≡ t.changes.items)
 

@@ -5,10 +5,11 @@ ghost use Rattle.command_text.specs.Tree.{command_view};
 ghost use Rattle.line_meaning.specs.Step.{held};
 ghost use Rattle.database.specs.Telling.{RefusesFreely, tally};
 ghost use Rattle.session.specs.Answers.{next_of};
-ghost use Rattle.session.specs.Carried.{Carried, Carries, HasRoom, HasRoomFor, IsStopped, IsTelling, IsToCarryOut, Spends, end_of, moment};
+ghost use Rattle.session.specs.Carried.{Carried, CarriesOut, HasRoomFor, IsStopped, IsTelling, IsToCarryOut, Spends, end_of, moment};
 ghost use Rattle.line_meaning.specs.Role.{is_on_indexes};
 ghost use Rattle.session.specs.State.{holds, IsIndexed, IsState, KeepsIndexes};
 ghost use Rattle.session.specs.Told.{IsTold};
+ghost use Rattle.kept_indexes.specs.Making.{HasRoomForOk};
 
 use crate::entering::{end_reply, make_room};
 use crate::indexing::on_indexes;
@@ -69,10 +70,10 @@ fn tell<L: Ledger, M: Ledger>(
 ) -> Result<(), CommandFault>
     requires state { IsState state.now.journal state.now }
     requires telling { IsTelling (command_view command.now) }
-    ensures carries { Carries (command_view command.now)
+    ensures carries { CarriesOut (command_view command.now)
         (moment (held state.now.journal) out.old.items reads.old probes.old)
         (moment (held state.now.journal) out.new.items reads.new probes.new) result }
-    ensures room { OnOk result (HasRoom out.new) }
+    ensures room { OnOk result (HasRoomForOk out.new) }
 {
     tell_lines(alloc, state, command, reads, probes, out)?;
     make_room(out)?;
@@ -97,7 +98,7 @@ fn perform_plain<L: Ledger, M: Ledger>(
     requires other { is_on_indexes (command_view command.now) ≡ false }
     ensures state { IsState state.new.journal state.new }
     ensures indexes { KeepsIndexes state.old state.new }
-    ensures carries { Carries (command_view command.now)
+    ensures carries { CarriesOut (command_view command.now)
         (moment (held state.old.journal) out.old.items reads.old probes.old)
         (moment (held state.new.journal) out.new.items reads.new probes.new) result }
     ensures next { IfOk result (λ next. next ≡ next_of (command_view command.now)) }
@@ -154,7 +155,7 @@ fn perform<L: Ledger, M: Ledger>(
     requires printed { IfSome printed (λ line. line.now ≡ text_of (command_view command.now)) }
     ensures state { IsState state.new.journal state.new }
     ensures indexed { IsIndexed state.new }
-    ensures carries { Carries (command_view command.now)
+    ensures carries { CarriesOut (command_view command.now)
         (moment (holds state.old) out.old.items reads.old probes.old)
         (moment (holds state.new) out.new.items reads.new probes.new) result }
     ensures next { IfOk result (λ next. next ≡ next_of (command_view command.now)) }

@@ -7,8 +7,8 @@ ghost use Rattle.command_text.specs.Text.{text_of};
 ghost use Rattle.command_text.specs.Tree.{command_view};
 ghost use Rattle.line_meaning.specs.Fault.{passes_limits};
 ghost use Rattle.line_meaning.specs.Reply.{ok_line};
-ghost use Rattle.session.specs.Carried.{HasRoom};
 ghost use Rattle.session.specs.Entering.{Admits};
+ghost use Rattle.kept_indexes.specs.Making.{HasRoomForOk};
 
 use command_text::{Command, CommandFault, Journal, MOST_BYTES, MOST_ENTRIES, Refusal, print_into};
 use std::alloc::AllocError;
@@ -92,7 +92,7 @@ pub(crate) fn enter(
     requires room { passes_limits (length journal.old) (bytes_of journal.old) (length line.now) ≡ false }
     ensures entered { OnOk result (journal.new ≡ journal.old ++ (now, spelled line.now) ∷ []) }
     ensures err { OnErr result (journal.new ≡ journal.old) }
-    ensures room { OnOk result (HasRoom out.new) }
+    ensures room { OnOk result (HasRoomForOk out.new) }
     ensures same { out.new.items ≡ out.old.items }
 {
     make_room(out)?;
@@ -101,7 +101,7 @@ pub(crate) fn enter(
 
 /// Makes room for an `ok` at the end.
 pub(crate) fn make_room(out: &mut Vec<u8>) -> Result<(), AllocError>
-    ensures room { OnOk result (HasRoom out.new) }
+    ensures room { OnOk result (HasRoomForOk out.new) }
     ensures same { out.new.items ≡ out.old.items }
 {
     out.reserve(OK_BYTES)
@@ -109,7 +109,7 @@ pub(crate) fn make_room(out: &mut Vec<u8>) -> Result<(), AllocError>
 
 /// Ends a reply with `ok`, for which there is room. It takes no memory.
 pub(crate) fn end_reply(out: &mut Vec<u8>)
-    requires { HasRoom out.old }
+    requires { HasRoomForOk out.old }
     ensures { out.new.items ≡ out.old.items ++ ok_line }
 {
     out.extend_from_slice(b"ok\n").unwrap();

@@ -10,7 +10,7 @@ ghost use Rattle.line_meaning.specs.Role.{is_import};
 ghost use Rattle.line_meaning.specs.Reply.{ok_line};
 ghost use Rattle.line_meaning.specs.Step.{held};
 ghost use Rattle.reply_text.specs.Begins.{Begins};
-ghost use Rattle.session.specs.Answers.{HasCause, IsUnread};
+ghost use Rattle.session.specs.Answers.{HasFaultCause, IsUnread};
 ghost use Rattle.session.specs.Carried.{moment};
 ghost use Rattle.session.specs.Filed.{IsAnswered, IsApplied, IsBySome, IsFiling, Puts, TakesSteps, said_after};
 ghost use Rattle.session.specs.Imported.{Imports, IsThere};
@@ -40,7 +40,7 @@ fn put<F: Shelf>(
     out: &mut Vec<u8>,
 ) -> Result<Next, ApplyFault>
     ensures puts { Puts (F.texts shelf.old) (F.texts shelf.new) file.now text.now result }
-    ensures cause { HasCause (F.faults shelf.old) (F.faults shelf.new) result }
+    ensures cause { HasFaultCause (F.faults shelf.old) (F.faults shelf.new) result }
     ensures said { OnOk result (out.new.items ≡ out.old.items ++ ok_line) }
     ensures begins { Begins out.old.items out.new.items }
 {
@@ -64,7 +64,7 @@ fn save<F: Shelf, L: Ledger>(
     requires { IsState state.now.journal state.now }
     ensures applied { IsApplied (F.texts shelf.old) (F.texts shelf.new) (Tree.Save file.now) (held state.now.journal) (held state.now.journal)
         out.old.items (said_after result out.old.items out.new.items) result }
-    ensures cause { HasCause (F.faults shelf.old) (F.faults shelf.new) result }
+    ensures cause { HasFaultCause (F.faults shelf.old) (F.faults shelf.new) result }
     ensures begins { Begins out.old.items out.new.items }
     ensures least { reads.old ≤ reads.new }
     ensures most { reads.new ≤ reads.old + most_looks (held state.now.journal) (Tree.Save file.now) }
@@ -89,7 +89,7 @@ fn export<F: Shelf, L: Ledger>(
     requires { IsState state.now.journal state.now }
     ensures applied { IsApplied (F.texts shelf.old) (F.texts shelf.new) (Tree.Export class.now file.now) (held state.now.journal) (held state.now.journal)
         out.old.items (said_after result out.old.items out.new.items) result }
-    ensures cause { HasCause (F.faults shelf.old) (F.faults shelf.new) result }
+    ensures cause { HasFaultCause (F.faults shelf.old) (F.faults shelf.new) result }
     ensures begins { Begins out.old.items out.new.items }
     ensures least { reads.old ≤ reads.new }
     ensures most { reads.new ≤ reads.old + most_looks (held state.now.journal) (Tree.Export class.now file.now) }
@@ -189,7 +189,7 @@ fn import<F: Shelf, L: Ledger, M: Ledger>(
     ensures some { IsBySome (F.texts shelf.old) (Tree.Import class.now file.now)
         (moment (held state.old.journal) out.old.items reads.old probes.old)
         (moment (held state.new.journal) (said_after result out.old.items out.new.items) reads.new probes.new) result }
-    ensures cause { HasCause (F.faults shelf.old) (F.faults shelf.new) result }
+    ensures cause { HasFaultCause (F.faults shelf.old) (F.faults shelf.new) result }
     ensures begins { Begins out.old.items out.new.items }
 {
     if let Some(refusal) = state.database.class_refusal(class) {
@@ -223,7 +223,7 @@ fn carry_out<F: Shelf, L: Ledger, M: Ledger>(
     ensures some { is_import (command_view command.now) ≡ true → IsBySome (F.texts shelf.old) (command_view command.now)
         (moment (held state.old.journal) out.old.items reads.old probes.old)
         (moment (held state.new.journal) (said_after result out.old.items out.new.items) reads.new probes.new) result }
-    ensures cause { HasCause (F.faults shelf.old) (F.faults shelf.new) result }
+    ensures cause { HasFaultCause (F.faults shelf.old) (F.faults shelf.new) result }
     ensures begins { Begins out.old.items out.new.items }
 {
     match command {
@@ -257,7 +257,7 @@ pub(crate) fn file<F: Shelf, L: Ledger, M: Ledger>(
     ensures some { is_import (command_view command.now) ≡ true → IsBySome (F.texts shelf.old) (command_view command.now)
         (moment (held state.old.journal) out.old.items reads.old probes.old)
         (moment (held state.new.journal) out.new.items reads.new probes.new) result }
-    ensures cause { HasCause (F.faults shelf.old) (F.faults shelf.new) result }
+    ensures cause { HasFaultCause (F.faults shelf.old) (F.faults shelf.new) result }
 {
     let before = out.len();
     let filed = carry_out(alloc, state, command, shelf, reads, probes, out);

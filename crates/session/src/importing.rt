@@ -5,9 +5,10 @@ ghost use Rattle.command_text.specs.Tree.{command_view};
 ghost use Rattle.line_meaning.specs.Import.{entry_lines, is_taken, with_entry};
 ghost use Rattle.line_meaning.specs.Step.{held};
 ghost use Rattle.reply_text.specs.Begins.{Begins};
-ghost use Rattle.session.specs.Carried.{HasRoom, Spends, moment};
+ghost use Rattle.session.specs.Carried.{Spends, moment};
 ghost use Rattle.session.specs.Rows.{EntersCommands, IsRowCommand, journal_after_commands, looks_of_commands};
 ghost use Rattle.session.specs.State.{IsState, KeepsIndexes};
+ghost use Rattle.kept_indexes.specs.Making.{HasRoomForOk};
 
 use crate::entering::{end_reply, make_room};
 use crate::keeping::keep;
@@ -38,7 +39,7 @@ fn enter_row<L: Ledger, M: Ledger>(
     ensures spends { Spends (command_view command.now)
         (moment (held state.old.journal) out.old.items reads.old probes.old)
         (moment (held state.new.journal) out.new.items reads.new probes.new) }
-    ensures room { OnOk result (HasRoom out.new) }
+    ensures room { OnOk result (HasRoomForOk out.new) }
 {
     canonical_lines_are_read_back();
     match keep(alloc, state, command, None, reads, probes, out) {

@@ -4,8 +4,9 @@ ghost use Rattle.command_text.specs.Shape.{IsPrintable};
 ghost use Rattle.command_text.specs.Tree.{command_view};
 ghost use Rattle.line_meaning.specs.declared.role.Role.TheVariants.{Indexing};
 ghost use Rattle.line_meaning.specs.Role.{role_of};
-ghost use Rattle.session.specs.Carried.{Carries, HasRoom, moment};
+ghost use Rattle.session.specs.Carried.{CarriesOut, moment};
 ghost use Rattle.session.specs.State.{holds, IsIndexed, IsState};
+ghost use Rattle.kept_indexes.specs.Making.{HasRoomForOk};
 
 use crate::state::State;
 use command_text::{Command, CommandFault};
@@ -29,10 +30,10 @@ pub(crate) fn on_indexes<L: Ledger>(
     requires role { role_of (command_view command.now) ≡ Indexing }
     ensures state { IsState state.new.journal state.new }
     ensures indexed { IsIndexed state.new }
-    ensures carries { (probes : ℕ) → Carries (command_view command.now)
+    ensures carries { (probes : ℕ) → CarriesOut (command_view command.now)
         (moment (holds state.old) out.old.items reads.old probes)
         (moment (holds state.new) out.new.items reads.new probes) result }
-    ensures room { OnOk result (HasRoom out.new) }
+    ensures room { OnOk result (HasRoomForOk out.new) }
 {
     match command {
         Command::Index { class, attr, width } => {

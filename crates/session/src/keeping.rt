@@ -14,12 +14,14 @@ ghost use Rattle.live_queries.specs.Told.{passings_of};
 ghost use Rattle.reply_text.specs.Begins.{Begins};
 ghost use Rattle.database.specs.Keeping.{clock_of};
 ghost use Rattle.database.specs.Telling.{RefusesFreely, tally};
-ghost use Rattle.registry.specs.Moves.{moves_text};
+ghost use Rattle.database.specs.Written.{writes_object};
+ghost use Rattle.registry.specs.Moves.{told_moves_text};
 ghost use Rattle.registry.specs.Standing.{StoodAt};
-ghost use Rattle.session.specs.Asked.{command_of};
-ghost use Rattle.session.specs.Carried.{Carries, HasRoom, IsAccepted, IsLegible, IsOnData, IsStopped, Spends, moment};
-ghost use Rattle.session.specs.Followed.{Follows, IsChanged, Prepares, Settles, lines_told, writes_object};
+ghost use Rattle.session.specs.Asked.{request_command};
+ghost use Rattle.session.specs.Carried.{CarriesOut, IsAccepted, IsLegible, IsOnData, IsStopped, Spends, moment};
+ghost use Rattle.session.specs.Followed.{Follows, IsChanged, Prepares, Settles, lines_told};
 ghost use Rattle.session.specs.State.{IsState, KeepsIndexes};
+ghost use Rattle.kept_indexes.specs.Making.{HasRoomForOk};
 
 use crate::entering::{admit, enter};
 use crate::state::State;
@@ -55,10 +57,10 @@ pub(crate) fn keep<L: Ledger, M: Ledger>(
     requires printed { IfSome printed (λ line. line.now ≡ text_of (command_view command.now)) }
     ensures state { IsState state.new.journal state.new }
     ensures indexes { KeepsIndexes state.old state.new }
-    ensures carries { Carries (command_view command.now)
+    ensures carries { CarriesOut (command_view command.now)
         (moment (held state.old.journal) out.old.items reads.old probes.old)
         (moment (held state.new.journal) out.new.items reads.new probes.new) result }
-    ensures room { OnOk result (HasRoom out.new) }
+    ensures room { OnOk result (HasRoomForOk out.new) }
 {
     match command {
         Command::Watch { name, span, query } => {
@@ -97,13 +99,13 @@ fn add_query<L: Ledger, M: Ledger>(
 ) -> Result<(), CommandFault>
     requires state { IsState state.old.journal state.old }
     requires legible { IsLegible (command_view command.now) }
-    requires is { command_view command.now ≡ command_of request.now }
+    requires is { command_view command.now ≡ request_command request.now }
     ensures state { IsState state.new.journal state.new }
     ensures indexes { KeepsIndexes state.old state.new }
-    ensures carries { Carries (command_view command.now)
+    ensures carries { CarriesOut (command_view command.now)
         (moment (held state.old.journal) out.old.items reads.old probes.old)
         (moment (held state.new.journal) out.new.items reads.new probes.new) result }
-    ensures room { OnOk result (HasRoom out.new) }
+    ensures room { OnOk result (HasRoomForOk out.new) }
 {
     let resolved = judge(alloc, &state.database, &state.live, request)?;
     admit(&state.journal, &mut state.line, command, None)?;
@@ -142,7 +144,7 @@ fn drop_query(
     ensures indexes { KeepsIndexes state.old state.new }
     ensures accepted { IfOk result (λ _. IsAccepted (command_view command.now) (held state.old.journal) (held state.new.journal) out.old.items out.new.items) }
     ensures stopped { IfErr result (IsStopped (command_view command.now) (held state.old.journal) (held state.new.journal)) }
-    ensures room { OnOk result (HasRoom out.new) }
+    ensures room { OnOk result (HasRoomForOk out.new) }
     ensures begins { Begins out.old.items out.new.items }
 {
     if !state.live.has(name) {
@@ -171,10 +173,10 @@ fn change<L: Ledger, M: Ledger>(
     requires printed { IfSome printed (λ line. line.now ≡ text_of (command_view command.now)) }
     ensures state { IsState state.new.journal state.new }
     ensures indexes { KeepsIndexes state.old state.new }
-    ensures carries { Carries (command_view command.now)
+    ensures carries { CarriesOut (command_view command.now)
         (moment (held state.old.journal) out.old.items reads.old probes.old)
         (moment (held state.new.journal) out.new.items reads.new probes.new) result }
-    ensures room { OnOk result (HasRoom out.new) }
+    ensures room { OnOk result (HasRoomForOk out.new) }
 {
     let before = state.database.clock();
     let change = state.database.attempt(alloc, command)?;
@@ -235,7 +237,7 @@ fn follow<L: Ledger, M: Ledger>(
         (moment (held state.old.journal) out.old.items reads.old probes.old)
         (moment (held state.new.journal) out.new.items reads.new probes.new) }
     ensures free { RefusesFreely (tally out.old.items reads.old probes.old) (tally out.new.items reads.new probes.new) result }
-    ensures room { OnOk result (HasRoom out.new) }
+    ensures room { OnOk result (HasRoomForOk out.new) }
     ensures indexes { state.new.indexes ≡ state.old.indexes }
 {
     let alloc = *state.line.allocator();
@@ -257,7 +259,7 @@ fn pass(
 ) -> Result<(), AllocError>
     requires stood { StoodAt database.now before live.now }
     ensures ok { OnOk result (out.new.items ≡ out.old.items
-        ++ moves_text (catalog_of database.now.store) (flat_map (passings_of before (clock_of database.now)) live.now)) }
+        ++ told_moves_text (catalog_of database.now.store) (flat_map (passings_of before (clock_of database.now)) live.now)) }
     ensures begins { Begins out.old.items out.new.items }
 {
     if live.count() == 0 {

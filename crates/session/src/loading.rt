@@ -2,11 +2,11 @@
 ghost use Rattle.std.specs.Prelude.{◌≡◌, ◌+◌, ◌≤◌, [], Err, IfErr, IfOk, IfSome};
 ghost use Rattle.command_text.specs.Tree.{command_view};
 ghost use Rattle.session_file.specs.Kept.{HasLine};
-ghost use Rattle.session_file.specs.Reading.{Explains, GivesNext, loaded_view, reading_of};
+ghost use Rattle.session_file.specs.Reading.{ExplainsReading, GivesNextCommand, loaded_view, reading_of};
 ghost use Rattle.line_meaning.specs.Loading.{BadLine, replayed};
 ghost use Rattle.line_meaning.specs.Looks.{most_looks};
 ghost use Rattle.line_meaning.specs.Step.{held};
-ghost use Rattle.session.specs.Loads.{Loads, Takes, looks_of_loading};
+ghost use Rattle.session.specs.Loads.{Loads, TakesLoaded, looks_of_loading};
 
 use crate::next::Next;
 use crate::session::Session;
@@ -61,7 +61,7 @@ pub fn load<L: Ledger, M: Ledger>(
 
 /// The line of a fault of a text.
 fn fault_at(text: &[u8], fault: FileFault) -> LoadFault
-    requires { Explains (reading_of text.now) fault }
+    requires { ExplainsReading (reading_of text.now) fault }
     ensures { Loads text.now (Err result) }
 {
     match fault {
@@ -98,7 +98,7 @@ fn replay_commands<L: Ledger, M: Ledger>(
 /// The next command of a text.
 fn next_command(text: &[u8], reader: &mut SessionReader) -> Result<Option<Loaded>, LoadFault>
     requires { (reading_of text.now).fault ≡ reader.old.fault }
-    ensures ok { IfOk result (GivesNext reader.old reader.new) }
+    ensures ok { IfOk result (GivesNextCommand reader.old reader.new) }
     ensures line { IfOk result (λ found. IfSome found (λ loaded. HasLine (command_view loaded.command))) }
     ensures err { IfErr result (λ fault. Loads text.now (Err fault)) }
 {
@@ -116,7 +116,7 @@ fn is_taken<L: Ledger, M: Ledger>(
     probes: &mut Steps<M>,
 ) -> Result<bool, AllocError>
     requires { HasLine (command_view command) }
-    ensures takes { IfOk result (Takes session.old (command_view command) session.new) }
+    ensures takes { IfOk result (TakesLoaded session.old (command_view command) session.new) }
     ensures least { reads.old ≤ reads.new }
     ensures most { reads.new ≤ reads.old + most_looks (held session.old.journal) (command_view command) }
 {

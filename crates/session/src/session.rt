@@ -12,7 +12,7 @@ ghost use Rattle.session.specs.Carried.{Carried, HasRoomFor, IsLegible, moment};
 ghost use Rattle.session.specs.Filed.{IsAnswered, IsBySome};
 ghost use Rattle.session.specs.Replayed.{Replays};
 ghost use Rattle.session.specs.State.{holds, IsIndexed, IsState};
-ghost use Rattle.session.specs.Answers.{Applies, HasCause, IsUnread, Suffices};
+ghost use Rattle.session.specs.Answers.{Applies, HasFaultCause, IsUnread, Suffices};
 ghost use Rattle.session.specs.Untold.{AppliesBySome};
 
 use crate::answer::{carry_out, end};
@@ -101,7 +101,7 @@ impl Session {
         probes: &mut Steps<M>,
     ) -> Result<Next, ApplyFault>
         ensures applies { Applies (F.texts shelf.old) (F.texts shelf.new) line.now self.old self.new out.old.items out.new.items result }
-        ensures cause { HasCause (F.faults shelf.old) (F.faults shelf.new) result }
+        ensures cause { HasFaultCause (F.faults shelf.old) (F.faults shelf.new) result }
         ensures untouched { asks_shelf (spelled line.now) ≡ false → shelf.new ≡ shelf.old }
         ensures least { reads.old ≤ reads.new }
         ensures most { (texts : Texts) → Suffices (F.texts shelf.old) line.now texts → reads.new ≤ reads.old + looks_of (base self.old texts) (spelled line.now) }
@@ -215,7 +215,7 @@ fn apply_command<F: Shelf, L: Ledger, M: Ledger>(
     ensures some { is_import (command_view command.now) ≡ true → IsBySome (F.texts shelf.old) (command_view command.now)
         (moment (holds state.old) out.old.items reads.old probes.old)
         (moment (holds state.new) out.new.items reads.new probes.new) result }
-    ensures cause { HasCause (F.faults shelf.old) (F.faults shelf.new) result }
+    ensures cause { HasFaultCause (F.faults shelf.old) (F.faults shelf.new) result }
     ensures untouched { asks_shelf (command_view command.now) ≡ false → shelf.new ≡ shelf.old }
 {
     match role_of(command) {

@@ -5,13 +5,13 @@ ghost use Rattle.command_text.specs.declared.journal.TheConstants.{MOST_BYTES};
 ghost use Rattle.command_text.specs.Journal.{bytes_of};
 ghost use Rattle.command_text.specs.Text.{text_of};
 ghost use Rattle.command_text.specs.Tree.{command_view};
-ghost use Rattle.object_rows.specs.Commands.{command_of};
+ghost use Rattle.object_rows.specs.Commands.{command_of_row};
 ghost use Rattle.session_file.specs.declared.kept.TheConstants.{SESSION_LINE_LIMIT};
 ghost use Rattle.line_meaning.specs.Fault.{is_present, passes_limits};
 ghost use Rattle.line_meaning.specs.Import.{journal_after_rows};
 ghost use Rattle.database.specs.Keeping.{IsTimely, Keeps, clock_of, world_of_database};
 ghost use Rattle.session.specs.Rows.{IsImportedRow, IsRowCommand};
-ghost use Rattle.session.specs.Trial.{Adds, AreTaken, HasSpare, IsSameTrial, IsStack, IsTold, Tries, TriesCommand, bottom, journal_of};
+ghost use Rattle.session.specs.Trial.{AddsTaken, AreTaken, HasSpare, IsSameTrial, IsStack, TellsTrial, Tries, TriesCommand, bottom, journal_of};
 
 use crate::entering::passes;
 use command_text::{Command, CommandFault, Journal, MOST_BYTES, MOST_ENTRIES, print_into};
@@ -76,7 +76,7 @@ impl Trial {
     ) -> Result<bool, AllocError>
         requires spare { IfOk tried (λ found. IfSome found (λ _. HasSpare self.old)) }
         requires short { IfOk tried (λ found. IfSome found (λ _. self.old.bytes + bytes ≤ MOST_BYTES)) }
-        ensures { Adds command bytes tried self.old self.new result }
+        ensures { AddsTaken command bytes tried self.old self.new result }
     {
         match tried {
             Ok(Some(change)) => {
@@ -116,7 +116,7 @@ fn attempt(
     command: &Command,
 ) -> Result<Option<Change>, AllocError>
     requires row { IsRowCommand (command_view command.now) }
-    requires told { IsTold journal.now database.old trial.now }
+    requires told { TellsTrial journal.now database.old trial.now }
     ensures tried { IfOk result (Tries (journal_of journal.now trial.now) (command_view command.now) database.old database.new) }
     ensures line { IfOk result (λ found. IfSome found (λ _. line.new.items ≡ text_of (command_view command.now))) }
     ensures bytes { IfOk result (λ found. IfSome found (λ _. trial.now.bytes + length line.new.items + 1 ≤ MOST_BYTES)) }
@@ -143,7 +143,7 @@ fn try_command(
     command: &Command,
 ) -> Result<Option<Change>, AllocError>
     requires row { IsRowCommand (command_view command.now) }
-    requires told { IsTold journal.now database.old trial.old }
+    requires told { TellsTrial journal.now database.old trial.old }
     ensures { TriesCommand journal.now (command_view command.now) database.old database.new trial.old trial.new line.new.items result }
 {
     trial.reserve()?;
@@ -153,7 +153,7 @@ fn try_command(
 /// The command of a row after those of a trial.
 fn row_command(database: &Database, class: Word, row: ObjectRow) -> Command
     requires { IsTimely database.now }
-    ensures { command_view result ≡ command_of class (is_present (world_of_database database.now).history row.name (clock_of database.now)) row }
+    ensures { command_view result ≡ command_of_row class (is_present (world_of_database database.now).history row.name (clock_of database.now)) row }
 {
     let present = database.is_present(&row.name);
     row.into_command(class, present)
@@ -170,7 +170,7 @@ fn try_rows(
     rows: Vec<ObjectRow>,
 ) -> Result<bool, AllocError>
     requires rows { AllByRecursion (IsImportedRow class) rows.items }
-    requires told { IsTold journal.now database.old trial.old }
+    requires told { TellsTrial journal.now database.old trial.old }
     requires commands { trial.old.commands.items ≡ [] }
     requires changes { trial.old.changes.items ≡ [] }
     ensures all { IfOk result (λ taken. taken ≡ true → AreTaken class journal.now rows.items trial.new.commands.items) }

@@ -19,17 +19,17 @@ use Rattle.session_file.specs.declared.counts.Progress.{Progress}
 use Rattle.session_file.specs.declared.fault.FileFault.TheVariants as faults
 use Rattle.session_file.specs.Counts.{counts_line, counts_of}
 use Rattle.session_file.specs.Kept.{is_passed, kept_in}
-use Rattle.session_file.specs.Laws.{CutTextsAreBad, IsEntry, IsSavable, LastFeedMayLack, TextsWithoutEndAreBad, has_end, is_end}
-use Rattle.session_file.specs.Reading.{Part, Passed, End, Command, Bad, counted, header, may_end, may_go_on, old_header, part_of, read_counted, read_lines, read_on, reading_of, starting, stops}
-use Rattle.session_file.specs.Text.{counts_in, entry_text, session_text, written}
+use Rattle.session_file.specs.Laws.{CutTextsAreBad, IsAcceptedEntry, IsSavable, LastFeedMayLack, TextsWithoutEndAreBad, has_end, is_end}
+use Rattle.session_file.specs.Reading.{FileLine, Passed, End, Command, Bad, progress_after, header, may_end, may_go_on, old_header, file_line_of, read_counted, read_lines, read_on, reading_of, starting, stops}
+use Rattle.session_file.specs.Text.{counts_in, ended_line, entry_text, session_text}
 use Rattle.session_file.proofs.ReadLemmas.{by_part}
 use Rattle.session_file.proofs.SavedLemmas.{ascii_is, counts_ascii, line_then, not_false, or_false}
 
 -- ---- A text without a line `end`
 
 not_the_end : (p : Progress) (line : List ℕ) → is_end line ≡ false →
-    part_of p line ≡ cond (is_passed line) Passed (option_map_or Command (cond (may_go_on p) (kept_in line) None) Bad)
-unfolding part_of
+    file_line_of p line ≡ cond (is_passed line) Passed (option_map_or Command (cond (may_go_on p) (kept_in line) None) Bad)
+unfolding file_line_of
 not_the_end p line other =
     ap (λ b. cond (is_passed line) Passed (cond (b && may_end p) End (option_map_or Command (cond (may_go_on p) (kept_in line) None) Bad))) other
 
@@ -38,14 +38,14 @@ faulty_from : (p : Progress) (number : ℕ) (rest : List (List ℕ)) (passed : B
     ((q : Progress) → IsSome (read_on q (number + 1) rest).fault) →
     IsSome (by_part p number rest (cond passed Passed (option_map_or Command command Bad))).fault
 faulty_from p number rest true command later = later p
-faulty_from p number rest false (Some c) later = later (counted p c)
+faulty_from p number rest false (Some c) later = later (progress_after p c)
 faulty_from p number rest false None later = refl
 
 faulty_on : (p : Progress) (number : ℕ) (ls : List (List ℕ)) → list_any is_end ls ≡ false → IsSome (read_on p number ls).fault
 faulty_on p number [] none = refl
 faulty_on p number (line ∷ rest) none =
     let parts = or_false (is_end line) (list_any is_end rest) none in
-    subst (λ (part : Part). IsSome (by_part p number rest part).fault) (sym (not_the_end p line parts.0))
+    subst (λ (part : FileLine). IsSome (by_part p number rest part).fault) (sym (not_the_end p line parts.0))
     (faulty_from p number rest (is_passed line) (cond (may_go_on p) (kept_in line) None) (λ q. faulty_on q (number + 1) rest parts.1))
 
 faulty_counts : (said : Option Counts) (rest : List (List ℕ)) → list_any is_end rest ≡ false →
@@ -132,23 +132,23 @@ command_never_ends _ h = absurd (cc h)
 abbrev HasNoEarlyEnd : List ℕ → Type 0
 HasNoEarlyEnd text = (n : ℕ) → n + 1 < length text → has_end (take n text) ≡ false
 
-front_within : (line rest : List ℕ) (n : ℕ) → n ≤ length line → take n (written line ++ rest) ≡ take n line
+front_within : (line rest : List ℕ) (n : ℕ) → n ≤ length line → take n (ended_line line ++ rest) ≡ take n line
 front_within line rest n short =
     ap (take n) (append_assoc line (10 ∷ []) rest) ∙ take-append-le n line (10 ∷ rest) short
 
-written_length : (line rest : List ℕ) → length (written line ++ rest) ≡ length line + 1 + length rest
+written_length : (line rest : List ℕ) → length (ended_line line ++ rest) ≡ length line + 1 + length rest
 written_length line rest =
-    let whole = length-append (written line) rest in
-    let first : length (written line) ≡ length line + 1 = length-append line (10 ∷ []) in
+    let whole = length-append (ended_line line) rest in
+    let first : length (ended_line line) ≡ length line + 1 = length-append line (10 ∷ []) in
     omega (arith, whole, first)
 
-front_past : (line rest : List ℕ) (n : ℕ) → length line < n → take n (written line ++ rest) ≡ written line ++ take (n - (length line + 1)) rest
+front_past : (line rest : List ℕ) (n : ℕ) → length line < n → take n (ended_line line ++ rest) ≡ ended_line line ++ take (n - (length line + 1)) rest
 front_past line rest n long =
-    let first : length (written line) ≡ length line + 1 = length-append line (10 ∷ []) in
-    let sum : n ≡ length (written line) + (n - (length line + 1)) = omega (arith, first, long) in
-    ap (λ (m : ℕ). take m (written line ++ rest)) sum ∙ take-append-add (written line) rest (n - (length line + 1))
+    let first : length (ended_line line) ≡ length line + 1 = length-append line (10 ∷ []) in
+    let sum : n ≡ length (ended_line line) + (n - (length line + 1)) = omega (arith, first, long) in
+    ap (λ (m : ℕ). take m (ended_line line ++ rest)) sum ∙ take-append-add (ended_line line) rest (n - (length line + 1))
 
-one_more_line : (line rest : List ℕ) → has_other_byte line ≡ false → NeverEnds line → HasNoEarlyEnd rest → HasNoEarlyEnd (written line ++ rest)
+one_more_line : (line rest : List ℕ) → has_other_byte line ≡ false → NeverEnds line → HasNoEarlyEnd rest → HasNoEarlyEnd (ended_line line ++ rest)
 one_more_line line rest ascii never later n within =
     elim (cases_lt (length line) n) [
       | inl long ↦
@@ -164,30 +164,30 @@ one_more_line line rest ascii never later n within =
           ∙ no_end_open (take n line) (front_ascii line n ascii) (never n)
     ]
 
-end_is_last : HasNoEarlyEnd (written (codes "end"))
+end_is_last : HasNoEarlyEnd (ended_line (codes "end"))
 end_is_last zero within = refl
 end_is_last (suc zero) within = refl
 end_is_last (suc (suc zero)) within = refl
 end_is_last (suc (suc (suc n))) within = absurd (omega (arith, within))
 
 entries_then : (e : Accepted) (journal : List Accepted) →
-    flat_map entry_text (e ∷ journal) ++ written (codes "end") ≡ written (text_of e.1) ++ (flat_map entry_text journal ++ written (codes "end"))
-entries_then e journal = append_assoc (entry_text e) (flat_map entry_text journal) (written (codes "end"))
+    flat_map entry_text (e ∷ journal) ++ ended_line (codes "end") ≡ ended_line (text_of e.1) ++ (flat_map entry_text journal ++ ended_line (codes "end"))
+entries_then e journal = append_assoc (entry_text e) (flat_map entry_text journal) (ended_line (codes "end"))
 
-entries_have_no_early_end : PrintsLines → (journal : List Accepted) → AllByRecursion IsEntry journal →
-    HasNoEarlyEnd (flat_map entry_text journal ++ written (codes "end"))
+entries_have_no_early_end : PrintsLines → (journal : List Accepted) → AllByRecursion IsAcceptedEntry journal →
+    HasNoEarlyEnd (flat_map entry_text journal ++ ended_line (codes "end"))
 entries_have_no_early_end prints [] are = end_is_last
 entries_have_no_early_end prints (e ∷ journal) are =
     subst HasNoEarlyEnd (sym (entries_then e journal))
-    (one_more_line (text_of e.1) (flat_map entry_text journal ++ written (codes "end")) (prints e.1 are.0.printable).0
+    (one_more_line (text_of e.1) (flat_map entry_text journal ++ ended_line (codes "end")) (prints e.1 are.0.printable).0
     (command_never_ends e.1 are.0.kept) (entries_have_no_early_end prints journal are.1))
 
 text_has_no_early_end : PrintsLines → (journal : List Accepted) → IsSavable journal → HasNoEarlyEnd (session_text journal)
 unfolding session_text
 text_has_no_early_end prints journal is =
     let said : Counts = counts_in journal in
-    let entries : List ℕ = flat_map entry_text journal ++ written (codes "end") in
-    one_more_line header (written (counts_line said) ++ entries) refl (begins_otherwise header refl)
+    let entries : List ℕ = flat_map entry_text journal ++ ended_line (codes "end") in
+    one_more_line header (ended_line (counts_line said) ++ entries) refl (begins_otherwise header refl)
     (one_more_line (counts_line said) entries (counts_ascii (length journal) (clock journal) (omega (arith, is.few)) (omega (arith, is.ticks)))
     (counts_never_end said) (entries_have_no_early_end prints journal is.entries))
 
@@ -202,7 +202,7 @@ record IsSameWithoutLast (text : List ℕ) : Type 0 where
   pub some : 1 ≤ length text
   pub same : (n : ℕ) → n + 1 ≡ length text → lines (take n text) ≡ lines text
 
-one_more_before : (line rest : List ℕ) → has_other_byte line ≡ false → IsSameWithoutLast rest → IsSameWithoutLast (written line ++ rest)
+one_more_before : (line rest : List ℕ) → has_other_byte line ≡ false → IsSameWithoutLast rest → IsSameWithoutLast (ended_line line ++ rest)
 one_more_before line rest ascii is = record {
   some = omega (arith, written_length line rest, is.some);
   same = λ n all.
@@ -216,26 +216,26 @@ one_more_before line rest ascii is = record {
       ∙ sym (line_then line rest ascii);
 }
 
-end_without_feed : (n : ℕ) → n ≡ 3 → lines (take n (written (codes "end"))) ≡ lines (written (codes "end"))
-end_without_feed n is = ap (λ (m : ℕ). lines (take m (written (codes "end")))) is
+end_without_feed : (n : ℕ) → n ≡ 3 → lines (take n (ended_line (codes "end"))) ≡ lines (ended_line (codes "end"))
+end_without_feed n is = ap (λ (m : ℕ). lines (take m (ended_line (codes "end")))) is
 
-end_same : IsSameWithoutLast (written (codes "end"))
+end_same : IsSameWithoutLast (ended_line (codes "end"))
 end_same = record { some = omega arith; same = λ n all. end_without_feed n (omega (arith, all)) }
 
-entries_same : PrintsLines → (journal : List Accepted) → AllByRecursion IsEntry journal →
-    IsSameWithoutLast (flat_map entry_text journal ++ written (codes "end"))
+entries_same : PrintsLines → (journal : List Accepted) → AllByRecursion IsAcceptedEntry journal →
+    IsSameWithoutLast (flat_map entry_text journal ++ ended_line (codes "end"))
 entries_same prints [] are = end_same
 entries_same prints (e ∷ journal) are =
     subst IsSameWithoutLast (sym (entries_then e journal))
-    (one_more_before (text_of e.1) (flat_map entry_text journal ++ written (codes "end")) (prints e.1 are.0.printable).0
+    (one_more_before (text_of e.1) (flat_map entry_text journal ++ ended_line (codes "end")) (prints e.1 are.0.printable).0
     (entries_same prints journal are.1))
 
 text_same : PrintsLines → (journal : List Accepted) → IsSavable journal → IsSameWithoutLast (session_text journal)
 unfolding session_text
 text_same prints journal is =
     let said : Counts = counts_in journal in
-    let entries : List ℕ = flat_map entry_text journal ++ written (codes "end") in
-    one_more_before header (written (counts_line said) ++ entries) refl
+    let entries : List ℕ = flat_map entry_text journal ++ ended_line (codes "end") in
+    one_more_before header (ended_line (counts_line said) ++ entries) refl
     (one_more_before (counts_line said) entries (counts_ascii (length journal) (clock journal) (omega (arith, is.few)) (omega (arith, is.ticks)))
     (entries_same prints journal is.entries))
 

@@ -5,7 +5,7 @@ use Rattle.std.proofs.lemmas.List.{append_assoc}
 use Rattle.command_text.specs.Tree.{CommandTree}
 use Rattle.session_file.specs.declared.fault.FileFault.{FileFault}
 use Rattle.session_file.specs.declared.fault.FileFault.TheVariants as faults
-use Rattle.session_file.specs.Lacks.{IsAtCommand, LacksMemory, after_commands}
+use Rattle.session_file.specs.Lacks.{IsAtCommand, LacksMemoryAt, after_commands}
 use Rattle.session_file.specs.Reading.{Reading, with_first}
 
 -- one more was read
@@ -19,6 +19,6 @@ one_more_read whole left later first c parts is =
 
 -- memory was out at what is left
 pub lacks_after : {T : Type 0} (whole left : Reading) (first : List (ℕ × CommandTree)) (r : Result T FileFault) → whole ≡ after_commands first left →
-    IfErr r (λ fault. fault ≡ faults.NoMemory → IsAtCommand left) → IfErr r (λ fault. fault ≡ faults.NoMemory → LacksMemory whole)
+    IfErr r (λ fault. fault ≡ faults.NoMemory → IsAtCommand left) → IfErr r (λ fault. fault ≡ faults.NoMemory → LacksMemoryAt whole)
 lacks_after whole left first (Ok x) parts at = tt
 lacks_after whole left first (Err fault) parts at = λ none. record { first = first; left = left; parts = parts; at = inr (at none) }

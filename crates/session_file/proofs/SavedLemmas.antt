@@ -20,11 +20,11 @@ use Rattle.command_text.specs.TextLaws.{PrintsLines, ReadsWhatIsPrinted}
 use Rattle.session_file.specs.declared.counts.Counts.{Counts}
 use Rattle.session_file.specs.declared.counts.Progress.{Progress}
 use Rattle.session_file.specs.declared.fault.FileFault.TheVariants as faults
-use Rattle.session_file.specs.Counts.{counts_line, counts_of, whole_at}
+use Rattle.session_file.specs.Counts.{counts_line, counts_of, whole_in_front}
 use Rattle.session_file.specs.Kept.{is_passed, kept_in, may_be_loaded}
-use Rattle.session_file.specs.Laws.{IsEntry, LoadsWhatIsSaved, numbered}
+use Rattle.session_file.specs.Laws.{IsAcceptedEntry, LoadsWhatIsSaved, numbered_commands}
 use Rattle.session_file.specs.Reading.{finished, header, may_end, read_lines, read_on, reading_of, starting, stops, with_first}
-use Rattle.session_file.specs.Text.{counts_in, entry_text, session_text, written}
+use Rattle.session_file.specs.Text.{counts_in, ended_line, entry_text, session_text}
 use Rattle.session_file.proofs.KeptLemmas.{kept_taken}
 use Rattle.session_file.proofs.LineLemmas.{part_before}
 use Rattle.session_file.proofs.ReadLemmas.{read_command, read_end}
@@ -55,7 +55,7 @@ no_return_at [] i h = refl
 no_return_at (x ∷ xs) zero h = (ascii_is x (not_false (is_ascii x) (or_false (not (is_ascii x)) (has_other_byte xs) h).0)).1
 no_return_at (x ∷ xs) (suc i) h = no_return_at xs i (or_false (not (is_ascii x)) (has_other_byte xs) h).1
 
-pub line_then : (line rest : List ℕ) → has_other_byte line ≡ false → lines (written line ++ rest) ≡ line ∷ lines rest
+pub line_then : (line rest : List ℕ) → has_other_byte line ≡ false → lines (ended_line line ++ rest) ≡ line ∷ lines rest
 line_then line rest h =
     ap lines (append_assoc line (10 ∷ []) rest)
     ∙ ap lines_of_parts (split_at line rest h)
@@ -85,7 +85,7 @@ counts_again : (n t : ℕ) → n ≤ 2000000 → t ≤ 10 ^ 9 → counts_of (cou
 unfolding counts_of
 counts_again n t few small =
     let first = whole_again 2000000 n (codes " clock " ++ decimal t) few (omega arith) refl in
-    let second = ap (whole_at (10 ^ 9)) (sym (append-nil (decimal t))) ∙ whole_again (10 ^ 9) t [] small (omega arith) tt in
+    let second = ap (whole_in_front (10 ^ 9)) (sym (append-nil (decimal t))) ∙ whole_again (10 ^ 9) t [] small (omega arith) tt in
     rw (first, second) refl
 
 -- ---- The commands
@@ -103,7 +103,7 @@ begins_a_command (Tree.Keep n k q) h = (refl, refl)
 begins_a_command (Tree.Drop n) h = (refl, refl)
 begins_a_command _ h = absurd (cc h)
 
-entry_loaded : ReadsWhatIsPrinted → (e : Accepted) → IsEntry e → Some e.1 ≡ kept_in (text_of e.1)
+entry_loaded : ReadsWhatIsPrinted → (e : Accepted) → IsAcceptedEntry e → Some e.1 ≡ kept_in (text_of e.1)
 entry_loaded printed e is =
     let fits : leb (length (text_of e.1)) 16384 ≡ true = grind (arith, nat_tests, is.short) in
     let loaded : may_be_loaded e.1 ≡ true = ap (λ b. b && leb (length (text_of e.1)) 16384) is.kept ∙ fits in
@@ -113,25 +113,25 @@ entry_loaded printed e is =
 abbrev seen_of : Counts → ℕ → ℕ → Progress
 seen_of said n t = record { said = Some said; seen = record { commands = n; ticks = t } }
 
-the_end : (said : Counts) (n t number : ℕ) → n ≡ said.commands → t ≡ said.ticks → read_on (seen_of said n t) number (lines (written (codes "end"))) ≡ finished
+the_end : (said : Counts) (n t number : ℕ) → n ≡ said.commands → t ≡ said.ticks → read_on (seen_of said n t) number (lines (ended_line (codes "end"))) ≡ finished
 the_end said n t number all clock_is =
     let may : (eqb n said.commands && eqb t said.ticks) ≡ true = grind (arith, nat_tests, all, clock_is) in
     read_end (seen_of said n t) number (codes "end") [] refl refl may refl
 
-entries_loaded : PrintsLines → ReadsWhatIsPrinted → (said : Counts) (journal : List Accepted) (n t number : ℕ) → AllByRecursion IsEntry journal →
+entries_loaded : PrintsLines → ReadsWhatIsPrinted → (said : Counts) (journal : List Accepted) (n t number : ℕ) → AllByRecursion IsAcceptedEntry journal →
     n + length journal ≡ said.commands → t + clock journal ≡ said.ticks →
-    read_on (seen_of said n t) number (lines (flat_map entry_text journal ++ written (codes "end"))) ≡ record { commands = numbered number (map (λ e. e.1) journal); fault = None }
+    read_on (seen_of said n t) number (lines (flat_map entry_text journal ++ ended_line (codes "end"))) ≡ record { commands = numbered_commands number (map (λ e. e.1) journal); fault = None }
 entries_loaded prints printed said [] n t number are all ticks = the_end said n t number (omega (arith, all)) (omega (arith, ticks))
 entries_loaded prints printed said (e ∷ journal) n t number are all ticks =
     let begins = begins_a_command e.1 are.0.kept in
     let sum : clock (e ∷ journal) ≡ ticks_of e.1 + clock journal = sum_by-cons (λ (x : Accepted). ticks_of x.1) e journal in
     let count : length (e ∷ journal) ≡ length journal + 1 = omega arith in
     let room : ltb n said.commands ≡ true = grind (arith, nat_tests, all, count) in
-    let rest : List ℕ = flat_map entry_text journal ++ written (codes "end") in
+    let rest : List ℕ = flat_map entry_text journal ++ ended_line (codes "end") in
     let loaded : Some e.1 ≡ cond (ltb n said.commands) (kept_in (text_of e.1)) None =
     entry_loaded printed e are.0 ∙ ap (λ b. cond b (kept_in (text_of e.1)) None) (sym room) in
     let other : (bytes_eq (text_of e.1) (codes "end") && may_end (seen_of said n t)) ≡ false = ap (λ b. b && may_end (seen_of said n t)) begins.1 in
-    ap (λ (text : List ℕ). read_on (seen_of said n t) number (lines text)) (append_assoc (entry_text e) (flat_map entry_text journal) (written (codes "end")))
+    ap (λ (text : List ℕ). read_on (seen_of said n t) number (lines text)) (append_assoc (entry_text e) (flat_map entry_text journal) (ended_line (codes "end")))
     ∙ ap (read_on (seen_of said n t) number) (line_then (text_of e.1) rest (prints e.1 are.0.printable).0)
     ∙ read_command (seen_of said n t) number (text_of e.1) (lines rest) e.1 begins.0 other loaded
     ∙ ap (with_first (number, e.1)) (entries_loaded prints printed said journal (n + 1) (t + ticks_of e.1) (number + 1) are.1 (omega (arith, all, count)) (omega (arith, ticks, sum)))
@@ -140,10 +140,10 @@ pub loads_what_is_saved : PrintsLines → ReadsWhatIsPrinted → LoadsWhatIsSave
 unfolding reading_of session_text
 loads_what_is_saved prints printed journal is =
     let said : Counts = counts_in journal in
-    let rest : List ℕ = flat_map entry_text journal ++ written (codes "end") in
-    let first : lines (written header ++ (written (counts_line said) ++ rest)) ≡ header ∷ lines (written (counts_line said) ++ rest) =
-    line_then header (written (counts_line said) ++ rest) refl in
-    let second : lines (written (counts_line said) ++ rest) ≡ counts_line said ∷ lines rest =
+    let rest : List ℕ = flat_map entry_text journal ++ ended_line (codes "end") in
+    let first : lines (ended_line header ++ (ended_line (counts_line said) ++ rest)) ≡ header ∷ lines (ended_line (counts_line said) ++ rest) =
+    line_then header (ended_line (counts_line said) ++ rest) refl in
+    let second : lines (ended_line (counts_line said) ++ rest) ≡ counts_line said ∷ lines rest =
     line_then (counts_line said) rest (counts_ascii (length journal) (clock journal) (omega (arith, is.few)) (omega (arith, is.ticks))) in
     let counts : counts_of (counts_line said) ≡ Some said = counts_again (length journal) (clock journal) is.few is.ticks in
     ap read_lines (first ∙ ap (λ ls. header ∷ ls) second)

@@ -13,13 +13,14 @@ use Rattle.std.specs.Str.{bytes_eq}
 use Rattle.std.specs.Str.Parse.{AllDigits, digits_value}
 use Rattle.exact.specs.Options.{◌>>=◌}
 use Rattle.fixed_point.specs.Decimal.{AreDigits, digits_at}
+use Rattle.fixed_point.specs.Digits.{has_spare_zero}
 use Rattle.command_text.specs.Tree
 use Rattle.command_text.specs.Tree.{CommandTree}
 use Rattle.command_text.specs.Journal.{Accepted, clock, line_told, ticks_of}
 use Rattle.command_text.specs.Text.{text_of}
-use Rattle.session_file.specs.Counts.{counts_line, has_spare_zero, whole_at}
+use Rattle.session_file.specs.Counts.{counts_line, whole_in_front}
 use Rattle.session_file.specs.Reading.{header}
-use Rattle.session_file.specs.Text.{counts_in, entry_text, session_text, written}
+use Rattle.session_file.specs.Text.{counts_in, ended_line, entry_text, session_text}
 
 -- ---- Whole numbers as they are printed
 
@@ -58,8 +59,8 @@ no_spare_zero (suc n) small =
     let other : (get_or (decimal (suc n)) 0 0 == 48) ≡ false = grind (arith, nat_tests, first) in
     ap (λ b. b && not (length (decimal (suc n)) == 1)) other
 
-pub whole_again : (most n : ℕ) (rest : List ℕ) → n ≤ most → n < 10 ^ 10 → IsNoDigit rest → whole_at most (decimal n ++ rest) ≡ Some (n, rest)
-unfolding whole_at
+pub whole_again : (most n : ℕ) (rest : List ℕ) → n ≤ most → n < 10 ^ 10 → IsNoDigit rest → whole_in_front most (decimal n ++ rest) ≡ Some (n, rest)
+unfolding whole_in_front
 whole_again most n rest within small none =
     let value : digits_value 10 (decimal n) ≡ n = (decimal_is_IsNumeral n (omega arith)).1 in
     let fits : leb n most ≡ true = grind (arith, nat_tests, within) in
@@ -101,36 +102,36 @@ tick_word (Tree.May e k q) = refl
 tick_word (Tree.Index c a w) = refl
 tick_word (Tree.Range k c a l g) = refl
 
-tick_number : (k : ℕ) → k ≤ 10 ^ 9 → whole_at (10 ^ 9) (drop 5 (text_of (Tree.Tick k))) ≡ Some (k, [])
+tick_number : (k : ℕ) → k ≤ 10 ^ 9 → whole_in_front (10 ^ 9) (drop 5 (text_of (Tree.Tick k))) ≡ Some (k, [])
 unfolding text_of
-tick_number k small = ap (whole_at (10 ^ 9)) (sym (append-nil (decimal k))) ∙ whole_again (10 ^ 9) k [] small (omega arith) tt
+tick_number k small = ap (whole_in_front (10 ^ 9)) (sym (append-nil (decimal k))) ∙ whole_again (10 ^ 9) k [] small (omega arith) tt
 
 no_ticks : (c : CommandTree) → is_tick c ≡ false → ticks_of c ≡ 0
 no_ticks (Tree.Tick k) h = absurd (cc h)
 no_ticks _ h = refl
 
-the_ticks : (c : CommandTree) (n : ℕ) (rest : List ℕ) → is_tick c ≡ true → ticks_of c ≤ 10 ^ 9 → whole_at (10 ^ 9) (drop 5 (text_of c)) ≡ Some (n, rest) → n ≡ ticks_of c
+the_ticks : (c : CommandTree) (n : ℕ) (rest : List ℕ) → is_tick c ≡ true → ticks_of c ≤ 10 ^ 9 → whole_in_front (10 ^ 9) (drop 5 (text_of c)) ≡ Some (n, rest) → n ≡ ticks_of c
 the_ticks (Tree.Tick k) n rest h small found =
     let same : Some (n, rest) ≡ Some (k, []) = sym found ∙ tick_number k small in
     ap (λ (pair : ℕ × List ℕ). pair.0) (same_Some (n, rest) (k, []) same)
 the_ticks _ n rest h small found = absurd (cc h)
 
-some_ticks : (c : CommandTree) → is_tick c ≡ true → ticks_of c ≤ 10 ^ 9 → whole_at (10 ^ 9) (drop 5 (text_of c)) ≡ None → ⊥
+some_ticks : (c : CommandTree) → is_tick c ≡ true → ticks_of c ≤ 10 ^ 9 → whole_in_front (10 ^ 9) (drop 5 (text_of c)) ≡ None → ⊥
 some_ticks (Tree.Tick k) h small none = none-some (k, []) (sym none ∙ tick_number k small)
 some_ticks _ h small none = absurd (cc h)
 
 -- by whether the line begins so, and the number after that
 pub ticks_with_word : (c : CommandTree) (line : List ℕ) (n : ℕ) (rest : List ℕ) → line ≡ text_of c → ticks_of c ≤ 10 ^ 9 →
-    bytes_eq (take 5 line) (codes "tick ") ≡ true → whole_at (10 ^ 9) (drop 5 line) ≡ Some (n, rest) → n ≡ ticks_of c
+    bytes_eq (take 5 line) (codes "tick ") ≡ true → whole_in_front (10 ^ 9) (drop 5 line) ≡ Some (n, rest) → n ≡ ticks_of c
 ticks_with_word c line n rest is small begins found =
     the_ticks c n rest (sym (tick_word c) ∙ ap (λ (l : List ℕ). bytes_eq (take 5 l) (codes "tick ")) (sym is) ∙ begins) small
-    (ap (λ (l : List ℕ). whole_at (10 ^ 9) (drop 5 l)) (sym is) ∙ found)
+    (ap (λ (l : List ℕ). whole_in_front (10 ^ 9) (drop 5 l)) (sym is) ∙ found)
 
 pub ticks_without_number : (c : CommandTree) (line : List ℕ) → line ≡ text_of c → ticks_of c ≤ 10 ^ 9 →
-    bytes_eq (take 5 line) (codes "tick ") ≡ true → whole_at (10 ^ 9) (drop 5 line) ≡ None → 0 ≡ ticks_of c
+    bytes_eq (take 5 line) (codes "tick ") ≡ true → whole_in_front (10 ^ 9) (drop 5 line) ≡ None → 0 ≡ ticks_of c
 ticks_without_number c line is small begins none =
     absurd (some_ticks c (sym (tick_word c) ∙ ap (λ (l : List ℕ). bytes_eq (take 5 l) (codes "tick ")) (sym is) ∙ begins) small
-    (ap (λ (l : List ℕ). whole_at (10 ^ 9) (drop 5 l)) (sym is) ∙ none))
+    (ap (λ (l : List ℕ). whole_in_front (10 ^ 9) (drop 5 l)) (sym is) ∙ none))
 
 pub ticks_without_word : (c : CommandTree) (line : List ℕ) → line ≡ text_of c → bytes_eq (take 5 line) (codes "tick ") ≡ false → 0 ≡ ticks_of c
 ticks_without_word c line is other = sym (no_ticks c (sym (tick_word c) ∙ ap (λ (l : List ℕ). bytes_eq (take 5 l) (codes "tick ")) (sym is) ∙ other))
@@ -152,11 +153,11 @@ told_is None tick line h = absurd (none-some (tick, line) (sym h))
 told_is (Some e) tick line h = (e, refl, ap (λ (pair : ℕ × List ℕ). pair.1) (same_Some (tick, line) (line_told e) h))
 
 pub text_more : (journal : List Accepted) (i : ℕ) (e : Accepted) (line start text : List ℕ) → slice_get journal i ≡ Some e → line ≡ text_of e.1 →
-    text ≡ start ++ flat_map entry_text (take i journal) → text ++ written line ≡ start ++ flat_map entry_text (take (i + 1) journal)
+    text ≡ start ++ flat_map entry_text (take i journal) → text ++ ended_line line ≡ start ++ flat_map entry_text (take (i + 1) journal)
 text_more journal i e line start text here is before =
-    ap (λ (t : List ℕ). t ++ written line) before
-    ∙ append_assoc start (flat_map entry_text (take i journal)) (written line)
-    ∙ ap (λ (l : List ℕ). start ++ (flat_map entry_text (take i journal) ++ written l)) is
+    ap (λ (t : List ℕ). t ++ ended_line line) before
+    ∙ append_assoc start (flat_map entry_text (take i journal)) (ended_line line)
+    ∙ ap (λ (l : List ℕ). start ++ (flat_map entry_text (take i journal) ++ ended_line l)) is
     ∙ ap (λ (t : List ℕ). start ++ (flat_map entry_text (take i journal) ++ t)) (sym (append-nil (entry_text e)))
     ∙ ap (λ (t : List ℕ). start ++ t) (sym (flat_map-append entry_text (take i journal) (e ∷ [])))
     ∙ ap (λ (es : List Accepted). start ++ flat_map entry_text es) (sym (take_more journal i e here))
@@ -182,13 +183,13 @@ ticks_of_entry journal i e here = omega (arith, clock_more journal i e here, clo
 rotated : (body head : List ℕ) → drop (length body) (body ++ head) ++ take (length body) (body ++ head) ≡ head ++ body
 rotated body head = ap (λ (t : List ℕ). t ++ take (length body) (body ++ head)) (drop-append_seam body head) ∙ ap (λ (t : List ℕ). head ++ t) (take-append_seam body head)
 
-pub text_is : (journal : List Accepted) (body text : List ℕ) (n : ℕ) → body ≡ flat_map entry_text journal ++ written (codes "end") → n ≡ length body →
-    text ≡ body ++ (written header ++ written (counts_line (counts_in journal))) → drop n text ++ take n text ≡ session_text journal
+pub text_is : (journal : List Accepted) (body text : List ℕ) (n : ℕ) → body ≡ flat_map entry_text journal ++ ended_line (codes "end") → n ≡ length body →
+    text ≡ body ++ (ended_line header ++ ended_line (counts_line (counts_in journal))) → drop n text ++ take n text ≡ session_text journal
 unfolding session_text
 text_is journal body text n is-body is-n is-text =
-    let head : List ℕ = written header ++ written (counts_line (counts_in journal)) in
+    let head : List ℕ = ended_line header ++ ended_line (counts_line (counts_in journal)) in
     ap (λ (t : List ℕ). drop n t ++ take n t) is-text
     ∙ ap (λ (m : ℕ). drop m (body ++ head) ++ take m (body ++ head)) is-n
     ∙ rotated body head
     ∙ ap (λ (t : List ℕ). head ++ t) is-body
-    ∙ append_assoc (written header) (written (counts_line (counts_in journal))) (flat_map entry_text journal ++ written (codes "end"))
+    ∙ append_assoc (ended_line header) (ended_line (counts_line (counts_in journal))) (flat_map entry_text journal ++ ended_line (codes "end"))

@@ -25,7 +25,7 @@ abbrev pub after_commands : List (ℕ × CommandTree) → Reading → Reading
 after_commands first left = record { commands = first ++ left.commands; fault = left.fault }
 
 -- each line before it is passed over or a command, and at the line itself a command was read or is to be read
-pub record LacksMemory (whole : Reading) : Type 0 where
+pub record LacksMemoryAt (whole : Reading) : Type 0 where
   pub first : List (ℕ × CommandTree)
   pub left : Reading
   pub parts : whole ≡ after_commands first left

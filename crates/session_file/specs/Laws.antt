@@ -14,25 +14,25 @@ use Rattle.session_file.specs.Reading.{reading_of}
 use Rattle.session_file.specs.Text.{session_text}
 
 -- an entry as a session accepts it
-pub record IsEntry (e : Accepted) : Type 0 where
+pub record IsAcceptedEntry (e : Accepted) : Type 0 where
   pub kept : is_kept e.1 ≡ true
   pub printable : IsPrintable e.1
   pub short : length (text_of e.1) ≤ SESSION_LINE_LIMIT
 
 pub record IsSavable (journal : List Accepted) : Type 0 where
-  pub entries : AllByRecursion IsEntry journal
+  pub entries : AllByRecursion IsAcceptedEntry journal
   pub few : length journal ≤ MOST_ENTRIES
   pub ticks : clock journal ≤ LAST_TICK
 
 -- commands on lines that follow one another
-abbrev pub numbered : ℕ → List CommandTree → List (ℕ × CommandTree)
-numbered number [] = []
-numbered number (c ∷ cs) = (number, c) ∷ numbered (number + 1) cs
+abbrev pub numbered_commands : ℕ → List CommandTree → List (ℕ × CommandTree)
+numbered_commands number [] = []
+numbered_commands number (c ∷ cs) = (number, c) ∷ numbered_commands (number + 1) cs
 
 -- the first command stands on line 3
 abbrev pub LoadsWhatIsSaved : Type 0
 LoadsWhatIsSaved = (journal : List Accepted) → IsSavable journal →
-    reading_of (session_text journal) ≡ record { commands = numbered 3 (map (λ e. e.1) journal); fault = None }
+    reading_of (session_text journal) ≡ record { commands = numbered_commands 3 (map (λ e. e.1) journal); fault = None }
 
 -- ---- A text that was cut, as by a full disk
 

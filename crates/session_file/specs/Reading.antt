@@ -36,36 +36,36 @@ abbrev pub may_end : Progress → Bool
 may_end p = option_map_or (λ (said : Counts). p.seen.commands == said.commands && p.seen.ticks == said.ticks) p.said true
 
 -- commands are counted where the text said how many there are
-abbrev pub counted : Progress → CommandTree → Progress
-counted p c = option_map_or (λ (said : Counts). record { said = p.said; seen = record { commands = p.seen.commands + 1; ticks = p.seen.ticks + ticks_of c } }) p.said p
+abbrev pub progress_after : Progress → CommandTree → Progress
+progress_after p c = option_map_or (λ (said : Counts). record { said = p.said; seen = record { commands = p.seen.commands + 1; ticks = p.seen.ticks + ticks_of c } }) p.said p
 
 -- ---- Lines
 
-pub data Part : Type 0 where
-  Passed : Part
-  End : Part
-  Command : CommandTree → Part
-  Bad : Part
+pub data FileLine : Type 0 where
+  Passed : FileLine
+  End : FileLine
+  Command : CommandTree → FileLine
+  Bad : FileLine
 
 -- blank lines and comments are passed over
-unfoldable pub part_of : Progress → List ℕ → Part
-part_of p line =
+unfoldable pub file_line_of : Progress → List ℕ → FileLine
+file_line_of p line =
     if is_passed line then Passed
     else if bytes_eq line (codes "end") && may_end p then End
     else option_map_or Command (if may_go_on p then kept_in line else None) Bad
 
 -- nothing may stand after the end, whatever it is
-abbrev pub ended : ℕ → List (List ℕ) → Reading
-ended number [] = finished
-ended number (line ∷ rest) = stops (faults.BadLine number)
+abbrev pub reading_after_end : ℕ → List (List ℕ) → Reading
+reading_after_end number [] = finished
+reading_after_end number (line ∷ rest) = stops (faults.BadLine number)
 
 -- what lines are read as of which the first has this number
 abbrev pub read_on : Progress → ℕ → List (List ℕ) → Reading
 read_on p number [] = stops faults.NoEnd
-read_on p number (line ∷ rest) = elim (part_of p line) [
+read_on p number (line ∷ rest) = elim (file_line_of p line) [
   | Passed ↦ read_on p (number + 1) rest
-  | End ↦ ended (number + 1) rest
-  | Command c ↦ with_first (number, c) (read_on (counted p c) (number + 1) rest)
+  | End ↦ reading_after_end (number + 1) rest
+  | Command c ↦ with_first (number, c) (read_on (progress_after p c) (number + 1) rest)
   | Bad ↦ stops (faults.BadLine number)
 ]
 
@@ -106,11 +106,11 @@ StopsBy left faults.NoMemory = Unit {0}
 StopsBy left fault = left ≡ stops fault
 
 -- the fault of a reading
-abbrev pub Explains : Reading → FileFault → Type 0
-Explains reading faults.NoMemory = Unit {0}
-Explains reading fault = reading.fault ≡ Some fault
+abbrev pub ExplainsReading : Reading → FileFault → Type 0
+ExplainsReading reading faults.NoMemory = Unit {0}
+ExplainsReading reading fault = reading.fault ≡ Some fault
 
 -- the first command that was left; or none was, and there is no fault
-abbrev pub GivesNext : Reading → Reading → Option Loaded → Type 0
-GivesNext left after None = (left ≡ finished) × (after ≡ finished)
-GivesNext left after (Some loaded) = left ≡ with_first (loaded_view loaded) after
+abbrev pub GivesNextCommand : Reading → Reading → Option Loaded → Type 0
+GivesNextCommand left after None = (left ≡ finished) × (after ≡ finished)
+GivesNextCommand left after (Some loaded) = left ≡ with_first (loaded_view loaded) after

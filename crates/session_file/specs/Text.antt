@@ -8,15 +8,15 @@ use Rattle.session_file.specs.Counts.{counts_line}
 use Rattle.session_file.specs.Reading.{header}
 
 -- a line with its line feed
-abbrev pub written : List ℕ → List ℕ
-written line = line ++ 10 ∷ []
+abbrev pub ended_line : List ℕ → List ℕ
+ended_line line = line ++ 10 ∷ []
 
 abbrev pub entry_text : Accepted → List ℕ
-entry_text e = written (text_of e.1)
+entry_text e = ended_line (text_of e.1)
 
 abbrev pub counts_in : List Accepted → Counts
 counts_in journal = record { commands = length journal; ticks = clock journal }
 
 unfoldable pub session_text : List Accepted → List ℕ
 session_text journal =
-    written header ++ (written (counts_line (counts_in journal)) ++ (flat_map entry_text journal ++ written (codes "end")))
+    ended_line header ++ (ended_line (counts_line (counts_in journal)) ++ (flat_map entry_text journal ++ ended_line (codes "end")))

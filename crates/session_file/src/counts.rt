@@ -5,11 +5,12 @@ ghost use Rattle.std.specs.List.{prefix_len};
 ghost use Rattle.std.specs.Str.Parse.{digits_value};
 ghost use Rattle.fixed_point.specs.Decimal.{AreDigits, digits_at};
 ghost use Rattle.fixed_point.specs.declared.reading.TheConstants.{WHOLE_DIGITS_LIMIT};
+ghost use Rattle.fixed_point.specs.Digits.{has_spare_zero};
 ghost use Rattle.command_text.specs.declared.journal.TheConstants.{MOST_ENTRIES};
 ghost use Rattle.command_text.specs.Tree.{command_view};
-ghost use Rattle.session_file.specs.Counts.{after_word, counts_of, has_spare_zero, whole_at};
+ghost use Rattle.session_file.specs.Counts.{after_word, counts_of, whole_in_front};
 ghost use Rattle.command_text.specs.Journal.{ticks_of};
-ghost use Rattle.session_file.specs.Reading.{counted, may_end, may_go_on};
+ghost use Rattle.session_file.specs.Reading.{may_end, may_go_on, progress_after};
 ghost use Rattle.session_file.specs.Fits.{Fits};
 
 use command_text::{Command, MOST_ENTRIES};
@@ -68,7 +69,7 @@ impl Progress {
     pub fn counted(&self, command: &Command) -> Progress
         requires room { may_go_on self.now ≡ true }
         requires fits { Fits self.now }
-        ensures value { result ≡ counted self.now (command_view command.now) }
+        ensures value { result ≡ progress_after self.now (command_view command.now) }
         ensures fits { Fits result }
     {
         match &self.said {
@@ -143,9 +144,9 @@ fn has_spare_zero(digits: &[u8]) -> bool
 }
 
 /// A whole number of at most `most` without zeros before it, and what follows it.
-#[tactic(auto, unfolding(crate::specs::Counts::whole_at))]
+#[tactic(auto, unfolding(crate::specs::Counts::whole_in_front))]
 pub(crate) fn whole_at(most: u64, text: &[u8]) -> Option<(u64, &[u8])>
-    ensures value { option_map (λ found. (found.0, found.1.now)) result ≡ whole_at most text.now }
+    ensures value { option_map (λ found. (found.0, found.1.now)) result ≡ whole_in_front most text.now }
     ensures small { IfSome result (λ found. found.0 ≤ most) }
 {
     let (digits, rest) = digits_at(text)?;

@@ -6,7 +6,7 @@ ghost use Rattle.session_file.specs.Kept.{HasLine, kept_in};
 ghost use Rattle.command_text.specs.Line.{early_refusal};
 ghost use Rattle.session_file.specs.declared.kept.TheConstants.{SESSION_LINE_LIMIT};
 ghost use Rattle.session_file.specs.Lacks.{IsAtCommand};
-ghost use Rattle.session_file.specs.Reading.{Explains, GivesNext, StopsBy, ended, may_go_on, read_counted, read_on, reading_of, starting, stops};
+ghost use Rattle.session_file.specs.Reading.{ExplainsReading, GivesNextCommand, StopsBy, may_go_on, read_counted, read_on, reading_after_end, reading_of, starting, stops};
 ghost use Rattle.command_text.specs.declared.journal.TheConstants.{MOST_ENTRIES};
 ghost use Rattle.session_file.specs.declared.counts.Counts.{Counts};
 ghost use Rattle.session_file.specs.declared.fault.FileFault.TheVariants as faults;
@@ -119,7 +119,7 @@ impl<'a> SessionReader<'a> {
     /// which none of the first three refusals holds.
     #[tactic(auto, using(crate::proofs::ReadLemmas::read_steps))]
     pub fn next_command(&mut self) -> Result<Option<Loaded>, FileFault>
-        ensures ok { IfOk result (GivesNext self.old self.new) }
+        ensures ok { IfOk result (GivesNextCommand self.old self.new) }
         ensures line { IfOk result (λ found. IfSome found (λ loaded. HasLine (command_view loaded.command))) }
         ensures fault { IfErr result (StopsBy self.old) }
         ensures memory { IfErr result (λ fault. fault ≡ faults.NoMemory → IsAtCommand self.old) }

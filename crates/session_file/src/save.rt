@@ -7,7 +7,7 @@ ghost use Rattle.command_text.specs.Text.{text_of};
 ghost use Rattle.session_file.specs.Counts.{counts_line};
 ghost use Rattle.command_text.specs.Journal.{clock, ticks_of};
 ghost use Rattle.session_file.specs.Reading.{header};
-ghost use Rattle.session_file.specs.Text.{entry_text, session_text, written};
+ghost use Rattle.session_file.specs.Text.{ended_line, entry_text, session_text};
 
 use crate::counts::whole_at;
 use command_text::Journal;
@@ -28,7 +28,7 @@ fn push(text: &mut Vec<u8>, bytes: &[u8]) -> Result<(), AllocError>
 
 /// Writes a line and its line feed.
 fn push_line(text: &mut Vec<u8>, line: &[u8]) -> Result<(), AllocError>
-    ensures { OnOk result (text.new.items ≡ text.old.items ++ written line.now) }
+    ensures { OnOk result (text.new.items ≡ text.old.items ++ ended_line line.now) }
 {
     push(text, line)?;
     push(text, b"\n")
@@ -42,7 +42,7 @@ fn push_whole(text: &mut Vec<u8>, number: u64) -> Result<(), AllocError>
 
 /// Writes the first two lines.
 fn push_head(text: &mut Vec<u8>, commands: u64, ticks: u64) -> Result<(), AllocError>
-    ensures { OnOk result (text.new.items ≡ text.old.items ++ (written header ++ written (counts_line (record { commands = commands; ticks = ticks })))) }
+    ensures { OnOk result (text.new.items ≡ text.old.items ++ (ended_line header ++ ended_line (counts_line (record { commands = commands; ticks = ticks })))) }
 {
     push(text, b"domino-session 2\nentries ")?;
     push_whole(text, commands)?;

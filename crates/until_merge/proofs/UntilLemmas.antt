@@ -9,7 +9,7 @@ use Rattle.tick_set.specs.Runs.{spans_have, IsNormal, IsNormalFrom}
 use Rattle.tick_set.proofs.Between.{same_test, within_parts, within_from}
 use Rattle.tick_set.proofs.RunLemmas.{spans_have-below, spans_have-append, IsNormalFrom-push}
 use Rattle.tick_set.proofs.UntilLemmas.{until_in_found, until_in_from, until_in_none}
-use Rattle.interval_set.specs.Cursor.{EndsFrom, IsPast}
+use Rattle.interval_set.specs.Cursor.{DropsEnded, EndsFrom}
 use Rattle.until_merge.specs.Start.{IsStart}
 
 -- no tick before the goal is a guard
@@ -79,7 +79,7 @@ pub record IsSuffix (at : ℕ) (spans rest : List Span) : Type 0 where
   pub whole : spans ≡ dropped ++ rest
   pub ended : (u : ℕ) → spans_have dropped u ≡ true → u < at
 
-pub suffix_past : (at end : ℕ) (spans rest later : List Span) → IsSuffix at spans rest → at ≤ end → IsPast end rest later → IsSuffix end spans later
+pub suffix_past : (at end : ℕ) (spans rest later : List Span) → IsSuffix at spans rest → at ≤ end → DropsEnded end rest later → IsSuffix end spans later
 suffix_past at end spans rest later h l past = record {
   dropped = h.dropped ++ past.dropped;
   whole = h.whole ∙ rw past.whole (sym (append_assoc h.dropped past.dropped later));
@@ -203,7 +203,7 @@ start_first g c lo b s order start t a l k guarded =
       | inr before ↦ start.first t before (omega arith) (λ v m n. guarded v m (omega arith))
     ]
 
-pub until_init : (c : ℕ) (guard goal made : List Span) (s : Span) (later guards : List Span) (lo : ℕ) → IsNormal guard → IsNormal goal → goal ≡ s ∷ later → made ≡ [] → IsNormal guards → IsPast (s.lo - 1) guard guards → IsStart (spans_have guards) c s.lo lo → UntilSoFar c guard goal made lo s.hi guards later
+pub until_init : (c : ℕ) (guard goal made : List Span) (s : Span) (later guards : List Span) (lo : ℕ) → IsNormal guard → IsNormal goal → goal ≡ s ∷ later → made ≡ [] → IsNormal guards → DropsEnded (s.lo - 1) guard guards → IsStart (spans_have guards) c s.lo lo → UntilSoFar c guard goal made lo s.hi guards later
 until_init c guard goal made s later guards lo guard_normal goal_normal e none guards_normal past start =
     let order : s.lo ≤ s.hi = s.ordered in
     let suffix : IsSuffix (s.lo - 1) guard guards = record { dropped = past.dropped; whole = past.whole; ended = past.ended } in
@@ -221,7 +221,7 @@ until_init c guard goal made s later guards lo guard_normal goal_normal e none g
     }
 
 module _ (c : ℕ) (guard goal made : List Span) (lo hi : ℕ) (guards rest : List Span) (so_far : UntilSoFar c guard goal made lo hi guards rest) (guard_normal : IsNormal guard)
-    (s : Span) (later guards' : List Span) (start : ℕ) (e : rest ≡ s ∷ later) (past : IsPast (s.lo - 1) guards guards') (starts : IsStart (spans_have guards') c s.lo start) where
+    (s : Span) (later guards' : List Span) (start : ℕ) (e : rest ≡ s ∷ later) (past : DropsEnded (s.lo - 1) guards guards') (starts : IsStart (spans_have guards') c s.lo start) where
   rest_later : IsNormalFrom (hi + 2) (s ∷ later)
   rest_later = rw e at so_far.later
 

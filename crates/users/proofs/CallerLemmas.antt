@@ -6,7 +6,7 @@ use Rattle.std.specs.Prelude.{◌==◌}
 use Rattle.std.specs.List.{filter_map, list_all, starts_with}
 use Rattle.std.specs.Str.{bytes_eq}
 use Rattle.ftl_lexer.specs.Forms.{continues_name}
-use Rattle.users.specs.Tagged.{after_tag, is_no_feed, lines_for, lines_from, lines_in, tag_of, tagged_line, tagged_lines}
+use Rattle.users.specs.Tagged.{after_tag, is_no_feed, lines_for, lines_in, split_lines, tag_of, tagged_line, tagged_lines}
 
 -- ---- Bytes without a line feed
 
@@ -24,7 +24,7 @@ no_feed_by : (b : ℕ) → (b == 10) ≡ false → is_no_feed b ≡ true
 no_feed_by b h = rw h refl
 
 -- a line with its line feed is the first of the lines
-line_first : (begun line rest : List ℕ) → has_no_feed line ≡ true → lines_from begun (line ++ 10 ∷ rest) ≡ (begun ++ line) ∷ lines_in rest
+line_first : (begun line rest : List ℕ) → has_no_feed line ≡ true → split_lines begun (line ++ 10 ∷ rest) ≡ (begun ++ line) ∷ lines_in rest
 line_first begun [] rest h = ap (λ l. l ∷ lines_in rest) (sym (append-nil begun))
 line_first begun (b ∷ line) rest h =
     let both = and_parts (is_no_feed b) (has_no_feed line) h in
@@ -39,7 +39,7 @@ no_feed_more (x ∷ begun) b h e =
 not_zero : (n : ℕ) → (suc n == 0) ≡ false
 not_zero n = grind (arith, nat_tests)
 
-lines_have_none : (begun bytes : List ℕ) → has_no_feed begun ≡ true → HaveNoFeeds (lines_from begun bytes)
+lines_have_none : (begun bytes : List ℕ) → has_no_feed begun ≡ true → HaveNoFeeds (split_lines begun bytes)
 lines_have_none [] [] h = tt
 lines_have_none (x ∷ begun) [] h = rw (not_zero (length begun)) (h, tt)
 lines_have_none begun (b ∷ bytes) h = elim (cases_Bool (b == 10)) [

@@ -4,7 +4,7 @@ use Rattle.std.proofs.lemmas.Bool.{cases_Bool}
 use Rattle.std.proofs.lemmas.Bool.Decides.{nat_tests}
 use Rattle.std.specs.Prelude.{◌==◌}
 use Rattle.std.specs.List.{flat_map}
-use Rattle.users.specs.Tagged.{IsFirstLine, line_len, lines_from, lines_in, tagged, tagged_line}
+use Rattle.users.specs.Tagged.{IsFirstLine, line_len, lines_in, split_lines, tagged, tagged_line}
 
 not_empty : (xs : List ℕ) → 0 < length xs → (length xs == 0) ≡ false
 not_empty [] h = absurd (omega arith)
@@ -16,7 +16,7 @@ one_more (x ∷ xs) b bytes = omega arith
 
 -- the first line is what stands before the first line feed
 next_line : (begun bytes : List ℕ) → 0 < length begun + length bytes →
-    lines_from begun bytes ≡ (begun ++ take (line_len bytes) bytes) ∷ lines_in (drop (suc (line_len bytes)) bytes)
+    split_lines begun bytes ≡ (begun ++ take (line_len bytes) bytes) ∷ lines_in (drop (suc (line_len bytes)) bytes)
 next_line begun [] h =
     let some : (length begun == 0) ≡ false = not_empty begun (omega arith) in
     rw (some, append-nil begun) refl

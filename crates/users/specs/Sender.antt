@@ -1,19 +1,14 @@
 -- Who sends a line, and with which word a line begins.
 use Rattle.std.specs.Prelude.{ℕ, Bool, not, ◌==◌, ◌&&◌, nat_le, is_none, List, [], ◌∷◌, length, take, drop, Option, None, Some, option_map, if◌then◌else◌}
-use Rattle.std.specs.List.{prefix_len}
 use Rattle.case_table.specs.Language.{reserved_words}
 use Rattle.case_table.specs.Rows.{code_of}
-use Rattle.ftl_lexer.specs.Forms.{begins_name, is_blank, name_len}
+use Rattle.ftl_lexer.specs.Forms.{after_blanks, begins_name, name_len}
 use Rattle.users.specs.declared.sender.TheConstants.{USER_LIMIT}
 
 -- the word at the front of some bytes, which a letter or `_` begins; nothing where none does
 abbrev pub word_at : List ℕ → List ℕ
 word_at [] = []
 word_at (b ∷ bytes) = if begins_name b then take (name_len (b ∷ bytes)) (b ∷ bytes) else []
-
--- what stands after the spaces and tabs at the front
-abbrev pub after_blanks : List ℕ → List ℕ
-after_blanks line = drop (prefix_len is_blank line) line
 
 -- the first token of a line where it is a word, else nothing
 abbrev pub first_word : List ℕ → List ℕ

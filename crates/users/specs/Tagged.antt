@@ -11,12 +11,12 @@ line_len = prefix_len is_no_feed
 
 -- the lines of some bytes, where `begun` has come of the first one: each without its line feed. Bytes that no line feed
 -- ends are a line too, unless there are none.
-abbrev pub lines_from : List ℕ → List ℕ → List (List ℕ)
-lines_from begun [] = if length begun == 0 then [] else begun ∷ []
-lines_from begun (b ∷ bytes) = if b == 10 then begun ∷ lines_from [] bytes else lines_from (begun ++ b ∷ []) bytes
+abbrev pub split_lines : List ℕ → List ℕ → List (List ℕ)
+split_lines begun [] = if length begun == 0 then [] else begun ∷ []
+split_lines begun (b ∷ bytes) = if b == 10 then begun ∷ split_lines [] bytes else split_lines (begun ++ b ∷ []) bytes
 
 abbrev pub lines_in : List ℕ → List (List ℕ)
-lines_in bytes = lines_from [] bytes
+lines_in bytes = split_lines [] bytes
 
 -- what stands before a user's lines: the user and a space
 abbrev pub tag_of : List ℕ → List ℕ

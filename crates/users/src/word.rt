@@ -1,8 +1,8 @@
 //! The word at the front of a line.
 ghost use Rattle.std.specs.Prelude.{◌≡◌, ◌≤◌, length};
 ghost use Rattle.std.specs.List.{prefix_len};
-ghost use Rattle.ftl_lexer.specs.Forms.{begins_name, continues_name, is_blank, name_len};
-ghost use Rattle.users.specs.Sender.{after_blanks, first_word, word_at};
+ghost use Rattle.ftl_lexer.specs.Forms.{after_blanks, begins_name, continues_name, is_blank, name_len};
+ghost use Rattle.users.specs.Sender.{first_word, word_at};
 
 fn is_blank(byte: u8) -> bool
     ensures { result ≡ is_blank byte }

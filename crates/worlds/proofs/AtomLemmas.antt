@@ -17,7 +17,7 @@ use Rattle.meaning.specs.Trace.{trace_of}
 use Rattle.worlds.specs.Apart.{distance_compares_by, farthest_square, nearest_square, possibly_compares, surely_compares}
 use Rattle.worlds.specs.Blurred.{error_between, is_in_region_by, possibly_holds, surely_holds}
 use Rattle.worlds.specs.Inside.{is_possibly_inside, is_surely_inside}
-use Rattle.worlds.specs.Moved.{Move, atom_moved, is_world, moved}
+use Rattle.worlds.specs.Moved.{Move, atom_moved, is_world, moved_place}
 use Rattle.worlds.proofs.ApartLemmas.{LiesIn, possibly_apart, squares_lie, surely_apart}
 use Rattle.worlds.proofs.MovedLemmas.{near_moved}
 
@@ -77,19 +77,19 @@ places_less (Some p) (Some q) f g test test' less h = less p q refl refl h
 -- ---- distances
 
 one_object : (place : ℕ → Option Point) (moves : List Move) (t i j : ℕ) (p q : Point) → place i ≡ Some p → place j ≡ Some q
-    → (i == j) ≡ true → (p ≡ q) × (moved moves i t p ≡ moved moves j t q)
+    → (i == j) ≡ true → (p ≡ q) × (moved_place moves i t p ≡ moved_place moves j t q)
 one_object place moves t i j p q at_i at_j same =
     let e : i ≡ j = eqb-true i j same in
     let there : Some p ≡ Some q = sym at_i ∙ ap place e ∙ at_j in
     let f : p ≡ q = cc in
-    (f, (λ k. moved moves (e k) t (f k)))
+    (f, (λ k. moved_place moves (e k) t (f k)))
 
 lies : (error : ℕ) (moves : List Move) → is_world error moves ≡ true → (place : ℕ → Option Point) (t i j : ℕ) (p q : Point)
     → place i ≡ Some p → place j ≡ Some q
     → LiesIn (nearest_square (if i == j then 0 else error) p q) (farthest_square (if i == j then 0 else error) p q)
-    (squared_distance (moved moves i t p) (moved moves j t q))
+    (squared_distance (moved_place moves i t p) (moved_place moves j t q))
 lies error moves world place t i j p q at_i at_j =
-    squares_lie (i == j) error p q (moved moves i t p) (moved moves j t q)
+    squares_lie (i == j) error p q (moved_place moves i t p) (moved_place moves j t q)
     (one_object place moves t i j p q at_i at_j)
     (near_moved error moves i t p world) (near_moved error moves j t q world)
 
@@ -103,21 +103,21 @@ pub surely_in_world : KeepsInside → ReachesInside → (error : ℕ) (moves : L
     → surely_holds error regions (trace_of h b) b a x t ≡ true → atom_moved moves regions (trace_of h b) b a x t ≡ true
 surely_in_world keeps reaches error moves world regions h b (atoms.Compare q op r) x t holds = holds
 surely_in_world keeps reaches error moves world regions h b (atoms.Inside v n) x t holds =
-    place_more (place_at h t (b v)) (moved moves (b v) t) (is_in_region_by (is_surely_inside error) regions n) (is_in_region regions n)
-    (λ p. region_more (is_surely_inside error) is_inside (slice_get regions n) p (moved moves (b v) t p)
-    (λ points. let near = near_moved error moves (b v) t p world in keeps error points p (moved moves (b v) t p) near.along_x near.along_y))
+    place_more (place_at h t (b v)) (moved_place moves (b v) t) (is_in_region_by (is_surely_inside error) regions n) (is_in_region regions n)
+    (λ p. region_more (is_surely_inside error) is_inside (slice_get regions n) p (moved_place moves (b v) t p)
+    (λ points. let near = near_moved error moves (b v) t p world in keeps error points p (moved_place moves (b v) t p) near.along_x near.along_y))
     holds
 surely_in_world keeps reaches error moves world regions h b (atoms.Outside v n) x t holds =
-    place_more (place_at h t (b v)) (moved moves (b v) t) (λ p. not (is_in_region_by (is_possibly_inside error) regions n p)) (λ p. not (is_in_region regions n p))
-    (λ p. turned (is_in_region regions n (moved moves (b v) t p)) (is_in_region_by (is_possibly_inside error) regions n p)
-    (region_more is_inside (is_possibly_inside error) (slice_get regions n) (moved moves (b v) t p) p
-    (λ points. let near = near_moved error moves (b v) t p world in reaches error points p (moved moves (b v) t p) near.along_x near.along_y)))
+    place_more (place_at h t (b v)) (moved_place moves (b v) t) (λ p. not (is_in_region_by (is_possibly_inside error) regions n p)) (λ p. not (is_in_region regions n p))
+    (λ p. turned (is_in_region regions n (moved_place moves (b v) t p)) (is_in_region_by (is_possibly_inside error) regions n p)
+    (region_more is_inside (is_possibly_inside error) (slice_get regions n) (moved_place moves (b v) t p) p
+    (λ points. let near = near_moved error moves (b v) t p world in reaches error points p (moved_place moves (b v) t p) near.along_x near.along_y)))
     holds
 surely_in_world keeps reaches error moves world regions h b (atoms.Dist v u op c) x t holds =
     let by = error_between error b v u in
-    places_more (place_at h t (b v)) (place_at h t (b u)) (moved moves (b v) t) (moved moves (b u) t)
+    places_more (place_at h t (b v)) (place_at h t (b u)) (moved_place moves (b v) t) (moved_place moves (b u) t)
     (λ p q. distance_compares_by surely_compares op c (nearest_square by p q) (farthest_square by p q)) (λ p q. distance_compares op c (squared_distance p q))
-    (λ p q at_v at_u. surely_apart op c (nearest_square by p q) (farthest_square by p q) (squared_distance (moved moves (b v) t p) (moved moves (b u) t q))
+    (λ p q at_v at_u. surely_apart op c (nearest_square by p q) (farthest_square by p q) (squared_distance (moved_place moves (b v) t p) (moved_place moves (b u) t q))
     (lies error moves world (place_at h t) t (b v) (b u) p q at_v at_u))
     holds
 surely_in_world keeps reaches error moves world regions h b (atoms.Sphere r vs) x t holds = holds
@@ -127,21 +127,21 @@ pub possibly_if_in_world : KeepsInside → ReachesInside → (error : ℕ) (move
     → atom_moved moves regions (trace_of h b) b a x t ≡ true → possibly_holds error regions (trace_of h b) b a x t ≡ true
 possibly_if_in_world keeps reaches error moves world regions h b (atoms.Compare q op r) x t holds = holds
 possibly_if_in_world keeps reaches error moves world regions h b (atoms.Inside v n) x t holds =
-    place_less (place_at h t (b v)) (moved moves (b v) t) (is_in_region_by (is_possibly_inside error) regions n) (is_in_region regions n)
-    (λ p. region_more is_inside (is_possibly_inside error) (slice_get regions n) (moved moves (b v) t p) p
-    (λ points. let near = near_moved error moves (b v) t p world in reaches error points p (moved moves (b v) t p) near.along_x near.along_y))
+    place_less (place_at h t (b v)) (moved_place moves (b v) t) (is_in_region_by (is_possibly_inside error) regions n) (is_in_region regions n)
+    (λ p. region_more is_inside (is_possibly_inside error) (slice_get regions n) (moved_place moves (b v) t p) p
+    (λ points. let near = near_moved error moves (b v) t p world in reaches error points p (moved_place moves (b v) t p) near.along_x near.along_y))
     holds
 possibly_if_in_world keeps reaches error moves world regions h b (atoms.Outside v n) x t holds =
-    place_less (place_at h t (b v)) (moved moves (b v) t) (λ p. not (is_in_region_by (is_surely_inside error) regions n p)) (λ p. not (is_in_region regions n p))
-    (λ p. turned (is_in_region_by (is_surely_inside error) regions n p) (is_in_region regions n (moved moves (b v) t p))
-    (region_more (is_surely_inside error) is_inside (slice_get regions n) p (moved moves (b v) t p)
-    (λ points. let near = near_moved error moves (b v) t p world in keeps error points p (moved moves (b v) t p) near.along_x near.along_y)))
+    place_less (place_at h t (b v)) (moved_place moves (b v) t) (λ p. not (is_in_region_by (is_surely_inside error) regions n p)) (λ p. not (is_in_region regions n p))
+    (λ p. turned (is_in_region_by (is_surely_inside error) regions n p) (is_in_region regions n (moved_place moves (b v) t p))
+    (region_more (is_surely_inside error) is_inside (slice_get regions n) p (moved_place moves (b v) t p)
+    (λ points. let near = near_moved error moves (b v) t p world in keeps error points p (moved_place moves (b v) t p) near.along_x near.along_y)))
     holds
 possibly_if_in_world keeps reaches error moves world regions h b (atoms.Dist v u op c) x t holds =
     let by = error_between error b v u in
-    places_less (place_at h t (b v)) (place_at h t (b u)) (moved moves (b v) t) (moved moves (b u) t)
+    places_less (place_at h t (b v)) (place_at h t (b u)) (moved_place moves (b v) t) (moved_place moves (b u) t)
     (λ p q. distance_compares_by possibly_compares op c (nearest_square by p q) (farthest_square by p q)) (λ p q. distance_compares op c (squared_distance p q))
-    (λ p q at_v at_u. possibly_apart op c (nearest_square by p q) (farthest_square by p q) (squared_distance (moved moves (b v) t p) (moved moves (b u) t q))
+    (λ p q at_v at_u. possibly_apart op c (nearest_square by p q) (farthest_square by p q) (squared_distance (moved_place moves (b v) t p) (moved_place moves (b u) t q))
     (lies error moves world (place_at h t) t (b v) (b u) p q at_v at_u))
     holds
 possibly_if_in_world keeps reaches error moves world regions h b (atoms.Sphere r vs) x t holds = holds

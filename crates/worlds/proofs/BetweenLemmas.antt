@@ -14,7 +14,7 @@ use Rattle.meaning.specs.Agreement.{Agree, HasMore}
 use Rattle.meaning.specs.Atom.{atom_holds, distance_holds, is_in_region, position_in}
 use Rattle.meaning.specs.Satisfaction.{plain}
 use Rattle.meaning.specs.Trace.{Trace, trace_of}
-use Rattle.worlds.specs.Moved.{Move, atom_moved, in_world, is_world, moved}
+use Rattle.worlds.specs.Moved.{Move, atom_moved, in_world, is_world, moved_place}
 use Rattle.worlds.specs.Blurred.{blurred}
 use Rattle.worlds.proofs.AtomLemmas.{KeepsInside, ReachesInside, possibly_if_in_world, surely_in_world}
 
@@ -50,7 +50,7 @@ world_has_less keeps reaches error moves world w b f =
 
 -- ---- where nothing is off
 
-place_unmoved : (o : Option Point) (id t : ℕ) → option_map (moved [] id t) o ≡ o
+place_unmoved : (o : Option Point) (id t : ℕ) → option_map (moved_place [] id t) o ≡ o
 place_unmoved None id t = refl
 place_unmoved (Some p) id t = refl
 

@@ -7,7 +7,7 @@ use Rattle.std.proofs.lemmas.Bool.{and_parts, leb-true}
 use Rattle.std.proofs.lemmas.Int.{ints}
 use Rattle.fixed_point.specs.declared.number.Point.{Point}
 use Rattle.geometry.specs.Plane.{point}
-use Rattle.worlds.specs.Moved.{Move, is_world, moved}
+use Rattle.worlds.specs.Moved.{Move, is_world, moved_place}
 use Rattle.worlds.proofs.ApartLemmas.{IsNear}
 
 abbrev by_move : Point → Move → Point
@@ -35,7 +35,7 @@ near_first true error p m later h k = h
 near_first false error p m later h k = k
 
 -- in a world an object is at most so far from where it seems to be
-pub near_moved : (error : ℕ) (moves : List Move) (id t : ℕ) (p : Point) → is_world error moves ≡ true → IsNear error p (moved moves id t p)
+pub near_moved : (error : ℕ) (moves : List Move) (id t : ℕ) (p : Point) → is_world error moves ≡ true → IsNear error p (moved_place moves id t p)
 near_moved error [] id t p h = record { along_x = nowhere_off error p.x; along_y = nowhere_off error p.y }
 near_moved error (m ∷ moves) id t p h =
     let parts = and_parts (nat_le (unsigned_abs m.dx) error && nat_le (unsigned_abs m.dy) error) (is_world error moves) h in

@@ -26,16 +26,16 @@ abbrev pub is_world : ℕ → List Move → Bool
 is_world error moves = list_all (λ m. nat_le (unsigned_abs m.dx) error && nat_le (unsigned_abs m.dy) error) moves
 
 -- by how much an object is off at a tick: the first move counts, and where there is none it isn't off
-abbrev pub move_of : List Move → ℕ → ℕ → Option Move
-move_of moves id t = find (λ m. (m.object == id) && (m.tick == t)) moves
+abbrev pub first_move : List Move → ℕ → ℕ → Option Move
+first_move moves id t = find (λ m. (m.object == id) && (m.tick == t)) moves
 
 -- where an object is at a tick that seems to be at p
-abbrev pub moved : List Move → ℕ → ℕ → Point → Point
-moved moves id t p = option_map_or (λ m. point (p.x +ℤ m.dx) (p.y +ℤ m.dy)) (move_of moves id t) p
+abbrev pub moved_place : List Move → ℕ → ℕ → Point → Point
+moved_place moves id t p = option_map_or (λ m. point (p.x +ℤ m.dx) (p.y +ℤ m.dy)) (first_move moves id t) p
 
 -- where the object of a variable is, None where it is absent or doesn't move
 abbrev pub place_moved : List Move → Trace → (ℕ → ℕ) → ℕ → ℕ → Option Point
-place_moved moves h b v t = option_map (moved moves (b v) t) (position_in t (h v t))
+place_moved moves h b v t = option_map (moved_place moves (b v) t) (position_in t (h v t))
 
 -- Regions and distances see where the objects are. Terms keep their values, and circles are judged by what seems.
 abbrev pub atom_moved : List Move → List Region → Trace → (ℕ → ℕ) → RAtom → Env → ℕ → Bool

@@ -1,11 +1,11 @@
 -- A canonical line has at most four bytes for each byte of the tokens that spell its command.
-use Rattle.command_text.proofs.Names.{◌≡◌, ℕ, zero, suc, ◌+◌, ◌*◌, ◌≤◌, Bool, true, false, List, [], ◌∷◌, ◌++◌, append_assoc, take, length, length-append, Option, None, Some, IsTrue, ℤ, pos, refl, sym, ap, subst, arith, leb, inl, inr, ◌⊎◌, codes, if◌then◌else◌, flat_map, decimal, option_map_or, leb-true, and_parts, drop_at, take_at, length-drop, sum_by-cons, code_of, reserved_words, RATE_WORD, COMMA, CLOSE_SQUARE, fix_text, Point, Function, are_firsts, level, AttrKind, Given, NamedSet, Place, lexemes, Lexeme, is_word, HaveForms, QueryTree, SpellsQuery, query_text, Part, Parts, is_verb, parts, Piece, NUMBER, piece_of, pieces, SignedPlace, Steps, function_of, CommandTree, Notes, whole_at, legs_of_x, legs_of_y, SpellsNum, num_plain, num_minus, SpellsPair, SpellsAttr, attr_num, attr_text, attr_dyn, SpellsMoreAttrs, no_more_attrs, one_more_attr, SpellsAttrs, no_attrs, SpellsPoints, no_points, one_point, SpellsRateLegs, no_rate_legs, one_rate_leg, SpellsRates, SpellsMoveLegs, no_move_legs, one_move_leg, SpellsMoves, SpellsGiven, given_num, SpellsSettings, no_settings, one_setting, SpellsAt, not_at, SpellsMoving, not_moving, SpellsChange, change, SpellsPointWord, no_point_word, token_of, SpellsPart, part_verb, part_name, part_text, part_whole, part_error, part_num, part_point_word, part_attrs, part_points, part_change, SpellsParts, no_parts, last_part, last_query, part_before, SpellsCommand, by_parts, pair_text, rate_leg_text, rates_text, move_leg_text, move_legs_text, moves_text, next_attr_text, attrs_text, points_text, settings_text, at_text, moving_text, change_text, text_of, CLOSE, WORD, reserved, slice_get, slice_get_past, CLASS}
+use Rattle.command_text.proofs.Names.{◌≡◌, ℕ, zero, suc, ◌+◌, ◌*◌, ◌≤◌, Bool, true, false, List, [], ◌∷◌, ◌++◌, append_assoc, take, length, length-append, Option, None, Some, IsTrue, ℤ, pos, refl, sym, ap, subst, arith, leb, inl, inr, ◌⊎◌, codes, if◌then◌else◌, flat_map, decimal, option_map_or, leb-true, and_parts, drop_at, take_at, length-drop, sum_by-cons, code_of, reserved_words, RATE_WORD, COMMA, CLOSE_SQUARE, fix_text, Point, Function, are_firsts, level, AttrKind, Given, NamedSet, Place, lexemes, Lexeme, is_word, HaveForms, QueryTree, SpellsQuery, query_text, Part, Parts, is_verb, parts, Piece, NUMBER, piece_of, line_pieces, SignedPlace, Steps, function_of, CommandTree, Notes, whole_at, legs_of_x, legs_of_y, SpellsNumAt, num_plain, num_minus, SpellsPair, SpellsAttr, attr_num, attr_text, attr_dyn, SpellsMoreAttrs, no_more_attrs, one_more_attr, SpellsAttrs, no_attrs, SpellsPoints, no_points, one_point, SpellsRateLegs, no_rate_legs, one_rate_leg, SpellsRates, SpellsMoveLegs, no_move_legs, one_move_leg, SpellsMoves, SpellsGiven, given_num, SpellsSettings, no_settings, one_setting, SpellsAt, not_at, SpellsMoving, not_moving, SpellsChange, change, SpellsPointWord, no_point_word, token_of, SpellsPart, part_verb, part_name, part_text, part_whole, part_error, part_num, part_point_word, part_attrs, part_points, part_change, SpellsParts, no_parts, last_part, last_query, part_before, SpellsCommand, by_parts, pair_text, rate_leg_text, rates_text, move_leg_text, move_legs_text, moves_text, next_attr_text, attrs_text, points_text, settings_text, at_text, moving_text, object_change_text, text_of, CLOSE, WORD, reserved, slice_get, slice_get_past, CLASS}
 use Rattle.std.proofs.Common.{drop}
 use Rattle.motion.specs.declared.cell.AttrKind.TheVariants as attr_kinds
 use Rattle.ftl_lexer.specs.declared.kinds.Kind.TheVariants as kinds
 use Rattle.ftl_lexer.proofs.Shapes.{tokens_have_forms}
 use Rattle.ftl_parser.specs.Piece as token
-use Rattle.ftl_parser.specs.TextLaws.{bytes_of}
+use Rattle.ftl_parser.specs.TextLaws.{token_bytes}
 use Rattle.ftl_parser.proofs.canonical.TextTokens.{few_is, word_is}
 use Rattle.ftl_parser.proofs.canonical.TextLengths.{weight, load, load_join, piece_long, pieces_long, prints_shortly, tokens_fit}
 use Rattle.command_text.specs.Parts.{is_of_commands}
@@ -17,7 +17,7 @@ use Rattle.command_text.proofs.canonical.TextNumbers.{whole_is_short, radius_is_
 -- ---- the bytes of tokens
 
 -- some tokens, and the bytes of those after them
-front_long : (n : ℕ) (tokens : List Lexeme) → HaveForms tokens → load (take n (token.pieces tokens)) + bytes_of (drop n tokens) ≤ bytes_of tokens
+front_long : (n : ℕ) (tokens : List Lexeme) → HaveForms tokens → load (take n (token.pieces tokens)) + token_bytes (drop n tokens) ≤ token_bytes tokens
 front_long zero tokens forms = omega arith
 front_long (suc n) [] forms = omega arith
 front_long (suc n) (t ∷ tokens) forms =
@@ -28,14 +28,14 @@ record HasRoom (xs : List Piece) (bytes : ℕ) : Type 0 where
   tokens : load xs ≤ bytes
   query_bytes : (n : ℕ) (q : QueryTree) → SpellsQuery q (drop n xs) → length (query_text q) + 4 * load (take n xs) ≤ 4 * bytes
 
-line_has_room : (line : List ℕ) → HasRoom (pieces line) (length line)
+line_has_room : (line : List ℕ) → HasRoom (line_pieces line) (length line)
 line_has_room line =
     let fit = tokens_fit line in
     let forms = tokens_have_forms line in
     record {
       tokens = omega (arith, fit, pieces_long (lexemes line) forms);
       query_bytes = λ n q d.
-          let short : length (query_text q) ≤ 4 * bytes_of (drop n (lexemes line)) =
+          let short : length (query_text q) ≤ 4 * token_bytes (drop n (lexemes line)) =
           prints_shortly n line q (subst (SpellsQuery q) (sym (tail_is n line)) d) in
           omega (arith, fit, short, front_long n (lexemes line) forms);
     }
@@ -47,7 +47,7 @@ record NumShort (v : ℤ) (xs : List Piece) : Type 0 where
   some : 1 ≤ load xs
   short : length (fix_text v) ≤ load xs
 
-num_short : {p : SignedPlace} {v : ℤ} {xs : List Piece} {s t : Notes} → SpellsNum p v s t xs → NumShort v xs
+num_short : {p : SignedPlace} {v : ℤ} {xs : List Piece} {s t : Notes} → SpellsNumAt p v s t xs → NumShort v xs
 num_short (num_plain {place = p} {n = n}) = record { some = omega arith; short = omega (arith, signed_is_short p false n) }
 num_short (num_minus {place = p} {n = n}) = record { some = omega arith; short = omega (arith, signed_is_short p true n) }
 
@@ -166,7 +166,7 @@ moves_short (moves {ls = ls} {xs = xs} {a = a} {b = b} {ys = ys} d e) =
 
 -- ---- what a command writes
 
-given_short : {g : Given} {xs : List Piece} {s t : Notes} → SpellsGiven g s t xs → length (text.given_text g) ≤ 4 * load xs
+given_short : {g : Given} {xs : List Piece} {s t : Notes} → SpellsGiven g s t xs → length (text.given_value_text g) ≤ 4 * load xs
 given_short (given_num d) = omega (arith, (num_short d).short)
 given_short (given_both {v = v} {xs = xs} {f = f} {ys = ys} d e) =
     omega (arith, (num_short d).short, rates_short e, length-append (fix_text v) (codes " rate " ++ rates_text f), load_join xs (WORD RATE_WORD ∷ ys))
@@ -176,7 +176,7 @@ given_short (given_rate d) = omega (arith, rates_short d)
 settings_short : {ss : List NamedSet} {xs : List Piece} {s t : Notes} → SpellsSettings ss s t xs → length (settings_text ss) ≤ 4 * load xs
 settings_short no_settings = omega arith
 settings_short (one_setting {n = n} {g = g} {xs = xs} {ss = ss} {ys = ys} d e) =
-    let given : List ℕ = text.given_text g in
+    let given : List ℕ = text.given_value_text g in
     let set : List ℕ = n ++ (32 ∷ given) in
     let sum : length (set ++ settings_text ss) ≡ length set + length (settings_text ss) = length-append set (settings_text ss) in
     omega (arith, sum, length-append n (32 ∷ given), given_short d, load_join xs ys, settings_short e)
@@ -189,7 +189,7 @@ moving_short : {m : Option (Function × Function)} {xs : List Piece} {s t : Note
 moving_short not_moving = omega arith
 moving_short (moving d) = omega (arith, moves_short d)
 
-change_short : {p : Place} {ss : List NamedSet} {xs : List Piece} {s t : Notes} → SpellsChange p ss s t xs → length (change_text p ss) ≤ 4 * load xs
+change_short : {p : Place} {ss : List NamedSet} {xs : List Piece} {s t : Notes} → SpellsChange p ss s t xs → length (object_change_text p ss) ≤ 4 * load xs
 change_short (change {p = p} {xs = xs} {m = m} {ys = ys} {ss = ss} {zs = zs} d e f) =
     let bytes = length-append (at_text p) (moving_text m ++ settings_text ss) in
     let later = length-append (moving_text m) (settings_text ss) in
@@ -222,7 +222,7 @@ attrs_short (some_attrs {a = a} {xs = xs} {rest = more} {ys = ys} d e) =
     let tokens = load_join xs (ys ++ CLOSE ∷ []) in
     omega (arith, bytes, length-append others (codes ")"), attr_short d, more_attrs_short e, tokens, load_join ys (CLOSE ∷ []))
 
-point_word_short : {b : Bool} {xs : List Piece} → SpellsPointWord b xs → length (text.point_word b) ≤ 4 * load xs
+point_word_short : {b : Bool} {xs : List Piece} → SpellsPointWord b xs → length (text.point_word_text b) ≤ 4 * load xs
 point_word_short no_point_word = omega arith
 point_word_short point_word = omega arith
 
@@ -273,5 +273,5 @@ command_short : {c : CommandTree} {xs : List Piece} {s t : Notes} → SpellsComm
 unfolding text_of
 command_short {c = c} (by_parts d) bytes room = omega (arith, parts_short d [] 0 bytes room (omega arith), length-drop 1 (text.parts_text (parts c)))
 
-pub line_short : (line : List ℕ) (c : CommandTree) {s t : Notes} → SpellsCommand c s t (pieces line) → length (text_of c) ≤ 4 * length line
+pub line_short : (line : List ℕ) (c : CommandTree) {s t : Notes} → SpellsCommand c s t (line_pieces line) → length (text_of c) ≤ 4 * length line
 line_short line c d = command_short d (length line) (line_has_room line)

@@ -2,7 +2,7 @@
 use Rattle.command_text.proofs.Names.{◌≡◌, ℕ, zero, suc, ◌+◌, ◌^◌, ◌<◌, ◌≤◌, max, Bool, true, false, ◌&&◌, List, length, Option, None, Some, ℤ, pos, negsuc, unsigned_abs, IsTrue, refl, sym, ap, subst, ◌∙◌, arith, cond, leb, neg_ℤ, unwrap_or, is_some, option_map, option_and_then, int_le, list_all, is_ascii_digit, decimal, digits_value, leb-true, nat_tests, READ_LIMIT, fix_text, is_number, RADIUS_LIMIT, LAST_TICK, up_to, whole_of, IsUnsigned, CAPACITY_LIMIT, WholePlace, Span, Steps, Capacity, Nearest, whole_in, radius_in, SignedPlace, Value, Rate, Width, negated, signed_in, whole_at, radius_at, signed_at, IsFrom, IsWidth, IsWholeIn, IsSignedIn, []}
 use Rattle.std.proofs.lemmas.Int.{ints}
 use Rattle.fixed_point.specs.declared.number.TheConstants.{SLOPE_LIMIT}
-use Rattle.fixed_point.specs.Decimal.{thousandths_of, size_of}
+use Rattle.fixed_point.specs.Decimal.{thousandths_of, unsigned_thousandths}
 use Rattle.fixed_point.proofs.DecimalLemmas.{decimal_law}
 use Rattle.ftl_parser.proofs.canonical.TextShapes.{radius_within}
 use Rattle.ftl_parser.proofs.canonical.TextValues.{from_again, read_again}
@@ -111,7 +111,7 @@ pub radius_is_short : (text : List ℕ) → length (fix_text (radius_at text)) �
 radius_is_short text = fix_short RADIUS_LIMIT text
 
 pub zero_is_short : length (fix_text (pos 0)) ≤ 1
-unfolding thousandths_of size_of
+unfolding thousandths_of unsigned_thousandths
 zero_is_short = fix_short READ_LIMIT []
 
 -- the bytes of a sign

@@ -1,5 +1,5 @@
 -- The parts of canonical lines are cut into tokens that spell them, with numbers in range and sizes within their limits.
-use Rattle.command_text.proofs.Names.{◌≡◌, ℕ, suc, ◌≤◌, Bool, true, false, List, [], ◌∷◌, ◌++◌, length, map, append_assoc, Option, None, Some, ℤ, pos, negsuc, refl, sym, ap, ap₂, subst, ◌∙◌, arith, codes, is_some, unwrap_or, AllByRecursion, flat_map, decimal, nat_tests, reserved_words, symbols, POINT_WORD, NUM, TEXT_WORD, DYN, AT, MOVE, RATE_WORD, OPEN_SQUARE, CLOSE_SQUARE, COMMA, MINUS, fix_text, Point, Function, MOST_FIRSTS, AttrKind, Given, NamedSet, Place, Piece, NUMBER, WholePlace, Steps, SignedPlace, Value, Rate, are_few_legs, function_of, are_few_attributes, good, whole_at, legs_of_x, legs_of_y, SpellsNum, num_plain, num_minus, SpellsPair, SpellsAttr, attr_num, attr_text, attr_dyn, SpellsMoreAttrs, no_more_attrs, one_more_attr, SpellsAttrs, no_attrs, SpellsPoints, no_points, one_point, SpellsRateLegs, no_rate_legs, one_rate_leg, SpellsRates, SpellsMoveLegs, no_move_legs, one_move_leg, SpellsMoves, SpellsGiven, given_num, SpellsSettings, no_settings, one_setting, SpellsAt, not_at, SpellsMoving, not_moving, SpellsChange, change, SpellsPointWord, no_point_word, IsShortName, IsPoint, IsLeg, AreLegs, AreMoves, IsPrintableGiven, IsSetting, IsAt, IsMoving, IsChange, IsAttribute, AreAttributes, IsWholeIn, IsSignedIn, pair_text, rate_leg_text, rates_text, move_legs_text, moves_text, next_attr_text, attrs_text, points_text, settings_text, at_text, moving_text, change_text, CLOSE, CLOSE_SIGN, CLOSE_SQUARE_SIGN, COMMA_SIGN, EQUAL_SIGN, MINUS_SIGN, OPEN, OPEN_SIGN, OPEN_SQUARE_SIGN, WORD}
+use Rattle.command_text.proofs.Names.{◌≡◌, ℕ, suc, ◌≤◌, Bool, true, false, List, [], ◌∷◌, ◌++◌, length, map, append_assoc, Option, None, Some, ℤ, pos, negsuc, refl, sym, ap, ap₂, subst, ◌∙◌, arith, codes, is_some, unwrap_or, AllByRecursion, flat_map, decimal, nat_tests, reserved_words, symbols, POINT_WORD, NUM, TEXT_WORD, DYN, AT, MOVE, RATE_WORD, OPEN_SQUARE, CLOSE_SQUARE, COMMA, MINUS, fix_text, Point, Function, MOST_FIRSTS, AttrKind, Given, NamedSet, Place, Piece, NUMBER, WholePlace, Steps, SignedPlace, Value, Rate, are_few_legs, function_of, are_few_attributes, good, whole_at, legs_of_x, legs_of_y, SpellsNumAt, num_plain, num_minus, SpellsPair, SpellsAttr, attr_num, attr_text, attr_dyn, SpellsMoreAttrs, no_more_attrs, one_more_attr, SpellsAttrs, no_attrs, SpellsPoints, no_points, one_point, SpellsRateLegs, no_rate_legs, one_rate_leg, SpellsRates, SpellsMoveLegs, no_move_legs, one_move_leg, SpellsMoves, SpellsGiven, given_num, SpellsSettings, no_settings, one_setting, SpellsAt, not_at, SpellsMoving, not_moving, SpellsChange, change, SpellsPointWord, no_point_word, IsShortName, IsPoint, IsLeg, AreLegs, AreMoves, IsPrintableGiven, IsSetting, IsAtPoint, IsMoving, IsChange, IsAttribute, AreAttributes, IsWholeIn, IsSignedIn, pair_text, rate_leg_text, rates_text, move_legs_text, moves_text, next_attr_text, attrs_text, points_text, settings_text, at_text, moving_text, object_change_text, CLOSE, CLOSE_SIGN, CLOSE_SQUARE_SIGN, COMMA_SIGN, EQUAL_SIGN, MINUS_SIGN, OPEN, OPEN_SIGN, OPEN_SQUARE_SIGN, WORD}
 use Rattle.motion.specs.declared.cell.AttrKind.TheVariants as attr_kinds
 use Rattle.motion.specs.declared.cell.Given.TheVariants as givens
 use Rattle.ftl_parser.proofs.canonical.TextTokens.{Ends, blank_ends, comma_ends, close_ends, square_ends, no_cut, led, spaced_cut, then_cut, closed_cut, parted, apart_cut, same_cut, reads}
@@ -18,24 +18,24 @@ whole_at_again place n within = ap (λ (found : Option ℕ). unwrap_or found 0) 
 pub whole_cut : (place : WholePlace) (n : ℕ) → IsWholeIn place n → CutBefore Ends (decimal n) (NUMBER (decimal n) ∷ [])
 whole_cut place n within = number_cut (decimal n) (decimal_is_number n (whole_small place n within))
 
-pub num_reads : (p : SignedPlace) (v : ℤ) → IsSignedIn p v → Reads (fix_text v) (SpellsNum p v good good)
+pub num_reads : (p : SignedPlace) (v : ℤ) → IsSignedIn p v → Reads (fix_text v) (SpellsNumAt p v good good)
 unfolding symbols
 num_reads p (pos n) within =
     let size : List ℕ = fix_text (pos n) in
-    reads (subst (λ (o : Option ℤ). SpellsNum p (unwrap_or o (pos 0)) good (is_some o, true) (NUMBER size ∷ [])) (plain_again p n within)
+    reads (subst (λ (o : Option ℤ). SpellsNumAt p (unwrap_or o (pos 0)) good (is_some o, true) (NUMBER size ∷ [])) (plain_again p n within)
     (num_plain {n = size}))
     (number_cut size (fix_is_number n (plain_small p n within)))
 num_reads p (negsuc n) within =
     let size : List ℕ = fix_text (pos (suc n)) in
-    reads (subst (λ (o : Option ℤ). SpellsNum p (unwrap_or o (pos 0)) good (is_some o, true) (MINUS ∷ NUMBER size ∷ [])) (minus_again p n within)
+    reads (subst (λ (o : Option ℤ). SpellsNumAt p (unwrap_or o (pos 0)) good (is_some o, true) (MINUS ∷ NUMBER size ∷ [])) (minus_again p n within)
     (num_minus {n = size}))
     (same_cut (led MINUS_SIGN 45 refl refl refl (number_cut size (fix_is_number (suc n) (minus_small p n within)))) (minus_text n))
 
 pub pair_reads : (p : SignedPlace) (x y : ℤ) → IsSignedIn p x → IsSignedIn p y → Closes (pair_text x y) (SpellsPair p x y good good)
 unfolding symbols
 pair_reads p x y x_is y_is =
-    let a : Reads (fix_text x) (SpellsNum p x good good) = num_reads p x x_is in
-    let b : Reads (fix_text y) (SpellsNum p y good good) = num_reads p y y_is in
+    let a : Reads (fix_text x) (SpellsNumAt p x good good) = num_reads p x x_is in
+    let b : Reads (fix_text y) (SpellsNumAt p y good good) = num_reads p y y_is in
     reads (pair a.spelled b.spelled)
     (led OPEN_SIGN 40 refl refl refl
     (parted comma_ends a.cut (led COMMA_SIGN 44 refl refl refl (parted close_ends b.cut (led CLOSE_SIGN 41 refl refl refl no_cut)))))
@@ -59,7 +59,7 @@ unfolding symbols
 rate_legs_read [] shape = reads no_rate_legs no_cut
 rate_legs_read (leg ∷ ls) shape =
     let number : List ℕ = decimal leg.1 in
-    let slope : Reads (fix_text leg.0) (SpellsNum Rate leg.0 good good) = num_reads Rate leg.0 shape.0.0 in
+    let slope : Reads (fix_text leg.0) (SpellsNumAt Rate leg.0 good good) = num_reads Rate leg.0 shape.0.0 in
     let later : Closes (flat_map rate_leg_text ls) (SpellsRateLegs ls good good) = rate_legs_read ls shape.1 in
     let tokens : List Piece = OPEN_SQUARE ∷ (slope.tokens ++ COMMA ∷ NUMBER number ∷ CLOSE_SQUARE ∷ later.tokens) in
     let noted = subst (λ (o : Option ℕ). SpellsRateLegs ls (is_some o, true) good later.tokens) (sym (whole_again Steps leg.1 shape.0.1)) later.spelled in
@@ -71,7 +71,7 @@ rate_legs_read (leg ∷ ls) shape =
 pub rates_read : (f : Function) → AreLegs f → Reads (rates_text f) (SpellsRates f good good)
 rates_read f shape =
     let legs : Closes (flat_map rate_leg_text f.firsts) (SpellsRateLegs f.firsts good good) = rate_legs_read f.firsts shape.firsts in
-    let last : Reads (fix_text f.last) (SpellsNum Rate f.last good good) = num_reads Rate f.last shape.last in
+    let last : Reads (fix_text f.last) (SpellsNumAt Rate f.last good good) = num_reads Rate f.last shape.last in
     let tokens : List Piece = legs.tokens ++ last.tokens in
     reads (subst (λ (g : Function). SpellsRates g good good tokens) (function_is f.firsts f.last shape.few shape.firsts)
     (subst (λ (b : Bool). SpellsRates (function_of f.firsts f.last) good (true, b) tokens) (few_is (length f.firsts) shape.few)
@@ -142,35 +142,35 @@ rate_cut : CutBefore Ends (codes "rate") (WORD RATE_WORD ∷ [])
 unfolding reserved_words
 rate_cut = key_cut RATE_WORD (codes "rate") refl refl
 
-pub given_reads : (g : Given) → IsPrintableGiven g → Reads (text.given_text g) (SpellsGiven g good good)
+pub given_reads : (g : Given) → IsPrintableGiven g → Reads (text.given_value_text g) (SpellsGiven g good good)
 unfolding symbols
 given_reads (givens.Num v) shape =
-    let r : Reads (fix_text v) (SpellsNum Value v good good) = num_reads Value v shape in
+    let r : Reads (fix_text v) (SpellsNumAt Value v good good) = num_reads Value v shape in
     reads (given_num r.spelled) (led EQUAL_SIGN 61 refl refl refl (spaced_cut r.cut))
 given_reads (givens.Text t) shape = reads given_text (led EQUAL_SIGN 61 refl refl refl (spaced_cut (text_cut t shape)))
 given_reads (givens.Rate f) shape =
     let r : Reads (rates_text f) (SpellsRates f good good) = rates_read f shape in
     reads (given_rate r.spelled) (apart_cut rate_cut r.cut)
 given_reads (givens.Both v f) shape =
-    let a : Reads (fix_text v) (SpellsNum Value v good good) = num_reads Value v shape.0 in
+    let a : Reads (fix_text v) (SpellsNumAt Value v good good) = num_reads Value v shape.0 in
     let r : Reads (rates_text f) (SpellsRates f good good) = rates_read f shape.1 in
     reads (given_both a.spelled r.spelled) (led EQUAL_SIGN 61 refl refl refl (spaced_cut (apart_cut a.cut (apart_cut rate_cut r.cut))))
 
 settings_end : (ss : List NamedSet) (rest : List ℕ) → Ends rest → Ends (settings_text ss ++ rest)
 settings_end [] rest ends = ends
-settings_end (s ∷ ss) rest ends = blank_ends (((s.name ++ (32 ∷ text.given_text s.given)) ++ settings_text ss) ++ rest)
+settings_end (s ∷ ss) rest ends = blank_ends (((s.name ++ (32 ∷ text.given_value_text s.given)) ++ settings_text ss) ++ rest)
 
 pub settings_read : (ss : List NamedSet) → AllByRecursion IsSetting ss → Reads (settings_text ss) (SpellsSettings ss good good)
 settings_read [] shape = reads no_settings no_cut
 settings_read (s ∷ ss) shape =
-    let g : Reads (text.given_text s.given) (SpellsGiven s.given good good) = given_reads s.given shape.0.1 in
+    let g : Reads (text.given_value_text s.given) (SpellsGiven s.given good good) = given_reads s.given shape.0.1 in
     let later : Reads (settings_text ss) (SpellsSettings ss good good) = settings_read ss shape.1 in
     reads (one_setting g.spelled later.spelled)
     (same_cut (spaced_cut (apart_cut (name_cut s.name shape.0.0) (then_cut g.cut later.cut (settings_end ss)))) (simp append_assoc))
 
 -- ---- what a command changes of an object
 
-at_reads : (p : Option Point) → IsAt p → Closes (at_text p) (SpellsAt p good good)
+at_reads : (p : Option Point) → IsAtPoint p → Closes (at_text p) (SpellsAt p good good)
 unfolding reserved_words
 at_reads None shape = reads not_at no_cut
 at_reads (Some p) shape =
@@ -184,7 +184,7 @@ moving_reads (Some m) shape =
     let r : Closes (moves_text m.0 m.1) (SpellsMoves (m.0, m.1) good good) = moves_read m.0 m.1 shape in
     reads (moving r.spelled) (spaced_cut (apart_cut (key_cut MOVE (codes "move") refl refl) r.cut))
 
-pub change_reads : (p : Place) (ss : List NamedSet) → IsChange p ss → Reads (change_text p ss) (SpellsChange p ss good good)
+pub change_reads : (p : Place) (ss : List NamedSet) → IsChange p ss → Reads (object_change_text p ss) (SpellsChange p ss good good)
 change_reads p ss shape =
     let a : Closes (at_text p.at) (SpellsAt p.at good good) = at_reads p.at shape.at in
     let m : Closes (moving_text p.moving) (SpellsMoving p.moving good good) = moving_reads p.moving shape.moving in
@@ -225,7 +225,7 @@ attrs_read (a ∷ more) shape =
     (λ rest ends. subst Ends (sym (append_assoc others (41 ∷ []) rest)) (more_attrs_end more (41 ∷ rest) (close_ends rest))))))
 
 -- the word `point` or not
-pub point_word_reads : (b : Bool) → Reads (text.point_word b) (SpellsPointWord b)
+pub point_word_reads : (b : Bool) → Reads (text.point_word_text b) (SpellsPointWord b)
 unfolding reserved_words
 point_word_reads true = reads point_word (spaced_cut (key_cut POINT_WORD (codes "point") refl refl))
 point_word_reads false = reads no_point_word no_cut

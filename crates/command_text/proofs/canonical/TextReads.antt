@@ -1,5 +1,5 @@
 -- Canonical lines are read back.
-use Rattle.command_text.proofs.Names.{◌≡◌, ℕ, Bool, true, false, ◌||◌, not, List, [], ◌∷◌, ◌++◌, length, Option, None, Some, option_map, ℤ, pos, negsuc, refl, sym, ap, ap₂, subst, ◌∙◌, arith, inl, inr, eqb-true, ◌==◌, is_some, unwrap_or, list_any, decimal, cases_Bool, and_parts, or_parts, nat_tests, symbols, fix_text, Point, Function, NamedSet, Lexeme, cut, is_word, is_blank, token_at, bad_place, lexemes, Part, Verb, Name, Quoted, Whole, Error, Num, PointWord, Attrs, Points, Change, Parts, Blank, Last, Asking, ◌▸◌, parts, Piece, NUMBER, pieces, are_few_vertices, CommandTree, Notes, good, SpellsPart, part_verb, part_name, part_text, part_whole, part_error, part_num, part_point_word, part_attrs, part_points, part_change, SpellsParts, no_parts, last_part, last_query, part_before, SpellsCommand, by_parts, Reader, before, command_of, is_ascii, is_comment, has_other_byte, is_too_long, late_refusal, IsBegun, IsWhole, at_text, moving_text, settings_text, parts_text, text_of, IsAscii, AreVertices, IsPart, AreParts, IsPrintable, PrintsLines, ReadsWhatIsPrinted, at_first, first_notes, has_long, has_short_words, leb, leb-true, ◌≤◌}
+use Rattle.command_text.proofs.Names.{◌≡◌, ℕ, Bool, true, false, ◌||◌, not, List, [], ◌∷◌, ◌++◌, length, Option, None, Some, option_map, ℤ, pos, negsuc, refl, sym, ap, ap₂, subst, ◌∙◌, arith, inl, inr, eqb-true, ◌==◌, is_some, unwrap_or, list_any, decimal, cases_Bool, and_parts, or_parts, nat_tests, symbols, fix_text, Point, Function, NamedSet, Lexeme, cut, is_word, is_blank, token_at, bad_place, lexemes, Part, Verb, Name, Quoted, Whole, Error, Num, PointWord, Attrs, Points, Change, Parts, Blank, Last, Asking, ◌▸◌, parts, Piece, NUMBER, line_pieces, are_few_vertices, CommandTree, Notes, good, SpellsPart, part_verb, part_name, part_text, part_whole, part_error, part_num, part_point_word, part_attrs, part_points, part_change, SpellsParts, no_parts, last_part, last_query, part_before, SpellsCommand, by_parts, Reader, before, command_of, is_ascii, is_comment, has_other_byte, is_too_long, late_refusal, IsBegun, IsWholeCommand, at_text, moving_text, settings_text, parts_text, text_of, IsAscii, AreVertices, IsPart, AreParts, IsPrintable, PrintsLines, ReadsWhatIsPrinted, at_first, first_notes, has_long, has_short_words, leb, leb-true, ◌≤◌}
 use Rattle.std.proofs.Common.{drop}
 use Rattle.ftl_lexer.proofs.Cuts.{lexemes_from_cut}
 use Rattle.ftl_lexer.proofs.Steps.{none_is_some}
@@ -166,7 +166,7 @@ no_comment bytes tokens is =
       | inr other ↦ other
     ]
 
-whole_command : (c : CommandTree) (line : List ℕ) → SpellsCommand c (first_notes line) good (pieces line) → IsWhole (command_of (at_first line)) c
+whole_command : (c : CommandTree) (line : List ℕ) → SpellsCommand c (first_notes line) good (line_pieces line) → IsWholeCommand (command_of (at_first line)) c
 whole_command c line spelled =
     let read : command_of (at_first line) ≡ Some (c, before [] good) = command_spelled spelled in
     record { taken = ap late_refusal read; command = ap (option_map (λ (r : CommandTree × Reader). r.0)) read }
@@ -179,13 +179,13 @@ reads_what_is_printed limit c shape fits =
     let r : CommandCut c = command_cut c shape in
     let line : List ℕ = text_of c in
     let found : (bad_place line ≡ None) × (lexemes line ≡ r.is_cut.lexed) = lexemes_from_cut line r.is_cut.lexed r.is_cut.cut_is in
-    let tokens : r.tokens ≡ pieces line = sym (ap token.pieces found.1 ∙ r.is_cut.pieces_are) in
+    let tokens : r.tokens ≡ line_pieces line = sym (ap token.pieces found.1 ∙ r.is_cut.pieces_are) in
     let short : is_too_long limit line ≡ false = grind (arith, nat_tests, fits) in
     let other : is_comment line ≡ false = no_comment line r.is_cut.lexed r.is_cut.cut_is in
     let begun : IsBegun limit line line false = cut_begun limit line line short (line_ascii c r) other refl found.0 in
     let words : has_short_words line ≡ true = ap (λ ts. not (has_long ts)) found.1 ∙ ap not r.is_cut.short in
-    let spelled : SpellsCommand c (first_notes line) good (pieces line) =
-    subst (λ (b : Bool). SpellsCommand c (true, b) good (pieces line)) (sym words) (subst (SpellsCommand c good good) tokens r.spelled) in
+    let spelled : SpellsCommand c (first_notes line) good (line_pieces line) =
+    subst (λ (b : Bool). SpellsCommand c (true, b) good (line_pieces line)) (sym words) (subst (SpellsCommand c good good) tokens r.spelled) in
     other_read limit line line false c begun refl (whole_command c line spelled)
 
 -- ---- and have no line feed

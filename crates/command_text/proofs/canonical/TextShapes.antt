@@ -1,5 +1,5 @@
 -- What tokens of a line spell is printable, where its numbers are in range and its sizes within their limits.
-use Rattle.command_text.proofs.Names.{◌≡◌, ℕ, ◌+◌, ◌≤◌, Bool, true, false, List, [], ◌∷◌, ◌++◌, length, map, Option, None, Some, ℤ, refl, sym, ◌∙◌, ap, subst, arith, leb, is_some, is_none, if◌then◌else◌, AllByRecursion, list_all, and_parts, and_from, leb-true, nat_tests, length-map, drop_at, drop-drop, Point, Function, are_firsts, is_length_of, level, MOST_FIRSTS, AttrKind, Given, NamedSet, Place, Kind, Lexeme, HasForm, HaveForms, lexemes, QueryTree, SpellsQuery, first_unfit, LAST_TICK, first_too_large, piece_lists, texts_alone, token_texts, VERTEX_LIMIT, ATTRIBUTE_LIMIT, Part, Parts, Piece, TEXT, piece_of, pieces, has_long, Steps, SignedPlace, whole_in, radius_in, signed_in, are_few_legs, function_of, are_few_attributes, are_few_vertices, is_query_small, CommandTree, Notes, legs_of_x, legs_of_y, SpellsNum, num_plain, num_minus, SpellsPair, SpellsAttr, attr_num, attr_text, attr_dyn, SpellsMoreAttrs, no_more_attrs, one_more_attr, SpellsAttrs, no_attrs, SpellsPoints, no_points, one_point, SpellsRateLegs, no_rate_legs, one_rate_leg, SpellsRates, SpellsMoveLegs, no_move_legs, one_move_leg, SpellsMoves, SpellsGiven, given_num, SpellsSettings, no_settings, one_setting, SpellsAt, not_at, SpellsMoving, not_moving, SpellsChange, change, SpellsPart, part_verb, part_name, part_text, part_whole, part_error, part_num, part_point_word, part_attrs, part_points, part_change, SpellsParts, no_parts, last_part, last_query, part_before, by_parts, IsFrom, IsAscii, IsShortName, IsShortText, IsRate, IsPoint, IsLeg, AreLegs, AreMoves, IsPrintableGiven, IsSetting, IsAt, IsMoving, IsChange, IsAttribute, AreAttributes, IsQuery, IsPart, AreParts, IsPrintable, IsSignedIn, CLOSE, SpellsWithinLimits, is_long, is_short, or_parts, pieces_from, unquoted}
+use Rattle.command_text.proofs.Names.{◌≡◌, ℕ, ◌+◌, ◌≤◌, Bool, true, false, List, [], ◌∷◌, ◌++◌, length, map, Option, None, Some, ℤ, refl, sym, ◌∙◌, ap, subst, arith, leb, is_some, is_none, if◌then◌else◌, AllByRecursion, list_all, and_parts, and_from, leb-true, nat_tests, length-map, drop_at, drop-drop, Point, Function, are_firsts, is_length_of, level, MOST_FIRSTS, AttrKind, Given, NamedSet, Place, Kind, Lexeme, HasForm, HaveForms, lexemes, QueryTree, SpellsQuery, first_unfit, LAST_TICK, first_too_large, piece_lists, texts_alone, token_texts, VERTEX_LIMIT, ATTRIBUTE_LIMIT, Part, Parts, Piece, TEXT, piece_of, line_pieces, has_long, Steps, SignedPlace, whole_in, radius_in, signed_in, are_few_legs, function_of, are_few_attributes, are_few_vertices, is_query_small, CommandTree, Notes, legs_of_x, legs_of_y, SpellsNumAt, num_plain, num_minus, SpellsPair, SpellsAttr, attr_num, attr_text, attr_dyn, SpellsMoreAttrs, no_more_attrs, one_more_attr, SpellsAttrs, no_attrs, SpellsPoints, no_points, one_point, SpellsRateLegs, no_rate_legs, one_rate_leg, SpellsRates, SpellsMoveLegs, no_move_legs, one_move_leg, SpellsMoves, SpellsGiven, given_num, SpellsSettings, no_settings, one_setting, SpellsAt, not_at, SpellsMoving, not_moving, SpellsChange, change, SpellsPart, part_verb, part_name, part_text, part_whole, part_error, part_num, part_point_word, part_attrs, part_points, part_change, SpellsParts, no_parts, last_part, last_query, part_before, by_parts, IsFrom, IsAscii, IsShortName, IsShortText, IsRate, IsPoint, IsLeg, AreLegs, AreMoves, IsPrintableGiven, IsSetting, IsAtPoint, IsMoving, IsChange, IsAttribute, AreAttributes, IsQuery, IsPart, AreParts, IsPrintable, IsSignedIn, CLOSE, SpellsWithinLimits, is_long, is_short, or_parts, pieces_from, unquoted}
 use Rattle.std.proofs.Common.{drop}
 use Rattle.ftl_lexer.specs.declared.kinds.Kind.TheVariants as kinds
 use Rattle.ftl_lexer.proofs.Shapes.{tokens_have_forms}
@@ -39,7 +39,7 @@ pieces_have (t ∷ tokens) forms ascii short =
     let parts = or_parts (is_long t.0 t.1) (has_long tokens) short in
     (piece_has t.0 t.1 forms.0 ascii.0 parts.0, pieces_have tokens forms.1 ascii.1 parts.1)
 
-line_has : (line : List ℕ) → IsAscii line → has_long (lexemes line) ≡ false → HaveShapes (pieces line)
+line_has : (line : List ℕ) → IsAscii line → has_long (lexemes line) ≡ false → HaveShapes (line_pieces line)
 line_has line ascii short = pieces_have (lexemes line) (tokens_have_forms line) (tokens_ascii line ascii) short
 
 -- ---- numbers and points
@@ -48,7 +48,7 @@ line_has line ascii short = pieces_have (lexemes line) (tokens_have_forms line) 
 abbrev pub IsGood : Notes → Type 0
 IsGood s = (s.0 ≡ true) × (s.1 ≡ true)
 
-num_shape : {p : SignedPlace} {v : ℤ} {s t : Notes} {xs : List Piece} → SpellsNum p v s t xs → IsGood t → IsGood s × IsSignedIn p v
+num_shape : {p : SignedPlace} {v : ℤ} {s t : Notes} {xs : List Piece} → SpellsNumAt p v s t xs → IsGood t → IsGood s × IsSignedIn p v
 num_shape (num_plain {place = p} {n = n} {s = s}) is =
     let parts = and_parts s.0 (is_some (signed_in p false n)) is.0 in
     ((parts.0, is.1), signed_in_range p false n parts.1)
@@ -164,7 +164,7 @@ settings_shape (one_setting {xs = xs} {ys = ys} d e) is =
     let given = given_shape d later.0 in
     (given.0, λ shapes. ((shapes.0, given.1 (all_front HasShape xs ys shapes.1)), later.1 (all_back HasShape xs ys shapes.1)))
 
-at_shape : {p : Option Point} {s t : Notes} {xs : List Piece} → SpellsAt p s t xs → IsGood t → IsGood s × IsAt p
+at_shape : {p : Option Point} {s t : Notes} {xs : List Piece} → SpellsAt p s t xs → IsGood t → IsGood s × IsAtPoint p
 at_shape not_at is = (is, tt)
 at_shape (at d) is = let point = pair_shape d is in (point.0, (point.1, point.2))
 
@@ -237,7 +237,7 @@ small_is q small = none_is (first_too_large false q) small
 
 -- what is known of the queries that stand at the end of the tokens
 record IsTail (q : QueryTree) : Type 0 where
-  printable : query_shape.IsPrintable q
+  printable : query_shape.IsPrintableQuery q
   shape : query_shape.HasShape query_shape.IsAny query_shape.IsAny q
 
 abbrev AreTails : List Piece → Type 0
@@ -293,7 +293,7 @@ parts_shape (part_before {xs = xs} {ys = ys} d e) is =
     )
 
 -- queries at the end of a line
-line_tails : (line : List ℕ) → has_long (lexemes line) ≡ false → AreTails (pieces line)
+line_tails : (line : List ℕ) → has_long (lexemes line) ≡ false → AreTails (line_pieces line)
 line_tails line short n q d =
     let spelled : SpellsQuery q (pieces_from n line) = subst (SpellsQuery q) (sym (tail_is n line)) d in
     record {

@@ -1,5 +1,5 @@
 -- The text of a query at the end of a canonical line.
-use Rattle.command_text.proofs.Names.{◌≡◌, ℕ, Bool, true, false, not, List, [], ◌∷◌, refl, ap, subst, is_none, AllByRecursion, or_parts, Kind, Lexeme, HaveForms, lexemes, QueryTree, SpellsQuery, first_unfit, piece_lists, texts_alone, token_texts, query_text, IsReadAs, Piece, pieces, has_long, is_query_small, IsAscii, IsQuery, is_long, is_short, piece_of, unquoted}
+use Rattle.command_text.proofs.Names.{◌≡◌, ℕ, Bool, true, false, not, List, [], ◌∷◌, refl, ap, subst, is_none, AllByRecursion, or_parts, Kind, Lexeme, HaveForms, lexemes, QueryTree, SpellsQuery, first_unfit, piece_lists, texts_alone, token_texts, query_text, IsReadAs, Piece, line_pieces, has_long, is_query_small, IsAscii, IsQuery, is_long, is_short, piece_of, unquoted}
 use Rattle.ftl_lexer.specs.declared.kinds.Kind.TheVariants as kinds
 use Rattle.ftl_lexer.proofs.Cuts.{cut_from_good}
 use Rattle.ftl_lexer.proofs.Shapes.{tokens_have_forms}
@@ -48,10 +48,10 @@ unfolding is_query_small
 tail_cut q shape =
     let line : List ℕ = query_text q in
     let read : IsReadAs q line = reads_what_is_printed q shape.printable in
-    let texts : AllByRecursion IsAscii (token_texts (pieces line)) =
+    let texts : AllByRecursion IsAscii (token_texts (line_pieces line)) =
     subst (AllByRecursion IsAscii) (lists-query texts_alone read.spelled) shape.ascii in
     record {
-      tokens = pieces line;
+      tokens = line_pieces line;
       spelled = read.spelled;
       fit = ap is_none read.fit;
       small = ap is_none shape.lawful.small;

@@ -1,5 +1,5 @@
 -- What a part's reader reads, the part's rule derives from the tokens that the reader took. Parts that have no rule of their own have one here.
-use Rattle.command_text.proofs.Names.{◌≡◌, ℕ, ℤ, zero, suc, Bool, true, false, List, [], ◌∷◌, ◌++◌, length, Option, Some, None, option_map, refl, sym, ◌∙◌, ap, subst, append_assoc, append-nil, eqb-true, arith, ◌<◌, length-append, if◌then◌else◌, ◌==◌, is_some, is_none, nat_le, option_map_or, ◌>>=◌, AT, MOVE, RATE, POINT_WORD, NUM, TEXT_WORD, DYN, OPEN_SQUARE, CLOSE_SQUARE, COMMA, MINUS, Point, Function, AttrKind, Given, NamedSet, Place, QueryTree, Name, Quoted, Whole, Error, PointWord, Points, Asking, Piece, NAME, NUMBER, TEXT, is_key, is_sign, is_name, is_text, WholePlace, Steps, whole_in, radius_in, SignedPlace, Value, Rate, signed_in, are_few_legs, function_of, are_few_attributes, are_few_vertices, query_of, is_query_fit, is_query_small, Notes, and_number, and_size, whole_at, radius_at, signed_at, point_of, set_of, place_of, legs_of_x, legs_of_y, SpellsNum, num_plain, num_minus, SpellsPair, SpellsAttr, attr_num, attr_text, attr_dyn, SpellsMoreAttrs, no_more_attrs, one_more_attr, SpellsAttrs, no_attrs, SpellsPoints, no_points, one_point, SpellsRateLegs, no_rate_legs, one_rate_leg, SpellsRates, SpellsMoveLegs, no_move_legs, one_move_leg, SpellsMoves, SpellsGiven, given_num, SpellsSettings, no_settings, one_setting, SpellsAt, not_at, SpellsMoving, not_moving, SpellsChange, change, no_point_word, SpellsPart, part_name, part_text, part_whole, part_error, part_point_word, part_points, SpellsParts, last_query, Reader, Read, notes, before, next, begins, key, sign, name_in, number_in, text_in, name, text, number, whole, radius, minus, signed_number, num, point, many, all, kind_in, attr, next_attr, first_attr, attrs, points, rate_leg, move_leg, rate, given_value, given_equal, given, setting, settings, some_moves, place, query, noting_fit, noting_small, first_unfit, ARROW, CLOSE, COMMA_SIGN, COMPARISON, MINUS_SIGN, OPEN, OPEN_SIGN, OPEN_SQUARE_SIGN, PLUS, POINT, STAR, SpellsQuery, WORD, inl, inr, sign_code, signs, slice_get, ◌⊎◌}
+use Rattle.command_text.proofs.Names.{◌≡◌, ℕ, ℤ, zero, suc, Bool, true, false, List, [], ◌∷◌, ◌++◌, length, Option, Some, None, option_map, refl, sym, ◌∙◌, ap, subst, append_assoc, append-nil, eqb-true, arith, ◌<◌, length-append, if◌then◌else◌, ◌==◌, is_some, is_none, nat_le, option_map_or, ◌>>=◌, AT, MOVE, RATE, POINT_WORD, NUM, TEXT_WORD, DYN, OPEN_SQUARE, CLOSE_SQUARE, COMMA, MINUS, Point, Function, AttrKind, Given, NamedSet, Place, QueryTree, Name, Quoted, Whole, Error, PointWord, Points, Asking, Piece, NAME, NUMBER, TEXT, is_key, is_sign, is_name, is_text, WholePlace, Steps, whole_in, radius_in, SignedPlace, Value, Rate, signed_in, are_few_legs, function_of, are_few_attributes, are_few_vertices, query_of, is_query_fit, is_query_small, Notes, and_number, and_size, whole_at, radius_at, signed_at, point_of, set_of, place_with, legs_of_x, legs_of_y, SpellsNumAt, num_plain, num_minus, SpellsPair, SpellsAttr, attr_num, attr_text, attr_dyn, SpellsMoreAttrs, no_more_attrs, one_more_attr, SpellsAttrs, no_attrs, SpellsPoints, no_points, one_point, SpellsRateLegs, no_rate_legs, one_rate_leg, SpellsRates, SpellsMoveLegs, no_move_legs, one_move_leg, SpellsMoves, SpellsGiven, given_num, SpellsSettings, no_settings, one_setting, SpellsAt, not_at, SpellsMoving, not_moving, SpellsChange, change, no_point_word, SpellsPart, part_name, part_text, part_whole, part_error, part_point_word, part_points, SpellsParts, last_query, Reader, Read, notes, before, next, begins, key, sign, name_in, number_in, text_in, name, text, number, whole, radius, minus, signed_number, num, point, many, all, kind_in, attr, next_attr, first_attr, attrs, points, rate_leg, move_leg, rate, given_value, given_equal, given, setting, settings, some_moves, place, query, noting_fit, noting_small, first_unfit, ARROW, CLOSE, COMMA_SIGN, COMPARISON, MINUS_SIGN, OPEN, OPEN_SIGN, OPEN_SQUARE_SIGN, PLUS, POINT, STAR, SpellsQuery, WORD, inl, inr, sign_code, signs, slice_get, ◌⊎◌}
 use Rattle.case_table.specs.declared.compare.Op.TheVariants as ops
 use Rattle.motion.specs.declared.cell.AttrKind.TheVariants as attr_kinds
 use Rattle.motion.specs.declared.cell.Given.TheVariants as givens
@@ -262,16 +262,16 @@ signed_number_follows =
     ends SpellsSigned ((minus s).0, n) x s1 t e (took_both m.split d.split) (signed_by m.spelled d.spelled)
 
 num_by : (place : SignedPlace) {n : Bool × List ℕ} {s t : Notes} {xs : List Piece} → SpellsSigned n s t xs
-    → SpellsNum place (signed_at place n.0 n.1) s (and_number t (is_some (signed_in place n.0 n.1))) xs
+    → SpellsNumAt place (signed_at place n.0 n.1) s (and_number t (is_some (signed_in place n.0 n.1))) xs
 num_by place unsigned = num_plain
 num_by place negative = num_minus
 
-pub num_follows : (place : SignedPlace) → Follows (num place) (SpellsNum place)
+pub num_follows : (place : SignedPlace) → Follows (num place) (SpellsNumAt place)
 unfolding num
 num_follows place =
     follows λ s t x e.
     part_first signed_number_follows s _ e λ n s1 d e.
-    ends (SpellsNum place) (signed_at place n.0 n.1) x (noting_fit (is_some (signed_in place n.0 n.1)) s1) t e d.split (num_by place d.spelled)
+    ends (SpellsNumAt place) (signed_at place n.0 n.1) x (noting_fit (is_some (signed_in place n.0 n.1)) s1) t e d.split (num_by place d.spelled)
 
 -- ---- Points
 
@@ -459,7 +459,7 @@ points_follow =
 
 -- ---- Legs
 
-rate_leg_by : {a : ℤ} {k : ℕ} {s t u : Notes} {xs ys : List Piece} → SpellsNum Rate a s t xs → SpellsWhole Steps k t u ys →
+rate_leg_by : {a : ℤ} {k : ℕ} {s t u : Notes} {xs ys : List Piece} → SpellsNumAt Rate a s t xs → SpellsWhole Steps k t u ys →
     Starts SpellsRateLegs (a, k) s u (OPEN_SQUARE ∷ (xs ++ COMMA ∷ (ys ++ CLOSE_SQUARE ∷ [])))
 rate_leg_by {a = a} {s = s} {xs = xs} d (part_whole {n = n}) = record {
   ahead = λ more u zs rest.
@@ -542,7 +542,7 @@ rate_follows =
 abbrev SpellsValue : Given → Notes → Notes → List Piece → Type 0
 SpellsValue g s t xs = SpellsGiven g s t (COMPARISON ops.Eq ∷ xs)
 
-both_by : {v : ℤ} {f : Function} {s t u : Notes} {xs ys : List Piece} → SpellsNum Value v s t xs → SpellsRate f t u ys
+both_by : {v : ℤ} {f : Function} {s t u : Notes} {xs ys : List Piece} → SpellsNumAt Value v s t xs → SpellsRate f t u ys
     → SpellsValue (givens.Both v f) s u (xs ++ ys)
 both_by d (a_rate e) = Grammar.given_both d e
 
@@ -646,7 +646,7 @@ moving_follows =
 
 pub data SpellsPlace : Place → Notes → Notes → List Piece → Type 0 where
   placed : {p : Option Point} {xs : List Piece} {m : Option (Function × Function)} {ys : List Piece} {s t u : Notes} →
-      SpellsAt p s t xs → SpellsMoving m t u ys → SpellsPlace (place_of p m) s u (xs ++ ys)
+      SpellsAt p s t xs → SpellsMoving m t u ys → SpellsPlace (place_with p m) s u (xs ++ ys)
 
 pub place_follows : Follows place SpellsPlace
 unfolding place
@@ -654,12 +654,12 @@ place_follows =
     follows λ s t x e.
     part_first at_follows s _ e λ p s1 first e.
     part_first moving_follows s1 _ e λ m s2 second e.
-    ends SpellsPlace (place_of p m) x s2 t e (took_both first.split second.split) (placed first.spelled second.spelled)
+    ends SpellsPlace (place_with p m) x s2 t e (took_both first.split second.split) (placed first.spelled second.spelled)
 
 pub change_by : {p : Place} {ss : List NamedSet} {s t u : Notes} {xs ys : List Piece} → SpellsPlace p s t xs → SpellsSettings ss t u ys
     → SpellsChange p ss s u (xs ++ ys)
 change_by {ss = ss} {s = s} {u = v} {ys = zs} (placed {p = p} {xs = xs} {m = m} {ys = ys} d e) f =
-    subst (SpellsChange (place_of p m) ss s v) (sym (append_assoc xs ys zs)) (change d e f)
+    subst (SpellsChange (place_with p m) ss s v) (sym (append_assoc xs ys zs)) (change d e f)
 
 -- ---- Queries
 

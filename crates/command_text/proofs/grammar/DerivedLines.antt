@@ -1,5 +1,5 @@
 -- What is read of tokens and of lines, and why lines are refused, in words of the grammar.
-use Rattle.command_text.proofs.Names.{◌≡◌, ℕ, Bool, true, false, List, [], ◌∷◌, Option, Some, None, option_map, refl, sym, ◌∙◌, ap, ap₂, subst, Result, Ok, Err, IfOk, IfErr, Command, CommandFault, Refusal, Piece, pieces, CommandTree, command_view, Notes, good, SpellsCommand, Reader, Read, notes, before, at_first, command_of, first_that_holds, is_comment, is_too_long, has_other_byte, has_bad_token, command_in, early_refusal, late_refusal, first_refusal, or_else, IsRead, AreReadByTheGrammar, PassesTheFirstThree, IsJudgedByTokens, SpellsWithinLimits, SpellsNoCommand, IsReadByTheGrammar, IsRefusedByTheGrammar, IsSpelled, IsFaultOf, first_notes}
+use Rattle.command_text.proofs.Names.{◌≡◌, ℕ, Bool, true, false, List, [], ◌∷◌, Option, Some, None, option_map, refl, sym, ◌∙◌, ap, ap₂, subst, Result, Ok, Err, IfOk, IfErr, Command, CommandFault, Refusal, Piece, line_pieces, CommandTree, command_view, Notes, good, SpellsCommand, Reader, Read, notes, before, at_first, command_of, first_that_holds, is_comment, is_too_long, has_other_byte, has_bad_token, command_in, early_refusal, late_refusal, first_refusal, or_else, IsRead, AreReadByTheGrammar, PassesTheFirstThree, IsJudgedByTokens, SpellsWithinLimits, SpellsNoCommand, IsReadByTheGrammar, IsRefusedByTheGrammar, IsSpelled, IsFaultOf, first_notes}
 use Rattle.command_text.specs.declared.fault.CommandFault.TheVariants as faults
 use Rattle.command_text.specs.declared.refusal.Refusal.TheVariants as refusals
 use Rattle.command_text.specs.Tree
@@ -18,10 +18,10 @@ tokens_are_read tokens = record {
 
 -- what is read of a line, where this is known of its numbers and sizes
 derived_with : (line : List ℕ) (x : CommandTree × Reader) (t : Notes) → command_of (at_first line) ≡ Some x → x.1.fit ≡ t.0 → x.1.small ≡ t.1
-    → SpellsCommand x.0 (first_notes line) t (pieces line)
+    → SpellsCommand x.0 (first_notes line) t (line_pieces line)
 derived_with line x t e fit small =
-    subst (λ (m : Notes). SpellsCommand x.0 (first_notes line) m (pieces line)) (ap₂ (λ (f g : Bool). (f, g)) fit small)
-    (command_derived (pieces line) x.0 (first_notes line) x.1 e)
+    subst (λ (m : Notes). SpellsCommand x.0 (first_notes line) m (line_pieces line)) (ap₂ (λ (f g : Bool). (f, g)) fit small)
+    (command_derived (line_pieces line) x.0 (first_notes line) x.1 e)
 
 -- ---- Which refusal is told
 
@@ -164,7 +164,7 @@ none_read line none = by_found (command_of (at_first line)) refl
   where
     by_found : (o : Read CommandTree) → command_of (at_first line) ≡ o → o ≡ None
     by_found None e = refl
-    by_found (Some x) e = absurd (none x.0 (notes x.1) (command_derived (pieces line) x.0 (first_notes line) x.1 e))
+    by_found (Some x) e = absurd (none x.0 (notes x.1) (command_derived (line_pieces line) x.0 (first_notes line) x.1 e))
 
 pub lines_are_refused : (limit : ℕ) (line : List ℕ) → IsRefusedByTheGrammar limit line
 lines_are_refused limit line refusals.BadSyntax = (

@@ -1,13 +1,14 @@
 -- A line that is read as a command begins with the command's first word.
-use Rattle.command_text.proofs.Names.{◌≡◌, ℕ, zero, suc, ◌+◌, ◌-◌, ◌≤◌, ◌&&◌, nat_le, leb, leb-true, and_parts, Bool, true, false, List, [], ◌∷◌, ◌++◌, take, map, Option, None, Some, option_map, option_and_then, option_map_or, unwrap_or, refl, sym, ap, ◌∙◌, arith, inl, inr, ◌⊎◌, cases_Bool, bytes_eq, bytes_eq-Decides, code_of, reserved_words, Kind, Lexeme, lexemes, bytes_of_token, HasForm, HaveForms, bad_place, cut, token_at, is_blank, Part, Parts, Piece, NAME, piece_of, pieces, CommandTree, Notes, token_of, SpellsPart, part_verb, SpellsParts, no_parts, last_part, last_query, part_before, SpellsCommand, by_parts, Read, at_first, if◌then◌else◌, command_of, is_comment, command_in, IsTrue, WORD, before, first_notes, good, is_short, is_verb, is_word, length, reserved, short_word, slice_get_past, ◌<◌, CLASS}
+use Rattle.command_text.proofs.Names.{◌≡◌, ℕ, zero, suc, ◌+◌, ◌-◌, ◌≤◌, ◌&&◌, nat_le, leb, leb-true, and_parts, Bool, true, false, List, [], ◌∷◌, ◌++◌, take, map, Option, None, Some, option_map, option_and_then, option_map_or, unwrap_or, refl, sym, ap, ◌∙◌, arith, inl, inr, ◌⊎◌, cases_Bool, bytes_eq, bytes_eq-Decides, code_of, reserved_words, Kind, Lexeme, lexemes, bytes_of_token, HasForm, HaveForms, bad_place, cut, token_at, is_blank, Part, Parts, Piece, NAME, piece_of, line_pieces, CommandTree, Notes, token_of, SpellsPart, part_verb, SpellsParts, no_parts, last_part, last_query, part_before, SpellsCommand, by_parts, Read, at_first, if◌then◌else◌, command_of, is_comment, command_in, IsTrue, WORD, before, first_notes, good, is_short, is_verb, is_word, length, reserved, short_word, slice_get_past, ◌<◌, CLASS}
 use Rattle.std.proofs.Common.{one-add, eqb}
 use Rattle.std.proofs.lemmas.Bool.Decides.{Decides-eqb}
 use Rattle.ftl_lexer.specs.declared.kinds.Kind.TheVariants as kinds
 use Rattle.ftl_lexer.proofs.Cuts.{cut_from_good}
 use Rattle.ftl_lexer.proofs.Shapes.{tokens_have_forms}
 use Rattle.ftl_lexer.proofs.Spans.{no_tokens}
+use Rattle.ftl_lexer.specs.Forms.{after_blanks}
 use Rattle.command_text.specs.Tree
-use Rattle.command_text.specs.FirstWord.{word_in, word_before, first_word, after_blanks, begins_with, BeginsWithItsWord}
+use Rattle.command_text.specs.FirstWord.{word_in, word_before, word_of_command, begins_with, BeginsWithItsWord}
 use Rattle.ftl_parser.specs.Piece as token
 use Rattle.ftl_parser.proofs.canonical.TextTokens.{few_is}
 use Rattle.ftl_parser.proofs.reader.TableLemmas.{is_fixed, sign_fixed, word_fixed}
@@ -185,7 +186,7 @@ parts_have (last_part d) = part_has d
 parts_have (last_query d) = inl refl
 parts_have (part_before {p = p} {xs = xs} {ys = ys} d e) = more_has (word_in p) xs ys (part_has d)
 
-command_has : {c : CommandTree} {s t : Notes} {xs : List Piece} → SpellsCommand c s t xs → HasFirst (first_word c) xs
+command_has : {c : CommandTree} {s t : Notes} {xs : List Piece} → SpellsCommand c s t xs → HasFirst (word_of_command c) xs
 command_has (by_parts d) = parts_have d
 
 -- ---- The line
@@ -199,23 +200,23 @@ line_by line word (l ∷ all) later e forms verb h =
     let at = cut_first line l all e in
     begins_by at.len (after_blanks line) word (sym (same_word l.0 l.1 word forms.0 verb first) ∙ at.is)
 
-bad_has_none : (line : List ℕ) (place : ℕ) → bad_place line ≡ Some place → pieces line ≡ []
+bad_has_none : (line : List ℕ) (place : ℕ) → bad_place line ≡ Some place → line_pieces line ≡ []
 bad_has_none line place e = ap token.pieces (ap (map (λ t. (t.kind, bytes_of_token line t))) (no_tokens line place e))
 
-word_first : (line word : List ℕ) (bad : Option ℕ) → bad_place line ≡ bad → HasFirst word (pieces line) → begins_with (after_blanks line) word ≡ true
+word_first : (line word : List ℕ) (bad : Option ℕ) → bad_place line ≡ bad → HasFirst word (line_pieces line) → begins_with (after_blanks line) word ≡ true
 word_first line word bad e (inl none) = rw none refl
 word_first line word (Some place) e (inr some) = let none = bad_has_none line place e in let both : [] ≡ token_of word ∷ some.1 = sym none ∙ some.2 in absurd (cc)
 word_first line word None e (inr some) = line_by line word (lexemes line) some.1 (cut_from_good line e) (tokens_have_forms line) some.0 some.2
 
 -- by what was read of it
 found_first : (line : List ℕ) (found : Read CommandTree) → command_of (at_first line) ≡ found
-    → begins_with (after_blanks line) (first_word (unwrap_or (option_map (λ x. x.0) found) Tree.Nothing)) ≡ true
+    → begins_with (after_blanks line) (word_of_command (unwrap_or (option_map (λ x. x.0) found) Tree.Nothing)) ≡ true
 found_first line None e = refl
 found_first line (Some x) e =
-    word_first line (first_word x.0) (bad_place line) refl (command_has (command_derived (pieces line) x.0 (first_notes line) x.1 e))
+    word_first line (word_of_command x.0) (bad_place line) refl (command_has (command_derived (line_pieces line) x.0 (first_notes line) x.1 e))
 
 line_first : (line : List ℕ) (b : Bool) → begins_with (after_blanks line)
-    (first_word (unwrap_or (option_map (λ x. x.0) (if b then Some (Tree.Nothing, before [] good) else command_of (at_first line))) Tree.Nothing)) ≡ true
+    (word_of_command (unwrap_or (option_map (λ x. x.0) (if b then Some (Tree.Nothing, before [] good) else command_of (at_first line))) Tree.Nothing)) ≡ true
 line_first line true = refl
 line_first line false = found_first line (command_of (at_first line)) refl
 

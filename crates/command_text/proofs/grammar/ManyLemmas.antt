@@ -1,5 +1,5 @@
 -- Reading items one after another, as a loop does: what was read so far stands before what is left.
-use Rattle.command_text.proofs.Names.{◌≡◌, ℕ, zero, suc, ◌<◌, ◌≤◌, Bool, true, false, List, [], ◌∷◌, ◌++◌, length, Option, Some, None, refl, sym, ◌∙◌, ap, arith, append_assoc, append-nil, if◌then◌else◌, ◌>>=◌, CommandFault, Stops, Rate, is_sign, are_few_legs, function_of, legs_of_x, legs_of_y, Reader, Read, begins, many, all, with_front, move_leg, noting_small, OPEN_SQUARE_SIGN}
+use Rattle.command_text.proofs.Names.{◌≡◌, ℕ, zero, suc, ◌<◌, ◌≤◌, Bool, true, false, List, [], ◌∷◌, ◌++◌, length, Option, Some, None, refl, sym, ◌∙◌, ap, arith, append_assoc, append-nil, if◌then◌else◌, ◌>>=◌, CommandFault, StopsPart, Rate, is_sign, are_few_legs, function_of, legs_of_x, legs_of_y, Reader, Read, begins, many, all, with_front, move_leg, noting_small, OPEN_SQUARE_SIGN}
 use Rattle.command_text.specs.inner.Reading.{pair, moves}
 use Rattle.command_text.specs.declared.fault.CommandFault.TheVariants as faults
 use Rattle.command_text.proofs.grammar.Shorter.{Shortens}
@@ -120,7 +120,7 @@ goes_wrong more item there start s so_far before e d =
 
 -- a loop that stops at an item
 pub goes_stopped : {A : Type 0} (more : Reader → Bool) (item : Reader → Read A) (there : List A) (start s : Reader) (so_far : List A) (e : CommandFault) →
-    Goes more item there start so_far s → more s ≡ true → Stops (item s) e → Stops (all more item start) e
+    Goes more item there start so_far s → more s ≡ true → StopsPart (item s) e → StopsPart (all more item start) e
 goes_stopped more item there start s so_far (faults.Refused r) before begun stops = (stops.0, goes_wrong more item there start s so_far before begun stops.1)
 goes_stopped more item there start s so_far faults.NoMemory before begun stops = tt
 

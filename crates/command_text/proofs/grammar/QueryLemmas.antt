@@ -1,10 +1,10 @@
 -- The parser's answer, for the query at the end of a command.
-use Rattle.command_text.proofs.Names.{◌≡◌, ℕ, Bool, true, false, ◌&&◌, List, [], ◌∷◌, Option, Some, None, refl, sym, ◌∙◌, ap, is_none, option_map, if◌then◌else◌, drop-map, Lexeme, lexemes, QueryTree, SpellsQuery, first_unfit, start, parsed, first_too_large, Reads, CommandFault, Piece, piece_of, pieces, is_long, has_long, query_of, is_query_fit, is_query_small, fault_by_parser, Reader, Read, notes, before, query, and_number, and_size, late_refusal, is_at_end, Refuses, At, standing, cases_Bool, has_short_words, inl, inr, lexemes_from, not, or_parts, pieces_from, zero, suc}
+use Rattle.command_text.proofs.Names.{◌≡◌, ℕ, Bool, true, false, ◌&&◌, List, [], ◌∷◌, Option, Some, None, refl, sym, ◌∙◌, ap, is_none, option_map, if◌then◌else◌, drop-map, Lexeme, lexemes, QueryTree, SpellsQuery, first_unfit, start, parsed, first_too_large, ReadsQuery, CommandFault, Piece, piece_of, line_pieces, is_long, has_long, query_of, is_query_fit, is_query_small, fault_by_parser, Reader, Read, notes, before, query, and_number, and_size, late_refusal, is_at_end, Refuses, At, standing, cases_Bool, has_short_words, inl, inr, lexemes_from, not, or_parts, pieces_from, zero, suc}
 use Rattle.std.proofs.Common.{drop}
 use Rattle.ftl_parser.specs.declared.fault.ParseFault.{ParseFault}
 use Rattle.ftl_parser.specs.declared.fault.ParseFault.TheVariants as parse_faults
 use Rattle.ftl_parser.specs.Piece as token
-use Rattle.ftl_parser.specs.Fault.{Explains}
+use Rattle.ftl_parser.specs.Fault.{ExplainsTokens}
 use Rattle.ftl_parser.proofs.grammar.Drives.{drives_query}
 use Rattle.ftl_parser.proofs.grammar.Found.{found_query}
 use Rattle.ftl_parser.proofs.grammar.Marks.{first_unfit_scan}
@@ -13,7 +13,7 @@ use Rattle.command_text.specs.declared.fault.CommandFault.TheVariants as faults
 use Rattle.command_text.specs.declared.refusal.Refusal.TheVariants as refusals
 
 -- the tokens of a query at the end of a line
-pub tail_is : (place : ℕ) (line : List ℕ) → pieces_from place line ≡ drop place (pieces line)
+pub tail_is : (place : ℕ) (line : List ℕ) → pieces_from place line ≡ drop place (line_pieces line)
 tail_is place line = sym (drop-map (λ t. piece_of t.0 t.1) place (lexemes line))
 
 -- no token is long at the end of others of which none is
@@ -60,7 +60,7 @@ unfolding is_query_small
 small_is q = refl
 
 -- a query that the parser answers
-query_read : (s : Reader) (tokens : List Lexeme) (q : QueryTree) → token.pieces tokens ≡ s.rest → Reads tokens q →
+query_read : (s : Reader) (tokens : List Lexeme) (q : QueryTree) → token.pieces tokens ≡ s.rest → ReadsQuery tokens q →
     query s ≡ Some (q, record { rest = []; fit = s.fit; small = s.small })
 query_read s tokens q same r =
     let small : is_query_small q ≡ true = small_is q ∙ ap is_none (reads_small tokens q r) in
@@ -102,7 +102,7 @@ either_large true small q told large = ap (λ b. b && is_query_small q) (told re
 either_large false small q told large = ap (λ b. small && b) (small_is q ∙ large) ∙ and_false small
 
 late_query : (s : Reader) (tokens : List Lexeme) (from : ℕ) (fault : ParseFault) → token.pieces tokens ≡ s.rest
-    → (has_long tokens ≡ true → s.small ≡ false) → Explains from tokens fault → Tells (query s) (fault_by_parser fault s.fit)
+    → (has_long tokens ≡ true → s.small ≡ false) → ExplainsTokens from tokens fault → Tells (query s) (fault_by_parser fault s.fit)
 late_query s tokens from (parse_faults.BadSyntax place) same told (n, at, stuck) =
     ap late_refusal (query_is s (token.pieces tokens) (is_query_fit (token.pieces tokens)) None same refl (none_spelled (token.pieces tokens) stuck.none))
 late_query s tokens from (parse_faults.NumberRange place) same told (n, at, unfit) =
@@ -122,12 +122,12 @@ with_end found (faults.Refused r) h k = (h, k)
 with_end found faults.NoMemory h k = tt
 
 -- the query, where the reader of the program stands
-pub query_answered : (line : List ℕ) (at : At) (q : QueryTree) → Reads (lexemes_from at.place line) q →
+pub query_answered : (line : List ℕ) (at : At) (q : QueryTree) → ReadsQuery (lexemes_from at.place line) q →
     query (standing line at) ≡ Some (q, record { rest = []; fit = at.fit; small = has_short_words line && at.small })
 query_answered line at q r = query_read (standing line at) (lexemes_from at.place line) q (tail_is at.place line) r
 
 -- a query that the parser doesn't answer
-pub query_not_answered : (line : List ℕ) (at : At) (fault : ParseFault) → Explains at.place (lexemes_from at.place line) fault →
+pub query_not_answered : (line : List ℕ) (at : At) (fault : ParseFault) → ExplainsTokens at.place (lexemes_from at.place line) fault →
     Refuses (query (standing line at)) (fault_by_parser fault at.fit)
 query_not_answered line at fault h =
     let told : has_long (lexemes_from at.place line) ≡ true → (has_short_words line && at.small) ≡ false =

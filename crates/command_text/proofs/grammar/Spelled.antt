@@ -1,5 +1,5 @@
 -- What a rule derives the reader reads: the same tree, and the same of numbers and sizes.
-use Rattle.command_text.proofs.Names.{◌≡◌, ℕ, ℤ, Bool, true, false, List, [], ◌∷◌, ◌++◌, length, Option, Some, None, refl, ◌∙◌, ap, append_assoc, if◌then◌else◌, is_some, ◌>>=◌, AT, MOVE, RATE, OPEN_SQUARE, CLOSE_SQUARE, COMMA, Point, Function, Given, NamedSet, Place, Piece, NAME, NUMBER, is_key, is_sign, is_name, Steps, whole_in, SignedPlace, Value, Rate, signed_in, are_few_legs, function_of, Notes, and_number, whole_at, signed_at, point_of, set_of, place_of, legs_of_x, legs_of_y, SpellsNum, num_plain, num_minus, SpellsPair, SpellsRateLegs, no_rate_legs, one_rate_leg, SpellsRates, SpellsMoveLegs, no_move_legs, one_move_leg, SpellsMoves, SpellsGiven, given_num, SpellsSettings, no_settings, one_setting, SpellsAt, not_at, SpellsMoving, not_moving, SpellsChange, change, Reader, Read, before, noting_small, next, begins, key, sign, name, text, number, whole, minus, signed_number, num, point, all, with_front, rate_leg, move_leg, rate, read_both, given_value, read_text, read_rate, given_equal, given, setting, settings, some_moves, place, given_moves, CLOSE, CLOSE_SIGN, CLOSE_SQUARE_SIGN, COMMA_SIGN, OPEN_SQUARE_SIGN}
+use Rattle.command_text.proofs.Names.{◌≡◌, ℕ, ℤ, Bool, true, false, List, [], ◌∷◌, ◌++◌, length, Option, Some, None, refl, ◌∙◌, ap, append_assoc, if◌then◌else◌, is_some, ◌>>=◌, AT, MOVE, RATE, OPEN_SQUARE, CLOSE_SQUARE, COMMA, Point, Function, Given, NamedSet, Place, Piece, NAME, NUMBER, is_key, is_sign, is_name, Steps, whole_in, SignedPlace, Value, Rate, signed_in, are_few_legs, function_of, Notes, and_number, whole_at, signed_at, point_of, set_of, place_with, legs_of_x, legs_of_y, SpellsNumAt, num_plain, num_minus, SpellsPair, SpellsRateLegs, no_rate_legs, one_rate_leg, SpellsRates, SpellsMoveLegs, no_move_legs, one_move_leg, SpellsMoves, SpellsGiven, given_num, SpellsSettings, no_settings, one_setting, SpellsAt, not_at, SpellsMoving, not_moving, SpellsChange, change, Reader, Read, before, noting_small, next, begins, key, sign, name, text, number, whole, minus, signed_number, num, point, all, with_front, rate_leg, move_leg, rate, read_both, given_value, read_text, read_rate, given_equal, given, setting, settings, some_moves, place, given_moves, CLOSE, CLOSE_SIGN, CLOSE_SQUARE_SIGN, COMMA_SIGN, OPEN_SQUARE_SIGN}
 use Rattle.motion.specs.declared.cell.Given.TheVariants as givens
 use Rattle.command_text.specs.Grammar
 use Rattle.command_text.specs.Grammar.{given_both}
@@ -7,7 +7,7 @@ use Rattle.command_text.specs.inner.Reading.{pair, rates, moves, at, moving}
 use Rattle.command_text.proofs.grammar.ManyLemmas.{all_step, all_stop}
 use Rattle.command_text.proofs.grammar.Derived.{rate_leg_shortens, move_leg_shortens, setting_shortens}
 
-pub num_spelled : {p : SignedPlace} {v : ℤ} {s t : Notes} {xs : List Piece} → SpellsNum p v s t xs → (later : List Piece) →
+pub num_spelled : {p : SignedPlace} {v : ℤ} {s t : Notes} {xs : List Piece} → SpellsNumAt p v s t xs → (later : List Piece) →
     num p (before (xs ++ later) s) ≡ Some (v, before later t)
 unfolding num signed_number minus sign next number
 num_spelled num_plain later = refl
@@ -34,7 +34,7 @@ point_spelled d later = ap (λ o. o >>= (λ p. Some (point_of p.0.0 p.0.1, p.1))
 pub record Stop (test : Piece → Bool) (ps : List Piece) : Type 0 where
   pub stops : (s : Notes) → begins test (before ps s) ≡ false
 
-pub rate_leg_spelled : {a : ℤ} {s t : Notes} {xs : List Piece} → SpellsNum Rate a s t xs → (n : List ℕ) (later : List Piece) →
+pub rate_leg_spelled : {a : ℤ} {s t : Notes} {xs : List Piece} → SpellsNumAt Rate a s t xs → (n : List ℕ) (later : List Piece) →
     rate_leg (before (OPEN_SQUARE ∷ (xs ++ (COMMA ∷ NUMBER n ∷ CLOSE_SQUARE ∷ later))) s)
     ≡ Some ((a, whole_at Steps n), before later (and_number t (is_some (whole_in Steps n))))
 unfolding rate_leg sign next whole number
@@ -57,7 +57,7 @@ rate_legs_spelled (one_rate_leg {a = a} {xs = xs} n {ls = ls} {ys = ys} {s = s} 
     (before (ys ++ later) (and_number t (is_some (whole_in Steps n)))) (a, whole_at Steps n) (open_square rest s) (rate_leg_spelled d n (ys ++ later))
     ∙ ap (with_front ((a, whole_at Steps n) ∷ [])) (rate_legs_spelled e later stop)
 
-num_stops : {p : SignedPlace} {v : ℤ} {s t : Notes} {xs : List Piece} → SpellsNum p v s t xs → (later : List Piece) → Stop (is_sign OPEN_SQUARE_SIGN) (xs ++ later)
+num_stops : {p : SignedPlace} {v : ℤ} {s t : Notes} {xs : List Piece} → SpellsNumAt p v s t xs → (later : List Piece) → Stop (is_sign OPEN_SQUARE_SIGN) (xs ++ later)
 unfolding begins
 num_stops num_plain later = record { stops = λ s. refl }
 num_stops num_minus later = record { stops = λ s. refl }
@@ -187,9 +187,9 @@ pub change_spelled : {A : Type 0} {p : Place} {ss : List NamedSet} {s t : Notes}
     → SpellsChange p ss s t xs → (place (before xs s) >>= with_settings f) ≡ Some (f p ss, before [] t)
 unfolding place
 change_spelled {A = A} f (change {p = p} {m = m} {ys = ys} {zs = zs} a b c) =
-    let behind_at : Option Point × Reader → Read Place = λ p. moving p.1 >>= (λ m. Some (place_of p.0 m.0, m.1)) in
-    let behind_moving : Option (Function × Function) × Reader → Read Place = λ m. Some (place_of p m.0, m.1) in
-    let behind_all : List NamedSet × Reader → Read A = λ ss. Some (f (place_of p m) ss.0, ss.1) in
+    let behind_at : Option Point × Reader → Read Place = λ p. moving p.1 >>= (λ m. Some (place_with p.0 m.0, m.1)) in
+    let behind_moving : Option (Function × Function) × Reader → Read Place = λ m. Some (place_with p m.0, m.1) in
+    let behind_all : List NamedSet × Reader → Read A = λ ss. Some (f (place_with p m) ss.0, ss.1) in
     ap (λ o. (o >>= behind_at) >>= with_settings f) (at_spelled a (ys ++ zs) (moving_stop_at b c))
     ∙ ap (λ o. (o >>= behind_moving) >>= with_settings f) (moving_spelled b zs (settings_stop_move c))
     ∙ ap (λ o. o >>= behind_all) (settings_spelled c)

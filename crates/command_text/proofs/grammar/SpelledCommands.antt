@@ -1,5 +1,5 @@
 -- What a rule of a command derives is read as that command, with the same of its numbers and sizes; and so tokens spell at most one command.
-use Rattle.command_text.proofs.Names.{◌≡◌, ℕ, ℤ, Bool, true, false, List, [], ◌∷◌, ◌++◌, length, Some, None, option_map, refl, sym, ◌∙◌, ap, append_assoc, append-nil, arith, if◌then◌else◌, is_some, is_none, nat_le, ◌>>=◌, reserved_words, COMMA, Point, AttrKind, first_unfit, QueryTree, parts, Piece, is_sign, SignedPlace, Span, Capacity, whole_in, radius_in, Value, are_few_attributes, are_few_vertices, query_of, is_query_fit, is_query_small, CommandTree, Notes, and_number, and_size, whole_at, radius_at, point_of, SpellsNum, SpellsPair, SpellsAttr, attr_num, attr_text, attr_dyn, SpellsMoreAttrs, no_more_attrs, one_more_attr, SpellsAttrs, no_attrs, SpellsPoints, no_points, one_point, SpellsPointWord, no_point_word, part_verb, part_name, part_text, part_whole, part_error, part_num, part_point_word, part_attrs, part_points, part_change, SpellsParts, no_parts, last_part, last_query, part_before, SpellsCommand, by_parts, Reader, Read, before, next, begins, key, sign, name, text, number, whole, radius, num, point, all, with_front, attr, next_attr, first_attr, attrs, points, query, class_head, class, region, insert_head, insert, update, remove, tick, ask, watch_head, watch, keep, show, save, import, export, nearest, must_head, must, may, index, range, command_begun, ended, command, command_of, noting_small, CLOSE, CLOSE_SIGN, COMMA_SIGN, OPEN_SIGN, SpellsQuery}
+use Rattle.command_text.proofs.Names.{◌≡◌, ℕ, ℤ, Bool, true, false, List, [], ◌∷◌, ◌++◌, length, Some, None, option_map, refl, sym, ◌∙◌, ap, append_assoc, append-nil, arith, if◌then◌else◌, is_some, is_none, nat_le, ◌>>=◌, reserved_words, COMMA, Point, AttrKind, first_unfit, QueryTree, parts, Piece, is_sign, SignedPlace, Span, Capacity, whole_in, radius_in, Value, are_few_attributes, are_few_vertices, query_of, is_query_fit, is_query_small, CommandTree, Notes, and_number, and_size, whole_at, radius_at, point_of, SpellsNumAt, SpellsPair, SpellsAttr, attr_num, attr_text, attr_dyn, SpellsMoreAttrs, no_more_attrs, one_more_attr, SpellsAttrs, no_attrs, SpellsPoints, no_points, one_point, SpellsPointWord, no_point_word, part_verb, part_name, part_text, part_whole, part_error, part_num, part_point_word, part_attrs, part_points, part_change, SpellsParts, no_parts, last_part, last_query, part_before, SpellsCommand, by_parts, Reader, Read, before, next, begins, key, sign, name, text, number, whole, radius, num, point, all, with_front, attr, next_attr, first_attr, attrs, points, query, class_head, class, region, insert_head, insert, update, remove, tick, ask, watch_head, watch, keep, show, save, import, export, nearest, must_head, must, may, index, range, command_begun, ended, command, command_of, noting_small, CLOSE, CLOSE_SIGN, COMMA_SIGN, OPEN_SIGN, SpellsQuery}
 use Rattle.ftl_parser.proofs.grammar.Drives.{drives_query}
 use Rattle.command_text.specs.Tree
 use Rattle.command_text.specs.Grammar
@@ -90,7 +90,7 @@ point_word_spelled no_point_word no_attrs = refl
 point_word_spelled no_point_word (Grammar.some_attrs d e) = refl
 point_word_spelled Grammar.point_word e = refl
 
-num_alone : {p : SignedPlace} {v : ℤ} {s t : Notes} {xs : List Piece} → SpellsNum p v s t xs → num p (before xs s) ≡ Some (v, before [] t)
+num_alone : {p : SignedPlace} {v : ℤ} {s t : Notes} {xs : List Piece} → SpellsNumAt p v s t xs → num p (before xs s) ≡ Some (v, before [] t)
 num_alone {p = p} {s = s} {xs = xs} d = ap (λ ps. num p (before ps s)) (sym (append-nil xs)) ∙ num_spelled d []
 
 -- parts that a command has are read as the command

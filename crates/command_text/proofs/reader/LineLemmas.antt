@@ -1,5 +1,5 @@
 -- From the tokens of a line to the line.
-use Rattle.command_text.proofs.Names.{◌≡◌, ℕ, Bool, true, false, List, [], ◌∷◌, Option, Some, None, option_map, refl, sym, ◌∙◌, ap, subst, Result, Ok, Err, IfOk, IfErr, MatchResult, is_none, is_some, not, ◌&&◌, if◌then◌else◌, ◌>>=◌, bad_place, At, Command, CommandFault, Refusal, CommandTree, command_view, Kind, Piece, piece_of, pieces, Reader, Read, front, next, at_first, by_token, to_end, command_begun, command, command_of, standing, first_that_holds, is_comment, is_too_long, has_other_byte, has_bad_token, command_in, early_refusal, late_refusal, first_refusal, or_else, IsBegun, IsRead, IsWhole, Refuses, TellsBadPlace, Lexeme, NAME, before, by_key, by_name, good, has_long, has_short_words, lexemes, short_word}
+use Rattle.command_text.proofs.Names.{◌≡◌, ℕ, Bool, true, false, List, [], ◌∷◌, Option, Some, None, option_map, refl, sym, ◌∙◌, ap, subst, Result, Ok, Err, IfOk, IfErr, MatchResult, is_none, is_some, not, ◌&&◌, if◌then◌else◌, ◌>>=◌, bad_place, At, Command, CommandFault, Refusal, CommandTree, command_view, Kind, Piece, piece_of, line_pieces, Reader, Read, front, next, at_first, by_token, to_end, command_begun, command, command_of, standing, first_that_holds, is_comment, is_too_long, has_other_byte, has_bad_token, command_in, early_refusal, late_refusal, first_refusal, or_else, IsBegun, IsRead, IsWholeCommand, Refuses, TellsBadPlace, Lexeme, NAME, before, by_key, by_name, good, has_long, has_short_words, lexemes, short_word}
 use Rattle.command_text.specs.declared.fault.CommandFault.TheVariants as faults
 use Rattle.command_text.specs.declared.refusal.Refusal.TheVariants as refusals
 use Rattle.ftl_lexer.specs.declared.kinds.Kind.TheVariants as kinds
@@ -27,15 +27,15 @@ front_of_some (p ∷ ps) fit small t e = refl
 
 -- the reader of the program begins where the reader does
 first_is : (line : List ℕ) → standing line first_place ≡ at_first line
-first_is line = ap (λ b. before (pieces line) (true, b)) (and_true (has_short_words line))
+first_is line = ap (λ b. before (line_pieces line) (true, b)) (and_true (has_short_words line))
 
 -- a line without tokens
 none_left : (tokens : List Lexeme) → is_none (front (token.pieces tokens)) ≡ true → tokens ≡ []
 none_left [] e = refl
 none_left (t ∷ tokens) e = absurd (cc)
 
-blank_front : (line : List ℕ) → next (standing line first_place) ≡ None → is_none (front (pieces line)) ≡ true
-blank_front line e = front_past_none (pieces line) true (has_short_words line && true) e
+blank_front : (line : List ℕ) → next (standing line first_place) ≡ None → is_none (front (line_pieces line)) ≡ true
+blank_front line e = front_past_none (line_pieces line) true (has_short_words line && true) e
 
 blank_line : (line : List ℕ) → next (standing line first_place) ≡ None → command_of (at_first line) ≡ Some (Tree.Nothing, at_first line)
 unfolding command_of
@@ -43,17 +43,17 @@ blank_line line e = ap (λ b. if b then Some (Tree.Nothing, at_first line) else 
 
 blank_taken : (line : List ℕ) → next (standing line first_place) ≡ None → late_refusal (Some (Tree.Nothing, at_first line)) ≡ None
 blank_taken line e =
-    ap (λ tokens. late_refusal (Some (Tree.Nothing, before (pieces line) (true, not (has_long tokens))))) (none_left (lexemes line) (blank_front line e))
+    ap (λ tokens. late_refusal (Some (Tree.Nothing, before (line_pieces line) (true, not (has_long tokens))))) (none_left (lexemes line) (blank_front line e))
 
 begun_line : (line : List ℕ) (t : Piece × Reader) → next (standing line first_place) ≡ Some t
     → command_of (at_first line) ≡ (to_end (by_token t.0 t.1))
 unfolding command_of command command_begun
 begun_line line t e =
     ap (λ b. if b then Some (Tree.Nothing, at_first line) else command (at_first line))
-    (front_of_some (pieces line) true (has_short_words line && true) t e)
+    (front_of_some (line_pieces line) true (has_short_words line && true) t e)
     ∙ ap (λ (o : Read Piece). to_end (o >>= (λ t. by_token t.0 t.1))) (ap next (sym (first_is line)) ∙ e)
 
-pub blank_whole : (line : List ℕ) → next (standing line first_place) ≡ None → IsWhole (command_of (at_first line)) Tree.Nothing
+pub blank_whole : (line : List ℕ) → next (standing line first_place) ≡ None → IsWholeCommand (command_of (at_first line)) Tree.Nothing
 blank_whole line e = record {
   taken = ap late_refusal (blank_line line e) ∙ blank_taken line e;
   command = ap (option_map (λ (r : CommandTree × Reader). r.0)) (blank_line line e);
@@ -62,23 +62,23 @@ blank_whole line e = record {
 -- a line with tokens, whatever its command answers
 begun_either : (line : List ℕ) (t : Piece × Reader) (found : Read CommandTree) (r : Result Command CommandFault) →
     next (standing line first_place) ≡ Some t → by_token t.0 t.1 ≡ found →
-    MatchResult r (λ c. IsWhole (to_end found) (command_view c)) (Refuses (to_end found)) →
-    MatchResult r (λ c. IsWhole (command_of (at_first line)) (command_view c)) (Refuses (command_of (at_first line)))
+    MatchResult r (λ c. IsWholeCommand (to_end found) (command_view c)) (Refuses (to_end found)) →
+    MatchResult r (λ c. IsWholeCommand (command_of (at_first line)) (command_view c)) (Refuses (command_of (at_first line)))
 begun_either line t found r e d h =
-    subst (λ (o : Read CommandTree). MatchResult r (λ c. IsWhole o (command_view c)) (Refuses o)) (sym (begun_line line t e ∙ ap to_end d)) h
+    subst (λ (o : Read CommandTree). MatchResult r (λ c. IsWholeCommand o (command_view c)) (Refuses o)) (sym (begun_line line t e ∙ ap to_end d)) h
 
 -- one that a reserved word begins
 pub begun_by_key : (line : List ℕ) (code : ℕ) (bytes : List ℕ) (s : Reader) (r : Result Command CommandFault) →
     next (standing line first_place) ≡ Some (piece_of (kinds.Key code) bytes, s) →
-    MatchResult r (λ c. IsWhole (to_end (by_key code s)) (command_view c)) (Refuses (to_end (by_key code s))) →
-    MatchResult r (λ c. IsWhole (command_of (at_first line)) (command_view c)) (Refuses (command_of (at_first line)))
+    MatchResult r (λ c. IsWholeCommand (to_end (by_key code s)) (command_view c)) (Refuses (to_end (by_key code s))) →
+    MatchResult r (λ c. IsWholeCommand (command_of (at_first line)) (command_view c)) (Refuses (command_of (at_first line)))
 begun_by_key line code bytes s r e h = begun_either line (piece_of (kinds.Key code) bytes, s) (by_key code s) r e (key_begins code s) h
 
 -- and one that a name begins
 pub begun_by_name : (line word : List ℕ) (s : Reader) (r : Result Command CommandFault) →
     next (standing line first_place) ≡ Some (NAME (short_word word), s) →
-    MatchResult r (λ c. IsWhole (to_end (by_name word s)) (command_view c)) (Refuses (to_end (by_name word s))) →
-    MatchResult r (λ c. IsWhole (command_of (at_first line)) (command_view c)) (Refuses (command_of (at_first line)))
+    MatchResult r (λ c. IsWholeCommand (to_end (by_name word s)) (command_view c)) (Refuses (to_end (by_name word s))) →
+    MatchResult r (λ c. IsWholeCommand (command_of (at_first line)) (command_view c)) (Refuses (command_of (at_first line)))
 begun_by_name line word s r e h = begun_either line (NAME (short_word word), s) (by_name word s) r e (name_begins word s) h
 
 -- a line whose first token begins no command
@@ -171,7 +171,7 @@ comment_read limit line tokens told begun is =
     }
 
 pub other_read : (limit : ℕ) (line tokens : List ℕ) (told : Bool) (c : CommandTree) → IsBegun limit line tokens told → told ≡ false
-    → IsWhole (command_of (at_first line)) c → IsRead limit line c
+    → IsWholeCommand (command_of (at_first line)) c → IsRead limit line c
 other_read limit line tokens told c begun is whole =
     let other : is_comment line ≡ false = begun.comment ∙ is in
     record {
@@ -180,12 +180,12 @@ other_read limit line tokens told c begun is whole =
     }
 
 pub whole_read : (limit : ℕ) (line tokens : List ℕ) (told : Bool) (r : Result Command CommandFault) → IsBegun limit line tokens told → told ≡ false →
-    MatchResult r (λ c. IsWhole (command_of (at_first tokens)) (command_view c)) (Refuses (command_of (at_first tokens)))
+    MatchResult r (λ c. IsWholeCommand (command_of (at_first tokens)) (command_view c)) (Refuses (command_of (at_first tokens)))
     → IfOk r (λ c. IsRead limit line (command_view c))
 whole_read limit line tokens told (Err fault) begun is h = tt
 whole_read limit line tokens told (Ok c) begun is h =
     other_read limit line tokens told (command_view c) begun is
-    (subst (λ (l : List ℕ). IsWhole (command_of (at_first l)) (command_view c)) (begun.cut is) h)
+    (subst (λ (l : List ℕ). IsWholeCommand (command_of (at_first l)) (command_view c)) (begun.cut is) h)
 
 refused_read : (limit : ℕ) (line : List ℕ) (fault : CommandFault) → early_refusal limit line ≡ None → is_comment line ≡ false
     → Refuses (command_of (at_first line)) fault → Explains limit line fault
@@ -193,7 +193,7 @@ refused_read limit line (faults.Refused r) e d h = late_first limit line (comman
 refused_read limit line faults.NoMemory e d h = e
 
 pub whole_explained : (limit : ℕ) (line tokens : List ℕ) (told : Bool) (r : Result Command CommandFault) → IsBegun limit line tokens told →
-    told ≡ false → MatchResult r (λ c. IsWhole (command_of (at_first tokens)) (command_view c)) (Refuses (command_of (at_first tokens)))
+    told ≡ false → MatchResult r (λ c. IsWholeCommand (command_of (at_first tokens)) (command_view c)) (Refuses (command_of (at_first tokens)))
     → IfErr r (Explains limit line)
 whole_explained limit line tokens told (Ok c) begun is h = tt
 whole_explained limit line tokens told (Err fault) begun is h =

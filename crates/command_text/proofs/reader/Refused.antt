@@ -1,5 +1,5 @@
 -- What becomes of a part that isn't read, and of a command at the end of its tokens.
-use Rattle.command_text.proofs.Names.{◌≡◌, ℕ, zero, suc, ◌<◌, ◌≤◌, true, false, List, [], ◌∷◌, length, Some, None, option_map, refl, sym, ◌∙◌, ap, subst, arith, is_none, if◌then◌else◌, length-map, ◌>>=◌, Token, Lexeme, lexemes, tokens_of, bytes_of_token, At, CommandFault, CommandTree, Reader, Read, front, ended, to_end, Stops, standing, late_refusal, is_at_end, IsWhole, Refuses, RefusesAtEnd, ◌&&◌, not, has_long, has_short_words, lexemes_from}
+use Rattle.command_text.proofs.Names.{◌≡◌, ℕ, zero, suc, ◌<◌, ◌≤◌, true, false, List, [], ◌∷◌, length, Some, None, option_map, refl, sym, ◌∙◌, ap, subst, arith, is_none, if◌then◌else◌, length-map, ◌>>=◌, Token, Lexeme, lexemes, tokens_of, bytes_of_token, At, CommandFault, CommandTree, Reader, Read, front, ended, to_end, StopsPart, standing, late_refusal, is_at_end, IsWholeCommand, Refuses, RefusesAtEnd, ◌&&◌, not, has_long, has_short_words, lexemes_from}
 use Rattle.std.proofs.Common.{drop}
 use Rattle.ftl_parser.specs.Piece as token
 use Rattle.command_text.specs.declared.fault.CommandFault.TheVariants as faults
@@ -12,7 +12,7 @@ none_refused : {A : Type 0} (o : Read A) → o ≡ None → Refuses o (faults.Re
 none_refused o e = (ap late_refusal e, ap is_at_end e)
 
 -- a part that isn't there, of a command
-pub no_part : {A B : Type 0} (part : Read A) (rest : A × Reader → Read B) (e : CommandFault) → Stops part e → Refuses (part >>= rest) e
+pub no_part : {A B : Type 0} (part : Read A) (rest : A × Reader → Read B) (e : CommandFault) → StopsPart part e → Refuses (part >>= rest) e
 no_part part rest (faults.Refused r) h =
     let none : (part >>= rest) ≡ None = ap (λ o. o >>= rest) h.1 in
     let told = none_refused (part >>= rest) none in
@@ -102,7 +102,7 @@ pub judged_long : (line : List ℕ) (at : At) → length (tokens_of line) ≤ at
 judged_long line at h e long = judged_large line at h e (ap (λ b. not b && at.small) long)
 
 pub judged_whole : (line : List ℕ) (at : At) (c : CommandTree) → length (tokens_of line) ≤ at.place → at.fit ≡ true → at.small ≡ true
-    → has_long (lexemes_from 0 line) ≡ false → IsWhole (ended (c, standing line at)) c
+    → has_long (lexemes_from 0 line) ≡ false → IsWholeCommand (ended (c, standing line at)) c
 judged_whole line at c h e d short =
     record {
       taken =
@@ -124,9 +124,9 @@ by_ended None (faults.Refused r) h = h
 by_ended (Some c) (faults.Refused r) h = subst (λ (o : Read CommandTree). Refuses o (faults.Refused r)) (ended_at_end c h.1) h
 
 -- a command that is read, and taken at its end
-pub ended_is_whole : (o : Read CommandTree) (s : Reader) (c : CommandTree) → ((c : CommandTree) → IsWhole (ended (c, s)) c) → o ≡ Some (c, s)
-    → IsWhole (to_end o) c
-ended_is_whole o s c h e = subst (λ (o : Read CommandTree). IsWhole (to_end o) c) (sym e) (h c)
+pub ended_is_whole : (o : Read CommandTree) (s : Reader) (c : CommandTree) → ((c : CommandTree) → IsWholeCommand (ended (c, s)) c) → o ≡ Some (c, s)
+    → IsWholeCommand (to_end o) c
+ended_is_whole o s c h e = subst (λ (o : Read CommandTree). IsWholeCommand (to_end o) c) (sym e) (h c)
 
 -- a command that is read, and refused at its end
 pub ended_is_refused : (o : Read CommandTree) (s : Reader) (fault : CommandFault) → RefusesAtEnd s fault

@@ -1,5 +1,5 @@
 -- What the reader's tests say of words and symbols, by their codes.
-use Rattle.command_text.proofs.Names.{◌≡◌, ℕ, zero, suc, ◌+◌, ◌<◌, ◌≤◌, Bool, true, false, ◌==◌, List, [], ◌∷◌, Option, Some, None, length, refl, sym, ap, ◌∙◌, arith, inl, inr, cases_Bool, eqb-true, if◌then◌else◌, nat_tests, nat_le, ltb, codes, bytes_eq, bytes_eq-Decides, slice_get, slice_get_past, slice_get_within, unwrap_or, is_short, short_word, WORD_LIMIT, Piece, NUMBER, ARROW, NAME, TEXT, WORD, RETRIEVE, reserved, signs, is_key, is_sign, sign_code, kind_in, kind_of, name_in, number_in, text_in, Reader, by_key, by_name, by_token, Kind, piece_of, ASSIGN, CLASS}
+use Rattle.command_text.proofs.Names.{◌≡◌, ℕ, zero, suc, ◌+◌, ◌<◌, ◌≤◌, Bool, true, false, ◌==◌, List, [], ◌∷◌, Option, Some, None, length, refl, sym, ap, ◌∙◌, arith, inl, inr, cases_Bool, eqb-true, if◌then◌else◌, nat_tests, nat_le, ltb, codes, bytes_eq, bytes_eq-Decides, slice_get, slice_get_past, slice_get_within, unwrap_or, is_short, short_word, WORD_LIMIT, Piece, NUMBER, ARROW, NAME, TEXT, WORD, RETRIEVE, reserved, signs, is_key, is_sign, sign_code, kind_in, kind_by_code, name_in, number_in, text_in, Reader, by_key, by_name, by_token, Kind, piece_of, ASSIGN, CLASS}
 use Rattle.ftl_lexer.specs.declared.kinds.Kind.TheVariants as kinds
 use Rattle.ftl_parser.proofs.reader.TableLemmas.{is_fixed, in_table, sign_fixed, word_fixed}
 
@@ -100,10 +100,10 @@ no_kind : (p : Piece) → no_word p ≡ true → kind_in p ≡ None
 no_kind (WORD k) h = absurd (cc)
 no_kind p h = refl
 
-pub kind_of_word : (k : ℕ) → kind_in (unwrap_or (slice_get reserved k) (WORD k)) ≡ kind_of k
-kind_of_word k = by_word kind_in kind_of k (λ p fixed old low. no_kind p old ∙ none_low k low) refl
+pub kind_of_word : (k : ℕ) → kind_in (unwrap_or (slice_get reserved k) (WORD k)) ≡ kind_by_code k
+kind_of_word k = by_word kind_in kind_by_code k (λ p fixed old low. no_kind p old ∙ none_low k low) refl
   where
-    none_low : (k : ℕ) → k < CLASS → None ≡ kind_of k
+    none_low : (k : ℕ) → k < CLASS → None ≡ kind_by_code k
     none_low k low = grind (arith, nat_tests, low)
 
 pub kind_not_in : (kind : Kind) (bytes : List ℕ) → ((k : ℕ) → kind ≡ kinds.Key k → ⊥) → kind_in (piece_of kind bytes) ≡ None

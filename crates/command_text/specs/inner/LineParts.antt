@@ -10,7 +10,7 @@ use Rattle.command_text.specs.inner.Reading.{Reader, Read, front, ended}
 use Rattle.command_text.specs.Tree.{CommandTree}
 
 -- what was read is refused by nothing, and is this command
-pub record IsWhole (found : Read CommandTree) (c : CommandTree) : Type 0 where
+pub record IsWholeCommand (found : Read CommandTree) (c : CommandTree) : Type 0 where
   pub taken : late_refusal found ≡ None
   pub command : option_map (λ r. r.0) found ≡ Some c
 

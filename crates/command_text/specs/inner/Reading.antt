@@ -17,10 +17,10 @@ use Rattle.motion.specs.declared.cell.Given.TheVariants as givens
 use Rattle.motion.specs.declared.cell.NamedSet.{NamedSet}
 use Rattle.motion.specs.declared.cell.Place.{Place}
 use Rattle.ftl_parser.specs.Tree.{QueryTree}
-use Rattle.command_text.specs.Piece.{Piece, NAME, WORD, pieces}
+use Rattle.command_text.specs.Piece.{Piece, NAME, WORD, line_pieces}
 use Rattle.command_text.specs.Ranges.{WholePlace, Span, Steps, Capacity, Nearest, whole_in, radius_in, SignedPlace, Value, Rate, Width, signed_in}
 use Rattle.command_text.specs.Sizes.{are_few_legs, function_of, are_few_attributes, are_few_vertices}
-use Rattle.command_text.specs.Grammar.{Notes, first_notes, whole_at, radius_at, signed_at, point_of, set_of, place_of, legs_of_x, legs_of_y}
+use Rattle.command_text.specs.Grammar.{Notes, first_notes, whole_at, radius_at, signed_at, point_of, set_of, place_with, legs_of_x, legs_of_y}
 use Rattle.command_text.specs.inner.Tests.{is_key, is_sign, is_name, is_text, name_in, number_in, text_in}
 use Rattle.command_text.specs.inner.Query.{query_of, is_query_fit, is_query_small}
 use Rattle.command_text.specs.Tree
@@ -151,14 +151,14 @@ abbrev pub with_front : {A : Type 0} → List A → Read (List A) → Read (List
 with_front xs o = option_map (λ r. (xs ++ r.0, r.1)) o
 
 -- the kind of attribute that a word names, by its code
-abbrev pub kind_of : ℕ → Option AttrKind
-kind_of k =
+abbrev pub kind_by_code : ℕ → Option AttrKind
+kind_by_code k =
     if k == NUM then Some attr_kinds.Num
     else (if k == TEXT_WORD then Some attr_kinds.Text
     else (if k == DYN then Some attr_kinds.Dyn else None))
 
 abbrev pub kind_in : Piece → Option AttrKind
-kind_in (WORD k) = kind_of k
+kind_in (WORD k) = kind_by_code k
 kind_in p = None
 
 unfoldable pub attr : Reader → Read (List ℕ × AttrKind)
@@ -297,7 +297,7 @@ unfoldable pub place : Reader → Read Place
 place s = do
   p ← at s
   m ← moving p.1
-  Some (place_of p.0 m.0, m.1)
+  Some (place_with p.0 m.0, m.1)
 
 -- a query, which takes all tokens that are left
 unfoldable pub query : Reader → Read QueryTree
@@ -511,7 +511,7 @@ command s = do
 
 -- a reader before the first token of a line
 abbrev pub at_first : List ℕ → Reader
-at_first line = before (pieces line) (first_notes line)
+at_first line = before (line_pieces line) (first_notes line)
 
 -- the command of all tokens; no token is a blank line
 unfoldable pub command_of : Reader → Read CommandTree

@@ -5,8 +5,8 @@ use Rattle.evaluator.specs.Keys.{has_key}
 use Rattle.relation.specs.Rows.{IsSameHead, Table, has_at}
 
 -- keys behind one more object
-abbrev pub behind : ℕ → List (List ℕ) → List (List ℕ)
-behind id keys = map (λ key. id ∷ key) keys
+abbrev pub keys_behind : ℕ → List (List ℕ) → List (List ℕ)
+keys_behind id keys = map (λ key. id ∷ key) keys
 
 -- the rows of some keys came to a relation, each with the ticks at which something is true of its key
 pub record IsFilled {S : Type 0} (member : S → ℕ → Bool) (truth : List ℕ → ℕ → Bool) (keys : List (List ℕ)) (old new : Table S) : Type 0 where

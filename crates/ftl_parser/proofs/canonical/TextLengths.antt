@@ -1,6 +1,6 @@
 -- For this crate and for the crates above: a printed query has at most four bytes for each byte of the tokens that
 -- spell it.
-use Rattle.ftl_parser.proofs.Names.{SpellsUntil, UntilForm, ◌≡◌, ℕ, zero, suc, ◌+◌, ◌-◌, ◌*◌, ◌≤◌, max, Bool, true, false, List, [], ◌∷◌, ◌++◌, drop, take, length, map, length-append, Option, None, Some, ℤ, IsTrue, refl, ap, subst, arith, leb, inl, inr, codes, decimal, slice_get, unwrap_or, bytes_eq, if◌then◌else◌, list_all, cases_Bool, and_parts, leb-true, length-take, sum_by-cons, flat_map-append, fix_text, BoundForm, SubName, READ_LIMIT, Op, code_of, reserved_words, symbols, Kind, lexemes, tokens_of, bytes_of_token, Lexeme, HasForm, is_word, is_number, IsQuoted, HaveForms, SpansAscend, RADIUS_LIMIT, LAST_TICK, TIMES_LIMIT, Prefix, Signed, FromPart, Tree, QueryTree, Piece, RETRIEVE, FROM, WHERE, AND, OR, TRUTH, PREFIX, BOUNDED, UNTIL, INSIDE, OUTSIDE, DIST, SPHERE, TIME, PART, CLOSE, CLOSE_SQUARE, COMMA, PLUS, MINUS, COMPARISON, NAME, NUMBER, TEXT, ARROW, WORD, reserved, signs, unquoted, piece_of, pieces, is_short, ticks, literal, radius, SpellsRef, ref_name, ref_attr, ref_part, ref_time, SpellsFactor, factor_number, factor_times, factor_text, factor_ref, SpellsTerm, term_first, term_minus_first, term_plus, term_minus, SpellsNum, num_plain, num_minus, SpellsNames, names_one, names_more, SpellsParts, parts_one, parts_more, SpellsAtom, atom_compare, atom_inside, atom_outside, atom_dist, atom_sphere, Level, Spells, formula_conj, formula_or, conj_chain, conj_and, chain_unary, chain_until, until_plain, until_within, until_after, unary_prefix, unary_bounded, unary_assign, unary_brackets, unary_truth, unary_atom, SpellsQuery, query, prefixed, signed, from_part, term_of, truth_word, bound_word, sub_word, op_word, later_names, names_text, part_text, later_parts, parts_text, unit_text, times_text, first_sign, later_sign, later_factors, factors_text, pair_text, atom_text, until_text, prefix_text, bound_text, assign_text, in_brackets, formula_text, query_text, bytes_of, PrintsShortly, PrintsShorterThanFourLines, TokensFit}
+use Rattle.ftl_parser.proofs.Names.{SpellsUntil, UntilForm, ◌≡◌, ℕ, zero, suc, ◌+◌, ◌-◌, ◌*◌, ◌≤◌, max, Bool, true, false, List, [], ◌∷◌, ◌++◌, drop, take, length, map, length-append, Option, None, Some, ℤ, IsTrue, refl, ap, subst, arith, leb, inl, inr, codes, decimal, slice_get, unwrap_or, bytes_eq, if◌then◌else◌, list_all, cases_Bool, and_parts, leb-true, length-take, sum_by-cons, flat_map-append, fix_text, BoundForm, SubName, READ_LIMIT, Op, code_of, reserved_words, symbols, Kind, lexemes, tokens_of, bytes_of_token, Lexeme, HasForm, is_word, is_number, IsQuoted, HaveForms, SpansAscend, RADIUS_LIMIT, LAST_TICK, TIMES_LIMIT, Prefix, Signed, FromPart, Tree, QueryTree, Piece, RETRIEVE, FROM, WHERE, AND, OR, TRUTH, PREFIX, BOUNDED, UNTIL, INSIDE, OUTSIDE, DIST, SPHERE, TIME, PART, CLOSE, CLOSE_SQUARE, COMMA, PLUS, MINUS, COMPARISON, NAME, NUMBER, TEXT, ARROW, WORD, reserved, signs, unquoted, piece_of, pieces, is_short, ticks, literal, radius_of, SpellsRef, ref_name, ref_attr, ref_part, ref_time, SpellsFactor, factor_number, factor_times, factor_text, factor_ref, SpellsTerm, term_first, term_minus_first, term_plus, term_minus, SpellsNum, num_plain, num_minus, SpellsNames, names_one, names_more, SpellsFromParts, parts_one, parts_more, SpellsAtom, atom_compare, atom_inside, atom_outside, atom_dist, atom_sphere, Level, Spells, formula_conj, formula_or, conj_chain, conj_and, chain_unary, chain_until, until_plain, until_within, until_after, unary_prefix, unary_bounded, unary_assign, unary_brackets, unary_truth, unary_atom, SpellsQuery, query, prefixed, signed, from_part, term_of, truth_word, bound_word, sub_word, op_word, later_names, names_text, from_part_text, later_parts, from_parts_text, unit_text, times_text, first_sign, later_sign, later_factors, factors_text, name_pair_text, atom_text, until_text, prefix_text, bound_text, assign_text, in_brackets, formula_text, query_text, token_bytes, PrintsQueryShortly, PrintsShorterThanFourLines, TokensFit}
 use Rattle.std.proofs.lemmas.Slice.Eq.{bytes_eq-Decides}
 use Rattle.fixed_point.specs.declared.variants.BoundForm.TheVariants as bounds
 use Rattle.fixed_point.specs.declared.variants.SubName.TheVariants as subs
@@ -20,19 +20,19 @@ use Rattle.ftl_parser.proofs.canonical.TextNumbers.{fix_short, minus_short, whol
 -- ---- the bytes of tokens lie in their line
 
 spans_fit : (line : List ℕ) (from : ℕ) (tokens : List Token) → from ≤ length line → SpansAscend from (length line) tokens
-    → bytes_of (map (λ t. (t.kind, bytes_of_token line t)) tokens) + from ≤ length line
+    → token_bytes (map (λ t. (t.kind, bytes_of_token line t)) tokens) + from ≤ length line
 spans_fit line from [] within ascend = omega arith
 spans_fit line from (t ∷ tokens) within ascend =
-    let later : bytes_of (map (λ t. (t.kind, bytes_of_token line t)) tokens) + t.hi ≤ length line = spans_fit line t.hi tokens ascend.2 ascend.3 in
+    let later : token_bytes (map (λ t. (t.kind, bytes_of_token line t)) tokens) + t.hi ≤ length line = spans_fit line t.hi tokens ascend.2 ascend.3 in
     let this : length (bytes_of_token line t) ≤ t.hi - t.lo = rw (length-take (t.hi - t.lo) (drop t.lo line)) (omega arith) in
-    let sum : bytes_of (map (λ t. (t.kind, bytes_of_token line t)) (t ∷ tokens))
-    ≡ length (bytes_of_token line t) + bytes_of (map (λ t. (t.kind, bytes_of_token line t)) tokens) =
+    let sum : token_bytes (map (λ t. (t.kind, bytes_of_token line t)) (t ∷ tokens))
+    ≡ length (bytes_of_token line t) + token_bytes (map (λ t. (t.kind, bytes_of_token line t)) tokens) =
     sum_by-cons (λ (l : Lexeme). length l.1) (t.kind, bytes_of_token line t) (map (λ t. (t.kind, bytes_of_token line t)) tokens) in
     omega (arith, later, this, sum, ascend.0, ascend.1)
 
 pub tokens_fit : TokensFit
 tokens_fit line =
-    let fit : bytes_of (lexemes line) + 0 ≤ length line = spans_fit line 0 (tokens_of line) (omega arith) (spans_ascend line) in
+    let fit : token_bytes (lexemes line) + 0 ≤ length line = spans_fit line 0 (tokens_of line) (omega arith) (spans_ascend line) in
     omega (arith, fit)
 
 -- ---- how many bytes a token has at least
@@ -113,7 +113,7 @@ piece_long kinds.Text bytes form = omega (arith, text_long bytes form, word_shor
 piece_long (kinds.Sym code) bytes form = row_long (λ (c : ℕ). weight (unwrap_or (slice_get signs c) ARROW)) symbols bytes code signs_long form
 piece_long (kinds.Key code) bytes form = row_long (λ (c : ℕ). weight (unwrap_or (slice_get reserved c) (WORD c))) reserved_words bytes code words_long form
 
-pub pieces_long : (tokens : List Lexeme) → HaveForms tokens → load (pieces tokens) ≤ bytes_of tokens
+pub pieces_long : (tokens : List Lexeme) → HaveForms tokens → load (pieces tokens) ≤ token_bytes tokens
 pieces_long [] forms = omega arith
 pieces_long (t ∷ tokens) forms =
     omega (arith, sum_by-cons (λ (l : Lexeme). length l.1) t tokens, piece_long t.0 t.1 forms.0, pieces_long tokens forms.1)
@@ -224,19 +224,19 @@ later_parts_size : (ps : List FromPart) (p : FromPart) → length (later_parts (
     ≤ length (later_parts ps) + 1 + (length p.class + 1 + length p.var)
 later_parts_size ps p = simp (flat_map-append, length-append) (omega arith)
 
-parts_size : (ps : List FromPart) (p : FromPart) → length (parts_text (ps ++ p ∷ [])) ≤ length (parts_text ps) + 1 + length (part_text p)
-parts_size [] p = omega (arith, length-append (part_text p) [])
+parts_size : (ps : List FromPart) (p : FromPart) → length (from_parts_text (ps ++ p ∷ [])) ≤ length (from_parts_text ps) + 1 + length (from_part_text p)
+parts_size [] p = omega (arith, length-append (from_part_text p) [])
 parts_size (q ∷ ps) p = simp length-append (omega (arith, later_parts_size ps p))
 
-part_size : (c v : List ℕ) → length (part_text (from_part c v)) ≡ length c + 1 + length v
+part_size : (c v : List ℕ) → length (from_part_text (from_part c v)) ≡ length c + 1 + length v
 part_size c v = simp length-append (omega arith)
 
-parts_short : {ps : List FromPart} {xs : List Piece} → SpellsParts ps xs → length (parts_text ps) ≤ 4 * load xs
-parts_short (parts_one {c = c} {v = v}) = omega (arith, part_size c v, length-append (part_text (from_part c v)) [])
+parts_short : {ps : List FromPart} {xs : List Piece} → SpellsFromParts ps xs → length (from_parts_text ps) ≤ 4 * load xs
+parts_short (parts_one {c = c} {v = v}) = omega (arith, part_size c v, length-append (from_part_text (from_part c v)) [])
 parts_short (parts_more {ps = ps} {xs = xs} c v d) =
     omega (arith, parts_size ps (from_part c v), part_size c v, load_join xs (COMMA ∷ NAME c ∷ NAME v ∷ []), parts_short d)
 
-pair_size : (o n : List ℕ) → length (pair_text o n) ≡ length o + length n + 3
+pair_size : (o n : List ℕ) → length (name_pair_text o n) ≡ length o + length n + 3
 pair_size o n = simp length-append (omega arith)
 
 compare_size : (t op u : List ℕ) → length (t ++ codes " " ++ op ++ codes " " ++ u) ≡ length t + length op + length u + 2
@@ -249,9 +249,9 @@ atom_short (atom_compare {fs = fs} {gs = gs} {op = op} {xs = xs} {ys = ys} d e) 
 atom_short (atom_inside {o = o} {p = p}) = omega (arith, pair_size o p)
 atom_short (atom_outside {o = o} {p = p}) = omega (arith, pair_size o p)
 atom_short (atom_dist {o = o} {n = n} {op = op} {c = c} d) =
-    omega (arith, compare_size (codes "DIST" ++ pair_text o n) (op_word op) (fix_text c), pair_size o n, op_short op, num_short d)
+    omega (arith, compare_size (codes "DIST" ++ name_pair_text o n) (op_word op) (fix_text c), pair_size o n, op_short op, num_short d)
 atom_short (atom_sphere {r = r} {ns = ns} {xs = xs} d) =
-    let number : List ℕ = fix_text (radius r) in
+    let number : List ℕ = fix_text (radius_of r) in
     let bytes = length-append (number ++ later_names ns) (41 ∷ []) in
     omega (arith, length-append number (later_names ns), bytes, fix_short RADIUS_LIMIT r, later_first ns, names_short d, load_join xs (CLOSE ∷ []))
 
@@ -299,14 +299,14 @@ query_size names parts formula = simp length-append (omega arith)
 
 query_short : {q : QueryTree} {xs : List Piece} → SpellsQuery q xs → length (query_text q) ≤ 4 * load xs
 query_short (query {ns = ns} {ps = ps} {f = f} {xs = xs} {ys = ys} {zs = zs} n p d) =
-    let bytes = query_size (names_text ns) (parts_text ps) (formula_text f) in
+    let bytes = query_size (names_text ns) (from_parts_text ps) (formula_text f) in
     omega (arith, bytes, load_join xs (FROM ∷ (ys ++ WHERE ∷ zs)), load_join ys (WHERE ∷ zs), names_short n, parts_short p, formula_short d)
 
-pub prints_shortly : PrintsShortly
+pub prints_shortly : PrintsQueryShortly
 prints_shortly from line q spelled =
     omega (arith, query_short spelled, pieces_long (drop from (lexemes line)) (later_forms from (lexemes line) (tokens_have_forms line)))
 
-fewer : (from : ℕ) (tokens : List Lexeme) → bytes_of (drop from tokens) ≤ bytes_of tokens
+fewer : (from : ℕ) (tokens : List Lexeme) → token_bytes (drop from tokens) ≤ token_bytes tokens
 fewer zero tokens = omega arith
 fewer (suc from) [] = omega arith
 fewer (suc from) (t ∷ tokens) = omega (arith, fewer from tokens, sum_by-cons (λ (l : Lexeme). length l.1) t tokens)

@@ -1,6 +1,6 @@
 -- For this crate and for the crates above: canonical numbers: how long they are, and that they are numbers of the
 -- same value.
-use Rattle.ftl_parser.proofs.Names.{◌≡◌, ℕ, zero, suc, ◌+◌, ◌-◌, ◌*◌, ◌/◌, ◌%◌, ◌^◌, ◌<◌, ◌≤◌, max, Bool, true, false, ◌&&◌, List, [], ◌∷◌, ◌++◌, take, length, length-append, Option, None, Some, ℤ, pos, negsuc, unsigned_abs, refl, sym, ap, subst, arith, cond, leb, eqb, neg_ℤ, option_and_then, unwrap_or, list_all, is_ascii_digit, is_negative, decimal, sign_text, AllDigits, digits_value, leb-true, and_parts, length-decimal-le, decimal_digit, thousandths_of, IsDecimal, AreDigits, with_sign, decimals_value, point_text, fix_text, three_digits, without_last_zeros, up_to, whole_of}
+use Rattle.ftl_parser.proofs.Names.{◌≡◌, ℕ, zero, suc, ◌+◌, ◌-◌, ◌*◌, ◌/◌, ◌%◌, ◌^◌, ◌<◌, ◌≤◌, max, Bool, true, false, ◌&&◌, List, [], ◌∷◌, ◌++◌, take, length, length-append, Option, None, Some, ℤ, pos, negsuc, unsigned_abs, refl, sym, ap, subst, arith, cond, leb, eqb, neg_ℤ, option_and_then, unwrap_or, list_all, is_ascii_digit, is_negative, decimal, sign_text, AllDigits, digits_value, leb-true, and_parts, length-decimal-le, decimal_digit, thousandths_of, IsDecimal, AreDigits, with_sign, decimals_value, decimals_text, fix_text, three_digits, without_last_zeros, up_to, whole_of}
 use Rattle.std.proofs.Math.Dec.{leb-zero}
 use Rattle.std.proofs.lemmas.Int.Digits.{digits_value-lt}
 use Rattle.std.proofs.Math.Nat.{pow-le-pow_right}
@@ -89,7 +89,7 @@ decimals_short (a ∷ b ∷ c ∷ more) are =
     dropped (eqb (48 + n / 100) 48) (eqb (48 + n / 10 % 10) 48) (eqb (48 + n % 10) 48) (48 + n / 100) (48 + n / 10 % 10) (48 + n % 10) in
     omega (arith, three)
 
-point_short : (xs ys : List ℕ) → length xs ≤ length ys → length (point_text xs) ≤ length (point_text ys)
+point_short : (xs ys : List ℕ) → length xs ≤ length ys → length (decimals_text xs) ≤ length (decimals_text ys)
 point_short [] ys less = omega arith
 point_short (x ∷ xs) [] less = absurd (omega arith)
 point_short (x ∷ xs) (y ∷ ys) less = omega arith
@@ -114,7 +114,7 @@ size_again true (suc size) = refl
 
 -- ---- numbers with decimals
 
-pub fix_text_is : (value : ℤ) → fix_text value ≡ sign_text (is_negative value) ++ decimal (unsigned_abs value / 1000) ++ point_text
+pub fix_text_is : (value : ℤ) → fix_text value ≡ sign_text (is_negative value) ++ decimal (unsigned_abs value / 1000) ++ decimals_text
     (without_last_zeros (three_digits (unsigned_abs value % 1000)))
 unfolding fix_text
 fix_text_is value = refl
@@ -122,7 +122,7 @@ fix_text_is value = refl
 -- the text of a number, by the parts from which it was read
 parts_short : (negative : Bool) (whole decimals : List ℕ) → AreDigits 1 10 whole → AreDigits 0 3 decimals
     → length (fix_text (with_sign negative (1000 * digits_value 10 whole + decimals_value decimals)))
-    ≤ length (sign_text negative ++ whole ++ point_text decimals)
+    ≤ length (sign_text negative ++ whole ++ decimals_text decimals)
 parts_short negative whole decimals are behind =
     let size : ℕ = 1000 * digits_value 10 whole + decimals_value decimals in
     let below : decimals_value decimals < 1000 = decimals_below decimals behind in
@@ -132,7 +132,7 @@ parts_short negative whole decimals are behind =
     let few : 10 ^ length whole ≤ 10 ^ 10 = pow-le-pow_right (omega arith) are.few in
     let digits_are : length (decimal (digits_value 10 whole)) ≤ length whole =
     length-decimal-le (length whole) (digits_value 10 whole) (omega (arith, are.enough)) value (omega (arith, value, few)) in
-    let point : length (point_text (without_last_zeros (three_digits (decimals_value decimals)))) ≤ length (point_text decimals) =
+    let point : length (decimals_text (without_last_zeros (three_digits (decimals_value decimals)))) ≤ length (decimals_text decimals) =
     point_short (without_last_zeros (three_digits (decimals_value decimals))) decimals (decimals_short decimals behind) in
     let sign : length (sign_text (is_negative (with_sign negative size))) ≤ length (sign_text negative) = sign_short negative size in
     rw (fix_text_is (with_sign negative size), size_again negative size, front, back) (simp length-append (omega (arith, digits_are, point, sign)))
@@ -144,7 +144,7 @@ zero_text = rw (decimal_digit 0 (omega arith)) refl
 decimal_short : (text : List ℕ) (value : ℤ) → IsDecimal text value → length (fix_text value) ≤ length text
 decimal_short text value number =
     let short = parts_short number.negative number.whole number.decimals number.whole_digits number.decimal_digits in
-    let same_text : length text ≡ length (sign_text number.negative ++ number.whole ++ point_text number.decimals) = ap length number.spelled in
+    let same_text : length text ≡ length (sign_text number.negative ++ number.whole ++ decimals_text number.decimals) = ap length number.spelled in
     let same_value : length (fix_text value) ≡ length (fix_text
     (with_sign number.negative (1000 * digits_value 10 number.whole + decimals_value number.decimals))) =
     ap (λ v. length (fix_text v)) number.valued in

@@ -1,6 +1,6 @@
 -- For this crate and for the crates above: a printed query is read back: its text is cut into tokens that spell
 -- it, and its numbers are in the ranges of their places.
-use Rattle.ftl_parser.proofs.Names.{◌≡◌, ℕ, suc, ◌≤◌, Bool, true, false, not, List, [], ◌∷◌, ◌++◌, length, append_assoc, append-nil, Option, None, Some, ℤ, pos, negsuc, IsTrue, refl, sym, ap, subst, ◌∙◌, arith, cond, ltb, codes, decimal, position, neg_ℤ, unsigned_abs, AllByRecursion, flat_map, prefix_len, nat_tests, fix_text, READ_LIMIT, BoundForm, UntilForm, SubName, Op, code_of, reserved_words, symbols, token_at, Lexeme, cut, is_word, lexemes, bad_place, LAST_TICK, Shape, Prefix, Signed, FromPart, Tree, QueryTree, Piece, TRUTH, PREFIX, BOUNDED, UNTIL, SPHERE, PART, OPEN, CLOSE, OPEN_SQUARE, CLOSE_SQUARE, COMMA, POINT, MINUS, STAR, ARROW, COMPARISON, NAME, NUMBER, piece_of, pieces, pieces_from, lexemes_from, has_long, fits, Literal, Radius, Times, SpellsRef, ref_name, ref_attr, ref_part, ref_time, SpellsFactor, factor_number, factor_times, factor_text, factor_ref, SpellsTerm, term_first, term_minus_first, term_plus, term_minus, SpellsNum, num_plain, num_minus, SpellsNames, names_one, names_more, SpellsParts, parts_one, parts_more, SpellsAtom, atom_compare, atom_inside, atom_outside, atom_dist, atom_sphere, SpellsUntil, formula, unary, Spells, formula_conj, formula_or, conj_chain, conj_and, chain_unary, chain_until, until_plain, until_within, until_after, unary_prefix, unary_bounded, unary_assign, unary_brackets, unary_truth, unary_atom, SpellsQuery, query, prefixed, signed, term_of, unfit, clear, factor_marks, term_marks, num_marks, atom_marks, until_marks, marks, query_marks, first_unfit, first_too_large, OneOrMore, IsShortName, IsQuotable, IsPart, IsRef, IsUnit, IsMultiple, IsFactor, IsAtom, IsBound, IsFormula, IsPrintable, truth_word, bound_word, sub_word, op_word, later_names, names_text, part_text, parts_text, unit_text, times_text, first_sign, later_sign, factors_text, pair_text, atom_text, until_text, prefix_text, assign_text, in_brackets, formula_text, query_text, IsReadAs, ReadsWhatIsPrinted, ReadsAgain}
+use Rattle.ftl_parser.proofs.Names.{◌≡◌, ℕ, suc, ◌≤◌, Bool, true, false, not, List, [], ◌∷◌, ◌++◌, length, append_assoc, append-nil, Option, None, Some, ℤ, pos, negsuc, IsTrue, refl, sym, ap, subst, ◌∙◌, arith, cond, ltb, codes, decimal, position, neg_ℤ, unsigned_abs, AllByRecursion, flat_map, prefix_len, nat_tests, fix_text, READ_LIMIT, BoundForm, UntilForm, SubName, Op, code_of, reserved_words, symbols, token_at, Lexeme, cut, is_word, lexemes, bad_place, LAST_TICK, Shape, Prefix, Signed, FromPart, Tree, QueryTree, Piece, TRUTH, PREFIX, BOUNDED, UNTIL, SPHERE, PART, OPEN, CLOSE, OPEN_SQUARE, CLOSE_SQUARE, COMMA, POINT, MINUS, STAR, ARROW, COMPARISON, NAME, NUMBER, piece_of, pieces, pieces_from, lexemes_from, has_long, is_number_fit, Literal, Radius, Times, SpellsRef, ref_name, ref_attr, ref_part, ref_time, SpellsFactor, factor_number, factor_times, factor_text, factor_ref, SpellsTerm, term_first, term_minus_first, term_plus, term_minus, SpellsNum, num_plain, num_minus, SpellsNames, names_one, names_more, SpellsFromParts, parts_one, parts_more, SpellsAtom, atom_compare, atom_inside, atom_outside, atom_dist, atom_sphere, SpellsUntil, formula, unary, Spells, formula_conj, formula_or, conj_chain, conj_and, chain_unary, chain_until, until_plain, until_within, until_after, unary_prefix, unary_bounded, unary_assign, unary_brackets, unary_truth, unary_atom, SpellsQuery, query, prefixed, signed, term_of, unfit, clear, factor_marks, term_marks, num_marks, atom_marks, until_marks, marks, query_marks, first_unfit, first_too_large, OneOrMore, IsShortName, IsQuotable, IsFromPart, IsRef, IsUnit, IsMultiple, IsFactor, IsAtom, AreUntilTicks, IsFormula, IsPrintableQuery, truth_word, bound_word, sub_word, op_word, later_names, names_text, from_part_text, from_parts_text, unit_text, times_text, first_sign, later_sign, factors_text, name_pair_text, atom_text, until_text, prefix_text, assign_text, in_brackets, formula_text, query_text, IsReadAs, ReadsPrintedQuery, ReadsQueryAgain}
 use Rattle.fixed_point.specs.declared.variants.BoundForm.TheVariants as bounds
 use Rattle.fixed_point.specs.declared.variants.UntilForm.TheVariants as untils
 use Rattle.fixed_point.specs.declared.variants.SubName.TheVariants as subs
@@ -120,7 +120,7 @@ unit_reads : (u : unit_type.Unit) → IsUnit IsShortName IsQuotable u → Reads 
 unit_reads (units.Literal (pos n)) shape =
     let number : List ℕ = fix_text (pos n) in
     reads (subst (λ (v : ℤ). FactorOf None (units.Literal v) (NUMBER number ∷ [])) (literal_again n shape)
-    (factor_number, (fitting (fits Literal number) (literal_fits n shape), tt))) (number_cut number (fix_is_number n shape) tt)
+    (factor_number, (fitting (is_number_fit Literal number) (literal_fits n shape), tt))) (number_cut number (fix_is_number n shape) tt)
 unit_reads (units.Literal (negsuc n)) shape = absurd shape
 unit_reads (units.Text t) shape = reads (factor_text, (refl, tt)) (text_cut t shape tt)
 unit_reads u shape = plain_ref u (ref_reads u shape)
@@ -132,7 +132,7 @@ factor_reads (Some k) u shape =
     let r : Reads (unit_text u) (SpellsRef u) = ref_reads u shape.1 in
     let number : Cut Ends (decimal k) (NUMBER (decimal k) ∷ []) = number_cut (decimal k) (decimal_is_number k (omega (arith, shape.0))) tt in
     reads (subst (λ (n : ℕ). FactorOf (Some n) u (NUMBER (decimal k) ∷ STAR ∷ r.tokens)) (times_again k shape.0)
-    (factor_times r.spelled, (fitting (fits Times (decimal k)) (times_fit k shape.0), (refl, no_marks r.tokens))))
+    (factor_times r.spelled, (fitting (is_number_fit Times (decimal k)) (times_fit k shape.0), (refl, no_marks r.tokens))))
     (same_cut (apart_cut number (led signs.TIMES 42 refl refl tt (spaced_cut r.cut))) (simp append_assoc))
 
 -- ---- what may stand any number of times
@@ -197,15 +197,15 @@ names_read (n ∷ ns) shape =
     more_read (λ (m : List ℕ). 44 ∷ m) IsShortName SpellsNames (λ ms front r m is. reads (names_more m r.spelled) (behind_comma r.cut (name_reads m is)))
     (n ∷ []) ns n (reads names_one (name_reads n shape.0)) shape.1
 
-part_cut : (p : FromPart) → IsPart IsShortName p → Cut Ends (part_text p) (NAME p.class ∷ NAME p.var ∷ [])
+part_cut : (p : FromPart) → IsFromPart IsShortName p → Cut Ends (from_part_text p) (NAME p.class ∷ NAME p.var ∷ [])
 part_cut p is = same_cut (apart_cut (name_reads p.class is.0) (name_reads p.var is.1)) (simp append_assoc)
 
-parts_read : (fs : List FromPart) → OneOrMore (IsPart IsShortName) fs → Reads (parts_text fs) (SpellsParts fs)
+parts_read : (fs : List FromPart) → OneOrMore (IsFromPart IsShortName) fs → Reads (from_parts_text fs) (SpellsFromParts fs)
 parts_read [] shape = absurd shape
 parts_read (p ∷ fs) shape =
-    more_read (λ (q : FromPart). 44 ∷ part_text q) (IsPart IsShortName) SpellsParts
+    more_read (λ (q : FromPart). 44 ∷ from_part_text q) (IsFromPart IsShortName) SpellsFromParts
     (λ qs front r q is. reads (parts_more q.class q.var r.spelled) (behind_comma r.cut (part_cut q is)))
-    (p ∷ []) fs (part_text p) (reads parts_one (part_cut p shape.0)) shape.1
+    (p ∷ []) fs (from_part_text p) (reads parts_one (part_cut p shape.0)) shape.1
 
 -- ---- atoms
 
@@ -216,12 +216,12 @@ num_reads : (c : ℤ) → unsigned_abs c ≤ READ_LIMIT → Reads (fix_text c) (
 unfolding symbols
 num_reads (pos n) within =
     let size : List ℕ = fix_text (pos n) in
-    reads (subst (λ (v : ℤ). NumOf v (NUMBER size ∷ [])) (literal_again n within) (num_plain, (fitting (fits Literal size) (literal_fits n within), tt)))
+    reads (subst (λ (v : ℤ). NumOf v (NUMBER size ∷ [])) (literal_again n within) (num_plain, (fitting (is_number_fit Literal size) (literal_fits n within), tt)))
     (number_cut size (fix_is_number n within) tt)
 num_reads (negsuc n) within =
     let size : List ℕ = fix_text (pos (suc n)) in
     reads (subst (λ (v : ℤ). NumOf (neg_ℤ v) (MINUS ∷ NUMBER size ∷ [])) (literal_again (suc n) within)
-    (num_minus, (refl, (fitting (fits Literal size) (literal_fits (suc n) within), tt))))
+    (num_minus, (refl, (fitting (is_number_fit Literal size) (literal_fits (suc n) within), tt))))
     (same_cut (led signs.MINUS 45 refl refl tt (number_cut size (fix_is_number (suc n) within) tt)) (minus_text n))
 
 -- a bracket that closes, after what may end with a name or a number
@@ -242,7 +242,7 @@ before_open code word is found later = parted open_ends (key_last code word is f
 -- two names in brackets, after their word
 pair_cut : {part : List ℕ} {tokens : List Piece} (code : ℕ) (word o n : List ℕ) → IsTrue (is_word word) → code_of reserved_words word ≡ Some code
     → IsShortName o → IsShortName n → Cut Ends part tokens
-    → Cut Ends (word ++ pair_text o n ++ part) (piece_of (kinds.Key code) word ∷ OPEN ∷ NAME o ∷ COMMA ∷ NAME n ∷ CLOSE ∷ tokens)
+    → Cut Ends (word ++ name_pair_text o n ++ part) (piece_of (kinds.Key code) word ∷ OPEN ∷ NAME o ∷ COMMA ∷ NAME n ∷ CLOSE ∷ tokens)
 pair_cut {part = part} code word o n is found o_is n_is later =
     same_cut (before_open code word is found (behind_comma (name_reads o o_is) (closing (name_reads n n_is) later))) (simp append_assoc)
 
@@ -279,7 +279,7 @@ atom_reads (atoms.Sphere (pos r) (name ∷ names)) shape =
     let n : Reads (names_text all) (SpellsNames all) = names_read all shape.1 in
     let size : Cut Ends number (NUMBER number ∷ []) = number_cut number (fix_is_number r (omega (arith, shape.0))) tt in
     let unmarked : AreClear (false ∷ false ∷ unfit Radius number ∷ false ∷ (clear n.tokens ++ false ∷ [])) =
-    (refl, (refl, (fitting (fits Radius number) (radius_fits r shape.0), (refl, joined (clear n.tokens) (false ∷ []) (no_marks n.tokens) (refl, tt))))) in
+    (refl, (refl, (fitting (is_number_fit Radius number) (radius_fits r shape.0), (refl, joined (clear n.tokens) (false ∷ []) (no_marks n.tokens) (refl, tt))))) in
     reads (subst (λ (v : ℤ). AtomOf (atoms.Sphere v all) (SPHERE ∷ OPEN ∷ NUMBER number ∷ COMMA ∷ (n.tokens ++ CLOSE ∷ []))) (radius_again r shape.0)
     (atom_sphere n.spelled, unmarked))
     (same_cut (before_open 20 (codes "WITHIN_SPHERE") refl refl (behind_comma size (closing n.cut no_cut))) (circle_grouped number name (later_names names)))
@@ -309,9 +309,9 @@ ticks_cut : (n : ℕ) → n ≤ LAST_TICK → Cut Ends (decimal n) (NUMBER (deci
 ticks_cut n within = number_cut (decimal n) (decimal_is_number n (omega (arith, within))) tt
 
 ticks_clear : (n : ℕ) → n ≤ LAST_TICK → unfit Ticks (decimal n) ≡ false
-ticks_clear n within = fitting (fits Ticks (decimal n)) (ticks_fit n within)
+ticks_clear n within = fitting (is_number_fit Ticks (decimal n)) (ticks_fit n within)
 
-until_reads : (form : UntilForm) (n : ℕ) → IsBound form n → UntilReads form n
+until_reads : (form : UntilForm) (n : ℕ) → AreUntilTicks form n → UntilReads form n
 unfolding reserved_words
 until_reads untils.Plain n bound =
     reads (subst (λ (k : ℕ). UntilOf untils.Plain k (UNTIL untils.Plain ∷ [])) (sym bound) (until_plain, (refl, tt)))
@@ -408,11 +408,11 @@ formula_reads (Shape.Assign (v, t) f) shape =
 abbrev QueryOf : QueryTree → List Piece → Type 0
 QueryOf q xs = (d : SpellsQuery q xs) × AreClear (query_marks d)
 
-query_reads : (q : QueryTree) → IsPrintable q → Reads (query_text q) (QueryOf q)
+query_reads : (q : QueryTree) → IsPrintableQuery q → Reads (query_text q) (QueryOf q)
 unfolding reserved_words
 query_reads q shape =
     let n : Reads (names_text q.targets) (SpellsNames q.targets) = names_read q.targets shape.targets in
-    let p : Reads (parts_text q.from) (SpellsParts q.from) = parts_read q.from shape.from in
+    let p : Reads (from_parts_text q.from) (SpellsFromParts q.from) = parts_read q.from shape.from in
     let f : Reads (formula_text q.formula) (UnaryOf q.formula) = formula_reads q.formula shape.formula in
     let parts : AreClear (clear p.tokens ++ false ∷ marks f.spelled.0) =
     joined (clear p.tokens) (false ∷ marks f.spelled.0) (no_marks p.tokens) (refl, f.spelled.1) in
@@ -423,7 +423,7 @@ query_reads q shape =
     (same_cut (closed_cut (key_first 0 (codes "RETRIEVE") refl refl) (apart_cut n.cut
     (closed_cut (key_first 1 (codes "FROM") refl refl) (apart_cut p.cut (closed_cut (key_first 2 (codes "WHERE") refl refl) f.cut))))) (simp append_assoc))
 
-pub reads_what_is_printed : ReadsWhatIsPrinted
+pub reads_what_is_printed : ReadsPrintedQuery
 reads_what_is_printed q shape =
     let r : Reads (query_text q) (QueryOf q) = query_reads q shape in
     let is : IsCut Anyhow (query_text q) r.tokens = read_last r in
@@ -433,7 +433,7 @@ reads_what_is_printed q shape =
     subst (λ (xs : List Piece). (d : SpellsQuery q xs) × (first_unfit d ≡ None)) tokens (r.spelled.0, none_found (query_marks r.spelled.0) r.spelled.1) in
     record { no_bad_token = found.0; spelled = read.0; fit = read.1; short = ap has_long found.1 ∙ is.short }
 
-pub reads_again : ReadsAgain
+pub reads_again : ReadsQueryAgain
 reads_again from line q read =
     let long : Bool = has_long (lexemes_from from line) in
     let short : long ≡ false = small_short long q read.small in

@@ -1,5 +1,5 @@
 -- For this crate and for the crates above: what tokens of a line spell is printable.
-use Rattle.ftl_parser.proofs.Names.{◌≡◌, ℕ, zero, suc, ◌+◌, ◌-◌, ◌*◌, ◌≤◌, Bool, true, false, ◌&&◌, List, [], ◌∷◌, ◌++◌, drop, take, length, append_assoc, Option, None, Some, ℤ, pos, negsuc, unsigned_abs, IsTrue, refl, sym, ap, subst, ◌∙◌, arith, cond, leb, neg_ℤ, not, slice_get, unwrap_or, if◌then◌else◌, AllByRecursion, list_all, or_parts, nat_tests, is_ascii_digit, digits_value, sign_text, thousandths_of, IsDecimal, with_sign, decimals_value, point_text, Kind, lexemes, Lexeme, HasForm, is_number, has_no_quote, IsQuoted, HaveForms, READ_LIMIT, WORD_LIMIT, UntilForm, RADIUS_LIMIT, LAST_TICK, TIMES_LIMIT, Prefix, Signed, FromPart, Tree, QueryTree, Piece, FROM, WHERE, AND, OR, CLOSE, CLOSE_SQUARE, COMMA, PLUS, MINUS, COMPARISON, NAME, NUMBER, TEXT, ARROW, WORD, reserved, signs, piece_of, pieces, pieces_from, lexemes_from, is_long, has_long, unquoted, is_short, whole_of, literal, radius, SpellsUntil, SpellsRef, ref_name, ref_attr, ref_part, ref_time, SpellsFactor, factor_number, factor_times, factor_text, factor_ref, SpellsTerm, term_first, term_minus_first, term_plus, term_minus, SpellsNum, num_plain, num_minus, SpellsNames, names_one, names_more, SpellsParts, parts_one, parts_more, SpellsAtom, atom_compare, atom_inside, atom_outside, atom_dist, atom_sphere, Level, Spells, formula_conj, formula_or, conj_chain, conj_and, chain_unary, chain_until, until_plain, until_within, until_after, unary_prefix, unary_bounded, unary_assign, unary_brackets, unary_truth, unary_atom, SpellsQuery, query, prefixed, signed, from_part, first_too_large, Reads, OneOrMore, IsShortName, IsQuotable, IsPart, IsUnsigned, IsRef, IsUnit, IsMultiple, IsFactor, IsAtom, IsBound, IsFormula, HasShape, IsAny, IsLawful, PrintsWhatIsRead}
+use Rattle.ftl_parser.proofs.Names.{◌≡◌, ℕ, zero, suc, ◌+◌, ◌-◌, ◌*◌, ◌≤◌, Bool, true, false, ◌&&◌, List, [], ◌∷◌, ◌++◌, drop, take, length, append_assoc, Option, None, Some, ℤ, pos, negsuc, unsigned_abs, IsTrue, refl, sym, ap, subst, ◌∙◌, arith, cond, leb, neg_ℤ, not, slice_get, unwrap_or, if◌then◌else◌, AllByRecursion, list_all, or_parts, nat_tests, is_ascii_digit, digits_value, sign_text, thousandths_of, IsDecimal, with_sign, decimals_value, decimals_text, Kind, lexemes, Lexeme, HasForm, is_number, has_no_quote, IsQuoted, HaveForms, READ_LIMIT, WORD_LIMIT, UntilForm, RADIUS_LIMIT, LAST_TICK, TIMES_LIMIT, Prefix, Signed, FromPart, Tree, QueryTree, Piece, FROM, WHERE, AND, OR, CLOSE, CLOSE_SQUARE, COMMA, PLUS, MINUS, COMPARISON, NAME, NUMBER, TEXT, ARROW, WORD, reserved, signs, piece_of, pieces, pieces_from, lexemes_from, is_long, has_long, unquoted, is_short, whole_of, literal, radius_of, SpellsUntil, SpellsRef, ref_name, ref_attr, ref_part, ref_time, SpellsFactor, factor_number, factor_times, factor_text, factor_ref, SpellsTerm, term_first, term_minus_first, term_plus, term_minus, SpellsNum, num_plain, num_minus, SpellsNames, names_one, names_more, SpellsFromParts, parts_one, parts_more, SpellsAtom, atom_compare, atom_inside, atom_outside, atom_dist, atom_sphere, Level, Spells, formula_conj, formula_or, conj_chain, conj_and, chain_unary, chain_until, until_plain, until_within, until_after, unary_prefix, unary_bounded, unary_assign, unary_brackets, unary_truth, unary_atom, SpellsQuery, query, prefixed, signed, from_part, first_too_large, ReadsQuery, OneOrMore, IsShortName, IsQuotable, IsFromPart, IsUnsigned, IsRef, IsUnit, IsMultiple, IsFactor, IsAtom, AreUntilTicks, IsFormula, HasShape, IsAny, IsLawful, PrintsReadQuery}
 use Rattle.fixed_point.proofs.DecimalLemmas.{decimal_law}
 use Rattle.ftl_lexer.specs.declared.kinds.Kind.TheVariants as kinds
 use Rattle.ftl_lexer.proofs.Shapes.{tokens_have_forms}
@@ -120,16 +120,16 @@ decimal_within limit text (Some value) number is =
     let both : IsDecimal text value × (unsigned_abs value ≤ limit) = (decimal_law limit text value).0 is in
     let number_is : IsDecimal text value = both.0 in
     let size : ℕ = 1000 * digits_value 10 number_is.whole + decimals_value number_is.decimals in
-    let rest : text ≡ sign_text number_is.negative ++ (number_is.whole ++ point_text number_is.decimals) =
-    number_is.spelled ∙ append_assoc (sign_text number_is.negative) number_is.whole (point_text number_is.decimals) in
-    let plus : number_is.negative ≡ false = no_sign number_is.negative text (number_is.whole ++ point_text number_is.decimals) rest number in
+    let rest : text ≡ sign_text number_is.negative ++ (number_is.whole ++ decimals_text number_is.decimals) =
+    number_is.spelled ∙ append_assoc (sign_text number_is.negative) number_is.whole (decimals_text number_is.decimals) in
+    let plus : number_is.negative ≡ false = no_sign number_is.negative text (number_is.whole ++ decimals_text number_is.decimals) rest number in
     let small : unsigned_abs (with_sign number_is.negative size) ≤ limit = subst (λ (v : ℤ). unsigned_abs v ≤ limit) number_is.valued both.1 in
     subst (IsUnsigned limit) (sym number_is.valued) (unsigned_within limit number_is.negative size plus small)
 
 literal_within : (text : List ℕ) → IsTrue (is_number text) → IsUnsigned READ_LIMIT (literal text)
 literal_within text number = decimal_within READ_LIMIT text (thousandths_of READ_LIMIT text) number refl
 
-pub radius_within : (text : List ℕ) → IsTrue (is_number text) → IsUnsigned RADIUS_LIMIT (radius text)
+pub radius_within : (text : List ℕ) → IsTrue (is_number text) → IsUnsigned RADIUS_LIMIT (radius_of text)
 radius_within text number = decimal_within RADIUS_LIMIT text (thousandths_of RADIUS_LIMIT text) number refl
 
 choice_within : (a c : Bool) (value most : ℕ) → leb value most ≡ c → unwrap_or (cond (a && c) (Some value) None) 0 ≤ most
@@ -192,11 +192,11 @@ module _ (N T : List ℕ → Type 0) where
       let back : HaveShapes N T (COMMA ∷ NAME n ∷ []) = all_back (PieceHas N T) xs (COMMA ∷ NAME n ∷ []) shapes in
       one_more N ns n (names_shape d (all_front (PieceHas N T) xs (COMMA ∷ NAME n ∷ []) shapes)) back.1.0
 
-  parts_shape : {ps : List FromPart} {xs : List Piece} → SpellsParts ps xs → HaveShapes N T xs → OneOrMore (IsPart N) ps
+  parts_shape : {ps : List FromPart} {xs : List Piece} → SpellsFromParts ps xs → HaveShapes N T xs → OneOrMore (IsFromPart N) ps
   parts_shape parts_one shapes = ((shapes.0, shapes.1.0), tt)
   parts_shape (parts_more {ps = ps} {xs = xs} c v d) shapes =
       let back : HaveShapes N T (COMMA ∷ NAME c ∷ NAME v ∷ []) = all_back (PieceHas N T) xs (COMMA ∷ NAME c ∷ NAME v ∷ []) shapes in
-      one_more (IsPart N) ps (from_part c v) (parts_shape d (all_front (PieceHas N T) xs (COMMA ∷ NAME c ∷ NAME v ∷ []) shapes)) (back.1.0, back.1.1.0)
+      one_more (IsFromPart N) ps (from_part c v) (parts_shape d (all_front (PieceHas N T) xs (COMMA ∷ NAME c ∷ NAME v ∷ []) shapes)) (back.1.0, back.1.1.0)
 
   atom_shape : {a : atom_type.Atom} {xs : List Piece} → SpellsAtom a xs → HaveShapes N T xs → IsAtom N T a
   atom_shape (atom_compare {op = op} {xs = xs} {ys = ys} d e) shapes =
@@ -212,7 +212,7 @@ module _ (N T : List ℕ → Type 0) where
   prefix_shape prefixes.Eventually f shape = shape
   prefix_shape prefixes.Always f shape = shape
 
-  until_shape : {form : UntilForm} {n : ℕ} {xs : List Piece} → SpellsUntil form n xs → IsBound form n
+  until_shape : {form : UntilForm} {n : ℕ} {xs : List Piece} → SpellsUntil form n xs → AreUntilTicks form n
   until_shape until_plain = refl
   until_shape (until_within {c = c}) = whole_within LAST_TICK c
   until_shape (until_after {c = c}) = whole_within LAST_TICK c
@@ -248,7 +248,7 @@ module _ (N T : List ℕ → Type 0) where
         formula = formula_shape d (all_back (PieceHas N T) ys (WHERE ∷ zs) rest.1).1;
       }
 
-pub prints_what_is_read : PrintsWhatIsRead
+pub prints_what_is_read : PrintsReadQuery
 prints_what_is_read from line q spelled short = query_shape IsShortName IsQuotable spelled (line_has from line short)
 
 -- where no size passes its limit, no name or text is too long
@@ -273,10 +273,10 @@ spelled_shape from line q spelled = query_shape IsAny IsAny spelled
     (any_pieces (lexemes_from from line) (later_forms from (lexemes line) (tokens_have_forms line)))
 
 -- no size of a query that is read passes its limit
-pub reads_small : (tokens : List Lexeme) (q : QueryTree) → Reads tokens q → first_too_large false q ≡ None
+pub reads_small : (tokens : List Lexeme) (q : QueryTree) → ReadsQuery tokens q → first_too_large false q ≡ None
 reads_small tokens q read = ap (λ b. first_too_large b q) (sym (small_short (has_long tokens) q read.small)) ∙ read.small
 
 -- and it is lawful
-pub reads_lawful : (from : ℕ) (line : List ℕ) (q : QueryTree) → Reads (lexemes_from from line) q → IsLawful q
+pub reads_lawful : (from : ℕ) (line : List ℕ) (q : QueryTree) → ReadsQuery (lexemes_from from line) q → IsLawful q
 reads_lawful from line q read =
     record { shape = spelled_shape from line q read.spelled; small = reads_small (lexemes_from from line) q read }

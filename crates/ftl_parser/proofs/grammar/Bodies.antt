@@ -1,5 +1,5 @@
 -- The machine after WHERE alone, and what may stand after a formula.
-use Rattle.ftl_parser.proofs.Names.{◌≡◌, ℕ, ◌<◌, ◌≤◌, Bool, true, false, List, [], ◌∷◌, Option, None, Some, option_map, option_and_then, refl, IsTrue, arith, Shape, Signed, FromPart, TermPlace, Tree, QueryTree, Piece, AND, OR, UNTIL, CLOSE, POINT, STAR, Level, formula, conj, chain, unary, term_of, Frame, rank, Phase, Body, Within, body_step, body_end, factor_ended, reduced, alone, parsed}
+use Rattle.ftl_parser.proofs.Names.{◌≡◌, ℕ, ◌<◌, ◌≤◌, Bool, true, false, List, [], ◌∷◌, Option, None, Some, option_map, option_and_then, refl, IsTrue, arith, Shape, Signed, FromPart, TermPlace, Tree, QueryTree, Piece, AND, OR, UNTIL, CLOSE, POINT, STAR, Level, formula, conj, chain, unary, term_of, Frame, precedence, Phase, Body, Within, body_step, body_end, factor_ended, reduced, ended_formula, parsed}
 use Rattle.ftl_parser.specs.declared.tree.Atom.TheVariants as atoms
 use Rattle.ftl_parser.specs.declared.state.TermPlace.TheVariants as places
 
@@ -18,7 +18,7 @@ query_with ns ps f = record { targets = ns; from = ps; formula = f }
 
 -- the end of tokens after a whole term
 abbrev pub term_end : List Frame → TermPlace → List Signed → Option Tree
-term_end s (places.Right t op) fs = alone (reduced 1 (Shape.Atom (atoms.Compare t op (term_of fs))) s)
+term_end s (places.Right t op) fs = ended_formula (reduced 1 (Shape.Atom (atoms.Compare t op (term_of fs))) s)
 term_end s places.Left fs = None
 term_end s (places.Assigned v) fs = None
 
@@ -50,7 +50,7 @@ pub record Follows (l : Level) (tokens : List Piece) : Type 0 where
 -- the rank of the topmost frame
 abbrev pub top : List Frame → ℕ
 top [] = 0
-top (w ∷ s) = rank w
+top (w ∷ s) = precedence w
 
 -- the rank that the topmost frame is below where a formula of this level begins
 abbrev pub room : Level → ℕ

@@ -1,5 +1,5 @@
 -- For this crate and for the crates above: what a rule derives, the machine reads.
-use Rattle.ftl_parser.proofs.Names.{◌≡◌, ℕ, ℤ, ◌<◌, ◌≤◌, Bool, true, false, List, [], ◌∷◌, ◌++◌, Option, None, Some, option_map, IsTrue, refl, sym, ap, ◌∙◌, arith, append_assoc, append-nil, nat_tests, Op, Shape, Term, Signed, FromPart, TermPlace, Tree, QueryTree, Piece, FROM, WHERE, AND, OR, UNTIL, CLOSE, CLOSE_SQUARE, COMMA, POINT, PLUS, MINUS, STAR, COMPARISON, NAME, NUMBER, ticks, times, literal, radius, ref_name, ref_attr, ref_part, ref_time, SpellsFactor, factor_number, factor_times, factor_text, factor_ref, SpellsTerm, term_first, term_minus_first, term_plus, term_minus, num_plain, num_minus, SpellsNames, names_one, names_more, SpellsParts, parts_one, parts_more, SpellsAtom, atom_compare, atom_inside, atom_outside, atom_dist, atom_sphere, Level, formula, Spells, formula_conj, formula_or, conj_chain, conj_and, chain_unary, chain_until, until_plain, until_within, until_after, unary_prefix, unary_bounded, unary_assign, unary_brackets, unary_truth, unary_atom, SpellsQuery, query, signed, term_of, Frame, Bracket, OrWith, AndWith, UntilWith, PrefixedBy, BoundedBy, Assigning, rank, filled, Want, Have, Reach, InTerm, InSpatial, Heading, start, reduced, closed, alone, parsed}
+use Rattle.ftl_parser.proofs.Names.{◌≡◌, ℕ, ℤ, ◌<◌, ◌≤◌, Bool, true, false, List, [], ◌∷◌, ◌++◌, Option, None, Some, option_map, IsTrue, refl, sym, ap, ◌∙◌, arith, append_assoc, append-nil, nat_tests, Op, Shape, Term, Signed, FromPart, TermPlace, Tree, QueryTree, Piece, FROM, WHERE, AND, OR, UNTIL, CLOSE, CLOSE_SQUARE, COMMA, POINT, PLUS, MINUS, STAR, COMPARISON, NAME, NUMBER, ticks, times, literal, radius_of, ref_name, ref_attr, ref_part, ref_time, SpellsFactor, factor_number, factor_times, factor_text, factor_ref, SpellsTerm, term_first, term_minus_first, term_plus, term_minus, num_plain, num_minus, SpellsNames, names_one, names_more, SpellsFromParts, parts_one, parts_more, SpellsAtom, atom_compare, atom_inside, atom_outside, atom_dist, atom_sphere, Level, formula, Spells, formula_conj, formula_or, conj_chain, conj_and, chain_unary, chain_until, until_plain, until_within, until_after, unary_prefix, unary_bounded, unary_assign, unary_brackets, unary_truth, unary_atom, SpellsQuery, query, signed, term_of, Frame, Bracket, OrWith, AndWith, UntilWith, PrefixedBy, BoundedBy, Assigning, precedence, filled, Want, Have, Reach, InTerm, InSpatial, Heading, start, reduced, closed, ended_formula, parsed}
 use Rattle.fixed_point.specs.declared.variants.UntilForm.TheVariants as untils
 use Rattle.ftl_parser.specs.declared.tree.Atom as atom_type
 use Rattle.ftl_parser.specs.declared.tree.Atom.TheVariants as atoms
@@ -12,7 +12,7 @@ use Rattle.ftl_parser.specs.declared.state.Spatial.TheVariants as spatials
 use Rattle.ftl_parser.proofs.grammar.Bodies.{body_parsed, then_parsed, query_with, term_behind, stop, Follows, top, room, cuts, parsed-Within, never, nothing, stop-cuts}
 
 -- frames that bind at least so strongly end
-pub reduced-filled : (r : ℕ) (w : Frame) (s : List Frame) (f : Tree) → r ≤ rank w → reduced r f (w ∷ s) ≡ reduced r (filled w f) s
+pub reduced-filled : (r : ℕ) (w : Frame) (s : List Frame) (f : Tree) → r ≤ precedence w → reduced r f (w ∷ s) ≡ reduced r (filled w f) s
 reduced-filled r w s f ends = grind (arith, nat_tests)
 
 -- and others don't
@@ -22,8 +22,8 @@ reduced-stays r f (w ∷ s) below = grind (arith, nat_tests)
 
 -- a frame ends where what stands after its formula ends its rank
 pub fills : (w : Frame) (s : List Frame) (f : Tree) (rest : List Piece) →
-    0 < stop rest → stop rest ≤ rank w → body_parsed (w ∷ s) (Have f) rest ≡ body_parsed s (Have (filled w f)) rest
-fills w s f [] stops ends = ap alone (reduced-filled 1 w s f ends)
+    0 < stop rest → stop rest ≤ precedence w → body_parsed (w ∷ s) (Have f) rest ≡ body_parsed s (Have (filled w f)) rest
+fills w s f [] stops ends = ap ended_formula (reduced-filled 1 w s f ends)
 fills w s f (CLOSE ∷ rest) stops ends = ap (λ r. then_parsed rest (closed r)) (reduced-filled 1 w s f ends)
 fills w s f (OR ∷ rest) stops ends = ap (λ r. body_parsed (OrWith r.0 ∷ r.1) Want rest) (reduced-filled 1 w s f ends)
 fills w s f (AND ∷ rest) stops ends = ap (λ r. body_parsed (AndWith r.0 ∷ r.1) Want rest) (reduced-filled 2 w s f ends)
@@ -145,7 +145,7 @@ drives_atom atom_outside s rest stops = refl
 drives_atom (atom_dist num_plain) s rest stops = refl
 drives_atom (atom_dist num_minus) s rest stops = refl
 drives_atom (atom_sphere {r = r} {xs = xs} d) s rest stops =
-    ap (body_parsed s (InSpatial (spatials.SphereName (radius r) []))) (append_assoc xs (CLOSE ∷ []) rest) ∙ drives_circle d s (radius r) (CLOSE ∷ rest)
+    ap (body_parsed s (InSpatial (spatials.SphereName (radius_of r) []))) (append_assoc xs (CLOSE ∷ []) rest) ∙ drives_circle d s (radius_of r) (CLOSE ∷ rest)
 
 pub drives : {l : Level} {f : Tree} {xs : List Piece} → Spells l f xs →
     (s : List Frame) → top s < room l → (rest : List Piece) → Follows l rest →
@@ -204,7 +204,7 @@ pub drives_names : {ns : List (List ℕ)} {xs : List Piece} → SpellsNames ns x
 drives_names names_one ps rest = refl
 drives_names (names_more n d) ps rest = rw append_assoc (drives_names d ps (COMMA ∷ NAME n ∷ rest))
 
-pub drives_parts : {ps : List FromPart} {xs : List Piece} → SpellsParts ps xs →
+pub drives_parts : {ps : List FromPart} {xs : List Piece} → SpellsFromParts ps xs →
     (ns : List (List ℕ)) (rest : List Piece) →
     parsed (Heading heads.Class ns []) (xs ++ rest) ≡ parsed (Heading heads.Parts ns ps) rest
 drives_parts parts_one ns rest = refl

@@ -1,6 +1,6 @@
 -- For this crate and for the crates above: what the machine has read in each state, and that what it parses is
 -- derived by the rules.
-use Rattle.ftl_parser.proofs.Names.{◌≡◌, ℕ, ◌≤◌, Bool, true, false, List, [], ◌∷◌, ◌++◌, Option, None, Some, option_map, option_and_then, refl, sym, ap, ◌∙◌, subst, arith, append_assoc, append-nil, BoundForm, UntilForm, Op, Signed, FromPart, Head, Pair, TermPlace, Factor, Prefix, Spatial, Tree, QueryTree, Piece, RETRIEVE, FROM, WHERE, AND, OR, TRUTH, PREFIX, BOUNDED, UNTIL, INSIDE, OUTSIDE, DIST, SPHERE, TIME, PART, OPEN, CLOSE, OPEN_SQUARE, CLOSE_SQUARE, COMMA, POINT, PLUS, MINUS, STAR, ARROW, COMPARISON, NAME, NUMBER, TEXT, ticks, times, literal, radius, SpellsRef, ref_name, ref_attr, ref_part, ref_time, SpellsFactor, factor_number, factor_times, factor_text, factor_ref, SpellsTerm, term_first, term_minus_first, term_plus, term_minus, num_plain, num_minus, SpellsNames, names_one, names_more, SpellsParts, parts_one, parts_more, atom_compare, atom_inside, atom_outside, atom_dist, atom_sphere, SpellsUntil, until_plain, until_within, until_after, Level, formula, conj, chain, unary, Spells, formula_conj, formula_or, conj_chain, conj_and, chain_unary, chain_until, unary_prefix, unary_bounded, unary_assign, unary_brackets, unary_truth, unary_atom, SpellsQuery, query, signed, term_of, from_part, Frame, Bracket, OrWith, AndWith, UntilWith, PrefixedBy, BoundedBy, Assigning, Phase, Want, Have, Reach, Variable, Arrow, InTerm, InSpatial, Body, Heading, Within, start, reference, factor_begun, lengthened, whole, reduced, closed, behind, term_ended, factor_ended, behind_factor, longer_or, term_step, spatial_step, wanted, body_step, alone, compared, body_end, parsed}
+use Rattle.ftl_parser.proofs.Names.{◌≡◌, ℕ, ◌≤◌, Bool, true, false, List, [], ◌∷◌, ◌++◌, Option, None, Some, option_map, option_and_then, refl, sym, ap, ◌∙◌, subst, arith, append_assoc, append-nil, BoundForm, UntilForm, Op, Signed, FromPart, Head, Pair, TermPlace, Factor, Prefix, Spatial, Tree, QueryTree, Piece, RETRIEVE, FROM, WHERE, AND, OR, TRUTH, PREFIX, BOUNDED, UNTIL, INSIDE, OUTSIDE, DIST, SPHERE, TIME, PART, OPEN, CLOSE, OPEN_SQUARE, CLOSE_SQUARE, COMMA, POINT, PLUS, MINUS, STAR, ARROW, COMPARISON, NAME, NUMBER, TEXT, ticks, times, literal, radius_of, SpellsRef, ref_name, ref_attr, ref_part, ref_time, SpellsFactor, factor_number, factor_times, factor_text, factor_ref, SpellsTerm, term_first, term_minus_first, term_plus, term_minus, num_plain, num_minus, SpellsNames, names_one, names_more, SpellsFromParts, parts_one, parts_more, atom_compare, atom_inside, atom_outside, atom_dist, atom_sphere, SpellsUntil, until_plain, until_within, until_after, Level, formula, conj, chain, unary, Spells, formula_conj, formula_or, conj_chain, conj_and, chain_unary, chain_until, unary_prefix, unary_bounded, unary_assign, unary_brackets, unary_truth, unary_atom, SpellsQuery, query, signed, term_of, from_part, Frame, Bracket, OrWith, AndWith, UntilWith, PrefixedBy, BoundedBy, Assigning, Phase, Want, Have, Reach, Variable, Arrow, InTerm, InSpatial, Body, Heading, Within, start, reference, factor_begun, lengthened, whole_factor, reduced, closed, behind, term_ended, factor_ended, behind_factor, longer_or, term_step, spatial_step, wanted, body_step, ended_formula, compared, body_end, parsed}
 use Rattle.fixed_point.specs.declared.variants.UntilForm.TheVariants as untils
 use Rattle.ftl_parser.specs.declared.tree.Unit as unit_type
 use Rattle.ftl_parser.specs.declared.state.Head.TheVariants as heads
@@ -85,12 +85,12 @@ pub data ReadsSpatial : Spatial → List Piece → Type 0 where
       ReadsSpatial (spatials.DistMinus o n op) (DIST ∷ OPEN ∷ NAME o ∷ COMMA ∷ NAME n ∷ CLOSE ∷ COMPARISON op ∷ MINUS ∷ [])
   sphere_open : ReadsSpatial spatials.SphereOpen (SPHERE ∷ [])
   sphere_radius : ReadsSpatial spatials.SphereRadius (SPHERE ∷ OPEN ∷ [])
-  sphere_comma : (r : List ℕ) → ReadsSpatial (spatials.SphereComma (radius r)) (SPHERE ∷ OPEN ∷ NUMBER r ∷ [])
-  sphere_first : (r : List ℕ) → ReadsSpatial (spatials.SphereName (radius r) []) (SPHERE ∷ OPEN ∷ NUMBER r ∷ COMMA ∷ [])
+  sphere_comma : (r : List ℕ) → ReadsSpatial (spatials.SphereComma (radius_of r)) (SPHERE ∷ OPEN ∷ NUMBER r ∷ [])
+  sphere_first : (r : List ℕ) → ReadsSpatial (spatials.SphereName (radius_of r) []) (SPHERE ∷ OPEN ∷ NUMBER r ∷ COMMA ∷ [])
   sphere_name : {ns : List (List ℕ)} {xs : List Piece} (r : List ℕ) →
-      SpellsNames ns xs → ReadsSpatial (spatials.SphereName (radius r) ns) (SPHERE ∷ OPEN ∷ NUMBER r ∷ COMMA ∷ (xs ++ COMMA ∷ []))
+      SpellsNames ns xs → ReadsSpatial (spatials.SphereName (radius_of r) ns) (SPHERE ∷ OPEN ∷ NUMBER r ∷ COMMA ∷ (xs ++ COMMA ∷ []))
   sphere_names : {ns : List (List ℕ)} {xs : List Piece} (r : List ℕ) →
-      SpellsNames ns xs → ReadsSpatial (spatials.SphereNames (radius r) ns) (SPHERE ∷ OPEN ∷ NUMBER r ∷ COMMA ∷ xs)
+      SpellsNames ns xs → ReadsSpatial (spatials.SphereNames (radius_of r) ns) (SPHERE ∷ OPEN ∷ NUMBER r ∷ COMMA ∷ xs)
 
 -- the tokens of what comes next, after those of the stack
 pub data Holds : Level → Phase → List Piece → Type 0 where
@@ -124,13 +124,13 @@ pub data ReadsHead : Head → List (List ℕ) → List FromPart → List Piece �
   targets : {ns : List (List ℕ)} {xs : List Piece} → SpellsNames ns xs → ReadsHead heads.Targets ns [] (RETRIEVE ∷ xs)
   class_first : {ns : List (List ℕ)} {xs : List Piece} → SpellsNames ns xs → ReadsHead heads.Class ns [] (RETRIEVE ∷ (xs ++ FROM ∷ []))
   class_next : {ns : List (List ℕ)} {ps : List FromPart} {xs ys : List Piece} →
-      SpellsNames ns xs → SpellsParts ps ys → ReadsHead heads.Class ns ps (RETRIEVE ∷ (xs ++ FROM ∷ (ys ++ COMMA ∷ [])))
+      SpellsNames ns xs → SpellsFromParts ps ys → ReadsHead heads.Class ns ps (RETRIEVE ∷ (xs ++ FROM ∷ (ys ++ COMMA ∷ [])))
   var_first : {ns : List (List ℕ)} {c : List ℕ} {xs : List Piece} →
       SpellsNames ns xs → ReadsHead (heads.Var c) ns [] (RETRIEVE ∷ (xs ++ FROM ∷ NAME c ∷ []))
   var_next : {ns : List (List ℕ)} {ps : List FromPart} {c : List ℕ} {xs ys : List Piece} →
-      SpellsNames ns xs → SpellsParts ps ys → ReadsHead (heads.Var c) ns ps (RETRIEVE ∷ (xs ++ FROM ∷ (ys ++ COMMA ∷ NAME c ∷ [])))
+      SpellsNames ns xs → SpellsFromParts ps ys → ReadsHead (heads.Var c) ns ps (RETRIEVE ∷ (xs ++ FROM ∷ (ys ++ COMMA ∷ NAME c ∷ [])))
   parts : {ns : List (List ℕ)} {ps : List FromPart} {xs ys : List Piece} →
-      SpellsNames ns xs → SpellsParts ps ys → ReadsHead heads.Parts ns ps (RETRIEVE ∷ (xs ++ FROM ∷ ys))
+      SpellsNames ns xs → SpellsFromParts ps ys → ReadsHead heads.Parts ns ps (RETRIEVE ∷ (xs ++ FROM ∷ ys))
 
 -- a formula of a level is one of each level that binds less
 pub raised : (l m : Level) {f : Tree} {xs : List Piece} → level_rank l ≤ level_rank m → Spells m f xs → Spells l f xs
@@ -242,7 +242,7 @@ TermIf fs None xs = Unit {0}
 TermIf fs (Some u) xs = SpellsTerm (fs ++ u ∷ []) xs
 
 whole-term : {fs : List Signed} {m : Bool} {last : Factor} {xs ys : List Piece} →
-    ReadsSign fs m xs → ReadsFactor m last ys → TermIf fs (whole last) (xs ++ ys)
+    ReadsSign fs m xs → ReadsFactor m last ys → TermIf fs (whole_factor last) (xs ++ ys)
 whole-term s (number {n = n}) = sign-term s (factor_number {n = n})
 whole-term s (alone_read t) = sign-term s (times-ref t ref_name)
 whole-term s (attr t) = sign-term s (times-ref t ref_attr)
@@ -250,7 +250,7 @@ whole-term s (whole_read d) = sign-term s d
 whole-term s r = tt
 
 -- a factor that may end here is the last one of a term
-term-whole : {fs : List Signed} {last : Factor} {xs : List Piece} → ReadsTerm fs last xs → TermIf fs (whole last) xs
+term-whole : {fs : List Signed} {last : Factor} {xs : List Piece} → ReadsTerm fs last xs → TermIf fs (whole_factor last) xs
 term-whole fresh = tt
 term-whole (partial s r) = whole-term s r
 
@@ -398,8 +398,8 @@ longer-or fs zs w before (Some last) later p r b = reads-body _ w (in_term befor
 term-by : {l : Level} {s : List Frame} {place : TermPlace} {fs : List Signed} {last : Factor} {xs ys zs : List Piece} →
     Waits l s ys → ReadsPlace place xs → ReadsTerm fs last zs → (p : Piece) → BodyIf (term_step s place fs last p) ((ys ++ (xs ++ zs)) ++ p ∷ [])
 term-by {s = s} {place = place} {fs = fs} {last = last} {zs = zs} w before r p =
-    longer-or fs zs w before (lengthened last p) (behind_factor s place fs (whole last) p) p (lengthened-term r p)
-    (behind-factor fs zs w before (whole last) (term-whole r) p)
+    longer-or fs zs w before (lengthened last p) (behind_factor s place fs (whole_factor last) p) p (lengthened-term r p)
+    (behind-factor fs zs w before (whole_factor last) (term-whole r) p)
 
 -- the tokens of what comes next, if a token was taken
 abbrev HoldsIf : Level → Option Phase → List Piece → Type 0
@@ -494,14 +494,14 @@ FormulaIf (Some f) xs = Spells formula f xs
 formula-respelled : (o : Option Tree) (xs ys : List Piece) → xs ≡ ys → FormulaIf o xs → FormulaIf o ys
 formula-respelled o xs ys e d = subst (FormulaIf o) e d
 
-alone-by : {l : Level} {s : List Frame} {f : Tree} {ys zs : List Piece} → Waits l s ys → Spells formula f zs → FormulaIf (alone (f, s)) (ys ++ zs)
+alone-by : {l : Level} {s : List Frame} {f : Tree} {ys zs : List Piece} → Waits l s ys → Spells formula f zs → FormulaIf (ended_formula (f, s)) (ys ++ zs)
 alone-by bottom d = d
 alone-by w d = tt
 
-reduced-alone : {l : Level} {s : List Frame} {f : Tree} {ys zs : List Piece} → Waits l s ys → Spells unary f zs → FormulaIf (alone (reduced 1 f s)) (ys ++ zs)
+reduced-alone : {l : Level} {s : List Frame} {f : Tree} {ys zs : List Piece} → Waits l s ys → Spells unary f zs → FormulaIf (ended_formula (reduced 1 f s)) (ys ++ zs)
 reduced-alone {l = l} {s = s} {f = f} {ys = ys} {zs = zs} w d =
     let e = reduced-ends formula l unary w d (most l) (omega arith) in
-    formula-respelled (alone (reduced 1 f s)) _ _ (sym e.split) (alone-by e.waits e.spells)
+    formula-respelled (ended_formula (reduced 1 f s)) _ _ (sym e.split) (alone-by e.waits e.spells)
 
 compared-by : {l : Level} {s : List Frame} {gs : List Signed} {xs ys : List Piece} (op : Op) (fs : List Signed) (zs : List Piece)
     → Waits l s ys → SpellsTerm gs xs →
@@ -513,7 +513,7 @@ compared-by {s = s} {gs = gs} op fs zs w t (Some u) d =
 -- the end of the tokens
 end-by : {l : Level} {s : List Frame} {phase : Phase} {ys zs : List Piece} → Waits l s ys → Holds l phase zs → FormulaIf (body_end s phase) (ys ++ zs)
 end-by w (have d) = reduced-alone w d
-end-by w (in_term {fs = fs} {last = last} {ys = zs} (right {op = op} t) r) = compared-by op fs zs w t (whole last) (term-whole r)
+end-by w (in_term {fs = fs} {last = last} {ys = zs} (right {op = op} t) r) = compared-by op fs zs w t (whole_factor last) (term-whole r)
 end-by w h = tt
 
 -- the tokens after WHERE that are parsed spell the formula
@@ -540,12 +540,12 @@ query-respelled : (o : Option QueryTree) (xs ys : List Piece) → xs ≡ ys → 
 query-respelled o xs ys e d = subst (QueryIf o) e d
 
 -- a formula after a head
-whole-query : {ns : List (List ℕ)} {ps : List FromPart} {xs ys : List Piece} → SpellsNames ns xs → SpellsParts ps ys →
+whole-query : {ns : List (List ℕ)} {ps : List FromPart} {xs ys : List Piece} → SpellsNames ns xs → SpellsFromParts ps ys →
     (o : Option Tree) (tokens : List Piece) → FormulaIf o tokens → QueryIf (option_map (query_with ns ps) o) (RETRIEVE ∷ (xs ++ FROM ∷ (ys ++ WHERE ∷ tokens)))
 whole-query names froms None tokens d = tt
 whole-query names froms (Some f) tokens d = query names froms d
 
-behind-head : {ns : List (List ℕ)} {ps : List FromPart} {xs ys : List Piece} → SpellsNames ns xs → SpellsParts ps ys → (tokens : List Piece) →
+behind-head : {ns : List (List ℕ)} {ps : List FromPart} {xs ys : List Piece} → SpellsNames ns xs → SpellsFromParts ps ys → (tokens : List Piece) →
     QueryIf (parsed (Within ns ps ([], Want)) tokens) (RETRIEVE ∷ (xs ++ FROM ∷ (ys ++ WHERE ∷ tokens)))
 behind-head {ns = ns} {ps = ps} names froms tokens =
     rw (parsed-Within ns ps [] Want tokens) (whole-query names froms (body_parsed [] Want tokens) tokens

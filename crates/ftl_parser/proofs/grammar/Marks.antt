@@ -1,6 +1,6 @@
 -- For this crate and for the crates above: the marks of a derivation are those that the tokens alone tell, and its
 -- names and texts are those among the tokens.
-use Rattle.ftl_parser.proofs.Names.{◌≡◌, ℕ, ℤ, Bool, false, List, [], ◌∷◌, ◌++◌, Option, position, IsTrue, refl, sym, ap, ◌∙◌, append_assoc, append-nil, map-append, Coming, Signed, FromPart, Tree, QueryTree, Piece, FROM, WHERE, AND, OR, UNTIL, CLOSE, CLOSE_SQUARE, COMMA, PLUS, MINUS, STAR, COMPARISON, NAME, NUMBER, Times, Literal, Radius, SpellsRef, ref_name, ref_attr, ref_part, ref_time, SpellsFactor, factor_number, factor_times, factor_text, factor_ref, SpellsTerm, term_first, term_minus_first, term_plus, term_minus, SpellsNum, num_plain, num_minus, SpellsNames, names_one, names_more, SpellsParts, parts_one, parts_more, SpellsAtom, atom_compare, atom_inside, atom_outside, atom_dist, atom_sphere, Level, Spells, formula_conj, formula_or, conj_chain, conj_and, chain_unary, chain_until, until_plain, until_within, until_after, unary_prefix, unary_bounded, unary_assign, unary_brackets, unary_truth, unary_atom, SpellsQuery, query, unfit, clear, factor_marks, term_marks, num_marks, atom_marks, marks, query_marks, first_unfit, scan, place_before}
+use Rattle.ftl_parser.proofs.Names.{◌≡◌, ℕ, ℤ, Bool, false, List, [], ◌∷◌, ◌++◌, Option, position, IsTrue, refl, sym, ap, ◌∙◌, append_assoc, append-nil, map-append, Coming, Signed, FromPart, Tree, QueryTree, Piece, FROM, WHERE, AND, OR, UNTIL, CLOSE, CLOSE_SQUARE, COMMA, PLUS, MINUS, STAR, COMPARISON, NAME, NUMBER, Times, Literal, Radius, SpellsRef, ref_name, ref_attr, ref_part, ref_time, SpellsFactor, factor_number, factor_times, factor_text, factor_ref, SpellsTerm, term_first, term_minus_first, term_plus, term_minus, SpellsNum, num_plain, num_minus, SpellsNames, names_one, names_more, SpellsFromParts, parts_one, parts_more, SpellsAtom, atom_compare, atom_inside, atom_outside, atom_dist, atom_sphere, Level, Spells, formula_conj, formula_or, conj_chain, conj_and, chain_unary, chain_until, until_plain, until_within, until_after, unary_prefix, unary_bounded, unary_assign, unary_brackets, unary_truth, unary_atom, SpellsQuery, query, unfit, clear, factor_marks, term_marks, num_marks, atom_marks, marks, query_marks, first_unfit, scan, place_before}
 use Rattle.fixed_point.specs.declared.variants.UntilForm.TheVariants as untils
 use Rattle.ftl_parser.specs.declared.scan.Coming.TheVariants as comings
 use Rattle.ftl_parser.specs.declared.tree.Atom as atom_type
@@ -28,7 +28,7 @@ pub scan-names : {ns : List (List ℕ)} {xs : List Piece} → SpellsNames ns xs 
 scan-names names_one c rest = refl
 scan-names (names_more {xs = xs} n d) c rest = clear-more c xs (COMMA ∷ NAME n ∷ []) rest (scan-names d c (COMMA ∷ NAME n ∷ rest))
 
-pub scan-parts : {ps : List FromPart} {xs : List Piece} → SpellsParts ps xs → (c : Coming) (rest : List Piece) → scan c (xs ++ rest)
+pub scan-parts : {ps : List FromPart} {xs : List Piece} → SpellsFromParts ps xs → (c : Coming) (rest : List Piece) → scan c (xs ++ rest)
     ≡ clear xs ++ scan comings.Factor rest
 scan-parts parts_one c rest = refl
 scan-parts (parts_more {xs = xs} k v d) c rest = clear-more c xs (COMMA ∷ NAME k ∷ NAME v ∷ []) rest (scan-parts d c (COMMA ∷ NAME k ∷ NAME v ∷ rest))

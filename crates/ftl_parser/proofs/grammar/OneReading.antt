@@ -1,10 +1,10 @@
 -- Tokens that are read as a query are read as no other, and in no other way.
-use Rattle.ftl_parser.proofs.Names.{◌≡◌, ℕ, List, refl, sym, ap, ◌∙◌, none-some, ParseFault, QueryTree, Lexeme, pieces, has_long, first_too_large, Explains, Reads, HasUnfit, ReadsOneQuery}
+use Rattle.ftl_parser.proofs.Names.{◌≡◌, ℕ, List, refl, sym, ap, ◌∙◌, none-some, ParseFault, QueryTree, Lexeme, pieces, has_long, first_too_large, ExplainsTokens, ReadsQuery, HasUnfit, ReadsOneQuery}
 use Rattle.ftl_parser.specs.declared.fault.ParseFault.TheVariants as faults
 use Rattle.ftl_parser.proofs.grammar.Drives.{one_query}
 use Rattle.ftl_parser.proofs.grammar.Marks.{one_first_unfit}
 
-only_memory : (from : ℕ) (tokens : List Lexeme) (q : QueryTree) → Reads tokens q → (fault : ParseFault) → Explains from tokens fault → fault ≡ faults.NoMemory
+only_memory : (from : ℕ) (tokens : List Lexeme) (q : QueryTree) → ReadsQuery tokens q → (fault : ParseFault) → ExplainsTokens from tokens fault → fault ≡ faults.NoMemory
 only_memory from tokens q read (faults.BadSyntax place) why = absurd (why.2.none q read.spelled)
 only_memory from tokens q read (faults.NumberRange place) why =
     let unfit : HasUnfit (pieces tokens) why.0 = why.2 in

@@ -1,5 +1,5 @@
 -- For this crate and for the crates above: names, texts and terms of a query stand in its tokens in the same order.
-use Rattle.ftl_parser.proofs.Names.{◌≡◌, ℕ, ℤ, true, false, List, [], ◌∷◌, ◌++◌, append_assoc, append-nil, Option, refl, sym, ap, ◌∙◌, subst, flat_map, flat_map-append, UntilForm, Prefix, Signed, Term, FromPart, Tree, QueryTree, Piece, RETRIEVE, FROM, WHERE, AND, OR, PREFIX, BOUNDED, OPEN, CLOSE, OPEN_SQUARE, CLOSE_SQUARE, COMMA, PLUS, MINUS, ARROW, COMPARISON, NAME, NUMBER, SpellsUntil, SpellsRef, ref_name, ref_attr, ref_part, ref_time, SpellsFactor, factor_number, factor_times, factor_text, factor_ref, SpellsTerm, term_first, term_minus_first, term_plus, term_minus, SpellsNum, num_plain, num_minus, SpellsNames, names_one, names_more, SpellsParts, parts_one, parts_more, SpellsAtom, atom_compare, atom_inside, atom_outside, atom_dist, atom_sphere, Level, Spells, formula_conj, formula_or, conj_chain, conj_and, chain_unary, chain_until, until_plain, until_within, until_after, unary_prefix, unary_bounded, unary_assign, unary_brackets, unary_truth, unary_atom, SpellsQuery, query, prefixed, term_of, signed, from_part}
+use Rattle.ftl_parser.proofs.Names.{◌≡◌, ℕ, ℤ, true, false, List, [], ◌∷◌, ◌++◌, append_assoc, append-nil, Option, refl, sym, ap, ◌∙◌, subst, flat_map, flat_map-append, UntilForm, Prefix, Signed, Term, FromPart, Tree, QueryTree, Piece, RETRIEVE, FROM, WHERE, AND, OR, PREFIX, BOUNDED, OPEN, CLOSE, OPEN_SQUARE, CLOSE_SQUARE, COMMA, PLUS, MINUS, ARROW, COMPARISON, NAME, NUMBER, SpellsUntil, SpellsRef, ref_name, ref_attr, ref_part, ref_time, SpellsFactor, factor_number, factor_times, factor_text, factor_ref, SpellsTerm, term_first, term_minus_first, term_plus, term_minus, SpellsNum, num_plain, num_minus, SpellsNames, names_one, names_more, SpellsFromParts, parts_one, parts_more, SpellsAtom, atom_compare, atom_inside, atom_outside, atom_dist, atom_sphere, Level, Spells, formula_conj, formula_or, conj_chain, conj_and, chain_unary, chain_until, until_plain, until_within, until_after, unary_prefix, unary_bounded, unary_assign, unary_brackets, unary_truth, unary_atom, SpellsQuery, query, prefixed, term_of, signed, from_part}
 use Rattle.ftl_parser.specs.declared.prefix.Prefix.TheVariants as prefixes
 use Rattle.ftl_parser.specs.declared.tree.Atom as atom_type
 use Rattle.ftl_parser.specs.declared.tree.Unit as unit_type
@@ -52,7 +52,7 @@ module _ {R : Type 0} (l : Lists R) where
   lists-names names_one = refl
   lists-names (names_more {ns = ns} {xs = xs} n d) = one_more l.name ns n xs (COMMA ∷ NAME n ∷ []) (lists-names d) (name_alone n)
 
-  lists-parts : {ps : List FromPart} {xs : List Piece} → SpellsParts ps xs → flat_map (part_lists l) ps ≡ token_lists l xs
+  lists-parts : {ps : List FromPart} {xs : List Piece} → SpellsFromParts ps xs → flat_map (part_lists l) ps ≡ token_lists l xs
   lists-parts (parts_one {c = c} {v = v}) = append-nil (part_lists l (from_part c v)) ∙ two_names c v
   lists-parts (parts_more {ps = ps} {xs = xs} c v d) = one_more (part_lists l) ps (from_part c v) xs (COMMA ∷ NAME c ∷ NAME v ∷ [])
       (lists-parts d) (two_names c v)

@@ -23,11 +23,11 @@ use Rattle.ftl_parser.specs.declared.state.Factor.TheVariants as factors
 use Rattle.ftl_parser.specs.declared.state.Spatial.{Spatial}
 use Rattle.ftl_parser.specs.declared.state.Spatial.TheVariants as spatials
 use Rattle.ftl_parser.specs.Tree.{Tree, QueryTree}
-use Rattle.ftl_parser.specs.Number.{ticks, literal, radius}
+use Rattle.ftl_parser.specs.Number.{ticks, literal, radius_of}
 use Rattle.ftl_parser.specs.Piece.{Piece, RETRIEVE, FROM, WHERE, TRUTH, TIME, PART, OPEN, CLOSE, CLOSE_SQUARE, COMMA, ARROW, COMPARISON, NAME, NUMBER}
 use Rattle.ftl_parser.specs.Grammar.{prefixed, signed, term_of, from_part}
-use Rattle.ftl_parser.specs.inner.Machine.{Frame, Bracket, OrWith, AndWith, UntilWith, PrefixedBy, BoundedBy, Assigning, Phase, Want, Have, Reach, Ticks, Variable, Arrow, InTerm, InSpatial, State, Heading, Within, start, step, parsed, taken}
-use Rattle.ftl_parser.specs.Fault.{IsToken, Begins, IsStuckAt}
+use Rattle.ftl_parser.specs.inner.Machine.{Frame, Bracket, OrWith, AndWith, UntilWith, PrefixedBy, BoundedBy, Assigning, Phase, Want, Have, Reach, Ticks, Variable, Arrow, InTerm, InSpatial, State, Heading, Within, start, step_by_token, parsed, tokens_taken}
+use Rattle.ftl_parser.specs.Fault.{IsToken, BeginsQuery, IsStuckAt}
 use Rattle.ftl_parser.proofs.grammar.Bodies.{body_parsed, query_with, term_behind, stop, cuts, stop-cuts, parsed-Within}
 use Rattle.ftl_parser.proofs.grammar.Drives.{fills, whole-ends, number-ends, alone-ends, attr-ends, right-ends, drives_query}
 use Rattle.ftl_parser.proofs.grammar.Found.{found_query}
@@ -295,8 +295,8 @@ spatial-completes (spatials.PairClose w o p) s = pair-completes w s o p
 spatial-completes (spatials.DistOp o n) s = have-completes s (Shape.Atom (atoms.Dist o n ops.Lt (literal digit)))
 spatial-completes (spatials.DistNum o n op) s = have-completes s (Shape.Atom (atoms.Dist o n op (literal digit)))
 spatial-completes (spatials.DistMinus o n op) s = have-completes s (Shape.Atom (atoms.Dist o n op (neg_ℤ (literal digit))))
-spatial-completes spatials.SphereOpen s = have-completes s (Shape.Atom (atoms.Sphere (radius digit) (word ∷ [])))
-spatial-completes spatials.SphereRadius s = have-completes s (Shape.Atom (atoms.Sphere (radius digit) (word ∷ [])))
+spatial-completes spatials.SphereOpen s = have-completes s (Shape.Atom (atoms.Sphere (radius_of digit) (word ∷ [])))
+spatial-completes spatials.SphereRadius s = have-completes s (Shape.Atom (atoms.Sphere (radius_of digit) (word ∷ [])))
 spatial-completes (spatials.SphereComma r) s = have-completes s (Shape.Atom (atoms.Sphere r (word ∷ [])))
 spatial-completes (spatials.SphereName r ns) s = have-completes s (Shape.Atom (atoms.Sphere r (ns ++ word ∷ [])))
 spatial-completes (spatials.SphereNames r ns) s = have-completes s (Shape.Atom (atoms.Sphere r ns))
@@ -373,21 +373,21 @@ completes (Within ns ps b) =
     (query_with ns ps r.0, parsed-Within ns ps b.0 b.1 (body_completion b.0 b.1) ∙ ap (option_map (query_with ns ps)) r.1)
 
 -- the machine stops for good after the tokens that it takes
-pub parsed-take : (x : State) (xs : List Piece) (n : ℕ) (rest : List Piece) → taken x xs < n → n ≤ length xs → parsed x (take n xs ++ rest) ≡ None
+pub parsed-take : (x : State) (xs : List Piece) (n : ℕ) (rest : List Piece) → tokens_taken x xs < n → n ≤ length xs → parsed x (take n xs ++ rest) ≡ None
 parsed-take x [] n rest past within = absurd (omega arith)
 parsed-take x (p ∷ xs) zero rest past within = absurd (omega arith)
-parsed-take x (p ∷ xs) (suc n) rest past within = goes (step x p) past (λ y h. parsed-take y xs n rest h (omega arith))
+parsed-take x (p ∷ xs) (suc n) rest past within = goes (step_by_token x p) past (λ y h. parsed-take y xs n rest h (omega arith))
   where
-    goes : (o : Option State) → option_map_or (λ y. suc (taken y xs)) o 0 < suc n → ((y : State) → taken y xs < n → parsed y (take n xs ++ rest) ≡ None) →
+    goes : (o : Option State) → option_map_or (λ y. suc (tokens_taken y xs)) o 0 < suc n → ((y : State) → tokens_taken y xs < n → parsed y (take n xs ++ rest) ≡ None) →
         option_and_then (λ y. parsed y (take n xs ++ rest)) o ≡ None
     goes None h later = refl
     goes (Some y) h later = later y (omega arith)
 
-pub taken-length : (x : State) (xs : List Piece) → taken x xs ≤ length xs
+pub taken-length : (x : State) (xs : List Piece) → tokens_taken x xs ≤ length xs
 taken-length x [] = omega arith
-taken-length x (p ∷ xs) = goes (step x p) (λ y. taken-length y xs)
+taken-length x (p ∷ xs) = goes (step_by_token x p) (λ y. taken-length y xs)
   where
-    goes : (o : Option State) → ((y : State) → taken y xs ≤ length xs) → option_map_or (λ y. suc (taken y xs)) o 0 ≤ suc (length xs)
+    goes : (o : Option State) → ((y : State) → tokens_taken y xs ≤ length xs) → option_map_or (λ y. suc (tokens_taken y xs)) o 0 ≤ suc (length xs)
     goes None later = omega arith
     goes (Some y) later = omega (arith, later y)
 
@@ -396,26 +396,26 @@ abbrev Reaches : State → List Piece → Type 0
 Reaches x tokens = (rest : List Piece) × AreTokens rest × (q : QueryTree) × (parsed x (tokens ++ rest) ≡ Some q)
 
 -- the tokens that are taken are the beginning of a query
-reaches : (x : State) (xs : List Piece) → Reaches x (take (taken x xs) xs)
+reaches : (x : State) (xs : List Piece) → Reaches x (take (tokens_taken x xs) xs)
 reaches x [] = let r = completes x in (completion x, completion-tokens x, r.0, r.1)
-reaches x (p ∷ xs) = goes (step x p) refl (λ y. reaches y xs)
+reaches x (p ∷ xs) = goes (step_by_token x p) refl (λ y. reaches y xs)
   where
-    goes : (o : Option State) → step x p ≡ o → ((y : State) → Reaches y (take (taken y xs) xs)) →
-        Reaches x (take (option_map_or (λ y. suc (taken y xs)) o 0) (p ∷ xs))
+    goes : (o : Option State) → step_by_token x p ≡ o → ((y : State) → Reaches y (take (tokens_taken y xs) xs)) →
+        Reaches x (take (option_map_or (λ y. suc (tokens_taken y xs)) o 0) (p ∷ xs))
     goes None e later = let r = completes x in (completion x, completion-tokens x, r.0, r.1)
     goes (Some y) e later =
         let r = later y in
-        (r.0, r.1, r.2, ap (option_and_then (λ z. parsed z (take (taken y xs) xs ++ r.0))) e ∙ r.3)
+        (r.0, r.1, r.2, ap (option_and_then (λ z. parsed z (take (tokens_taken y xs) xs ++ r.0))) e ∙ r.3)
 
-pub begins-taken : (xs : List Piece) → Begins (take (taken start xs) xs)
-begins-taken xs = let r = reaches start xs in (r.0, r.1, r.2, found_query (take (taken start xs) xs ++ r.0) r.2 r.3)
+pub begins-taken : (xs : List Piece) → BeginsQuery (take (tokens_taken start xs) xs)
+begins-taken xs = let r = reaches start xs in (r.0, r.1, r.2, found_query (take (tokens_taken start xs) xs ++ r.0) r.2 r.3)
 
 -- no value is none and some value
 not-both : (o : Option QueryTree) (q : QueryTree) → o ≡ None → o ≡ Some q → ⊥
 not-both o q e f = absurd (cc (e, f))
 
 -- where the tokens are no query, the machine is stuck at the right place
-pub stuck : (xs : List Piece) → parsed start xs ≡ None → IsStuckAt xs (taken start xs)
+pub stuck : (xs : List Piece) → parsed start xs ≡ None → IsStuckAt xs (tokens_taken start xs)
 stuck xs h = record {
   none = λ q d. not-both (parsed start xs) q h (drives_query d);
   within = taken-length start xs;

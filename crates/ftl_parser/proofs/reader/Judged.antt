@@ -1,5 +1,5 @@
 -- What is answered of tokens, from what the machine, the scan and the sizes say.
-use Rattle.ftl_parser.proofs.Names.{◌≡◌, ℕ, ◌+◌, List, Option, None, Some, option_map, Err, refl, sym, ap, ◌∙◌, Lexeme, ParseFault, QueryTree, Piece, pieces, has_long, SpellsQuery, first_unfit, first_too_large, start, parsed, taken, scan, first_from, Explains, Reads}
+use Rattle.ftl_parser.proofs.Names.{◌≡◌, ℕ, ◌+◌, List, Option, None, Some, option_map, Err, refl, sym, ap, ◌∙◌, Lexeme, ParseFault, QueryTree, Piece, pieces, has_long, SpellsQuery, first_unfit, first_too_large, start, parsed, tokens_taken, scan, first_from, ExplainsTokens, ReadsQuery}
 use Rattle.ftl_parser.specs.declared.fault.ParseFault.TheVariants as faults
 use Rattle.ftl_parser.specs.declared.fault.Size.{Size}
 use Rattle.ftl_parser.specs.declared.scan.Coming.TheVariants as comings
@@ -19,8 +19,8 @@ map-some f None y h = absurd (cc h)
 map-some f (Some x) y h = (x, refl, cc h)
 
 -- tokens that are stuck
-pub syntax-explained : (from : ℕ) (tokens : List Lexeme) (e : ParseFault) → Parses from (pieces tokens) (Err e) → Explains from tokens e
-syntax-explained from tokens (faults.BadSyntax place) h = (taken start (pieces tokens), h.1, stuck (pieces tokens) h.0)
+pub syntax-explained : (from : ℕ) (tokens : List Lexeme) (e : ParseFault) → Parses from (pieces tokens) (Err e) → ExplainsTokens from tokens e
+syntax-explained from tokens (faults.BadSyntax place) h = (tokens_taken start (pieces tokens), h.1, stuck (pieces tokens) h.0)
 syntax-explained from tokens (faults.NumberRange place) h = absurd h
 syntax-explained from tokens (faults.TooLarge size) h = absurd h
 syntax-explained from tokens faults.NoMemory h = tt
@@ -37,18 +37,18 @@ module _ (from : ℕ) (tokens : List Lexeme) (q : QueryTree) (is : parsed start 
   fitting fit = map-none (λ m. from + m) (first_unfit spelled) (sym (unfit-spelled from (pieces tokens) q spelled) ∙ fit)
 
   -- a number that doesn't fit
-  pub unfit-explained : (place : ℕ) → first_from from (scan comings.Factor (pieces tokens)) ≡ Some place → Explains from tokens (faults.NumberRange place)
+  pub unfit-explained : (place : ℕ) → first_from from (scan comings.Factor (pieces tokens)) ≡ Some place → ExplainsTokens from tokens (faults.NumberRange place)
   unfit-explained place k =
       let (n, unfit, at) = map-some (λ m. from + m) (first_unfit spelled) place (sym (unfit-spelled from (pieces tokens) q spelled) ∙ k) in
       (n, sym at, record { q = q; spelled = spelled; unfit = unfit })
 
   -- a size that passes its limit
   pub large-explained : (size : Size) → first_from from (scan comings.Factor (pieces tokens)) ≡ None →
-      first_too_large (has_long tokens) q ≡ Some size → Explains from tokens (faults.TooLarge size)
+      first_too_large (has_long tokens) q ≡ Some size → ExplainsTokens from tokens (faults.TooLarge size)
   large-explained size fit large = (q, spelled, fitting fit, large)
 
   -- a query that is read
-  pub reads : first_from from (scan comings.Factor (pieces tokens)) ≡ None → first_too_large (has_long tokens) q ≡ None → Reads tokens q
+  pub reads : first_from from (scan comings.Factor (pieces tokens)) ≡ None → first_too_large (has_long tokens) q ≡ None → ReadsQuery tokens q
   reads fit small = record { spelled = spelled; fit = fitting fit; small = small }
 
 pub ruleset judgements = (syntax-explained, unfit-explained, large-explained, reads)

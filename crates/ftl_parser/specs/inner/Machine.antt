@@ -24,18 +24,18 @@ pub use Rattle.ftl_parser.specs.declared.phase.Phase.{Phase}
 pub use Rattle.ftl_parser.specs.declared.phase.Phase.TheVariants.{Want, Have, Reach, Ticks, Variable, Arrow, InTerm, InSpatial}
 use Rattle.ftl_parser.specs.Tree.{Tree, QueryTree}
 use Rattle.ftl_parser.specs.Piece.{Piece, RETRIEVE, FROM, WHERE, AND, OR, TRUTH, PREFIX, BOUNDED, UNTIL, INSIDE, OUTSIDE, DIST, SPHERE, TIME, PART, OPEN, CLOSE, OPEN_SQUARE, CLOSE_SQUARE, COMMA, POINT, PLUS, MINUS, STAR, ARROW, COMPARISON, NAME, NUMBER, TEXT}
-use Rattle.ftl_parser.specs.Number.{ticks, times, literal, radius}
+use Rattle.ftl_parser.specs.Number.{ticks, times, literal, radius_of}
 use Rattle.ftl_parser.specs.Grammar.{prefixed, term_of, signed, from_part}
 
 -- how strongly a frame binds
-abbrev pub rank : Frame → ℕ
-rank Bracket = 0
-rank (OrWith f) = 1
-rank (AndWith f) = 2
-rank (UntilWith form c f) = 3
-rank (PrefixedBy w) = 4
-rank (BoundedBy form c) = 4
-rank (Assigning v t) = 4
+abbrev pub precedence : Frame → ℕ
+precedence Bracket = 0
+precedence (OrWith f) = 1
+precedence (AndWith f) = 2
+precedence (UntilWith form c f) = 3
+precedence (PrefixedBy w) = 4
+precedence (BoundedBy form c) = 4
+precedence (Assigning v t) = 4
 
 -- the formula with this one on its right
 abbrev pub filled : Frame → Tree → Tree
@@ -101,17 +101,17 @@ lengthened (factors.DottedTwice minus k o a) (PART s) = Some (factors.Whole minu
 lengthened _ _ = None
 
 -- the factor, where it may end here
-abbrev pub whole : Factor → Option Signed
-whole (factors.Number minus value k) = Some (signed minus None (units.Literal value))
-whole (factors.Alone minus k o) = Some (signed minus k (units.Alone o))
-whole (factors.Attr minus k o a) = Some (signed minus k (units.Attr o a))
-whole (factors.Whole minus k u) = Some (signed minus k u)
-whole _ = None
+abbrev pub whole_factor : Factor → Option Signed
+whole_factor (factors.Number minus value k) = Some (signed minus None (units.Literal value))
+whole_factor (factors.Alone minus k o) = Some (signed minus k (units.Alone o))
+whole_factor (factors.Attr minus k o a) = Some (signed minus k (units.Attr o a))
+whole_factor (factors.Whole minus k u) = Some (signed minus k u)
+whole_factor _ = None
 
 -- the formula with all frames from this rank on that wait for it, and what is left of the stack
 abbrev pub reduced : ℕ → Tree → List Frame → Tree × List Frame
 reduced r f [] = (f, [])
-reduced r f (w ∷ s) = if nat_le r (rank w) then reduced r (filled w f) s else (f, w ∷ s)
+reduced r f (w ∷ s) = if nat_le r (precedence w) then reduced r (filled w f) s else (f, w ∷ s)
 
 -- a closing bracket
 abbrev pub closed : Tree × List Frame → Option Body
@@ -154,7 +154,7 @@ longer_or s place fs None later = later
 
 -- a token in a term: it makes the last factor longer, or else comes after it
 abbrev pub term_step : List Frame → TermPlace → List Signed → Factor → Piece → Option Body
-term_step s place fs last p = longer_or s place fs (lengthened last p) (behind_factor s place fs (whole last) p)
+term_step s place fs last p = longer_or s place fs (lengthened last p) (behind_factor s place fs (whole_factor last) p)
 
 abbrev pub spatial_step : Spatial → Piece → Option Phase
 spatial_step (spatials.PairOpen w) OPEN = Some (InSpatial (spatials.PairFirst w))
@@ -169,7 +169,7 @@ spatial_step (spatials.DistNum o n op) (NUMBER c) = Some (Have (Shape.Atom (atom
 spatial_step (spatials.DistNum o n op) MINUS = Some (InSpatial (spatials.DistMinus o n op))
 spatial_step (spatials.DistMinus o n op) (NUMBER c) = Some (Have (Shape.Atom (atoms.Dist o n op (neg_ℤ (literal c)))))
 spatial_step spatials.SphereOpen OPEN = Some (InSpatial spatials.SphereRadius)
-spatial_step spatials.SphereRadius (NUMBER r) = Some (InSpatial (spatials.SphereComma (radius r)))
+spatial_step spatials.SphereRadius (NUMBER r) = Some (InSpatial (spatials.SphereComma (radius_of r)))
 spatial_step (spatials.SphereComma r) COMMA = Some (InSpatial (spatials.SphereName r []))
 spatial_step (spatials.SphereName r ns) (NAME n) = Some (InSpatial (spatials.SphereNames r (ns ++ n ∷ [])))
 spatial_step (spatials.SphereNames r ns) COMMA = Some (InSpatial (spatials.SphereName r ns))
@@ -203,42 +203,42 @@ body_step s (Arrow v) _ = None
 body_step s (InTerm place fs last) p = term_step s place fs last p
 body_step s (InSpatial x) p = option_map (λ phase. (s, phase)) (spatial_step x p)
 
-abbrev pub step : State → Piece → Option State
-step (Heading h ns ps) p = heading_step h ns ps p
-step (Within ns ps b) p = option_map (Within ns ps) (body_step b.0 b.1 p)
+abbrev pub step_by_token : State → Piece → Option State
+step_by_token (Heading h ns ps) p = heading_step h ns ps p
+step_by_token (Within ns ps b) p = option_map (Within ns ps) (body_step b.0 b.1 p)
 
 -- the formula, where all that was begun is ended
-abbrev pub alone : Tree × List Frame → Option Tree
-alone (f, []) = Some f
-alone (f, w ∷ s) = None
+abbrev pub ended_formula : Tree × List Frame → Option Tree
+ended_formula (f, []) = Some f
+ended_formula (f, w ∷ s) = None
 
 -- the formula whose last atom is this comparison, where its last factor is whole
 abbrev pub compared : List Frame → Term → Op → List Signed → Option Signed → Option Tree
-compared s t op fs (Some u) = alone (reduced 1 (Shape.Atom (atoms.Compare t op (term_of (fs ++ u ∷ [])))) s)
+compared s t op fs (Some u) = ended_formula (reduced 1 (Shape.Atom (atoms.Compare t op (term_of (fs ++ u ∷ [])))) s)
 compared s t op fs None = None
 
 -- the formula, where the tokens may end here
 abbrev pub body_end : List Frame → Phase → Option Tree
-body_end s (Have f) = alone (reduced 1 f s)
-body_end s (InTerm (places.Right t op) fs last) = compared s t op fs (whole last)
+body_end s (Have f) = ended_formula (reduced 1 f s)
+body_end s (InTerm (places.Right t op) fs last) = compared s t op fs (whole_factor last)
 body_end s _ = None
 
 -- the query, where the tokens may end here
-abbrev pub ended : State → Option QueryTree
-ended (Within ns ps b) = option_map (λ f. record { targets = ns; from = ps; formula = f }) (body_end b.0 b.1)
-ended (Heading h ns ps) = None
+abbrev pub ended_query : State → Option QueryTree
+ended_query (Within ns ps b) = option_map (λ f. record { targets = ns; from = ps; formula = f }) (body_end b.0 b.1)
+ended_query (Heading h ns ps) = None
 
 -- the query that the tokens are, from a state on
 abbrev pub parsed : State → List Piece → Option QueryTree
-parsed x [] = ended x
-parsed x (p ∷ tokens) = option_and_then (λ y. parsed y tokens) (step x p)
+parsed x [] = ended_query x
+parsed x (p ∷ tokens) = option_and_then (λ y. parsed y tokens) (step_by_token x p)
 
 -- the state after some tokens
 abbrev pub run : State → List Piece → Option State
 run x [] = Some x
-run x (p ∷ tokens) = option_and_then (λ y. run y tokens) (step x p)
+run x (p ∷ tokens) = option_and_then (λ y. run y tokens) (step_by_token x p)
 
 -- how many tokens are taken
-abbrev pub taken : State → List Piece → ℕ
-taken x [] = 0
-taken x (p ∷ tokens) = option_map_or (λ y. suc (taken y tokens)) (step x p) 0
+abbrev pub tokens_taken : State → List Piece → ℕ
+tokens_taken x [] = 0
+tokens_taken x (p ∷ tokens) = option_map_or (λ y. suc (tokens_taken y tokens)) (step_by_token x p) 0

@@ -21,8 +21,8 @@ abbrev pub under : Sizes → Sizes
 under s = record { nodes = saturated (s.nodes + 1); depth = saturated (s.depth + 1); nesting = s.nesting; objects = s.objects; factors = s.factors }
 
 -- the sizes of an assignment of a term with so many factors
-abbrev pub assigned : Sizes → ℕ → Sizes
-assigned s factors = record {
+abbrev pub assignment_sizes : Sizes → ℕ → Sizes
+assignment_sizes s factors = record {
   nodes = saturated (s.nodes + 1);
   depth = saturated (s.depth + 1);
   nesting =
@@ -32,8 +32,8 @@ assigned s factors = record {
 }
 
 -- the sizes of an operator on two formulas
-abbrev pub joined : Sizes → Sizes → Sizes
-joined s t = record {
+abbrev pub operator_sizes : Sizes → Sizes → Sizes
+operator_sizes s t = record {
   nodes = saturated (saturated (s.nodes + t.nodes) + 1);
   depth = saturated (max s.depth t.depth + 1);
   nesting = max s.nesting t.nesting;

@@ -11,7 +11,7 @@ use Rattle.ftl_parser.specs.declared.piece.Piece as piece_type
 use Rattle.ftl_parser.specs.declared.piece.Piece.TheVariants as pieces
 use Rattle.ftl_parser.specs.Tree.{QueryTree}
 use Rattle.ftl_parser.specs.Words.{short_word}
-use Rattle.ftl_parser.specs.inner.Machine.{Frame, rank, Phase, Have, Reach, InTerm, InSpatial, Body, State, Heading, Within, term_step, factor_ended, body_step}
+use Rattle.ftl_parser.specs.inner.Machine.{Frame, precedence, Phase, Have, Reach, InTerm, InSpatial, Body, State, Heading, Within, term_step, factor_ended, body_step}
 use Rattle.ftl_parser.specs.Piece.{Piece, RETRIEVE, FROM, WHERE, AND, OR, TRUTH, PREFIX, BOUNDED, UNTIL, INSIDE, OUTSIDE, DIST, SPHERE, TIME, PART, OPEN, CLOSE, OPEN_SQUARE, CLOSE_SQUARE, COMMA, POINT, PLUS, MINUS, STAR, ARROW, COMPARISON, NAME, NUMBER, TEXT, WORD}
 
 -- a token
@@ -54,7 +54,7 @@ stack_of = fold (λ s w. w ∷ s) []
 -- the topmost frame, if there is one, binds less
 abbrev pub StaysBelow : ℕ → List Frame → Type 0
 StaysBelow least [] = Unit {0}
-StaysBelow least (w ∷ s) = rank w < least
+StaysBelow least (w ∷ s) = precedence w < least
 
 -- the factor is at the end of the others now, where there is one
 abbrev pub AddsWhole : List Signed → List Signed → Option Signed → Bool → Type 0
@@ -106,11 +106,11 @@ abbrev pub SomeIsOnTop : List Frame → List Frame → Type 0
 SomeIsOnTop old new = (w : Frame) × (old ≡ w ∷ new)
 
 -- where a formula stands in its reading, if the token was taken
-abbrev pub taken_of : Bool → List Frame → Phase → Option Body
-taken_of taken s phase = if taken then Some (s, phase) else None
+abbrev pub body_if_taken : Bool → List Frame → Phase → Option Body
+body_if_taken taken s phase = if taken then Some (s, phase) else None
 
 abbrev pub body_of : Bool → List Frame → Phase → Option Body
-body_of taken stack phase = taken_of taken (stack_of stack) phase
+body_of taken stack phase = body_if_taken taken (stack_of stack) phase
 
 -- a token in a term
 abbrev pub in_term : List Frame → Phase → Piece → Option Body
@@ -134,8 +134,8 @@ kept_view kept (states.Heading h) = Heading h kept.targets kept.from
 kept_view kept (states.Within phase) = Within kept.targets kept.from (stack_of kept.stack.items, phase)
 
 -- the state, if the token was taken
-abbrev pub state_of : Bool → Kept → state_type.State → Option State
-state_of taken kept state = if taken then Some (kept_view kept state) else None
+abbrev pub state_if_taken : Bool → Kept → state_type.State → Option State
+state_if_taken taken kept state = if taken then Some (kept_view kept state) else None
 
 abbrev pub spelled_view : Spelled → QueryTree
 spelled_view q = record { targets = q.targets; from = q.from; formula = q.formula }

@@ -1,12 +1,12 @@
 use Rattle.std.proofs.Common.{◌≡◌, ℕ, List, true, ap, subst, ◌∙◌}
 use Rattle.std.specs.List.{list_all}
 use Rattle.tick_set.specs.Runs.{spans_have}
-use Rattle.formula.specs.Tree.{query_view}
+use Rattle.formula.specs.Tree.{resolved_view}
 use Rattle.relation.specs.Frames.{Frame}
 use Rattle.formula.specs.Resolved.{are_distinct}
 use Rattle.relation.specs.Key.{has_id}
 use Rattle.relation.specs.Projection.{IsPicked}
-use Rattle.relation.specs.Rows.{has}
+use Rattle.relation.specs.Rows.{table_has}
 use Rattle.answers.specs.Told.{told_rows}
 use Rattle.answers.proofs.AnswerLemmas.{AreInOrder, inside_domains, row_there, rows_are_the_answer}
 use Rattle.answers.proofs.QueryLemmas.{distinct_targets, known_targets, targets_among}
@@ -16,15 +16,15 @@ pub over_targets-requires-clause-among : goal.over_targets-requires-clause-among
 over_targets-requires-clause-among c =
     ap (λ (us : List ℕ). list_all (has_id us) c.items.result.now) c.requires.vars
     ∙ ap (list_all _) c.items.ensures
-    ∙ targets_among (query_view c.args.q.now) c.requires.resolved
+    ∙ targets_among (resolved_view c.args.q.now) c.requires.resolved
 
 pub over_targets-requires-clause-distinct : goal.over_targets-requires-clause-distinct
 over_targets-requires-clause-distinct c =
-    ap are_distinct c.items.ensures ∙ distinct_targets (query_view c.args.q.now) c.requires.resolved
+    ap are_distinct c.items.ensures ∙ distinct_targets (resolved_view c.args.q.now) c.requires.resolved
 
 pub returns : goal.returns
 returns c =
-    let q = query_view c.args.q.now in
+    let q = resolved_view c.args.q.now in
     let full = c.args.full in
     let rows = c.in_ok-rows.rows in
     let order : AreInOrder full = record {
@@ -49,6 +49,6 @@ returns c =
           (c.in_ok-rows.ensures.vars ∙ c.items.ensures)
           (ap (λ (f : Frame). f.domains) c.in_ok-rows.ensures.frame ∙ domains)
           c.in_ok-rows.ensures.all
-          (subst (λ (targets : List ℕ). (b : ℕ → ℕ) (t : ℕ) → has spans_have rows b t ≡ true → IsPicked spans_have full targets b t) c.items.ensures c.in_ok-rows.ensures.some)
+          (subst (λ (targets : List ℕ). (b : ℕ → ℕ) (t : ℕ) → table_has spans_have rows b t ≡ true → IsPicked spans_have full targets b t) c.items.ensures c.in_ok-rows.ensures.some)
           in_order;
     }

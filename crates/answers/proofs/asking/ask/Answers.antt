@@ -1,5 +1,5 @@
 use Rattle.std.proofs.Common.{◌≡◌, ℕ, ◌+◌, ◌-◌, List, ap, sym, subst, ◌∙◌}
-use Rattle.formula.specs.Tree.{query_view}
+use Rattle.formula.specs.Tree.{resolved_view}
 use Rattle.meaning.specs.Binding.{holds_full}
 use Rattle.object_store.specs.Contents.{catalog_of}
 use Rattle.relation.specs.Frames.{Frame, IsIn}
@@ -11,31 +11,31 @@ use Rattle.answers.proofs.ReadLemmas.{most_within, reads_within}
 use Rattle.answers.proofs.asking.ask.Goals as goal
 
 pub domains_of-requires : goal.domains_of-requires
-domains_of-requires g c = few_classes (query_view c.args.q.now) c.requires.resolved
+domains_of-requires g c = few_classes (resolved_view c.args.q.now) c.requires.resolved
 
 pub evaluate-requires-clause-domains : goal.evaluate-requires-clause-domains
 evaluate-requires-clause-domains g c =
-    subst (AreOfItsClasses (catalog_of c.args.store.now) (query_view c.args.q.now)) (sym c.in_ok-domains.ensures)
-    (domains_are_of_classes (catalog_of c.args.store.now) (query_view c.args.q.now))
+    subst (AreOfItsClasses (catalog_of c.args.store.now) (resolved_view c.args.q.now)) (sym c.in_ok-domains.ensures)
+    (domains_are_of_classes (catalog_of c.args.store.now) (resolved_view c.args.q.now))
 
 pub returns-clause-rows : goal.returns-clause-rows
 returns-clause-rows g c =
     let w = world_in c.args.store.now c.args.regions.now in
     let own : c.in_ok-full.full.domains ≡ c.in_ok-domains.domains = ap (λ (f : Frame). f.domains) c.in_ok-full.ensures.frame in
-    c.in_ok-answer.ensures.rows w (holds_full w (query_view c.args.q.now) c.args.w.hi) (own ∙ c.in_ok-domains.ensures)
+    c.in_ok-answer.ensures.rows w (holds_full w (resolved_view c.args.q.now) c.args.w.hi) (own ∙ c.in_ok-domains.ensures)
     (λ b is_in. c.in_ok-full.ensures.rows b (subst (λ (d : List (List ℕ)). IsIn d b) own is_in))
 
 pub returns-in_err-full-clause-most : goal.returns-in_err-full-clause-most
 returns-in_err-full-clause-most g c =
     most_within _ _ _ _ c.in_err-full.ensures.most
-    (reads_within (catalog_of c.args.store.now) (query_view c.args.q.now) _ (c.args.w.hi + 1 - c.args.w.lo) c.in_ok-domains.ensures)
+    (reads_within (catalog_of c.args.store.now) (resolved_view c.args.q.now) _ (c.args.w.hi + 1 - c.args.w.lo) c.in_ok-domains.ensures)
 
 pub returns-in_err-answer-clause-most : goal.returns-in_err-answer-clause-most
 returns-in_err-answer-clause-most g c =
     most_within _ _ _ _ c.in_ok-full.ensures.most
-    (reads_within (catalog_of c.args.store.now) (query_view c.args.q.now) _ (c.args.w.hi + 1 - c.args.w.lo) c.in_ok-domains.ensures)
+    (reads_within (catalog_of c.args.store.now) (resolved_view c.args.q.now) _ (c.args.w.hi + 1 - c.args.w.lo) c.in_ok-domains.ensures)
 
 pub returns-clause-most : goal.returns-clause-most
 returns-clause-most g c =
     most_within _ _ _ _ c.in_ok-full.ensures.most
-    (reads_within (catalog_of c.args.store.now) (query_view c.args.q.now) _ (c.args.w.hi + 1 - c.args.w.lo) c.in_ok-domains.ensures)
+    (reads_within (catalog_of c.args.store.now) (resolved_view c.args.q.now) _ (c.args.w.hi + 1 - c.args.w.lo) c.in_ok-domains.ensures)

@@ -2,7 +2,7 @@
 use Rattle.std.proofs.Common.{List, ℕ, sym, ap, subst}
 use Rattle.answers.specs.Objects.{AreOfItsClasses}
 use Rattle.formula.specs.Resolved.{IsResolved}
-use Rattle.formula.specs.Tree.{ResolvedQuery, query_view}
+use Rattle.formula.specs.Tree.{ResolvedQuery, resolved_view}
 use Rattle.history.specs.History.{History}
 use Rattle.meaning.specs.Agreement.{world_with}
 use Rattle.meaning.specs.Fits.{FitsItsClasses}
@@ -27,6 +27,6 @@ blurred-requires-clause-fits g c =
 pub blurred-requires-clause-domains : goal.blurred-requires-clause-domains
 blurred-requires-clause-domains g c =
     let catalog = catalog_of c.args.store.now in
-    subst (λ (d : List (List ℕ)). AreOfItsClasses catalog (query_view c.in_ok-query.query) d) (sym c.in_ok-domains.ensures)
+    subst (λ (d : List (List ℕ)). AreOfItsClasses catalog (resolved_view c.in_ok-query.query) d) (sym c.in_ok-domains.ensures)
     (subst (λ (q : ResolvedQuery). AreOfItsClasses catalog q car_and_post) (sym c.in_ok-query.ensures)
     (are_of_its_classes catalog c.args.atom (ap (λ (h : History). h.catalog) c.requires.told)))

@@ -4,7 +4,7 @@ use Rattle.courses.specs.Parts.{epochs_of_each, pieces_of_all}
 use Rattle.formula.specs.declared.tree.RAtom.{RAtom}
 use Rattle.meaning.specs.Atom.{atom_holds}
 use Rattle.tick_set.specs.Ticks.{within}
-use Rattle.atoms.specs.Found.{AreFound}
+use Rattle.atoms.specs.Found.{AreRunsWhere}
 use Rattle.atoms.specs.Parts.{trace_by}
 use Rattle.atoms.specs.Probes.{probe_limit}
 use Rattle.atoms.proofs.straight.straight_ticks.Goals as goal
@@ -14,7 +14,7 @@ returns-in-Dist-clause-runs g c =
     let w = c.args.w in
     let trace = trace_by c.args.variables.now (epochs_of_each c.args.timelines.now) in
     subst
-    (λ (a : RAtom). IfSome c.straight_distance.result (λ found. AreFound (λ t. within w.lo w.hi t && atom_holds c.args.regions.now trace a c.args.env.now t) found))
+    (λ (a : RAtom). IfSome c.straight_distance.result (λ found. AreRunsWhere (λ t. within w.lo w.hi t && atom_holds c.args.regions.now trace a c.args.env.now t) found))
     (sym c.in-Dist.is) c.straight_distance.ensures.runs
 
 pub returns-in-Dist-clause-cost : goal.returns-in-Dist-clause-cost

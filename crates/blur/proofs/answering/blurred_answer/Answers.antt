@@ -1,5 +1,5 @@
 use Rattle.std.proofs.Common.{◌≡◌, ℕ, ◌+◌, ◌-◌, List, ap, sym, subst, ◌∙◌}
-use Rattle.formula.specs.Tree.{query_view}
+use Rattle.formula.specs.Tree.{resolved_view}
 use Rattle.object_store.specs.Contents.{catalog_of}
 use Rattle.relation.specs.Frames.{Frame, IsIn}
 use Rattle.answers.specs.Objects.{AreOfItsClasses}
@@ -10,32 +10,32 @@ use Rattle.blur.specs.Answered.{holds_blurred, told_in}
 use Rattle.blur.proofs.answering.blurred_answer.Goals as goal
 
 pub domains_of-requires : goal.domains_of-requires
-domains_of-requires g c = few_classes (query_view c.args.q.now) c.requires.resolved
+domains_of-requires g c = few_classes (resolved_view c.args.q.now) c.requires.resolved
 
 pub blurred-requires-clause-domains : goal.blurred-requires-clause-domains
 blurred-requires-clause-domains g c =
     let catalog = catalog_of c.args.world.now.store.now in
-    subst (AreOfItsClasses catalog (query_view c.args.q.now)) (sym c.in_ok-domains.ensures)
-    (domains_are_of_classes catalog (query_view c.args.q.now))
+    subst (AreOfItsClasses catalog (resolved_view c.args.q.now)) (sym c.in_ok-domains.ensures)
+    (domains_are_of_classes catalog (resolved_view c.args.q.now))
 
 pub returns-clause-rows : goal.returns-clause-rows
 returns-clause-rows g c =
     let x = c.args.world.now in
     let own : c.in_ok-full.full.domains ≡ c.in_ok-domains.domains = ap (λ (f : Frame). f.domains) c.in_ok-full.ensures.rows.frame in
-    c.in_ok-answer.ensures.rows (told_in x) (holds_blurred x (query_view c.args.q.now) c.args.w.hi) (own ∙ c.in_ok-domains.ensures)
+    c.in_ok-answer.ensures.rows (told_in x) (holds_blurred x (resolved_view c.args.q.now) c.args.w.hi) (own ∙ c.in_ok-domains.ensures)
     (λ b is_in. c.in_ok-full.ensures.rows.ticks b (subst (λ (d : List (List ℕ)). IsIn d b) own is_in))
 
 pub returns-in_err-full-clause-most : goal.returns-in_err-full-clause-most
 returns-in_err-full-clause-most g c =
     most_within _ _ _ _ c.in_err-full.ensures.most
-    (reads_within (catalog_of c.args.world.now.store.now) (query_view c.args.q.now) _ (c.args.w.hi + 1 - c.args.w.lo) c.in_ok-domains.ensures)
+    (reads_within (catalog_of c.args.world.now.store.now) (resolved_view c.args.q.now) _ (c.args.w.hi + 1 - c.args.w.lo) c.in_ok-domains.ensures)
 
 pub returns-in_err-answer-clause-most : goal.returns-in_err-answer-clause-most
 returns-in_err-answer-clause-most g c =
     most_within _ _ _ _ c.in_ok-full.ensures.most
-    (reads_within (catalog_of c.args.world.now.store.now) (query_view c.args.q.now) _ (c.args.w.hi + 1 - c.args.w.lo) c.in_ok-domains.ensures)
+    (reads_within (catalog_of c.args.world.now.store.now) (resolved_view c.args.q.now) _ (c.args.w.hi + 1 - c.args.w.lo) c.in_ok-domains.ensures)
 
 pub returns-clause-most : goal.returns-clause-most
 returns-clause-most g c =
     most_within _ _ _ _ c.in_ok-full.ensures.most
-    (reads_within (catalog_of c.args.world.now.store.now) (query_view c.args.q.now) _ (c.args.w.hi + 1 - c.args.w.lo) c.in_ok-domains.ensures)
+    (reads_within (catalog_of c.args.world.now.store.now) (resolved_view c.args.q.now) _ (c.args.w.hi + 1 - c.args.w.lo) c.in_ok-domains.ensures)

@@ -1,6 +1,6 @@
 use Rattle.std.proofs.Common.{◌≡◌, ◌&&◌, Bool, true, sym, ap, ◌∙◌}
 use Rattle.std.proofs.lemmas.Bool.{and_from, and_parts}
-use Rattle.formula.specs.Tree.{query_view}
+use Rattle.formula.specs.Tree.{resolved_view}
 use Rattle.formula.specs.Value.{no_values}
 use Rattle.meaning.specs.Satisfaction.{sat}
 use Rattle.tick_set.specs.Ticks.{within}
@@ -15,7 +15,7 @@ pub returns-clause-surely : goal.returns-clause-surely
 returns-clause-surely g c = λ sure none b objects t had moves is_world.
     let world = c.args.world.now in
     let u = told_in world in
-    let q = query_view c.args.q.now in
+    let q = resolved_view c.args.q.now in
     let w = c.args.w in
     let told : (within w.lo w.hi t && holds_blurred world q w.hi b t) ≡ true = sym (c.in_ok-rows.ensures.rows.ticks b objects t) ∙ had in
     holds_more (blurred_by world.blur world.store.now world.regions.now) (in_world moves u) u q w.hi b t
@@ -28,7 +28,7 @@ pub returns-clause-possibly : goal.returns-clause-possibly
 returns-clause-possibly g c = λ maybe none b objects t inside moves is_world holds.
     let world = c.args.world.now in
     let u = told_in world in
-    let q = query_view c.args.q.now in
+    let q = resolved_view c.args.q.now in
     let w = c.args.w in
     c.in_ok-rows.ensures.rows.ticks b objects t
     ∙ and_from (within w.lo w.hi t) (holds_blurred world q w.hi b t) inside

@@ -2,8 +2,8 @@ use Rattle.std.proofs.Common.{◌≡◌, ℕ, Bool, false, Option, ap, arith}
 use Rattle.std.specs.Option.{option_map_or}
 use Rattle.fixed_point.specs.declared.number.Point.{Point}
 use Rattle.courses.specs.Places.{place_at}
+use Rattle.courses.specs.CommonParts.{place_in}
 use Rattle.blur.specs.Asked.{is_on_side}
-use Rattle.blur.specs.Parts.{place_in}
 use Rattle.blur.proofs.PartLemmas.{gathered_before, gathered_more, place_along}
 use Rattle.blur.proofs.parts.region_runs.Goals as goal
 

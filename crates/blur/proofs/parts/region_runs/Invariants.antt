@@ -2,8 +2,8 @@ use Rattle.std.proofs.Common.{◌+◌, ◌-◌, ◌≤◌, false}
 use Rattle.std.specs.Option.{option_map_or}
 use Rattle.courses.specs.Places.{place_at}
 use Rattle.blur.specs.Asked.{is_on_side}
-use Rattle.blur.specs.Parts.{IsGathered}
 use Rattle.blur.proofs.parts.region_runs.Given as goal
+use Rattle.atoms.specs.Gathered.{IsGathered}
 
 -- the ticks before `at` are settled
 abbrev pub invariant-joining : goal.invariant-joining

@@ -1,8 +1,8 @@
 use Rattle.std.proofs.Common.{◌≡◌, ℕ, Bool, arith}
 use Rattle.courses.specs.Places.{place_at}
+use Rattle.courses.specs.CommonParts.{place_in}
 use Rattle.worlds.specs.Blurred.{distance_holds_by}
 use Rattle.blur.specs.Asked.{comparison}
-use Rattle.blur.specs.Parts.{place_in}
 use Rattle.blur.proofs.PartLemmas.{gathered_before, gathered_more, place_along}
 use Rattle.blur.proofs.parts.runs_by_parts.Goals as goal
 

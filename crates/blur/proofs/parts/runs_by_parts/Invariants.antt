@@ -2,8 +2,8 @@ use Rattle.std.proofs.Common.{◌+◌, ◌-◌, ◌≤◌}
 use Rattle.courses.specs.Places.{place_at}
 use Rattle.worlds.specs.Blurred.{distance_holds_by}
 use Rattle.blur.specs.Asked.{comparison}
-use Rattle.blur.specs.Parts.{IsGathered}
 use Rattle.blur.proofs.parts.runs_by_parts.Given as goal
+use Rattle.atoms.specs.Gathered.{IsGathered}
 
 -- the ticks before `at` are settled
 abbrev pub invariant-joining : goal.invariant-joining

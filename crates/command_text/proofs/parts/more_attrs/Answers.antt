@@ -1,5 +1,5 @@
 use Rattle.std.proofs.Common.{refl, sym, ◌∙◌, subst}
-use Rattle.command_text.specs.inner.Standing.{Stops}
+use Rattle.command_text.specs.inner.Standing.{StopsPart}
 use Rattle.command_text.proofs.grammar.Derived.{next_attr_shortens}
 use Rattle.command_text.proofs.grammar.ManyLemmas.{goes_on, goes_wrong, goes_to_the_end}
 use Rattle.command_text.proofs.parts.more_attrs.Goals as goal
@@ -12,7 +12,7 @@ attrs-preserved c =
 
 pub returns-in_default : goal.returns-in_default
 returns-in_default c =
-    subst (Stops _) (sym c.bad_syntax.ensures)
+    subst (StopsPart _) (sym c.bad_syntax.ensures)
     (refl, goes_wrong _ _ _ _ _ _ c.attrs.invariant (sym c.begins_sign.ensures ∙ c.attrs-test.true) (sym c.in_default.ensures))
 
 pub returns : goal.returns

@@ -1,7 +1,7 @@
 use Rattle.std.proofs.Common.{◌<◌, length, get_or, refl, sym, subst, ◌∙◌, arith, length-set}
 use Rattle.motion.specs.declared.asked.Asked.{Asked}
 use Rattle.motion.specs.Timeline.{AreBegunUpTo}
-use Rattle.courses.specs.Parts.{asked_at, asked_each, epochs_of_each, IsPart}
+use Rattle.courses.specs.Parts.{asked_at, asked_each, epochs_of_each, IsTimelinePart}
 use Rattle.courses.proofs.CountLemmas.{fewer_left, no_more_left}
 use Rattle.courses.proofs.PartLemmas.{begun_more, common_more, common_whole, epochs_in, filled_more, item_asked, item_of, length-asked_each, length-epochs_of_each, steady_in}
 use Rattle.courses.proofs.parts.common_for.Goals as goal
@@ -28,7 +28,7 @@ loop-k-preserved c =
     let inside : k < length (epochs_of_each timelines) = omega (arith, length-epochs_of_each timelines) in
     let item = item_of timelines k c.index-timelines-k.result there c.index-timelines-k.is in
     let part = c.part_for-part.ensures in
-    let P : Asked → Type 0 = λ a. IsPart a c.index-timelines-k.result.now c.args.at c.loop-k.end c.part_for-part.result.end in
+    let P : Asked → Type 0 = λ a. IsTimelinePart a c.index-timelines-k.result.now c.args.at c.loop-k.end c.part_for-part.result.end in
     record {
       common =
           common_more (asked_each asked (epochs_of_each timelines)) k (asked_at asked k) c.index-timelines-k.result.now c.args.at c.args.last c.loop-k.end c.part_for-part.result.end

@@ -1,6 +1,6 @@
 use Rattle.std.proofs.Common.{◌+◌, length, ap, ◌∙◌}
 use Rattle.std.specs.List.{list_all}
-use Rattle.formula.specs.Tree.{query_view as resolved_view}
+use Rattle.formula.specs.Tree.{resolved_view}
 use Rattle.meaning.specs.Binding.{holds_full}
 use Rattle.object_store.specs.Contents.{catalog_of}
 use Rattle.database.specs.Keeping.{world_of_database}

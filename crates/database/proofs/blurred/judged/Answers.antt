@@ -6,7 +6,7 @@ use Rattle.ftl_parser.specs.Tree.{query_view}
 use Rattle.ftl_typer.specs.Faults.{faults}
 use Rattle.ftl_typer.specs.First.{first_fault}
 use Rattle.ftl_typer.specs.declared.fault.TypeFault.TheVariants as type_faults
-use Rattle.line_meaning.specs.Blurred.{is_barred}
+use Rattle.line_meaning.specs.Blurred.{has_not_or_circle}
 use Rattle.line_meaning.specs.FirstFault.{blurred_size_refusal, refusal_by_type, refusal_if_barred, type_refusal}
 use Rattle.database.specs.Keeping.{world_of_database}
 use Rattle.database.proofs.AskLemmas.{type_refusal_is}
@@ -23,7 +23,7 @@ returns-in-Some-refusal_of-clause-cause c =
     let first : type_refusal w q ≡ refusal_by_type c.in-Err.fault =
     type_refusal_is (first_fault (faults d.store.classes d.regions q)) c.in-Err.fault
     (c.in-Err.ensures.cause ∙ ap (λ ks. unwrap_or (first_fault (faults ks d.regions q)) type_faults.NoMemory) c.schema.ensures) in
-    ap (λ (type : Option Refusal). or_else (refusal_if_barred (is_barred q.formula) type) (blurred_size_refusal w d.clock c.args.span q))
+    ap (λ (type : Option Refusal). or_else (refusal_if_barred (has_not_or_circle q.formula) type) (blurred_size_refusal w d.clock c.args.span q))
     (first ∙ sym c.refusal_by_type.ensures)
     ∙ sym c.refusal_of-in-Err.ensures
     ∙ c.in-Some-refusal_of.is

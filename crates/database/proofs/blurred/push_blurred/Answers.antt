@@ -1,7 +1,7 @@
 use Rattle.std.proofs.Common.{◌≡◌, ℕ, ◌+◌, ◌++◌, Bool, List, length, subst, ap, ◌∙◌}
 use Rattle.std.specs.Prelude.{OnOk}
 use Rattle.std.specs.List.{list_all}
-use Rattle.formula.specs.Tree.{query_view as resolved_view}
+use Rattle.formula.specs.Tree.{resolved_view}
 use Rattle.meaning.specs.Answer.{Row, answer_where}
 use Rattle.meaning.specs.Binding.{holds_by}
 use Rattle.object_store.specs.Contents.{catalog_of}

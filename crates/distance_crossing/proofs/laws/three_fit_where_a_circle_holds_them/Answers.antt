@@ -5,7 +5,7 @@ use Rattle.exact.proofs.Ring.{part, number, product, same}
 use Rattle.fixed_point.specs.declared.number.Point.{Point}
 use Rattle.geometry.specs.Circle.{squared_width, three_fit}
 use Rattle.geometry.specs.Plane.{square}
-use Rattle.distance_crossing.specs.Circles.{IsHeld, IsInCircle}
+use Rattle.distance_crossing.specs.Circles.{IsInCircle, IsWithinRadius}
 use Rattle.distance_crossing.specs.LeastCircle.{least_over, least_under}
 use Rattle.distance_crossing.proofs.Centres.{away, room, held_least}
 use Rattle.distance_crossing.proofs.LeastCircles.{least_is, three_fit-least, scaled_least}
@@ -30,7 +30,7 @@ holds : (r : ℤ) (p q s : Point) → three_fit r p q s ≡ true → IsInCircle 
 holds r p q s h =
     let least = least_is p q s in
     let c = least.centre in
-    let H = IsHeld r c.x c.y c.z in
+    let H = IsWithinRadius r c.x c.y c.z in
     let small = at_most (least_over p q s) (squared_width r *ℤ least_under p q s) (sym (three_fit-least r p q s) ∙ h) in
     let held = λ (way : ℤ) (g : pos 0 ≤ℤ room (least_over p q s) (least_under p q s) (square c.z) way).
     held-room (square r) (square c.z) way (scaled_least (least_over p q s) (least_under p q s) (squared_width r) (pos 1) (square c.z) way least.above (omega (arith, ints)) c.unit g small) in
@@ -46,7 +46,7 @@ holds r p q s h =
 fits : (r : ℤ) (p q s : Point) → IsInCircle r (p ∷ q ∷ s ∷ []) → three_fit r p q s ≡ true
 fits r p q s c =
     let least = least_is p q s in
-    let H = IsHeld r c.x c.y c.z in
+    let H = IsWithinRadius r c.x c.y c.z in
     let later = All-tail H p (q ∷ s ∷ []) c.held in
     let at = λ (t : Point) (g : H t). room-held (square r) (square c.z) (away c.x c.y c.z t) g in
     three_fit-least r p q s

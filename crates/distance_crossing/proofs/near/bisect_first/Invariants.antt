@@ -1,11 +1,11 @@
 use Rattle.std.proofs.Common.{◌-◌}
 use Rattle.linear_crossing.specs.Relative.{squared_distance_at}
-use Rattle.distance_crossing.specs.Ends.{IsLeft}
+use Rattle.distance_crossing.specs.Ends.{BracketsFirst}
 use Rattle.distance_crossing.proofs.Bisection.{IsHalved}
 use Rattle.distance_crossing.proofs.near.bisect_first.Given as goal
 
 abbrev pub invariant-loop-low : goal.invariant-loop-low
-invariant-loop-low g l = IsLeft (squared_distance_at l.q) l.fn.limit l.fn.nearest l.low l.high × IsHalved (l.fn.until - l.fn.from) (l.high - l.low) l.fn.probes l.probes
+invariant-loop-low g l = BracketsFirst (squared_distance_at l.q) l.fn.limit l.fn.nearest l.low l.high × IsHalved (l.fn.until - l.fn.from) (l.high - l.low) l.fn.probes l.probes
 
 abbrev pub decreases-loop-low : goal.decreases-loop-low
 decreases-loop-low g l = l.high - l.low

@@ -1,7 +1,7 @@
 use Rattle.std.proofs.Common.{◌≤◌, ◌+◌, refl, ap, subst, sym, ◌∙◌}
 use Rattle.run_ends.specs.Whole.{Says, Answers}
 use Rattle.domino_run.specs.Whole.{plan_of, started}
-use Rattle.domino_run.specs.Ends.{may_end}
+use Rattle.domino_run.specs.Ends.{allows_status}
 use Rattle.domino_run.specs.Looks.{LooksWithin, looks_of_input}
 use Rattle.run_ends.specs.declared.status.Status.TheVariants.{BadWords, Done}
 use Rattle.domino_run.specs.Words.{words_view}
@@ -24,7 +24,7 @@ returns-in-Bad g c =
     said_runs c.args.limit _ _ _ _ _ c.args.counters.reads c.args.counters.reads c.say.result
     (record {
       saying = refl;
-      may = ap (λ w. may_end w BadWords) is;
+      may = ap (λ w. allows_status w BadWords) is;
       plan = λ texts told. ap (λ w. plan_of w texts) is;
       within = λ bytes texts told. subst (λ w. LooksWithin w c.args.limit bytes texts c.args.counters.reads c.args.counters.reads) (sym is) refl;
     })
@@ -36,7 +36,7 @@ returns-in-Ok g c =
     said_runs c.args.limit _ _ _ _ _ c.args.counters.reads c.summary.new.counters.reads c.say-in-Ok.result
     (record {
       saying = refl;
-      may = ap (λ w. may_end w Done) is;
+      may = ap (λ w. allows_status w Done) is;
       plan = λ texts told. ap (λ w. plan_of w texts) is ∙ ap (λ said. Says said Done) (sym (c.deref.ensures.value ∙ c.in-Ok.ensures.text));
       within = λ bytes texts told.
           subst (λ w. LooksWithin w c.args.limit bytes texts c.args.counters.reads c.summary.new.counters.reads) (sym is) c.summary.ensures.looks;

@@ -1,6 +1,6 @@
 use Rattle.std.proofs.Common.{ℕ, List, [], ◌∷◌, slice_index, sym, subst}
 use Rattle.formula.specs.declared.value.Env.{Env}
-use Rattle.formula.specs.Tree.{formula_view, query_view}
+use Rattle.formula.specs.Tree.{formula_view, resolved_view}
 use Rattle.formula.specs.Value.{no_values}
 use Rattle.evaluator.specs.Rows.{query_reads_upto}
 use Rattle.evaluator.specs.inner.ByBinding.{CanAskHere, reads_here}
@@ -20,7 +20,7 @@ pub returns-then-is_empty-clause-ticks : goal.returns-then-is_empty-clause-ticks
 returns-then-is_empty-clause-ticks g c =
     none_full g.S.TickSet.member (g.I.Interpreter.interpretation c.args.source.now) (g.I.Interpreter.present c.args.source.now)
     (λ p q a e x u. g.met.I.Interpreter.atom_sees c.args.source.now p q a e x u) (λ p q a e x u. g.met.I.Interpreter.term_sees c.args.source.now p q a e x u)
-    (query_view c.args.q.now) c.requires.one c.requires.over c.args.id c.args.w.lo c.args.w.hi
+    (resolved_view c.args.q.now) c.requires.one c.requires.over c.args.id c.args.w.lo c.args.w.hi
     c.key_of-binding.result c.new-env.result c.key_of-binding.ensures c.new-env.ensures c.in_ok-ticks.ticks c.in_ok-ticks.ensures.ticks
     (c.is_empty.ensures.0 c.if-is_empty.true)
 
@@ -28,7 +28,7 @@ pub returns-then-is_empty-2-clause-ticks : goal.returns-then-is_empty-2-clause-t
 returns-then-is_empty-2-clause-ticks g c =
     full_as_it_is g.S.TickSet.member (g.I.Interpreter.interpretation c.args.source.now) (g.I.Interpreter.present c.args.source.now)
     (λ p q a e x u. g.met.I.Interpreter.atom_sees c.args.source.now p q a e x u) (λ p q a e x u. g.met.I.Interpreter.term_sees c.args.source.now p q a e x u)
-    (query_view c.args.q.now) c.requires.one c.requires.over c.args.id c.args.w.lo c.args.w.hi
+    (resolved_view c.args.q.now) c.requires.one c.requires.over c.args.id c.args.w.lo c.args.w.hi
     c.key_of-binding.result c.new-env.result c.key_of-binding.ensures c.new-env.ensures c.in_ok-ticks.ticks c.in_ok-ticks.ensures.ticks
     c.in_ok-away.away c.in_ok-away.ensures.ticks (c.is_empty-2.ensures.0 c.if-is_empty-2.true)
 
@@ -36,42 +36,42 @@ pub returns-clause-ticks : goal.returns-clause-ticks
 returns-clause-ticks g c =
     full_without g.S.TickSet.member (g.I.Interpreter.interpretation c.args.source.now) (g.I.Interpreter.present c.args.source.now)
     (λ p q a e x u. g.met.I.Interpreter.atom_sees c.args.source.now p q a e x u) (λ p q a e x u. g.met.I.Interpreter.term_sees c.args.source.now p q a e x u)
-    (query_view c.args.q.now) c.requires.one c.requires.over c.args.id c.args.w.lo c.args.w.hi
+    (resolved_view c.args.q.now) c.requires.one c.requires.over c.args.id c.args.w.lo c.args.w.hi
     c.key_of-binding.result c.new-env.result c.key_of-binding.ensures c.new-env.ensures c.in_ok-ticks.ticks c.in_ok-ticks.ensures.ticks
     c.in_ok-away.away c.in_ok-away.ensures.ticks c.in_ok-there.there c.in_ok-there.ensures
 
 pub returns-in_err-ticks-clause-most : goal.returns-in_err-ticks-clause-most
 returns-in_err-ticks-clause-most g c =
-    most_first _ _ (query_reads_upto ((c.args.id ∷ []) ∷ []) c.args.w.lo c.args.w.hi (query_view c.args.q.now)) (reads_here c.args.w.lo c.args.w.hi (formula_view c.args.q.now.formula)) 1
-    (reads_alone c.args.id c.args.w.lo c.args.w.hi (query_view c.args.q.now) c.requires.one c.requires.over)
+    most_first _ _ (query_reads_upto ((c.args.id ∷ []) ∷ []) c.args.w.lo c.args.w.hi (resolved_view c.args.q.now)) (reads_here c.args.w.lo c.args.w.hi (formula_view c.args.q.now.formula)) 1
+    (reads_alone c.args.id c.args.w.lo c.args.w.hi (resolved_view c.args.q.now) c.requires.one c.requires.over)
     c.in_err-ticks.ensures.most
 
 pub returns-then-is_empty-clause-most : goal.returns-then-is_empty-clause-most
 returns-then-is_empty-clause-most g c =
-    most_first _ _ (query_reads_upto ((c.args.id ∷ []) ∷ []) c.args.w.lo c.args.w.hi (query_view c.args.q.now)) (reads_here c.args.w.lo c.args.w.hi (formula_view c.args.q.now.formula)) 1
-    (reads_alone c.args.id c.args.w.lo c.args.w.hi (query_view c.args.q.now) c.requires.one c.requires.over)
+    most_first _ _ (query_reads_upto ((c.args.id ∷ []) ∷ []) c.args.w.lo c.args.w.hi (resolved_view c.args.q.now)) (reads_here c.args.w.lo c.args.w.hi (formula_view c.args.q.now.formula)) 1
+    (reads_alone c.args.id c.args.w.lo c.args.w.hi (resolved_view c.args.q.now) c.requires.one c.requires.over)
     c.in_ok-ticks.ensures.most
 
 pub returns-in_err-away-clause-most : goal.returns-in_err-away-clause-most
 returns-in_err-away-clause-most g c =
-    most_both _ _ _ (query_reads_upto ((c.args.id ∷ []) ∷ []) c.args.w.lo c.args.w.hi (query_view c.args.q.now)) (reads_here c.args.w.lo c.args.w.hi (formula_view c.args.q.now.formula)) 1
-    (reads_alone c.args.id c.args.w.lo c.args.w.hi (query_view c.args.q.now) c.requires.one c.requires.over)
+    most_both _ _ _ (query_reads_upto ((c.args.id ∷ []) ∷ []) c.args.w.lo c.args.w.hi (resolved_view c.args.q.now)) (reads_here c.args.w.lo c.args.w.hi (formula_view c.args.q.now.formula)) 1
+    (reads_alone c.args.id c.args.w.lo c.args.w.hi (resolved_view c.args.q.now) c.requires.one c.requires.over)
     c.in_ok-ticks.ensures.most c.in_err-away.ensures.most
 
 pub returns-then-is_empty-2-clause-most : goal.returns-then-is_empty-2-clause-most
 returns-then-is_empty-2-clause-most g c =
-    most_both _ _ _ (query_reads_upto ((c.args.id ∷ []) ∷ []) c.args.w.lo c.args.w.hi (query_view c.args.q.now)) (reads_here c.args.w.lo c.args.w.hi (formula_view c.args.q.now.formula)) 1
-    (reads_alone c.args.id c.args.w.lo c.args.w.hi (query_view c.args.q.now) c.requires.one c.requires.over)
+    most_both _ _ _ (query_reads_upto ((c.args.id ∷ []) ∷ []) c.args.w.lo c.args.w.hi (resolved_view c.args.q.now)) (reads_here c.args.w.lo c.args.w.hi (formula_view c.args.q.now.formula)) 1
+    (reads_alone c.args.id c.args.w.lo c.args.w.hi (resolved_view c.args.q.now) c.requires.one c.requires.over)
     c.in_ok-ticks.ensures.most c.in_ok-away.ensures.most
 
 pub returns-in_err-there-clause-most : goal.returns-in_err-there-clause-most
 returns-in_err-there-clause-most g c =
-    most_both _ _ _ (query_reads_upto ((c.args.id ∷ []) ∷ []) c.args.w.lo c.args.w.hi (query_view c.args.q.now)) (reads_here c.args.w.lo c.args.w.hi (formula_view c.args.q.now.formula)) 1
-    (reads_alone c.args.id c.args.w.lo c.args.w.hi (query_view c.args.q.now) c.requires.one c.requires.over)
+    most_both _ _ _ (query_reads_upto ((c.args.id ∷ []) ∷ []) c.args.w.lo c.args.w.hi (resolved_view c.args.q.now)) (reads_here c.args.w.lo c.args.w.hi (formula_view c.args.q.now.formula)) 1
+    (reads_alone c.args.id c.args.w.lo c.args.w.hi (resolved_view c.args.q.now) c.requires.one c.requires.over)
     c.in_ok-ticks.ensures.most c.in_ok-away.ensures.most
 
 pub returns-clause-most : goal.returns-clause-most
 returns-clause-most g c =
-    most_both _ _ _ (query_reads_upto ((c.args.id ∷ []) ∷ []) c.args.w.lo c.args.w.hi (query_view c.args.q.now)) (reads_here c.args.w.lo c.args.w.hi (formula_view c.args.q.now.formula)) 1
-    (reads_alone c.args.id c.args.w.lo c.args.w.hi (query_view c.args.q.now) c.requires.one c.requires.over)
+    most_both _ _ _ (query_reads_upto ((c.args.id ∷ []) ∷ []) c.args.w.lo c.args.w.hi (resolved_view c.args.q.now)) (reads_here c.args.w.lo c.args.w.hi (formula_view c.args.q.now.formula)) 1
+    (reads_alone c.args.id c.args.w.lo c.args.w.hi (resolved_view c.args.q.now) c.requires.one c.requires.over)
     c.in_ok-ticks.ensures.most c.in_ok-away.ensures.most

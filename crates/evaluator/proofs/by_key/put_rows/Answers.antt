@@ -6,7 +6,7 @@ use Rattle.formula.specs.Variables.{has_variable}
 use Rattle.relation.specs.Key.{key_below, key_in}
 use Rattle.evaluator.specs.Interpreting.{CanAsk}
 use Rattle.evaluator.specs.inner.ByBinding.{holds_at, reads_here}
-use Rattle.evaluator.specs.inner.Filled.{IsFilled, behind}
+use Rattle.evaluator.specs.inner.Filled.{IsFilled, keys_behind}
 use Rattle.evaluator.proofs.FillingLemmas.{at_key, filled_next, filled_none, next_above, still_fits}
 use Rattle.evaluator.proofs.KeyLemmas.{key_length}
 use Rattle.evaluator.proofs.LoopLemmas.{in_turn, some_steps}
@@ -69,7 +69,7 @@ keys-preserved g c =
 
 pub returns-clause-rows : goal.returns-clause-rows
 returns-clause-rows g c =
-    subst (λ (ks : List (List ℕ)). IsFilled g.S.TickSet.member (holds_at (g.I.Interpreter.interpretation c.args.source.now) c.args.vars.now c.args.w.lo c.args.w.hi (formula_view c.args.f.now) c.args.env.now) (behind c.args.id ks) c.args.made.now c.keys.made)
+    subst (λ (ks : List (List ℕ)). IsFilled g.S.TickSet.member (holds_at (g.I.Interpreter.interpretation c.args.source.now) c.args.vars.now c.args.w.lo c.args.w.hi (formula_view c.args.f.now) c.args.env.now) (keys_behind c.args.id ks) c.args.made.now c.keys.made)
     (take_all c.keys.key-index c.args.later.now (omega (arith, c.keys-test.false))) c.keys.invariant.rows
 
 pub returns-clause-least : goal.returns-clause-least

@@ -5,14 +5,14 @@ use Rattle.formula.specs.Tree.{formula_view}
 use Rattle.formula.specs.Variables.{has_variable}
 use Rattle.meaning.specs.Reads.{choices}
 use Rattle.meaning.specs.Satisfaction.{sat}
-use Rattle.relation.specs.Frames.{size_of}
+use Rattle.relation.specs.Frames.{domain_size}
 use Rattle.formula.specs.Resolved.{are_distinct}
 use Rattle.relation.specs.Key.{are_known, has_id, key_in}
 use Rattle.relation.specs.Rows.{Table}
 use Rattle.evaluator.specs.Keys.{AreKeys}
 use Rattle.evaluator.specs.Rows.{AreRowsWhere}
 use Rattle.evaluator.specs.inner.ByBinding.{holds_at, reads_here}
-use Rattle.evaluator.specs.inner.Filled.{IsFilled, behind}
+use Rattle.evaluator.specs.inner.Filled.{IsFilled, keys_behind}
 use Rattle.evaluator.proofs.ByKeyLemmas.{by_blocks, by_keys, key_says}
 use Rattle.evaluator.proofs.FillingLemmas.{block_above, filled_all, filled_block, first_inside, own_at}
 use Rattle.evaluator.proofs.KeyLemmas.{keys_more, keys_none}
@@ -39,7 +39,7 @@ put_row-requires-clause-over g c = λ v h. (let o = c.requires.over v h in omega
 pub returns-in_err-put_row-clause-most : goal.returns-in_err-put_row-clause-most
 returns-in_err-put_row-clause-most g c =
     by_keys c.args.d.now c.args.w.lo c.args.w.hi c.args.vars.now (formula_view c.args.f.now) c.requires.vars c.requires.alike c.args.reads.now c.put_row.new.reads 1 1 (one_of _ _ _ c.in_err-put_row.ensures.most) (omega arith)
-    (sym (ap (choices (size_of c.args.d.now)) (nil_from_length c.args.vars.now c.in_default.ensures.cases)))
+    (sym (ap (choices (domain_size c.args.d.now)) (nil_from_length c.args.vars.now c.in_default.ensures.cases)))
 
 pub returns-in_default-clause-rows : goal.returns-in_default-clause-rows
 returns-in_default-clause-rows g c =
@@ -57,7 +57,7 @@ returns-in_default-clause-rows g c =
 pub returns-in_default-clause-most : goal.returns-in_default-clause-most
 returns-in_default-clause-most g c =
     by_keys c.args.d.now c.args.w.lo c.args.w.hi c.args.vars.now (formula_view c.args.f.now) c.requires.vars c.requires.alike c.args.reads.now c.put_row.new.reads 1 1 (one_of _ _ _ c.in_ok-put_row.ensures.most) (omega arith)
-    (sym (ap (choices (size_of c.args.d.now)) (nil_from_length c.args.vars.now c.in_default.ensures.cases)))
+    (sym (ap (choices (domain_size c.args.d.now)) (nil_from_length c.args.vars.now c.in_default.ensures.cases)))
 
 pub put_rows-requires-clause-over : goal.put_rows-requires-clause-over
 put_rows-requires-clause-over g c = λ v h. (let o = c.requires.over v h in omega (arith, o, c.len.ensures.count, c.len.ensures.few))
@@ -83,7 +83,7 @@ returns-in_err-put_rows-clause-most g c =
     let cost = reads_here c.args.w.lo c.args.w.hi (formula_view c.args.f.now) in
     by_blocks c.args.d.now c.args.w.lo c.args.w.hi c.args.vars.now (formula_view c.args.f.now) c.requires.vars c.requires.alike c.args.reads.now c.put_rows.new.reads (c.ids.id-index + 1) (length c.of-id-items.result.now) (length c.items-later.result.now)
     (block_step c.args.reads.now c.ids.reads c.put_rows.new.reads c.ids.id-index (length c.items-later.result.now) cost c.ids.invariant.most c.in_err-put_rows.ensures.most) (omega (arith, c.ids-test.true))
-    ((λ i. length (c.of-id-items.ensures.value i) * are.count i) ∙ sym (ap (choices (size_of c.args.d.now)) c.in-Some.ensures.cases.0))
+    ((λ i. length (c.of-id-items.ensures.value i) * are.count i) ∙ sym (ap (choices (domain_size c.args.d.now)) c.in-Some.ensures.cases.0))
 
 pub ids-preserved : goal.ids-preserved
 ids-preserved g c =
@@ -108,10 +108,10 @@ returns-clause-rows g c =
     let truth = holds_at j vars c.args.w.lo c.args.w.hi f c.args.env.now in
     let known = known_variables c.args.d.now (λ v. has_variable v f) (λ v l h. c.requires.over v h) in
     subst (λ (vs : List ℕ). AreRowsWhere g.S.TickSet.member c.args.d.now c.args.w.lo c.args.w.hi vs (λ b. sat (j b) f c.args.env.now c.args.w.hi) c.ids.made) c.requires.vars
-    (filled_all g.S.TickSet.member truth c.args.d.now vars c.args.w.lo c.args.w.hi (λ b. sat (j b) f c.args.env.now c.args.w.hi) (flat_map (λ id. behind id later) ids) c.empty-made.result c.ids.made
-    (subst (λ (z : List ℕ). IsFilled g.S.TickSet.member truth (flat_map (λ id. behind id later) z) c.empty-made.result c.ids.made) (take_all c.ids.id-index ids (omega (arith, c.ids-test.false))) c.ids.invariant.rows)
+    (filled_all g.S.TickSet.member truth c.args.d.now vars c.args.w.lo c.args.w.hi (λ b. sat (j b) f c.args.env.now c.args.w.hi) (flat_map (λ id. keys_behind id later) ids) c.empty-made.result c.ids.made
+    (subst (λ (z : List ℕ). IsFilled g.S.TickSet.member truth (flat_map (λ id. keys_behind id later) z) c.empty-made.result c.ids.made) (take_all c.ids.id-index ids (omega (arith, c.ids-test.false))) c.ids.invariant.rows)
     c.empty-made.ensures
-    (subst (λ (vs : List ℕ). AreKeys c.args.d.now vs (flat_map (λ id. behind id later) ids)) (sym c.in-Some.ensures.cases.0)
+    (subst (λ (vs : List ℕ). AreKeys c.args.d.now vs (flat_map (λ id. keys_behind id later) ids)) (sym c.in-Some.ensures.cases.0)
     (keys_more c.args.d.now c.in-Some.first.now c.in-Some.rest.now later ids c.of-id-items.ensures.value c.of-id-items.ensures.ascending are))
     (subst (λ (vs : List ℕ). are_known c.args.d.now vs ≡ true) (sym c.requires.vars) known)
     (λ b is_in t. key_says j (λ p q a e x u. g.met.I.Interpreter.atom_sees c.args.source.now p q a e x u) (λ p q a e x u. g.met.I.Interpreter.term_sees c.args.source.now p q a e x u)
@@ -122,4 +122,4 @@ returns-clause-most g c =
     let are = subst (AreKeys c.args.d.now c.in-Some.rest.now) (sym c.items-later.ensures) c.in_ok-keys.ensures in
     by_blocks c.args.d.now c.args.w.lo c.args.w.hi c.args.vars.now (formula_view c.args.f.now) c.requires.vars c.requires.alike c.args.reads.now c.ids.reads c.ids.id-index (length c.of-id-items.result.now) (length c.items-later.result.now) c.ids.invariant.most
     (let l : c.ids.id-index ≤ length c.of-id-items.result.now = c.ids.auto.id-index-end in omega (arith, l))
-    ((λ i. length (c.of-id-items.ensures.value i) * are.count i) ∙ sym (ap (choices (size_of c.args.d.now)) c.in-Some.ensures.cases.0))
+    ((λ i. length (c.of-id-items.ensures.value i) * are.count i) ∙ sym (ap (choices (domain_size c.args.d.now)) c.in-Some.ensures.cases.0))

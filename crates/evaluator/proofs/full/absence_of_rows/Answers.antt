@@ -3,7 +3,7 @@ use Rattle.std.specs.Prelude.{unwrap_or}
 use Rattle.std.proofs.lemmas.List.{length-map, take_all}
 use Rattle.std.proofs.lemmas.Option.{unwrap_or-slice_get}
 use Rattle.tick_set.specs.Ticks.{within}
-use Rattle.relation.specs.Key.{has_id, ids_of, key_in}
+use Rattle.relation.specs.Key.{has_id, ids_of_variable, key_in}
 use Rattle.relation.specs.Rows.{Table}
 use Rattle.evaluator.specs.inner.Filled.{IsFilled}
 use Rattle.evaluator.proofs.AwayLemmas.{at_above, away_all, filled_at, key_here, keys_at, own_first, rows_keys}
@@ -21,7 +21,7 @@ absence-requires g c =
     let inside = at_key (key_in c.args.d.now (c.args.var ∷ [])) keys c.places.place key are.inside (omega (arith, many, c.places-test.true, c.len-place-end.ensures)) in
     let own = own_first c.args.d.now c.args.var key (subst (λ (k : List ℕ). key_in c.args.d.now (c.args.var ∷ []) k ≡ true) (sym at) inside) in
     let same : c.unwrap_or.result ≡ slice_index key 0 = c.unwrap_or.ensures ∙ ap (λ o. unwrap_or o 0) c.get.ensures ∙ unwrap_or-slice_get key 0 0 in
-    c.requires.objects c.unwrap_or.result (subst (λ (id : ℕ). has_id (ids_of c.args.d.now c.args.var) id ≡ true) (sym same) own)
+    c.requires.objects c.unwrap_or.result (subst (λ (id : ℕ). has_id (ids_of_variable c.args.d.now c.args.var) id ≡ true) (sym same) own)
 
 pub put-requires-clause-above : goal.put-requires-clause-above
 put-requires-clause-above g c =

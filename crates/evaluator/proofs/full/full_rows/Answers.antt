@@ -2,10 +2,10 @@ use Rattle.std.proofs.Common.{◌≡◌, ℕ, length, refl, subst, arith, sym}
 use Rattle.std.specs.List.{sum_by}
 use Rattle.tick_set.specs.Ticks.{between}
 use Rattle.formula.specs.declared.value.Env.{Env}
-use Rattle.formula.specs.Tree.{formula_view, query_view}
+use Rattle.formula.specs.Tree.{formula_view, resolved_view}
 use Rattle.formula.specs.Value.{no_values}
 use Rattle.meaning.specs.Satisfaction.{sat}
-use Rattle.relation.specs.Frames.{size_of}
+use Rattle.relation.specs.Frames.{domain_size}
 use Rattle.evaluator.specs.Interpreting.{CanAsk}
 use Rattle.evaluator.specs.Rows.{AreRowsOf, AreRowsWhere, query_reads_upto, reads_upto}
 use Rattle.evaluator.proofs.FullLemmas.{absence_done, absence_step, absence_within, full_all, full_ascend, full_lies, full_more, full_none, holds_upto, variables_upto}
@@ -24,7 +24,7 @@ returns-in_err-made-clause-least g c = c.in_err-made.ensures.least
 
 pub returns-in_err-made-clause-most : goal.returns-in_err-made-clause-most
 returns-in_err-made-clause-most g c =
-    most_first _ _ (query_reads_upto c.args.d.now c.args.w.lo c.args.w.hi (query_view c.args.q.now)) (reads_upto c.args.d.now c.args.w.lo c.args.w.hi (formula_view c.args.q.now.formula)) (sum_by (size_of c.args.d.now) (between 0 (length c.args.q.now.classes))) refl c.in_err-made.ensures.most
+    most_first _ _ (query_reads_upto c.args.d.now c.args.w.lo c.args.w.hi (resolved_view c.args.q.now)) (reads_upto c.args.d.now c.args.w.lo c.args.w.hi (formula_view c.args.q.now.formula)) (sum_by (domain_size c.args.d.now) (between 0 (length c.args.q.now.classes))) refl c.in_err-made.ensures.most
 
 pub vars-init : goal.vars-init
 vars-init g c = record {
@@ -45,14 +45,14 @@ returns-in_err-away-clause-least g c = in_turn _ _ _ c.in_ok-made.ensures.least 
 
 pub returns-in_err-away-clause-most : goal.returns-in_err-away-clause-most
 returns-in_err-away-clause-most g c =
-    absence_within (size_of c.args.d.now) c.args.reads.now _ _ (query_reads_upto c.args.d.now c.args.w.lo c.args.w.hi (query_view c.args.q.now)) (reads_upto c.args.d.now c.args.w.lo c.args.w.hi (formula_view c.args.q.now.formula)) c.vars.var (length c.args.q.now.classes) refl c.in_ok-made.ensures.most c.vars.reads c.vars.invariant.most c.in_err-away.ensures.most (let n = c.requires.domains in omega (arith, c.vars-test.true, c.len-count.ensures.count, n))
+    absence_within (domain_size c.args.d.now) c.args.reads.now _ _ (query_reads_upto c.args.d.now c.args.w.lo c.args.w.hi (resolved_view c.args.q.now)) (reads_upto c.args.d.now c.args.w.lo c.args.w.hi (formula_view c.args.q.now.formula)) c.vars.var (length c.args.q.now.classes) refl c.in_ok-made.ensures.most c.vars.reads c.vars.invariant.most c.in_err-away.ensures.most (let n = c.requires.domains in omega (arith, c.vars-test.true, c.len-count.ensures.count, n))
 
 pub returns-in_err-made-2-clause-least : goal.returns-in_err-made-2-clause-least
 returns-in_err-made-2-clause-least g c = in_turn _ _ _ c.in_ok-made.ensures.least (in_turn _ _ _ c.vars.invariant.least c.in_ok-away.ensures.least)
 
 pub returns-in_err-made-2-clause-most : goal.returns-in_err-made-2-clause-most
 returns-in_err-made-2-clause-most g c =
-    absence_within (size_of c.args.d.now) c.args.reads.now _ _ (query_reads_upto c.args.d.now c.args.w.lo c.args.w.hi (query_view c.args.q.now)) (reads_upto c.args.d.now c.args.w.lo c.args.w.hi (formula_view c.args.q.now.formula)) c.vars.var (length c.args.q.now.classes) refl c.in_ok-made.ensures.most c.vars.reads c.vars.invariant.most c.in_ok-away.ensures.most (let n = c.requires.domains in omega (arith, c.vars-test.true, c.len-count.ensures.count, n))
+    absence_within (domain_size c.args.d.now) c.args.reads.now _ _ (query_reads_upto c.args.d.now c.args.w.lo c.args.w.hi (resolved_view c.args.q.now)) (reads_upto c.args.d.now c.args.w.lo c.args.w.hi (formula_view c.args.q.now.formula)) c.vars.var (length c.args.q.now.classes) refl c.in_ok-made.ensures.most c.vars.reads c.vars.invariant.most c.in_ok-away.ensures.most (let n = c.requires.domains in omega (arith, c.vars-test.true, c.len-count.ensures.count, n))
 
 pub while_there-requires-clause-ascend : goal.while_there-requires-clause-ascend
 while_there-requires-clause-ascend g c =
@@ -67,7 +67,7 @@ vars-preserved g c = record {
   rows = full_more g.S.TickSet.member c.args.d.now c.args.w.lo c.args.w.hi (formula_view c.args.q.now.formula) (λ (b : ℕ → ℕ) (u : ℕ). sat (g.I.Interpreter.interpretation c.args.source.now b) (formula_view c.args.q.now.formula) no_values c.args.w.hi u) (g.I.Interpreter.present c.args.source.now) c.vars.var (omega (arith, c.vars-test.true, c.len-count.ensures.count, c.len-count.ensures.few)) c.vars.made c.in_ok-away.away c.in_ok-made-2.made c.vars.invariant.rows c.in_ok-away.ensures.ticks
       c.in_ok-made-2.ensures.ticks c.in_ok-made-2.ensures.vars c.in_ok-made-2.ensures.frame;
   least = in_turn _ _ _ c.vars.invariant.least c.in_ok-away.ensures.least;
-  most = absence_step (size_of c.args.d.now) _ c.vars.reads _ c.vars.var c.vars.invariant.most c.in_ok-away.ensures.most;
+  most = absence_step (domain_size c.args.d.now) _ c.vars.reads _ c.vars.var c.vars.invariant.most c.in_ok-away.ensures.most;
 }
 
 pub returns-clause-rows : goal.returns-clause-rows
@@ -82,4 +82,4 @@ returns-clause-least g c = in_turn _ _ _ c.in_ok-made.ensures.least c.vars.invar
 
 pub returns-clause-most : goal.returns-clause-most
 returns-clause-most g c =
-    absence_done (size_of c.args.d.now) c.args.reads.now _ _ (query_reads_upto c.args.d.now c.args.w.lo c.args.w.hi (query_view c.args.q.now)) (reads_upto c.args.d.now c.args.w.lo c.args.w.hi (formula_view c.args.q.now.formula)) c.vars.var (length c.args.q.now.classes) refl c.in_ok-made.ensures.most c.vars.invariant.most (let n = c.requires.domains in omega (arith, c.vars.auto.var-end, c.len-count.ensures.count, n))
+    absence_done (domain_size c.args.d.now) c.args.reads.now _ _ (query_reads_upto c.args.d.now c.args.w.lo c.args.w.hi (resolved_view c.args.q.now)) (reads_upto c.args.d.now c.args.w.lo c.args.w.hi (formula_view c.args.q.now.formula)) c.vars.var (length c.args.q.now.classes) refl c.in_ok-made.ensures.most c.vars.invariant.most (let n = c.requires.domains in omega (arith, c.vars.auto.var-end, c.len-count.ensures.count, n))

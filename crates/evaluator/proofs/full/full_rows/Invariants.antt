@@ -4,7 +4,7 @@ use Rattle.tick_set.specs.Ticks.{between}
 use Rattle.formula.specs.Tree.{formula_view}
 use Rattle.formula.specs.Value.{no_values}
 use Rattle.meaning.specs.Satisfaction.{sat}
-use Rattle.relation.specs.Frames.{size_of}
+use Rattle.relation.specs.Frames.{domain_size}
 use Rattle.evaluator.specs.Rows.{AreRowsWhere}
 use Rattle.evaluator.proofs.FullLemmas.{holds_upto, variables_upto}
 use Rattle.evaluator.proofs.full.full_rows.Given as goal
@@ -19,5 +19,5 @@ invariant-vars g l =
           (variables_upto f l.var)
           (holds_upto holds present l.var) l.made;
       least : l.initial.reads ≤ l.reads;
-      most : l.reads ≤ l.initial.reads + sum_by (size_of l.d) (between 0 l.var);
+      most : l.reads ≤ l.initial.reads + sum_by (domain_size l.d) (between 0 l.var);
     }

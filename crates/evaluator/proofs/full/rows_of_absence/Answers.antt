@@ -5,7 +5,7 @@ use Rattle.std.proofs.lemmas.List.{take_all}
 use Rattle.tick_set.specs.Ticks.{within}
 use Rattle.relation.specs.Key.{has_id, key_below, key_in}
 use Rattle.relation.specs.Rows.{Table}
-use Rattle.evaluator.specs.inner.Filled.{IsFilled, behind}
+use Rattle.evaluator.specs.inner.Filled.{IsFilled, keys_behind}
 use Rattle.evaluator.proofs.AtomLemmas.{known_one}
 use Rattle.evaluator.proofs.FillingLemmas.{block_above, filled_all, filled_block, filled_none, filled_put, fits_inside, fits_lies, own_at}
 use Rattle.evaluator.proofs.KeyLemmas.{keys_more, keys_none}
@@ -64,8 +64,8 @@ returns-clause-rows g c =
     let ids = c.of-id-items.result.now in
     let truth = λ (k : List ℕ) (t : ℕ). within c.args.w.lo c.args.w.hi t && not (g.I.Interpreter.present c.args.source.now (slice_index k 0) t) in
     filled_all g.S.TickSet.member truth c.args.d.now (c.args.var ∷ []) c.args.w.lo c.args.w.hi (λ b t. not (g.I.Interpreter.present c.args.source.now (b c.args.var) t))
-    (flat_map (λ id. behind id ([] ∷ [])) ids) c.empty-away.result c.ids.away
-    (subst (λ (z : List ℕ). IsFilled g.S.TickSet.member truth (flat_map (λ id. behind id ([] ∷ [])) z) c.empty-away.result c.ids.away) (take_all c.ids.id-index ids (omega (arith, c.ids-test.false))) c.ids.invariant.rows)
+    (flat_map (λ id. keys_behind id ([] ∷ [])) ids) c.empty-away.result c.ids.away
+    (subst (λ (z : List ℕ). IsFilled g.S.TickSet.member truth (flat_map (λ id. keys_behind id ([] ∷ [])) z) c.empty-away.result c.ids.away) (take_all c.ids.id-index ids (omega (arith, c.ids-test.false))) c.ids.invariant.rows)
     c.empty-away.ensures (keys_more c.args.d.now c.args.var [] ([] ∷ []) ids c.of-id-items.ensures.value c.of-id-items.ensures.ascending (keys_none c.args.d.now))
     (known_one c.args.var (length c.args.d.now) c.requires.known) (λ b is_in t. refl)
 

@@ -8,21 +8,21 @@ use Rattle.formula_shape.specs.Sizes.{nodes}
 use Rattle.formula.specs.declared.value.Env.{Env}
 use Rattle.formula.specs.Reach.{reach}
 use Rattle.formula.specs.Tree.{ResolvedTree, formula_view}
-use Rattle.formula.specs.VarSet.{has}
+use Rattle.formula.specs.VarSet.{set_has}
 use Rattle.formula.specs.Variables.{has_variable, term_has, variables_in, variables_of}
 use Rattle.meaning.specs.Reads.{term_variables}
 use Rattle.meaning.specs.Satisfaction.{sat}
-use Rattle.relation.specs.Frames.{Frame, IsWider, frame_of, size_of}
+use Rattle.relation.specs.Frames.{Frame, IsWider, domain_size, frame_of}
 use Rattle.formula.specs.Resolved.{are_distinct}
 use Rattle.relation.specs.Key.{are_known, key_in}
 use Rattle.relation.specs.Rows.{Table}
 use Rattle.interpreting.specs.declared.value_run.ValueRun.{ValueRun}
 use Rattle.evaluator.specs.Assigned.{CanAskEach, assignment_view, run_holds}
-use Rattle.evaluator.specs.Gathered.{AreAlike, any_has}
+use Rattle.evaluator.specs.Gathered.{ShareFrame, some_part_has}
 use Rattle.evaluator.specs.Interpreting.{CanAsk, IsInFor}
 use Rattle.evaluator.specs.Keys.{AreKeys}
 use Rattle.evaluator.specs.Rows.{AreRowsOf, AreRowsWhere, reads_at_key, reads_upto}
-use Rattle.interpreting.specs.Names.{formula_names}
+use Rattle.interpreting.specs.Names.{formula_uses_value}
 use Rattle.evaluator.specs.Stretched.{AreStretches}
 use Rattle.evaluator.specs.inner.Column.{AreRowsBeside}
 use Rattle.evaluator.specs.inner.Nodes.{changed_tree, needs_right, ordered_tree, pair_view, paired_tree}
@@ -48,10 +48,10 @@ use Rattle.evaluator.proofs.rows.+rows.Goals as goal
 pub rows_of-is_over-requires : goal.rows_of-is_over-requires
 rows_of-is_over-requires g t c =
     subst (λ (vs : List ℕ). are_known c.args.d.now vs ≡ true) (sym c.list-vars.ensures)
-    (known_variables c.args.d.now (has c.free-set.result) (λ v l h. c.requires.over v (sym (c.free-set.ensures v l) ∙ h)))
+    (known_variables c.args.d.now (set_has c.free-set.result) (λ v l h. c.requires.over v (sym (c.free-set.ensures v l) ∙ h)))
 
 pub rows_of-rows_by_key-requires-clause-vars : goal.rows_of-rows_by_key-requires-clause-vars
-rows_of-rows_by_key-requires-clause-vars g t c = c.list-vars.ensures ∙ variables_same (has c.free-set.result) (λ v. has_variable v (formula_view c.args.f.now)) (λ v l. c.free-set.ensures v l)
+rows_of-rows_by_key-requires-clause-vars g t c = c.list-vars.ensures ∙ variables_same (set_has c.free-set.result) (λ v. has_variable v (formula_view c.args.f.now)) (λ v l. c.free-set.ensures v l)
 
 pub rows_of-rows_by_key-requires-clause-alike : goal.rows_of-rows_by_key-requires-clause-alike
 rows_of-rows_by_key-requires-clause-alike g t c = sym c.is_over.ensures ∙ c.if-is_over.true
@@ -81,21 +81,21 @@ rows_of-returns-in_err-rows-in-One-clause-least g t c = c.in_err-rows-in-One.ens
 
 pub rows_of-returns-in_err-rows-in-One-clause-most : goal.rows_of-returns-in_err-rows-in-One-clause-most
 rows_of-returns-in_err-rows-in-One-clause-most g t c =
-    most_same _ _ (reads_upto c.args.d.now c.args.w.lo c.args.w.hi (formula_view c.args.f.now)) (reads_upto c.args.d.now c.args.w.lo c.args.w.hi (formula_view c.in-One.part.now)) (ap (reads_upto c.args.d.now c.args.w.lo c.args.w.hi) (sym c.in-One.ensures) ∙ changed_reads (size_of c.args.d.now) (c.args.w.hi + 1 - c.args.w.lo) c.in-One.change (formula_view c.in-One.part.now)) c.in_err-rows-in-One.ensures.most
+    most_same _ _ (reads_upto c.args.d.now c.args.w.lo c.args.w.hi (formula_view c.args.f.now)) (reads_upto c.args.d.now c.args.w.lo c.args.w.hi (formula_view c.in-One.part.now)) (ap (reads_upto c.args.d.now c.args.w.lo c.args.w.hi) (sym c.in-One.ensures) ∙ changed_reads (domain_size c.args.d.now) (c.args.w.hi + 1 - c.args.w.lo) c.in-One.change (formula_view c.in-One.part.now)) c.in_err-rows-in-One.ensures.most
 
 pub rows_of-returns-in_err-made-in-One-clause-least : goal.rows_of-returns-in_err-made-in-One-clause-least
 rows_of-returns-in_err-made-in-One-clause-least g t c = c.in_ok-rows-in-One.ensures.least
 
 pub rows_of-returns-in_err-made-in-One-clause-most : goal.rows_of-returns-in_err-made-in-One-clause-most
 rows_of-returns-in_err-made-in-One-clause-most g t c =
-    most_same _ _ (reads_upto c.args.d.now c.args.w.lo c.args.w.hi (formula_view c.args.f.now)) (reads_upto c.args.d.now c.args.w.lo c.args.w.hi (formula_view c.in-One.part.now)) (ap (reads_upto c.args.d.now c.args.w.lo c.args.w.hi) (sym c.in-One.ensures) ∙ changed_reads (size_of c.args.d.now) (c.args.w.hi + 1 - c.args.w.lo) c.in-One.change (formula_view c.in-One.part.now)) c.in_ok-rows-in-One.ensures.most
+    most_same _ _ (reads_upto c.args.d.now c.args.w.lo c.args.w.hi (formula_view c.args.f.now)) (reads_upto c.args.d.now c.args.w.lo c.args.w.hi (formula_view c.in-One.part.now)) (ap (reads_upto c.args.d.now c.args.w.lo c.args.w.hi) (sym c.in-One.ensures) ∙ changed_reads (domain_size c.args.d.now) (c.args.w.hi + 1 - c.args.w.lo) c.in-One.change (formula_view c.in-One.part.now)) c.in_ok-rows-in-One.ensures.most
 
 pub rows_of-returns-in_ok-made-in-One-clause-least : goal.rows_of-returns-in_ok-made-in-One-clause-least
 rows_of-returns-in_ok-made-in-One-clause-least g t c = c.in_ok-rows-in-One.ensures.least
 
 pub rows_of-returns-in_ok-made-in-One-clause-most : goal.rows_of-returns-in_ok-made-in-One-clause-most
 rows_of-returns-in_ok-made-in-One-clause-most g t c =
-    most_same _ _ (reads_upto c.args.d.now c.args.w.lo c.args.w.hi (formula_view c.args.f.now)) (reads_upto c.args.d.now c.args.w.lo c.args.w.hi (formula_view c.in-One.part.now)) (ap (reads_upto c.args.d.now c.args.w.lo c.args.w.hi) (sym c.in-One.ensures) ∙ changed_reads (size_of c.args.d.now) (c.args.w.hi + 1 - c.args.w.lo) c.in-One.change (formula_view c.in-One.part.now)) c.in_ok-rows-in-One.ensures.most
+    most_same _ _ (reads_upto c.args.d.now c.args.w.lo c.args.w.hi (formula_view c.args.f.now)) (reads_upto c.args.d.now c.args.w.lo c.args.w.hi (formula_view c.in-One.part.now)) (ap (reads_upto c.args.d.now c.args.w.lo c.args.w.hi) (sym c.in-One.ensures) ∙ changed_reads (domain_size c.args.d.now) (c.args.w.hi + 1 - c.args.w.lo) c.in-One.change (formula_view c.in-One.part.now)) c.in_ok-rows-in-One.ensures.most
 
 pub rows_of-rows_of_pair-requires : goal.rows_of-rows_of_pair-requires
 rows_of-rows_of_pair-requires g t c κs lives =
@@ -141,7 +141,7 @@ rows_of-returns-in_err-led-in-Two-clause-least g t c = c.in_err-led-in-Two.ensur
 pub rows_of-returns-in_err-led-in-Two-clause-most : goal.rows_of-returns-in_err-led-in-Two-clause-most
 rows_of-returns-in_err-led-in-Two-clause-most g t c =
     most_same _ _ (reads_upto c.args.d.now c.args.w.lo c.args.w.hi (formula_view c.args.f.now)) (reads_upto c.args.d.now c.args.w.lo c.args.w.hi (pair_view c.ordered-pair.result))
-    (ap (reads_upto c.args.d.now c.args.w.lo c.args.w.hi) (sym c.in-Two.ensures) ∙ sym (ordered_reads (size_of c.args.d.now) (c.args.w.hi + 1 - c.args.w.lo) c.in-Two.pairing (formula_view c.in-Two.left.now) (formula_view c.in-Two.right.now)) ∙ sym (ap (reads_upto c.args.d.now c.args.w.lo c.args.w.hi) c.ordered-pair.ensures.tree)) c.in_err-led-in-Two.ensures.most
+    (ap (reads_upto c.args.d.now c.args.w.lo c.args.w.hi) (sym c.in-Two.ensures) ∙ sym (ordered_reads (domain_size c.args.d.now) (c.args.w.hi + 1 - c.args.w.lo) c.in-Two.pairing (formula_view c.in-Two.left.now) (formula_view c.in-Two.right.now)) ∙ sym (ap (reads_upto c.args.d.now c.args.w.lo c.args.w.hi) c.ordered-pair.ensures.tree)) c.in_err-led-in-Two.ensures.most
 
 pub rows_of-returns-then-needs_right-clause-least : goal.rows_of-returns-then-needs_right-clause-least
 rows_of-returns-then-needs_right-clause-least g t c = c.in_ok-led-in-Two.ensures.least
@@ -149,7 +149,7 @@ rows_of-returns-then-needs_right-clause-least g t c = c.in_ok-led-in-Two.ensures
 pub rows_of-returns-then-needs_right-clause-most : goal.rows_of-returns-then-needs_right-clause-most
 rows_of-returns-then-needs_right-clause-most g t c =
     most_same _ _ (reads_upto c.args.d.now c.args.w.lo c.args.w.hi (formula_view c.args.f.now)) (reads_upto c.args.d.now c.args.w.lo c.args.w.hi (pair_view c.ordered-pair.result))
-    (ap (reads_upto c.args.d.now c.args.w.lo c.args.w.hi) (sym c.in-Two.ensures) ∙ sym (ordered_reads (size_of c.args.d.now) (c.args.w.hi + 1 - c.args.w.lo) c.in-Two.pairing (formula_view c.in-Two.left.now) (formula_view c.in-Two.right.now)) ∙ sym (ap (reads_upto c.args.d.now c.args.w.lo c.args.w.hi) c.ordered-pair.ensures.tree)) c.in_ok-led-in-Two.ensures.most
+    (ap (reads_upto c.args.d.now c.args.w.lo c.args.w.hi) (sym c.in-Two.ensures) ∙ sym (ordered_reads (domain_size c.args.d.now) (c.args.w.hi + 1 - c.args.w.lo) c.in-Two.pairing (formula_view c.in-Two.left.now) (formula_view c.in-Two.right.now)) ∙ sym (ap (reads_upto c.args.d.now c.args.w.lo c.args.w.hi) c.ordered-pair.ensures.tree)) c.in_ok-led-in-Two.ensures.most
 
 pub rows_of-rows_of-requires-in-Two : goal.rows_of-rows_of-requires-in-Two
 rows_of-rows_of-requires-in-Two g t c κs lives =
@@ -189,28 +189,28 @@ rows_of-returns-in_err-left-in-Two-clause-least g t c = c.in_err-left-in-Two.ens
 
 pub rows_of-returns-in_err-left-in-Two-clause-most : goal.rows_of-returns-in_err-left-in-Two-clause-most
 rows_of-returns-in_err-left-in-Two-clause-most g t c =
-    most_first _ _ (reads_upto c.args.d.now c.args.w.lo c.args.w.hi (formula_view c.args.f.now)) (reads_upto c.args.d.now c.args.w.lo c.args.w.hi (formula_view c.in-Two.left.now)) (reads_upto c.args.d.now c.args.w.lo c.args.w.hi (formula_view c.in-Two.right.now)) (ap (reads_upto c.args.d.now c.args.w.lo c.args.w.hi) (sym c.in-Two.ensures) ∙ paired_reads (size_of c.args.d.now) (c.args.w.hi + 1 - c.args.w.lo) c.in-Two.pairing (formula_view c.in-Two.left.now) (formula_view c.in-Two.right.now)) c.in_err-left-in-Two.ensures.most
+    most_first _ _ (reads_upto c.args.d.now c.args.w.lo c.args.w.hi (formula_view c.args.f.now)) (reads_upto c.args.d.now c.args.w.lo c.args.w.hi (formula_view c.in-Two.left.now)) (reads_upto c.args.d.now c.args.w.lo c.args.w.hi (formula_view c.in-Two.right.now)) (ap (reads_upto c.args.d.now c.args.w.lo c.args.w.hi) (sym c.in-Two.ensures) ∙ paired_reads (domain_size c.args.d.now) (c.args.w.hi + 1 - c.args.w.lo) c.in-Two.pairing (formula_view c.in-Two.left.now) (formula_view c.in-Two.right.now)) c.in_err-left-in-Two.ensures.most
 
 pub rows_of-returns-in_err-right-in-Two-clause-least : goal.rows_of-returns-in_err-right-in-Two-clause-least
 rows_of-returns-in_err-right-in-Two-clause-least g t c = in_turn _ _ _ c.in_ok-left-in-Two.ensures.least c.in_err-right-in-Two.ensures.least
 
 pub rows_of-returns-in_err-right-in-Two-clause-most : goal.rows_of-returns-in_err-right-in-Two-clause-most
 rows_of-returns-in_err-right-in-Two-clause-most g t c =
-    most_both _ _ _ (reads_upto c.args.d.now c.args.w.lo c.args.w.hi (formula_view c.args.f.now)) (reads_upto c.args.d.now c.args.w.lo c.args.w.hi (formula_view c.in-Two.left.now)) (reads_upto c.args.d.now c.args.w.lo c.args.w.hi (formula_view c.in-Two.right.now)) (ap (reads_upto c.args.d.now c.args.w.lo c.args.w.hi) (sym c.in-Two.ensures) ∙ paired_reads (size_of c.args.d.now) (c.args.w.hi + 1 - c.args.w.lo) c.in-Two.pairing (formula_view c.in-Two.left.now) (formula_view c.in-Two.right.now)) c.in_ok-left-in-Two.ensures.most c.in_err-right-in-Two.ensures.most
+    most_both _ _ _ (reads_upto c.args.d.now c.args.w.lo c.args.w.hi (formula_view c.args.f.now)) (reads_upto c.args.d.now c.args.w.lo c.args.w.hi (formula_view c.in-Two.left.now)) (reads_upto c.args.d.now c.args.w.lo c.args.w.hi (formula_view c.in-Two.right.now)) (ap (reads_upto c.args.d.now c.args.w.lo c.args.w.hi) (sym c.in-Two.ensures) ∙ paired_reads (domain_size c.args.d.now) (c.args.w.hi + 1 - c.args.w.lo) c.in-Two.pairing (formula_view c.in-Two.left.now) (formula_view c.in-Two.right.now)) c.in_ok-left-in-Two.ensures.most c.in_err-right-in-Two.ensures.most
 
 pub rows_of-returns-in_err-made-in-Two-clause-least : goal.rows_of-returns-in_err-made-in-Two-clause-least
 rows_of-returns-in_err-made-in-Two-clause-least g t c = in_turn _ _ _ c.in_ok-left-in-Two.ensures.least c.in_ok-right-in-Two.ensures.least
 
 pub rows_of-returns-in_err-made-in-Two-clause-most : goal.rows_of-returns-in_err-made-in-Two-clause-most
 rows_of-returns-in_err-made-in-Two-clause-most g t c =
-    most_both _ _ _ (reads_upto c.args.d.now c.args.w.lo c.args.w.hi (formula_view c.args.f.now)) (reads_upto c.args.d.now c.args.w.lo c.args.w.hi (formula_view c.in-Two.left.now)) (reads_upto c.args.d.now c.args.w.lo c.args.w.hi (formula_view c.in-Two.right.now)) (ap (reads_upto c.args.d.now c.args.w.lo c.args.w.hi) (sym c.in-Two.ensures) ∙ paired_reads (size_of c.args.d.now) (c.args.w.hi + 1 - c.args.w.lo) c.in-Two.pairing (formula_view c.in-Two.left.now) (formula_view c.in-Two.right.now)) c.in_ok-left-in-Two.ensures.most c.in_ok-right-in-Two.ensures.most
+    most_both _ _ _ (reads_upto c.args.d.now c.args.w.lo c.args.w.hi (formula_view c.args.f.now)) (reads_upto c.args.d.now c.args.w.lo c.args.w.hi (formula_view c.in-Two.left.now)) (reads_upto c.args.d.now c.args.w.lo c.args.w.hi (formula_view c.in-Two.right.now)) (ap (reads_upto c.args.d.now c.args.w.lo c.args.w.hi) (sym c.in-Two.ensures) ∙ paired_reads (domain_size c.args.d.now) (c.args.w.hi + 1 - c.args.w.lo) c.in-Two.pairing (formula_view c.in-Two.left.now) (formula_view c.in-Two.right.now)) c.in_ok-left-in-Two.ensures.most c.in_ok-right-in-Two.ensures.most
 
 pub rows_of-returns-in_ok-made-in-Two-clause-least : goal.rows_of-returns-in_ok-made-in-Two-clause-least
 rows_of-returns-in_ok-made-in-Two-clause-least g t c = in_turn _ _ _ c.in_ok-left-in-Two.ensures.least c.in_ok-right-in-Two.ensures.least
 
 pub rows_of-returns-in_ok-made-in-Two-clause-most : goal.rows_of-returns-in_ok-made-in-Two-clause-most
 rows_of-returns-in_ok-made-in-Two-clause-most g t c =
-    most_both _ _ _ (reads_upto c.args.d.now c.args.w.lo c.args.w.hi (formula_view c.args.f.now)) (reads_upto c.args.d.now c.args.w.lo c.args.w.hi (formula_view c.in-Two.left.now)) (reads_upto c.args.d.now c.args.w.lo c.args.w.hi (formula_view c.in-Two.right.now)) (ap (reads_upto c.args.d.now c.args.w.lo c.args.w.hi) (sym c.in-Two.ensures) ∙ paired_reads (size_of c.args.d.now) (c.args.w.hi + 1 - c.args.w.lo) c.in-Two.pairing (formula_view c.in-Two.left.now) (formula_view c.in-Two.right.now)) c.in_ok-left-in-Two.ensures.most c.in_ok-right-in-Two.ensures.most
+    most_both _ _ _ (reads_upto c.args.d.now c.args.w.lo c.args.w.hi (formula_view c.args.f.now)) (reads_upto c.args.d.now c.args.w.lo c.args.w.hi (formula_view c.in-Two.left.now)) (reads_upto c.args.d.now c.args.w.lo c.args.w.hi (formula_view c.in-Two.right.now)) (ap (reads_upto c.args.d.now c.args.w.lo c.args.w.hi) (sym c.in-Two.ensures) ∙ paired_reads (domain_size c.args.d.now) (c.args.w.hi + 1 - c.args.w.lo) c.in-Two.pairing (formula_view c.in-Two.left.now) (formula_view c.in-Two.right.now)) c.in_ok-left-in-Two.ensures.most c.in_ok-right-in-Two.ensures.most
 
 pub rows_of-rows_of_assignment-requires : goal.rows_of-rows_of_assignment-requires
 rows_of-rows_of_assignment-requires g t c κs lives =
@@ -240,11 +240,11 @@ rows_of-returns-in_ok-made-in-Assign-clause-most g t c =
 
 pub rows_of-unreachable-requires : goal.rows_of-unreachable-requires
 rows_of-unreachable-requires g t c =
-    let f : false ≡ true = sym c.if-is_over.false ∙ c.is_over.ensures ∙ truth_over (size_of c.args.d.now) c.list-vars.result.now (formula_view c.args.f.now) _ (sym c.in-Truth.ensures) in cc
+    let f : false ≡ true = sym c.if-is_over.false ∙ c.is_over.ensures ∙ truth_over (domain_size c.args.d.now) c.list-vars.result.now (formula_view c.args.f.now) _ (sym c.in-Truth.ensures) in cc
 
 pub rows_of-unreachable-requires-in-Atom : goal.rows_of-unreachable-requires-in-Atom
 rows_of-unreachable-requires-in-Atom g t c =
-    let f : false ≡ true = sym c.if-is_over.false ∙ c.is_over.ensures ∙ atom_over (size_of c.args.d.now) c.list-vars.result.now (formula_view c.args.f.now) _ (c.list-vars.ensures ∙ variables_same (has c.free-set.result) (λ v. has_variable v (formula_view c.args.f.now)) (λ v l. c.free-set.ensures v l)) (sym c.in-Atom.ensures) in cc
+    let f : false ≡ true = sym c.if-is_over.false ∙ c.is_over.ensures ∙ atom_over (domain_size c.args.d.now) c.list-vars.result.now (formula_view c.args.f.now) _ (c.list-vars.ensures ∙ variables_same (set_has c.free-set.result) (λ v. has_variable v (formula_view c.args.f.now)) (λ v l. c.free-set.ensures v l)) (sym c.in-Atom.ensures) in cc
 
 pub rows_of_pair-rows_of-requires : goal.rows_of_pair-rows_of-requires
 rows_of_pair-rows_of-requires g t c κs lives = (
@@ -317,28 +317,28 @@ rows_of_pair-returns-in_err-right-clause-least g t c = c.in_err-right.ensures.le
 
 pub rows_of_pair-returns-in_err-right-clause-most : goal.rows_of_pair-returns-in_err-right-clause-most
 rows_of_pair-returns-in_err-right-clause-most g t c =
-    most_second _ _ (reads_upto c.args.d.now c.args.w.lo c.args.w.hi (pair_view c.args.pair.now)) (reads_upto c.args.d.now c.args.w.lo c.args.w.hi (formula_view c.args.pair.now.left.now)) (reads_upto c.args.d.now c.args.w.lo c.args.w.hi (formula_view c.args.pair.now.right.now)) (paired_reads (size_of c.args.d.now) (c.args.w.hi + 1 - c.args.w.lo) c.args.pair.now.pairing (formula_view c.args.pair.now.left.now) (formula_view c.args.pair.now.right.now)) c.in_err-right.ensures.most
+    most_second _ _ (reads_upto c.args.d.now c.args.w.lo c.args.w.hi (pair_view c.args.pair.now)) (reads_upto c.args.d.now c.args.w.lo c.args.w.hi (formula_view c.args.pair.now.left.now)) (reads_upto c.args.d.now c.args.w.lo c.args.w.hi (formula_view c.args.pair.now.right.now)) (paired_reads (domain_size c.args.d.now) (c.args.w.hi + 1 - c.args.w.lo) c.args.pair.now.pairing (formula_view c.args.pair.now.left.now) (formula_view c.args.pair.now.right.now)) c.in_err-right.ensures.most
 
 pub rows_of_pair-returns-in_err-left-clause-least : goal.rows_of_pair-returns-in_err-left-clause-least
 rows_of_pair-returns-in_err-left-clause-least g t c = in_turn _ _ _ c.in_ok-right.ensures.least c.in_err-left.ensures.least
 
 pub rows_of_pair-returns-in_err-left-clause-most : goal.rows_of_pair-returns-in_err-left-clause-most
 rows_of_pair-returns-in_err-left-clause-most g t c =
-    most_turned _ _ _ (reads_upto c.args.d.now c.args.w.lo c.args.w.hi (pair_view c.args.pair.now)) (reads_upto c.args.d.now c.args.w.lo c.args.w.hi (formula_view c.args.pair.now.left.now)) (reads_upto c.args.d.now c.args.w.lo c.args.w.hi (formula_view c.args.pair.now.right.now)) (paired_reads (size_of c.args.d.now) (c.args.w.hi + 1 - c.args.w.lo) c.args.pair.now.pairing (formula_view c.args.pair.now.left.now) (formula_view c.args.pair.now.right.now)) c.in_ok-right.ensures.most (most_over c.args.w.lo c.args.w.hi (formula_view c.args.pair.now.left.now) _ _ (ap (λ (z : Frame). z.domains) c.in_ok-right.ensures.rows.frame) _ _ c.in_err-left.ensures.most)
+    most_turned _ _ _ (reads_upto c.args.d.now c.args.w.lo c.args.w.hi (pair_view c.args.pair.now)) (reads_upto c.args.d.now c.args.w.lo c.args.w.hi (formula_view c.args.pair.now.left.now)) (reads_upto c.args.d.now c.args.w.lo c.args.w.hi (formula_view c.args.pair.now.right.now)) (paired_reads (domain_size c.args.d.now) (c.args.w.hi + 1 - c.args.w.lo) c.args.pair.now.pairing (formula_view c.args.pair.now.left.now) (formula_view c.args.pair.now.right.now)) c.in_ok-right.ensures.most (most_over c.args.w.lo c.args.w.hi (formula_view c.args.pair.now.left.now) _ _ (ap (λ (z : Frame). z.domains) c.in_ok-right.ensures.rows.frame) _ _ c.in_err-left.ensures.most)
 
 pub rows_of_pair-returns-in_err-made-clause-least : goal.rows_of_pair-returns-in_err-made-clause-least
 rows_of_pair-returns-in_err-made-clause-least g t c = in_turn _ _ _ c.in_ok-right.ensures.least c.in_ok-left.ensures.least
 
 pub rows_of_pair-returns-in_err-made-clause-most : goal.rows_of_pair-returns-in_err-made-clause-most
 rows_of_pair-returns-in_err-made-clause-most g t c =
-    most_turned _ _ _ (reads_upto c.args.d.now c.args.w.lo c.args.w.hi (pair_view c.args.pair.now)) (reads_upto c.args.d.now c.args.w.lo c.args.w.hi (formula_view c.args.pair.now.left.now)) (reads_upto c.args.d.now c.args.w.lo c.args.w.hi (formula_view c.args.pair.now.right.now)) (paired_reads (size_of c.args.d.now) (c.args.w.hi + 1 - c.args.w.lo) c.args.pair.now.pairing (formula_view c.args.pair.now.left.now) (formula_view c.args.pair.now.right.now)) c.in_ok-right.ensures.most (most_over c.args.w.lo c.args.w.hi (formula_view c.args.pair.now.left.now) _ _ (ap (λ (z : Frame). z.domains) c.in_ok-right.ensures.rows.frame) _ _ c.in_ok-left.ensures.most)
+    most_turned _ _ _ (reads_upto c.args.d.now c.args.w.lo c.args.w.hi (pair_view c.args.pair.now)) (reads_upto c.args.d.now c.args.w.lo c.args.w.hi (formula_view c.args.pair.now.left.now)) (reads_upto c.args.d.now c.args.w.lo c.args.w.hi (formula_view c.args.pair.now.right.now)) (paired_reads (domain_size c.args.d.now) (c.args.w.hi + 1 - c.args.w.lo) c.args.pair.now.pairing (formula_view c.args.pair.now.left.now) (formula_view c.args.pair.now.right.now)) c.in_ok-right.ensures.most (most_over c.args.w.lo c.args.w.hi (formula_view c.args.pair.now.left.now) _ _ (ap (λ (z : Frame). z.domains) c.in_ok-right.ensures.rows.frame) _ _ c.in_ok-left.ensures.most)
 
 pub rows_of_pair-returns-clause-least : goal.rows_of_pair-returns-clause-least
 rows_of_pair-returns-clause-least g t c = in_turn _ _ _ c.in_ok-right.ensures.least c.in_ok-left.ensures.least
 
 pub rows_of_pair-returns-clause-most : goal.rows_of_pair-returns-clause-most
 rows_of_pair-returns-clause-most g t c =
-    most_turned _ _ _ (reads_upto c.args.d.now c.args.w.lo c.args.w.hi (pair_view c.args.pair.now)) (reads_upto c.args.d.now c.args.w.lo c.args.w.hi (formula_view c.args.pair.now.left.now)) (reads_upto c.args.d.now c.args.w.lo c.args.w.hi (formula_view c.args.pair.now.right.now)) (paired_reads (size_of c.args.d.now) (c.args.w.hi + 1 - c.args.w.lo) c.args.pair.now.pairing (formula_view c.args.pair.now.left.now) (formula_view c.args.pair.now.right.now)) c.in_ok-right.ensures.most (most_over c.args.w.lo c.args.w.hi (formula_view c.args.pair.now.left.now) _ _ (ap (λ (z : Frame). z.domains) c.in_ok-right.ensures.rows.frame) _ _ c.in_ok-left.ensures.most)
+    most_turned _ _ _ (reads_upto c.args.d.now c.args.w.lo c.args.w.hi (pair_view c.args.pair.now)) (reads_upto c.args.d.now c.args.w.lo c.args.w.hi (formula_view c.args.pair.now.left.now)) (reads_upto c.args.d.now c.args.w.lo c.args.w.hi (formula_view c.args.pair.now.right.now)) (paired_reads (domain_size c.args.d.now) (c.args.w.hi + 1 - c.args.w.lo) c.args.pair.now.pairing (formula_view c.args.pair.now.left.now) (formula_view c.args.pair.now.right.now)) c.in_ok-right.ensures.most (most_over c.args.w.lo c.args.w.hi (formula_view c.args.pair.now.left.now) _ _ (ap (λ (z : Frame). z.domains) c.in_ok-right.ensures.rows.frame) _ _ c.in_ok-left.ensures.most)
 
 pub rows_beside-leave_out-requires : goal.rows_beside-leave_out-requires
 rows_beside-leave_out-requires g t c =
@@ -400,7 +400,7 @@ rows_beside-returns-in_err-near-clause-least g t c =
 pub rows_beside-returns-in_err-near-clause-most : goal.rows_beside-returns-in_err-near-clause-most
 rows_beside-returns-in_err-near-clause-most g t c =
     most_over c.args.w.lo c.args.w.hi (formula_view c.args.f.now) _ _ c.domains-d.ensures _ _
-    (most_fewer _ _ (reads_upto c.in_ok-few.few c.args.w.lo c.args.w.hi (formula_view c.args.f.now)) (reads_upto c.domains-d.result.now c.args.w.lo c.args.w.hi (formula_view c.args.f.now)) (fewer_reads c.fewer_objects_take_fewer_looks.ensures (size_of c.in_ok-few.few) (size_of c.domains-d.result.now) c.in_ok-few.ensures.few (c.args.w.hi + 1 - c.args.w.lo) (formula_view c.args.f.now)) c.in_err-near.ensures.most)
+    (most_fewer _ _ (reads_upto c.in_ok-few.few c.args.w.lo c.args.w.hi (formula_view c.args.f.now)) (reads_upto c.domains-d.result.now c.args.w.lo c.args.w.hi (formula_view c.args.f.now)) (fewer_reads c.fewer_objects_take_fewer_looks.ensures (domain_size c.in_ok-few.few) (domain_size c.domains-d.result.now) c.in_ok-few.ensures.few (c.args.w.hi + 1 - c.args.w.lo) (formula_view c.args.f.now)) c.in_err-near.ensures.most)
 
 pub rows_beside-returns-in_err-wide-clause-least : goal.rows_beside-returns-in_err-wide-clause-least
 rows_beside-returns-in_err-wide-clause-least g t c =
@@ -409,7 +409,7 @@ rows_beside-returns-in_err-wide-clause-least g t c =
 pub rows_beside-returns-in_err-wide-clause-most : goal.rows_beside-returns-in_err-wide-clause-most
 rows_beside-returns-in_err-wide-clause-most g t c =
     most_over c.args.w.lo c.args.w.hi (formula_view c.args.f.now) _ _ c.domains-d.ensures _ _
-    (most_fewer _ _ (reads_upto c.in_ok-few.few c.args.w.lo c.args.w.hi (formula_view c.args.f.now)) (reads_upto c.domains-d.result.now c.args.w.lo c.args.w.hi (formula_view c.args.f.now)) (fewer_reads c.fewer_objects_take_fewer_looks.ensures (size_of c.in_ok-few.few) (size_of c.domains-d.result.now) c.in_ok-few.ensures.few (c.args.w.hi + 1 - c.args.w.lo) (formula_view c.args.f.now)) c.in_ok-near.ensures.most)
+    (most_fewer _ _ (reads_upto c.in_ok-few.few c.args.w.lo c.args.w.hi (formula_view c.args.f.now)) (reads_upto c.domains-d.result.now c.args.w.lo c.args.w.hi (formula_view c.args.f.now)) (fewer_reads c.fewer_objects_take_fewer_looks.ensures (domain_size c.in_ok-few.few) (domain_size c.domains-d.result.now) c.in_ok-few.ensures.few (c.args.w.hi + 1 - c.args.w.lo) (formula_view c.args.f.now)) c.in_ok-near.ensures.most)
 
 pub rows_beside-returns-then-leave_out-clause-least : goal.rows_beside-returns-then-leave_out-clause-least
 rows_beside-returns-then-leave_out-clause-least g t c =
@@ -418,7 +418,7 @@ rows_beside-returns-then-leave_out-clause-least g t c =
 pub rows_beside-returns-then-leave_out-clause-most : goal.rows_beside-returns-then-leave_out-clause-most
 rows_beside-returns-then-leave_out-clause-most g t c =
     most_over c.args.w.lo c.args.w.hi (formula_view c.args.f.now) _ _ c.domains-d.ensures _ _
-    (most_fewer _ _ (reads_upto c.in_ok-few.few c.args.w.lo c.args.w.hi (formula_view c.args.f.now)) (reads_upto c.domains-d.result.now c.args.w.lo c.args.w.hi (formula_view c.args.f.now)) (fewer_reads c.fewer_objects_take_fewer_looks.ensures (size_of c.in_ok-few.few) (size_of c.domains-d.result.now) c.in_ok-few.ensures.few (c.args.w.hi + 1 - c.args.w.lo) (formula_view c.args.f.now)) c.in_ok-near.ensures.most)
+    (most_fewer _ _ (reads_upto c.in_ok-few.few c.args.w.lo c.args.w.hi (formula_view c.args.f.now)) (reads_upto c.domains-d.result.now c.args.w.lo c.args.w.hi (formula_view c.args.f.now)) (fewer_reads c.fewer_objects_take_fewer_looks.ensures (domain_size c.in_ok-few.few) (domain_size c.domains-d.result.now) c.in_ok-few.ensures.few (c.args.w.hi + 1 - c.args.w.lo) (formula_view c.args.f.now)) c.in_ok-near.ensures.most)
 
 pub rows_beside-returns-in_err-made-clause-least : goal.rows_beside-returns-in_err-made-clause-least
 rows_beside-returns-in_err-made-clause-least g t c =
@@ -439,22 +439,22 @@ rows_beside-returns-clause-most g t c =
 pub rows_of_assignment-keys_of-requires-clause-known : goal.rows_of_assignment-keys_of-requires-clause-known
 rows_of_assignment-keys_of-requires-clause-known g t c =
     subst (λ (vs : List ℕ). are_known c.args.d.now vs ≡ true) (sym c.list-term_vars.ensures)
-    (known_variables c.args.d.now (has c.free_in_term.result) (λ v l h. c.requires.over v (or_left (term_has v c.args.a.now.term.now) (has_variable v (formula_view c.args.a.now.body.now)) (sym (c.free_in_term.ensures v l) ∙ h))))
+    (known_variables c.args.d.now (set_has c.free_in_term.result) (λ v l h. c.requires.over v (or_left (term_has v c.args.a.now.term.now) (has_variable v (formula_view c.args.a.now.body.now)) (sym (c.free_in_term.ensures v l) ∙ h))))
 
 pub rows_of_assignment-keys_of-requires-clause-few : goal.rows_of_assignment-keys_of-requires-clause-few
-rows_of_assignment-keys_of-requires-clause-few g t c = subst (λ (vs : List ℕ). length vs ≤ 4) (sym c.list-term_vars.ensures) (few_variables (has c.free_in_term.result))
+rows_of_assignment-keys_of-requires-clause-few g t c = subst (λ (vs : List ℕ). length vs ≤ 4) (sym c.list-term_vars.ensures) (few_variables (set_has c.free_in_term.result))
 
 pub rows_of_assignment-keys-init : goal.rows_of_assignment-keys-init
 rows_of_assignment-keys-init g t c = record {
-  alike = none_alike (variables_in (has c.args.set)) c.args.d.now c.args.w.lo c.args.w.hi c.new-parts.result.items c.new-parts.ensures.items;
-  ticks = λ b is_in u. ap (λ (rs : (List (Table g.row.S.Denot))). any_has g.S.TickSet.member rs b u) c.new-parts.ensures.items ∙ none_yet (within c.args.w.lo c.args.w.hi u);
+  alike = none_alike (variables_in (set_has c.args.set)) c.args.d.now c.args.w.lo c.args.w.hi c.new-parts.result.items c.new-parts.ensures.items;
+  ticks = λ b is_in u. ap (λ (rs : (List (Table g.row.S.Denot))). some_part_has g.S.TickSet.member rs b u) c.new-parts.ensures.items ∙ none_yet (within c.args.w.lo c.args.w.hi u);
   least = omega arith;
   most = omega arith;
 }
 
 pub rows_of_assignment-rows_at_key-requires : goal.rows_of_assignment-rows_at_key-requires
 rows_of_assignment-rows_at_key-requires g t c κs lives =
-    let same_vars : c.list-term_vars.result.now ≡ term_variables c.args.a.now.term.now = c.list-term_vars.ensures ∙ variables_same (has c.free_in_term.result) (λ v. term_has v c.args.a.now.term.now) (λ v l. c.free_in_term.ensures v l) in
+    let same_vars : c.list-term_vars.result.now ≡ term_variables c.args.a.now.term.now = c.list-term_vars.ensures ∙ variables_same (set_has c.free_in_term.result) (λ v. term_has v c.args.a.now.term.now) (λ v l. c.free_in_term.ensures v l) in
     let are = subst (λ (ks : List (List ℕ)). AreKeys c.args.d.now c.list-term_vars.result.now ks) (sym c.items-key-items.ensures) c.in_ok-keys.ensures in
     let inside = subst (λ (k : List ℕ). key_in c.args.d.now c.list-term_vars.result.now k ≡ true) (sym c.key-item.is) (at_key (key_in c.args.d.now c.list-term_vars.result.now) c.items-key-items.result.now c.keys.key-index c.key-item.result are.inside (omega (arith, c.keys-test.true))) in (
       omega (arith, c.decreases),
@@ -466,7 +466,7 @@ rows_of_assignment-returns-in_err-rows-clause-least g t c = in_turn _ _ _ c.keys
 
 pub rows_of_assignment-returns-in_err-rows-clause-most : goal.rows_of_assignment-returns-in_err-rows-clause-most
 rows_of_assignment-returns-in_err-rows-clause-most g t c =
-    let same_vars : c.list-term_vars.result.now ≡ term_variables c.args.a.now.term.now = c.list-term_vars.ensures ∙ variables_same (has c.free_in_term.result) (λ v. term_has v c.args.a.now.term.now) (λ v l. c.free_in_term.ensures v l) in
+    let same_vars : c.list-term_vars.result.now ≡ term_variables c.args.a.now.term.now = c.list-term_vars.ensures ∙ variables_same (set_has c.free_in_term.result) (λ v. term_has v c.args.a.now.term.now) (λ v l. c.free_in_term.ensures v l) in
     keys_within c.args.d.now c.args.w.lo c.args.w.hi c.list-term_vars.result.now c.args.a.now.depth c.args.a.now.term.now (formula_view c.args.a.now.body.now) same_vars _ _ (c.keys.key-index + 1) (length c.in_ok-keys.keys)
     (one_step c.args.reads.now c.keys.reads _ c.keys.key-index (reads_at_key c.args.d.now c.args.w.lo c.args.w.hi c.list-term_vars.result.now (formula_view c.args.a.now.body.now)) c.keys.invariant.most c.in_err-rows.ensures.most)
     (let l = c.keys-test.true in let e = ap length c.items-key-items.ensures in omega (arith, l, e)) c.in_ok-keys.ensures.count
@@ -476,7 +476,7 @@ rows_of_assignment-returns-in_err-push_back-clause-least g t c = in_turn _ _ _ c
 
 pub rows_of_assignment-returns-in_err-push_back-clause-most : goal.rows_of_assignment-returns-in_err-push_back-clause-most
 rows_of_assignment-returns-in_err-push_back-clause-most g t c =
-    let same_vars : c.list-term_vars.result.now ≡ term_variables c.args.a.now.term.now = c.list-term_vars.ensures ∙ variables_same (has c.free_in_term.result) (λ v. term_has v c.args.a.now.term.now) (λ v l. c.free_in_term.ensures v l) in
+    let same_vars : c.list-term_vars.result.now ≡ term_variables c.args.a.now.term.now = c.list-term_vars.ensures ∙ variables_same (set_has c.free_in_term.result) (λ v. term_has v c.args.a.now.term.now) (λ v l. c.free_in_term.ensures v l) in
     keys_within c.args.d.now c.args.w.lo c.args.w.hi c.list-term_vars.result.now c.args.a.now.depth c.args.a.now.term.now (formula_view c.args.a.now.body.now) same_vars _ _ (c.keys.key-index + 1) (length c.in_ok-keys.keys)
     (one_step c.args.reads.now c.keys.reads _ c.keys.key-index (reads_at_key c.args.d.now c.args.w.lo c.args.w.hi c.list-term_vars.result.now (formula_view c.args.a.now.body.now)) c.keys.invariant.most c.in_ok-rows.ensures.most)
     (let l = c.keys-test.true in let e = ap length c.items-key-items.ensures in omega (arith, l, e)) c.in_ok-keys.ensures.count
@@ -486,7 +486,7 @@ rows_of_assignment-returns-in_err-made-clause-least g t c = c.keys.invariant.lea
 
 pub rows_of_assignment-returns-in_err-made-clause-most : goal.rows_of_assignment-returns-in_err-made-clause-most
 rows_of_assignment-returns-in_err-made-clause-most g t c =
-    let same_vars : c.list-term_vars.result.now ≡ term_variables c.args.a.now.term.now = c.list-term_vars.ensures ∙ variables_same (has c.free_in_term.result) (λ v. term_has v c.args.a.now.term.now) (λ v l. c.free_in_term.ensures v l) in
+    let same_vars : c.list-term_vars.result.now ≡ term_variables c.args.a.now.term.now = c.list-term_vars.ensures ∙ variables_same (set_has c.free_in_term.result) (λ v. term_has v c.args.a.now.term.now) (λ v l. c.free_in_term.ensures v l) in
     keys_within c.args.d.now c.args.w.lo c.args.w.hi c.list-term_vars.result.now c.args.a.now.depth c.args.a.now.term.now (formula_view c.args.a.now.body.now) same_vars _ _ c.keys.key-index (length c.in_ok-keys.keys) c.keys.invariant.most
     (let l : c.keys.key-index ≤ length c.items-key-items.result.now = c.keys.auto.key-index-end in let e = ap length c.items-key-items.ensures in omega (arith, l, e)) c.in_ok-keys.ensures.count
 
@@ -495,16 +495,16 @@ rows_of_assignment-returns-clause-least g t c = c.keys.invariant.least
 
 pub rows_of_assignment-returns-clause-most : goal.rows_of_assignment-returns-clause-most
 rows_of_assignment-returns-clause-most g t c =
-    let same_vars : c.list-term_vars.result.now ≡ term_variables c.args.a.now.term.now = c.list-term_vars.ensures ∙ variables_same (has c.free_in_term.result) (λ v. term_has v c.args.a.now.term.now) (λ v l. c.free_in_term.ensures v l) in
+    let same_vars : c.list-term_vars.result.now ≡ term_variables c.args.a.now.term.now = c.list-term_vars.ensures ∙ variables_same (set_has c.free_in_term.result) (λ v. term_has v c.args.a.now.term.now) (λ v l. c.free_in_term.ensures v l) in
     keys_within c.args.d.now c.args.w.lo c.args.w.hi c.list-term_vars.result.now c.args.a.now.depth c.args.a.now.term.now (formula_view c.args.a.now.body.now) same_vars _ _ c.keys.key-index (length c.in_ok-keys.keys) c.keys.invariant.most
     (let l : c.keys.key-index ≤ length c.items-key-items.result.now = c.keys.auto.key-index-end in let e = ap length c.items-key-items.ensures in omega (arith, l, e)) c.in_ok-keys.ensures.count
 
 pub rows_of_assignment-keys-preserved : goal.rows_of_assignment-keys-preserved
 rows_of_assignment-keys-preserved g t c = record {
-  alike = more_alike (variables_in (has c.args.set)) c.args.d.now c.args.w.lo c.args.w.hi c.keys.parts.items c.push_back.new.self.items c.in_ok-rows.rows c.in_ok-push_back.ensures.items c.keys.invariant.alike
-      (c.in_ok-rows.ensures.rows.vars ∙ sym (variables_same (has c.args.set) (λ v. has_variable v (assignment_view c.args.a.now)) (λ v l. c.requires.set v l))) c.in_ok-rows.ensures.rows.frame;
+  alike = more_alike (variables_in (set_has c.args.set)) c.args.d.now c.args.w.lo c.args.w.hi c.keys.parts.items c.push_back.new.self.items c.in_ok-rows.rows c.in_ok-push_back.ensures.items c.keys.invariant.alike
+      (c.in_ok-rows.ensures.rows.vars ∙ sym (variables_same (set_has c.args.set) (λ v. has_variable v (assignment_view c.args.a.now)) (λ v l. c.requires.set v l))) c.in_ok-rows.ensures.rows.frame;
   ticks = λ b is_in u.
-      ap (λ (rs : (List (Table g.row.S.Denot))). any_has g.S.TickSet.member rs b u) c.in_ok-push_back.ensures.items
+      ap (λ (rs : (List (Table g.row.S.Denot))). some_part_has g.S.TickSet.member rs b u) c.in_ok-push_back.ensures.items
       ∙ key_more g.S.TickSet.member c.args.d.now c.args.w.lo c.args.w.hi c.list-term_vars.result.now (λ (b : ℕ → ℕ) (u : ℕ). sat (g.I.Interpreter.interpretation c.args.source.now b) (assignment_view c.args.a.now) c.args.env.now c.args.w.hi u) c.items-key-items.result.now (variables_of (assignment_view c.args.a.now)) c.keys.key-index c.key-item.result c.keys.parts.items c.in_ok-rows.rows
       (omega (arith, c.keys-test.true)) c.key-item.is c.keys.invariant.ticks c.in_ok-rows.ensures.rows b is_in u;
   least = in_turn _ _ _ c.keys.invariant.least c.in_ok-rows.ensures.least;
@@ -520,12 +520,12 @@ rows_of_assignment-united-requires-clause-known g t c = λ v l h. c.requires.ove
 pub rows_of_assignment-returns-clause-rows : goal.rows_of_assignment-returns-clause-rows
 rows_of_assignment-returns-clause-rows g t c =
     let are = subst (λ (ks : List (List ℕ)). AreKeys c.args.d.now c.list-term_vars.result.now ks) (sym c.items-key-items.ensures) c.in_ok-keys.ensures in
-    let known = subst (λ (vs : List ℕ). are_known c.args.d.now vs ≡ true) (sym c.list-term_vars.ensures) (known_variables c.args.d.now (has c.free_in_term.result) (λ v l h. c.requires.over v (or_left (term_has v c.args.a.now.term.now) (has_variable v (formula_view c.args.a.now.body.now)) (sym (c.free_in_term.ensures v l) ∙ h)))) in
+    let known = subst (λ (vs : List ℕ). are_known c.args.d.now vs ≡ true) (sym c.list-term_vars.ensures) (known_variables c.args.d.now (set_has c.free_in_term.result) (λ v l h. c.requires.over v (or_left (term_has v c.args.a.now.term.now) (has_variable v (formula_view c.args.a.now.body.now)) (sym (c.free_in_term.ensures v l) ∙ h)))) in
     record {
       ticks = λ b is_in u.
           c.in_ok-made.ensures.ticks b is_in u
           ∙ all_keys g.S.TickSet.member c.args.d.now c.args.w.lo c.args.w.hi c.list-term_vars.result.now (λ (b : ℕ → ℕ) (u : ℕ). sat (g.I.Interpreter.interpretation c.args.source.now b) (assignment_view c.args.a.now) c.args.env.now c.args.w.hi u) c.items-key-items.result.now c.keys.key-index c.keys.parts.items (omega (arith, c.keys-test.false)) are known c.keys.invariant.ticks b is_in u;
-      vars = c.in_ok-made.ensures.vars ∙ variables_same (has c.args.set) (λ v. has_variable v (assignment_view c.args.a.now)) (λ v l. c.requires.set v l);
+      vars = c.in_ok-made.ensures.vars ∙ variables_same (set_has c.args.set) (λ v. has_variable v (assignment_view c.args.a.now)) (λ v l. c.requires.set v l);
       frame = c.in_ok-made.ensures.frame;
     }
 
@@ -541,7 +541,7 @@ rows_at_key-rows_of_runs-requires g t c κs lives =
     let here : IsInFor c.args.d.now (λ v. term_has v c.args.a.now.term.now) (slice_index c.binding_of-binding.result) =
     subst (λ (b : List ℕ). IsInFor c.args.d.now (λ v. term_has v c.args.a.now.term.now) (slice_index b)) (sym c.binding_of-binding.ensures)
     (inside_at (λ v. term_has v c.args.a.now.term.now) (λ v h. (let o = c.requires.over v (or_left (term_has v c.args.a.now.term.now) (has_variable v (formula_view c.args.a.now.body.now)) h) in omega (arith, o, c.len.ensures.count, c.len.ensures.few))) c.args.term_vars.now c.requires.vars c.args.d.now c.args.key.now c.requires.key) in
-    let can = can_ask_each (g.I.Interpreter.interpretation c.args.source.now) (g.I.Interpreter.atom_fits c.args.source.now c.args.w.lo c.args.w.hi) (g.I.Interpreter.term_fits c.args.source.now c.args.w.lo c.args.w.hi) c.args.w.lo c.args.w.hi (formula_names c.args.a.now.depth (formula_view c.args.a.now.body.now)) c.in_ok-narrow.narrow c.args.d.now (narrowed_wider c.args.d.now c.args.term_vars.now c.args.key.now c.in_ok-narrow.narrow c.in_ok-narrow.ensures c.requires.key) c.args.a.now.depth c.args.a.now.term.now (formula_view c.args.a.now.body.now) c.args.env.now (slice_index c.binding_of-binding.result)
+    let can = can_ask_each (g.I.Interpreter.interpretation c.args.source.now) (g.I.Interpreter.atom_fits c.args.source.now c.args.w.lo c.args.w.hi) (g.I.Interpreter.term_fits c.args.source.now c.args.w.lo c.args.w.hi) c.args.w.lo c.args.w.hi (formula_uses_value c.args.a.now.depth (formula_view c.args.a.now.body.now)) c.in_ok-narrow.narrow c.args.d.now (narrowed_wider c.args.d.now c.args.term_vars.now c.args.key.now c.in_ok-narrow.narrow c.in_ok-narrow.ensures c.requires.key) c.args.a.now.depth c.args.a.now.term.now (formula_view c.args.a.now.body.now) c.args.env.now (slice_index c.binding_of-binding.result)
     (c.requires.can (slice_index c.binding_of-binding.result) here).1 c.in_ok-runs.runs.items c.in_ok-runs.ensures.runs.each in (
       omega (arith, c.decreases),
       (
@@ -555,7 +555,7 @@ rows_at_key-rows_of_runs-requires g t c κs lives =
               (
                 (λ v h. (let o = c.requires.over v (or_right (term_has v c.args.a.now.term.now) (has_variable v (formula_view c.args.a.now.body.now)) h) in let m = c.in_ok-narrow.ensures.many in omega (arith, o, m))),
                 (
-                  subst (λ (rs : List ValueRun). All (IsInWindow c.args.w.lo c.args.w.hi) rs) (sym c.deref.ensures.value) (runs_inside (formula_names c.args.a.now.depth (formula_view c.args.a.now.body.now)) _ c.args.w.lo c.args.w.hi c.in_ok-runs.runs.items c.in_ok-runs.ensures.runs.each),
+                  subst (λ (rs : List ValueRun). All (IsInWindow c.args.w.lo c.args.w.hi) rs) (sym c.deref.ensures.value) (runs_inside (formula_uses_value c.args.a.now.depth (formula_view c.args.a.now.body.now)) _ c.args.w.lo c.args.w.hi c.in_ok-runs.runs.items c.in_ok-runs.ensures.runs.each),
                   subst (λ (rs : List ValueRun). CanAskEach (g.I.Interpreter.interpretation c.args.source.now) (g.I.Interpreter.atom_fits c.args.source.now c.args.w.lo c.args.w.hi) (g.I.Interpreter.term_fits c.args.source.now c.args.w.lo c.args.w.hi) c.in_ok-narrow.narrow c.args.w.lo c.args.w.hi c.args.a.now.depth (formula_view c.args.a.now.body.now) c.args.env.now rs) (sym c.deref.ensures.value) can,
                 ),
               ),
@@ -602,7 +602,7 @@ rows_at_key-returns-clause-rows g t c = rows_at_key g.S.TickSet.member (g.I.Inte
     (λ none b v w u. sat_unnamed (g.I.Interpreter.interpretation c.args.source.now b) (λ a x y same r. g.met.I.Interpreter.atom_sees_values c.args.source.now b a x y same r) (λ q x y same r. g.met.I.Interpreter.term_sees_values c.args.source.now b q x y same r)
     c.args.a.now.depth (formula_view c.args.a.now.body.now) none c.args.env.now v w c.args.w.hi u)
     (λ v h. (let o = c.requires.over v (or_left (term_has v c.args.a.now.term.now) (has_variable v (formula_view c.args.a.now.body.now)) h) in omega (arith, o, c.len.ensures.count, c.len.ensures.few))) c.args.term_vars.now c.requires.vars c.args.key.now c.in_ok-narrow.narrow c.in_ok-runs.runs.items c.in_ok-rows.rows c.in_ok-rows-2.rows c.in_ok-own.own c.in_ok-made.made c.in_ok-narrow.ensures
-    (subst (λ (b : List ℕ). AreStretches (formula_names c.args.a.now.depth (formula_view c.args.a.now.body.now)) ((g.I.Interpreter.interpretation c.args.source.now (slice_index b)).term c.args.a.now.term.now c.args.env.now) c.args.w.lo (c.args.w.hi + 1) c.in_ok-runs.runs.items) c.binding_of-binding.ensures c.in_ok-runs.ensures.runs)
+    (subst (λ (b : List ℕ). AreStretches (formula_uses_value c.args.a.now.depth (formula_view c.args.a.now.body.now)) ((g.I.Interpreter.interpretation c.args.source.now (slice_index b)).term c.args.a.now.term.now c.args.env.now) c.args.w.lo (c.args.w.hi + 1) c.in_ok-runs.runs.items) c.binding_of-binding.ensures c.in_ok-runs.ensures.runs)
     (subst (λ (rs : List ValueRun). AreRowsWhere g.S.TickSet.member c.in_ok-narrow.narrow c.args.w.lo c.args.w.hi (variables_of (formula_view c.args.a.now.body.now)) (run_holds (g.I.Interpreter.interpretation c.args.source.now) c.args.a.now.depth (formula_view c.args.a.now.body.now) c.args.env.now c.args.w.hi rs) c.in_ok-rows.rows) c.deref.ensures.value c.in_ok-rows.ensures.rows)
     c.in_ok-rows-2.ensures.ticks c.in_ok-rows-2.ensures.head.vars c.in_ok-own.ensures c.in_ok-made.ensures.ticks c.in_ok-made.ensures.vars c.in_ok-made.ensures.frame
 
@@ -671,7 +671,7 @@ rows_at_key-returns-clause-most g t c =
 pub rows_of_runs-runs-init : goal.rows_of_runs-runs-init
 rows_of_runs-runs-init g t c = record {
   alike = none_alike (variables_of (formula_view c.args.a.now.body.now)) c.args.d.now c.args.w.lo c.args.w.hi c.new-parts.result.items c.new-parts.ensures.items;
-  ticks = λ b is_in u. ap (λ (rs : (List (Table g.row.S.Denot))). any_has g.S.TickSet.member rs b u) c.new-parts.ensures.items ∙ none_yet (within c.args.w.lo c.args.w.hi u);
+  ticks = λ b is_in u. ap (λ (rs : (List (Table g.row.S.Denot))). some_part_has g.S.TickSet.member rs b u) c.new-parts.ensures.items ∙ none_yet (within c.args.w.lo c.args.w.hi u);
   least = omega arith;
   most = omega arith;
 }
@@ -731,7 +731,7 @@ rows_of_runs-runs-preserved g t c = record {
   alike = more_alike (variables_of (formula_view c.args.a.now.body.now)) c.args.d.now c.args.w.lo c.args.w.hi c.runs.parts.items c.push_back.new.self.items c.in_ok-part.part c.in_ok-push_back.ensures.items c.runs.invariant.alike
       c.in_ok-part.ensures.rows.vars c.in_ok-part.ensures.rows.frame;
   ticks = λ b is_in u.
-      ap (λ (rs : (List (Table g.row.S.Denot))). any_has g.S.TickSet.member rs b u) c.in_ok-push_back.ensures.items
+      ap (λ (rs : (List (Table g.row.S.Denot))). some_part_has g.S.TickSet.member rs b u) c.in_ok-push_back.ensures.items
       ∙ run_more g.S.TickSet.member (g.I.Interpreter.interpretation c.args.source.now) c.args.d.now c.args.w.lo c.args.w.hi c.args.a.now.depth (formula_view c.args.a.now.body.now) c.args.env.now c.args.runs.now c.runs.run-index c.run-item.result c.runs.parts.items c.in_ok-part.part
       (omega (arith, c.runs-test.true)) c.run-item.is c.runs.invariant.ticks
       (subst (λ (x : Env). AreRowsWhere g.S.TickSet.member c.args.d.now c.args.w.lo c.args.w.hi (variables_of (formula_view c.args.a.now.body.now)) (λ p r. within c.run-item.result.span.lo c.run-item.result.span.hi r && sat (g.I.Interpreter.interpretation c.args.source.now p) (formula_view c.args.a.now.body.now) x c.args.w.hi r) c.in_ok-part.part) c.with-bound.ensures c.in_ok-part.ensures.rows)
@@ -742,7 +742,7 @@ rows_of_runs-runs-preserved g t c = record {
 
 pub rows_of_runs-united-requires-clause-alike : goal.rows_of_runs-united-requires-clause-alike
 rows_of_runs-united-requires-clause-alike g t c =
-    subst (λ (vs : List ℕ). AreAlike vs c.args.d.now c.args.w.lo c.args.w.hi c.runs.parts.items) (sym (variables_same (has c.free.result) (λ v. has_variable v (formula_view c.args.a.now.body.now)) (λ v l. c.free.ensures v l))) c.runs.invariant.alike
+    subst (λ (vs : List ℕ). ShareFrame vs c.args.d.now c.args.w.lo c.args.w.hi c.runs.parts.items) (sym (variables_same (set_has c.free.result) (λ v. has_variable v (formula_view c.args.a.now.body.now)) (λ v l. c.free.ensures v l))) c.runs.invariant.alike
 
 pub rows_of_runs-united-requires-clause-known : goal.rows_of_runs-united-requires-clause-known
 rows_of_runs-united-requires-clause-known g t c = λ v l h. c.requires.over v (sym (c.free.ensures v l) ∙ h)
@@ -753,7 +753,7 @@ rows_of_runs-returns-clause-rows g t c = record {
       c.in_ok-made.ensures.ticks b is_in u
       ∙ c.runs.invariant.ticks b is_in u
       ∙ ap (λ (rs : List ValueRun). within c.args.w.lo c.args.w.hi u && run_holds (g.I.Interpreter.interpretation c.args.source.now) c.args.a.now.depth (formula_view c.args.a.now.body.now) c.args.env.now c.args.w.hi rs b u) (take_all c.runs.run-index c.args.runs.now (omega (arith, c.runs-test.false)));
-  vars = c.in_ok-made.ensures.vars ∙ variables_same (has c.free.result) (λ v. has_variable v (formula_view c.args.a.now.body.now)) (λ v l. c.free.ensures v l);
+  vars = c.in_ok-made.ensures.vars ∙ variables_same (set_has c.free.result) (λ v. has_variable v (formula_view c.args.a.now.body.now)) (λ v l. c.free.ensures v l);
   frame = c.in_ok-made.ensures.frame;
 }
 
@@ -793,19 +793,19 @@ pub rows_of_section-returns-in_err-rows-clause-least : goal.rows_of_section-retu
 rows_of_section-returns-in_err-rows-clause-least g t c = c.in_err-rows.ensures.least
 
 pub rows_of_section-returns-in_err-rows-clause-most : goal.rows_of_section-returns-in_err-rows-clause-most
-rows_of_section-returns-in_err-rows-clause-most g t c = most_seen _ _ _ _ (section_reads (size_of c.args.d.now) (formula_view c.args.f.now) c.args.section.window.lo c.args.section.window.hi c.args.section.span.lo c.args.section.span.hi c.seen_by-w.result.lo c.seen_by-w.result.hi c.args.section.begins c.args.section.ends c.seen_by-w.ensures.lo c.seen_by-w.ensures.hi) c.in_err-rows.ensures.most
+rows_of_section-returns-in_err-rows-clause-most g t c = most_seen _ _ _ _ (section_reads (domain_size c.args.d.now) (formula_view c.args.f.now) c.args.section.window.lo c.args.section.window.hi c.args.section.span.lo c.args.section.span.hi c.seen_by-w.result.lo c.seen_by-w.result.hi c.args.section.begins c.args.section.ends c.seen_by-w.ensures.lo c.seen_by-w.ensures.hi) c.in_err-rows.ensures.most
 
 pub rows_of_section-returns-in_err-made-clause-least : goal.rows_of_section-returns-in_err-made-clause-least
 rows_of_section-returns-in_err-made-clause-least g t c = c.in_ok-rows.ensures.least
 
 pub rows_of_section-returns-in_err-made-clause-most : goal.rows_of_section-returns-in_err-made-clause-most
-rows_of_section-returns-in_err-made-clause-most g t c = most_seen _ _ _ _ (section_reads (size_of c.args.d.now) (formula_view c.args.f.now) c.args.section.window.lo c.args.section.window.hi c.args.section.span.lo c.args.section.span.hi c.seen_by-w.result.lo c.seen_by-w.result.hi c.args.section.begins c.args.section.ends c.seen_by-w.ensures.lo c.seen_by-w.ensures.hi) c.in_ok-rows.ensures.most
+rows_of_section-returns-in_err-made-clause-most g t c = most_seen _ _ _ _ (section_reads (domain_size c.args.d.now) (formula_view c.args.f.now) c.args.section.window.lo c.args.section.window.hi c.args.section.span.lo c.args.section.span.hi c.seen_by-w.result.lo c.seen_by-w.result.hi c.args.section.begins c.args.section.ends c.seen_by-w.ensures.lo c.seen_by-w.ensures.hi) c.in_ok-rows.ensures.most
 
 pub rows_of_section-returns-clause-least : goal.rows_of_section-returns-clause-least
 rows_of_section-returns-clause-least g t c = c.in_ok-rows.ensures.least
 
 pub rows_of_section-returns-clause-most : goal.rows_of_section-returns-clause-most
-rows_of_section-returns-clause-most g t c = most_seen _ _ _ _ (section_reads (size_of c.args.d.now) (formula_view c.args.f.now) c.args.section.window.lo c.args.section.window.hi c.args.section.span.lo c.args.section.span.hi c.seen_by-w.result.lo c.seen_by-w.result.hi c.args.section.begins c.args.section.ends c.seen_by-w.ensures.lo c.seen_by-w.ensures.hi) c.in_ok-rows.ensures.most
+rows_of_section-returns-clause-most g t c = most_seen _ _ _ _ (section_reads (domain_size c.args.d.now) (formula_view c.args.f.now) c.args.section.window.lo c.args.section.window.hi c.args.section.span.lo c.args.section.span.hi c.seen_by-w.result.lo c.seen_by-w.result.hi c.args.section.begins c.args.section.ends c.seen_by-w.ensures.lo c.seen_by-w.ensures.hi) c.in_ok-rows.ensures.most
 
 pub rows_of_section-returns-clause-rows : goal.rows_of_section-returns-clause-rows
 rows_of_section-returns-clause-rows g t c =

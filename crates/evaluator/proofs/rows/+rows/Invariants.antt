@@ -2,12 +2,12 @@ use Rattle.std.proofs.Common.{◌≡◌, ℕ, ◌+◌, ◌*◌, ◌≤◌, ◌&&
 use Rattle.tick_set.specs.Ticks.{within}
 use Rattle.formula_shape.specs.Sizes.{nodes}
 use Rattle.formula.specs.Tree.{formula_view}
-use Rattle.formula.specs.VarSet.{has}
+use Rattle.formula.specs.VarSet.{set_has}
 use Rattle.formula.specs.Variables.{variables_in, variables_of}
 use Rattle.meaning.specs.Satisfaction.{sat}
 use Rattle.relation.specs.Frames.{IsIn}
 use Rattle.evaluator.specs.Assigned.{assignment_view, run_holds}
-use Rattle.evaluator.specs.Gathered.{AreAlike, any_has}
+use Rattle.evaluator.specs.Gathered.{ShareFrame, some_part_has}
 use Rattle.evaluator.specs.Keys.{has_key}
 use Rattle.evaluator.specs.Rows.{reads_at_key, reads_upto}
 use Rattle.evaluator.proofs.rows.+rows.Given as goal
@@ -35,8 +35,8 @@ decreases-rows_of_section g l = 5 * nodes (formula_view l.f.now) + 1
 
 abbrev pub invariant-rows_of_assignment-keys : goal.invariant-rows_of_assignment-keys
 invariant-rows_of_assignment-keys g l = record {
-  alike : AreAlike (variables_in (has l.set)) l.d l.w.lo l.w.hi l.parts.items;
-  ticks : (b : ℕ → ℕ) → IsIn l.d b → (t : ℕ) → any_has g.S.TickSet.member l.parts.items b t
+  alike : ShareFrame (variables_in (set_has l.set)) l.d l.w.lo l.w.hi l.parts.items;
+  ticks : (b : ℕ → ℕ) → IsIn l.d b → (t : ℕ) → some_part_has g.S.TickSet.member l.parts.items b t
       ≡ (within l.w.lo l.w.hi t
       && (has_key (take l.key-index l.key-items) (map b l.term_vars)
       && sat (g.I.Interpreter.interpretation l.source b) (assignment_view l.a) l.env l.w.hi t));
@@ -46,8 +46,8 @@ invariant-rows_of_assignment-keys g l = record {
 
 abbrev pub invariant-rows_of_runs-runs : goal.invariant-rows_of_runs-runs
 invariant-rows_of_runs-runs g l = record {
-  alike : AreAlike (variables_of (formula_view l.a.body.now)) l.d l.w.lo l.w.hi l.parts.items;
-  ticks : (b : ℕ → ℕ) → IsIn l.d b → (t : ℕ) → any_has g.S.TickSet.member l.parts.items b t
+  alike : ShareFrame (variables_of (formula_view l.a.body.now)) l.d l.w.lo l.w.hi l.parts.items;
+  ticks : (b : ℕ → ℕ) → IsIn l.d b → (t : ℕ) → some_part_has g.S.TickSet.member l.parts.items b t
       ≡ (within l.w.lo l.w.hi t
       && run_holds (g.I.Interpreter.interpretation l.source) l.a.depth (formula_view l.a.body.now) l.env l.w.hi (take l.run-index l.runs) b t);
   least : l.initial.reads ≤ l.reads;

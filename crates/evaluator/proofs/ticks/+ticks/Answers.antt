@@ -9,7 +9,7 @@ use Rattle.meaning.specs.Reads.{atom_variables}
 use Rattle.meaning.specs.Satisfaction.{sat}
 use Rattle.interpreting.specs.declared.value_run.ValueRun.{ValueRun}
 use Rattle.evaluator.specs.declared.node.Pairing.TheVariants as pairings
-use Rattle.interpreting.specs.Names.{formula_names}
+use Rattle.interpreting.specs.Names.{formula_uses_value}
 use Rattle.evaluator.specs.Stretched.{AreStretches, IsStretch}
 use Rattle.evaluator.proofs.NamedLemmas.{sat_unnamed}
 use Rattle.evaluator.specs.inner.ByBinding.{AreTicksOf, CanAskHere, any_member, reads_here}
@@ -192,7 +192,7 @@ ticks_of_assignment-ticks_of_section-requires g t c κs lives = (
         (
           lives.1.1.1,
           subst (λ (x : Env). CanAskHere (g.I.Interpreter.interpretation c.args.source.now (slice_index c.args.binding.now)) (g.I.Interpreter.atom_fits c.args.source.now c.args.w.lo c.args.w.hi (slice_index c.args.binding.now)) (g.I.Interpreter.term_fits c.args.source.now c.args.w.lo c.args.w.hi (slice_index c.args.binding.now)) c.args.w.lo c.args.w.hi (formula_view c.args.a.now.body.now) x) (sym c.with-bound.ensures)
-              (can_ask_by (formula_names c.args.a.now.depth (formula_view c.args.a.now.body.now)) (g.I.Interpreter.interpretation c.args.source.now (slice_index c.args.binding.now)) (g.I.Interpreter.atom_fits c.args.source.now c.args.w.lo c.args.w.hi (slice_index c.args.binding.now)) (g.I.Interpreter.term_fits c.args.source.now c.args.w.lo c.args.w.hi (slice_index c.args.binding.now)) c.args.w.lo c.args.w.hi c.args.a.now.depth c.args.a.now.term.now (formula_view c.args.a.now.body.now) c.args.env.now c.requires c.deref-run-items.result.now (subst (λ (rs : List ValueRun). All (IsStretch (formula_names c.args.a.now.depth (formula_view c.args.a.now.body.now)) ((g.I.Interpreter.interpretation c.args.source.now (slice_index c.args.binding.now)).term c.args.a.now.term.now c.args.env.now) c.args.w.lo (c.args.w.hi + 1)) rs) (sym c.deref-run-items.ensures.value) c.in_ok-runs.ensures.runs.each) c.each.run-index c.run-item.result (omega (arith, c.each-test.true)) c.run-item.is),
+              (can_ask_by (formula_uses_value c.args.a.now.depth (formula_view c.args.a.now.body.now)) (g.I.Interpreter.interpretation c.args.source.now (slice_index c.args.binding.now)) (g.I.Interpreter.atom_fits c.args.source.now c.args.w.lo c.args.w.hi (slice_index c.args.binding.now)) (g.I.Interpreter.term_fits c.args.source.now c.args.w.lo c.args.w.hi (slice_index c.args.binding.now)) c.args.w.lo c.args.w.hi c.args.a.now.depth c.args.a.now.term.now (formula_view c.args.a.now.body.now) c.args.env.now c.requires c.deref-run-items.result.now (subst (λ (rs : List ValueRun). All (IsStretch (formula_uses_value c.args.a.now.depth (formula_view c.args.a.now.body.now)) ((g.I.Interpreter.interpretation c.args.source.now (slice_index c.args.binding.now)).term c.args.a.now.term.now c.args.env.now) c.args.w.lo (c.args.w.hi + 1)) rs) (sym c.deref-run-items.ensures.value) c.in_ok-runs.ensures.runs.each) c.each.run-index c.run-item.result (omega (arith, c.each-test.true)) c.run-item.is),
         ),
       ),
     ),
@@ -235,8 +235,8 @@ ticks_of_assignment-returns-clause-most g t c =
 
 pub ticks_of_assignment-each-preserved : goal.ticks_of_assignment-each-preserved
 ticks_of_assignment-each-preserved g t c =
-    let own = run_within (formula_names c.args.a.now.depth (formula_view c.args.a.now.body.now)) ((g.I.Interpreter.interpretation c.args.source.now (slice_index c.args.binding.now)).term c.args.a.now.term.now c.args.env.now) c.args.w.lo c.args.w.hi c.deref-run-items.result.now
-    (subst (λ (rs : List ValueRun). All (IsStretch (formula_names c.args.a.now.depth (formula_view c.args.a.now.body.now)) ((g.I.Interpreter.interpretation c.args.source.now (slice_index c.args.binding.now)).term c.args.a.now.term.now c.args.env.now) c.args.w.lo (c.args.w.hi + 1)) rs) (sym c.deref-run-items.ensures.value) c.in_ok-runs.ensures.runs.each)
+    let own = run_within (formula_uses_value c.args.a.now.depth (formula_view c.args.a.now.body.now)) ((g.I.Interpreter.interpretation c.args.source.now (slice_index c.args.binding.now)).term c.args.a.now.term.now c.args.env.now) c.args.w.lo c.args.w.hi c.deref-run-items.result.now
+    (subst (λ (rs : List ValueRun). All (IsStretch (formula_uses_value c.args.a.now.depth (formula_view c.args.a.now.body.now)) ((g.I.Interpreter.interpretation c.args.source.now (slice_index c.args.binding.now)).term c.args.a.now.term.now c.args.env.now) c.args.w.lo (c.args.w.hi + 1)) rs) (sym c.deref-run-items.ensures.value) c.in_ok-runs.ensures.runs.each)
     c.each.run-index c.run-item.result (omega (arith, c.each-test.true)) c.run-item.is in
     record {
       ticks = λ u.
@@ -254,7 +254,7 @@ ticks_of_assignment-returns-clause-ticks g t c =
     runs_done g.S.TickSet.member (g.I.Interpreter.interpretation c.args.source.now) (slice_index c.args.binding.now) c.args.w.lo c.args.w.hi c.args.a.now.depth (formula_view c.args.a.now.body.now) c.args.env.now c.deref-run-items.result.now c.args.a.now.term.now
     (λ none v w u. sat_unnamed (g.I.Interpreter.interpretation c.args.source.now (slice_index c.args.binding.now)) (λ a x y same r. g.met.I.Interpreter.atom_sees_values c.args.source.now (slice_index c.args.binding.now) a x y same r) (λ q x y same r. g.met.I.Interpreter.term_sees_values c.args.source.now (slice_index c.args.binding.now) q x y same r)
     c.args.a.now.depth (formula_view c.args.a.now.body.now) none c.args.env.now v w c.args.w.hi u)
-    (subst (λ (rs : List ValueRun). AreStretches (formula_names c.args.a.now.depth (formula_view c.args.a.now.body.now)) ((g.I.Interpreter.interpretation c.args.source.now (slice_index c.args.binding.now)).term c.args.a.now.term.now c.args.env.now) c.args.w.lo (c.args.w.hi + 1) rs) (sym c.deref-run-items.ensures.value) c.in_ok-runs.ensures.runs)
+    (subst (λ (rs : List ValueRun). AreStretches (formula_uses_value c.args.a.now.depth (formula_view c.args.a.now.body.now)) ((g.I.Interpreter.interpretation c.args.source.now (slice_index c.args.binding.now)).term c.args.a.now.term.now c.args.env.now) c.args.w.lo (c.args.w.hi + 1) rs) (sym c.deref-run-items.ensures.value) c.in_ok-runs.ensures.runs)
     c.each.run-index c.each.parts.items c.in_ok-made.made (omega (arith, c.each-test.false)) c.each.invariant.ticks c.in_ok-made.ensures
 
 pub ticks_of_until-returns-then-is_empty-clause-ticks : goal.ticks_of_until-returns-then-is_empty-clause-ticks

@@ -1,5 +1,5 @@
 use Rattle.std.proofs.Common.{ap, codes}
-use Rattle.replica.specs.Feed.{after, silent}
+use Rattle.replica.specs.Feed.{hearing_after, silent}
 use Rattle.feeds_laws.proofs.FeedLemmas.{empty_stands, registered_named, replica_follows}
 use Rattle.feeds_laws.proofs.ItemLemmas.{Laws}
 use Rattle.feeds_laws.proofs.ViewLemmas.{first_view_taken}
@@ -45,4 +45,4 @@ returns-clause-written c name user lines r letters found =
     replica_writes laws name is (items_for user lines) empty_seat (empty_stands name) all r found
 
 pub returns-clause-heard : goal.returns-clause-heard
-returns-clause-heard c name user lines letters = ap (after (silent name)) (c.users_hear_their_views.ensures.view user lines letters)
+returns-clause-heard c name user lines letters = ap (hearing_after (silent name)) (c.users_hear_their_views.ensures.view user lines letters)

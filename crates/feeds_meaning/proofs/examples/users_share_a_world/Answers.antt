@@ -1,18 +1,18 @@
 use Rattle.std.proofs.Common.{refl}
 use Rattle.std.specs.Fmt.{digits}
 use Rattle.case_table.specs.Language.{refusal_names, reserved_words, symbols}
-use Rattle.fixed_point.specs.Decimal.{decimals_of, size_of, thousandths_of}
+use Rattle.fixed_point.specs.Decimal.{decimals_of, thousandths_of, unsigned_thousandths}
 use Rattle.tick_set.specs.Ticks.{all_in, between, listed, some_in}
 use Rattle.ftl_lexer.specs.Forms.{token_at}
 use Rattle.ftl_lexer.specs.Tokens.{lexed}
 use Rattle.command_text.specs.Line.{command_in}
-use Rattle.command_text.specs.Refusals.{line_of}
+use Rattle.command_text.specs.Refusals.{refusal_line}
 use Rattle.command_text.specs.Text.{text_of}
 use Rattle.command_text.specs.inner.Reading.{at, attrs, begins, class, class_head, command, command_begun, command_of, insert, insert_head, key, many, moving, name, next, number, place, point_word, remove, setting, show, sign, tick, whole}
 use Rattle.feeds_meaning.specs.Heard.{own_refusal}
-use Rattle.feeds_meaning.specs.Hub.{step}
+use Rattle.feeds_meaning.specs.Hub.{hub_step}
 use Rattle.feeds_meaning.proofs.examples.users_share_a_world.Goals as goal
 
 pub returns : goal.returns
-unfolding digits refusal_names reserved_words symbols decimals_of size_of thousandths_of all_in between listed some_in token_at lexed command_in line_of text_of at attrs begins class class_head command command_begun command_of insert insert_head key many moving name next number place point_word remove setting show sign tick whole own_refusal step
+unfolding digits refusal_names reserved_words symbols decimals_of unsigned_thousandths thousandths_of all_in between listed some_in token_at lexed command_in refusal_line text_of at attrs begins class class_head command command_begun command_of insert insert_head key many moving name next number place point_word remove setting show sign tick whole own_refusal hub_step
 returns c = record { first = refl; later = refl; newcomer = refl; nobody = refl; ninth = refl }

@@ -1,6 +1,6 @@
 use Rattle.std.proofs.Common.{◌≡◌, None, sym, ap, subst, ◌∙◌}
 use Rattle.formula.specs.Resolved.{IsResolved}
-use Rattle.formula.specs.Tree.{ResolvedQuery, query_view as resolved_view}
+use Rattle.formula.specs.Tree.{ResolvedQuery, resolved_view}
 use Rattle.meaning.specs.Fits.{FitsItsClasses}
 use Rattle.ftl_parser.specs.Tree.{query_view}
 use Rattle.ftl_typer.specs.Faults.{faults}

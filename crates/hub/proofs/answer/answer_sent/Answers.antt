@@ -3,7 +3,7 @@ use Rattle.std.proofs.lemmas.Result.{on_ok_weaker}
 use Rattle.std.specs.Prelude.{slice_get}
 use Rattle.command_text.specs.declared.fault.CommandFault.TheVariants.{Refused}
 use Rattle.command_text.specs.Tree.{command_view}
-use Rattle.hub.specs.Judging.{Explains}
+use Rattle.hub.specs.Judging.{ExplainsSent}
 use Rattle.hub.specs.Told.{hub_of}
 use Rattle.hub.proofs.CommandLemmas.{is_at}
 use Rattle.hub.proofs.SentLemmas.{hub_is_same, lines_are_same, room_at, sent_and_same, sent_of_command, sent_refused}
@@ -37,8 +37,8 @@ returns-in-Err-Refused-clause-answered g c =
     let seats = c.args.parts.now.seats.items in
     let s = c.index.result.now in
     let at : slice_get seats c.args.place ≡ Some s = is_at seats c.args.place s c.requires.there c.index.ensures in
-    let cause : Explains d s.query_lines c.args.line.now (Refused c.in-Err-Refused.refusal) =
-    subst (Explains d s.query_lines c.args.line.now) c.in-Err-Refused.field-0-is c.in-Err-Refused.ensures.cause in
+    let cause : ExplainsSent d s.query_lines c.args.line.now (Refused c.in-Err-Refused.refusal) =
+    subst (ExplainsSent d s.query_lines c.args.line.now) c.in-Err-Refused.field-0-is c.in-Err-Refused.ensures.cause in
     on_ok_weaker c.push_refused.result
     (λ said. sent_and_same d c.push_refused.new.parts.data_lines seats c.push_refused.new.parts.seats.items c.push_refused.ensures.same.1
     (λ i. (c.push_refused.ensures.same.0 i).items) c.args.place c.args.line.now c.args.out.now.items c.push_refused.new.out.items

@@ -1,7 +1,7 @@
 use Rattle.std.proofs.Common.{◌++◌, ◌∙◌, ap}
 use Rattle.hub.proofs.CommandLemmas.{is_at}
 use Rattle.hub.proofs.SentLemmas.{refused_at, user_is_short}
-use Rattle.command_text.specs.Refusals.{line_of}
+use Rattle.command_text.specs.Refusals.{refusal_line}
 use Rattle.line_meaning.specs.Reply.{line_feed}
 use Rattle.hub.proofs.answer.push_refused.Goals as goal
 
@@ -18,4 +18,4 @@ returns-clause-said c = λ x found.
     let s = c.index.result.now in
     refused_at seats c.args.place s x c.args.refusal c.args.out.now.items c.push_tagged.new.out.items c.bytes.result.now c.deref.result.now
     (is_at seats c.args.place s c.requires.there c.index.ensures) found c.in_ok-push_tagged.ensures.ok c.bytes.ensures.value
-    (c.deref.ensures.value ∙ c.in_ok-push_refusal.ensures.ok ∙ ap (λ l. l ++ (line_of c.args.refusal ++ line_feed)) c.clear.ensures.items)
+    (c.deref.ensures.value ∙ c.in_ok-push_refusal.ensures.ok ∙ ap (λ l. l ++ (refusal_line c.args.refusal ++ line_feed)) c.clear.ensures.items)

@@ -2,7 +2,7 @@ use Rattle.std.proofs.Common.{◌≡◌, ◌+◌, length, sym, ap, subst, ◌∙
 use Rattle.std.specs.List.{list_all}
 use Rattle.object_store.specs.Contents.{catalog_of, history_of}
 use Rattle.plane.specs.Rows.{rows_in_range}
-use Rattle.plane_index.specs.Rows.{told_rows}
+use Rattle.plane_index.specs.Rows.{told_range_rows}
 use Rattle.database.specs.Rows.{has_objects}
 use Rattle.kept_indexes.proofs.RangeLemmas.{answers_by, lacks_by, lines_by, looks_by, rows_by, rows_stored}
 use Rattle.kept_indexes.proofs.asking.answer.Goals as goal
@@ -22,11 +22,11 @@ returns-in_err-rows-clause-most g c =
 pub push_rows-requires : goal.push_rows-requires
 push_rows-requires g c =
     rows_stored c.args.journal.now c.args.database.now c.args.kept.now c.store-store.result.now c.store-store.ensures c.requires.keeps c.requires.right
-    (told_rows c.deref.result.now) c.args.kept.now.index.grid.class c.args.kept.now.index.grid.attribute c.args.range.now.least c.args.range.now.greatest c.args.range.now.span
+    (told_range_rows c.deref.result.now) c.args.kept.now.index.grid.class c.args.kept.now.index.grid.attribute c.args.range.now.least c.args.range.now.greatest c.args.range.now.span
     (rows_by c.args.journal.now c.args.database.now c.args.kept.now c.store-store.result.now c.store-store.ensures c.requires.keeps c.requires.right
-    (told_rows c.deref.result.now) c.args.kept.now.index.grid.class c.args.kept.now.index.grid.attribute c.args.range.now.least c.args.range.now.greatest _ _ c.args.range.now.span
+    (told_range_rows c.deref.result.now) c.args.kept.now.index.grid.class c.args.kept.now.index.grid.attribute c.args.range.now.least c.args.range.now.greatest _ _ c.args.range.now.span
     (c.window_of-window.ensures.ticks.0 ∙ c.clock.ensures) (c.window_of-window.ensures.ticks.1 ∙ ap (λ n. n + c.args.range.now.span) c.clock.ensures)
-    (ap told_rows c.deref.ensures.value ∙ c.in_ok-rows.ensures.rows))
+    (ap told_range_rows c.deref.ensures.value ∙ c.in_ok-rows.ensures.rows))
 
 pub returns-in_err-push_rows-clause-right : goal.returns-in_err-push_rows-clause-right
 returns-in_err-push_rows-clause-right g c =
@@ -61,12 +61,12 @@ returns-clause-right g c =
 pub returns-clause-rows : goal.returns-clause-rows
 returns-clause-rows g c =
     lines_by c.args.journal.now c.args.database.now c.args.kept.now c.store-store.result.now c.store-store.ensures c.requires.keeps c.requires.right
-    (told_rows c.deref.result.now) c.args.out.now.items c.make_room.new.out.items c.clock-2.result
+    (told_range_rows c.deref.result.now) c.args.out.now.items c.make_room.new.out.items c.clock-2.result
     c.args.kept.now.index.grid.class c.args.kept.now.index.grid.attribute c.args.range.now.least c.args.range.now.greatest c.args.range.now.span c.clock-2.ensures
     (rows_by c.args.journal.now c.args.database.now c.args.kept.now c.store-store.result.now c.store-store.ensures c.requires.keeps c.requires.right
-    (told_rows c.deref.result.now) c.args.kept.now.index.grid.class c.args.kept.now.index.grid.attribute c.args.range.now.least c.args.range.now.greatest _ _ c.args.range.now.span
+    (told_range_rows c.deref.result.now) c.args.kept.now.index.grid.class c.args.kept.now.index.grid.attribute c.args.range.now.least c.args.range.now.greatest _ _ c.args.range.now.span
     (c.window_of-window.ensures.ticks.0 ∙ c.clock.ensures) (c.window_of-window.ensures.ticks.1 ∙ ap (λ n. n + c.args.range.now.span) c.clock.ensures)
-    (ap told_rows c.deref.ensures.value ∙ c.in_ok-rows.ensures.rows))
+    (ap told_range_rows c.deref.ensures.value ∙ c.in_ok-rows.ensures.rows))
     (c.make_room.ensures.same ∙ c.in_ok-push_rows.ensures.ok)
 
 pub returns-clause-most : goal.returns-clause-most

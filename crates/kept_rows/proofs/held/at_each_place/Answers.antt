@@ -1,6 +1,6 @@
 use Rattle.std.proofs.Common.{◌≡◌, ℕ, ◌+◌, ◌*◌, eqb, List, ◌++◌, map, sym, ap, subst, ◌∙◌, arith, if◌then◌else◌}
 use Rattle.tick_set.specs.TickList.{has}
-use Rattle.kept_rows.specs.Rising.{IsRising}
+use Rattle.kept_rows.specs.Rising.{AscendsWithin}
 use Rattle.kept_rows.proofs.HeldLemmas.{has-more, place-fits, rising-all, rising-if, rising-more}
 use Rattle.kept_rows.proofs.RisingLemmas.{rising-fits}
 use Rattle.kept_rows.proofs.held.at_each_place.Goals as goal
@@ -20,7 +20,7 @@ places-preserved c =
     let is : c.append.new.made.items ≡ c.places.made.items ++ map (λ e. place * w + e) digits =
     c.in_ok-append.ensures ∙ ap (λ xs. c.places.made.items ++ map (λ e. place * w + e) xs) c.rest_at.ensures in
     record {
-      rising = subst (λ xs. IsRising 0 ((place + 1) * w) xs) (sym is)
+      rising = subst (λ xs. AscendsWithin 0 ((place + 1) * w) xs) (sym is)
           (rising-more c.places.made.items digits w place c.places.invariant.rising (rising-if (eqb place c.args.variable.now.own) 0 w c.args.all.now c.args.held.now c.requires.all c.requires.held));
       has = λ p d l. ap (λ xs. has xs (p * w + d)) is
           ∙ has-more c.places.made.items w place c.args.variable.now.own c.args.all.now c.args.held.now c.requires.all c.requires.held c.places.invariant.has p d l;

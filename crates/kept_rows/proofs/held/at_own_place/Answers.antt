@@ -1,6 +1,6 @@
 use Rattle.std.proofs.Common.{◌≡◌, ℕ, ◌+◌, ◌*◌, ◌++◌, map, sym, ap, subst, ◌∙◌}
 use Rattle.tick_set.specs.TickList.{has}
-use Rattle.kept_rows.specs.Rising.{IsRising}
+use Rattle.kept_rows.specs.Rising.{AscendsWithin}
 use Rattle.kept_rows.proofs.HeldLemmas.{has-shift, own-test, place-fits, rising-own}
 use Rattle.kept_rows.proofs.RisingLemmas.{rising-fits}
 use Rattle.kept_rows.proofs.held.at_own_place.Goals as goal
@@ -17,7 +17,7 @@ returns-clause-rising c =
     let w : ℕ = c.args.width in
     let is : c.append.new.made.items ≡ map (λ e. own * w + e) c.args.all.now =
     c.in_ok-append.ensures ∙ ap (λ xs. xs ++ map (λ e. own * w + e) c.args.all.now) c.new-made.ensures.items in
-    subst (λ xs. IsRising 0 (c.args.variable.now.capacity * w) xs) (sym is)
+    subst (λ xs. AscendsWithin 0 (c.args.variable.now.capacity * w) xs) (sym is)
     (rising-own c.args.all.now w own c.args.variable.now.count c.args.variable.now.capacity c.if-variable.false c.args.variable.now.room c.requires.all)
 
 pub returns-clause-has : goal.returns-clause-has

@@ -1,5 +1,5 @@
 use Rattle.std.proofs.Common.{ℕ, ◌+◌, ◌*◌, ◌/◌, ◌<◌, ◌++◌, Bool, Option, List, ap, ◌∙◌, arith}
-use Rattle.kept_rows.specs.Listing.{line_of, lines_between, times}
+use Rattle.kept_rows.specs.Listing.{line_of, lines_between, target_has}
 use Rattle.kept_rows.specs.Rows.{row_has}
 use Rattle.kept_rows.proofs.ListingLemmas.{line-none, lines-end, lines-more, target-after, target-below, target-start, target-upto, target-whole, times-none}
 use Rattle.kept_rows.proofs.listing.answer.Goals as goal
@@ -17,14 +17,14 @@ targets-preserved g c =
     let count : ℕ = c.args.targets.count in
     let first : ℕ = c.in-Some.first in
     let target : ℕ = c.targets.target in
-    let line : ℕ → Option (ℕ × List (ℕ × ℕ)) = line_of (times rows width) c.args.window.lo c.args.window.hi in
+    let line : ℕ → Option (ℕ × List (ℕ × ℕ)) = line_of (target_has rows width) c.args.window.lo c.args.window.hi in
     let below : first / width < count = target-below first width count c.args.targets.some c.in-Some.ensures.some.below in
     record {
       few = omega (arith, below);
       lines = ap (λ xs. xs ++ lines_between line (first / width + 1) count) c.in_ok-push_some.ensures
           ∙ lines-more line c.targets.lines.items _ target (first / width) count _
           (target-after target first width c.args.targets.some c.in-Some.ensures.some.least) below
-          (λ k h l. line-none (times rows width) c.args.window.lo c.args.window.hi k (λ t. times-none rows width target k first t c.in-Some.ensures.some.before h (target-upto k first width l)))
+          (λ k h l. line-none (target_has rows width) c.args.window.lo c.args.window.hi k (λ t. times-none rows width target k first t c.in-Some.ensures.some.before h (target-upto k first width l)))
           c.in_ok-line.ensures c.targets.invariant.lines;
     }
 
@@ -34,6 +34,6 @@ returns g c =
     let width : ℕ = c.args.targets.width in
     let count : ℕ = c.args.targets.count in
     let target : ℕ = c.targets.target in
-    lines-end (line_of (times rows width) c.args.window.lo c.args.window.hi) c.targets.lines.items target count _ c.targets.invariant.few
-    (λ k h l. line-none (times rows width) c.args.window.lo c.args.window.hi k (λ t. times-none rows width target k (count * width) t c.in_default.ensures.none h (target-whole k width count l)))
+    lines-end (line_of (target_has rows width) c.args.window.lo c.args.window.hi) c.targets.lines.items target count _ c.targets.invariant.few
+    (λ k h l. line-none (target_has rows width) c.args.window.lo c.args.window.hi k (λ t. times-none rows width target k (count * width) t c.in_default.ensures.none h (target-whole k width count l)))
     c.targets.invariant.lines

@@ -2,8 +2,8 @@ use Rattle.std.proofs.Common.{ℕ, ◌+◌, ◌*◌, ◌≤◌, Bool, map, ap, a
 use Rattle.std.specs.Prelude.{option_to_list}
 use Rattle.std.specs.List.{list_any}
 use Rattle.tick_set.specs.Ticks.{within}
-use Rattle.kept_rows.specs.Changes.{after}
-use Rattle.kept_rows.specs.Listing.{times}
+use Rattle.kept_rows.specs.Changes.{rows_after}
+use Rattle.kept_rows.specs.Listing.{target_has}
 use Rattle.kept_rows.specs.Rows.{row_has}
 use Rattle.kept_rows.proofs.ListingLemmas.{target-whole}
 use Rattle.kept_rows.proofs.MoveLemmas.{changed-ticks, rows-after, rows-before}
@@ -28,7 +28,7 @@ returns g c =
     let anew : ℕ → Bool = λ t. list_any (λ x. g.S.TickSet.member x.ticks t) c.args.group.now in
     let old : ℕ → Bool = λ t. list_any (λ x. rows x.number t) c.args.group.now in
     ap option_to_list
-    (c.in_ok-line.ensures (times rows width c.args.target) (times (after g.S.TickSet.member c.args.group.now rows) width c.args.target) lo hi
+    (c.in_ok-line.ensures (target_has rows width c.args.target) (target_has (rows_after g.S.TickSet.member c.args.group.now rows) width c.args.target) lo hi
     (λ t.
     changed-ticks _ _ (within lo hi t) (anew t) (old t) _ _ _
     (c.in_ok-left.ensures.gained t) (c.in_ok-changed.ensures.gained t)

@@ -1,5 +1,5 @@
 use Rattle.std.proofs.Common.{ℕ, ◌+◌, ◌*◌, ◌/◌, ◌<◌, ◌++◌, Bool, Option, ap, ◌∙◌, arith}
-use Rattle.kept_rows.specs.Listing.{passing_of, lines_between, times}
+use Rattle.kept_rows.specs.Listing.{passing_of, lines_between, target_has}
 use Rattle.kept_rows.specs.Rows.{row_has}
 use Rattle.kept_rows.proofs.ListingLemmas.{lines-end, lines-more, target-after, target-below, target-upto, target-whole}
 use Rattle.kept_rows.proofs.TurnLemmas.{passing-alike}
@@ -12,7 +12,7 @@ targets-preserved g c =
     let count : ℕ = c.args.targets.count in
     let first : ℕ = c.in-Some.first in
     let target : ℕ = c.targets.target in
-    let line : ℕ → Option (ℕ × Bool) = passing_of (times rows width) c.args.expiry c.args.before c.args.now in
+    let line : ℕ → Option (ℕ × Bool) = passing_of (target_has rows width) c.args.expiry c.args.before c.args.now in
     let below : first / width < count = target-below first width count c.args.targets.some c.in-Some.ensures.some.below in
     record {
       few = omega (arith, below);
@@ -30,7 +30,7 @@ returns g c =
     let width : ℕ = c.args.targets.width in
     let count : ℕ = c.args.targets.count in
     let target : ℕ = c.targets.target in
-    lines-end (passing_of (times rows width) c.args.expiry c.args.before c.args.now) c.targets.passings.items target count _ c.targets.invariant.few
+    lines-end (passing_of (target_has rows width) c.args.expiry c.args.before c.args.now) c.targets.passings.items target count _ c.targets.invariant.few
     (λ k h l.
     passing-alike rows width c.args.expiry c.args.before c.args.now target (count * width) k c.in_default.ensures.none h (target-whole k width count l))
     c.targets.invariant.passings

@@ -1,6 +1,6 @@
 use Rattle.std.proofs.Common.{◌≡◌, ◌==◌, ◌∙◌, ◌∷◌, [], ◌++◌, ap, sym, inl, length, arith}
 use Rattle.std.specs.Str.Lines.{strip_carriage_return}
-use Rattle.line_loop.specs.Kept.{IsKept, kept_part}
+use Rattle.line_loop.specs.Kept.{IsKeptLine, kept_part}
 use Rattle.line_loop.proofs.LinesLemmas.{kept_line, kept_none, ok_is}
 use Rattle.line_loop.proofs.GatherLemmas.{memory_before}
 use Rattle.line_loop.proofs.SpendingLemmas.{no_bytes}
@@ -13,7 +13,7 @@ returns-then-is_err-clause-collects g c = λ start before begun h kept.
 pub returns-in-Err-clause-collects : goal.returns-in-Err-clause-collects
 returns-in-Err-clause-collects g c = λ start before begun h kept.
     let extended = ok_is c.extend.result (sym c.is_err.ensures.value ∙ c.if-is_err.false) c.extend.ensures.extended in
-    let whole : IsKept g.H.Handler.LONGEST c.without_carriage_return-whole.result.now (strip_carriage_return (begun ++ c.args.end.now)) =
+    let whole : IsKeptLine g.H.Handler.LONGEST c.without_carriage_return-whole.result.now (strip_carriage_return (begun ++ c.args.end.now)) =
     kept_line g.H.Handler.LONGEST c.args.line.now.kept c.args.end.now begun c.without_carriage_return-whole.result.now kept
     (c.without_carriage_return-whole.ensures ∙ ap strip_carriage_return (c.unended-2.ensures ∙ ap (λ b. b.kept) extended
     ∙ ap (λ l. kept_part l (c.args.line.now.kept ++ c.args.end.now)) c.requires)) in
@@ -22,7 +22,7 @@ returns-in-Err-clause-collects g c = λ start before begun h kept.
 pub returns-clause-collects : goal.returns-clause-collects
 returns-clause-collects g c = λ start before begun h kept.
     let extended = ok_is c.extend.result (sym c.is_err.ensures.value ∙ c.if-is_err.false) c.extend.ensures.extended in
-    let whole : IsKept g.H.Handler.LONGEST c.without_carriage_return-whole.result.now (strip_carriage_return (begun ++ c.args.end.now)) =
+    let whole : IsKeptLine g.H.Handler.LONGEST c.without_carriage_return-whole.result.now (strip_carriage_return (begun ++ c.args.end.now)) =
     kept_line g.H.Handler.LONGEST c.args.line.now.kept c.args.end.now begun c.without_carriage_return-whole.result.now kept
     (c.without_carriage_return-whole.ensures ∙ ap strip_carriage_return (c.unended-2.ensures ∙ ap (λ b. b.kept) extended
     ∙ ap (λ l. kept_part l (c.args.line.now.kept ++ c.args.end.now)) c.requires)) in
@@ -42,7 +42,7 @@ returns-then-is_empty-clause-spends g c = λ now begun at kept.
 pub returns-in-Err-clause-spends : goal.returns-in-Err-clause-spends
 returns-in-Err-clause-spends g c = λ now begun at kept.
     let extended = ok_is c.extend.result (sym c.is_err.ensures.value ∙ c.if-is_err.false) c.extend.ensures.extended in
-    let whole : IsKept g.H.Handler.LONGEST c.without_carriage_return-whole.result.now (strip_carriage_return (begun ++ c.args.end.now)) =
+    let whole : IsKeptLine g.H.Handler.LONGEST c.without_carriage_return-whole.result.now (strip_carriage_return (begun ++ c.args.end.now)) =
     kept_line g.H.Handler.LONGEST c.args.line.now.kept c.args.end.now begun c.without_carriage_return-whole.result.now kept
     (c.without_carriage_return-whole.ensures ∙ ap strip_carriage_return (c.unended-2.ensures ∙ ap (λ b. b.kept) extended
     ∙ ap (λ l. kept_part l (c.args.line.now.kept ++ c.args.end.now)) c.requires)) in
@@ -51,7 +51,7 @@ returns-in-Err-clause-spends g c = λ now begun at kept.
 pub returns-clause-spends : goal.returns-clause-spends
 returns-clause-spends g c = λ now begun at kept.
     let extended = ok_is c.extend.result (sym c.is_err.ensures.value ∙ c.if-is_err.false) c.extend.ensures.extended in
-    let whole : IsKept g.H.Handler.LONGEST c.without_carriage_return-whole.result.now (strip_carriage_return (begun ++ c.args.end.now)) =
+    let whole : IsKeptLine g.H.Handler.LONGEST c.without_carriage_return-whole.result.now (strip_carriage_return (begun ++ c.args.end.now)) =
     kept_line g.H.Handler.LONGEST c.args.line.now.kept c.args.end.now begun c.without_carriage_return-whole.result.now kept
     (c.without_carriage_return-whole.ensures ∙ ap strip_carriage_return (c.unended-2.ensures ∙ ap (λ b. b.kept) extended
     ∙ ap (λ l. kept_part l (c.args.line.now.kept ++ c.args.end.now)) c.requires)) in

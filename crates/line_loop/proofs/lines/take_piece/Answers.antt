@@ -3,7 +3,7 @@ use Rattle.std.proofs.lemmas.List.{take_rest}
 use Rattle.std.specs.List.{position}
 use Rattle.std.specs.Str.Lines.{strip_carriage_return}
 use Rattle.line_loop.specs.Kept.{kept_part}
-use Rattle.line_loop.specs.Lines.{ended_from, open_from, line_feed}
+use Rattle.line_loop.specs.Lines.{ended_from, open_from, line_feed_byte}
 use Rattle.line_loop.specs.Machine.{after}
 use Rattle.line_loop.specs.Spending.{total_cost}
 use Rattle.line_loop.specs.Stop.{Stops, StopsForMemory}
@@ -38,8 +38,8 @@ returns-in-Err-clause-takes g c = λ start begun at begins.
     let open_before = open_from begun (take taken piece) in
     let state = r.state c.answer_ended.new.handler c.answer_ended.new.context in
     let written = g.K.Sink.written c.answer_ended.new.sink in
-    let found : position (λ b. b == line_feed) rest ≡ Some len =
-    ap (position (λ b. b == line_feed)) (sym (take_rest piece taken)) ∙ sym c.line_end.ensures ∙ c.in-Some.is in
+    let found : position (λ b. b == line_feed_byte) rest ≡ Some len =
+    ap (position (λ b. b == line_feed_byte)) (sym (take_rest piece taken)) ∙ sym c.line_end.ensures ∙ c.in-Some.is in
     let same : taken + len - taken ≡ len = omega arith in
     let stops : Stops r.machine r.leaves start (answered ++ strip_carriage_return (open_before ++ take len rest) ∷ []) c.in-Err.stop state written =
     subst (λ end. Stops r.machine r.leaves start (answered ++ strip_carriage_return (open_before ++ end) ∷ []) c.in-Err.stop state written)
@@ -56,8 +56,8 @@ lines-preserved g c =
     let taken = c.lines.taken in
     let len = c.in-Some.len in
     let rest = drop taken piece in
-    let found : position (λ b. b == line_feed) rest ≡ Some len =
-    ap (position (λ b. b == line_feed)) (sym (take_rest piece taken)) ∙ sym c.line_end.ensures ∙ c.in-Some.is in
+    let found : position (λ b. b == line_feed_byte) rest ≡ Some len =
+    ap (position (λ b. b == line_feed_byte)) (sym (take_rest piece taken)) ∙ sym c.line_end.ensures ∙ c.in-Some.is in
     let same : taken + len - taken ≡ len = omega arith in
     let cleared = c.in_default-answer_ended.ensures.cleared in
     record {
@@ -99,8 +99,8 @@ returns-then-is_err-clause-takes g c = λ start begun at begins.
     let r = g.H.Handler in
     let piece = c.args.piece.now in
     let taken = c.lines.taken in
-    let none : position (λ b. b == line_feed) (drop taken piece) ≡ None =
-    ap (position (λ b. b == line_feed)) (sym (take_rest piece taken)) ∙ sym c.line_end.ensures ∙ c.in_default.is in
+    let none : position (λ b. b == line_feed_byte) (drop taken piece) ≡ None =
+    ap (position (λ b. b == line_feed_byte)) (sym (take_rest piece taken)) ∙ sym c.line_end.ensures ∙ c.in_default.is in
     subst (λ ls. StopsForMemory r.machine r.leaves start ls (r.state c.lines.handler c.lines.context) (g.K.Sink.written c.lines.sink))
     (sym (last-ended begun piece (drop taken piece) taken c.lines.invariant.within refl none))
     (memory_here r.machine r.leaves start (ended_from begun (take taken piece)) (r.state c.lines.handler c.lines.context) (g.K.Sink.written c.lines.sink) c.lines.replies.items
@@ -114,8 +114,8 @@ returns-clause-takes g c = λ start begun at begins.
     let state = r.state c.lines.handler c.lines.context in
     let written = g.K.Sink.written c.lines.sink in
     let gathered = c.lines.replies.items in
-    let none : position (λ b. b == line_feed) (drop taken piece) ≡ None =
-    ap (position (λ b. b == line_feed)) (sym (take_rest piece taken)) ∙ sym c.line_end.ensures ∙ c.in_default.is in
+    let none : position (λ b. b == line_feed_byte) (drop taken piece) ≡ None =
+    ap (position (λ b. b == line_feed_byte)) (sym (take_rest piece taken)) ∙ sym c.line_end.ensures ∙ c.in_default.is in
     let all : Gathers r.machine start (ended_from begun piece) state written gathered =
     subst (λ ls. Gathers r.machine start ls state written gathered)
     (sym (last-ended begun piece (drop taken piece) taken c.lines.invariant.within refl none))
@@ -130,8 +130,8 @@ returns-clause-begins g c = λ begun begins.
     let taken = c.lines.taken in
     let whole = open_from begun (take taken piece) in
     let rest = take (length piece - taken) (drop taken piece) in
-    let none : position (λ b. b == line_feed) (drop taken piece) ≡ None =
-    ap (position (λ b. b == line_feed)) (sym (take_rest piece taken)) ∙ sym c.line_end.ensures ∙ c.in_default.is in
+    let none : position (λ b. b == line_feed_byte) (drop taken piece) ≡ None =
+    ap (position (λ b. b == line_feed_byte)) (sym (take_rest piece taken)) ∙ sym c.line_end.ensures ∙ c.in_default.is in
     let extended = ok_is c.extend.result (sym c.is_err.ensures.value ∙ c.if-is_err.false) c.extend.ensures.extended in
     ok_anyway c.send.result (ap (λ b. b.kept) extended
     ∙ ap (λ l. kept_part l (c.lines.line.kept ++ rest)) c.lines.invariant.longest
@@ -151,8 +151,8 @@ returns-in-Err-clause-spends g c = λ start begun at begins.
     let open_before = open_from begun (take taken piece) in
     let old = r.spent c.args.handler.now in
     let new = r.spent c.answer_ended.new.handler in
-    let found : position (λ b. b == line_feed) rest ≡ Some len =
-    ap (position (λ b. b == line_feed)) (sym (take_rest piece taken)) ∙ sym c.line_end.ensures ∙ c.in-Some.is in
+    let found : position (λ b. b == line_feed_byte) rest ≡ Some len =
+    ap (position (λ b. b == line_feed_byte)) (sym (take_rest piece taken)) ∙ sym c.line_end.ensures ∙ c.in-Some.is in
     let same : taken + len - taken ≡ len = omega arith in
     front_spent r.machine r.cost start.state (ended_from begun piece) (answered ++ strip_carriage_return (open_before ++ take len rest) ∷ [])
     (ended_from (open_from begun (take (taken + (len + 1)) piece)) (drop (taken + (len + 1)) piece)) old new
@@ -169,8 +169,8 @@ returns-then-is_err-clause-spends g c = λ start begun at begins.
     let r = g.H.Handler in
     let piece = c.args.piece.now in
     let taken = c.lines.taken in
-    let none : position (λ b. b == line_feed) (drop taken piece) ≡ None =
-    ap (position (λ b. b == line_feed)) (sym (take_rest piece taken)) ∙ sym c.line_end.ensures ∙ c.in_default.is in
+    let none : position (λ b. b == line_feed_byte) (drop taken piece) ≡ None =
+    ap (position (λ b. b == line_feed_byte)) (sym (take_rest piece taken)) ∙ sym c.line_end.ensures ∙ c.in_default.is in
     subst (λ ls. r.spent c.lines.handler ≤ r.spent c.args.handler.now + total_cost r.machine r.cost start.state ls)
     (sym (last-ended begun piece (drop taken piece) taken c.lines.invariant.within refl none)) (c.lines.invariant.spent start begun at begins)
 
@@ -179,7 +179,7 @@ returns-clause-spends g c = λ start begun at begins.
     let r = g.H.Handler in
     let piece = c.args.piece.now in
     let taken = c.lines.taken in
-    let none : position (λ b. b == line_feed) (drop taken piece) ≡ None =
-    ap (position (λ b. b == line_feed)) (sym (take_rest piece taken)) ∙ sym c.line_end.ensures ∙ c.in_default.is in
+    let none : position (λ b. b == line_feed_byte) (drop taken piece) ≡ None =
+    ap (position (λ b. b == line_feed_byte)) (sym (take_rest piece taken)) ∙ sym c.line_end.ensures ∙ c.in_default.is in
     subst (λ ls. r.spent c.lines.handler ≤ r.spent c.args.handler.now + total_cost r.machine r.cost start.state ls)
     (sym (last-ended begun piece (drop taken piece) taken c.lines.invariant.within refl none)) (c.lines.invariant.spent start begun at begins)

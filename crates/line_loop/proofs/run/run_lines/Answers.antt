@@ -2,10 +2,10 @@ use Rattle.std.proofs.Common.{◌≡◌, ◌∙◌, ◌++◌, ◌+◌, ◌≤◌
 use Rattle.line_loop.specs.Kept.{kept_part}
 use Rattle.line_loop.specs.Lines.{ended_from, ended_lines, last_line, open_line}
 use Rattle.line_loop.specs.Machine.{after}
-use Rattle.line_loop.specs.Run.{heard}
+use Rattle.line_loop.specs.Run.{answered_lines}
 use Rattle.line_loop.specs.Spending.{total_cost}
-use Rattle.line_loop.specs.Stop.{IsAt, reach, Stops}
-use Rattle.line_loop.specs.Ending.{HasTaken, KeepsLimit, EndsAs}
+use Rattle.line_loop.specs.Stop.{IsAt, point_after, Stops}
+use Rattle.line_loop.specs.Ending.{HasTaken, KeepsLimit, HasEnding}
 use Rattle.line_loop.proofs.StopLemmas.{Stops-after}
 use Rattle.line_loop.proofs.MachineLemmas.{reach-append}
 use Rattle.line_loop.proofs.RunLemmas.{ended_lines-more, open_line-more, heard-front, heard_at_end, stops_within, done_within, done_at_end, stops_at_end, ends_at_limit, ends_stopped, keeps_stopped, memory_at_start, more_taken, piece_is, room_keeps, room_passes}
@@ -34,11 +34,11 @@ returns-in-Err-finish-clause-ends g c = λ start bytes at told.
     let got = c.in-Ok-eq0.ensures.bytes (drop c.reading.taken bytes) so_far.rest in
     let m = g.H.Handler.machine in
     let n = c.reading.taken in
-    subst (λ e. EndsAs m g.H.Handler.leaves c.args.limit start bytes e (g.H.Handler.state c.finish.new.handler c.finish.new.context) (g.K.Sink.written c.finish.new.sink) (g.S.Source.left c.read.new.self))
+    subst (λ e. HasEnding m g.H.Handler.leaves c.args.limit start bytes e (g.H.Handler.state c.finish.new.handler c.finish.new.context) (g.K.Sink.written c.finish.new.sink) (g.S.Source.left c.read.new.self))
     (sym c.from.ensures)
     (ends_stopped m g.H.Handler.leaves c.args.limit start bytes c.in-Err-finish.stop _ _ _
     (stops_at_end m g.H.Handler.leaves c.args.limit start bytes n c.reading.invariant.within so_far.there (got.3 c.in-Ok-eq0.field-0-test) c.in-Err-finish.stop _ _
-    (c.in-Err-finish.ensures.takes (reach m start (ended_lines (take n bytes))) (open_line (take n bytes)) (c.reading.invariant.reached start bytes at told) (c.reading.invariant.kept bytes told))))
+    (c.in-Err-finish.ensures.takes (point_after m start (ended_lines (take n bytes))) (open_line (take n bytes)) (c.reading.invariant.reached start bytes at told) (c.reading.invariant.kept bytes told))))
 
 pub returns-in-Ok-eq0-clause-taken : goal.returns-in-Ok-eq0-clause-taken
 returns-in-Ok-eq0-clause-taken g c = λ bytes told.
@@ -55,7 +55,7 @@ returns-in-Ok-eq0-clause-ends g c = λ start bytes at told.
     let n = c.reading.taken in
     done_at_end m g.H.Handler.leaves c.args.limit start bytes n c.reading.invariant.within so_far.there (got.3 c.in-Ok-eq0.field-0-test) _ _ _
     (got.0 ∙ ap (λ k. Some (drop k (drop n bytes))) c.in-Ok-eq0.field-0-test)
-    (c.in_default-finish.ensures.takes (reach m start (ended_lines (take n bytes))) (open_line (take n bytes)) (c.reading.invariant.reached start bytes at told) (c.reading.invariant.kept bytes told))
+    (c.in_default-finish.ensures.takes (point_after m start (ended_lines (take n bytes))) (open_line (take n bytes)) (c.reading.invariant.reached start bytes at told) (c.reading.invariant.kept bytes told))
 
 pub returns-in-Ok-read-clause-taken : goal.returns-in-Ok-read-clause-taken
 returns-in-Ok-read-clause-taken g c = λ bytes told.
@@ -75,8 +75,8 @@ returns-in-Ok-read-clause-ends g c = λ start bytes at told.
     let taken : HasTaken bytes (c.args.limit + 1) (g.S.Source.left c.read.new.self) =
     subst (λ n. HasTaken bytes n (g.S.Source.left c.read.new.self)) one (more_taken bytes c.reading.taken c.in-Ok-read.field-0 _ _ so_far got.0 got.2) in
     let m = g.H.Handler.machine in
-    let reached : IsAt (reach m start (ended_lines (take c.args.limit bytes))) (g.H.Handler.state c.reading.handler c.reading.context) (g.K.Sink.written c.reading.sink) =
-    subst (λ n. IsAt (reach m start (ended_lines (take n bytes))) (g.H.Handler.state c.reading.handler c.reading.context) (g.K.Sink.written c.reading.sink))
+    let reached : IsAt (point_after m start (ended_lines (take c.args.limit bytes))) (g.H.Handler.state c.reading.handler c.reading.context) (g.K.Sink.written c.reading.sink) =
+    subst (λ n. IsAt (point_after m start (ended_lines (take n bytes))) (g.H.Handler.state c.reading.handler c.reading.context) (g.K.Sink.written c.reading.sink))
     c.if-taken-limit.true (c.reading.invariant.reached start bytes at told) in
     ends_at_limit m g.H.Handler.leaves c.args.limit start bytes (omega (arith, taken.there))
     (sym (c.is_done.ensures c.reading.context (after m start.state (ended_lines (take c.args.limit bytes))) reached.in_state) ∙ c.reading-test.true)
@@ -102,8 +102,8 @@ returns-in-Err-taking-clause-ends g c = λ start bytes at told.
     let n = c.reading.taken in
     let len = c.in-Ok-read.field-0 in
     let piece = take len (c.read.new.buf ++ drop c.room.result c.reading.piece) in
-    let stops = c.in-Err-taking.ensures.takes (reach m start (ended_lines (take n bytes))) (open_line (take n bytes)) (c.reading.invariant.reached start bytes at told) (c.reading.invariant.kept bytes told) in
-    subst (λ e. EndsAs m g.H.Handler.leaves c.args.limit start bytes e (g.H.Handler.state c.take_piece-taking.new.handler c.take_piece-taking.new.context) (g.K.Sink.written c.take_piece-taking.new.sink) (g.S.Source.left c.read.new.self))
+    let stops = c.in-Err-taking.ensures.takes (point_after m start (ended_lines (take n bytes))) (open_line (take n bytes)) (c.reading.invariant.reached start bytes at told) (c.reading.invariant.kept bytes told) in
+    subst (λ e. HasEnding m g.H.Handler.leaves c.args.limit start bytes e (g.H.Handler.state c.take_piece-taking.new.handler c.take_piece-taking.new.context) (g.K.Sink.written c.take_piece-taking.new.sink) (g.S.Source.left c.read.new.self))
     (sym c.from-in-Err-taking.ensures)
     (ends_stopped m g.H.Handler.leaves c.args.limit start bytes c.in-Err-taking.stop _ _ _
     (stops_within m g.H.Handler.leaves c.args.limit start bytes (n + len) within c.in-Err-taking.stop _ _
@@ -132,9 +132,9 @@ reading-preserved g c =
           let so_far = c.reading.invariant.left bytes told in
           let got = c.in-Ok-read.ensures.bytes (drop n bytes) so_far.rest in
           subst (λ p. IsAt p (g.H.Handler.state c.take_piece-taking.new.handler c.take_piece-taking.new.context) (g.K.Sink.written c.take_piece-taking.new.sink))
-          (sym (ap (reach m start) (ended_lines-more bytes piece n len (piece_is bytes c.read.new.buf (drop c.room.result c.reading.piece) n len got.1 c.in-Ok-read.ensures.bound))
+          (sym (ap (point_after m start) (ended_lines-more bytes piece n len (piece_is bytes c.read.new.buf (drop c.room.result c.reading.piece) n len got.1 c.in-Ok-read.ensures.bound))
           ∙ reach-append m start (ended_lines (take n bytes)) (ended_from (open_line (take n bytes)) piece)))
-          (c.in_default-taking.ensures.takes (reach m start (ended_lines (take n bytes))) (open_line (take n bytes)) (c.reading.invariant.reached start bytes at told) (c.reading.invariant.kept bytes told));
+          (c.in_default-taking.ensures.takes (point_after m start (ended_lines (take n bytes))) (open_line (take n bytes)) (c.reading.invariant.reached start bytes at told) (c.reading.invariant.kept bytes told));
       kept = λ bytes told.
           let so_far = c.reading.invariant.left bytes told in
           let got = c.in-Ok-read.ensures.bytes (drop n bytes) so_far.rest in
@@ -143,7 +143,7 @@ reading-preserved g c =
       spent = λ start bytes at told.
           let so_far = c.reading.invariant.left bytes told in
           let got = c.in-Ok-read.ensures.bytes (drop n bytes) so_far.rest in
-          let now = reach m start (ended_lines (take n bytes)) in
+          let now = point_after m start (ended_lines (take n bytes)) in
           let reached = c.reading.invariant.reached start bytes at told in
           subst (λ ls. g.H.Handler.spent c.take_piece-taking.new.handler ≤ g.H.Handler.spent c.args.handler.now + total_cost m g.H.Handler.cost start.state ls)
           (sym (ended_lines-more bytes piece n len (piece_is bytes c.read.new.buf (drop c.room.result c.reading.piece) n len got.1 c.in-Ok-read.ensures.bound)))
@@ -166,7 +166,7 @@ returns-clause-spends g c = λ start bytes at told.
     let m = g.H.Handler.machine in
     let n = c.reading.taken in
     let front = heard-front m g.H.Handler.leaves c.args.limit start bytes n c.reading.invariant.within in
-    front_spent m g.H.Handler.cost start.state (heard m c.args.limit start.state bytes) (ended_lines (take n bytes)) front.0
+    front_spent m g.H.Handler.cost start.state (answered_lines m c.args.limit start.state bytes) (ended_lines (take n bytes)) front.0
     (g.H.Handler.spent c.args.handler.now) (g.H.Handler.spent c.reading.handler) front.1 (c.reading.invariant.spent start bytes at told)
 
 pub returns-in-Ok-read-clause-spends : goal.returns-in-Ok-read-clause-spends
@@ -174,7 +174,7 @@ returns-in-Ok-read-clause-spends g c = λ start bytes at told.
     let m = g.H.Handler.machine in
     let n = c.reading.taken in
     let front = heard-front m g.H.Handler.leaves c.args.limit start bytes n c.reading.invariant.within in
-    front_spent m g.H.Handler.cost start.state (heard m c.args.limit start.state bytes) (ended_lines (take n bytes)) front.0
+    front_spent m g.H.Handler.cost start.state (answered_lines m c.args.limit start.state bytes) (ended_lines (take n bytes)) front.0
     (g.H.Handler.spent c.args.handler.now) (g.H.Handler.spent c.reading.handler) front.1 (c.reading.invariant.spent start bytes at told)
 
 pub returns-in-Err-clause-spends : goal.returns-in-Err-clause-spends
@@ -182,7 +182,7 @@ returns-in-Err-clause-spends g c = λ start bytes at told.
     let m = g.H.Handler.machine in
     let n = c.reading.taken in
     let front = heard-front m g.H.Handler.leaves c.args.limit start bytes n c.reading.invariant.within in
-    front_spent m g.H.Handler.cost start.state (heard m c.args.limit start.state bytes) (ended_lines (take n bytes)) front.0
+    front_spent m g.H.Handler.cost start.state (answered_lines m c.args.limit start.state bytes) (ended_lines (take n bytes)) front.0
     (g.H.Handler.spent c.args.handler.now) (g.H.Handler.spent c.reading.handler) front.1 (c.reading.invariant.spent start bytes at told)
 
 pub returns-in_default-clause-spends : goal.returns-in_default-clause-spends
@@ -197,7 +197,7 @@ returns-in-Err-finish-clause-spends g c = λ start bytes at told.
     let got = c.in-Ok-eq0.ensures.bytes (drop c.reading.taken bytes) so_far.rest in
     let m = g.H.Handler.machine in
     let n = c.reading.taken in
-    let now = reach m start (ended_lines (take n bytes)) in
+    let now = point_after m start (ended_lines (take n bytes)) in
     let reached = c.reading.invariant.reached start bytes at told in
     subst (λ ls. g.H.Handler.spent c.finish.new.handler ≤ g.H.Handler.spent c.args.handler.now + total_cost m g.H.Handler.cost start.state ls)
     (sym (heard_at_end m g.H.Handler.leaves c.args.limit start bytes n c.reading.invariant.within so_far.there (got.3 c.in-Ok-eq0.field-0-test)))
@@ -212,7 +212,7 @@ returns-in-Ok-eq0-clause-spends g c = λ start bytes at told.
     let got = c.in-Ok-eq0.ensures.bytes (drop c.reading.taken bytes) so_far.rest in
     let m = g.H.Handler.machine in
     let n = c.reading.taken in
-    let now = reach m start (ended_lines (take n bytes)) in
+    let now = point_after m start (ended_lines (take n bytes)) in
     let reached = c.reading.invariant.reached start bytes at told in
     subst (λ ls. g.H.Handler.spent c.finish.new.handler ≤ g.H.Handler.spent c.args.handler.now + total_cost m g.H.Handler.cost start.state ls)
     (sym (heard_at_end m g.H.Handler.leaves c.args.limit start bytes n c.reading.invariant.within so_far.there (got.3 c.in-Ok-eq0.field-0-test)))
@@ -231,10 +231,10 @@ returns-in-Err-taking-clause-spends g c = λ start bytes at told.
     let n = c.reading.taken in
     let len = c.in-Ok-read.field-0 in
     let piece = take len (c.read.new.buf ++ drop c.room.result c.reading.piece) in
-    let now = reach m start (ended_lines (take n bytes)) in
+    let now = point_after m start (ended_lines (take n bytes)) in
     let reached = c.reading.invariant.reached start bytes at told in
     let front = heard-front m g.H.Handler.leaves c.args.limit start bytes (n + len) within in
-    front_spent m g.H.Handler.cost start.state (heard m c.args.limit start.state bytes)
+    front_spent m g.H.Handler.cost start.state (answered_lines m c.args.limit start.state bytes)
     (ended_lines (take n bytes) ++ ended_from (open_line (take n bytes)) piece) front.0
     (g.H.Handler.spent c.args.handler.now) (g.H.Handler.spent c.take_piece-taking.new.handler)
     (front.1 ∙ ap (λ ls. ls ++ front.0) (ended_lines-more bytes piece n len (piece_is bytes c.read.new.buf (drop c.room.result c.reading.piece) n len got.1 c.in-Ok-read.ensures.bound)))

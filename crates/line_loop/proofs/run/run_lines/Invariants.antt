@@ -2,7 +2,7 @@ use Rattle.std.proofs.Common.{◌≡◌, ℕ, ◌+◌, ◌-◌, ◌≤◌, List,
 use Rattle.line_loop.specs.Kept.{kept_part}
 use Rattle.line_loop.specs.Lines.{ended_lines, open_line}
 use Rattle.line_loop.specs.Spending.{total_cost}
-use Rattle.line_loop.specs.Stop.{Point, IsAt, reach}
+use Rattle.line_loop.specs.Stop.{Point, IsAt, point_after}
 use Rattle.line_loop.specs.Ending.{HasTaken}
 use Rattle.line_loop.proofs.run.run_lines.Given as goal
 
@@ -19,7 +19,7 @@ invariant-reading g l = record {
   reached : (start : Point g.H.Handler.State) (bytes : List ℕ) →
       IsAt start (g.H.Handler.state l.initial.handler l.initial.context) (g.K.Sink.written l.initial.sink) →
       g.S.Source.left l.initial.source ≡ Some bytes →
-      IsAt (reach g.H.Handler.machine start (ended_lines (take l.taken bytes))) (g.H.Handler.state l.handler l.context) (g.K.Sink.written l.sink);
+      IsAt (point_after g.H.Handler.machine start (ended_lines (take l.taken bytes))) (g.H.Handler.state l.handler l.context) (g.K.Sink.written l.sink);
   kept : (bytes : List ℕ) → g.S.Source.left l.initial.source ≡ Some bytes →
       l.line.kept ≡ kept_part g.H.Handler.LONGEST (open_line (take l.taken bytes));
   spent : (start : Point g.H.Handler.State) (bytes : List ℕ) →

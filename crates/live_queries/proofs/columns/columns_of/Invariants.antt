@@ -1,5 +1,5 @@
 use Rattle.std.proofs.Common.{◌≡◌, ℕ, ◌<◌, true, List, ◌++◌, length}
-use Rattle.formula.specs.Tree.{query_view}
+use Rattle.formula.specs.Tree.{resolved_view}
 use Rattle.object_store.specs.Contents.{catalog_of}
 use Rattle.live_queries.specs.Columns.{AreColumnsOf, Column, order_of}
 use Rattle.live_queries.proofs.OrderLemmas.{among}
@@ -10,7 +10,7 @@ abbrev pub invariant-variables : goal.invariant-variables
 invariant-variables l = record {
   below : (v : ℕ) → among l.rest v ≡ true → v < length l.query.classes;
   made : (more : List Column) → AreColumnsOf (catalog_of l.store) l.query.classes l.rest more
-      → AreColumnsOf (catalog_of l.store) l.query.classes (order_of (query_view l.query)) (l.columns.items ++ more);
+      → AreColumnsOf (catalog_of l.store) l.query.classes (order_of (resolved_view l.query)) (l.columns.items ++ more);
 }
 
 abbrev pub decreases-variables : goal.decreases-variables

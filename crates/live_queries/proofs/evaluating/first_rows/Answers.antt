@@ -1,5 +1,5 @@
 use Rattle.std.proofs.Common.{◌+◌, ◌-◌, sym, subst}
-use Rattle.formula.specs.Tree.{query_view}
+use Rattle.formula.specs.Tree.{resolved_view}
 use Rattle.kept_rows.specs.Rows.{row_has}
 use Rattle.tick_set.specs.Runs.{spans_have}
 use Rattle.object_store.specs.Contents.{catalog_of}
@@ -12,35 +12,35 @@ use Rattle.live_queries.proofs.JudgedLemmas.{first_rows_are, is_over}
 use Rattle.live_queries.proofs.evaluating.first_rows.Goals as goal
 
 pub domains_of-requires : goal.domains_of-requires
-domains_of-requires g c = few_classes (query_view c.args.query.now) c.requires.resolved
+domains_of-requires g c = few_classes (resolved_view c.args.query.now) c.requires.resolved
 
 pub evaluate-requires-clause-domains : goal.evaluate-requires-clause-domains
 evaluate-requires-clause-domains g c =
-    subst (AreOfItsClasses (catalog_of c.args.world.now.store.now) (query_view c.args.query.now)) (sym c.in_ok-domains.ensures)
-    (domains_are_of_classes (catalog_of c.args.world.now.store.now) (query_view c.args.query.now))
+    subst (AreOfItsClasses (catalog_of c.args.world.now.store.now) (resolved_view c.args.query.now)) (sym c.in_ok-domains.ensures)
+    (domains_are_of_classes (catalog_of c.args.world.now.store.now) (resolved_view c.args.query.now))
 
 pub table_of-requires-clause-over : goal.table_of-requires-clause-over
 table_of-requires-clause-over g c =
-    is_over (told_world c.args.world.now) (query_view c.args.query.now) c.args.w.lo c.args.w.hi c.args.columns.now c.in_ok-domains.domains c.in_ok-full.full
+    is_over (told_world c.args.world.now) (resolved_view c.args.query.now) c.args.w.lo c.args.w.hi c.args.columns.now c.in_ok-domains.domains c.in_ok-full.full
     c.requires.resolved c.requires.columns c.in_ok-domains.ensures c.in_ok-full.ensures.vars c.in_ok-full.ensures.frame
 
 pub returns-clause-rows : goal.returns-clause-rows
 returns-clause-rows g c =
-    first_rows_are (told_world c.args.world.now) (query_view c.args.query.now) c.args.w.lo c.args.w.hi c.args.columns.now
+    first_rows_are (told_world c.args.world.now) (resolved_view c.args.query.now) c.args.w.lo c.args.w.hi c.args.columns.now
     c.in_ok-domains.domains c.in_ok-full.full (row_has spans_have c.in_ok-rows.rows)
     c.requires.resolved c.requires.columns c.in_ok-domains.ensures c.in_ok-full.ensures.rows c.in_ok-rows.ensures.rows
 
 pub returns-in_err-full-clause-most : goal.returns-in_err-full-clause-most
 returns-in_err-full-clause-most g c =
     most_within _ _ _ _ c.in_err-full.ensures.most
-    (reads_within (catalog_of c.args.world.now.store.now) (query_view c.args.query.now) _ (c.args.w.hi + 1 - c.args.w.lo) c.in_ok-domains.ensures)
+    (reads_within (catalog_of c.args.world.now.store.now) (resolved_view c.args.query.now) _ (c.args.w.hi + 1 - c.args.w.lo) c.in_ok-domains.ensures)
 
 pub returns-in_err-rows-clause-most : goal.returns-in_err-rows-clause-most
 returns-in_err-rows-clause-most g c =
     most_within _ _ _ _ c.in_ok-full.ensures.most
-    (reads_within (catalog_of c.args.world.now.store.now) (query_view c.args.query.now) _ (c.args.w.hi + 1 - c.args.w.lo) c.in_ok-domains.ensures)
+    (reads_within (catalog_of c.args.world.now.store.now) (resolved_view c.args.query.now) _ (c.args.w.hi + 1 - c.args.w.lo) c.in_ok-domains.ensures)
 
 pub returns-clause-most : goal.returns-clause-most
 returns-clause-most g c =
     most_within _ _ _ _ c.in_ok-full.ensures.most
-    (reads_within (catalog_of c.args.world.now.store.now) (query_view c.args.query.now) _ (c.args.w.hi + 1 - c.args.w.lo) c.in_ok-domains.ensures)
+    (reads_within (catalog_of c.args.world.now.store.now) (resolved_view c.args.query.now) _ (c.args.w.hi + 1 - c.args.w.lo) c.in_ok-domains.ensures)

@@ -2,12 +2,12 @@ use Rattle.std.proofs.Common.{◌≡◌, ℕ, ◌+◌, ◌-◌, Bool, true, List
 use Rattle.std.specs.List.Sorted.{IsStrictlyIncreasing}
 use Rattle.std.proofs.lemmas.Bool.{and_parts}
 use Rattle.tick_set.specs.Runs.{spans_have}
-use Rattle.formula.specs.Tree.{query_view}
+use Rattle.formula.specs.Tree.{resolved_view}
 use Rattle.kept_rows.specs.Rows.{row_has}
 use Rattle.object_store.specs.Contents.{catalog_of}
-use Rattle.live_queries.specs.Columns.{object_of}
+use Rattle.live_queries.specs.Columns.{object_at_number}
 use Rattle.live_queries.specs.Prepared.{is_of_class}
-use Rattle.live_queries.specs.Written.{AreVariablesWith, IsVariableWith, ids_with, takes}
+use Rattle.live_queries.specs.Written.{AreVariablesWith, IsVariableWith, ids_with, takes_object}
 use Rattle.live_queries.proofs.GrowLemmas.{do_ascend}
 use Rattle.live_queries.proofs.JudgedLemmas.{one_object, rows_are}
 use Rattle.live_queries.proofs.MadeLemmas.{same_order}
@@ -17,48 +17,48 @@ use Rattle.live_queries.proofs.evaluating.new_row.Goals as goal
 
 pub evaluate_alone-requires-clause-object : goal.evaluate_alone-requires-clause-object
 evaluate_alone-requires-clause-object g c =
-    one_of_class c.args.judged.now.world.now.store.now (query_view c.args.judged.now.query.now) c.args.object.now.class c.args.object.now.id c.requires.class c.requires.alone c.requires.there
+    one_of_class c.args.judged.now.world.now.store.now (resolved_view c.args.judged.now.query.now) c.args.object.now.class c.args.object.now.id c.requires.class c.requires.alone c.requires.there
 
 pub numbers_with-numbers-requires-clause-room : goal.numbers_with-numbers-requires-clause-room
 numbers_with-numbers-requires-clause-room g c = λ e.
-    let does : takes c.args.grows c.args.object.now.class c.args.judged.now.query.now.classes c.args.column.now ≡ true =
-    sym (c.does_take-one_more.ensures ∙ ap (λ (ks : List ℕ). takes c.args.grows c.args.object.now.class ks c.args.column.now) c.items.ensures) ∙ e in
+    let does : takes_object c.args.grows c.args.object.now.class c.args.judged.now.query.now.classes c.args.column.now ≡ true =
+    sym (c.does_take-one_more.ensures ∙ ap (λ (ks : List ℕ). takes_object c.args.grows c.args.object.now.class ks c.args.column.now) c.items.ensures) ∙ e in
     let parts = and_parts c.args.grows (is_of_class c.args.judged.now.query.now.classes c.args.object.now.class c.args.column.now.variable) does in
     (c.requires.room parts.0).0 parts.1
 
 pub numbers_with-numbers-requires-clause-ascending : goal.numbers_with-numbers-requires-clause-ascending
 numbers_with-numbers-requires-clause-ascending g c =
     subst (λ (b : Bool). IsStrictlyIncreasing (ids_with b c.args.object.now.id c.args.column.now))
-    (sym (c.does_take-one_more.ensures ∙ ap (λ (ks : List ℕ). takes c.args.grows c.args.object.now.class ks c.args.column.now) c.items.ensures))
+    (sym (c.does_take-one_more.ensures ∙ ap (λ (ks : List ℕ). takes_object c.args.grows c.args.object.now.class ks c.args.column.now) c.items.ensures))
     (do_ascend (catalog_of c.args.judged.now.world.now.store.now) c.args.grows c.args.object.now.class c.args.judged.now.query.now.classes c.args.object.now.id (c.args.column.now ∷ []) c.requires.objects).0
 
 pub returns-clause-rows : goal.returns-clause-rows
 returns-clause-rows g c = λ ds made.
-    rows_are c.args.judged.now.world.now.store.now c.args.judged.now.world.now.regions.now (query_view c.args.judged.now.query.now) c.requires.resolved c.args.object.now.class c.args.object.now.id c.requires.class
+    rows_are c.args.judged.now.world.now.store.now c.args.judged.now.world.now.regions.now (resolved_view c.args.judged.now.query.now) c.requires.resolved c.args.object.now.class c.args.object.now.id c.requires.class
     c.args.judged.now.w.lo c.args.judged.now.w.hi c.args.judged.now.from c.args.grows (c.args.column.now ∷ []) c.from_ref.result.now
     (subst (AreVariablesWith c.args.grows c.args.object.now.class c.args.judged.now.query.now.classes c.args.object.now.id (c.args.column.now ∷ [])) (sym c.from_ref.ensures.value) (
       subst (λ (b : Bool). IsVariableWith b c.args.object.now.id c.args.column.now c.numbers_with-numbers.result)
-          (c.does_take-one_more.ensures ∙ ap (λ (ks : List ℕ). takes c.args.grows c.args.object.now.class ks c.args.column.now) c.items.ensures)
+          (c.does_take-one_more.ensures ∙ ap (λ (ks : List ℕ). takes_object c.args.grows c.args.object.now.class ks c.args.column.now) c.items.ensures)
           c.numbers_with-numbers.ensures,
       tt,
     ))
     (λ n t. spans_have c.in_ok-ticks.ticks t) (row_has spans_have c.args.judged.now.rows.now) _ c.in_ok-changes.ensures.rows ds made
-    (λ n here holding t. c.in_ok-ticks.ensures.ticks (object_of ds n)
-    (one_object (query_view c.args.judged.now.query.now) c.requires.resolved (ap length c.requires.alone) ds
+    (λ n here holding t. c.in_ok-ticks.ensures.ticks (object_at_number ds n)
+    (one_object (resolved_view c.args.judged.now.query.now) c.requires.resolved (ap length c.requires.alone) ds
     (same_order c.args.grows c.args.object.now.class c.args.judged.now.query.now.classes c.args.object.now.id (c.args.column.now ∷ []) ds made ∙ c.requires.order)
     c.args.object.now.id n holding) t)
 
 pub returns-in_err-ticks-clause-most : goal.returns-in_err-ticks-clause-most
 returns-in_err-ticks-clause-most g c =
     most_within _ _ _ _ c.in_err-ticks.ensures.most
-    (one_within (catalog_of c.args.judged.now.world.now.store.now) (query_view c.args.judged.now.query.now) (c.args.judged.now.w.hi + 1 - c.args.judged.now.w.lo) c.args.object.now.class c.args.object.now.id c.requires.alone)
+    (one_within (catalog_of c.args.judged.now.world.now.store.now) (resolved_view c.args.judged.now.query.now) (c.args.judged.now.w.hi + 1 - c.args.judged.now.w.lo) c.args.object.now.class c.args.object.now.id c.requires.alone)
 
 pub returns-in_err-changes-clause-most : goal.returns-in_err-changes-clause-most
 returns-in_err-changes-clause-most g c =
     most_within _ _ _ _ c.in_ok-ticks.ensures.most
-    (one_within (catalog_of c.args.judged.now.world.now.store.now) (query_view c.args.judged.now.query.now) (c.args.judged.now.w.hi + 1 - c.args.judged.now.w.lo) c.args.object.now.class c.args.object.now.id c.requires.alone)
+    (one_within (catalog_of c.args.judged.now.world.now.store.now) (resolved_view c.args.judged.now.query.now) (c.args.judged.now.w.hi + 1 - c.args.judged.now.w.lo) c.args.object.now.class c.args.object.now.id c.requires.alone)
 
 pub returns-clause-most : goal.returns-clause-most
 returns-clause-most g c =
     most_within _ _ _ _ c.in_ok-ticks.ensures.most
-    (one_within (catalog_of c.args.judged.now.world.now.store.now) (query_view c.args.judged.now.query.now) (c.args.judged.now.w.hi + 1 - c.args.judged.now.w.lo) c.args.object.now.class c.args.object.now.id c.requires.alone)
+    (one_within (catalog_of c.args.judged.now.world.now.store.now) (resolved_view c.args.judged.now.query.now) (c.args.judged.now.w.hi + 1 - c.args.judged.now.w.lo) c.args.object.now.class c.args.object.now.id c.requires.alone)

@@ -3,7 +3,7 @@ use Rattle.std.specs.List.{flat_map}
 use Rattle.tick_set.specs.Runs.{spans_have}
 use Rattle.tick_set.specs.Ticks.{between}
 use Rattle.formula_shape.specs.declared.limits.TheConstants.{OBJECT_LIMIT}
-use Rattle.formula.specs.Tree.{query_view}
+use Rattle.formula.specs.Tree.{resolved_view}
 use Rattle.kept_rows.specs.declared.binding.TheConstants.{BINDING_LIMIT}
 use Rattle.kept_rows.specs.Changes.{AreRising}
 use Rattle.kept_rows.specs.Rows.{HasRoom, row_has}
@@ -18,11 +18,11 @@ use Rattle.live_queries.proofs.ReadLemmas.{parts_within}
 use Rattle.live_queries.proofs.evaluating.new_rows.Goals as goal
 
 pub singles-requires : goal.singles-requires
-singles-requires g c = subst (λ (ks : List ℕ). length ks ≤ OBJECT_LIMIT) (sym c.items-classes.ensures) (few_classes (query_view c.args.judged.now.query.now) c.requires.resolved)
+singles-requires g c = subst (λ (ks : List ℕ). length ks ≤ OBJECT_LIMIT) (sym c.items-classes.ensures) (few_classes (resolved_view c.args.judged.now.query.now) c.requires.resolved)
 
 pub parts_of-requires-clause-domains : goal.parts_of-requires-clause-domains
 parts_of-requires-clause-domains g c =
-    parts_are_of_classes c.args.judged.now.world.now.store.now c.args.judged.now.world.now.regions.now (query_view c.args.judged.now.query.now) c.requires.resolved c.args.object.now.class c.args.object.now.id c.requires.class
+    parts_are_of_classes c.args.judged.now.world.now.store.now c.args.judged.now.world.now.regions.now (resolved_view c.args.judged.now.query.now) c.requires.resolved c.args.object.now.class c.args.object.now.id c.requires.class
     c.requires.there c.deref.result.now
     (c.deref.ensures.value ∙ c.in_ok-singles.ensures
     ∙ ap (λ (ks : List ℕ). flat_map (single_for (catalog_of c.args.judged.now.world.now.store.now) ks c.args.object.now.class c.args.object.now.id) (between 0 (length ks))) c.items-classes.ensures)
@@ -55,12 +55,12 @@ returns-clause-rising g c =
 
 pub returns-clause-rows : goal.returns-clause-rows
 returns-clause-rows g c =
-    new_rows_are c.args.judged.now.world.now.store.now c.args.judged.now.world.now.regions.now (query_view c.args.judged.now.query.now) c.requires.resolved c.args.object.now.class c.args.object.now.id c.requires.class
+    new_rows_are c.args.judged.now.world.now.store.now c.args.judged.now.world.now.regions.now (resolved_view c.args.judged.now.query.now) c.requires.resolved c.args.object.now.class c.args.object.now.id c.requires.class
     c.args.judged.now.w.lo c.args.judged.now.w.hi c.args.judged.now.from c.args.grows c.args.columns.now c.requires.order c.requires.counted c.requires.objects c.deref.result.now
     (c.deref.ensures.value ∙ c.in_ok-singles.ensures
     ∙ ap (λ (ks : List ℕ). flat_map (single_for (catalog_of c.args.judged.now.world.now.store.now) ks c.args.object.now.class c.args.object.now.id) (between 0 (length ks))) c.items-classes.ensures)
     c.deref-2.result.now
-    (subst (ArePartsOf (told_world c.args.judged.now.world.now) (query_view c.args.judged.now.query.now) c.args.judged.now.w.lo c.args.judged.now.w.hi c.deref.result.now)
+    (subst (ArePartsOf (told_world c.args.judged.now.world.now) (resolved_view c.args.judged.now.query.now) c.args.judged.now.w.lo c.args.judged.now.w.hi c.deref.result.now)
     (sym c.deref-2.ensures.value) c.in_ok-parts.ensures.parts)
     c.deref-3.result.now
     (subst (AreVariablesWith c.args.grows c.args.object.now.class c.args.judged.now.query.now.classes c.args.object.now.id c.args.columns.now) (sym c.deref-3.ensures.value)
@@ -70,27 +70,27 @@ returns-clause-rows g c =
 pub returns-in_err-parts-clause-most : goal.returns-in_err-parts-clause-most
 returns-in_err-parts-clause-most g c =
     most_within _ _ _ _ c.in_err-parts.ensures.most
-    (parts_within (catalog_of c.args.judged.now.world.now.store.now) (query_view c.args.judged.now.query.now) (c.args.judged.now.w.hi + 1 - c.args.judged.now.w.lo) c.args.object.now.class c.args.object.now.id c.deref.result.now
+    (parts_within (catalog_of c.args.judged.now.world.now.store.now) (resolved_view c.args.judged.now.query.now) (c.args.judged.now.w.hi + 1 - c.args.judged.now.w.lo) c.args.object.now.class c.args.object.now.id c.deref.result.now
     (c.deref.ensures.value ∙ c.in_ok-singles.ensures
     ∙ ap (λ (ks : List ℕ). flat_map (single_for (catalog_of c.args.judged.now.world.now.store.now) ks c.args.object.now.class c.args.object.now.id) (between 0 (length ks))) c.items-classes.ensures))
 
 pub returns-in_err-numbers-clause-most : goal.returns-in_err-numbers-clause-most
 returns-in_err-numbers-clause-most g c =
     most_within _ _ _ _ c.in_ok-parts.ensures.most
-    (parts_within (catalog_of c.args.judged.now.world.now.store.now) (query_view c.args.judged.now.query.now) (c.args.judged.now.w.hi + 1 - c.args.judged.now.w.lo) c.args.object.now.class c.args.object.now.id c.deref.result.now
+    (parts_within (catalog_of c.args.judged.now.world.now.store.now) (resolved_view c.args.judged.now.query.now) (c.args.judged.now.w.hi + 1 - c.args.judged.now.w.lo) c.args.object.now.class c.args.object.now.id c.deref.result.now
     (c.deref.ensures.value ∙ c.in_ok-singles.ensures
     ∙ ap (λ (ks : List ℕ). flat_map (single_for (catalog_of c.args.judged.now.world.now.store.now) ks c.args.object.now.class c.args.object.now.id) (between 0 (length ks))) c.items-classes.ensures))
 
 pub returns-in_err-changes-clause-most : goal.returns-in_err-changes-clause-most
 returns-in_err-changes-clause-most g c =
     most_within _ _ _ _ c.in_ok-parts.ensures.most
-    (parts_within (catalog_of c.args.judged.now.world.now.store.now) (query_view c.args.judged.now.query.now) (c.args.judged.now.w.hi + 1 - c.args.judged.now.w.lo) c.args.object.now.class c.args.object.now.id c.deref.result.now
+    (parts_within (catalog_of c.args.judged.now.world.now.store.now) (resolved_view c.args.judged.now.query.now) (c.args.judged.now.w.hi + 1 - c.args.judged.now.w.lo) c.args.object.now.class c.args.object.now.id c.deref.result.now
     (c.deref.ensures.value ∙ c.in_ok-singles.ensures
     ∙ ap (λ (ks : List ℕ). flat_map (single_for (catalog_of c.args.judged.now.world.now.store.now) ks c.args.object.now.class c.args.object.now.id) (between 0 (length ks))) c.items-classes.ensures))
 
 pub returns-clause-most : goal.returns-clause-most
 returns-clause-most g c =
     most_within _ _ _ _ c.in_ok-parts.ensures.most
-    (parts_within (catalog_of c.args.judged.now.world.now.store.now) (query_view c.args.judged.now.query.now) (c.args.judged.now.w.hi + 1 - c.args.judged.now.w.lo) c.args.object.now.class c.args.object.now.id c.deref.result.now
+    (parts_within (catalog_of c.args.judged.now.world.now.store.now) (resolved_view c.args.judged.now.query.now) (c.args.judged.now.w.hi + 1 - c.args.judged.now.w.lo) c.args.object.now.class c.args.object.now.id c.deref.result.now
     (c.deref.ensures.value ∙ c.in_ok-singles.ensures
     ∙ ap (λ (ks : List ℕ). flat_map (single_for (catalog_of c.args.judged.now.world.now.store.now) ks c.args.object.now.class c.args.object.now.id) (between 0 (length ks))) c.items-classes.ensures))

@@ -3,7 +3,7 @@ use Rattle.std.specs.Prelude.{All}
 use Rattle.std.proofs.lemmas.List.Elements.{All-head, All-rest}
 use Rattle.object_store.specs.Contents.{catalog_of}
 use Rattle.atoms.specs.Asked.{told_world}
-use Rattle.live_queries.specs.Asked.{FitsWorld, IsBefore}
+use Rattle.live_queries.specs.Asked.{ExtendsCatalog, FitsWorld}
 use Rattle.live_queries.specs.Columns.{HaveObjectsOf}
 use Rattle.live_queries.specs.Effort.{judged_reads}
 use Rattle.live_queries.specs.Kept.{KeptQuery}
@@ -41,7 +41,7 @@ renewal_of-requires g c = record {
   sight = subst (λ (i : ℕ). IsSightOf c.args.world.now.store.now i c.queries.sight) (sym c.written-object.ensures.id) c.queries.invariant.sight;
   before = (
     c.queries.invariant.before.old,
-    subst (λ (i : ℕ). IsBefore i c.queries.invariant.before.old (catalog_of c.args.world.now.store.now)) (sym c.written-object.ensures.id) c.queries.invariant.before.before,
+    subst (λ (i : ℕ). ExtendsCatalog i c.queries.invariant.before.old (catalog_of c.args.world.now.store.now)) (sym c.written-object.ensures.id) c.queries.invariant.before.before,
     All-head (λ (k : KeptQuery). HaveObjectsOf c.queries.invariant.before.old k.query.classes k.columns) c.in-Some.query.now c.in-Some.later.now
         (subst (All (λ (k : KeptQuery). HaveObjectsOf c.queries.invariant.before.old k.query.classes k.columns)) c.in-Some.ensures.cases.0 c.queries.invariant.before.objects),
   );

@@ -6,7 +6,7 @@ use Rattle.relation.specs.declared.row.Row.{Row}
 use Rattle.relation.specs.Rows.{has_at}
 use Rattle.tick_set.specs.Runs.{spans_have}
 use Rattle.tick_set.specs.declared.spans.Span.{Span}
-use Rattle.live_queries.specs.Columns.{object_of}
+use Rattle.live_queries.specs.Columns.{object_at_number}
 use Rattle.live_queries.proofs.NumberedLemmas.{IsRowOf, all_moved, none_moved, none_moved_yet, objects_among, row_moved, rows_of_table}
 use Rattle.live_queries.proofs.numbering.filled.Goals as goal
 
@@ -20,7 +20,7 @@ moved-init c =
       each = subst (All (IsRowOf c.args.full)) (sym all)
           (rows_of_table c.args.full c.rows_stand_in_order.ensures.keys c.rows_stand_in_order.ensures.ticks);
       all = λ n t counted.
-          ap (λ (xs : List (Row (List Span))). has_at spans_have xs (map (object_of c.args.columns.now n) c.args.full.vars) t
+          ap (λ (xs : List (Row (List Span))). has_at spans_have xs (map (object_at_number c.args.columns.now n) c.args.full.vars) t
           || row_has spans_have c.in_ok-rows.rows n t) all
           ∙ none_moved_yet c.args.columns.now c.args.full c.requires.over (row_has spans_have c.in_ok-rows.rows) c.in_ok-rows.ensures.none n t;
       none = λ n t counted. c.in_ok-rows.ensures.none n t;

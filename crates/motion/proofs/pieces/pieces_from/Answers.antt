@@ -1,7 +1,7 @@
 use Rattle.std.proofs.Common.{arith, subst, sym}
 use Rattle.std.specs.Prelude.{All}
 use Rattle.std.proofs.lemmas.List.Elements.{All-push}
-use Rattle.motion.specs.Pieces.{IsSteady}
+use Rattle.motion.specs.Pieces.{IsSteadyPiece}
 use Rattle.motion.proofs.PieceLemmas.{ArePiecesTo-none, ArePiecesTo-push, ArePiecesTo-all, some_begun}
 use Rattle.motion.proofs.pieces.pieces_from.Goals as goal
 
@@ -19,8 +19,8 @@ cutting-preserved c = record {
       rw c.in_ok-push.ensures.items
       (ArePiecesTo-push c.args.epochs.now c.args.start c.args.last c.cutting.made.items c.cutting.at c.piece_for-piece.result c.cutting.invariant.pieces c.piece_for-piece.ensures.piece);
   steady =
-      subst (λ pieces. All (IsSteady c.args.epochs.now) pieces) (sym c.in_ok-push.ensures.items)
-      (All-push (IsSteady c.args.epochs.now) c.cutting.made.items c.piece_for-piece.result c.cutting.invariant.steady c.piece_for-piece.ensures.steady);
+      subst (λ pieces. All (IsSteadyPiece c.args.epochs.now) pieces) (sym c.in_ok-push.ensures.items)
+      (All-push (IsSteadyPiece c.args.epochs.now) c.cutting.made.items c.piece_for-piece.result c.cutting.invariant.steady c.piece_for-piece.ensures.steady);
   begun = c.begun_next-count.ensures.begun;
   some = omega (arith, c.cutting.invariant.some, c.begun_next-count.ensures.more);
 }

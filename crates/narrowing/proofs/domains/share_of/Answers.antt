@@ -2,8 +2,8 @@ use Rattle.std.proofs.Common.{◌≡◌, ℕ, List, ap, sym, subst, ◌∙◌}
 use Rattle.std.specs.Prelude.{IfSome, slice_index}
 use Rattle.std.specs.List.{filter}
 use Rattle.std.specs.List.Sorted.{IsStrictlyIncreasing}
-use Rattle.formula.specs.Tree.{query_view}
-use Rattle.relation.specs.Key.{has_id, ids_of}
+use Rattle.formula.specs.Tree.{resolved_view}
+use Rattle.relation.specs.Key.{has_id, ids_of_variable}
 use Rattle.narrowing.specs.Narrowed.{IsShare}
 use Rattle.narrowing.specs.Needed.{AreNeeded}
 use Rattle.narrowing.proofs.ShareLemmas.{own_of_class, share_of_needed}
@@ -12,8 +12,8 @@ use Rattle.narrowing.proofs.domains.share_of.Goals as goal
 pub returns-in_ok-share-in-Some : goal.returns-in_ok-share-in-Some
 returns-in_ok-share-in-Some c =
     let scene = c.args.scene.now in
-    let q = query_view c.args.q.now in
-    let own : List ℕ = ids_of scene.domains.now c.args.var in
+    let q = resolved_view c.args.q.now in
+    let own : List ℕ = ids_of_variable scene.domains.now c.args.var in
     let class : ℕ = slice_index q.classes c.args.var in
     let needed : AreNeeded scene class c.args.var q.formula c.in-Some.ids.items =
     subst (λ (classes : List ℕ). AreNeeded scene (slice_index classes c.args.var) c.args.var q.formula c.in-Some.ids.items) c.items.ensures

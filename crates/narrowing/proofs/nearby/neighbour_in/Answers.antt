@@ -1,9 +1,10 @@
 use Rattle.std.proofs.Common.{◌≡◌, ℕ, ℤ, true, sym, subst, ◌∙◌, arith}
 use Rattle.std.proofs.lemmas.Bool.{not-false}
 use Rattle.formula.specs.declared.tree.RAtom.TheVariants as atoms
-use Rattle.narrowing.specs.Beside.{is_at_most, NeedsBeside}
+use Rattle.narrowing.specs.Beside.{NeedsBeside}
 use Rattle.narrowing.proofs.BesideLemmas.{first_beside, second_beside}
 use Rattle.narrowing.proofs.nearby.neighbour_in.Goals as goal
+use Rattle.case_table.specs.Comparison.{is_at_most}
 
 pub returns-then-v-var : goal.returns-then-v-var
 returns-then-v-var c =

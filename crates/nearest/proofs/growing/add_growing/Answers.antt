@@ -1,5 +1,5 @@
 use Rattle.std.proofs.Common.{◌≡◌, ℕ, ◌≤◌, refl, sym, subst, ◌∙◌, arith}
-use Rattle.nearest.specs.Courses.{AreAscending}
+use Rattle.nearest.specs.Courses.{HaveAscendingIndexes}
 use Rattle.nearest.specs.Found.{AreBefore}
 use Rattle.nearest.proofs.FoundLemmas.{all_before, both_found, nothing_more}
 use Rattle.nearest.proofs.growing.add_growing.Goals as goal
@@ -15,7 +15,7 @@ growing-init c = record {
 
 pub add_slices-requires-clause-ascending : goal.add_slices-requires-clause-ascending
 add_slices-requires-clause-ascending c =
-    subst (λ (n : ℕ). AreAscending 0 n c.args.courses.now) (sym c.growing.invariant.count) c.requires.ascending
+    subst (λ (n : ℕ). HaveAscendingIndexes 0 n c.args.courses.now) (sym c.growing.invariant.count) c.requires.ascending
 
 pub add_slices-requires-clause-before : goal.add_slices-requires-clause-before
 add_slices-requires-clause-before c =

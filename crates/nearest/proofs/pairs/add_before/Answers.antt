@@ -3,7 +3,7 @@ use Rattle.linear_crossing.specs.Zones.{spans_of}
 use Rattle.tick_set.specs.Ticks.{within}
 use Rattle.nearness.specs.Nearest.{stands_before}
 use Rattle.nearest.specs.Courses.{goes_before}
-use Rattle.nearest.specs.Depth.{depth, one_if}
+use Rattle.nearest.specs.Depth.{depth_at, one_if}
 use Rattle.nearest.specs.Order.{is_below, separation_after}
 use Rattle.nearest.specs.Sights.{IsSight, IsStraight}
 use Rattle.nearest.proofs.PartLemmas.{guarded, on_ok}
@@ -23,11 +23,11 @@ returns-in-Straight-sight c =
     subst (IsSight target p.timeline.now w) c.in-Straight.is c.requires.p_seen in
     let of_o : IsStraight target o.timeline.now w c.in-Straight-sight.second =
     subst (IsSight target o.timeline.now w) c.in-Straight-sight.is c.requires.o_seen in
-    on_ok c.add.result ((t : ℕ) → depth new t ≡ depth old t + depth (spans_of c.nearer-found.result) t)
-    ((t : ℕ) → depth new t ≡ depth old t + one_if (within w.lo w.hi t && goes_before target p o t))
+    on_ok c.add.result ((t : ℕ) → depth_at new t ≡ depth_at old t + depth_at (spans_of c.nearer-found.result) t)
+    ((t : ℕ) → depth_at new t ≡ depth_at old t + one_if (within w.lo w.hi t && goes_before target p o t))
     (λ more t.
     more t
-    ∙ ap (λ n. depth old t + n)
+    ∙ ap (λ n. depth_at old t + n)
     (c.nearer-found.ensures t
     ∙ ap one_if
     (guarded w.lo w.hi t (is_below (nat_lt p.id o.id) (separation_after first (t - w.lo)) (separation_after second (t - w.lo))) (goes_before target p o t)

@@ -3,7 +3,7 @@ use Rattle.std.specs.Prelude.{count_by}
 use Rattle.std.proofs.lemmas.List.{take_all}
 use Rattle.std.proofs.lemmas.Bool.Decides.{nat_tests}
 use Rattle.nearest.specs.Courses.{goes_before, rank_along}
-use Rattle.nearest.specs.Depth.{depth}
+use Rattle.nearest.specs.Depth.{depth_at}
 use Rattle.nearest.specs.declared.course.Course.{Course}
 use Rattle.nearest.proofs.RowLemmas.{count_more, few_more, one_at_most, too_many}
 use Rattle.nearest.proofs.ThinLemmas.{counted_front}
@@ -15,8 +15,8 @@ returns-then-stays_within c = λ t inside.
     let w = c.args.w in
     let from : w.lo ≤ t = grind (arith, nat_tests) in
     let up_to : t ≤ w.hi = grind (arith, nat_tests) in
-    none_of_few (rank_along c.args.target.now c.args.courses.now c.args.o.now t) c.args.k (depth c.args.stretches.now.items t)
-    (ap (λ spans. depth spans t) c.requires.none)
+    none_of_few (rank_along c.args.target.now c.args.courses.now c.args.o.now t) c.args.k (depth_at c.args.stretches.now.items t)
+    (ap (λ spans. depth_at spans t) c.requires.none)
     (surely_near c.args.target.now c.args.k t w c.args.sure c.args.courses.now c.args.o.now c.requires.seen c.requires.o_seen c.requires.sure
     (sym c.stays_within.ensures ∙ c.if-stays_within.true) from up_to)
 

@@ -4,7 +4,7 @@ use Rattle.tick_set.specs.Runs.{spans_have}
 use Rattle.tick_set.specs.Ticks.{within}
 use Rattle.nearest.specs.Courses.{is_near_along}
 use Rattle.nearest.specs.Found.{runs_at}
-use Rattle.nearest.specs.Rows.{if_some, row_of}
+use Rattle.nearest.specs.Rows.{if_some, object_row}
 use Rattle.nearest.proofs.FoundLemmas.{near_at_own, own_index}
 use Rattle.nearest.proofs.RowLemmas.{rows_more}
 use Rattle.nearest.proofs.rows.rows_of.Goals as goal
@@ -33,5 +33,5 @@ objects-preserved c =
     ap (λ spans. spans_have spans t) runs
     ∙ c.in_ok-found.ensures.found o.index t inside
     ∙ ap (λ b. within w.lo w.hi t && b) (near_at_own target k t i courses o c.requires (omega arith) c.o-item.is))
-    ∙ ap (λ rows. rows ++ if_some (row_of o.id (is_near_along target courses k o) w)) c.objects.invariant
+    ∙ ap (λ rows. rows ++ if_some (object_row o.id (is_near_along target courses k o) w)) c.objects.invariant
     ∙ sym (rows_more target courses k w i o (omega arith) c.o-item.is)

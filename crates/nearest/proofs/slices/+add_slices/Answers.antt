@@ -1,6 +1,6 @@
 use Rattle.std.proofs.Common.{◌≡◌, ℕ, ◌+◌, ◌<◌, ◌≤◌, List, length, sym, subst, arith}
 use Rattle.std.specs.Prelude.{All}
-use Rattle.nearest.specs.Courses.{AreAscending}
+use Rattle.nearest.specs.Courses.{HaveAscendingIndexes}
 use Rattle.nearest.specs.Found.{AreBefore, HaveMore}
 use Rattle.nearest.specs.Sights.{IsSeenFrom}
 use Rattle.nearest.specs.declared.course.Course.{Course}
@@ -12,7 +12,7 @@ add_slice-requires t c =
     let n = length c.args.found.now.items in
     record {
       seen = subst (λ (xs : List Course). All (IsSeenFrom c.args.target.now c.args.slice) xs) (sym c.deref.ensures.value) c.in_ok-few.ensures.seen;
-      ascending = subst (λ (xs : List Course). AreAscending 0 n xs) (sym c.deref.ensures.value) (c.in_ok-few.ensures.ascending n c.requires.ascending);
+      ascending = subst (λ (xs : List Course). HaveAscendingIndexes 0 n xs) (sym c.deref.ensures.value) (c.in_ok-few.ensures.ascending n c.requires.ascending);
       before = c.requires.before;
     }
 
@@ -41,7 +41,7 @@ add_slices-requires t c =
     let first_order : first.lo ≤ first.hi = first.ordered in (
       omega (arith, c.decreases, begins, meets, ends, order, first_order),
       (
-        subst (λ (xs : List Course). AreAscending 0 (length old) xs) (sym c.deref-2.ensures.value)
+        subst (λ (xs : List Course). HaveAscendingIndexes 0 (length old) xs) (sym c.deref-2.ensures.value)
             (c.in_ok-few.ensures.ascending (length old) c.requires.ascending),
         subst (λ (lo : ℕ). AreBefore lo old) (sym begins) c.requires.before,
       ),
@@ -91,8 +91,8 @@ add_slices-requires-2 t c =
     subst (λ (xs : List Course). HaveMore from xs k first.lo reached old between) c.deref-2.ensures.value c.in_ok-reached.ensures.found in (
       omega (arith, c.decreases, begins, meets, ends, order, first_order),
       (
-        subst (λ (xs : List Course). AreAscending 0 (length between) xs) (sym c.deref-3.ensures.value)
-            (c.in_ok-few.ensures.ascending (length between) (subst (λ (n : ℕ). AreAscending 0 n c.args.courses.now) (sym same) c.requires.ascending)),
+        subst (λ (xs : List Course). HaveAscendingIndexes 0 (length between) xs) (sym c.deref-3.ensures.value)
+            (c.in_ok-few.ensures.ascending (length between) (subst (λ (n : ℕ). HaveAscendingIndexes 0 n c.args.courses.now) (sym same) c.requires.ascending)),
         subst (λ (lo : ℕ). AreBefore lo between) (sym next)
             (all_before from few k first.lo reached old between same bounds.0 (subst (λ (lo : ℕ). AreBefore lo old) (sym begins) c.requires.before) more),
       ),

@@ -1,6 +1,6 @@
 use Rattle.std.proofs.Common.{◌+◌, List, length, sym, subst, arith}
 use Rattle.std.specs.Prelude.{All}
-use Rattle.nearest.specs.Courses.{AreAscending}
+use Rattle.nearest.specs.Courses.{HaveAscendingIndexes}
 use Rattle.nearest.specs.Found.{HaveMore}
 use Rattle.nearest.specs.Sights.{IsSeenFrom}
 use Rattle.nearest.specs.declared.course.Course.{Course}
@@ -12,7 +12,7 @@ add_near-requires c =
     let n = length c.args.found.now.items in
     record {
       seen = subst (λ (xs : List Course). All (IsSeenFrom c.args.target.now c.args.slice) xs) (sym c.deref.ensures.value) c.in_ok-few.ensures.seen;
-      ascending = subst (λ (xs : List Course). AreAscending 0 n xs) (sym c.deref.ensures.value) (c.in_ok-few.ensures.ascending n c.requires.ascending);
+      ascending = subst (λ (xs : List Course). HaveAscendingIndexes 0 n xs) (sym c.deref.ensures.value) (c.in_ok-few.ensures.ascending n c.requires.ascending);
       before = c.requires.before;
     }
 

@@ -1,18 +1,18 @@
 use Rattle.std.proofs.Common.{ℕ, ◌+◌, refl, sym, subst, ◌∙◌, arith}
-use Rattle.nearest.specs.Courses.{AreAscending}
+use Rattle.nearest.specs.Courses.{HaveAscendingIndexes}
 use Rattle.nearest.proofs.FoundLemmas.{all_ascend, all_before, all_found, before_any, both_found}
 use Rattle.nearest.proofs.slices.near_runs.Goals as goal
 
 pub add_growing-requires-clause-ascending : goal.add_growing-requires-clause-ascending
 add_growing-requires-clause-ascending c =
-    subst (λ (n : ℕ). AreAscending 0 n c.args.courses.now) (sym c.in_ok-found.ensures.length) (all_ascend c.args.courses.now c.requires)
+    subst (λ (n : ℕ). HaveAscendingIndexes 0 n c.args.courses.now) (sym c.in_ok-found.ensures.length) (all_ascend c.args.courses.now c.requires)
 
 pub add_growing-requires-clause-before : goal.add_growing-requires-clause-before
 add_growing-requires-clause-before c = before_any c.args.w.lo c.in_ok-found.found.items c.in_ok-found.ensures.none
 
 pub add_rest-requires-clause-ascending : goal.add_rest-requires-clause-ascending
 add_rest-requires-clause-ascending c =
-    subst (λ (n : ℕ). AreAscending 0 n c.args.courses.now) (sym (c.in_ok-until.ensures.length ∙ c.in_ok-found.ensures.length)) (all_ascend c.args.courses.now c.requires)
+    subst (λ (n : ℕ). HaveAscendingIndexes 0 n c.args.courses.now) (sym (c.in_ok-until.ensures.length ∙ c.in_ok-found.ensures.length)) (all_ascend c.args.courses.now c.requires)
 
 pub add_rest-requires-clause-before : goal.add_rest-requires-clause-before
 add_rest-requires-clause-before c =

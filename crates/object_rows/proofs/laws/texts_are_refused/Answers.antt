@@ -1,12 +1,12 @@
 use Rattle.std.proofs.Common.{refl}
 use Rattle.case_table.specs.Language.{reserved_words}
 use Rattle.csv.proofs.OnLiterals.{csv_on_literals}
-use Rattle.fixed_point.specs.Decimal.{decimals_of, size_of, thousandths_of}
+use Rattle.fixed_point.specs.Decimal.{decimals_of, thousandths_of, unsigned_thousandths}
 use Rattle.object_rows.specs.Rows.{rows_in}
 use Rattle.object_rows.proofs.laws.texts_are_refused.Goals as goal
 
 pub returns : goal.returns
-unfolding csv_on_literals rows_in thousandths_of size_of decimals_of reserved_words
+unfolding csv_on_literals rows_in thousandths_of unsigned_thousandths decimals_of reserved_words
 returns c = record {
   nothing = refl;
   no_name = refl;

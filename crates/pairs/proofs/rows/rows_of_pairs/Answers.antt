@@ -6,7 +6,7 @@ use Rattle.tick_set.specs.Runs.{spans_have}
 use Rattle.tick_set.specs.Ticks.{within}
 use Rattle.relation.specs.Key.{are_known, has_id, key_below, key_in}
 use Rattle.evaluator.specs.Keys.{AreKeys}
-use Rattle.evaluator.specs.inner.Filled.{IsFilled, behind}
+use Rattle.evaluator.specs.inner.Filled.{IsFilled, keys_behind}
 use Rattle.evaluator.proofs.FillingLemmas.{block_above, filled_all, filled_block, first_inside, own_at}
 use Rattle.evaluator.proofs.KeyLemmas.{keys_more}
 use Rattle.pairs.specs.Pairs.{IsMover, atom_at, holds_in, keys_of}
@@ -76,7 +76,7 @@ ids-preserved g c =
     record {
       rows = filled_block spans_have truth (keys_of others) c.of-id-items.result.now c.ids.id-index 0 c.empty-made.result c.ids.made c.put_near.new.made
           (omega (arith, c.ids-test.true)) c.ids.invariant.rows
-          (subst (λ (id : ℕ). IsFilled spans_have truth (behind id (keys_of others)) c.ids.made c.put_near.new.made) c.mover_of-one.ensures.id c.in_ok-put_near.ensures.rows);
+          (subst (λ (id : ℕ). IsFilled spans_have truth (keys_behind id (keys_of others)) c.ids.made c.put_near.new.made) c.mover_of-one.ensures.id c.in_ok-put_near.ensures.rows);
       least = (let l = c.ids.invariant.least in let m = c.mover_of-one.ensures.step in let n = c.in_ok-put_near.ensures.least in omega (arith, l, m, n));
       most = one_round c.movers_of.new.reads c.ids.reads c.mover_of-one.new.reads c.put_near.new.reads c.ids.id-index (length others) c.ids.invariant.most
           c.mover_of-one.ensures.step c.in_ok-put_near.ensures.most;
@@ -94,9 +94,9 @@ returns-clause-rows g c =
     let are : AreKeys d (1 ∷ []) (keys_of others) =
     own_keys d c.of.result.now others (ap (map (λ (m : Mover). m.id)) c.as_slice-others.ensures.value ∙ c.in_ok-movers.ensures.ids) c.of.ensures.value c.of.ensures.ascending in
     let known : are_known d (0 ∷ 1 ∷ []) ≡ true = subst (λ (n : ℕ). (nat_lt 0 n && (nat_lt 1 n && true)) ≡ true) (sym c.requires.two) refl in
-    filled_all spans_have truth d (0 ∷ 1 ∷ []) scene.w.lo scene.w.hi (atom_at s regions scene.distance.atom.now) (flat_map (λ id. behind id (keys_of others)) ids)
+    filled_all spans_have truth d (0 ∷ 1 ∷ []) scene.w.lo scene.w.hi (atom_at s regions scene.distance.atom.now) (flat_map (λ id. keys_behind id (keys_of others)) ids)
     c.empty-made.result c.ids.made
-    (subst (λ (z : List ℕ). IsFilled spans_have truth (flat_map (λ id. behind id (keys_of others)) z) c.empty-made.result c.ids.made)
+    (subst (λ (z : List ℕ). IsFilled spans_have truth (flat_map (λ id. keys_behind id (keys_of others)) z) c.empty-made.result c.ids.made)
     (take_all c.ids.id-index ids (omega (arith, c.ids-test.false))) c.ids.invariant.rows)
     c.empty-made.ensures
     (keys_more d 0 (1 ∷ []) (keys_of others) ids c.of-id-items.ensures.value c.of-id-items.ensures.ascending are) known

@@ -2,7 +2,7 @@ use Rattle.std.proofs.Common.{◌≡◌, ◌+◌, ◌*◌, false, sym, ap, subst
 use Rattle.std.proofs.lemmas.List.{get_or_default}
 use Rattle.places.specs.declared.boxes.TheConstants.{BLOCK}
 use Rattle.places.specs.Boxes.{patch_at, AreFound}
-use Rattle.places.specs.Patches.{meets, nowhere}
+use Rattle.places.specs.Patches.{empty_patch, meets}
 use Rattle.places.proofs.CoverLemmas.{zeros}
 use Rattle.places.proofs.NearLemmas.{block_found, passed_found}
 use Rattle.places.proofs.boxes.found_near.Goals as goal
@@ -18,7 +18,7 @@ walk-preserved c =
           (block_found b covers numbers patches area found w.push_near.new.found.items c.walk.invariant w.in_ok-push_near.ensures)
       | else-meets w ↦
           let none : meets (patch_at covers b) area ≡ false =
-          sym (ap (λ p. meets p area) (get_or_default covers b zeros nowhere c.walk-test.true)) ∙ sym c.meets.ensures ∙ w.if-meets.false in
+          sym (ap (λ p. meets p area) (get_or_default covers b zeros empty_patch c.walk-test.true)) ∙ sym c.meets.ensures ∙ w.if-meets.false in
           subst (AreFound (BLOCK * (b + 1)) covers numbers patches area) (sym (ap (λ v. v.items) w.found-is))
           (passed_found b covers numbers patches area found c.walk.invariant none)
     ]

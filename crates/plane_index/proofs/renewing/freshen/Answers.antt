@@ -5,7 +5,7 @@ use Rattle.plane.specs.Boxes.{strips_in}
 use Rattle.plane_index.specs.Held.{kept_strips}
 use Rattle.plane_index.specs.Index.{fresh_at}
 use Rattle.plane_index.specs.States.{strips_at}
-use Rattle.plane_index.specs.Told.{told_by}
+use Rattle.plane_index.specs.Told.{recorded_by}
 use Rattle.plane_index.proofs.FreshLemmas.{apart_of, none_yet_seen, one_more, one_read, own, same_of, still_fresh, was_fresh}
 use Rattle.plane_index.proofs.PlaceLemmas.{count_grows, count_more}
 use Rattle.plane_index.proofs.renewing.freshen.Goals as goal
@@ -62,7 +62,7 @@ places-preserved g c =
                 let e = same_of k place same in
                 let stale_here : fresh_at c.places.fresh place ≡ false = here ∙ ap (fresh_at before) (sym e) ∙ is in
                 ap (λ n. strips_at new.grid new.states n s) e ∙ f.right stale_here s
-                ∙ (λ i. kept_strips (strips_in (told_by c.args.store.now) (now.grid i) (slice_index c.args.ids.now (sym e i)) s))
+                ∙ (λ i. kept_strips (strips_in (recorded_by c.args.store.now) (now.grid i) (slice_index c.args.ids.now (sym e i)) s))
             | inr apart ↦ f.others k s apart ∙ now.right k s (apart_of k place apart l) is under
           ])
           (λ (l : place + 1 ≤ k).

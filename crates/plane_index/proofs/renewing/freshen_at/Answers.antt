@@ -1,7 +1,7 @@
 use Rattle.std.proofs.Common.{◌<◌, length, sym, ap, ◌∙◌, arith}
 use Rattle.plane_index.specs.Held.{kept_strips}
 use Rattle.plane_index.specs.States.{strips_at, strips_by_state, States}
-use Rattle.plane_index.specs.Told.{told_by}
+use Rattle.plane_index.specs.Told.{recorded_by}
 use Rattle.plane.specs.Boxes.{Grid, strips_in}
 use Rattle.plane_index.proofs.ColumnLemmas.{set_elsewhere, set_here}
 use Rattle.plane_index.proofs.StoreLemmas.{told_along}
@@ -24,4 +24,4 @@ returns-clause-right g c =
     ∙ ap (λ (grid : Grid). kept_strips (strips_by_state c.of-state.result grid s)) (sym c.grid.ensures)
     ∙ c.of-state.ensures.strips s
     ∙ ap kept_strips (sym (told_along c.args.store.now c.grid.result.now c.args.id s c.timeline-timeline.result.now c.timeline-timeline.ensures.timeline c.timeline-timeline.ensures.state))
-    ∙ ap (λ (grid : Grid). kept_strips (strips_in (told_by c.args.store.now) grid c.args.id s)) c.grid.ensures
+    ∙ ap (λ (grid : Grid). kept_strips (strips_in (recorded_by c.args.store.now) grid c.args.id s)) c.grid.ensures

@@ -5,7 +5,7 @@ use Rattle.ftl_parser.specs.Tree.{query_view}
 use Rattle.database.specs.Telling.{IsStoppedBy}
 use Rattle.registry.specs.declared.judging.Others.{Others}
 use Rattle.formula.specs.declared.tree.RQuery.{RQuery}
-use Rattle.formula.specs.Tree.{query_view as resolved_view}
+use Rattle.formula.specs.Tree.{resolved_view}
 use Rattle.registry.proofs.BesideLemmas.{live_beside}
 use Rattle.registry.proofs.JudgeLemmas.{judged_by}
 use Rattle.registry.proofs.judging.judge.Goals as goal

@@ -1,7 +1,7 @@
 use Rattle.std.proofs.Common.{◌≡◌, false, sym, ap, ◌∙◌, arith}
 use Rattle.std.specs.List.{list_any}
 use Rattle.std.specs.Str.{bytes_eq}
-use Rattle.formula.specs.Tree.{ResolvedQuery, query_view as resolved_view}
+use Rattle.formula.specs.Tree.{ResolvedQuery, resolved_view}
 use Rattle.object_store.specs.Contents.{catalog_of}
 use Rattle.ftl_parser.specs.Tree.{query_view}
 use Rattle.line_meaning.specs.Ask.{query_in}

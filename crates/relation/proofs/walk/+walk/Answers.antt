@@ -1,5 +1,5 @@
 use Rattle.std.proofs.Common.{ℕ, List, length, ◌∙◌, ap, subst, arith}
-use Rattle.relation.specs.Key.{ids_of}
+use Rattle.relation.specs.Key.{ids_of_variable}
 use Rattle.relation.specs.Walk.{CanWalk, HasWalked}
 use Rattle.relation.proofs.WalkLemmas.{can_go_on, walking_all, walking_more, walking_none}
 use Rattle.relation.proofs.walk.+walk.Goals as goal
@@ -23,7 +23,7 @@ walk-requires g t c κs within =
     let left = c.args.left.now in
     let right = c.args.right.now in
     let can = subst (λ (vs : List ℕ). CanWalk member made c.args.key vs left right) c.in-Some.ensures.cases.0 c.requires in
-    let domain = c.of.ensures.value ∙ ap (λ (d : List (List ℕ)). ids_of d c.in-Some.var.now) c.domains-domains.ensures in
+    let domain = c.of.ensures.value ∙ ap (λ (d : List (List ℕ)). ids_of_variable d c.in-Some.var.now) c.domains-domains.ensures in
     let next = c.in-Some-next_visited.ensures made.domains made.lo made.hi can.left can.right in
     let longer = ap length c.in-Some.ensures.cases.0 in (
       omega (arith, c.decreases, longer),
@@ -43,7 +43,7 @@ objects-preserved g t c =
     let left = c.args.left.now in
     let right = c.args.right.now in
     let can = subst (λ (vs : List ℕ). CanWalk member made c.args.key vs left right) c.in-Some.ensures.cases.0 c.requires in
-    let domain = c.of.ensures.value ∙ ap (λ (d : List (List ℕ)). ids_of d c.in-Some.var.now) c.domains-domains.ensures in
+    let domain = c.of.ensures.value ∙ ap (λ (d : List (List ℕ)). ids_of_variable d c.in-Some.var.now) c.domains-domains.ensures in
     let next = c.in-Some-next_visited.ensures made.domains made.lo made.hi can.left can.right in
     rw c.from-from.ensures (walking_more member c.args.operation c.args.key c.in-Some.var.now c.in-Some.later.now left right made can c.of.result.now domain c.objects.made c.objects.from
     c.in-Some-next_visited.id c.objects.invariant next c.fixed-left.result c.fixed-right.result
@@ -57,7 +57,7 @@ returns g t c =
     let left = c.args.left.now in
     let right = c.args.right.now in
     let can = subst (λ (vs : List ℕ). CanWalk member made c.args.key vs left right) c.in-Some.ensures.cases.0 c.requires in
-    let domain = c.of.ensures.value ∙ ap (λ (d : List (List ℕ)). ids_of d c.in-Some.var.now) c.domains-domains.ensures in
+    let domain = c.of.ensures.value ∙ ap (λ (d : List (List ℕ)). ids_of_variable d c.in-Some.var.now) c.domains-domains.ensures in
     rw c.in-Some.ensures.cases.0 (walking_all member c.args.operation c.args.key c.in-Some.var.now c.in-Some.later.now left right made can c.of.result.now domain c.objects.made c.objects.from c.objects.invariant
     (c.in_default-next_visited.ensures made.domains made.lo made.hi can.left can.right))
 

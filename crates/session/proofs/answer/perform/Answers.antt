@@ -5,7 +5,7 @@ use Rattle.line_meaning.specs.Step.{held}
 use Rattle.command_text.specs.Tree.{command_view}
 use Rattle.kept_indexes.specs.Kept.{entries}
 use Rattle.session.specs.declared.state.State.{State}
-use Rattle.session.specs.Carried.{Carries, moment}
+use Rattle.session.specs.Carried.{CarriesOut, moment}
 use Rattle.session.specs.State.{IsState, KeepsIndexes}
 use Rattle.session.proofs.CarriedLemmas.{accepted_as, stopped_as}
 use Rattle.session.proofs.LiftLemmas.{carries_lifts, role_is_plain}
@@ -28,10 +28,10 @@ returns-in_default-clause-carries g c =
     let old = c.args.state.now in
     let new = c.perform_plain.new.state in
     let kept = subst (λ (s : State). KeepsIndexes s new) c.prepare_for.ensures c.perform_plain.ensures.indexes in
-    let carries = subst (λ (s : State). Carries command (moment (held s.journal) c.args.out.now.items c.args.reads.now c.args.probes.now)
+    let carries = subst (λ (s : State). CarriesOut command (moment (held s.journal) c.args.out.now.items c.args.reads.now c.args.probes.now)
     (moment (held new.journal) c.perform_plain.new.out.items c.perform_plain.new.reads c.perform_plain.new.probes) c.perform_plain.result)
     c.prepare_for.ensures c.perform_plain.ensures.carries in
-    subst (λ (ks : List IndexEntry). Carries command (moment (record { journal = old.journal; indexes = entries old.indexes }) c.args.out.now.items c.args.reads.now c.args.probes.now)
+    subst (λ (ks : List IndexEntry). CarriesOut command (moment (record { journal = old.journal; indexes = entries old.indexes }) c.args.out.now.items c.args.reads.now c.args.probes.now)
     (moment (record { journal = new.journal; indexes = ks }) c.perform_plain.new.out.items c.perform_plain.new.reads c.perform_plain.new.probes) c.perform_plain.result)
     (sym kept.entries)
     (carries_lifts command (role_is_plain _ (λ is. c.in_default.not-Indexing (c.role_of.ensures ∙ is))) (entries old.indexes) old.journal new.journal _ _

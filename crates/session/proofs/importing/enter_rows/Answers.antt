@@ -8,7 +8,7 @@ use Rattle.command_text.specs.Tree.{command_view}
 use Rattle.line_meaning.specs.Import.{with_entry}
 use Rattle.reply_text.specs.Begins.{Begins}
 use Rattle.reply_text.proofs.BeginLemmas.{begins_more, begins_through}
-use Rattle.session.specs.Rows.{AreEntered, AreWritten, HasFirstCommands, IsRowCommand, journal_after_commands, looks_of_commands}
+use Rattle.session.specs.Rows.{AreEntered, HasFirstCommands, HaveWrittenLines, IsRowCommand, journal_after_commands, looks_of_commands}
 use Rattle.session.proofs.EnterLemmas.{one_more_entered, one_more_written, some_entered}
 use Rattle.session.proofs.KeepLemmas.{keeps_through}
 use Rattle.session.proofs.RowLemmas.{next_taken}
@@ -34,7 +34,7 @@ rows-preserved g c =
     let is : new ≡ with_entry j one = c.in_ok-enter_row.ensures.entered in
     let taken = next_taken j one later
     (subst (λ (xs : List Command). is_some (journal_after_commands j (map command_view xs)) ≡ true) left c.rows.invariant.taken) in
-    let written = subst (λ (xs : List Command). AreWritten start cs j (map command_view xs) before c.rows.out.items) left c.rows.invariant.written in
+    let written = subst (λ (xs : List Command). HaveWrittenLines start cs j (map command_view xs) before c.rows.out.items) left c.rows.invariant.written in
     let most : c.rows.reads + looks_of_commands j (map command_view c.rows.rest.now) ≤ c.args.reads.now + looks_of_commands start cs = c.rows.invariant.most in
     let looks = ap (λ (xs : List Command). looks_of_commands j (map command_view xs)) left in
     let next = ap (λ (k : List Accepted). looks_of_commands k later) is in
@@ -50,7 +50,7 @@ rows-preserved g c =
           (one_more_entered start cs j one later taken.0
           (subst (λ (xs : List Command). AreEntered start cs j (map command_view xs)) left c.rows.invariant.entered));
       room = c.in_ok-enter_row.ensures.room;
-      written = subst (λ (k : List Accepted). AreWritten start cs k later before c.enter_row.new.out.items) (sym is)
+      written = subst (λ (k : List Accepted). HaveWrittenLines start cs k later before c.enter_row.new.out.items) (sym is)
           (one_more_written start cs j one later before c.rows.out.items c.enter_row.new.out.items written
           c.in_ok-enter_row.ensures.told);
       least = omega (arith, least, was);

@@ -2,7 +2,7 @@ use Rattle.std.proofs.Common.{subst, sym}
 use Rattle.command_text.specs.Shape.{IsPrintable}
 use Rattle.command_text.specs.Tree.{command_view}
 use Rattle.kept_indexes.specs.Making.{holding}
-use Rattle.session.specs.Carried.{Carries, moment}
+use Rattle.session.specs.Carried.{CarriesOut, moment}
 use Rattle.session.proofs.IndexedLemmas.{index_carries, index_right, range_carries, reach, wide}
 use Rattle.session.proofs.indexing.on_indexes.Goals as goal
 
@@ -13,7 +13,7 @@ returns-in-Index-clause-indexed g c =
 
 pub returns-in-Index-clause-carries : goal.returns-in-Index-clause-carries
 returns-in-Index-clause-carries g c = λ probes.
-    subst (λ command. Carries (command_view command)
+    subst (λ command. CarriesOut (command_view command)
     (moment (holding c.args.state.now.journal c.args.state.now.indexes) c.args.out.now.items c.args.reads.now probes)
     (moment (holding c.args.state.now.journal c.add.new.self) c.add.new.out.items c.args.reads.now probes) c.add.result) (sym c.in-Index.is)
     (index_carries c.args.state.now.journal c.args.state.now.database c.requires.state.keeps c.args.state.now.indexes c.add.new.self
@@ -22,7 +22,7 @@ returns-in-Index-clause-carries g c = λ probes.
 
 pub returns-in-Range-clause-carries : goal.returns-in-Range-clause-carries
 returns-in-Range-clause-carries g c = λ probes.
-    subst (λ command. Carries (command_view command)
+    subst (λ command. CarriesOut (command_view command)
     (moment (holding c.args.state.now.journal c.args.state.now.indexes) c.args.out.now.items c.args.reads.now probes)
     (moment (holding c.args.state.now.journal c.range.new.self) c.range.new.out.items c.range.new.reads probes) c.range.result) (sym c.in-Range.is)
     (range_carries c.args.state.now.journal c.args.state.now.database c.requires.state.keeps c.args.state.now.indexes c.range.new.self

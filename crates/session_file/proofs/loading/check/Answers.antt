@@ -1,5 +1,5 @@
 use Rattle.std.proofs.Common.{[], ◌∷◌, ◌++◌, ◌∙◌, Some, ap, rules, subst, sym}
-use Rattle.session_file.specs.Reading.{GivesNext, Reading, loaded_view}
+use Rattle.session_file.specs.Reading.{GivesNextCommand, Reading, loaded_view}
 use Rattle.session_file.proofs.LacksLemmas.{lacks_after, one_more_read}
 use Rattle.session_file.proofs.loading.check.Goals as goal
 
@@ -8,8 +8,8 @@ commands-init c = record { fault = ap (λ (r : Reading). r.fault) (sym c.in_ok-r
 
 pub commands-preserved : goal.commands-preserved
 commands-preserved c =
-    let gives : GivesNext c.commands.reader c.next_command.new.self (Some c.in-Some.next) =
-    subst (GivesNext c.commands.reader c.next_command.new.self) c.in-Some.is c.in_ok-next.ensures.ok in
+    let gives : GivesNextCommand c.commands.reader c.next_command.new.self (Some c.in-Some.next) =
+    subst (GivesNextCommand c.commands.reader c.next_command.new.self) c.in-Some.is c.in_ok-next.ensures.ok in
     let (first, parts) = c.commands.invariant.read in
     record {
       fault = c.commands.invariant.fault ∙ ap (λ (r : Reading). r.fault) gives;

@@ -1,7 +1,7 @@
 use Rattle.std.proofs.Common.{ap, sym, ◌∙◌}
 use Rattle.std.proofs.lemmas.List.Elements.{All-head, All-rest}
 use Rattle.kept_rows.specs.Rows.{row_has}
-use Rattle.kept_rows.specs.Changes.{IsReady, after, with_row}
+use Rattle.kept_rows.specs.Changes.{IsReady, rows_after, with_row}
 use Rattle.kept_rows.proofs.ChangeLemmas.{after-alike, all-ready-stay}
 use Rattle.kept_rows.proofs.change.Changes.commit.Goals as goal
 
@@ -22,6 +22,6 @@ changes-preserved g c = record {
   len = c.put.ensures.len ∙ c.changes.invariant.len;
   rows = λ n t.
       after-alike g.S.TickSet.member c.next.new.self.rest.items (row_has g.S.TickSet.member c.put.new.self) (with_row g.S.TickSet.member c.in-Some.change (row_has g.S.TickSet.member c.changes.kept)) c.put.ensures.rows n t
-      ∙ ap (λ xs. after g.S.TickSet.member xs (row_has g.S.TickSet.member c.changes.kept) n t) (sym c.in-Some.ensures.steps.0)
+      ∙ ap (λ xs. rows_after g.S.TickSet.member xs (row_has g.S.TickSet.member c.changes.kept) n t) (sym c.in-Some.ensures.steps.0)
       ∙ c.changes.invariant.rows n t;
 }

@@ -1,14 +1,14 @@
 use Rattle.std.proofs.Common.{sym, ◌∙◌, subst}
 use Rattle.std.specs.Prelude.{All}
 use Rattle.std.proofs.lemmas.List.{with_items_is}
-use Rattle.live_queries.specs.Kept.{AreKept, IsKept}
+use Rattle.live_queries.specs.Kept.{AreKept, IsKeptQuery}
 use Rattle.live_queries.specs.Untouched.{spread}
 use Rattle.live_queries.proofs.MadeLemmas.{as_many, made_in, prepared_in, still_kept}
 use Rattle.live_queries.proofs.live.Live.commit.Goals as goal
 
 pub commit_each-requires : goal.commit_each-requires
 commit_each-requires c = record {
-  kept = subst (All IsKept) (sym c.deref_mut.ensures.value) c.self.invariant.each;
+  kept = subst (All IsKeptQuery) (sym c.deref_mut.ensures.value) c.self.invariant.each;
   prepared = prepared_in _ c.args.fresh c.fresh.view_is c.deref_mut.result.now c.args.self.now (c.deref_mut.ensures.value ∙ c.self.view_is)
       (spread c.into_parts-touched.result.0.rest.items c.into_parts-touched.result.1) c.into_parts-touched.ensures c.requires;
 }

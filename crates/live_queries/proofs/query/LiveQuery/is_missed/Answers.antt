@@ -3,7 +3,7 @@ use Rattle.std.specs.Prelude.{nat_le}
 use Rattle.std.proofs.lemmas.Bool.{not-false, not-true}
 use Rattle.std.proofs.lemmas.Bool.Decides.{nat_tests}
 use Rattle.narrowing.specs.Needed.{Fails, told}
-use Rattle.live_queries.specs.Kept.{IsKept, KeptQuery}
+use Rattle.live_queries.specs.Kept.{IsKeptQuery, KeptQuery}
 use Rattle.live_queries.proofs.MissedLemmas.{missed}
 use Rattle.live_queries.proofs.query.LiveQuery.is_missed.Goals as goal
 
@@ -12,7 +12,7 @@ returns-clause-fresh c misses =
     let s = c.args.world.now.store.now in
     let lo = c.first_judged.result in
     missed s c.args.world.now.regions.now c.args.object.now c.requires.written c.args.now lo c.args.self.now
-    (subst IsKept c.self.view_is c.self.invariant.0) (c.has_clear_row.ensures (grind (arith, not-false, not-true, c.if-not-has_clear_row.false)))
+    (subst IsKeptQuery c.self.view_is c.self.invariant.0) (c.has_clear_row.ensures (grind (arith, not-false, not-true, c.if-not-has_clear_row.false)))
     c.requires.before.0 c.requires.before.1 c.requires.before.2
     (subst (λ (y : KeptQuery). c.args.now ≤ y.expiry) c.self.view_is (grind (arith, nat_tests, c.if-self-now.false)))
     (λ t h. c.first_judged.ensures.judged t (subst (λ (n : ℕ). n ≤ t) (sym c.judged_from-judged.ensures.value) h)

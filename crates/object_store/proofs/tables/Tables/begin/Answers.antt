@@ -3,7 +3,7 @@ use Rattle.motion.specs.Timeline.{Epoch}
 use Rattle.object_store.specs.declared.objects.Done.{Done}
 use Rattle.object_store.specs.Contents.{StoredObject, Contents, attributes_of_number}
 use Rattle.object_store.specs.Effects.{with_epoch_of}
-use Rattle.object_store.specs.Invariant.{Writes}
+use Rattle.object_store.specs.Invariant.{WritesNamed}
 use Rattle.object_store.specs.Sound.{AreCellsOf}
 use Rattle.object_store.specs.ObjectView.{objects_of}
 use Rattle.object_store.specs.Tables.{contents_of, members_of}
@@ -22,7 +22,7 @@ returns-clause-ok c =
     let fits : AreCellsOf (attributes_of_number s.classes at.0.class) c.args.cells.items =
     subst (λ number. AreCellsOf (attributes_of_number s.classes number) c.args.cells.items) (sym class) c.requires.fits
     in
-    subst (λ (done : Done). Writes name s (with_epoch_of s name p) (members_of c.args.self.now) after done) (sym c.known.ensures)
+    subst (λ (done : Done). WritesNamed name s (with_epoch_of s name p) (members_of c.args.self.now) after done) (sym c.known.ensures)
     (known_writes s (members_of c.args.self.now) name c.args.at at.0 p c.in_ok-replaced.replaced (λ _. p) after.objects c.args.now
     c.requires.kept c.requires.after c.requires.tick c.requires.name at.1 (some_fits (attributes_of_number s.classes at.0.class) c.args.cells.items fits)
     c.in_ok-replaced.ensures.ok refl refl)

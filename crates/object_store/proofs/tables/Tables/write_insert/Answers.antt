@@ -7,10 +7,10 @@ use Rattle.history.specs.Write.{Attribute}
 use Rattle.history.specs.Catalog.{ClassInfo, object_of}
 use Rattle.history.specs.State.{inserted, updated, attributes_of_object}
 use Rattle.object_store.specs.declared.objects.Done.{Done}
-use Rattle.object_store.specs.Changes.{changes_of}
+use Rattle.object_store.specs.Changes.{setting_changes}
 use Rattle.object_store.specs.Contents.{StoredObject, Contents, attributes_of_number, catalog_of, state_of}
 use Rattle.object_store.specs.Effects.{with_epoch_of, after_insert}
-use Rattle.object_store.specs.Invariant.{Writes}
+use Rattle.object_store.specs.Invariant.{WritesNamed}
 use Rattle.object_store.specs.ObjectView.{objects_of}
 use Rattle.object_store.specs.Tables.{contents_of, members_of}
 use Rattle.object_store.proofs.CommandLemmas.{class_there, has_class, given_all, given_changes, cells_inserted, inserted_fits, own_class_of, room_for_new, after_known, after_new, found_there, found_nowhere}
@@ -98,7 +98,7 @@ returns-in-Some-clause-ok c =
     in
     let at = object_at_index name s.objects c.in-Some.at (sym c.requires.name ∙ c.in-Some.is) in
     let found = found_there name s.objects c.in-Some.at at.0 (sym c.requires.name ∙ c.in-Some.is) at.1 in
-    subst (λ after. IfOk c.begin.result (λ (done : Done). Writes name s after (members_of c.begin.new.self) (contents_of c.begin.new.self) done))
+    subst (λ after. IfOk c.begin.result (λ (done : Done). WritesNamed name s after (members_of c.begin.new.self) (contents_of c.begin.new.self) done))
     (sym (after_known s c.args.class.now c.args.number k has name c.args.now c.args.place.now c.args.sets.now c.in_ok-cells.cells.items is at.0 found)) c.begin.ensures.ok
 
 pub returns-in-None-clause-ok : goal.returns-in-None-clause-ok
@@ -114,5 +114,5 @@ returns-in-None-clause-ok c =
     cells_inserted c.args.now k.attributes c.args.place.now c.args.sets.now c.deref.result.now c.in_ok-cells.cells.items c.in_ok-cells.ensures.cells (c.deref.ensures.value ∙ c.in_ok-fill.ensures)
     in
     let new = found_nowhere name s.objects (sym c.requires.name ∙ c.in-None.is) in
-    subst (λ after. IfOk c.enter.result (λ (done : Done). Writes name s after (members_of c.enter.new.self) (contents_of c.enter.new.self) done))
+    subst (λ after. IfOk c.enter.result (λ (done : Done). WritesNamed name s after (members_of c.enter.new.self) (contents_of c.enter.new.self) done))
     (sym (after_new s c.args.class.now c.args.number k has name c.args.now c.args.place.now c.args.sets.now c.in_ok-cells.cells.items is new)) c.enter.ensures.ok

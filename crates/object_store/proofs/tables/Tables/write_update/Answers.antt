@@ -8,10 +8,10 @@ use Rattle.history.specs.Write.{Attribute}
 use Rattle.history.specs.Catalog.{ClassInfo, object_of}
 use Rattle.history.specs.State.{inserted, updated, attributes_of_object}
 use Rattle.object_store.specs.declared.objects.Done.{Done}
-use Rattle.object_store.specs.Changes.{changes_of}
+use Rattle.object_store.specs.Changes.{setting_changes}
 use Rattle.object_store.specs.Contents.{StoredObject, Contents, attributes_of_number, catalog_of, state_of}
 use Rattle.object_store.specs.Effects.{with_epoch_of, after_insert}
-use Rattle.object_store.specs.Invariant.{Writes}
+use Rattle.object_store.specs.Invariant.{WritesNamed}
 use Rattle.object_store.specs.Sound.{AreEpochsOf}
 use Rattle.object_store.specs.ObjectView.{objects_of}
 use Rattle.object_store.specs.Tables.{contents_of, members_of}
@@ -68,7 +68,7 @@ returns-clause-ok c =
     (all_at (λ (o : StoredObject). AreEpochsOf (attributes_of_number s.classes o.class) o.epochs) s.objects c.args.at o at.there c.requires.kept.sound.objects.fitted))))
     in
     let after : Contents = record { classes = s.classes; objects = objects_of c.write_at.new.objects.entries; last_tick = now } in
-    subst (λ (done : Done). Writes name s (with_epoch_of s name p) (members_of c.args.self.now) after done) (sym c.known.ensures)
+    subst (λ (done : Done). WritesNamed name s (with_epoch_of s name p) (members_of c.args.self.now) after done) (sym c.known.ensures)
     (known_writes s (members_of c.args.self.now) name c.args.at o p c.in_ok-replaced.replaced epoch after.objects now
     c.requires.kept c.requires.after c.requires.tick c.requires.name at.there fits
     c.in_ok-replaced.ensures.ok (λ i. record { from = now; cells = cells i }) refl)

@@ -1,7 +1,7 @@
 use Rattle.std.proofs.Common.{◌*◌, eqb, length, ap, subst, ◌∙◌}
 use Rattle.std.proofs.lemmas.List.Filters.{dedup_is}
 use Rattle.places.specs.declared.boxes.TheConstants.{BLOCK}
-use Rattle.places.specs.Boxes.{near, AreFound, Horizon}
+use Rattle.places.specs.Boxes.{numbers_near, AreFound, Horizon}
 use Rattle.places.proofs.NearLemmas.{all_found}
 use Rattle.places.proofs.boxes.Boxes.near.Goals as goal
 
@@ -15,4 +15,4 @@ returns c =
     (subst (λ cs. AreFound (BLOCK * length cs) cs c.deref-2.result.now c.deref-3.result.now area found) c.deref.ensures.value c.in_ok-found.ensures)) in
     dedup_is eqb sorted c.dedup.new.self.items c.dedup.ensures.filtered
     ∙ all_found covers patches c.self.inside.slots.items numbers area found sorted c.self.invariant are c.sort_unstable.ensures.permutation c.sort_unstable.ensures.sorted
-    ∙ ap (λ (h : Horizon). near h.patches area) c.self.view_is
+    ∙ ap (λ (h : Horizon). numbers_near h.patches area) c.self.view_is

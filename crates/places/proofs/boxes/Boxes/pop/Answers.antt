@@ -2,7 +2,7 @@ use Rattle.std.proofs.Common.{rules, ◌≡◌, ◌+◌, ◌-◌, ◌/◌, ◌<�
 use Rattle.std.proofs.lemmas.List.{get_or_default, length-take-le}
 use Rattle.places.specs.declared.boxes.TheConstants.{BLOCK}
 use Rattle.places.specs.Boxes.{patch_at, AreArranged}
-use Rattle.places.specs.Patches.{nowhere}
+use Rattle.places.specs.Patches.{empty_patch}
 use Rattle.places.proofs.CoverLemmas.{widened}
 use Rattle.places.proofs.SlotLemmas.{popped_moved, popped_plain}
 use Rattle.places.proofs.boxes.Boxes.pop.Goals as goal
@@ -50,7 +50,7 @@ invariant_of-self c =
     let left : length (take last patches) ≡ last = length-take-le last patches (omega (arith, one)) in
     let patch_is : c.index.result.now ≡ patch_at (take last patches) number =
     c.index.ensures ∙ ap (λ ps. get_or ps number c.index.result.now) patches_is
-    ∙ get_or_default (take last patches) number c.index.result.now nowhere (omega (arith, left, c.if-number-last.true)) in
+    ∙ get_or_default (take last patches) number c.index.result.now empty_patch (omega (arith, left, c.if-number-last.true)) in
     rw (c.widen.ensures, patches_is, slots_is, numbers_is)
     (subst (λ p. AreArranged (widened covers (slot / BLOCK) p) (take last patches) (set (take last slots) number slot) (set (take last numbers) slot number)) (sym patch_is)
     (popped_moved covers patches slots numbers last number slot one held number_is slot_is c.if-number-last.true).1)

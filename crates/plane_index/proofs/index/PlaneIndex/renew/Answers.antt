@@ -4,14 +4,14 @@ use Rattle.tick_set.specs.Ticks.{between}
 use Rattle.history.specs.Catalog.{ids_of}
 use Rattle.object_store.specs.Contents.{catalog_of}
 use Rattle.plane.specs.Boxes.{Grid}
-use Rattle.plane_index.specs.Index.{Index, fresh_at, index_of, IsAscending, IsFresh, IsIndexOf}
+use Rattle.plane_index.specs.Index.{Index, fresh_at, index_of, AreAscendingIds, IsFresh, IsIndexOf}
 use Rattle.plane_index.proofs.NumberLemmas.{ids_ascend}
 use Rattle.plane_index.proofs.RenewLemmas.{all_fresh, all_right, are_stored, fields_renewed, looked_at, of_lent, seen_more}
 use Rattle.plane_index.proofs.index.PlaneIndex.renew.Goals as goal
 
 pub see-requires-clause-ascending : goal.see-requires-clause-ascending
 see-requires-clause-ascending g c =
-    subst IsAscending (sym c.class_names.ensures.told) (ids_ascend (catalog_of c.args.store.now) c.class-class.result)
+    subst AreAscendingIds (sym c.class_names.ensures.told) (ids_ascend (catalog_of c.args.store.now) c.class-class.result)
 
 pub freshen-requires-clause-there : goal.freshen-requires-clause-there
 freshen-requires-clause-there g c =

@@ -1,6 +1,6 @@
 use Rattle.std.proofs.Common.{ℕ, List, length, refl, sym, ap, subst, ◌∙◌, arith}
 use Rattle.plane.specs.Boxes.{Grid}
-use Rattle.plane_index.specs.Index.{Index, fresh_at, index_of, is_fresh, strips_of_place, IsAscending}
+use Rattle.plane_index.specs.Index.{Index, fresh_at, index_of, is_fresh, strips_of_place, AreAscendingIds}
 use Rattle.plane_index.proofs.SeeLemmas.{fields_kept, fresh_kept, on_err, seen_all, seen_fewer, strips_stay, unchanged, AreLengthened}
 use Rattle.plane_index.proofs.index.PlaneIndex.see.Goals as goal
 
@@ -33,7 +33,7 @@ invariant_of-self-in_err-extend_from_slice c =
     let size = ap (λ (xs : List ℕ). length xs) same in
     let wide = c.in_ok-widen.ensures.room in
     fields_kept was.ids.items c.extend_from_slice.new.self.items was.fresh.items c.widen.new.fresh.items was.states.states new.states (length c.args.all.now) c.self.invariant long
-    c.in_ok-lengthen.ensures.room (subst IsAscending (sym same) c.self.invariant.ascending) (omega (arith, size)) (omega (arith, size, wide, seen)) wide c.in_ok-widen.ensures.kept
+    c.in_ok-lengthen.ensures.room (subst AreAscendingIds (sym same) c.self.invariant.ascending) (omega (arith, size)) (omega (arith, size, wide, seen)) wide c.in_ok-widen.ensures.kept
 
 pub returns-in_err-extend_from_slice-clause-err : goal.returns-in_err-extend_from_slice-clause-err
 returns-in_err-extend_from_slice-clause-err c =
@@ -59,7 +59,7 @@ invariant_of-self-2 c =
     let size = ap (λ (xs : List ℕ). length xs) same in
     let wide = c.in_ok-widen.ensures.room in
     fields_kept was.ids.items c.extend_from_slice.new.self.items was.fresh.items c.widen.new.fresh.items was.states.states new.states (length c.args.all.now) c.self.invariant long
-    c.in_ok-lengthen.ensures.room (subst IsAscending (sym same) c.requires.ascending) (omega (arith, size, fewer)) (omega (arith, size, wide)) wide c.in_ok-widen.ensures.kept
+    c.in_ok-lengthen.ensures.room (subst AreAscendingIds (sym same) c.requires.ascending) (omega (arith, size, fewer)) (omega (arith, size, wide)) wide c.in_ok-widen.ensures.kept
 
 pub returns-clause-fresh : goal.returns-clause-fresh
 returns-clause-fresh c =

@@ -1,7 +1,7 @@
 use Rattle.std.proofs.Common.{◌∙◌, ap, List, ℕ, subst, sym}
 use Rattle.relation.specs.Frames.{IsIn}
 use Rattle.relation.specs.Key.{has_id}
-use Rattle.relation.specs.Rows.{has}
+use Rattle.relation.specs.Rows.{table_has}
 use Rattle.relation.specs.Walk.{covers}
 use Rattle.relation.proofs.ColumnLemmas.{replaced, single_there}
 use Rattle.relation.proofs.UnionLemmas.{covers_itself}
@@ -19,6 +19,6 @@ returns-clause-ticks g c = λ b is_in t.
     replaced member c.args.self.now c.args.part.now c.args.var c.args.id c.rows.ensures.ordered c.requires.vars
     (single_there c.args.self.now.domains c.args.part.now.domains c.vars.result.now c.args.var c.args.id c.requires.domains c.vars.ensures.known
     (ap (λ (vs : List ℕ). has_id vs c.args.var) c.vars.ensures.value ∙ c.requires.owned))
-    c.requires.owned b t (has member c.in_ok-kept.kept b t) (has member c.in_ok-column.column b t) (has member c.in_ok-made.made b t)
+    c.requires.owned b t (table_has member c.in_ok-kept.kept b t) (table_has member c.in_ok-column.column b t) (table_has member c.in_ok-made.made b t)
     (c.in_ok-kept.ensures.ticks b t) (c.in_ok-column.ensures.ticks b t)
     (c.in_ok-made.ensures.ticks b (subst (λ (d : List (List ℕ)). IsIn d b) (sym c.in_ok-kept.ensures.head.domains) is_in) t)
