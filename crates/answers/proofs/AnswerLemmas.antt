@@ -8,11 +8,12 @@ use Rattle.std.proofs.lemmas.Bool.Decides.{nat_tests}
 use Rattle.std.proofs.lemmas.List.{length-map}
 use Rattle.std.proofs.lemmas.List.FromFn.{get_or-map-range_with_len}
 use Rattle.exact.proofs.Lists.{bytes_eq_refl, bytes_eq_true}
+use Rattle.exact.proofs.Truths.{same_truth}
 use Rattle.tick_set.specs.Runs.{runs_of, spans_have}
 use Rattle.tick_set.specs.Ticks.{between, listed, within}
 use Rattle.tick_set.specs.declared.spans.Span.{Span}
 use Rattle.tick_set.specs.declared.spans.TheConstants.{LAST_TICK}
-use Rattle.tick_set.proofs.Between.{any_between_at, any_between_found, same_test}
+use Rattle.tick_set.proofs.Between.{any_between_at, any_between_found}
 use Rattle.history.specs.Catalog.{ids_of as ids_of_class}
 use Rattle.history.specs.World.{World}
 use Rattle.formula.specs.Tree.{ResolvedQuery}
@@ -157,7 +158,7 @@ module _ (w : World) (q : ResolvedQuery) (holds : (ℕ → ℕ) → ℕ → Bool
           has_below (length q.classes) v (ap (λ (us : List ℕ). has_id us v) (sym vars) ∙ has_v)
 
   target_ticks : (key : List ℕ) (t : ℕ) → has_at spans_have r.rows key t ≡ (within lo hi t && target_where w q holds key t)
-  target_ticks key t = same_test (has_at spans_have r.rows key t) (within lo hi t && target_where w q holds key t) to from
+  target_ticks key t = same_truth (has_at spans_have r.rows key t) (within lo hi t && target_where w q holds key t) to from
     where
       to : has_at spans_have r.rows key t ≡ true → (within lo hi t && target_where w q holds key t) ≡ true
       to there =
@@ -207,7 +208,7 @@ module _ (w : World) (q : ResolvedQuery) (holds : (ℕ → ℕ) → ℕ → Bool
       (narrowed (has_at spans_have r.rows key) (target_where w q holds key) lo hi LAST_TICK last order (target_ticks key))
 
   kept_row : (key : List ℕ) → has_row r.rows key ≡ has_ticks (row_where (target_where w q holds) lo hi key).runs
-  kept_row key = same_test (has_row r.rows key) (has_ticks (row_where (target_where w q holds) lo hi key).runs) to from
+  kept_row key = same_truth (has_row r.rows key) (has_ticks (row_where (target_where w q holds) lo hi key).runs) to from
     where
       to : has_row r.rows key ≡ true → has_ticks (row_where (target_where w q holds) lo hi key).runs ≡ true
       to there =

@@ -39,6 +39,7 @@ use Rattle.evaluator.specs.Interpreting.{CanAsk, IsInFor}
 use Rattle.atoms.specs.Asked.{CanAskAtom, CanAskTerm, HasStored, told_by}
 use Rattle.answers.specs.Objects.{AreOfItsClasses, IsOfAcceptedWrites}
 use Rattle.answers.proofs.ObjectLemmas.{placed, stored_objects}
+use Rattle.exact.proofs.Items.{no_value}
 
 -- ---- the laws of the crates below that are used here
 
@@ -66,9 +67,6 @@ HasVariablesThatThereAre = (count around : ℕ) (scope : Scope) (f : ResolvedTre
     (v : ℕ) → has_variable v f ≡ true → v < count
 
 -- ---- states of the objects of some variables
-
-no_value : {A B : Type 0} (x : B) → None ≡ Some x → A
-no_value x is = let wrong : false ≡ true = ap (λ o. option_map_or (λ y. true) o false) is in absurd (false≢true wrong)
 
 variable_class : (classes : List ClassInfo) (number : Option ℕ) (k : ClassInfo) → option_and_then (slice_get classes) number ≡ Some k →
     (m : ℕ) × (number ≡ Some m) × (slice_get classes m ≡ Some k)

@@ -1,5 +1,5 @@
 -- Queries for the pairs of objects that are near to each other: their rows, and how many looks they take.
-use Rattle.std.proofs.Common.{◌≡◌, ℕ, ◌+◌, ◌*◌, ◌≤◌, Bool, true, false, ◌&&◌, ◌||◌, ◌==◌, inl, inr, Option, None, Some, List, [], ◌∷◌, length, refl, sym, ap, subst, ◌∙◌, arith}
+use Rattle.std.proofs.Common.{◌≡◌, ℕ, ◌+◌, ◌*◌, ◌≤◌, Bool, true, false, ◌&&◌, ◌||◌, ◌==◌, inl, inr, None, List, [], ◌∷◌, length, refl, sym, ap, subst, ◌∙◌, arith}
 use Rattle.std.specs.Prelude.{is_some, sum_by, IsTrue}
 use Rattle.std.specs.List.{list_all}
 use Rattle.std.proofs.lemmas.Bool.{cases_Bool}
@@ -25,15 +25,12 @@ use Rattle.pairs.specs.Distance.{IsDistance}
 use Rattle.pairs.specs.Pairs.{atom_at, pair_reads}
 use Rattle.pairs.specs.declared.distance.Distance.{Distance}
 use Rattle.pairs.proofs.PairLemmas.{first_two, variables_are}
+use Rattle.exact.proofs.Items.{none_from_test}
 
 guarded : (p q a : Bool) → (p ≡ false → a ≡ false) → (q ≡ false → a ≡ false) → ((p && (q && true)) && a) ≡ a
 guarded true true a f g = refl
 guarded true false a f g = sym (g refl)
 guarded false q a f g = sym (f refl)
-
-none_of : {A : Type 0} (o : Option A) → is_some o ≡ false → o ≡ None
-none_of None e = refl
-none_of (Some a) e = absurd (let f : true ≡ false = e in cc)
 
 -- the laws of atoms that are used here
 abbrev pub AbsentAtomsFail : Type 0
@@ -63,8 +60,8 @@ module _ (q : ResolvedQuery) (d : Distance) (is : IsDistance d) (formula : q.for
       let h = trace_of (history_of s) b in
       (λ i. list_all (λ v. is_some (h v t)) (between 0 (two i)) && sat (plain regions h) (formula i) no_values e t)
       ∙ guarded (is_some (h 0 t)) (is_some (h 1 t)) (atom_at s regions d.atom.now b t)
-      (λ none. absent regions h d.atom.now no_values t 0 has_both.0 (none_of (h 0 t) none))
-      (λ none. absent regions h d.atom.now no_values t 1 has_both.1 (none_of (h 1 t) none))
+      (λ none. absent regions h d.atom.now no_values t 0 has_both.0 (none_from_test (h 0 t) none))
+      (λ none. absent regions h d.atom.now no_values t 1 has_both.1 (none_from_test (h 1 t) none))
 
   -- such a distance is of a size that may be asked
   pub sized_pair : ResolvedAtomsAreSized → IsResolved q → IsTrue (is_sized d.atom.now)

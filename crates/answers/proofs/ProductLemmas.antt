@@ -10,6 +10,7 @@ use Rattle.relation.specs.Key.{has_id, ids_of_variable, key_in}
 use Rattle.relation.specs.Order.{keys_over}
 use Rattle.meaning.specs.Binding.{product}
 use Rattle.answers.proofs.ObjectLemmas.{domain_at}
+use Rattle.exact.proofs.Truths.{false_from_not}
 
 -- ---- members of a product
 
@@ -138,10 +139,6 @@ not_there u id g (w ∷ us) none =
     let apart : (u == w) ≡ false = grind (arith, nat_tests, parts.0) in
     λ i. (if apart i then id else g w) ∷ not_there u id g us parts.1 i
 
-not_true : (b : Bool) → not b ≡ true → b ≡ false
-not_true true is = sym is
-not_true false is = refl
-
 pub key_assigned : (domains : List (List ℕ)) (us key : List ℕ) → are_distinct us ≡ true → key_in domains us key ≡ true → map (assigned us key) us ≡ key
 key_assigned domains [] [] distinct inside = refl
 key_assigned domains [] (id ∷ key) distinct inside = absurd (false≢true inside)
@@ -151,7 +148,7 @@ key_assigned domains (u ∷ us) (id ∷ key) distinct inside =
     let later = and_parts (has_id (ids_of_variable domains u) id) (key_in domains us key) inside in
     let own : (u == u) ≡ true = grind (arith, nat_tests) in
     let rest : map (assigned (u ∷ us) (id ∷ key)) us ≡ key =
-    not_there u id (assigned us key) us (not_true (has_id us u) parts.0) ∙ key_assigned domains us key parts.1 later.1 in
+    not_there u id (assigned us key) us (false_from_not (has_id us u) parts.0) ∙ key_assigned domains us key parts.1 later.1 in
     λ i. (if own i then id else assigned us key u) ∷ rest i
 
 -- a key of an assignment's values has one of each variable's domain

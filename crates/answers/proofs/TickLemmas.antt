@@ -1,5 +1,5 @@
 -- The ticks of a set that lies in a window, and whether there are any.
-use Rattle.std.proofs.Common.{◌≡◌, ℕ, zero, suc, ◌+◌, ◌-◌, ◌<◌, ◌≤◌, Bool, true, false, ◌&&◌, ◌||◌, List, [], ◌∷◌, ◌++◌, append-nil, refl, sym, ap, ◌∙◌, arith, if◌then◌else◌}
+use Rattle.std.proofs.Common.{◌≡◌, ℕ, ◌+◌, ◌-◌, ◌≤◌, Bool, true, false, ◌&&◌, ◌||◌, List, [], ◌∷◌, ◌++◌, append-nil, refl, sym, ap, ◌∙◌, arith, if◌then◌else◌}
 use Rattle.std.specs.Prelude.{◌==◌}
 use Rattle.std.specs.List.{filter, range_with_len}
 use Rattle.std.proofs.lemmas.Bool.{false≢true, and_left}
@@ -11,19 +11,9 @@ use Rattle.tick_set.specs.Ticks.{between, listed, within}
 use Rattle.tick_set.proofs.CallerLemmas.{has_listed}
 use Rattle.tick_set.proofs.RunLemmas.{filter_range_agree}
 use Rattle.meaning.specs.Answer.{has_ticks}
+use Rattle.exact.proofs.Items.{none_in_range, range_append}
 
 -- ---- a set within a window
-
-range_append : (m n a : ℕ) → range_with_len a (m + n) ≡ range_with_len a m ++ range_with_len (a + m) n
-range_append zero n a = λ i. range_with_len ((let e : a ≡ a + 0 = omega arith in e) i) ((let e : 0 + n ≡ n = omega arith in e) i)
-range_append (suc m) n a =
-    ap (range_with_len a) (let e : suc m + n ≡ suc (m + n) = omega arith in e)
-    ∙ ap (λ (xs : List ℕ). a ∷ xs) (range_append m n (a + 1))
-    ∙ ap (λ (b : ℕ). a ∷ (range_with_len (a + 1) m ++ range_with_len b n)) (let e : a + 1 + m ≡ a + suc m = omega arith in e)
-
-none_kept : (p : ℕ → Bool) (n a : ℕ) → ((t : ℕ) → a ≤ t → t < a + n → p t ≡ false) → filter p (range_with_len a n) ≡ []
-none_kept p zero a h = refl
-none_kept p (suc n) a h = rw (h a (omega arith) (omega arith)) (none_kept p n (a + 1) (λ t l k. h t (omega (arith, l)) (omega (arith, k))))
 
 module _ (p q : ℕ → Bool) (lo hi last : ℕ) (short : hi ≤ last) (order : lo ≤ hi) (same : (t : ℕ) → p t ≡ (within lo hi t && q t)) where
   out : (t : ℕ) → within lo hi t ≡ false → p t ≡ false
@@ -33,10 +23,10 @@ module _ (p q : ℕ → Bool) (lo hi last : ℕ) (short : hi ≤ last) (order : 
   here t there = same t ∙ ap (λ (b : Bool). b && q t) there
 
   before : filter p (range_with_len 0 lo) ≡ []
-  before = none_kept p lo 0 (λ t l k. out t (grind (arith, nat_tests, k)))
+  before = none_in_range p lo 0 (λ t l k. out t (grind (arith, nat_tests, k)))
 
   after : filter p (range_with_len (hi + 1) (last - hi)) ≡ []
-  after = none_kept p (last - hi) (hi + 1) (λ t l k. out t (grind (arith, nat_tests, l)))
+  after = none_in_range p (last - hi) (hi + 1) (λ t l k. out t (grind (arith, nat_tests, l)))
 
   inside : filter p (range_with_len lo (hi + 1 - lo)) ≡ filter q (range_with_len lo (hi + 1 - lo))
   inside = filter_range_agree p q (hi + 1 - lo) lo (λ t l k. here t (grind (arith, nat_tests, l, k, order)))

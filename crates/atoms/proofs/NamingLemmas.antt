@@ -1,6 +1,6 @@
 -- The attributes that are asked, and the pieces that they make.
 use Rattle.std.proofs.Common.{◌≡◌, ℕ, zero, suc, ◌+◌, ◌*◌, ◌≤◌, Bool, true, false, Option, None, Some, List, [], ◌∷◌, refl, inl, inr, arith}
-use Rattle.std.specs.Prelude.{◌==◌, IfSome, cond, count_by, replicate, slice_get}
+use Rattle.std.specs.Prelude.{◌==◌, IfSome, count_by, replicate, slice_get}
 use Rattle.std.specs.Borrow.{Bor}
 use Rattle.std.specs.List.{list_all, list_any}
 use Rattle.std.specs.Option.{option_map_or}
@@ -25,6 +25,8 @@ use Rattle.formula.specs.declared.tree.RUnit.{RUnit}
 use Rattle.formula.specs.declared.tree.RUnit.TheVariants as units
 use Rattle.atoms.specs.Naming.{asks_atom, asks_factor, asks_place, asks_term, asks_unit}
 use Rattle.atoms.specs.Parts.{IsSteadyEpoch, pieces_asked}
+use Rattle.exact.proofs.Items.{count_by-cons}
+use Rattle.exact.proofs.Truths.{cond_at_most}
 
 -- ---- where all is asked
 
@@ -99,18 +101,9 @@ cut_at asked (Some p) t is =
       | inr turns ↦ or_right (p.from == t) (legs_end which.All t (cells_of p)) (leg_ends asked t (cells_of p) turns)
     ]
 
-one_less : (a b : Bool) → (a ≡ true → b ≡ true) → cond a 1 0 ≤ cond b 1 0
-one_less false false less = omega arith
-one_less false true less = omega arith
-one_less true false less = absurd (false≢true (less refl))
-one_less true true less = omega arith
-
-count_by-cons : (p : ℕ → Bool) (t : ℕ) (ts : List ℕ) → count_by p (t ∷ ts) ≡ cond (p t) 1 0 + count_by p ts
-count_by-cons p t ts = sum_by-cons (λ u. cond (p u) 1 0) t ts
-
 count_less : (p q : ℕ → Bool) (ts : List ℕ) → ((t : ℕ) → p t ≡ true → q t ≡ true) → count_by p ts ≤ count_by q ts
 count_less p q [] less = omega arith
-count_less p q (t ∷ ts) less = omega (arith, count_by-cons p t ts, count_by-cons q t ts, one_less (p t) (q t) (less t), count_less p q ts less)
+count_less p q (t ∷ ts) less = omega (arith, count_by-cons p t ts, count_by-cons q t ts, cond_at_most (p t) (q t) (less t), count_less p q ts less)
 
 cuts_less : (asked : Asked) (epochs : List Epoch) (at last : ℕ) → cut_count_for asked epochs at last ≤ cut_count_for which.All epochs at last
 unfolding cut_count_for

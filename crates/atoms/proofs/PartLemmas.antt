@@ -11,6 +11,7 @@ use Rattle.std.proofs.lemmas.List.{get_or-map, length-map, map-append, map-set, 
 use Rattle.courses.specs.Parts.{epochs_of_each}
 use Rattle.object_store.specs.Contents.{Contents, StoredObject}
 use Rattle.atoms.specs.Parts.{AreAscendingFrom, beside, epochs_of, trace_by}
+use Rattle.exact.proofs.Naturals.{equals_itself}
 
 -- the epoch beside a variable
 abbrev pub epoch_beside : List ℕ → List (Option (Bor Epoch)) → ℕ → Option Epoch
@@ -70,9 +71,6 @@ each_beside P (u ∷ variables) (e ∷ epochs) v each p is =
 
 -- ---- where all variables have an epoch
 
-own : (v : ℕ) → (v == v) ≡ true
-own v = grind (arith, nat_tests)
-
 -- larger variables don't see the first place
 past_first : (vs : List ℕ) (low u : ℕ) (us : List ℕ) (e : Option (Bor Epoch)) (epochs : List (Option (Bor Epoch))) → u < low → AreAscendingFrom low vs →
     list_all (λ v. is_some (epoch_beside (u ∷ us) (e ∷ epochs) v)) vs ≡ list_all (λ v. is_some (epoch_beside us epochs v)) vs
@@ -90,7 +88,7 @@ begun_at_places [] low epochs ascend begun k l = absurd (omega arith)
 begun_at_places (v ∷ variables) low [] ascend begun k l = absurd (false≢true begun)
 begun_at_places (v ∷ variables) low (e ∷ epochs) ascend begun zero l =
     let parts = and_parts (is_some (epoch_beside (v ∷ variables) (e ∷ epochs) v)) _ begun in
-    sym (ap (λ (same : Bool). is_some (option_copied (unwrap_or (if same then Some e else beside variables epochs v) None))) (own v)) ∙ parts.0
+    sym (ap (λ (same : Bool). is_some (option_copied (unwrap_or (if same then Some e else beside variables epochs v) None))) (equals_itself v)) ∙ parts.0
 begun_at_places (v ∷ variables) low (e ∷ epochs) ascend begun (suc k) l =
     let parts = and_parts (is_some (epoch_beside (v ∷ variables) (e ∷ epochs) v)) _ begun in
     begun_at_places variables (v + 1) epochs ascend.1

@@ -16,9 +16,7 @@ use Rattle.atoms.specs.Parts.{HaveEpochs, beside, epoch_of}
 use Rattle.atoms.specs.Probes.{probe_limit}
 use Rattle.atoms.specs.Sizes.{is_sized}
 use Rattle.atoms.proofs.PartLemmas.{missing, none_is}
-
-own : (v : ℕ) → (v == v) ≡ true
-own v = grind (arith, nat_tests)
+use Rattle.exact.proofs.Naturals.{equals_itself}
 
 short_limit : (m n : ℕ) → m ≤ n → (if nat_le m SHORT_WINDOW then 47 else 63) ≤ (if nat_le n SHORT_WINDOW then 47 else 63)
 short_limit m n less = grind (arith, nat_tests)
@@ -35,9 +33,9 @@ quiet : (a : RAtom) (old new ticks : ℕ) → is_sized a ≡ true → new ≤ ol
 quiet (atoms.Compare q op r) old new ticks sized cost absent = omega arith
 quiet (atoms.Inside v region) old new ticks sized cost absent = omega arith
 quiet (atoms.Outside v region) old new ticks sized cost absent = omega arith
-quiet (atoms.Dist v u op c) old new ticks sized cost absent = omega (arith, absent v (or_left (v == v) (u == v) (own v)))
+quiet (atoms.Dist v u op c) old new ticks sized cost absent = omega (arith, absent v (or_left (v == v) (u == v) (equals_itself v)))
 quiet (atoms.Sphere r []) old new ticks sized cost absent = absurd (false≢true sized)
-quiet (atoms.Sphere r (v ∷ vs)) old new ticks sized cost absent = omega (arith, absent v (or_left (v == v) (list_any (λ o. o == v) vs) (own v)))
+quiet (atoms.Sphere r (v ∷ vs)) old new ticks sized cost absent = omega (arith, absent v (or_left (v == v) (list_any (λ o. o == v) vs) (equals_itself v)))
 
 kept : (c old new next at : ℕ) → new ≤ old → next ≤ at → new + c * next ≤ old + c * at
 kept c old new next at cost less = omega (arith, mul-le-mul_left c less)

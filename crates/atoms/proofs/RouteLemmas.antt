@@ -1,6 +1,6 @@
 -- Objects that keep further apart than a distance on one axis.
 use Rattle.std.proofs.Common.{◌≡◌, ℕ, ◌+◌, ◌≤◌, ◌&&◌, refl, List, None, Bool, true, false, Option, Some, ℤ, pos, neg_ℤ, ◌+ℤ◌, ◌-ℤ◌, ◌*ℤ◌, ◌≤ℤ◌, ◌<ℤ◌, int_le, inl, inr, ap, subst, ◌∙◌, arith}
-use Rattle.std.specs.Prelude.{IfSome, int_lt, option_and_then}
+use Rattle.std.specs.Prelude.{IfSome, option_and_then}
 use Rattle.std.proofs.lemmas.Bool.{cases_Bool}
 use Rattle.std.proofs.lemmas.Bool.Decides.{nat_tests}
 use Rattle.std.proofs.lemmas.Int.{ints}
@@ -9,6 +9,7 @@ use Rattle.case_table.specs.declared.compare.Op.{Op}
 use Rattle.case_table.specs.declared.compare.Op.TheVariants.{Lt, Le, Eq, Ne, Ge, Gt}
 use Rattle.distance_crossing.proofs.Signs.{product_above, square_least}
 use Rattle.exact.proofs.Ring.{part, sum, difference, product, opposite, same}
+use Rattle.exact.proofs.Integers.{above_fails_at_most, above_fails_less, below_passes_at_most, below_passes_less, less_by, not_negative, opposite_above, sum_above_by_first, sum_above_by_second}
 use Rattle.fixed_point.specs.declared.number.Point.{Point}
 use Rattle.geometry.specs.Distance.{distance_compares}
 use Rattle.geometry.specs.Plane.{point, square, squared_distance}
@@ -53,17 +54,11 @@ past_above c least greatest m n most at_least past = inl (omega (arith, ints))
 pub past_below : (c least greatest m n : ℤ) → least ≤ℤ m → n ≤ℤ greatest → c <ℤ (least -ℤ greatest) → IsPast c (n -ℤ m)
 past_below c least greatest m n at_least most past = inr (omega (arith, ints))
 
-pub is_less : (a b : ℤ) → int_lt a b ≡ true → a <ℤ b
-is_less a b is = grind (arith, ints)
-
 -- ---- squares
 
 squares_apart : (c v : ℤ) → (v -ℤ c) *ℤ (v +ℤ c) ≡ square v -ℤ square c
 squares_apart c v =
     same (product (difference (part v) (part c)) (sum (part v) (part c))) (difference (product (part v) (part v)) (product (part c) (part c))) (omega arith)
-
-less_by : (a b : ℤ) → pos 0 <ℤ (b -ℤ a) → a <ℤ b
-less_by a b l = omega (arith, ints)
 
 square_above : (c v : ℤ) → pos 0 ≤ℤ c → c <ℤ v → square c <ℤ square v
 square_above c v p l =
@@ -73,9 +68,6 @@ square_above c v p l =
 opposite_square : (v : ℤ) → square (neg_ℤ v) ≡ square v
 opposite_square v = same (product (opposite (part v)) (opposite (part v))) (product (part v) (part v)) (omega arith)
 
-opposite_above : (c v : ℤ) → v <ℤ neg_ℤ c → c <ℤ neg_ℤ v
-opposite_above c v l = omega (arith, ints)
-
 square_past : (c v : ℤ) → pos 0 ≤ℤ c → IsPast c v → square c <ℤ square v
 square_past c v p past =
     let P : ℤ → Type 0 = λ z. square c <ℤ z in
@@ -84,25 +76,13 @@ square_past c v p past =
       | inr below ↦ subst P (opposite_square v) (square_above c (neg_ℤ v) p (opposite_above c v below))
     ]
 
-by_first : (s u v : ℤ) → s <ℤ u → pos 0 ≤ℤ v → s <ℤ (u +ℤ v)
-by_first s u v l p = omega (arith, ints)
-
-by_second : (s u v : ℤ) → s <ℤ v → pos 0 ≤ℤ u → s <ℤ (u +ℤ v)
-by_second s u v l p = omega (arith, ints)
-
 pub past_on_x : (c : ℤ) (p q : Point) → pos 0 ≤ℤ c → IsPast c (q.x -ℤ p.x) → square c <ℤ squared_distance p q
-past_on_x c p q least past = by_first (square c) (square (q.x -ℤ p.x)) (square (q.y -ℤ p.y)) (square_past c (q.x -ℤ p.x) least past) (square_least (q.y -ℤ p.y))
+past_on_x c p q least past = sum_above_by_first (square c) (square (q.x -ℤ p.x)) (square (q.y -ℤ p.y)) (square_past c (q.x -ℤ p.x) least past) (square_least (q.y -ℤ p.y))
 
 pub past_on_y : (c : ℤ) (p q : Point) → pos 0 ≤ℤ c → IsPast c (q.y -ℤ p.y) → square c <ℤ squared_distance p q
-past_on_y c p q least past = by_second (square c) (square (q.x -ℤ p.x)) (square (q.y -ℤ p.y)) (square_past c (q.y -ℤ p.y) least past) (square_least (q.x -ℤ p.x))
+past_on_y c p q least past = sum_above_by_second (square c) (square (q.x -ℤ p.x)) (square (q.y -ℤ p.y)) (square_past c (q.y -ℤ p.y) least past) (square_least (q.x -ℤ p.x))
 
 -- ---- how a distance above c compares with it
-
-above_Lt : (s v : ℤ) → s <ℤ v → int_lt v s ≡ false
-above_Lt s v l = grind (arith, ints)
-
-above_Le : (s v : ℤ) → s <ℤ v → int_le v s ≡ false
-above_Le s v l = grind (arith, ints)
 
 above_Eq : (s v : ℤ) → s <ℤ v → compares Eq v s ≡ false
 above_Eq s v l = grind (arith, ints, nat_tests)
@@ -110,22 +90,13 @@ above_Eq s v l = grind (arith, ints, nat_tests)
 above_Ne : (s v : ℤ) → s <ℤ v → compares Ne v s ≡ true
 above_Ne s v l = grind (arith, ints, nat_tests)
 
-above_Ge : (s v : ℤ) → s <ℤ v → int_le s v ≡ true
-above_Ge s v l = grind (arith, ints)
-
-above_Gt : (s v : ℤ) → s <ℤ v → int_lt s v ≡ true
-above_Gt s v l = grind (arith, ints)
-
 compares_above : (op : Op) (s v : ℤ) → s <ℤ v → compares op v s ≡ sign_holds op (pos 1)
-compares_above Lt s v l = above_Lt s v l
-compares_above Le s v l = above_Le s v l
+compares_above Lt s v l = above_fails_less s v l
+compares_above Le s v l = above_fails_at_most s v l
 compares_above Eq s v l = above_Eq s v l
 compares_above Ne s v l = above_Ne s v l
-compares_above Ge s v l = above_Ge s v l
-compares_above Gt s v l = above_Gt s v l
-
-not_negative : (c : ℤ) → int_le (pos 0) c ≡ true → pos 0 ≤ℤ c
-not_negative c e = grind (arith, ints)
+compares_above Ge s v l = below_passes_at_most s v l
+compares_above Gt s v l = below_passes_less s v l
 
 pub distance_above : (op : Op) (c v : ℤ) → (pos 0 ≤ℤ c → square c <ℤ v) → distance_compares op c v ≡ sign_holds op (pos 1)
 distance_above op c v above =

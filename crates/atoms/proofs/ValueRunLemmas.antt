@@ -1,8 +1,7 @@
 -- Runs of equal value that grow at their end.
-use Rattle.std.proofs.Common.{◌≡◌, ℕ, zero, suc, ◌+◌, ◌-◌, ◌<◌, ◌≤◌, true, false, Option, None, Some, Result, Ok, Err, is_some, List, [], ◌∷◌, ◌++◌, length, set, get_or, refl, sym, ap, subst, ◌∙◌, inl, inr, arith, length-append}
+use Rattle.std.proofs.Common.{◌≡◌, ℕ, zero, suc, ◌+◌, ◌-◌, ◌<◌, ◌≤◌, true, false, Option, None, Some, is_some, List, [], ◌∷◌, ◌++◌, length, set, get_or, refl, sym, ap, subst, ◌∙◌, inl, inr, arith, length-append}
 use Rattle.std.specs.Prelude.{All, ◌==◌, slice_get}
 use Rattle.std.specs.Option.{IfSome}
-use Rattle.std.specs.Result.{OnOk}
 use Rattle.std.proofs.lemmas.Bool.{false≢true, cases_lt, and_parts, or_left, or_right, or_cases}
 use Rattle.std.proofs.lemmas.Bool.Decides.{nat_tests}
 use Rattle.std.proofs.lemmas.Int.{ints}
@@ -191,11 +190,6 @@ no_more_runs value from at until runs later are none = record {
   };
   maximal = are.maximal;
 }
-
--- what follows of a call that had memory
-pub on_ok : {T E : Type 0} (r : Result T E) (P Q : Type 0) → (P → Q) → OnOk r P → OnOk r Q
-on_ok {T} {E} (Ok x) P Q follows told = follows told
-on_ok {T} {E} (Err e) P Q follows told = told
 
 -- the same runs serve values that are equal
 pub runs_of_equal : (f h : ℕ → Option Value) (from until : ℕ) (runs : List ValueRun) → ((t : ℕ) → f t ≡ h t) → AreMaximalRuns f from until runs → AreMaximalRuns h from until runs

@@ -2,7 +2,7 @@
 
 ghost use Rattle.std.specs.Prelude.{◌≡◌, ◌<◌, is_some, length};
 ghost use Rattle.std.proofs.Common.{ap};
-ghost use Rattle.interpreting.proofs.FewerLemmas.{not_after, not_before, shorter};
+ghost use Rattle.interpreting.proofs.FewerLemmas.{not_after, shorter};
 ghost use Rattle.interpreting.proofs.NameLemmas.{atom_by_names, term_by_names};
 ghost use Rattle.meaning.proofs.LocalityLemmas.{atom_same, term_same};
 ghost use Rattle.meaning.specs.Trace.{trace_of};
@@ -10,6 +10,7 @@ ghost use Rattle.tick_set.specs.declared.spans.TheConstants.{SPAN_LIMIT};
 ghost use Rattle.history.specs.History.{cells_at};
 ghost use Rattle.object_store.specs.Contents.{history_of};
 ghost use Rattle.atoms.specs.Asked.{CanAskAtom, CanAskTerm, told_by};
+ghost use Rattle.exact.proofs.Naturals.{at_most_in_turn};
 
 use crate::present::absence;
 use crate::ticks::atom_ticks;
@@ -113,6 +114,6 @@ impl Interpreter<IntervalSet> for StoredWorld<'_> {
     ghost term_narrows = { λ x lo hi from upto begins ends b q env can. record {
       sized = can.sized;
       objects = can.objects;
-      in_range = λ t after before. can.in_range t (not_before lo from t begins after) (not_after hi upto t ends before);
+      in_range = λ t after before. can.in_range t (at_most_in_turn lo from t begins after) (not_after hi upto t ends before);
     } };
 }

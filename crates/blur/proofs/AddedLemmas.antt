@@ -1,16 +1,13 @@
 -- Ticks that are added to runs, past all that are there.
-use Rattle.std.proofs.Common.{◌≡◌, ℕ, ◌+◌, ◌<◌, ◌≤◌, Bool, true, false, ◌&&◌, ◌||◌, nat_le, nat_lt, Option, Some, option_to_list, Ok, Err, List, [], ◌∷◌, refl, sym, ap, ◌∙◌, inl, inr, arith}
-use Rattle.std.specs.Prelude.{not, OnOk, Result}
+use Rattle.std.proofs.Common.{◌≡◌, ℕ, ◌+◌, ◌<◌, ◌≤◌, Bool, true, ◌&&◌, ◌||◌, nat_le, nat_lt, Option, Some, option_to_list, List, [], ◌∷◌, sym, ap, ◌∙◌, inl, inr, arith}
+use Rattle.std.specs.Prelude.{not}
 use Rattle.std.proofs.lemmas.Bool.{or_cases}
 use Rattle.std.proofs.lemmas.Bool.Decides.{nat_tests}
 use Rattle.tick_set.specs.Ticks.{within}
 use Rattle.tick_set.specs.Runs.{spans_have}
 use Rattle.tick_set.specs.declared.spans.Span.{Span}
 use Rattle.blur.specs.Added.{Adds, EndBefore}
-
-pub on_ok : {T E : Type 0} (r : Result T E) (P Q : Type 0) → (P → Q) → OnOk r P → OnOk r Q
-on_ok (Ok x) P Q f is = f is
-on_ok (Err e) P Q f is = is
+use Rattle.exact.proofs.Truths.{or_grouped}
 
 -- each tick of the first comes before each of the second
 abbrev pub Precede : (ℕ → Bool) → (ℕ → Bool) → Type 0
@@ -42,10 +39,6 @@ precede_more old new first second adds before more t u had is =
       | inl was ↦ before t u was is
       | inr added ↦ more t u added is
     ]
-
-or_grouped : (a b c : Bool) → ((a || b) || c) ≡ (a || (b || c))
-or_grouped true b c = refl
-or_grouped false b c = refl
 
 -- what is added in two steps
 pub adds_both : (test first second : ℕ → Bool) (old middle new : List Span) → ((t : ℕ) → (first t || second t) ≡ test t)

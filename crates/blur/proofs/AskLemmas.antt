@@ -21,6 +21,7 @@ use Rattle.tick_set.specs.declared.spans.Span.{Span}
 use Rattle.worlds.specs.Blurred.{blurred, distance_holds_by}
 use Rattle.blur.specs.Asked.{comparison, is_on_side}
 use Rattle.blur.proofs.ReadLemmas.{has_first, has_one, has_two}
+use Rattle.exact.proofs.Naturals.{equals_itself}
 
 -- the same ticks by another test
 pub ticks_as : {E : Type 0} (r : Result (List Span) E) (lo hi : ℕ) (first second : ℕ → Bool) → ((t : ℕ) → first t ≡ second t)
@@ -28,22 +29,19 @@ pub ticks_as : {E : Type 0} (r : Result (List Span) E) (lo hi : ℕ) (first seco
 ticks_as (Ok s) lo hi first second same is = λ t. is t ∙ ap (λ b. within lo hi t && b) (same t)
 ticks_as (Err e) lo hi first second same is = is
 
-own : (v : ℕ) → (v == v) ≡ true
-own v = grind (arith, nat_tests)
-
 -- ---- a variable of an atom
 
 pub in_inside : (v n : ℕ) (a : RAtom) → a ≡ atoms.Inside v n → atom_has v a ≡ true
-in_inside v n a is = ap (atom_has v) is ∙ own v
+in_inside v n a is = ap (atom_has v) is ∙ equals_itself v
 
 pub in_outside : (v n : ℕ) (a : RAtom) → a ≡ atoms.Outside v n → atom_has v a ≡ true
-in_outside v n a is = ap (atom_has v) is ∙ own v
+in_outside v n a is = ap (atom_has v) is ∙ equals_itself v
 
 pub in_first : (v u : ℕ) (op : Op) (k : ℤ) (a : RAtom) → a ≡ atoms.Dist v u op k → atom_has v a ≡ true
-in_first v u op k a is = ap (atom_has v) is ∙ or_left (v == v) (u == v) (own v)
+in_first v u op k a is = ap (atom_has v) is ∙ or_left (v == v) (u == v) (equals_itself v)
 
 pub in_second : (v u : ℕ) (op : Op) (k : ℤ) (a : RAtom) → a ≡ atoms.Dist v u op k → atom_has u a ≡ true
-in_second v u op k a is = ap (atom_has u) is ∙ or_right (v == u) (u == u) (own u)
+in_second v u op k a is = ap (atom_has u) is ∙ or_right (v == u) (u == u) (equals_itself u)
 
 pub is_stored : (s : Contents) (lo hi : ℕ) (b : ℕ → ℕ) (a : RAtom) (v id : ℕ) → CanAskAtom s lo hi b a → atom_has v a ≡ true → id ≡ b v → id < length s.objects
 is_stored s lo hi b a v id can has e = let there = (can.objects v has).stored in omega (arith, there, e)
@@ -67,7 +65,7 @@ differ b v u other = of_either (v == u) refl
     of_either false e = e
     of_either true e =
         let is : v ≡ u = grind (arith, nat_tests) in
-        let one : (b v == b u) ≡ true = ap (λ w. b v == b w) (sym is) ∙ own (b v) in
+        let one : (b v == b u) ≡ true = ap (λ w. b v == b w) (sym is) ∙ equals_itself (b v) in
         absurd (false≢true (sym other ∙ one))
 
 looks_of_pair : (v u : ℕ) (same : Bool) → v < 4 → u < 4 → (same ≡ false → (v == u) ≡ false) → (if same then 1 else 2) ≤ length (variables_in (λ w. v == w || u == w))

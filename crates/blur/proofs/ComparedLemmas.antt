@@ -17,6 +17,7 @@ use Rattle.worlds.proofs.CallerLemmas.{nearest_at_most}
 use Rattle.blur.specs.Added.{EndBefore}
 use Rattle.blur.specs.Asked.{comparison, compares_by, square_if_small}
 use Rattle.blur.proofs.AddedLemmas.{before_inside, is_past}
+use Rattle.exact.proofs.Truths.{and_true}
 
 -- ---- by the least and the greatest number
 
@@ -55,10 +56,6 @@ compared_is sure turned op error turned_error c p q small large x is_small is_la
 
 -- ---- in a window
 
-and_yes : (b : Bool) → (b && true) ≡ b
-and_yes true = refl
-and_yes false = refl
-
 inside_both : (w x y : Bool) → ((w && x) && not (w && y)) ≡ (w && (x && not y))
 inside_both true x y = refl
 inside_both false x y = refl
@@ -68,7 +65,7 @@ outside_both true x y = refl
 outside_both false x y = refl
 
 pub outside_one : (w x : Bool) → (w && not ((w && x) && true)) ≡ (w && not x)
-outside_one true x = ap not (and_yes x)
+outside_one true x = ap not (and_true x)
 outside_one false x = refl
 
 -- the run of the ticks at which a function is at most a limit

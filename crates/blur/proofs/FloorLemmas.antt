@@ -1,37 +1,19 @@
 -- What the size of a number that moves along a line is at least between two ticks.
-use Rattle.std.proofs.Common.{◌≡◌, ℕ, ◌+◌, ◌-◌, ◌*◌, ◌≤◌, ℤ, pos, negsuc, ◌+ℤ◌, ◌*ℤ◌, neg_ℤ, ◌≤ℤ◌, ◌<ℤ◌, inl, inr, subst, sym, arith}
+use Rattle.std.proofs.Common.{◌≡◌, ℕ, ◌+◌, ◌-◌, ◌*◌, ◌≤◌, ℤ, pos, ◌+ℤ◌, ◌*ℤ◌, neg_ℤ, ◌≤ℤ◌, ◌<ℤ◌, inl, inr, subst, sym, arith}
 use Rattle.std.proofs.lemmas.Int.{ints, by_lt_z}
 use Rattle.std.proofs.lemmas.Nat.{mul-le}
-use Rattle.exact.proofs.Ring.{part, number, sum, product, opposite, same}
+use Rattle.exact.proofs.Integers.{line_later, opposite_least, opposite_most, opposite_rise, product_least}
 use Rattle.blur.specs.Widened.{IsBetween, widened}
 
 -- ---- a number that begins at x and changes by d at each tick lies between its ends
 
-product_least : (a b : ℤ) → pos 0 ≤ℤ a → pos 0 ≤ℤ b → pos 0 ≤ℤ (a *ℤ b)
-product_least (pos m) (pos n) p q = omega (arith, ints)
-product_least (pos m) (negsuc n) p q = absurd (omega (arith, ints))
-product_least (negsuc m) b p q = absurd (omega (arith, ints))
-
 rise_least : (d : ℤ) (k : ℕ) → pos 0 ≤ℤ d → pos 0 ≤ℤ (d *ℤ pos k)
 rise_least d k p = product_least d (pos k) p (omega (arith, ints))
-
-opposite_rise : (d : ℤ) (k : ℕ) → neg_ℤ d *ℤ pos k ≡ neg_ℤ (d *ℤ pos k)
-opposite_rise d k = same (product (opposite (part d)) (number k)) (opposite (product (part d) (number k))) (omega arith)
-
-opposite_least : (a : ℤ) → a <ℤ pos 0 → pos 0 ≤ℤ neg_ℤ a
-opposite_least a n = omega (arith, ints)
-
-opposite_most : (a : ℤ) → pos 0 ≤ℤ neg_ℤ a → a ≤ℤ pos 0
-opposite_most a p = omega (arith, ints)
 
 fall_most : (d : ℤ) (k : ℕ) → d <ℤ pos 0 → (d *ℤ pos k) ≤ℤ pos 0
 fall_most d k n =
     let P : ℤ → Type 0 = λ z. pos 0 ≤ℤ z in
     opposite_most (d *ℤ pos k) (subst P (opposite_rise d k) (rise_least (neg_ℤ d) k (opposite_least d n)))
-
-later : (x d : ℤ) (k m : ℕ) → x +ℤ d *ℤ pos (k + m) ≡ (x +ℤ d *ℤ pos k) +ℤ d *ℤ pos m
-later x d k m =
-    same (sum (part x) (product (part d) (number (k + m)))) (sum (sum (part x) (product (part d) (number k))) (product (part d) (number m))) (omega arith)
 
 rises : (x u : ℤ) → pos 0 ≤ℤ u → x ≤ℤ (x +ℤ u)
 rises x u p = omega (arith, ints, p)
@@ -43,8 +25,8 @@ between_ends : (x d : ℤ) (k m : ℕ) → IsBetween x (x +ℤ d *ℤ pos (k + m
 between_ends x d k m =
     let at = x +ℤ d *ℤ pos k in
     by_lt_z d (pos 0)
-    (λ n. inr (subst (λ (z : ℤ). z ≤ℤ at) (sym (later x d k m)) (falls at (d *ℤ pos m) (fall_most d m n)), falls x (d *ℤ pos k) (fall_most d k n)))
-    (λ p. inl (rises x (d *ℤ pos k) (rise_least d k p), subst (λ (z : ℤ). at ≤ℤ z) (sym (later x d k m)) (rises at (d *ℤ pos m) (rise_least d m p))))
+    (λ n. inr (subst (λ (z : ℤ). z ≤ℤ at) (sym (line_later x d k m)) (falls at (d *ℤ pos m) (fall_most d m n)), falls x (d *ℤ pos k) (fall_most d k n)))
+    (λ p. inl (rises x (d *ℤ pos k) (rise_least d k p), subst (λ (z : ℤ). at ≤ℤ z) (sym (line_later x d k m)) (rises at (d *ℤ pos m) (rise_least d m p))))
 
 pub is_between : (x d : ℤ) (k last : ℕ) → k ≤ last → IsBetween x (x +ℤ d *ℤ pos last) (x +ℤ d *ℤ pos k)
 is_between x d k last up_to =

@@ -19,6 +19,7 @@ use Rattle.worlds.specs.Apart.{distance_compares_by, farthest_square, nearest_sq
 use Rattle.worlds.specs.Blurred.{distance_holds_by}
 use Rattle.blur.specs.Added.{Adds, EndBefore}
 use Rattle.atoms.specs.Gathered.{IsGathered}
+use Rattle.exact.proofs.Truths.{and_false, is_or_false}
 
 -- ---- one part
 
@@ -31,14 +32,6 @@ guarded lo hi t x y same =
           ap (λ b. within lo hi t && b) (same from up_to)
       | inr outside ↦ (λ i. outside i && x) ∙ sym (λ i. outside i && y)
     ]
-
-and_no : (b : Bool) → (b && false) ≡ false
-and_no true = refl
-and_no false = refl
-
-or_no : (b : Bool) → b ≡ (b || false)
-or_no true = refl
-or_no false = refl
 
 -- where the line is told, the places are those along it, and elsewhere there is none
 pub line_places : (lo hi : ℕ) (line : Option Line) (place : ℕ → Option Point) →
@@ -69,7 +62,7 @@ seen_along lo hi a b begins ends told l place tells is test t =
 -- nothing is added where a test never holds in the part
 pub none_added : (lo hi : ℕ) (test : ℕ → Bool) (runs : List Span) → ((t : ℕ) → lo ≤ t → t ≤ hi → test t ≡ false) → Adds (λ t. within lo hi t && test t) runs runs
 none_added lo hi test runs never t =
-    or_no (spans_have runs t) ∙ ap (λ b. spans_have runs t || b) (sym (guarded lo hi t (test t) false (never t) ∙ and_no (within lo hi t)))
+    is_or_false (spans_have runs t) ∙ ap (λ b. spans_have runs t || b) (sym (guarded lo hi t (test t) false (never t) ∙ and_false (within lo hi t)))
 
 pub unseen : (lo hi : ℕ) (told : Option Line) (place : ℕ → Option Point) → TellsPlaces lo hi told place → told ≡ None → (test : Point → Bool)
     → (t : ℕ) → lo ≤ t → t ≤ hi → option_map_or test (place t) false ≡ false

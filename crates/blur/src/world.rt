@@ -3,7 +3,7 @@ ghost use Rattle.std.specs.Prelude.{◌≡◌, ◌≤◌, ◌+◌, ◌<◌, ◌&
 ghost use Rattle.std.proofs.Common.{ap};
 ghost use Rattle.atoms.specs.Asked.{CanAskAtom, CanAskTerm, world_in};
 ghost use Rattle.history.specs.History.{cells_at};
-ghost use Rattle.interpreting.proofs.FewerLemmas.{not_after, not_before, shorter};
+ghost use Rattle.interpreting.proofs.FewerLemmas.{not_after, shorter};
 ghost use Rattle.interpreting.proofs.NameLemmas.{atom_by_names, term_by_names};
 ghost use Rattle.meaning.proofs.LocalityLemmas.{term_same};
 ghost use Rattle.meaning.specs.Reads.{atom_variables};
@@ -15,6 +15,7 @@ ghost use Rattle.tick_set.specs.Ticks.{within};
 ghost use Rattle.worlds.proofs.CallerLemmas.{blurred_sees};
 ghost use Rattle.blur.specs.Named.{blurred_alike};
 ghost use Rattle.blur.specs.World.{blurred_by};
+ghost use Rattle.exact.proofs.Naturals.{at_most_in_turn};
 
 use crate::objects::{BlurredWorld, distance_ticks, region_ticks};
 use atoms::{absence, atom_ticks, value_runs};
@@ -98,7 +99,7 @@ impl Interpreter<IntervalSet> for BlurredWorld<'_> {
     ghost term_narrows = { λ x lo hi from upto begins ends b q env can. record {
       sized = can.sized;
       objects = can.objects;
-      in_range = λ t after before. can.in_range t (not_before lo from t begins after) (not_after hi upto t ends before);
+      in_range = λ t after before. can.in_range t (at_most_in_turn lo from t begins after) (not_after hi upto t ends before);
     } };
 }
 

@@ -6,6 +6,7 @@ use Rattle.std.proofs.lemmas.Bool.{cases_Bool, and_parts, and_from}
 use Rattle.std.proofs.lemmas.Bool.Decides.{Decides-eqb}
 use Rattle.std.proofs.lemmas.Slice.Eq.{bytes_eq-Decides}
 use Rattle.case_table.specs.Rows.{code_of, word_of, are_distinct_rows}
+use Rattle.exact.proofs.Items.{bytes_differ_swap}
 
 here : {X : Type 0} (x y : X) (xs : List X) → x ≡ y → Contains (x ∷ xs) y
 here x y xs e = (0, omega arith, e)
@@ -120,16 +121,6 @@ first_fails f p x xs n =
       | inr fails ↦ (fails, rw fails at n)
     ]
 
-bytes_eq-swap : (x y : List ℕ) → bytes_eq x y ≡ false → bytes_eq y x ≡ false
-bytes_eq-swap x y h =
-    elim (cases_Bool (bytes_eq y x)) [
-      | inl same ↦
-          let e : x ≡ y = sym ((bytes_eq-Decides y x).0 same) in
-          let bad : true ≡ false = sym ((bytes_eq-Decides x y).1 e) ∙ h in
-          cc
-      | inr other ↦ other
-    ]
-
 eqb-swap : (x y : ℕ) → eqb x y ≡ false → eqb y x ≡ false
 eqb-swap x y h =
     elim (cases_Bool (eqb y x)) [
@@ -147,7 +138,7 @@ apart_push (r ∷ rows) code word h w c =
     let front = and_parts (is_none (code_of rows r.0)) (is_none (word_of rows r.1)) parts.0 in
     let other_word = first_fails (λ (s : List ℕ × ℕ). s.1) (λ s. bytes_eq s.0 word) r rows w in
     let other_code = first_fails (λ (s : List ℕ × ℕ). s.0) (λ s. eqb s.1 code) r rows c in
-    let no_word = none_after (λ (s : List ℕ × ℕ). s.1) (λ s. bytes_eq s.0 r.0) rows (word, code) front.0 (bytes_eq-swap r.0 word other_word.0) in
+    let no_word = none_after (λ (s : List ℕ × ℕ). s.1) (λ s. bytes_eq s.0 r.0) rows (word, code) front.0 (bytes_differ_swap r.0 word other_word.0) in
     let no_code = none_after (λ (s : List ℕ × ℕ). s.0) (λ s. eqb s.1 r.1) rows (word, code) front.1 (eqb-swap r.1 code other_code.0) in
     and_from (is_none (code_of (rows ++ (word, code) ∷ []) r.0) && is_none (word_of (rows ++ (word, code) ∷ []) r.1)) (are_distinct_rows (rows ++ (word, code) ∷ []))
     (and_from (is_none (code_of (rows ++ (word, code) ∷ []) r.0)) (is_none (word_of (rows ++ (word, code) ∷ []) r.1)) no_word no_code)

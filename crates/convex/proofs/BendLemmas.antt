@@ -1,10 +1,11 @@
 -- A convex function falls up to a number and rises from there, so it is at most a limit on one stretch.
-use Rattle.std.proofs.Common.{◌≡◌, ℕ, zero, suc, ◌+◌, ◌-◌, ◌<◌, ◌≤◌, ℤ, ◌≤ℤ◌, ◌<ℤ◌, int_le, nat_le, ◌&&◌, [], ◌∷◌, ◌⊎◌, inl, inr, ap, subst, add-one, arith}
+use Rattle.std.proofs.Common.{◌≡◌, ℕ, zero, suc, ◌+◌, ◌-◌, ◌<◌, ◌≤◌, ℤ, ◌≤ℤ◌, ◌<ℤ◌, int_le, nat_le, ◌&&◌, [], ◌∷◌, inl, inr, ap, subst, add-one, arith}
 use Rattle.std.proofs.lemmas.Int.{ints}
-use Rattle.std.proofs.lemmas.Bool.{cases_lt, cases_Bool}
+use Rattle.std.proofs.lemmas.Bool.{cases_lt}
 use Rattle.std.proofs.lemmas.Bool.Decides.{nat_tests}
 use Rattle.exact.specs.Rising.{FallsTo, RisesIn}
 use Rattle.exact.proofs.Convex.{falls, rises}
+use Rattle.exact.proofs.Integers.{int_le_or_lt}
 use Rattle.tick_set.specs.Runs.{IsRuns}
 use Rattle.tick_set.specs.declared.spans.Span.{Span}
 use Rattle.tick_set.specs.declared.spans.Window.{Window}
@@ -36,13 +37,6 @@ pub record LowBetween (f : ℕ → ℤ) (limit : ℤ) (last low high : ℕ) : Ty
   pub high_from : (k : ℕ) → high ≤ k → k ≤ last → limit <ℤ f k
 
 -- ---- falling and rising
-cases_le : (a b : ℤ) → (a ≤ℤ b) ⊎ (b <ℤ a)
-cases_le a b =
-    elim (cases_Bool (int_le a b)) [
-      | inl e ↦ inl (grind (arith, ints, nat_tests))
-      | inr e ↦ inr (grind (arith, ints, nat_tests))
-    ]
-
 module _ (f : ℕ → ℤ) (bends : Bends f) where
   -- it rises at a step where it rises at the one before, and falls where it falls at the next
   rises_next : (k : ℕ) → f k ≤ℤ f (k + 1) → f (k + 1) ≤ℤ f (k + 2)
@@ -87,7 +81,7 @@ module _ (f : ℕ → ℤ) (bends : Bends f) where
   -- between two numbers at which it is at most a limit it is so too
   pub low_between : (limit : ℤ) (i j k : ℕ) → i ≤ j → j ≤ k → f i ≤ℤ limit → f k ≤ℤ limit → f j ≤ℤ limit
   low_between limit i j k l m low_i low_k =
-      elim (cases_le (f j) (f (j + 1))) [
+      elim (int_le_or_lt (f j) (f (j + 1))) [
         | inl rise ↦ let after = rises f j k (rises_from j k rise) j k (omega arith) m (omega arith) in omega (arith, ints)
         | inr fall ↦ let before = falls f (j + 1) (falls_to j (omega (arith, ints))) i j l (omega arith) in omega (arith, ints)
       ]
@@ -115,7 +109,7 @@ module _ (f : ℕ → ℤ) (bends : Bends f) where
   module _ (limit : ℤ) (last first end : ℕ) (ends : AreEnds f limit last first end) where
     high_below : (k : ℕ) → k < first → limit <ℤ f k
     high_below k l =
-        elim (cases_le (f k) limit) [
+        elim (int_le_or_lt (f k) limit) [
           | inl low ↦
               let high = ends.high_before (first - 1) (omega arith) in
               let here = low_between limit k (first - 1) first (omega arith) (omega arith) low ends.low_first in
@@ -125,7 +119,7 @@ module _ (f : ℕ → ℤ) (bends : Bends f) where
 
     high_above : (k : ℕ) → end < k → k ≤ last → limit <ℤ f k
     high_above k l b =
-        elim (cases_le (f k) limit) [
+        elim (int_le_or_lt (f k) limit) [
           | inl low ↦
               let high = ends.high_after (omega arith) in
               let here = low_between limit end (end + 1) k (omega arith) (omega arith) ends.low_end low in

@@ -16,9 +16,7 @@ use Rattle.motion.specs.declared.asked.Asked.TheVariants as which
 use Rattle.motion.specs.Pieces.{changes_for, is_cut_for, ArePieces, ArePiecesFrom}
 use Rattle.courses.specs.Parts.{IsSteadyFrom, asked_each, cut_count_for, epochs_of_each, piece_count, piece_count_for, pieces_for, pieces_of_all}
 use Rattle.courses.proofs.PartLemmas.{IsCommonTo, common_whole, length-asked_each, length-epochs_of_each, in_force_of, some_in_force, some_begun, none_begun, none_cut, first_cut}
-
-count_by-cons : (p : ℕ → Bool) (x : ℕ) (xs : List ℕ) → count_by p (x ∷ xs) ≡ cond (p x) 1 0 + count_by p xs
-count_by-cons p x xs = sum_by-cons (λ x. cond (p x) 1 0) x xs
+use Rattle.exact.proofs.Items.{count_by-cons}
 
 -- numbers that don't pass count nothing
 skipped : (p : ℕ → Bool) (n a m : ℕ) → ((t : ℕ) → a ≤ t → t < a + n → p t ≡ false) → count_by p (range_with_len a (n + m)) ≡ count_by p (range_with_len (a + n) m)

@@ -1,14 +1,15 @@
 -- What the three writes make of the objects of the store.
 use Rattle.std.proofs.Common.{◌≡◌, ℕ, zero, suc, ◌-◌, ◌==◌, Bool, true, false, Option, None, Some, List, [], ◌∷◌, ◌++◌, length, get_or, refl, sym, ap, subst, ◌∙◌, arith, if◌then◌else◌}
-use Rattle.std.specs.Prelude.{is_some, nat_lt, slice_get}
+use Rattle.std.specs.Prelude.{nat_lt, slice_get}
 use Rattle.std.specs.List.{filter, find, list_any, position}
 use Rattle.std.specs.Option.{option_map, option_map_or}
 use Rattle.std.specs.Str.{bytes_eq}
-use Rattle.std.proofs.lemmas.Bool.Decides.{nat_tests}
 use Rattle.std.proofs.lemmas.List.{length-append}
 use Rattle.std.proofs.lemmas.List.Quantifiers.{position-Some}
 use Rattle.std.proofs.lemmas.Option.{same_Some, slice_get-get_or}
 use Rattle.exact.proofs.Lists.{bytes_eq_refl}
+use Rattle.exact.proofs.Items.{none_from_test}
+use Rattle.exact.proofs.Naturals.{differs_before, not_itself}
 use Rattle.motion.specs.Timeline.{Epoch, last_begun, put}
 use Rattle.motion.specs.declared.cell.NamedSet.{NamedSet}
 use Rattle.motion.specs.declared.cell.Place.{Place}
@@ -34,12 +35,6 @@ begins_last earlier p =
     ap (λ n. option_map_or (λ (q : Epoch). q.from) (slice_get (earlier ++ p ∷ []) n) 0) place
     ∙ ap (λ (q : Option Epoch). option_map_or (λ q. q.from) q 0) (pushed_at earlier p)
 
-not_itself : {A : Type 0} (n : ℕ) → (n == n) ≡ false → A
-not_itself n other = absurd (grind (arith, nat_tests))
-
-before_it : (m n : ℕ) → (suc m == suc n) ≡ false → (m == n) ≡ false
-before_it m n other = grind (arith, nat_tests)
-
 -- ---- an object that was there
 
 put_others : (name : List ℕ) (p : Epoch) (objects : List StoredObject) (index i : ℕ) → index_in (is_named name) objects ≡ Some index →
@@ -55,7 +50,7 @@ put_others name p (x ∷ xs) (suc index) zero first other =
 put_others name p (x ∷ xs) (suc index) (suc i) first other =
     let later = at_suc (bytes_eq name x.name) (index_in (is_named name) xs) index first in
     ap (λ b. slice_get (if b then (with_epoch p x ∷ xs) else (x ∷ put_named name p xs)) (suc i)) later.0
-    ∙ put_others name p xs index i later.1 (before_it i index other)
+    ∙ put_others name p xs index i later.1 (differs_before i index other)
 
 known_written : (name : List ℕ) (p : Epoch) (objects : List StoredObject) (id : ℕ) → position (is_named name) (put_named name p objects) ≡ Some id →
     WritesOneObject id p.from objects (put_named name p objects)
@@ -78,7 +73,7 @@ pushed_others : {X : Type 0} (xs : List X) (x : X) (i : ℕ) → (i == length xs
 pushed_others [] x zero other = not_itself 0 other
 pushed_others [] x (suc i) other = refl
 pushed_others (y ∷ ys) x zero other = refl
-pushed_others (y ∷ ys) x (suc i) other = pushed_others ys x i (before_it i (length ys) other)
+pushed_others (y ∷ ys) x (suc i) other = pushed_others ys x i (differs_before i (length ys) other)
 
 new_written : (x : StoredObject) (p : Epoch) (objects : List StoredObject) (id : ℕ) → x.epochs ≡ p ∷ [] → find (is_named x.name) objects ≡ None →
     position (is_named x.name) (objects ++ x ∷ []) ≡ Some id → WritesOneObject id p.from objects (objects ++ x ∷ [])
@@ -96,10 +91,6 @@ new_written x p objects id epochs new at =
 
 -- ---- the three writes
 
-none_found : {X : Type 0} (r : Option X) → is_some r ≡ false → r ≡ None
-none_found None none = refl
-none_found (Some x) none = let e : true ≡ false = none in cc
-
 written_if : (there : Bool) (name : List ℕ) (class : ℕ) (p : Epoch) (objects : List StoredObject) (id : ℕ) →
     list_any (is_named name) objects ≡ there →
     position (is_named name) (if there then put_named name p objects else (objects ++ record { name = name; class = class; epochs = p ∷ [] } ∷ [])) ≡ Some id →
@@ -107,7 +98,7 @@ written_if : (there : Bool) (name : List ℕ) (class : ℕ) (p : Epoch) (objects
 written_if true name class p objects id there at = known_written name p objects id at
 written_if false name class p objects id there at =
     new_written (record { name = name; class = class; epochs = p ∷ [] }) p objects id refl
-    (none_found (find (is_named name) objects) (is_some-find (is_named name) objects ∙ there)) at
+    (none_from_test (find (is_named name) objects) (is_some-find (is_named name) objects ∙ there)) at
 
 -- an epoch of the object of a name, by a store that has it
 abbrev pub IsEpochOf : (name : List ℕ) (now id : ℕ) (old new : List StoredObject) → Type 0

@@ -3,9 +3,10 @@
 use Rattle.std.proofs.Common.{◌≡◌, ℤ, pos, ◌+ℤ◌, ◌-ℤ◌, ◌*ℤ◌, ◌≤ℤ◌, ◌<ℤ◌, subst, ap, sym, ◌∙◌, arith}
 use Rattle.std.proofs.lemmas.Int.{ints}
 use Rattle.exact.proofs.Ring.{part, number, sum, difference, product, same}
+use Rattle.exact.proofs.Integers.{product_least}
 use Rattle.fixed_point.specs.declared.number.Point.{Point}
 use Rattle.geometry.specs.Plane.{square}
-use Rattle.distance_crossing.proofs.Signs.{product_least, product_above, square_least, cancel_least, cancel_above}
+use Rattle.distance_crossing.proofs.Signs.{product_above, square_least, cancel_least, cancel_above}
 
 -- the squared way from the centre to a point, in units of 1 / z
 abbrev pub away : ℤ → ℤ → ℤ → Point → ℤ

@@ -3,6 +3,7 @@ use Rattle.std.proofs.Common.{◌≡◌, ℕ, suc, zero, ◌+◌, ◌-◌, ◌*�
 use Rattle.std.proofs.lemmas.Int.{ints}
 use Rattle.std.proofs.lemmas.Nat.{mul-le}
 use Rattle.exact.proofs.Ring.{part, number, sum, product, same}
+use Rattle.exact.proofs.Integers.{line_later}
 use Rattle.geometry.proofs.Squares.{square_is}
 use Rattle.geometry.specs.Plane.{square}
 use Rattle.linear_crossing.specs.Relative.{Relative, squared_distance_at}
@@ -17,16 +18,12 @@ chord_of_coordinate u d a b =
     (sum (product (number b) (product (part u) (part u))) (product (number a) (product last last)))
     (sum (product (number (a + b)) (product middle middle)) (product (number (a * b * (a + b))) (product (part d) (part d)))) (omega arith)
 
-later : (x d : ℤ) (i a : ℕ) → x +ℤ d *ℤ pos (i + a) ≡ (x +ℤ d *ℤ pos i) +ℤ d *ℤ pos a
-later x d i a =
-    same (sum (part x) (product (part d) (number (i + a)))) (sum (sum (part x) (product (part d) (number i))) (product (part d) (number a))) (omega arith)
-
 -- the square of the coordinate k ticks after the first, and that of the motion's way at each tick, as natural numbers
 abbrev pub square_at : ℤ → ℤ → ℕ → ℕ
 square_at x d k = unsigned_abs (square (x +ℤ d *ℤ pos k))
 
 square_later : (x d : ℤ) (i a : ℕ) → square ((x +ℤ d *ℤ pos i) +ℤ d *ℤ pos a) ≡ pos (square_at x d (i + a))
-square_later x d i a = ap square (sym (later x d i a)) ∙ sym (square_is (x +ℤ d *ℤ pos (i + a)))
+square_later x d i a = ap square (sym (line_later x d i a)) ∙ sym (square_is (x +ℤ d *ℤ pos (i + a)))
 
 chord : (x d : ℤ) (i a b : ℕ)
     → b * square_at x d i + a * square_at x d (i + (a + b)) ≡ (a + b) * square_at x d (i + a) + a * b * (a + b) * unsigned_abs (square d)

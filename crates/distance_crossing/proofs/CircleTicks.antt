@@ -1,15 +1,16 @@
 -- Three points that move along lines: the squared diameter of the least circle round them has no peak, so the ticks at which they fit are consecutive, and lie on the side to which it falls.
-use Rattle.std.proofs.Common.{◌≡◌, ℕ, ◌+◌, ◌<◌, ◌≤◌, Bool, true, false, ℤ, pos, ◌+ℤ◌, ◌-ℤ◌, ◌*ℤ◌, ◌≤ℤ◌, ◌<ℤ◌, int_le, refl, subst, ap, sym, ◌∙◌, ⊎_elim, arith}
+use Rattle.std.proofs.Common.{◌≡◌, ℕ, ◌+◌, ◌<◌, ◌≤◌, Bool, true, false, ℤ, pos, ◌+ℤ◌, ◌-ℤ◌, ◌*ℤ◌, ◌≤ℤ◌, ◌<ℤ◌, refl, subst, ap, sym, ◌∙◌, ⊎_elim, arith}
 use Rattle.std.proofs.lemmas.Int.{ints}
 use Rattle.std.proofs.lemmas.Bool.{cases_lt}
 use Rattle.exact.proofs.Ring.{part, number, sum, difference, product, same}
+use Rattle.exact.proofs.Integers.{above_from_int_test, at_most_from_int_test, at_most_passes, product_least}
 use Rattle.fixed_point.specs.declared.number.Point.{Point}
 use Rattle.geometry.specs.Circle.{squared_width, three_fit}
 use Rattle.geometry.specs.Plane.{square}
 use Rattle.linear_crossing.specs.Moving.{position_after}
 use Rattle.linear_crossing.specs.declared.quad.Line.{Line}
 use Rattle.distance_crossing.specs.LeastCircle.{least_over, least_under}
-use Rattle.distance_crossing.proofs.Signs.{product_least, product_above, cancel_above}
+use Rattle.distance_crossing.proofs.Signs.{product_above, cancel_above}
 use Rattle.distance_crossing.proofs.Centres.{away, room, unit_above, middle_least, middle_above, held_least, held_above}
 use Rattle.distance_crossing.proofs.LeastCircles.{IsLeast, least_is, three_fit-least, scaled_least, scaled_above}
 
@@ -98,15 +99,6 @@ not_above a e h = omega (arith, ints)
 not_both : (a b : ℤ) → b <ℤ a → a ≤ℤ b → ⊥
 not_both a b h g = omega (arith, ints)
 
-at_most : (a b : ℤ) → int_le a b ≡ true → a ≤ℤ b
-at_most a b h = grind (arith, ints)
-
-is_at_most : (a b : ℤ) → a ≤ℤ b → int_le a b ≡ true
-is_at_most a b h = grind (arith, ints)
-
-is_above : (a b : ℤ) → int_le a b ≡ false → b <ℤ a
-is_above a b h = grind (arith, ints)
-
 to_room : (a b : ℤ) → a ≤ℤ b → pos 0 ≤ℤ (b -ℤ pos 1 *ℤ a)
 to_room a b h = omega (arith, ints)
 
@@ -176,13 +168,13 @@ module _ (p q s : Line) where
     fit_at k = three_fit r (position_after p k) (position_after q k) (position_after s k)
 
     within-fit : (k : ℕ) → fit_at k ≡ true → over_at k ≤ℤ (squared_width r *ℤ under_at k)
-    within-fit k h = at_most (over_at k) (squared_width r *ℤ under_at k) (sym (three_fit-least r (position_after p k) (position_after q k) (position_after s k)) ∙ h)
+    within-fit k h = at_most_from_int_test (over_at k) (squared_width r *ℤ under_at k) (sym (three_fit-least r (position_after p k) (position_after q k) (position_after s k)) ∙ h)
 
     fit-within : (k : ℕ) → over_at k ≤ℤ (squared_width r *ℤ under_at k) → fit_at k ≡ true
-    fit-within k h = three_fit-least r (position_after p k) (position_after q k) (position_after s k) ∙ is_at_most (over_at k) (squared_width r *ℤ under_at k) h
+    fit-within k h = three_fit-least r (position_after p k) (position_after q k) (position_after s k) ∙ at_most_passes (over_at k) (squared_width r *ℤ under_at k) h
 
     above-fit : (k : ℕ) → fit_at k ≡ false → (squared_width r *ℤ under_at k) <ℤ over_at k
-    above-fit k h = is_above (over_at k) (squared_width r *ℤ under_at k) (sym (three_fit-least r (position_after p k) (position_after q k) (position_after s k)) ∙ h)
+    above-fit k h = above_from_int_test (over_at k) (squared_width r *ℤ under_at k) (sym (three_fit-least r (position_after p k) (position_after q k) (position_after s k)) ∙ h)
 
     pub fit_between : (i j k : ℕ) → i ≤ j → j ≤ k → fit_at i ≡ true → fit_at k ≡ true → fit_at j ≡ true
     fit_between i j k l m f g =

@@ -8,6 +8,7 @@ use Rattle.case_table.specs.Comparison.{compares, sign_holds}
 use Rattle.case_table.specs.declared.compare.Op.{Op}
 use Rattle.case_table.specs.declared.compare.Op.TheVariants.{Lt, Le, Eq, Ne, Ge, Gt}
 use Rattle.exact.proofs.Ring.{part, number, sum, difference, product, opposite, same}
+use Rattle.exact.proofs.Integers.{above_fails_at_most, above_fails_less, below_from_int_test, below_passes_at_most, below_passes_less, less_by, line_later, not_negative, opposite_above, opposite_least, opposite_most, opposite_rise, product_least, sum_above_by_first, sum_above_by_second}
 use Rattle.geometry.specs.Circle.{squared_width}
 use Rattle.geometry.specs.Distance.{distance_compares}
 use Rattle.geometry.specs.Plane.{square}
@@ -24,32 +25,16 @@ use Rattle.distance_crossing.specs.NearTicks.{are_near, distance_holds_at, is_ne
 use Rattle.distance_crossing.specs.Triples.{IsTripleOf}
 use Rattle.distance_crossing.specs.declared.comparison.Triple.{Triple}
 use Rattle.distance_crossing.proofs.RunLists.{runs_by, triple_by}
-use Rattle.distance_crossing.proofs.Signs.{product_above, product_least, square_least}
+use Rattle.distance_crossing.proofs.Signs.{product_above, square_least}
 
 -- ---- a number that begins at x and changes by d at each tick
-later : (x d : ℤ) (k m : ℕ) → x +ℤ d *ℤ pos (k + m) ≡ (x +ℤ d *ℤ pos k) +ℤ d *ℤ pos m
-later x d k m =
-    same (sum (part x) (product (part d) (number (k + m)))) (sum (sum (part x) (product (part d) (number k))) (product (part d) (number m))) (omega arith)
-
 rise_least : (d : ℤ) (k : ℕ) → pos 0 ≤ℤ d → pos 0 ≤ℤ (d *ℤ pos k)
 rise_least d k p = product_least d (pos k) p (omega (arith, ints))
-
-opposite_rise : (d : ℤ) (k : ℕ) → neg_ℤ d *ℤ pos k ≡ neg_ℤ (d *ℤ pos k)
-opposite_rise d k = same (product (opposite (part d)) (number k)) (opposite (product (part d) (number k))) (omega arith)
-
-opposite_least : (a : ℤ) → a <ℤ pos 0 → pos 0 ≤ℤ neg_ℤ a
-opposite_least a n = omega (arith, ints)
-
-opposite_most : (a : ℤ) → pos 0 ≤ℤ neg_ℤ a → a ≤ℤ pos 0
-opposite_most a p = omega (arith, ints)
 
 fall_most : (d : ℤ) (k : ℕ) → d <ℤ pos 0 → (d *ℤ pos k) ≤ℤ pos 0
 fall_most d k n =
     let P : ℤ → Type 0 = λ z. pos 0 ≤ℤ z in
     opposite_most (d *ℤ pos k) (subst P (opposite_rise d k) (rise_least (neg_ℤ d) k (opposite_least d n)))
-
-above_more : (c x u : ℤ) → c <ℤ x → pos 0 ≤ℤ u → c <ℤ (x +ℤ u)
-above_more c x u l p = omega (arith, ints)
 
 above_less : (c a b u : ℤ) → c <ℤ b → b ≡ a +ℤ u → u ≤ℤ pos 0 → c <ℤ a
 above_less c a b u l e n = omega (arith, ints)
@@ -63,24 +48,21 @@ below_more c a b u l e p = omega (arith, ints)
 above_between : (c x d : ℤ) (k m : ℕ) → c <ℤ x → c <ℤ (x +ℤ d *ℤ pos (k + m)) → c <ℤ (x +ℤ d *ℤ pos k)
 above_between c x d k m first last =
     by_lt_z d (pos 0)
-    (λ n. above_less c (x +ℤ d *ℤ pos k) (x +ℤ d *ℤ pos (k + m)) (d *ℤ pos m) last (later x d k m) (fall_most d m n))
-    (λ p. above_more c x (d *ℤ pos k) first (rise_least d k p))
+    (λ n. above_less c (x +ℤ d *ℤ pos k) (x +ℤ d *ℤ pos (k + m)) (d *ℤ pos m) last (line_later x d k m) (fall_most d m n))
+    (λ p. sum_above_by_first c x (d *ℤ pos k) first (rise_least d k p))
 
 below_between : (c x d : ℤ) (k m : ℕ) → x <ℤ c → (x +ℤ d *ℤ pos (k + m)) <ℤ c → (x +ℤ d *ℤ pos k) <ℤ c
 below_between c x d k m first last =
     by_lt_z d (pos 0)
     (λ n. below_less c x (d *ℤ pos k) first (fall_most d k n))
-    (λ p. below_more c (x +ℤ d *ℤ pos k) (x +ℤ d *ℤ pos (k + m)) (d *ℤ pos m) last (later x d k m) (rise_least d m p))
+    (λ p. below_more c (x +ℤ d *ℤ pos k) (x +ℤ d *ℤ pos (k + m)) (d *ℤ pos m) last (line_later x d k m) (rise_least d m p))
 
 -- further from 0 than c, on one side or the other
 abbrev IsPast : ℤ → ℤ → Type 0
 IsPast c v = (c <ℤ v) ⊎ (v <ℤ neg_ℤ c)
 
-is_less : (a b : ℤ) → int_lt a b ≡ true → a <ℤ b
-is_less a b e = grind (arith, ints)
-
 are_less : (a b u v : ℤ) → (int_lt a b && int_lt u v) ≡ true → (a <ℤ b) × (u <ℤ v)
-are_less a b u v e = let both = and_parts (int_lt a b) (int_lt u v) e in (is_less a b both.0, is_less u v both.1)
+are_less a b u v e = let both = and_parts (int_lt a b) (int_lt u v) e in (below_from_int_test a b both.0, below_from_int_test u v both.1)
 
 past_between : (c x d : ℤ) (k m : ℕ) → stays_past c x d (k + m) ≡ true → IsPast c (x +ℤ d *ℤ pos k)
 past_between c x d k m e =
@@ -126,9 +108,6 @@ squares_apart : (c v : ℤ) → (v -ℤ c) *ℤ (v +ℤ c) ≡ square v -ℤ squ
 squares_apart c v =
     same (product (difference (part v) (part c)) (sum (part v) (part c))) (difference (product (part v) (part v)) (product (part c) (part c))) (omega arith)
 
-less_by : (a b : ℤ) → pos 0 <ℤ (b -ℤ a) → a <ℤ b
-less_by a b l = omega (arith, ints)
-
 square_above : (c v : ℤ) → pos 0 ≤ℤ c → c <ℤ v → square c <ℤ square v
 square_above c v p l =
     let P : ℤ → Type 0 = λ z. pos 0 <ℤ z in
@@ -136,9 +115,6 @@ square_above c v p l =
 
 opposite_square : (v : ℤ) → square (neg_ℤ v) ≡ square v
 opposite_square v = same (product (opposite (part v)) (opposite (part v))) (product (part v) (part v)) (omega arith)
-
-opposite_above : (c v : ℤ) → v <ℤ neg_ℤ c → c <ℤ neg_ℤ v
-opposite_above c v l = omega (arith, ints)
 
 square_below : (c v : ℤ) → pos 0 ≤ℤ c → v <ℤ neg_ℤ c → square c <ℤ square v
 square_below c v p l =
@@ -153,12 +129,6 @@ square_between c x d k last p l e =
     let whole : last ≡ k + (last - k) = omega arith in
     let P : ℕ → Type 0 = λ n. stays_past c x d n ≡ true in
     square_past c (x +ℤ d *ℤ pos k) p (past_between c x d k (last - k) (subst P whole e))
-
-sum_above_by_first : (s u v : ℤ) → s <ℤ u → pos 0 ≤ℤ v → s <ℤ (u +ℤ v)
-sum_above_by_first s u v l p = omega (arith, ints)
-
-sum_above_by_second : (s u v : ℤ) → s <ℤ v → pos 0 ≤ℤ u → s <ℤ (u +ℤ v)
-sum_above_by_second s u v l p = omega (arith, ints)
 
 -- ---- the square of the distance
 -- further apart than c at each of the ticks up to the last; each distance is above a c below 0
@@ -188,34 +158,19 @@ module _ (p q : Line) where
       subst P (seen_is k) (seen_far c last k e positive l)
 
 -- ---- how a distance above c compares with it
-above_Lt : (s v : ℤ) → s <ℤ v → int_lt v s ≡ false
-above_Lt s v l = grind (arith, ints)
-
-above_Le : (s v : ℤ) → s <ℤ v → int_le v s ≡ false
-above_Le s v l = grind (arith, ints)
-
 above_Eq : (s v : ℤ) → s <ℤ v → compares Eq v s ≡ false
 above_Eq s v l = grind (arith, ints, nat_tests)
 
 above_Ne : (s v : ℤ) → s <ℤ v → compares Ne v s ≡ true
 above_Ne s v l = grind (arith, ints, nat_tests)
 
-above_Ge : (s v : ℤ) → s <ℤ v → int_le s v ≡ true
-above_Ge s v l = grind (arith, ints)
-
-above_Gt : (s v : ℤ) → s <ℤ v → int_lt s v ≡ true
-above_Gt s v l = grind (arith, ints)
-
 compares_above : (op : Op) (s v : ℤ) → s <ℤ v → compares op v s ≡ sign_holds op (pos 1)
-compares_above Lt s v l = above_Lt s v l
-compares_above Le s v l = above_Le s v l
+compares_above Lt s v l = above_fails_less s v l
+compares_above Le s v l = above_fails_at_most s v l
 compares_above Eq s v l = above_Eq s v l
 compares_above Ne s v l = above_Ne s v l
-compares_above Ge s v l = above_Ge s v l
-compares_above Gt s v l = above_Gt s v l
-
-not_negative : (c : ℤ) → int_le (pos 0) c ≡ true → pos 0 ≤ℤ c
-not_negative c e = grind (arith, ints)
+compares_above Ge s v l = below_passes_at_most s v l
+compares_above Gt s v l = below_passes_less s v l
 
 distance_above : (op : Op) (c v : ℤ) → (pos 0 ≤ℤ c → square c <ℤ v) → distance_compares op c v ≡ sign_holds op (pos 1)
 distance_above op c v h =

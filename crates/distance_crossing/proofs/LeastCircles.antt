@@ -3,11 +3,12 @@ use Rattle.std.proofs.Common.{◌≡◌, Bool, true, false, ℤ, pos, ◌+ℤ◌
 use Rattle.std.specs.Int.{int_max}
 use Rattle.std.proofs.lemmas.Int.{ints, clamps, by_lt_z}
 use Rattle.exact.proofs.Ring.{part, number, sum, difference, product, same}
+use Rattle.exact.proofs.Integers.{product_least, times_one}
 use Rattle.fixed_point.specs.declared.number.Point.{Point}
 use Rattle.geometry.specs.Circle.{is_wide, largest, squared_width, three_fit}
 use Rattle.geometry.specs.Plane.{square, squared_distance, cross}
 use Rattle.distance_crossing.specs.LeastCircle.{least_over, least_under}
-use Rattle.distance_crossing.proofs.Signs.{product_least, product_above, square_least, cancel_least, cancel_above}
+use Rattle.distance_crossing.proofs.Signs.{product_above, square_least, cancel_least, cancel_above}
 use Rattle.distance_crossing.proofs.Centres.{away, room, excess, Centre, Weights}
 
 -- ---- the points in another order
@@ -464,9 +465,6 @@ pub least_is : (p q s : Point) → IsLeast p q s (least_over p q s) (least_under
 least_is p q s = by_width p q s (is_wide (squared_distance p q) (squared_distance q s) (squared_distance s p)) _ _ _ (longest_least p q s) (corners_least p q s)
 
 -- ---- the fraction tells whether the points fit
-times_one : (w : ℤ) → w *ℤ pos 1 ≡ w
-times_one w = omega (arith, ints)
-
 fit_by : (w : Bool) (l k d width : ℤ) → (if w then int_le l width else int_le k (width *ℤ d)) ≡ int_le (if w then l else k) (width *ℤ (if w then pos 1 else d))
 fit_by true l k d width = ap (λ v. int_le l v) (sym (times_one width))
 fit_by false l k d width = refl

@@ -1,8 +1,7 @@
 -- Motions of which each two are near each other, and motions that fit a circle.
-use Rattle.std.proofs.Common.{◌≡◌, ℕ, ◌+◌, ◌-◌, ◌<◌, ◌≤◌, Bool, true, false, ◌&&◌, ◌||◌, List, [], ◌∷◌, length, All, Option, None, option_to_list, get_or, ℤ, ◌≤ℤ◌, int_le, refl, ap, subst, sym, ◌∙◌, arith}
+use Rattle.std.proofs.Common.{◌≡◌, ℕ, ◌+◌, ◌-◌, ◌<◌, ◌≤◌, Bool, true, false, ◌&&◌, List, [], ◌∷◌, length, All, Option, None, option_to_list, get_or, ℤ, ◌≤ℤ◌, int_le, refl, ap, subst, sym, ◌∙◌, arith}
 use Rattle.std.proofs.lemmas.Bool.{and_parts}
 use Rattle.std.proofs.lemmas.Bool.Decides.{nat_tests}
-use Rattle.std.proofs.lemmas.Int.{ints}
 use Rattle.std.proofs.lemmas.List.Elements.{All-head, All-tail}
 use Rattle.geometry.specs.Circle.{fits, squared_width, three_fit}
 use Rattle.linear_crossing.specs.Moving.{IsInReach, position_after, distance_after}
@@ -16,6 +15,8 @@ use Rattle.distance_crossing.specs.NearTicks.{all_near, are_near, pairs_near, po
 use Rattle.distance_crossing.proofs.LeastCircles.{swapped}
 use Rattle.distance_crossing.proofs.RunLists.{runs_by}
 use Rattle.distance_crossing.proofs.Triangles.{three_pairs}
+use Rattle.exact.proofs.Truths.{and_true, or_false}
+use Rattle.exact.proofs.Integers.{at_most_from_int_test}
 
 -- ---- one more of the motions
 pub rest_in_reach : (rest later : List Line) (l : Line) → rest ≡ l ∷ later → All IsInReach rest → All IsInReach later
@@ -36,14 +37,6 @@ none_one so_far one here this later all e f h = grind (arith, e, f, h)
 
 none_met : (so_far one here this later all : Bool) → false ≡ (so_far && one) → one ≡ (here && this) → (so_far && (this && later)) ≡ (here && all) → (here && all) ≡ false
 none_met so_far one here this later all e f h = grind (arith, e, f, h)
-
-or_false : (b : Bool) → (b || false) ≡ b
-or_false true = refl
-or_false false = refl
-
-and_true : (b : Bool) → (b && true) ≡ b
-and_true true = refl
-and_true false = refl
 
 pub span_has : (m : ℕ → Bool) (s : Span) → IsRuns m (s ∷ []) → (t : ℕ) → within s.lo s.hi t ≡ m t
 span_has m s h t = sym (or_false (within s.lo s.hi t)) ∙ h.ticks t
@@ -203,17 +196,14 @@ fit_pairs r (p ∷ q ∷ s ∷ u ∷ []) k l h =
 fit_pairs r (p ∷ q ∷ s ∷ u ∷ v ∷ rest) k l h = absurd (omega arith)
 
 -- ---- three of the motions that are near in pairs
-at_most : (x y : ℤ) → int_le x y ≡ true → x ≤ℤ y
-at_most x y h = grind (arith, ints)
-
 close_by : (r : ℤ) (p q s : Line) (k : ℕ) → int_le (distance_after p q k) (squared_width r) ≡ true → int_le (distance_after q s k) (squared_width r) ≡ true
     → int_le (distance_after p s k) (squared_width r) ≡ true → ArePositionsClose r p q s k
 close_by r p q s k a b c =
     let P : ℤ → Type 0 = λ z. z ≤ℤ squared_width r in
     record {
-      first = at_most (distance_after p q k) (squared_width r) a;
-      second = at_most (distance_after q s k) (squared_width r) b;
-      third = subst P (swapped (position_after p k) (position_after s k)) (at_most (distance_after p s k) (squared_width r) c);
+      first = at_most_from_int_test (distance_after p q k) (squared_width r) a;
+      second = at_most_from_int_test (distance_after q s k) (squared_width r) b;
+      third = subst P (swapped (position_after p k) (position_after s k)) (at_most_from_int_test (distance_after p s k) (squared_width r) c);
     }
 
 pub close_three : (r : ℤ) (p q s : Line) (k : ℕ) → pairs_near r (p ∷ q ∷ s ∷ []) k ≡ true → ArePositionsClose r p q s k

@@ -1,24 +1,15 @@
 -- For this crate and for the crates above: signs of sums, products and squares of whole numbers.
-use Rattle.std.proofs.Common.{◌≡◌, ℤ, pos, negsuc, ◌+ℤ◌, ◌-ℤ◌, ◌*ℤ◌, neg_ℤ, ◌≤ℤ◌, ◌<ℤ◌, arith}
+use Rattle.std.proofs.Common.{◌≡◌, ℤ, pos, ◌-ℤ◌, ◌*ℤ◌, neg_ℤ, ◌≤ℤ◌, ◌<ℤ◌, arith}
 use Rattle.std.proofs.lemmas.Int.{ints, by_lt_z}
-use Rattle.exact.proofs.Ring.{part, number, sum, difference, product, opposite, same}
+use Rattle.exact.proofs.Ring.{part, product, opposite, same}
+use Rattle.exact.proofs.Integers.{product_least, product_one_less}
 use Rattle.geometry.proofs.Squares.{square_is}
 use Rattle.geometry.specs.Plane.{square}
-
-pub product_least : (a b : ℤ) → pos 0 ≤ℤ a → pos 0 ≤ℤ b → pos 0 ≤ℤ (a *ℤ b)
-product_least (pos m) (pos n) p q = omega (arith, ints)
-product_least (pos m) (negsuc n) p q = absurd (omega (arith, ints))
-product_least (negsuc m) b p q = absurd (omega (arith, ints))
-
-one_less : (a b : ℤ) → a *ℤ b ≡ (a -ℤ pos 1) *ℤ (b -ℤ pos 1) +ℤ (a -ℤ pos 1) +ℤ (b -ℤ pos 1) +ℤ pos 1
-one_less a b =
-    let u = difference (part a) (number 1) in let v = difference (part b) (number 1) in
-    same (product (part a) (part b)) (sum (sum (sum (product u v) u) v) (number 1)) (omega arith)
 
 pub product_above : (a b : ℤ) → pos 0 <ℤ a → pos 0 <ℤ b → pos 0 <ℤ (a *ℤ b)
 product_above a b p q =
     let rest = product_least (a -ℤ pos 1) (b -ℤ pos 1) (omega (arith, ints)) (omega (arith, ints)) in
-    let is = one_less a b in
+    let is = product_one_less a b in
     omega (arith, ints)
 
 pub square_least : (x : ℤ) → pos 0 ≤ℤ square x

@@ -1,10 +1,11 @@
 -- Triangles in whole numbers: the cross product of two sides is at most the product of their lengths, and no side is longer than the diameter of the circle through the corners.
-use Rattle.std.proofs.Common.{◌≡◌, ℕ, ◌+◌, ◌*◌, ◌<◌, ◌≤◌, ⊎_elim, Bool, true, false, ℤ, pos, negsuc, ◌+ℤ◌, ◌-ℤ◌, ◌*ℤ◌, ◌≤ℤ◌, ◌<ℤ◌, int_le, unsigned_abs, if◌then◌else◌, refl, ap, sym, ◌∙◌, subst, arith}
+use Rattle.std.proofs.Common.{◌≡◌, ℕ, ◌+◌, ◌*◌, ◌<◌, ◌≤◌, ⊎_elim, Bool, true, false, ℤ, pos, ◌+ℤ◌, ◌-ℤ◌, ◌*ℤ◌, ◌≤ℤ◌, ◌<ℤ◌, int_le, unsigned_abs, if◌then◌else◌, refl, ap, sym, ◌∙◌, subst, arith}
 use Rattle.std.proofs.Math.Nat.{mul-le-mul_left, mul-lt-mul_of_pos_left}
 use Rattle.std.proofs.lemmas.Bool.{cases_lt}
 use Rattle.std.proofs.lemmas.Int.{ints, clamps, unsigned_abs-mul}
 use borrow.Author.Differences.{up, down}
 use Rattle.exact.proofs.Ring.{part, sum, difference, product, same}
+use Rattle.exact.proofs.Integers.{above_fails_test, at_most_passes, product_least}
 use Rattle.fixed_point.specs.declared.number.Point.{Point}
 use Rattle.geometry.proofs.Squares.{square_is}
 use Rattle.geometry.specs.Circle.{two_fit, three_fit, sides_fit, largest, is_wide, squared_width}
@@ -102,19 +103,8 @@ if_else : (x y z v : Bool) → x ≡ false → v ≡ z → v ≡ (if x then y el
 if_else true y z v e h = absurd (cc)
 if_else false y z v e h = h
 
-product_whole : (a b : ℤ) → pos 0 ≤ℤ a → pos 0 ≤ℤ b → pos 0 ≤ℤ (a *ℤ b)
-product_whole (pos m) (pos n) p q = omega (arith, ints)
-product_whole (pos m) (negsuc n) p q = absurd (omega (arith, ints))
-product_whole (negsuc m) b p q = absurd (omega (arith, ints))
-
 above : (x y : ℤ) → pos 0 ≤ℤ x → pos 0 ≤ℤ y → unsigned_abs y < unsigned_abs x → int_le x y ≡ false
 above x y p q l = grind (arith, ints)
-
-not_at_most : (x y : ℤ) → y <ℤ x → int_le x y ≡ false
-not_at_most x y l = grind (arith, ints)
-
-is_at_most : (x y : ℤ) → x ≤ℤ y → int_le x y ≡ true
-is_at_most x y l = grind (arith, ints)
 
 -- a triangle by the squares of its sides, as whole numbers, and of the cross product
 module _ (a b c area : ℤ) (a_least : pos 0 ≤ℤ a) (b_least : pos 0 ≤ℤ b) (c_least : pos 0 ≤ℤ c)
@@ -136,8 +126,8 @@ module _ (a b c area : ℤ) (a_least : pos 0 ≤ℤ a) (b_least : pos 0 ≤ℤ b
       let P : ℕ → Type 0 = λ m. m < unsigned_abs (a *ℤ b *ℤ c) in
       let Q : ℕ → Type 0 = λ m. unsigned_abs w * (unsigned_abs area * unsigned_abs area) < m in
       above (a *ℤ b *ℤ c) (w *ℤ square area)
-      (product_whole (a *ℤ b) c (product_whole a b a_least b_least) c_least)
-      (product_whole w (square area) p (not_negative (square area) (square_is area)))
+      (product_least (a *ℤ b) c (product_least a b a_least b_least) c_least)
+      (product_least w (square area) p (not_negative (square area) (square_is area)))
       (subst P (sym circle) (subst Q (sym sides) (longer w p l n)))
 
   -- a longest side that is longer than the diameter is refused by either rule
@@ -148,7 +138,7 @@ module _ (a b c area : ℤ) (a_least : pos 0 ≤ℤ a) (b_least : pos 0 ≤ℤ b
       let R : ℤ → Type 0 = λ z. pos 0 ≤ℤ z in
       let long : squared_width r <ℤ largest a b c = subst P e (subst Q f above_it) in
       cases_of (is_wide a b c) (int_le (largest a b c) (squared_width r)) (int_le (a *ℤ b *ℤ c) (squared_width r *ℤ square area))
-      (λ h. not_at_most (largest a b c) (squared_width r) long) (λ h. circle_too_wide (squared_width r) (subst R e p) long h)
+      (λ h. above_fails_test (largest a b c) (squared_width r) long) (λ h. circle_too_wide (squared_width r) (subst R e p) long h)
 
 -- where the longest side is at most the diameter, so is each
 pub sides_most : (a b c l w : ℤ) → l ≡ largest a b c → pos 0 ≤ℤ a → pos 0 ≤ℤ b → pos 0 ≤ℤ c → l ≤ℤ w → unsigned_abs w ≤ 4000000000000
@@ -160,7 +150,7 @@ wide_fits r a b c area w l e f low wide =
     let P : ℤ → Type 0 = λ z. int_le (a +ℤ b +ℤ c -ℤ z) z ≡ true in
     let R : ℤ → Type 0 = λ z. true ≡ int_le l z in
     let S : ℤ → Type 0 = λ z. true ≡ int_le z (squared_width r) in
-    if_then (is_wide a b c) (int_le (largest a b c) (squared_width r)) _ (subst P f (sym wide)) (subst S f (subst R e (sym (is_at_most l w low))))
+    if_then (is_wide a b c) (int_le (largest a b c) (squared_width r)) _ (subst P f (sym wide)) (subst S f (subst R e (sym (at_most_passes l w low))))
 
 pub sharp_fits : (r a b c area w l : ℤ) (v : Bool) → w ≡ squared_width r → l ≡ largest a b c → false ≡ int_le (a +ℤ b +ℤ c -ℤ l) l
     → v ≡ int_le (a *ℤ b *ℤ c) (w *ℤ square area) → v ≡ sides_fit r a b c area
@@ -178,9 +168,9 @@ width_least r w e = let P : ℤ → Type 0 = λ z. pos 0 ≤ℤ z in subst P (sy
 -- ---- triangles that fit
 each_most : (a b c w : ℤ) → largest a b c ≤ℤ w → (int_le a w ≡ true) × (int_le b w ≡ true) × (int_le c w ≡ true)
 each_most a b c w h = (
-  is_at_most a w (omega (arith, ints, clamps)),
-  is_at_most b w (omega (arith, ints, clamps)),
-  is_at_most c w (omega (arith, ints, clamps)),
+  at_most_passes a w (omega (arith, ints, clamps)),
+  at_most_passes b w (omega (arith, ints, clamps)),
+  at_most_passes c w (omega (arith, ints, clamps)),
 )
 
 distance_swap : (p q : Point) → squared_distance p q ≡ squared_distance q p

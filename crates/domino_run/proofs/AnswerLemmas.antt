@@ -8,6 +8,7 @@ use Rattle.line_loop.specs.Machine as loop
 use Rattle.outside.specs.Shelf.{Texts}
 use Rattle.command_text.specs.declared.refusal.Refusal.{Refusal}
 use Rattle.exact.specs.First.{or_else}
+use Rattle.exact.proofs.Truths.{is_or_false}
 use Rattle.command_text.specs.declared.reading.TheConstants.{LINE_LIMIT}
 use Rattle.command_text.specs.Journal.{spelled}
 use Rattle.command_text.specs.Line.{command_in, early_refusal, first_refusal, late_refusal}
@@ -65,10 +66,6 @@ stepped next h new ended told left line before after (fault, next_is, new_is, re
           (λ i. told_state (new_is i) (ended || quit i) (left_is i)),
     )
 
-or_false : (x : Bool) → x ≡ (x || false)
-or_false true = refl
-or_false false = refl
-
 -- a refused line leaves the state, and its reply is the refusal's
 refused : (r : Refusal) (h new : Held) (ended : Bool) (told : Texts) (left : Option Texts) (line before after : List ℕ) →
     refusal_of (base h told) line ≡ Some r → step (base h told) line ≡ (base h told, refusal_line r ++ line_feed) → new ≡ h →
@@ -78,7 +75,7 @@ refused : (r : Refusal) (h new : Held) (ended : Bool) (told : Texts) (left : Opt
 refused r h new ended told left line before after fault step_is new_is left_is said s s_is =
     let b : Base = base h told in
     let on : ended ≡ (ended || is_last b line)
-    = or_false ended ∙ ap (λ e. ended || e) (sym (ap (λ f. is_none f && is_ending (role_of (spelled line))) fault)) in
+    = is_or_false ended ∙ ap (λ e. ended || e) (sym (ap (λ f. is_none f && is_ending (role_of (spelled line))) fault)) in
     let start : RunState = record { base = b; ended = ended } in (
       subst (λ (x : RunState). after ≡ before ++ run_machine.reply x line) (sym s_is)
           (said ∙ ap (λ (t : Base × List ℕ). before ++ t.1) (sym step_is)),

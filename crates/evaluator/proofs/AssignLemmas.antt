@@ -34,6 +34,7 @@ use Rattle.evaluator.proofs.BindingLemmas.{agreeing_key, binding_of-map, key_in-
 use Rattle.evaluator.proofs.GatherLemmas.{any_has-push}
 use Rattle.evaluator.proofs.StretchLemmas.{at_stretch, stretches_all}
 use Rattle.evaluator.proofs.VariableLemmas.{both_variables}
+use Rattle.exact.proofs.Truths.{and_over_or}
 
 module _ (j : (ℕ → ℕ) → Interpretation) (P : (ℕ → ℕ) → RAtom → Env → Type 0) (Q : (ℕ → ℕ) → RTerm → Env → Type 0) (lo hi : ℕ) where
   for_wider : (new old : List (List ℕ)) → IsWider new old → (test : ℕ → Bool) (b : ℕ → ℕ) → IsInFor new test b → IsInFor old test b
@@ -74,10 +75,6 @@ module _ (j : (ℕ → ℕ) → Interpretation) (P : (ℕ → ℕ) → RAtom →
 
 -- ---- run by run
 
-run_step : (w h r : Bool) → ((w && h) || (w && r)) ≡ (w && (h || r))
-run_step true h r = refl
-run_step false h r = refl
-
 module _ {S : Type 0} (member : S → ℕ → Bool) (j : (ℕ → ℕ) → Interpretation) (domains : List (List ℕ)) (lo hi depth : ℕ) (f : ResolvedTree) (x : Env) (runs : List ValueRun) where
   -- the part of one more run behind the others
   pub run_more : (i : ℕ) (run : ValueRun) (parts : List (Table S)) (part : Table S) → i < length runs → run ≡ get_or runs i run →
@@ -87,7 +84,7 @@ module _ {S : Type 0} (member : S → ℕ → Bool) (j : (ℕ → ℕ) → Inter
   run_more i run parts part l at before are b is_in t =
       any_has-push member parts part b t
       ∙ (λ k. before b is_in t k || are.ticks b is_in t k)
-      ∙ run_step (within lo hi t) (run_holds j depth f x hi (take i runs) b t) (within run.span.lo run.span.hi t && sat (j b) f (with_value x depth run.value) hi t)
+      ∙ and_over_or (within lo hi t) (run_holds j depth f x hi (take i runs) b t) (within run.span.lo run.span.hi t && sat (j b) f (with_value x depth run.value) hi t)
       ∙ ap (λ (y : Bool). within lo hi t && y)
       (sym (list_any_more (λ r. run_has t r && sat (j b) f (with_value x depth r.value) hi t) runs i run l
       ∙ ap (λ (r : ValueRun). run_holds j depth f x hi (take i runs) b t || (run_has t r && sat (j b) f (with_value x depth r.value) hi t)) (sym at)))

@@ -24,9 +24,9 @@ use Rattle.evaluator.specs.Keys.{binding_of}
 use Rattle.evaluator.specs.Rows.{reads_upto}
 use Rattle.evaluator.specs.inner.ByBinding.{CanAskHere, adds_no_choice, asks_no_more, is_over, reads_here}
 use Rattle.evaluator.proofs.BindingLemmas.{binding_of-map}
-use Rattle.evaluator.proofs.ReadLemmas.{fewer}
 use Rattle.evaluator.proofs.TickLemmas.{one_choice, reads_of_assignment}
 use Rattle.evaluator.proofs.VariableLemmas.{has_variables}
+use Rattle.exact.proofs.Naturals.{times_at_most}
 
 -- what may be asked where its variables have objects of the domains may be asked at each such binding
 module _ (j : (ℕ → ℕ) → Interpretation) (P : (ℕ → ℕ) → RAtom → Env → Type 0) (Q : (ℕ → ℕ) → RTerm → Env → Type 0) (domains : List (List ℕ)) (lo hi : ℕ) (b : ℕ → ℕ) where
@@ -117,11 +117,11 @@ atom_within k one len e = let f : one * len ≡ len = ap (λ (z : ℕ). z * len)
 assign_within : (k len ticks own cost : ℕ) → 1 * own ≤ cost → k * (len + ticks * own) ≤ k * (len + ticks * cost)
 assign_within k len ticks own cost h =
     let l : own ≤ cost = omega (arith, h) in
-    let m : own * ticks ≤ cost * ticks = fewer own cost ticks l in
+    let m : own * ticks ≤ cost * ticks = times_at_most own cost ticks l in
     let a : ticks * own ≡ own * ticks = grind arith in
     let b : ticks * cost ≡ cost * ticks = grind arith in
     let n : len + ticks * own ≤ len + ticks * cost = omega (arith, m, a, b) in
-    let o : (len + ticks * own) * k ≤ (len + ticks * cost) * k = fewer (len + ticks * own) (len + ticks * cost) k n in
+    let o : (len + ticks * own) * k ≤ (len + ticks * cost) * k = times_at_most (len + ticks * own) (len + ticks * cost) k n in
     let c : k * (len + ticks * own) ≡ (len + ticks * own) * k = grind arith in
     let d : k * (len + ticks * cost) ≡ (len + ticks * cost) * k = grind arith in
     omega (arith, o, c, d)
@@ -155,8 +155,8 @@ part_within false false n m single h = omega arith
 
 product_within : (a b c d : ℕ) → a ≤ c → b ≤ d → a * b ≤ c * d
 product_within a b c d h l =
-    let first : a * b ≤ c * b = fewer a c b h in
-    let second : b * c ≤ d * c = fewer b d c l in
+    let first : a * b ≤ c * b = times_at_most a c b h in
+    let second : b * c ≤ d * c = times_at_most b d c l in
     let e : b * c ≡ c * b = grind arith in
     let g : d * c ≡ c * d = grind arith in
     omega (arith, first, second, e, g)
@@ -198,7 +198,7 @@ nothing_asked k c one vs e =
 asked_less : (k c one len : ℕ) → one ≡ 1 → k ≤ c → k * (one * len) ≤ c * len
 asked_less k c one len e h =
     let l : k * (one * len) ≤ k * len = atom_within k one len e in
-    let m : k * len ≤ c * len = fewer k c len h in
+    let m : k * len ≤ c * len = times_at_most k c len h in
     omega (arith, l, m)
 
 single_still_small : (size : ℕ → ℕ) (vs : List ℕ) (v : ℕ) → size v ≤ 1 → made_single size vs v ≤ 1
@@ -256,14 +256,14 @@ by_keys domains lo hi vars f are h start read i n l m e =
     within_all : (all cost most : ℕ) → all * cost ≤ most → read ≤ start + i * cost → i ≤ n → n ≡ all → read ≤ start + most
     within_all all cost most bound reads_so few same =
         let less : i ≤ all = omega (arith, few, same) in
-        let more : i * cost ≤ all * cost = fewer i all cost less in
+        let more : i * cost ≤ all * cost = times_at_most i all cost less in
         grind (arith, reads_so, more, bound)
 
 -- those of some keys of one variable, each behind all of some others
 pub by_blocks : (domains : List (List ℕ)) (lo hi : ℕ) (vars : List ℕ) (f : ResolvedTree) → vars ≡ variables_of f → is_over (domain_size domains) vars f ≡ true →
     (start read i n m : ℕ) →
     read ≤ start + i * m * reads_here lo hi f → i ≤ n → n * m ≡ choices (domain_size domains) vars → read ≤ start + reads_upto domains lo hi f
-by_blocks domains lo hi vars f are h start read i n m r l e = by_keys domains lo hi vars f are h start read (i * m) (n * m) r (fewer i n m l) e
+by_blocks domains lo hi vars f are h start read i n m r l e = by_keys domains lo hi vars f are h start read (i * m) (n * m) r (times_at_most i n m l) e
 
 -- ---- formulas that have no part
 

@@ -16,7 +16,8 @@ use Rattle.evaluator.specs.Keys.{AreAscendingKeys, AreKeys, has_key}
 use Rattle.evaluator.specs.Rows.{AreRowsWhere}
 use Rattle.evaluator.specs.inner.Filled.{IsFilled, keys_behind}
 use Rattle.evaluator.proofs.BindingLemmas.{key_in-map}
-use Rattle.evaluator.proofs.KeyLemmas.{Rising, all_weaker, flat_map-step, own_ids, rising}
+use Rattle.evaluator.proofs.KeyLemmas.{Rising, flat_map-step, own_ids, rising}
+use Rattle.exact.proofs.Items.{all_weaker}
 
 pub at_key : {X : Type 0} (p : X → Bool) (xs : List X) (i : ℕ) (d : X) → list_all p xs ≡ true → i < length xs → p (get_or xs i d) ≡ true
 at_key p [] i d h l = absurd (omega (arith, l))

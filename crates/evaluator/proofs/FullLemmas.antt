@@ -3,7 +3,6 @@ use Rattle.std.proofs.Common.{◌≡◌, ℕ, zero, suc, ◌+◌, ◌-◌, ◌<�
 use Rattle.std.specs.List.{list_all, range_with_len, sum_by}
 use Rattle.std.specs.List.Sorted.{IsStrictlyIncreasing}
 use Rattle.std.proofs.lemmas.Bool.{and_parts, le-ltb, lt-ltb}
-use Rattle.std.proofs.lemmas.Bool.Decides.{nat_tests}
 use Rattle.std.proofs.lemmas.List.Folds.{list_all-append}
 use Rattle.std.proofs.lemmas.List.Sums.{sum_by-append}
 use Rattle.tick_set.specs.Ticks.{between, within}
@@ -16,6 +15,7 @@ use Rattle.evaluator.specs.Rows.{AreRowsWhere}
 use Rattle.evaluator.specs.inner.Away.{AreAwayFor}
 use Rattle.formula.proofs.CallerLemmas.{variables_same}
 use Rattle.evaluator.proofs.VariableLemmas.{ascending_variables, both_variables, same_variables_twice}
+use Rattle.exact.proofs.Naturals.{below_next}
 
 range_more : (a n : ℕ) → range_with_len a (suc n) ≡ range_with_len a n ++ (a + n) ∷ []
 range_more a zero = ap (λ (z : ℕ). z ∷ []) (let e : a ≡ a + 0 = omega arith in e)
@@ -68,10 +68,6 @@ one_variable (suc (suc (suc (suc v)))) l = absurd (omega (arith, l))
 or_false : (x y : Bool) → y ≡ false → x ≡ (x || y)
 or_false true y e = refl
 or_false false y e = sym e
-
-next_test : (x : Bool) (v n : ℕ) → ((x || nat_lt v n) || (v == n)) ≡ (x || nat_lt v (n + 1))
-next_test true v n = refl
-next_test false v n = grind (arith, nat_tests)
 
 last_test : (x y : Bool) → (x ≡ true → y ≡ true) → (x || y) ≡ y
 last_test true y f = sym (f refl)
@@ -132,7 +128,7 @@ module _ {S : Type 0} (member : S → ℕ → Bool) (domains : List (List ℕ)) 
     vars = vars
         ∙ (λ i. vars_of_both (are.vars i) (sym (one_variable n l) i))
         ∙ both_variables (λ v. has_variable v f || nat_lt v n) (λ v. v == n)
-        ∙ variables_same _ _ (λ v m. next_test (has_variable v f) v n);
+        ∙ variables_same _ _ (λ v m. below_next (has_variable v f) v n);
     frame = same ∙ are.frame;
   }
 

@@ -5,20 +5,13 @@ use Rattle.std.proofs.lemmas.List.Folds.{list_any-append}
 use Rattle.relation.specs.Frames.{frame, frame_of}
 use Rattle.relation.specs.Rows.{Table, table_has}
 use Rattle.evaluator.specs.Gathered.{ShareFrame, some_part_has}
+use Rattle.exact.proofs.Truths.{or_false, or_grouped}
 
 or_comm : (x y : Bool) → (x || y) ≡ (y || x)
 or_comm true true = refl
 or_comm true false = refl
 or_comm false true = refl
 or_comm false false = refl
-
-or_nothing : (x : Bool) → (x || false) ≡ x
-or_nothing true = refl
-or_nothing false = refl
-
-or_assoc : (x y z : Bool) → ((x || y) || z) ≡ (x || (y || z))
-or_assoc true y z = refl
-or_assoc false y z = refl
 
 module _ {S : Type 0} (vars : List ℕ) (domains : List (List ℕ)) (lo hi : ℕ) where
   pub alike_push : (rs : List (Table S)) (r : Table S) → ShareFrame vars domains lo hi rs → r.vars ≡ vars → frame r ≡ frame_of domains lo hi →
@@ -37,7 +30,7 @@ module _ {S : Type 0} (vars : List ℕ) (domains : List (List ℕ)) (lo hi : ℕ
 
 -- one more behind the others
 pub any-push : {X : Type 0} (p : X → Bool) (xs : List X) (x : X) → list_any p (xs ++ x ∷ []) ≡ (list_any p xs || p x)
-any-push p xs x = list_any-append p xs (x ∷ []) ∙ ap (λ (b : Bool). list_any p xs || b) (or_nothing (p x))
+any-push p xs x = list_any-append p xs (x ∷ []) ∙ ap (λ (b : Bool). list_any p xs || b) (or_false (p x))
 
 -- two put together and brought behind the others
 pub any-moved : {X : Type 0} (p : X → Bool) (first second both : X) (rest : List X) → p both ≡ (p first || p second) →
@@ -46,7 +39,7 @@ any-moved p first second both rest e =
     any-push p rest both
     ∙ ap (λ (b : Bool). list_any p rest || b) e
     ∙ or_comm (list_any p rest) (p first || p second)
-    ∙ or_assoc (p first) (p second) (list_any p rest)
+    ∙ or_grouped (p first) (p second) (list_any p rest)
 
 -- one more relation behind the others
 pub any_has-push : {S : Type 0} (member : S → ℕ → Bool) (rs : List (Table S)) (r : Table S) (b : ℕ → ℕ) (t : ℕ) →

@@ -1,5 +1,5 @@
 -- For this crate and for the crates above: all keys of a list of variables.
-use Rattle.std.proofs.Common.{◌≡◌, ℕ, suc, ◌+◌, ◌*◌, ◌<◌, Bool, true, false, nat_lt, List, [], ◌∷◌, ◌++◌, length, get_or, take, append-nil, length-append, refl, sym, ap, ◌∙◌, subst, inl, inr, arith}
+use Rattle.std.proofs.Common.{◌≡◌, ℕ, suc, ◌+◌, ◌*◌, ◌<◌, true, false, nat_lt, List, [], ◌∷◌, ◌++◌, length, get_or, take, append-nil, length-append, refl, sym, ap, ◌∙◌, subst, inl, inr, arith}
 use Rattle.std.specs.List.{flat_map, list_all}
 use Rattle.std.specs.List.Sorted.{IsStrictlyIncreasing}
 use Rattle.std.specs.Str.{bytes_eq}
@@ -14,15 +14,12 @@ use Rattle.relation.specs.Key.{has_id, ids_of_variable, key_below, key_in}
 use Rattle.relation.specs.Order.{keys_over}
 use Rattle.evaluator.specs.Keys.{AreAscendingKeys, AreKeys, has_key}
 use Rattle.evaluator.specs.inner.Filled.{keys_behind}
+use Rattle.exact.proofs.Items.{all_from_at, all_weaker}
 
 -- each number is below all after it
 abbrev pub Rising : List ℕ → Type 0
 Rising [] = Unit {0}
 Rising (x ∷ xs) = (list_all (nat_lt x) xs ≡ true) × Rising xs
-
-all_at : {X : Type 0} (p : X → Bool) (xs : List X) → ((k : ℕ) (d : X) → k < length xs → p (get_or xs k d) ≡ true) → list_all p xs ≡ true
-all_at p [] h = refl
-all_at p (x ∷ xs) h = and_from _ _ (h 0 x (omega arith)) (all_at p xs (λ k d l. h (suc k) d (omega (arith, l))))
 
 pub rising : (xs : List ℕ) → IsStrictlyIncreasing xs → Rising xs
 rising xs up = from_pairs xs (AllPairs-from_increasing xs up)
@@ -30,7 +27,7 @@ rising xs up = from_pairs xs (AllPairs-from_increasing xs up)
     from_pairs : (ys : List ℕ) → ((i j : ℕ) (d : ℕ) → i < j → j < length ys → get_or ys i d < get_or ys j d) → Rising ys
     from_pairs [] h = tt
     from_pairs (y ∷ ys) h = (
-      all_at (nat_lt y) ys (λ k d l. lt-ltb _ _ (h 0 (suc k) d (omega arith) (omega (arith, l)))),
+      all_from_at (nat_lt y) ys (λ k d l. lt-ltb _ _ (h 0 (suc k) d (omega arith) (omega (arith, l)))),
       from_pairs ys (λ i j d l m. h (suc i) (suc j) d (omega (arith, l)) (omega (arith, m))),
     )
 
@@ -70,12 +67,6 @@ ascend_all : (keys : List (List ℕ)) (ids : List ℕ) → AreAscendingKeys keys
 ascend_all keys [] up rise = tt
 ascend_all keys (x ∷ ids) up rise =
     ascend_append x keys (flat_map (λ id. keys_behind id keys) ids) (λ key. below_all_larger x key keys ids rise.0) (ascend_behind x keys up) (ascend_all keys ids up rise.1)
-
-pub all_weaker : {X : Type 0} (p q : X → Bool) → ((x : X) → p x ≡ true → q x ≡ true) → (xs : List X) → list_all p xs ≡ true → list_all q xs ≡ true
-all_weaker p q f [] h = refl
-all_weaker p q f (x ∷ xs) h =
-    let parts : (p x ≡ true) × (list_all p xs ≡ true) = and_parts _ _ h in
-    and_from _ _ (f x parts.0) (all_weaker p q f xs parts.1)
 
 pub own_ids : (ids : List ℕ) → list_all (has_id ids) ids ≡ true
 own_ids [] = refl

@@ -1,5 +1,5 @@
 -- The loops over the keys and the runs of an assignment, and how many looks the parts of a formula take together.
-use Rattle.std.proofs.Common.{◌≡◌, ℕ, ◌+◌, ◌-◌, ◌*◌, ◌<◌, ◌≤◌, Bool, true, false, ◌&&◌, List, [], ◌∷◌, ◌++◌, length, get_or, refl, sym, ap, ◌∙◌, subst, arith}
+use Rattle.std.proofs.Common.{◌≡◌, ℕ, ◌+◌, ◌-◌, ◌*◌, ◌<◌, ◌≤◌, List, [], ◌∷◌, ◌++◌, length, get_or, sym, ap, ◌∙◌, subst, arith}
 use Rattle.formula_shape.specs.Shape as shapes
 use Rattle.formula.specs.declared.tree.RAtom.{RAtom}
 use Rattle.formula.specs.declared.tree.RTerm.{RTerm}
@@ -17,7 +17,7 @@ use Rattle.evaluator.specs.Interpreting.{CanAsk}
 use Rattle.evaluator.specs.Rows.{reads_at_key, reads_upto}
 use Rattle.evaluator.proofs.AssignLemmas.{can_ask_run}
 use Rattle.evaluator.proofs.GatherLemmas.{alike_push}
-use Rattle.evaluator.proofs.ReadLemmas.{fewer}
+use Rattle.exact.proofs.Naturals.{steps_within, times_at_most}
 
 -- ---- looks
 
@@ -30,14 +30,8 @@ most_first old mid all left right e h = omega (arith, e, h)
 pub most_both : (old mid new all left right : ℕ) → all ≡ left + right → mid ≤ old + left → new ≤ mid + right → new ≤ old + all
 most_both old mid new all left right e h l = omega (arith, e, h, l)
 
-pub in_turn : (old mid new : ℕ) → old ≤ mid → mid ≤ new → old ≤ new
-in_turn old mid new h l = omega (arith, h, l)
-
-pub some_steps : (start read i n c : ℕ) → read ≤ start + i * c → i ≤ n → read ≤ start + n * c
-some_steps start read i n c h l = let more : i * c ≤ n * c = fewer i n c l in grind (arith, h, more)
-
 all_steps : (start read i n all c : ℕ) → read ≤ start + i * c → i ≤ n → n ≡ all → read ≤ start + all * c
-all_steps start read i n all c h l e = some_steps start read i all c h (omega (arith, l, e))
+all_steps start read i n all c h l e = steps_within start read i all c h (omega (arith, l, e))
 
 -- those at some of the keys of an assignment's term
 pub keys_within : (domains : List (List ℕ)) (lo hi : ℕ) (vars : List ℕ) (depth : ℕ) (q : RTerm) (f : ResolvedTree) → vars ≡ term_variables q →
@@ -53,7 +47,7 @@ first_look start mid len own more e h = omega (arith, e, h)
 pub later_looks : (start mid new n ticks len own cost each : ℕ) → len ≡ own → each ≡ cost → mid ≤ start + own → n ≤ ticks → new ≤ mid + n * each →
     new ≤ start + (len + ticks * cost)
 later_looks start mid new n ticks len own cost each e s h l m =
-    let more : n * each ≤ ticks * each = fewer n ticks each l in
+    let more : n * each ≤ ticks * each = times_at_most n ticks each l in
     let same : ticks * each ≡ ticks * cost = ap (λ (z : ℕ). ticks * z) s in
     grind (arith, e, h, m, more, same)
 
@@ -72,10 +66,6 @@ key_within domains narrow lo hi vars q f are sizes start mid new n h l m =
     (ap length are) (ap (λ (size : ℕ → ℕ). reads size (hi + 1 - lo) f) sizes) h l m
 
 -- ---- parts
-
-pub none_yet : (w : Bool) → false ≡ (w && false)
-none_yet true = refl
-none_yet false = refl
 
 pub head_frame : {S : Type 0} (old new : Table S) → IsSameHead old new → frame new ≡ frame old
 head_frame old new head = λ i. frame_of (head.domains i) (head.lo i) (head.hi i)

@@ -16,7 +16,8 @@ use Rattle.evaluator.specs.declared.node.Pairing.TheVariants as pairings
 use Rattle.evaluator.specs.Interpreting.{CanAsk}
 use Rattle.evaluator.specs.inner.ByBinding.{CanAskHere, is_over}
 use Rattle.evaluator.specs.inner.Nodes.{changed_at, changed_tree, paired_at, paired_in, paired_tree}
-use Rattle.evaluator.proofs.OperatorLemmas.{always_cut, bounded_cut, complement_cut, cut, eventually_cut, join_cut, next_cut, unite_cut, until_cut}
+use Rattle.evaluator.proofs.OperatorLemmas.{always_cut, bounded_cut, complement_cut, cut, eventually_cut, join_cut, next_cut, until_cut}
+use Rattle.exact.proofs.Truths.{and_over_or}
 
 -- ---- sizes and looks
 
@@ -97,7 +98,7 @@ module _ (lo hi : ℕ) where
 
   pub paired_cut : (o : Pairing) (p q : ℕ → Bool) (t : ℕ) → paired_in o lo hi (cut lo hi p) (cut lo hi q) t ≡ (within lo hi t && paired_at o p q hi t)
   paired_cut pairings.And p q t = join_cut (within lo hi t) (p t) (q t)
-  paired_cut pairings.Or p q t = unite_cut (within lo hi t) (p t) (q t)
+  paired_cut pairings.Or p q t = and_over_or (within lo hi t) (p t) (q t)
   paired_cut (pairings.Until form c) p q t = until_cut lo hi form c p q t
 
 -- ---- what may be asked

@@ -1,5 +1,5 @@
 -- Operators on what is cut to a window, at a tick of the window: nothing after its last tick counts.
-use Rattle.std.proofs.Common.{◌≡◌, ℕ, ◌+◌, ◌≤◌, min, Bool, true, false, not, ◌&&◌, ◌||◌, refl, ap, inl, inr, arith}
+use Rattle.std.proofs.Common.{◌≡◌, ℕ, ◌+◌, ◌≤◌, min, Bool, true, false, not, ◌&&◌, refl, ap, inl, inr, arith}
 use Rattle.std.proofs.lemmas.Bool.{and_from, cases_Bool, le-leb}
 use Rattle.tick_set.specs.Ticks.{AgreeIn, all_in, some_in, within}
 use Rattle.tick_set.specs.Operators.{always_at, eventually_at, next_at}
@@ -18,10 +18,6 @@ complement_cut false x = refl
 pub join_cut : (w x y : Bool) → ((w && x) && (w && y)) ≡ (w && (x && y))
 join_cut true x y = refl
 join_cut false x y = refl
-
-pub unite_cut : (w x y : Bool) → ((w && x) || (w && y)) ≡ (w && (x || y))
-unite_cut true x y = refl
-unite_cut false x y = refl
 
 module _ (lo hi : ℕ) where
   abbrev pub cut : (ℕ → Bool) → ℕ → Bool

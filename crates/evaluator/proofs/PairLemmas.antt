@@ -25,18 +25,13 @@ use Rattle.evaluator.proofs.NodeLemmas.{paired_cut, paired_has, paired_sat}
 use Rattle.evaluator.proofs.OperatorLemmas.{cut}
 use Rattle.evaluator.proofs.TickLemmas.{none_led}
 use Rattle.evaluator.proofs.VariableLemmas.{both_variables}
+use Rattle.exact.proofs.Truths.{and_false, and_swap}
 
 -- ---- AND the other way round
 
 -- the number of a formula's variables
 pub count_of : (p : ℕ → Bool) (f : ResolvedTree) (vars : List ℕ) → ((v : ℕ) → v < 4 → p v ≡ has_variable v f) → vars ≡ variables_in p → length vars ≡ length (variables_of f)
 count_of p f vars same is = ap length (is ∙ variables_same p (λ v. has_variable v f) same)
-
-and_turned : (a b : Bool) → (a && b) ≡ (b && a)
-and_turned true true = refl
-and_turned true false = refl
-and_turned false true = refl
-and_turned false false = refl
 
 or_turned : (a b : Bool) → (a || b) ≡ (b || a)
 or_turned true true = refl
@@ -63,7 +58,7 @@ ordered_alike k pairings.Or f g e = refl
 ordered_alike k (pairings.Until form c) f g e = refl
 
 pub ordered_sat : (j : Interpretation) (x : Env) (e t : ℕ) (p : Pairing) (f g : ResolvedTree) → sat j (ordered_tree p f g) x e t ≡ sat j (paired_tree p f g) x e t
-ordered_sat j x e t p f g = ordered_alike (λ h. sat j h x e t) p f g (and_turned (sat j g x e t) (sat j f x e t))
+ordered_sat j x e t p f g = ordered_alike (λ h. sat j h x e t) p f g (and_swap (sat j g x e t) (sat j f x e t))
 
 pub ordered_has : (v : ℕ) (p : Pairing) (f g : ResolvedTree) → has_variable v (ordered_tree p f g) ≡ has_variable v (paired_tree p f g)
 ordered_has v p f g = ordered_alike (has_variable v) p f g (or_turned (has_variable v g) (has_variable v f))
@@ -120,15 +115,11 @@ most_over lo hi f own all same old new h = subst (λ (ds : List (List ℕ)). new
 
 -- ---- rows
 
-and_none : (a : Bool) → (a && false) ≡ false
-and_none true = refl
-and_none false = refl
-
 nothing_right : (p : Pairing) → needs_right p ≡ true → (lo hi : ℕ) (g h : ℕ → Bool) → ((u : ℕ) → h u ≡ false) → (t : ℕ) → paired_in p lo hi g h t ≡ false
-nothing_right pairings.And needs lo hi g h none t = ap (λ (y : Bool). g t && y) (none t) ∙ and_none (g t)
+nothing_right pairings.And needs lo hi g h none t = ap (λ (y : Bool). g t && y) (none t) ∙ and_false (g t)
 nothing_right pairings.Or needs lo hi g h none t = absurd (let f : false ≡ true = needs in cc)
 nothing_right (pairings.Until form c) needs lo hi g h none t =
-    ap (λ (y : Bool). within lo hi t && y) (none_led form c g h none hi t) ∙ and_none (within lo hi t)
+    ap (λ (y : Bool). within lo hi t && y) (none_led form c g h none hi t) ∙ and_false (within lo hi t)
 
 module _ {S : Type 0} (member : S → ℕ → Bool) (j : (ℕ → ℕ) → Interpretation) (domains : List (List ℕ)) (lo hi : ℕ) (x : Env) (f : ResolvedTree) (other : Table S) where
   -- rows over fewer objects, widened

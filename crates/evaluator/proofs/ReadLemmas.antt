@@ -1,12 +1,10 @@
 -- How many looks some steps take together.
 use Rattle.std.proofs.Common.{◌≡◌, ℕ, ◌+◌, ◌*◌, ◌≤◌, List, length, ap, arith}
 use Rattle.meaning.specs.Reads.{choices, looks}
+use Rattle.exact.proofs.Naturals.{times_at_most}
 
 pub one_more : (n c : ℕ) → (n + 1) * c ≡ n * c + c
 one_more n c = grind arith
-
-pub fewer : (m n c : ℕ) → m ≤ n → m * c ≤ n * c
-fewer m n c h = grind (arith, h)
 
 -- the looks at some of the choices of objects
 pub looks_within : (start read i n : ℕ) (size : ℕ → ℕ) (vs : List ℕ) → read ≤ start + i * length vs → i ≤ n → n ≡ choices size vs → read ≤ start + looks size vs
@@ -14,7 +12,7 @@ looks_within start read i n size vs h l e = within_all (length vs) (choices size
   where
     within_all : (len all : ℕ) → read ≤ start + i * len → i ≤ n → n ≡ all → read ≤ start + all * len
     within_all len all f m same =
-        let more : i * len ≤ n * len = fewer i n len m in
+        let more : i * len ≤ n * len = times_at_most i n len m in
         let are : n * len ≡ all * len = ap (λ (z : ℕ). z * len) same in
         grind (arith, f, more, are)
 

@@ -23,10 +23,12 @@ use Rattle.formula.specs.Tree.{ResolvedTree}
 use Rattle.formula.specs.Value.{with_value}
 use Rattle.meaning.specs.Reads.{atom_variables, choices, looks, made_single, reads, term_variables}
 use Rattle.meaning.specs.Satisfaction.{Interpretation, sat}
-use Rattle.meaning.proofs.LocalityLemmas.{bound_same, same_both, same_either}
+use Rattle.meaning.proofs.LocalityLemmas.{bound_same, same_either}
 use Rattle.evaluator.specs.Interpreting.{CanAsk}
 use Rattle.evaluator.specs.inner.ByBinding.{CanAskHere}
 use Rattle.evaluator.specs.inner.Seen.{last_seen}
+use Rattle.exact.proofs.Naturals.{at_most_itself, sum_within}
+use Rattle.exact.proofs.Truths.{both_and}
 
 -- no window goes so far that a count of 32 bits ends before
 pub last_counted : (n : Option ℕ) (t e : ℕ) → e ≤ LAST_TICK → last_seen (counted n) t e ≡ last_seen n t e
@@ -124,7 +126,7 @@ module _ (near far : ℕ) (most : near ≤ far) where
   same_ends j (shapes.Not f) n is x t to seen = ap not (same_ends j f n is x t to seen)
   same_ends j (shapes.And f g) n is x t to seen =
       let parts = farther_parts (reach f) (reach g) n is in
-      same_both (sat j f x near t) (sat j f x far t) (sat j g x near t) (sat j g x far t)
+      both_and (sat j f x near t) (sat j f x far t) (sat j g x near t) (sat j g x far t)
       (same_ends j f parts.first parts.of_left x t to (nearer t parts.first n parts.left_within seen))
       (same_ends j g parts.second parts.of_right x t to (nearer t parts.second n parts.right_within seen))
   same_ends j (shapes.Or f g) n is x t to seen =
@@ -233,15 +235,9 @@ module _ (j : (ℕ → ℕ) → Interpretation) (P P' : (ℕ → ℕ) → RAtom 
 
 -- ---- looks over fewer ticks
 
-sum_within : (a b m n : ℕ) → a ≤ m → b ≤ n → a + b ≤ m + n
-sum_within a b m n first second = omega (arith, first, second)
-
-same_or_fewer : (n : ℕ) → n ≤ n
-same_or_fewer n = omega arith
-
 reads_fewer : (few many : ℕ) → few ≤ many → (size : ℕ → ℕ) (f : ResolvedTree) → reads size few f ≤ reads size many f
 reads_fewer few many less size (shapes.Truth b) = omega arith
-reads_fewer few many less size (shapes.Atom a) = same_or_fewer (looks size (atom_variables a))
+reads_fewer few many less size (shapes.Atom a) = at_most_itself (looks size (atom_variables a))
 reads_fewer few many less size (shapes.Not f) = reads_fewer few many less size f
 reads_fewer few many less size (shapes.And f g) =
     sum_within (reads size few f) (reads size few g) (reads size many f) (reads size many g) (reads_fewer few many less size f) (reads_fewer few many less size g)
@@ -257,8 +253,8 @@ reads_fewer few many less size (shapes.Assign (d, q) f) =
     let vs = term_variables q in
     let part = reads_fewer few many less (made_single size vs) f in
     mul-le (choices size vs) (length vs + few * reads (made_single size vs) few f) (choices size vs) (length vs + many * reads (made_single size vs) many f)
-    (same_or_fewer (choices size vs))
-    (sum_within (length vs) (few * reads (made_single size vs) few f) (length vs) (many * reads (made_single size vs) many f) (same_or_fewer (length vs))
+    (at_most_itself (choices size vs))
+    (sum_within (length vs) (few * reads (made_single size vs) few f) (length vs) (many * reads (made_single size vs) many f) (at_most_itself (length vs))
     (mul-le few (reads (made_single size vs) few f) many (reads (made_single size vs) many f) less part))
 
 -- those of what is seen of a window

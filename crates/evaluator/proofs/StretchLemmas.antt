@@ -15,6 +15,7 @@ use Rattle.interpreting.specs.declared.value_run.ValueRun.{ValueRun}
 use Rattle.interpreting.specs.ValueRuns.{AreValueRuns, IsRunOf, run_has, value_runs_have}
 use Rattle.evaluator.specs.Stretched.{AreStretches, IsStretch}
 use Rattle.evaluator.proofs.GatherLemmas.{any-push}
+use Rattle.exact.proofs.Truths.{or_false, or_grouped}
 
 -- ---- one stretch
 
@@ -130,21 +131,13 @@ pub record JoinedSoFar (runs : List ValueRun) (i : ℕ) (made : List ValueRun) (
   pub ticks : (t : ℕ) → (value_runs_have made t || run_has t last) ≡ value_runs_have (take (i + 1) runs) t
   pub few : length made ≤ i
 
-or_none : (x : Bool) → (x || false) ≡ x
-or_none true = refl
-or_none false = refl
-
-or_same : (m l r : Bool) → ((m || l) || r) ≡ (m || (l || r))
-or_same true l r = refl
-or_same false l r = refl
-
 pub joined_none : (runs : List ValueRun) (first : ValueRun) (later : List ValueRun) → runs ≡ first ∷ later → JoinedSoFar runs 0 [] first
 joined_none runs first later are = record {
   each = λ value from until all. (
     All-nil (IsStretch false value from until),
     run_is_stretch false value from until first (All-head (IsRunOf value from until) first later (subst (λ (rs : List ValueRun). All (IsRunOf value from until) rs) are all)),
   );
-  ticks = λ t. sym (ap (λ (rs : List ValueRun). value_runs_have (take 1 rs) t) are ∙ or_none (run_has t first));
+  ticks = λ t. sym (ap (λ (rs : List ValueRun). value_runs_have (take 1 rs) t) are ∙ or_false (run_has t first));
   few = omega arith;
 }
 
@@ -179,7 +172,7 @@ joined_longer runs i made last run longer so_far l at same lo hi next = record {
       (own.0, both_are_stretch value from until last run longer same lo hi next own.1 (one_of_all value from until runs (i + 1) run l at all));
   ticks = λ t.
       ap (λ (c : Bool). value_runs_have made t || c) (both_ticks last run longer lo hi next t)
-      ∙ sym (or_same (value_runs_have made t) (run_has t last) (run_has t run))
+      ∙ sym (or_grouped (value_runs_have made t) (run_has t last) (run_has t run))
       ∙ ap (λ (c : Bool). c || run_has t run) (so_far.ticks t)
       ∙ sym (more_ticks runs (i + 1) run l at t);
   few = let f = so_far.few in omega (arith, f);

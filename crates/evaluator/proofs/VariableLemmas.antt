@@ -10,6 +10,7 @@ use Rattle.relation.specs.Frames.{vars_of_both}
 use Rattle.formula.specs.Resolved.{are_distinct}
 use Rattle.relation.specs.Key.{are_known, has_id}
 use Rattle.relation.proofs.UnionLemmas.{distinct_union, few_in_union}
+use Rattle.exact.proofs.Truths.{or_second}
 
 -- a variable of these has a domain
 pub known_one : (domains : List (List ℕ)) (vars : List ℕ) (v : ℕ) → are_known domains vars ≡ true → has_id vars v ≡ true → v < length domains
@@ -94,14 +95,10 @@ ascending_variables p = IsStrictlyIncreasing-filter p (0 ∷ 1 ∷ 2 ∷ 3 ∷ [
     rise (suc (suc zero)) l = let e : 2 < 3 = omega arith in e
     rise (suc (suc (suc k))) l = absurd (omega (arith, l))
 
-or_later : (a b : Bool) → b ≡ true → (a || b) ≡ true
-or_later true b e = refl
-or_later false b e = e
-
 all_kept : (test p : ℕ → Bool) (xs : List ℕ) → ((x : ℕ) → has_id xs x ≡ true → test x ≡ true → p x ≡ true) → list_all p (filter test xs) ≡ true
 all_kept test p [] f = refl
 all_kept test p (x ∷ xs) f =
-    let later : list_all p (filter test xs) ≡ true = all_kept test p xs (λ y h. f y (or_later (x == y) (has_id xs y) h)) in
+    let later : list_all p (filter test xs) ≡ true = all_kept test p xs (λ y h. f y (or_second (x == y) (has_id xs y) h)) in
     elim (cases_Bool (test x)) [
       | inl e ↦ ap (λ (b : Bool). list_all p (if b then x ∷ filter test xs else filter test xs)) e ∙ and_from _ _ (f x (or_left _ _ (eq-eqb x x refl)) e) later
       | inr e ↦ ap (λ (b : Bool). list_all p (if b then x ∷ filter test xs else filter test xs)) e ∙ later

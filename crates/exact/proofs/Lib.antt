@@ -4,3 +4,7 @@ pub mod Convex
 pub mod Halves
 pub mod Lists
 pub mod PaddedLemmas
+pub mod Items
+pub mod Naturals
+pub mod Truths
+pub mod Integers

@@ -1,5 +1,5 @@
 -- Classes and regions that are added leave the answers of queries that fit those before.
-use Rattle.std.proofs.Common.{◌≡◌, ◌∙◌, ℕ, zero, suc, ◌<◌, ◌≤◌, Bool, true, false, not, ◌&&◌, ◌||◌, Option, None, Some, List, [], ◌∷◌, ◌++◌, length, map, refl, sym, ap, append-nil, arith}
+use Rattle.std.proofs.Common.{◌≡◌, ◌∙◌, ℕ, ◌≤◌, Bool, true, false, not, ◌&&◌, ◌||◌, Option, None, Some, List, [], ◌∷◌, ◌++◌, length, map, refl, sym, ap, append-nil, arith}
 use Rattle.std.proofs.lemmas.Bool.{and_parts, false≢true}
 use Rattle.std.proofs.lemmas.Bool.Decides.{nat_tests}
 use Rattle.std.specs.Prelude.{◌==◌, filter, is_some, nat_le, nat_lt, option_and_then, slice_get, slice_index}
@@ -37,6 +37,8 @@ use Rattle.line_meaning.specs.Journal.{attribute_of, regions, regions_of, world,
 use Rattle.line_meaning.proofs.JournalLemmas.{world_more}
 use Rattle.feeds_laws.specs.Targets.{target_of, target_text}
 use Rattle.feeds_laws.proofs.GrowthLemmas.{rows_have_where}
+use Rattle.exact.proofs.Naturals.{below_from_test}
+use Rattle.exact.proofs.Items.{slice_get-append}
 
 -- interpretations that agree give the same truth
 abbrev pub GiveTheSameTruth : Type 0
@@ -78,19 +80,11 @@ same_states v w same states q e b t =
 
 -- ---- A region more
 
-get_early : {X : Type 0} (xs ys : List X) (n : ℕ) → n < length xs → slice_get (xs ++ ys) n ≡ slice_get xs n
-get_early [] ys n h = absurd (omega (arith, h))
-get_early (x ∷ xs) ys zero h = refl
-get_early (x ∷ xs) ys (suc n) h = get_early xs ys n (omega (arith, h))
-
-is_less : (n m : ℕ) → nat_lt n m ≡ true → n < m
-is_less n m h = grind (arith, nat_tests, h)
-
 module _ (c : Catalog) (classes : List ℕ) (regions more : List Region) where
   same_region : (n v : ℕ) → (is_point_variable c classes v && nat_lt n (length regions)) ≡ true → is_in_region (regions ++ more) n ≡ is_in_region regions n
   same_region n v fits =
       let parts = and_parts (is_point_variable c classes v) (nat_lt n (length regions)) fits in
-      let e : slice_get (regions ++ more) n ≡ slice_get regions n = get_early regions more n (is_less n (length regions) parts.1) in
+      let e : slice_get (regions ++ more) n ≡ slice_get regions n = slice_get-append regions more n (below_from_test n (length regions) parts.1) in
       λ i p. option_map_or (λ (region : Region). is_inside region.points p) (e i) false
 
   same_atom : (scope : ℕ → Option ValueKind) (h : Trace) (a : RAtom) → atom_fits c classes (length regions) scope a ≡ true → (x : Env) (t : ℕ) →

@@ -9,6 +9,7 @@ use Rattle.tick_set.specs.Runs.{runs_of, with_tick}
 use Rattle.tick_set.specs.Ticks.{between, listed, within}
 use Rattle.replica.specs.Rows.{run_text, span_text}
 use Rattle.replica.specs.Ticks.{have}
+use Rattle.exact.proofs.Truths.{false_is_and}
 
 abbrev pub Ascend : ℕ → List (ℕ × ℕ) → Type 0
 Ascend least [] = Unit {0}
@@ -139,12 +140,8 @@ have_if : (b : Bool) (s : ℕ × ℕ) (spans : List (ℕ × ℕ)) (t : ℕ) → 
 have_if true s spans t = refl
 have_if false s spans t = refl
 
-none_clipped : (b : Bool) → false ≡ (b && false)
-none_clipped true = refl
-none_clipped false = refl
-
 pub clip_has : (first : ℕ) (spans : List (ℕ × ℕ)) (t : ℕ) → have (clip first spans) t ≡ (nat_le first t && have spans t)
-clip_has first [] t = none_clipped (nat_le first t)
+clip_has first [] t = false_is_and (nat_le first t)
 clip_has first (s ∷ spans) t =
     have_if (nat_le first s.1) (max first s.0, s.1) (clip first spans) t
     ∙ clip_one first s.0 s.1 t (have (clip first spans) t) (have spans t) (clip_has first spans t) (nat_le first s.1) refl

@@ -1,6 +1,6 @@
 -- A copy of a query that is registered goes on having the ticks of its answer.
 use Rattle.std.proofs.Common.{◌≡◌, ◌∙◌, ℕ, ◌≤◌, Bool, true, false, ◌&&◌, not, List, [], ◌∷◌, ◌++◌, length, option_map, Option, None, refl, ap, sym, subst, append-nil, arith, inl, inr}
-use Rattle.std.proofs.lemmas.Bool.{cases_Bool, false≢true}
+use Rattle.std.proofs.lemmas.Bool.{cases_Bool}
 use Rattle.std.proofs.lemmas.Bool.Decides.{nat_tests}
 use Rattle.std.proofs.lemmas.List.Elements.{filter-append}
 use Rattle.std.proofs.lemmas.Slice.Eq.{bytes_eq-Decides}
@@ -36,6 +36,7 @@ use Rattle.feeds_laws.proofs.QuietLemmas.{lines_stay, ok_leads}
 use Rattle.feeds_laws.proofs.ReadingLemmas.{Leads, both_lead, nothing_leads}
 use Rattle.feeds_laws.proofs.RowLemmas.{after_keys, gains, has_at, keys_at, losses, with_rows}
 use Rattle.feeds_laws.proofs.TurningLemmas.{all_turned, turned_all}
+use Rattle.exact.proofs.Items.{bytes_differ_swap}
 
 -- the registrations of a name, of which there is one at most
 abbrev pub own : List ℕ → List Registration → List Registration
@@ -60,12 +61,6 @@ keys_told w named r right =
     all_mapped (IsKey w.history.catalog (length r.query.query.targets)) (HasTargets w.history.catalog)
     (key_targets w.history.catalog named (length r.query.query.targets) right.some right.few)
     (tuples w r.query.query) (tuples_are_keys w r.query.query)
-
-pub flipped : (xs ys : List ℕ) → bytes_eq xs ys ≡ false → bytes_eq ys xs ≡ false
-flipped xs ys differs = elim (cases_Bool (bytes_eq ys xs)) [
-  | inl same ↦ absurd (false≢true (sym differs ∙ (bytes_eq-Decides xs ys).1 (sym ((bytes_eq-Decides ys xs).0 same))))
-  | inr other ↦ other
-]
 
 -- ---- A write
 
@@ -119,7 +114,7 @@ module _ (unions : AnswersAreUnions) (w v : World) (more : List ObjectInfo) (gro
       let c = v.history.catalog in
       let make : List ℕ → Change = λ key. change_of key (holds_for w r.query key) (holds_for v r.query key) now (first_tick r.query.kind r.query.entry now) r.query.expiry in
       subst (λ (t : List ℕ). Leads name t (copy, false) (copy, false)) (sym (all_lines c r.name make (tuples v r.query.query)))
-      (others_stay name is copy r.name right.named (flipped name r.name other) c make (λ key. refl) (tuples v r.query.query) (keys_told v named r right))
+      (others_stay name is copy r.name right.named (bytes_differ_swap name r.name other) c make (λ key. refl) (tuples v r.query.query) (keys_told v named r right))
 
 -- ---- The lines of all registered queries
 
@@ -282,7 +277,7 @@ other_dropped name other differs [] = refl
 other_dropped name other differs (r ∷ live) = elim (cases_Bool (has_name other r)) [
   | inl dropped ↦
       let same : other ≡ r.name = (bytes_eq-Decides other r.name).0 dropped in
-      let apart : has_name name r ≡ false = ap (bytes_eq name) (sym same) ∙ flipped other name differs in
+      let apart : has_name name r ≡ false = ap (bytes_eq name) (sym same) ∙ bytes_differ_swap other name differs in
       rw (dropped, apart) (other_dropped name other differs live)
   | inr kept ↦ rw kept (ap (λ regs. if has_name name r then r ∷ regs else regs) (other_dropped name other differs live))
 ]

@@ -11,6 +11,7 @@ use Rattle.case_table.specs.Rows.{code_of}
 use Rattle.fixed_point.specs.declared.short_text.TheConstants.{WORD_LIMIT}
 use Rattle.ftl_lexer.specs.Cut.{is_word}
 use Rattle.exact.specs.First.{first_that_holds, or_else}
+use Rattle.exact.proofs.Items.{all_joined}
 use Rattle.formula.specs.Resolved.{IsResolved}
 use Rattle.formula.specs.Tree.{ResolvedQuery}
 use Rattle.formula.specs.declared.kind.QueryKind.{QueryKind}
@@ -42,7 +43,7 @@ use Rattle.line_meaning.proofs.JournalLemmas.{clock_more, regions_more, register
 use Rattle.line_meaning.proofs.ReachedLemmas.{none_of_both}
 use Rattle.line_meaning.proofs.RefusalLemmas.{registered_by_fault}
 use Rattle.replica.specs.Text.{is_free_name}
-use Rattle.feeds_laws.proofs.KeyLemmas.{IsNamed, all_joined, all_mapped}
+use Rattle.feeds_laws.proofs.KeyLemmas.{IsNamed, all_mapped}
 
 -- ---- Names
 

@@ -16,20 +16,10 @@ use Rattle.feeds_laws.specs.Targets.{target_of}
 use Rattle.feeds_laws.proofs.KeyLemmas.{IsKey, products_are_keys, target_stays}
 use Rattle.feeds_laws.proofs.RowLemmas.{have_listed}
 use Rattle.feeds_laws.proofs.TurningLemmas.{is_some_now}
+use Rattle.exact.proofs.Truths.{same_truth}
+use Rattle.exact.proofs.Items.{any_and, any_weaker}
 
 -- ---- Tests of lists
-
-pub same_truth : (a b : Bool) → (a ≡ true → b ≡ true) → (b ≡ true → a ≡ true) → a ≡ b
-same_truth true b to from = sym (to refl)
-same_truth false true to from = from refl
-same_truth false false to from = refl
-
-any_more : {X : Type 0} (f g : X → Bool) → ((x : X) → f x ≡ true → g x ≡ true) → (xs : List X) → list_any f xs ≡ true → list_any g xs ≡ true
-any_more f g more [] has = has
-any_more f g more (x ∷ xs) has = elim (or_cases (f x) (list_any f xs) has) [
-  | inl here ↦ or_left (g x) (list_any g xs) (more x here)
-  | inr later ↦ or_right (g x) (list_any g xs) (any_more f g more xs later)
-]
 
 any_agree : (P : List ℕ → Type 0) (f g : List ℕ → Bool) → ((x : List ℕ) → P x → f x ≡ g x) → (xs : List (List ℕ)) → AllByRecursion P xs → list_any f xs ≡ list_any g xs
 any_agree P f g same [] all = refl
@@ -70,7 +60,7 @@ products_more f g grows (v ∷ vs) test has =
     let first : list_any (λ x. list_any (λ later. test (x ∷ later)) (product (map f vs))) (f v) ≡ true =
     sym (any_of_flat test (product (map f vs)) (f v)) ∙ has in
     let inner : list_any (λ x. list_any (λ later. test (x ∷ later)) (product (map g vs))) (f v) ≡ true =
-    any_more (λ x. list_any (λ later. test (x ∷ later)) (product (map f vs))) (λ x. list_any (λ later. test (x ∷ later)) (product (map g vs)))
+    any_weaker (λ x. list_any (λ later. test (x ∷ later)) (product (map f vs))) (λ x. list_any (λ later. test (x ∷ later)) (product (map g vs)))
     (λ x. products_more f g grows vs (λ later. test (x ∷ later))) (f v) first in
     any_of_flat test (product (map g vs)) (g v) ∙ grows v (λ x. list_any (λ later. test (x ∷ later)) (product (map g vs))) inner
 
@@ -107,16 +97,6 @@ rows_have_where test (key ∷ keys) holds from e t =
 abbrev pub AnswersAreUnions : Type 0
 AnswersAreUnions = (w : World) (q : ResolvedQuery) → list_all (λ v. nat_lt v (length q.classes)) q.targets ≡ true → (from e : ℕ) (key : List ℕ) (t : ℕ) →
     rows_have (answer w q from e) (λ k. bytes_eq k key) t ≡ rows_have (full_rows w q from e) (λ b. bytes_eq (tuple_of q b) key) t
-
-any_and : (test : List ℕ → Bool) (always : Bool) (holds : List ℕ → Bool) (xs : List (List ℕ)) →
-    list_any (λ x. test x && (always && holds x)) xs ≡ (always && list_any (λ x. test x && holds x) xs)
-any_and test true holds xs = refl
-any_and test false holds [] = refl
-any_and test false holds (x ∷ xs) = ap (λ b. b || list_any (λ x. test x && (false && holds x)) xs) (never (test x)) ∙ any_and test false holds xs
-  where
-    never : (b : Bool) → (b && false) ≡ false
-    never true = refl
-    never false = refl
 
 module _ (union : AnswersAreUnions) (w : World) (q : ResolvedQuery) (targets : list_all (λ v. nat_lt v (length q.classes)) q.targets ≡ true) (from e t : ℕ) where
   abbrev stands : List ℕ → Bool
@@ -163,7 +143,7 @@ module _ (union : AnswersAreUnions) (w : World) (q : ResolvedQuery) (targets : l
       λ has.
       let x = found new (tuples v q) has in
       let both = and_parts (bytes_eq (target_of d x.key) target) (stands x.key) x.passes in
-      any_more (λ k. bytes_eq k x.key && stands k) new
+      any_weaker (λ k. bytes_eq k x.key && stands k) new
       (λ k passes.
       let same : k ≡ x.key = (bytes_eq-Decides k x.key).0 (and_parts (bytes_eq k x.key) (stands k) passes).0 in
       ap new same ∙ x.passes)

@@ -13,12 +13,9 @@ use Rattle.meaning.specs.Binding.{product}
 use Rattle.replica.specs.Text.{is_free_name, words}
 use Rattle.feeds_laws.specs.Targets.{target_of, target_text}
 use Rattle.feeds_laws.proofs.TextLemmas.{AreTargets, targets_words}
+use Rattle.exact.proofs.Items.{all_joined}
 
 -- ---- Lists
-
-pub all_joined : {A : Type 0} (P : A → Type 0) (xs ys : List A) → AllByRecursion P xs → AllByRecursion P ys → AllByRecursion P (xs ++ ys)
-all_joined P [] ys first later = later
-all_joined P (x ∷ xs) ys first later = (first.0, all_joined P xs ys first.1 later)
 
 pub all_mapped : {A : Type 0} (P Q : A → Type 0) → ((x : A) → P x → Q x) → (xs : List A) → AllByRecursion P xs → AllByRecursion Q xs
 all_mapped P Q more [] all = tt

@@ -33,12 +33,13 @@ use Rattle.replica.specs.Copied.{at_clock}
 use Rattle.replica.specs.Text.{is_free_name}
 use Rattle.replica.specs.declared.copied.Copied.{Copied}
 use Rattle.feeds_laws.proofs.AnswerLemmas.{other_start, other_stop, rows_stay, stop_leads}
-use Rattle.feeds_laws.proofs.CopyLemmas.{AgreesBy, Goes, begun_text, flipped, other_dropped, own, own_added, own_dropped, own_kept, start_goes}
+use Rattle.feeds_laws.proofs.CopyLemmas.{AgreesBy, Goes, begun_text, other_dropped, own, own_added, own_dropped, own_kept, start_goes}
 use Rattle.feeds_laws.proofs.FineLemmas.{registration_right, IsFine, IsRight, is_new, short_is_name, world_stays}
 use Rattle.feeds_laws.proofs.KeyLemmas.{all_mapped}
 use Rattle.feeds_laws.proofs.QuietLemmas.{listing_stays, ok_leads, registrations_stay}
 use Rattle.feeds_laws.proofs.ReadingLemmas.{Leads, both_lead, nothing_leads}
 use Rattle.feeds_laws.proofs.ItemLemmas.{AgreesWith, DataGoes, Laws, agrees_as, data_goes, next, same_clock}
+use Rattle.exact.proofs.Items.{bytes_differ_swap}
 
 -- the copy has the clock
 same_copy : (w : World) (now : ℕ) (regs : List Registration) (copy : Option Copied) → AgreesBy w now regs copy → option_map (at_clock now) copy ≡ copy
@@ -121,7 +122,7 @@ module _ (laws : Laws) (name : List ℕ) (is : is_free_name name ≡ true) (h : 
               (sym (regs_next c (registered j ++ r ∷ []) regs ∙ ap (λ n. own n (registered j ++ r ∷ [])) same ∙ own_added (registered j) r new)) goes.after goes.agrees;
         }
     | inr other ↦
-        let differs : bytes_eq r.name name ≡ false = flipped name r.name other in
+        let differs : bytes_eq r.name name ≡ false = bytes_differ_swap name r.name other in
         record {
           after = copy;
           leads = pair (start_line r.query.kind r.name (clock j)) (answer_text (world j) (clock j) r ++ ok_line) (other_start name is r.name right.named differs copy r.query.kind (clock j))

@@ -18,6 +18,7 @@ use Rattle.feeds_meaning.specs.HeardLaw.{HearsAlike, HearsTheView, is_of_letters
 use Rattle.feeds_meaning.specs.Hub.{Event, Hub, Seated, added, data_command_of, empty_hub, event_by, event_in, has_room, hub_step, hub_step_by, item_of, machine, newcomer, seat_in, seat_of, seated_after, seats_with, taken_of, told_of_event}
 use Rattle.feeds_meaning.specs.View.{item_in, user_view}
 use Rattle.feeds_meaning.proofs.SenderLemmas.{sender_is_of_letters, unheard_for_nobody}
+use Rattle.exact.proofs.Items.{bytes_differ_swap}
 
 -- ---- What is heard of items, one list after another
 
@@ -61,15 +62,6 @@ AreSeats (s ∷ seats) = (is_of_letters s.user ≡ true) × (seat_in seats s.use
 same_user : (u : List ℕ) → bytes_eq u u ≡ true
 same_user u = (bytes_eq-Decides u u).1 refl
 
-other_way : (u v : List ℕ) → bytes_eq u v ≡ false → bytes_eq v u ≡ false
-other_way u v e = elim (cases_Bool (bytes_eq v u)) [
-  | inl same ↦
-      let is : v ≡ u = (bytes_eq-Decides v u).0 same in
-      let bad : true ≡ false = sym ((bytes_eq-Decides u v).1 (sym is)) ∙ e in
-      absurd (cc)
-  | inr other ↦ other
-]
-
 found_first : (seats more : List Seated) (u : List ℕ) (x : Seat) → seat_in seats u ≡ Some x → seat_in (seats ++ more) u ≡ Some x
 found_first [] more u x e = absurd (cc)
 found_first (s ∷ seats) more u x e = elim (cases_Bool (bytes_eq u s.user)) [
@@ -100,7 +92,7 @@ seats_and (t ∷ seats) s h letters e = elim (cases_Bool (bytes_eq s.user t.user
   | inl same ↦ let bad : Some t.seat ≡ None = rw same at e in absurd (cc)
   | inr other ↦
       let later : seat_in seats s.user ≡ None = rw other at e in
-      (h.0, not_last seats s t.user h.1 (other_way s.user t.user other), seats_and seats s h.2 letters later)
+      (h.0, not_last seats s t.user h.1 (bytes_differ_swap s.user t.user other), seats_and seats s h.2 letters later)
 ]
 
 -- by whether the sender has a seat

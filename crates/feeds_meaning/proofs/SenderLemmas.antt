@@ -1,9 +1,7 @@
 -- Who sends a line is of letters, and a line of nobody is told no user; also for the crates above.
-use Rattle.std.proofs.Common.{◌≡◌, ℕ, true, false, Bool, List, [], ◌∷◌, ◌++◌, take, None, Some, Option, refl, sym, ap, ◌∙◌, inl, inr, one-add}
-use Rattle.std.proofs.lemmas.Bool.{cases_Bool}
+use Rattle.std.proofs.Common.{◌≡◌, ℕ, true, false, Bool, List, [], ◌∷◌, ◌++◌, take, None, Some, Option, refl, sym, ap, ◌∙◌}
 use Rattle.std.specs.Fmt.{digits}
 use Rattle.std.specs.Prelude.{if◌then◌else◌, option_map, length, drop}
-use Rattle.std.specs.List.{list_all, prefix_len}
 use Rattle.case_table.specs.Language.{refusal_names}
 use Rattle.ftl_lexer.specs.Forms.{begins_name, continues_name, name_len}
 use Rattle.command_text.specs.Refusals.{refusal_line}
@@ -13,13 +11,7 @@ use Rattle.users.specs.Tagged.{lines_for}
 use Rattle.users.proofs.CallerLemmas.{lines_for_nobody}
 use Rattle.feeds_meaning.specs.HeardLaw.{is_of_letters}
 use Rattle.feeds_meaning.specs.Hub.{unheard}
-
-front_passes : (p : ℕ → Bool) (xs : List ℕ) → list_all p (take (prefix_len p xs) xs) ≡ true
-front_passes p [] = refl
-front_passes p (x ∷ xs) = elim (cases_Bool (p x)) [
-  | inl yes_it ↦ rw (yes_it, one-add, yes_it) (front_passes p xs)
-  | inr other ↦ rw other refl
-]
+use Rattle.exact.proofs.Items.{front_passes}
 
 word_passes : (bytes : List ℕ) → is_of_letters (word_at bytes) ≡ true
 word_passes [] = refl

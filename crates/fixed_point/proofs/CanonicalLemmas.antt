@@ -3,7 +3,6 @@ use Rattle.std.proofs.Common.{◌≡◌, ℕ, ◌+◌, ◌-◌, ◌*◌, ◌/◌
 use Rattle.std.proofs.lemmas.Fmt.{length-decimal-le, decimal_is_IsNumeral}
 use Rattle.std.proofs.lemmas.List.{length-take}
 use Rattle.std.proofs.lemmas.Bool.Decides.{nat_tests}
-use Rattle.std.specs.Char.{digit_value}
 use Rattle.std.specs.Fmt.{decimal}
 use Rattle.std.specs.Int.{is_negative}
 use Rattle.std.specs.List.{suffix_len}
@@ -12,6 +11,7 @@ use Rattle.fixed_point.specs.Canonical.{three_digits, without_last_zeros, fix_te
 use Rattle.fixed_point.specs.Laws.{ReadsPrintedNumber}
 use Rattle.fixed_point.proofs.DecimalLemmas.{decimal_law}
 use Rattle.fixed_point.proofs.DigitLemmas.{digit_of}
+use Rattle.exact.proofs.Naturals.{digit_value_below}
 
 point_length : (digits : List ℕ) → length (decimals_text digits) ≤ length digits + 1
 point_length [] = omega arith
@@ -36,9 +36,6 @@ room_for_sign whole n text is small =
 
 pub ruleset print_steps = (room_for_sign, append-nil, append_assoc)
 
-digit_below : (digit : ℕ) → digit < 10 → digit_value (48 + digit) < 10
-digit_below digit below = omega (arith, digit_of digit below)
-
 -- Three digits without the zeros at their end are up to three digits, and stand for the same thousandths.
 record Shortens (a b c : ℕ) (digits : List ℕ) : Type 0 where
   are : AreDigits 0 3 digits
@@ -48,15 +45,15 @@ record Shortens (a b c : ℕ) (digits : List ℕ) : Type 0 where
 shortened_by : (a b c : ℕ) (no_a no_b no_c : Bool) → a < 10 → b < 10 → c < 10 → (no_a ≡ true → a ≡ 0) → (no_b ≡ true → b ≡ 0) → (no_c ≡ true → c ≡ 0)
     → Shortens a b c (take (3 - cond no_c (1 + cond no_b (1 + cond no_a 1 0) 0) 0) ((48 + a) ∷ (48 + b) ∷ (48 + c) ∷ []))
 shortened_by a b c no_a no_b false ha hb hc ea eb ec = record {
-  are = record { digits = (digit_below a ha, (digit_below b hb, (digit_below c hc, tt))); enough = omega arith; few = omega arith };
+  are = record { digits = (digit_value_below a ha, (digit_value_below b hb, (digit_value_below c hc, tt))); enough = omega arith; few = omega arith };
   valued = omega (arith, digit_of a ha, digit_of b hb, digit_of c hc);
 }
 shortened_by a b c no_a false true ha hb hc ea eb ec = record {
-  are = record { digits = (digit_below a ha, (digit_below b hb, tt)); enough = omega arith; few = omega arith };
+  are = record { digits = (digit_value_below a ha, (digit_value_below b hb, tt)); enough = omega arith; few = omega arith };
   valued = omega (arith, digit_of a ha, digit_of b hb, ec refl);
 }
 shortened_by a b c false true true ha hb hc ea eb ec = record {
-  are = record { digits = (digit_below a ha, tt); enough = omega arith; few = omega arith };
+  are = record { digits = (digit_value_below a ha, tt); enough = omega arith; few = omega arith };
   valued = omega (arith, digit_of a ha, eb refl, ec refl);
 }
 shortened_by a b c true true true ha hb hc ea eb ec = record {

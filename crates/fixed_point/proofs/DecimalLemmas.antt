@@ -1,32 +1,27 @@
 -- For this crate and for the crates above: what is read is a number by its parts, and each such number is read.
-use Rattle.std.proofs.Common.{◌≡◌, ℕ, zero, suc, ◌+◌, ◌*◌, ◌<◌, ◌≤◌, Bool, true, false, cond, eqb, leb, ◌&&◌, List, [], ◌∷◌, ◌++◌, length, take, drop, get_or, Option, Some, None, ℤ, unsigned_abs, refl, ap, subst, sym, ◌∙◌, arith, append_assoc, append-nil, take-append-drop}
+use Rattle.std.proofs.Common.{◌≡◌, ℕ, zero, suc, ◌+◌, ◌*◌, ◌≤◌, Bool, true, false, cond, eqb, leb, ◌&&◌, List, [], ◌∷◌, ◌++◌, length, take, drop, get_or, Option, Some, None, ℤ, unsigned_abs, refl, ap, subst, sym, ◌∙◌, arith, append_assoc, append-nil, take-append-drop}
 use Rattle.std.proofs.lemmas.Option.{cond_some, same_Some, none-some}
 use Rattle.std.proofs.lemmas.List.{nil_from_length}
 use Rattle.std.proofs.lemmas.Bool.Decides.{nat_tests}
 use Rattle.std.proofs.Math.Seq.{take-append_seam, drop-append_seam}
-use Rattle.std.specs.Char.{is_ascii_digit, digit_value}
+use Rattle.std.specs.Char.{is_ascii_digit}
 use Rattle.std.specs.Fmt.{sign_text}
 use Rattle.std.specs.List.{prefix_len}
 use Rattle.std.specs.Str.Parse.{AllDigits, digits_value}
 use Rattle.exact.specs.Options.{◌>>=◌}
+use Rattle.exact.proofs.Naturals.{is_digit_by_value}
+use Rattle.exact.proofs.Truths.{both_true}
+use Rattle.exact.proofs.Items.{bind_some}
 use Rattle.fixed_point.specs.Decimal.{digits_at, decimals_value, decimals_of, unsigned_thousandths, with_sign, thousandths_of, AreDigits, decimals_text, IsDecimal}
 use Rattle.fixed_point.specs.Laws.{ReadsEachDecimal}
 use Rattle.fixed_point.proofs.DigitLemmas.{digits_in_front}
 
 -- ---- What is read is a number.
 
--- where a step has an answer, so does the first part
-bind_some : {A B : Type 0} (o : Option A) (f : A → Option B) (y : B) → (o >>= f) ≡ Some y → (x : A) × (o ≡ Some x) × (f x ≡ Some y)
-bind_some None f y is = absurd (none-some y is)
-bind_some (Some x) f y is = (x, refl, is)
-
 -- where a guarded step has an answer, the guard holds
 guarded : {A : Type 0} (b : Bool) (o : Option A) (y : A) → cond b o None ≡ Some y → (b ≡ true) × (o ≡ Some y)
 guarded true o y is = (refl, is)
 guarded false o y is = absurd (none-some y is)
-
-both_true : (a b : Bool) → (a && b) ≡ true → (a ≡ true) × (b ≡ true)
-both_true a b is = grind arith
 
 -- what is split off is digits, and nothing is lost
 record Splits (most : ℕ) (text : List ℕ) (parts : List ℕ × List ℕ) : Type 0 where
@@ -135,13 +130,10 @@ decimal_is limit text value is =
 record IsNoDigit (text : List ℕ) : Type 0 where
   none : prefix_len is_ascii_digit text ≡ 0
 
-digit_is : (byte : ℕ) → digit_value byte < 10 → is_ascii_digit byte ≡ true
-digit_is byte below = grind (arith, nat_tests)
-
 count_of_digits : (digits rest : List ℕ) → AllDigits 10 digits → IsNoDigit rest → prefix_len is_ascii_digit (digits ++ rest) ≡ length digits
 count_of_digits [] rest are ends = ends.none
 count_of_digits (digit ∷ digits) rest are ends =
-    ap (λ b. cond b (1 + prefix_len is_ascii_digit (digits ++ rest)) 0) (digit_is digit are.0)
+    ap (λ b. cond b (1 + prefix_len is_ascii_digit (digits ++ rest)) 0) (is_digit_by_value digit are.0)
     ∙ ap (λ n. 1 + n) (count_of_digits digits rest are.1 ends) ∙ omega arith
 
 -- digits are split off, whatever follows that is no digit

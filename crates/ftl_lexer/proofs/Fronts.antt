@@ -17,8 +17,10 @@ use Rattle.ftl_lexer.specs.declared.kinds.Kind.TheVariants.{Number, Text, Sym}
 use Rattle.ftl_lexer.specs.Forms.{is_blank, begins_name, continues_name, is_quote, name_len, digits_len, fraction_len, number_len, text_len, word_kind, single_symbol, token_at}
 use Rattle.ftl_lexer.specs.Cut.{cut, put_before, is_word, is_number, has_no_quote, IsQuoted, stands_alone}
 use Rattle.ftl_lexer.proofs.Steps.{none_is_some, begins_continues}
-use Rattle.ftl_lexer.proofs.Shapes.{text_len_at, some_is, all_pass}
+use Rattle.ftl_lexer.proofs.Shapes.{text_len_at, some_is}
 use borrow.Author.Tests.{ltb-true}
+use Rattle.exact.proofs.Truths.{true_from_not}
+use Rattle.exact.proofs.Items.{front_passes}
 
 -- ---- bytes of different kinds
 
@@ -128,12 +130,8 @@ cut_number (b ∷ bytes) rest h d f =
 
 -- ---- texts
 
-not_false : (b : Bool) → not b ≡ false → b ≡ true
-not_false true h = refl
-not_false false h = cc
-
 stops_at_quote : (bytes : List ℕ) → position_or_len is_quote bytes < length bytes → is_quote (get_or bytes (position_or_len is_quote bytes) 0) ≡ true
-stops_at_quote bytes h = not_false _ (prefix_len_stops (λ b. not (is_quote b)) bytes 0 h)
+stops_at_quote bytes h = true_from_not _ (prefix_len_stops (λ b. not (is_quote b)) bytes 0 h)
 
 pub text_len_append : (bytes rest : List ℕ) (n : ℕ) → text_len bytes ≡ Some n → text_len (bytes ++ rest) ≡ Some n
 text_len_append bytes rest n h =
@@ -186,7 +184,7 @@ inside_quotes bytes h =
           ∙ (take_more bytes (position_or_len is_quote bytes) 0 within
           ∙ ap (λ b. take (position_or_len is_quote bytes) bytes ++ b ∷ []) stop) in
           subst (λ n. (bytes ≡ take n bytes ++ 34 ∷ []) × IsTrue (has_no_quote (take n bytes)) × (0 < length bytes)) inside
-          (split, all_pass (λ b. not (is_quote b)) bytes, omega arith)
+          (split, front_passes (λ b. not (is_quote b)) bytes, omega arith)
       | inr none ↦ absurd (none_is_some (rw none at h))
     ]
 

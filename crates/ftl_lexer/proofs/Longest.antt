@@ -25,6 +25,7 @@ use Rattle.ftl_lexer.proofs.Steps.{none_is_some, then_part, else_part, len_is, b
 use Rattle.ftl_lexer.proofs.Shapes.{prefix_len_take, tokens_have_forms}
 use Rattle.ftl_lexer.proofs.Fronts.{quote_is, begins_with_digit, token_number, token_quote, text_len_append}
 use Rattle.ftl_lexer.proofs.Spans.{spans_ascend, gaps_are_blank}
+use Rattle.exact.proofs.Truths.{false_from_not}
 
 -- ---- a front of which all passes
 
@@ -150,10 +151,6 @@ symbol_is : (word : List ℕ) (code : ℕ) → code_of symbols word ≡ Some cod
 unfolding symbols
 symbol_is word code is = row_is is_symbol symbols word code refl is
 
-is_not : (b : Bool) → not b ≡ true → b ≡ false
-is_not true h = let bad : false ≡ true = h in absurd (cc)
-is_not false h = refl
-
 pair_len : (first : ℕ) (found : Option ℕ) (code : ℕ) (kind : Kind) (len : ℕ) → found ≡ Some code
     → option_map_or {U = Option (Kind × ℕ)} (λ code. Some (Sym code, 2)) found (single_symbol first) ≡ Some (kind, len) → 2 ≡ len
 pair_len first None code kind len is h = absurd (none_is_some is)
@@ -174,7 +171,7 @@ longest_symbol (suc zero) b (c ∷ bytes) code kind len within is found =
     let digit = and_parts (not (is_ascii_digit b)) _ name.1 in
     let quote = and_parts (not (is_quote b)) _ digit.1 in
     let two : 2 ≡ len = pair_len b (code_of symbols (b ∷ c ∷ [])) code kind len is
-    (at_symbol b (c ∷ bytes) kind len (is_not (begins_name b) name.0) (is_not (is_ascii_digit b) digit.0) (is_not (is_quote b) quote.0) found) in
+    (at_symbol b (c ∷ bytes) kind len (false_from_not (begins_name b) name.0) (false_from_not (is_ascii_digit b) digit.0) (false_from_not (is_quote b) quote.0) found) in
     omega arith
 longest_symbol (suc (suc n)) b bytes code kind len within is found =
     let front : List ℕ = take (suc (suc n)) bytes in

@@ -1,7 +1,7 @@
 -- For this crate and for the crates above: each token has the form of its kind.
 use Rattle.std.proofs.Common.{◌≡◌, ℕ, zero, suc, ◌+◌, ◌-◌, ◌<◌, List, [], ◌∷◌, Option, Some, None, length, drop, take, Bool, true, false, not, refl, sym, ◌∙◌, ap, subst, arith, inl, inr, eqb, ltb, add-zero, ne_eqb, eq-eqb, lt-ltb, Ok, Err, Result, map}
 use Rattle.std.specs.Prelude.{option_map, option_and_then, slice_get}
-use Rattle.std.specs.List.{prefix_len, position_or_len, list_all}
+use Rattle.std.specs.List.{prefix_len, position_or_len}
 use Rattle.std.specs.Option.{option_map_or}
 use Rattle.std.specs.Char.{is_ascii_digit}
 use Rattle.std.proofs.lemmas.Bool.{cases_Bool, and_from}
@@ -21,6 +21,7 @@ use Rattle.ftl_lexer.proofs.Cuts.{bare, cut_is}
 use Rattle.std.specs.Result.{result_ok, result_unwrap_or}
 use borrow.Author.Tests.{ltb-true}
 use Rattle.ftl_lexer.proofs.Steps.{then_part, else_part, none_is_some, begins_continues, number_len_within, prefix_len_first}
+use Rattle.exact.proofs.Items.{front_passes}
 
 -- ---- how many pass, in a front that is long enough
 
@@ -41,14 +42,6 @@ prefix_len_take p (b ∷ bytes) more =
 prefix_len_front : (p : ℕ → Bool) (bytes : List ℕ) → prefix_len p (take (prefix_len p bytes) bytes) ≡ prefix_len p bytes
 prefix_len_front p bytes = rw add-zero at (prefix_len_take p bytes 0)
 
-pub all_pass : (p : ℕ → Bool) (bytes : List ℕ) → list_all p (take (prefix_len p bytes) bytes) ≡ true
-all_pass p [] = refl
-all_pass p (b ∷ bytes) =
-    elim (cases_Bool (p b)) [
-      | inl passes ↦ rw (passes, one-add, passes) (all_pass p bytes)
-      | inr fails ↦ rw fails refl
-    ]
-
 -- ---- the forms
 
 word_form : (word : List ℕ) (found : Option ℕ) → is_word word ≡ true → code_of reserved_words word ≡ found
@@ -57,7 +50,7 @@ word_form word None h e = (h, e)
 word_form word (Some code) h e = e
 
 word_is : (b : ℕ) (bytes : List ℕ) → begins_name b ≡ true → is_word (take (name_len (b ∷ bytes)) (b ∷ bytes)) ≡ true
-word_is b bytes h = rw (begins_continues b h, one-add) (and_from (begins_name b) _ h (all_pass continues_name bytes))
+word_is b bytes h = rw (begins_continues b h, one-add) (and_from (begins_name b) _ h (front_passes continues_name bytes))
 
 fraction_len_take : (bytes : List ℕ) → fraction_len (take (fraction_len bytes) bytes) ≡ fraction_len bytes
 fraction_len_take [] = refl

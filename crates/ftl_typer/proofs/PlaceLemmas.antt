@@ -10,6 +10,7 @@ use Rattle.std.proofs.lemmas.Bool.Decides.{Decides-int_eq, nat_tests}
 use Rattle.std.proofs.lemmas.List.{length-map}
 use Rattle.std.proofs.lemmas.List.Quantifiers.{position-Some}
 use Rattle.exact.proofs.Lists.{bytes_eq_true}
+use Rattle.exact.proofs.Naturals.{eqb-suc}
 use Rattle.geometry.specs.Region.{Region}
 use Rattle.motion.specs.declared.cell.AttrKind.{AttrKind}
 use Rattle.history.specs.Catalog.{Catalog, ClassInfo, class_number}
@@ -164,9 +165,6 @@ kinds_of vs d = option_map (λ v. kind_where (is_kind_of_text v.kind)) (slice_ge
 abbrev pub bounds_of : List Assigned → ℕ → ℤ → Bool
 bounds_of vs d bound = option_map_or (λ v. int_eq bound (pos v.bound)) (slice_get vs d) false
 
-next_place : (m n : ℕ) → eqb (suc m) (suc n) ≡ eqb m n
-next_place m n = grind (arith, nat_tests)
-
 past_first : (n : ℕ) → eqb 0 (suc n) ≡ false
 past_first n = grind (arith, nat_tests)
 
@@ -179,7 +177,7 @@ item_at_end [] v zero = refl
 item_at_end [] v (suc e) = sym (ap (λ (b : Bool). cond b (Some v) None) (past_end e))
 item_at_end (x ∷ vs) v zero = sym (ap (λ (b : Bool). cond b (Some v) (Some x)) (past_first (length vs)))
 item_at_end (x ∷ vs) v (suc e) =
-    item_at_end vs v e ∙ sym (ap (λ (b : Bool). cond b (Some v) (slice_get vs e)) (next_place e (length vs)))
+    item_at_end vs v e ∙ sym (ap (λ (b : Bool). cond b (Some v) (slice_get vs e)) (eqb-suc e (length vs)))
 
 kind_of_either : (b text : Bool) (v : Assigned) (r : Option Assigned) → is_kind_of_text v.kind ≡ text →
     option_map (λ (w : Assigned). kind_where (is_kind_of_text w.kind)) (cond b (Some v) r)

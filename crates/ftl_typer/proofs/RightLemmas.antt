@@ -48,6 +48,7 @@ use Rattle.ftl_typer.specs.Resolved.{region_place, resolved_atom, resolved_formu
 use Rattle.ftl_typer.specs.Scope.{NameScope, assigned, bound_in_range, has_no_parts, has_text, is_bare, is_kind_of_text, is_misplaced_text, is_no_object, is_no_point, is_past_range, is_point, is_static, is_text_kind, is_text_unit, is_unknown, is_value, is_variable, lacks_attribute, named_attribute_kind, named_term_kind, resolved_factor, resolved_term, resolved_unit, scope_with, variable_number, with_assigned}
 use Rattle.ftl_typer.proofs.FaultLemmas.{none_if, parts_of_none}
 use Rattle.ftl_typer.proofs.PlaceLemmas.{AreThere, attribute_is, bounds_more, bounds_of, kind_where, kinds_more, kinds_of, numbers_of, place_below, point_is, some_there, value_bound_is, value_kind_is, variable_below}
+use Rattle.exact.proofs.Truths.{both_false, second_false}
 
 -- ---- tests
 
@@ -60,14 +61,6 @@ value_known : (a b : Bool) → (not a && not b) ≡ false → a ≡ false → b 
 value_known true b known value = absurd (true≢false value)
 value_known false true known value = refl
 value_known false false known value = absurd (true≢false known)
-
-second_false : (a b : Bool) → a ≡ true → (a && b) ≡ false → b ≡ false
-second_false true b first both = both
-second_false false b first both = absurd (false≢true first)
-
-neither : (a b : Bool) → (a || b) ≡ false → (a ≡ false) × (b ≡ false)
-neither true b h = absurd (true≢false h)
-neither false b h = (refl, h)
 
 one_of : (a : Bool) → (a || false) ≡ true → a ≡ true
 one_of true h = refl
@@ -258,7 +251,7 @@ module _ (c : Catalog) (regions : List Region) (from : List FromPart) (there : A
     numbers_sum at (f ∷ fs) h none =
         let behind = at + length (unit_names f.unit) in
         let parts = parts_of_none (unit_faults s at f.unit) (factors_faults s behind fs) h in
-        let texts = neither (is_text_unit s f.unit) (list_any (λ (g : Signed). is_text_unit s g.unit) fs) none in
+        let texts = both_false (is_text_unit s f.unit) (list_any (λ (g : Signed). is_text_unit s g.unit) fs) none in
         ap (λ (k : Option ValueKind). fold fits.kind_of_sum (fits.kind_of_sum number k) (map (fits.factor_kind c numbers (kinds_of vs)) (map (resolved_factor s) fs)))
         (factor_number at f parts.0 texts.0)
         ∙ numbers_sum behind fs parts.1 texts.1
@@ -274,7 +267,7 @@ module _ (c : Catalog) (regions : List Region) (from : List FromPart) (there : A
     factors_kind_is at (f ∷ fs) false h some is bare =
         let behind = at + length (unit_names f.unit) in
         let parts = parts_of_none (unit_faults s at f.unit) (factors_faults s behind fs) h in
-        let texts = neither (is_text_unit s f.unit) (list_any (λ (g : Signed). is_text_unit s g.unit) fs) is in
+        let texts = both_false (is_text_unit s f.unit) (list_any (λ (g : Signed). is_text_unit s g.unit) fs) is in
         ap (λ (k : Option ValueKind). fold fits.kind_of_sum k (map (fits.factor_kind c numbers (kinds_of vs)) (map (resolved_factor s) fs)))
         (factor_number at f parts.0 texts.0)
         ∙ numbers_sum behind fs parts.1 texts.1

@@ -1,10 +1,9 @@
 -- How many names and terms are written in a formula whose sizes are within their limits, and the sizes of a query that is
 -- within all of them.
 use Rattle.std.proofs.Common.{◌≡◌, ℕ, ◌*◌, ◌≤◌, Bool, true, false, List, [], ◌∷◌, length, None, suc, ℤ, refl, ap, ◌∙◌, arith, length-append}
-use Rattle.std.specs.Prelude.{nat_lt}
 use Rattle.std.specs.List.{AllByRecursion, flat_map}
-use Rattle.std.proofs.lemmas.Bool.Decides.{nat_tests}
 use Rattle.exact.specs.First.{first_that_holds}
+use Rattle.exact.proofs.Naturals.{at_most_from_not_below}
 use Rattle.formula_shape.specs.Shape as shapes
 use Rattle.formula_shape.specs.Sizes.{nodes, depth, nesting}
 use Rattle.ftl_parser.specs.declared.fault.Size.{Size}
@@ -96,9 +95,6 @@ none_hold : (tests : List (Size × Bool)) → first_that_holds tests ≡ None �
 none_hold [] h = tt
 none_hold (test ∷ tests) h = let parts = none_holds test.0 test.1 tests h in (parts.0, none_hold tests parts.1)
 
-within : (limit n : ℕ) → nat_lt limit n ≡ false → n ≤ limit
-within limit n h = grind (arith, nat_tests, h)
-
 pub record IsSmall (q : QueryTree) : Type 0 where
   pub few_variables : length q.from ≤ OBJECT_LIMIT
   pub few_objects : objects q.formula ≤ OBJECT_LIMIT
@@ -112,12 +108,12 @@ pub small_query : (q : QueryTree) → first_too_large false q ≡ None → IsSma
 small_query q h =
     let none = none_hold (passed false q) h in
     record {
-      few_variables = within OBJECT_LIMIT (length q.from) none.0;
-      few_objects = within OBJECT_LIMIT (objects q.formula) none.1.0;
-      few_nested = within NESTING_LIMIT (nesting q.formula) none.1.1.0;
-      few_nodes = within NODE_LIMIT (nodes q.formula) none.1.1.1.0;
-      low = within DEPTH_LIMIT (depth q.formula) none.1.1.1.1.0;
-      few_factors = within FACTOR_LIMIT (factors q.formula) none.1.1.1.1.1.1.0;
+      few_variables = at_most_from_not_below OBJECT_LIMIT (length q.from) none.0;
+      few_objects = at_most_from_not_below OBJECT_LIMIT (objects q.formula) none.1.0;
+      few_nested = at_most_from_not_below NESTING_LIMIT (nesting q.formula) none.1.1.0;
+      few_nodes = at_most_from_not_below NODE_LIMIT (nodes q.formula) none.1.1.1.0;
+      low = at_most_from_not_below DEPTH_LIMIT (depth q.formula) none.1.1.1.1.0;
+      few_factors = at_most_from_not_below FACTOR_LIMIT (factors q.formula) none.1.1.1.1.1.1.0;
     }
 
 -- ---- queries that are to be resolved

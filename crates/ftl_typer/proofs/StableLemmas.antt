@@ -1,5 +1,5 @@
 -- A query without a fault stays so, and stays the same by number, where classes and regions are added.
-use Rattle.std.proofs.Common.{◌≡◌, ℕ, zero, suc, ◌+◌, ◌*◌, ◌<◌, Bool, true, false, cond, eqb, not, List, [], ◌∷◌, ◌++◌, length, map, Option, None, Some, slice_get, refl, sym, ap, subst, ◌∙◌, arith, length-append}
+use Rattle.std.proofs.Common.{◌≡◌, ℕ, ◌+◌, ◌*◌, ◌<◌, Bool, true, false, cond, eqb, not, List, [], ◌∷◌, ◌++◌, length, map, Option, None, Some, slice_get, refl, sym, ap, subst, ◌∙◌, arith, length-append}
 use Rattle.std.specs.Prelude.{is_none, nat_lt, unwrap_or, option_and_then, position, find}
 use Rattle.std.specs.List.{AllByRecursion, list_any, position_or_len}
 use Rattle.std.specs.Str.{bytes_eq}
@@ -21,6 +21,8 @@ use Rattle.ftl_typer.specs.First.{first_fault}
 use Rattle.ftl_typer.specs.Resolved.{class_place, resolved, resolved_atom, resolved_formula}
 use Rattle.ftl_typer.specs.Scope.{NameScope, class_named, is_variable, resolved_term, scope_of, variable_number, with_assigned}
 use Rattle.ftl_typer.proofs.FaultLemmas.{joined, no_faults, no_fault_is_first, none_if, parts_of_none}
+use Rattle.exact.proofs.Naturals.{below_from_test, test_below}
+use Rattle.exact.proofs.Items.{slice_get-append}
 
 -- ---- more regions
 
@@ -115,17 +117,11 @@ taken_at true true m n d e same = ap Some same
 taken_at true false m n d e same = let none : ⊥ = cc in absurd none
 taken_at false c m n d e same = let none : ⊥ = cc in absurd none
 
-below_of : (m n : ℕ) → nat_lt m n ≡ true → m < n
-below_of m n h = grind (arith, nat_tests, h)
-
-is_below : (m n : ℕ) → m < n → nat_lt m n ≡ true
-is_below m n h = grind (arith, nat_tests, h)
-
 differ : (m n : ℕ) → m < n → eqb m n ≡ false
 differ m n h = grind (arith, nat_tests, h)
 
 is_found : {X : Type 0} (p : X → Bool) (xs : List X) → is_none (position p xs) ≡ false → position_or_len p xs < length xs
-is_found p xs h = below_of (position_or_len p xs) (length xs) (was_found (nat_lt (position_or_len p xs) (length xs)) (position_or_len p xs) h)
+is_found p xs h = below_from_test (position_or_len p xs) (length xs) (was_found (nat_lt (position_or_len p xs) (length xs)) (position_or_len p xs) h)
 
 -- what is found in a list is found there where more is added
 pub position_stays : {X : Type 0} (p : X → Bool) (xs ys : List X) → is_none (position p xs) ≡ false →
@@ -138,17 +134,12 @@ position_stays p xs ys h =
     let more : position_or_len p (xs ++ ys) < length (xs ++ ys) = omega (arith, length-append xs ys, same, below) in
     taken_at (nat_lt (position_or_len p (xs ++ ys)) (length (xs ++ ys))) (nat_lt (position_or_len p xs) (length xs))
     (position_or_len p (xs ++ ys)) (position_or_len p xs)
-    (is_below (position_or_len p (xs ++ ys)) (length (xs ++ ys)) more) (is_below (position_or_len p xs) (length xs) below) same
-
-slice_front : {X : Type 0} (xs ys : List X) (n : ℕ) → n < length xs → slice_get (xs ++ ys) n ≡ slice_get xs n
-slice_front [] ys n h = let none : ⊥ = omega arith in absurd none
-slice_front (x ∷ xs) ys zero h = refl
-slice_front (x ∷ xs) ys (suc n) h = slice_front xs ys n (omega arith)
+    (test_below (position_or_len p (xs ++ ys)) (length (xs ++ ys)) more) (test_below (position_or_len p xs) (length xs) below) same
 
 -- the item at the place that was found, where places agree up to the end of the list
 item_stays : {X : Type 0} (xs ys : List X) (b : Bool) (n : ℕ) → (b ≡ true → n < length xs) →
     option_and_then (slice_get (xs ++ ys)) (cond b (Some n) None) ≡ option_and_then (slice_get xs) (cond b (Some n) None)
-item_stays xs ys true n h = slice_front xs ys n (h refl)
+item_stays xs ys true n h = slice_get-append xs ys n (h refl)
 item_stays xs ys false n h = refl
 
 -- a class that is there
@@ -161,7 +152,7 @@ class_named_stays : (classes added : List ClassInfo) (name : List ℕ) → is_no
 class_named_stays classes added name h =
     let n = position_or_len (λ (k : ClassInfo). bytes_eq name k.name) classes in
     ap (option_and_then (slice_get (classes ++ added))) (class_number_stays classes added name h)
-    ∙ item_stays classes added (nat_lt n (length classes)) n (below_of n (length classes))
+    ∙ item_stays classes added (nat_lt n (length classes)) n (below_from_test n (length classes))
 
 module _ (classes added : List ClassInfo) where
   abbrev pub AreThere : List FromPart → Type 0

@@ -12,12 +12,9 @@ use Rattle.motion.specs.declared.cell.Cell.{Cell}
 use Rattle.history.specs.Write.{Write, Class, Insert, Update, Remove, inserts, is_after}
 use Rattle.history.specs.Catalog.{Catalog, ObjectInfo, empty_catalog, catalog, catalog_after, attributes_of_class, class_of, has_object, number_of_class, object_of, with_new_object}
 use Rattle.history.specs.State.{SoFar, after_write, attributes_of_object, cells_after_write, inserted, state, updated}
+use Rattle.exact.proofs.Truths.{both_false, both_true}
 
 -- ---- the past
-
-both : (a b : Bool) → (a && b) ≡ true → (a ≡ true) × (b ≡ true)
-both true b h = (refl, h)
-both false b h = let e : false ≡ true = h in cc
 
 not_by : (t s : ℕ) → nat_lt t s ≡ true → nat_le s t ≡ false
 not_by t s h = grind (arith, nat_tests)
@@ -37,7 +34,7 @@ later_write c o t cells (Remove s name) after = not_in_force (bytes_eq o name) (
 later_writes : (later : List Write) (o : List ℕ) (t : ℕ) (so_far : SoFar) → list_all (is_after t) later ≡ true → (fold (after_write o t) so_far later).cells ≡ so_far.cells
 later_writes [] o t so_far after = refl
 later_writes (w ∷ later) o t so_far after =
-    let parts = both (is_after t w) (list_all (is_after t) later) after in
+    let parts = both_true (is_after t w) (list_all (is_after t) later) after in
     later_writes later o t (after_write o t so_far w) parts.1 ∙ later_write so_far.catalog o t so_far.cells w parts.0
 
 pub past_stays : (writes later : List Write) (o : List ℕ) (t : ℕ) → list_all (is_after t) later ≡ true → state (writes ++ later) o t ≡ state writes o t
@@ -84,10 +81,6 @@ names_apart writes = writes_apart writes empty_catalog none_apart
 
 -- ---- a name that isn't inserted
 
-neither : (a b : Bool) → (a || b) ≡ false → (a ≡ false) × (b ≡ false)
-neither true b h = let e : true ≡ false = h in cc
-neither false b h = (refl, h)
-
 either_none : (b : Bool) (x y : Option (List Cell)) → x ≡ None → y ≡ None → (if b then x else y) ≡ None
 either_none true x y h k = h
 either_none false x y h k = k
@@ -104,7 +97,7 @@ absent_write c o t cells (Remove s name) none other = either_none (bytes_eq o na
 absent_writes : (writes : List Write) (o : List ℕ) (t : ℕ) (so_far : SoFar) → so_far.cells ≡ None → list_any (inserts o) writes ≡ false → (fold (after_write o t) so_far writes).cells ≡ None
 absent_writes [] o t so_far none other = none
 absent_writes (w ∷ writes) o t so_far none other =
-    let parts = neither (inserts o w) (list_any (inserts o) writes) other in
+    let parts = both_false (inserts o w) (list_any (inserts o) writes) other in
     absent_writes writes o t (after_write o t so_far w) (absent_write so_far.catalog o t so_far.cells w none parts.0) parts.1
 
 pub absent_name : (writes : List Write) (o : List ℕ) (t : ℕ) → list_any (inserts o) writes ≡ false → state writes o t ≡ None

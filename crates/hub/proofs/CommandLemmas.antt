@@ -21,6 +21,7 @@ use Rattle.hub.proofs.LineLemmas.{sent_at}
 use Rattle.hub.proofs.PlaceLemmas.{IsAloneAt, alone, at_all, same_user}
 use Rattle.hub.proofs.ToldLemmas.{data_kept, data_told, plain_kept, plain_told}
 use Rattle.hub.proofs.UserLemmas.{IsShort, ReachesMore, refused_alike}
+use Rattle.exact.proofs.Truths.{both_true}
 
 -- users as a hub
 abbrev pub hub_by : ℕ → List Kept → Hub
@@ -162,10 +163,6 @@ own_at old seats new place s c text accepted same own at =
       new_is = here.2 ∙ (λ i. slice_set (same i) place (here.1.kept_is i));
       text_is = here.1.text_is;
     }
-
-both_true : (a b : Bool) → (a && b) ≡ true → (a ≡ true) × (b ≡ true)
-both_true true b h = (refl, h)
-both_true false b h = absurd (cc)
 
 module _ (d : ℕ) (seats : List Kept) (place : ℕ) (s : Kept) (c : CommandTree) (reaches : ReachesMore) (hub : IsHub (hub_by d seats)) (c_short : IsShort c)
     (room : HasRoomAt place c (hub_by d seats)) (at : slice_get seats place ≡ Some s) (old new : List Kept) (same : old ≡ seats) (text : List ℕ)

@@ -1,12 +1,12 @@
 -- A user is alone among users who are apart.
-use Rattle.std.proofs.Common.{◌≡◌, ℕ, zero, suc, true, false, List, [], ◌∷◌, ◌++◌, map, Some, refl, sym, ◌∙◌, subst, inl, inr}
-use Rattle.std.proofs.lemmas.Bool.{cases_Bool}
+use Rattle.std.proofs.Common.{◌≡◌, ℕ, zero, suc, true, false, List, [], ◌∷◌, ◌++◌, map, Some, refl, ◌∙◌, subst}
 use Rattle.std.proofs.lemmas.Slice.Eq.{bytes_eq-Decides}
 use Rattle.std.specs.Prelude.{find, slice_get}
 use Rattle.std.specs.List.{AllByRecursion}
 use Rattle.std.specs.Str.{bytes_eq}
 use Rattle.feeds_meaning.specs.Hub.{Seated, has_user}
 use Rattle.hub.specs.Seats.{AreDistinctUsers}
+use Rattle.exact.proofs.Items.{all_pushed, bytes_eq_swap}
 
 -- ---- Names
 
@@ -15,15 +15,6 @@ same_user user = (bytes_eq-Decides user user).1 refl
 
 pub user_is : (a b : List ℕ) → bytes_eq a b ≡ true → a ≡ b
 user_is a b h = (bytes_eq-Decides a b).0 h
-
-pub turned : (a b : List ℕ) → bytes_eq a b ≡ bytes_eq b a
-turned a b = elim (cases_Bool (bytes_eq a b)) [
-  | inl same ↦ same ∙ sym ((bytes_eq-Decides b a).1 (sym (user_is a b same)))
-  | inr other ↦ elim (cases_Bool (bytes_eq b a)) [
-    | inl same ↦ let both = (bytes_eq-Decides a b).1 (sym (user_is b a same)) in let bad : true ≡ false = sym both ∙ other in absurd (cc)
-    | inr too ↦ other ∙ sym too
-  ]
-]
 
 -- ---- What holds of each
 
@@ -36,10 +27,6 @@ pub all_mapped : {A B : Type 0} (P : A → Type 0) (Q : B → Type 0) (f : A →
     AllByRecursion Q (map f xs)
 all_mapped P Q f [] each all = tt
 all_mapped P Q f (x ∷ xs) each all = (each x all.0, all_mapped P Q f xs each all.1)
-
-pub all_pushed : {A : Type 0} (P : A → Type 0) (xs : List A) (x : A) → AllByRecursion P xs → P x → AllByRecursion P (xs ++ x ∷ [])
-all_pushed P [] x all one = (one, tt)
-all_pushed P (y ∷ xs) x all one = (all.0, all_pushed P xs x all.1 one)
 
 -- ---- Places
 
@@ -56,7 +43,7 @@ alone (x ∷ seats) zero s e apart =
     subst (λ (y : Seated). IsAloneAt y.user 0 (x ∷ seats)) same (same_user x.user, apart.0)
 alone (x ∷ seats) (suc place) s e apart =
     let other : has_user x.user s ≡ false = at_all (λ t. has_user x.user t ≡ false) seats place s apart.0 e in
-    (turned s.user x.user ∙ other, alone seats place s e apart.1)
+    (bytes_eq_swap s.user x.user ∙ other, alone seats place s e apart.1)
 
 pub found_at : (user : List ℕ) (seats : List Seated) (place : ℕ) (s : Seated) → IsAloneAt user place seats → slice_get seats place ≡ Some s →
     find (has_user user) seats ≡ Some s
@@ -77,6 +64,6 @@ pub apart_pushed : (seats : List Seated) (s : Seated) → AllByRecursion (λ t. 
     AreDistinctUsers (seats ++ s ∷ [])
 apart_pushed [] s none apart = (tt, tt)
 apart_pushed (x ∷ seats) s none apart = (
-  all_pushed (λ t. has_user x.user t ≡ false) seats s apart.0 (turned x.user s.user ∙ none.0),
+  all_pushed (λ t. has_user x.user t ≡ false) seats s apart.0 (bytes_eq_swap x.user s.user ∙ none.0),
   apart_pushed seats s none.1 apart.1,
 )

@@ -22,8 +22,9 @@ use Rattle.hub.specs.Told.{IsSeatedAs, arrived, seated}
 use Rattle.hub.proofs.CommandLemmas.{hub_by, seated_at}
 use Rattle.hub.proofs.DataLemmas.{data_more, replayed_holds, replayed_is_taken}
 use Rattle.hub.proofs.NewcomerLemmas.{newcomer_asks, newcomer_counts, newcomer_holds}
-use Rattle.hub.proofs.PlaceLemmas.{IsAloneAt, all_pushed, alone, apart_pushed, found_at, user_is}
+use Rattle.hub.proofs.PlaceLemmas.{IsAloneAt, alone, apart_pushed, found_at, user_is}
 use Rattle.hub.proofs.UserLemmas.{ReachesMore}
+use Rattle.exact.proofs.Items.{all_pushed}
 
 arrived_same : (d : ℕ) (seats : List Kept) → map (seated d) seats ≡ map arrived (map (seated d) seats)
 arrived_same d [] = refl

@@ -15,7 +15,8 @@ use Rattle.feeds_meaning.specs.Heard.{Other, Seat, item_outcome, other_by, own_b
 use Rattle.feeds_meaning.specs.Hub.{Event, Hub, Seated, added, data_command_of, event_by, has_room, has_user, hub_step, hub_step_by, newcomer, seat_in, seat_of, seated_after, seats_with, taken_of, told_of_event, unheard}
 use Rattle.hub.specs.Seats.{IsHub, IsUser}
 use Rattle.hub.specs.Told.{IsAnsweredBy, IsLineTold, IsSeatedAs, IsSentAt, arrived, change_by, seated_by, taken_by, told_to_seat}
-use Rattle.hub.proofs.PlaceLemmas.{IsAloneAt, alone, found_at, same_user, turned}
+use Rattle.hub.proofs.PlaceLemmas.{IsAloneAt, alone, found_at, same_user}
+use Rattle.exact.proofs.Items.{bytes_eq_swap}
 
 -- ---- Each user
 
@@ -30,7 +31,7 @@ arrived_own s c None = refl
 own_taken : (user line : List ℕ) (r : Option Refusal) (t : Seated) → has_user user t ≡ true → own_refusal t.seat line ≡ r →
     taken_by user (spelled line) r (arrived t) ≡ taken_of (event user line (change_by (spelled line) r)) t
 own_taken user line r t own refusal =
-    let back : bytes_eq t.user user ≡ true = turned t.user user ∙ own in
+    let back : bytes_eq t.user user ≡ true = bytes_eq_swap t.user user ∙ own in
     let mine : taken_by user (spelled line) r (arrived t) ≡ own_by t.seat (spelled line) r = rw own (arrived_own t.seat (spelled line) r) in
     let all : taken_of (event user line (change_by (spelled line) r)) t ≡ own_by t.seat (spelled line) (own_refusal t.seat line) = rw back refl in
     mine ∙ ap (own_by t.seat (spelled line)) (sym refusal) ∙ sym all
@@ -48,7 +49,7 @@ other_taken : (user line : List ℕ) (r : Option Refusal) (t : Seated) → IsOth
     taken_by user (spelled line) r (arrived t) ≡ taken_of (event user line (change_by (spelled line) r)) t
 other_taken user line r t is =
     let stays : arrived t ≡ t = λ i. record { user = t.user; seat = record t.seat { here = sym is.here i } } in
-    let back : bytes_eq t.user user ≡ false = turned t.user user ∙ is.other in
+    let back : bytes_eq t.user user ≡ false = bytes_eq_swap t.user user ∙ is.other in
     let mine : taken_by user (spelled line) r t ≡ option_map_or (other_by t.seat) (change_by (spelled line) r) (t.seat, []) = rw is.other refl in
     let all : taken_of (event user line (change_by (spelled line) r)) t ≡ option_map_or (item_outcome t.seat) (option_map Other (change_by (spelled line) r)) (t.seat, []) =
     rw back refl in

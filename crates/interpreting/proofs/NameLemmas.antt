@@ -1,10 +1,9 @@
 -- Made for the crates above: what the states of a binding's objects tell depends on the values that are named alone.
-use Rattle.std.proofs.Common.{◌≡◌, ℕ, true, None, List, [], ◌∷◌, map, refl, ap, ◌∙◌, arith}
-use Rattle.std.specs.Prelude.{◌==◌, unwrap_or}
+use Rattle.std.proofs.Common.{◌≡◌, ℕ, None, List, [], ◌∷◌, map, refl, ap, ◌∙◌}
+use Rattle.std.specs.Prelude.{unwrap_or}
 use Rattle.std.specs.List.{list_any, reduce}
 use Rattle.std.specs.Option.{option_and_then}
 use Rattle.std.proofs.lemmas.Bool.{or_left, or_right}
-use Rattle.std.proofs.lemmas.Bool.Decides.{nat_tests}
 use Rattle.geometry.specs.Region.{Region}
 use Rattle.formula.specs.declared.tree.RAtom.{RAtom}
 use Rattle.formula.specs.declared.tree.RAtom.TheVariants as atoms
@@ -17,14 +16,12 @@ use Rattle.meaning.specs.Trace.{Trace}
 use Rattle.meaning.specs.Value.{factor_value, plus, signed_value, term_value, unit_value, values_compare}
 use Rattle.meaning.specs.Atom.{atom_holds}
 use Rattle.interpreting.specs.Names.{AgreeOn, atom_uses_value, term_uses_value, unit_uses_value}
-
-own : (d : ℕ) → (d == d) ≡ true
-own d = grind (arith, nat_tests)
+use Rattle.exact.proofs.Naturals.{equals_itself}
 
 unit_by_names : (h : Trace) (x y : Env) (t : ℕ) (u : RUnit) → AgreeOn (λ d. unit_uses_value d u) x y → unit_value h x u t ≡ unit_value h y u t
 unit_by_names h x y t (units.Literal n) same = refl
 unit_by_names h x y t (units.Text s) same = refl
-unit_by_names h x y t (units.Var d bound) same = same d (own d)
+unit_by_names h x y t (units.Var d bound) same = same d (equals_itself d)
 unit_by_names h x y t (units.Attr v a bound) same = refl
 unit_by_names h x y t (units.Sub v a part) same = refl
 unit_by_names h x y t units.Time same = refl

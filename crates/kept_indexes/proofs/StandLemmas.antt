@@ -12,6 +12,7 @@ use Rattle.std.proofs.lemmas.List.Quantifiers.{position-Some}
 use Rattle.std.proofs.lemmas.List.Sums.{fold-append}
 use Rattle.std.proofs.lemmas.Option.{slice_get-get_or, slice_get-map, slice_get_within}
 use Rattle.exact.proofs.Lists.{bytes_eq_refl, bytes_eq_true}
+use Rattle.exact.proofs.Truths.{both_true, false_from_not}
 use Rattle.tick_set.specs.Ticks.{between}
 use Rattle.history.specs.Catalog.{Catalog, ObjectInfo, ids_of, name_of}
 use Rattle.history.specs.History.{ChangesFrom, cells_at}
@@ -199,15 +200,6 @@ seen_still class old new ids first seen =
     ∙ sym (take-append-le (length ids) (numbers class 0 old) (numbers class (0 + length old) (drop (length old) new)) upto)
     ∙ ap (take (length ids)) (sym (numbers_split class 0 old (drop (length old) new)) ∙ ap (numbers class 0) all)
 
-both_true : (a b : Bool) → (a && b) ≡ true → (a ≡ true) × (b ≡ true)
-both_true true true is = (refl, refl)
-both_true true false is = absurd (false≢true is)
-both_true false b is = absurd (false≢true is)
-
-not_true : (b : Bool) → not b ≡ true → b ≡ false
-not_true false is = refl
-not_true true is = absurd (false≢true is)
-
 module _ (journal : List Accepted) (c : CommandTree) (now id : ℕ) (s n : Contents) (write : writes_object c ≡ true) (sound : IsSound n)
     (changed : ChangesFrom id now (history_of s) (history_of n)) (at : position (is_named (written_name c)) n.objects ≡ Some id)
     (w : WritesOneObject id now s.objects n.objects) where
@@ -301,7 +293,7 @@ module _ (journal : List Accepted) (c : CommandTree) (now id : ℕ) (s n : Conte
               let parts = both_true (is_fresh k.index place) (not (slice_index k.index.ids place == id)) (sym (touched.index.fresh place) ∙ fresh) in
               touched.index.strips place slice fresh under
               ∙ is.of_store.right place slice parts.0 under
-              ∙ ap kept_strips (sym (same_strips k.index.grid (slice_index k.index.ids place) slice (not_true (slice_index k.index.ids place == id) parts.1)))
+              ∙ ap kept_strips (sym (same_strips k.index.grid (slice_index k.index.ids place) slice (false_from_not (slice_index k.index.ids place == id) parts.1)))
               ∙ (λ i. kept_strips (strips_in (recorded_by n) (sym grid i) (slice_index (sym ids i) place) slice));
         };
         known = λ i its.

@@ -8,6 +8,7 @@ use Rattle.std.proofs.lemmas.Bool.{cases_eq, eq-eqb, ne_eqb}
 use Rattle.std.proofs.lemmas.Bool.Decides.{nat_tests}
 use Rattle.std.proofs.lemmas.Nat.Bits.{bit_at-lt, bit_at_clear_other, bit_at_clear_same, bit_at_set_other, bit_at_set_same, shr_and_one}
 use Rattle.kept_rows.specs.Flags.{is_flagged}
+use Rattle.exact.proofs.Naturals.{eqb-suc}
 
 -- rows that are alike
 pub flagged_alike : (rows rows' : ℕ → ℕ → Bool) (words : List ℕ) → ((c t : ℕ) → rows' c t ≡ rows c t) →
@@ -52,9 +53,6 @@ bit_cleared word k i h g =
     ]
 
 -- ---- the word of a number is written
-
-eqb-suc : (a b : ℕ) → eqb (suc a) (suc b) ≡ eqb a b
-eqb-suc a b = grind (arith, nat_tests)
 
 eqb-first : (a : ℕ) → eqb zero (suc a) ≡ false
 eqb-first a = grind (arith, nat_tests)

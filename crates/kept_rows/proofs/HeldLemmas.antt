@@ -8,6 +8,7 @@ use Rattle.kept_rows.specs.declared.binding.Variable.{Variable}
 use Rattle.kept_rows.specs.Numbers.{size_of, counts, holds_written}
 use Rattle.kept_rows.specs.Rising.{AscendsWithin}
 use Rattle.kept_rows.proofs.RisingLemmas.{rising-wider, rising-append, rising-shift}
+use Rattle.exact.proofs.Truths.{and_over_or, false_is_and}
 
 -- ---- places and numbers of the later variables
 pub place-fits : (p count capacity w : ℕ) → p < count → count ≤ capacity → capacity * w ≤ 1000000 → p * w + w ≤ 1000000
@@ -38,21 +39,13 @@ same-place q x p d w h k =
     and-none true = refl
     and-none false = refl
 
-shared-and : (b x y : Bool) → ((b && x) || (b && y)) ≡ (b && (x || y))
-shared-and true x y = refl
-shared-and false x y = refl
-
-none-and : (b : Bool) → false ≡ (b && false)
-none-and true = refl
-none-and false = refl
-
 pub has-shift : (q w p d from : ℕ) (xs : List ℕ) → AscendsWithin from w xs → d < w →
     has (map (λ e. q * w + e) xs) (p * w + d) ≡ (eqb p q && has xs d)
-has-shift q w p d from [] r h = none-and (eqb p q)
+has-shift q w p d from [] r h = false_is_and (eqb p q)
 has-shift q w p d from (x ∷ xs) r h =
     ap (λ b. b || has (map (λ e. q * w + e) xs) (p * w + d)) (same-place q x p d w r.1 h)
     ∙ ap (λ b. (eqb p q && eqb x d) || b) (has-shift q w p d (x + 1) xs r.2 h)
-    ∙ shared-and (eqb p q) (eqb x d) (has xs d)
+    ∙ and_over_or (eqb p q) (eqb x d) (has xs d)
 
 pub has-append : (xs ys : List ℕ) (c : ℕ) → has (xs ++ ys) c ≡ (has xs c || has ys c)
 has-append xs ys c = list_any-append (λ u. eqb u c) xs ys
@@ -173,5 +166,5 @@ pub own-test : (p own count : ℕ) (x : Bool) → own < count → (eqb p own && 
 own-test p own count x h =
     elim (cases_eq p own) [
       | inl e ↦ rw (eq-eqb p own e, lt-ltb p count (omega (arith, e, h))) refl
-      | inr apart ↦ rw (ne_eqb p own apart) (none-and (ltb p count))
+      | inr apart ↦ rw (ne_eqb p own apart) (false_is_and (ltb p count))
     ]

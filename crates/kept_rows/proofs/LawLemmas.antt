@@ -9,6 +9,7 @@ use Rattle.kept_rows.specs.declared.binding.Variable.{Variable}
 use Rattle.kept_rows.specs.Exact.{AreFullRows, HaveOneMore}
 use Rattle.kept_rows.specs.Numbers.{counts, holds_written, places_of, size_of}
 use Rattle.kept_rows.proofs.NumberLemmas.{number-below, size-some}
+use Rattle.exact.proofs.Truths.{and_false, and_true}
 
 -- ---- order
 cmp-less : (x y : ℕ) → x < y → nat_cmp x y ≡ Less
@@ -111,14 +112,6 @@ one_more (v ∷ vs) (w ∷ ws) n h =
     ∙ ap (λ k. (ltb (n / k) w.count && counts ws (n % k)) && not (eqb (n / k) w.own || holds_written ws (n % k))) (sym (same-size vs ws h.2))
 
 -- ---- a refresh
-and-true : (b : Bool) → (b && true) ≡ b
-and-true true = refl
-and-true false = refl
-
-and-none : (b : Bool) → (b && false) ≡ false
-and-none true = refl
-and-none false = refl
-
 pub stays_exact : (rows rows' : ℕ → ℕ → Bool) (counts counts' holds_written : ℕ → Bool) (full full' : ℕ → ℕ → Bool) →
     AreFullRows rows counts full →
     ((c : ℕ) → counts c ≡ true → counts' c ≡ true) →
@@ -131,11 +124,11 @@ stays_exact rows rows' counts counts' holds_written full full' before grown othe
     ∙ elim (cases_Bool (holds_written c)) [
       | inr none ↦
           ap (λ b. if counts' c && b then full' c t else rows c t) none
-          ∙ ap (λ b. if b then full' c t else rows c t) (and-none (counts' c))
+          ∙ ap (λ b. if b then full' c t else rows c t) (and_false (counts' c))
           ∙ before c t ∙ ap (λ b. b && full c t) (sym (others c none)) ∙ ap (λ b. counts' c && b) (sym (local c t none))
       | inl here ↦
           ap (λ b. if counts' c && b then full' c t else rows c t) here
-          ∙ ap (λ b. if b then full' c t else rows c t) (and-true (counts' c))
+          ∙ ap (λ b. if b then full' c t else rows c t) (and_true (counts' c))
           ∙ elim (cases_Bool (counts' c)) [
             | inl there ↦ ap (λ b. if b then full' c t else rows c t) there ∙ sym (ap (λ b. b && full' c t) there)
             | inr gone ↦

@@ -1,5 +1,5 @@
 -- Lists of what there is of each number, and the ticks of the rows of some numbers.
-use Rattle.std.proofs.Common.{◌≡◌, ℕ, zero, suc, ◌+◌, ◌*◌, ◌/◌, ◌-◌, ◌<◌, ◌≤◌, Bool, true, false, ◌&&◌, ◌||◌, Option, None, Some, List, [], ◌∷◌, ◌++◌, refl, ap, sym, ◌∙◌, inl, inr, append_assoc, arith, if◌then◌else◌}
+use Rattle.std.proofs.Common.{◌≡◌, ℕ, zero, suc, ◌+◌, ◌*◌, ◌/◌, ◌-◌, ◌<◌, ◌≤◌, Bool, true, false, ◌||◌, Option, None, Some, List, [], ◌∷◌, ◌++◌, refl, ap, sym, ◌∙◌, inl, inr, append_assoc, arith, if◌then◌else◌}
 use Rattle.std.specs.Prelude.{option_to_list}
 use Rattle.std.specs.List.{range_with_len, list_any, cons_option, filter_map, filter}
 use Rattle.std.proofs.lemmas.Bool.{both_ways, cases_lt, false_from_ne_true}
@@ -7,8 +7,9 @@ use Rattle.std.proofs.lemmas.List.Folds.{list_any-append}
 use Rattle.std.proofs.lemmas.Nat.{div-add-mod', div_below, le-div, mod_below, mul-le, row_fits}
 use Rattle.tick_set.specs.Runs.{runs_of}
 use Rattle.tick_set.specs.Ticks.{between, listed}
-use Rattle.tick_set.proofs.Between.{any_between_at, any_between_found, same_test}
+use Rattle.tick_set.proofs.Between.{any_between_at, any_between_found}
 use Rattle.kept_rows.specs.Listing.{HaveNone, line_of, lines_between, some_row, target_has, with_runs}
+use Rattle.exact.proofs.Truths.{is_or_false, or_grouped, same_truth}
 
 -- ---- numbers from a up to b
 pub between-first : (a b : ℕ) → a < b → between a b ≡ a ∷ between (a + 1) b
@@ -27,7 +28,7 @@ some_row-none rows a b t none =
 
 pub some_row-skip : (rows : ℕ → ℕ → Bool) (a m b t : ℕ) → a ≤ m → HaveNone rows a m → some_row rows a b t ≡ some_row rows m b t
 some_row-skip rows a m b t h none =
-    same_test (some_row rows a b t) (some_row rows m b t)
+    same_truth (some_row rows a b t) (some_row rows m b t)
     (λ e.
     let s = any_between_found (λ c. rows c t) a b e in
     elim (cases_lt s.tick m) [
@@ -39,26 +40,18 @@ some_row-skip rows a m b t h none =
 pub some_row-first : (rows : ℕ → ℕ → Bool) (a b t : ℕ) → a < b → some_row rows a b t ≡ (rows a t || some_row rows (a + 1) b t)
 some_row-first rows a b t h = ap (list_any (λ c. rows c t)) (between-first a b h)
 
-or-swap : (x y z : Bool) → ((x || y) || z) ≡ (x || (y || z))
-or-swap true y z = refl
-or-swap false y z = refl
-
 -- one row more is joined
 pub some_row-joined : (rows : ℕ → ℕ → Bool) (from number to t : ℕ) (ticks whole : Bool) → from ≤ number → number < to → HaveNone rows from number →
     (ticks || some_row rows from to t) ≡ whole → ((ticks || rows number t) || some_row rows (number + 1) to t) ≡ whole
 some_row-joined rows from number to t ticks whole h k none before =
-    or-swap ticks (rows number t) (some_row rows (number + 1) to t)
+    or_grouped ticks (rows number t) (some_row rows (number + 1) to t)
     ∙ ap (λ b. ticks || b) (sym (some_row-first rows number to t k) ∙ sym (some_row-skip rows from number to t h none))
     ∙ before
-
-or-none : (b : Bool) → b ≡ (b || false)
-or-none true = refl
-or-none false = refl
 
 pub some_row-all : (rows : ℕ → ℕ → Bool) (from to t : ℕ) (ticks whole : Bool) → HaveNone rows from to →
     (ticks || some_row rows from to t) ≡ whole → ticks ≡ whole
 some_row-all rows from to t ticks whole none before =
-    or-none ticks ∙ ap (λ b. ticks || b) (sym (some_row-none rows from to t none)) ∙ before
+    is_or_false ticks ∙ ap (λ b. ticks || b) (sym (some_row-none rows from to t none)) ∙ before
 
 -- a row more is in the list of rows
 pub some_row-pushed : {X : Type 0} (has : X → Bool) (xs ys : List X) (row : X) (rows : ℕ → ℕ → Bool) (from number to t : ℕ) (whole : Bool) →
@@ -66,7 +59,7 @@ pub some_row-pushed : {X : Type 0} (has : X → Bool) (xs ys : List X) (row : X)
     (list_any has xs || some_row rows from to t) ≡ whole → (list_any has ys || some_row rows (number + 1) to t) ≡ whole
 some_row-pushed has xs ys row rows from number to t whole pushed is h k none before =
     ap (λ b. b || some_row rows (number + 1) to t)
-    (ap (λ zs. list_any has zs) pushed ∙ list_any-append has xs (row ∷ []) ∙ ap (λ b. list_any has xs || b) (sym (or-none (has row)) ∙ is))
+    (ap (λ zs. list_any has zs) pushed ∙ list_any-append has xs (row ∷ []) ∙ ap (λ b. list_any has xs || b) (sym (is_or_false (has row)) ∙ is))
     ∙ some_row-joined rows from number to t (list_any has xs) whole h k none before
 
 -- a first row alone, and one with those from the next row on
@@ -77,7 +70,7 @@ pub some_row-begun : {X : Type 0} (has : X → Bool) (ys : List X) (row : X) (ro
     ys ≡ row ∷ [] → has row ≡ rows first t → first < to → first + 1 ≤ second → HaveNone rows (first + 1) second →
     (list_any has ys || some_row rows second to t) ≡ some_row rows first to t
 some_row-begun has ys row rows first second to t begun is k h none =
-    ap (λ b. b || some_row rows second to t) (ap (λ zs. list_any has zs) begun ∙ sym (or-none (has row)) ∙ is)
+    ap (λ b. b || some_row rows second to t) (ap (λ zs. list_any has zs) begun ∙ sym (is_or_false (has row)) ∙ is)
     ∙ ap (λ b. rows first t || b) (sym (some_row-skip rows (first + 1) second to t h none)) ∙ sym (some_row-first rows first to t k)
 
 -- a row without the tick is passed over
@@ -142,10 +135,6 @@ listed-none p from e none = filter-none p (between from (e + 1)) none
 pub line-none : (target_has : ℕ → ℕ → Bool) (from e k : ℕ) → ((t : ℕ) → target_has k t ≡ false) → line_of target_has from e k ≡ None
 line-none target_has from e k none = ap (λ xs. with_runs k (runs_of xs)) (listed-none (target_has k) from e none)
 
-pub and-false : (b : Bool) → (b && false) ≡ false
-and-false true = refl
-and-false false = refl
-
 -- the targets before that of the first row have no ticks
 pub times-none : (rows : ℕ → ℕ → Bool) (width a k first t : ℕ) → HaveNone rows (a * width) first → a ≤ k → k * width + width ≤ first →
     target_has rows width k t ≡ false
@@ -177,6 +166,3 @@ target-after a first width some h = le-div a first width some h
 
 pub target-whole : (k width count : ℕ) → k < count → k * width + width ≤ count * width
 target-whole k width count h = row_fits k width count width h (omega arith)
-
-pub target-start : (a g width : ℕ) → a ≤ g → a * width ≤ g * width
-target-start a g width h = mul-le a width g width h (omega arith)

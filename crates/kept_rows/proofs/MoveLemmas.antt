@@ -7,7 +7,7 @@ use Rattle.std.proofs.lemmas.List.Folds.{list_any-append}
 use Rattle.std.proofs.lemmas.List.Elements.{All-cons, All-head, All-more, All-nil, All-tail}
 use Rattle.tick_set.specs.Runs.{runs_of}
 use Rattle.tick_set.specs.Ticks.{between, within}
-use Rattle.tick_set.proofs.Between.{any_between_at, any_between_found, same_test}
+use Rattle.tick_set.proofs.Between.{any_between_at, any_between_found}
 use Rattle.kept_rows.specs.declared.change.Change.{Change}
 use Rattle.kept_rows.specs.Changes.{rows_after, with_row}
 use Rattle.kept_rows.specs.Listing.{HaveNone, some_row, target_has}
@@ -17,6 +17,7 @@ use Rattle.kept_rows.specs.declared.slots.Slots.{Slots}
 use Rattle.kept_rows.specs.Slots.{AreIn, HaveNoneAt}
 use Rattle.kept_rows.proofs.NextLemmas.{get-below}
 use Rattle.kept_rows.proofs.ListingLemmas.{listed-none, some_row-first, some_row-none, some_row-skip}
+use Rattle.exact.proofs.Truths.{and_not, is_or_false, same_truth}
 
 abbrev numbers : {S : Type 0} → List (Change S) → List ℕ
 numbers xs = map (λ x. x.number) xs
@@ -131,7 +132,7 @@ pub any-parts : {S : Type 0} (f : ℕ → Bool) (from to : ℕ) (xs : List (Chan
 any-parts f from to xs r =
     let changed : Bool = list_any (λ x. f x.number) xs in
     let left : Bool = list_any (λ c. f c && not (is_in xs c)) (between from to) in
-    same_test (list_any f (between from to)) (changed || left)
+    same_truth (list_any f (between from to)) (changed || left)
     (λ e.
     let s = any_between_found f from to e in
     elim (cases_Bool (is_in xs s.tick)) [
@@ -252,39 +253,31 @@ none-taken-if None rows slots a b left in_slots none = λ t. none-taken rows a b
 none-taken-if (Some x) rows slots a b left in_slots none = tt
 
 -- ---- one set more
-or-false : (b : Bool) → b ≡ (b || false)
-or-false true = refl
-or-false false = refl
-
 pub any-joined : (ticks x rest whole : Bool) → (ticks || (x || rest)) ≡ whole → ((ticks || x) || rest) ≡ whole
 any-joined true x rest whole e = e
 any-joined false x rest whole e = e
 
 pub any-ended : {X : Type 0} (has : X → Bool) (xs : List X) (ticks whole : Bool) → length xs ≡ 0 → (ticks || list_any has xs) ≡ whole → ticks ≡ whole
-any-ended has [] ticks whole e h = or-false ticks ∙ h
+any-ended has [] ticks whole e h = is_or_false ticks ∙ h
 any-ended has (x ∷ xs) ticks whole e h = absurd (omega (arith, e))
 
 pub any-pushed : {X : Type 0} (has : X → Bool) (xs ys : List X) (row : X) (x rest whole : Bool) → ys ≡ xs ++ row ∷ [] → has row ≡ x →
     (list_any has xs || (x || rest)) ≡ whole → (list_any has ys || rest) ≡ whole
 any-pushed has xs ys row x rest whole pushed is before =
     ap (λ b. b || rest)
-    (ap (λ zs. list_any has zs) pushed ∙ list_any-append has xs (row ∷ []) ∙ ap (λ b. list_any has xs || b) (sym (or-false (has row)) ∙ is))
+    (ap (λ zs. list_any has zs) pushed ∙ list_any-append has xs (row ∷ []) ∙ ap (λ b. list_any has xs || b) (sym (is_or_false (has row)) ∙ is))
     ∙ any-joined (list_any has xs) x rest whole before
 
 -- ---- targets without changes
 some_row-alike : (p q : ℕ → ℕ → Bool) (a b t : ℕ) → ((c : ℕ) → a ≤ c → c < b → p c t ≡ q c t) → some_row p a b t ≡ some_row q a b t
 some_row-alike p q a b t same =
-    same_test (some_row p a b t) (some_row q a b t)
+    same_truth (some_row p a b t) (some_row q a b t)
     (λ e. let s = any_between_found (λ c. p c t) a b e in any_between_at (λ c. q c t) a b s.tick s.from s.below (sym (same s.tick s.from s.below) ∙ s.passes))
     (λ e. let s = any_between_found (λ c. q c t) a b e in any_between_at (λ c. p c t) a b s.tick s.from s.below (same s.tick s.from s.below ∙ s.passes))
 
 pub times-alike : (p q : ℕ → ℕ → Bool) (width target t : ℕ) → ((c : ℕ) → target * width ≤ c → c < target * width + width → p c t ≡ q c t) →
     target_has p width target t ≡ target_has q width target t
 times-alike p q width target t same = some_row-alike p q (target * width) (target * width + width) t same
-
-not-both : (b : Bool) → (b && not b) ≡ false
-not-both true = refl
-not-both false = refl
 
 pub unmoved : (p q : ℕ → Bool) (from e now target : ℕ) → ((t : ℕ) → q t ≡ p t) → move_between p q from e now target ≡ None
 unmoved p q from e now target same =
@@ -295,7 +288,7 @@ unmoved p q from e now target same =
     line xs = record { target = target; gained = xs; lost = xs; enters = within from e now && (p now && not (p now)); leaves = within from e now && (p now && not (p now)) }
 
     nothing : (p : ℕ → Bool) (from e : ℕ) → difference p p from e ≡ []
-    nothing p from e = ap runs_of (listed-none (λ t. p t && not (p t)) from e (λ t. not-both (p t)))
+    nothing p from e = ap runs_of (listed-none (λ t. p t && not (p t)) from e (λ t. and_not (p t)))
 
 -- ---- the first of the changes that are left
 pub head-bounds : {S : Type 0} (f top : ℕ) (xs : List (Change S)) (x : Change S) → AscendsWithin f top (numbers xs) → slice_get xs 0 ≡ Some x →

@@ -4,15 +4,12 @@ use Rattle.std.specs.Prelude.{nat_le}
 use Rattle.std.proofs.lemmas.Bool.{cases_eq, cases_lt, eq-eqb, ne_eqb, lt-ltb, le-ltb}
 use Rattle.kept_rows.specs.declared.binding.Variable.{Variable}
 use Rattle.kept_rows.specs.Numbers.{counts, holds_written}
+use Rattle.exact.proofs.Truths.{and_false}
 
 and-true : (b x : Bool) → ((b && true) && (x || false)) ≡ (b && x)
 and-true false x = refl
 and-true true true = refl
 and-true true false = refl
-
-and-none : (b : Bool) → (b && false) ≡ false
-and-none true = refl
-and-none false = refl
 
 -- a number is the place of the object, if the object is there
 one-held : (v : Variable) (c : ℕ) → (counts (v ∷ []) c && holds_written (v ∷ []) c) ≡ (ltb c v.count && eqb c v.own)
@@ -37,7 +34,7 @@ one-judged v from full rows ticks there same c t =
       | inr other ↦
           ap (λ b. if b && nat_le from t then ticks t else rows c t) (ne_eqb c v.own other)
           ∙ sym (ap (λ b. if b && nat_le from t then full c t else rows c t)
-          (one-held v c ∙ ap (λ b. ltb c v.count && b) (ne_eqb c v.own other) ∙ and-none (ltb c v.count)))
+          (one-held v c ∙ ap (λ b. ltb c v.count && b) (ne_eqb c v.own other) ∙ and_false (ltb c v.count)))
     ]
 
 -- the object isn't there
@@ -48,6 +45,6 @@ none-judged v from full rows away c t =
   where
     apart : (ltb c v.count && eqb c v.own) ≡ false
     apart = elim (cases_lt c v.count) [
-      | inl l ↦ ap (λ b. ltb c v.count && b) (ne_eqb c v.own (λ e. omega (arith, e, l, away))) ∙ and-none (ltb c v.count)
+      | inl l ↦ ap (λ b. ltb c v.count && b) (ne_eqb c v.own (λ e. omega (arith, e, l, away))) ∙ and_false (ltb c v.count)
       | inr l ↦ ap (λ b. b && eqb c v.own) (le-ltb c v.count l)
     ]

@@ -3,6 +3,7 @@ use Rattle.std.proofs.Common.{◌≡◌, ℕ, zero, suc, ◌/◌, ◌%◌, ◌<�
 use Rattle.std.proofs.lemmas.Bool.{both_ways, cases_eq, eq-eqb, ne_eqb}
 use Rattle.std.proofs.lemmas.Bool.Decides.{nat_tests}
 use Rattle.kept_rows.specs.Rows.{page_has, page_of, row_has, is_made, is_whole}
+use Rattle.exact.proofs.Naturals.{eqb-suc}
 
 -- one more set without ticks
 pub page_has-push : {S : Type 0} (member : S → ℕ → Bool) (xs : List S) (x : S) →
@@ -12,10 +13,6 @@ page_has-push member [] x none empty zero t = empty t
 page_has-push member [] x none empty (suc i) t = refl
 page_has-push member (y ∷ ys) x none empty zero t = none zero t
 page_has-push member (y ∷ ys) x none empty (suc i) t = page_has-push member ys x (λ j. none (suc j)) empty i t
-
--- equal numbers, one more of each
-eqb-suc : (a b : ℕ) → eqb (suc a) (suc b) ≡ eqb a b
-eqb-suc a b = grind (arith, nat_tests)
 
 eqb-first : (a : ℕ) → eqb zero (suc a) ≡ false
 eqb-first a = grind (arith, nat_tests)

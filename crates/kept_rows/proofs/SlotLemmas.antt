@@ -13,6 +13,7 @@ use Rattle.kept_rows.specs.Listing.{HaveNone, IsNext}
 use Rattle.kept_rows.specs.Rows.{page_has}
 use Rattle.kept_rows.specs.Slots.{AreIn, AreMarked, HaveNoneAt, IsNextAt, has_slot, may_have}
 use Rattle.kept_rows.proofs.NextLemmas.{page_has-at, page_has-past}
+use Rattle.exact.proofs.Truths.{is_or_false, or_grouped}
 
 -- ---- bits
 pub has_none : (i : ℕ) → eqb (bit_at 0 i) 1 ≡ false
@@ -47,10 +48,6 @@ has_both a b i e =
     sym (both (bit_at a i) (bit_at b i) (bit_at-lt a i) (bit_at-lt b i))
     ∙ ap (λ n. eqb n 1) (sym (bit_at_and a b i) ∙ ap (λ n. bit_at n i) e ∙ bit_at-zero i)
 
-or_none : (b : Bool) → b ≡ (b || false)
-or_none true = refl
-or_none false = refl
-
 pub has_set : (a k i : ℕ) → k < 64 → eqb (bit_at (bit_or a (1 * 2 ^ k % 2 ^ 64)) i) 1 ≡ (eqb (bit_at a i) 1 || eqb i k)
 has_set a k i h =
     elim (cases_eq i k) [
@@ -58,7 +55,7 @@ has_set a k i h =
           ap (λ j. eqb (bit_at (bit_or a (1 * 2 ^ k % 2 ^ 64)) j) 1) e ∙ ap (λ n. eqb n 1) (bit_at_set_same w64 a k h)
           ∙ sym (or_right (eqb (bit_at a i) 1) (eqb i k) (eq-eqb i k e))
       | inr other ↦
-          ap (λ n. eqb n 1) (bit_at_set_other w64 a k h i other) ∙ or_none (eqb (bit_at a i) 1)
+          ap (λ n. eqb n 1) (bit_at_set_other w64 a k h i other) ∙ is_or_false (eqb (bit_at a i) 1)
           ∙ ap (λ b. eqb (bit_at a i) 1 || b) (sym (ne_eqb i k other))
     ]
 
@@ -111,13 +108,9 @@ span_done self slots lo hi slot kept done past t e =
       | inr f ↦ let parts = within_parts lo hi t f in done t (omega (arith, parts.0)) (omega (arith, parts.1, past))
     ]
 
-or_moved : (x y z : Bool) → ((x || y) || z) ≡ (x || (y || z))
-or_moved true y z = refl
-or_moved false y z = refl
-
 pub or_grown : (old new first later : Bool) → ((old || first) ≡ true → new ≡ true) → (old || (first || later)) ≡ true → (new || later) ≡ true
 or_grown old new first later up e =
-    elim (or_cases (old || first) later (or_moved old first later ∙ e)) [
+    elim (or_cases (old || first) later (or_grouped old first later ∙ e)) [
       | inl f ↦ or_left new later (up f)
       | inr f ↦ or_right new later f
     ]

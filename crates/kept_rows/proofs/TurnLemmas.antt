@@ -4,9 +4,10 @@ use Rattle.std.specs.Prelude.{IfNone, IfSome}
 use Rattle.std.specs.List.{list_any}
 use Rattle.std.proofs.lemmas.Nat.{mul-le}
 use Rattle.tick_set.specs.Ticks.{between}
-use Rattle.tick_set.proofs.Between.{any_between_at, any_between_found, same_test}
+use Rattle.tick_set.proofs.Between.{any_between_at, any_between_found}
 use Rattle.kept_rows.specs.Listing.{passing_of, target_has, when_differ}
 use Rattle.kept_rows.specs.Turning.{AgreeBetween, AreSteadyIn, IsNextDiffering}
+use Rattle.exact.proofs.Truths.{same_truth}
 
 -- ---- rows
 module _ (rows : ℕ → ℕ → Bool) (seen before now from to : ℕ) (low : seen ≤ before) (up : before ≤ now) where
@@ -32,7 +33,7 @@ any-counted false p (x ∷ xs) = any-counted false p xs
 
 any-alike : (p q : ℕ → Bool) (a b : ℕ) → AgreeBetween p q a b → list_any p (between a b) ≡ list_any q (between a b)
 any-alike p q a b same =
-    same_test (list_any p (between a b)) (list_any q (between a b))
+    same_truth (list_any p (between a b)) (list_any q (between a b))
     (λ e. let s = any_between_found p a b e in any_between_at q a b s.tick s.from s.below (sym (same s.tick s.from s.below) ∙ s.passes))
     (λ e. let s = any_between_found q a b e in any_between_at p a b s.tick s.from s.below (same s.tick s.from s.below ∙ s.passes))
 

@@ -31,6 +31,7 @@ use Rattle.line_meaning.specs.Judging.{fault_of, held}
 use Rattle.line_meaning.specs.Looks.{looks_of_rows}
 use Rattle.line_meaning.specs.Reached.{AreReached}
 use Rattle.line_meaning.proofs.ReachedLemmas.{command_is_reached}
+use Rattle.exact.proofs.Items.{all_joined}
 
 -- ---- the classes of such a journal and their attributes have short names, and the attributes are few
 
@@ -39,10 +40,6 @@ IsNamed a = IsShortName a.name
 
 abbrev IsShortClass : ClassInfo → Type 0
 IsShortClass k = IsShortName k.name × AllByRecursion IsNamed k.attributes × (length k.attributes ≤ ATTRIBUTE_LIMIT + 2)
-
-all_joined : {A : Type 0} (P : A → Type 0) (xs ys : List A) → AllByRecursion P xs → AllByRecursion P ys → AllByRecursion P (xs ++ ys)
-all_joined P [] ys first later = later
-all_joined P (x ∷ xs) ys first later = (first.0, all_joined P xs ys first.1 later)
 
 coordinates_named : AllByRecursion IsNamed coordinates
 unfolding reserved_words

@@ -1,5 +1,5 @@
 -- The text of a journal that steps lead to is loaded as this journal.
-use Rattle.std.proofs.Common.{◌≡◌, ℕ, ◌+◌, ◌≤◌, Bool, true, false, ◌&&◌, Option, None, Some, List, [], ◌∷◌, ◌++◌, length, refl, sym, ap, subst, ◌∙◌, append-nil, length-append, arith, if◌then◌else◌}
+use Rattle.std.proofs.Common.{◌≡◌, ℕ, ◌+◌, ◌≤◌, Bool, true, false, Option, None, Some, List, [], ◌∷◌, ◌++◌, length, refl, sym, ap, subst, ◌∙◌, append-nil, length-append, arith, if◌then◌else◌}
 use Rattle.std.specs.Prelude.{◌<◌, IsSome, is_none, option_map, nat_le, nat_lt, map, take}
 use Rattle.std.specs.List.{AllByRecursion}
 use Rattle.std.specs.Str.Lines.{lines}
@@ -8,6 +8,7 @@ use Rattle.std.proofs.lemmas.Bool.Decides.{nat_tests}
 use Rattle.std.proofs.lemmas.List.{append_assoc}
 use Rattle.std.proofs.lemmas.Slice.Eq.{bytes_eq-Decides}
 use Rattle.exact.specs.First.{first_that_holds, or_else}
+use Rattle.exact.proofs.Truths.{second_false}
 use Rattle.tick_set.specs.declared.spans.TheConstants.{LAST_TICK}
 use Rattle.command_text.specs.declared.journal.TheConstants.{MOST_ENTRIES}
 use Rattle.command_text.specs.declared.refusal.Refusal.{Refusal}
@@ -82,17 +83,13 @@ first_none : (r : Refusal) (holds : Bool) → first_that_holds ((r, holds) ∷ [
 first_none r true is = absurd (cc is)
 first_none r false is = refl
 
-not_both : (kept passes : Bool) → kept ≡ true → (kept && passes) ≡ false → passes ≡ false
-not_both true passes kept is = is
-not_both false passes kept is = absurd (false≢true kept)
-
 one_more_fits : (n : ℕ) → nat_le MOST_ENTRIES n ≡ false → n + 1 ≤ MOST_ENTRIES
 one_more_fits n is = grind (arith, nat_tests, is)
 
 has_room : (journal : List Accepted) (e : Accepted) → IsNextEntry journal e → length (journal ++ e ∷ []) ≤ MOST_ENTRIES
 has_room journal e is =
     let passes = first_none refusals.JournalFull _ is.room in
-    let full = (or_parts (nat_le MOST_ENTRIES (length journal)) _ (not_both (is_kept e.1) _ is.kept passes)).0 in
+    let full = (or_parts (nat_le MOST_ENTRIES (length journal)) _ (second_false (is_kept e.1) _ is.kept passes)).0 in
     omega (arith, length-append journal (e ∷ []), one_more_fits (length journal) full)
 
 few_entries : (before journal : List Accepted) → AreReached before journal → length before ≤ MOST_ENTRIES →

@@ -12,6 +12,7 @@ use Rattle.std.proofs.lemmas.List.Folds.{find_at, list_all-append}
 use Rattle.std.proofs.lemmas.List.Sums.{fold-append}
 use Rattle.std.proofs.lemmas.Option.{slice_get_past}
 use Rattle.exact.specs.First.{first_that_holds, or_else}
+use Rattle.exact.proofs.Naturals.{test_at_most}
 use Rattle.fixed_point.specs.declared.number.Point.{Point}
 use Rattle.motion.specs.Cells.{given_of, place_sets, setting_of}
 use Rattle.motion.specs.Function.{Function}
@@ -143,9 +144,6 @@ insert_is_own c present class name place sets is =
 
 -- ---- the writes of a journal
 
-at_most : (m n : ℕ) → m ≤ n → nat_le m n ≡ true
-at_most m n h = grind (arith, nat_tests, h)
-
 -- the writes after those of an entry are accepted at each tick that its writes may leave as the last
 abbrev AreAfter : Catalog → ℕ → List Write → Type 0
 AreAfter c now later = (next : ℕ) → next ≤ now → are_accepted c next later ≡ true
@@ -161,15 +159,15 @@ accepted_entry journal now (Tree.Insert class name place sets) is printable faul
     let accepted = none_of_both (option_and_then refusal_by_store (insert_fault c present class name place sets)) None fault in
     let own = insert_is_own c present class name place sets accepted.0 in
     and_from (nat_le last now && (are_given place sets && is_own_class c class name)) (are_accepted _ now later)
-    (and_from (nat_le last now) (are_given place sets && is_own_class c class name) (at_most last now upto)
+    (and_from (nat_le last now) (are_given place sets && is_own_class c class name) (test_at_most last now upto)
     (and_from (are_given place sets) (is_own_class c class name) (change_given place sets printable.1.1.1) own))
     (after now (omega arith))
 accepted_entry journal now (Tree.Update name place sets) is printable fault last upto later after =
     and_from (nat_le last now && are_given place sets) (are_accepted _ now later)
-    (and_from (nat_le last now) (are_given place sets) (at_most last now upto) (change_given place sets printable.1.1))
+    (and_from (nat_le last now) (are_given place sets) (test_at_most last now upto) (change_given place sets printable.1.1))
     (after now (omega arith))
 accepted_entry journal now (Tree.Remove name) is printable fault last upto later after =
-    and_from (nat_le last now) (are_accepted _ now later) (at_most last now upto) (after now (omega arith))
+    and_from (nat_le last now) (are_accepted _ now later) (test_at_most last now upto) (after now (omega arith))
 accepted_entry journal now command is printable fault last upto later after = after last upto
 
 reached_accepted : (before journal : List Accepted) → AreReached before journal → (last : ℕ) → last ≤ clock before →

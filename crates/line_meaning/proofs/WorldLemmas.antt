@@ -1,10 +1,10 @@
 -- What is told of a query where more holds of its formula; and a query that a `must` or a `may` is answered has no NOT.
-use Rattle.std.proofs.Common.{◌≡◌, ℕ, Bool, true, false, ◌&&◌, ◌||◌, None, List, [], ◌∷◌, inl, inr, refl, ◌∙◌}
+use Rattle.std.proofs.Common.{◌≡◌, ℕ, Bool, true, false, ◌&&◌, ◌||◌, None, List, [], ◌∷◌, refl, ◌∙◌}
 use Rattle.std.specs.Prelude.{slice_index}
-use Rattle.std.specs.List.{list_any}
 use Rattle.std.specs.Str.{bytes_eq}
-use Rattle.std.proofs.lemmas.Bool.{and_from, and_parts, or_cases, or_left, or_parts, or_right}
+use Rattle.std.proofs.lemmas.Bool.{and_from, and_parts, or_parts}
 use Rattle.exact.specs.First.{first_that_holds}
+use Rattle.exact.proofs.Items.{any_weaker}
 use Rattle.history.specs.World.{World}
 use Rattle.formula_shape.specs.Shape as shapes
 use Rattle.formula_shape.specs.Sizes.{has_not}
@@ -23,19 +23,11 @@ use Rattle.line_meaning.specs.Blurred.{blurred_refusal, has_not_or_circle, is_bl
 
 -- ---- more bindings pass
 
-any_more : {X : Type 0} (f g : X → Bool) → ((x : X) → f x ≡ true → g x ≡ true) → (xs : List X) → list_any f xs ≡ true → list_any g xs ≡ true
-any_more f g more [] has = has
-any_more f g more (x ∷ xs) has =
-    elim (or_cases (f x) (list_any f xs) has) [
-      | inl here ↦ or_left (g x) (list_any g xs) (more x here)
-      | inr later ↦ or_right (g x) (list_any g xs) (any_more f g more xs later)
-    ]
-
 pub told_more : (j k : (ℕ → ℕ) → Interpretation) (w : World) (q : ResolvedQuery) (e : ℕ) (key : List ℕ) (t : ℕ)
     → ((b : ℕ → ℕ) → sat (j b) q.formula no_values e t ≡ true → sat (k b) q.formula no_values e t ≡ true)
     → target_where w q (holds_by j w q e) key t ≡ true → target_where w q (holds_by k w q e) key t ≡ true
 told_more j k w q e key t more =
-    any_more
+    any_weaker
     (λ b. bytes_eq (tuple_of q b) key && holds_by j w q e (slice_index b) t)
     (λ b. bytes_eq (tuple_of q b) key && holds_by k w q e (slice_index b) t)
     (λ b passes.

@@ -1,5 +1,5 @@
 -- A quotient that is rounded up is the first number at which a product reaches a bound.
-use Rattle.std.proofs.Common.{◌≡◌, ℕ, zero, suc, ◌+◌, ◌*◌, ◌<◌, ◌≤◌, ⊎_elim, ℤ, pos, ◌+ℤ◌, ◌<ℤ◌, nat_le, int_le, unsigned_abs, subst, sym, arith}
+use Rattle.std.proofs.Common.{◌≡◌, ℕ, suc, ◌+◌, ◌*◌, ◌<◌, ◌≤◌, ⊎_elim, ℤ, pos, ◌+ℤ◌, ◌<ℤ◌, nat_le, int_le, unsigned_abs, subst, sym, arith}
 use Rattle.std.specs.Int.{div_ceil}
 use Rattle.std.proofs.Math.Nat.{mul-le-mul_left}
 use Rattle.std.proofs.lemmas.Bool.{cases_lt}
@@ -22,18 +22,3 @@ rounded_up r s f k start p n d e =
     let b = subst P (sym e) (div_ceil_times s r p) in
     let at : nat_le f k ≡ nat_le s (r * k) = reached s r f k b.0 b.1 in
     grind (arith, ints, nat_tests)
-
--- where a product reaches the bound, the quotient is no larger than its factor
-pub rounded_few : (r s f n : ℕ) → 0 < r → s ≤ r * n → f ≡ div_ceil s r → f ≤ n
-rounded_few r s f n p most e =
-    let P : ℕ → Type 0 = λ g. (s ≤ g * r) × (g * r < s + r) in
-    let b = subst P (sym e) (div_ceil_times s r p) in
-    ⊎_elim
-    (λ (l : n < f). let far : r * suc n ≤ r * f = mul-le-mul_left r l in grind (arith, b, far, most))
-    (λ (l : f ≤ n). l)
-    (cases_lt n f)
-
--- a factor of a product that is not 0
-pub factor_above : (r s n : ℕ) → 0 < s → s ≤ r * n → 0 < r
-factor_above zero s n p most = omega (arith, p, most)
-factor_above (suc r) s n p most = omega arith

@@ -4,7 +4,6 @@ use Rattle.std.specs.Prelude.{nat_le, slice_index}
 use Rattle.std.specs.List.{cons_option, filter, filter_map}
 use Rattle.std.specs.Option.{option_map}
 use Rattle.std.proofs.lemmas.Bool.{cases_Bool}
-use Rattle.std.proofs.lemmas.Bool.Decides.{nat_tests}
 use Rattle.tick_set.specs.Runs.{runs_of}
 use Rattle.tick_set.specs.Ticks.{between, listed}
 use Rattle.tick_set.proofs.Between.{within_from}
@@ -24,6 +23,7 @@ use Rattle.live_queries.specs.Kept.{IsKeptQuery, KeptQuery, registered_query}
 use Rattle.live_queries.specs.Told.{Told, answer_of, key_of, passing_change, passings_of, row_of_line, target_count, target_width, told_changes}
 use Rattle.live_queries.proofs.NumberingLemmas.{at_number, between_same, listed_product, objects_at, size_some}
 use Rattle.live_queries.proofs.TargetLemmas.{counted_front, key_is, no_times, target_variables, times_are}
+use Rattle.exact.proofs.Naturals.{at_most_from_test}
 
 -- ---- lists
 
@@ -92,9 +92,6 @@ passes k n key e true false = ap (λ own. Some (told k (passage own true false))
 passes k n key e false true = ap (λ own. Some (told k (passage own false true))) e
 passes k n key e false false = refl
 
-upto : (t e : ℕ) → nat_le t e ≡ true → t ≤ e
-upto t e h = grind (arith, nat_tests, h)
-
 module _ (w : World) (before : ℕ) (k : KeptQuery) (is : IsKeptQuery k) (current : IsCurrentFor w before k) where
   abbrev fronts : List Column
   fronts = take (length k.query.targets) k.columns
@@ -148,7 +145,7 @@ module _ (w : World) (before : ℕ) (k : KeptQuery) (is : IsKeptQuery k) (curren
   stands : (n : ℕ) (few : n < target_count k) → counts (column_variables fronts) n ≡ true → (t : ℕ) → k.entry ≤ t → told_from k before ≤ t →
       (nat_le t k.expiry && target_has (row_at k) (target_width k) n t) ≡ stands_at k.expiry (holds (objects_at fronts n)) t
   stands n few there t after told_later = elim (cases_Bool (nat_le t k.expiry)) [
-    | inl l ↦ ap (λ b. nat_le t k.expiry && b) (times_are w before k is current n few there t told_later (within_from k.entry k.expiry t after (upto t k.expiry l)))
+    | inl l ↦ ap (λ b. nat_le t k.expiry && b) (times_are w before k is current n few there t told_later (within_from k.entry k.expiry t after (at_most_from_test t k.expiry l)))
     | inr past ↦
         ap (λ b. b && target_has (row_at k) (target_width k) n t) past ∙ sym (ap (λ b. b && holds (objects_at fronts n) t) past)
   ]

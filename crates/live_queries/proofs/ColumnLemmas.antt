@@ -7,6 +7,8 @@ use Rattle.std.proofs.lemmas.Bool.Decides.{nat_tests}
 use Rattle.formula.specs.Resolved.{are_distinct}
 use Rattle.kept_rows.specs.Numbers.{counts, size_of}
 use Rattle.live_queries.specs.Columns.{Column, column_variables, columns_have, gives, object_at_number}
+use Rattle.exact.proofs.Truths.{both_and, false_from_not}
+use Rattle.exact.proofs.Naturals.{equals_itself}
 
 -- `New` is what is known where the object wasn't there before
 pub record IsGrown (New : Type 0) (id : ℕ) (c d : Column) : Type 0 where
@@ -24,21 +26,8 @@ AreGrown New id (c ∷ cs) (d ∷ ds) = IsGrown New id c d × AreGrown New id cs
 
 -- ---- numbers
 
-pub own : (id : ℕ) → (id == id) ≡ true
-own id = grind (arith, nat_tests)
-
-pub equal : (u w : ℕ) → (u == w) ≡ true → u ≡ w
-equal u w h = grind (arith, nat_tests, h)
-
 pub turned : (u w : ℕ) → (u == w) ≡ true → (w == u) ≡ true
 turned u w h = grind (arith, nat_tests, h)
-
-pub less : (u w : ℕ) → u < w → nat_lt u w ≡ true
-less u w h = grind (arith, nat_tests, h)
-
-pub not_true : (a : Bool) → not a ≡ true → a ≡ false
-not_true true h = absurd (false≢true h)
-not_true false h = refl
 
 -- a variable that isn't that of the first column is that of a later one
 pub later_variable : (c : Column) (cs : List Column) (v : ℕ) → (v == c.variable) ≡ false → columns_have (c ∷ cs) v ≡ true → columns_have cs v ≡ true
@@ -50,7 +39,7 @@ later_variable c cs v other has = elim (or_cases (c.variable == v) (columns_have
 -- ---- one column
 
 same_index : (xs : List ℕ) (id p : ℕ) → (slice_index (xs ++ id ∷ []) p == id) ≡ false → slice_index (xs ++ id ∷ []) p ≡ slice_index xs p
-same_index [] id zero h = absurd (both_ways (id == id) h (own id))
+same_index [] id zero h = absurd (both_ways (id == id) h (equals_itself id))
 same_index [] id (suc p) h = refl
 same_index (x ∷ xs) id zero h = refl
 same_index (x ∷ xs) id (suc p) h = same_index xs id p h
@@ -90,7 +79,7 @@ module _ (New : Type 0) (id : ℕ) (c d : Column) (grown : IsGrown New id c d) (
         lt_other p d.numbers.count c.numbers.count (length c.ids)
         (grown.new_count ∙ ap length more.0 ∙ one_more c.ids id) grown.old_count
         (λ last. both_ways (slice_index d.ids p == id) other
-        (ap (λ o. o == id) (ap (λ ids. slice_index ids p) more.0 ∙ ap (slice_index (c.ids ++ id ∷ [])) last ∙ last_index c.ids id) ∙ own id))
+        (ap (λ o. o == id) (ap (λ ids. slice_index ids p) more.0 ∙ ap (slice_index (c.ids ++ id ∷ [])) last ∙ last_index c.ids id) ∙ equals_itself id))
   ]
 
   column_more : nat_lt p c.numbers.count ≡ true → nat_lt p d.numbers.count ≡ true
@@ -119,9 +108,6 @@ module _ (New : Type 0) (id : ℕ) (c d : Column) (grown : IsGrown New id c d) (
   ]
 
 -- ---- all columns
-
-both_and : (a a' b b' : Bool) → a ≡ a' → b ≡ b' → (a && b) ≡ (a' && b')
-both_and a a' b b' e f = λ i. e i && f i
 
 if_same : (b b' : Bool) (x x' y y' : ℕ) → b ≡ b' → x ≡ x' → y ≡ y' → (if b then x else y) ≡ (if b' then x' else y')
 if_same b b' x x' y y' e f g = λ i. if e i then f i else g i
@@ -208,8 +194,8 @@ new_or_before New id (c ∷ cs) (d ∷ ds) g distinct n h =
         none = ap (λ w. nat_lt (n / w) c.numbers.count && counts (column_variables cs) (n % w)) (sym e)
             ∙ ap (λ b. b && counts (column_variables cs) (n % width)) anew.0;
         variable = d.variable;
-        there = or_left (d.variable == d.variable) (columns_have ds d.variable) (own d.variable);
-        object = ap (λ b. if b then slice_index d.ids (n / width) else object_at_number ds (n % width) d.variable) (own d.variable) ∙ anew.1;
+        there = or_left (d.variable == d.variable) (columns_have ds d.variable) (equals_itself d.variable);
+        object = ap (λ b. if b then slice_index d.ids (n / width) else object_at_number ds (n % width) d.variable) (equals_itself d.variable) ∙ anew.1;
         new = anew.2;
       })
       | inl old ↦ elim (new_or_before New id cs ds g.1 apart.1 (n % width) parts.1) [
@@ -218,7 +204,7 @@ new_or_before New id (c ∷ cs) (d ∷ ds) g distinct n h =
           variable = later.variable;
           there = or_right (d.variable == later.variable) (columns_have ds later.variable) later.there;
           object = ap (λ b. if b then slice_index d.ids (n / width) else object_at_number ds (n % width) later.variable)
-              (not_head d.variable later.variable ds (not_true _ apart.0) later.there) ∙ later.object;
+              (not_head d.variable later.variable ds (false_from_not _ apart.0) later.there) ∙ later.object;
           new = later.new;
         })
         | inr before ↦ inr (

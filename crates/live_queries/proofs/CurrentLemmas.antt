@@ -27,6 +27,7 @@ use Rattle.live_queries.specs.Renewed.{AddsAtMost, AreRenewedRows, IsRenewed, Is
 use Rattle.live_queries.proofs.ColumnLemmas.{AreGrown, counts_more, new_or_before, not_given, same_counts, same_objects}
 use Rattle.live_queries.proofs.ObjectLemmas.{grown_columns, none_past, objects_grow}
 use Rattle.live_queries.proofs.OrderLemmas.{columns_are, order_below, order_distinct, order_has}
+use Rattle.exact.proofs.Naturals.{above_from_test}
 
 -- one row at one tick: whether the query is judged anew there, the binding has the object, is one now and before, the
 -- tick is in the window, it satisfies the query before and now, and its row before and now
@@ -116,9 +117,6 @@ binding_stays id now old new changes adds regions k k' is is' current renewed n 
 pub same_start : {k k' : KeptQuery} → IsSameRequest k k' → (now : ℕ) → told_from k' now ≡ told_from k now
 same_start head now = λ i. first_tick (head.kind i) (head.entry i) now
 
-is_past : (now e : ℕ) → nat_le now e ≡ false → e < now
-is_past now e h = grind (arith, nat_tests, h)
-
 -- whether a tick is judged: the query runs still, and the write may change what is told of the tick
 abbrev judged_at : KeptQuery → ℕ → ℕ → Bool
 judged_at k now t = nat_le now k.expiry && nat_le (judged_from k now) t
@@ -149,7 +147,7 @@ renewed_row w id now k columns rows renewed c t from =
             renewed.anew c judged t from (is_from (judged_from k now) t later)
             ∙ sym (ap (λ b. if b then there else row_at k c t) (both (nat_le now k.expiry) (nat_le (judged_from k now) t) held judged later))
         | inr before ↦
-            renewed.past c judged t from (is_past (judged_from k now) t before)
+            renewed.past c judged t from (above_from_test (judged_from k now) t before)
             ∙ sym (ap (λ b. if b then there else row_at k c t) (before_it (nat_le now k.expiry) (nat_le (judged_from k now) t) held before))
       ]
     ]
@@ -219,11 +217,11 @@ stays_current id now old new changes adds regions k k' is is' others expired uns
     inside t h = (within_parts k.entry k.expiry t h).1
 
     seen : (t : ℕ) → told_from k now ≤ t → nat_le (judged_from k now) t ≡ false → (n : ℕ) × (reach k.query.formula ≡ Some n) × (t + n < now)
-    seen t told h = sees_no_write k.kind (reach k.query.formula) k.entry now t told (is_past (judged_from k now) t h)
+    seen t told h = sees_no_write k.kind (reach k.query.formula) k.entry now t told (above_from_test (judged_from k now) t h)
 
     past : (t : ℕ) → told_from k now ≤ t → judged_at k now t ≡ false → within k.entry k.expiry t ≡ true → t < now
     past t told h l = elim (not_judged (nat_le now k.expiry) (nat_le (judged_from k now) t) h) [
-      | inl over ↦ before now k.expiry t (is_past now k.expiry over) (inside t l)
+      | inl over ↦ before now k.expiry t (above_from_test now k.expiry over) (inside t l)
       | inr early ↦ ends t (seen t told early).0 now (seen t told early).2
     ]
       where
@@ -236,7 +234,7 @@ stays_current id now old new changes adds regions k k' is is' others expired uns
     unjudged : (t : ℕ) → told_from k now ≤ t → judged_at k now t ≡ false → (b : ℕ → ℕ) → within k.entry k.expiry t ≡ true →
         holds_full (world_with old regions) k.query k.expiry b t ≡ holds_full (world_with new regions) k.query k.expiry b t
     unjudged t told h b l = elim (not_judged (nat_le now k.expiry) (nat_le (judged_from k now) t) h) [
-      | inl over ↦ expired b t (inside t l) (is_past now k.expiry over)
+      | inl over ↦ expired b t (inside t l) (above_from_test now k.expiry over)
       | inr early ↦ unseen (seen t told early).0 (seen t told early).1 b t (inside t l) (seen t told early).2
     ]
 

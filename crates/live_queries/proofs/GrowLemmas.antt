@@ -19,9 +19,10 @@ use Rattle.live_queries.specs.Asked.{ExtendsCatalog, class_in}
 use Rattle.live_queries.specs.Columns.{AreCounted, Column, HaveCapacitiesOf, HaveObjectsOf, column_variables, columns_have, gives}
 use Rattle.live_queries.specs.Prepared.{AreColumnsWith, HaveRoomFor, is_of_class}
 use Rattle.live_queries.specs.Written.{AreVariablesWith, DoAscendWith, HaveObjectsWith, lacks_objects, takes_object}
-use Rattle.live_queries.proofs.ColumnLemmas.{AreGrown, equal, one_more, own}
+use Rattle.live_queries.proofs.ColumnLemmas.{AreGrown, one_more}
 use Rattle.live_queries.proofs.ObjectLemmas.{HasGrown, grown_by}
 use Rattle.live_queries.proofs.PartLemmas.{class_is, class_of_variable, variable_of_class}
+use Rattle.exact.proofs.Naturals.{equals_itself, same_from_equal}
 
 -- ---- one class before and after
 
@@ -32,7 +33,7 @@ grown id old new before class =
     (sym (take-append-drop n new.objects) ∙ ap (λ front. front ++ drop n new.objects) before.objects)
 
 last_is_there : (xs : List ℕ) (id : ℕ) → has_id (xs ++ id ∷ []) id ≡ true
-last_is_there xs id = list_any-append (λ i. i == id) xs (id ∷ []) ∙ or_right (has_id xs id) ((id == id) || false) (or_left (id == id) false (own id))
+last_is_there xs id = list_any-append (λ i. i == id) xs (id ∷ []) ∙ or_right (has_id xs id) ((id == id) || false) (or_left (id == id) false (equals_itself id))
 
 no_object : (n m : ℕ) → n ≡ m → nat_lt m n ≡ false
 no_object n m e = grind (arith, nat_tests, e)
@@ -50,7 +51,7 @@ module _ (s : Contents) (old : Catalog) (id : ℕ) (before : ExtendsCatalog id o
     | inl same ↦ same
     | inr more ↦
         let is : class_in s id ≡ class = class_is s class id (ap (λ ids. has_id ids id) more.0 ∙ last_is_there (ids_of old class) id) in
-        absurd (both_ways (class == class_in s id) other (ap (λ k. class == k) is ∙ own class))
+        absurd (both_ways (class == class_in s id) other (ap (λ k. class == k) is ∙ equals_itself class))
   ]
 
   abbrev has_more : ℕ → Bool
@@ -72,7 +73,7 @@ module _ (s : Contents) (old : Catalog) (id : ℕ) (before : ExtendsCatalog id o
     of_class c = is_of_class classes class c.variable
 
     class_of_column : (c : Column) → of_class c ≡ true → slice_index classes c.variable ≡ class
-    class_of_column c here = equal (slice_index classes c.variable) class (class_of_variable classes class c.variable here)
+    class_of_column c here = same_from_equal (slice_index classes c.variable) class (class_of_variable classes class c.variable here)
 
     -- a column of the class lacks the object where the class has more
     pub lack_is : (cs : List Column) → HaveObjectsOf old classes cs →
@@ -126,8 +127,8 @@ module _ (s : Contents) (old : Catalog) (id : ℕ) (before : ExtendsCatalog id o
             ∙ have.0
             ∙ sym (other_class (slice_index classes c.variable)
             (not_equal (slice_index classes c.variable) (class_in s id)
-            (λ e. both_ways (of_class c) other (variable_of_class classes class c.variable (below c.variable (or_left (c.variable == c.variable) (columns_have cs c.variable) (own c.variable)))
-            (ap (λ k. slice_index classes c.variable == k) (is ∙ sym e) ∙ own (slice_index classes c.variable))))))
+            (λ e. both_ways (of_class c) other (variable_of_class classes class c.variable (below c.variable (or_left (c.variable == c.variable) (columns_have cs c.variable) (equals_itself c.variable)))
+            (ap (λ k. slice_index classes c.variable == k) (is ∙ sym e) ∙ equals_itself (slice_index classes c.variable))))))
       ],
       have_with grows cs have.1 (λ v has. below v (or_right (c.variable == v) (columns_have cs v) has)) (later_tells grows c cs tells),
     )
@@ -157,7 +158,7 @@ module _ (catalog : Catalog) (grows : Bool) (class : ℕ) (classes : List ℕ) (
   have_room count is room [] have capacities counted yes_grows = tt
   have_room count is room (c ∷ cs) have capacities counted yes_grows = (
     λ here.
-        let same : slice_index classes c.variable ≡ class = equal (slice_index classes c.variable) class (class_of_variable classes class c.variable here) in
+        let same : slice_index classes c.variable ≡ class = same_from_equal (slice_index classes c.variable) class (class_of_variable classes class c.variable here) in
         let ids : c.ids ++ id ∷ [] ≡ ids_of catalog class =
         (λ i. if sym yes_grows i && sym here i then c.ids ++ id ∷ [] else c.ids) ∙ have.0 ∙ ap (ids_of catalog) same in
         let many : length (c.ids ++ id ∷ []) ≡ length (ids_of catalog class) = ap length ids in

@@ -10,8 +10,10 @@ use Rattle.formula.specs.Resolved.{are_distinct}
 use Rattle.kept_rows.specs.Numbers.{counts, size_of}
 use Rattle.live_queries.specs.Columns.{AreCounted, Column, column_variables, columns_have, object_at_number, object_or}
 use Rattle.live_queries.specs.Numbered.{AreAmong, IsNumberOf}
-use Rattle.live_queries.proofs.ColumnLemmas.{equal, later_variable, less, not_true, own}
+use Rattle.live_queries.proofs.ColumnLemmas.{later_variable}
 use Rattle.live_queries.proofs.NumberingLemmas.{objects_at, size_some}
+use Rattle.exact.proofs.Truths.{false_from_not}
+use Rattle.exact.proofs.Naturals.{equals_itself, same_from_equal, test_below}
 
 abbrev sized : List Column → ℕ
 sized cs = size_of (column_variables cs)
@@ -114,7 +116,7 @@ each_object (c ∷ cs) n f same v has =
     elim (cases_Bool (v == c.variable)) [
       | inl here ↦
           ap (λ b. if b then slice_index c.ids (n / sized cs) else object_at_number cs (n % sized cs) v) here
-          ∙ ap (head_or 0) same ∙ ap f (sym (equal v c.variable here))
+          ∙ ap (head_or 0) same ∙ ap f (sym (same_from_equal v c.variable here))
       | inr other ↦
           ap (λ b. if b then slice_index c.ids (n / sized cs) else object_at_number cs (n % sized cs) v) other
           ∙ each_object cs (n % sized cs) f (ap tail_of same) v (later_variable c cs v other has)
@@ -133,8 +135,8 @@ pub objects_are : (cs : List Column) (n : ℕ) → are_distinct (map (λ c. c.va
 objects_are [] n distinct = refl
 objects_are (c ∷ cs) n distinct =
     let parts = and_parts (not (list_any (λ (y : ℕ). y == c.variable) (map (λ (x : Column). x.variable) cs))) (are_distinct (map (λ (x : Column). x.variable) cs)) distinct in
-    (λ i. (if own c.variable i then slice_index c.ids (n / sized cs) else object_at_number cs (n % sized cs) c.variable)
-    ∷ skip (map (λ (x : Column). x.variable) cs) (not_true _ parts.0) i)
+    (λ i. (if equals_itself c.variable i then slice_index c.ids (n / sized cs) else object_at_number cs (n % sized cs) c.variable)
+    ∷ skip (map (λ (x : Column). x.variable) cs) (false_from_not _ parts.0) i)
     ∙ ap (λ rest. slice_index c.ids (n / sized cs) ∷ rest) (objects_are cs (n % sized cs) parts.1)
   where
     skip : (vs : List ℕ) → list_any (λ (y : ℕ). y == c.variable) vs ≡ false → map (object_at_number (c ∷ cs) n) vs ≡ map (object_at_number cs (n % sized cs)) vs
@@ -162,7 +164,7 @@ pub record Placed (ids : List ℕ) (id : ℕ) : Type 0 where
 pub placed : (ids : List ℕ) (id : ℕ) → has_id ids id ≡ true → Placed ids id
 placed [] id has = absurd (false≢true has)
 placed (x ∷ ids) id has = elim (or_cases (x == id) (has_id ids id) has) [
-  | inl here ↦ record { place = 0; below = omega arith; object = equal x id here }
+  | inl here ↦ record { place = 0; below = omega arith; object = same_from_equal x id here }
   | inr later ↦
       let p = placed ids id later in record { place = suc p.place; below = omega (arith, p.below); object = p.object }
 ]
@@ -176,11 +178,11 @@ numbered_more c cs f place number few object is =
     record {
       below = below_joined place number c.numbers.capacity w (omega (arith, few, c.numbers.room)) is.below;
       counted = and_from (nat_lt ((place * w + number) / w) c.numbers.count) (counts (column_variables cs) ((place * w + number) % w))
-          (ap (λ q. nat_lt q c.numbers.count) quotient ∙ less place c.numbers.count few) (ap (counts (column_variables cs)) remainder ∙ is.counted);
+          (ap (λ q. nat_lt q c.numbers.count) quotient ∙ test_below place c.numbers.count few) (ap (counts (column_variables cs)) remainder ∙ is.counted);
       objects = λ v has. elim (cases_Bool (v == c.variable)) [
         | inl here ↦
             ap (λ b. if b then slice_index c.ids ((place * w + number) / w) else object_at_number cs ((place * w + number) % w) v) here
-            ∙ ap (slice_index c.ids) quotient ∙ object ∙ ap f (sym (equal v c.variable here))
+            ∙ ap (slice_index c.ids) quotient ∙ object ∙ ap f (sym (same_from_equal v c.variable here))
         | inr other ↦
             ap (λ b. if b then slice_index c.ids ((place * w + number) / w) else object_at_number cs ((place * w + number) % w) v) other
             ∙ ap (λ m. object_at_number cs m v) remainder ∙ is.objects v (later_variable c cs v other has)

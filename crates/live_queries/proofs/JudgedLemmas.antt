@@ -4,7 +4,6 @@ use Rattle.std.specs.Prelude.{All, ◌==◌, not, nat_le, nat_lt, slice_index}
 use Rattle.std.specs.List.{flat_map, list_any}
 use Rattle.std.specs.List.Sorted.{IsStrictlyIncreasing}
 use Rattle.std.proofs.lemmas.Bool.{and_parts, cases_Bool, false≢true, or_cases, or_left, or_right}
-use Rattle.tick_set.proofs.Between.{same_test}
 use Rattle.tick_set.specs.Runs.{spans_have}
 use Rattle.tick_set.specs.Ticks.{between, within}
 use Rattle.tick_set.specs.declared.spans.Span.{Span}
@@ -32,15 +31,17 @@ use Rattle.live_queries.specs.Columns.{AreColumnsOf, AreCounted, Column, HaveObj
 use Rattle.live_queries.specs.Numbered.{DoAscend, HaveDomains, IsOverColumns}
 use Rattle.live_queries.specs.Prepared.{AreColumnsWith, is_of_class}
 use Rattle.live_queries.specs.Written.{ArePartsOf, AreVariablesWith, HaveObjectsWith, parts_have, single_for}
-use Rattle.live_queries.proofs.ColumnLemmas.{equal, less, not_head, not_true, own}
+use Rattle.live_queries.proofs.ColumnLemmas.{not_head}
 use Rattle.live_queries.proofs.FormedLemmas.{are_counted, has_column, have_objects, variables_are}
 use Rattle.live_queries.proofs.GrowLemmas.{counts_with, grown_with, holds_with, objects_with}
 use Rattle.live_queries.proofs.MadeLemmas.{counted, same_order}
-use Rattle.live_queries.proofs.OrderLemmas.{among, columns_are, less_is, order_below, order_distinct}
+use Rattle.live_queries.proofs.OrderLemmas.{among, columns_are, order_below, order_distinct}
 use Rattle.live_queries.proofs.PartLemmas.{all_singles, class_is, class_of_variable, object_of_its_class, parts_right, some_single, variable_of_class}
 use Rattle.live_queries.proofs.ReadLemmas.{as_many_domains, domain_of_variable}
 use Rattle.live_queries.proofs.TargetLemmas.{object_is_of_class}
 use Rattle.live_queries.proofs.WriteLemmas.{added_object}
+use Rattle.exact.proofs.Truths.{false_from_not, same_truth}
+use Rattle.exact.proofs.Naturals.{below_from_test, equals_itself, same_from_equal, test_below}
 
 -- ---- one relation over all variables
 
@@ -64,7 +65,7 @@ have_domains : (catalog : Catalog) (classes : List ℕ) (domains : List (List �
 have_domains catalog classes domains [] all have below = tt
 have_domains catalog classes domains (c ∷ cs) all have below = (
   ap (λ (d : List (List ℕ)). domain_of d c.variable) all
-      ∙ domain_at (ids_of catalog) classes c.variable (below c.variable (or_left (c.variable == c.variable) (columns_have cs c.variable) (own c.variable)))
+      ∙ domain_at (ids_of catalog) classes c.variable (below c.variable (or_left (c.variable == c.variable) (columns_have cs c.variable) (equals_itself c.variable)))
       ∙ sym have.0,
   have_domains catalog classes domains cs all have.1 (λ v table_has. below v (or_right (c.variable == v) (columns_have cs v) table_has)),
 )
@@ -85,8 +86,8 @@ is_over w q lo hi cs domains full is are all vars same =
       count = length q.classes;
       vars = vars;
       each = λ v.
-          same_test (columns_have cs v) (nat_lt v (length q.classes)) (λ table_has. less v (length q.classes) (below v table_has))
-          (λ h. has_column q cs is order v (less_is v (length q.classes) h));
+          same_truth (columns_have cs v) (nat_lt v (length q.classes)) (λ table_has. test_below v (length q.classes) (below v table_has))
+          (λ h. has_column q cs is order v (below_from_test v (length q.classes) h));
       domains = have_domains w.history.catalog q.classes full.domains cs (ap (λ (f : Frame). f.domains) same ∙ all) have below;
     }
 
@@ -124,8 +125,8 @@ given (d ∷ ds) id n distinct table_has =
     elim (or_cases (slice_index d.ids (n / w) == id) (gives ds id (n % w)) table_has) [
       | inl here ↦ record {
         variable = d.variable;
-        there = or_left (d.variable == d.variable) (columns_have ds d.variable) (own d.variable);
-        object = ap (λ b. if b then slice_index d.ids (n / w) else object_at_number ds (n % w) d.variable) (own d.variable) ∙ equal (slice_index d.ids (n / w)) id here;
+        there = or_left (d.variable == d.variable) (columns_have ds d.variable) (equals_itself d.variable);
+        object = ap (λ b. if b then slice_index d.ids (n / w) else object_at_number ds (n % w) d.variable) (equals_itself d.variable) ∙ same_from_equal (slice_index d.ids (n / w)) id here;
       }
       | inr behind ↦
           let later = given ds id (n % w) apart.1 behind in
@@ -133,7 +134,7 @@ given (d ∷ ds) id n distinct table_has =
             variable = later.variable;
             there = or_right (d.variable == later.variable) (columns_have ds later.variable) later.there;
             object = ap (λ b. if b then slice_index d.ids (n / w) else object_at_number ds (n % w) later.variable)
-                (not_head d.variable later.variable ds (not_true _ apart.0) later.there) ∙ later.object;
+                (not_head d.variable later.variable ds (false_from_not _ apart.0) later.there) ∙ later.object;
           }
     ]
 
@@ -161,7 +162,7 @@ module _ (s : Contents) (regions : List Region) (q : ResolvedQuery) (is : IsReso
       subst (All (λ x. AreOfItsClasses cat q x.domains)) (sym are)
       (all_singles cat q.classes class id (λ x. AreOfItsClasses cat q x.domains) (λ v of. record {
         many = as_many_domains cat q.classes id v;
-        each = λ u object below table_has. one v u object (v == u) refl (equal (slice_index q.classes v) class (class_of_variable q.classes class v of))
+        each = λ u object below table_has. one v u object (v == u) refl (same_from_equal (slice_index q.classes v) class (class_of_variable q.classes class v of))
             (sym (ap (λ ids. has_id ids object) (domain_of_variable cat q.classes id v u below)) ∙ table_has);
       }))
     where
@@ -170,8 +171,8 @@ module _ (s : Contents) (regions : List Region) (q : ResolvedQuery) (is : IsReso
       one v u object false e of table_has = table_has
       one v u object true e of table_has = elim (or_cases (id == object) false table_has) [
         | inl here ↦
-            ap (has_id (ids_of cat (slice_index q.classes u))) (sym (equal id object here))
-            ∙ ap (λ k. has_id (ids_of cat k) id) (ap (slice_index q.classes) (sym (equal v u e)) ∙ of ∙ its)
+            ap (has_id (ids_of cat (slice_index q.classes u))) (sym (same_from_equal id object here))
+            ∙ ap (λ k. has_id (ids_of cat k) id) (ap (slice_index q.classes) (sym (same_from_equal v u e)) ∙ of ∙ its)
             ∙ object_of_its_class s id there
         | inr never ↦ absurd (false≢true never)
       ]
@@ -202,7 +203,7 @@ module _ (s : Contents) (regions : List Region) (q : ResolvedQuery) (is : IsReso
         one : (v u : ℕ) (b : Bool) → (v == u) ≡ b → object_at_number ds n v ≡ id → u < length q.classes →
             has_id (if b then id ∷ [] else ids_of cat (slice_index q.classes u)) (object_at_number ds n u) ≡ true
         one v u true e object below =
-            or_left (id == object_at_number ds n u) false (ap (λ o. id == o) (ap (object_at_number ds n) (sym (equal v u e)) ∙ object) ∙ own id)
+            or_left (id == object_at_number ds n u) false (ap (λ o. id == o) (ap (object_at_number ds n) (sym (same_from_equal v u e)) ∙ object) ∙ equals_itself id)
         one v u false e object below = of_class u (has_column q ds is new_order u below)
 
     pub judged_right : gives ds id n ≡ true → (t : ℕ) →
@@ -215,14 +216,14 @@ module _ (s : Contents) (regions : List Region) (q : ResolvedQuery) (is : IsReso
         (ap (has_id (ids_of cat (slice_index q.classes found.variable))) (sym found.object) ∙ of_class found.variable found.there) in
         let of : is_of_class q.classes class found.variable ≡ true =
         variable_of_class q.classes class found.variable below
-        (ap (λ k. slice_index q.classes found.variable == k) (its ∙ same) ∙ own (slice_index q.classes found.variable)) in
+        (ap (λ k. slice_index q.classes found.variable == k) (its ∙ same) ∙ equals_itself (slice_index q.classes found.variable)) in
         ap (λ (b : ℕ → ℕ). parts_have parts id b t)
         (λ i v. added_object (Unit {0}) id cs ds (grown_with cat grows class q.classes id cs ds are made) n here v i)
         ∙ parts_right (world_in s regions) q lo hi id t (object_at_number ds n) singles parts told
         (subst (All (λ x. object_at_number ds n x.variable ≡ id → IsIn x.domains (object_at_number ds n))) (sym all) inside)
         (ap (list_any (λ x. object_at_number ds n x.variable == id)) all
         ∙ some_single cat q.classes class id (object_at_number ds n) found.variable below of
-        (ap (λ o. o == id) found.object ∙ own id))
+        (ap (λ o. o == id) found.object ∙ equals_itself id))
 
   -- the rows, where the bindings that hold the object are judged right from a tick on
   pub rows_are : (lo hi from : ℕ) (grows : Bool) (cs : List Column) (vs : List Variable) → AreVariablesWith grows class q.classes id cs vs →

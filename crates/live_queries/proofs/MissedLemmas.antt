@@ -3,7 +3,6 @@ use Rattle.std.proofs.Common.{◌≡◌, ℕ, ◌/◌, ◌%◌, ◌<◌, ◌≤�
 use Rattle.std.specs.Prelude.{◌==◌, nat_le, nat_lt, slice_index}
 use Rattle.std.specs.List.{enumerate_from, filter}
 use Rattle.std.proofs.lemmas.Bool.{and_parts, false≢true, or_cases, or_left}
-use Rattle.std.proofs.lemmas.Bool.Decides.{nat_tests}
 use Rattle.std.proofs.lemmas.List.{length-map}
 use Rattle.std.proofs.lemmas.List.FromFn.{length-enumerate_from}
 use Rattle.std.proofs.lemmas.List.Sums.{count_by-le-length, length-filter}
@@ -27,11 +26,11 @@ use Rattle.live_queries.specs.Renewed.{judged_from}
 use Rattle.live_queries.specs.Untouched.{untouched}
 use Rattle.live_queries.specs.Written.{HaveObjectsWith}
 use Rattle.live_queries.proofs.AnewLemmas.{alive_rows, renewed_objects}
-use Rattle.live_queries.proofs.ColumnLemmas.{equal, own}
 use Rattle.live_queries.proofs.GrowLemmas.{objects_with}
 use Rattle.live_queries.proofs.JudgedLemmas.{one_object}
 use Rattle.live_queries.proofs.MadeLemmas.{counted, same_order}
 use Rattle.live_queries.proofs.OrderLemmas.{among, columns_are, order_below}
+use Rattle.exact.proofs.Naturals.{below_from_test, equals_itself, same_from_equal}
 
 -- ---- the place of the object
 
@@ -51,9 +50,6 @@ if_either : (b : Bool) (x y z : Bool) → (b ≡ true → z ≡ x) → z ≡ y �
 if_either true x y z first second = first refl
 if_either false x y z first second = second
 
-less_is : (a b : ℕ) → nat_lt a b ≡ true → a < b
-less_is a b e = grind (arith, nat_tests, e)
-
 -- the number of the binding that holds the object is its place
 number_is_place : (ids : List ℕ) (id place : ℕ) → ((p : ℕ) → p < length ids → (p == place) ≡ (slice_index ids p == id)) →
     (ds : List Column) → length ds ≡ 1 → AreCounted ds → ((d : Column) → ds ≡ d ∷ [] → d.ids ≡ ids) →
@@ -61,18 +57,18 @@ number_is_place : (ids : List ℕ) (id place : ℕ) → ((p : ℕ) → p < lengt
 number_is_place ids id place its [] one are same n here holding = absurd (omega (arith, one))
 number_is_place ids id place its (d ∷ e ∷ ds) one are same n here holding = absurd (omega (arith, one))
 number_is_place ids id place its (d ∷ []) one are same n here holding =
-    let own : d.ids ≡ ids = same d refl in
+    let equals_itself : d.ids ≡ ids = same d refl in
     let whole : n / 1 ≡ n = omega arith in
     let below : n < d.numbers.count =
     subst (λ (m : ℕ). m < d.numbers.count) whole
-    (less_is (n / 1) d.numbers.count (and_parts (nat_lt (n / 1) d.numbers.count) (counts [] (n % 1)) here).0) in
-    let many : d.numbers.count ≡ length ids = are.0 ∙ ap length own in
+    (below_from_test (n / 1) d.numbers.count (and_parts (nat_lt (n / 1) d.numbers.count) (counts [] (n % 1)) here).0) in
+    let many : d.numbers.count ≡ length ids = are.0 ∙ ap length equals_itself in
     let found : (slice_index d.ids n == id) ≡ true =
     elim (or_cases (slice_index d.ids n == id) false (ap (λ (m : ℕ). (slice_index d.ids m == id) || false) (sym whole) ∙ holding)) [
       | inl here_it_is ↦ here_it_is
       | inr never ↦ absurd (false≢true never)
     ] in
-    equal n place (its n (omega (arith, below, many)) ∙ sym (ap (λ (xs : List ℕ). slice_index xs n == id) own) ∙ found)
+    same_from_equal n place (its n (omega (arith, below, many)) ∙ sym (ap (λ (xs : List ℕ). slice_index xs n == id) equals_itself) ∙ found)
 
 -- ---- nothing changes of the query
 
@@ -96,7 +92,7 @@ module _ (s : Contents) (regions : List Region) (o : Written) (written : IsOfCon
         let order : map (λ (d : Column). d.variable) ds ≡ order_of k.query =
         same_order false o.class k.query.classes o.id k.columns ds made ∙ is.order in
         let has : columns_have ds d.variable ≡ true =
-        subst (λ (cs : List Column). columns_have cs d.variable ≡ true) (sym only) (or_left (d.variable == d.variable) false (own d.variable)) in
+        subst (λ (cs : List Column). columns_have cs d.variable ≡ true) (sym only) (or_left (d.variable == d.variable) false (equals_itself d.variable)) in
         let below : d.variable < length k.query.classes =
         order_below k.query is.resolved d.variable (ap (λ (vs : List ℕ). among vs d.variable) (sym order) ∙ sym (columns_are ds d.variable) ∙ has) in
         let one : length k.query.classes ≡ 1 = ap length clear.alone in

@@ -8,7 +8,8 @@ use Rattle.std.proofs.lemmas.Bool.Decides.{nat_tests}
 use Rattle.std.proofs.lemmas.List.Elements.{All-append, All-cons, All-filter, All-from_get_or, All-head, All-map, All-nil, All-tail, All-weaker}
 use Rattle.std.proofs.lemmas.Nat.{div-add-mod', mul-le}
 use Rattle.exact.proofs.Lists.{bytes_eq_refl, bytes_eq_true}
-use Rattle.tick_set.proofs.Between.{same_test}
+use Rattle.exact.proofs.Truths.{false_from_not, or_false, same_truth}
+use Rattle.exact.proofs.Naturals.{equals_itself, same_from_equal}
 use Rattle.tick_set.specs.Runs.{spans_have}
 use Rattle.tick_set.specs.Ticks.{between}
 use Rattle.tick_set.specs.declared.spans.Span.{Span}
@@ -21,7 +22,7 @@ use Rattle.relation.specs.Order.{has_row, keys_over}
 use Rattle.relation.specs.Rows.{Table, has_at, table_has}
 use Rattle.live_queries.specs.Columns.{AreCounted, Column, column_variables, columns_have, object_at_number}
 use Rattle.live_queries.specs.Numbered.{AreAmong, DoAscend, HaveDomains, IsNumberOf, IsOverColumns}
-use Rattle.live_queries.proofs.ColumnLemmas.{equal, not_head, not_true, own}
+use Rattle.live_queries.proofs.ColumnLemmas.{not_head}
 use Rattle.live_queries.proofs.JoinedLemmas.{numbered_more, placed}
 use Rattle.live_queries.proofs.PlaceLemmas.{once}
 
@@ -53,7 +54,7 @@ pub place_there : (ids : List ℕ) (id place : ℕ) → has_id ids id ≡ true �
 place_there ids id place table_has is =
     let p = placed ids id table_has in
     let same : p.place ≡ place =
-    equal p.place place (is p.place p.below ∙ ap (λ o. o == id) p.object ∙ own id) in
+    same_from_equal p.place place (is p.place p.below ∙ ap (λ o. o == id) p.object ∙ equals_itself id) in
     (subst (λ (n : ℕ). n < length ids) same p.below, sym (ap (slice_index ids) same) ∙ p.object)
 
 -- ---- one number for the same objects
@@ -64,23 +65,23 @@ below_count p n m h e = grind (arith, nat_tests, h, e)
 pub one_number : (cs : List Column) → DoAscend cs → AreCounted cs → are_distinct (map (λ c. c.variable) cs) ≡ true → (n m : ℕ) →
     counts (column_variables cs) n ≡ true → counts (column_variables cs) m ≡ true →
     ((v : ℕ) → columns_have cs v ≡ true → object_at_number cs n v ≡ object_at_number cs m v) → n ≡ m
-one_number [] ascend counted distinct n m here there same = equal n 0 here ∙ sym (equal m 0 there)
+one_number [] ascend counted distinct n m here there same = same_from_equal n 0 here ∙ sym (same_from_equal m 0 there)
 one_number (c ∷ cs) ascend counted distinct n m here there same =
     let w : ℕ = size_of (column_variables cs) in
     let first = and_parts (nat_lt (n / w) c.numbers.count) (counts (column_variables cs) (n % w)) here in
     let second = and_parts (nat_lt (m / w) c.numbers.count) (counts (column_variables cs) (m % w)) there in
     let apart = and_parts (not (list_any (λ (y : ℕ). y == c.variable) (map (λ (x : Column). x.variable) cs))) (are_distinct (map (λ (x : Column). x.variable) cs)) distinct in
     let object : slice_index c.ids (n / w) ≡ slice_index c.ids (m / w) =
-    sym (ap (λ b. if b then slice_index c.ids (n / w) else object_at_number cs (n % w) c.variable) (own c.variable))
-    ∙ same c.variable (or_left (c.variable == c.variable) (columns_have cs c.variable) (own c.variable))
-    ∙ ap (λ b. if b then slice_index c.ids (m / w) else object_at_number cs (m % w) c.variable) (own c.variable) in
+    sym (ap (λ b. if b then slice_index c.ids (n / w) else object_at_number cs (n % w) c.variable) (equals_itself c.variable))
+    ∙ same c.variable (or_left (c.variable == c.variable) (columns_have cs c.variable) (equals_itself c.variable))
+    ∙ ap (λ b. if b then slice_index c.ids (m / w) else object_at_number cs (m % w) c.variable) (equals_itself c.variable) in
     let place : n / w ≡ m / w =
     once c.ids ascend.0 (n / w) (m / w) (below_count (n / w) c.numbers.count (length c.ids) first.0 counted.0)
     (below_count (m / w) c.numbers.count (length c.ids) second.0 counted.0) object in
     let rest : n % w ≡ m % w =
     one_number cs ascend.1 counted.1 apart.1 (n % w) (m % w) first.1 second.1
     (λ v table_has.
-    let other : (v == c.variable) ≡ false = not_head c.variable v cs (not_true _ apart.0) table_has in
+    let other : (v == c.variable) ≡ false = not_head c.variable v cs (false_from_not _ apart.0) table_has in
     sym (ap (λ b. if b then slice_index c.ids (n / w) else object_at_number cs (n % w) v) other)
     ∙ same v (or_right (c.variable == v) (columns_have cs v) table_has)
     ∙ ap (λ b. if b then slice_index c.ids (m / w) else object_at_number cs (m % w) v) other) in
@@ -139,7 +140,7 @@ keys_blocked domains v vars (id ∷ ids) some later =
     All-append P (map (λ key. id ∷ key) (keys_over domains vars)) (flat_map (λ x. map (λ key. x ∷ key) (keys_over domains vars)) ids)
     (All-map P (λ key. id ∷ key) (keys_over domains vars)
     (All-weaker (λ key. key_in domains vars key ≡ true) (λ key. P (id ∷ key))
-    (λ key is. and_from (has_id (ids_of_variable domains v) id) (key_in domains vars key) (some id (or_left (id == id) (has_id ids id) (own id))) is)
+    (λ key is. and_from (has_id (ids_of_variable domains v) id) (key_in domains vars key) (some id (or_left (id == id) (has_id ids id) (equals_itself id))) is)
     (keys_over domains vars) later))
     (keys_blocked domains v vars ids (λ x table_has. some x (or_right (id == x) (has_id ids x) table_has)) later)
 
@@ -181,10 +182,6 @@ rows_of_table r keys ticks =
 
 -- ---- a row at its number
 
-nothing_more : (b : Bool) → (b || false) ≡ b
-nothing_more true = refl
-nothing_more false = refl
-
 -- the row of a key is written, and the others stay
 stepped : (e s later old all new : Bool) → new ≡ (if e then s else old) → (e ≡ true → all ≡ s) → (((e && s) || later) || old) ≡ all → (later || new) ≡ all
 stepped true true true old all new is whole before = sym (whole refl)
@@ -210,7 +207,7 @@ module _ (cs : List Column) (r : Table (List Span)) (over : IsOverColumns cs r) 
   among key is (d ∷ ds) have some = (
     ap (λ ids. has_id ids (slice_index key d.variable)) (sym have.0)
         ∙ ap (λ v. has_id (ids_of_variable r.domains v) (slice_index key d.variable)) (let e : d.variable ≡ 0 + d.variable = omega arith in e)
-        ∙ is.inside d.variable (below_all d.variable (some d.variable (or_left (d.variable == d.variable) (columns_have ds d.variable) (own d.variable)))),
+        ∙ is.inside d.variable (below_all d.variable (some d.variable (or_left (d.variable == d.variable) (columns_have ds d.variable) (equals_itself d.variable)))),
     among key is ds have.1 (λ v table_has. some v (or_right (d.variable == v) (columns_have ds v) table_has)),
   )
 
@@ -249,9 +246,9 @@ module _ (cs : List Column) (r : Table (List Span)) (over : IsOverColumns cs r) 
 
     tested : (c : ℕ) → counts (column_variables cs) c ≡ true → bytes_eq key (key_at c) ≡ (c == n)
     tested c counted =
-        same_test (bytes_eq key (key_at c)) (c == n)
+        same_truth (bytes_eq key (key_at c)) (c == n)
         (λ e. is_equal c n (own_number c counted e))
-        (λ e. ap (λ m. bytes_eq key (key_at m)) (equal c n e) ∙ ap (bytes_eq key) own_key ∙ bytes_eq_refl key)
+        (λ e. ap (λ m. bytes_eq key (key_at m)) (same_from_equal c n e) ∙ ap (bytes_eq key) own_key ∙ bytes_eq_refl key)
       where
         is_equal : (u w : ℕ) → u ≡ w → (u == w) ≡ true
         is_equal u w e = grind (arith, nat_tests, e)
@@ -273,13 +270,13 @@ module _ (cs : List Column) (r : Table (List Span)) (over : IsOverColumns cs r) 
     none_moved before c t none =
         written c t
         ∙ elim (cases_Bool (c == n)) [
-          | inl e ↦ absurd (both_ways (counts (column_variables cs) c) none (ap (counts (column_variables cs)) (equal c n e) ∙ number.counted))
+          | inl e ↦ absurd (both_ways (counts (column_variables cs) c) none (ap (counts (column_variables cs)) (same_from_equal c n e) ∙ number.counted))
           | inr e ↦ ap (λ b. if b then spans_have row.set t else old c t) e ∙ before c t none
         ]
 
   pub none_moved_yet : (rows : ℕ → ℕ → Bool) → ((c t : ℕ) → rows c t ≡ false) → (c t : ℕ) →
       (has_at spans_have r.rows (key_at c) t || rows c t) ≡ has_at spans_have r.rows (key_at c) t
-  none_moved_yet rows none c t = ap (λ b. has_at spans_have r.rows (key_at c) t || b) (none c t) ∙ nothing_more (has_at spans_have r.rows (key_at c) t)
+  none_moved_yet rows none c t = ap (λ b. has_at spans_have r.rows (key_at c) t || b) (none c t) ∙ or_false (has_at spans_have r.rows (key_at c) t)
 
   pub all_moved : (rows : ℕ → ℕ → Bool) (rest : List (Row (List Span))) → length rest ≡ 0 →
       ((c t : ℕ) → counts (column_variables cs) c ≡ true → (has_at spans_have rest (key_at c) t || rows c t) ≡ has_at spans_have r.rows (key_at c) t) →

@@ -10,6 +10,7 @@ use Rattle.kept_rows.specs.declared.binding.Variable.{Variable}
 use Rattle.kept_rows.specs.Numbers.{counts, size_of}
 use Rattle.meaning.specs.Binding.{product}
 use Rattle.live_queries.specs.Columns.{AreCounted, Column, column_variables}
+use Rattle.exact.proofs.Items.{range_append}
 
 pub size_some : (vs : List Variable) → 1 ≤ size_of vs
 size_some [] = omega arith
@@ -26,13 +27,6 @@ at_number g cs n = if counts (column_variables cs) n then g (objects_at cs n) el
 
 -- ---- lists of numbers
 
-range_split : (k l a : ℕ) → range_with_len a (k + l) ≡ range_with_len a k ++ range_with_len (a + k) l
-range_split zero l a =
-    ap (λ m. range_with_len a m) (let e : zero + l ≡ l = omega arith in e) ∙ ap (λ b. range_with_len b l) (let e : a ≡ a + zero = omega arith in e)
-range_split (suc k) l a =
-    ap (range_with_len a) (let e : suc k + l ≡ suc (k + l) = omega arith in e)
-    ∙ ap (λ rest. a ∷ rest) (range_split k l (a + 1) ∙ ap (λ b. range_with_len (a + 1) k ++ range_with_len b l) (let e : a + 1 + k ≡ a + suc k = omega arith in e))
-
 range_shift : (a k b : ℕ) → range_with_len (a + b) k ≡ map (λ d. a + d) (range_with_len b k)
 range_shift a zero b = refl
 range_shift a (suc k) b =
@@ -42,7 +36,7 @@ pub between_split : (a m b : ℕ) → a ≤ m → m ≤ b → between a b ≡ be
 unfolding between
 between_split a m b h l =
     ap (range_with_len a) (let e : b - a ≡ (m - a) + (b - m) = omega (arith, h, l) in e)
-    ∙ range_split (m - a) (b - m) a
+    ∙ range_append (m - a) (b - m) a
     ∙ ap (λ c. range_with_len a (m - a) ++ range_with_len c (b - m)) (let e : a + (m - a) ≡ m = omega (arith, h) in e)
 
 pub between_more : (n : ℕ) → between 0 (n + 1) ≡ between 0 n ++ n ∷ []

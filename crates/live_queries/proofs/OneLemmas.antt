@@ -13,9 +13,9 @@ use Rattle.relation.specs.Key.{has_id, ids_of_variable}
 use Rattle.answers.specs.Objects.{AreOfItsClasses}
 use Rattle.answers.proofs.ObjectLemmas.{no_domain}
 use Rattle.live_queries.specs.Asked.{class_in}
-use Rattle.live_queries.proofs.ColumnLemmas.{equal, own}
 use Rattle.live_queries.proofs.PartLemmas.{object_of_its_class}
 use Rattle.answers.proofs.ReadLemmas.{IsMore, more_of_query}
+use Rattle.exact.proofs.Naturals.{equals_itself, same_from_equal}
 
 -- the object is one of the variable's class
 pub one_of_class : (s : Contents) (q : ResolvedQuery) (class id : ℕ) → class ≡ class_in s id → q.classes ≡ class ∷ [] → id < length s.objects →
@@ -28,7 +28,7 @@ one_of_class s q class id its alone there = record {
     each : (v object : ℕ) → v < 1 → has_id (ids_of_variable ((id ∷ []) ∷ []) v) object ≡ true → has_id (ids_of_class (catalog_of s) (slice_index q.classes v)) object ≡ true
     each zero object below has = elim (or_cases (id == object) false has) [
       | inl here ↦
-          ap (has_id (ids_of_class (catalog_of s) (slice_index q.classes 0))) (sym (equal id object here))
+          ap (has_id (ids_of_class (catalog_of s) (slice_index q.classes 0))) (sym (same_from_equal id object here))
           ∙ ap (λ k. has_id (ids_of_class (catalog_of s) k) id) (ap (λ ks. slice_index ks 0) alone ∙ its)
           ∙ object_of_its_class s id there
       | inr never ↦ absurd (false≢true never)
@@ -54,7 +54,7 @@ one_within c q ticks class id alone =
     let all : change_reads c q ticks class ≡ looks_of 0 + 0 =
     ap (λ n. sum_by looks_of (between 0 n)) (ap length alone) ∙ sum_of_first looks_of in
     let same : looks_of 0 ≡ query_reads (made_single (sizes_of c q) (0 ∷ [])) ticks q =
-    ap (λ b. if b then query_reads (made_single (sizes_of c q) (0 ∷ [])) ticks q else 0) (ap (λ ks. slice_index ks 0 == class) alone ∙ own class) in
+    ap (λ b. if b then query_reads (made_single (sizes_of c q) (0 ∷ [])) ticks q else 0) (ap (λ ks. slice_index ks 0 == class) alone ∙ equals_itself class) in
     omega (arith, few, all, same)
   where
     looks_of : ℕ → ℕ

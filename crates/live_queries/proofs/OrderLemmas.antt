@@ -10,19 +10,17 @@ use Rattle.formula.specs.Resolved.{IsResolved, are_distinct, is_list_of}
 use Rattle.formula.specs.Tree.{ResolvedQuery}
 use Rattle.formula_shape.specs.declared.limits.TheConstants.{OBJECT_LIMIT}
 use Rattle.live_queries.specs.Columns.{Column, columns_have, order_of}
-use Rattle.live_queries.proofs.ColumnLemmas.{equal, less, not_true, own}
+use Rattle.exact.proofs.Naturals.{below_from_test, equals_itself, same_from_equal, test_below}
+use Rattle.exact.proofs.Truths.{false_from_not}
 
 abbrev pub among : List ℕ → ℕ → Bool
 among xs v = list_any (λ u. u == v) xs
 
 among_kept : (test : ℕ → Bool) (xs : List ℕ) (v : ℕ) → among (filter test xs) v ≡ (test v && among xs v)
-among_kept test xs v = any-filter_same (λ u. u == v) test (test v) (λ u same. ap test (equal u v same)) xs
+among_kept test xs v = any-filter_same (λ u. u == v) test (test v) (λ u same. ap test (same_from_equal u v same)) xs
 
 few : (v : ℕ) → v < 4 → among (0 ∷ 1 ∷ 2 ∷ 3 ∷ []) v ≡ true
 few v h = grind (arith, nat_tests, h)
-
-pub less_is : (v n : ℕ) → nat_lt v n ≡ true → v < n
-less_is v n h = grind (arith, nat_tests, h)
 
 less_than_four : (v n : ℕ) → v < n → nat_le n 4 ≡ true → v < 4
 less_than_four v n h k = grind (arith, nat_tests, h, k)
@@ -32,7 +30,7 @@ all_less n [] v all has = absurd (false≢true has)
 all_less n (x ∷ xs) v all has =
     let parts = and_parts (nat_lt x n) (list_all (λ u. nat_lt u n) xs) all in
     elim (or_cases (x == v) (among xs v) has) [
-      | inl here ↦ subst (λ (u : ℕ). u < n) (equal x v here) (less_is x n parts.0)
+      | inl here ↦ subst (λ (u : ℕ). u < n) (same_from_equal x v here) (below_from_test x n parts.0)
       | inr later ↦ all_less n xs v parts.1 later
     ]
 
@@ -45,7 +43,7 @@ distinct_append (x ∷ xs) ys a b apart =
     let parts = and_parts (not (among xs x)) (are_distinct xs) a in
     and_from (not (among (xs ++ ys) x)) (are_distinct (xs ++ ys))
     (not_from_false (among (xs ++ ys) x)
-    (list_any-append (λ u. u == x) xs ys ∙ or_from (among xs x) (among ys x) (not_true (among xs x) parts.0) (apart x (or_left (x == x) (among xs x) (own x)))))
+    (list_any-append (λ u. u == x) xs ys ∙ or_from (among xs x) (among ys x) (false_from_not (among xs x) parts.0) (apart x (or_left (x == x) (among xs x) (equals_itself x)))))
     (distinct_append xs ys parts.1 b (λ v has. apart v (or_right (x == v) (among xs v) has)))
 
 distinct_if : (b : Bool) (x : ℕ) (rest : List ℕ) → among rest x ≡ false → are_distinct rest ≡ true → are_distinct (if b then x ∷ rest else rest) ≡ true
@@ -57,7 +55,7 @@ distinct_kept test [] distinct = refl
 distinct_kept test (x ∷ xs) distinct =
     let parts = and_parts (not (among xs x)) (are_distinct xs) distinct in
     distinct_if (test x) x (filter test xs)
-    (among_kept test xs x ∙ and_none (test x) (among xs x) (not_true (among xs x) parts.0))
+    (among_kept test xs x ∙ and_none (test x) (among xs x) (false_from_not (among xs x) parts.0))
     (distinct_kept test xs parts.1)
   where
     and_none : (a b : Bool) → b ≡ false → (a && b) ≡ false
@@ -83,7 +81,7 @@ module _ (q : ResolvedQuery) (is : IsResolved q) where
         | inl target ↦ or_left (among q.targets v) (other v && among (0 ∷ 1 ∷ 2 ∷ 3 ∷ []) v) target
         | inr rest ↦ or_right (among q.targets v) (other v && among (0 ∷ 1 ∷ 2 ∷ 3 ∷ []) v)
             (and_from (other v) (among (0 ∷ 1 ∷ 2 ∷ 3 ∷ []) v)
-            (and_from (nat_lt v (length q.classes)) (not (among q.targets v)) (less v (length q.classes) h) (not_from_false (among q.targets v) rest))
+            (and_from (nat_lt v (length q.classes)) (not (among q.targets v)) (test_below v (length q.classes) h) (not_from_false (among q.targets v) rest))
             (few v (less_than_four v (length q.classes) h count.1)))
       ]
 
@@ -92,7 +90,7 @@ module _ (q : ResolvedQuery) (is : IsResolved q) where
       elim (or_cases (among q.targets v) (other v && among (0 ∷ 1 ∷ 2 ∷ 3 ∷ []) v) (sym (parted v) ∙ has)) [
         | inl target ↦ all_less (length q.classes) q.targets v
             (and_parts (is_list_of OBJECT_LIMIT q.targets) (list_all (λ u. nat_lt u (length q.classes)) q.targets) is.targets).1 target
-        | inr rest ↦ less_is v (length q.classes)
+        | inr rest ↦ below_from_test v (length q.classes)
             (and_parts (nat_lt v (length q.classes)) (not (among q.targets v)) (and_parts (other v) (among (0 ∷ 1 ∷ 2 ∷ 3 ∷ []) v) rest).0).0
       ]
 

@@ -27,9 +27,9 @@ use Rattle.live_queries.specs.declared.parts.Single.{Single}
 use Rattle.live_queries.specs.Asked.{class_in}
 use Rattle.live_queries.specs.Prepared.{is_of_class}
 use Rattle.live_queries.specs.Written.{ArePartsOf, domains_for, parts_have, single_for}
-use Rattle.live_queries.proofs.ColumnLemmas.{equal, own}
 use Rattle.live_queries.proofs.NumberingLemmas.{between_more}
 use Rattle.live_queries.proofs.ObjectLemmas.{ids_from, is_in_class, mapped_append}
+use Rattle.exact.proofs.Naturals.{equals_itself, same_from_equal}
 
 -- ---- the class of a variable
 
@@ -80,7 +80,7 @@ found_from class n zero (x ∷ objects) o at is = first (x.class == class) (ap (
         some_or d (Some i) = i
 
     first : (b : Bool) → b ≡ true → has_id (map (λ (e : ℕ × ObjectInfo). e.0) (if b then ((n, x) ∷ filter (is_in_class class) (enumerate_from (n + 1) objects)) else filter (is_in_class class) (enumerate_from (n + 1) objects))) (n + zero) ≡ true
-    first true e = or_left (n == n + zero) _ (ap (λ m. n == m) (let z : n + zero ≡ n = omega arith in z) ∙ own n)
+    first true e = or_left (n == n + zero) _ (ap (λ m. n == m) (let z : n + zero ≡ n = omega arith in z) ∙ equals_itself n)
     first false e = absurd (false≢true e)
 found_from class n (suc place) (x ∷ objects) o at is =
     let found : has_id (ids_from class (n + 1) objects) (n + suc place) ≡ true =
@@ -107,7 +107,7 @@ object_of_its_class s id there = found s.objects id there
         let p = at xs i below in
         subst (λ (k : ℕ). has_id (ids_from k 0 (map object_info xs)) i ≡ true) (sym (ap (λ (o : Option StoredObject). option_map_or (λ x. x.class) o 0) p.1))
         (ap (has_id (ids_from p.0.class 0 (map object_info xs))) (let e : i ≡ 0 + i = omega arith in e)
-        ∙ found_from p.0.class 0 i (map object_info xs) (object_info p.0) (slice_get-map object_info xs i ∙ ap (option_map object_info) p.1) (own p.0.class))
+        ∙ found_from p.0.class 0 i (map object_info xs) (object_info p.0) (slice_get-map object_info xs i ∙ ap (option_map object_info) p.1) (equals_itself p.0.class))
 
 -- ---- the relation of a binding
 
@@ -121,7 +121,7 @@ module _ (w : World) (q : ResolvedQuery) (lo hi id t : ℕ) (b : ℕ → ℕ) wh
       elim (cases_Bool (b s.variable == id)) [
         | inl here ↦
             ap (λ c. if c then has_in p else parts_have ps id b t) (ap (λ o. o == id) same ∙ here)
-            ∙ are.0.rows b (All-head (λ (x : Single). b x.variable ≡ id → IsIn x.domains b) s ss inside (equal (b s.variable) id here)) t
+            ∙ are.0.rows b (All-head (λ (x : Single). b x.variable ≡ id → IsIn x.domains b) s ss inside (same_from_equal (b s.variable) id here)) t
         | inr other ↦
             ap (λ c. if c then has_in p else parts_have ps id b t) (ap (λ o. o == id) same ∙ other)
             ∙ parts_right ss ps are.1 (All-tail (λ (x : Single). b x.variable ≡ id → IsIn x.domains b) s ss inside)

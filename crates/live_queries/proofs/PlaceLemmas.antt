@@ -4,13 +4,13 @@ use Rattle.std.specs.Prelude.{◌==◌, Ok, Err, slice_index}
 use Rattle.std.specs.Ordering.{nat_cmp}
 use Rattle.std.specs.List.Sorted.{IsBinarySearchResult, IsStrictlyIncreasing}
 use Rattle.std.proofs.lemmas.Bool.{cases_lt}
-use Rattle.std.proofs.lemmas.Bool.Decides.{nat_tests}
 use Rattle.std.proofs.lemmas.List.Sorted.{searched}
-use Rattle.tick_set.proofs.Between.{same_test}
 use Rattle.kept_rows.specs.declared.binding.Variable.{Variable}
 use Rattle.live_queries.specs.Columns.{Column}
 use Rattle.live_queries.specs.Written.{IsVariableWith, ids_with}
-use Rattle.live_queries.proofs.ColumnLemmas.{equal, last_index, one_more}
+use Rattle.live_queries.proofs.ColumnLemmas.{last_index, one_more}
+use Rattle.exact.proofs.Naturals.{equal_if_same, same_from_equal}
+use Rattle.exact.proofs.Truths.{same_truth}
 
 -- ---- each number stands once
 
@@ -44,15 +44,12 @@ once xs ascend i j a b same = elim (cases_lt i j) [
   ]
 ]
 
-is_equal : (u w : ℕ) → u ≡ w → (u == w) ≡ true
-is_equal u w e = grind (arith, nat_tests, e)
-
 pub at_place : (xs : List ℕ) → IsStrictlyIncreasing xs → (at id : ℕ) → at < length xs → slice_index xs at ≡ id →
     (p : ℕ) → p < length xs → (p == at) ≡ (slice_index xs p == id)
 at_place xs ascend at id there object p l =
-    same_test (p == at) (slice_index xs p == id)
-    (λ h. is_equal (slice_index xs p) id (ap (slice_index xs) (equal p at h) ∙ object))
-    (λ h. is_equal p at (once xs ascend p at l there (equal (slice_index xs p) id h ∙ sym object)))
+    same_truth (p == at) (slice_index xs p == id)
+    (λ h. equal_if_same (slice_index xs p) id (ap (slice_index xs) (same_from_equal p at h) ∙ object))
+    (λ h. equal_if_same p at (once xs ascend p at l there (same_from_equal (slice_index xs p) id h ∙ sym object)))
 
 -- ---- what a search finds
 
@@ -66,10 +63,10 @@ pub place_missing : (xs : List ℕ) → IsStrictlyIncreasing xs → (id gap othe
     (p : ℕ) → p < length xs → (p == other) ≡ (slice_index xs p == id)
 place_missing xs ascend id gap other missing past p l =
     let is = searched xs id (Err gap) missing (no_later xs ascend) in
-    same_test (p == other) (slice_index xs p == id)
-    (λ h. let e : p ≡ other = equal p other h in absurd (omega (arith, e, l, past)))
+    same_truth (p == other) (slice_index xs p == id)
+    (λ h. let e : p ≡ other = same_from_equal p other h in absurd (omega (arith, e, l, past)))
     (λ h.
-    let e : slice_index xs p ≡ id = equal (slice_index xs p) id h in
+    let e : slice_index xs p ≡ id = same_from_equal (slice_index xs p) id h in
     elim (cases_lt p gap) [
       | inl before ↦ let less : slice_index xs p < id = is.1 p before in absurd (omega (arith, e, less))
       | inr after ↦ let more : id < slice_index xs p = is.2 p after l in absurd (omega (arith, e, more))

@@ -1,12 +1,13 @@
 -- Bindings, as lists that have one member of each list.
-use Rattle.std.proofs.Common.{◌≡◌, ℕ, zero, suc, ◌+◌, ◌<◌, ◌≤◌, Bool, true, false, ◌||◌, List, [], ◌∷◌, length, map, refl, sym, ap, ◌∙◌, inl, inr, arith}
+use Rattle.std.proofs.Common.{◌≡◌, ℕ, zero, suc, ◌+◌, ◌<◌, ◌≤◌, Bool, true, false, List, [], ◌∷◌, length, map, refl, sym, ap, ◌∙◌, inl, inr, arith}
 use Rattle.std.specs.Prelude.{⊤, ◌==◌, slice_index}
 use Rattle.std.specs.List.{flat_map, list_any, range_with_len}
 use Rattle.std.proofs.lemmas.Bool.{false≢true, or_cases, or_left, or_right}
 use Rattle.std.proofs.lemmas.List.Folds.{list_any-append}
 use Rattle.meaning.specs.Binding.{product}
-use Rattle.live_queries.proofs.ColumnLemmas.{equal, own}
 use Rattle.live_queries.proofs.JoinedLemmas.{has_id}
+use Rattle.exact.proofs.Items.{any_mapped}
+use Rattle.exact.proofs.Naturals.{equals_itself, same_from_equal}
 
 -- one member of each list
 abbrev pub AreChosen : List (List ℕ) → List ℕ → Type 0
@@ -15,17 +16,13 @@ AreChosen [] (x ∷ b) = ⊥
 AreChosen (xs ∷ lists) [] = ⊥
 AreChosen (xs ∷ lists) (x ∷ b) = (has_id xs x ≡ true) × AreChosen lists b
 
-any_mapped : {A B : Type 0} (test : B → Bool) (f : A → B) (xs : List A) → list_any test (map f xs) ≡ list_any (λ x. test (f x)) xs
-any_mapped test f [] = refl
-any_mapped test f (x ∷ xs) = ap (λ b. test (f x) || b) (any_mapped test f xs)
-
 any_flat_at : {B : Type 0} (test : B → Bool) (f : ℕ → List B) (xs : List ℕ) (x : ℕ) → has_id xs x ≡ true → list_any test (f x) ≡ true →
     list_any test (flat_map f xs) ≡ true
 any_flat_at test f [] x has h = absurd (false≢true has)
 any_flat_at test f (y ∷ ys) x has h =
     list_any-append test (f y) (flat_map f ys)
     ∙ elim (or_cases (y == x) (has_id ys x) has) [
-      | inl here ↦ or_left (list_any test (f y)) (list_any test (flat_map f ys)) (ap (λ z. list_any test (f z)) (equal y x here) ∙ h)
+      | inl here ↦ or_left (list_any test (f y)) (list_any test (flat_map f ys)) (ap (λ z. list_any test (f z)) (same_from_equal y x here) ∙ h)
       | inr later ↦ or_right (list_any test (f y)) (list_any test (flat_map f ys)) (any_flat_at test f ys x later h)
     ]
 
@@ -38,7 +35,7 @@ any_flat_found : {B : Type 0} (test : B → Bool) (f : ℕ → List B) (xs : Lis
 any_flat_found test f [] h = absurd (false≢true h)
 any_flat_found test f (y ∷ ys) h =
     elim (or_cases (list_any test (f y)) (list_any test (flat_map f ys)) (sym (list_any-append test (f y) (flat_map f ys)) ∙ h)) [
-      | inl here ↦ record { item = y; member = or_left (y == y) (has_id ys y) (own y); passes = here }
+      | inl here ↦ record { item = y; member = or_left (y == y) (has_id ys y) (equals_itself y); passes = here }
       | inr later ↦
           let s = any_flat_found test f ys later in
           record { item = s.item; member = or_right (y == s.item) (has_id ys s.item) s.member; passes = s.passes }

@@ -1,10 +1,9 @@
 -- A query that fits the regions sees nothing of those that are added.
-use Rattle.std.proofs.Common.{◌≡◌, ℕ, zero, suc, ◌<◌, ◌≤◌, Bool, true, false, not, ◌&&◌, Option, None, Some, List, [], ◌∷◌, ◌++◌, length, map, refl, sym, ap, ◌∙◌, inl, inr, arith}
+use Rattle.std.proofs.Common.{◌≡◌, ℕ, ◌≤◌, Bool, true, false, not, ◌&&◌, Option, None, Some, List, [], ◌∷◌, ◌++◌, length, map, refl, sym, ap, ◌∙◌, inl, inr, arith}
 use Rattle.std.specs.Prelude.{◌==◌, is_some, nat_lt, slice_get, slice_index}
 use Rattle.std.specs.List.{enumerate_from, filter, list_all}
 use Rattle.std.specs.Option.{option_map_or}
 use Rattle.std.proofs.lemmas.Bool.{and_parts, cases_Bool, false≢true}
-use Rattle.std.proofs.lemmas.Bool.Decides.{nat_tests}
 use Rattle.tick_set.specs.Ticks.{AgreeIn, between, within}
 use Rattle.tick_set.proofs.Between.{within_parts}
 use Rattle.geometry.specs.Polygon.{is_inside}
@@ -32,21 +31,15 @@ use Rattle.live_queries.specs.Columns.{Column, HaveObjectsOf, column_variables, 
 use Rattle.live_queries.specs.Current.{IsCurrentFor, full_at}
 use Rattle.live_queries.specs.Kept.{KeptQuery}
 use Rattle.live_queries.specs.Renewed.{ChangesNoObject}
-
-get_early : {X : Type 0} (xs ys : List X) (n : ℕ) → n < length xs → slice_get (xs ++ ys) n ≡ slice_get xs n
-get_early [] ys n h = absurd (omega (arith, h))
-get_early (x ∷ xs) ys zero h = refl
-get_early (x ∷ xs) ys (suc n) h = get_early xs ys n (omega (arith, h))
-
-is_less : (n m : ℕ) → nat_lt n m ≡ true → n < m
-is_less n m h = grind (arith, nat_tests, h)
+use Rattle.exact.proofs.Naturals.{below_from_test}
+use Rattle.exact.proofs.Items.{slice_get-append}
 
 module _ (c : Catalog) (classes : List ℕ) (regions more : List Region) where
   same_region : (n : ℕ) → (v : ℕ) → (is_point_variable c classes v && nat_lt n (length regions)) ≡ true →
       is_in_region (regions ++ more) n ≡ is_in_region regions n
   same_region n v fits =
       let parts = and_parts (is_point_variable c classes v) (nat_lt n (length regions)) fits in
-      let e : slice_get (regions ++ more) n ≡ slice_get regions n = get_early regions more n (is_less n (length regions) parts.1) in
+      let e : slice_get (regions ++ more) n ≡ slice_get regions n = slice_get-append regions more n (below_from_test n (length regions) parts.1) in
       λ i p. option_map_or (λ (region : Region). is_inside region.points p) (e i) false
 
   same_atom : (scope : ℕ → Option ValueKind) (h : Trace) (a : RAtom) → atom_fits c classes (length regions) scope a ≡ true → (x : Env) (t : ℕ) →

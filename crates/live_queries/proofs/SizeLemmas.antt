@@ -3,15 +3,16 @@ use Rattle.std.proofs.Common.{◌≡◌, ℕ, ◌*◌, ◌<◌, ◌≤◌, Bool,
 use Rattle.std.specs.Prelude.{◌==◌, not, nat_lt, nat_le, slice_index}
 use Rattle.std.proofs.lemmas.Bool.{and_parts, cases_Bool, false≢true, or_cases, or_parts}
 use Rattle.std.proofs.lemmas.Bool.Decides.{nat_tests}
-use Rattle.tick_set.proofs.Between.{same_test}
 use Rattle.history.specs.Catalog.{Catalog, capacity_of, most_bindings}
 use Rattle.formula_shape.specs.declared.limits.TheConstants.{OBJECT_LIMIT}
 use Rattle.formula.specs.Resolved.{IsResolved, are_distinct}
 use Rattle.formula.specs.Tree.{ResolvedQuery}
 use Rattle.kept_rows.specs.Numbers.{size_of}
 use Rattle.live_queries.specs.Columns.{AreColumnsOf, Column, column_variables, order_of}
-use Rattle.live_queries.proofs.ColumnLemmas.{equal, less, not_true, turned}
+use Rattle.live_queries.proofs.ColumnLemmas.{turned}
 use Rattle.live_queries.proofs.OrderLemmas.{among, order_below, order_distinct, order_has}
+use Rattle.exact.proofs.Truths.{false_from_not, same_truth}
+use Rattle.exact.proofs.Naturals.{same_from_equal, test_below}
 
 -- the product over a list, and over those of a list that pass a test
 abbrev product_over : (ℕ → ℕ) → List ℕ → ℕ
@@ -45,8 +46,8 @@ module _ (f : ℕ → ℕ) (p : ℕ → Bool) (x : ℕ) where
       let parts = and_parts (not (among us u)) (are_distinct us) distinct in
       elim (cases_Bool (u == x)) [
         | inl here ↦
-            let same : u ≡ x = equal u x here in
-            (λ i. (if turned u x here i || p u then f u else 1) * elsewhere us (subst (λ (w : ℕ). among us w ≡ false) same (not_true (among us u) parts.0)) i)
+            let same : u ≡ x = same_from_equal u x here in
+            (λ i. (if turned u x here i || p u then f u else 1) * elsewhere us (subst (λ (w : ℕ). among us w ≡ false) same (false_from_not (among us u) parts.0)) i)
             ∙ ap (λ w. f w * chosen f p us) same
             ∙ sym (ap (λ (b : Bool). f x * ((if b then f u else 1) * chosen f p us)) (ap p same ∙ none) ∙ one_times (f x) (chosen f p us))
         | inr other ↦
@@ -74,7 +75,7 @@ product_chosen f us [] all each inside = sym (chosen_none f us)
 product_chosen f us (x ∷ xs) all each inside =
     let parts = and_parts (not (among xs x)) (are_distinct xs) each in
     ap (λ n. f x * n) (product_chosen f us xs all parts.1 (λ v has. inside v (later v has)))
-    ∙ sym (one_more_chosen f (among xs) x us (inside x (first x)) all (not_true (among xs x) parts.0))
+    ∙ sym (one_more_chosen f (among xs) x us (inside x (first x)) all (false_from_not (among xs x) parts.0))
   where
     first : (v : ℕ) → (v == v || among xs v) ≡ true
     first v = grind (arith, nat_tests)
@@ -111,8 +112,8 @@ columns_size catalog q cs is are =
     sizes catalog q.classes (order_of q) cs are
     ∙ product_chosen f (0 ∷ 1 ∷ 2 ∷ 3 ∷ []) (order_of q) refl (order_distinct q is) (λ v has. up_to_three v (below_four v (order_below q is v has) few))
     ∙ ap (λ p. chosen f p (0 ∷ 1 ∷ 2 ∷ 3 ∷ []))
-    (λ i v. same_test (among (order_of q) v) (nat_lt v (length q.classes))
-    (λ has. less v (length q.classes) (order_below q is v has)) (λ below. order_has q is v (less_is v (length q.classes) below)) i)
+    (λ i v. same_truth (among (order_of q) v) (nat_lt v (length q.classes))
+    (λ has. test_below v (length q.classes) (order_below q is v has)) (λ below. order_has q is v (less_is v (length q.classes) below)) i)
     ∙ all_chosen catalog q.classes few
   where
     few_classes : nat_le (length q.classes) OBJECT_LIMIT ≡ true → length q.classes ≤ 4

@@ -18,6 +18,7 @@ use Rattle.live_queries.specs.Told.{changes_of, move, moves_of, target_count, ta
 use Rattle.live_queries.specs.Untouched.{spread, untouched, untouched_before}
 use Rattle.live_queries.proofs.AnswerLemmas.{none_listed}
 use Rattle.live_queries.proofs.ListLemmas.{lines_none}
+use Rattle.exact.proofs.Truths.{and_not}
 
 -- ---- one query more
 
@@ -110,12 +111,8 @@ kept_back (suc n) (k ∷ ks) kept = kept_back n ks (All-tail IsKeptQuery k ks ke
 
 -- ---- what it changes for targets
 
-never_both : (b : Bool) → (b && not b) ≡ false
-never_both true = refl
-never_both false = refl
-
 none_differ : (p : ℕ → Bool) (from e : ℕ) → difference p p from e ≡ []
-none_differ p from e = ap runs_of (none_listed (λ t. p t && not (p t)) from e (λ t. never_both (p t)))
+none_differ p from e = ap runs_of (none_listed (λ t. p t && not (p t)) from e (λ t. and_not (p t)))
 
 no_move : (p : ℕ → Bool) (from e now target : ℕ) → move_between p p from e now target ≡ None
 no_move p from e now target =

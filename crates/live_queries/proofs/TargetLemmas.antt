@@ -4,11 +4,12 @@ use Rattle.std.specs.Prelude.{◌==◌, nat_lt, slice_index}
 use Rattle.std.specs.List.{list_any, range_with_len}
 use Rattle.std.specs.Str.{bytes_eq}
 use Rattle.std.proofs.lemmas.Bool.{and_from, and_parts, both_ways, cases_Bool, cases_lt, false_from_ne_true, false≢true, or_left, or_parts, or_right}
-use Rattle.std.proofs.lemmas.Bool.Decides.{nat_tests}
 use Rattle.std.proofs.lemmas.List.{take-append-drop}
 use Rattle.exact.proofs.Lists.{bytes_eq_refl, bytes_eq_true}
+use Rattle.exact.proofs.Naturals.{below_from_test, equals_itself, same_from_equal}
+use Rattle.exact.proofs.Truths.{same_truth}
 use Rattle.tick_set.specs.Ticks.{within}
-use Rattle.tick_set.proofs.Between.{any_between_at, any_between_found, same_test}
+use Rattle.tick_set.proofs.Between.{any_between_at, any_between_found}
 use Rattle.history.specs.Catalog.{ids_of}
 use Rattle.history.specs.World.{World}
 use Rattle.formula.specs.Resolved.{are_distinct}
@@ -20,15 +21,12 @@ use Rattle.live_queries.specs.Current.{IsCurrentFor, full_at, row_at, told_from}
 use Rattle.live_queries.specs.Kept.{IsKeptQuery, KeptQuery}
 use Rattle.live_queries.specs.Numbered.{AreAmong}
 use Rattle.live_queries.specs.Told.{target_count, target_width}
-use Rattle.live_queries.proofs.ColumnLemmas.{equal, later_variable, own}
+use Rattle.live_queries.proofs.ColumnLemmas.{later_variable}
 use Rattle.live_queries.proofs.CurrentLemmas.{variable_of_column, variable_of_query}
 use Rattle.live_queries.proofs.JoinedLemmas.{Chosen, chosen_number, counts_joined, each_object, has_id, no_object, object_joined, objects_are}
 use Rattle.live_queries.proofs.NumberingLemmas.{objects_at}
 use Rattle.live_queries.proofs.OrderLemmas.{columns_are}
 use Rattle.live_queries.proofs.ProductLemmas.{AreChosen, any_product_at, any_product_found, chosen_at, chosen_from, chosen_length, index_made, index_past, made_length}
-
-less_is : (u w : ℕ) → nat_lt u w ≡ true → u < w
-less_is u w h = grind (arith, nat_tests, h)
 
 -- ---- the first columns are those of the targets
 
@@ -65,7 +63,7 @@ counted_back (suc m) (c ∷ cs) counted = counted_back m cs counted.1
 
 index_has : (ids : List ℕ) (p : ℕ) → p < length ids → has_id ids (slice_index ids p) ≡ true
 index_has [] p below = absurd (omega (arith, below))
-index_has (x ∷ ids) zero below = or_left (x == x) (has_id ids x) (own x)
+index_has (x ∷ ids) zero below = or_left (x == x) (has_id ids x) (equals_itself x)
 index_has (x ∷ ids) (suc p) below = or_right (x == slice_index ids p) (has_id ids (slice_index ids p)) (index_has ids p (omega (arith, below)))
 
 module _ (w : World) (classes : List ℕ) where
@@ -81,8 +79,8 @@ module _ (w : World) (classes : List ℕ) where
       elim (cases_Bool (v == c.variable)) [
         | inl here ↦
             ap (λ b. has_id (class_ids v) (if b then slice_index c.ids (n / width) else object_at_number cs (n % width) v)) here
-            ∙ ap (λ ids. has_id ids (slice_index c.ids (n / width))) (ap class_ids (equal v c.variable here) ∙ sym have.0)
-            ∙ index_has c.ids (n / width) (subst (λ (m : ℕ). n / width < m) counted.0 (less_is (n / width) c.numbers.count parts.0))
+            ∙ ap (λ ids. has_id ids (slice_index c.ids (n / width))) (ap class_ids (same_from_equal v c.variable here) ∙ sym have.0)
+            ∙ index_has c.ids (n / width) (subst (λ (m : ℕ). n / width < m) counted.0 (below_from_test (n / width) c.numbers.count parts.0))
         | inr other ↦
             ap (λ b. has_id (class_ids v) (if b then slice_index c.ids (n / width) else object_at_number cs (n % width) v)) other
             ∙ object_is_of_class cs (n % width) counted.1 have.1 parts.1 v (later_variable c cs v other has)
@@ -93,7 +91,7 @@ module _ (w : World) (classes : List ℕ) where
       ((v : ℕ) → columns_have (drop m cs) v ≡ true → has_id (class_ids v) (f v) ≡ true) → AreAmong (drop m cs) f
   among_columns [] zero have f each = tt
   among_columns (c ∷ cs) zero have f each = (
-    ap (λ ids. has_id ids (f c.variable)) have.0 ∙ each c.variable (or_left (c.variable == c.variable) (columns_have cs c.variable) (own c.variable)),
+    ap (λ ids. has_id ids (f c.variable)) have.0 ∙ each c.variable (or_left (c.variable == c.variable) (columns_have cs c.variable) (equals_itself c.variable)),
     among_columns cs zero have.1 f (λ v has. each v (or_right (c.variable == v) (columns_have cs v) (drop_none cs v has))),
   )
     where
@@ -157,7 +155,7 @@ module _ (w : World) (now : ℕ) (k : KeptQuery) (is : IsKeptQuery k) (current :
     target_objects added d below [] all = refl
     target_objects added d below (v ∷ vs) all =
         (λ i. (object_at added d below v
-        ∙ ap (λ b. if b then object_or added fronts n v else object_or added backs d v) (all v (or_left (v == v) (list_any (λ (u : ℕ). u == v) vs) (own v)))) i
+        ∙ ap (λ b. if b then object_or added fronts n v else object_or added backs d v) (all v (or_left (v == v) (list_any (λ (u : ℕ). u == v) vs) (equals_itself v)))) i
         ∷ target_objects added d below vs (λ u has. all u (or_right (v == u) (list_any (λ (x : ℕ). x == u) vs) has)) i)
 
     -- the objects of a target, in the order of the targets
@@ -252,4 +250,4 @@ module _ (w : World) (now : ℕ) (k : KeptQuery) (is : IsKeptQuery k) (current :
           ]
 
       pub times_are : target_has (row_at k) width n t ≡ holds_target w k.query k.expiry key t
-      times_are = same_test (target_has (row_at k) width n t) (holds_target w k.query k.expiry key t) forward backward
+      times_are = same_truth (target_has (row_at k) width n t) (holds_target w k.query k.expiry key t) forward backward

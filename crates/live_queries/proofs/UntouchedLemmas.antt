@@ -25,13 +25,14 @@ use Rattle.live_queries.specs.Renewed.{is_judged}
 use Rattle.live_queries.specs.Untouched.{TouchesQuery, untouched}
 use Rattle.live_queries.specs.Written.{HaveObjectsWith, lacks_objects}
 use Rattle.live_queries.proofs.AnewLemmas.{renewed_objects}
-use Rattle.live_queries.proofs.ColumnLemmas.{less, not_true, own}
 use Rattle.live_queries.proofs.GrowLemmas.{objects_with}
 use Rattle.live_queries.proofs.JudgedLemmas.{given}
 use Rattle.live_queries.proofs.MadeLemmas.{counted, same_order}
 use Rattle.live_queries.proofs.OrderLemmas.{among, columns_are, order_below, order_distinct}
 use Rattle.live_queries.proofs.PartLemmas.{class_is, variable_of_class}
 use Rattle.live_queries.proofs.TargetLemmas.{object_is_of_class}
+use Rattle.exact.proofs.Truths.{false_from_not}
+use Rattle.exact.proofs.Naturals.{equals_itself, test_below}
 
 -- ---- no variable is of a class that is none of the query's
 
@@ -102,7 +103,7 @@ module _ (s : Contents) (regions : List Region) (id class now : ℕ) (k : KeptQu
           ∙ object_is_of_class (world_in s regions) k.query.classes ds c (counted false class k.query.classes id k.columns ds made)
           (objects_with (catalog_of s) false class k.query.classes id k.columns ds made have) holding.0 found.variable found.there) in
           false≢true (sym (no_variable k.query.classes class none found.variable)
-          ∙ variable_of_class k.query.classes class found.variable below (ap (λ n. of == n) (its ∙ same) ∙ own of))
+          ∙ variable_of_class k.query.classes class found.variable below (ap (λ n. of == n) (its ∙ same) ∙ equals_itself of))
 
 -- ---- what the tests of a query tell
 
@@ -125,7 +126,7 @@ module _ (s : Contents) (regions : List Region) (id class now : ℕ) (its : clas
       grows ≡ list_any (lacks_objects classes class count) cs → (nat_lt k.expiry now && not grows) ≡ true → IsFreshFor (world_in s regions) id class now k untouched
   expired_untouched grows cs own_columns count many lacking test =
       let parts = and_parts (nat_lt k.expiry now) (not grows) test in
-      let unchanged : grows ≡ false = not_true grows parts.1 in
+      let unchanged : grows ≡ false = false_from_not grows parts.1 in
       expired_fresh s regions id class now k
       (renewed_objects s id class its k is old before have false classes same cs own_columns count many (sym unchanged ∙ lacking))
       (is_less k.expiry now parts.0)
@@ -142,7 +143,7 @@ is_touched class now k classes same has tells there r test = record {
   where
     gets : (e : ℕ) (g : Bool) → (nat_lt e now && not g) ≡ false → e < now → g ≡ true
     gets e true t past = refl
-    gets e false t past = absurd (false≢true (sym t ∙ ap (λ b. b && true) (less e now past)))
+    gets e false t past = absurd (false≢true (sym t ∙ ap (λ b. b && true) (test_below e now past)))
 
 -- ---- a query of which nothing changes
 

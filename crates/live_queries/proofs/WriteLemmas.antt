@@ -7,6 +7,8 @@ use Rattle.std.specs.Option.{option_map}
 use Rattle.std.proofs.lemmas.Bool.{and_parts, both_ways, cases_Bool, false_from_ne_true, false≢true, or_cases}
 use Rattle.std.proofs.lemmas.Bool.Decides.{nat_tests}
 use Rattle.exact.proofs.Lists.{bytes_eq_true}
+use Rattle.exact.proofs.Truths.{and_not}
+use Rattle.exact.proofs.Naturals.{below_from_test, same_from_equal}
 use Rattle.tick_set.specs.Runs.{runs_of, spans_have, with_tick}
 use Rattle.tick_set.specs.TickList.{has}
 use Rattle.tick_set.specs.Ticks.{AgreeIn, between, listed, within}
@@ -33,7 +35,7 @@ use Rattle.live_queries.specs.Kept.{IsKeptQuery, KeptQuery, registered_query}
 use Rattle.live_queries.specs.Renewed.{AddsAtMost, IsRenewed}
 use Rattle.live_queries.specs.Told.{Told, key_of, move, moves_of, target_count, target_width, told_changes}
 use Rattle.live_queries.proofs.AnswerLemmas.{filter_mapped, first_after, first_before, listed_targets, mapped_filtered, none_listed, told}
-use Rattle.live_queries.proofs.ColumnLemmas.{AreGrown, IsGrown, column_cases, counts_more, equal, new_or_before, same_size}
+use Rattle.live_queries.proofs.ColumnLemmas.{AreGrown, IsGrown, column_cases, counts_more, new_or_before, same_size}
 use Rattle.live_queries.proofs.CurrentLemmas.{columns_grow}
 use Rattle.live_queries.proofs.JoinedLemmas.{each_object, has_id, objects_are}
 use Rattle.live_queries.proofs.NumberingLemmas.{at_number, between_none, between_same, objects_at, size_some}
@@ -149,10 +151,6 @@ same_move p q p' q' from e now n before rows_after =
       | inr out ↦ ap (λ b. b && f now) out ∙ sym (ap (λ b. b && g now) out)
     ]
 
-and_not : (b : Bool) → (b && not b) ≡ false
-and_not true = refl
-and_not false = refl
-
 -- ---- columns before and after
 
 in_range : (xs : List ℕ) (p d e : ℕ) → p < length xs → slice_index_or xs p d ≡ slice_index_or xs p e
@@ -166,9 +164,6 @@ last_or [] id (suc p) below = absurd (omega (arith, below))
 last_or (x ∷ xs) id zero below = refl
 last_or (x ∷ xs) id (suc p) below = last_or xs id p (omega (arith, below))
 
-less_is : (u w : ℕ) → nat_lt u w ≡ true → u < w
-less_is u w h = grind (arith, nat_tests, h)
-
 one_longer : (xs : List ℕ) (id : ℕ) → length (xs ++ id ∷ []) ≡ length xs + 1
 one_longer [] id = refl
 one_longer (x ∷ xs) id = let e : length (xs ++ id ∷ []) ≡ length xs + 1 = one_longer xs id in omega (arith, e)
@@ -177,10 +172,10 @@ added_in_column : (New : Type 0) (id : ℕ) (c d : Column) → IsGrown New id c 
     slice_index_or c.ids p id ≡ slice_index d.ids p
 added_in_column New id c d grown p there = elim grown.ids [
   | inl same ↦
-      in_range c.ids p id 0 (subst (λ (m : ℕ). p < m) (grown.new_count ∙ ap length same) (less_is p d.numbers.count there))
+      in_range c.ids p id 0 (subst (λ (m : ℕ). p < m) (grown.new_count ∙ ap length same) (below_from_test p d.numbers.count there))
       ∙ ap (λ ids. slice_index ids p) (sym same)
   | inr more ↦
-      last_or c.ids id p (subst (λ (m : ℕ). p < m) (grown.new_count ∙ ap length more.0 ∙ one_longer c.ids id) (less_is p d.numbers.count there))
+      last_or c.ids id p (subst (λ (m : ℕ). p < m) (grown.new_count ∙ ap length more.0 ∙ one_longer c.ids id) (below_from_test p d.numbers.count there))
       ∙ ap (λ ids. slice_index ids p) (sym more.0)
 ]
 
@@ -432,7 +427,7 @@ ids_below class id n (x ∷ objects) there = one (x.class == class) (ids_below c
         has_id (map (λ (e : ℕ × ObjectInfo). e.0) (if b then ((n, x) ∷ filter (is_in_class class) (enumerate_from (n + 1) objects)) else filter (is_in_class class) (enumerate_from (n + 1) objects))) id ≡ true →
         id < n + suc (length objects)
     one true behind h = elim (or_cases (n == id) (has_id (ids_from class (n + 1) objects) id) h) [
-      | inl here ↦ let same : n ≡ id = equal n id here in omega (arith, same)
+      | inl here ↦ let same : n ≡ id = same_from_equal n id here in omega (arith, same)
       | inr later ↦ let below : id < n + 1 + length objects = behind later in omega (arith, below)
     ]
     one false behind h = let below : id < n + 1 + length objects = behind h in omega (arith, below)

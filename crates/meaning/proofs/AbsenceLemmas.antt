@@ -32,7 +32,9 @@ use Rattle.meaning.specs.Fits.{BindsKinds, class_of_variable, factor_kind, kind_
 use Rattle.meaning.specs.Reachable.{FitTheirClasses}
 use Rattle.meaning.specs.Trace.{Trace}
 use Rattle.meaning.specs.Value.{cell_in, cell_value, factor_value, part_value, plus, signed_value, term_value, unit_value, values_compare}
-use Rattle.meaning.proofs.TermLemmas.{HaveKinds, all_have_kinds, kind_of_unit, no_value}
+use Rattle.meaning.proofs.TermLemmas.{HaveKinds, all_have_kinds, kind_of_unit}
+use Rattle.exact.proofs.Naturals.{equals_itself}
+use Rattle.exact.proofs.Items.{no_value}
 
 -- ---- a term of an absent object has no value
 
@@ -257,11 +259,8 @@ parts_told (Some info) (Some there) a t part k states kind =
 abbrev IsAbsent : Trace → ℕ → (ℕ → Bool) → Type 0
 IsAbsent h t has = (v : ℕ) × (has v ≡ true) × (h v t ≡ None)
 
-itself : (v : ℕ) → (v == v) ≡ true
-itself v = grind (arith, nat_tests)
-
 of_variable : {A : Type 0} (h : Trace) (t v : ℕ) → A ⊎ (h v t ≡ None) → A ⊎ IsAbsent h t (λ u. v == u)
-of_variable h t v told = elim told [ inl is ↦ inl is | inr absent ↦ inr (v, itself v, absent) ]
+of_variable h t v told = elim told [ inl is ↦ inl is | inr absent ↦ inr (v, equals_itself v, absent) ]
 
 module _ (c : Catalog) (classes : List ℕ) (known : ℕ → Option ValueKind) (h : Trace) (x : Env) (t : ℕ)
     (states : FitTheirClasses c classes h t) (bound : BindsKinds known x) where

@@ -14,7 +14,8 @@ use Rattle.formula.specs.Tree.{ResolvedTree}
 use Rattle.formula.specs.Value.{with_value}
 use Rattle.meaning.specs.Agreement.{Agree}
 use Rattle.meaning.specs.Satisfaction.{Interpretation, sat}
-use Rattle.meaning.proofs.LocalityLemmas.{bound_same, same_both, same_either}
+use Rattle.meaning.proofs.LocalityLemmas.{bound_same, same_either}
+use Rattle.exact.proofs.Truths.{both_and}
 
 -- ---- the reach of parts
 
@@ -85,7 +86,7 @@ seen_from j k lo hi e (shapes.Atom a) agree n is x t from to most = agree x t fr
 seen_from j k lo hi e (shapes.Not f) agree n is x t from to most = ap not (seen_from j k lo hi e f agree n is x t from to most)
 seen_from j k lo hi e (shapes.And f g) agree n is x t from to most =
     let parts = farther_parts (reach f) (reach g) n is in
-    same_both (sat j f x e t) (sat k f x e t) (sat j g x e t) (sat k g x e t)
+    both_and (sat j f x e t) (sat k f x e t) (sat j g x e t) (sat k g x e t)
     (seen_from j k lo hi e f agree.0 parts.first parts.of_left x t from to (nearer t parts.first n e hi parts.left_within most))
     (seen_from j k lo hi e g agree.1 parts.second parts.of_right x t from to (nearer t parts.second n e hi parts.right_within most))
 seen_from j k lo hi e (shapes.Or f g) agree n is x t from to most =

@@ -7,6 +7,7 @@ use Rattle.std.proofs.lemmas.Bool.{false≢true, and_parts, cases_eq, ne_eqb, or
 use Rattle.std.proofs.lemmas.Bool.Decides.{nat_tests}
 use Rattle.std.proofs.lemmas.List.Folds.{list_any-append}
 use Rattle.exact.proofs.Lists.{bytes_eq_refl, bytes_eq_true}
+use Rattle.exact.proofs.Items.{any_and}
 use Rattle.tick_set.specs.Runs.{runs_of, with_tick}
 use Rattle.tick_set.specs.TickList.{has}
 use Rattle.tick_set.specs.Ticks.{listed, within}
@@ -188,11 +189,6 @@ any_key key at [] = refl
 any_key key at (k ∷ keys) =
     let here : (bytes_eq k key && at k) ≡ (bytes_eq k key && at key) = same_key k key at (bytes_eq k key) refl in
     grind (arith, here, any_key key at keys)
-
-any_and : (test : List ℕ → Bool) (always : Bool) (holds : List ℕ → Bool) (xs : List (List ℕ)) →
-    list_any (λ x. test x && (always && holds x)) xs ≡ (always && list_any (λ x. test x && holds x) xs)
-any_and test always holds [] = grind (arith)
-any_and test always holds (x ∷ xs) = grind (arith, any_and test always holds xs)
 
 pub answer_is_union : (w : World) (q : ResolvedQuery) → HasTargets q → (from e : ℕ) (key : List ℕ) (t : ℕ) →
     rows_have (answer w q from e) (λ k. bytes_eq k key) t ≡ rows_have (full_rows w q from e) (λ b. bytes_eq (tuple_of q b) key) t

@@ -27,7 +27,8 @@ use Rattle.meaning.specs.Reachable.{AreReachable, AreWithinBounds}
 use Rattle.meaning.specs.Trace.{Trace, trace_of}
 use Rattle.meaning.specs.Value.{term_value}
 use Rattle.meaning.proofs.StateLemmas.{number_is_reachable}
-use Rattle.meaning.proofs.TermLemmas.{no_value, term_near}
+use Rattle.meaning.proofs.TermLemmas.{term_near}
+use Rattle.exact.proofs.Items.{no_value}
 
 -- ---- the objects of a binding
 

@@ -19,8 +19,8 @@ use Rattle.formula.specs.declared.tree.RUnit.TheVariants as units
 use Rattle.formula.specs.Tree.{ResolvedQuery, ResolvedTree}
 use Rattle.formula.specs.declared.value.ValueKind.{ValueKind}
 use Rattle.meaning.specs.Fits.{FitsItsClasses, atom_fits, class_of_variable, factor_kind, formula_fits, is_point_variable, kind_beside, kind_of_parts, kind_of_sum, kind_with_sign, kinds_compare, no_kinds, term_kind, unit_kind, with_kind}
-use Rattle.meaning.proofs.StateLemmas.{get_append}
 use Rattle.meaning.proofs.TermLemmas.{passes_at}
+use Rattle.exact.proofs.Items.{slice_get-append}
 
 -- ---- classes that stay for the variables
 
@@ -114,7 +114,7 @@ module _ (old new : Catalog) (classes : List ℕ) (same : (v : ℕ) → class_of
 class_stays : (infos later : List ClassInfo) (class : Option ℕ) → ((k : ℕ) → class ≡ Some k → k < length infos) →
     option_and_then (slice_get infos) class ≡ option_and_then (slice_get (infos ++ later)) class
 class_stays infos later None within = refl
-class_stays infos later (Some k) within = sym (get_append infos later k (within k refl))
+class_stays infos later (Some k) within = sym (slice_get-append infos later k (within k refl))
 
 classes_stay : (infos later : List ClassInfo) (classes : List ℕ) → list_all (λ k. nat_lt k (length infos)) classes ≡ true → (v : ℕ) →
     option_and_then (slice_get infos) (slice_get classes v) ≡ option_and_then (slice_get (infos ++ later)) (slice_get classes v)

@@ -1,11 +1,10 @@
 -- For this crate and for the crates above: a formula by what it asks of its interpretation, and of the states of
 -- its variables.
-use Rattle.std.proofs.Common.{◌≡◌, ℕ, ◌≤◌, Bool, true, false, not, ◌&&◌, ◌||◌, Option, None, Some, List, [], ◌∷◌, map, refl, ap, ◌∙◌, arith}
+use Rattle.std.proofs.Common.{◌≡◌, ℕ, ◌≤◌, Bool, true, false, not, ◌||◌, Option, None, Some, List, [], ◌∷◌, map, refl, ap, ◌∙◌, arith}
 use Rattle.std.specs.Prelude.{◌==◌, unwrap_or}
 use Rattle.std.specs.List.{list_any, reduce}
 use Rattle.std.specs.Option.{option_map, option_map_or, option_and_then}
 use Rattle.std.proofs.lemmas.Bool.{or_left, or_right}
-use Rattle.std.proofs.lemmas.Bool.Decides.{nat_tests}
 use Rattle.fixed_point.specs.declared.number.Point.{Point}
 use Rattle.fixed_point.specs.declared.variants.BoundForm.{BoundForm}
 use Rattle.fixed_point.specs.declared.variants.BoundForm.TheVariants as bounds
@@ -33,11 +32,10 @@ use Rattle.meaning.specs.Value.{unit_value, factor_value, signed_value, term_val
 use Rattle.meaning.specs.Atom.{atom_holds, distance_holds, is_in_region, position_in, positions_of}
 use Rattle.meaning.specs.Satisfaction.{Interpretation, plain, sat}
 use Rattle.meaning.specs.Agreement.{Agree, SameStates}
+use Rattle.exact.proofs.Naturals.{equals_itself}
+use Rattle.exact.proofs.Truths.{both_and}
 
 -- ---- interpretations that agree
-
-pub same_both : (a a' b b' : Bool) → a ≡ a' → b ≡ b' → (a && b) ≡ (a' && b')
-same_both a a' b b' e f = ap (λ c. c && b) e ∙ ap (λ c. a' && c) f
 
 pub same_either : (a a' b b' : Bool) → a ≡ a' → b ≡ b' → (a || b) ≡ (a' || b')
 same_either a a' b b' e f = ap (λ c. c || b) e ∙ ap (λ c. a' || c) f
@@ -71,7 +69,7 @@ same_sat j k lo hi (shapes.Truth b) agree e most x t from to = refl
 same_sat j k lo hi (shapes.Atom a) agree e most x t from to = agree x t from to
 same_sat j k lo hi (shapes.Not f) agree e most x t from to = ap not (same_sat j k lo hi f agree e most x t from to)
 same_sat j k lo hi (shapes.And f g) agree e most x t from to =
-    same_both (sat j f x e t) (sat k f x e t) (sat j g x e t) (sat k g x e t)
+    both_and (sat j f x e t) (sat k f x e t) (sat j g x e t) (sat k g x e t)
     (same_sat j k lo hi f agree.0 e most x t from to) (same_sat j k lo hi g agree.1 e most x t from to)
 same_sat j k lo hi (shapes.Or f g) agree e most x t from to =
     same_either (sat j f x e t) (sat k f x e t) (sat j g x e t) (sat k g x e t)
@@ -98,18 +96,15 @@ same_sat j k lo hi (shapes.Assign (d, q) f) agree e most x t from to =
 
 -- ---- the states of a formula's own variables
 
-own : (v : ℕ) → (v == v) ≡ true
-own v = grind (arith, nat_tests)
-
 unit_same : (h k : Trace) (x : Env) (t : ℕ) (u : RUnit) → ((v : ℕ) → unit_has v u ≡ true → h v t ≡ k v t) →
     unit_value h x u t ≡ unit_value k x u t
 unit_same h k x t (units.Literal n) same = refl
 unit_same h k x t (units.Text s) same = refl
 unit_same h k x t (units.Var d bound) same = refl
 unit_same h k x t (units.Attr v a bound) same =
-    ap (λ cells. option_map (λ cell. cell_value cell t) (cell_in cells a)) (same v (own v))
+    ap (λ cells. option_map (λ cell. cell_value cell t) (cell_in cells a)) (same v (equals_itself v))
 unit_same h k x t (units.Sub v a part) same =
-    ap (λ cells. option_and_then (λ cell. part_value part cell t) (cell_in cells a)) (same v (own v))
+    ap (λ cells. option_and_then (λ cell. part_value part cell t) (cell_in cells a)) (same v (equals_itself v))
 unit_same h k x t units.Time same = refl
 
 factors_same : (h k : Trace) (x : Env) (t : ℕ) (factors : List RSigned) →
@@ -132,7 +127,7 @@ positions_same : (h k : Trace) (t : ℕ) (vs : List ℕ) → ((v : ℕ) → list
     positions_of h t vs ≡ positions_of k t vs
 positions_same h k t [] same = refl
 positions_same h k t (u ∷ vs) same =
-    let first = same u (or_left (u == u) (list_any (λ r. r == u) vs) (own u)) in
+    let first = same u (or_left (u == u) (list_any (λ r. r == u) vs) (equals_itself u)) in
     ap (λ cells. option_and_then (λ p. option_map (λ ps. p ∷ ps) (positions_of h t vs)) (position_in t cells)) first
     ∙ ap (λ (ps : Option (List Point)). option_and_then (λ p. option_map (λ others. p ∷ others) ps) (position_in t (k u t)))
     (positions_same h k t vs (λ v has. same v (or_right (u == v) (list_any (λ r. r == v) vs) has)))
@@ -145,12 +140,12 @@ atom_same regions h k (atoms.Compare q op r) x t same =
     ∙ ap (λ value. values_compare op (term_value k q x t) value)
     (term_same h k x t r (λ v has. same v (or_right (term_has v q) (term_has v r) has)))
 atom_same regions h k (atoms.Inside v n) x t same =
-    ap (λ cells. option_map_or (is_in_region regions n) (position_in t cells) false) (same v (own v))
+    ap (λ cells. option_map_or (is_in_region regions n) (position_in t cells) false) (same v (equals_itself v))
 atom_same regions h k (atoms.Outside v n) x t same =
-    ap (λ cells. option_map_or (λ p. not (is_in_region regions n p)) (position_in t cells) false) (same v (own v))
+    ap (λ cells. option_map_or (λ p. not (is_in_region regions n p)) (position_in t cells) false) (same v (equals_itself v))
 atom_same regions h k (atoms.Dist v u op c) x t same =
-    let first = same v (or_left (v == v) (u == v) (own v)) in
-    let second = same u (or_right (v == u) (u == u) (own u)) in
+    let first = same v (or_left (v == v) (u == v) (equals_itself v)) in
+    let second = same u (or_right (v == u) (u == u) (equals_itself u)) in
     ap (λ cells. distance_holds op c (position_in t cells) (position_in t (h u t))) first
     ∙ ap (λ cells. distance_holds op c (position_in t (k v t)) (position_in t cells)) second
 atom_same regions h k (atoms.Sphere r vs) x t same =

@@ -1,5 +1,5 @@
 -- A formula holds nowhere where none of the atoms that it needs holds.
-use Rattle.std.proofs.Common.{◌≡◌, ℕ, ◌+◌, ◌≤◌, min, Bool, true, false, ◌&&◌, ◌||◌, nat_lt, Option, None, Some, List, [], ◌∷◌, ◌++◌, refl, ap, sym, ◌∙◌, ◌⊎◌, inl, inr, if◌then◌else◌, arith, subst}
+use Rattle.std.proofs.Common.{◌≡◌, ℕ, ◌+◌, ◌≤◌, min, Bool, true, false, ◌&&◌, nat_lt, Option, None, Some, List, [], ◌∷◌, ◌++◌, refl, ap, sym, ◌∙◌, ◌⊎◌, inl, inr, if◌then◌else◌, arith, subst}
 use Rattle.std.specs.List.{list_all}
 use Rattle.std.specs.Option.{option_map_or}
 use Rattle.std.proofs.lemmas.Bool.{and_from, and_parts, both_ways, false_from_ne_true}
@@ -21,6 +21,7 @@ use Rattle.formula.specs.Tree.{ResolvedTree}
 use Rattle.formula.specs.Value.{with_value}
 use Rattle.meaning.specs.Satisfaction.{Interpretation, sat}
 use Rattle.meaning.specs.Needs.{AreSilent, both_lists, either_list, needs_of}
+use Rattle.exact.proofs.Truths.{and_second_false, or_of_false}
 
 -- ---- operators over tests that hold nowhere from lo to e
 
@@ -61,15 +62,8 @@ until_nowhere untils.Plain c g h lo e t none from = no_goal_in g h lo e t e t no
 until_nowhere untils.Within c g h lo e t none from = no_goal_in g h lo e t (min (t + c) e) t none from (omega arith)
 until_nowhere untils.After c g h lo e t none from = no_goal_in g h lo e (t + c) e t none (omega (arith, from)) (omega arith)
 
-neither : (b c : Bool) → b ≡ false → c ≡ false → (b || c) ≡ false
-neither b c first second = ap (λ d. d || c) first ∙ second
-
 not_both_left : (b c : Bool) → b ≡ false → (b && c) ≡ false
 not_both_left b c first = ap (λ d. d && c) first
-
-not_both_right : (b c : Bool) → c ≡ false → (b && c) ≡ false
-not_both_right true c second = second
-not_both_right false c second = refl
 
 bound_nowhere : (o : Option Value) (p : Value → Bool) → ((v : Value) → p v ≡ false) → option_map_or p o false ≡ false
 bound_nowhere None p none = refl
@@ -122,12 +116,12 @@ holds_nowhere passes is_better (shapes.Not f) atoms is j lo e silent x t from to
 holds_nowhere passes is_better (shapes.And f g) atoms is j lo e silent x t from to =
     elim (either_has is_better (needs_of passes is_better f) (needs_of passes is_better g) atoms is) [
       | inl left ↦ not_both_left (sat j f x e t) (sat j g x e t) (holds_nowhere passes is_better f atoms left j lo e silent x t from to)
-      | inr right ↦ not_both_right (sat j f x e t) (sat j g x e t) (holds_nowhere passes is_better g atoms right j lo e silent x t from to)
+      | inr right ↦ and_second_false (sat j f x e t) (sat j g x e t) (holds_nowhere passes is_better g atoms right j lo e silent x t from to)
     ]
 holds_nowhere passes is_better (shapes.Or f g) atoms is j lo e silent x t from to =
     let both = both_have (needs_of passes is_better f) (needs_of passes is_better g) atoms is in
     let parts = silent_parts j lo e both.first both.second (subst (AreSilent j lo e) (sym both.joined) silent) in
-    neither (sat j f x e t) (sat j g x e t)
+    or_of_false (sat j f x e t) (sat j g x e t)
     (holds_nowhere passes is_better f both.first both.of_left j lo e parts.0 x t from to)
     (holds_nowhere passes is_better g both.second both.of_right j lo e parts.1 x t from to)
 holds_nowhere passes is_better (shapes.Next f) atoms is j lo e silent x t from to =

@@ -9,7 +9,7 @@ use Rattle.fixed_point.specs.declared.number.Point.{Point}
 use Rattle.geometry.specs.Distance.{distance_compares}
 use Rattle.geometry.specs.Plane.{square, squared_distance}
 use Rattle.geometry.specs.Region.{Region}
-use Rattle.tick_set.proofs.Between.{all_between_at, all_between_from, same_test}
+use Rattle.tick_set.proofs.Between.{all_between_at, all_between_from}
 use Rattle.history.specs.History.{History, ChangesFrom, cells_at}
 use Rattle.history.specs.World.{World}
 use Rattle.formula.specs.declared.tree.RAtom.TheVariants as atoms
@@ -24,6 +24,7 @@ use Rattle.meaning.specs.Agreement.{SameStates, SeesItsClasses, world_with}
 use Rattle.meaning.specs.Binding.{are_present, holds_full}
 use Rattle.meaning.proofs.AheadLemmas.{seen_so_far}
 use Rattle.meaning.proofs.LocalityLemmas.{sees_its_variables, states_agree}
+use Rattle.exact.proofs.Truths.{same_truth}
 
 -- ---- absent objects
 
@@ -67,7 +68,7 @@ same_present : (old new : History) (regions : List Region) (q : ResolvedQuery) (
     ((v : ℕ) → v < length q.classes → cells_at old (b v) t ≡ cells_at new (b v) t) →
     are_present (world_with old regions) q b t ≡ are_present (world_with new regions) q b t
 same_present old new regions q b t same =
-    same_test (are_present (world_with old regions) q b t) (are_present (world_with new regions) q b t)
+    same_truth (are_present (world_with old regions) q b t) (are_present (world_with new regions) q b t)
     (λ all. all_between_from (λ v. is_some (trace_of new b v t)) 0 (length q.classes)
     (λ v from below. ap is_some (sym (same v below)) ∙ all_between_at (λ u. is_some (trace_of old b u t)) 0 (length q.classes) all v from below))
     (λ all. all_between_from (λ v. is_some (trace_of old b v t)) 0 (length q.classes)

@@ -8,15 +8,10 @@ use Rattle.tick_set.specs.Ticks.{between}
 use Rattle.formula_shape.specs.Shape as shapes
 use Rattle.formula.specs.Tree.{ResolvedQuery, ResolvedTree}
 use Rattle.meaning.specs.Reads.{atom_variables, choices, looks, made_single, query_reads, reads, term_variables}
+use Rattle.exact.proofs.Naturals.{at_most_itself, sum_within}
 
 abbrev IsWithin : (ℕ → ℕ) → (ℕ → ℕ) → Type 0
 IsWithin fewer more = (v : ℕ) → fewer v ≤ more v
-
-same_or_fewer : (n : ℕ) → n ≤ n
-same_or_fewer n = omega arith
-
-sum_within : (a b m n : ℕ) → a ≤ m → b ≤ n → a + b ≤ m + n
-sum_within a b m n first second = omega (arith, first, second)
 
 choices_within : (fewer more : ℕ → ℕ) → IsWithin fewer more → (vs : List ℕ) → choices fewer vs ≤ choices more vs
 choices_within fewer more within [] = omega arith
@@ -25,7 +20,7 @@ choices_within fewer more within (v ∷ vs) =
 
 looks_within : (fewer more : ℕ → ℕ) → IsWithin fewer more → (vs : List ℕ) → looks fewer vs ≤ looks more vs
 looks_within fewer more within vs =
-    mul-le (choices fewer vs) (length vs) (choices more vs) (length vs) (choices_within fewer more within vs) (same_or_fewer (length vs))
+    mul-le (choices fewer vs) (length vs) (choices more vs) (length vs) (choices_within fewer more within vs) (at_most_itself (length vs))
 
 chosen_within : (b : Bool) (m n : ℕ) → m ≤ n → (if b then 1 else m) ≤ (if b then 1 else n)
 chosen_within true m n within = omega arith
@@ -58,8 +53,8 @@ reads_within fewer more within ticks (shapes.Assign (d, q) f) =
     (choices more vs) (length vs + ticks * reads (made_single more vs) ticks f)
     (choices_within fewer more within vs)
     (sum_within (length vs) (ticks * reads (made_single fewer vs) ticks f) (length vs) (ticks * reads (made_single more vs) ticks f)
-    (same_or_fewer (length vs))
-    (mul-le ticks (reads (made_single fewer vs) ticks f) ticks (reads (made_single more vs) ticks f) (same_or_fewer ticks) part))
+    (at_most_itself (length vs))
+    (mul-le ticks (reads (made_single fewer vs) ticks f) ticks (reads (made_single more vs) ticks f) (at_most_itself ticks) part))
 
 pub query_reads_within : (fewer more : ℕ → ℕ) → IsWithin fewer more → (ticks : ℕ) (q : ResolvedQuery) →
     query_reads fewer ticks q ≤ query_reads more ticks q

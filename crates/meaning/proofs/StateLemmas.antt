@@ -10,6 +10,8 @@ use Rattle.std.proofs.lemmas.Bool.Decides.{nat_tests}
 use Rattle.std.proofs.lemmas.List.Folds.{find_at, list_all-append, list_any-append}
 use Rattle.std.proofs.lemmas.Map.Keys.{IsDistinct-head, IsDistinct-tail}
 use Rattle.exact.proofs.Lists.{bytes_eq_true}
+use Rattle.exact.proofs.Naturals.{at_most_from_test}
+use Rattle.exact.proofs.Items.{no_value, slice_get-append}
 use Rattle.motion.specs.declared.cell.Cell.{Cell}
 use Rattle.motion.specs.declared.cell.NamedSet.{NamedSet}
 use Rattle.motion.specs.declared.cell.Place.{Place}
@@ -23,9 +25,6 @@ use Rattle.history.specs.Write.{Attribute, Write, Class, Insert, Remove, Update}
 use Rattle.meaning.specs.Accepted.{are_accepted, are_given, is_accepted, is_own_class, tick_after}
 use Rattle.meaning.specs.Reachable.{IsReachable, is_reachable}
 use Rattle.meaning.proofs.ReachLemmas.{cells_stay, inserted_has_kinds, inserted_is_reachable, updated_is_reachable, updated_keeps_kinds}
-
-no_value : {A B : Type 0} (x : B) → None ≡ Some x → A
-no_value x is = let wrong : ⊥ = cc in absurd wrong
 
 -- ---- the sizes
 
@@ -46,9 +45,6 @@ within_updated : (s : ℕ) (attributes : List Attribute) (place : Place) (sets :
 within_updated s attributes place sets None given is = refl
 within_updated s attributes place sets (Some there) given is = updated_is_reachable s attributes place sets there given is
 
-at_most : (m n : ℕ) → nat_le m n ≡ true → m ≤ n
-at_most m n is = grind (arith, nat_tests, is)
-
 -- by the tick of the last write, and by a tick that is asked
 abbrev AreBoth : ℕ → ℕ → Option (List Cell) → Type 0
 AreBoth last t state = (are_within last state ≡ true) × (are_within t state ≡ true)
@@ -58,7 +54,7 @@ either_both : (s t : ℕ) (named : Bool) (x y : Option (List Cell)) → are_with
     AreBoth s t (if named && nat_le s t then x else y)
 either_both s t named x y new old = (
   within_either s (named && nat_le s t) x y (λ here. new) old.0,
-  within_either t (named && nat_le s t) x y (λ here. within_stays s t (at_most s t (and_parts named (nat_le s t) here).1) x new) old.1,
+  within_either t (named && nat_le s t) x y (λ here. within_stays s t (at_most_from_test s t (and_parts named (nat_le s t) here).1) x new) old.1,
 )
 
 sizes_step : (c : Catalog) (o : List ℕ) (last t : ℕ) (state : Option (List Cell)) (w : Write) → is_accepted c last w ≡ true →
@@ -69,22 +65,17 @@ sizes_step c o last t state (Insert s class name place sets) accepted is =
     let given = (and_parts (are_given place sets) (is_own_class c class name) parts.1).0 in
     either_both s t (bytes_eq o name) (Some (inserted s (attributes_of_class (class_of c class)) place sets)) state
     (inserted_is_reachable s (attributes_of_class (class_of c class)) place sets given)
-    (within_stays last s (at_most last s parts.0) state is.0, is.1)
+    (within_stays last s (at_most_from_test last s parts.0) state is.0, is.1)
 sizes_step c o last t state (Update s name place sets) accepted is =
     let parts = and_parts (nat_le last s) (are_given place sets) accepted in
-    let now = within_stays last s (at_most last s parts.0) state is.0 in
+    let now = within_stays last s (at_most_from_test last s parts.0) state is.0 in
     let attributes = attributes_of_object c (object_of c o) in
     either_both s t (bytes_eq o name) (option_map (updated s attributes place sets) state) state
     (within_updated s attributes place sets state parts.1 now) (now, is.1)
 sizes_step c o last t state (Remove s name) accepted is =
-    either_both s t (bytes_eq o name) None state refl (within_stays last s (at_most last s accepted) state is.0, is.1)
+    either_both s t (bytes_eq o name) None state refl (within_stays last s (at_most_from_test last s accepted) state is.0, is.1)
 
 -- ---- the kinds
-
-pub get_append : {A : Type 0} (xs ys : List A) (i : ℕ) → i < length xs → slice_get (xs ++ ys) i ≡ slice_get xs i
-get_append [] ys i within = absurd (omega arith)
-get_append (x ∷ xs) ys zero within = refl
-get_append (x ∷ xs) ys (suc i) within = get_append xs ys i (omega arith)
 
 found_first : {A : Type 0} (p q : A → Bool) (y x : A) (xs : List A) (first : Bool) → (if first then Some y else find p xs) ≡ Some x →
     q y ≡ true → (find p xs ≡ Some x → q x ≡ true) → q x ≡ true
@@ -205,7 +196,7 @@ same_class classes new objects o None is all = refl
 same_class classes new objects o (Some x) is all =
     let below = found_passes (λ (y : ObjectInfo). bytes_eq o y.name) (λ (y : ObjectInfo). nat_lt y.class (length classes)) objects x is all in
     let within : x.class < length classes = grind (arith, nat_tests, below) in
-    get_append classes (new ∷ []) x.class within
+    slice_get-append classes (new ∷ []) x.class within
 
 -- ---- an insert
 

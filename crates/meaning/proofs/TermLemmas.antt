@@ -32,15 +32,13 @@ use Rattle.meaning.specs.Reachable.{AreReachable, AreWithinBounds, IsReachable, 
 use Rattle.meaning.specs.Trace.{Trace}
 use Rattle.meaning.specs.Value.{attribute_bound, cell_in, cell_value, factor_value, part_at, part_value, plus, signed_value, term_value, unit_value}
 use Rattle.meaning.proofs.BoundLemmas.{cell_near, no_number, part_near}
+use Rattle.exact.proofs.Items.{no_value}
 
 -- each number that it may be is within the bound
 abbrev IsNear : Option Value → ℕ → Type 0
 IsNear value bound = (n : ℤ) → value ≡ Some (values.Num n) → unsigned_abs n ≤ bound
 
 -- ---- units
-
-pub no_value : {A B : Type 0} (x : B) → None ≡ Some x → A
-no_value x is = let wrong : ⊥ = cc in absurd wrong
 
 pub passes_at : {A : Type 0} (p : A → Bool) (there : List A) (a : ℕ) (x : A) → list_all p there ≡ true → slice_get there a ≡ Some x → p x ≡ true
 passes_at p [] a x all is = no_value x is

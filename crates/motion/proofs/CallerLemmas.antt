@@ -1,5 +1,5 @@
 -- What the crates above cite of timelines and of what a command gives.
-use Rattle.std.proofs.Common.{◌≡◌, ℕ, ℤ, zero, suc, ◌-◌, ◌<◌, ◌≤◌, true, false, unsigned_abs, codes, Option, None, Some, List, [], ◌∷◌, length, get_or, refl, sym, ap, ◌∙◌, arith}
+use Rattle.std.proofs.Common.{◌≡◌, ℕ, ℤ, zero, suc, ◌-◌, ◌<◌, ◌≤◌, false, unsigned_abs, codes, Option, None, Some, List, [], ◌∷◌, length, get_or, refl, sym, ap, ◌∙◌, arith}
 use Rattle.std.specs.Prelude.{All, IfSome, nat_lt, nat_le, option_and_then, slice_get, if◌then◌else◌}
 use Rattle.std.specs.Option.{option_map}
 use Rattle.std.specs.List.{filter}
@@ -18,6 +18,7 @@ use Rattle.motion.specs.Cells.{IsGiven, given_of, setting_of, place_sets}
 use Rattle.motion.specs.Timeline.{Epoch, state_at, put, AreBegunBy}
 use Rattle.motion.proofs.PieceLemmas.{linear}
 use Rattle.motion.proofs.TimelineLemmas.{in_force_of, epoch_at-put}
+use Rattle.exact.proofs.Naturals.{test_at_most}
 
 -- the state at a tick after a write
 pub state_at_put : (epochs : List Epoch) (p : Epoch) (t : ℕ) → state_at (put epochs p) t ≡ (if nat_le p.from t then p.cells else state_at epochs t)
@@ -38,16 +39,13 @@ AreBegunBy-put epochs p =
 pub AreBegunBy-later : (epochs : List Epoch) (s t : ℕ) → s ≤ t → AreBegunBy epochs s → AreBegunBy epochs t
 AreBegunBy-later epochs s t h by = λ k d l. omega (arith, by k d l)
 
-le_true : (m n : ℕ) → m ≤ n → nat_le m n ≡ true
-le_true m n h = grind (arith, nat_tests)
-
 settled_from : (epochs : List Epoch) (found : Option Epoch) (now t : ℕ) → AreBegunBy epochs now → now ≤ t → in_force_of t found epochs ≡ in_force_of now found epochs
 settled_from [] found now t begun later = refl
 settled_from (q ∷ epochs) found now t begun later =
     let first : q.from ≤ now = begun 0 q (omega arith) in
-    ap (λ b. in_force_of t (if b then Some q else found) epochs) (le_true q.from t (omega arith))
+    ap (λ b. in_force_of t (if b then Some q else found) epochs) (test_at_most q.from t (omega arith))
     ∙ settled_from epochs (Some q) now t (λ k d l. begun (suc k) d (omega arith)) later
-    ∙ ap (λ b. in_force_of now (if b then Some q else found) epochs) (sym (le_true q.from now first))
+    ∙ ap (λ b. in_force_of now (if b then Some q else found) epochs) (sym (test_at_most q.from now first))
 
 -- from the last write on the state stays
 pub settled : (epochs : List Epoch) (now t : ℕ) → AreBegunBy epochs now → now ≤ t → state_at epochs t ≡ state_at epochs now

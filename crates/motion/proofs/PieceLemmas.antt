@@ -22,6 +22,7 @@ use Rattle.motion.specs.declared.asked.Asked.TheVariants as which
 use Rattle.motion.specs.Pieces.{changes_for, is_asked, is_cut_for, legs_end, AreSteadyFor, IsFirstOrEnd, IsPiece, IsPieceFor, ArePiecesFrom, ArePieces, IsLinear, IsSteadyFor, pieces_have}
 use Rattle.motion.proofs.LegLemmas.{NoneEnds, legs_slope-steady, legs_rise-steady}
 use Rattle.motion.proofs.TimelineLemmas.{at_each, closed, each_past, epoch_at-split, from_each, in_force_of, opened}
+use Rattle.exact.proofs.Truths.{both_false}
 
 IsCellAt-later : (cell : Cell) (s t : ℕ) → s ≤ t → IsCellAt cell s → IsCellAt cell t
 IsCellAt-later (kinds.Num n) s t h written = written
@@ -185,10 +186,6 @@ cutting asked epochs p cells count at last next first rising some begun is of be
   within = within;
 }
 
-or_none : (x y : Bool) → (x || y) ≡ false → (x ≡ false) × (y ≡ false)
-or_none true y none = absurd (false≢true (sym none))
-or_none false y none = (refl, none)
-
 -- a cell turns only where one of them does
 none_turns : (cells : List Cell) (a t : ℕ) (cell : Cell) → list_any (cell_turns t) cells ≡ false → slice_get cells a ≡ Some cell → cell_turns t cell ≡ false
 none_turns [] a t cell none is = cc
@@ -204,8 +201,8 @@ none_turns_among (index ∷ indexes) cells a t cell none is_asked is =
       | inl here ↦
           let found : option_map_or (cell_turns t) (slice_get cells index) false ≡ cell_turns t cell
           = ap (λ i. option_map_or (cell_turns t) (slice_get cells i) false) here ∙ ap (λ c. option_map_or (cell_turns t) c false) is in
-          sym found ∙ (or_none _ _ none).0
-      | inr other ↦ none_turns_among indexes cells a t cell (or_none _ _ none).1 (grind (arith, nat_tests)) is
+          sym found ∙ (both_false _ _ none).0
+      | inr other ↦ none_turns_among indexes cells a t cell (both_false _ _ none).1 (grind (arith, nat_tests)) is
     ]
 
 written_dynamic : (cells : List Cell) (a s : ℕ) (v : Dynamic) → AreCellsAt cells s → slice_get cells a ≡ Some (kinds.Dyn v) → v.updatetime ≤ s

@@ -1,23 +1,17 @@
 -- The range of a value over some legs, one leg after another.
-use Rattle.std.proofs.Common.{◌≡◌, ℕ, ℤ, pos, ◌+◌, ◌-◌, ◌<◌, ◌≤◌, ◌+ℤ◌, ◌≤ℤ◌, ◌<ℤ◌, neg_ℤ, int_le, false, ◌⊎◌, inl, inr, sym, ap, ◌∙◌, arith}
+use Rattle.std.proofs.Common.{◌≡◌, ℕ, ℤ, pos, ◌+◌, ◌-◌, ◌<◌, ◌≤◌, ◌+ℤ◌, ◌≤ℤ◌, ◌<ℤ◌, neg_ℤ, false, ◌⊎◌, inl, inr, sym, ap, ◌∙◌, arith}
 use Rattle.std.specs.Int.{int_min, int_max}
 use Rattle.std.proofs.lemmas.Int.{ints}
-use Rattle.std.proofs.lemmas.Bool.{cases_lt, cases_Bool}
+use Rattle.std.proofs.lemmas.Bool.{cases_lt}
 use Rattle.std.proofs.lemmas.Bool.Decides.{nat_tests}
 use Rattle.exact.proofs.Convex.{rises}
+use Rattle.exact.proofs.Integers.{int_le_or_lt}
 use Rattle.motion.specs.Dynamic.{Dynamic, slope_at, turns_at, value_at}
 use Rattle.motion.specs.Function.{rise}
 use Rattle.motion.specs.Pieces.{IsLinear}
 use Rattle.motion.specs.Range.{IsRange}
 use Rattle.motion.proofs.LegLemmas.{rise_next}
 use Rattle.motion.proofs.PieceLemmas.{linear}
-
-cases_le : (a b : ℤ) → (a ≤ℤ b) ⊎ (b <ℤ a)
-cases_le a b =
-    elim (cases_Bool (int_le a b)) [
-      | inl e ↦ inl (grind (arith, ints, nat_tests))
-      | inr e ↦ inr (grind (arith, ints, nat_tests))
-    ]
 
 value_next : (v : Dynamic) (t : ℕ) → v.updatetime ≤ t → value_at v (t + 1) ≡ value_at v t +ℤ slope_at v t
 value_next v t written =
@@ -56,7 +50,7 @@ module _ (v : Dynamic) (at next : ℕ) (written : v.updatetime ≤ at) (past : a
   between : (t : ℕ) → at ≤ t → t ≤ next
       → ((value_at v at ≤ℤ value_at v t) × (value_at v t ≤ℤ value_at v next)) ⊎ ((value_at v next ≤ℤ value_at v t) × (value_at v t ≤ℤ value_at v at))
   between t from up_to =
-      elim (cases_le (pos 0) (slope_at v at)) [
+      elim (int_le_or_lt (pos 0) (slope_at v at)) [
         | inl up ↦ inl (rising up at t (omega arith) from up_to, rising up t next from up_to (omega arith))
         | inr down ↦ inr (falling down t next from up_to (omega arith), falling down at t (omega arith) from up_to)
       ]
@@ -91,7 +85,7 @@ module _ (v : Dynamic) (at next : ℕ) (written : v.updatetime ≤ at) (past : a
     low_reached : (t : ℕ) × (lo ≤ t) × (t ≤ next) × (value_at v t ≡ int_min least value)
     low_reached =
         let old = so_far.least_reached in
-        elim (cases_le least value) [
+        elim (int_le_or_lt least value) [
           | inl keep ↦ (old.0, old.1, omega (arith, old.2), old.3 ∙ grind (arith, ints, nat_tests))
           | inr new ↦ (next, omega arith, omega arith, sym is ∙ grind (arith, ints, nat_tests))
         ]
@@ -99,7 +93,7 @@ module _ (v : Dynamic) (at next : ℕ) (written : v.updatetime ≤ at) (past : a
     high_reached : (t : ℕ) × (lo ≤ t) × (t ≤ next) × (value_at v t ≡ int_max greatest value)
     high_reached =
         let old = so_far.greatest_reached in
-        elim (cases_le value greatest) [
+        elim (int_le_or_lt value greatest) [
           | inl keep ↦ (old.0, old.1, omega (arith, old.2), old.3 ∙ grind (arith, ints, nat_tests))
           | inr new ↦ (next, omega arith, omega arith, sym is ∙ grind (arith, ints, nat_tests))
         ]

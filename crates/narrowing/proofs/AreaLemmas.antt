@@ -4,7 +4,6 @@ use Rattle.std.specs.Prelude.{IfSome, int_le, option_map, option_and_then, slice
 use Rattle.std.specs.List.{list_all, list_any}
 use Rattle.std.specs.Option.{option_map_or}
 use Rattle.std.proofs.lemmas.Bool.{false≢true, and_from, and_parts, both_ways, false_from_ne_true}
-use Rattle.std.proofs.lemmas.Bool.Decides.{nat_tests}
 use Rattle.std.proofs.lemmas.Int.{ints}
 use Rattle.std.proofs.lemmas.Option.{none-some, same_Some}
 use Rattle.case_table.specs.declared.compare.Op.{Op}
@@ -33,6 +32,8 @@ use Rattle.worlds.specs.Blurred.{is_in_region_by}
 use Rattle.worlds.specs.Inside.{is_possibly_inside}
 use Rattle.narrowing.specs.Covering.{Covers, area_beside, open_sides}
 use Rattle.narrowing.specs.Terms.{IsConstant, IsCoordinate}
+use Rattle.exact.proofs.Truths.{second_false}
+use Rattle.exact.proofs.Integers.{at_most_passes}
 
 -- ---- INSIDE
 
@@ -84,16 +85,13 @@ region_covers law error regions v n points area are along_x along_y h b x t outs
 negated_upto : (a b : ℤ) → neg_ℤ b ≤ℤ a → neg_ℤ a ≤ℤ b
 negated_upto a b upto = omega (arith, ints, upto)
 
-passes : (a b : ℤ) → a ≤ℤ b → int_le a b ≡ true
-passes a b upto = grind (arith, ints, nat_tests)
-
 least_side : (least : Option ℤ) (n : ℤ) → IfSome least (λ m. neg_ℤ n ≤ℤ m) → option_map_or (λ least. int_le least n) (option_map neg_ℤ least) true ≡ true
 least_side None n upto = refl
-least_side (Some m) n upto = passes (neg_ℤ m) n (negated_upto m n upto)
+least_side (Some m) n upto = at_most_passes (neg_ℤ m) n (negated_upto m n upto)
 
 greatest_side : (greatest : Option ℤ) (n : ℤ) → IfSome greatest (λ m. n ≤ℤ m) → option_map_or (λ greatest. int_le n greatest) greatest true ≡ true
 greatest_side None n upto = refl
-greatest_side (Some m) n upto = passes n m upto
+greatest_side (Some m) n upto = at_most_passes n m upto
 
 pub between_sides : (least greatest low : Option ℤ) (test : Point → Bool) (of : Point → ℤ) → low ≡ option_map neg_ℤ least →
     IfSome least (λ m. (p : Point) → test p ≡ true → neg_ℤ (of p) ≤ℤ m) → IfSome greatest (λ m. (p : Point) → test p ≡ true → of p ≤ℤ m) →
@@ -144,10 +142,6 @@ left_fails : (a b : Bool) → b ≡ true → (a && b) ≡ false → a ≡ false
 left_fails true b holds fails = absurd (both_ways b fails holds)
 left_fails false b holds fails = refl
 
-right_fails : (a b : Bool) → a ≡ true → (a && b) ≡ false → b ≡ false
-right_fails true b holds fails = fails
-right_fails false b holds fails = absurd (false≢true holds)
-
 module _ (f : Option Value → Bool) (sides : Sides) (none : f None ≡ false)
     (between : (n : ℤ) → f (Some (values.Num n)) ≡ true → is_between_sides sides n ≡ true) (t : ℕ) where
   by_cell : (cell : Option Cell) → is_cell_between sides t cell ≡ false → f (option_map (λ (cell : Cell). cell_value cell t) cell) ≡ false
@@ -166,7 +160,7 @@ module _ (f : Option Value → Bool) (sides : Sides) (none : f None ≡ false)
       (left_fails (is_cell_between sides t (slice_get there 0)) (is_cell_between open_sides t (slice_get there 1)) (open_holds t (slice_get there 1)) outside)
   outside_sides (suc zero) first (Some there) outside =
       by_cell (slice_get there 1)
-      (right_fails (is_cell_between open_sides t (slice_get there 0)) (is_cell_between sides t (slice_get there 1)) (open_holds t (slice_get there 0)) outside)
+      (second_false (is_cell_between open_sides t (slice_get there 0)) (is_cell_between sides t (slice_get there 1)) (open_holds t (slice_get there 0)) outside)
   outside_sides (suc (suc index)) first (Some there) outside = absurd (omega (arith, first))
 
 pub compare_covers : (error : ℕ) (regions : List Region) (v index : ℕ) (left right : RTerm) (op : Op) (c : ℤ) (sides : Sides) →

@@ -1,15 +1,16 @@
 -- Objects that are no further apart than so far, along each axis.
 use Rattle.std.proofs.Common.{◌≡◌, ℕ, ◌*◌, ◌≤◌, ◌==◌, Bool, true, false, ◌&&◌, ◌||◌, Option, None, Some, Result, Ok, Err, List, [], ◌∷◌, ◌++◌, ℤ, pos, negsuc, ◌+ℤ◌, ◌-ℤ◌, ◌*ℤ◌, neg_ℤ, ◌≤ℤ◌, ◌<ℤ◌, int_le, inl, inr, refl, sym, ap, subst, ◌∙◌, arith}
-use Rattle.std.specs.Prelude.{if◌then◌else◌, IfOk, IfSome, int_lt, option_and_then, slice_get}
+use Rattle.std.specs.Prelude.{if◌then◌else◌, IfOk, IfSome, option_and_then, slice_get}
 use Rattle.std.specs.Option.{option_map_or}
 use Rattle.std.specs.List.Sorted.{IsStrictlyIncreasing}
 use Rattle.std.proofs.lemmas.Bool.{false≢true, and_parts, both_ways, cases_Bool}
-use Rattle.std.proofs.lemmas.Bool.Decides.{nat_tests}
 use Rattle.std.proofs.lemmas.Int.{ints}
 use Rattle.case_table.specs.Comparison.{is_at_most, sign_holds}
 use Rattle.case_table.specs.declared.compare.Op.{Op}
 use Rattle.case_table.specs.declared.compare.Op.TheVariants.{Lt, Le, Eq, Ne, Ge, Gt}
-use Rattle.exact.proofs.Ring.{part, number, sum, difference, product, same}
+use Rattle.exact.proofs.Ring.{part, sum, difference, product, same}
+use Rattle.exact.proofs.Truths.{and_swap}
+use Rattle.exact.proofs.Integers.{above_fails_at_most, above_fails_less, above_from_int_test, at_most_from_int_test, less_by, product_least, product_one_less, sum_above_by_first, sum_above_by_second}
 use Rattle.fixed_point.specs.declared.number.Point.{Point}
 use Rattle.geometry.specs.Plane.{point, square}
 use Rattle.geometry.proofs.Squares.{square_is}
@@ -41,20 +42,10 @@ use Rattle.narrowing.proofs.ListLemmas.{has-append}
 
 -- ---- squares
 
-product_least : (a b : ℤ) → pos 0 ≤ℤ a → pos 0 ≤ℤ b → pos 0 ≤ℤ (a *ℤ b)
-product_least (pos m) (pos n) p q = omega (arith, ints)
-product_least (pos m) (negsuc n) p q = absurd (omega (arith, ints))
-product_least (negsuc m) b p q = absurd (omega (arith, ints))
-
-one_less : (a b : ℤ) → a *ℤ b ≡ (a -ℤ pos 1) *ℤ (b -ℤ pos 1) +ℤ (a -ℤ pos 1) +ℤ (b -ℤ pos 1) +ℤ pos 1
-one_less a b =
-    let u = difference (part a) (number 1) in let v = difference (part b) (number 1) in
-    same (product (part a) (part b)) (sum (sum (sum (product u v) u) v) (number 1)) (omega arith)
-
 product_above : (a b : ℤ) → pos 0 <ℤ a → pos 0 <ℤ b → pos 0 <ℤ (a *ℤ b)
 product_above a b p q =
     let rest = product_least (a -ℤ pos 1) (b -ℤ pos 1) (omega (arith, ints)) (omega (arith, ints)) in
-    let is = one_less a b in
+    let is = product_one_less a b in
     omega (arith, ints)
 
 square_least : (x : ℤ) → pos 0 ≤ℤ square x
@@ -64,9 +55,6 @@ squares_apart : (c v : ℤ) → (v -ℤ c) *ℤ (v +ℤ c) ≡ square v -ℤ squ
 squares_apart c v =
     same (product (difference (part v) (part c)) (sum (part v) (part c))) (difference (product (part v) (part v)) (product (part c) (part c))) (omega arith)
 
-less_by : (a b : ℤ) → pos 0 <ℤ (b -ℤ a) → a <ℤ b
-less_by a b l = omega (arith, ints)
-
 square_above : (c v : ℤ) → pos 0 ≤ℤ c → c <ℤ v → square c <ℤ square v
 square_above c v p l =
     let P : ℤ → Type 0 = λ z. pos 0 <ℤ z in
@@ -74,30 +62,12 @@ square_above c v p l =
 
 -- ---- what isn't beside is further apart
 
-not_upto : (a b : ℤ) → int_le a b ≡ false → b <ℤ a
-not_upto a b e = grind (arith, ints, nat_tests, e)
-
-is_least : (a b : ℤ) → int_le a b ≡ true → a ≤ℤ b
-is_least a b e = grind (arith, ints, nat_tests, e)
-
-above_by_first : (s u v : ℤ) → s <ℤ u → pos 0 ≤ℤ v → s <ℤ (u +ℤ v)
-above_by_first s u v l p = omega (arith, ints)
-
-above_by_second : (s u v : ℤ) → s <ℤ v → pos 0 ≤ℤ u → s <ℤ (u +ℤ v)
-above_by_second s u v l p = omega (arith, ints)
-
-lt_not : (a b : ℤ) → a <ℤ b → int_lt b a ≡ false
-lt_not a b l = grind (arith, ints, nat_tests, l)
-
-le_not : (a b : ℤ) → a <ℤ b → int_le b a ≡ false
-le_not a b l = grind (arith, ints, nat_tests, l)
-
 -- a square that is below the least one isn't reached
 compares_not : (op : Op) → is_at_most op ≡ true → (c low high : ℤ) → (pos 0 ≤ℤ c → square c <ℤ low) → (b : Bool) → int_le (pos 0) c ≡ b →
     (if b then possibly_compares op low high (square c) else sign_holds op (pos 1)) ≡ false
-compares_not Lt upper c low high far true is = lt_not (square c) low (far (is_least (pos 0) c is))
-compares_not Le upper c low high far true is = le_not (square c) low (far (is_least (pos 0) c is))
-compares_not Eq upper c low high far true is = ap (λ b. b && int_le (square c) high) (le_not (square c) low (far (is_least (pos 0) c is)))
+compares_not Lt upper c low high far true is = above_fails_less (square c) low (far (at_most_from_int_test (pos 0) c is))
+compares_not Le upper c low high far true is = above_fails_at_most (square c) low (far (at_most_from_int_test (pos 0) c is))
+compares_not Eq upper c low high far true is = ap (λ b. b && int_le (square c) high) (above_fails_at_most (square c) low (far (at_most_from_int_test (pos 0) c is)))
 compares_not Lt upper c low high far false is = refl
 compares_not Le upper c low high far false is = refl
 compares_not Eq upper c low high far false is = refl
@@ -123,8 +93,8 @@ module _ (error by : ℕ) (less : by ≤ error) where
   not_close c m n positive fails =
       let most = c +ℤ pos (2 * error) in
       elim (cases_Bool (int_le (m -ℤ n) most)) [
-        | inl upto ↦ past c (n -ℤ m) positive (not_upto (n -ℤ m) most (ap (λ b. b && int_le (n -ℤ m) most) (sym upto) ∙ fails))
-        | inr beyond ↦ past_opposite c (n -ℤ m) positive (other_way most m n (not_upto (m -ℤ n) most beyond))
+        | inl upto ↦ past c (n -ℤ m) positive (above_from_int_test (n -ℤ m) most (ap (λ b. b && int_le (n -ℤ m) most) (sym upto) ∙ fails))
+        | inr beyond ↦ past_opposite c (n -ℤ m) positive (other_way most m n (above_from_int_test (m -ℤ n) most beyond))
       ]
 
   far_apart : (c : ℤ) (p q : Point) → pos 0 ≤ℤ c → (is_close (c +ℤ pos (2 * error)) p.x q.x && is_close (c +ℤ pos (2 * error)) p.y q.y) ≡ false →
@@ -134,9 +104,9 @@ module _ (error by : ℕ) (less : by ≤ error) where
       let along_x = pos (least_apart by (q.x -ℤ p.x)) in
       let along_y = pos (least_apart by (q.y -ℤ p.y)) in
       elim (cases_Bool (is_close most p.x q.x)) [
-        | inr apart ↦ above_by_first (square c) (square along_x) (square along_y) (square_above c along_x positive (not_close c p.x q.x positive apart)) (square_least along_y)
+        | inr apart ↦ sum_above_by_first (square c) (square along_x) (square along_y) (square_above c along_x positive (not_close c p.x q.x positive apart)) (square_least along_y)
         | inl close ↦
-            above_by_second (square c) (square along_x) (square along_y)
+            sum_above_by_second (square c) (square along_x) (square along_y)
             (square_above c along_y positive (not_close c p.y q.y positive (ap (λ b. b && is_close most p.y q.y) (sym close) ∙ fails))) (square_least along_x)
       ]
 
@@ -150,12 +120,6 @@ module _ (error by : ℕ) (less : by ≤ error) where
 no_more : (error : ℕ) (same : Bool) → (if same then 0 else error) ≤ error
 no_more error true = omega arith
 no_more error false = omega arith
-
-and_swap : (a b : Bool) → (a && b) ≡ (b && a)
-and_swap true true = refl
-and_swap true false = refl
-and_swap false true = refl
-and_swap false false = refl
 
 swapped_close : (c m n : ℤ) → is_close c m n ≡ is_close c n m
 swapped_close c m n = and_swap (int_le (m -ℤ n) c) (int_le (n -ℤ m) c)
@@ -187,13 +151,13 @@ below_side : (most m n : ℤ) (grown side : Option ℤ) → IfSome grown (λ l. 
     option_map_or (λ l. int_le l m) grown true ≡ false → most <ℤ (n -ℤ m)
 below_side most m n None side is told past = absurd (false≢true (sym past))
 below_side most m n (Some l) side is told past =
-    too_low most l m n (is_least (l +ℤ most) n (ap (λ (side : Option ℤ). option_map_or (λ l. int_le l n) side true) (sym is) ∙ told)) (not_upto l m past)
+    too_low most l m n (at_most_from_int_test (l +ℤ most) n (ap (λ (side : Option ℤ). option_map_or (λ l. int_le l n) side true) (sym is) ∙ told)) (above_from_int_test l m past)
 
 above_side : (most m n : ℤ) (grown side : Option ℤ) → IfSome grown (λ g. side ≡ Some (g -ℤ most)) → option_map_or (λ g. int_le n g) side true ≡ true →
     option_map_or (λ g. int_le m g) grown true ≡ false → most <ℤ (m -ℤ n)
 above_side most m n None side is told past = absurd (false≢true (sym past))
 above_side most m n (Some g) side is told past =
-    too_high most g m n (is_least n (g -ℤ most) (ap (λ (side : Option ℤ). option_map_or (λ g. int_le n g) side true) (sym is) ∙ told)) (not_upto m g past)
+    too_high most g m n (at_most_from_int_test n (g -ℤ most) (ap (λ (side : Option ℤ). option_map_or (λ g. int_le n g) side true) (sym is) ∙ told)) (above_from_int_test m g past)
 
 pub grows : (most : ℤ) (sides grown : Sides) → IfSome grown.least (λ l. sides.least ≡ Some (l +ℤ most)) →
     IfSome grown.greatest (λ g. sides.greatest ≡ Some (g -ℤ most)) → IsGrownSides most sides grown
@@ -201,10 +165,10 @@ grows most sides grown least greatest m n told outside =
     let both = and_parts (option_map_or (λ l. int_le l n) sides.least true) (option_map_or (λ g. int_le n g) sides.greatest true) told in
     elim (cases_Bool (option_map_or (λ l. int_le l m) grown.least true)) [
       | inr past ↦
-          ap (λ b. int_le (m -ℤ n) most && b) (le_not most (n -ℤ m) (below_side most m n grown.least sides.least least both.0 past)) ∙ never (int_le (m -ℤ n) most)
+          ap (λ b. int_le (m -ℤ n) most && b) (above_fails_at_most most (n -ℤ m) (below_side most m n grown.least sides.least least both.0 past)) ∙ never (int_le (m -ℤ n) most)
       | inl within ↦
           ap (λ b. b && int_le (n -ℤ m) most)
-          (le_not most (m -ℤ n) (above_side most m n grown.greatest sides.greatest greatest both.1
+          (above_fails_at_most most (m -ℤ n) (above_side most m n grown.greatest sides.greatest greatest both.1
           (ap (λ b. b && option_map_or (λ g. int_le m g) grown.greatest true) (sym within) ∙ outside)))
     ]
   where

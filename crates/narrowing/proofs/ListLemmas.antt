@@ -10,6 +10,7 @@ use Rattle.std.proofs.lemmas.List.Kept.{AllPairs-from_increasing}
 use Rattle.std.proofs.lemmas.List.Sorted.{list_any-IsPermutation, searched}
 use Rattle.relation.specs.Key.{has_id}
 use Rattle.relation.proofs.SearchLemmas.{numbers_rise}
+use Rattle.exact.proofs.Naturals.{differs_below}
 
 -- ---- a binary search
 
@@ -117,9 +118,6 @@ tail_has y ids id differs has = ap (λ b. b || has_id ids id) (sym differs) ∙ 
 first_has : (x : ℕ) (ids : List ℕ) → has_id (x ∷ ids) x ≡ true
 first_has x ids = grind (arith, nat_tests)
 
-ne_below : (x y : ℕ) → x < y → (x == y) ≡ false
-ne_below x y below = grind (arith, nat_tests, below)
-
 pub no_more : (ids others : List ℕ) → IsStrictlyIncreasing ids → IsStrictlyIncreasing others → ((id : ℕ) → has_id ids id ≡ true → has_id others id ≡ true) → length ids ≤ length others
 no_more [] others up rise among = omega arith
 no_more (x ∷ ids) [] up rise among = absurd (false≢true (among x (first_has x ids)))
@@ -131,14 +129,14 @@ no_more (x ∷ ids) (y ∷ others) up rise among =
           no_more ids others (rest_increases x ids up) (rest_increases y others rise)
           (λ id has.
           let above : x < id = later_above x ids up id has in
-          tail_has y others id (ne_below y id (omega (arith, equal, above))) (among id (or_right (x == id) (has_id ids id) has))) in
+          tail_has y others id (differs_below y id (omega (arith, equal, above))) (among id (or_right (x == id) (has_id ids id) has))) in
           omega (arith, rest)
       | inr differs ↦
           let first : has_id others x ≡ true = tail_has y others x differs (among x (first_has x ids)) in
           let below : y < x = later_above y others rise x first in
           let rest : suc (length ids) ≤ length others =
           no_more (x ∷ ids) others up (rest_increases y others rise)
-          (λ id has. tail_has y others id (ne_below y id (at_least id has below)) (among id has)) in
+          (λ id has. tail_has y others id (differs_below y id (at_least id has below)) (among id has)) in
           omega (arith, rest)
     ]
   where

@@ -1,14 +1,15 @@
 -- Places that are possibly beside two edges, and how far they are ahead of the vertex where these meet.
 use Rattle.std.proofs.Common.{◌≡◌, ℕ, zero, suc, ◌+◌, ◌*◌, ◌/◌, ◌≤◌, ◌<◌, Bool, true, ℤ, pos, negsuc, ◌+ℤ◌, ◌-ℤ◌, ◌*ℤ◌, neg_ℤ, ◌≤ℤ◌, unsigned_abs, Option, None, Some, List, [], ◌∷◌, refl, sym, ap, subst, ◌∙◌, arith}
-use Rattle.std.specs.Prelude.{IfSome, SomeIff, int_le, slice_get}
+use Rattle.std.specs.Prelude.{IfSome, SomeIff, slice_get}
 use Rattle.std.specs.List.{list_all}
 use Rattle.std.specs.Ordering.{int_eq}
 use Rattle.std.proofs.Math.Nat.{le-div_iff_mul-le, mul-le-mul_left}
 use Rattle.std.proofs.lemmas.Bool.{and_parts}
-use Rattle.std.proofs.lemmas.Bool.Decides.{Decides-int_eq, nat_tests}
+use Rattle.std.proofs.lemmas.Bool.Decides.{Decides-int_eq}
 use Rattle.std.proofs.lemmas.Int.{ints}
 use Rattle.std.proofs.lemmas.Option.{none-some, same_Some}
 use Rattle.exact.proofs.Ring.{part, number, sum, difference, opposite, product, same, at_most}
+use Rattle.exact.proofs.Integers.{at_most_from_int_test}
 use Rattle.fixed_point.specs.declared.number.Point.{Point}
 use Rattle.geometry.specs.Margin.{is_inside_by, is_left_by}
 use Rattle.geometry.specs.Polygon.{are_one, counterclockwise_points, edges}
@@ -144,9 +145,6 @@ from_end a b c d x y =
     same (difference (product (difference (part c) (part a)) (difference (part y) (part b))) (product (difference (part d) (part b)) (difference (part x) (part a))))
     (difference (product (difference (part c) (part a)) (difference (part y) (part d))) (product (difference (part d) (part b)) (difference (part x) (part c)))) (omega arith)
 
-upto_of : (a b : ℤ) → int_le a b ≡ true → a ≤ℤ b
-upto_of a b passes = grind (arith, ints, nat_tests)
-
 on_from : (direction : Direction) (vx vy px py : ℤ) → ahead_by direction px py ≡ ahead_by direction vx vy +ℤ ahead_by direction (px -ℤ vx) (py -ℤ vy)
 on_from Right vx vy px py = omega (arith, ints)
 on_from Up vx vy px py = omega (arith, ints)
@@ -169,7 +167,7 @@ reaches : (error : ℕ) (direction : Direction) (before after : Point × Point) 
     ((x y : ℤ) → IsBeside error to x y → IsBeside error from x y → x ≤ℤ beyond) → v ≡ ahead_by direction after.0.x after.0.y → most ≡ v +ℤ beyond →
     Reach error direction before after most
 reaches error direction before after to from v beyond most meet to_ahead to_aside from_ahead from_aside over at so p left_before left_after =
-    let first = upto_of _ _ left_before in
+    let first = at_most_from_int_test _ _ left_before in
     let by_end : (neg_ℤ (pos error) *ℤ pos (unsigned_abs (before.1.x -ℤ before.0.x) + unsigned_abs (before.1.y -ℤ before.0.y)))
     ≤ℤ ((before.1.x -ℤ before.0.x) *ℤ (p.y -ℤ before.1.y) -ℤ (before.1.y -ℤ before.0.y) *ℤ (p.x -ℤ before.1.x)) =
     subst (λ (z : ℤ). (neg_ℤ (pos error) *ℤ pos (unsigned_abs (before.1.x -ℤ before.0.x) + unsigned_abs (before.1.y -ℤ before.0.y))) ≤ℤ z)
@@ -178,7 +176,7 @@ reaches error direction before after to from v beyond most meet to_ahead to_asid
     subst (λ (end : Point). IsBeside error to (ahead_by direction (p.x -ℤ end.x) (p.y -ℤ end.y)) (aside_by direction (p.x -ℤ end.x) (p.y -ℤ end.y))) meet
     (beside error direction to (before.1.x -ℤ before.0.x) (before.1.y -ℤ before.0.y) (p.x -ℤ before.1.x) (p.y -ℤ before.1.y) to_ahead to_aside by_end) in
     let from_place : IsBeside error from (ahead_by direction (p.x -ℤ after.0.x) (p.y -ℤ after.0.y)) (aside_by direction (p.x -ℤ after.0.x) (p.y -ℤ after.0.y)) =
-    beside error direction from (after.1.x -ℤ after.0.x) (after.1.y -ℤ after.0.y) (p.x -ℤ after.0.x) (p.y -ℤ after.0.y) from_ahead from_aside (upto_of _ _ left_after) in
+    beside error direction from (after.1.x -ℤ after.0.x) (after.1.y -ℤ after.0.y) (p.x -ℤ after.0.x) (p.y -ℤ after.0.y) from_ahead from_aside (at_most_from_int_test _ _ left_after) in
     farther (ahead_by direction after.0.x after.0.y) (ahead_by direction (p.x -ℤ after.0.x) (p.y -ℤ after.0.y)) beyond most (ahead_by direction p.x p.y)
     (on_from direction after.0.x after.0.y p.x p.y) (over _ _ to_place from_place) (so ∙ ap (λ v. v +ℤ beyond) at)
 

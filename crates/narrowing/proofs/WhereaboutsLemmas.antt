@@ -1,11 +1,9 @@
 -- for callers
 -- Formulas that hold nowhere in an area.
-use Rattle.std.proofs.Common.{◌≡◌, ℕ, ℤ, ◌≤◌, ◌≤ℤ◌, Bool, true, false, ◌&&◌, Option, None, Some, List, refl, sym, ap, subst, ◌∙◌, arith}
+use Rattle.std.proofs.Common.{◌≡◌, ℕ, ℤ, ◌≤◌, ◌≤ℤ◌, Bool, true, false, ◌&&◌, Option, None, Some, List, refl, sym, ap, subst, ◌∙◌}
 use Rattle.std.specs.Prelude.{int_le, option_and_then, option_map, slice_get}
 use Rattle.std.specs.Option.{option_map_or}
 use Rattle.std.proofs.lemmas.Bool.{and_parts, both_ways, cases_Bool, false_from_ne_true}
-use Rattle.std.proofs.lemmas.Bool.Decides.{nat_tests}
-use Rattle.std.proofs.lemmas.Int.{ints}
 use Rattle.std.proofs.lemmas.Option.{none-some, same_Some}
 use Rattle.fixed_point.specs.declared.number.Point.{Point}
 use Rattle.formula_shape.specs.Shape as shapes
@@ -30,6 +28,7 @@ use Rattle.polygon.specs.Bounds.{is_in_box}
 use Rattle.narrowing.specs.Needed.{Fails, told}
 use Rattle.narrowing.specs.Whereabouts.{FailsAt, has_place}
 use Rattle.narrowing.proofs.FailLemmas.{fails_or, FormulasNeed}
+use Rattle.exact.proofs.Integers.{at_most_from_int_test}
 
 -- ---- INSIDE
 
@@ -68,9 +67,6 @@ region_apart regions n points area are apart p holds = apart p (sym (same (slice
     same None is = absurd (none-some points is)
     same (Some region) is = ap (λ (points : List Point). is_inside points p) (same_Some region.points points is)
 
-is_upto : (a b : ℤ) → int_le a b ≡ true → a ≤ℤ b
-is_upto a b e = grind (arith, ints, nat_tests, e)
-
 -- a place among the least and the greatest coordinates isn't in an area that is apart from them along one axis
 pub box_apart : (area : Area) (least greatest p : Point) (x y : Bool) → (x && y) ≡ false →
     (x ≡ false → (n : ℤ) → least.x ≤ℤ n → n ≤ℤ greatest.x → is_between_sides area.x n ≡ false) →
@@ -81,8 +77,8 @@ box_apart area least greatest p x y apart along_x along_y among =
     let second = and_parts (int_le least.x p.x && int_le p.x greatest.x) (int_le least.y p.y) first.0 in
     let third = and_parts (int_le least.x p.x) (int_le p.x greatest.x) second.0 in
     by_axis x y apart
-    (λ none. along_x none p.x (is_upto least.x p.x third.0) (is_upto p.x greatest.x third.1))
-    (λ none. along_y none p.y (is_upto least.y p.y second.1) (is_upto p.y greatest.y first.1))
+    (λ none. along_x none p.x (at_most_from_int_test least.x p.x third.0) (at_most_from_int_test p.x greatest.x third.1))
+    (λ none. along_y none p.y (at_most_from_int_test least.y p.y second.1) (at_most_from_int_test p.y greatest.y first.1))
   where
     never : (b : Bool) → (b && false) ≡ false
     never true = refl

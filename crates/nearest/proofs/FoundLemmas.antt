@@ -14,6 +14,8 @@ use Rattle.nearest.specs.Courses.{AreNumbered, HaveAscendingIndexes, index_near,
 use Rattle.nearest.specs.Found.{AreBefore, HaveMore, runs_at}
 use Rattle.nearest.specs.Sights.{AreEnough}
 use Rattle.nearest.specs.declared.course.Course.{Course}
+use Rattle.exact.proofs.Truths.{and_second_false, is_or_false}
+use Rattle.exact.proofs.Naturals.{differs_below, equal_if_same}
 
 pub none_pushed : (found : List (List Span)) (i : ℕ) → ((j : ℕ) → runs_at found j ≡ []) → runs_at (found ++ [] ∷ []) i ≡ []
 none_pushed [] zero none = refl
@@ -36,14 +38,8 @@ index_below least n i [] d ascend below = absurd (omega arith)
 index_below least n zero (c ∷ courses) d ascend below = ascend.1.0
 index_below least n (suc i) (c ∷ courses) d ascend below = index_below (c.index + 1) n i courses d ascend.1.1 (omega arith)
 
-differ : (i j : ℕ) → i < j → (i == j) ≡ false
-differ i j less = grind (arith, nat_tests)
-
 unlike : (i j : ℕ) → j < i → (i == j) ≡ false
 unlike i j less = grind (arith, nat_tests)
-
-alike : (i j : ℕ) → i ≡ j → (i == j) ≡ true
-alike i j same = grind (arith, nat_tests)
 
 -- none of the courses before one has its index
 pub none_before_it : (from : List Epoch) (all : List Course) (k t least n i : ℕ) (courses : List Course) (d : Course) → HaveAscendingIndexes least n courses →
@@ -53,7 +49,7 @@ none_before_it from all k t least n zero (c ∷ courses) d ascend below = refl
 none_before_it from all k t least n (suc i) (c ∷ courses) d ascend below =
     let index = (get_or courses i d).index in
     let ahead = least_ahead (c.index + 1) n i courses d ascend.1.1 (omega arith) in
-    (λ j. (differ c.index index (omega (arith, ahead)) j && is_near_along from all k c t) || none_before_it from all k t (c.index + 1) n i courses d ascend.1.1 (omega arith) j)
+    (λ j. (differs_below c.index index (omega (arith, ahead)) j && is_near_along from all k c t) || none_before_it from all k t (c.index + 1) n i courses d ascend.1.1 (omega arith) j)
 
 numbered_ascend : (first n : ℕ) (courses : List Course) → first + length courses ≤ n → AreNumbered first courses → HaveAscendingIndexes first n courses
 numbered_ascend first n [] few numbered = tt
@@ -88,11 +84,11 @@ near_at_index from all k t first i [] d numbered below = absurd (omega arith)
 near_at_index from all k t first zero (c ∷ courses) d numbered below =
     let is = numbered.0 in
     first_or_not (c.index == (first + 0)) (is_near_along from all k c t) (index_near from all k courses (first + 0) t)
-    (alike c.index (first + 0) (omega (arith, is))) (none_before_first from all k t (first + 1) (first + 0) courses (omega arith) numbered.1)
+    (equal_if_same c.index (first + 0) (omega (arith, is))) (none_before_first from all k t (first + 1) (first + 0) courses (omega arith) numbered.1)
 near_at_index from all k t first (suc i) (c ∷ courses) d numbered below =
     let is = numbered.0 in
     let next : first + suc i ≡ (first + 1) + i = omega arith in
-    (λ j. (differ c.index (first + suc i) (omega (arith, is)) j && is_near_along from all k c t) || index_near from all k courses (next j) t)
+    (λ j. (differs_below c.index (first + suc i) (omega (arith, is)) j && is_near_along from all k c t) || index_near from all k courses (next j) t)
     ∙ near_at_index from all k t (first + 1) i courses d numbered.1 (omega arith)
 
 index_at : (first i : ℕ) (courses : List Course) (d : Course) → AreNumbered first courses → i < length courses → (get_or courses i d).index ≡ first + i
@@ -130,13 +126,9 @@ either_or : (a b : Bool) → (a || b) ≡ true → b ≡ false → a ≡ true
 either_or true b is none = refl
 either_or false b is none = absurd (false≢true (sym none ∙ is))
 
-second_false : (w b : Bool) → b ≡ false → (w && b) ≡ false
-second_false true b is = is
-second_false false b is = refl
-
 -- what is found for an index before its course is looked at, is before the slice
 pub before_slice : (old w near : Bool) (lo t : ℕ) → (old ≡ true → t < lo) → (old || (w && near)) ≡ true → near ≡ false → t < lo
-before_slice old w near lo t before had none = before (either_or old (w && near) had (second_false w near none))
+before_slice old w near lo t before had none = before (either_or old (w && near) had (and_second_false w near none))
 
 -- ---- slices
 
@@ -250,15 +242,11 @@ spans_more old spans i t s was now below is before added =
 
 -- ---- runs at one index
 
-or_none : (a : Bool) → a ≡ (a || false)
-or_none true = refl
-or_none false = refl
-
 both_later : (i j : ℕ) → (i == j) ≡ (suc i == suc j)
 both_later i j = grind (arith, nat_tests)
 
 or_another : (a its b : Bool) → its ≡ false → a ≡ (a || (its && b))
-or_another a its b another = or_none a ∙ ap (λ x. a || (x && b)) (sym another)
+or_another a its b another = is_or_false a ∙ ap (λ x. a || (x && b)) (sym another)
 
 pub runs_set : (found : List (List Span)) (index i t : ℕ) (runs more : List Span) → index < length found →
     ((u : ℕ) → spans_have runs u ≡ (spans_have (runs_at found index) u || spans_have more u)) →
@@ -266,7 +254,7 @@ pub runs_set : (found : List (List Span)) (index i t : ℕ) (runs more : List Sp
 runs_set [] index i t runs more below added = absurd (omega arith)
 runs_set (x ∷ found) zero zero t runs more below added = added t
 runs_set (x ∷ found) zero (suc i) t runs more below added =
-    or_another (spans_have (runs_at found i) t) (zero == suc i) (spans_have more t) (differ zero (suc i) (omega arith))
+    or_another (spans_have (runs_at found i) t) (zero == suc i) (spans_have more t) (differs_below zero (suc i) (omega arith))
 runs_set (x ∷ found) (suc index) zero t runs more below added =
     or_another (spans_have x t) (suc index == zero) (spans_have more t) (unlike (suc index) zero (omega arith))
 runs_set (x ∷ found) (suc index) (suc i) t runs more below added =
@@ -285,7 +273,7 @@ not_both lo t near = grind (arith, nat_tests)
 
 pub nothing_more : (from : List Epoch) (few : List Course) (k lo : ℕ) (old : List (List Span)) → HaveMore from few k lo lo old old
 nothing_more from few k lo old i t below =
-    or_none (spans_have (runs_at old i) t)
+    is_or_false (spans_have (runs_at old i) t)
     ∙ ap (λ b. spans_have (runs_at old i) t || b) (sym (not_both lo t (index_near from few k few i t)))
 
 pub before_any : (at : ℕ) (none : List (List Span)) → ((i : ℕ) → runs_at none i ≡ []) → AreBefore at none

@@ -5,6 +5,8 @@ use Rattle.std.proofs.lemmas.Bool.{cases_lt}
 use Rattle.std.proofs.lemmas.Bool.Decides.{nat_tests}
 use Rattle.exact.specs.Rising.{FallsTo, RisesIn}
 use Rattle.exact.proofs.Convex.{falls, least, rises}
+use Rattle.exact.proofs.Truths.{and_false}
+use Rattle.exact.proofs.Integers.{above_fails_test}
 use Rattle.convex.specs.Parabola.{parabola}
 use Rattle.convex.specs.Stretch.{is_low}
 use Rattle.tick_set.specs.Runs.{IsRuns}
@@ -12,8 +14,8 @@ use Rattle.tick_set.specs.Ticks.{within}
 use Rattle.tick_set.specs.declared.spans.Span.{Span}
 use Rattle.tick_set.specs.declared.spans.Window.{Window}
 use Rattle.nearest.specs.Order.{IsFirstLow, IsLastLow, rise_after}
-use Rattle.nearest.proofs.OrderLemmas.{above_test, either_order}
-use Rattle.nearest.proofs.PartLemmas.{and_no, guarded}
+use Rattle.nearest.proofs.OrderLemmas.{either_order}
+use Rattle.nearest.proofs.PartLemmas.{guarded}
 use Rattle.nearest.proofs.SquareLemmas.{falls_by, rises_on}
 
 -- f falls up to a number of 0 to `last`, and rises from there
@@ -74,8 +76,8 @@ module _ (f : ℕ → ℤ) (limit : ℤ) (lowest last : ℕ) (fall : FallsTo f l
         sym (guarded w.lo w.hi t (int_le (f (t - w.lo)) limit) false
         (λ from up_to.
         let bottom = least f lowest last fall rise (t - w.lo) (omega (arith, from, up_to, length)) in
-        above_test (f (t - w.lo)) limit (omega (arith, ints, bottom, high)))
-        ∙ and_no (within w.lo w.hi t));
+        above_fails_test (f (t - w.lo)) limit (omega (arith, ints, bottom, high)))
+        ∙ and_false (within w.lo w.hi t));
   }
 
 -- ---- where the difference is at most the limit at one end

@@ -13,6 +13,8 @@ use Rattle.tick_set.specs.declared.spans.Span.{Span}
 use Rattle.tick_set.specs.declared.spans.Window.{Window}
 use Rattle.nearest.specs.Depth.{depth_at, one_if}
 use Rattle.nearest.specs.Order.{is_below}
+use Rattle.exact.proofs.Truths.{not_not}
+use Rattle.exact.proofs.Integers.{above_fails_test, at_most_passes, below_passes_less}
 
 -- ---- two squares
 
@@ -34,9 +36,6 @@ three_orders d e =
       ]
     ]
 
-pub less_test : (d e : ℤ) → d <ℤ e → int_lt d e ≡ true
-less_test d e less = grind (arith, ints, nat_tests)
-
 not_less_test : (d e : ℤ) → e ≤ℤ d → int_lt d e ≡ false
 not_less_test d e more = grind (arith, ints, nat_tests)
 
@@ -48,7 +47,7 @@ unequal_test d e more =
     ]
 
 below_where_less : (ties : Bool) (d e : ℤ) → d <ℤ e → is_below ties d e ≡ true
-below_where_less ties d e less = ap (λ b. b || (int_eq d e && ties)) (less_test d e less)
+below_where_less ties d e less = ap (λ b. b || (int_eq d e && ties)) (below_passes_less d e less)
 
 not_below_where_more : (ties : Bool) (d e : ℤ) → e <ℤ d → is_below ties d e ≡ false
 not_below_where_more ties d e more =
@@ -60,15 +59,9 @@ below_in_a_tie ties d e same =
     let at_least : e ≤ℤ d = omega (arith, ints) in
     λ i. not_less_test d e at_least i || ((Decides-int_eq d e).1 same i && ties)
 
-pub at_most_test : (d limit : ℤ) → d ≤ℤ limit → int_le d limit ≡ true
-at_most_test d limit low = grind (arith, ints, nat_tests)
-
-pub above_test : (d limit : ℤ) → limit <ℤ d → int_le d limit ≡ false
-above_test d limit high = grind (arith, ints, nat_tests)
-
 limit_in_a_tie : (ties : Bool) (d e limit : ℤ) → d ≡ e → limit ≡ (if ties then pos 0 else negsuc 0) → int_le (d -ℤ e) limit ≡ ties
-limit_in_a_tie true d e limit same is = at_most_test (d -ℤ e) limit (omega (arith, ints))
-limit_in_a_tie false d e limit same is = above_test (d -ℤ e) limit (omega (arith, ints))
+limit_in_a_tie true d e limit same is = at_most_passes (d -ℤ e) limit (omega (arith, ints))
+limit_in_a_tie false d e limit same is = above_fails_test (d -ℤ e) limit (omega (arith, ints))
 
 limit_bounds : (ties : Bool) (limit : ℤ) → limit ≡ (if ties then pos 0 else negsuc 0) → (negsuc 0 ≤ℤ limit) × (limit ≤ℤ pos 0)
 limit_bounds true limit is = (omega (arith, ints), omega (arith, ints))
@@ -79,16 +72,12 @@ limit_of_order : (ties : Bool) (d e limit : ℤ) → limit ≡ (if ties then pos
 limit_of_order ties d e limit is =
     let bounds = limit_bounds ties limit is in
     elim (three_orders d e) [
-      | inl less ↦ at_most_test (d -ℤ e) limit (omega (arith, ints, bounds.0)) ∙ sym (below_where_less ties d e less)
+      | inl less ↦ at_most_passes (d -ℤ e) limit (omega (arith, ints, bounds.0)) ∙ sym (below_where_less ties d e less)
       | inr others ↦ elim others [
         | inl same ↦ limit_in_a_tie ties d e limit same is ∙ sym (below_in_a_tie ties d e same)
-        | inr more ↦ above_test (d -ℤ e) limit (omega (arith, ints, bounds.1)) ∙ sym (not_below_where_more ties d e more)
+        | inr more ↦ above_fails_test (d -ℤ e) limit (omega (arith, ints, bounds.1)) ∙ sym (not_below_where_more ties d e more)
       ]
     ]
-
-not_twice : (b : Bool) → not (not b) ≡ b
-not_twice true = refl
-not_twice false = refl
 
 -- the second isn't below the first exactly where the first is below the second, with the ties to the other one
 pub order_turned : (ties : Bool) (d e : ℤ) → not (is_below (not ties) e d) ≡ is_below ties d e
@@ -96,7 +85,7 @@ order_turned ties d e =
     elim (three_orders d e) [
       | inl less ↦ ap not (not_below_where_more (not ties) e d less) ∙ sym (below_where_less ties d e less)
       | inr others ↦ elim others [
-        | inl same ↦ ap not (below_in_a_tie (not ties) e d (sym same)) ∙ not_twice ties ∙ sym (below_in_a_tie ties d e same)
+        | inl same ↦ ap not (below_in_a_tie (not ties) e d (sym same)) ∙ not_not ties ∙ sym (below_in_a_tie ties d e same)
         | inr more ↦ ap not (below_where_less (not ties) e d more) ∙ sym (not_below_where_more ties d e more)
       ]
     ]

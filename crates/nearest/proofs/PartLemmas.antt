@@ -1,6 +1,6 @@
 -- One object before another, in the common parts of their timelines and along the window.
-use Rattle.std.proofs.Common.{◌≡◌, ℕ, ◌+◌, ◌≤◌, ℤ, Bool, true, false, ◌&&◌, nat_le, nat_lt, inl, inr, Option, None, Some, is_some, Ok, Err, List, refl, sym, ap, ◌∙◌, arith}
-use Rattle.std.specs.Prelude.{option_and_then, slice_index_or, IfSome, OnOk, Result}
+use Rattle.std.proofs.Common.{◌≡◌, ℕ, ◌+◌, ◌≤◌, ℤ, Bool, true, false, ◌&&◌, nat_le, nat_lt, inl, inr, Option, None, Some, is_some, List, refl, sym, ap, ◌∙◌, arith}
+use Rattle.std.specs.Prelude.{option_and_then, slice_index_or}
 use Rattle.std.specs.Option.{option_copied, option_map}
 use Rattle.std.proofs.lemmas.Bool.{false≢true, cases_Bool, cases_lt}
 use Rattle.std.proofs.lemmas.Bool.Decides.{nat_tests}
@@ -20,6 +20,7 @@ use Rattle.nearest.specs.Sights.{IsSight, is_straight}
 use Rattle.nearest.specs.declared.sight.Sight.{Sight}
 use Rattle.nearest.specs.declared.sight.Sight.TheVariants as sights
 use Rattle.nearest.specs.declared.squares.Separation.{Separation}
+use Rattle.exact.proofs.Truths.{and_false}
 
 -- ---- squares
 
@@ -53,22 +54,10 @@ guarded lo hi t x y same =
       | inr outside ↦ (λ i. outside i && x) ∙ sym (λ i. outside i && y)
     ]
 
-pub and_no : (b : Bool) → (b && false) ≡ false
-and_no true = refl
-and_no false = refl
-
 pub nowhere : (lo hi t : ℕ) (x : Bool) → (lo ≤ t → t ≤ hi → x ≡ false) → 0 ≡ one_if (within lo hi t && x)
-nowhere lo hi t x never = sym (ap one_if (guarded lo hi t x false never ∙ and_no (within lo hi t)))
+nowhere lo hi t x never = sym (ap one_if (guarded lo hi t x false never ∙ and_false (within lo hi t)))
 
 -- ---- one stretch more
-
-pub on_ok : {T E : Type 0} (r : Result T E) (P Q : Type 0) → (P → Q) → OnOk r P → OnOk r Q
-on_ok (Ok x) P Q f is = f is
-on_ok (Err e) P Q f is = is
-
-pub if_some : {A : Type 0} (r : Option A) (P Q : A → Type 0) → ((x : A) → P x → Q x) → IfSome r P → IfSome r Q
-if_some None P Q f is = is
-if_some (Some x) P Q f is = f x is
 
 -- what is added to a depth, in two steps
 pub added : (new middle old first second both : ℕ) → new ≡ middle + second → middle ≡ old + first → both ≡ first + second → new ≡ old + both

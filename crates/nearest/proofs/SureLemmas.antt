@@ -1,5 +1,5 @@
 -- The objects that are near throughout a slice of time.
-use Rattle.std.proofs.Common.{◌≡◌, ℕ, ◌-◌, ◌<◌, ◌≤◌, ℤ, pos, ◌≤ℤ◌, int_lt, Bool, true, false, ◌&&◌, ◌||◌, nat_lt, cond, Option, None, Some, List, [], ◌∷◌, refl, sym, ◌∙◌, arith}
+use Rattle.std.proofs.Common.{◌≡◌, ℕ, ◌-◌, ◌<◌, ◌≤◌, ℤ, pos, ◌≤ℤ◌, int_lt, Bool, true, ◌&&◌, ◌||◌, nat_lt, cond, Option, None, Some, List, [], ◌∷◌, refl, sym, ◌∙◌, arith}
 use Rattle.std.specs.Prelude.{All, count_by}
 use Rattle.std.specs.Ordering.{int_eq}
 use Rattle.std.proofs.lemmas.Int.{ints}
@@ -16,12 +16,8 @@ use Rattle.nearest.specs.Sights.{AreFewWithin, IsSeenFrom, IsSight, is_surely_wi
 use Rattle.nearest.specs.declared.course.Course.{Course}
 use Rattle.nearest.specs.declared.sight.Sight.{Sight}
 use Rattle.nearest.specs.declared.sight.Sight.TheVariants as sights
-use Rattle.nearest.proofs.OrderLemmas.{at_most_test}
-
-once : (b c : Bool) → (b ≡ true → c ≡ true) → cond b 1 0 ≤ cond c 1 0
-once true true so = omega arith
-once true false so = absurd (false≢true (so refl))
-once false c so = omega arith
+use Rattle.exact.proofs.Truths.{cond_at_most}
+use Rattle.exact.proofs.Integers.{at_most_passes}
 
 -- more pass a weaker test
 passed_by_more : (f g : Course → Bool) (courses : List Course) → All (λ c. f c ≡ true → g c ≡ true) courses → count_by f courses ≤ count_by g courses
@@ -31,7 +27,7 @@ passed_by_more f g (c ∷ courses) are =
     let rest = passed_by_more f g courses (All-tail P c courses are) in
     let first = sum_by-cons (λ x. cond (f x) 1 0) c courses in
     let second = sum_by-cons (λ x. cond (g x) 1 0) c courses in
-    let one = once (f c) (g c) (All-head P c courses are) in
+    let one = cond_at_most (f c) (g c) (All-head P c courses are) in
     omega (arith, rest, first, second, one)
 
 at_most_before : (d e : ℤ) (earlier : Bool) → (int_lt d e || (int_eq d e && earlier)) ≡ true → d ≤ℤ e
@@ -48,7 +44,7 @@ before_within from near far p o m t w (sights.Straight band) (sights.Straight ot
     let e = separation_after other.separation (t - w.lo) in
     let order : d ≤ℤ e =
     at_most_before d e (nat_lt p o) (sym (λ i. stands_before (is.tells t begun up_to i) p (its.tells t begun up_to i) o) ∙ before) in
-    at_most_test band.least (pos m) (omega (arith, ints, low, high, most, order))
+    at_most_passes band.least (pos m) (omega (arith, ints, low, high, most, order))
 before_within from near far p o m t w sights.Absent (sights.Straight other) is its begun up_to inside before =
     absurd (false≢true (sym (λ i. stands_before (is t begun up_to i) p (its.tells t begun up_to i) o) ∙ before))
 before_within from near far p o m t w sights.Unknown (sights.Straight other) is its begun up_to inside before = refl

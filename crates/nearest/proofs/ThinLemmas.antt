@@ -22,8 +22,9 @@ use Rattle.nearest.specs.Sights.{CourseBody, IsSeenFrom, IsSight, course_body, i
 use Rattle.nearest.specs.declared.course.Course.{Course}
 use Rattle.nearest.specs.declared.sight.Sight.{Sight}
 use Rattle.nearest.specs.declared.sight.Sight.TheVariants as sights
-use Rattle.nearest.proofs.OrderLemmas.{at_most_test, less_test}
 use Rattle.nearest.proofs.SweepLemmas.{count_to-cons}
+use Rattle.exact.proofs.Truths.{and_second_false}
+use Rattle.exact.proofs.Integers.{at_most_passes, below_passes_less}
 
 -- ---- what is seen of an object doesn't tell where it is
 
@@ -96,10 +97,10 @@ within_before from near far p o m t w (sights.Straight band) d is begun up_to sq
     let low = bounds.0 in
     let high = bounds.1 in
     let most : band.most ≤ m = grind (arith, nat_tests) in (
-      at_most_test band.least (pos m) (omega (arith, ints, low, high, most)),
+      at_most_passes band.least (pos m) (omega (arith, ints, low, high, most)),
       (λ i. stands_before (is.tells t begun up_to i) p (square i) o)
           ∙ ap (λ b. b || (int_eq (separation_after band.separation (t - w.lo)) d && nat_lt p o))
-          (less_test (separation_after band.separation (t - w.lo)) d (omega (arith, ints, high, most, past))),
+          (below_passes_less (separation_after band.separation (t - w.lo)) d (omega (arith, ints, high, most, past))),
     )
 within_before from near far p o m t w sights.Absent d is begun up_to square past inside = absurd (false≢true inside)
 within_before from near far p o m t w sights.Unknown d is begun up_to square past inside = absurd (false≢true inside)
@@ -141,10 +142,6 @@ left_out_far : (there : Bool) (n k : ℕ) → k ≤ n → (there && nat_lt n k) 
 left_out_far true n k many = grind (arith, nat_tests)
 left_out_far false n k many = refl
 
-and_false : (b c : Bool) → c ≡ false → (b && c) ≡ false
-and_false true c is = is
-and_false false c is = refl
-
 module _ (from : List Epoch) (k t : ℕ) (w : Window) (bound : Option ℕ) (seen : List Course) (all : All (IsSeenFrom from w) seen)
     (enough : EnoughWithin k bound seen) (begun : w.lo ≤ t) (up_to : t ≤ w.hi) where
   abbrev pub keep : Course → Bool
@@ -175,9 +172,9 @@ module _ (from : List Epoch) (k t : ℕ) (w : Window) (bound : Option ℕ) (seen
   never_near : (i : ℕ) (x : Course) → IsBehind x → keep x ≡ false → ((x.index == i) && is_near_along from seen k x t) ≡ false
   never_near i x is out =
       elim (is out) [
-        | inl absent ↦ and_false (x.index == i) (is_near_along from seen k x t) (ap (λ d. is_some d && nat_lt (rank_along from seen x t) k) absent)
+        | inl absent ↦ and_second_false (x.index == i) (is_near_along from seen k x t) (ap (λ d. is_some d && nat_lt (rank_along from seen x t) k) absent)
         | inr many ↦
-            and_false (x.index == i) (is_near_along from seen k x t)
+            and_second_false (x.index == i) (is_near_along from seen k x t)
             (ap (λ b. is_some (squared_along from x.timeline.now t) && b) (same_few x)
             ∙ left_out_far (is_some (squared_along from x.timeline.now t)) (rank_along from (filter keep seen) x t) k many)
       ]

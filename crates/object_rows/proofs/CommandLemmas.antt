@@ -1,5 +1,5 @@
 -- The commands of rows are as if they had been read from lines.
-use Rattle.std.proofs.Common.{◌≡◌, ℕ, ℤ, ◌∙◌, ◌&&◌, ◌||◌, not, nat_le, is_none, Bool, true, false, cond, Option, Some, None, List, [], ◌∷◌, length, refl, ap, subst, arith}
+use Rattle.std.proofs.Common.{◌≡◌, ℕ, ℤ, ◌∙◌, ◌&&◌, not, nat_le, is_none, Bool, true, false, cond, Option, Some, None, List, [], ◌∷◌, length, refl, ap, subst, arith}
 use Rattle.std.proofs.lemmas.Bool.Decides.{nat_tests}
 use Rattle.std.specs.List.{AllByRecursion, fold, list_all}
 use Rattle.std.specs.Option.{option_map}
@@ -27,30 +27,24 @@ use Rattle.object_rows.specs.Commands.{GivesPrintableCommands, IsPrintableRow, c
 use Rattle.object_rows.specs.Fields.{given_by, is_object_name, is_text_byte, is_text_field, one_leg}
 use Rattle.object_rows.proofs.NamedLemmas.{AreNamed, IsNamed, begins, columns_named, row_for, setting_for}
 use Rattle.object_rows.specs.Rows.{both, each_row, is_set_of, joined_setting, part_of, parts_of, row_of, rows_in, rows_of, settings_of, with_part}
+use Rattle.exact.proofs.Truths.{both_true, or_of_false}
 
 -- ---- Settings
-
-and_both : (a b : Bool) → (a && b) ≡ true → (a ≡ true) × (b ≡ true)
-and_both true b h = (refl, h)
-and_both false b h = absurd (cc h)
 
 byte_is : (b : ℕ) → is_text_byte b ≡ true → (not (is_quote b) ≡ true) × (not (is_ascii b) ≡ false)
 byte_is b h = (grind (arith, nat_tests, h), grind (arith, nat_tests, h))
 
-or_none : (a b : Bool) → a ≡ false → b ≡ false → (a || b) ≡ false
-or_none a b ha hb = ap (λ x. x || b) ha ∙ hb
-
 text_bytes : (bytes : List ℕ) → list_all is_text_byte bytes ≡ true → (has_no_quote bytes ≡ true) × (has_other_byte bytes ≡ false)
 text_bytes [] h = (refl, refl)
 text_bytes (b ∷ bytes) h =
-    let parts = and_both (is_text_byte b) (list_all is_text_byte bytes) h in
+    let parts = both_true (is_text_byte b) (list_all is_text_byte bytes) h in
     let first = byte_is b parts.0 in
     let later = text_bytes bytes parts.1 in
-    (ap (λ x. x && has_no_quote bytes) first.0 ∙ later.0, or_none (not (is_ascii b)) (has_other_byte bytes) first.1 later.1)
+    (ap (λ x. x && has_no_quote bytes) first.0 ∙ later.0, or_of_false (not (is_ascii b)) (has_other_byte bytes) first.1 later.1)
 
 short_text : (field : List ℕ) → is_text_field field ≡ true → IsShortText field
 short_text field h =
-    let parts = and_both (nat_le (length field) WORD_LIMIT) (list_all is_text_byte field) h in
+    let parts = both_true (nat_le (length field) WORD_LIMIT) (list_all is_text_byte field) h in
     let bytes = text_bytes field parts.1 in
     (bytes.0, bytes.1, grind (arith, nat_tests, parts.0))
 
@@ -122,8 +116,8 @@ settings_set (p ∷ parts) sets are all = settings_set parts (with_part sets p) 
 
 name_is : (field : List ℕ) → is_object_name field ≡ true → IsShortName field
 name_is field h =
-    let parts = and_both (nat_le (length field) WORD_LIMIT && is_word field) (is_none (code_of reserved_words field)) h in
-    let word = and_both (nat_le (length field) WORD_LIMIT) (is_word field) parts.0 in
+    let parts = both_true (nat_le (length field) WORD_LIMIT && is_word field) (is_none (code_of reserved_words field)) h in
+    let word = both_true (nat_le (length field) WORD_LIMIT) (is_word field) parts.0 in
     ((word.1, none (code_of reserved_words field) parts.1), grind (arith, nat_tests, word.0))
   where
     none : (o : Option ℕ) → is_none o ≡ true → o ≡ None

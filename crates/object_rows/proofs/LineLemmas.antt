@@ -25,12 +25,9 @@ use Rattle.object_rows.specs.Commands.{GivesShortLines, HasShortLine, IsPrintabl
 use Rattle.object_rows.specs.Rows.{each_row, row_of, rows_in, rows_of}
 use Rattle.object_rows.proofs.CommandLemmas.{commands_printable}
 use Rattle.object_rows.proofs.NamedLemmas.{IsAmong, IsNamed, attribute_names, begins, columns_among, row_few}
+use Rattle.exact.proofs.Items.{sign_short}
 
 -- ---- The texts of numbers
-
-sign_short : (negative : Bool) → length (sign_text negative) ≤ 1
-sign_short true = omega arith
-sign_short false = omega arith
 
 take_short : (n : ℕ) (digits : List ℕ) → length (take n digits) ≤ length digits
 take_short zero digits = omega arith

@@ -8,6 +8,7 @@ use Rattle.std.proofs.lemmas.List.{length-map}
 use Rattle.std.proofs.lemmas.Map.Made.{length-le_from_is_member}
 use Rattle.exact.proofs.Lists.{bytes_eq_refl, bytes_eq_true}
 use Rattle.exact.specs.Options.{◌>>=◌}
+use Rattle.exact.proofs.Truths.{or_second}
 use Rattle.motion.specs.declared.cell.Given.{Given}
 use Rattle.motion.specs.declared.cell.NamedSet.{NamedSet}
 use Rattle.history.specs.Write.{Attribute}
@@ -191,16 +192,12 @@ all_more : (P Q : List ℕ → Type 0) (attributes : List Attribute) → ((name 
 all_more P Q [] f are = tt
 all_more P Q (a ∷ attributes) f are = (f a.name are.0, all_more P Q attributes f are.1)
 
-or_later : (first later : Bool) → later ≡ true → (first || later) ≡ true
-or_later true later h = refl
-or_later false later h = h
-
 each_among : (attributes : List Attribute) → AreNamed (IsAmong (attribute_names attributes)) attributes
 each_among [] = tt
 each_among (a ∷ attributes) = (
   ap (λ b. b || list_any (λ other. bytes_eq a.name other) (attribute_names attributes)) (bytes_eq_refl a.name),
   all_more (IsAmong (attribute_names attributes)) (IsAmong (attribute_names (a ∷ attributes))) attributes
-      (λ name h. or_later (bytes_eq name a.name) (list_any (λ other. bytes_eq name other) (attribute_names attributes)) h) (each_among attributes),
+      (λ name h. or_second (bytes_eq name a.name) (list_any (λ other. bytes_eq name other) (attribute_names attributes)) h) (each_among attributes),
 )
 
 pub columns_among : (attributes : List Attribute) (header : List (List ℕ)) (columns : List Column) → columns_of attributes header ≡ Some columns

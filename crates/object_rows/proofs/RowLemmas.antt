@@ -8,6 +8,7 @@ use Rattle.std.proofs.lemmas.List.Quantifiers.{position-Some}
 use Rattle.std.proofs.lemmas.List.{drop_all}
 use Rattle.csv.specs.Records.{field_at}
 use Rattle.exact.specs.Options.{◌>>=◌}
+use Rattle.exact.proofs.Items.{untrue_where_none}
 use Rattle.motion.specs.declared.cell.NamedSet.{NamedSet}
 use Rattle.object_rows.specs.declared.columns.Column.{Column}
 use Rattle.object_rows.specs.declared.rows.ObjectRow.{ObjectRow}
@@ -31,13 +32,9 @@ part_joins part sets i set new at is made =
     let found = position-Some (is_set_of part) sets i set at in
     ap (slice_set sets i) (made ∙ ap (λ s. joined_setting s part) is) ∙ sym (joins_at part sets i set found.0 found.1 found.2)
 
-test_failed : (b : Bool) (n : ℕ) → cond b (Some n) None ≡ None → b ≡ false
-test_failed true n h = absurd (cc h)
-test_failed false n h = refl
-
 none_before : (p : NamedSet → Bool) (sets : List NamedSet) → position p sets ≡ None → length sets ≤ position_or_len p sets
 none_before p sets h =
-    let past : nat_lt (position_or_len p sets) (length sets) ≡ false = test_failed (nat_lt (position_or_len p sets) (length sets)) (position_or_len p sets) h in
+    let past : nat_lt (position_or_len p sets) (length sets) ≡ false = untrue_where_none (nat_lt (position_or_len p sets) (length sets)) (position_or_len p sets) h in
     grind (arith, nat_tests, past)
 
 -- the first setting is no such one, so the others decide

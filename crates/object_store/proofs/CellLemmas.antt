@@ -4,7 +4,6 @@ use Rattle.std.specs.Prelude.{option_map, codes}
 use Rattle.std.specs.List.{fold, filter_map, cons_option, position}
 use Rattle.std.specs.Option.{option_map_or}
 use Rattle.std.specs.Str.{bytes_eq}
-use Rattle.std.specs.Cmp.Lexicographic.{nat_list_eq_equiv}
 use Rattle.motion.specs.declared.cell.Cell.{Cell}
 use Rattle.motion.specs.declared.cell.Given.{Given}
 use Rattle.motion.specs.declared.cell.NamedSet.{NamedSet}
@@ -16,9 +15,7 @@ use Rattle.history.specs.State.{attribute_names, inserted, updated}
 use Rattle.object_store.specs.Changes.{fresh_cells, setting_change, setting_changes}
 use Rattle.std.proofs.lemmas.List.{map-append, take-append-drop, take_more}
 use Rattle.object_store.proofs.Lists.{index_in, index_is}
-
-bytes_eq_flip : (a b : List ℕ) → bytes_eq a b ≡ bytes_eq b a
-bytes_eq_flip a b = nat_list_eq_equiv.symm a b
+use Rattle.exact.proofs.Items.{bytes_eq_swap}
 
 -- the cells after a write at the index where a name is found
 abbrev set_found : ℕ → List Cell → Given → Option ℕ → List Cell
@@ -38,7 +35,7 @@ set_named-index : (now : ℕ) (attributes : List Attribute) (cells : List Cell) 
 set_named-index now [] cells s = refl
 set_named-index now (a ∷ attributes) [] s = past_none now s.given (index_in (λ a. bytes_eq s.name a.name) (a ∷ attributes))
 set_named-index now (a ∷ attributes) (cell ∷ cells) s =
-    ap (λ b. if b then (written now cell s.given ∷ cells) else (cell ∷ set_named now (attribute_names attributes) cells s)) (bytes_eq_flip a.name s.name)
+    ap (λ b. if b then (written now cell s.given ∷ cells) else (cell ∷ set_named now (attribute_names attributes) cells s)) (bytes_eq_swap a.name s.name)
     ∙ ap (λ rest. if bytes_eq s.name a.name then (written now cell s.given ∷ cells) else (cell ∷ rest)) (set_named-index now attributes cells s)
     ∙ named_step now (bytes_eq s.name a.name) cell cells s.given (index_in (λ a. bytes_eq s.name a.name) attributes)
 

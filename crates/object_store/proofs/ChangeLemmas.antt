@@ -1,12 +1,13 @@
 -- What an accepted write to an object changes of the history that a store tells.
-use Rattle.std.proofs.Common.{◌≡◌, ℕ, zero, suc, ◌<◌, ◌==◌, Bool, true, false, Option, None, Some, List, [], ◌∷◌, ◌++◌, map, length, take, refl, sym, ap, ◌∙◌, arith, if◌then◌else◌, append-nil}
-use Rattle.std.specs.Prelude.{nat_le, is_some, slice_get, option_and_then, option_map}
+use Rattle.std.proofs.Common.{◌≡◌, ℕ, zero, suc, ◌<◌, ◌==◌, Bool, true, false, None, Some, List, [], ◌∷◌, ◌++◌, map, length, take, refl, sym, ap, ◌∙◌, if◌then◌else◌, append-nil}
+use Rattle.std.specs.Prelude.{slice_get, option_and_then, option_map}
 use Rattle.std.specs.List.{find, list_any, position}
 use Rattle.std.specs.Str.{bytes_eq}
-use Rattle.std.proofs.lemmas.Bool.Decides.{nat_tests}
 use Rattle.std.proofs.lemmas.List.{map-append}
 use Rattle.std.proofs.lemmas.Option.{same_Some}
 use Rattle.exact.proofs.Lists.{bytes_eq_refl}
+use Rattle.exact.proofs.Items.{none_from_test}
+use Rattle.exact.proofs.Naturals.{above_fails_nat_test, differs_before, not_itself}
 use Rattle.motion.specs.declared.cell.NamedSet.{NamedSet}
 use Rattle.motion.specs.declared.cell.Place.{Place}
 use Rattle.motion.specs.Timeline.{Epoch, put, state_at}
@@ -26,13 +27,10 @@ use Rattle.object_store.proofs.WriteLemmas.{index-put_named, index_last}
 abbrev with_epoch : Epoch → StoredObject → StoredObject
 with_epoch p o = record o { epochs = put o.epochs p }
 
-not_yet : (from t : ℕ) → t < from → nat_le from t ≡ false
-not_yet from t before = grind (arith, nat_tests)
-
 -- an epoch changes no earlier state
 earlier : (p : Epoch) (t : ℕ) → t < p.from → (epochs : List Epoch) → state_at (put epochs p) t ≡ state_at epochs t
 earlier p t before epochs =
-    state_at_put epochs p t ∙ ap (λ b. if b then p.cells else state_at epochs t) (not_yet p.from t before)
+    state_at_put epochs p t ∙ ap (λ b. if b then p.cells else state_at epochs t) (above_fails_nat_test p.from t before)
 
 -- ---- an object of a known name
 
@@ -47,12 +45,6 @@ put_past : (name : List ℕ) (p : Epoch) (t : ℕ) → t < p.from → (objects :
 put_past name p t before [] i = refl
 put_past name p t before (x ∷ xs) i =
     past_step (bytes_eq name x.name) p t before x xs (put_named name p xs) i (put_past name p t before xs)
-
-not_itself : {A : Type 0} (n : ℕ) → (n == n) ≡ false → A
-not_itself n other = absurd (grind (arith, nat_tests))
-
-before_it : (m n : ℕ) → (suc m == suc n) ≡ false → (m == n) ≡ false
-before_it m n other = grind (arith, nat_tests)
 
 put_others : (name : List ℕ) (p : Epoch) (objects : List StoredObject) (index i : ℕ) → position (is_named name) objects ≡ Some index
     → (i == index) ≡ false → slice_get (put_named name p objects) i ≡ slice_get objects i
@@ -70,7 +62,7 @@ put_others name p objects index i first = others objects index i (sym (index_is 
     others (x ∷ xs) (suc index) zero first other = step x xs 0 false (at_suc (bytes_eq name x.name) (index_in (is_named name) xs) index first).0
     others (x ∷ xs) (suc index) (suc i) first other =
         let later = at_suc (bytes_eq name x.name) (index_in (is_named name) xs) index first in
-        step x xs (suc i) false later.0 ∙ others xs index i later.1 (before_it i index other)
+        step x xs (suc i) false later.0 ∙ others xs index i later.1 (differs_before i index other)
 
 known_changes : (s : Contents) (name : List ℕ) (p : Epoch) (id : ℕ) → IsSound s → IsSound (with_epoch_of s name p)
     → position (is_named name) (put_named name p s.objects) ≡ Some id → ChangesFrom id p.from (history_of s) (history_of (with_epoch_of s name p))
@@ -94,7 +86,7 @@ pushed_others : {X : Type 0} (xs : List X) (x : X) (i : ℕ) → (i == length xs
 pushed_others [] x zero other = not_itself 0 other
 pushed_others [] x (suc i) other = refl
 pushed_others (y ∷ ys) x zero other = refl
-pushed_others (y ∷ ys) x (suc i) other = pushed_others ys x i (before_it i (length ys) other)
+pushed_others (y ∷ ys) x (suc i) other = pushed_others ys x i (differs_before i (length ys) other)
 
 pushed_past : (xs : List StoredObject) (x : StoredObject) (t i : ℕ) → state_at x.epochs t ≡ None → cells_in (xs ++ x ∷ []) i t ≡ cells_in xs i t
 pushed_past [] x t zero absent = absent
@@ -127,17 +119,13 @@ new_changes s class name p id sound after new at =
 
 -- ---- the three writes
 
-none_found : {X : Type 0} (r : Option X) → is_some r ≡ false → r ≡ None
-none_found None none = refl
-none_found (Some x) none = let e : true ≡ false = none in cc
-
 insert_changes_if : (there : Bool) (s : Contents) (class : ℕ) (name : List ℕ) (p : Epoch) (id : ℕ) → list_any (is_named name) s.objects ≡ there
     → IsSound s → IsSound (if there then with_epoch_of s name p else with_object s class name p)
     → position (is_named name) (if there then with_epoch_of s name p else with_object s class name p).objects ≡ Some id
     → ChangesFrom id p.from (history_of s) (history_of (if there then with_epoch_of s name p else with_object s class name p))
 insert_changes_if true s class name p id there sound after at = known_changes s name p id sound after at
 insert_changes_if false s class name p id there sound after at =
-    new_changes s class name p id sound after (none_found (find (is_named name) s.objects) (is_some-find (is_named name) s.objects ∙ there)) at
+    new_changes s class name p id sound after (none_from_test (find (is_named name) s.objects) (is_some-find (is_named name) s.objects ∙ there)) at
 
 pub insert_changes : (s : Contents) (now : ℕ) (class name : List ℕ) (place : Place) (sets : List NamedSet) (id : ℕ) → IsSound s
     → IsSound (after_insert s now class name place sets) → position (is_named name) (after_insert s now class name place sets).objects ≡ Some id

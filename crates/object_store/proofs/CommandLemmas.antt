@@ -9,6 +9,7 @@ use Rattle.std.proofs.lemmas.Option.{none-some}
 use Rattle.std.specs.Borrow.{Bor}
 use Rattle.std.proofs.lemmas.List.Elements.{All-append}
 use Rattle.exact.specs.First.{first_that_holds}
+use Rattle.exact.proofs.Naturals.{above_from_test}
 use Rattle.motion.specs.Cells.{AreChanges, IsGiven, changed, place_sets}
 use Rattle.motion.proofs.CallerLemmas.{place_sets-given}
 use Rattle.motion.specs.declared.cell.Cell.{Cell}
@@ -106,9 +107,6 @@ insert_passes k elsewhere present past place sets none =
 same_of_not : (m n : ℕ) → not (m == n) ≡ false → m ≡ n
 same_of_not m n h = grind (arith, nat_tests)
 
-below_of_not : (m n : ℕ) → nat_le m n ≡ false → n < m
-below_of_not m n h = grind (arith, nat_tests)
-
 module _ (s : Contents) (class : List ℕ) (number : ℕ) (k : ClassInfo) (has : HasClass s.classes class number k) (name : List ℕ) (now : ℕ) (place : Place) (sets : List NamedSet)
     (accepted : insert_fault (catalog_of s) (is_some (state_of s name now)) class name place sets ≡ None) where
   passes : Passes (is_elsewhere (catalog_of s) class name) (is_past_capacity (catalog_of s) class name)
@@ -124,7 +122,7 @@ module _ (s : Contents) (class : List ℕ) (number : ℕ) (k : ClassInfo) (has :
   pub room_for_new : find (is_named name) s.objects ≡ None → HasFreeName s number
   room_for_new new =
       subst (λ r. IsSomeAnd r (λ k. length (ids_in s.objects number) < k.capacity)) (sym has.there)
-      (below_of_not k.capacity (length (ids_in s.objects number))
+      (above_from_test k.capacity (length (ids_in s.objects number))
       (ap (λ r. is_none r && nat_le k.capacity (length (ids_in s.objects number))) (sym new) ∙ sym (past_found s class number k has name) ∙ passes.room))
 
 module _ (s : Contents) (class : List ℕ) (number : ℕ) (k : ClassInfo) (has : HasClass s.classes class number k) (name : List ℕ) (now : ℕ) (place : Place) (sets : List NamedSet) (cells : List Cell) (is : cells ≡ inserted now k.attributes place sets) where

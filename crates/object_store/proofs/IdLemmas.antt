@@ -2,9 +2,9 @@
 use Rattle.std.proofs.Common.{◌≡◌, ℕ, suc, ◌+◌, ◌<◌, ◌==◌, Bool, true, false, cond, List, [], ◌∷◌, ◌++◌, map, length, refl, sym, ap, ◌∙◌, arith, append_assoc, length-append}
 use Rattle.std.specs.Prelude.{All}
 use Rattle.std.specs.List.{filter, enumerate_from}
-use Rattle.std.proofs.lemmas.Bool.Decides.{nat_tests}
 use Rattle.history.specs.Catalog.{ObjectInfo, ids_of, names}
 use Rattle.object_store.specs.Contents.{StoredObject, Contents, object_info, catalog_of, ids_in, object_name}
+use Rattle.exact.proofs.Naturals.{differs_below}
 
 abbrev pub ids_from : ℕ → List StoredObject → ℕ → List ℕ
 ids_from start objects number = map (λ (e : ℕ × StoredObject). e.0) (filter (λ (e : ℕ × StoredObject). e.1.class == number) (enumerate_from start objects))
@@ -53,15 +53,12 @@ ids_from-same start number (x ∷ xs) (y ∷ ys) same =
 pub ids-same : (number : ℕ) (xs ys : List StoredObject) → map class_in xs ≡ map class_in ys → ids_in xs number ≡ ids_in ys number
 ids-same number xs ys same = ids_from-same 0 number xs ys same
 
-differs : (m n : ℕ) → m < n → (m == n) ≡ false
-differs m n h = grind (arith, nat_tests)
-
 -- a class that isn't there has none
 ids_from-none : (start number : ℕ) (objects : List StoredObject) → All (λ (o : StoredObject). o.class < number) objects → ids_from start objects number ≡ []
 ids_from-none start number [] all = refl
 ids_from-none start number (o ∷ os) all =
     ids-cons start o os number
-    ∙ ap (λ b. cond b (start ∷ ids_from (start + 1) os number) (ids_from (start + 1) os number)) (differs o.class number (all 0 o (omega arith)))
+    ∙ ap (λ b. cond b (start ∷ ids_from (start + 1) os number) (ids_from (start + 1) os number)) (differs_below o.class number (all 0 o (omega arith)))
     ∙ ids_from-none (start + 1) number os (λ k d l. all (suc k) d (omega arith))
 
 pub ids-none : (number : ℕ) (objects : List StoredObject) → All (λ (o : StoredObject). o.class < number) objects → ids_in objects number ≡ []

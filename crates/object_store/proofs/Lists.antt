@@ -1,5 +1,5 @@
 -- For this crate and for the crates above: lists of anything: the first index that passes a test, and what stands there.
-use Rattle.std.proofs.Common.{◌≡◌, ℕ, zero, suc, ◌+◌, ◌<◌, Bool, true, false, cond, not, ◌||◌, nat_lt, Option, None, Some, List, [], ◌∷◌, ◌++◌, map, length, take, refl, sym, ap, subst, ◌∙◌, arith}
+use Rattle.std.proofs.Common.{◌≡◌, ℕ, zero, suc, ◌+◌, Bool, true, false, cond, not, ◌||◌, nat_lt, Option, None, Some, List, [], ◌∷◌, map, length, take, refl, sym, ap, subst, ◌∙◌, arith}
 use Rattle.std.specs.Prelude.{All, slice_get, is_some, option_and_then, option_map}
 use Rattle.std.proofs.lemmas.Option.{same_Some, none-some}
 use Rattle.std.specs.List.{list_any, find, position, position_or_len, AllByRecursion, IsDistinct}
@@ -98,9 +98,3 @@ some_step false x rest = refl
 pub is_some-find : {X : Type 0} (q : X → Bool) (xs : List X) → is_some (find q xs) ≡ list_any q xs
 is_some-find q [] = refl
 is_some-find q (x ∷ xs) = some_step (q x) x (find q xs) ∙ ap (λ b. q x || b) (is_some-find q xs)
-
--- the elements of a prefix stay where they are
-pub slice_get-append : {X : Type 0} (xs ys : List X) (i : ℕ) → i < length xs → slice_get (xs ++ ys) i ≡ slice_get xs i
-slice_get-append [] ys i within = absurd (omega arith)
-slice_get-append (x ∷ xs) ys zero within = refl
-slice_get-append (x ∷ xs) ys (suc i) within = slice_get-append xs ys i (omega arith)

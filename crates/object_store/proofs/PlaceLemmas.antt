@@ -1,5 +1,5 @@
 -- Where the objects of a store are, by their patches.
-use Rattle.std.proofs.Common.{◌≡◌, ◌⊎◌, inl, inr, ℕ, zero, suc, ◌+◌, ◌-◌, ◌<◌, ◌≤◌, ℤ, ◌≤ℤ◌, Option, None, Some, List, [], ◌∷◌, ◌++◌, length, set, take, refl, sym, ap, subst, ◌∙◌, arith}
+use Rattle.std.proofs.Common.{◌≡◌, inl, inr, ℕ, zero, suc, ◌+◌, ◌-◌, ◌<◌, ◌≤◌, ℤ, ◌≤ℤ◌, Option, None, Some, List, [], ◌∷◌, ◌++◌, length, set, take, refl, sym, ap, subst, ◌∙◌, arith}
 use Rattle.std.specs.Prelude.{All, slice_get, option_and_then, unwrap_or}
 use Rattle.std.proofs.lemmas.Grind.{common_steps, get_or-set_at}
 use Rattle.std.proofs.lemmas.List.{get_or-set_other, get_or_append_left, length-append, length-set, length-take-le, get_or-take}
@@ -22,6 +22,7 @@ use Rattle.places.proofs.CallerLemmas.{unit_rises}
 use Rattle.object_store.specs.AtIndex.{at_index, restored_at}
 use Rattle.object_store.specs.Contents.{StoredObject}
 use Rattle.object_store.specs.Placing.{AreOthersPlaced, ArePlaced, ArePlacedBut, ArePlacedIn, EndInTime, HavePatches, IsPlaced, IsWithin, LiesInPatch}
+use Rattle.exact.proofs.Naturals.{same_or_other}
 
 -- ---- one object
 
@@ -43,12 +44,6 @@ placed_by_last from upto patch epochs last begun in_force are t later to =
     subst (LiesInPatch patch t) (ap (option_and_then (λ (p : Epoch). p.cells)) (in_force t (AreBegunBy-later epochs from t later begun))) (are t later to)
 
 -- ---- horizons
-
-pub same_or_other : (n m : ℕ) → (n ≡ m) ⊎ (n ≡ m → ⊥)
-same_or_other zero zero = inl refl
-same_or_other zero (suc m) = inr (λ h. omega arith)
-same_or_other (suc n) zero = inr (λ h. omega arith)
-same_or_other (suc n) (suc m) = elim (same_or_other n m) [ inl h ↦ inl (omega arith) | inr h ↦ inr (λ e. h (omega arith)) ]
 
 abbrev with_set : Horizon → ℕ → Patch → Horizon
 with_set h index patch = record h { patches = set h.patches index patch }

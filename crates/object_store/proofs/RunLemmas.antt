@@ -11,8 +11,8 @@ use Rattle.object_store.specs.Contents.{StoredObject, ids_in}
 use Rattle.object_store.specs.Placing.{is_in_class}
 use Rattle.object_store.specs.Run.{is_in_run}
 use Rattle.object_store.specs.Searching.{AreFrom}
-use Rattle.object_store.proofs.PlaceLemmas.{same_or_other}
 use Rattle.object_store.proofs.ToldLemmas.{listed_in_class}
+use Rattle.exact.proofs.Naturals.{equal_if_same, same_or_other}
 
 least_step : (low n last : ℕ) → low + 1 + n ≤ last → low + suc n ≤ last
 least_step low n last h = omega (arith, h)
@@ -32,17 +32,14 @@ is_first low x n last order short least = omega (arith, order, short, least)
 is_only : (low x number : ℕ) → low ≤ x → x ≤ low + 0 → low ≤ number → number ≤ low + 0 → x ≡ number
 is_only low x number order short from upto = omega (arith, order, short, from, upto)
 
-is_number : (x number : ℕ) → x ≡ number → (x == number) ≡ true
-is_number x number same = grind (arith, nat_tests, same)
-
 -- where it isn't past it by more, all between them are there
 all_listed : (low x : ℕ) (xs : List ℕ) (number : ℕ) → low ≤ x → AreFrom (x + 1) xs → get_or (x ∷ xs) (length xs) 0 ≤ low + length xs
     → low ≤ number → number ≤ low + length xs → is_listed (x ∷ xs) number ≡ true
-all_listed low x [] number order are short from upto = or_left (x == number) (is_listed [] number) (is_number x number (is_only low x number order short from upto))
+all_listed low x [] number order are short from upto = or_left (x == number) (is_listed [] number) (equal_if_same x number (is_only low x number order short from upto))
 all_listed low x (y ∷ ys) number order are short from upto =
     let first : x ≡ low = is_first low x (length (y ∷ ys)) (get_or (x ∷ y ∷ ys) (length (y ∷ ys)) 0) order short (last_least x x (y ∷ ys) (omega arith) are) in
     elim (same_or_other number x) [
-      | inl same ↦ or_left (x == number) (is_listed (y ∷ ys) number) (is_number x number (sym same))
+      | inl same ↦ or_left (x == number) (is_listed (y ∷ ys) number) (equal_if_same x number (sym same))
       | inr differs ↦ or_right (x == number) (is_listed (y ∷ ys) number)
           (all_listed (low + 1) y ys number (omega (arith, first, are.0)) are.1 (most_step low (length ys) (get_or (y ∷ ys) (length ys) 0) short)
           (omega (arith, from, differs, first)) (most_step low (length ys) number upto))

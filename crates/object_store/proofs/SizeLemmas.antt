@@ -1,5 +1,5 @@
 -- How many objects a store can have: those of each class, and no others.
-use Rattle.std.proofs.Common.{◌≡◌, ℕ, zero, suc, ◌+◌, ◌*◌, ◌<◌, ◌≤◌, ◌==◌, ◌^◌, true, false, cond, Some, List, [], ◌∷◌, length, refl, ap, ◌∙◌, inl, inr, arith}
+use Rattle.std.proofs.Common.{◌≡◌, ℕ, zero, suc, ◌+◌, ◌*◌, ◌<◌, ◌≤◌, ◌==◌, ◌^◌, false, cond, Some, List, [], ◌∷◌, length, refl, ap, ◌∙◌, inl, inr, arith}
 use Rattle.std.specs.Prelude.{All}
 use Rattle.std.specs.List.{position}
 use Rattle.std.proofs.lemmas.Option.{slice_get_within}
@@ -13,6 +13,7 @@ use Rattle.object_store.specs.Sound.{IsClass, IsSound}
 use Rattle.object_store.proofs.EntryLemmas.{all_at}
 use Rattle.object_store.proofs.IdLemmas.{ids_from, ids-cons}
 use Rattle.object_store.proofs.WriteLemmas.{exists_at, object_at_index}
+use Rattle.exact.proofs.Naturals.{equal_if_same}
 
 -- how many ids the first classes have
 abbrev total : ℕ → ℕ → List StoredObject → ℕ
@@ -22,16 +23,13 @@ total (suc n) start objects = length (ids_from start objects n) + total n start 
 apart : (m n : ℕ) → m < n → (n == m) ≡ false
 apart m n h = grind (arith, nat_tests)
 
-itself : (m n : ℕ) → m ≡ n → (m == n) ≡ true
-itself m n h = grind (arith, nat_tests)
-
 passed : (start n : ℕ) (o : StoredObject) (os : List StoredObject) → n < o.class → length (ids_from start (o ∷ os) n) ≡ length (ids_from (start + 1) os n)
 passed start n o os later =
     ap length (ids-cons start o os n ∙ ap (λ b. cond b (start ∷ ids_from (start + 1) os n) (ids_from (start + 1) os n)) (apart n o.class later))
 
 taken : (start n : ℕ) (o : StoredObject) (os : List StoredObject) → o.class ≡ n → length (ids_from start (o ∷ os) n) ≡ suc (length (ids_from (start + 1) os n))
 taken start n o os own =
-    ap length (ids-cons start o os n ∙ ap (λ b. cond b (start ∷ ids_from (start + 1) os n) (ids_from (start + 1) os n)) (itself o.class n own))
+    ap length (ids-cons start o os n ∙ ap (λ b. cond b (start ∷ ids_from (start + 1) os n) (ids_from (start + 1) os n)) (equal_if_same o.class n own))
 
 not_its : (start n : ℕ) (o : StoredObject) (os : List StoredObject) → o.class < n → length (ids_from start (o ∷ os) n) ≡ length (ids_from (start + 1) os n)
 not_its start n o os before =

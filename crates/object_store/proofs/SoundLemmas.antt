@@ -6,7 +6,6 @@ use Rattle.std.specs.Option.{ForSome, option_map_or}
 use Rattle.std.specs.Str.{bytes_eq}
 use Rattle.std.specs.Cmp.Lexicographic.{nat_list_eq_equiv}
 use Rattle.std.proofs.lemmas.Bool.{cases_lt}
-use Rattle.std.proofs.lemmas.Bool.Decides.{nat_tests}
 use Rattle.std.proofs.lemmas.List.{map-append, length-map}
 use Rattle.std.proofs.lemmas.List.Elements.{All-push}
 use Rattle.std.proofs.lemmas.Map.Keys.{IsDistinct-push, apart_from_distinct}
@@ -19,10 +18,12 @@ use Rattle.tick_set.specs.declared.spans.TheConstants.{LAST_TICK}
 use Rattle.object_store.specs.Contents.{StoredObject, Contents, attributes_of_number, is_named, ids_in}
 use Rattle.object_store.specs.Effects.{put_named}
 use Rattle.object_store.specs.Sound.{AreClasses, AreObjects, AreEpochsOf, IsSound}
-use Rattle.object_store.proofs.Lists.{list_any-map, any_is_found, slice_get-append}
+use Rattle.object_store.proofs.Lists.{list_any-map, any_is_found}
 use Rattle.object_store.proofs.ClassLemmas.{name_of}
 use Rattle.object_store.proofs.IdLemmas.{class_in, ids-append, ids-same, ids-none}
 use Rattle.object_store.proofs.KindLemmas.{FitsIn, put_fits}
+use Rattle.exact.proofs.Naturals.{same_from_equal}
+use Rattle.exact.proofs.Items.{slice_get-append}
 
 abbrev with_epoch : Epoch → StoredObject → StoredObject
 with_epoch p o = record o { epochs = put o.epochs p }
@@ -83,9 +84,6 @@ put_sound classes objects last now name p o are later from found fits = record {
 one_fits : (attributes : List Attribute) (p : Epoch) → FitsIn attributes p.cells → AreEpochsOf attributes (put [] p)
 one_fits attributes p fits = put_fits attributes [] p (λ k d l. absurd (omega arith)) fits
 
-same_number : (m n : ℕ) → (m == n) ≡ true → m ≡ n
-same_number m n h = grind (arith, nat_tests)
-
 count_step : (b : Bool) (ids : List ℕ) (n capacity other : ℕ) → length ids ≤ other → (b ≡ true → length ids < other) → length (ids ++ cond b (n ∷ []) []) ≤ other
 count_step true ids n capacity other old room = let r : length ids < other = room refl in omega (arith, length-append ids (n ∷ []))
 count_step false ids n capacity other old room = omega (arith, length-append ids [])
@@ -112,7 +110,7 @@ append_sound classes objects last now number k name p are later from new at room
           subst (λ ids. length ids ≤ j.capacity) (sym (ids-append objects o n))
           (count_step (number == n) (ids_in objects n) (length objects) j.capacity j.capacity (are.within n j there)
           (λ h.
-          let same : number ≡ n = same_number number n h in
+          let same : number ≡ n = same_from_equal number n h in
           let one : k ≡ j = same_Some k j (sym at ∙ ap (slice_get classes) same ∙ there) in
           subst (λ (j : ClassInfo). length (ids_in objects n) < j.capacity) one (subst (λ m. length (ids_in objects m) < k.capacity) same room)));
     }

@@ -1,13 +1,13 @@
 -- A store goes on standing for its writes.
-use Rattle.std.proofs.Common.{◌≡◌, ℕ, ◌+◌, ◌-◌, ◌≤◌, Bool, true, false, cond, ◌&&◌, nat_le, Option, None, Some, List, [], ◌∷◌, ◌++◌, map, refl, sym, ap, ◌∙◌, arith, if◌then◌else◌}
+use Rattle.std.proofs.Common.{◌≡◌, ℕ, ◌+◌, ◌-◌, Bool, true, false, cond, ◌&&◌, nat_le, Option, None, Some, List, [], ◌∷◌, ◌++◌, map, refl, sym, ap, ◌∙◌, if◌then◌else◌}
 use Rattle.std.specs.Prelude.{option_and_then, option_map, is_some, All}
 use Rattle.std.specs.List.{find, list_any}
 use Rattle.std.specs.Option.{option_or}
 use Rattle.std.specs.Str.{bytes_eq}
 use Rattle.std.proofs.lemmas.List.{map-append}
 use Rattle.std.proofs.lemmas.List.Folds.{find-append}
-use Rattle.std.proofs.lemmas.Bool.Decides.{nat_tests}
 use Rattle.exact.proofs.Lists.{bytes_eq_true}
+use Rattle.exact.proofs.Naturals.{at_most_from_test}
 use Rattle.motion.specs.declared.cell.Cell.{Cell}
 use Rattle.motion.specs.declared.cell.NamedSet.{NamedSet}
 use Rattle.motion.specs.declared.cell.Place.{Place}
@@ -132,9 +132,6 @@ updated_step true true (Some x) f g now t before same settled =
 updated_step true false found f g now t before same settled = refl
 updated_step false begun found f g now t before same settled = refl
 
-le_from : (m n : ℕ) → nat_le m n ≡ true → m ≤ n
-le_from m n h = grind (arith, nat_tests)
-
 pub follows_update : (s : Contents) (now : ℕ) (name : List ℕ) (place : Place) (sets : List NamedSet) → All (λ (o : StoredObject). AreBegunBy o.epochs now) s.objects → Follows s (after_update s now name place sets) (Update now name place sets)
 follows_update s now name place sets begun =
     let c = catalog_of s in
@@ -146,7 +143,7 @@ follows_update s now name place sets begun =
           state-put_named name o p t s.objects
           ∙ updated_step (bytes_eq o name) (nat_le now t) (find (is_named o) s.objects) (write name) (write o) now t (state_of s name now)
           (λ h. let same : o ≡ name = bytes_eq_true o name h in (ap write same, ap (λ n. state_of s n now) (sym same)))
-          (λ h x found. settled x.epochs now t (All-find (λ (o : StoredObject). AreBegunBy o.epochs now) (is_named o) s.objects x begun found) (le_from now t h));
+          (λ h x found. settled x.epochs now t (All-find (λ (o : StoredObject). AreBegunBy o.epochs now) (is_named o) s.objects x begun found) (at_most_from_test now t h));
     }
 
 -- an insert

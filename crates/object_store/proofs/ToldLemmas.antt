@@ -28,7 +28,8 @@ use Rattle.std.proofs.lemmas.List.Folds.{list_any-append}
 use Rattle.std.proofs.lemmas.Map.Views.{any-filter_same}
 use Rattle.object_store.proofs.AreaLemmas.{from_lower, ids_rise}
 use Rattle.object_store.proofs.IdLemmas.{ids_from, ids-cons}
-use Rattle.object_store.proofs.PlaceLemmas.{same_or_other}
+use Rattle.exact.proofs.Truths.{both_true, or_second}
+use Rattle.exact.proofs.Naturals.{same_or_other}
 
 -- ---- what is in an area has a unit of its patch
 
@@ -48,10 +49,6 @@ greatest_bounded : (side : Option ℤ) → least_unit ≤ℤ option_map_or unit 
 greatest_bounded None = omega (arith, ints)
 greatest_bounded (Some n) = unit_above n
 
-both : (a b : Bool) → (a && b) ≡ true → (a ≡ true) × (b ≡ true)
-both true b h = (refl, h)
-both false b h = absurd (false≢true h)
-
 and_true : (a b : Bool) → a ≡ true → b ≡ true → (a && b) ≡ true
 and_true a b p q = cc
 
@@ -65,7 +62,7 @@ all_overlaps e sides all = overlap_all e (extent_of sides) all (least_bounded si
 
 within_overlaps : (e : Extent) (sides : Sides) (t : ℕ) (cell : Option Cell) → IsWithin e t cell → is_cell_between sides t cell ≡ true → overlap e (extent_of sides) ≡ true
 within_overlaps e sides t (Some (cells.Dyn v)) within between =
-    let parts = both (option_map_or (λ least. int_le least (value_at v t)) sides.least true) (option_map_or (λ greatest. int_le (value_at v t) greatest) sides.greatest true) between in
+    let parts = both_true (option_map_or (λ least. int_le least (value_at v t)) sides.least true) (option_map_or (λ greatest. int_le (value_at v t) greatest) sides.greatest true) between in
     share e (extent_of sides) (unit (value_at v t)) within.0 within.1 (least_below sides.least (value_at v t) parts.0) (greatest_above sides.greatest (value_at v t) parts.1)
 within_overlaps e sides t (Some (cells.Num n)) within between = all_overlaps e sides within
 within_overlaps e sides t (Some (cells.Text s)) within between = all_overlaps e sides within
@@ -74,7 +71,7 @@ within_overlaps e sides t None within between = all_overlaps e sides within
 in_area_meets : (patch : Patch) (area : Area) (t : ℕ) (state : Option (List Cell)) → LiesInPatch patch t state → is_in_area area t state ≡ true → meets patch (patch_of area) ≡ true
 in_area_meets patch area t None lies inside = absurd (false≢true inside)
 in_area_meets patch area t (Some there) lies inside =
-    let parts = both (is_cell_between area.x t (slice_get there 0)) (is_cell_between area.y t (slice_get there 1)) inside in
+    let parts = both_true (is_cell_between area.x t (slice_get there 0)) (is_cell_between area.y t (slice_get there 1)) inside in
     and_true (overlap patch.x (extent_of area.x)) (overlap patch.y (extent_of area.y))
     (within_overlaps patch.x area.x t (slice_get there 0) lies.0 parts.0) (within_overlaps patch.y area.y t (slice_get there 1) lies.1 parts.1)
 
@@ -114,10 +111,6 @@ near_rises (suc n) patches area = rises_step (meets (patch_at patches n) area) n
 
 or_first : (a b : Bool) → a ≡ true → (a || b) ≡ true
 or_first a b h = cc
-
-or_second : (a b : Bool) → b ≡ true → (a || b) ≡ true
-or_second true b h = refl
-or_second false b h = h
 
 same_listed : (n id : ℕ) → id ≡ n → is_listed (n ∷ []) id ≡ true
 same_listed n id same = or_first (n == id) false (grind (arith, nat_tests, same))
@@ -205,7 +198,7 @@ found_by from h objects class area lo hi are early late =
       among = λ id has.
           let listed : is_listed found id ≡ true = ap (λ ids. is_listed ids id) (sym (append-nil found)) ∙ has in
           listed_in_class objects class id
-          ∙ (both (is_in_class objects class id) (is_listed all id) (sym (listed_filtered (is_in_class objects class) all id) ∙ listed)).0;
+          ∙ (both_true (is_in_class objects class id) (is_listed all id) (sym (listed_filtered (is_in_class objects class) all id) ∙ listed)).0;
       lost = λ id has lacks.
           let its : is_in_class objects class id ≡ true = sym (listed_in_class objects class id) ∙ has in
           let unlisted : is_listed found id ≡ false = ap (λ ids. is_listed ids id) (sym (append-nil found)) ∙ lacks in

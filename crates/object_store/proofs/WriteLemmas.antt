@@ -11,6 +11,7 @@ use Rattle.std.proofs.Math.Seq.{get_or-append_seam}
 use Rattle.std.proofs.lemmas.List.{length-map, get_or-set_same, get_or-set_other, length-set}
 use Rattle.std.proofs.lemmas.Option.{same_Some, none-some, slice_get_within}
 use Rattle.exact.proofs.Lists.{bytes_eq_refl}
+use Rattle.exact.proofs.Naturals.{equal_if_same}
 use Rattle.tick_set.specs.declared.spans.TheConstants.{LAST_TICK}
 use Rattle.motion.specs.Timeline.{Epoch, put, restored, AreBegunBy, TakesBack}
 use Rattle.motion.proofs.CallerLemmas.{AreBegunBy-later}
@@ -133,9 +134,6 @@ room_class (Some k) n room = (k, refl, room)
 other : (m n : ℕ) → m ≢ n → (m == n) ≡ false
 other m n h = grind (arith, nat_tests)
 
-own : (m n : ℕ) → m ≡ n → (m == n) ≡ true
-own m n h = grind (arith, nat_tests)
-
 members_with : (members : List (List ℕ)) (s : Contents) (number : ℕ) (o : StoredObject) → AreMembers members s → number < length s.classes → o.class ≡ number → (last : ℕ) → AreMembers (with_member members number (length s.objects)) (record { classes = s.classes; objects = s.objects ++ o ∷ []; last_tick = last })
 members_with members s number o are within class last = record {
   count = length-set members number (get_or members number [] ++ length s.objects ∷ []) ∙ are.count;
@@ -156,7 +154,7 @@ members_with members s number o are within class last = record {
                   ap (λ m. get_or (with_member members number (length s.objects)) m []) same
                   ∙ get_or-set_same members number (get_or members number [] ++ length s.objects ∷ []) [] (omega (arith, are.count))
                   ∙ ap (λ ids. ids ++ length s.objects ∷ []) (are.each number within)
-                  ∙ sym (ids-append s.objects o number ∙ ap (λ b. ids_in s.objects number ++ cond b (length s.objects ∷ []) []) (own o.class number class))
+                  ∙ sym (ids-append s.objects o number ∙ ap (λ b. ids_in s.objects number ++ cond b (length s.objects ∷ []) []) (equal_if_same o.class number class))
                   ∙ ap (ids_in (s.objects ++ o ∷ [])) (sym same)
             ]
       ];
@@ -233,7 +231,7 @@ fewer s members front o last are ends within = record {
               | inr equal ↦
                   let same : n ≡ o.class = omega arith in
                   let all : get_or members o.class [] ≡ ids_in front o.class ++ length front ∷ [] =
-                  are.each o.class within ∙ ap (λ os. ids_in os o.class) ends ∙ ids-append front o o.class ∙ ap (λ b. ids_in front o.class ++ cond b (length front ∷ []) []) (own o.class o.class refl)
+                  are.each o.class within ∙ ap (λ os. ids_in os o.class) ends ∙ ids-append front o o.class ∙ ap (λ b. ids_in front o.class ++ cond b (length front ∷ []) []) (equal_if_same o.class o.class refl)
                   in
                   ap (λ m. get_or (without_member members o.class) m []) same
                   ∙ get_or-set_same members o.class (take (length (get_or members o.class []) - 1) (get_or members o.class [])) [] (omega (arith, are.count))

@@ -8,27 +8,21 @@ use Rattle.case_table.specs.Comparison.{compares, is_at_most}
 use Rattle.case_table.specs.declared.compare.Op.{Op}
 use Rattle.case_table.specs.declared.compare.Op.TheVariants.{Lt, Le, Eq, Ne, Ge, Gt}
 use Rattle.exact.proofs.Ring.{part, number, sum, difference, product, opposite, same}
+use Rattle.exact.proofs.Integers.{less_by, line_later, not_negative, opposite_above, opposite_rise, product_least, sum_above_by_first, sum_above_by_second}
 use Rattle.geometry.specs.Distance.{distance_compares}
 use Rattle.geometry.specs.Plane.{square}
 use Rattle.linear_crossing.proofs.Apart.{apart}
 use Rattle.linear_crossing.specs.Moving.{distance_after, position_after}
 use Rattle.linear_crossing.specs.Relative.{Relative, squared_distance_at}
 use Rattle.linear_crossing.specs.declared.quad.Line.{Line}
-use Rattle.distance_crossing.proofs.Signs.{product_above, product_least, square_least}
+use Rattle.distance_crossing.proofs.Signs.{product_above, square_least}
 use Rattle.pairs.specs.Reach.{IsReached}
 use Rattle.pairs.specs.declared.reach.Reach.{Reach}
 use Rattle.atoms.specs.Routes.{IsPast}
 
 -- ---- a coordinate that begins at x and changes by d at each tick
-later : (x d : ℤ) (k m : ℕ) → x +ℤ d *ℤ pos (k + m) ≡ (x +ℤ d *ℤ pos k) +ℤ d *ℤ pos m
-later x d k m =
-    same (sum (part x) (product (part d) (number (k + m)))) (sum (sum (part x) (product (part d) (number k))) (product (part d) (number m))) (omega arith)
-
 rise_least : (d : ℤ) (k : ℕ) → pos 0 ≤ℤ d → pos 0 ≤ℤ (d *ℤ pos k)
 rise_least d k p = product_least d (pos k) p (omega (arith, ints))
-
-opposite_rise : (d : ℤ) (k : ℕ) → neg_ℤ d *ℤ pos k ≡ neg_ℤ (d *ℤ pos k)
-opposite_rise d k = same (product (opposite (part d)) (number k)) (opposite (product (part d) (number k))) (omega arith)
 
 fall_most : (d : ℤ) (k : ℕ) → d <ℤ pos 0 → (d *ℤ pos k) ≤ℤ pos 0
 fall_most d k n =
@@ -40,7 +34,7 @@ fall_most d k n =
 between : (x d : ℤ) (k m : ℕ) →
     ((x ≤ℤ (x +ℤ d *ℤ pos k)) × ((x +ℤ d *ℤ pos k) ≤ℤ (x +ℤ d *ℤ pos (k + m)))) ⊎ (((x +ℤ d *ℤ pos (k + m)) ≤ℤ (x +ℤ d *ℤ pos k)) × ((x +ℤ d *ℤ pos k) ≤ℤ x))
 between x d k m =
-    let is = later x d k m in
+    let is = line_later x d k m in
     by_lt_z d (pos 0)
     (λ n. let first = fall_most d k n in let second = fall_most d m n in inr (omega (arith, ints, is, first, second), omega (arith, ints, first)))
     (λ p. let first = rise_least d k p in let second = rise_least d m p in inl (omega (arith, ints, first), omega (arith, ints, is, first, second)))
@@ -71,9 +65,6 @@ squares_apart : (c v : ℤ) → (v -ℤ c) *ℤ (v +ℤ c) ≡ square v -ℤ squ
 squares_apart c v =
     same (product (difference (part v) (part c)) (sum (part v) (part c))) (difference (product (part v) (part v)) (product (part c) (part c))) (omega arith)
 
-less_by : (a b : ℤ) → pos 0 <ℤ (b -ℤ a) → a <ℤ b
-less_by a b l = omega (arith, ints)
-
 square_above : (c v : ℤ) → pos 0 ≤ℤ c → c <ℤ v → square c <ℤ square v
 square_above c v p l =
     let P : ℤ → Type 0 = λ z. pos 0 <ℤ z in
@@ -82,9 +73,6 @@ square_above c v p l =
 opposite_square : (v : ℤ) → square (neg_ℤ v) ≡ square v
 opposite_square v = same (product (opposite (part v)) (opposite (part v))) (product (part v) (part v)) (omega arith)
 
-opposite_above : (c v : ℤ) → v <ℤ neg_ℤ c → c <ℤ neg_ℤ v
-opposite_above c v l = omega (arith, ints)
-
 square_below : (c v : ℤ) → pos 0 ≤ℤ c → v <ℤ neg_ℤ c → square c <ℤ square v
 square_below c v p l =
     let P : ℤ → Type 0 = λ z. square c <ℤ z in
@@ -92,12 +80,6 @@ square_below c v p l =
 
 square_past : (c v : ℤ) → pos 0 ≤ℤ c → IsPast c v → square c <ℤ square v
 square_past c v p h = elim h [ inl above ↦ square_above c v p above | inr below ↦ square_below c v p below ]
-
-sum_above_by_first : (s u v : ℤ) → s <ℤ u → pos 0 ≤ℤ v → s <ℤ (u +ℤ v)
-sum_above_by_first s u v l p = omega (arith, ints)
-
-sum_above_by_second : (s u v : ℤ) → s <ℤ v → pos 0 ≤ℤ u → s <ℤ (u +ℤ v)
-sum_above_by_second s u v l p = omega (arith, ints)
 
 -- past the other on one axis, it is further away than that
 pub far_by_first : (c u v : ℤ) → pos 0 ≤ℤ c → IsPast c u → square c <ℤ (square u +ℤ square v)
@@ -179,9 +161,6 @@ above_none Eq s v e l = grind (arith, ints, nat_tests)
 above_none Ne s v e l = absurd (let f : false ≡ true = e in cc)
 above_none Ge s v e l = absurd (let f : false ≡ true = e in cc)
 above_none Gt s v e l = absurd (let f : false ≡ true = e in cc)
-
-not_negative : (c : ℤ) → int_le (pos 0) c ≡ true → pos 0 ≤ℤ c
-not_negative c e = grind (arith, ints)
 
 -- a number below 0 is at no distance
 none_below : (op : Op) (c v : ℤ) → is_at_most op ≡ true → int_le (pos 0) c ≡ false → distance_compares op c v ≡ false

@@ -11,6 +11,7 @@ use Rattle.tick_set.specs.Ticks.{within}
 use Rattle.tick_set.proofs.Between.{within_parts}
 use Rattle.case_table.specs.declared.compare.Op.{Op}
 use Rattle.exact.proofs.Ring.{part, sum, difference, product, same}
+use Rattle.exact.proofs.Naturals.{steps_within}
 use Rattle.fixed_point.specs.declared.number.Point.{Point}
 use Rattle.geometry.specs.Distance.{distance_compares}
 use Rattle.geometry.specs.Plane.{square, squared_distance}
@@ -205,12 +206,6 @@ own_keys domains ids movers are own up =
 pub each_twice : (start now next i : ℕ) → now ≤ start + i * 2 → next ≤ now + 2 → next ≤ start + (i + 1) * 2
 each_twice start now next i most more = omega (arith, most, more)
 
-pub within_all : (start now i n c : ℕ) → now ≤ start + i * c → i ≤ n → now ≤ start + n * c
-within_all start now i n c most less =
-    let whole : n ≡ i + (n - i) = omega arith in
-    let more : n * c ≡ i * c + (n - i) * c = ap (λ z. z * c) whole ∙ grind arith in
-    omega (arith, most, more)
-
 pub one_round : (start before now next i n : ℕ) → before ≤ start + i * (1 + n * 2) → now ≡ before + 1 → next ≤ now + n * 2 → next ≤ start + (i + 1) * (1 + n * 2)
 one_round start before now next i n most step more =
     let whole : (i + 1) * (1 + n * 2) ≡ i * (1 + n * 2) + (1 + n * 2) = grind arith in
@@ -218,7 +213,7 @@ one_round start before now next i n most step more =
 
 finished : (start first now i m n k : ℕ) → first ≤ start + n → now ≤ first + i * (1 + k * 2) → i ≤ m → k ≡ n → now ≤ start + (n + m * (1 + 2 * n))
 finished start first now i m n k look most less same =
-    let all = within_all first now i m (1 + k * 2) most less in
+    let all = steps_within first now i m (1 + k * 2) most less in
     let whole : m * (1 + k * 2) ≡ m * (1 + 2 * n) = ap (λ z. m * (1 + z * 2)) same ∙ grind arith in
     omega (arith, look, all, whole)
 

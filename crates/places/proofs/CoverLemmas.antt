@@ -10,6 +10,7 @@ use Rattle.places.specs.declared.patch.Patch.{Patch}
 use Rattle.places.specs.declared.boxes.TheConstants.{BLOCK}
 use Rattle.places.specs.Boxes.{covers_with, patch_at, AreArranged, AreCovers, AreSlots}
 use Rattle.places.specs.Patches.{joined, joined_extent, empty_patch, HasExtent, HasPatch}
+use Rattle.exact.proofs.Naturals.{same_or_other}
 
 -- what the code reads where there is no patch
 abbrev pub zeros : Patch
@@ -36,12 +37,6 @@ has_itself a = record { x = record { least = omega (arith, ints); greatest = ome
 -- the covers, that of a block with one patch more
 abbrev pub widened : List Patch → ℕ → Patch → List Patch
 widened covers block patch = set covers block (joined (patch_at covers block) patch)
-
-pub same_or_other : (n m : ℕ) → (n ≡ m) ⊎ (n ≡ m → ⊥)
-same_or_other zero zero = inl refl
-same_or_other zero (suc m) = inr (λ h. omega arith)
-same_or_other (suc n) zero = inr (λ h. omega arith)
-same_or_other (suc n) (suc m) = elim (same_or_other n m) [ inl h ↦ inl (omega arith) | inr h ↦ inr (λ e. h (omega arith)) ]
 
 pub true_or_false : (b : Bool) → (b ≡ true) ⊎ (b ≡ false)
 true_or_false true = inl refl

@@ -14,7 +14,8 @@ use Rattle.places.specs.declared.patch.Patch.{Patch}
 use Rattle.places.specs.declared.boxes.TheConstants.{BLOCK}
 use Rattle.places.specs.Boxes.{numbers_near, near_below, patch_at, AddsFound, AreArranged, AreFound, IsNear}
 use Rattle.places.specs.Patches.{meets, HasPatch}
-use Rattle.places.proofs.CoverLemmas.{at_end, below_or_from, block_of, same_or_other, true_or_false}
+use Rattle.places.proofs.CoverLemmas.{at_end, below_or_from, block_of, true_or_false}
+use Rattle.exact.proofs.Naturals.{same_or_other}
 
 -- what an area doesn't meet, it meets no part of
 pub parted : (cover patch area : Patch) → HasPatch cover patch → meets cover area ≡ false → meets patch area ≡ false

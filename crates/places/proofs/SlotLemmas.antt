@@ -9,7 +9,8 @@ use Rattle.places.specs.declared.patch.Patch.{Patch}
 use Rattle.places.specs.declared.boxes.TheConstants.{BLOCK}
 use Rattle.places.specs.Boxes.{patch_at, AreArranged, AreSlots, AreSlotsBut, StandsFrom}
 use Rattle.places.specs.Patches.{joined, empty_patch, HasPatch}
-use Rattle.places.proofs.CoverLemmas.{below_or_from, block_of, has_new, keeps, same_or_other, slot_covered, widened}
+use Rattle.places.proofs.CoverLemmas.{below_or_from, block_of, has_new, keeps, slot_covered, widened}
+use Rattle.exact.proofs.Naturals.{same_or_other}
 
 -- after a permutation of the slots from n on, what had none of these has its slot, and the others stand there
 pub permuted : (n : ℕ) (slots numbers sorted : List ℕ) → AreSlots slots numbers → n ≤ length numbers → IsPermutation (drop n numbers) sorted

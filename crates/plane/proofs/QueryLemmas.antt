@@ -9,10 +9,10 @@ use Rattle.std.proofs.lemmas.Bool.{and_parts, false≢true, or_cases, or_left, o
 use Rattle.std.proofs.lemmas.List.Concat.{flat_map_single}
 use Rattle.std.proofs.lemmas.List.Elements.{All-head, All-tail}
 use Rattle.exact.proofs.Lists.{bytes_eq_refl, bytes_eq_true}
+use Rattle.exact.proofs.Truths.{same_truth}
 use Rattle.case_table.specs.Comparison.{compares}
 use Rattle.case_table.specs.declared.compare.Op.TheVariants as ops
 use Rattle.tick_set.specs.Ticks.{between}
-use Rattle.tick_set.proofs.Between.{same_test}
 use Rattle.motion.specs.declared.cell.Cell.{Cell}
 use Rattle.history.specs.Catalog.{ids_of}
 use Rattle.history.specs.History.{cells_at}
@@ -87,7 +87,7 @@ any_at test id (i ∷ ids) (suc k) d l at h =
 one_binding : (test : List ℕ → Bool) (ids : List ℕ) (k d : ℕ) → k < length ids →
     list_any (λ b. bytes_eq (slice_index b 0 ∷ []) (get_or ids k d ∷ []) && test b) (map alone ids) ≡ test (get_or ids k d ∷ [])
 one_binding test ids k d l =
-    same_test (list_any (λ b. bytes_eq (slice_index b 0 ∷ []) (get_or ids k d ∷ []) && test b) (map alone ids)) (test (get_or ids k d ∷ []))
+    same_truth (list_any (λ b. bytes_eq (slice_index b 0 ∷ []) (get_or ids k d ∷ []) && test b) (map alone ids)) (test (get_or ids k d ∷ []))
     (any_gives test (get_or ids k d) ids) (any_at test (get_or ids k d) ids k d l refl)
 
 -- ---- rows

@@ -1,7 +1,7 @@
 -- For this crate and for the crates above: the rows of values between two bounds are told by the candidates.
-use Rattle.std.proofs.Common.{◌≡◌, ℕ, zero, suc, ◌+◌, ◌-◌, ◌<◌, ◌≤◌, ℤ, Bool, true, false, ◌&&◌, Option, None, Some, List, [], ◌∷◌, map, get_or, refl, ap, ◌∙◌, arith}
+use Rattle.std.proofs.Common.{◌≡◌, ℕ, ◌+◌, ◌-◌, ◌≤◌, ℤ, Bool, true, false, ◌&&◌, Option, None, Some, List, [], ◌∷◌, map, get_or, refl, ap, ◌∙◌, arith}
 use Rattle.std.specs.Prelude.{All, int_lt, int_le, slice_index, if◌then◌else◌}
-use Rattle.std.specs.List.{filter, range_with_len}
+use Rattle.std.specs.List.{filter}
 use Rattle.std.specs.Option.{option_map_or}
 use Rattle.std.proofs.lemmas.Int.{ints}
 use Rattle.std.proofs.lemmas.Bool.Decides.{nat_tests}
@@ -15,18 +15,13 @@ use Rattle.plane.specs.Recorded.{Recorded}
 use Rattle.plane.specs.Boxes.{Grid, candidates, is_candidate}
 use Rattle.plane.specs.Rows.{is_in_range, rows_among, rows_in_range, IsCovered}
 use Rattle.plane.proofs.BoxLemmas.{not_in_range}
+use Rattle.exact.proofs.Items.{none_in_range}
 
 -- ---- no ticks, no row
 
-none_listed : (p : ℕ → Bool) (n a : ℕ) → ((t : ℕ) → a ≤ t → t < a + n → p t ≡ false) → filter p (range_with_len a n) ≡ []
-none_listed p zero a none = refl
-none_listed p (suc n) a none =
-    ap (λ b. if b then a ∷ filter p (range_with_len (a + 1) n) else filter p (range_with_len (a + 1) n)) (none a (omega arith) (omega arith))
-    ∙ none_listed p n (a + 1) (λ t from below. none t (omega arith) (omega arith))
-
 none_there : (p : ℕ → Bool) (from e : ℕ) → ((t : ℕ) → from ≤ t → t ≤ e → p t ≡ false) → listed p from e ≡ []
 unfolding listed between
-none_there p from e none = none_listed p (e + 1 - from) from (λ t after before. none t after (omega arith))
+none_there p from e none = none_in_range p (e + 1 - from) from (λ t after before. none t after (omega arith))
 
 rowless : (holds : List ℕ → ℕ → Bool) (from e id : ℕ) → ((t : ℕ) → from ≤ t → t ≤ e → holds (id ∷ []) t ≡ false) →
     has_ticks (row_where holds from e (id ∷ [])).runs ≡ false

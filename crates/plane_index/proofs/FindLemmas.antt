@@ -9,6 +9,8 @@ use Rattle.fixed_point.specs.declared.number.TheConstants.{FIX_LIMIT}
 use Rattle.tick_set.specs.Ticks.{between}
 use Rattle.plane.specs.Boxes.{Grid, Strips, lies_on, slice_first, slice_last, slice_meets, strips_meet}
 use Rattle.plane_index.specs.Held.{kept_strips, no_strips}
+use Rattle.exact.proofs.Truths.{or_false}
+use Rattle.exact.proofs.Naturals.{test_at_most}
 
 -- ---- one of the slices
 
@@ -49,10 +51,6 @@ all_same p q (suc n) a same =
 pub any_same : (p q : ℕ → Bool) (n : ℕ) → ((j : ℕ) → j < n → p j ≡ q j) → list_any p (between 0 n) ≡ list_any q (between 0 n)
 unfolding between
 any_same p q n same = all_same p q (n - 0) 0 (λ j from below. same j (omega arith))
-
-pub or_false : (b : Bool) → (b || false) ≡ b
-or_false true = refl
-or_false false = refl
 
 -- where none of the others passes
 pub any_up_to : (p : ℕ → Bool) (n more : ℕ) → ((j : ℕ) → n ≤ j → p j ≡ false) → list_any p (between 0 (n + more)) ≡ list_any p (between 0 n)
@@ -141,9 +139,6 @@ met g from e first last s begins ends above below = grind (arith, nat_tests)
 not_from : (first j : ℕ) (b : Bool) → j < first → (nat_le first j && b) ≡ false
 not_from first j b below = grind (arith, nat_tests)
 
-is_from : (first s : ℕ) → first ≤ s → nat_le first s ≡ true
-is_from first s from = grind (arith, nat_tests)
-
 regroup : (a b c d : Bool) → c ≡ true → ((a || b) || d) ≡ (a || (b || (c && d)))
 regroup a b c d is = grind (arith, nat_tests)
 
@@ -156,7 +151,7 @@ pub one_more_slice : (now old : Bool) (p : ℕ → Bool) (first s : ℕ) → fir
     (now || p s) ≡ (old || list_any (λ j. nat_le first j && p j) (between 0 (s + 1)))
 one_more_slice now old p first s from is =
     ap (λ b. b || p s) is
-    ∙ regroup old (list_any (λ j. nat_le first j && p j) (between 0 s)) (nat_le first s) (p s) (is_from first s from)
+    ∙ regroup old (list_any (λ j. nat_le first j && p j) (between 0 s)) (nat_le first s) (p s) (test_at_most first s from)
     ∙ ap (λ b. old || b) (sym (any_more (λ j. nat_le first j && p j) s))
 
 pub nothing_found : (f : ℕ → ℕ) (p : ℕ → Bool) → [] ≡ map f (filter p (between 0 0))

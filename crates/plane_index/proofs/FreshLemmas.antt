@@ -4,9 +4,6 @@ use Rattle.std.specs.Prelude.{◌==◌, if◌then◌else◌}
 use Rattle.std.proofs.lemmas.Bool.{cases_lt}
 use Rattle.std.proofs.lemmas.Bool.Decides.{nat_tests}
 
-pub one_more : (b : Bool) (k place : ℕ) → ((b || nat_lt k place) || (k == place)) ≡ (b || nat_lt k (place + 1))
-one_more b k place = grind (arith, nat_tests)
-
 pub own : (b : Bool) (place : ℕ) → (b || nat_lt place place) ≡ b
 own b place = grind (arith, nat_tests)
 
@@ -21,9 +18,6 @@ one_read false true same = absurd (grind (arith, nat_tests, same))
 
 pub apart_of : (k place : ℕ) → (k == place) ≡ false → k < place + 1 → k < place
 apart_of k place apart below = grind (arith, nat_tests)
-
-pub same_of : (k place : ℕ) → (k == place) ≡ true → k ≡ place
-same_of k place is = grind (arith, nat_tests)
 
 -- ---- places that are left out, which are fresh already
 

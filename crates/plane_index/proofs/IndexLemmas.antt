@@ -1,9 +1,8 @@
 -- Indexes by their fields.
-use Rattle.std.proofs.Common.{◌≡◌, ℕ, zero, suc, ◌+◌, ◌-◌, ◌<◌, ◌≤◌, ℤ, unsigned_abs, Bool, true, false, ◌&&◌, nat_lt, Option, None, Some, is_some, List, [], ◌∷◌, length, map, refl, sym, ap, ◌∙◌, inl, inr, arith}
+use Rattle.std.proofs.Common.{◌≡◌, ℕ, zero, suc, ◌+◌, ◌-◌, ◌<◌, ◌≤◌, ℤ, unsigned_abs, Bool, true, false, ◌&&◌, Option, None, Some, is_some, List, [], ◌∷◌, length, map, refl, sym, ap, ◌∙◌, inl, inr, arith}
 use Rattle.std.specs.Prelude.{int_lt, slice_index, slice_index_or, unwrap_or, if◌then◌else◌}
 use Rattle.std.specs.List.{list_any, filter, range_with_len}
 use Rattle.std.proofs.lemmas.Bool.{cases_lt, false≢true}
-use Rattle.std.proofs.lemmas.Bool.Decides.{nat_tests}
 use Rattle.std.proofs.lemmas.List.{get_or_past}
 use Rattle.std.proofs.lemmas.List.FromFn.{length-map-range_with_len}
 use Rattle.tick_set.specs.Ticks.{between}
@@ -18,9 +17,6 @@ use Rattle.plane_index.specs.States.{strips_at}
 use Rattle.plane_index.specs.Told.{recorded_by}
 use Rattle.plane_index.specs.declared.state.State.{State}
 use Rattle.plane_index.proofs.FindLemmas.{any_same, by_places, kept_lie}
-
-less : (s n : ℕ) → nat_lt s n ≡ true → s < n
-less s n h = grind (arith, nat_tests)
 
 -- ---- a list by places
 

@@ -1,5 +1,5 @@
 -- Values that move along lines.
-use Rattle.std.proofs.Common.{◌≡◌, ℕ, zero, suc, ◌+◌, ◌-◌, ◌*◌, ◌<◌, ◌≤◌, ⊎_elim, ℤ, pos, ◌+ℤ◌, ◌-ℤ◌, ◌*ℤ◌, ◌<ℤ◌, ◌≤ℤ◌, neg_ℤ, int_le, unsigned_abs, nat_le, nat_lt, Bool, true, false, ◌&&◌, subst, sym, ap, ◌∙◌, inl, inr, arith}
+use Rattle.std.proofs.Common.{◌≡◌, ℕ, suc, ◌+◌, ◌-◌, ◌*◌, ◌<◌, ◌≤◌, ⊎_elim, ℤ, pos, ◌+ℤ◌, ◌-ℤ◌, ◌*ℤ◌, ◌<ℤ◌, ◌≤ℤ◌, neg_ℤ, int_le, unsigned_abs, nat_le, nat_lt, Bool, true, false, ◌&&◌, subst, sym, ap, ◌∙◌, inl, inr, arith}
 use Rattle.std.specs.Int.{div_ceil}
 use Rattle.std.proofs.Math.Nat.{mul-le-mul_left}
 use Rattle.std.proofs.lemmas.Bool.{cases_Bool, cases_lt}
@@ -28,21 +28,6 @@ rounded_up r s f k bound rises some is e =
     let P : ℕ → Type 0 = λ g. (s ≤ g * r) × (g * r < s + r) in
     let b = subst P (sym e) (div_ceil_times s r rises) in
     above_bound bound s (r * k) some is ∙ reached s r f k b.0 b.1
-
--- where a product reaches the bound, the quotient is no larger than its factor
-pub rounded_few : (r s f n : ℕ) → 0 < r → s ≤ r * n → f ≡ div_ceil s r → f ≤ n
-rounded_few r s f n rises most e =
-    let P : ℕ → Type 0 = λ g. (s ≤ g * r) × (g * r < s + r) in
-    let b = subst P (sym e) (div_ceil_times s r rises) in
-    ⊎_elim
-    (λ (l : n < f). let far : r * suc n ≤ r * f = mul-le-mul_left r l in grind (arith, b, far, most))
-    (λ (l : f ≤ n). l)
-    (cases_lt n f)
-
--- a product that isn't 0 has no factor that is
-pub factor_above : (r s n : ℕ) → 0 < s → s ≤ r * n → 0 < r
-factor_above zero s n some most = omega (arith, some, most)
-factor_above (suc r) s n some most = omega arith
 
 -- a product that doesn't reach the bound at the last tick doesn't reach it before
 pub never_reached : (r s last k : ℕ) (bound : ℤ) → pos 0 <ℤ bound → s ≡ unsigned_abs bound → r * last < s → k ≤ last → int_le bound (pos (r * k)) ≡ nat_le (last + 1) k

@@ -1,8 +1,7 @@
 -- The places that are marked, slice by slice.
-use Rattle.std.proofs.Common.{◌≡◌, ℕ, ◌+◌, ◌-◌, ◌<◌, ◌≤◌, Bool, true, false, ◌&&◌, ◌||◌, nat_le, List, [], replicate, take, ◌++◌, sym, ap, ◌∙◌, inl, inr, arith}
+use Rattle.std.proofs.Common.{◌≡◌, ℕ, ◌+◌, ◌-◌, ◌<◌, ◌≤◌, Bool, false, ◌&&◌, ◌||◌, nat_le, List, [], replicate, take, ◌++◌, sym, ap, ◌∙◌, inl, inr, arith}
 use Rattle.std.specs.List.{list_any}
 use Rattle.std.proofs.lemmas.Bool.{cases_lt}
-use Rattle.std.proofs.lemmas.Bool.Decides.{nat_tests}
 use Rattle.std.proofs.lemmas.List.{get_or-replicate, take_all}
 use Rattle.tick_set.specs.Ticks.{between}
 use Rattle.plane.specs.Boxes.{Grid, slice_first, slice_last, slice_meets, strips_meet}
@@ -13,6 +12,7 @@ use Rattle.plane_index.specs.Lines.{strips_as}
 use Rattle.plane_index.specs.declared.cover.Cover.{Cover}
 use Rattle.plane_index.specs.declared.state.State.{State}
 use Rattle.plane_index.proofs.FindLemmas.{any_same, any_up_to, met, no_more_met, not_yet_met}
+use Rattle.exact.proofs.Naturals.{above_fails_nat_test, test_at_most}
 
 -- the first and the last slice with a tick of the window
 pub record AreEnds (g : Grid) (from e first last : ℕ) : Type 0 where
@@ -22,17 +22,11 @@ pub record AreEnds (g : Grid) (from e first last : ℕ) : Type 0 where
   pub ends : e ≤ slice_last g last
   pub inside : last < SLICES
 
-from_first : (n m : ℕ) → n ≤ m → nat_le n m ≡ true
-from_first n m h = grind (arith, nat_tests)
-
-before_first : (n m : ℕ) → m < n → nat_le n m ≡ false
-before_first n m h = grind (arith, nat_tests)
-
 same_slices : (g : Grid) (from e first last j : ℕ) → AreEnds g from e first last → j < last + 1 → nat_le first j ≡ slice_meets g from e j
 same_slices g from e first last j are below =
     elim (cases_lt j first) [
-      | inl before ↦ before_first first j before ∙ sym (not_yet_met g from e first j are.begins before)
-      | inr after ↦ from_first first j (omega (arith, after)) ∙ sym (met g from e first last j are.begun are.ending (omega (arith, after)) (omega arith))
+      | inl before ↦ above_fails_nat_test first j before ∙ sym (not_yet_met g from e first j are.begins before)
+      | inr after ↦ test_at_most first j (omega (arith, after)) ∙ sym (met g from e first last j are.begun are.ending (omega (arith, after)) (omega arith))
     ]
 
 abbrev meets_there : Grid → ℕ → ℕ → Cover → List State → ℕ → ℕ → Bool

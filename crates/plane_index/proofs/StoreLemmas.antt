@@ -1,6 +1,6 @@
 -- What a store tells of an object is what its timeline tells, and what that tells of a slice its last epoch tells.
 use Rattle.std.proofs.Common.{◌≡◌, ℕ, ℤ, false, ◌+◌, ◌-◌, ◌≤◌, max, Option, None, Some, List, [], ◌∷◌, length, refl, sym, ap, ◌∙◌, arith}
-use Rattle.std.specs.Prelude.{All, IfSome, option_and_then, slice_get, unwrap_or}
+use Rattle.std.specs.Prelude.{All, option_and_then, slice_get, unwrap_or}
 use Rattle.std.specs.List.{filter_map}
 use Rattle.std.specs.Option.{option_map, option_map_or}
 use Rattle.std.proofs.lemmas.List.Elements.{All-cons, All-nil}
@@ -107,7 +107,3 @@ lies_on_line epochs p vector attribute t lo hi value in_force has is =
     (ap (λ (e : Option Epoch). lies_in e attribute lo hi t) in_force
     ∙ ap (λ (cell : Option Cell). option_map_or (is_between lo hi) (number_of_cell cell t) false) (sym (same_cell p.cells attribute) ∙ has)
     ∙ ap (is_between lo hi) is)
-
-pub if_some_map : {A : Type 0} (o : Option A) (P Q : A → Type 0) → ((a : A) → P a → Q a) → IfSome o P → IfSome o Q
-if_some_map (Some a) P Q f h = f a h
-if_some_map None P Q f h = tt

@@ -11,6 +11,7 @@ use Rattle.std.proofs.lemmas.List.Elements.{Contains-append_right, Contains-get_
 use Rattle.std.proofs.lemmas.List.Sorted.{IsPermutation-reverse, Contains-permutation}
 use Rattle.indexmap.proofs.ReorderLemmas.{map-reverse}
 use Rattle.exact.proofs.Lists.{list_all_from, list_all_gives}
+use Rattle.exact.proofs.Integers.{at_most_passes}
 use Rattle.fixed_point.specs.declared.number.Point.{Point}
 use Rattle.geometry.specs.Plane.{point}
 use Rattle.polygon.specs.Bounds.{is_in_box, AreBounds}
@@ -46,22 +47,19 @@ below_both m a b h = (grind (arith, ints, nat_tests), grind (arith, ints, nat_te
 above_both : (m a b : ℤ) → int_max a b ≤ℤ m → (a ≤ℤ m) × (b ≤ℤ m)
 above_both m a b h = (grind (arith, ints, nat_tests), grind (arith, ints, nat_tests))
 
-tested : (a b : ℤ) → a ≤ℤ b → int_le a b ≡ true
-tested a b h = grind (arith, ints, nat_tests)
-
 below_all : (f : Point → ℤ) (m a : ℤ) (others : List Point) → m ≤ℤ fold int_min a (map f others) → (m ≤ℤ a) × (list_all (λ q. int_le m (f q)) others ≡ true)
 below_all f m a [] h = (h, refl)
 below_all f m a (q ∷ others) h =
     let later = below_all f m (int_min a (f q)) others h in
     let both = below_both m a (f q) later.0 in
-    (both.0, both_true (tested m (f q) both.1) later.1)
+    (both.0, both_true (at_most_passes m (f q) both.1) later.1)
 
 above_all : (f : Point → ℤ) (m a : ℤ) (others : List Point) → fold int_max a (map f others) ≤ℤ m → (a ≤ℤ m) × (list_all (λ q. int_le (f q) m) others ≡ true)
 above_all f m a [] h = (h, refl)
 above_all f m a (q ∷ others) h =
     let later = above_all f m (int_max a (f q)) others h in
     let both = above_both m a (f q) later.0 in
-    (both.0, both_true (tested (f q) m both.1) later.1)
+    (both.0, both_true (at_most_passes (f q) m both.1) later.1)
 
 itself : (r a : ℤ) → r ≡ a → r ≤ℤ a
 itself r a e = omega (arith, ints, e)
@@ -82,7 +80,7 @@ least_is : (f : Point → ℤ) (first : Point) (others : List Point) (r : ℤ) �
 least_is f first others r e =
     let below = below_all f r (f first) others (itself r (fold int_min (f first) (map f others)) e) in
     record {
-      bound = both_true (tested r (f first) below.0) below.1;
+      bound = both_true (at_most_passes r (f first) below.0) below.1;
       found = reached (f first) r (map f others) (fold-int_min_reached (f first) (map f others) r e);
     }
 
@@ -90,7 +88,7 @@ greatest_is : (f : Point → ℤ) (first : Point) (others : List Point) (r : ℤ
 greatest_is f first others r e =
     let above = above_all f r (f first) others (itself (fold int_max (f first) (map f others)) r (sym e)) in
     record {
-      bound = both_true (tested (f first) r above.0) above.1;
+      bound = both_true (at_most_passes (f first) r above.0) above.1;
       found = reached (f first) r (map f others) (fold-int_max_reached (f first) (map f others) r e);
     }
 

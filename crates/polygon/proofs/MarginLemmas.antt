@@ -1,5 +1,5 @@
 -- The corners of a box and an edge: whether all are on its left, or some isn't on its right, is told by a margin.
-use Rattle.std.proofs.Common.{◌≡◌, ℕ, suc, ◌+◌, ◌*◌, ◌≤◌, Bool, true, false, not, ◌&&◌, ℤ, pos, negsuc, ◌+ℤ◌, ◌-ℤ◌, ◌*ℤ◌, neg_ℤ, ◌≤ℤ◌, unsigned_abs, List, [], ◌∷◌, ◌⊎◌, inl, inr, refl, ap, sym, ◌∙◌, arith}
+use Rattle.std.proofs.Common.{◌≡◌, ℕ, suc, ◌+◌, ◌*◌, ◌≤◌, Bool, true, not, ◌&&◌, ℤ, pos, negsuc, ◌+ℤ◌, ◌-ℤ◌, ◌*ℤ◌, neg_ℤ, ◌≤ℤ◌, unsigned_abs, List, [], ◌∷◌, ◌⊎◌, inl, inr, refl, ap, sym, ◌∙◌, arith}
 use Rattle.std.specs.Prelude.{int_le, int_lt}
 use Rattle.std.specs.List.{list_all, list_any}
 use Rattle.std.specs.Cmp.Derive.{both_true}
@@ -9,16 +9,13 @@ use Rattle.std.proofs.lemmas.Int.{ints, unsigned_abs-mul}
 use Rattle.std.proofs.lemmas.Nat.{mul-le}
 use Rattle.exact.proofs.Lists.{list_all_from, list_all_gives, not-list_any}
 use Rattle.exact.proofs.Ring.{part, number, sum, difference, opposite, product, same, at_most}
+use Rattle.exact.proofs.Truths.{not_not, same_truth}
+use Rattle.exact.proofs.Integers.{at_most_from_int_test, within_size}
 use Rattle.fixed_point.specs.declared.number.Point.{Point}
 use Rattle.geometry.specs.Margin.{corners, is_inside_by, is_left_by}
 use Rattle.geometry.specs.Plane.{cross, is_right_of, point}
 use Rattle.geometry.specs.Polygon.{counterclockwise_points, edges, is_inside}
 use Rattle.polygon.proofs.TickLemmas.{within_by_0}
-
-agree : (s t : Bool) → (s ≡ true → t ≡ true) → (t ≡ true → s ≡ true) → s ≡ t
-agree true t h k = sym (h refl)
-agree false true h k = k refl
-agree false false h k = refl
 
 -- ---- how far a corner moves the cross product: u and v are the margin times the edge's way along the axes
 south_west : (m ux uy rx ry : ℤ) → ux *ℤ (ry -ℤ m) -ℤ uy *ℤ (rx -ℤ m) ≡ (ux *ℤ ry -ℤ uy *ℤ rx) -ℤ m *ℤ ux +ℤ m *ℤ uy
@@ -138,17 +135,14 @@ least_past c u v w z (inr e) (inr f) at_sw at_se at_ne at_nw = width_fits (nw c 
 past_0 : (x : ℤ) → pos 0 ≤ℤ x → is_past x ≡ true
 past_0 x h = grind (arith, ints, nat_tests)
 
-is_most : (a b : ℤ) → int_le a b ≡ true → a ≤ℤ b
-is_most a b h = grind (arith, ints, nat_tests)
-
 all_past_0 : (c u v w z : ℤ) → IsSizeOf u w → IsSizeOf v z → of_all is_past c u v ≡ int_le (w +ℤ z) c
 all_past_0 c u v w z s t =
-    agree (of_all is_past c u v) (int_le (w +ℤ z) c)
+    same_truth (of_all is_past c u v) (int_le (w +ℤ z) c)
     (λ h.
     let each = four_parts (is_past (sw c u v)) (is_past (se c u v)) (is_past (ne c u v)) (is_past (nw c u v)) h in
     least_past c u v w z s.signed t.signed each.0 each.1 each.2 each.3)
     (λ h.
-    let far = is_most (w +ℤ z) c h in
+    let far = at_most_from_int_test (w +ℤ z) c h in
     four (is_past (sw c u v)) (is_past (se c u v)) (is_past (ne c u v)) (is_past (nw c u v))
     (past_0 (sw c u v) (omega (arith, ints, far, s.most, t.least)))
     (past_0 (se c u v) (omega (arith, ints, far, s.most, t.most)))
@@ -174,7 +168,7 @@ is_less c w h = grind (arith, ints, nat_tests)
 
 all_short : (c u v w z : ℤ) → IsSizeOf u w → IsSizeOf v z → of_all is_short c u v ≡ not (int_le (neg_ℤ (w +ℤ z)) c)
 all_short c u v w z s t =
-    agree (of_all is_short c u v) (not (int_le (neg_ℤ (w +ℤ z)) c))
+    same_truth (of_all is_short c u v) (not (int_le (neg_ℤ (w +ℤ z)) c))
     (λ h.
     let each = four_parts (is_short (sw c u v)) (is_short (se c u v)) (is_short (ne c u v)) (is_short (nw c u v)) h in
     greatest_short c u v w z s.signed t.signed each.0 each.1 each.2 each.3)
@@ -205,10 +199,6 @@ right_corners e m p =
     ∙ all_short (cross e.0 e.1 p) (pos m *ℤ (e.1.x -ℤ e.0.x)) (pos m *ℤ (e.1.y -ℤ e.0.y)) (pos m *ℤ pos ux) (pos m *ℤ pos uy) (size_of m (e.1.x -ℤ e.0.x)) (size_of m (e.1.y -ℤ e.0.y))
     ∙ ap (λ w. not (int_le w (cross e.0 e.1 p))) (ap neg_ℤ (sym (widths m ux uy)) ∙ sym (opposite_width m (ux + uy)))
 
-not_not : (b : Bool) → not (not b) ≡ b
-not_not true = refl
-not_not false = refl
-
 -- ---- a polygon
 swapped : {X Y : Type 0} (f : X → Y → Bool) (xs : List X) (ys : List Y) → list_all (λ x. list_all (f x) ys) xs ≡ true → list_all (λ y. list_all (λ x. f x y) xs) ys ≡ true
 swapped f xs ys h =
@@ -222,7 +212,7 @@ by_each f g (x ∷ xs) h = λ i. h x i && by_each f g xs h i
 pub all_corners_inside : (m : ℕ) (points : List Point) (p : Point) → list_all (is_inside points) (corners m p) ≡ is_inside_by (pos m) points p
 all_corners_inside m points p =
     let sides = edges (counterclockwise_points points) in
-    agree (list_all (is_inside points) (corners m p)) (list_all (λ e. list_all (λ c. not (is_right_of e c)) (corners m p)) sides)
+    same_truth (list_all (is_inside points) (corners m p)) (list_all (λ e. list_all (λ c. not (is_right_of e c)) (corners m p)) sides)
     (swapped (λ c e. not (is_right_of e c)) (corners m p) sides) (swapped (λ e c. not (is_right_of e c)) sides (corners m p))
     ∙ by_each (λ e. list_all (λ c. not (is_right_of e c)) (corners m p)) (λ e. is_left_by (pos m) e p) sides (λ e. left_corners e m p)
 
@@ -237,14 +227,10 @@ pub no_margin : (points : List Point) (p : Point) → is_inside_by (pos 0) point
 no_margin points p = within_by_0 (edges (counterclockwise_points points)) p
 
 -- ---- each place of the box
-bounded : (x : ℤ) (w : ℕ) → unsigned_abs x ≤ w → (neg_ℤ (pos w) ≤ℤ x) × (x ≤ℤ pos w)
-bounded (pos n) w h = (omega (arith, ints), omega (arith, ints))
-bounded (negsuc n) w h = (omega (arith, ints), omega (arith, ints))
-
 times_bounded : (m : ℕ) (u d : ℤ) → unsigned_abs d ≤ m → (neg_ℤ (pos m *ℤ pos (unsigned_abs u)) ≤ℤ (u *ℤ d)) × ((u *ℤ d) ≤ℤ (pos m *ℤ pos (unsigned_abs u)))
 times_bounded m u d h =
     let size : unsigned_abs (u *ℤ d) ≤ m * unsigned_abs u = omega (arith, unsigned_abs-mul u d, mul-le (unsigned_abs u) (unsigned_abs d) (unsigned_abs u) m (omega arith) h) in
-    bounded (u *ℤ d) (m * unsigned_abs u) size
+    within_size (u *ℤ d) (m * unsigned_abs u) size
 
 moved : (ux uy ax ay px py qx qy : ℤ) → ux *ℤ (qy -ℤ ay) -ℤ uy *ℤ (qx -ℤ ax) ≡ (ux *ℤ (py -ℤ ay) -ℤ uy *ℤ (px -ℤ ax)) +ℤ (ux *ℤ (qy -ℤ py) -ℤ uy *ℤ (qx -ℤ px))
 moved ux uy ax ay px py qx qy =
@@ -252,7 +238,7 @@ moved ux uy ax ay px py qx qy =
     same (t qy ay qx ax) (sum (t py ay px ax) (t qy py qx px)) (omega arith)
 
 left_there : (c x y w z : ℤ) → (neg_ℤ w ≤ℤ x) × (x ≤ℤ w) → (neg_ℤ z ≤ℤ y) × (y ≤ℤ z) → int_le (w +ℤ z) c ≡ true → is_past (c +ℤ (x -ℤ y)) ≡ true
-left_there c x y w z s t h = let far = is_most (w +ℤ z) c h in past_0 (c +ℤ (x -ℤ y)) (omega (arith, ints, far, s.0, t.1))
+left_there c x y w z s t h = let far = at_most_from_int_test (w +ℤ z) c h in past_0 (c +ℤ (x -ℤ y)) (omega (arith, ints, far, s.0, t.1))
 
 left_here : (c x y w z : ℤ) → (neg_ℤ w ≤ℤ x) × (x ≤ℤ w) → (neg_ℤ z ≤ℤ y) × (y ≤ℤ z) → is_past (c +ℤ (x -ℤ y)) ≡ true → int_le (neg_ℤ (w +ℤ z)) c ≡ true
 left_here c x y w z s t h = tested (neg_ℤ (w +ℤ z)) c (omega (arith, ints, of_past (c +ℤ (x -ℤ y)) h, s.1, t.0))

@@ -4,6 +4,8 @@ use Rattle.std.specs.Prelude.{int_lt, int_le}
 use Rattle.std.proofs.lemmas.Bool.Decides.{nat_tests}
 use Rattle.std.proofs.lemmas.Int.{ints}
 use Rattle.exact.proofs.Ring.{part, number, sum, difference, product, same, at_most}
+use Rattle.exact.proofs.Truths.{and_second_false, and_true, or_false}
+use Rattle.exact.proofs.Integers.{times_one}
 use Rattle.case_table.specs.declared.compare.Op.TheVariants.{Ge}
 use Rattle.fixed_point.specs.declared.number.Point.{Point}
 use Rattle.geometry.specs.Margin.{extent, is_left_by, is_within_by}
@@ -38,18 +40,6 @@ growth p q l = (q.x -ℤ p.x) *ℤ l.dy -ℤ (q.y -ℤ p.y) *ℤ l.dx
 
 cross_after : (p q : Point) (l : Line) (k : ℕ) → cross p q (position_after l k) ≡ growth p q l *ℤ pos k +ℤ cross p q l.at
 cross_after p q l k = linear (q.x -ℤ p.x) (q.y -ℤ p.y) l.at.x l.at.y l.dx l.dy p.x p.y (pos k)
-
-or_false : (b : Bool) → (b || false) ≡ b
-or_false true = refl
-or_false false = refl
-
-and_true : (b : Bool) → (b && true) ≡ b
-and_true true = refl
-and_true false = refl
-
-and_false : (b c : Bool) → c ≡ false → (b && c) ≡ false
-and_false true c h = h
-and_false false c h = refl
 
 not_below : (v : ℤ) → int_le (pos 0) v ≡ not (int_lt v (pos 0))
 not_below v = grind (arith, ints)
@@ -96,9 +86,6 @@ steps_apart a b x y =
     same (sum (product (part a) (part y)) (part b))
     (sum (sum (product (part a) (part x)) (part b)) (product (part a) (difference (part y) (part x)))) (omega arith)
 
-one_step : (a : ℤ) → a *ℤ pos 1 ≡ a
-one_step a = same (product (part a) (number 1)) (part a) (omega arith)
-
 -- what fell below 0 in one step of a does not rise again by a way d of the same sign
 stays_below : (u v x a d : ℤ) → v ≡ u +ℤ a → x ≡ v +ℤ d → (a ≤ℤ pos 0 → d ≤ℤ pos 0) → int_le (pos 0) u ≡ true → int_le (pos 0) v ≡ false → int_le (pos 0) x ≡ true → ⊥
 stays_below u v x a d e f h at_first below at_last =
@@ -111,7 +98,7 @@ no_gap a b lo i k l at_first below at_last =
     let next : (pos (i + 1) -ℤ pos lo) -ℤ (pos i -ℤ pos lo) ≡ pos 1 = omega (arith, ints) in
     let rest : (pos k -ℤ pos lo) -ℤ (pos (i + 1) -ℤ pos lo) ≡ pos (k - (i + 1)) = omega (arith, ints) in
     stays_below (line_at a b lo i) (line_at a b lo (i + 1)) (line_at a b lo k) a (a *ℤ pos (k - (i + 1)))
-    (steps_apart a b (pos i -ℤ pos lo) (pos (i + 1) -ℤ pos lo) ∙ ap (λ d. line_at a b lo i +ℤ a *ℤ d) next ∙ ap (λ d. line_at a b lo i +ℤ d) (one_step a))
+    (steps_apart a b (pos i -ℤ pos lo) (pos (i + 1) -ℤ pos lo) ∙ ap (λ d. line_at a b lo i +ℤ a *ℤ d) next ∙ ap (λ d. line_at a b lo i +ℤ d) (times_one a))
     (steps_apart a b (pos (i + 1) -ℤ pos lo) (pos k -ℤ pos lo) ∙ ap (λ d. line_at a b lo (i + 1) +ℤ a *ℤ d) rest)
     (not_above a (k - (i + 1))) at_first below at_last
 
@@ -213,7 +200,7 @@ pub narrowed_out : (first start : Point) (points rest later : List Point) (l : L
 narrowed_out first start points rest later l m w kept h e g = record {
   normal = tt;
   ticks = λ t. nothing (within kept.lo kept.hi t) (is_beside start (end_of first later) l m w t) _ _ (step_ticks first start points rest later l m w kept t h e)
-      (sym (and_false (within kept.lo kept.hi t) (is_beside start (end_of first later) l m w t) (sym (g.ticks t))));
+      (sym (and_second_false (within kept.lo kept.hi t) (is_beside start (end_of first later) l m w t) (sym (g.ticks t))));
 }
 
 -- no tick that is kept passes the edge

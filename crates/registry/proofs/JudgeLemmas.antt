@@ -4,6 +4,7 @@ use Rattle.std.specs.Prelude.{◌^◌, min, nat_le, nat_lt, option_and_then, unw
 use Rattle.std.proofs.lemmas.Bool.{cases_lt, or_parts}
 use Rattle.std.proofs.lemmas.Bool.Decides.{nat_tests}
 use Rattle.exact.specs.First.{first_that_holds, or_else}
+use Rattle.exact.proofs.Naturals.{above_from_test, at_most_from_not_below}
 use Rattle.tick_set.specs.declared.spans.TheConstants.{LAST_TICK, SPAN_LIMIT}
 use Rattle.geometry.specs.Region.{Region}
 use Rattle.history.specs.Catalog.{ClassInfo}
@@ -41,8 +42,8 @@ pub saturated : (b s : ℕ) →
     ≡ (nat_lt BINDING_LIMIT b || nat_lt ALL_BINDINGS_LIMIT (b + s))
 saturated b s = elim (cases_lt (2 ^ 64 - 1) b) [
   | inl past ↦ grind (arith, nat_tests, past)
-  | inr within ↦
-      let same : min b (2 ^ 64 - 1) ≡ b = omega (arith, within) in
+  | inr at_most_from_not_below ↦
+      let same : min b (2 ^ 64 - 1) ≡ b = omega (arith, at_most_from_not_below) in
       ap (λ n. nat_lt BINDING_LIMIT n || nat_lt ALL_BINDINGS_LIMIT (n + s)) same
 ]
 
@@ -92,12 +93,6 @@ limit_within true circle = omega arith
 limit_within false true = omega arith
 limit_within false false = omega arith
 
-within : (a b : ℕ) → nat_lt a b ≡ false → b ≤ a
-within a b h = grind (arith, nat_tests, h)
-
-less : (a b : ℕ) → nat_le a b ≡ false → b < a
-less a b h = grind (arith, nat_tests, h)
-
 pub right_is : (k : Known) (name : List ℕ) (span : ℕ) (q : QueryTree) → register_refusal k name span q ≡ None → IsRight k name span q
 right_is k name span q none =
     let type = type_refusal k.world q in
@@ -114,14 +109,14 @@ right_is k name span q none =
     let bound = not_held refusals.BindingLimit (passes_bindings k many) [] full.1 in
     let spans = or_parts (nat_lt (span_limit q.formula) span) (nat_lt LAST_TICK (k.now + span)) past.0 in
     let sums = or_parts (nat_lt BINDING_LIMIT many) (nat_lt ALL_BINDINGS_LIMIT (many + bindings_of k)) bound.0 in
-    let short : span ≤ span_limit q.formula = within (span_limit q.formula) span spans.0 in
+    let short : span ≤ span_limit q.formula = at_most_from_not_below (span_limit q.formula) span spans.0 in
     let most : span_limit q.formula ≤ SPAN_LIMIT = limit_within (nat_lt 0 (nesting q.formula)) (nat_le CIRCLE_NAMES (objects q.formula)) in
     record {
       untaken = (not_held refusals.NameTaken (is_registered k.live name) [] taken.0).0;
       short = omega (arith, short, most);
-      reached = within LAST_TICK (k.now + span) spans.1;
-      few = less QUERY_LIMIT (length k.live) full.0;
-      size = within BINDING_LIMIT many sums.0;
+      reached = at_most_from_not_below LAST_TICK (k.now + span) spans.1;
+      few = above_from_test QUERY_LIMIT (length k.live) full.0;
+      size = at_most_from_not_below BINDING_LIMIT many sums.0;
     }
 
 -- ---- a query that was judged beside the others

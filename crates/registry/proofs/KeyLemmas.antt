@@ -1,7 +1,7 @@
 -- The objects of the rows of registered queries, and of what changes for them, are some of those that there are.
 use Rattle.std.proofs.Common.{◌≡◌, ℕ, zero, suc, ◌+◌, ◌*◌, ◌/◌, ◌%◌, ◌<◌, ◌≤◌, Bool, true, false, ◌&&◌, ◌||◌, Option, None, List, [], ◌∷◌, ◌++◌, length, map, take, refl, ap, ◌∙◌, inl, inr, arith, if◌then◌else◌}
 use Rattle.std.specs.Prelude.{⊤, ◌==◌, All, min, nat_le, nat_lt, slice_index, slice_index_or}
-use Rattle.std.specs.List.{cons_option, enumerate_from, filter, filter_map, flat_map, list_all, list_any}
+use Rattle.std.specs.List.{cons_option, enumerate_from, filter_map, flat_map, list_all, list_any}
 use Rattle.std.proofs.lemmas.Bool.{and_from, and_parts, cases_Bool, false≢true}
 use Rattle.std.proofs.lemmas.Bool.Decides.{nat_tests}
 use Rattle.std.proofs.lemmas.List.{length-map, length-take}
@@ -32,6 +32,7 @@ use Rattle.live_queries.specs.Told.{Told, answer_of, changes_of, listed_lines, m
 use Rattle.database.specs.Rows.{has_objects}
 use Rattle.database.proofs.RowLemmas.{are_below, ids_below}
 use Rattle.registry.specs.Moves.{names_objects}
+use Rattle.exact.proofs.Items.{filter_false}
 
 -- ---- the objects of columns are some of so many
 
@@ -91,13 +92,9 @@ no_lines : {X : Type 0} (line : ℕ → Option X) → ((n : ℕ) → line n ≡ 
 unfolding lines_between
 no_lines line none top = no_line line none (between 0 top)
 
-all_out : (ts : List ℕ) → filter (λ t. false) ts ≡ []
-all_out [] = refl
-all_out (t ∷ ts) = all_out ts
-
 none_listed : (test : ℕ → Bool) (lo hi : ℕ) → ((t : ℕ) → lo ≤ t → test t ≡ false) → listed test lo hi ≡ []
 unfolding listed
-none_listed test lo hi none = same_listed test (λ t. false) lo hi (λ t a b. none t a) ∙ all_out (between lo (hi + 1))
+none_listed test lo hi none = same_listed test (λ t. false) lo hi (λ t a b. none t a) ∙ filter_false (between lo (hi + 1))
 
 no_row : (rows : ℕ → ℕ → Bool) (t : ℕ) → ((c : ℕ) → rows c t ≡ false) → (cs : List ℕ) → list_any (λ c. rows c t) cs ≡ false
 no_row rows t none [] = refl

@@ -1,5 +1,5 @@
 -- The lines of rows, of what changes and of registered queries, one after another.
-use Rattle.std.proofs.Common.{◌≡◌, ℕ, zero, suc, ◌+◌, ◌≤◌, Bool, true, List, [], ◌∷◌, ◌++◌, length, map, take, refl, sym, ap, ◌∙◌, add-one, append_assoc, append-nil, arith}
+use Rattle.std.proofs.Common.{◌≡◌, ℕ, ◌+◌, ◌≤◌, Bool, true, List, [], ◌∷◌, ◌++◌, length, map, take, sym, ap, ◌∙◌, add-one, append_assoc, append-nil, arith}
 use Rattle.std.specs.Prelude.{slice_get}
 use Rattle.std.specs.List.{flat_map, list_all}
 use Rattle.std.specs.Option.{option_map_or}
@@ -9,6 +9,7 @@ use Rattle.std.proofs.lemmas.List.Folds.{flat_map-map}
 use Rattle.line_meaning.specs.Reply.{registration_line}
 use Rattle.live_queries.specs.Kept.{KeptQuery}
 use Rattle.registry.specs.Standing.{registration_of}
+use Rattle.exact.proofs.Items.{flat_map-take-suc}
 
 -- ---- walking down a list
 
@@ -32,22 +33,13 @@ line_end line (x ∷ rest) out whole none so_far = absurd (omega (arith, none))
 
 -- ---- by place
 
-lines_suc : {A : Type 0} (line : A → List ℕ) (xs : List A) (i : ℕ) →
-    flat_map line (take (suc i) xs) ≡ flat_map line (take i xs) ++ option_map_or line (slice_get xs i) []
-lines_suc line [] zero = refl
-lines_suc line [] (suc i) = refl
-lines_suc line (x ∷ xs) zero = append-nil (line x)
-lines_suc line (x ∷ xs) (suc i) =
-    ap (λ lines. line x ++ lines) (lines_suc line xs i)
-    ∙ sym (append_assoc (line x) (flat_map line (take i xs)) (option_map_or line (slice_get xs i) []))
-
 -- what was written of the first items, and of one more
 pub more_lines : {A : Type 0} (line : A → List ℕ) (xs : List A) (i : ℕ) (start out next : List ℕ) → out ≡ start ++ flat_map line (take i xs) →
     next ≡ out ++ option_map_or line (slice_get xs i) [] → next ≡ start ++ flat_map line (take (i + 1) xs)
 more_lines line xs i start out next so_far made =
     made ∙ ap (λ front. front ++ option_map_or line (slice_get xs i) []) so_far
     ∙ append_assoc start (flat_map line (take i xs)) (option_map_or line (slice_get xs i) [])
-    ∙ ap (λ lines. start ++ lines) (sym (rw add-one (lines_suc line xs i)))
+    ∙ ap (λ lines. start ++ lines) (sym (rw add-one (flat_map-take-suc line xs i)))
 
 -- the lines of all registered queries
 pub all_queries : (live : List KeptQuery) (i : ℕ) (start out : List ℕ) → length live ≤ i →

@@ -7,6 +7,7 @@ use Rattle.std.specs.Str.{bytes_eq}
 use Rattle.std.proofs.lemmas.Bool.Decides.{nat_tests}
 use Rattle.std.proofs.lemmas.List.Elements.{All-head, All-tail}
 use Rattle.exact.specs.First.{first_that_holds}
+use Rattle.exact.proofs.Items.{any_mapped, bytes_eq_swap}
 use Rattle.command_text.specs.declared.refusal.Refusal.TheVariants as refusals
 use Rattle.line_meaning.specs.QueryFault.{unregistered_refusal}
 use Rattle.line_meaning.specs.Registry.{has_name, is_registered, registration_named}
@@ -18,12 +19,6 @@ use Rattle.registry.specs.Standing.{registration_of}
 
 number_turned : (x y : ℕ) → (x == y) ≡ (y == x)
 number_turned x y = grind (arith, nat_tests)
-
-pub bytes_turned : (a b : List ℕ) → bytes_eq a b ≡ bytes_eq b a
-bytes_turned [] [] = refl
-bytes_turned [] (y ∷ b) = refl
-bytes_turned (x ∷ a) [] = refl
-bytes_turned (x ∷ a) (y ∷ b) = λ i. number_turned x y i && bytes_turned a b i
 
 pub own_bytes : (a : List ℕ) → bytes_eq a a ≡ true
 own_bytes [] = refl
@@ -42,10 +37,6 @@ found_mapped test f (x ∷ xs) = one f (test (f x)) x _ _ (found_mapped test f x
         cond b (Some (g y)) rest ≡ option_map g (cond b (Some y) rest')
     one g true y rest rest' e = refl
     one g false y rest rest' e = e
-
-any_mapped : {A B : Type 0} (test : B → Bool) (f : A → B) (xs : List A) → list_any test (map f xs) ≡ list_any (λ x. test (f x)) xs
-any_mapped test f [] = refl
-any_mapped test f (x ∷ xs) = ap (λ b. test (f x) || b) (any_mapped test f xs)
 
 pub any_found : {A : Type 0} (test : A → Bool) (xs : List A) → list_any test xs ≡ is_some (find test xs)
 any_found test [] = refl
@@ -70,7 +61,7 @@ found_is P test x (y ∷ xs) found all =
 -- whether one has the name, with the name on either side
 pub named_either : (live : List KeptQuery) (name : List ℕ) → list_any (λ k. bytes_eq k.name name) live ≡ list_any (λ k. bytes_eq name k.name) live
 named_either [] name = refl
-named_either (k ∷ live) name = λ i. bytes_turned k.name name i || named_either live name i
+named_either (k ∷ live) name = λ i. bytes_eq_swap k.name name i || named_either live name i
 
 pub registered_is : (live : List KeptQuery) (name : List ℕ) → is_registered (map registration_of live) name ≡ list_any (λ k. bytes_eq name k.name) live
 registered_is live name = any_mapped (has_name name) registration_of live
@@ -83,7 +74,7 @@ query_is live name =
   where
     turned : (ks : List KeptQuery) → find (λ k. bytes_eq name k.name) ks ≡ find (λ k. bytes_eq k.name name) ks
     turned [] = refl
-    turned (k ∷ ks) = λ i. cond (bytes_turned name k.name i) (Some k) (turned ks i)
+    turned (k ∷ ks) = λ i. cond (bytes_eq_swap name k.name i) (Some k) (turned ks i)
 
 -- the refusal of a name that none has
 pub unregistered_is : (live : List KeptQuery) (name : List ℕ) (there : Bool) → there ≡ list_any (λ k. bytes_eq k.name name) live →

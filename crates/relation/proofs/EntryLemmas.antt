@@ -17,9 +17,8 @@ use Rattle.relation.specs.Entries.{AreEntries, IsBefore, IsEntry, any_has, entri
 use Rattle.relation.specs.Key.{key_below, key_in}
 use Rattle.relation.specs.Rows.{IsSameHead, Table, has_at}
 use Rattle.relation.proofs.ChangeLemmas.{own_key, same_key}
-use Rattle.relation.proofs.KeyLemmas.{all_weaker}
-use Rattle.relation.proofs.SearchLemmas.{all_from_at}
 use Rattle.relation.proofs.WalkLemmas.{same_head-trans}
+use Rattle.exact.proofs.Items.{all_from_at, all_weaker}
 
 order_step : (x y : ℕ) (e l : Bool) (o : Ordering) → (is_lt o ≡ false → (e || l) ≡ true) → is_lt (ordering_then (nat_cmp y x) o) ≡ false →
     ((x == y && e) || (nat_lt x y || (x == y && l))) ≡ true

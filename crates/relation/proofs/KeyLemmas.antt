@@ -1,8 +1,7 @@
 -- Keys against the fronts of others.
 use Rattle.std.proofs.Common.{◌≡◌, ℕ, ◌<◌, Bool, true, false, ◌&&◌, ◌||◌, ◌==◌, nat_lt, List, [], ◌∷◌, ◌++◌, refl, arith}
-use Rattle.std.specs.List.{list_all}
 use Rattle.std.specs.Str.{bytes_eq}
-use Rattle.std.proofs.lemmas.Bool.{and_from, and_left, and_parts, and_right}
+use Rattle.std.proofs.lemmas.Bool.{and_left, and_right}
 use Rattle.std.proofs.lemmas.Bool.Decides.{nat_tests}
 use Rattle.relation.specs.Key.{key_below}
 use Rattle.relation.specs.Walk.{key_starts, key_upto}
@@ -77,10 +76,3 @@ starts_no_longer (z ∷ k) (w ∷ p) q h = step_and _ _ _ (starts_no_longer k p 
 pub starts_with_another : (p s : List ℕ) (x y : ℕ) → (y == x) ≡ false → key_starts (p ++ y ∷ s) (p ++ x ∷ []) ≡ false
 starts_with_another [] s x y h = and_left _ _ h
 starts_with_another (w ∷ p) s x y h = and_right _ _ (starts_with_another p s x y h)
-
--- what all of a list pass, by another test that they then pass
-pub all_weaker : {X : Type 0} (p q : X → Bool) → ((x : X) → p x ≡ true → q x ≡ true) → (xs : List X) → list_all p xs ≡ true → list_all q xs ≡ true
-all_weaker p q f [] h = refl
-all_weaker p q f (x ∷ xs) h =
-    let parts : (p x ≡ true) × (list_all p xs ≡ true) = and_parts _ _ h in
-    and_from _ _ (f x parts.0) (all_weaker p q f xs parts.1)

@@ -13,6 +13,7 @@ use Rattle.relation.proofs.ChangeLemmas.{own_key, same_key}
 use Rattle.relation.proofs.EntryLemmas.{below_trans}
 use Rattle.relation.proofs.KeyLemmas.{below_apart, below_not_same}
 use Rattle.relation.proofs.UnionLemmas.{IsFrom, from_rising}
+use Rattle.exact.proofs.Truths.{and_over_or, false_is_and}
 
 abbrev is_in : List (List ℕ) → List ℕ → Bool
 is_in keys k = list_any (λ x. bytes_eq x k) keys
@@ -113,10 +114,6 @@ block id keys = map (λ later. id ∷ later) keys
 abbrev blocks : List ℕ → List (List ℕ) → List (List ℕ)
 blocks ids keys = flat_map (λ id. block id keys) ids
 
-shared : (e p q : Bool) → ((e && p) || (e && q)) ≡ (e && (p || q))
-shared true p q = refl
-shared false p q = refl
-
 either : (e f q : Bool) → ((e && q) || (f && q)) ≡ ((e || f) && q)
 either true true true = refl
 either true true false = refl
@@ -124,14 +121,10 @@ either true false true = refl
 either true false false = refl
 either false f q = refl
 
-and_none : (e : Bool) → false ≡ (e && false)
-and_none true = refl
-and_none false = refl
-
 in_block : (id : ℕ) (keys : List (List ℕ)) (y : ℕ) (k : List ℕ) → is_in (block id keys) (y ∷ k) ≡ (id == y && is_in keys k)
-in_block id [] y k = and_none (id == y)
+in_block id [] y k = false_is_and (id == y)
 in_block id (x ∷ keys) y k =
-    ap (λ (b : Bool). (id == y && bytes_eq x k) || b) (in_block id keys y k) ∙ shared (id == y) (bytes_eq x k) (is_in keys k)
+    ap (λ (b : Bool). (id == y && bytes_eq x k) || b) (in_block id keys y k) ∙ and_over_or (id == y) (bytes_eq x k) (is_in keys k)
 
 in_blocks : (ids : List ℕ) (keys : List (List ℕ)) (y : ℕ) (k : List ℕ) → is_in (blocks ids keys) (y ∷ k) ≡ (has_id ids y && is_in keys k)
 in_blocks [] keys y k = refl
@@ -210,7 +203,7 @@ module _ {S : Type 0} (member : S → ℕ → Bool) (domains : List (List ℕ)) 
     where
       within_domains : (x y : Bool) → (x ≡ true → y ≡ true) → x ≡ (y && x)
       within_domains true y f = sym (ap (λ (b : Bool). b && true) (f refl))
-      within_domains false y f = and_none y
+      within_domains false y f = false_is_and y
 
       members : (k : List ℕ) → is_in (map (λ r. r.key) rows) k ≡ is_in (filter (has_row rows) (keys_over domains vars)) k
       members k =

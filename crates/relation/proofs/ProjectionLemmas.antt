@@ -15,8 +15,8 @@ use Rattle.relation.specs.Key.{are_known, has_id, ids_of_variable, key_in}
 use Rattle.relation.specs.Projection.{IsPicked, picked, rows_over, variable_place}
 use Rattle.relation.specs.Rows.{AreRows, IsRow, IsTable, Table, has_at, table, table_has}
 use Rattle.relation.proofs.ChangeLemmas.{own_key, same_key}
-use Rattle.relation.proofs.KeyLemmas.{all_weaker}
 use Rattle.relation.proofs.RowLemmas.{row_at}
+use Rattle.exact.proofs.Items.{all_weaker}
 
 -- a test of a member of a list that all its members pass
 pub passed_by : (p : ℕ → Bool) (us : List ℕ) (x : ℕ) → list_all p us ≡ true → has_id us x ≡ true → p x ≡ true

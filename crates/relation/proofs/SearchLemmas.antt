@@ -1,16 +1,13 @@
 -- For this crate and for the crates above: what a search finds where numbers rise.
-use Rattle.std.proofs.Common.{◌≡◌, ℕ, zero, suc, ◌+◌, ◌-◌, ◌<◌, ◌≤◌, Bool, true, false, ◌==◌, nat_lt, List, [], ◌∷◌, ◌++◌, length, get_or, take, drop, map, Some, None, unwrap_or, refl, sym, ap, ◌∙◌, subst, inl, inr, arith, get_or-drop, get_or-take, length-drop, length-take-le, take-append-drop}
-use Rattle.std.specs.List.{list_all, slice_get}
+use Rattle.std.proofs.Common.{◌≡◌, ℕ, zero, suc, ◌+◌, ◌-◌, ◌<◌, ◌≤◌, true, false, ◌==◌, nat_lt, List, [], ◌∷◌, ◌++◌, length, get_or, take, drop, map, Some, None, unwrap_or, refl, sym, ap, ◌∙◌, subst, inl, inr, arith, get_or-drop, get_or-take, length-drop, length-take-le, take-append-drop}
+use Rattle.std.specs.List.{slice_get}
 use Rattle.std.specs.List.Sorted.{IsNonDecreasingBy, IsStrictlyIncreasing}
-use Rattle.std.proofs.lemmas.Bool.{and_from, cases_lt, eq-eqb, lt-ltb, ne_eqb, or_from, or_left, or_right}
+use Rattle.std.proofs.lemmas.Bool.{cases_lt, eq-eqb, lt-ltb, ne_eqb, or_from, or_left, or_right}
 use Rattle.std.proofs.lemmas.List.{get_or_default, get_or_read, map-id}
 use Rattle.relation.specs.declared.row.Row.{Row}
 use Rattle.relation.specs.Group.{IsGroup, IsNextIn, id_at}
 use Rattle.relation.specs.Key.{has_id}
-
-pub all_from_at : {X : Type 0} (p : X → Bool) (xs : List X) → ((k : ℕ) (d : X) → k < length xs → p (get_or xs k d) ≡ true) → list_all p xs ≡ true
-all_from_at p [] h = refl
-all_from_at p (x ∷ xs) h = and_from _ _ (h 0 x (omega arith)) (all_from_at p xs (λ k d l. h (suc k) d (omega arith)))
+use Rattle.exact.proofs.Items.{all_from_at}
 
 -- a number that no item has is not among those of the items
 pub has_id-none : {X : Type 0} (f : X → ℕ) (xs : List X) (y : ℕ) → ((k : ℕ) (d : X) → k < length xs → f (get_or xs k d) ≡ y → ⊥) → has_id (map f xs) y ≡ false

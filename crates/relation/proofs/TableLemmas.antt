@@ -1,5 +1,5 @@
 -- A relation with one more row.
-use Rattle.std.proofs.Common.{◌≡◌, ℕ, Bool, true, false, ◌&&◌, ◌||◌, List, [], ◌∷◌, ◌++◌, refl, sym, ap, ◌∙◌, subst}
+use Rattle.std.proofs.Common.{◌≡◌, ℕ, Bool, true, false, ◌&&◌, ◌||◌, List, [], ◌∷◌, ◌++◌, sym, ap, ◌∙◌, subst}
 use Rattle.std.specs.List.{list_all}
 use Rattle.std.specs.Str.{bytes_eq}
 use Rattle.std.proofs.lemmas.List.Folds.{list_any-append}
@@ -8,10 +8,7 @@ use Rattle.relation.specs.declared.row.Row.{Row}
 use Rattle.relation.specs.Key.{key_below, key_in}
 use Rattle.relation.specs.Rows.{IsTable, Table, has_at, table}
 use Rattle.relation.proofs.RowLemmas.{rows_push}
-
-or_false : (b : Bool) → (b || false) ≡ b
-or_false true = refl
-or_false false = refl
+use Rattle.exact.proofs.Truths.{or_false}
 
 pub has_at-push : {S : Type 0} (member : S → ℕ → Bool) (rows : List (Row S)) (row : Row S) (k : List ℕ) (t : ℕ) →
     has_at member (rows ++ row ∷ []) k t ≡ (has_at member rows k t || (bytes_eq row.key k && member row.set t))

@@ -11,7 +11,8 @@ use Rattle.formula.specs.Resolved.{are_distinct}
 use Rattle.relation.specs.Key.{are_known, has_id}
 use Rattle.relation.specs.Walk.{covers}
 use Rattle.relation.proofs.RowLemmas.{all_at}
-use Rattle.relation.proofs.SearchLemmas.{all_from_at, has_id-at}
+use Rattle.relation.proofs.SearchLemmas.{has_id-at}
+use Rattle.exact.proofs.Items.{all_from_at}
 
 pub covers_nothing : (vars : List ℕ) → covers vars [] ≡ true
 covers_nothing [] = refl

@@ -23,12 +23,10 @@ use Rattle.relation.specs.Part.{IsFixed, IsRowPart, has_from, offers, part_has, 
 use Rattle.relation.specs.Rows.{AreRows, IsSameHead, Table, has_at}
 use Rattle.relation.specs.Walk.{CanWalk, HasWalked, IsWalking, covers, goes_left, key_starts, key_upto, set_or, visited, visited_by}
 use Rattle.relation.proofs.GroupLemmas.{rows_idle, rows_inside}
-use Rattle.relation.proofs.KeyLemmas.{all_weaker, below_continues, below_from_upto, below_upto, starts_no_longer, starts_with_another, upto_from_below, upto_itself}
+use Rattle.relation.proofs.KeyLemmas.{below_continues, below_from_upto, below_upto, starts_no_longer, starts_with_another, upto_from_below, upto_itself}
 use Rattle.relation.proofs.RowLemmas.{has_at-below}
-
-or_false : (b : Bool) → (b || false) ≡ b
-or_false true = refl
-or_false false = refl
+use Rattle.exact.proofs.Truths.{or_false}
+use Rattle.exact.proofs.Items.{all_weaker}
 
 -- tests that agree at each tick are put together alike
 pub combined_same : (op : Operation) (lo hi : ℕ) (p p' q q' : ℕ → Bool) → ((t : ℕ) → p' t ≡ p t) → ((t : ℕ) → q' t ≡ q t) → (t : ℕ) →

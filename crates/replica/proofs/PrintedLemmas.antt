@@ -13,6 +13,7 @@ use Rattle.std.specs.Int.{is_in_range}
 use Rattle.std.specs.List.{flat_map, list_all, onto_first, position_or_len, prefix_len}
 use Rattle.std.specs.Str.Parse.{AllDigits, digits_value}
 use Rattle.exact.specs.Options.{◌>>=◌}
+use Rattle.exact.proofs.Naturals.{is_digit_by_value}
 use Rattle.case_table.specs.Language.{reserved_words}
 use Rattle.case_table.specs.Rows.{code_of}
 use Rattle.fixed_point.specs.Decimal.{AreDigits, digits_at}
@@ -32,9 +33,6 @@ abbrev IsNoDigit : List ℕ → Type 0
 IsNoDigit [] = Unit {0}
 IsNoDigit (byte ∷ bytes) = is_ascii_digit byte ≡ false
 
-digit_is : (byte : ℕ) → digit_value byte < 10 → is_ascii_digit byte ≡ true
-digit_is byte below = grind (arith, nat_tests)
-
 none_in_front : (rest : List ℕ) → IsNoDigit rest → prefix_len is_ascii_digit rest ≡ 0
 none_in_front [] h = refl
 none_in_front (byte ∷ rest) h = rw h refl
@@ -42,7 +40,7 @@ none_in_front (byte ∷ rest) h = rw h refl
 count_of_digits : (digits rest : List ℕ) → AllDigits 10 digits → IsNoDigit rest → prefix_len is_ascii_digit (digits ++ rest) ≡ length digits
 count_of_digits [] rest are none = none_in_front rest none
 count_of_digits (digit ∷ digits) rest are none =
-    ap (λ b. cond b (1 + prefix_len is_ascii_digit (digits ++ rest)) 0) (digit_is digit are.0)
+    ap (λ b. cond b (1 + prefix_len is_ascii_digit (digits ++ rest)) 0) (is_digit_by_value digit are.0)
     ∙ ap (λ n. 1 + n) (count_of_digits digits rest are.1 none) ∙ omega arith
 
 split_again : (digits rest : List ℕ) → AreDigits 1 10 digits → IsNoDigit rest → digits_at 10 (digits ++ rest) ≡ Some (digits, rest)

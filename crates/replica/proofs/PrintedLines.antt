@@ -1,11 +1,11 @@
 -- The lines of a feed say what they were printed of.
-use Rattle.std.proofs.Common.{◌≡◌, ◌∙◌, ℕ, ◌≤◌, ◌==◌, Bool, true, false, cond, List, ◌∷◌, ◌++◌, codes, option_and_then, Option, Some, None, All, refl, ap, sym, ◌||◌}
+use Rattle.std.proofs.Common.{◌≡◌, ◌∙◌, ℕ, ◌≤◌, ◌==◌, Bool, true, false, cond, List, ◌∷◌, ◌++◌, codes, option_and_then, Option, Some, None, All, refl, ap}
 use Rattle.std.proofs.lemmas.Slice.Eq.{bytes_eq-Decides}
-use Rattle.std.proofs.lemmas.Bool.{false≢true}
 use Rattle.std.specs.Fmt.{decimal}
 use Rattle.std.specs.Option.{option_map_or}
 use Rattle.std.specs.Str.{bytes_eq}
 use Rattle.exact.specs.Options.{◌>>=◌}
+use Rattle.exact.proofs.Truths.{both_false}
 use Rattle.formula.specs.declared.kind.QueryKind.{QueryKind}
 use Rattle.formula.specs.declared.kind.QueryKind.TheVariants.{Watch, Keep}
 use Rattle.formula.specs.Kinds.{kind_word}
@@ -57,18 +57,14 @@ other_alone name other verb is differs =
 
 -- ---- Lines that say nothing
 
-neither : (x y : Bool) → (x || y) ≡ false → (x ≡ false) × (y ≡ false)
-neither true y h = absurd (false≢true (sym h))
-neither false y h = (refl, h)
-
 told_nothing : (word : List ℕ) (rest : Option (List ℕ)) → is_feed_word word ≡ false → told_of word rest ≡ Nothing
 unfolding told_of
 told_nothing word rest h =
-    let after_clock = neither (bytes_eq word (codes "clock")) _ h in
-    let after_time = neither (is_time_word word) _ after_clock.1 in
-    let after_start = neither (bytes_eq word (codes "start")) _ after_time.1 in
-    let after_gain = neither (bytes_eq word (codes "gain")) _ after_start.1 in
-    let after_lose = neither (bytes_eq word (codes "lose")) _ after_gain.1 in
+    let after_clock = both_false (bytes_eq word (codes "clock")) _ h in
+    let after_time = both_false (is_time_word word) _ after_clock.1 in
+    let after_start = both_false (bytes_eq word (codes "start")) _ after_time.1 in
+    let after_gain = both_false (bytes_eq word (codes "gain")) _ after_start.1 in
+    let after_lose = both_false (bytes_eq word (codes "lose")) _ after_gain.1 in
     rw (after_start.0, after_gain.0, after_lose.0, after_lose.1) refl
 
 named_nothing : (name word text : List ℕ) → is_feed_word word ≡ false → named name word text ≡ Nothing
@@ -80,8 +76,8 @@ named_nothing name word text h = elim (bytes_eq (cut_at_mark 32 text).0 name) as
 verb_nothing : (name word : List ℕ) (rest : Option (List ℕ)) → is_feed_word word ≡ false → by_verb name (word, rest) ≡ option_map_or (named name word) rest Nothing
 unfolding by_verb
 verb_nothing name word rest h =
-    let after_clock = neither (bytes_eq word (codes "clock")) _ h in
-    let after_time = neither (is_time_word word) _ after_clock.1 in
+    let after_clock = both_false (bytes_eq word (codes "clock")) _ h in
+    let after_time = both_false (is_time_word word) _ after_clock.1 in
     rw (after_clock.0, after_time.0) refl
 
 alone_is : (name word : List ℕ) → HasNoSpace word → told_by_line name word ≡ by_verb name (word, None)

@@ -1,12 +1,13 @@
 -- The words of a text, and those after its first one.
-use Rattle.std.proofs.Common.{◌≡◌, ◌∙◌, ℕ, ◌+◌, ◌<◌, ◌≤◌, ◌==◌, ◌&&◌, Bor, IfSome, option_map, ◌∷◌, Bool, true, false, cond, ltb, List, [], length, take, drop, Option, Some, None, refl, ap, sym, subst, arith}
+use Rattle.std.proofs.Common.{◌≡◌, ◌∙◌, ℕ, ◌+◌, ◌<◌, ◌≤◌, ◌==◌, ◌&&◌, Bor, IfSome, option_map, ◌∷◌, Bool, true, false, ltb, List, [], length, take, drop, Option, Some, None, refl, ap, sym, subst, arith}
 use Rattle.std.proofs.lemmas.Grind.{common_steps}
-use Rattle.std.proofs.lemmas.Option.{cond_some, none-some}
+use Rattle.std.proofs.lemmas.Option.{cond_some}
 use Rattle.std.proofs.lemmas.Bool.Decides.{nat_tests}
 use Rattle.std.proofs.lemmas.List.Splits.{slice_split_first}
 use Rattle.std.specs.List.{list_all, position, position_or_len}
 use Rattle.std.specs.Option.{option_map_or}
 use Rattle.replica.specs.Text.{cut_at_mark, words}
+use Rattle.exact.proofs.Items.{untrue_where_none}
 
 -- the words of what is left, where something is
 abbrev pub words_left : Option (List ℕ) → List (List ℕ)
@@ -19,17 +20,13 @@ measure left = option_map_or (λ text. length text + 1) left 0
 abbrev is_space : ℕ → Bool
 is_space b = b == 32
 
-nowhere : (b : Bool) (n : ℕ) → cond b (Some n) None ≡ None → b ≡ false
-nowhere true n h = absurd (none-some n (sym h))
-nowhere false n h = refl
-
 one_word : (text : List ℕ) → length text ≤ position_or_len is_space text → words text ≡ text ∷ []
 one_word [] h = refl
 one_word (x ∷ xs) h = grind (arith, common_steps, one_word xs)
 
 words_none : (text : List ℕ) → position is_space text ≡ None → words text ≡ (cut_at_mark 32 text).0 ∷ words_left (cut_at_mark 32 text).1
 words_none text h =
-    let past : ltb (position_or_len is_space text) (length text) ≡ false = nowhere (ltb (position_or_len is_space text) (length text)) (position_or_len is_space text) h in
+    let past : ltb (position_or_len is_space text) (length text) ≡ false = untrue_where_none (ltb (position_or_len is_space text) (length text)) (position_or_len is_space text) h in
     let one : words text ≡ text ∷ [] = one_word text (grind (arith, nat_tests, past)) in
     rw h one
 

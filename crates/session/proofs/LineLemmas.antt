@@ -1,5 +1,5 @@
 -- The lines of what a change changes for the registered queries.
-use Rattle.std.proofs.Common.{◌≡◌, ℕ, ◌+◌, ◌≤◌, Bool, true, false, not, ◌&&◌, ◌||◌, List, [], ◌∷◌, ◌++◌, length, map, refl, sym, ap, ◌∙◌, append-nil, if◌then◌else◌}
+use Rattle.std.proofs.Common.{◌≡◌, ℕ, ◌+◌, ◌≤◌, Bool, true, false, ◌||◌, List, [], ◌∷◌, ◌++◌, length, map, refl, sym, ap, ◌∙◌, append-nil, if◌then◌else◌}
 use Rattle.std.specs.Prelude.{All}
 use Rattle.std.specs.List.{filter, flat_map}
 use Rattle.std.proofs.lemmas.Grind.{flat_map-append}
@@ -30,6 +30,8 @@ use Rattle.live_queries.specs.Told.{Told, changes_of, moves_of, passings_of, tol
 use Rattle.registry.specs.Moves.{told_change_text, told_moves_text}
 use Rattle.registry.specs.Standing.{registration_of}
 use Rattle.database.specs.Written.{writes_object}
+use Rattle.exact.proofs.Truths.{and_not}
+use Rattle.exact.proofs.Items.{filter_false}
 
 told_lines : (c : Catalog) (name : List ℕ) (changes : List Change) → told_moves_text c (told_changes name changes) ≡ flat_map (change_text c name) changes
 told_lines c name changes = flat_map-map (told_change_text c) (λ (x : Change). record { query = name; change = x }) changes
@@ -82,26 +84,18 @@ module _ (old new : World) (id class now : ℕ)
 
 -- ---- of a write that leaves the world as it is: none
 
-never_both : (b : Bool) → (b && not b) ≡ false
-never_both true = refl
-never_both false = refl
-
-none_pass : (xs : List ℕ) → filter (λ t. false) xs ≡ []
-none_pass [] = refl
-none_pass (x ∷ xs) = none_pass xs
-
 none_listed : (from e : ℕ) → listed (λ t. false) from e ≡ []
 unfolding listed
-none_listed from e = none_pass (between from (e + 1))
+none_listed from e = filter_false (between from (e + 1))
 
 none_gained : (holds : ℕ → Bool) (from e : ℕ) → gained holds holds from e ≡ []
 none_gained holds from e =
-    ap (λ (test : ℕ → Bool). runs_of (listed test from e)) (λ i t. never_both (holds t) i) ∙ ap runs_of (none_listed from e)
+    ap (λ (test : ℕ → Bool). runs_of (listed test from e)) (λ i t. and_not (holds t) i) ∙ ap runs_of (none_listed from e)
 
 no_change : (key : List ℕ) (holds : ℕ → Bool) (n from e : ℕ) → is_change (change_of key holds holds n from e) ≡ false
 no_change key holds n from e =
     (λ i. has_ticks (none_gained holds from e i) || has_ticks (none_gained holds from e i)
-    || never_both (stands_at e holds n) i || never_both (stands_at e holds n) i)
+    || and_not (stands_at e holds n) i || and_not (stands_at e holds n) i)
 
 no_changes : (w : World) (r : RegisteredQuery) (n : ℕ) → changes_of_write w w r n ≡ []
 no_changes w r n = none (tuples w r.query)

@@ -5,7 +5,6 @@ use Rattle.std.specs.List.{slice_split}
 use Rattle.std.specs.Str.Lines.{lines, lines_of_parts}
 use Rattle.std.proofs.lemmas.List.Splits.{length-slice_split}
 use Rattle.std.proofs.lemmas.List.Sums.{count_by-le-length}
-use Rattle.std.proofs.lemmas.Bool.Decides.{nat_tests}
 use Rattle.command_text.specs.declared.refusal.Refusal.{Refusal}
 use Rattle.command_text.specs.inner.Reading.{Read}
 use Rattle.command_text.specs.Journal.{Accepted, is_kept, spelled}
@@ -23,6 +22,8 @@ use Rattle.line_meaning.specs.Loading.{Loaded, BadLine, line_of_fault, loading_b
 use Rattle.line_meaning.specs.Step.{Held, fault_of, held, held_after}
 use Rattle.line_meaning.proofs.ReachedLemmas.{none_of_both}
 use Rattle.session.specs.Carried.{IsLegible}
+use Rattle.exact.proofs.Truths.{both_true}
+use Rattle.exact.proofs.Naturals.{at_most_from_test}
 
 -- ---- a text
 
@@ -74,11 +75,6 @@ all_taken text h left fault same end =
 
 -- ---- what may stand in a text
 
-both : (a b : Bool) → (a && b) ≡ true → (a ≡ true) × (b ≡ true)
-both true true h = (refl, refl)
-both true false h = absurd (cc h)
-both false b h = absurd (cc h)
-
 if_some : (b : Bool) (x c : CommandTree) → (if b then Some x else None) ≡ Some c → (b ≡ true) × (x ≡ c)
 if_some true x c h = (refl, cc h)
 if_some false x c h = absurd (cc h)
@@ -92,9 +88,6 @@ read_is : (found : Read CommandTree) → late_refusal found ≡ None →
 read_is None h = absurd (cc h)
 read_is (Some f) h = refl
 
-at_most : (m n : ℕ) → nat_le m n ≡ true → m ≤ n
-at_most m n h = grind (arith, nat_tests, h)
-
 abbrev pub IsLoadable : CommandTree → Type 0
 IsLoadable c = (is_kept c ≡ true) × IsLegible c
 
@@ -104,8 +97,8 @@ module _ (prints : PrintsWhatIsRead) (again : ReadsWhatIsPrinted) where
   by_line line c none may is =
       let late = (none_of_both (early_refusal SESSION_LINE_LIMIT line) (late_refusal (command_in line)) none).1 in
       let read : IsRead SESSION_LINE_LIMIT line c = record { taken = none; command = read_is (command_in line) late ∙ ap Some is } in
-      let two = both (is_kept c) (nat_le (length (text_of c)) SESSION_LINE_LIMIT) (subst (λ d. may_be_loaded d ≡ true) is may) in
-      let short = at_most (length (text_of c)) SESSION_LINE_LIMIT two.1 in
+      let two = both_true (is_kept c) (nat_le (length (text_of c)) SESSION_LINE_LIMIT) (subst (λ d. may_be_loaded d ≡ true) is may) in
+      let short = at_most_from_test (length (text_of c)) SESSION_LINE_LIMIT two.1 in
       let printable = prints SESSION_LINE_LIMIT line c read in
       (two.0, record { printable = printable; canonical = ap (λ o. unwrap_or o Tree.Nothing) (again SESSION_LINE_LIMIT c printable short).command; short = short })
 
@@ -113,5 +106,5 @@ module _ (prints : PrintsWhatIsRead) (again : ReadsWhatIsPrinted) where
   unfolding kept_in
   is_loadable c (line, is) =
       let found = if_some (is_none (first_refusal SESSION_LINE_LIMIT line) && may_be_loaded (spelled line)) (spelled line) c is in
-      let two = both (is_none (first_refusal SESSION_LINE_LIMIT line)) (may_be_loaded (spelled line)) found.0 in
+      let two = both_true (is_none (first_refusal SESSION_LINE_LIMIT line)) (may_be_loaded (spelled line)) found.0 in
       by_line line c (none_is (first_refusal SESSION_LINE_LIMIT line) two.0) two.1 found.1

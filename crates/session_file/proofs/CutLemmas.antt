@@ -23,7 +23,8 @@ use Rattle.session_file.specs.Laws.{CutTextsAreBad, IsAcceptedEntry, IsSavable, 
 use Rattle.session_file.specs.Reading.{FileLine, Passed, End, Command, Bad, progress_after, header, may_end, may_go_on, old_header, file_line_of, read_counted, read_lines, read_on, reading_of, starting, stops}
 use Rattle.session_file.specs.Text.{counts_in, ended_line, entry_text, session_text}
 use Rattle.session_file.proofs.ReadLemmas.{by_part}
-use Rattle.session_file.proofs.SavedLemmas.{ascii_is, counts_ascii, line_then, not_false, or_false}
+use Rattle.session_file.proofs.SavedLemmas.{ascii_is, counts_ascii, line_then}
+use Rattle.exact.proofs.Truths.{both_false, true_from_not}
 
 -- ---- A text without a line `end`
 
@@ -44,7 +45,7 @@ faulty_from p number rest false None later = refl
 faulty_on : (p : Progress) (number : ℕ) (ls : List (List ℕ)) → list_any is_end ls ≡ false → IsSome (read_on p number ls).fault
 faulty_on p number [] none = refl
 faulty_on p number (line ∷ rest) none =
-    let parts = or_false (is_end line) (list_any is_end rest) none in
+    let parts = both_false (is_end line) (list_any is_end rest) none in
     subst (λ (part : FileLine). IsSome (by_part p number rest part).fault) (sym (not_the_end p line parts.0))
     (faulty_from p number rest (is_passed line) (cond (may_go_on p) (kept_in line) None) (λ q. faulty_on q (number + 1) rest parts.1))
 
@@ -55,7 +56,7 @@ faulty_counts (Some s) rest none = faulty_on (starting (Some s)) 3 rest none
 
 faulty_counted : (ls : List (List ℕ)) → list_any is_end ls ≡ false → IsSome (read_counted ls).fault
 faulty_counted [] none = refl
-faulty_counted (line ∷ rest) none = faulty_counts (counts_of line) rest (or_false (is_end line) (list_any is_end rest) none).1
+faulty_counted (line ∷ rest) none = faulty_counts (counts_of line) rest (both_false (is_end line) (list_any is_end rest) none).1
 
 faulty_after : (rest : List (List ℕ)) (old new : Bool) → list_any is_end rest ≡ false →
     IsSome (cond old (read_on (starting None) 2 rest) (cond new (read_counted rest) (stops faults.BadHeader))).fault
@@ -66,7 +67,7 @@ faulty_after rest false false none = refl
 faulty_lines : (ls : List (List ℕ)) → list_any is_end ls ≡ false → IsSome (read_lines ls).fault
 faulty_lines [] none = refl
 faulty_lines (first ∷ rest) none =
-    faulty_after rest (bytes_eq first old_header) (bytes_eq first header) (or_false (is_end first) (list_any is_end rest) none).1
+    faulty_after rest (bytes_eq first old_header) (bytes_eq first header) (both_false (is_end first) (list_any is_end rest) none).1
 
 pub texts_without_end : TextsWithoutEndAreBad
 unfolding reading_of
@@ -77,15 +78,15 @@ texts_without_end text none = faulty_lines (lines text) none
 split_open : (line : List ℕ) → has_other_byte line ≡ false → slice_split (λ b. b == 10) line ≡ line ∷ []
 split_open [] h = refl
 split_open (x ∷ xs) h =
-    let parts = or_false (not (is_ascii x)) (has_other_byte xs) h in
-    ap (λ b. cond b ([] ∷ slice_split (λ b. b == 10) xs) (onto_first x (slice_split (λ b. b == 10) xs))) (ascii_is x (not_false (is_ascii x) parts.0)).0
+    let parts = both_false (not (is_ascii x)) (has_other_byte xs) h in
+    ap (λ b. cond b ([] ∷ slice_split (λ b. b == 10) xs) (onto_first x (slice_split (λ b. b == 10) xs))) (ascii_is x (true_from_not (is_ascii x) parts.0)).0
     ∙ ap (onto_first x) (split_open xs parts.1)
 
 front_ascii : (line : List ℕ) (n : ℕ) → has_other_byte line ≡ false → has_other_byte (take n line) ≡ false
 front_ascii line zero h = refl
 front_ascii [] (suc n) h = refl
 front_ascii (x ∷ xs) (suc n) h =
-    let parts = or_false (not (is_ascii x)) (has_other_byte xs) h in
+    let parts = both_false (not (is_ascii x)) (has_other_byte xs) h in
     ap (λ b. b || has_other_byte (take n xs)) parts.0 ∙ front_ascii xs n parts.1
 
 no_end_alone : (line : List ℕ) (empty : Bool) → is_end line ≡ false → list_any is_end (cond empty [] (line ∷ [])) ≡ false

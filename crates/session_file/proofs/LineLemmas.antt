@@ -1,11 +1,12 @@
 -- The first line of a text, and the lines after it.
 use Rattle.std.proofs.Common.{◌≡◌, ℕ, ◌+◌, ◌<◌, ◌≤◌, ◌==◌, ◌∙◌, Bool, true, false, cond, ltb, List, [], ◌∷◌, length, take, drop, Some, None, refl, ap, sym, subst, arith}
 use Rattle.std.proofs.lemmas.Grind.{common_steps}
-use Rattle.std.proofs.lemmas.Option.{cond_some, none-some}
+use Rattle.std.proofs.lemmas.Option.{cond_some}
 use Rattle.std.proofs.lemmas.Bool.Decides.{nat_tests}
 use Rattle.std.proofs.lemmas.List.Splits.{slice_split_first}
 use Rattle.std.specs.List.{slice_split, onto_first, position, position_or_len}
 use Rattle.std.specs.Str.Lines.{lines, lines_of_parts, strip_carriage_return}
+use Rattle.exact.proofs.Items.{untrue_where_none}
 
 abbrev is_feed : ℕ → Bool
 is_feed b = b == 10
@@ -43,17 +44,13 @@ lines_ended text end h =
 pub end_within : (text : List ℕ) (end : ℕ) → position (λ b. b == 10) text ≡ Some end → end < length text
 end_within text end h = let found = found_at text end h in omega (arith, found.0, found.1)
 
-nowhere : (b : Bool) (n : ℕ) → cond b (Some n) None ≡ None → b ≡ false
-nowhere true n h = absurd (none-some n (sym h))
-nowhere false n h = refl
-
 one_part : (text : List ℕ) → length text ≤ position_or_len is_feed text → parts_of text ≡ text ∷ []
 one_part [] h = refl
 one_part (x ∷ xs) h = grind (arith, common_steps, one_part xs)
 
 pub lines_open : (text : List ℕ) → position (λ b. b == 10) text ≡ None → (length text == 0) ≡ false → lines text ≡ text ∷ []
 lines_open text h some =
-    let past : ltb (position_or_len is_feed text) (length text) ≡ false = nowhere (ltb (position_or_len is_feed text) (length text)) (position_or_len is_feed text) h in
+    let past : ltb (position_or_len is_feed text) (length text) ≡ false = untrue_where_none (ltb (position_or_len is_feed text) (length text)) (position_or_len is_feed text) h in
     ap lines_of_parts (one_part text (grind (arith, nat_tests, past))) ∙ ap (λ b. cond b [] (text ∷ [])) some
 
 -- a text that isn't empty has a line

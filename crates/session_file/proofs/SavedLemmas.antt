@@ -1,5 +1,5 @@
 -- The lines of a text that was saved, and what they are read as.
-use Rattle.std.proofs.Common.{◌≡◌, ℕ, zero, suc, ◌+◌, ◌-◌, ◌^◌, ◌<◌, ◌≤◌, ◌==◌, ◌∙◌, ◌&&◌, ◌||◌, not, leb, ltb, eqb, Bool, true, false, cond, List, [], ◌∷◌, ◌++◌, length, take, map, codes, slice_index, Option, Some, None, refl, ap, sym, arith, append_assoc, append-nil}
+use Rattle.std.proofs.Common.{◌≡◌, ℕ, zero, suc, ◌+◌, ◌-◌, ◌^◌, ◌<◌, ◌≤◌, ◌==◌, ◌∙◌, ◌&&◌, ◌||◌, not, leb, ltb, eqb, true, false, cond, List, [], ◌∷◌, ◌++◌, length, take, map, codes, slice_index, Option, Some, None, refl, ap, sym, arith, append_assoc, append-nil}
 use Rattle.std.proofs.lemmas.Bool.Decides.{nat_tests}
 use Rattle.std.proofs.lemmas.Fmt.{decimal_is_IsNumeral}
 use Rattle.std.proofs.lemmas.List.Folds.{list_any-append}
@@ -29,31 +29,24 @@ use Rattle.session_file.proofs.KeptLemmas.{kept_taken}
 use Rattle.session_file.proofs.LineLemmas.{part_before}
 use Rattle.session_file.proofs.ReadLemmas.{read_command, read_end}
 use Rattle.session_file.proofs.TextLemmas.{whole_again}
+use Rattle.exact.proofs.Truths.{both_false, true_from_not}
 
 -- ---- Lines that are written one after another
-
-pub or_false : (a b : Bool) → (a || b) ≡ false → (a ≡ false) × (b ≡ false)
-or_false true b h = absurd (cc h)
-or_false false b h = (refl, h)
 
 pub ascii_is : (byte : ℕ) → is_ascii byte ≡ true → ((byte == 10) ≡ false) × ((byte == 13) ≡ false)
 ascii_is byte h = (grind (arith, nat_tests, h), grind (arith, nat_tests, h))
 
-pub not_false : (b : Bool) → not b ≡ false → b ≡ true
-not_false true h = refl
-not_false false h = absurd (cc h)
-
 split_at : (line rest : List ℕ) → has_other_byte line ≡ false → slice_split (λ b. b == 10) (line ++ 10 ∷ rest) ≡ line ∷ slice_split (λ b. b == 10) rest
 split_at [] rest h = refl
 split_at (x ∷ xs) rest h =
-    let parts = or_false (not (is_ascii x)) (has_other_byte xs) h in
-    ap (λ b. cond b ([] ∷ slice_split (λ b. b == 10) (xs ++ 10 ∷ rest)) (onto_first x (slice_split (λ b. b == 10) (xs ++ 10 ∷ rest)))) (ascii_is x (not_false (is_ascii x) parts.0)).0
+    let parts = both_false (not (is_ascii x)) (has_other_byte xs) h in
+    ap (λ b. cond b ([] ∷ slice_split (λ b. b == 10) (xs ++ 10 ∷ rest)) (onto_first x (slice_split (λ b. b == 10) (xs ++ 10 ∷ rest)))) (ascii_is x (true_from_not (is_ascii x) parts.0)).0
     ∙ ap (onto_first x) (split_at xs rest parts.1)
 
 no_return_at : (line : List ℕ) (i : ℕ) → has_other_byte line ≡ false → (slice_index line i == 13) ≡ false
 no_return_at [] i h = refl
-no_return_at (x ∷ xs) zero h = (ascii_is x (not_false (is_ascii x) (or_false (not (is_ascii x)) (has_other_byte xs) h).0)).1
-no_return_at (x ∷ xs) (suc i) h = no_return_at xs i (or_false (not (is_ascii x)) (has_other_byte xs) h).1
+no_return_at (x ∷ xs) zero h = (ascii_is x (true_from_not (is_ascii x) (both_false (not (is_ascii x)) (has_other_byte xs) h).0)).1
+no_return_at (x ∷ xs) (suc i) h = no_return_at xs i (both_false (not (is_ascii x)) (has_other_byte xs) h).1
 
 pub line_then : (line rest : List ℕ) → has_other_byte line ≡ false → lines (ended_line line ++ rest) ≡ line ∷ lines rest
 line_then line rest h =

@@ -6,12 +6,13 @@ use Rattle.std.proofs.lemmas.List.Sums.{sum_by-append, sum_by-cons}
 use Rattle.std.proofs.lemmas.Option.{same_Some, none-some}
 use Rattle.std.proofs.lemmas.Fmt.{decimal_digit, first_decimal, decimal_is_IsNumeral, length-decimal-le}
 use Rattle.std.proofs.Math.Seq.{take-append_seam, drop-append_seam}
-use Rattle.std.specs.Char.{is_ascii_digit, digit_value}
+use Rattle.std.specs.Char.{is_ascii_digit}
 use Rattle.std.specs.Fmt.{decimal}
 use Rattle.std.specs.List.{flat_map, prefix_len}
 use Rattle.std.specs.Str.{bytes_eq}
 use Rattle.std.specs.Str.Parse.{AllDigits, digits_value}
 use Rattle.exact.specs.Options.{◌>>=◌}
+use Rattle.exact.proofs.Naturals.{is_digit_by_value}
 use Rattle.fixed_point.specs.Decimal.{AreDigits, digits_at}
 use Rattle.fixed_point.specs.Digits.{has_spare_zero}
 use Rattle.command_text.specs.Tree
@@ -28,9 +29,6 @@ abbrev IsNoDigit : List ℕ → Type 0
 IsNoDigit [] = Unit {0}
 IsNoDigit (byte ∷ bytes) = is_ascii_digit byte ≡ false
 
-digit_is : (byte : ℕ) → digit_value byte < 10 → is_ascii_digit byte ≡ true
-digit_is byte below = grind (arith, nat_tests)
-
 none_in_front : (rest : List ℕ) → IsNoDigit rest → prefix_len is_ascii_digit rest ≡ 0
 none_in_front [] h = refl
 none_in_front (byte ∷ rest) h = rw h refl
@@ -38,7 +36,7 @@ none_in_front (byte ∷ rest) h = rw h refl
 count_of_digits : (digits rest : List ℕ) → AllDigits 10 digits → IsNoDigit rest → prefix_len is_ascii_digit (digits ++ rest) ≡ length digits
 count_of_digits [] rest are none = none_in_front rest none
 count_of_digits (digit ∷ digits) rest are none =
-    ap (λ b. cond b (1 + prefix_len is_ascii_digit (digits ++ rest)) 0) (digit_is digit are.0)
+    ap (λ b. cond b (1 + prefix_len is_ascii_digit (digits ++ rest)) 0) (is_digit_by_value digit are.0)
     ∙ ap (λ n. 1 + n) (count_of_digits digits rest are.1 none) ∙ omega arith
 
 split_again : (digits rest : List ℕ) → AreDigits 1 10 digits → IsNoDigit rest → digits_at 10 (digits ++ rest) ≡ Some (digits, rest)

@@ -5,12 +5,7 @@ use Rattle.std.specs.List.{range_with_len, list_any, list_all}
 use Rattle.std.proofs.lemmas.Bool.{false≢true, or_cases, and_parts, or_left, or_right, both_ways, false_from_ne_true}
 use Rattle.std.proofs.lemmas.Bool.Decides.{nat_tests}
 use Rattle.tick_set.specs.Ticks.{within, between, some_in, all_in}
-
--- two tests are one if each is true where the other is
-pub same_test : (x y : Bool) → (x ≡ true → y ≡ true) → (y ≡ true → x ≡ true) → x ≡ y
-same_test true y to from = grind (arith, to refl)
-same_test false true to from = from refl
-same_test false false to from = refl
+use Rattle.exact.proofs.Truths.{same_truth}
 
 pub within_parts : (lo hi t : ℕ) → within lo hi t ≡ true → (lo ≤ t) × (t ≤ hi)
 within_parts lo hi t h = grind (arith, nat_tests)
@@ -91,6 +86,6 @@ all_in_fails p lo hi u l k e = false_from_ne_true (all_in p lo hi) (λ h. both_w
 -- tests that agree from lo to hi have one answer
 pub all_in_same : (p q : ℕ → Bool) (lo hi : ℕ) → ((u : ℕ) → lo ≤ u → u ≤ hi → p u ≡ q u) → all_in p lo hi ≡ all_in q lo hi
 all_in_same p q lo hi h =
-    same_test (all_in p lo hi) (all_in q lo hi)
+    same_truth (all_in p lo hi) (all_in q lo hi)
     (λ e. all_in_from q lo hi (λ u l k. sym (h u l k) ∙ all_in_at p lo hi e u l k))
     (λ e. all_in_from p lo hi (λ u l k. h u l k ∙ all_in_at q lo hi e u l k))

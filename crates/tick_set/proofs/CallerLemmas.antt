@@ -6,9 +6,10 @@ use Rattle.std.proofs.lemmas.Bool.Decides.{nat_tests}
 use Rattle.tick_set.specs.TickList.{has}
 use Rattle.tick_set.specs.Ticks.{AgreeIn, within, between, listed, some_in, all_in}
 use Rattle.tick_set.specs.Operators.{until_in, next_at, until_at, until_within_at, until_after_at, eventually_at, eventually_within_at, eventually_after_at, always_at, always_for_at}
-use Rattle.tick_set.proofs.Between.{same_test, some_in_found, some_in_at, all_in_at, all_in_from, all_in_same}
+use Rattle.tick_set.proofs.Between.{some_in_found, some_in_at, all_in_at, all_in_from, all_in_same}
 use Rattle.tick_set.proofs.RunLemmas.{filter_range_agree}
 use Rattle.tick_set.proofs.UntilLemmas.{until_in_found, until_in_from}
+use Rattle.exact.proofs.Truths.{same_truth}
 
 -- ---- tests that agree have one answer
 pub same_listed : (p q : ℕ → Bool) (lo hi : ℕ) → AgreeIn lo hi p q → listed p lo hi ≡ listed q lo hi
@@ -23,7 +24,7 @@ some_in_goes_over p q lo hi same e =
 
 pub some_in_same : (p q : ℕ → Bool) (lo hi : ℕ) → AgreeIn lo hi p q → some_in p lo hi ≡ some_in q lo hi
 some_in_same p q lo hi same =
-    same_test (some_in p lo hi) (some_in q lo hi) (some_in_goes_over p q lo hi same) (some_in_goes_over q p lo hi (λ u l k. sym (same u l k)))
+    same_truth (some_in p lo hi) (some_in q lo hi) (some_in_goes_over p q lo hi same) (some_in_goes_over q p lo hi (λ u l k. sym (same u l k)))
 
 until_in_goes_over : (g g' h h' : ℕ → Bool) (lo hi t : ℕ) → AgreeIn t hi g g' → AgreeIn lo hi h h' → until_in g h lo hi t ≡ true → until_in g' h' lo hi t ≡ true
 until_in_goes_over g g' h h' lo hi t guards goals e =
@@ -39,7 +40,7 @@ until_in_goes_over g g' h h' lo hi t guards goals e =
 -- the goals need agree from lo on, the guards from t on
 pub until_in_same : (g g' h h' : ℕ → Bool) (lo hi t : ℕ) → AgreeIn t hi g g' → AgreeIn lo hi h h' → until_in g h lo hi t ≡ until_in g' h' lo hi t
 until_in_same g g' h h' lo hi t guards goals =
-    same_test (until_in g h lo hi t) (until_in g' h' lo hi t)
+    same_truth (until_in g h lo hi t) (until_in g' h' lo hi t)
     (until_in_goes_over g g' h h' lo hi t guards goals)
     (until_in_goes_over g' g h' h lo hi t (λ u l k. sym (guards u l k)) (λ u l k. sym (goals u l k)))
 
@@ -126,7 +127,7 @@ has_listed p lo hi t = has_filtered p (hi + 1 - lo) lo t ∙ ap (λ b. b && p t)
 -- ---- derived operators
 pub some_is_until : (g : ℕ → Bool) (lo hi t : ℕ) → some_in g lo hi ≡ until_in (λ _. true) g lo hi t
 some_is_until g lo hi t =
-    same_test (some_in g lo hi) (until_in (λ _. true) g lo hi t)
+    same_truth (some_in g lo hi) (until_in (λ _. true) g lo hi t)
     (λ e.
     let s = some_in_found g lo hi e in
     until_in_from (λ _. true) g lo hi t (record { goal = s.tick; from = s.from; upto = omega (arith, s.below); holds = s.passes; guard = λ v l k. refl }))

@@ -6,7 +6,8 @@ use Rattle.std.proofs.lemmas.Bool.Decides.{nat_tests}
 use Rattle.tick_set.specs.declared.spans.Span.{Span}
 use Rattle.tick_set.specs.Ticks.{within, between, listed}
 use Rattle.tick_set.specs.Runs.{spans_have, IsNormalFrom, IsNormal, IsRuns, pairs, with_tick, runs_of}
-use Rattle.tick_set.proofs.Between.{same_test, within_parts, within_from}
+use Rattle.tick_set.proofs.Between.{within_parts, within_from}
+use Rattle.exact.proofs.Truths.{same_truth}
 
 -- no span of a normal list has a tick below its start
 pub spans_have-below : (spans : List Span) (from t : ℕ) → IsNormalFrom from spans → t < from → spans_have spans t ≡ false
@@ -121,7 +122,7 @@ runs_of_listed member test lo hi spans r h =
 -- every set's spans are the runs of its list of ticks
 pub runs_of_all : (member : ℕ → Bool) (spans : List Span) → IsRuns member spans → pairs spans ≡ runs_of (listed member 0 1000000000)
 runs_of_all member spans r =
-    runs_of_listed member member 0 1000000000 spans r (λ t. same_test (member t) (within 0 1000000000 t && member t)
+    runs_of_listed member member 0 1000000000 spans r (λ t. same_truth (member t) (within 0 1000000000 t && member t)
     (λ e. and_from (within 0 1000000000 t) (member t) (within_from 0 1000000000 t (omega arith) (spans_have-in_range spans t (r.ticks t ∙ e))) e)
     (λ e. (and_parts (within 0 1000000000 t) (member t) e).1))
 

@@ -6,11 +6,12 @@ use Rattle.tick_set.specs.declared.spans.Span.{Span}
 use Rattle.tick_set.specs.Ticks.{within}
 use Rattle.tick_set.specs.Operators.{until_in}
 use Rattle.tick_set.specs.Runs.{spans_have, IsNormal, IsNormalFrom}
-use Rattle.tick_set.proofs.Between.{same_test, within_parts, within_from}
+use Rattle.tick_set.proofs.Between.{within_parts, within_from}
 use Rattle.tick_set.proofs.RunLemmas.{spans_have-below, spans_have-append, IsNormalFrom-push}
 use Rattle.tick_set.proofs.UntilLemmas.{until_in_found, until_in_from, until_in_none}
 use Rattle.interval_set.specs.Cursor.{DropsEnded, EndsFrom}
 use Rattle.until_merge.specs.Start.{IsStart}
+use Rattle.exact.proofs.Truths.{same_truth}
 
 -- no tick before the goal is a guard
 pub start_here : (g : ℕ → Bool) (c a : ℕ) → ((t : ℕ) → t < a → g t ≡ false) → IsStart g c a a
@@ -141,7 +142,7 @@ start_in_all spans guards c a s normal suffix start =
 -- what leads to a span of goals is the span, made longer
 reach_of_goal : (g : ℕ → Bool) (c a b s : ℕ) → a ≤ b → IsStart g c a s → (t : ℕ) → until_in g (within a b) t (t + c) t ≡ within s b t
 reach_of_goal g c a b s order start t =
-    same_test (until_in g (within a b) t (t + c) t) (within s b t)
+    same_truth (until_in g (within a b) t (t + c) t) (within s b t)
     (λ e.
     let l = until_in_found g (within a b) t (t + c) t e in
     let goal = within_parts a b l.goal l.holds in
@@ -161,7 +162,7 @@ reach_of_goal g c a b s order start t =
 -- a goal is in the first span or in a later one
 until_in_either : (g p q : ℕ → Bool) (lo hi t : ℕ) → until_in g (λ u. p u || q u) lo hi t ≡ (until_in g p lo hi t || until_in g q lo hi t)
 until_in_either g p q lo hi t =
-    same_test (until_in g (λ u. p u || q u) lo hi t) (until_in g p lo hi t || until_in g q lo hi t)
+    same_truth (until_in g (λ u. p u || q u) lo hi t) (until_in g p lo hi t || until_in g q lo hi t)
     (λ e.
     let l = until_in_found g (λ u. p u || q u) lo hi t e in
     elim (or_cases (p l.goal) (q l.goal) l.holds) [

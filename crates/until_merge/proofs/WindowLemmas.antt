@@ -7,10 +7,11 @@ use Rattle.tick_set.specs.declared.spans.Span.{Span}
 use Rattle.tick_set.specs.Ticks.{within, all_in, LiesIn}
 use Rattle.tick_set.specs.Operators.{until_in, until_at, until_within_at, until_after_at, eventually_within_at, eventually_after_at, always_for_at}
 use Rattle.tick_set.specs.Runs.{spans_have, IsNormal, IsNormalFrom}
-use Rattle.tick_set.proofs.Between.{same_test, within_parts, within_from, some_in_found, some_in_at, some_in_none, all_in_at, all_in_from}
+use Rattle.tick_set.proofs.Between.{within_parts, within_from, some_in_found, some_in_at, some_in_none, all_in_at, all_in_from}
 use Rattle.tick_set.proofs.RunLemmas.{spans_have-append}
 use Rattle.tick_set.proofs.UntilLemmas.{until_in_found, until_in_from}
 use Rattle.until_merge.proofs.UntilLemmas.{front_lo}
+use Rattle.exact.proofs.Truths.{same_truth}
 
 -- last is the greatest tick that passes
 pub record IsLastTick (h : ℕ → Bool) (last : ℕ) : Type 0 where
@@ -21,7 +22,7 @@ module _ (g h : ℕ → Bool) (lo hi : ℕ) (g_in : LiesIn lo hi g) (h_in : Lies
   -- a goal after the window there is none, and before it nothing leads to one
   pub until_within_window : (c t : ℕ) → until_in g h t (t + c) t ≡ (within lo hi t && until_within_at c g h hi t)
   until_within_window c t =
-      same_test (until_in g h t (t + c) t) (within lo hi t && until_within_at c g h hi t)
+      same_truth (until_in g h t (t + c) t) (within lo hi t && until_within_at c g h hi t)
       (λ e.
       let l = until_in_found g h t (t + c) t e in
       let goal = within_parts lo hi l.goal (h_in l.goal l.holds) in
@@ -43,7 +44,7 @@ module _ (g h : ℕ → Bool) (lo hi : ℕ) (g_in : LiesIn lo hi g) (h_in : Lies
   pub held_and_until : (c last t : ℕ) → 0 < c → hi < last →
       ((leb t last && all_in g t (min (t + (c - 1)) last)) && (leb lo t && until_in g h (t + c) (t + c + (last - 1)) (t + c))) ≡ (within lo hi t && until_after_at c g h hi t)
   held_and_until c last t positive below =
-      same_test ((leb t last && all_in g t (min (t + (c - 1)) last)) && (leb lo t && until_in g h (t + c) (t + c + (last - 1)) (t + c))) (within lo hi t && until_after_at c g h hi t)
+      same_truth ((leb t last && all_in g t (min (t + (c - 1)) last)) && (leb lo t && until_in g h (t + c) (t + c + (last - 1)) (t + c))) (within lo hi t && until_after_at c g h hi t)
       (λ e.
       let both = and_parts (leb t last && all_in g t (min (t + (c - 1)) last)) (leb lo t && until_in g h (t + c) (t + c + (last - 1)) (t + c)) e in
       let held = and_parts (leb t last) (all_in g t (min (t + (c - 1)) last)) both.0 in
@@ -71,7 +72,7 @@ module _ (h : ℕ → Bool) (lo hi : ℕ) (h_in : LiesIn lo hi h) where
   pub until_by_window : (g : ℕ → Bool) → ((v : ℕ) → g v ≡ within lo hi v) → (c t : ℕ) → until_in g h t (t + c) t ≡ (within lo hi t && eventually_within_at c h hi t)
   until_by_window g g_is c t =
       until_within_window g h lo hi (λ v e. sym (g_is v) ∙ e) h_in c t
-      ∙ same_test (within lo hi t && until_within_at c g h hi t) (within lo hi t && eventually_within_at c h hi t)
+      ∙ same_truth (within lo hi t && until_within_at c g h hi t) (within lo hi t && eventually_within_at c h hi t)
       (λ e.
       let parts = and_parts (within lo hi t) (until_within_at c g h hi t) e in
       let l = until_in_found g h t (min (t + c) hi) t parts.1 in
@@ -86,7 +87,7 @@ module _ (h : ℕ → Bool) (lo hi : ℕ) (h_in : LiesIn lo hi h) where
   -- what is held lies in the window
   pub held_within : (c t : ℕ) → (leb t hi && all_in h t (min (t + c) hi)) ≡ (within lo hi t && always_for_at c h hi t)
   held_within c t =
-      same_test (leb t hi && all_in h t (min (t + c) hi)) (within lo hi t && always_for_at c h hi t)
+      same_truth (leb t hi && all_in h t (min (t + c) hi)) (within lo hi t && always_for_at c h hi t)
       (λ e.
       let parts = and_parts (leb t hi) (all_in h t (min (t + c) hi)) e in
       let first : h t ≡ true = all_in_at h t (min (t + c) hi) parts.1 t (omega arith) (omega (arith, leb-true t hi parts.0)) in
@@ -100,7 +101,7 @@ module _ (h : ℕ → Bool) (lo hi : ℕ) (h_in : LiesIn lo hi h) where
     pub after_from_last : c ≤ last → (t : ℕ) → within lo (last - c) t ≡ (within lo hi t && eventually_after_at c h hi t)
     after_from_last far t =
         let in_window = within_parts lo hi last (h_in last is_last.has) in
-        same_test (within lo (last - c) t) (within lo hi t && eventually_after_at c h hi t)
+        same_truth (within lo (last - c) t) (within lo hi t && eventually_after_at c h hi t)
         (λ e.
         let parts = within_parts lo (last - c) t e in
         and_from (within lo hi t) _ (within_from lo hi t parts.0 (omega (arith, parts.1, in_window.1))) (some_in_at h (t + c) hi last (omega (arith, parts.1)) in_window.1 is_last.has))

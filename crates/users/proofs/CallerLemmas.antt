@@ -1,12 +1,13 @@
 -- For the crates above: which lines of some bytes are for a user.
 use Rattle.std.proofs.Common.{◌≡◌, ℕ, suc, true, false, Bool, List, [], ◌∷◌, ◌++◌, length, drop, None, Some, refl, sym, ap, ◌∙◌, append-nil, append_assoc, arith, inl, inr}
 use Rattle.std.proofs.lemmas.Bool.{cases_Bool, and_parts, and_from}
-use Rattle.std.proofs.lemmas.Bool.Decides.{nat_tests, Decides-eqb}
+use Rattle.std.proofs.lemmas.Bool.Decides.{nat_tests}
 use Rattle.std.specs.Prelude.{◌==◌}
 use Rattle.std.specs.List.{filter_map, list_all, starts_with}
 use Rattle.std.specs.Str.{bytes_eq}
 use Rattle.ftl_lexer.specs.Forms.{continues_name}
 use Rattle.users.specs.Tagged.{after_tag, is_no_feed, lines_for, lines_in, split_lines, tag_of, tagged_line, tagged_lines}
+use Rattle.exact.proofs.Naturals.{equals_itself}
 
 -- ---- Bytes without a line feed
 
@@ -72,12 +73,9 @@ both_have_none (x ∷ xs) ys h k =
     let both = and_parts (is_no_feed x) (has_no_feed xs) h in
     and_from (is_no_feed x) (has_no_feed (xs ++ ys)) both.0 (both_have_none xs ys both.1 k)
 
-same_byte : (b : ℕ) → (b == b) ≡ true
-same_byte b = (Decides-eqb b b).1 refl
-
 own_tag : (tag line : List ℕ) → starts_with ◌==◌ (tag ++ line) tag ≡ true
 own_tag [] line = refl
-own_tag (b ∷ tag) line = rw (same_byte b) (own_tag tag line)
+own_tag (b ∷ tag) line = rw (equals_itself b) (own_tag tag line)
 
 past_tag : (tag line : List ℕ) → drop (length tag) (tag ++ line) ≡ line
 past_tag [] line = refl

@@ -1,5 +1,5 @@
 -- Squares of the distances of places that are off, and how what lies between two numbers compares.
-use Rattle.std.proofs.Common.{◌≡◌, ℕ, ◌+◌, ◌-◌, ◌*◌, ◌≤◌, Bool, true, false, ℤ, pos, negsuc, ◌+ℤ◌, ◌-ℤ◌, neg_ℤ, ◌≤ℤ◌, unsigned_abs, refl, ap, subst, ◌∙◌, arith}
+use Rattle.std.proofs.Common.{◌≡◌, ℕ, ◌+◌, ◌-◌, ◌*◌, ◌≤◌, Bool, true, false, ℤ, pos, negsuc, ◌+ℤ◌, ◌-ℤ◌, ◌≤ℤ◌, unsigned_abs, refl, ap, subst, ◌∙◌, arith}
 use Rattle.std.specs.Prelude.{int_le, if◌then◌else◌}
 use Rattle.std.proofs.lemmas.Bool.Decides.{nat_tests}
 use Rattle.std.proofs.lemmas.Int.{ints}
@@ -11,12 +11,9 @@ use Rattle.fixed_point.specs.declared.number.Point.{Point}
 use Rattle.geometry.specs.Distance.{distance_compares}
 use Rattle.geometry.specs.Plane.{square, squared_distance}
 use Rattle.worlds.specs.Apart.{distance_compares_by, farthest_square, least_apart, most_apart, nearest_square, possibly_compares, surely_compares}
+use Rattle.exact.proofs.Integers.{within_size}
 
 -- ---- sizes
-
-bounded : (x : ℤ) (w : ℕ) → unsigned_abs x ≤ w → (neg_ℤ (pos w) ≤ℤ x) × (x ≤ℤ pos w)
-bounded (pos n) w h = (omega (arith, ints), omega (arith, ints))
-bounded (negsuc n) w h = (omega (arith, ints), omega (arith, ints))
 
 -- a number lies between two others
 pub record LiesIn (low high s : ℤ) : Type 0 where
@@ -38,8 +35,8 @@ squares_rise m n h = let larger : m * m ≤ n * n = mul-le m m n n h h in omega 
 
 off_by : (a b a' b' : ℤ) (m : ℕ) → unsigned_abs (a' -ℤ a) ≤ m → unsigned_abs (b' -ℤ b) ≤ m → LiesIn ((b -ℤ a) -ℤ pos (2 * m)) ((b -ℤ a) +ℤ pos (2 * m)) (b' -ℤ a')
 off_by a b a' b' m h k =
-    let one = bounded (a' -ℤ a) m h in
-    let two = bounded (b' -ℤ b) m k in
+    let one = within_size (a' -ℤ a) m h in
+    let two = within_size (b' -ℤ b) m k in
     record { least = omega (arith, ints, one.1, two.0); most = omega (arith, ints, one.0, two.1) }
 
 one_axis : (error : ℕ) (d d' : ℤ) → LiesIn (d -ℤ pos (2 * error)) (d +ℤ pos (2 * error)) d' →

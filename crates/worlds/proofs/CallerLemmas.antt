@@ -4,10 +4,10 @@ use Rattle.std.proofs.Common.{◌≡◌, ℕ, ◌+◌, ◌-◌, ◌*◌, ◌≤�
 use Rattle.std.specs.Prelude.{◌==◌, if◌then◌else◌}
 use Rattle.std.specs.Option.{option_map_or}
 use Rattle.std.proofs.lemmas.Bool.{cases_lt, or_left, or_right}
-use Rattle.std.proofs.lemmas.Bool.Decides.{nat_tests}
 use Rattle.std.proofs.lemmas.Int.{ints}
 use Rattle.std.proofs.lemmas.Nat.{mul-le}
 use Rattle.exact.proofs.Ring.{part, number, sum, product, same}
+use Rattle.exact.proofs.Naturals.{equals_itself}
 use Rattle.fixed_point.specs.declared.number.Point.{Point}
 use Rattle.geometry.specs.Plane.{square}
 use Rattle.formula.specs.declared.tree.RAtom.{RAtom}
@@ -110,20 +110,17 @@ nearest_at_most error p q =
 
 -- ---- what an atom sees
 
-own : (v : ℕ) → (v == v) ≡ true
-own v = grind (arith, nat_tests)
-
 surely_sees : (error : ℕ) (w : World) (b c : ℕ → ℕ) (a : RAtom) → ((v : ℕ) → atom_has v a ≡ true → b v ≡ c v) → (x : Env) (t : ℕ)
     → surely_holds error w.regions (trace_of w.history b) b a x t ≡ surely_holds error w.regions (trace_of w.history c) c a x t
 surely_sees error w b c (atoms.Compare q op r) same x t =
     atom_same w.regions (trace_of w.history b) (trace_of w.history c) (atoms.Compare q op r) x t (λ v has. ap (λ id. cells_at w.history id t) (same v has))
 surely_sees error w b c (atoms.Inside v n) same x t =
-    ap (λ id. option_map_or (is_in_region_by (is_surely_inside error) w.regions n) (position_in t (cells_at w.history id t)) false) (same v (own v))
+    ap (λ id. option_map_or (is_in_region_by (is_surely_inside error) w.regions n) (position_in t (cells_at w.history id t)) false) (same v (equals_itself v))
 surely_sees error w b c (atoms.Outside v n) same x t =
-    ap (λ id. option_map_or (λ p. not (is_in_region_by (is_possibly_inside error) w.regions n p)) (position_in t (cells_at w.history id t)) false) (same v (own v))
+    ap (λ id. option_map_or (λ p. not (is_in_region_by (is_possibly_inside error) w.regions n p)) (position_in t (cells_at w.history id t)) false) (same v (equals_itself v))
 surely_sees error w b c (atoms.Dist v u op k) same x t =
-    let first = same v (or_left (v == v) (u == v) (own v)) in
-    let second = same u (or_right (v == u) (u == u) (own u)) in
+    let first = same v (or_left (v == v) (u == v) (equals_itself v)) in
+    let second = same u (or_right (v == u) (u == u) (equals_itself u)) in
     λ i. distance_holds_by surely_compares (if first i == second i then 0 else error) op k (position_in t (cells_at w.history (first i) t)) (position_in t (cells_at w.history (second i) t))
 surely_sees error w b c (atoms.Sphere r vs) same x t =
     atom_same w.regions (trace_of w.history b) (trace_of w.history c) (atoms.Sphere r vs) x t (λ v has. ap (λ id. cells_at w.history id t) (same v has))
@@ -133,12 +130,12 @@ possibly_sees : (error : ℕ) (w : World) (b c : ℕ → ℕ) (a : RAtom) → ((
 possibly_sees error w b c (atoms.Compare q op r) same x t =
     atom_same w.regions (trace_of w.history b) (trace_of w.history c) (atoms.Compare q op r) x t (λ v has. ap (λ id. cells_at w.history id t) (same v has))
 possibly_sees error w b c (atoms.Inside v n) same x t =
-    ap (λ id. option_map_or (is_in_region_by (is_possibly_inside error) w.regions n) (position_in t (cells_at w.history id t)) false) (same v (own v))
+    ap (λ id. option_map_or (is_in_region_by (is_possibly_inside error) w.regions n) (position_in t (cells_at w.history id t)) false) (same v (equals_itself v))
 possibly_sees error w b c (atoms.Outside v n) same x t =
-    ap (λ id. option_map_or (λ p. not (is_in_region_by (is_surely_inside error) w.regions n p)) (position_in t (cells_at w.history id t)) false) (same v (own v))
+    ap (λ id. option_map_or (λ p. not (is_in_region_by (is_surely_inside error) w.regions n p)) (position_in t (cells_at w.history id t)) false) (same v (equals_itself v))
 possibly_sees error w b c (atoms.Dist v u op k) same x t =
-    let first = same v (or_left (v == v) (u == v) (own v)) in
-    let second = same u (or_right (v == u) (u == u) (own u)) in
+    let first = same v (or_left (v == v) (u == v) (equals_itself v)) in
+    let second = same u (or_right (v == u) (u == u) (equals_itself u)) in
     λ i. distance_holds_by possibly_compares (if first i == second i then 0 else error) op k (position_in t (cells_at w.history (first i) t)) (position_in t (cells_at w.history (second i) t))
 possibly_sees error w b c (atoms.Sphere r vs) same x t =
     atom_same w.regions (trace_of w.history b) (trace_of w.history c) (atoms.Sphere r vs) x t (λ v has. ap (λ id. cells_at w.history id t) (same v has))

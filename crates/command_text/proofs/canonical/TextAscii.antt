@@ -1,12 +1,14 @@
 -- Which bytes tokens have, and lines that are cut into such tokens.
-use Rattle.command_text.proofs.Names.{◌≡◌, ℕ, zero, suc, ◌+◌, ◌-◌, ◌<◌, Bool, true, false, ◌||◌, not, List, [], ◌∷◌, ◌++◌, take, length, map, Option, None, Some, IsTrue, refl, sym, ap, ap₂, subst, ◌∙◌, arith, eqb, inl, inr, take-append-drop, length-drop, option_map, option_and_then, bytes_eq, AllByRecursion, list_all, is_ascii_digit, cases_Bool, and_parts, or_parts, nat_tests, Decides-eqb, take_all, bytes_eq-Decides, code_of, reserved_words, symbols, Kind, Token, is_blank, begins_name, continues_name, digits_len, fraction_len, number_len, token_at, lexemes, tokens_of, bytes_of_token, Lexeme, cut, HasForm, is_word, is_number, IsQuoted, is_ascii, has_other_byte, IsAscii}
+use Rattle.command_text.proofs.Names.{◌≡◌, ℕ, zero, suc, ◌+◌, ◌-◌, ◌<◌, Bool, true, ◌||◌, not, List, [], ◌∷◌, ◌++◌, take, length, map, Option, None, Some, IsTrue, refl, sym, ap, ap₂, subst, ◌∙◌, arith, eqb, inl, inr, take-append-drop, length-drop, option_map, option_and_then, bytes_eq, AllByRecursion, list_all, is_ascii_digit, cases_Bool, and_parts, or_parts, nat_tests, Decides-eqb, take_all, bytes_eq-Decides, code_of, reserved_words, symbols, Kind, Token, is_blank, begins_name, continues_name, digits_len, fraction_len, number_len, token_at, lexemes, tokens_of, bytes_of_token, Lexeme, cut, HasForm, is_word, is_number, IsQuoted, is_ascii, has_other_byte, IsAscii}
 use Rattle.std.proofs.Common.{drop}
 use Rattle.std.proofs.lemmas.List.Folds.{list_any-append}
 use Rattle.ftl_lexer.specs.declared.kinds.Kind.TheVariants as kinds
-use Rattle.ftl_lexer.proofs.Shapes.{all_pass, some_is}
+use Rattle.ftl_lexer.proofs.Shapes.{some_is}
 use Rattle.ftl_lexer.proofs.Fronts.{unquoted_parts}
 use Rattle.ftl_lexer.proofs.Steps.{then_part, else_part, none_is_some, token_at_within}
 use Rattle.ftl_parser.specs.Piece as query
+use Rattle.exact.proofs.Truths.{false_from_not}
+use Rattle.exact.proofs.Items.{front_passes}
 
 -- ---- parts of bytes
 
@@ -60,7 +62,7 @@ word_ascii (b ∷ bytes) is =
 digits_ascii : (bytes : List ℕ) → digits_len bytes ≡ length bytes → IsAscii bytes
 digits_ascii bytes all =
     let front : take (digits_len bytes) bytes ≡ bytes = ap (λ n. take n bytes) all ∙ take_all (length bytes) bytes (omega arith) in
-    each_ascii is_ascii_digit digit_ascii bytes (subst (λ (xs : List ℕ). list_all is_ascii_digit xs ≡ true) front (all_pass is_ascii_digit bytes))
+    each_ascii is_ascii_digit digit_ascii bytes (subst (λ (xs : List ℕ). list_all is_ascii_digit xs ≡ true) front (front_passes is_ascii_digit bytes))
 
 fraction_ascii : (bytes : List ℕ) → fraction_len bytes ≡ length bytes → IsAscii bytes
 fraction_ascii [] all = refl
@@ -84,7 +86,7 @@ number_ascii bytes is =
     let back : fraction_len rest ≡ length rest = omega (arith, all, length-drop (digits_len bytes) bytes) in
     subst IsAscii (take-append-drop (digits_len bytes) bytes)
     (joined_ascii (take (digits_len bytes) bytes) rest (each_ascii is_ascii_digit digit_ascii (take (digits_len bytes) bytes)
-    (all_pass is_ascii_digit bytes)) (fraction_ascii rest back))
+    (front_passes is_ascii_digit bytes)) (fraction_ascii rest back))
 
 -- a word that has a code is a row's
 pub row_is : (p : List ℕ → Bool) (rows : List (List ℕ × ℕ)) (word : List ℕ) (code : ℕ) → list_all (λ r. p r.0) rows ≡ true
@@ -97,17 +99,13 @@ row_is p (r ∷ rows) word code all is =
       | inr other ↦ row_is p rows word code parts.1 (rw other at is)
     ]
 
-pub not_true : (b : Bool) → not b ≡ true → b ≡ false
-not_true true is = let bad : false ≡ true = is in absurd (cc)
-not_true false is = refl
-
 key_ascii : (word : List ℕ) (code : ℕ) → code_of reserved_words word ≡ Some code → IsAscii word
 unfolding reserved_words
-key_ascii word code is = not_true (has_other_byte word) (row_is (λ w. not (has_other_byte w)) reserved_words word code refl is)
+key_ascii word code is = false_from_not (has_other_byte word) (row_is (λ w. not (has_other_byte w)) reserved_words word code refl is)
 
 symbol_ascii : (word : List ℕ) (code : ℕ) → code_of symbols word ≡ Some code → IsAscii word
 unfolding symbols
-symbol_ascii word code is = not_true (has_other_byte word) (row_is (λ w. not (has_other_byte w)) symbols word code refl is)
+symbol_ascii word code is = false_from_not (has_other_byte word) (row_is (λ w. not (has_other_byte w)) symbols word code refl is)
 
 -- a text, by what stands between its quotes
 text_ascii : (text : List ℕ) → IsQuoted text → IsAscii (query.unquoted text) → IsAscii text

@@ -8,6 +8,7 @@ use Rattle.ftl_parser.proofs.canonical.TextShapes.{radius_within}
 use Rattle.ftl_parser.proofs.canonical.TextValues.{from_again, read_again}
 use Rattle.ftl_parser.proofs.canonical.TextNumbers.{whole_is, whole_short, fix_short, minus_short}
 use Rattle.command_text.specs.declared.ranges.TheConstants.{NEAREST_LIMIT}
+use Rattle.exact.proofs.Integers.{size_of_minus}
 
 -- what holds of what is found holds of what is there, where something is
 of_found : {X : Type 0} (P : X → Type 0) (found : Option X) (other : X) → ((x : X) → found ≡ Some x → P x) → is_some found ≡ true → P (unwrap_or found other)
@@ -45,12 +46,6 @@ whole_found Nearest text n is = whole_from 1 NEAREST_LIMIT text n is
 
 pub whole_in_range : (place : WholePlace) (text : List ℕ) → is_some (whole_in place text) ≡ true → IsWholeIn place (whole_at place text)
 whole_in_range place text is = of_found (IsWholeIn place) (whole_in place text) 0 (λ n e. whole_found place text n e) is
-
--- a sign doesn't change the size
-pub size_of_minus : (value : ℤ) → unsigned_abs (neg_ℤ value) ≡ unsigned_abs value
-size_of_minus (pos zero) = refl
-size_of_minus (pos (suc n)) = refl
-size_of_minus (negsuc n) = refl
 
 signed_within : (limit : ℕ) (minus : Bool) (found : Option ℤ) (v : ℤ) → ((w : ℤ) → found ≡ Some w → unsigned_abs w ≤ limit)
     → negated minus found ≡ Some v → unsigned_abs v ≤ limit

@@ -9,8 +9,10 @@ use Rattle.ftl_parser.proofs.grammar.OrderLemmas.{lists-query}
 use Rattle.ftl_parser.proofs.canonical.TextShapes.{PieceHas, all_front, all_back, prints_what_is_read, short_piece, sign_has, spelled_shape, word_has}
 use Rattle.command_text.specs.Grammar.{pair, some_attrs, rates, moves, given_both, given_text, given_rate, at, moving}
 use Rattle.command_text.proofs.grammar.QueryLemmas.{short_behind, tail_is}
-use Rattle.command_text.proofs.canonical.TextAscii.{AreAscii, tokens_ascii, inside_ascii, not_true}
+use Rattle.command_text.proofs.canonical.TextAscii.{AreAscii, tokens_ascii, inside_ascii}
 use Rattle.command_text.proofs.canonical.TextNumbers.{whole_in_range, signed_in_range, radius_in_range}
+use Rattle.exact.proofs.Items.{all_joined}
+use Rattle.exact.proofs.Truths.{false_from_not}
 
 -- ---- tokens by what names, numbers and texts they have
 
@@ -215,17 +217,13 @@ attrs_shape (some_attrs {a = a} {xs = xs} {rest = more} {ys = ys} {u = u} d e) i
 
 -- ---- queries
 
-all_join : {X : Type 0} (P : X → Type 0) (xs ys : List X) → AllByRecursion P xs → AllByRecursion P ys → AllByRecursion P (xs ++ ys)
-all_join P [] ys front back = back
-all_join P (x ∷ xs) ys front back = (front.0, all_join P xs ys front.1 back)
-
 piece_ascii : (p : Piece) → HasShape p → AllByRecursion IsAscii (piece_lists texts_alone p)
 piece_ascii (TEXT t) shape = (shape.1, tt)
 piece_ascii p shape = tt
 
 texts_ascii : (xs : List Piece) → HaveShapes xs → AllByRecursion IsAscii (token_texts xs)
 texts_ascii [] shapes = tt
-texts_ascii (p ∷ xs) shapes = all_join IsAscii (piece_lists texts_alone p) (token_texts xs) (piece_ascii p shapes.0) (texts_ascii xs shapes.1)
+texts_ascii (p ∷ xs) shapes = all_joined IsAscii (piece_lists texts_alone p) (token_texts xs) (piece_ascii p shapes.0) (texts_ascii xs shapes.1)
 
 small_is : (q : QueryTree) → is_query_small q ≡ true → first_too_large false q ≡ None
 unfolding is_query_small
@@ -304,5 +302,5 @@ line_tails line short n q d =
 pub line_shape : (line : List ℕ) (c : CommandTree) → SpellsWithinLimits line c → IsAscii line → IsPrintable c
 line_shape line c (by_parts d) ascii =
     let parts = parts_shape d (refl, refl) in
-    let short : has_long (lexemes line) ≡ false = not_true (has_long (lexemes line)) parts.0.1 in
+    let short : has_long (lexemes line) ≡ false = false_from_not (has_long (lexemes line)) parts.0.1 in
     parts.1 (line_has line ascii short) (line_tails line short)

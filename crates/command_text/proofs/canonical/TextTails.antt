@@ -1,5 +1,5 @@
 -- The text of a query at the end of a canonical line.
-use Rattle.command_text.proofs.Names.{◌≡◌, ℕ, Bool, true, false, not, List, [], ◌∷◌, refl, ap, subst, is_none, AllByRecursion, or_parts, Kind, Lexeme, HaveForms, lexemes, QueryTree, SpellsQuery, first_unfit, piece_lists, texts_alone, token_texts, query_text, IsReadAs, Piece, line_pieces, has_long, is_query_small, IsAscii, IsQuery, is_long, is_short, piece_of, unquoted}
+use Rattle.command_text.proofs.Names.{◌≡◌, ℕ, true, false, List, [], ◌∷◌, refl, ap, subst, is_none, AllByRecursion, or_parts, Kind, Lexeme, HaveForms, lexemes, QueryTree, SpellsQuery, first_unfit, piece_lists, texts_alone, token_texts, query_text, IsReadAs, Piece, line_pieces, has_long, is_query_small, IsAscii, IsQuery, is_long, is_short, piece_of, unquoted}
 use Rattle.ftl_lexer.specs.declared.kinds.Kind.TheVariants as kinds
 use Rattle.ftl_lexer.proofs.Cuts.{cut_from_good}
 use Rattle.ftl_lexer.proofs.Shapes.{tokens_have_forms}
@@ -10,17 +10,14 @@ use Rattle.ftl_parser.proofs.canonical.TextTokens.{word_is}
 use Rattle.command_text.proofs.canonical.TextAscii.{AreAscii, inner, form_ascii}
 use Rattle.command_text.proofs.canonical.TextCuts.{IsCut}
 use Rattle.ftl_parser.proofs.canonical.TextShapes.{all_front, all_back}
-
-not_long : (b : Bool) → not b ≡ false → b ≡ true
-not_long true h = refl
-not_long false h = absurd (cc h)
+use Rattle.exact.proofs.Truths.{true_from_not}
 
 -- the text in a token, by the texts of the tokens
 inner_ascii : (kind : Kind) (bytes : List ℕ) → is_long kind bytes ≡ false
     → AllByRecursion IsAscii (piece_lists texts_alone (piece_of kind bytes)) → IsAscii (inner kind bytes)
 inner_ascii kinds.Name bytes short texts = refl
 inner_ascii kinds.Number bytes short texts = refl
-inner_ascii kinds.Text bytes short texts = subst IsAscii (word_is (unquoted bytes) (not_long (is_short (unquoted bytes)) short)) texts.0
+inner_ascii kinds.Text bytes short texts = subst IsAscii (word_is (unquoted bytes) (true_from_not (is_short (unquoted bytes)) short)) texts.0
 inner_ascii (kinds.Sym code) bytes short texts = refl
 inner_ascii (kinds.Key code) bytes short texts = refl
 

@@ -6,8 +6,9 @@ use Rattle.motion.specs.declared.cell.Given.TheVariants as givens
 use Rattle.ftl_parser.proofs.grammar.Found.{found_query}
 use Rattle.command_text.specs.Grammar
 use Rattle.command_text.specs.inner.Reading.{pair, some_attrs, rates, moves, given_both, given_text, given_rate, at, moving, point_word}
-use Rattle.command_text.proofs.grammar.Shorter.{bind_some, passed, Shortens}
+use Rattle.command_text.proofs.grammar.Shorter.{passed, Shortens}
 use Rattle.command_text.proofs.grammar.QueryLemmas.{fit_is}
+use Rattle.exact.proofs.Items.{bind_some, map_some}
 
 -- ---- The tokens that a reader took
 
@@ -70,10 +71,6 @@ either_way false o p e f g = g e
 held : {A : Type 0} (b : Bool) (x y : A) → (if b then Some x else None) ≡ Some y → b ≡ true
 held true x y e = refl
 held false x y e = absurd (cc)
-
-pub map_some : {A B : Type 0} (f : A → B) (o : Option A) (y : B) → option_map f o ≡ Some y → (x : A) × (o ≡ Some x) × (f x ≡ y)
-map_some f None y e = absurd (cc)
-map_some f (Some x) y e = (x, refl, cc)
 
 map_first : {A B C P : Type 0} (f : A → B) (o : Option A) (rest : B → Option C) {y : C} → (option_map f o >>= rest) ≡ Some y
     → ((x : A) → o ≡ Some x → rest (f x) ≡ Some y → P) → P

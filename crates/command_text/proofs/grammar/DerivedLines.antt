@@ -6,8 +6,8 @@ use Rattle.command_text.specs.Tree
 use Rattle.command_text.specs.Line.{Explains}
 use Rattle.command_text.proofs.grammar.SpelledCommands.{command_spelled, one_command}
 use Rattle.command_text.proofs.reader.LineLemmas.{comment_in, other_in}
-use Rattle.command_text.proofs.grammar.Derived.{map_some}
 use Rattle.command_text.proofs.grammar.DerivedCommands.{command_derived}
+use Rattle.exact.proofs.Items.{map_some}
 
 pub tokens_are_read : (tokens : List Piece) → AreReadByTheGrammar tokens
 tokens_are_read tokens = record {

@@ -11,6 +11,7 @@ use Rattle.ftl_parser.proofs.grammar.Marks.{first_unfit_scan}
 use Rattle.ftl_parser.proofs.canonical.TextShapes.{reads_small}
 use Rattle.command_text.specs.declared.fault.CommandFault.TheVariants as faults
 use Rattle.command_text.specs.declared.refusal.Refusal.TheVariants as refusals
+use Rattle.exact.proofs.Truths.{and_false, and_true}
 
 -- the tokens of a query at the end of a line
 pub tail_is : (place : ℕ) (line : List ℕ) → pieces_from place line ≡ drop place (line_pieces line)
@@ -28,14 +29,6 @@ long_line n line long =
       | inl is ↦ ap not is
       | inr short ↦ let bad : true ≡ false = sym long ∙ short_behind n (lexemes line) short in absurd (cc)
     ]
-
-pub and_true : (b : Bool) → (b && true) ≡ b
-and_true true = refl
-and_true false = refl
-
-pub and_false : (b : Bool) → (b && false) ≡ false
-and_false true = refl
-and_false false = refl
 
 -- the query of a reader by its parts
 abbrev query_by : Reader → Bool → Option QueryTree → Read QueryTree

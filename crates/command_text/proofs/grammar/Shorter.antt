@@ -1,13 +1,7 @@
 -- Chains of readers, and parts that take a token at least.
-use Rattle.std.proofs.Common.{◌≡◌, ◌<◌, Bool, true, false, length, Option, Some, None, refl}
+use Rattle.std.proofs.Common.{◌≡◌, ◌<◌, Bool, true, false, length, Some, None}
 use Rattle.std.specs.Prelude.{if◌then◌else◌}
-use Rattle.exact.specs.Options.{◌>>=◌}
 use Rattle.command_text.specs.inner.Reading.{Reader, Read}
-
--- a chain that ends has each of its steps
-pub bind_some : {A B : Type 0} (o : Option A) (f : A → Option B) (y : B) → (o >>= f) ≡ Some y → (x : A) × (o ≡ Some x) × (f x ≡ Some y)
-bind_some None f y e = absurd (cc)
-bind_some (Some x) f y e = (x, refl, e)
 
 -- a test that was passed leaves what was read
 pub passed : {A : Type 0} (b : Bool) (x y : A) → (if b then Some x else None) ≡ Some y → x ≡ y

@@ -6,8 +6,8 @@ use Rattle.ftl_lexer.specs.declared.kinds.Kind.TheVariants as kinds
 use Rattle.ftl_parser.specs.Piece as token
 use Rattle.command_text.specs.Tree
 use Rattle.command_text.specs.Line.{Explains}
-use Rattle.command_text.proofs.grammar.QueryLemmas.{and_true}
 use Rattle.command_text.proofs.reader.TableLemmas.{key_begins, name_begins, sign_begins}
+use Rattle.exact.proofs.Truths.{and_true}
 
 -- where a reader begins
 abbrev first_place : At

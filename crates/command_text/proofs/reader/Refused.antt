@@ -4,8 +4,8 @@ use Rattle.std.proofs.Common.{drop}
 use Rattle.ftl_parser.specs.Piece as token
 use Rattle.command_text.specs.declared.fault.CommandFault.TheVariants as faults
 use Rattle.command_text.specs.declared.refusal.Refusal.TheVariants as refusals
-use Rattle.command_text.proofs.grammar.QueryLemmas.{and_false}
 use Rattle.command_text.proofs.reader.StandingLemmas.{front_past}
+use Rattle.exact.proofs.Truths.{and_false}
 
 -- where nothing is read
 none_refused : {A : Type 0} (o : Read A) → o ≡ None → Refuses o (faults.Refused refusals.BadSyntax)

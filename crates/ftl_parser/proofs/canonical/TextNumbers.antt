@@ -1,11 +1,13 @@
 -- For this crate and for the crates above: canonical numbers: how long they are, and that they are numbers of the
 -- same value.
-use Rattle.ftl_parser.proofs.Names.{◌≡◌, ℕ, zero, suc, ◌+◌, ◌-◌, ◌*◌, ◌/◌, ◌%◌, ◌^◌, ◌<◌, ◌≤◌, max, Bool, true, false, ◌&&◌, List, [], ◌∷◌, ◌++◌, take, length, length-append, Option, None, Some, ℤ, pos, negsuc, unsigned_abs, refl, sym, ap, subst, arith, cond, leb, eqb, neg_ℤ, option_and_then, unwrap_or, list_all, is_ascii_digit, is_negative, decimal, sign_text, AllDigits, digits_value, leb-true, and_parts, length-decimal-le, decimal_digit, thousandths_of, IsDecimal, AreDigits, with_sign, decimals_value, decimals_text, fix_text, three_digits, without_last_zeros, up_to, whole_of}
+use Rattle.ftl_parser.proofs.Names.{◌≡◌, ℕ, zero, suc, ◌+◌, ◌-◌, ◌*◌, ◌/◌, ◌%◌, ◌^◌, ◌<◌, ◌≤◌, max, Bool, true, false, ◌&&◌, List, [], ◌∷◌, ◌++◌, take, length, length-append, Option, None, Some, ℤ, pos, unsigned_abs, refl, sym, ap, subst, arith, cond, leb, eqb, neg_ℤ, option_and_then, unwrap_or, list_all, is_ascii_digit, is_negative, decimal, sign_text, AllDigits, digits_value, leb-true, and_parts, length-decimal-le, decimal_digit, thousandths_of, IsDecimal, AreDigits, with_sign, decimals_value, decimals_text, fix_text, three_digits, without_last_zeros, up_to, whole_of}
 use Rattle.std.proofs.Math.Dec.{leb-zero}
 use Rattle.std.proofs.lemmas.Int.Digits.{digits_value-lt}
 use Rattle.std.proofs.Math.Nat.{pow-le-pow_right}
 use Rattle.fixed_point.proofs.DecimalLemmas.{decimal_law}
 use Rattle.fixed_point.proofs.DigitLemmas.{digit_below_ten}
+use Rattle.exact.proofs.Integers.{size_of_minus}
+use Rattle.exact.proofs.Items.{sign_short as one_sign}
 
 -- ---- whole numbers
 
@@ -159,15 +161,6 @@ found_short limit text (Some value) is =
 
 pub fix_short : (limit : ℕ) (text : List ℕ) → length (fix_text (unwrap_or (thousandths_of limit text) (pos 0))) ≤ max 1 (length text)
 fix_short limit text = found_short limit text (thousandths_of limit text) refl
-
-size_of_minus : (value : ℤ) → unsigned_abs (neg_ℤ value) ≡ unsigned_abs value
-size_of_minus (pos zero) = refl
-size_of_minus (pos (suc n)) = refl
-size_of_minus (negsuc n) = refl
-
-one_sign : (negative : Bool) → length (sign_text negative) ≤ 1
-one_sign true = omega arith
-one_sign false = omega arith
 
 -- a sign is one byte
 pub minus_short : (value : ℤ) → length (fix_text (neg_ℤ value)) ≤ length (fix_text value) + 1

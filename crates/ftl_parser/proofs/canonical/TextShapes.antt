@@ -9,6 +9,7 @@ use Rattle.ftl_parser.specs.declared.tree.Atom as atom_type
 use Rattle.ftl_parser.specs.declared.tree.Unit as unit_type
 use Rattle.ftl_parser.specs.declared.tree.Unit.TheVariants as units
 use Rattle.exact.specs.First.{first_that_holds}
+use Rattle.exact.proofs.Items.{all_pushed}
 use Rattle.ftl_parser.specs.declared.fault.Size.TheVariants as sizes
 use Rattle.ftl_parser.proofs.reader.TableLemmas.{is_fixed, sign_fixed, word_fixed}
 use Rattle.ftl_parser.proofs.canonical.TextNumbers.{whole_is}
@@ -23,13 +24,9 @@ pub all_back : {X : Type 0} (P : X → Type 0) (xs ys : List X) → AllByRecursi
 all_back P [] ys all = all
 all_back P (x ∷ xs) ys all = all_back P xs ys all.1
 
-all_more : {X : Type 0} (P : X → Type 0) (xs : List X) (x : X) → AllByRecursion P xs → P x → AllByRecursion P (xs ++ x ∷ [])
-all_more P [] x all this = (this, tt)
-all_more P (y ∷ xs) x all this = (all.0, all_more P xs x all.1 this)
-
 one_more : {X : Type 0} (P : X → Type 0) (xs : List X) (x : X) → OneOrMore P xs → P x → OneOrMore P (xs ++ x ∷ [])
 one_more P [] x some this = absurd some
-one_more P (y ∷ xs) x some this = (some.0, all_more P xs x some.1 this)
+one_more P (y ∷ xs) x some this = (some.0, all_pushed P xs x some.1 this)
 
 -- ---- tokens by what names and texts they have
 

@@ -1,21 +1,19 @@
 -- For this crate and for the crates above: canonical numbers are number tokens, and stand for their values.
-use Rattle.ftl_parser.proofs.Names.{◌≡◌, ℕ, suc, ◌+◌, ◌-◌, ◌/◌, ◌%◌, ◌^◌, ◌<◌, ◌≤◌, Bool, true, false, not, ◌&&◌, List, [], ◌∷◌, ◌++◌, drop, length, append-nil, length-append, Option, Some, ℤ, pos, negsuc, IsTrue, refl, sym, ap, subst, ◌∙◌, arith, cond, leb, eqb, unwrap_or, is_some, list_all, suffix_len, is_ascii_digit, digit_value, is_negative, decimal, sign_text, AllDigits, nat_tests, decimal_is_IsNumeral, READ_LIMIT, thousandths_of, IsDecimal, decimals_text, fix_text, three_digits, without_last_zeros, digits_len, fraction_len, number_len, is_number, RADIUS_LIMIT, LAST_TICK, TIMES_LIMIT, whole_of, literal, radius_of, ticks, times, is_number_fit, Literal, Radius, Times}
+use Rattle.ftl_parser.proofs.Names.{◌≡◌, ℕ, suc, ◌+◌, ◌-◌, ◌/◌, ◌%◌, ◌^◌, ◌<◌, ◌≤◌, Bool, true, false, not, ◌&&◌, List, [], ◌∷◌, ◌++◌, drop, length, append-nil, length-append, Option, Some, ℤ, pos, negsuc, IsTrue, refl, sym, ap, subst, ◌∙◌, arith, cond, leb, eqb, unwrap_or, is_some, list_all, suffix_len, is_ascii_digit, is_negative, decimal, sign_text, AllDigits, nat_tests, decimal_is_IsNumeral, READ_LIMIT, thousandths_of, IsDecimal, decimals_text, fix_text, three_digits, without_last_zeros, digits_len, fraction_len, number_len, is_number, RADIUS_LIMIT, LAST_TICK, TIMES_LIMIT, whole_of, literal, radius_of, ticks, times, is_number_fit, Literal, Radius, Times}
 use Rattle.std.proofs.Math.Seq.{drop-append_seam}
 use Rattle.fixed_point.proofs.DecimalLemmas.{decimal_law}
 use Rattle.fixed_point.proofs.CanonicalLemmas.{printed_law}
 use Rattle.fixed_point.proofs.DigitLemmas.{digits_taken}
 use Rattle.ftl_parser.specs.Number.{Ticks}
 use Rattle.ftl_parser.proofs.canonical.TextNumbers.{fix_text_is}
+use Rattle.exact.proofs.Naturals.{digit_value_below, is_digit_by_value}
 
 -- ---- digits are counted
-
-digit_passes : (byte : ℕ) → digit_value byte < 10 → is_ascii_digit byte ≡ true
-digit_passes byte below = grind (arith, nat_tests)
 
 digits_counted : (digits rest : List ℕ) → AllDigits 10 digits → digits_len rest ≡ 0 → digits_len (digits ++ rest) ≡ length digits
 digits_counted [] rest are none = none
 digits_counted (digit ∷ digits) rest are none =
-    ap (λ b. cond b (1 + digits_len (digits ++ rest)) 0) (digit_passes digit are.0)
+    ap (λ b. cond b (1 + digits_len (digits ++ rest)) 0) (is_digit_by_value digit are.0)
     ∙ ap (λ n. 1 + n) (digits_counted digits rest are.1 none) ∙ omega arith
 
 digits_alone : (digits : List ℕ) → AllDigits 10 digits → digits_len digits ≡ length digits
@@ -56,11 +54,8 @@ decimal_is_number n small =
 not_negative : (n : ℕ) → is_negative (pos n) ≡ false
 not_negative n = grind (arith, nat_tests)
 
-digit_is : (digit : ℕ) → digit < 10 → digit_value (48 + digit) < 10
-digit_is digit below = grind (arith, nat_tests)
-
 three_are_digits : (n : ℕ) → n < 1000 → AllDigits 10 (three_digits n)
-three_are_digits n below = (digit_is (n / 100) (omega arith), (digit_is (n / 10 % 10) (omega arith), (digit_is (n % 10) (omega arith), tt)))
+three_are_digits n below = (digit_value_below (n / 100) (omega arith), (digit_value_below (n / 10 % 10) (omega arith), (digit_value_below (n % 10) (omega arith), tt)))
 
 plain_text : (n : ℕ) → fix_text (pos n) ≡ decimal (n / 1000) ++ decimals_text (without_last_zeros (three_digits (n % 1000)))
 plain_text n = fix_text_is (pos n) ∙ ap (λ (b : Bool). sign_text b ++ decimal (n / 1000) ++ decimals_text
@@ -100,7 +95,7 @@ radius_fits n within = ap (λ (found : Option ℤ). is_some found) (read_again R
 
 all_pass : (text : List ℕ) → AllDigits 10 text → list_all is_ascii_digit text ≡ true
 all_pass [] are = refl
-all_pass (byte ∷ text) are = rw (digit_passes byte are.0) (all_pass text are.1)
+all_pass (byte ∷ text) are = rw (is_digit_by_value byte are.0) (all_pass text are.1)
 
 pub from_again : (least most n : ℕ) → least ≤ n → n ≤ most → most < 2 ^ 64 → whole_of least most (decimal n) ≡ Some n
 from_again least most n above within small =

@@ -8,15 +8,12 @@ use Rattle.ftl_parser.proofs.reader.TokenLemmas.{first_from-position}
 use Rattle.ftl_parser.proofs.grammar.Found.{found_query}
 use Rattle.ftl_parser.proofs.grammar.Stuck.{stuck}
 use Rattle.ftl_parser.proofs.grammar.Marks.{first_unfit-scan}
+use Rattle.exact.proofs.Items.{map_some}
 
 -- what a map of none came from
 map-none : {A B : Type 0} (f : A → B) (o : Option A) → option_map f o ≡ None → o ≡ None
 map-none f None h = refl
 map-none f (Some x) h = absurd (cc h)
-
-map-some : {A B : Type 0} (f : A → B) (o : Option A) (y : B) → option_map f o ≡ Some y → (x : A) × (o ≡ Some x) × (f x ≡ y)
-map-some f None y h = absurd (cc h)
-map-some f (Some x) y h = (x, refl, cc h)
 
 -- tokens that are stuck
 pub syntax-explained : (from : ℕ) (tokens : List Lexeme) (e : ParseFault) → Parses from (pieces tokens) (Err e) → ExplainsTokens from tokens e
@@ -39,7 +36,7 @@ module _ (from : ℕ) (tokens : List Lexeme) (q : QueryTree) (is : parsed start 
   -- a number that doesn't fit
   pub unfit-explained : (place : ℕ) → first_from from (scan comings.Factor (pieces tokens)) ≡ Some place → ExplainsTokens from tokens (faults.NumberRange place)
   unfit-explained place k =
-      let (n, unfit, at) = map-some (λ m. from + m) (first_unfit spelled) place (sym (unfit-spelled from (pieces tokens) q spelled) ∙ k) in
+      let (n, unfit, at) = map_some (λ m. from + m) (first_unfit spelled) place (sym (unfit-spelled from (pieces tokens) q spelled) ∙ k) in
       (n, sym at, record { q = q; spelled = spelled; unfit = unfit })
 
   -- a size that passes its limit

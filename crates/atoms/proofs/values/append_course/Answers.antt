@@ -2,8 +2,8 @@ use Rattle.std.proofs.Common.{◌+◌, Option, ap, subst, ◌∙◌}
 use Rattle.atoms.specs.declared.terms.Course.{Course}
 use Rattle.atoms.specs.Courses.{value_along}
 use Rattle.atoms.specs.ValueRuns.{HasValuesInRange}
-use Rattle.atoms.proofs.ValueRunLemmas.{on_ok}
 use Rattle.atoms.proofs.values.append_course.Goals as goal
+use Rattle.exact.proofs.Items.{on_ok}
 
 pub append_values-requires-clause-in_range : goal.append_values-requires-clause-in_range
 append_values-requires-clause-in_range c =

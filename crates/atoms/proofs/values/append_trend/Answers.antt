@@ -5,8 +5,8 @@ use mir.Val.{to_z, of_z}
 use Rattle.linear_crossing.specs.Zones.{line_at}
 use Rattle.formula.specs.declared.value.Value.TheVariants as values
 use Rattle.atoms.proofs.CourseLemmas.{no_rise, rests}
-use Rattle.atoms.proofs.ValueRunLemmas.{on_ok}
 use Rattle.atoms.proofs.values.append_trend.Goals as goal
+use Rattle.exact.proofs.Items.{on_ok}
 
 pub returns-then-trend-eq0 : goal.returns-then-trend-eq0
 returns-then-trend-eq0 c =

@@ -2,8 +2,8 @@ use Rattle.std.proofs.Common.{Some, ap, ◌∙◌, arith}
 use Rattle.linear_crossing.specs.Zones.{line_at}
 use Rattle.atoms.specs.declared.terms.Course.{Course}
 use Rattle.atoms.specs.Courses.{course_value}
-use Rattle.atoms.proofs.ValueRunLemmas.{on_ok}
 use Rattle.atoms.proofs.values.append_values.Goals as goal
+use Rattle.exact.proofs.Items.{on_ok}
 
 pub append_trend-requires-clause-in_range : goal.append_trend-requires-clause-in_range
 append_trend-requires-clause-in_range c = λ t from up_to.

@@ -4,13 +4,14 @@ use Rattle.std.specs.Int.{w128}
 use Rattle.std.proofs.lemmas.Bool.Decides.{nat_tests}
 use Rattle.std.proofs.lemmas.Int.{ints}
 use Rattle.exact.proofs.Sizes.{steps}
+use Rattle.exact.proofs.Items.{on_ok}
 use Rattle.linear_crossing.specs.Moving.{position_after}
 use Rattle.tick_set.specs.Ticks.{within}
 use Rattle.worlds.specs.Apart.{distance_compares_by, farthest_square, nearest_square}
 use Rattle.blur.specs.Added.{Adds}
 use Rattle.blur.specs.Asked.{comparison, compares_by}
 use Rattle.blur.specs.Bounds.{bound_after}
-use Rattle.blur.proofs.AddedLemmas.{adds_as, before_inside, is_past, on_ok}
+use Rattle.blur.proofs.AddedLemmas.{adds_as, before_inside, is_past}
 use Rattle.blur.proofs.ComparedLemmas.{compared_is}
 use Rattle.blur.proofs.distances.add_apart.Goals as goal
 

@@ -3,13 +3,14 @@ use Rattle.std.specs.Prelude.{not}
 use Rattle.std.specs.Int.{w128}
 use Rattle.std.proofs.lemmas.Int.{to_z-of_z}
 use Rattle.exact.proofs.Sizes.{steps}
+use Rattle.exact.proofs.Items.{on_ok}
 use Rattle.case_table.specs.declared.compare.Op.{Op}
 use Rattle.tick_set.specs.Runs.{spans_have}
 use Rattle.tick_set.specs.Ticks.{within}
 use Rattle.blur.specs.Added.{Adds}
 use Rattle.blur.specs.Asked.{compares_by}
 use Rattle.blur.specs.Bounds.{bound_after}
-use Rattle.blur.proofs.AddedLemmas.{adds_as, on_ok}
+use Rattle.blur.proofs.AddedLemmas.{adds_as}
 use Rattle.blur.proofs.ComparedLemmas.{all_others, low_is_past, low_without}
 use Rattle.blur.proofs.distances.add_compared.Goals as goal
 

@@ -5,8 +5,9 @@ use Rattle.tick_set.specs.Ticks.{within}
 use Rattle.worlds.specs.Blurred.{is_in_region_by}
 use Rattle.blur.specs.Added.{Adds}
 use Rattle.blur.specs.Asked.{inside_by}
-use Rattle.blur.proofs.AddedLemmas.{adds_as, before_inside, is_past, on_ok}
+use Rattle.blur.proofs.AddedLemmas.{adds_as, before_inside, is_past}
 use Rattle.blur.proofs.insides.add_inside.Goals as goal
+use Rattle.exact.proofs.Items.{on_ok}
 
 pub append-requires : goal.append-requires
 append-requires c =

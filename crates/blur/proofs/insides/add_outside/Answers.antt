@@ -6,9 +6,10 @@ use Rattle.tick_set.specs.Ticks.{within}
 use Rattle.worlds.specs.Blurred.{is_in_region_by}
 use Rattle.blur.specs.Added.{Adds}
 use Rattle.blur.specs.Asked.{inside_by}
-use Rattle.blur.proofs.AddedLemmas.{adds_as, on_ok}
+use Rattle.blur.proofs.AddedLemmas.{adds_as}
 use Rattle.blur.proofs.ComparedLemmas.{outside_one}
 use Rattle.blur.proofs.insides.add_outside.Goals as goal
+use Rattle.exact.proofs.Items.{on_ok}
 
 pub returns : goal.returns
 returns c =

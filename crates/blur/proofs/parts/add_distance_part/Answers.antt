@@ -5,10 +5,11 @@ use Rattle.worlds.specs.Apart.{distance_compares_by, farthest_square, nearest_sq
 use Rattle.worlds.specs.Blurred.{distance_holds_by}
 use Rattle.blur.specs.Added.{Adds}
 use Rattle.blur.specs.Asked.{comparison}
-use Rattle.blur.proofs.AddedLemmas.{adds_as, on_ok}
+use Rattle.blur.proofs.AddedLemmas.{adds_as}
 use Rattle.blur.proofs.PartLemmas.{apart_along, none_added, second_unseen}
 use Rattle.blur.proofs.parts.add_distance_part.Goals as goal
 use Rattle.courses.specs.CommonParts.{place_in}
+use Rattle.exact.proofs.Items.{on_ok}
 
 pub returns-in-Some-line_in : goal.returns-in-Some-line_in
 returns-in-Some-line_in c =

@@ -4,10 +4,11 @@ use Rattle.linear_crossing.specs.Moving.{position_after}
 use Rattle.tick_set.specs.Ticks.{within}
 use Rattle.blur.specs.Added.{Adds}
 use Rattle.blur.specs.Asked.{is_on_side}
-use Rattle.blur.proofs.AddedLemmas.{adds_as, on_ok}
+use Rattle.blur.proofs.AddedLemmas.{adds_as}
 use Rattle.blur.proofs.PartLemmas.{none_added, seen_along, unseen}
 use Rattle.blur.proofs.parts.add_region_part.Goals as goal
 use Rattle.courses.specs.CommonParts.{place_in}
+use Rattle.exact.proofs.Items.{on_ok}
 
 pub returns-in-Some : goal.returns-in-Some
 returns-in-Some c =

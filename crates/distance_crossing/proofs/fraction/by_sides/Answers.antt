@@ -2,10 +2,10 @@ use Rattle.std.proofs.Common.{◌≡◌, ◌≤◌, Bool, true, false, ℕ, ℤ,
 use Rattle.std.proofs.lemmas.Int.{ints, clamps}
 use Rattle.std.proofs.lemmas.Nat.{mul-le}
 use Rattle.exact.proofs.Sizes.{steps}
+use Rattle.exact.proofs.Integers.{product_least}
 use Rattle.geometry.proofs.Squares.{square_is}
 use Rattle.geometry.specs.Circle.{is_wide, largest}
 use Rattle.distance_crossing.specs.LeastCircle.{over_of, under_of}
-use Rattle.distance_crossing.proofs.Signs.{product_least}
 use Rattle.distance_crossing.proofs.fraction.by_sides.Goals as goal
 
 if_true : (w : Bool) (x y v : ℤ) → w ≡ true → v ≡ x → v ≡ (if w then x else y)

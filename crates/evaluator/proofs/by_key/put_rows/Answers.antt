@@ -9,10 +9,10 @@ use Rattle.evaluator.specs.inner.ByBinding.{holds_at, reads_here}
 use Rattle.evaluator.specs.inner.Filled.{IsFilled, keys_behind}
 use Rattle.evaluator.proofs.FillingLemmas.{at_key, filled_next, filled_none, next_above, still_fits}
 use Rattle.evaluator.proofs.KeyLemmas.{key_length}
-use Rattle.evaluator.proofs.LoopLemmas.{in_turn, some_steps}
 use Rattle.evaluator.proofs.ReadLemmas.{one_step}
 use Rattle.evaluator.proofs.VariableLemmas.{few_variables}
 use Rattle.evaluator.proofs.by_key.put_rows.Goals as goal
+use Rattle.exact.proofs.Naturals.{at_most_in_turn, steps_within}
 
 pub keys-init : goal.keys-init
 keys-init g c = record {
@@ -49,11 +49,11 @@ put_row-requires-clause-above g c =
     c.args.id c.args.later.now c.keys.key-index c.key-item.result c.args.made.now c.keys.made (omega (arith, c.keys-test.true)) c.key-item.is c.requires.above c.requires.ascend c.keys.invariant.rows)
 
 pub returns-in_err-put_row-clause-least : goal.returns-in_err-put_row-clause-least
-returns-in_err-put_row-clause-least g c = in_turn _ _ _ c.keys.invariant.least c.in_err-put_row.ensures.least
+returns-in_err-put_row-clause-least g c = at_most_in_turn _ _ _ c.keys.invariant.least c.in_err-put_row.ensures.least
 
 pub returns-in_err-put_row-clause-most : goal.returns-in_err-put_row-clause-most
 returns-in_err-put_row-clause-most g c =
-    some_steps c.args.reads.now c.put_row.new.reads (c.keys.key-index + 1) (length c.args.later.now) (reads_here c.args.w.lo c.args.w.hi (formula_view c.args.f.now))
+    steps_within c.args.reads.now c.put_row.new.reads (c.keys.key-index + 1) (length c.args.later.now) (reads_here c.args.w.lo c.args.w.hi (formula_view c.args.f.now))
     (one_step c.args.reads.now c.keys.reads c.put_row.new.reads c.keys.key-index (reads_here c.args.w.lo c.args.w.hi (formula_view c.args.f.now)) c.keys.invariant.most c.in_err-put_row.ensures.most)
     (omega (arith, c.keys-test.true))
 
@@ -63,7 +63,7 @@ keys-preserved g c =
     record {
       rows = filled_next g.S.TickSet.member truth c.args.id c.args.later.now c.keys.key-index c.key-item.result c.args.made.now c.keys.made c.put_row.new.made (omega (arith, c.keys-test.true)) c.key-item.is c.keys.invariant.rows
           (subst (λ (k : List ℕ). IsFilled g.S.TickSet.member truth (k ∷ []) c.keys.made c.put_row.new.made) c.with_first-key.ensures c.in_ok-put_row.ensures.rows);
-      least = in_turn _ _ _ c.keys.invariant.least c.in_ok-put_row.ensures.least;
+      least = at_most_in_turn _ _ _ c.keys.invariant.least c.in_ok-put_row.ensures.least;
       most = one_step c.args.reads.now c.keys.reads c.put_row.new.reads c.keys.key-index (reads_here c.args.w.lo c.args.w.hi (formula_view c.args.f.now)) c.keys.invariant.most c.in_ok-put_row.ensures.most;
     }
 
@@ -77,5 +77,5 @@ returns-clause-least g c = c.keys.invariant.least
 
 pub returns-clause-most : goal.returns-clause-most
 returns-clause-most g c =
-    some_steps c.args.reads.now c.keys.reads c.keys.key-index (length c.args.later.now) (reads_here c.args.w.lo c.args.w.hi (formula_view c.args.f.now)) c.keys.invariant.most
+    steps_within c.args.reads.now c.keys.reads c.keys.key-index (length c.args.later.now) (reads_here c.args.w.lo c.args.w.hi (formula_view c.args.f.now)) c.keys.invariant.most
     (let l : c.keys.key-index ≤ length c.args.later.now = c.keys.auto.key-index-end in omega (arith, l))

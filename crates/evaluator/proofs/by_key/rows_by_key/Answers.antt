@@ -16,10 +16,10 @@ use Rattle.evaluator.specs.inner.Filled.{IsFilled, keys_behind}
 use Rattle.evaluator.proofs.ByKeyLemmas.{by_blocks, by_keys, key_says}
 use Rattle.evaluator.proofs.FillingLemmas.{block_above, filled_all, filled_block, first_inside, own_at}
 use Rattle.evaluator.proofs.KeyLemmas.{keys_more, keys_none}
-use Rattle.evaluator.proofs.LoopLemmas.{in_turn}
 use Rattle.evaluator.proofs.ReadLemmas.{block_step, one_of}
 use Rattle.evaluator.proofs.VariableLemmas.{distinct_variables, few_variables, known_variables}
 use Rattle.evaluator.proofs.by_key.rows_by_key.Goals as goal
+use Rattle.exact.proofs.Naturals.{at_most_in_turn}
 
 pub empty-made-requires-clause-few : goal.empty-made-requires-clause-few
 empty-made-requires-clause-few g c = subst (λ (vs : List ℕ). length vs ≤ 4) (sym c.requires.vars) (few_variables (λ v. has_variable v (formula_view c.args.f.now)))
@@ -93,7 +93,7 @@ ids-preserved g c =
     record {
       rows = filled_block g.S.TickSet.member truth c.items-later.result.now c.of-id-items.result.now c.ids.id-index 0 c.empty-made.result c.ids.made c.put_rows.new.made (omega (arith, c.ids-test.true)) c.ids.invariant.rows
           c.in_ok-put_rows.ensures.rows;
-      least = in_turn _ _ _ c.ids.invariant.least c.in_ok-put_rows.ensures.least;
+      least = at_most_in_turn _ _ _ c.ids.invariant.least c.in_ok-put_rows.ensures.least;
       most = block_step c.args.reads.now c.ids.reads c.put_rows.new.reads c.ids.id-index (length c.items-later.result.now) cost c.ids.invariant.most c.in_ok-put_rows.ensures.most;
     }
 

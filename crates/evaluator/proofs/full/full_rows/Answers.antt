@@ -9,8 +9,9 @@ use Rattle.relation.specs.Frames.{domain_size}
 use Rattle.evaluator.specs.Interpreting.{CanAsk}
 use Rattle.evaluator.specs.Rows.{AreRowsOf, AreRowsWhere, query_reads_upto, reads_upto}
 use Rattle.evaluator.proofs.FullLemmas.{absence_done, absence_step, absence_within, full_all, full_ascend, full_lies, full_more, full_none, holds_upto, variables_upto}
-use Rattle.evaluator.proofs.LoopLemmas.{in_turn, most_first}
+use Rattle.evaluator.proofs.LoopLemmas.{most_first}
 use Rattle.evaluator.proofs.full.full_rows.Goals as goal
+use Rattle.exact.proofs.Naturals.{at_most_in_turn}
 
 pub rows_of-requires-clause-over : goal.rows_of-requires-clause-over
 rows_of-requires-clause-over g c = c.requires.over
@@ -41,14 +42,14 @@ pub absence_for_rows-requires-clause-objects : goal.absence_for_rows-requires-cl
 absence_for_rows-requires-clause-objects g c = λ id h. c.requires.objects c.vars.var id h
 
 pub returns-in_err-away-clause-least : goal.returns-in_err-away-clause-least
-returns-in_err-away-clause-least g c = in_turn _ _ _ c.in_ok-made.ensures.least (in_turn _ _ _ c.vars.invariant.least c.in_err-away.ensures.least)
+returns-in_err-away-clause-least g c = at_most_in_turn _ _ _ c.in_ok-made.ensures.least (at_most_in_turn _ _ _ c.vars.invariant.least c.in_err-away.ensures.least)
 
 pub returns-in_err-away-clause-most : goal.returns-in_err-away-clause-most
 returns-in_err-away-clause-most g c =
     absence_within (domain_size c.args.d.now) c.args.reads.now _ _ (query_reads_upto c.args.d.now c.args.w.lo c.args.w.hi (resolved_view c.args.q.now)) (reads_upto c.args.d.now c.args.w.lo c.args.w.hi (formula_view c.args.q.now.formula)) c.vars.var (length c.args.q.now.classes) refl c.in_ok-made.ensures.most c.vars.reads c.vars.invariant.most c.in_err-away.ensures.most (let n = c.requires.domains in omega (arith, c.vars-test.true, c.len-count.ensures.count, n))
 
 pub returns-in_err-made-2-clause-least : goal.returns-in_err-made-2-clause-least
-returns-in_err-made-2-clause-least g c = in_turn _ _ _ c.in_ok-made.ensures.least (in_turn _ _ _ c.vars.invariant.least c.in_ok-away.ensures.least)
+returns-in_err-made-2-clause-least g c = at_most_in_turn _ _ _ c.in_ok-made.ensures.least (at_most_in_turn _ _ _ c.vars.invariant.least c.in_ok-away.ensures.least)
 
 pub returns-in_err-made-2-clause-most : goal.returns-in_err-made-2-clause-most
 returns-in_err-made-2-clause-most g c =
@@ -66,7 +67,7 @@ pub vars-preserved : goal.vars-preserved
 vars-preserved g c = record {
   rows = full_more g.S.TickSet.member c.args.d.now c.args.w.lo c.args.w.hi (formula_view c.args.q.now.formula) (λ (b : ℕ → ℕ) (u : ℕ). sat (g.I.Interpreter.interpretation c.args.source.now b) (formula_view c.args.q.now.formula) no_values c.args.w.hi u) (g.I.Interpreter.present c.args.source.now) c.vars.var (omega (arith, c.vars-test.true, c.len-count.ensures.count, c.len-count.ensures.few)) c.vars.made c.in_ok-away.away c.in_ok-made-2.made c.vars.invariant.rows c.in_ok-away.ensures.ticks
       c.in_ok-made-2.ensures.ticks c.in_ok-made-2.ensures.vars c.in_ok-made-2.ensures.frame;
-  least = in_turn _ _ _ c.vars.invariant.least c.in_ok-away.ensures.least;
+  least = at_most_in_turn _ _ _ c.vars.invariant.least c.in_ok-away.ensures.least;
   most = absence_step (domain_size c.args.d.now) _ c.vars.reads _ c.vars.var c.vars.invariant.most c.in_ok-away.ensures.most;
 }
 
@@ -78,7 +79,7 @@ returns-clause-rows g c =
     (subst (λ (k : ℕ). AreRowsWhere g.S.TickSet.member c.args.d.now c.args.w.lo c.args.w.hi (variables_upto (formula_view c.args.q.now.formula) k) (holds_upto (λ (b : ℕ → ℕ) (u : ℕ). sat (g.I.Interpreter.interpretation c.args.source.now b) (formula_view c.args.q.now.formula) no_values c.args.w.hi u) (g.I.Interpreter.present c.args.source.now) k) c.vars.made) all c.vars.invariant.rows)
 
 pub returns-clause-least : goal.returns-clause-least
-returns-clause-least g c = in_turn _ _ _ c.in_ok-made.ensures.least c.vars.invariant.least
+returns-clause-least g c = at_most_in_turn _ _ _ c.in_ok-made.ensures.least c.vars.invariant.least
 
 pub returns-clause-most : goal.returns-clause-most
 returns-clause-most g c =

@@ -31,7 +31,7 @@ use Rattle.evaluator.proofs.AtomLemmas.{inside_at}
 use Rattle.evaluator.proofs.BindingLemmas.{narrowed_sizes, narrowed_wider}
 use Rattle.evaluator.proofs.ByKeyLemmas.{atom_over, truth_over}
 use Rattle.evaluator.proofs.FillingLemmas.{at_key}
-use Rattle.evaluator.proofs.LoopLemmas.{can_ask_item, in_turn, key_within, keys_within, more_alike, most_both, most_first, most_same, none_alike, none_yet, some_steps, term_within, wide_frame}
+use Rattle.evaluator.proofs.LoopLemmas.{can_ask_item, key_within, keys_within, more_alike, most_both, most_first, most_same, none_alike, term_within, wide_frame}
 use Rattle.evaluator.proofs.NamedLemmas.{sat_unnamed}
 use Rattle.evaluator.proofs.NodeLemmas.{changed_asks, changed_has, changed_nodes, changed_reads, paired_asks, paired_has, paired_nodes, paired_reads}
 use Rattle.evaluator.proofs.PairLemmas.{beside_all, beside_few, fewer_reads, led_rows, most_fewer, most_over, most_second, most_turned, ordered_asks, ordered_has, ordered_nodes, ordered_reads, ordered_rows}
@@ -44,6 +44,8 @@ use Rattle.evaluator.specs.inner.Seen.{IsInWindow}
 use Rattle.formula.proofs.CallerLemmas.{variables_same}
 use Rattle.evaluator.proofs.VariableLemmas.{ascending_variables, distinct_variables, few_variables, known_variables}
 use Rattle.evaluator.proofs.rows.+rows.Goals as goal
+use Rattle.exact.proofs.Truths.{false_is_and}
+use Rattle.exact.proofs.Naturals.{at_most_in_turn, steps_within}
 
 pub rows_of-is_over-requires : goal.rows_of-is_over-requires
 rows_of-is_over-requires g t c =
@@ -192,21 +194,21 @@ rows_of-returns-in_err-left-in-Two-clause-most g t c =
     most_first _ _ (reads_upto c.args.d.now c.args.w.lo c.args.w.hi (formula_view c.args.f.now)) (reads_upto c.args.d.now c.args.w.lo c.args.w.hi (formula_view c.in-Two.left.now)) (reads_upto c.args.d.now c.args.w.lo c.args.w.hi (formula_view c.in-Two.right.now)) (ap (reads_upto c.args.d.now c.args.w.lo c.args.w.hi) (sym c.in-Two.ensures) ∙ paired_reads (domain_size c.args.d.now) (c.args.w.hi + 1 - c.args.w.lo) c.in-Two.pairing (formula_view c.in-Two.left.now) (formula_view c.in-Two.right.now)) c.in_err-left-in-Two.ensures.most
 
 pub rows_of-returns-in_err-right-in-Two-clause-least : goal.rows_of-returns-in_err-right-in-Two-clause-least
-rows_of-returns-in_err-right-in-Two-clause-least g t c = in_turn _ _ _ c.in_ok-left-in-Two.ensures.least c.in_err-right-in-Two.ensures.least
+rows_of-returns-in_err-right-in-Two-clause-least g t c = at_most_in_turn _ _ _ c.in_ok-left-in-Two.ensures.least c.in_err-right-in-Two.ensures.least
 
 pub rows_of-returns-in_err-right-in-Two-clause-most : goal.rows_of-returns-in_err-right-in-Two-clause-most
 rows_of-returns-in_err-right-in-Two-clause-most g t c =
     most_both _ _ _ (reads_upto c.args.d.now c.args.w.lo c.args.w.hi (formula_view c.args.f.now)) (reads_upto c.args.d.now c.args.w.lo c.args.w.hi (formula_view c.in-Two.left.now)) (reads_upto c.args.d.now c.args.w.lo c.args.w.hi (formula_view c.in-Two.right.now)) (ap (reads_upto c.args.d.now c.args.w.lo c.args.w.hi) (sym c.in-Two.ensures) ∙ paired_reads (domain_size c.args.d.now) (c.args.w.hi + 1 - c.args.w.lo) c.in-Two.pairing (formula_view c.in-Two.left.now) (formula_view c.in-Two.right.now)) c.in_ok-left-in-Two.ensures.most c.in_err-right-in-Two.ensures.most
 
 pub rows_of-returns-in_err-made-in-Two-clause-least : goal.rows_of-returns-in_err-made-in-Two-clause-least
-rows_of-returns-in_err-made-in-Two-clause-least g t c = in_turn _ _ _ c.in_ok-left-in-Two.ensures.least c.in_ok-right-in-Two.ensures.least
+rows_of-returns-in_err-made-in-Two-clause-least g t c = at_most_in_turn _ _ _ c.in_ok-left-in-Two.ensures.least c.in_ok-right-in-Two.ensures.least
 
 pub rows_of-returns-in_err-made-in-Two-clause-most : goal.rows_of-returns-in_err-made-in-Two-clause-most
 rows_of-returns-in_err-made-in-Two-clause-most g t c =
     most_both _ _ _ (reads_upto c.args.d.now c.args.w.lo c.args.w.hi (formula_view c.args.f.now)) (reads_upto c.args.d.now c.args.w.lo c.args.w.hi (formula_view c.in-Two.left.now)) (reads_upto c.args.d.now c.args.w.lo c.args.w.hi (formula_view c.in-Two.right.now)) (ap (reads_upto c.args.d.now c.args.w.lo c.args.w.hi) (sym c.in-Two.ensures) ∙ paired_reads (domain_size c.args.d.now) (c.args.w.hi + 1 - c.args.w.lo) c.in-Two.pairing (formula_view c.in-Two.left.now) (formula_view c.in-Two.right.now)) c.in_ok-left-in-Two.ensures.most c.in_ok-right-in-Two.ensures.most
 
 pub rows_of-returns-in_ok-made-in-Two-clause-least : goal.rows_of-returns-in_ok-made-in-Two-clause-least
-rows_of-returns-in_ok-made-in-Two-clause-least g t c = in_turn _ _ _ c.in_ok-left-in-Two.ensures.least c.in_ok-right-in-Two.ensures.least
+rows_of-returns-in_ok-made-in-Two-clause-least g t c = at_most_in_turn _ _ _ c.in_ok-left-in-Two.ensures.least c.in_ok-right-in-Two.ensures.least
 
 pub rows_of-returns-in_ok-made-in-Two-clause-most : goal.rows_of-returns-in_ok-made-in-Two-clause-most
 rows_of-returns-in_ok-made-in-Two-clause-most g t c =
@@ -320,21 +322,21 @@ rows_of_pair-returns-in_err-right-clause-most g t c =
     most_second _ _ (reads_upto c.args.d.now c.args.w.lo c.args.w.hi (pair_view c.args.pair.now)) (reads_upto c.args.d.now c.args.w.lo c.args.w.hi (formula_view c.args.pair.now.left.now)) (reads_upto c.args.d.now c.args.w.lo c.args.w.hi (formula_view c.args.pair.now.right.now)) (paired_reads (domain_size c.args.d.now) (c.args.w.hi + 1 - c.args.w.lo) c.args.pair.now.pairing (formula_view c.args.pair.now.left.now) (formula_view c.args.pair.now.right.now)) c.in_err-right.ensures.most
 
 pub rows_of_pair-returns-in_err-left-clause-least : goal.rows_of_pair-returns-in_err-left-clause-least
-rows_of_pair-returns-in_err-left-clause-least g t c = in_turn _ _ _ c.in_ok-right.ensures.least c.in_err-left.ensures.least
+rows_of_pair-returns-in_err-left-clause-least g t c = at_most_in_turn _ _ _ c.in_ok-right.ensures.least c.in_err-left.ensures.least
 
 pub rows_of_pair-returns-in_err-left-clause-most : goal.rows_of_pair-returns-in_err-left-clause-most
 rows_of_pair-returns-in_err-left-clause-most g t c =
     most_turned _ _ _ (reads_upto c.args.d.now c.args.w.lo c.args.w.hi (pair_view c.args.pair.now)) (reads_upto c.args.d.now c.args.w.lo c.args.w.hi (formula_view c.args.pair.now.left.now)) (reads_upto c.args.d.now c.args.w.lo c.args.w.hi (formula_view c.args.pair.now.right.now)) (paired_reads (domain_size c.args.d.now) (c.args.w.hi + 1 - c.args.w.lo) c.args.pair.now.pairing (formula_view c.args.pair.now.left.now) (formula_view c.args.pair.now.right.now)) c.in_ok-right.ensures.most (most_over c.args.w.lo c.args.w.hi (formula_view c.args.pair.now.left.now) _ _ (ap (λ (z : Frame). z.domains) c.in_ok-right.ensures.rows.frame) _ _ c.in_err-left.ensures.most)
 
 pub rows_of_pair-returns-in_err-made-clause-least : goal.rows_of_pair-returns-in_err-made-clause-least
-rows_of_pair-returns-in_err-made-clause-least g t c = in_turn _ _ _ c.in_ok-right.ensures.least c.in_ok-left.ensures.least
+rows_of_pair-returns-in_err-made-clause-least g t c = at_most_in_turn _ _ _ c.in_ok-right.ensures.least c.in_ok-left.ensures.least
 
 pub rows_of_pair-returns-in_err-made-clause-most : goal.rows_of_pair-returns-in_err-made-clause-most
 rows_of_pair-returns-in_err-made-clause-most g t c =
     most_turned _ _ _ (reads_upto c.args.d.now c.args.w.lo c.args.w.hi (pair_view c.args.pair.now)) (reads_upto c.args.d.now c.args.w.lo c.args.w.hi (formula_view c.args.pair.now.left.now)) (reads_upto c.args.d.now c.args.w.lo c.args.w.hi (formula_view c.args.pair.now.right.now)) (paired_reads (domain_size c.args.d.now) (c.args.w.hi + 1 - c.args.w.lo) c.args.pair.now.pairing (formula_view c.args.pair.now.left.now) (formula_view c.args.pair.now.right.now)) c.in_ok-right.ensures.most (most_over c.args.w.lo c.args.w.hi (formula_view c.args.pair.now.left.now) _ _ (ap (λ (z : Frame). z.domains) c.in_ok-right.ensures.rows.frame) _ _ c.in_ok-left.ensures.most)
 
 pub rows_of_pair-returns-clause-least : goal.rows_of_pair-returns-clause-least
-rows_of_pair-returns-clause-least g t c = in_turn _ _ _ c.in_ok-right.ensures.least c.in_ok-left.ensures.least
+rows_of_pair-returns-clause-least g t c = at_most_in_turn _ _ _ c.in_ok-right.ensures.least c.in_ok-left.ensures.least
 
 pub rows_of_pair-returns-clause-most : goal.rows_of_pair-returns-clause-most
 rows_of_pair-returns-clause-most g t c =
@@ -447,7 +449,7 @@ rows_of_assignment-keys_of-requires-clause-few g t c = subst (λ (vs : List ℕ)
 pub rows_of_assignment-keys-init : goal.rows_of_assignment-keys-init
 rows_of_assignment-keys-init g t c = record {
   alike = none_alike (variables_in (set_has c.args.set)) c.args.d.now c.args.w.lo c.args.w.hi c.new-parts.result.items c.new-parts.ensures.items;
-  ticks = λ b is_in u. ap (λ (rs : (List (Table g.row.S.Denot))). some_part_has g.S.TickSet.member rs b u) c.new-parts.ensures.items ∙ none_yet (within c.args.w.lo c.args.w.hi u);
+  ticks = λ b is_in u. ap (λ (rs : (List (Table g.row.S.Denot))). some_part_has g.S.TickSet.member rs b u) c.new-parts.ensures.items ∙ false_is_and (within c.args.w.lo c.args.w.hi u);
   least = omega arith;
   most = omega arith;
 }
@@ -462,7 +464,7 @@ rows_of_assignment-rows_at_key-requires g t c κs lives =
     )
 
 pub rows_of_assignment-returns-in_err-rows-clause-least : goal.rows_of_assignment-returns-in_err-rows-clause-least
-rows_of_assignment-returns-in_err-rows-clause-least g t c = in_turn _ _ _ c.keys.invariant.least c.in_err-rows.ensures.least
+rows_of_assignment-returns-in_err-rows-clause-least g t c = at_most_in_turn _ _ _ c.keys.invariant.least c.in_err-rows.ensures.least
 
 pub rows_of_assignment-returns-in_err-rows-clause-most : goal.rows_of_assignment-returns-in_err-rows-clause-most
 rows_of_assignment-returns-in_err-rows-clause-most g t c =
@@ -472,7 +474,7 @@ rows_of_assignment-returns-in_err-rows-clause-most g t c =
     (let l = c.keys-test.true in let e = ap length c.items-key-items.ensures in omega (arith, l, e)) c.in_ok-keys.ensures.count
 
 pub rows_of_assignment-returns-in_err-push_back-clause-least : goal.rows_of_assignment-returns-in_err-push_back-clause-least
-rows_of_assignment-returns-in_err-push_back-clause-least g t c = in_turn _ _ _ c.keys.invariant.least c.in_ok-rows.ensures.least
+rows_of_assignment-returns-in_err-push_back-clause-least g t c = at_most_in_turn _ _ _ c.keys.invariant.least c.in_ok-rows.ensures.least
 
 pub rows_of_assignment-returns-in_err-push_back-clause-most : goal.rows_of_assignment-returns-in_err-push_back-clause-most
 rows_of_assignment-returns-in_err-push_back-clause-most g t c =
@@ -507,7 +509,7 @@ rows_of_assignment-keys-preserved g t c = record {
       ap (λ (rs : (List (Table g.row.S.Denot))). some_part_has g.S.TickSet.member rs b u) c.in_ok-push_back.ensures.items
       ∙ key_more g.S.TickSet.member c.args.d.now c.args.w.lo c.args.w.hi c.list-term_vars.result.now (λ (b : ℕ → ℕ) (u : ℕ). sat (g.I.Interpreter.interpretation c.args.source.now b) (assignment_view c.args.a.now) c.args.env.now c.args.w.hi u) c.items-key-items.result.now (variables_of (assignment_view c.args.a.now)) c.keys.key-index c.key-item.result c.keys.parts.items c.in_ok-rows.rows
       (omega (arith, c.keys-test.true)) c.key-item.is c.keys.invariant.ticks c.in_ok-rows.ensures.rows b is_in u;
-  least = in_turn _ _ _ c.keys.invariant.least c.in_ok-rows.ensures.least;
+  least = at_most_in_turn _ _ _ c.keys.invariant.least c.in_ok-rows.ensures.least;
   most = one_step c.args.reads.now c.keys.reads _ c.keys.key-index (reads_at_key c.args.d.now c.args.w.lo c.args.w.hi c.list-term_vars.result.now (formula_view c.args.a.now.body.now)) c.keys.invariant.most c.in_ok-rows.ensures.most;
 }
 
@@ -619,7 +621,7 @@ pub rows_at_key-returns-in_err-narrow-clause-most : goal.rows_at_key-returns-in_
 rows_at_key-returns-in_err-narrow-clause-most g t c = term_within c.args.d.now c.args.w.lo c.args.w.hi c.args.term_vars.now c.args.a.now.term.now (formula_view c.args.a.now.body.now) c.requires.vars _ _ c.in_ok-runs.ensures.most
 
 pub rows_at_key-returns-in_err-rows-clause-least : goal.rows_at_key-returns-in_err-rows-clause-least
-rows_at_key-returns-in_err-rows-clause-least g t c = in_turn _ _ _ c.in_ok-runs.ensures.least c.in_err-rows.ensures.least
+rows_at_key-returns-in_err-rows-clause-least g t c = at_most_in_turn _ _ _ c.in_ok-runs.ensures.least c.in_err-rows.ensures.least
 
 pub rows_at_key-returns-in_err-rows-clause-most : goal.rows_at_key-returns-in_err-rows-clause-most
 rows_at_key-returns-in_err-rows-clause-most g t c =
@@ -629,7 +631,7 @@ rows_at_key-returns-in_err-rows-clause-most g t c =
     (subst (λ (rs : List ValueRun). length rs ≤ c.args.w.hi + 1 - c.args.w.lo) (sym c.deref.ensures.value) c.in_ok-runs.ensures.runs.few) c.in_err-rows.ensures.most
 
 pub rows_at_key-returns-in_err-rows-2-clause-least : goal.rows_at_key-returns-in_err-rows-2-clause-least
-rows_at_key-returns-in_err-rows-2-clause-least g t c = in_turn _ _ _ c.in_ok-runs.ensures.least c.in_ok-rows.ensures.least
+rows_at_key-returns-in_err-rows-2-clause-least g t c = at_most_in_turn _ _ _ c.in_ok-runs.ensures.least c.in_ok-rows.ensures.least
 
 pub rows_at_key-returns-in_err-rows-2-clause-most : goal.rows_at_key-returns-in_err-rows-2-clause-most
 rows_at_key-returns-in_err-rows-2-clause-most g t c =
@@ -639,7 +641,7 @@ rows_at_key-returns-in_err-rows-2-clause-most g t c =
     (subst (λ (rs : List ValueRun). length rs ≤ c.args.w.hi + 1 - c.args.w.lo) (sym c.deref.ensures.value) c.in_ok-runs.ensures.runs.few) c.in_ok-rows.ensures.most
 
 pub rows_at_key-returns-in_err-own-clause-least : goal.rows_at_key-returns-in_err-own-clause-least
-rows_at_key-returns-in_err-own-clause-least g t c = in_turn _ _ _ c.in_ok-runs.ensures.least c.in_ok-rows.ensures.least
+rows_at_key-returns-in_err-own-clause-least g t c = at_most_in_turn _ _ _ c.in_ok-runs.ensures.least c.in_ok-rows.ensures.least
 
 pub rows_at_key-returns-in_err-own-clause-most : goal.rows_at_key-returns-in_err-own-clause-most
 rows_at_key-returns-in_err-own-clause-most g t c =
@@ -649,7 +651,7 @@ rows_at_key-returns-in_err-own-clause-most g t c =
     (subst (λ (rs : List ValueRun). length rs ≤ c.args.w.hi + 1 - c.args.w.lo) (sym c.deref.ensures.value) c.in_ok-runs.ensures.runs.few) c.in_ok-rows.ensures.most
 
 pub rows_at_key-returns-in_err-made-clause-least : goal.rows_at_key-returns-in_err-made-clause-least
-rows_at_key-returns-in_err-made-clause-least g t c = in_turn _ _ _ c.in_ok-runs.ensures.least c.in_ok-rows.ensures.least
+rows_at_key-returns-in_err-made-clause-least g t c = at_most_in_turn _ _ _ c.in_ok-runs.ensures.least c.in_ok-rows.ensures.least
 
 pub rows_at_key-returns-in_err-made-clause-most : goal.rows_at_key-returns-in_err-made-clause-most
 rows_at_key-returns-in_err-made-clause-most g t c =
@@ -659,7 +661,7 @@ rows_at_key-returns-in_err-made-clause-most g t c =
     (subst (λ (rs : List ValueRun). length rs ≤ c.args.w.hi + 1 - c.args.w.lo) (sym c.deref.ensures.value) c.in_ok-runs.ensures.runs.few) c.in_ok-rows.ensures.most
 
 pub rows_at_key-returns-clause-least : goal.rows_at_key-returns-clause-least
-rows_at_key-returns-clause-least g t c = in_turn _ _ _ c.in_ok-runs.ensures.least c.in_ok-rows.ensures.least
+rows_at_key-returns-clause-least g t c = at_most_in_turn _ _ _ c.in_ok-runs.ensures.least c.in_ok-rows.ensures.least
 
 pub rows_at_key-returns-clause-most : goal.rows_at_key-returns-clause-most
 rows_at_key-returns-clause-most g t c =
@@ -671,7 +673,7 @@ rows_at_key-returns-clause-most g t c =
 pub rows_of_runs-runs-init : goal.rows_of_runs-runs-init
 rows_of_runs-runs-init g t c = record {
   alike = none_alike (variables_of (formula_view c.args.a.now.body.now)) c.args.d.now c.args.w.lo c.args.w.hi c.new-parts.result.items c.new-parts.ensures.items;
-  ticks = λ b is_in u. ap (λ (rs : (List (Table g.row.S.Denot))). some_part_has g.S.TickSet.member rs b u) c.new-parts.ensures.items ∙ none_yet (within c.args.w.lo c.args.w.hi u);
+  ticks = λ b is_in u. ap (λ (rs : (List (Table g.row.S.Denot))). some_part_has g.S.TickSet.member rs b u) c.new-parts.ensures.items ∙ false_is_and (within c.args.w.lo c.args.w.hi u);
   least = omega arith;
   most = omega arith;
 }
@@ -699,32 +701,32 @@ rows_of_runs-rows_of_section-requires g t c κs lives = (
 )
 
 pub rows_of_runs-returns-in_err-part-clause-least : goal.rows_of_runs-returns-in_err-part-clause-least
-rows_of_runs-returns-in_err-part-clause-least g t c = in_turn _ _ _ c.runs.invariant.least c.in_err-part.ensures.least
+rows_of_runs-returns-in_err-part-clause-least g t c = at_most_in_turn _ _ _ c.runs.invariant.least c.in_err-part.ensures.least
 
 pub rows_of_runs-returns-in_err-part-clause-most : goal.rows_of_runs-returns-in_err-part-clause-most
 rows_of_runs-returns-in_err-part-clause-most g t c =
-    some_steps c.args.reads.now _ (c.runs.run-index + 1) (length c.args.runs.now) (reads_upto c.args.d.now c.args.w.lo c.args.w.hi (formula_view c.args.a.now.body.now))
+    steps_within c.args.reads.now _ (c.runs.run-index + 1) (length c.args.runs.now) (reads_upto c.args.d.now c.args.w.lo c.args.w.hi (formula_view c.args.a.now.body.now))
     (one_step c.args.reads.now c.runs.reads _ c.runs.run-index (reads_upto c.args.d.now c.args.w.lo c.args.w.hi (formula_view c.args.a.now.body.now)) c.runs.invariant.most c.in_err-part.ensures.most) (omega (arith, c.runs-test.true))
 
 pub rows_of_runs-returns-in_err-push_back-clause-least : goal.rows_of_runs-returns-in_err-push_back-clause-least
-rows_of_runs-returns-in_err-push_back-clause-least g t c = in_turn _ _ _ c.runs.invariant.least c.in_ok-part.ensures.least
+rows_of_runs-returns-in_err-push_back-clause-least g t c = at_most_in_turn _ _ _ c.runs.invariant.least c.in_ok-part.ensures.least
 
 pub rows_of_runs-returns-in_err-push_back-clause-most : goal.rows_of_runs-returns-in_err-push_back-clause-most
 rows_of_runs-returns-in_err-push_back-clause-most g t c =
-    some_steps c.args.reads.now _ (c.runs.run-index + 1) (length c.args.runs.now) (reads_upto c.args.d.now c.args.w.lo c.args.w.hi (formula_view c.args.a.now.body.now))
+    steps_within c.args.reads.now _ (c.runs.run-index + 1) (length c.args.runs.now) (reads_upto c.args.d.now c.args.w.lo c.args.w.hi (formula_view c.args.a.now.body.now))
     (one_step c.args.reads.now c.runs.reads _ c.runs.run-index (reads_upto c.args.d.now c.args.w.lo c.args.w.hi (formula_view c.args.a.now.body.now)) c.runs.invariant.most c.in_ok-part.ensures.most) (omega (arith, c.runs-test.true))
 
 pub rows_of_runs-returns-in_err-made-clause-least : goal.rows_of_runs-returns-in_err-made-clause-least
 rows_of_runs-returns-in_err-made-clause-least g t c = c.runs.invariant.least
 
 pub rows_of_runs-returns-in_err-made-clause-most : goal.rows_of_runs-returns-in_err-made-clause-most
-rows_of_runs-returns-in_err-made-clause-most g t c = some_steps c.args.reads.now c.runs.reads c.runs.run-index (length c.args.runs.now) (reads_upto c.args.d.now c.args.w.lo c.args.w.hi (formula_view c.args.a.now.body.now)) c.runs.invariant.most c.runs.auto.run-index-end
+rows_of_runs-returns-in_err-made-clause-most g t c = steps_within c.args.reads.now c.runs.reads c.runs.run-index (length c.args.runs.now) (reads_upto c.args.d.now c.args.w.lo c.args.w.hi (formula_view c.args.a.now.body.now)) c.runs.invariant.most c.runs.auto.run-index-end
 
 pub rows_of_runs-returns-clause-least : goal.rows_of_runs-returns-clause-least
 rows_of_runs-returns-clause-least g t c = c.runs.invariant.least
 
 pub rows_of_runs-returns-clause-most : goal.rows_of_runs-returns-clause-most
-rows_of_runs-returns-clause-most g t c = some_steps c.args.reads.now c.runs.reads c.runs.run-index (length c.args.runs.now) (reads_upto c.args.d.now c.args.w.lo c.args.w.hi (formula_view c.args.a.now.body.now)) c.runs.invariant.most c.runs.auto.run-index-end
+rows_of_runs-returns-clause-most g t c = steps_within c.args.reads.now c.runs.reads c.runs.run-index (length c.args.runs.now) (reads_upto c.args.d.now c.args.w.lo c.args.w.hi (formula_view c.args.a.now.body.now)) c.runs.invariant.most c.runs.auto.run-index-end
 
 pub rows_of_runs-runs-preserved : goal.rows_of_runs-runs-preserved
 rows_of_runs-runs-preserved g t c = record {
@@ -736,7 +738,7 @@ rows_of_runs-runs-preserved g t c = record {
       (omega (arith, c.runs-test.true)) c.run-item.is c.runs.invariant.ticks
       (subst (λ (x : Env). AreRowsWhere g.S.TickSet.member c.args.d.now c.args.w.lo c.args.w.hi (variables_of (formula_view c.args.a.now.body.now)) (λ p r. within c.run-item.result.span.lo c.run-item.result.span.hi r && sat (g.I.Interpreter.interpretation c.args.source.now p) (formula_view c.args.a.now.body.now) x c.args.w.hi r) c.in_ok-part.part) c.with-bound.ensures c.in_ok-part.ensures.rows)
       b is_in u;
-  least = in_turn _ _ _ c.runs.invariant.least c.in_ok-part.ensures.least;
+  least = at_most_in_turn _ _ _ c.runs.invariant.least c.in_ok-part.ensures.least;
   most = one_step c.args.reads.now c.runs.reads _ c.runs.run-index (reads_upto c.args.d.now c.args.w.lo c.args.w.hi (formula_view c.args.a.now.body.now)) c.runs.invariant.most c.in_ok-part.ensures.most;
 }
 

@@ -14,12 +14,14 @@ use Rattle.evaluator.specs.Stretched.{AreStretches, IsStretch}
 use Rattle.evaluator.proofs.NamedLemmas.{sat_unnamed}
 use Rattle.evaluator.specs.inner.ByBinding.{AreTicksOf, CanAskHere, any_member, reads_here}
 use Rattle.evaluator.specs.inner.Nodes.{changed_tree, paired_tree}
-use Rattle.evaluator.proofs.LoopLemmas.{in_turn, most_both, most_first, most_same, none_yet}
+use Rattle.evaluator.proofs.LoopLemmas.{most_both, most_first, most_same}
 use Rattle.evaluator.proofs.NodeLemmas.{changed_can, changed_nodes, changed_reads, paired_can, paired_nodes, paired_reads}
 use Rattle.evaluator.proofs.ReadLemmas.{one_step}
 use Rattle.evaluator.proofs.SeenLemmas.{can_here_fewer, most_seen, section_alike, section_reads, seen_from, seen_upto}
 use Rattle.evaluator.proofs.TickLemmas.{can_ask_by, lies, one_ticks, reads_of_atom, run_added, run_within, runs_done, runs_here, no_goal, term_here, two_ticks}
 use Rattle.evaluator.proofs.ticks.+ticks.Goals as goal
+use Rattle.exact.proofs.Truths.{false_is_and}
+use Rattle.exact.proofs.Naturals.{at_most_in_turn}
 
 pub ticks_of-returns-in_ok-made-in-Truth-clause-ticks : goal.ticks_of-returns-in_ok-made-in-Truth-clause-ticks
 ticks_of-returns-in_ok-made-in-Truth-clause-ticks g t c =
@@ -119,21 +121,21 @@ ticks_of-returns-in_err-left-in-Two-clause-most g t c =
     most_first _ _ (reads_here c.args.w.lo c.args.w.hi (formula_view c.args.f.now)) (reads_here c.args.w.lo c.args.w.hi (formula_view c.in-Two.left.now)) (reads_here c.args.w.lo c.args.w.hi (formula_view c.in-Two.right.now)) (ap (reads_here c.args.w.lo c.args.w.hi) (sym c.in-Two.ensures) ∙ paired_reads (λ _. 1) (c.args.w.hi + 1 - c.args.w.lo) c.in-Two.pairing (formula_view c.in-Two.left.now) (formula_view c.in-Two.right.now)) c.in_err-left-in-Two.ensures.most
 
 pub ticks_of-returns-in_err-right-in-Two-clause-least : goal.ticks_of-returns-in_err-right-in-Two-clause-least
-ticks_of-returns-in_err-right-in-Two-clause-least g t c = in_turn _ _ _ c.in_ok-left-in-Two.ensures.least c.in_err-right-in-Two.ensures.least
+ticks_of-returns-in_err-right-in-Two-clause-least g t c = at_most_in_turn _ _ _ c.in_ok-left-in-Two.ensures.least c.in_err-right-in-Two.ensures.least
 
 pub ticks_of-returns-in_err-right-in-Two-clause-most : goal.ticks_of-returns-in_err-right-in-Two-clause-most
 ticks_of-returns-in_err-right-in-Two-clause-most g t c =
     most_both _ _ _ (reads_here c.args.w.lo c.args.w.hi (formula_view c.args.f.now)) (reads_here c.args.w.lo c.args.w.hi (formula_view c.in-Two.left.now)) (reads_here c.args.w.lo c.args.w.hi (formula_view c.in-Two.right.now)) (ap (reads_here c.args.w.lo c.args.w.hi) (sym c.in-Two.ensures) ∙ paired_reads (λ _. 1) (c.args.w.hi + 1 - c.args.w.lo) c.in-Two.pairing (formula_view c.in-Two.left.now) (formula_view c.in-Two.right.now)) c.in_ok-left-in-Two.ensures.most c.in_err-right-in-Two.ensures.most
 
 pub ticks_of-returns-in_err-made-in-Two-clause-least : goal.ticks_of-returns-in_err-made-in-Two-clause-least
-ticks_of-returns-in_err-made-in-Two-clause-least g t c = in_turn _ _ _ c.in_ok-left-in-Two.ensures.least c.in_ok-right-in-Two.ensures.least
+ticks_of-returns-in_err-made-in-Two-clause-least g t c = at_most_in_turn _ _ _ c.in_ok-left-in-Two.ensures.least c.in_ok-right-in-Two.ensures.least
 
 pub ticks_of-returns-in_err-made-in-Two-clause-most : goal.ticks_of-returns-in_err-made-in-Two-clause-most
 ticks_of-returns-in_err-made-in-Two-clause-most g t c =
     most_both _ _ _ (reads_here c.args.w.lo c.args.w.hi (formula_view c.args.f.now)) (reads_here c.args.w.lo c.args.w.hi (formula_view c.in-Two.left.now)) (reads_here c.args.w.lo c.args.w.hi (formula_view c.in-Two.right.now)) (ap (reads_here c.args.w.lo c.args.w.hi) (sym c.in-Two.ensures) ∙ paired_reads (λ _. 1) (c.args.w.hi + 1 - c.args.w.lo) c.in-Two.pairing (formula_view c.in-Two.left.now) (formula_view c.in-Two.right.now)) c.in_ok-left-in-Two.ensures.most c.in_ok-right-in-Two.ensures.most
 
 pub ticks_of-returns-in_ok-made-in-Two-clause-least : goal.ticks_of-returns-in_ok-made-in-Two-clause-least
-ticks_of-returns-in_ok-made-in-Two-clause-least g t c = in_turn _ _ _ c.in_ok-left-in-Two.ensures.least c.in_ok-right-in-Two.ensures.least
+ticks_of-returns-in_ok-made-in-Two-clause-least g t c = at_most_in_turn _ _ _ c.in_ok-left-in-Two.ensures.least c.in_ok-right-in-Two.ensures.least
 
 pub ticks_of-returns-in_ok-made-in-Two-clause-most : goal.ticks_of-returns-in_ok-made-in-Two-clause-most
 ticks_of-returns-in_ok-made-in-Two-clause-most g t c =
@@ -175,7 +177,7 @@ ticks_of_assignment-returns-in_err-runs-clause-most g t c = term_here c.args.w.l
 
 pub ticks_of_assignment-each-init : goal.ticks_of_assignment-each-init
 ticks_of_assignment-each-init g t c = record {
-  ticks = λ u. ap (λ (rs : List g.row.S.Denot). any_member g.S.TickSet.member rs u) c.new-parts.ensures.items ∙ none_yet (within c.args.w.lo c.args.w.hi u);
+  ticks = λ u. ap (λ (rs : List g.row.S.Denot). any_member g.S.TickSet.member rs u) c.new-parts.ensures.items ∙ false_is_and (within c.args.w.lo c.args.w.hi u);
   least = omega arith;
   most = omega arith;
 }
@@ -200,7 +202,7 @@ ticks_of_assignment-ticks_of_section-requires g t c κs lives = (
 )
 
 pub ticks_of_assignment-returns-in_err-part-clause-least : goal.ticks_of_assignment-returns-in_err-part-clause-least
-ticks_of_assignment-returns-in_err-part-clause-least g t c = in_turn _ _ _ c.in_ok-runs.ensures.least (in_turn _ _ _ c.each.invariant.least c.in_err-part.ensures.least)
+ticks_of_assignment-returns-in_err-part-clause-least g t c = at_most_in_turn _ _ _ c.in_ok-runs.ensures.least (at_most_in_turn _ _ _ c.each.invariant.least c.in_err-part.ensures.least)
 
 pub ticks_of_assignment-returns-in_err-part-clause-most : goal.ticks_of_assignment-returns-in_err-part-clause-most
 ticks_of_assignment-returns-in_err-part-clause-most g t c =
@@ -209,7 +211,7 @@ ticks_of_assignment-returns-in_err-part-clause-most g t c =
     (one_step _ c.each.reads _ c.each.run-index (reads_here c.args.w.lo c.args.w.hi (formula_view c.args.a.now.body.now)) c.each.invariant.most c.in_err-part.ensures.most)
 
 pub ticks_of_assignment-returns-in_err-push_back-clause-least : goal.ticks_of_assignment-returns-in_err-push_back-clause-least
-ticks_of_assignment-returns-in_err-push_back-clause-least g t c = in_turn _ _ _ c.in_ok-runs.ensures.least (in_turn _ _ _ c.each.invariant.least c.in_ok-part.ensures.least)
+ticks_of_assignment-returns-in_err-push_back-clause-least g t c = at_most_in_turn _ _ _ c.in_ok-runs.ensures.least (at_most_in_turn _ _ _ c.each.invariant.least c.in_ok-part.ensures.least)
 
 pub ticks_of_assignment-returns-in_err-push_back-clause-most : goal.ticks_of_assignment-returns-in_err-push_back-clause-most
 ticks_of_assignment-returns-in_err-push_back-clause-most g t c =
@@ -218,7 +220,7 @@ ticks_of_assignment-returns-in_err-push_back-clause-most g t c =
     (one_step _ c.each.reads _ c.each.run-index (reads_here c.args.w.lo c.args.w.hi (formula_view c.args.a.now.body.now)) c.each.invariant.most c.in_ok-part.ensures.most)
 
 pub ticks_of_assignment-returns-in_err-made-clause-least : goal.ticks_of_assignment-returns-in_err-made-clause-least
-ticks_of_assignment-returns-in_err-made-clause-least g t c = in_turn _ _ _ c.in_ok-runs.ensures.least c.each.invariant.least
+ticks_of_assignment-returns-in_err-made-clause-least g t c = at_most_in_turn _ _ _ c.in_ok-runs.ensures.least c.each.invariant.least
 
 pub ticks_of_assignment-returns-in_err-made-clause-most : goal.ticks_of_assignment-returns-in_err-made-clause-most
 ticks_of_assignment-returns-in_err-made-clause-most g t c =
@@ -226,7 +228,7 @@ ticks_of_assignment-returns-in_err-made-clause-most g t c =
     runs_here c.args.w.lo c.args.w.hi c.args.a.now.depth c.args.a.now.term.now (formula_view c.args.a.now.body.now) _ _ _ c.each.run-index c.in_ok-runs.ensures.most (let l : c.each.run-index ≤ length c.deref-run-items.result.now = c.each.auto.run-index-end in omega (arith, l, few)) c.each.invariant.most
 
 pub ticks_of_assignment-returns-clause-least : goal.ticks_of_assignment-returns-clause-least
-ticks_of_assignment-returns-clause-least g t c = in_turn _ _ _ c.in_ok-runs.ensures.least c.each.invariant.least
+ticks_of_assignment-returns-clause-least g t c = at_most_in_turn _ _ _ c.in_ok-runs.ensures.least c.each.invariant.least
 
 pub ticks_of_assignment-returns-clause-most : goal.ticks_of_assignment-returns-clause-most
 ticks_of_assignment-returns-clause-most g t c =
@@ -245,7 +247,7 @@ ticks_of_assignment-each-preserved g t c =
           (omega (arith, c.each-test.true)) c.run-item.is own.0 own.1 c.each.invariant.ticks
           (λ r. c.in_ok-part.ensures.ticks r ∙ ap (λ (x : Env). within c.run-item.result.span.lo c.run-item.result.span.hi r && sat (g.I.Interpreter.interpretation c.args.source.now (slice_index c.args.binding.now)) (formula_view c.args.a.now.body.now) x c.args.w.hi r) c.with-bound.ensures)
           u;
-      least = in_turn _ _ _ c.each.invariant.least c.in_ok-part.ensures.least;
+      least = at_most_in_turn _ _ _ c.each.invariant.least c.in_ok-part.ensures.least;
       most = one_step _ c.each.reads _ c.each.run-index (reads_here c.args.w.lo c.args.w.hi (formula_view c.args.a.now.body.now)) c.each.invariant.most c.in_ok-part.ensures.most;
     }
 

@@ -1,12 +1,13 @@
 use Rattle.std.proofs.Common.{ℕ, ◌+◌, ◌*◌, ◌/◌, ◌<◌, ◌++◌, Bool, Option, List, ap, ◌∙◌, arith}
 use Rattle.kept_rows.specs.Listing.{line_of, lines_between, target_has}
 use Rattle.kept_rows.specs.Rows.{row_has}
-use Rattle.kept_rows.proofs.ListingLemmas.{line-none, lines-end, lines-more, target-after, target-below, target-start, target-upto, target-whole, times-none}
+use Rattle.kept_rows.proofs.ListingLemmas.{line-none, lines-end, lines-more, target-after, target-below, target-upto, target-whole, times-none}
 use Rattle.kept_rows.proofs.listing.answer.Goals as goal
+use Rattle.exact.proofs.Naturals.{times_at_most}
 
 pub line_at-requires-clause-before : goal.line_at-requires-clause-before
 line_at-requires-clause-before g c = λ n t h k.
-    let start = target-start c.targets.target (c.in-Some.first / c.args.targets.width) c.args.targets.width
+    let start = times_at_most c.targets.target (c.in-Some.first / c.args.targets.width) c.args.targets.width
     (target-after c.targets.target c.in-Some.first c.args.targets.width c.args.targets.some c.in-Some.ensures.some.least) in
     c.in-Some.ensures.some.before n t (omega (arith, start, h)) k
 

@@ -7,11 +7,12 @@ use Rattle.kept_rows.specs.Moves.{Moved, move_between, move_of}
 use Rattle.kept_rows.specs.Rising.{AscendsWithin}
 use Rattle.kept_rows.specs.Rows.{row_has}
 use Rattle.kept_rows.proofs.HeldLemmas.{more-place}
-use Rattle.kept_rows.proofs.ListingLemmas.{lines-end, lines-more, target-after, target-below, target-end, target-from, target-start, target-upto}
+use Rattle.kept_rows.proofs.ListingLemmas.{lines-end, lines-more, target-after, target-below, target-end, target-from, target-upto}
 use Rattle.kept_rows.proofs.MoveLemmas.{after-below, after-drop, after-none, after-take, head-bounds, rising-drop, rising-take, some-below, times-alike, unmoved}
 use Rattle.kept_rows.proofs.NextLemmas.{get-none}
 use Rattle.kept_rows.proofs.RisingLemmas.{rising-wider}
 use Rattle.kept_rows.proofs.moving.moves.Goals as goal
+use Rattle.exact.proofs.Naturals.{times_at_most}
 
 pub count_below-count-requires : goal.count_below-count-requires
 count_below-count-requires g c =
@@ -58,10 +59,10 @@ targets-preserved g c =
     let head = head-bounds (target * width) (count * width) rest c.in-Some.first.now c.targets.invariant.rising (sym c.in-Some.ensures.value) in
     let later : target ≤ at = target-after target first width c.args.targets.some head.0 in
     let below : at < count = target-below first width count c.args.targets.some head.1 in
-    let up : target * width ≤ at * width = target-start target at width later in
+    let up : target * width ≤ at * width = times_at_most target at width later in
     let next : to ≡ (at + 1) * width = more-place at width in
     let none : (k : ℕ) → target ≤ k → k < at → line k ≡ None = λ k h l.
-    let start : target * width ≤ k * width = target-start target k width h in
+    let start : target * width ≤ k * width = times_at_most target k width h in
     let end : k * width + width ≤ first = target-upto k first width l in
     unmoved (target_has rows width k) (target_has all width k) lo hi now k (λ t.
     times-alike all rows width k t (λ i a b.
@@ -105,7 +106,7 @@ returns g c =
     let empty : length rest ≤ 0 = get-none rest 0 (sym c.in_default.ensures.value) in
     lines-end (move_of (target_has rows width) (target_has all width) c.args.window.lo c.args.window.hi c.args.now) c.targets.moves.items target c.args.targets.count _ c.targets.invariant.few
     (λ k h l.
-    let start : target * width ≤ k * width = target-start target k width h in
+    let start : target * width ≤ k * width = times_at_most target k width h in
     unmoved (target_has rows width k) (target_has all width k) c.args.window.lo c.args.window.hi c.args.now k (λ t.
     times-alike all rows width k t (λ i a b.
     c.targets.invariant.alike i t (omega (arith, start, a)) ∙ after-none g.S.TickSet.member rest rows i t empty)))

@@ -1,8 +1,9 @@
 use Rattle.std.proofs.Common.{ℕ, ◌-◌, ◌*◌, ◌<◌, ◌≤◌, arith}
 use Rattle.std.proofs.lemmas.Bool.Decides.{nat_tests}
 use Rattle.std.proofs.lemmas.Int.{ints}
-use Rattle.linear_crossing.proofs.Rounding.{factor_above, rounded_few, rounded_up}
+use Rattle.linear_crossing.proofs.Rounding.{rounded_up}
 use Rattle.linear_crossing.proofs.linear.first_reached.Goals as goal
+use Rattle.exact.proofs.Naturals.{factor_above, rounded_few}
 
 deep : (c : goal.After-div_ceil-first) → 0 < c.unsigned_abs-depth.result
 deep c = omega (arith, ints)

@@ -4,10 +4,10 @@ use Rattle.std.proofs.lemmas.Bool.{or_left, or_right}
 use Rattle.formula.specs.Tree.{resolved_view}
 use Rattle.object_store.specs.Contents.{catalog_of}
 use Rattle.live_queries.specs.Columns.{AreColumnsOf, order_of}
-use Rattle.live_queries.proofs.ColumnLemmas.{own}
 use Rattle.live_queries.proofs.ListLemmas.{pairs_begin, pairs_end, pairs_go_on}
 use Rattle.live_queries.proofs.OrderLemmas.{among, order_below}
 use Rattle.live_queries.proofs.columns.columns_of.Goals as goal
+use Rattle.exact.proofs.Naturals.{equals_itself}
 
 pub variables-init : goal.variables-init
 variables-init c =
@@ -22,7 +22,7 @@ pub column-requires-clause-there : goal.column-requires-clause-there
 column-requires-clause-there c =
     c.variables.invariant.below c.in-Some.variable.now
     (ap (λ (vs : List ℕ). among vs c.in-Some.variable.now) c.in-Some.ensures.cases.0
-    ∙ or_left (c.in-Some.variable.now == c.in-Some.variable.now) (among c.in-Some.later.now c.in-Some.variable.now) (own c.in-Some.variable.now))
+    ∙ or_left (c.in-Some.variable.now == c.in-Some.variable.now) (among c.in-Some.later.now c.in-Some.variable.now) (equals_itself c.in-Some.variable.now))
 
 pub variables-preserved : goal.variables-preserved
 variables-preserved c = record {

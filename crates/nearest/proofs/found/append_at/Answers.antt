@@ -4,8 +4,8 @@ use Rattle.std.proofs.lemmas.List.{get_or_default}
 use Rattle.tick_set.specs.Runs.{spans_have}
 use Rattle.nearest.specs.Found.{runs_at}
 use Rattle.nearest.proofs.FoundLemmas.{runs_set}
-use Rattle.nearest.proofs.PartLemmas.{on_ok}
 use Rattle.nearest.proofs.found.append_at.Goals as goal
+use Rattle.exact.proofs.Items.{on_ok}
 
 pub returns-clause-runs : goal.returns-clause-runs
 returns-clause-runs c =

@@ -2,8 +2,9 @@ use Rattle.std.proofs.Common.{◌≡◌, ℕ, ◌+◌, option_to_list}
 use Rattle.linear_crossing.specs.Zones.{spans_of}
 use Rattle.nearest.specs.Depth.{depth_at}
 use Rattle.nearest.proofs.OrderLemmas.{depth-append}
-use Rattle.nearest.proofs.PartLemmas.{added, on_ok}
+use Rattle.nearest.proofs.PartLemmas.{added}
 use Rattle.nearest.proofs.pairs.add.Goals as goal
+use Rattle.exact.proofs.Items.{on_ok}
 
 pub returns : goal.returns
 returns c =

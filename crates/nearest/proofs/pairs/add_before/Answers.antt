@@ -6,8 +6,9 @@ use Rattle.nearest.specs.Courses.{goes_before}
 use Rattle.nearest.specs.Depth.{depth_at, one_if}
 use Rattle.nearest.specs.Order.{is_below, separation_after}
 use Rattle.nearest.specs.Sights.{IsSight, IsStraight}
-use Rattle.nearest.proofs.PartLemmas.{guarded, on_ok}
+use Rattle.nearest.proofs.PartLemmas.{guarded}
 use Rattle.nearest.proofs.pairs.add_before.Goals as goal
+use Rattle.exact.proofs.Items.{on_ok}
 
 pub returns-in-Straight-sight : goal.returns-in-Straight-sight
 returns-in-Straight-sight c =

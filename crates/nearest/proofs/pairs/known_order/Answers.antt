@@ -7,8 +7,8 @@ use Rattle.nearness.specs.Nearest.{stands_before}
 use Rattle.nearest.specs.Courses.{goes_before}
 use Rattle.nearest.specs.Order.{is_below, separation_after}
 use Rattle.nearest.specs.Sights.{IsSeenFrom, IsSight, IsStraight}
-use Rattle.nearest.proofs.PartLemmas.{if_some}
 use Rattle.nearest.proofs.pairs.known_order.Goals as goal
+use Rattle.exact.proofs.Items.{if_some_map}
 
 pub returns-in-Straight-sight : goal.returns-in-Straight-sight
 returns-in-Straight-sight c =
@@ -16,7 +16,7 @@ returns-in-Straight-sight c =
     let o = c.args.o.now in
     let first = c.in-Straight.first in
     let second = c.in-Straight-sight.second in
-    if_some c.order_by_bounds.result
+    if_some_map c.order_by_bounds.result
     (λ (below : Bool). (d e : ℤ) → first.least ≤ℤ d → d ≤ℤ pos first.most → second.least ≤ℤ e → e ≤ℤ pos second.most → is_below (nat_lt p.id o.id) d e ≡ below)
     (λ (before : Bool). (from : List Epoch) (w : Window) → IsSeenFrom from w p → IsSeenFrom from w o → (t : ℕ) → within w.lo w.hi t ≡ true → goes_before from p o t ≡ before)
     (λ before told from w p_seen o_seen t inside.

@@ -1,8 +1,9 @@
 use Rattle.std.proofs.Common.{◌≡◌, ◌*◌, ◌<◌, ◌≤◌, pos, ◌<ℤ◌, unsigned_abs, arith}
 use Rattle.std.proofs.lemmas.Bool.Decides.{nat_tests}
 use Rattle.std.proofs.lemmas.Int.{ints}
-use Rattle.plane_index.proofs.LineLemmas.{factor_above, rounded_up}
+use Rattle.plane_index.proofs.LineLemmas.{rounded_up}
 use Rattle.plane_index.proofs.line.first_reached.Goals as goal
+use Rattle.exact.proofs.Naturals.{factor_above}
 
 pub returns-clause-first : goal.returns-clause-first
 returns-clause-first c k up_to =

@@ -6,9 +6,10 @@ use Rattle.plane_index.specs.Held.{kept_strips}
 use Rattle.plane_index.specs.Index.{fresh_at}
 use Rattle.plane_index.specs.States.{strips_at}
 use Rattle.plane_index.specs.Told.{recorded_by}
-use Rattle.plane_index.proofs.FreshLemmas.{apart_of, none_yet_seen, one_more, one_read, own, same_of, still_fresh, was_fresh}
+use Rattle.plane_index.proofs.FreshLemmas.{apart_of, none_yet_seen, one_read, own, still_fresh, was_fresh}
 use Rattle.plane_index.proofs.PlaceLemmas.{count_grows, count_more}
 use Rattle.plane_index.proofs.renewing.freshen.Goals as goal
+use Rattle.exact.proofs.Naturals.{below_next, same_from_equal}
 
 pub places-init : goal.places-init
 places-init g c =
@@ -39,7 +40,7 @@ places-preserved g c =
     let next = c.next_stale-place-in-places in
     let skip = next.ensures in
     let seen : (k : ℕ) → fresh_at c.freshen_at.new.fresh k ≡ (fresh_at before k || nat_lt k (place + 1)) =
-    λ k. f.fresh k ∙ ap (λ b. b || (k == place)) (now.fresh k) ∙ one_more (fresh_at before k) k place in
+    λ k. f.fresh k ∙ ap (λ b. b || (k == place)) (now.fresh k) ∙ below_next (fresh_at before k) k place in
     record {
       up_to = skip.end;
       seen = f.lengths.0 ∙ now.seen;
@@ -49,7 +50,7 @@ places-preserved g c =
       kept = λ k s is.
           elim (cases_Bool (k == place)) [
             | inl same ↦
-                let e = same_of k place same in
+                let e = same_from_equal k place same in
                 let fresh_here : fresh_at c.places.fresh place ≡ true = here ∙ ap (fresh_at before) (sym e) ∙ is in
                 ap (λ n. strips_at new.grid new.states n s) e ∙ f.kept fresh_here s ∙ ap (λ n. strips_at old.grid old.states n s) (sym e) ∙ now.kept k s is
             | inr apart ↦ f.others k s apart ∙ now.kept k s is
@@ -59,7 +60,7 @@ places-preserved g c =
           (λ (l : k < place + 1).
           elim (cases_Bool (k == place)) [
             | inl same ↦
-                let e = same_of k place same in
+                let e = same_from_equal k place same in
                 let stale_here : fresh_at c.places.fresh place ≡ false = here ∙ ap (fresh_at before) (sym e) ∙ is in
                 ap (λ n. strips_at new.grid new.states n s) e ∙ f.right stale_here s
                 ∙ (λ i. kept_strips (strips_in (recorded_by c.args.store.now) (now.grid i) (slice_index c.args.ids.now (sym e i)) s))

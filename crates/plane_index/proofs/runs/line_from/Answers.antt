@@ -2,8 +2,9 @@ use Rattle.std.proofs.Common.{◌≡◌, ◌+◌, ◌-◌, ◌≤◌, pos, ◌+�
 use Rattle.std.proofs.lemmas.Bool.Decides.{nat_tests}
 use Rattle.plane.specs.Rows.{is_between}
 use Rattle.plane_index.specs.Told.{lies_between}
-use Rattle.plane_index.proofs.StoreLemmas.{if_some_map, lies_on_line}
+use Rattle.plane_index.proofs.StoreLemmas.{lies_on_line}
 use Rattle.plane_index.proofs.runs.line_from.Goals as goal
+use Rattle.exact.proofs.Items.{if_some_map}
 
 pub returns-in-0 : goal.returns-in-0
 returns-in-0 c =
