@@ -1,6 +1,6 @@
 -- For this crate and for the crates above: what may be asked of the store of a session.
 use Rattle.std.proofs.Common.{◌≡◌, ℕ, ◌+◌, ◌-◌, ◌<◌, ◌≤◌, ℤ, unsigned_abs, Bool, true, false, ◌||◌, Option, None, Some, List, length, refl, sym, ap, ◌∙◌, subst, arith, if◌then◌else◌}
-use Rattle.std.specs.Prelude.{nat_le, nat_lt, IsTrue, option_and_then, slice_get, slice_index}
+use Rattle.std.specs.Prelude.{nat_le, nat_lt, IsTrue, slice_get, slice_index}
 use Rattle.std.specs.Option.{option_map_or}
 use Rattle.std.proofs.lemmas.Bool.{false≢true, and_from, and_parts}
 use Rattle.std.proofs.lemmas.Bool.Decides.{nat_tests}
@@ -32,6 +32,7 @@ use Rattle.meaning.specs.Reachable.{AreReachable, AreWithinBounds, IsReachable}
 use Rattle.meaning.specs.Trace.{Trace, trace_of}
 use Rattle.meaning.specs.Value.{term_value}
 use Rattle.meaning.proofs.LocalityLemmas.{term_same}
+use Rattle.meaning.proofs.BindingLemmas.{variable_class}
 use Rattle.object_store.specs.Contents.{Contents, catalog_of, history_of}
 use Rattle.relation.specs.Key.{has_id}
 use Rattle.atoms.specs.Sizes.{is_sized, is_sized_term}
@@ -67,11 +68,6 @@ HasVariablesThatThereAre = (count around : ℕ) (scope : Scope) (f : ResolvedTre
     (v : ℕ) → has_variable v f ≡ true → v < count
 
 -- ---- states of the objects of some variables
-
-variable_class : (classes : List ClassInfo) (number : Option ℕ) (k : ClassInfo) → option_and_then (slice_get classes) number ≡ Some k →
-    (m : ℕ) × (number ≡ Some m) × (slice_get classes m ≡ Some k)
-variable_class classes None k is = no_value k is
-variable_class classes (Some m) k is = (m, refl, is)
 
 -- the states of the variables that pass a test, where the others have none
 abbrev shown_for : (ℕ → Bool) → Trace → Trace

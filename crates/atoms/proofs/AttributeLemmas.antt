@@ -1,8 +1,9 @@
 -- What an object has throughout a window.
-use Rattle.std.proofs.Common.{◌≡◌, ℕ, ◌<◌, ◌≤◌, false, Option, None, Some, is_some, List, ap, subst, ◌∙◌, arith}
+use Rattle.std.proofs.Common.{◌≡◌, ℕ, ◌<◌, ◌≤◌, false, Option, None, Some, is_some, List, ap, subst, ◌∙◌}
 use Rattle.std.specs.Prelude.{[], option_and_then, slice_get, unwrap_or}
 use Rattle.std.proofs.lemmas.Bool.{false≢true}
 use Rattle.motion.proofs.CallerLemmas.{AreBegunBy-later}
+use Rattle.motion.proofs.PieceLemmas.{IsCellAt-later}
 use Rattle.motion.specs.Cells.{IsCellAt}
 use Rattle.motion.specs.Dynamic.{Dynamic}
 use Rattle.motion.specs.Pieces.{IsLinear}
@@ -23,9 +24,7 @@ pub begun_later : (epochs : List Epoch) (s t : ℕ) → s ≤ t → AreBegunBy e
 begun_later = AreBegunBy-later
 
 pub cell_later : (cell : Cell) (s t : ℕ) → s ≤ t → IsCellAt cell s → IsCellAt cell t
-cell_later (cells.Num n) s t later is = is
-cell_later (cells.Text w) s t later is = is
-cell_later (cells.Dyn v) s t later is = omega (arith, is)
+cell_later = IsCellAt-later
 
 cell_there : (there : Option (List Cell)) (a : ℕ) (cell : Cell) → slice_get (unwrap_or there []) a ≡ Some cell → cell_in there a ≡ Some cell
 cell_there None a cell is = absurd (false≢true (ap is_some is))

@@ -1,14 +1,15 @@
--- Runs that are gathered part by part.
+-- For this crate and for the crates above: runs that are gathered part by part.
 use Rattle.std.proofs.Common.{◌≡◌, ℕ, ◌+◌, ◌<◌, ◌≤◌, Bool, true, ◌&&◌, ◌||◌, Option, option_to_list, List, [], ◌∷◌, ◌++◌, sym, subst, ◌∙◌, inl, inr, arith, append_assoc}
 use Rattle.std.specs.Prelude.{nat_le, nat_lt}
 use Rattle.std.specs.Option.{ForSome}
-use Rattle.std.proofs.lemmas.Bool.{false≢true, cases_lt, or_cases, or_left, or_right, and_parts}
+use Rattle.std.proofs.lemmas.Bool.{false≢true, or_cases, or_left, or_right, and_parts}
 use Rattle.std.proofs.lemmas.Bool.Decides.{nat_tests}
 use Rattle.tick_set.specs.Ticks.{within}
 use Rattle.tick_set.specs.Runs.{spans_have, IsNormal, IsNormalFrom, IsRuns}
 use Rattle.tick_set.specs.declared.spans.Span.{Span}
-use Rattle.tick_set.proofs.RunLemmas.{spans_have-append, spans_have-below}
+use Rattle.tick_set.proofs.RunLemmas.{spans_have-append}
 use Rattle.atoms.specs.Gathered.{IsGathered}
+use Rattle.interval_set.proofs.SpanLemmas.{ticks_from}
 
 -- ---- part by part
 
@@ -50,19 +51,12 @@ first_tick span = let order : span.lo ≤ span.hi = span.ordered in grind (arith
 abbrev pub AreBefore : List Span → List Span → Type 0
 AreBefore xs ys = (t u : ℕ) → spans_have xs t ≡ true → spans_have ys u ≡ true → t < u
 
-not_below : (spans : List Span) (from u : ℕ) → IsNormalFrom from spans → spans_have spans u ≡ true → from ≤ u
-not_below spans from u normal finds =
-    elim (cases_lt u from) [
-      | inl below ↦ absurd (false≢true (sym (spans_have-below spans from u normal below) ∙ finds))
-      | inr past ↦ past
-    ]
-
 pub normal_before : (xs ys : List Span) (from : ℕ) → IsNormalFrom from (xs ++ ys) → AreBefore xs ys
 normal_before [] ys from normal t u had finds = absurd (false≢true had)
 normal_before (x ∷ xs) ys from normal t u had finds =
     elim (or_cases (within x.lo x.hi t) (spans_have xs t) had) [
       | inl here ↦
-          let past = not_below (xs ++ ys) (x.hi + 2) u normal.1 (spans_have-append xs ys u ∙ or_right (spans_have xs u) (spans_have ys u) finds) in
+          let past = ticks_from (xs ++ ys) (x.hi + 2) u normal.1 (spans_have-append xs ys u ∙ or_right (spans_have xs u) (spans_have ys u) finds) in
           grind (arith, nat_tests, here, past)
       | inr later ↦ normal_before xs ys (x.hi + 2) normal.1 t u later finds
     ]

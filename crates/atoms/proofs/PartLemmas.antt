@@ -195,9 +195,6 @@ module _ (f : ℕ → List Epoch) (vs : List ℕ) (ts : List (Bor (List Epoch)))
 
 -- ---- all timelines have begun
 
-pub same_length : (ts : List (Bor (List Epoch))) → length (epochs_of_each ts) ≡ length ts
-same_length ts = length-map ts (λ (t : Bor (List Epoch)). t.now)
-
 some_is : (o : Option Epoch) → is_some o ≡ true → IsSome o
 some_is None is = absurd (false≢true is)
 some_is (Some p) is = search rules

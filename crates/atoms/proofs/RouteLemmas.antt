@@ -1,17 +1,11 @@
--- Objects that keep further apart than a distance on one axis.
-use Rattle.std.proofs.Common.{◌≡◌, ℕ, ◌+◌, ◌≤◌, ◌&&◌, refl, List, None, Bool, true, false, Option, Some, ℤ, pos, neg_ℤ, ◌+ℤ◌, ◌-ℤ◌, ◌*ℤ◌, ◌≤ℤ◌, ◌<ℤ◌, int_le, inl, inr, ap, subst, ◌∙◌, arith}
+-- For this crate and for the crates above: objects that keep further apart than a distance on one axis.
+use Rattle.std.proofs.Common.{◌≡◌, ℕ, ◌+◌, ◌≤◌, ◌&&◌, refl, List, None, Bool, Option, Some, ℤ, pos, neg_ℤ, ◌+ℤ◌, ◌-ℤ◌, ◌*ℤ◌, ◌≤ℤ◌, ◌<ℤ◌, inl, inr, ap, subst, ◌∙◌, arith}
 use Rattle.std.specs.Prelude.{IfSome, option_and_then}
-use Rattle.std.proofs.lemmas.Bool.{cases_Bool}
-use Rattle.std.proofs.lemmas.Bool.Decides.{nat_tests}
 use Rattle.std.proofs.lemmas.Int.{ints}
-use Rattle.case_table.specs.Comparison.{compares, sign_holds}
-use Rattle.case_table.specs.declared.compare.Op.{Op}
-use Rattle.case_table.specs.declared.compare.Op.TheVariants.{Lt, Le, Eq, Ne, Ge, Gt}
 use Rattle.distance_crossing.proofs.Signs.{product_above, square_least}
-use Rattle.exact.proofs.Ring.{part, sum, difference, product, opposite, same}
-use Rattle.exact.proofs.Integers.{above_fails_at_most, above_fails_less, below_passes_at_most, below_passes_less, less_by, not_negative, opposite_above, sum_above_by_first, sum_above_by_second}
+use Rattle.exact.proofs.Ring.{part, sum, difference, product, same}
+use Rattle.exact.proofs.Integers.{less_by, opposite_above, sum_above_by_first, sum_above_by_second}
 use Rattle.fixed_point.specs.declared.number.Point.{Point}
-use Rattle.geometry.specs.Distance.{distance_compares}
 use Rattle.geometry.specs.Plane.{point, square, squared_distance}
 use Rattle.courses.specs.Places.{dynamic_at, place_by, place_of}
 use Rattle.meaning.specs.Atom.{position_in}
@@ -20,6 +14,7 @@ use Rattle.motion.specs.Timeline.{Epoch, epoch_at}
 use Rattle.atoms.specs.declared.routes.Route.{Route}
 use Rattle.distance_crossing.specs.Triples.{triple_spans}
 use Rattle.distance_crossing.specs.declared.comparison.Triple.{Triple}
+use Rattle.distance_crossing.proofs.FarLemmas.{opposite_square}
 use Rattle.tick_set.specs.Ticks.{within}
 use Rattle.atoms.specs.Found.{AreRunsWhere}
 use Rattle.atoms.specs.Parts.{beside, trace_by}
@@ -65,10 +60,7 @@ square_above c v p l =
     let P : ℤ → Type 0 = λ z. pos 0 <ℤ z in
     less_by (square c) (square v) (subst P (squares_apart c v) (product_above (v -ℤ c) (v +ℤ c) (omega (arith, ints)) (omega (arith, ints))))
 
-opposite_square : (v : ℤ) → square (neg_ℤ v) ≡ square v
-opposite_square v = same (product (opposite (part v)) (opposite (part v))) (product (part v) (part v)) (omega arith)
-
-square_past : (c v : ℤ) → pos 0 ≤ℤ c → IsPast c v → square c <ℤ square v
+pub square_past : (c v : ℤ) → pos 0 ≤ℤ c → IsPast c v → square c <ℤ square v
 square_past c v p past =
     let P : ℤ → Type 0 = λ z. square c <ℤ z in
     elim past [
@@ -83,27 +75,6 @@ pub past_on_y : (c : ℤ) (p q : Point) → pos 0 ≤ℤ c → IsPast c (q.y -�
 past_on_y c p q least past = sum_above_by_second (square c) (square (q.x -ℤ p.x)) (square (q.y -ℤ p.y)) (square_past c (q.y -ℤ p.y) least past) (square_least (q.x -ℤ p.x))
 
 -- ---- how a distance above c compares with it
-
-above_Eq : (s v : ℤ) → s <ℤ v → compares Eq v s ≡ false
-above_Eq s v l = grind (arith, ints, nat_tests)
-
-above_Ne : (s v : ℤ) → s <ℤ v → compares Ne v s ≡ true
-above_Ne s v l = grind (arith, ints, nat_tests)
-
-compares_above : (op : Op) (s v : ℤ) → s <ℤ v → compares op v s ≡ sign_holds op (pos 1)
-compares_above Lt s v l = above_fails_less s v l
-compares_above Le s v l = above_fails_at_most s v l
-compares_above Eq s v l = above_Eq s v l
-compares_above Ne s v l = above_Ne s v l
-compares_above Ge s v l = below_passes_at_most s v l
-compares_above Gt s v l = below_passes_less s v l
-
-pub distance_above : (op : Op) (c v : ℤ) → (pos 0 ≤ℤ c → square c <ℤ v) → distance_compares op c v ≡ sign_holds op (pos 1)
-distance_above op c v above =
-    elim (cases_Bool (int_le (pos 0) c)) [
-      | inl is ↦ rw is (compares_above op (square c) v (above (not_negative c is)))
-      | inr is ↦ rw is
-    ]
 
 -- ---- what is found
 

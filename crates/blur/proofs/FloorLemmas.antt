@@ -1,19 +1,12 @@
 -- What the size of a number that moves along a line is at least between two ticks.
-use Rattle.std.proofs.Common.{◌≡◌, ℕ, ◌+◌, ◌-◌, ◌*◌, ◌≤◌, ℤ, pos, ◌+ℤ◌, ◌*ℤ◌, neg_ℤ, ◌≤ℤ◌, ◌<ℤ◌, inl, inr, subst, sym, arith}
+use Rattle.std.proofs.Common.{◌≡◌, ℕ, ◌+◌, ◌-◌, ◌*◌, ◌≤◌, ℤ, pos, ◌+ℤ◌, ◌*ℤ◌, ◌≤ℤ◌, inl, inr, subst, sym, arith}
 use Rattle.std.proofs.lemmas.Int.{ints, by_lt_z}
 use Rattle.std.proofs.lemmas.Nat.{mul-le}
-use Rattle.exact.proofs.Integers.{line_later, opposite_least, opposite_most, opposite_rise, product_least}
+use Rattle.exact.proofs.Integers.{line_later}
 use Rattle.blur.specs.Widened.{IsBetween, widened}
+use Rattle.distance_crossing.proofs.FarLemmas.{fall_most, rise_least}
 
 -- ---- a number that begins at x and changes by d at each tick lies between its ends
-
-rise_least : (d : ℤ) (k : ℕ) → pos 0 ≤ℤ d → pos 0 ≤ℤ (d *ℤ pos k)
-rise_least d k p = product_least d (pos k) p (omega (arith, ints))
-
-fall_most : (d : ℤ) (k : ℕ) → d <ℤ pos 0 → (d *ℤ pos k) ≤ℤ pos 0
-fall_most d k n =
-    let P : ℤ → Type 0 = λ z. pos 0 ≤ℤ z in
-    opposite_most (d *ℤ pos k) (subst P (opposite_rise d k) (rise_least (neg_ℤ d) k (opposite_least d n)))
 
 rises : (x u : ℤ) → pos 0 ≤ℤ u → x ≤ℤ (x +ℤ u)
 rises x u p = omega (arith, ints, p)

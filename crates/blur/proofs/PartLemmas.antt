@@ -12,7 +12,7 @@ use Rattle.motion.specs.Timeline.{Epoch, epoch_at}
 use Rattle.courses.specs.Places.{place_at, place_of}
 use Rattle.courses.specs.declared.parts.Common.{Common}
 use Rattle.courses.specs.CommonParts.{place_in}
-use Rattle.tick_set.specs.Runs.{spans_have, IsNormal, IsRuns}
+use Rattle.tick_set.specs.Runs.{spans_have}
 use Rattle.tick_set.specs.Ticks.{within}
 use Rattle.tick_set.specs.declared.spans.Span.{Span}
 use Rattle.worlds.specs.Apart.{distance_compares_by, farthest_square, nearest_square}
@@ -122,9 +122,3 @@ gathered_before test lo at from runs begins gathered t had =
     let is : (nat_le lo t && nat_lt t at && test t) ≡ true = sym (gathered t) ∙ had in
     let before : t < at = grind (arith, nat_tests) in
     omega (arith, begins, before)
-
-pub gathered_all : (test : ℕ → Bool) (lo hi at : ℕ) (runs : List Span) → at ≡ hi + 1 → IsNormal runs → IsGathered test lo at runs → IsRuns (λ t. within lo hi t && test t) runs
-gathered_all test lo hi at runs all normal gathered = record {
-  normal = normal;
-  ticks = λ t. gathered t ∙ grind (arith, nat_tests);
-}

@@ -7,6 +7,7 @@ use Rattle.std.proofs.lemmas.Bool.Decides.{Decides-eqb}
 use Rattle.std.proofs.lemmas.Slice.Eq.{bytes_eq-Decides}
 use Rattle.case_table.specs.Rows.{code_of, word_of, are_distinct_rows}
 use Rattle.exact.proofs.Items.{bytes_differ_swap}
+use Rattle.exact.proofs.Lists.{bytes_eq_refl}
 
 here : {X : Type 0} (x y : X) (xs : List X) → x ≡ y → Contains (x ∷ xs) y
 here x y xs e = (0, omega arith, e)
@@ -23,9 +24,6 @@ first_or_later x y xs h =
       | inl first ↦ elim (Contains-push_cases [] x y first) [ inl none ↦ absurd (none_at_none y none) | inr e ↦ inl e ]
       | inr later ↦ inr later
     ]
-
-bytes_same : (word : List ℕ) → bytes_eq word word ≡ true
-bytes_same word = (bytes_eq-Decides word word).1 refl
 
 eqb_same : (n : ℕ) → eqb n n ≡ true
 eqb_same n = (Decides-eqb n n).1 refl
@@ -54,7 +52,7 @@ code_of_found (r ∷ rows) word code a h =
     let parts = and_parts (is_none (code_of rows r.0) && is_none (word_of rows r.1)) (are_distinct_rows rows) a in
     let front = and_parts (is_none (code_of rows r.0)) (is_none (word_of rows r.1)) parts.0 in
     elim (first_or_later r (word, code) rows h) [
-      | inl e ↦ rw (e, bytes_same word) refl
+      | inl e ↦ rw (e, bytes_eq_refl word) refl
       | inr later ↦
           let found = code_of_found rows word code parts.1 later in
           elim (cases_Bool (bytes_eq r.0 word)) [

@@ -1,4 +1,4 @@
--- How the parts of one timeline and of several lie.
+-- For this crate and for the crates above: how the parts of one timeline and of several lie.
 use Rattle.std.proofs.Common.{◌≡◌, ℕ, zero, suc, ◌+◌, ◌-◌, ◌<◌, ◌≤◌, Bool, true, false, ◌||◌, min, Option, None, Some, is_some, List, [], ◌∷◌, ◌++◌, length, take, take_all, get_or, set, refl, sym, ap, subst, ◌∙◌, inl, inr, arith}
 use Rattle.std.specs.Prelude.{All, IfSome, ◌==◌, nat_le, slice_get, if◌then◌else◌}
 use Rattle.std.specs.Borrow.{Bor}

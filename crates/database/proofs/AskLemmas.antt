@@ -1,4 +1,4 @@
--- The refusals of a query, by what was judged of it.
+-- For this crate and for the crates above: the refusals of a query, by what was judged of it.
 use Rattle.std.proofs.Common.{◌≡◌, ℕ, zero, suc, ◌+◌, ◌-◌, ◌*◌, ◌≤◌, Bool, true, false, Option, None, Some, List, [], ◌∷◌, map, refl, sym, ap, subst, ◌∙◌, inl, inr, arith, if◌then◌else◌}
 use Rattle.std.specs.Prelude.{◌^◌, length, min, nat_le, nat_lt, option_and_then, unwrap_or, Result, Ok, Err}
 use Rattle.std.specs.Option.{option_or}
@@ -89,7 +89,7 @@ not_past None true many is = absurd (cc is)
 not_past None false many is = refl
 
 -- the least that applies is no longer than any
-limit_within : (assigned circle : Bool) → (if assigned then ASSIGNED_SPAN_LIMIT else if circle then CIRCLE_SPAN_LIMIT else SPAN_LIMIT) ≤ SPAN_LIMIT
+pub limit_within : (assigned circle : Bool) → (if assigned then ASSIGNED_SPAN_LIMIT else if circle then CIRCLE_SPAN_LIMIT else SPAN_LIMIT) ≤ SPAN_LIMIT
 limit_within true circle = omega arith
 limit_within false true = omega arith
 limit_within false false = omega arith

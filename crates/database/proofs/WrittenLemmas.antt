@@ -20,6 +20,7 @@ use Rattle.object_store.specs.Effects.{after_insert, after_remove, after_update,
 use Rattle.object_store.proofs.Lists.{index_in, index_is, is_some-find}
 use Rattle.object_store.proofs.UndoLemmas.{at_suc, at_zero, first_at, put_there}
 use Rattle.object_store.proofs.WriteLemmas.{index-put_named, index_last}
+use Rattle.object_store.proofs.ChangeLemmas.{pushed_others}
 use Rattle.database.specs.Written.{WritesOneObject}
 
 abbrev with_epoch : Epoch → StoredObject → StoredObject
@@ -68,12 +69,6 @@ known_written name p objects id at =
     }
 
 -- ---- one of a new name
-
-pushed_others : {X : Type 0} (xs : List X) (x : X) (i : ℕ) → (i == length xs) ≡ false → slice_get (xs ++ x ∷ []) i ≡ slice_get xs i
-pushed_others [] x zero other = not_itself 0 other
-pushed_others [] x (suc i) other = refl
-pushed_others (y ∷ ys) x zero other = refl
-pushed_others (y ∷ ys) x (suc i) other = pushed_others ys x i (differs_before i (length ys) other)
 
 new_written : (x : StoredObject) (p : Epoch) (objects : List StoredObject) (id : ℕ) → x.epochs ≡ p ∷ [] → find (is_named x.name) objects ≡ None →
     position (is_named x.name) (objects ++ x ∷ []) ≡ Some id → WritesOneObject id p.from objects (objects ++ x ∷ [])

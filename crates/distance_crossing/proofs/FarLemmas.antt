@@ -1,4 +1,4 @@
--- Motions that are further apart than a distance on one axis at both ends of a window are so at each tick between.
+-- For this crate and for the crates above: motions that are further apart than a distance on one axis at both ends of a window are so at each tick between.
 use Rattle.std.proofs.Common.{◌≡◌, ℕ, ◌+◌, ◌-◌, ◌≤◌, Bool, true, false, ◌&&◌, ◌||◌, [], ℤ, pos, ◌+ℤ◌, ◌-ℤ◌, ◌*ℤ◌, neg_ℤ, ◌≤ℤ◌, ◌<ℤ◌, int_le, ◌⊎◌, inl, inr, refl, ap, subst, sym, ◌∙◌, List, arith}
 use Rattle.std.specs.Prelude.{int_lt}
 use Rattle.std.proofs.lemmas.Bool.{or_cases, and_parts, cases_Bool}
@@ -28,10 +28,10 @@ use Rattle.distance_crossing.proofs.RunLists.{runs_by, triple_by}
 use Rattle.distance_crossing.proofs.Signs.{product_above, square_least}
 
 -- ---- a number that begins at x and changes by d at each tick
-rise_least : (d : ℤ) (k : ℕ) → pos 0 ≤ℤ d → pos 0 ≤ℤ (d *ℤ pos k)
+pub rise_least : (d : ℤ) (k : ℕ) → pos 0 ≤ℤ d → pos 0 ≤ℤ (d *ℤ pos k)
 rise_least d k p = product_least d (pos k) p (omega (arith, ints))
 
-fall_most : (d : ℤ) (k : ℕ) → d <ℤ pos 0 → (d *ℤ pos k) ≤ℤ pos 0
+pub fall_most : (d : ℤ) (k : ℕ) → d <ℤ pos 0 → (d *ℤ pos k) ≤ℤ pos 0
 fall_most d k n =
     let P : ℤ → Type 0 = λ z. pos 0 ≤ℤ z in
     opposite_most (d *ℤ pos k) (subst P (opposite_rise d k) (rise_least (neg_ℤ d) k (opposite_least d n)))
@@ -113,10 +113,10 @@ square_above c v p l =
     let P : ℤ → Type 0 = λ z. pos 0 <ℤ z in
     less_by (square c) (square v) (subst P (squares_apart c v) (product_above (v -ℤ c) (v +ℤ c) (omega (arith, ints)) (omega (arith, ints))))
 
-opposite_square : (v : ℤ) → square (neg_ℤ v) ≡ square v
+pub opposite_square : (v : ℤ) → square (neg_ℤ v) ≡ square v
 opposite_square v = same (product (opposite (part v)) (opposite (part v))) (product (part v) (part v)) (omega arith)
 
-square_below : (c v : ℤ) → pos 0 ≤ℤ c → v <ℤ neg_ℤ c → square c <ℤ square v
+pub square_below : (c v : ℤ) → pos 0 ≤ℤ c → v <ℤ neg_ℤ c → square c <ℤ square v
 square_below c v p l =
     let P : ℤ → Type 0 = λ z. square c <ℤ z in
     subst P (opposite_square v) (square_above c (neg_ℤ v) p (opposite_above c v l))
@@ -158,13 +158,13 @@ module _ (p q : Line) where
       subst P (seen_is k) (seen_far c last k e positive l)
 
 -- ---- how a distance above c compares with it
-above_Eq : (s v : ℤ) → s <ℤ v → compares Eq v s ≡ false
+pub above_Eq : (s v : ℤ) → s <ℤ v → compares Eq v s ≡ false
 above_Eq s v l = grind (arith, ints, nat_tests)
 
-above_Ne : (s v : ℤ) → s <ℤ v → compares Ne v s ≡ true
+pub above_Ne : (s v : ℤ) → s <ℤ v → compares Ne v s ≡ true
 above_Ne s v l = grind (arith, ints, nat_tests)
 
-compares_above : (op : Op) (s v : ℤ) → s <ℤ v → compares op v s ≡ sign_holds op (pos 1)
+pub compares_above : (op : Op) (s v : ℤ) → s <ℤ v → compares op v s ≡ sign_holds op (pos 1)
 compares_above Lt s v l = above_fails_less s v l
 compares_above Le s v l = above_fails_at_most s v l
 compares_above Eq s v l = above_Eq s v l
@@ -172,7 +172,7 @@ compares_above Ne s v l = above_Ne s v l
 compares_above Ge s v l = below_passes_at_most s v l
 compares_above Gt s v l = below_passes_less s v l
 
-distance_above : (op : Op) (c v : ℤ) → (pos 0 ≤ℤ c → square c <ℤ v) → distance_compares op c v ≡ sign_holds op (pos 1)
+pub distance_above : (op : Op) (c v : ℤ) → (pos 0 ≤ℤ c → square c <ℤ v) → distance_compares op c v ≡ sign_holds op (pos 1)
 distance_above op c v h =
     elim (cases_Bool (int_le (pos 0) c)) [
       | inl is ↦ rw is (compares_above op (square c) v (h (not_negative c is)))

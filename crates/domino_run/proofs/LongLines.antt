@@ -1,7 +1,6 @@
 -- Lines that are too long are all answered alike.
-use Rattle.std.proofs.Common.{inl, inr, ◌≡◌, ℕ, ◌<◌, Bool, true, false, ◌&&◌, ◌||◌, List, ◌++◌, [], ◌∷◌, length, Option, Some, refl, ap, sym, ◌∙◌, if◌then◌else◌, arith}
+use Rattle.std.proofs.Common.{inl, inr, ◌≡◌, ℕ, ◌<◌, Bool, true, false, ◌&&◌, ◌||◌, List, ◌++◌, [], ◌∷◌, length, Option, Some, refl, ap, sym, ◌∙◌, if◌then◌else◌}
 use Rattle.std.specs.Prelude.{is_none, is_some}
-use Rattle.std.proofs.lemmas.Bool.Decides.{nat_tests}
 use Rattle.outside.specs.declared.fault.OutFail.{OutFail}
 use Rattle.outside.specs.declared.fault.OutFail.TheVariants.{Failed, NoMemory}
 use Rattle.line_loop.specs.Machine.{StepsAlike}
@@ -9,17 +8,15 @@ use Rattle.command_text.specs.declared.reading.TheConstants.{LINE_LIMIT}
 use Rattle.command_text.specs.declared.refusal.Refusal.TheVariants as refusals
 use Rattle.command_text.specs.declared.refusal.Refusal.TheVariants.{LineTooLong}
 use Rattle.command_text.specs.Journal.{spelled}
-use Rattle.command_text.specs.Line.{early_refusal, first_that_holds, has_bad_token, has_other_byte, is_too_long}
+use Rattle.command_text.specs.Line.{early_refusal, first_that_holds, has_bad_token, has_other_byte}
 use Rattle.command_text.specs.Refusals.{refusal_line}
 use Rattle.line_meaning.specs.Looks.{looks_of}
 use Rattle.line_meaning.specs.Reply.{line_feed}
 use Rattle.line_meaning.specs.Role.{role_of}
 use Rattle.line_meaning.specs.Step.{Base, Held, line_refusal, step}
 use Rattle.line_meaning.proofs.CallerLemmas.{refused_line}
+use Rattle.line_meaning.proofs.LongLemmas.{is_long}
 use Rattle.domino_run.specs.Machine.{RunState, run_cost, run_machine, run_leaves, is_ending, is_last}
-
-is_long : (line : List ℕ) → LINE_LIMIT < length line → is_too_long LINE_LIMIT line ≡ true
-is_long line h = grind (arith, nat_tests, h)
 
 long_first : (other bad : Bool) →
     first_that_holds ((refusals.LineTooLong, true) ∷ (refusals.NotAscii, other) ∷ (refusals.BadToken, bad) ∷ []) ≡ Some LineTooLong

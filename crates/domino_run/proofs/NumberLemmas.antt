@@ -1,22 +1,14 @@
 -- The number that up to nine digits write.
-use Rattle.std.proofs.Common.{◌≡◌, ℕ, ◌+◌, ◌-◌, ◌*◌, ◌^◌, ◌<◌, ◌≤◌, true, List, [], ◌∷◌, length, take, get_or, arith, length-take-le}
-use Rattle.std.proofs.lemmas.Bool.{and_parts}
+use Rattle.std.proofs.Common.{◌≡◌, ℕ, ◌+◌, ◌-◌, ◌*◌, ◌^◌, ◌<◌, ◌≤◌, true, List, [], length, take, get_or, arith, length-take-le}
 use Rattle.std.proofs.lemmas.Bool.Decides.{nat_tests}
 use Rattle.std.proofs.lemmas.Int.Digits.{digits_value-lt}
 use Rattle.std.proofs.Math.Nat.{pow-le-pow_right}
-use Rattle.std.specs.Char.{is_ascii_digit}
 use Rattle.std.specs.Int.{IsInRange}
-use Rattle.std.specs.List.{list_all}
-use Rattle.std.specs.Str.Parse.{AllDigits, digits_value}
+use Rattle.std.specs.Str.Parse.{digits_value}
 use Rattle.fixed_point.specs.Decimal.{AreDigits}
-use Rattle.fixed_point.proofs.DigitLemmas.{digit_below_ten, digit_within, digits_taken, number_with_digit}
+use Rattle.fixed_point.proofs.DigitLemmas.{digit_within, digits_taken, number_with_digit}
 use Rattle.domino_run.specs.Words.{is_short_number}
-
-all_digits : (text : List ℕ) → list_all is_ascii_digit text ≡ true → AllDigits 10 text
-all_digits [] h = tt
-all_digits (byte ∷ text) h =
-    let parts = and_parts (is_ascii_digit byte) (list_all is_ascii_digit text) h in
-    (digit_below_ten byte parts.0, all_digits text parts.1)
+use Rattle.ftl_parser.proofs.canonical.TextNumbers.{all_digits}
 
 are_digits : (text : List ℕ) → is_short_number text ≡ true → AreDigits 0 10 text
 are_digits text h = record { digits = all_digits text (grind (arith, nat_tests, h)); enough = omega arith; few = grind (arith, nat_tests, h) }

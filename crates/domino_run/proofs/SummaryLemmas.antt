@@ -1,6 +1,6 @@
 -- The generator's lines are answered and counted one after another.
 use Rattle.std.proofs.Common.{◌≡◌, ◌≤◌, ◌+◌, arith, ℕ, Bool, true, false, Some, List, ◌++◌, [], ◌∷◌, refl, sym, ap, ◌∙◌}
-use Rattle.std.specs.Prelude.{is_some, unwrap_or, Result, Ok, fold}
+use Rattle.std.specs.Prelude.{is_some, Result, Ok, fold}
 use Rattle.outside.specs.Shelf.{Texts}
 use Rattle.command_text.specs.declared.refusal.Refusal.{Refusal}
 use Rattle.command_text.specs.Refusals.{refusal_line}
@@ -10,15 +10,13 @@ use Rattle.session.specs.declared.next.ApplyFault.{ApplyFault}
 use Rattle.session.specs.declared.next.Next.{Next}
 use Rattle.session.specs.declared.next.Next.TheVariants as nexts
 use Rattle.session.specs.Answers.{Applies}
+use Rattle.session.proofs.UntoldLemmas.{same_texts}
 use Rattle.generator.specs.Lines.{lines_of}
 use Rattle.generator.specs.Next.{GivesNext}
 use Rattle.domino_run.specs.Looks.{looks_of_lines}
 use Rattle.domino_run.specs.Machine.{looks_of_line}
 use Rattle.domino_run.specs.Summary.{AnswersAs, LineTally, counted_line, first_state, summary, tally_after, tally_text}
 use Rattle.domino_run.proofs.AnswerLemmas.{IsAccepted, answered, left_after, step_of}
-
-told_same : (a b : Texts) → Some a ≡ Some b → a ≡ b
-told_same a b is = ap (λ o. unwrap_or o a) is
 
 module _ (told told' : Texts) (line : List ℕ) (h new : Held) (after : List ℕ) (result : Result Next ApplyFault)
     (applies : Applies (Some told) (Some told') line h new [] after result) where
@@ -30,7 +28,7 @@ module _ (told told' : Texts) (line : List ℕ) (h new : Held) (after : List ℕ
   accepted_counts next plain is =
       let (fault, next_is, new_is, reply) = step_of next (base h told) line new [] after plain
       (answered (Some told) (Some told') line h new false empty after result applies next is told refl) in
-      let texts = told_same told' (step (base h told) line).0.texts
+      let texts = same_texts told' (step (base h told) line).0.texts
       (left_after (Some told) (Some told') line h new false empty after result applies next is told refl) in
       (sym (ap is_some fault), (λ i. (record { held = sym new_is i; texts = sym texts i }, sym reply i)))
 
@@ -41,7 +39,7 @@ module _ (told told' : Texts) (line : List ℕ) (h new : Held) (after : List ℕ
       let (fault, step_is, new_is, same) =
       answered (Some told) (Some told') line h new false empty after result applies (nexts.Refused r) is told refl in
       let texts : told' ≡ told
-      = told_same told' (step (base h told) line).0.texts
+      = same_texts told' (step (base h told) line).0.texts
       (left_after (Some told) (Some told') line h new false empty after result applies (nexts.Refused r) is told refl)
       ∙ ap (λ (s : Base × List ℕ). s.0.texts) step_is in
       let reply : final ≡ refusal_line r ++ line_feed = said ∙ ap (λ o. o ++ (refusal_line r ++ line_feed)) same in

@@ -16,16 +16,13 @@ use Rattle.evaluator.specs.Keys.{AreAscendingKeys, AreKeys, has_key}
 use Rattle.evaluator.specs.Rows.{AreRowsWhere}
 use Rattle.evaluator.specs.inner.Filled.{IsFilled, keys_behind}
 use Rattle.evaluator.proofs.BindingLemmas.{key_in-map}
-use Rattle.evaluator.proofs.KeyLemmas.{Rising, flat_map-step, own_ids, rising}
+use Rattle.evaluator.proofs.KeyLemmas.{Rising, flat_map-step, rising}
 use Rattle.exact.proofs.Items.{all_weaker}
 
 pub at_key : {X : Type 0} (p : X → Bool) (xs : List X) (i : ℕ) (d : X) → list_all p xs ≡ true → i < length xs → p (get_or xs i d) ≡ true
 at_key p [] i d h l = absurd (omega (arith, l))
 at_key p (x ∷ xs) zero d h l = (and_parts _ _ h).0
 at_key p (x ∷ xs) (suc i) d h l = at_key p xs i d (and_parts _ _ h).1 (omega (arith, l))
-
-pub own_at : (ids : List ℕ) (i d : ℕ) → i < length ids → has_id ids (get_or ids i d) ≡ true
-own_at ids i d l = at_key (has_id ids) ids i d (own_ids ids) l
 
 -- ---- keys in front of which an object stands
 

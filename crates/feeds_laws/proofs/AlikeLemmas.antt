@@ -30,13 +30,13 @@ use Rattle.meaning.specs.Binding.{are_present, bindings, holds_full, holds_targe
 use Rattle.meaning.specs.Fits.{FitsItsClasses, atom_fits, formula_fits, is_point_variable, no_kinds, term_kind, with_kind}
 use Rattle.meaning.specs.Satisfaction.{Interpretation, plain, sat}
 use Rattle.meaning.specs.Trace.{Trace, trace_of}
+use Rattle.meaning.proofs.AnswerLemmas.{rows_have_where}
 use Rattle.command_text.specs.Journal.{Accepted, clock}
 use Rattle.command_text.specs.Tree
 use Rattle.command_text.specs.Tree.{CommandTree}
 use Rattle.line_meaning.specs.Journal.{attribute_of, regions, regions_of, world, writes}
 use Rattle.line_meaning.proofs.JournalLemmas.{world_more}
 use Rattle.feeds_laws.specs.Targets.{target_of, target_text}
-use Rattle.feeds_laws.proofs.GrowthLemmas.{rows_have_where}
 use Rattle.exact.proofs.Naturals.{below_from_test}
 use Rattle.exact.proofs.Items.{slice_get-append}
 

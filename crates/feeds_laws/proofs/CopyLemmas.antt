@@ -16,6 +16,7 @@ use Rattle.history.specs.Catalog.{ObjectInfo}
 use Rattle.history.specs.World.{World}
 use Rattle.meaning.specs.Binding.{holds_target, tuples}
 use Rattle.meaning.specs.Registered.{Change, RegisteredQuery, change_of, changes_of_tick, changes_of_write, first_tick, holds_for, passage_of}
+use Rattle.meaning.proofs.AnswerLemmas.{rows_have_where}
 use Rattle.line_meaning.specs.Changes.{answer_text, change_text, tick_lines, write_lines}
 use Rattle.line_meaning.specs.Registry.{Registration, has_name, is_registered}
 use Rattle.line_meaning.specs.Reply.{ok_line}
@@ -30,13 +31,14 @@ use Rattle.feeds_laws.proofs.AlikeLemmas.{answer_at}
 use Rattle.feeds_laws.proofs.AnswerLemmas.{rows_lead, start_leads, with_rows_at}
 use Rattle.feeds_laws.proofs.ChangeLemmas.{HasTargets, all_lines, copy_of, others_stay, passage_stays, write_leads}
 use Rattle.feeds_laws.proofs.FineLemmas.{IsRight}
-use Rattle.feeds_laws.proofs.GrowthLemmas.{AnswersAreUnions, rows_have_where, same_told, tuples_are_keys}
+use Rattle.feeds_laws.proofs.GrowthLemmas.{AnswersAreUnions, same_told, tuples_are_keys}
 use Rattle.feeds_laws.proofs.KeyLemmas.{AreApart, IsKey, IsNamed, all_mapped, key_targets, one_key}
 use Rattle.feeds_laws.proofs.QuietLemmas.{lines_stay, ok_leads}
 use Rattle.feeds_laws.proofs.ReadingLemmas.{Leads, both_lead, nothing_leads}
 use Rattle.feeds_laws.proofs.RowLemmas.{after_keys, gains, has_at, keys_at, losses, with_rows}
 use Rattle.feeds_laws.proofs.TurningLemmas.{all_turned, turned_all}
 use Rattle.exact.proofs.Items.{bytes_differ_swap}
+use Rattle.exact.proofs.Lists.{bytes_eq_refl}
 
 -- the registrations of a name, of which there is one at most
 abbrev pub own : List ℕ → List Registration → List Registration
@@ -250,14 +252,11 @@ not_registered name (r ∷ live) none = elim (cases_Bool (has_name name r)) [
   | inr other ↦ let later : is_registered live name ≡ false = rw other at none in rw other (not_registered name live later)
 ]
 
-same_name : (name : List ℕ) → bytes_eq name name ≡ true
-same_name name = (bytes_eq-Decides name name).1 refl
-
 pub own_added : (live : List Registration) (r : Registration) → is_registered live r.name ≡ false → own r.name (live ++ r ∷ []) ≡ r ∷ []
 own_added live r none =
     filter-append (has_name r.name) live (r ∷ [])
     ∙ ap (λ regs. regs ++ filter (has_name r.name) (r ∷ [])) (not_registered r.name live none)
-    ∙ ap (λ b. if b then r ∷ [] else []) (same_name r.name)
+    ∙ ap (λ b. if b then r ∷ [] else []) (bytes_eq_refl r.name)
 
 pub own_kept : (name : List ℕ) (live : List Registration) (r : Registration) → has_name name r ≡ false → own name (live ++ r ∷ []) ≡ own name live
 own_kept name live r other =

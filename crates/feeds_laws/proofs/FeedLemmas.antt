@@ -1,8 +1,8 @@
 -- What the items that concern a user leave of a copy, one after another.
-use Rattle.std.proofs.Common.{◌≡◌, ◌∙◌, ℕ, ◌+◌, Bool, true, false, List, [], ◌∷◌, ◌++◌, codes, option_map, Option, Some, None, refl, ap, sym, subst, append-nil, inl, inr}
+use Rattle.std.proofs.Common.{◌≡◌, ◌∙◌, ℕ, ◌+◌, Bool, true, false, List, [], ◌∷◌, ◌++◌, codes, Option, Some, None, refl, ap, sym, subst, append-nil, inl, inr}
 use Rattle.std.proofs.lemmas.Bool.{cases_Bool, false≢true}
 use Rattle.std.proofs.lemmas.Slice.Eq.{bytes_eq-Decides}
-use Rattle.std.specs.Prelude.{if◌then◌else◌, unwrap_or}
+use Rattle.std.specs.Prelude.{if◌then◌else◌}
 use Rattle.std.specs.List.{AllByRecursion}
 use Rattle.case_table.specs.Language.{reserved_words}
 use Rattle.exact.specs.First.{first_that_holds, or_else}
@@ -12,7 +12,6 @@ use Rattle.command_text.specs.declared.refusal.Refusal.{Refusal}
 use Rattle.command_text.specs.declared.refusal.Refusal.TheVariants as refusals
 use Rattle.command_text.specs.Journal.{Accepted, clock, is_kept, spelled}
 use Rattle.command_text.specs.Line.{command_in, early_refusal, first_refusal, late_refusal}
-use Rattle.command_text.specs.inner.Reading.{Read}
 use Rattle.command_text.specs.Shape.{IsPrintable}
 use Rattle.command_text.specs.TextLaws.{PrintsWhatIsRead}
 use Rattle.command_text.specs.Tree
@@ -24,6 +23,7 @@ use Rattle.line_meaning.specs.QueryFault.{command_fault}
 use Rattle.line_meaning.specs.Registry.{Registration, has_name, known, registered, registration_named}
 use Rattle.line_meaning.proofs.JournalLemmas.{registered_more}
 use Rattle.line_meaning.proofs.ReachedLemmas.{none_of_both}
+use Rattle.line_meaning.proofs.StepLemmas.{taken_is}
 use Rattle.feeds_meaning.specs.Heard.{Item, Own, Other, Seat, empty_seat, heard, seat_after, command_refusal, limit_refusal, other_text, own_by, own_refusal, item_outcome}
 use Rattle.feeds_meaning.specs.Lines.{is_barred, is_data, notice}
 use Rattle.users.specs.Tagged.{lines_in}
@@ -45,10 +45,6 @@ pub record IsAccepted (s : Seat) (line : List ℕ) : Type 0 where
   pub printable : IsPrintable (spelled line)
   pub free : is_barred (spelled line) ≡ false
   pub fault : fault_of s.held (spelled line) ≡ None
-
-taken_is : (found : Read CommandTree) → late_refusal found ≡ None → option_map (λ f. f.0) found ≡ Some (unwrap_or (option_map (λ f. f.0) found) Tree.Nothing)
-taken_is None none = absurd (cc none)
-taken_is (Some f) none = refl
 
 not_barred : (barred : Bool) → first_that_holds ((refusals.BadSyntax, barred) ∷ []) ≡ None → barred ≡ false
 not_barred true none = absurd (cc none)

@@ -30,7 +30,7 @@ use Rattle.ftl_typer.specs.First.{first_fault, first_found, found_after, nothing
 use Rattle.ftl_typer.specs.Resolved.{resolved}
 use Rattle.ftl_typer.specs.declared.found.FaultKind.TheVariants as fault_kinds
 use Rattle.command_text.specs.declared.refusal.Refusal.TheVariants as refusals
-use Rattle.command_text.specs.Journal.{Accepted, clock, ticks_of}
+use Rattle.command_text.specs.Journal.{Accepted, clock}
 use Rattle.command_text.specs.Shape.{IsPrintable, IsShortName}
 use Rattle.command_text.specs.Tree
 use Rattle.command_text.specs.Tree.{CommandTree}
@@ -42,6 +42,8 @@ use Rattle.line_meaning.specs.Registry.{Known, Registration, has_name, is_regist
 use Rattle.line_meaning.proofs.JournalLemmas.{clock_more, regions_more, registered_more, world_more, writes_more}
 use Rattle.line_meaning.proofs.ReachedLemmas.{none_of_both}
 use Rattle.line_meaning.proofs.RefusalLemmas.{registered_by_fault}
+use Rattle.line_meaning.proofs.ImportLemmas.{classes_kept}
+use Rattle.line_meaning.proofs.LoadingLemmas.{clock_by}
 use Rattle.replica.specs.Text.{is_free_name}
 use Rattle.feeds_laws.proofs.KeyLemmas.{IsNamed, all_mapped}
 
@@ -151,11 +153,6 @@ objects_named c now (Tree.Insert class name place sets) printable all = insert_n
 objects_named c now (Tree.Class name capacity point attributes) printable all = all
 objects_named c now x printable all = all
 
-classes_kept : (there : Bool) (class : Option ℕ) (c : Catalog) (name : List ℕ) → (if there then c else with_new_object c class name).classes ≡ c.classes
-classes_kept true class c name = refl
-classes_kept false None c name = refl
-classes_kept false (Some number) c name = refl
-
 classes_named : (c : Catalog) (now : ℕ) (x : CommandTree) → IsPrintable x → AreNamed c → AreNamed (fold catalog_after c (writes_of now x))
 classes_named c now (Tree.Class name capacity point attributes) printable all =
     all_joined (λ (k : ClassInfo). is_free_name k.name ≡ true) c.classes _ all (short_is_name name printable.1.0, tt)
@@ -237,12 +234,6 @@ no_tick_past : (past : Bool) → or_else (first_that_holds ((refusals.ClockEnd, 
 no_tick_past true none = absurd (cc none)
 no_tick_past false none = refl
 
-clock_last : (journal : List Accepted) (x : CommandTree) → command_fault (known journal) x ≡ None → clock journal ≤ LAST_TICK → clock journal + ticks_of x ≤ LAST_TICK
-clock_last journal (Tree.Tick ticks) none last =
-    let upto : nat_lt LAST_TICK (clock journal + ticks) ≡ false = no_tick_past (nat_lt LAST_TICK (clock journal + ticks)) none in
-    grind (arith, nat_tests, upto)
-clock_last journal x none last = omega (arith, last)
-
 -- after a command that nothing refuses
 pub fine_after : AreRight → GoOnFitting → (journal : List Accepted) (x : CommandTree) → IsPrintable x → command_fault (known journal) x ≡ None → IsFine journal →
     IsFine (journal ++ (clock journal, x) ∷ [])
@@ -255,7 +246,7 @@ fine_after right goes journal x printable none fine =
       regions = subst (AllByRecursion (λ (r : Region). is_free_name r.name ≡ true)) (sym (regions_more journal now x)) (regions_named (regions journal) x printable fine.regions);
       live = subst (AllByRecursion IsRight) (sym (registered_more journal now x)) (live_right right (known journal) x printable none fine.live);
       fits = fits_after right goes journal x printable none fine.fits;
-      last = subst (λ (n : ℕ). n ≤ LAST_TICK) (sym (clock_more journal now x)) (clock_last journal x none fine.last);
+      last = subst (λ (n : ℕ). n ≤ LAST_TICK) (sym (clock_more journal now x)) (clock_by journal x none fine.last);
     }
 
 pub fine_none : IsFine []

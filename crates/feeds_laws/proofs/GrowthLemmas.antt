@@ -1,20 +1,20 @@
 -- Where objects are added, what held of target objects holds of the same, by the same text.
-use Rattle.std.proofs.Common.{◌≡◌, ◌∙◌, ℕ, ◌+◌, Bool, true, false, ◌&&◌, ◌||◌, List, [], ◌∷◌, ◌++◌, map, length, refl, ap, sym, subst, inl, inr}
+use Rattle.std.proofs.Common.{◌≡◌, ◌∙◌, ℕ, ◌+◌, Bool, true, ◌&&◌, ◌||◌, List, [], ◌∷◌, ◌++◌, map, length, refl, ap, sym, subst, inl, inr}
 use Rattle.std.proofs.lemmas.Bool.{and_parts, cases_Bool, false≢true, or_cases, or_left, or_right}
 use Rattle.std.proofs.lemmas.List.Folds.{list_any-append}
 use Rattle.std.proofs.lemmas.Slice.Eq.{bytes_eq-Decides}
-use Rattle.std.specs.Prelude.{◌==◌, filter, if◌then◌else◌, nat_lt, slice_index}
+use Rattle.std.specs.Prelude.{◌==◌, filter, nat_lt, slice_index}
 use Rattle.std.specs.List.{AllByRecursion, enumerate_from, flat_map, list_all, list_any}
 use Rattle.std.specs.Str.{bytes_eq}
 use Rattle.tick_set.specs.Ticks.{within}
 use Rattle.history.specs.Catalog.{ObjectInfo, ids_of}
 use Rattle.history.specs.World.{World}
 use Rattle.formula.specs.Tree.{ResolvedQuery}
-use Rattle.meaning.specs.Answer.{Row, answer, full_rows, has_ticks, row_where, rows_have, rows_where, runs_have}
+use Rattle.meaning.specs.Answer.{answer, full_rows, rows_have}
 use Rattle.meaning.specs.Binding.{bindings, holds_full, holds_target, product, tuple_of, tuples}
+use Rattle.meaning.proofs.AnswerLemmas.{rows_have_where}
 use Rattle.feeds_laws.specs.Targets.{target_of}
 use Rattle.feeds_laws.proofs.KeyLemmas.{IsKey, products_are_keys, target_stays}
-use Rattle.feeds_laws.proofs.RowLemmas.{have_listed}
 use Rattle.feeds_laws.proofs.TurningLemmas.{is_some_now}
 use Rattle.exact.proofs.Truths.{same_truth}
 use Rattle.exact.proofs.Items.{any_and, any_weaker}
@@ -69,27 +69,6 @@ pub tuples_are_keys : (w : World) (q : ResolvedQuery) → AllByRecursion (IsKey 
 tuples_are_keys w q = products_are_keys w.history.catalog (slice_index q.classes) q.targets
 
 -- ---- The ticks of rows
-
-no_ticks : (runs : List (ℕ × ℕ)) (t : ℕ) → has_ticks runs ≡ false → runs_have runs t ≡ false
-no_ticks [] t none = refl
-no_ticks (run ∷ runs) t none = absurd (false≢true (sym none))
-
-one_row : (test : List ℕ → Bool) (row : Row) (rows : List Row) (t : ℕ) (there : Bool) → has_ticks row.runs ≡ there →
-    rows_have (if there then row ∷ rows else rows) test t ≡ (test row.key && runs_have row.runs t || rows_have rows test t)
-one_row test row rows t true is = refl
-one_row test row rows t false is = sym (ap (λ b. test row.key && b || rows_have rows test t) (no_ticks row.runs t is) ∙ none (test row.key))
-  where
-    none : (b : Bool) → (b && false || rows_have rows test t) ≡ rows_have rows test t
-    none true = refl
-    none false = refl
-
-pub rows_have_where : (test : List ℕ → Bool) (keys : List (List ℕ)) (holds : List ℕ → ℕ → Bool) (from e t : ℕ) →
-    rows_have (rows_where keys holds from e) test t ≡ list_any (λ key. test key && (within from e t && holds key t)) keys
-rows_have_where test [] holds from e t = refl
-rows_have_where test (key ∷ keys) holds from e t =
-    one_row test (row_where holds from e key) (rows_where keys holds from e) t (has_ticks (row_where holds from e key).runs) refl
-    ∙ ap (λ b. test key && b || rows_have (rows_where keys holds from e) test t) (have_listed (holds key) from e t)
-    ∙ ap (λ b. test key && (within from e t && holds key t) || b) (rows_have_where test keys holds from e t)
 
 -- ---- What held goes on holding of the same keys
 

@@ -1,10 +1,10 @@
 -- What the lines of some text leave of a copy.
-use Rattle.std.proofs.Common.{◌≡◌, ◌∙◌, ℕ, ◌+◌, Bool, true, false, cond, List, [], ◌∷◌, ◌++◌, Option, Some, None, refl, ap, sym, append-nil, append_assoc, arith, inl, inr}
+use Rattle.std.proofs.Common.{◌≡◌, ◌∙◌, ℕ, ◌+◌, Bool, true, false, cond, List, [], ◌∷◌, ◌++◌, Option, Some, None, refl, ap, sym, append-nil, append_assoc, inl, inr}
 use Rattle.std.proofs.lemmas.Bool.{and_parts, cases_Bool}
-use Rattle.std.proofs.lemmas.Bool.Decides.{nat_tests}
-use Rattle.std.specs.Prelude.{◌==◌, if◌then◌else◌}
+use Rattle.std.specs.Prelude.{if◌then◌else◌}
 use Rattle.std.specs.List.{list_all}
 use Rattle.users.specs.Tagged.{is_no_feed, lines_in, split_lines}
+use Rattle.users.proofs.CallerLemmas.{no_feed_on}
 use Rattle.replica.specs.Copied.{copy_after, starting_after}
 use Rattle.replica.specs.Feed.{Hearing, hearing_after, is_broken}
 use Rattle.replica.specs.Line.{ToldLine, told_by_line}
@@ -55,9 +55,6 @@ both_lead name text more a b c first later = record {
 
 abbrev pub has_no_feed : List ℕ → Bool
 has_no_feed line = list_all is_no_feed line
-
-no_feed_on : (b : ℕ) → is_no_feed b ≡ true → (b == 10) ≡ false
-no_feed_on b h = grind (arith, nat_tests)
 
 line_first : (begun line rest : List ℕ) → has_no_feed line ≡ true → split_lines begun (line ++ 10 ∷ rest) ≡ (begun ++ line) ∷ lines_in rest
 line_first begun [] rest h = ap (λ l. l ∷ lines_in rest) (sym (append-nil begun))

@@ -24,6 +24,7 @@ use Rattle.history.proofs.LawLemmas.{names_apart}
 use Rattle.meaning.specs.Answer.{has_ticks, row_where, rows_where}
 use Rattle.meaning.specs.Binding.{holds_target, tuples}
 use Rattle.meaning.specs.Registered.{first_tick}
+use Rattle.meaning.proofs.AnswerLemmas.{rows_have_where}
 use Rattle.line_meaning.specs.Journal.{world, writes}
 use Rattle.line_meaning.specs.Registry.{Known, Registration, known, registered, registration_named}
 use Rattle.feeds_meaning.specs.Heard.{Item, Seat, heard, seat_after}
@@ -43,7 +44,7 @@ use Rattle.feeds_laws.proofs.AlikeLemmas.{never}
 use Rattle.feeds_laws.proofs.AscendLemmas.{Ascend, listed_ascend}
 use Rattle.feeds_laws.proofs.FeedLemmas.{AreTaken, Stands, feed_goes, found_right, replica_follows}
 use Rattle.feeds_laws.proofs.FineLemmas.{IsRight}
-use Rattle.feeds_laws.proofs.GrowthLemmas.{rows_have_where, tuples_are_keys}
+use Rattle.feeds_laws.proofs.GrowthLemmas.{tuples_are_keys}
 use Rattle.feeds_laws.proofs.ItemLemmas.{Laws}
 use Rattle.feeds_laws.proofs.KeyLemmas.{IsKey, one_key}
 use Rattle.feeds_laws.proofs.OrderedLemmas.{Ascends, IsWritten, clipped, clipped_at, clipped_in_order, clipped_text, clipped_written, same_rows}

@@ -59,9 +59,6 @@ abbrev pub AreSeats : List Seated → Type 0
 AreSeats [] = Unit {0}
 AreSeats (s ∷ seats) = (is_of_letters s.user ≡ true) × (seat_in seats s.user ≡ None) × AreSeats seats
 
-same_user : (u : List ℕ) → bytes_eq u u ≡ true
-same_user u = (bytes_eq-Decides u u).1 refl
-
 found_first : (seats more : List Seated) (u : List ℕ) (x : Seat) → seat_in seats u ≡ Some x → seat_in (seats ++ more) u ≡ Some x
 found_first [] more u x e = absurd (cc)
 found_first (s ∷ seats) more u x e = elim (cases_Bool (bytes_eq u s.user)) [

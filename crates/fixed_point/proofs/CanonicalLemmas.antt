@@ -13,7 +13,7 @@ use Rattle.fixed_point.proofs.DecimalLemmas.{decimal_law}
 use Rattle.fixed_point.proofs.DigitLemmas.{digit_of}
 use Rattle.exact.proofs.Naturals.{digit_value_below}
 
-point_length : (digits : List ℕ) → length (decimals_text digits) ≤ length digits + 1
+pub point_length : (digits : List ℕ) → length (decimals_text digits) ≤ length digits + 1
 point_length [] = omega arith
 point_length (digit ∷ digits) = omega arith
 

@@ -97,7 +97,7 @@ behind_sign false text is = refl
 behind_sign true [] is = absurd (grind (arith, nat_tests))
 behind_sign true (byte ∷ text) is = let e : byte ≡ 45 = grind (arith, nat_tests) in ap (λ b. b ∷ text) e
 
-size_with_sign : (negative : Bool) (size : ℕ) → unsigned_abs (with_sign negative size) ≡ size
+pub size_with_sign : (negative : Bool) (size : ℕ) → unsigned_abs (with_sign negative size) ≡ size
 size_with_sign false size = refl
 size_with_sign true zero = refl
 size_with_sign true (suc size) = refl

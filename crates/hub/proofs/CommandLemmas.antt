@@ -18,10 +18,11 @@ use Rattle.hub.specs.Seats.{IsHub, IsUser, accepted_in}
 use Rattle.hub.specs.Told.{AreTold, HasRoomAt, HasSentAt, IsAnsweredAt, IsAnsweredBy, IsOwnAt, MayBeTold, change_by, kept_own, kept_told, seated, seated_by, told_to_seat}
 use Rattle.hub.proofs.HubLemmas.{HasRoomFor, hub_goes_on}
 use Rattle.hub.proofs.LineLemmas.{sent_at}
-use Rattle.hub.proofs.PlaceLemmas.{IsAloneAt, alone, at_all, same_user}
+use Rattle.hub.proofs.PlaceLemmas.{IsAloneAt, alone, at_all}
 use Rattle.hub.proofs.ToldLemmas.{data_kept, data_told, plain_kept, plain_told}
 use Rattle.hub.proofs.UserLemmas.{IsShort, ReachesMore, refused_alike}
 use Rattle.exact.proofs.Truths.{both_true}
+use Rattle.exact.proofs.Lists.{bytes_eq_refl}
 
 -- users as a hub
 abbrev pub hub_by : ℕ → List Kept → Hub
@@ -117,7 +118,7 @@ module _ (d : ℕ) (seats : List Kept) (place : ℕ) (s : Kept) (c : CommandTree
   pub all_may_be_told : is_data c ≡ true → fault_of s.session c ≡ None → All (MayBeTold s.user c) (slice_set seats place (kept_own c None s))
   all_may_be_told is fault =
       let own : MayBeTold s.user c (kept_own c None s) = record {
-        accepted = λ other. let bad : true ≡ false = sym (same_user s.user) ∙ other in absurd (cc);
+        accepted = λ other. let bad : true ≡ false = sym (bytes_eq_refl s.user) ∙ other in absurd (cc);
         short = (sender).short;
       } in
       All-from_recursion (MayBeTold s.user c) (slice_set seats place (kept_own c None s)) (set_all seats place own (all_told seats hub.users))

@@ -13,7 +13,7 @@ use Rattle.feeds_meaning.specs.Lines.{is_data}
 use Rattle.hub.specs.declared.seat.Seat.{Seat as Kept}
 use Rattle.hub.specs.Told.{HasLastLineAt, HasLineFor, HasSentAt, IsSender, kept_own}
 use Rattle.hub.proofs.KindLemmas.{of_data}
-use Rattle.hub.proofs.PlaceLemmas.{same_user}
+use Rattle.exact.proofs.Lists.{bytes_eq_refl}
 
 -- ---- The sender's last entry
 
@@ -73,7 +73,7 @@ sender_has_entry seats place sender c sent s at = some_entry s.session.journal c
 alone_sent : (x : Kept) (place : ℕ) (sender : List ℕ) (c : CommandTree) (line : List ℕ) → place < 1 → HasSentAt place sender c (x ∷ []) →
     HasLineFor sender c line x
 alone_sent x zero sender c line inside sent = λ other.
-    let bad : true ≡ false = sym (same_user sender) ∙ ap (bytes_eq sender) (sym (sent x refl).user) ∙ other in
+    let bad : true ≡ false = sym (bytes_eq_refl sender) ∙ ap (bytes_eq sender) (sym (sent x refl).user) ∙ other in
     absurd (cc)
 alone_sent x (suc place) sender c line inside sent = absurd (omega arith)
 

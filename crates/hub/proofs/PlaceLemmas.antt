@@ -1,20 +1,14 @@
 -- A user is alone among users who are apart.
-use Rattle.std.proofs.Common.{◌≡◌, ℕ, zero, suc, true, false, List, [], ◌∷◌, ◌++◌, map, Some, refl, ◌∙◌, subst}
-use Rattle.std.proofs.lemmas.Slice.Eq.{bytes_eq-Decides}
+use Rattle.std.proofs.Common.{◌≡◌, ℕ, zero, suc, true, false, List, [], ◌∷◌, ◌++◌, map, Some, ◌∙◌, subst}
 use Rattle.std.specs.Prelude.{find, slice_get}
 use Rattle.std.specs.List.{AllByRecursion}
 use Rattle.std.specs.Str.{bytes_eq}
 use Rattle.feeds_meaning.specs.Hub.{Seated, has_user}
 use Rattle.hub.specs.Seats.{AreDistinctUsers}
 use Rattle.exact.proofs.Items.{all_pushed, bytes_eq_swap}
+use Rattle.exact.proofs.Lists.{bytes_eq_refl}
 
 -- ---- Names
-
-pub same_user : (user : List ℕ) → bytes_eq user user ≡ true
-same_user user = (bytes_eq-Decides user user).1 refl
-
-pub user_is : (a b : List ℕ) → bytes_eq a b ≡ true → a ≡ b
-user_is a b h = (bytes_eq-Decides a b).0 h
 
 -- ---- What holds of each
 
@@ -40,7 +34,7 @@ pub alone : (seats : List Seated) (place : ℕ) (s : Seated) → slice_get seats
 alone [] place s e apart = absurd (cc)
 alone (x ∷ seats) zero s e apart =
     let same : x ≡ s = cc in
-    subst (λ (y : Seated). IsAloneAt y.user 0 (x ∷ seats)) same (same_user x.user, apart.0)
+    subst (λ (y : Seated). IsAloneAt y.user 0 (x ∷ seats)) same (bytes_eq_refl x.user, apart.0)
 alone (x ∷ seats) (suc place) s e apart =
     let other : has_user x.user s ≡ false = at_all (λ t. has_user x.user t ≡ false) seats place s apart.0 e in
     (bytes_eq_swap s.user x.user ∙ other, alone seats place s e apart.1)

@@ -3,7 +3,7 @@ use Rattle.std.proofs.Common.{◌≡◌, ℕ, zero, suc, ◌+◌, ◌<◌, ◌�
 use Rattle.std.proofs.lemmas.Bool.{cases_Bool}
 use Rattle.std.proofs.lemmas.Bool.Decides.{nat_tests}
 use Rattle.std.proofs.lemmas.Option.{slice_get_within}
-use Rattle.std.specs.Prelude.{if◌then◌else◌, option_map, slice_get, unwrap_or}
+use Rattle.std.specs.Prelude.{if◌then◌else◌, option_map, slice_get}
 use Rattle.command_text.specs.declared.journal.TheConstants.{MOST_ENTRIES}
 use Rattle.command_text.specs.Journal.{Accepted, bytes_of, is_kept, line_told, spelled}
 use Rattle.command_text.specs.Line.{IsRead}
@@ -15,6 +15,7 @@ use Rattle.line_meaning.specs.Judging.{Held, fault_of, held, held_after}
 use Rattle.line_meaning.specs.Reached.{AreReached, IsNextEntry}
 use Rattle.session.specs.Carried.{IsLegible}
 use Rattle.session_file.specs.declared.kept.TheConstants.{SESSION_LINE_LIMIT}
+use Rattle.session_file.proofs.TextLemmas.{told_is}
 use Rattle.feeds_meaning.specs.Lines.{is_data}
 use Rattle.hub.specs.Answering.{IsEntryLine}
 use Rattle.hub.specs.Seats.{data_entries}
@@ -102,16 +103,10 @@ record IsEntryAt (journal : List Accepted) (place : ℕ) (line : List ℕ) : Typ
   found : slice_get journal place ≡ Some e
   line_is : line ≡ text_of e.1
 
-told_entry : (o : Option Accepted) (tick : ℕ) (line : List ℕ) → Some (tick, line) ≡ option_map line_told o → (e : Accepted) × (o ≡ Some e) × (line ≡ text_of e.1)
-told_entry None tick line e = absurd (cc)
-told_entry (Some x) tick line e =
-    let last : (o : Option (ℕ × List ℕ)) → List ℕ = λ o. (unwrap_or o (tick, line)).1 in
-    (x, refl, ap last e)
-
 module _ (journal : List Accepted) (reached : AreReached [] journal) (place tick : ℕ) (line : List ℕ)
     (told : Some (tick, line) ≡ option_map line_told (slice_get journal place)) where
   entry_there : IsEntryAt journal place line
-  entry_there = let at = told_entry (slice_get journal place) tick line told in record { e = at.0; found = at.1; line_is = at.2 }
+  entry_there = let at = told_is (slice_get journal place) tick line told in record { e = at.0; found = at.1; line_is = at.2 }
 
   pub line_fits : ReadsWhatIsPrinted → IsEntryLine line
   line_fits reads =

@@ -22,9 +22,10 @@ use Rattle.hub.specs.Told.{IsSeatedAs, arrived, seated}
 use Rattle.hub.proofs.CommandLemmas.{hub_by, seated_at}
 use Rattle.hub.proofs.DataLemmas.{data_more, replayed_holds, replayed_is_taken}
 use Rattle.hub.proofs.NewcomerLemmas.{newcomer_asks, newcomer_counts, newcomer_holds}
-use Rattle.hub.proofs.PlaceLemmas.{IsAloneAt, alone, apart_pushed, found_at, user_is}
+use Rattle.hub.proofs.PlaceLemmas.{IsAloneAt, alone, apart_pushed, found_at}
 use Rattle.hub.proofs.UserLemmas.{ReachesMore}
 use Rattle.exact.proofs.Items.{all_pushed}
+use Rattle.exact.proofs.Lists.{bytes_eq_true}
 
 arrived_same : (d : ℕ) (seats : List Kept) → map (seated d) seats ≡ map arrived (map (seated d) seats)
 arrived_same d [] = refl
@@ -44,7 +45,7 @@ found user (x ∷ seats) place e =
     record {
       s = get_or (x ∷ seats) place x;
       there = slice_get-get_or (x ∷ seats) place x at.0;
-      named = sym (user_is user (get_or (x ∷ seats) place x).user at.1);
+      named = sym (bytes_eq_true user (get_or (x ∷ seats) place x).user at.1);
     }
 
 pub place_within : (user : List ℕ) (seats : List Kept) (place : ℕ) → position (λ s. bytes_eq user s.user) seats ≡ Some place → place < length seats

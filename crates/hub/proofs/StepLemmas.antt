@@ -15,8 +15,9 @@ use Rattle.feeds_meaning.specs.Heard.{Other, Seat, item_outcome, other_by, own_b
 use Rattle.feeds_meaning.specs.Hub.{Event, Hub, Seated, added, data_command_of, event_by, has_room, has_user, hub_step, hub_step_by, newcomer, seat_in, seat_of, seated_after, seats_with, taken_of, told_of_event, unheard}
 use Rattle.hub.specs.Seats.{IsHub, IsUser}
 use Rattle.hub.specs.Told.{IsAnsweredBy, IsLineTold, IsSeatedAs, IsSentAt, arrived, change_by, seated_by, taken_by, told_to_seat}
-use Rattle.hub.proofs.PlaceLemmas.{IsAloneAt, alone, found_at, same_user}
+use Rattle.hub.proofs.PlaceLemmas.{IsAloneAt, alone, found_at}
 use Rattle.exact.proofs.Items.{bytes_eq_swap}
+use Rattle.exact.proofs.Lists.{bytes_eq_refl}
 
 -- ---- Each user
 
@@ -158,7 +159,7 @@ seat_by : (h : Hub) (user : List ℕ) (o : Option Seated) (t : Seated) → find 
     unwrap_or (option_map (λ s. s.seat) o) (newcomer h.accepted) ≡ t.seat
 seat_by h user (Some x) t found e = let same : Some x ≡ Some t = sym found ∙ e in let is : x ≡ t = cc in ap (λ (y : Seated). y.seat) is
 seat_by h user None t found e =
-    let pushed = find_pushed user h.seats (new_seat h user) found (same_user user) in
+    let pushed = find_pushed user h.seats (new_seat h user) found (bytes_eq_refl user) in
     let same : Some (new_seat h user) ≡ Some t = sym pushed ∙ e in
     let is : new_seat h user ≡ t = cc in
     ap (λ (y : Seated). y.seat) is
@@ -177,7 +178,7 @@ there_by h user true all = all_there h.seats all
 there_by h user false all = more_there h.seats all
   where
     more_there : (seats : List Seated) → AllByRecursion (λ t. t.seat.here ≡ true) seats → AllByRecursion (IsThere user) (seats ++ new_seat h user ∷ [])
-    more_there [] all = (λ other. let bad : true ≡ false = sym (same_user user) ∙ other in absurd (cc), tt)
+    more_there [] all = (λ other. let bad : true ≡ false = sym (bytes_eq_refl user) ∙ other in absurd (cc), tt)
     more_there (t ∷ seats) all = (λ _. all.0, more_there seats all.1)
 
 all_here : (accepted : List CommandTree) (seats : List Seated) → AllByRecursion (IsUser accepted) seats → AllByRecursion (λ t. t.seat.here ≡ true) seats

@@ -53,10 +53,6 @@ text_all g (suc n) [] all = refl
 text_all g zero (x ∷ xs) all = absurd (omega arith)
 text_all g (suc n) (x ∷ xs) all = ap (λ l. g x ++ l) (text_all g n xs (omega arith))
 
-pub begins_same : (xs : List ℕ) → Begins xs xs
-begins_same [] = refl
-begins_same (x ∷ xs) = ap (λ l. x ∷ l) (begins_same xs)
-
 pub record AreToldSoFar (sender own : List ℕ) (c : CommandTree) (place : ℕ) (old now : List Kept) (before after : List ℕ) : Type 0 where
   pub within : place ≤ length old
   pub seats : now ≡ changed (kept_told sender c) place old

@@ -12,7 +12,8 @@ use Rattle.feeds_meaning.specs.Lines.{is_data}
 use Rattle.hub.specs.Answering.{answer_by}
 use Rattle.hub.specs.declared.seat.Seat.{Seat as Kept}
 use Rattle.hub.specs.Told.{change_by, kept_own, kept_told, seated, seated_by, told_kept, told_to_seat}
-use Rattle.hub.proofs.PlaceLemmas.{IsAloneAt, user_is}
+use Rattle.hub.proofs.PlaceLemmas.{IsAloneAt}
+use Rattle.exact.proofs.Lists.{bytes_eq_true}
 
 module _ (user : List ℕ) (c : CommandTree) (d : ℕ) where
   -- ---- A data command that is accepted
@@ -106,8 +107,8 @@ module _ (user : List ℕ) (c : CommandTree) (d : ℕ) where
       ap (λ l. l ++ flat_map (told_to_seat user c r) seats) here ∙ others_silent r seats nothing others.1
 
   own_said : (r : Option Refusal) (s : Kept) → has_user user (seated d s) ≡ true → told_to_seat user c r (seated d s) ≡ tagged user (answer_by s.session c r)
-  own_said (Some refusal) s own = rw own (ap (λ u. tagged u (answer_by s.session c (Some refusal))) (sym (user_is user s.user own)))
-  own_said None s own = rw own (ap (λ u. tagged u (answer_by s.session c None)) (sym (user_is user s.user own)))
+  own_said (Some refusal) s own = rw own (ap (λ u. tagged u (answer_by s.session c (Some refusal))) (sym (bytes_eq_true user s.user own)))
+  own_said None s own = rw own (ap (λ u. tagged u (answer_by s.session c None)) (sym (bytes_eq_true user s.user own)))
 
   pub plain_told : (r : Option Refusal) (seats : List Kept) (place : ℕ) (s : Kept) → change_by c r ≡ None → IsAloneAt user place (map (seated d) seats) →
       slice_get seats place ≡ Some s → flat_map (told_to_seat user c r) (map (seated d) seats) ≡ tagged user (answer_by s.session c r)

@@ -1,6 +1,6 @@
 -- A line that is read as a data command begins with a word of data commands, and one on registered queries with a word of
 -- those: the first token of a line is the whole word at its front.
-use Rattle.std.proofs.Common.{◌≡◌, ℕ, zero, suc, ◌+◌, ◌-◌, ◌≤◌, ◌&&◌, nat_le, leb, true, false, Bool, List, [], ◌∷◌, take, map, None, Some, Option, Ok, Err, Result, refl, sym, ap, ◌∙◌, inl, inr, ◌⊎◌, eqb, one-add, arith}
+use Rattle.std.proofs.Common.{◌≡◌, ℕ, zero, suc, ◌+◌, ◌-◌, ◌≤◌, ◌&&◌, nat_le, leb, true, false, Bool, List, [], ◌∷◌, take, None, Some, Option, Ok, Err, Result, refl, sym, ap, ◌∙◌, inl, inr, ◌⊎◌, eqb, one-add, arith}
 use Rattle.std.proofs.lemmas.Bool.{cases_Bool, and_parts}
 use Rattle.std.proofs.lemmas.Bool.Decides.{Decides-eqb, nat_tests}
 use Rattle.std.proofs.lemmas.Slice.Eq.{bytes_eq-Decides}
@@ -23,7 +23,8 @@ use Rattle.command_text.specs.Parts.{Parts, Verb, ◌▸◌, parts}
 use Rattle.command_text.specs.Piece.{Piece, WORD, line_pieces, piece_of}
 use Rattle.command_text.specs.Tree
 use Rattle.command_text.specs.Tree.{CommandTree}
-use Rattle.ftl_lexer.specs.Tokens.{bad_place, bytes_of_token, lexed, lexemes}
+use Rattle.command_text.proofs.grammar.FirstWords.{bad_has_none, put_first}
+use Rattle.ftl_lexer.specs.Tokens.{bad_place, lexemes}
 use Rattle.ftl_lexer.specs.declared.kinds.Token.{Token}
 use Rattle.ftl_parser.specs.Piece as token
 use Rattle.ftl_parser.specs.Piece.{ARROW, reserved, signs}
@@ -39,10 +40,6 @@ lexeme_by bytes t = (t.0, take t.1 bytes)
 
 abbrev lexeme_at : List ℕ → Option Lexeme
 lexeme_at bytes = option_map (lexeme_by bytes) (token_at bytes)
-
-put_first : (first l : Lexeme) (o : Option (List Lexeme)) (rest : List Lexeme) → option_map (λ more. first ∷ more) o ≡ Some (l ∷ rest) → first ≡ l
-put_first first l None rest e = absurd (cc)
-put_first first l (Some more) rest e = let same : first ∷ more ≡ l ∷ rest = cc in cc
 
 token_first : (bytes : List ℕ) (found : Option (Kind × ℕ)) (l : Lexeme) (rest : List Lexeme) (later : ℕ → Option (List Lexeme)) →
     option_and_then (λ t. option_map (λ more. (t.0, take t.1 bytes) ∷ more) (later (t.1 - 1))) found ≡ Some (l ∷ rest) →
@@ -222,9 +219,6 @@ first_is line word (l ∷ all) later code e h is =
 no_tokens : (r : Result (List Token) ℕ) (place : ℕ) → result_err r ≡ Some place → result_unwrap_or r [] ≡ []
 no_tokens (Ok tokens) place e = absurd (cc)
 no_tokens (Err place) other e = refl
-
-bad_has_none : (line : List ℕ) (place : ℕ) → bad_place line ≡ Some place → line_pieces line ≡ []
-bad_has_none line place e = ap token.pieces (ap (map (λ t. (t.kind, bytes_of_token line t))) (no_tokens (lexed 0 0 line) place e))
 
 -- a command that its tokens spell begins with this word
 verb_is : (line word : List ℕ) (ps : Parts) (s t : Notes) (code : ℕ) → AreCut line → SpellsParts (Verb word ▸ ps) s t (line_pieces line) →

@@ -10,6 +10,7 @@ use Rattle.tick_set.specs.declared.spans.Span.{Span}
 use Rattle.tick_set.specs.Ticks.{within}
 use Rattle.tick_set.specs.Runs.{spans_have, IsNormal, IsNormalFrom}
 use Rattle.tick_set.proofs.RunLemmas.{spans_have-below, spans_have-append, IsNormalFrom-push, IsNormalFrom-weaker}
+use Rattle.tick_set.proofs.JoinLemmas.{ticks_pushed}
 
 -- the spans that are done are in made, run may still grow, and the rests begin no earlier than it
 pub record MergedSoFar (first second made : List Span) (run : Span) (rest_first rest_second : List Span) : Type 0 where
@@ -63,14 +64,10 @@ module _ (first second made : List Span) (run : Span) (rest_first rest_second : 
   pub merged_ticks : rest_first ≡ [] → rest_second ≡ [] → (u : ℕ) → spans_have (made ++ run ∷ []) u ≡ (spans_have first u || spans_have second u)
   merged_ticks e f u = grind (arith, spans_have-append made (run ∷ []) u, rw (e, f) at (so_far.merged u))
 
--- one run that is done more
-grown_ticks : (made : List Span) (run : Span) (u : ℕ) → spans_have (made ++ run ∷ []) u ≡ (spans_have made u || within run.lo run.hi u)
-grown_ticks made run u = grind (arith, spans_have-append made (run ∷ []) u)
-
 pub grown_apart : (made : List Span) (run s : Span) → ((u : ℕ) → spans_have made u ≡ true → u + 2 ≤ run.lo) → run.hi + 1 < s.lo → (u : ℕ) → spans_have (made ++ run ∷ []) u ≡ true → u + 2 ≤ s.lo
 grown_apart made run s apart past u had =
     let order : run.lo ≤ run.hi = run.ordered in
-    grind (arith, nat_tests, apart u, grown_ticks made run u)
+    grind (arith, nat_tests, apart u, ticks_pushed made run u)
 
 -- the span that begins first, taken out of its list
 pub earliest_taken : (rest later : List Span) (s : Span) → IsNormal rest → rest ≡ s ∷ later → IsNormalFrom s.lo later
@@ -84,7 +81,7 @@ none_kept [] from none = tt
 none_kept (s ∷ later) from none = absurd (omega arith)
 
 pub grown_both : (made : List Span) (run s : Span) (u : ℕ) → (spans_have (made ++ run ∷ []) u || within s.lo s.hi u) ≡ (spans_have made u || within run.lo run.hi u || within s.lo s.hi u)
-grown_both made run s u = grind (arith, grown_ticks made run u)
+grown_both made run s u = grind (arith, ticks_pushed made run u)
 
 -- ---- spans in the order of their first ticks
 none_have : (rest : List Span) (u : ℕ) → length rest ≡ 0 → spans_have rest u ≡ false

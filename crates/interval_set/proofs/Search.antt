@@ -10,17 +10,12 @@ use Rattle.tick_set.specs.Ticks.{within}
 use Rattle.tick_set.specs.Runs.{spans_have, IsNormal, IsNormalFrom}
 use Rattle.tick_set.proofs.Between.{within_from}
 use Rattle.tick_set.proofs.RunLemmas.{spans_have-below}
-
--- the first ticks rise
-lo_at_least : (spans : List Span) (from j : ℕ) (d : Span) → IsNormalFrom from spans → j < length spans → from ≤ (get_or spans j d).lo
-lo_at_least [] from j d h l = absurd (omega arith)
-lo_at_least (s ∷ rest) from zero d h l = h.0
-lo_at_least (s ∷ rest) from (suc j) d h l = let order : s.lo ≤ s.hi = s.ordered in omega (arith, h.0, lo_at_least rest (s.hi + 2) j d h.1 (omega arith))
+use Rattle.tick_set.proofs.JoinLemmas.{at_least}
 
 lo_rises : (spans : List Span) (from i j : ℕ) (d : Span) → IsNormalFrom from spans → i ≤ j → j < length spans → (get_or spans i d).lo ≤ (get_or spans j d).lo
 lo_rises [] from i j d h l k = absurd (omega arith)
 lo_rises (s ∷ rest) from zero zero d h l k = omega arith
-lo_rises (s ∷ rest) from zero (suc j) d h l k = let order : s.lo ≤ s.hi = s.ordered in omega (arith, lo_at_least rest (s.hi + 2) j d h.1 (omega arith))
+lo_rises (s ∷ rest) from zero (suc j) d h l k = let order : s.lo ≤ s.hi = s.ordered in omega (arith, at_least rest (s.hi + 2) j d h.1 (omega arith))
 lo_rises (s ∷ rest) from (suc i) zero d h l k = absurd (omega arith)
 lo_rises (s ∷ rest) from (suc i) (suc j) d h l k = lo_rises rest (s.hi + 2) i j d h.1 (omega arith) (omega arith)
 
@@ -43,7 +38,7 @@ has_gap (s ∷ rest) from zero t d h l before after =
     grind (arith, nat_tests, before 0 (omega arith), none)
 has_gap (s ∷ rest) from (suc i) t d h l before after =
     let later : leb t (get_or rest i d).hi ≡ spans_have rest t = has_gap rest (s.hi + 2) i t d h.1 (omega arith) (λ j k. before (suc j) (omega arith)) (λ j k m. after (suc j) (omega arith) (omega arith)) in
-    let past : s.hi < t = omega (arith, lo_at_least rest (s.hi + 2) 0 d h.1 (omega arith), before 1 (omega arith)) in
+    let past : s.hi < t = omega (arith, at_least rest (s.hi + 2) 0 d h.1 (omega arith), before 1 (omega arith)) in
     grind (arith, nat_tests, later)
 
 no_span : Span

@@ -1,4 +1,4 @@
--- Lists of what there is of each number, and the ticks of the rows of some numbers.
+-- For this crate and for the crates above: lists of what there is of each number, and the ticks of the rows of some numbers.
 use Rattle.std.proofs.Common.{◌≡◌, ℕ, zero, suc, ◌+◌, ◌*◌, ◌/◌, ◌-◌, ◌<◌, ◌≤◌, Bool, true, false, ◌||◌, Option, None, Some, List, [], ◌∷◌, ◌++◌, refl, ap, sym, ◌∙◌, inl, inr, append_assoc, arith, if◌then◌else◌}
 use Rattle.std.specs.Prelude.{option_to_list}
 use Rattle.std.specs.List.{range_with_len, list_any, cons_option, filter_map, filter}

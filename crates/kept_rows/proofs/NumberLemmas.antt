@@ -1,4 +1,4 @@
--- Mixed radix: numbers, their places, and their order.
+-- For this crate and for the crates above: mixed radix: numbers, their places, and their order.
 use Rattle.std.proofs.Common.{◌≡◌, ℕ, ◌+◌, ◌*◌, ◌/◌, ◌%◌, ◌<◌, ◌≤◌, List, [], ◌∷◌, refl, ap, sym, ◌∙◌, arith}
 use Rattle.std.proofs.Math.Nat.{mul_comm}
 use Rattle.std.proofs.lemmas.Nat.{mul-le, mul-add-lt, div-add-mod', div-mul-add, mod-mul-add, mod_below, div_below}

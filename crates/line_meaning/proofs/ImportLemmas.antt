@@ -60,7 +60,7 @@ with_coordinates_few : (point : Bool) (attributes : List (List ℕ × AttrKind))
 with_coordinates_few true attributes few = omega (arith, few, length-map attributes attribute_of)
 with_coordinates_few false attributes few = omega (arith, few, length-map attributes attribute_of)
 
-classes_kept : (known : Bool) (class : Option ℕ) (c : Catalog) (name : List ℕ) →
+pub classes_kept : (known : Bool) (class : Option ℕ) (c : Catalog) (name : List ℕ) →
     (if known then c else with_new_object c class name).classes ≡ c.classes
 classes_kept true class c name = refl
 classes_kept false None c name = refl
@@ -172,7 +172,7 @@ rows_may_be_loaded lines journal class text rows reached short is =
 
 -- ---- the journal after rows
 
-none_is : (o : Option Refusal) → is_none o ≡ true → o ≡ None
+pub none_is : (o : Option Refusal) → is_none o ≡ true → o ≡ None
 none_is None is = refl
 none_is (Some r) is = absurd (cc is)
 

@@ -1,4 +1,4 @@
--- The text of a journal that steps lead to is loaded as this journal.
+-- For this crate and for the crates above: the text of a journal that steps lead to is loaded as this journal.
 use Rattle.std.proofs.Common.{◌≡◌, ℕ, ◌+◌, ◌≤◌, Bool, true, false, Option, None, Some, List, [], ◌∷◌, ◌++◌, length, refl, sym, ap, subst, ◌∙◌, append-nil, length-append, arith, if◌then◌else◌}
 use Rattle.std.specs.Prelude.{◌<◌, IsSome, is_none, option_map, nat_le, nat_lt, map, take}
 use Rattle.std.specs.List.{AllByRecursion}
@@ -79,7 +79,7 @@ entries_savable before (e ∷ journal) reached =
     let is = reached.0 in
     (record { kept = is.kept; printable = is.printable; short = is.short }, entries_savable (before ++ e ∷ []) journal reached.1)
 
-first_none : (r : Refusal) (holds : Bool) → first_that_holds ((r, holds) ∷ []) ≡ None → holds ≡ false
+pub first_none : (r : Refusal) (holds : Bool) → first_that_holds ((r, holds) ∷ []) ≡ None → holds ≡ false
 first_none r true is = absurd (cc is)
 first_none r false is = refl
 
@@ -103,7 +103,7 @@ few_entries before (e ∷ journal) reached few =
 ticks_fit : (now ticks : ℕ) → nat_lt LAST_TICK (now + ticks) ≡ false → now + ticks ≤ LAST_TICK
 ticks_fit now ticks is = grind (arith, nat_tests, is)
 
-clock_by : (journal : List Accepted) (c : CommandTree) → command_fault (known journal) c ≡ None → clock journal ≤ LAST_TICK →
+pub clock_by : (journal : List Accepted) (c : CommandTree) → command_fault (known journal) c ≡ None → clock journal ≤ LAST_TICK →
     clock journal + ticks_of c ≤ LAST_TICK
 clock_by journal (Tree.Tick ticks) fault fits =
     ticks_fit (clock journal) ticks

@@ -1,4 +1,4 @@
--- A line of too many bytes is refused for its length, which is the first of all refusals.
+-- For this crate and for the crates above: a line of too many bytes is refused for its length, which is the first of all refusals.
 use Rattle.std.proofs.Common.{◌≡◌, ℕ, ◌<◌, Bool, true, Option, Some, List, ◌++◌, [], ◌∷◌, length, refl, ap, ◌∙◌, arith}
 use Rattle.std.proofs.lemmas.Bool.Decides.{nat_tests}
 use Rattle.command_text.specs.declared.reading.TheConstants.{LINE_LIMIT}
@@ -16,7 +16,7 @@ long_first : (other bad : Bool) (later : Option Refusal) →
     ≡ Some refusals.LineTooLong
 long_first other bad later = refl
 
-is_long : (line : List ℕ) → LINE_LIMIT < length line → is_too_long LINE_LIMIT line ≡ true
+pub is_long : (line : List ℕ) → LINE_LIMIT < length line → is_too_long LINE_LIMIT line ≡ true
 is_long line h = grind (arith, nat_tests, h)
 
 pub long_refusal : (h : Held) (line : List ℕ) → LINE_LIMIT < length line → line_refusal h line ≡ Some refusals.LineTooLong

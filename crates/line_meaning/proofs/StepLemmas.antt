@@ -21,7 +21,7 @@ use Rattle.line_meaning.specs.Step.{Base, base_after, file_refusal, line_refusal
 use Rattle.line_meaning.proofs.ImportLemmas.{named_rows_are_printable, rows_are_reached, rows_may_be_loaded}
 use Rattle.line_meaning.proofs.ReachedLemmas.{command_is_reached, none_of_both}
 
-taken_is : (found : Read CommandTree) → late_refusal found ≡ None →
+pub taken_is : (found : Read CommandTree) → late_refusal found ≡ None →
     option_map (λ f. f.0) found ≡ Some (unwrap_or (option_map (λ f. f.0) found) Tree.Nothing)
 taken_is None taken = absurd (cc taken)
 taken_is (Some f) taken = refl

@@ -14,6 +14,8 @@ use Rattle.formula.specs.declared.kind.QueryKind.{QueryKind}
 use Rattle.formula.specs.declared.kind.QueryKind.TheVariants as kinds
 use Rattle.kept_rows.specs.Listing.{line_of, lines_between, passing_of, target_has, when_differ, with_runs}
 use Rattle.kept_rows.specs.Numbers.{counts}
+use Rattle.kept_rows.proofs.ListingLemmas.{listed-none}
+use Rattle.kept_rows.proofs.NumberLemmas.{size-some}
 use Rattle.meaning.specs.Answer.{Row, has_ticks, row_where}
 use Rattle.meaning.specs.Binding.{holds_target, product, tuples}
 use Rattle.meaning.specs.Registered.{Change, changes_of_tick, first_tick, is_change, passage_of, registered_answer, stands_at}
@@ -21,7 +23,7 @@ use Rattle.live_queries.specs.Columns.{Column, HaveObjectsOf, column_variables, 
 use Rattle.live_queries.specs.Current.{IsCurrentFor, row_at, told_from}
 use Rattle.live_queries.specs.Kept.{IsKeptQuery, KeptQuery, registered_query}
 use Rattle.live_queries.specs.Told.{Told, answer_of, key_of, passing_change, passings_of, row_of_line, target_count, target_width, told_changes}
-use Rattle.live_queries.proofs.NumberingLemmas.{at_number, between_same, listed_product, objects_at, size_some}
+use Rattle.live_queries.proofs.NumberingLemmas.{at_number, between_same, listed_product, objects_at}
 use Rattle.live_queries.proofs.TargetLemmas.{counted_front, key_is, no_times, target_variables, times_are}
 use Rattle.exact.proofs.Naturals.{at_most_from_test}
 
@@ -42,14 +44,6 @@ mapped_filtered f line (n ∷ ns) = one f (line n) _ _ (mapped_filtered f line n
     one : {A B : Type 0} (g : A → B) (o : Option A) (rest : List A) (rest' : List B) → map g rest ≡ rest' → map g (cons_option o rest) ≡ cons_option (option_map g o) rest'
     one g None rest rest' e = e
     one g (Some x) rest rest' e = ap (λ r. g x ∷ r) e
-
-pub none_listed : (p : ℕ → Bool) (lo hi : ℕ) → ((t : ℕ) → p t ≡ false) → listed p lo hi ≡ []
-unfolding listed
-none_listed p lo hi none = all_out (between lo (hi + 1))
-  where
-    all_out : (ts : List ℕ) → filter p ts ≡ []
-    all_out [] = refl
-    all_out (t ∷ ts) = ap (λ b. if b then t ∷ filter p ts else filter p ts) (none t) ∙ all_out ts
 
 front_ids : (c : Catalog) (classes : List ℕ) (m : ℕ) (cs : List Column) → HaveObjectsOf c classes cs →
     map (λ v. ids_of c (slice_index classes v)) (map (λ x. x.variable) (take m cs)) ≡ map (λ x. x.ids) (take m cs)
@@ -102,7 +96,7 @@ module _ (w : World) (before : ℕ) (k : KeptQuery) (is : IsKeptQuery k) (curren
   key_at : (n : ℕ) → n < target_count k → key_of 0 k n ≡ objects_at fronts n
   key_at n few =
       ap (λ m. map (object_at_number k.columns m) k.query.targets) (let e : n * target_width k ≡ n * target_width k + 0 = omega arith in e)
-      ∙ key_is w before k is current n few 0 (size_some (column_variables (drop (length k.query.targets) k.columns)))
+      ∙ key_is w before k is current n few 0 (size-some (column_variables (drop (length k.query.targets) k.columns)))
 
   -- the keys of the targets, and those of their numbers
   pub listed_targets : {X : Type 0} (g : List ℕ → Option X) → filter_map g (tuples w k.query) ≡ filter_map (at_number g fronts) (between 0 (target_count k))
@@ -127,7 +121,7 @@ module _ (w : World) (before : ℕ) (k : KeptQuery) (is : IsKeptQuery k) (curren
             ap (λ runs. option_map (row_of_line k) (with_runs n runs))
             (ap runs_of (same_listed (target_has (row_at k) (target_width k) n) (λ t. false) from k.expiry
             (λ t a b. no_times w before k is current n few none t (omega (arith, told_later, a)))
-            ∙ none_listed (λ t. false) from k.expiry (λ t. refl)))
+            ∙ listed-none (λ t. false) from k.expiry (λ t. refl)))
             ∙ sym (ap (λ b. if b then (if has_ticks (row_where holds from k.expiry (objects_at fronts n)).runs then Some (row_where holds from k.expiry (objects_at fronts n)) else None) else None) none)
       ]
 

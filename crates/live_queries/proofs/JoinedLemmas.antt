@@ -8,10 +8,11 @@ use Rattle.std.proofs.lemmas.Bool.Decides.{nat_tests}
 use Rattle.std.proofs.lemmas.Nat.{div-add-mod', div-mul-add, mod-mul-add, mod_below, mul-add-lt}
 use Rattle.formula.specs.Resolved.{are_distinct}
 use Rattle.kept_rows.specs.Numbers.{counts, size_of}
+use Rattle.kept_rows.proofs.NumberLemmas.{size-some}
 use Rattle.live_queries.specs.Columns.{AreCounted, Column, column_variables, columns_have, object_at_number, object_or}
 use Rattle.live_queries.specs.Numbered.{AreAmong, IsNumberOf}
 use Rattle.live_queries.proofs.ColumnLemmas.{later_variable}
-use Rattle.live_queries.proofs.NumberingLemmas.{objects_at, size_some}
+use Rattle.live_queries.proofs.NumberingLemmas.{objects_at}
 use Rattle.exact.proofs.Truths.{false_from_not}
 use Rattle.exact.proofs.Naturals.{equals_itself, same_from_equal, test_below}
 
@@ -66,7 +67,7 @@ module _ (os : List Column) where
       ap (counts (column_variables os)) (only_zero n (sized os) d h) ∙ ap (λ b. b && counts (column_variables os) d) (sym (zero_counts n h))
   counts_joined (c ∷ ts) n d h below =
       let t : ℕ = sized ts in
-      let some : 1 ≤ t = size_some (column_variables ts) in
+      let some : 1 ≤ t = size-some (column_variables ts) in
       (λ i. nat_lt ((n * sized os + d) / size_joined ts os i) c.numbers.count && counts (column_variables (ts ++ os)) ((n * sized os + d) % size_joined ts os i))
       ∙ (λ i. nat_lt (joined_div n d t (sized os) some below i) c.numbers.count
       && counts (column_variables (ts ++ os)) (joined_mod n d t (sized os) some below i))
@@ -78,7 +79,7 @@ module _ (os : List Column) where
   object_joined added [] n d h below v = ap (λ m. object_or added os m v) (only_zero n (sized os) d h)
   object_joined added (c ∷ ts) n d h below v =
       let t : ℕ = sized ts in
-      let some : 1 ≤ t = size_some (column_variables ts) in
+      let some : 1 ≤ t = size-some (column_variables ts) in
       (λ i. if v == c.variable then slice_index_or c.ids ((n * sized os + d) / size_joined ts os i) added
       else object_or added (ts ++ os) ((n * sized os + d) % size_joined ts os i) v)
       ∙ (λ i. if v == c.variable then slice_index_or c.ids (joined_div n d t (sized os) some below i) added

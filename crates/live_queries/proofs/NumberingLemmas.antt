@@ -6,15 +6,12 @@ use Rattle.std.proofs.lemmas.Bool.Decides.{nat_tests}
 use Rattle.std.proofs.lemmas.List.Elements.{filter_map-append}
 use Rattle.std.proofs.lemmas.Nat.{div-mul-add, le-div, mod-mul-add, mul-le}
 use Rattle.tick_set.specs.Ticks.{between}
-use Rattle.kept_rows.specs.declared.binding.Variable.{Variable}
 use Rattle.kept_rows.specs.Numbers.{counts, size_of}
+use Rattle.kept_rows.proofs.NumberLemmas.{size-some}
 use Rattle.meaning.specs.Binding.{product}
 use Rattle.live_queries.specs.Columns.{AreCounted, Column, column_variables}
 use Rattle.exact.proofs.Items.{range_append}
-
-pub size_some : (vs : List Variable) → 1 ≤ size_of vs
-size_some [] = omega arith
-size_some (v ∷ vs) = mul-le 1 1 v.capacity (size_of vs) v.some (size_some vs)
+use Rattle.evaluator.proofs.FullLemmas.{between_more}
 
 -- the objects of a number, column by column
 abbrev pub objects_at : List Column → ℕ → List ℕ
@@ -38,12 +35,6 @@ between_split a m b h l =
     ap (range_with_len a) (let e : b - a ≡ (m - a) + (b - m) = omega (arith, h, l) in e)
     ∙ range_append (m - a) (b - m) a
     ∙ ap (λ c. range_with_len a (m - a) ++ range_with_len c (b - m)) (let e : a + (m - a) ≡ m = omega (arith, h) in e)
-
-pub between_more : (n : ℕ) → between 0 (n + 1) ≡ between 0 n ++ n ∷ []
-unfolding between
-between_more n =
-    between_split 0 n (n + 1) (omega arith) (omega arith)
-    ∙ ap (λ k. range_with_len 0 (n - 0) ++ range_with_len n k) (let e : n + 1 - n ≡ 1 = omega arith in e)
 
 pub between_no : between 0 0 ≡ []
 unfolding between
@@ -127,7 +118,7 @@ module _ {X : Type 0} where
     places_from later [] p count same =
         sym (between_none here (p * width) (c.numbers.capacity * width)
         (λ n from below. place_is n (n / width) (n % width) false (slice_index c.ids (n / width)) refl refl
-        (not_less (n / width) c.numbers.count (omega (arith, le-div p n width (size_some (column_variables cs)) from, count))) refl))
+        (not_less (n / width) c.numbers.count (omega (arith, le-div p n width (size-some (column_variables cs)) from, count))) refl))
     places_from later (y ∷ ys) p count same =
         let object : slice_index c.ids p ≡ y = sym (same 0 (omega arith) ∙ ap (slice_index c.ids) (let e : p + 0 ≡ p = omega arith in e)) in
         let below : p < c.numbers.count = omega (arith, count) in

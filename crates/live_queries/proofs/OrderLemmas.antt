@@ -12,6 +12,7 @@ use Rattle.formula_shape.specs.declared.limits.TheConstants.{OBJECT_LIMIT}
 use Rattle.live_queries.specs.Columns.{Column, columns_have, order_of}
 use Rattle.exact.proofs.Naturals.{below_from_test, equals_itself, same_from_equal, test_below}
 use Rattle.exact.proofs.Truths.{false_from_not}
+use Rattle.relation.proofs.UnionLemmas.{distinct_kept}
 
 abbrev pub among : List ℕ → ℕ → Bool
 among xs v = list_any (λ u. u == v) xs
@@ -49,18 +50,6 @@ distinct_append (x ∷ xs) ys a b apart =
 distinct_if : (b : Bool) (x : ℕ) (rest : List ℕ) → among rest x ≡ false → are_distinct rest ≡ true → are_distinct (if b then x ∷ rest else rest) ≡ true
 distinct_if true x rest none distinct = and_from (not (among rest x)) (are_distinct rest) (not_from_false (among rest x) none) distinct
 distinct_if false x rest none distinct = distinct
-
-distinct_kept : (test : ℕ → Bool) (xs : List ℕ) → are_distinct xs ≡ true → are_distinct (filter test xs) ≡ true
-distinct_kept test [] distinct = refl
-distinct_kept test (x ∷ xs) distinct =
-    let parts = and_parts (not (among xs x)) (are_distinct xs) distinct in
-    distinct_if (test x) x (filter test xs)
-    (among_kept test xs x ∙ and_none (test x) (among xs x) (false_from_not (among xs x) parts.0))
-    (distinct_kept test xs parts.1)
-  where
-    and_none : (a b : Bool) → b ≡ false → (a && b) ≡ false
-    and_none true b f = f
-    and_none false b f = refl
 
 -- ---- the order of a query
 

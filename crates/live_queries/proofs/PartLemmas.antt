@@ -27,9 +27,9 @@ use Rattle.live_queries.specs.declared.parts.Single.{Single}
 use Rattle.live_queries.specs.Asked.{class_in}
 use Rattle.live_queries.specs.Prepared.{is_of_class}
 use Rattle.live_queries.specs.Written.{ArePartsOf, domains_for, parts_have, single_for}
-use Rattle.live_queries.proofs.NumberingLemmas.{between_more}
 use Rattle.live_queries.proofs.ObjectLemmas.{ids_from, is_in_class, mapped_append}
 use Rattle.exact.proofs.Naturals.{equals_itself, same_from_equal}
+use Rattle.evaluator.proofs.FullLemmas.{between_more}
 
 -- ---- the class of a variable
 

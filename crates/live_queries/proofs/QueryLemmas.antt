@@ -10,14 +10,14 @@ use Rattle.kept_rows.specs.Listing.{line_of, lines_upto, passing_of, when_differ
 use Rattle.kept_rows.specs.Moves.{Moved, if_moved, move_of}
 use Rattle.kept_rows.specs.declared.binding.TheConstants.{BINDING_LIMIT}
 use Rattle.kept_rows.specs.Numbers.{size_of}
+use Rattle.kept_rows.proofs.ListingLemmas.{listed-none}
+use Rattle.kept_rows.proofs.NumberLemmas.{size-some}
 use Rattle.meaning.specs.Registered.{first_tick}
 use Rattle.live_queries.specs.Columns.{Column, column_variables}
 use Rattle.live_queries.specs.Current.{row_at}
 use Rattle.live_queries.specs.Kept.{KeptQuery}
 use Rattle.live_queries.specs.Told.{listed_lines, target_count, target_times, target_width}
 use Rattle.live_queries.proofs.JoinedLemmas.{size_joined}
-use Rattle.live_queries.proofs.AnswerLemmas.{none_listed}
-use Rattle.live_queries.proofs.NumberingLemmas.{size_some}
 use Rattle.live_queries.proofs.ListLemmas.{lines_below, lines_none}
 
 -- an answer whose first tick is past the expiry is empty
@@ -26,7 +26,7 @@ late_lines k now late =
     let from : ℕ = first_tick k.kind k.entry now in
     lines_none (line_of (target_times k (row_at k)) from k.expiry)
     (λ n. ap (λ runs. with_runs n runs) (ap runs_of (same_listed (target_times k (row_at k) n) (λ t. false) from k.expiry (λ t a b. absurd (never from k.expiry t late a b))
-    ∙ none_listed (λ t. false) from k.expiry (λ t. refl)))) (target_count k)
+    ∙ listed-none (λ t. false) from k.expiry (λ t. refl)))) (target_count k)
   where
     never : (u v t : ℕ) → v < u → u ≤ t → t ≤ v → ⊥
     never u v t h a b = omega (arith, h, a, b)
@@ -82,12 +82,12 @@ module _ (m : ℕ) (cs : List Column) (few : size_of (column_variables cs) ≤ B
 
   pub front_few : front_size ≤ BINDING_LIMIT
   front_few =
-      let more : front_size * 1 ≤ front_size * back_size = mul-le-mul_left front_size (size_some (column_variables (drop m cs))) in
+      let more : front_size * 1 ≤ front_size * back_size = mul-le-mul_left front_size (size-some (column_variables (drop m cs))) in
       omega (arith, more, parted_size, few)
 
   pub back_few : size_of (column_variables (take (length cs - m) (drop m cs))) ≤ BINDING_LIMIT
   back_few =
-      let more : 1 * back_size ≤ front_size * back_size = mul-le-mul_right back_size (size_some (column_variables (take m cs))) in
+      let more : 1 * back_size ≤ front_size * back_size = mul-le-mul_right back_size (size-some (column_variables (take m cs))) in
       let same : size_of (column_variables (take (length cs - m) (drop m cs))) ≡ back_size = ap (λ ds. size_of (column_variables ds)) all_back in
       omega (arith, more, parted_size, few, same)
 

@@ -1,4 +1,4 @@
--- Renewals that are told by the queries that are touched.
+-- For this crate and for the crates above: renewals that are told by the queries that are touched.
 use Rattle.std.proofs.Common.{◌≡◌, ℕ, zero, suc, ◌+◌, ◌-◌, ◌<◌, ◌≤◌, Bool, true, false, not, ◌&&◌, List, [], ◌∷◌, ◌++◌, length, map, take, drop, refl, sym, ap, ◌∙◌, subst, arith, if◌then◌else◌}
 use Rattle.std.specs.Prelude.{All, None, nat_le}
 use Rattle.std.proofs.lemmas.List.Elements.{All-append, All-cons, All-head, All-nil, All-tail}
@@ -7,6 +7,7 @@ use Rattle.tick_set.specs.Runs.{runs_of}
 use Rattle.tick_set.specs.Ticks.{within}
 use Rattle.kept_rows.specs.Listing.{lines_upto}
 use Rattle.kept_rows.specs.Moves.{difference, if_moved, move_between, move_of}
+use Rattle.kept_rows.proofs.ListingLemmas.{listed-none}
 use Rattle.meaning.specs.Registered.{first_tick}
 use Rattle.live_queries.specs.declared.fresh.Renewal.{Renewal}
 use Rattle.live_queries.specs.declared.fresh.Touched.{Touched}
@@ -16,7 +17,6 @@ use Rattle.live_queries.specs.Kept.{IsKeptQuery, KeptQuery}
 use Rattle.live_queries.specs.Prepared.{AreColumnsWith, AreMade, ArePrepared, IsMade, IsReadyFor}
 use Rattle.live_queries.specs.Told.{changes_of, move, moves_of, target_count, target_times}
 use Rattle.live_queries.specs.Untouched.{spread, untouched, untouched_before}
-use Rattle.live_queries.proofs.AnswerLemmas.{none_listed}
 use Rattle.live_queries.proofs.ListLemmas.{lines_none}
 use Rattle.exact.proofs.Truths.{and_not}
 
@@ -65,7 +65,7 @@ prepared_at class (suc n) [] r rs is = absurd is
 prepared_at class (suc n) (k ∷ ks) r rs is =
     let later = prepared_at class n ks r rs is.1 in (omega (arith, later.0), later.1)
 
-same_columns : (cs : List Column) → AreSameColumns cs cs
+pub same_columns : (cs : List Column) → AreSameColumns cs cs
 same_columns [] = tt
 same_columns (c ∷ cs) = (refl, refl, same_columns cs)
 
@@ -112,7 +112,7 @@ kept_back (suc n) (k ∷ ks) kept = kept_back n ks (All-tail IsKeptQuery k ks ke
 -- ---- what it changes for targets
 
 none_differ : (p : ℕ → Bool) (from e : ℕ) → difference p p from e ≡ []
-none_differ p from e = ap runs_of (none_listed (λ t. p t && not (p t)) from e (λ t. and_not (p t)))
+none_differ p from e = ap runs_of (listed-none (λ t. p t && not (p t)) from e (λ t. and_not (p t)))
 
 no_move : (p : ℕ → Bool) (from e now target : ℕ) → move_between p p from e now target ≡ None
 no_move p from e now target =

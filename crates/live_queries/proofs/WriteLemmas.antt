@@ -26,6 +26,8 @@ use Rattle.kept_rows.specs.Changes.{rows_after}
 use Rattle.kept_rows.specs.Listing.{lines_between, lines_upto, target_has}
 use Rattle.kept_rows.specs.Moves.{difference, if_moved, move_between, move_of}
 use Rattle.kept_rows.specs.Numbers.{counts, size_of}
+use Rattle.kept_rows.proofs.ListingLemmas.{listed-none}
+use Rattle.kept_rows.proofs.NumberLemmas.{size-some}
 use Rattle.meaning.specs.Agreement.{world_with}
 use Rattle.meaning.specs.Binding.{holds_full, holds_target, tuple_of, tuples}
 use Rattle.meaning.specs.Registered.{Change, change_of, changes_of_write, is_change}
@@ -34,11 +36,11 @@ use Rattle.live_queries.specs.Current.{IsCurrentFor, row_at, told_from}
 use Rattle.live_queries.specs.Kept.{IsKeptQuery, KeptQuery, registered_query}
 use Rattle.live_queries.specs.Renewed.{AddsAtMost, IsRenewed}
 use Rattle.live_queries.specs.Told.{Told, key_of, move, moves_of, target_count, target_width, told_changes}
-use Rattle.live_queries.proofs.AnswerLemmas.{filter_mapped, first_after, first_before, listed_targets, mapped_filtered, none_listed, told}
+use Rattle.live_queries.proofs.AnswerLemmas.{filter_mapped, first_after, first_before, listed_targets, mapped_filtered, told}
 use Rattle.live_queries.proofs.ColumnLemmas.{AreGrown, IsGrown, column_cases, counts_more, new_or_before, same_size}
 use Rattle.live_queries.proofs.CurrentLemmas.{columns_grow}
 use Rattle.live_queries.proofs.JoinedLemmas.{each_object, has_id, objects_are}
-use Rattle.live_queries.proofs.NumberingLemmas.{at_number, between_none, between_same, objects_at, size_some}
+use Rattle.live_queries.proofs.NumberingLemmas.{at_number, between_none, between_same, objects_at}
 use Rattle.live_queries.proofs.ObjectLemmas.{ids_from, is_in_class}
 use Rattle.live_queries.proofs.OrderLemmas.{all_less}
 use Rattle.live_queries.proofs.ProductLemmas.{any_product_found, chosen_at}
@@ -66,7 +68,7 @@ none_inside p lo hi t inside none =
     ap (λ b. b && p t) (sym inside) ∙ sym (has_listed p lo hi t) ∙ ap (λ ts. has ts t) (no_ticks (listed p lo hi) none)
 
 all_false : (p : ℕ → Bool) (lo hi : ℕ) → AgreeIn lo hi p (λ t. false) → runs_of (listed p lo hi) ≡ []
-all_false p lo hi none = ap runs_of (same_listed p (λ t. false) lo hi none ∙ none_listed (λ t. false) lo hi (λ t. refl))
+all_false p lo hi none = ap runs_of (same_listed p (λ t. false) lo hi none ∙ listed-none (λ t. false) lo hi (λ t. refl))
 
 -- ---- one target
 
@@ -265,7 +267,7 @@ module _ (old new : World) (k : KeptQuery) (ds : List Column) (pages : List (Lis
     added_key : counts (column_variables fronts') n ≡ true → key_of id k n ≡ objects_at fronts' n
     added_key there =
         ap (λ m. map (object_or id k.columns m) k.query.targets) (let e : n * target_width k ≡ n * target_width k + 0 = omega arith in e)
-        ∙ target_objects old now k is current n few id 0 (size_some (column_variables (drop (length k.query.targets) k.columns))) k.query.targets
+        ∙ target_objects old now k is current n few id 0 (size-some (column_variables (drop (length k.query.targets) k.columns))) k.query.targets
         (λ v has. front_has old now k is current v ∙ has)
         ∙ (λ i. map (λ v. added_object New id fronts fronts' fronts_grow n there v i) k.query.targets)
         ∙ ap (map (object_at_number fronts' n)) (sym (target_variables new now k' is' current'))
@@ -361,7 +363,7 @@ module _ (old new : World) (k : KeptQuery) (ds : List Column) (pages : List (Lis
         ]
       where
         nothing : runs_of (listed (λ t. false && not false) from k.expiry) ≡ []
-        nothing = ap runs_of (none_listed (λ t. false) from k.expiry (λ t. refl))
+        nothing = ap runs_of (listed-none (λ t. false) from k.expiry (λ t. refl))
 
     all_told : map (told k) (filter is_change (map became (tuples new k.query))) ≡ filter_map (at_number told_key fronts') (between 0 (target_count k'))
     all_told =

@@ -1,4 +1,4 @@
--- The ticks of rows, and the answer as the union of the rows of bindings.
+-- For this crate and for the crates above: the ticks of rows, and the answer as the union of the rows of bindings.
 use Rattle.std.proofs.Common.{◌≡◌, ℕ, zero, suc, ◌+◌, ◌<◌, ◌≤◌, Bool, true, false, ◌&&◌, ◌||◌, List, [], ◌∷◌, length, map, refl, sym, ap, ◌∙◌, inl, inr, arith, if◌then◌else◌}
 use Rattle.std.specs.Prelude.{◌==◌, nat_le, nat_lt, slice_index}
 use Rattle.std.specs.List.{flat_map, list_all, list_any}
@@ -59,12 +59,12 @@ runs_have_listed p from e t = runs_of-has (listed p from e) t ∙ has_listed p f
 
 -- ---- the ticks of rows
 
-no_ticks : (runs : List (ℕ × ℕ)) (t : ℕ) → has_ticks runs ≡ false → runs_have runs t ≡ false
+pub no_ticks : (runs : List (ℕ × ℕ)) (t : ℕ) → has_ticks runs ≡ false → runs_have runs t ≡ false
 no_ticks [] t none = refl
 no_ticks (run ∷ runs) t none = let wrong : true ≡ false = none in cc
 
 -- a row without ticks adds none
-one_row : (test : List ℕ → Bool) (row : Row) (rows : List Row) (t : ℕ) (there : Bool) → has_ticks row.runs ≡ there →
+pub one_row : (test : List ℕ → Bool) (row : Row) (rows : List Row) (t : ℕ) (there : Bool) → has_ticks row.runs ≡ there →
     rows_have (if there then row ∷ rows else rows) test t ≡ (test row.key && runs_have row.runs t || rows_have rows test t)
 one_row test row rows t true is = refl
 one_row test row rows t false is = grind (arith, no_ticks row.runs t is)

@@ -1,4 +1,4 @@
--- The states of a binding's objects, and the values that assignments bind, are within their bounds.
+-- For this crate and for the crates above: the states of a binding's objects, and the values that assignments bind, are within their bounds.
 use Rattle.std.proofs.Common.{◌≡◌, ℕ, zero, suc, ◌+◌, ◌≤◌, ℤ, pos, unsigned_abs, Bool, true, false, Option, None, Some, List, [], ◌∷◌, map, refl, sym, ap, ◌∙◌, inl, inr, arith, if◌then◌else◌}
 use Rattle.std.specs.Prelude.{◌==◌, nat_le, option_and_then, slice_get, slice_index}
 use Rattle.std.specs.List.{enumerate_from, filter, list_any}
@@ -65,7 +65,7 @@ placed : (class first id : ℕ) (objects : List ObjectInfo) → list_any (λ i. 
 placed class first id [] has = absurd (false≢true has)
 placed class first id (x ∷ objects) has = placed_first class first id x objects (x.class == class) refl (placed class (first + 1) id objects) has
 
-variable_class : (classes : List ClassInfo) (number : Option ℕ) (k : ClassInfo) → option_and_then (slice_get classes) number ≡ Some k →
+pub variable_class : (classes : List ClassInfo) (number : Option ℕ) (k : ClassInfo) → option_and_then (slice_get classes) number ≡ Some k →
     (m : ℕ) × (number ≡ Some m) × (slice_get classes m ≡ Some k)
 variable_class classes None k is = no_value k is
 variable_class classes (Some m) k is = (m, refl, is)

@@ -1,4 +1,4 @@
--- How the pieces of a timeline lie.
+-- For this crate and for the crates above: how the pieces of a timeline lie.
 use Rattle.std.proofs.Common.{◌≡◌, ℕ, pos, zero, suc, ◌+◌, ◌-◌, ◌+ℤ◌, ◌*ℤ◌, ◌<◌, ◌≤◌, ◌⊎◌, Bool, true, false, ◌||◌, ◌&&◌, max, min, None, Some, is_some, List, [], ◌∷◌, ◌++◌, length, take, take_all, get_or, refl, sym, ap, subst, ◌∙◌, inl, inr, arith}
 use Rattle.std.specs.Prelude.{◌==◌, IfSome, slice_get, if◌then◌else◌}
 use Rattle.std.specs.List.{list_any}
@@ -24,7 +24,7 @@ use Rattle.motion.proofs.LegLemmas.{NoneEnds, legs_slope-steady, legs_rise-stead
 use Rattle.motion.proofs.TimelineLemmas.{at_each, closed, each_past, epoch_at-split, from_each, in_force_of, opened}
 use Rattle.exact.proofs.Truths.{both_false}
 
-IsCellAt-later : (cell : Cell) (s t : ℕ) → s ≤ t → IsCellAt cell s → IsCellAt cell t
+pub IsCellAt-later : (cell : Cell) (s t : ℕ) → s ≤ t → IsCellAt cell s → IsCellAt cell t
 IsCellAt-later (kinds.Num n) s t h written = written
 IsCellAt-later (kinds.Text w) s t h written = written
 IsCellAt-later (kinds.Dyn v) s t h written = omega (arith, written)

@@ -10,6 +10,7 @@ use Rattle.motion.specs.Cells.{AreCellsAt, IsCellAt}
 use Rattle.std.specs.Option.{option_and_then}
 use Rattle.std.proofs.lemmas.List.Elements.{All-tail}
 use Rattle.motion.specs.Timeline.{Epoch, cells_of, epoch_at, state_at}
+use Rattle.motion.proofs.PieceLemmas.{AreCellsAt-later}
 use Rattle.csv.specs.Writing.{default_writer, row_text}
 use Rattle.history.specs.Catalog.{ClassInfo, ObjectInfo, attributes_of_class, ids_of}
 use Rattle.history.specs.History.{History}
@@ -33,14 +34,6 @@ later_found (p ∷ epochs) t found begun = later_found epochs t (cond (nat_le p.
 pub epoch_begun : (epochs : List Epoch) (t : ℕ) (p : Epoch) → Some p ≡ epoch_at epochs t → p.from ≤ t
 epoch_begun epochs t p at = rw (sym at) at (later_found epochs t None tt)
 
-cell_later : (cell : Cell) (s t : ℕ) → s ≤ t → IsCellAt cell s → IsCellAt cell t
-cell_later (cells.Num n) s t by is = is
-cell_later (cells.Text w) s t by is = is
-cell_later (cells.Dyn v) s t by is = omega (arith, by, is)
-
-pub cells_later : (object : List Cell) (s t : ℕ) → s ≤ t → AreCellsAt object s → AreCellsAt object t
-cells_later object s t by are = λ k d within. cell_later _ s t by (are k d within)
-
 pub state_is : (epochs : List Epoch) (t : ℕ) (p : Epoch) (object : List Cell) → Some p ≡ epoch_at epochs t → is_some p.cells ≡ true → object ≡ cells_of p
     → Some object ≡ state_at epochs t
 state_is epochs t p object at present are = ap Some are ∙ there p.cells present ∙ ap (option_and_then (λ (q : Epoch). q.cells)) at
@@ -58,7 +51,7 @@ state_none epochs t p b at present absent = gone p.cells (λ h. sym (present h) 
     gone (Some x) h = absurd (cc (h refl))
 
 pub state_written : (epochs : List Epoch) (t : ℕ) (p : Epoch) (object : List Cell) → Some p ≡ epoch_at epochs t → AreCellsAt object p.from → AreCellsAt object t
-state_written epochs t p object at are = cells_later object p.from t (epoch_begun epochs t p at) are
+state_written epochs t p object at are = AreCellsAt-later object p.from t (epoch_begun epochs t p at) are
 
 pub ruleset state_steps = (state_is, state_none, state_written)
 

@@ -9,6 +9,7 @@ use Rattle.csv.specs.Reading.{default_config, records, strip_bom}
 use Rattle.fixed_point.specs.Canonical.{fix_text, three_digits, without_last_zeros}
 use Rattle.fixed_point.specs.Decimal.{decimals_text}
 use Rattle.fixed_point.specs.Laws.{ReadsEachDecimal}
+use Rattle.fixed_point.proofs.CanonicalLemmas.{point_length}
 use Rattle.motion.specs.Function.{Function}
 use Rattle.motion.specs.declared.cell.Given.{Given}
 use Rattle.motion.specs.declared.cell.Given.TheVariants as givens
@@ -18,6 +19,7 @@ use Rattle.history.specs.Write.{Attribute}
 use Rattle.ftl_lexer.specs.declared.buffer.TheConstants.{LEXER_LIMIT}
 use Rattle.command_text.specs.Shape.{AreLegs, IsLeg, IsPrintable, IsPrintableGiven, IsSetting, IsValue}
 use Rattle.command_text.specs.Text.{given_value_text, rate_leg_text, rates_text, setting_text, settings_text, text_of}
+use Rattle.command_text.proofs.canonical.TextLengths.{rate_leg_size}
 use Rattle.object_rows.specs.declared.columns.Column.{Column}
 use Rattle.object_rows.specs.declared.rows.ObjectRow.{ObjectRow}
 use Rattle.object_rows.specs.Columns.{columns_of}
@@ -37,10 +39,6 @@ take_short (suc n) (d ∷ digits) = omega (arith, take_short n digits)
 zeros_short : (digits : List ℕ) → length (without_last_zeros digits) ≤ length digits
 zeros_short digits = take_short _ digits
 
-point_short : (digits : List ℕ) → length (decimals_text digits) ≤ length digits + 1
-point_short [] = omega arith
-point_short (d ∷ digits) = omega arith
-
 fix_parts : (v : ℤ) → fix_text v
     ≡ (sign_text (is_negative v) ++ decimal (unsigned_abs v / 1000)) ++ decimals_text (without_last_zeros (three_digits (unsigned_abs v % 1000)))
 unfolding fix_text
@@ -55,20 +53,17 @@ fix_short v small =
     let ten : length whole ≤ 10 = length-decimal-le 10 (unsigned_abs v / 1000) (omega arith) (omega (arith, small)) (omega (arith, small)) in
     let front : length (sign ++ whole) ≡ length sign + length whole = length-append sign whole in
     let all : length ((sign ++ whole) ++ point) ≡ length (sign ++ whole) + length point = length-append (sign ++ whole) point in
-    omega (arith, ap length (fix_parts v), all, front, sign_short (is_negative v), ten, point_short (without_last_zeros digits), zeros_short digits)
+    omega (arith, ap length (fix_parts v), all, front, sign_short (is_negative v), ten, point_length (without_last_zeros digits), zeros_short digits)
 
 value_short : (v : ℤ) → IsValue v → length (fix_text v) ≤ 15
 value_short v is = fix_short v (omega (arith, is))
 
 -- ---- The texts of settings
 
-leg_size : (a : ℤ) (n : ℕ) → length (rate_leg_text (a, n)) ≡ length (fix_text a) + length (decimal n) + 4
-leg_size a n = simp length-append (omega arith)
-
 leg_short : (leg : ℤ × ℕ) → IsLeg leg → length (rate_leg_text leg) ≤ 29
 leg_short (a, n) is =
     let ten : length (decimal n) ≤ 10 = length-decimal-le 10 n (omega arith) (omega (arith, is.1.1)) (omega (arith, is.1.1)) in
-    omega (arith, leg_size a n, fix_short a (omega (arith, is.0)), ten)
+    omega (arith, rate_leg_size a n, fix_short a (omega (arith, is.0)), ten)
 
 legs_short : (legs : List (ℤ × ℕ)) → AllByRecursion IsLeg legs → length (flat_map rate_leg_text legs) ≤ 29 * length legs
 legs_short [] are = omega arith

@@ -1,4 +1,4 @@
--- What an accepted write to an object changes of the history that a store tells.
+-- For this crate and for the crates above: what an accepted write to an object changes of the history that a store tells.
 use Rattle.std.proofs.Common.{◌≡◌, ℕ, zero, suc, ◌<◌, ◌==◌, Bool, true, false, None, Some, List, [], ◌∷◌, ◌++◌, map, length, take, refl, sym, ap, ◌∙◌, if◌then◌else◌, append-nil}
 use Rattle.std.specs.Prelude.{slice_get, option_and_then, option_map}
 use Rattle.std.specs.List.{find, list_any, position}
@@ -82,7 +82,7 @@ known_changes s name p id sound after at = record {
 
 -- ---- one of a new name
 
-pushed_others : {X : Type 0} (xs : List X) (x : X) (i : ℕ) → (i == length xs) ≡ false → slice_get (xs ++ x ∷ []) i ≡ slice_get xs i
+pub pushed_others : {X : Type 0} (xs : List X) (x : X) (i : ℕ) → (i == length xs) ≡ false → slice_get (xs ++ x ∷ []) i ≡ slice_get xs i
 pushed_others [] x zero other = not_itself 0 other
 pushed_others [] x (suc i) other = refl
 pushed_others (y ∷ ys) x zero other = refl

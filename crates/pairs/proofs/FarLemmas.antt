@@ -7,8 +7,8 @@ use Rattle.std.proofs.lemmas.Int.{ints, by_lt_z, unsigned_abs-mul}
 use Rattle.case_table.specs.Comparison.{compares, is_at_most}
 use Rattle.case_table.specs.declared.compare.Op.{Op}
 use Rattle.case_table.specs.declared.compare.Op.TheVariants.{Lt, Le, Eq, Ne, Ge, Gt}
-use Rattle.exact.proofs.Ring.{part, number, sum, difference, product, opposite, same}
-use Rattle.exact.proofs.Integers.{less_by, line_later, not_negative, opposite_above, opposite_rise, product_least, sum_above_by_first, sum_above_by_second}
+use Rattle.exact.proofs.Ring.{part, number, sum, difference, product, same}
+use Rattle.exact.proofs.Integers.{less_by, line_later, not_negative, sum_above_by_first, sum_above_by_second}
 use Rattle.geometry.specs.Distance.{distance_compares}
 use Rattle.geometry.specs.Plane.{square}
 use Rattle.linear_crossing.proofs.Apart.{apart}
@@ -16,20 +16,13 @@ use Rattle.linear_crossing.specs.Moving.{distance_after, position_after}
 use Rattle.linear_crossing.specs.Relative.{Relative, squared_distance_at}
 use Rattle.linear_crossing.specs.declared.quad.Line.{Line}
 use Rattle.distance_crossing.proofs.Signs.{product_above, square_least}
+use Rattle.distance_crossing.proofs.FarLemmas.{fall_most, rise_least}
 use Rattle.pairs.specs.Reach.{IsReached}
 use Rattle.pairs.specs.declared.reach.Reach.{Reach}
 use Rattle.atoms.specs.Routes.{IsPast}
+use Rattle.atoms.proofs.RouteLemmas.{square_past}
 
 -- ---- a coordinate that begins at x and changes by d at each tick
-rise_least : (d : ℤ) (k : ℕ) → pos 0 ≤ℤ d → pos 0 ≤ℤ (d *ℤ pos k)
-rise_least d k p = product_least d (pos k) p (omega (arith, ints))
-
-fall_most : (d : ℤ) (k : ℕ) → d <ℤ pos 0 → (d *ℤ pos k) ≤ℤ pos 0
-fall_most d k n =
-    let opposed = rise_least (neg_ℤ d) k (omega (arith, ints)) in
-    let is = opposite_rise d k in
-    omega (arith, ints, opposed, is)
-
 -- it is between where it begins and where it is at the last tick
 between : (x d : ℤ) (k m : ℕ) →
     ((x ≤ℤ (x +ℤ d *ℤ pos k)) × ((x +ℤ d *ℤ pos k) ≤ℤ (x +ℤ d *ℤ pos (k + m)))) ⊎ (((x +ℤ d *ℤ pos (k + m)) ≤ℤ (x +ℤ d *ℤ pos k)) × ((x +ℤ d *ℤ pos k) ≤ℤ x))
@@ -69,17 +62,6 @@ square_above : (c v : ℤ) → pos 0 ≤ℤ c → c <ℤ v → square c <ℤ squ
 square_above c v p l =
     let P : ℤ → Type 0 = λ z. pos 0 <ℤ z in
     less_by (square c) (square v) (subst P (squares_apart c v) (product_above (v -ℤ c) (v +ℤ c) (omega (arith, ints)) (omega (arith, ints))))
-
-opposite_square : (v : ℤ) → square (neg_ℤ v) ≡ square v
-opposite_square v = same (product (opposite (part v)) (opposite (part v))) (product (part v) (part v)) (omega arith)
-
-square_below : (c v : ℤ) → pos 0 ≤ℤ c → v <ℤ neg_ℤ c → square c <ℤ square v
-square_below c v p l =
-    let P : ℤ → Type 0 = λ z. square c <ℤ z in
-    subst P (opposite_square v) (square_above c (neg_ℤ v) p (opposite_above c v l))
-
-square_past : (c v : ℤ) → pos 0 ≤ℤ c → IsPast c v → square c <ℤ square v
-square_past c v p h = elim h [ inl above ↦ square_above c v p above | inr below ↦ square_below c v p below ]
 
 -- past the other on one axis, it is further away than that
 pub far_by_first : (c u v : ℤ) → pos 0 ≤ℤ c → IsPast c u → square c <ℤ (square u +ℤ square v)

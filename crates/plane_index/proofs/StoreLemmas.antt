@@ -9,6 +9,7 @@ use Rattle.motion.specs.Timeline.{Epoch, cells_of, epoch_at, state_at, AreBegunB
 use Rattle.motion.specs.Dynamic.{Dynamic, value_at}
 use Rattle.motion.specs.declared.cell.Cell.{Cell}
 use Rattle.motion.specs.declared.cell.Cell.TheVariants as cells
+use Rattle.motion.proofs.CallerLemmas.{AreBegunBy-later}
 use Rattle.plane.specs.Rows.{is_between}
 use Rattle.history.specs.History.{cells_at}
 use Rattle.object_store.specs.Contents.{Contents, StoredObject, history_of}
@@ -52,9 +53,6 @@ begun_by_last low p (q ∷ epochs) rising is =
     let e : length (q ∷ epochs) - 1 ≡ length epochs = omega arith in
     (last_of low p q epochs rising (ap (slice_get (q ∷ epochs)) (sym e) ∙ is)).1
 
-begun_later : (epochs : List Epoch) (s t : ℕ) → s ≤ t → AreBegunBy epochs s → AreBegunBy epochs t
-begun_later epochs s t h by = λ k d l. omega (arith, by k d l)
-
 of_last : (epochs : List Epoch) (p : Epoch) → slice_get epochs (length epochs - 1) ≡ Some p → last_begun epochs ≡ p.from
 of_last epochs p is = ap (λ (e : Option Epoch). option_map_or (λ (x : Epoch). x.from) e 0) is
 
@@ -66,7 +64,7 @@ by_last epochs p g s rising is in_force =
     ∙ ap (λ zs. option_map (strips_of g.width) (box_of zs))
     (same_numbers (λ t. number_in_cells (state_at epochs t) g.attribute t) (number_in_cells p.cells g.attribute) (max (slice_first g s) p.from) (slice_last g s + 1)
     (λ t after before. ap (λ (e : Option Epoch). number_in_cells (option_and_then (λ (x : Epoch). x.cells) e) g.attribute t)
-    (sym (in_force t (begun_later epochs p.from t (omega arith) begun)))))
+    (sym (in_force t (AreBegunBy-later epochs p.from t (omega arith) begun)))))
 
 same_cell : (there : Option (List Cell)) (a : ℕ) → slice_get (unwrap_or there []) a ≡ cell_in there a
 same_cell None a = refl

@@ -15,6 +15,7 @@ use Rattle.tick_set.specs.Runs.{IsRuns}
 use Rattle.tick_set.specs.Ticks.{within}
 use Rattle.tick_set.specs.declared.spans.Span.{Span}
 use Rattle.tick_set.specs.declared.spans.Window.{Window}
+use Rattle.tick_set.proofs.Between.{within_parts}
 use Rattle.linear_crossing.specs.declared.linear.Pair.{Pair}
 use Rattle.linear_crossing.specs.declared.quad.Line.{Line}
 use Rattle.linear_crossing.specs.Moving.{position_after}
@@ -112,16 +113,13 @@ in_second lo hi t other p q l m e = (grind (arith, nat_tests), grind (arith, nat
 in_neither : (lo hi lo' hi' wlo whi t : ℕ) (q : Bool) → hi < t → t < lo' → wlo ≤ t → t ≤ whi → (within lo hi t || (within lo' hi' t || false)) ≡ (within wlo whi t && q) → q ≡ false
 in_neither lo hi lo' hi' wlo whi t q l m n o e = grind (arith, nat_tests)
 
-window_ends : (lo hi t : ℕ) → within lo hi t ≡ true → (lo ≤ t) × (t ≤ hi)
-window_ends lo hi t h = (grind (arith, nat_tests), grind (arith, nat_tests))
-
 two_runs : (a b : ℤ) (w : Window) (s u : Span) → IsRuns (solves a b Ge w) (s ∷ u ∷ []) → ⊥
 two_runs a b w s u h =
     let apart : s.hi + 2 ≤ u.lo = h.normal.1.0 in
     let first = in_first s.lo s.hi s.hi _ (within w.lo w.hi s.hi) (int_le (pos 0) (line_at a b w.lo s.hi)) s.ordered (omega arith) (h.ticks s.hi) in
     let last = in_second u.lo u.hi u.lo _ (within w.lo w.hi u.lo) (int_le (pos 0) (line_at a b w.lo u.lo)) (omega arith) u.ordered (h.ticks u.lo) in
-    let from = window_ends w.lo w.hi s.hi first.0 in
-    let upto = window_ends w.lo w.hi u.lo last.0 in
+    let from = within_parts w.lo w.hi s.hi first.0 in
+    let upto = within_parts w.lo w.hi u.lo last.0 in
     let below = in_neither s.lo s.hi u.lo u.hi w.lo w.hi (s.hi + 1) (int_le (pos 0) (line_at a b w.lo (s.hi + 1))) (omega arith) (omega arith) (omega arith) (omega arith) (h.ticks (s.hi + 1)) in
     no_gap a b w.lo s.hi u.lo (omega arith) first.1 below last.1
 

@@ -28,7 +28,8 @@ use Rattle.database.specs.declared.database.Database.{Database}
 use Rattle.database.specs.Keeping.{clock_of, world_of_database}
 use Rattle.registry.specs.Registers.{info_for}
 use Rattle.registry.specs.Standing.{Stand, registration_of}
-use Rattle.registry.proofs.NameLemmas.{any_found, named_either, own_bytes, query_is}
+use Rattle.registry.proofs.NameLemmas.{any_found, named_either, query_is}
+use Rattle.exact.proofs.Lists.{bytes_eq_refl}
 
 abbrev is_named : List ℕ → KeptQuery → Bool
 is_named name k = bytes_eq k.name name
@@ -62,7 +63,7 @@ module _ (d : Database) (name : List ℕ) (kind : QueryKind) (span : ℕ) (q : R
   added_name = ap (λ (i : Info). i.name) adds.is.info
 
   added_is_named : is_named name adds.added ≡ true
-  added_is_named = ap (λ n. bytes_eq n name) added_name ∙ own_bytes name
+  added_is_named = ap (λ n. bytes_eq n name) added_name ∙ bytes_eq_refl name
 
   -- the queries with the added one stand
   pub still_stand : Stand d old → Stand d new

@@ -1,5 +1,5 @@
 -- The refusals of a query that is to be registered, by what was judged of it.
-use Rattle.std.proofs.Common.{◌≡◌, ℕ, ◌+◌, ◌-◌, ◌≤◌, ◌<◌, Bool, true, false, ◌||◌, Option, None, Some, List, [], ◌∷◌, length, refl, sym, ap, ◌∙◌, inl, inr, arith, if◌then◌else◌}
+use Rattle.std.proofs.Common.{◌≡◌, ℕ, ◌+◌, ◌-◌, ◌≤◌, ◌<◌, Bool, true, false, ◌||◌, Option, None, List, [], ◌∷◌, length, refl, sym, ap, ◌∙◌, inl, inr, arith}
 use Rattle.std.specs.Prelude.{◌^◌, min, nat_le, nat_lt, option_and_then, unwrap_or, IfOk, IsOk, Result, Ok, Err}
 use Rattle.std.proofs.lemmas.Bool.{cases_lt, or_parts}
 use Rattle.std.proofs.lemmas.Bool.Decides.{nat_tests}
@@ -21,14 +21,16 @@ use Rattle.ftl_typer.specs.Faults.{faults}
 use Rattle.ftl_typer.specs.First.{first_fault}
 use Rattle.ftl_typer.specs.declared.fault.TypeFault.{TypeFault}
 use Rattle.ftl_typer.specs.declared.fault.TypeFault.TheVariants as type_faults
-use Rattle.line_meaning.specs.declared.limits.TheConstants.{ALL_BINDINGS_LIMIT, ASSIGNED_SPAN_LIMIT, CIRCLE_NAMES, CIRCLE_SPAN_LIMIT}
+use Rattle.line_meaning.specs.declared.limits.TheConstants.{ALL_BINDINGS_LIMIT, CIRCLE_NAMES}
 use Rattle.line_meaning.specs.Ask.{bindings_asked, is_past_span, query_in, span_limit}
 use Rattle.line_meaning.specs.FirstFault.{refusal_by_type, register_size_refusal, type_refusal, unknown_among}
 use Rattle.line_meaning.specs.QueryFault.{bindings_of, passes_bindings, register_refusal}
 use Rattle.line_meaning.specs.Registry.{Known, is_registered}
 use Rattle.line_meaning.proofs.RefusalLemmas.{registered_by_fault}
+use Rattle.line_meaning.proofs.ReachedLemmas.{none_of_both}
 use Rattle.database.specs.declared.database.Database.{Database}
 use Rattle.database.specs.Keeping.{world_of_database}
+use Rattle.database.proofs.AskLemmas.{limit_within, type_refusal_is}
 use Rattle.live_queries.specs.Kept.{KeptQuery}
 use Rattle.registry.specs.declared.registering.Request.{Request}
 use Rattle.registry.specs.Judged.{IsRegistrable}
@@ -49,12 +51,6 @@ saturated b s = elim (cases_lt (2 ^ 64 - 1) b) [
 
 -- ---- names, kinds and bounds
 
--- a fault of them, or want of memory where there is none
-type_refusal_is : (first : Option TypeFault) (fault : TypeFault) → fault ≡ unwrap_or first type_faults.NoMemory →
-    option_and_then refusal_by_type first ≡ refusal_by_type fault
-type_refusal_is None fault is = sym (ap refusal_by_type is)
-type_refusal_is (Some f) fault is = sym (ap refusal_by_type is)
-
 -- by the faults that were looked for in the classes and the regions of a database
 module _ (d : Database) (classes : List ClassInfo) (regions : List Region) (q : QueryTree)
     (same : classes ≡ d.store.classes) (likewise : regions ≡ d.regions) where
@@ -71,10 +67,6 @@ module _ (d : Database) (classes : List ClassInfo) (regions : List Region) (q : 
 
 -- ---- what is so of a query that nothing refuses
 
-none_of : (first later : Option Refusal) → or_else first later ≡ None → (first ≡ None) × (later ≡ None)
-none_of None later none = (refl, none)
-none_of (Some r) later none = absurd (cc none)
-
 not_held : (r : Refusal) (holds : Bool) (later : List (Refusal × Bool)) → first_that_holds ((r, holds) ∷ later) ≡ None →
     (holds ≡ false) × (first_that_holds later ≡ None)
 not_held r true later none = absurd (cc none)
@@ -87,12 +79,6 @@ pub record IsRight (k : Known) (name : List ℕ) (span : ℕ) (q : QueryTree) : 
   pub few : length k.live < QUERY_LIMIT
   pub size : bindings_asked k.world q ≤ BINDING_LIMIT
 
--- the longest span is no longer than any
-limit_within : (assigned circle : Bool) → (if assigned then ASSIGNED_SPAN_LIMIT else if circle then CIRCLE_SPAN_LIMIT else SPAN_LIMIT) ≤ SPAN_LIMIT
-limit_within true circle = omega arith
-limit_within false true = omega arith
-limit_within false false = omega arith
-
 pub right_is : (k : Known) (name : List ℕ) (span : ℕ) (q : QueryTree) → register_refusal k name span q ≡ None → IsRight k name span q
 right_is k name span q none =
     let type = type_refusal k.world q in
@@ -101,9 +87,9 @@ right_is k name span q none =
     let later : List (Refusal × Bool) = (refusals.StoreFull, nat_le QUERY_LIMIT (length k.live)) ∷ few in
     let rest : Option Refusal = or_else type (register_size_refusal k span q) in
     let held : Option Refusal = first_that_holds ((refusals.NameTaken, is_registered k.live name) ∷ []) in
-    let named = none_of (unknown_among type) (or_else held rest) (sym (registered_by_fault k name span q) ∙ none) in
-    let taken = none_of held rest named.1 in
-    let sized = none_of type (register_size_refusal k span q) taken.1 in
+    let named = none_of_both (unknown_among type) (or_else held rest) (sym (registered_by_fault k name span q) ∙ none) in
+    let taken = none_of_both held rest named.1 in
+    let sized = none_of_both type (register_size_refusal k span q) taken.1 in
     let past = not_held refusals.SpanRange (is_past_span k.now span q.formula) later sized.1 in
     let full = not_held refusals.StoreFull (nat_le QUERY_LIMIT (length k.live)) few past.1 in
     let bound = not_held refusals.BindingLimit (passes_bindings k many) [] full.1 in

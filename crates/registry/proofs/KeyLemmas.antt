@@ -29,6 +29,7 @@ use Rattle.live_queries.specs.Columns.{AreCounted, Column, HaveObjectsOf, column
 use Rattle.live_queries.specs.Current.{AreCurrent, IsCurrentFor, full_at, row_at, told_from}
 use Rattle.live_queries.specs.Kept.{IsKeptQuery, KeptQuery, registered_query}
 use Rattle.live_queries.specs.Told.{Told, answer_of, changes_of, listed_lines, move, moves_of, passing_change, passings_of, row_of_line, target_count, target_times, target_width}
+use Rattle.live_queries.proofs.ListLemmas.{lines_none}
 use Rattle.database.specs.Rows.{has_objects}
 use Rattle.database.proofs.RowLemmas.{are_below, ids_below}
 use Rattle.registry.specs.Moves.{names_objects}
@@ -88,10 +89,6 @@ no_line : {X : Type 0} (line : ℕ → Option X) → ((n : ℕ) → line n ≡ N
 no_line line none [] = refl
 no_line line none (n ∷ ns) = ap (λ o. cons_option o (filter_map line ns)) (none n) ∙ no_line line none ns
 
-no_lines : {X : Type 0} (line : ℕ → Option X) → ((n : ℕ) → line n ≡ None) → (top : ℕ) → lines_upto line top ≡ []
-unfolding lines_between
-no_lines line none top = no_line line none (between 0 top)
-
 none_listed : (test : ℕ → Bool) (lo hi : ℕ) → ((t : ℕ) → lo ≤ t → test t ≡ false) → listed test lo hi ≡ []
 unfolding listed
 none_listed test lo hi none = same_listed test (λ t. false) lo hi (λ t a b. none t a) ∙ filter_false (between lo (hi + 1))
@@ -147,7 +144,7 @@ module _ (w : World) (before : ℕ) (k : KeptQuery) (is : IsKeptQuery k) (curren
 
   no_answer : nat_lt 0 objects ≡ false → listed_lines k before ≡ []
   no_answer empty =
-      no_lines (line_of (target_times k (row_at k)) (told_from k before) k.expiry)
+      lines_none (line_of (target_times k (row_at k)) (told_from k before) k.expiry)
       (λ n. ap (λ runs. with_runs n runs) (ap runs_of (none_listed (target_times k (row_at k) n) (told_from k before) k.expiry
       (λ t from. no_times (row_at k) t (no_rows empty t from) (target_width k) n))))
       (target_count k)
@@ -155,7 +152,7 @@ module _ (w : World) (before : ℕ) (k : KeptQuery) (is : IsKeptQuery k) (curren
   no_passing : nat_lt 0 objects ≡ false → told_from k before ≤ before → (now : ℕ) → before ≤ now →
       lines_upto (passing_of (target_times k (row_at k)) k.expiry before now) (target_count k) ≡ []
   no_passing empty told now upto =
-      no_lines (passing_of (target_times k (row_at k)) k.expiry before now)
+      lines_none (passing_of (target_times k (row_at k)) k.expiry before now)
       (λ n. (λ i. when_differ n (nat_le before k.expiry && no_times (row_at k) before (no_rows empty before told) (target_width k) n i)
       (nat_le now k.expiry && no_times (row_at k) now (no_rows empty now (omega (arith, told, upto))) (target_width k) n i))
       ∙ both_out n (nat_le before k.expiry) (nat_le now k.expiry))

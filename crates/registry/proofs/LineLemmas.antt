@@ -1,15 +1,12 @@
 -- The lines of rows, of what changes and of registered queries, one after another.
-use Rattle.std.proofs.Common.{◌≡◌, ℕ, ◌+◌, ◌≤◌, Bool, true, List, [], ◌∷◌, ◌++◌, length, map, take, sym, ap, ◌∙◌, add-one, append_assoc, append-nil, arith}
-use Rattle.std.specs.Prelude.{slice_get}
+use Rattle.std.proofs.Common.{◌≡◌, ℕ, ◌≤◌, Bool, true, List, [], ◌∷◌, ◌++◌, length, map, take, sym, ap, ◌∙◌, append_assoc, append-nil, arith}
 use Rattle.std.specs.List.{flat_map, list_all}
-use Rattle.std.specs.Option.{option_map_or}
 use Rattle.std.proofs.lemmas.Bool.{and_parts}
 use Rattle.std.proofs.lemmas.List.{take_all}
 use Rattle.std.proofs.lemmas.List.Folds.{flat_map-map}
 use Rattle.line_meaning.specs.Reply.{registration_line}
 use Rattle.live_queries.specs.Kept.{KeptQuery}
 use Rattle.registry.specs.Standing.{registration_of}
-use Rattle.exact.proofs.Items.{flat_map-take-suc}
 
 -- ---- walking down a list
 
@@ -32,14 +29,6 @@ line_end line [] out whole none so_far = sym (append-nil out) ∙ so_far
 line_end line (x ∷ rest) out whole none so_far = absurd (omega (arith, none))
 
 -- ---- by place
-
--- what was written of the first items, and of one more
-pub more_lines : {A : Type 0} (line : A → List ℕ) (xs : List A) (i : ℕ) (start out next : List ℕ) → out ≡ start ++ flat_map line (take i xs) →
-    next ≡ out ++ option_map_or line (slice_get xs i) [] → next ≡ start ++ flat_map line (take (i + 1) xs)
-more_lines line xs i start out next so_far made =
-    made ∙ ap (λ front. front ++ option_map_or line (slice_get xs i) []) so_far
-    ∙ append_assoc start (flat_map line (take i xs)) (option_map_or line (slice_get xs i) [])
-    ∙ ap (λ lines. start ++ lines) (sym (rw add-one (flat_map-take-suc line xs i)))
 
 -- the lines of all registered queries
 pub all_queries : (live : List KeptQuery) (i : ℕ) (start out : List ℕ) → length live ≤ i →

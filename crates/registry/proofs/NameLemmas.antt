@@ -1,5 +1,5 @@
 -- Registered queries by their names.
-use Rattle.std.proofs.Common.{◌≡◌, ℕ, Bool, true, false, not, ◌&&◌, ◌||◌, Option, Some, List, [], ◌∷◌, map, refl, sym, ap, subst, ◌∙◌, arith}
+use Rattle.std.proofs.Common.{◌≡◌, ℕ, Bool, true, false, not, ◌||◌, Option, Some, List, [], ◌∷◌, map, refl, sym, ap, subst, ◌∙◌, arith}
 use Rattle.std.specs.Prelude.{◌==◌, All, cond, is_some, unwrap_or}
 use Rattle.std.specs.List.{find, list_any}
 use Rattle.std.specs.Option.{option_map}
@@ -19,13 +19,6 @@ use Rattle.registry.specs.Standing.{registration_of}
 
 number_turned : (x y : ℕ) → (x == y) ≡ (y == x)
 number_turned x y = grind (arith, nat_tests)
-
-pub own_bytes : (a : List ℕ) → bytes_eq a a ≡ true
-own_bytes [] = refl
-own_bytes (x ∷ a) = (λ i. own_number x i && own_bytes a i)
-  where
-    own_number : (n : ℕ) → (n == n) ≡ true
-    own_number n = grind (arith, nat_tests)
 
 -- ---- the first of a list that passes
 

@@ -5,7 +5,6 @@ use Rattle.std.specs.Str.{bytes_eq}
 use Rattle.std.proofs.lemmas.Bool.{and_from, and_left, and_parts, and_right, cases_Bool, or_from, or_parts}
 use Rattle.std.proofs.lemmas.List.{take_all}
 use Rattle.std.proofs.lemmas.List.Folds.{list_all_more, list_any_more}
-use Rattle.std.proofs.lemmas.Slice.Eq.{bytes_eq-Decides}
 use Rattle.tick_set.specs.Ticks.{within}
 use Rattle.tick_set.proofs.Between.{all_in_fails, some_in_none, within_parts}
 use Rattle.fixed_point.specs.declared.variants.BoundForm.TheVariants as bounds
@@ -19,6 +18,7 @@ use Rattle.relation.specs.Rows.{AreRows, IsRow, IsSameHead, IsTable, Table, has_
 use Rattle.relation.proofs.KeyLemmas.{below_apart, below_not_same}
 use Rattle.relation.proofs.RowLemmas.{all_at, row_at}
 use Rattle.relation.proofs.WalkLemmas.{same_head-trans}
+use Rattle.exact.proofs.Lists.{bytes_eq_refl, bytes_eq_true}
 
 pub wider_same : (old new : List (List ℕ)) → new ≡ old → IsWider old new
 wider_same old new e = record {
@@ -54,12 +54,6 @@ changed_nothing (changes.Bounded bounds.Always c) lo hi p none t =
 abbrev pub among : {S : Type 0} → List ℕ → List (Row S) → Bool
 among key rows = list_any (λ r. bytes_eq r.key key) rows
 
-pub same_key : (k k' : List ℕ) → bytes_eq k k' ≡ true → k ≡ k'
-same_key k k' = (bytes_eq-Decides k k').0
-
-pub own_key : (k : List ℕ) → bytes_eq k k ≡ true
-own_key k = (bytes_eq-Decides k k).1 refl
-
 both_ways : (a e c d : Bool) → (e ≡ true → d ≡ c) → ((a && c) || (e && d)) ≡ ((a || e) && c)
 both_ways true true true d f = refl
 both_ways true true false d f = f refl
@@ -88,7 +82,7 @@ module _ {S : Type 0} (member : S → ℕ → Bool) where
         has_at member rows (get_or rows i d).key t ≡ member (get_or rows i d).set t
     row_own [] i d h l t = absurd (omega arith)
     row_own (r ∷ rs) zero d h l t =
-        ap (λ (x : Bool). (x && member r.set t) || has_at member rs r.key t) (own_key r.key)
+        ap (λ (x : Bool). (x && member r.set t) || has_at member rs r.key t) (bytes_eq_refl r.key)
         ∙ ap (λ (x : Bool). member r.set t || x) (has_at-none rs r.key (above_first r rs h.1) t)
         ∙ or_nothing (member r.set t)
       where
@@ -148,7 +142,7 @@ module _ {S : Type 0} (member : S → ℕ → Bool) (change : Change) (domains :
       ticks = λ k t.
           put k t
           ∙ ap (λ (x : Bool). x || (bytes_eq row.key k && member set t)) (changing.ticks k t)
-          ∙ both_ways (among k (take i rows)) (bytes_eq row.key k) (changed_between change lo hi (has_at member rows k) t) (member set t) (λ e. here k t (same_key row.key k e))
+          ∙ both_ways (among k (take i rows)) (bytes_eq row.key k) (changed_between change lo hi (has_at member rows k) t) (member set t) (λ e. here k t (bytes_eq_true row.key k e))
           ∙ ap (λ (x : Bool). x && changed_between change lo hi (has_at member rows k) t) (sym (one_more k));
       upto = λ p h.
           let parts = and_parts _ _ (sym (list_all_more (λ r. p r.key) rows i row in_list) ∙ h) in

@@ -11,10 +11,11 @@ use Rattle.relation.specs.declared.row.Row.{Row}
 use Rattle.relation.specs.Key.{are_known, has_id, ids_of_variable, key_below, key_in}
 use Rattle.relation.specs.Projection.{variable_place}
 use Rattle.relation.specs.Rows.{AreRows, IsRow, IsSameHead, IsTable, Table, has_at, table, table_has}
-use Rattle.relation.proofs.ChangeLemmas.{before_row, same_key}
+use Rattle.relation.proofs.ChangeLemmas.{before_row}
 use Rattle.relation.proofs.ProjectionLemmas.{object_assigned, object_inside, passed_by}
 use Rattle.relation.proofs.RowLemmas.{row_at}
 use Rattle.relation.proofs.WalkLemmas.{same_head-trans}
+use Rattle.exact.proofs.Lists.{bytes_eq_true}
 
 -- whether a key has another object at a place
 abbrev pub other_at : ℕ → ℕ → List ℕ → Bool
@@ -85,7 +86,7 @@ only_of member domains own lo hi var id single owned b other [] are t = refl
 only_of member domains own lo hi var id single owned b other (r ∷ rows) are t = elim (cases_Bool (bytes_eq r.key (map b own))) [
   | inl same ↦
       let inside : has_id (ids_of_variable domains var) (b var) ≡ true =
-      ap (has_id (ids_of_variable domains var)) (sym (ap (λ (k : List ℕ). get_or k (variable_place own var) 0) (same_key r.key (map b own) same) ∙ object_assigned b own var owned))
+      ap (has_id (ids_of_variable domains var)) (sym (ap (λ (k : List ℕ). get_or k (variable_place own var) 0) (bytes_eq_true r.key (map b own) same) ∙ object_assigned b own var owned))
       ∙ object_inside domains own r.key var are.0.inside owned in
       absurd (not_single (b var) other (ap (λ (l : List ℕ). has_id l (b var)) (sym single) ∙ inside))
   | inr n ↦

@@ -16,9 +16,9 @@ use Rattle.relation.specs.declared.row.Row.{Row}
 use Rattle.relation.specs.Entries.{AreEntries, IsBefore, IsEntry, any_has, entries_have, entry_has}
 use Rattle.relation.specs.Key.{key_below, key_in}
 use Rattle.relation.specs.Rows.{IsSameHead, Table, has_at}
-use Rattle.relation.proofs.ChangeLemmas.{own_key, same_key}
 use Rattle.relation.proofs.WalkLemmas.{same_head-trans}
 use Rattle.exact.proofs.Items.{all_from_at, all_weaker}
+use Rattle.exact.proofs.Lists.{bytes_eq_refl, bytes_eq_true}
 
 order_step : (x y : ℕ) (e l : Bool) (o : Ordering) → (is_lt o ≡ false → (e || l) ≡ true) → is_lt (ordering_then (nat_cmp y x) o) ≡ false →
     ((x == y && e) || (nat_lt x y || (x == y && l))) ≡ true
@@ -48,7 +48,7 @@ below_trans (x ∷ a) (y ∷ b) (z ∷ c) h k = trans_step x y z (key_below a b)
 
 below_upward : (a b c : List ℕ) → key_below a b ≡ true → (bytes_eq b c || key_below b c) ≡ true → key_below a c ≡ true
 below_upward a b c h k = elim (or_cases _ _ k) [
-  | inl e ↦ subst (λ (z : List ℕ). key_below a z ≡ true) (same_key b c e) h
+  | inl e ↦ subst (λ (z : List ℕ). key_below a z ≡ true) (bytes_eq_true b c e) h
   | inr l ↦ below_trans a b c h l
 ]
 
@@ -89,7 +89,7 @@ have_of_one member rows key [] h k t = sym (and_false (bytes_eq key k))
     and_false false = refl
 have_of_one member rows key (e ∷ es) h k t =
     let parts : (bytes_eq e.key key ≡ true) × (list_all (λ f. bytes_eq f.key key) es ≡ true) = and_parts _ _ h in
-    ap (λ (z : List ℕ). (bytes_eq z k && entry_has member rows e t) || entries_have member rows es k t) (same_key e.key key parts.0)
+    ap (λ (z : List ℕ). (bytes_eq z k && entry_has member rows e t) || entries_have member rows es k t) (bytes_eq_true e.key key parts.0)
     ∙ ap (λ (x : Bool). (bytes_eq key k && entry_has member rows e t) || x) (have_of_one member rows key es parts.1 k t)
     ∙ shared (bytes_eq key k) (entry_has member rows e t) (any_has member rows es t)
   where
@@ -107,7 +107,7 @@ after_group member rows domains vars lo hi first (n ∷ rest) are order next =
   where
     below : key_below first.key n.key ≡ true
     below = elim (or_cases _ _ (and_parts _ _ order).0) [
-      | inl e ↦ absurd (false≢true (sym (next n (omega arith)) ∙ ap (λ (k : List ℕ). bytes_eq k first.key) (sym (same_key first.key n.key e)) ∙ own_key first.key))
+      | inl e ↦ absurd (false≢true (sym (next n (omega arith)) ∙ ap (λ (k : List ℕ). bytes_eq k first.key) (sym (bytes_eq_true first.key n.key e)) ∙ bytes_eq_refl first.key))
       | inr l ↦ l
     ]
 
@@ -142,7 +142,7 @@ module _ {S : Type 0} (member : S → ℕ → Bool) (rows : List (Row S)) (entri
     back_after : list_all (λ f. bytes_eq first.key f.key || key_below first.key f.key) back ≡ true
     back_after =
         all_back (λ f. bytes_eq first.key f.key || key_below first.key f.key) front back
-        (subst (λ (z : List Entry). list_all (λ f. bytes_eq first.key f.key || key_below first.key f.key) z ≡ true) cut (and_from _ _ (or_left _ _ (own_key first.key)) gathering.are.1))
+        (subst (λ (z : List Entry). list_all (λ f. bytes_eq first.key f.key || key_below first.key f.key) z ≡ true) cut (and_from _ _ (or_left _ _ (bytes_eq_refl first.key)) gathering.are.1))
 
     back_are : AreEntries member rows start.domains start.vars start.lo start.hi back
     back_are = entries_back member rows start.domains start.vars start.lo start.hi front back (subst (λ (z : List Entry). AreEntries member rows start.domains start.vars start.lo start.hi z) cut gathering.are)
@@ -220,5 +220,5 @@ module _ {S : Type 0} (member : S → ℕ → Bool) (rows : List (Row S)) (entri
     where
       stuck : count ≡ 0 → 0 < length rest → ⊥
       stuck e l =
-          let same : bytes_eq (get_or rest 0 first).key first.key ≡ true = ap (λ (z : List Entry). bytes_eq (get_or z 0 first).key first.key) opens ∙ own_key first.key in
+          let same : bytes_eq (get_or rest 0 first).key first.key ≡ true = ap (λ (z : List Entry). bytes_eq (get_or z 0 first).key first.key) opens ∙ bytes_eq_refl first.key in
           false≢true (sym (subst (λ (n : ℕ). n < length rest → bytes_eq (get_or rest n first).key first.key ≡ false) e (next first) l) ∙ same)

@@ -9,11 +9,11 @@ use Rattle.relation.specs.declared.row.Row.{Row}
 use Rattle.relation.specs.Key.{has_id, ids_of_variable, key_below, key_in}
 use Rattle.relation.specs.Order.{has_row, keys_over}
 use Rattle.relation.specs.Rows.{AreRows, has_at}
-use Rattle.relation.proofs.ChangeLemmas.{own_key, same_key}
 use Rattle.relation.proofs.EntryLemmas.{below_trans}
 use Rattle.relation.proofs.KeyLemmas.{below_apart, below_not_same}
 use Rattle.relation.proofs.UnionLemmas.{IsFrom, from_rising}
 use Rattle.exact.proofs.Truths.{and_over_or, false_is_and}
+use Rattle.exact.proofs.Lists.{bytes_eq_refl, bytes_eq_true}
 
 abbrev is_in : List (List ℕ) → List ℕ → Bool
 is_in keys k = list_any (λ x. bytes_eq x k) keys
@@ -24,7 +24,7 @@ Ascends [] = Unit {0}
 Ascends (x ∷ xs) = (list_all (key_below x) xs ≡ true) × Ascends xs
 
 not_below_itself : (k : List ℕ) → key_below k k ≡ true → ⊥
-not_below_itself k h = false≢true (sym (below_not_same k k h) ∙ own_key k)
+not_below_itself k h = false≢true (sym (below_not_same k k h) ∙ bytes_eq_refl k)
 
 not_above : (x : List ℕ) (xs : List (List ℕ)) → list_all (key_below x) xs ≡ true → is_in xs x ≡ false
 not_above x [] h = refl
@@ -37,22 +37,22 @@ below_member x k [] h e = absurd (false≢true e)
 below_member x k (y ∷ ys) h e =
     let parts : (key_below x y ≡ true) × (list_all (key_below x) ys ≡ true) = and_parts _ _ h in
     elim (or_cases (bytes_eq y k) (is_in ys k) e) [
-      | inl here ↦ ap (key_below x) (sym (same_key y k here)) ∙ parts.0
+      | inl here ↦ ap (key_below x) (sym (bytes_eq_true y k here)) ∙ parts.0
       | inr later ↦ below_member x k ys parts.1 later
     ]
 
 -- ascending lists with the same members are one
 pub same_members : (xs ys : List (List ℕ)) → Ascends xs → Ascends ys → ((k : List ℕ) → is_in xs k ≡ is_in ys k) → xs ≡ ys
 same_members [] [] a b h = refl
-same_members [] (y ∷ ys) a b h = absurd (false≢true (h y ∙ or_left (bytes_eq y y) (is_in ys y) (own_key y)))
-same_members (x ∷ xs) [] a b h = absurd (false≢true (sym (h x) ∙ or_left (bytes_eq x x) (is_in xs x) (own_key x)))
+same_members [] (y ∷ ys) a b h = absurd (false≢true (h y ∙ or_left (bytes_eq y y) (is_in ys y) (bytes_eq_refl y)))
+same_members (x ∷ xs) [] a b h = absurd (false≢true (sym (h x) ∙ or_left (bytes_eq x x) (is_in xs x) (bytes_eq_refl x)))
 same_members (x ∷ xs) (y ∷ ys) a b h = λ i. first i ∷ same_members xs ys a.1 b.1 later i
   where
     first : x ≡ y
-    first = elim (or_cases (bytes_eq y x) (is_in ys x) (sym (h x) ∙ or_left (bytes_eq x x) (is_in xs x) (own_key x))) [
-      | inl e ↦ sym (same_key y x e)
-      | inr after ↦ elim (or_cases (bytes_eq x y) (is_in xs y) (h y ∙ or_left (bytes_eq y y) (is_in ys y) (own_key y))) [
-        | inl e ↦ same_key x y e
+    first = elim (or_cases (bytes_eq y x) (is_in ys x) (sym (h x) ∙ or_left (bytes_eq x x) (is_in xs x) (bytes_eq_refl x))) [
+      | inl e ↦ sym (bytes_eq_true y x e)
+      | inr after ↦ elim (or_cases (bytes_eq x y) (is_in xs y) (h y ∙ or_left (bytes_eq y y) (is_in ys y) (bytes_eq_refl y))) [
+        | inl e ↦ bytes_eq_true x y e
         | inr before ↦ absurd (not_below_itself x (below_trans x y x (below_member x y xs a.0 before) (below_member y x ys b.0 after)))
       ]
     ]
@@ -60,8 +60,8 @@ same_members (x ∷ xs) (y ∷ ys) a b h = λ i. first i ∷ same_members xs ys 
     later : (k : List ℕ) → is_in xs k ≡ is_in ys k
     later k = elim (cases_Bool (bytes_eq x k)) [
       | inl e ↦
-          ap (is_in xs) (sym (same_key x k e)) ∙ not_above x xs a.0
-          ∙ sym (ap (is_in ys) (sym (same_key x k e) ∙ first) ∙ not_above y ys b.0)
+          ap (is_in xs) (sym (bytes_eq_true x k e)) ∙ not_above x xs a.0
+          ∙ sym (ap (is_in ys) (sym (bytes_eq_true x k e) ∙ first) ∙ not_above y ys b.0)
       | inr n ↦
           sym (ap (λ (z : Bool). z || is_in xs k) n) ∙ h k
           ∙ ap (λ (z : List ℕ). bytes_eq z k || is_in ys k) (sym first) ∙ ap (λ (z : Bool). z || is_in ys k) n
@@ -100,11 +100,11 @@ kept_members p (x ∷ xs) k = elim (cases_Bool (p x)) [
   | inl e ↦
       ap (λ (b : Bool). is_in (if b then x ∷ filter p xs else filter p xs) k) e
       ∙ ap (λ (b : Bool). bytes_eq x k || b) (kept_members p xs k)
-      ∙ kept_here (bytes_eq x k) (is_in xs k) (p k) (λ s. ap p (sym (same_key x k s)) ∙ e)
+      ∙ kept_here (bytes_eq x k) (is_in xs k) (p k) (λ s. ap p (sym (bytes_eq_true x k s)) ∙ e)
   | inr n ↦
       ap (λ (b : Bool). is_in (if b then x ∷ filter p xs else filter p xs) k) n
       ∙ kept_members p xs k
-      ∙ left_here (bytes_eq x k) (is_in xs k) (p k) (λ s. ap p (sym (same_key x k s)) ∙ n)
+      ∙ left_here (bytes_eq x k) (is_in xs k) (p k) (λ s. ap p (sym (bytes_eq_true x k s)) ∙ n)
 ]
 
 -- the keys that begin with one object, and with those of a list
@@ -191,7 +191,7 @@ module _ {S : Type 0} (member : S → ℕ → Bool) (domains : List (List ℕ)) 
   row_inside : (rows : List (Row S)) (k : List ℕ) → AreRows member domains vars lo hi 0 rows → has_row rows k ≡ true → key_in domains vars k ≡ true
   row_inside [] k is h = absurd (false≢true h)
   row_inside (r ∷ rows) k is h = elim (or_cases (bytes_eq r.key k) (has_row rows k) h) [
-    | inl here ↦ ap (key_in domains vars) (sym (same_key r.key k here)) ∙ is.0.inside
+    | inl here ↦ ap (key_in domains vars) (sym (bytes_eq_true r.key k here)) ∙ is.0.inside
     | inr later ↦ row_inside rows k is.2 later
   ]
 

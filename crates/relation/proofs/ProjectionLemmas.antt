@@ -14,9 +14,9 @@ use Rattle.formula.specs.Resolved.{are_distinct}
 use Rattle.relation.specs.Key.{are_known, has_id, ids_of_variable, key_in}
 use Rattle.relation.specs.Projection.{IsPicked, picked, rows_over, variable_place}
 use Rattle.relation.specs.Rows.{AreRows, IsRow, IsTable, Table, has_at, table, table_has}
-use Rattle.relation.proofs.ChangeLemmas.{own_key, same_key}
 use Rattle.relation.proofs.RowLemmas.{row_at}
 use Rattle.exact.proofs.Items.{all_weaker}
+use Rattle.exact.proofs.Lists.{bytes_eq_refl, bytes_eq_true}
 
 -- a test of a member of a list that all its members pass
 pub passed_by : (p : ℕ → Bool) (us : List ℕ) (x : ℕ) → list_all p us ≡ true → has_id us x ≡ true → p x ≡ true
@@ -176,7 +176,7 @@ module _ {S : Type 0} (member : S → ℕ → Bool) (domains : List (List ℕ)) 
   find (r ∷ rows) key t are h = elim (or_cases _ _ h) [
     | inl here ↦
         let parts : (bytes_eq (picked own r.key vars) key ≡ true) × (member r.set t ≡ true) = and_parts _ _ here in
-        record { row = r; is = are.0; picks = same_key _ _ parts.0; here = or_left _ _ (and_from _ _ (own_key r.key) parts.1) }
+        record { row = r; is = are.0; picks = bytes_eq_true _ _ parts.0; here = or_left _ _ (and_from _ _ (bytes_eq_refl r.key) parts.1) }
     | inr later ↦
         let found : Found member domains own vars lo hi rows key t = find rows key t are.2 later in
         record { row = found.row; is = found.is; picks = found.picks; here = or_right _ _ found.here }
@@ -190,8 +190,8 @@ module _ {S : Type 0} (member : S → ℕ → Bool) (own vars : List ℕ) (among
     | inl here ↦
         let parts : (bytes_eq r.key (map b own) ≡ true) × (member r.set t ≡ true) = and_parts _ _ here in
         or_left _ _ (and_from _ _
-        (ap (λ (k : List ℕ). bytes_eq (picked own k vars) (map b vars)) (same_key r.key (map b own) parts.0)
-        ∙ ap (λ (k : List ℕ). bytes_eq k (map b vars)) (picked_assigned b own vars among) ∙ own_key (map b vars)) parts.1)
+        (ap (λ (k : List ℕ). bytes_eq (picked own k vars) (map b vars)) (bytes_eq_true r.key (map b own) parts.0)
+        ∙ ap (λ (k : List ℕ). bytes_eq k (map b vars)) (picked_assigned b own vars among) ∙ bytes_eq_refl (map b vars)) parts.1)
     | inr later ↦ or_right _ _ (taken b rows t later)
   ]
 
@@ -239,7 +239,7 @@ module _ {S : Type 0} (member : S → ℕ → Bool) (r : Table S) (vars : List �
 
 -- an entry for each row, in turn
 module _ {S : Type 0} (member : S → ℕ → Bool) (own vars : List ℕ) (rows : List (Row S)) (place : ℕ) (row : Row S) (key : List ℕ) (e : Entry)
-    (in_list : place < length rows) (at : row ≡ get_or rows place row) (picks : key ≡ picked own row.key vars) (same_key : e.key ≡ key) (same_place : e.place ≡ place) where
+    (in_list : place < length rows) (at : row ≡ get_or rows place row) (picks : key ≡ picked own row.key vars) (bytes_eq_true : e.key ≡ key) (same_place : e.place ≡ place) where
   own_ticks : (t : ℕ) → entry_has member rows e t ≡ member row.set t
   own_ticks t = ap (λ (n : ℕ). optional_row_has member (slice_get rows n) t) same_place ∙ ap (λ (o : Option (Row S)). optional_row_has member o t) (slice_get_read rows (length rows) place row refl in_list at)
 
@@ -249,7 +249,7 @@ module _ {S : Type 0} (member : S → ℕ → Bool) (own vars : List ℕ) (rows 
       subst (λ (z : List Entry). All (IsEntry member rows domains vars lo hi) z) (sym pushed)
       (All-push (IsEntry member rows domains vars lo hi) old e each
       (record {
-        inside = ap (key_in domains vars) (same_key ∙ picks) ∙ picked_inside domains own row.key vars is.inside among;
+        inside = ap (key_in domains vars) (bytes_eq_true ∙ picks) ∙ picked_inside domains own row.key vars is.inside among;
         lies = λ t h. is.lies t (sym (own_ticks t) ∙ h);
       }))
     where
@@ -270,7 +270,7 @@ module _ {S : Type 0} (member : S → ℕ → Bool) (own vars : List ℕ) (rows 
       or_nothing false = refl
 
       here : (bytes_eq e.key k && entry_has member rows e t) ≡ (bytes_eq (picked own (get_or rows place row).key vars) k && member (get_or rows place row).set t)
-      here = (λ i. bytes_eq ((same_key ∙ picks) i) k && own_ticks t i) ∙ ap (λ (z : Row S). bytes_eq (picked own z.key vars) k && member z.set t) at
+      here = (λ i. bytes_eq ((bytes_eq_true ∙ picks) i) k && own_ticks t i) ∙ ap (λ (z : Row S). bytes_eq (picked own z.key vars) k && member z.set t) at
 
 -- no row comes before all entries
 pub before_none : {S : Type 0} (rows : List (Row S)) (es : List Entry) → rows ≡ [] → IsBefore rows es

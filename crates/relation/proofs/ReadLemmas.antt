@@ -11,8 +11,9 @@ use Rattle.std.proofs.lemmas.Map.Text.{is_eq-slice_cmp}
 use Rattle.relation.specs.declared.row.Row.{Row}
 use Rattle.relation.specs.Key.{key_below}
 use Rattle.relation.specs.Rows.{AreRows, IsRow, IsTable, Table, has_at}
-use Rattle.relation.proofs.ChangeLemmas.{among, has_at-none, row_own, same_key}
+use Rattle.relation.proofs.ChangeLemmas.{among, has_at-none, row_own}
 use Rattle.relation.proofs.RowLemmas.{all_at, row_at}
+use Rattle.exact.proofs.Lists.{bytes_eq_true}
 
 head_not_after : (x y : ℕ) (a : Bool) (o : Ordering) → (a ≡ true → is_lt o ≡ false) → (nat_lt x y || (x == y && a)) ≡ true → is_lt (ordering_then (nat_cmp y x) o) ≡ false
 head_not_after x y a o f h = grind (arith, nat_tests, f)
@@ -40,7 +41,7 @@ module _ {S : Type 0} (member : S → ℕ → Bool) (domains : List (List ℕ)) 
     pub found_row : (at : ℕ) (row : Row S) → at < length rows → row ≡ get_or rows at row → IsBinarySearchResult (λ (r : Row S). slice_cmp nat_cmp r.key key) rows (Ok at) →
         (t : ℕ) → member row.set t ≡ has_at member rows key t
     found_row at row l e equal t =
-        let same : row.key ≡ key = same_key row.key key (sym (is_eq-slice_cmp row.key key) ∙ ap is_eq (subst (λ (z : Row S). slice_cmp nat_cmp z.key key ≡ Ordering.Equal) (sym e) (equal row))) in
+        let same : row.key ≡ key = bytes_eq_true row.key key (sym (is_eq-slice_cmp row.key key) ∙ ap is_eq (subst (λ (z : Row S). slice_cmp nat_cmp z.key key ≡ Ordering.Equal) (sym e) (equal row))) in
         let own = subst (λ (z : Row S). has_at member rows z.key t ≡ member z.set t) (sym e) (row_own member domains vars lo hi rows at row is l t) in
         sym own ∙ ap (λ (k : List ℕ). has_at member rows k t) same
 

@@ -88,7 +88,7 @@ covers_all test us from pass =
     (λ us3 f3 p3. covers_step test 3 [] us3 f3 p3
     (λ us4 f4 p4. covers_end test us4 f4 p4))))
 
-among_itself : (us : List ℕ) (k d : ℕ) → k < length us → has_id us (get_or us k d) ≡ true
+pub among_itself : (us : List ℕ) (k d : ℕ) → k < length us → has_id us (get_or us k d) ≡ true
 among_itself us k d l = ap (λ (z : List ℕ). has_id z (get_or us k d)) (sym (map-id us)) ∙ has_id-at (λ x. x) us k d l
 
 pass_all : (test : ℕ → Bool) (domains : List (List ℕ)) (us : List ℕ) → length domains ≤ 4 → are_known domains us ≡ true → ((u : ℕ) → has_id us u ≡ true → test u ≡ true) → passes test us ≡ true
@@ -126,7 +126,7 @@ not_kept test (x ∷ xs) y h =
       | false ↦ not_kept test xs y parts.1
     ]
 
-distinct_kept : (test : ℕ → Bool) (xs : List ℕ) → are_distinct xs ≡ true → are_distinct (filter test xs) ≡ true
+pub distinct_kept : (test : ℕ → Bool) (xs : List ℕ) → are_distinct xs ≡ true → are_distinct (filter test xs) ≡ true
 distinct_kept test [] h = refl
 distinct_kept test (x ∷ xs) h =
     let parts : (not (has_id xs x) ≡ true) × (are_distinct xs ≡ true) = and_parts _ _ h in

@@ -10,9 +10,10 @@ use Rattle.tick_set.specs.Runs.{IsNormal, IsNormalFrom, pairs, spans_have}
 use Rattle.tick_set.specs.SetOperation.{kept}
 use Rattle.tick_set.specs.Ticks.{within}
 use Rattle.tick_set.proofs.Between.{within_from, within_parts}
-use Rattle.tick_set.proofs.RunLemmas.{IsNormalFrom-weaker, spans_have-append, spans_have-below}
+use Rattle.tick_set.proofs.RunLemmas.{IsNormalFrom-weaker, spans_have-append}
 use Rattle.replica.specs.Ticks.{StayBefore, combined}
 use Rattle.replica.proofs.TickLemmas.{combined_is}
+use Rattle.interval_set.proofs.SpanLemmas.{ticks_from}
 
 -- ---- Where the front ends
 
@@ -51,18 +52,12 @@ pub normal_tail : (xs ys : List Span) (from : ℕ) → IsNormalFrom from (xs ++ 
 normal_tail [] ys from h = IsNormalFrom-weaker from 0 ys (omega arith) h
 normal_tail (x ∷ xs) ys from h = normal_tail xs ys (x.hi + 2) h.1
 
-pub not_below : (spans : List Span) (from t : ℕ) → IsNormalFrom from spans → spans_have spans t ≡ true → from ≤ t
-not_below spans from t h e = elim (leb from t) as (λ b. leb from t ≡ b → from ≤ t) [
-  | true ↦ λ is. grind (arith, nat_tests, is)
-  | false ↦ λ is. absurd (false≢true (sym (spans_have-below spans from t h (grind (arith, nat_tests, is))) ∙ e))
-] refl
-
 before_tail : (xs ys : List Span) (from t u : ℕ) → IsNormalFrom from (xs ++ ys) → spans_have xs t ≡ true → spans_have ys u ≡ true → t + 2 ≤ u
 before_tail [] ys from t u h e f = absurd (false≢true e)
 before_tail (x ∷ xs) ys from t u h e f = elim (or_cases (within x.lo x.hi t) (spans_have xs t) e) [
   | inl here ↦
       let there : spans_have (xs ++ ys) u ≡ true = spans_have-append xs ys u ∙ or_right (spans_have xs u) (spans_have ys u) f in
-      omega (arith, within_parts x.lo x.hi t here, not_below (xs ++ ys) (x.hi + 2) u h.1 there)
+      omega (arith, within_parts x.lo x.hi t here, ticks_from (xs ++ ys) (x.hi + 2) u h.1 there)
   | inr later ↦ before_tail xs ys (x.hi + 2) t u h.1 later f
 ]
 
@@ -112,7 +107,7 @@ module _ (operation : SetOperation) (front tail told made : List Span) (old : Is
 
 pub stay_before : (operation : SetOperation) (front told : List Span) (lo : ℕ) → kept operation true false ≡ true → ((t : ℕ) → spans_have front t ≡ true → t + 2 ≤ lo)
     → IsNormalFrom lo told → StayBefore operation front told
-stay_before operation front told lo keeps before from t e = (keeps, λ u f. omega (arith, before t e, not_below told lo u from f))
+stay_before operation front told lo keeps before from t e = (keeps, λ u f. omega (arith, before t e, ticks_from told lo u from f))
 
 pub from_first : (told rest : List Span) (s : Span) → told ≡ s ∷ rest → IsNormal told → IsNormalFrom s.lo told
 from_first told rest s is h = subst (λ spans. IsNormal spans → IsNormalFrom s.lo spans) (sym is) (λ n. (omega arith, n.1)) h

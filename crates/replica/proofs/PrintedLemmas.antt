@@ -1,5 +1,5 @@
 -- What is printed of rows and clocks is read back.
-use Rattle.std.proofs.Common.{◌≡◌, ◌∙◌, ℕ, zero, suc, ◌+◌, ◌-◌, ◌^◌, ◌<◌, ◌≤◌, ◌==◌, ◌&&◌, ◌||◌, not, leb, ltb, nat_le, is_none, Bool, true, false, cond, List, [], ◌∷◌, ◌++◌, map, length, drop, get_or, codes, option_map, Option, Some, None, All, refl, ap, sym, subst, inl, inr, arith, append-nil}
+use Rattle.std.proofs.Common.{◌≡◌, ◌∙◌, ℕ, zero, suc, ◌+◌, ◌-◌, ◌^◌, ◌<◌, ◌≤◌, ◌==◌, ◌&&◌, not, leb, ltb, nat_le, is_none, Bool, true, false, cond, List, [], ◌∷◌, ◌++◌, map, length, drop, get_or, codes, option_map, Option, Some, None, All, refl, ap, sym, subst, inl, inr, arith, append-nil}
 use Rattle.std.proofs.lemmas.Bool.{and_parts, cases_Bool, false≢true}
 use Rattle.std.proofs.lemmas.Bool.Decides.{Decides-eqb, nat_tests}
 use Rattle.std.proofs.lemmas.Fmt.{decimal_digit, first_decimal, decimal_is_IsNumeral, length-decimal-le}
@@ -9,7 +9,6 @@ use Rattle.std.proofs.lemmas.List.Splits.{slice_split_at, slice_split_none}
 use Rattle.std.proofs.Math.Seq.{take-append_seam, drop-append_seam}
 use Rattle.std.specs.Char.{is_ascii_digit, digit_value}
 use Rattle.std.specs.Fmt.{decimal}
-use Rattle.std.specs.Int.{is_in_range}
 use Rattle.std.specs.List.{flat_map, list_all, onto_first, position_or_len, prefix_len}
 use Rattle.std.specs.Str.Parse.{AllDigits, digits_value}
 use Rattle.exact.specs.Options.{◌>>=◌}
@@ -21,6 +20,7 @@ use Rattle.fixed_point.specs.declared.short_text.TheConstants.{WORD_LIMIT}
 use Rattle.fixed_point.specs.Digits.{has_spare_zero}
 use Rattle.ftl_lexer.specs.Cut.{is_word}
 use Rattle.ftl_lexer.specs.Forms.{begins_name, continues_name}
+use Rattle.ftl_lexer.proofs.Steps.{begins_continues}
 use Rattle.replica.specs.Line.{row_in_text, row_parts}
 use Rattle.replica.specs.Rows.{run_text}
 use Rattle.replica.specs.Text.{after_text, before_text, cut_at_mark, is_free_name, is_target, span_of, spans_from, tick_at, tick_of, words}
@@ -148,18 +148,6 @@ continues_no_colon b h = elim (cases_Bool (is_colon b)) [
   | inl colon ↦ absurd (false≢true (sym (ap continues_name ((Decides-eqb b 58).0 colon)) ∙ h))
   | inr other ↦ other
 ]
-
-begins_continues : (b : ℕ) → begins_name b ≡ true → continues_name b ≡ true
-begins_continues b h = by (is_in_range 65 90 b) (is_in_range 97 122 b) (b == 95) (is_in_range 48 57 b) h
-  where
-    by : (upper lower line digit : Bool) → ((upper || lower) || line) ≡ true → (((digit || upper) || lower) || line) ≡ true
-    by true lower line true h = refl
-    by true lower line false h = refl
-    by false true line true h = refl
-    by false true line false h = refl
-    by false false true true h = refl
-    by false false true false h = refl
-    by false false false digit h = absurd (false≢true h)
 
 word_continues : (word : List ℕ) → is_word word ≡ true → list_all continues_name word ≡ true
 word_continues [] h = refl

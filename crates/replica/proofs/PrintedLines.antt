@@ -1,11 +1,11 @@
 -- The lines of a feed say what they were printed of.
 use Rattle.std.proofs.Common.{◌≡◌, ◌∙◌, ℕ, ◌≤◌, ◌==◌, Bool, true, false, cond, List, ◌∷◌, ◌++◌, codes, option_and_then, Option, Some, None, All, refl, ap}
-use Rattle.std.proofs.lemmas.Slice.Eq.{bytes_eq-Decides}
 use Rattle.std.specs.Fmt.{decimal}
 use Rattle.std.specs.Option.{option_map_or}
 use Rattle.std.specs.Str.{bytes_eq}
 use Rattle.exact.specs.Options.{◌>>=◌}
 use Rattle.exact.proofs.Truths.{both_false}
+use Rattle.exact.proofs.Lists.{bytes_eq_refl}
 use Rattle.formula.specs.declared.kind.QueryKind.{QueryKind}
 use Rattle.formula.specs.declared.kind.QueryKind.TheVariants.{Watch, Keep}
 use Rattle.formula.specs.Kinds.{kind_word}
@@ -18,9 +18,6 @@ use Rattle.replica.proofs.PrintedLemmas.{clock_again, cut_at, cut_nowhere, name_
 
 abbrev HasNoSpace : List ℕ → Type 0
 HasNoSpace word = All (λ b. (b == 32) ≡ false) word
-
-same : (word : List ℕ) → bytes_eq word word ≡ true
-same word = (bytes_eq-Decides word word).1 refl
 
 row_is : (row : TargetRow) → IsTellable row → row_in_text (told_text row) ≡ Some row
 row_is row is = row_again row.0 row.1 is.names is.runs is.some
@@ -38,12 +35,12 @@ line_is name verb text free = ap (λ parts. by_verb name parts) (cut_at 32 refl 
 named_is : (name verb rest : List ℕ) → is_free_name name ≡ true → named name verb (name ++ 32 ∷ rest) ≡ told_of verb (Some rest)
 named_is name verb rest is =
     ap (λ (parts : List ℕ × Option (List ℕ)). cond (bytes_eq parts.0 name) (told_of verb parts.1) Nothing) (cut_at 32 refl name rest (name_spaceless name is))
-    ∙ ap (λ b. cond b (told_of verb (Some rest)) Nothing) (same name)
+    ∙ ap (λ b. cond b (told_of verb (Some rest)) Nothing) (bytes_eq_refl name)
 
 named_alone : (name verb : List ℕ) → is_free_name name ≡ true → named name verb name ≡ told_of verb None
 named_alone name verb is =
     ap (λ (parts : List ℕ × Option (List ℕ)). cond (bytes_eq parts.0 name) (told_of verb parts.1) Nothing) (cut_nowhere 32 name (name_spaceless name is))
-    ∙ ap (λ b. cond b (told_of verb None) Nothing) (same name)
+    ∙ ap (λ b. cond b (told_of verb None) Nothing) (bytes_eq_refl name)
 
 other_is : (name other verb rest : List ℕ) → is_free_name other ≡ true → bytes_eq other name ≡ false → named name verb (other ++ 32 ∷ rest) ≡ Nothing
 other_is name other verb rest is differs =

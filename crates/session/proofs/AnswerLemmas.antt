@@ -10,6 +10,7 @@ use Rattle.exact.specs.First.{or_else}
 use Rattle.command_text.specs.Line.{IsRead, early_refusal, first_refusal, late_refusal, command_in}
 use Rattle.command_text.specs.Tree
 use Rattle.command_text.specs.Tree.{CommandTree}
+use Rattle.command_text.proofs.grammar.DerivedLines.{none_early}
 use Rattle.line_meaning.specs.declared.role.Role.{Role}
 use Rattle.line_meaning.specs.declared.role.Role.TheVariants.{Blank, Journalled, Telling, Indexing, Filing, Ending}
 use Rattle.line_meaning.specs.Looks.{is_query, looks_of, most_looks}
@@ -239,11 +240,6 @@ pub no_looks : (reads more : ℕ) → reads ≤ reads + more
 no_looks reads more = omega arith
 
 -- ---- a line that is read as a command
-
--- the refusals that need no memory hold of no line that was read
-none_early : (early late : Option Refusal) → or_else early late ≡ None → early ≡ None
-none_early None late h = refl
-none_early (Some r) late h = absurd (cc h)
 
 module _ (line : List ℕ) (c : CommandTree) (read : IsRead LINE_LIMIT line c) where
   refusal_is : (b : Base) → refusal_of b line ≡ refusal_with b c

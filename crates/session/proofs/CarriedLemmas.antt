@@ -1,4 +1,4 @@
--- What is done with a command and what it takes, from one moment to the next.
+-- For this crate and for the crates above: what is done with a command and what it takes, from one moment to the next.
 use Rattle.std.proofs.Common.{◌≡◌, ℕ, false, List, [], ◌++◌, refl, sym, ap, ◌∙◌, subst, append-nil, arith}
 use Rattle.std.specs.Prelude.{None, Ok, Err}
 use Rattle.command_text.specs.declared.fault.CommandFault.{CommandFault}

@@ -28,14 +28,6 @@ use Rattle.session.specs.Entering.{Admits}
 
 -- ---- refusals one after another
 
-pub none_of_both : (first other : Option Refusal) → or_else first other ≡ None → (first ≡ None) × (other ≡ None)
-none_of_both None other is = (refl, is)
-none_of_both (Some r) other is = absurd (cc is)
-
-pub none_holds : (r : Refusal) (b : Bool) → first_that_holds ((r, b) ∷ []) ≡ None → b ≡ false
-none_holds r true is = absurd (cc is)
-none_holds r false is = refl
-
 pub that_holds : (r : Refusal) (b : Bool) → b ≡ true → first_that_holds ((r, b) ∷ []) ≡ Some r
 that_holds r b is = ap (λ x. first_that_holds ((r, x) ∷ [])) is
 

@@ -1,12 +1,11 @@
 -- What the text of a session leads to, command by command.
 use Rattle.std.proofs.Common.{◌≡◌, ℕ, ◌+◌, ◌≤◌, ◌==◌, Bool, true, false, ◌&&◌, Option, None, Some, List, [], ◌∷◌, length, refl, ap, ◌∙◌, subst, arith, if◌then◌else◌}
-use Rattle.std.specs.Prelude.{is_none, nat_le, unwrap_or, option_map}
+use Rattle.std.specs.Prelude.{is_none, nat_le, unwrap_or}
 use Rattle.std.specs.List.{slice_split}
 use Rattle.std.specs.Str.Lines.{lines, lines_of_parts}
 use Rattle.std.proofs.lemmas.List.Splits.{length-slice_split}
 use Rattle.std.proofs.lemmas.List.Sums.{count_by-le-length}
 use Rattle.command_text.specs.declared.refusal.Refusal.{Refusal}
-use Rattle.command_text.specs.inner.Reading.{Read}
 use Rattle.command_text.specs.Journal.{Accepted, is_kept, spelled}
 use Rattle.command_text.specs.Line.{IsRead, command_in, early_refusal, first_refusal, late_refusal}
 use Rattle.command_text.specs.Text.{text_of}
@@ -21,6 +20,8 @@ use Rattle.session_file.specs.Reading.{GivesNextCommand, Reading, finished, read
 use Rattle.line_meaning.specs.Loading.{Loaded, BadLine, line_of_fault, loading_by, loading_of, replayed}
 use Rattle.line_meaning.specs.Step.{Held, fault_of, held, held_after}
 use Rattle.line_meaning.proofs.ReachedLemmas.{none_of_both}
+use Rattle.line_meaning.proofs.ImportLemmas.{none_is}
+use Rattle.line_meaning.proofs.StepLemmas.{taken_is}
 use Rattle.session.specs.Carried.{IsLegible}
 use Rattle.exact.proofs.Truths.{both_true}
 use Rattle.exact.proofs.Naturals.{at_most_from_test}
@@ -79,15 +80,6 @@ if_some : (b : Bool) (x c : CommandTree) → (if b then Some x else None) ≡ So
 if_some true x c h = (refl, cc h)
 if_some false x c h = absurd (cc h)
 
-none_is : (o : Option Refusal) → is_none o ≡ true → o ≡ None
-none_is None h = refl
-none_is (Some r) h = absurd (cc h)
-
-read_is : (found : Read CommandTree) → late_refusal found ≡ None →
-    option_map (λ f. f.0) found ≡ Some (unwrap_or (option_map (λ f. f.0) found) Tree.Nothing)
-read_is None h = absurd (cc h)
-read_is (Some f) h = refl
-
 abbrev pub IsLoadable : CommandTree → Type 0
 IsLoadable c = (is_kept c ≡ true) × IsLegible c
 
@@ -96,7 +88,7 @@ module _ (prints : PrintsWhatIsRead) (again : ReadsWhatIsPrinted) where
       spelled line ≡ c → IsLoadable c
   by_line line c none may is =
       let late = (none_of_both (early_refusal SESSION_LINE_LIMIT line) (late_refusal (command_in line)) none).1 in
-      let read : IsRead SESSION_LINE_LIMIT line c = record { taken = none; command = read_is (command_in line) late ∙ ap Some is } in
+      let read : IsRead SESSION_LINE_LIMIT line c = record { taken = none; command = taken_is (command_in line) late ∙ ap Some is } in
       let two = both_true (is_kept c) (nat_le (length (text_of c)) SESSION_LINE_LIMIT) (subst (λ d. may_be_loaded d ≡ true) is may) in
       let short = at_most_from_test (length (text_of c)) SESSION_LINE_LIMIT two.1 in
       let printable = prints SESSION_LINE_LIMIT line c read in

@@ -37,6 +37,8 @@ use Rattle.line_meaning.specs.QueryFault.{command_fault, register_refusal}
 use Rattle.line_meaning.specs.Registry.{Known, Registration, has_name, is_registered, known, live_after, registered, registration}
 use Rattle.line_meaning.specs.Step.{fault_of, held}
 use Rattle.line_meaning.proofs.RefusalLemmas.{registered_by_fault}
+use Rattle.line_meaning.proofs.LoadingLemmas.{first_none}
+use Rattle.line_meaning.proofs.ReachedLemmas.{none_of_both}
 use Rattle.live_queries.specs.Asked.{FitsWorld}
 use Rattle.live_queries.specs.Current.{IsCurrentFor}
 use Rattle.live_queries.specs.Kept.{KeptQuery}
@@ -54,7 +56,7 @@ use Rattle.session.specs.declared.state.State.{State}
 use Rattle.session.specs.Carried.{IsAccepted, IsStopped}
 use Rattle.session.specs.Entering.{Admits}
 use Rattle.session.specs.State.{IsState}
-use Rattle.session.proofs.FaultLemmas.{accepted, accepted_kept, none_holds, none_of_both, stopped_by, stopped_full, stopped_lacking}
+use Rattle.session.proofs.FaultLemmas.{accepted, accepted_kept, stopped_by, stopped_full, stopped_lacking}
 use Rattle.session.proofs.KnownLemmas.{entered_state, keeps_same, known_is}
 
 -- ---- a command that registers a query, of either kind
@@ -211,7 +213,7 @@ unregistered k name there is = ap (λ b. first_that_holds ((refusals.UnknownName
 pub name_is_free : (k : Known) (name : List ℕ) (span : ℕ) (q : QueryTree) → register_refusal k name span q ≡ None → is_registered k.live name ≡ false
 name_is_free k name span q none =
     let later = (none_of_both (unknown_among (type_refusal k.world q)) _ (sym (registered_by_fault k name span q) ∙ none)).1 in
-    none_holds refusals.NameTaken (is_registered k.live name)
+    first_none refusals.NameTaken (is_registered k.live name)
     (none_of_both (first_that_holds ((refusals.NameTaken, is_registered k.live name) ∷ []))
     (or_else (type_refusal k.world q) (register_size_refusal k span q)) later).0
 

@@ -29,6 +29,7 @@ use Rattle.line_meaning.specs.Step.{fault_of, held}
 use Rattle.session.specs.Carried.{lines_by}
 use Rattle.session.specs.Rows.{IsImportedRow, IsRowCommand, journal_after_commands, lines_of_commands, looks_of_commands, row_commands}
 use Rattle.line_meaning.proofs.RoleLemmas.{kept_is_journalled}
+use Rattle.line_meaning.proofs.ImportLemmas.{none_is}
 use Rattle.session.proofs.FaultLemmas.{accepted, kept_fault}
 use Rattle.database.specs.Written.{writes_object}
 
@@ -91,11 +92,6 @@ module _ (journal : List Accepted) (c : CommandTree) (write : writes_object c �
   pub taken_by : passes_limits (length journal) (bytes_of journal) (length (text_of c)) ≡ false → command_fault (known journal) c ≡ None →
       is_taken journal c ≡ true
   taken_by room right = ap is_none (accepted journal c (write_kept c write) right room)
-
--- what is taken has no fault
-none_is : (f : Option Refusal) → is_none f ≡ true → f ≡ None
-none_is None is = refl
-none_is (Some r) is = absurd (cc is)
 
 pub taken_right : (journal : List Accepted) (c : CommandTree) → is_taken journal c ≡ true → fault_of (held journal) c ≡ None
 taken_right journal c taken = none_is (fault_of (held journal) c) taken

@@ -22,12 +22,12 @@ use Rattle.line_meaning.specs.Changes.{write_lines}
 use Rattle.line_meaning.specs.Role.{is_on_queries}
 use Rattle.live_queries.specs.declared.fresh.Renewal.{Renewal}
 use Rattle.live_queries.specs.Asked.{FitsWorld}
-use Rattle.live_queries.specs.Columns.{AreSameColumns, Column}
 use Rattle.live_queries.specs.Current.{AreCurrent, IsCurrentFor, row_at}
 use Rattle.live_queries.specs.Kept.{AreKept, IsKeptQuery, KeptQuery, registered_query}
 use Rattle.live_queries.specs.Prepared.{AreFreshFor, AreMade, IsFreshFor, IsMade, Prepared}
 use Rattle.live_queries.specs.Renewed.{AddsAtMost, ChangesNoObject, IsRenewed, IsSameRequest}
 use Rattle.live_queries.specs.Told.{changes_of, moves_of, passings_of, told_changes}
+use Rattle.live_queries.proofs.SpreadLemmas.{same_columns}
 use Rattle.database.specs.declared.change.Change.{Change}
 use Rattle.database.specs.declared.database.Database.{Database}
 use Rattle.database.specs.Attempt.{Carries}
@@ -65,10 +65,6 @@ pub record Laws : Type 0 where
       → passings_of before now k ≡ told_changes k.name (changes_of_tick w (registered_query k) before now)
 
 -- ---- queries that stay as they are
-
-same_columns : (cs : List Column) → AreSameColumns cs cs
-same_columns [] = tt
-same_columns (c ∷ cs) = (refl, refl, same_columns cs)
 
 pub same_head : (k : KeptQuery) → IsSameRequest k k
 same_head k = record { name = refl; kind = refl; query = refl; entry = refl; expiry = refl; columns = same_columns k.columns }

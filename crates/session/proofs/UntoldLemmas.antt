@@ -1,4 +1,4 @@
--- What is done with a line by some texts that the shelf may have.
+-- For this crate and for the crates above: what is done with a line by some texts that the shelf may have.
 use Rattle.std.proofs.Common.{◌≡◌, ◌≤◌, ℕ, ◌+◌, Bool, true, false, Option, None, Some, List, refl, sym, ap, ◌∙◌, subst, inl, arith}
 use Rattle.std.specs.Prelude.{is_err, option_map, Result, Ok, Err}
 use Rattle.outside.specs.Shelf.{Texts}
@@ -34,7 +34,7 @@ abbrev pub some_texts : Option Texts → Option (List ℕ) → Texts
 some_texts None found = λ _. found
 some_texts (Some texts) found = texts
 
-same_texts : (x y : Texts) → Some x ≡ Some y → x ≡ y
+pub same_texts : (x y : Texts) → Some x ≡ Some y → x ≡ y
 same_texts x y h = cc h
 
 agrees : (told : Option Texts) (found : Option (List ℕ)) → MayHave told (some_texts told found)

@@ -1,5 +1,5 @@
 -- Commands of a journal by what a line is read as.
-use Rattle.std.proofs.Common.{◌≡◌, ℕ, ◌∙◌, Bool, true, false, cond, ◌&&◌, List, Option, Some, None, is_none, length, leb, arith, ◌*◌, ◌≤◌, unwrap_or, ap, sym, refl}
+use Rattle.std.proofs.Common.{◌≡◌, ℕ, ◌∙◌, Bool, true, false, cond, ◌&&◌, List, Option, Some, None, is_none, length, leb, arith, ◌*◌, ◌≤◌, unwrap_or, ap, sym}
 use Rattle.command_text.specs.declared.refusal.Refusal.{Refusal}
 use Rattle.command_text.specs.Tree
 use Rattle.command_text.specs.Tree.{CommandTree}
@@ -7,8 +7,8 @@ use Rattle.command_text.specs.Journal.{spelled}
 use Rattle.std.proofs.lemmas.Bool.Decides.{nat_tests}
 use Rattle.command_text.specs.Text.{text_of}
 use Rattle.command_text.specs.TextLaws.{PrintsShortly}
-use Rattle.exact.specs.First.{or_else}
 use Rattle.command_text.specs.Line.{IsRead, command_in, early_refusal, first_refusal, late_refusal}
+use Rattle.command_text.proofs.grammar.DerivedLines.{none_early}
 use Rattle.session_file.specs.Kept.{kept_in, may_be_loaded}
 
 -- what is read is what the line spells
@@ -38,12 +38,8 @@ kept_refused line r is =
 pub short_enough : PrintsShortly → (line : List ℕ) (c : CommandTree) → IsRead 16384 line c → length line ≤ 4096 → true ≡ leb (length (text_of c)) 16384
 short_enough shortly line c read few = let long : length (text_of c) ≤ 4 * length line = shortly 16384 line c read in grind (arith, nat_tests, long, few)
 
-none_first : (early late : Option Refusal) → or_else early late ≡ None → early ≡ None
-none_first None late h = refl
-none_first (Some r) late h = absurd (cc h)
-
 -- none of the first three refusals holds of a line that was read
 pub read_late : (line : List ℕ) (c : CommandTree) → IsRead 16384 line c → early_refusal 16384 line ≡ None
-read_late line c read = none_first (early_refusal 16384 line) (late_refusal (command_in line)) read.taken
+read_late line c read = none_early (early_refusal 16384 line) (late_refusal (command_in line)) read.taken
 
 pub ruleset kept_steps = (kept_taken, kept_other, kept_refused)

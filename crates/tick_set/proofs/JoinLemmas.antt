@@ -1,4 +1,4 @@
--- Runs that grow at their end.
+-- For this crate and for the crates above: runs that grow at their end.
 use Rattle.std.proofs.Common.{◌≡◌, ℕ, zero, suc, ◌+◌, ◌<◌, ◌≤◌, true, false, ◌||◌, Option, List, [], ◌∷◌, ◌++◌, length, get_or, set, ◌∙◌, sym, refl, subst, inl, inr, arith}
 use Rattle.std.specs.Prelude.{IfSome, slice_get}
 use Rattle.std.proofs.lemmas.Option.{slice_get-get_or}
@@ -38,7 +38,7 @@ ticks_longer_at (x ∷ xs) zero d longer last same l u = alone xs (omega arith)
 ticks_longer_at (x ∷ xs) (suc k) d longer last same l u = grind (arith, ticks_longer_at xs k d longer (omega arith) same l u)
 
 -- ---- the ticks before a span that is past those of the runs
-at_least : (runs : List Span) (from k : ℕ) (d : Span) → IsNormalFrom from runs → k < length runs → from ≤ (get_or runs k d).lo
+pub at_least : (runs : List Span) (from k : ℕ) (d : Span) → IsNormalFrom from runs → k < length runs → from ≤ (get_or runs k d).lo
 at_least [] from k d normal within = absurd (omega arith)
 at_least (x ∷ xs) from zero d normal within = normal.0
 at_least (x ∷ xs) from (suc k) d normal within =

@@ -18,7 +18,7 @@ abbrev pub HaveNoFeeds : List (List ℕ) → Type 0
 HaveNoFeeds [] = Unit {0}
 HaveNoFeeds (line ∷ lines) = (has_no_feed line ≡ true) × HaveNoFeeds lines
 
-no_feed_on : (b : ℕ) → is_no_feed b ≡ true → (b == 10) ≡ false
+pub no_feed_on : (b : ℕ) → is_no_feed b ≡ true → (b == 10) ≡ false
 no_feed_on b h = grind (arith, nat_tests)
 
 no_feed_by : (b : ℕ) → (b == 10) ≡ false → is_no_feed b ≡ true

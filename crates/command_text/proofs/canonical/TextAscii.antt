@@ -1,11 +1,12 @@
 -- Which bytes tokens have, and lines that are cut into such tokens.
-use Rattle.command_text.proofs.Names.{◌≡◌, ℕ, zero, suc, ◌+◌, ◌-◌, ◌<◌, Bool, true, ◌||◌, not, List, [], ◌∷◌, ◌++◌, take, length, map, Option, None, Some, IsTrue, refl, sym, ap, ap₂, subst, ◌∙◌, arith, eqb, inl, inr, take-append-drop, length-drop, option_map, option_and_then, bytes_eq, AllByRecursion, list_all, is_ascii_digit, cases_Bool, and_parts, or_parts, nat_tests, Decides-eqb, take_all, bytes_eq-Decides, code_of, reserved_words, symbols, Kind, Token, is_blank, begins_name, continues_name, digits_len, fraction_len, number_len, token_at, lexemes, tokens_of, bytes_of_token, Lexeme, cut, HasForm, is_word, is_number, IsQuoted, is_ascii, has_other_byte, IsAscii}
+use Rattle.command_text.proofs.Names.{◌≡◌, ℕ, zero, suc, ◌+◌, ◌-◌, ◌<◌, Bool, true, ◌||◌, not, List, [], ◌∷◌, ◌++◌, take, length, map, Option, None, Some, IsTrue, refl, sym, ap, ap₂, subst, ◌∙◌, arith, eqb, inl, inr, take-append-drop, length-drop, option_map, option_and_then, AllByRecursion, list_all, is_ascii_digit, cases_Bool, and_parts, or_parts, nat_tests, Decides-eqb, take_all, code_of, reserved_words, symbols, Kind, Token, is_blank, begins_name, continues_name, digits_len, fraction_len, number_len, token_at, lexemes, tokens_of, bytes_of_token, Lexeme, cut, HasForm, is_word, is_number, IsQuoted, is_ascii, has_other_byte, IsAscii}
 use Rattle.std.proofs.Common.{drop}
 use Rattle.std.proofs.lemmas.List.Folds.{list_any-append}
 use Rattle.ftl_lexer.specs.declared.kinds.Kind.TheVariants as kinds
 use Rattle.ftl_lexer.proofs.Shapes.{some_is}
 use Rattle.ftl_lexer.proofs.Fronts.{unquoted_parts}
 use Rattle.ftl_lexer.proofs.Steps.{then_part, else_part, none_is_some, token_at_within}
+use Rattle.ftl_lexer.proofs.Longest.{row_is}
 use Rattle.ftl_parser.specs.Piece as query
 use Rattle.exact.proofs.Truths.{false_from_not}
 use Rattle.exact.proofs.Items.{front_passes}
@@ -87,17 +88,6 @@ number_ascii bytes is =
     subst IsAscii (take-append-drop (digits_len bytes) bytes)
     (joined_ascii (take (digits_len bytes) bytes) rest (each_ascii is_ascii_digit digit_ascii (take (digits_len bytes) bytes)
     (front_passes is_ascii_digit bytes)) (fraction_ascii rest back))
-
--- a word that has a code is a row's
-pub row_is : (p : List ℕ → Bool) (rows : List (List ℕ × ℕ)) (word : List ℕ) (code : ℕ) → list_all (λ r. p r.0) rows ≡ true
-    → code_of rows word ≡ Some code → p word ≡ true
-row_is p [] word code all is = let bad : None ≡ Some code = is in absurd (cc)
-row_is p (r ∷ rows) word code all is =
-    let parts = and_parts (p r.0) (list_all (λ s. p s.0) rows) all in
-    elim (cases_Bool (bytes_eq r.0 word)) [
-      | inl here ↦ subst (λ (w : List ℕ). p w ≡ true) ((bytes_eq-Decides r.0 word).0 here) parts.0
-      | inr other ↦ row_is p rows word code parts.1 (rw other at is)
-    ]
 
 key_ascii : (word : List ℕ) (code : ℕ) → code_of reserved_words word ≡ Some code → IsAscii word
 unfolding reserved_words

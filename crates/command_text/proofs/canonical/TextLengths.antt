@@ -1,4 +1,4 @@
--- A canonical line has at most four bytes for each byte of the tokens that spell its command.
+-- For this crate and for the crates above: a canonical line has at most four bytes for each byte of the tokens that spell its command.
 use Rattle.command_text.proofs.Names.{◌≡◌, ℕ, zero, suc, ◌+◌, ◌*◌, ◌≤◌, Bool, true, false, List, [], ◌∷◌, ◌++◌, append_assoc, take, length, length-append, Option, None, Some, IsTrue, ℤ, pos, refl, sym, ap, subst, arith, leb, inl, inr, ◌⊎◌, codes, if◌then◌else◌, flat_map, decimal, option_map_or, leb-true, and_parts, drop_at, take_at, length-drop, sum_by-cons, code_of, reserved_words, RATE_WORD, COMMA, CLOSE_SQUARE, fix_text, Point, Function, are_firsts, level, AttrKind, Given, NamedSet, Place, lexemes, Lexeme, is_word, HaveForms, QueryTree, SpellsQuery, query_text, Part, Parts, is_verb, parts, Piece, NUMBER, piece_of, line_pieces, SignedPlace, Steps, function_of, CommandTree, Notes, whole_at, legs_of_x, legs_of_y, SpellsNumAt, num_plain, num_minus, SpellsPair, SpellsAttr, attr_num, attr_text, attr_dyn, SpellsMoreAttrs, no_more_attrs, one_more_attr, SpellsAttrs, no_attrs, SpellsPoints, no_points, one_point, SpellsRateLegs, no_rate_legs, one_rate_leg, SpellsRates, SpellsMoveLegs, no_move_legs, one_move_leg, SpellsMoves, SpellsGiven, given_num, SpellsSettings, no_settings, one_setting, SpellsAt, not_at, SpellsMoving, not_moving, SpellsChange, change, SpellsPointWord, no_point_word, token_of, SpellsPart, part_verb, part_name, part_text, part_whole, part_error, part_num, part_point_word, part_attrs, part_points, part_change, SpellsParts, no_parts, last_part, last_query, part_before, SpellsCommand, by_parts, pair_text, rate_leg_text, rates_text, move_leg_text, move_legs_text, moves_text, next_attr_text, attrs_text, points_text, settings_text, at_text, moving_text, object_change_text, text_of, CLOSE, WORD, reserved, slice_get, slice_get_past, CLASS}
 use Rattle.std.proofs.Common.{drop}
 use Rattle.motion.specs.declared.cell.AttrKind.TheVariants as attr_kinds
@@ -90,7 +90,7 @@ points_short (one_point {x = x} {y = y} {xs = xs} {ps = ps} {ys = ys} d e) =
 
 -- ---- legs
 
-rate_leg_size : (a : ℤ) (n : ℕ) → length (rate_leg_text (a, n)) ≡ length (fix_text a) + length (decimal n) + 4
+pub rate_leg_size : (a : ℤ) (n : ℕ) → length (rate_leg_text (a, n)) ≡ length (fix_text a) + length (decimal n) + 4
 rate_leg_size a n = simp length-append (omega arith)
 
 rate_legs_short : {ls : List (ℤ × ℕ)} {xs : List Piece} {s t : Notes} → SpellsRateLegs ls s t xs → length (flat_map rate_leg_text ls) ≤ 4 * load xs

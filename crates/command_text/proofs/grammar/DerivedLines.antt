@@ -1,4 +1,4 @@
--- What is read of tokens and of lines, and why lines are refused, in words of the grammar.
+-- For this crate and for the crates above: what is read of tokens and of lines, and why lines are refused, in words of the grammar.
 use Rattle.command_text.proofs.Names.{◌≡◌, ℕ, Bool, true, false, List, [], ◌∷◌, Option, Some, None, option_map, refl, sym, ◌∙◌, ap, ap₂, subst, Result, Ok, Err, IfOk, IfErr, Command, CommandFault, Refusal, Piece, line_pieces, CommandTree, command_view, Notes, good, SpellsCommand, Reader, Read, notes, before, at_first, command_of, first_that_holds, is_comment, is_too_long, has_other_byte, has_bad_token, command_in, early_refusal, late_refusal, first_refusal, or_else, IsRead, AreReadByTheGrammar, PassesTheFirstThree, IsJudgedByTokens, SpellsWithinLimits, SpellsNoCommand, IsReadByTheGrammar, IsRefusedByTheGrammar, IsSpelled, IsFaultOf, first_notes}
 use Rattle.command_text.specs.declared.fault.CommandFault.TheVariants as faults
 use Rattle.command_text.specs.declared.refusal.Refusal.TheVariants as refusals
@@ -76,7 +76,7 @@ early_means limit line r e = early_by (is_too_long limit line) (has_other_byte l
 first_of_late : (limit : ℕ) (line : List ℕ) → early_refusal limit line ≡ None → first_refusal limit line ≡ late_refusal (command_in line)
 first_of_late limit line e = ap (λ o. or_else o (late_refusal (command_in line))) e
 
-none_early : (o p : Option Refusal) → or_else o p ≡ None → o ≡ None
+pub none_early : (o p : Option Refusal) → or_else o p ≡ None → o ≡ None
 none_early None p e = refl
 none_early (Some r) p e = absurd (cc)
 

@@ -1,4 +1,4 @@
--- A line that is read as a command begins with the command's first word.
+-- For this crate and for the crates above: a line that is read as a command begins with the command's first word.
 use Rattle.command_text.proofs.Names.{◌≡◌, ℕ, zero, suc, ◌+◌, ◌-◌, ◌≤◌, ◌&&◌, nat_le, leb, leb-true, and_parts, Bool, true, false, List, [], ◌∷◌, ◌++◌, take, map, Option, None, Some, option_map, option_and_then, option_map_or, unwrap_or, refl, sym, ap, ◌∙◌, arith, inl, inr, ◌⊎◌, cases_Bool, bytes_eq, bytes_eq-Decides, code_of, reserved_words, Kind, Lexeme, lexemes, bytes_of_token, HasForm, HaveForms, bad_place, cut, token_at, is_blank, Part, Parts, Piece, NAME, piece_of, line_pieces, CommandTree, Notes, token_of, SpellsPart, part_verb, SpellsParts, no_parts, last_part, last_query, part_before, SpellsCommand, by_parts, Read, at_first, if◌then◌else◌, command_of, is_comment, command_in, IsTrue, WORD, before, first_notes, good, is_short, is_verb, is_word, length, reserved, short_word, slice_get_past, ◌<◌, CLASS}
 use Rattle.std.proofs.Common.{one-add, eqb}
 use Rattle.std.proofs.lemmas.Bool.Decides.{Decides-eqb}
@@ -23,7 +23,7 @@ record StandsFirst (line word : List ℕ) : Type 0 where
   len : ℕ
   is : word ≡ take len (after_blanks line)
 
-put_first : (first l : Lexeme) (o : Option (List Lexeme)) (rest : List Lexeme) → option_map (λ more. first ∷ more) o ≡ Some (l ∷ rest) → first ≡ l
+pub put_first : (first l : Lexeme) (o : Option (List Lexeme)) (rest : List Lexeme) → option_map (λ more. first ∷ more) o ≡ Some (l ∷ rest) → first ≡ l
 put_first first l None rest e = absurd (cc)
 put_first first l (Some more) rest e = let same : first ∷ more ≡ l ∷ rest = cc in cc
 
@@ -200,7 +200,7 @@ line_by line word (l ∷ all) later e forms verb h =
     let at = cut_first line l all e in
     begins_by at.len (after_blanks line) word (sym (same_word l.0 l.1 word forms.0 verb first) ∙ at.is)
 
-bad_has_none : (line : List ℕ) (place : ℕ) → bad_place line ≡ Some place → line_pieces line ≡ []
+pub bad_has_none : (line : List ℕ) (place : ℕ) → bad_place line ≡ Some place → line_pieces line ≡ []
 bad_has_none line place e = ap token.pieces (ap (map (λ t. (t.kind, bytes_of_token line t))) (no_tokens line place e))
 
 word_first : (line word : List ℕ) (bad : Option ℕ) → bad_place line ≡ bad → HasFirst word (line_pieces line) → begins_with (after_blanks line) word ≡ true

@@ -4,14 +4,14 @@ use Rattle.ftl_parser.proofs.Names.{◌≡◌, ℕ, zero, suc, ◌+◌, ◌-◌,
 use Rattle.std.proofs.Math.Dec.{leb-zero}
 use Rattle.std.proofs.lemmas.Int.Digits.{digits_value-lt}
 use Rattle.std.proofs.Math.Nat.{pow-le-pow_right}
-use Rattle.fixed_point.proofs.DecimalLemmas.{decimal_law}
+use Rattle.fixed_point.proofs.DecimalLemmas.{decimal_law, size_with_sign}
 use Rattle.fixed_point.proofs.DigitLemmas.{digit_below_ten}
 use Rattle.exact.proofs.Integers.{size_of_minus}
 use Rattle.exact.proofs.Items.{sign_short as one_sign}
 
 -- ---- whole numbers
 
-all_digits : (text : List ℕ) → list_all is_ascii_digit text ≡ true → AllDigits 10 text
+pub all_digits : (text : List ℕ) → list_all is_ascii_digit text ≡ true → AllDigits 10 text
 all_digits [] are = tt
 all_digits (byte ∷ text) are =
     let parts = and_parts (is_ascii_digit byte) (list_all is_ascii_digit text) are in
@@ -109,11 +109,6 @@ sign_short false size = grind arith
 sign_short true zero = omega arith
 sign_short true (suc size) = omega arith
 
-size_again : (negative : Bool) (size : ℕ) → unsigned_abs (with_sign negative size) ≡ size
-size_again false size = refl
-size_again true zero = refl
-size_again true (suc size) = refl
-
 -- ---- numbers with decimals
 
 pub fix_text_is : (value : ℤ) → fix_text value ≡ sign_text (is_negative value) ++ decimal (unsigned_abs value / 1000) ++ decimals_text
@@ -137,7 +132,7 @@ parts_short negative whole decimals are behind =
     let point : length (decimals_text (without_last_zeros (three_digits (decimals_value decimals)))) ≤ length (decimals_text decimals) =
     point_short (without_last_zeros (three_digits (decimals_value decimals))) decimals (decimals_short decimals behind) in
     let sign : length (sign_text (is_negative (with_sign negative size))) ≤ length (sign_text negative) = sign_short negative size in
-    rw (fix_text_is (with_sign negative size), size_again negative size, front, back) (simp length-append (omega (arith, digits_are, point, sign)))
+    rw (fix_text_is (with_sign negative size), size_with_sign negative size, front, back) (simp length-append (omega (arith, digits_are, point, sign)))
 
 zero_text : fix_text (pos 0) ≡ 48 ∷ []
 unfolding fix_text

@@ -3,9 +3,9 @@ use Rattle.geometry.specs.Plane.{squared_distance}
 use Rattle.meaning.specs.Atom.{distance_holds}
 use Rattle.tick_set.specs.Ticks.{within}
 use Rattle.atoms.specs.Routes.{place_along}
-use Rattle.atoms.proofs.RouteLemmas.{distance_above}
 use Rattle.atoms.proofs.RunLemmas.{within_same}
 use Rattle.atoms.proofs.routes.ticks_apart.Goals as goal
+use Rattle.distance_crossing.proofs.FarLemmas.{distance_above}
 
 pub returns-then-keep_apart : goal.returns-then-keep_apart
 returns-then-keep_apart c = record {

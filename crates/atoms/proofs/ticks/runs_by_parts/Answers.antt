@@ -1,12 +1,12 @@
 use Rattle.std.proofs.Common.{◌+◌, ◌-◌, arith}
 use Rattle.courses.specs.Parts.{epochs_of_each}
+use Rattle.courses.proofs.PartLemmas.{length-epochs_of_each}
 use Rattle.distance_crossing.specs.Triples.{triple_spans}
 use Rattle.meaning.specs.Atom.{atom_holds}
 use Rattle.atoms.specs.Parts.{pieces_asked, trace_by}
 use Rattle.atoms.specs.Probes.{probe_limit}
 use Rattle.atoms.proofs.GatherLemmas.{gathered_more, gathered_past}
 use Rattle.atoms.proofs.NamingLemmas.{cost_less}
-use Rattle.atoms.proofs.PartLemmas.{same_length}
 use Rattle.atoms.proofs.ProbeLemmas.{part_cost}
 use Rattle.atoms.proofs.TickLemmas.{part_found}
 use Rattle.atoms.proofs.ticks.runs_by_parts.Goals as goal
@@ -23,7 +23,7 @@ joining-preserved g c =
     let found = part_found c.args.regions.now a c.args.env.now trace part (triple_spans c.judged.result) c.part_from-part.ensures.part.shown c.judged.ensures.runs in
     let cost = part_cost a part c.args.variables.now c.joining.probes c.judged.new.probes (w.hi - w.lo) (pieces_asked asked timelines (part.span.hi + 1) w.hi) (pieces_asked asked timelines c.joining.at w.hi)
     c.requires.sized c.requires.variables c.part_from-part.ensures.part.of_variables (omega (arith, begins, c.part_from-part.ensures.part.within, c.joining.invariant.from))
-    c.judged.ensures.cost c.judged.ensures.absent (λ some each. c.part_from-part.ensures.part.fewer (omega (arith, some, c.requires.same, same_length c.args.timelines.now)) each) c.part_from-part.ensures.part.not_more in
+    c.judged.ensures.cost c.judged.ensures.absent (λ some each. c.part_from-part.ensures.part.fewer (omega (arith, some, c.requires.same, length-epochs_of_each c.args.timelines.now)) each) c.part_from-part.ensures.part.not_more in
     record {
       from = omega (arith, begins, part.span.ordered, c.joining.invariant.from);
       until = omega (arith, c.part_from-part.ensures.part.within);
@@ -51,7 +51,7 @@ returns-in_err-append-clause-cost g c =
     let begins = c.part_from-part.ensures.part.begins in
     let cost = part_cost c.args.a.now part c.args.variables.now c.joining.probes c.judged.new.probes (w.hi - w.lo) (pieces_asked asked timelines (part.span.hi + 1) w.hi) (pieces_asked asked timelines c.joining.at w.hi)
     c.requires.sized c.requires.variables c.part_from-part.ensures.part.of_variables (omega (arith, begins, c.part_from-part.ensures.part.within, c.joining.invariant.from))
-    c.judged.ensures.cost c.judged.ensures.absent (λ some each. c.part_from-part.ensures.part.fewer (omega (arith, some, c.requires.same, same_length c.args.timelines.now)) each) c.part_from-part.ensures.part.not_more in
+    c.judged.ensures.cost c.judged.ensures.absent (λ some each. c.part_from-part.ensures.part.fewer (omega (arith, some, c.requires.same, length-epochs_of_each c.args.timelines.now)) each) c.part_from-part.ensures.part.not_more in
     omega (arith, cost, c.joining.invariant.most, cost_less (probe_limit c.args.a.now (w.hi - w.lo)) asked timelines w.lo w.hi)
 
 pub returns-clause-cost : goal.returns-clause-cost

@@ -9,12 +9,13 @@ use Rattle.relation.specs.Frames.{domain_size}
 use Rattle.formula.specs.Resolved.{are_distinct}
 use Rattle.relation.specs.Key.{are_known, has_id, key_in}
 use Rattle.relation.specs.Rows.{Table}
+use Rattle.relation.proofs.UnionLemmas.{among_itself}
 use Rattle.evaluator.specs.Keys.{AreKeys}
 use Rattle.evaluator.specs.Rows.{AreRowsWhere}
 use Rattle.evaluator.specs.inner.ByBinding.{holds_at, reads_here}
 use Rattle.evaluator.specs.inner.Filled.{IsFilled, keys_behind}
 use Rattle.evaluator.proofs.ByKeyLemmas.{by_blocks, by_keys, key_says}
-use Rattle.evaluator.proofs.FillingLemmas.{block_above, filled_all, filled_block, first_inside, own_at}
+use Rattle.evaluator.proofs.FillingLemmas.{block_above, filled_all, filled_block, first_inside}
 use Rattle.evaluator.proofs.KeyLemmas.{keys_more, keys_none}
 use Rattle.evaluator.proofs.ReadLemmas.{block_step, one_of}
 use Rattle.evaluator.proofs.VariableLemmas.{distinct_variables, few_variables, known_variables}
@@ -66,7 +67,7 @@ pub put_rows-requires-clause-inside : goal.put_rows-requires-clause-inside
 put_rows-requires-clause-inside g c =
     let are = subst (AreKeys c.args.d.now c.in-Some.rest.now) (sym c.items-later.ensures) c.in_ok-keys.ensures in
     let id = get_or c.of-id-items.result.now c.ids.id-index 0 in
-    let own = subst (λ (z : List ℕ). has_id z id ≡ true) c.of-id-items.ensures.value (own_at c.of-id-items.result.now c.ids.id-index 0 (omega (arith, c.ids-test.true))) in
+    let own = subst (λ (z : List ℕ). has_id z id ≡ true) c.of-id-items.ensures.value (among_itself c.of-id-items.result.now c.ids.id-index 0 (omega (arith, c.ids-test.true))) in
     let domains : c.ids.made.domains ≡ c.args.d.now = c.ids.invariant.rows.head.domains ∙ ap (λ (r : Table g.row.S.Denot). r.domains) c.empty-made.ensures in
     (λ i. list_all (λ key. key_in (domains i) (c.in-Some.ensures.cases.0 i) (id ∷ key)) c.items-later.result.now)
     ∙ first_inside c.args.d.now c.in-Some.first.now c.in-Some.rest.now id c.items-later.result.now own are.inside

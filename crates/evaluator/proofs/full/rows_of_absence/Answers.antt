@@ -5,9 +5,10 @@ use Rattle.std.proofs.lemmas.List.{take_all}
 use Rattle.tick_set.specs.Ticks.{within}
 use Rattle.relation.specs.Key.{has_id, key_below, key_in}
 use Rattle.relation.specs.Rows.{Table}
+use Rattle.relation.proofs.UnionLemmas.{among_itself}
 use Rattle.evaluator.specs.inner.Filled.{IsFilled, keys_behind}
 use Rattle.evaluator.proofs.AtomLemmas.{known_one}
-use Rattle.evaluator.proofs.FillingLemmas.{block_above, filled_all, filled_block, filled_none, filled_put, fits_inside, fits_lies, own_at}
+use Rattle.evaluator.proofs.FillingLemmas.{block_above, filled_all, filled_block, filled_none, filled_put, fits_inside, fits_lies}
 use Rattle.evaluator.proofs.KeyLemmas.{keys_more, keys_none}
 use Rattle.evaluator.proofs.full.rows_of_absence.Goals as goal
 
@@ -24,7 +25,7 @@ ids-init g c = record {
 pub absence-requires : goal.absence-requires
 absence-requires g c =
     let id = get_or c.of-id-items.result.now c.ids.id-index 0 in
-    c.requires.objects id (subst (λ (z : List ℕ). has_id z id ≡ true) c.of-id-items.ensures.value (own_at c.of-id-items.result.now c.ids.id-index 0 (omega (arith, c.ids-test.true))))
+    c.requires.objects id (subst (λ (z : List ℕ). has_id z id ≡ true) c.of-id-items.ensures.value (among_itself c.of-id-items.result.now c.ids.id-index 0 (omega (arith, c.ids-test.true))))
 
 pub put-requires-clause-above : goal.put-requires-clause-above
 put-requires-clause-above g c =
@@ -36,7 +37,7 @@ put-requires-clause-above g c =
 pub put-requires-clause-inside : goal.put-requires-clause-inside
 put-requires-clause-inside g c =
     let id = get_or c.of-id-items.result.now c.ids.id-index 0 in
-    let own = subst (λ (z : List ℕ). has_id z id ≡ true) c.of-id-items.ensures.value (own_at c.of-id-items.result.now c.ids.id-index 0 (omega (arith, c.ids-test.true))) in
+    let own = subst (λ (z : List ℕ). has_id z id ≡ true) c.of-id-items.ensures.value (among_itself c.of-id-items.result.now c.ids.id-index 0 (omega (arith, c.ids-test.true))) in
     let inside : key_in c.args.d.now (c.args.var ∷ []) (id ∷ []) ≡ true = and_from _ _ own refl in
     subst (λ (k : List ℕ). key_in c.ids.away.domains c.ids.away.vars k ≡ true) (sym c.key_of.ensures)
     (fits_inside c.empty-away.result c.ids.away c.ids.invariant.rows.head (c.args.var ∷ []) c.args.d.now c.args.w.lo c.args.w.hi c.empty-away.ensures (id ∷ []) inside)

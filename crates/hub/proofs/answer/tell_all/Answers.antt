@@ -1,8 +1,9 @@
 use Rattle.std.proofs.Common.{get_or, refl}
 use Rattle.command_text.specs.Tree.{command_view}
 use Rattle.hub.specs.Told.{HasLineFor, MayBeTold}
-use Rattle.hub.proofs.TellingLemmas.{all_told, begins_same, holds_next, none_told, one_told}
+use Rattle.hub.proofs.TellingLemmas.{all_told, holds_next, none_told, one_told}
 use Rattle.hub.proofs.answer.tell_all.Goals as goal
+use Rattle.session.proofs.CarriedLemmas.{begins_same}
 
 pub seats-init : goal.seats-init
 seats-init g c =

@@ -5,9 +5,10 @@ use Rattle.std.proofs.lemmas.List.{take_all}
 use Rattle.tick_set.specs.Runs.{spans_have}
 use Rattle.tick_set.specs.Ticks.{within}
 use Rattle.relation.specs.Key.{are_known, has_id, key_below, key_in}
+use Rattle.relation.proofs.UnionLemmas.{among_itself}
 use Rattle.evaluator.specs.Keys.{AreKeys}
 use Rattle.evaluator.specs.inner.Filled.{IsFilled, keys_behind}
-use Rattle.evaluator.proofs.FillingLemmas.{block_above, filled_all, filled_block, first_inside, own_at}
+use Rattle.evaluator.proofs.FillingLemmas.{block_above, filled_all, filled_block, first_inside}
 use Rattle.evaluator.proofs.KeyLemmas.{keys_more}
 use Rattle.pairs.specs.Pairs.{IsMover, atom_at, holds_in, keys_of}
 use Rattle.pairs.specs.declared.movers.Mover.{Mover}
@@ -17,7 +18,7 @@ use Rattle.pairs.proofs.rows.rows_of_pairs.Goals as goal
 pub movers_of-requires : goal.movers_of-requires
 movers_of-requires g c = λ k d l.
     let id = get_or c.of.result.now k d in
-    c.requires.stored 1 id (subst (λ (z : List ℕ). has_id z id ≡ true) c.of.ensures.value (own_at c.of.result.now k d l))
+    c.requires.stored 1 id (subst (λ (z : List ℕ). has_id z id ≡ true) c.of.ensures.value (among_itself c.of.result.now k d l))
 
 pub empty-made-requires-clause-known : goal.empty-made-requires-clause-known
 empty-made-requires-clause-known g c = subst (λ (n : ℕ). (nat_lt 0 n && (nat_lt 1 n && true)) ≡ true) (sym c.requires.two) refl
@@ -25,7 +26,7 @@ empty-made-requires-clause-known g c = subst (λ (n : ℕ). (nat_lt 0 n && (nat_
 pub mover_of-one-requires : goal.mover_of-one-requires
 mover_of-one-requires g c =
     let id = get_or c.of-id-items.result.now c.ids.id-index 0 in
-    c.requires.stored 0 id (subst (λ (z : List ℕ). has_id z id ≡ true) c.of-id-items.ensures.value (own_at c.of-id-items.result.now c.ids.id-index 0 (omega (arith, c.ids-test.true))))
+    c.requires.stored 0 id (subst (λ (z : List ℕ). has_id z id ≡ true) c.of-id-items.ensures.value (among_itself c.of-id-items.result.now c.ids.id-index 0 (omega (arith, c.ids-test.true))))
 
 pub put_near-requires-clause-movers : goal.put_near-requires-clause-movers
 put_near-requires-clause-movers g c =
@@ -39,7 +40,7 @@ put_near-requires-clause-inside g c =
     let are : AreKeys d (1 ∷ []) (keys_of others) =
     own_keys d c.of.result.now others (ap (map (λ (m : Mover). m.id)) c.as_slice-others.ensures.value ∙ c.in_ok-movers.ensures.ids) c.of.ensures.value c.of.ensures.ascending in
     let id = get_or c.of-id-items.result.now c.ids.id-index 0 in
-    let own = subst (λ (z : List ℕ). has_id z id ≡ true) c.of-id-items.ensures.value (own_at c.of-id-items.result.now c.ids.id-index 0 (omega (arith, c.ids-test.true))) in
+    let own = subst (λ (z : List ℕ). has_id z id ≡ true) c.of-id-items.ensures.value (among_itself c.of-id-items.result.now c.ids.id-index 0 (omega (arith, c.ids-test.true))) in
     let domains : c.ids.made.domains ≡ d = c.ids.invariant.rows.head.domains ∙ ap (λ r. r.domains) c.empty-made.ensures in
     (λ i. list_all (λ key. key_in (domains i) (0 ∷ 1 ∷ []) (c.mover_of-one.ensures.id i ∷ key)) (keys_of others))
     ∙ first_inside d 0 (1 ∷ []) id (keys_of others) own are.inside

@@ -3,8 +3,9 @@ use Rattle.reply_text.proofs.BeginLemmas.{begins_through}
 use Rattle.line_meaning.specs.Reply.{registration_line}
 use Rattle.live_queries.specs.Kept.{KeptQuery}
 use Rattle.registry.specs.Standing.{registration_of}
-use Rattle.registry.proofs.LineLemmas.{all_queries, more_lines}
+use Rattle.registry.proofs.LineLemmas.{all_queries}
 use Rattle.registry.proofs.telling.push_queries.Goals as goal
+use Rattle.database.proofs.ListLemmas.{more_lines}
 
 pub queries-preserved : goal.queries-preserved
 queries-preserved c = record {
